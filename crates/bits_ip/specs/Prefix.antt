@@ -1,0 +1,33 @@
+-- Prefixes: which there are, which covers which, and their order.
+use Rattle.std.specs.Prelude.{◌≡◌, ℕ, ◌-◌, ◌/◌, ◌%◌, ◌^◌, ◌≤◌, Bool}
+use Rattle.std.specs.Ordering.{is_lt, nat_cmp, on, then_cmp}
+use Rattle.std.specs.declared.cmp.Ordering.{Ordering}
+use Rattle.bits_ip.specs.declared.address.Addr.{Addr}
+use Rattle.bits_ip.specs.Address.{family_of, family_rank, number_of, width_of}
+
+-- an address and how many of its bits count
+pub record Net : Type 0 where
+  pub addr : Addr
+  pub len : ℕ
+
+-- The length is within the family's, and each bit behind it is zero.
+pub record IsPrefix (addr : Addr) (len : ℕ) : Type 0 where
+  pub within : len ≤ width_of addr
+  pub host_bits : number_of addr % 2 ^ (width_of addr - len) ≡ 0
+
+-- the first bits of an address, as many as the length says
+abbrev pub front_bits : Addr → ℕ → ℕ
+front_bits addr len = number_of addr / 2 ^ (width_of addr - len)
+
+-- a covers b: one family, a isn't longer, and the bits of a agree
+pub record Covers (a b : Net) : Type 0 where
+  pub family : family_of a.addr ≡ family_of b.addr
+  pub len : a.len ≤ b.len
+  pub bits : front_bits a.addr a.len ≡ front_bits b.addr a.len
+
+-- the order of nets: by family, then by address, then by length
+abbrev pub net_cmp : Net → Net → Ordering
+net_cmp = then_cmp (on (λ n. family_rank n.addr) nat_cmp) (then_cmp (on (λ n. number_of n.addr) nat_cmp) (on (λ n. n.len) nat_cmp))
+
+abbrev pub precedes : Net → Net → Bool
+precedes a b = is_lt (net_cmp a b)

@@ -1,0 +1,14 @@
+//! Internet addresses and prefixes: what they are, their order and their texts.
+#![tactic(auto)]
+
+mod address;
+mod memory;
+mod prefix;
+mod read;
+mod write;
+
+pub use address::{Addr, Family};
+pub use memory::OutOfMemory;
+pub use prefix::{NotPrefix, Prefix};
+pub use read::{BadText, read_addr, read_prefix};
+pub use write::{write_addr, write_prefix};
