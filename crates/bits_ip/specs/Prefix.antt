@@ -1,8 +1,9 @@
 -- Prefixes: which there are, which covers which, and their order.
-use Rattle.std.specs.Prelude.{◌≡◌, ℕ, ◌-◌, ◌/◌, ◌%◌, ◌^◌, ◌≤◌, Bool}
+use Rattle.std.specs.Prelude.{◌≡◌, ℕ, ◌-◌, ◌/◌, ◌%◌, ◌^◌, ◌≤◌, Bool, false, ◌&&◌, ◌==◌}
 use Rattle.std.specs.Ordering.{is_lt, nat_cmp, on, then_cmp}
 use Rattle.std.specs.declared.cmp.Ordering.{Ordering}
 use Rattle.bits_ip.specs.declared.address.Addr.{Addr}
+use Rattle.bits_ip.specs.declared.address.Addr.TheVariants.{V4, V6}
 use Rattle.bits_ip.specs.Address.{family_of, family_rank, number_of, width_of}
 
 -- an address and how many of its bits count
@@ -31,3 +32,12 @@ net_cmp = then_cmp (on (λ n. family_rank n.addr) nat_cmp) (then_cmp (on (λ n. 
 
 abbrev pub precedes : Net → Net → Bool
 precedes a b = is_lt (net_cmp a b)
+
+abbrev pub same_addr : Addr → Addr → Bool
+same_addr (V4 a) (V4 b) = a == b
+same_addr (V6 a) (V6 b) = a == b
+same_addr _ _ = false
+
+-- the same net
+abbrev pub same_net : Net → Net → Bool
+same_net a b = same_addr a.addr b.addr && (a.len == b.len)

@@ -1,0 +1,5 @@
+pub mod Clist
+pub mod Text
+pub mod Selection
+pub mod History
+pub mod Table

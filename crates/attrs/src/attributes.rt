@@ -1,0 +1,53 @@
+use crate::{Clist, Path};
+use bits_ip::Addr;
+
+/// Where a route came from (RFC 4271, section 4.3, ORIGIN).
+#[derive(Clone, Copy, Debug, PartialEq, Eq)]
+pub enum Origin {
+    Igp,
+    Egp,
+    Incomplete,
+}
+
+/// What is done with a packet for the net.
+#[derive(Clone, Copy, Debug, PartialEq, Eq)]
+pub enum Dest {
+    Unicast,
+    Blackhole,
+    Unreachable,
+    Prohibit,
+}
+
+/// By which kind of protocol a route was learned.
+#[derive(Clone, Copy, Debug, PartialEq, Eq)]
+pub enum Kind {
+    Static,
+    Bgp,
+}
+
+/// The attributes of a route (BIRD User's Guide, section 5.5, "Route attributes", and BGP's attributes).
+#[derive(Debug, Drop)]
+pub struct Attrs {
+    /// The preference, the higher the better.
+    pub pref: u32,
+    pub kind: Kind,
+    pub dest: Dest,
+    /// The gateway.
+    pub gw: Option<Addr>,
+    /// The neighbour's address.
+    pub sender: Option<Addr>,
+    /// The neighbour's router id, an IPv4 address as a number.
+    pub peer_id: u32,
+    /// Learned from a neighbour in another autonomous system.
+    pub ebgp: bool,
+    pub path: Path,
+    pub origin: Option<Origin>,
+    pub next_hop: Option<Addr>,
+    /// The multi-exit discriminator, the lower the better.
+    pub med: Option<u32>,
+    /// The local preference, the higher the better.
+    pub lp: Option<u32>,
+    /// The internal distance, the lower the better.
+    pub igp: Option<u32>,
+    pub coms: Clist,
+}

@@ -1,0 +1,16 @@
+//! Routes and their attributes: what a table keeps of a net, how routes are told apart, and how attributes are written.
+#![tactic(auto)]
+
+mod attributes;
+mod clist;
+mod path;
+mod route;
+mod seq;
+mod text;
+
+pub use attributes::{Attrs, Dest, Kind, Origin};
+pub use clist::Clist;
+pub use path::Path;
+pub use route::{Change, Route, Row, Select, Src};
+pub use seq::Seq;
+pub use text::attr_text;

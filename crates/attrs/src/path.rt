@@ -1,0 +1,54 @@
+ghost use Rattle.std.specs.Prelude.{◌≡◌, ◌≤◌, [], length};
+
+use std::alloc::Global;
+use std::marker::Model;
+
+/// An AS path: the numbers of autonomous systems, the nearest first. It has at most 120.
+#[derive(Debug, Drop)]
+pub struct Path {
+    numbers: Vec<u32>,
+}
+
+impl Model for Path {
+    ghost use Rattle.std.specs.Prelude.{List, ℕ, length, ◌≤◌};
+
+    ghost Value = { List ℕ };
+
+    ghost view = { λ path. path.numbers.items };
+
+    ghost invariant = { λ path. length path.numbers.items ≤ 120 };
+}
+
+impl Path {
+    /// The empty path.
+    pub fn new(alloc: Global) -> Path
+        ensures { result ≡ [] }
+    {
+        Path {
+            numbers: Vec::new(alloc),
+        }
+    }
+
+    /// The path of these numbers. Takes no memory.
+    pub fn from_vec(numbers: Vec<u32>) -> Path
+        requires { length numbers.items ≤ 120 }
+        ensures { result ≡ numbers.items }
+    {
+        Path { numbers }
+    }
+
+    /// The numbers as a `Vec`. Takes no memory.
+    pub fn into_vec(self) -> Vec<u32>
+        ensures { result.items ≡ self }
+    {
+        let Path { numbers } = self;
+        numbers
+    }
+
+    pub fn as_slice(&self) -> &[u32]
+        ensures value { result.now ≡ self.now }
+        ensures bound { length self.now ≤ 120 }
+    {
+        self.numbers.as_slice()
+    }
+}

@@ -1,0 +1,46 @@
+use crate::{Attrs, Seq};
+use bits_ip::Prefix;
+
+/// The protocol that a route comes from: its number, and the values that stand for missing ones of its routes.
+#[derive(Clone, Copy, Debug, PartialEq, Eq)]
+pub struct Src {
+    pub num: u32,
+    /// What counts as the MED where there is none.
+    pub def_med: u32,
+    /// What counts as the local preference where there is none.
+    pub def_lp: u32,
+}
+
+/// A route: its source and its attributes. A table keeps at most one for a net and a source.
+#[derive(Debug, Drop)]
+pub struct Route {
+    pub src: Src,
+    pub attrs: Attrs,
+}
+
+/// A change of a table: a net and a source's number, with the route that stands there from now on, or none.
+#[derive(Debug, Drop)]
+pub struct Change {
+    pub net: Prefix,
+    pub num: u32,
+    pub new: Option<Route>,
+}
+
+/// A net and its routes, in selection order: the best is the first.
+#[derive(Debug, Drop)]
+pub struct Row {
+    pub net: Prefix,
+    pub routes: Seq<Route>,
+}
+
+/// Which nets of a table are asked for.
+#[derive(Clone, Copy, Debug, PartialEq, Eq)]
+pub enum Select {
+    All,
+    /// This net.
+    Exact(Prefix),
+    /// The longest net that covers the prefix.
+    For(Prefix),
+    /// The nets that the prefix covers.
+    Within(Prefix),
+}
