@@ -1,8 +1,12 @@
 -- Lists of communities.
-use Rattle.std.specs.Prelude.{◌≤◌, ℕ, List, length}
+use Rattle.std.specs.Prelude.{◌≤◌, ◌==◌, ◌&&◌, ℕ, Bool, List, length}
 use Rattle.std.specs.List.{IsDistinct}
+
+-- the same community
+abbrev pub same_pair : ℕ × ℕ → ℕ × ℕ → Bool
+same_pair p q = (p.0 == q.0) && (p.1 == q.1)
 
 -- at most 64 pairs, no two the same
 pub record IsClist (pairs : List (ℕ × ℕ)) : Type 0 where
   pub short : length pairs ≤ 64
-  pub distinct : IsDistinct pairs
+  pub distinct : IsDistinct same_pair pairs

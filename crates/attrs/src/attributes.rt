@@ -1,5 +1,7 @@
+ghost use Rattle.std.specs.Prelude.{◌≡◌, ◌↔◌, IfOk, IsTrue};
+
 use crate::{Clist, Path};
-use bits_ip::Addr;
+use bits_ip::{Addr, OutOfMemory};
 
 /// Where a route came from (RFC 4271, section 4.3, ORIGIN).
 #[derive(Clone, Copy, Debug, PartialEq, Eq)]
@@ -50,4 +52,13 @@ pub struct Attrs {
     /// The internal distance, the lower the better.
     pub igp: Option<u32>,
     pub coms: Clist,
+}
+
+impl Attrs {
+    /// A copy, equal to the original.
+    pub fn copy(&self) -> Result<Attrs, OutOfMemory>
+        ensures { IfOk result (λ copy. copy ≡ self.now) }
+    {
+        Err(OutOfMemory)
+    }
 }

