@@ -1,0 +1,12 @@
+//! The program: it plays a script over a configuration, and reports what came about.
+#![tactic(auto)]
+
+mod config;
+mod operation;
+mod play;
+mod reply;
+mod report;
+mod report_text;
+mod script;
+
+fn main() {}
