@@ -104,7 +104,7 @@ fn run<F: Shelf, K: Sink>(
     ensures read { result ≡ Err Status.ReadFault → Rose (F.faults shelf.old) (F.faults shelf.new) }
     ensures write { result ≡ Err Status.WriteFault → Rose (K.faults out.old) (K.faults out.new) }
     ensures absent { IfSome (files_named (map string_bytes words.now)) (λ names. IsTrue (F.lacks shelf.old names.0) → IsErrAnd result IsMissed) }
-    ensures absent_script { IfSome (files_named (map string_bytes words.now)) (λ names. IsTrue (F.lacks shelf.old names.1) → IsErr result) }
+    ensures absent_script { IfSome (files_named (map string_bytes words.now)) (λ names. IsTrue (F.lacks shelf.old names.1) → IsErrAnd result IsNotOk) }
 {
     let text = prepare(alloc, words, shelf)?;
     match write_whole(out, &text) {
