@@ -1,0 +1,14 @@
+-- The parts that the readers take a text apart into.
+use Rattle.std.specs.Prelude.{◌≡◌, ℕ, ◌+◌, ◌<◌, ◌==◌, Option, option_map, List, ◌∷◌, ◌++◌, take, drop, position, decimal}
+
+-- what stands before the first such byte, and what stands behind it
+abbrev pub split_first : ℕ → List ℕ → Option (List ℕ × List ℕ)
+split_first mark text = option_map (λ i. (take i text, drop (i + 1) text)) (position (λ b. b == mark) text)
+
+-- the text is a number below 256 without leading zeros
+abbrev pub IsOctet : List ℕ → ℕ → Type 0
+IsOctet text n = (n < 256) × (text ≡ decimal n)
+
+-- such a number, a dot and the rest
+abbrev pub IsOctetFirst : List ℕ → ℕ → List ℕ → Type 0
+IsOctetFirst text n rest = (n < 256) × (text ≡ decimal n ++ 46 ∷ rest)
