@@ -1,5 +1,5 @@
 -- The parts that the readers take a text apart into.
-use Rattle.std.specs.Prelude.{◌≡◌, ℕ, ◌+◌, ◌<◌, ◌==◌, Option, option_map, List, ◌∷◌, ◌++◌, take, drop, position, decimal}
+use Rattle.std.specs.Prelude.{◌≡◌, ◌≢◌, length, slice_index, ℕ, ◌+◌, ◌<◌, ◌==◌, Option, option_map, List, ◌∷◌, ◌++◌, take, drop, position, decimal}
 
 -- what stands before the first such byte, and what stands behind it
 abbrev pub split_first : ℕ → List ℕ → Option (List ℕ × List ℕ)
@@ -12,3 +12,7 @@ IsOctet text n = (n < 256) × (text ≡ decimal n)
 -- such a number, a dot and the rest
 abbrev pub IsOctetFirst : List ℕ → ℕ → List ℕ → Type 0
 IsOctetFirst text n rest = (n < 256) × (text ≡ decimal n ++ 46 ∷ rest)
+
+-- with no plus sign, and no zero before further digits
+abbrev pub BeginsPlainly : List ℕ → Type 0
+BeginsPlainly text = (slice_index text 0 ≢ 43) × (slice_index text 0 ≡ 48 → length text ≡ 1)

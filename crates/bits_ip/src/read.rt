@@ -1,7 +1,8 @@
-ghost use Rattle.std.specs.Prelude.{◌≡◌, ◌++◌, ◌∷◌, ◌<◌, ◌^◌, ℕ, List, Some, None, position, take, length, IfOk, OnErr, MatchOption, ◌==◌};
+ghost use Rattle.std.specs.Prelude.{◌≡◌, ◌++◌, ◌∷◌, ◌<◌, ◌^◌, ℕ, List, Some, None, position, take, length, IfOk, OnErr, MatchOption, IsTrue, ◌↔◌, ◌==◌};
+ghost use Rattle.std.specs.List.{prefix_len};
 ghost use Rattle.bits_ip.specs.declared.address.Addr.{Addr};
 ghost use Rattle.bits_ip.specs.declared.address.Addr.TheVariants.{V4};
-ghost use Rattle.bits_ip.specs.Parts.{split_first, IsOctet, IsOctetFirst};
+ghost use Rattle.bits_ip.specs.Parts.{split_first, BeginsPlainly, IsOctet, IsOctetFirst};
 ghost use Rattle.bits_ip.specs.Prefix.{Net};
 ghost use Rattle.bits_ip.specs.Text.{addr_run, net_run, is_addr_byte, is_net_byte, IsAddrText, IsNetText};
 
@@ -42,21 +43,31 @@ pub fn read_prefix(text: &[u8]) -> Result<(Prefix, usize), BadText>
 fn front_of_address_bytes(text: &[u8]) -> &[u8]
     ensures { result.now ≡ addr_run text.now }
 {
-    let len = text
-        .iter()
-        .take_while(|byte| is_address_byte(**byte))
-        .count();
-    &text[..len]
+    &text[..address_bytes(text)]
 }
 
 fn front_of_prefix_bytes(text: &[u8]) -> &[u8]
     ensures { result.now ≡ net_run text.now }
 {
-    let len = text
-        .iter()
+    &text[..prefix_bytes(text)]
+}
+
+/// How many bytes of addresses stand at the front.
+fn address_bytes(text: &[u8]) -> usize
+    ensures { result ≡ prefix_len is_addr_byte text.now }
+{
+    text.iter()
+        .take_while(|byte| is_address_byte(**byte))
+        .count()
+}
+
+/// How many bytes of prefixes stand at the front.
+fn prefix_bytes(text: &[u8]) -> usize
+    ensures { result ≡ prefix_len is_net_byte text.now }
+{
+    text.iter()
         .take_while(|byte| is_address_byte(**byte) || **byte == b'/')
-        .count();
-    &text[..len]
+        .count()
 }
 
 fn is_address_byte(byte: u8) -> bool
@@ -107,9 +118,21 @@ fn octet_before_dot(text: &[u8]) -> Option<(u8, &[u8])>
 fn octet_of(digits: &[u8]) -> Option<u8>
     ensures { MatchOption result ((n : ℕ) → IsOctet digits.now n → ⊥) (λ n. IsOctet digits.now n) }
 {
-    match digits {
-        [b'+', ..] | [b'0', _, ..] => None,
-        _ => str::from_utf8(digits).ok()?.parse().ok(),
+    if !begins_plainly(digits) {
+        return None;
+    }
+    let text = str::from_utf8(digits).ok()?;
+    text.parse().ok()
+}
+
+/// With no plus sign, and no zero before further digits.
+fn begins_plainly(digits: &[u8]) -> bool
+    ensures { IsTrue result ↔ BeginsPlainly digits.now }
+{
+    match digits.first() {
+        Some(b'+') => false,
+        Some(b'0') => digits.len() == 1,
+        _ => true,
     }
 }
 
@@ -117,6 +140,12 @@ fn octet_of(digits: &[u8]) -> Option<u8>
 fn split_at(text: &[u8], mark: u8) -> Option<(&[u8], &[u8])>
     ensures { MatchOption result (split_first mark text.now ≡ None) (λ parts. split_first mark text.now ≡ Some (parts.0.now, parts.1.now)) }
 {
-    let place = text.iter().position(|byte| *byte == mark)?;
+    let place = place_of(text, mark)?;
     Some((&text[..place], &text[place + 1..]))
+}
+
+fn place_of(text: &[u8], mark: u8) -> Option<usize>
+    ensures { result ≡ position (λ b. b == mark) text.now }
+{
+    text.iter().position(|byte| *byte == mark)
 }
