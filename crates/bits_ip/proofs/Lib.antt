@@ -1,0 +1,4 @@
+pub mod Octets
+pub mod Splits
+pub mod Dotted
+pub mod Slashed

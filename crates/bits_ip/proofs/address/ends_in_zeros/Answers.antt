@@ -1,5 +1,5 @@
 -- The mask keeps what the number leaves over the power of two.
-use Rattle.std.proofs.Common.{◌-◌, ◌≡◌, ◌^◌, ◌%◌, bit_and, ap, ◌∙◌, arith, rules, tests}
+use Rattle.std.proofs.Common.{◌-◌, ◌≡◌, ◌^◌, ◌%◌, bit_and, ap, ◌∙◌, rules, tests}
 use Rattle.std.proofs.lemmas.Nat.{and_mask, one_shl}
 use Rattle.bits_ip.proofs.address.ends_in_zeros.Goals as goal
 
