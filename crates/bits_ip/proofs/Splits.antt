@@ -22,7 +22,7 @@ split_at_mark mark front rest clear =
     let within : ltb (length front) (length text) ≡ true = search (rules, tests) in
     let taken : take (length front) text ≡ front = take_at front (mark ∷ rest) (length front) refl in
     let left : drop (length front + 1) text ≡ rest = sym (drop-drop 1 (length front) text) ∙ ap (drop 1) (drop_at front (mark ∷ rest) (length front) refl) in
-    rw (place, within) (ap (λ p. Some (p, drop (length front + 1) text)) taken ∙ ap (λ p. Some (front, p)) left)
+    rw (place, within, taken, left) refl
 
 from_option_map : {A B : Type 0} (f : A → B) (o : Option A) (y : B) → option_map f o ≡ Some y → (x : A) × (o ≡ Some x) × (f x ≡ y)
 from_option_map f None y e = absurd (none-some y e)
