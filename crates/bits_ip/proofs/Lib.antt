@@ -2,3 +2,4 @@ pub mod Octets
 pub mod Splits
 pub mod Dotted
 pub mod Slashed
+pub mod Nets
