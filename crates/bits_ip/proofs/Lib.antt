@@ -1,3 +1,4 @@
+pub mod Groups
 pub mod Octets
 pub mod Splits
 pub mod Dotted

@@ -2,6 +2,7 @@
 #![tactic(auto)]
 
 mod address;
+mod ipv6;
 mod memory;
 mod prefix;
 mod read;

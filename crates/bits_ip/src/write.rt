@@ -1,6 +1,7 @@
 ghost use Rattle.std.specs.Prelude.{◌≡◌, ◌++◌, ◌<◌, ◌^◌, decimal, OnOk};
 ghost use Rattle.bits_ip.specs.Text.{addr_text, net_text, v4_text};
 
+use crate::ipv6::write_v6;
 use crate::{Addr, OutOfMemory, Prefix};
 use itoa::Buffer;
 
@@ -10,7 +11,7 @@ pub fn write_addr(addr: &Addr, out: &mut Vec<u8>) -> Result<(), OutOfMemory>
 {
     match addr {
         Addr::V4(number) => write_v4(*number, out),
-        Addr::V6(_) => Err(OutOfMemory),
+        Addr::V6(number) => write_v6(*number, out),
     }
 }
 
