@@ -28,7 +28,7 @@ pub enum Kind {
 }
 
 /// The attributes of a route (BIRD User's Guide, section 5.5, "Route attributes", and BGP's attributes).
-#[derive(Debug, Drop)]
+#[derive(Debug, Drop, PartialEq, Eq)]
 pub struct Attrs {
     /// The preference, the higher the better.
     pub pref: u32,
@@ -60,5 +60,12 @@ impl Attrs {
         ensures { IfOk result (λ copy. copy ≡ self.now) }
     {
         Err(OutOfMemory)
+    }
+
+    /// Whether the two have the same value in each field.
+    pub fn is_same(&self, other: &Attrs) -> bool
+        ensures { IsTrue result ↔ (self.now ≡ other.now) }
+    {
+        self == other
     }
 }

@@ -36,3 +36,26 @@ impl Clist {
         self.pairs.as_slice()
     }
 }
+
+impl PartialEq for Clist {
+    ghost use Rattle.std.specs.Prelude.{◌==◌, ℕ, Bool};
+    ghost use Rattle.std.specs.Cmp.Lexicographic.{pointwise};
+    ghost use Rattle.std.proofs.lemmas.Cmp.{lists_equiv, nat_eq_equiv, and_equiv, on_equiv};
+    ghost use Rattle.std.specs.Cmp.{partial_equiv_from_equiv};
+    ghost use Rattle.attrs.specs.Clist.{same_pair};
+
+    ghost eq = { pointwise same_pair };
+
+    ghost laws = { partial_equiv_from_equiv (lists_equiv (and_equiv (on_equiv (λ (p : ℕ × ℕ). p.0) nat_eq_equiv) (on_equiv (λ (p : ℕ × ℕ). p.1) nat_eq_equiv))) };
+
+    fn eq(&self, other: &Clist) -> bool {
+        self.pairs.as_slice() == other.pairs.as_slice()
+    }
+}
+
+impl Eq for Clist {
+    ghost use Rattle.std.specs.Prelude.{ℕ};
+    ghost use Rattle.std.proofs.lemmas.Cmp.{lists_equiv, nat_eq_equiv, and_equiv, on_equiv};
+
+    ghost laws = { lists_equiv (and_equiv (on_equiv (λ (p : ℕ × ℕ). p.0) nat_eq_equiv) (on_equiv (λ (p : ℕ × ℕ). p.1) nat_eq_equiv)) };
+}

@@ -52,3 +52,24 @@ impl Path {
         self.numbers.as_slice()
     }
 }
+
+impl PartialEq for Path {
+    ghost use Rattle.std.specs.Prelude.{◌==◌};
+    ghost use Rattle.std.specs.Cmp.Lexicographic.{pointwise};
+    ghost use Rattle.std.proofs.lemmas.Cmp.{lists_equiv, nat_eq_equiv};
+    ghost use Rattle.std.specs.Cmp.{partial_equiv_from_equiv};
+
+    ghost eq = { pointwise ◌==◌ };
+
+    ghost laws = { partial_equiv_from_equiv (lists_equiv nat_eq_equiv) };
+
+    fn eq(&self, other: &Path) -> bool {
+        self.numbers.as_slice() == other.numbers.as_slice()
+    }
+}
+
+impl Eq for Path {
+    ghost use Rattle.std.proofs.lemmas.Cmp.{lists_equiv, nat_eq_equiv};
+
+    ghost laws = { lists_equiv nat_eq_equiv };
+}

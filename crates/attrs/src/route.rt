@@ -14,7 +14,7 @@ pub struct Src {
 }
 
 /// A route: its source and its attributes. A table keeps at most one for a net and a source.
-#[derive(Debug, Drop)]
+#[derive(Debug, Drop, PartialEq, Eq)]
 pub struct Route {
     pub src: Src,
     pub attrs: Attrs,
@@ -47,5 +47,12 @@ impl Route {
         ensures { IfOk result (λ copy. copy ≡ self.now) }
     {
         Err(OutOfMemory)
+    }
+
+    /// Whether the two have the same value in each field.
+    pub fn is_same(&self, other: &Route) -> bool
+        ensures { IsTrue result ↔ (self.now ≡ other.now) }
+    {
+        self == other
     }
 }
