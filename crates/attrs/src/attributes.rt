@@ -59,7 +59,24 @@ impl Attrs {
     pub fn copy(&self) -> Result<Attrs, OutOfMemory>
         ensures { IfOk result (λ copy. copy ≡ self.now) }
     {
-        Err(OutOfMemory)
+        let path = self.path.copy()?;
+        let coms = self.coms.copy()?;
+        Ok(Attrs {
+            pref: self.pref,
+            kind: self.kind,
+            dest: self.dest,
+            gw: self.gw,
+            sender: self.sender,
+            peer_id: self.peer_id,
+            ebgp: self.ebgp,
+            path,
+            origin: self.origin,
+            next_hop: self.next_hop,
+            med: self.med,
+            lp: self.lp,
+            igp: self.igp,
+            coms,
+        })
     }
 
     /// Whether the two have the same value in each field.

@@ -1,5 +1,6 @@
-ghost use Rattle.std.specs.Prelude.{◌≡◌, ◌≤◌, [], length};
+ghost use Rattle.std.specs.Prelude.{◌≡◌, ◌==◌, [], length, IfOk};
 
+use bits_ip::OutOfMemory;
 use std::alloc::Global;
 use std::marker::Model;
 
@@ -34,6 +35,26 @@ impl Clist {
         ensures value { result.now ≡ self.now }
     {
         self.pairs.as_slice()
+    }
+
+    pub fn len(&self) -> usize
+        ensures { result ≡ length self.now }
+    {
+        self.pairs.len()
+    }
+
+    pub fn is_empty(&self) -> bool
+        ensures { result ≡ (length self.now == 0) }
+    {
+        self.pairs.is_empty()
+    }
+
+    /// A copy, equal to the original.
+    pub fn copy(&self) -> Result<Clist, OutOfMemory>
+        ensures { IfOk result (λ copy. copy ≡ self.now) }
+    {
+        let pairs = Vec::from_slice(*self.pairs.allocator(), self.pairs.as_slice())?;
+        Ok(Clist { pairs })
     }
 }
 

@@ -1,5 +1,6 @@
-ghost use Rattle.std.specs.Prelude.{◌≡◌, ◌≤◌, [], length};
+ghost use Rattle.std.specs.Prelude.{◌≡◌, ◌≤◌, ◌==◌, [], length, IfOk};
 
+use bits_ip::OutOfMemory;
 use std::alloc::Global;
 use std::marker::Model;
 
@@ -50,6 +51,26 @@ impl Path {
         ensures bound { length self.now ≤ 120 }
     {
         self.numbers.as_slice()
+    }
+
+    pub fn len(&self) -> usize
+        ensures { result ≡ length self.now }
+    {
+        self.numbers.len()
+    }
+
+    pub fn is_empty(&self) -> bool
+        ensures { result ≡ (length self.now == 0) }
+    {
+        self.numbers.is_empty()
+    }
+
+    /// A copy, equal to the original.
+    pub fn copy(&self) -> Result<Path, OutOfMemory>
+        ensures { IfOk result (λ copy. copy ≡ self.now) }
+    {
+        let numbers = Vec::from_slice(*self.numbers.allocator(), self.numbers.as_slice())?;
+        Ok(Path { numbers })
     }
 }
 

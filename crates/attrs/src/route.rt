@@ -46,7 +46,11 @@ impl Route {
     pub fn copy(&self) -> Result<Route, OutOfMemory>
         ensures { IfOk result (λ copy. copy ≡ self.now) }
     {
-        Err(OutOfMemory)
+        let attrs = self.attrs.copy()?;
+        Ok(Route {
+            src: self.src,
+            attrs,
+        })
     }
 
     /// Whether the two have the same value in each field.
