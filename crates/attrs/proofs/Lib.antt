@@ -1,1 +1,3 @@
 pub mod Same
+pub mod Histories
+pub mod Rows

@@ -3,6 +3,7 @@
 
 mod attributes;
 mod clist;
+pub mod laws;
 mod path;
 mod route;
 mod seq;
