@@ -1,13 +1,12 @@
 -- Routes in selection order, and rows.
-use Rattle.std.proofs.Common.{◌≡◌, ◌≢◌, ℕ, zero, suc, ◌<◌, ◌+◌, Bool, true, false, cond, ◌⊎◌, inl, inr, ⊎_elim, List, [], ◌∷◌, ◌++◌, length, get_or, Option, Some, None, refl, sym, ap, ◌∙◌, subst, arith, rules, eqb, ltb}
-use Rattle.std.specs.Prelude.{IsTrue, Contains, ⊤, ◌&&◌, ◌||◌}
-use Rattle.std.specs.List.{find}
-use Rattle.std.proofs.lemmas.Bool.{ltb-true, eqb-true, and_parts, or_cases, true≢false, cases_Bool}
+use Rattle.std.proofs.Common.{◌≡◌, ◌≢◌, ℕ, zero, suc, true, false, cond, ◌⊎◌, inl, inr, ⊎_elim, List, [], ◌∷◌, Option, Some, None, refl, sym, ap, ◌∙◌, subst, arith}
+use Rattle.std.specs.Prelude.{Contains, ◌==◌}
+use Rattle.std.proofs.lemmas.Bool.{eqb-true, eq-eqb, ne_eqb, cond-true, cond-false, cases_Bool}
+use Rattle.std.proofs.lemmas.Option.{same_Some}
 use Rattle.std.proofs.lemmas.Bool.Decides.{nat_tests}
 use Rattle.attrs.specs.declared.route.Route.{Route}
-use Rattle.attrs.specs.declared.route.Row.{Row}
 use Rattle.attrs.specs.Selection.{Rule, Lower, Higher, before_by, before, IsBest, selection_rules}
-use Rattle.attrs.specs.Table.{IsBeforeAll, IsInOrder}
+use Rattle.attrs.specs.Table.{IsBeforeAll, IsInOrder, HasNone, IsOfSources, route_of}
 use Rattle.attrs.proofs.Same.{same_or_not}
 
 -- no route is before itself
@@ -65,3 +64,63 @@ IsBest-one routes None (Some b) h k = absurd (Contains-nothing b (subst (λ (rs 
 IsBest-one routes (Some a) None h k = absurd (Contains-nothing a (subst (λ (rs : List Route). Contains rs a) k h.0))
 IsBest-one routes (Some a) (Some b) h k =
     ⊎_elim (λ e. ap Some e) (λ ne. absurd (before_back a b (h.1 b k.0 (λ e. ne (sym e))) (k.1 a h.0 ne))) (same_or_not a b)
+
+Contains-first : {X : Type 0} → (x : X) (xs : List X) → Contains (x ∷ xs) x
+Contains-first x xs = (0, omega arith, refl)
+
+Contains-behind : {X : Type 0} → (x : X) (xs : List X) (y : X) → Contains xs y → Contains (x ∷ xs) y
+Contains-behind x xs y (k, h, e) = (suc k, omega arith, e)
+
+-- a route that is found stands there
+pub found_among : (num : ℕ) (routes : List Route) (r : Route) → route_of num routes ≡ Some r → Contains routes r
+found_among num [] r h = cc
+found_among num (q ∷ qs) r h =
+    ⊎_elim
+    (λ t. let e : q ≡ r = same_Some q r (sym (cond-true _ _ _ t) ∙ h) in subst (λ (x : Route). Contains (q ∷ qs) x) e (Contains-first q qs))
+    (λ f. Contains-behind q qs r (found_among num qs r (sym (cond-false _ _ _ f) ∙ h)))
+    (cases_Bool (q.src.num == num))
+
+pub none_found : (num : ℕ) (routes : List Route) → HasNone num routes → route_of num routes ≡ None
+none_found num [] h = refl
+none_found num (q ∷ qs) h = cond-false _ _ _ (ne_eqb q.src.num num h.0) ∙ none_found num qs h.1
+
+-- what is found behind the first, from what is found in all
+found_behind : (r : Route) (rest : List Route) (num : ℕ) → HasNone r.src.num rest → route_of num rest ≡ cond (r.src.num == num) None (route_of num (r ∷ rest))
+found_behind r rest num none =
+    ⊎_elim
+    (λ t. subst (λ (n : ℕ). route_of n rest ≡ None) (eqb-true r.src.num num t) (none_found r.src.num rest none) ∙ sym (cond-true _ _ _ t))
+    (λ f. sym (cond-false _ _ _ f) ∙ sym (cond-false _ _ _ f))
+    (cases_Bool (r.src.num == num))
+
+pub first_found : (r : Route) (rest : List Route) → route_of r.src.num (r ∷ rest) ≡ Some r
+first_found r rest = cond-true _ _ _ (eq-eqb r.src.num r.src.num refl)
+
+-- another route that is found stands behind the first
+is_or_before : (r : Route) (rest : List Route) (q : Route) → IsInOrder (r ∷ rest) → route_of q.src.num (r ∷ rest) ≡ Some q → (r ≡ q) ⊎ (before r q ≡ true)
+is_or_before r rest q order h =
+    ⊎_elim (λ e. inl e) (λ k. inr (before_each r rest order.0 q k)) (Contains-cons_cases r rest q (found_among q.src.num (r ∷ rest) q h))
+
+same_first :
+    (q r : Route) (qs rs : List Route) → IsInOrder (q ∷ qs) → IsInOrder (r ∷ rs) → ((num : ℕ) → route_of num (q ∷ qs) ≡ route_of num (r ∷ rs)) → q ≡ r
+same_first q r qs rs o p same =
+    ⊎_elim
+    (λ e. sym e)
+    (λ b. ⊎_elim (λ e. e) (λ c. absurd (before_back q r c b)) (is_or_before q qs r o (same r.src.num ∙ first_found r rs)))
+    (is_or_before r rs q p (sym (same q.src.num) ∙ first_found q qs))
+
+-- routes in order of which the same are found are the same
+pub same_routes :
+    (qs rs : List Route) → IsInOrder qs → IsInOrder rs → IsOfSources qs → IsOfSources rs → ((num : ℕ) → route_of num qs ≡ route_of num rs) → qs ≡ rs
+same_routes [] [] o p s t same = refl
+same_routes [] (r ∷ rs) o p s t same = let h = same r.src.num ∙ first_found r rs in cc
+same_routes (q ∷ qs) [] o p s t same = let h = sym (same q.src.num) ∙ first_found q qs in cc
+same_routes (q ∷ qs) (r ∷ rs) o p s t same =
+    let first : q ≡ r = same_first q r qs rs o p same in
+    let behind : (num : ℕ) → route_of num qs ≡ route_of num rs =
+    λ num.
+    found_behind q qs num s.0
+    ∙ ap (λ (x : Route). cond (x.src.num == num) None (route_of num (q ∷ qs))) first
+    ∙ ap (λ (o : Option Route). cond (r.src.num == num) None o) (same num)
+    ∙ sym (found_behind r rs num t.0) in
+    let rest : qs ≡ rs = same_routes qs rs o.1 p.1 s.1 t.1 behind in
+    λ i. first i ∷ rest i

@@ -3,8 +3,9 @@ ghost use Rattle.bits_ip.specs.Prefix.{Net};
 ghost use Rattle.attrs.specs.declared.route.Change.{Change};
 ghost use Rattle.attrs.specs.History.{Content, after, IsReal};
 ghost use Rattle.attrs.specs.Selection.{IsBest};
-ghost use Rattle.attrs.specs.Table.{IsInOrder};
+ghost use Rattle.attrs.specs.Table.{IsInOrder, Shows};
 ghost use Rattle.attrs.specs.declared.route.Route.{Route};
+ghost use Rattle.attrs.specs.declared.route.Row.{Row};
 
 /// Two lists of changes, one after the other, leave what the second leaves of the first's content.
 pub fn changes_add_up()
@@ -24,4 +25,9 @@ pub fn best_is_first()
 /// A net has one best route, or none.
 pub fn best_is_one()
     ensures { (routes : List Route) (a b : Option Route) → IsBest routes a → IsBest routes b → a ≡ b }
+{}
+
+/// A content is shown by one list of rows.
+pub fn shown_by_one()
+    ensures { (rows others : List Row) (content : Content) → Shows rows content → Shows others content → rows ≡ others }
 {}
