@@ -7,6 +7,8 @@ pub mod laws;
 mod path;
 mod route;
 mod seq;
+#[cfg(test)]
+mod tests;
 mod text;
 
 pub use attributes::{Attrs, Dest, Kind, Origin};
