@@ -7,14 +7,14 @@ const TEN: Addr = Addr::V4(167772160);
 
 fn address_text(alloc: Global, addr: Addr) -> Result<Vec<u8>, Fail> {
     let mut out = Vec::new(alloc);
-    write_addr(&addr, &mut out)?;
+    write_addr(alloc, &addr, &mut out)?;
     Ok(out)
 }
 
 fn prefix_text(alloc: Global, addr: Addr, len: u8) -> Result<Vec<u8>, Fail> {
     let net = Prefix::make(addr, len)?;
     let mut out = Vec::new(alloc);
-    write_prefix(&net, &mut out)?;
+    write_prefix(alloc, &net, &mut out)?;
     Ok(out)
 }
 

@@ -4,9 +4,10 @@ ghost use Rattle.bits_ip.specs.Text.{addr_text, net_text, v4_text};
 use crate::ipv6::write_v6;
 use crate::{Addr, OutOfMemory, Prefix};
 use itoa::Buffer;
+use std::alloc::Global;
 
 /// Appends an address: IPv4 in dotted decimals, IPv6 as RFC 5952 says.
-pub fn write_addr(addr: &Addr, out: &mut Vec<u8>) -> Result<(), OutOfMemory>
+pub fn write_addr(_alloc: Global, addr: &Addr, out: &mut Vec<u8>) -> Result<(), OutOfMemory>
     ensures { OnOk result (out.new.items ≡ out.old.items ++ addr_text addr.now) }
 {
     match addr {
@@ -16,10 +17,10 @@ pub fn write_addr(addr: &Addr, out: &mut Vec<u8>) -> Result<(), OutOfMemory>
 }
 
 /// Appends a prefix: its address, a slash and its length.
-pub fn write_prefix(net: &Prefix, out: &mut Vec<u8>) -> Result<(), OutOfMemory>
+pub fn write_prefix(alloc: Global, net: &Prefix, out: &mut Vec<u8>) -> Result<(), OutOfMemory>
     ensures { OnOk result (out.new.items ≡ out.old.items ++ net_text net.now) }
 {
-    write_addr(&net.addr(), out)?;
+    write_addr(alloc, &net.addr(), out)?;
     out.push(b'/')?;
     write_number(net.len(), out)
 }
