@@ -1,6 +1,6 @@
-pub mod Groups
-pub mod Octets
-pub mod Splits
-pub mod Dotted
-pub mod Slashed
+mod Dotted
+mod Groups
 pub mod Nets
+mod Octets
+mod Slashed
+mod Splits

@@ -1,20 +1,23 @@
 -- Laws of prefixes: their order, and the bytes of their texts.
-use Rattle.std.proofs.Common.{◌≡◌, ℕ, ◌<◌, ◌≤◌, ◌+◌, ◌/◌, ◌%◌, ◌^◌, Bool, true, false, cond, not, ◌||◌, ◌==◌, nat_le, zero, suc, take, drop, List, [], ◌∷◌, ◌++◌, length, All, ap, ◌∙◌, refl, arith, Ordering, Less, Equal, Greater}
+use Rattle.std.proofs.Common.{◌≡◌, ℕ, ◌<◌, ◌≤◌, ◌+◌, ◌/◌, ◌%◌, ◌^◌, Bool, true, false, cond, not, ◌||◌, ◌==◌, nat_le, zero, suc, take, drop, List, [], ◌∷◌, ◌++◌, length, get_or, All, ap, ◌∙◌, refl, arith, Ordering, Less, Equal, Greater}
 use Rattle.std.specs.Cmp.{IsTotalOrder}
 use Rattle.std.specs.Fmt.{decimal, digits, digits_onto, digit_glyph}
-use Rattle.std.specs.List.{list_all}
+use Rattle.std.specs.List.{list_all, take_while}
 use Rattle.std.specs.Ordering.{nat_cmp, ordering_then}
 use Rattle.std.proofs.lemmas.Bool.Decides.{nat_tests}
 use Rattle.std.proofs.lemmas.Cmp.{nat_cmp_total, on_total, then_total}
 use Rattle.std.proofs.lemmas.List.{length-append}
-use Rattle.std.proofs.lemmas.List.Elements.{All-append, All-cons, All-nil, All-weaker}
-use Rattle.std.proofs.lemmas.List.Sums.{list_all-from_AllPass}
+use Rattle.std.proofs.lemmas.List.Elements.{All-append, All-cons, All-head, All-nil, All-tail, All-weaker}
+use Rattle.std.proofs.lemmas.List.Sums.{list_all-from_AllPass, take_while-cons}
 use Rattle.std.proofs.lemmas.Nat.{mod_below}
 use Rattle.bits_ip.specs.declared.address.Addr.{Addr}
 use Rattle.bits_ip.specs.declared.address.Addr.TheVariants.{V4, V6}
 use Rattle.bits_ip.specs.Address.{family_rank, number_of}
-use Rattle.bits_ip.specs.Prefix.{Net, net_cmp}
-use Rattle.bits_ip.specs.Text.{v4_text, v6_text, groups, colon_text, short_text, longest_run, run_start, addr_text, net_text, is_addr_byte, is_net_byte}
+use Rattle.bits_ip.specs.Prefix.{Net, IsPrefix, net_cmp}
+use Rattle.bits_ip.specs.Text.{v4_text, v6_text, groups, colon_text, short_text, longest_run, run_start, addr_text, net_text, is_addr_byte, is_net_byte, addr_run, net_run, IsAddrText, IsNetText}
+use Rattle.bits_ip.proofs.Dotted.{texts_agree}
+use Rattle.bits_ip.proofs.Slashed.{len_below, net_parts, net_split}
+use Rattle.std.proofs.lemmas.Fmt.{decimal_injective}
 
 -- the order is total
 pub net_cmp_total : IsTotalOrder net_cmp
@@ -36,7 +39,7 @@ same_addr (V4 m) (V6 n) family number = absurd (omega arith)
 same_addr (V6 m) (V4 n) family number = absurd (omega arith)
 same_addr (V6 m) (V6 n) family number = ap (λ k. V6 k) number
 
-abbrev net_of : Addr → ℕ → Net
+abbrev pub net_of : Addr → ℕ → Net
 net_of addr len = record { addr = addr; len = len }
 
 -- only a prefix itself is equal to it
@@ -188,3 +191,36 @@ addr_text_some (V6 n) =
 
 pub net_text_some : (net : Net) → 0 < length (net_text net)
 net_text_some net = some_left (addr_text net.addr) (47 ∷ decimal net.len) (addr_text_some net.addr)
+
+-- what reading takes of a text that goes on behind such a run
+run_before : (p : ℕ → Bool) (xs ys : List ℕ) → All (λ b. p b ≡ true) xs → p (get_or ys 0 0) ≡ false → take_while p (xs ++ ys) ≡ xs
+run_before p [] [] passes stops = refl
+run_before p [] (y ∷ ys) passes stops = take_while-cons p y ys ∙ ap (λ t. cond t (y ∷ take_while p ys) []) stops
+run_before p (x ∷ xs) ys passes stops =
+    let Passes : ℕ → Type 0 = λ b. p b ≡ true in
+    take_while-cons p x (xs ++ ys) ∙ ap (λ t. cond t (x ∷ take_while p (xs ++ ys)) []) (All-head Passes x xs passes)
+    ∙ ap (λ r. x ∷ r) (run_before p xs ys (All-tail Passes x xs passes) stops)
+
+-- the text of an address is the whole run, where no byte of addresses follows
+pub addr_run_before : (addr : Addr) (rest : List ℕ) → is_addr_byte (get_or rest 0 0) ≡ false → addr_run (addr_text addr ++ rest) ≡ addr_text addr
+addr_run_before addr rest stops = run_before is_addr_byte (addr_text addr) rest (addr_text_bytes addr) stops
+
+-- and that of a prefix, where no byte of prefixes follows
+pub net_run_before : (net : Net) (rest : List ℕ) → is_net_byte (get_or rest 0 0) ≡ false → net_run (net_text net ++ rest) ≡ net_text net
+net_run_before net rest stops = run_before is_net_byte (net_text net) rest (net_text_bytes net) stops
+
+-- the text of an IPv4 prefix spells it
+pub net_text_spells : (n len : ℕ) → n < 2 ^ 32 → IsPrefix (V4 n) len → IsNetText (net_text (net_of (V4 n) len)) (net_of (V4 n) len)
+net_text_spells n len small prefix = record { prefix = prefix; front = v4_text n; addr = (small, refl); whole = refl }
+
+-- a text spells one address
+pub addr_texts_agree : (text : List ℕ) (a b : Addr) → IsAddrText text a → IsAddrText text b → a ≡ b
+addr_texts_agree = texts_agree
+
+-- a text spells one prefix
+pub net_texts_agree : (text : List ℕ) (a b : Net) → IsNetText text a → IsNetText text b → a ≡ b
+net_texts_agree text a b one other =
+    let parts = net_parts text one.front (decimal a.len) b (net_split text a one) other in
+    let addr : a.addr ≡ b.addr = texts_agree one.front a.addr b.addr one.addr parts.0 in
+    let len : a.len ≡ b.len = decimal_injective a.len b.len (omega (arith, len_below a.addr a.len one.prefix)) (omega (arith, parts.1.0)) parts.1.1 in
+    ap (λ x. net_of x a.len) addr ∙ ap (λ k. net_of b.addr k) len

@@ -40,7 +40,7 @@ address_lacks_slash text (V6 n) is = absurd is
 pub net_split : (text : List ℕ) (net : Net) (is : IsNetText text net) → split_first 47 text ≡ Some (is.front, decimal net.len)
 net_split text net is = rw is.whole (split_at_mark 47 is.front (decimal net.len) (address_lacks_slash is.front net.addr is.addr))
 
-len_below : (addr : Addr) (len : ℕ) → IsPrefix addr len → len < 256
+pub len_below : (addr : Addr) (len : ℕ) → IsPrefix addr len → len < 256
 len_below (V4 n) len is = omega (arith, is.within)
 len_below (V6 n) len is = omega (arith, is.within)
 
