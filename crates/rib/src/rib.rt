@@ -6,7 +6,8 @@ ghost use Rattle.attrs.specs.Table.{AreRows, route_in, count_routes};
 ghost use Rattle.rib.specs.Rib.{best_of};
 ghost use Rattle.rib.specs.Outcome.{IfChanged};
 
-use attrs::{Change, Route, Row, Select, Seq};
+use crate::nets::NetRoutes;
+use attrs::{Change, Route, Row, Select};
 use bits_ip::{Family, OutOfMemory, Prefix};
 use std::alloc::Global;
 use std::marker::Model;
@@ -18,12 +19,6 @@ pub enum Outcome {
     Same,
     /// It wasn't. `moved` tells whether the net's best route is another one now, or none.
     Changed { moved: bool },
-}
-
-#[derive(Debug, Drop)]
-struct NetRoutes {
-    net: Prefix,
-    routes: Vec<Route>,
 }
 
 /// The routes of a table, of one family of nets: at most one for a net and a source.
