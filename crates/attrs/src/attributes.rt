@@ -28,7 +28,7 @@ pub enum Kind {
 }
 
 /// The attributes of a route (BIRD User's Guide, section 5.5, "Route attributes", and BGP's attributes).
-#[derive(Debug, Drop)]
+#[derive(Debug, Drop, PartialEq, Eq)]
 pub struct Attrs {
     /// The preference, the higher the better.
     pub pref: u32,
@@ -59,6 +59,30 @@ impl Attrs {
     pub fn copy(&self) -> Result<Attrs, OutOfMemory>
         ensures { IfOk result (λ copy. copy ≡ self.now) }
     {
-        Err(OutOfMemory)
+        let path = self.path.copy()?;
+        let coms = self.coms.copy()?;
+        Ok(Attrs {
+            pref: self.pref,
+            kind: self.kind,
+            dest: self.dest,
+            gw: self.gw,
+            sender: self.sender,
+            peer_id: self.peer_id,
+            ebgp: self.ebgp,
+            path,
+            origin: self.origin,
+            next_hop: self.next_hop,
+            med: self.med,
+            lp: self.lp,
+            igp: self.igp,
+            coms,
+        })
+    }
+
+    /// Whether the two have the same value in each field.
+    pub fn is_same(&self, other: &Attrs) -> bool
+        ensures { IsTrue result ↔ (self.now ≡ other.now) }
+    {
+        self == other
     }
 }

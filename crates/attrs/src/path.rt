@@ -1,5 +1,6 @@
-ghost use Rattle.std.specs.Prelude.{◌≡◌, ◌≤◌, [], length};
+ghost use Rattle.std.specs.Prelude.{◌≡◌, ◌≤◌, ◌==◌, [], length, IfOk};
 
+use bits_ip::OutOfMemory;
 use std::alloc::Global;
 use std::marker::Model;
 
@@ -51,4 +52,45 @@ impl Path {
     {
         self.numbers.as_slice()
     }
+
+    pub fn len(&self) -> usize
+        ensures { result ≡ length self.now }
+    {
+        self.numbers.len()
+    }
+
+    pub fn is_empty(&self) -> bool
+        ensures { result ≡ (length self.now == 0) }
+    {
+        self.numbers.is_empty()
+    }
+
+    /// A copy, equal to the original.
+    pub fn copy(&self) -> Result<Path, OutOfMemory>
+        ensures { IfOk result (λ copy. copy ≡ self.now) }
+    {
+        let numbers = Vec::from_slice(*self.numbers.allocator(), self.numbers.as_slice())?;
+        Ok(Path { numbers })
+    }
+}
+
+impl PartialEq for Path {
+    ghost use Rattle.std.specs.Prelude.{◌==◌};
+    ghost use Rattle.std.specs.Cmp.Lexicographic.{pointwise};
+    ghost use Rattle.std.proofs.lemmas.Cmp.{lists_equiv, nat_eq_equiv};
+    ghost use Rattle.std.specs.Cmp.{partial_equiv_from_equiv};
+
+    ghost eq = { pointwise ◌==◌ };
+
+    ghost laws = { partial_equiv_from_equiv (lists_equiv nat_eq_equiv) };
+
+    fn eq(&self, other: &Path) -> bool {
+        self.numbers.as_slice() == other.numbers.as_slice()
+    }
+}
+
+impl Eq for Path {
+    ghost use Rattle.std.proofs.lemmas.Cmp.{lists_equiv, nat_eq_equiv};
+
+    ghost laws = { lists_equiv nat_eq_equiv };
 }

@@ -14,7 +14,7 @@ pub struct Src {
 }
 
 /// A route: its source and its attributes. A table keeps at most one for a net and a source.
-#[derive(Debug, Drop)]
+#[derive(Debug, Drop, PartialEq, Eq)]
 pub struct Route {
     pub src: Src,
     pub attrs: Attrs,
@@ -46,6 +46,17 @@ impl Route {
     pub fn copy(&self) -> Result<Route, OutOfMemory>
         ensures { IfOk result (λ copy. copy ≡ self.now) }
     {
-        Err(OutOfMemory)
+        let attrs = self.attrs.copy()?;
+        Ok(Route {
+            src: self.src,
+            attrs,
+        })
+    }
+
+    /// Whether the two have the same value in each field.
+    pub fn is_same(&self, other: &Route) -> bool
+        ensures { IsTrue result ↔ (self.now ≡ other.now) }
+    {
+        self == other
     }
 }

@@ -1,13 +1,195 @@
-ghost use Rattle.std.specs.Prelude.{◌≡◌, ◌++◌, OnOk};
-ghost use Rattle.attrs.specs.Text.{attrs_text};
+ghost use Rattle.std.specs.Prelude.{◌≡◌, ◌++◌, ◌∷◌, codes, decimal, OnOk};
+ghost use Rattle.std.specs.List.{flat_map};
+ghost use Rattle.bits_ip.specs.Text.{addr_text};
+ghost use Rattle.attrs.specs.Text.{attrs_text, community_text, dest_text, kind_text, list_text, optional_text, origin_text, peer_text};
 
-use crate::Attrs;
-use bits_ip::OutOfMemory;
+use crate::{Attrs, Clist, Dest, Kind, Origin, Path};
+use bits_ip::{Addr, OutOfMemory, write_addr};
+use itoa::Buffer;
 use std::alloc::Global;
 
 /// Appends the attributes as one line without its end: the fields in their order, without what is absent or empty.
-pub fn attr_text(_alloc: Global, attrs: &Attrs, out: &mut Vec<u8>) -> Result<(), OutOfMemory>
+pub fn attr_text(alloc: Global, attrs: &Attrs, out: &mut Vec<u8>) -> Result<(), OutOfMemory>
     ensures { OnOk result (out.new.items ≡ out.old.items ++ attrs_text attrs.now) }
 {
-    Err(OutOfMemory)
+    write_head(attrs, out)?;
+    write_neighbour(alloc, attrs, out)?;
+    write_way(alloc, attrs, out)?;
+    write_metrics(attrs, out)?;
+    write_communities(&attrs.coms, out)
+}
+
+/// The fields that each route has: the preference, the kind and what is done with packets.
+fn write_head(attrs: &Attrs, out: &mut Vec<u8>) -> Result<(), OutOfMemory>
+    ensures { OnOk result (out.new.items ≡ out.old.items ++ codes "pref " ++ decimal attrs.now.pref ++ 32 ∷ kind_text attrs.now.kind ++ 32 ∷ dest_text attrs.now.dest) }
+{
+    out.extend_from_slice(b"pref ")?;
+    write_number(attrs.pref, out)?;
+    out.push(b' ')?;
+    out.extend_from_slice(kind_word(attrs.kind).as_bytes())?;
+    out.push(b' ')?;
+    out.extend_from_slice(dest_word(attrs.dest).as_bytes())?;
+    Ok(())
+}
+
+/// Where packets go, and from whom the route was learned.
+fn write_neighbour(alloc: Global, attrs: &Attrs, out: &mut Vec<u8>) -> Result<(), OutOfMemory>
+    ensures { OnOk result (out.new.items ≡ out.old.items ++ optional_text (codes " gw ") addr_text attrs.now.gw ++ optional_text (codes " from ") addr_text attrs.now.sender ++ peer_text attrs.now.kind attrs.now.peer_id attrs.now.ebgp) }
+{
+    write_optional_addr(alloc, " gw ", attrs.gw, out)?;
+    write_optional_addr(alloc, " from ", attrs.sender, out)?;
+    write_peer(alloc, attrs, out)
+}
+
+/// The path that the route came by, with its origin and its next hop.
+fn write_way(alloc: Global, attrs: &Attrs, out: &mut Vec<u8>) -> Result<(), OutOfMemory>
+    ensures { OnOk result (out.new.items ≡ out.old.items ++ list_text (codes " path") decimal attrs.now.path ++ optional_text (codes " origin ") origin_text attrs.now.origin ++ optional_text (codes " nh ") addr_text attrs.now.next_hop) }
+{
+    write_path(&attrs.path, out)?;
+    write_optional_origin(attrs.origin, out)?;
+    write_optional_addr(alloc, " nh ", attrs.next_hop, out)
+}
+
+/// The numbers by which routes are compared.
+fn write_metrics(attrs: &Attrs, out: &mut Vec<u8>) -> Result<(), OutOfMemory>
+    ensures { OnOk result (out.new.items ≡ out.old.items ++ optional_text (codes " med ") decimal attrs.now.med ++ optional_text (codes " lp ") decimal attrs.now.lp ++ optional_text (codes " igp ") decimal attrs.now.igp) }
+{
+    write_optional_number(" med ", attrs.med, out)?;
+    write_optional_number(" lp ", attrs.lp, out)?;
+    write_optional_number(" igp ", attrs.igp, out)
+}
+
+fn kind_word(kind: Kind) -> &'static str
+    ensures { result.now ≡ kind_text kind }
+{
+    match kind {
+        Kind::Static => "static",
+        Kind::Bgp => "bgp",
+    }
+}
+
+fn dest_word(dest: Dest) -> &'static str
+    ensures { result.now ≡ dest_text dest }
+{
+    match dest {
+        Dest::Unicast => "unicast",
+        Dest::Blackhole => "blackhole",
+        Dest::Unreachable => "unreachable",
+        Dest::Prohibit => "prohibit",
+    }
+}
+
+fn origin_word(origin: Origin) -> &'static str
+    ensures { result.now ≡ origin_text origin }
+{
+    match origin {
+        Origin::Igp => "igp",
+        Origin::Egp => "egp",
+        Origin::Incomplete => "incomplete",
+    }
+}
+
+fn write_number(number: u32, out: &mut Vec<u8>) -> Result<(), OutOfMemory>
+    ensures { OnOk result (out.new.items ≡ out.old.items ++ decimal number) }
+{
+    let mut buffer = Buffer::new();
+    out.extend_from_slice(buffer.format(number).as_bytes())?;
+    Ok(())
+}
+
+fn write_optional_number(
+    label: &str,
+    number: Option<u32>,
+    out: &mut Vec<u8>,
+) -> Result<(), OutOfMemory>
+    ensures { OnOk result (out.new.items ≡ out.old.items ++ optional_text label.now decimal number) }
+{
+    let Some(number) = number else {
+        return Ok(());
+    };
+    out.extend_from_slice(label.as_bytes())?;
+    write_number(number, out)
+}
+
+fn write_optional_addr(
+    alloc: Global,
+    label: &str,
+    addr: Option<Addr>,
+    out: &mut Vec<u8>,
+) -> Result<(), OutOfMemory>
+    ensures { OnOk result (out.new.items ≡ out.old.items ++ optional_text label.now addr_text addr) }
+{
+    let Some(addr) = addr else {
+        return Ok(());
+    };
+    out.extend_from_slice(label.as_bytes())?;
+    write_addr(&addr, out)
+}
+
+fn write_optional_origin(origin: Option<Origin>, out: &mut Vec<u8>) -> Result<(), OutOfMemory>
+    ensures { OnOk result (out.new.items ≡ out.old.items ++ optional_text (codes " origin ") origin_text origin) }
+{
+    let Some(origin) = origin else {
+        return Ok(());
+    };
+    out.extend_from_slice(b" origin ")?;
+    out.extend_from_slice(origin_word(origin).as_bytes())?;
+    Ok(())
+}
+
+/// What only routes of BGP have: the neighbour's router id, and whether it is in another autonomous system.
+fn write_peer(alloc: Global, attrs: &Attrs, out: &mut Vec<u8>) -> Result<(), OutOfMemory>
+    ensures { OnOk result (out.new.items ≡ out.old.items ++ peer_text attrs.now.kind attrs.now.peer_id attrs.now.ebgp) }
+{
+    if attrs.kind == Kind::Static {
+        return Ok(());
+    }
+    out.extend_from_slice(b" id ")?;
+    write_addr(&Addr::V4(attrs.peer_id), out)?;
+    out.extend_from_slice(if attrs.ebgp { b" ebgp" } else { b" ibgp" })?;
+    Ok(())
+}
+
+fn write_path(path: &Path, out: &mut Vec<u8>) -> Result<(), OutOfMemory>
+    ensures { OnOk result (out.new.items ≡ out.old.items ++ list_text (codes " path") decimal path.now) }
+{
+    if path.is_empty() {
+        return Ok(());
+    }
+    out.extend_from_slice(b" path")?;
+    write_spaced_numbers(path.as_slice(), out)
+}
+
+/// Appends each number, with a space before it.
+fn write_spaced_numbers(numbers: &[u32], out: &mut Vec<u8>) -> Result<(), OutOfMemory>
+    ensures { OnOk result (out.new.items ≡ out.old.items ++ flat_map (λ number. 32 ∷ decimal number) numbers.now) }
+{
+    for number in numbers {
+        out.push(b' ')?;
+        write_number(*number, out)?;
+    }
+    Ok(())
+}
+
+fn write_communities(communities: &Clist, out: &mut Vec<u8>) -> Result<(), OutOfMemory>
+    ensures { OnOk result (out.new.items ≡ out.old.items ++ list_text (codes " com") community_text communities.now) }
+{
+    if communities.is_empty() {
+        return Ok(());
+    }
+    out.extend_from_slice(b" com")?;
+    write_spaced_pairs(communities.as_slice(), out)
+}
+
+/// Appends each pair, with a space before it.
+fn write_spaced_pairs(pairs: &[(u16, u16)], out: &mut Vec<u8>) -> Result<(), OutOfMemory>
+    ensures { OnOk result (out.new.items ≡ out.old.items ++ flat_map (λ pair. 32 ∷ community_text pair) pairs.now) }
+{
+    for (system, value) in pairs {
+        out.push(b' ')?;
+        write_number(u32::from(*system), out)?;
+        out.push(b':')?;
+        write_number(u32::from(*value), out)?;
+    }
+    Ok(())
 }
