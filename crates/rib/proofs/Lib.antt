@@ -1,3 +1,6 @@
 pub mod Laws
-pub mod OneNet
+pub mod NetLists
 pub mod NetOrder
+pub mod NetPlaces
+pub mod OneNet
+pub mod RowList

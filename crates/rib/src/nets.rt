@@ -1,10 +1,10 @@
-ghost use Rattle.std.specs.Prelude.{◌≡◌, ◌≢◌, ◌↔◌, ◌+◌, ◌<◌, ◌^◌, ℕ, [], IfOk, IfSome, IsTrue, MatchResult, length};
+ghost use Rattle.std.specs.Prelude.{◌≡◌, ◌≢◌, ◌↔◌, ◌+◌, ◌<◌, ◌≤◌, ◌^◌, ℕ, [], ◌∷◌, IfOk, IfSome, IsTrue, MatchResult, length};
 ghost use Rattle.bits_ip.specs.Address.{family_of};
-ghost use Rattle.attrs.specs.Table.{AreRows, route_in, routes_of};
-ghost use Rattle.rib.specs.Rib.{best_of};
+ghost use Rattle.attrs.specs.Table.{AreRows, route_in, route_of, routes_of};
+ghost use Rattle.rib.specs.Rib.{best_of, first_of};
 ghost use Rattle.rib.specs.Outcome.{IfChanged};
 ghost use Rattle.rib.specs.Inside.{AreNets, HasRoom, HaveRoomAt, IsRoomFor, rows_of};
-ghost use Rattle.rib.specs.Steps.{Changes, IsGapFor, IsNetAt};
+ghost use Rattle.rib.specs.Steps.{AreRoutes, Changes, Replaces, IsGapFor, IsNetAt, Leaves};
 
 use crate::rib::Outcome;
 use crate::routes::change_routes;
@@ -39,6 +39,25 @@ pub(crate) fn find_routes<'a>(nets: &'a [NetRoutes], net: &Prefix) -> &'a [Route
     }
 }
 
+/// Changes a route of a net and counts it. It may be the net's last.
+fn change_kept(kept: &mut NetRoutes, total: &mut u64, num: u32, new: Option<Route>) -> Outcome
+    requires room { HasRoom kept.old.routes }
+    requires are { AreRoutes kept.old.routes.items }
+    requires within { length kept.old.routes.items ≤ total.old }
+    requires counts { total.old + 1 < 2 ^ 64 }
+    requires source { IfSome new (λ route. route.src.num ≡ num) }
+    ensures net { kept.new.net ≡ kept.old.net }
+    ensures routes { Replaces num new kept.old.routes.items kept.new.routes.items }
+    ensures total { total.new + length kept.old.routes.items ≡ total.old + length kept.new.routes.items }
+    ensures same { (result ≡ Outcome.Same) ↔ (route_of num kept.old.routes.items ≡ new) }
+    ensures moved { IfChanged result (λ moved. IsTrue moved ↔ (first_of kept.new.routes.items ≢ first_of kept.old.routes.items)) }
+{
+    *total -= kept.routes.len() as u64;
+    let outcome = change_routes(&mut kept.routes, num, new);
+    *total += kept.routes.len() as u64;
+    outcome
+}
+
 /// Changes a route of the net at this place. A net without routes goes.
 fn change_at(nets: &mut Vec<NetRoutes>, total: &mut u64, place: usize, change: Change) -> Outcome
     requires place { IsNetAt change.net nets.old.items place }
@@ -52,13 +71,65 @@ fn change_at(nets: &mut Vec<NetRoutes>, total: &mut u64, place: usize, change: C
     ensures moved { IfChanged result (λ moved. IsTrue moved ↔ (best_of change.net (rows_of nets.new.items) ≢ best_of change.net (rows_of nets.old.items))) }
 {
     let Change { net: _, num, new } = change;
-    let kept = &mut nets[place];
-    *total -= kept.routes.len() as u64;
-    let outcome = change_routes(&mut kept.routes, num, new);
-    let count = kept.routes.len();
-    *total += count as u64;
-    if count == 0 {
+    let outcome = change_kept(&mut nets[place], total, num, new);
+    if nets[place].routes.is_empty() {
         let _emptied = nets.remove(place);
     }
     outcome
+}
+
+/// Adds a net with its first route, whose memory is spare.
+fn insert_net(
+    nets: &mut Vec<NetRoutes>,
+    spare: &mut Vec<Route>,
+    total: &mut u64,
+    place: usize,
+    net: Prefix,
+    route: Route,
+)
+    requires place { IsGapFor net nets.old.items place }
+    requires nets { AreNets (family_of net.addr) nets.old.items total.old }
+    requires room { HasRoom nets.old }
+    requires spare { HasRoom spare.old }
+    requires empty { spare.old.items ≡ [] }
+    requires counts { total.old + 1 < 2 ^ 64 }
+    ensures leaves { Leaves net [] (route ∷ []) nets.old.items nets.new.items total.new }
+    ensures empty { spare.new.items ≡ [] }
+{
+    let unused = Vec::new(*spare.allocator());
+    let mut routes = mem::replace(spare, unused);
+    routes.push(route).unwrap();
+    nets.insert(place, NetRoutes { net, routes }).unwrap();
+    *total += 1;
+}
+
+/// Makes a change in the memory that is there for it.
+pub(crate) fn change_nets(
+    nets: &mut Vec<NetRoutes>,
+    spare: &mut Vec<Route>,
+    total: &mut u64,
+    change: Change,
+) -> Outcome
+    requires nets { AreNets (family_of change.net.addr) nets.old.items total.old }
+    requires room { IsRoomFor change.net nets.old spare.old total.old }
+    requires empty { spare.old.items ≡ [] }
+    requires source { IfSome change.new (λ route. route.src.num ≡ change.num) }
+    ensures nets { AreNets (family_of change.net.addr) nets.new.items total.new }
+    ensures empty { spare.new.items ≡ [] }
+    ensures changes { Changes change (rows_of nets.old.items) (rows_of nets.new.items) }
+    ensures same { (result ≡ Outcome.Same) ↔ (route_in (rows_of nets.old.items) change.net change.num ≡ change.new) }
+    ensures moved { IfChanged result (λ moved. IsTrue moved ↔ (best_of change.net (rows_of nets.new.items) ≢ best_of change.net (rows_of nets.old.items))) }
+{
+    let place = match place_of_net(nets, &change.net) {
+        Ok(place) => return change_at(nets, total, place, change),
+        Err(place) => place,
+    };
+    let Change { net, num: _, new } = change;
+    match new {
+        Some(route) => {
+            insert_net(nets, spare, total, place, net, route);
+            Outcome::Changed { moved: true }
+        }
+        None => Outcome::Same,
+    }
 }

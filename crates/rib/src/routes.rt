@@ -18,18 +18,12 @@ pub(crate) fn find_route(routes: &[Route], num: u32) -> Option<&Route>
     routes.iter().find(|route| route.src.num == num)
 }
 
-fn same_route(a: &Route, b: &Route) -> bool
-    ensures { IsTrue result ↔ (a.now ≡ b.now) }
-{
-    false
-}
-
 /// Whether both are the same route, or neither is there.
 pub(crate) fn same_routes(a: Option<&Route>, b: Option<&Route>) -> bool
     ensures { IsTrue result ↔ (option_copied a.entry ≡ option_copied b.entry) }
 {
     match (a, b) {
-        (Some(a), Some(b)) => same_route(a, b),
+        (Some(a), Some(b)) => a.is_same(b),
         (None, None) => true,
         _ => false,
     }
