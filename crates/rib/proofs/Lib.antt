@@ -3,4 +3,5 @@ pub mod NetLists
 pub mod NetOrder
 pub mod NetPlaces
 pub mod OneNet
+pub mod Rooms
 pub mod RowList

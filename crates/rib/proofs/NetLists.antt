@@ -1,5 +1,5 @@
 -- Nets with their routes, with one of them taken out, put in or given other routes.
-use Rattle.std.proofs.Common.{◌≡◌, ◌≢◌, ℕ, ◌+◌, ◌<◌, ◌≤◌, ◌==◌, suc, zero, IsTrue, Vec, Global, vec_len, Bool, true, false, cond, List, [], ◌∷◌, ◌++◌, length, map, take, drop, set, get_or, Option, Some, None, refl, sym, ap, ◌∙◌, subst, arith}
+use Rattle.std.proofs.Common.{◌≡◌, ◌≢◌, ℕ, ◌+◌, ◌<◌, ◌≤◌, ◌==◌, suc, zero, IsTrue, Vec, Global, vec_len, Bool, true, false, cond, List, [], ◌∷◌, ◌++◌, length, take, drop, set, get_or, Option, Some, None, refl, sym, ap, ◌∙◌, subst, arith}
 use Rattle.std.proofs.lemmas.Bool.{cond-true, cond-false, eqb-true, eqb-false}
 use Rattle.std.proofs.lemmas.List.{map-append, set_split, take-append-drop, take-set, drop-set-lt, get_or-set_same}
 use Rattle.std.proofs.Math.Seq.{split_at}
@@ -18,8 +18,8 @@ use Rattle.rib.specs.Outcome.{IfChanged}
 use Rattle.rib.specs.Rib.{first_of}
 use Rattle.rib.specs.Steps.{AreBelow, AreRoutes, Changes, IsGapFor, IsNetAt, Leaves, Replaces}
 use Rattle.rib.proofs.OneNet.{Replaces-announced}
-use Rattle.rib.proofs.NetOrder.{same_net-from, same_net-itself}
-use Rattle.rib.proofs.RowList.{AreRows-in, AreRows-out, AreRows-set, behind, count_routes-at, front-below, routes_of-at, routes_of-gap}
+use Rattle.rib.proofs.NetOrder.{same_net-from}
+use Rattle.rib.proofs.RowList.{AreRows-in, AreRows-out, behind, count_routes-at, front-below, routes_of-at, routes_of-gap}
 
 rows-split : (front : List NetRoutes) (x : NetRoutes) (back : List NetRoutes) → rows_of (front ++ x ∷ back) ≡ rows_of front ++ row_of x ∷ rows_of back
 rows-split front x back = map-append row_of front (x ∷ back)
@@ -183,7 +183,7 @@ module _ (net : Net) (nets : List NetRoutes) (place total : ℕ) (x : NetRoutes)
       (subst (λ (l : List NetRoutes). Leaves net x.routes.items [] (take place nets ++ x ∷ drop (suc place) nets) l count) (sym (removed y))
       (leaves-out net (take place nets) x (drop (suc place) nets) total are-cut net-is count sums))
 
-rows-behind : (place : ℕ) (nets : List NetRoutes) → AreRows (rows_of nets) → AreRows (rows_of (drop place nets))
+pub rows-behind : (place : ℕ) (nets : List NetRoutes) → AreRows (rows_of nets) → AreRows (rows_of (drop place nets))
 rows-behind place nets h =
     behind (rows_of (take place nets)) (rows_of (drop place nets)) (subst AreRows (ap rows_of (sym (take-append-drop place nets)) ∙ rows-join (take place nets) (drop place nets)) h)
 
@@ -275,3 +275,11 @@ absent-changes change nets place gap are none = record {
 
 pub absent-stands : (change : Change) (nets : List NetRoutes) (place : ℕ) → IsGapFor change.net nets place → AreRows (rows_of nets) → change.new ≡ None → route_in (rows_of nets) change.net change.num ≡ change.new
 absent-stands change nets place gap are none = ap (route_of change.num) (gap-has-none change.net nets place gap are) ∙ sym none
+
+pub own-at : (net : Net) (nets : List NetRoutes) (place : ℕ) (x : NetRoutes) → IsNetAt net nets place → x ≡ get_or nets place x → AreRows (rows_of nets) → routes_of net (rows_of nets) ≡ x.routes.items
+own-at net nets place x at read are =
+    let front = take place nets in
+    let back = drop (suc place) nets in
+    let whole : nets ≡ front ++ x ∷ back = split_at nets place x at.within ∙ ap (λ (k : NetRoutes). front ++ k ∷ back) (sym read) in
+    ap (λ (l : List NetRoutes). routes_of net (rows_of l)) whole
+    ∙ own-routes net front x back (front-below (rows_of front) (row_of x) (rows_of back) (subst AreRows (ap rows_of whole ∙ rows-split front x back) are)) (ap (λ (k : NetRoutes). k.net) read ∙ at.is x)

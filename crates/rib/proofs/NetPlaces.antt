@@ -1,12 +1,12 @@
 -- Where a net stands, or would go.
-use Rattle.std.proofs.Common.{◌≡◌, ℕ, ◌+◌, ◌<◌, ◌≤◌, suc, zero, Bool, true, false, List, [], ◌∷◌, ◌++◌, length, take, drop, get_or, IsTrue, Result, Ok, Err, MatchResult, refl, sym, ap, ◌∙◌, subst, arith, add-one, Ordering, inl, inr}
-use Rattle.std.proofs.lemmas.Bool.{cases_Bool, true≢false}
+use Rattle.std.proofs.Common.{◌≡◌, ℕ, ◌<◌, ◌≤◌, suc, zero, false, List, [], ◌∷◌, length, take, drop, get_or, Result, Ok, Err, MatchResult, arith, add-one, inl, inr}
+use Rattle.std.proofs.lemmas.Bool.{cases_Bool}
 use Rattle.std.proofs.lemmas.List.Sorted.{searchable_from_sorted}
 use Rattle.std.specs.List.{AllWithin}
 use Rattle.std.specs.List.Sorted.{IsBinarySearchResult, IsSearchInRange, IsSortedBy}
 use Rattle.std.specs.Ordering.{is_lt}
-use Rattle.std.specs.declared.cmp.Ordering.TheVariants.{Less, Equal, Greater}
-use Rattle.bits_ip.specs.Prefix.{Net, net_cmp, precedes}
+use Rattle.std.specs.declared.cmp.Ordering.TheVariants.{Less, Greater}
+use Rattle.bits_ip.specs.Prefix.{Net, net_cmp}
 use Rattle.attrs.specs.Table.{AreRows, IsBelow}
 use Rattle.rib.specs.declared.nets.NetRoutes.{NetRoutes}
 use Rattle.rib.specs.Inside.{rows_of}

@@ -1,6 +1,6 @@
 -- The routes of a net, after one is taken out or put in.
-use Rattle.std.proofs.Common.{◌≡◌, ◌≢◌, ℕ, ◌+◌, ◌<◌, ◌≤◌, suc, Bool, true, false, not, cond, ◌||◌, ◌==◌, eqb, ltb, ◌⊎◌, inl, inr, List, [], ◌∷◌, ◌++◌, length, take, drop, Option, Some, None, unwrap_or, IsTrue, refl, sym, ap, ◌∙◌, subst, arith, add-one}
-use Rattle.std.proofs.lemmas.Bool.{cases_eq, cases_Bool, eqb-true, eqb-false, eq-eqb, ne_eqb, ltb-false, cond-true, cond-false, true≢false}
+use Rattle.std.proofs.Common.{◌≡◌, ◌≢◌, ℕ, ◌+◌, ◌≤◌, suc, Bool, true, false, not, cond, ◌||◌, ◌==◌, ltb, inl, inr, List, [], ◌∷◌, length, Option, Some, None, unwrap_or, IsTrue, refl, sym, ap, ◌∙◌, subst, arith}
+use Rattle.std.proofs.lemmas.Bool.{cases_Bool, eqb-true, eqb-false, eq-eqb, ne_eqb, ltb-false, cond-true, cond-false, true≢false}
 use Rattle.std.specs.List.{position, position_or_len, insert, remove}
 use Rattle.attrs.specs.declared.route.Route.{Route}
 use Rattle.attrs.specs.Selection.{before}

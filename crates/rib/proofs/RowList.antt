@@ -1,6 +1,6 @@
 -- Rows, with one of them taken out, put in or given other routes.
-use Rattle.std.proofs.Common.{◌≡◌, ◌≢◌, ℕ, ◌+◌, ◌<◌, ◌≤◌, Bool, true, false, cond, inl, inr, List, [], ◌∷◌, ◌++◌, length, IsTrue, refl, sym, ap, ◌∙◌, subst, arith}
-use Rattle.std.proofs.lemmas.Bool.{cases_Bool, cond-true, cond-false, true≢false}
+use Rattle.std.proofs.Common.{◌≡◌, ◌+◌, cond, inl, inr, List, [], ◌∷◌, ◌++◌, length, IsTrue, refl, sym, ap, ◌∙◌, subst, arith}
+use Rattle.std.proofs.lemmas.Bool.{cases_Bool, cond-true, cond-false}
 use Rattle.std.proofs.lemmas.List.Sums.{sum_by-append}
 use Rattle.bits_ip.specs.Prefix.{Net, same_net, precedes}
 use Rattle.attrs.specs.declared.route.Route.{Route}
@@ -16,11 +16,11 @@ below-trans a b [] p h = tt
 below-trans a b (row ∷ rows) p h = precedes-trans a b row.net p h
 
 -- a net below the first row is below all
-abbrev IsBelowAll : Net → List Row → Type 0
+abbrev pub IsBelowAll : Net → List Row → Type 0
 IsBelowAll net [] = Unit {0}
 IsBelowAll net (row ∷ rows) = IsTrue (precedes net row.net) × IsBelowAll net rows
 
-below-all : (net : Net) (rows : List Row) → IsBelow net rows → AreRows rows → IsBelowAll net rows
+pub below-all : (net : Net) (rows : List Row) → IsBelow net rows → AreRows rows → IsBelowAll net rows
 below-all net [] h are = tt
 below-all net (row ∷ rows) h are = (h, below-all net rows (below-trans net row.net rows h are.1) are.2)
 

@@ -1,5 +1,5 @@
 -- How a table is kept.
-use Rattle.std.specs.Prelude.{◌≡◌, ◌<◌, ◌+◌, ◌^◌, ℕ, IsSome, IfSome, List, [], ◌∷◌, Option, Some, None, map, length, ⊤}
+use Rattle.std.specs.Prelude.{◌≡◌, ◌<◌, ◌+◌, ◌^◌, ℕ, IsSome, IfSome, List, [], ◌∷◌, map, ⊤}
 use Rattle.std.specs.Vec.{vec_len, vec_capacity}
 use Rattle.std.specs.declared.alloc.Global.{Global}
 use Rattle.std.specs.declared.vec.Vec.{Vec}
@@ -38,11 +38,17 @@ HaveRoomAt net [] = ⊤
 HaveRoomAt net (kept ∷ nets) = (kept.net ≡ net → HasRoom kept.routes) × HaveRoomAt net nets
 
 -- room for any change of this net: for one more net, for its first route, and for one more among those that it has
-pub record IsRoomFor (net : Net) (kept : Vec NetRoutes Global) (first : Vec Route Global) (count : ℕ) : Type 0 where
+pub record IsRoomFor (net : Net) (kept : Vec NetRoutes Global) (first : Vec Route Global) : Type 0 where
   pub nets : HasRoom kept
   pub spare : HasRoom first
   pub routes : HaveRoomAt net kept.items
-  pub total : count + 1 < 2 ^ 64
+
+-- the same nets with the same routes, and room where there was room
+abbrev pub HaveGrown : List NetRoutes → List NetRoutes → Type 0
+HaveGrown [] [] = ⊤
+HaveGrown (x ∷ xs) (y ∷ ys) = (row_of y ≡ row_of x) × (HasRoom x.routes → HasRoom y.routes) × HaveGrown xs ys
+HaveGrown [] (y ∷ ys) = ⊥
+HaveGrown (x ∷ xs) [] = ⊥
 
 pub record IsRib (rib : Inside) : Type 0 where
   pub rows : AreRows (rows_of rib.nets.items)
@@ -50,4 +56,4 @@ pub record IsRib (rib : Inside) : Type 0 where
   pub total : rib.total ≡ count_routes (rows_of rib.nets.items)
   pub counts : IsSome rib.room → rib.total + 1 < 2 ^ 64
   pub spare : rib.spare.items ≡ []
-  pub room : IfSome rib.room (λ key. IsRoomFor key.0 rib.nets rib.spare rib.total)
+  pub room : IfSome rib.room (λ key. IsRoomFor key.0 rib.nets rib.spare)

@@ -1,12 +1,12 @@
 -- What a change does to the routes of its net, and to the rows.
-use Rattle.std.specs.Prelude.{◌≡◌, ◌<◌, ◌≤◌, ◌+◌, ℕ, Bool, true, false, ◌==◌, if◌then◌else◌, IsTrue, List, [], ◌∷◌, length, take, drop, slice_index_or, Option, Some, None, ⊤}
+use Rattle.std.specs.Prelude.{◌≡◌, ◌<◌, ◌≤◌, ◌+◌, ℕ, Bool, true, false, ◌==◌, if◌then◌else◌, IsTrue, List, [], ◌∷◌, length, take, drop, slice_index_or, Option, ⊤}
 use Rattle.bits_ip.specs.Address.{family_of}
 use Rattle.bits_ip.specs.Prefix.{Net, same_net, precedes}
 use Rattle.attrs.specs.declared.route.Change.{Change}
 use Rattle.attrs.specs.declared.route.Route.{Route}
 use Rattle.attrs.specs.declared.route.Row.{Row}
 use Rattle.attrs.specs.Selection.{before}
-use Rattle.attrs.specs.Table.{AreRows, IsBelow, IsInOrder, IsOfSources, route_of, routes_of}
+use Rattle.attrs.specs.Table.{IsBelow, IsInOrder, IsOfSources, route_of, routes_of}
 use Rattle.rib.specs.declared.nets.NetRoutes.{NetRoutes}
 use Rattle.rib.specs.Inside.{AreNets, rows_of}
 

@@ -1,9 +1,10 @@
-ghost use Rattle.std.specs.Prelude.{◌≡◌, ◌≢◌, ◌↔◌, ◌+◌, ◌<◌, ◌≤◌, ◌^◌, ℕ, [], ◌∷◌, IfOk, IfSome, IsTrue, MatchResult, length};
+ghost use Rattle.std.specs.Prelude.{◌≡◌, ◌≢◌, ◌↔◌, ◌+◌, ◌<◌, ◌≤◌, ◌^◌, ℕ, [], ◌∷◌, IfOk, IfSome, IsTrue, MatchResult, OnOk, length};
 ghost use Rattle.bits_ip.specs.Address.{family_of};
+ghost use Rattle.bits_ip.specs.Prefix.{Net};
 ghost use Rattle.attrs.specs.Table.{AreRows, route_in, route_of, routes_of};
 ghost use Rattle.rib.specs.Rib.{best_of, first_of};
 ghost use Rattle.rib.specs.Outcome.{IfChanged};
-ghost use Rattle.rib.specs.Inside.{AreNets, HasRoom, HaveRoomAt, IsRoomFor, rows_of};
+ghost use Rattle.rib.specs.Inside.{AreNets, HasRoom, HaveGrown, HaveRoomAt, IsRoomFor, row_of, rows_of};
 ghost use Rattle.rib.specs.Steps.{AreRoutes, Changes, Replaces, IsGapFor, IsNetAt, Leaves};
 
 use crate::rib::Outcome;
@@ -37,6 +38,36 @@ pub(crate) fn find_routes<'a>(nets: &'a [NetRoutes], net: &Prefix) -> &'a [Route
         Ok(place) => nets[place].routes.as_slice(),
         Err(_) => &[],
     }
+}
+
+/// Makes room for one more route of the net, if it is there.
+fn reserve_route(nets: &mut Vec<NetRoutes>, net: &Prefix) -> Result<(), OutOfMemory>
+    requires { AreRows (rows_of nets.old.items) }
+    ensures made { OnOk result (HaveRoomAt net.now nets.new.items) }
+    ensures grown { HaveGrown nets.old.items nets.new.items }
+    ensures room { HasRoom nets.old → HasRoom nets.new }
+{
+    if let Ok(place) = place_of_net(nets, net) {
+        nets[place].routes.reserve(1)?;
+    }
+    Ok(())
+}
+
+/// Makes room for any change of a route of this net.
+pub(crate) fn reserve_nets(
+    nets: &mut Vec<NetRoutes>,
+    spare: &mut Vec<Route>,
+    net: &Prefix,
+) -> Result<(), OutOfMemory>
+    requires { AreRows (rows_of nets.old.items) }
+    ensures made { OnOk result (IsRoomFor net.now nets.new spare.new) }
+    ensures kept { (n : Net) → IsRoomFor n nets.old spare.old → IsRoomFor n nets.new spare.new }
+    ensures grown { HaveGrown nets.old.items nets.new.items }
+    ensures spare { spare.new.items ≡ spare.old.items }
+{
+    nets.reserve(1)?;
+    spare.reserve(1)?;
+    reserve_route(nets, net)
 }
 
 /// Changes a route of a net and counts it. It may be the net's last.
@@ -111,7 +142,8 @@ pub(crate) fn change_nets(
     change: Change,
 ) -> Outcome
     requires nets { AreNets (family_of change.net.addr) nets.old.items total.old }
-    requires room { IsRoomFor change.net nets.old spare.old total.old }
+    requires room { IsRoomFor change.net nets.old spare.old }
+    requires counts { total.old + 1 < 2 ^ 64 }
     requires empty { spare.old.items ≡ [] }
     requires source { IfSome change.new (λ route. route.src.num ≡ change.num) }
     ensures nets { AreNets (family_of change.net.addr) nets.new.items total.new }
@@ -132,4 +164,35 @@ pub(crate) fn change_nets(
         }
         None => Outcome::Same,
     }
+}
+
+fn copy_routes(alloc: Global, routes: &[Route]) -> Result<Vec<Route>, OutOfMemory>
+    ensures { IfOk result (λ copies. copies.items ≡ routes.now) }
+{
+    let mut copies = Vec::with_capacity(alloc, routes.len())?;
+    for route in routes {
+        copies.push(route.copy()?)?;
+    }
+    Ok(copies)
+}
+
+fn copy_row(alloc: Global, kept: &NetRoutes) -> Result<Row, OutOfMemory>
+    ensures { IfOk result (λ row. row ≡ row_of kept.now) }
+{
+    let routes = copy_routes(alloc, &kept.routes)?;
+    Ok(Row {
+        net: kept.net,
+        routes: Seq::from_vec(routes),
+    })
+}
+
+/// Copies of all rows.
+pub(crate) fn copy_rows(alloc: Global, nets: &[NetRoutes]) -> Result<Vec<Row>, OutOfMemory>
+    ensures { IfOk result (λ rows. rows.items ≡ rows_of nets.now) }
+{
+    let mut rows = Vec::with_capacity(alloc, nets.len())?;
+    for kept in nets {
+        rows.push(copy_row(alloc, kept)?)?;
+    }
+    Ok(rows)
 }

@@ -1,4 +1,4 @@
-use Rattle.std.proofs.Common.{◌≡◌, ◌==◌, ◌∙◌, ap, sym, subst, arith, List, length, vec_len, true, false, [], set, IsTrue}
+use Rattle.std.proofs.Common.{◌≡◌, ◌==◌, ◌∙◌, ap, sym, subst, arith, List, length, vec_len, [], set}
 use Rattle.std.specs.List.{remove}
 use Rattle.attrs.specs.declared.route.Route.{Route}
 use Rattle.rib.specs.declared.nets.NetRoutes.{NetRoutes}

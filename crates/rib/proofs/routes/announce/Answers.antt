@@ -1,6 +1,5 @@
-use Rattle.std.proofs.Common.{◌≡◌, ◌∙◌, ap, sym, arith, subst, List, length, Some}
-use Rattle.attrs.specs.declared.route.Route.{Route}
-use Rattle.rib.specs.Steps.{Replaces, without, placed}
+use Rattle.std.proofs.Common.{◌∙◌, ap, sym, arith, subst, length, Some}
+use Rattle.rib.specs.Steps.{Replaces, placed}
 use Rattle.rib.proofs.OneNet.{Replaces-announced, moved-announced, length-without}
 use Rattle.rib.proofs.routes.announce.Goals as goal
 

@@ -1,4 +1,4 @@
-use Rattle.std.proofs.Common.{◌≡◌, ◌≤◌, ◌∙◌, ap, sym, arith, unwrap_or, length, List, Option, ℕ}
+use Rattle.std.proofs.Common.{◌≡◌, ◌∙◌, ap, arith, unwrap_or, length, List, Option, ℕ}
 use Rattle.std.specs.List.{insert, position, position_or_len}
 use Rattle.attrs.specs.declared.route.Route.{Route}
 use Rattle.attrs.specs.Selection.{before}

@@ -1,4 +1,4 @@
-use Rattle.std.proofs.Common.{◌≡◌, ◌∙◌, ◌==◌, ap, sym, Some, None, Vec, Global, List}
+use Rattle.std.proofs.Common.{◌∙◌, ◌==◌, ap, sym, Vec, Global}
 use Rattle.std.specs.List.{position, remove}
 use Rattle.attrs.specs.declared.route.Route.{Route}
 use Rattle.rib.proofs.OneNet.{remove-without, without-absent, position-some}
