@@ -1,1 +1,5 @@
 pub mod Same
+pub mod Histories
+pub mod Nets
+pub mod Rows
+pub mod Shown

@@ -1,9 +1,10 @@
 -- `==` on attributes and routes answers whether they are the same.
-use Rattle.std.proofs.Common.{◌≡◌, Bool, true, false, Option, Some, None, refl, ap, rules, ◌==◌}
+use Rattle.std.proofs.Common.{◌≡◌, ◌≢◌, ◌⊎◌, inl, inr, Bool, true, false, Option, Some, None, refl, ap, rules, ◌==◌}
 use Rattle.std.specs.Bool.{Decides}
 use Rattle.std.specs.Option.{option_eq}
 use Rattle.std.specs.Cmp.Lexicographic.{pointwise}
 use Rattle.std.proofs.lemmas.Bool.Decides.{Decides-eqb, Decides-and, Decides-like}
+use Rattle.std.proofs.lemmas.Bool.{false≢true}
 use Rattle.std.proofs.lemmas.Slice.Eq.{slice_eq-Decides}
 use denote.Enum.Bare.{sameb, same_true, true_same}
 use mathlib.Core.Bool.{beq}
@@ -103,6 +104,13 @@ route_decides a b =
     (λ h. λ i. record { src = h.0 i; attrs = h.1 i })
     (λ h. (ap (λ r. r.src) h, ap (λ r. r.attrs) h))
     (Decides-and _ _ (src_decides a.src b.src) (attrs_decides a.attrs b.attrs))
+
+from_test : {P : Type 0} → (t : Bool) → Decides t P → P ⊎ (P → ⊥)
+from_test true d = inl (d.0 refl)
+from_test false d = inr (λ h. absurd (false≢true (d.1 h)))
+
+pub same_or_not : (a b : Route) → (a ≡ b) ⊎ (a ≢ b)
+same_or_not a b = from_test ((route.ghosts).eq a b) (route_decides a b)
 
 pub route_option_decides : (a b : Option Route) → Decides (option_eq (route.ghosts).eq a b) (a ≡ b)
 route_option_decides = option_decides (record { decides = route_decides })

@@ -3,9 +3,12 @@
 
 mod attributes;
 mod clist;
+pub mod laws;
 mod path;
 mod route;
 mod seq;
+#[cfg(test)]
+mod tests;
 mod text;
 
 pub use attributes::{Attrs, Dest, Kind, Origin};

@@ -123,7 +123,7 @@ fn write_optional_addr(
         return Ok(());
     };
     out.extend_from_slice(label.as_bytes())?;
-    write_addr(&addr, out)
+    write_addr(alloc, &addr, out)
 }
 
 fn write_optional_origin(origin: Option<Origin>, out: &mut Vec<u8>) -> Result<(), OutOfMemory>
@@ -145,7 +145,7 @@ fn write_peer(alloc: Global, attrs: &Attrs, out: &mut Vec<u8>) -> Result<(), Out
         return Ok(());
     }
     out.extend_from_slice(b" id ")?;
-    write_addr(&Addr::V4(attrs.peer_id), out)?;
+    write_addr(alloc, &Addr::V4(attrs.peer_id), out)?;
     out.extend_from_slice(if attrs.ebgp { b" ebgp" } else { b" ibgp" })?;
     Ok(())
 }

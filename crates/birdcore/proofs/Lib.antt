@@ -1,0 +1,5 @@
+mod Blocks
+mod Reading
+mod Asked
+mod Configs
+mod Decided

@@ -1,0 +1,12 @@
+pub mod Lines
+pub mod Operation
+pub mod Reply
+pub mod Report
+pub mod Config
+pub mod Script
+pub mod ReadScript
+pub mod Play
+pub mod Words
+pub mod Transfer
+pub mod Outcome
+pub mod Answer

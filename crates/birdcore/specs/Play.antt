@@ -1,0 +1,142 @@
+-- What the lines of a script do: an abstract machine over lists.
+use Rattle.std.specs.Prelude.{◌≡◌, ◌≢◌, ℕ, Bool, not, ◌==◌, List, [], ◌∷◌, ◌++◌, length, Option, Some, None, unwrap_or, if◌then◌else◌, codes}
+use Rattle.bits_ip.specs.Prefix.{Net}
+use Rattle.attrs.specs.History.{after, empty}
+use Rattle.attrs.specs.Table.{Shows, count_routes}
+use Rattle.attrs.specs.declared.attributes.Attrs.{Attrs}
+use Rattle.attrs.specs.declared.attributes.Dest.TheVariants.{Unicast}
+use Rattle.attrs.specs.declared.attributes.Kind.TheVariants.{Bgp}
+use Rattle.attrs.specs.declared.route.Change.{Change}
+use Rattle.attrs.specs.declared.route.Route.{Route}
+use Rattle.attrs.specs.declared.route.Row.{Row}
+use Rattle.birdcore.specs.declared.config.Config.{Config}
+use Rattle.birdcore.specs.declared.operation.Given.{Given}
+use Rattle.birdcore.specs.declared.operation.Op.{Op}
+use Rattle.birdcore.specs.declared.operation.Op.TheVariants.{SessionUp, Add}
+use Rattle.birdcore.specs.declared.script.Line.{Line}
+use Rattle.birdcore.specs.declared.script.Line.TheVariants.{Apply, Show}
+use Rattle.birdcore.specs.declared.report.LogItem.{LogItem}
+use Rattle.birdcore.specs.declared.report.LogItem.TheVariants.{Up}
+use Rattle.birdcore.specs.declared.report.Mode.{Mode}
+use Rattle.birdcore.specs.declared.report.Mode.TheVariants.{Idle, Up as IsUp}
+use Rattle.birdcore.specs.declared.report.ReplyReport.{ReplyReport}
+use Rattle.birdcore.specs.declared.report.Standing.{Standing}
+use Rattle.birdcore.specs.declared.report.PhaseReport.{PhaseReport}
+use Rattle.birdcore.specs.Reply.{reply_text}
+
+-- What has come about: the changes of master4, the router id while the session is up, the log of the channel,
+-- the operations, and the replies.
+pub record State : Type 0 where
+  pub history : List Change
+  pub session : Option ℕ
+  pub log : List LogItem
+  pub ops : List Op
+  pub replies : List ReplyReport
+
+abbrev pub start : State
+start = record { history = []; session = None; log = []; ops = []; replies = [] }
+
+-- A neighbour in another autonomous system is external.
+abbrev pub is_external : Config → Bool
+is_external config = not (config.local == config.remote)
+
+-- The local preference of an external neighbour's route is the default, whatever the line says (RFC 4271, section 5.1.5).
+abbrev pub local_preference : Bool → Option ℕ → ℕ
+local_preference external lp = if external then 100 else unwrap_or lp 100
+
+-- the route that an `add` gives in a session with this router id
+abbrev pub imported_attrs : Config → ℕ → Given → Attrs
+imported_attrs config id given = record {
+  pref = 100;
+  kind = Bgp;
+  dest = Unicast;
+  gw = Some given.gw;
+  sender = Some config.neighbor;
+  peer_id = id;
+  ebgp = is_external config;
+  path = given.path;
+  origin = Some given.origin;
+  next_hop = Some given.gw;
+  med = given.med;
+  lp = Some (local_preference (is_external config) given.lp);
+  igp = given.igp;
+  coms = given.coms;
+}
+
+abbrev pub imported_route : Config → ℕ → Given → Route
+imported_route config id given = record { src = record { num = 0; def_med = 0; def_lp = 100 }; attrs = imported_attrs config id given }
+
+abbrev pub imported : Config → ℕ → Net → Given → Change
+imported config id net given = record { net = net; num = 0; new = Some (imported_route config id given) }
+
+-- the history goes on by the change, unless the key's route is this one already
+pub record GoesOn (old : List Change) (c : Change) (new : List Change) : Type 0 where
+  pub same : after empty old c.net c.num ≡ c.new → new ≡ old
+  pub other : after empty old c.net c.num ≢ c.new → new ≡ old ++ c ∷ []
+
+-- An `open` acts in an idle session alone: the session is up with this router id, and so is the channel, at the head.
+abbrev pub opened : Option ℕ → ℕ → State → State
+opened None id s = record s { session = Some id; log = s.log ++ Up (length s.history) ∷ [] }
+opened (Some up) id s = s
+
+-- An `add` acts in a session that is up alone.
+abbrev pub Adds : Config → Option ℕ → Net → Given → State → State → Type 0
+Adds config None net given s t = t ≡ s
+Adds config (Some id) net given s t = (history : List Change) × GoesOn s.history (imported config id net given) history × (t ≡ record s { history = history })
+
+abbrev pub Acts : Config → Op → State → State → Type 0
+Acts config (SessionUp id) s t = t ≡ opened s.session id s
+Acts config (Add net given) s t = Adds config s.session net given s t
+
+-- the name of the one table that has routes
+abbrev pub main_table : List ℕ
+main_table = codes "master4"
+
+-- the reply to `show route` over these rows, at the head
+abbrev pub replied : Config → ℕ → List Row → ReplyReport
+replied config head rows = record {
+  actor = config.name;
+  table = main_table;
+  at = head;
+  text = reply_text (config.name ∷ []) main_table rows;
+}
+
+-- A line is an operation, which is recorded in any mode, or a question, which is answered from what the table shows.
+abbrev pub Steps : Config → Line → State → State → Type 0
+Steps config (Apply op) s t = (acted : State) × Acts config op s acted × (t ≡ record acted { ops = s.ops ++ op ∷ [] })
+Steps config Show s t = (rows : List Row) × Shows rows (after empty s.history) × (t ≡ record s { replies = s.replies ++ replied config (length s.history) rows ∷ [] })
+
+-- the lines, one after another
+abbrev pub Plays : Config → List Line → State → State → Type 0
+Plays config [] s t = s ≡ t
+Plays config (line ∷ lines) s t = (between : State) × Steps config line s between × Plays config lines between t
+
+abbrev pub mode_of : Option ℕ → Mode
+mode_of None = Idle
+mode_of (Some id) = IsUp
+
+-- The channel's own routes are kept from it, so nothing stands as sent.
+abbrev pub sent_in : Option ℕ → Option (List Standing)
+sent_in None = None
+sent_in (Some id) = Some []
+
+-- what is reported of the one phase, where the table shows these rows at its end
+abbrev pub phase_of : Config → State → List Row → PhaseReport
+phase_of config s rows = record {
+  number = 1;
+  protocols = record { name = config.name; ops = s.ops } ∷ [];
+  journals = record { table = main_table; from = 0; entries = s.history } ∷ record { table = codes "master6"; from = 0; entries = [] } ∷ [];
+  channels = record { name = config.name; items = s.log } ∷ [];
+  replies = s.replies;
+  tables = record { name = main_table; rows = rows } ∷ record { name = codes "master6"; rows = [] } ∷ [];
+  modes = record { name = config.name; mode = mode_of s.session; accepted = count_routes rows } ∷ [];
+  exports = record { name = config.name; standing = sent_in s.session } ∷ [];
+}
+
+-- the phase is one that these lines may have: the machine's
+pub record IsPhase (config : Config) (lines : List Line) (phase : PhaseReport) : Type 0 where
+  pub state : State
+  pub rows : List Row
+  pub plays : Plays config lines start state
+  pub shows : Shows rows (after empty state.history)
+  pub is : phase ≡ phase_of config state rows
