@@ -5,6 +5,8 @@ mod nets;
 mod rib;
 mod routes;
 mod selection;
+#[cfg(test)]
+mod tests;
 
 pub use rib::{Outcome, Rib};
 pub use selection::before;
