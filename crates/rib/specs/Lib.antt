@@ -1,3 +1,4 @@
 pub mod Rib
 pub mod Inside
 pub mod Outcome
+pub mod Steps

@@ -6,7 +6,9 @@ ghost use Rattle.attrs.specs.Table.{AreRows, route_in, count_routes};
 ghost use Rattle.rib.specs.Rib.{best_of};
 ghost use Rattle.rib.specs.Outcome.{IfChanged};
 
-use attrs::{Change, Route, Row, Select, Seq};
+use crate::nets::{NetRoutes, change_nets, copy_rows, find_routes, reserve_nets};
+use crate::routes::{find_route, same_routes};
+use attrs::{Change, Route, Row, Select};
 use bits_ip::{Family, OutOfMemory, Prefix};
 use std::alloc::Global;
 use std::marker::Model;
@@ -18,12 +20,6 @@ pub enum Outcome {
     Same,
     /// It wasn't. `moved` tells whether the net's best route is another one now, or none.
     Changed { moved: bool },
-}
-
-#[derive(Debug, Drop)]
-struct NetRoutes {
-    net: Prefix,
-    routes: Vec<Route>,
 }
 
 /// The routes of a table, of one family of nets: at most one for a net and a source.
@@ -66,7 +62,12 @@ impl Rib {
         ensures made { OnOk result (self.new ≡ record self.old { room = Some (change.now.net, change.now.num) }) }
         ensures refused { OnErr result (self.new ≡ self.old) }
     {
-        Err(OutOfMemory)
+        if self.total == u64::MAX {
+            return Err(OutOfMemory);
+        }
+        reserve_nets(&mut self.nets, &mut self.spare, &change.net)?;
+        self.room = Some((change.net, change.num));
+        Ok(())
     }
 
     /// Puts the change's route in the place of the key's, or takes the key's route away.
@@ -82,16 +83,15 @@ impl Rib {
         ensures moved { IfChanged result (λ moved. IsTrue moved ↔ (best_of change.net self.new.rows ≢ best_of change.net self.old.rows)) }
     {
         self.room = None;
-        let Change { net, num, new } = change;
-        let _ = (net, num, new);
-        Outcome::Same
+        change_nets(&mut self.nets, &mut self.spare, &mut self.total, change)
     }
 
     /// Whether the key's route is the given one already.
     pub fn stands(&self, change: &Change) -> bool
         ensures { IsTrue result ↔ (route_in self.now.rows change.now.net change.now.num ≡ change.now.new) }
     {
-        false
+        let routes = find_routes(&self.nets, &change.net);
+        same_routes(find_route(routes, change.num), change.new.as_ref())
     }
 
     /// A copy of the rows that are asked for, in the order of nets.
@@ -99,7 +99,9 @@ impl Rib {
         ensures rows { IfOk result (λ rows. rows.items ≡ self.now.rows) }
         ensures are_rows { AreRows self.now.rows }
     {
-        Err(OutOfMemory)
+        match pick {
+            Select::All => copy_rows(*self.nets.allocator(), &self.nets),
+        }
     }
 
     /// How many routes there are.

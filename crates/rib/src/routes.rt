@@ -1,0 +1,108 @@
+ghost use Rattle.std.specs.Prelude.{◌≡◌, ◌≢◌, ◌↔◌, ◌==◌, None, Some, IfSome, IsTrue, option_copied, position};
+ghost use Rattle.std.specs.Vec.{vec_capacity};
+ghost use Rattle.attrs.specs.Selection.{before};
+ghost use Rattle.attrs.specs.Table.{route_of};
+ghost use Rattle.rib.specs.Rib.{first_of};
+ghost use Rattle.rib.specs.Outcome.{IfChanged};
+ghost use Rattle.rib.specs.Inside.{HasRoom};
+ghost use Rattle.rib.specs.Steps.{AreRoutes, Replaces, without, placed, leads, goes_first};
+
+use crate::before;
+use crate::rib::Outcome;
+use attrs::Route;
+
+/// The route of a source.
+pub(crate) fn find_route(routes: &[Route], num: u32) -> Option<&Route>
+    ensures { option_copied result ≡ route_of num routes.now }
+{
+    routes.iter().find(|route| route.src.num == num)
+}
+
+/// Whether both are the same route, or neither is there.
+pub(crate) fn same_routes(a: Option<&Route>, b: Option<&Route>) -> bool
+    ensures { IsTrue result ↔ (option_copied a.entry ≡ option_copied b.entry) }
+{
+    match (a, b) {
+        (Some(a), Some(b)) => a.is_same(b),
+        (None, None) => true,
+        _ => false,
+    }
+}
+
+fn place_of(routes: &[Route], num: u32) -> Option<usize>
+    ensures { result ≡ position (λ r. r.src.num == num) routes.now }
+{
+    routes.iter().position(|route| route.src.num == num)
+}
+
+/// Takes the source's route out, and tells whether it was the best.
+fn take_out(routes: &mut Vec<Route>, num: u32) -> bool
+    ensures routes { routes.new.items ≡ without num routes.old.items }
+    ensures capacity { vec_capacity routes.new ≡ vec_capacity routes.old }
+    ensures best { result ≡ leads num routes.old.items }
+{
+    let place = place_of(routes, num);
+    if let Some(place) = place {
+        let _taken = routes.remove(place);
+    }
+    place == Some(0)
+}
+
+/// The place of the first route that this one is before.
+fn place_for(routes: &[Route], route: &Route) -> Option<usize>
+    ensures { result ≡ position (before route.now) routes.now }
+{
+    routes.iter().position(|kept| before(route, kept))
+}
+
+/// Puts a route in, and tells whether it is the best now.
+fn put_in(routes: &mut Vec<Route>, route: Route) -> bool
+    requires { HasRoom routes.old }
+    ensures routes { routes.new.items ≡ placed route routes.old.items }
+    ensures best { result ≡ goes_first route routes.old.items }
+{
+    let place = place_for(routes, &route).unwrap_or(routes.len());
+    routes.insert(place, route).unwrap();
+    place == 0
+}
+
+/// Puts a route in the place of its source's, and tells whether the best is another one now.
+fn announce(routes: &mut Vec<Route>, route: Route) -> bool
+    requires room { HasRoom routes.old }
+    requires are { AreRoutes routes.old.items }
+    requires real { route_of route.src.num routes.old.items ≢ Some route }
+    ensures routes { Replaces route.src.num (Some route) routes.old.items routes.new.items }
+    ensures moved { IsTrue result ↔ (first_of routes.new.items ≢ first_of routes.old.items) }
+{
+    let led = take_out(routes, route.src.num);
+    let leads = put_in(routes, route);
+    led | leads
+}
+
+/// Takes the source's route away, and tells whether the best is another one now.
+fn withdraw(routes: &mut Vec<Route>, num: u32) -> bool
+    requires { AreRoutes routes.old.items }
+    ensures routes { Replaces num None routes.old.items routes.new.items }
+    ensures moved { IsTrue result ↔ (first_of routes.new.items ≢ first_of routes.old.items) }
+{
+    take_out(routes, num)
+}
+
+/// Puts a net's route of a source in the place of the one that stands there, or takes it away.
+pub(crate) fn change_routes(routes: &mut Vec<Route>, num: u32, new: Option<Route>) -> Outcome
+    requires room { HasRoom routes.old }
+    requires are { AreRoutes routes.old.items }
+    requires source { IfSome new (λ route. route.src.num ≡ num) }
+    ensures routes { Replaces num new routes.old.items routes.new.items }
+    ensures same { (result ≡ Outcome.Same) ↔ (route_of num routes.old.items ≡ new) }
+    ensures moved { IfChanged result (λ moved. IsTrue moved ↔ (first_of routes.new.items ≢ first_of routes.old.items)) }
+{
+    if same_routes(find_route(routes, num), new.as_ref()) {
+        return Outcome::Same;
+    }
+    let moved = match new {
+        Some(route) => announce(routes, route),
+        None => withdraw(routes, num),
+    };
+    Outcome::Changed { moved }
+}

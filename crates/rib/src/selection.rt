@@ -1,0 +1,14 @@
+ghost use Rattle.std.specs.Prelude.{◌≡◌};
+ghost use Rattle.attrs.specs.Selection.{before};
+
+use attrs::Route;
+
+/// Whether a is preferred to b, a route of another source to the same net: the higher preference, then the lower
+/// number of its source.
+pub fn before(a: &Route, b: &Route) -> bool
+    ensures { result ≡ before a.now b.now }
+{
+    let higher = a.attrs.pref > b.attrs.pref;
+    let equal = a.attrs.pref == b.attrs.pref;
+    higher || (equal && a.src.num < b.src.num)
+}
