@@ -3,3 +3,4 @@ mod Reading
 mod Asked
 mod Configs
 mod Decided
+mod Runs

@@ -6,6 +6,7 @@ pub mod Config
 pub mod Script
 pub mod ReadScript
 pub mod Play
+pub mod Run
 pub mod Words
 pub mod Transfer
 pub mod Outcome

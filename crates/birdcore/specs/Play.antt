@@ -133,10 +133,12 @@ phase_of config s rows = record {
   exports = record { name = config.name; standing = sent_in s.session } ∷ [];
 }
 
--- the phase is one that these lines may have: the machine's
+-- what is reported in a state, with the rows that its table shows
+abbrev pub Reports : Config → State → PhaseReport → Type 0
+Reports config s phase = (rows : List Row) × Shows rows (after empty s.history) × (phase ≡ phase_of config s rows)
+
+-- the phase is the machine's on these lines
 pub record IsPhase (config : Config) (lines : List Line) (phase : PhaseReport) : Type 0 where
   pub state : State
-  pub rows : List Row
   pub plays : Plays config lines start state
-  pub shows : Shows rows (after empty state.history)
-  pub is : phase ≡ phase_of config state rows
+  pub reports : Reports config state phase

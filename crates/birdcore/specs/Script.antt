@@ -68,3 +68,13 @@ pub record IsBadLine (name text : List ℕ) (number : ℕ) : Type 0 where
   pub front_is : AreLines name front lines
   pub bad_is : (line : Line) → IsLine name bad line → ⊥
   pub number_is : number ≡ length front + 1
+
+-- the line names no net but IPv4 ones
+abbrev pub IsOfV4 : Line → Type 0
+IsOfV4 (Apply (SessionUp id)) = ⊤
+IsOfV4 (Apply (Add net given)) = family_of net.addr ≡ families.V4
+IsOfV4 Show = ⊤
+
+abbrev pub AreOfV4 : List Line → Type 0
+AreOfV4 [] = ⊤
+AreOfV4 (line ∷ lines) = IsOfV4 line × AreOfV4 lines

@@ -3,6 +3,7 @@ ghost use Rattle.std.specs.String.{string_bytes};
 ghost use Rattle.std.specs.Io.KnownBytes.{Appends, Keeps};
 ghost use Rattle.outside_io.specs.Faults.{Rose};
 ghost use Rattle.birdcore.specs.Words.{files_named};
+ghost use Rattle.birdcore.specs.Script.{AreOfV4};
 ghost use Rattle.birdcore.specs.Transfer.{IsMissed, WritesFront};
 ghost use Rattle.birdcore.specs.Outcome.{Outcome, OverLimit, OutOfForm, FilesReport, IsPlayed, MayAsk, Asks, IfReport, IsReport};
 ghost use Rattle.birdcore.specs.Answer.{FilesRefuse, ScriptRefused, Refuses, IsAnswered, Fits, IfTooLong, IfNotBuilt, IsNotOk, writes_nothing};
@@ -86,6 +87,7 @@ fn prepare<F: Shelf>(alloc: Global, words: &[String], shelf: &mut F) -> Result<V
 
 /// The text of the report of these lines.
 fn report(alloc: Global, config: &Config, lines: Vec<Line>) -> Result<Vec<u8>, OutOfMemory>
+    requires { AreOfV4 lines.items }
     ensures { IfOk result (λ text. IsReport config.now lines.items text.items) }
 {
     let phase = play(alloc, config, lines)?;
