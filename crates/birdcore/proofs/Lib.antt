@@ -1,3 +1,4 @@
 pub mod Runs
 pub mod LineCuts
 pub mod WordCuts
+pub mod Numerals
