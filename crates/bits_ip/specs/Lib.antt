@@ -1,3 +1,4 @@
 pub mod Address
+pub mod Parts
 pub mod Prefix
 pub mod Text

@@ -2,6 +2,7 @@
 #![tactic(auto)]
 
 mod address;
+mod ipv6;
 mod memory;
 mod prefix;
 mod read;
@@ -12,3 +13,6 @@ pub use memory::OutOfMemory;
 pub use prefix::{NotPrefix, Prefix};
 pub use read::{BadText, read_addr, read_prefix};
 pub use write::{write_addr, write_prefix};
+
+#[cfg(test)]
+mod tests;

@@ -36,16 +36,17 @@ impl Prefix {
         ensures is { IfOk result (λ net. IsPrefix addr len) }
         ensures refused { OnErr result (IsPrefix addr len → ⊥) }
     {
-        let width = match addr {
-            Addr::V4(_) => 32,
-            Addr::V6(_) => 128,
-        };
-        if len <= width { Ok(Prefix { addr, len }) } else { Err(NotPrefix) }
+        if len <= addr.width() && addr.ends_at(len) {
+            Ok(Prefix { addr, len })
+        } else {
+            Err(NotPrefix)
+        }
     }
 
     /// The address that the prefix begins with.
     pub fn addr(&self) -> Addr
-        ensures { result ≡ self.now.addr }
+        ensures value { result ≡ self.now.addr }
+        ensures prefix { IsPrefix self.now.addr self.now.len }
     {
         self.addr
     }
@@ -70,7 +71,9 @@ impl Prefix {
     pub fn covers(&self, other: &Prefix) -> bool
         ensures { IsTrue result ↔ Covers self.now other.now }
     {
-        false
+        self.family() == other.family()
+            && self.len <= other.len
+            && self.addr.front_bits(self.len) == other.addr.front_bits(self.len)
     }
 
     /// The order of nets: IPv4 first, then by address, then by length.

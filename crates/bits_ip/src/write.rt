@@ -1,18 +1,45 @@
-ghost use Rattle.std.specs.Prelude.{◌≡◌, ◌++◌, OnOk};
-ghost use Rattle.bits_ip.specs.Text.{addr_text, net_text};
+ghost use Rattle.std.specs.Prelude.{◌≡◌, ◌++◌, ◌<◌, ◌^◌, decimal, OnOk};
+ghost use Rattle.bits_ip.specs.Text.{addr_text, net_text, v4_text};
 
+use crate::ipv6::write_v6;
 use crate::{Addr, OutOfMemory, Prefix};
+use itoa::Buffer;
 
 /// Appends an address: IPv4 in dotted decimals, IPv6 as RFC 5952 says.
 pub fn write_addr(addr: &Addr, out: &mut Vec<u8>) -> Result<(), OutOfMemory>
     ensures { OnOk result (out.new.items ≡ out.old.items ++ addr_text addr.now) }
 {
-    Err(OutOfMemory)
+    match addr {
+        Addr::V4(number) => write_v4(*number, out),
+        Addr::V6(number) => write_v6(*number, out),
+    }
 }
 
 /// Appends a prefix: its address, a slash and its length.
 pub fn write_prefix(net: &Prefix, out: &mut Vec<u8>) -> Result<(), OutOfMemory>
     ensures { OnOk result (out.new.items ≡ out.old.items ++ net_text net.now) }
 {
-    Err(OutOfMemory)
+    write_addr(&net.addr(), out)?;
+    out.push(b'/')?;
+    write_number(net.len(), out)
+}
+
+fn write_v4(number: u32, out: &mut Vec<u8>) -> Result<(), OutOfMemory>
+    ensures { OnOk result (out.new.items ≡ out.old.items ++ v4_text number) }
+{
+    let [first, second, third, fourth] = number.to_be_bytes();
+    write_number(first, out)?;
+    out.push(b'.')?;
+    write_number(second, out)?;
+    out.push(b'.')?;
+    write_number(third, out)?;
+    out.push(b'.')?;
+    write_number(fourth, out)
+}
+
+fn write_number(number: u8, out: &mut Vec<u8>) -> Result<(), OutOfMemory>
+    ensures { OnOk result (out.new.items ≡ out.old.items ++ decimal number) }
+{
+    out.extend_from_slice(Buffer::new().format(number).as_bytes())?;
+    Ok(())
 }
