@@ -5,5 +5,6 @@ pub mod Reply
 pub mod Report
 pub mod Config
 pub mod Script
+pub mod Command
 pub mod ReadScript
 pub mod Play

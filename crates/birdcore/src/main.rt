@@ -1,6 +1,7 @@
 //! The program: it plays a script over a configuration, and reports what came about.
 #![tactic(auto)]
 
+mod commands;
 mod config;
 mod lines;
 mod numbers;
@@ -10,5 +11,6 @@ mod reply;
 mod report;
 mod report_text;
 mod script;
+mod words;
 
 fn main() {}
