@@ -1,6 +1,14 @@
-mod Blocks
-mod Reading
-mod Asked
-mod Configs
-mod Decided
-mod Runs
+pub mod Runs
+pub mod LineCuts
+pub mod WordCuts
+pub mod Numerals
+pub mod AddressTexts
+pub mod NumberRuns
+pub mod CommandParts
+pub mod ScriptLines
+pub mod Blocks
+pub mod Reading
+pub mod Asked
+pub mod Configs
+pub mod Decided
+pub mod PlaySteps

@@ -1,50 +1,54 @@
--- How the run of a script goes on.
-use Rattle.std.proofs.Common.{◌≡◌, ◌≢◌, ℕ, suc, zero, ◌+◌, ◌<◌, ◌≤◌, List, [], ◌∷◌, ◌++◌, length, get_or, Option, refl, sym, ◌∙◌, ap, subst, arith, unwrap_or}
-use Rattle.bits_ip.specs.Prefix.{Net}
-use Rattle.attrs.specs.History.{after, empty, last_of}
-use Rattle.attrs.specs.Table.{AreRows, Shows, route_in}
-use Rattle.attrs.specs.declared.route.Change.{Change}
-use Rattle.attrs.specs.declared.route.Row.{Row}
-use Rattle.attrs.proofs.Histories.{after-append}
-use Rattle.birdcore.specs.declared.config.Config.{Config}
-use Rattle.birdcore.specs.declared.operation.Op.TheVariants.{SessionUp, Add}
-use Rattle.birdcore.specs.declared.script.Line.{Line}
-use Rattle.birdcore.specs.declared.script.Line.TheVariants.{Apply, Show}
-use Rattle.birdcore.specs.Script.{IsLine, AreLines, IsScript, IsOfV4, AreOfV4, lines_words}
-use Rattle.birdcore.specs.Play.{State, Steps, Plays}
+-- The longest front of a text that passes a test, and what stands behind it.
+use Rattle.std.proofs.Common.{◌≡◌, ℕ, suc, ◌+◌, ◌<◌, ◌≤◌, Bool, true, false, cond, ◌&&◌, List, [], ◌∷◌, ◌++◌, length, take, drop, refl, sym, ◌∙◌, ap, arith, rules, ◌⊎◌, inl, inr}
+use Rattle.std.specs.List.{prefix_len, take_while, list_all}
+use Rattle.std.proofs.lemmas.Bool.{cases_Bool, and_parts, and_from}
+use Rattle.std.proofs.lemmas.List.{take-append-drop}
+use Rattle.std.proofs.lemmas.List.Sums.{take_while-cons}
+use Rattle.birdcore.specs.Config.{first_passes}
+use Rattle.birdcore.specs.Cut.{behind}
 
--- A change more in the table and in the history: the table shows what the history leaves.
-pub shows_more : (rows new : List Row) (history : List Change) (c : Change) → Shows rows (after empty history) → AreRows new
-    → ((net : Net) (num : ℕ) → route_in new net num ≡ after (route_in rows) (c ∷ []) net num) → Shows new (after empty (history ++ c ∷ []))
-shows_more rows new history c shows are routes = record {
-  rows_are = are;
-  routes_are = λ net num.
-      routes net num
-      ∙ ap (λ before. unwrap_or (last_of net num (c ∷ [])) before) (shows.routes_are net num)
-      ∙ sym (after-append empty history (c ∷ []) net num);
-}
+pub behind_yes : (p : ℕ → Bool) (x : ℕ) (xs : List ℕ) → p x ≡ true → behind p (x ∷ xs) ≡ behind p xs
+behind_yes p x xs passes =
+    let len : prefix_len p (x ∷ xs) ≡ suc (prefix_len p xs) = rw passes (omega arith) in
+    ap (λ (n : ℕ). drop n (x ∷ xs)) len
 
--- a line more
-pub plays_more : (config : Config) (lines : List Line) (line : Line) (s t u : State) → Plays config lines s t → Steps config line t u → Plays config (lines ++ line ∷ []) s u
-plays_more config [] line s t u plays step = (u, subst (λ (v : State). Steps config line v u) (sym plays) step, refl)
-plays_more config (first ∷ lines) line s t u plays step = (plays.0, plays.1, plays_more config lines line plays.0 t u plays.2 step)
+pub behind_no : (p : ℕ → Bool) (x : ℕ) (xs : List ℕ) → p x ≡ false → behind p (x ∷ xs) ≡ x ∷ xs
+behind_no p x xs fails = ap (λ (b : Bool). drop (cond b (1 + prefix_len p xs) 0) (x ∷ xs)) fails
 
-pub line_at_is_v4 : (lines : List Line) (k : ℕ) (line : Line) → AreOfV4 lines → k < length lines → line ≡ get_or lines k line → IsOfV4 line
-line_at_is_v4 [] k line are within is = absurd (omega arith)
-line_at_is_v4 (first ∷ lines) zero line are within is = subst IsOfV4 (sym is) are.0
-line_at_is_v4 (first ∷ lines) (suc k) line are within is = line_at_is_v4 lines k line are.1 (omega arith) is
+pub run_yes : (p : ℕ → Bool) (x : ℕ) (xs : List ℕ) → p x ≡ true → take_while p (x ∷ xs) ≡ x ∷ take_while p xs
+run_yes p x xs passes = take_while-cons p x xs ∙ ap (λ (b : Bool). cond b (x ∷ take_while p xs) []) passes
 
-line_is_v4 : (name : List ℕ) (words : List (List ℕ)) (line : Line) → IsLine name words line → IsOfV4 line
-line_is_v4 name words (Apply (SessionUp id)) is = tt
-line_is_v4 name words (Apply (Add net given)) is = is.2.net_family
-line_is_v4 name words Show is = tt
+pub run_no : (p : ℕ → Bool) (x : ℕ) (xs : List ℕ) → p x ≡ false → take_while p (x ∷ xs) ≡ []
+run_no p x xs fails = take_while-cons p x xs ∙ ap (λ (b : Bool). cond b (x ∷ take_while p xs) []) fails
 
-lines_are_v4 : (name : List ℕ) (words : List (List (List ℕ))) (lines : List Line) → AreLines name words lines → AreOfV4 lines
-lines_are_v4 name [] [] are = tt
-lines_are_v4 name [] (line ∷ lines) are = absurd are
-lines_are_v4 name (first ∷ words) [] are = absurd are
-lines_are_v4 name (first ∷ words) (line ∷ lines) are = (line_is_v4 name first line are.0, lines_are_v4 name words lines are.1)
+pub run_whole : (p : ℕ → Bool) (xs : List ℕ) → xs ≡ take_while p xs ++ behind p xs
+run_whole p xs = sym (take-append-drop (prefix_len p xs) xs)
 
--- The form allows IPv4 alone.
-pub script_is_v4 : (name text : List ℕ) (lines : List Line) → IsScript name text lines → AreOfV4 lines
-script_is_v4 name text lines script = lines_are_v4 name (lines_words text) lines script
+pub run_passes : (p : ℕ → Bool) (xs : List ℕ) → list_all p (take_while p xs) ≡ true
+run_passes p [] = refl
+run_passes p (x ∷ xs) = elim (cases_Bool (p x)) [
+  | inl is ↦ ap (list_all p) (run_yes p x xs is) ∙ and_from (p x) (list_all p (take_while p xs)) is (run_passes p xs)
+  | inr fails ↦ ap (list_all p) (run_no p x xs fails)
+]
+
+pub run_stops : (p : ℕ → Bool) (xs : List ℕ) → first_passes p (behind p xs) ≡ false
+run_stops p [] = refl
+run_stops p (x ∷ xs) = elim (cases_Bool (p x)) [
+  | inl is ↦ ap (first_passes p) (behind_yes p x xs is) ∙ run_stops p xs
+  | inr fails ↦ ap (first_passes p) (behind_no p x xs fails) ∙ fails
+]
+
+-- a front that passes, and a rest that doesn't go on with it
+pub run_front : (p : ℕ → Bool) (front rest : List ℕ) → list_all p front ≡ true → first_passes p rest ≡ false → take_while p (front ++ rest) ≡ front
+run_front p [] [] all stops = refl
+run_front p [] (x ∷ xs) all stops = run_no p x xs stops
+run_front p (x ∷ front) rest all stops =
+    let parts = and_parts (p x) (list_all p front) all in
+    run_yes p x (front ++ rest) parts.0 ∙ ap (λ (l : List ℕ). x ∷ l) (run_front p front rest parts.1 stops)
+
+pub run_rest : (p : ℕ → Bool) (front rest : List ℕ) → list_all p front ≡ true → first_passes p rest ≡ false → behind p (front ++ rest) ≡ rest
+run_rest p [] [] all stops = refl
+run_rest p [] (x ∷ xs) all stops = behind_no p x xs stops
+run_rest p (x ∷ front) rest all stops =
+    let parts = and_parts (p x) (list_all p front) all in
+    behind_yes p x (front ++ rest) parts.0 ∙ run_rest p front rest parts.1 stops

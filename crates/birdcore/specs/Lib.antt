@@ -1,9 +1,11 @@
 pub mod Lines
+pub mod Cut
 pub mod Operation
 pub mod Reply
 pub mod Report
 pub mod Config
 pub mod Script
+pub mod Command
 pub mod ReadScript
 pub mod Play
 pub mod Run

@@ -1,7 +1,10 @@
 //! The program: it plays a script over a configuration, and reports what came about.
 #![tactic(auto)]
 
+mod commands;
 mod config;
+mod lines;
+mod numbers;
 mod operation;
 mod play;
 mod reply;
@@ -11,6 +14,7 @@ mod script;
 mod status;
 mod top;
 mod transfer;
+mod words;
 
 use crate::status::Status;
 use crate::top::top;

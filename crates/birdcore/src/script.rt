@@ -3,6 +3,8 @@ ghost use Rattle.birdcore.specs.declared.script.Line.{Line};
 ghost use Rattle.birdcore.specs.Script.{IsScript, IsBadLine};
 ghost use Rattle.birdcore.specs.ReadScript.{IsRead};
 
+use crate::commands::{Refusal, read_line};
+use crate::lines::cut_line;
 use crate::operation::Op;
 use bits_ip::OutOfMemory;
 use std::alloc::Global;
@@ -28,5 +30,15 @@ pub fn read_script(alloc: Global, name: &[u8], text: &[u8]) -> Result<ScriptRead
     requires { length text.now ≤ 2 ^ 24 }
     ensures { IfOk result (IsRead name.now text.now) }
 {
-    Err(OutOfMemory)
+    let mut lines = Vec::new(alloc);
+    let mut rest = text;
+    while let Some((line, after)) = cut_line(rest) {
+        match read_line(alloc, name, line) {
+            Ok(line) => lines.push(line)?,
+            Err(Refusal::Form) => return Ok(ScriptRead::Bad(lines.len() as u32 + 1)),
+            Err(Refusal::Memory) => return Err(OutOfMemory),
+        }
+        rest = after;
+    }
+    Ok(ScriptRead::Lines(lines))
 }

@@ -1,6 +1,6 @@
 use Rattle.std.proofs.Common.{◌∙◌, sym, ap, append_assoc, List, ◌++◌, ◌∷◌, []}
 use Rattle.birdcore.specs.declared.script.Line.{Line}
-use Rattle.birdcore.proofs.Runs.{plays_more}
+use Rattle.birdcore.proofs.PlaySteps.{plays_more}
 use Rattle.birdcore.proofs.play.play.Goals as goal
 
 pub step-requires-clause-v4 : goal.step-requires-clause-v4

@@ -1,6 +1,6 @@
 use Rattle.std.proofs.Common.{◌∙◌, ap}
 use Rattle.rib.specs.Rib.{Table}
-use Rattle.birdcore.proofs.Runs.{shows_more}
+use Rattle.birdcore.proofs.PlaySteps.{shows_more}
 use Rattle.birdcore.proofs.play.Run.announce.Goals as goal
 
 pub returns-clause-is : goal.returns-clause-is

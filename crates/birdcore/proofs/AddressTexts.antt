@@ -1,0 +1,98 @@
+-- The bytes of the texts of addresses and nets.
+use Rattle.std.proofs.Common.{◌≡◌, ◌≢◌, ◌∙◌, sym, ap, refl, subst, ℕ, suc, zero, ◌+◌, ◌-◌, ◌*◌, ◌/◌, ◌%◌, ◌<◌, ◌≤◌, ◌^◌, Bool, true, false, ◌&&◌, List, [], ◌∷◌, ◌++◌, length, get_or, take, arith, rules}
+use Rattle.std.specs.Prelude.{decimal, ⊤}
+use Rattle.std.specs.Char.{digit_value}
+use Rattle.std.specs.Int.{IsInRange}
+use Rattle.std.specs.List.{list_all, take_while}
+use Rattle.std.specs.Str.Parse.{AllDigits}
+use Rattle.std.proofs.lemmas.Bool.{and_from, or_left, or_right}
+use Rattle.std.proofs.lemmas.Bool.Decides.{nat_tests}
+use Rattle.std.proofs.lemmas.Fmt.{decimal_is_IsNumeral}
+use Rattle.std.proofs.lemmas.List.{append-nil}
+use Rattle.std.proofs.lemmas.List.Folds.{list_all-append}
+use Rattle.std.proofs.lemmas.Str.Parse.{digit_from_value}
+use Rattle.bits_ip.specs.Address.{family_of}
+use Rattle.bits_ip.specs.Prefix.{Net, IsPrefix}
+use Rattle.bits_ip.specs.Text.{v4_text, is_addr_byte, is_net_byte, addr_run, net_run, IsAddrText, IsNetText}
+use Rattle.bits_ip.specs.declared.address.Addr.{Addr}
+use Rattle.bits_ip.specs.declared.address.Addr.TheVariants.{V4, V6}
+use Rattle.bits_ip.specs.declared.address.Family.TheVariants as families
+use Rattle.birdcore.proofs.Runs.{run_front}
+
+pub run_of_all : (p : ℕ → Bool) (xs : List ℕ) → list_all p xs ≡ true → take_while p xs ≡ xs
+run_of_all p xs all = ap (take_while p) (sym (append-nil xs)) ∙ run_front p xs [] all refl
+
+-- each decimal digit passes
+abbrev pub TakesDigits : (ℕ → Bool) → Type 0
+TakesDigits p = (c : ℕ) → IsInRange 48 57 c → p c ≡ true
+
+pub digits_all : (p : ℕ → Bool) → TakesDigits p → (ds : List ℕ) → AllDigits 10 ds → list_all p ds ≡ true
+digits_all p takes [] digits = refl
+digits_all p takes (c ∷ ds) digits = and_from (p c) (list_all p ds) (takes c (digit_from_value c digits.0)) (digits_all p takes ds digits.1)
+
+pub decimal_all : (p : ℕ → Bool) → TakesDigits p → (n : ℕ) → n < 2 ^ 64 → list_all p (decimal n) ≡ true
+decimal_all p takes n small = digits_all p takes (decimal n) (decimal_is_IsNumeral n small).0.1
+
+pub joined_all : (p : ℕ → Bool) (xs ys : List ℕ) → list_all p xs ≡ true → list_all p ys ≡ true → list_all p (xs ++ ys) ≡ true
+joined_all p xs ys front back = list_all-append p xs ys ∙ and_from (list_all p xs) (list_all p ys) front back
+
+pub v4_all : (p : ℕ → Bool) → TakesDigits p → p 46 ≡ true → (n : ℕ) → n < 2 ^ 32 → list_all p (v4_text n) ≡ true
+v4_all p takes dot n small =
+    let point : list_all p (46 ∷ []) ≡ true = and_from (p 46) true dot refl in
+    let a : list_all p (decimal (n / 2 ^ 24)) ≡ true = decimal_all p takes (n / 2 ^ 24) (omega arith) in
+    let b : list_all p (decimal (n / 2 ^ 16 % 256)) ≡ true = decimal_all p takes (n / 2 ^ 16 % 256) (omega arith) in
+    let c : list_all p (decimal (n / 2 ^ 8 % 256)) ≡ true = decimal_all p takes (n / 2 ^ 8 % 256) (omega arith) in
+    let d : list_all p (decimal (n % 256)) ≡ true = decimal_all p takes (n % 256) (omega arith) in
+    joined_all p _ _ (joined_all p _ _ (joined_all p _ _ (joined_all p _ _ (joined_all p _ _ (joined_all p _ _ a point) b) point) c) point) d
+
+addr_takes_digits : TakesDigits is_addr_byte
+addr_takes_digits c range = grind (arith, nat_tests)
+
+net_takes_digits : TakesDigits is_net_byte
+net_takes_digits c range = or_left (is_addr_byte c) _ (addr_takes_digits c range)
+
+-- The whole of a spelling is a run of address bytes.
+pub addr_run_whole : (word : List ℕ) (addr : Addr) → IsAddrText word addr → addr_run word ≡ word
+addr_run_whole word (V4 n) is = run_of_all is_addr_byte word (ap (list_all is_addr_byte) is.1 ∙ v4_all is_addr_byte addr_takes_digits refl n is.0)
+addr_run_whole word (V6 n) is = absurd is
+
+front_all : (front : List ℕ) (addr : Addr) → IsAddrText front addr → list_all is_net_byte front ≡ true
+front_all front (V4 n) is = ap (list_all is_net_byte) is.1 ∙ v4_all is_net_byte net_takes_digits refl n is.0
+front_all front (V6 n) is = absurd is
+
+len_small : (addr : Addr) (len : ℕ) → IsPrefix addr len → len < 2 ^ 64
+len_small (V4 n) len is = omega (arith, is.within)
+len_small (V6 n) len is = omega (arith, is.within)
+
+pub net_run_whole : (word : List ℕ) (net : Net) → IsNetText word net → net_run word ≡ word
+net_run_whole word net is =
+    let len : list_all is_net_byte (47 ∷ decimal net.len) ≡ true = decimal_all is_net_byte net_takes_digits net.len (len_small net.addr net.len is.prefix) in
+    run_of_all is_net_byte word (ap (list_all is_net_byte) is.whole ∙ joined_all is_net_byte is.front (47 ∷ decimal net.len) (front_all is.front net.addr is.addr) len)
+
+-- What is spelled is of IPv4.
+pub addr_is_v4 : (word : List ℕ) (addr : Addr) → IsAddrText word addr → family_of addr ≡ families.V4
+addr_is_v4 word (V4 n) is = refl
+addr_is_v4 word (V6 n) is = absurd is
+
+pub v4_of_family : (word : List ℕ) (addr : Addr) → IsAddrText word addr → (n : ℕ) × (addr ≡ V4 n) × IsAddrText word (V4 n)
+v4_of_family word (V4 n) is = (n, refl, is)
+v4_of_family word (V6 n) is = absurd is
+
+pub refused_v4 : (word : List ℕ) (n : ℕ) → ((addr : Addr) → IsAddrText (addr_run word) addr → ⊥) → IsAddrText word (V4 n) → ⊥
+refused_v4 word n bad is =
+    let P : List ℕ → Type 0 = λ w. IsAddrText w (V4 n) in
+    bad (V4 n) (subst P (sym (addr_run_whole word (V4 n) is)) is)
+
+pub other_length_v4 : (word : List ℕ) (n len : ℕ) → len ≡ length (addr_run word) → len ≢ length word → IsAddrText word (V4 n) → ⊥
+other_length_v4 word n len len_is other is = other (len_is ∙ ap length (addr_run_whole word (V4 n) is))
+
+pub refused_net : (word : List ℕ) (net : Net) → ((net : Net) → IsNetText (net_run word) net → ⊥) → IsNetText word net → ⊥
+refused_net word net bad is =
+    let P : List ℕ → Type 0 = λ w. IsNetText w net in
+    bad net (subst P (sym (net_run_whole word net is)) is)
+
+pub other_length_net : (word : List ℕ) (net : Net) (len : ℕ) → len ≡ length (net_run word) → len ≢ length word → IsNetText word net → ⊥
+other_length_net word net len len_is other is = other (len_is ∙ ap length (net_run_whole word net is))
+
+pub net_is_v4 : (word : List ℕ) (net : Net) → IsNetText word net → family_of net.addr ≡ families.V4
+net_is_v4 word net is = addr_is_v4 is.front net.addr is.addr

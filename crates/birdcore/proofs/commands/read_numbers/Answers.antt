@@ -1,0 +1,8 @@
+use Rattle.std.proofs.Common.{◌≡◌, ◌++◌, ◌∷◌, [], sym, subst, List, ℕ}
+use Rattle.birdcore.specs.Lines.{words_of}
+use Rattle.birdcore.proofs.NumberRuns.{HaveNumbers, have_more}
+use Rattle.birdcore.proofs.commands.read_numbers.Goals as goal
+
+pub loop-number-preserved : goal.loop-number-preserved
+loop-number-preserved c =
+    rw c.in_ok-push.ensures.items (have_more (words_of c.args.text.now) (words_of c.loop-number.rest.now) (words_of c.in-Some.after.now) c.loop-number.numbers.items c.in-Some.number c.loop-number.invariant c.in-Some.ensures.number)

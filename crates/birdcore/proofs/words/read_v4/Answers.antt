@@ -1,0 +1,9 @@
+use Rattle.std.proofs.Common.{◌≡◌, ℕ, List, length, ap, sym, ◌∙◌}
+use Rattle.birdcore.proofs.AddressTexts.{refused_v4, other_length_v4}
+use Rattle.birdcore.proofs.words.read_v4.Goals as goal
+
+pub returns-in_default : goal.returns-in_default
+returns-in_default c = λ n is. refused_v4 c.args.word.now n c.in_default.ensures.bad is
+
+pub returns-then-len-word : goal.returns-then-len-word
+returns-then-len-word c = λ n is. other_length_v4 c.args.word.now n c.in-Ok.len c.in-Ok.ensures.len c.if-len-word.true is

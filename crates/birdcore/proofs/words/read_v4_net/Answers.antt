@@ -1,0 +1,9 @@
+use Rattle.std.proofs.Common.{◌≡◌, ℕ, List, length, ap, sym, ◌∙◌}
+use Rattle.birdcore.proofs.AddressTexts.{refused_net, other_length_net, net_is_v4}
+use Rattle.birdcore.proofs.words.read_v4_net.Goals as goal
+
+pub returns-in_default : goal.returns-in_default
+returns-in_default c = λ net is family. refused_net c.args.word.now net c.in_default.ensures.bad is
+
+pub returns-then-len-word : goal.returns-then-len-word
+returns-then-len-word c = λ net is family. other_length_net c.args.word.now net _ c.in-Ok.ensures.len c.if-len-word.true is
