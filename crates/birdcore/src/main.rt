@@ -12,6 +12,8 @@ mod report;
 mod report_text;
 mod script;
 mod status;
+#[cfg(test)]
+mod tests;
 mod top;
 mod transfer;
 mod words;
