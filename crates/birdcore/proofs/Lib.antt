@@ -3,3 +3,7 @@ mod Reading
 mod Asked
 mod Configs
 mod Decided
+pub mod Runs
+pub mod LineCuts
+pub mod WordCuts
+pub mod Numerals

@@ -1,4 +1,5 @@
 pub mod Lines
+pub mod Cut
 pub mod Operation
 pub mod Reply
 pub mod Report

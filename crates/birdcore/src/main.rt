@@ -2,6 +2,8 @@
 #![tactic(auto)]
 
 mod config;
+mod lines;
+mod numbers;
 mod operation;
 mod play;
 mod reply;
