@@ -7,3 +7,5 @@ pub mod Runs
 pub mod LineCuts
 pub mod WordCuts
 pub mod Numerals
+pub mod ReportPieces
+pub mod ReplyPieces
