@@ -1,5 +1,4 @@
 use Rattle.std.proofs.Common.{◌≡◌, ◌++◌, take}
-use Rattle.std.specs.List.{flat_map}
 use Rattle.birdcore.specs.Report.{entries_text}
 use Rattle.birdcore.specs.ReportParts.{names_in}
 use Rattle.birdcore.proofs.journal_text.write_entries.Given as goal

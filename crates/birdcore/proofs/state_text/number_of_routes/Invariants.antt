@@ -1,5 +1,4 @@
 use Rattle.std.proofs.Common.{◌≡◌, ◌≤◌, ◌*◌, ◌^◌, take}
-use Rattle.std.specs.List.{flat_map}
 use Rattle.attrs.specs.Table.{count_routes}
 use Rattle.birdcore.proofs.state_text.number_of_routes.Given as goal
 
