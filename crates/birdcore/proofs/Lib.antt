@@ -6,6 +6,8 @@ pub mod AddressTexts
 pub mod NumberRuns
 pub mod CommandParts
 pub mod ScriptLines
+pub mod ReplyPieces
+pub mod ReportPieces
 pub mod Blocks
 pub mod Reading
 pub mod Asked

@@ -3,6 +3,7 @@ pub mod Cut
 pub mod Operation
 pub mod Reply
 pub mod Report
+pub mod ReportParts
 pub mod Config
 pub mod Script
 pub mod Command

@@ -3,14 +3,19 @@
 
 mod commands;
 mod config;
+mod decimals;
+mod journal_text;
 mod lines;
+mod log_text;
 mod numbers;
 mod operation;
+mod operation_text;
 mod play;
 mod reply;
 mod report;
 mod report_text;
 mod script;
+mod state_text;
 mod status;
 #[cfg(test)]
 mod tests;
