@@ -134,7 +134,7 @@ fn insert_net(
     *total += 1;
 }
 
-/// Makes a change in the memory that is there for it.
+/// Makes a change, in the memory that `reserve_nets` left for it.
 pub(crate) fn change_nets(
     nets: &mut Vec<NetRoutes>,
     spare: &mut Vec<Route>,

@@ -57,7 +57,8 @@ impl Rib {
         }
     }
 
-    /// Makes room for any change of this change's key, until the next change.
+    /// Makes room for any change of this change's key, until the next change. OutOfMemory comes where memory is refused,
+    /// and where one more route couldn't be counted.
     pub fn reserve(&mut self, change: &Change) -> Result<(), OutOfMemory>
         ensures made { OnOk result (self.new ≡ record self.old { room = Some (change.now.net, change.now.num) }) }
         ensures refused { OnErr result (self.new ≡ self.old) }
@@ -70,7 +71,7 @@ impl Rib {
         Ok(())
     }
 
-    /// Puts the change's route in the place of the key's, or takes the key's route away.
+    /// Puts the change's route in the place of the key's, or takes the key's route away. Takes no memory.
     pub fn change(&mut self, change: Change) -> Outcome
         requires room { self.old.room ≡ Some (change.net, change.num) }
         requires family { family_of change.net.addr ≡ self.old.family }
@@ -94,7 +95,7 @@ impl Rib {
         same_routes(find_route(routes, change.num), change.new.as_ref())
     }
 
-    /// A copy of the rows that are asked for, in the order of nets.
+    /// A copy of the rows that are asked for, in the order of nets. OutOfMemory comes only where memory is refused.
     pub fn select(&self, pick: &Select) -> Result<Vec<Row>, OutOfMemory>
         ensures rows { IfOk result (λ rows. rows.items ≡ self.now.rows) }
         ensures are_rows { AreRows self.now.rows }
