@@ -16,6 +16,8 @@ mod report_text;
 mod script;
 mod state_text;
 mod status;
+#[cfg(test)]
+mod tests_report;
 mod top;
 mod transfer;
 
