@@ -19,6 +19,7 @@ mod state_text;
 mod status;
 #[cfg(test)]
 mod tests;
+#[cfg(test)]
 mod tests_report;
 mod top;
 mod transfer;
