@@ -6,3 +6,6 @@ pub mod AddressTexts
 pub mod NumberRuns
 pub mod CommandParts
 pub mod ScriptLines
+pub mod TokenRuns
+pub mod TokenChains
+pub mod TokenWords

@@ -4,6 +4,7 @@ pub mod Operation
 pub mod Reply
 pub mod Report
 pub mod Config
+pub mod Token
 pub mod Script
 pub mod Command
 pub mod ReadScript

@@ -1,7 +1,13 @@
-ghost use Rattle.std.specs.Prelude.{◌≡◌, IfOk, MatchOption};
+ghost use Rattle.std.specs.Prelude.{◌≡◌, ◌<◌, ◌≤◌, ◌↔◌, ◌∷◌, ℕ, List, length, IfOk, IsTrue, MatchOption};
+ghost use Rattle.std.specs.Char.{is_ascii_digit};
+ghost use Rattle.std.specs.List.{list_all};
 ghost use Rattle.birdcore.specs.declared.config.Config.{Config};
-ghost use Rattle.birdcore.specs.Config.{IsConfig};
+ghost use Rattle.birdcore.specs.Config.{IsConfig, IsProtocolName};
+ghost use Rattle.birdcore.specs.Token.{Spells, IsClosing, IsRemote, IsNeighbor, IsLocal, IsProtocol};
 
+use crate::numbers::read_number;
+use crate::tokens::{is_tokens, token_behind};
+use crate::words::read_v4;
 use attrs::Seq;
 use bits_ip::{Addr, OutOfMemory};
 use std::alloc::Global;
@@ -16,6 +22,53 @@ pub struct Config {
     pub neighbor: Addr,
     /// The neighbour's AS number.
     pub remote: u32,
+}
+
+fn is_closing(text: &[u8]) -> bool
+    ensures { IsTrue result ↔ Spells IsClosing text.now }
+{
+    let tokens: [&[u8]; 16] = [
+        b";", b"med", b"metric", b"on", b";", b"ipv4", b"{", b"import", b"all", b";", b"export",
+        b"all", b";", b"}", b";", b"}",
+    ];
+    is_tokens(text, &tokens)
+}
+
+fn read_remote(text: &[u8]) -> Option<u32>
+    ensures { MatchOption result ((remote : ℕ) → Spells (IsRemote remote) text.now → ⊥) (λ remote. Spells (IsRemote remote) text.now) }
+{
+    let front: [&[u8]; 1] = [b"as"];
+    let (word, rest) = token_behind(text, &front)?;
+    let remote = read_number(word)?;
+    if is_closing(rest) { Some(remote) } else { None }
+}
+
+fn read_neighbor(text: &[u8]) -> Option<(u32, u32)>
+    ensures { MatchOption result ((neighbor remote : ℕ) → Spells (IsNeighbor neighbor remote) text.now → ⊥) (λ found. Spells (IsNeighbor found.0 found.1) text.now) }
+{
+    let front: [&[u8]; 2] = [b";", b"neighbor"];
+    let (word, rest) = token_behind(text, &front)?;
+    let neighbor = read_v4(word)?;
+    let remote = read_remote(rest)?;
+    Some((neighbor, remote))
+}
+
+fn is_digits(bytes: &[u8]) -> bool
+    ensures { result ≡ list_all is_ascii_digit bytes.now }
+{
+    bytes.iter().all(|byte| byte.is_ascii_digit())
+}
+
+fn is_name(word: &[u8]) -> bool
+    ensures { IsTrue result ↔ IsProtocolName word.now }
+{
+    let Some((first, digits)) = word.split_first() else {
+        return false;
+    };
+    if *first != b'p' || digits.is_empty() || digits.len() > 3 {
+        return false;
+    }
+    is_digits(digits)
 }
 
 /// What a text of the one form says, and none where it isn't of the form.

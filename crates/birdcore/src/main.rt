@@ -11,6 +11,7 @@ mod reply;
 mod report;
 mod report_text;
 mod script;
+mod tokens;
 mod words;
 
 fn main() {}

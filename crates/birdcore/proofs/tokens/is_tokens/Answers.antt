@@ -1,0 +1,1 @@
+use Rattle.birdcore.proofs.tokens.is_tokens.Goals as goal
