@@ -9,3 +9,4 @@ pub mod ScriptLines
 pub mod TokenRuns
 pub mod TokenChains
 pub mod TokenWords
+pub mod Configurations

@@ -44,9 +44,14 @@ first_append (x ∷ xs) ys first = first
 
 pub address_is_token : (word : List ℕ) (n : ℕ) → IsAddrText word (V4 n) → is_token word ≡ true
 address_is_token word n is =
-    let first : first_passes is_ascii_digit (decimal (n / 2 ^ 24)) ≡ true = first_of_numeral _ (decimal_is_IsNumeral (n / 2 ^ 24) (omega (arith, is.0))).0 in
+    let a = decimal (n / 2 ^ 24) in
+    let b = decimal (n / 2 ^ 16 % 256) in
+    let c = decimal (n / 2 ^ 8 % 256) in
+    let d = decimal (n % 256) in
+    let dot : List ℕ = 46 ∷ [] in
+    let first : first_passes is_ascii_digit a ≡ true = first_of_numeral _ (decimal_is_IsNumeral (n / 2 ^ 24) (omega (arith, is.0))).0 in
     let whole : first_passes is_ascii_digit (v4_text n) ≡ true =
-    first_append _ _ (first_append _ _ (first_append _ _ (first_append _ _ (first_append _ _ (first_append _ _ first))))) in
+    first_append (a ++ dot ++ b ++ dot ++ c ++ dot) d (first_append (a ++ dot ++ b ++ dot ++ c) dot (first_append (a ++ dot ++ b ++ dot) c (first_append (a ++ dot ++ b) dot (first_append (a ++ dot) b (first_append a dot first))))) in
     token_of_number_bytes word (ap (first_passes is_ascii_digit) is.1 ∙ whole)
     (ap (list_all is_number_byte) is.1 ∙ v4_all is_number_byte number_takes_digits refl n is.0)
 

@@ -53,6 +53,17 @@ fn read_neighbor(text: &[u8]) -> Option<(u32, u32)>
     Some((neighbor, remote))
 }
 
+/// The own AS number, the neighbour's address and its AS number, from the opening brace on.
+fn read_local(text: &[u8]) -> Option<(u32, u32, u32)>
+    ensures { MatchOption result ((local neighbor remote : ℕ) → Spells (IsLocal local neighbor remote) text.now → ⊥) (λ found. Spells (IsLocal found.0 found.1 found.2) text.now) }
+{
+    let front: [&[u8]; 3] = [b"{", b"local", b"as"];
+    let (word, rest) = token_behind(text, &front)?;
+    let local = read_number(word)?;
+    let (neighbor, remote) = read_neighbor(rest)?;
+    Some((local, neighbor, remote))
+}
+
 fn is_digits(bytes: &[u8]) -> bool
     ensures { result ≡ list_all is_ascii_digit bytes.now }
 {
@@ -71,9 +82,44 @@ fn is_name(word: &[u8]) -> bool
     is_digits(digits)
 }
 
+/// What a configuration says, with the neighbour's address of IPv4 as a number.
+#[derive(Clone, Copy)]
+struct Parts<'a> {
+    name: &'a [u8],
+    local: u32,
+    neighbor: u32,
+    remote: u32,
+}
+
+fn read_parts(text: &[u8]) -> Option<Parts<'_>>
+    ensures { MatchOption result ((name : List ℕ) (local neighbor remote : ℕ) → Spells (IsProtocol name local neighbor remote) text.now → ⊥) (λ parts. Spells (IsProtocol parts.name.now parts.local parts.neighbor parts.remote) text.now) }
+{
+    let front: [&[u8]; 2] = [b"protocol", b"bgp"];
+    let (name, rest) = token_behind(text, &front)?;
+    if !is_name(name) {
+        return None;
+    }
+    let (local, neighbor, remote) = read_local(rest)?;
+    Some(Parts {
+        name,
+        local,
+        neighbor,
+        remote,
+    })
+}
+
 /// What a text of the one form says, and none where it isn't of the form.
 pub fn read_config(alloc: Global, text: &[u8]) -> Result<Option<Config>, OutOfMemory>
     ensures { IfOk result (λ read. MatchOption read ((config : Config) → IsConfig text.now config → ⊥) (λ config. IsConfig text.now config)) }
 {
-    Err(OutOfMemory)
+    let Some(parts) = read_parts(text) else {
+        return Ok(None);
+    };
+    let name = Vec::from_slice(alloc, parts.name)?;
+    Ok(Some(Config {
+        name: Seq::from_vec(name),
+        local: parts.local,
+        neighbor: Addr::V4(parts.neighbor),
+        remote: parts.remote,
+    }))
 }
