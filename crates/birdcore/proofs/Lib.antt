@@ -6,6 +6,10 @@ pub mod AddressTexts
 pub mod NumberRuns
 pub mod CommandParts
 pub mod ScriptLines
+pub mod TokenRuns
+pub mod TokenChains
+pub mod TokenWords
+pub mod Configurations
 pub mod ReplyPieces
 pub mod ReportPieces
 pub mod Blocks

@@ -5,6 +5,7 @@ pub mod Reply
 pub mod Report
 pub mod ReportParts
 pub mod Config
+pub mod Token
 pub mod Script
 pub mod Command
 pub mod ReadScript

@@ -23,6 +23,7 @@ mod tests;
 mod tests_report;
 mod top;
 mod transfer;
+mod tokens;
 mod words;
 
 use crate::status::Status;
