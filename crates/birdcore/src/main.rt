@@ -21,9 +21,9 @@ mod status;
 mod tests;
 #[cfg(test)]
 mod tests_report;
+mod tokens;
 mod top;
 mod transfer;
-mod tokens;
 mod words;
 
 use crate::status::Status;

@@ -6,13 +6,15 @@ use outside_io::{Failed, MemFile, MemShelf, MemSink, OpenGate, Sink, SureShelf, 
 use std::alloc::Global;
 use std::test::Fail;
 
-const CONF: &str = "protocol bgp p1 { local as 65000; neighbor 192.0.2.1 as 65001; med metric on;\n  ipv4 { import all; export all; }; }\n";
+const CONF: &str =
+    "protocol bgp p1 { local as 65000; neighbor 192.0.2.1 as 65001; med metric on;\n  ipv4 { import all; export all; }; }\n";
 
 const OPEN: &str = "@p1 open 10.0.0.1\n";
 
 const ADD: &str = "@p1 add 203.0.113.0/24 via 192.0.2.1 path 65001 65002 origin igp\n";
 
-const SCRIPT: &str = "@p1 open 10.0.0.1\n@p1 add 203.0.113.0/24 via 192.0.2.1 path 65001 65002 origin igp\n@p1 show route\n";
+const SCRIPT: &str =
+    "@p1 open 10.0.0.1\n@p1 add 203.0.113.0/24 via 192.0.2.1 path 65001 65002 origin igp\n@p1 show route\n";
 
 const REPORT: &str = "phase 1
 protocol p1
@@ -80,7 +82,8 @@ fn one_route_is_reported(rt: HostRuntime) -> Result<(), Fail> {
 fn an_empty_script_reports_an_idle_protocol(rt: HostRuntime) -> Result<(), Fail> {
     let (status, text) = played(&rt, CONF, "")?;
     assert_eq!(rt; status, Status::Ok);
-    let want = "phase 1\nprotocol p1\njournal master4 0 0\njournal master6 0 0\nchannel p1\nstate\n\ttable master4 0 0\n\ttable master6 0 0\n\tprotocol p1 idle 0\n\texport p1 down\nend\n";
+    let want =
+        "phase 1\nprotocol p1\njournal master4 0 0\njournal master6 0 0\nchannel p1\nstate\n\ttable master4 0 0\n\ttable master6 0 0\n\tprotocol p1 idle 0\n\texport p1 down\nend\n";
     assert_eq!(rt; text.as_slice(), want.as_bytes());
     Ok(())
 }
@@ -141,7 +144,12 @@ fn what_is_not_of_the_forms_is_not_built(rt: HostRuntime) -> Result<(), Fail> {
         (CONF, "\n", 2, 1),
         (CONF, "@p1 show route\n@p2 show route\n", 2, 2),
         (CONF, "@p1 open 10.0.0.1\nsync\n", 2, 2),
-        (CONF, "@p1 add 10.0.0.1/8 via 192.0.2.1 path origin igp", 2, 1),
+        (
+            CONF,
+            "@p1 add 10.0.0.1/8 via 192.0.2.1 path origin igp",
+            2,
+            1,
+        ),
     ];
     for (conf, script, file, line) in cases {
         let (status, text) = played(&rt, conf, script)?;
