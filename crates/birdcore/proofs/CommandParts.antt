@@ -1,6 +1,6 @@
 -- What the words of a line leave open once their front is read.
-use Rattle.std.proofs.Common.{◌≡◌, ◌≢◌, ◌∙◌, sym, ap, refl, subst, ℕ, suc, zero, ◌+◌, ◌<◌, ◌≤◌, ◌^◌, Bool, true, false, List, [], ◌∷◌, ◌++◌, length, arith, rules, Result, Ok, Err, MatchResult, None}
-use Rattle.std.specs.Prelude.{codes, ⊤}
+use Rattle.std.proofs.Common.{◌≡◌, ◌∙◌, sym, ap, refl, subst, ℕ, suc, ◌<◌, List, [], ◌∷◌, ◌++◌, length, arith, Result, Ok, Err, MatchResult}
+use Rattle.std.specs.Prelude.{codes}
 use Rattle.bits_ip.specs.Prefix.{Net}
 use Rattle.bits_ip.specs.Text.{v4_text}
 use Rattle.bits_ip.specs.declared.address.Addr.{Addr}
