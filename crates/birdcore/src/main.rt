@@ -11,6 +11,8 @@ mod reply;
 mod report;
 mod report_text;
 mod script;
+#[cfg(test)]
+mod tests_read;
 mod tokens;
 mod words;
 
