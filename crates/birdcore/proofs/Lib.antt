@@ -10,3 +10,4 @@ pub mod TokenRuns
 pub mod TokenChains
 pub mod TokenWords
 pub mod Configurations
+pub mod SaidOnce

@@ -58,7 +58,7 @@ token_no_separator b bytes token = elim (token_kinds b) [
 ]
 
 -- Where a text begins with a token, it stands behind the separators.
-behind_gap : (text : List ℕ) (b : ℕ) (bytes rest : List ℕ) → is_token (b ∷ bytes) ≡ true → Begins (b ∷ bytes) text rest → behind is_separator text ≡ b ∷ bytes ++ rest
+pub behind_gap : (text : List ℕ) (b : ℕ) (bytes rest : List ℕ) → is_token (b ∷ bytes) ≡ true → Begins (b ∷ bytes) text rest → behind is_separator text ≡ b ∷ bytes ++ rest
 behind_gap text b bytes rest token begins =
     let whole : text ≡ begins.gap ++ (b ∷ bytes ++ rest) = begins.whole ∙ append_assoc begins.gap (b ∷ bytes) rest in
     ap (behind is_separator) whole ∙ run_rest is_separator begins.gap (b ∷ bytes ++ rest) begins.separators (token_no_separator b bytes token)

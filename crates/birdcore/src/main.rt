@@ -3,6 +3,7 @@
 
 mod commands;
 mod config;
+mod laws;
 mod lines;
 mod numbers;
 mod operation;
