@@ -1,6 +1,6 @@
 -- What the words of a line leave open once their front is read.
-use Rattle.std.proofs.Common.{◌≡◌, ◌≢◌, ◌∙◌, sym, ap, refl, subst, ℕ, suc, zero, ◌+◌, ◌<◌, ◌≤◌, ◌^◌, Bool, true, false, List, [], ◌∷◌, ◌++◌, length, arith, rules, Result, Ok, Err, MatchResult, None}
-use Rattle.std.specs.Prelude.{codes, ⊤}
+use Rattle.std.proofs.Common.{◌≡◌, ◌∙◌, sym, ap, refl, subst, ℕ, suc, ◌<◌, List, [], ◌∷◌, ◌++◌, length, arith, Result, Ok, Err, MatchResult}
+use Rattle.std.specs.Prelude.{codes}
 use Rattle.bits_ip.specs.Prefix.{Net}
 use Rattle.bits_ip.specs.Text.{v4_text}
 use Rattle.bits_ip.specs.declared.address.Addr.{Addr}
@@ -21,7 +21,7 @@ form_more Form P Q more given = more given
 form_more Memory P Q more given = tt
 
 -- the numbers at the front of some words end where a word that is none comes
-path_split : (front : List (List ℕ)) (numbers : List ℕ) (rest : List (List ℕ)) → AreNumbers front numbers → HasNoNumber rest
+pub path_split : (front : List (List ℕ)) (numbers : List ℕ) (rest : List (List ℕ)) → AreNumbers front numbers → HasNoNumber rest
     → (path_words : List (List ℕ)) (path : List ℕ) (word : List ℕ) (more : List (List ℕ)) → AreNumbers path_words path → ((n : ℕ) → IsNumber word n → ⊥)
     → front ++ rest ≡ path_words ++ word ∷ more → (front ≡ path_words) × (rest ≡ word ∷ more)
 path_split [] numbers rest are none [] path word more path_are other same = (refl, same)
@@ -39,7 +39,7 @@ path_split (f ∷ front) (m ∷ numbers) rest are none (v ∷ path_words) (n ∷
     let parts = path_split front numbers rest are.1 none path_words path word more path_are.1 other behind in
     (ap (λ (l : List (List ℕ)). f ∷ l) parts.0 ∙ ap (λ (w : List ℕ). w ∷ path_words) first, parts.1)
 
-origin_no_number : (n : ℕ) → IsNumber (codes "origin") n → ⊥
+pub origin_no_number : (n : ℕ) → IsNumber (codes "origin") n → ⊥
 origin_no_number n is = let first = is.numeral.1.0 in absurd (omega (arith, first))
 
 path_same : (words rest : List (List ℕ)) (numbers path : List ℕ) (origin : Origin) → (begin : BeginWithNumbers words numbers rest) → (is : IsPathAndOrigin words path origin)
@@ -80,7 +80,7 @@ pub no_via : (words : List (List ℕ)) → ((net : Net) (gateway : Addr) (more :
     → (net : Net) (given : Given) → IsAdd words net given → ⊥
 no_via words none net given is = none net given.gw _ (via_of_add words net given is)
 
-same_behind : {X : Type 0} (words : List X) (a b c d e f g h : X) (xs ys : List X) → words ≡ a ∷ b ∷ c ∷ d ∷ xs → words ≡ e ∷ f ∷ g ∷ h ∷ ys → xs ≡ ys
+pub same_behind : {X : Type 0} (words : List X) (a b c d e f g h : X) (xs ys : List X) → words ≡ a ∷ b ∷ c ∷ d ∷ xs → words ≡ e ∷ f ∷ g ∷ h ∷ ys → xs ≡ ys
 same_behind words a b c d e f g h xs ys one other = cc
 
 pub no_path_behind : (words rest : List (List ℕ)) (net : Net) (gateway : Addr) → IsVia words net gateway rest

@@ -1,15 +1,13 @@
 -- What a configuration's tokens say.
-use Rattle.std.proofs.Common.{◌≡◌, ◌∙◌, sym, ap, refl, subst, ℕ, List, [], ◌∷◌, ◌++◌, true}
+use Rattle.std.proofs.Common.{◌≡◌, ◌∙◌, sym, ap, refl, subst, ℕ, List, ◌∷◌}
 use Rattle.std.specs.Prelude.{codes}
 use Rattle.bits_ip.specs.declared.address.Addr.{Addr}
 use Rattle.bits_ip.specs.Address.{family_of}
 use Rattle.bits_ip.specs.Text.{IsAddrText}
 use Rattle.bits_ip.specs.declared.address.Addr.TheVariants.{V4}
-use Rattle.bits_ip.specs.declared.address.Family.TheVariants as families
 use Rattle.birdcore.specs.declared.config.Config.{Config}
 use Rattle.birdcore.specs.Config.{IsTokens, IsConfig, IsProtocolName, config_tokens}
-use Rattle.birdcore.specs.Lines.{IsNumber}
-use Rattle.birdcore.specs.Token.{Spells, Says, closing, IsClosing, IsRemote, IsNeighbor, IsLocal, IsName, IsProtocol}
+use Rattle.birdcore.specs.Token.{Spells, closing, IsClosing, IsName, IsProtocol}
 use Rattle.birdcore.proofs.AddressTexts.{v4_of_family}
 
 pub closing_spelled : (text : List ℕ) → IsTokens closing text → Spells IsClosing text

@@ -14,7 +14,7 @@ use Rattle.birdcore.specs.Transfer.{limit}
 use Rattle.birdcore.specs.Words.{files_named}
 use Rattle.birdcore.specs.Outcome.{Outcome, Misused, OverLimit, OutOfForm, Played, Held, Accepts, IsAccepted, IsLong, IsNoConfig, FilesReport, FilesAsk, Asks, IfReport}
 use Rattle.birdcore.specs.Answer.{FilesRefuse, IsAnswered, Fits}
-use Rattle.birdcore.proofs.Configs.{one_name}
+use Rattle.birdcore.proofs.SaidOnce.{configurations_agree}
 
 -- a line that is none isn't among lines
 line_at : (name : List ℕ) (front : List (List (List ℕ))) (bad : List (List ℕ)) (rest : List (List (List ℕ))) (lines : List Line) → AreLines name (front ++ bad ∷ rest) lines
@@ -50,10 +50,10 @@ same_number name text j k one other =
     omega (arith, one.number_is, other.number_is, place)
 
 named_script : (file text : List ℕ) (a b : Config) (lines : List Line) → IsConfig file a → IsConfig file b → IsScript a.name text lines → IsScript b.name text lines
-named_script file text a b lines is other script = subst (λ (name : List ℕ). IsScript name text lines) (one_name file a b is other) script
+named_script file text a b lines is other script = subst (λ (name : List ℕ). IsScript name text lines) (ap (λ (c : Config). c.name) (configurations_agree file a b is other)) script
 
 named_bad : (file text : List ℕ) (a b : Config) (line : ℕ) → IsConfig file a → IsConfig file b → IsBadLine a.name text line → IsBadLine b.name text line
-named_bad file text a b line is other bad = subst (λ (name : List ℕ). IsBadLine name text line) (one_name file a b is other) bad
+named_bad file text a b line is other bad = subst (λ (name : List ℕ). IsBadLine name text line) (ap (λ (c : Config). c.name) (configurations_agree file a b is other)) bad
 
 -- what is told of the first file, one against the other
 long_accepted : (file : List ℕ) → IsLong file → IsAccepted file → ⊥

@@ -10,11 +10,11 @@ pub mod TokenRuns
 pub mod TokenChains
 pub mod TokenWords
 pub mod Configurations
+pub mod SaidOnce
 pub mod ReplyPieces
 pub mod ReportPieces
 pub mod Blocks
 pub mod Reading
 pub mod Asked
-pub mod Configs
 pub mod Decided
 pub mod PlaySteps

@@ -1,8 +1,8 @@
 -- The first token of a text is the longest.
-use Rattle.std.proofs.Common.{◌≡◌, ◌≢◌, ◌∙◌, sym, ap, refl, subst, ℕ, suc, zero, ◌+◌, ◌<◌, ◌≤◌, Bool, true, false, cond, ◌&&◌, ◌||◌, not, eqb, List, [], ◌∷◌, ◌++◌, length, take, drop, arith, rules, ◌⊎◌, inl, inr}
+use Rattle.std.proofs.Common.{◌≡◌, ◌∙◌, sym, ap, refl, subst, ℕ, suc, ◌+◌, Bool, true, false, cond, ◌&&◌, not, List, [], ◌∷◌, ◌++◌, take, drop, arith, ◌⊎◌, inl, inr}
 use Rattle.std.specs.Char.{is_ascii_digit}
 use Rattle.std.specs.List.{list_all, prefix_len, take_while}
-use Rattle.std.proofs.lemmas.Bool.{cases_Bool, and_parts, and_from, not-true, not_from_false, not_from_true, false≢true}
+use Rattle.std.proofs.lemmas.Bool.{cases_Bool, and_parts, and_from, not-true, not_from_false, false≢true}
 use Rattle.std.proofs.lemmas.Bool.Decides.{nat_tests}
 use Rattle.std.proofs.lemmas.List.{append_assoc}
 use Rattle.birdcore.specs.Config.{is_separator, is_letter, is_name_byte, is_number_byte, first_passes, ends, Begins}
@@ -58,7 +58,7 @@ token_no_separator b bytes token = elim (token_kinds b) [
 ]
 
 -- Where a text begins with a token, it stands behind the separators.
-behind_gap : (text : List ℕ) (b : ℕ) (bytes rest : List ℕ) → is_token (b ∷ bytes) ≡ true → Begins (b ∷ bytes) text rest → behind is_separator text ≡ b ∷ bytes ++ rest
+pub behind_gap : (text : List ℕ) (b : ℕ) (bytes rest : List ℕ) → is_token (b ∷ bytes) ≡ true → Begins (b ∷ bytes) text rest → behind is_separator text ≡ b ∷ bytes ++ rest
 behind_gap text b bytes rest token begins =
     let whole : text ≡ begins.gap ++ (b ∷ bytes ++ rest) = begins.whole ∙ append_assoc begins.gap (b ∷ bytes) rest in
     ap (behind is_separator) whole ∙ run_rest is_separator begins.gap (b ∷ bytes ++ rest) begins.separators (token_no_separator b bytes token)

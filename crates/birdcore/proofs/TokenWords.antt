@@ -1,10 +1,9 @@
 -- The words of a configuration are tokens.
-use Rattle.std.proofs.Common.{◌≡◌, ◌≢◌, ◌∙◌, sym, ap, refl, subst, ℕ, suc, zero, ◌+◌, ◌/◌, ◌%◌, ◌<◌, ◌≤◌, ◌^◌, Bool, true, false, eqb, ◌&&◌, ◌||◌, List, [], ◌∷◌, ◌++◌, length, arith, rules}
+use Rattle.std.proofs.Common.{◌≡◌, ◌∙◌, sym, ap, refl, ℕ, ◌/◌, ◌%◌, ◌≤◌, ◌^◌, true, false, List, [], ◌∷◌, ◌++◌, length, arith}
 use Rattle.std.specs.Prelude.{decimal}
 use Rattle.std.specs.Char.{is_ascii_digit}
-use Rattle.std.specs.Int.{IsInRange}
 use Rattle.std.specs.List.{list_all}
-use Rattle.std.specs.Str.Parse.{AllDigits, IsNumeral}
+use Rattle.std.specs.Str.Parse.{IsNumeral}
 use Rattle.std.proofs.lemmas.Bool.{and_parts, and_from, or_left, or_right}
 use Rattle.std.proofs.lemmas.Bool.Decides.{nat_tests}
 use Rattle.std.proofs.lemmas.Fmt.{decimal_is_IsNumeral}

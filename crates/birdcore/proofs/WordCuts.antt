@@ -1,7 +1,7 @@
 -- The first word of a line.
-use Rattle.std.proofs.Common.{◌≡◌, ◌≢◌, ℕ, Bool, true, false, cond, ◌&&◌, not, eqb, List, [], ◌∷◌, ◌++◌, length, drop, ◌<◌, ◌≤◌, ◌+◌, length-append, length-drop, refl, sym, ◌∙◌, ap, arith, rules, ◌⊎◌, inl, inr}
+use Rattle.std.proofs.Common.{◌≡◌, ℕ, Bool, true, false, cond, List, [], ◌∷◌, ◌++◌, length, ◌<◌, ◌≤◌, length-drop, refl, sym, ◌∙◌, ap, arith}
 use Rattle.std.specs.List.{list_all, take_while, prefix_len}
-use Rattle.std.proofs.lemmas.Bool.{cases_Bool, and_parts, not-true, not-false, not_from_true, not_from_false}
+use Rattle.std.proofs.lemmas.Bool.{and_parts, not-true, not_from_false}
 use Rattle.birdcore.specs.Config.{first_passes}
 use Rattle.birdcore.specs.Lines.{words_of, begins_word, is_blank, onto}
 use Rattle.birdcore.specs.Cut.{is_word_byte, behind}

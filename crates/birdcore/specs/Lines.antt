@@ -1,5 +1,5 @@
 -- The lines of a text, the words of a line, and numbers.
-use Rattle.std.specs.Prelude.{◌≡◌, ℕ, ◌^◌, ◌<◌, Bool, true, false, ◌&&◌, ◌||◌, not, ◌==◌, if◌then◌else◌, List, [], ◌∷◌, ⊤}
+use Rattle.std.specs.Prelude.{◌≡◌, ℕ, ◌^◌, ◌<◌, Bool, false, ◌&&◌, ◌||◌, not, ◌==◌, if◌then◌else◌, List, [], ◌∷◌}
 use Rattle.std.specs.Str.Parse.{digits_value, IsNumeral}
 
 -- a byte more at the front of the first of these pieces

@@ -5,6 +5,7 @@ mod commands;
 mod config;
 mod decimals;
 mod journal_text;
+mod laws;
 mod lines;
 mod log_text;
 mod numbers;
@@ -19,6 +20,8 @@ mod state_text;
 mod status;
 #[cfg(test)]
 mod tests;
+#[cfg(test)]
+mod tests_read;
 #[cfg(test)]
 mod tests_report;
 mod tokens;

@@ -1,6 +1,5 @@
-use Rattle.std.proofs.Common.{◌≡◌, ◌++◌, ◌∷◌, [], sym, subst, List, ℕ}
 use Rattle.birdcore.specs.Lines.{words_of}
-use Rattle.birdcore.proofs.NumberRuns.{HaveNumbers, have_more}
+use Rattle.birdcore.proofs.NumberRuns.{have_more}
 use Rattle.birdcore.proofs.commands.read_numbers.Goals as goal
 
 pub loop-number-preserved : goal.loop-number-preserved

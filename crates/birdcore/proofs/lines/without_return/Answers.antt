@@ -1,5 +1,3 @@
-use Rattle.std.proofs.Common.{◌≡◌, ◌∙◌, sym, ap, ℕ, List, [], ◌∷◌, ◌++◌}
-use Rattle.birdcore.specs.Cut.{without_return}
 use Rattle.birdcore.proofs.LineCuts.{without_return_at_return, without_return_last}
 use Rattle.birdcore.proofs.lines.without_return.Goals as goal
 

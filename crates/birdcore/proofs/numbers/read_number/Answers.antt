@@ -1,7 +1,5 @@
-use Rattle.std.proofs.Common.{◌≡◌, ◌∙◌, sym, ap, ℕ, ◌<◌, ◌^◌, length, arith, rules}
+use Rattle.std.proofs.Common.{arith}
 use Rattle.std.proofs.lemmas.Int.Digits.{digits_more, digits_value_more}
-use Rattle.std.proofs.lemmas.List.{take_all}
-use Rattle.std.specs.Str.Parse.{AllDigits, digits_value}
 use Rattle.birdcore.proofs.Numerals.{no_number, number_of_all}
 use Rattle.birdcore.proofs.numbers.read_number.Goals as goal
 

@@ -1,4 +1,4 @@
-use Rattle.std.proofs.Common.{◌≡◌, ◌∙◌, sym}
+use Rattle.std.proofs.Common.{◌∙◌, sym}
 use Rattle.std.proofs.lemmas.Bool.{false≢true}
 use Rattle.birdcore.proofs.TokenChains.{tokens_alone, tokens_alone_end, tokens_alone_none}
 use Rattle.birdcore.proofs.tokens.is_tokens.Goals as goal

@@ -1,4 +1,3 @@
-use Rattle.std.proofs.Common.{◌≡◌, ℕ, List, length, ap, sym, ◌∙◌}
 use Rattle.birdcore.proofs.AddressTexts.{refused_v4, other_length_v4}
 use Rattle.birdcore.proofs.words.read_v4.Goals as goal
 

@@ -1,5 +1,4 @@
-use Rattle.std.proofs.Common.{◌≡◌, ℕ, List, length, ap, sym, ◌∙◌}
-use Rattle.birdcore.proofs.AddressTexts.{refused_net, other_length_net, net_is_v4}
+use Rattle.birdcore.proofs.AddressTexts.{refused_net, other_length_net}
 use Rattle.birdcore.proofs.words.read_v4_net.Goals as goal
 
 pub returns-in_default : goal.returns-in_default

@@ -1,0 +1,226 @@
+-- A text says one configuration at most, and one script.
+use Rattle.std.proofs.Common.{◌≡◌, ◌≢◌, ◌∙◌, sym, ap, refl, subst, ℕ, suc, ◌+◌, ◌<◌, ◌≤◌, ◌^◌, Bool, true, false, ◌&&◌, List, [], ◌∷◌, ◌++◌, length, take, drop, map, arith, rules, Option, None}
+use Rattle.std.specs.Prelude.{codes, decimal}
+use Rattle.std.specs.List.{list_all}
+use Rattle.std.proofs.lemmas.Bool.{false≢true, and_parts}
+use Rattle.std.proofs.lemmas.Fmt.{decimal_injective}
+use Rattle.std.proofs.lemmas.List.{append-nil}
+use Rattle.bits_ip.specs.Prefix.{Net}
+use Rattle.bits_ip.specs.Text.{IsAddrText, IsNetText, v4_text}
+use Rattle.bits_ip.specs.declared.address.Addr.{Addr}
+use Rattle.bits_ip.specs.declared.address.Addr.TheVariants.{V4, V6}
+use Rattle.bits_ip.proofs.Dotted.{texts_agree}
+use Rattle.bits_ip.proofs.Slashed.{net_split, net_parts}
+use Rattle.attrs.specs.Text.{origin_text}
+use Rattle.attrs.specs.declared.attributes.Origin.{Origin}
+use Rattle.attrs.specs.declared.attributes.Origin.TheVariants.{Igp, Egp, Incomplete}
+use Rattle.birdcore.specs.declared.config.Config.{Config}
+use Rattle.birdcore.specs.declared.operation.Given.{Given}
+use Rattle.birdcore.specs.declared.operation.Op.{Op}
+use Rattle.birdcore.specs.declared.operation.Op.TheVariants.{SessionUp, Add}
+use Rattle.birdcore.specs.declared.script.Line.{Line}
+use Rattle.birdcore.specs.declared.script.Line.TheVariants.{Apply, Show}
+use Rattle.birdcore.specs.Lines.{IsNumber}
+use Rattle.birdcore.specs.Config.{is_separator, Begins, IsTokens, IsConfig, IsProtocolName, config_tokens}
+use Rattle.birdcore.specs.Cut.{behind}
+use Rattle.birdcore.specs.Script.{AreNumbers, IsAdd, IsLine, AreLines, IsScript, actor_word, lines_words}
+use Rattle.birdcore.specs.Command.{HasNoNumber}
+use Rattle.birdcore.specs.Token.{is_token, closing}
+use Rattle.birdcore.proofs.AddressTexts.{v4_of_family}
+use Rattle.birdcore.proofs.CommandParts.{path_split, origin_no_number, same_behind}
+use Rattle.birdcore.proofs.Runs.{run_rest}
+use Rattle.birdcore.proofs.TokenRuns.{behind_gap, begins_only}
+use Rattle.birdcore.proofs.TokenWords.{number_is_token, address_is_token, name_is_token}
+
+numbers_agree : (word : List ℕ) (m n : ℕ) → IsNumber word m → IsNumber word n → m ≡ n
+numbers_agree word m n one other = sym one.value ∙ other.value
+
+nets_agree : (text : List ℕ) (a b : Net) → IsNetText text a → IsNetText text b → a ≡ b
+nets_agree text a b one other =
+    let split = net_split text a one in
+    let mine = net_parts text one.front (decimal a.len) a split one in
+    let theirs = net_parts text one.front (decimal a.len) b split other in
+    let addr : a.addr ≡ b.addr = texts_agree one.front a.addr b.addr mine.0 theirs.0 in
+    let len : a.len ≡ b.len = decimal_injective a.len b.len (omega (arith, mine.1.0)) (omega (arith, theirs.1.0)) theirs.1.1 in
+    let front : a ≡ record { addr = b.addr; len = a.len } = ap (λ (x : Addr). let n : Net = record { addr = x; len = a.len } in n) addr in
+    front ∙ ap (λ (k : ℕ). let n : Net = record { addr = b.addr; len = k } in n) len
+
+-- tokens are told apart
+begins_same : (text t u r s : List ℕ) → is_token t ≡ true → is_token u ≡ true → Begins t text r → Begins u text s → (t ≡ u) × (r ≡ s)
+begins_same text [] u r s t_is u_is one other = absurd (false≢true t_is)
+begins_same text (b ∷ bytes) u r s t_is u_is one other =
+    let only = begins_only text b (bytes ++ r) _ _ (behind_gap text b bytes r t_is one) refl refl in
+    let mine = only.only (b ∷ bytes) r t_is one in
+    let theirs = only.only u s u_is other in
+    (mine.0 ∙ sym theirs.0, mine.1 ∙ sym theirs.1)
+
+no_token_in_gap : (text t r : List ℕ) → list_all is_separator text ≡ true → is_token t ≡ true → Begins t text r → ⊥
+no_token_in_gap text [] r gap t_is begins = false≢true t_is
+no_token_in_gap text (b ∷ bytes) r gap t_is begins =
+    let none : behind is_separator text ≡ [] = ap (behind is_separator) (sym (append-nil text)) ∙ run_rest is_separator text [] gap refl in
+    let same : [] ≡ b ∷ bytes ++ r = sym none ∙ behind_gap text b bytes r t_is begins in
+    cc
+
+tokens_same : (ts us : List (List ℕ)) (text : List ℕ) → list_all is_token ts ≡ true → list_all is_token us ≡ true → IsTokens ts text → IsTokens us text → ts ≡ us
+tokens_same [] [] text t_are u_are one other = refl
+tokens_same [] (u ∷ us) text t_are u_are one other = absurd (no_token_in_gap text u other.0 one (and_parts (is_token u) (list_all is_token us) u_are).0 other.1)
+tokens_same (t ∷ ts) [] text t_are u_are one other = absurd (no_token_in_gap text t one.0 other (and_parts (is_token t) (list_all is_token ts) t_are).0 one.1)
+tokens_same (t ∷ ts) (u ∷ us) text t_are u_are one other =
+    let mine = and_parts (is_token t) (list_all is_token ts) t_are in
+    let theirs = and_parts (is_token u) (list_all is_token us) u_are in
+    let same = begins_same text t u one.0 other.0 mine.0 theirs.0 one.1 other.1 in
+    let P : List ℕ → Type 0 = λ r. IsTokens ts r in
+    ap (λ (w : List ℕ). w ∷ ts) same.0 ∙ ap (λ (l : List (List ℕ)). u ∷ l) (tokens_same ts us other.0 mine.1 theirs.1 (subst P same.1 one.2) other.2)
+
+config_tokens_are : (name local neighbor remote : List ℕ) → is_token name ≡ true → is_token local ≡ true → is_token neighbor ≡ true → is_token remote ≡ true
+    → list_all is_token (config_tokens name local neighbor remote) ≡ true
+config_tokens_are name local neighbor remote a b c d = rw (a, b, c, d) refl
+
+tokens_of : (text : List ℕ) (config : Config) → (is : IsConfig text config) → list_all is_token (config_tokens config.name is.local_word is.neighbor_word is.remote_word) ≡ true
+tokens_of text config is =
+    let v4 = v4_of_family is.neighbor_word config.neighbor is.neighbor_is in
+    config_tokens_are config.name is.local_word is.neighbor_word is.remote_word (name_is_token config.name config.name (refl, is.name_is))
+    (number_is_token is.local_word config.local is.local_is) (address_is_token is.neighbor_word v4.0 v4.2) (number_is_token is.remote_word config.remote is.remote_is)
+
+words_from_tokens : (name local neighbor remote name' local' neighbor' remote' : List ℕ) → config_tokens name local neighbor remote ≡ config_tokens name' local' neighbor' remote'
+    → (name ≡ name') × (local ≡ local') × (neighbor ≡ neighbor') × (remote ≡ remote')
+words_from_tokens name local neighbor remote name' local' neighbor' remote' same =
+    let a : name ≡ name' = cc in
+    let b : local ≡ local' = cc in
+    let c : neighbor ≡ neighbor' = cc in
+    let d : remote ≡ remote' = cc in
+    (a, b, c, d)
+
+make_config : List ℕ → ℕ → Addr → ℕ → Config
+make_config name local neighbor remote = record { name = name; local = local; neighbor = neighbor; remote = remote }
+
+config_same : (a b : Config) → a.name ≡ b.name → a.local ≡ b.local → a.neighbor ≡ b.neighbor → a.remote ≡ b.remote → a ≡ b
+unfolding make_config
+config_same a b name local neighbor remote =
+    ap (λ (n : List ℕ). make_config n a.local a.neighbor a.remote) name
+    ∙ ap (λ (n : ℕ). make_config b.name n a.neighbor a.remote) local
+    ∙ ap (λ (n : Addr). make_config b.name b.local n a.remote) neighbor
+    ∙ ap (λ (n : ℕ). make_config b.name b.local b.neighbor n) remote
+
+pub configurations_agree : (text : List ℕ) (a b : Config) → IsConfig text a → IsConfig text b → a ≡ b
+configurations_agree text a b one other =
+    let same = tokens_same _ _ text (tokens_of text a one) (tokens_of text b other) one.tokens other.tokens in
+    let words = words_from_tokens a.name one.local_word one.neighbor_word one.remote_word b.name other.local_word other.neighbor_word other.remote_word same in
+    let P : List ℕ → Type 0 = λ w. IsNumber w a.local in
+    let Q : List ℕ → Type 0 = λ w. IsAddrText w a.neighbor in
+    let R : List ℕ → Type 0 = λ w. IsNumber w a.remote in
+    let local : a.local ≡ b.local = numbers_agree other.local_word a.local b.local (subst P words.1 one.local_is) other.local_is in
+    let neighbor : a.neighbor ≡ b.neighbor = texts_agree other.neighbor_word a.neighbor b.neighbor (subst Q words.2 one.neighbor_is) other.neighbor_is in
+    let remote : a.remote ≡ b.remote = numbers_agree other.remote_word a.remote b.remote (subst R words.3 one.remote_is) other.remote_is in
+    config_same a b words.0 local neighbor remote
+
+-- lines are told apart
+numbers_of_words : (words : List (List ℕ)) (a b : List ℕ) → AreNumbers words a → AreNumbers words b → a ≡ b
+numbers_of_words [] [] [] one other = refl
+numbers_of_words [] [] (n ∷ b) one other = absurd other
+numbers_of_words [] (m ∷ a) b one other = absurd one
+numbers_of_words (w ∷ words) [] b one other = absurd one
+numbers_of_words (w ∷ words) (m ∷ a) [] one other = absurd other
+numbers_of_words (w ∷ words) (m ∷ a) (n ∷ b) one other =
+    ap (λ (k : ℕ). k ∷ a) (numbers_agree w m n one.0 other.0) ∙ ap (λ (l : List ℕ). n ∷ l) (numbers_of_words words a b one.1 other.1)
+
+first_byte : (x y : ℕ) (xs ys : List ℕ) → x ∷ xs ≡ y ∷ ys → x ≡ y
+first_byte x y xs ys same = cc
+
+origins_agree : (a b : Origin) → origin_text a ≡ origin_text b → a ≡ b
+origins_agree Igp Igp same = refl
+origins_agree Igp Egp same = absurd (omega (arith, first_byte 105 101 _ _ same))
+origins_agree Igp Incomplete same = absurd (omega (arith, ap length same))
+origins_agree Egp Igp same = absurd (omega (arith, first_byte 101 105 _ _ same))
+origins_agree Egp Egp same = refl
+origins_agree Egp Incomplete same = absurd (omega (arith, first_byte 101 105 _ _ same))
+origins_agree Incomplete Igp same = absurd (omega (arith, ap length same))
+origins_agree Incomplete Egp same = absurd (omega (arith, first_byte 105 101 _ _ same))
+origins_agree Incomplete Incomplete same = refl
+
+make_given : Addr → List ℕ → Origin → Option ℕ → Option ℕ → Option ℕ → List (ℕ × ℕ) → Given
+make_given gw path origin med lp igp coms = record { gw = gw; path = path; origin = origin; med = med; lp = lp; igp = igp; coms = coms }
+
+given_same : (a b : Given) → a.gw ≡ b.gw → a.path ≡ b.path → a.origin ≡ b.origin → a.med ≡ b.med → a.lp ≡ b.lp → a.igp ≡ b.igp → a.coms ≡ b.coms → a ≡ b
+unfolding make_given
+given_same a b gw path origin med lp igp coms =
+    ap (λ (n : Addr). make_given n a.path a.origin a.med a.lp a.igp a.coms) gw
+    ∙ ap (λ (n : List ℕ). make_given b.gw n a.origin a.med a.lp a.igp a.coms) path
+    ∙ ap (λ (n : Origin). make_given b.gw b.path n a.med a.lp a.igp a.coms) origin
+    ∙ ap (λ (n : Option ℕ). make_given b.gw b.path b.origin n a.lp a.igp a.coms) med
+    ∙ ap (λ (n : Option ℕ). make_given b.gw b.path b.origin b.med n a.igp a.coms) lp
+    ∙ ap (λ (n : Option ℕ). make_given b.gw b.path b.origin b.med b.lp n a.coms) igp
+    ∙ ap (λ (n : List (ℕ × ℕ)). make_given b.gw b.path b.origin b.med b.lp b.igp n) coms
+
+first_same : {X : Type 0} (words : List X) (a b c d e f g h : X) (xs ys : List X) → words ≡ a ∷ b ∷ c ∷ d ∷ xs → words ≡ e ∷ f ∷ g ∷ h ∷ ys → (a ≡ e) × (c ≡ g)
+first_same words a b c d e f g h xs ys one other =
+    let first : a ≡ e = cc in
+    let third : c ≡ g = cc in
+    (first, third)
+
+none_is_origin : (more : List (List ℕ)) → HasNoNumber (codes "origin" ∷ more)
+none_is_origin more = λ word behind n same is. (
+    let first : word ≡ codes "origin" = cc in
+    let P : List ℕ → Type 0 = λ w. IsNumber w n in
+    origin_no_number n (subst P first is))
+
+last_same : (a b : List ℕ) (x y : List ℕ) → a ∷ x ∷ [] ≡ b ∷ y ∷ [] → x ≡ y
+last_same a b x y same = cc
+
+adds_agree : (words : List (List ℕ)) (net net' : Net) (given given' : Given) → IsAdd words net given → IsAdd words net' given' → (net ≡ net') × (given ≡ given')
+adds_agree words net net' given given' one other =
+    let firsts = first_same words _ _ _ _ _ _ _ _ _ _ one.whole other.whole in
+    let tail = same_behind words _ _ _ _ _ _ _ _ _ _ one.whole other.whole in
+    let parts = path_split one.path_words given.path (codes "origin" ∷ origin_text given.origin ∷ []) one.path_is (none_is_origin _)
+    other.path_words given'.path (codes "origin") (origin_text given'.origin ∷ []) other.path_is origin_no_number tail in
+    let P : List ℕ → Type 0 = λ w. IsNetText w net in
+    let Q : List ℕ → Type 0 = λ w. IsAddrText w given.gw in
+    let R : List (List ℕ) → Type 0 = λ l. AreNumbers l given.path in
+    let gw = texts_agree other.gateway_word given.gw given'.gw (subst Q firsts.1 one.gateway_is) other.gateway_is in
+    let path = numbers_of_words other.path_words given.path given'.path (subst R parts.0 one.path_is) other.path_is in
+    let origin = origins_agree given.origin given'.origin (last_same _ _ _ _ parts.1) in (
+      nets_agree other.net_word net net' (subst P firsts.0 one.net_is) other.net_is,
+      given_same given given' gw path origin (one.no_med ∙ sym other.no_med) (one.no_lp ∙ sym other.no_lp) (one.no_igp ∙ sym other.no_igp) (one.no_coms ∙ sym other.no_coms),
+    )
+
+third_same : (words : List (List ℕ)) (a b c d : List ℕ) (x y : List ℕ) → words ≡ a ∷ b ∷ x ∷ [] → words ≡ c ∷ d ∷ y ∷ [] → x ≡ y
+third_same words a b c d x y one other = cc
+
+rest_same : (words : List (List ℕ)) (a b c d : List ℕ) (x y : List (List ℕ)) → words ≡ a ∷ b ∷ x → words ≡ c ∷ d ∷ y → x ≡ y
+rest_same words a b c d x y one other = cc
+
+commands_same : (words : List (List ℕ)) (a b c d : List ℕ) (x y : List (List ℕ)) → words ≡ a ∷ b ∷ x → words ≡ c ∷ d ∷ y → b ≡ d
+commands_same words a b c d x y one other = cc
+
+v4_same : (m n : ℕ) → V4 m ≡ V4 n → m ≡ n
+v4_same m n same = cc
+
+lines_agree : (name : List ℕ) (words : List (List ℕ)) (a b : Line) → IsLine name words a → IsLine name words b → a ≡ b
+lines_agree name words (Apply (SessionUp m)) (Apply (SessionUp n)) one other =
+    let same = third_same words _ _ _ _ (v4_text m) (v4_text n) one.0 other.0 in
+    let number : m ≡ n = v4_same m n (texts_agree (v4_text m) (V4 m) (V4 n) (one.1, refl) (other.1, same)) in
+    ap (λ (k : ℕ). Apply (SessionUp k)) number
+lines_agree name words (Apply (SessionUp m)) (Apply (Add net given)) one other = let same = commands_same words _ _ _ _ _ _ one.0 other.1 in absurd (omega (arith, first_byte 111 97 _ _ same))
+lines_agree name words (Apply (SessionUp m)) Show one other = let same = commands_same words _ _ _ _ _ _ one.0 other in absurd (omega (arith, first_byte 111 115 _ _ same))
+lines_agree name words (Apply (Add net given)) (Apply (SessionUp n)) one other = let same = commands_same words _ _ _ _ _ _ one.1 other.0 in absurd (omega (arith, first_byte 97 111 _ _ same))
+lines_agree name words (Apply (Add net given)) (Apply (Add net' given')) one other =
+    let same = rest_same words _ _ _ _ one.0 other.0 one.1 other.1 in
+    let P : List (List ℕ) → Type 0 = λ l. IsAdd l net given in
+    let parts = adds_agree other.0 net net' given given' (subst P same one.2) other.2 in
+    ap (λ (n : Net). Apply (Add n given)) parts.0 ∙ ap (λ (g : Given). Apply (Add net' g)) parts.1
+lines_agree name words (Apply (Add net given)) Show one other = let same = commands_same words _ _ _ _ _ _ one.1 other in absurd (omega (arith, first_byte 97 115 _ _ same))
+lines_agree name words Show (Apply (SessionUp n)) one other = let same = commands_same words _ _ _ _ _ _ one other.0 in absurd (omega (arith, first_byte 115 111 _ _ same))
+lines_agree name words Show (Apply (Add net given)) one other = let same = commands_same words _ _ _ _ _ _ one other.1 in absurd (omega (arith, first_byte 115 97 _ _ same))
+lines_agree name words Show Show one other = refl
+
+scripts_agree_on : (name : List ℕ) (words : List (List (List ℕ))) (a b : List Line) → AreLines name words a → AreLines name words b → a ≡ b
+scripts_agree_on name [] [] [] one other = refl
+scripts_agree_on name [] [] (y ∷ b) one other = absurd other
+scripts_agree_on name [] (x ∷ a) b one other = absurd one
+scripts_agree_on name (w ∷ words) [] b one other = absurd one
+scripts_agree_on name (w ∷ words) (x ∷ a) [] one other = absurd other
+scripts_agree_on name (w ∷ words) (x ∷ a) (y ∷ b) one other =
+    ap (λ (l : Line). l ∷ a) (lines_agree name w x y one.0 other.0) ∙ ap (λ (l : List Line). y ∷ l) (scripts_agree_on name words a b one.1 other.1)
+
+pub scripts_agree : (name text : List ℕ) (a b : List Line) → IsScript name text a → IsScript name text b → a ≡ b
+scripts_agree name text a b one other = scripts_agree_on name (lines_words text) a b one other

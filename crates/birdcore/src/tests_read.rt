@@ -1,0 +1,175 @@
+use crate::config::read_config;
+use crate::operation::Op;
+use crate::script::{Line, ScriptRead, read_script};
+use attrs::Origin;
+use bits_ip::{Addr, OutOfMemory};
+use std::alloc::{AllocError, Global};
+use std::process::Abort;
+use std::test::Fail;
+
+const NAME: &[u8] = b"p1";
+
+/// Texts that say one thing: the name p1, the own AS 65000, and the neighbour 192.0.2.1 in AS 65001.
+const CONFIGURATIONS: [&str; 6] = [
+    "protocol bgp p1 { local as 65000; neighbor 192.0.2.1 as 65001; med metric on;\n  ipv4 { import all; export all; }; }",
+    "protocol bgp p1 { local as 65000; neighbor 192.0.2.1as 65001; med metric on; ipv4 { import all; export all; }; }\n",
+    "\r\n protocol\tbgp\r\np1\n{ local as\t65000 ;\n neighbor 192.0.2.1 as 65001 ; med metric on ; ipv4 { import all ; export all ; } ; }\t\n",
+    "protocol bgp p1{local as 65000;neighbor 192.0.2.1as 65001;med metric on;ipv4{import all;export all;};}",
+    "protocol bgp p1 { local as 00065000; neighbor 192.0.2.1 as 0000000000000065001; med metric on; ipv4 { import all; export all; }; }",
+    "\n\nprotocol bgp p1 {\n  local as 65000;\n  neighbor 192.0.2.1 as 65001;\n  med metric on;\n  ipv4 {\n    import all;\n    export all;\n  };\n}\n",
+];
+
+/// Texts that aren't of the form.
+const NO_CONFIGURATIONS: [&str; 18] = [
+    "",
+    " \n",
+    "# a comment\nprotocol bgp p1 { local as 65000; neighbor 192.0.2.1 as 65001; med metric on; ipv4 { import all; export all; }; }",
+    "protocol bgp p1 { local as65000; neighbor 192.0.2.1 as 65001; med metric on; ipv4 { import all; export all; }; }",
+    "protocol bgp p1234 { local as 65000; neighbor 192.0.2.1 as 65001; med metric on; ipv4 { import all; export all; }; }",
+    "protocol bgp q1 { local as 65000; neighbor 192.0.2.1 as 65001; med metric on; ipv4 { import all; export all; }; }",
+    "protocol bgp p { local as 65000; neighbor 192.0.2.1 as 65001; med metric on; ipv4 { import all; export all; }; }",
+    "protocol bgp p1a { local as 65000; neighbor 192.0.2.1 as 65001; med metric on; ipv4 { import all; export all; }; }",
+    "protocol bgp { local as 65000; neighbor 192.0.2.1 as 65001; med metric on; ipv4 { import all; export all; }; }",
+    "protocol bgp p1 { local as 4294967296; neighbor 192.0.2.1 as 65001; med metric on; ipv4 { import all; export all; }; }",
+    "protocol bgp p1 { local as 65000; neighbor 192.0.2.256 as 65001; med metric on; ipv4 { import all; export all; }; }",
+    "protocol bgp p1 { local as 65000; neighbor 192.0.2.1 as 65001; med metric on; ipv4 { import all; export all; }; } x",
+    "protocol bgp p1 { local as 65000; neighbor 192.0.2.1 as 65001; med metric on; ipv4 { import all; export all; }; };",
+    "protocol bgp p1 { local as 65000 neighbor 192.0.2.1 as 65001; med metric on; ipv4 { import all; export all; }; }",
+    "protocol bgp p1 { local as 65000; neighbor 192.0.2.1 as 65001; med metric on; ipv4 { import all; export all; } }",
+    "protocol bgp p1 { local as 65000; neighbor 192.0.2.1 as 65001; med metric on; ipv4 { import none; export all; }; }",
+    "protocol bgp p1 { local as 65000; neighbor 192.0.2.1 as 65001; ipv4 { import all; export all; }; }",
+    "protocol bgp p1 { local as 65000; neighbor 192.0.2.1 as 65001; med metric on; ipv4 { import all; export all; };",
+];
+
+#[test]
+fn reads_configurations(rt: HostRuntime) -> Result<(), Fail> {
+    for text in CONFIGURATIONS {
+        let config = read_config(rt.alloc(), text.as_bytes())?.ok_or("refused")?;
+        assert_eq!(rt; config.name.as_slice(), NAME, "in {text}");
+        assert_eq!(rt; config.local, 65000, "in {text}");
+        assert_eq!(rt; config.neighbor, Addr::V4(0xc000_0201), "in {text}");
+        assert_eq!(rt; config.remote, 65001, "in {text}");
+    }
+    let greatest =
+        "protocol bgp p999 { local as 4294967295; neighbor 255.255.255.255 as 0; med metric on; ipv4 { import all; export all; }; }";
+    let config = read_config(rt.alloc(), greatest.as_bytes())?.ok_or("refused")?;
+    assert_eq!(rt; config.name.as_slice(), b"p999".as_slice());
+    assert_eq!(rt; config.local, u32::MAX);
+    assert_eq!(rt; config.remote, 0);
+    Ok(())
+}
+
+#[test]
+fn refuses_other_configurations(rt: HostRuntime) -> Result<(), Fail> {
+    for text in NO_CONFIGURATIONS {
+        let config = read_config(rt.alloc(), text.as_bytes())?;
+        assert!(rt; config.is_none(), "in {text}");
+    }
+    Ok(())
+}
+
+/// Scripts with the number of their first line that isn't of the form.
+const BAD_SCRIPTS: [(&str, u32); 17] = [
+    ("\n", 1),
+    ("@p1 show route\n\n", 2),
+    ("# comment\n", 1),
+    ("@p2 show route\n", 1),
+    ("@p1 show route\n@p1 show route\n@p2 show route", 3),
+    ("p1 show route\n", 1),
+    ("sync\n", 1),
+    ("@p1 sync\n", 1),
+    ("@p1 open 10.0.0.1\n@p1 open 10.0.0\n", 2),
+    ("@p1 open 10.0.0.1 x\n", 1),
+    ("@p1 add 10.0.0.1/8 via 192.0.2.1 path origin igp\n", 1),
+    (
+        "@p1 add 10.0.0.0/8 via 192.0.2.1 path 1 origin igp med 5\n",
+        1,
+    ),
+    (
+        "@p1 add 10.0.0.0/8 via 192.0.2.1 path 4294967296 origin igp\n",
+        1,
+    ),
+    ("@p1 add 10.0.0.0/8 via 192.0.2.1 path 1 origin\n", 1),
+    ("@p1 show\rroute\n", 1),
+    ("@p1 show route\r", 1),
+    ("@p1 show route x\n", 1),
+];
+
+fn read(rt: &impl Abort, alloc: Global, text: &[u8]) -> Result<ScriptRead, OutOfMemory> {
+    assert!(rt; text.len() <= 16_777_216);
+    read_script(alloc, NAME, text)
+}
+
+#[test]
+fn refuses_bad_lines(rt: HostRuntime) -> Result<(), Fail> {
+    for (text, bad) in BAD_SCRIPTS {
+        let ScriptRead::Bad(number) = read(&rt, rt.alloc(), text.as_bytes())? else {
+            return Err(Fail::from("a bad line is read"));
+        };
+        assert_eq!(rt; number, bad, "in {text}");
+    }
+    Ok(())
+}
+
+#[test]
+fn reads_scripts(rt: HostRuntime) -> Result<(), Fail> {
+    let text =
+        "@p1 open 10.0.0.1\r\n\t@p1   add\t203.0.113.0/24 via 192.0.2.1 path 65001 065002  origin igp \n@p1 show route\r\n@p1 add 0.0.0.0/0 via 192.0.2.1 path origin incomplete\n \t@p1\tshow\troute\t ";
+    let ScriptRead::Lines(lines) = read(&rt, rt.alloc(), text.as_bytes())? else {
+        return Err(Fail::from("refused"));
+    };
+    let [
+        Line::Apply(Op::SessionUp(id)),
+        Line::Apply(Op::Add(net, given)),
+        Line::Show,
+        Line::Apply(Op::Add(whole, short)),
+        Line::Show,
+    ] = lines.as_slice()
+    else {
+        return Err(Fail::from("other lines"));
+    };
+    assert_eq!(rt; *id, 0x0a00_0001);
+    assert_eq!(rt; net.addr(), Addr::V4(0xcb00_7100));
+    assert_eq!(rt; net.len(), 24);
+    assert_eq!(rt; given.gw, Addr::V4(0xc000_0201));
+    assert_eq!(rt; given.path.as_slice(), [65001, 65002].as_slice());
+    assert_eq!(rt; given.origin, Origin::Igp);
+    assert_eq!(rt; given.med, None);
+    assert_eq!(rt; given.lp, None);
+    assert_eq!(rt; given.igp, None);
+    assert!(rt; given.coms.as_slice().is_empty());
+    assert_eq!(rt; whole.len(), 0);
+    assert!(rt; short.path.as_slice().is_empty());
+    assert_eq!(rt; short.origin, Origin::Incomplete);
+    let ScriptRead::Lines(none) = read(&rt, rt.alloc(), b"")? else {
+        return Err(Fail::from("refused"));
+    };
+    assert!(rt; none.is_empty());
+    Ok(())
+}
+
+/// An `add` with a path of so many numbers.
+fn long_path(alloc: Global, count: u32) -> Result<Vec<u8>, AllocError> {
+    let mut text = Vec::new(alloc);
+    text.extend_from_slice(b"@p1 add 10.0.0.0/8 via 192.0.2.1 path")?;
+    for _ in 0..count {
+        text.extend_from_slice(b" 4294967295")?;
+    }
+    text.extend_from_slice(b" origin egp\n")?;
+    Ok(text)
+}
+
+#[test]
+fn bounds_paths(rt: HostRuntime) -> Result<(), Fail> {
+    let text = long_path(rt.alloc(), 120)?;
+    let ScriptRead::Lines(lines) = read(&rt, rt.alloc(), &text)? else {
+        return Err(Fail::from("refused"));
+    };
+    assert_eq!(rt; lines.len(), 1);
+    let text = long_path(rt.alloc(), 121)?;
+    let ScriptRead::Bad(number) = read(&rt, rt.alloc(), &text)? else {
+        return Err(Fail::from("a long path is read"));
+    };
+    assert_eq!(rt; number, 1);
+    Ok(())
+}
