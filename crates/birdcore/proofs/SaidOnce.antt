@@ -9,8 +9,7 @@ use Rattle.bits_ip.specs.Prefix.{Net}
 use Rattle.bits_ip.specs.Text.{IsAddrText, IsNetText, v4_text}
 use Rattle.bits_ip.specs.declared.address.Addr.{Addr}
 use Rattle.bits_ip.specs.declared.address.Addr.TheVariants.{V4, V6}
-use Rattle.bits_ip.proofs.Dotted.{texts_agree}
-use Rattle.bits_ip.proofs.Slashed.{net_split, net_parts}
+use Rattle.bits_ip.proofs.Nets.{addr_texts_agree, net_texts_agree}
 use Rattle.attrs.specs.Text.{origin_text}
 use Rattle.attrs.specs.declared.attributes.Origin.{Origin}
 use Rattle.attrs.specs.declared.attributes.Origin.TheVariants.{Igp, Egp, Incomplete}
@@ -34,16 +33,6 @@ use Rattle.birdcore.proofs.TokenWords.{number_is_token, address_is_token, name_i
 
 numbers_agree : (word : List ℕ) (m n : ℕ) → IsNumber word m → IsNumber word n → m ≡ n
 numbers_agree word m n one other = sym one.value ∙ other.value
-
-nets_agree : (text : List ℕ) (a b : Net) → IsNetText text a → IsNetText text b → a ≡ b
-nets_agree text a b one other =
-    let split = net_split text a one in
-    let mine = net_parts text one.front (decimal a.len) a split one in
-    let theirs = net_parts text one.front (decimal a.len) b split other in
-    let addr : a.addr ≡ b.addr = texts_agree one.front a.addr b.addr mine.0 theirs.0 in
-    let len : a.len ≡ b.len = decimal_injective a.len b.len (omega (arith, mine.1.0)) (omega (arith, theirs.1.0)) theirs.1.1 in
-    let front : a ≡ record { addr = b.addr; len = a.len } = ap (λ (x : Addr). let n : Net = record { addr = x; len = a.len } in n) addr in
-    front ∙ ap (λ (k : ℕ). let n : Net = record { addr = b.addr; len = k } in n) len
 
 -- tokens are told apart
 begins_same : (text t u r s : List ℕ) → is_token t ≡ true → is_token u ≡ true → Begins t text r → Begins u text s → (t ≡ u) × (r ≡ s)
@@ -110,7 +99,7 @@ configurations_agree text a b one other =
     let Q : List ℕ → Type 0 = λ w. IsAddrText w a.neighbor in
     let R : List ℕ → Type 0 = λ w. IsNumber w a.remote in
     let local : a.local ≡ b.local = numbers_agree other.local_word a.local b.local (subst P words.1 one.local_is) other.local_is in
-    let neighbor : a.neighbor ≡ b.neighbor = texts_agree other.neighbor_word a.neighbor b.neighbor (subst Q words.2 one.neighbor_is) other.neighbor_is in
+    let neighbor : a.neighbor ≡ b.neighbor = addr_texts_agree other.neighbor_word a.neighbor b.neighbor (subst Q words.2 one.neighbor_is) other.neighbor_is in
     let remote : a.remote ≡ b.remote = numbers_agree other.remote_word a.remote b.remote (subst R words.3 one.remote_is) other.remote_is in
     config_same a b words.0 local neighbor remote
 
@@ -176,10 +165,10 @@ adds_agree words net net' given given' one other =
     let P : List ℕ → Type 0 = λ w. IsNetText w net in
     let Q : List ℕ → Type 0 = λ w. IsAddrText w given.gw in
     let R : List (List ℕ) → Type 0 = λ l. AreNumbers l given.path in
-    let gw = texts_agree other.gateway_word given.gw given'.gw (subst Q firsts.1 one.gateway_is) other.gateway_is in
+    let gw = addr_texts_agree other.gateway_word given.gw given'.gw (subst Q firsts.1 one.gateway_is) other.gateway_is in
     let path = numbers_of_words other.path_words given.path given'.path (subst R parts.0 one.path_is) other.path_is in
     let origin = origins_agree given.origin given'.origin (last_same _ _ _ _ parts.1) in (
-      nets_agree other.net_word net net' (subst P firsts.0 one.net_is) other.net_is,
+      net_texts_agree other.net_word net net' (subst P firsts.0 one.net_is) other.net_is,
       given_same given given' gw path origin (one.no_med ∙ sym other.no_med) (one.no_lp ∙ sym other.no_lp) (one.no_igp ∙ sym other.no_igp) (one.no_coms ∙ sym other.no_coms),
     )
 
@@ -198,7 +187,7 @@ v4_same m n same = cc
 lines_agree : (name : List ℕ) (words : List (List ℕ)) (a b : Line) → IsLine name words a → IsLine name words b → a ≡ b
 lines_agree name words (Apply (SessionUp m)) (Apply (SessionUp n)) one other =
     let same = third_same words _ _ _ _ (v4_text m) (v4_text n) one.0 other.0 in
-    let number : m ≡ n = v4_same m n (texts_agree (v4_text m) (V4 m) (V4 n) (one.1, refl) (other.1, same)) in
+    let number : m ≡ n = v4_same m n (addr_texts_agree (v4_text m) (V4 m) (V4 n) (one.1, refl) (other.1, same)) in
     ap (λ (k : ℕ). Apply (SessionUp k)) number
 lines_agree name words (Apply (SessionUp m)) (Apply (Add net given)) one other = let same = commands_same words _ _ _ _ _ _ one.0 other.1 in absurd (omega (arith, first_byte 111 97 _ _ same))
 lines_agree name words (Apply (SessionUp m)) Show one other = let same = commands_same words _ _ _ _ _ _ one.0 other in absurd (omega (arith, first_byte 111 115 _ _ same))
