@@ -12,10 +12,11 @@ use Rattle.std.proofs.lemmas.List.Sums.{list_all-from_AllPass, take_while-cons}
 use Rattle.std.proofs.lemmas.Nat.{mod_below}
 use Rattle.bits_ip.specs.declared.address.Addr.{Addr}
 use Rattle.bits_ip.specs.declared.address.Addr.TheVariants.{V4, V6}
-use Rattle.bits_ip.specs.Address.{family_rank, number_of}
+use Rattle.bits_ip.specs.Address.{family_rank, number_of, width_of}
 use Rattle.bits_ip.specs.Prefix.{Net, IsPrefix, net_cmp}
 use Rattle.bits_ip.specs.Text.{v4_text, v6_text, groups, colon_text, short_text, longest_run, run_start, addr_text, net_text, is_addr_byte, is_net_byte, addr_run, net_run, IsAddrText, IsNetText}
 use Rattle.bits_ip.proofs.Dotted.{texts_agree}
+use Rattle.bits_ip.proofs.Spelled.{v6_text_spells}
 use Rattle.bits_ip.proofs.Slashed.{len_below, net_parts, net_split}
 use Rattle.std.proofs.lemmas.Fmt.{decimal_injective}
 
@@ -212,6 +213,15 @@ net_run_before net rest stops = run_before is_net_byte (net_text net) rest (net_
 -- the text of an IPv4 prefix spells it
 pub net_text_spells : (n len : ℕ) → n < 2 ^ 32 → IsPrefix (V4 n) len → IsNetText (net_text (net_of (V4 n) len)) (net_of (V4 n) len)
 net_text_spells n len small prefix = record { prefix = prefix; front = v4_text n; addr = (small, refl); whole = refl }
+
+-- the text of an address spells it, where its number is within the family's
+pub addr_text_spells : (addr : Addr) → number_of addr < 2 ^ width_of addr → IsAddrText (addr_text addr) addr
+addr_text_spells (V4 n) small = (small, refl)
+addr_text_spells (V6 n) small = v6_text_spells n small
+
+-- and that of a prefix spells it
+pub net_texts_spell : (net : Net) → number_of net.addr < 2 ^ width_of net.addr → IsPrefix net.addr net.len → IsNetText (net_text net) net
+net_texts_spell net small prefix = record { prefix = prefix; front = addr_text net.addr; addr = addr_text_spells net.addr small; whole = refl }
 
 -- a text spells one address
 pub addr_texts_agree : (text : List ℕ) (a b : Addr) → IsAddrText text a → IsAddrText text b → a ≡ b
