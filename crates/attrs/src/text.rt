@@ -1,4 +1,4 @@
-ghost use Rattle.std.specs.Prelude.{◌≡◌, ◌++◌, ◌∷◌, codes, decimal, OnOk};
+ghost use Rattle.std.specs.Prelude.{◌≡◌, ◌++◌, ◌∷◌, codes, decimal, OnOk, OnErr};
 ghost use Rattle.std.specs.List.{flat_map};
 ghost use Rattle.bits_ip.specs.Text.{addr_text};
 ghost use Rattle.attrs.specs.Text.{attrs_text, community_text, dest_text, kind_text, list_text, optional_text, origin_text, peer_text};
@@ -10,6 +10,17 @@ use std::alloc::Global;
 
 /// Appends the attributes as one line without its end: the fields in their order, without what is absent or empty.
 pub fn attr_text(alloc: Global, attrs: &Attrs, out: &mut Vec<u8>) -> Result<(), OutOfMemory>
+    ensures written { OnOk result (out.new.items ≡ out.old.items ++ attrs_text attrs.now) }
+    ensures refused { OnErr result (out.new.items ≡ out.old.items) }
+{
+    let mut text = Vec::new(alloc);
+    append_attrs(alloc, attrs, &mut text)?;
+    out.extend_from_slice(&text)?;
+    Ok(())
+}
+
+/// Appends the attributes; on refusal a part of them may stand.
+fn append_attrs(alloc: Global, attrs: &Attrs, out: &mut Vec<u8>) -> Result<(), OutOfMemory>
     ensures { OnOk result (out.new.items ≡ out.old.items ++ attrs_text attrs.now) }
 {
     write_head(attrs, out)?;

@@ -3,7 +3,7 @@ use Rattle.std.proofs.lemmas.Result.{on_ok_weaker}
 use Rattle.bits_ip.specs.Text.{addr_text}
 use Rattle.attrs.specs.Text.{attrs_text, community_text, dest_text, kind_text, list_text, optional_text, origin_text, peer_text}
 use Rattle.attrs.specs.declared.attributes.Attrs.{Attrs}
-use Rattle.attrs.proofs.text.attr_text.Goals as goal
+use Rattle.attrs.proofs.text.append_attrs.Goals as goal
 
 -- five groups of pieces, appended one after another
 joined :
