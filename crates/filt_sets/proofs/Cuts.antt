@@ -1,13 +1,13 @@
 -- The test of a path decides whether it can be cut.
-use Rattle.std.proofs.Common.{◌≡◌, ℕ, ◌<◌, ◌≤◌, ◌+◌, Bool, true, false, ◌&&◌, ◌||◌, ◌↔◌, ◌⊎◌, inl, inr, ⊎_elim, IsTrue, List, [], ◌∷◌, ◌++◌, length, All, refl, sym, ap, ◌∙◌, subst, arith, append-nil, append_assoc}
+use Rattle.std.proofs.Common.{◌≡◌, ℕ, ◌<◌, Bool, true, false, ◌&&◌, ◌||◌, ◌↔◌, ◌⊎◌, inl, inr, ⊎_elim, IsTrue, List, [], ◌∷◌, ◌++◌, length, All, refl, sym, ap, ◌∙◌, arith, append-nil}
 use Rattle.std.specs.List.{concat}
 use Rattle.std.proofs.lemmas.Bool.{and_parts, and_from, cases_Bool, cond-true, cond-false, leb-true, le-leb, or_cases, or_left, or_right}
 use Rattle.std.proofs.lemmas.List.Elements.{All-cons, All-head, All-nil, All-tail}
 use Rattle.filt_sets.specs.declared.mask.Atom.{Atom}
 use Rattle.filt_sets.specs.declared.mask.Atom.TheVariants.{Range, One, Any}
 use Rattle.filt_sets.specs.declared.mask.MaskItem.{MaskItem}
-use Rattle.filt_sets.specs.Mask.{IsElement, AreElements, IsPieceOf, IsPiece, IsCut}
-use Rattle.filt_sets.specs.Search.{accepts, before, cuts, is_empty, is_run, matches_at}
+use Rattle.filt_sets.specs.Mask.{IsElement, AreElements, IsPieceOf, IsCut}
+use Rattle.filt_sets.specs.Search.{accepts, before, cuts, is_empty, is_run}
 
 pub elements_one : (atom : Atom) (piece : List ℕ) → IsElement atom piece → AreElements atom piece
 elements_one atom piece is = record {

@@ -1,3 +1,4 @@
 mod Cuts
+mod InOrder
 mod Marks
 mod Meaning

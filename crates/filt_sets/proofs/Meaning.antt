@@ -1,11 +1,11 @@
 -- What the items of sets and masks come to.
-use Rattle.std.proofs.Common.{◌≡◌, ◌≢◌, ◌↔◌, ℕ, zero, suc, ◌<◌, ◌≤◌, ◌+◌, ◌-◌, ◌*◌, ◌/◌, ◌%◌, ◌^◌, min, true, false, ◌⊎◌, ⊎_elim, List, [], ◌∷◌, ◌++◌, length, All, refl, sym, ap, ◌∙◌, subst, arith, append-nil, append_assoc}
+use Rattle.std.proofs.Common.{◌≡◌, ◌≢◌, ◌↔◌, ℕ, ◌<◌, ◌≤◌, ◌-◌, ◌*◌, ◌/◌, ◌%◌, ◌^◌, min, true, false, List, [], ◌∷◌, ◌++◌, length, All, refl, sym, ap, ◌∙◌, arith, append-nil, append_assoc}
 use Rattle.std.specs.List.{concat}
-use Rattle.std.proofs.lemmas.List.Elements.{All-append, All-cons, All-head, All-nil, All-tail}
+use Rattle.std.proofs.lemmas.List.Elements.{All-cons, All-head, All-nil, All-tail}
 use Rattle.std.proofs.lemmas.Nat.{pow_pos}
 use Rattle.bits_ip.specs.declared.address.Addr.{Addr}
 use Rattle.bits_ip.specs.declared.address.Addr.TheVariants.{V4, V6}
-use Rattle.bits_ip.specs.Address.{family_of, number_of, width_of}
+use Rattle.bits_ip.specs.Address.{family_of, width_of}
 use Rattle.bits_ip.specs.Prefix.{Net, IsPrefix, Covers, front_bits}
 use Rattle.filt_sets.specs.declared.mask.Atom.TheVariants.{Range, Any}
 use Rattle.filt_sets.specs.declared.mask.MaskItem.{MaskItem}

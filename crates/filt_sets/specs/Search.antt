@@ -1,5 +1,12 @@
--- How the code decides whether a mask matches: nothing that is promised.
-use Rattle.std.specs.Prelude.{◌≡◌, ℕ, ◌≤◌, Bool, true, false, ◌&&◌, ◌||◌, nat_le, if◌then◌else◌, List, [], ◌∷◌, length, drop, slice_index_or}
+-- How the code searches sets and masks: nothing that is promised.
+use Rattle.std.specs.Prelude.{◌≡◌, ℕ, ◌<◌, ◌≤◌, Bool, true, false, ◌&&◌, ◌||◌, nat_le, nat_lt, if◌then◌else◌, List, [], ◌∷◌, length, drop, slice_index_or, All}
+use Rattle.std.specs.List.{AllAdjacentBelow}
+use Rattle.std.specs.List.Sorted.{IsSortedBy}
+use Rattle.std.specs.declared.cmp.Ordering.{Ordering}
+use Rattle.std.specs.declared.cmp.Ordering.TheVariants.{Less, Equal, Greater}
+use Rattle.bits_ip.specs.Prefix.{IsPrefix, precedes}
+use Rattle.filt_sets.specs.declared.ints.IntItem.{IntItem}
+use Rattle.filt_sets.specs.declared.prefixes.PrefixItem.{PrefixItem}
 use Rattle.filt_sets.specs.declared.mask.Atom.{Atom}
 use Rattle.filt_sets.specs.declared.mask.Atom.TheVariants.{Range, One, Any}
 use Rattle.filt_sets.specs.declared.mask.MaskItem.{MaskItem}
@@ -37,3 +44,23 @@ cuts (item ∷ items) path = before item (cuts items) path
 -- the marks tell the answer from each place of the path on
 abbrev pub Tells : (List ℕ → Bool) → List ℕ → List Bool → Type 0
 Tells answer path marks = (k : ℕ) → k ≤ length path → slice_index_or marks k false ≡ answer (drop k path)
+
+-- where an item's range lies, seen from a number
+abbrev pub side_of : ℕ → IntItem → Ordering
+side_of n item = if nat_lt item.hi n then Less else (if nat_lt n item.lo then Greater else Equal)
+
+-- ranges with a number each, in rising order and apart
+pub record AreApart (items : List IntItem) : Type 0 where
+  pub filled : All (λ item. item.lo ≤ item.hi) items
+  pub rising : AllAdjacentBelow (λ a b. a.hi < b.lo) items (length items)
+
+-- an item that takes its own net alone
+pub record IsExact (item : PrefixItem) : Type 0 where
+  pub prefix : IsPrefix item.net.addr item.net.len
+  pub lo : item.lo ≡ item.net.len
+  pub hi : item.hi ≡ item.net.len
+
+-- such items in the order of nets
+pub record AreExact (items : List PrefixItem) : Type 0 where
+  pub each : All IsExact items
+  pub rising : IsSortedBy (λ a b. precedes a.net b.net) items

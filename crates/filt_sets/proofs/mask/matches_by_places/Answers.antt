@@ -1,6 +1,5 @@
-use Rattle.std.proofs.Common.{◌≡◌, ◌<◌, ◌≤◌, ◌-◌, ◌∷◌, [], ◌++◌, ◌∙◌, ap, List, Bool, length, refl, sym, append-nil, get_or}
-use Rattle.filt_sets.specs.declared.mask.MaskItem.{MaskItem}
-use Rattle.filt_sets.specs.Search.{before, cuts, Tells}
+use Rattle.std.proofs.Common.{[], sym, append-nil}
+use Rattle.filt_sets.specs.Search.{cuts}
 use Rattle.filt_sets.proofs.Marks.{gone_more, last_marked}
 use Rattle.filt_sets.proofs.mask.matches_by_places.Goals as goal
 

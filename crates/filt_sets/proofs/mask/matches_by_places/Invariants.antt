@@ -1,4 +1,4 @@
-use Rattle.std.proofs.Common.{◌≡◌, ◌<◌, List, ◌++◌, length}
+use Rattle.std.proofs.Common.{◌≡◌, List, ◌++◌, length}
 use Rattle.filt_sets.specs.declared.mask.MaskItem.{MaskItem}
 use Rattle.filt_sets.specs.Search.{cuts, Tells}
 use Rattle.filt_sets.proofs.mask.matches_by_places.Given as goal

@@ -1,5 +1,5 @@
-use Rattle.std.proofs.Common.{◌-◌, ◌+◌, ◌≡◌, Bool, arith, length-set}
-use Rattle.filt_sets.proofs.Marks.{marks_start, marks_step, marks_end}
+use Rattle.std.proofs.Common.{◌-◌, Bool, arith, length-set}
+use Rattle.filt_sets.proofs.Marks.{marks_step}
 use Rattle.filt_sets.proofs.mask.step_back.Goals as goal
 
 pub loop-place-preserved : goal.loop-place-preserved
