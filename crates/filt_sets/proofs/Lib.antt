@@ -1,0 +1,4 @@
+mod Cuts
+mod InOrder
+mod Marks
+mod Meaning
