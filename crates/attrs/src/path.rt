@@ -89,7 +89,9 @@ impl Path {
         self.numbers.is_empty()
     }
 
-    /// Puts a number before the others, as the autonomous system through which the route is sent on does (RFC 4271, sections 5.1.2 and 9.1). `PathLong` comes exactly at the limit of 120 numbers, which is this project's own; `Memory` only below it.
+    /// Puts a number before the others, as the autonomous system through which the route is sent on does (RFC 4271,
+    /// sections 5.1.2 and 9.1). `PathLong` comes exactly at the limit of 120 numbers, which is this project's own;
+    /// `Memory` only below it.
     pub fn prepend(&mut self, number: u32) -> Result<(), PathFault>
         ensures prepended { OnOk result (self.new ≡ number ∷ self.old) }
         ensures long { (result ≡ Err PathFault.PathLong) ↔ (length self.old ≡ 120) }
