@@ -9,11 +9,11 @@ use Rattle.attrs.specs.Text.{origin_text}
 use Rattle.attrs.specs.declared.attributes.Origin.{Origin}
 use Rattle.birdcore.specs.declared.commands.Refusal.{Refusal}
 use Rattle.birdcore.specs.declared.commands.Refusal.TheVariants.{Form, Memory}
-use Rattle.birdcore.specs.declared.operation.Op.TheVariants.{SessionUp, Add}
+use Rattle.birdcore.specs.declared.operation.Op.TheVariants.{SessionUp, Add, Del}
 use Rattle.birdcore.specs.declared.script.Line.{Line}
 use Rattle.birdcore.specs.declared.script.Line.TheVariants.{Apply, Show}
 use Rattle.birdcore.specs.Lines.{IsNumber}
-use Rattle.birdcore.specs.Script.{AreNumbers, IsAdd}
+use Rattle.birdcore.specs.Script.{AreNumbers, IsAdd, IsDel}
 
 -- what holds where the form is the reason
 abbrev pub IfForm : Refusal → Type 0 → Type 0
@@ -58,4 +58,5 @@ pub record IsPathAndOrigin (words : List (List ℕ)) (path : List ℕ) (origin :
 abbrev pub IsCommand : List (List ℕ) → Line → Type 0
 IsCommand words (Apply (SessionUp id)) = (words ≡ codes "open" ∷ v4_text id ∷ []) × (id < 2 ^ 32)
 IsCommand words (Apply (Add net given)) = (rest : List (List ℕ)) × (words ≡ codes "add" ∷ rest) × IsAdd rest net given
+IsCommand words (Apply (Del net)) = (rest : List (List ℕ)) × (words ≡ codes "del" ∷ rest) × IsDel rest net
 IsCommand words Show = words ≡ codes "show" ∷ codes "route" ∷ []
