@@ -4,7 +4,7 @@ use Rattle.std.specs.List.{flat_map}
 use Rattle.bits_ip.specs.Text.{addr_text, net_text, v4_text}
 use Rattle.attrs.specs.Text.{origin_text, optional_text, list_text, community_text}
 use Rattle.birdcore.specs.declared.operation.Op.{Op}
-use Rattle.birdcore.specs.declared.operation.Op.TheVariants.{SessionUp, Add}
+use Rattle.birdcore.specs.declared.operation.Op.TheVariants.{SessionUp, Add, Del}
 
 -- the command in the spelling of scripts, without who gave it
 abbrev pub op_text : Op → List ℕ
@@ -17,3 +17,4 @@ op_text (Add net given) =
     ++ optional_text (codes " lp ") decimal given.lp
     ++ optional_text (codes " igp ") decimal given.igp
     ++ list_text (codes " com") community_text given.coms
+op_text (Del net) = codes "del " ++ net_text net

@@ -12,7 +12,7 @@ use Rattle.attrs.specs.declared.route.Row.{Row}
 use Rattle.birdcore.specs.declared.config.Config.{Config}
 use Rattle.birdcore.specs.declared.operation.Given.{Given}
 use Rattle.birdcore.specs.declared.operation.Op.{Op}
-use Rattle.birdcore.specs.declared.operation.Op.TheVariants.{SessionUp, Add}
+use Rattle.birdcore.specs.declared.operation.Op.TheVariants.{SessionUp, Add, Del}
 use Rattle.birdcore.specs.declared.script.Line.{Line}
 use Rattle.birdcore.specs.declared.script.Line.TheVariants.{Apply, Show}
 use Rattle.birdcore.specs.declared.report.LogItem.{LogItem}
@@ -69,6 +69,10 @@ imported_route config id given = record { src = record { num = 0; def_med = 0; d
 abbrev pub imported : Config → ℕ → Net → Given → Change
 imported config id net given = record { net = net; num = 0; new = Some (imported_route config id given) }
 
+-- the change that a `del` gives
+abbrev pub withdrawn : Net → Change
+withdrawn net = record { net = net; num = 0; new = None }
+
 -- the history goes on by the change, unless the key's route is this one already
 pub record GoesOn (old : List Change) (c : Change) (new : List Change) : Type 0 where
   pub same : after empty old c.net c.num ≡ c.new → new ≡ old
@@ -79,14 +83,15 @@ abbrev pub opened : Option ℕ → ℕ → State → State
 opened None id s = record s { session = Some id; log = s.log ++ Up (length s.history) ∷ [] }
 opened (Some up) id s = s
 
--- An `add` acts in a session that is up alone.
-abbrev pub Adds : Config → Option ℕ → Net → Given → State → State → Type 0
-Adds config None net given s t = t ≡ s
-Adds config (Some id) net given s t = (history : List Change) × GoesOn s.history (imported config id net given) history × (t ≡ record s { history = history })
+-- An import acts in a session that is up alone, by the change that it gives with the session's router id.
+abbrev pub Imports : Option ℕ → (ℕ → Change) → State → State → Type 0
+Imports None change s t = t ≡ s
+Imports (Some id) change s t = (history : List Change) × GoesOn s.history (change id) history × (t ≡ record s { history = history })
 
 abbrev pub Acts : Config → Op → State → State → Type 0
 Acts config (SessionUp id) s t = t ≡ opened s.session id s
-Acts config (Add net given) s t = Adds config s.session net given s t
+Acts config (Add net given) s t = Imports s.session (λ id. imported config id net given) s t
+Acts config (Del net) s t = Imports s.session (λ id. withdrawn net) s t
 
 -- the name of the one table that has routes
 abbrev pub main_table : List ℕ

@@ -1,15 +1,16 @@
 -- What a script of the one form says: each line one operation of the protocol, or a question.
-use Rattle.std.specs.Prelude.{◌≡◌, ℕ, ◌+◌, ◌^◌, ◌<◌, ◌≤◌, List, [], ◌∷◌, ◌++◌, length, map, codes, None, ⊤}
+use Rattle.std.specs.Prelude.{◌≡◌, ℕ, ◌+◌, ◌^◌, ◌<◌, ◌≤◌, ◌⊎◌, Bool, true, false, not, List, [], ◌∷◌, ◌++◌, length, map, filter, codes, Option, None, Some, ⊤}
 use Rattle.bits_ip.specs.Address.{family_of}
 use Rattle.bits_ip.specs.Prefix.{Net}
 use Rattle.bits_ip.specs.Text.{IsAddrText, IsNetText, v4_text}
 use Rattle.bits_ip.specs.declared.address.Family.TheVariants as families
+use Rattle.attrs.specs.Clist.{same_pair}
 use Rattle.attrs.specs.Text.{origin_text}
 use Rattle.birdcore.specs.declared.operation.Given.{Given}
-use Rattle.birdcore.specs.declared.operation.Op.TheVariants.{SessionUp, Add}
+use Rattle.birdcore.specs.declared.operation.Op.TheVariants.{SessionUp, Add, Del}
 use Rattle.birdcore.specs.declared.script.Line.{Line}
 use Rattle.birdcore.specs.declared.script.Line.TheVariants.{Apply, Show}
-use Rattle.birdcore.specs.Lines.{lines_of, words_of, IsNumber}
+use Rattle.birdcore.specs.Lines.{lines_of, words_of, begins_with, IsNumber}
 
 -- the word that names who acts
 abbrev pub actor_word : List ℕ → List ℕ
@@ -21,27 +22,79 @@ AreNumbers [] [] = ⊤
 AreNumbers (word ∷ words) (n ∷ numbers) = IsNumber word n × AreNumbers words numbers
 AreNumbers _ _ = ⊥
 
--- NET via IP path NUMBERS origin ORIGIN, of IPv4
+-- an optional part of `add`: nothing, or its label and a number
+abbrev pub IsOption : List ℕ → List (List ℕ) → Option ℕ → Type 0
+IsOption label words None = words ≡ []
+IsOption label words (Some n) = (word : List ℕ) × (words ≡ label ∷ word ∷ []) × IsNumber word n
+
+-- A:B, two numbers of sixteen bits
+pub record IsCommunity (word : List ℕ) (pair : ℕ × ℕ) : Type 0 where
+  pub left : List ℕ
+  pub right : List ℕ
+  pub whole : word ≡ left ++ 58 ∷ right
+  pub left_is : IsNumber left pair.0
+  pub right_is : IsNumber right pair.1
+  pub left_fits : pair.0 < 2 ^ 16
+  pub right_fits : pair.1 < 2 ^ 16
+
+-- these words spell these communities, one each
+abbrev pub AreCommunities : List (List ℕ) → List (ℕ × ℕ) → Type 0
+AreCommunities [] [] = ⊤
+AreCommunities (word ∷ words) (pair ∷ pairs) = IsCommunity word pair × AreCommunities words pairs
+AreCommunities _ _ = ⊥
+
+-- each pair once, in its first place
+abbrev pub each_once : List (ℕ × ℕ) → List (ℕ × ℕ)
+each_once [] = []
+each_once (pair ∷ pairs) = pair ∷ filter (λ other. not (same_pair pair other)) (each_once pairs)
+
+-- `com` and one community or more, of which at most 64 are different; a repeated one counts once
+pub record IsComGiven (words : List (List ℕ)) (coms : List (ℕ × ℕ)) : Type 0 where
+  pub first : List ℕ
+  pub more : List (List ℕ)
+  pub pairs : List (ℕ × ℕ)
+  pub whole : words ≡ codes "com" ∷ first ∷ more
+  pub pairs_are : AreCommunities (first ∷ more) pairs
+  pub once : coms ≡ each_once pairs
+  pub few : length coms ≤ 64
+
+-- the communities of an `add`: nothing, or `com` and communities
+abbrev pub IsCom : List (List ℕ) → List (ℕ × ℕ) → Type 0
+IsCom words coms = ((words ≡ []) × (coms ≡ [])) ⊎ IsComGiven words coms
+
+-- NET via IP path NUMBERS origin ORIGIN, of IPv4, and the optional parts in their order
 pub record IsAdd (words : List (List ℕ)) (net : Net) (given : Given) : Type 0 where
   pub net_word : List ℕ
   pub gateway_word : List ℕ
   pub path_words : List (List ℕ)
-  pub whole : words ≡ net_word ∷ codes "via" ∷ gateway_word ∷ codes "path" ∷ path_words ++ codes "origin" ∷ origin_text given.origin ∷ []
+  pub med_words : List (List ℕ)
+  pub lp_words : List (List ℕ)
+  pub igp_words : List (List ℕ)
+  pub com_words : List (List ℕ)
+  pub whole : words ≡ net_word ∷ codes "via" ∷ gateway_word ∷ codes "path" ∷ path_words ++ codes "origin" ∷ origin_text given.origin ∷ med_words ++ lp_words ++ igp_words ++ com_words
   pub net_is : IsNetText net_word net
   pub net_family : family_of net.addr ≡ families.V4
   pub gateway_is : IsAddrText gateway_word given.gw
   pub gateway_family : family_of given.gw ≡ families.V4
   pub path_is : AreNumbers path_words given.path
   pub path_short : length given.path ≤ 120
-  pub no_med : given.med ≡ None
-  pub no_lp : given.lp ≡ None
-  pub no_igp : given.igp ≡ None
-  pub no_coms : given.coms ≡ []
+  pub med_is : IsOption (codes "med") med_words given.med
+  pub lp_is : IsOption (codes "lp") lp_words given.lp
+  pub igp_is : IsOption (codes "igp") igp_words given.igp
+  pub com_is : IsCom com_words given.coms
 
--- The words of a line of the protocol of this name: @NAME open ID, @NAME add .., @NAME show route.
+-- a net of IPv4 alone
+pub record IsDel (words : List (List ℕ)) (net : Net) : Type 0 where
+  pub word : List ℕ
+  pub whole : words ≡ word ∷ []
+  pub net_is : IsNetText word net
+  pub family : family_of net.addr ≡ families.V4
+
+-- The words of a line of the protocol of this name: @NAME open ID, @NAME add .., @NAME del NET, @NAME show route.
 abbrev pub IsLine : List ℕ → List (List ℕ) → Line → Type 0
 IsLine name words (Apply (SessionUp id)) = (words ≡ actor_word name ∷ codes "open" ∷ v4_text id ∷ []) × (id < 2 ^ 32)
 IsLine name words (Apply (Add net given)) = (rest : List (List ℕ)) × (words ≡ actor_word name ∷ codes "add" ∷ rest) × IsAdd rest net given
+IsLine name words (Apply (Del net)) = (rest : List (List ℕ)) × (words ≡ actor_word name ∷ codes "del" ∷ rest) × IsDel rest net
 IsLine name words Show = words ≡ actor_word name ∷ codes "show" ∷ codes "route" ∷ []
 
 -- each of these lines, given by its words, says what stands in its place in the list
@@ -54,25 +107,36 @@ AreLines name _ _ = ⊥
 abbrev pub lines_words : List ℕ → List (List (List ℕ))
 lines_words text = map words_of (lines_of text)
 
+-- A line without words, and one whose first word begins with `#`, is passed over.
+abbrev pub is_passed : List (List ℕ) → Bool
+is_passed [] = true
+is_passed (word ∷ words) = begins_with 35 word
+
+-- the lines that aren't passed over
+abbrev pub without_comments : List (List (List ℕ)) → List (List (List ℕ))
+without_comments lines = filter (λ words. not (is_passed words)) lines
+
 -- the text is a script of the protocol of this name, and says this
 abbrev pub IsScript : List ℕ → List ℕ → List Line → Type 0
-IsScript name text lines = AreLines name (lines_words text) lines
+IsScript name text lines = AreLines name (without_comments (lines_words text)) lines
 
--- the number of the first line that isn't of the form, counted from 1
+-- The number of the first line that isn't of the form. All lines are counted, from 1, those passed over too.
 pub record IsBadLine (name text : List ℕ) (number : ℕ) : Type 0 where
   pub front : List (List (List ℕ))
   pub bad : List (List ℕ)
   pub rest : List (List (List ℕ))
   pub lines : List Line
   pub whole : lines_words text ≡ front ++ bad ∷ rest
-  pub front_is : AreLines name front lines
+  pub front_is : AreLines name (without_comments front) lines
   pub bad_is : (line : Line) → IsLine name bad line → ⊥
+  pub bad_counts : is_passed bad ≡ false
   pub number_is : number ≡ length front + 1
 
 -- the line names no net but IPv4 ones
 abbrev pub IsOfV4 : Line → Type 0
 IsOfV4 (Apply (SessionUp id)) = ⊤
 IsOfV4 (Apply (Add net given)) = family_of net.addr ≡ families.V4
+IsOfV4 (Apply (Del net)) = family_of net.addr ≡ families.V4
 IsOfV4 Show = ⊤
 
 abbrev pub AreOfV4 : List Line → Type 0

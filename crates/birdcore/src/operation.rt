@@ -21,4 +21,6 @@ pub enum Op {
     SessionUp(u32),
     /// The neighbour announces a route of this net.
     Add(Prefix, Given),
+    /// The neighbour withdraws its route of this net.
+    Del(Prefix),
 }

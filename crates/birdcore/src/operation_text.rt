@@ -18,6 +18,7 @@ pub fn write_op(alloc: Global, op: &Op, out: &mut Vec<u8>) -> Result<(), OutOfMe
     match op {
         Op::SessionUp(id) => write_open(alloc, *id, out),
         Op::Add(net, given) => write_add(alloc, net, given, out),
+        Op::Del(net) => write_del(alloc, net, out),
     }
 }
 
@@ -26,6 +27,13 @@ fn write_open(alloc: Global, id: u32, out: &mut Vec<u8>) -> Result<(), OutOfMemo
 {
     out.extend_from_slice(b"open ")?;
     write_addr(alloc, &Addr::V4(id), out)
+}
+
+fn write_del(alloc: Global, net: &Prefix, out: &mut Vec<u8>) -> Result<(), OutOfMemory>
+    ensures { OnOk result (out.new.items ≡ out.old.items ++ codes "del " ++ net_text net.now) }
+{
+    out.extend_from_slice(b"del ")?;
+    write_prefix(alloc, net, out)
 }
 
 fn write_add(

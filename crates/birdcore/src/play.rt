@@ -3,7 +3,7 @@ ghost use Rattle.bits_ip.specs.Address.{family_of};
 ghost use Rattle.bits_ip.specs.declared.address.Family.TheVariants as families;
 ghost use Rattle.attrs.specs.History.{after, empty};
 ghost use Rattle.attrs.specs.declared.route.Change.{Change};
-ghost use Rattle.birdcore.specs.Play.{start, imported, imported_attrs, imported_route, GoesOn, opened, Adds, Acts, Steps, IsPhase, phase_of, main_table, replied, is_external, local_preference, mode_of, sent_in, Reports};
+ghost use Rattle.birdcore.specs.Play.{start, imported, imported_attrs, imported_route, withdrawn, GoesOn, opened, Imports, Acts, Steps, IsPhase, phase_of, main_table, replied, is_external, local_preference, mode_of, sent_in, Reports};
 ghost use Rattle.birdcore.specs.Run.{state_of, IsRun};
 ghost use Rattle.birdcore.specs.Script.{IsOfV4, AreOfV4};
 
@@ -91,6 +91,7 @@ impl Run {
         match op {
             Op::SessionUp(id) => self.open(*id),
             Op::Add(net, given) => self.add(config, net, given),
+            Op::Del(net) => self.del(net),
         }
     }
 
@@ -110,7 +111,7 @@ impl Run {
     fn add(&mut self, config: &Config, net: &Prefix, given: &Given) -> Result<(), OutOfMemory>
         requires is { IsRun self.old }
         requires v4 { family_of net.now.addr ≡ families.V4 }
-        ensures added { OnOk result (Adds config.now self.old.session net.now given.now (state_of self.old) (state_of self.new)) }
+        ensures added { OnOk result (Imports self.old.session (λ id. imported config.now id net.now given.now) (state_of self.old) (state_of self.new)) }
         ensures is { OnOk result (IsRun self.new) }
     {
         match self.session {
@@ -118,6 +119,23 @@ impl Run {
                 let change = import(config, id, net, given)?;
                 self.announce(change)
             }
+            None => Ok(()),
+        }
+    }
+
+    /// Withdraws a net where the session is up.
+    fn del(&mut self, net: &Prefix) -> Result<(), OutOfMemory>
+        requires is { IsRun self.old }
+        requires v4 { family_of net.now.addr ≡ families.V4 }
+        ensures deleted { OnOk result (Imports self.old.session (λ id. withdrawn net.now) (state_of self.old) (state_of self.new)) }
+        ensures is { OnOk result (IsRun self.new) }
+    {
+        match self.session {
+            Some(_) => self.announce(Change {
+                net: *net,
+                num: 0,
+                new: None,
+            }),
             None => Ok(()),
         }
     }
