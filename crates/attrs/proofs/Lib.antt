@@ -1,4 +1,5 @@
 pub mod Same
+pub mod Distinct
 pub mod Histories
 pub mod Nets
 pub mod Rows

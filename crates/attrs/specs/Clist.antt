@@ -1,10 +1,14 @@
 -- Lists of communities.
 use Rattle.std.specs.Prelude.{◌≤◌, ◌==◌, ◌&&◌, ℕ, Bool, List, length}
-use Rattle.std.specs.List.{IsDistinct}
+use Rattle.std.specs.List.{IsDistinct, list_any}
 
 -- the same community
 abbrev pub same_pair : ℕ × ℕ → ℕ × ℕ → Bool
 same_pair p q = (p.0 == q.0) && (p.1 == q.1)
+
+-- the community is in the list
+abbrev pub has_pair : List (ℕ × ℕ) → ℕ × ℕ → Bool
+has_pair pairs pair = list_any (λ p. same_pair p pair) pairs
 
 -- at most 64 pairs, no two the same
 pub record IsClist (pairs : List (ℕ × ℕ)) : Type 0 where

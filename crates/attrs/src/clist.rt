@@ -1,8 +1,33 @@
-ghost use Rattle.std.specs.Prelude.{◌≡◌, ◌==◌, [], length, IfOk};
+ghost use Rattle.std.specs.Prelude.{◌≡◌, ◌≤◌, ◌==◌, ◌↔◌, ◌++◌, [], ◌∷◌, length, Err, IsTrue, IsFalse, IsOk, IfOk, OnOk, OnErr};
+ghost use Rattle.attrs.specs.declared.clist.ClistFault.TheVariants.{Memory};
+ghost use Rattle.attrs.specs.Clist.{has_pair};
 
 use bits_ip::OutOfMemory;
-use std::alloc::Global;
+use std::alloc::{AllocFailed, Global};
 use std::marker::Model;
+use thiserror::Error;
+
+/// Why a community wasn't added to a list.
+#[derive(Clone, Copy, Debug, PartialEq, Eq, Drop, Error)]
+pub enum ClistFault {
+    /// The list has 64 communities already.
+    #[error("too many communities")]
+    ClistLong,
+    /// Memory was wanted and not given.
+    #[error("out of memory")]
+    Memory,
+}
+
+impl<T: Drop> From<AllocFailed<T>> for ClistFault {
+    ghost from_gives = { λ _ fault. fault ≡ Memory };
+
+    fn from(_: AllocFailed<T>) -> Self {
+        ClistFault::Memory
+    }
+}
+
+/// The most communities of a list.
+const MAX_LEN: usize = 64;
 
 /// Communities (RFC 1997): different pairs in order. There are at most 64.
 #[derive(Debug, Drop)]
@@ -47,6 +72,25 @@ impl Clist {
         ensures { result ≡ (length self.now == 0) }
     {
         self.pairs.is_empty()
+    }
+
+    /// Puts a community behind the others, if it isn't there yet. Its two parts are the number of the autonomous system that gave it and that system's value (RFC 1997). `ClistLong` comes exactly for a new community at the limit of 64, which is this project's own; `Memory` only for a new one below it.
+    pub fn add(&mut self, system: u16, value: u16) -> Result<(), ClistFault>
+        ensures there { IsTrue (has_pair self.old (system, value)) → IsOk result × (self.new ≡ self.old) }
+        ensures new { IsFalse (has_pair self.old (system, value)) → OnOk result (self.new ≡ self.old ++ (system, value) ∷ []) }
+        ensures long { (result ≡ Err ClistFault.ClistLong) ↔ (IsFalse (has_pair self.old (system, value)) × (length self.old ≡ 64)) }
+        ensures bound { length self.old ≤ 64 }
+        ensures refused { OnErr result (self.new ≡ self.old) }
+    {
+        let pair = (system, value);
+        if self.pairs.contains(&pair) {
+            return Ok(());
+        }
+        if self.pairs.len() >= MAX_LEN {
+            return Err(ClistFault::ClistLong);
+        }
+        self.pairs.push(pair)?;
+        Ok(())
     }
 
     /// A copy, equal to the original.

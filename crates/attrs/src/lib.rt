@@ -12,8 +12,8 @@ mod tests;
 mod text;
 
 pub use attributes::{Attrs, Dest, Kind, Origin};
-pub use clist::Clist;
-pub use path::Path;
+pub use clist::{Clist, ClistFault};
+pub use path::{Path, PathFault};
 pub use route::{Change, Route, Row, Select, Src};
 pub use seq::Seq;
 pub use text::attr_text;

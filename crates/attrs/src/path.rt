@@ -1,8 +1,32 @@
-ghost use Rattle.std.specs.Prelude.{◌≡◌, ◌≤◌, ◌==◌, [], length, IfOk};
+ghost use Rattle.std.specs.Prelude.{◌≡◌, ◌≤◌, ◌==◌, ◌↔◌, [], ◌∷◌, length, Err, IfOk, OnOk, OnErr};
+ghost use Rattle.attrs.specs.declared.path.PathFault.TheVariants.{Memory};
 
 use bits_ip::OutOfMemory;
-use std::alloc::Global;
+use std::alloc::{AllocFailed, Global};
 use std::marker::Model;
+use thiserror::Error;
+
+/// Why a number wasn't put into a path.
+#[derive(Clone, Copy, Debug, PartialEq, Eq, Drop, Error)]
+pub enum PathFault {
+    /// The path has 120 numbers already.
+    #[error("path too long")]
+    PathLong,
+    /// Memory was wanted and not given.
+    #[error("out of memory")]
+    Memory,
+}
+
+impl<T: Drop> From<AllocFailed<T>> for PathFault {
+    ghost from_gives = { λ _ fault. fault ≡ Memory };
+
+    fn from(_: AllocFailed<T>) -> Self {
+        PathFault::Memory
+    }
+}
+
+/// The most numbers of a path.
+const MAX_LEN: usize = 120;
 
 /// An AS path: the numbers of autonomous systems, the nearest first. It has at most 120.
 #[derive(Debug, Drop)]
@@ -63,6 +87,20 @@ impl Path {
         ensures { result ≡ (length self.now == 0) }
     {
         self.numbers.is_empty()
+    }
+
+    /// Puts a number before the others, as the autonomous system through which the route is sent on does (RFC 4271, sections 5.1.2 and 9.1). `PathLong` comes exactly at the limit of 120 numbers, which is this project's own; `Memory` only below it.
+    pub fn prepend(&mut self, number: u32) -> Result<(), PathFault>
+        ensures prepended { OnOk result (self.new ≡ number ∷ self.old) }
+        ensures long { (result ≡ Err PathFault.PathLong) ↔ (length self.old ≡ 120) }
+        ensures bound { length self.old ≤ 120 }
+        ensures refused { OnErr result (self.new ≡ self.old) }
+    {
+        if self.numbers.len() >= MAX_LEN {
+            return Err(PathFault::PathLong);
+        }
+        self.numbers.insert(0, number)?;
+        Ok(())
     }
 
     /// A copy, equal to the original.

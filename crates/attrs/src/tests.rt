@@ -165,3 +165,52 @@ fn lists_are_made_and_given_back(rt: HostRuntime) -> Result<(), Fail> {
     assert!(rt; Clist::new(alloc).as_slice().is_empty());
     Ok(())
 }
+
+#[test]
+fn a_path_grows_at_its_front(rt: HostRuntime) -> Result<(), Fail> {
+    let alloc = rt.alloc();
+    let mut path = path(alloc, &[65001, 65002])?;
+    path.prepend(65000)?;
+    assert_eq!(rt; path.as_slice(), [65000, 65001, 65002].as_slice());
+    for number in 3..120 {
+        path.prepend(number)?;
+    }
+    let before = path.copy()?;
+    assert_eq!(rt; path.prepend(1), Err(PathFault::PathLong));
+    assert_eq!(rt; path.len(), 120);
+    assert!(rt; path == before);
+    Ok(())
+}
+
+#[test]
+fn a_list_takes_each_community_once(rt: HostRuntime) -> Result<(), Fail> {
+    let alloc = rt.alloc();
+    let mut communities = Clist::new(alloc);
+    communities.add(65000, 2)?;
+    communities.add(65000, 1)?;
+    communities.add(65000, 2)?;
+    let want = [(65000, 2), (65000, 1)];
+    assert_eq!(rt; communities.as_slice(), want.as_slice());
+    for value in 3..65 {
+        communities.add(65000, value)?;
+    }
+    let before = communities.copy()?;
+    assert_eq!(rt; communities.add(65001, 1), Err(ClistFault::ClistLong));
+    assert_eq!(rt; communities.add(65000, 64), Ok(()));
+    assert_eq!(rt; communities.len(), 64);
+    assert!(rt; communities == before);
+    Ok(())
+}
+
+#[test]
+fn communities_are_written(rt: HostRuntime) -> Result<(), Fail> {
+    let alloc = rt.alloc();
+    let mut attrs = configured(alloc);
+    attrs.coms.add(65000, 1)?;
+    attrs.coms.add(0, 65535)?;
+    assert_eq!(rt;
+        text(alloc, &attrs)?.as_slice(),
+        "pref 200 static blackhole com 65000:1 0:65535".as_bytes()
+    );
+    Ok(())
+}
