@@ -137,7 +137,10 @@ fn origin(word: &str) -> Origin {
 
 fn community(word: &str) -> (u16, u16) {
     let (system, value) = word.split_once(':').expect("a community");
-    (system.parse().expect("a number"), value.parse().expect("a number"))
+    (
+        system.parse().expect("a number"),
+        value.parse().expect("a number"),
+    )
 }
 
 /// NET via IP path NUMBERS.. origin ORIGIN [med N] [lp N] [igp N] [com A:B ..]
@@ -146,7 +149,11 @@ fn read_add<'a>(mut words: impl Iterator<Item = &'a str>) -> Op {
     assert_eq!(words.next(), Some("via"));
     let gw = address(words.next().expect("a gateway"));
     assert_eq!(words.next(), Some("path"));
-    let path = words.by_ref().take_while(|word| *word != "origin").map(number).collect();
+    let path = words
+        .by_ref()
+        .take_while(|word| *word != "origin")
+        .map(number)
+        .collect();
     let mut given = Given {
         gw,
         path,
@@ -248,14 +255,23 @@ impl Run {
             for (place, route) in kept.routes.iter().enumerate() {
                 let star = if place == 0 { " *" } else { "" };
                 let attrs = &route.attrs;
-                let system = attrs.path.last().map(|n| format!("AS{n}")).unwrap_or_default();
+                let system = attrs
+                    .path
+                    .last()
+                    .map(|n| format!("AS{n}"))
+                    .unwrap_or_default();
                 let letter = match attrs.origin {
                     Some(Origin::Igp) => 'i',
                     Some(Origin::Egp) => 'e',
                     _ => '?',
                 };
                 write_net(&kept.net, &mut out);
-                write!(out, " unicast [{}]{star} ({}) [{system}{letter}]", config.name, attrs.pref).unwrap();
+                write!(
+                    out,
+                    " unicast [{}]{star} ({}) [{system}{letter}]",
+                    config.name, attrs.pref
+                )
+                .unwrap();
                 out.push(b'\n');
                 if let Some(gw) = attrs.gw {
                     writeln!(out, "\tvia {gw}").unwrap();
@@ -425,7 +441,12 @@ fn write_state(config: &Config, run: &Run, out: &mut Vec<u8>) {
         Some(_) => ("up", "0"),
         None => ("idle", "down"),
     };
-    write!(out, "\tprotocol {} {mode} {routes}\n\texport {} {sent}\nend\n", config.name, config.name).unwrap();
+    write!(
+        out,
+        "\tprotocol {} {mode} {routes}\n\texport {} {sent}\nend\n",
+        config.name, config.name
+    )
+    .unwrap();
 }
 
 fn main() -> io::Result<()> {

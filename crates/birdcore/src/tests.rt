@@ -244,6 +244,7 @@ fn a_slow_sink_gets_the_report_up_to_its_fault(rt: HostRuntime) -> Result<(), Fa
 }
 
 /// Takes nothing, which is a fault.
+#[derive(Drop)]
 struct Stuck {
     faults: u64,
 }
