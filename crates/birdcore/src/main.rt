@@ -24,6 +24,8 @@ mod status;
 #[cfg(test)]
 mod tests;
 #[cfg(test)]
+mod tests_play;
+#[cfg(test)]
 mod tests_read;
 #[cfg(test)]
 mod tests_report;

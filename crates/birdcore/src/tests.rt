@@ -1,5 +1,6 @@
-ghost use Rattle.std.specs.Prelude.{Some};
+ghost use Rattle.std.specs.Prelude.{[], Some};
 
+use crate::laws::play_surely;
 use crate::status::Status;
 use crate::top::top;
 use outside_io::{Failed, MemFile, MemShelf, MemSink, OpenGate, Sink, SureShelf, SureSink};
@@ -159,21 +160,29 @@ fn what_is_not_of_the_forms_is_not_built(rt: HostRuntime) -> Result<(), Fail> {
     Ok(())
 }
 
+/// The status of the worked run over a shelf whose call of this number fails, what it wrote, and how often the shelf was
+/// called.
+fn played_with_a_fault(rt: &HostRuntime, call: u64) -> Result<(Status, Vec<u8>, u64), Fail> {
+    let alloc = rt.alloc();
+    let words = words(alloc, &["play", "conf", "script"])?;
+    let mut shelf = MemShelf::new(alloc, files(alloc, CONF, SCRIPT)?);
+    shelf.failing.push(call)?;
+    let mut sink = MemSink::new(alloc);
+    let status = top(rt, alloc, &words, &mut shelf, &mut sink, &OpenGate);
+    Ok((status, sink.bytes, shelf.calls))
+}
+
 #[test]
 fn each_read_can_fail(rt: HostRuntime) -> Result<(), Fail> {
-    let alloc = rt.alloc();
-    for call in 1..6 {
-        let words = words(alloc, &["play", "conf", "script"])?;
-        let mut shelf = MemShelf::new(alloc, files(alloc, CONF, SCRIPT)?);
-        shelf.failing.push(call)?;
-        let mut sink = MemSink::new(alloc);
-        let status = top(&rt, alloc, &words, &mut shelf, &mut sink, &OpenGate);
-        let want = if call < 5 {
-            Status::ReadFault
-        } else {
-            Status::Ok
-        };
-        assert_eq!(rt; status, want, "at {call}");
+    let (status, text, calls) = played_with_a_fault(&rt, 0)?;
+    assert_eq!(rt; status, Status::Ok);
+    assert_eq!(rt; text.as_slice(), REPORT.as_bytes());
+    // Each of the two files takes a read at least.
+    assert!(rt; calls >= 2);
+    for call in 1..calls + 1 {
+        let (status, text, _) = played_with_a_fault(&rt, call)?;
+        assert_eq!(rt; status, Status::ReadFault, "at {call}");
+        assert_eq!(rt; text.len(), 0);
     }
     Ok(())
 }
@@ -206,29 +215,71 @@ impl Sink for Slow {
     }
 }
 
+/// The status of the worked run into a slow sink whose call of this number fails, and what it took.
+fn written_slowly(rt: &HostRuntime, call: u64) -> Result<(Status, Vec<u8>), Fail> {
+    let alloc = rt.alloc();
+    let words = words(alloc, &["play", "conf", "script"])?;
+    let mut shelf = SureShelf {
+        files: files(alloc, CONF, SCRIPT)?,
+    };
+    let mut sink = MemSink::new(alloc);
+    sink.failing.push(call)?;
+    let mut slow = Slow { sink };
+    let status = top(rt, alloc, &words, &mut shelf, &mut slow, &OpenGate);
+    let Slow { sink } = slow;
+    Ok((status, sink.bytes))
+}
+
 #[test]
 fn a_slow_sink_gets_the_report_up_to_its_fault(rt: HostRuntime) -> Result<(), Fail> {
-    let alloc = rt.alloc();
-    for call in [1, 2, 17, REPORT.len() as u64, REPORT.len() as u64 + 1] {
-        let words = words(alloc, &["play", "conf", "script"])?;
-        let mut shelf = SureShelf {
-            files: files(alloc, CONF, SCRIPT)?,
-        };
-        let mut sink = MemSink::new(alloc);
-        sink.failing.push(call)?;
-        let mut slow = Slow { sink };
-        let status = top(&rt, alloc, &words, &mut shelf, &mut slow, &OpenGate);
-        let taken = (call as usize - 1).min(REPORT.len());
-        let want = if taken < REPORT.len() {
-            Status::WriteFault
-        } else {
-            Status::Ok
-        };
-        assert_eq!(rt; status, want, "at {call}");
-        assert_eq!(rt; slow.sink.bytes.as_slice(), &REPORT.as_bytes()[..taken]);
-        let Slow { sink } = slow;
-        drop(sink);
+    for taken in 0..REPORT.len() {
+        let (status, text) = written_slowly(&rt, taken as u64 + 1)?;
+        assert_eq!(rt; status, Status::WriteFault, "behind {taken}");
+        assert_eq!(rt; text.as_slice(), &REPORT.as_bytes()[..taken]);
     }
+    let (status, text) = written_slowly(&rt, REPORT.len() as u64 + 1)?;
+    assert_eq!(rt; status, Status::Ok);
+    assert_eq!(rt; text.as_slice(), REPORT.as_bytes());
+    Ok(())
+}
+
+/// Takes nothing, which is a fault.
+#[derive(Drop)]
+struct Stuck {
+    faults: u64,
+}
+
+impl Sink for Stuck {
+    ghost contents = { λ s. Some [] };
+
+    ghost faults = { λ s. s.faults };
+
+    fn write(&mut self, _piece: &[u8]) -> Result<usize, Failed> {
+        self.faults = self.faults.saturating_add(1);
+        Ok(0)
+    }
+}
+
+#[test]
+fn a_sink_that_takes_nothing_is_a_write_fault(rt: HostRuntime) -> Result<(), Fail> {
+    let alloc = rt.alloc();
+    let words = words(alloc, &["play", "conf", "script"])?;
+    let mut shelf = MemShelf::new(alloc, files(alloc, CONF, SCRIPT)?);
+    let mut stuck = Stuck { faults: 0 };
+    let status = top(&rt, alloc, &words, &mut shelf, &mut stuck, &OpenGate);
+    assert_eq!(rt; status, Status::WriteFault);
+    assert_eq!(rt; stuck.faults, 1);
+    Ok(())
+}
+
+#[test]
+fn the_worked_run_over_what_never_fails_is_done(rt: HostRuntime) -> Result<(), Fail> {
+    let alloc = rt.alloc();
+    let words = words(alloc, &["play", "conf", "script"])?;
+    let mut shelf = SureShelf {
+        files: files(alloc, CONF, SCRIPT)?,
+    };
+    assert_eq!(rt; play_surely(alloc, &words, &mut shelf), Status::Ok);
     Ok(())
 }
 
