@@ -1,6 +1,5 @@
-ghost use Rattle.std.specs.Prelude.{◌≡◌, ◌+◌, ◌*◌, ◌-◌, ◌<◌, ◌≤◌, ◌^◌, ℕ, ◌↔◌, IsTrue, length, slice_index, MatchOption};
+ghost use Rattle.std.specs.Prelude.{◌≡◌, ◌+◌, ◌*◌, ◌-◌, ◌<◌, ◌≤◌, ◌^◌, ℕ, ◌==◌, ◌↔◌, IsTrue, length, slice_index, MatchOption};
 ghost use Rattle.std.specs.List.{slice_split};
-ghost use Rattle.std.specs.Prelude.{◌==◌};
 ghost use Rattle.bits_ip.specs.Parts.{group_words, values, AreWords, AreBeside, IsRow};
 ghost use Rattle.bits_ip.specs.Text.{groups, IsGroup, IsV6Text, IsWhole};
 
