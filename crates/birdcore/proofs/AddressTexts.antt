@@ -10,6 +10,7 @@ use Rattle.std.proofs.lemmas.Fmt.{decimal_is_IsNumeral}
 use Rattle.std.proofs.lemmas.List.{append-nil}
 use Rattle.std.proofs.lemmas.List.Folds.{list_all-append}
 use Rattle.std.proofs.lemmas.Str.Parse.{digit_from_value}
+use Rattle.bits_ip.proofs.Nets.{addr_spelling_run, net_spelling_run}
 use Rattle.bits_ip.specs.Address.{family_of}
 use Rattle.bits_ip.specs.Prefix.{Net, IsPrefix}
 use Rattle.bits_ip.specs.Text.{v4_text, is_addr_byte, is_net_byte, addr_run, net_run, IsAddrText, IsNetText}
@@ -44,38 +45,16 @@ v4_all p takes dot n small =
     let d : list_all p (decimal (n % 256)) ≡ true = decimal_all p takes (n % 256) (omega arith) in
     joined_all p _ _ (joined_all p _ _ (joined_all p _ _ (joined_all p _ _ (joined_all p _ _ (joined_all p _ _ a point) b) point) c) point) d
 
-addr_takes_digits : TakesDigits is_addr_byte
-addr_takes_digits c range = grind (arith, nat_tests)
-
-net_takes_digits : TakesDigits is_net_byte
-net_takes_digits c range = or_left (is_addr_byte c) _ (addr_takes_digits c range)
-
 -- The whole of a spelling is a run of address bytes.
 pub addr_run_whole : (word : List ℕ) (addr : Addr) → IsAddrText word addr → addr_run word ≡ word
-addr_run_whole word (V4 n) is = run_of_all is_addr_byte word (ap (list_all is_addr_byte) is.1 ∙ v4_all is_addr_byte addr_takes_digits refl n is.0)
-addr_run_whole word (V6 n) is = absurd is
-
-front_all : (front : List ℕ) (addr : Addr) → IsAddrText front addr → list_all is_net_byte front ≡ true
-front_all front (V4 n) is = ap (list_all is_net_byte) is.1 ∙ v4_all is_net_byte net_takes_digits refl n is.0
-front_all front (V6 n) is = absurd is
-
-len_small : (addr : Addr) (len : ℕ) → IsPrefix addr len → len < 2 ^ 64
-len_small (V4 n) len is = omega (arith, is.within)
-len_small (V6 n) len is = omega (arith, is.within)
+addr_run_whole word addr is = ap addr_run (sym (append-nil word)) ∙ addr_spelling_run word [] addr is refl
 
 pub net_run_whole : (word : List ℕ) (net : Net) → IsNetText word net → net_run word ≡ word
-net_run_whole word net is =
-    let len : list_all is_net_byte (47 ∷ decimal net.len) ≡ true = decimal_all is_net_byte net_takes_digits net.len (len_small net.addr net.len is.prefix) in
-    run_of_all is_net_byte word (ap (list_all is_net_byte) is.whole ∙ joined_all is_net_byte is.front (47 ∷ decimal net.len) (front_all is.front net.addr is.addr) len)
+net_run_whole word net is = ap net_run (sym (append-nil word)) ∙ net_spelling_run word [] net is refl
 
--- What is spelled is of IPv4.
-pub addr_is_v4 : (word : List ℕ) (addr : Addr) → IsAddrText word addr → family_of addr ≡ families.V4
-addr_is_v4 word (V4 n) is = refl
-addr_is_v4 word (V6 n) is = absurd is
-
-pub v4_of_family : (word : List ℕ) (addr : Addr) → IsAddrText word addr → (n : ℕ) × (addr ≡ V4 n) × IsAddrText word (V4 n)
-v4_of_family word (V4 n) is = (n, refl, is)
-v4_of_family word (V6 n) is = absurd is
+pub v4_of_family : (word : List ℕ) (addr : Addr) → family_of addr ≡ families.V4 → IsAddrText word addr → (n : ℕ) × (addr ≡ V4 n) × IsAddrText word (V4 n)
+v4_of_family word (V4 n) family is = (n, refl, is)
+v4_of_family word (V6 n) family is = absurd cc
 
 pub refused_v4 : (word : List ℕ) (n : ℕ) → ((addr : Addr) → IsAddrText (addr_run word) addr → ⊥) → IsAddrText word (V4 n) → ⊥
 refused_v4 word n bad is =
@@ -92,6 +71,3 @@ refused_net word net bad is =
 
 pub other_length_net : (word : List ℕ) (net : Net) (len : ℕ) → len ≡ length (net_run word) → len ≢ length word → IsNetText word net → ⊥
 other_length_net word net len len_is other is = other (len_is ∙ ap length (net_run_whole word net is))
-
-pub net_is_v4 : (word : List ℕ) (net : Net) → IsNetText word net → family_of net.addr ≡ families.V4
-net_is_v4 word net is = addr_is_v4 is.front net.addr is.addr

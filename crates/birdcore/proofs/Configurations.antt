@@ -49,7 +49,7 @@ config_of text config name neighbor name_is neighbor_is is =
 
 pub parts_of_config : (text : List ℕ) (config : Config) → IsConfig text config → (neighbor : ℕ) × Spells (IsProtocol config.name config.local neighbor config.remote) text
 parts_of_config text config is =
-    let v4 = v4_of_family is.neighbor_word config.neighbor is.neighbor_is in (
+    let v4 = v4_of_family is.neighbor_word config.neighbor is.neighbor_family is.neighbor_is in (
       v4.0,
       record {
         tokens = config_tokens config.name is.local_word is.neighbor_word is.remote_word;

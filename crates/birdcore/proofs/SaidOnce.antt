@@ -66,7 +66,7 @@ config_tokens_are name local neighbor remote a b c d = rw (a, b, c, d) refl
 
 tokens_of : (text : List ℕ) (config : Config) → (is : IsConfig text config) → list_all is_token (config_tokens config.name is.local_word is.neighbor_word is.remote_word) ≡ true
 tokens_of text config is =
-    let v4 = v4_of_family is.neighbor_word config.neighbor is.neighbor_is in
+    let v4 = v4_of_family is.neighbor_word config.neighbor is.neighbor_family is.neighbor_is in
     config_tokens_are config.name is.local_word is.neighbor_word is.remote_word (name_is_token config.name config.name (refl, is.name_is))
     (number_is_token is.local_word config.local is.local_is) (address_is_token is.neighbor_word v4.0 v4.2) (number_is_token is.remote_word config.remote is.remote_is)
 
