@@ -58,7 +58,7 @@ impl Model for IntSet {
 }
 
 impl IntSet {
-    /// The set of these items. Takes no memory.
+    /// The set of these items, which it goes over once. Takes no memory.
     pub fn make(items: Vec<IntItem>) -> IntSet
         ensures { result ≡ items.items }
     {

@@ -30,7 +30,7 @@ impl PrefixItem {
     fn is_exact(&self) -> bool
         ensures { IsTrue result → IsExact self.now }
     {
-        // A net has no bits behind its length, so equal front bits are equal addresses.
+        // Asked for what the call ensures: the net has no bits behind its length.
         let _addr = self.net.addr();
         self.lo == self.net.len() && self.hi == self.net.len()
     }
@@ -59,7 +59,7 @@ impl Model for PrefixSet {
 }
 
 impl PrefixSet {
-    /// The set of these items. Takes no memory.
+    /// The set of these items, which it goes over once. Takes no memory.
     pub fn make(items: Vec<PrefixItem>) -> PrefixSet
         ensures { result ≡ items.items }
     {
@@ -109,6 +109,7 @@ fn has_in_order(items: &[PrefixItem], net: &Prefix) -> bool
     requires { AreExact items.now }
     ensures { IsTrue result ↔ Any (λ item. TakesNet item net.now) items.now }
 {
+    // As in `is_exact`.
     let _addr = net.addr();
     items.binary_search_by(|item| item.net.cmp(net)).is_ok()
 }

@@ -196,3 +196,27 @@ fn paths_past_127_numbers_are_answered(rt: HostRuntime) -> Result<(), Fail> {
     assert!(rt; !mask(alloc, &[asn(1), asn(1)])?.matches(&path));
     Ok(())
 }
+
+#[test]
+fn sets_in_order_are_searched(rt: HostRuntime) -> Result<(), Fail> {
+    let alloc = rt.alloc();
+    let numbers = IntSet::make([number(10, 20), number(30, 30), number(40, 49)].to_vec(alloc)?);
+    assert!(rt; numbers.has(10) && numbers.has(20) && numbers.has(30) && numbers.has(49));
+    assert!(rt; !numbers.has(9) && !numbers.has(21) && !numbers.has(39) && !numbers.has(50));
+    let mut items = Vec::new(alloc);
+    for net in [
+        v4([10, 0, 0, 0], 8)?,
+        v4([10, 0, 0, 0], 16)?,
+        v4([10, 1, 0, 0], 16)?,
+    ] {
+        items.push(PrefixItem {
+            net,
+            lo: net.len(),
+            hi: net.len(),
+        })?;
+    }
+    let nets = PrefixSet::make(items);
+    assert!(rt; nets.has(&v4([10, 0, 0, 0], 8)?) && nets.has(&v4([10, 1, 0, 0], 16)?));
+    assert!(rt; !nets.has(&v4([10, 0, 0, 0], 24)?) && !nets.has(&v4([10, 2, 0, 0], 16)?));
+    Ok(())
+}
