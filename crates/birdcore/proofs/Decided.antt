@@ -1,7 +1,8 @@
 -- What the files ask for leaves one answer: the outcomes exclude each other.
-use Rattle.std.proofs.Common.{◌≡◌, ℕ, ◌+◌, ◌<◌, ◌≤◌, List, [], ◌∷◌, ◌++◌, length, Option, Some, None, refl, sym, ◌∙◌, ap, subst, arith, ◌⊎◌, inl, inr}
+use Rattle.std.proofs.Common.{◌≡◌, true, false, ℕ, ◌+◌, ◌<◌, ◌≤◌, List, [], ◌∷◌, ◌++◌, length, Option, Some, None, refl, sym, ◌∙◌, ap, subst, arith, ◌⊎◌, inl, inr}
 use Rattle.std.specs.Prelude.{⊤, IfSome, IsSomeAnd}
 use Rattle.std.specs.String.{string_bytes}
+use Rattle.std.proofs.lemmas.Bool.{cases_Bool}
 use Rattle.std.specs.Io.KnownBytes.{Appends, Keeps}
 use Rattle.birdcore.specs.declared.config.Config.{Config}
 use Rattle.birdcore.specs.declared.script.Line.{Line}
@@ -9,12 +10,13 @@ use Rattle.birdcore.specs.declared.status.Status.{Status}
 use Rattle.birdcore.specs.declared.status.Status.TheVariants.{Usage, NotBuilt, ReadFault, WriteFault, OutOfMemory, TooLong}
 use Rattle.birdcore.specs.declared.status.Status.TheVariants as variants
 use Rattle.birdcore.specs.Config.{IsConfig}
-use Rattle.birdcore.specs.Script.{IsLine, AreLines, IsScript, IsBadLine, lines_words}
+use Rattle.birdcore.specs.Script.{IsLine, AreLines, IsScript, IsBadLine, is_passed, without_comments}
 use Rattle.birdcore.specs.Transfer.{limit}
 use Rattle.birdcore.specs.Words.{files_named}
 use Rattle.birdcore.specs.Outcome.{Outcome, Misused, OverLimit, OutOfForm, Played, Held, Accepts, IsAccepted, IsLong, IsNoConfig, FilesReport, FilesAsk, Asks, IfReport}
 use Rattle.birdcore.specs.Answer.{FilesRefuse, IsAnswered, Fits}
 use Rattle.birdcore.proofs.SaidOnce.{configurations_agree}
+use Rattle.birdcore.proofs.ScriptLines.{lines_passed, lines_counted, lines_joined}
 
 -- a line that is none isn't among lines
 line_at : (name : List ℕ) (front : List (List (List ℕ))) (bad : List (List ℕ)) (rest : List (List (List ℕ))) (lines : List Line) → AreLines name (front ++ bad ∷ rest) lines
@@ -24,29 +26,56 @@ line_at name [] bad rest (line ∷ lines) are = (line, are.0)
 line_at name (words ∷ front) bad rest [] are = absurd are
 line_at name (words ∷ front) bad rest (line ∷ lines) are = line_at name front bad rest lines are.1
 
+bad_stays : (front rest : List (List (List ℕ))) (bad : List (List ℕ)) → is_passed bad ≡ false → without_comments (front ++ bad ∷ rest) ≡ without_comments front ++ bad ∷ without_comments rest
+bad_stays front rest bad counts = lines_joined front (bad ∷ rest) ∙ ap (λ (l : List (List (List ℕ))). without_comments front ++ l) (lines_counted bad rest counts)
+
 script_or_bad : (name text : List ℕ) (lines : List Line) (number : ℕ) → IsScript name text lines → IsBadLine name text number → ⊥
 script_or_bad name text lines number script bad =
-    let found = line_at name bad.front bad.bad bad.rest lines (subst (λ (ws : List (List (List ℕ))). AreLines name ws lines) bad.whole script) in
+    let whole = ap without_comments bad.whole ∙ bad_stays bad.front bad.rest bad.bad bad.bad_counts in
+    let found = line_at name (without_comments bad.front) bad.bad (without_comments bad.rest) lines (subst (λ (ws : List (List (List ℕ))). AreLines name ws lines) whole script) in
     bad.bad_is found.0 found.1
 
+-- lines of the form begin with no line that isn't
+first_is : (name : List ℕ) (words : List (List ℕ)) (more : List (List (List ℕ))) (lines : List Line) → is_passed words ≡ false → AreLines name (without_comments (words ∷ more)) lines
+    → (line : Line) × IsLine name words line
+first_is name words more lines counts are =
+    let found = subst (λ (ws : List (List (List ℕ))). AreLines name ws lines) (lines_counted words more counts) are in
+    line_at name [] words (without_comments more) lines found
+
+-- the lines behind the first
+lines_behind : (name : List ℕ) (words : List (List ℕ)) (more : List (List (List ℕ))) (lines : List Line) → AreLines name (without_comments (words ∷ more)) lines
+    → (behind : List Line) × AreLines name (without_comments more) behind
+lines_behind name words more lines are = elim (cases_Bool (is_passed words)) [
+  | inl passed ↦ (lines, subst (λ (ws : List (List (List ℕ))). AreLines name ws lines) (lines_passed words more passed) are)
+  | inr counts ↦ all_but_one name words (without_comments more) lines (subst (λ (ws : List (List (List ℕ))). AreLines name ws lines) (lines_counted words more counts) are)
+]
+  where
+    all_but_one : (name : List ℕ) (words : List (List ℕ)) (more : List (List (List ℕ))) (lines : List Line) → AreLines name (words ∷ more) lines → (behind : List Line) × AreLines name more behind
+    all_but_one name words more [] are = absurd are
+    all_but_one name words more (line ∷ lines) are = (lines, are.1)
+
 same_place : (name : List ℕ) (a b : List (List (List ℕ))) (x y : List (List ℕ)) (r s : List (List (List ℕ))) (ls ms : List Line) → a ++ x ∷ r ≡ b ++ y ∷ s
-    → AreLines name a ls → AreLines name b ms → ((line : Line) → IsLine name x line → ⊥) → ((line : Line) → IsLine name y line → ⊥) → length a ≡ length b
-same_place name [] [] x y r s ls ms e are ers nay none = refl
-same_place name [] (w ∷ b) x y r s ls [] e are ers nay none = absurd ers
-same_place name [] (w ∷ b) x y r s ls (m ∷ ms) e are ers nay none =
-    let same : w ≡ x = cc in absurd (nay m (subst (λ (v : List (List ℕ)). IsLine name v m) same ers.0))
-same_place name (w ∷ a) [] x y r s [] ms e are ers nay none = absurd are
-same_place name (w ∷ a) [] x y r s (l ∷ ls) ms e are ers nay none =
-    let same : w ≡ y = cc in absurd (none l (subst (λ (v : List (List ℕ)). IsLine name v l) same are.0))
-same_place name (w ∷ a) (v ∷ b) x y r s [] ms e are ers nay none = absurd are
-same_place name (w ∷ a) (v ∷ b) x y r s (l ∷ ls) [] e are ers nay none = absurd ers
-same_place name (w ∷ a) (v ∷ b) x y r s (l ∷ ls) (m ∷ ms) e are ers nay none =
+    → AreLines name (without_comments a) ls → AreLines name (without_comments b) ms → ((line : Line) → IsLine name x line → ⊥) → ((line : Line) → IsLine name y line → ⊥)
+    → is_passed x ≡ false → is_passed y ≡ false → length a ≡ length b
+same_place name [] [] x y r s ls ms e are ers nay none x_counts y_counts = refl
+same_place name [] (w ∷ b) x y r s ls ms e are ers nay none x_counts y_counts =
+    let same : w ≡ x = cc in
+    let found = first_is name w b ms (ap is_passed same ∙ x_counts) ers in
+    absurd (nay found.0 (subst (λ (v : List (List ℕ)). IsLine name v found.0) same found.1))
+same_place name (w ∷ a) [] x y r s ls ms e are ers nay none x_counts y_counts =
+    let same : w ≡ y = cc in
+    let found = first_is name w a ls (ap is_passed same ∙ y_counts) are in
+    absurd (none found.0 (subst (λ (v : List (List ℕ)). IsLine name v found.0) same found.1))
+same_place name (w ∷ a) (v ∷ b) x y r s ls ms e are ers nay none x_counts y_counts =
     let tail : a ++ x ∷ r ≡ b ++ y ∷ s = cc in
-    omega (arith, same_place name a b x y r s ls ms tail are.1 ers.1 nay none)
+    let mine = lines_behind name w a ls are in
+    let theirs = lines_behind name v b ms ers in
+    omega (arith, same_place name a b x y r s mine.0 theirs.0 tail mine.1 theirs.1 nay none x_counts y_counts)
 
 same_number : (name text : List ℕ) (j k : ℕ) → IsBadLine name text j → IsBadLine name text k → j ≡ k
 same_number name text j k one other =
-    let place = same_place name one.front other.front one.bad other.bad one.rest other.rest one.lines other.lines (sym one.whole ∙ other.whole) one.front_is other.front_is one.bad_is other.bad_is in
+    let place = same_place name one.front other.front one.bad other.bad one.rest other.rest one.lines other.lines (sym one.whole ∙ other.whole) one.front_is other.front_is
+    one.bad_is other.bad_is one.bad_counts other.bad_counts in
     omega (arith, one.number_is, other.number_is, place)
 
 named_script : (file text : List ℕ) (a b : Config) (lines : List Line) → IsConfig file a → IsConfig file b → IsScript a.name text lines → IsScript b.name text lines

@@ -4,7 +4,10 @@ pub mod WordCuts
 pub mod Numerals
 pub mod AddressTexts
 pub mod NumberRuns
+pub mod Options
 pub mod CommandParts
+pub mod AddParts
+pub mod CommunityWords
 pub mod ScriptLines
 pub mod TokenRuns
 pub mod TokenChains

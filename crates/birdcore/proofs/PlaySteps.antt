@@ -7,10 +7,10 @@ use Rattle.attrs.specs.declared.route.Change.{Change}
 use Rattle.attrs.specs.declared.route.Row.{Row}
 use Rattle.attrs.proofs.Histories.{after-append}
 use Rattle.birdcore.specs.declared.config.Config.{Config}
-use Rattle.birdcore.specs.declared.operation.Op.TheVariants.{SessionUp, Add}
+use Rattle.birdcore.specs.declared.operation.Op.TheVariants.{SessionUp, Add, Del}
 use Rattle.birdcore.specs.declared.script.Line.{Line}
 use Rattle.birdcore.specs.declared.script.Line.TheVariants.{Apply, Show}
-use Rattle.birdcore.specs.Script.{IsLine, AreLines, IsScript, IsOfV4, AreOfV4, lines_words}
+use Rattle.birdcore.specs.Script.{IsLine, AreLines, IsScript, IsOfV4, AreOfV4, lines_words, without_comments}
 use Rattle.birdcore.specs.Play.{State, Steps, Plays}
 
 -- A change more in the table and in the history: the table shows what the history leaves.
@@ -37,6 +37,7 @@ line_at_is_v4 (first ∷ lines) (suc k) line are within is = line_at_is_v4 lines
 line_is_v4 : (name : List ℕ) (words : List (List ℕ)) (line : Line) → IsLine name words line → IsOfV4 line
 line_is_v4 name words (Apply (SessionUp id)) is = tt
 line_is_v4 name words (Apply (Add net given)) is = is.2.net_family
+line_is_v4 name words (Apply (Del net)) is = is.2.family
 line_is_v4 name words Show is = tt
 
 lines_are_v4 : (name : List ℕ) (words : List (List (List ℕ))) (lines : List Line) → AreLines name words lines → AreOfV4 lines
@@ -47,4 +48,4 @@ lines_are_v4 name (first ∷ words) (line ∷ lines) are = (line_is_v4 name firs
 
 -- The form allows IPv4 alone.
 pub script_is_v4 : (name text : List ℕ) (lines : List Line) → IsScript name text lines → AreOfV4 lines
-script_is_v4 name text lines script = lines_are_v4 name (lines_words text) lines script
+script_is_v4 name text lines script = lines_are_v4 name (without_comments (lines_words text)) lines script

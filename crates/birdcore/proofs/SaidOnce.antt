@@ -16,23 +16,22 @@ use Rattle.attrs.specs.declared.attributes.Origin.TheVariants.{Igp, Egp, Incompl
 use Rattle.birdcore.specs.declared.config.Config.{Config}
 use Rattle.birdcore.specs.declared.operation.Given.{Given}
 use Rattle.birdcore.specs.declared.operation.Op.{Op}
-use Rattle.birdcore.specs.declared.operation.Op.TheVariants.{SessionUp, Add}
+use Rattle.birdcore.specs.declared.operation.Op.TheVariants.{SessionUp, Add, Del}
 use Rattle.birdcore.specs.declared.script.Line.{Line}
 use Rattle.birdcore.specs.declared.script.Line.TheVariants.{Apply, Show}
 use Rattle.birdcore.specs.Lines.{IsNumber}
 use Rattle.birdcore.specs.Config.{is_separator, Begins, IsTokens, IsConfig, IsProtocolName, config_tokens}
 use Rattle.birdcore.specs.Cut.{behind}
-use Rattle.birdcore.specs.Script.{AreNumbers, IsAdd, IsLine, AreLines, IsScript, actor_word, lines_words}
-use Rattle.birdcore.specs.Command.{HasNoNumber}
+use Rattle.birdcore.specs.Script.{AreNumbers, IsAdd, IsDel, IsCom, IsLine, AreLines, IsScript, actor_word, lines_words, without_comments}
+use Rattle.birdcore.specs.Command.{BeginWithOptions}
 use Rattle.birdcore.specs.Token.{is_token, closing}
 use Rattle.birdcore.proofs.AddressTexts.{v4_of_family}
-use Rattle.birdcore.proofs.CommandParts.{path_split, origin_no_number, same_behind}
+use Rattle.birdcore.proofs.AddParts.{tail_of, third_same, via_of_add, path_of_add, options_begin_add, paths_same}
+use Rattle.birdcore.proofs.CommunityWords.{coms_agree}
+use Rattle.birdcore.proofs.Options.{first_byte, numbers_agree, options_same}
 use Rattle.birdcore.proofs.Runs.{run_rest}
 use Rattle.birdcore.proofs.TokenRuns.{behind_gap, begins_only}
 use Rattle.birdcore.proofs.TokenWords.{number_is_token, address_is_token, name_is_token}
-
-numbers_agree : (word : List ℕ) (m n : ℕ) → IsNumber word m → IsNumber word n → m ≡ n
-numbers_agree word m n one other = sym one.value ∙ other.value
 
 -- tokens are told apart
 begins_same : (text t u r s : List ℕ) → is_token t ≡ true → is_token u ≡ true → Begins t text r → Begins u text s → (t ≡ u) × (r ≡ s)
@@ -113,9 +112,6 @@ numbers_of_words (w ∷ words) (m ∷ a) [] one other = absurd other
 numbers_of_words (w ∷ words) (m ∷ a) (n ∷ b) one other =
     ap (λ (k : ℕ). k ∷ a) (numbers_agree w m n one.0 other.0) ∙ ap (λ (l : List ℕ). n ∷ l) (numbers_of_words words a b one.1 other.1)
 
-first_byte : (x y : ℕ) (xs ys : List ℕ) → x ∷ xs ≡ y ∷ ys → x ≡ y
-first_byte x y xs ys same = cc
-
 origins_agree : (a b : Origin) → origin_text a ≡ origin_text b → a ≡ b
 origins_agree Igp Igp same = refl
 origins_agree Igp Egp same = absurd (omega (arith, first_byte 105 101 _ _ same))
@@ -147,33 +143,43 @@ first_same words a b c d e f g h xs ys one other =
     let third : c ≡ g = cc in
     (first, third)
 
-none_is_origin : (more : List (List ℕ)) → HasNoNumber (codes "origin" ∷ more)
-none_is_origin more = λ word behind n same is. (
-    let first : word ≡ codes "origin" = cc in
-    let P : List ℕ → Type 0 = λ w. IsNumber w n in
-    origin_no_number n (subst P first is))
-
-last_same : (a b : List ℕ) (x y : List ℕ) → a ∷ x ∷ [] ≡ b ∷ y ∷ [] → x ≡ y
-last_same a b x y same = cc
+second_same : (a b x y : List ℕ) (xs ys : List (List ℕ)) → a ∷ x ∷ xs ≡ b ∷ y ∷ ys → x ≡ y
+second_same a b x y xs ys same = cc
 
 adds_agree : (words : List (List ℕ)) (net net' : Net) (given given' : Given) → IsAdd words net given → IsAdd words net' given' → (net ≡ net') × (given ≡ given')
 adds_agree words net net' given given' one other =
-    let firsts = first_same words _ _ _ _ _ _ _ _ _ _ one.whole other.whole in
-    let tail = same_behind words _ _ _ _ _ _ _ _ _ _ one.whole other.whole in
-    let parts = path_split one.path_words given.path (codes "origin" ∷ origin_text given.origin ∷ []) one.path_is (none_is_origin _)
-    other.path_words given'.path (codes "origin") (origin_text given'.origin ∷ []) other.path_is origin_no_number tail in
+    let mine = via_of_add words net given one in
+    let theirs = via_of_add words net' given' other in
+    let firsts = first_same words _ _ _ _ _ _ _ _ _ _ mine.whole theirs.whole in
+    let my_path = path_of_add words _ net' given'.gw theirs net given one in
+    let their_path = path_of_add words _ net' given'.gw theirs net' given' other in
+    let paths = paths_same _ given.path given'.path given.origin given'.origin (tail_of words net given one) (tail_of words net' given' other) my_path their_path in
+    let tail = third_same _ _ _ _ _ _ paths.1 in
+    let moved = subst (λ (l : List (List ℕ)). BeginWithOptions l given.med given.lp given.igp one.com_words) tail (options_begin_add words net given one) in
+    let same =
+    options_same (tail_of words net' given' other) one.com_words other.com_words given.med given.lp given.igp given'.med given'.lp given'.igp moved
+    (options_begin_add words net' given' other) in
     let P : List ℕ → Type 0 = λ w. IsNetText w net in
     let Q : List ℕ → Type 0 = λ w. IsAddrText w given.gw in
     let R : List (List ℕ) → Type 0 = λ l. AreNumbers l given.path in
-    let gw = addr_texts_agree other.gateway_word given.gw given'.gw (subst Q firsts.1 one.gateway_is) other.gateway_is in
-    let path = numbers_of_words other.path_words given.path given'.path (subst R parts.0 one.path_is) other.path_is in
-    let origin = origins_agree given.origin given'.origin (last_same _ _ _ _ parts.1) in (
-      net_texts_agree other.net_word net net' (subst P firsts.0 one.net_is) other.net_is,
-      given_same given given' gw path origin (one.no_med ∙ sym other.no_med) (one.no_lp ∙ sym other.no_lp) (one.no_igp ∙ sym other.no_igp) (one.no_coms ∙ sym other.no_coms),
+    let S : List (List ℕ) → Type 0 = λ l. IsCom l given.coms in
+    let gw = addr_texts_agree theirs.gateway_word given.gw given'.gw (subst Q firsts.1 mine.gateway_is) theirs.gateway_is in
+    let path = numbers_of_words their_path.path_words given.path given'.path (subst R paths.0 my_path.path_is) their_path.path_is in
+    let origin = origins_agree given.origin given'.origin (second_same _ _ _ _ _ _ paths.1) in
+    let coms = coms_agree other.com_words given.coms given'.coms (subst S same.3 one.com_is) other.com_is in (
+      net_texts_agree theirs.net_word net net' (subst P firsts.0 mine.net_is) theirs.net_is,
+      given_same given given' gw path origin same.0 same.1 same.2 coms,
     )
 
-third_same : (words : List (List ℕ)) (a b c d : List ℕ) (x y : List ℕ) → words ≡ a ∷ b ∷ x ∷ [] → words ≡ c ∷ d ∷ y ∷ [] → x ≡ y
-third_same words a b c d x y one other = cc
+dels_agree : (words : List (List ℕ)) (net net' : Net) → IsDel words net → IsDel words net' → net ≡ net'
+dels_agree words net net' one other =
+    let whole : one.word ∷ [] ≡ other.word ∷ [] = sym one.whole ∙ other.whole in
+    let word : one.word ≡ other.word = cc in
+    let P : List ℕ → Type 0 = λ w. IsNetText w net in
+    net_texts_agree other.word net net' (subst P word one.net_is) other.net_is
+
+word_same : (words : List (List ℕ)) (a b c d : List ℕ) (x y : List ℕ) → words ≡ a ∷ b ∷ x ∷ [] → words ≡ c ∷ d ∷ y ∷ [] → x ≡ y
+word_same words a b c d x y one other = cc
 
 rest_same : (words : List (List ℕ)) (a b c d : List ℕ) (x y : List (List ℕ)) → words ≡ a ∷ b ∷ x → words ≡ c ∷ d ∷ y → x ≡ y
 rest_same words a b c d x y one other = cc
@@ -186,10 +192,11 @@ v4_same m n same = cc
 
 lines_agree : (name : List ℕ) (words : List (List ℕ)) (a b : Line) → IsLine name words a → IsLine name words b → a ≡ b
 lines_agree name words (Apply (SessionUp m)) (Apply (SessionUp n)) one other =
-    let same = third_same words _ _ _ _ (v4_text m) (v4_text n) one.0 other.0 in
+    let same = word_same words _ _ _ _ (v4_text m) (v4_text n) one.0 other.0 in
     let number : m ≡ n = v4_same m n (addr_texts_agree (v4_text m) (V4 m) (V4 n) (one.1, refl) (other.1, same)) in
     ap (λ (k : ℕ). Apply (SessionUp k)) number
-lines_agree name words (Apply (SessionUp m)) (Apply (Add net given)) one other = let same = commands_same words _ _ _ _ _ _ one.0 other.1 in absurd (omega (arith, first_byte 111 97 _ _ same))
+lines_agree name words (Apply (SessionUp m)) (Apply (Add net' given')) one other = let same = commands_same words _ _ _ _ _ _ one.0 other.1 in absurd (omega (arith, first_byte 111 97 _ _ same))
+lines_agree name words (Apply (SessionUp m)) (Apply (Del net')) one other = let same = commands_same words _ _ _ _ _ _ one.0 other.1 in absurd (omega (arith, first_byte 111 100 _ _ same))
 lines_agree name words (Apply (SessionUp m)) Show one other = let same = commands_same words _ _ _ _ _ _ one.0 other in absurd (omega (arith, first_byte 111 115 _ _ same))
 lines_agree name words (Apply (Add net given)) (Apply (SessionUp n)) one other = let same = commands_same words _ _ _ _ _ _ one.1 other.0 in absurd (omega (arith, first_byte 97 111 _ _ same))
 lines_agree name words (Apply (Add net given)) (Apply (Add net' given')) one other =
@@ -197,9 +204,18 @@ lines_agree name words (Apply (Add net given)) (Apply (Add net' given')) one oth
     let P : List (List ℕ) → Type 0 = λ l. IsAdd l net given in
     let parts = adds_agree other.0 net net' given given' (subst P same one.2) other.2 in
     ap (λ (n : Net). Apply (Add n given)) parts.0 ∙ ap (λ (g : Given). Apply (Add net' g)) parts.1
+lines_agree name words (Apply (Add net given)) (Apply (Del net')) one other = let same = commands_same words _ _ _ _ _ _ one.1 other.1 in absurd (omega (arith, first_byte 97 100 _ _ same))
 lines_agree name words (Apply (Add net given)) Show one other = let same = commands_same words _ _ _ _ _ _ one.1 other in absurd (omega (arith, first_byte 97 115 _ _ same))
+lines_agree name words (Apply (Del net)) (Apply (SessionUp n)) one other = let same = commands_same words _ _ _ _ _ _ one.1 other.0 in absurd (omega (arith, first_byte 100 111 _ _ same))
+lines_agree name words (Apply (Del net)) (Apply (Add net' given')) one other = let same = commands_same words _ _ _ _ _ _ one.1 other.1 in absurd (omega (arith, first_byte 100 97 _ _ same))
+lines_agree name words (Apply (Del net)) (Apply (Del net')) one other =
+    let same = rest_same words _ _ _ _ one.0 other.0 one.1 other.1 in
+    let P : List (List ℕ) → Type 0 = λ l. IsDel l net in
+    ap (λ (n : Net). Apply (Del n)) (dels_agree other.0 net net' (subst P same one.2) other.2)
+lines_agree name words (Apply (Del net)) Show one other = let same = commands_same words _ _ _ _ _ _ one.1 other in absurd (omega (arith, first_byte 100 115 _ _ same))
 lines_agree name words Show (Apply (SessionUp n)) one other = let same = commands_same words _ _ _ _ _ _ one other.0 in absurd (omega (arith, first_byte 115 111 _ _ same))
-lines_agree name words Show (Apply (Add net given)) one other = let same = commands_same words _ _ _ _ _ _ one other.1 in absurd (omega (arith, first_byte 115 97 _ _ same))
+lines_agree name words Show (Apply (Add net' given')) one other = let same = commands_same words _ _ _ _ _ _ one other.1 in absurd (omega (arith, first_byte 115 97 _ _ same))
+lines_agree name words Show (Apply (Del net')) one other = let same = commands_same words _ _ _ _ _ _ one other.1 in absurd (omega (arith, first_byte 115 100 _ _ same))
 lines_agree name words Show Show one other = refl
 
 scripts_agree_on : (name : List ℕ) (words : List (List (List ℕ))) (a b : List Line) → AreLines name words a → AreLines name words b → a ≡ b
@@ -212,4 +228,4 @@ scripts_agree_on name (w ∷ words) (x ∷ a) (y ∷ b) one other =
     ap (λ (l : Line). l ∷ a) (lines_agree name w x y one.0 other.0) ∙ ap (λ (l : List Line). y ∷ l) (scripts_agree_on name words a b one.1 other.1)
 
 pub scripts_agree : (name text : List ℕ) (a b : List Line) → IsScript name text a → IsScript name text b → a ≡ b
-scripts_agree name text a b one other = scripts_agree_on name (lines_words text) a b one other
+scripts_agree name text a b one other = scripts_agree_on name (without_comments (lines_words text)) a b one other

@@ -1,19 +1,29 @@
 -- The parts of a line of a script, as they are read.
-use Rattle.std.specs.Prelude.{◌≡◌, ℕ, ◌^◌, ◌<◌, ◌≤◌, List, [], ◌∷◌, ◌++◌, length, codes, ⊤}
+use Rattle.std.specs.Prelude.{◌≡◌, ℕ, ◌^◌, ◌<◌, ◌≤◌, Bool, true, false, not, ◌==◌, ◌⊎◌, if◌then◌else◌, IsTrue, List, [], ◌∷◌, ◌++◌, length, codes, Option, None, Some, ⊤}
+use Rattle.std.specs.List.{list_all}
 use Rattle.bits_ip.specs.Address.{family_of}
 use Rattle.bits_ip.specs.Prefix.{Net}
 use Rattle.bits_ip.specs.Text.{IsAddrText, IsNetText, v4_text}
 use Rattle.bits_ip.specs.declared.address.Addr.{Addr}
 use Rattle.bits_ip.specs.declared.address.Family.TheVariants as families
+use Rattle.attrs.specs.Clist.{has_pair}
 use Rattle.attrs.specs.Text.{origin_text}
 use Rattle.attrs.specs.declared.attributes.Origin.{Origin}
-use Rattle.birdcore.specs.declared.commands.Refusal.{Refusal}
-use Rattle.birdcore.specs.declared.commands.Refusal.TheVariants.{Form, Memory}
+use Rattle.attrs.specs.declared.clist.ClistFault.{ClistFault}
+use Rattle.attrs.specs.declared.clist.ClistFault.TheVariants.{ClistLong}
+use Rattle.attrs.specs.declared.clist.ClistFault.TheVariants as faults
+use Rattle.birdcore.specs.declared.refusal.Refusal.{Refusal}
+use Rattle.birdcore.specs.declared.refusal.Refusal.TheVariants.{Form, Memory}
 use Rattle.birdcore.specs.declared.operation.Op.TheVariants.{SessionUp, Add, Del}
 use Rattle.birdcore.specs.declared.script.Line.{Line}
 use Rattle.birdcore.specs.declared.script.Line.TheVariants.{Apply, Show}
 use Rattle.birdcore.specs.Lines.{IsNumber}
-use Rattle.birdcore.specs.Script.{AreNumbers, IsAdd, IsDel}
+use Rattle.birdcore.specs.Script.{AreNumbers, AreCommunities, IsAdd, IsDel, IsCommunity, IsOption, IsCom, each_once, is_passed, IsLine}
+
+-- why a line isn't read to whose communities one can't be put
+abbrev pub refusal_of : ClistFault → Refusal
+refusal_of ClistLong = Form
+refusal_of faults.Memory = Memory
 
 -- what holds where the form is the reason
 abbrev pub IfForm : Refusal → Type 0 → Type 0
@@ -47,12 +57,83 @@ pub record IsVia (words : List (List ℕ)) (net : Net) (gateway : Addr) (rest : 
   pub gateway_is : IsAddrText gateway_word gateway
   pub gateway_family : family_of gateway ≡ families.V4
 
--- NUMBERS origin ORIGIN
-pub record IsPathAndOrigin (words : List (List ℕ)) (path : List ℕ) (origin : Origin) : Type 0 where
+-- origin ORIGIN, and the rest
+abbrev pub IsOrigin : List (List ℕ) → Origin → List (List ℕ) → Type 0
+IsOrigin words origin rest = words ≡ codes "origin" ∷ origin_text origin ∷ rest
+
+-- NUMBERS origin ORIGIN, and the rest
+pub record IsPathAndOrigin (words : List (List ℕ)) (path : List ℕ) (origin : Origin) (rest : List (List ℕ)) : Type 0 where
   pub path_words : List (List ℕ)
-  pub whole : words ≡ path_words ++ codes "origin" ∷ origin_text origin ∷ []
+  pub whole : words ≡ path_words ++ codes "origin" ∷ origin_text origin ∷ rest
   pub path_is : AreNumbers path_words path
   pub path_short : length path ≤ 120
+
+-- the words don't begin with this one
+abbrev pub BeginsNot : List ℕ → List (List ℕ) → Type 0
+BeginsNot label words = (more : List (List ℕ)) → words ≡ label ∷ more → ⊥
+
+-- An optional part at the front, and what follows it. Where it isn't there its label doesn't come.
+abbrev pub BeginWithOption : List ℕ → List (List ℕ) → Option ℕ → List (List ℕ) → Type 0
+BeginWithOption label words None rest = (rest ≡ words) × BeginsNot label words
+BeginWithOption label words (Some n) rest = (word : List ℕ) × (words ≡ label ∷ word ∷ rest) × IsNumber word n
+
+-- the label comes, and no number behind it
+abbrev pub LacksNumber : List ℕ → List (List ℕ) → Type 0
+LacksNumber label words = (more : List (List ℕ)) × (words ≡ label ∷ more) × HasNoNumber more
+
+-- the optional numbers of an `add` in their order, and the rest
+pub record BeginWithOptions (words : List (List ℕ)) (med lp igp : Option ℕ) (rest : List (List ℕ)) : Type 0 where
+  pub behind_med : List (List ℕ)
+  pub behind_lp : List (List ℕ)
+  pub med_is : BeginWithOption (codes "med") words med behind_med
+  pub lp_is : BeginWithOption (codes "lp") behind_med lp behind_lp
+  pub igp_is : BeginWithOption (codes "igp") behind_lp igp rest
+
+-- the optional parts of an `add`, to the line's end
+pub record AreOptions (words : List (List ℕ)) (med lp igp : Option ℕ) (coms : List (ℕ × ℕ)) : Type 0 where
+  pub med_words : List (List ℕ)
+  pub lp_words : List (List ℕ)
+  pub igp_words : List (List ℕ)
+  pub com_words : List (List ℕ)
+  pub whole : words ≡ med_words ++ (lp_words ++ (igp_words ++ com_words))
+  pub med_is : IsOption (codes "med") med_words med
+  pub lp_is : IsOption (codes "lp") lp_words lp
+  pub igp_is : IsOption (codes "igp") igp_words igp
+  pub com_is : IsCom com_words coms
+
+-- no optional parts are these words
+abbrev pub AreNoOptions : List (List ℕ) → Type 0
+AreNoOptions words = (med lp igp : Option ℕ) (coms : List (ℕ × ℕ)) → AreOptions words med lp igp coms → ⊥
+
+abbrev pub is_no_colon : ℕ → Bool
+is_no_colon b = not (b == 58)
+
+-- cut at the first colon
+pub record IsCut (word left right : List ℕ) : Type 0 where
+  pub whole : word ≡ left ++ 58 ∷ right
+  pub first : IsTrue (list_all is_no_colon left)
+
+-- the list with this community, which is put last where it is a new one
+abbrev pub with_pair : List (ℕ × ℕ) → ℕ × ℕ → List (ℕ × ℕ)
+with_pair pairs pair = if has_pair pairs pair then pairs else pairs ++ pair ∷ []
+
+-- the word is a community, and was put to the list
+pub record AddsOne (word : List ℕ) (old new : List (ℕ × ℕ)) : Type 0 where
+  pub pair : ℕ × ℕ
+  pub pair_is : IsCommunity word pair
+  pub added : new ≡ with_pair old pair
+  pub few : length new ≤ 64
+
+-- the word is no community with which the list has 64 at most
+abbrev pub FitsNone : List ℕ → List (ℕ × ℕ) → Type 0
+FitsNone word old = (pair : ℕ × ℕ) → IsCommunity word pair → 64 < length (with_pair old pair)
+
+-- these words spell communities, which are these, each once
+pub record AreOnce (words : List (List ℕ)) (coms : List (ℕ × ℕ)) : Type 0 where
+  pub pairs : List (ℕ × ℕ)
+  pub pairs_are : AreCommunities words pairs
+  pub once : coms ≡ each_once pairs
+  pub few : length coms ≤ 64
 
 -- a line behind the word that names who acts
 abbrev pub IsCommand : List (List ℕ) → Line → Type 0
@@ -60,3 +141,11 @@ IsCommand words (Apply (SessionUp id)) = (words ≡ codes "open" ∷ v4_text id 
 IsCommand words (Apply (Add net given)) = (rest : List (List ℕ)) × (words ≡ codes "add" ∷ rest) × IsAdd rest net given
 IsCommand words (Apply (Del net)) = (rest : List (List ℕ)) × (words ≡ codes "del" ∷ rest) × IsDel rest net
 IsCommand words Show = words ≡ codes "show" ∷ codes "route" ∷ []
+
+-- A line of a script was read: its line is put last, or it was passed over.
+abbrev pub ReadsOne : List ℕ → List (List ℕ) → List Line → List Line → Type 0
+ReadsOne name words old new = ((is_passed words ≡ true) × (new ≡ old)) ⊎ ((is_passed words ≡ false) × ((line : Line) × IsLine name words line × (new ≡ old ++ line ∷ [])))
+
+-- A line of a script that isn't passed over isn't of the form.
+abbrev pub ReadsNone : List ℕ → List (List ℕ) → Type 0
+ReadsNone name words = (is_passed words ≡ false) × ((line : Line) → IsLine name words line → ⊥)

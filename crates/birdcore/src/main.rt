@@ -1,7 +1,9 @@
 //! The program: it plays a script over a configuration, and reports what came about.
 #![tactic(auto)]
 
+mod add;
 mod commands;
+mod communities;
 mod config;
 mod decimals;
 mod journal_text;
@@ -12,6 +14,7 @@ mod numbers;
 mod operation;
 mod operation_text;
 mod play;
+mod refusal;
 mod reply;
 mod report;
 mod report_text;

@@ -142,7 +142,7 @@ fn what_is_not_of_the_forms_is_not_built(rt: HostRuntime) -> Result<(), Fail> {
     let cases = [
         ("", SCRIPT, 1, 0),
         ("protocol bgp p1 { }", SCRIPT, 1, 0),
-        (CONF, "\n", 2, 1),
+        (CONF, "\nsync\n", 2, 2),
         (CONF, "@p1 show route\n@p2 show route\n", 2, 2),
         (CONF, "@p1 open 10.0.0.1\nsync\n", 2, 2),
         (

@@ -1,7 +1,7 @@
 use Rattle.std.proofs.Common.{length}
 use Rattle.birdcore.specs.Lines.{words_of}
 use Rattle.birdcore.proofs.NumberRuns.{HaveNumbers}
-use Rattle.birdcore.proofs.commands.read_numbers.Given as goal
+use Rattle.birdcore.proofs.add.read_numbers.Given as goal
 
 abbrev pub invariant-loop-number : goal.invariant-loop-number
 invariant-loop-number l = HaveNumbers (words_of l.text) l.numbers.items (words_of l.rest)

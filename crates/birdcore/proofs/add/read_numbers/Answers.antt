@@ -1,6 +1,6 @@
 use Rattle.birdcore.specs.Lines.{words_of}
 use Rattle.birdcore.proofs.NumberRuns.{have_more}
-use Rattle.birdcore.proofs.commands.read_numbers.Goals as goal
+use Rattle.birdcore.proofs.add.read_numbers.Goals as goal
 
 pub loop-number-preserved : goal.loop-number-preserved
 loop-number-preserved c =

@@ -1,7 +1,7 @@
 use Rattle.std.proofs.Common.{arith}
 use Rattle.birdcore.specs.Lines.{words_of}
-use Rattle.birdcore.proofs.CommandParts.{no_origin, path_too_long}
-use Rattle.birdcore.proofs.commands.read_path_and_origin.Goals as goal
+use Rattle.birdcore.proofs.AddParts.{no_origin, path_too_long}
+use Rattle.birdcore.proofs.add.read_path_and_origin.Goals as goal
 
 pub returns-in_default : goal.returns-in_default
 returns-in_default c = no_origin (words_of c.args.rest.now) (words_of c.in_ok-numbers.rest.now) c.in_ok-numbers.numbers.items c.in_ok-numbers.ensures c.in_default.ensures

@@ -1,0 +1,10 @@
+use Rattle.std.proofs.Common.{◌≡◌, sym, ◌∙◌, [], false}
+use Rattle.std.proofs.lemmas.Bool.{false≢true}
+use Rattle.birdcore.specs.Lines.{words_of}
+use Rattle.birdcore.proofs.CommunityWords.{read_coms}
+use Rattle.birdcore.proofs.communities.read_com.Goals as goal
+
+pub returns : goal.returns
+returns c =
+    let filled : words_of c.in-Some.words.now ≡ [] → ⊥ = λ none. false≢true (sym c.if-is_end-2.false ∙ c.is_end-2.ensures.1 none) in
+    read_coms (words_of c.args.rest.now) (words_of c.in-Some.words.now) c.read_communities.result c.in-Some.ensures filled c.read_communities.ensures
