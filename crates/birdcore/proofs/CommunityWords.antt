@@ -67,9 +67,9 @@ once_there (q ∷ pairs) p there =
     elim (cases_Bool (has_pair pairs p)) [
       | inl is ↦ ap (λ (l : List (ℕ × ℕ)). q ∷ filter t l) (once_there pairs p is)
       | inr new ↦
-        let same : same_pair q p ≡ true = or_first (same_pair q p) (has_pair pairs p) there new in
-        ap (λ (l : List (ℕ × ℕ)). q ∷ filter t l) (once_new pairs p new)
-        ∙ ap (λ (l : List (ℕ × ℕ)). q ∷ l) (filter_one_no t (each_once pairs) p (ap not same))
+          let same : same_pair q p ≡ true = or_first (same_pair q p) (has_pair pairs p) there new in
+          ap (λ (l : List (ℕ × ℕ)). q ∷ filter t l) (once_new pairs p new)
+          ∙ ap (λ (l : List (ℕ × ℕ)). q ∷ l) (filter_one_no t (each_once pairs) p (ap not same))
     ]
 
 -- a community more, of communities each once
@@ -117,7 +117,7 @@ cut_some word front back after b front_is back_is cut =
     let colon : b ≡ 58 = eqb-true b 58 (not-false (eqb b 58) stops) in
     record {
       whole = run_whole is_no_colon word ∙ ap (λ (l : List ℕ). l ++ behind is_no_colon word) (sym front_is)
-        ∙ ap (λ (l : List ℕ). front ++ l) (sym back_is ∙ cut) ∙ ap (λ (n : ℕ). front ++ n ∷ after) colon;
+          ∙ ap (λ (l : List ℕ). front ++ l) (sym back_is ∙ cut) ∙ ap (λ (n : ℕ). front ++ n ∷ after) colon;
       first = ap (list_all is_no_colon) front_is ∙ run_passes is_no_colon word;
     }
 

@@ -84,14 +84,14 @@ options_begin words med lp igp coms are = record {
   behind_med = are.lp_words ++ (are.igp_words ++ are.com_words);
   behind_lp = are.igp_words ++ are.com_words;
   med_is = option_begins (codes "med") words are.med_words (are.lp_words ++ (are.igp_words ++ are.com_words)) med are.whole are.med_is
-    (option_begins_not (codes "med") (codes "lp") are.lp_words (are.igp_words ++ are.com_words) lp med_not_lp are.lp_is
-    (option_begins_not (codes "med") (codes "igp") are.igp_words are.com_words igp med_not_igp are.igp_is
-    (com_begins_not (codes "med") are.com_words coms med_not_com are.com_is)));
+      (option_begins_not (codes "med") (codes "lp") are.lp_words (are.igp_words ++ are.com_words) lp med_not_lp are.lp_is
+      (option_begins_not (codes "med") (codes "igp") are.igp_words are.com_words igp med_not_igp are.igp_is
+      (com_begins_not (codes "med") are.com_words coms med_not_com are.com_is)));
   lp_is = option_begins (codes "lp") (are.lp_words ++ (are.igp_words ++ are.com_words)) are.lp_words (are.igp_words ++ are.com_words) lp refl are.lp_is
-    (option_begins_not (codes "lp") (codes "igp") are.igp_words are.com_words igp lp_not_igp are.igp_is
-    (com_begins_not (codes "lp") are.com_words coms lp_not_com are.com_is));
+      (option_begins_not (codes "lp") (codes "igp") are.igp_words are.com_words igp lp_not_igp are.igp_is
+      (com_begins_not (codes "lp") are.com_words coms lp_not_com are.com_is));
   igp_is = option_begins (codes "igp") (are.igp_words ++ are.com_words) are.igp_words are.com_words igp refl are.igp_is
-    (com_begins_not (codes "igp") are.com_words coms igp_not_com are.com_is);
+      (com_begins_not (codes "igp") are.com_words coms igp_not_com are.com_is);
 }
 
 moved : (label : List ℕ) (words words' rest : List (List ℕ)) (value : Option ℕ) → words ≡ words' → BeginWithOption label words value rest → BeginWithOption label words' value rest

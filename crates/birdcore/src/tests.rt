@@ -39,6 +39,32 @@ state
 end
 ";
 
+const FULL_SCRIPT: &str = "# one neighbour
+
+  \t\r
+@p1 open 10.0.0.1
+@p1 add 203.0.113.0/24 via 192.0.2.1 path 65001 origin igp med 7 lp 9 igp 3 com 1:1 2:2 01:01
+@p1 del 203.0.113.0/24";
+
+const FULL_REPORT: &str = "phase 1
+protocol p1
+\topen 10.0.0.1
+\tadd 203.0.113.0/24 via 192.0.2.1 path 65001 origin igp med 7 lp 9 igp 3 com 1:1 2:2
+\tdel 203.0.113.0/24
+journal master4 0 2
+\t1 203.0.113.0/24 p1 pref 100 bgp unicast gw 192.0.2.1 from 192.0.2.1 id 10.0.0.1 ebgp path 65001 origin igp nh 192.0.2.1 med 7 lp 100 igp 3 com 1:1 2:2
+\t2 203.0.113.0/24 p1 -
+journal master6 0 0
+channel p1
+\tup 0
+state
+\ttable master4 0 0
+\ttable master6 0 0
+\tprotocol p1 up 0
+\texport p1 0
+end
+";
+
 fn words(alloc: Global, texts: &[&str]) -> Result<Vec<String>, Fail> {
     let mut words = Vec::new(alloc);
     for text in texts {
@@ -76,6 +102,14 @@ fn one_route_is_reported(rt: HostRuntime) -> Result<(), Fail> {
     let (status, text) = played(&rt, CONF, SCRIPT)?;
     assert_eq!(rt; status, Status::Ok);
     assert_eq!(rt; text.as_slice(), REPORT.as_bytes());
+    Ok(())
+}
+
+#[test]
+fn each_form_of_line_is_reported(rt: HostRuntime) -> Result<(), Fail> {
+    let (status, text) = played(&rt, CONF, FULL_SCRIPT)?;
+    assert_eq!(rt; status, Status::Ok);
+    assert_eq!(rt; text.as_slice(), FULL_REPORT.as_bytes());
     Ok(())
 }
 

@@ -96,7 +96,7 @@ fn a_withdrawal_is_an_entry_where_a_route_stood(rt: HostRuntime) -> Result<(), F
         Line::Apply(Op::Add(net, given(alloc)?)),
         Line::Apply(Op::Del(net)),
         Line::Apply(Op::Del(net)),
-        Line::Show
+        Line::Show,
     ]?;
     let text = reported(alloc, 65001, lines)?;
     assert_eq!(rt; text.as_slice(), WITHDRAWN.as_bytes());
@@ -123,7 +123,7 @@ fn an_import_keeps_what_its_line_says_but_for_an_external_preference(
     for (remote, route) in cases {
         let lines = vec![in alloc;
             Line::Apply(Op::SessionUp(ROUTER_ID)),
-            Line::Apply(Op::Add(net()?, given_in_full(alloc)?))
+            Line::Apply(Op::Add(net()?, given_in_full(alloc)?)),
         ]?;
         let text = String::from_utf8(reported(alloc, remote, lines)?)?;
         assert!(rt; text.contains(operation));
