@@ -88,8 +88,8 @@ via_of_add words net given is = record {
   net_word = is.net_word;
   gateway_word = is.gateway_word;
   whole = is.whole
-    ∙ ap (λ (l : List (List ℕ)). is.net_word ∷ codes "via" ∷ is.gateway_word ∷ codes "path" ∷ l)
-    (five_joined is.path_words is.med_words is.lp_words is.igp_words is.com_words (codes "origin") (origin_text given.origin));
+      ∙ ap (λ (l : List (List ℕ)). is.net_word ∷ codes "via" ∷ is.gateway_word ∷ codes "path" ∷ l)
+      (five_joined is.path_words is.med_words is.lp_words is.igp_words is.com_words (codes "origin") (origin_text given.origin));
   net_is = is.net_is;
   net_family = is.net_family;
   gateway_is = is.gateway_is;
@@ -166,9 +166,9 @@ add_read words rest behind last net given via read begin coms_are =
       igp_words = options.igp_words;
       com_words = options.com_words;
       whole = via.whole
-        ∙ ap (λ (l : List (List ℕ)). via.net_word ∷ codes "via" ∷ via.gateway_word ∷ codes "path" ∷ l)
-        (read.whole ∙ ap (λ (l : List (List ℕ)). read.path_words ++ codes "origin" ∷ origin_text given.origin ∷ l) options.whole
-        ∙ sym (five_joined read.path_words options.med_words options.lp_words options.igp_words options.com_words (codes "origin") (origin_text given.origin)));
+          ∙ ap (λ (l : List (List ℕ)). via.net_word ∷ codes "via" ∷ via.gateway_word ∷ codes "path" ∷ l)
+          (read.whole ∙ ap (λ (l : List (List ℕ)). read.path_words ++ codes "origin" ∷ origin_text given.origin ∷ l) options.whole
+          ∙ sym (five_joined read.path_words options.med_words options.lp_words options.igp_words options.com_words (codes "origin") (origin_text given.origin)));
       net_is = via.net_is;
       net_family = via.net_family;
       gateway_is = via.gateway_is;

@@ -1,8 +1,7 @@
 -- The communities of an `add`.
-use Rattle.std.proofs.Common.{◌≡◌, ◌∙◌, sym, ap, refl, subst, ℕ, ◌+◌, ◌<◌, ◌≤◌, ◌^◌, Bool, true, false, cond, eqb, ◌&&◌, ◌||◌, List, [], ◌∷◌, ◌++◌, length, length-append, arith, inl, inr, Result, Ok, Err, MatchResult}
-use Rattle.std.specs.Prelude.{codes, not, filter, IsTrue}
-use Rattle.std.specs.Int.{IsInRange}
-use Rattle.std.specs.List.{list_all, list_any, take_while}
+use Rattle.std.proofs.Common.{◌≡◌, ◌∙◌, sym, ap, refl, subst, ℕ, ◌+◌, ◌<◌, ◌≤◌, ◌^◌, Bool, true, false, cond, eqb, ◌||◌, List, [], ◌∷◌, ◌++◌, length, length-append, arith, inl, inr, Result, Ok, Err, MatchResult}
+use Rattle.std.specs.Prelude.{codes, not, filter}
+use Rattle.std.specs.List.{list_all, take_while}
 use Rattle.std.proofs.lemmas.Bool.{false≢true, cases_Bool, and_parts, or_parts, eqb-true, not-false}
 use Rattle.std.proofs.lemmas.Bool.Decides.{nat_tests}
 use Rattle.std.proofs.lemmas.List.{append_assoc, append-nil}
@@ -14,7 +13,7 @@ use Rattle.attrs.specs.declared.clist.ClistFault.{ClistFault}
 use Rattle.attrs.specs.declared.clist.ClistFault.TheVariants.{ClistLong, Memory}
 use Rattle.birdcore.specs.declared.refusal.Refusal.{Refusal}
 use Rattle.birdcore.specs.Lines.{IsNumber}
-use Rattle.birdcore.specs.Script.{IsCommunity, AreCommunities, IsComGiven, IsCom, each_once}
+use Rattle.birdcore.specs.Script.{IsCommunity, AreCommunities, IsCom, each_once}
 use Rattle.birdcore.specs.Command.{IfForm, refusal_of, is_no_colon, IsCut, with_pair, AddsOne, FitsNone, AreOnce}
 use Rattle.birdcore.specs.Config.{first_passes}
 use Rattle.birdcore.specs.Cut.{behind}
@@ -67,9 +66,9 @@ once_there (q ∷ pairs) p there =
     elim (cases_Bool (has_pair pairs p)) [
       | inl is ↦ ap (λ (l : List (ℕ × ℕ)). q ∷ filter t l) (once_there pairs p is)
       | inr new ↦
-        let same : same_pair q p ≡ true = or_first (same_pair q p) (has_pair pairs p) there new in
-        ap (λ (l : List (ℕ × ℕ)). q ∷ filter t l) (once_new pairs p new)
-        ∙ ap (λ (l : List (ℕ × ℕ)). q ∷ l) (filter_one_no t (each_once pairs) p (ap not same))
+          let same : same_pair q p ≡ true = or_first (same_pair q p) (has_pair pairs p) there new in
+          ap (λ (l : List (ℕ × ℕ)). q ∷ filter t l) (once_new pairs p new)
+          ∙ ap (λ (l : List (ℕ × ℕ)). q ∷ l) (filter_one_no t (each_once pairs) p (ap not same))
     ]
 
 -- a community more, of communities each once
@@ -117,7 +116,7 @@ cut_some word front back after b front_is back_is cut =
     let colon : b ≡ 58 = eqb-true b 58 (not-false (eqb b 58) stops) in
     record {
       whole = run_whole is_no_colon word ∙ ap (λ (l : List ℕ). l ++ behind is_no_colon word) (sym front_is)
-        ∙ ap (λ (l : List ℕ). front ++ l) (sym back_is ∙ cut) ∙ ap (λ (n : ℕ). front ++ n ∷ after) colon;
+          ∙ ap (λ (l : List ℕ). front ++ l) (sym back_is ∙ cut) ∙ ap (λ (n : ℕ). front ++ n ∷ after) colon;
       first = ap (list_all is_no_colon) front_is ∙ run_passes is_no_colon word;
     }
 

@@ -38,12 +38,7 @@ fn is_passed(line: &[u8]) -> bool
 }
 
 /// Puts what a line says behind the lines before it, where it says anything.
-fn read_one(
-    alloc: Global,
-    name: &[u8],
-    line: &[u8],
-    lines: &mut Vec<Line>,
-) -> Result<(), Refusal>
+fn read_one(alloc: Global, name: &[u8], line: &[u8], lines: &mut Vec<Line>) -> Result<(), Refusal>
     ensures { MatchResult result (λ _. ReadsOne name.now (words_of line.now) lines.old.items lines.new.items) (λ refusal. IfForm refusal (ReadsNone name.now (words_of line.now))) }
 {
     if is_passed(line) {
