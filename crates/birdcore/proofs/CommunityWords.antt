@@ -1,8 +1,7 @@
 -- The communities of an `add`.
-use Rattle.std.proofs.Common.{◌≡◌, ◌∙◌, sym, ap, refl, subst, ℕ, ◌+◌, ◌<◌, ◌≤◌, ◌^◌, Bool, true, false, cond, eqb, ◌&&◌, ◌||◌, List, [], ◌∷◌, ◌++◌, length, length-append, arith, inl, inr, Result, Ok, Err, MatchResult}
-use Rattle.std.specs.Prelude.{codes, not, filter, IsTrue}
-use Rattle.std.specs.Int.{IsInRange}
-use Rattle.std.specs.List.{list_all, list_any, take_while}
+use Rattle.std.proofs.Common.{◌≡◌, ◌∙◌, sym, ap, refl, subst, ℕ, ◌+◌, ◌<◌, ◌≤◌, ◌^◌, Bool, true, false, cond, eqb, ◌||◌, List, [], ◌∷◌, ◌++◌, length, length-append, arith, inl, inr, Result, Ok, Err, MatchResult}
+use Rattle.std.specs.Prelude.{codes, not, filter}
+use Rattle.std.specs.List.{list_all, take_while}
 use Rattle.std.proofs.lemmas.Bool.{false≢true, cases_Bool, and_parts, or_parts, eqb-true, not-false}
 use Rattle.std.proofs.lemmas.Bool.Decides.{nat_tests}
 use Rattle.std.proofs.lemmas.List.{append_assoc, append-nil}
@@ -14,7 +13,7 @@ use Rattle.attrs.specs.declared.clist.ClistFault.{ClistFault}
 use Rattle.attrs.specs.declared.clist.ClistFault.TheVariants.{ClistLong, Memory}
 use Rattle.birdcore.specs.declared.refusal.Refusal.{Refusal}
 use Rattle.birdcore.specs.Lines.{IsNumber}
-use Rattle.birdcore.specs.Script.{IsCommunity, AreCommunities, IsComGiven, IsCom, each_once}
+use Rattle.birdcore.specs.Script.{IsCommunity, AreCommunities, IsCom, each_once}
 use Rattle.birdcore.specs.Command.{IfForm, refusal_of, is_no_colon, IsCut, with_pair, AddsOne, FitsNone, AreOnce}
 use Rattle.birdcore.specs.Config.{first_passes}
 use Rattle.birdcore.specs.Cut.{behind}

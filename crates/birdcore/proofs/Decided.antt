@@ -1,9 +1,9 @@
 -- What the files ask for leaves one answer: the outcomes exclude each other.
-use Rattle.std.proofs.Common.{◌≡◌, true, false, ℕ, ◌+◌, ◌<◌, ◌≤◌, List, [], ◌∷◌, ◌++◌, length, Option, Some, None, refl, sym, ◌∙◌, ap, subst, arith, ◌⊎◌, inl, inr}
-use Rattle.std.specs.Prelude.{⊤, IfSome, IsSomeAnd}
+use Rattle.std.proofs.Common.{◌≡◌, false, ℕ, ◌+◌, List, [], ◌∷◌, ◌++◌, length, Option, Some, None, refl, sym, ◌∙◌, ap, subst, arith, inl, inr}
+use Rattle.std.specs.Prelude.{IfSome, IsSomeAnd}
 use Rattle.std.specs.String.{string_bytes}
 use Rattle.std.proofs.lemmas.Bool.{cases_Bool}
-use Rattle.std.specs.Io.KnownBytes.{Appends, Keeps}
+use Rattle.std.specs.Io.KnownBytes.{Appends}
 use Rattle.birdcore.specs.declared.config.Config.{Config}
 use Rattle.birdcore.specs.declared.script.Line.{Line}
 use Rattle.birdcore.specs.declared.status.Status.{Status}
@@ -11,9 +11,8 @@ use Rattle.birdcore.specs.declared.status.Status.TheVariants.{Usage, NotBuilt, R
 use Rattle.birdcore.specs.declared.status.Status.TheVariants as variants
 use Rattle.birdcore.specs.Config.{IsConfig}
 use Rattle.birdcore.specs.Script.{IsLine, AreLines, IsScript, IsBadLine, is_passed, without_comments}
-use Rattle.birdcore.specs.Transfer.{limit}
 use Rattle.birdcore.specs.Words.{files_named}
-use Rattle.birdcore.specs.Outcome.{Outcome, Misused, OverLimit, OutOfForm, Played, Held, Accepts, IsAccepted, IsLong, IsNoConfig, FilesReport, FilesAsk, Asks, IfReport}
+use Rattle.birdcore.specs.Outcome.{Outcome, Misused, OverLimit, OutOfForm, Played, Held, IsAccepted, IsLong, IsNoConfig, FilesReport, FilesAsk, Asks}
 use Rattle.birdcore.specs.Answer.{FilesRefuse, IsAnswered, Fits}
 use Rattle.birdcore.proofs.SaidOnce.{configurations_agree}
 use Rattle.birdcore.proofs.ScriptLines.{lines_passed, lines_counted, lines_joined}

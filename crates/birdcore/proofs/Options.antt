@@ -2,8 +2,8 @@
 use Rattle.std.proofs.Common.{◌≡◌, ◌∙◌, sym, ap, refl, subst, ℕ, List, [], ◌∷◌, ◌++◌, length, arith, Option, Some, None, inl, inr}
 use Rattle.std.specs.Prelude.{codes}
 use Rattle.birdcore.specs.Lines.{IsNumber}
-use Rattle.birdcore.specs.Script.{IsOption, IsComGiven, IsCom}
-use Rattle.birdcore.specs.Command.{BeginsNot, BeginWithOption, LacksNumber, BeginWithOptions, AreOptions, AreNoOptions}
+use Rattle.birdcore.specs.Script.{IsOption, IsCom}
+use Rattle.birdcore.specs.Command.{BeginsNot, BeginWithOption, BeginWithOptions, AreOptions}
 
 pub first_byte : (x y : ℕ) (xs ys : List ℕ) → x ∷ xs ≡ y ∷ ys → x ≡ y
 first_byte x y xs ys same = cc
@@ -36,13 +36,6 @@ option_same label words rest rest' (Some m) (Some n) one other =
     let behind : rest ≡ rest' = cc in
     let P : List ℕ → Type 0 = λ w. IsNumber w m in
     (ap (λ (k : ℕ). Some k) (numbers_agree other.0 m n (subst P word one.2) other.2), behind)
-
-option_refused : (label : List ℕ) (words rest : List (List ℕ)) (value : Option ℕ) → LacksNumber label words → BeginWithOption label words value rest → ⊥
-option_refused label words rest None lacks is = is.1 lacks.0 lacks.1
-option_refused label words rest (Some n) lacks is =
-    let whole : label ∷ lacks.0 ≡ label ∷ is.0 ∷ rest = sym lacks.1 ∙ is.1 in
-    let behind : lacks.0 ≡ is.0 ∷ rest = cc in
-    lacks.2 is.0 rest n behind is.2
 
 option_begins_not : (label other : List ℕ) (front rest : List (List ℕ)) (value : Option ℕ) → (label ≡ other → ⊥) → IsOption other front value → BeginsNot label rest → BeginsNot label (front ++ rest)
 option_begins_not label other front rest None differ is behind = λ more e. behind more (sym (ap (λ (l : List (List ℕ)). l ++ rest) is) ∙ e)
@@ -104,25 +97,6 @@ options_same words rest rest' med lp igp med' lp' igp' one other =
     let second = option_same (codes "lp") other.behind_med one.behind_lp other.behind_lp lp lp' (moved _ _ _ _ lp first.1 one.lp_is) other.lp_is in
     let third = option_same (codes "igp") other.behind_lp rest rest' igp igp' (moved _ _ _ _ igp second.1 one.igp_is) other.igp_is in
     (first.0, second.0, third.0, third.1)
-
-pub no_med : (words : List (List ℕ)) → LacksNumber (codes "med") words → AreNoOptions words
-no_med words lacks = λ med lp igp coms are. (
-    let begin = options_begin words med lp igp coms are in
-    option_refused (codes "med") words begin.behind_med med lacks begin.med_is)
-
-pub no_lp : (words behind : List (List ℕ)) (value : Option ℕ) → BeginWithOption (codes "med") words value behind → LacksNumber (codes "lp") behind → AreNoOptions words
-no_lp words behind value read lacks = λ med lp igp coms are. (
-    let begin = options_begin words med lp igp coms are in
-    let first = option_same (codes "med") words behind begin.behind_med value med read begin.med_is in
-    option_refused (codes "lp") behind begin.behind_lp lp lacks (moved _ _ _ _ lp (sym first.1) begin.lp_is))
-
-pub no_igp : (words behind_med behind_lp : List (List ℕ)) (value value' : Option ℕ) → BeginWithOption (codes "med") words value behind_med
-    → BeginWithOption (codes "lp") behind_med value' behind_lp → LacksNumber (codes "igp") behind_lp → AreNoOptions words
-no_igp words behind_med behind_lp value value' read read' lacks = λ med lp igp coms are. (
-    let begin = options_begin words med lp igp coms are in
-    let first = option_same (codes "med") words behind_med begin.behind_med value med read begin.med_is in
-    let second = option_same (codes "lp") behind_med behind_lp begin.behind_lp value' lp read' (moved _ _ _ _ lp (sym first.1) begin.lp_is) in
-    option_refused (codes "igp") behind_lp are.com_words igp lacks (moved _ _ _ _ igp (sym second.1) begin.igp_is))
 
 -- the optional parts of what was read
 pub options_read : (words rest : List (List ℕ)) (med lp igp : Option ℕ) (coms : List (ℕ × ℕ)) → BeginWithOptions words med lp igp rest → IsCom rest coms → AreOptions words med lp igp coms

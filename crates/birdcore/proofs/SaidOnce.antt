@@ -1,30 +1,27 @@
 -- A text says one configuration at most, and one script.
-use Rattle.std.proofs.Common.{◌≡◌, ◌≢◌, ◌∙◌, sym, ap, refl, subst, ℕ, suc, ◌+◌, ◌<◌, ◌≤◌, ◌^◌, Bool, true, false, ◌&&◌, List, [], ◌∷◌, ◌++◌, length, take, drop, map, arith, rules, Option, None}
-use Rattle.std.specs.Prelude.{codes, decimal}
+use Rattle.std.proofs.Common.{◌≡◌, ◌≢◌, ◌∙◌, sym, ap, refl, subst, ℕ, ◌+◌, true, false, List, [], ◌∷◌, ◌++◌, length, arith, Option}
 use Rattle.std.specs.List.{list_all}
 use Rattle.std.proofs.lemmas.Bool.{false≢true, and_parts}
-use Rattle.std.proofs.lemmas.Fmt.{decimal_injective}
 use Rattle.std.proofs.lemmas.List.{append-nil}
 use Rattle.bits_ip.specs.Prefix.{Net}
 use Rattle.bits_ip.specs.Text.{IsAddrText, IsNetText, v4_text}
 use Rattle.bits_ip.specs.declared.address.Addr.{Addr}
-use Rattle.bits_ip.specs.declared.address.Addr.TheVariants.{V4, V6}
+use Rattle.bits_ip.specs.declared.address.Addr.TheVariants.{V4}
 use Rattle.bits_ip.proofs.Nets.{addr_texts_agree, net_texts_agree}
 use Rattle.attrs.specs.Text.{origin_text}
 use Rattle.attrs.specs.declared.attributes.Origin.{Origin}
 use Rattle.attrs.specs.declared.attributes.Origin.TheVariants.{Igp, Egp, Incomplete}
 use Rattle.birdcore.specs.declared.config.Config.{Config}
 use Rattle.birdcore.specs.declared.operation.Given.{Given}
-use Rattle.birdcore.specs.declared.operation.Op.{Op}
 use Rattle.birdcore.specs.declared.operation.Op.TheVariants.{SessionUp, Add, Del}
 use Rattle.birdcore.specs.declared.script.Line.{Line}
 use Rattle.birdcore.specs.declared.script.Line.TheVariants.{Apply, Show}
 use Rattle.birdcore.specs.Lines.{IsNumber}
-use Rattle.birdcore.specs.Config.{is_separator, Begins, IsTokens, IsConfig, IsProtocolName, config_tokens}
+use Rattle.birdcore.specs.Config.{is_separator, Begins, IsTokens, IsConfig, config_tokens}
 use Rattle.birdcore.specs.Cut.{behind}
-use Rattle.birdcore.specs.Script.{AreNumbers, IsAdd, IsDel, IsCom, IsLine, AreLines, IsScript, actor_word, lines_words, without_comments}
+use Rattle.birdcore.specs.Script.{AreNumbers, IsAdd, IsDel, IsCom, IsLine, AreLines, IsScript, lines_words, without_comments}
 use Rattle.birdcore.specs.Command.{BeginWithOptions}
-use Rattle.birdcore.specs.Token.{is_token, closing}
+use Rattle.birdcore.specs.Token.{is_token}
 use Rattle.birdcore.proofs.AddressTexts.{v4_of_family}
 use Rattle.birdcore.proofs.AddParts.{tail_of, third_same, via_of_add, path_of_add, options_begin_add, paths_same}
 use Rattle.birdcore.proofs.CommunityWords.{coms_agree}

@@ -20,7 +20,7 @@ use Rattle.birdcore.specs.declared.script.Line.TheVariants.{Apply, Show}
 use Rattle.birdcore.specs.Lines.{IsNumber}
 use Rattle.birdcore.specs.Script.{AreNumbers, AreCommunities, IsAdd, IsDel, IsCommunity, IsOption, IsCom, each_once, is_passed, IsLine}
 
--- why a line isn't read to whose communities one can't be put
+-- what a community that couldn't be added to a line's list says of the line
 abbrev pub refusal_of : ClistFault → Refusal
 refusal_of ClistLong = Form
 refusal_of faults.Memory = Memory
@@ -117,14 +117,14 @@ pub record IsCut (word left right : List ℕ) : Type 0 where
 abbrev pub with_pair : List (ℕ × ℕ) → ℕ × ℕ → List (ℕ × ℕ)
 with_pair pairs pair = if has_pair pairs pair then pairs else pairs ++ pair ∷ []
 
--- the word is a community, and was put to the list
+-- The word is a community, and the list has it now.
 pub record AddsOne (word : List ℕ) (old new : List (ℕ × ℕ)) : Type 0 where
   pub pair : ℕ × ℕ
   pub pair_is : IsCommunity word pair
   pub added : new ≡ with_pair old pair
   pub few : length new ≤ 64
 
--- the word is no community with which the list has 64 at most
+-- with any community that the word spells the list would have over 64
 abbrev pub FitsNone : List ℕ → List (ℕ × ℕ) → Type 0
 FitsNone word old = (pair : ℕ × ℕ) → IsCommunity word pair → 64 < length (with_pair old pair)
 

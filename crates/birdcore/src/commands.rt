@@ -1,4 +1,4 @@
-ghost use Rattle.std.specs.Prelude.{◌≡◌, ◌<◌, ◌^◌, ℕ, List, [], ◌∷◌, codes, IsTrue, ◌↔◌, MatchOption, MatchResult};
+ghost use Rattle.std.specs.Prelude.{◌≡◌, ◌<◌, ◌^◌, ℕ, [], ◌∷◌, codes, IsTrue, ◌↔◌, MatchOption, MatchResult};
 ghost use Rattle.bits_ip.specs.Prefix.{Net};
 ghost use Rattle.bits_ip.specs.Text.{v4_text};
 ghost use Rattle.birdcore.specs.declared.script.Line.{Line};

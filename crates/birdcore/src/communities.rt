@@ -1,4 +1,4 @@
-ghost use Rattle.std.specs.Prelude.{◌≡◌, ◌≤◌, ◌<◌, ◌^◌, ℕ, List, ◌∷◌, ◌++◌, length, IsTrue, MatchOption, MatchResult};
+ghost use Rattle.std.specs.Prelude.{◌≡◌, ◌≤◌, ◌<◌, ◌^◌, ℕ, List, length, IsTrue, MatchOption, MatchResult};
 ghost use Rattle.std.specs.List.{prefix_len, list_all};
 ghost use Rattle.birdcore.specs.Lines.{words_of, IsNumber};
 ghost use Rattle.birdcore.specs.Script.{IsCommunity, IsCom};
