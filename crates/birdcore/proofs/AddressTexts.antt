@@ -10,7 +10,7 @@ use Rattle.std.proofs.lemmas.Fmt.{decimal_is_IsNumeral}
 use Rattle.std.proofs.lemmas.List.{append-nil}
 use Rattle.std.proofs.lemmas.List.Folds.{list_all-append}
 use Rattle.std.proofs.lemmas.Str.Parse.{digit_from_value}
-use Rattle.bits_ip.proofs.Nets.{addr_spelling_run, net_spelling_run}
+use Rattle.bits_ip.proofs.Nets.{addr_spelling_run, net_spelling_run, addr_texts_agree, net_texts_agree}
 use Rattle.bits_ip.specs.Address.{family_of}
 use Rattle.bits_ip.specs.Prefix.{Net, IsPrefix}
 use Rattle.bits_ip.specs.Text.{v4_text, is_addr_byte, is_net_byte, addr_run, net_run, IsAddrText, IsNetText}
@@ -71,3 +71,17 @@ refused_net word net bad is =
 
 pub other_length_net : (word : List ℕ) (net : Net) (len : ℕ) → len ≡ length (net_run word) → len ≢ length word → IsNetText word net → ⊥
 other_length_net word net len len_is other is = other (len_is ∙ ap length (net_run_whole word net is))
+
+-- What is read as an IPv6 address spells no IPv4 one.
+pub not_v4 : (word : List ℕ) (n m : ℕ) (addr : Addr) → addr ≡ V6 m → IsAddrText (addr_run word) addr → IsAddrText word (V4 n) → ⊥
+not_v4 word n m addr six found is =
+    let P : List ℕ → Type 0 = λ w. IsAddrText w addr in
+    let same : V4 n ≡ V6 m = addr_texts_agree word (V4 n) addr is (subst P (addr_run_whole word (V4 n) is) found) ∙ six in
+    absurd cc
+
+pub not_v4_net : (word : List ℕ) (net found : Net) → family_of found.addr ≡ families.V6 → IsNetText (net_run word) found → IsNetText word net → family_of net.addr ≡ families.V4 → ⊥
+not_v4_net word net found six found_is is four =
+    let P : List ℕ → Type 0 = λ w. IsNetText w found in
+    let same : net ≡ found = net_texts_agree word net found is (subst P (net_run_whole word net is) found_is) in
+    let families_agree : families.V4 ≡ families.V6 = sym four ∙ ap (λ (n : Net). family_of n.addr) same ∙ six in
+    absurd cc

@@ -1,4 +1,5 @@
-use Rattle.birdcore.proofs.AddressTexts.{refused_net, other_length_net}
+use Rattle.std.proofs.Common.{sym}
+use Rattle.birdcore.proofs.AddressTexts.{refused_net, other_length_net, not_v4_net}
 use Rattle.birdcore.proofs.words.read_v4_net.Goals as goal
 
 pub returns-in_default : goal.returns-in_default
@@ -6,3 +7,6 @@ returns-in_default c = λ net is family. refused_net c.args.word.now net c.in_de
 
 pub returns-then-len-word : goal.returns-then-len-word
 returns-then-len-word c = λ net is family. other_length_net c.args.word.now net _ c.in-Ok.ensures.len c.if-len-word.true is
+
+pub returns-in-V6 : goal.returns-in-V6
+returns-in-V6 c = λ net is four. not_v4_net c.args.word.now net _ (sym c.in-V6.ensures) c.in-Ok.ensures.found is four
