@@ -1,0 +1,6 @@
+mod Runs
+mod Found
+mod Reached
+mod Tokens
+mod Between
+mod Readings

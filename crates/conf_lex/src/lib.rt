@@ -1,10 +1,17 @@
 //! The tokens of BIRD's configuration language, and the words that its grammars stand on.
 #![tactic(auto)]
 
+mod gaps;
+mod lexer;
+mod shapes;
 mod symbol;
+#[cfg(test)]
+mod tests;
 mod token;
+mod values;
 mod word;
 
+pub use lexer::lex;
 pub use symbol::Symbol;
 pub use token::{LexFault, Token, TokenKind};
 pub use word::{Word, Words};
