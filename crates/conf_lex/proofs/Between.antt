@@ -1,9 +1,9 @@
 -- The gap at the front of a text.
-use Rattle.std.proofs.Common.{◌≡◌, ℕ, suc, zero, ◌+◌, ◌<◌, ◌≤◌, Bool, true, false, cond, not, ◌&&◌, ◌||◌, ◌==◌, List, [], ◌∷◌, ◌++◌, length, take, drop, Option, Some, None, refl, sym, ◌∙◌, ap, subst, arith, inl, inr, ◌⊎◌, append_assoc, append-nil}
+use Rattle.std.proofs.Common.{◌≡◌, ℕ, suc, zero, ◌+◌, ◌<◌, ◌≤◌, Bool, true, false, cond, not, ◌&&◌, ◌||◌, ◌==◌, List, [], ◌∷◌, ◌++◌, length, take, drop, Option, Some, None, refl, sym, ◌∙◌, ap, subst, arith, inl, inr, ◌⊎◌, append_assoc, append-nil, get_or, drop-cons}
 use Rattle.std.specs.Prelude.{IsTrue}
 use Rattle.std.specs.List.{prefix_len, take_while, list_all, concat}
 use Rattle.std.specs.Option.{option_map}
-use Rattle.std.proofs.lemmas.Bool.{cases_Bool, and_parts, and_from, eqb-true, not-true, not_from_false, false≢true}
+use Rattle.std.proofs.lemmas.Bool.{cases_Bool, and_parts, and_from, eqb-true, ne_eqb, not-true, not_from_false, false≢true}
 use Rattle.std.proofs.lemmas.Bool.Decides.{nat_tests}
 use Rattle.std.proofs.lemmas.List.{take-append-drop, length-append, length-take, length-drop, drop-drop, drop-take, take-take}
 use Rattle.std.proofs.lemmas.List.Folds.{length-prefix_len, concat-append}
@@ -256,3 +256,41 @@ gap_more text k n within gap more =
 
 pub gap_none : (text : List ℕ) → IsGap (take 0 text) (drop 0 text)
 gap_none text = record { pieces = []; whole = refl; separators = tt }
+
+-- The lexer looks for the end of a comment byte by byte.
+
+drop-next : (text : List ℕ) (i : ℕ) → i < length text → drop i text ≡ get_or text i 0 ∷ drop (i + 1) text
+drop-next text i within = let next : suc i ≡ i + 1 = omega arith in drop-cons text i 0 within ∙ ap (λ (n : ℕ). get_or text i 0 ∷ drop n text) next
+
+close_at : (text : List ℕ) (i : ℕ) → i < length text → ((get_or text i 0 == 42) && first_passes (λ c. c == 47) (drop (i + 1) text)) ≡ false → close_len (drop i text) ≡ option_map (λ n. n + 1) (close_len (drop (i + 1) text))
+close_at text i within open' =
+    let cut : drop i text ≡ get_or text i 0 ∷ drop (i + 1) text = drop-next text i within in
+    ap close_len cut ∙ ap (λ (t : Bool). cond t (Some 2) (option_map (λ n. n + 1) (close_len (drop (i + 1) text)))) open'
+
+map_twice : (i : ℕ) (o : Option ℕ) → option_map (λ n. n + i) (option_map (λ n. n + 1) o) ≡ option_map (λ n. n + (i + 1)) o
+map_twice i None = refl
+map_twice i (Some n) = let same : n + 1 + i ≡ n + (i + 1) = omega arith in ap (λ (m : ℕ). Some m) same
+
+pub close_more : (text : List ℕ) (i : ℕ) → i < length text → ((get_or text i 0 == 42) && first_passes (λ c. c == 47) (drop (i + 1) text)) ≡ false
+    → close_len text ≡ option_map (λ n. n + i) (close_len (drop i text)) → close_len text ≡ option_map (λ n. n + (i + 1)) (close_len (drop (i + 1) text))
+close_more text i within open' is = is ∙ ap (option_map (λ n. n + i)) (close_at text i within open') ∙ map_twice i (close_len (drop (i + 1) text))
+
+pub close_here : (text : List ℕ) (i : ℕ) → i < length text → ((get_or text i 0 == 42) && first_passes (λ c. c == 47) (drop (i + 1) text)) ≡ true
+    → close_len text ≡ option_map (λ n. n + i) (close_len (drop i text)) → Some (i + 2) ≡ close_len text
+close_here text i within closes is =
+    let cut : drop i text ≡ get_or text i 0 ∷ drop (i + 1) text = drop-next text i within in
+    let two : close_len (drop i text) ≡ Some 2 = ap close_len cut ∙ ap (λ (t : Bool). cond t (Some 2) (option_map (λ n. n + 1) (close_len (drop (i + 1) text)))) closes in
+    let same : 2 + i ≡ i + 2 = omega arith in
+    sym (is ∙ ap (option_map (λ n. n + i)) two ∙ ap (λ (n : ℕ). Some n) same)
+
+and_last : (a : Bool) {b : Bool} → b ≡ false → (a && b) ≡ false
+and_last true e = e
+and_last false e = refl
+
+pub close_no_slash : (text : List ℕ) (i : ℕ) → i < length text → first_passes (λ c. c == 47) (drop (i + 1) text) ≡ false
+    → close_len text ≡ option_map (λ n. n + i) (close_len (drop i text)) → close_len text ≡ option_map (λ n. n + (i + 1)) (close_len (drop (i + 1) text))
+close_no_slash text i within other is = close_more text i within (and_last (get_or text i 0 == 42) other) is
+
+pub close_no_star : (text : List ℕ) (i : ℕ) → i < length text → (get_or text i 0 ≡ 42 → ⊥)
+    → close_len text ≡ option_map (λ n. n + i) (close_len (drop i text)) → close_len text ≡ option_map (λ n. n + (i + 1)) (close_len (drop (i + 1) text))
+close_no_star text i within other is = close_more text i within (ap (λ (t : Bool). t && first_passes (λ c. c == 47) (drop (i + 1) text)) (ne_eqb (get_or text i 0) 42 other)) is

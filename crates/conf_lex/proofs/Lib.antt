@@ -4,3 +4,4 @@ mod Reached
 mod Tokens
 mod Between
 mod Readings
+mod Numbers

@@ -1,6 +1,9 @@
 -- A text has one reading.
 use Rattle.std.proofs.Common.{◌≡◌, ℕ, suc, zero, ◌+◌, ◌<◌, ◌≤◌, Bool, true, false, cond, not, ◌&&◌, ◌||◌, ◌==◌, List, [], ◌∷◌, ◌++◌, length, take, drop, Option, Some, None, refl, sym, ◌∙◌, ap, subst, arith, inl, inr, ◌⊎◌, append_assoc, append-nil}
-use Rattle.std.proofs.lemmas.Bool.{cases_Bool, and_parts, and_from, not-true, false≢true}
+use Rattle.std.specs.Prelude.{count_by, nat_le, max}
+use Rattle.std.specs.List.{prefix_len, take_while}
+use Rattle.std.proofs.lemmas.List.Sums.{sum_by-cons}
+use Rattle.std.proofs.lemmas.Bool.{cases_Bool, and_parts, and_from, not-true, false≢true, leb-true, le-leb}
 use Rattle.std.proofs.lemmas.Bool.Decides.{nat_tests}
 use Rattle.std.proofs.lemmas.List.{take-append-drop, length-append, length-take, length-drop, drop-drop}
 use Rattle.std.specs.Option.{option_map}
@@ -14,10 +17,10 @@ use Rattle.conf_lex.specs.declared.shapes.Sort.TheVariants as sorts
 use Rattle.conf_lex.specs.declared.token.Token.{Token}
 use Rattle.conf_lex.specs.declared.token.TokenKind.{TokenKind}
 use Rattle.conf_lex.specs.declared.token.TokenKind.TheVariants as kinds
-use Rattle.conf_lex.specs.Shapes.{is_blank, is_sign, is_colons_byte, first_passes, IsShape, IsToken, IsValue, IsNumber, IsHexNumber, IsGap, IsSeparator, Blank, Line, Block}
+use Rattle.conf_lex.specs.Shapes.{is_blank, is_sign, is_name_byte, is_colons_byte, first_passes, IsShape, IsToken, IsValue, IsNumber, IsHexNumber, IsGap, IsSeparator, Blank, Line, Block}
 use Rattle.conf_lex.specs.Fronts.{begins_comment, begins_colons, separator_len, sign_len, has_sign, plain_front, front, Tells}
 use Rattle.conf_lex.specs.Lex.{IsNext, Lexes, HasNoSeparator, HasNoToken, IsStuck, Stops}
-use Rattle.conf_lex.proofs.Runs.{first_is}
+use Rattle.conf_lex.proofs.Runs.{first_is, len_yes, len_no, run_yes, behind_yes}
 use Rattle.conf_lex.proofs.Reached.{reaches, is_mark_first, plain_mark, no_colons_at, front_plain, sign_test}
 use Rattle.conf_lex.proofs.Tokens.{front_token, no_token, one_token, no_front, shape_some}
 use Rattle.conf_lex.proofs.Between.{separator_is, gap_once, Separates, some_none, some_piece}
@@ -94,11 +97,11 @@ mark_kind : (slice : List ℕ) (k : TokenKind) → IsValue sorts.Mark slice k �
 mark_kind slice kinds.Sign is = refl
 mark_kind slice _ is = absurd is
 
-decimal_kind : (slice : List ℕ) (k : TokenKind) → IsValue sorts.Decimal slice k → (n : ℕ) × (k ≡ kinds.Number n) × IsNumber 10 slice n
+pub decimal_kind : (slice : List ℕ) (k : TokenKind) → IsValue sorts.Decimal slice k → (n : ℕ) × (k ≡ kinds.Number n) × IsNumber 10 slice n
 decimal_kind slice (kinds.Number n) is = (n, refl, is)
 decimal_kind slice _ is = absurd is
 
-hexadecimal_kind : (slice : List ℕ) (k : TokenKind) → IsValue sorts.Hexadecimal slice k → (n : ℕ) × (k ≡ kinds.Number n) × IsHexNumber slice n
+pub hexadecimal_kind : (slice : List ℕ) (k : TokenKind) → IsValue sorts.Hexadecimal slice k → (n : ℕ) × (k ≡ kinds.Number n) × IsHexNumber slice n
 hexadecimal_kind slice (kinds.Number n) is = (n, refl, is)
 hexadecimal_kind slice _ is = absurd is
 
@@ -110,7 +113,7 @@ pub colons_kind : (slice : List ℕ) (k : TokenKind) → IsValue sorts.Colons sl
 colons_kind slice (kinds.Ip (V6 n)) is = (n, refl, is)
 colons_kind slice _ is = absurd is
 
-hex_same : (slice : List ℕ) (m n : ℕ) → IsHexNumber slice m → IsHexNumber slice n → m ≡ n
+pub hex_same : (slice : List ℕ) (m n : ℕ) → IsHexNumber slice m → IsHexNumber slice n → m ≡ n
 hex_same slice m n one other =
     let spelled : 48 ∷ 120 ∷ one.digits ≡ 48 ∷ 120 ∷ other.digits = sym one.whole ∙ other.whole in
     let digits : one.digits ≡ other.digits = cc in
@@ -287,3 +290,69 @@ gap_stops text at g within gap bare some none =
       no_separator = subst Q here bare;
       no_token = none;
     }
+
+-- what spells an address of one family spells none of the other
+
+pub dotted_not_v6 : (slice : List ℕ) (n : ℕ) → IsAddrText slice (V6 n) → (kind : TokenKind) → IsValue sorts.Dotted slice kind → ⊥
+dotted_not_v6 slice n is kind value =
+    let spelled = dotted_kind slice kind value in
+    let same : ◌≡◌ {A = Addr} (V6 n) (V4 spelled.0) = addr_texts_agree slice (V6 n) (V4 spelled.0) is spelled.2 in
+    cc
+
+pub colons_not_v4 : (slice : List ℕ) (n : ℕ) → IsAddrText slice (V4 n) → (kind : TokenKind) → IsValue sorts.Colons slice kind → ⊥
+colons_not_v4 slice n is kind value =
+    let spelled = colons_kind slice kind value in
+    let same : ◌≡◌ {A = Addr} (V4 n) (V6 spelled.0) = addr_texts_agree slice (V4 n) (V6 spelled.0) is spelled.2 in
+    cc
+
+pub dotted_none : (slice : List ℕ) → ((addr : Addr) → IsAddrText slice addr → ⊥) → (kind : TokenKind) → IsValue sorts.Dotted slice kind → ⊥
+dotted_none slice none kind value = let spelled = dotted_kind slice kind value in none (V4 spelled.0) spelled.2
+
+pub colons_none : (slice : List ℕ) → ((addr : Addr) → IsAddrText slice addr → ⊥) → (kind : TokenKind) → IsValue sorts.Colons slice kind → ⊥
+colons_none slice none kind value = let spelled = colons_kind slice kind value in none (V6 spelled.0) spelled.2
+
+-- In a run that begins no IPv6 address none begins at any later byte.
+
+abbrev is_colon : ℕ → Bool
+is_colon b = b == 58
+
+colons_later : (b : ℕ) (bytes : List ℕ) → is_colons_byte b ≡ true → begins_colons bytes ≡ true → begins_colons (b ∷ bytes) ≡ true
+colons_later b bytes is colons =
+    let parts = and_parts (nat_le 2 (count_by is_colon (take_while is_colons_byte bytes))) (not (first_passes is_name_byte (drop (prefix_len is_colons_byte bytes) bytes))) colons in
+    let more : count_by is_colon (take_while is_colons_byte (b ∷ bytes)) ≡ cond (b == 58) 1 0 + count_by is_colon (take_while is_colons_byte bytes) =
+        ap (count_by is_colon) (run_yes is_colons_byte b bytes is) ∙ sum_by-cons (λ c. cond (is_colon c) 1 0) b (take_while is_colons_byte bytes) in
+    let two : nat_le 2 (count_by is_colon (take_while is_colons_byte (b ∷ bytes))) ≡ true = le-leb 2 _ (omega (arith, more, leb-true 2 _ parts.0)) in
+    let last : not (first_passes is_name_byte (drop (prefix_len is_colons_byte (b ∷ bytes)) (b ∷ bytes))) ≡ true = ap (λ (l : List ℕ). not (first_passes is_name_byte l)) (behind_yes is_colons_byte b bytes is) ∙ parts.1 in
+    and_from (nat_le 2 (count_by is_colon (take_while is_colons_byte (b ∷ bytes)))) _ two last
+
+pub run_plain : (text : List ℕ) (k : ℕ) → begins_colons text ≡ false → k < prefix_len is_colons_byte text → begins_colons (drop k text) ≡ false
+run_plain [] k plain within = absurd (omega arith)
+run_plain (b ∷ bytes) zero plain within = plain
+run_plain (b ∷ bytes) (suc k) plain within = elim (cases_Bool (is_colons_byte b)) [
+  | inl is ↦ elim (cases_Bool (begins_colons bytes)) [
+      | inl colons ↦ absurd (false≢true (sym plain ∙ colons_later b bytes is colons))
+      | inr other ↦ run_plain bytes k other (omega (arith, within, len_yes is_colons_byte b bytes is))
+    ]
+  | inr fails ↦ absurd (omega (arith, within, len_no is_colons_byte b bytes fails))
+]
+
+-- at each byte of the run, and at the first
+pub plain_below : (text : List ℕ) (k n : ℕ) → begins_colons text ≡ false → n ≡ prefix_len is_colons_byte text → k < max n 1 → begins_colons (drop k text) ≡ false
+plain_below text zero n plain len within = plain
+plain_below text (suc k) n plain len within = run_plain text (suc k) plain (omega arith)
+
+pub no_tokens : (text : List ℕ) → front text ≡ None → HasNoToken text
+no_tokens text none sort slice rest kind token value = no_token text none sort slice rest token
+
+-- a token that says nothing
+pub no_value : (text : List ℕ) (sort : Sort) (n : ℕ) → front text ≡ Some (sort, n) → ((kind : TokenKind) → IsValue sort (take n text) kind → ⊥) → HasNoToken text
+no_value text sort n is none other slice rest kind token value =
+    let same = one_token text sort n is other slice rest token in
+    let P : Sort → Type 0 = λ s. IsValue s slice kind in
+    let Q : List ℕ → Type 0 = λ l. IsValue sort l kind in
+    none kind (subst Q same.1 (subst P same.0 value))
+
+pub tells : (text : List ℕ) (sort : Sort) (n : ℕ) (kind : TokenKind) → front text ≡ Some (sort, n) → IsValue sort (take n text) kind → Tells text kind n
+tells text sort n kind is value =
+    let token = front_token text sort n is in
+    record { sort = sort; some = token.0; within = token.1; token = token.2; value = value }

@@ -1,4 +1,4 @@
-ghost use Rattle.std.specs.Prelude.{◌≡◌, ◌≤◌, ℕ, List, length, drop, take, not};
+ghost use Rattle.std.specs.Prelude.{◌≡◌, ◌≤◌, ℕ, List, length, drop, take, not, IfSome, ◌+◌};
 ghost use Rattle.std.specs.List.{prefix_len};
 ghost use Rattle.conf_lex.specs.Shapes.{is_newline, IsGap};
 ghost use Rattle.conf_lex.specs.Fronts.{close_len, separator_len};
@@ -15,7 +15,8 @@ fn line_len(text: &[u8]) -> usize
 
 /// How many bytes there are up to the end of the first `*/`.
 fn close_len(text: &[u8]) -> Option<usize>
-    ensures { result ≡ close_len text.now }
+    ensures len { result ≡ close_len text.now }
+    ensures within { IfSome result (λ n. n ≤ length text.now + 1) }
 {
     for (place, byte) in text.iter().enumerate() {
         if *byte == b'*' && begins_with(tail(text, place + 1), b'/') {

@@ -1,13 +1,14 @@
 ghost use Rattle.std.specs.Prelude.{◌≡◌, ◌≤◌, ℕ, List, MatchOption};
 ghost use Rattle.std.specs.Str.Parse.{AllDigits};
 ghost use Rattle.bits_ip.specs.Text.{IsAddrText, is_addr_byte};
-ghost use Rattle.bits_ip.specs.declared.address.Addr.TheVariants.{V4, V6};
+ghost use Rattle.bits_ip.specs.declared.address.Addr.{Addr};
 ghost use Rattle.std.specs.List.{list_all};
 ghost use Rattle.std.specs.Prelude.{IsTrue};
-ghost use Rattle.conf_lex.specs.Shapes.{IsShape, IsNumber, IsHexNumber, IsHexadecimal, IsValue};
+ghost use Rattle.conf_lex.specs.Shapes.{IsShape, IsDigits, IsNumber, IsHexadecimal, IsValue};
+ghost use Rattle.conf_lex.specs.declared.shapes.Sort.TheVariants as sorts;
 ghost use Rattle.conf_lex.specs.declared.token.TokenKind.{TokenKind};
 
-use crate::shapes::Sort;
+use crate::shapes::{Sort, tail};
 use crate::token::TokenKind;
 use bits_ip::{Addr, read_addr};
 
@@ -21,30 +22,51 @@ fn number(digits: &[u8], radix: u32) -> Option<u32>
     u32::from_str_radix(text, radix).ok()
 }
 
-fn hexadecimal_number(slice: &[u8]) -> Option<u32>
-    requires { IsHexadecimal slice.now }
-    ensures { MatchOption result ((n : ℕ) → IsHexNumber slice.now n → ⊥) (λ n. IsHexNumber slice.now n) }
+fn decimal(slice: &[u8]) -> Option<TokenKind>
+    requires { IsDigits slice.now }
+    ensures { MatchOption result ((kind : TokenKind) → IsValue sorts.Decimal slice.now kind → ⊥) (λ kind. IsValue sorts.Decimal slice.now kind) }
 {
-    number(&slice[2..], 16)
+    let value = number(slice, 10)?;
+    Some(TokenKind::Number(value))
 }
 
-fn v4(slice: &[u8]) -> Option<Addr>
+fn hexadecimal(slice: &[u8]) -> Option<TokenKind>
+    requires { IsHexadecimal slice.now }
+    ensures { MatchOption result ((kind : TokenKind) → IsValue sorts.Hexadecimal slice.now kind → ⊥) (λ kind. IsValue sorts.Hexadecimal slice.now kind) }
+{
+    let value = number(tail(slice, 2), 16)?;
+    Some(TokenKind::Number(value))
+}
+
+fn address(slice: &[u8]) -> Option<Addr>
     requires { IsTrue (list_all is_addr_byte slice.now) }
-    ensures { MatchOption result ((n : ℕ) → IsAddrText slice.now (V4 n) → ⊥) (λ addr. (n : ℕ) × (addr ≡ V4 n) × IsAddrText slice.now (V4 n)) }
+    ensures { MatchOption result ((addr : Addr) → IsAddrText slice.now addr → ⊥) (λ addr. IsAddrText slice.now addr) }
 {
     match read_addr(slice) {
-        Ok((Addr::V4(number), _)) => Some(Addr::V4(number)),
-        _ => None,
+        Ok((addr, _)) => Some(addr),
+        Err(_) => None,
     }
 }
 
-fn v6(slice: &[u8]) -> Option<Addr>
+fn dotted(slice: &[u8]) -> Option<TokenKind>
     requires { IsTrue (list_all is_addr_byte slice.now) }
-    ensures { MatchOption result ((n : ℕ) → IsAddrText slice.now (V6 n) → ⊥) (λ addr. (n : ℕ) × (addr ≡ V6 n) × IsAddrText slice.now (V6 n)) }
+    ensures { MatchOption result ((kind : TokenKind) → IsValue sorts.Dotted slice.now kind → ⊥) (λ kind. IsValue sorts.Dotted slice.now kind) }
 {
-    match read_addr(slice) {
-        Ok((Addr::V6(number), _)) => Some(Addr::V6(number)),
-        _ => None,
+    match address(slice) {
+        Some(Addr::V4(number)) => Some(TokenKind::Ip(Addr::V4(number))),
+        Some(Addr::V6(_)) => None,
+        None => None,
+    }
+}
+
+fn colons(slice: &[u8]) -> Option<TokenKind>
+    requires { IsTrue (list_all is_addr_byte slice.now) }
+    ensures { MatchOption result ((kind : TokenKind) → IsValue sorts.Colons slice.now kind → ⊥) (λ kind. IsValue sorts.Colons slice.now kind) }
+{
+    match address(slice) {
+        Some(Addr::V6(number)) => Some(TokenKind::Ip(Addr::V6(number))),
+        Some(Addr::V4(_)) => None,
+        None => None,
     }
 }
 
@@ -56,10 +78,10 @@ pub fn kind_of(sort: Sort, slice: &[u8]) -> Option<TokenKind>
     match sort {
         Sort::Word => Some(TokenKind::Name),
         Sort::Quote => Some(TokenKind::Quoted),
-        Sort::Decimal => Some(TokenKind::Number(number(slice, 10)?)),
-        Sort::Hexadecimal => Some(TokenKind::Number(hexadecimal_number(slice)?)),
-        Sort::Dotted => Some(TokenKind::Ip(v4(slice)?)),
-        Sort::Colons => Some(TokenKind::Ip(v6(slice)?)),
+        Sort::Decimal => decimal(slice),
+        Sort::Hexadecimal => hexadecimal(slice),
+        Sort::Dotted => dotted(slice),
+        Sort::Colons => colons(slice),
         Sort::Text => Some(TokenKind::Text),
         Sort::Mark => Some(TokenKind::Sign),
     }

@@ -1,0 +1,1 @@
+use Rattle.conf_lex.proofs.lexer.lex.Goals as goal
