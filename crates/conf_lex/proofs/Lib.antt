@@ -5,3 +5,4 @@ mod Tokens
 mod Between
 mod Readings
 mod Numbers
+mod Spelled

@@ -1,3 +1,5 @@
 pub mod Shapes
 pub mod Lex
 pub mod Fronts
+pub mod Symbols
+pub mod Words

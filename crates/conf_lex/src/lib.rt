@@ -1,9 +1,11 @@
 //! The tokens of BIRD's configuration language, and the words that its grammars stand on.
 #![tactic(auto)]
 
+mod folding;
 mod gaps;
 mod lexer;
 mod shapes;
+mod spelling;
 mod symbol;
 #[cfg(test)]
 mod tests;
@@ -11,6 +13,7 @@ mod token;
 mod values;
 mod word;
 
+pub use folding::words;
 pub use lexer::lex;
 pub use symbol::Symbol;
 pub use token::{LexFault, Token, TokenKind};
