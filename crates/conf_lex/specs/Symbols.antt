@@ -1,5 +1,5 @@
 -- The words and signs of the grammars and how they are spelled.
-use Rattle.std.specs.Prelude.{◌≡◌, ℕ, Bool, true, false, ◌==◌, if◌then◌else◌, Option, Some, None, List, [], ◌∷◌, length, codes, filter}
+use Rattle.std.specs.Prelude.{◌≡◌, ℕ, Bool, true, false, ◌==◌, ◌&&◌, not, nat_le, if◌then◌else◌, Option, Some, None, List, [], ◌∷◌, length, codes, filter}
 use Rattle.std.specs.Bool.{nat_eq}
 use Rattle.std.specs.Cmp.Lexicographic.{pointwise}
 use Rattle.conf_lex.specs.declared.symbol.Symbol.{Symbol}
@@ -55,13 +55,17 @@ abbrev pub lookup : List ℕ → List (List ℕ × Symbol) → Option Symbol
 lookup text [] = None
 lookup text (entry ∷ entries) = if pointwise nat_eq entry.0 text then Some entry.1 else lookup text entries
 
--- the symbol that is spelled so
-abbrev pub symbol_of : List ℕ → Option Symbol
+-- the symbol that is spelled so, if there is one
+unfoldable pub symbol_of : List ℕ → Option Symbol
 symbol_of text = lookup text spellings
 
 -- the spellings of so many bytes
 abbrev pub spellings_of : ℕ → List (List ℕ × Symbol)
 spellings_of n = filter (λ entry. length entry.0 == n) spellings
+
+-- those of no such length from 1 to 8
+abbrev pub long_spellings : List (List ℕ × Symbol)
+long_spellings = filter (λ entry. not (nat_le 1 (length entry.0) && nat_le (length entry.0) 8)) spellings
 
 -- symbols that can be a whole expression, or at which a later check may refuse
 abbrev pub is_placed : Symbol → Bool

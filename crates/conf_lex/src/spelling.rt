@@ -1,5 +1,5 @@
 ghost use Rattle.std.specs.Prelude.{◌≡◌, List, map, length};
-ghost use Rattle.conf_lex.specs.Symbols.{lookup, symbol_of, spellings_of, is_placed};
+ghost use Rattle.conf_lex.specs.Symbols.{lookup, symbol_of, spellings_of, long_spellings, is_placed};
 
 use crate::symbol::Symbol;
 
@@ -204,86 +204,30 @@ fn of_eight(bytes: &[u8]) -> Option<Symbol>
     find(&table, bytes)
 }
 
-fn of_nine(bytes: &[u8]) -> Option<Symbol>
-    ensures { result ≡ lookup bytes.now (spellings_of 9) }
+fn of_more(bytes: &[u8]) -> Option<Symbol>
+    ensures { result ≡ lookup bytes.now long_spellings }
 {
-    let table: [(&[u8], Symbol); 3] = [
+    let table: [(&[u8], Symbol); 21] = [
         (b"blackhole", Symbol::Blackhole),
-        (b"interpret", Symbol::Interpret),
-        (b"keepalive", Symbol::Keepalive),
-    ];
-    find(&table, bytes)
-}
-
-fn of_ten(bytes: &[u8]) -> Option<Symbol>
-    ensures { result ≡ lookup bytes.now (spellings_of 10) }
-{
-    let table: [(&[u8], Symbol); 7] = [
-        (b"preference", Symbol::Preference),
-        (b"bgp_origin", Symbol::BgpOrigin),
-        (b"igp_metric", Symbol::IgpMetric),
-        (b"RTS_STATIC", Symbol::RtsStatic),
-        (b"RTD_ROUTER", Symbol::RtdRouter),
-        (b"ORIGIN_IGP", Symbol::OriginIgp),
-        (b"ORIGIN_EGP", Symbol::OriginEgp),
-    ];
-    find(&table, bytes)
-}
-
-fn of_eleven(bytes: &[u8]) -> Option<Symbol>
-    ensures { result ≡ lookup bytes.now (spellings_of 11) }
-{
-    let table: [(&[u8], Symbol); 4] = [
         (b"unreachable", Symbol::Unreachable),
+        (b"interpret", Symbol::Interpret),
         (b"communities", Symbol::Communities),
         (b"description", Symbol::Description),
-        (b"RTD_UNICAST", Symbol::RtdUnicast),
-    ];
-    find(&table, bytes)
-}
-
-fn of_twelve(bytes: &[u8]) -> Option<Symbol>
-    ensures { result ≡ lookup bytes.now (spellings_of 12) }
-{
-    let table: [(&[u8], Symbol); 2] = [
+        (b"keepalive", Symbol::Keepalive),
+        (b"preference", Symbol::Preference),
         (b"bgp_next_hop", Symbol::BgpNextHop),
-        (b"RTD_PROHIBIT", Symbol::RtdProhibit),
-    ];
-    find(&table, bytes)
-}
-
-fn of_thirteen(bytes: &[u8]) -> Option<Symbol>
-    ensures { result ≡ lookup bytes.now (spellings_of 13) }
-{
-    let table: [(&[u8], Symbol); 2] = [
-        (b"bgp_community", Symbol::BgpCommunity),
-        (b"RTD_BLACKHOLE", Symbol::RtdBlackhole),
-    ];
-    find(&table, bytes)
-}
-
-fn of_fourteen(bytes: &[u8]) -> Option<Symbol>
-    ensures { result ≡ lookup bytes.now (spellings_of 14) }
-{
-    let table: [(&[u8], Symbol); 1] = [
+        (b"bgp_origin", Symbol::BgpOrigin),
         (b"bgp_local_pref", Symbol::BgpLocalPref),
-    ];
-    find(&table, bytes)
-}
-
-fn of_fifteen(bytes: &[u8]) -> Option<Symbol>
-    ensures { result ≡ lookup bytes.now (spellings_of 15) }
-{
-    let table: [(&[u8], Symbol); 1] = [
+        (b"igp_metric", Symbol::IgpMetric),
+        (b"bgp_community", Symbol::BgpCommunity),
+        (b"RTS_STATIC", Symbol::RtsStatic),
+        (b"RTD_UNICAST", Symbol::RtdUnicast),
+        (b"RTD_ROUTER", Symbol::RtdRouter),
+        (b"RTD_BLACKHOLE", Symbol::RtdBlackhole),
         (b"RTD_UNREACHABLE", Symbol::RtdUnreachable),
-    ];
-    find(&table, bytes)
-}
-
-fn of_seventeen(bytes: &[u8]) -> Option<Symbol>
-    ensures { result ≡ lookup bytes.now (spellings_of 17) }
-{
-    let table: [(&[u8], Symbol); 1] = [
+        (b"RTD_PROHIBIT", Symbol::RtdProhibit),
+        (b"ORIGIN_IGP", Symbol::OriginIgp),
+        (b"ORIGIN_EGP", Symbol::OriginEgp),
         (b"ORIGIN_INCOMPLETE", Symbol::OriginIncomplete),
     ];
     find(&table, bytes)
@@ -302,15 +246,7 @@ pub fn symbol_of(bytes: &[u8]) -> Option<Symbol>
         6 => of_six(bytes),
         7 => of_seven(bytes),
         8 => of_eight(bytes),
-        9 => of_nine(bytes),
-        10 => of_ten(bytes),
-        11 => of_eleven(bytes),
-        12 => of_twelve(bytes),
-        13 => of_thirteen(bytes),
-        14 => of_fourteen(bytes),
-        15 => of_fifteen(bytes),
-        17 => of_seventeen(bytes),
-        _ => None,
+        _ => of_more(bytes),
     }
 }
 
