@@ -6,3 +6,4 @@ mod Between
 mod Readings
 mod Numbers
 mod Spelled
+mod Folded

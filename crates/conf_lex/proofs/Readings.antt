@@ -81,7 +81,7 @@ token_no_separator text sort slice rest token piece more whole is = no_token tex
 
 -- what a token says
 
-word_kind : (slice : List ℕ) (k : TokenKind) → IsValue sorts.Word slice k → k ≡ kinds.Name
+pub word_kind : (slice : List ℕ) (k : TokenKind) → IsValue sorts.Word slice k → k ≡ kinds.Name
 word_kind slice kinds.Name is = refl
 word_kind slice _ is = absurd is
 
@@ -93,7 +93,7 @@ text_kind : (slice : List ℕ) (k : TokenKind) → IsValue sorts.Text slice k �
 text_kind slice kinds.Text is = refl
 text_kind slice _ is = absurd is
 
-mark_kind : (slice : List ℕ) (k : TokenKind) → IsValue sorts.Mark slice k → k ≡ kinds.Sign
+pub mark_kind : (slice : List ℕ) (k : TokenKind) → IsValue sorts.Mark slice k → k ≡ kinds.Sign
 mark_kind slice kinds.Sign is = refl
 mark_kind slice _ is = absurd is
 
