@@ -7,3 +7,4 @@ mod Readings
 mod Numbers
 mod Spelled
 mod Folded
+mod Places

@@ -3,3 +3,4 @@ pub mod Lex
 pub mod Fronts
 pub mod Symbols
 pub mod Words
+pub mod Spans

@@ -3,6 +3,7 @@
 
 mod folding;
 mod gaps;
+pub mod laws;
 mod lexer;
 mod shapes;
 mod spelling;
