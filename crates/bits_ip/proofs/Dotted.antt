@@ -1,12 +1,15 @@
 -- Four numbers with dots between them.
-use Rattle.std.proofs.Common.{◌≡◌, ℕ, ◌/◌, ◌%◌, ◌^◌, List, ◌∷◌, ◌++◌, Some, sym, ap, ◌∙◌, arith, append_assoc}
+use Rattle.std.proofs.Common.{◌≡◌, ℕ, ◌/◌, ◌%◌, ◌^◌, List, ◌∷◌, ◌++◌, Some, refl, sym, ap, ◌∙◌, arith, append_assoc}
 use Rattle.std.specs.Fmt.{decimal}
 use Rattle.std.proofs.lemmas.Fmt.{decimal_injective}
 use Rattle.std.proofs.lemmas.Option.{some_pair_parts}
 use Rattle.bits_ip.specs.declared.address.Addr.{Addr}
 use Rattle.bits_ip.specs.declared.address.Addr.TheVariants.{V4, V6}
 use Rattle.bits_ip.specs.Parts.{split_first, IsOctet, IsOctetFirst}
-use Rattle.bits_ip.specs.Text.{v4_text, IsAddrText}
+use Rattle.std.specs.Int.Digits.{number_from_digits}
+use Rattle.bits_ip.specs.Text.{v4_text, groups, IsAddrText, IsV6Text}
+use Rattle.bits_ip.proofs.Bits.{groups_number}
+use Rattle.bits_ip.proofs.Colons.{groups_agree, v6_lacks_dot}
 use Rattle.bits_ip.proofs.Octets.{octet_lacks}
 use Rattle.bits_ip.proofs.Splits.{split_at_mark}
 
@@ -53,8 +56,20 @@ v4_texts_agree text m n one other =
     let fourth = decimal_injective (m % 256) (n % 256) (omega arith) (omega arith) third.1 in
     omega (arith, first.0, second.0, third.0, fourth)
 
+v6_texts_agree : (text : List ℕ) (m n : ℕ) → IsV6Text text m → IsV6Text text n → m ≡ n
+v6_texts_agree text m n one other =
+    let same = groups_agree text (groups m) (groups n) one.1 other.1 refl in
+    sym (groups_number m one.0) ∙ ap (λ gs. number_from_digits 65536 gs) same ∙ groups_number n other.0
+
+families_differ : (text : List ℕ) (m n : ℕ) → IsAddrText text (V4 m) → IsV6Text text n → ⊥
+families_differ text m n one other = v6_lacks_dot text (decimal (m / 2 ^ 24)) (behind_first m) n other (one.1 ∙ v4_text_is m)
+
 pub texts_agree : (text : List ℕ) (a b : Addr) → IsAddrText text a → IsAddrText text b → a ≡ b
 texts_agree text (V4 m) (V4 n) one other = ap (λ k. V4 k) (v4_texts_agree text m n one other)
-texts_agree text (V4 m) (V6 n) one other = absurd other
-texts_agree text (V6 m) (V4 n) one other = absurd one
-texts_agree text (V6 m) (V6 n) one other = absurd one
+texts_agree text (V4 m) (V6 n) one other = absurd (families_differ text m n one other)
+texts_agree text (V6 m) (V4 n) one other = absurd (families_differ text n m other one)
+texts_agree text (V6 m) (V6 n) one other = ap (λ k. V6 k) (v6_texts_agree text m n one other)
+
+pub no_address : (text : List ℕ) → ((n : ℕ) → IsAddrText text (V4 n) → ⊥) → ((n : ℕ) → IsV6Text text n → ⊥) → (addr : Addr) → IsAddrText text addr → ⊥
+no_address text one other (V4 n) is = one n is
+no_address text one other (V6 n) is = other n is

@@ -81,7 +81,7 @@ hex_onto_step k n large small some =
     ap (λ t. cond t (digit_glyph false (n % 16) ∷ []) (digits_onto k 16 false (n / 16) (digit_glyph false (n % 16) ∷ []))) (ne_eqb (n / 16) 0 more)
     ∙ hex_append k (n / 16) (digit_glyph false (n % 16) ∷ []) ∙ ap (λ d. d ++ digit_glyph false (n % 16) ∷ []) (hex_room k (n / 16) [] small some)
 
-hex_step : (n : ℕ) → 16 ≤ n → n < 2 ^ 16 → digits 16 false n ≡ digits 16 false (n / 16) ++ digit_glyph false (n % 16) ∷ []
+pub hex_step : (n : ℕ) → 16 ≤ n → n < 2 ^ 16 → digits 16 false n ≡ digits 16 false (n / 16) ++ digit_glyph false (n % 16) ∷ []
 unfolding digits
 hex_step n large small = hex_onto_step 63 n large (omega arith) (omega arith)
 

@@ -1,6 +1,9 @@
+mod Bits
+mod Colons
 mod Dotted
 mod Groups
 pub mod Nets
 mod Octets
 mod Slashed
+mod Spelled
 mod Splits

@@ -1,5 +1,5 @@
 -- Laws of prefixes: their order, and the bytes of their texts.
-use Rattle.std.proofs.Common.{◌≡◌, ℕ, ◌<◌, ◌≤◌, ◌+◌, ◌/◌, ◌%◌, ◌^◌, Bool, true, false, cond, not, ◌||◌, ◌==◌, nat_le, zero, suc, take, drop, List, [], ◌∷◌, ◌++◌, length, get_or, All, ap, ◌∙◌, refl, arith, Ordering, Less, Equal, Greater}
+use Rattle.std.proofs.Common.{◌≡◌, ℕ, ◌<◌, ◌≤◌, ◌+◌, ◌/◌, ◌%◌, ◌^◌, Bool, true, false, cond, not, ◌||◌, ◌==◌, nat_le, zero, suc, take, drop, List, [], ◌∷◌, ◌++◌, length, get_or, All, ap, ◌∙◌, refl, subst, sym, arith, Ordering, Less, Equal, Greater}
 use Rattle.std.specs.Cmp.{IsTotalOrder}
 use Rattle.std.specs.Fmt.{decimal, digits, digits_onto, digit_glyph}
 use Rattle.std.specs.List.{list_all, take_while}
@@ -12,10 +12,13 @@ use Rattle.std.proofs.lemmas.List.Sums.{list_all-from_AllPass, take_while-cons}
 use Rattle.std.proofs.lemmas.Nat.{mod_below}
 use Rattle.bits_ip.specs.declared.address.Addr.{Addr}
 use Rattle.bits_ip.specs.declared.address.Addr.TheVariants.{V4, V6}
-use Rattle.bits_ip.specs.Address.{family_rank, number_of}
+use Rattle.bits_ip.specs.Address.{family_rank, number_of, width_of}
 use Rattle.bits_ip.specs.Prefix.{Net, IsPrefix, net_cmp}
 use Rattle.bits_ip.specs.Text.{v4_text, v6_text, groups, colon_text, short_text, longest_run, run_start, addr_text, net_text, is_addr_byte, is_net_byte, addr_run, net_run, IsAddrText, IsNetText}
+use Rattle.std.specs.Char.{digit_value}
+use Rattle.bits_ip.proofs.Colons.{v6_all}
 use Rattle.bits_ip.proofs.Dotted.{texts_agree}
+use Rattle.bits_ip.proofs.Spelled.{v6_text_spells}
 use Rattle.bits_ip.proofs.Slashed.{len_below, net_parts, net_split}
 use Rattle.std.proofs.lemmas.Fmt.{decimal_injective}
 
@@ -209,9 +212,40 @@ addr_run_before addr rest stops = run_before is_addr_byte (addr_text addr) rest 
 pub net_run_before : (net : Net) (rest : List ℕ) → is_net_byte (get_or rest 0 0) ≡ false → net_run (net_text net ++ rest) ≡ net_text net
 net_run_before net rest stops = run_before is_net_byte (net_text net) rest (net_text_bytes net) stops
 
+hex_is_addr_byte : (b : ℕ) → digit_value b < 16 → is_addr_byte b ≡ true
+hex_is_addr_byte b small = grind (arith, nat_tests)
+
+-- each byte of a spelling is a byte of addresses, or of prefixes
+pub addr_spelling_bytes : (text : List ℕ) (addr : Addr) → IsAddrText text addr → All (λ b. is_addr_byte b ≡ true) text
+addr_spelling_bytes text (V4 n) is = subst (λ (t : List ℕ). All IsAddrByte t) (sym is.1) (v4_text_all n)
+addr_spelling_bytes text (V6 n) is = v6_all IsAddrByte hex_is_addr_byte refl text n is
+
+pub net_spelling_bytes : (text : List ℕ) (net : Net) → IsNetText text net → All (λ b. is_net_byte b ≡ true) text
+net_spelling_bytes text net is =
+    let IsNetByte : ℕ → Type 0 = λ b. is_net_byte b ≡ true in
+    let front = All-weaker IsAddrByte IsNetByte addr_byte_is_net_byte is.front (addr_spelling_bytes is.front net.addr is.addr) in
+    let len = All-weaker IsAddrByte IsNetByte addr_byte_is_net_byte (decimal net.len) (decimal_all net.len) in
+    subst (λ (t : List ℕ). All IsNetByte t) (sym is.whole) (All-append IsNetByte is.front (47 ∷ decimal net.len) front (All-cons IsNetByte 47 (decimal net.len) refl len))
+
+-- so a spelling is the whole run, where no such byte follows
+pub addr_spelling_run : (text rest : List ℕ) (addr : Addr) → IsAddrText text addr → is_addr_byte (get_or rest 0 0) ≡ false → addr_run (text ++ rest) ≡ text
+addr_spelling_run text rest addr is stops = run_before is_addr_byte text rest (addr_spelling_bytes text addr is) stops
+
+pub net_spelling_run : (text rest : List ℕ) (net : Net) → IsNetText text net → is_net_byte (get_or rest 0 0) ≡ false → net_run (text ++ rest) ≡ text
+net_spelling_run text rest net is stops = run_before is_net_byte text rest (net_spelling_bytes text net is) stops
+
 -- the text of an IPv4 prefix spells it
 pub net_text_spells : (n len : ℕ) → n < 2 ^ 32 → IsPrefix (V4 n) len → IsNetText (net_text (net_of (V4 n) len)) (net_of (V4 n) len)
 net_text_spells n len small prefix = record { prefix = prefix; front = v4_text n; addr = (small, refl); whole = refl }
+
+-- the text of an address spells it, where its number is within the family's
+pub addr_text_spells : (addr : Addr) → number_of addr < 2 ^ width_of addr → IsAddrText (addr_text addr) addr
+addr_text_spells (V4 n) small = (small, refl)
+addr_text_spells (V6 n) small = v6_text_spells n small
+
+-- and that of a prefix spells it
+pub net_texts_spell : (net : Net) → number_of net.addr < 2 ^ width_of net.addr → IsPrefix net.addr net.len → IsNetText (net_text net) net
+net_texts_spell net small prefix = record { prefix = prefix; front = addr_text net.addr; addr = addr_text_spells net.addr small; whole = refl }
 
 -- a text spells one address
 pub addr_texts_agree : (text : List ℕ) (a b : Addr) → IsAddrText text a → IsAddrText text b → a ≡ b

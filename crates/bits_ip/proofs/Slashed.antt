@@ -10,6 +10,7 @@ use Rattle.bits_ip.specs.declared.address.Addr.TheVariants.{V4, V6}
 use Rattle.bits_ip.specs.Parts.{split_first, IsOctet}
 use Rattle.bits_ip.specs.Prefix.{Net, IsPrefix}
 use Rattle.bits_ip.specs.Text.{v4_text, IsAddrText, IsNetText}
+use Rattle.bits_ip.proofs.Colons.{v6_lacks_slash}
 use Rattle.bits_ip.proofs.Dotted.{behind_first, behind_second, v4_text_is, texts_agree}
 use Rattle.bits_ip.proofs.Octets.{octet_lacks}
 use Rattle.bits_ip.proofs.Splits.{joined_parts, split_at_mark}
@@ -34,7 +35,7 @@ v4_text_lacks_slash n small =
 
 address_lacks_slash : (text : List ℕ) (addr : Addr) → IsAddrText text addr → All NoSlash text
 address_lacks_slash text (V4 n) is = rw is.1 (v4_text_lacks_slash n is.0)
-address_lacks_slash text (V6 n) is = absurd is
+address_lacks_slash text (V6 n) is = v6_lacks_slash text n is
 
 -- a prefix's text is told apart by its slash
 pub net_split : (text : List ℕ) (net : Net) (is : IsNetText text net) → split_first 47 text ≡ Some (is.front, decimal net.len)

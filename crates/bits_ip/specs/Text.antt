@@ -1,7 +1,9 @@
 -- How addresses and prefixes are written and read.
-use Rattle.std.specs.Prelude.{◌≡◌, ℕ, ◌+◌, ◌*◌, ◌-◌, ◌/◌, ◌%◌, ◌^◌, ◌<◌, Bool, ◌&&◌, ◌||◌, ◌==◌, nat_le, if◌then◌else◌, max, List, [], ◌∷◌, ◌++◌, map, take, drop, take_while, decimal, false}
+use Rattle.std.specs.Prelude.{◌≡◌, ℕ, ◌+◌, ◌*◌, ◌-◌, ◌/◌, ◌%◌, ◌^◌, ◌<◌, Bool, ◌&&◌, ◌||◌, ◌==◌, nat_le, if◌then◌else◌, max, List, [], ◌∷◌, ◌++◌, map, take, drop, take_while, decimal, false, length, ◌≤◌, ◌⊎◌, ⊤, replicate}
 use Rattle.std.specs.Fmt.{digits}
 use Rattle.std.specs.Char.{is_ascii_digit}
+use Rattle.std.specs.List.{join_with_byte}
+use Rattle.std.specs.Str.Parse.{IsNumeral, digits_value}
 use Rattle.bits_ip.specs.declared.address.Addr.{Addr}
 use Rattle.bits_ip.specs.declared.address.Addr.TheVariants.{V4, V6}
 use Rattle.bits_ip.specs.Prefix.{Net, IsPrefix}
@@ -66,10 +68,47 @@ addr_run text = take_while is_addr_byte text
 abbrev pub net_run : List ℕ → List ℕ
 net_run text = take_while is_net_byte text
 
--- The text spells this address. An IPv4 address has one spelling; no spelling of an IPv6 address is read so far.
+-- one to four hexadecimal digits, small or capital letters, spell a group of sixteen bits
+abbrev pub IsGroup : List ℕ → ℕ → Type 0
+IsGroup word g = IsNumeral 16 word × (length word ≤ 4) × (digits_value 16 word ≡ g)
+
+-- these words spell these groups, one each
+abbrev pub AreGroups : List (List ℕ) → List ℕ → Type 0
+AreGroups [] [] = ⊤
+AreGroups (word ∷ words) (g ∷ gs) = IsGroup word g × AreGroups words gs
+AreGroups _ _ = ⊥
+
+-- words with a colon between each two
+abbrev pub joined : List (List ℕ) → List ℕ
+joined words = join_with_byte 58 words
+
+-- all groups are written
+pub record IsWhole (text gs : List ℕ) : Type 0 where
+  pub words : List (List ℕ)
+  pub whole : text ≡ joined words
+  pub groups_are : AreGroups words gs
+
+-- two colons stand in place of one or more groups of zeros, once
+pub record IsShortened (text gs : List ℕ) : Type 0 where
+  pub front : List (List ℕ)
+  pub back : List (List ℕ)
+  pub before : List ℕ
+  pub behind : List ℕ
+  pub zeros : ℕ
+  pub whole : text ≡ joined front ++ 58 ∷ 58 ∷ joined back
+  pub front_are : AreGroups front before
+  pub back_are : AreGroups back behind
+  pub some : 1 ≤ zeros
+  pub groups_are : gs ≡ before ++ replicate zeros 0 ++ behind
+
+-- IPv6 is read as RFC 4291, section 2.2, says in its first two forms.
+abbrev pub IsV6Text : List ℕ → ℕ → Type 0
+IsV6Text text n = (n < 2 ^ 128) × (IsWhole text (groups n) ⊎ IsShortened text (groups n))
+
+-- The text spells this address. An IPv4 address has one spelling.
 abbrev pub IsAddrText : List ℕ → Addr → Type 0
 IsAddrText text (V4 n) = (n < 2 ^ 32) × (text ≡ v4_text n)
-IsAddrText text (V6 n) = ⊥
+IsAddrText text (V6 n) = IsV6Text text n
 
 -- The text spells this prefix: its address, a slash and the length without leading zeros.
 pub record IsNetText (text : List ℕ) (net : Net) : Type 0 where

@@ -3,9 +3,11 @@
 
 mod address;
 mod ipv6;
+pub mod laws;
 mod memory;
 mod prefix;
 mod read;
+mod read_v6;
 mod write;
 
 pub use address::{Addr, Family};

@@ -6,6 +6,7 @@ ghost use Rattle.bits_ip.specs.Parts.{split_first, BeginsPlainly, IsOctet, IsOct
 ghost use Rattle.bits_ip.specs.Prefix.{Net};
 ghost use Rattle.bits_ip.specs.Text.{addr_run, net_run, is_addr_byte, is_net_byte, IsAddrText, IsNetText};
 
+use crate::read_v6::v6_of;
 use crate::{Addr, Prefix};
 use thiserror::Error;
 
@@ -80,8 +81,13 @@ fn is_address_byte(byte: u8) -> bool
 fn addr_of(text: &[u8]) -> Option<Addr>
     ensures { MatchOption result ((addr : Addr) → IsAddrText text.now addr → ⊥) (λ addr. IsAddrText text.now addr) }
 {
-    let number = v4_of(text)?;
-    Some(Addr::V4(number))
+    match v4_of(text) {
+        Some(number) => Some(Addr::V4(number)),
+        None => {
+            let number = v6_of(text)?;
+            Some(Addr::V6(number))
+        }
+    }
 }
 
 /// The prefix that the whole text spells.

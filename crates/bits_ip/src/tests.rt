@@ -54,6 +54,76 @@ fn addresses_are_read(rt: HostRuntime) {
 }
 
 #[test]
+fn ipv6_is_read_as_rfc_4291_says(rt: HostRuntime) {
+    let spellings = [
+        (
+            b"2001:DB8:0:0:8:800:200C:417A".as_slice(),
+            0x2001_0db8_0000_0000_0008_0800_200c_417a,
+        ),
+        (
+            b"2001:db8::8:800:200c:417a".as_slice(),
+            0x2001_0db8_0000_0000_0008_0800_200c_417a,
+        ),
+        (
+            b"FF01::101".as_slice(),
+            0xff01_0000_0000_0000_0000_0000_0000_0101,
+        ),
+        (b"0:0:0:0:0:0:0:1".as_slice(), 1),
+        (b"::1".as_slice(), 1),
+        (b"::".as_slice(), 0),
+        (
+            b"1:2:3:4:5:6:7::".as_slice(),
+            0x0001_0002_0003_0004_0005_0006_0007_0000,
+        ),
+        (
+            b"::2:3:4:5:6:7:8".as_slice(),
+            0x0000_0002_0003_0004_0005_0006_0007_0008,
+        ),
+        (
+            b"2001:0DB8::0001".as_slice(),
+            0x2001_0db8_0000_0000_0000_0000_0000_0001,
+        ),
+    ];
+    for (text, number) in spellings {
+        assert_eq!(rt; read_addr(text), Ok((Addr::V6(number), text.len())));
+    }
+}
+
+#[test]
+fn other_texts_are_no_ipv6(rt: HostRuntime) {
+    let refused = [
+        b"1:2:3:4:5:6:7:8::".as_slice(),
+        b"1::2::3".as_slice(),
+        b":::".as_slice(),
+        b"12345::".as_slice(),
+        b"1:2:3:4:5:6:7".as_slice(),
+        b"1:2:3:4:5:6:7:8:9".as_slice(),
+        b":1".as_slice(),
+        b"1:".as_slice(),
+        b"::ffff:1.2.3.4".as_slice(),
+        b"::1:".as_slice(),
+        b"1:2:3:4::5:6:7:8".as_slice(),
+    ];
+    for text in refused {
+        assert_eq!(rt; read_addr(text), Err(BadText));
+    }
+}
+
+#[test]
+fn ipv6_prefixes_are_read(rt: HostRuntime) -> Result<(), Fail> {
+    let documentation = Prefix::make(Addr::V6(0x2001_0db8_0000_0000_0000_0000_0000_0000), 32)?;
+    assert_eq!(rt; read_prefix(b"2001:db8::/32 x"), Ok((documentation, 13)));
+    assert_eq!(rt;
+        read_prefix(b"::/0"),
+        Ok((Prefix::make(Addr::V6(0), 0)?, 4))
+    );
+    assert_eq!(rt; read_prefix(b"2001:db8::1/32"), Err(BadText));
+    assert_eq!(rt; read_prefix(b"::/129"), Err(BadText));
+    assert_eq!(rt; read_prefix(b"::/032"), Err(BadText));
+    Ok(())
+}
+
+#[test]
 fn ipv4_is_written(rt: HostRuntime) -> Result<(), Fail> {
     let alloc = rt.alloc();
     assert_eq!(rt;

@@ -1,4 +1,4 @@
-ghost use Rattle.std.specs.Prelude.{◌≡◌, ◌++◌, ◌<◌, ◌^◌, decimal, OnOk};
+ghost use Rattle.std.specs.Prelude.{◌≡◌, ◌++◌, ◌<◌, ◌^◌, decimal, OnOk, OnErr};
 ghost use Rattle.bits_ip.specs.Text.{addr_text, net_text, v4_text};
 
 use crate::ipv6::write_v6;
@@ -7,7 +7,29 @@ use itoa::Buffer;
 use std::alloc::Global;
 
 /// Appends an address: IPv4 in dotted decimals, IPv6 as RFC 5952 says.
-pub fn write_addr(_alloc: Global, addr: &Addr, out: &mut Vec<u8>) -> Result<(), OutOfMemory>
+pub fn write_addr(alloc: Global, addr: &Addr, out: &mut Vec<u8>) -> Result<(), OutOfMemory>
+    ensures written { OnOk result (out.new.items ≡ out.old.items ++ addr_text addr.now) }
+    ensures refused { OnErr result (out.new.items ≡ out.old.items) }
+{
+    let mut text = Vec::new(alloc);
+    append_addr(addr, &mut text)?;
+    out.extend_from_slice(&text)?;
+    Ok(())
+}
+
+/// Appends a prefix: its address, a slash and its length.
+pub fn write_prefix(alloc: Global, net: &Prefix, out: &mut Vec<u8>) -> Result<(), OutOfMemory>
+    ensures written { OnOk result (out.new.items ≡ out.old.items ++ net_text net.now) }
+    ensures refused { OnErr result (out.new.items ≡ out.old.items) }
+{
+    let mut text = Vec::new(alloc);
+    append_prefix(net, &mut text)?;
+    out.extend_from_slice(&text)?;
+    Ok(())
+}
+
+/// Appends an address; on refusal a part of it may stand.
+fn append_addr(addr: &Addr, out: &mut Vec<u8>) -> Result<(), OutOfMemory>
     ensures { OnOk result (out.new.items ≡ out.old.items ++ addr_text addr.now) }
 {
     match addr {
@@ -16,11 +38,11 @@ pub fn write_addr(_alloc: Global, addr: &Addr, out: &mut Vec<u8>) -> Result<(), 
     }
 }
 
-/// Appends a prefix: its address, a slash and its length.
-pub fn write_prefix(alloc: Global, net: &Prefix, out: &mut Vec<u8>) -> Result<(), OutOfMemory>
+/// Appends a prefix; on refusal a part of it may stand.
+fn append_prefix(net: &Prefix, out: &mut Vec<u8>) -> Result<(), OutOfMemory>
     ensures { OnOk result (out.new.items ≡ out.old.items ++ net_text net.now) }
 {
-    write_addr(alloc, &net.addr(), out)?;
+    append_addr(&net.addr(), out)?;
     out.push(b'/')?;
     write_number(net.len(), out)
 }
