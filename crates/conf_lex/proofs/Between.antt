@@ -59,7 +59,7 @@ close_step b bytes n (inr fails) found e =
     let after = map_some (λ m. m + 1) (close_len bytes) n (sym (ap (λ (t : Bool). cond t (Some 2) (option_map (λ m. m + 1) (close_len bytes))) fails) ∙ e) in
     let more = found after.0 after.1 in
     let here : ((b == 42) && first_passes (λ c. c == 47) (more.bytes ++ 42 ∷ [])) ≡ false =
-        ap (λ (t : Bool). (b == 42) && t) (sym (close_before more.bytes more.rest) ∙ ap (first_passes (λ c. c == 47)) (sym more.whole)) ∙ fails in
+    ap (λ (t : Bool). (b == 42) && t) (sym (close_before more.bytes more.rest) ∙ ap (first_passes (λ c. c == 47)) (sym more.whole)) ∙ fails in
     record {
       bytes = b ∷ more.bytes;
       rest = more.rest;
@@ -128,16 +128,16 @@ line_found : (bytes : List ℕ) → Separates (35 ∷ bytes) (prefix_len (λ c. 
 line_found bytes =
     let p : ℕ → Bool = λ c. not (is_newline c) in
     cut (35 ∷ bytes) (35 ∷ take_while (λ c. not (is_newline c)) bytes) (drop (prefix_len (λ c. not (is_newline c)) bytes) bytes) (prefix_len (λ c. not (is_newline c)) bytes + 1)
-      (ap (λ (l : List ℕ). 35 ∷ l) (run_whole (λ c. not (is_newline c)) bytes)) (omega (arith, length-prefix_len (λ c. not (is_newline c)) bytes)) (omega arith)
-      (Line (take_while (λ c. not (is_newline c)) bytes) refl (run_passes (λ c. not (is_newline c)) bytes) (line_end (drop (prefix_len (λ c. not (is_newline c)) bytes) bytes) (run_stops (λ c. not (is_newline c)) bytes)))
+    (ap (λ (l : List ℕ). 35 ∷ l) (run_whole (λ c. not (is_newline c)) bytes)) (omega (arith, length-prefix_len (λ c. not (is_newline c)) bytes)) (omega arith)
+    (Line (take_while (λ c. not (is_newline c)) bytes) refl (run_passes (λ c. not (is_newline c)) bytes) (line_end (drop (prefix_len (λ c. not (is_newline c)) bytes) bytes) (run_stops (λ c. not (is_newline c)) bytes)))
 
 block_found : (bytes : List ℕ) (n : ℕ) → close_len bytes ≡ Some n → Separates (47 ∷ 42 ∷ bytes) (n + 2)
 block_found bytes n is =
     let closed = close_found bytes n is in
     cut (47 ∷ 42 ∷ bytes) (47 ∷ 42 ∷ closed.bytes ++ 42 ∷ 47 ∷ []) closed.rest (n + 2)
-      (ap (λ (l : List ℕ). 47 ∷ 42 ∷ l) (closed.whole ∙ sym (append_assoc closed.bytes (42 ∷ 47 ∷ []) closed.rest)))
-      (omega (arith, closed.len, length-append closed.bytes (42 ∷ 47 ∷ []))) (omega arith)
-      (Block closed.bytes refl closed.first)
+    (ap (λ (l : List ℕ). 47 ∷ 42 ∷ l) (closed.whole ∙ sym (append_assoc closed.bytes (42 ∷ 47 ∷ []) closed.rest)))
+    (omega (arith, closed.len, length-append closed.bytes (42 ∷ 47 ∷ []))) (omega arith)
+    (Block closed.bytes refl closed.first)
 
 blank_found : (b : ℕ) (bytes : List ℕ) → is_blank b ≡ true → Separates (b ∷ bytes) 1
 blank_found b bytes is = cut (b ∷ bytes) (b ∷ []) bytes 1 refl refl (omega arith) (Blank b refl is)
@@ -171,7 +171,7 @@ all_separate (b ∷ bytes) =
     separates_if (b ∷ bytes) (is_blank b) _ _ (λ is. blank_found b bytes is)
     (λ other. separates_if (b ∷ bytes) (b == 35) _ _ (λ is. hash_found b bytes is)
     (λ third. separates_if (b ∷ bytes) ((b == 47) && first_passes (λ c. c == 42) bytes) _ _
-      (λ is. separates_map (b ∷ bytes) 2 (close_len (drop 1 bytes)) (λ n closes. slash_found b bytes n is closes)) (λ last. tt)))
+    (λ is. separates_map (b ∷ bytes) 2 (close_len (drop 1 bytes)) (λ n closes. slash_found b bytes n is closes)) (λ last. tt)))
 
 pub separator_found : (text : List ℕ) (n : ℕ) → separator_len text ≡ Some n → Separates text n
 separator_found text n is = let P : Option ℕ → Type 0 = λ o. AllSeparate text o in subst P is (all_separate text)
@@ -239,7 +239,7 @@ are_more [] piece rest are is = (is, tt)
 are_more (p ∷ pieces) piece rest are is =
     let P : List ℕ → Type 0 = λ l. IsSeparator p l in
     let same : concat pieces ++ (piece ++ rest) ≡ concat (pieces ++ piece ∷ []) ++ rest =
-        sym (append_assoc (concat pieces) piece rest) ∙ ap (λ (l : List ℕ). l ++ rest) (ap (λ (l : List ℕ). concat pieces ++ l) (sym (append-nil piece)) ∙ sym (concat-append pieces (piece ∷ []))) in
+    sym (append_assoc (concat pieces) piece rest) ∙ ap (λ (l : List ℕ). l ++ rest) (ap (λ (l : List ℕ). concat pieces ++ l) (sym (append-nil piece)) ∙ sym (concat-append pieces (piece ∷ []))) in
     (subst P same are.0, are_more pieces piece rest are.1 is)
 
 pub gap_more : (text : List ℕ) (k n : ℕ) → k ≤ length text → IsGap (take k text) (drop k text) → Separates (drop k text) n → IsGap (take (k + n) text) (drop (k + n) text)

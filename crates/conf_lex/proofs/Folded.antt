@@ -43,12 +43,14 @@ within_from place whole before text (t ∷ ts) at cut lexes =
     let two = length-append next.gap (next.slice ++ rest) in
     let three = length-append next.slice rest in
     let read : whole ≡ (before ++ (next.gap ++ next.slice)) ++ rest =
-        all ∙ ap (λ (l : List ℕ). before ++ l) (sym (append_assoc next.gap next.slice rest)) ∙ sym (append_assoc before (next.gap ++ next.slice) rest) in
-    let reach : t.at + t.len ≡ length (before ++ (next.gap ++ next.slice)) = omega (arith, next.at, next.len, at, length-append before (next.gap ++ next.slice), length-append next.gap next.slice) in
-    (record {
-      ends = omega (arith, next.at, next.len, at, len, one, two, three);
-      quotes = omega (arith, next.len, quotes_len next.sort next.slice rest t.kind next.token.shape next.value);
-    }, within_from (t.at + t.len) whole (before ++ (next.gap ++ next.slice)) rest ts reach read lexes.2)
+    all ∙ ap (λ (l : List ℕ). before ++ l) (sym (append_assoc next.gap next.slice rest)) ∙ sym (append_assoc before (next.gap ++ next.slice) rest) in
+    let reach : t.at + t.len ≡ length (before ++ (next.gap ++ next.slice)) = omega (arith, next.at, next.len, at, length-append before (next.gap ++ next.slice), length-append next.gap next.slice) in (
+      record {
+        ends = omega (arith, next.at, next.len, at, len, one, two, three);
+        quotes = omega (arith, next.len, quotes_len next.sort next.slice rest t.kind next.token.shape next.value);
+      },
+      within_from (t.at + t.len) whole (before ++ (next.gap ++ next.slice)) rest ts reach read lexes.2,
+    )
 
 pub lexed_within : (text : List ℕ) (ts : List Token) → Lexes 0 text ts → AreWithin text ts
 lexed_within text ts lexes = within_from 0 text [] text ts refl refl lexes
@@ -76,7 +78,7 @@ first_size text i t [] = (omega arith, omega arith)
 first_size text i t (u ∷ []) = size_if (1 + length (u ∷ [])) (is_else (token_symbol text t) && is_colon (token_symbol text u)) _ _ (omega arith, omega arith) (omega arith, omega arith)
 first_size text i t (u ∷ v ∷ ts) =
     size_if (1 + length (u ∷ v ∷ ts)) (is_else (token_symbol text t) && is_colon (token_symbol text u)) _ _ (omega arith, omega arith)
-      (size_or (1 + length (u ∷ v ∷ ts)) (slashed i t.kind (is_slash (token_symbol text u)) v.kind) (word_of text i t) (omega arith))
+    (size_or (1 + length (u ∷ v ∷ ts)) (slashed i t.kind (is_slash (token_symbol text u)) v.kind) (word_of text i t) (omega arith))
 
 -- tokens that belong to the word before are passed over
 words_behind : (text : List ℕ) (i k : ℕ) (ts : List Token) → words_from text i k ts ≡ words_from text (i + k) 0 (drop k ts)
@@ -96,12 +98,12 @@ next_words text tokens at t behind word cut is =
     let size = first_size text at t behind in
     let place : at + 1 + ((first_word text at t behind).1 - 1) ≡ at + (first_word text at t behind).1 = omega (arith, size.0) in
     let ahead : drop ((first_word text at t behind).1 - 1) behind ≡ drop (at + (first_word text at t behind).1) tokens =
-        drop_one (first_word text at t behind).1 t behind size.0 ∙ ap (λ (l : List Token). drop (first_word text at t behind).1 l) (sym cut) ∙ drop-drop (first_word text at t behind).1 at tokens in
+    drop_one (first_word text at t behind).1 t behind size.0 ∙ ap (λ (l : List Token). drop (first_word text at t behind).1 l) (sym cut) ∙ drop-drop (first_word text at t behind).1 at tokens in
     let P : Word × ℕ → Type 0 = λ w. words_from text at 0 (drop at tokens) ≡ (at, w.0) ∷ words_from text (at + w.1) 0 (drop (at + w.1) tokens) in
     subst P (sym is) (ap (λ (l : List Token). words_from text at 0 l) cut
-      ∙ ap (λ (ws : List (ℕ × Word)). (at, (first_word text at t behind).0) ∷ ws)
-        (words_behind text (at + 1) ((first_word text at t behind).1 - 1) behind ∙ ap (λ (m : ℕ). words_from text m 0 (drop ((first_word text at t behind).1 - 1) behind)) place
-        ∙ ap (λ (l : List Token). words_from text (at + (first_word text at t behind).1) 0 l) ahead))
+    ∙ ap (λ (ws : List (ℕ × Word)). (at, (first_word text at t behind).0) ∷ ws)
+    (words_behind text (at + 1) ((first_word text at t behind).1 - 1) behind ∙ ap (λ (m : ℕ). words_from text m 0 (drop ((first_word text at t behind).1 - 1) behind)) place
+    ∙ ap (λ (l : List Token). words_from text (at + (first_word text at t behind).1) 0 l) ahead))
 
 -- what the loop keeps, for either part of a word and its place
 pub words_more : {A : Type 0} (part : ℕ × Word → A) (text : List ℕ) (tokens : List Token) (at : ℕ) (t : Token) (behind : List Token) (word : Word × ℕ) (found : List A) → drop at tokens ≡ t ∷ behind → word ≡ first_word text at t behind

@@ -138,10 +138,13 @@ found_dotted zero text n is =
     (found.slice, found.rest, found.whole, sym tests.1 ∙ found.len, found.shape)
 found_dotted (suc k) text n is =
     option_and_then_some {P = (slice rest : List ℕ) × (text ≡ slice ++ rest) × (n ≡ length slice) × IsDotted (suc k) slice} (λ m. option_map (λ i. m + i) (dotted_len k (drop m text))) (dot_len text) n is (λ m first more.
-      let dot = found_dot text m first in
-      let after = map_some (λ i. m + i) (dotted_len k (drop m text)) n more in
-      let rest = found_dotted k (drop m text) after.0 after.1 in
-      let whole : text ≡ dot.number ++ 46 ∷ (rest.0 ++ rest.1) = dot.whole ∙ ap (λ (l : List ℕ). dot.number ++ 46 ∷ l) (sym dot.behind ∙ rest.2) in
-      (dot.number ++ 46 ∷ rest.0, rest.1, whole ∙ sym (append_assoc dot.number (46 ∷ rest.0) rest.1),
-       omega (arith, after.2, dot.len, rest.3, length-append dot.number (46 ∷ rest.0)),
-       (dot.number, rest.0, dot.digits, refl, rest.4)))
+    let dot = found_dot text m first in
+    let after = map_some (λ i. m + i) (dotted_len k (drop m text)) n more in
+    let rest = found_dotted k (drop m text) after.0 after.1 in
+    let whole : text ≡ dot.number ++ 46 ∷ (rest.0 ++ rest.1) = dot.whole ∙ ap (λ (l : List ℕ). dot.number ++ 46 ∷ l) (sym dot.behind ∙ rest.2) in (
+      dot.number ++ 46 ∷ rest.0,
+      rest.1,
+      whole ∙ sym (append_assoc dot.number (46 ∷ rest.0) rest.1),
+      omega (arith, after.2, dot.len, rest.3, length-append dot.number (46 ∷ rest.0)),
+      (dot.number, rest.0, dot.digits, refl, rest.4),
+    ))

@@ -41,10 +41,11 @@ span_next place whole before text t rest at cut next =
 -- the bytes up to the end of the next token
 read_next : (place : ℕ) (whole before text : List ℕ) (t : Token) (rest : List ℕ) → place ≡ length before → whole ≡ before ++ text → IsNext place text t rest
     → (read : List ℕ) × (t.at + t.len ≡ length read) × (whole ≡ read ++ rest)
-read_next place whole before text t rest at cut next =
-    ((before ++ next.gap) ++ next.slice,
-     omega (arith, next.at, next.len, at, length-append before next.gap, length-append (before ++ next.gap) next.slice),
-     cut ∙ ap (λ (l : List ℕ). before ++ l) next.whole ∙ sym (append_assoc before next.gap (next.slice ++ rest)) ∙ sym (append_assoc (before ++ next.gap) next.slice rest))
+read_next place whole before text t rest at cut next = (
+  (before ++ next.gap) ++ next.slice,
+  omega (arith, next.at, next.len, at, length-append before next.gap, length-append (before ++ next.gap) next.slice),
+  cut ∙ ap (λ (l : List ℕ). before ++ l) next.whole ∙ sym (append_assoc before next.gap (next.slice ++ rest)) ∙ sym (append_assoc (before ++ next.gap) next.slice rest),
+)
 
 span_from : (place : ℕ) (whole before text : List ℕ) (front back : List Token) (t : Token) → place ≡ length before → whole ≡ before ++ text → Lexes place text (front ++ t ∷ back) → IsSpan whole t
 span_from place whole before text [] back t at cut lexes = span_next place whole before text t lexes.0 at cut lexes.1

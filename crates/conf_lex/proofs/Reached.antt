@@ -63,12 +63,13 @@ reach_dotted (suc k) slice rest dotted =
     let after = reach_dotted k more rest dotted.4 in
     let whole : slice ++ rest ≡ number ++ 46 ∷ (more ++ rest) = ap (λ (l : List ℕ). l ++ rest) dotted.3 ∙ append_assoc number (46 ∷ more) rest in
     let first : dot_len (slice ++ rest) ≡ Some (length number + 1) = ap dot_len whole ∙ dot_len_is number (more ++ rest) dotted.2 in
-    let behind : drop (length number + 1) (slice ++ rest) ≡ more ++ rest = drop_front (slice ++ rest) number 46 (more ++ rest) (length number + 1) whole refl in
-    (length number + 1 + after.0,
-     ap (option_and_then (λ n. option_map (λ m. n + m) (dotted_len k (drop n (slice ++ rest))))) first
-     ∙ ap (λ (l : List ℕ). option_map (λ m. length number + 1 + m) (dotted_len k l)) behind
-     ∙ ap (option_map (λ m. length number + 1 + m)) after.1,
-     omega (arith, after.2, ap (λ (l : List ℕ). length l) dotted.3, length-append number (46 ∷ more)))
+    let behind : drop (length number + 1) (slice ++ rest) ≡ more ++ rest = drop_front (slice ++ rest) number 46 (more ++ rest) (length number + 1) whole refl in (
+      length number + 1 + after.0,
+      ap (option_and_then (λ n. option_map (λ m. n + m) (dotted_len k (drop n (slice ++ rest))))) first
+          ∙ ap (λ (l : List ℕ). option_map (λ m. length number + 1 + m) (dotted_len k l)) behind
+          ∙ ap (option_map (λ m. length number + 1 + m)) after.1,
+      omega (arith, after.2, ap (λ (l : List ℕ). length l) dotted.3, length-append number (46 ∷ more)),
+    )
 
 -- IPv6 addresses
 
@@ -158,8 +159,8 @@ reach_word (b ∷ bytes) rest word =
     let all : list_all is_name_byte (b ∷ bytes) ≡ true = and_from (is_name_byte b) (list_all is_name_byte bytes) (letter_is_name_byte b word.0) word.1 in
     let plain : plain_front (b ∷ (bytes ++ rest)) ≡ Some (sorts.Word, prefix_len is_name_byte (b ∷ (bytes ++ rest))) = rw word.0 refl in
     under_colons sorts.Word (b ∷ bytes) rest 0 (without_colon (b ∷ bytes) rest (all_weaker is_name_byte (λ c. not (c == 58)) no_colon_in_name (b ∷ bytes) all))
-      (reaches_along sorts.Word (length (b ∷ bytes)) (plain_front (b ∷ (bytes ++ rest))) (Some (sorts.Word, prefix_len is_name_byte (b ∷ (bytes ++ rest)))) plain
-        (run_reach is_name_byte (b ∷ bytes) rest all, λ e. refl))
+    (reaches_along sorts.Word (length (b ∷ bytes)) (plain_front (b ∷ (bytes ++ rest))) (Some (sorts.Word, prefix_len is_name_byte (b ∷ (bytes ++ rest)))) plain
+    (run_reach is_name_byte (b ∷ bytes) rest all, λ e. refl))
 
 -- numbers and IPv4 addresses
 
@@ -172,9 +173,9 @@ plain_digit b bytes digit = let other = digit_no_letter b digit in rw (other, di
 dot_longer : (more : List ℕ → Option ℕ) (text : List ℕ) (n : ℕ) → option_and_then (λ m. option_map (λ i. m + i) (more (drop m text))) (dot_len text) ≡ Some n → prefix_len is_ascii_digit text < n
 dot_longer more text n is =
     option_and_then_some {P = prefix_len is_ascii_digit text < n} (λ m. option_map (λ i. m + i) (more (drop m text))) (dot_len text) n is (λ m first rest.
-      let after = map_some (λ i. m + i) (more (drop m text)) n rest in
-      let tests = if_some (nat_le 1 (prefix_len is_ascii_digit text) && first_passes (λ c. c == 46) (drop (prefix_len is_ascii_digit text) text)) (prefix_len is_ascii_digit text + 1) m first in
-      omega (arith, after.2, tests.1))
+    let after = map_some (λ i. m + i) (more (drop m text)) n rest in
+    let tests = if_some (nat_le 1 (prefix_len is_ascii_digit text) && first_passes (λ c. c == 46) (drop (prefix_len is_ascii_digit text) text)) (prefix_len is_ascii_digit text + 1) m first in
+    omega (arith, after.2, tests.1))
 
 -- in `0x` one digit stands before the letter
 one_digit : (text : List ℕ) → begins_hexadecimal text ≡ true → prefix_len is_ascii_digit text ≤ 1
@@ -208,8 +209,8 @@ reach_decimal [] rest digits = absurd (omega (arith, digits.0))
 reach_decimal (b ∷ bytes) rest digits =
     let first = (and_parts (is_ascii_digit b) (list_all is_ascii_digit bytes) digits.1).0 in
     under_colons sorts.Decimal (b ∷ bytes) rest 0 (without_colon (b ∷ bytes) rest (all_weaker is_ascii_digit (λ c. not (c == 58)) no_colon_in_digits (b ∷ bytes) digits.1))
-      (reaches_along sorts.Decimal (length (b ∷ bytes)) (plain_front (b ∷ (bytes ++ rest))) (Some (dotted_or_number (dotted_len 3 (b ∷ (bytes ++ rest))) (b ∷ (bytes ++ rest)))) (plain_digit b (bytes ++ rest) first)
-        (reach_number (b ∷ (bytes ++ rest)) (length (b ∷ bytes)) (dotted_len 3 (b ∷ (bytes ++ rest))) refl (run_reach is_ascii_digit (b ∷ bytes) rest digits.1)))
+    (reaches_along sorts.Decimal (length (b ∷ bytes)) (plain_front (b ∷ (bytes ++ rest))) (Some (dotted_or_number (dotted_len 3 (b ∷ (bytes ++ rest))) (b ∷ (bytes ++ rest)))) (plain_digit b (bytes ++ rest) first)
+    (reach_number (b ∷ (bytes ++ rest)) (length (b ∷ bytes)) (dotted_len 3 (b ∷ (bytes ++ rest))) refl (run_reach is_ascii_digit (b ∷ bytes) rest digits.1)))
 
 hex_front : (bytes : List ℕ) → plain_front (48 ∷ 120 ∷ bytes) ≡ Some (sorts.Hexadecimal, prefix_len is_ascii_hexdigit bytes + 2)
 hex_front bytes = refl
@@ -221,8 +222,8 @@ reach_hexadecimal slice rest hex =
     let none : list_all (λ c. not (c == 58)) (48 ∷ 120 ∷ hex.digits) ≡ true = all_weaker is_ascii_hexdigit (λ c. not (c == 58)) no_colon_in_hex hex.digits hex.bytes in
     let reach = run_reach is_ascii_hexdigit hex.digits rest hex.bytes in
     subst P (sym hex.whole) (under_colons sorts.Hexadecimal (48 ∷ 120 ∷ hex.digits) rest 0 (without_colon (48 ∷ 120 ∷ hex.digits) rest none)
-      (reaches_along sorts.Hexadecimal (length (48 ∷ 120 ∷ hex.digits)) (plain_front (48 ∷ 120 ∷ (hex.digits ++ rest))) (Some (sorts.Hexadecimal, prefix_len is_ascii_hexdigit (hex.digits ++ rest) + 2)) (hex_front (hex.digits ++ rest))
-        (omega (arith, reach), λ e. refl)))
+    (reaches_along sorts.Hexadecimal (length (48 ∷ 120 ∷ hex.digits)) (plain_front (48 ∷ 120 ∷ (hex.digits ++ rest))) (Some (sorts.Hexadecimal, prefix_len is_ascii_hexdigit (hex.digits ++ rest) + 2)) (hex_front (hex.digits ++ rest))
+    (omega (arith, reach), λ e. refl)))
 
 first_of_number : (number more slice : List ℕ) → IsDigits number → slice ≡ number ++ 46 ∷ more → (b : ℕ) × (bytes : List ℕ) × (slice ≡ b ∷ bytes) × (is_ascii_digit b ≡ true)
 first_of_number [] more slice digits whole = absurd (omega (arith, digits.0))
@@ -239,11 +240,11 @@ reach_ipv4 slice rest dotted =
     let reach = reach_dotted 3 slice rest dotted in
     let whole : slice ++ rest ≡ first.0 ∷ (first.1 ++ rest) = ap (λ (l : List ℕ). l ++ rest) first.2 in
     let plain : plain_front (slice ++ rest) ≡ Some (sorts.Dotted, reach.0) =
-        ap plain_front whole ∙ plain_digit first.0 (first.1 ++ rest) first.3
-        ∙ ap (λ (l : List ℕ). Some (dotted_or_number (dotted_len 3 l) l)) (sym whole)
-        ∙ ap (λ (o : Option ℕ). Some (dotted_or_number o (slice ++ rest))) reach.1 in
+    ap plain_front whole ∙ plain_digit first.0 (first.1 ++ rest) first.3
+    ∙ ap (λ (l : List ℕ). Some (dotted_or_number (dotted_len 3 l) l)) (sym whole)
+    ∙ ap (λ (o : Option ℕ). Some (dotted_or_number o (slice ++ rest))) reach.1 in
     under_colons sorts.Dotted slice rest 0 (without_colon slice rest (no_colon_in_dotted 3 slice dotted))
-      (reaches_along sorts.Dotted (length slice) (plain_front (slice ++ rest)) (Some (sorts.Dotted, reach.0)) plain (reach.2, λ e. refl))
+    (reaches_along sorts.Dotted (length slice) (plain_front (slice ++ rest)) (Some (sorts.Dotted, reach.0)) plain (reach.2, λ e. refl))
 
 -- quoted names and texts
 
@@ -275,17 +276,17 @@ reach_quote : (slice rest : List ℕ) → IsQuote slice → Reaches sorts.Quote 
 reach_quote slice rest quote =
     let whole : slice ++ rest ≡ 39 ∷ (quote.name ++ 39 ∷ rest) = ap (λ (l : List ℕ). l ++ rest) quote.whole ∙ ap (λ (l : List ℕ). 39 ∷ l) (append_assoc quote.name (39 ∷ []) rest) in
     let is : front (slice ++ rest) ≡ Some (sorts.Quote, length quote.name + 2) =
-        ap front whole ∙ front_at_quote (quote.name ++ 39 ∷ rest) ∙ ap (option_map (λ n. (sorts.Quote, n))) (quote_len_is quote.name rest quote.some quote.bytes) in
+    ap front whole ∙ front_at_quote (quote.name ++ 39 ∷ rest) ∙ ap (option_map (λ n. (sorts.Quote, n))) (quote_len_is quote.name rest quote.some quote.bytes) in
     reaches_along sorts.Quote (length slice) (front (slice ++ rest)) (Some (sorts.Quote, length quote.name + 2)) is
-      (omega (arith, ap (λ (l : List ℕ). length l) quote.whole, length-append quote.name (39 ∷ [])), λ e. refl)
+    (omega (arith, ap (λ (l : List ℕ). length l) quote.whole, length-append quote.name (39 ∷ [])), λ e. refl)
 
 reach_text : (slice rest : List ℕ) → IsText slice → Reaches sorts.Text (length slice) (front (slice ++ rest))
 reach_text slice rest text =
     let whole : slice ++ rest ≡ 34 ∷ (text.text ++ 34 ∷ rest) = ap (λ (l : List ℕ). l ++ rest) text.whole ∙ ap (λ (l : List ℕ). 34 ∷ l) (append_assoc text.text (34 ∷ []) rest) in
     let is : front (slice ++ rest) ≡ Some (sorts.Text, length text.text + 2) =
-        ap front whole ∙ front_at_text (text.text ++ 34 ∷ rest) ∙ ap (option_map (λ n. (sorts.Text, n))) (text_len_is text.text rest text.bytes) in
+    ap front whole ∙ front_at_text (text.text ++ 34 ∷ rest) ∙ ap (option_map (λ n. (sorts.Text, n))) (text_len_is text.text rest text.bytes) in
     reaches_along sorts.Text (length slice) (front (slice ++ rest)) (Some (sorts.Text, length text.text + 2)) is
-      (omega (arith, ap (λ (l : List ℕ). length l) text.whole, length-append text.text (34 ∷ [])), λ e. refl)
+    (omega (arith, ap (λ (l : List ℕ). length l) text.whole, length-append text.text (34 ∷ [])), λ e. refl)
 
 -- signs
 
@@ -297,9 +298,9 @@ or_cases false b is = inr is
 pub sign_test : (test : List ℕ → Bool) (slice : List ℕ) → list_all test short_signs ≡ true → list_all test pair_signs ≡ true → list_all test empty_signs ≡ true → is_sign slice ≡ true → test slice ≡ true
 sign_test test slice short pair empty is = elim (or_cases (is_short_sign slice || is_pair_sign slice) (is_empty_sign slice) is) [
   | inl more ↦ elim (or_cases (is_short_sign slice) (is_pair_sign slice) more) [
-      | inl one ↦ among test slice short_signs short one
-      | inr two ↦ among test slice pair_signs pair two
-    ]
+    | inl one ↦ among test slice short_signs short one
+    | inr two ↦ among test slice pair_signs pair two
+  ]
   | inr last ↦ among test slice empty_signs empty last
 ]
 
@@ -331,7 +332,7 @@ plain_mark b bytes is =
 has_sign_is : (slice rest : List ℕ) → is_sign slice ≡ true → has_sign (length slice) (slice ++ rest) ≡ true
 has_sign_is slice rest is =
     and_from (nat_le (length slice) (length (slice ++ rest))) _ (le_is (length slice) (length (slice ++ rest)) (omega (arith, length-append slice rest)))
-      (ap is_sign (take_length slice rest) ∙ is)
+    (ap is_sign (take_length slice rest) ∙ is)
 
 -- a slash before a star is no sign
 no_comment : (slice rest : List ℕ) → is_sign slice ≡ true → (slice ≡ codes "/" → first_passes (λ b. b == 42) rest ≡ false) → begins_comment (slice ++ rest) ≡ false
@@ -389,7 +390,7 @@ reach_mark (b ∷ bytes) rest is slash =
     let reach = sign_reach (b ∷ (bytes ++ rest)) (length (b ∷ bytes)) (no_comment (b ∷ bytes) rest is slash) (has_sign_is (b ∷ bytes) rest is) lens in
     let plain : plain_front (b ∷ (bytes ++ rest)) ≡ Some (sorts.Mark, reach.0) = plain_mark b (bytes ++ rest) (sign_first b bytes is) ∙ ap (option_map (λ n. (sorts.Mark, n))) reach.1 in
     under_colons sorts.Mark (b ∷ bytes) rest 0 (sign_under_colons (b ∷ bytes) rest is)
-      (reaches_along sorts.Mark (length (b ∷ bytes)) (plain_front (b ∷ (bytes ++ rest))) (Some (sorts.Mark, reach.0)) plain (reach.2, λ e. refl))
+    (reaches_along sorts.Mark (length (b ∷ bytes)) (plain_front (b ∷ (bytes ++ rest))) (Some (sorts.Mark, reach.0)) plain (reach.2, λ e. refl))
 
 -- IPv6 addresses
 
@@ -415,8 +416,8 @@ reach_colons : (slice rest : List ℕ) → IsColons slice rest → Reaches sorts
 reach_colons slice rest colons =
     let begin = colons_begin slice rest colons in
     reaches_along sorts.Colons (length slice) (front (slice ++ rest)) (Some (sorts.Colons, prefix_len is_colons_byte (slice ++ rest)))
-      (ap (λ (t : Bool). cond t (Some (sorts.Colons, prefix_len is_colons_byte (slice ++ rest))) (plain_front (slice ++ rest))) begin.0)
-      (omega (arith, begin.1), λ e. refl)
+    (ap (λ (t : Bool). cond t (Some (sorts.Colons, prefix_len is_colons_byte (slice ++ rest))) (plain_front (slice ++ rest))) begin.0)
+    (omega (arith, begin.1), λ e. refl)
 
 -- The computed front is at least as long as any front of some sort, and of its sort where it is as long.
 pub reaches : (sort : Sort) (slice rest : List ℕ) → IsShape sort slice rest → Reaches sort (length slice) (front (slice ++ rest))

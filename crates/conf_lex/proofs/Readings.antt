@@ -170,10 +170,12 @@ next_once place text t u rest back one two =
     let same = token_once (two.slice ++ back) one.sort two.sort one.slice rest two.slice back (subst P gap.1 one.token) two.token in
     let V : Sort → Type 0 = λ s. IsValue s one.slice t.kind in
     let W : List ℕ → Type 0 = λ l. IsValue two.sort l t.kind in
-    let kind = value_once two.sort two.slice t.kind u.kind (subst W same.1 (subst V same.0 one.value)) two.value in
-    (token_parts t u kind
-      (one.at ∙ ap (λ (l : List ℕ). place + length l) gap.0 ∙ sym two.at)
-      (one.len ∙ ap (λ (l : List ℕ). length l) same.1 ∙ sym two.len), same.2)
+    let kind = value_once two.sort two.slice t.kind u.kind (subst W same.1 (subst V same.0 one.value)) two.value in (
+      token_parts t u kind
+          (one.at ∙ ap (λ (l : List ℕ). place + length l) gap.0 ∙ sym two.at)
+          (one.len ∙ ap (λ (l : List ℕ). length l) same.1 ∙ sym two.len),
+      same.2,
+    )
 
 -- where a gap ends the text, no token follows it
 gap_no_next : {A : Type 0} (place : ℕ) (text : List ℕ) (t : Token) (rest : List ℕ) → IsGap text [] → IsNext place text t rest → A
@@ -320,7 +322,7 @@ colons_later : (b : ℕ) (bytes : List ℕ) → is_colons_byte b ≡ true → be
 colons_later b bytes is colons =
     let parts = and_parts (nat_le 2 (count_by is_colon (take_while is_colons_byte bytes))) (not (first_passes is_name_byte (drop (prefix_len is_colons_byte bytes) bytes))) colons in
     let more : count_by is_colon (take_while is_colons_byte (b ∷ bytes)) ≡ cond (b == 58) 1 0 + count_by is_colon (take_while is_colons_byte bytes) =
-        ap (count_by is_colon) (run_yes is_colons_byte b bytes is) ∙ sum_by-cons (λ c. cond (is_colon c) 1 0) b (take_while is_colons_byte bytes) in
+    ap (count_by is_colon) (run_yes is_colons_byte b bytes is) ∙ sum_by-cons (λ c. cond (is_colon c) 1 0) b (take_while is_colons_byte bytes) in
     let two : nat_le 2 (count_by is_colon (take_while is_colons_byte (b ∷ bytes))) ≡ true = le-leb 2 _ (omega (arith, more, leb-true 2 _ parts.0)) in
     let last : not (first_passes is_name_byte (drop (prefix_len is_colons_byte (b ∷ bytes)) (b ∷ bytes))) ≡ true = ap (λ (l : List ℕ). not (first_passes is_name_byte l)) (behind_yes is_colons_byte b bytes is) ∙ parts.1 in
     and_from (nat_le 2 (count_by is_colon (take_while is_colons_byte (b ∷ bytes)))) _ two last
@@ -330,9 +332,9 @@ run_plain [] k plain within = absurd (omega arith)
 run_plain (b ∷ bytes) zero plain within = plain
 run_plain (b ∷ bytes) (suc k) plain within = elim (cases_Bool (is_colons_byte b)) [
   | inl is ↦ elim (cases_Bool (begins_colons bytes)) [
-      | inl colons ↦ absurd (false≢true (sym plain ∙ colons_later b bytes is colons))
-      | inr other ↦ run_plain bytes k other (omega (arith, within, len_yes is_colons_byte b bytes is))
-    ]
+    | inl colons ↦ absurd (false≢true (sym plain ∙ colons_later b bytes is colons))
+    | inr other ↦ run_plain bytes k other (omega (arith, within, len_yes is_colons_byte b bytes is))
+  ]
   | inr fails ↦ absurd (omega (arith, within, len_no is_colons_byte b bytes fails))
 ]
 

@@ -173,13 +173,15 @@ front_token text sort n is =
     let some = shape_some sort found.slice found.rest found.shape in
     let len = ap (λ (l : List ℕ). length l) found.whole in
     let P : List ℕ → Type 0 = λ l. IsShape sort l (drop n text) in
-    let Q : List ℕ → Type 0 = λ l. IsShape sort found.slice l in
-    (omega (arith, some, found.len), omega (arith, len, found.len, length-append found.slice found.rest),
-     record {
-       whole = sym (take-append-drop n text);
-       shape = subst P (sym taken) (subst Q (sym behind) found.shape);
-       longest = λ other front back whole shape. omega (arith, (longest_front text sort n is other front back whole shape).0, ap (λ (l : List ℕ). length l) taken, found.len);
-     })
+    let Q : List ℕ → Type 0 = λ l. IsShape sort found.slice l in (
+      omega (arith, some, found.len),
+      omega (arith, len, found.len, length-append found.slice found.rest),
+      record {
+        whole = sym (take-append-drop n text);
+        shape = subst P (sym taken) (subst Q (sym behind) found.shape);
+        longest = λ other front back whole shape. omega (arith, (longest_front text sort n is other front back whole shape).0, ap (λ (l : List ℕ). length l) taken, found.len);
+      },
+    )
 
 pub no_front : {A : Type 0} (sort : Sort) (k : ℕ) (o : Option (Sort × ℕ)) → o ≡ None → Reaches sort k o → A
 no_front sort k o none reaches = let P : Option (Sort × ℕ) → Type 0 = λ p. Reaches sort k p in absurd (subst P none reaches)

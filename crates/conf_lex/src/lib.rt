@@ -10,6 +10,8 @@ mod spelling;
 mod symbol;
 #[cfg(test)]
 mod tests;
+#[cfg(test)]
+mod tests_words;
 mod token;
 mod values;
 mod word;

@@ -32,7 +32,7 @@ stopped : (text here rest : List ℕ) (at g : ℕ) (found : List Token) → at �
 stopped text here rest at g found within here-is far gap bare rest-is some none completes =
     let P : List ℕ → Type 0 = λ l. HasNoToken l in
     rw append-nil at (completes [] (at + g) (gap_stops text at g (reach text here at g within here-is far) (gap_along text here at g here-is gap) (end_along text here at g here-is bare)
-      (omega (arith, some, ap (λ (l : List ℕ). length l) rest-is)) (subst P rest-is none)))
+    (omega (arith, some, ap (λ (l : List ℕ). length l) rest-is)) (subst P rest-is none)))
 
 pub returns-then-is_empty-clause-tokens : goal.returns-then-is_empty-clause-tokens
 returns-then-is_empty-clause-tokens c =
@@ -54,9 +54,10 @@ returns-then-is_empty-clause-exact c = λ tokens place other.
 pub returns-in_default-clause-bad : goal.returns-in_default-clause-bad
 returns-in_default-clause-bad c =
     let some : 0 < length c.tail-rest.result.now = grind (arith, nat_tests) in
-    let none : HasNoToken c.tail-rest.result.now = rw c.in_default.is at c.token_at.ensures in
-    (c.loop-rest.found.items,
-     stopped c.args.text.now c.tail.result.now c.tail-rest.result.now c.loop-rest.at c.gap_len-at.result c.loop-rest.found.items c.loop-rest.invariant.within c.tail.ensures c.gap_len-at.ensures.within c.gap_len-at.ensures.gap c.gap_len-at.ensures.end c.tail-rest.ensures some none c.loop-rest.invariant.stops)
+    let none : HasNoToken c.tail-rest.result.now = rw c.in_default.is at c.token_at.ensures in (
+      c.loop-rest.found.items,
+      stopped c.args.text.now c.tail.result.now c.tail-rest.result.now c.loop-rest.at c.gap_len-at.result c.loop-rest.found.items c.loop-rest.invariant.within c.tail.ensures c.gap_len-at.ensures.within c.gap_len-at.ensures.gap c.gap_len-at.ensures.end c.tail-rest.ensures some none c.loop-rest.invariant.stops,
+    )
 
 pub returns-in_default-clause-only : goal.returns-in_default-clause-only
 returns-in_default-clause-only c = λ tokens other.
