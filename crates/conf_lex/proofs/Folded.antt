@@ -1,0 +1,120 @@
+-- The words of a list of tokens, one after another.
+use Rattle.std.proofs.Common.{◌≡◌, ℕ, suc, zero, ◌+◌, ◌-◌, ◌<◌, ◌≤◌, Bool, true, false, cond, ◌&&◌, List, [], ◌∷◌, ◌++◌, length, map, take, drop, Option, Some, None, refl, sym, ◌∙◌, ap, subst, arith, append_assoc}
+use Rattle.std.proofs.lemmas.List.{length-append, length-drop, drop-drop}
+use Rattle.conf_lex.specs.declared.shapes.Sort.{Sort}
+use Rattle.conf_lex.specs.declared.shapes.Sort.TheVariants as sorts
+use Rattle.conf_lex.specs.declared.token.Token.{Token}
+use Rattle.conf_lex.specs.declared.token.TokenKind.{TokenKind}
+use Rattle.conf_lex.specs.declared.token.TokenKind.TheVariants as kinds
+use Rattle.conf_lex.specs.declared.word.Word.{Word}
+use Rattle.conf_lex.specs.Shapes.{IsShape, IsValue}
+use Rattle.conf_lex.specs.Lex.{IsNext, Lexes}
+use Rattle.conf_lex.specs.Symbols.{is_else, is_colon, is_slash}
+use Rattle.conf_lex.specs.Words.{token_symbol, word_of, or_alone, slashed, first_word, words_from, words_of, quotes_of, IsWithin, AreWithin}
+use Rattle.conf_lex.proofs.Readings.{word_kind, decimal_kind, hexadecimal_kind, dotted_kind, colons_kind, mark_kind}
+
+-- tokens stand within their text
+
+no_quotes : (kind other : TokenKind) (n : ℕ) → kind ≡ other → quotes_of other ≡ 0 → quotes_of kind ≤ n
+no_quotes kind other n same none = omega (arith, ap quotes_of same, none)
+
+at_most_two : (kind : TokenKind) → quotes_of kind ≤ 2
+at_most_two kinds.Quoted = omega arith
+at_most_two kinds.Text = omega arith
+at_most_two _ = omega arith
+
+quotes_len : (sort : Sort) (slice rest : List ℕ) (kind : TokenKind) → IsShape sort slice rest → IsValue sort slice kind → quotes_of kind ≤ length slice
+quotes_len sorts.Word slice rest kind is value = no_quotes kind kinds.Name (length slice) (word_kind slice kind value) refl
+quotes_len sorts.Quote slice rest kind is value = omega (arith, at_most_two kind, ap (λ (l : List ℕ). length l) is.whole, length-append is.name (39 ∷ []))
+quotes_len sorts.Decimal slice rest kind is value = let k = decimal_kind slice kind value in no_quotes kind (kinds.Number k.0) (length slice) k.1 refl
+quotes_len sorts.Hexadecimal slice rest kind is value = let k = hexadecimal_kind slice kind value in no_quotes kind (kinds.Number k.0) (length slice) k.1 refl
+quotes_len sorts.Dotted slice rest kind is value = let k = dotted_kind slice kind value in no_quotes kind _ (length slice) k.1 refl
+quotes_len sorts.Colons slice rest kind is value = let k = colons_kind slice kind value in no_quotes kind _ (length slice) k.1 refl
+quotes_len sorts.Text slice rest kind is value = omega (arith, at_most_two kind, ap (λ (l : List ℕ). length l) is.whole, length-append is.text (34 ∷ []))
+quotes_len sorts.Mark slice rest kind is value = no_quotes kind kinds.Sign (length slice) (mark_kind slice kind value) refl
+
+within_from : (place : ℕ) (whole before text : List ℕ) (ts : List Token) → place ≡ length before → whole ≡ before ++ text → Lexes place text ts → AreWithin whole ts
+within_from place whole before text [] at cut lexes = tt
+within_from place whole before text (t ∷ ts) at cut lexes =
+    let rest = lexes.0 in let next = lexes.1 in
+    let all : whole ≡ before ++ (next.gap ++ (next.slice ++ rest)) = cut ∙ ap (λ (l : List ℕ). before ++ l) next.whole in
+    let len = ap (λ (l : List ℕ). length l) all in
+    let one = length-append before (next.gap ++ (next.slice ++ rest)) in
+    let two = length-append next.gap (next.slice ++ rest) in
+    let three = length-append next.slice rest in
+    let read : whole ≡ (before ++ (next.gap ++ next.slice)) ++ rest =
+    all ∙ ap (λ (l : List ℕ). before ++ l) (sym (append_assoc next.gap next.slice rest)) ∙ sym (append_assoc before (next.gap ++ next.slice) rest) in
+    let reach : t.at + t.len ≡ length (before ++ (next.gap ++ next.slice)) = omega (arith, next.at, next.len, at, length-append before (next.gap ++ next.slice), length-append next.gap next.slice) in (
+      record {
+        ends = omega (arith, next.at, next.len, at, len, one, two, three);
+        quotes = omega (arith, next.len, quotes_len next.sort next.slice rest t.kind next.token.shape next.value);
+      },
+      within_from (t.at + t.len) whole (before ++ (next.gap ++ next.slice)) rest ts reach read lexes.2,
+    )
+
+pub lexed_within : (text : List ℕ) (ts : List Token) → Lexes 0 text ts → AreWithin text ts
+lexed_within text ts lexes = within_from 0 text [] text ts refl refl lexes
+
+pub within_drop : (text : List ℕ) (k : ℕ) (ts : List Token) → AreWithin text ts → AreWithin text (drop k ts)
+within_drop text zero ts are = are
+within_drop text (suc k) [] are = tt
+within_drop text (suc k) (t ∷ ts) are = within_drop text k ts are.1
+
+-- of how many tokens a word is made
+
+abbrev IsSize : ℕ → ℕ → Type 0
+IsSize most n = (1 ≤ n) × (n ≤ most)
+
+size_if : (most : ℕ) (b : Bool) (x y : Word × ℕ) → IsSize most x.1 → IsSize most y.1 → IsSize most (cond b x y).1
+size_if most true x y one other = one
+size_if most false x y one other = other
+
+size_or : (most : ℕ) (o : Option Word) (alone : Word) → 3 ≤ most → IsSize most (or_alone o alone).1
+size_or most None alone three = (omega arith, omega (arith, three))
+size_or most (Some folded) alone three = (omega arith, three)
+
+pub first_size : (text : List ℕ) (i : ℕ) (t : Token) (ts : List Token) → (1 ≤ (first_word text i t ts).1) × ((first_word text i t ts).1 ≤ 1 + length ts)
+first_size text i t [] = (omega arith, omega arith)
+first_size text i t (u ∷ []) = size_if (1 + length (u ∷ [])) (is_else (token_symbol text t) && is_colon (token_symbol text u)) _ _ (omega arith, omega arith) (omega arith, omega arith)
+first_size text i t (u ∷ v ∷ ts) =
+    size_if (1 + length (u ∷ v ∷ ts)) (is_else (token_symbol text t) && is_colon (token_symbol text u)) _ _ (omega arith, omega arith)
+    (size_or (1 + length (u ∷ v ∷ ts)) (slashed i t.kind (is_slash (token_symbol text u)) v.kind) (word_of text i t) (omega arith))
+
+-- tokens that belong to the word before are passed over
+words_behind : (text : List ℕ) (i k : ℕ) (ts : List Token) → words_from text i k ts ≡ words_from text (i + k) 0 (drop k ts)
+words_behind text i zero [] = refl
+words_behind text i (suc k) [] = refl
+words_behind text i zero (t ∷ ts) = let same : i ≡ i + zero = omega arith in ap (λ (n : ℕ). words_from text n 0 (t ∷ ts)) same
+words_behind text i (suc k) (t ∷ ts) = let same : i + 1 + k ≡ i + suc k = omega arith in words_behind text (i + 1) k ts ∙ ap (λ (n : ℕ). words_from text n 0 (drop k ts)) same
+
+drop_one : (n : ℕ) (t : Token) (ts : List Token) → 1 ≤ n → drop (n - 1) ts ≡ drop n (t ∷ ts)
+drop_one n t ts some = let next : n ≡ suc (n - 1) = omega arith in sym (ap (λ (m : ℕ). drop m (t ∷ ts)) next)
+
+-- one word more
+next_words : (text : List ℕ) (tokens : List Token) (at : ℕ) (t : Token) (behind : List Token) (word : Word × ℕ) → drop at tokens ≡ t ∷ behind → word ≡ first_word text at t behind
+    → words_from text at 0 (drop at tokens) ≡ (at, word.0) ∷ words_from text (at + word.1) 0 (drop (at + word.1) tokens)
+next_words text tokens at t behind word cut is =
+    let n = (first_word text at t behind).1 in
+    let size = first_size text at t behind in
+    let place : at + 1 + ((first_word text at t behind).1 - 1) ≡ at + (first_word text at t behind).1 = omega (arith, size.0) in
+    let ahead : drop ((first_word text at t behind).1 - 1) behind ≡ drop (at + (first_word text at t behind).1) tokens =
+    drop_one (first_word text at t behind).1 t behind size.0 ∙ ap (λ (l : List Token). drop (first_word text at t behind).1 l) (sym cut) ∙ drop-drop (first_word text at t behind).1 at tokens in
+    let P : Word × ℕ → Type 0 = λ w. words_from text at 0 (drop at tokens) ≡ (at, w.0) ∷ words_from text (at + w.1) 0 (drop (at + w.1) tokens) in
+    subst P (sym is) (ap (λ (l : List Token). words_from text at 0 l) cut
+    ∙ ap (λ (ws : List (ℕ × Word)). (at, (first_word text at t behind).0) ∷ ws)
+    (words_behind text (at + 1) ((first_word text at t behind).1 - 1) behind ∙ ap (λ (m : ℕ). words_from text m 0 (drop ((first_word text at t behind).1 - 1) behind)) place
+    ∙ ap (λ (l : List Token). words_from text (at + (first_word text at t behind).1) 0 l) ahead))
+
+-- what the loop keeps, for either part of a word and its place
+pub words_more : {A : Type 0} (part : ℕ × Word → A) (text : List ℕ) (tokens : List Token) (at : ℕ) (t : Token) (behind : List Token) (word : Word × ℕ) (found : List A) → drop at tokens ≡ t ∷ behind → word ≡ first_word text at t behind
+    → map part (words_of text tokens) ≡ found ++ map part (words_from text at 0 (drop at tokens))
+    → map part (words_of text tokens) ≡ (found ++ part (at, word.0) ∷ []) ++ map part (words_from text (at + word.1) 0 (drop (at + word.1) tokens))
+words_more {A} part text tokens at t behind word found cut is before =
+    before ∙ ap (λ (ws : List (ℕ × Word)). found ++ map part ws) (next_words text tokens at t behind word cut is)
+    ∙ sym (append_assoc found (part (at, word.0) ∷ []) (map part (words_from text (at + word.1) 0 (drop (at + word.1) tokens))))
+
+pub words_reach : (text : List ℕ) (tokens : List Token) (at : ℕ) (t : Token) (behind : List Token) (word : Word × ℕ) → at ≤ length tokens → drop at tokens ≡ t ∷ behind → word ≡ first_word text at t behind → (1 ≤ word.1) × (at + word.1 ≤ length tokens)
+words_reach text tokens at t behind word within cut is =
+    let size = first_size text at t behind in
+    let n : word.1 ≡ (first_word text at t behind).1 = ap (λ (w : Word × ℕ). w.1) is in
+    (omega (arith, size.0, n), omega (arith, size.1, n, ap (λ (l : List Token). length l) cut, length-drop at tokens, within))

@@ -1,0 +1,10 @@
+mod Runs
+mod Found
+mod Reached
+mod Tokens
+mod Between
+mod Readings
+mod Numbers
+mod Spelled
+mod Folded
+mod Places

@@ -1,0 +1,6 @@
+pub mod Shapes
+pub mod Lex
+pub mod Fronts
+pub mod Symbols
+pub mod Words
+pub mod Spans

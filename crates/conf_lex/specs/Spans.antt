@@ -1,0 +1,18 @@
+-- Where tokens stand in their text.
+use Rattle.std.specs.Prelude.{◌≡◌, ℕ, ◌+◌, ◌-◌, ◌<◌, ◌≤◌, List, length, take, drop}
+use Rattle.conf_lex.specs.declared.shapes.Sort.{Sort}
+use Rattle.conf_lex.specs.declared.token.Token.{Token}
+use Rattle.conf_lex.specs.Shapes.{IsToken, IsValue, IsGap}
+
+-- the token's bytes at its place are the longest token that begins there, and say what it says
+pub record IsSpan (text : List ℕ) (t : Token) : Type 0 where
+  pub sort : Sort
+  pub some : 0 < t.len
+  pub within : t.at + t.len ≤ length text
+  pub token : IsToken (drop t.at text) sort (take t.len (drop t.at text)) (drop (t.at + t.len) text)
+  pub value : IsValue sort (take t.len (drop t.at text)) t.kind
+
+-- one place isn't before the other, and what stands between them is a gap
+pub record IsBetween (text : List ℕ) (from upto : ℕ) : Type 0 where
+  pub rises : from ≤ upto
+  pub gap : IsGap (take (upto - from) (drop from text)) (drop upto text)

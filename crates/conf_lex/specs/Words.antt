@@ -1,0 +1,93 @@
+-- The words that a text's tokens are to the grammars.
+use Rattle.std.specs.Prelude.{◌≡◌, ℕ, suc, zero, ◌+◌, ◌-◌, ◌%◌, ◌^◌, ◌≤◌, Bool, true, false, ◌&&◌, ◌==◌, nat_le, if◌then◌else◌, ⊤, Option, Some, None, List, [], ◌∷◌, length, map, take, drop}
+use Rattle.bits_ip.specs.Address.{number_of, width_of}
+use Rattle.bits_ip.specs.declared.address.Addr.{Addr}
+use Rattle.conf_lex.specs.Symbols.{symbol_of, is_placed, is_else, is_colon, is_slash}
+use Rattle.conf_lex.specs.declared.symbol.Symbol.{Symbol}
+use Rattle.conf_lex.specs.declared.symbol.Symbol.TheVariants as symbols
+use Rattle.conf_lex.specs.declared.token.Token.{Token}
+use Rattle.conf_lex.specs.declared.token.TokenKind.{TokenKind}
+use Rattle.conf_lex.specs.declared.token.TokenKind.TheVariants as kinds
+use Rattle.conf_lex.specs.declared.word.Word.{Word}
+use Rattle.conf_lex.specs.declared.word.Word.TheVariants as words
+
+-- the bytes of a token
+abbrev pub slice_of : List ℕ → Token → List ℕ
+slice_of text t = take t.len (drop t.at text)
+
+-- the symbol that a word or sign is; what stands between quotes is none
+abbrev pub kind_symbol : List ℕ → TokenKind → Option Symbol
+kind_symbol slice kinds.Name = symbol_of slice
+kind_symbol slice kinds.Sign = symbol_of slice
+kind_symbol slice _ = None
+
+abbrev pub token_symbol : List ℕ → Token → Option Symbol
+token_symbol text t = kind_symbol (slice_of text t) t.kind
+
+-- `i` is the token's place among the tokens
+abbrev pub symbol_word : ℕ → Symbol → Word
+symbol_word i symbol = if is_placed symbol then words.Placed i symbol else words.Symbol symbol
+
+abbrev pub spelled_word : ℕ → Token → Option Symbol → Word
+spelled_word i t None = words.Name i t.at t.len
+spelled_word i t (Some symbol) = symbol_word i symbol
+
+-- the word that a token of this kind is alone
+abbrev pub kind_word : List ℕ → ℕ → Token → TokenKind → Word
+kind_word text i t kinds.Quoted = words.Name i (t.at + 1) (t.len - 2)
+kind_word text i t kinds.Text = words.Text i (t.at + 1) (t.len - 2)
+kind_word text i t (kinds.Number n) = words.Number i n
+kind_word text i t (kinds.Ip addr) = words.Ip i addr
+kind_word text i t _ = spelled_word i t (symbol_of (slice_of text t))
+
+abbrev pub word_of : List ℕ → ℕ → Token → Word
+word_of text i t = kind_word text i t t.kind
+
+-- an address and a length make a prefix
+abbrev pub is_prefix : Addr → ℕ → Bool
+is_prefix addr n = nat_le n (width_of addr) && (number_of addr % 2 ^ (width_of addr - n) == 0)
+
+abbrev pub prefix_word : ℕ → Addr → ℕ → Word
+prefix_word i addr n = if is_prefix addr n then words.Prefix i (record { addr = addr; len = n }) else words.BadPrefix i
+
+-- the word of an address, a slash and a number
+abbrev pub slashed : ℕ → TokenKind → Bool → TokenKind → Option Word
+slashed i (kinds.Ip addr) true (kinds.Number n) = Some (prefix_word i addr n)
+slashed i _ _ _ = None
+
+abbrev pub or_alone : Option Word → Word → Word × ℕ
+or_alone None alone = (alone, 1)
+or_alone (Some folded) alone = (folded, 3)
+
+-- The word that begins with a token, by what follows it, and of how many tokens it is made.
+abbrev pub first_word : List ℕ → ℕ → Token → List Token → Word × ℕ
+first_word text i t [] = (word_of text i t, 1)
+first_word text i t (u ∷ []) =
+    if is_else (token_symbol text t) && is_colon (token_symbol text u) then (words.Symbol symbols.ElseColon, 2) else (word_of text i t, 1)
+first_word text i t (u ∷ v ∷ ts) =
+    if is_else (token_symbol text t) && is_colon (token_symbol text u) then (words.Symbol symbols.ElseColon, 2)
+    else or_alone (slashed i t.kind (is_slash (token_symbol text u)) v.kind) (word_of text i t)
+
+-- The words from the token of this place on, each with the place of its first token. The first `skip` tokens belong to the word before.
+abbrev pub words_from : List ℕ → ℕ → ℕ → List Token → List (ℕ × Word)
+words_from text i skip [] = []
+words_from text i (suc skip) (t ∷ ts) = words_from text (i + 1) skip ts
+words_from text i zero (t ∷ ts) = (i, (first_word text i t ts).0) ∷ words_from text (i + 1) ((first_word text i t ts).1 - 1) ts
+
+-- the words of a text with these tokens, each with the place of its first token
+abbrev pub words_of : List ℕ → List Token → List (ℕ × Word)
+words_of text tokens = words_from text 0 0 tokens
+
+-- The token stands within the text, and what is between quotes has two of them.
+abbrev pub quotes_of : TokenKind → ℕ
+quotes_of kinds.Quoted = 2
+quotes_of kinds.Text = 2
+quotes_of _ = 0
+
+pub record IsWithin (text : List ℕ) (t : Token) : Type 0 where
+  pub ends : t.at + t.len ≤ length text
+  pub quotes : quotes_of t.kind ≤ t.len
+
+abbrev pub AreWithin : List ℕ → List Token → Type 0
+AreWithin text [] = ⊤
+AreWithin text (t ∷ ts) = IsWithin text t × AreWithin text ts

@@ -1,0 +1,30 @@
+use crate::symbol::Symbol;
+use bits_ip::{Addr, Prefix};
+
+/// What the grammars read: a token, or several that are one word to them. `at` is the place of the word's first token
+/// among the tokens.
+#[derive(Clone, Copy, Debug, PartialEq, Eq)]
+pub enum Word {
+    /// A name that is no word of the grammars, or any name that is quoted. `start` and `len` tell its bytes in the source,
+    /// which are those between the quotes.
+    Name { at: usize, start: usize, len: usize },
+    Number { at: usize, value: u32 },
+    /// A text: `start` and `len` tell the bytes between its quotes.
+    Text { at: usize, start: usize, len: usize },
+    /// An address with no slash and number behind it.
+    Ip { at: usize, addr: Addr },
+    /// An address, a slash and a number that make a prefix.
+    Prefix { at: usize, net: Prefix },
+    /// An address, a slash and a number that make none: a host bit is set, or the length is too large.
+    BadPrefix { at: usize },
+    Symbol(Symbol),
+    /// A symbol that can be a whole expression, or at which a later check may refuse.
+    Placed { at: usize, symbol: Symbol },
+}
+
+/// The words of a text, and in the same place of `starts` each word's first token.
+#[derive(Debug, Drop)]
+pub struct Words {
+    pub words: Vec<Word>,
+    pub starts: Vec<usize>,
+}
