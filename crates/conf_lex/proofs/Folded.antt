@@ -10,7 +10,7 @@ use Rattle.conf_lex.specs.declared.word.Word.{Word}
 use Rattle.conf_lex.specs.Shapes.{IsShape, IsValue}
 use Rattle.conf_lex.specs.Lex.{IsNext, Lexes}
 use Rattle.conf_lex.specs.Symbols.{is_else, is_colon, is_slash}
-use Rattle.conf_lex.specs.Words.{token_symbol, word_of, or_alone, slashed, first_word, words_from, words_of, quotes_of, IsWithin, AreWithin}
+use Rattle.conf_lex.specs.Words.{token_symbol, word_of, or_alone, slashed, first_word, words_from, quotes_of, IsWithin, AreWithin}
 use Rattle.conf_lex.proofs.Readings.{word_kind, decimal_kind, hexadecimal_kind, dotted_kind, colons_kind, mark_kind}
 
 -- tokens stand within their text
@@ -106,10 +106,10 @@ next_words text tokens at t behind word cut is =
     ∙ ap (λ (l : List Token). words_from text (at + (first_word text at t behind).1) 0 l) ahead))
 
 -- what the loop keeps, for either part of a word and its place
-pub words_more : {A : Type 0} (part : ℕ × Word → A) (text : List ℕ) (tokens : List Token) (at : ℕ) (t : Token) (behind : List Token) (word : Word × ℕ) (found : List A) → drop at tokens ≡ t ∷ behind → word ≡ first_word text at t behind
-    → map part (words_of text tokens) ≡ found ++ map part (words_from text at 0 (drop at tokens))
-    → map part (words_of text tokens) ≡ (found ++ part (at, word.0) ∷ []) ++ map part (words_from text (at + word.1) 0 (drop (at + word.1) tokens))
-words_more {A} part text tokens at t behind word found cut is before =
+pub words_more : {A : Type 0} (part : ℕ × Word → A) (text : List ℕ) (tokens : List Token) (all : List (ℕ × Word)) (at : ℕ) (t : Token) (behind : List Token) (word : Word × ℕ) (found : List A) → drop at tokens ≡ t ∷ behind → word ≡ first_word text at t behind
+    → map part all ≡ found ++ map part (words_from text at 0 (drop at tokens))
+    → map part all ≡ (found ++ part (at, word.0) ∷ []) ++ map part (words_from text (at + word.1) 0 (drop (at + word.1) tokens))
+words_more {A} part text tokens all at t behind word found cut is before =
     before ∙ ap (λ (ws : List (ℕ × Word)). found ++ map part ws) (next_words text tokens at t behind word cut is)
     ∙ sym (append_assoc found (part (at, word.0) ∷ []) (map part (words_from text (at + word.1) 0 (drop (at + word.1) tokens))))
 

@@ -104,6 +104,15 @@ is_placed symbols.OriginIncomplete = true
 is_placed symbols.EmptyPath = true
 is_placed symbols.EmptyClist = true
 is_placed symbols.OpenMask = true
+is_placed symbols.Prepend = true
+is_placed symbols.Add = true
+is_placed symbols.Delete = true
+is_placed symbols.Defined = true
+is_placed symbols.Case = true
+is_placed symbols.For = true
+is_placed symbols.Return = true
+is_placed symbols.Not = true
+is_placed symbols.OpenBracket = true
 is_placed _ = false
 
 abbrev pub is_else : Option Symbol → Bool

@@ -1,7 +1,7 @@
 ghost use Rattle.std.specs.Prelude.{◌≡◌, ◌≤◌, ◌<◌, ◌+◌, ℕ, List, length, map, drop, take, IfOk};
 ghost use Rattle.conf_lex.specs.Lex.{Lexes};
 ghost use Rattle.conf_lex.specs.Symbols.{symbol_of, is_else, is_colon, is_slash};
-ghost use Rattle.conf_lex.specs.Words.{slice_of, token_symbol, word_of, symbol_word, spelled_word, prefix_word, slashed, first_word, words_of, IsWithin, AreWithin};
+ghost use Rattle.conf_lex.specs.Words.{slice_of, token_symbol, word_of, symbol_word, spelled_word, prefix_word, slashed, first_word, words_from, words_of, IsWithin, AreWithin};
 
 use crate::spelling::{is_placed, symbol_of};
 use crate::symbol::Symbol;
@@ -155,9 +155,24 @@ pub fn words(alloc: Global, text: &[u8], tokens: &[Token]) -> Result<Words, OutO
     ensures words { IfOk result (λ found. found.words.items ≡ map (λ word. word.1) (words_of text.now tokens.now)) }
     ensures starts { IfOk result (λ found. found.starts.items ≡ map (λ word. word.0) (words_of text.now tokens.now)) }
 {
+    words_from(alloc, text, tokens, 0)
+}
+
+/// The words from a token on, as `words` gives them for all tokens.
+pub fn words_from(
+    alloc: Global,
+    text: &[u8],
+    tokens: &[Token],
+    from: usize,
+) -> Result<Words, OutOfMemory>
+    requires lexed { Lexes 0 text.now tokens.now }
+    requires within { from ≤ length tokens.now }
+    ensures words { IfOk result (λ found. found.words.items ≡ map (λ word. word.1) (words_from text.now from 0 (drop from tokens.now))) }
+    ensures starts { IfOk result (λ found. found.starts.items ≡ map (λ word. word.0) (words_from text.now from 0 (drop from tokens.now))) }
+{
     let mut words = Vec::new(alloc);
     let mut starts = Vec::new(alloc);
-    let mut at = 0;
+    let mut at = from;
     while let Some((token, behind)) = tokens_from(tokens, at).split_first() {
         let (word, taken) = first_word(text, at, *token, behind);
         words.push(word)?;

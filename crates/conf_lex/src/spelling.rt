@@ -290,6 +290,15 @@ pub fn is_placed(symbol: Symbol) -> bool
         Symbol::EmptyPath => true,
         Symbol::EmptyClist => true,
         Symbol::OpenMask => true,
+        Symbol::Prepend => true,
+        Symbol::Add => true,
+        Symbol::Delete => true,
+        Symbol::Defined => true,
+        Symbol::Case => true,
+        Symbol::For => true,
+        Symbol::Return => true,
+        Symbol::Not => true,
+        Symbol::OpenBracket => true,
         _ => false,
     }
 }

@@ -101,29 +101,22 @@ fn words_of_configurations(rt: HostRuntime) -> Result<(), Fail> {
 
 #[test]
 fn words_of_filters(rt: HostRuntime) -> Result<(), Fail> {
-    let table: [(&[u8], Symbol); 31] = [
-        (b"prepend", Symbol::Prepend),
-        (b"add", Symbol::Add),
-        (b"delete", Symbol::Delete),
+    let table: [(&[u8], Symbol); 24] = [
         (b"empty", Symbol::Empty),
         (b"unset", Symbol::Unset),
         (b"if", Symbol::If),
         (b"then", Symbol::Then),
         (b"else", Symbol::Else),
-        (b"case", Symbol::Case),
-        (b"for", Symbol::For),
         (b"in", Symbol::In),
         (b"do", Symbol::Do),
         (b"accept", Symbol::Accept),
         (b"reject", Symbol::Reject),
-        (b"return", Symbol::Return),
         (b"print", Symbol::Print),
         (b"printn", Symbol::Printn),
         (b"len", Symbol::Len),
         (b"first", Symbol::First),
         (b"last", Symbol::Last),
         (b"ip", Symbol::Ip),
-        (b"defined", Symbol::Defined),
         (b"int", Symbol::Int),
         (b"bool", Symbol::Bool),
         (b"prefix", Symbol::Prefix),
@@ -139,7 +132,7 @@ fn words_of_filters(rt: HostRuntime) -> Result<(), Fail> {
 
 #[test]
 fn signs_of_the_grammars(rt: HostRuntime) -> Result<(), Fail> {
-    let table: [(&[u8], Symbol); 29] = [
+    let table: [(&[u8], Symbol); 27] = [
         (b";", Symbol::Semicolon),
         (b"{", Symbol::OpenBrace),
         (b"}", Symbol::CloseBrace),
@@ -152,7 +145,6 @@ fn signs_of_the_grammars(rt: HostRuntime) -> Result<(), Fail> {
         (b".", Symbol::Dot),
         (b"&&", Symbol::And),
         (b"||", Symbol::Or),
-        (b"!", Symbol::Not),
         (b"!=", Symbol::NotEqual),
         (b"<", Symbol::Less),
         (b"<=", Symbol::LessOrEqual),
@@ -163,7 +155,6 @@ fn signs_of_the_grammars(rt: HostRuntime) -> Result<(), Fail> {
         (b"+", Symbol::Plus),
         (b"-", Symbol::Minus),
         (b"*", Symbol::Star),
-        (b"[", Symbol::OpenBracket),
         (b"]", Symbol::CloseBracket),
         (b"=]", Symbol::CloseMask),
         (b":", Symbol::Colon),
@@ -175,7 +166,7 @@ fn signs_of_the_grammars(rt: HostRuntime) -> Result<(), Fail> {
 
 #[test]
 fn symbols_with_a_place(rt: HostRuntime) -> Result<(), Fail> {
-    let table: [(&[u8], Symbol); 35] = [
+    let table: [(&[u8], Symbol); 44] = [
         (b"ipv4", Symbol::Ipv4),
         (b"ipv6", Symbol::Ipv6),
         (b"filter", Symbol::Filter),
@@ -211,6 +202,15 @@ fn symbols_with_a_place(rt: HostRuntime) -> Result<(), Fail> {
         (b"+empty+", Symbol::EmptyPath),
         (b"-empty-", Symbol::EmptyClist),
         (b"[=", Symbol::OpenMask),
+        (b"prepend", Symbol::Prepend),
+        (b"add", Symbol::Add),
+        (b"delete", Symbol::Delete),
+        (b"defined", Symbol::Defined),
+        (b"case", Symbol::Case),
+        (b"for", Symbol::For),
+        (b"return", Symbol::Return),
+        (b"!", Symbol::Not),
+        (b"[", Symbol::OpenBracket),
     ];
     are_placed(&rt, rt.alloc(), &table)
 }

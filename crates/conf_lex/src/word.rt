@@ -18,7 +18,7 @@ pub enum Word {
     /// An address, a slash and a number that make none: a host bit is set, or the length is too large.
     BadPrefix { at: usize },
     Symbol(Symbol),
-    /// A symbol that can be a whole expression, or at which a later check may refuse.
+    /// A symbol that can be a whole expression, begins one or a statement, or at which a later check may refuse.
     Placed { at: usize, symbol: Symbol },
 }
 
