@@ -1,4 +1,4 @@
 //! The grammar of BIRD's filters, its syntax trees and its parser.
 #![tactic(auto)]
 
-use conf_lex::Word;
+mod tree;
