@@ -1,0 +1,6 @@
+pub mod Syntax
+pub mod ItemView
+pub mod ItemReaders
+pub mod View
+pub mod Readers
+pub mod Parse
