@@ -1,1 +1,3 @@
 pub mod Syntax
+pub mod ItemView
+pub mod ItemReaders
