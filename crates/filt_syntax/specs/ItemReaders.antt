@@ -1,6 +1,7 @@
 -- Reading each form of an item, where k more levels may be opened.
 use Rattle.std.specs.Prelude.{ℕ}
-use Rattle.grammar.specs.Reading.{Reader, read}
+use Rattle.grammar.specs.Grammar.{Tree, starts}
+use Rattle.grammar.specs.Reading.{Reader, all_turns, read}
 use Rattle.filt_syntax.specs.Syntax.{optional, many, part, pair_part, lengths, item, mask_atom, mask_item, label_end, label, set_level, pair_level, lengths_level, rule}
 
 unfoldable pub part_at : ℕ → Reader
@@ -44,3 +45,7 @@ label_end_at k = read rule k label_end
 
 unfoldable pub label_at : ℕ → Reader
 label_at k = read rule k label
+
+-- elements of a mask after a tree
+unfoldable pub mask_row_at : Tree → Reader
+mask_row_at = all_turns (starts mask_item) (mask_item_at 0)
