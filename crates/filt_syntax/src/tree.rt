@@ -1,12 +1,5 @@
 use bits_ip::{Addr, Prefix};
-
-/// A name: `at` is the place of its token among the tokens, `start` and `len` tell its bytes in the source.
-#[derive(Clone, Copy, Debug)]
-pub struct Name {
-    pub at: usize,
-    pub start: usize,
-    pub len: usize,
-}
+use grammar::Name;
 
 /// An attribute of routes (BIRD User's Guide, "Route attributes").
 #[derive(Clone, Copy, Debug, PartialEq, Eq)]
