@@ -1,3 +1,5 @@
 pub mod Syntax
 pub mod ItemView
 pub mod ItemReaders
+pub mod View
+pub mod Readers
