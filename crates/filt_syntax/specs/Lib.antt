@@ -3,3 +3,4 @@ pub mod ItemView
 pub mod ItemReaders
 pub mod View
 pub mod Readers
+pub mod StatementView

@@ -145,6 +145,21 @@ fn pair_item<'a>(
     Ok((Item::Pair(first, second), rest))
 }
 
+// A prefix and its lengths, by the words after it.
+fn prefix_item<'a>(
+    words: &'a [Word],
+    at: usize,
+    net: Prefix,
+    behind: &'a [Word],
+    left: u32,
+) -> Result<(Item, &'a [Word]), Refusal<'a>>
+    requires { words.now ≡ Word.Prefix at net ∷ behind.now }
+    ensures { Gives item_tree result (item_at left words.now) }
+{
+    let (lengths, rest) = lengths(behind, left)?;
+    Ok((Item::Prefix { at, net, lengths }, rest))
+}
+
 pub fn item(words: &[Word], left: u32) -> Result<(Item, &[Word]), Refusal>
     ensures { Gives item_tree result (item_at left words.now) }
 {
@@ -152,10 +167,7 @@ pub fn item(words: &[Word], left: u32) -> Result<(Item, &[Word]), Refusal>
         return pair_item(words, inside, left);
     }
     match next_prefix(words) {
-        Some(((at, net), rest)) => {
-            let (lengths, rest) = lengths(rest, left)?;
-            Ok((Item::Prefix { at, net, lengths }, rest))
-        }
+        Some(((at, net), rest)) => prefix_item(words, at, net, rest, left),
         None => {
             let (part, rest) = part(words)?;
             Ok((Item::Part(part), rest))
@@ -173,10 +185,16 @@ pub fn items<'a>(
     ensures some { IfOk result (λ found. 0 < length found.0.items) }
 {
     let mut found = Vec::new(alloc);
-    let (first, mut rest) = item(words, left)?;
+    let (first, mut rest) = match item(words, left) {
+        Ok(found) => found,
+        Err(refusal) => return Err(refusal),
+    };
     found.push(first)?;
     while let Some(next) = after(rest, Symbol::Comma) {
-        let (more, end) = item(next, left)?;
+        let (more, end) = match item(next, left) {
+            Ok(found) => found,
+            Err(refusal) => return Err(refusal),
+        };
         found.push(more)?;
         rest = end;
     }

@@ -3,4 +3,5 @@
 
 mod expression;
 mod items;
+mod statement;
 mod tree;

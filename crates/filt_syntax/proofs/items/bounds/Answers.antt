@@ -29,7 +29,7 @@ returns-in_err-rest c =
 pub returns-in_err-high : goal.returns-in_err-high
 returns-in_err-high c =
     let p = err_from_is_err_and c.from_residual-in_err-high.result c.from_residual-in_err-high.ensures.1 in
-    rw (p.1, p.2, bounds_is 0 c.args.words.now, c.in_ok-low.ensures, c.in_ok-rest.ensures) (fails_then _ _ _ (fails_then _ _ _ (fails_then _ _ _ c.in_err-high.ensures)))
+    rw (p.1, p.2, bounds_is 0 c.args.words.now, c.in_ok-low.ensures, c.in_ok-rest.ensures) (fails_then _ _ _ (fails_then _ _ _ c.in_err-high.ensures))
 
 pub returns : goal.returns
 returns c =

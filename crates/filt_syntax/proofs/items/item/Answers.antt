@@ -16,18 +16,9 @@ use Rattle.filt_syntax.specs.ItemReaders.{part_at, pair_part_at, pair_at, bounds
 use Rattle.filt_syntax.proofs.ItemSteps.{part_is, pair_part_any, pair_part_some, pair_is, bounds_is, lengths_longer, lengths_shorter, lengths_none, braced_deep, braced_is, pair_deep, pair_item_is, prefix_item_is, item_part, item_turns, items_is, item_shorter, one_more_item, label_items_fail, label_colon_fails, label_got, mask_atom_one, mask_atom_any, mask_atom_part, mask_item_fails, mask_item_many, mask_item_once, mask_is, mask_row_end, mask_row_more, mask_row_fails, mask_item_shorter, one_more_mask_item}
 use Rattle.filt_syntax.proofs.items.item.Goals as goal
 
-pub returns-in_err-lengths-in-Some : goal.returns-in_err-lengths-in-Some
-returns-in_err-lengths-in-Some c =
-    let p = err_from_is_err_and c.from_residual.result c.from_residual.ensures.1 in
-    rw (p.1, p.2, prefix_item_is c.args.left c.in-Some-next_prefix.at c.in-Some-next_prefix.net c.args.words.now c.in-Some-next_prefix.rest.now c.in-Some-next_prefix.ensures) (fails_then _ _ _ c.in_err-lengths-in-Some.ensures)
-
-pub returns-in_ok-lengths-in-Some : goal.returns-in_ok-lengths-in-Some
-returns-in_ok-lengths-in-Some c =
-    prefix_item_is c.args.left c.in-Some-next_prefix.at c.in-Some-next_prefix.net c.args.words.now c.in-Some-next_prefix.rest.now c.in-Some-next_prefix.ensures ∙ rw c.in_ok-lengths-in-Some.ensures refl
-
 pub returns-in_err-part-in-None : goal.returns-in_err-part-in-None
 returns-in_err-part-in-None c =
-    let p = err_from_is_err_and c.from_residual-in_err-part-in-None.result c.from_residual-in_err-part-in-None.ensures.1 in
+    let p = err_from_is_err_and c.from_residual.result c.from_residual.ensures.1 in
     rw (p.1, p.2, item_part c.args.left c.args.words.now c.in_default.ensures c.in-None.ensures) (fails_then _ _ _ c.in_err-part-in-None.ensures)
 
 pub returns-in_ok-part-in-None : goal.returns-in_ok-part-in-None

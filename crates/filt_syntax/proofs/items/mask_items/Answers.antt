@@ -24,7 +24,7 @@ loop-rest-init c =
 pub returns-in_err-item : goal.returns-in_err-item
 returns-in_err-item c =
     let p = err_from_is_err_and c.from_residual.result c.from_residual.ensures.1 in
-    rw (p.1, p.2) (rw c.loop-rest.invariant (mask_row_fails (mask_items_tree c.loop-rest.found.items) c.loop-rest.rest.now _ ? c.in_err-item.ensures))
+    rw (p.1, p.2) (rw c.loop-rest.invariant (mask_row_fails (mask_items_tree c.loop-rest.found.items) c.loop-rest.rest.now _ (flip c.begins_mask_item.ensures ∙ c.loop-rest-test.true) c.in_err-item.ensures))
 
 pub loop-rest-smaller : goal.loop-rest-smaller
 loop-rest-smaller c =
@@ -36,8 +36,8 @@ loop-rest-preserved c =
     let m = c.in_ok-item.item in
     let end = c.in_ok-item.end.now in
     let pushed : c.push.new.self.items ≡ ms ++ m ∷ [] = search rules in
-    rw pushed (c.loop-rest.invariant ∙ mask_row_more (mask_items_tree ms) c.loop-rest.rest.now (mask_item_tree m) end ? c.in_ok-item.ensures ∙ ap (λ (t : Tree). mask_row_at t end) (flip (one_more_mask_item ms m)))
+    rw pushed (c.loop-rest.invariant ∙ mask_row_more (mask_items_tree ms) c.loop-rest.rest.now (mask_item_tree m) end (flip c.begins_mask_item.ensures ∙ c.loop-rest-test.true) c.in_ok-item.ensures ∙ ap (λ (t : Tree). mask_row_at t end) (flip (one_more_mask_item ms m)))
 
 pub returns : goal.returns
 returns c =
-    c.loop-rest.invariant ∙ mask_row_end (mask_items_tree c.loop-rest.found.items) c.loop-rest.rest.now ?
+    c.loop-rest.invariant ∙ mask_row_end (mask_items_tree c.loop-rest.found.items) c.loop-rest.rest.now (flip c.begins_mask_item.ensures ∙ c.loop-rest-test.false)

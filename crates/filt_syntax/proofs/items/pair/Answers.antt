@@ -29,7 +29,7 @@ returns-in_err-rest c =
 pub returns-in_err-second : goal.returns-in_err-second
 returns-in_err-second c =
     let p = err_from_is_err_and c.from_residual-in_err-second.result c.from_residual-in_err-second.ensures.1 in
-    rw (p.1, p.2, pair_is 0 c.args.words.now, c.in_ok-first.ensures, c.in_ok-rest.ensures) (fails_then _ _ _ (fails_then _ _ _ (fails_then _ _ _ c.in_err-second.ensures)))
+    rw (p.1, p.2, pair_is 0 c.args.words.now, c.in_ok-first.ensures, c.in_ok-rest.ensures) (fails_then _ _ _ (fails_then _ _ _ c.in_err-second.ensures))
 
 pub returns : goal.returns
 returns c =
