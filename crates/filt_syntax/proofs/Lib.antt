@@ -1,2 +1,4 @@
 pub mod Tested
 pub mod ItemSteps
+pub mod Picks
+pub mod StatementSteps

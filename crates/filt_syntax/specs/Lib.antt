@@ -4,3 +4,4 @@ pub mod ItemReaders
 pub mod View
 pub mod Readers
 pub mod StatementView
+pub mod StatementReaders

@@ -1,14 +1,22 @@
 -- Reading each form of a statement, where k more levels may be opened.
-use Rattle.std.specs.Prelude.{◌≡◌, ℕ, Bool, true, false, ◌||◌, List, [], ◌∷◌}
+use Rattle.std.specs.Prelude.{◌≡◌, ℕ, Bool, true, false, ◌||◌, List, [], ◌∷◌, map, Option, Result, Ok, Err, Vec}
+use Rattle.std.specs.Global.{Global}
+use Rattle.std.specs.Borrow.{Bor}
 use Rattle.conf_lex.specs.declared.symbol.Symbol.TheVariants as sym
 use Rattle.conf_lex.specs.declared.word.Word.{Word}
 use Rattle.conf_lex.specs.declared.word.Word.TheVariants as words
 use Rattle.grammar.specs.declared.named.Name.{Name}
 use Rattle.grammar.specs.Kind.{Kind, kind_of, number, prefix, symbol}
-use Rattle.grammar.specs.Grammar.{Form, One, Seq, Nest, Tree, Leaf, Both, First, Second, Inside, starts, begins}
-use Rattle.grammar.specs.Shapes.{name_leaf}
+use Rattle.grammar.specs.Grammar.{Form, One, Seq, Either, Nest, Tree, Leaf, Both, First, Second, Inside, starts, begins}
+use Rattle.grammar.specs.Shapes.{name_leaf, between}
+use Rattle.grammar.specs.Gives.{Fails, Gives}
+use Rattle.grammar.specs.declared.refusal.Refusal.{Refusal}
+use Rattle.filt_syntax.specs.declared.tree.Arm.{Arm}
+use Rattle.filt_syntax.specs.declared.tree.Stmt.{Stmt}
+use Rattle.filt_syntax.specs.ItemView.{label_tree}
+use Rattle.filt_syntax.specs.StatementView.{nth, stmt_tree, body_after, otherwise_tree, otherwise_of}
 use Rattle.grammar.specs.Reading.{Reader, Got, and_then, word, both, all_turns, read}
-use Rattle.filt_syntax.specs.Syntax.{optional, listed, many, expr, vtype, stmt, unnamed_stmt, done_to_name, arm_part, arms, body_level, rule}
+use Rattle.filt_syntax.specs.Syntax.{optional, listed, many, expr, vtype, method, semicolon, declaration, stmt, unnamed_stmt, done_to_name, arm_part, arms, body_level, rule}
 use Rattle.filt_syntax.specs.Readers.{expr_at}
 use Rattle.filt_syntax.specs.ItemReaders.{label_at}
 
@@ -32,6 +40,14 @@ vtype_at k = read rule k vtype
 -- "set", or nothing
 unfoldable pub set_at : ℕ → Reader
 set_at k = read rule k (optional (One (symbol sym.Set)))
+
+-- what stands behind the dot of a statement
+unfoldable pub change_at : ℕ → Reader
+change_at k = read rule k (Seq (Either (One (symbol sym.Empty)) method) semicolon)
+
+-- a declaration, as a statement
+unfoldable pub declaration_at : ℕ → Reader
+declaration_at k ws = and_then (read rule k declaration ws) (λ t rest. Got (Second (nth 2 t)) rest)
 
 -- "=" and an expression, or nothing
 unfoldable pub initial_at : ℕ → Reader
@@ -86,6 +102,19 @@ abbrev pub label_next : List Word → Bool
 label_next (words.Name at start len ∷ w ∷ ws) = symbol sym.Comma (kind_of w) || (symbol sym.Colon (kind_of w) || symbol sym.Range (kind_of w))
 label_next ws = begins (λ k. number k || (symbol sym.OpenParenthesis k || prefix k)) ws
 
+-- whether the arms end here
+abbrev pub arms_over : List Word → Bool
+arms_over ws = begins (λ k. symbol sym.ElseColon k || symbol sym.CloseBrace k) ws
+
 -- whether an arm ends here
 abbrev pub arm_ends : List Word → Bool
-arm_ends ws = label_next ws || (begins (symbol sym.ElseColon) ws || begins (symbol sym.CloseBrace) ws)
+arm_ends ws = label_next ws || arms_over ws
+
+-- an arm was read whole, behind whatever arms
+abbrev pub ArmGives : Result (Arm Stmt × Bor (List Word)) Refusal → ℕ → List Word → Type 0
+ArmGives (Ok found) k ws = (arm_ends found.1.now ≡ true) × ((row_with : Tree → Tree) → labelled_at k row_with ws ≡ more_arms_at k (body_after (row_with (label_tree found.0.labels.items)) (map stmt_tree found.0.body.items)) found.1.now)
+ArmGives (Err e) k ws = (row_with : Tree → Tree) → Fails e (labelled_at k row_with ws)
+
+-- what stands behind the arms was read, behind whatever arms
+abbrev pub OtherwiseGives : Result (Option (Vec Stmt Global) × Bor (List Word)) Refusal → ℕ → List Word → Type 0
+OtherwiseGives result k ws = (row : Tree) → Gives (λ o. between (words.Symbol sym.OpenBrace) (Both row (otherwise_tree (otherwise_of o))) sym.CloseBrace) result (arms_end_at k row ws)

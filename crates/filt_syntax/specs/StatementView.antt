@@ -1,5 +1,6 @@
 -- The tree of the grammar that a statement stands for.
-use Rattle.std.specs.Prelude.{ℕ, List, [], ◌∷◌, Option, Some, None, map, Vec, Global}
+use Rattle.std.specs.Prelude.{ℕ, List, [], ◌∷◌, Option, Some, None, map, Vec}
+use Rattle.std.specs.Global.{Global}
 use Rattle.std.proofs.Common.{zero, suc}
 use Rattle.conf_lex.specs.declared.symbol.Symbol.{Symbol}
 use Rattle.conf_lex.specs.declared.symbol.Symbol.TheVariants as sym
@@ -17,6 +18,9 @@ use Rattle.filt_syntax.specs.declared.tree.Target.TheVariants as targets
 use Rattle.filt_syntax.specs.declared.tree.Change.{Change}
 use Rattle.filt_syntax.specs.declared.tree.Change.TheVariants as changes
 use Rattle.filt_syntax.specs.declared.tree.Arm.{Arm}
+use Rattle.filt_syntax.specs.declared.tree.Item.{Item}
+use Rattle.filt_syntax.specs.declared.variable_type.Member.{Member}
+use Rattle.filt_syntax.specs.declared.variable_type.Member.TheVariants as members
 use Rattle.filt_syntax.specs.declared.tree.Stmt.{Stmt, fold-Stmt}
 use Rattle.filt_syntax.specs.declared.tree.Stmt.TheOpen.{Stmt-F}
 use Rattle.filt_syntax.specs.ItemView.{label_tree}
@@ -50,6 +54,11 @@ type_tree types.Clist = plain_type sym.Clist
 type_tree types.IntSet = set_type sym.Int
 type_tree types.PairSet = set_type sym.Pair
 type_tree types.PrefixSet = set_type sym.Prefix
+
+abbrev pub member_symbol : Member → Symbol
+member_symbol members.Int = sym.Int
+member_symbol members.Pair = sym.Pair
+member_symbol members.Prefix = sym.Prefix
 
 -- ---- parts of statements
 
@@ -168,15 +177,26 @@ abbrev pub body_after : Tree → List Tree → Tree
 body_after t [] = t
 body_after t (s ∷ ss) = body_after (More t (as_part s)) ss
 
+-- an arm: the items of its label, and its statements
+abbrev pub ArmParts : Type 0
+ArmParts = List Item × List Tree
+
 -- more arms after a row
-abbrev pub arms_after : Tree → List (Arm Tree) → Tree
+abbrev pub arms_after : Tree → List ArmParts → Tree
 arms_after t [] = t
-arms_after t (a ∷ more) = arms_after (body_after (More t (as_label (label_tree a.labels.items))) a.body.items) more
+arms_after t (a ∷ more) = arms_after (body_after (More t (as_label (label_tree a.0))) a.1) more
+
+-- one or more arms
+abbrev pub arms_chain : ArmParts → List ArmParts → Tree
+arms_chain a more = arms_after (body_after (Start (label_tree a.0)) a.1) more
 
 -- any number of arms
-abbrev pub arms_row : List (Arm Tree) → Tree
+abbrev pub arms_row : List ArmParts → Tree
 arms_row [] = Second Blank
-arms_row (a ∷ more) = First (arms_after (body_after (Start (label_tree a.labels.items)) a.body.items) more)
+arms_row (a ∷ more) = First (arms_chain a more)
+
+abbrev pub seen_arm : Arm Tree → ArmParts
+seen_arm a = (a.labels.items, a.body.items)
 
 -- "else:" and statements, or neither
 abbrev pub otherwise_tree : Option (List Tree) → Tree
@@ -199,7 +219,7 @@ stmt_step (Stmt-F.Change target c) = change_stmt_tree target c
 stmt_step (Stmt-F.Unset at a) = unset_tree at a
 stmt_step (Stmt-F.If e s) = choice_tree e s.value (Second Blank)
 stmt_step (Stmt-F.IfElse e s t) = choice_tree e s.value (else_tree t.value)
-stmt_step (Stmt-F.Case at e arms otherwise) = case_tree at e (Both (arms_row arms.items) (otherwise_tree (some_items otherwise)))
+stmt_step (Stmt-F.Case at e arms otherwise) = case_tree at e (Both (arms_row (map seen_arm arms.items)) (otherwise_tree (some_items otherwise)))
 stmt_step (Stmt-F.For at v n e body) = for_tree at v n e body.value
 stmt_step Stmt-F.Accept = verdict_tree sym.Accept
 stmt_step Stmt-F.Reject = verdict_tree sym.Reject
@@ -213,3 +233,13 @@ stmt_tree = fold-Stmt Tree stmt_step
 
 abbrev pub stmts_tree : List Stmt → Tree
 stmts_tree ss = row_tree (map stmt_tree ss)
+
+abbrev pub arm_of : Arm Stmt → ArmParts
+arm_of a = (a.labels.items, map stmt_tree a.body.items)
+
+abbrev pub arms_of : List (Arm Stmt) → List ArmParts
+arms_of arms = map arm_of arms
+
+abbrev pub otherwise_of : Option (Vec Stmt Global) → Option (List Tree)
+otherwise_of None = None
+otherwise_of (Some v) = Some (map stmt_tree v.items)

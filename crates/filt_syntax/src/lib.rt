@@ -1,7 +1,9 @@
 //! The grammar of BIRD's filters, its syntax trees and its parser.
 #![tactic(auto)]
 
+mod bracket;
 mod expression;
 mod items;
-mod statement;
+mod operators;
 mod tree;
+mod variable_type;

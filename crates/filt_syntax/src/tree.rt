@@ -187,15 +187,28 @@ pub enum Expr {
     /// An expression in brackets.
     Group(Box<Expr>),
     Pair(Box<Expr>, Box<Expr>),
-    Set { at: usize, items: Vec<Item> },
-    Mask { at: usize, items: Vec<MaskItem> },
+    Set {
+        at: usize,
+        items: Vec<Item>,
+    },
+    Mask {
+        at: usize,
+        items: Vec<MaskItem>,
+    },
     /// `defined(attribute)`
-    Defined { at: usize, attribute_at: usize, attribute: Attribute },
+    Defined {
+        at: usize,
+        attribute_at: usize,
+        attribute: Attribute,
+    },
     /// `method(list, argument)`
     MethodCall(Method, Box<Expr>, Box<Expr>),
     /// An operand and, one after another, what stands behind its dots.
     Access(Box<Expr>, Vec<Access<Expr>>),
-    Not { at: usize, operand: Box<Expr> },
+    Not {
+        at: usize,
+        operand: Box<Expr>,
+    },
     Product(Box<Expr>, Vec<(Factor, Expr)>),
     Sum(Box<Expr>, Vec<(Term, Expr)>),
     Compare(Compare, Box<Expr>, Box<Expr>),
@@ -254,7 +267,10 @@ pub enum Stmt {
     },
     Assign(Target, Expr),
     Change(Target, Change),
-    Unset { attribute_at: usize, attribute: Attribute },
+    Unset {
+        attribute_at: usize,
+        attribute: Attribute,
+    },
     If(Expr, Box<Stmt>),
     IfElse(Expr, Box<Stmt>, Box<Stmt>),
     Case {
@@ -272,7 +288,10 @@ pub enum Stmt {
     },
     Accept,
     Reject,
-    Return { at: usize, value: Option<Expr> },
+    Return {
+        at: usize,
+        value: Option<Expr>,
+    },
     Print(Vec<Expr>),
     /// As `print`, without an end of line.
     PrintPart(Vec<Expr>),
