@@ -2,3 +2,4 @@ pub mod Tested
 pub mod ItemSteps
 pub mod Picks
 pub mod StatementSteps
+pub mod StatementTrees

@@ -5,5 +5,6 @@ mod bracket;
 mod expression;
 mod items;
 mod operators;
+mod simple_statement;
 mod tree;
 mod variable_type;
