@@ -52,7 +52,7 @@ not_both : (a b : Bool) → (a && b) ≡ false → b ≡ true → a ≡ false
 not_both true b none here = absurd cc
 not_both false b none here = refl
 
-apart : (f g : Form) → is_checked (Either f g) → (ws : List Word) → begins (starts g) ws ≡ true → begins (starts f) ws ≡ false
+pub apart : (f g : Form) → is_checked (Either f g) → (ws : List Word) → begins (starts g) ws ≡ true → begins (starts f) ws ≡ false
 apart f g ok [] here = absurd cc
 apart f g ok (w ∷ ws) here =
     let choice = and_true _ _ (and_true _ _ ok).1 in

@@ -69,11 +69,11 @@ type_other (suc k) (w ∷ ws) none = elim (bool_cases (has_no_sets (kind_of w)))
 
 -- ---- statements by their first word
 
-stmt_checked : is_checked stmt
+pub stmt_checked : is_checked stmt
 stmt_checked = refl
 
 -- a kind of statements that one word begins
-headed : (n k : ℕ) (p : Kind → Bool) (g h : Form) → reaches n stmt ≡ true → rest_of n stmt ≡ Either (Seq (One p) g) h → (ws : List Word) (w : Word) (u : List Word) → ws ≡ w ∷ u → p (kind_of w) ≡ true → stmt_at k ws ≡ and_then (read rule k g u) (λ t v. Got (nth n (Both (Leaf w) t)) v)
+pub headed : (n k : ℕ) (p : Kind → Bool) (g h : Form) → reaches n stmt ≡ true → rest_of n stmt ≡ Either (Seq (One p) g) h → (ws : List Word) (w : Word) (u : List Word) → ws ≡ w ∷ u → p (kind_of w) ≡ true → stmt_at k ws ≡ and_then (read rule k g u) (λ t v. Got (nth n (Both (Leaf w) t)) v)
 unfolding stmt_at
 headed n k p g h there shape ws w u is passes =
     picked n k stmt (Seq (One p) g) h stmt_checked there shape ws (begun_here ws is)
@@ -315,7 +315,7 @@ print_part_is k ws u is = print_any k ws (words.Symbol sym.Printn) u is refl
 
 -- ---- what no other word begins is a declaration, or nothing
 
-stmt_refused : (k : ℕ) (ws : List Word) → begins (starts stmt) ws ≡ false → stmt_at k ws ≡ Fault Bad ws
+pub stmt_refused : (k : ℕ) (ws : List Word) → begins (starts stmt) ws ≡ false → stmt_at k ws ≡ Fault Bad ws
 unfolding stmt_at
 stmt_refused k ws none = refuses rule model after checked k stmt refl refl ws none
 

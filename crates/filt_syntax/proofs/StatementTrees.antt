@@ -10,10 +10,11 @@ use Rattle.filt_syntax.specs.declared.tree.Target.{Target}
 use Rattle.filt_syntax.specs.declared.tree.Change.{Change}
 use Rattle.filt_syntax.specs.declared.tree.Expr.{Expr}
 use Rattle.filt_syntax.specs.declared.tree.Arm.{Arm}
-use Rattle.filt_syntax.specs.declared.tree.Stmt.{Stmt, the_lemmas}
+use Rattle.filt_syntax.specs.declared.tree.Stmt.{Stmt, the_lemmas, fold-Stmt}
 use Rattle.filt_syntax.specs.declared.tree.Stmt.TheVariants as stmts
-use Rattle.filt_syntax.specs.declared.tree.Stmt.TheFolds.{fold_out-Stmt}
-use Rattle.filt_syntax.specs.StatementView.{stmt_step, stmt_tree, stmts_tree, block_tree, empty_tree, declare_tree, assign_tree, change_stmt_tree, call_tree, unset_tree, choice_tree, else_tree, case_tree, for_tree, verdict_tree, return_tree, print_tree, row_after, arms_row, arms_of, otherwise_tree, otherwise_of}
+use Rattle.filt_syntax.specs.declared.tree.Stmt.TheFolds.{fold_out-Stmt, map-Stmt}
+use Rattle.filt_syntax.specs.declared.tree.Stmt.TheOpen.{Stmt-F}
+use Rattle.filt_syntax.specs.StatementView.{ArmParts, seen_arm, arm_of, stmt_step, stmt_tree, stmts_tree, block_tree, empty_tree, declare_tree, assign_tree, change_stmt_tree, call_tree, unset_tree, choice_tree, else_tree, case_tree, for_tree, verdict_tree, return_tree, print_tree, row_after, arms_row, arms_of, otherwise_tree, otherwise_of}
 
 pub tree-Block : (v : Vec Stmt Global) → stmt_tree (stmts.Block v) ≡ block_tree (stmts_tree v.items)
 tree-Block v = search (rules, the_lemmas)
@@ -39,8 +40,16 @@ tree-If e s x p = rw (← p) (search (rules, the_lemmas))
 pub tree-IfElse : (e : Expr) (s t : Box Stmt Global) (x y : Stmt) → s.value ≡ x → t.value ≡ y → stmt_tree (stmts.IfElse e s t) ≡ choice_tree e (stmt_tree x) (else_tree (stmt_tree y))
 tree-IfElse e s t x y p q = rw (← p, ← q) (search (rules, the_lemmas))
 
+arms_by : (g : Arm Stmt → Arm Tree) → ((a : Arm Stmt) → seen_arm (g a) ≡ arm_of a) → (arms : List (Arm Stmt)) → map seen_arm (map g arms) ≡ arms_of arms
+arms_by g same [] = refl
+arms_by g same (a ∷ arms) = rw (same a, arms_by g same arms) refl
+
+case_step : (at : ℕ) (e : Expr) (arms : Vec (Arm Stmt) Global) (o : Option (Vec Stmt Global)) → stmt_step (map-Stmt Stmt Tree (fold-Stmt Tree stmt_step) (Stmt-F.Case at e arms o)) ≡ case_tree at e (Both (arms_row (arms_of arms.items)) (otherwise_tree (otherwise_of o)))
+case_step at e arms None = ap (λ (r : List ArmParts). case_tree at e (Both (arms_row r) (Second Blank))) (arms_by _ (λ a. refl) arms.items)
+case_step at e arms (Some v) = ap (λ (r : List ArmParts). case_tree at e (Both (arms_row r) (otherwise_tree (Some (map stmt_tree v.items))))) (arms_by _ (λ a. refl) arms.items)
+
 pub tree-Case : (at : ℕ) (e : Expr) (arms : Vec (Arm Stmt) Global) (o : Option (Vec Stmt Global)) → stmt_tree (stmts.Case at e arms o) ≡ case_tree at e (Both (arms_row (arms_of arms.items)) (otherwise_tree (otherwise_of o)))
-tree-Case at e arms o = fold_out-Stmt Tree stmt_step (stmts.Case at e arms o) ∙ ?
+tree-Case at e arms o = search (rules, the_lemmas, case_step)
 
 pub tree-For : (at : ℕ) (v : VariableType) (n : Name) (e : Expr) (s : Box Stmt Global) (x : Stmt) → s.value ≡ x → stmt_tree (stmts.For at v n e s) ≡ for_tree at v n e (stmt_tree x)
 tree-For at v n e s x p = rw (← p) (search (rules, the_lemmas))

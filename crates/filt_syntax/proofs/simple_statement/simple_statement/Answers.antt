@@ -27,4 +27,18 @@ returns-in-Some-after c =
 
 pub returns-in-None : goal.returns-in-None
 returns-in-None c =
-    ?
+    gives_along stmt_tree c.declaration.result _ _ (stmt_declared c.args.left c.args.words.now (record {
+      name = c.requires.name;
+      block = c.requires.block;
+      semicolon = c.in_default-after.ensures;
+      attribute = c.in_default.ensures;
+      unset = c.in_default-after-2.ensures;
+      choice = c.requires.choice;
+      selection = c.requires.selection;
+      repeats = c.requires.loop_;
+      accept = c.in_default-after-5.ensures;
+      reject = c.in-None.ensures;
+      returns = c.in_default-after_placed.ensures;
+      print = c.in_default-after-3.ensures;
+      printn = c.in_default-after-4.ensures;
+    })) c.declaration.ensures
