@@ -1,5 +1,9 @@
 pub mod Tested
+pub mod Signs
 pub mod ItemSteps
+pub mod Steps
+pub mod Sights
+pub mod Places
 pub mod Picks
 pub mod StatementSteps
 pub mod StatementTrees

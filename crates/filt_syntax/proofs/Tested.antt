@@ -150,3 +150,35 @@ next_at = next_of rule model after checked
 
 pub solid_at : (f : Form) → check model after f ≡ true → Solid f
 solid_at = solid_of rule model after
+
+-- the levels within expressions
+abbrev asked : ℕ → Bool
+asked zero = true
+asked (suc zero) = true
+asked (suc (suc zero)) = true
+asked (suc (suc (suc zero))) = true
+asked (suc (suc (suc (suc zero)))) = false
+asked (suc (suc (suc (suc (suc zero))))) = false
+asked (suc (suc (suc (suc (suc (suc zero)))))) = true
+asked (suc (suc (suc (suc (suc (suc (suc zero))))))) = true
+asked (suc (suc (suc (suc (suc (suc (suc (suc zero)))))))) = true
+asked (suc (suc (suc (suc (suc (suc (suc (suc (suc zero))))))))) = true
+asked (suc (suc (suc (suc (suc (suc (suc (suc (suc (suc zero)))))))))) = true
+asked (suc (suc (suc (suc (suc (suc (suc (suc (suc (suc (suc n))))))))))) = false
+
+strict_rules : (n : ℕ) → asked n ≡ true → strict asked after (rule n) ≡ true
+strict_rules zero h = refl
+strict_rules (suc zero) h = refl
+strict_rules (suc (suc zero)) h = refl
+strict_rules (suc (suc (suc zero))) h = refl
+strict_rules (suc (suc (suc (suc zero)))) h = absurd cc
+strict_rules (suc (suc (suc (suc (suc zero))))) h = absurd cc
+strict_rules (suc (suc (suc (suc (suc (suc zero)))))) h = refl
+strict_rules (suc (suc (suc (suc (suc (suc (suc zero))))))) h = refl
+strict_rules (suc (suc (suc (suc (suc (suc (suc (suc zero)))))))) h = refl
+strict_rules (suc (suc (suc (suc (suc (suc (suc (suc (suc zero))))))))) h = refl
+strict_rules (suc (suc (suc (suc (suc (suc (suc (suc (suc (suc zero)))))))))) h = refl
+strict_rules (suc (suc (suc (suc (suc (suc (suc (suc (suc (suc (suc n))))))))))) h = absurd cc
+
+pub expressions_fit : (t : Tree) → Spells rule t expr → Fits rule t expr
+expressions_fit t h = spelled_fits rule model after checked asked strict_rules t expr refl refl h

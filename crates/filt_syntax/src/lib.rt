@@ -5,6 +5,18 @@ mod bracket;
 mod expression;
 mod items;
 mod operators;
+mod parse;
 mod simple_statement;
+mod statement;
 mod tree;
 mod variable_type;
+
+pub use parse::{SyntaxFault, expressions_decide, parse_expr_words};
+pub use tree::{
+    Access, Arm, Attribute, Block, Change, Compare, Constant, Expr, Factor, Item, Joint, Lengths,
+    MaskAtom, MaskItem, Method, MethodKind, Num, PairPart, Part, Property, Simple, Stmt, Target,
+    Term, VariableType,
+};
+
+#[cfg(test)]
+mod tests;

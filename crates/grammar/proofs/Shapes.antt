@@ -6,13 +6,14 @@ use Rattle.conf_lex.specs.declared.symbol.Symbol.{Symbol}
 use Rattle.conf_lex.specs.declared.word.Word.{Word}
 use Rattle.conf_lex.specs.declared.word.Word.TheVariants as words
 use Rattle.grammar.specs.Kind.{Kind, kind_of, keeps_place, symbol}
-use Rattle.grammar.specs.Grammar.{Why, Bad, TooDeep, Unsupported, Form, Chain, Tree, Leaf, Blank, Both, First, Second, More, Inside, begins, starts, nullable, yield, refused}
+use Rattle.grammar.specs.Grammar.{Why, Bad, TooDeep, Unsupported, Form, One, Empty, Seq, Either, Chain, Tree, Leaf, Blank, Both, First, Second, Start, More, Inside, begins, starts, nullable, yield, refused}
 use Rattle.grammar.specs.Reading.{Read, Got, Fault, Reader, and_then, word, blank, both, either, read}
 use Rattle.grammar.specs.Shapes.{links, with_optional, closed, between}
 use Rattle.grammar.specs.Gives.{Fails, Gives}
 use Rattle.grammar.specs.declared.refusal.Refusal.{Refusal}
 use Rattle.grammar.specs.declared.refusal.Refusal.TheVariants as refusals
-use Rattle.grammar.proofs.Checks.{Checked, check, good, solid_of}
+use Rattle.grammar.proofs.Checks.{Checked, check, good, solid_of, next_of}
+use Rattle.grammar.proofs.Chains.{turn}
 use Rattle.grammar.proofs.Symbols.{symbol_same}
 use Rattle.grammar.proofs.Good.{Front, Place, fits_front, front_begins}
 
@@ -159,3 +160,20 @@ module _ (rule : ℕ → Form) (model : ℕ → Tree) (after : ℕ → Kind → 
   shorter k f ok ws t rest got =
       let taken = (good rule model after tested k f ok).got ws t rest got in
       rw taken.front (omega (arith, length-append (yield t) rest))
+
+  -- a form that goes on by parts, each behind a word of these kinds
+  pub chain_read : (k : ℕ) (p : Kind → Bool) (f g : Form) (ws : List Word) → read rule k (Chain f (Seq (One p) g)) ws ≡ and_then (read rule k f ws) (λ a rest. links p (read rule k g) (Start a) rest)
+  unfolding links
+  chain_read zero p f g ws = refl
+  chain_read (suc k) p f g ws = refl
+
+  pub chain_turns : (k : ℕ) (p : Kind → Bool) (f g : Form) → check model after (Chain f (Seq (One p) g)) ≡ true → check model after f ≡ true → check model after (Seq (One p) g) ≡ true → Turns p (read rule k g)
+  unfolding links
+  chain_turns zero p f g a b c = turn rule 0 f (Seq (One p) g) (read rule 0 f) (both (word p) (read rule 0 g)) (next_of rule model after tested f (Seq (One p) g) a) (good rule model after tested 0 f b) (good rule model after tested 0 (Seq (One p) g) c)
+  chain_turns (suc k) p f g a b c = turn rule (suc k) f (Seq (One p) g) (read rule (suc k) f) (both (word p) (read rule (suc k) g)) (next_of rule model after tested f (Seq (One p) g) a) (good rule model after tested (suc k) f b) (good rule model after tested (suc k) (Seq (One p) g) c)
+
+  -- a part, and perhaps another behind a word of these kinds
+  pub optional_read : (k : ℕ) (p : Kind → Bool) (f g : Form) (ws : List Word) → read rule k (Seq f (Either (Seq (One p) g) Empty)) ws ≡ with_optional p (read rule k f) (read rule k g) ws
+  unfolding with_optional
+  optional_read zero p f g ws = refl
+  optional_read (suc k) p f g ws = refl

@@ -117,3 +117,13 @@ other_placed at s wanted h = by_place (keeps_place s) refl
     by_place : (b : Bool) → keeps_place s ≡ b → symbol wanted (kind_of (words.Placed at s)) ≡ false
     by_place true here = rw here (other_symbol s wanted h)
     by_place false here = rw here refl
+
+-- a word that is no symbol without a place
+pub plain_alone : (w : Word) → ((s : Symbol) → w ≡ words.Symbol s → ⊥) → (wanted : Symbol) → keeps_place wanted ≡ false → symbol wanted (kind_of w) ≡ false
+plain_alone (words.Symbol s) h wanted plain = absurd (h s refl)
+plain_alone (words.Placed at s) h wanted plain = by_place (keeps_place s) refl
+  where
+    by_place : (b : Bool) → keeps_place s ≡ b → symbol wanted (kind_of (words.Placed at s)) ≡ false
+    by_place false here = rw here refl
+    by_place true here = rw here (no_symbol s wanted (symbol wanted (IsSymbol s)) (λ e. absurd (let other : keeps_place s ≡ false = rw e plain in cc)) refl)
+plain_alone _ h wanted plain = refl
