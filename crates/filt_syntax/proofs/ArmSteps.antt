@@ -11,13 +11,18 @@ use Rattle.grammar.specs.Shapes.{symbol_leaf, between, closed}
 use Rattle.grammar.specs.Gives.{Fails}
 use Rattle.grammar.specs.declared.refusal.Refusal.{Refusal}
 use Rattle.grammar.proofs.Good.{or_false}
-use Rattle.grammar.proofs.Chains.{turn}
+use Rattle.grammar.proofs.Good.{fits_front}
+use Rattle.grammar.proofs.Chains.{turn, full_words}
+use Rattle.std.proofs.lemmas.List.{length-append}
+use Rattle.filt_syntax.specs.declared.tree.Arm.{Arm}
+use Rattle.filt_syntax.specs.declared.tree.Stmt.{Stmt}
+use Rattle.filt_syntax.specs.ItemView.{label_tree}
 use Rattle.grammar.proofs.Shapes.{fails_then, fails_along, then_then, word_bad, bool_cases, begun, refuses}
 use Rattle.filt_syntax.specs.Syntax.{optional, many, is_num, part, pair_item, prefix_item, item, unnamed_item, label_end, label_of_name, label, done_to_name, unnamed_stmt, arm_part, stmt, rule}
 use Rattle.filt_syntax.specs.ItemReaders.{item_at, label_at, label_end_at}
-use Rattle.filt_syntax.specs.StatementView.{nth, as_part, as_label}
+use Rattle.filt_syntax.specs.StatementView.{nth, as_part, as_label, stmt_tree, body_after, ArmParts, arms_after, arms_chain, arms_row, arm_of, arms_of}
 use Rattle.filt_syntax.specs.StatementReaders.{stmt_at, unnamed_at, done_at, stmts_at, arm_part_at, arms_at, arm_row_at, otherwise_at, arms_end_at, more_arms_at, labelled_at, label_next, arms_over, arm_ends}
-use Rattle.filt_syntax.proofs.Tested.{model, after, checked, is_checked, good_at, next_at}
+use Rattle.filt_syntax.proofs.Tested.{model, after, checked, is_checked, good_at, next_at, solid_at}
 use Rattle.filt_syntax.proofs.Picks.{maps2, picked, alternative, rest_read, seq_read, apart}
 use Rattle.filt_syntax.proofs.StatementSteps.{stmt_refused}
 
@@ -282,6 +287,7 @@ opens_symbol s some = by_place (keeps_place s) refl
     or_none : (b : Bool) → (b || false) ≡ true → b ≡ true
     or_none true h = refl
     or_none false h = h
+
     by_place : (b : Bool) → keeps_place s ≡ b → symbol sym.OpenParenthesis (kind_of (words.Symbol s)) ≡ true
     by_place true here = absurd (contradiction (rw here at some))
       where
@@ -295,6 +301,7 @@ opens_placed at s some = by_place (keeps_place s) refl
     or_none : (b : Bool) → (b || false) ≡ true → b ≡ true
     or_none true h = refl
     or_none false h = h
+
     by_place : (b : Bool) → keeps_place s ≡ b → symbol sym.OpenParenthesis (kind_of (words.Placed at s)) ≡ true
     by_place true here = rw here (or_none _ (rw here at some))
     by_place false here = absurd (contradiction (rw here at some))
@@ -439,3 +446,83 @@ end_else k row ws u is = rw (otherwise_some k ws u is) (end_map row (stmts_at k 
 pub end_brace : (k : ℕ) (row : Tree) (ws : List Word) → begins (symbol sym.ElseColon) ws ≡ false → arms_end_at k row ws ≡ and_then (word (symbol sym.CloseBrace) ws) (λ c v. Got (Both (Inside (words.Symbol sym.OpenBrace) (Both row (Second Blank))) c) v)
 unfolding arms_end_at
 end_brace k row ws none = rw (otherwise_none k ws none) refl
+
+pub end_else_got : (k : ℕ) (row : Tree) (ws u : List Word) (s c : Tree) (v : List Word) → ws ≡ words.Symbol sym.ElseColon ∷ u → both (stmts_at k) (word (symbol sym.CloseBrace)) u ≡ Got (Both s c) v → arms_end_at k row ws ≡ Got (Both (Inside (words.Symbol sym.OpenBrace) (Both row (First (Both (symbol_leaf sym.ElseColon) s)))) c) v
+end_else_got k row ws u s c v is got = end_else k row ws u is ∙ ap (λ (x : Read). and_then x (λ t z. Got (in_end row t) z)) got
+
+pub end_else_fails : (k : ℕ) (row : Tree) (ws u : List Word) (e : Refusal) → ws ≡ words.Symbol sym.ElseColon ∷ u → Fails e (both (stmts_at k) (word (symbol sym.CloseBrace)) u) → Fails e (arms_end_at k row ws)
+end_else_fails k row ws u e is failed = fails_along e _ _ (end_else k row ws u is) (fails_then e (both (stmts_at k) (word (symbol sym.CloseBrace)) u) (λ t v. Got (in_end row t) v) failed)
+
+pub end_brace_got : (k : ℕ) (row : Tree) (ws u : List Word) → begins (symbol sym.ElseColon) ws ≡ false → ws ≡ words.Symbol sym.CloseBrace ∷ u → arms_end_at k row ws ≡ Got (between (words.Symbol sym.OpenBrace) (Both row (Second Blank)) sym.CloseBrace) u
+end_brace_got k row ws u none is = end_brace k row ws none ∙ rw is refl
+
+pub end_brace_fails : (k : ℕ) (row : Tree) (ws : List Word) (e : Refusal) → begins (symbol sym.ElseColon) ws ≡ false → Fails e (word (symbol sym.CloseBrace) ws) → Fails e (arms_end_at k row ws)
+end_brace_fails k row ws e none failed = fails_along e _ _ (end_brace k row ws none) (fails_then e (word (symbol sym.CloseBrace) ws) (λ c v. Got (Both (Inside (words.Symbol sym.OpenBrace) (Both row (Second Blank))) c) v) failed)
+
+-- ---- an arm
+
+pub labelled_fails : (k : ℕ) (row_with : Tree → Tree) (ws : List Word) (e : Refusal) → Fails e (label_at k ws) → Fails e (labelled_at k row_with ws)
+unfolding labelled_at
+labelled_fails k row_with ws e failed = fails_then e (label_at k ws) (λ l rest. more_arms_at k (row_with l) rest) failed
+
+pub labelled_got : (k : ℕ) (row_with : Tree → Tree) (ws : List Word) (l : Tree) (rest : List Word) → label_at k ws ≡ Got l rest → labelled_at k row_with ws ≡ more_arms_at k (row_with l) rest
+unfolding labelled_at
+labelled_got k row_with ws l rest got = rw got refl
+
+pub label_shorter : (k : ℕ) (ws : List Word) (t : Tree) (rest : List Word) → label_at k ws ≡ Got t rest → length rest < length ws
+unfolding label_at
+label_shorter k ws t rest got =
+    let taken = (good_at k label refl).got ws t rest got in
+    let some : 0 < length (yield t) = full_words label (yield t) refl (fits_front rule t label (solid_at label refl) taken.fits) in
+    rw taken.front (omega (arith, length-append (yield t) rest))
+
+body_more : (t : Tree) (ss : List Stmt) (s : Stmt) → body_after t (map stmt_tree (ss ++ s ∷ [])) ≡ More (body_after t (map stmt_tree ss)) (as_part (stmt_tree s))
+body_more t [] s = refl
+body_more t (r ∷ ss) s = body_more (More t (as_part (stmt_tree r))) ss s
+
+pub arm_more : (k : ℕ) (front : Read) (t : Tree) (ss : List Stmt) (s : Stmt) (ws rest : List Word) → front ≡ more_arms_at k (body_after t (map stmt_tree ss)) ws → arm_ends ws ≡ false → stmt_at k ws ≡ Got (stmt_tree s) rest → front ≡ more_arms_at k (body_after t (map stmt_tree (ss ++ s ∷ []))) rest
+arm_more k front t ss s ws rest reading going got = reading ∙ more_stmt k (body_after t (map stmt_tree ss)) ws (stmt_tree s) rest going got ∙ ap (λ (x : Tree). more_arms_at k x rest) (flip (body_more t ss s))
+
+pub arm_fails : (k : ℕ) (front : Read) (t : Tree) (ws : List Word) (e : Refusal) → front ≡ more_arms_at k t ws → arm_ends ws ≡ false → Fails e (stmt_at k ws) → Fails e front
+arm_fails k front t ws e reading going failed = fails_along e front (more_arms_at k t ws) reading (more_fails k t ws e going failed)
+
+-- ---- arms, one after another
+
+-- the rest of what stands between the braces, behind some arms
+abbrev pub read_arms : ℕ → List ArmParts → Reader
+read_arms k [] ws = closed (words.Symbol sym.OpenBrace) (arms_at k) sym.CloseBrace ws
+read_arms k (a ∷ more) ws = more_arms_at k (arms_chain a more) ws
+
+-- an arm stops where the next begins
+abbrev pub IsBehind : List ArmParts → List Word → Type 0
+IsBehind [] ws = Unit {0}
+IsBehind (a ∷ more) ws = arm_ends ws ≡ true
+
+-- the row, with one more label
+abbrev pub with_label : List ArmParts → Tree → Tree
+with_label [] l = Start l
+with_label (a ∷ more) l = More (arms_chain a more) (as_label l)
+
+left_one : (a b : Bool) → (a || b) ≡ true → b ≡ false → a ≡ true
+left_one true b h none = refl
+left_one false b h none = absurd cc
+
+pub arms_next : (k : ℕ) (arms : List ArmParts) (ws : List Word) → IsBehind arms ws → arms_over ws ≡ false → read_arms k arms ws ≡ labelled_at k (with_label arms) ws
+arms_next k [] ws behind going = first_label k ws going
+arms_next k (a ∷ more) ws behind going = more_label k (arms_chain a more) ws (left_one (label_next ws) (arms_over ws) behind going)
+
+pub arms_finish : (k : ℕ) (arms : List ArmParts) (ws : List Word) → arms_over ws ≡ true → read_arms k arms ws ≡ arms_end_at k (arms_row arms) ws
+arms_finish k [] ws over = first_over k ws over
+arms_finish k (a ∷ more) ws over = more_over k (arms_chain a more) ws over
+
+after_more : (t : Tree) (arms : List (Arm Stmt)) (a : Arm Stmt) → arms_after t (arms_of (arms ++ a ∷ [])) ≡ body_after (More (arms_after t (arms_of arms)) (as_label (label_tree a.labels.items))) (map stmt_tree a.body.items)
+after_more t [] a = refl
+after_more t (b ∷ arms) a = after_more (body_after (More t (as_label (label_tree b.labels.items))) (map stmt_tree b.body.items)) arms a
+
+pub one_more_arm : (k : ℕ) (arms : List (Arm Stmt)) (a : Arm Stmt) (ws : List Word) → read_arms k (arms_of (arms ++ a ∷ [])) ws ≡ more_arms_at k (body_after (with_label (arms_of arms) (label_tree a.labels.items)) (map stmt_tree a.body.items)) ws
+one_more_arm k [] a ws = refl
+one_more_arm k (b ∷ arms) a ws = ap (λ (t : Tree). more_arms_at k t ws) (after_more (body_after (Start (label_tree b.labels.items)) (map stmt_tree b.body.items)) arms a)
+
+pub still_behind : (arms : List (Arm Stmt)) (a : Arm Stmt) (ws : List Word) → arm_ends ws ≡ true → IsBehind (arms_of (arms ++ a ∷ [])) ws
+still_behind [] a ws h = h
+still_behind (b ∷ arms) a ws h = h

@@ -31,7 +31,6 @@ reaches zero f = true
 reaches (suc n) (Either f g) = reaches n g
 reaches (suc n) f = false
 
-
 pub maps2 : (x : Read) (f g : Tree → Tree) → and_then (and_then x (λ a u. Got (f a) u)) (λ a u. Got (g a) u) ≡ and_then x (λ a u. Got (g (f a)) u)
 maps2 (Got a u) f g = refl
 maps2 (Fault why u) f g = refl
@@ -124,7 +123,6 @@ nested_deep (suc k) n p ws w u none is passes = absurd (omega arith)
 pub nested_is : (k b n : ℕ) (p : Kind → Bool) (ws : List Word) (w : Word) (u : List Word) → b + 1 ≡ k → ws ≡ w ∷ u → p (kind_of w) ≡ true → read rule k (Nest p n) ws ≡ and_then (read rule b (rule n) u) (λ t v. Got (Inside w t) v)
 nested_is zero b n p ws w u below is passes = absurd (omega arith)
 nested_is (suc k) b n p ws w u below is passes = let same : k ≡ b = omega arith in rw (is, passes, ← same) refl
-
 
 pub nested_fails : (k n : ℕ) (p : Kind → Bool) (ws : List Word) (e : Refusal) → Fails e (word p ws) → Fails e (read rule k (Nest p n) ws)
 nested_fails k n p ws refusals.Memory failed = tt

@@ -82,6 +82,7 @@ headed n k p g h there shape ws w u is passes =
   where
     begun_here : (ws : List Word) → ws ≡ w ∷ u → begins (starts (Seq (One p) g)) ws ≡ true
     begun_here ws is = rw (is, passes) refl
+
     head_read : (k : ℕ) (ws : List Word) → ws ≡ w ∷ u → read rule k (Seq (One p) g) ws ≡ and_then (read rule k g u) (λ t v. Got (Both (Leaf w) t) v)
     head_read zero ws is = rw (is, passes) refl
     head_read (suc k) ws is = rw (is, passes) refl

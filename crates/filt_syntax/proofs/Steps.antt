@@ -197,9 +197,6 @@ level_unopened n k ws e failed = fails_along e (level_at n k ws) _ (level_opened
 pub level_deep : (n k : ℕ) (ws u : List Word) (e : Refusal) → k ≡ 0 → ws ≡ words.Symbol symbols.OpenParenthesis ∷ u → Fails e (Fault TooDeep ws) → Fails e (level_at n k ws)
 level_deep n k ws u e none is failed = level_unopened n k ws e (fails_along e (opened_at n k ws) (Fault TooDeep ws) (opened_deep k ws u none is n) failed)
 
-
-
-
 level_some : (n k : ℕ) (ws u : List Word) → 0 < k → ws ≡ words.Symbol symbols.OpenParenthesis ∷ u → level_at n k ws ≡ closed (words.Symbol symbols.OpenParenthesis) (inside_at n (k - 1)) symbols.CloseParenthesis u
 unfolding level_at inside_at
 level_some n zero ws u some is = absurd (omega arith)

@@ -1,5 +1,5 @@
 -- Reading each form of a statement, where k more levels may be opened.
-use Rattle.std.specs.Prelude.{◌≡◌, ℕ, Bool, true, false, ◌||◌, List, [], ◌∷◌, map, Option, Result, Ok, Err, Vec}
+use Rattle.std.specs.Prelude.{◌≡◌, ℕ, Bool, true, false, ◌||◌, ◌<◌, List, [], ◌∷◌, length, map, Option, Result, Ok, Err, Vec}
 use Rattle.std.specs.Global.{Global}
 use Rattle.std.specs.Borrow.{Bor}
 use Rattle.conf_lex.specs.declared.symbol.Symbol.TheVariants as sym
@@ -110,9 +110,9 @@ arms_over ws = begins (λ k. symbol sym.ElseColon k || symbol sym.CloseBrace k) 
 abbrev pub arm_ends : List Word → Bool
 arm_ends ws = label_next ws || arms_over ws
 
--- an arm was read whole, behind whatever arms
+-- an arm was read, which has a word, and behind whatever arms
 abbrev pub ArmGives : Result (Arm Stmt × Bor (List Word)) Refusal → ℕ → List Word → Type 0
-ArmGives (Ok found) k ws = (arm_ends found.1.now ≡ true) × ((row_with : Tree → Tree) → labelled_at k row_with ws ≡ more_arms_at k (body_after (row_with (label_tree found.0.labels.items)) (map stmt_tree found.0.body.items)) found.1.now)
+ArmGives (Ok found) k ws = (arm_ends found.1.now ≡ true) × (length found.1.now < length ws) × ((row_with : Tree → Tree) → labelled_at k row_with ws ≡ more_arms_at k (body_after (row_with (label_tree found.0.labels.items)) (map stmt_tree found.0.body.items)) found.1.now)
 ArmGives (Err e) k ws = (row_with : Tree → Tree) → Fails e (labelled_at k row_with ws)
 
 -- what stands behind the arms was read, behind whatever arms

@@ -97,7 +97,9 @@ fn methods_and_calls(rt: HostRuntime) -> Result<(), Fail> {
     ];
     match parse_expr_words(rt.alloc(), &chained, 0) {
         Ok((Expr::Access(_, more), 8)) => {
-            assert!(rt; matches!(more.first(), Some(Access::Method(method, _)) if method.kind == MethodKind::Prepend));
+            assert!(rt;
+                matches!(more.first(), Some(Access::Method(method, _)) if method.kind == MethodKind::Prepend)
+            );
             assert!(rt; matches!(more.last(), Some(Access::Property(Property::Len))));
         }
         _ => assert!(rt; false),
@@ -110,7 +112,12 @@ fn methods_and_calls(rt: HostRuntime) -> Result<(), Fail> {
         number(4, 1),
         plain(Symbol::CloseParenthesis),
     ];
-    assert!(rt; matches!(parse_expr_words(rt.alloc(), &called, 0), Ok((Expr::MethodCall(_, _, _), 6))));
+    assert!(rt;
+        matches!(
+            parse_expr_words(rt.alloc(), &called, 0),
+            Ok((Expr::MethodCall(_, _, _), 6))
+        )
+    );
     let function = [
         name(0),
         plain(Symbol::OpenParenthesis),
@@ -135,16 +142,31 @@ fn pairs_attributes_and_the_end(rt: HostRuntime) -> Result<(), Fail> {
         number(3, 2),
         plain(Symbol::CloseParenthesis),
     ];
-    assert!(rt; matches!(parse_expr_words(rt.alloc(), &pair, 0), Ok((Expr::Pair(_, _), 5))));
+    assert!(rt;
+        matches!(
+            parse_expr_words(rt.alloc(), &pair, 0),
+            Ok((Expr::Pair(_, _), 5))
+        )
+    );
     let defined = [
         placed(0, Symbol::Defined),
         plain(Symbol::OpenParenthesis),
         placed(2, Symbol::BgpMed),
         plain(Symbol::CloseParenthesis),
     ];
-    assert!(rt; matches!(parse_expr_words(rt.alloc(), &defined, 0), Ok((Expr::Defined { .. }, 4))));
+    assert!(rt;
+        matches!(
+            parse_expr_words(rt.alloc(), &defined, 0),
+            Ok((Expr::Defined { .. }, 4))
+        )
+    );
     let two = [number(0, 1), number(1, 2)];
-    assert!(rt; matches!(parse_expr_words(rt.alloc(), &two, 0), Ok((Expr::Simple(_), 1))));
+    assert!(rt;
+        matches!(
+            parse_expr_words(rt.alloc(), &two, 0),
+            Ok((Expr::Simple(_), 1))
+        )
+    );
     Ok(())
 }
 
@@ -155,9 +177,15 @@ fn refused_words(rt: HostRuntime) -> Result<(), Fail> {
         plain(Symbol::Plus),
         plain(Symbol::CloseParenthesis),
     ];
-    assert_eq!(rt; fault(rt.alloc(), &closed), Some(SyntaxFault::Bad { at: 2 }));
+    assert_eq!(rt;
+        fault(rt.alloc(), &closed),
+        Some(SyntaxFault::Bad { at: 2 })
+    );
     let dotted = [name(0), plain(Symbol::Dot), name(2)];
-    assert_eq!(rt; fault(rt.alloc(), &dotted), Some(SyntaxFault::Bad { at: 2 }));
+    assert_eq!(rt;
+        fault(rt.alloc(), &dotted),
+        Some(SyntaxFault::Bad { at: 2 })
+    );
     let open = [plain(Symbol::OpenParenthesis), number(1, 1)];
     assert_eq!(rt; fault(rt.alloc(), &open), Some(SyntaxFault::Bad { at: 2 }));
     let no_items = [
@@ -166,7 +194,10 @@ fn refused_words(rt: HostRuntime) -> Result<(), Fail> {
         placed(2, Symbol::OpenBracket),
         plain(Symbol::CloseBracket),
     ];
-    assert_eq!(rt; fault(rt.alloc(), &no_items), Some(SyntaxFault::Bad { at: 3 }));
+    assert_eq!(rt;
+        fault(rt.alloc(), &no_items),
+        Some(SyntaxFault::Bad { at: 3 })
+    );
     assert_eq!(rt; fault(rt.alloc(), &[]), Some(SyntaxFault::Bad { at: 0 }));
     Ok(())
 }
@@ -174,7 +205,10 @@ fn refused_words(rt: HostRuntime) -> Result<(), Fail> {
 #[test]
 fn at_most_64_levels(rt: HostRuntime) -> Result<(), Fail> {
     let mut deep = [placed(0, Symbol::Not); 66];
-    assert_eq!(rt; fault(rt.alloc(), &deep), Some(SyntaxFault::TooDeep { at: 64 }));
+    assert_eq!(rt;
+        fault(rt.alloc(), &deep),
+        Some(SyntaxFault::TooDeep { at: 64 })
+    );
     deep[64] = name(64);
     assert!(rt; matches!(parse_expr_words(rt.alloc(), &deep, 0), Ok((_, 65))));
     let mut nested = [plain(Symbol::CloseParenthesis); 129];
@@ -184,6 +218,9 @@ fn at_most_64_levels(rt: HostRuntime) -> Result<(), Fail> {
     nested[64] = name(64);
     assert!(rt; matches!(parse_expr_words(rt.alloc(), &nested, 0), Ok((_, 129))));
     nested[64] = plain(Symbol::OpenParenthesis);
-    assert_eq!(rt; fault(rt.alloc(), &nested), Some(SyntaxFault::TooDeep { at: 64 }));
+    assert_eq!(rt;
+        fault(rt.alloc(), &nested),
+        Some(SyntaxFault::TooDeep { at: 64 })
+    );
     Ok(())
 }

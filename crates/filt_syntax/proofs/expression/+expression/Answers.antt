@@ -501,8 +501,8 @@ arguments-loop-next-init t c =
     record {
       some = rw pushed (omega arith);
       reading = λ u is.
-        let same : u ≡ c.in_ok-below.inside.now = same_tail (words.Symbol symbols.OpenParenthesis) u c.in_ok-below.inside.now c.args.words.now is c.in_ok-below.ensures.0 in
-        rw (same, pushed) (arguments_some c.in_ok-below.below c.in_ok-below.inside.now _ c.in_ok-first.rest.now c.in_ok-first.ensures);
+          let same : u ≡ c.in_ok-below.inside.now = same_tail (words.Symbol symbols.OpenParenthesis) u c.in_ok-below.inside.now c.args.words.now is c.in_ok-below.ensures.0 in
+          rw (same, pushed) (arguments_some c.in_ok-below.below c.in_ok-below.inside.now _ c.in_ok-first.rest.now c.in_ok-first.ensures);
     }
 
 pub arguments-returns-in_err-argument : goal.arguments-returns-in_err-argument
@@ -556,4 +556,3 @@ primary-returns-in-Some-next_name-clause-tree t c = gives_along (λ e. (sight e)
 
 pub primary-returns-in-None-clause-tree : goal.primary-returns-in-None-clause-tree
 primary-returns-in-None-clause-tree t c = prim_bad c.args.left c.args.words.now c.in_default.ensures c.in_default-next_name.ensures c.in_default-after.ensures c.in_default-after_placed.ensures c.in_default-after_placed-2.ensures c.in_default-after_placed-3.ensures c.in-None.ensures
-
