@@ -21,7 +21,7 @@ use Rattle.grammar.proofs.Shapes.{fails_then, fails_along, then_then, word_bad, 
 use Rattle.filt_syntax.specs.Syntax.{optional, many, is_num, part, pair_item, prefix_item, item, unnamed_item, label_end, label_of_name, label, done_to_name, unnamed_stmt, arm_part, stmt, rule}
 use Rattle.filt_syntax.specs.ItemReaders.{item_at, label_at, label_end_at}
 use Rattle.filt_syntax.specs.StatementView.{nth, as_part, as_label, stmt_tree, body_after, ArmParts, arms_after, arms_chain, arms_row, arm_of, arms_of}
-use Rattle.filt_syntax.specs.StatementReaders.{stmt_at, unnamed_at, done_at, stmts_at, arm_part_at, arms_at, arm_row_at, otherwise_at, arms_end_at, more_arms_at, labelled_at, label_next, arms_over, arm_ends}
+use Rattle.filt_syntax.specs.StatementReaders.{stmt_at, unnamed_at, done_at, stmts_at, arm_part_at, arms_at, arm_row_at, otherwise_at, arms_end_at, more_arms_at, labelled_at, label_next, is_behind_name, is_item, arms_over, arm_ends}
 use Rattle.filt_syntax.proofs.Tested.{model, after, checked, is_checked, good_at, next_at, solid_at}
 use Rattle.filt_syntax.proofs.Picks.{maps2, picked, alternative, rest_read, seq_read, apart}
 use Rattle.filt_syntax.proofs.StatementSteps.{stmt_refused}
@@ -526,3 +526,17 @@ one_more_arm k (b ∷ arms) a ws = ap (λ (t : Tree). more_arms_at k t ws) (afte
 pub still_behind : (arms : List (Arm Stmt)) (a : Arm Stmt) (ws : List Word) → arm_ends ws ≡ true → IsBehind (arms_of (arms ++ a ∷ [])) ws
 still_behind [] a ws h = h
 still_behind (b ∷ arms) a ws h = h
+
+pub label_named : (at start len : ℕ) (ws u : List Word) → ws ≡ words.Name at start len ∷ u → label_next ws ≡ begins is_behind_name u
+label_named at start len ws [] is = rw is refl
+label_named at start len ws (w ∷ u) is = rw is refl
+
+pub label_unnamed : (ws : List Word) (w : Word) (u : List Word) → ws ≡ w ∷ u → ((at start len : ℕ) → w ≡ words.Name at start len → ⊥) → label_next ws ≡ begins is_item ws
+label_unnamed ws (words.Name at start len) u is none = absurd (none at start len refl)
+label_unnamed ws (words.Number at value) u is none = rw is refl
+label_unnamed ws (words.Text at start len) u is none = rw is refl
+label_unnamed ws (words.Ip at addr) u is none = rw is refl
+label_unnamed ws (words.Prefix at net) u is none = rw is refl
+label_unnamed ws (words.BadPrefix at) u is none = rw is refl
+label_unnamed ws (words.Symbol s) u is none = rw is refl
+label_unnamed ws (words.Placed at s) u is none = rw is refl

@@ -97,10 +97,18 @@ more_arms_at k t ws = and_then (arm_row_at k t ws) (λ row rest. arms_end_at k (
 unfoldable pub labelled_at : ℕ → (Tree → Tree) → Reader
 labelled_at k row_with ws = and_then (label_at k ws) (λ l rest. more_arms_at k (row_with l) rest)
 
+-- what goes on with a name as a label
+abbrev pub is_behind_name : Kind → Bool
+is_behind_name k = symbol sym.Comma k || (symbol sym.Colon k || symbol sym.Range k)
+
+-- what begins an item that no name begins
+abbrev pub is_item : Kind → Bool
+is_item k = number k || (symbol sym.OpenParenthesis k || prefix k)
+
 -- whether a label comes next: a NAME begins one where no statement goes on behind it
 abbrev pub label_next : List Word → Bool
-label_next (words.Name at start len ∷ w ∷ ws) = symbol sym.Comma (kind_of w) || (symbol sym.Colon (kind_of w) || symbol sym.Range (kind_of w))
-label_next ws = begins (λ k. number k || (symbol sym.OpenParenthesis k || prefix k)) ws
+label_next (words.Name at start len ∷ w ∷ ws) = is_behind_name (kind_of w)
+label_next ws = begins is_item ws
 
 -- whether the arms end here
 abbrev pub arms_over : List Word → Bool

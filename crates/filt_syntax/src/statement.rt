@@ -9,7 +9,7 @@ ghost use Rattle.grammar.specs.Reading.{word, both};
 ghost use Rattle.grammar.specs.Shapes.{symbol_leaf, closed, between};
 ghost use Rattle.grammar.specs.Gives.{Gives};
 ghost use Rattle.filt_syntax.specs.StatementView.{stmt_tree, stmts_tree, arms_row, arms_of, otherwise_tree, otherwise_of};
-ghost use Rattle.filt_syntax.specs.StatementReaders.{stmt_at, stmts_at, arms_at, arm_ends, arms_over, ArmGives, OtherwiseGives};
+ghost use Rattle.filt_syntax.specs.StatementReaders.{stmt_at, stmts_at, arms_at, arm_ends, arms_over, label_next, is_behind_name, is_item, ArmGives, OtherwiseGives};
 
 use crate::expression::expression;
 use crate::items::label;
@@ -18,7 +18,7 @@ use crate::simple_statement::{done_to_name, simple_statement};
 use crate::tree::{Arm, Stmt};
 use crate::variable_type::variable_type;
 use conf_lex::{Symbol, Word};
-use grammar::{Refusal, after, after_placed, expect, expect_name, level_below};
+use grammar::{Refusal, after, after_placed, expect, expect_name, level_below, next};
 use std::alloc::Global;
 
 /// The longest statement.
@@ -236,20 +236,44 @@ fn is_behind_arms(words: &[Word]) -> bool
     )
 }
 
-// Whether an arm of a `case` ends here. A name begins a label where no statement goes on behind it.
+// Whether an arm of a `case` ends here.
 fn is_behind_arm(words: &[Word]) -> bool
     ensures { result ≡ arm_ends words.now }
 {
-    match words {
-        [
-            Word::Name { .. },
-            Word::Symbol(Symbol::Comma | Symbol::Colon | Symbol::Range),
-            ..
-        ] => true,
+    begins_label(words) || is_behind_arms(words)
+}
+
+// Whether a label comes next. A name begins one where no statement goes on behind it.
+fn begins_label(words: &[Word]) -> bool
+    ensures { result ≡ label_next words.now }
+{
+    match next(words) {
+        Some((word, rest)) => match word {
+            Word::Name { .. } => goes_on_as_label(rest),
+            _ => begins_item(words),
+        },
+        None => false,
+    }
+}
+
+fn goes_on_as_label(words: &[Word]) -> bool
+    ensures { result ≡ begins is_behind_name words.now }
+{
+    matches!(
+        words,
+        [Word::Symbol(Symbol::Comma | Symbol::Colon | Symbol::Range), ..]
+    )
+}
+
+// Whether an item comes next that no name begins.
+fn begins_item(words: &[Word]) -> bool
+    ensures { result ≡ begins is_item words.now }
+{
+    matches!(
+        words,
         [
             Word::Number { .. } | Word::Prefix { .. } | Word::Symbol(Symbol::OpenParenthesis),
             ..
-        ] => true,
-        _ => is_behind_arms(words),
-    }
+        ]
+    )
 }

@@ -179,7 +179,7 @@ arms-loop-rest-init t c =
 pub arms-returns-in_err-arm : goal.arms-returns-in_err-arm
 arms-returns-in_err-arm t c =
     let p = err_from_is_err_and c.from_residual.result c.from_residual.ensures.1 in
-    rw (p.1, p.2) (fails_along _ _ _ (c.loop-rest.invariant.reading ∙ arms_next c.args.left (arms_of c.loop-rest.found.items) c.loop-rest.rest.now c.loop-rest.invariant.behind ?) (c.in_err-arm.ensures (with_label (arms_of c.loop-rest.found.items))))
+    rw (p.1, p.2) (fails_along _ _ _ (c.loop-rest.invariant.reading ∙ arms_next c.args.left (arms_of c.loop-rest.found.items) c.loop-rest.rest.now c.loop-rest.invariant.behind (flip c.is_behind_arms.ensures ∙ c.loop-rest-test.true)) (c.in_err-arm.ensures (with_label (arms_of c.loop-rest.found.items))))
 
 pub arms-loop-rest-smaller : goal.arms-loop-rest-smaller
 arms-loop-rest-smaller t c =
@@ -193,25 +193,25 @@ arms-loop-rest-preserved t c =
     let pushed : c.push.new.self.items ≡ xs ++ a ∷ [] = search rules in
     record {
       behind = rw pushed (still_behind xs a end c.in_ok-arm.ensures.0);
-      reading = rw pushed (c.loop-rest.invariant.reading ∙ arms_next c.args.left (arms_of xs) c.loop-rest.rest.now c.loop-rest.invariant.behind ? ∙ c.in_ok-arm.ensures.2 (with_label (arms_of xs)) ∙ flip (one_more_arm c.args.left xs a end));
+      reading = rw pushed (c.loop-rest.invariant.reading ∙ arms_next c.args.left (arms_of xs) c.loop-rest.rest.now c.loop-rest.invariant.behind (flip c.is_behind_arms.ensures ∙ c.loop-rest-test.true) ∙ c.in_ok-arm.ensures.2 (with_label (arms_of xs)) ∙ flip (one_more_arm c.args.left xs a end));
     }
 
 pub arms-returns-in_err-otherwise : goal.arms-returns-in_err-otherwise
 arms-returns-in_err-otherwise t c =
     let p = err_from_is_err_and c.from_residual-in_err-otherwise.result c.from_residual-in_err-otherwise.ensures.1 in
-    rw (p.1, p.2) (fails_along _ _ _ (c.loop-rest.invariant.reading ∙ arms_finish c.args.left (arms_of c.loop-rest.found.items) c.loop-rest.rest.now ?) (c.in_err-otherwise.ensures (arms_row (arms_of c.loop-rest.found.items))))
+    rw (p.1, p.2) (fails_along _ _ _ (c.loop-rest.invariant.reading ∙ arms_finish c.args.left (arms_of c.loop-rest.found.items) c.loop-rest.rest.now (flip c.is_behind_arms.ensures ∙ c.loop-rest-test.false)) (c.in_err-otherwise.ensures (arms_row (arms_of c.loop-rest.found.items))))
 
 pub arms-returns : goal.arms-returns
 arms-returns t c =
-    c.loop-rest.invariant.reading ∙ arms_finish c.args.left (arms_of c.loop-rest.found.items) c.loop-rest.rest.now ? ∙ c.in_ok-otherwise.ensures (arms_row (arms_of c.loop-rest.found.items))
+    c.loop-rest.invariant.reading ∙ arms_finish c.args.left (arms_of c.loop-rest.found.items) c.loop-rest.rest.now (flip c.is_behind_arms.ensures ∙ c.loop-rest-test.false) ∙ c.in_ok-otherwise.ensures (arms_row (arms_of c.loop-rest.found.items))
 
 pub arm-returns-in_err-labels : goal.arm-returns-in_err-labels
 arm-returns-in_err-labels t c =
     let p = err_from_is_err_and c.from_residual.result c.from_residual.ensures.1 in
     rw (p.1, p.2) (λ row_with. labelled_fails c.args.left row_with c.args.words.now _ c.in_err-labels.ensures)
 
-pub arm-loop-rest-init : goal.arm-loop-rest-init
-arm-loop-rest-init t c =
+pub arm-loop-alloc-init : goal.arm-loop-alloc-init
+arm-loop-alloc-init t c =
     let none : c.new-body.result.items ≡ [] = search rules in
     record {
       shorter = label_shorter c.args.left c.args.words.now _ c.in_ok-labels.rest.now c.in_ok-labels.ensures;
@@ -221,26 +221,26 @@ arm-loop-rest-init t c =
 pub arm-returns-in_err-stmt : goal.arm-returns-in_err-stmt
 arm-returns-in_err-stmt t c =
     let p = err_from_is_err_and c.from_residual-in_err-stmt.result c.from_residual-in_err-stmt.ensures.1 in
-    rw (p.1, p.2) (λ row_with. arm_fails c.args.left (labelled_at c.args.left row_with c.args.words.now) _ c.loop-rest.rest.now _ (c.loop-rest.invariant.reading row_with) ? c.in_err-stmt.ensures)
+    rw (p.1, p.2) (λ row_with. arm_fails c.args.left (labelled_at c.args.left row_with c.args.words.now) _ c.loop-alloc.rest.now _ (c.loop-alloc.invariant.reading row_with) (flip c.is_behind_arm.ensures ∙ c.loop-alloc-test.true) c.in_err-stmt.ensures)
 
-pub arm-loop-rest-smaller : goal.arm-loop-rest-smaller
-arm-loop-rest-smaller t c =
-    omega (arith, stmt_shorter c.args.left c.loop-rest.rest.now _ c.in_ok-stmt.next.now c.in_ok-stmt.ensures)
+pub arm-loop-alloc-smaller : goal.arm-loop-alloc-smaller
+arm-loop-alloc-smaller t c =
+    omega (arith, stmt_shorter c.args.left c.loop-alloc.rest.now _ c.in_ok-stmt.next.now c.in_ok-stmt.ensures)
 
-pub arm-loop-rest-preserved : goal.arm-loop-rest-preserved
-arm-loop-rest-preserved t c =
-    let ss = c.loop-rest.body.items in
+pub arm-loop-alloc-preserved : goal.arm-loop-alloc-preserved
+arm-loop-alloc-preserved t c =
+    let ss = c.loop-alloc.body.items in
     let s = c.in_ok-stmt.stmt in
     let end = c.in_ok-stmt.next.now in
     let pushed : c.push.new.self.items ≡ ss ++ s ∷ [] = search rules in
     record {
-      shorter = omega (arith, c.loop-rest.invariant.shorter, stmt_shorter c.args.left c.loop-rest.rest.now _ end c.in_ok-stmt.ensures);
-      reading = λ row_with. rw pushed (arm_more c.args.left (labelled_at c.args.left row_with c.args.words.now) (row_with (label_tree c.loop-rest.labels-1.items)) ss s c.loop-rest.rest.now end (c.loop-rest.invariant.reading row_with) ? c.in_ok-stmt.ensures);
+      shorter = omega (arith, c.loop-alloc.invariant.shorter, stmt_shorter c.args.left c.loop-alloc.rest.now _ end c.in_ok-stmt.ensures);
+      reading = λ row_with. rw pushed (arm_more c.args.left (labelled_at c.args.left row_with c.args.words.now) (row_with (label_tree c.in_ok-labels.labels.items)) ss s c.loop-alloc.rest.now end (c.loop-alloc.invariant.reading row_with) (flip c.is_behind_arm.ensures ∙ c.loop-alloc-test.true) c.in_ok-stmt.ensures);
     }
 
 pub arm-returns : goal.arm-returns
 arm-returns t c =
-    (?, c.loop-rest.invariant.shorter, c.loop-rest.invariant.reading)
+    ((flip c.is_behind_arm.ensures ∙ c.loop-alloc-test.false), c.loop-alloc.invariant.shorter, c.loop-alloc.invariant.reading)
 
 pub otherwise-returns-in_err-statements-in-Some : goal.otherwise-returns-in_err-statements-in-Some
 otherwise-returns-in_err-statements-in-Some t c =

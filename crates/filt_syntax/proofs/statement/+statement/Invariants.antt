@@ -52,11 +52,11 @@ invariant-arms-loop-rest l = record {
 abbrev pub decreases-arms-loop-rest : goal.decreases-arms-loop-rest
 decreases-arms-loop-rest l = length l.rest
 
-abbrev pub invariant-arm-loop-rest : goal.invariant-arm-loop-rest
-invariant-arm-loop-rest l = record {
+abbrev pub invariant-arm-loop-alloc : goal.invariant-arm-loop-alloc
+invariant-arm-loop-alloc l = record {
   shorter : length l.rest < length l.words;
   reading : (row_with : Tree → Tree) → labelled_at l.left row_with l.words ≡ more_arms_at l.left (body_after (row_with (label_tree l.labels.items)) (map stmt_tree l.body.items)) l.rest;
 }
 
-abbrev pub decreases-arm-loop-rest : goal.decreases-arm-loop-rest
-decreases-arm-loop-rest l = length l.rest
+abbrev pub decreases-arm-loop-alloc : goal.decreases-arm-loop-alloc
+decreases-arm-loop-alloc l = length l.rest
