@@ -16,7 +16,7 @@ use Rattle.grammar.proofs.Shapes.{fails_then, fails_along, then_then, word_bad, 
 use Rattle.filt_syntax.specs.Syntax.{optional, many, expr, vtype, block, choice, selection, loop, stmt, block_level, body_level, arms_level, rule}
 use Rattle.filt_syntax.specs.Readers.{expr_at}
 use Rattle.filt_syntax.specs.StatementView.{nth}
-use Rattle.filt_syntax.specs.StatementReaders.{stmt_at, stmts_at, row_at, vtype_at, else_at, arms_at}
+use Rattle.filt_syntax.specs.StatementReaders.{stmt_at, stmts_at, row_at, block_at, vtype_at, else_at, arms_at}
 use Rattle.filt_syntax.proofs.Tested.{model, after, checked, is_checked, good_at, next_at, solid_at}
 use Rattle.filt_syntax.proofs.Picks.{maps2, picked, reaches, rest_of, seq_read, nested_deep, nested_is, nested_fails}
 use Rattle.filt_syntax.proofs.StatementSteps.{stmt_checked, stmt_refused, headed}
@@ -224,3 +224,24 @@ pub braced_is : (k b : ℕ) (ws u : List Word) → b + 1 ≡ k → ws ≡ words.
 unfolding braced_at arms_at closed
 braced_is zero b ws u below is = absurd (omega arith)
 braced_is (suc k) b ws u below is = let same : k ≡ b = omega arith in rw (is, ← same) (then_then (arms_at k u) (λ t v. Got (Inside (words.Symbol sym.OpenBrace) t) v) (λ t v. and_then (word (symbol sym.CloseBrace) v) (λ c w. Got (Both t c) w)))
+
+-- ---- a block by itself
+
+pub block_same : (k : ℕ) (ws : List Word) → read rule k block ws ≡ block_at k ws
+unfolding block_at
+block_same k ws = refl
+
+pub braces_is : (k b : ℕ) (ws u : List Word) → b + 1 ≡ k → ws ≡ words.Symbol sym.OpenBrace ∷ u → block_at k ws ≡ and_then (to_brace b u) (λ t v. Got (in_braces t) v)
+unfolding block_at
+braces_is k b ws u below is = block_read k b ws u below is
+
+pub braces_deep : (k : ℕ) (ws u : List Word) → k ≡ 0 → ws ≡ words.Symbol sym.OpenBrace ∷ u → block_at k ws ≡ Fault TooDeep ws
+unfolding block_at
+braces_deep zero ws u none is = rw is refl
+braces_deep (suc k) ws u none is = absurd (omega arith)
+
+pub braces_fail : (k : ℕ) (ws : List Word) (e : Refusal) → Fails e (word (symbol sym.OpenBrace) ws) → Fails e (block_at k ws)
+unfolding block_at
+braces_fail k ws e failed =
+    fails_along e _ _ (seq_read k (Nest (symbol sym.OpenBrace) block_level) (One (symbol sym.CloseBrace)) ws)
+    (fails_then e (read rule k (Nest (symbol sym.OpenBrace) block_level) ws) (λ a rest. and_then (read rule k (One (symbol sym.CloseBrace)) rest) (λ b end. Got (Both a b) end)) (nested_fails k block_level (symbol sym.OpenBrace) ws e failed))

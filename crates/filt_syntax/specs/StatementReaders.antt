@@ -16,7 +16,7 @@ use Rattle.filt_syntax.specs.declared.tree.Stmt.{Stmt}
 use Rattle.filt_syntax.specs.ItemView.{label_tree}
 use Rattle.filt_syntax.specs.StatementView.{nth, stmt_tree, body_after, otherwise_tree, otherwise_of}
 use Rattle.grammar.specs.Reading.{Reader, Got, and_then, word, both, all_turns, read}
-use Rattle.filt_syntax.specs.Syntax.{optional, listed, many, expr, vtype, method, semicolon, declaration, stmt, unnamed_stmt, done_to_name, arm_part, arms, body_level, rule}
+use Rattle.filt_syntax.specs.Syntax.{optional, listed, many, expr, block, vtype, method, semicolon, declaration, stmt, unnamed_stmt, done_to_name, arm_part, arms, body_level, rule}
 use Rattle.filt_syntax.specs.Readers.{expr_at}
 use Rattle.filt_syntax.specs.ItemReaders.{label_at}
 
@@ -59,6 +59,9 @@ result_at k = read rule k (optional expr)
 
 unfoldable pub exprs_at : ℕ → Reader
 exprs_at k = read rule k (listed expr)
+
+unfoldable pub block_at : ℕ → Reader
+block_at k = read rule k block
 
 -- any number of statements
 unfoldable pub stmts_at : ℕ → Reader

@@ -18,6 +18,7 @@ use Rattle.filt_syntax.specs.declared.tree.Target.TheVariants as targets
 use Rattle.filt_syntax.specs.declared.tree.Change.{Change}
 use Rattle.filt_syntax.specs.declared.tree.Change.TheVariants as changes
 use Rattle.filt_syntax.specs.declared.tree.Arm.{Arm}
+use Rattle.filt_syntax.specs.declared.tree.Block.{Block}
 use Rattle.filt_syntax.specs.declared.tree.Item.{Item}
 use Rattle.filt_syntax.specs.declared.variable_type.Member.{Member}
 use Rattle.filt_syntax.specs.declared.variable_type.Member.TheVariants as members
@@ -243,3 +244,7 @@ arms_of arms = map arm_of arms
 abbrev pub otherwise_of : Option (Vec Stmt Global) → Option (List Tree)
 otherwise_of None = None
 otherwise_of (Some v) = Some (map stmt_tree v.items)
+
+-- the block of a filter, a function or a policy
+abbrev pub block_view : Block → Tree
+block_view b = between (words.Symbol sym.OpenBrace) (stmts_tree b.statements.items) sym.CloseBrace

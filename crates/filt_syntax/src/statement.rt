@@ -8,14 +8,14 @@ ghost use Rattle.grammar.specs.Grammar.{Both, begins};
 ghost use Rattle.grammar.specs.Reading.{word, both};
 ghost use Rattle.grammar.specs.Shapes.{symbol_leaf, closed, between};
 ghost use Rattle.grammar.specs.Gives.{Gives};
-ghost use Rattle.filt_syntax.specs.StatementView.{stmt_tree, stmts_tree, arms_row, arms_of, otherwise_tree, otherwise_of};
-ghost use Rattle.filt_syntax.specs.StatementReaders.{stmt_at, stmts_at, arms_at, arm_ends, arms_over, label_next, is_behind_name, is_item, ArmGives, OtherwiseGives};
+ghost use Rattle.filt_syntax.specs.StatementView.{block_view, stmt_tree, stmts_tree, arms_row, arms_of, otherwise_tree, otherwise_of};
+ghost use Rattle.filt_syntax.specs.StatementReaders.{block_at, stmt_at, stmts_at, arms_at, arm_ends, arms_over, label_next, is_behind_name, is_item, ArmGives, OtherwiseGives};
 
 use crate::expression::expression;
 use crate::items::label;
 use crate::operators::next_name;
 use crate::simple_statement::{done_to_name, simple_statement};
-use crate::tree::{Arm, Stmt};
+use crate::tree::{Arm, Block, Stmt};
 use crate::variable_type::variable_type;
 use conf_lex::{Symbol, Word};
 use grammar::{Refusal, after, after_placed, expect, expect_name, level_below, next};
@@ -226,6 +226,20 @@ fn otherwise<'a>(
     }
 }
 
+/// The longest block.
+pub fn whole_block<'a>(
+    alloc: Global,
+    words: &'a [Word],
+    left: u32,
+) -> Result<(Block, &'a [Word]), Refusal<'a>>
+    ensures { Gives block_view result (block_at left words.now) }
+{
+    let inside = expect(words, Symbol::OpenBrace)?;
+    let below = level_below(words, left)?;
+    let (statements, rest) = statements(alloc, inside, below)?;
+    Ok((Block { statements }, rest))
+}
+
 // Whether the arms of a `case` end here.
 fn is_behind_arms(words: &[Word]) -> bool
     ensures { result ≡ arms_over words.now }
@@ -261,7 +275,10 @@ fn goes_on_as_label(words: &[Word]) -> bool
 {
     matches!(
         words,
-        [Word::Symbol(Symbol::Comma | Symbol::Colon | Symbol::Range), ..]
+        [
+            Word::Symbol(Symbol::Comma | Symbol::Colon | Symbol::Range),
+            ..
+        ]
     )
 }
 
