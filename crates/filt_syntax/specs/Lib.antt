@@ -5,3 +5,5 @@ pub mod View
 pub mod Readers
 pub mod Parse
 pub mod Tokens
+pub mod StatementView
+pub mod StatementReaders

@@ -6,14 +6,18 @@ mod expression;
 mod items;
 mod operators;
 mod parse;
+mod simple_statement;
+mod statement;
 mod tokens;
 mod tree;
+mod variable_type;
 
-pub use parse::{SyntaxFault, expressions_decide, parse_expr_words};
+pub use parse::{SyntaxFault, expressions_decide, parse_block_words, parse_expr_words};
 pub use tokens::parse_expr;
 pub use tree::{
-    Access, Attribute, Compare, Constant, Expr, Factor, Item, Joint, Lengths, MaskAtom, MaskItem,
-    Method, MethodKind, Num, PairPart, Part, Property, Simple, Term,
+    Access, Arm, Attribute, Block, Change, Compare, Constant, Expr, Factor, Item, Joint, Lengths,
+    MaskAtom, MaskItem, Method, MethodKind, Num, PairPart, Part, Property, Simple, Stmt, Target,
+    Term, VariableType,
 };
 
 #[cfg(test)]

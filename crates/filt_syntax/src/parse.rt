@@ -3,12 +3,14 @@
 ghost use Rattle.std.specs.Prelude.{◌≡◌, ℕ, ◌+◌, ◌≤◌, length, drop, IfOk, IfErr};
 ghost use Rattle.grammar.specs.Grammar.{Tree, Fits, Spells};
 ghost use Rattle.filt_syntax.specs.declared.parse.SyntaxFault.{SyntaxFault};
-ghost use Rattle.filt_syntax.specs.Syntax.{expr, rule};
+ghost use Rattle.filt_syntax.specs.Syntax.{block, expr, rule};
 ghost use Rattle.filt_syntax.specs.View.{sight};
+ghost use Rattle.filt_syntax.specs.StatementView.{block_view};
 ghost use Rattle.filt_syntax.specs.Parse.{Stands, IsRefused, IsAnswer, IsFault};
 
 use crate::expression::expression;
-use crate::tree::Expr;
+use crate::statement::whole_block;
+use crate::tree::{Block, Expr};
 use conf_lex::Word;
 use grammar::Refusal;
 use std::alloc::Global;
@@ -43,6 +45,35 @@ pub fn parse_expr_words(
 {
     let tail = tail(words, from);
     match expression(alloc, tail, LEVELS) {
+        Ok((tree, rest)) => Ok((tree, place(words, rest))),
+        Err(Refusal::Bad(rest)) => Err(SyntaxFault::Bad {
+            at: place(words, rest),
+        }),
+        Err(Refusal::TooDeep(rest)) => Err(SyntaxFault::TooDeep {
+            at: place(words, rest),
+        }),
+        Err(Refusal::Unsupported(rest)) => Err(SyntaxFault::Unsupported {
+            at: place(words, rest),
+        }),
+        Err(Refusal::Memory) => Err(SyntaxFault::Memory),
+    }
+}
+
+/// The longest block from a place on, its statements between braces, and the place after it (BIRD User's Guide,
+/// "Control structures"). The block's own braces are a level.
+pub fn parse_block_words(
+    alloc: Global,
+    words: &[Word],
+    from: usize,
+) -> Result<(Block, usize), SyntaxFault>
+    requires { from ≤ length words.now }
+    ensures tree { IfOk result (λ found. Stands block words.now from (block_view found.0) found.1) }
+    ensures fault { IfErr result (λ e. IsRefused block words.now from e) }
+    ensures only { (t : Tree) (end : ℕ) → Stands block words.now from t end → IsAnswer block_view result t end }
+    ensures exact { (e : SyntaxFault) → IsRefused block words.now from e → IsFault result e }
+{
+    let tail = tail(words, from);
+    match whole_block(alloc, tail, LEVELS) {
         Ok((tree, rest)) => Ok((tree, place(words, rest))),
         Err(Refusal::Bad(rest)) => Err(SyntaxFault::Bad {
             at: place(words, rest),
