@@ -13,7 +13,7 @@ mod tree;
 mod variable_type;
 
 pub use parse::{SyntaxFault, expressions_decide, parse_block_words, parse_expr_words};
-pub use tokens::parse_expr;
+pub use tokens::{parse_block, parse_expr};
 pub use tree::{
     Access, Arm, Attribute, Block, Change, Compare, Constant, Expr, Factor, Item, Joint, Lengths,
     MaskAtom, MaskItem, Method, MethodKind, Num, PairPart, Part, Property, Simple, Stmt, Target,
