@@ -1,11 +1,11 @@
 -- What was read, by places in the words.
-use Rattle.std.proofs.Common.{◌≡◌, ℕ, ◌+◌, ◌-◌, ◌≤◌, List, [], ◌∷◌, ◌++◌, length, take, drop, refl, sym, ap, subst, ◌∙◌, arith, append_assoc, Result, Ok, Err, ◌⊎◌, inl, inr}
-use Rattle.std.proofs.lemmas.List.{length-append, length-drop, length-take, take-append-drop, drop_at}
+use Rattle.std.proofs.Common.{◌≡◌, ℕ, ◌+◌, ◌≤◌, List, ◌++◌, length, take, drop, sym, ap, subst, ◌∙◌, arith, append_assoc, Ok, Err, inr}
+use Rattle.std.proofs.lemmas.List.{length-append, length-drop, take-append-drop, drop_at}
 use Rattle.conf_lex.specs.declared.word.Word.{Word}
 use Rattle.grammar.specs.Grammar.{Form, Tree, yield}
 use Rattle.grammar.specs.Reading.{Read, Got, Fault, Reader, read}
 use Rattle.grammar.specs.Grammar.{Why, Bad, TooDeep, Unsupported}
-use Rattle.grammar.specs.Sentences.{IsRead, IsBad, IsTooDeep, IsUnsupported}
+use Rattle.grammar.specs.Sentences.{IsBad, IsTooDeep, IsUnsupported}
 use Rattle.grammar.proofs.Exact.{got_is_read, read_is_got, fault_is_bad, fault_is_too_deep, fault_is_unsupported}
 use Rattle.grammar.proofs.Unique.{bad_is_fault, too_deep_is_fault, unsupported_is_fault}
 use Rattle.filt_syntax.specs.declared.parse.SyntaxFault.{SyntaxFault}

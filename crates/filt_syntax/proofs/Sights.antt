@@ -29,7 +29,7 @@ use Rattle.filt_syntax.specs.declared.tree.Expr.TheFolds.{fold_out-Expr}
 use Rattle.filt_syntax.specs.declared.tree.Expr.TheShapes.{former-Expr-Access-1-at-3}
 use Rattle.filt_syntax.specs.declared.tree.Expr.TheOpen.{Expr-F}
 use Rattle.filt_syntax.specs.ItemView.{items_tree, mask_items_tree}
-use Rattle.filt_syntax.specs.View.{Sight, sight, sight_step, as_prim, as_post, as_unary, as_prod, as_sum, as_cmp, as_expr, alone, attribute_word, simple_word, simple_tree, named_tree, group_tree, set_tree, mask_tree, defined_tree, method_call_tree, in_parentheses, arguments_tree, listed_after, listed_tree, with_next, second_part, parts_after, access_part, access_of, factor_part, factor_of, term_part, term_of, joint_part, joint_of, compare_symbol, property_tree, method_tree, expr_tree, expr_trees}
+use Rattle.filt_syntax.specs.View.{Sight, sight, sight_step, as_prim, as_post, as_unary, as_prod, as_sum, as_cmp, as_expr, alone, attribute_word, simple_word, simple_tree, named_tree, group_tree, set_tree, mask_tree, defined_tree, method_call_tree, in_parentheses, arguments_tree, listed_after, listed_tree, with_next, second_part, parts_after, access_part, access_of, factor_part, factor_of, term_part, term_of, joint_part, joint_of, compare_symbol, expr_tree, expr_trees}
 
 pub exprs-map : (es : List Expr) → map (λ (s : Sight). s.expr) (map sight es) ≡ expr_trees es
 exprs-map [] = refl

@@ -1,14 +1,14 @@
 -- Which words the symbols of expressions are.
-use Rattle.std.proofs.Common.{◌≡◌, ℕ, Bool, true, false, List, [], ◌∷◌, refl, ◌∙◌}
+use Rattle.std.proofs.Common.{◌≡◌, ℕ, Bool, true, false, List, [], ◌∷◌, refl}
 use Rattle.conf_lex.specs.declared.symbol.Symbol.{Symbol}
 use Rattle.conf_lex.specs.declared.symbol.Symbol.TheVariants as sym
 use Rattle.conf_lex.specs.declared.word.Word.{Word}
 use Rattle.conf_lex.specs.declared.word.Word.TheVariants as words
 use Rattle.bits_ip.specs.declared.address.Addr.{Addr}
 use Rattle.bits_ip.specs.declared.prefix.Prefix.{Prefix}
-use Rattle.grammar.specs.Kind.{kind_of, keeps_place, symbol, IsSymbol, names_attribute, names_constant, is_attribute}
+use Rattle.grammar.specs.Kind.{kind_of, keeps_place, symbol, names_attribute, names_constant, is_attribute}
 use Rattle.grammar.specs.Grammar.{begins}
-use Rattle.grammar.proofs.Symbols.{other_symbol, other_plain, other_placed, plain_alone}
+use Rattle.grammar.proofs.Symbols.{other_symbol, other_plain, other_placed}
 use Rattle.filt_syntax.specs.Syntax.{is_simple, is_method, is_property, is_factor, is_term, is_compare, is_joint}
 
 -- no word is this symbol

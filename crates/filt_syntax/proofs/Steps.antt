@@ -1,16 +1,16 @@
 -- Reading expressions, one step of the parser after another.
-use Rattle.std.proofs.Common.{◌≡◌, ℕ, zero, suc, ◌+◌, ◌-◌, ◌<◌, ◌≤◌, Bool, true, false, ◌||◌, List, [], ◌∷◌, ◌++◌, length, map, refl, sym, ap, subst, ◌∙◌, arith, sub-one, ◌⊎◌, inl, inr}
+use Rattle.std.proofs.Common.{◌≡◌, ℕ, zero, suc, ◌+◌, ◌-◌, ◌<◌, ◌≤◌, true, false, List, [], ◌∷◌, length, refl, sym, ◌∙◌, arith, sub-one, inl, inr}
 use Rattle.conf_lex.specs.declared.symbol.Symbol.{Symbol}
 use Rattle.conf_lex.specs.declared.symbol.Symbol.TheVariants as symbols
 use Rattle.conf_lex.specs.declared.word.Word.{Word}
 use Rattle.conf_lex.specs.declared.word.Word.TheVariants as words
 use Rattle.grammar.specs.declared.named.Name.{Name}
 use Rattle.grammar.specs.declared.refusal.Refusal.{Refusal}
-use Rattle.grammar.specs.Kind.{Kind, kind_of, keeps_place, symbol, name, is_attribute}
-use Rattle.grammar.specs.Grammar.{Form, One, Empty, Seq, Either, Chain, Nest, Tree, Leaf, Blank, Both, First, Second, Start, More, Inside, begins, starts, Bad, TooDeep}
-use Rattle.grammar.specs.Reading.{Read, Got, Fault, Reader, and_then, word, blank, both, either, read}
-use Rattle.grammar.specs.Shapes.{links, with_optional, closed, between, name_leaf, symbol_leaf}
-use Rattle.grammar.specs.Gives.{Fails, Gives}
+use Rattle.grammar.specs.Kind.{kind_of, symbol, name, is_attribute}
+use Rattle.grammar.specs.Grammar.{Tree, Leaf, Blank, Both, First, Second, Start, Inside, begins, starts, Bad, TooDeep}
+use Rattle.grammar.specs.Reading.{Read, Got, Fault, Reader, and_then, word, both, read}
+use Rattle.grammar.specs.Shapes.{links, with_optional, closed, name_leaf, symbol_leaf}
+use Rattle.grammar.specs.Gives.{Fails}
 use Rattle.grammar.proofs.Shapes as shapes
 use Rattle.grammar.proofs.Shapes.{fails_then, fails_along, then_then, Turns, begins_none, closed_is, closed_got, closed_inside_fails, closed_end_fails, word_bad, less_one, bool_cases}
 use Rattle.filt_syntax.specs.declared.tree.Simple.{Simple}
@@ -32,8 +32,8 @@ use Rattle.filt_syntax.specs.declared.tree.Compare.{Compare}
 use Rattle.filt_syntax.specs.declared.tree.Compare.TheVariants as compares
 use Rattle.filt_syntax.specs.declared.tree.Joint.{Joint}
 use Rattle.filt_syntax.specs.declared.tree.Joint.TheVariants as joints
-use Rattle.filt_syntax.specs.Syntax.{is_simple, is_method, is_property, is_factor, is_term, is_compare, is_joint, optional, listed, expr, cmp, sum, prod, unary, post, prim, method, call, set, mask, item, mask_item, many, group_level, arguments_level, set_level, argument_level, two_level, attribute_level, rule}
-use Rattle.filt_syntax.specs.View.{attribute_symbol, constant_symbol, property_symbol, method_symbol, factor_symbol, term_symbol, compare_symbol, joint_symbol, attribute_word, method_word, simple_word, simple_tree, named_tree, group_tree, set_tree, mask_tree, defined_tree, method_call_tree, property_tree, method_tree, second_part, in_parentheses}
+use Rattle.filt_syntax.specs.Syntax.{is_simple, is_method, is_property, is_factor, is_term, is_compare, is_joint, optional, listed, expr, cmp, sum, prod, unary, post, prim, call, set, mask, group_level, arguments_level, set_level, argument_level, two_level, attribute_level, rule}
+use Rattle.filt_syntax.specs.View.{constant_symbol, property_symbol, method_symbol, factor_symbol, term_symbol, compare_symbol, joint_symbol, attribute_word, method_word, simple_word, simple_tree, named_tree, group_tree, set_tree, mask_tree, defined_tree, method_call_tree, property_tree, method_tree, second_part, in_parentheses}
 use Rattle.filt_syntax.specs.Readers.{expr_at, cmp_at, sum_at, prod_at, unary_at, post_at, prim_at, method_at, behind_dot, behind_dot_at, in_level, level_at, opened_at, inside_at, call_at, named_at}
 use Rattle.filt_syntax.specs.ItemReaders.{items_at, mask_items_at}
 use Rattle.filt_syntax.proofs.Tested.{is_checked, model, after, checked}

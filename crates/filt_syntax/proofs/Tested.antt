@@ -1,17 +1,16 @@
 -- The grammar passes the test.
-use Rattle.std.proofs.Common.{◌≡◌, ℕ, zero, suc, Bool, true, false, ◌&&◌, ◌||◌, List, [], ◌∷◌, refl}
+use Rattle.std.proofs.Common.{◌≡◌, ℕ, zero, suc, Bool, true, false, ◌||◌, refl}
 use Rattle.conf_lex.specs.declared.symbol.Symbol.{Symbol}
 use Rattle.conf_lex.specs.declared.symbol.Symbol.TheVariants as symbols
-use Rattle.conf_lex.specs.declared.word.Word.{Word}
 use Rattle.conf_lex.specs.declared.word.Word.TheVariants as words
-use Rattle.grammar.specs.Kind.{Kind, kind_of, symbol}
-use Rattle.grammar.specs.Grammar.{Form, Chain, Tree, Leaf, Blank, Both, First, Second, Start, More, Inside, plain, Fits, Spells}
-use Rattle.grammar.proofs.Checks.{check, more, Checked, example, not, all_of, kinds, is_kind, all_in, good, next_of, solid_of}
+use Rattle.grammar.specs.Kind.{Kind, symbol}
+use Rattle.grammar.specs.Grammar.{Form, Chain, Tree, Leaf, Blank, Both, First, Second, Start, plain, Fits, Spells}
+use Rattle.grammar.proofs.Checks.{check, more, Checked, not, all_of, kinds, is_kind, all_in, good, next_of, solid_of}
 use Rattle.grammar.proofs.Good.{Good, Solid}
 use Rattle.grammar.proofs.Chains.{Next}
 use Rattle.grammar.proofs.Spelled.{strict, spelled_fits}
 use Rattle.grammar.specs.Reading.{read}
-use Rattle.filt_syntax.specs.Syntax.{expr, unary, stmt, rule}
+use Rattle.filt_syntax.specs.Syntax.{expr, rule}
 
 -- what may go on with the trees of each level: nothing but what a closing sign ends, a method or arguments behind an
 -- operand, an `else` behind a body

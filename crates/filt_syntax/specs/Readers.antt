@@ -6,7 +6,7 @@ use Rattle.grammar.specs.Kind.{symbol}
 use Rattle.grammar.specs.Grammar.{Form, One, Seq, Either, Nest, First, Second, Both}
 use Rattle.grammar.specs.Shapes.{name_leaf}
 use Rattle.grammar.specs.Reading.{Reader, Got, and_then, read}
-use Rattle.filt_syntax.specs.Syntax.{optional, expr, cmp, sum, prod, unary, post, prim, method, is_property, call, is_method, rule}
+use Rattle.filt_syntax.specs.Syntax.{optional, expr, cmp, sum, prod, unary, post, prim, method, is_property, call, rule}
 
 unfoldable pub expr_at : ℕ → Reader
 expr_at k = read rule k expr

@@ -1,6 +1,6 @@
 -- The grammar of filters: a form for each production, with its line in the notation of the grammar above it.
 -- A quoted word is the symbol of that spelling; `[ ]` may be left out, `{ }` is any number of times, `|` is a choice.
-use Rattle.std.specs.Prelude.{ℕ, Bool, true, false, ◌||◌}
+use Rattle.std.specs.Prelude.{ℕ, Bool, ◌||◌}
 use Rattle.std.proofs.Common.{zero, suc}
 use Rattle.conf_lex.specs.declared.symbol.Symbol.TheVariants as sym
 use Rattle.grammar.specs.Kind.{Kind, number, name, text, address, prefix, symbol, is_attribute, is_constant}

@@ -29,57 +29,85 @@ fn fault(alloc: Global, words: &[Word]) -> Option<SyntaxFault> {
     parse_expr_words(alloc, words, 0).err()
 }
 
+// The expression that these words begin with, where it ends at this place.
+fn tree(alloc: Global, words: &[Word], end: usize) -> Option<Expr> {
+    match parse_expr_words(alloc, words, 0) {
+        Ok((tree, place)) => { if place == end { Some(tree) } else { None } }
+        Err(_) => None,
+    }
+}
+
+fn adds_a_product(found: &Option<Expr>) -> bool {
+    match found {
+        Some(Expr::Sum(_, more)) => {
+            matches!(more.first(), Some((Term::Plus, Expr::Product(_, _))))
+        }
+        _ => false,
+    }
+}
+
+fn has_two_differences(found: &Option<Expr>) -> bool {
+    match found {
+        Some(Expr::Sum(_, more)) => more.len() == 2,
+        _ => false,
+    }
+}
+
+fn joins_a_comparison_and_a_name(found: &Option<Expr>) -> bool {
+    match found {
+        Some(Expr::Joint(first, more)) => {
+            matches!(&**first, Expr::Compare(Compare::Equal, _, _))
+                && matches!(more.first(), Some((Joint::And, Expr::Name(_))))
+        }
+        _ => false,
+    }
+}
+
+fn prepends_and_counts(found: &Option<Expr>) -> bool {
+    match found {
+        Some(Expr::Access(_, more)) => match (more.first(), more.last()) {
+            (Some(Access::Method(method, _)), Some(Access::Property(property))) => {
+                method.kind == MethodKind::Prepend && *property == Property::Len
+            }
+            _ => false,
+        },
+        _ => false,
+    }
+}
+
+fn calls_with_two(found: &Option<Expr>) -> bool {
+    match found {
+        Some(Expr::Call(_, arguments)) => arguments.len() == 2,
+        _ => false,
+    }
+}
+
 #[test]
-fn a_product_binds_closer_than_a_sum(rt: HostRuntime) -> Result<(), Fail> {
-    let words = [
+fn operators_by_their_strength(rt: HostRuntime) -> Result<(), Fail> {
+    let added = [
         number(0, 1),
         plain(Symbol::Plus),
         number(2, 2),
         plain(Symbol::Star),
         number(4, 3),
     ];
-    match parse_expr_words(rt.alloc(), &words, 0) {
-        Ok((Expr::Sum(_, more), end)) => {
-            assert!(rt; matches!(more.first(), Some((Term::Plus, Expr::Product(_, _)))));
-            assert_eq!(rt; end, 5);
-        }
-        _ => assert!(rt; false),
-    }
-    Ok(())
-}
-
-#[test]
-fn comparisons_bind_closer_than_joints(rt: HostRuntime) -> Result<(), Fail> {
-    let words = [
+    assert!(rt; adds_a_product(&tree(rt.alloc(), &added, 5)));
+    let compared = [
         name(0),
         plain(Symbol::Equal),
         name(2),
         plain(Symbol::And),
         name(4),
     ];
-    match parse_expr_words(rt.alloc(), &words, 0) {
-        Ok((Expr::Joint(first, more), _)) => {
-            assert!(rt; matches!(*first, Expr::Compare(Compare::Equal, _, _)));
-            assert!(rt; matches!(more.first(), Some((Joint::And, Expr::Name(_)))));
-        }
-        _ => assert!(rt; false),
-    }
-    Ok(())
-}
-
-#[test]
-fn differences_group_to_the_left(rt: HostRuntime) -> Result<(), Fail> {
-    let words = [
+    assert!(rt; joins_a_comparison_and_a_name(&tree(rt.alloc(), &compared, 5)));
+    let twice = [
         number(0, 9),
         plain(Symbol::Minus),
         number(2, 4),
         plain(Symbol::Minus),
         number(4, 3),
     ];
-    match parse_expr_words(rt.alloc(), &words, 0) {
-        Ok((Expr::Sum(_, more), _)) => assert_eq!(rt; more.len(), 2),
-        _ => assert!(rt; false),
-    }
+    assert!(rt; has_two_differences(&tree(rt.alloc(), &twice, 5)));
     Ok(())
 }
 
@@ -95,15 +123,7 @@ fn methods_and_calls(rt: HostRuntime) -> Result<(), Fail> {
         plain(Symbol::Dot),
         plain(Symbol::Len),
     ];
-    match parse_expr_words(rt.alloc(), &chained, 0) {
-        Ok((Expr::Access(_, more), 8)) => {
-            assert!(rt;
-                matches!(more.first(), Some(Access::Method(method, _)) if method.kind == MethodKind::Prepend)
-            );
-            assert!(rt; matches!(more.last(), Some(Access::Property(Property::Len))));
-        }
-        _ => assert!(rt; false),
-    }
+    assert!(rt; prepends_and_counts(&tree(rt.alloc(), &chained, 8)));
     let called = [
         placed(0, Symbol::Prepend),
         plain(Symbol::OpenParenthesis),
@@ -112,12 +132,8 @@ fn methods_and_calls(rt: HostRuntime) -> Result<(), Fail> {
         number(4, 1),
         plain(Symbol::CloseParenthesis),
     ];
-    assert!(rt;
-        matches!(
-            parse_expr_words(rt.alloc(), &called, 0),
-            Ok((Expr::MethodCall(_, _, _), 6))
-        )
-    );
+    let call = tree(rt.alloc(), &called, 6);
+    assert!(rt; matches!(&call, Some(Expr::MethodCall(_, _, _))));
     let function = [
         name(0),
         plain(Symbol::OpenParenthesis),
@@ -126,10 +142,7 @@ fn methods_and_calls(rt: HostRuntime) -> Result<(), Fail> {
         name(4),
         plain(Symbol::CloseParenthesis),
     ];
-    match parse_expr_words(rt.alloc(), &function, 0) {
-        Ok((Expr::Call(_, arguments), 6)) => assert_eq!(rt; arguments.len(), 2),
-        _ => assert!(rt; false),
-    }
+    assert!(rt; calls_with_two(&tree(rt.alloc(), &function, 6)));
     Ok(())
 }
 
@@ -142,31 +155,19 @@ fn pairs_attributes_and_the_end(rt: HostRuntime) -> Result<(), Fail> {
         number(3, 2),
         plain(Symbol::CloseParenthesis),
     ];
-    assert!(rt;
-        matches!(
-            parse_expr_words(rt.alloc(), &pair, 0),
-            Ok((Expr::Pair(_, _), 5))
-        )
-    );
-    let defined = [
+    let found = tree(rt.alloc(), &pair, 5);
+    assert!(rt; matches!(&found, Some(Expr::Pair(_, _))));
+    let asked = [
         placed(0, Symbol::Defined),
         plain(Symbol::OpenParenthesis),
         placed(2, Symbol::BgpMed),
         plain(Symbol::CloseParenthesis),
     ];
-    assert!(rt;
-        matches!(
-            parse_expr_words(rt.alloc(), &defined, 0),
-            Ok((Expr::Defined { .. }, 4))
-        )
-    );
+    let found = tree(rt.alloc(), &asked, 4);
+    assert!(rt; matches!(&found, Some(Expr::Defined { .. })));
     let two = [number(0, 1), number(1, 2)];
-    assert!(rt;
-        matches!(
-            parse_expr_words(rt.alloc(), &two, 0),
-            Ok((Expr::Simple(_), 1))
-        )
-    );
+    let found = tree(rt.alloc(), &two, 1);
+    assert!(rt; matches!(&found, Some(Expr::Simple(_))));
     Ok(())
 }
 
@@ -210,13 +211,13 @@ fn at_most_64_levels(rt: HostRuntime) -> Result<(), Fail> {
         Some(SyntaxFault::TooDeep { at: 64 })
     );
     deep[64] = name(64);
-    assert!(rt; matches!(parse_expr_words(rt.alloc(), &deep, 0), Ok((_, 65))));
+    assert!(rt; tree(rt.alloc(), &deep, 65).is_some());
     let mut nested = [plain(Symbol::CloseParenthesis); 129];
     for word in &mut nested[..64] {
         *word = plain(Symbol::OpenParenthesis);
     }
     nested[64] = name(64);
-    assert!(rt; matches!(parse_expr_words(rt.alloc(), &nested, 0), Ok((_, 129))));
+    assert!(rt; tree(rt.alloc(), &nested, 129).is_some());
     nested[64] = plain(Symbol::OpenParenthesis);
     assert_eq!(rt;
         fault(rt.alloc(), &nested),

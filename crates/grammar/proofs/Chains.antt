@@ -1,11 +1,11 @@
 -- What a reader of a chain keeps.
-use Rattle.std.proofs.Common.{◌≡◌, ◌≢◌, ℕ, zero, suc, ◌+◌, ◌<◌, ◌≤◌, Bool, true, false, cond, ◌&&◌, ◌||◌, List, [], ◌∷◌, ◌++◌, length, Option, Some, None, refl, sym, ap, subst, ◌∙◌, append_assoc, append-nil, arith, ◌⊎◌, inl, inr}
+use Rattle.std.proofs.Common.{◌≡◌, ℕ, zero, suc, ◌<◌, ◌≤◌, Bool, true, false, cond, List, [], ◌∷◌, ◌++◌, length, Option, Some, None, refl, sym, ap, subst, ◌∙◌, append_assoc, append-nil, arith, inl, inr}
 use Rattle.std.proofs.lemmas.List.{length-append}
-use Rattle.grammar.specs.Kind.{Kind, kind_of}
+use Rattle.grammar.specs.Kind.{kind_of}
 use Rattle.conf_lex.specs.declared.word.Word.{Word}
-use Rattle.grammar.specs.Grammar.{Why, Bad, TooDeep, Unsupported, Form, One, Empty, Seq, Either, Chain, Nest, Unless, Tree, Leaf, Blank, Both, First, Second, Start, More, Inside, Shut, plain, yield, begins, nullable, starts, is_blank, late, refused, goes_on, goes_in, Fits}
+use Rattle.grammar.specs.Grammar.{Why, Bad, TooDeep, Unsupported, Form, Chain, Tree, Start, More, plain, yield, begins, nullable, starts, is_blank, late, refused, goes_on, goes_in, Fits}
 use Rattle.grammar.specs.Reading.{Read, Got, Fault, and_then, Reader, turns, all_turns, chain}
-use Rattle.grammar.proofs.Good.{first_word, outcome, and_then_got, and_then_fault, chosen, begins-same, first_word-append, Front, Taken, Place, Begun, Sound, sound_then, whole_plain, Refused, Good, taken_again, begins-append, begins-front, or_false, late_some, deep_short, Solid, fits_front, front_begins}
+use Rattle.grammar.proofs.Good.{first_word, outcome, and_then_got, and_then_fault, chosen, begins-same, first_word-append, Front, Taken, Begun, sound_then, whole_plain, Refused, Good, taken_again, begins-append, begins-front, or_false, deep_short, Solid, fits_front, front_begins}
 
 and_then_same : (x : Read) (f h : Tree → List Word → Read) → ((a : Tree) (u : List Word) → x ≡ Got a u → f a u ≡ h a u) → and_then x f ≡ and_then x h
 and_then_same (Got a u) f h same = same a u refl

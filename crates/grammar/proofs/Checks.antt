@@ -1,12 +1,12 @@
 -- A test of a grammar, under which reading it is exact.
-use Rattle.std.proofs.Common.{◌≡◌, ◌≢◌, ℕ, zero, suc, Bool, true, false, cond, ◌&&◌, ◌||◌, List, [], ◌∷◌, ◌++◌, length, Option, Some, None, refl, sym, ap, subst, ◌∙◌, ◌⊎◌, inl, inr}
+use Rattle.std.proofs.Common.{◌≡◌, ℕ, zero, suc, Bool, true, false, cond, ◌&&◌, ◌||◌, List, [], ◌∷◌, Option, Some, None, refl, sym, subst, ◌⊎◌, inl, inr}
 use Rattle.bits_ip.specs.declared.address.Addr.TheVariants.{V4}
 use Rattle.conf_lex.specs.declared.symbol.Symbol.TheVariants as symbols
 use Rattle.grammar.specs.Kind.{Kind, IsNumber, IsName, IsText, IsAddress, IsPrefix, IsNoPrefix, IsSymbol, IsStray, kind_of, keeps_place}
 use Rattle.conf_lex.specs.declared.word.Word.TheVariants as words
 use Rattle.conf_lex.specs.declared.word.Word.{Word}
-use Rattle.grammar.specs.Grammar.{Why, Bad, TooDeep, Unsupported, Form, One, Empty, Seq, Either, Chain, Nest, Unless, Tree, Leaf, Blank, Both, First, Second, Start, More, Inside, Shut, plain, yield, begins, nullable, starts, is_blank, goes_on, goes_in, Fits}
-use Rattle.grammar.specs.Reading.{Reader, word, blank, both, either, chain, nest, no_nest, unless, reading, read}
+use Rattle.grammar.specs.Grammar.{Form, One, Empty, Seq, Either, Chain, Nest, Unless, Tree, Leaf, Blank, Both, First, Second, Start, More, Inside, Shut, plain, yield, begins, nullable, starts, is_blank, goes_on, goes_in, Fits}
+use Rattle.grammar.specs.Reading.{Reader, nest, no_nest, reading, read}
 use Rattle.grammar.proofs.Good.{Front, Solid, fits_front, Sample, Apart, Model, Good, good_word, good_blank, good_both, good_either, good_nest, good_no_nest, Off, Whole, good_unless}
 use Rattle.grammar.proofs.Chains.{Next, good_chain}
 

@@ -1,14 +1,13 @@
 -- Reading a form that passes the test finds what stands at the front, or the first word that can't stand there.
-use Rattle.std.proofs.Common.{◌≡◌, ◌≢◌, ℕ, zero, suc, ◌≤◌, Bool, true, false, cond, ◌&&◌, ◌||◌, List, [], ◌∷◌, ◌++◌, length, Option, Some, None, refl, sym, ap, subst, ◌∙◌, append_assoc, append-nil, arith, ◌⊎◌, inl, inr}
-use Rattle.std.proofs.lemmas.List.{length-append}
+use Rattle.std.proofs.Common.{◌≡◌, ◌≢◌, ℕ, zero, suc, Bool, true, false, ◌&&◌, ◌||◌, List, [], ◌∷◌, ◌++◌, Option, Some, None, refl, sym, ap, subst, ◌∙◌, append_assoc, append-nil, ◌⊎◌, inl, inr}
 use Rattle.grammar.specs.Kind.{Kind, kind_of}
 use Rattle.conf_lex.specs.declared.word.Word.{Word}
 use Rattle.grammar.specs.Grammar.{Why, Bad, TooDeep, Unsupported, Form, One, Empty, Seq, Either, Chain, Nest, Unless, Tree, Leaf, Blank, Both, First, Second, Start, More, Inside, Shut, plain, yield, begins, nullable, starts, is_blank, late, refused, goes_on, goes_in, Fits}
-use Rattle.grammar.specs.Reading.{Read, Got, Fault, Reader, read}
-use Rattle.grammar.specs.Sentences.{IsBegun, IsBegunPlain, IsBegunWithin, IsLast, IsRead, IsBad, IsTooDeep, IsUnsupported}
-use Rattle.grammar.proofs.Good.{first_word, outcome, Front, Good, Solid, fits_front, begins-append, taken_again, Sample, late_some}
-use Rattle.grammar.proofs.Chains.{Next, full_blank}
-use Rattle.grammar.proofs.Checks.{check, Checked, and_true, or_cases, or_left, or_right, not_true, blank_nullable, solid_of, example, example_fits, sample_of, good}
+use Rattle.grammar.specs.Reading.{Got, Fault, read}
+use Rattle.grammar.specs.Sentences.{IsBegunPlain, IsLast, IsRead, IsBad, IsTooDeep, IsUnsupported}
+use Rattle.grammar.proofs.Good.{first_word, outcome, Front, Good, Solid, fits_front, begins-append, taken_again, late_some}
+use Rattle.grammar.proofs.Chains.{full_blank}
+use Rattle.grammar.proofs.Checks.{check, Checked, and_true, or_cases, or_left, or_right, not_true, blank_nullable, solid_of, sample_of, good}
 
 -- a tree without words
 record Nothing (rule : ℕ → Form) (f : Form) : Type 0 where

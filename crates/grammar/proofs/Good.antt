@@ -1,10 +1,10 @@
 -- What a reader of a form keeps.
-use Rattle.std.proofs.Common.{◌≡◌, ◌≢◌, ℕ, zero, suc, ◌+◌, ◌<◌, ◌≤◌, Bool, true, false, cond, ◌&&◌, ◌||◌, List, [], ◌∷◌, ◌++◌, length, Option, Some, None, refl, sym, ap, subst, ◌∙◌, append_assoc, append-nil, arith, ◌⊎◌, inl, inr}
+use Rattle.std.proofs.Common.{◌≡◌, ℕ, zero, suc, ◌≤◌, Bool, true, false, cond, ◌&&◌, ◌||◌, List, [], ◌∷◌, ◌++◌, length, Option, Some, None, refl, sym, ap, subst, ◌∙◌, append_assoc, append-nil, arith, ◌⊎◌, inl, inr}
 use Rattle.std.proofs.lemmas.List.{length-append}
 use Rattle.grammar.specs.Kind.{Kind, kind_of}
 use Rattle.conf_lex.specs.declared.word.Word.{Word}
-use Rattle.grammar.specs.Grammar.{Why, Bad, TooDeep, Unsupported, Form, One, Empty, Seq, Either, Chain, Nest, Unless, Tree, Leaf, Blank, Both, First, Second, Start, More, Inside, Shut, plain, yield, begins, nullable, starts, is_blank, late, refused, goes_on, goes_in, Fits}
-use Rattle.grammar.specs.Reading.{Read, Got, Fault, and_then, Reader, word, blank, both, either, turns, all_turns, chain, nest, no_nest, unless, reading, read}
+use Rattle.grammar.specs.Grammar.{Why, Bad, TooDeep, Unsupported, Form, One, Empty, Seq, Either, Chain, Nest, Unless, Tree, Leaf, Blank, Both, First, Second, Start, More, Inside, Shut, plain, yield, begins, nullable, starts, is_blank, late, refused, goes_on, Fits}
+use Rattle.grammar.specs.Reading.{Read, Got, Fault, and_then, Reader, word, blank, both, either, nest, no_nest, unless}
 
 unfoldable pub first_word : List Word → Option Word
 first_word [] = None

@@ -1,9 +1,9 @@
 -- Where the next word always decides, a tree of the grammar alone fits.
-use Rattle.std.proofs.Common.{◌≡◌, ℕ, zero, suc, Bool, true, false, ◌&&◌, ◌||◌, List, [], ◌∷◌, ◌++◌, refl, sym, ap, subst, ◌∙◌}
+use Rattle.std.proofs.Common.{◌≡◌, ℕ, Bool, true, false, ◌&&◌, ◌||◌, List, [], ◌∷◌, refl}
 use Rattle.conf_lex.specs.declared.word.Word.{Word}
 use Rattle.grammar.specs.Kind.{Kind, kind_of}
 use Rattle.grammar.specs.Grammar.{Form, One, Empty, Seq, Either, Chain, Nest, Unless, Tree, Leaf, Blank, Both, First, Second, Start, More, Inside, Shut, yield, begins, starts, goes_on, goes_in, Fits, Spells}
-use Rattle.grammar.proofs.Good.{Front, Solid, fits_front}
+use Rattle.grammar.proofs.Good.{Front, fits_front}
 use Rattle.grammar.proofs.Checks.{check, Checked, more, not, not_true, and_true, all_of, all_in, kinds, is_kind, solid_of, goes_more, goes_inner}
 
 -- no word goes on with a part and begins what follows it, in the rules that are asked for

@@ -11,7 +11,7 @@ use Rattle.conf_lex.specs.declared.symbol.Symbol.{Symbol}
 use Rattle.conf_lex.specs.declared.symbol.Symbol.TheVariants as symbols
 use Rattle.conf_lex.specs.declared.word.Word.{Word}
 use Rattle.conf_lex.specs.declared.word.Word.TheVariants as words
-use Rattle.grammar.specs.Kind.{Kind, kind_of, keeps_place, code, IsSymbol, symbol}
+use Rattle.grammar.specs.Kind.{kind_of, keeps_place, code, IsSymbol, symbol}
 
 code_tag : (s : Symbol) → code s ≡ tag_of symbol_type.the_type s
 code_tag symbols.Router = refl

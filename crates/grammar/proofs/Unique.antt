@@ -1,12 +1,12 @@
 -- What stands at the front, and each refusal, is the only one.
-use Rattle.std.proofs.Common.{◌≡◌, ◌≢◌, ℕ, suc, ◌+◌, ◌≤◌, ◌<◌, Bool, true, false, List, [], ◌∷◌, ◌++◌, length, Option, Some, None, refl, sym, ap, subst, ◌∙◌, append_assoc, append-nil, arith, ◌⊎◌, inl, inr}
+use Rattle.std.proofs.Common.{◌≡◌, ℕ, ◌≤◌, ◌<◌, Bool, true, List, [], ◌∷◌, ◌++◌, length, Option, Some, None, refl, sym, ap, subst, ◌∙◌, append_assoc, append-nil, arith, ◌⊎◌, inl, inr}
 use Rattle.std.proofs.lemmas.List.{length-append}
 use Rattle.grammar.specs.Kind.{Kind}
 use Rattle.conf_lex.specs.declared.word.Word.{Word}
-use Rattle.grammar.specs.Grammar.{Why, Bad, TooDeep, Unsupported, Form, Tree, yield, refused, plain, Fits}
+use Rattle.grammar.specs.Grammar.{Why, Bad, TooDeep, Unsupported, Form, Tree, yield, refused, Fits}
 use Rattle.grammar.specs.Reading.{Read, Got, Fault, read}
-use Rattle.grammar.specs.Sentences.{IsBegun, IsLast, IsRead, IsBad, IsTooDeep, IsUnsupported}
-use Rattle.grammar.proofs.Good.{first_word, outcome, Good}
+use Rattle.grammar.specs.Sentences.{IsBegun, IsLast, IsBad, IsTooDeep, IsUnsupported}
+use Rattle.grammar.proofs.Good.{first_word, outcome}
 use Rattle.grammar.proofs.Checks.{check, Checked, good}
 use Rattle.grammar.proofs.Exact.{got_is_read, fault_is_bad, fault_is_too_deep, fault_is_unsupported, whole}
 

@@ -1,5 +1,5 @@
 -- What a function of a parser returned is what reading gives, unless memory ran out.
-use Rattle.std.specs.Prelude.{◌≡◌, ℕ, List, Result, Ok, Err}
+use Rattle.std.specs.Prelude.{◌≡◌, List, Result, Ok, Err}
 use Rattle.std.specs.Borrow.{Bor}
 use Rattle.conf_lex.specs.declared.word.Word.{Word}
 use Rattle.grammar.specs.Grammar.{Tree, Bad, TooDeep, Unsupported}

@@ -1,5 +1,5 @@
 -- Grammars whose next word decides: forms, the trees of a form, and what stands at the front of some words.
-use Rattle.std.specs.Prelude.{◌≡◌, ◌≢◌, ℕ, ◌≤◌, Bool, true, false, cond, ◌&&◌, ◌||◌, List, [], ◌∷◌, ◌++◌, length, Option, Some, None}
+use Rattle.std.specs.Prelude.{◌≡◌, ℕ, Bool, true, false, ◌&&◌, ◌||◌, List, [], ◌∷◌, ◌++◌, Option, Some, None}
 use Rattle.std.proofs.Common.{zero, suc}
 use Rattle.grammar.specs.Kind.{Kind, kind_of}
 use Rattle.conf_lex.specs.declared.word.Word.{Word}

@@ -1,5 +1,5 @@
 -- Reading a form from the front of some words, one word after another.
-use Rattle.std.specs.Prelude.{◌≡◌, ℕ, Bool, true, false, cond, List, [], ◌∷◌, ◌++◌, length, Option, Some, None}
+use Rattle.std.specs.Prelude.{ℕ, Bool, cond, List, [], ◌∷◌, length}
 use Rattle.std.proofs.Common.{zero, suc}
 use Rattle.grammar.specs.Kind.{Kind, kind_of}
 use Rattle.conf_lex.specs.declared.word.Word.{Word}

@@ -1,5 +1,5 @@
 -- The shapes that the parts of grammars have, read and as trees.
-use Rattle.std.specs.Prelude.{ℕ, Bool, false, ◌||◌, List}
+use Rattle.std.specs.Prelude.{ℕ, Bool, false, ◌||◌}
 use Rattle.conf_lex.specs.declared.symbol.Symbol.{Symbol}
 use Rattle.conf_lex.specs.declared.word.Word.{Word}
 use Rattle.conf_lex.specs.declared.word.Word.TheVariants as words

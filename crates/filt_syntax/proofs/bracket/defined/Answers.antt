@@ -1,4 +1,3 @@
-use Rattle.std.proofs.Common.{◌≡◌}
 use Rattle.std.proofs.lemmas.Result.{err_from_is_err_and}
 use Rattle.filt_syntax.specs.View.{attribute_word}
 use Rattle.filt_syntax.proofs.Steps.{defined_fails, defined_got}

@@ -1,4 +1,3 @@
-use Rattle.std.proofs.Common.{◌≡◌}
 use Rattle.std.proofs.lemmas.Result.{err_from_is_err_and}
 use Rattle.filt_syntax.proofs.Steps.{mask_items_fail, mask_end_fails, mask_got}
 use Rattle.filt_syntax.proofs.Sights.{sight-Mask}

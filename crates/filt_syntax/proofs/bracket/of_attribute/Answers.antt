@@ -1,13 +1,11 @@
-use Rattle.std.proofs.Common.{◌≡◌, ◌∙◌, refl}
+use Rattle.std.proofs.Common.{◌∙◌}
 use Rattle.std.proofs.lemmas.Result.{err_from_is_err_and}
 use Rattle.grammar.specs.Grammar.{Leaf}
-use Rattle.grammar.specs.Reading.{word}
 use Rattle.grammar.specs.Kind.{is_attribute}
-use Rattle.grammar.proofs.Shapes.{fails_along, word_bad, word_got}
+use Rattle.grammar.proofs.Shapes.{word_got}
 use Rattle.filt_syntax.specs.Syntax.{attribute_level}
 use Rattle.filt_syntax.specs.View.{attribute_word}
-use Rattle.filt_syntax.specs.Readers.{inside_at}
-use Rattle.filt_syntax.proofs.Steps.{level_unopened, level_inside_fails, level_end_fails, level_got, attribute_inside, attribute_passes, level_attribute_bad}
+use Rattle.filt_syntax.proofs.Steps.{level_unopened, level_end_fails, level_got, attribute_inside, attribute_passes, level_attribute_bad}
 use Rattle.filt_syntax.proofs.bracket.of_attribute.Goals as goal
 
 pub returns-in_err-inside : goal.returns-in_err-inside

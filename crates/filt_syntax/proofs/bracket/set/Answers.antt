@@ -1,4 +1,3 @@
-use Rattle.std.proofs.Common.{◌≡◌}
 use Rattle.std.proofs.lemmas.Result.{err_from_is_err_and}
 use Rattle.filt_syntax.proofs.Steps.{set_too_deep, set_items_fail, set_end_fails, set_got}
 use Rattle.filt_syntax.proofs.Sights.{sight-Set}

@@ -1,25 +1,23 @@
-use Rattle.std.proofs.Common.{◌≡◌, ℕ, ◌+◌, ◌<◌, ◌≤◌, ◌-◌, false, List, [], ◌∷◌, ◌++◌, length, drop, map, refl, sym, ap, ◌∙◌, arith, rules, Option, vec_len}
+use Rattle.std.proofs.Common.{◌≡◌, List, [], ◌∷◌, ◌++◌, length, drop, map, refl, sym, ap, ◌∙◌, arith, rules, vec_len}
 use Rattle.std.proofs.lemmas.Bool.Decides.{nat_tests}
 use Rattle.std.proofs.lemmas.Result.{err_from_is_err_and}
 use Rattle.std.proofs.lemmas.List.{length-append}
 use Rattle.conf_lex.specs.declared.symbol.Symbol.TheVariants as symbols
 use Rattle.conf_lex.specs.declared.word.Word.{Word}
 use Rattle.conf_lex.specs.declared.word.Word.TheVariants as words
-use Rattle.grammar.specs.Grammar.{Tree, Leaf, Blank, Both, First, Second, Start, More, Inside, Bad, TooDeep, begins}
+use Rattle.grammar.specs.Grammar.{Tree, First, Start}
 use Rattle.grammar.specs.Kind.{symbol}
-use Rattle.grammar.specs.Reading.{Read, Got, Fault, and_then, word}
-use Rattle.grammar.specs.Shapes.{links, symbol_leaf}
-use Rattle.grammar.specs.Gives.{Fails, Gives}
+use Rattle.grammar.specs.Reading.{Read, Got, and_then}
+use Rattle.grammar.specs.Shapes.{links}
 use Rattle.grammar.proofs.Shapes.{fails_along, fails_then, gives_along, links_more, links_fail, links_end, optional_alone, optional_pair, optional_first_fails, optional_second_fails}
 use Rattle.filt_syntax.specs.declared.tree.Expr.{Expr}
 use Rattle.filt_syntax.specs.declared.tree.Access.{Access}
 use Rattle.filt_syntax.specs.declared.tree.Factor.{Factor}
 use Rattle.filt_syntax.specs.declared.tree.Term.{Term}
 use Rattle.filt_syntax.specs.declared.tree.Joint.{Joint}
-use Rattle.filt_syntax.specs.declared.tree.Method.{Method}
 use Rattle.filt_syntax.specs.Syntax.{is_compare, is_term, is_factor, is_joint, group_level, two_level, argument_level, arguments_level}
-use Rattle.filt_syntax.specs.View.{Sight, sight, alone, parts_after, access_of, factor_of, term_of, joint_of, listed_tree, expr_tree, expr_trees, second_part, in_parentheses, method_tree, method_word, property_symbol, compare_symbol, term_symbol, factor_symbol, joint_symbol}
-use Rattle.filt_syntax.specs.Readers.{expr_at, cmp_at, sum_at, prod_at, unary_at, post_at, prim_at, behind_dot_at, method_at, named_at, level_at, inside_at}
+use Rattle.filt_syntax.specs.View.{sight, parts_after, access_of, factor_of, term_of, joint_of, listed_tree, expr_trees, compare_symbol, term_symbol, factor_symbol, joint_symbol}
+use Rattle.filt_syntax.specs.Readers.{expr_at, cmp_at, sum_at, prod_at, unary_at, post_at, prim_at, behind_dot_at, named_at, inside_at}
 use Rattle.filt_syntax.proofs.Steps.{joint_turns, expr_is, term_turns, sum_is, factor_turns, prod_is, dot_turns, post_is, comma_turns, cmp_is, group_is, expr_shorter, cmp_shorter, prod_shorter, unary_shorter, behind_shorter, joint_passes, compare_passes, term_passes, factor_passes, level_unopened, level_deep, level_inside_fails, level_end_fails, level_got, argument_inside, two_first_fails, two_comma_fails, two_second_fails, two_got, prim_simple, prim_named, group_fails, group_got, method_call_fails, method_call_got, prim_bad, not_too_deep, not_fails, not_got, unary_post, behind_property, behind_fails, behind_got, method_bad, method_fails, method_got, named_none, named_fails, named_got, arguments_empty, arguments_some, arguments_fail}
 use Rattle.filt_syntax.proofs.Sights.{lifts, sight-Simple, sight-Name, sight-Call, product_of, sum_of, joint_is, access_is, compare_of, method_call_of, not_of, group_of, pair_of, one_more, one_more_access, one_more_expr, arguments_listed, gives_unary}
 use Rattle.filt_syntax.proofs.expression.+expression.Goals as goal

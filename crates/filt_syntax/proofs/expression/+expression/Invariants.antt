@@ -8,7 +8,7 @@ use Rattle.grammar.specs.Reading.{Got, and_then}
 use Rattle.grammar.specs.Shapes.{links}
 use Rattle.filt_syntax.specs.Syntax.{is_term, is_factor, is_joint, arguments_level}
 use Rattle.filt_syntax.specs.View.{sight, parts_after, access_of, factor_of, term_of, joint_of, listed_tree, expr_trees}
-use Rattle.filt_syntax.specs.Readers.{expr_at, cmp_at, sum_at, prod_at, unary_at, post_at, prim_at, behind_dot_at, inside_at}
+use Rattle.filt_syntax.specs.Readers.{expr_at, cmp_at, sum_at, prod_at, unary_at, post_at, behind_dot_at, inside_at}
 use Rattle.filt_syntax.proofs.expression.+expression.Given as goal
 
 -- A level is worth more than the functions within it.

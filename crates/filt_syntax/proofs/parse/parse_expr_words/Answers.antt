@@ -1,4 +1,4 @@
-use Rattle.std.proofs.Common.{◌≡◌, refl, sym, ap, ◌∙◌, List}
+use Rattle.std.proofs.Common.{refl, sym, ap, ◌∙◌, List}
 use Rattle.conf_lex.specs.declared.word.Word.{Word}
 use Rattle.grammar.specs.Grammar.{Bad, TooDeep, Unsupported}
 use Rattle.filt_syntax.specs.Syntax.{expr}
