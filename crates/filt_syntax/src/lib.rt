@@ -6,13 +6,15 @@ mod expression;
 mod items;
 mod operators;
 mod parse;
+mod parse_block;
 mod simple_statement;
 mod statement;
 mod tokens;
 mod tree;
 mod variable_type;
 
-pub use parse::{SyntaxFault, expressions_decide, parse_block_words, parse_expr_words};
+pub use parse::{SyntaxFault, expressions_decide, parse_expr_words};
+pub use parse_block::parse_block_words;
 pub use tokens::{parse_block, parse_expr};
 pub use tree::{
     Access, Arm, Attribute, Block, Change, Compare, Constant, Expr, Factor, Item, Joint, Lengths,
@@ -20,5 +22,7 @@ pub use tree::{
     Term, VariableType,
 };
 
+#[cfg(test)]
+mod block_tests;
 #[cfg(test)]
 mod tests;
