@@ -26,3 +26,5 @@ pub use tree::{
 mod block_tests;
 #[cfg(test)]
 mod tests;
+#[cfg(test)]
+mod text_tests;
