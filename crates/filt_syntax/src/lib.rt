@@ -1,20 +1,20 @@
 //! The grammar of BIRD's filters, its syntax trees and its parser.
 #![tactic(auto)]
 
+mod block_words;
 mod bracket;
 mod expression;
 mod items;
 mod operators;
 mod parse;
-mod parse_block;
 mod simple_statement;
 mod statement;
 mod tokens;
 mod tree;
 mod variable_type;
 
+pub use block_words::parse_block_words;
 pub use parse::{SyntaxFault, expressions_decide, parse_expr_words};
-pub use parse_block::parse_block_words;
 pub use tokens::{parse_block, parse_expr};
 pub use tree::{
     Access, Arm, Attribute, Block, Change, Compare, Constant, Expr, Factor, Item, Joint, Lengths,

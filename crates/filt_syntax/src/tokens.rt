@@ -10,8 +10,8 @@ ghost use Rattle.filt_syntax.specs.StatementView.{block_view};
 ghost use Rattle.filt_syntax.specs.Parse.{IsAnswer, IsFault};
 ghost use Rattle.filt_syntax.specs.Tokens.{StandsIn, IsRefusedIn, moved, place_of};
 
+use crate::block_words::parse_block_words;
 use crate::parse::{SyntaxFault, parse_expr_words};
-use crate::parse_block::parse_block_words;
 use crate::tree::{Block, Expr};
 use bits_ip::OutOfMemory;
 use conf_lex::{Token, words_from};

@@ -11,3 +11,6 @@ pub use refusal::Refusal;
 pub use words::{
     after, after_placed, expect, expect_name, expect_number, expect_placed, level_below, next,
 };
+
+#[cfg(test)]
+mod tests;

@@ -6,7 +6,7 @@ use Rattle.filt_syntax.specs.StatementReaders.{block_at}
 use Rattle.filt_syntax.proofs.CycleSteps.{block_same}
 use Rattle.filt_syntax.specs.declared.tree.Block.{Block}
 use Rattle.filt_syntax.proofs.Places.{got_fewer, bad_fewer, deep_fewer, shut_fewer, got_stands, bad_refused, deep_refused, shut_refused, got_only, fault_only, got_exact, bad_exact, deep_exact, shut_exact, bad_from, deep_from, shut_from}
-use Rattle.filt_syntax.proofs.parse_block.parse_block_words.Goals as goal
+use Rattle.filt_syntax.proofs.block_words.parse_block_words.Goals as goal
 
 pub place-requires : goal.place-requires
 place-requires c = got_fewer block refl (block_at 64) (block_same 64) c.args.words.now c.args.from c.requires _ c.in-Ok.rest.now (ap (λ (ws : List Word). block_at 64 ws) (sym c.tail-tail.ensures) ∙ c.in-Ok.ensures)
