@@ -1,0 +1,11 @@
+pub mod Tested
+pub mod Signs
+pub mod ItemSteps
+pub mod Steps
+pub mod Sights
+pub mod Places
+pub mod Picks
+pub mod StatementSteps
+pub mod StatementTrees
+pub mod CycleSteps
+pub mod ArmSteps

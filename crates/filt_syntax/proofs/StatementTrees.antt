@@ -1,0 +1,80 @@
+-- The trees of statements, by their variants.
+use Rattle.std.proofs.Common.{◌≡◌, ℕ, List, [], ◌∷◌, ◌++◌, map, refl, sym as flip, ap, ◌∙◌, rules, Option, Some, None, Box, Vec}
+use Rattle.std.specs.Global.{Global}
+use Rattle.conf_lex.specs.declared.symbol.Symbol.TheVariants as sym
+use Rattle.grammar.specs.declared.named.Name.{Name}
+use Rattle.grammar.specs.Grammar.{Tree, Blank, Both, Second, Start, More}
+use Rattle.filt_syntax.specs.declared.tree.Attribute.{Attribute}
+use Rattle.filt_syntax.specs.declared.tree.VariableType.{VariableType}
+use Rattle.filt_syntax.specs.declared.tree.Target.{Target}
+use Rattle.filt_syntax.specs.declared.tree.Change.{Change}
+use Rattle.filt_syntax.specs.declared.tree.Expr.{Expr}
+use Rattle.filt_syntax.specs.declared.tree.Arm.{Arm}
+use Rattle.filt_syntax.specs.declared.tree.Stmt.{Stmt, the_lemmas, fold-Stmt}
+use Rattle.filt_syntax.specs.declared.tree.Stmt.TheVariants as stmts
+use Rattle.filt_syntax.specs.declared.tree.Stmt.TheFolds.{fold_out-Stmt, map-Stmt}
+use Rattle.filt_syntax.specs.declared.tree.Stmt.TheOpen.{Stmt-F}
+use Rattle.filt_syntax.specs.StatementView.{ArmParts, seen_arm, arm_of, stmt_step, stmt_tree, stmts_tree, block_tree, empty_tree, declare_tree, assign_tree, change_stmt_tree, call_tree, unset_tree, choice_tree, else_tree, case_tree, for_tree, verdict_tree, return_tree, print_tree, row_after, arms_row, arms_of, otherwise_tree, otherwise_of}
+
+pub tree-Block : (v : Vec Stmt Global) → stmt_tree (stmts.Block v) ≡ block_tree (stmts_tree v.items)
+tree-Block v = search (rules, the_lemmas)
+
+pub tree-Empty : stmt_tree stmts.Empty ≡ empty_tree
+tree-Empty = search (rules, the_lemmas)
+
+pub tree-Declare : (v : VariableType) (n : Name) (e : Option Expr) → stmt_tree (stmts.Declare v n e) ≡ declare_tree v n e
+tree-Declare v n e = search (rules, the_lemmas)
+
+pub tree-Assign : (target : Target) (e : Expr) → stmt_tree (stmts.Assign target e) ≡ assign_tree target e
+tree-Assign target e = search (rules, the_lemmas)
+
+pub tree-Change : (target : Target) (c : Change) → stmt_tree (stmts.Change target c) ≡ change_stmt_tree target c
+tree-Change target c = search (rules, the_lemmas)
+
+pub tree-Unset : (at : ℕ) (a : Attribute) → stmt_tree (stmts.Unset at a) ≡ unset_tree at a
+tree-Unset at a = search (rules, the_lemmas)
+
+pub tree-If : (e : Expr) (s : Box Stmt Global) (x : Stmt) → s.value ≡ x → stmt_tree (stmts.If e s) ≡ choice_tree e (stmt_tree x) (Second Blank)
+tree-If e s x p = rw (← p) (search (rules, the_lemmas))
+
+pub tree-IfElse : (e : Expr) (s t : Box Stmt Global) (x y : Stmt) → s.value ≡ x → t.value ≡ y → stmt_tree (stmts.IfElse e s t) ≡ choice_tree e (stmt_tree x) (else_tree (stmt_tree y))
+tree-IfElse e s t x y p q = rw (← p, ← q) (search (rules, the_lemmas))
+
+arms_by : (g : Arm Stmt → Arm Tree) → ((a : Arm Stmt) → seen_arm (g a) ≡ arm_of a) → (arms : List (Arm Stmt)) → map seen_arm (map g arms) ≡ arms_of arms
+arms_by g same [] = refl
+arms_by g same (a ∷ arms) = rw (same a, arms_by g same arms) refl
+
+case_step : (at : ℕ) (e : Expr) (arms : Vec (Arm Stmt) Global) (o : Option (Vec Stmt Global)) → stmt_step (map-Stmt Stmt Tree (fold-Stmt Tree stmt_step) (Stmt-F.Case at e arms o)) ≡ case_tree at e (Both (arms_row (arms_of arms.items)) (otherwise_tree (otherwise_of o)))
+case_step at e arms None = ap (λ (r : List ArmParts). case_tree at e (Both (arms_row r) (Second Blank))) (arms_by _ (λ a. refl) arms.items)
+case_step at e arms (Some v) = ap (λ (r : List ArmParts). case_tree at e (Both (arms_row r) (otherwise_tree (Some (map stmt_tree v.items))))) (arms_by _ (λ a. refl) arms.items)
+
+pub tree-Case : (at : ℕ) (e : Expr) (arms : Vec (Arm Stmt) Global) (o : Option (Vec Stmt Global)) → stmt_tree (stmts.Case at e arms o) ≡ case_tree at e (Both (arms_row (arms_of arms.items)) (otherwise_tree (otherwise_of o)))
+tree-Case at e arms o = search (rules, the_lemmas, case_step)
+
+pub tree-For : (at : ℕ) (v : VariableType) (n : Name) (e : Expr) (s : Box Stmt Global) (x : Stmt) → s.value ≡ x → stmt_tree (stmts.For at v n e s) ≡ for_tree at v n e (stmt_tree x)
+tree-For at v n e s x p = rw (← p) (search (rules, the_lemmas))
+
+pub tree-Accept : stmt_tree stmts.Accept ≡ verdict_tree sym.Accept
+tree-Accept = search (rules, the_lemmas)
+
+pub tree-Reject : stmt_tree stmts.Reject ≡ verdict_tree sym.Reject
+tree-Reject = search (rules, the_lemmas)
+
+pub tree-Return : (at : ℕ) (e : Option Expr) → stmt_tree (stmts.Return at e) ≡ return_tree at e
+tree-Return at e = search (rules, the_lemmas)
+
+pub tree-Print : (v : Vec Expr Global) → stmt_tree (stmts.Print v) ≡ print_tree sym.Print v.items
+tree-Print v = search (rules, the_lemmas)
+
+pub tree-PrintPart : (v : Vec Expr Global) → stmt_tree (stmts.PrintPart v) ≡ print_tree sym.Printn v.items
+tree-PrintPart v = search (rules, the_lemmas)
+
+pub tree-Call : (n : Name) (v : Vec Expr Global) → stmt_tree (stmts.Call n v) ≡ call_tree n v.items
+tree-Call n v = search (rules, the_lemmas)
+
+row_more : (t : Tree) (ss : List Stmt) (s : Stmt) → row_after t (map stmt_tree (ss ++ s ∷ [])) ≡ More (row_after t (map stmt_tree ss)) (stmt_tree s)
+row_more t [] s = refl
+row_more t (r ∷ ss) s = row_more (More t (stmt_tree r)) ss s
+
+pub one_more_stmt : (ss : List Stmt) (s : Stmt) → stmts_tree (ss ++ s ∷ []) ≡ More (stmts_tree ss) (stmt_tree s)
+one_more_stmt ss s = row_more (Start Blank) ss s

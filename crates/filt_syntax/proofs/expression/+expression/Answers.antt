@@ -1,0 +1,556 @@
+use Rattle.std.proofs.Common.{◌≡◌, List, [], ◌∷◌, ◌++◌, length, drop, map, refl, sym, ap, ◌∙◌, arith, rules, vec_len}
+use Rattle.std.proofs.lemmas.Bool.Decides.{nat_tests}
+use Rattle.std.proofs.lemmas.Result.{err_from_is_err_and}
+use Rattle.std.proofs.lemmas.List.{length-append}
+use Rattle.conf_lex.specs.declared.symbol.Symbol.TheVariants as symbols
+use Rattle.conf_lex.specs.declared.word.Word.{Word}
+use Rattle.conf_lex.specs.declared.word.Word.TheVariants as words
+use Rattle.grammar.specs.Grammar.{Tree, First, Start}
+use Rattle.grammar.specs.Kind.{symbol}
+use Rattle.grammar.specs.Reading.{Read, Got, and_then}
+use Rattle.grammar.specs.Shapes.{links}
+use Rattle.grammar.proofs.Shapes.{fails_along, fails_then, gives_along, links_more, links_fail, links_end, optional_alone, optional_pair, optional_first_fails, optional_second_fails}
+use Rattle.filt_syntax.specs.declared.tree.Expr.{Expr}
+use Rattle.filt_syntax.specs.declared.tree.Access.{Access}
+use Rattle.filt_syntax.specs.declared.tree.Factor.{Factor}
+use Rattle.filt_syntax.specs.declared.tree.Term.{Term}
+use Rattle.filt_syntax.specs.declared.tree.Joint.{Joint}
+use Rattle.filt_syntax.specs.Syntax.{is_compare, is_term, is_factor, is_joint, group_level, two_level, argument_level, arguments_level}
+use Rattle.filt_syntax.specs.View.{sight, parts_after, access_of, factor_of, term_of, joint_of, listed_tree, expr_trees, compare_symbol, term_symbol, factor_symbol, joint_symbol}
+use Rattle.filt_syntax.specs.Readers.{expr_at, cmp_at, sum_at, prod_at, unary_at, post_at, prim_at, behind_dot_at, named_at, inside_at}
+use Rattle.filt_syntax.proofs.Steps.{joint_turns, expr_is, term_turns, sum_is, factor_turns, prod_is, dot_turns, post_is, comma_turns, cmp_is, group_is, expr_shorter, cmp_shorter, prod_shorter, unary_shorter, behind_shorter, joint_passes, compare_passes, term_passes, factor_passes, level_unopened, level_deep, level_inside_fails, level_end_fails, level_got, argument_inside, two_first_fails, two_comma_fails, two_second_fails, two_got, prim_simple, prim_named, group_fails, group_got, method_call_fails, method_call_got, prim_bad, not_too_deep, not_fails, not_got, unary_post, behind_property, behind_fails, behind_got, method_bad, method_fails, method_got, named_none, named_fails, named_got, arguments_empty, arguments_some, arguments_fail}
+use Rattle.filt_syntax.proofs.Sights.{lifts, sight-Simple, sight-Name, sight-Call, product_of, sum_of, joint_is, access_is, compare_of, method_call_of, not_of, group_of, pair_of, one_more, one_more_access, one_more_expr, arguments_listed, gives_unary}
+use Rattle.filt_syntax.proofs.expression.+expression.Goals as goal
+
+same_tail : (w : Word) (us vs ws : List Word) → ws ≡ w ∷ us → ws ≡ w ∷ vs → us ≡ vs
+same_tail w us vs ws p q = ap (λ (x : List Word). drop 1 x) (sym p ∙ q)
+
+nothing_left : {X : Type 0} (xs : List X) → length xs ≡ 0 → xs ≡ []
+nothing_left [] e = refl
+nothing_left (x ∷ xs) e = absurd (omega arith)
+
+-- ---- expression
+
+pub expression-returns-in_err-first : goal.expression-returns-in_err-first
+expression-returns-in_err-first t c =
+    let p = err_from_is_err_and c.from_residual.result c.from_residual.ensures.1 in
+    let k = c.args.left in
+    rw (p.1, p.2) (fails_along _ _ _ (expr_is k c.args.words.now) (fails_then c.in_err-first.field-0.0 (cmp_at k c.args.words.now) (λ a rest. links is_joint (cmp_at k) (Start a) rest) c.in_err-first.ensures.tree))
+
+pub expression-loop-joint-init : goal.expression-loop-joint-init
+expression-loop-joint-init t c =
+    let none : c.new-more.result.items ≡ [] = search rules in
+    record {
+      rank = c.in_ok-first.ensures.rank;
+      reading = rw none (expr_is c.args.left c.args.words.now ∙ rw c.in_ok-first.ensures.tree refl);
+    }
+
+pub expression-returns-in_err-operand : goal.expression-returns-in_err-operand
+expression-returns-in_err-operand t c =
+    let p = err_from_is_err_and c.from_residual-in_err-operand.result c.from_residual-in_err-operand.ensures.1 in
+    let k = c.args.left in
+    rw (p.1, p.2) (fails_along _ _ _ c.loop-joint.invariant.reading (links_fail is_joint (cmp_at k) (joint_turns k) _ c.loop-joint.rest.now (words.Symbol (joint_symbol c.in-Some.joint)) c.in-Some.next.now c.in_err-operand.field-0.0 c.in-Some.ensures (joint_passes c.in-Some.joint) c.in_err-operand.ensures.tree))
+
+pub expression-loop-joint-smaller : goal.expression-loop-joint-smaller
+expression-loop-joint-smaller t c = omega (arith, cmp_shorter c.args.left c.in-Some.next.now _ c.in_ok-operand.end.now c.in_ok-operand.ensures.tree, ap (λ (ws : List Word). length ws) c.in-Some.ensures)
+
+pub expression-loop-joint-preserved : goal.expression-loop-joint-preserved
+expression-loop-joint-preserved t c =
+    let k = c.args.left in
+    let x : Joint × Expr = (c.in-Some.joint, c.in_ok-operand.operand) in
+    let xs = c.loop-joint.more.items in
+    let first = Start (sight c.loop-joint.first-1).cmp in
+    let pushed : c.push.new.self.items ≡ xs ++ x ∷ [] = search rules in
+    let turn = links_more is_joint (cmp_at k) (joint_turns k) (parts_after first (map joint_of xs)) c.loop-joint.rest.now (words.Symbol (joint_symbol c.in-Some.joint)) c.in-Some.next.now (joint_of x).1 c.in_ok-operand.end.now c.in-Some.ensures (joint_passes c.in-Some.joint) c.in_ok-operand.ensures.tree in
+    record {
+      rank = c.loop-joint.invariant.rank;
+      reading = rw pushed (c.loop-joint.invariant.reading ∙ turn ∙ ap (λ (u : Tree). links is_joint (cmp_at k) u c.in_ok-operand.end.now) (sym (one_more joint_of first xs x)));
+    }
+
+pub expression-returns-then-is_empty : goal.expression-returns-then-is_empty
+expression-returns-then-is_empty t c =
+    let k = c.args.left in
+    let xs = c.loop-joint.more.items in
+    let first = c.loop-joint.first-1 in
+    let len : vec_len c.loop-joint.more ≡ 0 = grind (arith, nat_tests) in
+    let none : xs ≡ [] = nothing_left xs (omega (arith, c.loop-joint.more.ok.0)) in
+    let ended = c.loop-joint.invariant.reading ∙ links_end is_joint (cmp_at k) (joint_turns k) (parts_after (Start (sight first).cmp) (map joint_of xs)) c.loop-joint.rest.now c.in_default.ensures in
+    rw ((lifts first).expr c.loop-joint.invariant.rank) (ended ∙ rw none refl)
+
+pub expression-returns : goal.expression-returns
+expression-returns t c =
+    let k = c.args.left in
+    let boxed : c.in_ok-new.field-0.value ≡ c.loop-joint.first-1 = search rules in
+    rw (joint_is c.in_ok-new.field-0 c.loop-joint.more c.loop-joint.first-1 boxed) (c.loop-joint.invariant.reading ∙ links_end is_joint (cmp_at k) (joint_turns k) _ c.loop-joint.rest.now c.in_default.ensures)
+
+-- ---- sum
+
+pub sum-returns-in_err-first-clause-tree : goal.sum-returns-in_err-first-clause-tree
+sum-returns-in_err-first-clause-tree t c =
+    let p = err_from_is_err_and c.from_residual.result c.from_residual.ensures.1 in
+    let k = c.args.left in
+    rw (p.1, p.2) (fails_along _ _ _ (sum_is k c.args.words.now) (fails_then c.in_err-first.field-0.0 (prod_at k c.args.words.now) (λ a rest. links is_term (prod_at k) (Start a) rest) c.in_err-first.ensures.tree))
+
+pub sum-loop-term-init : goal.sum-loop-term-init
+sum-loop-term-init t c =
+    let none : c.new-more.result.items ≡ [] = search rules in
+    record {
+      rank = c.in_ok-first.ensures.rank;
+      reading = rw none (sum_is c.args.left c.args.words.now ∙ rw c.in_ok-first.ensures.tree refl);
+    }
+
+pub sum-returns-in_err-operand-clause-tree : goal.sum-returns-in_err-operand-clause-tree
+sum-returns-in_err-operand-clause-tree t c =
+    let p = err_from_is_err_and c.from_residual-in_err-operand.result c.from_residual-in_err-operand.ensures.1 in
+    let k = c.args.left in
+    rw (p.1, p.2) (fails_along _ _ _ c.loop-term.invariant.reading (links_fail is_term (prod_at k) (term_turns k) _ c.loop-term.rest.now (words.Symbol (term_symbol c.in-Some.term)) c.in-Some.next.now c.in_err-operand.field-0.0 c.in-Some.ensures (term_passes c.in-Some.term) c.in_err-operand.ensures.tree))
+
+pub sum-loop-term-smaller : goal.sum-loop-term-smaller
+sum-loop-term-smaller t c = omega (arith, prod_shorter c.args.left c.in-Some.next.now _ c.in_ok-operand.end.now c.in_ok-operand.ensures.tree, ap (λ (ws : List Word). length ws) c.in-Some.ensures)
+
+pub sum-loop-term-preserved : goal.sum-loop-term-preserved
+sum-loop-term-preserved t c =
+    let k = c.args.left in
+    let x : Term × Expr = (c.in-Some.term, c.in_ok-operand.operand) in
+    let xs = c.loop-term.more.items in
+    let first = Start (sight c.loop-term.first-1).prod in
+    let pushed : c.push.new.self.items ≡ xs ++ x ∷ [] = search rules in
+    let turn = links_more is_term (prod_at k) (term_turns k) (parts_after first (map term_of xs)) c.loop-term.rest.now (words.Symbol (term_symbol c.in-Some.term)) c.in-Some.next.now (term_of x).1 c.in_ok-operand.end.now c.in-Some.ensures (term_passes c.in-Some.term) c.in_ok-operand.ensures.tree in
+    record {
+      rank = c.loop-term.invariant.rank;
+      reading = rw pushed (c.loop-term.invariant.reading ∙ turn ∙ ap (λ (u : Tree). links is_term (prod_at k) u c.in_ok-operand.end.now) (sym (one_more term_of first xs x)));
+    }
+
+pub sum-returns-then-is_empty-clause-tree : goal.sum-returns-then-is_empty-clause-tree
+sum-returns-then-is_empty-clause-tree t c =
+    let k = c.args.left in
+    let xs = c.loop-term.more.items in
+    let first = c.loop-term.first-1 in
+    let len : vec_len c.loop-term.more ≡ 0 = grind (arith, nat_tests) in
+    let none : xs ≡ [] = nothing_left xs (omega (arith, c.loop-term.more.ok.0)) in
+    let ended = c.loop-term.invariant.reading ∙ links_end is_term (prod_at k) (term_turns k) (parts_after (Start (sight first).prod) (map term_of xs)) c.loop-term.rest.now c.in_default.ensures in
+    rw ((lifts first).sum c.loop-term.invariant.rank) (ended ∙ rw none refl)
+
+pub sum-returns-then-is_empty-clause-rank : goal.sum-returns-then-is_empty-clause-rank
+sum-returns-then-is_empty-clause-rank t c = omega (arith, c.loop-term.invariant.rank)
+
+pub sum-returns-clause-tree : goal.sum-returns-clause-tree
+sum-returns-clause-tree t c =
+    let k = c.args.left in
+    let boxed : c.in_ok-new.field-0.value ≡ c.loop-term.first-1 = search rules in
+    rw (sum_of c.in_ok-new.field-0 c.loop-term.more c.loop-term.first-1 boxed) (c.loop-term.invariant.reading ∙ links_end is_term (prod_at k) (term_turns k) _ c.loop-term.rest.now c.in_default.ensures)
+
+-- ---- product
+
+pub product-returns-in_err-first-clause-tree : goal.product-returns-in_err-first-clause-tree
+product-returns-in_err-first-clause-tree t c =
+    let p = err_from_is_err_and c.from_residual.result c.from_residual.ensures.1 in
+    let k = c.args.left in
+    rw (p.1, p.2) (fails_along _ _ _ (prod_is k c.args.words.now) (fails_then c.in_err-first.field-0.0 (unary_at k c.args.words.now) (λ a rest. links is_factor (unary_at k) (Start a) rest) c.in_err-first.ensures.tree))
+
+pub product-loop-factor-init : goal.product-loop-factor-init
+product-loop-factor-init t c =
+    let none : c.new-more.result.items ≡ [] = search rules in
+    record {
+      rank = c.in_ok-first.ensures.rank;
+      reading = rw none (prod_is c.args.left c.args.words.now ∙ rw c.in_ok-first.ensures.tree refl);
+    }
+
+pub product-returns-in_err-second-clause-tree : goal.product-returns-in_err-second-clause-tree
+product-returns-in_err-second-clause-tree t c =
+    let p = err_from_is_err_and c.from_residual-in_err-second.result c.from_residual-in_err-second.ensures.1 in
+    let k = c.args.left in
+    rw (p.1, p.2) (fails_along _ _ _ c.loop-factor.invariant.reading (links_fail is_factor (unary_at k) (factor_turns k) _ c.loop-factor.rest.now (words.Symbol (factor_symbol c.in-Some.factor)) c.in-Some.next.now c.in_err-second.field-0.0 c.in-Some.ensures (factor_passes c.in-Some.factor) c.in_err-second.ensures.tree))
+
+pub product-loop-factor-smaller : goal.product-loop-factor-smaller
+product-loop-factor-smaller t c = omega (arith, unary_shorter c.args.left c.in-Some.next.now _ c.in_ok-second.end.now c.in_ok-second.ensures.tree, ap (λ (ws : List Word). length ws) c.in-Some.ensures)
+
+pub product-loop-factor-preserved : goal.product-loop-factor-preserved
+product-loop-factor-preserved t c =
+    let k = c.args.left in
+    let x : Factor × Expr = (c.in-Some.factor, c.in_ok-second.second) in
+    let xs = c.loop-factor.more.items in
+    let first = Start (sight c.loop-factor.first-1).unary in
+    let pushed : c.push.new.self.items ≡ xs ++ x ∷ [] = search rules in
+    let turn = links_more is_factor (unary_at k) (factor_turns k) (parts_after first (map factor_of xs)) c.loop-factor.rest.now (words.Symbol (factor_symbol c.in-Some.factor)) c.in-Some.next.now (factor_of x).1 c.in_ok-second.end.now c.in-Some.ensures (factor_passes c.in-Some.factor) c.in_ok-second.ensures.tree in
+    record {
+      rank = c.loop-factor.invariant.rank;
+      reading = rw pushed (c.loop-factor.invariant.reading ∙ turn ∙ ap (λ (u : Tree). links is_factor (unary_at k) u c.in_ok-second.end.now) (sym (one_more factor_of first xs x)));
+    }
+
+pub product-returns-then-is_empty-clause-tree : goal.product-returns-then-is_empty-clause-tree
+product-returns-then-is_empty-clause-tree t c =
+    let k = c.args.left in
+    let xs = c.loop-factor.more.items in
+    let first = c.loop-factor.first-1 in
+    let len : vec_len c.loop-factor.more ≡ 0 = grind (arith, nat_tests) in
+    let none : xs ≡ [] = nothing_left xs (omega (arith, c.loop-factor.more.ok.0)) in
+    let ended = c.loop-factor.invariant.reading ∙ links_end is_factor (unary_at k) (factor_turns k) (parts_after (Start (sight first).unary) (map factor_of xs)) c.loop-factor.rest.now c.in_default.ensures in
+    rw ((lifts first).prod c.loop-factor.invariant.rank) (ended ∙ rw none refl)
+
+pub product-returns-then-is_empty-clause-rank : goal.product-returns-then-is_empty-clause-rank
+product-returns-then-is_empty-clause-rank t c = omega (arith, c.loop-factor.invariant.rank)
+
+pub product-returns-clause-tree : goal.product-returns-clause-tree
+product-returns-clause-tree t c =
+    let k = c.args.left in
+    let boxed : c.in_ok-new.field-0.value ≡ c.loop-factor.first-1 = search rules in
+    rw (product_of c.in_ok-new.field-0 c.loop-factor.more c.loop-factor.first-1 boxed) (c.loop-factor.invariant.reading ∙ links_end is_factor (unary_at k) (factor_turns k) _ c.loop-factor.rest.now c.in_default.ensures)
+
+-- ---- accessed
+
+pub accessed-returns-in_err-first-clause-tree : goal.accessed-returns-in_err-first-clause-tree
+accessed-returns-in_err-first-clause-tree t c =
+    let p = err_from_is_err_and c.from_residual.result c.from_residual.ensures.1 in
+    let k = c.args.left in
+    rw (p.1, p.2) (fails_along _ _ _ (post_is k c.args.words.now) (fails_then c.in_err-first.field-0.0 (prim_at k c.args.words.now) (λ a rest. links (symbol symbols.Dot) (behind_dot_at k) (Start a) rest) c.in_err-first.ensures.tree))
+
+pub accessed-loop-next-init : goal.accessed-loop-next-init
+accessed-loop-next-init t c =
+    let none : c.new-more.result.items ≡ [] = search rules in
+    record {
+      rank = c.in_ok-first.ensures.rank;
+      reading = rw none (post_is c.args.left c.args.words.now ∙ rw c.in_ok-first.ensures.tree refl);
+    }
+
+pub accessed-returns-in_err-accessed-clause-tree : goal.accessed-returns-in_err-accessed-clause-tree
+accessed-returns-in_err-accessed-clause-tree t c =
+    let p = err_from_is_err_and c.from_residual-in_err-accessed.result c.from_residual-in_err-accessed.ensures.1 in
+    let k = c.args.left in
+    rw (p.1, p.2) (fails_along _ _ _ c.loop-next.invariant.reading (links_fail (symbol symbols.Dot) (behind_dot_at k) (dot_turns k) _ c.loop-next.rest.now (words.Symbol symbols.Dot) c.in-Some.next.now c.in_err-accessed.field-0.0 c.in-Some.ensures refl c.in_err-accessed.ensures))
+
+pub accessed-loop-next-smaller : goal.accessed-loop-next-smaller
+accessed-loop-next-smaller t c = omega (arith, behind_shorter c.args.left c.in-Some.next.now _ c.in_ok-accessed.end.now c.in_ok-accessed.ensures, ap (λ (ws : List Word). length ws) c.in-Some.ensures)
+
+pub accessed-loop-next-preserved : goal.accessed-loop-next-preserved
+accessed-loop-next-preserved t c =
+    let k = c.args.left in
+    let x : Access Expr = c.in_ok-accessed.accessed in
+    let xs = c.loop-next.more.items in
+    let first = Start (sight c.loop-next.first-1).prim in
+    let pushed : c.push.new.self.items ≡ xs ++ x ∷ [] = search rules in
+    let turn = links_more (symbol symbols.Dot) (behind_dot_at k) (dot_turns k) (parts_after first (map access_of xs)) c.loop-next.rest.now (words.Symbol symbols.Dot) c.in-Some.next.now (access_of x).1 c.in_ok-accessed.end.now c.in-Some.ensures refl c.in_ok-accessed.ensures in
+    record {
+      rank = c.loop-next.invariant.rank;
+      reading = rw pushed (c.loop-next.invariant.reading ∙ turn ∙ ap (λ (u : Tree). links (symbol symbols.Dot) (behind_dot_at k) u c.in_ok-accessed.end.now) (sym (one_more_access first xs x)));
+    }
+
+pub accessed-returns-then-is_empty-clause-tree : goal.accessed-returns-then-is_empty-clause-tree
+accessed-returns-then-is_empty-clause-tree t c =
+    let k = c.args.left in
+    let xs = c.loop-next.more.items in
+    let first = c.loop-next.first-1 in
+    let len : vec_len c.loop-next.more ≡ 0 = grind (arith, nat_tests) in
+    let none : xs ≡ [] = nothing_left xs (omega (arith, c.loop-next.more.ok.0)) in
+    let ended = c.loop-next.invariant.reading ∙ links_end (symbol symbols.Dot) (behind_dot_at k) (dot_turns k) (parts_after (Start (sight first).prim) (map access_of xs)) c.loop-next.rest.now c.in_default.ensures in
+    rw ((lifts first).post c.loop-next.invariant.rank) (ended ∙ rw none refl)
+
+pub accessed-returns-then-is_empty-clause-rank : goal.accessed-returns-then-is_empty-clause-rank
+accessed-returns-then-is_empty-clause-rank t c = omega (arith, c.loop-next.invariant.rank)
+
+pub accessed-returns-clause-tree : goal.accessed-returns-clause-tree
+accessed-returns-clause-tree t c =
+    let k = c.args.left in
+    let boxed : c.in_ok-new.field-0.value ≡ c.loop-next.first-1 = search rules in
+    rw (access_is c.in_ok-new.field-0 c.loop-next.more c.loop-next.first-1 boxed) (c.loop-next.invariant.reading ∙ links_end (symbol symbols.Dot) (behind_dot_at k) (dot_turns k) _ c.loop-next.rest.now c.in_default.ensures)
+
+-- ---- comparisons
+
+pub comparison-returns-in_err-value-clause-tree : goal.comparison-returns-in_err-value-clause-tree
+comparison-returns-in_err-value-clause-tree t c =
+    let p = err_from_is_err_and c.from_residual.result c.from_residual.ensures.1 in
+    let k = c.args.left in
+    rw (p.1, p.2) (fails_along _ _ _ (cmp_is k c.args.words.now) (optional_first_fails is_compare (sum_at k) (sum_at k) c.args.words.now c.in_err-value.field-0.0 c.in_err-value.ensures.tree))
+
+pub comparison-returns-in_err-operand-in-Some-clause-tree : goal.comparison-returns-in_err-operand-in-Some-clause-tree
+comparison-returns-in_err-operand-in-Some-clause-tree t c =
+    let p = err_from_is_err_and c.from_residual-in_err-operand-in-Some.result c.from_residual-in_err-operand-in-Some.ensures.1 in
+    let k = c.args.left in
+    rw (p.1, p.2) (fails_along _ _ _ (cmp_is k c.args.words.now) (optional_second_fails is_compare (sum_at k) (sum_at k) c.args.words.now _ c.in_ok-value.rest.now (words.Symbol (compare_symbol c.in-Some.compare)) c.in-Some.rest.now c.in_err-operand-in-Some.field-0.0 c.in_ok-value.ensures.tree c.in-Some.ensures (compare_passes c.in-Some.compare) c.in_err-operand-in-Some.ensures.tree))
+
+pub comparison-returns-in_ok-new-in-Some-2-clause-tree : goal.comparison-returns-in_ok-new-in-Some-2-clause-tree
+comparison-returns-in_ok-new-in-Some-2-clause-tree t c =
+    let k = c.args.left in
+    let op = c.in-Some.compare in
+    let first : c.in_ok-new-in-Some.field-0.value ≡ c.in_ok-value.value = search rules in
+    let second : c.in_ok-new-in-Some-2.field-0.value ≡ c.in_ok-operand-in-Some.operand = search rules in
+    let seen = compare_of op c.in_ok-new-in-Some.field-0 c.in_ok-new-in-Some-2.field-0 c.in_ok-value.value c.in_ok-operand-in-Some.operand first second in
+    rw seen (cmp_is k c.args.words.now ∙ optional_pair is_compare (sum_at k) (sum_at k) c.args.words.now _ c.in_ok-value.rest.now (words.Symbol (compare_symbol op)) c.in-Some.rest.now _ c.in_ok-operand-in-Some.rest.now c.in_ok-value.ensures.tree c.in-Some.ensures (compare_passes op) c.in_ok-operand-in-Some.ensures.tree)
+
+pub comparison-returns-in-None-clause-tree : goal.comparison-returns-in-None-clause-tree
+comparison-returns-in-None-clause-tree t c =
+    let k = c.args.left in
+    let one = cmp_is k c.args.words.now ∙ optional_alone is_compare (sum_at k) (sum_at k) c.args.words.now _ c.in_ok-value.rest.now c.in_ok-value.ensures.tree c.in-None.ensures in
+    rw ((lifts c.in_ok-value.value).cmp c.in_ok-value.ensures.rank) one
+
+-- ---- operands
+
+pub operand-returns-in_err-below-in-Some-clause-tree : goal.operand-returns-in_err-below-in-Some-clause-tree
+operand-returns-in_err-below-in-Some-clause-tree t c =
+    let p = err_from_is_err_and c.from_residual.result c.from_residual.ensures.1 in
+    rw (p.1, p.2) (not_too_deep c.args.left c.in-Some.at c.args.words.now c.in-Some.inside.now c.in_err-below-in-Some.field-0.0 c.in_err-below-in-Some.ensures.0 c.in-Some.ensures c.in_err-below-in-Some.ensures.1)
+
+pub operand-returns-in_err-inner-in-Some-clause-tree : goal.operand-returns-in_err-inner-in-Some-clause-tree
+operand-returns-in_err-inner-in-Some-clause-tree t c =
+    let p = err_from_is_err_and c.from_residual-in_err-inner-in-Some.result c.from_residual-in_err-inner-in-Some.ensures.1 in
+    rw (p.1, p.2) (not_fails c.args.left c.in_ok-below-in-Some.below c.in-Some.at c.args.words.now c.in-Some.inside.now c.in_err-inner-in-Some.field-0.0 c.in_ok-below-in-Some.ensures c.in-Some.ensures c.in_err-inner-in-Some.ensures.tree)
+
+pub operand-returns-in_ok-operand-in-Some-clause-tree : goal.operand-returns-in_ok-operand-in-Some-clause-tree
+operand-returns-in_ok-operand-in-Some-clause-tree t c =
+    let boxed : c.in_ok-operand-in-Some.operand.value ≡ c.in_ok-inner-in-Some.inner = search rules in
+    rw (not_of c.in-Some.at c.in_ok-operand-in-Some.operand c.in_ok-inner-in-Some.inner boxed) (not_got c.args.left c.in_ok-below-in-Some.below c.in-Some.at c.args.words.now c.in-Some.inside.now _ c.in_ok-inner-in-Some.rest.now c.in_ok-below-in-Some.ensures c.in-Some.ensures c.in_ok-inner-in-Some.ensures.tree)
+
+pub operand-returns-in-None-clause-tree : goal.operand-returns-in-None-clause-tree
+operand-returns-in-None-clause-tree t c = gives_unary c.accessed.result (post_at c.args.left c.args.words.now) (unary_at c.args.left c.args.words.now) c.accessed.ensures.rank (unary_post c.args.left c.args.words.now c.in-None.ensures) c.accessed.ensures.tree
+
+-- ---- behind a dot
+
+pub access-returns-in-Some : goal.access-returns-in-Some
+access-returns-in-Some t c = behind_property c.args.left c.in-Some.property c.args.words.now c.in-Some.rest.now c.in-Some.ensures
+
+pub access-returns-in_err-method-in-None : goal.access-returns-in_err-method-in-None
+access-returns-in_err-method-in-None t c =
+    let p = err_from_is_err_and c.from_residual.result c.from_residual.ensures.1 in
+    rw (p.1, p.2) (behind_fails c.args.left c.args.words.now c.in_err-method-in-None.field-0.0 c.in-None.ensures c.in_err-method-in-None.ensures)
+
+pub access-returns-in_ok-method-in-None : goal.access-returns-in_ok-method-in-None
+access-returns-in_ok-method-in-None t c = behind_got c.args.left c.args.words.now _ c.in_ok-method-in-None.rest.now c.in-None.ensures c.in_ok-method-in-None.ensures
+
+-- ---- methods
+
+pub method-returns-in_default : goal.method-returns-in_default
+method-returns-in_default t c = method_bad c.args.left c.args.words.now c.in_default.ensures
+
+pub method-returns-in_err-below : goal.method-returns-in_err-below
+method-returns-in_err-below t c =
+    let p = err_from_is_err_and c.from_residual.result c.from_residual.ensures.1 in
+    let e = c.in_err-below.field-0.0 in
+    rw (p.1, p.2) (method_fails c.args.left c.in-Some.method c.args.words.now c.in-Some.next.now e c.in-Some.ensures (level_unopened argument_level c.args.left c.in-Some.next.now e (c.in_err-below.ensures argument_level)))
+
+pub method-returns-in_err-argument : goal.method-returns-in_err-argument
+method-returns-in_err-argument t c =
+    let p = err_from_is_err_and c.from_residual-in_err-argument.result c.from_residual-in_err-argument.ensures.1 in
+    let e = c.in_err-argument.field-0.0 in
+    let b = c.in_ok-below.below in
+    let u = c.in_ok-below.inside.now in
+    let failed = fails_along e (inside_at argument_level b u) (expr_at b u) (argument_inside b u) c.in_err-argument.ensures in
+    rw (p.1, p.2) (method_fails c.args.left c.in-Some.method c.args.words.now c.in-Some.next.now e c.in-Some.ensures (level_inside_fails argument_level c.args.left b c.in-Some.next.now u e c.in_ok-below.ensures.1 c.in_ok-below.ensures.0 failed))
+
+pub method-returns-in_err-rest : goal.method-returns-in_err-rest
+method-returns-in_err-rest t c =
+    let p = err_from_is_err_and c.from_residual-in_err-rest.result c.from_residual-in_err-rest.ensures.1 in
+    let e = c.in_err-rest.field-0.0 in
+    let b = c.in_ok-below.below in
+    let u = c.in_ok-below.inside.now in
+    rw (p.1, p.2) (method_fails c.args.left c.in-Some.method c.args.words.now c.in-Some.next.now e c.in-Some.ensures (level_end_fails argument_level c.args.left b c.in-Some.next.now u _ c.in_ok-argument.end.now e c.in_ok-below.ensures.1 c.in_ok-below.ensures.0 (argument_inside b u ∙ c.in_ok-argument.ensures) c.in_err-rest.ensures))
+
+pub method-returns : goal.method-returns
+method-returns t c =
+    let b = c.in_ok-below.below in
+    let u = c.in_ok-below.inside.now in
+    method_got c.args.left c.in-Some.method c.args.words.now c.in-Some.next.now _ c.in_ok-rest.rest.now c.in-Some.ensures (level_got argument_level c.args.left b c.in-Some.next.now u _ c.in_ok-argument.end.now c.in_ok-rest.rest.now c.in_ok-below.ensures.1 c.in_ok-below.ensures.0 (argument_inside b u ∙ c.in_ok-argument.ensures) c.in_ok-rest.ensures)
+
+-- ---- groups
+
+pub group-returns-in_err-below-clause-tree : goal.group-returns-in_err-below-clause-tree
+group-returns-in_err-below-clause-tree t c =
+    let p = err_from_is_err_and c.from_residual.result c.from_residual.ensures.1 in
+    let e = c.in_err-below.field-0.0 in
+    rw (p.1, p.2) (group_fails c.args.left c.args.words.now c.args.inside.now e c.requires (level_deep group_level c.args.left c.args.words.now c.args.inside.now e c.in_err-below.ensures.0 c.requires c.in_err-below.ensures.1))
+
+pub group-returns-in_err-first-clause-tree : goal.group-returns-in_err-first-clause-tree
+group-returns-in_err-first-clause-tree t c =
+    let p = err_from_is_err_and c.from_residual-in_err-first.result c.from_residual-in_err-first.ensures.1 in
+    let e = c.in_err-first.field-0.0 in
+    let b = c.in_ok-below.below in
+    let u = c.args.inside.now in
+    let failed = fails_along e (inside_at group_level b u) _ (group_is b u) (optional_first_fails (symbol symbols.Comma) (expr_at b) (expr_at b) u e c.in_err-first.ensures) in
+    rw (p.1, p.2) (group_fails c.args.left c.args.words.now u e c.requires (level_inside_fails group_level c.args.left b c.args.words.now u e c.in_ok-below.ensures c.requires failed))
+
+pub group-returns-in_err-rest-in-None-clause-tree : goal.group-returns-in_err-rest-in-None-clause-tree
+group-returns-in_err-rest-in-None-clause-tree t c =
+    let p = err_from_is_err_and c.from_residual-in_err-rest-in-None.result c.from_residual-in_err-rest-in-None.ensures.1 in
+    let e = c.in_err-rest-in-None.field-0.0 in
+    let b = c.in_ok-below.below in
+    let u = c.args.inside.now in
+    let got = group_is b u ∙ optional_alone (symbol symbols.Comma) (expr_at b) (expr_at b) u _ c.in_ok-first.end.now c.in_ok-first.ensures c.in-None.ensures in
+    rw (p.1, p.2) (group_fails c.args.left c.args.words.now u e c.requires (level_end_fails group_level c.args.left b c.args.words.now u _ c.in_ok-first.end.now e c.in_ok-below.ensures c.requires got c.in_err-rest-in-None.ensures))
+
+pub group-returns-in_ok-new-in-None-clause-tree : goal.group-returns-in_ok-new-in-None-clause-tree
+group-returns-in_ok-new-in-None-clause-tree t c =
+    let b = c.in_ok-below.below in
+    let u = c.args.inside.now in
+    let boxed : c.in_ok-new-in-None.field-0.value ≡ c.in_ok-first.first = search rules in
+    let got = group_is b u ∙ optional_alone (symbol symbols.Comma) (expr_at b) (expr_at b) u _ c.in_ok-first.end.now c.in_ok-first.ensures c.in-None.ensures in
+    rw (group_of c.in_ok-new-in-None.field-0 c.in_ok-first.first boxed) (group_got c.args.left b c.args.words.now u _ c.in_ok-first.end.now c.in_ok-rest-in-None.rest.now c.in_ok-below.ensures c.requires got c.in_ok-rest-in-None.ensures)
+
+pub group-returns-in_err-second-in-Some-clause-tree : goal.group-returns-in_err-second-in-Some-clause-tree
+group-returns-in_err-second-in-Some-clause-tree t c =
+    let p = err_from_is_err_and c.from_residual-in_err-second-in-Some.result c.from_residual-in_err-second-in-Some.ensures.1 in
+    let e = c.in_err-second-in-Some.field-0.0 in
+    let b = c.in_ok-below.below in
+    let u = c.args.inside.now in
+    let failed = fails_along e (inside_at group_level b u) _ (group_is b u) (optional_second_fails (symbol symbols.Comma) (expr_at b) (expr_at b) u _ c.in_ok-first.end.now (words.Symbol symbols.Comma) c.in-Some.next.now e c.in_ok-first.ensures c.in-Some.ensures refl c.in_err-second-in-Some.ensures) in
+    rw (p.1, p.2) (group_fails c.args.left c.args.words.now u e c.requires (level_inside_fails group_level c.args.left b c.args.words.now u e c.in_ok-below.ensures c.requires failed))
+
+pub group-returns-in_err-rest-in-Some-clause-tree : goal.group-returns-in_err-rest-in-Some-clause-tree
+group-returns-in_err-rest-in-Some-clause-tree t c =
+    let p = err_from_is_err_and c.from_residual-in_err-rest-in-Some.result c.from_residual-in_err-rest-in-Some.ensures.1 in
+    let e = c.in_err-rest-in-Some.field-0.0 in
+    let b = c.in_ok-below.below in
+    let u = c.args.inside.now in
+    let got = group_is b u ∙ optional_pair (symbol symbols.Comma) (expr_at b) (expr_at b) u _ c.in_ok-first.end.now (words.Symbol symbols.Comma) c.in-Some.next.now _ c.in_ok-second-in-Some.end.now c.in_ok-first.ensures c.in-Some.ensures refl c.in_ok-second-in-Some.ensures in
+    rw (p.1, p.2) (group_fails c.args.left c.args.words.now u e c.requires (level_end_fails group_level c.args.left b c.args.words.now u _ c.in_ok-second-in-Some.end.now e c.in_ok-below.ensures c.requires got c.in_err-rest-in-Some.ensures))
+
+pub group-returns-in_ok-new-in-Some-2-clause-tree : goal.group-returns-in_ok-new-in-Some-2-clause-tree
+group-returns-in_ok-new-in-Some-2-clause-tree t c =
+    let b = c.in_ok-below.below in
+    let u = c.args.inside.now in
+    let first : c.in_ok-new-in-Some.field-0.value ≡ c.in_ok-first.first = search rules in
+    let second : c.in_ok-new-in-Some-2.field-0.value ≡ c.in_ok-second-in-Some.second = search rules in
+    let got = group_is b u ∙ optional_pair (symbol symbols.Comma) (expr_at b) (expr_at b) u _ c.in_ok-first.end.now (words.Symbol symbols.Comma) c.in-Some.next.now _ c.in_ok-second-in-Some.end.now c.in_ok-first.ensures c.in-Some.ensures refl c.in_ok-second-in-Some.ensures in
+    rw (pair_of c.in_ok-new-in-Some.field-0 c.in_ok-new-in-Some-2.field-0 c.in_ok-first.first c.in_ok-second-in-Some.second first second) (group_got c.args.left b c.args.words.now u _ c.in_ok-second-in-Some.end.now c.in_ok-rest-in-Some.rest.now c.in_ok-below.ensures c.requires got c.in_ok-rest-in-Some.ensures)
+
+-- ---- calls of methods
+
+pub method_call-returns-in_err-below-clause-tree : goal.method_call-returns-in_err-below-clause-tree
+method_call-returns-in_err-below-clause-tree t c =
+    let p = err_from_is_err_and c.from_residual.result c.from_residual.ensures.1 in
+    let e = c.in_err-below.field-0.0 in
+    rw (p.1, p.2) (method_call_fails c.args.left c.args.method c.args.words.now c.args.next.now e c.requires (level_unopened two_level c.args.left c.args.next.now e (c.in_err-below.ensures two_level)))
+
+pub method_call-returns-in_err-list-clause-tree : goal.method_call-returns-in_err-list-clause-tree
+method_call-returns-in_err-list-clause-tree t c =
+    let p = err_from_is_err_and c.from_residual-in_err-list.result c.from_residual-in_err-list.ensures.1 in
+    let e = c.in_err-list.field-0.0 in
+    let b = c.in_ok-below.below in
+    let u = c.in_ok-below.inside.now in
+    rw (p.1, p.2) (method_call_fails c.args.left c.args.method c.args.words.now c.args.next.now e c.requires (level_inside_fails two_level c.args.left b c.args.next.now u e c.in_ok-below.ensures.1 c.in_ok-below.ensures.0 (two_first_fails b u e c.in_err-list.ensures)))
+
+pub method_call-returns-in_err-second-clause-tree : goal.method_call-returns-in_err-second-clause-tree
+method_call-returns-in_err-second-clause-tree t c =
+    let p = err_from_is_err_and c.from_residual-in_err-second.result c.from_residual-in_err-second.ensures.1 in
+    let e = c.in_err-second.field-0.0 in
+    let b = c.in_ok-below.below in
+    let u = c.in_ok-below.inside.now in
+    rw (p.1, p.2) (method_call_fails c.args.left c.args.method c.args.words.now c.args.next.now e c.requires (level_inside_fails two_level c.args.left b c.args.next.now u e c.in_ok-below.ensures.1 c.in_ok-below.ensures.0 (two_comma_fails b u _ c.in_ok-list.end.now e c.in_ok-list.ensures c.in_err-second.ensures)))
+
+pub method_call-returns-in_err-argument-clause-tree : goal.method_call-returns-in_err-argument-clause-tree
+method_call-returns-in_err-argument-clause-tree t c =
+    let p = err_from_is_err_and c.from_residual-in_err-argument.result c.from_residual-in_err-argument.ensures.1 in
+    let e = c.in_err-argument.field-0.0 in
+    let b = c.in_ok-below.below in
+    let u = c.in_ok-below.inside.now in
+    rw (p.1, p.2) (method_call_fails c.args.left c.args.method c.args.words.now c.args.next.now e c.requires (level_inside_fails two_level c.args.left b c.args.next.now u e c.in_ok-below.ensures.1 c.in_ok-below.ensures.0 (two_second_fails b u _ c.in_ok-list.end.now c.in_ok-second.second.now e c.in_ok-list.ensures c.in_ok-second.ensures c.in_err-argument.ensures)))
+
+pub method_call-returns-in_err-rest-clause-tree : goal.method_call-returns-in_err-rest-clause-tree
+method_call-returns-in_err-rest-clause-tree t c =
+    let p = err_from_is_err_and c.from_residual-in_err-rest.result c.from_residual-in_err-rest.ensures.1 in
+    let e = c.in_err-rest.field-0.0 in
+    let b = c.in_ok-below.below in
+    let u = c.in_ok-below.inside.now in
+    let got = two_got b u _ c.in_ok-list.end.now c.in_ok-second.second.now _ c.in_ok-argument.end.now c.in_ok-list.ensures c.in_ok-second.ensures c.in_ok-argument.ensures in
+    rw (p.1, p.2) (method_call_fails c.args.left c.args.method c.args.words.now c.args.next.now e c.requires (level_end_fails two_level c.args.left b c.args.next.now u _ c.in_ok-argument.end.now e c.in_ok-below.ensures.1 c.in_ok-below.ensures.0 got c.in_err-rest.ensures))
+
+pub method_call-returns-clause-tree : goal.method_call-returns-clause-tree
+method_call-returns-clause-tree t c =
+    let b = c.in_ok-below.below in
+    let u = c.in_ok-below.inside.now in
+    let first : c.in_ok-new.field-0.value ≡ c.in_ok-list.list = search rules in
+    let second : c.in_ok-new-2.field-0.value ≡ c.in_ok-argument.argument = search rules in
+    let got = two_got b u _ c.in_ok-list.end.now c.in_ok-second.second.now _ c.in_ok-argument.end.now c.in_ok-list.ensures c.in_ok-second.ensures c.in_ok-argument.ensures in
+    rw (method_call_of c.args.method c.in_ok-new.field-0 c.in_ok-new-2.field-0 c.in_ok-list.list c.in_ok-argument.argument first second) (method_call_got c.args.left c.args.method c.args.words.now c.args.next.now _ _ c.in_ok-rest.rest.now c.requires (level_got two_level c.args.left b c.args.next.now u _ c.in_ok-argument.end.now c.in_ok-rest.rest.now c.in_ok-below.ensures.1 c.in_ok-below.ensures.0 got c.in_ok-rest.ensures))
+
+-- ---- calls
+
+pub call-returns-in-None-clause-tree : goal.call-returns-in-None-clause-tree
+call-returns-in-None-clause-tree t c = rw (sight-Name c.args.name) (named_none c.args.left c.args.name c.args.words.now c.in-None.ensures)
+
+pub call-returns-in_err-arguments-in-Some-clause-tree : goal.call-returns-in_err-arguments-in-Some-clause-tree
+call-returns-in_err-arguments-in-Some-clause-tree t c =
+    let p = err_from_is_err_and c.from_residual.result c.from_residual.ensures.1 in
+    rw (p.1, p.2) (named_fails c.args.left c.args.name c.args.words.now _ c.in_err-arguments-in-Some.field-0.0 c.in-Some.ensures c.in_err-arguments-in-Some.ensures)
+
+pub call-returns-in_ok-arguments-in-Some-clause-tree : goal.call-returns-in_ok-arguments-in-Some-clause-tree
+call-returns-in_ok-arguments-in-Some-clause-tree t c =
+    rw (sight-Call c.args.name c.in_ok-arguments-in-Some.arguments) (named_got c.args.left c.args.name c.args.words.now _ _ c.in_ok-arguments-in-Some.rest.now c.in-Some.ensures c.in_ok-arguments-in-Some.ensures)
+
+-- ---- arguments
+
+pub arguments-returns-in_err-below : goal.arguments-returns-in_err-below
+arguments-returns-in_err-below t c =
+    let p = err_from_is_err_and c.from_residual.result c.from_residual.ensures.1 in
+    let e = c.in_err-below.field-0.0 in
+    rw (p.1, p.2) (level_unopened arguments_level c.args.left c.args.words.now e (c.in_err-below.ensures arguments_level))
+
+pub arguments-returns-in-Some : goal.arguments-returns-in-Some
+arguments-returns-in-Some t c =
+    let none : c.new-found.result.items ≡ [] = search rules in
+    rw none (arguments_empty c.args.left c.in_ok-below.below c.args.words.now c.in_ok-below.inside.now c.in-Some.rest.now c.in_ok-below.ensures.1 c.in_ok-below.ensures.0 c.in-Some.ensures)
+
+pub arguments-returns-in_err-first : goal.arguments-returns-in_err-first
+arguments-returns-in_err-first t c =
+    let p = err_from_is_err_and c.from_residual-in_err-first.result c.from_residual-in_err-first.ensures.1 in
+    rw (p.1, p.2) (arguments_fail c.args.left c.in_ok-below.below c.args.words.now c.in_ok-below.inside.now c.in_err-first.field-0.0 c.in_ok-below.ensures.1 c.in_ok-below.ensures.0 c.in_default.ensures c.in_err-first.ensures)
+
+pub arguments-loop-next-init : goal.arguments-loop-next-init
+arguments-loop-next-init t c =
+    let pushed : c.push.new.self.items ≡ c.in_ok-first.first ∷ [] = search rules in
+    record {
+      some = rw pushed (omega arith);
+      reading = λ u is.
+          let same : u ≡ c.in_ok-below.inside.now = same_tail (words.Symbol symbols.OpenParenthesis) u c.in_ok-below.inside.now c.args.words.now is c.in_ok-below.ensures.0 in
+          rw (same, pushed) (arguments_some c.in_ok-below.below c.in_ok-below.inside.now _ c.in_ok-first.rest.now c.in_ok-first.ensures);
+    }
+
+pub arguments-returns-in_err-argument : goal.arguments-returns-in_err-argument
+arguments-returns-in_err-argument t c =
+    let p = err_from_is_err_and c.from_residual-in_err-argument.result c.from_residual-in_err-argument.ensures.1 in
+    let b = c.in_ok-below.below in
+    let e = c.in_err-argument.field-0.0 in
+    let failed = links_fail (symbol symbols.Comma) (expr_at b) (comma_turns b) (listed_tree (expr_trees c.loop-next.found.items)) c.loop-next.rest.now (words.Symbol symbols.Comma) c.in-Some-after.next.now e c.in-Some-after.ensures refl c.in_err-argument.ensures in
+    rw (p.1, p.2) (level_inside_fails arguments_level c.args.left b c.args.words.now c.in_ok-below.inside.now e c.in_ok-below.ensures.1 c.in_ok-below.ensures.0 (fails_along e _ _ (c.loop-next.invariant.reading c.in_ok-below.inside.now c.in_ok-below.ensures.0) (fails_then e _ (λ a rest. Got (First a) rest) failed)))
+
+pub arguments-loop-next-smaller : goal.arguments-loop-next-smaller
+arguments-loop-next-smaller t c = omega (arith, expr_shorter c.in_ok-below.below c.in-Some-after.next.now _ c.in_ok-argument.end.now c.in_ok-argument.ensures, ap (λ (ws : List Word). length ws) c.in-Some-after.ensures)
+
+pub arguments-loop-next-preserved : goal.arguments-loop-next-preserved
+arguments-loop-next-preserved t c =
+    let b = c.in_ok-below.below in
+    let es = c.loop-next.found.items in
+    let e = c.in_ok-argument.argument in
+    let end = c.in_ok-argument.end.now in
+    let pushed : c.push-in-Some-after.new.self.items ≡ es ++ e ∷ [] = search rules in
+    let turn = links_more (symbol symbols.Comma) (expr_at b) (comma_turns b) (listed_tree (expr_trees es)) c.loop-next.rest.now (words.Symbol symbols.Comma) c.in-Some-after.next.now (sight e).expr end c.in-Some-after.ensures refl c.in_ok-argument.ensures in
+    let listed = turn ∙ ap (λ (x : Tree). links (symbol symbols.Comma) (expr_at b) x end) (sym (one_more_expr es e c.loop-next.invariant.some)) in
+    record {
+      some = rw pushed (omega (arith, length-append es (e ∷ [])));
+      reading = λ u is. rw pushed (c.loop-next.invariant.reading u is ∙ ap (λ (x : Read). and_then x (λ a rest. Got (First a) rest)) listed);
+    }
+
+pub arguments-returns-in_err-rest : goal.arguments-returns-in_err-rest
+arguments-returns-in_err-rest t c =
+    let p = err_from_is_err_and c.from_residual-in_err-rest.result c.from_residual-in_err-rest.ensures.1 in
+    let b = c.in_ok-below.below in
+    let ended = links_end (symbol symbols.Comma) (expr_at b) (comma_turns b) (listed_tree (expr_trees c.loop-next.found.items)) c.loop-next.rest.now c.in_default-after.ensures in
+    let got = c.loop-next.invariant.reading c.in_ok-below.inside.now c.in_ok-below.ensures.0 ∙ ap (λ (x : Read). and_then x (λ a rest. Got (First a) rest)) ended in
+    rw (p.1, p.2) (level_end_fails arguments_level c.args.left b c.args.words.now c.in_ok-below.inside.now (First (listed_tree (expr_trees c.loop-next.found.items))) c.loop-next.rest.now c.in_err-rest.field-0.0 c.in_ok-below.ensures.1 c.in_ok-below.ensures.0 got c.in_err-rest.ensures)
+
+pub arguments-returns : goal.arguments-returns
+arguments-returns t c =
+    let b = c.in_ok-below.below in
+    let es = c.loop-next.found.items in
+    let ended = links_end (symbol symbols.Comma) (expr_at b) (comma_turns b) (listed_tree (expr_trees es)) c.loop-next.rest.now c.in_default-after.ensures in
+    let got = c.loop-next.invariant.reading c.in_ok-below.inside.now c.in_ok-below.ensures.0 ∙ ap (λ (x : Read). and_then x (λ a rest. Got (First a) rest)) ended in
+    rw (arguments_listed es c.loop-next.invariant.some) (level_got arguments_level c.args.left b c.args.words.now c.in_ok-below.inside.now (First (listed_tree (expr_trees es))) c.loop-next.rest.now c.in_ok-rest.rest.now c.in_ok-below.ensures.1 c.in_ok-below.ensures.0 got c.in_ok-rest.ensures)
+
+-- ---- primary expressions
+
+pub primary-returns-in-Some-clause-tree : goal.primary-returns-in-Some-clause-tree
+primary-returns-in-Some-clause-tree t c = rw (sight-Simple c.in-Some.simple) (prim_simple c.args.left c.args.words.now c.in-Some.simple c.in-Some.rest.now c.in-Some.ensures)
+
+pub primary-returns-in-Some-next_name-clause-tree : goal.primary-returns-in-Some-next_name-clause-tree
+primary-returns-in-Some-next_name-clause-tree t c = gives_along (λ e. (sight e).prim) c.call.result (prim_at c.args.left c.args.words.now) (named_at c.args.left c.in-Some-next_name.name c.in-Some-next_name.rest.now) (prim_named c.args.left c.args.words.now c.in-Some-next_name.name c.in-Some-next_name.rest.now c.in-Some-next_name.ensures) c.call.ensures.tree
+
+pub primary-returns-in-None-clause-tree : goal.primary-returns-in-None-clause-tree
+primary-returns-in-None-clause-tree t c = prim_bad c.args.left c.args.words.now c.in_default.ensures c.in_default-next_name.ensures c.in_default-after.ensures c.in_default-after_placed.ensures c.in_default-after_placed-2.ensures c.in_default-after_placed-3.ensures c.in-None.ensures

@@ -1,0 +1,261 @@
+use Rattle.std.proofs.Common.{◌≡◌, ℕ, ◌+◌, ◌<◌, ◌≤◌, Bool, true, false, List, [], ◌∷◌, ◌++◌, length, refl, sym as flip, ap, subst, ◌∙◌, arith, rules, ◌⊎◌, inl, inr, Option, Some, None}
+use Rattle.std.proofs.lemmas.Result.{err_from_is_err_and}
+use Rattle.std.proofs.lemmas.List.{length-append}
+use Rattle.conf_lex.specs.declared.symbol.Symbol.TheVariants as sym
+use Rattle.conf_lex.specs.declared.word.Word.{Word}
+use Rattle.conf_lex.specs.declared.word.Word.TheVariants as words
+use Rattle.grammar.specs.Kind.{symbol}
+use Rattle.grammar.specs.Grammar.{Tree, Leaf, Blank, Both, First, Second, Start, More, Inside}
+use Rattle.grammar.specs.Reading.{Read, Got, Fault, and_then, word, both}
+use Rattle.grammar.specs.Shapes.{symbol_leaf, links, closed, between}
+use Rattle.grammar.specs.Gives.{Fails}
+use Rattle.grammar.proofs.Shapes.{fails_then, fails_along, gives_along, optional_alone, optional_pair, optional_first_fails, optional_second_fails, links_more, links_fail, links_end, closed_got, closed_inside_fails, closed_end_fails}
+use Rattle.grammar.specs.Kind.{name}
+use Rattle.filt_syntax.specs.declared.tree.Expr.{Expr}
+use Rattle.filt_syntax.specs.declared.tree.Stmt.{Stmt}
+use Rattle.filt_syntax.specs.Readers.{expr_at}
+use Rattle.filt_syntax.specs.ItemView.{label_tree}
+use Rattle.filt_syntax.specs.StatementView.{stmt_tree, stmts_tree, arms_of, arms_row, arms_chain, body_after}
+use Rattle.filt_syntax.specs.StatementReaders.{stmt_at, row_at, stmts_at, else_at, arms_at, more_arms_at, labelled_at, arms_end_at}
+use Rattle.filt_syntax.proofs.StatementSteps.{name_is}
+use Rattle.filt_syntax.proofs.StatementTrees.{tree-Block, tree-If, tree-IfElse, tree-Case, tree-For, one_more_stmt}
+use Rattle.filt_syntax.proofs.CycleSteps.{stmts_is, stmt_shorter, row_more, row_closed, row_fails, block_is, block_deep, choice_is, then_fails, then_deep, branches_is, else_none, else_some, for_is, do_fails, do_deep, do_is, case_is, brace_fails, brace_deep, braced_is}
+use Rattle.filt_syntax.proofs.ArmSteps.{end_else_got, end_else_fails, end_brace_got, end_brace_fails, labelled_fails, labelled_got, label_shorter, arm_more, arm_fails, read_arms, IsBehind, with_label, arms_next, arms_finish, one_more_arm, still_behind}
+use Rattle.filt_syntax.proofs.statement.+statement.Goals as goal
+
+pub statement-returns-in-Some : goal.statement-returns-in-Some
+statement-returns-in-Some t c =
+    gives_along stmt_tree c.done_to_name.result _ _ (name_is c.args.left c.in-Some.name c.args.words.now c.in-Some.next.now c.in-Some.ensures) c.done_to_name.ensures
+
+pub block-returns-in_err-below : goal.block-returns-in_err-below
+block-returns-in_err-below t c =
+    let p = err_from_is_err_and c.from_residual.result c.from_residual.ensures.1 in
+    rw (p.1, p.2, block_deep c.args.left c.args.words.now c.args.next.now c.in_err-below.ensures.0 c.requires) (c.in_err-below.ensures.1)
+
+pub block-returns-in_err-body : goal.block-returns-in_err-body
+block-returns-in_err-body t c =
+    let p = err_from_is_err_and c.from_residual-in_err-body.result c.from_residual-in_err-body.ensures.1 in
+    rw (p.1, p.2, block_is c.args.left c.in_ok-below.below c.args.words.now c.args.next.now c.in_ok-below.ensures c.requires) (fails_then _ _ _ c.in_err-body.ensures)
+
+pub block-returns : goal.block-returns
+block-returns t c =
+    rw (tree-Block c.in_ok-body.body) (block_is c.args.left c.in_ok-below.below c.args.words.now c.args.next.now c.in_ok-below.ensures c.requires ∙ rw c.in_ok-body.ensures refl)
+
+pub statements-loop-end-init : goal.statements-loop-end-init
+statements-loop-end-init t c =
+    let none : c.new-found.result.items ≡ [] = search rules in
+    rw none (stmts_is c.args.left c.args.words.now)
+
+pub statements-returns-in-Some : goal.statements-returns-in-Some
+statements-returns-in-Some t c =
+    row_closed c.args.left (stmts_tree c.loop-end.found.items) c.args.words.now c.loop-end.rest.now c.in-Some.end.now c.loop-end.invariant c.in-Some.ensures
+
+pub statements-returns-in_err-stmt : goal.statements-returns-in_err-stmt
+statements-returns-in_err-stmt t c =
+    let p = err_from_is_err_and c.from_residual.result c.from_residual.ensures.1 in
+    rw (p.1, p.2) (row_fails c.args.left (stmts_tree c.loop-end.found.items) c.args.words.now c.loop-end.rest.now _ c.loop-end.invariant c.in_default.ensures c.in_err-stmt.ensures)
+
+pub statements-loop-end-smaller : goal.statements-loop-end-smaller
+statements-loop-end-smaller t c =
+    omega (arith, stmt_shorter c.args.left c.loop-end.rest.now _ c.in_ok-stmt.next.now c.in_ok-stmt.ensures)
+
+pub statements-loop-end-preserved : goal.statements-loop-end-preserved
+statements-loop-end-preserved t c =
+    let ss = c.loop-end.found.items in
+    let s = c.in_ok-stmt.stmt in
+    let end = c.in_ok-stmt.next.now in
+    let pushed : c.push.new.self.items ≡ ss ++ s ∷ [] = search rules in
+    rw pushed (c.loop-end.invariant ∙ row_more c.args.left (stmts_tree ss) c.loop-end.rest.now (stmt_tree s) end c.in_ok-stmt.ensures ∙ ap (λ (x : Tree). row_at c.args.left x end) (flip (one_more_stmt ss s)))
+
+pub choice-returns-in_err-condition : goal.choice-returns-in_err-condition
+choice-returns-in_err-condition t c =
+    let p = err_from_is_err_and c.from_residual.result c.from_residual.ensures.1 in
+    rw (p.1, p.2, choice_is c.args.left c.args.words.now c.args.next.now c.requires) (fails_then _ _ _ c.in_err-condition.ensures)
+
+pub choice-returns-in_err-inside : goal.choice-returns-in_err-inside
+choice-returns-in_err-inside t c =
+    let p = err_from_is_err_and c.from_residual-in_err-inside.result c.from_residual-in_err-inside.ensures.1 in
+    rw (p.1, p.2, choice_is c.args.left c.args.words.now c.args.next.now c.requires, c.in_ok-condition.ensures) (fails_then _ _ _ (then_fails c.args.left c.in_ok-condition.rest.now _ c.in_err-inside.ensures))
+
+pub choice-returns-in_err-below : goal.choice-returns-in_err-below
+choice-returns-in_err-below t c =
+    let p = err_from_is_err_and c.from_residual-in_err-below.result c.from_residual-in_err-below.ensures.1 in
+    rw (p.1, p.2, choice_is c.args.left c.args.words.now c.args.next.now c.requires, c.in_ok-condition.ensures, then_deep c.args.left c.in_ok-condition.rest.now c.in_ok-inside.inside.now c.in_err-below.ensures.0 c.in_ok-inside.ensures) (c.in_err-below.ensures.1)
+
+pub choice-returns-in_err-first : goal.choice-returns-in_err-first
+choice-returns-in_err-first t c =
+    let p = err_from_is_err_and c.from_residual-in_err-first.result c.from_residual-in_err-first.ensures.1 in
+    rw (p.1, p.2, choice_is c.args.left c.args.words.now c.args.next.now c.requires, c.in_ok-condition.ensures, branches_is c.args.left c.in_ok-below.below c.in_ok-condition.rest.now c.in_ok-inside.inside.now c.in_ok-below.ensures c.in_ok-inside.ensures) (fails_then _ _ _ (fails_then _ _ _ c.in_err-first.ensures))
+
+pub choice-returns-in_err-second-in-Some : goal.choice-returns-in_err-second-in-Some
+choice-returns-in_err-second-in-Some t c =
+    let p = err_from_is_err_and c.from_residual-in_err-second-in-Some.result c.from_residual-in_err-second-in-Some.ensures.1 in
+    rw (p.1, p.2, choice_is c.args.left c.args.words.now c.args.next.now c.requires, c.in_ok-condition.ensures, branches_is c.args.left c.in_ok-below.below c.in_ok-condition.rest.now c.in_ok-inside.inside.now c.in_ok-below.ensures c.in_ok-inside.ensures, c.in_ok-first.ensures, else_some c.args.left c.in_ok-below.below c.in_ok-first.rest.now c.in-Some.inside.now c.in_ok-below.ensures c.in-Some.ensures) (fails_then _ _ _ (fails_then _ _ _ (fails_then _ _ _ c.in_err-second-in-Some.ensures)))
+
+pub choice-returns-in_ok-new-in-None : goal.choice-returns-in_ok-new-in-None
+choice-returns-in_ok-new-in-None t c =
+    let first = c.in_ok-first.first in
+    let boxed : c.in_ok-new-in-None.field-0.value ≡ first = search rules in
+    rw (tree-If c.in_ok-condition.condition c.in_ok-new-in-None.field-0 first boxed) (choice_is c.args.left c.args.words.now c.args.next.now c.requires ∙ rw (c.in_ok-condition.ensures, branches_is c.args.left c.in_ok-below.below c.in_ok-condition.rest.now c.in_ok-inside.inside.now c.in_ok-below.ensures c.in_ok-inside.ensures, c.in_ok-first.ensures, else_none c.args.left c.in_ok-first.rest.now c.in-None.ensures) refl)
+
+pub choice-returns-in_ok-second-in-Some-2 : goal.choice-returns-in_ok-second-in-Some-2
+choice-returns-in_ok-second-in-Some-2 t c =
+    let first = c.in_ok-first.first in
+    let second = c.in_ok-second-in-Some.second in
+    let boxed : c.in_ok-first-in-Some.first.value ≡ first = search rules in
+    let boxed_second : c.in_ok-second-in-Some-2.second.value ≡ second = search rules in
+    rw (tree-IfElse c.in_ok-condition.condition c.in_ok-first-in-Some.first c.in_ok-second-in-Some-2.second first second boxed boxed_second) (choice_is c.args.left c.args.words.now c.args.next.now c.requires ∙ rw (c.in_ok-condition.ensures, branches_is c.args.left c.in_ok-below.below c.in_ok-condition.rest.now c.in_ok-inside.inside.now c.in_ok-below.ensures c.in_ok-inside.ensures, c.in_ok-first.ensures, else_some c.args.left c.in_ok-below.below c.in_ok-first.rest.now c.in-Some.inside.now c.in_ok-below.ensures c.in-Some.ensures, c.in_ok-second-in-Some.ensures) refl)
+
+pub for_each-returns-in_err-variable_type : goal.for_each-returns-in_err-variable_type
+for_each-returns-in_err-variable_type t c =
+    let p = err_from_is_err_and c.from_residual.result c.from_residual.ensures.1 in
+    rw (p.1, p.2, for_is c.args.left c.args.at c.args.words.now c.args.next.now c.requires) (fails_then _ _ _ (fails_then _ _ _ c.in_err-variable_type.ensures))
+
+pub for_each-returns-in_err-name : goal.for_each-returns-in_err-name
+for_each-returns-in_err-name t c =
+    let p = err_from_is_err_and c.from_residual-in_err-name.result c.from_residual-in_err-name.ensures.1 in
+    rw (p.1, p.2, for_is c.args.left c.args.at c.args.words.now c.args.next.now c.requires, c.in_ok-variable_type.ensures) (fails_then _ _ _ (fails_then _ _ _ (fails_then _ _ _ c.in_err-name.ensures)))
+
+pub for_each-returns-in_err-rest : goal.for_each-returns-in_err-rest
+for_each-returns-in_err-rest t c =
+    let p = err_from_is_err_and c.from_residual-in_err-rest.result c.from_residual-in_err-rest.ensures.1 in
+    rw (p.1, p.2, for_is c.args.left c.args.at c.args.words.now c.args.next.now c.requires, c.in_ok-variable_type.ensures, c.in_ok-name.ensures) (fails_then _ _ _ (fails_then _ _ _ (fails_then _ _ _ (fails_then _ _ _ (fails_then _ _ _ c.in_err-rest.ensures)))))
+
+pub for_each-returns-in_err-list : goal.for_each-returns-in_err-list
+for_each-returns-in_err-list t c =
+    let p = err_from_is_err_and c.from_residual-in_err-list.result c.from_residual-in_err-list.ensures.1 in
+    rw (p.1, p.2, for_is c.args.left c.args.at c.args.words.now c.args.next.now c.requires, c.in_ok-variable_type.ensures, c.in_ok-name.ensures, c.in_ok-rest.ensures) (fails_then _ _ _ (fails_then _ _ _ (fails_then _ _ _ (fails_then _ _ _ (fails_then _ _ _ c.in_err-list.ensures)))))
+
+pub for_each-returns-in_err-inside : goal.for_each-returns-in_err-inside
+for_each-returns-in_err-inside t c =
+    let p = err_from_is_err_and c.from_residual-in_err-inside.result c.from_residual-in_err-inside.ensures.1 in
+    rw (p.1, p.2, for_is c.args.left c.args.at c.args.words.now c.args.next.now c.requires, c.in_ok-variable_type.ensures, c.in_ok-name.ensures, c.in_ok-rest.ensures, c.in_ok-list.ensures) (fails_then _ _ _ (fails_then _ _ _ (fails_then _ _ _ (fails_then _ _ _ (do_fails c.args.left c.in_ok-list.rest.now _ c.in_err-inside.ensures)))))
+
+pub for_each-returns-in_err-below : goal.for_each-returns-in_err-below
+for_each-returns-in_err-below t c =
+    let p = err_from_is_err_and c.from_residual-in_err-below.result c.from_residual-in_err-below.ensures.1 in
+    rw (p.1, p.2, for_is c.args.left c.args.at c.args.words.now c.args.next.now c.requires, c.in_ok-variable_type.ensures, c.in_ok-name.ensures, c.in_ok-rest.ensures, c.in_ok-list.ensures, do_deep c.args.left c.in_ok-list.rest.now c.in_ok-inside.inside.now c.in_err-below.ensures.0 c.in_ok-inside.ensures) (c.in_err-below.ensures.1)
+
+pub for_each-returns-in_err-body : goal.for_each-returns-in_err-body
+for_each-returns-in_err-body t c =
+    let p = err_from_is_err_and c.from_residual-in_err-body.result c.from_residual-in_err-body.ensures.1 in
+    rw (p.1, p.2, for_is c.args.left c.args.at c.args.words.now c.args.next.now c.requires, c.in_ok-variable_type.ensures, c.in_ok-name.ensures, c.in_ok-rest.ensures, c.in_ok-list.ensures, do_is c.args.left c.in_ok-below.below c.in_ok-list.rest.now c.in_ok-inside.inside.now c.in_ok-below.ensures c.in_ok-inside.ensures) (fails_then _ _ _ (fails_then _ _ _ (fails_then _ _ _ (fails_then _ _ _ (fails_then _ _ _ c.in_err-body.ensures)))))
+
+pub for_each-returns : goal.for_each-returns
+for_each-returns t c =
+    let body = c.in_ok-body.body in
+    let boxed : c.in_ok-new.field-0.value ≡ body = search rules in
+    rw (tree-For c.args.at c.in_ok-variable_type.variable_type c.in_ok-name.name c.in_ok-list.list c.in_ok-new.field-0 body boxed) (for_is c.args.left c.args.at c.args.words.now c.args.next.now c.requires ∙ rw (c.in_ok-variable_type.ensures, c.in_ok-name.ensures, c.in_ok-rest.ensures, c.in_ok-list.ensures, do_is c.args.left c.in_ok-below.below c.in_ok-list.rest.now c.in_ok-inside.inside.now c.in_ok-below.ensures c.in_ok-inside.ensures, c.in_ok-body.ensures) refl)
+
+pub selection-returns-in_err-value : goal.selection-returns-in_err-value
+selection-returns-in_err-value t c =
+    let p = err_from_is_err_and c.from_residual.result c.from_residual.ensures.1 in
+    rw (p.1, p.2, case_is c.args.left c.args.at c.args.words.now c.args.next.now c.requires) (fails_then _ _ _ c.in_err-value.ensures)
+
+pub selection-returns-in_err-inside : goal.selection-returns-in_err-inside
+selection-returns-in_err-inside t c =
+    let p = err_from_is_err_and c.from_residual-in_err-inside.result c.from_residual-in_err-inside.ensures.1 in
+    rw (p.1, p.2, case_is c.args.left c.args.at c.args.words.now c.args.next.now c.requires, c.in_ok-value.ensures) (fails_then _ _ _ (brace_fails c.args.left c.in_ok-value.rest.now _ c.in_err-inside.ensures))
+
+pub selection-returns-in_err-below : goal.selection-returns-in_err-below
+selection-returns-in_err-below t c =
+    let p = err_from_is_err_and c.from_residual-in_err-below.result c.from_residual-in_err-below.ensures.1 in
+    rw (p.1, p.2, case_is c.args.left c.args.at c.args.words.now c.args.next.now c.requires, c.in_ok-value.ensures, brace_deep c.args.left c.in_ok-value.rest.now c.in_ok-inside.inside.now c.in_err-below.ensures.0 c.in_ok-inside.ensures) (c.in_err-below.ensures.1)
+
+pub selection-returns-in_err-arms : goal.selection-returns-in_err-arms
+selection-returns-in_err-arms t c =
+    let p = err_from_is_err_and c.from_residual-in_err-arms.result c.from_residual-in_err-arms.ensures.1 in
+    rw (p.1, p.2, case_is c.args.left c.args.at c.args.words.now c.args.next.now c.requires, c.in_ok-value.ensures, braced_is c.args.left c.in_ok-below.below c.in_ok-value.rest.now c.in_ok-inside.inside.now c.in_ok-below.ensures c.in_ok-inside.ensures) (fails_then _ _ _ c.in_err-arms.ensures)
+
+pub selection-returns : goal.selection-returns
+selection-returns t c =
+    rw (tree-Case c.args.at c.in_ok-value.value c.in_ok-arms.arms c.in_ok-arms.otherwise) (case_is c.args.left c.args.at c.args.words.now c.args.next.now c.requires ∙ rw (c.in_ok-value.ensures, braced_is c.args.left c.in_ok-below.below c.in_ok-value.rest.now c.in_ok-inside.inside.now c.in_ok-below.ensures c.in_ok-inside.ensures, c.in_ok-arms.ensures) refl)
+
+pub arms-loop-rest-init : goal.arms-loop-rest-init
+arms-loop-rest-init t c =
+    let none : c.new-found.result.items ≡ [] = search rules in
+    record { behind = rw none tt; reading = rw none refl }
+
+pub arms-returns-in_err-arm : goal.arms-returns-in_err-arm
+arms-returns-in_err-arm t c =
+    let p = err_from_is_err_and c.from_residual.result c.from_residual.ensures.1 in
+    rw (p.1, p.2) (fails_along _ _ _ (c.loop-rest.invariant.reading ∙ arms_next c.args.left (arms_of c.loop-rest.found.items) c.loop-rest.rest.now c.loop-rest.invariant.behind (flip c.is_behind_arms.ensures ∙ c.loop-rest-test.true)) (c.in_err-arm.ensures (with_label (arms_of c.loop-rest.found.items))))
+
+pub arms-loop-rest-smaller : goal.arms-loop-rest-smaller
+arms-loop-rest-smaller t c =
+    omega (arith, c.in_ok-arm.ensures.1)
+
+pub arms-loop-rest-preserved : goal.arms-loop-rest-preserved
+arms-loop-rest-preserved t c =
+    let xs = c.loop-rest.found.items in
+    let a = c.in_ok-arm.arm in
+    let end = c.in_ok-arm.next.now in
+    let pushed : c.push.new.self.items ≡ xs ++ a ∷ [] = search rules in
+    record {
+      behind = rw pushed (still_behind xs a end c.in_ok-arm.ensures.0);
+      reading = rw pushed (c.loop-rest.invariant.reading ∙ arms_next c.args.left (arms_of xs) c.loop-rest.rest.now c.loop-rest.invariant.behind (flip c.is_behind_arms.ensures ∙ c.loop-rest-test.true) ∙ c.in_ok-arm.ensures.2 (with_label (arms_of xs)) ∙ flip (one_more_arm c.args.left xs a end));
+    }
+
+pub arms-returns-in_err-otherwise : goal.arms-returns-in_err-otherwise
+arms-returns-in_err-otherwise t c =
+    let p = err_from_is_err_and c.from_residual-in_err-otherwise.result c.from_residual-in_err-otherwise.ensures.1 in
+    rw (p.1, p.2) (fails_along _ _ _ (c.loop-rest.invariant.reading ∙ arms_finish c.args.left (arms_of c.loop-rest.found.items) c.loop-rest.rest.now (flip c.is_behind_arms.ensures ∙ c.loop-rest-test.false)) (c.in_err-otherwise.ensures (arms_row (arms_of c.loop-rest.found.items))))
+
+pub arms-returns : goal.arms-returns
+arms-returns t c =
+    c.loop-rest.invariant.reading ∙ arms_finish c.args.left (arms_of c.loop-rest.found.items) c.loop-rest.rest.now (flip c.is_behind_arms.ensures ∙ c.loop-rest-test.false) ∙ c.in_ok-otherwise.ensures (arms_row (arms_of c.loop-rest.found.items))
+
+pub arm-returns-in_err-labels : goal.arm-returns-in_err-labels
+arm-returns-in_err-labels t c =
+    let p = err_from_is_err_and c.from_residual.result c.from_residual.ensures.1 in
+    rw (p.1, p.2) (λ row_with. labelled_fails c.args.left row_with c.args.words.now _ c.in_err-labels.ensures)
+
+pub arm-loop-alloc-init : goal.arm-loop-alloc-init
+arm-loop-alloc-init t c =
+    let none : c.new-body.result.items ≡ [] = search rules in
+    record {
+      shorter = label_shorter c.args.left c.args.words.now _ c.in_ok-labels.rest.now c.in_ok-labels.ensures;
+      reading = λ row_with. rw none (labelled_got c.args.left row_with c.args.words.now _ c.in_ok-labels.rest.now c.in_ok-labels.ensures);
+    }
+
+pub arm-returns-in_err-stmt : goal.arm-returns-in_err-stmt
+arm-returns-in_err-stmt t c =
+    let p = err_from_is_err_and c.from_residual-in_err-stmt.result c.from_residual-in_err-stmt.ensures.1 in
+    rw (p.1, p.2) (λ row_with. arm_fails c.args.left (labelled_at c.args.left row_with c.args.words.now) _ c.loop-alloc.rest.now _ (c.loop-alloc.invariant.reading row_with) (flip c.is_behind_arm.ensures ∙ c.loop-alloc-test.true) c.in_err-stmt.ensures)
+
+pub arm-loop-alloc-smaller : goal.arm-loop-alloc-smaller
+arm-loop-alloc-smaller t c =
+    omega (arith, stmt_shorter c.args.left c.loop-alloc.rest.now _ c.in_ok-stmt.next.now c.in_ok-stmt.ensures)
+
+pub arm-loop-alloc-preserved : goal.arm-loop-alloc-preserved
+arm-loop-alloc-preserved t c =
+    let ss = c.loop-alloc.body.items in
+    let s = c.in_ok-stmt.stmt in
+    let end = c.in_ok-stmt.next.now in
+    let pushed : c.push.new.self.items ≡ ss ++ s ∷ [] = search rules in
+    record {
+      shorter = omega (arith, c.loop-alloc.invariant.shorter, stmt_shorter c.args.left c.loop-alloc.rest.now _ end c.in_ok-stmt.ensures);
+      reading = λ row_with. rw pushed (arm_more c.args.left (labelled_at c.args.left row_with c.args.words.now) (row_with (label_tree c.in_ok-labels.labels.items)) ss s c.loop-alloc.rest.now end (c.loop-alloc.invariant.reading row_with) (flip c.is_behind_arm.ensures ∙ c.loop-alloc-test.true) c.in_ok-stmt.ensures);
+    }
+
+pub arm-returns : goal.arm-returns
+arm-returns t c =
+    ((flip c.is_behind_arm.ensures ∙ c.loop-alloc-test.false), c.loop-alloc.invariant.shorter, c.loop-alloc.invariant.reading)
+
+pub otherwise-returns-in_err-statements-in-Some : goal.otherwise-returns-in_err-statements-in-Some
+otherwise-returns-in_err-statements-in-Some t c =
+    let p = err_from_is_err_and c.from_residual.result c.from_residual.ensures.1 in
+    rw (p.1, p.2) (λ row. end_else_fails c.args.left row c.args.words.now c.in-Some.inside.now _ c.in-Some.ensures c.in_err-statements-in-Some.ensures)
+
+pub otherwise-returns-in_ok-statements-in-Some : goal.otherwise-returns-in_ok-statements-in-Some
+otherwise-returns-in_ok-statements-in-Some t c =
+    λ row. end_else_got c.args.left row c.args.words.now c.in-Some.inside.now _ _ c.in_ok-statements-in-Some.rest.now c.in-Some.ensures c.in_ok-statements-in-Some.ensures
+
+pub otherwise-returns-in_err-rest-in-None : goal.otherwise-returns-in_err-rest-in-None
+otherwise-returns-in_err-rest-in-None t c =
+    let p = err_from_is_err_and c.from_residual-in_err-rest-in-None.result c.from_residual-in_err-rest-in-None.ensures.1 in
+    rw (p.1, p.2) (λ row. end_brace_fails c.args.left row c.args.words.now _ c.in-None.ensures c.in_err-rest-in-None.ensures)
+
+pub otherwise-returns-in_ok-rest-in-None : goal.otherwise-returns-in_ok-rest-in-None
+otherwise-returns-in_ok-rest-in-None t c =
+    λ row. end_brace_got c.args.left row c.args.words.now c.in_ok-rest-in-None.rest.now c.in-None.ensures c.in_ok-rest-in-None.ensures

@@ -1,0 +1,51 @@
+-- Reading each form of an item, where k more levels may be opened.
+use Rattle.std.specs.Prelude.{ℕ}
+use Rattle.grammar.specs.Grammar.{Tree, starts}
+use Rattle.grammar.specs.Reading.{Reader, all_turns, read}
+use Rattle.filt_syntax.specs.Syntax.{optional, many, part, pair_part, lengths, item, mask_atom, mask_item, label_end, label, set_level, pair_level, lengths_level, rule}
+
+unfoldable pub part_at : ℕ → Reader
+part_at k = read rule k part
+
+unfoldable pub pair_part_at : ℕ → Reader
+pair_part_at k = read rule k pair_part
+
+-- inside "(" and ")" of an item
+unfoldable pub pair_at : ℕ → Reader
+pair_at k = read rule k (rule pair_level)
+
+-- inside "{" and "}" behind a prefix
+unfoldable pub bounds_at : ℕ → Reader
+bounds_at k = read rule k (rule lengths_level)
+
+-- the lengths behind a prefix, or nothing
+unfoldable pub lengths_at : ℕ → Reader
+lengths_at k = read rule k (optional lengths)
+
+unfoldable pub item_at : ℕ → Reader
+item_at k = read rule k item
+
+-- inside "[" and "]"
+unfoldable pub items_at : ℕ → Reader
+items_at k = read rule k (rule set_level)
+
+unfoldable pub mask_atom_at : ℕ → Reader
+mask_atom_at k = read rule k mask_atom
+
+unfoldable pub mask_item_at : ℕ → Reader
+mask_item_at k = read rule k mask_item
+
+-- between "[=" and "=]"
+unfoldable pub mask_items_at : ℕ → Reader
+mask_items_at k = read rule k (many mask_item)
+
+-- the items of a label behind its first, and its colon
+unfoldable pub label_end_at : ℕ → Reader
+label_end_at k = read rule k label_end
+
+unfoldable pub label_at : ℕ → Reader
+label_at k = read rule k label
+
+-- elements of a mask after a tree
+unfoldable pub mask_row_at : Tree → Reader
+mask_row_at = all_turns (starts mask_item) (mask_item_at 0)

@@ -1,0 +1,9 @@
+pub mod Syntax
+pub mod ItemView
+pub mod ItemReaders
+pub mod View
+pub mod Readers
+pub mod Parse
+pub mod Tokens
+pub mod StatementView
+pub mod StatementReaders

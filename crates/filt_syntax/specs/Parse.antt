@@ -1,0 +1,29 @@
+-- What stands at a place of the words, within 64 levels, or which word can't stand there.
+use Rattle.std.specs.Prelude.{◌≡◌, ℕ, ◌≤◌, ◌⊎◌, List, length, drop, Result, Ok, Err}
+use Rattle.conf_lex.specs.declared.word.Word.{Word}
+use Rattle.grammar.specs.Grammar.{Form, Tree}
+use Rattle.grammar.specs.Sentences.{IsRead, IsBad, IsTooDeep, IsUnsupported}
+use Rattle.filt_syntax.specs.declared.parse.SyntaxFault.{SyntaxFault}
+use Rattle.filt_syntax.specs.declared.parse.SyntaxFault.TheVariants as faults
+use Rattle.filt_syntax.specs.Syntax.{rule}
+
+-- the longest sentence of the form from one place on has this tree, and ends before the other place
+abbrev pub Stands : Form → List Word → ℕ → Tree → ℕ → Type 0
+Stands f words from t end = (end ≤ length words) × IsRead rule 64 f (drop from words) t (drop end words)
+
+abbrev pub IsRefused : Form → List Word → ℕ → SyntaxFault → Type 0
+IsRefused f words from (faults.Bad at) = (at ≤ length words) × IsBad rule 64 f (drop from words) (drop at words)
+IsRefused f words from (faults.TooDeep at) = (at ≤ length words) × IsTooDeep rule 64 f (drop from words) (drop at words)
+IsRefused f words from (faults.Unsupported at) = (at ≤ length words) × IsUnsupported rule 64 f (drop from words) (drop at words)
+IsRefused f words from faults.Memory = Unit {0}
+
+-- the answer is this tree and this place, unless memory ran out
+abbrev pub IsAnswer : {X : Type 0} → (X → Tree) → Result (X × ℕ) SyntaxFault → Tree → ℕ → Type 0
+IsAnswer view (Ok found) t end = (view found.0 ≡ t) × (found.1 ≡ end)
+IsAnswer view (Err e) t end = e ≡ faults.Memory
+
+-- the answer is this fault, unless memory ran out
+abbrev pub IsFault : {X : Type 0} → Result (X × ℕ) SyntaxFault → SyntaxFault → Type 0
+IsFault r faults.Memory = Unit {0}
+IsFault (Ok found) e = ⊥
+IsFault (Err d) e = (d ≡ faults.Memory) ⊎ (d ≡ e)

@@ -1,0 +1,131 @@
+-- Reading each form of a statement, where k more levels may be opened.
+use Rattle.std.specs.Prelude.{◌≡◌, ℕ, Bool, true, false, ◌||◌, ◌<◌, List, [], ◌∷◌, length, map, Option, Result, Ok, Err, Vec}
+use Rattle.std.specs.Global.{Global}
+use Rattle.std.specs.Borrow.{Bor}
+use Rattle.conf_lex.specs.declared.symbol.Symbol.TheVariants as sym
+use Rattle.conf_lex.specs.declared.word.Word.{Word}
+use Rattle.conf_lex.specs.declared.word.Word.TheVariants as words
+use Rattle.grammar.specs.declared.named.Name.{Name}
+use Rattle.grammar.specs.Kind.{Kind, kind_of, number, prefix, symbol}
+use Rattle.grammar.specs.Grammar.{Form, One, Seq, Either, Nest, Tree, Leaf, Both, First, Second, Inside, starts, begins}
+use Rattle.grammar.specs.Shapes.{name_leaf, between}
+use Rattle.grammar.specs.Gives.{Fails, Gives}
+use Rattle.grammar.specs.declared.refusal.Refusal.{Refusal}
+use Rattle.filt_syntax.specs.declared.tree.Arm.{Arm}
+use Rattle.filt_syntax.specs.declared.tree.Stmt.{Stmt}
+use Rattle.filt_syntax.specs.ItemView.{label_tree}
+use Rattle.filt_syntax.specs.StatementView.{nth, stmt_tree, body_after, otherwise_tree, otherwise_of}
+use Rattle.grammar.specs.Reading.{Reader, Got, and_then, word, both, all_turns, read}
+use Rattle.filt_syntax.specs.Syntax.{optional, listed, many, expr, block, vtype, method, semicolon, declaration, stmt, unnamed_stmt, done_to_name, arm_part, arms, body_level, rule}
+use Rattle.filt_syntax.specs.Readers.{expr_at}
+use Rattle.filt_syntax.specs.ItemReaders.{label_at}
+
+unfoldable pub stmt_at : ℕ → Reader
+stmt_at k = read rule k stmt
+
+unfoldable pub unnamed_at : ℕ → Reader
+unnamed_at k = read rule k unnamed_stmt
+
+-- what stands behind the name that begins a statement
+unfoldable pub done_at : ℕ → Reader
+done_at k = read rule k done_to_name
+
+-- a statement that this name begins, by the words after it
+unfoldable pub of_name_at : ℕ → Name → Reader
+of_name_at k n ws = and_then (done_at k ws) (λ d rest. Got (First (Both (name_leaf n) d)) rest)
+
+unfoldable pub vtype_at : ℕ → Reader
+vtype_at k = read rule k vtype
+
+-- "set", or nothing
+unfoldable pub set_at : ℕ → Reader
+set_at k = read rule k (optional (One (symbol sym.Set)))
+
+-- what stands behind the dot of a statement
+unfoldable pub change_at : ℕ → Reader
+change_at k = read rule k (Seq (Either (One (symbol sym.Empty)) method) semicolon)
+
+-- a declaration, as a statement
+unfoldable pub declaration_at : ℕ → Reader
+declaration_at k ws = and_then (read rule k declaration ws) (λ t rest. Got (Second (nth 2 t)) rest)
+
+-- "=" and an expression, or nothing
+unfoldable pub initial_at : ℕ → Reader
+initial_at k = read rule k (optional (Seq (One (symbol sym.Equal)) expr))
+
+-- an expression, or nothing
+unfoldable pub result_at : ℕ → Reader
+result_at k = read rule k (optional expr)
+
+unfoldable pub exprs_at : ℕ → Reader
+exprs_at k = read rule k (listed expr)
+
+unfoldable pub block_at : ℕ → Reader
+block_at k = read rule k block
+
+-- any number of statements
+unfoldable pub stmts_at : ℕ → Reader
+stmts_at k = read rule k (many stmt)
+
+-- statements after a tree
+unfoldable pub row_at : ℕ → Tree → Reader
+row_at k = all_turns (starts stmt) (stmt_at k)
+
+unfoldable pub else_at : ℕ → Reader
+else_at k = read rule k (optional (Nest (symbol sym.Else) body_level))
+
+-- ---- the arms of a `case`
+
+unfoldable pub arm_part_at : ℕ → Reader
+arm_part_at k = read rule k arm_part
+
+unfoldable pub arms_at : ℕ → Reader
+arms_at k = read rule k arms
+
+unfoldable pub arm_row_at : ℕ → Tree → Reader
+arm_row_at k = all_turns (starts arm_part) (arm_part_at k)
+
+unfoldable pub otherwise_at : ℕ → Reader
+otherwise_at k = read rule k (optional (Seq (One (symbol sym.ElseColon)) (many stmt)))
+
+-- behind the arms: the statements of "else:", and the closing brace
+unfoldable pub arms_end_at : ℕ → Tree → Reader
+arms_end_at k row ws = and_then (otherwise_at k ws) (λ o rest. and_then (word (symbol sym.CloseBrace) rest) (λ c end. Got (Both (Inside (words.Symbol sym.OpenBrace) (Both row o)) c) end))
+
+-- behind some of the arms: the rest of them and what follows them
+unfoldable pub more_arms_at : ℕ → Tree → Reader
+more_arms_at k t ws = and_then (arm_row_at k t ws) (λ row rest. arms_end_at k (First row) rest)
+
+-- the same, where a label comes next: what it makes of the row so far
+unfoldable pub labelled_at : ℕ → (Tree → Tree) → Reader
+labelled_at k row_with ws = and_then (label_at k ws) (λ l rest. more_arms_at k (row_with l) rest)
+
+-- what goes on with a name as a label
+abbrev pub is_behind_name : Kind → Bool
+is_behind_name k = symbol sym.Comma k || (symbol sym.Colon k || symbol sym.Range k)
+
+-- what begins an item that no name begins
+abbrev pub is_item : Kind → Bool
+is_item k = number k || (symbol sym.OpenParenthesis k || prefix k)
+
+-- whether a label comes next: a NAME begins one where no statement goes on behind it
+abbrev pub label_next : List Word → Bool
+label_next (words.Name at start len ∷ w ∷ ws) = is_behind_name (kind_of w)
+label_next ws = begins is_item ws
+
+-- whether the arms end here
+abbrev pub arms_over : List Word → Bool
+arms_over ws = begins (λ k. symbol sym.ElseColon k || symbol sym.CloseBrace k) ws
+
+-- whether an arm ends here
+abbrev pub arm_ends : List Word → Bool
+arm_ends ws = label_next ws || arms_over ws
+
+-- an arm was read, which has a word, and behind whatever arms
+abbrev pub ArmGives : Result (Arm Stmt × Bor (List Word)) Refusal → ℕ → List Word → Type 0
+ArmGives (Ok found) k ws = (arm_ends found.1.now ≡ true) × (length found.1.now < length ws) × ((row_with : Tree → Tree) → labelled_at k row_with ws ≡ more_arms_at k (body_after (row_with (label_tree found.0.labels.items)) (map stmt_tree found.0.body.items)) found.1.now)
+ArmGives (Err e) k ws = (row_with : Tree → Tree) → Fails e (labelled_at k row_with ws)
+
+-- what stands behind the arms was read, behind whatever arms
+abbrev pub OtherwiseGives : Result (Option (Vec Stmt Global) × Bor (List Word)) Refusal → ℕ → List Word → Type 0
+OtherwiseGives result k ws = (row : Tree) → Gives (λ o. between (words.Symbol sym.OpenBrace) (Both row (otherwise_tree (otherwise_of o))) sym.CloseBrace) result (arms_end_at k row ws)

@@ -1,0 +1,47 @@
+-- What stands at a token of a text, or at which token it is refused.
+use Rattle.std.specs.Prelude.{◌≡◌, ℕ, List, length, map, drop, slice_index_or}
+use Rattle.conf_lex.specs.Words.{words_from}
+use Rattle.conf_lex.specs.declared.token.Token.{Token}
+use Rattle.conf_lex.specs.declared.word.Word.{Word}
+use Rattle.grammar.specs.Grammar.{Form, Tree}
+use Rattle.filt_syntax.specs.declared.parse.SyntaxFault.{SyntaxFault}
+use Rattle.filt_syntax.specs.declared.parse.SyntaxFault.TheVariants as faults
+use Rattle.filt_syntax.specs.Parse.{Stands, IsRefused}
+
+-- the words of a text from a token on
+abbrev pub words_behind : List ℕ → List Token → ℕ → List Word
+words_behind text tokens from = map (λ word. word.1) (words_from text from 0 (drop from tokens))
+
+-- the place of the first token of each of them
+abbrev pub starts_behind : List ℕ → List Token → ℕ → List ℕ
+starts_behind text tokens from = map (λ word. word.0) (words_from text from 0 (drop from tokens))
+
+-- the place of the token with which the word in this place begins; behind the last word the end of the tokens
+abbrev pub token_place : List ℕ → List Token → ℕ → ℕ → ℕ
+token_place text tokens from place = slice_index_or (starts_behind text tokens from) place (length tokens)
+
+-- The longest sentence of the form from one token on has this tree, and ends before the other token.
+pub record StandsIn (f : Form) (text : List ℕ) (tokens : List Token) (from : ℕ) (t : Tree) (end : ℕ) : Type 0 where
+  pub place : ℕ
+  pub stands : Stands f (words_behind text tokens from) 0 t place
+  pub ends : end ≡ token_place text tokens from place
+
+-- the same refusal, at this place
+abbrev pub moved : ℕ → SyntaxFault → SyntaxFault
+moved place (faults.Bad at) = faults.Bad place
+moved place (faults.TooDeep at) = faults.TooDeep place
+moved place (faults.Unsupported at) = faults.Unsupported place
+moved place faults.Memory = faults.Memory
+
+-- the place of a refusal
+abbrev pub place_of : SyntaxFault → ℕ
+place_of (faults.Bad at) = at
+place_of (faults.TooDeep at) = at
+place_of (faults.Unsupported at) = at
+place_of faults.Memory = 0
+
+-- The words are refused so, at the word that begins with the token of this refusal.
+pub record IsRefusedIn (f : Form) (text : List ℕ) (tokens : List Token) (from : ℕ) (e : SyntaxFault) : Type 0 where
+  pub word_fault : SyntaxFault
+  pub refused : IsRefused f (words_behind text tokens from) 0 word_fault
+  pub is : e ≡ moved (token_place text tokens from (place_of word_fault)) word_fault

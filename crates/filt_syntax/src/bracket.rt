@@ -1,0 +1,99 @@
+// Operands in brackets that hold no expression.
+
+ghost use Rattle.std.specs.Prelude.{◌≡◌, ◌∷◌, ◌+◌, ◌≤◌, ℕ, IfOk, MatchResult};
+ghost use Rattle.conf_lex.specs.declared.symbol.Symbol.TheVariants as sym;
+ghost use Rattle.conf_lex.specs.declared.word.Word.{Word};
+ghost use Rattle.grammar.specs.Grammar.{Leaf};
+ghost use Rattle.grammar.specs.Gives.{Fails, Gives};
+ghost use Rattle.filt_syntax.specs.Syntax.{attribute_level};
+ghost use Rattle.filt_syntax.specs.View.{sight, attribute_word, in_parentheses};
+ghost use Rattle.filt_syntax.specs.Readers.{prim_at, level_at, opened_at};
+
+use crate::items::{items, mask_items};
+use crate::operators::next_attribute;
+use crate::tree::{Attribute, Expr};
+use conf_lex::{Symbol, Word};
+use grammar::{Refusal, after, expect, level_below};
+use std::alloc::Global;
+
+/// How many levels are left behind the parenthesis that has to come next, and the words after it.
+pub fn open(words: &[Word], left: u32) -> Result<(u32, &[Word]), Refusal>
+    ensures { MatchResult result
+        (λ found. (words.now ≡ Word.Symbol sym.OpenParenthesis ∷ found.1.now) × (found.0 + 1 ≡ left))
+        (λ e. (n : ℕ) → Fails e (opened_at n left words.now)) }
+{
+    match after(words, Symbol::OpenParenthesis) {
+        Some(inside) => {
+            let below = level_below(words, left)?;
+            Ok((below, inside))
+        }
+        None => Err(Refusal::Bad(words)),
+    }
+}
+
+/// A set, behind its opening bracket.
+pub fn set<'a>(
+    alloc: Global,
+    words: &'a [Word],
+    at: usize,
+    inside: &'a [Word],
+    left: u32,
+) -> Result<(Expr, &'a [Word]), Refusal<'a>>
+    requires { words.now ≡ Word.Placed at sym.OpenBracket ∷ inside.now }
+    ensures tree { Gives (λ e. (sight e).prim) result (prim_at left words.now) }
+    ensures rank { IfOk result (λ found. (sight found.0).rank ≤ 0) }
+{
+    let below = level_below(words, left)?;
+    let (items, end) = items(alloc, inside, below)?;
+    let rest = expect(end, Symbol::CloseBracket)?;
+    Ok((Expr::Set { at, items }, rest))
+}
+
+/// A mask, behind its opening bracket.
+pub fn mask<'a>(
+    alloc: Global,
+    words: &'a [Word],
+    at: usize,
+    inside: &'a [Word],
+    left: u32,
+) -> Result<(Expr, &'a [Word]), Refusal<'a>>
+    requires { words.now ≡ Word.Placed at sym.OpenMask ∷ inside.now }
+    ensures tree { Gives (λ e. (sight e).prim) result (prim_at left words.now) }
+    ensures rank { IfOk result (λ found. (sight found.0).rank ≤ 0) }
+{
+    let (items, end) = mask_items(alloc, inside)?;
+    let rest = expect(end, Symbol::CloseMask)?;
+    Ok((Expr::Mask { at, items }, rest))
+}
+
+/// Whether an attribute is there, behind the word `defined`.
+pub fn defined<'a>(
+    words: &'a [Word],
+    at: usize,
+    next: &'a [Word],
+    left: u32,
+) -> Result<(Expr, &'a [Word]), Refusal<'a>>
+    requires { words.now ≡ Word.Placed at sym.Defined ∷ next.now }
+    ensures tree { Gives (λ e. (sight e).prim) result (prim_at left words.now) }
+    ensures rank { IfOk result (λ found. (sight found.0).rank ≤ 0) }
+{
+    let ((attribute_at, attribute), rest) = of_attribute(next, left)?;
+    let defined = Expr::Defined {
+        at,
+        attribute_at,
+        attribute,
+    };
+    Ok((defined, rest))
+}
+
+/// An attribute in parentheses, and its place.
+pub fn of_attribute(words: &[Word], left: u32) -> Result<((usize, Attribute), &[Word]), Refusal>
+    ensures { Gives (λ found. in_parentheses (Leaf (attribute_word found.0 found.1))) result (level_at attribute_level left words.now) }
+{
+    let (_, inside) = open(words, left)?;
+    let Some((found, end)) = next_attribute(inside) else {
+        return Err(Refusal::Bad(inside));
+    };
+    let rest = expect(end, Symbol::CloseParenthesis)?;
+    Ok((found, rest))
+}

@@ -1,0 +1,308 @@
+// Expressions. Each function answers a tree and the words after it; `left` is how many more levels may be opened.
+
+ghost use Rattle.std.specs.Prelude.{◌≡◌, ◌∷◌, ◌≤◌, ℕ, IfOk};
+ghost use Rattle.conf_lex.specs.declared.symbol.Symbol.TheVariants as sym;
+ghost use Rattle.conf_lex.specs.declared.word.Word.{Word};
+ghost use Rattle.grammar.specs.Gives.{Gives};
+ghost use Rattle.filt_syntax.specs.Syntax.{arguments_level};
+ghost use Rattle.filt_syntax.specs.View.{sight, access_of, method_tree, method_word, in_parentheses, arguments_tree, expr_trees};
+ghost use Rattle.filt_syntax.specs.Readers.{expr_at, cmp_at, sum_at, prod_at, unary_at, post_at, prim_at, behind_dot_at, method_at, named_at, level_at};
+
+use crate::bracket::{defined, mask, open, set};
+use crate::operators::{
+    next_compare, next_factor, next_joint, next_method, next_name, next_property, next_simple,
+    next_term,
+};
+use crate::tree::{Access, Expr, Method};
+use conf_lex::{Symbol, Word};
+use grammar::{Name, Refusal, after, after_placed, expect, level_below};
+use std::alloc::Global;
+
+/// The longest expression.
+#[cycle(expression)]
+pub fn expression<'a>(
+    alloc: Global,
+    words: &'a [Word],
+    left: u32,
+) -> Result<(Expr, &'a [Word]), Refusal<'a>>
+    ensures { Gives (λ e. (sight e).expr) result (expr_at left words.now) }
+{
+    let (first, mut rest) = comparison(alloc, words, left)?;
+    let mut more = Vec::new(alloc);
+    while let Some((joint, next)) = next_joint(rest) {
+        let (operand, end) = comparison(alloc, next, left)?;
+        more.push((joint, operand))?;
+        rest = end;
+    }
+    if more.is_empty() {
+        return Ok((first, rest));
+    }
+    Ok((Expr::Joint(Box::new(alloc, first)?, more), rest))
+}
+
+#[cycle(expression)]
+fn comparison<'a>(
+    alloc: Global,
+    words: &'a [Word],
+    left: u32,
+) -> Result<(Expr, &'a [Word]), Refusal<'a>>
+    ensures tree { Gives (λ e. (sight e).cmp) result (cmp_at left words.now) }
+    ensures rank { IfOk result (λ found. (sight found.0).rank ≤ 5) }
+{
+    let (value, rest) = sum(alloc, words, left)?;
+    match next_compare(rest) {
+        Some((compare, rest)) => {
+            let (operand, rest) = sum(alloc, rest, left)?;
+            let both = Expr::Compare(compare, Box::new(alloc, value)?, Box::new(alloc, operand)?);
+            Ok((both, rest))
+        }
+        None => Ok((value, rest)),
+    }
+}
+
+#[cycle(expression)]
+fn sum<'a>(alloc: Global, words: &'a [Word], left: u32) -> Result<(Expr, &'a [Word]), Refusal<'a>>
+    ensures tree { Gives (λ e. (sight e).sum) result (sum_at left words.now) }
+    ensures rank { IfOk result (λ found. (sight found.0).rank ≤ 4) }
+{
+    let (first, mut rest) = product(alloc, words, left)?;
+    let mut more = Vec::new(alloc);
+    while let Some((term, next)) = next_term(rest) {
+        let (operand, end) = product(alloc, next, left)?;
+        more.push((term, operand))?;
+        rest = end;
+    }
+    if more.is_empty() {
+        return Ok((first, rest));
+    }
+    Ok((Expr::Sum(Box::new(alloc, first)?, more), rest))
+}
+
+#[cycle(expression)]
+fn product<'a>(
+    alloc: Global,
+    words: &'a [Word],
+    left: u32,
+) -> Result<(Expr, &'a [Word]), Refusal<'a>>
+    ensures tree { Gives (λ e. (sight e).prod) result (prod_at left words.now) }
+    ensures rank { IfOk result (λ found. (sight found.0).rank ≤ 3) }
+{
+    let (first, mut rest) = operand(alloc, words, left)?;
+    let mut more = Vec::new(alloc);
+    while let Some((factor, next)) = next_factor(rest) {
+        let (second, end) = operand(alloc, next, left)?;
+        more.push((factor, second))?;
+        rest = end;
+    }
+    if more.is_empty() {
+        return Ok((first, rest));
+    }
+    Ok((Expr::Product(Box::new(alloc, first)?, more), rest))
+}
+
+#[cycle(expression)]
+fn operand<'a>(
+    alloc: Global,
+    words: &'a [Word],
+    left: u32,
+) -> Result<(Expr, &'a [Word]), Refusal<'a>>
+    ensures tree { Gives (λ e. (sight e).unary) result (unary_at left words.now) }
+    ensures rank { IfOk result (λ found. (sight found.0).rank ≤ 2) }
+{
+    match after_placed(words, Symbol::Not) {
+        Some((at, inside)) => {
+            let below = level_below(words, left)?;
+            let (inner, rest) = operand(alloc, inside, below)?;
+            let operand = Box::new(alloc, inner)?;
+            Ok((Expr::Not { at, operand }, rest))
+        }
+        None => accessed(alloc, words, left),
+    }
+}
+
+// An operand, and what stands behind its dots.
+#[cycle(expression)]
+fn accessed<'a>(
+    alloc: Global,
+    words: &'a [Word],
+    left: u32,
+) -> Result<(Expr, &'a [Word]), Refusal<'a>>
+    ensures tree { Gives (λ e. (sight e).post) result (post_at left words.now) }
+    ensures rank { IfOk result (λ found. (sight found.0).rank ≤ 1) }
+{
+    let (first, mut rest) = primary(alloc, words, left)?;
+    let mut more = Vec::new(alloc);
+    while let Some(next) = after(rest, Symbol::Dot) {
+        let (accessed, end) = access(alloc, next, left)?;
+        more.push(accessed)?;
+        rest = end;
+    }
+    if more.is_empty() {
+        return Ok((first, rest));
+    }
+    Ok((Expr::Access(Box::new(alloc, first)?, more), rest))
+}
+
+// What stands behind a dot.
+#[cycle(expression)]
+fn access<'a>(
+    alloc: Global,
+    words: &'a [Word],
+    left: u32,
+) -> Result<(Access<Expr>, &'a [Word]), Refusal<'a>>
+    ensures { Gives (λ a. (access_of a).1) result (behind_dot_at left words.now) }
+{
+    match next_property(words) {
+        Some((property, rest)) => Ok((Access::Property(property), rest)),
+        None => {
+            let ((method, argument), rest) = method(alloc, words, left)?;
+            Ok((Access::Method(method, argument), rest))
+        }
+    }
+}
+
+/// A method and its argument.
+#[cycle(expression)]
+pub fn method<'a>(
+    alloc: Global,
+    words: &'a [Word],
+    left: u32,
+) -> Result<((Method, Expr), &'a [Word]), Refusal<'a>>
+    ensures { Gives (λ found. method_tree found.0 (sight found.1).expr) result (method_at left words.now) }
+{
+    let Some((method, next)) = next_method(words) else {
+        return Err(Refusal::Bad(words));
+    };
+    let (below, inside) = open(next, left)?;
+    let (argument, end) = expression(alloc, inside, below)?;
+    let rest = expect(end, Symbol::CloseParenthesis)?;
+    Ok(((method, argument), rest))
+}
+
+#[cycle(expression)]
+fn primary<'a>(
+    alloc: Global,
+    words: &'a [Word],
+    left: u32,
+) -> Result<(Expr, &'a [Word]), Refusal<'a>>
+    ensures tree { Gives (λ e. (sight e).prim) result (prim_at left words.now) }
+    ensures rank { IfOk result (λ found. (sight found.0).rank ≤ 0) }
+{
+    if let Some((simple, rest)) = next_simple(words) {
+        return Ok((Expr::Simple(simple), rest));
+    }
+    if let Some((name, rest)) = next_name(words) {
+        return call(alloc, name, rest, left);
+    }
+    if let Some(inside) = after(words, Symbol::OpenParenthesis) {
+        return group(alloc, words, inside, left);
+    }
+    if let Some((at, inside)) = after_placed(words, Symbol::OpenBracket) {
+        return set(alloc, words, at, inside, left);
+    }
+    if let Some((at, inside)) = after_placed(words, Symbol::OpenMask) {
+        return mask(alloc, words, at, inside, left);
+    }
+    if let Some((at, next)) = after_placed(words, Symbol::Defined) {
+        return defined(words, at, next, left);
+    }
+    match next_method(words) {
+        Some((method, next)) => method_call(alloc, words, method, next, left),
+        None => Err(Refusal::Bad(words)),
+    }
+}
+
+// An expression in brackets, or a pair, behind its opening bracket.
+#[cycle(expression)]
+fn group<'a>(
+    alloc: Global,
+    words: &'a [Word],
+    inside: &'a [Word],
+    left: u32,
+) -> Result<(Expr, &'a [Word]), Refusal<'a>>
+    requires { words.now ≡ Word.Symbol sym.OpenParenthesis ∷ inside.now }
+    ensures tree { Gives (λ e. (sight e).prim) result (prim_at left words.now) }
+    ensures rank { IfOk result (λ found. (sight found.0).rank ≤ 0) }
+{
+    let below = level_below(words, left)?;
+    let (first, end) = expression(alloc, inside, below)?;
+    match after(end, Symbol::Comma) {
+        None => {
+            let rest = expect(end, Symbol::CloseParenthesis)?;
+            Ok((Expr::Group(Box::new(alloc, first)?), rest))
+        }
+        Some(next) => {
+            let (second, end) = expression(alloc, next, below)?;
+            let rest = expect(end, Symbol::CloseParenthesis)?;
+            let pair = Expr::Pair(Box::new(alloc, first)?, Box::new(alloc, second)?);
+            Ok((pair, rest))
+        }
+    }
+}
+
+// A method with its list and its argument, behind the method's word.
+#[cycle(expression)]
+fn method_call<'a>(
+    alloc: Global,
+    words: &'a [Word],
+    method: Method,
+    next: &'a [Word],
+    left: u32,
+) -> Result<(Expr, &'a [Word]), Refusal<'a>>
+    requires { words.now ≡ method_word method ∷ next.now }
+    ensures tree { Gives (λ e. (sight e).prim) result (prim_at left words.now) }
+    ensures rank { IfOk result (λ found. (sight found.0).rank ≤ 0) }
+{
+    let (below, inside) = open(next, left)?;
+    let (list, end) = expression(alloc, inside, below)?;
+    let second = expect(end, Symbol::Comma)?;
+    let (argument, end) = expression(alloc, second, below)?;
+    let rest = expect(end, Symbol::CloseParenthesis)?;
+    let call = Expr::MethodCall(method, Box::new(alloc, list)?, Box::new(alloc, argument)?);
+    Ok((call, rest))
+}
+
+// A name, or a call of it, by the words after it.
+#[cycle(expression)]
+fn call<'a>(
+    alloc: Global,
+    name: Name,
+    words: &'a [Word],
+    left: u32,
+) -> Result<(Expr, &'a [Word]), Refusal<'a>>
+    ensures tree { Gives (λ e. (sight e).prim) result (named_at left name words.now) }
+    ensures rank { IfOk result (λ found. (sight found.0).rank ≤ 0) }
+{
+    match after(words, Symbol::OpenParenthesis) {
+        None => Ok((Expr::Name(name), words)),
+        Some(_) => {
+            let (arguments, rest) = arguments(alloc, words, left)?;
+            Ok((Expr::Call(name, arguments), rest))
+        }
+    }
+}
+
+/// The arguments of a call, in their parentheses.
+#[cycle(expression)]
+pub fn arguments<'a>(
+    alloc: Global,
+    words: &'a [Word],
+    left: u32,
+) -> Result<(Vec<Expr>, &'a [Word]), Refusal<'a>>
+    ensures { Gives (λ es. in_parentheses (arguments_tree (expr_trees es.items))) result (level_at arguments_level left words.now) }
+{
+    let (below, inside) = open(words, left)?;
+    let mut found = Vec::new(alloc);
+    if let Some(rest) = after(inside, Symbol::CloseParenthesis) {
+        return Ok((found, rest));
+    }
+    let (first, mut rest) = expression(alloc, inside, below)?;
+    found.push(first)?;
+    while let Some(next) = after(rest, Symbol::Comma) {
+        let (argument, end) = expression(alloc, next, below)?;
+        found.push(argument)?;
+        rest = end;
+    }
+    let rest = expect(rest, Symbol::CloseParenthesis)?;
+    Ok((found, rest))
+}

@@ -1,0 +1,30 @@
+//! The grammar of BIRD's filters, its syntax trees and its parser.
+#![tactic(auto)]
+
+mod block_words;
+mod bracket;
+mod expression;
+mod items;
+mod operators;
+mod parse;
+mod simple_statement;
+mod statement;
+mod tokens;
+mod tree;
+mod variable_type;
+
+pub use block_words::parse_block_words;
+pub use parse::{SyntaxFault, expressions_decide, parse_expr_words};
+pub use tokens::{parse_block, parse_expr};
+pub use tree::{
+    Access, Arm, Attribute, Block, Change, Compare, Constant, Expr, Factor, Item, Joint, Lengths,
+    MaskAtom, MaskItem, Method, MethodKind, Num, PairPart, Part, Property, Simple, Stmt, Target,
+    Term, VariableType,
+};
+
+#[cfg(test)]
+mod block_tests;
+#[cfg(test)]
+mod tests;
+#[cfg(test)]
+mod text_tests;

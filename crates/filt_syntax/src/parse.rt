@@ -1,0 +1,79 @@
+// What stands at a place of the words.
+
+ghost use Rattle.std.specs.Prelude.{◌≡◌, ℕ, ◌+◌, ◌≤◌, length, drop, IfOk, IfErr};
+ghost use Rattle.grammar.specs.Grammar.{Tree, Fits, Spells};
+ghost use Rattle.filt_syntax.specs.declared.parse.SyntaxFault.{SyntaxFault};
+ghost use Rattle.filt_syntax.specs.Syntax.{expr, rule};
+ghost use Rattle.filt_syntax.specs.View.{sight};
+ghost use Rattle.filt_syntax.specs.Parse.{Stands, IsRefused, IsAnswer, IsFault};
+
+use crate::expression::expression;
+use crate::tree::Expr;
+use conf_lex::Word;
+use grammar::Refusal;
+use std::alloc::Global;
+
+/// How many levels may be open: brackets, `!`, and the bodies of statements. A tree within them is no deeper than the
+/// program's stack.
+pub const LEVELS: u32 = 64;
+
+/// Why words have no tree, and the place of the refused one: the number of the words where more of them would be wanted.
+#[derive(Clone, Copy, Debug, PartialEq, Eq)]
+pub enum SyntaxFault {
+    /// Nothing that begins with the words before it goes on with this one.
+    Bad { at: usize },
+    /// It opens one level more than 64.
+    TooDeep { at: usize },
+    /// It is known here and not supported.
+    Unsupported { at: usize },
+    Memory,
+}
+
+/// The longest expression from a place on, and the place after it (BIRD User's Guide, "Filters").
+pub fn parse_expr_words(
+    alloc: Global,
+    words: &[Word],
+    from: usize,
+) -> Result<(Expr, usize), SyntaxFault>
+    requires { from ≤ length words.now }
+    ensures tree { IfOk result (λ found. Stands expr words.now from (sight found.0).expr found.1) }
+    ensures fault { IfErr result (λ e. IsRefused expr words.now from e) }
+    ensures only { (t : Tree) (end : ℕ) → Stands expr words.now from t end → IsAnswer (λ e. (sight e).expr) result t end }
+    ensures exact { (e : SyntaxFault) → IsRefused expr words.now from e → IsFault result e }
+{
+    let tail = tail(words, from);
+    match expression(alloc, tail, LEVELS) {
+        Ok((tree, rest)) => Ok((tree, place(words, rest))),
+        Err(Refusal::Bad(rest)) => Err(SyntaxFault::Bad {
+            at: place(words, rest),
+        }),
+        Err(Refusal::TooDeep(rest)) => Err(SyntaxFault::TooDeep {
+            at: place(words, rest),
+        }),
+        Err(Refusal::Unsupported(rest)) => Err(SyntaxFault::Unsupported {
+            at: place(words, rest),
+        }),
+        Err(Refusal::Memory) => Err(SyntaxFault::Memory),
+    }
+}
+
+/// In an expression the next word always decides: a tree by the grammar alone has no part that stops too soon.
+pub fn expressions_decide()
+    ensures { (t : Tree) → Spells rule t expr → Fits rule t expr }
+{}
+
+/// The words from a place on.
+pub fn tail(words: &[Word], from: usize) -> &[Word]
+    requires { from ≤ length words.now }
+    ensures { result.now ≡ drop from words.now }
+{
+    &words[from..]
+}
+
+/// Where the rest begins.
+pub fn place(words: &[Word], rest: &[Word]) -> usize
+    requires { length rest.now ≤ length words.now }
+    ensures { result + length rest.now ≡ length words.now }
+{
+    words.len() - rest.len()
+}

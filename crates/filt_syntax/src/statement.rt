@@ -1,0 +1,296 @@
+// Statements. Each function answers a statement and the words after it; `left` is how many more levels may be opened.
+
+ghost use Rattle.std.specs.Prelude.{◌≡◌, ◌∷◌, map};
+ghost use Rattle.conf_lex.specs.declared.symbol.Symbol.TheVariants as sym;
+ghost use Rattle.conf_lex.specs.declared.word.Word.{Word};
+ghost use Rattle.grammar.specs.Kind.{symbol};
+ghost use Rattle.grammar.specs.Grammar.{Both, begins};
+ghost use Rattle.grammar.specs.Reading.{word, both};
+ghost use Rattle.grammar.specs.Shapes.{symbol_leaf, closed, between};
+ghost use Rattle.grammar.specs.Gives.{Gives};
+ghost use Rattle.filt_syntax.specs.StatementView.{block_view, stmt_tree, stmts_tree, arms_row, arms_of, otherwise_tree, otherwise_of};
+ghost use Rattle.filt_syntax.specs.StatementReaders.{block_at, stmt_at, stmts_at, arms_at, arm_ends, arms_over, label_next, is_behind_name, is_item, ArmGives, OtherwiseGives};
+
+use crate::expression::expression;
+use crate::items::label;
+use crate::operators::next_name;
+use crate::simple_statement::{done_to_name, simple_statement};
+use crate::tree::{Arm, Block, Stmt};
+use crate::variable_type::variable_type;
+use conf_lex::{Symbol, Word};
+use grammar::{Refusal, after, after_placed, expect, expect_name, level_below, next};
+use std::alloc::Global;
+
+/// The longest statement.
+#[cycle(statement)]
+pub fn statement<'a>(
+    alloc: Global,
+    words: &'a [Word],
+    left: u32,
+) -> Result<(Stmt, &'a [Word]), Refusal<'a>>
+    ensures { Gives stmt_tree result (stmt_at left words.now) }
+{
+    if let Some((name, next)) = next_name(words) {
+        return done_to_name(alloc, name, next, left);
+    }
+    if let Some(next) = after(words, Symbol::OpenBrace) {
+        return block(alloc, words, next, left);
+    }
+    if let Some(next) = after(words, Symbol::If) {
+        return choice(alloc, words, next, left);
+    }
+    if let Some((at, next)) = after_placed(words, Symbol::Case) {
+        return selection(alloc, words, at, next, left);
+    }
+    match after_placed(words, Symbol::For) {
+        Some((at, next)) => for_each(alloc, words, at, next, left),
+        None => simple_statement(alloc, words, left),
+    }
+}
+
+// By the words after the opening brace.
+#[cycle(statement)]
+fn block<'a>(
+    alloc: Global,
+    words: &'a [Word],
+    next: &'a [Word],
+    left: u32,
+) -> Result<(Stmt, &'a [Word]), Refusal<'a>>
+    requires { words.now ≡ Word.Symbol sym.OpenBrace ∷ next.now }
+    ensures { Gives stmt_tree result (stmt_at left words.now) }
+{
+    let below = level_below(words, left)?;
+    let (body, rest) = statements(alloc, next, below)?;
+    Ok((Stmt::Block(body), rest))
+}
+
+/// Any number of statements, and the brace behind them.
+#[cycle(statement)]
+pub fn statements<'a>(
+    alloc: Global,
+    words: &'a [Word],
+    left: u32,
+) -> Result<(Vec<Stmt>, &'a [Word]), Refusal<'a>>
+    ensures { Gives (λ v. Both (stmts_tree v.items) (symbol_leaf sym.CloseBrace)) result (both (stmts_at left) (word (symbol sym.CloseBrace)) words.now) }
+{
+    let mut found = Vec::new(alloc);
+    let mut rest = words;
+    loop {
+        if let Some(end) = after(rest, Symbol::CloseBrace) {
+            return Ok((found, end));
+        }
+        let (stmt, next) = statement(alloc, rest, left)?;
+        found.push(stmt)?;
+        rest = next;
+    }
+}
+
+// By the words after `if`.
+#[cycle(statement)]
+fn choice<'a>(
+    alloc: Global,
+    words: &'a [Word],
+    next: &'a [Word],
+    left: u32,
+) -> Result<(Stmt, &'a [Word]), Refusal<'a>>
+    requires { words.now ≡ Word.Symbol sym.If ∷ next.now }
+    ensures { Gives stmt_tree result (stmt_at left words.now) }
+{
+    let (condition, rest) = expression(alloc, next, left)?;
+    let inside = expect(rest, Symbol::Then)?;
+    let below = level_below(rest, left)?;
+    let (first, rest) = statement(alloc, inside, below)?;
+    match after(rest, Symbol::Else) {
+        None => Ok((Stmt::If(condition, Box::new(alloc, first)?), rest)),
+        Some(inside) => {
+            let (second, rest) = statement(alloc, inside, below)?;
+            let first = Box::new(alloc, first)?;
+            let second = Box::new(alloc, second)?;
+            Ok((Stmt::IfElse(condition, first, second), rest))
+        }
+    }
+}
+
+// By the words after `for`.
+#[cycle(statement)]
+fn for_each<'a>(
+    alloc: Global,
+    words: &'a [Word],
+    at: usize,
+    next: &'a [Word],
+    left: u32,
+) -> Result<(Stmt, &'a [Word]), Refusal<'a>>
+    requires { words.now ≡ Word.Placed at sym.For ∷ next.now }
+    ensures { Gives stmt_tree result (stmt_at left words.now) }
+{
+    let (variable_type, rest) = variable_type(next)?;
+    let (name, rest) = expect_name(rest)?;
+    let rest = expect(rest, Symbol::In)?;
+    let (list, rest) = expression(alloc, rest, left)?;
+    let inside = expect(rest, Symbol::Do)?;
+    let below = level_below(rest, left)?;
+    let (body, rest) = statement(alloc, inside, below)?;
+    let for_each = Stmt::For {
+        at,
+        variable_type,
+        name,
+        list,
+        body: Box::new(alloc, body)?,
+    };
+    Ok((for_each, rest))
+}
+
+// By the words after `case`.
+#[cycle(statement)]
+fn selection<'a>(
+    alloc: Global,
+    words: &'a [Word],
+    at: usize,
+    next: &'a [Word],
+    left: u32,
+) -> Result<(Stmt, &'a [Word]), Refusal<'a>>
+    requires { words.now ≡ Word.Placed at sym.Case ∷ next.now }
+    ensures { Gives stmt_tree result (stmt_at left words.now) }
+{
+    let (value, rest) = expression(alloc, next, left)?;
+    let inside = expect(rest, Symbol::OpenBrace)?;
+    let below = level_below(rest, left)?;
+    let ((arms, otherwise), rest) = arms(alloc, inside, below)?;
+    let selection = Stmt::Case {
+        at,
+        value,
+        arms,
+        otherwise,
+    };
+    Ok((selection, rest))
+}
+
+// What stands between the braces of a `case`, and the closing brace.
+#[cycle(statement)]
+fn arms<'a>(
+    alloc: Global,
+    words: &'a [Word],
+    left: u32,
+) -> Result<((Vec<Arm<Stmt>>, Option<Vec<Stmt>>), &'a [Word]), Refusal<'a>>
+    ensures { Gives (λ found. between (Word.Symbol sym.OpenBrace) (Both (arms_row (arms_of found.0.items)) (otherwise_tree (otherwise_of found.1))) sym.CloseBrace) result
+        (closed (Word.Symbol sym.OpenBrace) (arms_at left) sym.CloseBrace words.now) }
+{
+    let mut found = Vec::new(alloc);
+    let mut rest = words;
+    while !is_behind_arms(rest) {
+        let (arm, next) = arm(alloc, rest, left)?;
+        found.push(arm)?;
+        rest = next;
+    }
+    let (otherwise, rest) = otherwise(alloc, rest, left)?;
+    Ok(((found, otherwise), rest))
+}
+
+// An arm: its labels, and the statements up to the next label, `else:` or brace.
+#[cycle(statement)]
+fn arm<'a>(
+    alloc: Global,
+    words: &'a [Word],
+    left: u32,
+) -> Result<(Arm<Stmt>, &'a [Word]), Refusal<'a>>
+    ensures { ArmGives result left words.now }
+{
+    let (labels, mut rest) = label(alloc, words, left)?;
+    let mut body = Vec::new(alloc);
+    while !is_behind_arm(rest) {
+        let (stmt, next) = statement(alloc, rest, left)?;
+        body.push(stmt)?;
+        rest = next;
+    }
+    Ok((Arm { labels, body }, rest))
+}
+
+// What stands behind the arms: the statements of `else:`, if any, and the closing brace.
+#[cycle(statement)]
+fn otherwise<'a>(
+    alloc: Global,
+    words: &'a [Word],
+    left: u32,
+) -> Result<(Option<Vec<Stmt>>, &'a [Word]), Refusal<'a>>
+    ensures { OtherwiseGives result left words.now }
+{
+    match after(words, Symbol::ElseColon) {
+        Some(inside) => {
+            let (statements, rest) = statements(alloc, inside, left)?;
+            Ok((Some(statements), rest))
+        }
+        None => {
+            let rest = expect(words, Symbol::CloseBrace)?;
+            Ok((None, rest))
+        }
+    }
+}
+
+/// The longest block.
+pub fn whole_block<'a>(
+    alloc: Global,
+    words: &'a [Word],
+    left: u32,
+) -> Result<(Block, &'a [Word]), Refusal<'a>>
+    ensures { Gives block_view result (block_at left words.now) }
+{
+    let inside = expect(words, Symbol::OpenBrace)?;
+    let below = level_below(words, left)?;
+    let (statements, rest) = statements(alloc, inside, below)?;
+    Ok((Block { statements }, rest))
+}
+
+// Whether the arms of a `case` end here.
+fn is_behind_arms(words: &[Word]) -> bool
+    ensures { result ≡ arms_over words.now }
+{
+    matches!(
+        words,
+        [Word::Symbol(Symbol::ElseColon | Symbol::CloseBrace), ..]
+    )
+}
+
+// Whether an arm of a `case` ends here.
+fn is_behind_arm(words: &[Word]) -> bool
+    ensures { result ≡ arm_ends words.now }
+{
+    begins_label(words) || is_behind_arms(words)
+}
+
+// Whether a label comes next. A name begins one where no statement goes on behind it.
+fn begins_label(words: &[Word]) -> bool
+    ensures { result ≡ label_next words.now }
+{
+    match next(words) {
+        Some((word, rest)) => match word {
+            Word::Name { .. } => goes_on_as_label(rest),
+            _ => begins_item(words),
+        },
+        None => false,
+    }
+}
+
+fn goes_on_as_label(words: &[Word]) -> bool
+    ensures { result ≡ begins is_behind_name words.now }
+{
+    matches!(
+        words,
+        [
+            Word::Symbol(Symbol::Comma | Symbol::Colon | Symbol::Range),
+            ..
+        ]
+    )
+}
+
+// Whether an item comes next that no name begins.
+fn begins_item(words: &[Word]) -> bool
+    ensures { result ≡ begins is_item words.now }
+{
+    matches!(
+        words,
+        [
+            Word::Number { .. } | Word::Prefix { .. } | Word::Symbol(Symbol::OpenParenthesis),
+            ..
+        ]
+    )
+}

@@ -1,0 +1,95 @@
+// What stands at a token of a text.
+
+ghost use Rattle.std.specs.Prelude.{◌≡◌, ℕ, ◌≤◌, length, slice_index_or, IfOk, IfErr};
+ghost use Rattle.conf_lex.specs.Lex.{Lexes};
+ghost use Rattle.grammar.specs.Grammar.{Tree};
+ghost use Rattle.filt_syntax.specs.declared.parse.SyntaxFault.{SyntaxFault};
+ghost use Rattle.filt_syntax.specs.Syntax.{block, expr};
+ghost use Rattle.filt_syntax.specs.View.{sight};
+ghost use Rattle.filt_syntax.specs.StatementView.{block_view};
+ghost use Rattle.filt_syntax.specs.Parse.{IsAnswer, IsFault};
+ghost use Rattle.filt_syntax.specs.Tokens.{StandsIn, IsRefusedIn, moved, place_of};
+
+use crate::block_words::parse_block_words;
+use crate::parse::{SyntaxFault, parse_expr_words};
+use crate::tree::{Block, Expr};
+use bits_ip::OutOfMemory;
+use conf_lex::{Token, words_from};
+use std::alloc::Global;
+
+/// The longest expression from a token on, and the place of the token behind it (BIRD User's Guide, "Filters"). The tokens
+/// are those that `lex` gives for the text; places are theirs, their number where more of them would be wanted.
+pub fn parse_expr(
+    alloc: Global,
+    tokens: &[Token],
+    text: &[u8],
+    from: usize,
+) -> Result<(Expr, usize), SyntaxFault>
+    requires lexed { Lexes 0 text.now tokens.now }
+    requires within { from ≤ length tokens.now }
+    ensures tree { IfOk result (λ found. StandsIn expr text.now tokens.now from (sight found.0).expr found.1) }
+    ensures fault { IfErr result (λ e. IsRefusedIn expr text.now tokens.now from e) }
+    ensures only { (t : Tree) (end : ℕ) → StandsIn expr text.now tokens.now from t end → IsAnswer (λ e. (sight e).expr) result t end }
+    ensures exact { (e : SyntaxFault) → IsRefusedIn expr text.now tokens.now from e → IsFault result e }
+{
+    let found = match words_from(alloc, text, tokens, from) {
+        Ok(found) => found,
+        Err(OutOfMemory) => return Err(SyntaxFault::Memory),
+    };
+    match parse_expr_words(alloc, &found.words, 0) {
+        Ok((tree, end)) => Ok((tree, token_at(&found.starts, end, tokens.len()))),
+        Err(fault) => Err(at_token(fault, &found.starts, tokens.len())),
+    }
+}
+
+/// The longest block from a token on, its statements between braces, and the place of the token behind it (BIRD User's
+/// Guide, "Control structures"). Tokens and places are as for `parse_expr`.
+pub fn parse_block(
+    alloc: Global,
+    tokens: &[Token],
+    text: &[u8],
+    from: usize,
+) -> Result<(Block, usize), SyntaxFault>
+    requires lexed { Lexes 0 text.now tokens.now }
+    requires within { from ≤ length tokens.now }
+    ensures tree { IfOk result (λ found. StandsIn block text.now tokens.now from (block_view found.0) found.1) }
+    ensures fault { IfErr result (λ e. IsRefusedIn block text.now tokens.now from e) }
+    ensures only { (t : Tree) (end : ℕ) → StandsIn block text.now tokens.now from t end → IsAnswer block_view result t end }
+    ensures exact { (e : SyntaxFault) → IsRefusedIn block text.now tokens.now from e → IsFault result e }
+{
+    let found = match words_from(alloc, text, tokens, from) {
+        Ok(found) => found,
+        Err(OutOfMemory) => return Err(SyntaxFault::Memory),
+    };
+    match parse_block_words(alloc, &found.words, 0) {
+        Ok((tree, end)) => Ok((tree, token_at(&found.starts, end, tokens.len()))),
+        Err(fault) => Err(at_token(fault, &found.starts, tokens.len())),
+    }
+}
+
+// The place of the token with which a word begins; behind the last word the end of the tokens.
+fn token_at(starts: &[usize], place: usize, end: usize) -> usize
+    ensures { result ≡ slice_index_or starts.now place end }
+{
+    match starts.get(place) {
+        Some(start) => *start,
+        None => end,
+    }
+}
+
+fn at_token(fault: SyntaxFault, starts: &[usize], end: usize) -> SyntaxFault
+    ensures { result ≡ moved (slice_index_or starts.now (place_of fault) end) fault }
+{
+    match fault {
+        SyntaxFault::Bad { at } => SyntaxFault::Bad {
+            at: token_at(starts, at, end),
+        },
+        SyntaxFault::TooDeep { at } => SyntaxFault::TooDeep {
+            at: token_at(starts, at, end),
+        },
+        SyntaxFault::Unsupported { at } => SyntaxFault::Unsupported {
+            at: token_at(starts, at, end),
+        },
+        SyntaxFault::Memory => SyntaxFault::Memory,
+    }
+}

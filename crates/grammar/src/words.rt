@@ -1,0 +1,115 @@
+// The next word.
+
+ghost use Rattle.std.specs.Prelude.{◌≡◌, [], ◌∷◌, ◌+◌, true, false, MatchOption, MatchResult};
+ghost use Rattle.conf_lex.specs.declared.word.Word.{Word};
+ghost use Rattle.grammar.specs.Kind.{symbol, number, name, keeps_place, kind_of};
+ghost use Rattle.grammar.specs.Grammar.{TooDeep, begins};
+ghost use Rattle.grammar.specs.Reading.{word, Fault};
+ghost use Rattle.grammar.specs.Gives.{Fails, Gives};
+ghost use Rattle.grammar.specs.Shapes.{number_leaf, name_leaf};
+
+use crate::named::Name;
+use crate::refusal::Refusal;
+use conf_lex::{Symbol, Word};
+
+/// The next word, and the words after it.
+pub fn next(words: &[Word]) -> Option<(Word, &[Word])>
+    ensures { MatchOption result (words.now ≡ []) (λ next. words.now ≡ next.0 ∷ next.1.now) }
+{
+    match words {
+        [] => None,
+        [word, rest @ ..] => Some((*word, rest)),
+    }
+}
+
+/// The words after this symbol, where it comes next.
+pub fn after(words: &[Word], wanted: Symbol) -> Option<&[Word]>
+    requires { keeps_place wanted ≡ false }
+    ensures { MatchOption result (begins (symbol wanted) words.now ≡ false) (λ rest. words.now ≡ Word.Symbol wanted ∷ rest.now) }
+{
+    match next(words) {
+        Some((word, rest)) => is_symbol(word, wanted).then_some(rest),
+        None => None,
+    }
+}
+
+/// The place of this symbol, where it comes next, and the words after it.
+pub fn after_placed(words: &[Word], wanted: Symbol) -> Option<(usize, &[Word])>
+    requires { keeps_place wanted ≡ true }
+    ensures { MatchOption result (begins (symbol wanted) words.now ≡ false) (λ found. words.now ≡ Word.Placed found.0 wanted ∷ found.1.now) }
+{
+    match next(words) {
+        Some((word, rest)) => place_of(word, wanted).map(|at| (at, rest)),
+        None => None,
+    }
+}
+
+/// The words after this symbol, which has to come next.
+pub fn expect(words: &[Word], wanted: Symbol) -> Result<&[Word], Refusal>
+    requires { keeps_place wanted ≡ false }
+    ensures { MatchResult result (λ rest. words.now ≡ Word.Symbol wanted ∷ rest.now) (λ e. Fails e (word (symbol wanted) words.now)) }
+{
+    after(words, wanted).ok_or(Refusal::Bad(words))
+}
+
+/// The place of this symbol, which has to come next, and the words after it.
+pub fn expect_placed(words: &[Word], wanted: Symbol) -> Result<(usize, &[Word]), Refusal>
+    requires { keeps_place wanted ≡ true }
+    ensures { MatchResult result (λ found. words.now ≡ Word.Placed found.0 wanted ∷ found.1.now) (λ e. Fails e (word (symbol wanted) words.now)) }
+{
+    after_placed(words, wanted).ok_or(Refusal::Bad(words))
+}
+
+/// The place and the value of the number that has to come next, and the words after it.
+pub fn expect_number(words: &[Word]) -> Result<((usize, u32), &[Word]), Refusal>
+    ensures { Gives (λ found. number_leaf found.0 found.1) result (word number words.now) }
+{
+    match words {
+        [Word::Number { at, value }, rest @ ..] => Ok(((*at, *value), rest)),
+        _ => Err(Refusal::Bad(words)),
+    }
+}
+
+/// The name that has to come next, and the words after it.
+pub fn expect_name(words: &[Word]) -> Result<(Name, &[Word]), Refusal>
+    ensures { Gives name_leaf result (word name words.now) }
+{
+    match words {
+        [Word::Name { at, start, len }, rest @ ..] => {
+            let name = Name {
+                at: *at,
+                start: *start,
+                len: *len,
+            };
+            Ok((name, rest))
+        }
+        _ => Err(Refusal::Bad(words)),
+    }
+}
+
+/// How many levels are left below the one that the next word opens.
+pub fn level_below(words: &[Word], left: u32) -> Result<u32, Refusal>
+    ensures { MatchResult result (λ below. below + 1 ≡ left) (λ e. (left ≡ 0) × Fails e (Fault TooDeep words.now)) }
+{
+    left.checked_sub(1).ok_or(Refusal::TooDeep(words))
+}
+
+fn is_symbol(word: Word, wanted: Symbol) -> bool
+    requires { keeps_place wanted ≡ false }
+    ensures { result ≡ symbol wanted (kind_of word) }
+{
+    match word {
+        Word::Symbol(symbol) => symbol == wanted,
+        _ => false,
+    }
+}
+
+fn place_of(word: Word, wanted: Symbol) -> Option<usize>
+    requires { keeps_place wanted ≡ true }
+    ensures { MatchOption result (symbol wanted (kind_of word) ≡ false) (λ at. word ≡ Word.Placed at wanted) }
+{
+    match word {
+        Word::Placed { at, symbol } => (symbol == wanted).then_some(at),
+        _ => None,
+    }
+}
