@@ -18,7 +18,8 @@ use conf_lex::{Symbol, Word};
 use grammar::{Name, Refusal, after, expect, level_below};
 use std::alloc::Global;
 
-fn num(words: &[Word]) -> Result<(Num, &[Word]), Refusal>
+/// A written number, or the name of a constant that is one.
+pub fn num(words: &[Word]) -> Result<(Num, &[Word]), Refusal>
     ensures { Gives num_tree result (word is_num words.now) }
 {
     match words {

@@ -7,6 +7,7 @@ mod expression;
 mod items;
 mod operators;
 mod parse;
+pub mod parts;
 mod simple_statement;
 mod statement;
 mod tokens;
@@ -17,9 +18,9 @@ pub use block_words::parse_block_words;
 pub use parse::{SyntaxFault, expressions_decide, parse_expr_words};
 pub use tokens::{parse_block, parse_expr};
 pub use tree::{
-    Access, Arm, Attribute, Block, Change, Compare, Constant, Expr, Factor, Item, Joint, Lengths,
-    MaskAtom, MaskItem, Method, MethodKind, Num, PairPart, Part, Property, Simple, Stmt, Target,
-    Term, VariableType,
+    Access, Arm, Attribute, Block, Change, Compare, Constant, Expr, Factor, Filter, Function, Item,
+    Joint, Lengths, MaskAtom, MaskItem, Method, MethodKind, Num, PairPart, Parameter, Part,
+    Property, Simple, Stmt, Target, Term, VariableType,
 };
 
 #[cfg(test)]
