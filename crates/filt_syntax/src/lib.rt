@@ -20,7 +20,7 @@ pub use tokens::{parse_block, parse_expr};
 pub use tree::{
     Access, Arm, Attribute, Block, Change, Compare, Constant, Expr, Factor, Filter, Function, Item,
     Joint, Lengths, MaskAtom, MaskItem, Method, MethodKind, Num, PairPart, Parameter, Part,
-    Property, Simple, Stmt, Target, Term, VariableType,
+    Property, Separator, Simple, Stmt, Target, Term, VariableType,
 };
 
 #[cfg(test)]

@@ -305,9 +305,18 @@ pub struct Block {
     pub statements: Vec<Stmt>,
 }
 
-/// A parameter of a function.
+/// What stands between two parameters of a function.
+#[derive(Clone, Copy, Debug, PartialEq, Eq)]
+pub enum Separator {
+    Semicolon,
+    Comma,
+}
+
+/// A parameter of a function, and what separates it from the one before.
 #[derive(Clone, Copy, Debug)]
 pub struct Parameter {
+    /// None for the first parameter.
+    pub separator: Option<Separator>,
     pub variable_type: VariableType,
     pub name: Name,
 }
