@@ -1,0 +1,120 @@
+-- Reading protocols, one step of the parser after another.
+use Rattle.std.proofs.Common.{◌≡◌, ℕ, zero, suc, true, false, List, [], ◌∷◌, refl, ap, ◌∙◌}
+use Rattle.conf_lex.specs.declared.symbol.Symbol.{Symbol}
+use Rattle.conf_lex.specs.declared.symbol.Symbol.TheVariants as sym
+use Rattle.conf_lex.specs.declared.word.Word.{Word}
+use Rattle.conf_lex.specs.declared.word.Word.TheVariants as words
+use Rattle.grammar.specs.Kind.{kind_of, symbol}
+use Rattle.grammar.specs.Grammar.{Form, Either, Tree, Both, Bad, begins}
+use Rattle.grammar.specs.Reading.{Read, Got, Fault, Reader, and_then, word, both, read}
+use Rattle.grammar.specs.Shapes.{symbol_leaf}
+use Rattle.filt_syntax.specs.Syntax.{rule}
+use Rattle.filt_syntax.specs.StatementView.{nth, beyond}
+use Rattle.filt_syntax.proofs.Tested.{is_checked}
+use Rattle.filt_syntax.proofs.Picks.{maps2, picked, rest_read}
+use Rattle.conf_tree.specs.Syntax.{protocol_of, ended_options, static_option, bgp_option, pipe_option, device, statement}
+use Rattle.conf_tree.specs.View.{placed_leaf, of_protocol}
+use Rattle.conf_tree.specs.Readers.{optional_name_at, optional_semicolon_at, closed_options, static_options_at, bgp_options_at, pipe_options_at, static_at, bgp_at, pipe_at, statement_at}
+use Rattle.conf_tree.proofs.Heads.{headed}
+use Rattle.conf_tree.proofs.FirstWords.{both_same, last_headed}
+
+-- ---- a protocol of options
+
+-- options, the brace behind them, and what stands behind it
+abbrev ended_with : Tree → Tree → Tree
+ended_with (Both row close) end = Both row (Both close end)
+ended_with t end = t
+
+abbrev options_and_end : Form → ℕ → Reader
+options_and_end item k ws = and_then (closed_options item k ws) (λ t u. and_then (optional_semicolon_at 0 u) (λ end v. Got (ended_with t end) v))
+
+joined_end : (rows closes ends : Reader) (ws : List Word) → both rows (both closes ends) ws ≡ and_then (both rows closes ws) (λ t u. and_then (ends u) (λ end v. Got (ended_with t end) v))
+joined_end rows closes ends ws = by_rows (rows ws)
+  where
+    by_close : (row : Tree) (x : Read) → and_then (and_then x (λ b v. and_then (ends v) (λ e y. Got (Both b e) y))) (λ b y. Got (Both row b) y) ≡ and_then (and_then x (λ b v. Got (Both row b) v)) (λ t u. and_then (ends u) (λ end v. Got (ended_with t end) v))
+    by_close row (Got b v) = maps2 (ends v) (λ e. Both b e) (λ t. Both row t)
+    by_close row (Fault why v) = refl
+
+    by_rows : (x : Read) → and_then x (λ a u. and_then (both closes ends u) (λ b y. Got (Both a b) y)) ≡ and_then (and_then x (λ a u. and_then (closes u) (λ b v. Got (Both a b) v))) (λ t u. and_then (ends u) (λ end v. Got (ended_with t end) v))
+    by_rows (Got a u) = by_close a (closes u)
+    by_rows (Fault why u) = refl
+
+-- by its kind's word
+pub protocol_read : (kind : Symbol) (item : Form) (k at : ℕ) (ws u : List Word) → ws ≡ words.Placed at kind ∷ u → symbol kind (kind_of (words.Placed at kind)) ≡ true → read rule k (protocol_of kind item) ws ≡ and_then (both (optional_name_at 0) (both (word (symbol sym.OpenBrace)) (options_and_end item k)) u) (λ t v. Got (Both (placed_leaf at kind) t) v)
+unfolding optional_name_at optional_semicolon_at
+protocol_read kind item zero at ws u is passes =
+    rw (is, passes) (ap (λ (x : Read). and_then x (λ t v. Got (Both (placed_leaf at kind) t) v))
+    (both_same (optional_name_at 0) _ _ (both_same (word (symbol sym.OpenBrace)) _ _ (joined_end (read rule 0 (ended_options item)) (word (symbol sym.CloseBrace)) (optional_semicolon_at 0))) u))
+protocol_read kind item (suc k) at ws u is passes =
+    rw (is, passes) (ap (λ (x : Read). and_then x (λ t v. Got (Both (placed_leaf at kind) t) v))
+    (both_same (optional_name_at 0) _ _ (both_same (word (symbol sym.OpenBrace)) _ _ (joined_end (read rule (suc k) (ended_options item)) (word (symbol sym.CloseBrace)) (optional_semicolon_at 0))) u))
+
+pub protocol_static : (k at : ℕ) (ws u : List Word) → ws ≡ words.Placed at sym.Static ∷ u → static_at k ws ≡ and_then (both (optional_name_at 0) (both (word (symbol sym.OpenBrace)) (λ x. and_then (static_options_at k x) (λ t y. and_then (optional_semicolon_at 0 y) (λ end z. Got (ended_with t end) z)))) u) (λ t v. Got (Both (placed_leaf at sym.Static) t) v)
+unfolding static_at static_options_at
+protocol_static k at ws u is = protocol_read sym.Static static_option k at ws u is refl
+
+pub protocol_bgp : (k at : ℕ) (ws u : List Word) → ws ≡ words.Placed at sym.Bgp ∷ u → bgp_at k ws ≡ and_then (both (optional_name_at 0) (both (word (symbol sym.OpenBrace)) (λ x. and_then (bgp_options_at k x) (λ t y. and_then (optional_semicolon_at 0 y) (λ end z. Got (ended_with t end) z)))) u) (λ t v. Got (Both (placed_leaf at sym.Bgp) t) v)
+unfolding bgp_at bgp_options_at
+protocol_bgp k at ws u is = protocol_read sym.Bgp bgp_option k at ws u is refl
+
+pub protocol_pipe : (k at : ℕ) (ws u : List Word) → ws ≡ words.Placed at sym.Pipe ∷ u → pipe_at k ws ≡ and_then (both (optional_name_at 0) (both (word (symbol sym.OpenBrace)) (λ x. and_then (pipe_options_at k x) (λ t y. and_then (optional_semicolon_at 0 y) (λ end z. Got (ended_with t end) z)))) u) (λ t v. Got (Both (placed_leaf at sym.Pipe) t) v)
+unfolding pipe_at pipe_options_at
+protocol_pipe k at ws u is = protocol_read sym.Pipe pipe_option k at ws u is refl
+
+-- ---- behind "protocol"
+
+abbrev kinds : Form
+kinds = Either device (Either (protocol_of sym.Static static_option) (Either (protocol_of sym.Bgp bgp_option) (protocol_of sym.Pipe pipe_option)))
+
+statement_checked : is_checked statement
+statement_checked = refl
+
+kinds_checked : is_checked kinds
+kinds_checked = refl
+
+protocol_is : (k : ℕ) (ws u : List Word) → ws ≡ words.Symbol sym.Protocol ∷ u → statement_at k ws ≡ and_then (read rule k kinds u) (λ t v. Got (of_protocol t) v)
+unfolding statement_at
+protocol_is k ws u is = last_headed 6 k (symbol sym.Protocol) statement kinds statement_checked refl refl ws (words.Symbol sym.Protocol) u is refl
+
+abbrev device_row : Reader
+device_row = both (optional_name_at 0) (both (word (symbol sym.OpenBrace)) (both (word (symbol sym.CloseBrace)) (optional_semicolon_at 0)))
+
+kinds_device : (k : ℕ) (ws u : List Word) → ws ≡ words.Symbol sym.Device ∷ u → read rule k kinds ws ≡ and_then (device_row u) (λ t v. Got (nth 0 (Both (symbol_leaf sym.Device) t)) v)
+unfolding optional_name_at optional_semicolon_at
+kinds_device zero ws u is = headed 0 0 (symbol sym.Device) kinds _ _ kinds_checked refl refl ws (words.Symbol sym.Device) u is refl
+kinds_device (suc k) ws u is = headed 0 (suc k) (symbol sym.Device) kinds _ _ kinds_checked refl refl ws (words.Symbol sym.Device) u is refl
+
+pub device_is : (k : ℕ) (ws u v : List Word) → ws ≡ words.Symbol sym.Protocol ∷ u → u ≡ words.Symbol sym.Device ∷ v → statement_at k ws ≡ and_then (both (optional_name_at 0) (both (word (symbol sym.OpenBrace)) (both (word (symbol sym.CloseBrace)) (optional_semicolon_at 0))) v) (λ t x. Got (of_protocol (nth 0 (Both (symbol_leaf sym.Device) t))) x)
+device_is k ws u v is next =
+    protocol_is k ws u is ∙ ap (λ (x : Read). and_then x (λ t y. Got (of_protocol t) y)) (kinds_device k u v next)
+    ∙ maps2 (device_row v) (λ t. nth 0 (Both (symbol_leaf sym.Device) t)) (λ t. of_protocol t)
+
+pub statement_static : (k at : ℕ) (ws u v : List Word) → ws ≡ words.Symbol sym.Protocol ∷ u → u ≡ words.Placed at sym.Static ∷ v → statement_at k ws ≡ and_then (static_at k u) (λ t x. Got (of_protocol (nth 1 t)) x)
+unfolding static_at
+statement_static k at ws u v is next =
+    protocol_is k ws u is
+    ∙ ap (λ (x : Read). and_then x (λ t y. Got (of_protocol t) y)) (picked 1 k kinds (protocol_of sym.Static static_option) _ kinds_checked refl refl u (rw next refl))
+    ∙ maps2 (static_at k u) (λ t. nth 1 t) (λ t. of_protocol t)
+
+pub statement_bgp : (k at : ℕ) (ws u v : List Word) → ws ≡ words.Symbol sym.Protocol ∷ u → u ≡ words.Placed at sym.Bgp ∷ v → statement_at k ws ≡ and_then (bgp_at k u) (λ t x. Got (of_protocol (nth 2 t)) x)
+unfolding bgp_at
+statement_bgp k at ws u v is next =
+    protocol_is k ws u is
+    ∙ ap (λ (x : Read). and_then x (λ t y. Got (of_protocol t) y)) (picked 2 k kinds (protocol_of sym.Bgp bgp_option) _ kinds_checked refl refl u (rw next refl))
+    ∙ maps2 (bgp_at k u) (λ t. nth 2 t) (λ t. of_protocol t)
+
+pub statement_pipe : (k at : ℕ) (ws u v : List Word) → ws ≡ words.Symbol sym.Protocol ∷ u → u ≡ words.Placed at sym.Pipe ∷ v → statement_at k ws ≡ and_then (pipe_at k u) (λ t x. Got (of_protocol (beyond 3 t)) x)
+unfolding pipe_at
+statement_pipe k at ws u v is next =
+    protocol_is k ws u is
+    ∙ ap (λ (x : Read). and_then x (λ t y. Got (of_protocol t) y)) (rest_read 3 k kinds kinds_checked refl u (rw next refl))
+    ∙ maps2 (pipe_at k u) (λ t. beyond 3 t) (λ t. of_protocol t)
+
+kinds_bad : (k : ℕ) (ws : List Word) → begins (symbol sym.Device) ws ≡ false → begins (symbol sym.Static) ws ≡ false → begins (symbol sym.Bgp) ws ≡ false → begins (symbol sym.Pipe) ws ≡ false → read rule k kinds ws ≡ Fault Bad ws
+kinds_bad zero [] a b c d = refl
+kinds_bad (suc k) [] a b c d = refl
+kinds_bad zero (w ∷ ws) a b c d = rw (a, b, c, d) refl
+kinds_bad (suc k) (w ∷ ws) a b c d = rw (a, b, c, d) refl
+
+pub protocol_bad : (k : ℕ) (ws u : List Word) → ws ≡ words.Symbol sym.Protocol ∷ u → begins (symbol sym.Device) u ≡ false → begins (symbol sym.Static) u ≡ false → begins (symbol sym.Bgp) u ≡ false → begins (symbol sym.Pipe) u ≡ false → statement_at k ws ≡ Fault Bad u
+protocol_bad k ws u is a b c d = protocol_is k ws u is ∙ rw (kinds_bad k u a b c d) refl

@@ -1,0 +1,199 @@
+-- What device blocks and logs hold.
+use Rattle.std.proofs.Common.{◌≡◌, ◌≢◌, ℕ, suc, zero, ◌+◌, ◌≤◌, true, false, not, List, [], ◌∷◌, ◌++◌, length, map, drop, refl, sym, ◌∙◌, ap, subst, arith, inl, inr, append_assoc}
+use Rattle.std.specs.List.{list_all}
+use Rattle.std.proofs.Math.Seq.{drop-append_seam}
+use Rattle.std.proofs.lemmas.Bool.{cases_Bool, and_parts, not-true}
+use Rattle.std.proofs.lemmas.List.{drop-drop, drop-map, length-append, length-map}
+use Rattle.conf_lex.specs.declared.symbol.Symbol.TheVariants as sy
+use Rattle.conf_lex.specs.declared.word.Word.{Word}
+use Rattle.grammar.proofs.Symbols.{is_symbol_word}
+use Rattle.conf_tree.specs.Said.{is, behind, said, Braces, Nothing, Plain, Braced, words_in, AreBraces, IsBalanced}
+use Rattle.conf_tree.specs.declared.said.Region.TheVariants as regions
+
+abbrev words_of_pairs : List (ℕ × Word) → List Word
+words_of_pairs ps = map (λ p. p.1) ps
+
+-- ---- one step within the braces of a device
+
+open_no_close : (w : Word) → is sy.OpenBrace w ≡ true → is sy.CloseBrace w ≡ false
+open_no_close w here = ap (λ (x : Word). is sy.CloseBrace x) (is_symbol_word w sy.OpenBrace refl here)
+
+plain_step : (n : ℕ) (p : ℕ × Word) (ps : List (ℕ × Word)) → is sy.OpenBrace p.1 ≡ false → is sy.CloseBrace p.1 ≡ false → said (regions.Inside n) (p ∷ ps) ≡ said (regions.Inside n) ps
+plain_step zero p ps no_open no_close = rw (no_close, no_open) refl
+plain_step (suc n) p ps no_open no_close = rw (no_close, no_open) refl
+
+open_step : (n : ℕ) (p : ℕ × Word) (ps : List (ℕ × Word)) → is sy.OpenBrace p.1 ≡ true → said (regions.Inside n) (p ∷ ps) ≡ said (regions.Inside (suc n)) ps
+open_step zero p ps here = rw (open_no_close p.1 here, here) refl
+open_step (suc n) p ps here = rw (open_no_close p.1 here, here) refl
+
+close_step : (n : ℕ) (p : ℕ × Word) (ps : List (ℕ × Word)) → is sy.CloseBrace p.1 ≡ true → said (regions.Inside (suc n)) (p ∷ ps) ≡ said (regions.Inside n) ps
+close_step n p ps here = rw here refl
+
+end_step : (p : ℕ × Word) (ps : List (ℕ × Word)) → is sy.CloseBrace p.1 ≡ true → said (regions.Inside 0) (p ∷ ps) ≡ p ∷ said regions.Statements ps
+end_step p ps here = rw here refl
+
+-- ---- balanced words are passed over
+
+head_of : Word → List Word → Word
+head_of d [] = d
+head_of d (w ∷ ws) = w
+
+tail_of : List Word → List Word
+tail_of [] = []
+tail_of (w ∷ ws) = ws
+
+-- pairs whose words begin with this one
+record Begins (ps : List (ℕ × Word)) (w : Word) (ws : List Word) : Type 0 where
+  pub first : ℕ × Word
+  pub rest : List (ℕ × Word)
+  pub cut : ps ≡ first ∷ rest
+  pub word : first.1 ≡ w
+  pub words : words_of_pairs rest ≡ ws
+
+begins : (ps : List (ℕ × Word)) (w : Word) (ws : List Word) → words_of_pairs ps ≡ w ∷ ws → Begins ps w ws
+unfolding head_of tail_of
+begins [] w ws e = absurd (omega (arith, ap (λ (l : List Word). length l) e))
+begins (p ∷ ps) w ws e = record { first = p; rest = ps; cut = refl; word = ap (head_of w) e; words = ap tail_of e }
+
+-- what is behind a front of the words
+rest_words : (ps : List (ℕ × Word)) (ws more : List Word) → words_of_pairs ps ≡ ws ++ more → words_of_pairs (drop (length ws) ps) ≡ more
+rest_words ps ws more e = sym (drop-map (λ (p : ℕ × Word). p.1) (length ws) ps) ∙ ap (λ (l : List Word). drop (length ws) l) e ∙ drop-append_seam ws more
+
+-- a block within the braces, where its words and those behind it are passed over
+over_block : (n inside behind : ℕ) (ps : List (ℕ × Word)) (first last : Word) (ws vs : List Word) (at : Begins ps first ws) → (closing : Begins (drop inside at.rest) last vs)
+    → is sy.OpenBrace first ≡ true → is sy.CloseBrace last ≡ true
+    → said (regions.Inside (suc n)) at.rest ≡ said (regions.Inside (suc n)) (drop inside at.rest)
+    → said (regions.Inside n) closing.rest ≡ said (regions.Inside n) (drop behind closing.rest)
+    → said (regions.Inside n) ps ≡ said (regions.Inside n) (drop (suc (inside + suc behind)) ps)
+over_block n inside behind ps first last ws vs at closing opens closes within after =
+    let P : Word → Type 0 = λ x. is sy.OpenBrace x ≡ true in
+    let Q : Word → Type 0 = λ x. is sy.CloseBrace x ≡ true in
+    let over : drop (suc (inside + suc behind)) ps ≡ drop behind closing.rest =
+    ap (λ (l : List (ℕ × Word)). drop (suc (inside + suc behind)) l) at.cut
+    ∙ sym (drop-drop (suc behind) inside at.rest)
+    ∙ ap (λ (l : List (ℕ × Word)). drop (suc behind) l) closing.cut in
+    ap (said (regions.Inside n)) at.cut
+    ∙ open_step n at.first at.rest (subst P (sym at.word) opens)
+    ∙ within
+    ∙ ap (said (regions.Inside (suc n))) closing.cut
+    ∙ close_step n closing.first closing.rest (subst Q (sym closing.word) closes)
+    ∙ after
+    ∙ ap (said (regions.Inside n)) (sym over)
+
+over_plain : (n behind : ℕ) (ps : List (ℕ × Word)) (w : Word) (ws : List Word) (at : Begins ps w ws) → is sy.OpenBrace w ≡ false → is sy.CloseBrace w ≡ false
+    → said (regions.Inside n) at.rest ≡ said (regions.Inside n) (drop behind at.rest) → said (regions.Inside n) ps ≡ said (regions.Inside n) (drop (suc behind) ps)
+over_plain n behind ps w ws at no_open no_close after =
+    let P : Word → Type 0 = λ x. is sy.OpenBrace x ≡ false in
+    let Q : Word → Type 0 = λ x. is sy.CloseBrace x ≡ false in
+    ap (said (regions.Inside n)) at.cut
+    ∙ plain_step n at.first at.rest (subst P (sym at.word) no_open) (subst Q (sym at.word) no_close)
+    ∙ after
+    ∙ ap (λ (l : List (ℕ × Word)). said (regions.Inside n) (drop (suc behind) l)) (sym at.cut)
+
+pass : (b : Braces) (n : ℕ) (ps : List (ℕ × Word)) (more : List Word) → AreBraces b → words_of_pairs ps ≡ words_in b ++ more → said (regions.Inside n) ps ≡ said (regions.Inside n) (drop (length (words_in b)) ps)
+pass Nothing n ps more are e = refl
+pass (Plain w bs) n ps more are e =
+    let at = begins ps w (words_in bs ++ more) e in
+    over_plain n (length (words_in bs)) ps w (words_in bs ++ more) at are.0 are.1 (pass bs n at.rest more are.2 at.words)
+pass (Braced first inside last bs) n ps more are e =
+    let at = begins ps first (words_in inside ++ (last ∷ (words_in bs ++ more))) (e ∙ ap (λ (l : List Word). first ∷ l) (append_assoc (words_in inside) (last ∷ words_in bs) more)) in
+    let closing = begins (drop (length (words_in inside)) at.rest) last (words_in bs ++ more) (rest_words at.rest (words_in inside) (last ∷ (words_in bs ++ more)) at.words) in
+    let count : length (words_in inside) + suc (length (words_in bs)) ≡ length (words_in inside ++ (last ∷ words_in bs)) = sym (length-append (words_in inside) (last ∷ words_in bs)) in
+    over_block n (length (words_in inside)) (length (words_in bs)) ps first last (words_in inside ++ (last ∷ (words_in bs ++ more))) (words_in bs ++ more) at closing are.0 are.2
+    (pass inside (suc n) at.rest (last ∷ (words_in bs ++ more)) are.1 at.words) (pass bs n closing.rest more are.3 closing.words)
+    ∙ ap (λ (k : ℕ). said (regions.Inside n) (drop (suc k) ps)) count
+
+map_front : (inside : List (ℕ × Word)) (more : List (ℕ × Word)) → words_of_pairs (inside ++ more) ≡ words_of_pairs inside ++ words_of_pairs more
+map_front [] more = refl
+map_front (p ∷ inside) more = ap (λ (l : List Word). p.1 ∷ l) (map_front inside more)
+
+pub block_taken_out : (inside rest : List (ℕ × Word)) (brace : ℕ × Word) → IsBalanced (map (λ p. p.1) inside) → is sy.CloseBrace brace.1 ≡ true → said (regions.Inside 0) (inside ++ brace ∷ rest) ≡ brace ∷ said regions.Statements rest
+block_taken_out inside rest brace balanced closing =
+    let split : words_of_pairs (inside ++ brace ∷ rest) ≡ words_in balanced.0 ++ words_of_pairs (brace ∷ rest) = map_front inside (brace ∷ rest) ∙ ap (λ (l : List Word). l ++ words_of_pairs (brace ∷ rest)) (sym balanced.2) in
+    let len : length (words_in balanced.0) ≡ length inside = ap (λ (l : List Word). length l) balanced.2 ∙ length-map inside (λ (p : ℕ × Word). p.1) in
+    pass balanced.0 0 (inside ++ brace ∷ rest) (words_of_pairs (brace ∷ rest)) balanced.1 split
+    ∙ ap (λ (k : ℕ). said (regions.Inside 0) (drop k (inside ++ brace ∷ rest))) len
+    ∙ ap (said (regions.Inside 0)) (drop-append_seam inside (brace ∷ rest))
+    ∙ end_step brace rest closing
+
+-- ---- where something is said, the block is closed
+
+record Closes (n : ℕ) (ps : List (ℕ × Word)) : Type 0 where
+  pub inside : List (ℕ × Word)
+  pub rest : List (ℕ × Word)
+  pub brace : ℕ × Word
+  pub cut : ps ≡ inside ++ brace ∷ rest
+  pub balanced : IsBalanced (map (λ p. p.1) inside)
+  pub closing : is sy.CloseBrace brace.1 ≡ true
+  pub later : (m : ℕ) → n ≡ suc m → said (regions.Inside m) rest ≢ []
+
+closes_here : (n : ℕ) (p : ℕ × Word) (ps : List (ℕ × Word)) → is sy.CloseBrace p.1 ≡ true → said (regions.Inside n) (p ∷ ps) ≢ [] → Closes n (p ∷ ps)
+closes_here n p ps here says_some = record {
+  inside = [];
+  rest = ps;
+  brace = p;
+  cut = refl;
+  balanced = (Nothing, tt, refl);
+  closing = here;
+  later = λ m is_next none. says_some (ap (λ (k : ℕ). said (regions.Inside k) (p ∷ ps)) is_next ∙ close_step m p ps here ∙ none);
+}
+
+closes_plain : (n : ℕ) (p : ℕ × Word) (ps : List (ℕ × Word)) → is sy.OpenBrace p.1 ≡ false → is sy.CloseBrace p.1 ≡ false → Closes n ps → Closes n (p ∷ ps)
+closes_plain n p ps no_open no_close found = record {
+  inside = p ∷ found.inside;
+  rest = found.rest;
+  brace = found.brace;
+  cut = ap (λ (l : List (ℕ × Word)). p ∷ l) found.cut;
+  balanced = (Plain p.1 found.balanced.0, (no_open, no_close, found.balanced.1), ap (λ (l : List Word). p.1 ∷ l) found.balanced.2);
+  closing = found.closing;
+  later = found.later;
+}
+
+closes_braced : (n : ℕ) (p : ℕ × Word) (ps : List (ℕ × Word)) → is sy.OpenBrace p.1 ≡ true → (one : Closes (suc n) ps) → Closes n one.rest → Closes n (p ∷ ps)
+closes_braced n p ps here one two = record {
+  inside = p ∷ (one.inside ++ (one.brace ∷ two.inside));
+  rest = two.rest;
+  brace = two.brace;
+  cut = ap (λ (l : List (ℕ × Word)). p ∷ l) (one.cut ∙ ap (λ (l : List (ℕ × Word)). one.inside ++ (one.brace ∷ l)) two.cut ∙ sym (append_assoc one.inside (one.brace ∷ two.inside) (two.brace ∷ two.rest)));
+  balanced = (
+    Braced p.1 one.balanced.0 one.brace.1 two.balanced.0,
+    (here, one.balanced.1, one.closing, two.balanced.1),
+    ap (λ (l : List Word). p.1 ∷ (l ++ (one.brace.1 ∷ words_in two.balanced.0))) one.balanced.2
+        ∙ ap (λ (l : List Word). p.1 ∷ (words_of_pairs one.inside ++ (one.brace.1 ∷ l))) two.balanced.2
+        ∙ ap (λ (l : List Word). p.1 ∷ l) (sym (map_front one.inside (one.brace ∷ two.inside))),
+  );
+  closing = two.closing;
+  later = two.later;
+}
+
+-- by the number of words at most
+closes : (k n : ℕ) (ps : List (ℕ × Word)) → length ps ≤ k → said (regions.Inside n) ps ≢ [] → Closes n ps
+closes k n [] few says_some = absurd (says_some refl)
+closes zero n (p ∷ ps) few says_some = absurd (omega (arith, few))
+closes (suc k) n (p ∷ ps) few says_some = elim (cases_Bool (is sy.CloseBrace p.1)) [
+  | inl here ↦ closes_here n p ps here says_some
+  | inr no_close ↦ elim (cases_Bool (is sy.OpenBrace p.1)) [
+    | inl opens ↦
+        let one = closes k (suc n) ps (omega (arith, few)) (λ none. says_some (open_step n p ps opens ∙ none)) in
+        let shorter : length one.rest ≤ k = omega (arith, few, ap (λ (l : List (ℕ × Word)). length l) one.cut, length-append one.inside (one.brace ∷ one.rest)) in
+        closes_braced n p ps opens one (closes k n one.rest shorter (one.later n refl))
+    | inr no_open ↦ closes_plain n p ps no_open no_close (closes k n ps (omega (arith, few)) (λ none. says_some (plain_step n p ps no_open no_close ∙ none)))
+  ]
+]
+
+pub block_closes : (ps : List (ℕ × Word)) → said (regions.Inside 0) ps ≢ [] → (inside rest : List (ℕ × Word)) × (brace : ℕ × Word) × (ps ≡ inside ++ brace ∷ rest) × IsBalanced (map (λ p. p.1) inside) × (is sy.CloseBrace brace.1 ≡ true)
+block_closes ps says_some = let found = closes (length ps) 0 ps (omega arith) says_some in (found.inside, found.rest, found.brace, found.cut, found.balanced, found.closing)
+
+-- ---- logs
+
+held_step : (p : ℕ × Word) (ps : List (ℕ × Word)) → is sy.Semicolon p.1 ≡ false → said regions.Log (p ∷ ps) ≡ said regions.Log ps
+held_step p ps other = rw other refl
+
+end_of_log : (p : ℕ × Word) (ps : List (ℕ × Word)) → is sy.Semicolon p.1 ≡ true → said regions.Log (p ∷ ps) ≡ p ∷ said regions.Statements ps
+end_of_log p ps here = rw here refl
+
+pub log_taken_out : (held rest : List (ℕ × Word)) (semicolon : ℕ × Word) → list_all (λ p. not (is sy.Semicolon p.1)) held ≡ true → is sy.Semicolon semicolon.1 ≡ true → said regions.Log (held ++ semicolon ∷ rest) ≡ semicolon ∷ said regions.Statements rest
+log_taken_out [] rest semicolon none here = end_of_log semicolon rest here
+log_taken_out (p ∷ held) rest semicolon none here =
+    let parts = and_parts (not (is sy.Semicolon p.1)) (list_all (λ q. not (is sy.Semicolon q.1)) held) none in
+    held_step p (held ++ semicolon ∷ rest) (not-true (is sy.Semicolon p.1) parts.0) ∙ log_taken_out held rest semicolon parts.1 here

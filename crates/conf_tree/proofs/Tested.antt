@@ -1,0 +1,8 @@
+-- The grammar passes the test.
+use Rattle.std.proofs.Common.{◌≡◌, true, refl}
+use Rattle.grammar.proofs.Checks.{check}
+use Rattle.filt_syntax.proofs.Tested.{model, after}
+use Rattle.conf_tree.specs.Syntax.{config}
+
+pub config_checked : check model after config ≡ true
+config_checked = refl

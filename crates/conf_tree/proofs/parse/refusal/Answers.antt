@@ -1,0 +1,9 @@
+use Rattle.std.proofs.Common.{refl}
+use Rattle.conf_tree.proofs.Known.{not_both}
+use Rattle.conf_tree.proofs.parse.refusal.Goals as goal
+
+pub returns-in-Ok-true : goal.returns-in-Ok-true
+returns-in-Ok-true c = (refl, c.in-Ok-true.ensures.0 c.in-Ok-true.field-0-test)
+
+pub returns-in-Ok-false : goal.returns-in-Ok-false
+returns-in-Ok-false c = (refl, λ known. not_both c.in-Ok-false.field-0 (c.in-Ok-false.ensures.1 known) c.in-Ok-false.field-0-test)

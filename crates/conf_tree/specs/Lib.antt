@@ -1,0 +1,7 @@
+pub mod Syntax
+pub mod View
+pub mod Readers
+pub mod Said
+pub mod Sentence
+pub mod Position
+pub mod Read

@@ -1,0 +1,14 @@
+-- Lines and columns.
+use Rattle.std.specs.Prelude.{◌≡◌, ◌⊎◌, ℕ, ◌+◌, IsTrue, not, ◌==◌, List, [], ◌∷◌, ◌++◌, length, take, filter}
+use Rattle.std.specs.List.{list_all}
+
+-- The bytes before a place are lines, each with its newline, and the front of one more. Lines, and the bytes of a line, are
+-- counted from 1.
+pub record IsPlace (text : List ℕ) (at line column : ℕ) : Type 0 where
+  pub lines : List ℕ
+  pub front : List ℕ
+  pub before : take at text ≡ lines ++ front
+  pub ended : (lines ≡ []) ⊎ ((bytes : List ℕ) × (lines ≡ bytes ++ 10 ∷ []))
+  pub in_line : IsTrue (list_all (λ b. not (b == 10)) front)
+  pub line_is : line ≡ length (filter (λ b. b == 10) lines) + 1
+  pub column_is : column ≡ length front + 1

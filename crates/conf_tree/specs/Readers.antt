@@ -1,0 +1,133 @@
+-- Reading each form of the configuration, where k more levels may be opened.
+use Rattle.std.specs.Prelude.{ℕ, List, [], ◌∷◌}
+use Rattle.conf_lex.specs.declared.symbol.Symbol.TheVariants as sym
+use Rattle.conf_lex.specs.declared.word.Word.{Word}
+use Rattle.grammar.specs.Kind.{name, address, symbol}
+use Rattle.grammar.specs.Grammar.{Form, One, Seq, Either, Bad, Tree, First, starts}
+use Rattle.grammar.specs.Reading.{Read, Reader, Got, Fault, and_then, word, both, all_turns, read}
+use Rattle.filt_syntax.specs.Syntax.{optional, is_num, semicolon, rule}
+use Rattle.conf_tree.specs.Syntax.{is_switch, policy, action, channel_option, ended_options, channel, route_target, static_option, transport, bgp_option, pipe_option, literal, parameter, parameters, gives, protocol_of, device, protocol, statement, config}
+
+unfoldable pub optional_name_at : ℕ → Reader
+optional_name_at k = read rule k (optional (One name))
+
+unfoldable pub optional_address_at : ℕ → Reader
+optional_address_at k = read rule k (optional (One address))
+
+unfoldable pub optional_switch_at : ℕ → Reader
+optional_switch_at k = read rule k (optional (One is_switch))
+
+unfoldable pub optional_number_at : ℕ → Reader
+optional_number_at k = read rule k (optional (One is_num))
+
+unfoldable pub optional_semicolon_at : ℕ → Reader
+optional_semicolon_at k = read rule k (optional semicolon)
+
+-- "as" num
+unfoldable pub as_at : ℕ → Reader
+as_at k = read rule k (Seq (One (symbol sym.As)) (One is_num))
+
+-- "time" num
+unfoldable pub time_at : ℕ → Reader
+time_at k = read rule k (Seq (One (symbol sym.Time)) (One is_num))
+
+unfoldable pub policy_at : ℕ → Reader
+policy_at k = read rule k policy
+
+-- an action, or nothing
+unfoldable pub action_at : ℕ → Reader
+action_at k = read rule k (optional action)
+
+-- behind "limit"
+unfoldable pub limit_value_at : ℕ → Reader
+limit_value_at k = read rule k (Either (One (symbol sym.Off)) (Seq (One is_num) (optional action)))
+
+unfoldable pub channel_option_at : ℕ → Reader
+channel_option_at k = read rule k channel_option
+
+-- options and the brace behind them
+abbrev pub closed_options : Form → ℕ → Reader
+closed_options item k = both (read rule k (ended_options item)) (word (symbol sym.CloseBrace))
+
+unfoldable pub channel_options_at : ℕ → Reader
+channel_options_at = closed_options channel_option
+
+unfoldable pub channel_at : ℕ → Reader
+channel_at k = read rule k channel
+
+unfoldable pub route_target_at : ℕ → Reader
+route_target_at k = read rule k route_target
+
+unfoldable pub static_option_at : ℕ → Reader
+static_option_at k = read rule k static_option
+
+unfoldable pub static_options_at : ℕ → Reader
+static_options_at = closed_options static_option
+
+unfoldable pub transport_at : ℕ → Reader
+transport_at k = read rule k transport
+
+unfoldable pub bgp_option_at : ℕ → Reader
+bgp_option_at k = read rule k bgp_option
+
+unfoldable pub bgp_options_at : ℕ → Reader
+bgp_options_at = closed_options bgp_option
+
+unfoldable pub pipe_option_at : ℕ → Reader
+pipe_option_at k = read rule k pipe_option
+
+unfoldable pub pipe_options_at : ℕ → Reader
+pipe_options_at = closed_options pipe_option
+
+unfoldable pub static_at : ℕ → Reader
+static_at k = read rule k (protocol_of sym.Static static_option)
+
+unfoldable pub bgp_at : ℕ → Reader
+bgp_at k = read rule k (protocol_of sym.Bgp bgp_option)
+
+unfoldable pub pipe_at : ℕ → Reader
+pipe_at k = read rule k (protocol_of sym.Pipe pipe_option)
+
+unfoldable pub device_at : ℕ → Reader
+device_at k = read rule k device
+
+-- behind "protocol"
+unfoldable pub protocol_at : ℕ → Reader
+protocol_at k = read rule k protocol
+
+unfoldable pub literal_at : ℕ → Reader
+literal_at k = read rule k literal
+
+unfoldable pub parameter_at : ℕ → Reader
+parameter_at k = read rule k parameter
+
+-- parameters, or nothing
+unfoldable pub parameters_at : ℕ → Reader
+parameters_at k = read rule k (optional parameters)
+
+-- one or more parameters, as what may be left out
+unfoldable pub some_parameters_at : ℕ → Reader
+some_parameters_at k ws = and_then (read rule k parameters ws) (λ t rest. Got (First t) rest)
+
+-- "->" and a type, or nothing
+unfoldable pub gives_at : ℕ → Reader
+gives_at k = read rule k (optional gives)
+
+unfoldable pub statement_at : ℕ → Reader
+statement_at k = read rule k statement
+
+-- statements after a tree
+unfoldable pub statement_row_at : ℕ → Tree → Reader
+statement_row_at k = all_turns (starts statement) (statement_at k)
+
+unfoldable pub config_at : ℕ → Reader
+config_at k = read rule k config
+
+-- where words are left that begin no statement, the first of them is refused
+abbrev pub to_the_end : Tree → List Word → Read
+to_the_end t [] = Got t []
+to_the_end t (w ∷ ws) = Fault Bad (w ∷ ws)
+
+-- a configuration to the end of the words
+unfoldable pub whole_at : ℕ → Reader
+whole_at k ws = and_then (config_at k ws) to_the_end

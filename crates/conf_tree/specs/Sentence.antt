@@ -1,0 +1,134 @@
+-- Which words are a configuration, and the first word of others that is refused.
+use Rattle.std.specs.Prelude.{◌≡◌, ◌≢◌, ◌≤◌, ◌⊎◌, ℕ, Bool, List, [], ◌∷◌, ◌++◌, length, take, drop, codes, IsTrue, Option, Some, None, IsSomeAnd, Result, Ok, Err}
+use Rattle.std.specs.List.{list_any}
+use Rattle.std.specs.Bool.{nat_eq}
+use Rattle.std.specs.Cmp.Lexicographic.{pointwise}
+use Rattle.conf_lex.specs.Words.{slice_of}
+use Rattle.conf_lex.specs.declared.symbol.Symbol.{Symbol}
+use Rattle.conf_lex.specs.declared.symbol.Symbol.TheVariants as sym
+use Rattle.conf_lex.specs.declared.token.Token.{Token}
+use Rattle.conf_lex.specs.declared.token.TokenKind.{TokenKind}
+use Rattle.conf_lex.specs.declared.token.TokenKind.TheVariants as kinds
+use Rattle.conf_lex.specs.declared.word.Word.{Word}
+use Rattle.conf_lex.specs.declared.word.Word.TheVariants as words
+use Rattle.grammar.specs.Grammar.{Tree, yield, refused, Fits}
+use Rattle.grammar.specs.Sentences.{IsBegun, IsBegunWithin, IsLast, IsTooDeep}
+use Rattle.filt_syntax.specs.Syntax.{rule}
+use Rattle.filt_syntax.specs.declared.parse.SyntaxFault.{SyntaxFault}
+use Rattle.filt_syntax.specs.declared.parse.SyntaxFault.TheVariants as faults
+use Rattle.conf_tree.specs.Syntax.{config}
+use Rattle.conf_tree.specs.Said.{said_words, token_of}
+use Rattle.conf_tree.specs.declared.tree.Config.{Config}
+use Rattle.conf_tree.specs.View.{config_view}
+
+-- the words are a configuration of this tree, with no more than 64 levels in a block or an expression
+pub record IsSentence (said : List Word) (t : Tree) : Type 0 where
+  pub fits : Fits rule t config
+  pub whole : yield t ≡ said
+  pub levels : refused t 64 ≡ None
+
+-- The words before the rest begin a configuration within 64 levels. With the first of the rest they begin none; where
+-- there is no rest, they are none.
+pub record IsStop (said rest : List Word) : Type 0 where
+  pub before : List Word
+  pub front : said ≡ before ++ rest
+  pub begun : IsBegunWithin rule 64 config before
+  pub last : IsLast rule config before rest
+  pub unfinished : rest ≡ [] → (t : Tree) → Fits rule t config → yield t ≢ before
+
+-- ---- words that are known and not supported
+
+-- this symbol can stand behind these words
+abbrev pub CanStand : Symbol → List Word → Type 0
+CanStand s before = IsBegun rule config (before ++ words.Symbol s ∷ [])
+
+-- these words end in this symbol, behind others of which this is said
+abbrev pub EndsIn : Symbol → List Word → (List Word → Type 0) → Type 0
+EndsIn s before P = (front : List Word) × (before ≡ front ++ words.Symbol s ∷ []) × P front
+
+-- a word is one of several
+abbrev pub is_one_of : List (List ℕ) → List ℕ → Bool
+is_one_of several word = list_any (λ other. pointwise nat_eq other word) several
+
+-- in place of a statement
+abbrev pub statement_words : List (List ℕ)
+statement_words = codes "template" ∷ codes "include" ∷ codes "roa4" ∷ codes "roa6" ∷ codes "vpn4" ∷ codes "vpn6" ∷ codes "mpls" ∷ codes "flow4" ∷ codes "flow6" ∷ []
+
+-- in place of an option of a bgp protocol
+abbrev pub bgp_words : List (List ℕ)
+bgp_words = codes "deterministic" ∷ codes "rr" ∷ codes "confederation" ∷ codes "path" ∷ codes "allow" ∷ codes "add" ∷ []
+
+-- in place of an option of a channel
+abbrev pub channel_words : List (List ℕ)
+channel_words = codes "receive" ∷ codes "keep" ∷ codes "add" ∷ []
+
+-- behind a channel's "import"
+abbrev pub import_words : List (List ℕ)
+import_words = codes "table" ∷ codes "keep" ∷ []
+
+-- The word, which can't stand behind these words, is known there and not supported: any word behind "protocol", and words
+-- where others can stand. "define" can stand where a statement can, "neighbor" where an option of a bgp protocol can,
+-- "next" where one of a channel can, "limit" behind a channel's "import", "warn" behind "action", and "blackhole" behind
+-- the prefix of a route.
+pub data IsUnsupported (before : List Word) (word : List ℕ) : Type 0 where
+  a_kind : EndsIn sym.Protocol before (λ front. Unit {0}) → IsUnsupported before word
+  a_statement : IsTrue (is_one_of statement_words word) → CanStand sym.Define before → IsUnsupported before word
+  a_bgp_option : IsTrue (is_one_of bgp_words word) → CanStand sym.Neighbor before → IsUnsupported before word
+  a_channel_option : IsTrue (is_one_of channel_words word) → CanStand sym.Next before → IsUnsupported before word
+  an_import : IsTrue (is_one_of import_words word) → CanStand sym.Limit before → IsUnsupported before word
+  an_export : word ≡ codes "limit" → EndsIn sym.Export before (CanStand sym.Next) → IsUnsupported before word
+  an_action : word ≡ codes "restart" → CanStand sym.Warn before → IsUnsupported before word
+  a_route : word ≡ codes "recursive" → CanStand sym.Blackhole before → IsUnsupported before word
+
+-- the bytes of a word without quotes
+abbrev pub kind_bytes : List ℕ → TokenKind → Option (List ℕ)
+kind_bytes slice kinds.Name = Some slice
+kind_bytes slice _ = None
+
+-- the first token is such a word
+abbrev pub first_bytes : List ℕ → List Token → Option (List ℕ)
+first_bytes text [] = None
+first_bytes text (t ∷ ts) = kind_bytes (slice_of text t) t.kind
+
+-- ---- refusals
+
+-- the word in this place is refused, and begins with this token
+pub record StopsAt (text : List ℕ) (tokens : List Token) (place at : ℕ) : Type 0 where
+  pub within : place ≤ length (said_words text tokens)
+  pub stop : IsStop (said_words text tokens) (drop place (said_words text tokens))
+  pub token : at ≡ token_of text tokens place
+
+-- it is known there
+abbrev pub IsKnown : List ℕ → List Token → ℕ → ℕ → Type 0
+IsKnown text tokens place at = IsSomeAnd (first_bytes text (drop at tokens)) (IsUnsupported (take place (said_words text tokens)))
+
+-- the word in this place opens the 65th level
+pub record DeepensAt (text : List ℕ) (tokens : List Token) (place at : ℕ) : Type 0 where
+  pub within : place ≤ length (said_words text tokens)
+  pub deep : IsTooDeep rule 64 config (said_words text tokens) (drop place (said_words text tokens))
+  pub token : at ≡ token_of text tokens place
+
+-- a word that can't stand in its place, and begins with this token, is refused so; whether it is known there
+abbrev pub Refuses : Type 0 → ℕ → SyntaxFault → Type 0
+Refuses known at (faults.Bad token) = (token ≡ at) × (known → ⊥)
+Refuses known at (faults.Unsupported token) = (token ≡ at) × known
+Refuses known at (faults.TooDeep token) = ⊥
+Refuses known at faults.Memory = Unit {0}
+
+-- the tokens of a text are refused so
+abbrev pub IsRefused : List ℕ → List Token → SyntaxFault → Type 0
+IsRefused text tokens (faults.Bad at) = (place : ℕ) × StopsAt text tokens place at × (IsKnown text tokens place at → ⊥)
+IsRefused text tokens (faults.Unsupported at) = (place : ℕ) × StopsAt text tokens place at × IsKnown text tokens place at
+IsRefused text tokens (faults.TooDeep at) = (place : ℕ) × DeepensAt text tokens place at
+IsRefused text tokens faults.Memory = Unit {0}
+
+-- the answer is this tree, unless memory ran out
+abbrev pub IsTree : Result Config SyntaxFault → Tree → Type 0
+IsTree (Ok tree) t = config_view tree ≡ t
+IsTree (Err e) t = e ≡ faults.Memory
+
+-- the answer is this fault, unless memory ran out
+abbrev pub IsAnswered : Result Config SyntaxFault → SyntaxFault → Type 0
+IsAnswered r faults.Memory = Unit {0}
+IsAnswered (Ok tree) e = ⊥
+IsAnswered (Err d) e = (d ≡ faults.Memory) ⊎ (d ≡ e)

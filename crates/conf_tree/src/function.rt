@@ -1,0 +1,121 @@
+// Functions. `left` is how many more levels may be opened.
+
+ghost use Rattle.std.specs.Prelude.{◌≡◌, ◌∷◌, false, MatchOption, IfOk};
+ghost use Rattle.conf_lex.specs.declared.symbol.Symbol.TheVariants as sym;
+ghost use Rattle.conf_lex.specs.declared.word.Word.{Word};
+ghost use Rattle.grammar.specs.Grammar.{Both, begins};
+ghost use Rattle.grammar.specs.Reading.{both, word};
+ghost use Rattle.grammar.specs.Kind.{symbol};
+ghost use Rattle.grammar.specs.Shapes.{symbol_leaf};
+ghost use Rattle.grammar.specs.Gives.{Gives};
+ghost use Rattle.conf_tree.specs.Syntax.{is_separator};
+ghost use Rattle.conf_tree.specs.View.{maybe, parameter_tree, parameters_tree, separator_symbol, gives_tree, statement_tree};
+ghost use Rattle.conf_tree.specs.Readers.{parameter_at, some_parameters_at, parameters_at, gives_at, statement_at};
+
+use crate::tree::Statement;
+use conf_lex::{Symbol, Word};
+use filt_syntax::parts::{variable_type, whole_block};
+use filt_syntax::{Function, Parameter, Separator, VariableType};
+use grammar::{Refusal, after, expect, expect_name};
+use std::alloc::Global;
+
+fn parameter<'a>(
+    separator: Option<Separator>,
+    words: &'a [Word],
+) -> Result<(Parameter, &'a [Word]), Refusal<'a>>
+    ensures tree { Gives parameter_tree result (parameter_at 0 words.now) }
+    ensures separator { IfOk result (λ found. found.0.separator ≡ separator) }
+{
+    let (variable_type, rest) = variable_type(words)?;
+    let (name, rest) = expect_name(rest)?;
+    let parameter = Parameter {
+        separator,
+        variable_type,
+        name,
+    };
+    Ok((parameter, rest))
+}
+
+fn next_separator(words: &[Word]) -> Option<(Separator, &[Word])>
+    ensures { MatchOption result (begins is_separator words.now ≡ false) (λ found. words.now ≡ Word.Symbol (separator_symbol found.0) ∷ found.1.now) }
+{
+    if let Some(rest) = after(words, Symbol::Semicolon) {
+        return Some((Separator::Semicolon, rest));
+    }
+    match after(words, Symbol::Comma) {
+        Some(rest) => Some((Separator::Comma, rest)),
+        None => None,
+    }
+}
+
+// One or more parameters.
+fn some_parameters<'a>(
+    alloc: Global,
+    words: &'a [Word],
+) -> Result<(Vec<Parameter>, &'a [Word]), Refusal<'a>>
+    ensures { Gives (λ v. parameters_tree v.items) result (some_parameters_at 0 words.now) }
+{
+    let mut parameters = Vec::new(alloc);
+    let (first, mut rest) = parameter(None, words)?;
+    parameters.push(first)?;
+    while let Some((separator, next)) = next_separator(rest) {
+        let (more, end) = parameter(Some(separator), next)?;
+        parameters.push(more)?;
+        rest = end;
+    }
+    Ok((parameters, rest))
+}
+
+// Parameters between parentheses, by the words after the opening one.
+fn parameters<'a>(
+    alloc: Global,
+    words: &'a [Word],
+) -> Result<(Vec<Parameter>, &'a [Word]), Refusal<'a>>
+    ensures { Gives (λ v. Both (parameters_tree v.items) (symbol_leaf sym.CloseParenthesis)) result (both (parameters_at 0) (word (symbol sym.CloseParenthesis)) words.now) }
+{
+    match after(words, Symbol::CloseParenthesis) {
+        Some(rest) => Ok((Vec::new(alloc), rest)),
+        None => {
+            let (parameters, rest) = some_parameters(alloc, words)?;
+            let rest = expect(rest, Symbol::CloseParenthesis)?;
+            Ok((parameters, rest))
+        }
+    }
+}
+
+// The type of what a function gives, if one comes next.
+fn optional_type(words: &[Word]) -> Result<(Option<VariableType>, &[Word]), Refusal>
+    ensures { Gives (maybe gives_tree) result (gives_at 0 words.now) }
+{
+    match after(words, Symbol::Arrow) {
+        Some(rest) => {
+            let (gives, rest) = variable_type(rest)?;
+            Ok((Some(gives), rest))
+        }
+        None => Ok((None, words)),
+    }
+}
+
+/// By the words after `function`.
+pub fn function<'a>(
+    alloc: Global,
+    words: &'a [Word],
+    behind: &'a [Word],
+    left: u32,
+) -> Result<(Statement, &'a [Word]), Refusal<'a>>
+    requires { words.now ≡ Word.Symbol sym.Function ∷ behind.now }
+    ensures { Gives statement_tree result (statement_at left words.now) }
+{
+    let (name, rest) = expect_name(behind)?;
+    let rest = expect(rest, Symbol::OpenParenthesis)?;
+    let (parameters, rest) = parameters(alloc, rest)?;
+    let (gives, rest) = optional_type(rest)?;
+    let (block, rest) = whole_block(alloc, rest, left)?;
+    let function = Function {
+        name,
+        parameters,
+        gives,
+        block,
+    };
+    Ok((Statement::Function(function), rest))
+}

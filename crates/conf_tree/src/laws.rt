@@ -1,0 +1,64 @@
+//! What logs and device blocks hold, that a text says one thing, and that a place has one line and one column.
+ghost use Rattle.std.specs.Prelude.{◌≡◌, ◌≢◌, ℕ, true, not, List, [], ◌∷◌, ◌++◌, map};
+ghost use Rattle.std.specs.List.{list_all};
+ghost use Rattle.conf_lex.specs.declared.symbol.Symbol.{Symbol};
+ghost use Rattle.conf_lex.specs.declared.word.Word.{Word};
+ghost use Rattle.conf_tree.specs.declared.said.Region.{Region};
+ghost use Rattle.conf_tree.specs.Said.{is, said, IsBalanced};
+ghost use Rattle.conf_tree.specs.Position.{IsPlace};
+ghost use Rattle.conf_tree.specs.Read.{IsConfigText, IsRefusedText};
+ghost use Rattle.conf_tree.specs.declared.kind.ConfKind.{ConfKind};
+ghost use Rattle.grammar.specs.Grammar.{Tree};
+
+use crate::kind::ConfKind;
+use crate::said::Region;
+use conf_lex::laws::{
+    lexed_texts_are_not_refused, texts_are_refused_at_one_place, texts_have_one_list_of_tokens,
+};
+use conf_lex::{Symbol, Word};
+
+/// What stands between the braces of a device says nothing: words in which each brace is closed are taken out, up to the
+/// brace that closes the block.
+pub fn device_blocks_are_taken_out()
+    ensures { (inside rest : List (ℕ × Word)) (brace : ℕ × Word) → IsBalanced (map (λ p. p.1) inside) → is Symbol.CloseBrace brace.1 ≡ true → said (Region.Inside 0) (inside ++ brace ∷ rest) ≡ brace ∷ said Region.Statements rest }
+{}
+
+/// Where the words behind a device's opening brace say something, some of them close the block: words in which each brace
+/// is closed, and a closing brace. So a block that isn't closed says nothing to the text's end.
+pub fn only_closed_blocks_end()
+    ensures { (ps : List (ℕ × Word)) → said (Region.Inside 0) ps ≢ [] → (inside rest : List (ℕ × Word)) × (brace : ℕ × Word) × (ps ≡ inside ++ brace ∷ rest) × IsBalanced (map (λ p. p.1) inside) × (is Symbol.CloseBrace brace.1 ≡ true) }
+{}
+
+/// What a log holds says nothing: words without a semicolon are taken out, up to the semicolon.
+pub fn logs_are_taken_out()
+    ensures { (held rest : List (ℕ × Word)) (semicolon : ℕ × Word) → list_all (λ p. not (is Symbol.Semicolon p.1)) held ≡ true → is Symbol.Semicolon semicolon.1 ≡ true → said Region.Log (held ++ semicolon ∷ rest) ≡ semicolon ∷ said Region.Statements rest }
+{}
+
+/// A place of a text has one line and one column.
+pub fn places_have_one_line_and_column()
+    ensures { (text : List ℕ) (at l m c d : ℕ) → IsPlace text at l c → IsPlace text at m d → (l ≡ m) × (c ≡ d) }
+{}
+
+/// A text is one configuration at most.
+pub fn a_text_is_one_configuration()
+    ensures { (text : List ℕ) (t u : Tree) → IsConfigText text t → IsConfigText text u → t ≡ u }
+{
+    texts_have_one_list_of_tokens();
+}
+
+/// A text is refused at one byte at most, for one reason.
+pub fn a_text_has_one_refusal()
+    ensures { (text : List ℕ) (at b : ℕ) (kind other : ConfKind) → IsRefusedText text at kind → IsRefusedText text b other → (at ≡ b) × (kind ≡ other) }
+{
+    texts_have_one_list_of_tokens();
+    lexed_texts_are_not_refused();
+    texts_are_refused_at_one_place();
+}
+
+/// A text that is a configuration isn't refused.
+pub fn configurations_are_not_refused()
+    ensures { (text : List ℕ) (t : Tree) (at : ℕ) (kind : ConfKind) → IsConfigText text t → IsRefusedText text at kind → ⊥ }
+{
+    texts_have_one_list_of_tokens();
+    lexed_texts_are_not_refused();
+}

@@ -1,0 +1,156 @@
+// The configuration of a text with these tokens.
+
+ghost use Rattle.std.specs.Prelude.{◌≡◌, ◌↔◌, ◌≤◌, ◌+◌, length, drop, None, Some, IsTrue, IsSomeAnd, MatchOption, IfOk, IfErr, slice_index_or};
+ghost use Rattle.conf_lex.specs.Lex.{Lexes};
+ghost use Rattle.conf_lex.specs.Words.{slice_of};
+ghost use Rattle.grammar.specs.Grammar.{Tree};
+ghost use Rattle.grammar.specs.Sentences.{IsBegunWithin, IsTooDeep};
+ghost use Rattle.filt_syntax.specs.Syntax.{rule};
+ghost use Rattle.conf_tree.specs.Syntax.{config};
+ghost use Rattle.filt_syntax.specs.declared.parse.SyntaxFault.{SyntaxFault};
+ghost use Rattle.conf_tree.specs.Said.{said_words, said_starts};
+ghost use Rattle.conf_tree.specs.Sentence.{first_bytes, IsUnsupported, Refuses, IsSentence, IsStop, IsRefused, IsTree, IsAnswered};
+ghost use Rattle.conf_tree.specs.View.{config_view};
+
+use crate::config::config;
+use crate::said::said_words;
+use crate::tree::Config;
+use crate::unsupported::is_unsupported;
+use bits_ip::OutOfMemory;
+use conf_lex::laws::tokens_are_slices;
+use conf_lex::{Token, TokenKind, Word, Words};
+use filt_syntax::SyntaxFault;
+use filt_syntax::parts::LEVELS;
+use grammar::Refusal;
+use std::alloc::Global;
+
+// The place of the token with which a word begins; behind the last word the end of the tokens.
+fn token_at(starts: &[usize], place: usize, end: usize) -> usize
+    ensures { result ≡ slice_index_or starts.now place end }
+{
+    match starts.get(place) {
+        Some(start) => *start,
+        None => end,
+    }
+}
+
+fn token_bytes(text: &[u8], token: Token) -> &[u8]
+    requires { token.at + token.len ≤ length text.now }
+    ensures { result.now ≡ slice_of text.now token }
+{
+    &text[token.at..token.at + token.len]
+}
+
+// The bytes of a token that is a word without quotes.
+fn bytes_of<'a>(text: &'a [u8], tokens: &[Token], at: usize) -> Option<&'a [u8]>
+    requires { Lexes 0 text.now tokens.now }
+    ensures { MatchOption result (first_bytes text.now (drop at tokens.now) ≡ None) (λ word. first_bytes text.now (drop at tokens.now) ≡ Some word.now) }
+{
+    tokens_are_slices();
+    match tokens.get(at) {
+        Some(token) => match token.kind {
+            TokenKind::Name => Some(token_bytes(text, *token)),
+            _ => None,
+        },
+        None => None,
+    }
+}
+
+// Whether the word with which this token begins, and which can't stand behind the words before it, is known there.
+fn is_known(
+    alloc: Global,
+    text: &[u8],
+    tokens: &[Token],
+    before: &[Word],
+    at: usize,
+) -> Result<bool, OutOfMemory>
+    requires lexed { Lexes 0 text.now tokens.now }
+    requires begun { IsBegunWithin rule 64 config before.now }
+    ensures { IfOk result (λ known. IsTrue known ↔ IsSomeAnd (first_bytes text.now (drop at tokens.now)) (IsUnsupported before.now)) }
+{
+    match bytes_of(text, tokens, at) {
+        Some(word) => is_unsupported(alloc, before, word),
+        None => Ok(false),
+    }
+}
+
+// The refusal of a word that can't stand in its place.
+fn refusal(alloc: Global, text: &[u8], tokens: &[Token], before: &[Word], at: usize) -> SyntaxFault
+    requires lexed { Lexes 0 text.now tokens.now }
+    requires begun { IsBegunWithin rule 64 config before.now }
+    ensures { Refuses (IsSomeAnd (first_bytes text.now (drop at tokens.now)) (IsUnsupported before.now)) at result }
+{
+    match is_known(alloc, text, tokens, before, at) {
+        Ok(true) => SyntaxFault::Unsupported { at },
+        Ok(false) => SyntaxFault::Bad { at },
+        Err(OutOfMemory) => SyntaxFault::Memory,
+    }
+}
+
+// Where the rest begins.
+fn place_in(words: &[Word], rest: &[Word]) -> usize
+    requires { length rest.now ≤ length words.now }
+    ensures { result + length rest.now ≡ length words.now }
+{
+    words.len() - rest.len()
+}
+
+// The refusal of words of which the rest begins with one that can't stand there.
+fn stopped(alloc: Global, text: &[u8], tokens: &[Token], said: &Words, rest: &[Word]) -> SyntaxFault
+    requires lexed { Lexes 0 text.now tokens.now }
+    requires words { said.now.words.items ≡ said_words text.now tokens.now }
+    requires starts { said.now.starts.items ≡ said_starts text.now tokens.now }
+    requires stops { IsStop said.now.words.items rest.now }
+    ensures { IsRefused text.now tokens.now result }
+{
+    let place = place_in(&said.words, rest);
+    let at = token_at(&said.starts, place, tokens.len());
+    refusal(alloc, text, tokens, &said.words[..place], at)
+}
+
+// The refusal of words of which the rest begins with one that opens too many levels.
+fn deepened(text: &[u8], tokens: &[Token], said: &Words, rest: &[Word]) -> SyntaxFault
+    requires words { said.now.words.items ≡ said_words text.now tokens.now }
+    requires starts { said.now.starts.items ≡ said_starts text.now tokens.now }
+    requires deep { IsTooDeep rule 64 config said.now.words.items rest.now }
+    ensures { IsRefused text.now tokens.now result }
+{
+    let place = place_in(&said.words, rest);
+    let at = token_at(&said.starts, place, tokens.len());
+    SyntaxFault::TooDeep { at }
+}
+
+// The configuration of these words, or their refusal.
+fn answer(alloc: Global, text: &[u8], tokens: &[Token], said: &Words) -> Result<Config, SyntaxFault>
+    requires lexed { Lexes 0 text.now tokens.now }
+    requires words { said.now.words.items ≡ said_words text.now tokens.now }
+    requires starts { said.now.starts.items ≡ said_starts text.now tokens.now }
+    ensures tree { IfOk result (λ config. IsSentence (said_words text.now tokens.now) (config_view config)) }
+    ensures fault { IfErr result (IsRefused text.now tokens.now) }
+{
+    match config(alloc, &said.words, LEVELS) {
+        Ok((config, _)) => Ok(config),
+        Err(Refusal::Memory) => Err(SyntaxFault::Memory),
+        Err(Refusal::Bad(rest)) => Err(stopped(alloc, text, tokens, said, rest)),
+        Err(Refusal::TooDeep(rest)) => Err(deepened(text, tokens, said, rest)),
+        // No form of the grammar has unsupported words of its own.
+        Err(Refusal::Unsupported(rest)) => Err(stopped(alloc, text, tokens, said, rest)),
+    }
+}
+
+/// The configuration of a text (BIRD User's Guide, "Configuration"). `tokens` are those that `lex` gives for the text.
+///
+/// Places are those of tokens, and the number of the tokens where more of them would be wanted.
+pub fn parse_config(alloc: Global, tokens: &[Token], text: &[u8]) -> Result<Config, SyntaxFault>
+    requires { Lexes 0 text.now tokens.now }
+    ensures tree { IfOk result (λ config. IsSentence (said_words text.now tokens.now) (config_view config)) }
+    ensures fault { IfErr result (IsRefused text.now tokens.now) }
+    ensures only { (t : Tree) → IsSentence (said_words text.now tokens.now) t → IsTree result t }
+    ensures exact { (e : SyntaxFault) → IsRefused text.now tokens.now e → IsAnswered result e }
+{
+    let said = match said_words(alloc, text, tokens) {
+        Ok(said) => said,
+        Err(OutOfMemory) => return Err(SyntaxFault::Memory),
+    };
+    answer(alloc, text, tokens, &said)
+}

@@ -1,0 +1,73 @@
+// Policies. `left` is how many more levels may be opened.
+
+ghost use Rattle.std.specs.Prelude.{◌≡◌, ◌∷◌, false};
+ghost use Rattle.conf_lex.specs.declared.symbol.Symbol.TheVariants as sym;
+ghost use Rattle.conf_lex.specs.declared.word.Word.{Word};
+ghost use Rattle.grammar.specs.Kind.{symbol};
+ghost use Rattle.grammar.specs.Grammar.{begins};
+ghost use Rattle.grammar.specs.Gives.{Gives};
+ghost use Rattle.conf_tree.specs.View.{policy_tree};
+ghost use Rattle.conf_tree.specs.Readers.{policy_at};
+
+use crate::simple::next_name;
+use crate::tree::Policy;
+use conf_lex::{Symbol, Word};
+use filt_syntax::parts::{expression, whole_block};
+use grammar::{Refusal, after, after_placed, expect};
+use std::alloc::Global;
+
+// By the words after `filter`.
+fn filter_policy<'a>(
+    alloc: Global,
+    words: &'a [Word],
+    at: usize,
+    behind: &'a [Word],
+    left: u32,
+) -> Result<(Policy, &'a [Word]), Refusal<'a>>
+    requires { words.now ≡ Word.Placed at sym.Filter ∷ behind.now }
+    ensures { Gives policy_tree result (policy_at left words.now) }
+{
+    match next_name(behind) {
+        Some((name, rest)) => Ok((Policy::Filter { at, name }, rest)),
+        None => {
+            let (block, rest) = whole_block(alloc, behind, left)?;
+            Ok((Policy::Block { at, block }, rest))
+        }
+    }
+}
+
+// Where no other policy comes next.
+fn where_policy<'a>(
+    alloc: Global,
+    words: &'a [Word],
+    left: u32,
+) -> Result<(Policy, &'a [Word]), Refusal<'a>>
+    requires all { begins (symbol sym.All) words.now ≡ false }
+    requires nothing { begins (symbol sym.None) words.now ≡ false }
+    requires filtered { begins (symbol sym.Filter) words.now ≡ false }
+    ensures { Gives policy_tree result (policy_at left words.now) }
+{
+    let rest = expect(words, Symbol::Where)?;
+    let (condition, rest) = expression(alloc, rest, left)?;
+    Ok((Policy::Where(condition), rest))
+}
+
+/// The policy that comes next.
+pub fn policy<'a>(
+    alloc: Global,
+    words: &'a [Word],
+    left: u32,
+) -> Result<(Policy, &'a [Word]), Refusal<'a>>
+    ensures { Gives policy_tree result (policy_at left words.now) }
+{
+    if let Some(rest) = after(words, Symbol::All) {
+        return Ok((Policy::All, rest));
+    }
+    if let Some(rest) = after(words, Symbol::None) {
+        return Ok((Policy::None, rest));
+    }
+    match after_placed(words, Symbol::Filter) {
+        Some((at, behind)) => filter_policy(alloc, words, at, behind, left),
+        None => where_policy(alloc, words, left),
+    }
+}

@@ -1,0 +1,68 @@
+// The configuration of a text.
+
+ghost use Rattle.std.specs.Prelude.{◌≡◌, IfOk, IfErr};
+ghost use Rattle.grammar.specs.Grammar.{Tree};
+ghost use Rattle.conf_tree.specs.View.{config_view};
+ghost use Rattle.conf_tree.specs.Read.{byte_of, fault_of, IsConfigText, IsFault, IsTreeOf, IsFaultOf};
+ghost use Rattle.conf_tree.specs.declared.kind.ConfFault.{ConfFault};
+
+use crate::kind::{ConfFault, ConfKind};
+use crate::parse::parse_config;
+use crate::tree::Config;
+use conf_lex::{LexFault, Token, lex};
+use filt_syntax::SyntaxFault;
+use std::alloc::Global;
+
+// Where a token begins; behind the last one the end of the text.
+fn byte_of(text: &[u8], tokens: &[Token], token: usize) -> usize
+    ensures { result ≡ byte_of text.now tokens.now token }
+{
+    match tokens.get(token) {
+        Some(token) => token.at,
+        None => text.len(),
+    }
+}
+
+fn refused(text: &[u8], tokens: &[Token], fault: SyntaxFault) -> ConfFault
+    ensures { result ≡ fault_of text.now tokens.now fault }
+{
+    match fault {
+        SyntaxFault::Bad { at } => ConfFault::Refused {
+            at: byte_of(text, tokens, at),
+            kind: ConfKind::Syntax,
+        },
+        SyntaxFault::TooDeep { at } => ConfFault::Refused {
+            at: byte_of(text, tokens, at),
+            kind: ConfKind::TooDeep,
+        },
+        SyntaxFault::Unsupported { at } => ConfFault::Refused {
+            at: byte_of(text, tokens, at),
+            kind: ConfKind::Unsupported,
+        },
+        SyntaxFault::Memory => ConfFault::Memory,
+    }
+}
+
+/// The configuration of a text, or the first byte of the token at which it is refused: for want of a token first, then by
+/// the grammar (BIRD User's Guide, "Configuration").
+pub fn read_config(alloc: Global, text: &[u8]) -> Result<Config, ConfFault>
+    ensures tree { IfOk result (λ config. IsConfigText text.now (config_view config)) }
+    ensures fault { IfErr result (IsFault text.now) }
+    ensures only { (t : Tree) → IsConfigText text.now t → IsTreeOf result t }
+    ensures exact { (e : ConfFault) → IsFault text.now e → IsFaultOf result e }
+{
+    let tokens = match lex(alloc, text) {
+        Ok(tokens) => tokens,
+        Err(LexFault::Bad { at }) => {
+            return Err(ConfFault::Refused {
+                at,
+                kind: ConfKind::Lex,
+            });
+        }
+        Err(LexFault::Memory) => return Err(ConfFault::Memory),
+    };
+    match parse_config(alloc, &tokens, text) {
+        Ok(config) => Ok(config),
+        Err(fault) => Err(refused(text, &tokens, fault)),
+    }
+}
