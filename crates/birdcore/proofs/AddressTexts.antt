@@ -52,10 +52,6 @@ addr_run_whole word addr is = ap addr_run (sym (append-nil word)) ∙ addr_spell
 pub net_run_whole : (word : List ℕ) (net : Net) → IsNetText word net → net_run word ≡ word
 net_run_whole word net is = ap net_run (sym (append-nil word)) ∙ net_spelling_run word [] net is refl
 
-pub v4_of_family : (word : List ℕ) (addr : Addr) → family_of addr ≡ families.V4 → IsAddrText word addr → (n : ℕ) × (addr ≡ V4 n) × IsAddrText word (V4 n)
-v4_of_family word (V4 n) family is = (n, refl, is)
-v4_of_family word (V6 n) family is = absurd cc
-
 pub refused_v4 : (word : List ℕ) (n : ℕ) → ((addr : Addr) → IsAddrText (addr_run word) addr → ⊥) → IsAddrText word (V4 n) → ⊥
 refused_v4 word n bad is =
     let P : List ℕ → Type 0 = λ w. IsAddrText w (V4 n) in

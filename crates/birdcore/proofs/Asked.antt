@@ -1,25 +1,41 @@
 -- What the files ask for decides the answer.
-use Rattle.std.proofs.Common.{◌≡◌, ℕ, ◌<◌, ◌≤◌, List, length, Option, Some, None, Result, refl, sym, ◌∙◌, ap, subst, arith, ◌⊎◌, inl, inr}
-use Rattle.std.specs.Prelude.{⊤, IfSome, IfOk, IfErr, IsSomeAnd}
+use Rattle.std.proofs.Common.{◌≡◌, ℕ, ◌≤◌, List, length, Option, Some, None, refl, sym, subst, inl, inr}
+use Rattle.std.specs.Prelude.{IfSome, IsSomeAnd}
 use Rattle.birdcore.specs.declared.config.Config.{Config}
-use Rattle.birdcore.specs.Config.{IsConfig}
+use Rattle.conf_tree.specs.declared.kind.ConfKind.{ConfKind}
+use Rattle.birdcore.specs.declared.config.ConfigFault.{ConfigFault}
+use Rattle.birdcore.specs.declared.config.ConfigFault.TheVariants as faults
+use Rattle.birdcore.specs.Config.{IsConfig, IsNotBuilt, IsRefusedAt, IsConfigFault}
 use Rattle.birdcore.specs.Transfer.{limit, IsWhole, WritesFront}
 use Rattle.birdcore.specs.Words.{files_named}
 use Rattle.std.specs.Io.KnownBytes.{Appends}
-use Rattle.birdcore.specs.Outcome.{Held, IfReport, Accepts, IsAccepted, IsLong, IsNoConfig, IsPlayed, FilesReport, FilesAsk, OverLimit, OutOfForm}
-use Rattle.birdcore.specs.Answer.{FilesRefuse, ScriptRefused, Refuses, IsNotOk}
+use Rattle.birdcore.specs.Outcome.{Held, IfReport, Accepts, IsAccepted, IsUnbuilt, IsRefusedFile, IsPlayed, FilesReport, Refused}
+use Rattle.birdcore.specs.Answer.{status_of, FilesRefuse, ScriptRefused, Refuses, IsNotOk}
 use Rattle.birdcore.specs.Script.{IsBadLine}
 use Rattle.birdcore.specs.declared.status.Status.{Status}
-use Rattle.birdcore.specs.declared.status.Status.TheVariants.{Usage, NotBuilt, ReadFault, WriteFault, OutOfMemory, TooLong}
+use Rattle.birdcore.specs.declared.status.Status.TheVariants.{Usage, ConfigRefused, NotBuilt, ReadFault, WriteFault, OutOfMemory, TooLong}
 use Rattle.birdcore.specs.declared.status.Status.TheVariants as variants
 
--- a whole file that is no configuration
-pub no_config : (conf : Option (List ℕ)) (bytes : List ℕ) → IsWhole conf bytes → ((config : Config) → IsConfig bytes config → ⊥) → IfSome conf IsNoConfig
-no_config None bytes whole none = tt
-no_config (Some file) bytes whole none = (
+-- a whole file of which nothing is built
+unbuilt : (conf : Option (List ℕ)) (bytes : List ℕ) → IsWhole conf bytes → IsNotBuilt bytes → IfSome conf IsUnbuilt
+unbuilt None bytes whole none = tt
+unbuilt (Some file) bytes whole none = (subst (λ (b : List ℕ). length b ≤ limit) (sym whole.told) whole.within, subst IsNotBuilt (sym whole.told) none)
+
+-- a whole file that is refused
+refused_so : (conf : Option (List ℕ)) (bytes : List ℕ) (line column : ℕ) (kind : ConfKind) → IsWhole conf bytes → IsRefusedAt bytes line column kind
+    → IfSome conf (IsRefusedFile line column kind)
+refused_so None bytes line column kind whole refused = tt
+refused_so (Some file) bytes line column kind whole refused = (
   subst (λ (b : List ℕ). length b ≤ limit) (sym whole.told) whole.within,
-  λ config is. none config (subst (λ (b : List ℕ). IsConfig b config) whole.told is),
+  subst (λ (b : List ℕ). IsRefusedAt b line column kind) (sym whole.told) refused,
 )
+
+-- what gives no configuration that is built refuses the files
+pub config_refused : (names : List ℕ × List ℕ) (conf script : Option (List ℕ)) (bytes : List ℕ) (fault : ConfigFault) → IsWhole conf bytes → IsConfigFault bytes fault
+    → FilesRefuse names conf script (status_of fault)
+config_refused names conf script bytes (faults.Refused line column kind) whole is = refused_so conf bytes line column kind whole is
+config_refused names conf script bytes faults.NotBuilt whole is = inl (refl, refl, unbuilt conf bytes whole is)
+config_refused names conf script bytes faults.Memory whole is = tt
 
 -- a report over a whole file that is a configuration
 pub played : (conf script : Option (List ℕ)) (bytes : List ℕ) (config : Config) (text : List ℕ) → IsWhole conf bytes → IsConfig bytes config → IfSome script (IsPlayed config text)
@@ -56,6 +72,7 @@ bad_line (Some file) script bytes config line whole is bad = (
 pub script_refused : (names : List ℕ × List ℕ) (conf script : Option (List ℕ)) (bytes : List ℕ) (config : Config) (status : Status) → IsWhole conf bytes → IsConfig bytes config
     → ScriptRefused config.name names.1 script status → FilesRefuse names conf script status
 script_refused names conf script bytes config (TooLong word) whole is refused = inr (refused.0, accepted conf bytes config whole is, refused.1)
+script_refused names conf script bytes config (ConfigRefused line column kind) whole is refused = absurd refused
 script_refused names conf script bytes config (NotBuilt file line) whole is refused = inr (refused.0, bad_line conf script bytes config line whole is refused.1)
 script_refused names conf script bytes config ReadFault whole is refused = tt
 script_refused names conf script bytes config OutOfMemory whole is refused = tt
@@ -90,6 +107,7 @@ written_front words held old new text report wrote = report_weaker words held _ 
 
 pub refused_not_ok : (words : List (List ℕ)) (held : Held) (status : Status) → Refuses words held status → IsNotOk status
 refused_not_ok words held (TooLong word) refused = tt
+refused_not_ok words held (ConfigRefused line column kind) refused = tt
 refused_not_ok words held (NotBuilt file line) refused = tt
 refused_not_ok words held ReadFault refused = tt
 refused_not_ok words held OutOfMemory refused = tt

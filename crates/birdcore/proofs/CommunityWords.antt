@@ -15,7 +15,7 @@ use Rattle.birdcore.specs.declared.refusal.Refusal.{Refusal}
 use Rattle.birdcore.specs.Lines.{IsNumber}
 use Rattle.birdcore.specs.Script.{IsCommunity, AreCommunities, IsCom, each_once}
 use Rattle.birdcore.specs.Command.{IfForm, refusal_of, is_no_colon, IsCut, with_pair, AddsOne, FitsNone, AreOnce}
-use Rattle.birdcore.specs.Config.{first_passes}
+use Rattle.birdcore.specs.Lines.{first_passes}
 use Rattle.birdcore.specs.Cut.{behind}
 use Rattle.birdcore.proofs.Runs.{run_front, run_rest, run_whole, run_passes, run_stops}
 use Rattle.birdcore.proofs.AddressTexts.{TakesDigits, digits_all}

@@ -9,10 +9,8 @@ pub mod CommandParts
 pub mod AddParts
 pub mod CommunityWords
 pub mod ScriptLines
-pub mod TokenRuns
-pub mod TokenChains
-pub mod TokenWords
-pub mod Configurations
+pub mod Views
+pub mod Built
 pub mod SaidOnce
 pub mod ReplyPieces
 pub mod ReportPieces

@@ -5,7 +5,7 @@ use Rattle.std.proofs.lemmas.List.{append-nil}
 use Rattle.std.proofs.lemmas.Bool.{cases_Bool, and_parts, not-true, eqb-true, not-false}
 use Rattle.std.proofs.lemmas.Bool.Decides.{nat_tests}
 use Rattle.birdcore.specs.Lines.{lines_of, begins_with, onto}
-use Rattle.birdcore.specs.Config.{first_passes}
+use Rattle.birdcore.specs.Lines.{first_passes}
 use Rattle.birdcore.specs.Cut.{behind, is_line_byte, without_return}
 use Rattle.birdcore.proofs.Runs.{run_whole, run_passes, run_stops}
 

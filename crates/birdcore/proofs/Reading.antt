@@ -6,7 +6,7 @@ use Rattle.std.proofs.lemmas.List.{take_all}
 use Rattle.std.proofs.Math.Seq.{take-add}
 use Rattle.outside_io.specs.Shelf.{StandsAt}
 use Rattle.birdcore.specs.declared.status.Status.{Status}
-use Rattle.birdcore.specs.declared.status.Status.TheVariants.{Usage, NotBuilt, ReadFault, WriteFault, OutOfMemory, TooLong}
+use Rattle.birdcore.specs.declared.status.Status.TheVariants.{Usage, ConfigRefused, NotBuilt, ReadFault, WriteFault, OutOfMemory, TooLong}
 use Rattle.birdcore.specs.declared.status.Status.TheVariants as variants
 use Rattle.birdcore.specs.Transfer.{limit, IsWhole, IsOverLimit, StopsReading, StopsOverLimit}
 use Rattle.birdcore.proofs.Blocks.{IsFront}
@@ -37,5 +37,6 @@ stops_over held name OutOfMemory over is = tt
 stops_over held name ReadFault over is = absurd is
 stops_over held name variants.Ok over is = absurd is
 stops_over held name Usage over is = absurd is
+stops_over held name (ConfigRefused line column kind) over is = absurd is
 stops_over held name (NotBuilt file line) over is = absurd is
 stops_over held name WriteFault over is = absurd is

@@ -1,8 +1,5 @@
 -- A text says one configuration at most, and one script.
-use Rattle.std.proofs.Common.{◌≡◌, ◌≢◌, ◌∙◌, sym, ap, refl, subst, ℕ, ◌+◌, true, false, List, [], ◌∷◌, ◌++◌, length, arith, Option}
-use Rattle.std.specs.List.{list_all}
-use Rattle.std.proofs.lemmas.Bool.{false≢true, and_parts}
-use Rattle.std.proofs.lemmas.List.{append-nil}
+use Rattle.std.proofs.Common.{◌≡◌, ◌∙◌, sym, ap, refl, subst, ℕ, List, [], ◌∷◌, length, arith, Option}
 use Rattle.bits_ip.specs.Prefix.{Net}
 use Rattle.bits_ip.specs.Text.{IsAddrText, IsNetText, v4_text}
 use Rattle.bits_ip.specs.declared.address.Addr.{Addr}
@@ -11,93 +8,55 @@ use Rattle.bits_ip.proofs.Nets.{addr_texts_agree, net_texts_agree}
 use Rattle.attrs.specs.Text.{origin_text}
 use Rattle.attrs.specs.declared.attributes.Origin.{Origin}
 use Rattle.attrs.specs.declared.attributes.Origin.TheVariants.{Igp, Egp, Incomplete}
+use Rattle.grammar.specs.Grammar.{Tree}
+use Rattle.conf_tree.specs.Position.{IsPlace}
+use Rattle.conf_tree.specs.Read.{IsConfigText, IsRefusedText}
+use Rattle.conf_tree.specs.View.{config_view}
+use Rattle.conf_tree.specs.declared.kind.ConfKind.{ConfKind}
 use Rattle.birdcore.specs.declared.config.Config.{Config}
 use Rattle.birdcore.specs.declared.operation.Given.{Given}
 use Rattle.birdcore.specs.declared.operation.Op.TheVariants.{SessionUp, Add, Del}
 use Rattle.birdcore.specs.declared.script.Line.{Line}
 use Rattle.birdcore.specs.declared.script.Line.TheVariants.{Apply, Show}
-use Rattle.birdcore.specs.Lines.{IsNumber}
-use Rattle.birdcore.specs.Config.{is_separator, Begins, IsTokens, IsConfig, config_tokens}
-use Rattle.birdcore.specs.Cut.{behind}
+use Rattle.birdcore.specs.Config.{IsConfig, IsNotBuilt, IsRefusedAt}
 use Rattle.birdcore.specs.Script.{AreNumbers, IsAdd, IsDel, IsCom, IsLine, AreLines, IsScript, lines_words, without_comments}
 use Rattle.birdcore.specs.Command.{BeginWithOptions}
-use Rattle.birdcore.specs.Token.{is_token}
-use Rattle.birdcore.proofs.AddressTexts.{v4_of_family}
 use Rattle.birdcore.proofs.AddParts.{tail_of, third_same, via_of_add, path_of_add, options_begin_add, paths_same}
 use Rattle.birdcore.proofs.CommunityWords.{coms_agree}
+use Rattle.birdcore.proofs.Views.{views_agree, views_build}
 use Rattle.birdcore.proofs.Options.{first_byte, numbers_agree, options_same}
-use Rattle.birdcore.proofs.Runs.{run_rest}
-use Rattle.birdcore.proofs.TokenRuns.{behind_gap, begins_only}
-use Rattle.birdcore.proofs.TokenWords.{number_is_token, address_is_token, name_is_token}
 
--- tokens are told apart
-begins_same : (text t u r s : List ℕ) → is_token t ≡ true → is_token u ≡ true → Begins t text r → Begins u text s → (t ≡ u) × (r ≡ s)
-begins_same text [] u r s t_is u_is one other = absurd (false≢true t_is)
-begins_same text (b ∷ bytes) u r s t_is u_is one other =
-    let only = begins_only text b (bytes ++ r) _ _ (behind_gap text b bytes r t_is one) refl refl in
-    let mine = only.only (b ∷ bytes) r t_is one in
-    let theirs = only.only u s u_is other in
-    (mine.0 ∙ sym theirs.0, mine.1 ∙ sym theirs.1)
+-- What a text says of configurations: one is built of it, or none, or it is refused, at one place for one reason.
+pub record SaysOnce : Type 0 where
+  pub configurations_agree : (text : List ℕ) (a b : Config) → IsConfig text a → IsConfig text b → a ≡ b
+  pub built_or_not : (text : List ℕ) (config : Config) → IsConfig text config → IsNotBuilt text → ⊥
+  pub built_or_refused : (text : List ℕ) (config : Config) (line column : ℕ) (kind : ConfKind) → IsConfig text config → IsRefusedAt text line column kind → ⊥
+  pub not_built_or_refused : (text : List ℕ) (line column : ℕ) (kind : ConfKind) → IsNotBuilt text → IsRefusedAt text line column kind → ⊥
+  pub refusals_agree : (text : List ℕ) (l m c d : ℕ) (k j : ConfKind) → IsRefusedAt text l c k → IsRefusedAt text m d j → (l ≡ m) × (c ≡ d) × (k ≡ j)
 
-no_token_in_gap : (text t r : List ℕ) → list_all is_separator text ≡ true → is_token t ≡ true → Begins t text r → ⊥
-no_token_in_gap text [] r gap t_is begins = false≢true t_is
-no_token_in_gap text (b ∷ bytes) r gap t_is begins =
-    let none : behind is_separator text ≡ [] = ap (behind is_separator) (sym (append-nil text)) ∙ run_rest is_separator text [] gap refl in
-    let same : [] ≡ b ∷ bytes ++ r = sym none ∙ behind_gap text b bytes r t_is begins in
-    cc
+-- It follows from the laws of syntax trees, of refusals and of places.
+module _ (text_once : (text : List ℕ) (t u : Tree) → IsConfigText text t → IsConfigText text u → t ≡ u) where
+  pub configurations_agree : (text : List ℕ) (a b : Config) → IsConfig text a → IsConfig text b → a ≡ b
+  configurations_agree text a b one other = views_agree text one.0 other.0 a b (text_once text (config_view one.0) (config_view other.0) one.1 other.1) one.2 other.2
 
-tokens_same : (ts us : List (List ℕ)) (text : List ℕ) → list_all is_token ts ≡ true → list_all is_token us ≡ true → IsTokens ts text → IsTokens us text → ts ≡ us
-tokens_same [] [] text t_are u_are one other = refl
-tokens_same [] (u ∷ us) text t_are u_are one other = absurd (no_token_in_gap text u other.0 one (and_parts (is_token u) (list_all is_token us) u_are).0 other.1)
-tokens_same (t ∷ ts) [] text t_are u_are one other = absurd (no_token_in_gap text t one.0 other (and_parts (is_token t) (list_all is_token ts) t_are).0 one.1)
-tokens_same (t ∷ ts) (u ∷ us) text t_are u_are one other =
-    let mine = and_parts (is_token t) (list_all is_token ts) t_are in
-    let theirs = and_parts (is_token u) (list_all is_token us) u_are in
-    let same = begins_same text t u one.0 other.0 mine.0 theirs.0 one.1 other.1 in
-    let P : List ℕ → Type 0 = λ r. IsTokens ts r in
-    ap (λ (w : List ℕ). w ∷ ts) same.0 ∙ ap (λ (l : List (List ℕ)). u ∷ l) (tokens_same ts us other.0 mine.1 theirs.1 (subst P same.1 one.2) other.2)
+  pub built_or_not : (text : List ℕ) (config : Config) → IsConfig text config → IsNotBuilt text → ⊥
+  built_or_not text config is none =
+      none.2 config (views_build text is.0 none.0 config (text_once text (config_view is.0) (config_view none.0) is.1 none.1) is.2)
 
-config_tokens_are : (name local neighbor remote : List ℕ) → is_token name ≡ true → is_token local ≡ true → is_token neighbor ≡ true → is_token remote ≡ true
-    → list_all is_token (config_tokens name local neighbor remote) ≡ true
-config_tokens_are name local neighbor remote a b c d = rw (a, b, c, d) refl
+module _ (never_both : (text : List ℕ) (t : Tree) (at : ℕ) (kind : ConfKind) → IsConfigText text t → IsRefusedText text at kind → ⊥) where
+  pub built_or_refused : (text : List ℕ) (config : Config) (line column : ℕ) (kind : ConfKind) → IsConfig text config → IsRefusedAt text line column kind → ⊥
+  built_or_refused text config line column kind is refused = never_both text (config_view is.0) refused.0 kind is.1 refused.1
 
-tokens_of : (text : List ℕ) (config : Config) → (is : IsConfig text config) → list_all is_token (config_tokens config.name is.local_word is.neighbor_word is.remote_word) ≡ true
-tokens_of text config is =
-    let v4 = v4_of_family is.neighbor_word config.neighbor is.neighbor_family is.neighbor_is in
-    config_tokens_are config.name is.local_word is.neighbor_word is.remote_word (name_is_token config.name config.name (refl, is.name_is))
-    (number_is_token is.local_word config.local is.local_is) (address_is_token is.neighbor_word v4.0 v4.2) (number_is_token is.remote_word config.remote is.remote_is)
+  pub not_built_or_refused : (text : List ℕ) (line column : ℕ) (kind : ConfKind) → IsNotBuilt text → IsRefusedAt text line column kind → ⊥
+  not_built_or_refused text line column kind none refused = never_both text (config_view none.0) refused.0 kind none.1 refused.1
 
-words_from_tokens : (name local neighbor remote name' local' neighbor' remote' : List ℕ) → config_tokens name local neighbor remote ≡ config_tokens name' local' neighbor' remote'
-    → (name ≡ name') × (local ≡ local') × (neighbor ≡ neighbor') × (remote ≡ remote')
-words_from_tokens name local neighbor remote name' local' neighbor' remote' same =
-    let a : name ≡ name' = cc in
-    let b : local ≡ local' = cc in
-    let c : neighbor ≡ neighbor' = cc in
-    let d : remote ≡ remote' = cc in
-    (a, b, c, d)
-
-make_config : List ℕ → ℕ → Addr → ℕ → Config
-make_config name local neighbor remote = record { name = name; local = local; neighbor = neighbor; remote = remote }
-
-config_same : (a b : Config) → a.name ≡ b.name → a.local ≡ b.local → a.neighbor ≡ b.neighbor → a.remote ≡ b.remote → a ≡ b
-unfolding make_config
-config_same a b name local neighbor remote =
-    ap (λ (n : List ℕ). make_config n a.local a.neighbor a.remote) name
-    ∙ ap (λ (n : ℕ). make_config b.name n a.neighbor a.remote) local
-    ∙ ap (λ (n : Addr). make_config b.name b.local n a.remote) neighbor
-    ∙ ap (λ (n : ℕ). make_config b.name b.local b.neighbor n) remote
-
-pub configurations_agree : (text : List ℕ) (a b : Config) → IsConfig text a → IsConfig text b → a ≡ b
-configurations_agree text a b one other =
-    let same = tokens_same _ _ text (tokens_of text a one) (tokens_of text b other) one.tokens other.tokens in
-    let words = words_from_tokens a.name one.local_word one.neighbor_word one.remote_word b.name other.local_word other.neighbor_word other.remote_word same in
-    let P : List ℕ → Type 0 = λ w. IsNumber w a.local in
-    let Q : List ℕ → Type 0 = λ w. IsAddrText w a.neighbor in
-    let R : List ℕ → Type 0 = λ w. IsNumber w a.remote in
-    let local : a.local ≡ b.local = numbers_agree other.local_word a.local b.local (subst P words.1 one.local_is) other.local_is in
-    let neighbor : a.neighbor ≡ b.neighbor = addr_texts_agree other.neighbor_word a.neighbor b.neighbor (subst Q words.2 one.neighbor_is) other.neighbor_is in
-    let remote : a.remote ≡ b.remote = numbers_agree other.remote_word a.remote b.remote (subst R words.3 one.remote_is) other.remote_is in
-    config_same a b words.0 local neighbor remote
+module _ (refusal_once : (text : List ℕ) (at b : ℕ) (kind other : ConfKind) → IsRefusedText text at kind → IsRefusedText text b other → (at ≡ b) × (kind ≡ other))
+    (place_once : (text : List ℕ) (at l m c d : ℕ) → IsPlace text at l c → IsPlace text at m d → (l ≡ m) × (c ≡ d)) where
+  pub refusals_agree : (text : List ℕ) (l m c d : ℕ) (k j : ConfKind) → IsRefusedAt text l c k → IsRefusedAt text m d j → (l ≡ m) × (c ≡ d) × (k ≡ j)
+  refusals_agree text l m c d k j one other =
+      let same = refusal_once text one.0 other.0 k j one.1 other.1 in
+      let place = place_once text other.0 l m c d (subst (λ (at : ℕ). IsPlace text at l c) same.0 one.2) other.2 in
+      (place.0, place.1, same.1)
 
 -- lines are told apart
 numbers_of_words : (words : List (List ℕ)) (a b : List ℕ) → AreNumbers words a → AreNumbers words b → a ≡ b

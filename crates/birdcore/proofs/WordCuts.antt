@@ -2,7 +2,7 @@
 use Rattle.std.proofs.Common.{◌≡◌, ℕ, Bool, true, false, cond, List, [], ◌∷◌, ◌++◌, length, ◌<◌, ◌≤◌, length-drop, refl, sym, ◌∙◌, ap, arith}
 use Rattle.std.specs.List.{list_all, take_while, prefix_len}
 use Rattle.std.proofs.lemmas.Bool.{and_parts, not-true, not_from_false}
-use Rattle.birdcore.specs.Config.{first_passes}
+use Rattle.birdcore.specs.Lines.{first_passes}
 use Rattle.birdcore.specs.Lines.{words_of, begins_word, is_blank, onto}
 use Rattle.birdcore.specs.Cut.{is_word_byte, behind}
 use Rattle.birdcore.proofs.Runs.{run_whole, run_passes, run_stops, run_yes, behind_yes}

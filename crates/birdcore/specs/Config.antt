@@ -1,77 +1,181 @@
--- What a configuration of the one form says.
-use Rattle.std.specs.Prelude.{◌≡◌, ℕ, ◌≤◌, Bool, true, false, ◌&&◌, ◌||◌, not, ◌==◌, nat_le, IsTrue, if◌then◌else◌, List, [], ◌∷◌, ◌++◌, length, codes}
-use Rattle.std.specs.List.{list_all}
-use Rattle.std.specs.Char.{is_ascii_digit}
-use Rattle.bits_ip.specs.Address.{family_of}
-use Rattle.bits_ip.specs.Text.{IsAddrText}
+-- What is built of a configuration: one BGP protocol with one neighbour, from which all is imported and to which all is
+-- exported. Of options written twice the last counts, and statements and options without effect count for nothing.
+use Rattle.std.specs.Prelude.{◌≡◌, ℕ, Bool, true, false, ◌&&◌, ◌||◌, not, List, [], ◌∷◌, take, drop, codes, Option, Some, None, Vec, filter}
+use Rattle.std.specs.Global.{Global}
+use Rattle.std.specs.Bool.{nat_eq}
+use Rattle.std.specs.Cmp.Lexicographic.{pointwise}
+use Rattle.bits_ip.specs.declared.address.Addr.{Addr}
+use Rattle.bits_ip.specs.declared.address.Addr.TheVariants as addrs
+use Rattle.bits_ip.specs.declared.address.Family.{Family}
 use Rattle.bits_ip.specs.declared.address.Family.TheVariants as families
+use Rattle.grammar.specs.declared.named.Name.{Name}
+use Rattle.filt_syntax.specs.declared.tree.Num.{Num}
+use Rattle.filt_syntax.specs.declared.tree.Num.TheVariants as nums
+use Rattle.conf_tree.specs.View.{config_view}
+use Rattle.conf_tree.specs.Read.{IsConfigText, IsRefusedText}
+use Rattle.conf_tree.specs.Position.{IsPlace}
+use Rattle.conf_tree.specs.declared.kind.ConfKind.{ConfKind}
+use Rattle.conf_tree.specs.declared.tree.Address.{Address}
+use Rattle.conf_tree.specs.declared.tree.BgpOption.{BgpOption}
+use Rattle.conf_tree.specs.declared.tree.BgpOption.TheVariants as bgp_options
+use Rattle.conf_tree.specs.declared.tree.Channel.{Channel}
+use Rattle.conf_tree.specs.declared.tree.ChannelOption.{ChannelOption}
+use Rattle.conf_tree.specs.declared.tree.ChannelOption.TheVariants as channel_options
+use Rattle.conf_tree.specs.declared.tree.Config.{Config as Tree}
+use Rattle.conf_tree.specs.declared.tree.Limit.{Limit}
+use Rattle.conf_tree.specs.declared.tree.Limit.TheVariants as limits
+use Rattle.conf_tree.specs.declared.tree.Policy.{Policy}
+use Rattle.conf_tree.specs.declared.tree.Policy.TheVariants as policies
+use Rattle.conf_tree.specs.declared.tree.Protocol.{Protocol}
+use Rattle.conf_tree.specs.declared.tree.Statement.{Statement}
+use Rattle.conf_tree.specs.declared.tree.Statement.TheVariants as statements
+use Rattle.conf_tree.specs.declared.tree.Switch.{Switch}
+use Rattle.conf_tree.specs.declared.tree.Switch.TheVariants as switches
+use Rattle.birdcore.specs.declared.config.BgpSays.{BgpSays}
+use Rattle.birdcore.specs.declared.config.ChannelSays.{ChannelSays}
 use Rattle.birdcore.specs.declared.config.Config.{Config}
-use Rattle.birdcore.specs.Lines.{IsNumber}
+use Rattle.birdcore.specs.declared.config.ConfigFault.{ConfigFault}
+use Rattle.birdcore.specs.declared.config.ConfigFault.TheVariants as faults
+use Rattle.birdcore.specs.declared.config.Remote.{Remote}
 
--- Spaces, tabs, returns and newlines separate tokens.
-abbrev pub is_separator : ℕ → Bool
-is_separator b = (b == 32) || (b == 9) || (b == 13) || (b == 10)
+-- ---- statements
 
-abbrev pub is_letter : ℕ → Bool
-is_letter b = (nat_le 97 b && nat_le b 122) || (nat_le 65 b && nat_le b 90) || (b == 95)
+abbrev pub name_bytes : List ℕ → Name → List ℕ
+name_bytes text name = take name.len (drop name.start text)
 
--- a byte of a name behind its first
-abbrev pub is_name_byte : ℕ → Bool
-is_name_byte b = is_letter b || is_ascii_digit b
+-- the table that is always there, which its statement doesn't declare anew
+abbrev pub is_main_table : List ℕ → Family → Name → Bool
+is_main_table text families.V4 name = pointwise nat_eq (name_bytes text name) (codes "master4")
+is_main_table text families.V6 name = pointwise nat_eq (name_bytes text name) (codes "master6")
 
--- a byte of a number or of an IPv4 address
-abbrev pub is_number_byte : ℕ → Bool
-is_number_byte b = is_ascii_digit b || (b == 46)
+abbrev pub has_effect : List ℕ → Statement → Bool
+has_effect text (statements.RouterId a) = false
+has_effect text statements.Log = false
+has_effect text (statements.Device name semicolon) = false
+has_effect text (statements.Table at family name) = not (is_main_table text family name)
+has_effect text _ = true
 
-abbrev pub first_passes : (ℕ → Bool) → List ℕ → Bool
-first_passes test [] = false
-first_passes test (b ∷ bytes) = test b
+-- the statements that have an effect
+abbrev pub effective : List ℕ → List Statement → List Statement
+effective text all = filter (has_effect text) all
 
--- A token ends where its longest spelling does: behind a name comes no byte of a name, behind a number or an address none of those.
-abbrev pub ends : List ℕ → List ℕ → Bool
-ends token rest =
-    if first_passes is_letter token then not (first_passes is_name_byte rest)
-    else if first_passes is_ascii_digit token then not (first_passes is_number_byte rest)
-    else true
+-- ---- channels
 
--- The text begins with separators, as many as there are, and with the token; the rest stands behind it.
-pub record Begins (token text rest : List ℕ) : Type 0 where
-  pub gap : List ℕ
-  pub separators : IsTrue (list_all is_separator gap)
-  pub whole : text ≡ gap ++ token ++ rest
-  pub longest : IsTrue (ends token rest)
+abbrev pub is_all : Policy → Bool
+is_all policies.All = true
+is_all _ = false
 
--- the text is these tokens in order, with separators before, between and behind them
-abbrev pub IsTokens : List (List ℕ) → List ℕ → Type 0
-IsTokens [] text = IsTrue (list_all is_separator text)
-IsTokens (token ∷ tokens) text = (rest : List ℕ) × Begins token text rest × IsTokens tokens rest
+abbrev pub is_limit : Limit → Bool
+is_limit limits.Off = false
+is_limit (limits.Count n a) = true
 
--- `p` and one to three digits
-pub record IsProtocolName (name : List ℕ) : Type 0 where
-  pub digits : List ℕ
-  pub whole : name ≡ 112 ∷ digits
-  pub digits_are : IsTrue (list_all is_ascii_digit digits)
-  pub least : 1 ≤ length digits
-  pub most : length digits ≤ 3
+abbrev pub channel_step : ChannelSays → ChannelOption → ChannelSays
+channel_step said (channel_options.Import policy) = record said { imports_all = is_all policy }
+channel_step said (channel_options.Export policy) = record said { exports_all = is_all policy }
+channel_step said (channel_options.ImportLimit l) = record said { limited = is_limit l }
+channel_step said (channel_options.NextHop hop) = said
+channel_step said (channel_options.Table name) = record said { more = true }
+channel_step said (channel_options.Preference at n) = record said { more = true }
 
--- protocol bgp NAME { local as A; neighbor IP as B; med metric on; ipv4 { import all; export all; }; }
-abbrev pub config_tokens : List ℕ → List ℕ → List ℕ → List ℕ → List (List ℕ)
-config_tokens name local neighbor remote =
-    codes "protocol" ∷ codes "bgp" ∷ name ∷ codes "{"
-    ∷ codes "local" ∷ codes "as" ∷ local ∷ codes ";"
-    ∷ codes "neighbor" ∷ neighbor ∷ codes "as" ∷ remote ∷ codes ";"
-    ∷ codes "med" ∷ codes "metric" ∷ codes "on" ∷ codes ";"
-    ∷ codes "ipv4" ∷ codes "{" ∷ codes "import" ∷ codes "all" ∷ codes ";" ∷ codes "export" ∷ codes "all" ∷ codes ";" ∷ codes "}" ∷ codes ";"
-    ∷ codes "}" ∷ []
+-- what options say, in order, where those before have said this
+abbrev pub channel_after : ChannelSays → List ChannelOption → ChannelSays
+channel_after said [] = said
+channel_after said (o ∷ os) = channel_after (channel_step said o) os
 
--- the text is a configuration of this form, and says this
-pub record IsConfig (text : List ℕ) (config : Config) : Type 0 where
-  pub local_word : List ℕ
-  pub neighbor_word : List ℕ
-  pub remote_word : List ℕ
-  pub tokens : IsTokens (config_tokens config.name local_word neighbor_word remote_word) text
-  pub name_is : IsProtocolName config.name
-  pub local_is : IsNumber local_word config.local
-  pub neighbor_is : IsAddrText neighbor_word config.neighbor
-  pub neighbor_family : family_of config.neighbor ≡ families.V4
-  pub remote_is : IsNumber remote_word config.remote
+abbrev pub channel_says : List ChannelOption → ChannelSays
+channel_says options = channel_after (record { imports_all = false; exports_all = false; limited = false; more = false }) options
+
+abbrev pub says_all : ChannelSays → Bool
+says_all said = said.imports_all && said.exports_all && not said.limited && not said.more
+
+abbrev pub is_v4 : Family → Bool
+is_v4 families.V4 = true
+is_v4 families.V6 = false
+
+abbrev pub options_say_all : Option (Vec ChannelOption Global) → Bool
+options_say_all None = false
+options_say_all (Some options) = says_all (channel_says options.items)
+
+-- an IPv4 channel with just `import all` and `export all`
+abbrev pub is_plain : Channel → Bool
+is_plain channel = is_v4 channel.family && options_say_all channel.options
+
+-- ---- the protocol
+
+abbrev pub number_of : Num → Option ℕ
+number_of (nums.Number at value) = Some value
+number_of (nums.Name name) = None
+
+abbrev pub remote_with : Address → Option ℕ → Option Remote
+remote_with a None = None
+remote_with a (Some n) = v4_only a.addr n
+  where
+    v4_only : Addr → ℕ → Option Remote
+    v4_only (addrs.V4 bits) n = Some (record { addr = addrs.V4 bits; number = n })
+    v4_only (addrs.V6 bits) n = None
+
+-- a neighbour of IPv4 whose AS is a number
+abbrev pub remote_of : Address → Num → Option Remote
+remote_of a n = remote_with a (number_of n)
+
+abbrev pub is_on : Switch → Bool
+is_on switches.On = true
+is_on switches.Yes = true
+is_on switches.Off = false
+is_on switches.No = false
+
+abbrev pub bgp_step : BgpSays → BgpOption → BgpSays
+bgp_step said (bgp_options.Channel c) = record said { channel = is_plain c; more = said.more || said.channel || not (is_plain c) }
+bgp_step said (bgp_options.Local a n) = record said { local = number_of n }
+bgp_step said (bgp_options.Neighbor a n) = record said { remote = remote_of a n }
+bgp_step said (bgp_options.MedMetric s) = record said { med = is_on s }
+bgp_step said (bgp_options.Transport t) = said
+bgp_step said (bgp_options.InterpretCommunities s) = record said { more = true }
+bgp_step said (bgp_options.DefaultMed at n) = record said { more = true }
+bgp_step said (bgp_options.DefaultLocalPref at n) = record said { more = true }
+
+abbrev pub bgp_after : BgpSays → List BgpOption → BgpSays
+bgp_after said [] = said
+bgp_after said (o ∷ os) = bgp_after (bgp_step said o) os
+
+abbrev pub bgp_says : List BgpOption → BgpSays
+bgp_says options = bgp_after (record { local = None; remote = None; med = false; channel = false; more = false }) options
+
+-- The options give this session, and nothing that isn't built.
+pub record SaysSession (said : BgpSays) (local : ℕ) (remote : Remote) : Type 0 where
+  pub local_is : said.local ≡ Some local
+  pub remote_is : said.remote ≡ Some remote
+  pub med : said.med ≡ true
+  pub channel : said.channel ≡ true
+  pub more : said.more ≡ false
+
+-- A protocol without a name is called by its kind and the first number that gives a new name.
+abbrev pub protocol_name : List ℕ → Option Name → List ℕ
+protocol_name text None = codes "bgp1"
+protocol_name text (Some name) = name_bytes text name
+
+-- The configuration is one BGP protocol beside what has no effect, and gives this.
+pub record Builds (text : List ℕ) (tree : Tree) (config : Config) : Type 0 where
+  pub protocol : Protocol BgpOption
+  pub alone : effective text tree.statements.items ≡ statements.Bgp protocol ∷ []
+  pub session : SaysSession (bgp_says protocol.options.items) config.local (record { addr = config.neighbor; number = config.remote })
+  pub name : config.name ≡ protocol_name text protocol.name
+
+-- ---- texts
+
+-- the text is a configuration of which this is built
+abbrev pub IsConfig : List ℕ → Config → Type 0
+IsConfig text config = (tree : Tree) × IsConfigText text (config_view tree) × Builds text tree config
+
+-- the text is a configuration of which nothing is built
+abbrev pub IsNotBuilt : List ℕ → Type 0
+IsNotBuilt text = (tree : Tree) × IsConfigText text (config_view tree) × ((config : Config) → Builds text tree config → ⊥)
+
+-- the text is refused so, in this line and column
+abbrev pub IsRefusedAt : List ℕ → ℕ → ℕ → ConfKind → Type 0
+IsRefusedAt text line column kind = (at : ℕ) × IsRefusedText text at kind × IsPlace text at line column
+
+abbrev pub IsConfigFault : List ℕ → ConfigFault → Type 0
+IsConfigFault text (faults.Refused line column kind) = IsRefusedAt text line column kind
+IsConfigFault text faults.NotBuilt = IsNotBuilt text
+IsConfigFault text faults.Memory = Unit {0}

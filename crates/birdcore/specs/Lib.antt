@@ -5,7 +5,6 @@ pub mod Reply
 pub mod Report
 pub mod ReportParts
 pub mod Config
-pub mod Token
 pub mod Script
 pub mod Command
 pub mod ReadScript

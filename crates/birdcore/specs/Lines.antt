@@ -11,6 +11,10 @@ abbrev pub begins_with : ℕ → List ℕ → Bool
 begins_with byte [] = false
 begins_with byte (b ∷ bytes) = b == byte
 
+abbrev pub first_passes : (ℕ → Bool) → List ℕ → Bool
+first_passes test [] = false
+first_passes test (b ∷ bytes) = test b
+
 -- A newline ends a line; the last line may do without. A return directly before a newline is dropped.
 abbrev pub lines_of : List ℕ → List (List ℕ)
 lines_of [] = []

@@ -1,9 +1,10 @@
 -- What the words and the files ask for.
 use Rattle.std.specs.Prelude.{◌≡◌, ℕ, ◌<◌, ◌≤◌, ◌⊎◌, List, [], ◌∷◌, length, Option, Some, None, IsSomeAnd, IfSome}
+use Rattle.conf_tree.specs.declared.kind.ConfKind.{ConfKind}
 use Rattle.birdcore.specs.declared.config.Config.{Config}
 use Rattle.birdcore.specs.declared.script.Line.{Line}
 use Rattle.birdcore.specs.declared.report.PhaseReport.{PhaseReport}
-use Rattle.birdcore.specs.Config.{IsConfig}
+use Rattle.birdcore.specs.Config.{IsConfig, IsNotBuilt, IsRefusedAt}
 use Rattle.birdcore.specs.Script.{IsScript, IsBadLine}
 use Rattle.birdcore.specs.Play.{IsPhase}
 use Rattle.birdcore.specs.Report.{report_text}
@@ -17,6 +18,7 @@ Held = List ℕ → Option (List ℕ)
 pub data Outcome : Type 0 where
   Misused : Outcome  -- the words are refused
   OverLimit : List ℕ → Outcome  -- the file of this name is over the limit
+  Refused : ℕ → ℕ → ConfKind → Outcome  -- the configuration is refused in this line and column
   OutOfForm : ℕ → ℕ → Outcome  -- this line of this file isn't of its form
   Played : Config → List Line → Outcome  -- the lines are played over the configuration
 
@@ -30,8 +32,13 @@ Configures config file = (length file ≤ limit) × IsConfig file config
 abbrev pub IsAccepted : List ℕ → Type 0
 IsAccepted file = (config : Config) × Configures config file
 
-abbrev pub IsNoConfig : List ℕ → Type 0
-IsNoConfig file = (length file ≤ limit) × ((config : Config) → IsConfig file config → ⊥)
+-- a configuration within the limit of which nothing is built
+abbrev pub IsUnbuilt : List ℕ → Type 0
+IsUnbuilt file = (length file ≤ limit) × IsNotBuilt file
+
+-- within the limit, and refused so
+abbrev pub IsRefusedFile : ℕ → ℕ → ConfKind → List ℕ → Type 0
+IsRefusedFile line column kind file = (length file ≤ limit) × IsRefusedAt file line column kind
 
 -- How something is said of a file: as far as it is told, or of a told one alone.
 abbrev pub Tell : Type 1
@@ -46,8 +53,9 @@ abbrev pub FilesAsk : Tell → List ℕ × List ℕ → Option (List ℕ) → Op
 FilesAsk told names conf script Misused = ⊥
 FilesAsk told names conf script (OverLimit name) =
     ((name ≡ names.0) × told conf IsLong) ⊎ ((name ≡ names.1) × told conf IsAccepted × told script IsLong)
+FilesAsk told names conf script (Refused line column kind) = told conf (IsRefusedFile line column kind)
 FilesAsk told names conf script (OutOfForm file line) =
-    ((file ≡ 1) × (line ≡ 0) × told conf IsNoConfig)
+    ((file ≡ 1) × (line ≡ 0) × told conf IsUnbuilt)
     ⊎ ((file ≡ 2) × Accepts told conf script (λ config text. IsBadLine config.name text line))
 FilesAsk told names conf script (Played config lines) =
     Accepts told conf script (λ read text. (read ≡ config) × IsScript config.name text lines)
@@ -55,6 +63,7 @@ FilesAsk told names conf script (Played config lines) =
 abbrev pub AsksBy : Tell → List (List ℕ) → Held → Outcome → Type 0
 AsksBy told words held Misused = files_named words ≡ None
 AsksBy told words held (OverLimit name) = IsSomeAnd (files_named words) (λ names. FilesAsk told names (held names.0) (held names.1) (OverLimit name))
+AsksBy told words held (Refused line column kind) = IsSomeAnd (files_named words) (λ names. FilesAsk told names (held names.0) (held names.1) (Refused line column kind))
 AsksBy told words held (OutOfForm file line) = IsSomeAnd (files_named words) (λ names. FilesAsk told names (held names.0) (held names.1) (OutOfForm file line))
 AsksBy told words held (Played config lines) = IsSomeAnd (files_named words) (λ names. FilesAsk told names (held names.0) (held names.1) (Played config lines))
 

@@ -3,7 +3,7 @@ use Rattle.std.specs.Prelude.{◌≡◌, ℕ, ◌^◌, ◌<◌, ◌≤◌, List,
 use Rattle.std.specs.String.{string_bytes}
 use Rattle.std.specs.Io.KnownBytes.{Appends}
 use Rattle.birdcore.specs.declared.status.Status.{Status}
-use Rattle.birdcore.specs.declared.status.Status.TheVariants.{Ok, Usage, NotBuilt, ReadFault, WriteFault, OutOfMemory, TooLong}
+use Rattle.birdcore.specs.declared.status.Status.TheVariants.{Ok, Usage, ConfigRefused, NotBuilt, ReadFault, WriteFault, OutOfMemory, TooLong}
 
 -- the greatest number of bytes of a file
 abbrev pub limit : ℕ
@@ -31,6 +31,7 @@ StopsReading held name ReadFault = ⊤
 StopsReading held name OutOfMemory = ⊤
 StopsReading held name Ok = ⊥
 StopsReading held name Usage = ⊥
+StopsReading held name (ConfigRefused line column kind) = ⊥
 StopsReading held name (NotBuilt file line) = ⊥
 StopsReading held name WriteFault = ⊥
 
@@ -44,6 +45,7 @@ StopsOverLimit name (TooLong word) = string_bytes word ≡ name
 StopsOverLimit name OutOfMemory = ⊤
 StopsOverLimit name Ok = ⊥
 StopsOverLimit name Usage = ⊥
+StopsOverLimit name (ConfigRefused line column kind) = ⊥
 StopsOverLimit name (NotBuilt file line) = ⊥
 StopsOverLimit name ReadFault = ⊥
 StopsOverLimit name WriteFault = ⊥
@@ -56,4 +58,5 @@ IsMissed Ok = ⊥
 IsMissed Usage = ⊥
 IsMissed WriteFault = ⊥
 IsMissed (TooLong word) = ⊥
+IsMissed (ConfigRefused line column kind) = ⊥
 IsMissed (NotBuilt file line) = ⊥

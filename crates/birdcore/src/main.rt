@@ -24,18 +24,20 @@ mod status;
 #[cfg(test)]
 mod tests;
 #[cfg(test)]
+mod tests_config;
+#[cfg(test)]
 mod tests_play;
 #[cfg(test)]
 mod tests_read;
 #[cfg(test)]
 mod tests_report;
-mod tokens;
 mod top;
 mod transfer;
 mod words;
 
 use crate::status::Status;
 use crate::top::top;
+use conf_tree::ConfKind;
 use outside_io::{FileShelf, OpenGate, StdSink};
 use std::env;
 use std::io::ErrorKind;
@@ -45,11 +47,22 @@ fn number(status: &Status) -> u8 {
     match status {
         Status::Ok => 0,
         Status::Usage => 1,
+        Status::ConfigRefused { .. } => 2,
         Status::ReadFault => 4,
         Status::WriteFault => 5,
         Status::OutOfMemory => 6,
         Status::TooLong { .. } => 7,
         Status::NotBuilt { .. } => 9,
+    }
+}
+
+/// The number and the name of a refusal of the configuration.
+fn kind_text(kind: ConfKind) -> &'static str {
+    match kind {
+        ConfKind::Lex => "C1 Lex",
+        ConfKind::Syntax => "C2 Syntax",
+        ConfKind::TooDeep => "C3 TooDeep",
+        ConfKind::Unsupported => "C15 Unsupported",
     }
 }
 
@@ -59,6 +72,10 @@ fn say(rt: &impl Eprint, status: &Status) -> std::io::Result<()> {
         Status::Ok => Ok(()),
         Status::Usage => {
             eprintln!(rt; "usage: birdcore COMMAND [CONF [SCRIPT]] [--journal N] [--number N] [-q]")
+        }
+        Status::ConfigRefused { line, column, kind } => {
+            let kind = kind_text(*kind);
+            eprintln!(rt; "config {line}:{column} {kind}")
         }
         Status::ReadFault => eprintln!(rt; "read fault"),
         Status::WriteFault => eprintln!(rt; "write fault"),

@@ -3,6 +3,7 @@ ghost use Rattle.std.specs.Prelude.{[], Some};
 use crate::laws::play_surely;
 use crate::status::Status;
 use crate::top::top;
+use conf_tree::ConfKind;
 use outside_io::{Failed, MemFile, MemShelf, MemSink, OpenGate, Sink, SureShelf, SureSink};
 use std::alloc::Global;
 use std::test::Fail;
@@ -105,6 +106,49 @@ fn one_route_is_reported(rt: HostRuntime) -> Result<(), Fail> {
     Ok(())
 }
 
+/// Other spellings of the worked run's configuration.
+const SPELLINGS: [&str; 5] = [
+    "protocol bgp p1{local as 65000;neighbor 192.0.2.1as 65001;med metric yes;ipv4{import all;export all;};};",
+    "# one neighbour\nrouter id 192.0.2.254; log stderr all;\nprotocol device { scan time 10; }\nprotocol bgp 'p1' {\n  /* any order */\n  ipv4 { export all; import all; };\n  med metric on;\n  neighbor 192.0.2.1 as 65001;\n  local as 65000;\n}\n",
+    "protocol bgp p1 { description \"up\"; hold time 90; multihop 2; passive; local as 65000; neighbor 192.0.2.1 as 65001; med metric on; ipv4 { import all; export all; next hop self; }; }",
+    "protocol bgp p1 { local as 1; local as 65000; neighbor 192.0.2.9 as 9; neighbor 192.0.2.1 as 65001; med metric off; med metric on; ipv4 { import none; import all; export none; export all; }; }",
+    "ipv4 table master4; protocol bgp p1 { local 192.0.2.254 as 0xFDE8; neighbor 192.0.2.1 as 65001; med metric on; ipv4 { import all; import limit off; export all; }; }",
+];
+
+#[test]
+fn the_worked_run_is_one_under_other_spellings(rt: HostRuntime) -> Result<(), Fail> {
+    for conf in SPELLINGS {
+        let (status, text) = played(&rt, conf, SCRIPT)?;
+        assert_eq!(rt; status, Status::Ok, "{conf}");
+        assert_eq!(rt; text.as_slice(), REPORT.as_bytes(), "{conf}");
+    }
+    Ok(())
+}
+
+/// Sixty-five brackets are opened, the last one in column 103.
+const DEEP: &str =
+    "protocol static { ipv4 { import where (((((((((((((((((((((((((((((((((((((((((((((((((((((((((((((((((1";
+
+#[test]
+fn a_refused_configuration_is_told_by_its_place(rt: HostRuntime) -> Result<(), Fail> {
+    let cases = [
+        ("filter f { @ }", 1, 12, ConfKind::Lex),
+        ("filter f {\n", 2, 1, ConfKind::Syntax),
+        (DEEP, 1, 103, ConfKind::TooDeep),
+        ("protocol ospf o { }", 1, 10, ConfKind::Unsupported),
+    ];
+    for (conf, line, column, kind) in cases {
+        let (status, text) = played(&rt, conf, SCRIPT)?;
+        assert_eq!(rt;
+            status,
+            Status::ConfigRefused { line, column, kind },
+            "{conf}"
+        );
+        assert_eq!(rt; text.len(), 0);
+    }
+    Ok(())
+}
+
 #[test]
 fn each_form_of_line_is_reported(rt: HostRuntime) -> Result<(), Fail> {
     let (status, text) = played(&rt, CONF, FULL_SCRIPT)?;
@@ -176,6 +220,12 @@ fn what_is_not_of_the_forms_is_not_built(rt: HostRuntime) -> Result<(), Fail> {
     let cases = [
         ("", SCRIPT, 1, 0),
         ("protocol bgp p1 { }", SCRIPT, 1, 0),
+        (
+            "protocol device { } log x; router id 1.2.3.4;",
+            SCRIPT,
+            1,
+            0,
+        ),
         (CONF, "\nsync\n", 2, 2),
         (CONF, "@p1 show route\n@p2 show route\n", 2, 2),
         (CONF, "@p1 open 10.0.0.1\nsync\n", 2, 2),

@@ -1,4 +1,3 @@
-use crate::config::read_config;
 use crate::operation::{Given, Op};
 use crate::script::{Line, ScriptRead, read_script};
 use attrs::Origin;
@@ -8,65 +7,6 @@ use std::process::Abort;
 use std::test::Fail;
 
 const NAME: &[u8] = b"p1";
-
-/// Texts that say one thing: the name p1, the own AS 65000, and the neighbour 192.0.2.1 in AS 65001.
-const CONFIGURATIONS: [&str; 6] = [
-    "protocol bgp p1 { local as 65000; neighbor 192.0.2.1 as 65001; med metric on;\n  ipv4 { import all; export all; }; }",
-    "protocol bgp p1 { local as 65000; neighbor 192.0.2.1as 65001; med metric on; ipv4 { import all; export all; }; }\n",
-    "\r\n protocol\tbgp\r\np1\n{ local as\t65000 ;\n neighbor 192.0.2.1 as 65001 ; med metric on ; ipv4 { import all ; export all ; } ; }\t\n",
-    "protocol bgp p1{local as 65000;neighbor 192.0.2.1as 65001;med metric on;ipv4{import all;export all;};}",
-    "protocol bgp p1 { local as 00065000; neighbor 192.0.2.1 as 0000000000000065001; med metric on; ipv4 { import all; export all; }; }",
-    "\n\nprotocol bgp p1 {\n  local as 65000;\n  neighbor 192.0.2.1 as 65001;\n  med metric on;\n  ipv4 {\n    import all;\n    export all;\n  };\n}\n",
-];
-
-/// Texts that aren't of the form.
-const NO_CONFIGURATIONS: [&str; 18] = [
-    "",
-    " \n",
-    "# a comment\nprotocol bgp p1 { local as 65000; neighbor 192.0.2.1 as 65001; med metric on; ipv4 { import all; export all; }; }",
-    "protocol bgp p1 { local as65000; neighbor 192.0.2.1 as 65001; med metric on; ipv4 { import all; export all; }; }",
-    "protocol bgp p1234 { local as 65000; neighbor 192.0.2.1 as 65001; med metric on; ipv4 { import all; export all; }; }",
-    "protocol bgp q1 { local as 65000; neighbor 192.0.2.1 as 65001; med metric on; ipv4 { import all; export all; }; }",
-    "protocol bgp p { local as 65000; neighbor 192.0.2.1 as 65001; med metric on; ipv4 { import all; export all; }; }",
-    "protocol bgp p1a { local as 65000; neighbor 192.0.2.1 as 65001; med metric on; ipv4 { import all; export all; }; }",
-    "protocol bgp { local as 65000; neighbor 192.0.2.1 as 65001; med metric on; ipv4 { import all; export all; }; }",
-    "protocol bgp p1 { local as 4294967296; neighbor 192.0.2.1 as 65001; med metric on; ipv4 { import all; export all; }; }",
-    "protocol bgp p1 { local as 65000; neighbor 192.0.2.256 as 65001; med metric on; ipv4 { import all; export all; }; }",
-    "protocol bgp p1 { local as 65000; neighbor 192.0.2.1 as 65001; med metric on; ipv4 { import all; export all; }; } x",
-    "protocol bgp p1 { local as 65000; neighbor 192.0.2.1 as 65001; med metric on; ipv4 { import all; export all; }; };",
-    "protocol bgp p1 { local as 65000 neighbor 192.0.2.1 as 65001; med metric on; ipv4 { import all; export all; }; }",
-    "protocol bgp p1 { local as 65000; neighbor 192.0.2.1 as 65001; med metric on; ipv4 { import all; export all; } }",
-    "protocol bgp p1 { local as 65000; neighbor 192.0.2.1 as 65001; med metric on; ipv4 { import none; export all; }; }",
-    "protocol bgp p1 { local as 65000; neighbor 192.0.2.1 as 65001; ipv4 { import all; export all; }; }",
-    "protocol bgp p1 { local as 65000; neighbor 192.0.2.1 as 65001; med metric on; ipv4 { import all; export all; };",
-];
-
-#[test]
-fn reads_configurations(rt: HostRuntime) -> Result<(), Fail> {
-    for text in CONFIGURATIONS {
-        let config = read_config(rt.alloc(), text.as_bytes())?.ok_or("refused")?;
-        assert_eq!(rt; config.name.as_slice(), NAME, "in {text}");
-        assert_eq!(rt; config.local, 65000, "in {text}");
-        assert_eq!(rt; config.neighbor, Addr::V4(0xc000_0201), "in {text}");
-        assert_eq!(rt; config.remote, 65001, "in {text}");
-    }
-    let greatest =
-        "protocol bgp p999 { local as 4294967295; neighbor 255.255.255.255 as 0; med metric on; ipv4 { import all; export all; }; }";
-    let config = read_config(rt.alloc(), greatest.as_bytes())?.ok_or("refused")?;
-    assert_eq!(rt; config.name.as_slice(), b"p999".as_slice());
-    assert_eq!(rt; config.local, u32::MAX);
-    assert_eq!(rt; config.remote, 0);
-    Ok(())
-}
-
-#[test]
-fn refuses_other_configurations(rt: HostRuntime) -> Result<(), Fail> {
-    for text in NO_CONFIGURATIONS {
-        let config = read_config(rt.alloc(), text.as_bytes())?;
-        assert!(rt; config.is_none(), "in {text}");
-    }
-    Ok(())
-}
 
 /// Scripts with the number of their first line that isn't of the form.
 const BAD_SCRIPTS: [(&str, u32); 19] = [

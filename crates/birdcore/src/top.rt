@@ -5,10 +5,11 @@ ghost use Rattle.outside_io.specs.Faults.{Rose};
 ghost use Rattle.birdcore.specs.Words.{files_named};
 ghost use Rattle.birdcore.specs.Script.{AreOfV4};
 ghost use Rattle.birdcore.specs.Transfer.{IsMissed, WritesFront};
-ghost use Rattle.birdcore.specs.Outcome.{Outcome, OverLimit, OutOfForm, FilesReport, IsPlayed, MayAsk, Asks, IfReport, IsReport};
-ghost use Rattle.birdcore.specs.Answer.{FilesRefuse, ScriptRefused, Refuses, IsAnswered, Fits, IfTooLong, IfNotBuilt, IsNotOk, writes_nothing};
+ghost use Rattle.birdcore.specs.Outcome.{Outcome, OverLimit, Refused, OutOfForm, FilesReport, IsPlayed, MayAsk, Asks, IfReport, IsReport};
+ghost use Rattle.birdcore.specs.Answer.{FilesRefuse, ScriptRefused, Refuses, IsAnswered, Fits, IfTooLong, IfConfigRefused, IfNotBuilt, IsNotOk, writes_nothing};
 
 use crate::config::{Config, read_config};
+use crate::laws::texts_say_one_thing;
 use crate::play::play;
 use crate::report_text::write_report;
 use crate::script::{Line, ScriptRead, read_script};
@@ -44,10 +45,8 @@ fn play_files<F: Shelf>(
     ensures absent_script { IsTrue (F.lacks shelf.old script_name.now) → IsErr result }
 {
     let conf = read_whole(alloc, shelf, conf_name)?;
-    match read_config(alloc, &conf)? {
-        Some(config) => play_script(alloc, &config, script_name, shelf),
-        None => Err(Status::NotBuilt { file: 1, line: 0 }),
-    }
+    let config = read_config(alloc, &conf)?;
+    play_script(alloc, &config, script_name, shelf)
 }
 
 /// Reads the script of this name, and plays it over the configuration.
@@ -134,6 +133,7 @@ pub fn top<R, F: Shelf, K: Sink, G: Gate + Sync>(
 
     // The refusals come only where the files ask for them, as far as the shelf tells the files.
     ensures too_long { IfTooLong result (λ name. MayAsk (map string_bytes words.now) (F.held shelf.old) (OverLimit name)) }
+    ensures config_refused { IfConfigRefused result (λ line column kind. MayAsk (map string_bytes words.now) (F.held shelf.old) (Refused line column kind)) }
     ensures not_built { IfNotBuilt result (λ file line. MayAsk (map string_bytes words.now) (F.held shelf.old) (OutOfForm file line)) }
 
     // What is written: the report of the machine's run of these files, a front of it, or nothing.
@@ -149,6 +149,7 @@ pub fn top<R, F: Shelf, K: Sink, G: Gate + Sync>(
     ensures absent { IfSome (files_named (map string_bytes words.now)) (λ names. IsTrue (F.lacks shelf.old names.0) → IsMissed result) }
     ensures absent_script { IfSome (files_named (map string_bytes words.now)) (λ names. IsTrue (F.lacks shelf.old names.1) → IsNotOk result) }
 {
+    texts_say_one_thing();
     match run(alloc, words, shelf, out) {
         Ok(()) => Status::Ok,
         Err(status) => status,

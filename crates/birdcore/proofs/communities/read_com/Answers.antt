@@ -1,4 +1,4 @@
-use Rattle.std.proofs.Common.{◌≡◌, sym, ◌∙◌, [], false}
+use Rattle.std.proofs.Common.{◌≡◌, sym, ◌∙◌, []}
 use Rattle.std.proofs.lemmas.Bool.{false≢true}
 use Rattle.birdcore.specs.Lines.{words_of}
 use Rattle.birdcore.proofs.CommunityWords.{read_coms}

@@ -1,9 +1,16 @@
-use Rattle.std.proofs.Common.{◌∙◌, refl}
-use Rattle.birdcore.proofs.Configurations.{config_of, no_config}
+use Rattle.std.proofs.Common.{◌∙◌, ap, ℕ, min, length}
+use Rattle.birdcore.proofs.Built.{refused_place}
 use Rattle.birdcore.proofs.config.read_config.Goals as goal
 
-pub returns-in_default : goal.returns-in_default
-returns-in_default c = no_config c.args.text.now c.in_default.ensures
+pub returns-in-Ok-Some-clause-built : goal.returns-in-Ok-Some-clause-built
+returns-in-Ok-Some-clause-built c = (c.in-Ok.tree, c.in-Ok.ensures.tree, rw c.in-Ok-Some.field-0-is at c.in-Ok-Some.ensures)
 
-pub returns : goal.returns
-returns c = config_of c.args.text.now _ c.in-Some.parts.name.now c.in-Some.parts.neighbor (c.from_vec.ensures ∙ c.in_ok-name.ensures.items) refl c.in-Some.ensures
+pub returns-in-Ok-None-clause-fault : goal.returns-in-Ok-None-clause-fault
+returns-in-Ok-None-clause-fault c = (c.in-Ok.tree, c.in-Ok.ensures.tree, rw c.in-Ok-None.field-0-is at c.in-Ok-None.ensures)
+
+pub returns-in-Err-Refused-clause-fault : goal.returns-in-Err-Refused-clause-fault
+returns-in-Err-Refused-clause-fault c =
+    refused_place c.args.text.now c.in-Err-Refused.at c.min.result c.place-line.result.0 c.place-line.result.1 c.in-Err-Refused.kind _ c.in-Err-Refused.kind-is
+    (c.min.ensures ∙ ap (λ (at : ℕ). min at (length c.args.text.now)) c.in-Err-Refused.at-is)
+    (rw c.in-Err-Refused.field-0-is at c.in-Err-Refused.ensures.fault)
+    c.place-line.ensures

@@ -1,5 +1,5 @@
 use Rattle.std.proofs.lemmas.Bool.{false≢true}
-use Rattle.std.proofs.Common.{Bool, IsTrue, List, ℕ, arith, length, ap, ◌≡◌, sym, rules, ◌∙◌, subst}
+use Rattle.std.proofs.Common.{Bool, IsTrue, List, ℕ, arith, length, ◌≡◌, sym, rules, ◌∙◌, subst}
 use Rattle.birdcore.proofs.Blocks.{IsFront}
 use Rattle.birdcore.proofs.Reading.{front_more, whole_at_end, over_limit, stops_over}
 use Rattle.birdcore.proofs.transfer.read_blocks.Goals as goal

@@ -1,4 +1,4 @@
-use Rattle.std.proofs.Common.{arith, min, length}
+use Rattle.std.proofs.Common.{arith}
 use Rattle.birdcore.proofs.Blocks.{left_after, written_after}
 use Rattle.birdcore.proofs.transfer.write_whole.Goals as goal
 
