@@ -15,6 +15,8 @@ import sys
 import tempfile
 import time
 
+from runs import greatest_memory, program_and_sizes
+
 SIXTEENTHS = [1, 2, 4, 8, 16]
 LIMIT = 16 * 1024 * 1024
 PREFIXES = 400_000
@@ -60,28 +62,18 @@ def seconds(command):
     return time.perf_counter() - begun
 
 
-def memory(command, folder):
-    """The greatest memory of one run, in bytes."""
-    told = folder / "memory"
-    subprocess.run(["/usr/bin/time", "-f", "%M", "-o", told] + command, stderr=subprocess.DEVNULL)
-    return int(told.read_text().split()[-1]) * 1024
-
-
 def measure(program, folder, sixteenths):
     conf = folder / "conf"
     conf.write_text(configuration(sixteenths))
     size = conf.stat().st_size
     command = [program, "play", conf, folder / "script"]
     shortest = min(seconds(command) for _ in range(RUNS))
-    most = memory(command, folder)
+    most = greatest_memory(command, folder, stderr=subprocess.DEVNULL) * 1024
     print(f"{size:9} {shortest:8.3f} {shortest * 1e9 / size:8.1f} {most / 2**20:7.1f} {most / size:9.2f}", flush=True)
 
 
 def main():
-    if len(sys.argv) < 2:
-        sys.exit("usage: bench/config.py PROGRAM [SIXTEENTHS ..]")
-    program = pathlib.Path(sys.argv[1]).resolve()
-    sizes = [int(word) for word in sys.argv[2:]] or SIXTEENTHS
+    program, sizes = program_and_sizes("bench/config.py PROGRAM [SIXTEENTHS ..]", SIXTEENTHS)
     with tempfile.TemporaryDirectory() as name:
         folder = pathlib.Path(name)
         (folder / "script").write_text("@p1 show route\n")

@@ -15,6 +15,8 @@ import sys
 import tempfile
 import time
 
+from runs import greatest_memory, program_and_sizes
+
 SIZES = [1_000, 10_000, 100_000]
 ORDERS = ["sorted", "shuffled"]
 RUNS = 3
@@ -57,20 +59,12 @@ def run(command, output):
         return time.perf_counter() - begun
 
 
-def memory(command, folder):
-    """The greatest memory of one run, in MiB."""
-    told = folder / "memory"
-    timed = ["/usr/bin/time", "-f", "%M", "-o", told] + command
-    subprocess.run(timed, stdout=subprocess.DEVNULL, check=True)
-    return int(told.read_text()) / 1024
-
-
 def measure(name, program, folder, count, order):
     """Prints a row of the table, and gives the seconds and the memory."""
     command = [program, "play", folder / "conf", folder / "script"]
     output = folder / name
     seconds = min(run(command, output) for _ in range(RUNS))
-    mebibytes = memory(command, folder)
+    mebibytes = greatest_memory(command, folder, stdout=subprocess.DEVNULL, check=True) / 1024
     each = seconds * 1e6 / count
     print(f"{count:7} {order:>8} {name:>8} {seconds:8.3f} {each:8.2f} {mebibytes:7.1f}", flush=True)
     return seconds, mebibytes
@@ -86,10 +80,7 @@ def compare(program, plain, folder, count, order):
 
 
 def main():
-    if len(sys.argv) < 2:
-        sys.exit("usage: bench/play.py PROGRAM [LINES ..]")
-    program = pathlib.Path(sys.argv[1]).resolve()
-    sizes = [int(word) for word in sys.argv[2:]] or SIZES
+    program, sizes = program_and_sizes("bench/play.py PROGRAM [LINES ..]", SIZES)
     with tempfile.TemporaryDirectory() as name:
         folder = pathlib.Path(name)
         plain = folder / "plain-program"
