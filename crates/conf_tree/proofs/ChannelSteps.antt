@@ -15,7 +15,7 @@ use Rattle.filt_syntax.proofs.Tested.{is_checked}
 use Rattle.filt_syntax.proofs.Picks.{maps2}
 use Rattle.conf_tree.specs.Syntax.{is_family, is_action, is_hop, policy, limit, channel_option, channel_options}
 use Rattle.conf_tree.specs.View.{placed_leaf, family_symbol, family_leaf}
-use Rattle.conf_tree.specs.Readers.{policy_at, action_at, limit_value_at, channel_option_at, channel_options_at, channel_at}
+use Rattle.conf_tree.specs.Readers.{policy_at, action_at, limit_value_at, channel_option_at, closed_options, channel_at}
 use Rattle.conf_tree.proofs.Heads.{maps4, headed}
 
 pub action_some : (k : ℕ) (ws u : List Word) → ws ≡ words.Symbol sym.Action ∷ u → action_at k ws ≡ and_then (word is_action u) (λ a v. Got (First (Both (symbol_leaf sym.Action) a)) v)
@@ -117,10 +117,10 @@ unfolding channel_at within_at
 channel_is zero at f ws u is = rw (is, family_passes at f) refl
 channel_is (suc k) at f ws u is = rw (is, family_passes at f) refl
 
-within_braces : (k : ℕ) (ws u : List Word) → ws ≡ words.Symbol sym.OpenBrace ∷ u → within_at k ws ≡ and_then (channel_options_at k u) (λ t v. Got (First (Both (symbol_leaf sym.OpenBrace) t)) v)
-unfolding within_at channel_options_at
-within_braces zero ws u is = rw is (maps2 (channel_options_at 0 u) (λ t. Both (symbol_leaf sym.OpenBrace) t) (λ t. First t))
-within_braces (suc k) ws u is = rw is (maps2 (channel_options_at (suc k) u) (λ t. Both (symbol_leaf sym.OpenBrace) t) (λ t. First t))
+within_braces : (k : ℕ) (ws u : List Word) → ws ≡ words.Symbol sym.OpenBrace ∷ u → within_at k ws ≡ and_then (closed_options channel_option k u) (λ t v. Got (First (Both (symbol_leaf sym.OpenBrace) t)) v)
+unfolding within_at closed_options
+within_braces zero ws u is = rw is (maps2 (closed_options channel_option 0 u) (λ t. Both (symbol_leaf sym.OpenBrace) t) (λ t. First t))
+within_braces (suc k) ws u is = rw is (maps2 (closed_options channel_option (suc k) u) (λ t. Both (symbol_leaf sym.OpenBrace) t) (λ t. First t))
 
 within_none : (k : ℕ) (ws : List Word) → begins (symbol sym.OpenBrace) ws ≡ false → within_at k ws ≡ Got (Second Blank) ws
 unfolding within_at
@@ -129,10 +129,10 @@ within_none (suc k) [] none = refl
 within_none zero (w ∷ ws) none = rw none refl
 within_none (suc k) (w ∷ ws) none = rw none refl
 
-pub channel_braces : (k at : ℕ) (f : Family) (ws u v : List Word) → ws ≡ words.Placed at (family_symbol f) ∷ u → u ≡ words.Symbol sym.OpenBrace ∷ v → channel_at k ws ≡ and_then (channel_options_at k v) (λ t x. Got (Both (family_leaf at f) (First (Both (symbol_leaf sym.OpenBrace) t))) x)
+pub channel_braces : (k at : ℕ) (f : Family) (ws u v : List Word) → ws ≡ words.Placed at (family_symbol f) ∷ u → u ≡ words.Symbol sym.OpenBrace ∷ v → channel_at k ws ≡ and_then (closed_options channel_option k v) (λ t x. Got (Both (family_leaf at f) (First (Both (symbol_leaf sym.OpenBrace) t))) x)
 channel_braces k at f ws u v is opened =
     channel_is k at f ws u is ∙ ap (λ (x : Read). and_then x (λ t y. Got (Both (family_leaf at f) t) y)) (within_braces k u v opened)
-    ∙ maps2 (channel_options_at k v) (λ t. First (Both (symbol_leaf sym.OpenBrace) t)) (λ t. Both (family_leaf at f) t)
+    ∙ maps2 (closed_options channel_option k v) (λ t. First (Both (symbol_leaf sym.OpenBrace) t)) (λ t. Both (family_leaf at f) t)
 
 pub channel_alone : (k at : ℕ) (f : Family) (ws u : List Word) → ws ≡ words.Placed at (family_symbol f) ∷ u → begins (symbol sym.OpenBrace) u ≡ false → channel_at k ws ≡ Got (Both (family_leaf at f) (Second Blank)) u
 channel_alone k at f ws u is none = channel_is k at f ws u is ∙ rw (within_none k u none) refl

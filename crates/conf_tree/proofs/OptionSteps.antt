@@ -4,7 +4,7 @@ use Rattle.conf_lex.specs.declared.symbol.Symbol.TheVariants as sym
 use Rattle.conf_lex.specs.declared.word.Word.{Word}
 use Rattle.conf_lex.specs.declared.word.Word.TheVariants as words
 use Rattle.grammar.specs.Kind.{kind_of, symbol}
-use Rattle.grammar.specs.Grammar.{Form, Empty, Seq, Tree, Blank, Both, Start, More, begins, starts, nullable, Bad}
+use Rattle.grammar.specs.Grammar.{Form, Empty, Seq, Tree, Blank, Both, Start, More, begins, starts, Bad}
 use Rattle.grammar.specs.Reading.{Got, Fault, Reader, and_then, word, both, all_turns, read}
 use Rattle.grammar.specs.Shapes.{symbol_leaf}
 use Rattle.grammar.specs.Gives.{Fails}
@@ -13,30 +13,11 @@ use Rattle.grammar.proofs.Chains.{turn}
 use Rattle.grammar.proofs.Shapes.{fails_then, fails_along, word_bad, bool_cases, begun, refuses, shorter}
 use Rattle.filt_syntax.specs.Syntax.{semicolon, rule}
 use Rattle.filt_syntax.specs.StatementView.{row_after}
-use Rattle.filt_syntax.proofs.Tested.{model, after, checked, is_checked, good_at, next_at}
-use Rattle.conf_tree.specs.Syntax.{ended_options, channel_option, static_option, bgp_option, pipe_option}
+use Rattle.filt_syntax.proofs.Tested.{model, after, checked, good_at, next_at}
+use Rattle.conf_tree.specs.Syntax.{ended_options}
+use Rattle.conf_tree.specs.Options.{IsOption}
 use Rattle.conf_tree.specs.View.{ended_tree, ended_row}
 use Rattle.conf_tree.specs.Readers.{closed_options}
-
--- what the form of an option owes: a closing brace begins none
-pub record IsOption (item : Form) : Type 0 where
-  pub row : is_checked (ended_options item)
-  pub ended : is_checked (Seq item semicolon)
-  pub alone : is_checked item
-  pub full : nullable item ≡ false
-  pub shut : starts item (kind_of (words.Symbol sym.CloseBrace)) ≡ false
-
-pub channel_option_is : IsOption channel_option
-channel_option_is = record { row = refl; ended = refl; alone = refl; full = refl; shut = refl }
-
-pub static_option_is : IsOption static_option
-static_option_is = record { row = refl; ended = refl; alone = refl; full = refl; shut = refl }
-
-pub bgp_option_is : IsOption bgp_option
-bgp_option_is = record { row = refl; ended = refl; alone = refl; full = refl; shut = refl }
-
-pub pipe_option_is : IsOption pipe_option
-pipe_option_is = record { row = refl; ended = refl; alone = refl; full = refl; shut = refl }
 
 -- the front is read as this tree and what options give from these words on
 unfoldable pub row_at : Form → ℕ → Tree → Reader
@@ -87,10 +68,12 @@ unfolding IsRow
 ended_here item is k front t ws reading none = reading ∙ row_turn item is k t ws ∙ rw none refl
 
 pub row_closed : (item : Form) → IsOption item → (k : ℕ) (front : List Word) (t : Tree) (ws end : List Word) → IsRow item k front t ws → ws ≡ words.Symbol sym.CloseBrace ∷ end → closed_options item k front ≡ Got (Both t (symbol_leaf sym.CloseBrace)) end
+unfolding closed_options
 row_closed item is k front t ws end reading shut = rw (ended_here item is k front t ws reading (not_shut item is ws end shut), shut) refl
 
 -- what begins no option and isn't the closing brace either is refused
 pub row_option_fails : (item : Form) → IsOption item → (k : ℕ) (front : List Word) (t : Tree) (ws : List Word) (e : Refusal) → IsRow item k front t ws → begins (symbol sym.CloseBrace) ws ≡ false → Fails e (read rule k item ws) → Fails e (closed_options item k front)
+unfolding closed_options
 row_option_fails item is k front t ws e reading not_closed failed = elim (bool_cases (begins (starts (Seq item semicolon)) ws)) [
   | inl here ↦ rw (going item is k front t ws reading here) (fails_then e _ _ (fails_then e _ _ (fails_then e (read rule k item ws) _ failed)))
   | inr none ↦
@@ -100,6 +83,7 @@ row_option_fails item is k front t ws e reading not_closed failed = elim (bool_c
 ]
 
 pub row_semicolon_fails : (item : Form) → IsOption item → (k : ℕ) (front : List Word) (t : Tree) (ws : List Word) (o : Tree) (end : List Word) (e : Refusal) → IsRow item k front t ws → read rule k item ws ≡ Got o end → Fails e (word (symbol sym.Semicolon) end) → Fails e (closed_options item k front)
+unfolding closed_options
 row_semicolon_fails item is k front t ws o end e reading got failed =
     rw (going item is k front t ws reading (starts_here item is k ws o end got), got) (fails_then e _ _ (fails_then e _ _ (fails_then e (word (symbol sym.Semicolon) end) _ failed)))
 

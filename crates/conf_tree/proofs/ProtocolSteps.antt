@@ -4,17 +4,21 @@ use Rattle.conf_lex.specs.declared.symbol.Symbol.{Symbol}
 use Rattle.conf_lex.specs.declared.symbol.Symbol.TheVariants as sym
 use Rattle.conf_lex.specs.declared.word.Word.{Word}
 use Rattle.conf_lex.specs.declared.word.Word.TheVariants as words
-use Rattle.grammar.specs.Kind.{kind_of, symbol}
+use Rattle.grammar.specs.Kind.{keeps_place, symbol}
 use Rattle.grammar.specs.Grammar.{Form, Either, Tree, Both, Bad, begins}
 use Rattle.grammar.specs.Reading.{Read, Got, Fault, Reader, and_then, word, both, read}
 use Rattle.grammar.specs.Shapes.{symbol_leaf}
+use Rattle.grammar.specs.Gives.{Fails}
+use Rattle.grammar.specs.declared.refusal.Refusal.{Refusal}
+use Rattle.grammar.proofs.Shapes.{fails_then}
+use Rattle.grammar.proofs.Symbols.{placed_same}
 use Rattle.filt_syntax.specs.Syntax.{rule}
 use Rattle.filt_syntax.specs.StatementView.{nth, beyond}
 use Rattle.filt_syntax.proofs.Tested.{is_checked}
 use Rattle.filt_syntax.proofs.Picks.{maps2, picked, rest_read}
 use Rattle.conf_tree.specs.Syntax.{protocol_of, ended_options, static_option, bgp_option, pipe_option, device, statement}
 use Rattle.conf_tree.specs.View.{placed_leaf, of_protocol}
-use Rattle.conf_tree.specs.Readers.{optional_name_at, optional_semicolon_at, closed_options, static_options_at, bgp_options_at, pipe_options_at, static_at, bgp_at, pipe_at, statement_at}
+use Rattle.conf_tree.specs.Readers.{optional_name_at, optional_semicolon_at, closed_options, protocol_at, statement_at}
 use Rattle.conf_tree.proofs.Heads.{headed}
 use Rattle.conf_tree.proofs.FirstWords.{both_same, last_headed}
 
@@ -40,26 +44,28 @@ joined_end rows closes ends ws = by_rows (rows ws)
     by_rows (Fault why u) = refl
 
 -- by its kind's word
-pub protocol_read : (kind : Symbol) (item : Form) (k at : ℕ) (ws u : List Word) → ws ≡ words.Placed at kind ∷ u → symbol kind (kind_of (words.Placed at kind)) ≡ true → read rule k (protocol_of kind item) ws ≡ and_then (both (optional_name_at 0) (both (word (symbol sym.OpenBrace)) (options_and_end item k)) u) (λ t v. Got (Both (placed_leaf at kind) t) v)
-unfolding optional_name_at optional_semicolon_at
-protocol_read kind item zero at ws u is passes =
-    rw (is, passes) (ap (λ (x : Read). and_then x (λ t v. Got (Both (placed_leaf at kind) t) v))
+protocol_read : (kind : Symbol) → keeps_place kind ≡ true → (item : Form) (k at : ℕ) (u : List Word) → protocol_at kind item k (words.Placed at kind ∷ u) ≡ and_then (both (optional_name_at 0) (both (word (symbol sym.OpenBrace)) (options_and_end item k)) u) (λ t v. Got (Both (placed_leaf at kind) t) v)
+unfolding protocol_at closed_options optional_name_at optional_semicolon_at
+protocol_read kind placed item zero at u =
+    rw (placed_same at kind placed) (ap (λ (x : Read). and_then x (λ t v. Got (Both (placed_leaf at kind) t) v))
     (both_same (optional_name_at 0) _ _ (both_same (word (symbol sym.OpenBrace)) _ _ (joined_end (read rule 0 (ended_options item)) (word (symbol sym.CloseBrace)) (optional_semicolon_at 0))) u))
-protocol_read kind item (suc k) at ws u is passes =
-    rw (is, passes) (ap (λ (x : Read). and_then x (λ t v. Got (Both (placed_leaf at kind) t) v))
+protocol_read kind placed item (suc k) at u =
+    rw (placed_same at kind placed) (ap (λ (x : Read). and_then x (λ t v. Got (Both (placed_leaf at kind) t) v))
     (both_same (optional_name_at 0) _ _ (both_same (word (symbol sym.OpenBrace)) _ _ (joined_end (read rule (suc k) (ended_options item)) (word (symbol sym.CloseBrace)) (optional_semicolon_at 0))) u))
 
-pub protocol_static : (k at : ℕ) (ws u : List Word) → ws ≡ words.Placed at sym.Static ∷ u → static_at k ws ≡ and_then (both (optional_name_at 0) (both (word (symbol sym.OpenBrace)) (λ x. and_then (static_options_at k x) (λ t y. and_then (optional_semicolon_at 0 y) (λ end z. Got (ended_with t end) z)))) u) (λ t v. Got (Both (placed_leaf at sym.Static) t) v)
-unfolding static_at static_options_at
-protocol_static k at ws u is = protocol_read sym.Static static_option k at ws u is refl
+-- with its name
+module _ (kind : Symbol) (placed : keeps_place kind ≡ true) (item : Form) (k at : ℕ) (u : List Word) (n : Tree) (named : List Word) (is_named : optional_name_at 0 u ≡ Got n named) where
+  pub protocol_brace_fails : (e : Refusal) → Fails e (word (symbol sym.OpenBrace) named) → Fails e (protocol_at kind item k (words.Placed at kind ∷ u))
+  protocol_brace_fails e failed =
+      rw (protocol_read kind placed item k at u, is_named) (fails_then e _ _ (fails_then e _ _ (fails_then e _ _ failed)))
 
-pub protocol_bgp : (k at : ℕ) (ws u : List Word) → ws ≡ words.Placed at sym.Bgp ∷ u → bgp_at k ws ≡ and_then (both (optional_name_at 0) (both (word (symbol sym.OpenBrace)) (λ x. and_then (bgp_options_at k x) (λ t y. and_then (optional_semicolon_at 0 y) (λ end z. Got (ended_with t end) z)))) u) (λ t v. Got (Both (placed_leaf at sym.Bgp) t) v)
-unfolding bgp_at bgp_options_at
-protocol_bgp k at ws u is = protocol_read sym.Bgp bgp_option k at ws u is refl
+  pub protocol_options_fail : (v : List Word) (e : Refusal) → named ≡ words.Symbol sym.OpenBrace ∷ v → Fails e (closed_options item k v) → Fails e (protocol_at kind item k (words.Placed at kind ∷ u))
+  protocol_options_fail v e opened failed =
+      rw (protocol_read kind placed item k at u, is_named, opened) (fails_then e _ _ (fails_then e _ _ (fails_then e _ _ (fails_then e _ _ failed))))
 
-pub protocol_pipe : (k at : ℕ) (ws u : List Word) → ws ≡ words.Placed at sym.Pipe ∷ u → pipe_at k ws ≡ and_then (both (optional_name_at 0) (both (word (symbol sym.OpenBrace)) (λ x. and_then (pipe_options_at k x) (λ t y. and_then (optional_semicolon_at 0 y) (λ end z. Got (ended_with t end) z)))) u) (λ t v. Got (Both (placed_leaf at sym.Pipe) t) v)
-unfolding pipe_at pipe_options_at
-protocol_pipe k at ws u is = protocol_read sym.Pipe pipe_option k at ws u is refl
+  pub protocol_got : (v end rest : List Word) (row close semicolon : Tree) → named ≡ words.Symbol sym.OpenBrace ∷ v → closed_options item k v ≡ Got (Both row close) end → optional_semicolon_at 0 end ≡ Got semicolon rest → protocol_at kind item k (words.Placed at kind ∷ u) ≡ Got (Both (placed_leaf at kind) (Both n (Both (symbol_leaf sym.OpenBrace) (Both row (Both close semicolon))))) rest
+  protocol_got v end rest row close semicolon opened got ended =
+      rw (protocol_read kind placed item k at u, is_named, opened, got, ended) refl
 
 -- ---- behind "protocol"
 
@@ -89,26 +95,29 @@ device_is k ws u v is next =
     protocol_is k ws u is ∙ ap (λ (x : Read). and_then x (λ t y. Got (of_protocol t) y)) (kinds_device k u v next)
     ∙ maps2 (device_row v) (λ t. nth 0 (Both (symbol_leaf sym.Device) t)) (λ t. of_protocol t)
 
-pub statement_static : (k at : ℕ) (ws u v : List Word) → ws ≡ words.Symbol sym.Protocol ∷ u → u ≡ words.Placed at sym.Static ∷ v → statement_at k ws ≡ and_then (static_at k u) (λ t x. Got (of_protocol (nth 1 t)) x)
-unfolding static_at
+pub statement_static : (k at : ℕ) (ws u v : List Word) → ws ≡ words.Symbol sym.Protocol ∷ u → u ≡ words.Placed at sym.Static ∷ v → statement_at k ws ≡ and_then (protocol_at sym.Static static_option k (words.Placed at sym.Static ∷ v)) (λ t x. Got (of_protocol (nth 1 t)) x)
+unfolding protocol_at
 statement_static k at ws u v is next =
     protocol_is k ws u is
     ∙ ap (λ (x : Read). and_then x (λ t y. Got (of_protocol t) y)) (picked 1 k kinds (protocol_of sym.Static static_option) _ kinds_checked refl refl u (rw next refl))
-    ∙ maps2 (static_at k u) (λ t. nth 1 t) (λ t. of_protocol t)
+    ∙ maps2 (protocol_at sym.Static static_option k u) (λ t. nth 1 t) (λ t. of_protocol t)
+    ∙ ap (λ (x : List Word). and_then (protocol_at sym.Static static_option k x) (λ t y. Got (of_protocol (nth 1 t)) y)) next
 
-pub statement_bgp : (k at : ℕ) (ws u v : List Word) → ws ≡ words.Symbol sym.Protocol ∷ u → u ≡ words.Placed at sym.Bgp ∷ v → statement_at k ws ≡ and_then (bgp_at k u) (λ t x. Got (of_protocol (nth 2 t)) x)
-unfolding bgp_at
+pub statement_bgp : (k at : ℕ) (ws u v : List Word) → ws ≡ words.Symbol sym.Protocol ∷ u → u ≡ words.Placed at sym.Bgp ∷ v → statement_at k ws ≡ and_then (protocol_at sym.Bgp bgp_option k (words.Placed at sym.Bgp ∷ v)) (λ t x. Got (of_protocol (nth 2 t)) x)
+unfolding protocol_at
 statement_bgp k at ws u v is next =
     protocol_is k ws u is
     ∙ ap (λ (x : Read). and_then x (λ t y. Got (of_protocol t) y)) (picked 2 k kinds (protocol_of sym.Bgp bgp_option) _ kinds_checked refl refl u (rw next refl))
-    ∙ maps2 (bgp_at k u) (λ t. nth 2 t) (λ t. of_protocol t)
+    ∙ maps2 (protocol_at sym.Bgp bgp_option k u) (λ t. nth 2 t) (λ t. of_protocol t)
+    ∙ ap (λ (x : List Word). and_then (protocol_at sym.Bgp bgp_option k x) (λ t y. Got (of_protocol (nth 2 t)) y)) next
 
-pub statement_pipe : (k at : ℕ) (ws u v : List Word) → ws ≡ words.Symbol sym.Protocol ∷ u → u ≡ words.Placed at sym.Pipe ∷ v → statement_at k ws ≡ and_then (pipe_at k u) (λ t x. Got (of_protocol (beyond 3 t)) x)
-unfolding pipe_at
+pub statement_pipe : (k at : ℕ) (ws u v : List Word) → ws ≡ words.Symbol sym.Protocol ∷ u → u ≡ words.Placed at sym.Pipe ∷ v → statement_at k ws ≡ and_then (protocol_at sym.Pipe pipe_option k (words.Placed at sym.Pipe ∷ v)) (λ t x. Got (of_protocol (beyond 3 t)) x)
+unfolding protocol_at
 statement_pipe k at ws u v is next =
     protocol_is k ws u is
     ∙ ap (λ (x : Read). and_then x (λ t y. Got (of_protocol t) y)) (rest_read 3 k kinds kinds_checked refl u (rw next refl))
-    ∙ maps2 (pipe_at k u) (λ t. beyond 3 t) (λ t. of_protocol t)
+    ∙ maps2 (protocol_at sym.Pipe pipe_option k u) (λ t. beyond 3 t) (λ t. of_protocol t)
+    ∙ ap (λ (x : List Word). and_then (protocol_at sym.Pipe pipe_option k x) (λ t y. Got (of_protocol (beyond 3 t)) y)) next
 
 kinds_bad : (k : ℕ) (ws : List Word) → begins (symbol sym.Device) ws ≡ false → begins (symbol sym.Static) ws ≡ false → begins (symbol sym.Bgp) ws ≡ false → begins (symbol sym.Pipe) ws ≡ false → read rule k kinds ws ≡ Fault Bad ws
 kinds_bad zero [] a b c d = refl

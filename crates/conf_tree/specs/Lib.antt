@@ -1,4 +1,5 @@
 pub mod Syntax
+pub mod Options
 pub mod View
 pub mod Readers
 pub mod Said

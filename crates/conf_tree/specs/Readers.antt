@@ -1,12 +1,13 @@
 -- Reading each form of the configuration, where k more levels may be opened.
 use Rattle.std.specs.Prelude.{ℕ, List, [], ◌∷◌}
+use Rattle.conf_lex.specs.declared.symbol.Symbol.{Symbol}
 use Rattle.conf_lex.specs.declared.symbol.Symbol.TheVariants as sym
 use Rattle.conf_lex.specs.declared.word.Word.{Word}
 use Rattle.grammar.specs.Kind.{name, address, symbol}
 use Rattle.grammar.specs.Grammar.{Form, One, Seq, Either, Bad, Tree, First, starts}
 use Rattle.grammar.specs.Reading.{Read, Reader, Got, Fault, and_then, word, both, all_turns, read}
 use Rattle.filt_syntax.specs.Syntax.{optional, is_num, semicolon, rule}
-use Rattle.conf_tree.specs.Syntax.{is_switch, policy, action, channel_option, ended_options, channel, route_target, static_option, transport, bgp_option, pipe_option, literal, parameter, parameters, gives, protocol_of, device, protocol, statement, config}
+use Rattle.conf_tree.specs.Syntax.{is_switch, policy, action, channel_option, ended_options, channel, route_target, static_option, transport, bgp_option, pipe_option, literal, parameter, parameters, gives, protocol_of, statement, config}
 
 unfoldable pub optional_name_at : ℕ → Reader
 optional_name_at k = read rule k (optional (One name))
@@ -46,11 +47,8 @@ unfoldable pub channel_option_at : ℕ → Reader
 channel_option_at k = read rule k channel_option
 
 -- options and the brace behind them
-abbrev pub closed_options : Form → ℕ → Reader
+unfoldable pub closed_options : Form → ℕ → Reader
 closed_options item k = both (read rule k (ended_options item)) (word (symbol sym.CloseBrace))
-
-unfoldable pub channel_options_at : ℕ → Reader
-channel_options_at = closed_options channel_option
 
 unfoldable pub channel_at : ℕ → Reader
 channel_at k = read rule k channel
@@ -61,39 +59,18 @@ route_target_at k = read rule k route_target
 unfoldable pub static_option_at : ℕ → Reader
 static_option_at k = read rule k static_option
 
-unfoldable pub static_options_at : ℕ → Reader
-static_options_at = closed_options static_option
-
 unfoldable pub transport_at : ℕ → Reader
 transport_at k = read rule k transport
 
 unfoldable pub bgp_option_at : ℕ → Reader
 bgp_option_at k = read rule k bgp_option
 
-unfoldable pub bgp_options_at : ℕ → Reader
-bgp_options_at = closed_options bgp_option
-
 unfoldable pub pipe_option_at : ℕ → Reader
 pipe_option_at k = read rule k pipe_option
 
-unfoldable pub pipe_options_at : ℕ → Reader
-pipe_options_at = closed_options pipe_option
-
-unfoldable pub static_at : ℕ → Reader
-static_at k = read rule k (protocol_of sym.Static static_option)
-
-unfoldable pub bgp_at : ℕ → Reader
-bgp_at k = read rule k (protocol_of sym.Bgp bgp_option)
-
-unfoldable pub pipe_at : ℕ → Reader
-pipe_at k = read rule k (protocol_of sym.Pipe pipe_option)
-
-unfoldable pub device_at : ℕ → Reader
-device_at k = read rule k device
-
--- behind "protocol"
-unfoldable pub protocol_at : ℕ → Reader
-protocol_at k = read rule k protocol
+-- a protocol of this kind and these options
+unfoldable pub protocol_at : Symbol → Form → ℕ → Reader
+protocol_at kind item k = read rule k (protocol_of kind item)
 
 unfoldable pub literal_at : ℕ → Reader
 literal_at k = read rule k literal

@@ -4,14 +4,15 @@ ghost use Rattle.std.specs.Prelude.{◌≡◌, ◌∷◌, false};
 ghost use Rattle.conf_lex.specs.declared.symbol.Symbol.TheVariants as sym;
 ghost use Rattle.conf_lex.specs.declared.word.Word.{Word};
 ghost use Rattle.grammar.specs.Kind.{symbol};
-ghost use Rattle.grammar.specs.Grammar.{Both, begins};
-ghost use Rattle.grammar.specs.Shapes.{symbol_leaf};
+ghost use Rattle.grammar.specs.Grammar.{begins};
 ghost use Rattle.grammar.specs.Gives.{Gives};
-ghost use Rattle.conf_tree.specs.Syntax.{is_family};
-ghost use Rattle.conf_tree.specs.View.{bgp_option_tree, ended_row};
-ghost use Rattle.conf_tree.specs.Readers.{bgp_option_at, bgp_options_at};
+ghost use Rattle.conf_tree.specs.Syntax.{is_family, bgp_option};
+ghost use Rattle.conf_tree.specs.Options.{bgp_option_is};
+ghost use Rattle.conf_tree.specs.View.{bgp_option_tree};
+ghost use Rattle.conf_tree.specs.Readers.{bgp_option_at};
 
 use crate::channel::channel;
+use crate::options::ProtocolOption;
 use crate::simple::{as_number, expect_address, expect_switch, next_family, optional_address};
 use crate::transport::transport;
 use crate::tree::BgpOption;
@@ -70,7 +71,7 @@ fn default_value<'a>(
     }
 }
 
-// Where no option comes next that `bgp_option` tests for.
+// Where no option comes next that `read` tests for.
 fn switch_option(words: &[Word], left: u32) -> Result<(BgpOption, &[Word]), Refusal>
     requires family { begins is_family words.now ≡ false }
     requires local { begins (symbol sym.Local) words.now ≡ false }
@@ -92,45 +93,31 @@ fn switch_option(words: &[Word], left: u32) -> Result<(BgpOption, &[Word]), Refu
     Ok((BgpOption::Transport(option), rest))
 }
 
-fn bgp_option<'a>(
-    alloc: Global,
-    words: &'a [Word],
-    left: u32,
-) -> Result<(BgpOption, &'a [Word]), Refusal<'a>>
-    ensures { Gives bgp_option_tree result (bgp_option_at left words.now) }
-{
-    if let Some(((at, family), behind)) = next_family(words) {
-        let (channel, rest) = channel(alloc, words, at, family, behind, left)?;
-        return Ok((BgpOption::Channel(channel), rest));
-    }
-    if let Some(behind) = after(words, Symbol::Local) {
-        return local(words, behind, left);
-    }
-    if let Some(behind) = after(words, Symbol::Neighbor) {
-        return neighbor(words, behind, left);
-    }
-    match after(words, Symbol::Default) {
-        Some(behind) => default_value(words, behind, left),
-        None => switch_option(words, left),
-    }
-}
+impl ProtocolOption for BgpOption {
+    ghost tree = { bgp_option_tree };
 
-/// Options, each with its semicolon, and the brace behind them.
-pub fn bgp_options<'a>(
-    alloc: Global,
-    words: &'a [Word],
-    left: u32,
-) -> Result<(Vec<BgpOption>, &'a [Word]), Refusal<'a>>
-    ensures { Gives (λ v. Both (ended_row bgp_option_tree v.items) (symbol_leaf sym.CloseBrace)) result (bgp_options_at left words.now) }
-{
-    let mut options = Vec::new(alloc);
-    let mut rest = words;
-    loop {
-        if let Some(end) = after(rest, Symbol::CloseBrace) {
-            return Ok((options, end));
+    ghost form = { bgp_option };
+
+    ghost is_option = { bgp_option_is };
+
+    fn read<'a>(
+        alloc: Global,
+        words: &'a [Word],
+        left: u32,
+    ) -> Result<(BgpOption, &'a [Word]), Refusal<'a>> {
+        if let Some(((at, family), behind)) = next_family(words) {
+            let (channel, rest) = channel(alloc, words, at, family, behind, left)?;
+            return Ok((BgpOption::Channel(channel), rest));
         }
-        let (option, end) = bgp_option(alloc, rest, left)?;
-        options.push(option)?;
-        rest = expect(end, Symbol::Semicolon)?;
+        if let Some(behind) = after(words, Symbol::Local) {
+            return local(words, behind, left);
+        }
+        if let Some(behind) = after(words, Symbol::Neighbor) {
+            return neighbor(words, behind, left);
+        }
+        match after(words, Symbol::Default) {
+            Some(behind) => default_value(words, behind, left),
+            None => switch_option(words, left),
+        }
     }
 }

@@ -4,14 +4,16 @@ ghost use Rattle.std.specs.Prelude.{◌≡◌, ◌∷◌, false};
 ghost use Rattle.conf_lex.specs.declared.symbol.Symbol.TheVariants as sym;
 ghost use Rattle.conf_lex.specs.declared.word.Word.{Word};
 ghost use Rattle.grammar.specs.Kind.{symbol};
-ghost use Rattle.grammar.specs.Grammar.{Both, begins};
+ghost use Rattle.grammar.specs.Grammar.{begins};
 ghost use Rattle.grammar.specs.Reading.{word};
 ghost use Rattle.grammar.specs.Shapes.{symbol_leaf};
 ghost use Rattle.grammar.specs.Gives.{Gives};
-ghost use Rattle.conf_tree.specs.Syntax.{is_action, is_hop};
-ghost use Rattle.conf_tree.specs.View.{maybe, action_tree, action_symbol, limit_tree, hop_symbol, channel_option_tree, ended_row, channel_tree, family_symbol};
-ghost use Rattle.conf_tree.specs.Readers.{action_at, limit_value_at, channel_option_at, channel_options_at, channel_at};
+ghost use Rattle.conf_tree.specs.Syntax.{is_action, is_hop, channel_option};
+ghost use Rattle.conf_tree.specs.Options.{channel_option_is};
+ghost use Rattle.conf_tree.specs.View.{maybe, action_tree, action_symbol, limit_tree, hop_symbol, channel_option_tree, channel_tree, family_symbol};
+ghost use Rattle.conf_tree.specs.Readers.{action_at, limit_value_at, channel_option_at, channel_at};
 
+use crate::options::{ProtocolOption, options};
 use crate::policy::policy;
 use crate::tree::{Action, Channel, ChannelOption, Limit, NextHop};
 use bits_ip::Family;
@@ -104,50 +106,36 @@ fn next_hop(words: &[Word], left: u32) -> Result<(ChannelOption, &[Word]), Refus
     Ok((ChannelOption::NextHop(hop), rest))
 }
 
-fn channel_option<'a>(
-    alloc: Global,
-    words: &'a [Word],
-    left: u32,
-) -> Result<(ChannelOption, &'a [Word]), Refusal<'a>>
-    ensures { Gives channel_option_tree result (channel_option_at left words.now) }
-{
-    if let Some(rest) = after(words, Symbol::Table) {
-        let (name, rest) = expect_name(rest)?;
-        return Ok((ChannelOption::Table(name), rest));
-    }
-    if let Some(behind) = after(words, Symbol::Import) {
-        return import_option(alloc, words, behind, left);
-    }
-    if let Some(rest) = after(words, Symbol::Export) {
-        let (policy, rest) = policy(alloc, rest, left)?;
-        return Ok((ChannelOption::Export(policy), rest));
-    }
-    match after_placed(words, Symbol::Preference) {
-        Some((at, rest)) => {
-            let (value, rest) = num(rest)?;
-            Ok((ChannelOption::Preference { at, value }, rest))
-        }
-        None => next_hop(words, left),
-    }
-}
+impl ProtocolOption for ChannelOption {
+    ghost tree = { channel_option_tree };
 
-// Options, each with its semicolon, and the brace behind them.
-fn channel_options<'a>(
-    alloc: Global,
-    words: &'a [Word],
-    left: u32,
-) -> Result<(Vec<ChannelOption>, &'a [Word]), Refusal<'a>>
-    ensures { Gives (λ v. Both (ended_row channel_option_tree v.items) (symbol_leaf sym.CloseBrace)) result (channel_options_at left words.now) }
-{
-    let mut options = Vec::new(alloc);
-    let mut rest = words;
-    loop {
-        if let Some(end) = after(rest, Symbol::CloseBrace) {
-            return Ok((options, end));
+    ghost form = { channel_option };
+
+    ghost is_option = { channel_option_is };
+
+    fn read<'a>(
+        alloc: Global,
+        words: &'a [Word],
+        left: u32,
+    ) -> Result<(ChannelOption, &'a [Word]), Refusal<'a>> {
+        if let Some(rest) = after(words, Symbol::Table) {
+            let (name, rest) = expect_name(rest)?;
+            return Ok((ChannelOption::Table(name), rest));
         }
-        let (option, end) = channel_option(alloc, rest, left)?;
-        options.push(option)?;
-        rest = expect(end, Symbol::Semicolon)?;
+        if let Some(behind) = after(words, Symbol::Import) {
+            return import_option(alloc, words, behind, left);
+        }
+        if let Some(rest) = after(words, Symbol::Export) {
+            let (policy, rest) = policy(alloc, rest, left)?;
+            return Ok((ChannelOption::Export(policy), rest));
+        }
+        match after_placed(words, Symbol::Preference) {
+            Some((at, rest)) => {
+                let (value, rest) = num(rest)?;
+                Ok((ChannelOption::Preference { at, value }, rest))
+            }
+            None => next_hop(words, left),
+        }
     }
 }
 
@@ -165,7 +153,7 @@ pub fn channel<'a>(
 {
     match after(behind, Symbol::OpenBrace) {
         Some(inside) => {
-            let (options, rest) = channel_options(alloc, inside, left)?;
+            let (options, rest) = options(alloc, inside, left)?;
             let options = Some(options);
             Ok((
                 Channel {

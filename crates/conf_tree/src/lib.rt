@@ -8,6 +8,7 @@ mod function;
 mod kind;
 pub mod laws;
 mod literal;
+mod options;
 mod parse;
 mod pipe;
 mod policy;

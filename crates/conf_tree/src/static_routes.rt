@@ -1,15 +1,15 @@
 // The options of static protocols. `left` is how many more levels may be opened.
 
 ghost use Rattle.std.specs.Prelude.{◌≡◌, false};
-ghost use Rattle.conf_lex.specs.declared.symbol.Symbol.TheVariants as sym;
-ghost use Rattle.grammar.specs.Grammar.{Both, begins};
-ghost use Rattle.grammar.specs.Shapes.{symbol_leaf};
+ghost use Rattle.grammar.specs.Grammar.{begins};
 ghost use Rattle.grammar.specs.Gives.{Gives};
-ghost use Rattle.conf_tree.specs.Syntax.{is_family};
-ghost use Rattle.conf_tree.specs.View.{target_tree, static_option_tree, ended_row};
-ghost use Rattle.conf_tree.specs.Readers.{route_target_at, static_option_at, static_options_at};
+ghost use Rattle.conf_tree.specs.Syntax.{is_family, static_option};
+ghost use Rattle.conf_tree.specs.Options.{static_option_is};
+ghost use Rattle.conf_tree.specs.View.{target_tree, static_option_tree};
+ghost use Rattle.conf_tree.specs.Readers.{route_target_at, static_option_at};
 
 use crate::channel::channel;
+use crate::options::ProtocolOption;
 use crate::simple::{expect_address, next_family, next_prefix};
 use crate::tree::{Route, RouteTarget, StaticOption};
 use conf_lex::{Symbol, Word};
@@ -51,38 +51,24 @@ fn route(words: &[Word], left: u32) -> Result<(StaticOption, &[Word]), Refusal>
     }
 }
 
-fn static_option<'a>(
-    alloc: Global,
-    words: &'a [Word],
-    left: u32,
-) -> Result<(StaticOption, &'a [Word]), Refusal<'a>>
-    ensures { Gives static_option_tree result (static_option_at left words.now) }
-{
-    match next_family(words) {
-        Some(((at, family), behind)) => {
-            let (channel, rest) = channel(alloc, words, at, family, behind, left)?;
-            Ok((StaticOption::Channel(channel), rest))
-        }
-        None => route(words, left),
-    }
-}
+impl ProtocolOption for StaticOption {
+    ghost tree = { static_option_tree };
 
-/// Options, each with its semicolon, and the brace behind them.
-pub fn static_options<'a>(
-    alloc: Global,
-    words: &'a [Word],
-    left: u32,
-) -> Result<(Vec<StaticOption>, &'a [Word]), Refusal<'a>>
-    ensures { Gives (λ v. Both (ended_row static_option_tree v.items) (symbol_leaf sym.CloseBrace)) result (static_options_at left words.now) }
-{
-    let mut options = Vec::new(alloc);
-    let mut rest = words;
-    loop {
-        if let Some(end) = after(rest, Symbol::CloseBrace) {
-            return Ok((options, end));
+    ghost form = { static_option };
+
+    ghost is_option = { static_option_is };
+
+    fn read<'a>(
+        alloc: Global,
+        words: &'a [Word],
+        left: u32,
+    ) -> Result<(StaticOption, &'a [Word]), Refusal<'a>> {
+        match next_family(words) {
+            Some(((at, family), behind)) => {
+                let (channel, rest) = channel(alloc, words, at, family, behind, left)?;
+                Ok((StaticOption::Channel(channel), rest))
+            }
+            None => route(words, left),
         }
-        let (option, end) = static_option(alloc, rest, left)?;
-        options.push(option)?;
-        rest = expect(end, Symbol::Semicolon)?;
     }
 }
