@@ -1,6 +1,6 @@
 -- What is built of a configuration, as the code finds it.
-use Rattle.std.proofs.Common.{◌≡◌, ◌∙◌, sym, ap, subst, ℕ, ◌+◌, ◌-◌, ◌<◌, ◌≤◌, min, Bool, true, false, cond, List, [], ◌∷◌, length, get_or, take, drop, arith}
-use Rattle.std.proofs.lemmas.List.{drop_more, drop_all, length-drop, take_all, take_min}
+use Rattle.std.proofs.Common.{◌≡◌, ◌∙◌, sym, ap, subst, ℕ, ◌+◌, ◌-◌, ◌<◌, ◌≤◌, Bool, true, false, cond, List, [], ◌∷◌, length, get_or, take, drop, arith}
+use Rattle.std.proofs.lemmas.List.{drop_more, drop_all, length-drop, take_all}
 use Rattle.conf_tree.specs.Position.{IsPlace}
 use Rattle.conf_tree.specs.Read.{IsRefusedText}
 use Rattle.conf_tree.specs.declared.kind.ConfKind.{ConfKind}
@@ -51,22 +51,10 @@ built_is text tree ss p options said local remote name whole alone options_are s
 
 -- ---- places
 
--- a place behind the end is the end's
-pub place_within : (text : List ℕ) (at line column : ℕ) → IsPlace text (min at (length text)) line column → IsPlace text at line column
-place_within text at line column is = record {
-  lines = is.lines;
-  front = is.front;
-  before = sym (take_min at text) ∙ is.before;
-  ended = is.ended;
-  in_line = is.in_line;
-  line_is = is.line_is;
-  column_is = is.column_is;
-}
-
-pub refused_place : (text : List ℕ) (at upto line column : ℕ) (kind other : ConfKind) → other ≡ kind → upto ≡ min at (length text) → IsRefusedText text at kind → IsPlace text upto line column
+pub refused_place : (text : List ℕ) (at upto line column : ℕ) (kind other : ConfKind) → other ≡ kind → upto ≡ at → IsRefusedText text at kind → IsPlace text upto line column
     → IsRefusedAt text line column other
-refused_place text at upto line column kind other same within is place = (
+refused_place text at upto line column kind other same here is place = (
   at,
   subst (λ (k : ConfKind). IsRefusedText text at k) (sym same) is,
-  place_within text at line column (subst (λ (n : ℕ). IsPlace text n line column) within place),
+  subst (λ (n : ℕ). IsPlace text n line column) here place,
 )

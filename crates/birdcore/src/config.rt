@@ -16,6 +16,7 @@ use conf_tree::{
 use filt_syntax::Num;
 use grammar::Name;
 use std::alloc::{AllocError, Global};
+use thiserror::Error;
 
 /// What is built of a configuration: one neighbour, from which all is imported and to which all is exported.
 #[derive(Debug, Drop)]
@@ -30,16 +31,19 @@ pub struct Config {
 }
 
 /// Why a text gives none.
-#[derive(Clone, Copy, Debug, PartialEq, Eq, Drop)]
+#[derive(Clone, Copy, Debug, PartialEq, Eq, Drop, Error)]
 pub enum ConfigFault {
     /// The configuration is refused at this place.
+    #[error("{line}:{column} {kind}")]
     Refused {
         line: u32,
         column: u32,
         kind: ConfKind,
     },
     /// It is a configuration of another form than the one that is built.
+    #[error("not built")]
     NotBuilt,
+    #[error("out of memory")]
     Memory,
 }
 
@@ -336,7 +340,7 @@ pub fn read_config(alloc: Global, text: &[u8]) -> Result<Config, ConfigFault>
             Err(_) => Err(ConfigFault::Memory),
         },
         Err(ConfFault::Refused { at, kind }) => {
-            let (line, column) = place(text, at.min(text.len()));
+            let (line, column) = place(text, at);
             Err(ConfigFault::Refused { line, column, kind })
         }
         Err(ConfFault::Memory) => Err(ConfigFault::Memory),

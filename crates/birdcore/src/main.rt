@@ -37,7 +37,6 @@ mod words;
 
 use crate::status::Status;
 use crate::top::top;
-use conf_tree::ConfKind;
 use outside_io::{FileShelf, OpenGate, StdSink};
 use std::env;
 use std::io::ErrorKind;
@@ -56,16 +55,6 @@ fn number(status: &Status) -> u8 {
     }
 }
 
-/// The number and the name of a refusal of the configuration.
-fn kind_text(kind: ConfKind) -> &'static str {
-    match kind {
-        ConfKind::Lex => "C1 Lex",
-        ConfKind::Syntax => "C2 Syntax",
-        ConfKind::TooDeep => "C3 TooDeep",
-        ConfKind::Unsupported => "C15 Unsupported",
-    }
-}
-
 /// Prints the status's line, where it has one.
 fn say(rt: &impl Eprint, status: &Status) -> std::io::Result<()> {
     match status {
@@ -74,7 +63,6 @@ fn say(rt: &impl Eprint, status: &Status) -> std::io::Result<()> {
             eprintln!(rt; "usage: birdcore COMMAND [CONF [SCRIPT]] [--journal N] [--number N] [-q]")
         }
         Status::ConfigRefused { line, column, kind } => {
-            let kind = kind_text(*kind);
             eprintln!(rt; "config {line}:{column} {kind}")
         }
         Status::ReadFault => eprintln!(rt; "read fault"),

@@ -1,16 +1,14 @@
 -- The gap at the front of a text.
-use Rattle.std.proofs.Common.{◌≡◌, ℕ, suc, zero, ◌+◌, ◌<◌, ◌≤◌, Bool, true, false, cond, not, ◌&&◌, ◌||◌, ◌==◌, List, [], ◌∷◌, ◌++◌, length, take, drop, Option, Some, None, refl, sym, ◌∙◌, ap, subst, arith, inl, inr, ◌⊎◌, append_assoc, append-nil, get_or, drop-cons}
-use Rattle.std.specs.Prelude.{IsTrue}
-use Rattle.std.specs.List.{prefix_len, take_while, list_all, concat}
+use Rattle.std.proofs.Common.{◌≡◌, ℕ, suc, ◌+◌, ◌<◌, ◌≤◌, Bool, true, false, cond, not, ◌&&◌, ◌||◌, ◌==◌, List, [], ◌∷◌, ◌++◌, length, take, drop, Option, Some, None, refl, sym, ◌∙◌, ap, subst, arith, inl, inr, ◌⊎◌, append_assoc, append-nil, get_or, drop-cons}
+use Rattle.std.specs.List.{prefix_len, take_while, concat}
 use Rattle.std.specs.Option.{option_map}
-use Rattle.std.proofs.lemmas.Bool.{cases_Bool, and_parts, and_from, eqb-true, ne_eqb, not-true, not_from_false, false≢true}
-use Rattle.std.proofs.lemmas.Bool.Decides.{nat_tests}
-use Rattle.std.proofs.lemmas.List.{take-append-drop, length-append, length-take, length-drop, drop-drop, drop-take, take-take}
+use Rattle.std.proofs.lemmas.Bool.{cases_Bool, and_parts, eqb-true, ne_eqb, false≢true}
+use Rattle.std.proofs.lemmas.List.{take-append-drop, length-append, drop-drop, drop-take, take-take}
 use Rattle.std.proofs.lemmas.List.Folds.{length-prefix_len, concat-append}
 use Rattle.conf_lex.specs.Shapes.{first_passes, is_blank, is_newline, ends_line, has_close, IsSeparator, Blank, Line, Block, AreSeparators, IsGap}
 use Rattle.conf_lex.specs.Fronts.{close_len, separator_len}
 use Rattle.conf_lex.specs.Lex.{HasNoSeparator}
-use Rattle.conf_lex.proofs.Runs.{run_whole, run_passes, run_stops, run_is, first_is, map_some, or_skips}
+use Rattle.conf_lex.proofs.Runs.{run_whole, run_passes, run_stops, run_is, first_is, map_some}
 use Rattle.conf_lex.proofs.Reached.{take_length, drop_length}
 
 -- the end of a comment

@@ -1,5 +1,5 @@
 -- The words of a list of tokens, one after another.
-use Rattle.std.proofs.Common.{◌≡◌, ℕ, suc, zero, ◌+◌, ◌-◌, ◌<◌, ◌≤◌, Bool, true, false, cond, ◌&&◌, List, [], ◌∷◌, ◌++◌, length, map, take, drop, Option, Some, None, refl, sym, ◌∙◌, ap, subst, arith, append_assoc}
+use Rattle.std.proofs.Common.{◌≡◌, ℕ, suc, zero, ◌+◌, ◌-◌, ◌≤◌, Bool, true, false, cond, ◌&&◌, List, [], ◌∷◌, ◌++◌, length, map, drop, Option, Some, None, refl, sym, ◌∙◌, ap, subst, arith, append_assoc}
 use Rattle.std.proofs.lemmas.List.{length-append, length-drop, drop-drop}
 use Rattle.conf_lex.specs.declared.shapes.Sort.{Sort}
 use Rattle.conf_lex.specs.declared.shapes.Sort.TheVariants as sorts
@@ -8,9 +8,9 @@ use Rattle.conf_lex.specs.declared.token.TokenKind.{TokenKind}
 use Rattle.conf_lex.specs.declared.token.TokenKind.TheVariants as kinds
 use Rattle.conf_lex.specs.declared.word.Word.{Word}
 use Rattle.conf_lex.specs.Shapes.{IsShape, IsValue}
-use Rattle.conf_lex.specs.Lex.{IsNext, Lexes}
+use Rattle.conf_lex.specs.Lex.{Lexes}
 use Rattle.conf_lex.specs.Symbols.{is_else, is_colon, is_slash}
-use Rattle.conf_lex.specs.Words.{token_symbol, word_of, or_alone, slashed, first_word, words_from, quotes_of, IsWithin, AreWithin}
+use Rattle.conf_lex.specs.Words.{token_symbol, word_of, or_alone, slashed, first_word, words_from, quotes_of, AreWithin}
 use Rattle.conf_lex.proofs.Readings.{word_kind, decimal_kind, hexadecimal_kind, dotted_kind, colons_kind, mark_kind}
 
 -- tokens stand within their text
@@ -91,7 +91,7 @@ drop_one : (n : ℕ) (t : Token) (ts : List Token) → 1 ≤ n → drop (n - 1) 
 drop_one n t ts some = let next : n ≡ suc (n - 1) = omega arith in sym (ap (λ (m : ℕ). drop m (t ∷ ts)) next)
 
 -- one word more
-next_words : (text : List ℕ) (tokens : List Token) (at : ℕ) (t : Token) (behind : List Token) (word : Word × ℕ) → drop at tokens ≡ t ∷ behind → word ≡ first_word text at t behind
+pub next_words : (text : List ℕ) (tokens : List Token) (at : ℕ) (t : Token) (behind : List Token) (word : Word × ℕ) → drop at tokens ≡ t ∷ behind → word ≡ first_word text at t behind
     → words_from text at 0 (drop at tokens) ≡ (at, word.0) ∷ words_from text (at + word.1) 0 (drop (at + word.1) tokens)
 next_words text tokens at t behind word cut is =
     let n = (first_word text at t behind).1 in
@@ -106,12 +106,11 @@ next_words text tokens at t behind word cut is =
     ∙ ap (λ (l : List Token). words_from text (at + (first_word text at t behind).1) 0 l) ahead))
 
 -- what the loop keeps, for either part of a word and its place
-pub words_more : {A : Type 0} (part : ℕ × Word → A) (text : List ℕ) (tokens : List Token) (all : List (ℕ × Word)) (at : ℕ) (t : Token) (behind : List Token) (word : Word × ℕ) (found : List A) → drop at tokens ≡ t ∷ behind → word ≡ first_word text at t behind
-    → map part all ≡ found ++ map part (words_from text at 0 (drop at tokens))
-    → map part all ≡ (found ++ part (at, word.0) ∷ []) ++ map part (words_from text (at + word.1) 0 (drop (at + word.1) tokens))
-words_more {A} part text tokens all at t behind word found cut is before =
-    before ∙ ap (λ (ws : List (ℕ × Word)). found ++ map part ws) (next_words text tokens at t behind word cut is)
-    ∙ sym (append_assoc found (part (at, word.0) ∷ []) (map part (words_from text (at + word.1) 0 (drop (at + word.1) tokens))))
+pub words_more : {A : Type 0} (part : ℕ × Word → A) (all pairs : List (ℕ × Word)) (next : ℕ × Word) (rest : List (ℕ × Word)) (found : List A) → pairs ≡ next ∷ rest
+    → map part all ≡ found ++ map part pairs
+    → map part all ≡ (found ++ part next ∷ []) ++ map part rest
+words_more {A} part all pairs next rest found cut before =
+    before ∙ ap (λ (ws : List (ℕ × Word)). found ++ map part ws) cut ∙ sym (append_assoc found (part next ∷ []) (map part rest))
 
 pub words_reach : (text : List ℕ) (tokens : List Token) (at : ℕ) (t : Token) (behind : List Token) (word : Word × ℕ) → at ≤ length tokens → drop at tokens ≡ t ∷ behind → word ≡ first_word text at t behind → (1 ≤ word.1) × (at + word.1 ≤ length tokens)
 words_reach text tokens at t behind word within cut is =

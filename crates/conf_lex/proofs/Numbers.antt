@@ -1,17 +1,17 @@
 -- Digits and what they spell.
-use Rattle.std.proofs.Common.{◌≡◌, ℕ, suc, zero, ◌+◌, ◌<◌, ◌≤◌, ◌^◌, Bool, true, false, cond, ◌&&◌, ◌||◌, ◌==◌, List, [], ◌∷◌, ◌++◌, length, take, drop, Option, Some, None, Result, Ok, Err, MatchOption, refl, sym, ◌∙◌, ap, subst, arith, inl, inr, append_assoc}
+use Rattle.std.proofs.Common.{◌≡◌, ℕ, suc, zero, ◌<◌, ◌≤◌, Bool, true, cond, ◌==◌, List, [], ◌∷◌, ◌++◌, length, drop, Result, Ok, Err, MatchOption, refl, sym, ◌∙◌, ap, subst, arith, inl, inr}
 use Rattle.std.specs.Char.{digit_value, is_ascii_digit, is_ascii_hexdigit}
-use Rattle.std.specs.List.{list_all, prefix_len, take_while}
+use Rattle.std.specs.List.{list_all}
 use Rattle.std.specs.Result.{result_ok}
 use Rattle.std.specs.Str.{IsUtf8, IsAscii}
 use Rattle.std.specs.Str.Parse.{AllDigits, ParsesUnsigned, digits_value, without_leading_plus}
-use Rattle.std.proofs.lemmas.Bool.{and_parts, and_from, cases_Bool, eqb-true, false≢true}
+use Rattle.std.proofs.lemmas.Bool.{and_parts, and_from, cases_Bool, eqb-true}
 use Rattle.std.proofs.lemmas.Bool.Decides.{nat_tests}
 use Rattle.std.proofs.lemmas.Str.{IsUtf8-from_ascii}
 use Rattle.std.proofs.lemmas.Str.Ascii.{IsAscii-cons, IsAscii-nil}
 use Rattle.bits_ip.specs.Text.{addr_run, is_addr_byte, IsAddrText}
 use Rattle.bits_ip.specs.declared.address.Addr.{Addr}
-use Rattle.conf_lex.specs.Shapes.{IsDigits, IsDotted, IsHexadecimal, IsColons, IsNumber, IsHexNumber, is_colons_byte}
+use Rattle.conf_lex.specs.Shapes.{IsDotted, IsHexadecimal, IsColons, IsNumber, IsHexNumber, is_colons_byte}
 use Rattle.conf_lex.proofs.Runs.{run_yes}
 
 below_10 : (b : ℕ) → is_ascii_digit b ≡ true → digit_value b < 10

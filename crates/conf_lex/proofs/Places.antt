@@ -1,10 +1,9 @@
 -- Where the tokens of a text stand.
-use Rattle.std.proofs.Common.{◌≡◌, ℕ, suc, zero, ◌+◌, ◌-◌, ◌<◌, ◌≤◌, List, [], ◌∷◌, ◌++◌, length, take, drop, refl, sym, ◌∙◌, ap, subst, arith, append_assoc}
+use Rattle.std.proofs.Common.{◌≡◌, ℕ, ◌+◌, ◌-◌, ◌<◌, List, [], ◌∷◌, ◌++◌, length, take, drop, refl, sym, ◌∙◌, ap, subst, arith, append_assoc}
 use Rattle.std.proofs.lemmas.List.{length-append}
-use Rattle.conf_lex.specs.declared.shapes.Sort.{Sort}
 use Rattle.conf_lex.specs.declared.token.Token.{Token}
 use Rattle.conf_lex.specs.Shapes.{IsToken, IsValue, IsGap}
-use Rattle.conf_lex.specs.Lex.{IsNext, Lexes}
+use Rattle.conf_lex.specs.Lex.{IsNext, Lexes, Stops}
 use Rattle.conf_lex.specs.Spans.{IsSpan, IsBetween}
 use Rattle.conf_lex.proofs.Reached.{take_length, drop_length}
 use Rattle.conf_lex.proofs.Tokens.{shape_some}
@@ -78,3 +77,11 @@ between_from place whole before text (f ∷ front) back t u at cut lexes =
 
 pub between : (text : List ℕ) (front back : List Token) (t u : Token) → Lexes 0 text (front ++ t ∷ u ∷ back) → IsBetween text (t.at + t.len) u.at
 between text front back t u lexes = between_from 0 text [] text front back t u refl refl lexes
+
+-- the end of the next token and what is left are the whole text
+next_end : (place : ℕ) (text : List ℕ) (t : Token) (rest : List ℕ) → IsNext place text t rest → t.at + t.len + length rest ≡ place + length text
+next_end place text t rest next = omega (arith, next.at, next.len, ap (λ (l : List ℕ). length l) next.whole, length-append next.gap (next.slice ++ rest), length-append next.slice rest)
+
+pub stops_within : (place : ℕ) (text : List ℕ) (ts : List Token) (stop : ℕ) → Stops place text ts stop → stop < place + length text
+stops_within place text [] stop stuck = omega (arith, stuck.at, stuck.some, ap (λ (l : List ℕ). length l) stuck.whole, length-append stuck.gap stuck.rest)
+stops_within place text (t ∷ ts) stop stops = omega (arith, stops_within (t.at + t.len) stops.0 ts stop stops.2, next_end place text t stops.0 stops.1)

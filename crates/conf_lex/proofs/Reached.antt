@@ -1,14 +1,12 @@
 -- No front of a text that is of some sort is longer than the one that the lexer computes.
 use Rattle.std.proofs.Common.{◌≡◌, ℕ, suc, zero, ◌+◌, ◌<◌, ◌≤◌, Bool, true, false, cond, not, ◌&&◌, ◌||◌, ◌==◌, nat_le, List, [], ◌∷◌, ◌++◌, length, take, drop, Option, Some, None, refl, sym, ◌∙◌, ap, subst, arith, inl, inr, ◌⊎◌, append_assoc}
-use Rattle.std.specs.Prelude.{count_by, IsTrue, codes}
-use Rattle.std.specs.Bool.{nat_eq}
+use Rattle.std.specs.Prelude.{count_by, codes}
 use Rattle.std.specs.Char.{is_ascii_digit, is_ascii_hexdigit}
-use Rattle.std.specs.Cmp.Lexicographic.{pointwise}
-use Rattle.std.specs.List.{prefix_len, take_while, list_all, list_any}
+use Rattle.std.specs.List.{prefix_len, take_while, list_all}
 use Rattle.std.specs.Option.{option_and_then, option_map}
 use Rattle.std.proofs.lemmas.Bool.{cases_Bool, and_parts, and_from, leb-true, le-leb, eqb-true, not-true, not_from_false, false≢true}
 use Rattle.std.proofs.lemmas.Bool.Decides.{nat_tests}
-use Rattle.std.proofs.lemmas.List.{take-append-drop, length-append, length-take}
+use Rattle.std.proofs.lemmas.List.{length-append}
 use Rattle.std.proofs.lemmas.List.Folds.{length-prefix_len}
 use Rattle.std.proofs.lemmas.List.Sums.{count_by-le-length, sum_by-cons}
 use Rattle.std.proofs.lemmas.Option.{option_and_then_some}
@@ -16,8 +14,8 @@ use Rattle.conf_lex.specs.declared.shapes.Sort.{Sort}
 use Rattle.conf_lex.specs.declared.shapes.Sort.TheVariants as sorts
 use Rattle.conf_lex.specs.Shapes.{is_letter, is_name_byte, is_quoted_byte, is_text_byte, is_colons_byte, is_sign, is_short_sign, is_pair_sign, is_empty_sign, short_signs, pair_signs, empty_signs, first_passes, IsDigits, IsDotted, IsShape, IsWord, IsQuote, IsText, IsHexadecimal, IsColons}
 use Rattle.conf_lex.specs.Fronts.{quote_len, text_len, dot_len, dotted_len, begins_hexadecimal, dotted_or_number, has_sign, begins_comment, sign_len, begins_colons, plain_front, front}
-use Rattle.conf_lex.proofs.Runs.{run_whole, run_passes, run_stops, run_reach, run_is, len_yes, len_no, run_yes, run_no, first_is, if_some, map_some, among}
-use Rattle.conf_lex.proofs.Found.{found_dot, drop_front}
+use Rattle.conf_lex.proofs.Runs.{run_reach, run_is, len_yes, len_no, run_yes, run_no, first_is, if_some, map_some, among}
+use Rattle.conf_lex.proofs.Found.{drop_front}
 
 -- the computed front is at least so long, and of the sort where it is no longer
 abbrev pub Reaches : Sort → ℕ → Option (Sort × ℕ) → Type 0

@@ -1,5 +1,5 @@
 -- A text has one reading.
-use Rattle.std.proofs.Common.{◌≡◌, ℕ, suc, zero, ◌+◌, ◌<◌, ◌≤◌, Bool, true, false, cond, not, ◌&&◌, ◌||◌, ◌==◌, List, [], ◌∷◌, ◌++◌, length, take, drop, Option, Some, None, refl, sym, ◌∙◌, ap, subst, arith, inl, inr, ◌⊎◌, append_assoc, append-nil}
+use Rattle.std.proofs.Common.{◌≡◌, ℕ, suc, zero, ◌+◌, ◌<◌, ◌≤◌, Bool, true, false, cond, not, ◌&&◌, ◌||◌, ◌==◌, List, [], ◌∷◌, ◌++◌, length, take, drop, Option, Some, None, refl, sym, ◌∙◌, ap, subst, arith, inl, inr, append-nil}
 use Rattle.std.specs.Prelude.{count_by, nat_le, max}
 use Rattle.std.specs.List.{prefix_len, take_while}
 use Rattle.std.proofs.lemmas.List.Sums.{sum_by-cons}
@@ -17,13 +17,13 @@ use Rattle.conf_lex.specs.declared.shapes.Sort.TheVariants as sorts
 use Rattle.conf_lex.specs.declared.token.Token.{Token}
 use Rattle.conf_lex.specs.declared.token.TokenKind.{TokenKind}
 use Rattle.conf_lex.specs.declared.token.TokenKind.TheVariants as kinds
-use Rattle.conf_lex.specs.Shapes.{is_blank, is_sign, is_name_byte, is_colons_byte, first_passes, IsShape, IsToken, IsValue, IsNumber, IsHexNumber, IsGap, IsSeparator, Blank, Line, Block}
-use Rattle.conf_lex.specs.Fronts.{begins_comment, begins_colons, separator_len, sign_len, has_sign, plain_front, front, Tells}
+use Rattle.conf_lex.specs.Shapes.{is_blank, is_sign, is_name_byte, is_colons_byte, first_passes, IsToken, IsValue, IsNumber, IsHexNumber, IsGap, IsSeparator, Blank, Line, Block}
+use Rattle.conf_lex.specs.Fronts.{begins_comment, begins_colons, sign_len, has_sign, front, Tells}
 use Rattle.conf_lex.specs.Lex.{IsNext, Lexes, HasNoSeparator, HasNoToken, IsStuck, Stops}
-use Rattle.conf_lex.proofs.Runs.{first_is, len_yes, len_no, run_yes, behind_yes}
-use Rattle.conf_lex.proofs.Reached.{reaches, is_mark_first, plain_mark, no_colons_at, front_plain, sign_test}
-use Rattle.conf_lex.proofs.Tokens.{front_token, no_token, one_token, no_front, shape_some}
-use Rattle.conf_lex.proofs.Between.{separator_is, gap_once, Separates, some_none, some_piece}
+use Rattle.conf_lex.proofs.Runs.{len_yes, len_no, run_yes, behind_yes}
+use Rattle.conf_lex.proofs.Reached.{is_mark_first, plain_mark, no_colons_at, front_plain, sign_test}
+use Rattle.conf_lex.proofs.Tokens.{front_token, no_token, one_token, shape_some}
+use Rattle.conf_lex.proofs.Between.{gap_once, some_piece}
 
 -- where a separator begins there is no token
 

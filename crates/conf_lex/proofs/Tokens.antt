@@ -1,20 +1,18 @@
 -- The computed front is the token that begins a text.
-use Rattle.std.proofs.Common.{◌≡◌, ℕ, suc, zero, ◌+◌, ◌<◌, ◌≤◌, Bool, true, false, cond, not, ◌&&◌, ◌||◌, ◌==◌, nat_le, List, [], ◌∷◌, ◌++◌, length, take, drop, Option, Some, None, refl, sym, ◌∙◌, ap, subst, arith, inl, inr, ◌⊎◌, append_assoc}
-use Rattle.std.specs.Prelude.{count_by, IsTrue, codes}
+use Rattle.std.proofs.Common.{◌≡◌, ℕ, ◌+◌, ◌<◌, ◌≤◌, Bool, true, false, cond, not, ◌||◌, ◌==◌, nat_le, List, [], ◌∷◌, ◌++◌, length, take, drop, Option, Some, None, refl, sym, ◌∙◌, ap, subst, arith, inl, inr, ◌⊎◌}
+use Rattle.std.specs.Prelude.{count_by, codes}
 use Rattle.std.specs.Char.{is_ascii_digit, is_ascii_hexdigit}
-use Rattle.std.specs.List.{prefix_len, take_while, list_all, list_any}
-use Rattle.std.specs.Option.{option_and_then, option_map}
-use Rattle.std.proofs.lemmas.Bool.{cases_Bool, and_parts, and_from, leb-true, le-leb, eqb-true, not-true, not_from_false, false≢true}
+use Rattle.std.specs.List.{prefix_len, take_while}
+use Rattle.std.specs.Option.{option_map}
+use Rattle.std.proofs.lemmas.Bool.{cases_Bool, and_parts, leb-true, eqb-true, not-true, false≢true}
 use Rattle.std.proofs.lemmas.Bool.Decides.{nat_tests}
-use Rattle.std.proofs.lemmas.List.{take-append-drop, length-append, length-take, length-drop}
+use Rattle.std.proofs.lemmas.List.{take-append-drop, length-append, length-take}
 use Rattle.std.proofs.lemmas.List.Folds.{length-prefix_len}
 use Rattle.conf_lex.specs.declared.shapes.Sort.{Sort}
 use Rattle.conf_lex.specs.declared.shapes.Sort.TheVariants as sorts
-use Rattle.conf_lex.specs.declared.token.TokenKind.{TokenKind}
-use Rattle.conf_lex.specs.Shapes.{is_letter, is_name_byte, is_quoted_byte, is_text_byte, is_colons_byte, is_sign, first_passes, IsDigits, IsDotted, IsShape, IsToken, IsValue, IsColons}
-use Rattle.conf_lex.specs.Fronts.{quote_len, text_len, dot_len, dotted_len, begins_hexadecimal, dotted_or_number, has_sign, begins_comment, sign_len, begins_colons, plain_front, front, Tells}
-use Rattle.conf_lex.specs.Lex.{HasNoToken}
-use Rattle.conf_lex.proofs.Runs.{run_whole, run_passes, run_stops, len_yes, len_no, run_yes, first_is, if_some, map_some, or_skips}
+use Rattle.conf_lex.specs.Shapes.{is_letter, is_name_byte, is_colons_byte, is_sign, first_passes, IsShape, IsToken}
+use Rattle.conf_lex.specs.Fronts.{quote_len, text_len, dotted_len, begins_hexadecimal, dotted_or_number, has_sign, begins_comment, sign_len, begins_colons, plain_front, front}
+use Rattle.conf_lex.proofs.Runs.{run_whole, run_passes, run_stops, len_yes, first_is}
 use Rattle.conf_lex.proofs.Found.{Found, found_word, found_digits, found_hexadecimal, found_quote, found_text, found_dotted}
 use Rattle.conf_lex.proofs.Reached.{Reaches, reaches, take_length, drop_length}
 

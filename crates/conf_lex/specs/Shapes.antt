@@ -6,7 +6,6 @@ use Rattle.std.specs.List.{concat, list_all, list_any}
 use Rattle.std.specs.Bool.{nat_eq}
 use Rattle.std.specs.Str.Parse.{digits_value}
 use Rattle.bits_ip.specs.Text.{IsAddrText}
-use Rattle.bits_ip.specs.declared.address.Addr.{Addr}
 use Rattle.bits_ip.specs.declared.address.Addr.TheVariants.{V4, V6}
 use Rattle.conf_lex.specs.declared.shapes.Sort.{Sort}
 use Rattle.conf_lex.specs.declared.shapes.Sort.TheVariants as sorts

@@ -1,5 +1,5 @@
 -- The words that a text's tokens are to the grammars.
-use Rattle.std.specs.Prelude.{◌≡◌, ℕ, suc, zero, ◌+◌, ◌-◌, ◌%◌, ◌^◌, ◌≤◌, Bool, true, false, ◌&&◌, ◌==◌, nat_le, if◌then◌else◌, ⊤, Option, Some, None, List, [], ◌∷◌, length, map, take, drop}
+use Rattle.std.specs.Prelude.{ℕ, suc, zero, ◌+◌, ◌-◌, ◌%◌, ◌^◌, ◌≤◌, Bool, true, ◌&&◌, ◌==◌, nat_le, if◌then◌else◌, ⊤, Option, Some, None, List, [], ◌∷◌, length, take, drop}
 use Rattle.bits_ip.specs.Address.{number_of, width_of}
 use Rattle.bits_ip.specs.declared.address.Addr.{Addr}
 use Rattle.conf_lex.specs.Symbols.{symbol_of, is_placed, is_else, is_colon, is_slash}

@@ -1,4 +1,4 @@
-ghost use Rattle.std.specs.Prelude.{◌≡◌, ◌≤◌, ◌<◌, ◌+◌, ℕ, List, length, map, drop, take, IfOk};
+ghost use Rattle.std.specs.Prelude.{◌≡◌, ◌≤◌, ◌<◌, ◌+◌, ℕ, List, [], ◌∷◌, length, map, drop, take, IfOk, IfSome, MatchOption};
 ghost use Rattle.conf_lex.specs.Lex.{Lexes};
 ghost use Rattle.conf_lex.specs.Symbols.{symbol_of, is_else, is_colon, is_slash};
 ghost use Rattle.conf_lex.specs.Words.{slice_of, token_symbol, word_of, symbol_word, spelled_word, prefix_word, slashed, first_word, words_from, words_of, IsWithin, AreWithin};
@@ -32,21 +32,14 @@ fn prefix_word(at: usize, addr: Addr, len: u32) -> Word
     }
 }
 
-fn token_bytes(text: &[u8], token: Token) -> &[u8]
-    requires { IsWithin text.now token }
-    ensures { result.now ≡ slice_of text.now token }
-{
-    &text[token.at..token.at + token.len]
-}
-
 /// The symbol that a word or a sign is.
 fn token_symbol(text: &[u8], token: Token) -> Option<Symbol>
     requires { IsWithin text.now token }
     ensures { result ≡ token_symbol text.now token }
 {
     match token.kind {
-        TokenKind::Name => symbol_of(token_bytes(text, token)),
-        TokenKind::Sign => symbol_of(token_bytes(text, token)),
+        TokenKind::Name => symbol_of(token.bytes(text)),
+        TokenKind::Sign => symbol_of(token.bytes(text)),
         _ => None,
     }
 }
@@ -55,7 +48,7 @@ fn spelled_word(text: &[u8], at: usize, token: Token) -> Word
     requires { IsWithin text.now token }
     ensures { result ≡ spelled_word at token (symbol_of (slice_of text.now token)) }
 {
-    match symbol_of(token_bytes(text, token)) {
+    match symbol_of(token.bytes(text)) {
         Some(symbol) => symbol_word(at, symbol),
         None => Word::Name {
             at,
@@ -148,6 +141,22 @@ fn tokens_from(tokens: &[Token], at: usize) -> &[Token]
     &tokens[at..]
 }
 
+/// The word that begins with this token, and the place of the token behind the word; nothing behind the last token.
+pub fn word_at(text: &[u8], tokens: &[Token], at: usize) -> Option<(Word, usize)>
+    requires lexed { Lexes 0 text.now tokens.now }
+    requires within { at ≤ length tokens.now }
+    ensures word { MatchOption result (words_from text.now at 0 (drop at tokens.now) ≡ []) (λ found. words_from text.now at 0 (drop at tokens.now) ≡ (at, found.0) ∷ words_from text.now found.1 0 (drop found.1 tokens.now)) }
+    ensures rises { IfSome result (λ found. (at < found.1) × (found.1 ≤ length tokens.now)) }
+{
+    match tokens_from(tokens, at).split_first() {
+        Some((token, behind)) => {
+            let (word, taken) = first_word(text, at, *token, behind);
+            Some((word, at + taken))
+        }
+        None => None,
+    }
+}
+
 /// The words of a text whose tokens `lex` gave: a name or a symbol for each token, but one word for an address, a slash
 /// and a number, and one for `else` with a colon next after it.
 pub fn words(alloc: Global, text: &[u8], tokens: &[Token]) -> Result<Words, OutOfMemory>
@@ -173,11 +182,10 @@ pub fn words_from(
     let mut words = Vec::new(alloc);
     let mut starts = Vec::new(alloc);
     let mut at = from;
-    while let Some((token, behind)) = tokens_from(tokens, at).split_first() {
-        let (word, taken) = first_word(text, at, *token, behind);
+    while let Some((word, next)) = word_at(text, tokens, at) {
         words.push(word)?;
         starts.push(at)?;
-        at += taken;
+        at = next;
     }
     Ok(Words { words, starts })
 }

@@ -1,5 +1,5 @@
 //! What the tokens of a text are, in words of their own, and that a text has one reading.
-ghost use Rattle.std.specs.Prelude.{◌≡◌, ℕ, ◌+◌, ◌≤◌, ◌<◌, List, [], ◌∷◌, ◌++◌};
+ghost use Rattle.std.specs.Prelude.{◌≡◌, ℕ, ◌+◌, ◌≤◌, ◌<◌, List, [], ◌∷◌, ◌++◌, length};
 ghost use Rattle.conf_lex.specs.declared.token.Token.{Token};
 ghost use Rattle.conf_lex.specs.Lex.{Lexes, Stops};
 ghost use Rattle.conf_lex.specs.Spans.{IsSpan, IsBetween};
@@ -17,6 +17,11 @@ pub fn lexed_texts_are_not_refused()
 /// A text is refused at one place at most.
 pub fn texts_are_refused_at_one_place()
     ensures { (text : List ℕ) (ts us : List Token) (place stop : ℕ) → Stops 0 text ts place → Stops 0 text us stop → place ≡ stop }
+{}
+
+/// The place at which a text is refused is within it.
+pub fn texts_are_refused_within()
+    ensures { (text : List ℕ) (ts : List Token) (place : ℕ) → Stops 0 text ts place → place < length text }
 {}
 
 /// Each token is the slice of its text at its place: the longest token that begins there, and it says what the slice says.

@@ -16,7 +16,7 @@ mod token;
 mod values;
 mod word;
 
-pub use folding::{words, words_from};
+pub use folding::{word_at, words, words_from};
 pub use lexer::lex;
 pub use symbol::Symbol;
 pub use token::{LexFault, Token, TokenKind};

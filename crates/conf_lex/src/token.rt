@@ -1,3 +1,6 @@
+ghost use Rattle.std.specs.Prelude.{◌≡◌, ◌≤◌, ◌+◌, length};
+ghost use Rattle.conf_lex.specs.Words.{slice_of};
+
 use bits_ip::Addr;
 use std::alloc::AllocFailed;
 use thiserror::Error;
@@ -25,6 +28,16 @@ pub struct Token {
     pub at: usize,
     /// How many bytes it has.
     pub len: usize,
+}
+
+impl Token {
+    /// Its bytes in the source, with the quotes.
+    pub fn bytes(self, source: &[u8]) -> &[u8]
+        requires { self.at + self.len ≤ length source.now }
+        ensures { result.now ≡ slice_of source.now self }
+    {
+        &source[self.at..self.at + self.len]
+    }
 }
 
 /// Why a text has no tokens.

@@ -1,3 +1,5 @@
+ghost use Rattle.std.specs.Prelude.{◌≡◌, slice_index_or};
+
 use crate::symbol::Symbol;
 use bits_ip::{Addr, Prefix};
 
@@ -27,4 +29,16 @@ pub enum Word {
 pub struct Words {
     pub words: Vec<Word>,
     pub starts: Vec<usize>,
+}
+
+impl Words {
+    /// The token with which the word in this place begins; behind the last word `end`, which is the number of the tokens.
+    pub fn token_at(&self, place: usize, end: usize) -> usize
+        ensures { result ≡ slice_index_or self.now.starts.items place end }
+    {
+        match self.starts.get(place) {
+            Some(start) => *start,
+            None => end,
+        }
+    }
 }

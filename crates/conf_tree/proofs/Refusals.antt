@@ -13,7 +13,7 @@ use Rattle.grammar.specs.Sentences.{IsBegunWithin, IsTooDeep}
 use Rattle.filt_syntax.specs.Syntax.{rule}
 use Rattle.filt_syntax.specs.declared.parse.SyntaxFault.{SyntaxFault}
 use Rattle.filt_syntax.specs.declared.parse.SyntaxFault.TheVariants as faults
-use Rattle.filt_syntax.proofs.Places.{bad_from, deep_from}
+use Rattle.grammar.proofs.Shapes.{bad_from, deep_from}
 use Rattle.conf_tree.specs.Syntax.{config}
 use Rattle.conf_tree.specs.Readers.{whole_at}
 use Rattle.conf_tree.specs.Said.{said_words, said_starts, token_of}

@@ -1,13 +1,15 @@
 -- What device blocks and logs hold.
-use Rattle.std.proofs.Common.{◌≡◌, ◌≢◌, ℕ, suc, zero, ◌+◌, ◌≤◌, true, false, not, List, [], ◌∷◌, ◌++◌, length, map, drop, refl, sym, ◌∙◌, ap, subst, arith, inl, inr, append_assoc}
+use Rattle.std.proofs.Common.{◌≡◌, ◌≢◌, ℕ, suc, zero, ◌+◌, ◌≤◌, Bool, true, false, not, ◌||◌, ◌&&◌, List, [], ◌∷◌, ◌++◌, length, map, drop, refl, sym, ◌∙◌, ap, subst, arith, inl, inr, append_assoc}
 use Rattle.std.specs.List.{list_all}
 use Rattle.std.proofs.Math.Seq.{drop-append_seam}
 use Rattle.std.proofs.lemmas.Bool.{cases_Bool, and_parts, not-true}
 use Rattle.std.proofs.lemmas.List.{drop-drop, drop-map, length-append, length-map}
 use Rattle.conf_lex.specs.declared.symbol.Symbol.TheVariants as sy
 use Rattle.conf_lex.specs.declared.word.Word.{Word}
+use Rattle.grammar.specs.Kind.{kind_of, name}
 use Rattle.grammar.proofs.Symbols.{is_symbol_word}
 use Rattle.conf_tree.specs.Said.{is, behind, said, Braces, Nothing, Plain, Braced, words_in, AreBraces, IsBalanced}
+use Rattle.conf_tree.specs.declared.said.Region.{Region}
 use Rattle.conf_tree.specs.declared.said.Region.TheVariants as regions
 
 abbrev words_of_pairs : List (ℕ × Word) → List Word
@@ -107,7 +109,7 @@ map_front : (inside : List (ℕ × Word)) (more : List (ℕ × Word)) → words_
 map_front [] more = refl
 map_front (p ∷ inside) more = ap (λ (l : List Word). p.1 ∷ l) (map_front inside more)
 
-pub block_taken_out : (inside rest : List (ℕ × Word)) (brace : ℕ × Word) → IsBalanced (map (λ p. p.1) inside) → is sy.CloseBrace brace.1 ≡ true → said (regions.Inside 0) (inside ++ brace ∷ rest) ≡ brace ∷ said regions.Statements rest
+block_taken_out : (inside rest : List (ℕ × Word)) (brace : ℕ × Word) → IsBalanced (map (λ p. p.1) inside) → is sy.CloseBrace brace.1 ≡ true → said (regions.Inside 0) (inside ++ brace ∷ rest) ≡ brace ∷ said regions.Statements rest
 block_taken_out inside rest brace balanced closing =
     let split : words_of_pairs (inside ++ brace ∷ rest) ≡ words_in balanced.0 ++ words_of_pairs (brace ∷ rest) = map_front inside (brace ∷ rest) ∙ ap (λ (l : List Word). l ++ words_of_pairs (brace ∷ rest)) (sym balanced.2) in
     let len : length (words_in balanced.0) ≡ length inside = ap (λ (l : List Word). length l) balanced.2 ∙ length-map inside (λ (p : ℕ × Word). p.1) in
@@ -192,8 +194,87 @@ held_step p ps other = rw other refl
 end_of_log : (p : ℕ × Word) (ps : List (ℕ × Word)) → is sy.Semicolon p.1 ≡ true → said regions.Log (p ∷ ps) ≡ p ∷ said regions.Statements ps
 end_of_log p ps here = rw here refl
 
-pub log_taken_out : (held rest : List (ℕ × Word)) (semicolon : ℕ × Word) → list_all (λ p. not (is sy.Semicolon p.1)) held ≡ true → is sy.Semicolon semicolon.1 ≡ true → said regions.Log (held ++ semicolon ∷ rest) ≡ semicolon ∷ said regions.Statements rest
+log_taken_out : (held rest : List (ℕ × Word)) (semicolon : ℕ × Word) → list_all (λ p. not (is sy.Semicolon p.1)) held ≡ true → is sy.Semicolon semicolon.1 ≡ true → said regions.Log (held ++ semicolon ∷ rest) ≡ semicolon ∷ said regions.Statements rest
 log_taken_out [] rest semicolon none here = end_of_log semicolon rest here
 log_taken_out (p ∷ held) rest semicolon none here =
     let parts = and_parts (not (is sy.Semicolon p.1)) (list_all (λ q. not (is sy.Semicolon q.1)) held) none in
     held_step p (held ++ semicolon ∷ rest) (not-true (is sy.Semicolon p.1) parts.0) ∙ log_taken_out held rest semicolon parts.1 here
+
+-- ---- a block or a log from its first word on
+
+no_log_word : (w : Word) → is sy.Protocol w ≡ true → is sy.Log w ≡ false
+no_log_word w here = ap (λ (x : Word). is sy.Log x) (is_symbol_word w sy.Protocol refl here)
+
+no_name : (w : Word) → is sy.OpenBrace w ≡ true → name (kind_of w) ≡ false
+no_name w here = ap (λ (x : Word). name (kind_of x)) (is_symbol_word w sy.OpenBrace refl here)
+
+protocol_step : (p : ℕ × Word) (ps : List (ℕ × Word)) → is sy.Protocol p.1 ≡ true → said regions.Statements (p ∷ ps) ≡ p ∷ said regions.Protocol ps
+protocol_step p ps here = rw (no_log_word p.1 here, here) refl
+
+device_step : (p : ℕ × Word) (ps : List (ℕ × Word)) → is sy.Device p.1 ≡ true → said regions.Protocol (p ∷ ps) ≡ p ∷ said regions.Device ps
+device_step p ps here = rw here refl
+
+brace_step : (p : ℕ × Word) (ps : List (ℕ × Word)) → is sy.OpenBrace p.1 ≡ true → said regions.Device (p ∷ ps) ≡ p ∷ said (regions.Inside 0) ps
+brace_step p ps here = rw (no_name p.1 here, here) refl
+
+name_step : (p : ℕ × Word) (ps : List (ℕ × Word)) → name (kind_of p.1) ≡ true → said regions.Device (p ∷ ps) ≡ p ∷ said regions.Named ps
+name_step p ps here = rw here refl
+
+named_brace_step : (p : ℕ × Word) (ps : List (ℕ × Word)) → is sy.OpenBrace p.1 ≡ true → said regions.Named (p ∷ ps) ≡ p ∷ said (regions.Inside 0) ps
+named_brace_step p ps here = rw here refl
+
+log_step : (p : ℕ × Word) (ps : List (ℕ × Word)) → is sy.Log p.1 ≡ true → said regions.Statements (p ∷ ps) ≡ p ∷ said regions.Log ps
+log_step p ps here = rw here refl
+
+pub device_taken_out : (protocol device opening close : ℕ × Word) (inside rest : List (ℕ × Word)) → is sy.Protocol protocol.1 ≡ true → is sy.Device device.1 ≡ true → is sy.OpenBrace opening.1 ≡ true → IsBalanced (map (λ p. p.1) inside) → is sy.CloseBrace close.1 ≡ true
+    → said regions.Statements (protocol ∷ device ∷ opening ∷ (inside ++ close ∷ rest)) ≡ protocol ∷ device ∷ opening ∷ close ∷ said regions.Statements rest
+device_taken_out protocol device opening close inside rest is_protocol is_device opens balanced closing =
+    protocol_step protocol (device ∷ opening ∷ (inside ++ close ∷ rest)) is_protocol
+    ∙ ap (λ (l : List (ℕ × Word)). protocol ∷ l) (device_step device (opening ∷ (inside ++ close ∷ rest)) is_device
+    ∙ ap (λ (l : List (ℕ × Word)). device ∷ l) (brace_step opening (inside ++ close ∷ rest) opens
+    ∙ ap (λ (l : List (ℕ × Word)). opening ∷ l) (block_taken_out inside rest close balanced closing)))
+
+pub named_device_taken_out : (protocol device called opening close : ℕ × Word) (inside rest : List (ℕ × Word)) → is sy.Protocol protocol.1 ≡ true → is sy.Device device.1 ≡ true → name (kind_of called.1) ≡ true → is sy.OpenBrace opening.1 ≡ true → IsBalanced (map (λ p. p.1) inside) → is sy.CloseBrace close.1 ≡ true
+    → said regions.Statements (protocol ∷ device ∷ called ∷ opening ∷ (inside ++ close ∷ rest)) ≡ protocol ∷ device ∷ called ∷ opening ∷ close ∷ said regions.Statements rest
+named_device_taken_out protocol device called opening close inside rest is_protocol is_device is_called opens balanced closing =
+    protocol_step protocol (device ∷ called ∷ opening ∷ (inside ++ close ∷ rest)) is_protocol
+    ∙ ap (λ (l : List (ℕ × Word)). protocol ∷ l) (device_step device (called ∷ opening ∷ (inside ++ close ∷ rest)) is_device
+    ∙ ap (λ (l : List (ℕ × Word)). device ∷ l) (name_step called (opening ∷ (inside ++ close ∷ rest)) is_called
+    ∙ ap (λ (l : List (ℕ × Word)). called ∷ l) (named_brace_step opening (inside ++ close ∷ rest) opens
+    ∙ ap (λ (l : List (ℕ × Word)). opening ∷ l) (block_taken_out inside rest close balanced closing))))
+
+pub whole_log_taken_out : (log semicolon : ℕ × Word) (held rest : List (ℕ × Word)) → is sy.Log log.1 ≡ true → list_all (λ p. not (is sy.Semicolon p.1)) held ≡ true → is sy.Semicolon semicolon.1 ≡ true
+    → said regions.Statements (log ∷ (held ++ semicolon ∷ rest)) ≡ log ∷ semicolon ∷ said regions.Statements rest
+whole_log_taken_out log semicolon held rest is_log none ends =
+    log_step log (held ++ semicolon ∷ rest) is_log ∙ ap (λ (l : List (ℕ × Word)). log ∷ l) (log_taken_out held rest semicolon none ends)
+
+-- ---- words of neither
+
+-- the regions between which they go
+behind_protocol : Bool → Region
+behind_protocol true = regions.Protocol
+behind_protocol false = regions.Statements
+
+neither : (a b : Bool) → not (a || b) ≡ true → (a ≡ false) × (b ≡ false)
+neither true b none = absurd cc
+neither false true none = absurd cc
+neither false false none = (refl, refl)
+
+kept_step : (b : Bool) (p : ℕ × Word) (ps : List (ℕ × Word)) → is sy.Log p.1 ≡ false → is sy.Device p.1 ≡ false → said (behind_protocol b) (p ∷ ps) ≡ p ∷ said (behind_protocol (not b && is sy.Protocol p.1)) ps
+unfolding behind_protocol
+kept_step true p ps no_log no_device = rw no_device refl
+kept_step false p ps no_log no_device = elim (cases_Bool (is sy.Protocol p.1)) [
+  | inl here ↦ rw (no_log, here) refl
+  | inr none ↦ rw (no_log, none) refl
+]
+
+kept : (b : Bool) (ps : List (ℕ × Word)) → list_all (λ p. not (is sy.Log p.1 || is sy.Device p.1)) ps ≡ true → said (behind_protocol b) ps ≡ ps
+kept b [] none = refl
+kept b (p ∷ ps) none =
+    let parts = and_parts (not (is sy.Log p.1 || is sy.Device p.1)) (list_all (λ q. not (is sy.Log q.1 || is sy.Device q.1)) ps) none in
+    let no = neither (is sy.Log p.1) (is sy.Device p.1) parts.0 in
+    kept_step b p ps no.0 no.1 ∙ ap (λ (l : List (ℕ × Word)). p ∷ l) (kept (not b && is sy.Protocol p.1) ps parts.1)
+
+pub others_kept : (ps : List (ℕ × Word)) → list_all (λ p. not (is sy.Log p.1 || is sy.Device p.1)) ps ≡ true → said regions.Statements ps ≡ ps
+unfolding behind_protocol
+others_kept ps none = kept false ps none

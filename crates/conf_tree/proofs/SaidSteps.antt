@@ -1,6 +1,6 @@
 -- The words that say something, one after another.
-use Rattle.std.proofs.Common.{◌≡◌, ℕ, suc, zero, ◌+◌, ◌<◌, ◌≤◌, Bool, true, false, cond, List, [], ◌∷◌, ◌++◌, length, map, drop, get_or, refl, sym, ◌∙◌, ap, arith, drop-cons, append_assoc}
-use Rattle.std.proofs.lemmas.List.{append-nil, drop_all, length-map, get_or-map}
+use Rattle.std.proofs.Common.{◌≡◌, ℕ, suc, zero, ◌+◌, ◌≤◌, Bool, true, false, cond, List, [], ◌∷◌, ◌++◌, map, refl, sym, ◌∙◌, ap, arith, append_assoc}
+use Rattle.std.proofs.lemmas.List.{append-nil}
 use Rattle.conf_lex.specs.declared.symbol.Symbol.TheVariants as sy
 use Rattle.conf_lex.specs.declared.word.Word.{Word}
 use Rattle.grammar.specs.Kind.{kind_of, name}
@@ -27,31 +27,17 @@ depth_more (regions.Inside (suc n)) w =
 
 -- ---- the loop over the words and their places
 
--- the next word and its place
-pub next_pair : (ps : List (ℕ × Word)) (ws : List Word) (ns : List ℕ) (at : ℕ) (w : Word) (n : ℕ) → ws ≡ map (λ p. p.1) ps → ns ≡ map (λ p. p.0) ps → at < length ws → w ≡ get_or ws at w → n ≡ get_or ns at n
-    → drop at ps ≡ (n, w) ∷ drop (at + 1) ps
-next_pair ps ws ns at w n words places within word place =
-    let next : suc at ≡ at + 1 = omega arith in
-    let inside : at < length ps = omega (arith, within, ap (λ (l : List Word). length l) words, length-map ps (λ (p : ℕ × Word). p.1)) in
-    let second : w ≡ (get_or ps at (n, w)).1 = word ∙ ap (λ (l : List Word). get_or l at w) words ∙ get_or-map (λ (p : ℕ × Word). p.1) ps at (n, w) w inside in
-    let first : n ≡ (get_or ps at (n, w)).0 = place ∙ ap (λ (l : List ℕ). get_or l at n) places ∙ get_or-map (λ (p : ℕ × Word). p.0) ps at (n, w) n inside in
-    drop-cons ps at (n, w) inside ∙ ap (λ (k : ℕ). get_or ps at (n, w) ∷ drop k ps) next
-    ∙ ap (λ (k : ℕ). (k, (get_or ps at (n, w)).1) ∷ drop (at + 1) ps) (sym first) ∙ ap (λ (v : Word). (n, v) ∷ drop (at + 1) ps) (sym second)
-
 one_turn : {A : Type 0} (part : ℕ × Word → A) (t : Bool) (p : ℕ × Word) (rest : List (ℕ × Word)) → map part (cond t (p ∷ rest) rest) ≡ cond t (part p ∷ []) [] ++ map part rest
 one_turn part true p rest = refl
 one_turn part false p rest = refl
 
 -- what the loop keeps, for either part of a word and its place
-pub said_more : {A : Type 0} (part : ℕ × Word → A) (ps : List (ℕ × Word)) (at : ℕ) (w : Word) (n : ℕ) (r : Region) (all found : List A) → drop at ps ≡ (n, w) ∷ drop (at + 1) ps
-    → all ≡ found ++ map part (said r (drop at ps)) → all ≡ (found ++ cond (says r w) (part (n, w) ∷ []) []) ++ map part (said (behind r w) (drop (at + 1) ps))
-said_more {A} part ps at w n r all found cut before =
-    let rest = said (behind r w) (drop (at + 1) ps) in
+pub said_more : {A : Type 0} (part : ℕ × Word → A) (pairs rest : List (ℕ × Word)) (next : ℕ × Word) (r : Region) (all found : List A) → pairs ≡ next ∷ rest
+    → all ≡ found ++ map part (said r pairs) → all ≡ (found ++ cond (says r next.1) (part next ∷ []) []) ++ map part (said (behind r next.1) rest)
+said_more {A} part pairs rest next r all found cut before =
     before ∙ ap (λ (l : List (ℕ × Word)). found ++ map part (said r l)) cut
-    ∙ ap (λ (l : List A). found ++ l) (one_turn part (says r w) (n, w) rest)
-    ∙ sym (append_assoc found (cond (says r w) (part (n, w) ∷ []) []) (map part rest))
+    ∙ ap (λ (l : List A). found ++ l) (one_turn part (says r next.1) next (said (behind r next.1) rest))
+    ∙ sym (append_assoc found (cond (says r next.1) (part next ∷ []) []) (map part (said (behind r next.1) rest)))
 
-pub said_end : {A : Type 0} (part : ℕ × Word → A) (ps : List (ℕ × Word)) (ws : List Word) (at : ℕ) (r : Region) (all found : List A) → ws ≡ map (λ p. p.1) ps → length ws ≤ at → all ≡ found ++ map part (said r (drop at ps)) → found ≡ all
-said_end {A} part ps ws at r all found words past before =
-    let none : drop at ps ≡ [] = drop_all at ps (omega (arith, past, ap (λ (l : List Word). length l) words, length-map ps (λ (p : ℕ × Word). p.1))) in
-    sym (before ∙ ap (λ (l : List (ℕ × Word)). found ++ map part (said r l)) none ∙ append-nil found)
+pub said_end : {A : Type 0} (part : ℕ × Word → A) (pairs : List (ℕ × Word)) (r : Region) (all found : List A) → pairs ≡ [] → all ≡ found ++ map part (said r pairs) → found ≡ all
+said_end {A} part pairs r all found none before = sym (before ∙ ap (λ (l : List (ℕ × Word)). found ++ map part (said r l)) none ∙ append-nil found)

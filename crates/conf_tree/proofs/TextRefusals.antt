@@ -1,5 +1,5 @@
 -- What is answered to a text: its configuration, or its one refusal.
-use Rattle.std.proofs.Common.{◌≡◌, ℕ, List, Ok, Err, sym, ap, subst, ◌∙◌, ◌⊎◌, inl, inr}
+use Rattle.std.proofs.Common.{◌≡◌, ℕ, ◌<◌, ◌≤◌, List, length, arith, Ok, Err, sym, ap, subst, ◌∙◌, ◌⊎◌, inl, inr}
 use Rattle.conf_lex.specs.Lex.{Lexes, Stops, IsBadAt, IsRefused as IsStuckAt}
 use Rattle.conf_lex.specs.declared.token.Token.{Token}
 use Rattle.conf_lex.specs.declared.token.LexFault.{LexFault}
@@ -25,6 +25,11 @@ stuck_place f at place is h = subst (λ (e : LexFault). IsBadAt e place) is h
 
 pub stuck_fault : (text : List ℕ) (f : LexFault) (at b : ℕ) → f ≡ lex_faults.Bad at → b ≡ at → IsStuckAt text f → IsFault text (outcomes.Refused b kinds.Lex)
 stuck_fault text f at b is same h = subst (λ (n : ℕ). IsFault text (outcomes.Refused n kinds.Lex)) (sym same) (subst (λ (e : LexFault). IsStuckAt text e) is h)
+
+pub stuck_within : (text : List ℕ) (f : LexFault) (at b : ℕ) → f ≡ lex_faults.Bad at → b ≡ at → ((source : List ℕ) (ts : List Token) (place : ℕ) → Stops 0 source ts place → place < length source) → IsStuckAt text f → b ≤ length text
+stuck_within text f at b is same within h =
+    let stuck = subst (λ (e : LexFault). IsStuckAt text e) is h in
+    omega (arith, same, within text stuck.0 at stuck.1)
 
 pub stuck_only : (text : List ℕ) (at : ℕ) → ((tokens : List Token) → Lexes 0 text tokens → ⊥) → (t : Tree) → IsConfigText text t → IsTreeOf (Err (outcomes.Refused at kinds.Lex)) t
 stuck_only text at never t h = absurd (never h.0 h.1)

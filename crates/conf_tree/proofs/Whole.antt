@@ -15,7 +15,7 @@ use Rattle.grammar.proofs.Checks.{check, and_true, and_both}
 use Rattle.grammar.proofs.Exact.{got_is_read, fault_is_bad, fault_is_too_deep, fault_is_unsupported, whole}
 use Rattle.grammar.proofs.Unique.{Longer, fronts, too_deep_is_fault}
 use Rattle.filt_syntax.specs.Syntax.{rule}
-use Rattle.filt_syntax.proofs.Places.{bad_from, deep_from, shut_from}
+use Rattle.grammar.proofs.Shapes.{bad_from, deep_from, shut_from}
 use Rattle.filt_syntax.proofs.Tested.{model, after, checked}
 use Rattle.conf_tree.specs.Syntax.{config}
 use Rattle.conf_tree.specs.Readers.{config_at, to_the_end, whole_at}

@@ -1,5 +1,5 @@
 -- Which texts are a configuration, and the first place of others that is refused.
-use Rattle.std.specs.Prelude.{◌≡◌, ◌⊎◌, ℕ, List, length, map, slice_index_or, Result, Ok, Err}
+use Rattle.std.specs.Prelude.{◌≡◌, ◌≤◌, ◌⊎◌, ℕ, List, length, map, slice_index_or, Result, Ok, Err}
 use Rattle.conf_lex.specs.Lex.{Lexes, Stops}
 use Rattle.conf_lex.specs.declared.token.Token.{Token}
 use Rattle.grammar.specs.Grammar.{Tree}
@@ -43,6 +43,11 @@ IsRefusedText text at refusals.Unsupported = IsRefusedSo faults.Unsupported text
 abbrev pub IsFault : List ℕ → ConfFault → Type 0
 IsFault text (outcomes.Refused at kind) = IsRefusedText text at kind
 IsFault text outcomes.Memory = Unit {0}
+
+-- the refused byte is within a text of this length, or at its end
+abbrev pub IsWithin : ℕ → ConfFault → Type 0
+IsWithin n (outcomes.Refused at kind) = at ≤ n
+IsWithin n outcomes.Memory = Unit {0}
 
 -- the answer is this tree, unless memory ran out
 abbrev pub IsTreeOf : Result Config ConfFault → Tree → Type 0

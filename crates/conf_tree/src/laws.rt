@@ -1,5 +1,5 @@
 //! What logs and device blocks hold, that a text says one thing, and that a place has one line and one column.
-ghost use Rattle.std.specs.Prelude.{◌≡◌, ◌≢◌, ℕ, true, not, List, [], ◌∷◌, ◌++◌, map};
+ghost use Rattle.std.specs.Prelude.{◌≡◌, ◌≢◌, ℕ, true, not, ◌||◌, List, [], ◌∷◌, ◌++◌, map};
 ghost use Rattle.std.specs.List.{list_all};
 ghost use Rattle.conf_lex.specs.declared.symbol.Symbol.{Symbol};
 ghost use Rattle.conf_lex.specs.declared.word.Word.{Word};
@@ -9,6 +9,7 @@ ghost use Rattle.conf_tree.specs.Position.{IsPlace};
 ghost use Rattle.conf_tree.specs.Read.{IsConfigText, IsRefusedText};
 ghost use Rattle.conf_tree.specs.declared.kind.ConfKind.{ConfKind};
 ghost use Rattle.grammar.specs.Grammar.{Tree};
+ghost use Rattle.grammar.specs.Kind.{kind_of, name};
 
 use crate::kind::ConfKind;
 use crate::said::Region;
@@ -17,10 +18,11 @@ use conf_lex::laws::{
 };
 use conf_lex::{Symbol, Word};
 
-/// What stands between the braces of a device says nothing: words in which each brace is closed are taken out, up to the
-/// brace that closes the block.
+/// What stands between the braces of a device, with a name or without one, says nothing: words in which each brace is
+/// closed are taken out, up to the brace that closes the block.
 pub fn device_blocks_are_taken_out()
-    ensures { (inside rest : List (ℕ × Word)) (brace : ℕ × Word) → IsBalanced (map (λ p. p.1) inside) → is Symbol.CloseBrace brace.1 ≡ true → said (Region.Inside 0) (inside ++ brace ∷ rest) ≡ brace ∷ said Region.Statements rest }
+    ensures unnamed { (protocol device opening close : ℕ × Word) (inside rest : List (ℕ × Word)) → is Symbol.Protocol protocol.1 ≡ true → is Symbol.Device device.1 ≡ true → is Symbol.OpenBrace opening.1 ≡ true → IsBalanced (map (λ p. p.1) inside) → is Symbol.CloseBrace close.1 ≡ true → said Region.Statements (protocol ∷ device ∷ opening ∷ (inside ++ close ∷ rest)) ≡ protocol ∷ device ∷ opening ∷ close ∷ said Region.Statements rest }
+    ensures named { (protocol device called opening close : ℕ × Word) (inside rest : List (ℕ × Word)) → is Symbol.Protocol protocol.1 ≡ true → is Symbol.Device device.1 ≡ true → name (kind_of called.1) ≡ true → is Symbol.OpenBrace opening.1 ≡ true → IsBalanced (map (λ p. p.1) inside) → is Symbol.CloseBrace close.1 ≡ true → said Region.Statements (protocol ∷ device ∷ called ∷ opening ∷ (inside ++ close ∷ rest)) ≡ protocol ∷ device ∷ called ∷ opening ∷ close ∷ said Region.Statements rest }
 {}
 
 /// Where the words behind a device's opening brace say something, some of them close the block: words in which each brace
@@ -31,7 +33,12 @@ pub fn only_closed_blocks_end()
 
 /// What a log holds says nothing: words without a semicolon are taken out, up to the semicolon.
 pub fn logs_are_taken_out()
-    ensures { (held rest : List (ℕ × Word)) (semicolon : ℕ × Word) → list_all (λ p. not (is Symbol.Semicolon p.1)) held ≡ true → is Symbol.Semicolon semicolon.1 ≡ true → said Region.Log (held ++ semicolon ∷ rest) ≡ semicolon ∷ said Region.Statements rest }
+    ensures { (log semicolon : ℕ × Word) (held rest : List (ℕ × Word)) → is Symbol.Log log.1 ≡ true → list_all (λ p. not (is Symbol.Semicolon p.1)) held ≡ true → is Symbol.Semicolon semicolon.1 ≡ true → said Region.Statements (log ∷ (held ++ semicolon ∷ rest)) ≡ log ∷ semicolon ∷ said Region.Statements rest }
+{}
+
+/// All other words say something: where none is `log` or `device`, nothing is taken out.
+pub fn other_words_are_kept()
+    ensures { (ps : List (ℕ × Word)) → list_all (λ p. not (is Symbol.Log p.1 || is Symbol.Device p.1)) ps ≡ true → said Region.Statements ps ≡ ps }
 {}
 
 /// A place of a text has one line and one column.

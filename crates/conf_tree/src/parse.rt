@@ -21,25 +21,8 @@ use conf_lex::laws::tokens_are_slices;
 use conf_lex::{Token, TokenKind, Word, Words};
 use filt_syntax::SyntaxFault;
 use filt_syntax::parts::LEVELS;
-use grammar::Refusal;
+use grammar::{Refusal, place_in};
 use std::alloc::Global;
-
-// The place of the token with which a word begins; behind the last word the end of the tokens.
-fn token_at(starts: &[usize], place: usize, end: usize) -> usize
-    ensures { result ≡ slice_index_or starts.now place end }
-{
-    match starts.get(place) {
-        Some(start) => *start,
-        None => end,
-    }
-}
-
-fn token_bytes(text: &[u8], token: Token) -> &[u8]
-    requires { token.at + token.len ≤ length text.now }
-    ensures { result.now ≡ slice_of text.now token }
-{
-    &text[token.at..token.at + token.len]
-}
 
 // The bytes of a token that is a word without quotes.
 fn bytes_of<'a>(text: &'a [u8], tokens: &[Token], at: usize) -> Option<&'a [u8]>
@@ -49,7 +32,7 @@ fn bytes_of<'a>(text: &'a [u8], tokens: &[Token], at: usize) -> Option<&'a [u8]>
     tokens_are_slices();
     match tokens.get(at) {
         Some(token) => match token.kind {
-            TokenKind::Name => Some(token_bytes(text, *token)),
+            TokenKind::Name => Some(token.bytes(text)),
             _ => None,
         },
         None => None,
@@ -87,14 +70,6 @@ fn refusal(alloc: Global, text: &[u8], tokens: &[Token], before: &[Word], at: us
     }
 }
 
-// Where the rest begins.
-fn place_in(words: &[Word], rest: &[Word]) -> usize
-    requires { length rest.now ≤ length words.now }
-    ensures { result + length rest.now ≡ length words.now }
-{
-    words.len() - rest.len()
-}
-
 // The refusal of words of which the rest begins with one that can't stand there.
 fn stopped(alloc: Global, text: &[u8], tokens: &[Token], said: &Words, rest: &[Word]) -> SyntaxFault
     requires lexed { Lexes 0 text.now tokens.now }
@@ -104,7 +79,7 @@ fn stopped(alloc: Global, text: &[u8], tokens: &[Token], said: &Words, rest: &[W
     ensures { IsRefused text.now tokens.now result }
 {
     let place = place_in(&said.words, rest);
-    let at = token_at(&said.starts, place, tokens.len());
+    let at = said.token_at(place, tokens.len());
     refusal(alloc, text, tokens, &said.words[..place], at)
 }
 
@@ -116,7 +91,7 @@ fn deepened(text: &[u8], tokens: &[Token], said: &Words, rest: &[Word]) -> Synta
     ensures { IsRefused text.now tokens.now result }
 {
     let place = place_in(&said.words, rest);
-    let at = token_at(&said.starts, place, tokens.len());
+    let at = said.token_at(place, tokens.len());
     SyntaxFault::TooDeep { at }
 }
 

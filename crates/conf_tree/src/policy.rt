@@ -9,11 +9,10 @@ ghost use Rattle.grammar.specs.Gives.{Gives};
 ghost use Rattle.conf_tree.specs.View.{policy_tree};
 ghost use Rattle.conf_tree.specs.Readers.{policy_at};
 
-use crate::simple::next_name;
 use crate::tree::Policy;
 use conf_lex::{Symbol, Word};
 use filt_syntax::parts::{expression, whole_block};
-use grammar::{Refusal, after, after_placed, expect};
+use grammar::{Refusal, after, after_placed, expect, next_name};
 use std::alloc::Global;
 
 // By the words after `filter`.

@@ -1,22 +1,27 @@
 // The configuration of a text.
 
-ghost use Rattle.std.specs.Prelude.{◌≡◌, IfOk, IfErr};
+ghost use Rattle.std.specs.Prelude.{◌≡◌, ◌≤◌, length, IfOk, IfErr};
+ghost use Rattle.conf_lex.specs.Lex.{Lexes};
 ghost use Rattle.grammar.specs.Grammar.{Tree};
 ghost use Rattle.conf_tree.specs.View.{config_view};
-ghost use Rattle.conf_tree.specs.Read.{byte_of, fault_of, IsConfigText, IsFault, IsTreeOf, IsFaultOf};
+ghost use Rattle.conf_tree.specs.Read.{byte_of, fault_of, IsConfigText, IsFault, IsWithin, IsTreeOf, IsFaultOf};
 ghost use Rattle.conf_tree.specs.declared.kind.ConfFault.{ConfFault};
 
 use crate::kind::{ConfFault, ConfKind};
 use crate::parse::parse_config;
 use crate::tree::Config;
+use conf_lex::laws::{texts_are_refused_within, tokens_are_slices};
 use conf_lex::{LexFault, Token, lex};
 use filt_syntax::SyntaxFault;
 use std::alloc::Global;
 
 // Where a token begins; behind the last one the end of the text.
 fn byte_of(text: &[u8], tokens: &[Token], token: usize) -> usize
-    ensures { result ≡ byte_of text.now tokens.now token }
+    requires { Lexes 0 text.now tokens.now }
+    ensures is { result ≡ byte_of text.now tokens.now token }
+    ensures within { result ≤ length text.now }
 {
+    tokens_are_slices();
     match tokens.get(token) {
         Some(token) => token.at,
         None => text.len(),
@@ -24,7 +29,9 @@ fn byte_of(text: &[u8], tokens: &[Token], token: usize) -> usize
 }
 
 fn refused(text: &[u8], tokens: &[Token], fault: SyntaxFault) -> ConfFault
-    ensures { result ≡ fault_of text.now tokens.now fault }
+    requires { Lexes 0 text.now tokens.now }
+    ensures is { result ≡ fault_of text.now tokens.now fault }
+    ensures within { IsWithin (length text.now) result }
 {
     match fault {
         SyntaxFault::Bad { at } => ConfFault::Refused {
@@ -48,9 +55,11 @@ fn refused(text: &[u8], tokens: &[Token], fault: SyntaxFault) -> ConfFault
 pub fn read_config(alloc: Global, text: &[u8]) -> Result<Config, ConfFault>
     ensures tree { IfOk result (λ config. IsConfigText text.now (config_view config)) }
     ensures fault { IfErr result (IsFault text.now) }
+    ensures within { IfErr result (IsWithin (length text.now)) }
     ensures only { (t : Tree) → IsConfigText text.now t → IsTreeOf result t }
     ensures exact { (e : ConfFault) → IsFault text.now e → IsFaultOf result e }
 {
+    texts_are_refused_within();
     let tokens = match lex(alloc, text) {
         Ok(tokens) => tokens,
         Err(LexFault::Bad { at }) => {

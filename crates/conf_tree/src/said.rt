@@ -2,11 +2,12 @@
 
 ghost use Rattle.std.specs.Prelude.{◌≡◌, ◌+◌, ◌<◌, ◌^◌, ◌++◌, ◌∷◌, [], cond, true, false, map, IfOk, OnOk};
 ghost use Rattle.conf_lex.specs.Lex.{Lexes};
-ghost use Rattle.grammar.specs.Kind.{kind_of, symbol, name, keeps_place};
-ghost use Rattle.conf_tree.specs.Said.{is, behind, depth_of, says, said_words, said_starts};
+ghost use Rattle.grammar.specs.Kind.{kind_of, name};
+ghost use Rattle.conf_tree.specs.Said.{behind, depth_of, says, said_words, said_starts};
 
 use bits_ip::OutOfMemory;
-use conf_lex::{Symbol, Token, Word, Words, words};
+use conf_lex::{Symbol, Token, Word, Words, word_at};
+use grammar::is_symbol;
 use std::alloc::Global;
 
 /// Where a word stands, as far as it matters to what logs and device blocks hold.
@@ -25,16 +26,6 @@ pub enum Region {
     Inside(usize),
 }
 
-pub fn is(word: &Word, wanted: Symbol) -> bool
-    requires { keeps_place wanted ≡ false }
-    ensures { result ≡ is wanted word.now }
-{
-    match word {
-        Word::Symbol(symbol) => *symbol == wanted,
-        _ => false,
-    }
-}
-
 fn is_name(word: &Word) -> bool
     ensures { result ≡ name (kind_of word.now) }
 {
@@ -44,9 +35,9 @@ fn is_name(word: &Word) -> bool
 fn behind_statement_word(word: &Word) -> Region
     ensures { result ≡ behind Region.Statements word.now }
 {
-    if is(word, Symbol::Log) {
+    if is_symbol(word, Symbol::Log) {
         Region::Log
-    } else if is(word, Symbol::Protocol) {
+    } else if is_symbol(word, Symbol::Protocol) {
         Region::Protocol
     } else {
         Region::Statements
@@ -56,7 +47,7 @@ fn behind_statement_word(word: &Word) -> Region
 fn behind_log(word: &Word) -> Region
     ensures { result ≡ behind Region.Log word.now }
 {
-    if is(word, Symbol::Semicolon) {
+    if is_symbol(word, Symbol::Semicolon) {
         Region::Statements
     } else {
         Region::Log
@@ -66,7 +57,7 @@ fn behind_log(word: &Word) -> Region
 fn behind_protocol(word: &Word) -> Region
     ensures { result ≡ behind Region.Protocol word.now }
 {
-    if is(word, Symbol::Device) {
+    if is_symbol(word, Symbol::Device) {
         Region::Device
     } else {
         Region::Statements
@@ -86,7 +77,7 @@ fn behind_device(word: &Word) -> Region
 fn behind_named(word: &Word) -> Region
     ensures { result ≡ behind Region.Named word.now }
 {
-    if is(word, Symbol::OpenBrace) {
+    if is_symbol(word, Symbol::OpenBrace) {
         Region::Inside(0)
     } else {
         Region::Statements
@@ -97,12 +88,12 @@ fn behind_inside(depth: usize, word: &Word) -> Region
     requires { depth + 1 < 2 ^ 64 }
     ensures { result ≡ behind (Region.Inside depth) word.now }
 {
-    if is(word, Symbol::CloseBrace) {
+    if is_symbol(word, Symbol::CloseBrace) {
         match depth.checked_sub(1) {
             Some(depth) => Region::Inside(depth),
             None => Region::Statements,
         }
-    } else if is(word, Symbol::OpenBrace) {
+    } else if is_symbol(word, Symbol::OpenBrace) {
         Region::Inside(depth + 1)
     } else {
         Region::Inside(depth)
@@ -127,8 +118,8 @@ fn says(region: Region, word: &Word) -> bool
     ensures { result ≡ says region word.now }
 {
     match region {
-        Region::Log => is(word, Symbol::Semicolon),
-        Region::Inside(depth) => depth == 0 && is(word, Symbol::CloseBrace),
+        Region::Log => is_symbol(word, Symbol::Semicolon),
+        Region::Inside(depth) => depth == 0 && is_symbol(word, Symbol::CloseBrace),
         _ => true,
     }
 }
@@ -151,17 +142,16 @@ pub fn said_words(alloc: Global, text: &[u8], tokens: &[Token]) -> Result<Words,
     ensures words { IfOk result (λ found. found.words.items ≡ said_words text.now tokens.now) }
     ensures starts { IfOk result (λ found. found.starts.items ≡ said_starts text.now tokens.now) }
 {
-    let all = words(alloc, text, tokens)?;
     let mut found = Words {
         words: Vec::new(alloc),
         starts: Vec::new(alloc),
     };
     let mut region = Region::Statements;
     let mut at = 0;
-    while let Some(word) = all.words.get(at) {
-        take_up(&mut found, region, word, all.starts[at])?;
-        region = behind(region, word);
-        at += 1;
+    while let Some((word, next)) = word_at(text, tokens, at) {
+        take_up(&mut found, region, &word, at)?;
+        region = behind(region, &word);
+        at = next;
     }
     Ok(found)
 }

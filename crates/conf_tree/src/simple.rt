@@ -17,8 +17,8 @@ use crate::tree::{Address, Quoted, Switch};
 use bits_ip::{Family, Prefix};
 use conf_lex::{Symbol, Word};
 use filt_syntax::Num;
-use filt_syntax::parts::num;
-use grammar::{Name, Refusal, after, after_placed, expect, next};
+use filt_syntax::parts::{next_num, num};
+use grammar::{Name, Refusal, after, after_placed, expect, next_name};
 
 pub fn next_address(words: &[Word]) -> Option<(Address, &[Word])>
     ensures { MatchOption result (begins address words.now ≡ false) (λ found. words.now ≡ Word.Ip found.0.at found.0.addr ∷ found.1.now) }
@@ -57,15 +57,6 @@ pub fn expect_text(words: &[Word]) -> Result<(Quoted, &[Word]), Refusal>
     }
 }
 
-pub fn next_prefix(words: &[Word]) -> Option<((usize, Prefix), &[Word])>
-    ensures { MatchOption result (begins prefix words.now ≡ false) (λ found. words.now ≡ Word.Prefix found.0.0 found.0.1 ∷ found.1.now) }
-{
-    match words {
-        [Word::Prefix { at, net }, rest @ ..] => Some(((*at, *net), rest)),
-        _ => None,
-    }
-}
-
 pub fn next_switch(words: &[Word]) -> Option<(Switch, &[Word])>
     ensures { MatchOption result (begins is_switch words.now ≡ false) (λ found. words.now ≡ Word.Symbol (switch_symbol found.0) ∷ found.1.now) }
 {
@@ -97,22 +88,6 @@ pub fn next_family(words: &[Word]) -> Option<((usize, Family), &[Word])>
     }
 }
 
-pub fn next_name(words: &[Word]) -> Option<(Name, &[Word])>
-    ensures { MatchOption result (begins is_name words.now ≡ false) (λ found. words.now ≡ Word.Name found.0.at found.0.start found.0.len ∷ found.1.now) }
-{
-    match words {
-        [Word::Name { at, start, len }, rest @ ..] => {
-            let name = Name {
-                at: *at,
-                start: *start,
-                len: *len,
-            };
-            Some((name, rest))
-        }
-        _ => None,
-    }
-}
-
 /// A name, if one comes next.
 pub fn optional_name(words: &[Word]) -> (Option<Name>, &[Word])
     ensures { optional_name_at 0 words.now ≡ Got (maybe name_leaf result.0) result.1.now }
@@ -140,29 +115,6 @@ pub fn optional_switch(words: &[Word]) -> (Option<Switch>, &[Word])
     match next_switch(words) {
         Some((switch, rest)) => (Some(switch), rest),
         None => (None, words),
-    }
-}
-
-fn next_num(words: &[Word]) -> Option<(Num, &[Word])>
-    ensures { MatchOption result (begins is_num words.now ≡ false) (λ found. words.now ≡ num_word found.0 ∷ found.1.now) }
-{
-    match words {
-        [Word::Number { at, value }, rest @ ..] => {
-            let number = Num::Number {
-                at: *at,
-                value: *value,
-            };
-            Some((number, rest))
-        }
-        [Word::Name { at, start, len }, rest @ ..] => {
-            let name = Name {
-                at: *at,
-                start: *start,
-                len: *len,
-            };
-            Some((Num::Name(name), rest))
-        }
-        _ => None,
     }
 }
 

@@ -10,10 +10,10 @@ ghost use Rattle.conf_tree.specs.Readers.{route_target_at, static_option_at};
 
 use crate::channel::channel;
 use crate::options::ProtocolOption;
-use crate::simple::{expect_address, next_family, next_prefix};
+use crate::simple::{expect_address, next_family};
 use crate::tree::{Route, RouteTarget, StaticOption};
 use conf_lex::{Symbol, Word};
-use grammar::{Refusal, after, expect};
+use grammar::{Refusal, after, expect, next_prefix};
 use std::alloc::Global;
 
 fn route_target(words: &[Word]) -> Result<(RouteTarget, &[Word]), Refusal>

@@ -74,7 +74,7 @@ fn configurations_are_accepted(rt: HostRuntime) -> Result<(), Fail> {
         b"protocol bgp { local 192.0.2.254 as 1; neighbor 2001:db8::1 as 2; interpret communities no; default bgp_med 5; default bgp_local_pref 100; description \"x\"; password \"y\"; source address 192.0.2.254; hold time 90; keepalive time 30; connect retry time 5; multihop; multihop 2; multihop N; direct; passive; passive yes; ipv6; }",
     ];
     for text in &table {
-        assert_eq!(rt; refused_at(rt.alloc(), text), None);
+        assert!(rt; read_config(rt.alloc(), text).is_ok());
     }
     Ok(())
 }
@@ -230,6 +230,6 @@ fn the_sixty_fifth_level_is_refused(rt: HostRuntime) -> Result<(), Fail> {
     assert_eq!(rt; refused_at(alloc, &negations), deep);
     let opened = around(alloc, WHERE, b"(", 64, b"1")?;
     let closed = around(alloc, &opened, b")", 64, b" = 1; }; }")?;
-    assert_eq!(rt; refused_at(alloc, &closed), None);
+    assert!(rt; read_config(alloc, &closed).is_ok());
     Ok(())
 }

@@ -9,11 +9,10 @@ ghost use Rattle.conf_tree.specs.Syntax.{config};
 ghost use Rattle.conf_tree.specs.Sentence.{CanStand, EndsIn, is_one_of, statement_words, bgp_words, channel_words, import_words, IsUnsupported};
 
 use crate::config::config;
-use crate::said::is;
 use bits_ip::OutOfMemory;
 use conf_lex::{Symbol, Word};
 use filt_syntax::parts::LEVELS;
-use grammar::Refusal;
+use grammar::{Refusal, is_symbol};
 use std::alloc::Global;
 
 fn is_one_of(words: &[&[u8]], word: &[u8]) -> bool
@@ -121,7 +120,7 @@ fn before_last(words: &[Word], symbol: Symbol) -> Option<&[Word]>
     ensures { MatchOption result (EndsIn symbol words.now (λ front. Unit {0}) → ⊥) (λ front. words.now ≡ front.now ++ Word.Symbol symbol ∷ []) }
 {
     match words.split_last() {
-        Some((last, front)) => is(last, symbol).then_some(front),
+        Some((last, front)) => is_symbol(last, symbol).then_some(front),
         None => None,
     }
 }

@@ -1,7 +1,9 @@
 -- What stands at a place of the words, within 64 levels, or which word can't stand there.
-use Rattle.std.specs.Prelude.{◌≡◌, ℕ, ◌≤◌, ◌⊎◌, List, length, drop, Result, Ok, Err}
+use Rattle.std.specs.Prelude.{◌≡◌, ℕ, ◌-◌, ◌≤◌, ◌⊎◌, List, [], length, drop, Result, Ok, Err}
 use Rattle.conf_lex.specs.declared.word.Word.{Word}
 use Rattle.grammar.specs.Grammar.{Form, Tree}
+use Rattle.grammar.specs.declared.refusal.Refusal.{Refusal}
+use Rattle.grammar.specs.declared.refusal.Refusal.TheVariants as refusals
 use Rattle.grammar.specs.Sentences.{IsRead, IsBad, IsTooDeep, IsUnsupported}
 use Rattle.filt_syntax.specs.declared.parse.SyntaxFault.{SyntaxFault}
 use Rattle.filt_syntax.specs.declared.parse.SyntaxFault.TheVariants as faults
@@ -27,3 +29,17 @@ abbrev pub IsFault : {X : Type 0} → Result (X × ℕ) SyntaxFault → SyntaxFa
 IsFault r faults.Memory = Unit {0}
 IsFault (Ok found) e = ⊥
 IsFault (Err d) e = (d ≡ faults.Memory) ⊎ (d ≡ e)
+
+-- the words from the refused one on
+abbrev pub refused_words : Refusal → List Word
+refused_words refusals.Memory = []
+refused_words (refusals.Bad rest) = rest.now
+refused_words (refusals.TooDeep rest) = rest.now
+refused_words (refusals.Unsupported rest) = rest.now
+
+-- the same refusal among so many words, by the place of the refused one
+abbrev pub fault_of : ℕ → Refusal → SyntaxFault
+fault_of n refusals.Memory = faults.Memory
+fault_of n (refusals.Bad rest) = faults.Bad (n - length rest.now)
+fault_of n (refusals.TooDeep rest) = faults.TooDeep (n - length rest.now)
+fault_of n (refusals.Unsupported rest) = faults.Unsupported (n - length rest.now)

@@ -7,11 +7,11 @@ ghost use Rattle.filt_syntax.specs.Syntax.{block};
 ghost use Rattle.filt_syntax.specs.StatementView.{block_view};
 ghost use Rattle.filt_syntax.specs.Parse.{Stands, IsRefused, IsAnswer, IsFault};
 
-use crate::parse::{LEVELS, SyntaxFault, place, tail};
+use crate::parse::{LEVELS, SyntaxFault, placed, tail};
 use crate::statement::whole_block;
 use crate::tree::Block;
 use conf_lex::Word;
-use grammar::Refusal;
+use grammar::place_in;
 use std::alloc::Global;
 
 /// The longest block from a place on, its statements between braces, and the place after it (BIRD User's Guide,
@@ -27,18 +27,8 @@ pub fn parse_block_words(
     ensures only { (t : Tree) (end : ℕ) → Stands block words.now from t end → IsAnswer block_view result t end }
     ensures exact { (e : SyntaxFault) → IsRefused block words.now from e → IsFault result e }
 {
-    let tail = tail(words, from);
-    match whole_block(alloc, tail, LEVELS) {
-        Ok((tree, rest)) => Ok((tree, place(words, rest))),
-        Err(Refusal::Bad(rest)) => Err(SyntaxFault::Bad {
-            at: place(words, rest),
-        }),
-        Err(Refusal::TooDeep(rest)) => Err(SyntaxFault::TooDeep {
-            at: place(words, rest),
-        }),
-        Err(Refusal::Unsupported(rest)) => Err(SyntaxFault::Unsupported {
-            at: place(words, rest),
-        }),
-        Err(Refusal::Memory) => Err(SyntaxFault::Memory),
+    match whole_block(alloc, tail(words, from), LEVELS) {
+        Ok((tree, rest)) => Ok((tree, place_in(words, rest))),
+        Err(refusal) => Err(placed(words, refusal)),
     }
 }

@@ -4,23 +4,22 @@
 ghost use Rattle.std.specs.Prelude.{◌≡◌, ◌∷◌, ◌<◌, false, length, MatchOption, IfOk};
 ghost use Rattle.conf_lex.specs.declared.symbol.Symbol.TheVariants.{OpenParenthesis, OpenBrace};
 ghost use Rattle.conf_lex.specs.declared.word.Word.{Word};
-ghost use Rattle.grammar.specs.Kind.{prefix};
 ghost use Rattle.grammar.specs.Grammar.{begins, starts};
 ghost use Rattle.grammar.specs.Reading.{word};
 ghost use Rattle.grammar.specs.Gives.{Gives};
 ghost use Rattle.filt_syntax.specs.Syntax.{is_num, mask_item};
-ghost use Rattle.filt_syntax.specs.ItemView.{num_tree, part_tree, pair_part_tree, with_comma, lengths_part, item_tree, items_tree, mask_atom_tree, mask_item_tree, mask_items_tree, label_tree};
+ghost use Rattle.filt_syntax.specs.ItemView.{num_tree, num_word, part_tree, pair_part_tree, with_comma, lengths_part, item_tree, items_tree, mask_atom_tree, mask_item_tree, mask_items_tree, label_tree};
 ghost use Rattle.filt_syntax.specs.ItemReaders.{part_at, pair_part_at, pair_at, bounds_at, lengths_at, item_at, items_at, mask_atom_at, mask_item_at, mask_items_at, label_at};
 
 use crate::tree::{Item, Lengths, MaskAtom, MaskItem, Num, PairPart, Part};
 use bits_ip::Prefix;
 use conf_lex::{Symbol, Word};
-use grammar::{Name, Refusal, after, expect, level_below};
+use grammar::{Name, Refusal, after, expect, level_below, next_prefix};
 use std::alloc::Global;
 
-/// A written number, or the name of a constant that is one.
-pub fn num(words: &[Word]) -> Result<(Num, &[Word]), Refusal>
-    ensures { Gives num_tree result (word is_num words.now) }
+/// A written number or the name of a constant that is one, where either comes next.
+pub fn next_num(words: &[Word]) -> Option<(Num, &[Word])>
+    ensures { MatchOption result (begins is_num words.now ≡ false) (λ found. words.now ≡ num_word found.0 ∷ found.1.now) }
 {
     match words {
         [Word::Number { at, value }, rest @ ..] => {
@@ -28,7 +27,7 @@ pub fn num(words: &[Word]) -> Result<(Num, &[Word]), Refusal>
                 at: *at,
                 value: *value,
             };
-            Ok((number, rest))
+            Some((number, rest))
         }
         [Word::Name { at, start, len }, rest @ ..] => {
             let name = Name {
@@ -36,10 +35,17 @@ pub fn num(words: &[Word]) -> Result<(Num, &[Word]), Refusal>
                 start: *start,
                 len: *len,
             };
-            Ok((Num::Name(name), rest))
+            Some((Num::Name(name), rest))
         }
-        _ => Err(Refusal::Bad(words)),
+        _ => None,
     }
+}
+
+/// The number, or the name of one, that has to come next.
+pub fn num(words: &[Word]) -> Result<(Num, &[Word]), Refusal>
+    ensures { Gives num_tree result (word is_num words.now) }
+{
+    next_num(words).ok_or(Refusal::Bad(words))
 }
 
 fn part(words: &[Word]) -> Result<(Part, &[Word]), Refusal>
@@ -119,15 +125,6 @@ fn lengths(words: &[Word], left: u32) -> Result<(Option<Lengths>, &[Word]), Refu
     match after(words, Symbol::OpenBrace) {
         Some(inside) => braced(words, inside, left),
         None => Ok((None, words)),
-    }
-}
-
-fn next_prefix(words: &[Word]) -> Option<((usize, Prefix), &[Word])>
-    ensures { MatchOption result (begins prefix words.now ≡ false) (λ found. words.now ≡ Word.Prefix found.0.0 found.0.1 ∷ found.1.now) }
-{
-    match words {
-        [Word::Prefix { at, net }, rest @ ..] => Some(((*at, *net), rest)),
-        _ => None,
     }
 }
 

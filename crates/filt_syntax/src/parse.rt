@@ -1,31 +1,36 @@
 // What stands at a place of the words.
 
-ghost use Rattle.std.specs.Prelude.{◌≡◌, ℕ, ◌+◌, ◌≤◌, length, drop, IfOk, IfErr};
+ghost use Rattle.std.specs.Prelude.{◌≡◌, ℕ, ◌≤◌, length, drop, IfOk, IfErr};
 ghost use Rattle.grammar.specs.Grammar.{Tree, Fits, Spells};
 ghost use Rattle.filt_syntax.specs.declared.parse.SyntaxFault.{SyntaxFault};
 ghost use Rattle.filt_syntax.specs.Syntax.{expr, rule};
 ghost use Rattle.filt_syntax.specs.View.{sight};
-ghost use Rattle.filt_syntax.specs.Parse.{Stands, IsRefused, IsAnswer, IsFault};
+ghost use Rattle.filt_syntax.specs.Parse.{Stands, IsRefused, IsAnswer, IsFault, refused_words, fault_of};
 
 use crate::expression::expression;
 use crate::tree::Expr;
 use conf_lex::Word;
-use grammar::Refusal;
+use grammar::{Refusal, place_in};
 use std::alloc::Global;
+use thiserror::Error;
 
 /// How many levels may be open: brackets, `!`, and the bodies of statements. A tree within them is no deeper than the
 /// program's stack.
 pub const LEVELS: u32 = 64;
 
 /// Why words have no tree, and the place of the refused one: the number of the words where more of them would be wanted.
-#[derive(Clone, Copy, Debug, PartialEq, Eq)]
+#[derive(Clone, Copy, Debug, PartialEq, Eq, Error)]
 pub enum SyntaxFault {
     /// Nothing that begins with the words before it goes on with this one.
+    #[error("no sentence goes on so at {at}")]
     Bad { at: usize },
     /// It opens one level more than 64.
+    #[error("more than 64 levels at {at}")]
     TooDeep { at: usize },
     /// It is known here and not supported.
+    #[error("not supported at {at}")]
     Unsupported { at: usize },
+    #[error("out of memory")]
     Memory,
 }
 
@@ -41,19 +46,9 @@ pub fn parse_expr_words(
     ensures only { (t : Tree) (end : ℕ) → Stands expr words.now from t end → IsAnswer (λ e. (sight e).expr) result t end }
     ensures exact { (e : SyntaxFault) → IsRefused expr words.now from e → IsFault result e }
 {
-    let tail = tail(words, from);
-    match expression(alloc, tail, LEVELS) {
-        Ok((tree, rest)) => Ok((tree, place(words, rest))),
-        Err(Refusal::Bad(rest)) => Err(SyntaxFault::Bad {
-            at: place(words, rest),
-        }),
-        Err(Refusal::TooDeep(rest)) => Err(SyntaxFault::TooDeep {
-            at: place(words, rest),
-        }),
-        Err(Refusal::Unsupported(rest)) => Err(SyntaxFault::Unsupported {
-            at: place(words, rest),
-        }),
-        Err(Refusal::Memory) => Err(SyntaxFault::Memory),
+    match expression(alloc, tail(words, from), LEVELS) {
+        Ok((tree, rest)) => Ok((tree, place_in(words, rest))),
+        Err(refusal) => Err(placed(words, refusal)),
     }
 }
 
@@ -70,10 +65,21 @@ pub fn tail(words: &[Word], from: usize) -> &[Word]
     &words[from..]
 }
 
-/// Where the rest begins.
-pub fn place(words: &[Word], rest: &[Word]) -> usize
-    requires { length rest.now ≤ length words.now }
-    ensures { result + length rest.now ≡ length words.now }
+/// A refusal, by the place of the refused word among the words.
+pub fn placed(words: &[Word], refusal: Refusal) -> SyntaxFault
+    requires { length (refused_words refusal) ≤ length words.now }
+    ensures { result ≡ fault_of (length words.now) refusal.entry }
 {
-    words.len() - rest.len()
+    match refusal {
+        Refusal::Bad(rest) => SyntaxFault::Bad {
+            at: place_in(words, rest),
+        },
+        Refusal::TooDeep(rest) => SyntaxFault::TooDeep {
+            at: place_in(words, rest),
+        },
+        Refusal::Unsupported(rest) => SyntaxFault::Unsupported {
+            at: place_in(words, rest),
+        },
+        Refusal::Memory => SyntaxFault::Memory,
+    }
 }

@@ -2,7 +2,7 @@
 //! levels may be opened, and gives a tree and the words after it.
 
 pub use crate::expression::expression;
-pub use crate::items::{items, mask_items, num};
+pub use crate::items::{items, mask_items, next_num, num};
 pub use crate::parse::LEVELS;
 pub use crate::statement::whole_block;
 pub use crate::variable_type::variable_type;

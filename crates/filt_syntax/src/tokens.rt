@@ -14,7 +14,7 @@ use crate::block_words::parse_block_words;
 use crate::parse::{SyntaxFault, parse_expr_words};
 use crate::tree::{Block, Expr};
 use bits_ip::OutOfMemory;
-use conf_lex::{Token, words_from};
+use conf_lex::{Token, Words, words_from};
 use std::alloc::Global;
 
 /// The longest expression from a token on, and the place of the token behind it (BIRD User's Guide, "Filters"). The tokens
@@ -37,8 +37,8 @@ pub fn parse_expr(
         Err(OutOfMemory) => return Err(SyntaxFault::Memory),
     };
     match parse_expr_words(alloc, &found.words, 0) {
-        Ok((tree, end)) => Ok((tree, token_at(&found.starts, end, tokens.len()))),
-        Err(fault) => Err(at_token(fault, &found.starts, tokens.len())),
+        Ok((expression, end)) => Ok((expression, found.token_at(end, tokens.len()))),
+        Err(fault) => Err(at_token(fault, &found, tokens.len())),
     }
 }
 
@@ -62,33 +62,24 @@ pub fn parse_block(
         Err(OutOfMemory) => return Err(SyntaxFault::Memory),
     };
     match parse_block_words(alloc, &found.words, 0) {
-        Ok((tree, end)) => Ok((tree, token_at(&found.starts, end, tokens.len()))),
-        Err(fault) => Err(at_token(fault, &found.starts, tokens.len())),
+        Ok((block, end)) => Ok((block, found.token_at(end, tokens.len()))),
+        Err(fault) => Err(at_token(fault, &found, tokens.len())),
     }
 }
 
-// The place of the token with which a word begins; behind the last word the end of the tokens.
-fn token_at(starts: &[usize], place: usize, end: usize) -> usize
-    ensures { result ≡ slice_index_or starts.now place end }
-{
-    match starts.get(place) {
-        Some(start) => *start,
-        None => end,
-    }
-}
-
-fn at_token(fault: SyntaxFault, starts: &[usize], end: usize) -> SyntaxFault
-    ensures { result ≡ moved (slice_index_or starts.now (place_of fault) end) fault }
+// A refusal of words, by the token with which the refused one begins.
+fn at_token(fault: SyntaxFault, words: &Words, end: usize) -> SyntaxFault
+    ensures { result ≡ moved (slice_index_or words.now.starts.items (place_of fault) end) fault }
 {
     match fault {
         SyntaxFault::Bad { at } => SyntaxFault::Bad {
-            at: token_at(starts, at, end),
+            at: words.token_at(at, end),
         },
         SyntaxFault::TooDeep { at } => SyntaxFault::TooDeep {
-            at: token_at(starts, at, end),
+            at: words.token_at(at, end),
         },
         SyntaxFault::Unsupported { at } => SyntaxFault::Unsupported {
-            at: token_at(starts, at, end),
+            at: words.token_at(at, end),
         },
         SyntaxFault::Memory => SyntaxFault::Memory,
     }

@@ -177,3 +177,14 @@ module _ (rule : ℕ → Form) (model : ℕ → Tree) (after : ℕ → Kind → 
   unfolding with_optional
   optional_read zero p f g ws = refl
   optional_read (suc k) p f g ws = refl
+
+-- ---- what a refusal says of reading
+
+pub bad_from : (e : Refusal) (at : Bor (List Word)) (x : Read) → e ≡ refusals.Bad at → Fails e x → x ≡ Fault Bad at.now
+bad_from e at x is h = subst (λ (r : Refusal). Fails r x) is h
+
+pub deep_from : (e : Refusal) (at : Bor (List Word)) (x : Read) → e ≡ refusals.TooDeep at → Fails e x → x ≡ Fault TooDeep at.now
+deep_from e at x is h = subst (λ (r : Refusal). Fails r x) is h
+
+pub shut_from : (e : Refusal) (at : Bor (List Word)) (x : Read) → e ≡ refusals.Unsupported at → Fails e x → x ≡ Fault Unsupported at.now
+shut_from e at x is h = subst (λ (r : Refusal). Fails r x) is h

@@ -9,7 +9,8 @@ mod words;
 pub use named::Name;
 pub use refusal::Refusal;
 pub use words::{
-    after, after_placed, expect, expect_name, expect_number, expect_placed, level_below, next,
+    after, after_placed, expect, expect_name, expect_number, expect_placed, is_symbol, level_below,
+    next, next_name, next_prefix, place_in,
 };
 
 #[cfg(test)]

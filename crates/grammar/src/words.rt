@@ -1,8 +1,8 @@
 // The next word.
 
-ghost use Rattle.std.specs.Prelude.{◌≡◌, [], ◌∷◌, ◌+◌, true, false, MatchOption, MatchResult};
+ghost use Rattle.std.specs.Prelude.{◌≡◌, [], ◌∷◌, ◌+◌, ◌≤◌, true, false, length, MatchOption, MatchResult};
 ghost use Rattle.conf_lex.specs.declared.word.Word.{Word};
-ghost use Rattle.grammar.specs.Kind.{symbol, number, name, keeps_place, kind_of};
+ghost use Rattle.grammar.specs.Kind.{symbol, number, name, prefix, keeps_place, kind_of};
 ghost use Rattle.grammar.specs.Grammar.{TooDeep, begins};
 ghost use Rattle.grammar.specs.Reading.{word, Fault};
 ghost use Rattle.grammar.specs.Gives.{Fails, Gives};
@@ -10,6 +10,7 @@ ghost use Rattle.grammar.specs.Shapes.{number_leaf, name_leaf};
 
 use crate::named::Name;
 use crate::refusal::Refusal;
+use bits_ip::Prefix;
 use conf_lex::{Symbol, Word};
 
 /// The next word, and the words after it.
@@ -28,7 +29,7 @@ pub fn after(words: &[Word], wanted: Symbol) -> Option<&[Word]>
     ensures { MatchOption result (begins (symbol wanted) words.now ≡ false) (λ rest. words.now ≡ Word.Symbol wanted ∷ rest.now) }
 {
     match next(words) {
-        Some((word, rest)) => is_symbol(word, wanted).then_some(rest),
+        Some((word, rest)) => is_symbol(&word, wanted).then_some(rest),
         None => None,
     }
 }
@@ -70,9 +71,9 @@ pub fn expect_number(words: &[Word]) -> Result<((usize, u32), &[Word]), Refusal>
     }
 }
 
-/// The name that has to come next, and the words after it.
-pub fn expect_name(words: &[Word]) -> Result<(Name, &[Word]), Refusal>
-    ensures { Gives name_leaf result (word name words.now) }
+/// The name, where one comes next, and the words after it.
+pub fn next_name(words: &[Word]) -> Option<(Name, &[Word])>
+    ensures { MatchOption result (begins name words.now ≡ false) (λ found. words.now ≡ Word.Name found.0.at found.0.start found.0.len ∷ found.1.now) }
 {
     match words {
         [Word::Name { at, start, len }, rest @ ..] => {
@@ -81,10 +82,35 @@ pub fn expect_name(words: &[Word]) -> Result<(Name, &[Word]), Refusal>
                 start: *start,
                 len: *len,
             };
-            Ok((name, rest))
+            Some((name, rest))
         }
-        _ => Err(Refusal::Bad(words)),
+        _ => None,
     }
+}
+
+/// The name that has to come next, and the words after it.
+pub fn expect_name(words: &[Word]) -> Result<(Name, &[Word]), Refusal>
+    ensures { Gives name_leaf result (word name words.now) }
+{
+    next_name(words).ok_or(Refusal::Bad(words))
+}
+
+/// The place of the prefix, where one comes next, its net, and the words after it.
+pub fn next_prefix(words: &[Word]) -> Option<((usize, Prefix), &[Word])>
+    ensures { MatchOption result (begins prefix words.now ≡ false) (λ found. words.now ≡ Word.Prefix found.0.0 found.0.1 ∷ found.1.now) }
+{
+    match words {
+        [Word::Prefix { at, net }, rest @ ..] => Some(((*at, *net), rest)),
+        _ => None,
+    }
+}
+
+/// The place among the words at which the rest of them begins.
+pub fn place_in(words: &[Word], rest: &[Word]) -> usize
+    requires { length rest.now ≤ length words.now }
+    ensures { result + length rest.now ≡ length words.now }
+{
+    words.len() - rest.len()
 }
 
 /// How many levels are left below the one that the next word opens.
@@ -94,12 +120,13 @@ pub fn level_below(words: &[Word], left: u32) -> Result<u32, Refusal>
     left.checked_sub(1).ok_or(Refusal::TooDeep(words))
 }
 
-fn is_symbol(word: Word, wanted: Symbol) -> bool
+/// Whether a word is this symbol.
+pub fn is_symbol(word: &Word, wanted: Symbol) -> bool
     requires { keeps_place wanted ≡ false }
-    ensures { result ≡ symbol wanted (kind_of word) }
+    ensures { result ≡ symbol wanted (kind_of word.now) }
 {
     match word {
-        Word::Symbol(symbol) => symbol == wanted,
+        Word::Symbol(symbol) => *symbol == wanted,
         _ => false,
     }
 }

@@ -1,4 +1,4 @@
-use Rattle.std.proofs.Common.{sym, ◌∙◌, ap, ◌≡◌, false, ◌+◌, drop, ◌==◌}
+use Rattle.std.proofs.Common.{sym, ◌∙◌, ◌≡◌, false, ◌+◌, drop, ◌==◌}
 use Rattle.conf_lex.specs.Shapes.{first_passes}
 use Rattle.conf_lex.proofs.Between.{close_no_slash, close_no_star}
 use Rattle.conf_lex.proofs.gaps.close_len.Goals as goal

@@ -1,4 +1,4 @@
-use Rattle.std.proofs.Common.{◌≡◌, sym, ◌∙◌, ap, arith, Some, None, drop}
+use Rattle.std.proofs.Common.{sym, ◌∙◌, ap, arith, drop}
 use Rattle.std.proofs.lemmas.List.{length-drop}
 use Rattle.conf_lex.specs.Fronts.{separator_len}
 use Rattle.conf_lex.proofs.Between.{gap_more, gap_none, separator_found, separator_none}

@@ -1,4 +1,4 @@
-use Rattle.std.proofs.Common.{◌≡◌, ◌<◌, sym, ℕ, max}
+use Rattle.std.proofs.Common.{◌<◌, sym, max}
 use Rattle.conf_lex.proofs.Readings.{plain_below}
 use Rattle.conf_lex.proofs.lexer.plain_len.Goals as goal
 

@@ -1,4 +1,3 @@
-use Rattle.std.proofs.Common.{arith}
 use Rattle.conf_lex.proofs.Numbers.{decimal_digits}
 use Rattle.conf_lex.proofs.Readings.{decimal_kind}
 use Rattle.conf_lex.proofs.values.decimal.Goals as goal

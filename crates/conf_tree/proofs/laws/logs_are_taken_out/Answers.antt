@@ -1,5 +1,5 @@
-use Rattle.conf_tree.proofs.SaidLaws.{log_taken_out}
+use Rattle.conf_tree.proofs.SaidLaws.{whole_log_taken_out}
 use Rattle.conf_tree.proofs.laws.logs_are_taken_out.Goals as goal
 
 pub returns : goal.returns
-returns c = log_taken_out
+returns c = whole_log_taken_out

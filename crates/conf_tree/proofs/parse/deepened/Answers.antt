@@ -1,4 +1,4 @@
-use Rattle.std.proofs.Common.{ℕ, List, ◌≤◌, length, slice_index_or, sym, ap, subst, ◌∙◌}
+use Rattle.std.proofs.Common.{List, ◌≤◌, length, sym, ap, subst, ◌∙◌}
 use Rattle.conf_lex.specs.declared.word.Word.{Word}
 use Rattle.conf_tree.proofs.Refusals.{deep_refused, deep_fewer}
 use Rattle.conf_tree.proofs.parse.deepened.Goals as goal
@@ -7,4 +7,4 @@ pub place_in-place-requires : goal.place_in-place-requires
 place_in-place-requires c = subst (λ (u : List Word). length c.args.rest.now ≤ length u) (sym c.deref.ensures.value) (deep_fewer c.args.said.now.words.items c.args.rest.now c.requires.deep)
 
 pub returns : goal.returns
-returns c = deep_refused c.args.text.now c.args.tokens.now c.args.said.now.words.items c.args.said.now.starts.items c.requires.words c.requires.starts c.args.rest.now c.place_in-place.result c.token_at-at.result (c.place_in-place.ensures ∙ ap (λ (u : List Word). length u) c.deref.ensures.value) (c.token_at-at.ensures ∙ ap (λ (u : List ℕ). slice_index_or u c.place_in-place.result (length c.args.tokens.now)) c.deref-2.ensures.value) c.requires.deep
+returns c = deep_refused c.args.text.now c.args.tokens.now c.args.said.now.words.items c.args.said.now.starts.items c.requires.words c.requires.starts c.args.rest.now c.place_in-place.result c.token_at-at.result (c.place_in-place.ensures ∙ ap (λ (u : List Word). length u) c.deref.ensures.value) c.token_at-at.ensures c.requires.deep

@@ -1,4 +1,4 @@
-use Rattle.std.proofs.Common.{ℕ, List, ◌≤◌, length, take, drop, IsSomeAnd, slice_index_or, sym, ap, subst, ◌∙◌}
+use Rattle.std.proofs.Common.{List, ◌≤◌, length, take, drop, IsSomeAnd, sym, ap, subst, ◌∙◌}
 use Rattle.conf_lex.specs.declared.word.Word.{Word}
 use Rattle.grammar.specs.Sentences.{IsBegunWithin}
 use Rattle.filt_syntax.specs.Syntax.{rule}
@@ -11,7 +11,7 @@ pub place_in-place-requires : goal.place_in-place-requires
 place_in-place-requires c = subst (λ (u : List Word). length c.args.rest.now ≤ length u) (sym c.deref.ensures.value) (stop_fewer c.args.said.now.words.items c.args.rest.now c.requires.stops)
 
 pub refusal-requires-clause-begun : goal.refusal-requires-clause-begun
-refusal-requires-clause-begun c = subst (λ (u : List Word). IsBegunWithin rule 64 config (take c.place_in-place.result u)) (sym c.deref-3.ensures.value) (begun_before c.args.said.now.words.items c.args.rest.now c.place_in-place.result (c.place_in-place.ensures ∙ ap (λ (u : List Word). length u) c.deref.ensures.value) c.requires.stops)
+refusal-requires-clause-begun c = subst (λ (u : List Word). IsBegunWithin rule 64 config (take c.place_in-place.result u)) (sym c.deref-2.ensures.value) (begun_before c.args.said.now.words.items c.args.rest.now c.place_in-place.result (c.place_in-place.ensures ∙ ap (λ (u : List Word). length u) c.deref.ensures.value) c.requires.stops)
 
 pub returns : goal.returns
-returns c = stop_refused c.args.text.now c.args.tokens.now c.args.said.now.words.items c.args.said.now.starts.items c.requires.words c.requires.starts c.args.rest.now c.place_in-place.result c.token_at-at.result (c.place_in-place.ensures ∙ ap (λ (u : List Word). length u) c.deref.ensures.value) (c.token_at-at.ensures ∙ ap (λ (u : List ℕ). slice_index_or u c.place_in-place.result (length c.args.tokens.now)) c.deref-2.ensures.value) c.requires.stops c.refusal.result (subst (λ (u : List Word). Refuses (IsSomeAnd (first_bytes c.args.text.now (drop c.token_at-at.result c.args.tokens.now)) (IsUnsupported (take c.place_in-place.result u))) c.token_at-at.result c.refusal.result) c.deref-3.ensures.value c.refusal.ensures)
+returns c = stop_refused c.args.text.now c.args.tokens.now c.args.said.now.words.items c.args.said.now.starts.items c.requires.words c.requires.starts c.args.rest.now c.place_in-place.result c.token_at-at.result (c.place_in-place.ensures ∙ ap (λ (u : List Word). length u) c.deref.ensures.value) c.token_at-at.ensures c.requires.stops c.refusal.result (subst (λ (u : List Word). Refuses (IsSomeAnd (first_bytes c.args.text.now (drop c.token_at-at.result c.args.tokens.now)) (IsUnsupported (take c.place_in-place.result u))) c.token_at-at.result c.refusal.result) c.deref-2.ensures.value c.refusal.ensures)

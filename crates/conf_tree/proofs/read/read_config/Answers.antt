@@ -1,7 +1,7 @@
 use Rattle.std.proofs.Common.{List, sym, ap, ◌∙◌}
 use Rattle.conf_lex.specs.declared.token.Token.{Token}
 use Rattle.conf_tree.specs.Read.{fault_of}
-use Rattle.conf_tree.proofs.TextRefusals.{no_tokens, stuck_place, stuck_fault, stuck_only, stuck_exact, tree_exact, fault_exact}
+use Rattle.conf_tree.proofs.TextRefusals.{no_tokens, stuck_place, stuck_fault, stuck_within, stuck_only, stuck_exact, tree_exact, fault_exact}
 use Rattle.conf_tree.proofs.read.read_config.Goals as goal
 
 pub returns-in-Err-Bad-clause-fault : goal.returns-in-Err-Bad-clause-fault
@@ -17,4 +17,7 @@ pub returns-in-Ok-parse_config-clause-exact : goal.returns-in-Ok-parse_config-cl
 returns-in-Ok-parse_config-clause-exact c = tree_exact c.args.text.now c.deref.result.now (λ other l. c.deref.ensures.value ∙ c.in-Ok.ensures.only other l) c.in-Ok-parse_config.config c.in-Ok.ensures.exact c.in-Ok-parse_config.ensures.exact
 
 pub returns-clause-exact : goal.returns-clause-exact
-returns-clause-exact c = fault_exact c.args.text.now c.deref.result.now (λ other l. c.deref.ensures.value ∙ c.in-Ok.ensures.only other l) c.in-Err.fault c.refused.result (c.refused.ensures ∙ ap (λ (ts : List Token). fault_of c.args.text.now ts c.in-Err.fault) (c.deref-in-Err.ensures.value ∙ sym c.deref.ensures.value)) c.in-Ok.ensures.exact c.in-Err.ensures.exact
+returns-clause-exact c = fault_exact c.args.text.now c.deref.result.now (λ other l. c.deref.ensures.value ∙ c.in-Ok.ensures.only other l) c.in-Err.fault c.refused.result (c.refused.ensures.is ∙ ap (λ (ts : List Token). fault_of c.args.text.now ts c.in-Err.fault) (c.deref-in-Err.ensures.value ∙ sym c.deref.ensures.value)) c.in-Ok.ensures.exact c.in-Err.ensures.exact
+
+pub returns-in-Err-Bad-clause-within : goal.returns-in-Err-Bad-clause-within
+returns-in-Err-Bad-clause-within c = stuck_within c.args.text.now c.in-Err-Bad.field-0 c.in-Err-Bad.at _ c.in-Err-Bad.field-0-is c.in-Err-Bad.at-is c.texts_are_refused_within.ensures c.in-Err-Bad.ensures.bad
