@@ -10,8 +10,10 @@ pub data Rule : Type 0 where
 -- the first rule that tells a and b apart prefers a
 abbrev pub before_by : List Rule → Route → Route → Bool
 before_by [] a b = false
-before_by (Lower key ∷ rules) a b = nat_lt (key a) (key b) || (key a == key b && before_by rules a b)
-before_by (Higher key ∷ rules) a b = nat_lt (key b) (key a) || (key a == key b && before_by rules a b)
+before_by (Lower key ∷ rules) a b =
+    nat_lt (key a) (key b) || (key a == key b && before_by rules a b)
+before_by (Higher key ∷ rules) a b =
+    nat_lt (key b) (key a) || (key a == key b && before_by rules a b)
 
 -- the higher preference
 abbrev pub preference : Route → ℕ
@@ -31,4 +33,6 @@ before = before_by selection_rules
 -- The best of these routes is the one that is before all others, and none where there are none.
 abbrev pub IsBest : List Route → Option Route → Type 0
 IsBest routes None = routes ≡ []
-IsBest routes (Some best) = Contains routes best × ((other : Route) → Contains routes other → (other ≡ best → ⊥) → IsTrue (before best other))
+IsBest routes (Some best) =
+    Contains routes best
+    × ((other : Route) → Contains routes other → (other ≡ best → ⊥) → IsTrue (before best other))

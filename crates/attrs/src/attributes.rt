@@ -67,7 +67,8 @@ impl Kind {
     }
 }
 
-/// The attributes of a route (BIRD User's Guide, section 5.5, "Route attributes", and BGP's attributes).
+/// The attributes of a route (BIRD User's Guide, section 5.5, "Route attributes", and BGP's
+/// attributes).
 #[derive(Debug, Drop, PartialEq, Eq)]
 pub struct Attrs {
     /// The preference, the higher the better.

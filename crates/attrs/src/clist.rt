@@ -92,13 +92,17 @@ impl Clist {
         self.pairs.is_empty()
     }
 
-    /// Puts a community behind the others, if it isn't there yet. Its two parts are the number of the autonomous system
-    /// that gave it and that system's value (RFC 1997). `ClistLong` comes exactly for a new community at the limit of 64,
-    /// which is this project's own; `Memory` only for a new one below it.
+    /// Puts a community behind the others, if it isn't there yet. Its two parts are the number of
+    /// the autonomous system that gave it and that system's value (RFC 1997). `ClistLong` comes
+    /// exactly for a new community at the limit of 64, which is this project's own; `Memory` only
+    /// for a new one below it.
     pub fn add(&mut self, system: u16, value: u16) -> Result<(), ClistFault>
-        ensures there { IsTrue (has_pair self.old (system, value)) → IsOk result × (self.new ≡ self.old) }
-        ensures new { IsFalse (has_pair self.old (system, value)) → OnOk result (self.new ≡ self.old ++ (system, value) ∷ []) }
-        ensures long { (result ≡ Err ClistFault.ClistLong) ↔ (IsFalse (has_pair self.old (system, value)) × (length self.old ≡ 64)) }
+        ensures there { IsTrue (has_pair self.old (system, value))
+            → IsOk result × (self.new ≡ self.old) }
+        ensures new { IsFalse (has_pair self.old (system, value))
+            → OnOk result (self.new ≡ self.old ++ (system, value) ∷ []) }
+        ensures long { (result ≡ Err ClistFault.ClistLong)
+            ↔ (IsFalse (has_pair self.old (system, value)) × (length self.old ≡ 64)) }
         ensures bound { length self.old ≤ 64 }
         ensures refused { OnErr result (self.new ≡ self.old) }
     {

@@ -9,15 +9,18 @@ ghost use Rattle.attrs.specs.declared.route.Row.{Row};
 
 /// Two lists of changes, one after the other, leave what the second leaves of the first's content.
 pub fn changes_add_up()
-    ensures { (start : Content) (first later : List Change) (net : Net) (num : ℕ) → after start (first ++ later) net num ≡ after (after start first) later net num }
+    ensures { (start : Content) (first later : List Change) (net : Net) (num : ℕ)
+        → after start (first ++ later) net num ≡ after (after start first) later net num }
 {}
 
 /// A history of real changes stays one with a change that differs from what stands for its key.
 pub fn real_changes_add_up()
-    ensures { (start : Content) (changes : List Change) (c : Change) → IsReal start changes → (after start changes c.net c.num ≢ c.new) → IsReal start (changes ++ c ∷ []) }
+    ensures { (start : Content) (changes : List Change) (c : Change) → IsReal start changes
+        → (after start changes c.net c.num ≢ c.new) → IsReal start (changes ++ c ∷ []) }
 {}
 
-/// Routes of different sources are in selection order exactly where each is before all that follow it.
+/// Routes of different sources are in selection order exactly where each is before all that follow
+/// it.
 pub fn order_is_sorted()
     ensures { (routes : List Route) → IsOfSources routes → IsInOrder routes ↔ IsSorted routes }
 {}
@@ -29,10 +32,12 @@ pub fn best_is_first()
 
 /// A net has one best route, or none.
 pub fn best_is_one()
-    ensures { (routes : List Route) (a b : Option Route) → IsBest routes a → IsBest routes b → a ≡ b }
+    ensures { (routes : List Route) (a b : Option Route) → IsBest routes a → IsBest routes b
+        → a ≡ b }
 {}
 
 /// A content is shown by one list of rows.
 pub fn shown_by_one()
-    ensures { (rows others : List Row) (content : Content) → Shows rows content → Shows others content → rows ≡ others }
+    ensures { (rows others : List Row) (content : Content) → Shows rows content
+        → Shows others content → rows ≡ others }
 {}

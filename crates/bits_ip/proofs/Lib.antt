@@ -8,3 +8,4 @@ mod Octets
 mod Slashed
 mod Spelled
 mod Splits
+mod ZeroRuns

@@ -32,7 +32,9 @@ pub record Covers (a b : Net) : Type 0 where
 
 -- the order of nets: by family, then by address, then by length
 abbrev pub net_cmp : Net → Net → Ordering
-net_cmp = then_cmp (on (λ n. family_rank n.addr) nat_cmp) (then_cmp (on (λ n. number_of n.addr) nat_cmp) (on (λ n. n.len) nat_cmp))
+net_cmp =
+    then_cmp (on (λ n. family_rank n.addr) nat_cmp)
+    (then_cmp (on (λ n. number_of n.addr) nat_cmp) (on (λ n. n.len) nat_cmp))
 
 abbrev pub precedes : Net → Net → Bool
 precedes a b = is_lt (net_cmp a b)

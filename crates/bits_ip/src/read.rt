@@ -80,7 +80,9 @@ fn is_address_byte(byte: u8) -> bool
 /// Reads the address that the whole text spells: IPv4 in dotted decimals without leading zeros,
 /// IPv6 in the first two forms of RFC 4291, section 2.2. Any other text gives nothing.
 pub fn parse_addr(text: &[u8]) -> Option<Addr>
-    ensures { MatchOption result ((addr : Addr) → IsAddrText text.now addr → ⊥) (λ addr. IsAddrText text.now addr) }
+    ensures { MatchOption result
+        ((addr : Addr) → IsAddrText text.now addr → ⊥)
+        (λ addr. IsAddrText text.now addr) }
 {
     match parse_v4(text) {
         Some(number) => Some(Addr::V4(number)),
@@ -94,7 +96,9 @@ pub fn parse_addr(text: &[u8]) -> Option<Addr>
 /// Reads the prefix that the whole text spells: an address, a slash and a length without leading
 /// zeros, such that each bit behind the length is zero. Any other text gives nothing.
 pub fn parse_prefix(text: &[u8]) -> Option<Prefix>
-    ensures { MatchOption result ((net : Net) → IsNetText text.now net → ⊥) (λ net. IsNetText text.now net) }
+    ensures { MatchOption result
+        ((net : Net) → IsNetText text.now net → ⊥)
+        (λ net. IsNetText text.now net) }
 {
     let (front, digits) = split_at(text, b'/')?;
     let addr = parse_addr(front)?;
@@ -105,7 +109,9 @@ pub fn parse_prefix(text: &[u8]) -> Option<Prefix>
 /// Reads the IPv4 address that the whole text spells: four numbers below 256 without leading zeros,
 /// with a dot between each two. Any other text gives nothing.
 pub fn parse_v4(text: &[u8]) -> Option<u32>
-    ensures { MatchOption result ((n : ℕ) → IsAddrText text.now (V4 n) → ⊥) (λ n. IsAddrText text.now (V4 n)) }
+    ensures { MatchOption result
+        ((n : ℕ) → IsAddrText text.now (V4 n) → ⊥)
+        (λ n. IsAddrText text.now (V4 n)) }
 {
     let (first, rest) = octet_before_dot(text)?;
     let (second, rest) = octet_before_dot(rest)?;
@@ -116,7 +122,9 @@ pub fn parse_v4(text: &[u8]) -> Option<u32>
 
 /// A number below 256, and what stands behind the dot that follows.
 fn octet_before_dot(text: &[u8]) -> Option<(u8, &[u8])>
-    ensures { MatchOption result ((n : ℕ) (rest : List ℕ) → IsOctetFirst text.now n rest → ⊥) (λ found. IsOctetFirst text.now found.0 found.1.now) }
+    ensures { MatchOption result
+        ((n : ℕ) (rest : List ℕ) → IsOctetFirst text.now n rest → ⊥)
+        (λ found. IsOctetFirst text.now found.0 found.1.now) }
 {
     let (digits, rest) = split_at(text, b'.')?;
     let octet = octet_of(digits)?;
@@ -147,7 +155,9 @@ fn begins_plainly(digits: &[u8]) -> bool
 
 /// What stands before the first such byte, and what stands behind it.
 fn split_at(text: &[u8], mark: u8) -> Option<(&[u8], &[u8])>
-    ensures { MatchOption result (split_first mark text.now ≡ None) (λ parts. split_first mark text.now ≡ Some (parts.0.now, parts.1.now)) }
+    ensures { MatchOption result
+        (split_first mark text.now ≡ None)
+        (λ parts. split_first mark text.now ≡ Some (parts.0.now, parts.1.now)) }
 {
     let place = place_of(text, mark)?;
     Some((&text[..place], &text[place + 1..]))

@@ -33,8 +33,11 @@ abbrev pub HaveRoomAt : Net → List NetRoutes → Type 0
 HaveRoomAt net [] = ⊤
 HaveRoomAt net (kept ∷ nets) = (kept.net ≡ net → HasRoom kept.routes) × HaveRoomAt net nets
 
--- room for any change of this net: for one more net, for its first route, and for one more among those that it has
-pub record IsRoomFor (net : Net) (kept : Vec NetRoutes Global) (first : Vec Route Global) : Type 0 where
+-- room for any change of this net: for one more net, for its first route, and for one more among
+-- those that it has
+pub record IsRoomFor
+    (net : Net) (kept : Vec NetRoutes Global) (first : Vec Route Global)
+    : Type 0 where
   pub nets : HasRoom kept
   pub spare : HasRoom first
   pub routes : HaveRoomAt net kept.items
@@ -42,7 +45,8 @@ pub record IsRoomFor (net : Net) (kept : Vec NetRoutes Global) (first : Vec Rout
 -- the same nets with the same routes, and room where there was room
 abbrev pub HaveGrown : List NetRoutes → List NetRoutes → Type 0
 HaveGrown [] [] = ⊤
-HaveGrown (x ∷ xs) (y ∷ ys) = (row_of y ≡ row_of x) × (HasRoom x.routes → HasRoom y.routes) × HaveGrown xs ys
+HaveGrown (x ∷ xs) (y ∷ ys) =
+    (row_of y ≡ row_of x) × (HasRoom x.routes → HasRoom y.routes) × HaveGrown xs ys
 HaveGrown [] (y ∷ ys) = ⊥
 HaveGrown (x ∷ xs) [] = ⊥
 
