@@ -1,9 +1,9 @@
 -- The zeros that are left out of an IPv6 address are its first longest run.
-use Rattle.std.proofs.Common.{◌≡◌, ℕ, zero, suc, ◌<◌, ◌≤◌, ◌+◌, cond, max, List, [], ◌∷◌, ◌++◌, length, take, drop, replicate, sym, ap, ◌∙◌, refl, subst, ⊎_elim, arith, append_assoc}
+use Rattle.std.proofs.Common.{◌≡◌, ℕ, zero, suc, ◌<◌, ◌≤◌, ◌+◌, cond, List, [], ◌∷◌, ◌++◌, length, take, drop, replicate, sym, ap, ◌∙◌, refl, subst, ⊎_elim, arith, append_assoc}
 use Rattle.std.proofs.lemmas.Bool.{cases_eq, cases_lt, eq-eqb, ne_eqb}
 use Rattle.std.proofs.lemmas.List.{drop-drop, length-take-le, take-append-drop}
 use Rattle.std.proofs.Math.Seq.{drop-append_seam}
-use Rattle.bits_ip.specs.Text.{groups, zero_run, longest_run, run_start, v6_text, IsLongestRun, IsShortText}
+use Rattle.bits_ip.specs.Text.{groups, zero_run, longest_run, run_start, v6_text, IsShortText}
 use Rattle.bits_ip.proofs.Groups.{start_within}
 
 zeros_at_front : (n : ℕ) (behind : List ℕ) → n ≤ zero_run (replicate n 0 ++ behind)
