@@ -1,5 +1,5 @@
 -- What a list of changes leaves.
-use Rattle.std.specs.Prelude.{◌≡◌, ◌≢◌, ℕ, Bool, ◌&&◌, ◌==◌, if◌then◌else◌, List, [], ◌∷◌, Option, Some, None, unwrap_or, take, ⊤}
+use Rattle.std.specs.Prelude.{◌≢◌, ℕ, Bool, ◌&&◌, ◌==◌, if◌then◌else◌, List, [], ◌∷◌, Option, Some, None, unwrap_or, take, ⊤}
 use Rattle.bits_ip.specs.Prefix.{Net, same_net}
 use Rattle.attrs.specs.declared.route.Route.{Route}
 use Rattle.attrs.specs.declared.route.Change.{Change}
@@ -22,9 +22,11 @@ or_else (Some x) other = Some x
 -- what the last change of the key in a list leaves there, and nothing where it has none
 abbrev pub last_of : Net → ℕ → List Change → Option (Option Route)
 last_of net num [] = None
-last_of net num (c ∷ cs) = or_else (last_of net num cs) (if is_of net num c then Some c.new else None)
+last_of net num (c ∷ cs) =
+    or_else (last_of net num cs) (if is_of net num c then Some c.new else None)
 
--- the content after these changes: a key has the route of its last change, and what stood there where it has none
+-- the content after these changes: a key has the route of its last change, and what stood there
+-- where it has none
 abbrev pub after : Content → List Change → Content
 after start changes net num = unwrap_or (last_of net num changes) (start net num)
 

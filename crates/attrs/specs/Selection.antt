@@ -1,11 +1,5 @@
 -- Which of two routes of a net is preferred: the first rule that tells them apart decides.
-use Rattle.std.specs.Prelude.{◌≡◌, ℕ, ◌+◌, Bool, true, false, ◌&&◌, ◌||◌, ◌==◌, nat_lt, List, [], ◌∷◌, length, Option, Some, None, unwrap_or, IsTrue, IsSome, Contains}
-use Rattle.bits_ip.specs.declared.address.Addr.{Addr}
-use Rattle.bits_ip.specs.declared.address.Addr.TheVariants.{V4, V6}
-use Rattle.attrs.specs.declared.attributes.Origin.{Origin}
-use Rattle.attrs.specs.declared.attributes.Origin.TheVariants.{Igp, Egp, Incomplete}
-use Rattle.attrs.specs.declared.attributes.Kind.{Kind}
-use Rattle.attrs.specs.declared.attributes.Kind.TheVariants.{Static, Bgp}
+use Rattle.std.specs.Prelude.{◌≡◌, ℕ, Bool, false, ◌&&◌, ◌||◌, ◌==◌, nat_lt, List, [], ◌∷◌, Option, Some, None, IsTrue, Contains}
 use Rattle.attrs.specs.declared.route.Route.{Route}
 
 -- a rule prefers the lower or the higher of a number that it reads off a route
@@ -16,8 +10,10 @@ pub data Rule : Type 0 where
 -- the first rule that tells a and b apart prefers a
 abbrev pub before_by : List Rule → Route → Route → Bool
 before_by [] a b = false
-before_by (Lower key ∷ rules) a b = nat_lt (key a) (key b) || (key a == key b && before_by rules a b)
-before_by (Higher key ∷ rules) a b = nat_lt (key b) (key a) || (key a == key b && before_by rules a b)
+before_by (Lower key ∷ rules) a b =
+    nat_lt (key a) (key b) || (key a == key b && before_by rules a b)
+before_by (Higher key ∷ rules) a b =
+    nat_lt (key b) (key a) || (key a == key b && before_by rules a b)
 
 -- the higher preference
 abbrev pub preference : Route → ℕ
@@ -37,4 +33,6 @@ before = before_by selection_rules
 -- The best of these routes is the one that is before all others, and none where there are none.
 abbrev pub IsBest : List Route → Option Route → Type 0
 IsBest routes None = routes ≡ []
-IsBest routes (Some best) = Contains routes best × ((other : Route) → Contains routes other → (other ≡ best → ⊥) → IsTrue (before best other))
+IsBest routes (Some best) =
+    Contains routes best
+    × ((other : Route) → Contains routes other → (other ≡ best → ⊥) → IsTrue (before best other))

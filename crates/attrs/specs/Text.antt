@@ -42,7 +42,8 @@ abbrev pub ebgp_text : Bool → List ℕ
 ebgp_text true = codes " ebgp"
 ebgp_text false = codes " ibgp"
 
--- what only routes of BGP have: the neighbour's router id, and whether it is in another autonomous system
+-- what only routes of BGP have: the neighbour's router id, and whether it is in another autonomous
+-- system
 abbrev pub peer_text : Kind → ℕ → Bool → List ℕ
 peer_text Static id ebgp = []
 peer_text Bgp id ebgp = codes " id " ++ v4_text id ++ ebgp_text ebgp

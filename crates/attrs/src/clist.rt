@@ -1,6 +1,6 @@
 ghost use Rattle.std.specs.Prelude.{◌≡◌, ◌≤◌, ◌==◌, ◌↔◌, ◌++◌, [], ◌∷◌, length, Err, IsTrue, IsFalse, IsOk, IfOk, OnOk, OnErr};
 ghost use Rattle.attrs.specs.declared.clist.ClistFault.TheVariants.{Memory};
-ghost use Rattle.attrs.specs.Clist.{has_pair};
+ghost use Rattle.attrs.specs.Clist.{has_pair, IsClist};
 
 use bits_ip::OutOfMemory;
 use std::alloc::{AllocFailed, Global};
@@ -56,8 +56,26 @@ impl Clist {
         }
     }
 
+    /// The list of these communities. Takes no memory.
+    pub fn from_vec(pairs: Vec<(u16, u16)>) -> Clist
+        requires { IsClist pairs.items }
+        ensures { result ≡ pairs.items }
+    {
+        Clist { pairs }
+    }
+
+    /// The communities as a `Vec`. Takes no memory.
+    pub fn into_vec(self) -> Vec<(u16, u16)>
+        ensures value { result.items ≡ self }
+        ensures is { IsClist self }
+    {
+        let Clist { pairs } = self;
+        pairs
+    }
+
     pub fn as_slice(&self) -> &[(u16, u16)]
         ensures value { result.now ≡ self.now }
+        ensures is { IsClist self.now }
     {
         self.pairs.as_slice()
     }
@@ -74,13 +92,17 @@ impl Clist {
         self.pairs.is_empty()
     }
 
-    /// Puts a community behind the others, if it isn't there yet. Its two parts are the number of the autonomous system
-    /// that gave it and that system's value (RFC 1997). `ClistLong` comes exactly for a new community at the limit of 64,
-    /// which is this project's own; `Memory` only for a new one below it.
+    /// Puts a community behind the others, if it isn't there yet. Its two parts are the number of
+    /// the autonomous system that gave it and that system's value (RFC 1997). `ClistLong` comes
+    /// exactly for a new community at the limit of 64, which is this project's own; `Memory` only
+    /// for a new one below it.
     pub fn add(&mut self, system: u16, value: u16) -> Result<(), ClistFault>
-        ensures there { IsTrue (has_pair self.old (system, value)) → IsOk result × (self.new ≡ self.old) }
-        ensures new { IsFalse (has_pair self.old (system, value)) → OnOk result (self.new ≡ self.old ++ (system, value) ∷ []) }
-        ensures long { (result ≡ Err ClistFault.ClistLong) ↔ (IsFalse (has_pair self.old (system, value)) × (length self.old ≡ 64)) }
+        ensures there { IsTrue (has_pair self.old (system, value))
+            → IsOk result × (self.new ≡ self.old) }
+        ensures new { IsFalse (has_pair self.old (system, value))
+            → OnOk result (self.new ≡ self.old ++ (system, value) ∷ []) }
+        ensures long { (result ≡ Err ClistFault.ClistLong)
+            ↔ (IsFalse (has_pair self.old (system, value)) × (length self.old ≡ 64)) }
         ensures bound { length self.old ≤ 64 }
         ensures refused { OnErr result (self.new ≡ self.old) }
     {

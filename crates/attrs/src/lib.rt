@@ -1,4 +1,11 @@
-//! Routes and their attributes: what a table keeps of a net, how routes are told apart, and how attributes are written.
+//! Routes and their attributes: what a table keeps of a net, how routes are told apart, and how
+//! attributes are written.
+//!
+//! `Path`, `Clist` and `Seq` are vectors that contracts see as lists, the first two with their
+//! limits, so that a whole `Attrs` or `Route` compares with a definition's value. What a list of
+//! changes leaves of a table (`after`), which of two routes is preferred (`before`, `IsBest`) and
+//! which rows show a content (`Shows`) are defined in `specs/` here, below the crate that keeps
+//! tables.
 #![tactic(auto)]
 
 mod attributes;
@@ -7,8 +14,6 @@ pub mod laws;
 mod path;
 mod route;
 mod seq;
-#[cfg(test)]
-mod tests;
 mod text;
 
 pub use attributes::{Attrs, Dest, Kind, Origin};
@@ -16,4 +21,6 @@ pub use clist::{Clist, ClistFault};
 pub use path::{Path, PathFault};
 pub use route::{Change, Route, Row, Select, Src};
 pub use seq::Seq;
-pub use text::attr_text;
+pub use text::{
+    attr_text, write_communities, write_optional_number, write_spaced_numbers, write_spaced_pairs,
+};

@@ -1,4 +1,4 @@
-ghost use Rattle.std.specs.Prelude.{◌≡◌, ◌≤◌, ◌==◌, ◌↔◌, [], ◌∷◌, length, Err, IfOk, OnOk, OnErr};
+ghost use Rattle.std.specs.Prelude.{◌≡◌, ◌<◌, ◌≤◌, ◌==◌, ◌↔◌, [], ◌∷◌, length, Err, IfOk, OnOk, OnErr, MatchOption};
 ghost use Rattle.attrs.specs.declared.path.PathFault.TheVariants.{Memory};
 
 use bits_ip::OutOfMemory;
@@ -62,6 +62,18 @@ impl Path {
         Path { numbers }
     }
 
+    /// The path of these numbers, where they are at most 120. Takes no memory.
+    pub fn try_from_vec(numbers: Vec<u32>) -> Option<Path>
+        ensures { MatchOption result
+            (120 < length numbers.items)
+            (λ path. (path ≡ numbers.items) × (length numbers.items ≤ 120)) }
+    {
+        if numbers.len() > MAX_LEN {
+            return None;
+        }
+        Some(Path { numbers })
+    }
+
     /// The numbers as a `Vec`. Takes no memory.
     pub fn into_vec(self) -> Vec<u32>
         ensures { result.items ≡ self }
@@ -89,9 +101,9 @@ impl Path {
         self.numbers.is_empty()
     }
 
-    /// Puts a number before the others, as the autonomous system through which the route is sent on does (RFC 4271,
-    /// sections 5.1.2 and 9.1). `PathLong` comes exactly at the limit of 120 numbers, which is this project's own;
-    /// `Memory` only below it.
+    /// Puts a number before the others, as the autonomous system through which the route is sent on
+    /// does (RFC 4271, sections 5.1.2 and 9.1). `PathLong` comes exactly at the limit of 120
+    /// numbers, which is this project's own; `Memory` only below it.
     pub fn prepend(&mut self, number: u32) -> Result<(), PathFault>
         ensures prepended { OnOk result (self.new ≡ number ∷ self.old) }
         ensures long { (result ≡ Err PathFault.PathLong) ↔ (length self.old ≡ 120) }

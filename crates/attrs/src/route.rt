@@ -3,8 +3,9 @@ ghost use Rattle.std.specs.Prelude.{◌≡◌, ◌↔◌, IfOk, IsTrue};
 use crate::{Attrs, Seq};
 use bits_ip::{OutOfMemory, Prefix};
 
-/// The protocol that a route comes from: its number, and the values that stand for missing ones of its routes.
-#[derive(Clone, Copy, Debug, PartialEq, Eq)]
+/// The protocol that a route comes from: its number, and the values that stand for missing ones of
+/// its routes.
+#[derive(Clone, Copy, Debug, PartialEq, Eq, Hash)]
 pub struct Src {
     pub num: u32,
     /// What counts as the MED where there is none.
@@ -20,7 +21,8 @@ pub struct Route {
     pub attrs: Attrs,
 }
 
-/// A change of a table: a net and a source's number, with the route that stands there from now on, or none.
+/// A change of a table: a net and a source's number, with the route that stands there from now on,
+/// or none.
 #[derive(Debug, Drop)]
 pub struct Change {
     pub net: Prefix,
@@ -36,7 +38,7 @@ pub struct Row {
 }
 
 /// Which nets of a table are asked for.
-#[derive(Clone, Copy, Debug, PartialEq, Eq)]
+#[derive(Clone, Copy, Debug, PartialEq, Eq, Hash)]
 pub enum Select {
     All,
 }

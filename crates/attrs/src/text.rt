@@ -3,12 +3,12 @@ ghost use Rattle.std.specs.List.{flat_map};
 ghost use Rattle.bits_ip.specs.Text.{addr_text};
 ghost use Rattle.attrs.specs.Text.{attrs_text, community_text, dest_text, kind_text, list_text, optional_text, origin_text, peer_text};
 
-use crate::{Attrs, Clist, Dest, Kind, Origin, Path};
-use bits_ip::{Addr, OutOfMemory, write_addr};
-use itoa::Buffer;
+use crate::{Attrs, Clist, Kind, Origin, Path};
+use bits_ip::{Addr, OutOfMemory, write_addr, write_number};
 use std::alloc::Global;
 
-/// Appends the attributes as one line without its end: the fields in their order, without what is absent or empty.
+/// Appends the attributes as one line without its end: the fields in their order, without what is
+/// absent or empty.
 pub fn attr_text(alloc: Global, attrs: &Attrs, out: &mut Vec<u8>) -> Result<(), OutOfMemory>
     ensures written { OnOk result (out.new.items ≡ out.old.items ++ attrs_text attrs.now) }
     ensures refused { OnErr result (out.new.items ≡ out.old.items) }
@@ -32,20 +32,24 @@ fn append_attrs(alloc: Global, attrs: &Attrs, out: &mut Vec<u8>) -> Result<(), O
 
 /// The fields that each route has: the preference, the kind and what is done with packets.
 fn write_head(attrs: &Attrs, out: &mut Vec<u8>) -> Result<(), OutOfMemory>
-    ensures { OnOk result (out.new.items ≡ out.old.items ++ codes "pref " ++ decimal attrs.now.pref ++ 32 ∷ kind_text attrs.now.kind ++ 32 ∷ dest_text attrs.now.dest) }
+    ensures { OnOk result (out.new.items ≡ out.old.items ++ codes "pref " ++ decimal attrs.now.pref
+        ++ 32 ∷ kind_text attrs.now.kind ++ 32 ∷ dest_text attrs.now.dest) }
 {
     out.extend_from_slice(b"pref ")?;
     write_number(attrs.pref, out)?;
     out.push(b' ')?;
-    out.extend_from_slice(kind_word(attrs.kind).as_bytes())?;
+    out.extend_from_slice(attrs.kind.word().as_bytes())?;
     out.push(b' ')?;
-    out.extend_from_slice(dest_word(attrs.dest).as_bytes())?;
+    out.extend_from_slice(attrs.dest.word().as_bytes())?;
     Ok(())
 }
 
 /// Where packets go, and from whom the route was learned.
 fn write_neighbour(alloc: Global, attrs: &Attrs, out: &mut Vec<u8>) -> Result<(), OutOfMemory>
-    ensures { OnOk result (out.new.items ≡ out.old.items ++ optional_text (codes " gw ") addr_text attrs.now.gw ++ optional_text (codes " from ") addr_text attrs.now.sender ++ peer_text attrs.now.kind attrs.now.peer_id attrs.now.ebgp) }
+    ensures { OnOk result (out.new.items ≡ out.old.items
+        ++ optional_text (codes " gw ") addr_text attrs.now.gw
+        ++ optional_text (codes " from ") addr_text attrs.now.sender
+        ++ peer_text attrs.now.kind attrs.now.peer_id attrs.now.ebgp) }
 {
     write_optional_addr(alloc, " gw ", attrs.gw, out)?;
     write_optional_addr(alloc, " from ", attrs.sender, out)?;
@@ -54,7 +58,10 @@ fn write_neighbour(alloc: Global, attrs: &Attrs, out: &mut Vec<u8>) -> Result<()
 
 /// The path that the route came by, with its origin and its next hop.
 fn write_way(alloc: Global, attrs: &Attrs, out: &mut Vec<u8>) -> Result<(), OutOfMemory>
-    ensures { OnOk result (out.new.items ≡ out.old.items ++ list_text (codes " path") decimal attrs.now.path ++ optional_text (codes " origin ") origin_text attrs.now.origin ++ optional_text (codes " nh ") addr_text attrs.now.next_hop) }
+    ensures { OnOk result (out.new.items ≡ out.old.items
+        ++ list_text (codes " path") decimal attrs.now.path
+        ++ optional_text (codes " origin ") origin_text attrs.now.origin
+        ++ optional_text (codes " nh ") addr_text attrs.now.next_hop) }
 {
     write_path(&attrs.path, out)?;
     write_optional_origin(attrs.origin, out)?;
@@ -63,57 +70,25 @@ fn write_way(alloc: Global, attrs: &Attrs, out: &mut Vec<u8>) -> Result<(), OutO
 
 /// The numbers by which routes are compared.
 fn write_metrics(attrs: &Attrs, out: &mut Vec<u8>) -> Result<(), OutOfMemory>
-    ensures { OnOk result (out.new.items ≡ out.old.items ++ optional_text (codes " med ") decimal attrs.now.med ++ optional_text (codes " lp ") decimal attrs.now.lp ++ optional_text (codes " igp ") decimal attrs.now.igp) }
+    ensures { OnOk result (out.new.items ≡ out.old.items
+        ++ optional_text (codes " med ") decimal attrs.now.med
+        ++ optional_text (codes " lp ") decimal attrs.now.lp
+        ++ optional_text (codes " igp ") decimal attrs.now.igp) }
 {
     write_optional_number(" med ", attrs.med, out)?;
     write_optional_number(" lp ", attrs.lp, out)?;
     write_optional_number(" igp ", attrs.igp, out)
 }
 
-fn kind_word(kind: Kind) -> &'static str
-    ensures { result.now ≡ kind_text kind }
-{
-    match kind {
-        Kind::Static => "static",
-        Kind::Bgp => "bgp",
-    }
-}
-
-fn dest_word(dest: Dest) -> &'static str
-    ensures { result.now ≡ dest_text dest }
-{
-    match dest {
-        Dest::Unicast => "unicast",
-        Dest::Blackhole => "blackhole",
-        Dest::Unreachable => "unreachable",
-        Dest::Prohibit => "prohibit",
-    }
-}
-
-fn origin_word(origin: Origin) -> &'static str
-    ensures { result.now ≡ origin_text origin }
-{
-    match origin {
-        Origin::Igp => "igp",
-        Origin::Egp => "egp",
-        Origin::Incomplete => "incomplete",
-    }
-}
-
-fn write_number(number: u32, out: &mut Vec<u8>) -> Result<(), OutOfMemory>
-    ensures { OnOk result (out.new.items ≡ out.old.items ++ decimal number) }
-{
-    let mut buffer = Buffer::new();
-    out.extend_from_slice(buffer.format(number).as_bytes())?;
-    Ok(())
-}
-
-fn write_optional_number(
+/// Appends a label and a number in decimal, where there is a number. On refusal a part of it may
+/// stand.
+pub fn write_optional_number(
     label: &str,
     number: Option<u32>,
     out: &mut Vec<u8>,
 ) -> Result<(), OutOfMemory>
-    ensures { OnOk result (out.new.items ≡ out.old.items ++ optional_text label.now decimal number) }
+    ensures { OnOk result (out.new.items ≡ out.old.items
+        ++ optional_text label.now decimal number) }
 {
     let Some(number) = number else {
         return Ok(());
@@ -128,7 +103,8 @@ fn write_optional_addr(
     addr: Option<Addr>,
     out: &mut Vec<u8>,
 ) -> Result<(), OutOfMemory>
-    ensures { OnOk result (out.new.items ≡ out.old.items ++ optional_text label.now addr_text addr) }
+    ensures { OnOk result (out.new.items ≡ out.old.items
+        ++ optional_text label.now addr_text addr) }
 {
     let Some(addr) = addr else {
         return Ok(());
@@ -138,19 +114,22 @@ fn write_optional_addr(
 }
 
 fn write_optional_origin(origin: Option<Origin>, out: &mut Vec<u8>) -> Result<(), OutOfMemory>
-    ensures { OnOk result (out.new.items ≡ out.old.items ++ optional_text (codes " origin ") origin_text origin) }
+    ensures { OnOk result (out.new.items ≡ out.old.items
+        ++ optional_text (codes " origin ") origin_text origin) }
 {
     let Some(origin) = origin else {
         return Ok(());
     };
     out.extend_from_slice(b" origin ")?;
-    out.extend_from_slice(origin_word(origin).as_bytes())?;
+    out.extend_from_slice(origin.word().as_bytes())?;
     Ok(())
 }
 
-/// What only routes of BGP have: the neighbour's router id, and whether it is in another autonomous system.
+/// What only routes of BGP have: the neighbour's router id, and whether it is in another autonomous
+/// system.
 fn write_peer(alloc: Global, attrs: &Attrs, out: &mut Vec<u8>) -> Result<(), OutOfMemory>
-    ensures { OnOk result (out.new.items ≡ out.old.items ++ peer_text attrs.now.kind attrs.now.peer_id attrs.now.ebgp) }
+    ensures { OnOk result (out.new.items ≡ out.old.items
+        ++ peer_text attrs.now.kind attrs.now.peer_id attrs.now.ebgp) }
 {
     if attrs.kind == Kind::Static {
         return Ok(());
@@ -162,7 +141,8 @@ fn write_peer(alloc: Global, attrs: &Attrs, out: &mut Vec<u8>) -> Result<(), Out
 }
 
 fn write_path(path: &Path, out: &mut Vec<u8>) -> Result<(), OutOfMemory>
-    ensures { OnOk result (out.new.items ≡ out.old.items ++ list_text (codes " path") decimal path.now) }
+    ensures { OnOk result (out.new.items ≡ out.old.items
+        ++ list_text (codes " path") decimal path.now) }
 {
     if path.is_empty() {
         return Ok(());
@@ -171,9 +151,10 @@ fn write_path(path: &Path, out: &mut Vec<u8>) -> Result<(), OutOfMemory>
     write_spaced_numbers(path.as_slice(), out)
 }
 
-/// Appends each number, with a space before it.
-fn write_spaced_numbers(numbers: &[u32], out: &mut Vec<u8>) -> Result<(), OutOfMemory>
-    ensures { OnOk result (out.new.items ≡ out.old.items ++ flat_map (λ number. 32 ∷ decimal number) numbers.now) }
+/// Appends each number in decimal, with a space before it. On refusal a part of it may stand.
+pub fn write_spaced_numbers(numbers: &[u32], out: &mut Vec<u8>) -> Result<(), OutOfMemory>
+    ensures { OnOk result (out.new.items ≡ out.old.items
+        ++ flat_map (λ number. 32 ∷ decimal number) numbers.now) }
 {
     for number in numbers {
         out.push(b' ')?;
@@ -182,8 +163,10 @@ fn write_spaced_numbers(numbers: &[u32], out: &mut Vec<u8>) -> Result<(), OutOfM
     Ok(())
 }
 
-fn write_communities(communities: &Clist, out: &mut Vec<u8>) -> Result<(), OutOfMemory>
-    ensures { OnOk result (out.new.items ≡ out.old.items ++ list_text (codes " com") community_text communities.now) }
+/// Appends ` com` and each community, where there are some. On refusal a part of it may stand.
+pub fn write_communities(communities: &Clist, out: &mut Vec<u8>) -> Result<(), OutOfMemory>
+    ensures { OnOk result (out.new.items ≡ out.old.items
+        ++ list_text (codes " com") community_text communities.now) }
 {
     if communities.is_empty() {
         return Ok(());
@@ -192,15 +175,17 @@ fn write_communities(communities: &Clist, out: &mut Vec<u8>) -> Result<(), OutOf
     write_spaced_pairs(communities.as_slice(), out)
 }
 
-/// Appends each pair, with a space before it.
-fn write_spaced_pairs(pairs: &[(u16, u16)], out: &mut Vec<u8>) -> Result<(), OutOfMemory>
-    ensures { OnOk result (out.new.items ≡ out.old.items ++ flat_map (λ pair. 32 ∷ community_text pair) pairs.now) }
+/// Appends each community as `SYSTEM:VALUE` in decimal, with a space before it (RFC 1997). On
+/// refusal a part of it may stand.
+pub fn write_spaced_pairs(pairs: &[(u16, u16)], out: &mut Vec<u8>) -> Result<(), OutOfMemory>
+    ensures { OnOk result (out.new.items ≡ out.old.items
+        ++ flat_map (λ pair. 32 ∷ community_text pair) pairs.now) }
 {
     for (system, value) in pairs {
         out.push(b' ')?;
-        write_number(u32::from(*system), out)?;
+        write_number(*system, out)?;
         out.push(b':')?;
-        write_number(u32::from(*value), out)?;
+        write_number(*value, out)?;
     }
     Ok(())
 }

@@ -3,7 +3,9 @@ mod Colons
 mod Dotted
 mod Groups
 pub mod Nets
+mod Numerals
 mod Octets
 mod Slashed
 mod Spelled
 mod Splits
+mod ZeroRuns

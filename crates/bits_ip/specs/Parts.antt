@@ -8,7 +8,8 @@ use Rattle.bits_ip.specs.Text.{AreGroups}
 
 -- what stands before the first such byte, and what stands behind it
 abbrev pub split_first : ℕ → List ℕ → Option (List ℕ × List ℕ)
-split_first mark text = option_map (λ i. (take i text, drop (i + 1) text)) (position (λ b. b == mark) text)
+split_first mark text =
+    option_map (λ i. (take i text, drop (i + 1) text)) (position (λ b. b == mark) text)
 
 -- the text is a number below 256 without leading zeros
 abbrev pub IsOctet : List ℕ → ℕ → Type 0

@@ -20,6 +20,10 @@ pub record IsPrefix (addr : Addr) (len : ℕ) : Type 0 where
 abbrev pub front_bits : Addr → ℕ → ℕ
 front_bits addr len = number_of addr / 2 ^ (width_of addr - len)
 
+-- the bit at this place, the first at 0
+abbrev pub bit_at : Addr → ℕ → ℕ
+bit_at addr i = number_of addr / 2 ^ (width_of addr - 1 - i) % 2
+
 -- a covers b: one family, a isn't longer, and the bits of a agree
 pub record Covers (a b : Net) : Type 0 where
   pub family : family_of a.addr ≡ family_of b.addr
@@ -28,7 +32,9 @@ pub record Covers (a b : Net) : Type 0 where
 
 -- the order of nets: by family, then by address, then by length
 abbrev pub net_cmp : Net → Net → Ordering
-net_cmp = then_cmp (on (λ n. family_rank n.addr) nat_cmp) (then_cmp (on (λ n. number_of n.addr) nat_cmp) (on (λ n. n.len) nat_cmp))
+net_cmp =
+    then_cmp (on (λ n. family_rank n.addr) nat_cmp)
+    (then_cmp (on (λ n. number_of n.addr) nat_cmp) (on (λ n. n.len) nat_cmp))
 
 abbrev pub precedes : Net → Net → Bool
 precedes a b = is_lt (net_cmp a b)

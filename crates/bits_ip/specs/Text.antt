@@ -10,7 +10,9 @@ use Rattle.bits_ip.specs.Prefix.{Net, IsPrefix}
 
 -- IPv4: four numbers joined by dots, each without leading zeros
 abbrev pub v4_text : ℕ → List ℕ
-v4_text n = decimal (n / 2 ^ 24) ++ 46 ∷ [] ++ decimal (n / 2 ^ 16 % 256) ++ 46 ∷ [] ++ decimal (n / 2 ^ 8 % 256) ++ 46 ∷ [] ++ decimal (n % 256)
+v4_text n =
+    decimal (n / 2 ^ 24) ++ 46 ∷ [] ++ decimal (n / 2 ^ 16 % 256) ++ 46 ∷ []
+    ++ decimal (n / 2 ^ 8 % 256) ++ 46 ∷ [] ++ decimal (n % 256)
 
 -- IPv6: the eight groups of sixteen bits
 abbrev pub groups : ℕ → List ℕ
@@ -41,11 +43,29 @@ run_start len (g ∷ gs) = if zero_run (g ∷ gs) == len then 0 else run_start l
 abbrev pub short_text : ℕ → ℕ → List ℕ → List ℕ
 short_text start len gs = colon_text (take start gs) ++ 58 ∷ 58 ∷ colon_text (drop (start + len) gs)
 
--- RFC 5952, section 4: small letters, no leading zeros, and the longest run of two or more zero groups left out
+-- RFC 5952, section 4: small letters, no leading zeros, and the longest run of two or more zero
+-- groups left out
 abbrev pub v6_text : ℕ → List ℕ
 v6_text n =
     let gs = groups n in let len = longest_run gs in
     if nat_le len 1 then colon_text gs else short_text (run_start len gs) len gs
+
+-- So many zeros stand together between these groups: more stand together nowhere, and as many nowhere
+-- earlier.
+pub record IsLongestRun (front : List ℕ) (len : ℕ) (back gs : List ℕ) : Type 0 where
+  pub whole : gs ≡ front ++ replicate len 0 ++ back
+  pub longest : (before : List ℕ) (n : ℕ) (behind : List ℕ) → gs ≡ before ++ replicate n 0 ++ behind
+      → (n ≤ len) × (n ≡ len → length front ≤ length before)
+
+-- RFC 5952, section 4.2, in its own words: two colons stand for the longest run of zeros, for the
+-- first of the longest, and never for a single group.
+pub record IsShortText (text gs : List ℕ) : Type 0 where
+  pub front : List ℕ
+  pub len : ℕ
+  pub back : List ℕ
+  pub run : IsLongestRun front len back gs
+  pub text_is : text
+      ≡ (if nat_le len 1 then colon_text gs else colon_text front ++ 58 ∷ 58 ∷ colon_text back)
 
 abbrev pub addr_text : Addr → List ℕ
 addr_text (V4 n) = v4_text n
@@ -54,9 +74,12 @@ addr_text (V6 n) = v6_text n
 abbrev pub net_text : Net → List ℕ
 net_text net = addr_text net.addr ++ 47 ∷ decimal net.len
 
--- The bytes of addresses are hexadecimal digits, dots and colons; those of prefixes have slashes too.
+-- The bytes of addresses are hexadecimal digits, dots and colons; those of prefixes have slashes
+-- too.
 abbrev pub is_addr_byte : ℕ → Bool
-is_addr_byte b = is_ascii_digit b || (nat_le 65 b && nat_le b 70) || (nat_le 97 b && nat_le b 102) || (b == 46) || (b == 58)
+is_addr_byte b =
+    is_ascii_digit b || (nat_le 65 b && nat_le b 70) || (nat_le 97 b && nat_le b 102)
+    || (b == 46) || (b == 58)
 
 abbrev pub is_net_byte : ℕ → Bool
 is_net_byte b = is_addr_byte b || (b == 47)

@@ -6,7 +6,7 @@ use Rattle.attrs.specs.declared.route.Change.{Change}
 use Rattle.attrs.specs.declared.route.Route.{Route}
 use Rattle.attrs.specs.declared.route.Row.{Row}
 use Rattle.attrs.specs.Selection.{before}
-use Rattle.attrs.specs.Table.{IsBelow, IsInOrder, IsOfSources, route_of, routes_of}
+use Rattle.attrs.specs.Table.{IsBelow, IsOfSources, IsSorted, route_of, routes_of}
 use Rattle.rib.specs.declared.nets.NetRoutes.{NetRoutes}
 use Rattle.rib.specs.Inside.{AreNets, rows_of}
 
@@ -30,9 +30,9 @@ abbrev pub goes_first : Route → List Route → Bool
 goes_first route [] = true
 goes_first route (r ∷ rest) = before route r
 
--- routes of different sources in selection order
+-- routes of different sources, each before all that follow it
 pub record AreRoutes (routes : List Route) : Type 0 where
-  pub order : IsInOrder routes
+  pub order : IsSorted routes
   pub sources : IsOfSources routes
 
 -- one source has another route now, or none
@@ -43,15 +43,19 @@ pub record Replaces (num : ℕ) (new : Option Route) (old now : List Route) : Ty
 
 -- one net has other routes now, of which one has changed
 pub record Changes (change : Change) (old now : List Row) : Type 0 where
-  pub own : (n : ℕ) → route_of n (routes_of change.net now) ≡ (if n == change.num then change.new else route_of n (routes_of change.net old))
+  pub own : (n : ℕ) → route_of n (routes_of change.net now)
+      ≡ (if n == change.num then change.new else route_of n (routes_of change.net old))
   pub others : (net : Net) → same_net net change.net ≡ false → routes_of net now ≡ routes_of net old
 
 -- the net's routes are others now, and all else stands
-pub record Leaves (net : Net) (before after : List Route) (old now : List NetRoutes) (count : ℕ) : Type 0 where
+pub record Leaves
+    (net : Net) (before after : List Route) (old now : List NetRoutes) (count : ℕ)
+    : Type 0 where
   pub nets : AreNets (family_of net.addr) now count
   pub had : routes_of net (rows_of old) ≡ before
   pub has : routes_of net (rows_of now) ≡ after
-  pub others : (n : Net) → same_net n net ≡ false → routes_of n (rows_of now) ≡ routes_of n (rows_of old)
+  pub others : (n : Net) → same_net n net ≡ false
+      → routes_of n (rows_of now) ≡ routes_of n (rows_of old)
 
 -- the rows stand before the net
 abbrev pub AreBelow : List Row → Net → Type 0

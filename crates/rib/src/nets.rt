@@ -79,9 +79,12 @@ fn change_kept(kept: &mut NetRoutes, total: &mut u64, num: u32, new: Option<Rout
     requires source { IfSome new (λ route. route.src.num ≡ num) }
     ensures net { kept.new.net ≡ kept.old.net }
     ensures routes { Replaces num new kept.old.routes.items kept.new.routes.items }
-    ensures total { total.new + length kept.old.routes.items ≡ total.old + length kept.new.routes.items }
+    ensures total { total.new + length kept.old.routes.items
+        ≡ total.old + length kept.new.routes.items }
     ensures same { (result ≡ Outcome.Same) ↔ (route_of num kept.old.routes.items ≡ new) }
-    ensures moved { IfChanged result (λ moved. IsTrue moved ↔ (first_of kept.new.routes.items ≢ first_of kept.old.routes.items)) }
+    ensures moved { IfChanged result
+        (λ moved. IsTrue moved
+        ↔ (first_of kept.new.routes.items ≢ first_of kept.old.routes.items)) }
 {
     *total -= kept.routes.len() as u64;
     let outcome = change_routes(&mut kept.routes, num, new);
@@ -98,8 +101,12 @@ fn change_at(nets: &mut Vec<NetRoutes>, total: &mut u64, place: usize, change: C
     requires source { IfSome change.new (λ route. route.src.num ≡ change.num) }
     ensures nets { AreNets (family_of change.net.addr) nets.new.items total.new }
     ensures changes { Changes change (rows_of nets.old.items) (rows_of nets.new.items) }
-    ensures same { (result ≡ Outcome.Same) ↔ (route_in (rows_of nets.old.items) change.net change.num ≡ change.new) }
-    ensures moved { IfChanged result (λ moved. IsTrue moved ↔ (best_of change.net (rows_of nets.new.items) ≢ best_of change.net (rows_of nets.old.items))) }
+    ensures same { (result ≡ Outcome.Same)
+        ↔ (route_in (rows_of nets.old.items) change.net change.num ≡ change.new) }
+    ensures moved { IfChanged result
+        (λ moved. IsTrue moved
+        ↔ (best_of change.net (rows_of nets.new.items)
+        ≢ best_of change.net (rows_of nets.old.items))) }
 {
     let Change { net: _, num, new } = change;
     let outcome = change_kept(&mut nets[place], total, num, new);
@@ -149,8 +156,12 @@ pub(crate) fn change_nets(
     ensures nets { AreNets (family_of change.net.addr) nets.new.items total.new }
     ensures empty { spare.new.items ≡ [] }
     ensures changes { Changes change (rows_of nets.old.items) (rows_of nets.new.items) }
-    ensures same { (result ≡ Outcome.Same) ↔ (route_in (rows_of nets.old.items) change.net change.num ≡ change.new) }
-    ensures moved { IfChanged result (λ moved. IsTrue moved ↔ (best_of change.net (rows_of nets.new.items) ≢ best_of change.net (rows_of nets.old.items))) }
+    ensures same { (result ≡ Outcome.Same)
+        ↔ (route_in (rows_of nets.old.items) change.net change.num ≡ change.new) }
+    ensures moved { IfChanged result
+        (λ moved. IsTrue moved
+        ↔ (best_of change.net (rows_of nets.new.items)
+        ≢ best_of change.net (rows_of nets.old.items))) }
 {
     let place = match place_of_net(nets, &change.net) {
         Ok(place) => return change_at(nets, total, place, change),
@@ -193,6 +204,27 @@ pub(crate) fn copy_rows(alloc: Global, nets: &[NetRoutes]) -> Result<Vec<Row>, O
     let mut rows = Vec::with_capacity(alloc, nets.len())?;
     for kept in nets {
         rows.push(copy_row(alloc, kept)?)?;
+    }
+    Ok(rows)
+}
+
+fn move_row(kept: NetRoutes) -> Row
+    ensures { result ≡ row_of kept }
+{
+    let NetRoutes { net, routes } = kept;
+    Row {
+        net,
+        routes: Seq::from_vec(routes),
+    }
+}
+
+/// All rows, with the routes moved out of the nets.
+pub(crate) fn move_rows(nets: Vec<NetRoutes>) -> Result<Vec<Row>, OutOfMemory>
+    ensures { IfOk result (λ rows. rows.items ≡ rows_of nets.items) }
+{
+    let mut rows = Vec::with_capacity(*nets.allocator(), nets.len())?;
+    for kept in nets {
+        rows.push(move_row(kept))?;
     }
     Ok(rows)
 }

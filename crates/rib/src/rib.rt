@@ -3,10 +3,10 @@ ghost use Rattle.bits_ip.specs.Address.{family_of};
 ghost use Rattle.bits_ip.specs.Prefix.{Net};
 ghost use Rattle.attrs.specs.History.{after};
 ghost use Rattle.attrs.specs.Table.{AreRows, route_in, count_routes};
-ghost use Rattle.rib.specs.Rib.{best_of};
+ghost use Rattle.rib.specs.Rib.{best_of, AreOfFamily};
 ghost use Rattle.rib.specs.Outcome.{IfChanged};
 
-use crate::nets::{NetRoutes, change_nets, copy_rows, find_routes, reserve_nets};
+use crate::nets::{NetRoutes, change_nets, copy_rows, find_routes, move_rows, reserve_nets};
 use crate::routes::{find_route, same_routes};
 use attrs::{Change, Route, Row, Select};
 use bits_ip::{Family, OutOfMemory, Prefix};
@@ -57,10 +57,11 @@ impl Rib {
         }
     }
 
-    /// Makes room for any change of this change's key, until the next change. OutOfMemory comes where memory is refused,
-    /// and where one more route couldn't be counted.
+    /// Makes room for any change of this change's key, until the next change. OutOfMemory comes
+    /// where memory is refused, and where one more route couldn't be counted.
     pub fn reserve(&mut self, change: &Change) -> Result<(), OutOfMemory>
-        ensures made { OnOk result (self.new ≡ record self.old { room = Some (change.now.net, change.now.num) }) }
+        ensures made { OnOk result
+            (self.new ≡ record self.old { room = Some (change.now.net, change.now.num) }) }
         ensures refused { OnErr result (self.new ≡ self.old) }
     {
         if self.total == u64::MAX {
@@ -71,17 +72,23 @@ impl Rib {
         Ok(())
     }
 
-    /// Puts the change's route in the place of the key's, or takes the key's route away. Takes no memory.
+    /// Puts the change's route in the place of the key's, or takes the key's route away. Takes no
+    /// memory.
     pub fn change(&mut self, change: Change) -> Outcome
         requires room { self.old.room ≡ Some (change.net, change.num) }
         requires family { family_of change.net.addr ≡ self.old.family }
         requires source { IfSome change.new (λ route. route.src.num ≡ change.num) }
-        ensures routes { (net : Net) (num : ℕ) → route_in self.new.rows net num ≡ after (route_in self.old.rows) (change ∷ []) net num }
+        ensures routes { (net : Net) (num : ℕ)
+            → route_in self.new.rows net num
+            ≡ after (route_in self.old.rows) (change ∷ []) net num }
         ensures rows { AreRows self.new.rows }
         ensures family { self.new.family ≡ self.old.family }
         ensures room { self.new.room ≡ None }
-        ensures same { (result ≡ Outcome.Same) ↔ (route_in self.old.rows change.net change.num ≡ change.new) }
-        ensures moved { IfChanged result (λ moved. IsTrue moved ↔ (best_of change.net self.new.rows ≢ best_of change.net self.old.rows)) }
+        ensures same { (result ≡ Outcome.Same)
+            ↔ (route_in self.old.rows change.net change.num ≡ change.new) }
+        ensures moved { IfChanged result
+            (λ moved. IsTrue moved
+            ↔ (best_of change.net self.new.rows ≢ best_of change.net self.old.rows)) }
     {
         self.room = None;
         change_nets(&mut self.nets, &mut self.spare, &mut self.total, change)
@@ -89,20 +96,33 @@ impl Rib {
 
     /// Whether the key's route is the given one already.
     pub fn stands(&self, change: &Change) -> bool
-        ensures { IsTrue result ↔ (route_in self.now.rows change.now.net change.now.num ≡ change.now.new) }
+        ensures { IsTrue result
+            ↔ (route_in self.now.rows change.now.net change.now.num ≡ change.now.new) }
     {
         let routes = find_routes(&self.nets, &change.net);
         same_routes(find_route(routes, change.num), change.new.as_ref())
     }
 
-    /// A copy of the rows that are asked for, in the order of nets. OutOfMemory comes only where memory is refused.
+    /// A copy of the rows that are asked for, in the order of nets.
     pub fn select(&self, pick: &Select) -> Result<Vec<Row>, OutOfMemory>
         ensures rows { IfOk result (λ rows. rows.items ≡ self.now.rows) }
         ensures are_rows { AreRows self.now.rows }
+        ensures family { AreOfFamily self.now.family self.now.rows }
     {
         match pick {
             Select::All => copy_rows(*self.nets.allocator(), &self.nets),
         }
+    }
+
+    /// The rows themselves, in the order of nets. No route is copied: memory is taken for the list
+    /// of rows alone.
+    pub fn into_rows(self) -> Result<Vec<Row>, OutOfMemory>
+        ensures rows { IfOk result (λ rows. rows.items ≡ self.rows) }
+        ensures are_rows { AreRows self.rows }
+        ensures family { AreOfFamily self.family self.rows }
+    {
+        let Rib { nets, .. } = self;
+        move_rows(nets)
     }
 
     /// How many routes there are.

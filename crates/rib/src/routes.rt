@@ -95,7 +95,8 @@ pub(crate) fn change_routes(routes: &mut Vec<Route>, num: u32, new: Option<Route
     requires source { IfSome new (λ route. route.src.num ≡ num) }
     ensures routes { Replaces num new routes.old.items routes.new.items }
     ensures same { (result ≡ Outcome.Same) ↔ (route_of num routes.old.items ≡ new) }
-    ensures moved { IfChanged result (λ moved. IsTrue moved ↔ (first_of routes.new.items ≢ first_of routes.old.items)) }
+    ensures moved { IfChanged result
+        (λ moved. IsTrue moved ↔ (first_of routes.new.items ≢ first_of routes.old.items)) }
 {
     if same_routes(find_route(routes, num), new.as_ref()) {
         return Outcome::Same;

@@ -20,4 +20,5 @@ returns-clause-routes c =
     let xs = c.args.routes.now.items in
     let is : c.unwrap_or-place.result ≡ position_or_len (before c.args.route) xs =
     place-is c.args.route xs c.deref.result.now _ _ _ c.unwrap_or-place.ensures c.place_for.ensures c.deref.ensures.value (omega (arith, c.args.routes.now.ok)) in
-    (rw c.unwrap.ensures at c.insert.ensures.items) ∙ ap (λ (i : ℕ). insert xs i c.args.route) is ∙ insert-placed c.args.route xs
+    ◌∙◌ {A = List Route} (rw c.unwrap.ensures at c.insert.ensures.items)
+    (ap (λ (i : ℕ). insert xs i c.args.route) is ∙ insert-placed c.args.route xs)
