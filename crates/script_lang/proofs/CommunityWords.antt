@@ -241,7 +241,7 @@ refused_community ClistLong word old pair is full = λ other other_is. (
     omega (arith, size, ap (λ (x : ℕ × ℕ). length (with_pair old x)) (community_agree word pair other is other_is)))
 refused_community Memory word old pair is full = tt
 
-once_of_com : (words rest : List (List ℕ)) → words ≡ codes "com" ∷ rest → (coms : List (ℕ × ℕ)) → IsCom words coms → AreOnce rest coms
+pub once_of_com : (words rest : List (List ℕ)) → words ≡ codes "com" ∷ rest → (coms : List (ℕ × ℕ)) → IsCom words coms → AreOnce rest coms
 once_of_com words rest label coms (inl none) = let whole : [] ≡ codes "com" ∷ rest = sym none.0 ∙ label in cc
 once_of_com words rest label coms (inr given) =
     let whole : codes "com" ∷ given.first ∷ given.more ≡ codes "com" ∷ rest = sym given.whole ∙ label in
