@@ -13,9 +13,9 @@ ghost use Rattle.script_lang.specs.Inside.{LacksNumber, BeginWithOption, BeginWi
 
 use crate::communities::read_com;
 use crate::refusal::Refusal;
-use crate::words::{read_v4, read_v4_net};
+use crate::words::parse_v4_prefix;
 use attrs::{Origin, Path};
-use bits_ip::{Addr, Prefix};
+use bits_ip::{Addr, Prefix, parse_v4};
 use import_core::Given;
 use std::alloc::Global;
 use text::{expect_word, next_word, read_number};
@@ -61,10 +61,10 @@ fn read_via(rest: &[u8]) -> Option<Via<'_>>
         (λ via. IsVia (words_of rest.now) via.net via.gateway (words_of via.rest.now)) }
 {
     let (word, rest) = next_word(rest)?;
-    let net = read_v4_net(word)?;
+    let net = parse_v4_prefix(word)?;
     let rest = expect_word(rest, b"via")?;
     let (word, rest) = next_word(rest)?;
-    let gateway = read_v4(word)?;
+    let gateway = parse_v4(word)?;
     let rest = expect_word(rest, b"path")?;
     Some(Via {
         net,

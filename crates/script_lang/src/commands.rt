@@ -10,8 +10,8 @@ ghost use Rattle.script_lang.specs.declared.commands.Verb.{Verb};
 use crate::add::read_add;
 use crate::refusal::Refusal;
 use crate::script::Line;
-use crate::words::{read_v4, read_v4_net};
-use bits_ip::Prefix;
+use crate::words::parse_v4_prefix;
+use bits_ip::{Prefix, parse_v4};
 use import_core::Op;
 use std::alloc::Global;
 use text::{expect_word, is_end, next_word};
@@ -159,7 +159,7 @@ fn read_open(rest: &[u8]) -> Option<u32>
         (λ id. (words_of rest.now ≡ v4_text id ∷ []) × (id < 2 ^ 32)) }
 {
     let (word, rest) = next_word(rest)?;
-    let id = read_v4(word)?;
+    let id = parse_v4(word)?;
     if is_end(rest) { Some(id) } else { None }
 }
 
@@ -169,7 +169,7 @@ fn read_del(rest: &[u8]) -> Option<Prefix>
         (λ net. IsDel (words_of rest.now) net) }
 {
     let (word, rest) = next_word(rest)?;
-    let net = read_v4_net(word)?;
+    let net = parse_v4_prefix(word)?;
     if is_end(rest) { Some(net) } else { None }
 }
 
