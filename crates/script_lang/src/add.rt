@@ -9,7 +9,8 @@ ghost use Rattle.text.specs.Lines.{words_of};
 ghost use Rattle.script_lang.specs.Script.{IsAdd};
 ghost use Rattle.script_lang.specs.Inside.{IfForm, HasNoNumber, BeginWithNumber, BeginWithNumbers};
 ghost use Rattle.script_lang.specs.Inside.{IsVia, IsOrigin, IsPathAndOrigin};
-ghost use Rattle.script_lang.specs.Inside.{LacksNumber, BeginWithOption, BeginWithOptions, AreNoOptions};
+ghost use Rattle.script_lang.specs.Inside.{LacksNumber, BeginWithOption, BeginWithOptions};
+ghost use Rattle.script_lang.specs.Inside.{AreNoOptions};
 
 use crate::communities::read_com;
 use crate::refusal::Refusal;
@@ -24,7 +25,8 @@ use text::{expect_word, next_word, read_number};
 pub fn read_add(alloc: Global, rest: &[u8]) -> Result<(Prefix, Given), Refusal>
     ensures { MatchResult result
         (λ found. IsAdd (words_of rest.now) found.0 found.1)
-        (λ refusal. IfForm refusal ((net : Net) (given : Given) → IsAdd (words_of rest.now) net given → ⊥)) }
+        (λ refusal. IfForm refusal ((net : Net) (given : Given)
+        → IsAdd (words_of rest.now) net given → ⊥)) }
 {
     let Some(via) = read_via(rest) else {
         return Err(Refusal::Form);
@@ -83,7 +85,8 @@ struct PathAndOrigin<'a> {
 
 fn read_path_and_origin(alloc: Global, rest: &[u8]) -> Result<PathAndOrigin<'_>, Refusal>
     ensures { MatchResult result
-        (λ found. IsPathAndOrigin (words_of rest.now) found.path found.origin (words_of found.rest.now))
+        (λ found. IsPathAndOrigin (words_of rest.now)
+        found.path found.origin (words_of found.rest.now))
         (λ refusal. IfForm refusal ((path : List ℕ) (origin : Origin) (more : List (List ℕ))
         → IsPathAndOrigin (words_of rest.now) path origin more → ⊥)) }
 {

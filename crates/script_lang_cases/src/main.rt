@@ -1,7 +1,8 @@
-//! Tries scripts that files of cases hold: what a script of the protocol p1 says, line by line, or at
-//! which line it is refused.
+//! Tries scripts that files of cases hold: what a script of the protocol p1 says, line by line, or
+//! at which line it is refused.
 //!
-//! An operation is written with its line's number, in the one spelling of scripts: `2: del 10.0.0.0/8`.
+//! An operation is written with its line's number, in the one spelling of scripts:
+//! `2: del 10.0.0.0/8`.
 #![tactic(auto)]
 
 mod reading;
