@@ -1,5 +1,5 @@
 -- Words say one thing at most.
-use Rattle.std.proofs.Common.{◌≡◌, ◌∙◌, sym, ap, refl, subst, ℕ, ◌+◌, List, [], ◌∷◌, ◌++◌, length, arith, Option}
+use Rattle.std.proofs.Common.{◌≡◌, ◌∙◌, sym, ap, refl, subst, ℕ, List, [], ◌∷◌, length, arith, Option}
 use Rattle.std.specs.Prelude.{codes}
 use Rattle.bits_ip.specs.Prefix.{Net}
 use Rattle.bits_ip.specs.Text.{IsAddrText, IsNetText, v4_text}

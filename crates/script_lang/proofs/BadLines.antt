@@ -1,8 +1,8 @@
 -- A text has one bad line at most, and none where it is a script.
-use Rattle.std.proofs.Common.{◌≡◌, ◌∙◌, sym, ap, refl, subst, ℕ, suc, ◌+◌, Bool, true, false, List, [], ◌∷◌, ◌++◌, length, arith, inl, inr, ◌⊎◌}
+use Rattle.std.proofs.Common.{◌≡◌, ◌∙◌, sym, ap, refl, subst, ℕ, suc, ◌+◌, false, List, [], ◌∷◌, ◌++◌, length, arith, inl, inr, ◌⊎◌}
 use Rattle.std.proofs.lemmas.Bool.{cases_Bool}
 use Rattle.script_lang.specs.declared.script.Line.{Line}
-use Rattle.script_lang.specs.Script.{AreLines, IsLine, IsScript, IsBadLine, lines_words, numbered, is_passed, without_comments}
+use Rattle.script_lang.specs.Script.{AreLines, IsLine, IsScript, IsBadLine, numbered, is_passed, without_comments}
 use Rattle.script_lang.proofs.ScriptLines.{line_passed, line_counted}
 
 -- the first of some lines says something, and those behind it do

@@ -1,10 +1,9 @@
 -- What the words of a line leave open once their front is read.
-use Rattle.std.proofs.Common.{◌≡◌, ◌∙◌, sym, ap, refl, subst, ℕ, ◌<◌, ◌^◌, List, [], ◌∷◌, length, arith, Result, Ok, Err, MatchResult}
+use Rattle.std.proofs.Common.{◌≡◌, ◌∙◌, sym, ap, subst, ℕ, ◌<◌, ◌^◌, List, [], ◌∷◌, arith, Result, Ok, Err, MatchResult}
 use Rattle.std.specs.Prelude.{codes}
 use Rattle.bits_ip.specs.Prefix.{Net}
 use Rattle.bits_ip.specs.Text.{v4_text}
 use Rattle.import_core.specs.declared.operation.Given.{Given}
-use Rattle.import_core.specs.declared.operation.Op.{Op}
 use Rattle.import_core.specs.declared.operation.Op.TheVariants.{SessionUp, Add, Del}
 use Rattle.script_lang.specs.declared.refusal.Refusal.{Refusal}
 use Rattle.script_lang.specs.declared.refusal.Refusal.TheVariants.{Form, Memory}
@@ -12,7 +11,7 @@ use Rattle.script_lang.specs.declared.commands.Verb.{Verb}
 use Rattle.script_lang.specs.declared.commands.Verb.TheVariants as verbs
 use Rattle.script_lang.specs.declared.script.Line.{Line}
 use Rattle.script_lang.specs.declared.script.Line.TheVariants.{Apply, Show}
-use Rattle.script_lang.specs.Script.{IsAdd, IsDel, IsOperation, IsCommand, IsLine, actor_word}
+use Rattle.script_lang.specs.Script.{IsAdd, IsDel, IsCommand, IsLine, actor_word}
 use Rattle.script_lang.specs.Inside.{IfForm, NoneIs, verb_text}
 
 pub form_more : (refusal : Refusal) (P Q : Type 0) → (P → Q) → IfForm refusal P → IfForm refusal Q

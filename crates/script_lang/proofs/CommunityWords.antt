@@ -1,5 +1,5 @@
 -- The communities of an `add`.
-use Rattle.std.proofs.Common.{◌≡◌, ◌∙◌, sym, ap, refl, subst, ℕ, ◌+◌, ◌<◌, ◌≤◌, ◌^◌, Bool, true, false, cond, eqb, ◌||◌, List, [], ◌∷◌, ◌++◌, length, length-append, arith, inl, inr, Result, Ok, Err, MatchResult}
+use Rattle.std.proofs.Common.{◌≡◌, ◌∙◌, sym, ap, refl, subst, ℕ, ◌<◌, ◌≤◌, ◌^◌, Bool, true, false, cond, eqb, ◌||◌, List, [], ◌∷◌, ◌++◌, length, length-append, arith, inl, inr, Result, Ok, Err, MatchResult}
 use Rattle.std.specs.Prelude.{codes, not, filter}
 use Rattle.std.specs.List.{list_all, take_while}
 use Rattle.std.specs.Int.{IsInRange}

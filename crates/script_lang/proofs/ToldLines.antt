@@ -1,5 +1,5 @@
 -- Each line says something or nothing, so each text is a script or has a bad line.
-use Rattle.std.proofs.Common.{◌≡◌, ◌∙◌, sym, ap, refl, subst, ℕ, ◌+◌, ◌<◌, ◌≤◌, ◌^◌, Bool, true, false, List, [], ◌∷◌, ◌++◌, length, arith, inl, inr, ◌⊎◌, Option, Some, None, Result, Ok, Err}
+use Rattle.std.proofs.Common.{◌≡◌, ◌∙◌, sym, ap, refl, subst, ℕ, ◌+◌, ◌<◌, ◌≤◌, ◌^◌, true, false, List, [], ◌∷◌, ◌++◌, length, arith, inl, inr, ◌⊎◌, Option, Some, None}
 use Rattle.std.specs.Prelude.{codes}
 use Rattle.std.proofs.lemmas.Bool.{cases_Bool}
 use Rattle.std.proofs.lemmas.Bool.Decides.{leb_tells}
@@ -17,14 +17,14 @@ use Rattle.script_lang.specs.declared.commands.Verb.{Verb}
 use Rattle.script_lang.specs.declared.commands.Verb.TheVariants as verbs
 use Rattle.script_lang.specs.declared.script.Line.{Line}
 use Rattle.script_lang.specs.declared.script.Line.TheVariants.{Apply, Show}
-use Rattle.script_lang.specs.Script.{AreNumbers, AreCommunities, IsCommunity, IsCom, IsAdd, IsDel, IsCommand, IsLine, AreLines, IsScript, IsBadLine, lines_words, numbered, is_passed, without_comments, actor_word, each_once}
-use Rattle.script_lang.specs.Inside.{HasNoNumber, BeginWithNumbers, IsVia, IsOrigin, IsPathAndOrigin, LacksNumber, BeginWithOption, BeginWithOptions, AreOptions, AreNoOptions, AreOnce, verb_text}
+use Rattle.script_lang.specs.Script.{AreCommunities, IsCommunity, IsCom, IsAdd, IsDel, IsCommand, IsLine, AreLines, IsScript, IsBadLine, lines_words, numbered, is_passed, without_comments, actor_word, each_once}
+use Rattle.script_lang.specs.Inside.{HasNoNumber, BeginWithNumbers, IsVia, IsOrigin, IsPathAndOrigin, LacksNumber, BeginWithOption, BeginWithOptions, AreNoOptions, AreOnce, verb_text}
 use Rattle.script_lang.proofs.AddParts.{no_via, no_origin, path_too_long, no_path_behind, no_options_behind, no_com_behind, add_read}
 use Rattle.script_lang.proofs.CommandParts.{first_word, words_behind, no_verb, no_command, no_open, no_add, no_del, no_show}
 use Rattle.script_lang.proofs.CommunityWords.{communities_agree, once_of_com}
 use Rattle.script_lang.proofs.Options.{options_begin, option_same, moved}
 use Rattle.script_lang.proofs.ScriptLines.{line_passed, line_counted}
-use Rattle.script_lang.proofs.ToldWords.{Told, Found, told_both, told_less, told_number, told_word, found_number, found_id, found_address, found_net, found_origin, found_community}
+use Rattle.script_lang.proofs.ToldWords.{Told, Found, told_both, told_less, told_word, found_number, found_id, found_address, found_net, found_origin, found_community}
 
 -- no words begin as some do
 no_words : (word : List ℕ) (words : List (List ℕ)) → [] ≡ word ∷ words → ⊥

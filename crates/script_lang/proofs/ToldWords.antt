@@ -1,11 +1,11 @@
 -- Each word spells something or nothing: a search tells which.
-use Rattle.std.proofs.Common.{◌≡◌, ◌∙◌, sym, ap, refl, subst, ℕ, zero, suc, ◌+◌, ◌-◌, ◌*◌, ◌%◌, ◌<◌, ◌≤◌, ◌^◌, Bool, true, false, eqb, leb, List, [], ◌∷◌, ◌++◌, length, arith, inl, inr, ◌⊎◌}
-use Rattle.std.specs.Prelude.{codes, decimal}
+use Rattle.std.proofs.Common.{◌≡◌, ◌∙◌, sym, ap, refl, subst, ℕ, zero, suc, ◌-◌, ◌%◌, ◌<◌, ◌^◌, true, List, [], ◌∷◌, ◌++◌, length, arith, inl, inr, ◌⊎◌}
+use Rattle.std.specs.Prelude.{decimal}
 use Rattle.std.specs.Char.{digit_value}
 use Rattle.std.specs.List.{list_all, take_while}
-use Rattle.std.specs.Str.Parse.{AllDigits, digits_value, IsNumeral}
+use Rattle.std.specs.Str.Parse.{AllDigits, digits_value}
 use Rattle.std.proofs.lemmas.Bool.Decides.{leb_tells, eqb_tells}
-use Rattle.bits_ip.specs.Address.{family_of, number_of, width_of}
+use Rattle.bits_ip.specs.Address.{family_of}
 use Rattle.bits_ip.specs.Prefix.{Net, IsPrefix}
 use Rattle.bits_ip.specs.Text.{v4_text, IsAddrText, IsNetText}
 use Rattle.bits_ip.specs.declared.address.Addr.{Addr}

@@ -2,7 +2,7 @@
 -- These definitions are for the private functions and the proofs; no public clause speaks of them.
 -- Modelled: what a front of the words says, where no longer front says it. Not modelled: where in
 -- the line a word stands. From: specs/Script, whose parts these are.
-use Rattle.std.specs.Prelude.{◌≡◌, ℕ, ◌^◌, ◌<◌, ◌≤◌, Bool, true, false, not, ◌==◌, ◌⊎◌}
+use Rattle.std.specs.Prelude.{◌≡◌, ℕ, ◌<◌, ◌≤◌, Bool, true, false, not, ◌==◌, ◌⊎◌}
 use Rattle.std.specs.Prelude.{if◌then◌else◌, IsTrue, List, [], ◌∷◌, ◌++◌, length, codes, Option}
 use Rattle.std.specs.Prelude.{None, Some, ⊤}
 use Rattle.std.specs.List.{list_all}
