@@ -1,0 +1,11 @@
+mod NetTexts
+mod NumberRuns
+mod Options
+mod CommandParts
+mod AddParts
+mod CommunityWords
+mod ScriptLines
+mod Agreement
+mod BadLines
+mod ToldWords
+mod ToldLines
