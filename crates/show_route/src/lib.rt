@@ -1,13 +1,13 @@
-// A library with one function.
+//! Replies to `show route`: which routes stand in a table, in the words of BIRD's remote control.
+//!
+//! `answer` makes the reply over the rows of a table, with the names of protocols by number: a heading
+//! with the table's name, then for each net its routes, the best of which comes first and has a star.
+//!
+//! Contracts see the rows as lists and the reply by one function, `reply_text` of specs/Reply. All rests
+//! on one fact of tables, which attrs states: a row's routes stand in selection order, so that the first
+//! is the net's best and no other is.
 #![tactic(auto)]
 
-ghost use Rattle.std.specs.Prelude.{◌≡◌};
-ghost use Rattle.show_route.specs.Echo.{echo_of};
+mod reply;
 
-// The `ensures` clause is the contract: what `echo` returns is `echo_of` of its argument, a definition
-// in `specs/Echo.antt`, which a caller's clause can cite too.
-pub fn echo(x: usize) -> usize
-    ensures { result ≡ echo_of x }
-{
-    x
-}
+pub use reply::answer;
