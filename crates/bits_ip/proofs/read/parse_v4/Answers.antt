@@ -1,5 +1,5 @@
 use Rattle.bits_ip.proofs.Dotted.{second_octet, third_octet, fourth_octet}
-use Rattle.bits_ip.proofs.read.v4_of.Goals as goal
+use Rattle.bits_ip.proofs.read.parse_v4.Goals as goal
 
 pub returns-in_err-second : goal.returns-in_err-second
 returns-in_err-second c = rw c.from_residual-in_err-second.ensures (λ n is.

@@ -1,7 +1,7 @@
 use Rattle.std.proofs.Common.{sym, ◌∙◌}
 use Rattle.std.proofs.lemmas.Option.{none-some}
 use Rattle.bits_ip.proofs.Slashed.{net_split, net_parts, net_made}
-use Rattle.bits_ip.proofs.read.prefix_of.Goals as goal
+use Rattle.bits_ip.proofs.read.parse_prefix.Goals as goal
 
 pub returns-in_err-front : goal.returns-in_err-front
 returns-in_err-front c = rw c.from_residual.ensures (λ net is. none-some _ (sym c.in_err-front.ensures ∙ net_split c.args.text.now net is))
