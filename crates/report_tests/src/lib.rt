@@ -1,5 +1,5 @@
-//! Tests of `report`: the text of phases that are put together by hand, beside texts that were written
-//! by hand from the form of the report.
+//! Tests of `report`: the text of phases that are put together by hand, beside texts that were
+//! written by hand from the form of the report.
 #![tactic(auto)]
 
 #[cfg(test)]

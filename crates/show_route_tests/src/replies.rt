@@ -7,7 +7,8 @@ use std::test::Fail;
 
 const NEIGHBOUR: Addr = Addr::V4(0xC000_0201);
 
-/// The systems by way of which a route came, from where it began, and its origin; with what is shown.
+/// The systems by way of which a route came, from where it began, and its origin; with what is
+/// shown.
 const ORIGINS: [(&[u32], Option<Origin>, &str); 5] = [
     (&[65002, 65001], Some(Origin::Igp), "AS65002i"),
     (&[65001], Some(Origin::Egp), "AS65001e"),
