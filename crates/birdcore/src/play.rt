@@ -174,20 +174,17 @@ impl Run {
         requires { IsRun self }
         ensures { IfOk result (Reports config.now (state_of self)) }
     {
-        let rows = self.table.select(&Select::All)?;
-        let accepted = self.table.total();
-        let name = config.name.as_slice();
-        let mode = mode_of(self.session);
-        let exports = report_exports(alloc, name, self.session)?;
         let Run {
             table,
             history,
-            session: _,
+            session,
             log,
             ops,
             replies,
         } = self;
-        drop(table);
+        let accepted = table.total();
+        let rows = table.into_rows()?;
+        let name = config.name.as_slice();
         Ok(PhaseReport {
             number: 1,
             protocols: report_operations(alloc, name, ops)?,
@@ -195,8 +192,8 @@ impl Run {
             channels: report_log(alloc, name, log)?,
             replies: Seq::from_vec(replies),
             tables: report_tables(alloc, rows)?,
-            modes: report_modes(alloc, name, mode, accepted)?,
-            exports,
+            modes: report_modes(alloc, name, mode_of(session), accepted)?,
+            exports: report_exports(alloc, name, session)?,
         })
     }
 }

@@ -3,6 +3,7 @@ use attrs::{Attrs, Clist, Dest, Kind, Origin, Path, Route, Src};
 use bits_ip::{Addr, Prefix};
 use import_core::{Given, bgp_session, import, withdraw};
 use std::alloc::Global;
+use std::process::Abort;
 use std::test::Fail;
 
 const NEIGHBOUR: Addr = Addr::V4(0xC000_0201);
@@ -64,12 +65,12 @@ fn wanted(alloc: Global, ebgp: bool, lp: u32) -> Result<Attrs, Fail> {
 }
 
 fn assert_import(
-    rt: &HostRuntime,
+    rt: &impl Abort,
+    alloc: Global,
     remote: u32,
     given_lp: Option<u32>,
     lp: u32,
 ) -> Result<(), Fail> {
-    let alloc = rt.alloc();
     let spec = bgp_session(65000, remote, NEIGHBOUR);
     let change = import(&spec, ROUTER_ID, &net()?, &given(alloc, given_lp)?)?;
     let src = Src {
@@ -86,7 +87,7 @@ fn assert_import(
 #[test]
 fn an_external_neighbour_sets_no_preference(rt: HostRuntime) -> Result<(), Fail> {
     for (remote, given_lp, lp) in PREFERENCES {
-        assert_import(&rt, remote, given_lp, lp)?;
+        assert_import(&rt, rt.alloc(), remote, given_lp, lp)?;
     }
     Ok(())
 }

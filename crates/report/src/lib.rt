@@ -6,9 +6,9 @@
 //! a phase, `write_report` makes that of a whole report.
 //!
 //! Contracts see a phase as plain data, and its text by one function of specs/Report for each part.
-//! Two facts carry all: each writer appends the text of its part and nothing else, also where
-//! memory is refused, so what stood before can be restored by its length; and the parts of a list
-//! are written in its order (`flat_map`).
+//! Two facts carry all: each writer appends the text of its part and nothing else, and the parts of
+//! a list are written in its order (`flat_map`). Where memory is refused within a phase a part of
+//! its text may stand, so `phase_text` writes into a text of its own and hands that over whole.
 //!
 //! Modules are named by the part that they write; `whole` joins them, and `place` writes nets with
 //! the names of sources.

@@ -22,6 +22,10 @@ pub fn phase_text(phase: &PhaseReport, out: &mut Vec<u8>) -> Result<(), OutOfMem
 {
     let mut text = Vec::new(*out.allocator());
     write_phase(*out.allocator(), phase, &mut text)?;
+    if out.is_empty() {
+        *out = text;
+        return Ok(());
+    }
     out.extend_from_slice(&text)?;
     Ok(())
 }

@@ -4,6 +4,7 @@ use bits_ip::{Addr, Prefix};
 use export_core::Key;
 use report::{PhaseReport, ProtocolReport, phase_text};
 use std::alloc::Global;
+use std::process::Abort;
 use std::test::Fail;
 
 pub const NEIGHBOUR: Addr = Addr::V4(0xC000_0201);
@@ -101,8 +102,12 @@ pub fn quiet(alloc: Global, number: u32) -> Result<PhaseReport, Fail> {
 }
 
 /// The text of the phase stands behind what stood before, as it is wanted.
-pub fn assert_text(rt: &HostRuntime, phase: &PhaseReport, want: &str) -> Result<(), Fail> {
-    let alloc = rt.alloc();
+pub fn assert_text(
+    rt: &impl Abort,
+    alloc: Global,
+    phase: &PhaseReport,
+    want: &str,
+) -> Result<(), Fail> {
     let mut text = b"before\n".to_vec(alloc)?;
     phase_text(phase, &mut text)?;
     let whole = format!(in alloc; "before\n{want}")?;

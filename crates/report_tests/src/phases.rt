@@ -159,7 +159,7 @@ fn a_phase_is_written(rt: HostRuntime) -> Result<(), Fail> {
     add_reply(alloc, &mut phase)?;
     add_state(alloc, &mut phase)?;
     phase.exports.push(export(alloc, true)?)?;
-    assert_text(&rt, &phase, PHASE)
+    assert_text(&rt, alloc, &phase, PHASE)
 }
 
 /// A withdrawal, and a channel that goes down and is sent anew.

@@ -66,7 +66,7 @@ fn what_was_sent_is_written_and_of_a_pipe_by_source(rt: HostRuntime) -> Result<(
     for (name, pipe) in [("p1", false), ("pc.export", true)] {
         phase.channels.push(log(alloc, name, pipe)?)?;
     }
-    assert_text(&rt, &phase, SENT)
+    assert_text(&rt, alloc, &phase, SENT)
 }
 
 fn standing(alloc: Global) -> Result<Seq<Standing>, Fail> {
@@ -101,5 +101,5 @@ fn a_pipe_accepts_nothing_and_sends_by_source(rt: HostRuntime) -> Result<(), Fai
     for (name, pipe) in [("p1", false), ("pc.export", true)] {
         phase.exports.push(export(alloc, name, pipe)?)?;
     }
-    assert_text(&rt, &phase, STANDING)
+    assert_text(&rt, alloc, &phase, STANDING)
 }

@@ -3,6 +3,7 @@ use attrs::{Attrs, Clist, Dest, Kind, Origin, Path, Route, Row, Seq, Src};
 use bits_ip::{Addr, Prefix};
 use show_route::answer;
 use std::alloc::Global;
+use std::process::Abort;
 use std::test::Fail;
 
 const NEIGHBOUR: Addr = Addr::V4(0xC000_0201);
@@ -70,8 +71,12 @@ fn route(num: u32, attrs: Attrs) -> Route {
 }
 
 /// The reply for routes of 203.0.113.0/24 is wanted so, behind the heading.
-fn assert_reply(rt: &HostRuntime, routes: Seq<Route>, want: &str) -> Result<(), Fail> {
-    let alloc = rt.alloc();
+fn assert_reply(
+    rt: &impl Abort,
+    alloc: Global,
+    routes: Seq<Route>,
+    want: &str,
+) -> Result<(), Fail> {
     let net = Prefix::make(Addr::V4(0xCB00_7100), 24)?;
     let text = answer(alloc, &[b"p1", b"p2"], b"master4", &[Row { net, routes }])?;
     let whole = format!(in alloc; "Table master4:\n{want}")?;
@@ -93,7 +98,7 @@ fn a_row_is_answered(rt: HostRuntime) -> Result<(), Fail> {
         let want = format!(in alloc;
             "203.0.113.0/24 unicast [p1] * (100) [{shown}]\n\tvia 192.0.2.1\n"
         )?;
-        assert_reply(&rt, routes, &want)?;
+        assert_reply(&rt, alloc, routes, &want)?;
     }
     Ok(())
 }
@@ -104,7 +109,7 @@ fn a_static_route_has_no_origin(rt: HostRuntime) -> Result<(), Fail> {
     for (dest, word) in DESTS {
         let routes = one(alloc, route(1, fixed(alloc, dest)?))?;
         let want = format!(in alloc; "203.0.113.0/24 {word} [p2] * (100)\n")?;
-        assert_reply(&rt, routes, &want)?;
+        assert_reply(&rt, alloc, routes, &want)?;
     }
     Ok(())
 }
@@ -120,12 +125,12 @@ fn the_best_route_has_the_star(rt: HostRuntime) -> Result<(), Fail> {
     let want = "203.0.113.0/24 unicast [p1] * (100) [i]\n\tvia 192.0.2.1\n\
         203.0.113.0/24 unicast [p1] (100) [?]\n\
         203.0.113.0/24 unicast [] (100) [AS65001?]\n\tvia 192.0.2.1\n";
-    assert_reply(&rt, routes, want)
+    assert_reply(&rt, alloc, routes, want)
 }
 
 #[test]
 fn a_table_without_routes_has_its_heading(rt: HostRuntime) -> Result<(), Fail> {
     let text = answer(rt.alloc(), &[b"p1"], b"master6", &[])?;
-    assert_eq!(rt; text.as_slice(), b"Table master6:\n");
+    assert_eq!(rt; text.as_slice(), b"Table master6:\n".as_slice());
     Ok(())
 }
