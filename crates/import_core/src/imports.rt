@@ -10,7 +10,8 @@ use bits_ip::{OutOfMemory, Prefix};
 ///
 /// The route has the spec's source, kind, neighbour and preference; its packets go to the given
 /// gateway. Its local preference is the given one on an internal session, and the default where
-/// none is given and on each external session (RFC 4271, section 5.1.5).
+/// none is given and on each external session (RFC 4271, section 5.1.5). `OutOfMemory` comes where
+/// memory is refused.
 pub fn import(
     spec: &ImportSpec,
     id: u32,

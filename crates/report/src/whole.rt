@@ -30,7 +30,8 @@ pub fn phase_text(phase: &PhaseReport, out: &mut Vec<u8>) -> Result<(), OutOfMem
     Ok(())
 }
 
-/// The text of a whole report: each phase, and `end` behind the last.
+/// The text of a whole report: each phase, and `end` behind the last. `OutOfMemory` comes where
+/// memory is refused.
 pub fn write_report(alloc: Global, phases: &[PhaseReport]) -> Result<Vec<u8>, OutOfMemory>
     ensures { IfOk result (λ text. text.items ≡ report_text phases.now) }
 {
