@@ -1,7 +1,7 @@
 -- How an operation is written: the command, without who gave it.
 -- Modelled: the spelling of scripts. Not modelled: that it is read back as the same operation.
 -- From: the own format of scripts, which this program reads.
-use Rattle.std.specs.Prelude.{ℕ, List, [], ◌∷◌, ◌++◌, codes, decimal}
+use Rattle.std.specs.Prelude.{ℕ, List, ◌∷◌, ◌++◌, codes, decimal}
 use Rattle.std.specs.List.{flat_map}
 use Rattle.bits_ip.specs.Text.{addr_text, net_text, v4_text}
 use Rattle.attrs.specs.Text.{origin_text, optional_text, list_text, community_text}
