@@ -6,8 +6,8 @@ use Rattle.bits_ip.specs.Prefix.{Net}
 use Rattle.bits_ip.specs.declared.address.Addr.{Addr}
 use Rattle.attrs.specs.Text.{origin_text}
 use Rattle.attrs.specs.declared.attributes.Origin.{Origin}
-use Rattle.birdcore.specs.declared.operation.Given.{Given}
-use Rattle.birdcore.specs.Lines.{IsNumber}
+use Rattle.import_core.specs.declared.operation.Given.{Given}
+use Rattle.text.specs.Numbers.{IsNumber}
 use Rattle.birdcore.specs.Script.{AreNumbers, IsAdd, IsCom}
 use Rattle.birdcore.specs.Command.{HasNoNumber, BeginWithNumbers, IsVia, IsOrigin, IsPathAndOrigin, BeginWithOptions, AreOptions, AreNoOptions}
 use Rattle.birdcore.proofs.Options.{options_begin, options_same, options_read}

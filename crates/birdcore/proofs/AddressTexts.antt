@@ -17,7 +17,7 @@ use Rattle.bits_ip.specs.Text.{v4_text, is_addr_byte, is_net_byte, addr_run, net
 use Rattle.bits_ip.specs.declared.address.Addr.{Addr}
 use Rattle.bits_ip.specs.declared.address.Addr.TheVariants.{V4, V6}
 use Rattle.bits_ip.specs.declared.address.Family.TheVariants as families
-use Rattle.birdcore.proofs.Runs.{run_front}
+use Rattle.text.proofs.Runs.{run_front}
 
 pub run_of_all : (p : ℕ → Bool) (xs : List ℕ) → list_all p xs ≡ true → take_while p xs ≡ xs
 run_of_all p xs all = ap (take_while p) (sym (append-nil xs)) ∙ run_front p xs [] all refl

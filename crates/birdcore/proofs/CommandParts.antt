@@ -5,8 +5,8 @@ use Rattle.bits_ip.specs.Prefix.{Net}
 use Rattle.bits_ip.specs.Text.{v4_text}
 use Rattle.birdcore.specs.declared.refusal.Refusal.{Refusal}
 use Rattle.birdcore.specs.declared.refusal.Refusal.TheVariants.{Form, Memory}
-use Rattle.birdcore.specs.declared.operation.Given.{Given}
-use Rattle.birdcore.specs.declared.operation.Op.TheVariants.{SessionUp, Add, Del}
+use Rattle.import_core.specs.declared.operation.Given.{Given}
+use Rattle.import_core.specs.declared.operation.Op.TheVariants.{SessionUp, Add, Del}
 use Rattle.birdcore.specs.declared.script.Line.{Line}
 use Rattle.birdcore.specs.declared.script.Line.TheVariants.{Apply, Show}
 use Rattle.birdcore.specs.Script.{IsAdd, IsDel, IsLine, actor_word}

@@ -12,12 +12,12 @@ use Rattle.attrs.specs.Clist.{same_pair, has_pair}
 use Rattle.attrs.specs.declared.clist.ClistFault.{ClistFault}
 use Rattle.attrs.specs.declared.clist.ClistFault.TheVariants.{ClistLong, Memory}
 use Rattle.birdcore.specs.declared.refusal.Refusal.{Refusal}
-use Rattle.birdcore.specs.Lines.{IsNumber}
+use Rattle.text.specs.Numbers.{IsNumber}
 use Rattle.birdcore.specs.Script.{IsCommunity, AreCommunities, IsCom, each_once}
 use Rattle.birdcore.specs.Command.{IfForm, refusal_of, is_no_colon, IsCut, with_pair, AddsOne, FitsNone, AreOnce}
-use Rattle.birdcore.specs.Lines.{first_passes}
-use Rattle.birdcore.specs.Cut.{behind}
-use Rattle.birdcore.proofs.Runs.{run_front, run_rest, run_whole, run_passes, run_stops}
+use Rattle.text.specs.Cut.{first_passes}
+use Rattle.text.specs.Cut.{behind}
+use Rattle.text.proofs.Runs.{run_front, run_rest, run_whole, run_passes, run_stops}
 use Rattle.birdcore.proofs.AddressTexts.{TakesDigits, digits_all}
 use Rattle.birdcore.proofs.CommandParts.{form_more}
 use Rattle.birdcore.proofs.Options.{numbers_agree}

@@ -1,7 +1,3 @@
-pub mod Runs
-pub mod LineCuts
-pub mod WordCuts
-pub mod Numerals
 pub mod AddressTexts
 pub mod NumberRuns
 pub mod Options
@@ -12,8 +8,6 @@ pub mod ScriptLines
 pub mod Views
 pub mod Built
 pub mod SaidOnce
-pub mod ReplyPieces
-pub mod ReportPieces
 pub mod Blocks
 pub mod Reading
 pub mod Asked

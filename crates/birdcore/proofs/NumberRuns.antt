@@ -1,7 +1,7 @@
 -- The numbers at the front of some words.
 use Rattle.std.proofs.Common.{◌≡◌, ◌∙◌, sym, ap, refl, ℕ, List, [], ◌∷◌, ◌++◌}
 use Rattle.std.proofs.lemmas.List.{append_assoc}
-use Rattle.birdcore.specs.Lines.{IsNumber}
+use Rattle.text.specs.Numbers.{IsNumber}
 use Rattle.birdcore.specs.Script.{AreNumbers}
 use Rattle.birdcore.specs.Command.{HasNoNumber, BeginWithNumber, BeginWithNumbers}
 

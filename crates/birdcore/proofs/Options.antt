@@ -1,7 +1,7 @@
 -- The optional parts of an `add`.
 use Rattle.std.proofs.Common.{◌≡◌, ◌∙◌, sym, ap, refl, subst, ℕ, List, [], ◌∷◌, ◌++◌, length, arith, Option, Some, None, inl, inr}
 use Rattle.std.specs.Prelude.{codes}
-use Rattle.birdcore.specs.Lines.{IsNumber}
+use Rattle.text.specs.Numbers.{IsNumber}
 use Rattle.birdcore.specs.Script.{IsOption, IsCom}
 use Rattle.birdcore.specs.Command.{BeginsNot, BeginWithOption, BeginWithOptions, AreOptions}
 

@@ -7,7 +7,7 @@ use Rattle.attrs.specs.declared.route.Change.{Change}
 use Rattle.attrs.specs.declared.route.Row.{Row}
 use Rattle.attrs.proofs.Histories.{after-append}
 use Rattle.birdcore.specs.declared.config.Config.{Config}
-use Rattle.birdcore.specs.declared.operation.Op.TheVariants.{SessionUp, Add, Del}
+use Rattle.import_core.specs.declared.operation.Op.TheVariants.{SessionUp, Add, Del}
 use Rattle.birdcore.specs.declared.script.Line.{Line}
 use Rattle.birdcore.specs.declared.script.Line.TheVariants.{Apply, Show}
 use Rattle.birdcore.specs.Script.{IsLine, AreLines, IsScript, IsOfV4, AreOfV4, lines_words, without_comments}

@@ -14,8 +14,8 @@ use Rattle.conf_tree.specs.Read.{IsConfigText, IsRefusedText}
 use Rattle.conf_tree.specs.View.{config_view}
 use Rattle.conf_tree.specs.declared.kind.ConfKind.{ConfKind}
 use Rattle.birdcore.specs.declared.config.Config.{Config}
-use Rattle.birdcore.specs.declared.operation.Given.{Given}
-use Rattle.birdcore.specs.declared.operation.Op.TheVariants.{SessionUp, Add, Del}
+use Rattle.import_core.specs.declared.operation.Given.{Given}
+use Rattle.import_core.specs.declared.operation.Op.TheVariants.{SessionUp, Add, Del}
 use Rattle.birdcore.specs.declared.script.Line.{Line}
 use Rattle.birdcore.specs.declared.script.Line.TheVariants.{Apply, Show}
 use Rattle.birdcore.specs.Config.{IsConfig, IsNotBuilt, IsRefusedAt}

@@ -4,7 +4,7 @@ use Rattle.std.specs.Prelude.{not}
 use Rattle.std.proofs.lemmas.List.{append_assoc, append-nil}
 use Rattle.std.proofs.lemmas.List.Elements.{filter-append}
 use Rattle.birdcore.specs.declared.script.Line.{Line}
-use Rattle.birdcore.specs.Lines.{lines_of, words_of}
+use Rattle.text.specs.Lines.{lines_of, words_of}
 use Rattle.birdcore.specs.Script.{AreLines, IsLine, IsScript, IsBadLine, lines_words, is_passed, without_comments}
 use Rattle.birdcore.specs.Command.{ReadsOne, ReadsNone}
 

@@ -14,10 +14,10 @@ use Rattle.attrs.specs.declared.clist.ClistFault.TheVariants.{ClistLong}
 use Rattle.attrs.specs.declared.clist.ClistFault.TheVariants as faults
 use Rattle.birdcore.specs.declared.refusal.Refusal.{Refusal}
 use Rattle.birdcore.specs.declared.refusal.Refusal.TheVariants.{Form, Memory}
-use Rattle.birdcore.specs.declared.operation.Op.TheVariants.{SessionUp, Add, Del}
+use Rattle.import_core.specs.declared.operation.Op.TheVariants.{SessionUp, Add, Del}
 use Rattle.birdcore.specs.declared.script.Line.{Line}
 use Rattle.birdcore.specs.declared.script.Line.TheVariants.{Apply, Show}
-use Rattle.birdcore.specs.Lines.{IsNumber}
+use Rattle.text.specs.Numbers.{IsNumber}
 use Rattle.birdcore.specs.Script.{AreNumbers, AreCommunities, IsAdd, IsDel, IsCommunity, IsOption, IsCom, each_once, is_passed, IsLine}
 
 -- what a community that couldn't be added to a line's list says of the line

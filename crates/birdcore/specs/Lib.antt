@@ -1,9 +1,3 @@
-pub mod Lines
-pub mod Cut
-pub mod Operation
-pub mod Reply
-pub mod Report
-pub mod ReportParts
 pub mod Config
 pub mod Script
 pub mod Command

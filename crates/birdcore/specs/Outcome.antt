@@ -3,11 +3,11 @@ use Rattle.std.specs.Prelude.{◌≡◌, ℕ, ◌<◌, ◌≤◌, ◌⊎◌, Lis
 use Rattle.conf_tree.specs.declared.kind.ConfKind.{ConfKind}
 use Rattle.birdcore.specs.declared.config.Config.{Config}
 use Rattle.birdcore.specs.declared.script.Line.{Line}
-use Rattle.birdcore.specs.declared.report.PhaseReport.{PhaseReport}
+use Rattle.report.specs.declared.phase.PhaseReport.{PhaseReport}
 use Rattle.birdcore.specs.Config.{IsConfig, IsNotBuilt, IsRefusedAt}
 use Rattle.birdcore.specs.Script.{IsScript, IsBadLine}
 use Rattle.birdcore.specs.Play.{IsPhase}
-use Rattle.birdcore.specs.Report.{report_text}
+use Rattle.report.specs.Report.{report_text}
 use Rattle.birdcore.specs.Transfer.{limit}
 use Rattle.birdcore.specs.Words.{files_named}
 

@@ -1,28 +1,26 @@
 -- What the lines of a script do: an abstract machine over lists.
-use Rattle.std.specs.Prelude.{◌≡◌, ◌≢◌, ℕ, Bool, not, ◌==◌, List, [], ◌∷◌, ◌++◌, length, Option, Some, None, unwrap_or, if◌then◌else◌, codes}
+use Rattle.std.specs.Prelude.{◌≡◌, ◌≢◌, ℕ, false, List, [], ◌∷◌, ◌++◌, length, Option, Some, None, codes}
 use Rattle.bits_ip.specs.Prefix.{Net}
 use Rattle.attrs.specs.History.{after, empty}
 use Rattle.attrs.specs.Table.{Shows, count_routes}
-use Rattle.attrs.specs.declared.attributes.Attrs.{Attrs}
-use Rattle.attrs.specs.declared.attributes.Dest.TheVariants.{Unicast}
-use Rattle.attrs.specs.declared.attributes.Kind.TheVariants.{Bgp}
 use Rattle.attrs.specs.declared.route.Change.{Change}
-use Rattle.attrs.specs.declared.route.Route.{Route}
 use Rattle.attrs.specs.declared.route.Row.{Row}
+use Rattle.import_core.specs.Import.{imported, withdrawn}
+use Rattle.import_core.specs.Session.{bgp_session}
+use Rattle.import_core.specs.declared.import_spec.ImportSpec.{ImportSpec}
 use Rattle.birdcore.specs.declared.config.Config.{Config}
-use Rattle.birdcore.specs.declared.operation.Given.{Given}
-use Rattle.birdcore.specs.declared.operation.Op.{Op}
-use Rattle.birdcore.specs.declared.operation.Op.TheVariants.{SessionUp, Add, Del}
+use Rattle.import_core.specs.declared.operation.Op.{Op}
+use Rattle.import_core.specs.declared.operation.Op.TheVariants.{SessionUp, Add, Del}
 use Rattle.birdcore.specs.declared.script.Line.{Line}
 use Rattle.birdcore.specs.declared.script.Line.TheVariants.{Apply, Show}
-use Rattle.birdcore.specs.declared.report.LogItem.{LogItem}
-use Rattle.birdcore.specs.declared.report.LogItem.TheVariants.{Up}
-use Rattle.birdcore.specs.declared.report.Mode.{Mode}
-use Rattle.birdcore.specs.declared.report.Mode.TheVariants.{Idle, Up as IsUp}
-use Rattle.birdcore.specs.declared.report.ReplyReport.{ReplyReport}
-use Rattle.birdcore.specs.declared.report.Standing.{Standing}
-use Rattle.birdcore.specs.declared.report.PhaseReport.{PhaseReport}
-use Rattle.birdcore.specs.Reply.{reply_text}
+use Rattle.export_core.specs.declared.log.LogItem.{LogItem}
+use Rattle.export_core.specs.declared.log.LogItem.TheVariants.{Up}
+use Rattle.import_core.specs.declared.mode.Mode.{Mode}
+use Rattle.import_core.specs.declared.mode.Mode.TheVariants.{Idle, Up as IsUp}
+use Rattle.report.specs.declared.phase.ReplyReport.{ReplyReport}
+use Rattle.report.specs.declared.phase.Standing.{Standing}
+use Rattle.report.specs.declared.phase.PhaseReport.{PhaseReport}
+use Rattle.show_route.specs.Reply.{reply_text}
 
 -- What has come about: the changes of master4, the router id while the session is up, the log of the channel,
 -- the operations, and the replies.
@@ -36,42 +34,9 @@ pub record State : Type 0 where
 abbrev pub start : State
 start = record { history = []; session = None; log = []; ops = []; replies = [] }
 
--- A neighbour in another autonomous system is external.
-abbrev pub is_external : Config → Bool
-is_external config = not (config.local == config.remote)
-
--- The local preference of an external neighbour's route is the default, whatever the line says (RFC 4271, section 5.1.5).
-abbrev pub local_preference : Bool → Option ℕ → ℕ
-local_preference external lp = if external then 100 else unwrap_or lp 100
-
--- the route that an `add` gives in a session with this router id
-abbrev pub imported_attrs : Config → ℕ → Given → Attrs
-imported_attrs config id given = record {
-  pref = 100;
-  kind = Bgp;
-  dest = Unicast;
-  gw = Some given.gw;
-  sender = Some config.neighbor;
-  peer_id = id;
-  ebgp = is_external config;
-  path = given.path;
-  origin = Some given.origin;
-  next_hop = Some given.gw;
-  med = given.med;
-  lp = Some (local_preference (is_external config) given.lp);
-  igp = given.igp;
-  coms = given.coms;
-}
-
-abbrev pub imported_route : Config → ℕ → Given → Route
-imported_route config id given = record { src = record { num = 0; def_med = 0; def_lp = 100 }; attrs = imported_attrs config id given }
-
-abbrev pub imported : Config → ℕ → Net → Given → Change
-imported config id net given = record { net = net; num = 0; new = Some (imported_route config id given) }
-
--- the change that a `del` gives
-abbrev pub withdrawn : Net → Change
-withdrawn net = record { net = net; num = 0; new = None }
+-- the protocol, as its imports see it
+abbrev pub spec_of : Config → ImportSpec
+spec_of config = bgp_session config.local config.remote config.neighbor
 
 -- the history goes on by the change, unless the key's route is this one already
 pub record GoesOn (old : List Change) (c : Change) (new : List Change) : Type 0 where
@@ -90,8 +55,8 @@ Imports (Some id) change s t = (history : List Change) × GoesOn s.history (chan
 
 abbrev pub Acts : Config → Op → State → State → Type 0
 Acts config (SessionUp id) s t = t ≡ opened s.session id s
-Acts config (Add net given) s t = Imports s.session (λ id. imported config id net given) s t
-Acts config (Del net) s t = Imports s.session (λ id. withdrawn net) s t
+Acts config (Add net given) s t = Imports s.session (λ id. imported (spec_of config) id net given) s t
+Acts config (Del net) s t = Imports s.session (λ id. withdrawn (spec_of config) net) s t
 
 -- the name of the one table that has routes
 abbrev pub main_table : List ℕ
@@ -131,11 +96,11 @@ phase_of config s rows = record {
   number = 1;
   protocols = record { name = config.name; ops = s.ops } ∷ [];
   journals = record { table = main_table; from = 0; entries = s.history } ∷ record { table = codes "master6"; from = 0; entries = [] } ∷ [];
-  channels = record { name = config.name; items = s.log } ∷ [];
+  channels = record { name = config.name; pipe = false; items = s.log } ∷ [];
   replies = s.replies;
   tables = record { name = main_table; rows = rows } ∷ record { name = codes "master6"; rows = [] } ∷ [];
-  modes = record { name = config.name; mode = mode_of s.session; accepted = count_routes rows } ∷ [];
-  exports = record { name = config.name; standing = sent_in s.session } ∷ [];
+  modes = record { name = config.name; mode = mode_of s.session; accepted = Some (count_routes rows) } ∷ [];
+  exports = record { name = config.name; pipe = false; standing = sent_in s.session } ∷ [];
 }
 
 -- what is reported in a state, with the rows that its table shows

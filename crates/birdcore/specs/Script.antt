@@ -6,11 +6,12 @@ use Rattle.bits_ip.specs.Text.{IsAddrText, IsNetText, v4_text}
 use Rattle.bits_ip.specs.declared.address.Family.TheVariants as families
 use Rattle.attrs.specs.Clist.{same_pair}
 use Rattle.attrs.specs.Text.{origin_text}
-use Rattle.birdcore.specs.declared.operation.Given.{Given}
-use Rattle.birdcore.specs.declared.operation.Op.TheVariants.{SessionUp, Add, Del}
+use Rattle.import_core.specs.declared.operation.Given.{Given}
+use Rattle.import_core.specs.declared.operation.Op.TheVariants.{SessionUp, Add, Del}
 use Rattle.birdcore.specs.declared.script.Line.{Line}
 use Rattle.birdcore.specs.declared.script.Line.TheVariants.{Apply, Show}
-use Rattle.birdcore.specs.Lines.{lines_of, words_of, begins_with, IsNumber}
+use Rattle.text.specs.Lines.{lines_of, words_of, begins_with}
+use Rattle.text.specs.Numbers.{IsNumber}
 
 -- the word that names who acts
 abbrev pub actor_word : List ℕ → List ℕ

@@ -3,20 +3,19 @@ ghost use Rattle.bits_ip.specs.declared.address.Addr.{Addr};
 ghost use Rattle.bits_ip.specs.Prefix.{Net};
 ghost use Rattle.attrs.specs.Text.{origin_text};
 ghost use Rattle.attrs.specs.declared.attributes.Origin.{Origin};
-ghost use Rattle.birdcore.specs.declared.operation.Given.{Given};
-ghost use Rattle.birdcore.specs.Lines.{words_of};
+ghost use Rattle.import_core.specs.declared.operation.Given.{Given};
+ghost use Rattle.text.specs.Lines.{words_of};
 ghost use Rattle.birdcore.specs.Script.{IsAdd};
 ghost use Rattle.birdcore.specs.Command.{IfForm, HasNoNumber, BeginWithNumber, BeginWithNumbers, IsVia, IsOrigin, IsPathAndOrigin, LacksNumber, BeginWithOption, BeginWithOptions, AreNoOptions};
 
 use crate::communities::read_com;
-use crate::lines::next_word;
-use crate::numbers::read_number;
-use crate::operation::Given;
 use crate::refusal::Refusal;
-use crate::words::{expect_word, read_v4, read_v4_net};
+use crate::words::{read_v4, read_v4_net};
 use attrs::{Origin, Path};
 use bits_ip::{Addr, Prefix};
+use import_core::Given;
 use std::alloc::Global;
+use text::{expect_word, next_word, read_number};
 
 /// The most numbers that a path has.
 const LONGEST_PATH: usize = 120;

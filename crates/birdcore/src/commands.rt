@@ -2,18 +2,18 @@ ghost use Rattle.std.specs.Prelude.{◌≡◌, ◌<◌, ◌^◌, ℕ, [], ◌∷
 ghost use Rattle.bits_ip.specs.Prefix.{Net};
 ghost use Rattle.bits_ip.specs.Text.{v4_text};
 ghost use Rattle.birdcore.specs.declared.script.Line.{Line};
-ghost use Rattle.birdcore.specs.Lines.{words_of};
+ghost use Rattle.text.specs.Lines.{words_of};
 ghost use Rattle.birdcore.specs.Script.{IsDel, IsLine};
 ghost use Rattle.birdcore.specs.Command.{IfForm, IsCommand};
 
 use crate::add::read_add;
-use crate::lines::next_word;
-use crate::operation::Op;
 use crate::refusal::Refusal;
 use crate::script::Line;
-use crate::words::{expect_actor, expect_word, is_end, read_v4, read_v4_net};
+use crate::words::{expect_actor, read_v4, read_v4_net};
 use bits_ip::Prefix;
+use import_core::Op;
 use std::alloc::Global;
+use text::{expect_word, is_end, next_word};
 
 fn read_open(rest: &[u8]) -> Option<u32>
     ensures { MatchOption result ((id : ℕ) → words_of rest.now ≡ v4_text id ∷ [] → id < 2 ^ 32 → ⊥) (λ id. (words_of rest.now ≡ v4_text id ∷ []) × (id < 2 ^ 32)) }

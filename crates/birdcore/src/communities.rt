@@ -1,15 +1,14 @@
 ghost use Rattle.std.specs.Prelude.{◌≡◌, ◌≤◌, ◌<◌, ◌^◌, ℕ, List, length, IsTrue, MatchOption, MatchResult};
 ghost use Rattle.std.specs.List.{prefix_len, list_all};
-ghost use Rattle.birdcore.specs.Lines.{words_of, IsNumber};
+ghost use Rattle.text.specs.Lines.{words_of};
+ghost use Rattle.text.specs.Numbers.{IsNumber};
 ghost use Rattle.birdcore.specs.Script.{IsCommunity, IsCom};
 ghost use Rattle.birdcore.specs.Command.{IfForm, is_no_colon, IsCut, AddsOne, FitsNone, AreOnce};
 
-use crate::lines::next_word;
-use crate::numbers::read_number;
 use crate::refusal::Refusal;
-use crate::words::{expect_word, is_end};
 use attrs::Clist;
 use std::alloc::Global;
+use text::{expect_word, is_end, next_word, read_number};
 
 fn front_len(word: &[u8]) -> usize
     ensures len { result ≡ prefix_len is_no_colon word.now }

@@ -5,21 +5,10 @@ mod add;
 mod commands;
 mod communities;
 mod config;
-mod decimals;
-mod journal_text;
 mod laws;
-mod lines;
-mod log_text;
-mod numbers;
-mod operation;
-mod operation_text;
 mod play;
 mod refusal;
-mod reply;
-mod report;
-mod report_text;
 mod script;
-mod state_text;
 mod status;
 #[cfg(test)]
 mod tests;
@@ -29,8 +18,6 @@ mod tests_config;
 mod tests_play;
 #[cfg(test)]
 mod tests_read;
-#[cfg(test)]
-mod tests_report;
 mod top;
 mod transfer;
 mod words;

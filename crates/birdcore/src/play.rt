@@ -1,30 +1,27 @@
-ghost use Rattle.std.specs.Prelude.{◌≡◌, ◌++◌, [], ◌∷◌, IfOk, IfSome, OnOk, codes, length};
+ghost use Rattle.std.specs.Prelude.{◌≡◌, ◌++◌, [], ◌∷◌, Some, false, IfOk, IfSome, OnOk, codes, length};
 ghost use Rattle.bits_ip.specs.Address.{family_of};
 ghost use Rattle.bits_ip.specs.declared.address.Family.TheVariants as families;
 ghost use Rattle.attrs.specs.History.{after, empty};
 ghost use Rattle.attrs.specs.declared.route.Change.{Change};
-ghost use Rattle.birdcore.specs.Play.{start, imported, imported_attrs, imported_route, withdrawn, GoesOn, opened, Imports, Acts, Steps, IsPhase, phase_of, main_table, replied, is_external, local_preference, mode_of, sent_in, Reports};
+ghost use Rattle.birdcore.specs.Play.{start, spec_of, GoesOn, opened, Imports, Acts, Steps, IsPhase, phase_of, main_table, replied, mode_of, sent_in, Reports};
+ghost use Rattle.import_core.specs.Import.{imported, imported_route, withdrawn};
+ghost use Rattle.import_core.specs.Session.{bgp_session};
 ghost use Rattle.birdcore.specs.Run.{state_of, IsRun};
 ghost use Rattle.birdcore.specs.Script.{IsOfV4, AreOfV4};
 
 use crate::config::Config;
-use crate::operation::{Given, Op};
-use crate::reply::answer;
-use crate::report::{
-    ChannelReport, ExportReport, JournalReport, LogItem, Mode, ModeReport, PhaseReport,
-    ProtocolReport, ReplyReport, TableReport,
-};
 use crate::script::Line;
-use attrs::{Attrs, Change, Dest, Kind, Route, Row, Select, Seq, Src};
+use attrs::{Change, Row, Select, Seq};
 use bits_ip::{Family, OutOfMemory, Prefix};
+use export_core::LogItem;
+use import_core::{Given, ImportSpec, Mode, Op, bgp_session, import, withdraw};
+use report::{
+    ChannelReport, ExportReport, JournalReport, ModeReport, PhaseReport, ProtocolReport,
+    ReplyReport, TableReport,
+};
 use rib::Rib;
+use show_route::answer;
 use std::alloc::Global;
-
-/// The local preference of a route to which its line gives none.
-const DEFAULT_LOCAL_PREFERENCE: u32 = 100;
-
-/// The preference of BGP's routes.
-const BGP_PREFERENCE: u32 = 100;
 
 /// The run of a script: the table of IPv4 routes, and what has come about so far.
 #[derive(Drop)]
@@ -91,7 +88,7 @@ impl Run {
         match op {
             Op::SessionUp(id) => self.open(*id),
             Op::Add(net, given) => self.add(config, net, given),
-            Op::Del(net) => self.del(net),
+            Op::Del(net) => self.del(config, net),
         }
     }
 
@@ -111,12 +108,12 @@ impl Run {
     fn add(&mut self, config: &Config, net: &Prefix, given: &Given) -> Result<(), OutOfMemory>
         requires is { IsRun self.old }
         requires v4 { family_of net.now.addr ≡ families.V4 }
-        ensures added { OnOk result (Imports self.old.session (λ id. imported config.now id net.now given.now) (state_of self.old) (state_of self.new)) }
+        ensures added { OnOk result (Imports self.old.session (λ id. imported (spec_of config.now) id net.now given.now) (state_of self.old) (state_of self.new)) }
         ensures is { OnOk result (IsRun self.new) }
     {
         match self.session {
             Some(id) => {
-                let change = import(config, id, net, given)?;
+                let change = import(&spec_of(config), id, net, given)?;
                 self.announce(change)
             }
             None => Ok(()),
@@ -124,18 +121,14 @@ impl Run {
     }
 
     /// Withdraws a net where the session is up.
-    fn del(&mut self, net: &Prefix) -> Result<(), OutOfMemory>
+    fn del(&mut self, config: &Config, net: &Prefix) -> Result<(), OutOfMemory>
         requires is { IsRun self.old }
         requires v4 { family_of net.now.addr ≡ families.V4 }
-        ensures deleted { OnOk result (Imports self.old.session (λ id. withdrawn net.now) (state_of self.old) (state_of self.new)) }
+        ensures deleted { OnOk result (Imports self.old.session (λ id. withdrawn (spec_of config.now) net.now) (state_of self.old) (state_of self.new)) }
         ensures is { OnOk result (IsRun self.new) }
     {
         match self.session {
-            Some(_) => self.announce(Change {
-                net: *net,
-                num: 0,
-                new: None,
-            }),
+            Some(_) => self.announce(withdraw(&spec_of(config), net)),
             None => Ok(()),
         }
     }
@@ -181,20 +174,17 @@ impl Run {
         requires { IsRun self }
         ensures { IfOk result (Reports config.now (state_of self)) }
     {
-        let rows = self.table.select(&Select::All)?;
-        let accepted = self.table.total();
-        let name = config.name.as_slice();
-        let mode = mode_of(self.session);
-        let exports = report_exports(alloc, name, self.session)?;
         let Run {
             table,
             history,
-            session: _,
+            session,
             log,
             ops,
             replies,
         } = self;
-        drop(table);
+        let accepted = table.total();
+        let rows = table.into_rows()?;
+        let name = config.name.as_slice();
         Ok(PhaseReport {
             number: 1,
             protocols: report_operations(alloc, name, ops)?,
@@ -202,8 +192,8 @@ impl Run {
             channels: report_log(alloc, name, log)?,
             replies: Seq::from_vec(replies),
             tables: report_tables(alloc, rows)?,
-            modes: report_modes(alloc, name, mode, accepted)?,
-            exports,
+            modes: report_modes(alloc, name, mode_of(session), accepted)?,
+            exports: report_exports(alloc, name, session)?,
         })
     }
 }
@@ -256,13 +246,14 @@ fn report_log(
     name: &[u8],
     log: Vec<LogItem>,
 ) -> Result<Seq<ChannelReport>, OutOfMemory>
-    ensures { IfOk result (λ parts. parts ≡ record { name = name.now; items = log.items } ∷ []) }
+    ensures { IfOk result (λ parts. parts ≡ record { name = name.now; pipe = false; items = log.items } ∷ []) }
 {
     let name = copy_bytes(alloc, name)?;
     one(
         alloc,
         ChannelReport {
             name,
+            pipe: false,
             items: Seq::from_vec(log),
         },
     )
@@ -289,7 +280,7 @@ fn report_modes(
     mode: Mode,
     accepted: u64,
 ) -> Result<Seq<ModeReport>, OutOfMemory>
-    ensures { IfOk result (λ parts. parts ≡ record { name = name.now; mode = mode; accepted = accepted } ∷ []) }
+    ensures { IfOk result (λ parts. parts ≡ record { name = name.now; mode = mode; accepted = Some accepted } ∷ []) }
 {
     let name = copy_bytes(alloc, name)?;
     one(
@@ -297,7 +288,7 @@ fn report_modes(
         ModeReport {
             name,
             mode,
-            accepted,
+            accepted: Some(accepted),
         },
     )
 }
@@ -308,14 +299,21 @@ fn report_exports(
     name: &[u8],
     session: Option<u32>,
 ) -> Result<Seq<ExportReport>, OutOfMemory>
-    ensures { IfOk result (λ parts. parts ≡ record { name = name.now; standing = sent_in session } ∷ []) }
+    ensures { IfOk result (λ parts. parts ≡ record { name = name.now; pipe = false; standing = sent_in session } ∷ []) }
 {
     let name = copy_bytes(alloc, name)?;
     let standing = match session {
         Some(_) => Some(Seq::new(alloc)),
         None => None,
     };
-    one(alloc, ExportReport { name, standing })
+    one(
+        alloc,
+        ExportReport {
+            name,
+            pipe: false,
+            standing,
+        },
+    )
 }
 
 fn one<T: Drop>(alloc: Global, item: T) -> Result<Seq<T>, OutOfMemory>
@@ -334,53 +332,11 @@ fn two<T: Drop>(alloc: Global, first: T, second: T) -> Result<Seq<T>, OutOfMemor
     Ok(seq)
 }
 
-/// The change that an `add` gives in a session with this router id.
-fn import(config: &Config, id: u32, net: &Prefix, given: &Given) -> Result<Change, OutOfMemory>
-    ensures { IfOk result (λ change. change ≡ imported config.now id net.now given.now) }
+/// The protocol, as its imports see it.
+fn spec_of(config: &Config) -> ImportSpec
+    ensures { result ≡ spec_of config.now }
 {
-    let src = Src {
-        num: 0,
-        def_med: 0,
-        def_lp: DEFAULT_LOCAL_PREFERENCE,
-    };
-    let attrs = import_attrs(config, id, given)?;
-    Ok(Change {
-        net: *net,
-        num: 0,
-        new: Some(Route { src, attrs }),
-    })
-}
-
-fn import_attrs(config: &Config, id: u32, given: &Given) -> Result<Attrs, OutOfMemory>
-    ensures { IfOk result (λ attrs. attrs ≡ imported_attrs config.now id given.now) }
-{
-    Ok(Attrs {
-        pref: BGP_PREFERENCE,
-        kind: Kind::Bgp,
-        dest: Dest::Unicast,
-        gw: Some(given.gw),
-        sender: Some(config.neighbor),
-        peer_id: id,
-        ebgp: config.local != config.remote,
-        path: given.path.copy()?,
-        origin: Some(given.origin),
-        next_hop: Some(given.gw),
-        med: given.med,
-        lp: Some(local_preference(config, given.lp)),
-        igp: given.igp,
-        coms: given.coms.copy()?,
-    })
-}
-
-/// The line's on an internal session, else the default (RFC 4271, section 5.1.5).
-fn local_preference(config: &Config, given: Option<u32>) -> u32
-    ensures { result ≡ local_preference (is_external config.now) given }
-{
-    if config.local != config.remote {
-        DEFAULT_LOCAL_PREFERENCE
-    } else {
-        given.unwrap_or(DEFAULT_LOCAL_PREFERENCE)
-    }
+    bgp_session(config.local, config.remote, config.neighbor)
 }
 
 fn copy_change(change: &Change) -> Result<Change, OutOfMemory>

@@ -1,15 +1,15 @@
 ghost use Rattle.std.specs.Prelude.{◌≡◌, ◌≤◌, ◌^◌, length, IfOk, MatchResult};
-ghost use Rattle.birdcore.specs.Lines.{words_of};
+ghost use Rattle.text.specs.Lines.{words_of};
 ghost use Rattle.birdcore.specs.Script.{is_passed};
 ghost use Rattle.birdcore.specs.Command.{IfForm, ReadsOne, ReadsNone};
 ghost use Rattle.birdcore.specs.ReadScript.{IsRead};
 
 use crate::commands::read_line;
-use crate::lines::{cut_line, next_word};
-use crate::operation::Op;
 use crate::refusal::Refusal;
 use bits_ip::OutOfMemory;
+use import_core::Op;
 use std::alloc::Global;
+use text::{cut_line, next_word};
 
 /// A line of a script.
 #[derive(Debug, Drop)]

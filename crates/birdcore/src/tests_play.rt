@@ -4,12 +4,12 @@ ghost use Rattle.bits_ip.specs.declared.address.Family.TheVariants as families;
 ghost use Rattle.birdcore.specs.Script.{AreOfV4};
 
 use crate::config::Config;
-use crate::operation::{Given, Op};
 use crate::play::play;
-use crate::report_text::write_report;
 use crate::script::Line;
 use attrs::{Clist, Origin, Path, Seq};
 use bits_ip::{Addr, Prefix};
+use import_core::{Given, Op};
+use report::write_report;
 use std::alloc::Global;
 use std::test::Fail;
 

@@ -1,4 +1,3 @@
-use crate::operation::{Given, Op};
 use crate::script::{Line, ScriptRead, read_script};
 use attrs::Origin;
 use bits_ip::{Addr, OutOfMemory};

@@ -11,12 +11,12 @@ ghost use Rattle.birdcore.specs.Answer.{FilesRefuse, ScriptRefused, Refuses, IsA
 use crate::config::{Config, read_config};
 use crate::laws::texts_say_one_thing;
 use crate::play::play;
-use crate::report_text::write_report;
 use crate::script::{Line, ScriptRead, read_script};
 use crate::status::Status;
 use crate::transfer::{read_whole, write_whole};
 use bits_ip::OutOfMemory;
 use outside_io::{Failed, Gate, Shelf, Sink};
+use report::write_report;
 use std::alloc::Global;
 
 /// CONF and SCRIPT, where the words are `play CONF SCRIPT`.

@@ -2,19 +2,11 @@ ghost use Rattle.std.specs.Prelude.{◌≡◌, ◌<◌, ◌^◌, ℕ, List, [], 
 ghost use Rattle.bits_ip.specs.Address.{family_of};
 ghost use Rattle.bits_ip.specs.Prefix.{Net};
 ghost use Rattle.bits_ip.specs.Text.{IsAddrText, IsNetText};
-ghost use Rattle.birdcore.specs.Lines.{words_of, IsNumber};
+ghost use Rattle.text.specs.Lines.{words_of};
 ghost use Rattle.birdcore.specs.Script.{actor_word};
 
-use crate::lines::next_word;
 use bits_ip::{Addr, Family, Prefix, read_addr, read_prefix};
-
-/// What follows this word, where it is the first of a line.
-pub fn expect_word<'a>(rest: &'a [u8], word: &[u8]) -> Option<&'a [u8]>
-    ensures { MatchOption result ((more : List (List ℕ)) → words_of rest.now ≡ word.now ∷ more → ⊥) (λ after. words_of rest.now ≡ word.now ∷ words_of after.now) }
-{
-    let (first, after) = next_word(rest)?;
-    if first == word { Some(after) } else { None }
-}
+use text::next_word;
 
 /// What follows the word of a line that names who acts.
 pub fn expect_actor<'a>(line: &'a [u8], name: &[u8]) -> Option<&'a [u8]>
@@ -27,13 +19,6 @@ pub fn expect_actor<'a>(line: &'a [u8], name: &[u8]) -> Option<&'a [u8]>
     } else {
         None
     }
-}
-
-/// Whether no word follows.
-pub fn is_end(rest: &[u8]) -> bool
-    ensures { IsTrue result ↔ (words_of rest.now ≡ []) }
-{
-    next_word(rest).is_none()
 }
 
 /// The IPv4 address that a word spells.

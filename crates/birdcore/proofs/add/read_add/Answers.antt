@@ -1,5 +1,5 @@
 use Rattle.std.proofs.lemmas.Result.{err_from_is_err_and}
-use Rattle.birdcore.specs.Lines.{words_of}
+use Rattle.text.specs.Lines.{words_of}
 use Rattle.birdcore.proofs.AddParts.{no_via, no_path_behind, no_options_behind, no_com_behind, add_read}
 use Rattle.birdcore.proofs.CommandParts.{form_more}
 use Rattle.birdcore.proofs.add.read_add.Goals as goal

@@ -1,4 +1,4 @@
-use Rattle.birdcore.specs.Lines.{words_of}
+use Rattle.text.specs.Lines.{words_of}
 use Rattle.birdcore.proofs.NumberRuns.{have_more}
 use Rattle.birdcore.proofs.add.read_numbers.Goals as goal
 

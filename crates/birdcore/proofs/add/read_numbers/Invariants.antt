@@ -1,5 +1,5 @@
 use Rattle.std.proofs.Common.{length}
-use Rattle.birdcore.specs.Lines.{words_of}
+use Rattle.text.specs.Lines.{words_of}
 use Rattle.birdcore.proofs.NumberRuns.{HaveNumbers}
 use Rattle.birdcore.proofs.add.read_numbers.Given as goal
 

@@ -1,5 +1,5 @@
 use Rattle.std.proofs.Common.{arith}
-use Rattle.birdcore.specs.Lines.{words_of}
+use Rattle.text.specs.Lines.{words_of}
 use Rattle.birdcore.proofs.AddParts.{no_origin, path_too_long}
 use Rattle.birdcore.proofs.add.read_path_and_origin.Goals as goal
 

@@ -1,5 +1,5 @@
 use Rattle.std.proofs.lemmas.Result.{err_from_is_err_and}
-use Rattle.birdcore.specs.Lines.{words_of}
+use Rattle.text.specs.Lines.{words_of}
 use Rattle.birdcore.proofs.CommandParts.{form_more, no_add_command, no_del_command}
 use Rattle.birdcore.proofs.commands.read_command.Goals as goal
 

@@ -1,4 +1,4 @@
-use Rattle.birdcore.specs.Lines.{words_of}
+use Rattle.text.specs.Lines.{words_of}
 use Rattle.birdcore.proofs.CommandParts.{line_of_command}
 use Rattle.birdcore.proofs.commands.read_line.Goals as goal
 

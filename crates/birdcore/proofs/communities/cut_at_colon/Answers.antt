@@ -2,7 +2,7 @@ use Rattle.std.proofs.Common.{◌≡◌, ◌∙◌, ap, ℕ, take, drop}
 use Rattle.std.specs.List.{take_while}
 use Rattle.std.proofs.lemmas.List.{nil_from_length}
 use Rattle.birdcore.specs.Command.{is_no_colon}
-use Rattle.birdcore.specs.Cut.{behind}
+use Rattle.text.specs.Cut.{behind}
 use Rattle.birdcore.proofs.CommunityWords.{cut_none, cut_some}
 use Rattle.birdcore.proofs.communities.cut_at_colon.Goals as goal
 

@@ -1,6 +1,6 @@
 use Rattle.std.proofs.Common.{◌≡◌, sym, ◌∙◌, []}
 use Rattle.std.proofs.lemmas.Bool.{false≢true}
-use Rattle.birdcore.specs.Lines.{words_of}
+use Rattle.text.specs.Lines.{words_of}
 use Rattle.birdcore.proofs.CommunityWords.{read_coms}
 use Rattle.birdcore.proofs.communities.read_com.Goals as goal
 

@@ -1,5 +1,5 @@
 use Rattle.std.proofs.lemmas.Result.{err_from_is_err_and}
-use Rattle.birdcore.specs.Lines.{words_of}
+use Rattle.text.specs.Lines.{words_of}
 use Rattle.birdcore.proofs.CommandParts.{form_more}
 use Rattle.birdcore.proofs.CommunityWords.{have_no_community, have_community_more, no_communities}
 use Rattle.birdcore.proofs.communities.read_communities.Goals as goal

@@ -1,5 +1,5 @@
 use Rattle.std.proofs.Common.{length}
-use Rattle.birdcore.specs.Lines.{words_of}
+use Rattle.text.specs.Lines.{words_of}
 use Rattle.birdcore.proofs.CommunityWords.{HaveCommunities}
 use Rattle.birdcore.proofs.communities.read_communities.Given as goal
 

@@ -1,0 +1,95 @@
+//! An operation in the spelling of scripts.
+ghost use Rattle.std.specs.Prelude.{◌≡◌, ◌++◌, ◌∷◌, codes, decimal, OnOk};
+ghost use Rattle.std.specs.List.{flat_map};
+ghost use Rattle.bits_ip.specs.Text.{addr_text, net_text, v4_text};
+ghost use Rattle.attrs.specs.Text.{optional_text, origin_text};
+ghost use Rattle.report.specs.Operation.{op_text};
+ghost use Rattle.import_core.specs.declared.operation.Op.TheVariants.{Add};
+
+use attrs::{write_communities, write_optional_number, write_spaced_numbers};
+use bits_ip::{Addr, OutOfMemory, Prefix, write_addr, write_prefix};
+use import_core::{Given, Op};
+use std::alloc::Global;
+
+/// Appends an operation as scripts spell it, without who gave it.
+pub(crate) fn write_op(alloc: Global, op: &Op, out: &mut Vec<u8>) -> Result<(), OutOfMemory>
+    ensures { OnOk result (out.new.items ≡ out.old.items ++ op_text op.now) }
+{
+    match op {
+        Op::SessionUp(id) => write_open(alloc, *id, out),
+        Op::Add(net, given) => write_add(alloc, net, given, out),
+        Op::Del(net) => write_del(alloc, net, out),
+    }
+}
+
+fn write_open(alloc: Global, id: u32, out: &mut Vec<u8>) -> Result<(), OutOfMemory>
+    ensures { OnOk result (out.new.items ≡ out.old.items ++ codes "open " ++ v4_text id) }
+{
+    out.extend_from_slice(b"open ")?;
+    write_addr(alloc, &Addr::V4(id), out)
+}
+
+fn write_del(alloc: Global, net: &Prefix, out: &mut Vec<u8>) -> Result<(), OutOfMemory>
+    ensures { OnOk result (out.new.items ≡ out.old.items ++ codes "del " ++ net_text net.now) }
+{
+    out.extend_from_slice(b"del ")?;
+    write_prefix(alloc, net, out)
+}
+
+fn write_add(
+    alloc: Global,
+    net: &Prefix,
+    given: &Given,
+    out: &mut Vec<u8>,
+) -> Result<(), OutOfMemory>
+    ensures { OnOk result (out.new.items ≡ out.old.items ++ op_text (Add net.now given.now)) }
+{
+    write_gateway(alloc, net, given, out)?;
+    write_way(given, out)?;
+    write_metrics(given, out)?;
+    write_communities(&given.coms, out)
+}
+
+/// Which net, and where its packets go.
+fn write_gateway(
+    alloc: Global,
+    net: &Prefix,
+    given: &Given,
+    out: &mut Vec<u8>,
+) -> Result<(), OutOfMemory>
+    ensures { OnOk result
+        (out.new.items ≡ out.old.items
+        ++ codes "add " ++ net_text net.now ++ codes " via " ++ addr_text given.now.gw) }
+{
+    out.extend_from_slice(b"add ")?;
+    write_prefix(alloc, net, out)?;
+    out.extend_from_slice(b" via ")?;
+    write_addr(alloc, &given.gw, out)
+}
+
+/// The path that the route came by, which may be empty, and its origin.
+fn write_way(given: &Given, out: &mut Vec<u8>) -> Result<(), OutOfMemory>
+    ensures { OnOk result
+        (out.new.items ≡ out.old.items
+        ++ codes " path" ++ flat_map (λ n. 32 ∷ decimal n) given.now.path
+        ++ codes " origin " ++ origin_text given.now.origin) }
+{
+    out.extend_from_slice(b" path")?;
+    write_spaced_numbers(given.path.as_slice(), out)?;
+    out.extend_from_slice(b" origin ")?;
+    out.extend_from_slice(given.origin.word().as_bytes())?;
+    Ok(())
+}
+
+/// The numbers by which routes are compared.
+fn write_metrics(given: &Given, out: &mut Vec<u8>) -> Result<(), OutOfMemory>
+    ensures { OnOk result
+        (out.new.items ≡ out.old.items
+        ++ optional_text (codes " med ") decimal given.now.med
+        ++ optional_text (codes " lp ") decimal given.now.lp
+        ++ optional_text (codes " igp ") decimal given.now.igp) }
+{
+    write_optional_number(" med ", given.med, out)?;
+    write_optional_number(" lp ", given.lp, out)?;
+    write_optional_number(" igp ", given.igp, out)
+}
