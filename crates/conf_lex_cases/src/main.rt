@@ -1,7 +1,9 @@
-//! Tries texts that files of cases hold: which tokens a text has, or at which byte it is refused, and which words.
+//! Tries texts that files of cases hold: which tokens a text has, or at which byte it is refused,
+//! and which words.
 //!
-//! A token is written `WHAT@AT+LEN`, where it stands and how many bytes it has. A word is written `FIRST:WHAT`, by its
-//! first token, with `@PLACE` where it carries a place, and `[START+LEN]` where it tells bytes of the text.
+//! A token is written `WHAT@AT+LEN`, where it stands and how many bytes it has. A word is written
+//! `FIRST:WHAT`, by its first token, with `@PLACE` where it carries a place, and `[START+LEN]` where
+//! it tells bytes of the text.
 #![tactic(auto)]
 
 mod tokens;

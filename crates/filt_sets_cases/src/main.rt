@@ -1,5 +1,6 @@
-//! Tries sets and masks that files of cases hold, in BIRD's notation: whether a set has an element, and whether a mask
-//! matches a path. In each case the set also gives back the items that it was made of.
+//! Tries sets and masks that files of cases hold, in BIRD's notation: whether a set has an element,
+//! and whether a mask matches a path. In each case the set also gives back the items that it was
+//! made of.
 #![tactic(auto)]
 
 mod ints;
