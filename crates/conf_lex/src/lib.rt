@@ -8,10 +8,6 @@ mod lexer;
 mod shapes;
 mod spelling;
 mod symbol;
-#[cfg(test)]
-mod tests;
-#[cfg(test)]
-mod tests_words;
 mod token;
 mod values;
 mod word;

@@ -1,6 +1,8 @@
 ghost use Rattle.std.specs.Prelude.{◌≡◌, ◌≤◌, ◌<◌, ℕ, List, length, drop, take, count_by, ◌==◌, MatchOption, true};
 ghost use Rattle.std.specs.Char.{is_ascii_digit, is_ascii_hexdigit};
-ghost use Rattle.std.specs.List.{prefix_len, take_while};
+ghost use Rattle.std.specs.Bool.{nat_eq};
+ghost use Rattle.std.specs.Cmp.Lexicographic.{pointwise};
+ghost use Rattle.std.specs.List.{list_any, prefix_len, take_while};
 ghost use Rattle.conf_lex.specs.Shapes.{is_letter, is_name_byte, is_quoted_byte, is_text_byte, is_colons_byte, is_short_sign, is_pair_sign, is_empty_sign, first_passes};
 ghost use Rattle.conf_lex.specs.Fronts.{quote_len, text_len, dot_len, dotted_len, begins_hexadecimal, dotted_or_number, has_sign, begins_comment, sign_len, begins_colons, plain_front};
 
@@ -197,46 +199,37 @@ fn number_front(text: &[u8]) -> (Sort, usize)
     }
 }
 
+/// Whether these bytes are one of the signs.
+fn is_among(bytes: &[u8], signs: &[&[u8]]) -> bool
+    ensures { result ≡ list_any (λ sign. pointwise nat_eq bytes.now sign.now) signs.now }
+{
+    signs.iter().any(|sign| bytes == *sign)
+}
+
 fn is_short_sign(bytes: &[u8]) -> bool
     ensures { result ≡ is_short_sign bytes.now }
 {
-    matches!(
-        bytes,
-        b";" | b"{"
-            | b"}"
-            | b"("
-            | b")"
-            | b","
-            | b"/"
-            | b"="
-            | b"."
-            | b"!"
-            | b"<"
-            | b">"
-            | b"~"
-            | b"+"
-            | b"-"
-            | b"*"
-            | b"["
-            | b"]"
-            | b":"
-            | b"?"
-    )
+    const SIGNS: [&[u8]; 20] = [
+        b";", b"{", b"}", b"(", b")", b",", b"/", b"=", b".", b"!", b"<", b">", b"~", b"+", b"-",
+        b"*", b"[", b"]", b":", b"?",
+    ];
+    is_among(bytes, &SIGNS)
 }
 
 fn is_pair_sign(bytes: &[u8]) -> bool
     ensures { result ≡ is_pair_sign bytes.now }
 {
-    matches!(
-        bytes,
-        b"->" | b"&&" | b"||" | b"!=" | b"<=" | b">=" | b"!~" | b"[=" | b"=]" | b".."
-    )
+    const SIGNS: [&[u8]; 10] = [
+        b"->", b"&&", b"||", b"!=", b"<=", b">=", b"!~", b"[=", b"=]", b"..",
+    ];
+    is_among(bytes, &SIGNS)
 }
 
 fn is_empty_sign(bytes: &[u8]) -> bool
     ensures { result ≡ is_empty_sign bytes.now }
 {
-    bytes == b"+empty+".as_slice() || bytes == b"-empty-".as_slice()
+    const SIGNS: [&[u8]; 2] = [b"+empty+", b"-empty-"];
+    is_among(bytes, &SIGNS)
 }
 
 fn has_sign(text: &[u8], len: usize) -> bool

@@ -18,7 +18,7 @@ fn find(table: &[(&[u8], Symbol)], bytes: &[u8]) -> Option<Symbol>
 fn of_one(bytes: &[u8]) -> Option<Symbol>
     ensures { result ≡ lookup bytes.now (spellings_of 1) }
 {
-    let table: [(&[u8], Symbol); 20] = [
+    const TABLE: [(&[u8], Symbol); 20] = [
         (b";", Symbol::Semicolon),
         (b"{", Symbol::OpenBrace),
         (b"}", Symbol::CloseBrace),
@@ -40,13 +40,13 @@ fn of_one(bytes: &[u8]) -> Option<Symbol>
         (b":", Symbol::Colon),
         (b"?", Symbol::Question),
     ];
-    find(&table, bytes)
+    find(&TABLE, bytes)
 }
 
 fn of_two(bytes: &[u8]) -> Option<Symbol>
     ensures { result ≡ lookup bytes.now (spellings_of 2) }
 {
-    let table: [(&[u8], Symbol); 19] = [
+    const TABLE: [(&[u8], Symbol); 19] = [
         (b"id", Symbol::Id),
         (b"as", Symbol::As),
         (b"on", Symbol::On),
@@ -67,13 +67,13 @@ fn of_two(bytes: &[u8]) -> Option<Symbol>
         (b"=]", Symbol::CloseMask),
         (b"..", Symbol::Range),
     ];
-    find(&table, bytes)
+    find(&TABLE, bytes)
 }
 
 fn of_three(bytes: &[u8]) -> Option<Symbol>
     ensures { result ≡ lookup bytes.now (spellings_of 3) }
 {
-    let table: [(&[u8], Symbol); 14] = [
+    const TABLE: [(&[u8], Symbol); 14] = [
         (b"log", Symbol::Log),
         (b"bgp", Symbol::Bgp),
         (b"via", Symbol::Via),
@@ -89,13 +89,13 @@ fn of_three(bytes: &[u8]) -> Option<Symbol>
         (b"set", Symbol::Set),
         (b"net", Symbol::Net),
     ];
-    find(&table, bytes)
+    find(&TABLE, bytes)
 }
 
 fn of_four(bytes: &[u8]) -> Option<Symbol>
     ensures { result ≡ lookup bytes.now (spellings_of 4) }
 {
-    let table: [(&[u8], Symbol); 20] = [
+    const TABLE: [(&[u8], Symbol); 20] = [
         (b"ipv4", Symbol::Ipv4),
         (b"ipv6", Symbol::Ipv6),
         (b"pipe", Symbol::Pipe),
@@ -117,13 +117,13 @@ fn of_four(bytes: &[u8]) -> Option<Symbol>
         (b"from", Symbol::From),
         (b"dest", Symbol::Dest),
     ];
-    find(&table, bytes)
+    find(&TABLE, bytes)
 }
 
 fn of_five(bytes: &[u8]) -> Option<Symbol>
     ensures { result ≡ lookup bytes.now (spellings_of 5) }
 {
-    let table: [(&[u8], Symbol); 14] = [
+    const TABLE: [(&[u8], Symbol); 14] = [
         (b"table", Symbol::Table),
         (b"route", Symbol::Route),
         (b"local", Symbol::Local),
@@ -139,13 +139,13 @@ fn of_five(bytes: &[u8]) -> Option<Symbol>
         (b"clist", Symbol::Clist),
         (b"proto", Symbol::Proto),
     ];
-    find(&table, bytes)
+    find(&TABLE, bytes)
 }
 
 fn of_six(bytes: &[u8]) -> Option<Symbol>
     ensures { result ≡ lookup bytes.now (spellings_of 6) }
 {
-    let table: [(&[u8], Symbol); 18] = [
+    const TABLE: [(&[u8], Symbol); 18] = [
         (b"router", Symbol::Router),
         (b"define", Symbol::Define),
         (b"filter", Symbol::Filter),
@@ -165,13 +165,13 @@ fn of_six(bytes: &[u8]) -> Option<Symbol>
         (b"string", Symbol::String),
         (b"source", Symbol::Source),
     ];
-    find(&table, bytes)
+    find(&TABLE, bytes)
 }
 
 fn of_seven(bytes: &[u8]) -> Option<Symbol>
     ensures { result ≡ lookup bytes.now (spellings_of 7) }
 {
-    let table: [(&[u8], Symbol); 13] = [
+    const TABLE: [(&[u8], Symbol); 13] = [
         (b"default", Symbol::Default),
         (b"address", Symbol::Address),
         (b"connect", Symbol::Connect),
@@ -186,13 +186,13 @@ fn of_seven(bytes: &[u8]) -> Option<Symbol>
         (b"+empty+", Symbol::EmptyPath),
         (b"-empty-", Symbol::EmptyClist),
     ];
-    find(&table, bytes)
+    find(&TABLE, bytes)
 }
 
 fn of_eight(bytes: &[u8]) -> Option<Symbol>
     ensures { result ≡ lookup bytes.now (spellings_of 8) }
 {
-    let table: [(&[u8], Symbol); 7] = [
+    const TABLE: [(&[u8], Symbol); 7] = [
         (b"function", Symbol::Function),
         (b"protocol", Symbol::Protocol),
         (b"prohibit", Symbol::Prohibit),
@@ -201,13 +201,13 @@ fn of_eight(bytes: &[u8]) -> Option<Symbol>
         (b"multihop", Symbol::Multihop),
         (b"bgp_path", Symbol::BgpPath),
     ];
-    find(&table, bytes)
+    find(&TABLE, bytes)
 }
 
 fn of_more(bytes: &[u8]) -> Option<Symbol>
     ensures { result ≡ lookup bytes.now long_spellings }
 {
-    let table: [(&[u8], Symbol); 21] = [
+    const TABLE: [(&[u8], Symbol); 21] = [
         (b"blackhole", Symbol::Blackhole),
         (b"unreachable", Symbol::Unreachable),
         (b"interpret", Symbol::Interpret),
@@ -230,7 +230,7 @@ fn of_more(bytes: &[u8]) -> Option<Symbol>
         (b"ORIGIN_EGP", Symbol::OriginEgp),
         (b"ORIGIN_INCOMPLETE", Symbol::OriginIncomplete),
     ];
-    find(&table, bytes)
+    find(&TABLE, bytes)
 }
 
 /// The symbol that is spelled so, found among the spellings of this length.

@@ -6,8 +6,6 @@ pub mod laws;
 mod mask;
 mod pairs;
 mod prefixes;
-#[cfg(test)]
-mod tests;
 
 pub use ints::{IntItem, IntSet};
 pub use mask::{Atom, Mask, MaskItem};

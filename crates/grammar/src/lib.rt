@@ -12,6 +12,3 @@ pub use words::{
     after, after_placed, expect, expect_name, expect_number, expect_placed, is_symbol, level_below,
     next, next_name, next_prefix, place_in,
 };
-
-#[cfg(test)]
-mod tests;

@@ -1,4 +1,4 @@
-use Rattle.std.proofs.Common.{◌≡◌, ℕ, List, [], ◌∷◌, ◌++◌, drop, arith, rules}
+use Rattle.std.proofs.Common.{◌≡◌, [], ◌∷◌, ◌++◌, drop, rules}
 use Rattle.conf_lex.specs.Words.{words_from}
 use Rattle.conf_lex.proofs.Folded.{words_more}
 use Rattle.conf_lex.proofs.folding.words_from.Goals as goal

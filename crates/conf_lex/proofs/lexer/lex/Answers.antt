@@ -1,5 +1,6 @@
-use Rattle.std.proofs.Common.{◌≡◌, ℕ, ◌<◌, ◌≤◌, ◌+◌, false, List, [], ◌∷◌, ◌++◌, length, take, drop, sym, ap, subst, ◌∙◌, arith, rules, append_assoc, append-nil}
+use Rattle.std.proofs.Common.{◌≡◌, ℕ, ◌<◌, ◌≤◌, ◌+◌, false, List, [], ◌∷◌, ◌++◌, length, take, drop, eqb, sym, ap, subst, ◌∙◌, arith, append_assoc, append-nil}
 use Rattle.std.proofs.lemmas.List.{length-drop, drop-drop}
+use Rattle.std.proofs.lemmas.Bool.{eqb-true}
 use Rattle.std.proofs.lemmas.Bool.Decides.{nat_tests}
 use Rattle.conf_lex.specs.declared.token.Token.{Token}
 use Rattle.conf_lex.specs.declared.token.TokenKind.{TokenKind}
@@ -26,6 +27,9 @@ ended : (text here rest : List ℕ) (at g : ℕ) (found : List Token) → at ≤
 ended text here rest at g found within here-is gap rest-is none completes =
     rw append-nil at (completes [] (gap_ends text at g within (gap_along text here at g here-is gap) (ap (λ (l : List ℕ). length l) (sym rest-is) ∙ none)))
 
+is_some : (n : ℕ) → eqb n 0 ≡ false → 0 < n
+is_some n is = grind (arith, nat_tests)
+
 -- no token begins
 stopped : (text here rest : List ℕ) (at g : ℕ) (found : List Token) → at ≤ length text → here ≡ drop at text → g ≤ length here → IsGap (take g here) (drop g here) → HasNoSeparator (drop g here) → rest ≡ drop (at + g) text → 0 < length rest → HasNoToken rest
     → ((more : List Token) (place : ℕ) → Stops at (drop at text) more place → Stops 0 text (found ++ more) place) → Stops 0 text found (at + g)
@@ -36,24 +40,24 @@ stopped text here rest at g found within here-is far gap bare rest-is some none 
 
 pub returns-then-is_empty-clause-tokens : goal.returns-then-is_empty-clause-tokens
 returns-then-is_empty-clause-tokens c =
-    let none : length c.tail-rest.result.now ≡ 0 = grind (arith, nat_tests) in
+    let none : length c.tail-rest.result.now ≡ 0 = eqb-true (length c.tail-rest.result.now) 0 (sym c.if-is_empty.ensures) in
     ended c.args.text.now c.tail.result.now c.tail-rest.result.now c.loop-rest.at c.gap_len-at.result c.loop-rest.found.items c.loop-rest.invariant.within c.tail.ensures c.gap_len-at.ensures.gap c.tail-rest.ensures none c.loop-rest.invariant.tokens
 
 pub returns-then-is_empty-clause-only : goal.returns-then-is_empty-clause-only
 returns-then-is_empty-clause-only c = λ tokens other.
-    let none : length c.tail-rest.result.now ≡ 0 = grind (arith, nat_tests) in
+    let none : length c.tail-rest.result.now ≡ 0 = eqb-true (length c.tail-rest.result.now) 0 (sym c.if-is_empty.ensures) in
     let mine = ended c.args.text.now c.tail.result.now c.tail-rest.result.now c.loop-rest.at c.gap_len-at.result c.loop-rest.found.items c.loop-rest.invariant.within c.tail.ensures c.gap_len-at.ensures.gap c.tail-rest.ensures none c.loop-rest.invariant.tokens in
     lexes_once 0 c.args.text.now c.loop-rest.found.items tokens mine other
 
 pub returns-then-is_empty-clause-exact : goal.returns-then-is_empty-clause-exact
 returns-then-is_empty-clause-exact c = λ tokens place other.
-    let none : length c.tail-rest.result.now ≡ 0 = grind (arith, nat_tests) in
+    let none : length c.tail-rest.result.now ≡ 0 = eqb-true (length c.tail-rest.result.now) 0 (sym c.if-is_empty.ensures) in
     let mine = ended c.args.text.now c.tail.result.now c.tail-rest.result.now c.loop-rest.at c.gap_len-at.result c.loop-rest.found.items c.loop-rest.invariant.within c.tail.ensures c.gap_len-at.ensures.gap c.tail-rest.ensures none c.loop-rest.invariant.tokens in
     lexes_or_stops 0 c.args.text.now c.loop-rest.found.items tokens place mine other
 
 pub returns-in_default-clause-bad : goal.returns-in_default-clause-bad
 returns-in_default-clause-bad c =
-    let some : 0 < length c.tail-rest.result.now = grind (arith, nat_tests) in
+    let some : 0 < length c.tail-rest.result.now = is_some (length c.tail-rest.result.now) (sym c.if-is_empty.ensures) in
     let none : HasNoToken c.tail-rest.result.now = rw c.in_default.is at c.token_at.ensures in (
       c.loop-rest.found.items,
       stopped c.args.text.now c.tail.result.now c.tail-rest.result.now c.loop-rest.at c.gap_len-at.result c.loop-rest.found.items c.loop-rest.invariant.within c.tail.ensures c.gap_len-at.ensures.within c.gap_len-at.ensures.gap c.gap_len-at.ensures.end c.tail-rest.ensures some none c.loop-rest.invariant.stops,
@@ -61,14 +65,14 @@ returns-in_default-clause-bad c =
 
 pub returns-in_default-clause-only : goal.returns-in_default-clause-only
 returns-in_default-clause-only c = λ tokens other.
-    let some : 0 < length c.tail-rest.result.now = grind (arith, nat_tests) in
+    let some : 0 < length c.tail-rest.result.now = is_some (length c.tail-rest.result.now) (sym c.if-is_empty.ensures) in
     let none : HasNoToken c.tail-rest.result.now = rw c.in_default.is at c.token_at.ensures in
     let mine = stopped c.args.text.now c.tail.result.now c.tail-rest.result.now c.loop-rest.at c.gap_len-at.result c.loop-rest.found.items c.loop-rest.invariant.within c.tail.ensures c.gap_len-at.ensures.within c.gap_len-at.ensures.gap c.gap_len-at.ensures.end c.tail-rest.ensures some none c.loop-rest.invariant.stops in
     lexes_or_stops 0 c.args.text.now tokens c.loop-rest.found.items (c.loop-rest.at + c.gap_len-at.result) other mine
 
 pub returns-in_default-clause-exact : goal.returns-in_default-clause-exact
 returns-in_default-clause-exact c = λ tokens place other.
-    let some : 0 < length c.tail-rest.result.now = grind (arith, nat_tests) in
+    let some : 0 < length c.tail-rest.result.now = is_some (length c.tail-rest.result.now) (sym c.if-is_empty.ensures) in
     let none : HasNoToken c.tail-rest.result.now = rw c.in_default.is at c.token_at.ensures in
     let mine = stopped c.args.text.now c.tail.result.now c.tail-rest.result.now c.loop-rest.at c.gap_len-at.result c.loop-rest.found.items c.loop-rest.invariant.within c.tail.ensures c.gap_len-at.ensures.within c.gap_len-at.ensures.gap c.gap_len-at.ensures.end c.tail-rest.ensures some none c.loop-rest.invariant.stops in
     stops_once 0 c.args.text.now c.loop-rest.found.items tokens (c.loop-rest.at + c.gap_len-at.result) place mine other
@@ -92,7 +96,7 @@ loop-rest-preserved c =
     let far = reach text c.tail.result.now at g c.loop-rest.invariant.within c.tail.ensures c.gap_len-at.ensures.within in
     let gap = gap_along text c.tail.result.now at g c.tail.ensures c.gap_len-at.ensures.gap in
     let tells = tells_along text c.tail-rest.result.now (at + g) kind n c.tail-rest.ensures c.in-Some.ensures in
-    let pushed : c.push.new.self.items ≡ found ++ record { kind = kind; at = at + g; len = n } ∷ [] = search rules in
+    let pushed : c.push.new.self.items ≡ found ++ record { kind = kind; at = at + g; len = n } ∷ [] = c.in_ok-push.ensures.items in
     record {
       within = omega (arith, tells.within, length-drop (at + g) text, far);
       plain = λ k below. plain_along text c.tail-rest.result.now (at + g) n k c.tail-rest.ensures (c.plain_until-plain.ensures.plain (n + k) (omega (arith, below)));

@@ -1,0 +1,49 @@
+use crate::tokens::addr_text;
+use conf_lex::{LexFault, Word, lex, words};
+use std::alloc::Global;
+use std::io;
+
+fn word_text(alloc: Global, word: Word) -> io::Result<String> {
+    Ok(match word {
+        Word::Name { at, start, len } => format!(in alloc; "name@{at}[{start}+{len}]")?,
+        Word::Number { at, value } => format!(in alloc; "{value}@{at}")?,
+        Word::Text { at, start, len } => format!(in alloc; "text@{at}[{start}+{len}]")?,
+        Word::Ip { at, addr } => {
+            let addr = addr_text(alloc, &addr)?;
+            format!(in alloc; "{addr}@{at}")?
+        }
+        Word::Prefix { at, net } => {
+            let addr = addr_text(alloc, &net.addr())?;
+            let len = net.len();
+            format!(in alloc; "{addr}/{len}@{at}")?
+        }
+        Word::BadPrefix { at } => format!(in alloc; "bad@{at}")?,
+        Word::Symbol(symbol) => format!(in alloc; "{symbol:?}")?,
+        Word::Placed { at, symbol } => format!(in alloc; "{symbol:?}@{at}")?,
+    })
+}
+
+fn words_text(alloc: Global, words: &[Word], starts: &[usize]) -> io::Result<String> {
+    let mut text = String::new(alloc);
+    for (word, start) in words.iter().zip(starts) {
+        if !text.is_empty() {
+            text.push_str(" ")?;
+        }
+        let word = word_text(alloc, *word)?;
+        write!(text, "{start}:{word}")?;
+    }
+    Ok(text)
+}
+
+/// The words of a text, or where it has no tokens.
+pub fn answer(alloc: Global, text: &[u8]) -> io::Result<String> {
+    let out_of_memory = io::Error::from(io::ErrorKind::OutOfMemory);
+    match lex(alloc, text) {
+        Ok(tokens) => match words(alloc, text, tokens.as_slice()) {
+            Ok(found) => words_text(alloc, found.words.as_slice(), found.starts.as_slice()),
+            Err(_) => Err(out_of_memory),
+        },
+        Err(LexFault::Bad { at }) => Ok(format!(in alloc; "refused at {at}")?),
+        Err(LexFault::Memory) => Err(out_of_memory),
+    }
+}
