@@ -1,25 +1,34 @@
 // Statements. Each function answers a statement and the words after it; `left` is how many more levels may be opened.
 
-ghost use Rattle.std.specs.Prelude.{◌≡◌, ◌∷◌, map};
+ghost use Rattle.std.specs.Prelude.{◌≡◌, ◌∷◌, ◌+◌, map};
 ghost use Rattle.conf_lex.specs.declared.symbol.Symbol.TheVariants as sym;
 ghost use Rattle.conf_lex.specs.declared.word.Word.{Word};
 ghost use Rattle.grammar.specs.Kind.{symbol};
-ghost use Rattle.grammar.specs.Grammar.{Both, begins};
+ghost use Rattle.grammar.specs.Grammar.{Both, Inside, begins};
 ghost use Rattle.grammar.specs.Reading.{word, both};
 ghost use Rattle.grammar.specs.Shapes.{symbol_leaf, closed, between};
 ghost use Rattle.grammar.specs.Gives.{Gives};
-ghost use Rattle.filt_syntax.specs.StatementView.{block_view, stmt_tree, stmts_tree, arms_row, arms_of, otherwise_tree, otherwise_of};
-ghost use Rattle.filt_syntax.specs.StatementReaders.{block_at, stmt_at, stmts_at, arms_at, arm_ends, arms_over, label_next, is_behind_name, is_item, ArmGives, OtherwiseGives};
+ghost use Rattle.filt_syntax.specs.StatementView.{block_view, stmt_tree, stmts_tree, arms_row, arms_of, otherwise_tree, otherwise_of, chosen_tree, branches_tree, second_tree};
+ghost use Rattle.filt_syntax.specs.StatementReaders.{block_at, stmt_at, stmts_at, else_at, branches_at, run_at, braced_at, arms_at, arm_ends, arms_over, label_next, is_behind_name, is_item, ArmGives, BodyGives, OtherwiseGives};
+ghost use Rattle.filt_syntax.specs.View.{sight};
+ghost use Rattle.filt_syntax.specs.Readers.{expr_at};
 
 use crate::expression::expression;
 use crate::items::label;
 use crate::operators::next_name;
 use crate::simple_statement::{done_to_name, simple_statement};
-use crate::tree::{Arm, Block, Stmt};
+use crate::tree::{Arm, Block, Expr, Stmt};
 use crate::variable_type::variable_type;
 use conf_lex::{Symbol, Word};
 use grammar::{Refusal, after, after_placed, expect, expect_name, level_below, next};
 use std::alloc::Global;
+
+// The branches of an `if`.
+#[derive(Drop)]
+struct Branches {
+    first: Box<Stmt>,
+    second: Option<Box<Stmt>>,
+}
 
 /// The longest statement.
 #[cycle(statement)]
@@ -85,6 +94,20 @@ pub fn statements<'a>(
     }
 }
 
+// A statement, in a box.
+#[cycle(statement)]
+fn boxed<'a>(
+    alloc: Global,
+    words: &'a [Word],
+    left: u32,
+) -> Result<(Box<Stmt>, &'a [Word]), Refusal<'a>>
+    ensures { Gives (λ s. stmt_tree s.value) result (stmt_at left words.now) }
+{
+    let (stmt, rest) = statement(alloc, words, left)?;
+    let boxed = Box::new(alloc, stmt)?;
+    Ok((boxed, rest))
+}
+
 // By the words after `if`.
 #[cycle(statement)]
 fn choice<'a>(
@@ -97,17 +120,51 @@ fn choice<'a>(
     ensures { Gives stmt_tree result (stmt_at left words.now) }
 {
     let (condition, rest) = expression(alloc, next, left)?;
-    let inside = expect(rest, Symbol::Then)?;
-    let below = level_below(rest, left)?;
-    let (first, rest) = statement(alloc, inside, below)?;
-    match after(rest, Symbol::Else) {
-        None => Ok((Stmt::If(condition, Box::new(alloc, first)?), rest)),
+    let (branches, rest) = read_branches(alloc, rest, left)?;
+    Ok((chosen(condition, branches), rest))
+}
+
+// What stands behind the condition of an `if`.
+#[cycle(statement)]
+fn read_branches<'a>(
+    alloc: Global,
+    words: &'a [Word],
+    left: u32,
+) -> Result<(Branches, &'a [Word]), Refusal<'a>>
+    ensures { Gives branches_tree result (branches_at left words.now) }
+{
+    let inside = expect(words, Symbol::Then)?;
+    let below = level_below(words, left)?;
+    let (first, rest) = boxed(alloc, inside, below)?;
+    let (second, rest) = second_branch(alloc, rest, below)?;
+    Ok((Branches { first, second }, rest))
+}
+
+// The branch behind `else`, if any; `below` is how many more levels may be opened in it.
+#[cycle(statement)]
+fn second_branch<'a>(
+    alloc: Global,
+    words: &'a [Word],
+    below: u32,
+) -> Result<(Option<Box<Stmt>>, &'a [Word]), Refusal<'a>>
+    ensures { Gives second_tree result (else_at (below + 1) words.now) }
+{
+    match after(words, Symbol::Else) {
+        None => Ok((None, words)),
         Some(inside) => {
-            let (second, rest) = statement(alloc, inside, below)?;
-            let first = Box::new(alloc, first)?;
-            let second = Box::new(alloc, second)?;
-            Ok((Stmt::IfElse(condition, first, second), rest))
+            let (second, rest) = boxed(alloc, inside, below)?;
+            Ok((Some(second), rest))
         }
+    }
+}
+
+fn chosen(condition: Expr, branches: Branches) -> Stmt
+    ensures { stmt_tree result ≡ chosen_tree condition (branches_tree branches) }
+{
+    let Branches { first, second } = branches;
+    match second {
+        None => Stmt::If(condition, first),
+        Some(second) => Stmt::IfElse(condition, first, second),
     }
 }
 
@@ -125,19 +182,42 @@ fn for_each<'a>(
 {
     let (variable_type, rest) = variable_type(next)?;
     let (name, rest) = expect_name(rest)?;
-    let rest = expect(rest, Symbol::In)?;
-    let (list, rest) = expression(alloc, rest, left)?;
-    let inside = expect(rest, Symbol::Do)?;
-    let below = level_below(rest, left)?;
-    let (body, rest) = statement(alloc, inside, below)?;
+    let (list, rest) = walked(alloc, rest, left)?;
+    let (body, rest) = repeated(alloc, rest, left)?;
     let for_each = Stmt::For {
         at,
         variable_type,
         name,
         list,
-        body: Box::new(alloc, body)?,
+        body,
     };
     Ok((for_each, rest))
+}
+
+// The word `in`, and the list that a `for` walks.
+fn walked<'a>(
+    alloc: Global,
+    words: &'a [Word],
+    left: u32,
+) -> Result<(Expr, &'a [Word]), Refusal<'a>>
+    ensures { Gives (λ e. Both (symbol_leaf sym.In) (sight e).expr) result (both (word (symbol sym.In)) (expr_at left) words.now) }
+{
+    let inside = expect(words, Symbol::In)?;
+    expression(alloc, inside, left)
+}
+
+// The word `do`, and what is done for each element.
+#[cycle(statement)]
+fn repeated<'a>(
+    alloc: Global,
+    words: &'a [Word],
+    left: u32,
+) -> Result<(Box<Stmt>, &'a [Word]), Refusal<'a>>
+    ensures { Gives (λ s. Inside (Word.Symbol sym.Do) (stmt_tree s.value)) result (run_at left words.now) }
+{
+    let inside = expect(words, Symbol::Do)?;
+    let below = level_below(words, left)?;
+    boxed(alloc, inside, below)
 }
 
 // By the words after `case`.
@@ -153,9 +233,7 @@ fn selection<'a>(
     ensures { Gives stmt_tree result (stmt_at left words.now) }
 {
     let (value, rest) = expression(alloc, next, left)?;
-    let inside = expect(rest, Symbol::OpenBrace)?;
-    let below = level_below(rest, left)?;
-    let ((arms, otherwise), rest) = arms(alloc, inside, below)?;
+    let ((arms, otherwise), rest) = braced(alloc, rest, left)?;
     let selection = Stmt::Case {
         at,
         value,
@@ -163,6 +241,21 @@ fn selection<'a>(
         otherwise,
     };
     Ok((selection, rest))
+}
+
+// The braces of a `case`, and what stands between them.
+#[cycle(statement)]
+fn braced<'a>(
+    alloc: Global,
+    words: &'a [Word],
+    left: u32,
+) -> Result<((Vec<Arm<Stmt>>, Option<Vec<Stmt>>), &'a [Word]), Refusal<'a>>
+    ensures { Gives (λ found. between (Word.Symbol sym.OpenBrace) (Both (arms_row (arms_of found.0.items)) (otherwise_tree (otherwise_of found.1))) sym.CloseBrace) result
+        (braced_at left words.now) }
+{
+    let inside = expect(words, Symbol::OpenBrace)?;
+    let below = level_below(words, left)?;
+    arms(alloc, inside, below)
 }
 
 // What stands between the braces of a `case`, and the closing brace.
@@ -186,7 +279,7 @@ fn arms<'a>(
     Ok(((found, otherwise), rest))
 }
 
-// An arm: its labels, and the statements up to the next label, `else:` or brace.
+// An arm: its labels, and its statements.
 #[cycle(statement)]
 fn arm<'a>(
     alloc: Global,
@@ -195,14 +288,28 @@ fn arm<'a>(
 ) -> Result<(Arm<Stmt>, &'a [Word]), Refusal<'a>>
     ensures { ArmGives result left words.now }
 {
-    let (labels, mut rest) = label(alloc, words, left)?;
+    let (labels, rest) = label(alloc, words, left)?;
+    let (body, rest) = arm_body(alloc, rest, left)?;
+    Ok((Arm { labels, body }, rest))
+}
+
+// The statements of an arm, up to the next label, `else:` or brace.
+#[cycle(statement)]
+fn arm_body<'a>(
+    alloc: Global,
+    words: &'a [Word],
+    left: u32,
+) -> Result<(Vec<Stmt>, &'a [Word]), Refusal<'a>>
+    ensures { BodyGives result left words.now }
+{
     let mut body = Vec::new(alloc);
+    let mut rest = words;
     while !is_behind_arm(rest) {
         let (stmt, next) = statement(alloc, rest, left)?;
         body.push(stmt)?;
         rest = next;
     }
-    Ok((Arm { labels, body }, rest))
+    Ok((body, rest))
 }
 
 // What stands behind the arms: the statements of `else:`, if any, and the closing brace.
