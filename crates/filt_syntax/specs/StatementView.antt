@@ -237,6 +237,10 @@ stmt_step (Stmt-F.Call n es) = call_tree n es.items
 abbrev pub stmt_tree : Stmt → Tree
 stmt_tree = fold-Stmt Tree stmt_step
 
+-- a statement in a box
+abbrev pub boxed_tree : Box Stmt Global → Tree
+boxed_tree s = stmt_tree s.value
+
 abbrev pub stmts_tree : List Stmt → Tree
 stmts_tree ss = row_tree (map stmt_tree ss)
 

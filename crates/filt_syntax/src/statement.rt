@@ -1,6 +1,6 @@
 // Statements. Each function answers a statement and the words after it; `left` is how many more levels may be opened.
 
-ghost use Rattle.std.specs.Prelude.{◌≡◌, ◌∷◌, ◌+◌, map};
+ghost use Rattle.std.specs.Prelude.{◌≡◌, [], ◌∷◌, ◌++◌, ◌+◌, map, OnOk};
 ghost use Rattle.conf_lex.specs.declared.symbol.Symbol.TheVariants as sym;
 ghost use Rattle.conf_lex.specs.declared.word.Word.{Word};
 ghost use Rattle.grammar.specs.Kind.{symbol};
@@ -8,7 +8,7 @@ ghost use Rattle.grammar.specs.Grammar.{Both, Inside, begins};
 ghost use Rattle.grammar.specs.Reading.{word, both};
 ghost use Rattle.grammar.specs.Shapes.{symbol_leaf, closed, between};
 ghost use Rattle.grammar.specs.Gives.{Gives};
-ghost use Rattle.filt_syntax.specs.StatementView.{block_view, stmt_tree, stmts_tree, arms_row, arms_of, otherwise_tree, otherwise_of, chosen_tree, branches_tree, second_tree};
+ghost use Rattle.filt_syntax.specs.StatementView.{block_view, stmt_tree, boxed_tree, stmts_tree, arms_row, arms_of, otherwise_tree, otherwise_of, chosen_tree, branches_tree, second_tree};
 ghost use Rattle.filt_syntax.specs.StatementReaders.{block_at, stmt_at, stmts_at, else_at, branches_at, run_at, braced_at, arms_at, arm_ends, arms_over, label_next, is_behind_name, is_item, ArmGives, BodyGives, OtherwiseGives};
 ghost use Rattle.filt_syntax.specs.View.{sight};
 ghost use Rattle.filt_syntax.specs.Readers.{expr_at};
@@ -16,12 +16,12 @@ ghost use Rattle.filt_syntax.specs.Readers.{expr_at};
 use crate::expression::expression;
 use crate::items::label;
 use crate::operators::next_name;
-use crate::simple_statement::{done_to_name, simple_statement};
+use crate::simple_statement::{done_to_name, made, simple_statement};
 use crate::tree::{Arm, Block, Expr, Stmt};
 use crate::variable_type::variable_type;
 use conf_lex::{Symbol, Word};
 use grammar::{Refusal, after, after_placed, expect, expect_name, level_below, next};
-use std::alloc::Global;
+use std::alloc::{AllocError, Global};
 
 // The branches of an `if`.
 #[derive(Drop)]
@@ -30,14 +30,14 @@ struct Branches {
     second: Option<Box<Stmt>>,
 }
 
-/// The longest statement.
+/// The longest statement. It comes in a box, since small values make short proofs.
 #[cycle(statement)]
 pub fn statement<'a>(
     alloc: Global,
     words: &'a [Word],
     left: u32,
-) -> Result<(Stmt, &'a [Word]), Refusal<'a>>
-    ensures { Gives stmt_tree result (stmt_at left words.now) }
+) -> Result<(Box<Stmt>, &'a [Word]), Refusal<'a>>
+    ensures { Gives boxed_tree result (stmt_at left words.now) }
 {
     if let Some((name, next)) = next_name(words) {
         return done_to_name(alloc, name, next, left);
@@ -64,13 +64,20 @@ fn block<'a>(
     words: &'a [Word],
     next: &'a [Word],
     left: u32,
-) -> Result<(Stmt, &'a [Word]), Refusal<'a>>
+) -> Result<(Box<Stmt>, &'a [Word]), Refusal<'a>>
     requires { words.now ≡ Word.Symbol sym.OpenBrace ∷ next.now }
-    ensures { Gives stmt_tree result (stmt_at left words.now) }
+    ensures { Gives boxed_tree result (stmt_at left words.now) }
 {
     let below = level_below(words, left)?;
     let (body, rest) = statements(alloc, next, below)?;
-    Ok((Stmt::Block(body), rest))
+    made(alloc, Stmt::Block(body), rest)
+}
+
+fn put(found: &mut Vec<Stmt>, stmt: Box<Stmt>) -> Result<(), AllocError>
+    ensures { OnOk result (found.new.items ≡ found.old.items ++ stmt.value ∷ []) }
+{
+    found.push(Box::into_inner(stmt))?;
+    Ok(())
 }
 
 /// Any number of statements, and the brace behind them.
@@ -89,23 +96,9 @@ pub fn statements<'a>(
             return Ok((found, end));
         }
         let (stmt, next) = statement(alloc, rest, left)?;
-        found.push(stmt)?;
+        put(&mut found, stmt)?;
         rest = next;
     }
-}
-
-// A statement, in a box.
-#[cycle(statement)]
-fn boxed<'a>(
-    alloc: Global,
-    words: &'a [Word],
-    left: u32,
-) -> Result<(Box<Stmt>, &'a [Word]), Refusal<'a>>
-    ensures { Gives (λ s. stmt_tree s.value) result (stmt_at left words.now) }
-{
-    let (stmt, rest) = statement(alloc, words, left)?;
-    let boxed = Box::new(alloc, stmt)?;
-    Ok((boxed, rest))
 }
 
 // By the words after `if`.
@@ -115,13 +108,13 @@ fn choice<'a>(
     words: &'a [Word],
     next: &'a [Word],
     left: u32,
-) -> Result<(Stmt, &'a [Word]), Refusal<'a>>
+) -> Result<(Box<Stmt>, &'a [Word]), Refusal<'a>>
     requires { words.now ≡ Word.Symbol sym.If ∷ next.now }
-    ensures { Gives stmt_tree result (stmt_at left words.now) }
+    ensures { Gives boxed_tree result (stmt_at left words.now) }
 {
     let (condition, rest) = expression(alloc, next, left)?;
     let (branches, rest) = read_branches(alloc, rest, left)?;
-    Ok((chosen(condition, branches), rest))
+    made(alloc, chosen(condition, branches), rest)
 }
 
 // What stands behind the condition of an `if`.
@@ -135,7 +128,7 @@ fn read_branches<'a>(
 {
     let inside = expect(words, Symbol::Then)?;
     let below = level_below(words, left)?;
-    let (first, rest) = boxed(alloc, inside, below)?;
+    let (first, rest) = statement(alloc, inside, below)?;
     let (second, rest) = second_branch(alloc, rest, below)?;
     Ok((Branches { first, second }, rest))
 }
@@ -152,7 +145,7 @@ fn second_branch<'a>(
     match after(words, Symbol::Else) {
         None => Ok((None, words)),
         Some(inside) => {
-            let (second, rest) = boxed(alloc, inside, below)?;
+            let (second, rest) = statement(alloc, inside, below)?;
             Ok((Some(second), rest))
         }
     }
@@ -176,9 +169,9 @@ fn for_each<'a>(
     at: usize,
     next: &'a [Word],
     left: u32,
-) -> Result<(Stmt, &'a [Word]), Refusal<'a>>
+) -> Result<(Box<Stmt>, &'a [Word]), Refusal<'a>>
     requires { words.now ≡ Word.Placed at sym.For ∷ next.now }
-    ensures { Gives stmt_tree result (stmt_at left words.now) }
+    ensures { Gives boxed_tree result (stmt_at left words.now) }
 {
     let (variable_type, rest) = variable_type(next)?;
     let (name, rest) = expect_name(rest)?;
@@ -191,7 +184,7 @@ fn for_each<'a>(
         list,
         body,
     };
-    Ok((for_each, rest))
+    made(alloc, for_each, rest)
 }
 
 // The word `in`, and the list that a `for` walks.
@@ -213,11 +206,11 @@ fn repeated<'a>(
     words: &'a [Word],
     left: u32,
 ) -> Result<(Box<Stmt>, &'a [Word]), Refusal<'a>>
-    ensures { Gives (λ s. Inside (Word.Symbol sym.Do) (stmt_tree s.value)) result (run_at left words.now) }
+    ensures { Gives (λ s. Inside (Word.Symbol sym.Do) (boxed_tree s)) result (run_at left words.now) }
 {
     let inside = expect(words, Symbol::Do)?;
     let below = level_below(words, left)?;
-    boxed(alloc, inside, below)
+    statement(alloc, inside, below)
 }
 
 // By the words after `case`.
@@ -228,9 +221,9 @@ fn selection<'a>(
     at: usize,
     next: &'a [Word],
     left: u32,
-) -> Result<(Stmt, &'a [Word]), Refusal<'a>>
+) -> Result<(Box<Stmt>, &'a [Word]), Refusal<'a>>
     requires { words.now ≡ Word.Placed at sym.Case ∷ next.now }
-    ensures { Gives stmt_tree result (stmt_at left words.now) }
+    ensures { Gives boxed_tree result (stmt_at left words.now) }
 {
     let (value, rest) = expression(alloc, next, left)?;
     let ((arms, otherwise), rest) = braced(alloc, rest, left)?;
@@ -240,7 +233,7 @@ fn selection<'a>(
         arms,
         otherwise,
     };
-    Ok((selection, rest))
+    made(alloc, selection, rest)
 }
 
 // The braces of a `case`, and what stands between them.
@@ -306,7 +299,7 @@ fn arm_body<'a>(
     let mut rest = words;
     while !is_behind_arm(rest) {
         let (stmt, next) = statement(alloc, rest, left)?;
-        body.push(stmt)?;
+        put(&mut body, stmt)?;
         rest = next;
     }
     Ok((body, rest))

@@ -15,7 +15,7 @@ use Rattle.filt_syntax.specs.declared.tree.Expr.{Expr}
 use Rattle.filt_syntax.specs.declared.tree.Stmt.{Stmt}
 use Rattle.filt_syntax.specs.Readers.{expr_at}
 use Rattle.filt_syntax.specs.ItemView.{label_tree}
-use Rattle.filt_syntax.specs.StatementView.{stmt_tree, stmts_tree, arms_of, arms_row, arms_chain, body_after}
+use Rattle.filt_syntax.specs.StatementView.{stmt_tree, boxed_tree, stmts_tree, arms_of, arms_row, arms_chain, body_after}
 use Rattle.filt_syntax.specs.StatementReaders.{stmt_at, row_at, stmts_at, else_at, arms_at, more_arms_at, labelled_at, arms_end_at, run_at}
 use Rattle.filt_syntax.proofs.StatementSteps.{name_is}
 use Rattle.filt_syntax.proofs.StatementTrees.{tree-Block, tree-Case, tree-For, one_more_stmt}
@@ -25,7 +25,7 @@ use Rattle.filt_syntax.proofs.statement.+statement.Goals as goal
 
 pub statement-returns-in-Some : goal.statement-returns-in-Some
 statement-returns-in-Some t c =
-    gives_along stmt_tree c.done_to_name.result _ _ (name_is c.args.left c.in-Some.name c.args.words.now c.in-Some.next.now c.in-Some.ensures) c.done_to_name.ensures
+    gives_along boxed_tree c.done_to_name.result _ _ (name_is c.args.left c.in-Some.name c.args.words.now c.in-Some.next.now c.in-Some.ensures) c.done_to_name.ensures
 
 pub block-returns-in_err-below : goal.block-returns-in_err-below
 block-returns-in_err-below t c =
@@ -39,7 +39,7 @@ block-returns-in_err-body t c =
 
 pub block-returns : goal.block-returns
 block-returns t c =
-    rw (tree-Block c.in_ok-body.body) (block_is c.args.left c.in_ok-below.below c.args.words.now c.args.next.now c.in_ok-below.ensures c.requires ∙ rw c.in_ok-body.ensures refl)
+    c.made.ensures (stmt_at c.args.left c.args.words.now) (rw (tree-Block c.in_ok-body.body) (block_is c.args.left c.in_ok-below.below c.args.words.now c.args.next.now c.in_ok-below.ensures c.requires ∙ rw c.in_ok-body.ensures refl))
 
 pub statements-loop-end-init : goal.statements-loop-end-init
 statements-loop-end-init t c =
@@ -62,20 +62,10 @@ statements-loop-end-smaller t c =
 pub statements-loop-end-preserved : goal.statements-loop-end-preserved
 statements-loop-end-preserved t c =
     let ss = c.loop-end.found.items in
-    let s = c.in_ok-stmt.stmt in
+    let s = c.in_ok-stmt.stmt.value in
     let end = c.in_ok-stmt.next.now in
-    let pushed : c.push.new.self.items ≡ ss ++ s ∷ [] = search rules in
+    let pushed : c.put.new.found.items ≡ ss ++ s ∷ [] = search rules in
     rw pushed (c.loop-end.invariant ∙ row_more c.args.left (stmts_tree ss) c.loop-end.rest.now (stmt_tree s) end c.in_ok-stmt.ensures ∙ ap (λ (x : Tree). row_at c.args.left x end) (flip (one_more_stmt ss s)))
-
-pub boxed-returns-in_err-stmt : goal.boxed-returns-in_err-stmt
-boxed-returns-in_err-stmt t c =
-    let p = err_from_is_err_and c.from_residual.result c.from_residual.ensures.1 in
-    rw (p.1, p.2) c.in_err-stmt.ensures
-
-pub boxed-returns : goal.boxed-returns
-boxed-returns t c =
-    let same : c.in_ok-boxed.boxed.value ≡ c.in_ok-stmt.stmt = search rules in
-    rw same c.in_ok-stmt.ensures
 
 pub choice-returns-in_err-condition : goal.choice-returns-in_err-condition
 choice-returns-in_err-condition t c =
@@ -89,7 +79,7 @@ choice-returns-in_err-branches t c =
 
 pub choice-returns : goal.choice-returns
 choice-returns t c =
-    rw c.chosen.ensures (choice_is c.args.left c.args.words.now c.args.next.now c.requires ∙ rw (c.in_ok-condition.ensures, c.in_ok-branches.ensures) refl)
+    c.made.ensures (stmt_at c.args.left c.args.words.now) (rw c.chosen.ensures (choice_is c.args.left c.args.words.now c.args.next.now c.requires ∙ rw (c.in_ok-condition.ensures, c.in_ok-branches.ensures) refl))
 
 pub read_branches-returns-in_err-inside : goal.read_branches-returns-in_err-inside
 read_branches-returns-in_err-inside t c =
@@ -150,7 +140,7 @@ for_each-returns-in_err-body t c =
 pub for_each-returns : goal.for_each-returns
 for_each-returns t c =
     let body = c.in_ok-body.body in
-    rw (tree-For c.args.at c.in_ok-variable_type.variable_type c.in_ok-name.name c.in_ok-list.list body body.value refl) (for_is c.args.left c.args.at c.args.words.now c.args.next.now c.requires ∙ rw (c.in_ok-variable_type.ensures, c.in_ok-name.ensures, c.in_ok-list.ensures, c.in_ok-body.ensures) refl)
+    c.made.ensures (stmt_at c.args.left c.args.words.now) (rw (tree-For c.args.at c.in_ok-variable_type.variable_type c.in_ok-name.name c.in_ok-list.list body body.value refl) (for_is c.args.left c.args.at c.args.words.now c.args.next.now c.requires ∙ rw (c.in_ok-variable_type.ensures, c.in_ok-name.ensures, c.in_ok-list.ensures, c.in_ok-body.ensures) refl))
 
 pub repeated-returns-in_err-inside : goal.repeated-returns-in_err-inside
 repeated-returns-in_err-inside t c =
@@ -164,8 +154,8 @@ repeated-returns-in_err-below t c =
 
 pub repeated-returns : goal.repeated-returns
 repeated-returns t c =
-    gives_mapped (λ s. stmt_tree s.value) (λ x. Inside (words.Symbol sym.Do) x) c.boxed.result (stmt_at c.in_ok-below.below c.in_ok-inside.inside.now) (run_at c.args.left c.args.words.now)
-    (do_is c.args.left c.in_ok-below.below c.args.words.now c.in_ok-inside.inside.now c.in_ok-below.ensures c.in_ok-inside.ensures) c.boxed.ensures
+    gives_mapped boxed_tree (λ x. Inside (words.Symbol sym.Do) x) c.statement.result (stmt_at c.in_ok-below.below c.in_ok-inside.inside.now) (run_at c.args.left c.args.words.now)
+    (do_is c.args.left c.in_ok-below.below c.args.words.now c.in_ok-inside.inside.now c.in_ok-below.ensures c.in_ok-inside.ensures) c.statement.ensures
 
 pub selection-returns-in_err-value : goal.selection-returns-in_err-value
 selection-returns-in_err-value t c =
@@ -179,7 +169,7 @@ selection-returns-in_err-arms t c =
 
 pub selection-returns : goal.selection-returns
 selection-returns t c =
-    rw (tree-Case c.args.at c.in_ok-value.value c.in_ok-arms.arms c.in_ok-arms.otherwise) (case_is c.args.left c.args.at c.args.words.now c.args.next.now c.requires ∙ rw (c.in_ok-value.ensures, c.in_ok-arms.ensures) refl)
+    c.made.ensures (stmt_at c.args.left c.args.words.now) (rw (tree-Case c.args.at c.in_ok-value.value c.in_ok-arms.arms c.in_ok-arms.otherwise) (case_is c.args.left c.args.at c.args.words.now c.args.next.now c.requires ∙ rw (c.in_ok-value.ensures, c.in_ok-arms.ensures) refl))
 
 pub braced-returns-in_err-inside : goal.braced-returns-in_err-inside
 braced-returns-in_err-inside t c =
@@ -268,9 +258,9 @@ arm_body-loop-alloc-smaller t c =
 pub arm_body-loop-alloc-preserved : goal.arm_body-loop-alloc-preserved
 arm_body-loop-alloc-preserved t c =
     let ss = c.loop-alloc.body.items in
-    let s = c.in_ok-stmt.stmt in
+    let s = c.in_ok-stmt.stmt.value in
     let end = c.in_ok-stmt.next.now in
-    let pushed : c.push.new.self.items ≡ ss ++ s ∷ [] = search rules in
+    let pushed : c.put.new.found.items ≡ ss ++ s ∷ [] = search rules in
     record {
       shorter = omega (arith, c.loop-alloc.invariant.shorter, stmt_shorter c.args.left c.loop-alloc.rest.now _ end c.in_ok-stmt.ensures);
       reading = λ x. rw pushed (arm_more c.args.left (more_arms_at c.args.left x c.args.words.now) x ss s c.loop-alloc.rest.now end (c.loop-alloc.invariant.reading x) (flip c.is_behind_arm.ensures ∙ c.loop-alloc-test.true) c.in_ok-stmt.ensures);

@@ -33,9 +33,6 @@ decreases-selection l = 16 * l.left + 1
 abbrev pub decreases-statement : goal.decreases-statement
 decreases-statement l = 16 * l.left + 2
 
-abbrev pub decreases-boxed : goal.decreases-boxed
-decreases-boxed l = 16 * l.left + 3
-
 abbrev pub decreases-statements : goal.decreases-statements
 decreases-statements l = 16 * l.left + 3
 
