@@ -1,5 +1,6 @@
 -- Reading blocks, choices and loops, one step of the parser after another.
-use Rattle.std.proofs.Common.{◌≡◌, ℕ, zero, suc, ◌+◌, ◌<◌, ◌≤◌, Bool, true, false, cond, ◌&&◌, ◌||◌, List, [], ◌∷◌, ◌++◌, length, refl, sym as flip, ap, subst, ◌∙◌, arith, rules, ◌⊎◌, inl, inr}
+use Rattle.std.proofs.Common.{◌≡◌, ℕ, zero, suc, ◌+◌, ◌<◌, ◌≤◌, Bool, true, false, cond, ◌&&◌, ◌||◌, List, [], ◌∷◌, ◌++◌, length, refl, sym as flip, ap, subst, ◌∙◌, arith, rules, ◌⊎◌, inl, inr, Result, Ok, Err}
+use Rattle.std.specs.Borrow.{Bor}
 use Rattle.std.proofs.lemmas.List.{length-append}
 use Rattle.conf_lex.specs.declared.symbol.Symbol.TheVariants as sym
 use Rattle.conf_lex.specs.declared.word.Word.{Word}
@@ -8,7 +9,7 @@ use Rattle.grammar.specs.Kind.{Kind, kind_of, name, symbol}
 use Rattle.grammar.specs.Grammar.{Form, One, Empty, Seq, Either, Chain, Nest, Tree, Leaf, Blank, Both, First, Second, Start, More, Inside, begins, starts, yield, Bad, TooDeep}
 use Rattle.grammar.specs.Reading.{Read, Got, Fault, Reader, and_then, word, both, all_turns, read}
 use Rattle.grammar.specs.Shapes.{symbol_leaf, between, closed}
-use Rattle.grammar.specs.Gives.{Fails}
+use Rattle.grammar.specs.Gives.{Fails, Gives}
 use Rattle.grammar.specs.declared.refusal.Refusal.{Refusal}
 use Rattle.grammar.proofs.Good.{fits_front}
 use Rattle.grammar.proofs.Chains.{turn, full_words}
@@ -16,10 +17,15 @@ use Rattle.grammar.proofs.Shapes.{fails_then, fails_along, then_then, word_bad, 
 use Rattle.filt_syntax.specs.Syntax.{optional, many, expr, vtype, block, choice, selection, loop, stmt, block_level, body_level, arms_level, rule}
 use Rattle.filt_syntax.specs.Readers.{expr_at}
 use Rattle.filt_syntax.specs.StatementView.{nth}
-use Rattle.filt_syntax.specs.StatementReaders.{stmt_at, stmts_at, row_at, block_at, vtype_at, else_at, arms_at}
+use Rattle.filt_syntax.specs.StatementReaders.{stmt_at, stmts_at, row_at, block_at, vtype_at, else_at, arms_at, branches_at, run_at, braced_at}
 use Rattle.filt_syntax.proofs.Tested.{model, after, checked, is_checked, good_at, next_at, solid_at}
 use Rattle.filt_syntax.proofs.Picks.{maps2, picked, reaches, rest_of, seq_read, nested_deep, nested_is, nested_fails}
 use Rattle.filt_syntax.proofs.StatementSteps.{stmt_checked, stmt_refused, headed}
+
+-- a value seen as one tree gives the tree that is made of it
+pub gives_mapped : {X : Type 0} (view : X → Tree) (f : Tree → Tree) (r : Result (X × Bor (List Word)) Refusal) (x y : Read) → y ≡ and_then x (λ t v. Got (f t) v) → Gives view r x → Gives (λ e. f (view e)) r y
+gives_mapped view f (Ok found) x y same got = same ∙ rw got refl
+gives_mapped view f (Err e) x y same failed = fails_along e y (and_then x (λ t v. Got (f t) v)) same (fails_then e x (λ t v. Got (f t) v) failed)
 
 -- ---- rows
 
@@ -107,10 +113,6 @@ block_deep (suc k) ws u none is = absurd (omega arith)
 
 -- ---- choices
 
--- what stands behind the condition
-unfoldable pub branches_at : ℕ → Reader
-branches_at k = both (read rule k (Nest (symbol sym.Then) body_level)) (else_at k)
-
 choice_begins : (ws u : List Word) → ws ≡ words.Symbol sym.If ∷ u → begins (starts choice) ws ≡ true
 choice_begins ws u is = rw is refl
 
@@ -161,11 +163,10 @@ unfolding else_at stmt_at
 else_some zero b ws u below is = absurd (omega arith)
 else_some (suc k) b ws u below is = let same : k ≡ b = omega arith in rw (is, ← same) (maps2 (stmt_at k u) (λ s. Inside (words.Symbol sym.Else) s) (λ t. First t))
 
--- ---- loops
+pub else_same : (k b : ℕ) (ws : List Word) → b + 1 ≡ k → else_at k ws ≡ else_at (b + 1) ws
+else_same k b ws below = rw (← below) refl
 
--- what stands behind the name
-unfoldable pub run_at : ℕ → Reader
-run_at k = read rule k (Nest (symbol sym.Do) body_level)
+-- ---- loops
 
 for_read : (k : ℕ) (ws u : List Word) (at : ℕ) → ws ≡ words.Placed at sym.For ∷ u → stmt_at k ws ≡ and_then (both (vtype_at 0) (both (word name) (both (both (word (symbol sym.In)) (expr_at k)) (run_at k))) u) (λ t v. Got (nth 8 (Both (Leaf (words.Placed at sym.For)) t)) v)
 unfolding vtype_at expr_at run_at
@@ -188,9 +189,6 @@ unfolding run_at
 do_is k b ws u below is = body_is k b (symbol sym.Do) ws (words.Symbol sym.Do) u below is refl
 
 -- ---- selections
-
-unfoldable pub braced_at : ℕ → Reader
-braced_at k = read rule k (Seq (Nest (symbol sym.OpenBrace) arms_level) (One (symbol sym.CloseBrace)))
 
 case_begins : (at : ℕ) (ws u : List Word) → ws ≡ words.Placed at sym.Case ∷ u → begins (starts selection) ws ≡ true
 case_begins at ws u is = rw is refl

@@ -153,32 +153,11 @@ lifts e = subst (λ (s : Sight). Lifts s) (sym (fold_out-Expr Sight sight_step e
 
 -- ---- the same, by what is in the boxes
 
-pub product_of : (a : Box Expr Global) (v : Vec (Factor × Expr) Global) (x : Expr) → a.value ≡ x → sight (exprs.Product a v) ≡ as_prod (parts_after (Start (sight x).unary) (map factor_of v.items))
-product_of a v x p = rw (← p) (sight-Product a v)
-
-pub sum_of : (a : Box Expr Global) (v : Vec (Term × Expr) Global) (x : Expr) → a.value ≡ x → sight (exprs.Sum a v) ≡ as_sum (parts_after (Start (sight x).prod) (map term_of v.items))
-sum_of a v x p = rw (← p) (sight-Sum a v)
-
-pub joint_is : (a : Box Expr Global) (v : Vec (Joint × Expr) Global) (x : Expr) → a.value ≡ x → sight (exprs.Joint a v) ≡ as_expr (parts_after (Start (sight x).cmp) (map joint_of v.items))
-joint_is a v x p = rw (← p) (sight-Joint a v)
-
-pub access_is : (a : Box Expr Global) (v : Vec (Access Expr) Global) (x : Expr) → a.value ≡ x → sight (exprs.Access a v) ≡ as_post (parts_after (Start (sight x).prim) (map access_of v.items))
-access_is a v x p = rw (← p) (sight-Access a v)
-
 pub compare_of : (op : Compare) (a b : Box Expr Global) (x y : Expr) → a.value ≡ x → b.value ≡ y → sight (exprs.Compare op a b) ≡ as_cmp (Both (sight x).sum (First (Both (symbol_leaf (compare_symbol op)) (sight y).sum)))
 compare_of op a b x y p q = rw (← p, ← q) (sight-Compare op a b)
 
-pub method_call_of : (m : Method) (a b : Box Expr Global) (x y : Expr) → a.value ≡ x → b.value ≡ y → sight (exprs.MethodCall m a b) ≡ as_prim (method_call_tree m (sight x).expr (sight y).expr)
-method_call_of m a b x y p q = rw (← p, ← q) (sight-MethodCall m a b)
-
 pub not_of : (at : ℕ) (a : Box Expr Global) (x : Expr) → a.value ≡ x → sight (exprs.Not at a) ≡ as_unary (First (Inside (words.Placed at symbols.Not) (sight x).unary))
 not_of at a x p = rw (← p) (sight-Not at a)
-
-pub group_of : (a : Box Expr Global) (x : Expr) → a.value ≡ x → sight (exprs.Group a) ≡ as_prim (group_tree (alone (sight x).expr))
-group_of a x p = rw (← p) (sight-Group a)
-
-pub pair_of : (a b : Box Expr Global) (x y : Expr) → a.value ≡ x → b.value ≡ y → sight (exprs.Pair a b) ≡ as_prim (group_tree (Both (sight x).expr (First (second_part (sight y).expr))))
-pair_of a b x y p q = rw (← p, ← q) (sight-Pair a b)
 
 -- ---- one more part
 

@@ -2,19 +2,21 @@
 use Rattle.std.proofs.Common.{◌≡◌, ℕ, List, [], ◌∷◌, ◌++◌, map, refl, sym as flip, ap, ◌∙◌, rules, Option, Some, None, Box, Vec}
 use Rattle.std.specs.Global.{Global}
 use Rattle.conf_lex.specs.declared.symbol.Symbol.TheVariants as sym
+use Rattle.conf_lex.specs.declared.word.Word.TheVariants as words
 use Rattle.grammar.specs.declared.named.Name.{Name}
-use Rattle.grammar.specs.Grammar.{Tree, Blank, Both, Second, Start, More}
+use Rattle.grammar.specs.Grammar.{Tree, Blank, Both, Second, Start, More, Inside}
 use Rattle.filt_syntax.specs.declared.tree.Attribute.{Attribute}
 use Rattle.filt_syntax.specs.declared.tree.VariableType.{VariableType}
 use Rattle.filt_syntax.specs.declared.tree.Target.{Target}
 use Rattle.filt_syntax.specs.declared.tree.Change.{Change}
 use Rattle.filt_syntax.specs.declared.tree.Expr.{Expr}
 use Rattle.filt_syntax.specs.declared.tree.Arm.{Arm}
+use Rattle.filt_syntax.specs.declared.statement.Branches.{Branches}
 use Rattle.filt_syntax.specs.declared.tree.Stmt.{Stmt, the_lemmas, fold-Stmt}
 use Rattle.filt_syntax.specs.declared.tree.Stmt.TheVariants as stmts
 use Rattle.filt_syntax.specs.declared.tree.Stmt.TheFolds.{fold_out-Stmt, map-Stmt}
 use Rattle.filt_syntax.specs.declared.tree.Stmt.TheOpen.{Stmt-F}
-use Rattle.filt_syntax.specs.StatementView.{ArmParts, seen_arm, arm_of, stmt_step, stmt_tree, stmts_tree, block_tree, empty_tree, declare_tree, assign_tree, change_stmt_tree, call_tree, unset_tree, choice_tree, else_tree, case_tree, for_tree, verdict_tree, return_tree, print_tree, row_after, arms_row, arms_of, otherwise_tree, otherwise_of}
+use Rattle.filt_syntax.specs.StatementView.{ArmParts, seen_arm, arm_of, stmt_step, stmt_tree, stmts_tree, block_tree, empty_tree, declare_tree, assign_tree, change_stmt_tree, call_tree, unset_tree, choice_tree, chosen_tree, branches_tree, second_tree, else_tree, case_tree, for_tree, verdict_tree, return_tree, print_tree, row_after, arms_row, arms_of, otherwise_tree, otherwise_of}
 
 pub tree-Block : (v : Vec Stmt Global) → stmt_tree (stmts.Block v) ≡ block_tree (stmts_tree v.items)
 tree-Block v = search (rules, the_lemmas)
@@ -34,11 +36,17 @@ tree-Change target c = search (rules, the_lemmas)
 pub tree-Unset : (at : ℕ) (a : Attribute) → stmt_tree (stmts.Unset at a) ≡ unset_tree at a
 tree-Unset at a = search (rules, the_lemmas)
 
-pub tree-If : (e : Expr) (s : Box Stmt Global) (x : Stmt) → s.value ≡ x → stmt_tree (stmts.If e s) ≡ choice_tree e (stmt_tree x) (Second Blank)
+tree-If : (e : Expr) (s : Box Stmt Global) (x : Stmt) → s.value ≡ x → stmt_tree (stmts.If e s) ≡ choice_tree e (stmt_tree x) (Second Blank)
 tree-If e s x p = rw (← p) (search (rules, the_lemmas))
 
-pub tree-IfElse : (e : Expr) (s t : Box Stmt Global) (x y : Stmt) → s.value ≡ x → t.value ≡ y → stmt_tree (stmts.IfElse e s t) ≡ choice_tree e (stmt_tree x) (else_tree (stmt_tree y))
+tree-IfElse : (e : Expr) (s t : Box Stmt Global) (x y : Stmt) → s.value ≡ x → t.value ≡ y → stmt_tree (stmts.IfElse e s t) ≡ choice_tree e (stmt_tree x) (else_tree (stmt_tree y))
 tree-IfElse e s t x y p q = rw (← p, ← q) (search (rules, the_lemmas))
+
+pub tree-one_branch : (e : Expr) (b : Branches) → b.second ≡ None → stmt_tree (stmts.If e b.first) ≡ chosen_tree e (branches_tree b)
+tree-one_branch e b is = tree-If e b.first b.first.value refl ∙ ap (λ (s : Option (Box Stmt Global)). chosen_tree e (Both (Inside (words.Symbol sym.Then) (stmt_tree b.first.value)) (second_tree s))) (flip is)
+
+pub tree-two_branches : (e : Expr) (b : Branches) (t : Box Stmt Global) → b.second ≡ Some t → stmt_tree (stmts.IfElse e b.first t) ≡ chosen_tree e (branches_tree b)
+tree-two_branches e b t is = tree-IfElse e b.first t b.first.value t.value refl refl ∙ ap (λ (s : Option (Box Stmt Global)). chosen_tree e (Both (Inside (words.Symbol sym.Then) (stmt_tree b.first.value)) (second_tree s))) (flip is)
 
 arms_by : (g : Arm Stmt → Arm Tree) → ((a : Arm Stmt) → seen_arm (g a) ≡ arm_of a) → (arms : List (Arm Stmt)) → map seen_arm (map g arms) ≡ arms_of arms
 arms_by g same [] = refl

@@ -1,5 +1,5 @@
 -- Reading each form of a statement, where k more levels may be opened.
-use Rattle.std.specs.Prelude.{◌≡◌, ℕ, Bool, true, false, ◌||◌, ◌<◌, List, [], ◌∷◌, length, map, Option, Result, Ok, Err, Vec}
+use Rattle.std.specs.Prelude.{◌≡◌, ℕ, Bool, true, false, ◌||◌, ◌<◌, ◌≤◌, List, [], ◌∷◌, length, map, Option, Result, Ok, Err, Vec}
 use Rattle.std.specs.Global.{Global}
 use Rattle.std.specs.Borrow.{Bor}
 use Rattle.conf_lex.specs.declared.symbol.Symbol.TheVariants as sym
@@ -16,7 +16,7 @@ use Rattle.filt_syntax.specs.declared.tree.Stmt.{Stmt}
 use Rattle.filt_syntax.specs.ItemView.{label_tree}
 use Rattle.filt_syntax.specs.StatementView.{nth, stmt_tree, body_after, otherwise_tree, otherwise_of}
 use Rattle.grammar.specs.Reading.{Reader, Got, and_then, word, both, all_turns, read}
-use Rattle.filt_syntax.specs.Syntax.{optional, listed, many, expr, block, vtype, method, semicolon, declaration, stmt, unnamed_stmt, done_to_name, arm_part, arms, body_level, rule}
+use Rattle.filt_syntax.specs.Syntax.{optional, listed, many, expr, block, vtype, method, semicolon, declaration, stmt, unnamed_stmt, done_to_name, arm_part, arms, body_level, arms_level, rule}
 use Rattle.filt_syntax.specs.Readers.{expr_at}
 use Rattle.filt_syntax.specs.ItemReaders.{label_at}
 
@@ -74,6 +74,18 @@ row_at k = all_turns (starts stmt) (stmt_at k)
 unfoldable pub else_at : ℕ → Reader
 else_at k = read rule k (optional (Nest (symbol sym.Else) body_level))
 
+-- what stands behind the condition of an `if`
+unfoldable pub branches_at : ℕ → Reader
+branches_at k = both (read rule k (Nest (symbol sym.Then) body_level)) (else_at k)
+
+-- what stands behind the list of a `for`
+unfoldable pub run_at : ℕ → Reader
+run_at k = read rule k (Nest (symbol sym.Do) body_level)
+
+-- what stands behind the value of a `case`
+unfoldable pub braced_at : ℕ → Reader
+braced_at k = read rule k (Seq (Nest (symbol sym.OpenBrace) arms_level) (One (symbol sym.CloseBrace)))
+
 -- ---- the arms of a `case`
 
 unfoldable pub arm_part_at : ℕ → Reader
@@ -125,6 +137,11 @@ arm_ends ws = label_next ws || arms_over ws
 abbrev pub ArmGives : Result (Arm Stmt × Bor (List Word)) Refusal → ℕ → List Word → Type 0
 ArmGives (Ok found) k ws = (arm_ends found.1.now ≡ true) × (length found.1.now < length ws) × ((row_with : Tree → Tree) → labelled_at k row_with ws ≡ more_arms_at k (body_after (row_with (label_tree found.0.labels.items)) (map stmt_tree found.0.body.items)) found.1.now)
 ArmGives (Err e) k ws = (row_with : Tree → Tree) → Fails e (labelled_at k row_with ws)
+
+-- the statements of an arm were read, behind whatever row
+abbrev pub BodyGives : Result (Vec Stmt Global × Bor (List Word)) Refusal → ℕ → List Word → Type 0
+BodyGives (Ok found) k ws = (arm_ends found.1.now ≡ true) × (length found.1.now ≤ length ws) × ((t : Tree) → more_arms_at k t ws ≡ more_arms_at k (body_after t (map stmt_tree found.0.items)) found.1.now)
+BodyGives (Err e) k ws = (t : Tree) → Fails e (more_arms_at k t ws)
 
 -- what stands behind the arms was read, behind whatever arms
 abbrev pub OtherwiseGives : Result (Option (Vec Stmt Global) × Bor (List Word)) Refusal → ℕ → List Word → Type 0

@@ -1,5 +1,5 @@
 -- The tree of the grammar that a statement stands for.
-use Rattle.std.specs.Prelude.{ℕ, List, [], ◌∷◌, Option, Some, None, map, Vec}
+use Rattle.std.specs.Prelude.{ℕ, List, [], ◌∷◌, Option, Some, None, map, Vec, Box}
 use Rattle.std.specs.Global.{Global}
 use Rattle.std.proofs.Common.{zero, suc}
 use Rattle.conf_lex.specs.declared.symbol.Symbol.{Symbol}
@@ -22,6 +22,7 @@ use Rattle.filt_syntax.specs.declared.tree.Block.{Block}
 use Rattle.filt_syntax.specs.declared.tree.Item.{Item}
 use Rattle.filt_syntax.specs.declared.variable_type.Member.{Member}
 use Rattle.filt_syntax.specs.declared.variable_type.Member.TheVariants as members
+use Rattle.filt_syntax.specs.declared.statement.Branches.{Branches}
 use Rattle.filt_syntax.specs.declared.tree.Stmt.{Stmt, fold-Stmt}
 use Rattle.filt_syntax.specs.declared.tree.Stmt.TheOpen.{Stmt-F}
 use Rattle.filt_syntax.specs.ItemView.{label_tree}
@@ -127,9 +128,13 @@ call_tree n es = of_name n (Second (Second (Both (in_parentheses (arguments_tree
 abbrev pub unset_tree : ℕ → Attribute → Tree
 unset_tree at a = Second (nth 4 (Both (symbol_leaf sym.Unset) (Both (in_parentheses (Leaf (attribute_word at a))) semicolon_leaf)))
 
+-- the condition, and the branches
+abbrev pub chosen_tree : Expr → Tree → Tree
+chosen_tree e both = Second (nth 5 (Both (Both (symbol_leaf sym.If) (sight e).expr) both))
+
 -- the condition, the first branch, and what stands in the place of the second
 abbrev pub choice_tree : Expr → Tree → Tree → Tree
-choice_tree e first second = Second (nth 5 (Both (Both (symbol_leaf sym.If) (sight e).expr) (Both (Inside (words.Symbol sym.Then) first) second)))
+choice_tree e first second = chosen_tree e (Both (Inside (words.Symbol sym.Then) first) second)
 
 abbrev pub else_tree : Tree → Tree
 else_tree s = First (Inside (words.Symbol sym.Else) s)
@@ -232,6 +237,10 @@ stmt_step (Stmt-F.Call n es) = call_tree n es.items
 abbrev pub stmt_tree : Stmt → Tree
 stmt_tree = fold-Stmt Tree stmt_step
 
+-- a statement in a box
+abbrev pub boxed_tree : Box Stmt Global → Tree
+boxed_tree s = stmt_tree s.value
+
 abbrev pub stmts_tree : List Stmt → Tree
 stmts_tree ss = row_tree (map stmt_tree ss)
 
@@ -244,6 +253,14 @@ arms_of arms = map arm_of arms
 abbrev pub otherwise_of : Option (Vec Stmt Global) → Option (List Tree)
 otherwise_of None = None
 otherwise_of (Some v) = Some (map stmt_tree v.items)
+
+-- the second branch of an `if`, or nothing
+abbrev pub second_tree : Option (Box Stmt Global) → Tree
+second_tree None = Second Blank
+second_tree (Some s) = else_tree (stmt_tree s.value)
+
+abbrev pub branches_tree : Branches → Tree
+branches_tree b = Both (Inside (words.Symbol sym.Then) (stmt_tree b.first.value)) (second_tree b.second)
 
 -- the block of a filter, a function or a policy
 abbrev pub block_view : Block → Tree

@@ -27,17 +27,32 @@ pub fn expression<'a>(
 ) -> Result<(Expr, &'a [Word]), Refusal<'a>>
     ensures { Gives (λ e. (sight e).expr) result (expr_at left words.now) }
 {
-    let (first, mut rest) = comparison(alloc, words, left)?;
+    let (value, mut rest) = comparison(alloc, words, left)?;
+    let Some(_) = next_joint(rest) else {
+        return Ok((value, rest));
+    };
+    let first = Box::new(alloc, value)?;
     let mut more = Vec::new(alloc);
     while let Some((joint, next)) = next_joint(rest) {
         let (operand, end) = comparison(alloc, next, left)?;
         more.push((joint, operand))?;
         rest = end;
     }
-    if more.is_empty() {
-        return Ok((first, rest));
-    }
-    Ok((Expr::Joint(Box::new(alloc, first)?, more), rest))
+    Ok((Expr::Joint(first, more), rest))
+}
+
+// An expression, in a box.
+#[cycle(expression)]
+fn boxed<'a>(
+    alloc: Global,
+    words: &'a [Word],
+    left: u32,
+) -> Result<(Box<Expr>, &'a [Word]), Refusal<'a>>
+    ensures { Gives (λ e. (sight e.value).expr) result (expr_at left words.now) }
+{
+    let (value, rest) = expression(alloc, words, left)?;
+    let boxed = Box::new(alloc, value)?;
+    Ok((boxed, rest))
 }
 
 #[cycle(expression)]
@@ -52,9 +67,10 @@ fn comparison<'a>(
     let (value, rest) = sum(alloc, words, left)?;
     match next_compare(rest) {
         Some((compare, rest)) => {
+            let first = Box::new(alloc, value)?;
             let (operand, rest) = sum(alloc, rest, left)?;
-            let both = Expr::Compare(compare, Box::new(alloc, value)?, Box::new(alloc, operand)?);
-            Ok((both, rest))
+            let second = Box::new(alloc, operand)?;
+            Ok((Expr::Compare(compare, first, second), rest))
         }
         None => Ok((value, rest)),
     }
@@ -65,17 +81,18 @@ fn sum<'a>(alloc: Global, words: &'a [Word], left: u32) -> Result<(Expr, &'a [Wo
     ensures tree { Gives (λ e. (sight e).sum) result (sum_at left words.now) }
     ensures rank { IfOk result (λ found. (sight found.0).rank ≤ 4) }
 {
-    let (first, mut rest) = product(alloc, words, left)?;
+    let (value, mut rest) = product(alloc, words, left)?;
+    let Some(_) = next_term(rest) else {
+        return Ok((value, rest));
+    };
+    let first = Box::new(alloc, value)?;
     let mut more = Vec::new(alloc);
     while let Some((term, next)) = next_term(rest) {
         let (operand, end) = product(alloc, next, left)?;
         more.push((term, operand))?;
         rest = end;
     }
-    if more.is_empty() {
-        return Ok((first, rest));
-    }
-    Ok((Expr::Sum(Box::new(alloc, first)?, more), rest))
+    Ok((Expr::Sum(first, more), rest))
 }
 
 #[cycle(expression)]
@@ -87,17 +104,18 @@ fn product<'a>(
     ensures tree { Gives (λ e. (sight e).prod) result (prod_at left words.now) }
     ensures rank { IfOk result (λ found. (sight found.0).rank ≤ 3) }
 {
-    let (first, mut rest) = operand(alloc, words, left)?;
+    let (value, mut rest) = operand(alloc, words, left)?;
+    let Some(_) = next_factor(rest) else {
+        return Ok((value, rest));
+    };
+    let first = Box::new(alloc, value)?;
     let mut more = Vec::new(alloc);
     while let Some((factor, next)) = next_factor(rest) {
         let (second, end) = operand(alloc, next, left)?;
         more.push((factor, second))?;
         rest = end;
     }
-    if more.is_empty() {
-        return Ok((first, rest));
-    }
-    Ok((Expr::Product(Box::new(alloc, first)?, more), rest))
+    Ok((Expr::Product(first, more), rest))
 }
 
 #[cycle(expression)]
@@ -130,17 +148,18 @@ fn accessed<'a>(
     ensures tree { Gives (λ e. (sight e).post) result (post_at left words.now) }
     ensures rank { IfOk result (λ found. (sight found.0).rank ≤ 1) }
 {
-    let (first, mut rest) = primary(alloc, words, left)?;
+    let (value, mut rest) = primary(alloc, words, left)?;
+    let Some(_) = after(rest, Symbol::Dot) else {
+        return Ok((value, rest));
+    };
+    let first = Box::new(alloc, value)?;
     let mut more = Vec::new(alloc);
     while let Some(next) = after(rest, Symbol::Dot) {
         let (accessed, end) = access(alloc, next, left)?;
         more.push(accessed)?;
         rest = end;
     }
-    if more.is_empty() {
-        return Ok((first, rest));
-    }
-    Ok((Expr::Access(Box::new(alloc, first)?, more), rest))
+    Ok((Expr::Access(first, more), rest))
 }
 
 // What stands behind a dot.
@@ -225,17 +244,16 @@ fn group<'a>(
     ensures rank { IfOk result (λ found. (sight found.0).rank ≤ 0) }
 {
     let below = level_below(words, left)?;
-    let (first, end) = expression(alloc, inside, below)?;
+    let (first, end) = boxed(alloc, inside, below)?;
     match after(end, Symbol::Comma) {
         None => {
             let rest = expect(end, Symbol::CloseParenthesis)?;
-            Ok((Expr::Group(Box::new(alloc, first)?), rest))
+            Ok((Expr::Group(first), rest))
         }
         Some(next) => {
-            let (second, end) = expression(alloc, next, below)?;
+            let (second, end) = boxed(alloc, next, below)?;
             let rest = expect(end, Symbol::CloseParenthesis)?;
-            let pair = Expr::Pair(Box::new(alloc, first)?, Box::new(alloc, second)?);
-            Ok((pair, rest))
+            Ok((Expr::Pair(first, second), rest))
         }
     }
 }
@@ -254,12 +272,11 @@ fn method_call<'a>(
     ensures rank { IfOk result (λ found. (sight found.0).rank ≤ 0) }
 {
     let (below, inside) = open(next, left)?;
-    let (list, end) = expression(alloc, inside, below)?;
+    let (list, end) = boxed(alloc, inside, below)?;
     let second = expect(end, Symbol::Comma)?;
-    let (argument, end) = expression(alloc, second, below)?;
+    let (argument, end) = boxed(alloc, second, below)?;
     let rest = expect(end, Symbol::CloseParenthesis)?;
-    let call = Expr::MethodCall(method, Box::new(alloc, list)?, Box::new(alloc, argument)?);
-    Ok((call, rest))
+    Ok((Expr::MethodCall(method, list, argument), rest))
 }
 
 // A name, or a call of it, by the words after it.

@@ -22,10 +22,3 @@ pub use tree::{
     Joint, Lengths, MaskAtom, MaskItem, Method, MethodKind, Num, PairPart, Parameter, Part,
     Property, Separator, Simple, Stmt, Target, Term, VariableType,
 };
-
-#[cfg(test)]
-mod block_tests;
-#[cfg(test)]
-mod tests;
-#[cfg(test)]
-mod text_tests;

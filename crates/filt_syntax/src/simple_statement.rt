@@ -6,12 +6,12 @@ ghost use Rattle.conf_lex.specs.declared.symbol.Symbol.TheVariants as sym;
 ghost use Rattle.conf_lex.specs.declared.word.Word.{Word};
 ghost use Rattle.grammar.specs.Kind.{symbol, name as is_name};
 ghost use Rattle.grammar.specs.Grammar.{Both, Second, begins};
-ghost use Rattle.grammar.specs.Reading.{Got, and_then, word, both};
+ghost use Rattle.grammar.specs.Reading.{Read, Got, and_then, word, both};
 ghost use Rattle.grammar.specs.Shapes.{symbol_leaf};
 ghost use Rattle.grammar.specs.Gives.{Gives};
 ghost use Rattle.filt_syntax.specs.View.{sight, attribute_word, expr_trees, listed_tree};
 ghost use Rattle.filt_syntax.specs.Readers.{expr_at};
-ghost use Rattle.filt_syntax.specs.StatementView.{stmt_tree, ended, change_tree, semicolon_leaf, initial_tree, result_tree};
+ghost use Rattle.filt_syntax.specs.StatementView.{stmt_tree, boxed_tree, ended, change_tree, semicolon_leaf, initial_tree, result_tree};
 ghost use Rattle.filt_syntax.specs.StatementReaders.{stmt_at, of_name_at, change_at, declaration_at, initial_at, result_at, exprs_at};
 
 use crate::bracket::of_attribute;
@@ -22,6 +22,18 @@ use crate::variable_type::variable_type;
 use conf_lex::{Symbol, Word};
 use grammar::{Name, Refusal, after, after_placed, expect, expect_name};
 use std::alloc::Global;
+
+/// A statement in a box, and the words after it.
+pub fn made<'a>(
+    alloc: Global,
+    stmt: Stmt,
+    rest: &'a [Word],
+) -> Result<(Box<Stmt>, &'a [Word]), Refusal<'a>>
+    ensures { (read : Read) → read ≡ Got (stmt_tree stmt) rest.now → Gives boxed_tree result read }
+{
+    let boxed = Box::new(alloc, stmt)?;
+    Ok((boxed, rest))
+}
 
 // An expression and a semicolon.
 fn value_end<'a>(
@@ -59,17 +71,17 @@ pub fn done_to_name<'a>(
     name: Name,
     words: &'a [Word],
     left: u32,
-) -> Result<(Stmt, &'a [Word]), Refusal<'a>>
-    ensures { Gives stmt_tree result (of_name_at left name words.now) }
+) -> Result<(Box<Stmt>, &'a [Word]), Refusal<'a>>
+    ensures { Gives boxed_tree result (of_name_at left name words.now) }
 {
     if let Some(next) = after(words, Symbol::Equal) {
         let (value, rest) = value_end(alloc, next, left)?;
-        return Ok((Stmt::Assign(Target::Name(name), value), rest));
+        return made(alloc, Stmt::Assign(Target::Name(name), value), rest);
     }
     match after(words, Symbol::Dot) {
         Some(next) => {
             let (change, rest) = change(alloc, next, left)?;
-            Ok((Stmt::Change(Target::Name(name), change), rest))
+            made(alloc, Stmt::Change(Target::Name(name), change), rest)
         }
         None => call(alloc, name, words, left),
     }
@@ -81,14 +93,14 @@ fn call<'a>(
     name: Name,
     words: &'a [Word],
     left: u32,
-) -> Result<(Stmt, &'a [Word]), Refusal<'a>>
+) -> Result<(Box<Stmt>, &'a [Word]), Refusal<'a>>
     requires equal { begins (symbol sym.Equal) words.now ≡ false }
     requires dot { begins (symbol sym.Dot) words.now ≡ false }
-    ensures { Gives stmt_tree result (of_name_at left name words.now) }
+    ensures { Gives boxed_tree result (of_name_at left name words.now) }
 {
     let (arguments, end) = arguments(alloc, words, left)?;
     let rest = expect(end, Symbol::Semicolon)?;
-    Ok((Stmt::Call(name, arguments), rest))
+    made(alloc, Stmt::Call(name, arguments), rest)
 }
 
 // A statement that an attribute begins, by the words after it.
@@ -99,18 +111,18 @@ fn done_to_attribute<'a>(
     attribute: Attribute,
     behind: &'a [Word],
     left: u32,
-) -> Result<(Stmt, &'a [Word]), Refusal<'a>>
+) -> Result<(Box<Stmt>, &'a [Word]), Refusal<'a>>
     requires { words.now ≡ attribute_word at attribute ∷ behind.now }
-    ensures { Gives stmt_tree result (stmt_at left words.now) }
+    ensures { Gives boxed_tree result (stmt_at left words.now) }
 {
     let target = Target::Attribute { at, attribute };
     if let Some(next) = after(behind, Symbol::Equal) {
         let (value, rest) = value_end(alloc, next, left)?;
-        return Ok((Stmt::Assign(target, value), rest));
+        return made(alloc, Stmt::Assign(target, value), rest);
     }
     let next = expect(behind, Symbol::Dot)?;
     let (change, rest) = change(alloc, next, left)?;
-    Ok((Stmt::Change(target, change), rest))
+    made(alloc, Stmt::Change(target, change), rest)
 }
 
 // The first value of a variable, if any.
@@ -130,33 +142,46 @@ fn initial<'a>(
     }
 }
 
+// The first value of a variable, if any, and the semicolon.
+fn initial_end<'a>(
+    alloc: Global,
+    words: &'a [Word],
+    left: u32,
+) -> Result<(Option<Expr>, &'a [Word]), Refusal<'a>>
+    ensures { Gives (λ v. Both (initial_tree v) semicolon_leaf) result (both (initial_at left) (word (symbol sym.Semicolon)) words.now) }
+{
+    let (value, rest) = initial(alloc, words, left)?;
+    let rest = expect(rest, Symbol::Semicolon)?;
+    Ok((value, rest))
+}
+
 fn declaration<'a>(
     alloc: Global,
     words: &'a [Word],
     left: u32,
-) -> Result<(Stmt, &'a [Word]), Refusal<'a>>
-    ensures { Gives stmt_tree result (declaration_at left words.now) }
+) -> Result<(Box<Stmt>, &'a [Word]), Refusal<'a>>
+    ensures { Gives boxed_tree result (declaration_at left words.now) }
 {
     let (variable_type, rest) = variable_type(words)?;
     let (name, rest) = expect_name(rest)?;
-    let (value, rest) = initial(alloc, rest, left)?;
-    let rest = expect(rest, Symbol::Semicolon)?;
+    let (value, rest) = initial_end(alloc, rest, left)?;
     let declared = Stmt::Declare {
         variable_type,
         name,
         value,
     };
-    Ok((declared, rest))
+    made(alloc, declared, rest)
 }
 
 // By the words after `unset`.
 fn unset<'a>(
+    alloc: Global,
     words: &'a [Word],
     next: &'a [Word],
     left: u32,
-) -> Result<(Stmt, &'a [Word]), Refusal<'a>>
+) -> Result<(Box<Stmt>, &'a [Word]), Refusal<'a>>
     requires { words.now ≡ Word.Symbol sym.Unset ∷ next.now }
-    ensures { Gives stmt_tree result (stmt_at left words.now) }
+    ensures { Gives boxed_tree result (stmt_at left words.now) }
 {
     let ((attribute_at, attribute), end) = of_attribute(next, left)?;
     let rest = expect(end, Symbol::Semicolon)?;
@@ -164,7 +189,7 @@ fn unset<'a>(
         attribute_at,
         attribute,
     };
-    Ok((unset, rest))
+    made(alloc, unset, rest)
 }
 
 // By the words after `return`. A semicolon begins no expression.
@@ -174,19 +199,19 @@ fn returned<'a>(
     at: usize,
     next: &'a [Word],
     left: u32,
-) -> Result<(Stmt, &'a [Word]), Refusal<'a>>
+) -> Result<(Box<Stmt>, &'a [Word]), Refusal<'a>>
     requires { words.now ≡ Word.Placed at sym.Return ∷ next.now }
-    ensures { Gives stmt_tree result (stmt_at left words.now) }
+    ensures { Gives boxed_tree result (stmt_at left words.now) }
 {
     if let Some(rest) = after(next, Symbol::Semicolon) {
-        return Ok((Stmt::Return { at, value: None }, rest));
+        return made(alloc, Stmt::Return { at, value: None }, rest);
     }
     let (value, rest) = value_end(alloc, next, left)?;
     let returned = Stmt::Return {
         at,
         value: Some(value),
     };
-    Ok((returned, rest))
+    made(alloc, returned, rest)
 }
 
 // One or more expressions, between commas.
@@ -227,12 +252,12 @@ fn print<'a>(
     words: &'a [Word],
     next: &'a [Word],
     left: u32,
-) -> Result<(Stmt, &'a [Word]), Refusal<'a>>
+) -> Result<(Box<Stmt>, &'a [Word]), Refusal<'a>>
     requires { words.now ≡ Word.Symbol sym.Print ∷ next.now }
-    ensures { Gives stmt_tree result (stmt_at left words.now) }
+    ensures { Gives boxed_tree result (stmt_at left words.now) }
 {
     let (values, rest) = printed(alloc, next, left)?;
-    Ok((Stmt::Print(values), rest))
+    made(alloc, Stmt::Print(values), rest)
 }
 
 // By the words after `printn`.
@@ -241,38 +266,40 @@ fn print_part<'a>(
     words: &'a [Word],
     next: &'a [Word],
     left: u32,
-) -> Result<(Stmt, &'a [Word]), Refusal<'a>>
+) -> Result<(Box<Stmt>, &'a [Word]), Refusal<'a>>
     requires { words.now ≡ Word.Symbol sym.Printn ∷ next.now }
-    ensures { Gives stmt_tree result (stmt_at left words.now) }
+    ensures { Gives boxed_tree result (stmt_at left words.now) }
 {
     let (values, rest) = printed(alloc, next, left)?;
-    Ok((Stmt::PrintPart(values), rest))
+    made(alloc, Stmt::PrintPart(values), rest)
 }
 
 // By the words after `accept`.
 fn accept<'a>(
+    alloc: Global,
     words: &'a [Word],
     next: &'a [Word],
     left: u32,
-) -> Result<(Stmt, &'a [Word]), Refusal<'a>>
+) -> Result<(Box<Stmt>, &'a [Word]), Refusal<'a>>
     requires { words.now ≡ Word.Symbol sym.Accept ∷ next.now }
-    ensures { Gives stmt_tree result (stmt_at left words.now) }
+    ensures { Gives boxed_tree result (stmt_at left words.now) }
 {
     let rest = expect(next, Symbol::Semicolon)?;
-    Ok((Stmt::Accept, rest))
+    made(alloc, Stmt::Accept, rest)
 }
 
 // By the words after `reject`.
 fn reject<'a>(
+    alloc: Global,
     words: &'a [Word],
     next: &'a [Word],
     left: u32,
-) -> Result<(Stmt, &'a [Word]), Refusal<'a>>
+) -> Result<(Box<Stmt>, &'a [Word]), Refusal<'a>>
     requires { words.now ≡ Word.Symbol sym.Reject ∷ next.now }
-    ensures { Gives stmt_tree result (stmt_at left words.now) }
+    ensures { Gives boxed_tree result (stmt_at left words.now) }
 {
     let rest = expect(next, Symbol::Semicolon)?;
-    Ok((Stmt::Reject, rest))
+    made(alloc, Stmt::Reject, rest)
 }
 
 /// A statement that holds no other, by its first word.
@@ -280,22 +307,22 @@ pub fn simple_statement<'a>(
     alloc: Global,
     words: &'a [Word],
     left: u32,
-) -> Result<(Stmt, &'a [Word]), Refusal<'a>>
+) -> Result<(Box<Stmt>, &'a [Word]), Refusal<'a>>
     requires name { begins is_name words.now ≡ false }
     requires block { begins (symbol sym.OpenBrace) words.now ≡ false }
     requires choice { begins (symbol sym.If) words.now ≡ false }
     requires selection { begins (symbol sym.Case) words.now ≡ false }
     requires loop_ { begins (symbol sym.For) words.now ≡ false }
-    ensures { Gives stmt_tree result (stmt_at left words.now) }
+    ensures { Gives boxed_tree result (stmt_at left words.now) }
 {
     if let Some(((at, attribute), next)) = next_attribute(words) {
         return done_to_attribute(alloc, words, at, attribute, next, left);
     }
     if let Some(rest) = after(words, Symbol::Semicolon) {
-        return Ok((Stmt::Empty, rest));
+        return made(alloc, Stmt::Empty, rest);
     }
     if let Some(next) = after(words, Symbol::Unset) {
-        return unset(words, next, left);
+        return unset(alloc, words, next, left);
     }
     if let Some((at, next)) = after_placed(words, Symbol::Return) {
         return returned(alloc, words, at, next, left);
@@ -307,10 +334,10 @@ pub fn simple_statement<'a>(
         return print_part(alloc, words, next, left);
     }
     if let Some(next) = after(words, Symbol::Accept) {
-        return accept(words, next, left);
+        return accept(alloc, words, next, left);
     }
     match after(words, Symbol::Reject) {
-        Some(next) => reject(words, next, left),
+        Some(next) => reject(alloc, words, next, left),
         None => declaration(alloc, words, left),
     }
 }

@@ -1,34 +1,43 @@
 // Statements. Each function answers a statement and the words after it; `left` is how many more levels may be opened.
 
-ghost use Rattle.std.specs.Prelude.{◌≡◌, ◌∷◌, map};
+ghost use Rattle.std.specs.Prelude.{◌≡◌, [], ◌∷◌, ◌++◌, ◌+◌, map, OnOk};
 ghost use Rattle.conf_lex.specs.declared.symbol.Symbol.TheVariants as sym;
 ghost use Rattle.conf_lex.specs.declared.word.Word.{Word};
 ghost use Rattle.grammar.specs.Kind.{symbol};
-ghost use Rattle.grammar.specs.Grammar.{Both, begins};
+ghost use Rattle.grammar.specs.Grammar.{Both, Inside, begins};
 ghost use Rattle.grammar.specs.Reading.{word, both};
 ghost use Rattle.grammar.specs.Shapes.{symbol_leaf, closed, between};
 ghost use Rattle.grammar.specs.Gives.{Gives};
-ghost use Rattle.filt_syntax.specs.StatementView.{block_view, stmt_tree, stmts_tree, arms_row, arms_of, otherwise_tree, otherwise_of};
-ghost use Rattle.filt_syntax.specs.StatementReaders.{block_at, stmt_at, stmts_at, arms_at, arm_ends, arms_over, label_next, is_behind_name, is_item, ArmGives, OtherwiseGives};
+ghost use Rattle.filt_syntax.specs.StatementView.{block_view, stmt_tree, boxed_tree, stmts_tree, arms_row, arms_of, otherwise_tree, otherwise_of, chosen_tree, branches_tree, second_tree};
+ghost use Rattle.filt_syntax.specs.StatementReaders.{block_at, stmt_at, stmts_at, else_at, branches_at, run_at, braced_at, arms_at, arm_ends, arms_over, label_next, is_behind_name, is_item, ArmGives, BodyGives, OtherwiseGives};
+ghost use Rattle.filt_syntax.specs.View.{sight};
+ghost use Rattle.filt_syntax.specs.Readers.{expr_at};
 
 use crate::expression::expression;
 use crate::items::label;
 use crate::operators::next_name;
-use crate::simple_statement::{done_to_name, simple_statement};
-use crate::tree::{Arm, Block, Stmt};
+use crate::simple_statement::{done_to_name, made, simple_statement};
+use crate::tree::{Arm, Block, Expr, Stmt};
 use crate::variable_type::variable_type;
 use conf_lex::{Symbol, Word};
 use grammar::{Refusal, after, after_placed, expect, expect_name, level_below, next};
-use std::alloc::Global;
+use std::alloc::{AllocError, Global};
 
-/// The longest statement.
+// The branches of an `if`.
+#[derive(Drop)]
+struct Branches {
+    first: Box<Stmt>,
+    second: Option<Box<Stmt>>,
+}
+
+/// The longest statement. It comes in a box, since small values make short proofs.
 #[cycle(statement)]
 pub fn statement<'a>(
     alloc: Global,
     words: &'a [Word],
     left: u32,
-) -> Result<(Stmt, &'a [Word]), Refusal<'a>>
-    ensures { Gives stmt_tree result (stmt_at left words.now) }
+) -> Result<(Box<Stmt>, &'a [Word]), Refusal<'a>>
+    ensures { Gives boxed_tree result (stmt_at left words.now) }
 {
     if let Some((name, next)) = next_name(words) {
         return done_to_name(alloc, name, next, left);
@@ -55,13 +64,20 @@ fn block<'a>(
     words: &'a [Word],
     next: &'a [Word],
     left: u32,
-) -> Result<(Stmt, &'a [Word]), Refusal<'a>>
+) -> Result<(Box<Stmt>, &'a [Word]), Refusal<'a>>
     requires { words.now ≡ Word.Symbol sym.OpenBrace ∷ next.now }
-    ensures { Gives stmt_tree result (stmt_at left words.now) }
+    ensures { Gives boxed_tree result (stmt_at left words.now) }
 {
     let below = level_below(words, left)?;
     let (body, rest) = statements(alloc, next, below)?;
-    Ok((Stmt::Block(body), rest))
+    made(alloc, Stmt::Block(body), rest)
+}
+
+fn put(found: &mut Vec<Stmt>, stmt: Box<Stmt>) -> Result<(), AllocError>
+    ensures { OnOk result (found.new.items ≡ found.old.items ++ stmt.value ∷ []) }
+{
+    found.push(Box::into_inner(stmt))?;
+    Ok(())
 }
 
 /// Any number of statements, and the brace behind them.
@@ -80,7 +96,7 @@ pub fn statements<'a>(
             return Ok((found, end));
         }
         let (stmt, next) = statement(alloc, rest, left)?;
-        found.push(stmt)?;
+        put(&mut found, stmt)?;
         rest = next;
     }
 }
@@ -92,22 +108,56 @@ fn choice<'a>(
     words: &'a [Word],
     next: &'a [Word],
     left: u32,
-) -> Result<(Stmt, &'a [Word]), Refusal<'a>>
+) -> Result<(Box<Stmt>, &'a [Word]), Refusal<'a>>
     requires { words.now ≡ Word.Symbol sym.If ∷ next.now }
-    ensures { Gives stmt_tree result (stmt_at left words.now) }
+    ensures { Gives boxed_tree result (stmt_at left words.now) }
 {
     let (condition, rest) = expression(alloc, next, left)?;
-    let inside = expect(rest, Symbol::Then)?;
-    let below = level_below(rest, left)?;
+    let (branches, rest) = read_branches(alloc, rest, left)?;
+    made(alloc, chosen(condition, branches), rest)
+}
+
+// What stands behind the condition of an `if`.
+#[cycle(statement)]
+fn read_branches<'a>(
+    alloc: Global,
+    words: &'a [Word],
+    left: u32,
+) -> Result<(Branches, &'a [Word]), Refusal<'a>>
+    ensures { Gives branches_tree result (branches_at left words.now) }
+{
+    let inside = expect(words, Symbol::Then)?;
+    let below = level_below(words, left)?;
     let (first, rest) = statement(alloc, inside, below)?;
-    match after(rest, Symbol::Else) {
-        None => Ok((Stmt::If(condition, Box::new(alloc, first)?), rest)),
+    let (second, rest) = second_branch(alloc, rest, below)?;
+    Ok((Branches { first, second }, rest))
+}
+
+// The branch behind `else`, if any; `below` is how many more levels may be opened in it.
+#[cycle(statement)]
+fn second_branch<'a>(
+    alloc: Global,
+    words: &'a [Word],
+    below: u32,
+) -> Result<(Option<Box<Stmt>>, &'a [Word]), Refusal<'a>>
+    ensures { Gives second_tree result (else_at (below + 1) words.now) }
+{
+    match after(words, Symbol::Else) {
+        None => Ok((None, words)),
         Some(inside) => {
             let (second, rest) = statement(alloc, inside, below)?;
-            let first = Box::new(alloc, first)?;
-            let second = Box::new(alloc, second)?;
-            Ok((Stmt::IfElse(condition, first, second), rest))
+            Ok((Some(second), rest))
         }
+    }
+}
+
+fn chosen(condition: Expr, branches: Branches) -> Stmt
+    ensures { stmt_tree result ≡ chosen_tree condition (branches_tree branches) }
+{
+    let Branches { first, second } = branches;
+    match second {
+        None => Stmt::If(condition, first),
+        Some(second) => Stmt::IfElse(condition, first, second),
     }
 }
 
@@ -119,25 +169,48 @@ fn for_each<'a>(
     at: usize,
     next: &'a [Word],
     left: u32,
-) -> Result<(Stmt, &'a [Word]), Refusal<'a>>
+) -> Result<(Box<Stmt>, &'a [Word]), Refusal<'a>>
     requires { words.now ≡ Word.Placed at sym.For ∷ next.now }
-    ensures { Gives stmt_tree result (stmt_at left words.now) }
+    ensures { Gives boxed_tree result (stmt_at left words.now) }
 {
     let (variable_type, rest) = variable_type(next)?;
     let (name, rest) = expect_name(rest)?;
-    let rest = expect(rest, Symbol::In)?;
-    let (list, rest) = expression(alloc, rest, left)?;
-    let inside = expect(rest, Symbol::Do)?;
-    let below = level_below(rest, left)?;
-    let (body, rest) = statement(alloc, inside, below)?;
+    let (list, rest) = walked(alloc, rest, left)?;
+    let (body, rest) = repeated(alloc, rest, left)?;
     let for_each = Stmt::For {
         at,
         variable_type,
         name,
         list,
-        body: Box::new(alloc, body)?,
+        body,
     };
-    Ok((for_each, rest))
+    made(alloc, for_each, rest)
+}
+
+// The word `in`, and the list that a `for` walks.
+fn walked<'a>(
+    alloc: Global,
+    words: &'a [Word],
+    left: u32,
+) -> Result<(Expr, &'a [Word]), Refusal<'a>>
+    ensures { Gives (λ e. Both (symbol_leaf sym.In) (sight e).expr) result (both (word (symbol sym.In)) (expr_at left) words.now) }
+{
+    let inside = expect(words, Symbol::In)?;
+    expression(alloc, inside, left)
+}
+
+// The word `do`, and what is done for each element.
+#[cycle(statement)]
+fn repeated<'a>(
+    alloc: Global,
+    words: &'a [Word],
+    left: u32,
+) -> Result<(Box<Stmt>, &'a [Word]), Refusal<'a>>
+    ensures { Gives (λ s. Inside (Word.Symbol sym.Do) (boxed_tree s)) result (run_at left words.now) }
+{
+    let inside = expect(words, Symbol::Do)?;
+    let below = level_below(words, left)?;
+    statement(alloc, inside, below)
 }
 
 // By the words after `case`.
@@ -148,21 +221,34 @@ fn selection<'a>(
     at: usize,
     next: &'a [Word],
     left: u32,
-) -> Result<(Stmt, &'a [Word]), Refusal<'a>>
+) -> Result<(Box<Stmt>, &'a [Word]), Refusal<'a>>
     requires { words.now ≡ Word.Placed at sym.Case ∷ next.now }
-    ensures { Gives stmt_tree result (stmt_at left words.now) }
+    ensures { Gives boxed_tree result (stmt_at left words.now) }
 {
     let (value, rest) = expression(alloc, next, left)?;
-    let inside = expect(rest, Symbol::OpenBrace)?;
-    let below = level_below(rest, left)?;
-    let ((arms, otherwise), rest) = arms(alloc, inside, below)?;
+    let ((arms, otherwise), rest) = braced(alloc, rest, left)?;
     let selection = Stmt::Case {
         at,
         value,
         arms,
         otherwise,
     };
-    Ok((selection, rest))
+    made(alloc, selection, rest)
+}
+
+// The braces of a `case`, and what stands between them.
+#[cycle(statement)]
+fn braced<'a>(
+    alloc: Global,
+    words: &'a [Word],
+    left: u32,
+) -> Result<((Vec<Arm<Stmt>>, Option<Vec<Stmt>>), &'a [Word]), Refusal<'a>>
+    ensures { Gives (λ found. between (Word.Symbol sym.OpenBrace) (Both (arms_row (arms_of found.0.items)) (otherwise_tree (otherwise_of found.1))) sym.CloseBrace) result
+        (braced_at left words.now) }
+{
+    let inside = expect(words, Symbol::OpenBrace)?;
+    let below = level_below(words, left)?;
+    arms(alloc, inside, below)
 }
 
 // What stands between the braces of a `case`, and the closing brace.
@@ -186,7 +272,7 @@ fn arms<'a>(
     Ok(((found, otherwise), rest))
 }
 
-// An arm: its labels, and the statements up to the next label, `else:` or brace.
+// An arm: its labels, and its statements.
 #[cycle(statement)]
 fn arm<'a>(
     alloc: Global,
@@ -195,14 +281,28 @@ fn arm<'a>(
 ) -> Result<(Arm<Stmt>, &'a [Word]), Refusal<'a>>
     ensures { ArmGives result left words.now }
 {
-    let (labels, mut rest) = label(alloc, words, left)?;
+    let (labels, rest) = label(alloc, words, left)?;
+    let (body, rest) = arm_body(alloc, rest, left)?;
+    Ok((Arm { labels, body }, rest))
+}
+
+// The statements of an arm, up to the next label, `else:` or brace.
+#[cycle(statement)]
+fn arm_body<'a>(
+    alloc: Global,
+    words: &'a [Word],
+    left: u32,
+) -> Result<(Vec<Stmt>, &'a [Word]), Refusal<'a>>
+    ensures { BodyGives result left words.now }
+{
     let mut body = Vec::new(alloc);
+    let mut rest = words;
     while !is_behind_arm(rest) {
         let (stmt, next) = statement(alloc, rest, left)?;
-        body.push(stmt)?;
+        put(&mut body, stmt)?;
         rest = next;
     }
-    Ok((Arm { labels, body }, rest))
+    Ok((body, rest))
 }
 
 // What stands behind the arms: the statements of `else:`, if any, and the closing brace.

@@ -1,5 +1,4 @@
 use Rattle.std.proofs.Common.{◌≡◌, List, [], ◌∷◌, ◌++◌, length, drop, map, refl, sym, ap, ◌∙◌, arith, rules, vec_len}
-use Rattle.std.proofs.lemmas.Bool.Decides.{nat_tests}
 use Rattle.std.proofs.lemmas.Result.{err_from_is_err_and}
 use Rattle.std.proofs.lemmas.List.{length-append}
 use Rattle.conf_lex.specs.declared.symbol.Symbol.TheVariants as symbols
@@ -19,240 +18,208 @@ use Rattle.filt_syntax.specs.Syntax.{is_compare, is_term, is_factor, is_joint, g
 use Rattle.filt_syntax.specs.View.{sight, parts_after, access_of, factor_of, term_of, joint_of, listed_tree, expr_trees, compare_symbol, term_symbol, factor_symbol, joint_symbol}
 use Rattle.filt_syntax.specs.Readers.{expr_at, cmp_at, sum_at, prod_at, unary_at, post_at, prim_at, behind_dot_at, named_at, inside_at}
 use Rattle.filt_syntax.proofs.Steps.{joint_turns, expr_is, term_turns, sum_is, factor_turns, prod_is, dot_turns, post_is, comma_turns, cmp_is, group_is, expr_shorter, cmp_shorter, prod_shorter, unary_shorter, behind_shorter, joint_passes, compare_passes, term_passes, factor_passes, level_unopened, level_deep, level_inside_fails, level_end_fails, level_got, argument_inside, two_first_fails, two_comma_fails, two_second_fails, two_got, prim_simple, prim_named, group_fails, group_got, method_call_fails, method_call_got, prim_bad, not_too_deep, not_fails, not_got, unary_post, behind_property, behind_fails, behind_got, method_bad, method_fails, method_got, named_none, named_fails, named_got, arguments_empty, arguments_some, arguments_fail}
-use Rattle.filt_syntax.proofs.Sights.{lifts, sight-Simple, sight-Name, sight-Call, product_of, sum_of, joint_is, access_is, compare_of, method_call_of, not_of, group_of, pair_of, one_more, one_more_access, one_more_expr, arguments_listed, gives_unary}
+use Rattle.filt_syntax.proofs.Sights.{lifts, sight-Simple, sight-Name, sight-Call, sight-Product, sight-Sum, sight-Joint, sight-Access, sight-Group, sight-Pair, sight-MethodCall, compare_of, not_of, one_more, one_more_access, one_more_expr, arguments_listed, gives_unary}
 use Rattle.filt_syntax.proofs.expression.+expression.Goals as goal
 
 same_tail : (w : Word) (us vs ws : List Word) → ws ≡ w ∷ us → ws ≡ w ∷ vs → us ≡ vs
 same_tail w us vs ws p q = ap (λ (x : List Word). drop 1 x) (sym p ∙ q)
 
-nothing_left : {X : Type 0} (xs : List X) → length xs ≡ 0 → xs ≡ []
-nothing_left [] e = refl
-nothing_left (x ∷ xs) e = absurd (omega arith)
-
 -- ---- expression
 
-pub expression-returns-in_err-first : goal.expression-returns-in_err-first
-expression-returns-in_err-first t c =
+pub expression-returns-in_err-value : goal.expression-returns-in_err-value
+expression-returns-in_err-value t c =
     let p = err_from_is_err_and c.from_residual.result c.from_residual.ensures.1 in
     let k = c.args.left in
-    rw (p.1, p.2) (fails_along _ _ _ (expr_is k c.args.words.now) (fails_then c.in_err-first.field-0.0 (cmp_at k c.args.words.now) (λ a rest. links is_joint (cmp_at k) (Start a) rest) c.in_err-first.ensures.tree))
+    rw (p.1, p.2) (fails_along _ _ _ (expr_is k c.args.words.now) (fails_then c.in_err-value.field-0.0 (cmp_at k c.args.words.now) (λ a rest. links is_joint (cmp_at k) (Start a) rest) c.in_err-value.ensures.tree))
 
 pub expression-loop-joint-init : goal.expression-loop-joint-init
 expression-loop-joint-init t c =
     let none : c.new-more.result.items ≡ [] = search rules in
-    record {
-      rank = c.in_ok-first.ensures.rank;
-      reading = rw none (expr_is c.args.left c.args.words.now ∙ rw c.in_ok-first.ensures.tree refl);
-    }
+    let boxed : c.in_ok-first.first.value ≡ c.in_ok-value.value = search rules in
+    rw (none, boxed) (expr_is c.args.left c.args.words.now ∙ rw c.in_ok-value.ensures.tree refl)
 
 pub expression-returns-in_err-operand : goal.expression-returns-in_err-operand
 expression-returns-in_err-operand t c =
     let p = err_from_is_err_and c.from_residual-in_err-operand.result c.from_residual-in_err-operand.ensures.1 in
     let k = c.args.left in
-    rw (p.1, p.2) (fails_along _ _ _ c.loop-joint.invariant.reading (links_fail is_joint (cmp_at k) (joint_turns k) _ c.loop-joint.rest.now (words.Symbol (joint_symbol c.in-Some.joint)) c.in-Some.next.now c.in_err-operand.field-0.0 c.in-Some.ensures (joint_passes c.in-Some.joint) c.in_err-operand.ensures.tree))
+    rw (p.1, p.2) (fails_along _ _ _ c.loop-joint.invariant (links_fail is_joint (cmp_at k) (joint_turns k) _ c.loop-joint.rest.now (words.Symbol (joint_symbol c.in-Some-next_joint.joint)) c.in-Some-next_joint.next.now c.in_err-operand.field-0.0 c.in-Some-next_joint.ensures (joint_passes c.in-Some-next_joint.joint) c.in_err-operand.ensures.tree))
 
 pub expression-loop-joint-smaller : goal.expression-loop-joint-smaller
-expression-loop-joint-smaller t c = omega (arith, cmp_shorter c.args.left c.in-Some.next.now _ c.in_ok-operand.end.now c.in_ok-operand.ensures.tree, ap (λ (ws : List Word). length ws) c.in-Some.ensures)
+expression-loop-joint-smaller t c = omega (arith, cmp_shorter c.args.left c.in-Some-next_joint.next.now _ c.in_ok-operand.end.now c.in_ok-operand.ensures.tree, ap (λ (ws : List Word). length ws) c.in-Some-next_joint.ensures)
 
 pub expression-loop-joint-preserved : goal.expression-loop-joint-preserved
 expression-loop-joint-preserved t c =
     let k = c.args.left in
-    let x : Joint × Expr = (c.in-Some.joint, c.in_ok-operand.operand) in
+    let x : Joint × Expr = (c.in-Some-next_joint.joint, c.in_ok-operand.operand) in
     let xs = c.loop-joint.more.items in
-    let first = Start (sight c.loop-joint.first-1).cmp in
+    let first = Start (sight c.in_ok-first.first.value).cmp in
     let pushed : c.push.new.self.items ≡ xs ++ x ∷ [] = search rules in
-    let turn = links_more is_joint (cmp_at k) (joint_turns k) (parts_after first (map joint_of xs)) c.loop-joint.rest.now (words.Symbol (joint_symbol c.in-Some.joint)) c.in-Some.next.now (joint_of x).1 c.in_ok-operand.end.now c.in-Some.ensures (joint_passes c.in-Some.joint) c.in_ok-operand.ensures.tree in
-    record {
-      rank = c.loop-joint.invariant.rank;
-      reading = rw pushed (c.loop-joint.invariant.reading ∙ turn ∙ ap (λ (u : Tree). links is_joint (cmp_at k) u c.in_ok-operand.end.now) (sym (one_more joint_of first xs x)));
-    }
+    let turn = links_more is_joint (cmp_at k) (joint_turns k) (parts_after first (map joint_of xs)) c.loop-joint.rest.now (words.Symbol (joint_symbol c.in-Some-next_joint.joint)) c.in-Some-next_joint.next.now (joint_of x).1 c.in_ok-operand.end.now c.in-Some-next_joint.ensures (joint_passes c.in-Some-next_joint.joint) c.in_ok-operand.ensures.tree in
+    rw pushed (c.loop-joint.invariant ∙ turn ∙ ap (λ (u : Tree). links is_joint (cmp_at k) u c.in_ok-operand.end.now) (sym (one_more joint_of first xs x)))
 
-pub expression-returns-then-is_empty : goal.expression-returns-then-is_empty
-expression-returns-then-is_empty t c =
+pub expression-returns-in_default : goal.expression-returns-in_default
+expression-returns-in_default t c =
     let k = c.args.left in
-    let xs = c.loop-joint.more.items in
-    let first = c.loop-joint.first-1 in
-    let len : vec_len c.loop-joint.more ≡ 0 = grind (arith, nat_tests) in
-    let none : xs ≡ [] = nothing_left xs (omega (arith, c.loop-joint.more.ok.0)) in
-    let ended = c.loop-joint.invariant.reading ∙ links_end is_joint (cmp_at k) (joint_turns k) (parts_after (Start (sight first).cmp) (map joint_of xs)) c.loop-joint.rest.now c.in_default.ensures in
-    rw ((lifts first).expr c.loop-joint.invariant.rank) (ended ∙ rw none refl)
+    let v = c.in_ok-value.value in
+    rw ((lifts v).expr c.in_ok-value.ensures.rank) (expr_is k c.args.words.now ∙ rw c.in_ok-value.ensures.tree (links_end is_joint (cmp_at k) (joint_turns k) (Start (sight v).cmp) c.in_ok-value.rest.now c.in_default.ensures))
 
 pub expression-returns : goal.expression-returns
 expression-returns t c =
     let k = c.args.left in
-    let boxed : c.in_ok-new.field-0.value ≡ c.loop-joint.first-1 = search rules in
-    rw (joint_is c.in_ok-new.field-0 c.loop-joint.more c.loop-joint.first-1 boxed) (c.loop-joint.invariant.reading ∙ links_end is_joint (cmp_at k) (joint_turns k) _ c.loop-joint.rest.now c.in_default.ensures)
+    rw (sight-Joint c.in_ok-first.first c.loop-joint.more) (c.loop-joint.invariant ∙ links_end is_joint (cmp_at k) (joint_turns k) _ c.loop-joint.rest.now c.in_default-next_joint.ensures)
+
+-- ---- boxed
+
+pub boxed-returns-in_err-value : goal.boxed-returns-in_err-value
+boxed-returns-in_err-value t c =
+    let p = err_from_is_err_and c.from_residual.result c.from_residual.ensures.1 in
+    rw (p.1, p.2) c.in_err-value.ensures
+
+pub boxed-returns : goal.boxed-returns
+boxed-returns t c =
+    let same : c.in_ok-boxed.boxed.value ≡ c.in_ok-value.value = search rules in
+    rw same c.in_ok-value.ensures
 
 -- ---- sum
 
-pub sum-returns-in_err-first-clause-tree : goal.sum-returns-in_err-first-clause-tree
-sum-returns-in_err-first-clause-tree t c =
+pub sum-returns-in_err-value-clause-tree : goal.sum-returns-in_err-value-clause-tree
+sum-returns-in_err-value-clause-tree t c =
     let p = err_from_is_err_and c.from_residual.result c.from_residual.ensures.1 in
     let k = c.args.left in
-    rw (p.1, p.2) (fails_along _ _ _ (sum_is k c.args.words.now) (fails_then c.in_err-first.field-0.0 (prod_at k c.args.words.now) (λ a rest. links is_term (prod_at k) (Start a) rest) c.in_err-first.ensures.tree))
+    rw (p.1, p.2) (fails_along _ _ _ (sum_is k c.args.words.now) (fails_then c.in_err-value.field-0.0 (prod_at k c.args.words.now) (λ a rest. links is_term (prod_at k) (Start a) rest) c.in_err-value.ensures.tree))
 
 pub sum-loop-term-init : goal.sum-loop-term-init
 sum-loop-term-init t c =
     let none : c.new-more.result.items ≡ [] = search rules in
-    record {
-      rank = c.in_ok-first.ensures.rank;
-      reading = rw none (sum_is c.args.left c.args.words.now ∙ rw c.in_ok-first.ensures.tree refl);
-    }
+    let boxed : c.in_ok-first.first.value ≡ c.in_ok-value.value = search rules in
+    rw (none, boxed) (sum_is c.args.left c.args.words.now ∙ rw c.in_ok-value.ensures.tree refl)
 
 pub sum-returns-in_err-operand-clause-tree : goal.sum-returns-in_err-operand-clause-tree
 sum-returns-in_err-operand-clause-tree t c =
     let p = err_from_is_err_and c.from_residual-in_err-operand.result c.from_residual-in_err-operand.ensures.1 in
     let k = c.args.left in
-    rw (p.1, p.2) (fails_along _ _ _ c.loop-term.invariant.reading (links_fail is_term (prod_at k) (term_turns k) _ c.loop-term.rest.now (words.Symbol (term_symbol c.in-Some.term)) c.in-Some.next.now c.in_err-operand.field-0.0 c.in-Some.ensures (term_passes c.in-Some.term) c.in_err-operand.ensures.tree))
+    rw (p.1, p.2) (fails_along _ _ _ c.loop-term.invariant (links_fail is_term (prod_at k) (term_turns k) _ c.loop-term.rest.now (words.Symbol (term_symbol c.in-Some-next_term.term)) c.in-Some-next_term.next.now c.in_err-operand.field-0.0 c.in-Some-next_term.ensures (term_passes c.in-Some-next_term.term) c.in_err-operand.ensures.tree))
 
 pub sum-loop-term-smaller : goal.sum-loop-term-smaller
-sum-loop-term-smaller t c = omega (arith, prod_shorter c.args.left c.in-Some.next.now _ c.in_ok-operand.end.now c.in_ok-operand.ensures.tree, ap (λ (ws : List Word). length ws) c.in-Some.ensures)
+sum-loop-term-smaller t c = omega (arith, prod_shorter c.args.left c.in-Some-next_term.next.now _ c.in_ok-operand.end.now c.in_ok-operand.ensures.tree, ap (λ (ws : List Word). length ws) c.in-Some-next_term.ensures)
 
 pub sum-loop-term-preserved : goal.sum-loop-term-preserved
 sum-loop-term-preserved t c =
     let k = c.args.left in
-    let x : Term × Expr = (c.in-Some.term, c.in_ok-operand.operand) in
+    let x : Term × Expr = (c.in-Some-next_term.term, c.in_ok-operand.operand) in
     let xs = c.loop-term.more.items in
-    let first = Start (sight c.loop-term.first-1).prod in
+    let first = Start (sight c.in_ok-first.first.value).prod in
     let pushed : c.push.new.self.items ≡ xs ++ x ∷ [] = search rules in
-    let turn = links_more is_term (prod_at k) (term_turns k) (parts_after first (map term_of xs)) c.loop-term.rest.now (words.Symbol (term_symbol c.in-Some.term)) c.in-Some.next.now (term_of x).1 c.in_ok-operand.end.now c.in-Some.ensures (term_passes c.in-Some.term) c.in_ok-operand.ensures.tree in
-    record {
-      rank = c.loop-term.invariant.rank;
-      reading = rw pushed (c.loop-term.invariant.reading ∙ turn ∙ ap (λ (u : Tree). links is_term (prod_at k) u c.in_ok-operand.end.now) (sym (one_more term_of first xs x)));
-    }
+    let turn = links_more is_term (prod_at k) (term_turns k) (parts_after first (map term_of xs)) c.loop-term.rest.now (words.Symbol (term_symbol c.in-Some-next_term.term)) c.in-Some-next_term.next.now (term_of x).1 c.in_ok-operand.end.now c.in-Some-next_term.ensures (term_passes c.in-Some-next_term.term) c.in_ok-operand.ensures.tree in
+    rw pushed (c.loop-term.invariant ∙ turn ∙ ap (λ (u : Tree). links is_term (prod_at k) u c.in_ok-operand.end.now) (sym (one_more term_of first xs x)))
 
-pub sum-returns-then-is_empty-clause-tree : goal.sum-returns-then-is_empty-clause-tree
-sum-returns-then-is_empty-clause-tree t c =
+pub sum-returns-in_default-clause-tree : goal.sum-returns-in_default-clause-tree
+sum-returns-in_default-clause-tree t c =
     let k = c.args.left in
-    let xs = c.loop-term.more.items in
-    let first = c.loop-term.first-1 in
-    let len : vec_len c.loop-term.more ≡ 0 = grind (arith, nat_tests) in
-    let none : xs ≡ [] = nothing_left xs (omega (arith, c.loop-term.more.ok.0)) in
-    let ended = c.loop-term.invariant.reading ∙ links_end is_term (prod_at k) (term_turns k) (parts_after (Start (sight first).prod) (map term_of xs)) c.loop-term.rest.now c.in_default.ensures in
-    rw ((lifts first).sum c.loop-term.invariant.rank) (ended ∙ rw none refl)
+    let v = c.in_ok-value.value in
+    rw ((lifts v).sum c.in_ok-value.ensures.rank) (sum_is k c.args.words.now ∙ rw c.in_ok-value.ensures.tree (links_end is_term (prod_at k) (term_turns k) (Start (sight v).prod) c.in_ok-value.rest.now c.in_default.ensures))
 
-pub sum-returns-then-is_empty-clause-rank : goal.sum-returns-then-is_empty-clause-rank
-sum-returns-then-is_empty-clause-rank t c = omega (arith, c.loop-term.invariant.rank)
+pub sum-returns-in_default-clause-rank : goal.sum-returns-in_default-clause-rank
+sum-returns-in_default-clause-rank t c = omega (arith, c.in_ok-value.ensures.rank)
 
 pub sum-returns-clause-tree : goal.sum-returns-clause-tree
 sum-returns-clause-tree t c =
     let k = c.args.left in
-    let boxed : c.in_ok-new.field-0.value ≡ c.loop-term.first-1 = search rules in
-    rw (sum_of c.in_ok-new.field-0 c.loop-term.more c.loop-term.first-1 boxed) (c.loop-term.invariant.reading ∙ links_end is_term (prod_at k) (term_turns k) _ c.loop-term.rest.now c.in_default.ensures)
+    rw (sight-Sum c.in_ok-first.first c.loop-term.more) (c.loop-term.invariant ∙ links_end is_term (prod_at k) (term_turns k) _ c.loop-term.rest.now c.in_default-next_term.ensures)
 
 -- ---- product
 
-pub product-returns-in_err-first-clause-tree : goal.product-returns-in_err-first-clause-tree
-product-returns-in_err-first-clause-tree t c =
+pub product-returns-in_err-value-clause-tree : goal.product-returns-in_err-value-clause-tree
+product-returns-in_err-value-clause-tree t c =
     let p = err_from_is_err_and c.from_residual.result c.from_residual.ensures.1 in
     let k = c.args.left in
-    rw (p.1, p.2) (fails_along _ _ _ (prod_is k c.args.words.now) (fails_then c.in_err-first.field-0.0 (unary_at k c.args.words.now) (λ a rest. links is_factor (unary_at k) (Start a) rest) c.in_err-first.ensures.tree))
+    rw (p.1, p.2) (fails_along _ _ _ (prod_is k c.args.words.now) (fails_then c.in_err-value.field-0.0 (unary_at k c.args.words.now) (λ a rest. links is_factor (unary_at k) (Start a) rest) c.in_err-value.ensures.tree))
 
 pub product-loop-factor-init : goal.product-loop-factor-init
 product-loop-factor-init t c =
     let none : c.new-more.result.items ≡ [] = search rules in
-    record {
-      rank = c.in_ok-first.ensures.rank;
-      reading = rw none (prod_is c.args.left c.args.words.now ∙ rw c.in_ok-first.ensures.tree refl);
-    }
+    let boxed : c.in_ok-first.first.value ≡ c.in_ok-value.value = search rules in
+    rw (none, boxed) (prod_is c.args.left c.args.words.now ∙ rw c.in_ok-value.ensures.tree refl)
 
 pub product-returns-in_err-second-clause-tree : goal.product-returns-in_err-second-clause-tree
 product-returns-in_err-second-clause-tree t c =
     let p = err_from_is_err_and c.from_residual-in_err-second.result c.from_residual-in_err-second.ensures.1 in
     let k = c.args.left in
-    rw (p.1, p.2) (fails_along _ _ _ c.loop-factor.invariant.reading (links_fail is_factor (unary_at k) (factor_turns k) _ c.loop-factor.rest.now (words.Symbol (factor_symbol c.in-Some.factor)) c.in-Some.next.now c.in_err-second.field-0.0 c.in-Some.ensures (factor_passes c.in-Some.factor) c.in_err-second.ensures.tree))
+    rw (p.1, p.2) (fails_along _ _ _ c.loop-factor.invariant (links_fail is_factor (unary_at k) (factor_turns k) _ c.loop-factor.rest.now (words.Symbol (factor_symbol c.in-Some-next_factor.factor)) c.in-Some-next_factor.next.now c.in_err-second.field-0.0 c.in-Some-next_factor.ensures (factor_passes c.in-Some-next_factor.factor) c.in_err-second.ensures.tree))
 
 pub product-loop-factor-smaller : goal.product-loop-factor-smaller
-product-loop-factor-smaller t c = omega (arith, unary_shorter c.args.left c.in-Some.next.now _ c.in_ok-second.end.now c.in_ok-second.ensures.tree, ap (λ (ws : List Word). length ws) c.in-Some.ensures)
+product-loop-factor-smaller t c = omega (arith, unary_shorter c.args.left c.in-Some-next_factor.next.now _ c.in_ok-second.end.now c.in_ok-second.ensures.tree, ap (λ (ws : List Word). length ws) c.in-Some-next_factor.ensures)
 
 pub product-loop-factor-preserved : goal.product-loop-factor-preserved
 product-loop-factor-preserved t c =
     let k = c.args.left in
-    let x : Factor × Expr = (c.in-Some.factor, c.in_ok-second.second) in
+    let x : Factor × Expr = (c.in-Some-next_factor.factor, c.in_ok-second.second) in
     let xs = c.loop-factor.more.items in
-    let first = Start (sight c.loop-factor.first-1).unary in
+    let first = Start (sight c.in_ok-first.first.value).unary in
     let pushed : c.push.new.self.items ≡ xs ++ x ∷ [] = search rules in
-    let turn = links_more is_factor (unary_at k) (factor_turns k) (parts_after first (map factor_of xs)) c.loop-factor.rest.now (words.Symbol (factor_symbol c.in-Some.factor)) c.in-Some.next.now (factor_of x).1 c.in_ok-second.end.now c.in-Some.ensures (factor_passes c.in-Some.factor) c.in_ok-second.ensures.tree in
-    record {
-      rank = c.loop-factor.invariant.rank;
-      reading = rw pushed (c.loop-factor.invariant.reading ∙ turn ∙ ap (λ (u : Tree). links is_factor (unary_at k) u c.in_ok-second.end.now) (sym (one_more factor_of first xs x)));
-    }
+    let turn = links_more is_factor (unary_at k) (factor_turns k) (parts_after first (map factor_of xs)) c.loop-factor.rest.now (words.Symbol (factor_symbol c.in-Some-next_factor.factor)) c.in-Some-next_factor.next.now (factor_of x).1 c.in_ok-second.end.now c.in-Some-next_factor.ensures (factor_passes c.in-Some-next_factor.factor) c.in_ok-second.ensures.tree in
+    rw pushed (c.loop-factor.invariant ∙ turn ∙ ap (λ (u : Tree). links is_factor (unary_at k) u c.in_ok-second.end.now) (sym (one_more factor_of first xs x)))
 
-pub product-returns-then-is_empty-clause-tree : goal.product-returns-then-is_empty-clause-tree
-product-returns-then-is_empty-clause-tree t c =
+pub product-returns-in_default-clause-tree : goal.product-returns-in_default-clause-tree
+product-returns-in_default-clause-tree t c =
     let k = c.args.left in
-    let xs = c.loop-factor.more.items in
-    let first = c.loop-factor.first-1 in
-    let len : vec_len c.loop-factor.more ≡ 0 = grind (arith, nat_tests) in
-    let none : xs ≡ [] = nothing_left xs (omega (arith, c.loop-factor.more.ok.0)) in
-    let ended = c.loop-factor.invariant.reading ∙ links_end is_factor (unary_at k) (factor_turns k) (parts_after (Start (sight first).unary) (map factor_of xs)) c.loop-factor.rest.now c.in_default.ensures in
-    rw ((lifts first).prod c.loop-factor.invariant.rank) (ended ∙ rw none refl)
+    let v = c.in_ok-value.value in
+    rw ((lifts v).prod c.in_ok-value.ensures.rank) (prod_is k c.args.words.now ∙ rw c.in_ok-value.ensures.tree (links_end is_factor (unary_at k) (factor_turns k) (Start (sight v).unary) c.in_ok-value.rest.now c.in_default.ensures))
 
-pub product-returns-then-is_empty-clause-rank : goal.product-returns-then-is_empty-clause-rank
-product-returns-then-is_empty-clause-rank t c = omega (arith, c.loop-factor.invariant.rank)
+pub product-returns-in_default-clause-rank : goal.product-returns-in_default-clause-rank
+product-returns-in_default-clause-rank t c = omega (arith, c.in_ok-value.ensures.rank)
 
 pub product-returns-clause-tree : goal.product-returns-clause-tree
 product-returns-clause-tree t c =
     let k = c.args.left in
-    let boxed : c.in_ok-new.field-0.value ≡ c.loop-factor.first-1 = search rules in
-    rw (product_of c.in_ok-new.field-0 c.loop-factor.more c.loop-factor.first-1 boxed) (c.loop-factor.invariant.reading ∙ links_end is_factor (unary_at k) (factor_turns k) _ c.loop-factor.rest.now c.in_default.ensures)
+    rw (sight-Product c.in_ok-first.first c.loop-factor.more) (c.loop-factor.invariant ∙ links_end is_factor (unary_at k) (factor_turns k) _ c.loop-factor.rest.now c.in_default-next_factor.ensures)
 
 -- ---- accessed
 
-pub accessed-returns-in_err-first-clause-tree : goal.accessed-returns-in_err-first-clause-tree
-accessed-returns-in_err-first-clause-tree t c =
+pub accessed-returns-in_err-value-clause-tree : goal.accessed-returns-in_err-value-clause-tree
+accessed-returns-in_err-value-clause-tree t c =
     let p = err_from_is_err_and c.from_residual.result c.from_residual.ensures.1 in
     let k = c.args.left in
-    rw (p.1, p.2) (fails_along _ _ _ (post_is k c.args.words.now) (fails_then c.in_err-first.field-0.0 (prim_at k c.args.words.now) (λ a rest. links (symbol symbols.Dot) (behind_dot_at k) (Start a) rest) c.in_err-first.ensures.tree))
+    rw (p.1, p.2) (fails_along _ _ _ (post_is k c.args.words.now) (fails_then c.in_err-value.field-0.0 (prim_at k c.args.words.now) (λ a rest. links (symbol symbols.Dot) (behind_dot_at k) (Start a) rest) c.in_err-value.ensures.tree))
 
 pub accessed-loop-next-init : goal.accessed-loop-next-init
 accessed-loop-next-init t c =
     let none : c.new-more.result.items ≡ [] = search rules in
-    record {
-      rank = c.in_ok-first.ensures.rank;
-      reading = rw none (post_is c.args.left c.args.words.now ∙ rw c.in_ok-first.ensures.tree refl);
-    }
+    let boxed : c.in_ok-first.first.value ≡ c.in_ok-value.value = search rules in
+    rw (none, boxed) (post_is c.args.left c.args.words.now ∙ rw c.in_ok-value.ensures.tree refl)
 
 pub accessed-returns-in_err-accessed-clause-tree : goal.accessed-returns-in_err-accessed-clause-tree
 accessed-returns-in_err-accessed-clause-tree t c =
     let p = err_from_is_err_and c.from_residual-in_err-accessed.result c.from_residual-in_err-accessed.ensures.1 in
     let k = c.args.left in
-    rw (p.1, p.2) (fails_along _ _ _ c.loop-next.invariant.reading (links_fail (symbol symbols.Dot) (behind_dot_at k) (dot_turns k) _ c.loop-next.rest.now (words.Symbol symbols.Dot) c.in-Some.next.now c.in_err-accessed.field-0.0 c.in-Some.ensures refl c.in_err-accessed.ensures))
+    rw (p.1, p.2) (fails_along _ _ _ c.loop-next.invariant (links_fail (symbol symbols.Dot) (behind_dot_at k) (dot_turns k) _ c.loop-next.rest.now (words.Symbol symbols.Dot) c.in-Some-after.next.now c.in_err-accessed.field-0.0 c.in-Some-after.ensures refl c.in_err-accessed.ensures))
 
 pub accessed-loop-next-smaller : goal.accessed-loop-next-smaller
-accessed-loop-next-smaller t c = omega (arith, behind_shorter c.args.left c.in-Some.next.now _ c.in_ok-accessed.end.now c.in_ok-accessed.ensures, ap (λ (ws : List Word). length ws) c.in-Some.ensures)
+accessed-loop-next-smaller t c = omega (arith, behind_shorter c.args.left c.in-Some-after.next.now _ c.in_ok-accessed.end.now c.in_ok-accessed.ensures, ap (λ (ws : List Word). length ws) c.in-Some-after.ensures)
 
 pub accessed-loop-next-preserved : goal.accessed-loop-next-preserved
 accessed-loop-next-preserved t c =
     let k = c.args.left in
     let x : Access Expr = c.in_ok-accessed.accessed in
     let xs = c.loop-next.more.items in
-    let first = Start (sight c.loop-next.first-1).prim in
+    let first = Start (sight c.in_ok-first.first.value).prim in
     let pushed : c.push.new.self.items ≡ xs ++ x ∷ [] = search rules in
-    let turn = links_more (symbol symbols.Dot) (behind_dot_at k) (dot_turns k) (parts_after first (map access_of xs)) c.loop-next.rest.now (words.Symbol symbols.Dot) c.in-Some.next.now (access_of x).1 c.in_ok-accessed.end.now c.in-Some.ensures refl c.in_ok-accessed.ensures in
-    record {
-      rank = c.loop-next.invariant.rank;
-      reading = rw pushed (c.loop-next.invariant.reading ∙ turn ∙ ap (λ (u : Tree). links (symbol symbols.Dot) (behind_dot_at k) u c.in_ok-accessed.end.now) (sym (one_more_access first xs x)));
-    }
+    let turn = links_more (symbol symbols.Dot) (behind_dot_at k) (dot_turns k) (parts_after first (map access_of xs)) c.loop-next.rest.now (words.Symbol symbols.Dot) c.in-Some-after.next.now (access_of x).1 c.in_ok-accessed.end.now c.in-Some-after.ensures refl c.in_ok-accessed.ensures in
+    rw pushed (c.loop-next.invariant ∙ turn ∙ ap (λ (u : Tree). links (symbol symbols.Dot) (behind_dot_at k) u c.in_ok-accessed.end.now) (sym (one_more_access first xs x)))
 
-pub accessed-returns-then-is_empty-clause-tree : goal.accessed-returns-then-is_empty-clause-tree
-accessed-returns-then-is_empty-clause-tree t c =
+pub accessed-returns-in_default-clause-tree : goal.accessed-returns-in_default-clause-tree
+accessed-returns-in_default-clause-tree t c =
     let k = c.args.left in
-    let xs = c.loop-next.more.items in
-    let first = c.loop-next.first-1 in
-    let len : vec_len c.loop-next.more ≡ 0 = grind (arith, nat_tests) in
-    let none : xs ≡ [] = nothing_left xs (omega (arith, c.loop-next.more.ok.0)) in
-    let ended = c.loop-next.invariant.reading ∙ links_end (symbol symbols.Dot) (behind_dot_at k) (dot_turns k) (parts_after (Start (sight first).prim) (map access_of xs)) c.loop-next.rest.now c.in_default.ensures in
-    rw ((lifts first).post c.loop-next.invariant.rank) (ended ∙ rw none refl)
+    let v = c.in_ok-value.value in
+    rw ((lifts v).post c.in_ok-value.ensures.rank) (post_is k c.args.words.now ∙ rw c.in_ok-value.ensures.tree (links_end (symbol symbols.Dot) (behind_dot_at k) (dot_turns k) (Start (sight v).prim) c.in_ok-value.rest.now c.in_default.ensures))
 
-pub accessed-returns-then-is_empty-clause-rank : goal.accessed-returns-then-is_empty-clause-rank
-accessed-returns-then-is_empty-clause-rank t c = omega (arith, c.loop-next.invariant.rank)
+pub accessed-returns-in_default-clause-rank : goal.accessed-returns-in_default-clause-rank
+accessed-returns-in_default-clause-rank t c = omega (arith, c.in_ok-value.ensures.rank)
 
 pub accessed-returns-clause-tree : goal.accessed-returns-clause-tree
 accessed-returns-clause-tree t c =
     let k = c.args.left in
-    let boxed : c.in_ok-new.field-0.value ≡ c.loop-next.first-1 = search rules in
-    rw (access_is c.in_ok-new.field-0 c.loop-next.more c.loop-next.first-1 boxed) (c.loop-next.invariant.reading ∙ links_end (symbol symbols.Dot) (behind_dot_at k) (dot_turns k) _ c.loop-next.rest.now c.in_default.ensures)
+    rw (sight-Access c.in_ok-first.first c.loop-next.more) (c.loop-next.invariant ∙ links_end (symbol symbols.Dot) (behind_dot_at k) (dot_turns k) _ c.loop-next.rest.now c.in_default-after.ensures)
 
 -- ---- comparisons
 
@@ -268,13 +235,13 @@ comparison-returns-in_err-operand-in-Some-clause-tree t c =
     let k = c.args.left in
     rw (p.1, p.2) (fails_along _ _ _ (cmp_is k c.args.words.now) (optional_second_fails is_compare (sum_at k) (sum_at k) c.args.words.now _ c.in_ok-value.rest.now (words.Symbol (compare_symbol c.in-Some.compare)) c.in-Some.rest.now c.in_err-operand-in-Some.field-0.0 c.in_ok-value.ensures.tree c.in-Some.ensures (compare_passes c.in-Some.compare) c.in_err-operand-in-Some.ensures.tree))
 
-pub comparison-returns-in_ok-new-in-Some-2-clause-tree : goal.comparison-returns-in_ok-new-in-Some-2-clause-tree
-comparison-returns-in_ok-new-in-Some-2-clause-tree t c =
+pub comparison-returns-in_ok-second-in-Some-clause-tree : goal.comparison-returns-in_ok-second-in-Some-clause-tree
+comparison-returns-in_ok-second-in-Some-clause-tree t c =
     let k = c.args.left in
     let op = c.in-Some.compare in
-    let first : c.in_ok-new-in-Some.field-0.value ≡ c.in_ok-value.value = search rules in
-    let second : c.in_ok-new-in-Some-2.field-0.value ≡ c.in_ok-operand-in-Some.operand = search rules in
-    let seen = compare_of op c.in_ok-new-in-Some.field-0 c.in_ok-new-in-Some-2.field-0 c.in_ok-value.value c.in_ok-operand-in-Some.operand first second in
+    let first : c.in_ok-first-in-Some.first.value ≡ c.in_ok-value.value = search rules in
+    let second : c.in_ok-second-in-Some.second.value ≡ c.in_ok-operand-in-Some.operand = search rules in
+    let seen = compare_of op c.in_ok-first-in-Some.first c.in_ok-second-in-Some.second c.in_ok-value.value c.in_ok-operand-in-Some.operand first second in
     rw seen (cmp_is k c.args.words.now ∙ optional_pair is_compare (sum_at k) (sum_at k) c.args.words.now _ c.in_ok-value.rest.now (words.Symbol (compare_symbol op)) c.in-Some.rest.now _ c.in_ok-operand-in-Some.rest.now c.in_ok-value.ensures.tree c.in-Some.ensures (compare_passes op) c.in_ok-operand-in-Some.ensures.tree)
 
 pub comparison-returns-in-None-clause-tree : goal.comparison-returns-in-None-clause-tree
@@ -376,13 +343,12 @@ group-returns-in_err-rest-in-None-clause-tree t c =
     let got = group_is b u ∙ optional_alone (symbol symbols.Comma) (expr_at b) (expr_at b) u _ c.in_ok-first.end.now c.in_ok-first.ensures c.in-None.ensures in
     rw (p.1, p.2) (group_fails c.args.left c.args.words.now u e c.requires (level_end_fails group_level c.args.left b c.args.words.now u _ c.in_ok-first.end.now e c.in_ok-below.ensures c.requires got c.in_err-rest-in-None.ensures))
 
-pub group-returns-in_ok-new-in-None-clause-tree : goal.group-returns-in_ok-new-in-None-clause-tree
-group-returns-in_ok-new-in-None-clause-tree t c =
+pub group-returns-in_ok-rest-in-None-clause-tree : goal.group-returns-in_ok-rest-in-None-clause-tree
+group-returns-in_ok-rest-in-None-clause-tree t c =
     let b = c.in_ok-below.below in
     let u = c.args.inside.now in
-    let boxed : c.in_ok-new-in-None.field-0.value ≡ c.in_ok-first.first = search rules in
     let got = group_is b u ∙ optional_alone (symbol symbols.Comma) (expr_at b) (expr_at b) u _ c.in_ok-first.end.now c.in_ok-first.ensures c.in-None.ensures in
-    rw (group_of c.in_ok-new-in-None.field-0 c.in_ok-first.first boxed) (group_got c.args.left b c.args.words.now u _ c.in_ok-first.end.now c.in_ok-rest-in-None.rest.now c.in_ok-below.ensures c.requires got c.in_ok-rest-in-None.ensures)
+    rw (sight-Group c.in_ok-first.first) (group_got c.args.left b c.args.words.now u _ c.in_ok-first.end.now c.in_ok-rest-in-None.rest.now c.in_ok-below.ensures c.requires got c.in_ok-rest-in-None.ensures)
 
 pub group-returns-in_err-second-in-Some-clause-tree : goal.group-returns-in_err-second-in-Some-clause-tree
 group-returns-in_err-second-in-Some-clause-tree t c =
@@ -402,14 +368,12 @@ group-returns-in_err-rest-in-Some-clause-tree t c =
     let got = group_is b u ∙ optional_pair (symbol symbols.Comma) (expr_at b) (expr_at b) u _ c.in_ok-first.end.now (words.Symbol symbols.Comma) c.in-Some.next.now _ c.in_ok-second-in-Some.end.now c.in_ok-first.ensures c.in-Some.ensures refl c.in_ok-second-in-Some.ensures in
     rw (p.1, p.2) (group_fails c.args.left c.args.words.now u e c.requires (level_end_fails group_level c.args.left b c.args.words.now u _ c.in_ok-second-in-Some.end.now e c.in_ok-below.ensures c.requires got c.in_err-rest-in-Some.ensures))
 
-pub group-returns-in_ok-new-in-Some-2-clause-tree : goal.group-returns-in_ok-new-in-Some-2-clause-tree
-group-returns-in_ok-new-in-Some-2-clause-tree t c =
+pub group-returns-in_ok-rest-in-Some-clause-tree : goal.group-returns-in_ok-rest-in-Some-clause-tree
+group-returns-in_ok-rest-in-Some-clause-tree t c =
     let b = c.in_ok-below.below in
     let u = c.args.inside.now in
-    let first : c.in_ok-new-in-Some.field-0.value ≡ c.in_ok-first.first = search rules in
-    let second : c.in_ok-new-in-Some-2.field-0.value ≡ c.in_ok-second-in-Some.second = search rules in
     let got = group_is b u ∙ optional_pair (symbol symbols.Comma) (expr_at b) (expr_at b) u _ c.in_ok-first.end.now (words.Symbol symbols.Comma) c.in-Some.next.now _ c.in_ok-second-in-Some.end.now c.in_ok-first.ensures c.in-Some.ensures refl c.in_ok-second-in-Some.ensures in
-    rw (pair_of c.in_ok-new-in-Some.field-0 c.in_ok-new-in-Some-2.field-0 c.in_ok-first.first c.in_ok-second-in-Some.second first second) (group_got c.args.left b c.args.words.now u _ c.in_ok-second-in-Some.end.now c.in_ok-rest-in-Some.rest.now c.in_ok-below.ensures c.requires got c.in_ok-rest-in-Some.ensures)
+    rw (sight-Pair c.in_ok-first.first c.in_ok-second-in-Some.second) (group_got c.args.left b c.args.words.now u _ c.in_ok-second-in-Some.end.now c.in_ok-rest-in-Some.rest.now c.in_ok-below.ensures c.requires got c.in_ok-rest-in-Some.ensures)
 
 -- ---- calls of methods
 
@@ -456,10 +420,8 @@ pub method_call-returns-clause-tree : goal.method_call-returns-clause-tree
 method_call-returns-clause-tree t c =
     let b = c.in_ok-below.below in
     let u = c.in_ok-below.inside.now in
-    let first : c.in_ok-new.field-0.value ≡ c.in_ok-list.list = search rules in
-    let second : c.in_ok-new-2.field-0.value ≡ c.in_ok-argument.argument = search rules in
     let got = two_got b u _ c.in_ok-list.end.now c.in_ok-second.second.now _ c.in_ok-argument.end.now c.in_ok-list.ensures c.in_ok-second.ensures c.in_ok-argument.ensures in
-    rw (method_call_of c.args.method c.in_ok-new.field-0 c.in_ok-new-2.field-0 c.in_ok-list.list c.in_ok-argument.argument first second) (method_call_got c.args.left c.args.method c.args.words.now c.args.next.now _ _ c.in_ok-rest.rest.now c.requires (level_got two_level c.args.left b c.args.next.now u _ c.in_ok-argument.end.now c.in_ok-rest.rest.now c.in_ok-below.ensures.1 c.in_ok-below.ensures.0 got c.in_ok-rest.ensures))
+    rw (sight-MethodCall c.args.method c.in_ok-list.list c.in_ok-argument.argument) (method_call_got c.args.left c.args.method c.args.words.now c.args.next.now _ _ c.in_ok-rest.rest.now c.requires (level_got two_level c.args.left b c.args.next.now u _ c.in_ok-argument.end.now c.in_ok-rest.rest.now c.in_ok-below.ensures.1 c.in_ok-below.ensures.0 got c.in_ok-rest.ensures))
 
 -- ---- calls
 

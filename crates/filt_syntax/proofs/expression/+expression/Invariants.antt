@@ -15,6 +15,9 @@ use Rattle.filt_syntax.proofs.expression.+expression.Given as goal
 abbrev pub decreases-expression : goal.decreases-expression
 decreases-expression l = 16 * l.left + 10
 
+abbrev pub decreases-boxed : goal.decreases-boxed
+decreases-boxed l = 16 * l.left + 11
+
 abbrev pub decreases-comparison : goal.decreases-comparison
 decreases-comparison l = 16 * l.left + 9
 
@@ -52,37 +55,25 @@ abbrev pub decreases-arguments : goal.decreases-arguments
 decreases-arguments l = 16 * l.left + 2
 
 abbrev pub invariant-expression-loop-joint : goal.invariant-expression-loop-joint
-invariant-expression-loop-joint l = record {
-  rank : (sight l.first).rank ≤ 5;
-  reading : expr_at l.left l.words ≡ links is_joint (cmp_at l.left) (parts_after (Start (sight l.first).cmp) (map joint_of l.more.items)) l.rest;
-}
+invariant-expression-loop-joint l = expr_at l.left l.words ≡ links is_joint (cmp_at l.left) (parts_after (Start (sight l.first.value).cmp) (map joint_of l.more.items)) l.rest
 
 abbrev pub decreases-expression-loop-joint : goal.decreases-expression-loop-joint
 decreases-expression-loop-joint l = length l.rest
 
 abbrev pub invariant-sum-loop-term : goal.invariant-sum-loop-term
-invariant-sum-loop-term l = record {
-  rank : (sight l.first).rank ≤ 3;
-  reading : sum_at l.left l.words ≡ links is_term (prod_at l.left) (parts_after (Start (sight l.first).prod) (map term_of l.more.items)) l.rest;
-}
+invariant-sum-loop-term l = sum_at l.left l.words ≡ links is_term (prod_at l.left) (parts_after (Start (sight l.first.value).prod) (map term_of l.more.items)) l.rest
 
 abbrev pub decreases-sum-loop-term : goal.decreases-sum-loop-term
 decreases-sum-loop-term l = length l.rest
 
 abbrev pub invariant-product-loop-factor : goal.invariant-product-loop-factor
-invariant-product-loop-factor l = record {
-  rank : (sight l.first).rank ≤ 2;
-  reading : prod_at l.left l.words ≡ links is_factor (unary_at l.left) (parts_after (Start (sight l.first).unary) (map factor_of l.more.items)) l.rest;
-}
+invariant-product-loop-factor l = prod_at l.left l.words ≡ links is_factor (unary_at l.left) (parts_after (Start (sight l.first.value).unary) (map factor_of l.more.items)) l.rest
 
 abbrev pub decreases-product-loop-factor : goal.decreases-product-loop-factor
 decreases-product-loop-factor l = length l.rest
 
 abbrev pub invariant-accessed-loop-next : goal.invariant-accessed-loop-next
-invariant-accessed-loop-next l = record {
-  rank : (sight l.first).rank ≤ 0;
-  reading : post_at l.left l.words ≡ links (symbol symbols.Dot) (behind_dot_at l.left) (parts_after (Start (sight l.first).prim) (map access_of l.more.items)) l.rest;
-}
+invariant-accessed-loop-next l = post_at l.left l.words ≡ links (symbol symbols.Dot) (behind_dot_at l.left) (parts_after (Start (sight l.first.value).prim) (map access_of l.more.items)) l.rest
 
 abbrev pub decreases-accessed-loop-next : goal.decreases-accessed-loop-next
 decreases-accessed-loop-next l = length l.rest

@@ -34,13 +34,8 @@ returns-in_err-name c =
 pub returns-in_err-value : goal.returns-in_err-value
 returns-in_err-value c =
     let p = err_from_is_err_and c.from_residual-in_err-value.result c.from_residual-in_err-value.ensures.1 in
-    rw (p.1, p.2, declaration_is c.args.left c.args.words.now, c.in_ok-variable_type.ensures, c.in_ok-name.ensures) (fails_then _ _ _ (fails_then _ _ _ (fails_then _ _ _ (fails_then _ _ _ c.in_err-value.ensures))))
-
-pub returns-in_err-rest : goal.returns-in_err-rest
-returns-in_err-rest c =
-    let p = err_from_is_err_and c.from_residual-in_err-rest.result c.from_residual-in_err-rest.ensures.1 in
-    rw (p.1, p.2, declaration_is c.args.left c.args.words.now, c.in_ok-variable_type.ensures, c.in_ok-name.ensures, c.in_ok-value.ensures) (fails_then _ _ _ (fails_then _ _ _ (fails_then _ _ _ (fails_then _ _ _ c.in_err-rest.ensures))))
+    rw (p.1, p.2, declaration_is c.args.left c.args.words.now, c.in_ok-variable_type.ensures, c.in_ok-name.ensures) (fails_then _ _ _ (fails_then _ _ _ (fails_then _ _ _ c.in_err-value.ensures)))
 
 pub returns : goal.returns
 returns c =
-    rw (tree-Declare c.in_ok-variable_type.variable_type c.in_ok-name.name c.in_ok-value.value) (declaration_is c.args.left c.args.words.now ∙ rw (c.in_ok-variable_type.ensures, c.in_ok-name.ensures, c.in_ok-value.ensures, c.in_ok-rest.ensures) refl)
+    c.made.ensures (declaration_at c.args.left c.args.words.now) (rw (tree-Declare c.in_ok-variable_type.variable_type c.in_ok-name.name c.in_ok-value.value) (declaration_is c.args.left c.args.words.now ∙ rw (c.in_ok-variable_type.ensures, c.in_ok-name.ensures, c.in_ok-value.ensures) refl))

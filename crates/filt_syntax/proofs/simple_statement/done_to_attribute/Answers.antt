@@ -28,7 +28,7 @@ returns-in_err-value c =
 
 pub returns-in-Some : goal.returns-in-Some
 returns-in-Some c =
-    rw (tree-Assign (targets.Attribute c.args.at c.args.attribute) c.in_ok-value.value) (attribute_assigned c.args.left c.args.at c.args.attribute c.args.words.now c.args.behind.now c.in-Some.next.now c.requires c.in-Some.ensures ∙ rw c.in_ok-value.ensures refl)
+    c.made.ensures (stmt_at c.args.left c.args.words.now) (rw (tree-Assign (targets.Attribute c.args.at c.args.attribute) c.in_ok-value.value) (attribute_assigned c.args.left c.args.at c.args.attribute c.args.words.now c.args.behind.now c.in-Some.next.now c.requires c.in-Some.ensures ∙ rw c.in_ok-value.ensures refl))
 
 pub returns-in_err-next : goal.returns-in_err-next
 returns-in_err-next c =
@@ -42,4 +42,4 @@ returns-in_err-change c =
 
 pub returns : goal.returns
 returns c =
-    rw (tree-Change (targets.Attribute c.args.at c.args.attribute) c.in_ok-change.change) (attribute_changed c.args.left c.args.at c.args.attribute c.args.words.now c.args.behind.now c.requires c.in_default.ensures ∙ rw (c.in_ok-next.ensures, c.in_ok-change.ensures) refl)
+    c.made-2.ensures (stmt_at c.args.left c.args.words.now) (rw (tree-Change (targets.Attribute c.args.at c.args.attribute) c.in_ok-change.change) (attribute_changed c.args.left c.args.at c.args.attribute c.args.words.now c.args.behind.now c.requires c.in_default.ensures ∙ rw (c.in_ok-next.ensures, c.in_ok-change.ensures) refl))

@@ -28,7 +28,7 @@ returns-in_err-value c =
 
 pub returns-in-Some : goal.returns-in-Some
 returns-in-Some c =
-    rw (tree-Assign (targets.Name c.args.name) c.in_ok-value.value) (name_assigned c.args.left c.args.name c.args.words.now c.in-Some.next.now c.in-Some.ensures ∙ rw c.in_ok-value.ensures refl)
+    c.made.ensures (of_name_at c.args.left c.args.name c.args.words.now) (rw (tree-Assign (targets.Name c.args.name) c.in_ok-value.value) (name_assigned c.args.left c.args.name c.args.words.now c.in-Some.next.now c.in-Some.ensures ∙ rw c.in_ok-value.ensures refl))
 
 pub returns-in_err-change-in-Some-after : goal.returns-in_err-change-in-Some-after
 returns-in_err-change-in-Some-after c =
@@ -37,4 +37,4 @@ returns-in_err-change-in-Some-after c =
 
 pub returns-in_ok-change-in-Some-after : goal.returns-in_ok-change-in-Some-after
 returns-in_ok-change-in-Some-after c =
-    rw (tree-Change (targets.Name c.args.name) c.in_ok-change-in-Some-after.change) (name_changed c.args.left c.args.name c.args.words.now c.in-Some-after.next.now c.in-Some-after.ensures ∙ rw c.in_ok-change-in-Some-after.ensures refl)
+    c.made-in-Some-after.ensures (of_name_at c.args.left c.args.name c.args.words.now) (rw (tree-Change (targets.Name c.args.name) c.in_ok-change-in-Some-after.change) (name_changed c.args.left c.args.name c.args.words.now c.in-Some-after.next.now c.in-Some-after.ensures ∙ rw c.in_ok-change-in-Some-after.ensures refl))

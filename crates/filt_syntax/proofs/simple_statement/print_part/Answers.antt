@@ -28,4 +28,4 @@ returns-in_err-values c =
 
 pub returns : goal.returns
 returns c =
-    rw (tree-PrintPart c.in_ok-values.values) (print_part_is c.args.left c.args.words.now c.args.next.now c.requires ∙ rw c.in_ok-values.ensures refl)
+    c.made.ensures (stmt_at c.args.left c.args.words.now) (rw (tree-PrintPart c.in_ok-values.values) (print_part_is c.args.left c.args.words.now c.args.next.now c.requires ∙ rw c.in_ok-values.ensures refl))

@@ -28,4 +28,4 @@ returns-in_err-rest c =
 
 pub returns : goal.returns
 returns c =
-    rw tree-Reject (reject_is c.args.left c.args.words.now c.args.next.now c.requires ∙ rw c.in_ok-rest.ensures refl)
+    c.made.ensures (stmt_at c.args.left c.args.words.now) (rw tree-Reject (reject_is c.args.left c.args.words.now c.args.next.now c.requires ∙ rw c.in_ok-rest.ensures refl))

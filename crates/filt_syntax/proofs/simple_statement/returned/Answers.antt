@@ -23,7 +23,7 @@ use Rattle.filt_syntax.proofs.simple_statement.returned.Goals as goal
 
 pub returns-in-Some : goal.returns-in-Some
 returns-in-Some c =
-    rw (tree-Return c.args.at None) (return_none c.args.left c.args.at c.args.words.now c.args.next.now c.in-Some.rest.now c.requires c.in-Some.ensures)
+    c.made.ensures (stmt_at c.args.left c.args.words.now) (rw (tree-Return c.args.at None) (return_none c.args.left c.args.at c.args.words.now c.args.next.now c.in-Some.rest.now c.requires c.in-Some.ensures))
 
 pub returns-in_err-value : goal.returns-in_err-value
 returns-in_err-value c =
@@ -32,4 +32,4 @@ returns-in_err-value c =
 
 pub returns : goal.returns
 returns c =
-    rw (tree-Return c.args.at (Some c.in_ok-value.value)) (return_some c.args.left c.args.at c.args.words.now c.args.next.now c.requires c.in_default.ensures ∙ rw c.in_ok-value.ensures refl)
+    c.made-2.ensures (stmt_at c.args.left c.args.words.now) (rw (tree-Return c.args.at (Some c.in_ok-value.value)) (return_some c.args.left c.args.at c.args.words.now c.args.next.now c.requires c.in_default.ensures ∙ rw c.in_ok-value.ensures refl))

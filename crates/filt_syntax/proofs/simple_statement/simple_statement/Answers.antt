@@ -15,7 +15,7 @@ use Rattle.filt_syntax.specs.declared.tree.Expr.{Expr}
 use Rattle.filt_syntax.specs.declared.tree.Target.TheVariants as targets
 use Rattle.filt_syntax.specs.View.{sight, expr_trees, listed_tree, with_next}
 use Rattle.filt_syntax.specs.Readers.{expr_at, method_at, level_at}
-use Rattle.filt_syntax.specs.StatementView.{nth, semicolon_leaf, stmt_tree}
+use Rattle.filt_syntax.specs.StatementView.{nth, semicolon_leaf, stmt_tree, boxed_tree}
 use Rattle.filt_syntax.specs.StatementReaders.{stmt_at, of_name_at, vtype_at, change_at, declaration_at, initial_at, result_at, exprs_at}
 use Rattle.filt_syntax.proofs.StatementSteps.{type_set, type_alone, type_other, name_assigned, name_changed, name_called, change_empty, change_method, attribute_assigned, attribute_changed, initial_none, initial_some, declaration_is, empty_is, unset_is, accept_is, reject_is, return_none, return_some, printed_turns, exprs_is, printed_shorter, one_more_printed, print_is, print_part_is, stmt_declared, Others}
 use Rattle.filt_syntax.proofs.StatementTrees.{tree-Empty, tree-Declare, tree-Assign, tree-Change, tree-Unset, tree-Accept, tree-Reject, tree-Return, tree-Print, tree-PrintPart, tree-Call}
@@ -23,11 +23,11 @@ use Rattle.filt_syntax.proofs.simple_statement.simple_statement.Goals as goal
 
 pub returns-in-Some-after : goal.returns-in-Some-after
 returns-in-Some-after c =
-    rw tree-Empty (empty_is c.args.left c.args.words.now c.in-Some-after.rest.now c.in-Some-after.ensures)
+    c.made.ensures (stmt_at c.args.left c.args.words.now) (rw tree-Empty (empty_is c.args.left c.args.words.now c.in-Some-after.rest.now c.in-Some-after.ensures))
 
 pub returns-in-None : goal.returns-in-None
 returns-in-None c =
-    gives_along stmt_tree c.declaration.result _ _ (stmt_declared c.args.left c.args.words.now (record {
+    gives_along boxed_tree c.declaration.result _ _ (stmt_declared c.args.left c.args.words.now (record {
       name = c.requires.name;
       block = c.requires.block;
       semicolon = c.in_default-after.ensures;

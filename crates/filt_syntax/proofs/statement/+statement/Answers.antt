@@ -15,17 +15,17 @@ use Rattle.filt_syntax.specs.declared.tree.Expr.{Expr}
 use Rattle.filt_syntax.specs.declared.tree.Stmt.{Stmt}
 use Rattle.filt_syntax.specs.Readers.{expr_at}
 use Rattle.filt_syntax.specs.ItemView.{label_tree}
-use Rattle.filt_syntax.specs.StatementView.{stmt_tree, stmts_tree, arms_of, arms_row, arms_chain, body_after}
-use Rattle.filt_syntax.specs.StatementReaders.{stmt_at, row_at, stmts_at, else_at, arms_at, more_arms_at, labelled_at, arms_end_at}
+use Rattle.filt_syntax.specs.StatementView.{stmt_tree, boxed_tree, stmts_tree, arms_of, arms_row, arms_chain, body_after}
+use Rattle.filt_syntax.specs.StatementReaders.{stmt_at, row_at, stmts_at, else_at, arms_at, more_arms_at, labelled_at, arms_end_at, run_at}
 use Rattle.filt_syntax.proofs.StatementSteps.{name_is}
-use Rattle.filt_syntax.proofs.StatementTrees.{tree-Block, tree-If, tree-IfElse, tree-Case, tree-For, one_more_stmt}
-use Rattle.filt_syntax.proofs.CycleSteps.{stmts_is, stmt_shorter, row_more, row_closed, row_fails, block_is, block_deep, choice_is, then_fails, then_deep, branches_is, else_none, else_some, for_is, do_fails, do_deep, do_is, case_is, brace_fails, brace_deep, braced_is}
+use Rattle.filt_syntax.proofs.StatementTrees.{tree-Block, tree-Case, tree-For, one_more_stmt}
+use Rattle.filt_syntax.proofs.CycleSteps.{stmts_is, stmt_shorter, row_more, row_closed, row_fails, block_is, block_deep, choice_is, then_fails, then_deep, branches_is, else_none, else_some, else_same, gives_mapped, for_is, do_fails, do_deep, do_is, case_is, brace_fails, brace_deep, braced_is}
 use Rattle.filt_syntax.proofs.ArmSteps.{end_else_got, end_else_fails, end_brace_got, end_brace_fails, labelled_fails, labelled_got, label_shorter, arm_more, arm_fails, read_arms, IsBehind, with_label, arms_next, arms_finish, one_more_arm, still_behind}
 use Rattle.filt_syntax.proofs.statement.+statement.Goals as goal
 
 pub statement-returns-in-Some : goal.statement-returns-in-Some
 statement-returns-in-Some t c =
-    gives_along stmt_tree c.done_to_name.result _ _ (name_is c.args.left c.in-Some.name c.args.words.now c.in-Some.next.now c.in-Some.ensures) c.done_to_name.ensures
+    gives_along boxed_tree c.done_to_name.result _ _ (name_is c.args.left c.in-Some.name c.args.words.now c.in-Some.next.now c.in-Some.ensures) c.done_to_name.ensures
 
 pub block-returns-in_err-below : goal.block-returns-in_err-below
 block-returns-in_err-below t c =
@@ -39,7 +39,7 @@ block-returns-in_err-body t c =
 
 pub block-returns : goal.block-returns
 block-returns t c =
-    rw (tree-Block c.in_ok-body.body) (block_is c.args.left c.in_ok-below.below c.args.words.now c.args.next.now c.in_ok-below.ensures c.requires ∙ rw c.in_ok-body.ensures refl)
+    c.made.ensures (stmt_at c.args.left c.args.words.now) (rw (tree-Block c.in_ok-body.body) (block_is c.args.left c.in_ok-below.below c.args.words.now c.args.next.now c.in_ok-below.ensures c.requires ∙ rw c.in_ok-body.ensures refl))
 
 pub statements-loop-end-init : goal.statements-loop-end-init
 statements-loop-end-init t c =
@@ -62,9 +62,9 @@ statements-loop-end-smaller t c =
 pub statements-loop-end-preserved : goal.statements-loop-end-preserved
 statements-loop-end-preserved t c =
     let ss = c.loop-end.found.items in
-    let s = c.in_ok-stmt.stmt in
+    let s = c.in_ok-stmt.stmt.value in
     let end = c.in_ok-stmt.next.now in
-    let pushed : c.push.new.self.items ≡ ss ++ s ∷ [] = search rules in
+    let pushed : c.put.new.found.items ≡ ss ++ s ∷ [] = search rules in
     rw pushed (c.loop-end.invariant ∙ row_more c.args.left (stmts_tree ss) c.loop-end.rest.now (stmt_tree s) end c.in_ok-stmt.ensures ∙ ap (λ (x : Tree). row_at c.args.left x end) (flip (one_more_stmt ss s)))
 
 pub choice-returns-in_err-condition : goal.choice-returns-in_err-condition
@@ -72,39 +72,50 @@ choice-returns-in_err-condition t c =
     let p = err_from_is_err_and c.from_residual.result c.from_residual.ensures.1 in
     rw (p.1, p.2, choice_is c.args.left c.args.words.now c.args.next.now c.requires) (fails_then _ _ _ c.in_err-condition.ensures)
 
-pub choice-returns-in_err-inside : goal.choice-returns-in_err-inside
-choice-returns-in_err-inside t c =
-    let p = err_from_is_err_and c.from_residual-in_err-inside.result c.from_residual-in_err-inside.ensures.1 in
-    rw (p.1, p.2, choice_is c.args.left c.args.words.now c.args.next.now c.requires, c.in_ok-condition.ensures) (fails_then _ _ _ (then_fails c.args.left c.in_ok-condition.rest.now _ c.in_err-inside.ensures))
+pub choice-returns-in_err-branches : goal.choice-returns-in_err-branches
+choice-returns-in_err-branches t c =
+    let p = err_from_is_err_and c.from_residual-in_err-branches.result c.from_residual-in_err-branches.ensures.1 in
+    rw (p.1, p.2, choice_is c.args.left c.args.words.now c.args.next.now c.requires, c.in_ok-condition.ensures) (fails_then _ _ _ c.in_err-branches.ensures)
 
-pub choice-returns-in_err-below : goal.choice-returns-in_err-below
-choice-returns-in_err-below t c =
+pub choice-returns : goal.choice-returns
+choice-returns t c =
+    c.made.ensures (stmt_at c.args.left c.args.words.now) (rw c.chosen.ensures (choice_is c.args.left c.args.words.now c.args.next.now c.requires ∙ rw (c.in_ok-condition.ensures, c.in_ok-branches.ensures) refl))
+
+pub read_branches-returns-in_err-inside : goal.read_branches-returns-in_err-inside
+read_branches-returns-in_err-inside t c =
+    let p = err_from_is_err_and c.from_residual.result c.from_residual.ensures.1 in
+    rw (p.1, p.2) (then_fails c.args.left c.args.words.now _ c.in_err-inside.ensures)
+
+pub read_branches-returns-in_err-below : goal.read_branches-returns-in_err-below
+read_branches-returns-in_err-below t c =
     let p = err_from_is_err_and c.from_residual-in_err-below.result c.from_residual-in_err-below.ensures.1 in
-    rw (p.1, p.2, choice_is c.args.left c.args.words.now c.args.next.now c.requires, c.in_ok-condition.ensures, then_deep c.args.left c.in_ok-condition.rest.now c.in_ok-inside.inside.now c.in_err-below.ensures.0 c.in_ok-inside.ensures) (c.in_err-below.ensures.1)
+    rw (p.1, p.2, then_deep c.args.left c.args.words.now c.in_ok-inside.inside.now c.in_err-below.ensures.0 c.in_ok-inside.ensures) (c.in_err-below.ensures.1)
 
-pub choice-returns-in_err-first : goal.choice-returns-in_err-first
-choice-returns-in_err-first t c =
+pub read_branches-returns-in_err-first : goal.read_branches-returns-in_err-first
+read_branches-returns-in_err-first t c =
     let p = err_from_is_err_and c.from_residual-in_err-first.result c.from_residual-in_err-first.ensures.1 in
-    rw (p.1, p.2, choice_is c.args.left c.args.words.now c.args.next.now c.requires, c.in_ok-condition.ensures, branches_is c.args.left c.in_ok-below.below c.in_ok-condition.rest.now c.in_ok-inside.inside.now c.in_ok-below.ensures c.in_ok-inside.ensures) (fails_then _ _ _ (fails_then _ _ _ c.in_err-first.ensures))
+    rw (p.1, p.2, branches_is c.args.left c.in_ok-below.below c.args.words.now c.in_ok-inside.inside.now c.in_ok-below.ensures c.in_ok-inside.ensures) (fails_then _ _ _ c.in_err-first.ensures)
 
-pub choice-returns-in_err-second-in-Some : goal.choice-returns-in_err-second-in-Some
-choice-returns-in_err-second-in-Some t c =
-    let p = err_from_is_err_and c.from_residual-in_err-second-in-Some.result c.from_residual-in_err-second-in-Some.ensures.1 in
-    rw (p.1, p.2, choice_is c.args.left c.args.words.now c.args.next.now c.requires, c.in_ok-condition.ensures, branches_is c.args.left c.in_ok-below.below c.in_ok-condition.rest.now c.in_ok-inside.inside.now c.in_ok-below.ensures c.in_ok-inside.ensures, c.in_ok-first.ensures, else_some c.args.left c.in_ok-below.below c.in_ok-first.rest.now c.in-Some.inside.now c.in_ok-below.ensures c.in-Some.ensures) (fails_then _ _ _ (fails_then _ _ _ (fails_then _ _ _ c.in_err-second-in-Some.ensures)))
+pub read_branches-returns-in_err-second : goal.read_branches-returns-in_err-second
+read_branches-returns-in_err-second t c =
+    let p = err_from_is_err_and c.from_residual-in_err-second.result c.from_residual-in_err-second.ensures.1 in
+    rw (p.1, p.2, branches_is c.args.left c.in_ok-below.below c.args.words.now c.in_ok-inside.inside.now c.in_ok-below.ensures c.in_ok-inside.ensures, c.in_ok-first.ensures, else_same c.args.left c.in_ok-below.below c.in_ok-first.rest.now c.in_ok-below.ensures) (fails_then _ _ _ c.in_err-second.ensures)
 
-pub choice-returns-in_ok-new-in-None : goal.choice-returns-in_ok-new-in-None
-choice-returns-in_ok-new-in-None t c =
-    let first = c.in_ok-first.first in
-    let boxed : c.in_ok-new-in-None.field-0.value ≡ first = search rules in
-    rw (tree-If c.in_ok-condition.condition c.in_ok-new-in-None.field-0 first boxed) (choice_is c.args.left c.args.words.now c.args.next.now c.requires ∙ rw (c.in_ok-condition.ensures, branches_is c.args.left c.in_ok-below.below c.in_ok-condition.rest.now c.in_ok-inside.inside.now c.in_ok-below.ensures c.in_ok-inside.ensures, c.in_ok-first.ensures, else_none c.args.left c.in_ok-first.rest.now c.in-None.ensures) refl)
+pub read_branches-returns : goal.read_branches-returns
+read_branches-returns t c =
+    branches_is c.args.left c.in_ok-below.below c.args.words.now c.in_ok-inside.inside.now c.in_ok-below.ensures c.in_ok-inside.ensures ∙ rw (c.in_ok-first.ensures, else_same c.args.left c.in_ok-below.below c.in_ok-first.rest.now c.in_ok-below.ensures, c.in_ok-second.ensures) refl
 
-pub choice-returns-in_ok-second-in-Some-2 : goal.choice-returns-in_ok-second-in-Some-2
-choice-returns-in_ok-second-in-Some-2 t c =
-    let first = c.in_ok-first.first in
-    let second = c.in_ok-second-in-Some.second in
-    let boxed : c.in_ok-first-in-Some.first.value ≡ first = search rules in
-    let boxed_second : c.in_ok-second-in-Some-2.second.value ≡ second = search rules in
-    rw (tree-IfElse c.in_ok-condition.condition c.in_ok-first-in-Some.first c.in_ok-second-in-Some-2.second first second boxed boxed_second) (choice_is c.args.left c.args.words.now c.args.next.now c.requires ∙ rw (c.in_ok-condition.ensures, branches_is c.args.left c.in_ok-below.below c.in_ok-condition.rest.now c.in_ok-inside.inside.now c.in_ok-below.ensures c.in_ok-inside.ensures, c.in_ok-first.ensures, else_some c.args.left c.in_ok-below.below c.in_ok-first.rest.now c.in-Some.inside.now c.in_ok-below.ensures c.in-Some.ensures, c.in_ok-second-in-Some.ensures) refl)
+pub second_branch-returns-in-None : goal.second_branch-returns-in-None
+second_branch-returns-in-None t c = else_none (c.args.below + 1) c.args.words.now c.in-None.ensures
+
+pub second_branch-returns-in_err-second-in-Some : goal.second_branch-returns-in_err-second-in-Some
+second_branch-returns-in_err-second-in-Some t c =
+    let p = err_from_is_err_and c.from_residual.result c.from_residual.ensures.1 in
+    rw (p.1, p.2, else_some (c.args.below + 1) c.args.below c.args.words.now c.in-Some.inside.now refl c.in-Some.ensures) (fails_then _ _ _ c.in_err-second-in-Some.ensures)
+
+pub second_branch-returns-in_ok-second-in-Some : goal.second_branch-returns-in_ok-second-in-Some
+second_branch-returns-in_ok-second-in-Some t c =
+    else_some (c.args.below + 1) c.args.below c.args.words.now c.in-Some.inside.now refl c.in-Some.ensures ∙ rw c.in_ok-second-in-Some.ensures refl
 
 pub for_each-returns-in_err-variable_type : goal.for_each-returns-in_err-variable_type
 for_each-returns-in_err-variable_type t c =
@@ -116,60 +127,63 @@ for_each-returns-in_err-name t c =
     let p = err_from_is_err_and c.from_residual-in_err-name.result c.from_residual-in_err-name.ensures.1 in
     rw (p.1, p.2, for_is c.args.left c.args.at c.args.words.now c.args.next.now c.requires, c.in_ok-variable_type.ensures) (fails_then _ _ _ (fails_then _ _ _ (fails_then _ _ _ c.in_err-name.ensures)))
 
-pub for_each-returns-in_err-rest : goal.for_each-returns-in_err-rest
-for_each-returns-in_err-rest t c =
-    let p = err_from_is_err_and c.from_residual-in_err-rest.result c.from_residual-in_err-rest.ensures.1 in
-    rw (p.1, p.2, for_is c.args.left c.args.at c.args.words.now c.args.next.now c.requires, c.in_ok-variable_type.ensures, c.in_ok-name.ensures) (fails_then _ _ _ (fails_then _ _ _ (fails_then _ _ _ (fails_then _ _ _ (fails_then _ _ _ c.in_err-rest.ensures)))))
-
 pub for_each-returns-in_err-list : goal.for_each-returns-in_err-list
 for_each-returns-in_err-list t c =
     let p = err_from_is_err_and c.from_residual-in_err-list.result c.from_residual-in_err-list.ensures.1 in
-    rw (p.1, p.2, for_is c.args.left c.args.at c.args.words.now c.args.next.now c.requires, c.in_ok-variable_type.ensures, c.in_ok-name.ensures, c.in_ok-rest.ensures) (fails_then _ _ _ (fails_then _ _ _ (fails_then _ _ _ (fails_then _ _ _ (fails_then _ _ _ c.in_err-list.ensures)))))
-
-pub for_each-returns-in_err-inside : goal.for_each-returns-in_err-inside
-for_each-returns-in_err-inside t c =
-    let p = err_from_is_err_and c.from_residual-in_err-inside.result c.from_residual-in_err-inside.ensures.1 in
-    rw (p.1, p.2, for_is c.args.left c.args.at c.args.words.now c.args.next.now c.requires, c.in_ok-variable_type.ensures, c.in_ok-name.ensures, c.in_ok-rest.ensures, c.in_ok-list.ensures) (fails_then _ _ _ (fails_then _ _ _ (fails_then _ _ _ (fails_then _ _ _ (do_fails c.args.left c.in_ok-list.rest.now _ c.in_err-inside.ensures)))))
-
-pub for_each-returns-in_err-below : goal.for_each-returns-in_err-below
-for_each-returns-in_err-below t c =
-    let p = err_from_is_err_and c.from_residual-in_err-below.result c.from_residual-in_err-below.ensures.1 in
-    rw (p.1, p.2, for_is c.args.left c.args.at c.args.words.now c.args.next.now c.requires, c.in_ok-variable_type.ensures, c.in_ok-name.ensures, c.in_ok-rest.ensures, c.in_ok-list.ensures, do_deep c.args.left c.in_ok-list.rest.now c.in_ok-inside.inside.now c.in_err-below.ensures.0 c.in_ok-inside.ensures) (c.in_err-below.ensures.1)
+    rw (p.1, p.2, for_is c.args.left c.args.at c.args.words.now c.args.next.now c.requires, c.in_ok-variable_type.ensures, c.in_ok-name.ensures) (fails_then _ _ _ (fails_then _ _ _ (fails_then _ _ _ (fails_then _ _ _ c.in_err-list.ensures))))
 
 pub for_each-returns-in_err-body : goal.for_each-returns-in_err-body
 for_each-returns-in_err-body t c =
     let p = err_from_is_err_and c.from_residual-in_err-body.result c.from_residual-in_err-body.ensures.1 in
-    rw (p.1, p.2, for_is c.args.left c.args.at c.args.words.now c.args.next.now c.requires, c.in_ok-variable_type.ensures, c.in_ok-name.ensures, c.in_ok-rest.ensures, c.in_ok-list.ensures, do_is c.args.left c.in_ok-below.below c.in_ok-list.rest.now c.in_ok-inside.inside.now c.in_ok-below.ensures c.in_ok-inside.ensures) (fails_then _ _ _ (fails_then _ _ _ (fails_then _ _ _ (fails_then _ _ _ (fails_then _ _ _ c.in_err-body.ensures)))))
+    rw (p.1, p.2, for_is c.args.left c.args.at c.args.words.now c.args.next.now c.requires, c.in_ok-variable_type.ensures, c.in_ok-name.ensures, c.in_ok-list.ensures) (fails_then _ _ _ (fails_then _ _ _ (fails_then _ _ _ (fails_then _ _ _ c.in_err-body.ensures))))
 
 pub for_each-returns : goal.for_each-returns
 for_each-returns t c =
     let body = c.in_ok-body.body in
-    let boxed : c.in_ok-new.field-0.value ≡ body = search rules in
-    rw (tree-For c.args.at c.in_ok-variable_type.variable_type c.in_ok-name.name c.in_ok-list.list c.in_ok-new.field-0 body boxed) (for_is c.args.left c.args.at c.args.words.now c.args.next.now c.requires ∙ rw (c.in_ok-variable_type.ensures, c.in_ok-name.ensures, c.in_ok-rest.ensures, c.in_ok-list.ensures, do_is c.args.left c.in_ok-below.below c.in_ok-list.rest.now c.in_ok-inside.inside.now c.in_ok-below.ensures c.in_ok-inside.ensures, c.in_ok-body.ensures) refl)
+    c.made.ensures (stmt_at c.args.left c.args.words.now) (rw (tree-For c.args.at c.in_ok-variable_type.variable_type c.in_ok-name.name c.in_ok-list.list body body.value refl) (for_is c.args.left c.args.at c.args.words.now c.args.next.now c.requires ∙ rw (c.in_ok-variable_type.ensures, c.in_ok-name.ensures, c.in_ok-list.ensures, c.in_ok-body.ensures) refl))
+
+pub repeated-returns-in_err-inside : goal.repeated-returns-in_err-inside
+repeated-returns-in_err-inside t c =
+    let p = err_from_is_err_and c.from_residual.result c.from_residual.ensures.1 in
+    rw (p.1, p.2) (do_fails c.args.left c.args.words.now _ c.in_err-inside.ensures)
+
+pub repeated-returns-in_err-below : goal.repeated-returns-in_err-below
+repeated-returns-in_err-below t c =
+    let p = err_from_is_err_and c.from_residual-in_err-below.result c.from_residual-in_err-below.ensures.1 in
+    rw (p.1, p.2, do_deep c.args.left c.args.words.now c.in_ok-inside.inside.now c.in_err-below.ensures.0 c.in_ok-inside.ensures) (c.in_err-below.ensures.1)
+
+pub repeated-returns : goal.repeated-returns
+repeated-returns t c =
+    gives_mapped boxed_tree (λ x. Inside (words.Symbol sym.Do) x) c.statement.result (stmt_at c.in_ok-below.below c.in_ok-inside.inside.now) (run_at c.args.left c.args.words.now)
+    (do_is c.args.left c.in_ok-below.below c.args.words.now c.in_ok-inside.inside.now c.in_ok-below.ensures c.in_ok-inside.ensures) c.statement.ensures
 
 pub selection-returns-in_err-value : goal.selection-returns-in_err-value
 selection-returns-in_err-value t c =
     let p = err_from_is_err_and c.from_residual.result c.from_residual.ensures.1 in
     rw (p.1, p.2, case_is c.args.left c.args.at c.args.words.now c.args.next.now c.requires) (fails_then _ _ _ c.in_err-value.ensures)
 
-pub selection-returns-in_err-inside : goal.selection-returns-in_err-inside
-selection-returns-in_err-inside t c =
-    let p = err_from_is_err_and c.from_residual-in_err-inside.result c.from_residual-in_err-inside.ensures.1 in
-    rw (p.1, p.2, case_is c.args.left c.args.at c.args.words.now c.args.next.now c.requires, c.in_ok-value.ensures) (fails_then _ _ _ (brace_fails c.args.left c.in_ok-value.rest.now _ c.in_err-inside.ensures))
-
-pub selection-returns-in_err-below : goal.selection-returns-in_err-below
-selection-returns-in_err-below t c =
-    let p = err_from_is_err_and c.from_residual-in_err-below.result c.from_residual-in_err-below.ensures.1 in
-    rw (p.1, p.2, case_is c.args.left c.args.at c.args.words.now c.args.next.now c.requires, c.in_ok-value.ensures, brace_deep c.args.left c.in_ok-value.rest.now c.in_ok-inside.inside.now c.in_err-below.ensures.0 c.in_ok-inside.ensures) (c.in_err-below.ensures.1)
-
 pub selection-returns-in_err-arms : goal.selection-returns-in_err-arms
 selection-returns-in_err-arms t c =
     let p = err_from_is_err_and c.from_residual-in_err-arms.result c.from_residual-in_err-arms.ensures.1 in
-    rw (p.1, p.2, case_is c.args.left c.args.at c.args.words.now c.args.next.now c.requires, c.in_ok-value.ensures, braced_is c.args.left c.in_ok-below.below c.in_ok-value.rest.now c.in_ok-inside.inside.now c.in_ok-below.ensures c.in_ok-inside.ensures) (fails_then _ _ _ c.in_err-arms.ensures)
+    rw (p.1, p.2, case_is c.args.left c.args.at c.args.words.now c.args.next.now c.requires, c.in_ok-value.ensures) (fails_then _ _ _ c.in_err-arms.ensures)
 
 pub selection-returns : goal.selection-returns
 selection-returns t c =
-    rw (tree-Case c.args.at c.in_ok-value.value c.in_ok-arms.arms c.in_ok-arms.otherwise) (case_is c.args.left c.args.at c.args.words.now c.args.next.now c.requires ∙ rw (c.in_ok-value.ensures, braced_is c.args.left c.in_ok-below.below c.in_ok-value.rest.now c.in_ok-inside.inside.now c.in_ok-below.ensures c.in_ok-inside.ensures, c.in_ok-arms.ensures) refl)
+    c.made.ensures (stmt_at c.args.left c.args.words.now) (rw (tree-Case c.args.at c.in_ok-value.value c.in_ok-arms.arms c.in_ok-arms.otherwise) (case_is c.args.left c.args.at c.args.words.now c.args.next.now c.requires ∙ rw (c.in_ok-value.ensures, c.in_ok-arms.ensures) refl))
+
+pub braced-returns-in_err-inside : goal.braced-returns-in_err-inside
+braced-returns-in_err-inside t c =
+    let p = err_from_is_err_and c.from_residual.result c.from_residual.ensures.1 in
+    rw (p.1, p.2) (brace_fails c.args.left c.args.words.now _ c.in_err-inside.ensures)
+
+pub braced-returns-in_err-below : goal.braced-returns-in_err-below
+braced-returns-in_err-below t c =
+    let p = err_from_is_err_and c.from_residual-in_err-below.result c.from_residual-in_err-below.ensures.1 in
+    rw (p.1, p.2, brace_deep c.args.left c.args.words.now c.in_ok-inside.inside.now c.in_err-below.ensures.0 c.in_ok-inside.ensures) (c.in_err-below.ensures.1)
+
+pub braced-returns : goal.braced-returns
+braced-returns t c =
+    gives_along _ c.arms.result _ _ (braced_is c.args.left c.in_ok-below.below c.args.words.now c.in_ok-inside.inside.now c.in_ok-below.ensures c.in_ok-inside.ensures) c.arms.ensures
 
 pub arms-loop-rest-init : goal.arms-loop-rest-init
 arms-loop-rest-init t c =
@@ -210,36 +224,50 @@ arm-returns-in_err-labels t c =
     let p = err_from_is_err_and c.from_residual.result c.from_residual.ensures.1 in
     rw (p.1, p.2) (λ row_with. labelled_fails c.args.left row_with c.args.words.now _ c.in_err-labels.ensures)
 
-pub arm-loop-alloc-init : goal.arm-loop-alloc-init
-arm-loop-alloc-init t c =
-    let none : c.new-body.result.items ≡ [] = search rules in
-    record {
-      shorter = label_shorter c.args.left c.args.words.now _ c.in_ok-labels.rest.now c.in_ok-labels.ensures;
-      reading = λ row_with. rw none (labelled_got c.args.left row_with c.args.words.now _ c.in_ok-labels.rest.now c.in_ok-labels.ensures);
-    }
-
-pub arm-returns-in_err-stmt : goal.arm-returns-in_err-stmt
-arm-returns-in_err-stmt t c =
-    let p = err_from_is_err_and c.from_residual-in_err-stmt.result c.from_residual-in_err-stmt.ensures.1 in
-    rw (p.1, p.2) (λ row_with. arm_fails c.args.left (labelled_at c.args.left row_with c.args.words.now) _ c.loop-alloc.rest.now _ (c.loop-alloc.invariant.reading row_with) (flip c.is_behind_arm.ensures ∙ c.loop-alloc-test.true) c.in_err-stmt.ensures)
-
-pub arm-loop-alloc-smaller : goal.arm-loop-alloc-smaller
-arm-loop-alloc-smaller t c =
-    omega (arith, stmt_shorter c.args.left c.loop-alloc.rest.now _ c.in_ok-stmt.next.now c.in_ok-stmt.ensures)
-
-pub arm-loop-alloc-preserved : goal.arm-loop-alloc-preserved
-arm-loop-alloc-preserved t c =
-    let ss = c.loop-alloc.body.items in
-    let s = c.in_ok-stmt.stmt in
-    let end = c.in_ok-stmt.next.now in
-    let pushed : c.push.new.self.items ≡ ss ++ s ∷ [] = search rules in
-    record {
-      shorter = omega (arith, c.loop-alloc.invariant.shorter, stmt_shorter c.args.left c.loop-alloc.rest.now _ end c.in_ok-stmt.ensures);
-      reading = λ row_with. rw pushed (arm_more c.args.left (labelled_at c.args.left row_with c.args.words.now) (row_with (label_tree c.in_ok-labels.labels.items)) ss s c.loop-alloc.rest.now end (c.loop-alloc.invariant.reading row_with) (flip c.is_behind_arm.ensures ∙ c.loop-alloc-test.true) c.in_ok-stmt.ensures);
-    }
+pub arm-returns-in_err-body : goal.arm-returns-in_err-body
+arm-returns-in_err-body t c =
+    let p = err_from_is_err_and c.from_residual-in_err-body.result c.from_residual-in_err-body.ensures.1 in
+    let l = label_tree c.in_ok-labels.labels.items in
+    rw (p.1, p.2) (λ row_with. fails_along _ _ _ (labelled_got c.args.left row_with c.args.words.now l c.in_ok-labels.rest.now c.in_ok-labels.ensures) (c.in_err-body.ensures (row_with l)))
 
 pub arm-returns : goal.arm-returns
 arm-returns t c =
+    let l = label_tree c.in_ok-labels.labels.items in (
+      c.in_ok-body.ensures.0,
+      omega (arith, label_shorter c.args.left c.args.words.now l c.in_ok-labels.rest.now c.in_ok-labels.ensures, c.in_ok-body.ensures.1),
+      λ row_with. labelled_got c.args.left row_with c.args.words.now l c.in_ok-labels.rest.now c.in_ok-labels.ensures ∙ c.in_ok-body.ensures.2 (row_with l),
+    )
+
+pub arm_body-loop-alloc-init : goal.arm_body-loop-alloc-init
+arm_body-loop-alloc-init t c =
+    let none : c.new-body.result.items ≡ [] = search rules in
+    record {
+      shorter = omega arith;
+      reading = λ x. rw none refl;
+    }
+
+pub arm_body-returns-in_err-stmt : goal.arm_body-returns-in_err-stmt
+arm_body-returns-in_err-stmt t c =
+    let p = err_from_is_err_and c.from_residual.result c.from_residual.ensures.1 in
+    rw (p.1, p.2) (λ x. arm_fails c.args.left (more_arms_at c.args.left x c.args.words.now) _ c.loop-alloc.rest.now _ (c.loop-alloc.invariant.reading x) (flip c.is_behind_arm.ensures ∙ c.loop-alloc-test.true) c.in_err-stmt.ensures)
+
+pub arm_body-loop-alloc-smaller : goal.arm_body-loop-alloc-smaller
+arm_body-loop-alloc-smaller t c =
+    omega (arith, stmt_shorter c.args.left c.loop-alloc.rest.now _ c.in_ok-stmt.next.now c.in_ok-stmt.ensures)
+
+pub arm_body-loop-alloc-preserved : goal.arm_body-loop-alloc-preserved
+arm_body-loop-alloc-preserved t c =
+    let ss = c.loop-alloc.body.items in
+    let s = c.in_ok-stmt.stmt.value in
+    let end = c.in_ok-stmt.next.now in
+    let pushed : c.put.new.found.items ≡ ss ++ s ∷ [] = search rules in
+    record {
+      shorter = omega (arith, c.loop-alloc.invariant.shorter, stmt_shorter c.args.left c.loop-alloc.rest.now _ end c.in_ok-stmt.ensures);
+      reading = λ x. rw pushed (arm_more c.args.left (more_arms_at c.args.left x c.args.words.now) x ss s c.loop-alloc.rest.now end (c.loop-alloc.invariant.reading x) (flip c.is_behind_arm.ensures ∙ c.loop-alloc-test.true) c.in_ok-stmt.ensures);
+    }
+
+pub arm_body-returns : goal.arm_body-returns
+arm_body-returns t c =
     ((flip c.is_behind_arm.ensures ∙ c.loop-alloc-test.false), c.loop-alloc.invariant.shorter, c.loop-alloc.invariant.reading)
 
 pub otherwise-returns-in_err-statements-in-Some : goal.otherwise-returns-in_err-statements-in-Some

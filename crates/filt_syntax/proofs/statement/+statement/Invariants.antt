@@ -1,41 +1,55 @@
-use Rattle.std.proofs.Common.{◌≡◌, ◌<◌, ◌+◌, ◌*◌, length}
+use Rattle.std.proofs.Common.{◌≡◌, ◌≤◌, ◌+◌, ◌*◌, length}
 use Rattle.std.specs.Prelude.{map}
 use Rattle.conf_lex.specs.declared.symbol.Symbol.TheVariants as sym
 use Rattle.conf_lex.specs.declared.word.Word.TheVariants as words
 use Rattle.grammar.specs.Grammar.{Tree}
 use Rattle.grammar.specs.Shapes.{closed}
-use Rattle.filt_syntax.specs.ItemView.{label_tree}
 use Rattle.filt_syntax.specs.StatementView.{stmt_tree, stmts_tree, arms_of, body_after}
-use Rattle.filt_syntax.specs.StatementReaders.{stmts_at, row_at, arms_at, labelled_at, more_arms_at}
+use Rattle.filt_syntax.specs.StatementReaders.{stmts_at, row_at, arms_at, more_arms_at}
 use Rattle.filt_syntax.proofs.ArmSteps.{read_arms, IsBehind}
 use Rattle.filt_syntax.proofs.statement.+statement.Given as goal
 
-abbrev pub decreases-statement : goal.decreases-statement
-decreases-statement l = 8 * l.left + 1
-
 abbrev pub decreases-block : goal.decreases-block
-decreases-block l = 8 * l.left + 0
+decreases-block l = 16 * l.left + 0
+
+abbrev pub decreases-read_branches : goal.decreases-read_branches
+decreases-read_branches l = 16 * l.left + 0
+
+abbrev pub decreases-repeated : goal.decreases-repeated
+decreases-repeated l = 16 * l.left + 0
+
+abbrev pub decreases-braced : goal.decreases-braced
+decreases-braced l = 16 * l.left + 0
 
 abbrev pub decreases-choice : goal.decreases-choice
-decreases-choice l = 8 * l.left + 0
+decreases-choice l = 16 * l.left + 1
 
 abbrev pub decreases-for_each : goal.decreases-for_each
-decreases-for_each l = 8 * l.left + 0
+decreases-for_each l = 16 * l.left + 1
 
 abbrev pub decreases-selection : goal.decreases-selection
-decreases-selection l = 8 * l.left + 0
+decreases-selection l = 16 * l.left + 1
+
+abbrev pub decreases-statement : goal.decreases-statement
+decreases-statement l = 16 * l.left + 2
 
 abbrev pub decreases-statements : goal.decreases-statements
-decreases-statements l = 8 * l.left + 2
+decreases-statements l = 16 * l.left + 3
+
+abbrev pub decreases-arm_body : goal.decreases-arm_body
+decreases-arm_body l = 16 * l.left + 3
+
+abbrev pub decreases-second_branch : goal.decreases-second_branch
+decreases-second_branch l = 16 * l.below + 4
 
 abbrev pub decreases-arm : goal.decreases-arm
-decreases-arm l = 8 * l.left + 2
+decreases-arm l = 16 * l.left + 4
 
 abbrev pub decreases-otherwise : goal.decreases-otherwise
-decreases-otherwise l = 8 * l.left + 3
+decreases-otherwise l = 16 * l.left + 4
 
 abbrev pub decreases-arms : goal.decreases-arms
-decreases-arms l = 8 * l.left + 4
+decreases-arms l = 16 * l.left + 5
 
 abbrev pub invariant-statements-loop-end : goal.invariant-statements-loop-end
 invariant-statements-loop-end l = stmts_at l.left l.words ≡ row_at l.left (stmts_tree l.found.items) l.rest
@@ -52,11 +66,11 @@ invariant-arms-loop-rest l = record {
 abbrev pub decreases-arms-loop-rest : goal.decreases-arms-loop-rest
 decreases-arms-loop-rest l = length l.rest
 
-abbrev pub invariant-arm-loop-alloc : goal.invariant-arm-loop-alloc
-invariant-arm-loop-alloc l = record {
-  shorter : length l.rest < length l.words;
-  reading : (row_with : Tree → Tree) → labelled_at l.left row_with l.words ≡ more_arms_at l.left (body_after (row_with (label_tree l.labels.items)) (map stmt_tree l.body.items)) l.rest;
+abbrev pub invariant-arm_body-loop-alloc : goal.invariant-arm_body-loop-alloc
+invariant-arm_body-loop-alloc l = record {
+  shorter : length l.rest ≤ length l.words;
+  reading : (t : Tree) → more_arms_at l.left t l.words ≡ more_arms_at l.left (body_after t (map stmt_tree l.body.items)) l.rest;
 }
 
-abbrev pub decreases-arm-loop-alloc : goal.decreases-arm-loop-alloc
-decreases-arm-loop-alloc l = length l.rest
+abbrev pub decreases-arm_body-loop-alloc : goal.decreases-arm_body-loop-alloc
+decreases-arm_body-loop-alloc l = length l.rest
