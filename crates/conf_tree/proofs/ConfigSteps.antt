@@ -24,7 +24,7 @@ use Rattle.filt_syntax.proofs.Tested.{model, after, checked, is_checked, good_at
 use Rattle.conf_tree.specs.Syntax.{is_family, statement}
 use Rattle.conf_tree.specs.declared.tree.Statement.{Statement}
 use Rattle.conf_tree.specs.View.{placed_leaf, family_symbol, family_leaf, statement_tree}
-use Rattle.conf_tree.specs.Readers.{literal_at, parameters_at, gives_at, statement_at, statement_row_at, config_at, to_the_end, whole_at}
+use Rattle.conf_tree.specs.Readers.{regroup, literal_at, parameters_at, gives_at, statement_at, statement_row_at, config_at, to_the_end, whole_at}
 use Rattle.conf_tree.proofs.FirstWords.{both_same}
 use Rattle.conf_tree.proofs.Heads.{headed}
 use Rattle.conf_tree.proofs.Tested.{config_checked}
@@ -71,11 +71,6 @@ statement_bad zero (w ∷ ws) a b c d e f g = rw (a, b, c, d, e, f, g) refl
 statement_bad (suc k) (w ∷ ws) a b c d e f g = rw (a, b, c, d, e, f, g) refl
 
 -- ---- functions
-
--- a part before two others, joined to the first of them or not
-abbrev pub regroup : Tree → Tree → Tree
-regroup (Both a c) t = Both a (Both c t)
-regroup a t = t
 
 regrouped : (c g : Reader) (x : Read) → and_then x (λ a u. and_then (both c g u) (λ b v. Got (Both a b) v)) ≡ and_then (and_then x (λ a u. and_then (c u) (λ d v. Got (Both a d) v))) (λ h v. and_then (g v) (λ b z. Got (regroup h b) z))
 regrouped c g (Fault why u) = refl

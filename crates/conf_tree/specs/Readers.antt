@@ -4,10 +4,15 @@ use Rattle.conf_lex.specs.declared.symbol.Symbol.{Symbol}
 use Rattle.conf_lex.specs.declared.symbol.Symbol.TheVariants as sym
 use Rattle.conf_lex.specs.declared.word.Word.{Word}
 use Rattle.grammar.specs.Kind.{name, address, symbol}
-use Rattle.grammar.specs.Grammar.{Form, One, Seq, Either, Bad, Tree, First, starts}
+use Rattle.grammar.specs.Grammar.{Form, One, Seq, Either, Bad, Tree, Both, First, starts}
 use Rattle.grammar.specs.Reading.{Read, Reader, Got, Fault, and_then, word, both, all_turns, read}
 use Rattle.filt_syntax.specs.Syntax.{optional, is_num, semicolon, rule}
+use Rattle.filt_syntax.specs.StatementReaders.{block_at}
 use Rattle.conf_tree.specs.Syntax.{is_switch, policy, action, channel_option, ended_options, channel, route_target, static_option, transport, bgp_option, pipe_option, literal, parameter, parameters, gives, protocol_of, statement, config}
+
+-- what is read, as a part of a whole
+abbrev pub seen_as : Reader → (Tree → Tree) → Reader
+seen_as r whole ws = and_then (r ws) (λ t rest. Got (whole t) rest)
 
 unfoldable pub optional_name_at : ℕ → Reader
 optional_name_at k = read rule k (optional (One name))
@@ -86,6 +91,11 @@ parameters_at k = read rule k (optional parameters)
 unfoldable pub some_parameters_at : ℕ → Reader
 some_parameters_at k ws = and_then (read rule k parameters ws) (λ t rest. Got (First t) rest)
 
+-- a part before two others, joined to the first of them or not
+abbrev pub regroup : Tree → Tree → Tree
+regroup (Both a c) t = Both a (Both c t)
+regroup a t = t
+
 -- "->" and a type, or nothing
 unfoldable pub gives_at : ℕ → Reader
 gives_at k = read rule k (optional gives)
@@ -108,3 +118,7 @@ to_the_end t (w ∷ ws) = Fault Bad (w ∷ ws)
 -- a configuration to the end of the words
 unfoldable pub whole_at : ℕ → Reader
 whole_at k ws = and_then (config_at k ws) to_the_end
+
+-- behind the parenthesis that opens parameters
+abbrev pub signature_at : ℕ → Reader
+signature_at k ws = and_then (both (parameters_at 0) (word (symbol sym.CloseParenthesis)) ws) (λ h v. and_then (both (gives_at 0) (block_at k) v) (λ b z. Got (regroup h b) z))

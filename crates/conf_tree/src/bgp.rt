@@ -3,50 +3,61 @@
 ghost use Rattle.std.specs.Prelude.{◌≡◌, ◌∷◌, false};
 ghost use Rattle.conf_lex.specs.declared.symbol.Symbol.TheVariants as sym;
 ghost use Rattle.conf_lex.specs.declared.word.Word.{Word};
-ghost use Rattle.grammar.specs.Kind.{symbol};
-ghost use Rattle.grammar.specs.Grammar.{begins};
+ghost use Rattle.grammar.specs.Kind.{symbol, address};
+ghost use Rattle.grammar.specs.Grammar.{Both, begins};
+ghost use Rattle.grammar.specs.Reading.{both, word};
+ghost use Rattle.grammar.specs.Shapes.{symbol_leaf};
 ghost use Rattle.grammar.specs.Gives.{Gives};
-ghost use Rattle.conf_tree.specs.Syntax.{is_family, bgp_option};
+ghost use Rattle.filt_syntax.specs.Syntax.{is_num};
+ghost use Rattle.filt_syntax.specs.StatementView.{nth, beyond};
+ghost use Rattle.conf_tree.specs.Syntax.{is_family, is_switch, bgp_option};
 ghost use Rattle.conf_tree.specs.Options.{bgp_option_is};
-ghost use Rattle.conf_tree.specs.View.{bgp_option_tree};
-ghost use Rattle.conf_tree.specs.Readers.{bgp_option_at};
+ghost use Rattle.conf_tree.specs.View.{placed_leaf, family_symbol, bgp_option_tree};
+ghost use Rattle.conf_tree.specs.Readers.{seen_as, optional_address_at, as_at, channel_at, transport_at, bgp_option_at};
 
 use crate::channel::channel;
 use crate::options::ProtocolOption;
 use crate::simple::{as_number, expect_address, expect_switch, next_family, optional_address};
 use crate::transport::transport;
 use crate::tree::BgpOption;
+use bits_ip::Family;
 use conf_lex::{Symbol, Word};
 use filt_syntax::parts::num;
 use grammar::{Refusal, after, after_placed, expect};
 use std::alloc::Global;
 
 // By the words after `local`.
-fn local<'a>(
-    words: &'a [Word],
-    behind: &'a [Word],
-    left: u32,
-) -> Result<(BgpOption, &'a [Word]), Refusal<'a>>
-    requires { words.now ≡ Word.Symbol sym.Local ∷ behind.now }
-    ensures { Gives bgp_option_tree result (bgp_option_at left words.now) }
+fn local(words: &[Word]) -> Result<(BgpOption, &[Word]), Refusal>
+    ensures { Gives bgp_option_tree result (seen_as (both (optional_address_at 0) (as_at 0)) (λ t. nth 1 (Both (symbol_leaf sym.Local) t)) words.now) }
 {
-    let (address, rest) = optional_address(behind);
+    let (address, rest) = optional_address(words);
     let (number, rest) = as_number(rest)?;
     Ok((BgpOption::Local { address, number }, rest))
 }
 
 // By the words after `neighbor`.
-fn neighbor<'a>(
-    words: &'a [Word],
-    behind: &'a [Word],
-    left: u32,
-) -> Result<(BgpOption, &'a [Word]), Refusal<'a>>
-    requires { words.now ≡ Word.Symbol sym.Neighbor ∷ behind.now }
-    ensures { Gives bgp_option_tree result (bgp_option_at left words.now) }
+fn neighbor(words: &[Word]) -> Result<(BgpOption, &[Word]), Refusal>
+    ensures { Gives bgp_option_tree result (seen_as (both (word address) (as_at 0)) (λ t. nth 2 (Both (symbol_leaf sym.Neighbor) t)) words.now) }
 {
-    let (address, rest) = expect_address(behind)?;
+    let (address, rest) = expect_address(words)?;
     let (number, rest) = as_number(rest)?;
     Ok((BgpOption::Neighbor { address, number }, rest))
+}
+
+// By the words after `default bgp_med`, of which the second's place is told.
+fn default_med(at: usize, words: &[Word]) -> Result<(BgpOption, &[Word]), Refusal>
+    ensures { Gives bgp_option_tree result (seen_as (word is_num) (λ t. nth 5 (Both (symbol_leaf sym.Default) (Both (placed_leaf at sym.BgpMed) t))) words.now) }
+{
+    let (value, rest) = num(words)?;
+    Ok((BgpOption::DefaultMed { at, value }, rest))
+}
+
+// By the words after `default bgp_local_pref`, of which the second's place is told.
+fn default_local_pref(at: usize, words: &[Word]) -> Result<(BgpOption, &[Word]), Refusal>
+    ensures { Gives bgp_option_tree result (seen_as (word is_num) (λ t. nth 5 (Both (symbol_leaf sym.Default) (Both (placed_leaf at sym.BgpLocalPref) t))) words.now) }
+{
+    let (value, rest) = num(words)?;
+    Ok((BgpOption::DefaultLocalPref { at, value }, rest))
 }
 
 // By the words after `default`.
@@ -59,16 +70,37 @@ fn default_value<'a>(
     ensures { Gives bgp_option_tree result (bgp_option_at left words.now) }
 {
     if let Some((at, rest)) = after_placed(behind, Symbol::BgpMed) {
-        let (value, rest) = num(rest)?;
-        return Ok((BgpOption::DefaultMed { at, value }, rest));
+        return default_med(at, rest);
     }
     match after_placed(behind, Symbol::BgpLocalPref) {
-        Some((at, rest)) => {
-            let (value, rest) = num(rest)?;
-            Ok((BgpOption::DefaultLocalPref { at, value }, rest))
-        }
+        Some((at, rest)) => default_local_pref(at, rest),
         None => Err(Refusal::Bad(behind)),
     }
+}
+
+// By the words after `med`.
+fn med_metric(words: &[Word]) -> Result<(BgpOption, &[Word]), Refusal>
+    ensures { Gives bgp_option_tree result (seen_as (both (word (symbol sym.Metric)) (word is_switch)) (λ t. nth 3 (Both (symbol_leaf sym.Med) t)) words.now) }
+{
+    let rest = expect(words, Symbol::Metric)?;
+    let (switch, rest) = expect_switch(rest)?;
+    Ok((BgpOption::MedMetric(switch), rest))
+}
+
+// By the words after `interpret`.
+fn interpret(words: &[Word]) -> Result<(BgpOption, &[Word]), Refusal>
+    ensures { Gives bgp_option_tree result (seen_as (both (word (symbol sym.Communities)) (word is_switch)) (λ t. nth 4 (Both (symbol_leaf sym.Interpret) t)) words.now) }
+{
+    let rest = expect(words, Symbol::Communities)?;
+    let (switch, rest) = expect_switch(rest)?;
+    Ok((BgpOption::InterpretCommunities(switch), rest))
+}
+
+fn transport_option(words: &[Word]) -> Result<(BgpOption, &[Word]), Refusal>
+    ensures { Gives bgp_option_tree result (seen_as (transport_at 0) (λ t. beyond 6 t) words.now) }
+{
+    let (option, rest) = transport(words)?;
+    Ok((BgpOption::Transport(option), rest))
 }
 
 // Where no option comes next that `read` tests for.
@@ -80,17 +112,28 @@ fn switch_option(words: &[Word], left: u32) -> Result<(BgpOption, &[Word]), Refu
     ensures { Gives bgp_option_tree result (bgp_option_at left words.now) }
 {
     if let Some(rest) = after(words, Symbol::Med) {
-        let rest = expect(rest, Symbol::Metric)?;
-        let (switch, rest) = expect_switch(rest)?;
-        return Ok((BgpOption::MedMetric(switch), rest));
+        return med_metric(rest);
     }
-    if let Some(rest) = after(words, Symbol::Interpret) {
-        let rest = expect(rest, Symbol::Communities)?;
-        let (switch, rest) = expect_switch(rest)?;
-        return Ok((BgpOption::InterpretCommunities(switch), rest));
+    match after(words, Symbol::Interpret) {
+        Some(rest) => interpret(rest),
+        None => transport_option(words),
     }
-    let (option, rest) = transport(words)?;
-    Ok((BgpOption::Transport(option), rest))
+}
+
+// By a channel's words, and those after its family's word.
+fn channel_option<'a>(
+    alloc: Global,
+    words: &'a [Word],
+    at: usize,
+    family: Family,
+    behind: &'a [Word],
+    left: u32,
+) -> Result<(BgpOption, &'a [Word]), Refusal<'a>>
+    requires { words.now ≡ Word.Placed at (family_symbol family) ∷ behind.now }
+    ensures { Gives bgp_option_tree result (seen_as (channel_at left) (λ t. nth 0 t) words.now) }
+{
+    let (channel, rest) = channel(alloc, words, at, family, behind, left)?;
+    Ok((BgpOption::Channel(channel), rest))
 }
 
 impl ProtocolOption for BgpOption {
@@ -106,14 +149,13 @@ impl ProtocolOption for BgpOption {
         left: u32,
     ) -> Result<(BgpOption, &'a [Word]), Refusal<'a>> {
         if let Some(((at, family), behind)) = next_family(words) {
-            let (channel, rest) = channel(alloc, words, at, family, behind, left)?;
-            return Ok((BgpOption::Channel(channel), rest));
+            return channel_option(alloc, words, at, family, behind, left);
         }
         if let Some(behind) = after(words, Symbol::Local) {
-            return local(words, behind, left);
+            return local(behind);
         }
         if let Some(behind) = after(words, Symbol::Neighbor) {
-            return neighbor(words, behind, left);
+            return neighbor(behind);
         }
         match after(words, Symbol::Default) {
             Some(behind) => default_value(words, behind, left),

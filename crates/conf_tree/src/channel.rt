@@ -1,17 +1,19 @@
 // Channels. `left` is how many more levels may be opened.
 
-ghost use Rattle.std.specs.Prelude.{◌≡◌, ◌∷◌, false};
+ghost use Rattle.std.specs.Prelude.{◌≡◌, ◌∷◌};
 ghost use Rattle.conf_lex.specs.declared.symbol.Symbol.TheVariants as sym;
 ghost use Rattle.conf_lex.specs.declared.word.Word.{Word};
-ghost use Rattle.grammar.specs.Kind.{symbol};
-ghost use Rattle.grammar.specs.Grammar.{begins};
-ghost use Rattle.grammar.specs.Reading.{word};
+ghost use Rattle.grammar.specs.Kind.{symbol, name};
+ghost use Rattle.grammar.specs.Grammar.{Both, First, Second};
+ghost use Rattle.grammar.specs.Reading.{both, word};
 ghost use Rattle.grammar.specs.Shapes.{symbol_leaf};
 ghost use Rattle.grammar.specs.Gives.{Gives};
+ghost use Rattle.filt_syntax.specs.StatementView.{nth, beyond};
+ghost use Rattle.filt_syntax.specs.Syntax.{is_num};
 ghost use Rattle.conf_tree.specs.Syntax.{is_action, is_hop, channel_option};
 ghost use Rattle.conf_tree.specs.Options.{channel_option_is};
-ghost use Rattle.conf_tree.specs.View.{maybe, action_tree, action_symbol, limit_tree, hop_symbol, channel_option_tree, channel_tree, family_symbol};
-ghost use Rattle.conf_tree.specs.Readers.{action_at, limit_value_at, channel_option_at, channel_at};
+ghost use Rattle.conf_tree.specs.View.{placed_leaf, family_leaf, maybe, action_tree, action_symbol, limit_tree, hop_symbol, channel_option_tree, channel_tree, family_symbol};
+ghost use Rattle.conf_tree.specs.Readers.{seen_as, policy_at, action_at, limit_value_at, channel_option_at, closed_options, channel_at};
 
 use crate::options::{ProtocolOption, options};
 use crate::policy::policy;
@@ -60,6 +62,26 @@ fn limit_value(words: &[Word]) -> Result<(Limit, &[Word]), Refusal>
     }
 }
 
+// By the words after `import limit`.
+fn import_limit(words: &[Word]) -> Result<(ChannelOption, &[Word]), Refusal>
+    ensures { Gives channel_option_tree result (seen_as (limit_value_at 0) (λ t. nth 1 (Both (symbol_leaf sym.Import) (First (Both (symbol_leaf sym.Limit) t)))) words.now) }
+{
+    let (limit, rest) = limit_value(words)?;
+    Ok((ChannelOption::ImportLimit(limit), rest))
+}
+
+// By the words after `import`.
+fn import_policy<'a>(
+    alloc: Global,
+    words: &'a [Word],
+    left: u32,
+) -> Result<(ChannelOption, &'a [Word]), Refusal<'a>>
+    ensures { Gives channel_option_tree result (seen_as (policy_at left) (λ t. nth 1 (Both (symbol_leaf sym.Import) (Second t))) words.now) }
+{
+    let (policy, rest) = policy(alloc, words, left)?;
+    Ok((ChannelOption::Import(policy), rest))
+}
+
 // By the words after `import`.
 fn import_option<'a>(
     alloc: Global,
@@ -71,14 +93,8 @@ fn import_option<'a>(
     ensures { Gives channel_option_tree result (channel_option_at left words.now) }
 {
     match after(behind, Symbol::Limit) {
-        Some(rest) => {
-            let (limit, rest) = limit_value(rest)?;
-            Ok((ChannelOption::ImportLimit(limit), rest))
-        }
-        None => {
-            let (policy, rest) = policy(alloc, behind, left)?;
-            Ok((ChannelOption::Import(policy), rest))
-        }
+        Some(rest) => import_limit(rest),
+        None => import_policy(alloc, behind, left),
     }
 }
 
@@ -92,18 +108,41 @@ fn expect_hop(words: &[Word]) -> Result<(NextHop, &[Word]), Refusal>
     }
 }
 
-// Where no other option comes next.
-fn next_hop(words: &[Word], left: u32) -> Result<(ChannelOption, &[Word]), Refusal>
-    requires table { begins (symbol sym.Table) words.now ≡ false }
-    requires import { begins (symbol sym.Import) words.now ≡ false }
-    requires export { begins (symbol sym.Export) words.now ≡ false }
-    requires preference { begins (symbol sym.Preference) words.now ≡ false }
-    ensures { Gives channel_option_tree result (channel_option_at left words.now) }
+fn next_hop(words: &[Word]) -> Result<(ChannelOption, &[Word]), Refusal>
+    ensures { Gives channel_option_tree result (seen_as (both (word (symbol sym.Next)) (both (word (symbol sym.Hop)) (word is_hop))) (λ t. beyond 4 t) words.now) }
 {
     let rest = expect(words, Symbol::Next)?;
     let rest = expect(rest, Symbol::Hop)?;
     let (hop, rest) = expect_hop(rest)?;
     Ok((ChannelOption::NextHop(hop), rest))
+}
+
+// By the words after `table`.
+fn table_option(words: &[Word]) -> Result<(ChannelOption, &[Word]), Refusal>
+    ensures { Gives channel_option_tree result (seen_as (word name) (λ t. nth 0 (Both (symbol_leaf sym.Table) t)) words.now) }
+{
+    let (name, rest) = expect_name(words)?;
+    Ok((ChannelOption::Table(name), rest))
+}
+
+// By the words after `export`.
+fn export_option<'a>(
+    alloc: Global,
+    words: &'a [Word],
+    left: u32,
+) -> Result<(ChannelOption, &'a [Word]), Refusal<'a>>
+    ensures { Gives channel_option_tree result (seen_as (policy_at left) (λ t. nth 2 (Both (symbol_leaf sym.Export) t)) words.now) }
+{
+    let (policy, rest) = policy(alloc, words, left)?;
+    Ok((ChannelOption::Export(policy), rest))
+}
+
+// By the words after `preference`, whose place is told.
+fn preference(at: usize, words: &[Word]) -> Result<(ChannelOption, &[Word]), Refusal>
+    ensures { Gives channel_option_tree result (seen_as (word is_num) (λ t. nth 3 (Both (placed_leaf at sym.Preference) t)) words.now) }
+{
+    let (value, rest) = num(words)?;
+    Ok((ChannelOption::Preference { at, value }, rest))
 }
 
 impl ProtocolOption for ChannelOption {
@@ -119,24 +158,38 @@ impl ProtocolOption for ChannelOption {
         left: u32,
     ) -> Result<(ChannelOption, &'a [Word]), Refusal<'a>> {
         if let Some(rest) = after(words, Symbol::Table) {
-            let (name, rest) = expect_name(rest)?;
-            return Ok((ChannelOption::Table(name), rest));
+            return table_option(rest);
         }
         if let Some(behind) = after(words, Symbol::Import) {
             return import_option(alloc, words, behind, left);
         }
         if let Some(rest) = after(words, Symbol::Export) {
-            let (policy, rest) = policy(alloc, rest, left)?;
-            return Ok((ChannelOption::Export(policy), rest));
+            return export_option(alloc, rest, left);
         }
         match after_placed(words, Symbol::Preference) {
-            Some((at, rest)) => {
-                let (value, rest) = num(rest)?;
-                Ok((ChannelOption::Preference { at, value }, rest))
-            }
-            None => next_hop(words, left),
+            Some((at, rest)) => preference(at, rest),
+            None => next_hop(words),
         }
     }
+}
+
+// A channel, by the words after its opening brace.
+fn braced_channel<'a>(
+    alloc: Global,
+    at: usize,
+    family: Family,
+    words: &'a [Word],
+    left: u32,
+) -> Result<(Channel, &'a [Word]), Refusal<'a>>
+    ensures { Gives channel_tree result (seen_as (closed_options channel_option left) (λ t. Both (family_leaf at family) (First (Both (symbol_leaf sym.OpenBrace) t))) words.now) }
+{
+    let (options, rest) = options(alloc, words, left)?;
+    let channel = Channel {
+        at,
+        family,
+        options: Some(options),
+    };
+    Ok((channel, rest))
 }
 
 /// A channel, by its family's word and the words after it.
@@ -152,18 +205,7 @@ pub fn channel<'a>(
     ensures { Gives channel_tree result (channel_at left words.now) }
 {
     match after(behind, Symbol::OpenBrace) {
-        Some(inside) => {
-            let (options, rest) = options(alloc, inside, left)?;
-            let options = Some(options);
-            Ok((
-                Channel {
-                    at,
-                    family,
-                    options,
-                },
-                rest,
-            ))
-        }
+        Some(inside) => braced_channel(alloc, at, family, inside, left),
         None => {
             let options = None;
             Ok((

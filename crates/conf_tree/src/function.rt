@@ -5,12 +5,13 @@ ghost use Rattle.conf_lex.specs.declared.symbol.Symbol.TheVariants as sym;
 ghost use Rattle.conf_lex.specs.declared.word.Word.{Word};
 ghost use Rattle.grammar.specs.Grammar.{Both, begins};
 ghost use Rattle.grammar.specs.Reading.{both, word};
-ghost use Rattle.grammar.specs.Kind.{symbol};
+ghost use Rattle.grammar.specs.Kind.{symbol, name};
 ghost use Rattle.grammar.specs.Shapes.{symbol_leaf};
 ghost use Rattle.grammar.specs.Gives.{Gives};
+ghost use Rattle.filt_syntax.specs.StatementView.{nth};
 ghost use Rattle.conf_tree.specs.Syntax.{is_separator};
 ghost use Rattle.conf_tree.specs.View.{maybe, parameter_tree, parameters_tree, separator_symbol, gives_tree, statement_tree};
-ghost use Rattle.conf_tree.specs.Readers.{parameter_at, some_parameters_at, parameters_at, gives_at, statement_at};
+ghost use Rattle.conf_tree.specs.Readers.{parameter_at, some_parameters_at, parameters_at, gives_at, signature_at, seen_as};
 
 use crate::tree::Statement;
 use conf_lex::{Symbol, Word};
@@ -100,13 +101,11 @@ fn optional_type(words: &[Word]) -> Result<(Option<VariableType>, &[Word]), Refu
 pub fn function<'a>(
     alloc: Global,
     words: &'a [Word],
-    behind: &'a [Word],
     left: u32,
 ) -> Result<(Statement, &'a [Word]), Refusal<'a>>
-    requires { words.now ≡ Word.Symbol sym.Function ∷ behind.now }
-    ensures { Gives statement_tree result (statement_at left words.now) }
+    ensures { Gives statement_tree result (seen_as (both (word name) (both (word (symbol sym.OpenParenthesis)) (signature_at left))) (λ t. nth 4 (Both (symbol_leaf sym.Function) t)) words.now) }
 {
-    let (name, rest) = expect_name(behind)?;
+    let (name, rest) = expect_name(words)?;
     let rest = expect(rest, Symbol::OpenParenthesis)?;
     let (parameters, rest) = parameters(alloc, rest)?;
     let (gives, rest) = optional_type(rest)?;

@@ -32,6 +32,3 @@ pub use tree::{
     PipeOption, Policy, Protocol, Quoted, Route, RouteTarget, Statement, StaticOption, Switch,
     Transport,
 };
-
-#[cfg(test)]
-mod tests;

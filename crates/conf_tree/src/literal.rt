@@ -4,12 +4,16 @@ ghost use Rattle.std.specs.Prelude.{◌≡◌, [], ◌∷◌, false, MatchOption
 ghost use Rattle.conf_lex.specs.declared.symbol.Symbol.TheVariants as sym;
 ghost use Rattle.conf_lex.specs.declared.word.Word.{Word};
 ghost use Rattle.grammar.specs.Kind.{symbol};
-ghost use Rattle.grammar.specs.Grammar.{begins};
-ghost use Rattle.grammar.specs.Reading.{Got};
+ghost use Rattle.grammar.specs.Shapes.{symbol_leaf};
+ghost use Rattle.grammar.specs.Grammar.{Both, begins};
+ghost use Rattle.grammar.specs.Reading.{Got, both, word};
 ghost use Rattle.grammar.specs.Gives.{Gives};
+ghost use Rattle.filt_syntax.specs.Syntax.{is_num};
+ghost use Rattle.filt_syntax.specs.ItemReaders.{mask_items_at};
+ghost use Rattle.filt_syntax.specs.StatementView.{nth, beyond};
 ghost use Rattle.conf_tree.specs.Syntax.{is_value};
-ghost use Rattle.conf_tree.specs.View.{literal_tree, value_tree};
-ghost use Rattle.conf_tree.specs.Readers.{literal_at};
+ghost use Rattle.conf_tree.specs.View.{placed_leaf, literal_tree, value_tree};
+ghost use Rattle.conf_tree.specs.Readers.{seen_as, literal_at};
 
 use crate::tree::{Address, Literal, Quoted};
 use conf_lex::{Symbol, Word};
@@ -55,15 +59,10 @@ fn next_value(words: &[Word]) -> Option<(Literal, &[Word])>
 }
 
 // By the words after `(`.
-fn pair<'a>(
-    words: &'a [Word],
-    behind: &'a [Word],
-    left: u32,
-) -> Result<(Literal, &'a [Word]), Refusal<'a>>
-    requires { words.now ≡ Word.Symbol sym.OpenParenthesis ∷ behind.now }
-    ensures { Gives literal_tree result (literal_at left words.now) }
+fn pair(words: &[Word]) -> Result<(Literal, &[Word]), Refusal>
+    ensures { Gives literal_tree result (seen_as (both (word is_num) (both (word (symbol sym.Comma)) (both (word is_num) (word (symbol sym.CloseParenthesis))))) (λ t. nth 1 (Both (symbol_leaf sym.OpenParenthesis) t)) words.now) }
 {
-    let (first, rest) = num(behind)?;
+    let (first, rest) = num(words)?;
     let rest = expect(rest, Symbol::Comma)?;
     let (second, rest) = num(rest)?;
     let rest = expect(rest, Symbol::CloseParenthesis)?;
@@ -87,18 +86,15 @@ fn set<'a>(
     Ok((Literal::Set { at, items }, rest))
 }
 
-// By the words after `[=`.
+// By the words after `[=`, whose place is told.
 fn mask<'a>(
     alloc: Global,
-    words: &'a [Word],
     at: usize,
-    behind: &'a [Word],
-    left: u32,
+    words: &'a [Word],
 ) -> Result<(Literal, &'a [Word]), Refusal<'a>>
-    requires { words.now ≡ Word.Placed at sym.OpenMask ∷ behind.now }
-    ensures { Gives literal_tree result (literal_at left words.now) }
+    ensures { Gives literal_tree result (seen_as (both (seen_as (mask_items_at 0) (λ t. Both (placed_leaf at sym.OpenMask) t)) (word (symbol sym.CloseMask))) (λ t. beyond 3 t) words.now) }
 {
-    let (items, rest) = mask_items(alloc, behind)?;
+    let (items, rest) = mask_items(alloc, words)?;
     let rest = expect(rest, Symbol::CloseMask)?;
     Ok((Literal::Mask { at, items }, rest))
 }
@@ -115,13 +111,13 @@ pub fn literal<'a>(
         return Ok((value, rest));
     }
     if let Some(behind) = after(words, Symbol::OpenParenthesis) {
-        return pair(words, behind, left);
+        return pair(behind);
     }
     if let Some((at, behind)) = after_placed(words, Symbol::OpenBracket) {
         return set(alloc, words, at, behind, left);
     }
     match after_placed(words, Symbol::OpenMask) {
-        Some((at, behind)) => mask(alloc, words, at, behind, left),
+        Some((at, behind)) => mask(alloc, at, behind),
         None => Err(Refusal::Bad(words)),
     }
 }

@@ -1,8 +1,16 @@
 // The options of pipes. `left` is how many more levels may be opened.
 
+ghost use Rattle.conf_lex.specs.declared.symbol.Symbol.TheVariants as sym;
+ghost use Rattle.grammar.specs.Kind.{symbol, name};
+ghost use Rattle.grammar.specs.Grammar.{Both};
+ghost use Rattle.grammar.specs.Reading.{both, word};
+ghost use Rattle.grammar.specs.Shapes.{symbol_leaf};
+ghost use Rattle.grammar.specs.Gives.{Gives};
+ghost use Rattle.filt_syntax.specs.StatementView.{nth, beyond};
 ghost use Rattle.conf_tree.specs.Syntax.{pipe_option};
 ghost use Rattle.conf_tree.specs.Options.{pipe_option_is};
 ghost use Rattle.conf_tree.specs.View.{pipe_option_tree};
+ghost use Rattle.conf_tree.specs.Readers.{seen_as, policy_at};
 
 use crate::options::ProtocolOption;
 use crate::policy::policy;
@@ -10,6 +18,47 @@ use crate::tree::PipeOption;
 use conf_lex::{Symbol, Word};
 use grammar::{Refusal, after, expect, expect_name};
 use std::alloc::Global;
+
+// By the words after `table`.
+fn table(words: &[Word]) -> Result<(PipeOption, &[Word]), Refusal>
+    ensures { Gives pipe_option_tree result (seen_as (word name) (λ t. nth 0 (Both (symbol_leaf sym.Table) t)) words.now) }
+{
+    let (name, rest) = expect_name(words)?;
+    Ok((PipeOption::Table(name), rest))
+}
+
+// By the words after `peer`.
+fn peer_table(words: &[Word]) -> Result<(PipeOption, &[Word]), Refusal>
+    ensures { Gives pipe_option_tree result (seen_as (both (word (symbol sym.Table)) (word name)) (λ t. nth 1 (Both (symbol_leaf sym.Peer) t)) words.now) }
+{
+    let rest = expect(words, Symbol::Table)?;
+    let (name, rest) = expect_name(rest)?;
+    Ok((PipeOption::PeerTable(name), rest))
+}
+
+// By the words after `import`.
+fn import<'a>(
+    alloc: Global,
+    words: &'a [Word],
+    left: u32,
+) -> Result<(PipeOption, &'a [Word]), Refusal<'a>>
+    ensures { Gives pipe_option_tree result (seen_as (policy_at left) (λ t. nth 2 (Both (symbol_leaf sym.Import) t)) words.now) }
+{
+    let (policy, rest) = policy(alloc, words, left)?;
+    Ok((PipeOption::Import(policy), rest))
+}
+
+fn export<'a>(
+    alloc: Global,
+    words: &'a [Word],
+    left: u32,
+) -> Result<(PipeOption, &'a [Word]), Refusal<'a>>
+    ensures { Gives pipe_option_tree result (seen_as (both (word (symbol sym.Export)) (policy_at left)) (λ t. beyond 3 t) words.now) }
+{
+    let rest = expect(words, Symbol::Export)?;
+    let (policy, rest) = policy(alloc, rest, left)?;
+    Ok((PipeOption::Export(policy), rest))
+}
 
 impl ProtocolOption for PipeOption {
     ghost tree = { pipe_option_tree };
@@ -24,20 +73,14 @@ impl ProtocolOption for PipeOption {
         left: u32,
     ) -> Result<(PipeOption, &'a [Word]), Refusal<'a>> {
         if let Some(rest) = after(words, Symbol::Table) {
-            let (name, rest) = expect_name(rest)?;
-            return Ok((PipeOption::Table(name), rest));
+            return table(rest);
         }
         if let Some(rest) = after(words, Symbol::Peer) {
-            let rest = expect(rest, Symbol::Table)?;
-            let (name, rest) = expect_name(rest)?;
-            return Ok((PipeOption::PeerTable(name), rest));
+            return peer_table(rest);
         }
-        if let Some(rest) = after(words, Symbol::Import) {
-            let (policy, rest) = policy(alloc, rest, left)?;
-            return Ok((PipeOption::Import(policy), rest));
+        match after(words, Symbol::Import) {
+            Some(rest) => import(alloc, rest, left),
+            None => export(alloc, words, left),
         }
-        let rest = expect(words, Symbol::Export)?;
-        let (policy, rest) = policy(alloc, rest, left)?;
-        Ok((PipeOption::Export(policy), rest))
     }
 }

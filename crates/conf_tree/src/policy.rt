@@ -1,19 +1,37 @@
 // Policies. `left` is how many more levels may be opened.
 
-ghost use Rattle.std.specs.Prelude.{◌≡◌, ◌∷◌, false};
+ghost use Rattle.std.specs.Prelude.{◌≡◌, ◌∷◌};
 ghost use Rattle.conf_lex.specs.declared.symbol.Symbol.TheVariants as sym;
 ghost use Rattle.conf_lex.specs.declared.word.Word.{Word};
 ghost use Rattle.grammar.specs.Kind.{symbol};
-ghost use Rattle.grammar.specs.Grammar.{begins};
+ghost use Rattle.grammar.specs.Grammar.{Both, Second};
+ghost use Rattle.grammar.specs.Reading.{both, word};
+ghost use Rattle.grammar.specs.Shapes.{symbol_leaf};
 ghost use Rattle.grammar.specs.Gives.{Gives};
-ghost use Rattle.conf_tree.specs.View.{policy_tree};
-ghost use Rattle.conf_tree.specs.Readers.{policy_at};
+ghost use Rattle.filt_syntax.specs.Readers.{expr_at};
+ghost use Rattle.filt_syntax.specs.StatementReaders.{block_at};
+ghost use Rattle.filt_syntax.specs.StatementView.{nth, beyond};
+ghost use Rattle.conf_tree.specs.View.{placed_leaf, policy_tree};
+ghost use Rattle.conf_tree.specs.Readers.{seen_as, policy_at};
 
 use crate::tree::Policy;
 use conf_lex::{Symbol, Word};
 use filt_syntax::parts::{expression, whole_block};
 use grammar::{Refusal, after, after_placed, expect, next_name};
 use std::alloc::Global;
+
+// By the words after `filter`, whose place is told.
+fn block_policy<'a>(
+    alloc: Global,
+    at: usize,
+    words: &'a [Word],
+    left: u32,
+) -> Result<(Policy, &'a [Word]), Refusal<'a>>
+    ensures { Gives policy_tree result (seen_as (block_at left) (λ t. nth 1 (Both (placed_leaf at sym.Filter) (Second t))) words.now) }
+{
+    let (block, rest) = whole_block(alloc, words, left)?;
+    Ok((Policy::Block { at, block }, rest))
+}
 
 // By the words after `filter`.
 fn filter_policy<'a>(
@@ -28,23 +46,16 @@ fn filter_policy<'a>(
 {
     match next_name(behind) {
         Some((name, rest)) => Ok((Policy::Filter { at, name }, rest)),
-        None => {
-            let (block, rest) = whole_block(alloc, behind, left)?;
-            Ok((Policy::Block { at, block }, rest))
-        }
+        None => block_policy(alloc, at, behind, left),
     }
 }
 
-// Where no other policy comes next.
 fn where_policy<'a>(
     alloc: Global,
     words: &'a [Word],
     left: u32,
 ) -> Result<(Policy, &'a [Word]), Refusal<'a>>
-    requires all { begins (symbol sym.All) words.now ≡ false }
-    requires nothing { begins (symbol sym.None) words.now ≡ false }
-    requires filtered { begins (symbol sym.Filter) words.now ≡ false }
-    ensures { Gives policy_tree result (policy_at left words.now) }
+    ensures { Gives policy_tree result (seen_as (both (word (symbol sym.Where)) (expr_at left)) (λ t. beyond 2 t) words.now) }
 {
     let rest = expect(words, Symbol::Where)?;
     let (condition, rest) = expression(alloc, rest, left)?;

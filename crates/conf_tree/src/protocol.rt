@@ -4,10 +4,15 @@ ghost use Rattle.std.specs.Prelude.{◌≡◌, ◌∷◌, true};
 ghost use Rattle.conf_lex.specs.declared.symbol.Symbol.{Symbol};
 ghost use Rattle.conf_lex.specs.declared.symbol.Symbol.TheVariants as sym;
 ghost use Rattle.conf_lex.specs.declared.word.Word.{Word};
-ghost use Rattle.grammar.specs.Kind.{keeps_place};
+ghost use Rattle.grammar.specs.Kind.{keeps_place, symbol};
+ghost use Rattle.grammar.specs.Grammar.{Both};
+ghost use Rattle.grammar.specs.Reading.{both, word};
+ghost use Rattle.grammar.specs.Shapes.{symbol_leaf};
 ghost use Rattle.grammar.specs.Gives.{Gives};
-ghost use Rattle.conf_tree.specs.View.{statement_tree, protocol_tree};
-ghost use Rattle.conf_tree.specs.Readers.{protocol_at, statement_at};
+ghost use Rattle.filt_syntax.specs.StatementView.{nth, beyond};
+ghost use Rattle.conf_tree.specs.Syntax.{static_option, bgp_option, pipe_option};
+ghost use Rattle.conf_tree.specs.View.{statement_tree, protocol_tree, of_protocol};
+ghost use Rattle.conf_tree.specs.Readers.{seen_as, optional_name_at, optional_semicolon_at, protocol_at, statement_at};
 
 use crate::options::{ProtocolOption, options};
 use crate::simple::{optional_name, optional_semicolon};
@@ -39,21 +44,53 @@ fn protocol_of<'a, O: ProtocolOption>(
 }
 
 // By the words after `device`, whose own words are taken out.
-fn device<'a>(
-    words: &'a [Word],
-    kind: &'a [Word],
-    behind: &'a [Word],
-    left: u32,
-) -> Result<(Statement, &'a [Word]), Refusal<'a>>
-    requires protocol { words.now ≡ Word.Symbol sym.Protocol ∷ kind.now }
-    requires device { kind.now ≡ Word.Symbol sym.Device ∷ behind.now }
-    ensures { Gives statement_tree result (statement_at left words.now) }
+fn device(words: &[Word]) -> Result<(Statement, &[Word]), Refusal>
+    ensures { Gives statement_tree result (seen_as (both (optional_name_at 0) (both (word (symbol sym.OpenBrace)) (both (word (symbol sym.CloseBrace)) (optional_semicolon_at 0)))) (λ t. of_protocol (nth 0 (Both (symbol_leaf sym.Device) t))) words.now) }
 {
-    let (name, rest) = optional_name(behind);
+    let (name, rest) = optional_name(words);
     let rest = expect(rest, Symbol::OpenBrace)?;
     let rest = expect(rest, Symbol::CloseBrace)?;
     let (semicolon, rest) = optional_semicolon(rest);
     Ok((Statement::Device { name, semicolon }, rest))
+}
+
+// A static protocol, by the words after its kind's word.
+fn static_protocol<'a>(
+    alloc: Global,
+    at: usize,
+    words: &'a [Word],
+    left: u32,
+) -> Result<(Statement, &'a [Word]), Refusal<'a>>
+    ensures { Gives statement_tree result (seen_as (protocol_at sym.Static static_option left) (λ t. of_protocol (nth 1 t)) (Word.Placed at sym.Static ∷ words.now)) }
+{
+    let (protocol, rest) = protocol_of(alloc, at, words, left)?;
+    Ok((Statement::Static(protocol), rest))
+}
+
+// A BGP protocol, by the words after its kind's word.
+fn bgp_protocol<'a>(
+    alloc: Global,
+    at: usize,
+    words: &'a [Word],
+    left: u32,
+) -> Result<(Statement, &'a [Word]), Refusal<'a>>
+    ensures { Gives statement_tree result (seen_as (protocol_at sym.Bgp bgp_option left) (λ t. of_protocol (nth 2 t)) (Word.Placed at sym.Bgp ∷ words.now)) }
+{
+    let (protocol, rest) = protocol_of(alloc, at, words, left)?;
+    Ok((Statement::Bgp(protocol), rest))
+}
+
+// A pipe, by the words after its kind's word.
+fn pipe_protocol<'a>(
+    alloc: Global,
+    at: usize,
+    words: &'a [Word],
+    left: u32,
+) -> Result<(Statement, &'a [Word]), Refusal<'a>>
+    ensures { Gives statement_tree result (seen_as (protocol_at sym.Pipe pipe_option left) (λ t. of_protocol (beyond 3 t)) (Word.Placed at sym.Pipe ∷ words.now)) }
+{
+    let (protocol, rest) = protocol_of(alloc, at, words, left)?;
+    Ok((Statement::Pipe(protocol), rest))
 }
 
 /// By the words after `protocol`.
@@ -67,21 +104,16 @@ pub fn protocol<'a>(
     ensures { Gives statement_tree result (statement_at left words.now) }
 {
     if let Some(behind) = after(kind, Symbol::Device) {
-        return device(words, kind, behind, left);
+        return device(behind);
     }
     if let Some((at, behind)) = after_placed(kind, Symbol::Static) {
-        let (protocol, rest) = protocol_of(alloc, at, behind, left)?;
-        return Ok((Statement::Static(protocol), rest));
+        return static_protocol(alloc, at, behind, left);
     }
     if let Some((at, behind)) = after_placed(kind, Symbol::Bgp) {
-        let (protocol, rest) = protocol_of(alloc, at, behind, left)?;
-        return Ok((Statement::Bgp(protocol), rest));
+        return bgp_protocol(alloc, at, behind, left);
     }
     match after_placed(kind, Symbol::Pipe) {
-        Some((at, behind)) => {
-            let (protocol, rest) = protocol_of(alloc, at, behind, left)?;
-            Ok((Statement::Pipe(protocol), rest))
-        }
+        Some((at, behind)) => pipe_protocol(alloc, at, behind, left),
         None => Err(Refusal::Bad(kind)),
     }
 }

@@ -1,19 +1,23 @@
 // Statements. Each function answers a statement and the words after it; `left` is how many more levels may be opened.
 
-ghost use Rattle.std.specs.Prelude.{◌≡◌, ◌∷◌, false};
+ghost use Rattle.std.specs.Prelude.{◌≡◌, false};
 ghost use Rattle.conf_lex.specs.declared.symbol.Symbol.TheVariants as sym;
-ghost use Rattle.conf_lex.specs.declared.word.Word.{Word};
-ghost use Rattle.grammar.specs.Kind.{symbol};
-ghost use Rattle.grammar.specs.Grammar.{begins};
+ghost use Rattle.grammar.specs.Kind.{symbol, name, address};
+ghost use Rattle.grammar.specs.Grammar.{Both, begins};
+ghost use Rattle.grammar.specs.Reading.{both, word};
+ghost use Rattle.grammar.specs.Shapes.{symbol_leaf};
 ghost use Rattle.grammar.specs.Gives.{Gives};
-ghost use Rattle.conf_tree.specs.View.{statement_tree};
-ghost use Rattle.conf_tree.specs.Readers.{statement_at};
+ghost use Rattle.filt_syntax.specs.StatementReaders.{block_at};
+ghost use Rattle.filt_syntax.specs.StatementView.{nth};
+ghost use Rattle.conf_tree.specs.View.{placed_leaf, family_leaf, statement_tree};
+ghost use Rattle.conf_tree.specs.Readers.{seen_as, literal_at, statement_at};
 
 use crate::function::function;
 use crate::literal::literal;
 use crate::protocol::protocol;
 use crate::simple::{expect_address, next_family};
 use crate::tree::Statement;
+use bits_ip::Family;
 use conf_lex::{Symbol, Word};
 use filt_syntax::Filter;
 use filt_syntax::parts::whole_block;
@@ -21,52 +25,61 @@ use grammar::{Refusal, after, after_placed, expect, expect_name};
 use std::alloc::Global;
 
 // By the words after `router`.
-fn router_id<'a>(
-    words: &'a [Word],
-    behind: &'a [Word],
-    left: u32,
-) -> Result<(Statement, &'a [Word]), Refusal<'a>>
-    requires { words.now ≡ Word.Symbol sym.Router ∷ behind.now }
-    ensures { Gives statement_tree result (statement_at left words.now) }
+fn router_id(words: &[Word]) -> Result<(Statement, &[Word]), Refusal>
+    ensures { Gives statement_tree result (seen_as (both (word (symbol sym.Id)) (both (word address) (word (symbol sym.Semicolon)))) (λ t. nth 0 (Both (symbol_leaf sym.Router) t)) words.now) }
 {
-    let rest = expect(behind, Symbol::Id)?;
+    let rest = expect(words, Symbol::Id)?;
     let (address, rest) = expect_address(rest)?;
     let rest = expect(rest, Symbol::Semicolon)?;
     Ok((Statement::RouterId(address), rest))
+}
+
+// By the words after `log`.
+fn log(words: &[Word]) -> Result<(Statement, &[Word]), Refusal>
+    ensures { Gives statement_tree result (seen_as (word (symbol sym.Semicolon)) (λ t. nth 1 (Both (symbol_leaf sym.Log) t)) words.now) }
+{
+    let rest = expect(words, Symbol::Semicolon)?;
+    Ok((Statement::Log, rest))
 }
 
 // By the words after `define`.
 fn define<'a>(
     alloc: Global,
     words: &'a [Word],
-    behind: &'a [Word],
     left: u32,
 ) -> Result<(Statement, &'a [Word]), Refusal<'a>>
-    requires { words.now ≡ Word.Symbol sym.Define ∷ behind.now }
-    ensures { Gives statement_tree result (statement_at left words.now) }
+    ensures { Gives statement_tree result (seen_as (both (word name) (both (word (symbol sym.Equal)) (both (literal_at left) (word (symbol sym.Semicolon))))) (λ t. nth 2 (Both (symbol_leaf sym.Define) t)) words.now) }
 {
-    let (name, rest) = expect_name(behind)?;
+    let (name, rest) = expect_name(words)?;
     let rest = expect(rest, Symbol::Equal)?;
     let (value, rest) = literal(alloc, rest, left)?;
     let rest = expect(rest, Symbol::Semicolon)?;
     Ok((Statement::Define { name, value }, rest))
 }
 
-// By the words after `filter`.
+// By the words after `filter`, whose place is told.
 fn filter<'a>(
     alloc: Global,
-    words: &'a [Word],
     at: usize,
-    behind: &'a [Word],
+    words: &'a [Word],
     left: u32,
 ) -> Result<(Statement, &'a [Word]), Refusal<'a>>
-    requires { words.now ≡ Word.Placed at sym.Filter ∷ behind.now }
-    ensures { Gives statement_tree result (statement_at left words.now) }
+    ensures { Gives statement_tree result (seen_as (both (word name) (block_at left)) (λ t. nth 5 (Both (placed_leaf at sym.Filter) t)) words.now) }
 {
-    let (name, rest) = expect_name(behind)?;
+    let (name, rest) = expect_name(words)?;
     let (block, rest) = whole_block(alloc, rest, left)?;
     let filter = Filter { name, block };
     Ok((Statement::Filter { at, filter }, rest))
+}
+
+// By the words after a family's word.
+fn table_of(at: usize, family: Family, words: &[Word]) -> Result<(Statement, &[Word]), Refusal>
+    ensures { Gives statement_tree result (seen_as (both (word (symbol sym.Table)) (both (word name) (word (symbol sym.Semicolon)))) (λ t. nth 3 (Both (family_leaf at family) t)) words.now) }
+{
+    let rest = expect(words, Symbol::Table)?;
+    let (name, rest) = expect_name(rest)?;
+    let rest = expect(rest, Symbol::Semicolon)?;
+    Ok((Statement::Table { at, family, name }, rest))
 }
 
 // Where no statement comes next that `statement` tests for.
@@ -79,13 +92,10 @@ fn table(words: &[Word], left: u32) -> Result<(Statement, &[Word]), Refusal>
     requires protocol { begins (symbol sym.Protocol) words.now ≡ false }
     ensures { Gives statement_tree result (statement_at left words.now) }
 {
-    let Some(((at, family), rest)) = next_family(words) else {
-        return Err(Refusal::Bad(words));
-    };
-    let rest = expect(rest, Symbol::Table)?;
-    let (name, rest) = expect_name(rest)?;
-    let rest = expect(rest, Symbol::Semicolon)?;
-    Ok((Statement::Table { at, family, name }, rest))
+    match next_family(words) {
+        Some(((at, family), rest)) => table_of(at, family, rest),
+        None => Err(Refusal::Bad(words)),
+    }
 }
 
 /// The statement that comes next.
@@ -97,20 +107,19 @@ pub fn statement<'a>(
     ensures { Gives statement_tree result (statement_at left words.now) }
 {
     if let Some(behind) = after(words, Symbol::Router) {
-        return router_id(words, behind, left);
+        return router_id(behind);
     }
     if let Some(behind) = after(words, Symbol::Log) {
-        let rest = expect(behind, Symbol::Semicolon)?;
-        return Ok((Statement::Log, rest));
+        return log(behind);
     }
     if let Some(behind) = after(words, Symbol::Define) {
-        return define(alloc, words, behind, left);
+        return define(alloc, behind, left);
     }
     if let Some(behind) = after(words, Symbol::Function) {
-        return function(alloc, words, behind, left);
+        return function(alloc, behind, left);
     }
     if let Some((at, behind)) = after_placed(words, Symbol::Filter) {
-        return filter(alloc, words, at, behind, left);
+        return filter(alloc, at, behind, left);
     }
     match after(words, Symbol::Protocol) {
         Some(behind) => protocol(alloc, words, behind, left),

@@ -1,17 +1,22 @@
 // The options of static protocols. `left` is how many more levels may be opened.
 
-ghost use Rattle.std.specs.Prelude.{◌≡◌, false};
-ghost use Rattle.grammar.specs.Grammar.{begins};
+ghost use Rattle.std.specs.Prelude.{◌≡◌, ◌∷◌};
+ghost use Rattle.conf_lex.specs.declared.symbol.Symbol.TheVariants as sym;
+ghost use Rattle.conf_lex.specs.declared.word.Word.{Word};
+ghost use Rattle.grammar.specs.Kind.{symbol, prefix};
+ghost use Rattle.grammar.specs.Grammar.{First, Second};
+ghost use Rattle.grammar.specs.Reading.{both, word};
 ghost use Rattle.grammar.specs.Gives.{Gives};
-ghost use Rattle.conf_tree.specs.Syntax.{is_family, static_option};
+ghost use Rattle.conf_tree.specs.Syntax.{static_option};
 ghost use Rattle.conf_tree.specs.Options.{static_option_is};
-ghost use Rattle.conf_tree.specs.View.{target_tree, static_option_tree};
-ghost use Rattle.conf_tree.specs.Readers.{route_target_at, static_option_at};
+ghost use Rattle.conf_tree.specs.View.{family_symbol, target_tree, static_option_tree};
+ghost use Rattle.conf_tree.specs.Readers.{seen_as, channel_at, route_target_at};
 
 use crate::channel::channel;
 use crate::options::ProtocolOption;
 use crate::simple::{expect_address, next_family};
 use crate::tree::{Route, RouteTarget, StaticOption};
+use bits_ip::Family;
 use conf_lex::{Symbol, Word};
 use grammar::{Refusal, after, expect, next_prefix};
 use std::alloc::Global;
@@ -35,10 +40,8 @@ fn route_target(words: &[Word]) -> Result<(RouteTarget, &[Word]), Refusal>
     }
 }
 
-// Where no channel comes next.
-fn route(words: &[Word], left: u32) -> Result<(StaticOption, &[Word]), Refusal>
-    requires { begins is_family words.now ≡ false }
-    ensures { Gives static_option_tree result (static_option_at left words.now) }
+fn route(words: &[Word]) -> Result<(StaticOption, &[Word]), Refusal>
+    ensures { Gives static_option_tree result (seen_as (both (word (symbol sym.Route)) (both (word prefix) (route_target_at 0))) (λ t. Second t) words.now) }
 {
     let rest = expect(words, Symbol::Route)?;
     match next_prefix(rest) {
@@ -49,6 +52,22 @@ fn route(words: &[Word], left: u32) -> Result<(StaticOption, &[Word]), Refusal>
         }
         None => Err(Refusal::Bad(rest)),
     }
+}
+
+// By a channel's words, and those after its family's word.
+fn channel_option<'a>(
+    alloc: Global,
+    words: &'a [Word],
+    at: usize,
+    family: Family,
+    behind: &'a [Word],
+    left: u32,
+) -> Result<(StaticOption, &'a [Word]), Refusal<'a>>
+    requires { words.now ≡ Word.Placed at (family_symbol family) ∷ behind.now }
+    ensures { Gives static_option_tree result (seen_as (channel_at left) (λ t. First t) words.now) }
+{
+    let (channel, rest) = channel(alloc, words, at, family, behind, left)?;
+    Ok((StaticOption::Channel(channel), rest))
 }
 
 impl ProtocolOption for StaticOption {
@@ -65,10 +84,9 @@ impl ProtocolOption for StaticOption {
     ) -> Result<(StaticOption, &'a [Word]), Refusal<'a>> {
         match next_family(words) {
             Some(((at, family), behind)) => {
-                let (channel, rest) = channel(alloc, words, at, family, behind, left)?;
-                Ok((StaticOption::Channel(channel), rest))
+                channel_option(alloc, words, at, family, behind, left)
             }
-            None => route(words, left),
+            None => route(words),
         }
     }
 }

@@ -2,16 +2,36 @@
 
 ghost use Rattle.std.specs.Prelude.{◌≡◌, false};
 ghost use Rattle.conf_lex.specs.declared.symbol.Symbol.TheVariants as sym;
-ghost use Rattle.grammar.specs.Kind.{symbol};
-ghost use Rattle.grammar.specs.Grammar.{begins};
+ghost use Rattle.grammar.specs.Kind.{symbol, text, address};
+ghost use Rattle.grammar.specs.Grammar.{Both, begins};
+ghost use Rattle.grammar.specs.Reading.{both, word};
+ghost use Rattle.grammar.specs.Shapes.{symbol_leaf};
 ghost use Rattle.grammar.specs.Gives.{Gives};
-ghost use Rattle.conf_tree.specs.View.{transport_tree};
-ghost use Rattle.conf_tree.specs.Readers.{transport_at};
+ghost use Rattle.filt_syntax.specs.StatementView.{nth, beyond};
+ghost use Rattle.conf_tree.specs.View.{placed_leaf, transport_tree};
+ghost use Rattle.conf_tree.specs.Readers.{seen_as, time_at, optional_switch_at, transport_at};
 
 use crate::simple::{expect_address, expect_text, optional_number, optional_switch, time_number};
 use crate::tree::Transport;
 use conf_lex::{Symbol, Word};
 use grammar::{Refusal, after, after_placed, expect};
+
+// By the words after `connect`.
+fn connect_retry_time(words: &[Word]) -> Result<(Transport, &[Word]), Refusal>
+    ensures { Gives transport_tree result (seen_as (both (word (symbol sym.Retry)) (time_at 0)) (λ t. nth 3 (Both (symbol_leaf sym.Connect) t)) words.now) }
+{
+    let rest = expect(words, Symbol::Retry)?;
+    let (time, rest) = time_number(rest)?;
+    Ok((Transport::ConnectRetryTime(time), rest))
+}
+
+fn passive(words: &[Word]) -> Result<(Transport, &[Word]), Refusal>
+    ensures { Gives transport_tree result (seen_as (both (word (symbol sym.Passive)) (optional_switch_at 0)) (λ t. beyond 6 t) words.now) }
+{
+    let rest = expect(words, Symbol::Passive)?;
+    let (switch, rest) = optional_switch(rest);
+    Ok((Transport::Passive(switch), rest))
+}
 
 // Where no option comes next that `transport` tests for.
 fn connection(words: &[Word]) -> Result<(Transport, &[Word]), Refusal>
@@ -23,20 +43,57 @@ fn connection(words: &[Word]) -> Result<(Transport, &[Word]), Refusal>
     ensures { Gives transport_tree result (transport_at 0 words.now) }
 {
     if let Some(rest) = after(words, Symbol::Connect) {
-        let rest = expect(rest, Symbol::Retry)?;
-        let (time, rest) = time_number(rest)?;
-        return Ok((Transport::ConnectRetryTime(time), rest));
+        return connect_retry_time(rest);
     }
     if let Some(rest) = after(words, Symbol::Multihop) {
         let (hops, rest) = optional_number(rest);
         return Ok((Transport::Multihop(hops), rest));
     }
-    if let Some(rest) = after(words, Symbol::Direct) {
-        return Ok((Transport::Direct, rest));
+    match after(words, Symbol::Direct) {
+        Some(rest) => Ok((Transport::Direct, rest)),
+        None => passive(words),
     }
-    let rest = expect(words, Symbol::Passive)?;
-    let (switch, rest) = optional_switch(rest);
-    Ok((Transport::Passive(switch), rest))
+}
+
+// By the words after `description`.
+fn description(words: &[Word]) -> Result<(Transport, &[Word]), Refusal>
+    ensures { Gives transport_tree result (seen_as (word text) (λ t. nth 0 (Both (symbol_leaf sym.Description) t)) words.now) }
+{
+    let (text, rest) = expect_text(words)?;
+    Ok((Transport::Description(text), rest))
+}
+
+// By the words after `password`.
+fn password(words: &[Word]) -> Result<(Transport, &[Word]), Refusal>
+    ensures { Gives transport_tree result (seen_as (word text) (λ t. nth 0 (Both (symbol_leaf sym.Password) t)) words.now) }
+{
+    let (text, rest) = expect_text(words)?;
+    Ok((Transport::Password(text), rest))
+}
+
+// By the words after `source`, whose place is told.
+fn source_address(at: usize, words: &[Word]) -> Result<(Transport, &[Word]), Refusal>
+    ensures { Gives transport_tree result (seen_as (both (word (symbol sym.Address)) (word address)) (λ t. nth 1 (Both (placed_leaf at sym.Source) t)) words.now) }
+{
+    let rest = expect(words, Symbol::Address)?;
+    let (address, rest) = expect_address(rest)?;
+    Ok((Transport::SourceAddress { at, address }, rest))
+}
+
+// By the words after `hold`.
+fn hold_time(words: &[Word]) -> Result<(Transport, &[Word]), Refusal>
+    ensures { Gives transport_tree result (seen_as (time_at 0) (λ t. nth 2 (Both (symbol_leaf sym.Hold) t)) words.now) }
+{
+    let (time, rest) = time_number(words)?;
+    Ok((Transport::HoldTime(time), rest))
+}
+
+// By the words after `keepalive`.
+fn keepalive_time(words: &[Word]) -> Result<(Transport, &[Word]), Refusal>
+    ensures { Gives transport_tree result (seen_as (time_at 0) (λ t. nth 2 (Both (symbol_leaf sym.Keepalive) t)) words.now) }
+{
+    let (time, rest) = time_number(words)?;
+    Ok((Transport::KeepaliveTime(time), rest))
 }
 
 /// The option that comes next.
@@ -44,27 +101,19 @@ pub fn transport(words: &[Word]) -> Result<(Transport, &[Word]), Refusal>
     ensures { Gives transport_tree result (transport_at 0 words.now) }
 {
     if let Some(rest) = after(words, Symbol::Description) {
-        let (text, rest) = expect_text(rest)?;
-        return Ok((Transport::Description(text), rest));
+        return description(rest);
     }
     if let Some(rest) = after(words, Symbol::Password) {
-        let (text, rest) = expect_text(rest)?;
-        return Ok((Transport::Password(text), rest));
+        return password(rest);
     }
     if let Some((at, rest)) = after_placed(words, Symbol::Source) {
-        let rest = expect(rest, Symbol::Address)?;
-        let (address, rest) = expect_address(rest)?;
-        return Ok((Transport::SourceAddress { at, address }, rest));
+        return source_address(at, rest);
     }
     if let Some(rest) = after(words, Symbol::Hold) {
-        let (time, rest) = time_number(rest)?;
-        return Ok((Transport::HoldTime(time), rest));
+        return hold_time(rest);
     }
     match after(words, Symbol::Keepalive) {
-        Some(rest) => {
-            let (time, rest) = time_number(rest)?;
-            Ok((Transport::KeepaliveTime(time), rest))
-        }
+        Some(rest) => keepalive_time(rest),
         None => connection(words),
     }
 }

@@ -1,9 +1,19 @@
-use Rattle.conf_tree.proofs.LiteralSteps.{more_levels, literal_bad}
+use Rattle.grammar.proofs.Shapes.{gives_along}
+use Rattle.conf_tree.specs.View.{literal_tree}
+use Rattle.conf_tree.proofs.LiteralSteps.{more_levels, pair_is, mask_is, literal_bad}
 use Rattle.conf_tree.proofs.literal.literal.Goals as goal
 
 pub returns-in-Some : goal.returns-in-Some
 returns-in-Some c =
     more_levels c.args.left c.args.words.now _ c.in-Some.rest.now c.in-Some.ensures
+
+pub returns-in-Some-after : goal.returns-in-Some-after
+returns-in-Some-after c =
+    gives_along literal_tree _ _ _ (pair_is c.args.left c.args.words.now c.in-Some-after.behind.now c.in-Some-after.ensures) c.pair.ensures
+
+pub returns-in-Some-after_placed-2 : goal.returns-in-Some-after_placed-2
+returns-in-Some-after_placed-2 c =
+    gives_along literal_tree _ _ _ (mask_is c.args.left c.in-Some-after_placed-2.at c.args.words.now c.in-Some-after_placed-2.behind.now c.in-Some-after_placed-2.ensures) c.mask.ensures
 
 pub returns-in-None : goal.returns-in-None
 returns-in-None c =

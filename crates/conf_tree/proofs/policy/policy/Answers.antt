@@ -1,4 +1,6 @@
-use Rattle.conf_tree.proofs.PolicySteps.{policy_all, policy_none}
+use Rattle.grammar.proofs.Shapes.{gives_along}
+use Rattle.conf_tree.specs.View.{policy_tree}
+use Rattle.conf_tree.proofs.PolicySteps.{policy_all, policy_none, policy_where}
 use Rattle.conf_tree.proofs.policy.policy.Goals as goal
 
 pub returns-in-Some : goal.returns-in-Some
@@ -8,3 +10,7 @@ returns-in-Some c =
 pub returns-in-Some-after : goal.returns-in-Some-after
 returns-in-Some-after c =
     policy_none c.args.left c.args.words.now c.in-Some-after.rest.now c.in-Some-after.ensures
+
+pub returns-in-None : goal.returns-in-None
+returns-in-None c =
+    gives_along policy_tree _ _ _ (policy_where c.args.left c.args.words.now c.in_default.ensures c.in_default-after.ensures c.in-None.ensures) c.where_policy.ensures

@@ -1,36 +1,23 @@
-use Rattle.std.proofs.Common.{refl, ◌∙◌}
-use Rattle.std.proofs.lemmas.Result.{err_from_is_err_and}
-use Rattle.conf_lex.specs.declared.symbol.Symbol.TheVariants as sym
-use Rattle.grammar.proofs.Shapes.{fails_then}
-use Rattle.conf_tree.proofs.ProtocolSteps.{statement_static, statement_bgp, statement_pipe, protocol_bad}
+use Rattle.grammar.proofs.Shapes.{gives_along}
+use Rattle.conf_tree.specs.View.{statement_tree}
+use Rattle.conf_tree.proofs.ProtocolSteps.{device_is, statement_static, statement_bgp, statement_pipe, protocol_bad}
 use Rattle.conf_tree.proofs.protocol.protocol.Goals as goal
 
-pub returns-in_err-protocol : goal.returns-in_err-protocol
-returns-in_err-protocol c =
-    let p = err_from_is_err_and c.from_residual.result c.from_residual.ensures.1 in
-    rw (p.1, p.2, statement_static c.args.left c.in-Some-after_placed.at c.args.words.now c.args.kind.now c.in-Some-after_placed.behind.now c.requires c.in-Some-after_placed.ensures) (fails_then _ _ _ (c.in_err-protocol.ensures sym.Static refl))
+pub returns-in-Some : goal.returns-in-Some
+returns-in-Some c =
+    gives_along statement_tree _ _ _ (device_is c.args.left c.args.words.now c.args.kind.now c.in-Some.behind.now c.requires c.in-Some.ensures) c.device.ensures
 
 pub returns-in-Some-after_placed : goal.returns-in-Some-after_placed
 returns-in-Some-after_placed c =
-    statement_static c.args.left c.in-Some-after_placed.at c.args.words.now c.args.kind.now c.in-Some-after_placed.behind.now c.requires c.in-Some-after_placed.ensures ∙ rw (c.in_ok-protocol.ensures sym.Static refl) refl
-
-pub returns-in_err-protocol-2 : goal.returns-in_err-protocol-2
-returns-in_err-protocol-2 c =
-    let p = err_from_is_err_and c.from_residual-in_err-protocol-2.result c.from_residual-in_err-protocol-2.ensures.1 in
-    rw (p.1, p.2, statement_bgp c.args.left c.in-Some-after_placed-2.at c.args.words.now c.args.kind.now c.in-Some-after_placed-2.behind.now c.requires c.in-Some-after_placed-2.ensures) (fails_then _ _ _ (c.in_err-protocol-2.ensures sym.Bgp refl))
+    gives_along statement_tree _ _ _ (statement_static c.args.left c.in-Some-after_placed.at c.args.words.now c.args.kind.now c.in-Some-after_placed.behind.now c.requires c.in-Some-after_placed.ensures) c.static_protocol.ensures
 
 pub returns-in-Some-after_placed-2 : goal.returns-in-Some-after_placed-2
 returns-in-Some-after_placed-2 c =
-    statement_bgp c.args.left c.in-Some-after_placed-2.at c.args.words.now c.args.kind.now c.in-Some-after_placed-2.behind.now c.requires c.in-Some-after_placed-2.ensures ∙ rw (c.in_ok-protocol-2.ensures sym.Bgp refl) refl
+    gives_along statement_tree _ _ _ (statement_bgp c.args.left c.in-Some-after_placed-2.at c.args.words.now c.args.kind.now c.in-Some-after_placed-2.behind.now c.requires c.in-Some-after_placed-2.ensures) c.bgp_protocol.ensures
 
-pub returns-in_err-protocol-in-Some-after_placed-3 : goal.returns-in_err-protocol-in-Some-after_placed-3
-returns-in_err-protocol-in-Some-after_placed-3 c =
-    let p = err_from_is_err_and c.from_residual-in_err-protocol-in-Some-after_placed-3.result c.from_residual-in_err-protocol-in-Some-after_placed-3.ensures.1 in
-    rw (p.1, p.2, statement_pipe c.args.left c.in-Some-after_placed-3.at c.args.words.now c.args.kind.now c.in-Some-after_placed-3.behind.now c.requires c.in-Some-after_placed-3.ensures) (fails_then _ _ _ (c.in_err-protocol-in-Some-after_placed-3.ensures sym.Pipe refl))
-
-pub returns-in_ok-protocol-in-Some-after_placed-3 : goal.returns-in_ok-protocol-in-Some-after_placed-3
-returns-in_ok-protocol-in-Some-after_placed-3 c =
-    statement_pipe c.args.left c.in-Some-after_placed-3.at c.args.words.now c.args.kind.now c.in-Some-after_placed-3.behind.now c.requires c.in-Some-after_placed-3.ensures ∙ rw (c.in_ok-protocol-in-Some-after_placed-3.ensures sym.Pipe refl) refl
+pub returns-in-Some-after_placed-3 : goal.returns-in-Some-after_placed-3
+returns-in-Some-after_placed-3 c =
+    gives_along statement_tree _ _ _ (statement_pipe c.args.left c.in-Some-after_placed-3.at c.args.words.now c.args.kind.now c.in-Some-after_placed-3.behind.now c.requires c.in-Some-after_placed-3.ensures) c.pipe_protocol.ensures
 
 pub returns-in-None : goal.returns-in-None
 returns-in-None c =

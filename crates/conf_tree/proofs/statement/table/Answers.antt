@@ -1,28 +1,12 @@
-use Rattle.std.proofs.Common.{refl, ◌∙◌}
-use Rattle.std.proofs.lemmas.Result.{err_from_is_err_and}
-use Rattle.grammar.proofs.Shapes.{fails_then}
+use Rattle.grammar.proofs.Shapes.{gives_along}
+use Rattle.conf_tree.specs.View.{statement_tree}
 use Rattle.conf_tree.proofs.ConfigSteps.{table_is, statement_bad}
 use Rattle.conf_tree.proofs.statement.table.Goals as goal
 
-pub returns-in_default : goal.returns-in_default
-returns-in_default c =
-    statement_bad c.args.left c.args.words.now c.requires.router c.requires.log c.requires.define c.in_default.ensures c.requires.function c.requires.filter c.requires.protocol
+pub returns-in-Some : goal.returns-in-Some
+returns-in-Some c =
+    gives_along statement_tree _ _ _ (table_is c.args.left c.in-Some.at c.in-Some.family c.args.words.now c.in-Some.rest.now c.in-Some.ensures) c.table_of.ensures
 
-pub returns-in_err-rest : goal.returns-in_err-rest
-returns-in_err-rest c =
-    let p = err_from_is_err_and c.from_residual.result c.from_residual.ensures.1 in
-    rw (p.1, p.2, table_is c.args.left c.in-Some.at c.in-Some.family c.args.words.now c.in-Some.rest.now c.in-Some.ensures) (fails_then _ _ _ (fails_then _ _ _ c.in_err-rest.ensures))
-
-pub returns-in_err-name : goal.returns-in_err-name
-returns-in_err-name c =
-    let p = err_from_is_err_and c.from_residual-in_err-name.result c.from_residual-in_err-name.ensures.1 in
-    rw (p.1, p.2, table_is c.args.left c.in-Some.at c.in-Some.family c.args.words.now c.in-Some.rest.now c.in-Some.ensures, c.in_ok-rest.ensures) (fails_then _ _ _ (fails_then _ _ _ (fails_then _ _ _ c.in_err-name.ensures)))
-
-pub returns-in_err-rest-2 : goal.returns-in_err-rest-2
-returns-in_err-rest-2 c =
-    let p = err_from_is_err_and c.from_residual-in_err-rest-2.result c.from_residual-in_err-rest-2.ensures.1 in
-    rw (p.1, p.2, table_is c.args.left c.in-Some.at c.in-Some.family c.args.words.now c.in-Some.rest.now c.in-Some.ensures, c.in_ok-rest.ensures, c.in_ok-name.ensures) (fails_then _ _ _ (fails_then _ _ _ (fails_then _ _ _ c.in_err-rest-2.ensures)))
-
-pub returns : goal.returns
-returns c =
-    table_is c.args.left c.in-Some.at c.in-Some.family c.args.words.now c.in-Some.rest.now c.in-Some.ensures ∙ rw (c.in_ok-rest.ensures, c.in_ok-name.ensures, c.in_ok-rest-2.ensures) refl
+pub returns-in-None : goal.returns-in-None
+returns-in-None c =
+    statement_bad c.args.left c.args.words.now c.requires.router c.requires.log c.requires.define c.in-None.ensures c.requires.function c.requires.filter c.requires.protocol
