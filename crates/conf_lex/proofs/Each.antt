@@ -1,7 +1,6 @@
 -- Each text has tokens, or a place where they stop.
-use Rattle.std.proofs.Common.{◌≡◌, ℕ, suc, zero, ◌+◌, ◌-◌, ◌<◌, ◌≤◌, List, [], ◌∷◌, length, take, drop, Option, Some, None, refl, sym, ◌∙◌, ap, subst, arith, inl, inr, ◌⊎◌}
-use Rattle.std.proofs.lemmas.List.{length-drop, drop-drop}
-use Rattle.bits_ip.specs.Text.{IsAddrText}
+use Rattle.std.proofs.Common.{◌≡◌, ℕ, suc, zero, ◌+◌, ◌-◌, ◌<◌, ◌≤◌, List, [], ◌∷◌, length, take, drop, Option, Some, None, refl, arith, inl, inr, ◌⊎◌}
+use Rattle.std.proofs.lemmas.List.{length-drop}
 use Rattle.bits_ip.specs.declared.address.Addr.TheVariants.{V4, V6}
 use Rattle.conf_lex.specs.declared.shapes.Sort.{Sort}
 use Rattle.conf_lex.specs.declared.shapes.Sort.TheVariants as sorts

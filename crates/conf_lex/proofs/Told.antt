@@ -2,10 +2,10 @@
 use Rattle.std.proofs.Common.{◌≡◌, ◌∙◌, sym, ap, refl, subst, ℕ, zero, suc, ◌+◌, ◌<◌, ◌≤◌, ◌^◌, List, [], ◌∷◌, ◌++◌, length, take, drop, append_assoc, arith, inl, inr, ◌⊎◌}
 use Rattle.std.specs.Prelude.{replicate}
 use Rattle.std.specs.Char.{digit_value}
-use Rattle.std.specs.Str.Parse.{AllDigits, IsNumeral, digits_value}
+use Rattle.std.specs.Str.Parse.{AllDigits, digits_value}
 use Rattle.std.proofs.lemmas.Bool.Decides.{leb_tells, eqb_tells}
 use Rattle.std.proofs.lemmas.List.{length-append, drop-drop}
-use Rattle.bits_ip.specs.Text.{v4_text, groups, joined, IsGroup, AreGroups, IsWhole, IsShortened, IsV6Text, IsAddrText}
+use Rattle.bits_ip.specs.Text.{v4_text, groups, joined, IsGroup, AreGroups, IsWhole, IsShortened, IsAddrText}
 use Rattle.bits_ip.specs.declared.address.Addr.TheVariants.{V4, V6}
 use Rattle.conf_lex.specs.Shapes.{IsNumber}
 use Rattle.conf_lex.proofs.Reached.{take_length, drop_length}

@@ -1,5 +1,5 @@
 //! What the tokens of a text are, in words of their own, and that a text has one reading.
-ghost use Rattle.std.specs.Prelude.{◌≡◌, ℕ, Some, ◌+◌, ◌≤◌, ◌<◌, List, [], ◌∷◌, ◌++◌, length, ◌⊎◌};
+ghost use Rattle.std.specs.Prelude.{◌≡◌, ◌⊎◌, ℕ, ◌+◌, ◌≤◌, ◌<◌, List, [], ◌∷◌, ◌++◌, length, Some};
 ghost use Rattle.conf_lex.specs.declared.token.Token.{Token};
 ghost use Rattle.bits_ip.specs.declared.address.Addr.{Addr};
 ghost use Rattle.conf_lex.specs.declared.word.Word.{Word};
@@ -49,21 +49,25 @@ pub fn tokens_rise()
     ensures { (text : List ℕ) (front back : List Token) (t u : Token) → Lexes 0 text (front ++ t ∷ u ∷ back) → IsBetween text (t.at + t.len) u.at }
 {}
 
-/// The words of a text are made of all its tokens, one after another: a word is one token, or `else` and a colon, or an
-/// address, a slash and a number.
+/// The words of a text are made of all its tokens, one after another: a word is one token, or
+/// `else` and a colon, or an address, a slash and a number.
 pub fn words_are_made_of_all_tokens()
-    ensures { (text : List ℕ) (tokens : List Token) → MakeUp text 0 tokens (words_of text tokens) }
+    ensures { (text : List ℕ) (tokens : List Token)
+        → MakeUp text 0 tokens (words_of text tokens) }
 {}
 
-/// Wherever an address, a slash and a number follow each other among the tokens of a text they are one word, and so are
-/// `else` and a colon. The word behind begins with the token behind.
+/// Wherever an address, a slash and a number follow each other among the tokens of a text they are
+/// one word, and so are `else` and a colon. The word behind begins with the token behind.
 pub fn tokens_in_a_row_are_one_word()
     ensures prefix { (text : List ℕ) (front back : List Token) (t u v : Token) (addr : Addr) (n : ℕ)
-        → t.kind ≡ TokenKind.Ip addr → token_symbol text u ≡ Some Symbol.Slash → v.kind ≡ TokenKind.Number n
+        → t.kind ≡ TokenKind.Ip addr → token_symbol text u ≡ Some Symbol.Slash
+        → v.kind ≡ TokenKind.Number n
         → (before : List (ℕ × Word)) × (words_of text (front ++ t ∷ u ∷ v ∷ back)
-        ≡ before ++ (length front, prefix_word (length front) addr n) ∷ words_from text (length front + 3) 0 back) }
+        ≡ before ++ (length front, prefix_word (length front) addr n)
+        ∷ words_from text (length front + 3) 0 back) }
     ensures else_colon { (text : List ℕ) (front back : List Token) (t u : Token)
         → token_symbol text t ≡ Some Symbol.Else → token_symbol text u ≡ Some Symbol.Colon
         → (before : List (ℕ × Word)) × (words_of text (front ++ t ∷ u ∷ back)
-        ≡ before ++ (length front, Word.Symbol Symbol.ElseColon) ∷ words_from text (length front + 2) 0 back) }
+        ≡ before ++ (length front, Word.Symbol Symbol.ElseColon)
+        ∷ words_from text (length front + 2) 0 back) }
 {}
