@@ -13,32 +13,10 @@ use Rattle.filt_syntax.specs.Syntax.{optional, is_num, rule}
 use Rattle.filt_syntax.specs.StatementView.{nth, beyond}
 use Rattle.filt_syntax.proofs.Tested.{is_checked}
 use Rattle.filt_syntax.proofs.Picks.{maps2}
-use Rattle.conf_tree.specs.Syntax.{is_family, is_action, is_hop, policy, limit, channel_option, channel_options}
+use Rattle.conf_tree.specs.Syntax.{is_family, is_hop, policy, limit, channel_option, channel_options}
 use Rattle.conf_tree.specs.View.{placed_leaf, family_symbol, family_leaf}
-use Rattle.conf_tree.specs.Readers.{policy_at, action_at, limit_value_at, channel_option_at, closed_options, channel_at}
+use Rattle.conf_tree.specs.Readers.{policy_at, limit_value_at, channel_option_at, closed_options, channel_at}
 use Rattle.conf_tree.proofs.Heads.{maps4, headed}
-
-pub action_some : (k : ℕ) (ws u : List Word) → ws ≡ words.Symbol sym.Action ∷ u → action_at k ws ≡ and_then (word is_action u) (λ a v. Got (First (Both (symbol_leaf sym.Action) a)) v)
-unfolding action_at
-action_some zero ws u is = rw is (maps2 (word is_action u) (λ a. Both (symbol_leaf sym.Action) a) (λ t. First t))
-action_some (suc k) ws u is = rw is (maps2 (word is_action u) (λ a. Both (symbol_leaf sym.Action) a) (λ t. First t))
-
-pub action_none : (k : ℕ) (ws : List Word) → begins (symbol sym.Action) ws ≡ false → action_at k ws ≡ Got (Second Blank) ws
-unfolding action_at
-action_none zero [] none = refl
-action_none (suc k) [] none = refl
-action_none zero (w ∷ ws) none = rw none refl
-action_none (suc k) (w ∷ ws) none = rw none refl
-
-pub limit_off : (k : ℕ) (ws u : List Word) → ws ≡ words.Symbol sym.Off ∷ u → limit_value_at k ws ≡ Got (First (symbol_leaf sym.Off)) u
-unfolding limit_value_at
-limit_off zero ws u is = rw is refl
-limit_off (suc k) ws u is = rw is refl
-
-pub limit_count : (k : ℕ) (ws : List Word) → begins (symbol sym.Off) ws ≡ false → limit_value_at k ws ≡ and_then (both (word is_num) (action_at 0) ws) (λ t u. Got (Second t) u)
-unfolding limit_value_at action_at
-limit_count zero ws none = rw none refl
-limit_count (suc k) ws none = rw none refl
 
 -- ---- options
 

@@ -3,7 +3,7 @@ use Rattle.std.proofs.Common.{◌≡◌, ◌<◌, ◌≤◌, true, false, List, 
 use Rattle.conf_lex.specs.declared.symbol.Symbol.TheVariants as sym
 use Rattle.conf_lex.specs.declared.word.Word.{Word}
 use Rattle.conf_lex.specs.declared.word.Word.TheVariants as words
-use Rattle.grammar.specs.Kind.{kind_of, name, symbol}
+use Rattle.grammar.specs.Kind.{kind_of, symbol}
 use Rattle.grammar.specs.Grammar.{Tree, Blank, Both, First, Second, Start, More, begins, starts, Bad}
 use Rattle.grammar.specs.Reading.{Got, Fault, Reader, and_then, word, both}
 use Rattle.grammar.specs.Shapes.{symbol_leaf, links}
@@ -14,27 +14,12 @@ use Rattle.filt_syntax.specs.Syntax.{rule}
 use Rattle.filt_syntax.specs.declared.tree.Parameter.{Parameter}
 use Rattle.filt_syntax.specs.declared.tree.Separator.{Separator}
 use Rattle.filt_syntax.specs.declared.tree.Separator.TheVariants as separators
-use Rattle.filt_syntax.specs.StatementReaders.{vtype_at}
 use Rattle.filt_syntax.proofs.Tested.{model, after, checked}
-use Rattle.filt_syntax.proofs.Picks.{maps2}
 use Rattle.conf_tree.specs.Syntax.{parameter, parameters, is_separator}
 use Rattle.conf_tree.specs.View.{parameter_tree, parameters_tree, parameters_after, first_parameter, separator_symbol}
-use Rattle.conf_tree.specs.Readers.{parameter_at, some_parameters_at, parameters_at, gives_at}
-
-pub parameter_is : (ws : List Word) → parameter_at 0 ws ≡ both (vtype_at 0) (word name) ws
-unfolding parameter_at vtype_at
-parameter_is ws = refl
+use Rattle.conf_tree.specs.Readers.{parameter_at, some_parameters_at, parameters_at}
 
 -- ---- the type of what a function gives
-
-pub gives_none : (ws : List Word) → begins (symbol sym.Arrow) ws ≡ false → gives_at 0 ws ≡ Got (Second Blank) ws
-unfolding gives_at
-gives_none [] none = refl
-gives_none (w ∷ ws) none = rw none refl
-
-pub gives_some : (ws u : List Word) → ws ≡ words.Symbol sym.Arrow ∷ u → gives_at 0 ws ≡ and_then (vtype_at 0 u) (λ t v. Got (First (Both (symbol_leaf sym.Arrow) t)) v)
-unfolding gives_at vtype_at
-gives_some ws u is = rw is (maps2 (vtype_at 0 u) (λ t. Both (symbol_leaf sym.Arrow) t) (λ t. First t))
 
 -- ---- parameters
 

@@ -17,7 +17,6 @@ pub mod Refusals
 pub mod RouteSteps
 pub mod SaidLaws
 pub mod SaidSteps
-pub mod SimpleSteps
 pub mod Tested
 pub mod TextRefusals
 pub mod TextsOnce

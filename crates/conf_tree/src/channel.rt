@@ -36,6 +36,7 @@ fn expect_action(words: &[Word]) -> Result<(Action, &[Word]), Refusal>
 }
 
 // An action, if one comes next.
+#[tactic(auto, unfolding(crate::specs::Readers::action_at))]
 fn optional_action(words: &[Word]) -> Result<(Option<Action>, &[Word]), Refusal>
     ensures { Gives (maybe action_tree) result (action_at 0 words.now) }
 {
@@ -49,6 +50,7 @@ fn optional_action(words: &[Word]) -> Result<(Option<Action>, &[Word]), Refusal>
 }
 
 // By the words after `limit`.
+#[tactic(auto, unfolding(crate::specs::Readers::limit_value_at, crate::specs::Readers::action_at))]
 fn limit_value(words: &[Word]) -> Result<(Limit, &[Word]), Refusal>
     ensures { Gives limit_tree result (limit_value_at 0 words.now) }
 {

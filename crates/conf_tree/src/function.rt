@@ -20,6 +20,7 @@ use filt_syntax::{Function, Parameter, Separator, VariableType};
 use grammar::{Refusal, after, expect, expect_name};
 use std::alloc::Global;
 
+#[tactic(auto, unfolding(crate::specs::Readers::parameter_at, filt_syntax::specs::StatementReaders::vtype_at))]
 fn parameter<'a>(
     separator: Option<Separator>,
     words: &'a [Word],
@@ -85,6 +86,7 @@ fn parameters<'a>(
 }
 
 // The type of what a function gives, if one comes next.
+#[tactic(auto, unfolding(crate::specs::Readers::gives_at, filt_syntax::specs::StatementReaders::vtype_at))]
 fn optional_type(words: &[Word]) -> Result<(Option<VariableType>, &[Word]), Refusal>
     ensures { Gives (maybe gives_tree) result (gives_at 0 words.now) }
 {

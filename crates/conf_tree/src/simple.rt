@@ -89,6 +89,7 @@ pub fn next_family(words: &[Word]) -> Option<((usize, Family), &[Word])>
 }
 
 /// A name, if one comes next.
+#[tactic(auto, unfolding(crate::specs::Readers::optional_name_at))]
 pub fn optional_name(words: &[Word]) -> (Option<Name>, &[Word])
     ensures { optional_name_at 0 words.now ≡ Got (maybe name_leaf result.0) result.1.now }
 {
@@ -99,6 +100,7 @@ pub fn optional_name(words: &[Word]) -> (Option<Name>, &[Word])
 }
 
 /// An address, if one comes next.
+#[tactic(auto, unfolding(crate::specs::Readers::optional_address_at))]
 pub fn optional_address(words: &[Word]) -> (Option<Address>, &[Word])
     ensures { optional_address_at 0 words.now ≡ Got (maybe address_leaf result.0) result.1.now }
 {
@@ -109,6 +111,7 @@ pub fn optional_address(words: &[Word]) -> (Option<Address>, &[Word])
 }
 
 /// A switch, if one comes next.
+#[tactic(auto, unfolding(crate::specs::Readers::optional_switch_at))]
 pub fn optional_switch(words: &[Word]) -> (Option<Switch>, &[Word])
     ensures { optional_switch_at 0 words.now ≡ Got (maybe switch_leaf result.0) result.1.now }
 {
@@ -119,6 +122,7 @@ pub fn optional_switch(words: &[Word]) -> (Option<Switch>, &[Word])
 }
 
 /// A number, if one comes next.
+#[tactic(auto, unfolding(crate::specs::Readers::optional_number_at))]
 pub fn optional_number(words: &[Word]) -> (Option<Num>, &[Word])
     ensures { optional_number_at 0 words.now ≡ Got (maybe num_tree result.0) result.1.now }
 {
@@ -129,6 +133,7 @@ pub fn optional_number(words: &[Word]) -> (Option<Num>, &[Word])
 }
 
 /// Whether a semicolon comes next.
+#[tactic(auto, unfolding(crate::specs::Readers::optional_semicolon_at))]
 pub fn optional_semicolon(words: &[Word]) -> (bool, &[Word])
     ensures { optional_semicolon_at 0 words.now ≡ Got (semicolon_tree result.0) result.1.now }
 {
@@ -139,6 +144,7 @@ pub fn optional_semicolon(words: &[Word]) -> (bool, &[Word])
 }
 
 /// `as` and a number.
+#[tactic(auto, unfolding(crate::specs::Readers::as_at))]
 pub fn as_number(words: &[Word]) -> Result<(Num, &[Word]), Refusal>
     ensures { Gives as_tree result (as_at 0 words.now) }
 {
@@ -147,6 +153,7 @@ pub fn as_number(words: &[Word]) -> Result<(Num, &[Word]), Refusal>
 }
 
 /// `time` and a number.
+#[tactic(auto, unfolding(crate::specs::Readers::time_at))]
 pub fn time_number(words: &[Word]) -> Result<(Num, &[Word]), Refusal>
     ensures { Gives time_tree result (time_at 0 words.now) }
 {
