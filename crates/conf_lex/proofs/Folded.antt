@@ -81,13 +81,13 @@ first_size text i t (u ∷ v ∷ ts) =
     (size_or (1 + length (u ∷ v ∷ ts)) (slashed i t.kind (is_slash (token_symbol text u)) v.kind) (word_of text i t) (omega arith))
 
 -- tokens that belong to the word before are passed over
-words_behind : (text : List ℕ) (i k : ℕ) (ts : List Token) → words_from text i k ts ≡ words_from text (i + k) 0 (drop k ts)
+pub words_behind : (text : List ℕ) (i k : ℕ) (ts : List Token) → words_from text i k ts ≡ words_from text (i + k) 0 (drop k ts)
 words_behind text i zero [] = refl
 words_behind text i (suc k) [] = refl
 words_behind text i zero (t ∷ ts) = let same : i ≡ i + zero = omega arith in ap (λ (n : ℕ). words_from text n 0 (t ∷ ts)) same
 words_behind text i (suc k) (t ∷ ts) = let same : i + 1 + k ≡ i + suc k = omega arith in words_behind text (i + 1) k ts ∙ ap (λ (n : ℕ). words_from text n 0 (drop k ts)) same
 
-drop_one : (n : ℕ) (t : Token) (ts : List Token) → 1 ≤ n → drop (n - 1) ts ≡ drop n (t ∷ ts)
+pub drop_one : (n : ℕ) (t : Token) (ts : List Token) → 1 ≤ n → drop (n - 1) ts ≡ drop n (t ∷ ts)
 drop_one n t ts some = let next : n ≡ suc (n - 1) = omega arith in sym (ap (λ (m : ℕ). drop m (t ∷ ts)) next)
 
 -- one word more

@@ -8,3 +8,6 @@ mod Numbers
 mod Spelled
 mod Folded
 mod Places
+mod Told
+mod Each
+mod Made

@@ -4,3 +4,4 @@ pub mod Fronts
 pub mod Symbols
 pub mod Words
 pub mod Spans
+pub mod Made

@@ -40,7 +40,7 @@ text_and found known word bytes text P test same h =
 
 -- ---- the last word
 
-one_front : (a b : List Word) (w : Word) → a ++ w ∷ [] ≡ b ++ w ∷ [] → a ≡ b
+pub one_front : (a b : List Word) (w : Word) → a ++ w ∷ [] ≡ b ++ w ∷ [] → a ≡ b
 one_front a b w e = elim (fronts a (w ∷ []) b (w ∷ []) e) [
   | inl h ↦ h.0
   | inr h ↦ elim h [

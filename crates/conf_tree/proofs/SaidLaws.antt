@@ -278,3 +278,68 @@ kept b (p ∷ ps) none =
 pub others_kept : (ps : List (ℕ × Word)) → list_all (λ p. not (is sy.Log p.1 || is sy.Device p.1)) ps ≡ true → said regions.Statements ps ≡ ps
 unfolding behind_protocol
 others_kept ps none = kept false ps none
+
+-- ---- each first word, and those behind `protocol`
+
+pub other_first : (word : ℕ × Word) (rest : List (ℕ × Word)) → is sy.Log word.1 ≡ false → is sy.Protocol word.1 ≡ false → said regions.Statements (word ∷ rest) ≡ word ∷ said regions.Statements rest
+other_first word rest no_log no_protocol = rw (no_log, no_protocol) refl
+
+no_device_step : (p : ℕ × Word) (ps : List (ℕ × Word)) → is sy.Device p.1 ≡ false → said regions.Protocol (p ∷ ps) ≡ p ∷ said regions.Statements ps
+no_device_step p ps other = rw other refl
+
+no_block_step : (p : ℕ × Word) (ps : List (ℕ × Word)) → name (kind_of p.1) ≡ false → is sy.OpenBrace p.1 ≡ false → said regions.Device (p ∷ ps) ≡ p ∷ said regions.Statements ps
+no_block_step p ps no_called no_open = rw (no_called, no_open) refl
+
+no_brace_step : (p : ℕ × Word) (ps : List (ℕ × Word)) → is sy.OpenBrace p.1 ≡ false → said regions.Named (p ∷ ps) ≡ p ∷ said regions.Statements ps
+no_brace_step p ps no_open = rw no_open refl
+
+-- `protocol device`, and what the words behind it say
+device_from : (protocol device : ℕ × Word) (ps : List (ℕ × Word)) → is sy.Protocol protocol.1 ≡ true → is sy.Device device.1 ≡ true → said regions.Statements (protocol ∷ device ∷ ps) ≡ protocol ∷ device ∷ said regions.Device ps
+device_from protocol device ps is_protocol is_device = protocol_step protocol (device ∷ ps) is_protocol ∙ ap (λ (l : List (ℕ × Word)). protocol ∷ l) (device_step device ps is_device)
+
+named_from : (protocol device called : ℕ × Word) (ps : List (ℕ × Word)) → is sy.Protocol protocol.1 ≡ true → is sy.Device device.1 ≡ true → name (kind_of called.1) ≡ true → said regions.Statements (protocol ∷ device ∷ called ∷ ps) ≡ protocol ∷ device ∷ called ∷ said regions.Named ps
+named_from protocol device called ps is_protocol is_device is_called =
+    device_from protocol device (called ∷ ps) is_protocol is_device ∙ ap (λ (l : List (ℕ × Word)). protocol ∷ device ∷ l) (name_step called ps is_called)
+
+pub other_kind : (protocol word : ℕ × Word) (rest : List (ℕ × Word)) → is sy.Protocol protocol.1 ≡ true → is sy.Device word.1 ≡ false → said regions.Statements (protocol ∷ word ∷ rest) ≡ protocol ∷ word ∷ said regions.Statements rest
+other_kind protocol word rest is_protocol other = protocol_step protocol (word ∷ rest) is_protocol ∙ ap (λ (l : List (ℕ × Word)). protocol ∷ l) (no_device_step word rest other)
+
+pub device_without_block : (protocol device word : ℕ × Word) (rest : List (ℕ × Word)) → is sy.Protocol protocol.1 ≡ true → is sy.Device device.1 ≡ true → name (kind_of word.1) ≡ false → is sy.OpenBrace word.1 ≡ false
+    → said regions.Statements (protocol ∷ device ∷ word ∷ rest) ≡ protocol ∷ device ∷ word ∷ said regions.Statements rest
+device_without_block protocol device word rest is_protocol is_device no_called no_open =
+    device_from protocol device (word ∷ rest) is_protocol is_device ∙ ap (λ (l : List (ℕ × Word)). protocol ∷ device ∷ l) (no_block_step word rest no_called no_open)
+
+pub named_without_block : (protocol device called word : ℕ × Word) (rest : List (ℕ × Word)) → is sy.Protocol protocol.1 ≡ true → is sy.Device device.1 ≡ true → name (kind_of called.1) ≡ true → is sy.OpenBrace word.1 ≡ false
+    → said regions.Statements (protocol ∷ device ∷ called ∷ word ∷ rest) ≡ protocol ∷ device ∷ called ∷ word ∷ said regions.Statements rest
+named_without_block protocol device called word rest is_protocol is_device is_called no_open =
+    named_from protocol device called (word ∷ rest) is_protocol is_device is_called ∙ ap (λ (l : List (ℕ × Word)). protocol ∷ device ∷ called ∷ l) (no_brace_step word rest no_open)
+
+pub protocol_alone : (protocol : ℕ × Word) → is sy.Protocol protocol.1 ≡ true → said regions.Statements (protocol ∷ []) ≡ protocol ∷ []
+protocol_alone protocol is_protocol = protocol_step protocol [] is_protocol
+
+pub device_alone : (protocol device : ℕ × Word) → is sy.Protocol protocol.1 ≡ true → is sy.Device device.1 ≡ true → said regions.Statements (protocol ∷ device ∷ []) ≡ protocol ∷ device ∷ []
+device_alone protocol device is_protocol is_device = device_from protocol device [] is_protocol is_device
+
+pub named_alone : (protocol device called : ℕ × Word) → is sy.Protocol protocol.1 ≡ true → is sy.Device device.1 ≡ true → name (kind_of called.1) ≡ true → said regions.Statements (protocol ∷ device ∷ called ∷ []) ≡ protocol ∷ device ∷ called ∷ []
+named_alone protocol device called is_protocol is_device is_called = named_from protocol device called [] is_protocol is_device is_called
+
+pub device_begins : (protocol device opening : ℕ × Word) (rest : List (ℕ × Word)) → is sy.Protocol protocol.1 ≡ true → is sy.Device device.1 ≡ true → is sy.OpenBrace opening.1 ≡ true
+    → said regions.Statements (protocol ∷ device ∷ opening ∷ rest) ≡ protocol ∷ device ∷ opening ∷ said (regions.Inside 0) rest
+device_begins protocol device opening rest is_protocol is_device opens =
+    device_from protocol device (opening ∷ rest) is_protocol is_device ∙ ap (λ (l : List (ℕ × Word)). protocol ∷ device ∷ l) (brace_step opening rest opens)
+
+pub named_device_begins : (protocol device called opening : ℕ × Word) (rest : List (ℕ × Word)) → is sy.Protocol protocol.1 ≡ true → is sy.Device device.1 ≡ true → name (kind_of called.1) ≡ true → is sy.OpenBrace opening.1 ≡ true
+    → said regions.Statements (protocol ∷ device ∷ called ∷ opening ∷ rest) ≡ protocol ∷ device ∷ called ∷ opening ∷ said (regions.Inside 0) rest
+named_device_begins protocol device called opening rest is_protocol is_device is_called opens =
+    named_from protocol device called (opening ∷ rest) is_protocol is_device is_called ∙ ap (λ (l : List (ℕ × Word)). protocol ∷ device ∷ called ∷ l) (named_brace_step opening rest opens)
+
+-- ---- a log without its end
+
+all_held : (held : List (ℕ × Word)) → list_all (λ p. not (is sy.Semicolon p.1)) held ≡ true → said regions.Log held ≡ []
+all_held [] none = refl
+all_held (p ∷ held) none =
+    let parts = and_parts (not (is sy.Semicolon p.1)) (list_all (λ q. not (is sy.Semicolon q.1)) held) none in
+    held_step p held (not-true (is sy.Semicolon p.1) parts.0) ∙ all_held held parts.1
+
+pub open_log : (log : ℕ × Word) (held : List (ℕ × Word)) → is sy.Log log.1 ≡ true → list_all (λ p. not (is sy.Semicolon p.1)) held ≡ true → said regions.Statements (log ∷ held) ≡ log ∷ []
+open_log log held is_log none = log_step log held is_log ∙ ap (λ (l : List (ℕ × Word)). log ∷ l) (all_held held none)

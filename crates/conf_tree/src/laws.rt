@@ -1,5 +1,6 @@
 //! What logs and device blocks hold, that a text says one thing, and that a place has one line and one column.
-ghost use Rattle.std.specs.Prelude.{◌≡◌, ◌≢◌, ℕ, true, not, ◌||◌, List, [], ◌∷◌, ◌++◌, map};
+ghost use Rattle.std.specs.Prelude.{◌≡◌, ◌≢◌, ◌⊎◌, ℕ, true, false, not, ◌||◌};
+ghost use Rattle.std.specs.Prelude.{List, [], ◌∷◌, ◌++◌, map};
 ghost use Rattle.std.specs.List.{list_all};
 ghost use Rattle.conf_lex.specs.declared.symbol.Symbol.{Symbol};
 ghost use Rattle.conf_lex.specs.declared.word.Word.{Word};
@@ -14,7 +15,8 @@ ghost use Rattle.grammar.specs.Kind.{kind_of, name};
 use crate::kind::ConfKind;
 use crate::said::Region;
 use conf_lex::laws::{
-    lexed_texts_are_not_refused, texts_are_refused_at_one_place, texts_have_one_list_of_tokens,
+    each_text_has_tokens_or_a_place, lexed_texts_are_not_refused, texts_are_refused_at_one_place,
+    texts_have_one_list_of_tokens,
 };
 use conf_lex::{Symbol, Word};
 
@@ -45,6 +47,85 @@ pub fn other_words_are_kept()
 pub fn places_have_one_line_and_column()
     ensures { (text : List ℕ) (at l m c d : ℕ) → IsPlace text at l c → IsPlace text at m d → (l ≡ m) × (c ≡ d) }
 {}
+
+/// A first word that is neither `log` nor `protocol` says something, and the words behind it are
+/// read on as statements.
+pub fn other_first_words_are_kept()
+    ensures nothing { said Region.Statements [] ≡ [] }
+    ensures word { (word : ℕ × Word) (rest : List (ℕ × Word))
+        → is Symbol.Log word.1 ≡ false → is Symbol.Protocol word.1 ≡ false
+        → said Region.Statements (word ∷ rest) ≡ word ∷ said Region.Statements rest }
+{}
+
+/// `protocol` with a word behind it that isn't `device` says something with that word, and the
+/// words behind are read on as statements. So it is with `protocol device` and a word that is no name and
+/// no opening brace, and with `protocol device`, a name and a word that is no opening brace.
+pub fn other_protocols_are_kept()
+    ensures kind { (protocol word : ℕ × Word) (rest : List (ℕ × Word))
+        → is Symbol.Protocol protocol.1 ≡ true → is Symbol.Device word.1 ≡ false
+        → said Region.Statements (protocol ∷ word ∷ rest)
+        ≡ protocol ∷ word ∷ said Region.Statements rest }
+    ensures unnamed { (protocol device word : ℕ × Word) (rest : List (ℕ × Word))
+        → is Symbol.Protocol protocol.1 ≡ true → is Symbol.Device device.1 ≡ true
+        → name (kind_of word.1) ≡ false → is Symbol.OpenBrace word.1 ≡ false
+        → said Region.Statements (protocol ∷ device ∷ word ∷ rest)
+        ≡ protocol ∷ device ∷ word ∷ said Region.Statements rest }
+    ensures named { (protocol device called word : ℕ × Word) (rest : List (ℕ × Word))
+        → is Symbol.Protocol protocol.1 ≡ true → is Symbol.Device device.1 ≡ true
+        → name (kind_of called.1) ≡ true → is Symbol.OpenBrace word.1 ≡ false
+        → said Region.Statements (protocol ∷ device ∷ called ∷ word ∷ rest)
+        ≡ protocol ∷ device ∷ called ∷ word ∷ said Region.Statements rest }
+{}
+
+/// Where the words end behind `protocol`, `protocol device` or its name, all of them say something.
+pub fn unfinished_protocols_are_kept()
+    ensures alone { (protocol : ℕ × Word) → is Symbol.Protocol protocol.1 ≡ true
+        → said Region.Statements (protocol ∷ []) ≡ protocol ∷ [] }
+    ensures unnamed { (protocol device : ℕ × Word)
+        → is Symbol.Protocol protocol.1 ≡ true → is Symbol.Device device.1 ≡ true
+        → said Region.Statements (protocol ∷ device ∷ []) ≡ protocol ∷ device ∷ [] }
+    ensures named { (protocol device called : ℕ × Word)
+        → is Symbol.Protocol protocol.1 ≡ true → is Symbol.Device device.1 ≡ true
+        → name (kind_of called.1) ≡ true
+        → said Region.Statements (protocol ∷ device ∷ called ∷ [])
+        ≡ protocol ∷ device ∷ called ∷ [] }
+{}
+
+/// `protocol device`, with a name or without one, and an opening brace say something, and lead into
+/// the block.
+pub fn device_blocks_begin_at_a_brace()
+    ensures unnamed { (protocol device opening : ℕ × Word) (rest : List (ℕ × Word))
+        → is Symbol.Protocol protocol.1 ≡ true → is Symbol.Device device.1 ≡ true
+        → is Symbol.OpenBrace opening.1 ≡ true
+        → said Region.Statements (protocol ∷ device ∷ opening ∷ rest)
+        ≡ protocol ∷ device ∷ opening ∷ said (Region.Inside 0) rest }
+    ensures named { (protocol device called opening : ℕ × Word) (rest : List (ℕ × Word))
+        → is Symbol.Protocol protocol.1 ≡ true → is Symbol.Device device.1 ≡ true
+        → name (kind_of called.1) ≡ true → is Symbol.OpenBrace opening.1 ≡ true
+        → said Region.Statements (protocol ∷ device ∷ called ∷ opening ∷ rest)
+        ≡ protocol ∷ device ∷ called ∷ opening ∷ said (Region.Inside 0) rest }
+{}
+
+/// A log without a semicolon behind it holds all the words behind it: `log` alone says something.
+pub fn open_logs_hold_the_rest()
+    ensures { (log : ℕ × Word) (held : List (ℕ × Word))
+        → is Symbol.Log log.1 ≡ true → list_all (λ p. not (is Symbol.Semicolon p.1)) held ≡ true
+        → said Region.Statements (log ∷ held) ≡ log ∷ [] }
+{}
+
+/// Each place of a text has a line and a column.
+pub fn each_place_has_a_line_and_a_column()
+    ensures { (text : List ℕ) (at : ℕ) → (line : ℕ) × (column : ℕ) × IsPlace text at line column }
+{}
+
+/// Each text is a configuration or is refused.
+pub fn each_text_is_a_configuration_or_is_refused()
+    ensures { (text : List ℕ)
+        → ((t : Tree) × IsConfigText text t)
+        ⊎ ((at : ℕ) × (kind : ConfKind) × IsRefusedText text at kind) }
+{
+    each_text_has_tokens_or_a_place();
+}
 
 /// A text is one configuration at most.
 pub fn a_text_is_one_configuration()
