@@ -1,7 +1,8 @@
 use Rattle.std.proofs.Common.{◌≡◌, ◌+◌, ◌-◌, ◌≤◌, length, IsTrue}
-use Rattle.birdcore.specs.Transfer.{limit}
-use Rattle.birdcore.proofs.Blocks.{IsFront}
-use Rattle.birdcore.proofs.transfer.read_blocks.Given as goal
+use Rattle.outside_io.specs.Faults.{NoneFell, KeepsOthers}
+use Rattle.outside_io.specs.Whole.{limit}
+use Rattle.outside_io.proofs.Blocks.{IsFront}
+use Rattle.outside_io.proofs.whole.read_blocks.Given as goal
 
 abbrev pub invariant-loop-shelf : goal.invariant-loop-shelf
 invariant-loop-shelf g l = record {
@@ -10,6 +11,8 @@ invariant-loop-shelf g l = record {
   lacks : g.F.Shelf.lacks l.shelf ≡ g.F.Shelf.lacks l.fn.shelf;
   unread : IsTrue (g.F.Shelf.lacks l.fn.shelf l.name) → length l.bytes.items ≡ 0;
   later : g.F.Shelf.faults l.fn.shelf ≤ g.F.Shelf.faults l.shelf;
+  none_fell : NoneFell (g.F.Shelf.missed l.fn.shelf) (g.F.Shelf.missed l.shelf);
+  others : KeepsOthers (g.F.Shelf.held l.fn.shelf) l.name (g.F.Shelf.missed l.fn.shelf) (g.F.Shelf.missed l.shelf);
 }
 
 abbrev pub decreases-loop-shelf : goal.decreases-loop-shelf

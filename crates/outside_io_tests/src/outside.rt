@@ -1,14 +1,14 @@
-use crate::{FileShelf, MemFile, MemShelf, MemSink, Shelf, Sink, StdSink, SureShelf, SureSink};
+use outside_io::{
+    FileShelf, MemFile, MemShelf, MemSink, Shelf, Sink, StdSink, SureShelf, SureSink,
+};
 use std::alloc::Global;
 use std::fs;
 use std::test::Fail;
 
 fn one_file(alloc: Global) -> Result<Vec<MemFile>, Fail> {
     let mut files = Vec::new(alloc);
-    files.push(MemFile {
-        name: String::from_str(alloc, "a")?,
-        bytes: b"abcdef".to_vec(alloc)?,
-    })?;
+    let name = String::from_str(alloc, "a")?;
+    files.push(MemFile::new(name, b"abcdef".to_vec(alloc)?))?;
     Ok(files)
 }
 
@@ -64,6 +64,22 @@ fn files_of_the_system_are_read(rt: HostRuntime) -> Result<(), Fail> {
     assert_eq!(rt; &buf[..3], b"def".as_slice());
     assert!(rt; shelf.read_at("no-such-file", 0, &mut buf).is_err());
     fs::remove_file(&rt, "shelf-test")?;
+    Ok(())
+}
+
+#[test]
+fn a_file_of_the_system_is_opened_once_a_reading(rt: HostRuntime) -> Result<(), Fail> {
+    fs::write(&rt, "old-test", "abcdef")?;
+    fs::write(&rt, "new-test", "uvwxyz")?;
+    let mut shelf = FileShelf::new(&rt);
+    let mut buf = [0u8; 2];
+    assert!(rt; shelf.read_at("old-test", 0, &mut buf) == Ok(2));
+    fs::rename(&rt, "new-test", "old-test")?;
+    assert!(rt; shelf.read_at("old-test", 2, &mut buf) == Ok(2));
+    assert_eq!(rt; buf, *b"cd");
+    assert!(rt; shelf.read_at("old-test", 0, &mut buf) == Ok(2));
+    assert_eq!(rt; buf, *b"uv");
+    fs::remove_file(&rt, "old-test")?;
     Ok(())
 }
 

@@ -1,6 +1,6 @@
 use Rattle.std.proofs.Common.{arith}
-use Rattle.birdcore.proofs.Blocks.{left_after, written_after}
-use Rattle.birdcore.proofs.transfer.write_whole.Goals as goal
+use Rattle.outside_io.proofs.Blocks.{left_after, written_after}
+use Rattle.outside_io.proofs.whole.write_whole.Goals as goal
 
 pub loop-rest-preserved : goal.loop-rest-preserved
 loop-rest-preserved g c =

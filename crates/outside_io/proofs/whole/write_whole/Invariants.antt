@@ -1,6 +1,6 @@
 use Rattle.std.proofs.Common.{◌≡◌, ◌-◌, ◌≤◌, length, take, drop}
 use Rattle.std.specs.Io.KnownBytes.{Appends}
-use Rattle.birdcore.proofs.transfer.write_whole.Given as goal
+use Rattle.outside_io.proofs.whole.write_whole.Given as goal
 
 abbrev pub invariant-loop-rest : goal.invariant-loop-rest
 invariant-loop-rest g l = record {

@@ -1,8 +1,9 @@
 use Rattle.std.proofs.lemmas.Bool.{false≢true}
-use Rattle.std.proofs.Common.{Bool, IsTrue, List, ℕ, arith, length, ◌≡◌, sym, rules, ◌∙◌, subst}
-use Rattle.birdcore.proofs.Blocks.{IsFront}
-use Rattle.birdcore.proofs.Reading.{front_more, whole_at_end, over_limit, stops_over}
-use Rattle.birdcore.proofs.transfer.read_blocks.Goals as goal
+use Rattle.std.proofs.Common.{Bool, Option, IsTrue, List, ℕ, arith, length, ◌≡◌, sym, rules, ◌∙◌, subst}
+use Rattle.std.specs.Prelude.{IsSome}
+use Rattle.outside_io.proofs.Blocks.{IsFront}
+use Rattle.outside_io.proofs.Reading.{front_more, whole_at_end, over_limit}
+use Rattle.outside_io.proofs.whole.read_blocks.Goals as goal
 
 pub returns-in-Ok-eq0-clause-whole : goal.returns-in-Ok-eq0-clause-whole
 returns-in-Ok-eq0-clause-whole g c =
@@ -22,9 +23,11 @@ loop-shelf-preserved g c =
       lacks = c.read_at.ensures.lacks ∙ inv.lacks;
       unread = λ gone. absurd (false≢true (c.in-Ok.ensures.absent (subst (λ (f : List ℕ → Bool). IsTrue (f c.args.name.now)) (sym inv.lacks) gone)));
       later = omega arith;
+      none_fell = λ other. omega (arith, inv.none_fell other, c.read_at.ensures.none_fell other);
+      others = λ other differs told. c.read_at.ensures.others other differs (subst (λ (f : List ℕ → Option (List ℕ)). IsSome (f other)) (sym inv.same) told) ∙ inv.others other differs told;
     }
 
-pub returns-clause-stopped : goal.returns-clause-stopped
-returns-clause-stopped g c =
+pub returns-clause-long : goal.returns-clause-long
+returns-clause-long g c said =
     let long : length c.loop-shelf.bytes.items ≡ c.len.result = search rules in
-    stops_over _ _ _ (over_limit _ c.loop-shelf.bytes.items c.loop-shelf.invariant.front (omega arith)) c.too_long.ensures
+    over_limit _ c.loop-shelf.bytes.items c.loop-shelf.invariant.front (omega arith)
