@@ -1,0 +1,34 @@
+//! The log of a channel.
+use attrs::Attrs;
+use bits_ip::Prefix;
+
+/// What a channel sends values for.
+#[derive(Clone, Copy, Debug, PartialEq, Eq)]
+pub struct Key {
+    pub net: Prefix,
+    /// The number of the source of a pipe's routes, and 0 in other channels.
+    pub num: u32,
+}
+
+/// A value that was sent for a key.
+#[derive(Debug, Drop)]
+pub struct Sending {
+    /// The position of the table at which the value stood.
+    pub at: u64,
+    pub key: Key,
+    /// The attributes, and none for a withdrawal.
+    pub value: Option<Attrs>,
+    /// Whether it is equal to the value that was sent before, in a refresh.
+    pub again: bool,
+}
+
+/// An item of a channel's log.
+#[derive(Debug, Drop)]
+pub enum LogItem {
+    /// The channel came up, where its table had this position.
+    Up(u64),
+    Down,
+    /// All is sent anew.
+    Reload,
+    Sent(Sending),
+}

@@ -1,0 +1,8 @@
+use Rattle.std.proofs.Common.{◌≡◌, ◌++◌, take}
+use Rattle.std.specs.List.{flat_map}
+use Rattle.report.specs.Report.{standing_line}
+use Rattle.report.specs.ReportParts.{names_in}
+use Rattle.report.proofs.exports.write_standings.Given as goal
+
+abbrev pub invariant-loop-standing : goal.invariant-loop-standing
+invariant-loop-standing l = l.out.items ≡ l.initial.out.items ++ flat_map (standing_line (names_in l.protocols) l.pipe) (take l.standing-index l.sent)

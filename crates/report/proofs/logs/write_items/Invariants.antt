@@ -1,0 +1,8 @@
+use Rattle.std.proofs.Common.{◌≡◌, ◌++◌, take}
+use Rattle.std.specs.List.{flat_map}
+use Rattle.report.specs.Report.{line1, log_item_text}
+use Rattle.report.specs.ReportParts.{names_in}
+use Rattle.report.proofs.logs.write_items.Given as goal
+
+abbrev pub invariant-loop-item : goal.invariant-loop-item
+invariant-loop-item l = l.out.items ≡ l.initial.out.items ++ flat_map (λ item. line1 (log_item_text (names_in l.protocols) l.pipe item)) (take l.item-index l.items)

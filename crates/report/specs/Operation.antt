@@ -1,0 +1,22 @@
+-- How an operation is written: the command, without who gave it.
+-- Modelled: the spelling of scripts. Not modelled: that it is read back as the same operation.
+-- From: the own format of scripts, which this program reads.
+use Rattle.std.specs.Prelude.{ℕ, List, [], ◌∷◌, ◌++◌, codes, decimal}
+use Rattle.std.specs.List.{flat_map}
+use Rattle.bits_ip.specs.Text.{addr_text, net_text, v4_text}
+use Rattle.attrs.specs.Text.{origin_text, optional_text, list_text, community_text}
+use Rattle.import_core.specs.declared.operation.Op.{Op}
+use Rattle.import_core.specs.declared.operation.Op.TheVariants.{SessionUp, Add, Del}
+
+-- the command in the spelling of scripts
+abbrev pub op_text : Op → List ℕ
+op_text (SessionUp id) = codes "open " ++ v4_text id
+op_text (Add net given) =
+    codes "add " ++ net_text net ++ codes " via " ++ addr_text given.gw
+    ++ codes " path" ++ flat_map (λ n. 32 ∷ decimal n) given.path
+    ++ codes " origin " ++ origin_text given.origin
+    ++ optional_text (codes " med ") decimal given.med
+    ++ optional_text (codes " lp ") decimal given.lp
+    ++ optional_text (codes " igp ") decimal given.igp
+    ++ list_text (codes " com") community_text given.coms
+op_text (Del net) = codes "del " ++ net_text net

@@ -1,0 +1,51 @@
+//! What each protocol was told in a phase.
+ghost use Rattle.std.specs.Prelude.{◌≡◌, ◌++◌, OnOk};
+ghost use Rattle.std.specs.List.{flat_map};
+ghost use Rattle.report.specs.Operation.{op_text};
+ghost use Rattle.report.specs.Report.{line1, protocol_text};
+
+use crate::operation::write_op;
+use crate::phase::ProtocolReport;
+use bits_ip::OutOfMemory;
+use import_core::Op;
+use std::alloc::Global;
+
+/// Appends each protocol with its operations.
+pub(crate) fn write_protocols(
+    alloc: Global,
+    protocols: &[ProtocolReport],
+    out: &mut Vec<u8>,
+) -> Result<(), OutOfMemory>
+    ensures { OnOk result
+        (out.new.items ≡ out.old.items ++ flat_map protocol_text protocols.now) }
+{
+    for protocol in protocols {
+        write_protocol(alloc, protocol, out)?;
+    }
+    Ok(())
+}
+
+fn write_protocol(
+    alloc: Global,
+    protocol: &ProtocolReport,
+    out: &mut Vec<u8>,
+) -> Result<(), OutOfMemory>
+    ensures { OnOk result (out.new.items ≡ out.old.items ++ protocol_text protocol.now) }
+{
+    out.extend_from_slice(b"protocol ")?;
+    out.extend_from_slice(protocol.name.as_slice())?;
+    out.push(b'\n')?;
+    write_ops(alloc, protocol.ops.as_slice(), out)
+}
+
+fn write_ops(alloc: Global, ops: &[Op], out: &mut Vec<u8>) -> Result<(), OutOfMemory>
+    ensures { OnOk result
+        (out.new.items ≡ out.old.items ++ flat_map (λ op. line1 (op_text op)) ops.now) }
+{
+    for op in ops {
+        out.push(b'\t')?;
+        write_op(alloc, op, out)?;
+        out.push(b'\n')?;
+    }
+    Ok(())
+}

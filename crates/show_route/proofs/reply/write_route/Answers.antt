@@ -1,0 +1,29 @@
+use Rattle.std.proofs.Common.{◌≡◌, ◌++◌, ◌∷◌, map, List, ℕ, Bool, [], if◌then◌else◌, codes, decimal}
+use Rattle.std.proofs.lemmas.Result.{on_ok_weaker}
+use Rattle.bits_ip.specs.Prefix.{Net}
+use Rattle.bits_ip.specs.Text.{addr_text, net_text}
+use Rattle.attrs.specs.Text.{dest_text, optional_text}
+use Rattle.attrs.specs.declared.route.Route.{Route}
+use Rattle.text.specs.Names.{name_of}
+use Rattle.show_route.specs.Reply.{as_text, shown_route}
+use Rattle.show_route.proofs.ReplyPieces.{route_joined}
+use Rattle.show_route.proofs.reply.write_route.Goals as goal
+
+-- the groups of a route
+grouped :
+    (names : List (List ℕ)) (net : Net) (best : Bool) (r : Route) (b b1 b2 b3 : List ℕ)
+    → b1 ≡ b ++ net_text net ++ 32 ∷ dest_text r.attrs.dest ++ codes " [" ++ name_of names r.src.num ++ codes "]"
+    → b2 ≡ b1 ++ (if best then codes " *" else []) ++ codes " (" ++ decimal r.attrs.pref ++ codes ")" ++ as_text r.attrs.kind r.attrs.path r.attrs.origin ++ codes "\n"
+    → b3 ≡ b2 ++ optional_text (codes "\tvia ") (λ gw. addr_text gw ++ codes "\n") r.attrs.gw
+    → b3 ≡ b ++ shown_route names net best r
+grouped names net best r b b1 b2 b3 =
+    route_joined
+    (net_text net) (32 ∷ dest_text r.attrs.dest) (codes " [") (name_of names r.src.num) (codes "]")
+    (if best then codes " *" else []) (codes " (") (decimal r.attrs.pref) (codes ")") (as_text r.attrs.kind r.attrs.path r.attrs.origin) (codes "\n")
+    (optional_text (codes "\tvia ") (λ gw. addr_text gw ++ codes "\n") r.attrs.gw) b b1 b2 b3
+
+pub returns : goal.returns
+returns c =
+    on_ok_weaker c.write_gateway.result
+    (grouped (map (λ name. name.now) c.args.names.now) c.args.net.now c.args.is_best c.args.route.now c.args.out.now.items _ _ _ c.in_ok-write_source.ensures c.in_ok-write_rank.ensures)
+    c.write_gateway.ensures

@@ -1,0 +1,53 @@
+-- What `show route` answers for rows of a table.
+-- Modelled: the whole reply over all rows. Not modelled: its options (a choice of nets, of protocols,
+-- of attributes shown), times and metrics of protocols. From: BIRD User's Guide, section 4 ("Remote
+-- control"), `show route`; the form of a line is this program's own.
+use Rattle.std.specs.Prelude.{ℕ, Bool, true, false, if◌then◌else◌, List, [], ◌∷◌, ◌++◌, Option, Some, None, codes, decimal}
+use Rattle.std.specs.List.{flat_map}
+use Rattle.bits_ip.specs.Prefix.{Net}
+use Rattle.bits_ip.specs.Text.{addr_text, net_text}
+use Rattle.text.specs.Names.{name_of}
+use Rattle.attrs.specs.Text.{dest_text, optional_text}
+use Rattle.attrs.specs.declared.attributes.Origin.{Origin}
+use Rattle.attrs.specs.declared.attributes.Origin.TheVariants.{Igp, Egp, Incomplete}
+use Rattle.attrs.specs.declared.attributes.Kind.{Kind}
+use Rattle.attrs.specs.declared.attributes.Kind.TheVariants.{Static, Bgp}
+use Rattle.attrs.specs.declared.route.Route.{Route}
+use Rattle.attrs.specs.declared.route.Row.{Row}
+
+-- the last AS of a path, and nothing of an empty one
+abbrev pub last_as_text : List ℕ → List ℕ
+last_as_text [] = []
+last_as_text (n ∷ []) = codes "AS" ++ decimal n
+last_as_text (n ∷ m ∷ rest) = last_as_text (m ∷ rest)
+
+abbrev pub origin_letter : Option Origin → List ℕ
+origin_letter (Some Igp) = codes "i"
+origin_letter (Some Egp) = codes "e"
+origin_letter (Some Incomplete) = codes "?"
+origin_letter None = codes "?"
+
+-- what only routes of BGP show
+abbrev pub as_text : Kind → List ℕ → Option Origin → List ℕ
+as_text Static path origin = []
+as_text Bgp path origin = codes " [" ++ last_as_text path ++ origin_letter origin ++ codes "]"
+
+-- a route: its net, its protocol, a star where it is the net's best, and its gateway on a line of its own
+abbrev pub shown_route : List (List ℕ) → Net → Bool → Route → List ℕ
+shown_route names net best r =
+    net_text net ++ 32 ∷ dest_text r.attrs.dest ++ codes " [" ++ name_of names r.src.num ++ codes "]"
+    ++ (if best then codes " *" else []) ++ codes " (" ++ decimal r.attrs.pref ++ codes ")"
+    ++ as_text r.attrs.kind r.attrs.path r.attrs.origin ++ codes "\n"
+    ++ optional_text (codes "\tvia ") (λ gw. addr_text gw ++ codes "\n") r.attrs.gw
+
+-- A net's routes stand in selection order, so its best is the first.
+abbrev pub shown_routes : List (List ℕ) → Net → Bool → List Route → List ℕ
+shown_routes names net best [] = []
+shown_routes names net best (r ∷ rest) = shown_route names net best r ++ shown_routes names net false rest
+
+abbrev pub shown_row : List (List ℕ) → Row → List ℕ
+shown_row names row = shown_routes names row.net true row.routes
+
+-- the reply: the table's name, and the routes of each net
+abbrev pub reply_text : List (List ℕ) → List ℕ → List Row → List ℕ
+reply_text names table rows = codes "Table " ++ table ++ codes ":\n" ++ flat_map (shown_row names) rows

@@ -1,0 +1,209 @@
+//! The text of a reply.
+ghost use Rattle.std.specs.Prelude.{◌≡◌, ◌++◌, ◌∷◌, List, ℕ, [], if◌then◌else◌, true, false, codes, decimal, map, OnOk, IfOk};
+ghost use Rattle.std.specs.List.{flat_map};
+ghost use Rattle.bits_ip.specs.Text.{addr_text, net_text};
+ghost use Rattle.attrs.specs.Text.{dest_text, optional_text};
+ghost use Rattle.text.specs.Names.{name_of};
+ghost use Rattle.show_route.specs.Reply.{as_text, last_as_text, origin_letter, reply_text, shown_route, shown_routes, shown_row};
+
+use attrs::{Attrs, Dest, Kind, Origin, Route, Row, Seq};
+use bits_ip::{Addr, OutOfMemory, Prefix, write_addr, write_prefix};
+use std::alloc::Global;
+use text::write_number;
+
+/// The reply to `show route` over these rows of a table, with the protocols' names by number.
+///
+/// `OutOfMemory` comes where memory is refused. BIRD User's Guide, section 4 ("Remote control"),
+/// `show route`.
+pub fn answer(
+    alloc: Global,
+    names: &[&[u8]],
+    table: &[u8],
+    rows: &[Row],
+) -> Result<Vec<u8>, OutOfMemory>
+    ensures { IfOk result (λ text. text.items ≡ reply_text (map (λ name. name.now) names.now) table.now rows.now) }
+{
+    let mut out = Vec::new(alloc);
+    out.extend_from_slice(b"Table ")?;
+    out.extend_from_slice(table)?;
+    out.extend_from_slice(b":\n")?;
+    write_rows(alloc, names, rows, &mut out)?;
+    Ok(out)
+}
+
+fn write_rows(
+    alloc: Global,
+    names: &[&[u8]],
+    rows: &[Row],
+    out: &mut Vec<u8>,
+) -> Result<(), OutOfMemory>
+    ensures { OnOk result
+        (out.new.items ≡ out.old.items
+        ++ flat_map (shown_row (map (λ name. name.now) names.now)) rows.now) }
+{
+    for row in rows {
+        write_routes(alloc, names, &row.net, row.routes.as_slice(), out)?;
+    }
+    Ok(())
+}
+
+/// The routes of a net in selection order: the first is the best.
+fn write_routes(
+    alloc: Global,
+    names: &[&[u8]],
+    net: &Prefix,
+    routes: &[Route],
+    out: &mut Vec<u8>,
+) -> Result<(), OutOfMemory>
+    ensures { OnOk result
+        (out.new.items ≡ out.old.items
+        ++ shown_routes (map (λ name. name.now) names.now) net.now true routes.now) }
+{
+    let Some((best, others)) = routes.split_first() else {
+        return Ok(());
+    };
+    write_route(alloc, names, net, true, best, out)?;
+    write_others(alloc, names, net, others, out)
+}
+
+fn write_others(
+    alloc: Global,
+    names: &[&[u8]],
+    net: &Prefix,
+    routes: &[Route],
+    out: &mut Vec<u8>,
+) -> Result<(), OutOfMemory>
+    ensures { OnOk result
+        (out.new.items ≡ out.old.items
+        ++ flat_map (shown_route (map (λ name. name.now) names.now) net.now false) routes.now) }
+{
+    for route in routes {
+        write_route(alloc, names, net, false, route, out)?;
+    }
+    Ok(())
+}
+
+fn write_route(
+    alloc: Global,
+    names: &[&[u8]],
+    net: &Prefix,
+    is_best: bool,
+    route: &Route,
+    out: &mut Vec<u8>,
+) -> Result<(), OutOfMemory>
+    ensures { OnOk result
+        (out.new.items ≡ out.old.items
+        ++ shown_route (map (λ name. name.now) names.now) net.now is_best route.now) }
+{
+    write_source(alloc, names, net, route, out)?;
+    write_rank(is_best, &route.attrs, out)?;
+    write_gateway(alloc, route.attrs.gw, out)
+}
+
+/// The net, what is done with its packets, and the protocol.
+fn write_source(
+    alloc: Global,
+    names: &[&[u8]],
+    net: &Prefix,
+    route: &Route,
+    out: &mut Vec<u8>,
+) -> Result<(), OutOfMemory>
+    ensures { OnOk result
+        (out.new.items ≡ out.old.items
+        ++ net_text net.now ++ 32 ∷ dest_text route.now.attrs.dest
+        ++ codes " [" ++ name_of (map (λ name. name.now) names.now) route.now.src.num ++ codes "]") }
+{
+    write_prefix(alloc, net, out)?;
+    out.push(b' ')?;
+    out.extend_from_slice(dest_word(route.attrs.dest).as_bytes())?;
+    out.extend_from_slice(b" [")?;
+    out.extend_from_slice(name_at(names, route.src.num))?;
+    out.push(b']')?;
+    Ok(())
+}
+
+fn name_at<'a>(names: &[&'a [u8]], num: u32) -> &'a [u8]
+    ensures { result.now ≡ name_of (map (λ name. name.now) names.now) num }
+{
+    match names.get(num as usize) {
+        Some(name) => name,
+        None => b"",
+    }
+}
+
+/// The star of the best route, the preference, and what only routes of BGP show.
+fn write_rank(is_best: bool, attrs: &Attrs, out: &mut Vec<u8>) -> Result<(), OutOfMemory>
+    ensures { OnOk result
+        (out.new.items ≡ out.old.items
+        ++ (if is_best then codes " *" else []) ++ codes " (" ++ decimal attrs.now.pref ++ codes ")"
+        ++ as_text attrs.now.kind attrs.now.path attrs.now.origin ++ codes "\n") }
+{
+    out.extend_from_slice(if is_best { b" * (" } else { b" (" })?;
+    write_number(u64::from(attrs.pref), out)?;
+    out.push(b')')?;
+    write_as(attrs, out)?;
+    out.push(b'\n')?;
+    Ok(())
+}
+
+/// The last AS of the path, where it has one, and the origin's letter.
+fn write_as(attrs: &Attrs, out: &mut Vec<u8>) -> Result<(), OutOfMemory>
+    ensures { OnOk result
+        (out.new.items ≡ out.old.items
+        ++ as_text attrs.now.kind attrs.now.path attrs.now.origin) }
+{
+    if attrs.kind == Kind::Static {
+        return Ok(());
+    }
+    out.extend_from_slice(b" [")?;
+    write_last_as(attrs.path.as_slice(), out)?;
+    out.extend_from_slice(origin_letter(attrs.origin).as_bytes())?;
+    out.push(b']')?;
+    Ok(())
+}
+
+fn write_last_as(path: &[u32], out: &mut Vec<u8>) -> Result<(), OutOfMemory>
+    ensures { OnOk result (out.new.items ≡ out.old.items ++ last_as_text path.now) }
+{
+    let Some((last, _)) = path.split_last() else {
+        return Ok(());
+    };
+    out.extend_from_slice(b"AS")?;
+    write_number(u64::from(*last), out)
+}
+
+fn write_gateway(alloc: Global, gateway: Option<Addr>, out: &mut Vec<u8>) -> Result<(), OutOfMemory>
+    ensures { OnOk result
+        (out.new.items ≡ out.old.items
+        ++ optional_text (codes "\tvia ") (λ gw. addr_text gw ++ codes "\n") gateway) }
+{
+    let Some(gateway) = gateway else {
+        return Ok(());
+    };
+    out.extend_from_slice(b"\tvia ")?;
+    write_addr(alloc, &gateway, out)?;
+    out.push(b'\n')?;
+    Ok(())
+}
+
+fn origin_letter(origin: Option<Origin>) -> &'static str
+    ensures { result.now ≡ origin_letter origin }
+{
+    match origin {
+        Some(Origin::Igp) => "i",
+        Some(Origin::Egp) => "e",
+        Some(Origin::Incomplete) => "?",
+        None => "?",
+    }
+}
+
+fn dest_word(dest: Dest) -> &'static str
+    ensures { result.now ≡ dest_text dest }
+{
+    match dest {
+        Dest::Unicast => "unicast",
+        Dest::Blackhole => "blackhole",
+        Dest::Unreachable => "unreachable",
+        Dest::Prohibit => "prohibit",
+    }
+}

@@ -1,0 +1,4 @@
+pub mod Runs
+mod LineCuts
+mod WordCuts
+pub mod Numerals
