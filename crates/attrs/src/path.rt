@@ -1,4 +1,4 @@
-ghost use Rattle.std.specs.Prelude.{◌≡◌, ◌≤◌, ◌==◌, ◌↔◌, [], ◌∷◌, length, Err, IfOk, OnOk, OnErr};
+ghost use Rattle.std.specs.Prelude.{◌≡◌, ◌≤◌, ◌<◌, ◌==◌, ◌↔◌, [], ◌∷◌, length, Err, IfOk, OnOk, OnErr, MatchOption};
 ghost use Rattle.attrs.specs.declared.path.PathFault.TheVariants.{Memory};
 
 use bits_ip::OutOfMemory;
@@ -60,6 +60,16 @@ impl Path {
         ensures { result ≡ numbers.items }
     {
         Path { numbers }
+    }
+
+    /// The path of these numbers, and none where there are over 120. Takes no memory.
+    pub fn try_from_vec(numbers: Vec<u32>) -> Option<Path>
+        ensures { MatchOption result (120 < length numbers.items) (λ path. (path ≡ numbers.items) × (length numbers.items ≤ 120)) }
+    {
+        if numbers.len() > MAX_LEN {
+            return None;
+        }
+        Some(Path { numbers })
     }
 
     /// The numbers as a `Vec`. Takes no memory.

@@ -1,0 +1,7 @@
+mod AddressTexts
+mod NumberRuns
+mod Options
+mod CommandParts
+mod AddParts
+mod CommunityWords
+mod ScriptLines
