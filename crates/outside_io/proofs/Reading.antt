@@ -2,8 +2,9 @@
 use Rattle.std.proofs.Common.{◌≡◌, ℕ, ◌+◌, ◌<◌, ◌≤◌, List, ◌++◌, length, take, drop, Option, Some, None, sym, ◌∙◌, ap, arith, length-take, length-append}
 use Rattle.std.proofs.lemmas.List.{take_all}
 use Rattle.std.proofs.Math.Seq.{take-add}
+use Rattle.std.specs.Prelude.{IfSome}
 use Rattle.outside_io.specs.Shelf.{StandsAt}
-use Rattle.outside_io.specs.Whole.{limit, IsWhole, IsOverLimit}
+use Rattle.outside_io.specs.Whole.{limit, IsWhole, IsLong}
 use Rattle.outside_io.proofs.Blocks.{IsFront}
 
 -- a block more
@@ -22,6 +23,6 @@ whole_at_end (Some file) bytes buf count front none reads room within =
     let ended : length file ≤ length bytes = reads.1 none room in
     record { told = sym (take_all (length bytes) file ended) ∙ front; within = within }
 
-pub over_limit : (held : Option (List ℕ)) (bytes : List ℕ) → IsFront held bytes → limit < length bytes → IsOverLimit held
+pub over_limit : (held : Option (List ℕ)) (bytes : List ℕ) → IsFront held bytes → limit < length bytes → IfSome held IsLong
 over_limit None bytes front over = tt
 over_limit (Some file) bytes front over = omega (arith, ap length front, length-take (length bytes) file, over)

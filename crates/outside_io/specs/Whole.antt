@@ -1,5 +1,5 @@
 -- Whole files and whole texts.
-use Rattle.std.specs.Prelude.{◌≡◌, ℕ, ◌^◌, ◌<◌, ◌≤◌, List, length, take, ⊤, Option, Some, None}
+use Rattle.std.specs.Prelude.{◌≡◌, ℕ, ◌^◌, ◌<◌, ◌≤◌, List, length, take, ⊤, Option, IfSome}
 use Rattle.std.specs.Io.KnownBytes.{Appends}
 use Rattle.outside_io.specs.declared.whole.ReadError.{ReadError}
 use Rattle.outside_io.specs.declared.whole.ReadError.TheVariants.{Failed, TooLong, Memory}
@@ -8,20 +8,13 @@ use Rattle.outside_io.specs.declared.whole.ReadError.TheVariants.{Failed, TooLon
 abbrev pub limit : ℕ
 limit = 2 ^ 24
 
--- the bytes are the file's, where it is told
-abbrev pub IsTold : Option (List ℕ) → List ℕ → Type 0
-IsTold None bytes = ⊤
-IsTold (Some file) bytes = file ≡ bytes
+abbrev pub IsLong : List ℕ → Type 0
+IsLong file = limit < length file
 
--- the bytes are the whole file, and within the limit
+-- the bytes are the whole file, where it is told, and within the limit
 pub record IsWhole (held : Option (List ℕ)) (bytes : List ℕ) : Type 0 where
-  pub told : IsTold held bytes
+  pub told : IfSome held (λ file. file ≡ bytes)
   pub within : length bytes ≤ limit
-
--- the file is over the limit, where it is told
-abbrev pub IsOverLimit : Option (List ℕ) → Type 0
-IsOverLimit None = ⊤
-IsOverLimit (Some file) = limit < length file
 
 -- the answers where nothing is held under the name
 abbrev pub IsMissing : ReadError → Type 0

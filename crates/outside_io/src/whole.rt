@@ -1,8 +1,8 @@
 //! Whole files are read, and whole texts are written, in blocks.
-ghost use Rattle.std.specs.Prelude.{◌≡◌, ◌≤◌, ◌<◌, List, ℕ, Err, length, vec_len, IfOk, IsErrAnd, IsTrue, OnOk, OnErr};
+ghost use Rattle.std.specs.Prelude.{◌≡◌, ◌≤◌, ◌<◌, List, ℕ, Err, length, vec_len, IfOk, IfSome, IsErrAnd, IsTrue, OnOk, OnErr};
 ghost use Rattle.std.specs.Io.KnownBytes.{Appends};
 ghost use Rattle.outside_io.specs.Faults.{Rose, NoneFell, KeepsOthers};
-ghost use Rattle.outside_io.specs.Whole.{IsMissing, IsWhole, IsOverLimit, WritesFront};
+ghost use Rattle.outside_io.specs.Whole.{IsMissing, IsLong, IsWhole, WritesFront};
 ghost use Rattle.outside_io.specs.declared.whole.ReadError.TheVariants.{Memory};
 
 use crate::{Failed, Shelf, Sink};
@@ -50,7 +50,7 @@ fn read_blocks<F: Shelf>(
 ) -> Result<Vec<u8>, ReadError>
     requires { 0 < length block.old }
     ensures whole { IfOk result (λ bytes. IsWhole (F.held shelf.old name.now) bytes.items) }
-    ensures long { result ≡ Err ReadError.TooLong → IsOverLimit (F.held shelf.old name.now) }
+    ensures long { result ≡ Err ReadError.TooLong → IfSome (F.held shelf.old name.now) IsLong }
     ensures cause { result ≡ Err ReadError.Failed → Rose (F.faults shelf.old) (F.faults shelf.new) }
     ensures by_name { result ≡ Err ReadError.Failed
         → Rose (F.missed shelf.old name.now) (F.missed shelf.new name.now) }
@@ -75,7 +75,7 @@ fn read_blocks<F: Shelf>(
 /// Reads a file to its end, or to the first byte over the limit of 2^24 bytes.
 pub fn read_whole<F: Shelf>(alloc: Global, shelf: &mut F, name: &str) -> Result<Vec<u8>, ReadError>
     ensures whole { IfOk result (λ bytes. IsWhole (F.held shelf.old name.now) bytes.items) }
-    ensures long { result ≡ Err ReadError.TooLong → IsOverLimit (F.held shelf.old name.now) }
+    ensures long { result ≡ Err ReadError.TooLong → IfSome (F.held shelf.old name.now) IsLong }
     ensures cause { result ≡ Err ReadError.Failed → Rose (F.faults shelf.old) (F.faults shelf.new) }
     ensures by_name { result ≡ Err ReadError.Failed
         → Rose (F.missed shelf.old name.now) (F.missed shelf.new name.now) }

@@ -1,7 +1,0 @@
-use Rattle.std.proofs.Common.{◌≡◌, ◌++◌, take}
-use Rattle.birdcore.specs.Report.{entries_text}
-use Rattle.birdcore.specs.ReportParts.{names_in}
-use Rattle.birdcore.proofs.journal_text.write_entries.Given as goal
-
-abbrev pub invariant-loop-index : goal.invariant-loop-index
-invariant-loop-index l = l.out.items ≡ l.initial.out.items ++ entries_text (names_in l.protocols) l.from (take l.index l.entries)

@@ -1,8 +1,0 @@
-use Rattle.std.proofs.Common.{◌≡◌, ◌++◌, take}
-use Rattle.std.specs.List.{flat_map}
-use Rattle.birdcore.specs.Report.{journal_text}
-use Rattle.birdcore.specs.ReportParts.{names_in}
-use Rattle.birdcore.proofs.journal_text.write_journals.Given as goal
-
-abbrev pub invariant-loop-journal : goal.invariant-loop-journal
-invariant-loop-journal l = l.out.items ≡ l.initial.out.items ++ flat_map (journal_text (names_in l.protocols)) (take l.journal-index l.journals)

@@ -1,7 +1,0 @@
-use Rattle.std.proofs.Common.{◌≡◌, ◌++◌, take}
-use Rattle.std.specs.List.{flat_map}
-use Rattle.birdcore.specs.Report.{protocol_text}
-use Rattle.birdcore.proofs.report_text.write_protocols.Given as goal
-
-abbrev pub invariant-loop-protocol : goal.invariant-loop-protocol
-invariant-loop-protocol l = l.out.items ≡ l.initial.out.items ++ flat_map protocol_text (take l.protocol-index l.protocols)

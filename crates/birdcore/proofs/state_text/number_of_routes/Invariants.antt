@@ -1,6 +1,0 @@
-use Rattle.std.proofs.Common.{◌≡◌, ◌≤◌, ◌*◌, ◌^◌, take}
-use Rattle.attrs.specs.Table.{count_routes}
-use Rattle.birdcore.proofs.state_text.number_of_routes.Given as goal
-
-abbrev pub invariant-loop-row : goal.invariant-loop-row
-invariant-loop-row l = (l.total ≡ count_routes (take l.row-index l.rows)) × (l.total ≤ l.row-index * 2 ^ 64)

@@ -1,8 +1,0 @@
-use Rattle.std.proofs.Common.{◌≡◌, ◌++◌, take}
-use Rattle.std.specs.List.{flat_map}
-use Rattle.birdcore.specs.Report.{row_text}
-use Rattle.birdcore.specs.ReportParts.{names_in}
-use Rattle.birdcore.proofs.state_text.write_rows.Given as goal
-
-abbrev pub invariant-loop-row : goal.invariant-loop-row
-invariant-loop-row l = l.out.items ≡ l.initial.out.items ++ flat_map (row_text (names_in l.protocols)) (take l.row-index l.rows)

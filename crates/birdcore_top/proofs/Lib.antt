@@ -1,0 +1,6 @@
+pub mod Views
+pub mod Built
+pub mod SaidOnce
+pub mod Outcomes
+pub mod Decided
+pub mod PlaySteps

@@ -1,0 +1,6 @@
+pub mod Command
+pub mod Config
+pub mod Play
+pub mod Run
+pub mod Outcome
+pub mod Answer
