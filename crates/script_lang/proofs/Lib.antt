@@ -5,3 +5,7 @@ mod CommandParts
 mod AddParts
 mod CommunityWords
 mod ScriptLines
+mod Agreement
+mod BadLines
+mod ToldWords
+mod ToldLines
