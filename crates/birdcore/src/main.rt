@@ -1,10 +1,11 @@
 //! The program: it plays a script over a configuration, and reports what came about.
 //!
-//! All that it does is one call, `birdcore_top::top`, over the system's files and standard output. Here
+//! All that it does is one call, `top`, over the system's files and standard output. Here
 //! the status that comes back becomes a line on standard error and an exit status.
 #![tactic(auto)]
 
-use birdcore_top::{Status, top};
+use birdcore_top::Status;
+use birdcore_top::top::top;
 use outside_io::{FileShelf, OpenGate, StdSink};
 use std::env;
 use std::io::ErrorKind;

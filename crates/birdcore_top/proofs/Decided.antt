@@ -11,19 +11,22 @@ use Rattle.birdcore_top.specs.declared.status.Status.TheVariants as variants
 use Rattle.birdcore_top.specs.Command.{Command, Play}
 use Rattle.birdcore_top.specs.Outcome.{Outcome, Misused, OverLimit, Refused, Unbuilt, BadLine, Played, Held, Configures, IsAccepted, ConfGives, ScriptGives, IsPossible, IsRequired, IfReport, files_read}
 use Rattle.birdcore_top.specs.Answer.{Answers, HasCause, MissesInTurn, NoneFailed, SinkTakes}
-use Rattle.birdcore_top.proofs.SaidOnce.{SaysOnce}
-use Rattle.birdcore_top.proofs.Outcomes.{one_outcome, accepted_not_required}
 
-module _ (once : SaysOnce) (command : Option Command) (held : Held) (o : Outcome) (required : IsRequired command held o) where
+-- the law `files_have_one_outcome`
+pub record HasOneOutcome : Type 0 where
+  pub accepted : (name : List ℕ) (conf : Option (List ℕ)) (o : Outcome) → ConfGives IsSomeAnd name conf o → IfSome conf IsAccepted → ⊥
+  pub one : (command : Option Command) (held : Held) (o p : Outcome) → IsRequired command held o → IsPossible command held p → p ≡ o
+
+module _ (law : HasOneOutcome) (command : Option Command) (held : Held) (o : Outcome) (required : IsRequired command held o) where
   from_cause : (status : Status) (p : Outcome) → IsPossible command held p → Answers p status → Answers o status
-  from_cause status p may answers = subst (λ (q : Outcome). Answers q status) (one_outcome once command held o p required may) answers
+  from_cause status p may answers = subst (λ (q : Outcome). Answers q status) (law.one command held o p required may) answers
 
   -- a report is written only where the outcome is a play
   written : (P : List ℕ → Type 0) (before now : ℕ) → IfReport command held P → SinkTakes o before now → Rose before now → ⊥
-  written P before now report takes = subst (λ (q : Outcome). SinkTakes q before now) (sym (one_outcome once command held o (Played report.config report.lines) required report.played)) takes
+  written P before now report takes = subst (λ (q : Outcome). SinkTakes q before now) (sym (law.one command held o (Played report.config report.lines) required report.played)) takes
 
 -- a file that decides an outcome has failed
-module _ (once : SaysOnce) (conf script : List ℕ) (held : Held) (before now : List ℕ → ℕ) where
+module _ (law : HasOneOutcome) (conf script : List ℕ) (held : Held) (before now : List ℕ → ℕ) where
   conf_failed : (o : Outcome) → ConfGives IsSomeAnd conf (held conf) o → All (λ name. Rose (before name) (now name) → ⊥) (files_read (Play conf script) o) → Rose (before conf) (now conf) → ⊥
   conf_failed (OverLimit word) is none rose = none 0 conf (omega arith) rose
   conf_failed (Refused l c k) is none rose = none 0 conf (omega arith) rose
@@ -53,28 +56,28 @@ module _ (once : SaysOnce) (conf script : List ℕ) (held : Held) (before now : 
   not_in_turn : (o : Outcome) → IsRequired (Some (Play conf script)) held o → All (λ name. Rose (before name) (now name) → ⊥) (files_read (Play conf script) o)
       → MissesInTurn (Play conf script) held before now → ⊥
   not_in_turn o (inl is) none (inl rose) = conf_failed o is none rose
-  not_in_turn o (inl is) none (inr later) = accepted_not_required once conf (held conf) o is later.0
+  not_in_turn o (inl is) none (inr later) = law.accepted conf (held conf) o is later.0
   not_in_turn o (inr is) none (inl rose) = script_conf_failed is.0 o is.2 none rose
   not_in_turn o (inr is) none (inr later) = script_failed is.0 o is.2 none later.1
 
 -- no read failed that decides the outcome
-calm : (once : SaysOnce) (command : Option Command) (held : Held) (before now : List ℕ → ℕ) (o : Outcome) → IsRequired command held o → NoneFailed command o before now
+calm : (law : HasOneOutcome) (command : Option Command) (held : Held) (before now : List ℕ → ℕ) (o : Outcome) → IsRequired command held o → NoneFailed command o before now
     → IsSomeAnd command (λ c. MissesInTurn c held before now) → ⊥
-calm once None held before now o required none missed = missed
-calm once (Some (Play conf script)) held before now o required none missed = not_in_turn once conf script held before now o required none missed
+calm law None held before now o required none missed = missed
+calm law (Some (Play conf script)) held before now o required none missed = not_in_turn law conf script held before now o required none missed
 
 -- the answer is the one that is required, or want of memory
-pub exact : (once : SaysOnce) (command : Option Command) (held : Held) (before now : List ℕ → ℕ) (old new : ℕ) (P : List ℕ → Type 0) (status : Status) → HasCause (IsPossible command held) status
+pub exact : (law : HasOneOutcome) (command : Option Command) (held : Held) (before now : List ℕ → ℕ) (old new : ℕ) (P : List ℕ → Type 0) (status : Status) → HasCause (IsPossible command held) status
     → (status ≡ ReadFault → IsSomeAnd command (λ c. MissesInTurn c held before now)) → (status ≡ WriteFault → Rose old new) → (status ≡ WriteFault → IfReport command held P)
     → (o : Outcome) → IsRequired command held o → NoneFailed command o before now → SinkTakes o old new → Answers o status ⊎ (status ≡ OutOfMemory)
-exact once command held before now old new P variants.Ok cause read write front o required none takes = let found = cause refl in inl (from_cause once command held o required variants.Ok found.0 found.1 found.2)
-exact once command held before now old new P Usage cause read write front o required none takes = let found = cause refl in inl (from_cause once command held o required Usage found.0 found.1 found.2)
-exact once command held before now old new P (ConfigRefused l c k) cause read write front o required none takes =
-    let found = cause refl in inl (from_cause once command held o required (ConfigRefused l c k) found.0 found.1 found.2)
-exact once command held before now old new P (TooLong word) cause read write front o required none takes =
-    let found = cause refl in inl (from_cause once command held o required (TooLong word) found.0 found.1 found.2)
-exact once command held before now old new P (NotBuilt file line) cause read write front o required none takes =
-    let found = cause refl in inl (from_cause once command held o required (NotBuilt file line) found.0 found.1 found.2)
-exact once command held before now old new P ReadFault cause read write front o required none takes = absurd (calm once command held before now o required none (read refl))
-exact once command held before now old new P WriteFault cause read write front o required none takes = absurd (written once command held o required P old new (front refl) takes (write refl))
-exact once command held before now old new P OutOfMemory cause read write front o required none takes = inr refl
+exact law command held before now old new P variants.Ok cause read write front o required none takes = let found = cause refl in inl (from_cause law command held o required variants.Ok found.0 found.1 found.2)
+exact law command held before now old new P Usage cause read write front o required none takes = let found = cause refl in inl (from_cause law command held o required Usage found.0 found.1 found.2)
+exact law command held before now old new P (ConfigRefused l c k) cause read write front o required none takes =
+    let found = cause refl in inl (from_cause law command held o required (ConfigRefused l c k) found.0 found.1 found.2)
+exact law command held before now old new P (TooLong word) cause read write front o required none takes =
+    let found = cause refl in inl (from_cause law command held o required (TooLong word) found.0 found.1 found.2)
+exact law command held before now old new P (NotBuilt file line) cause read write front o required none takes =
+    let found = cause refl in inl (from_cause law command held o required (NotBuilt file line) found.0 found.1 found.2)
+exact law command held before now old new P ReadFault cause read write front o required none takes = absurd (calm law command held before now o required none (read refl))
+exact law command held before now old new P WriteFault cause read write front o required none takes = absurd (written law command held o required P old new (front refl) takes (write refl))
+exact law command held before now old new P OutOfMemory cause read write front o required none takes = inr refl

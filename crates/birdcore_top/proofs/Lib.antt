@@ -4,3 +4,5 @@ pub mod SaidOnce
 pub mod Outcomes
 pub mod Decided
 pub mod PlaySteps
+pub mod Machine
+pub mod OptionOrder

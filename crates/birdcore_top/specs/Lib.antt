@@ -1,5 +1,6 @@
 pub mod Command
 pub mod Config
+pub mod OptionKinds
 pub mod Play
 pub mod Run
 pub mod Outcome

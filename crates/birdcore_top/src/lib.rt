@@ -12,11 +12,9 @@
 
 mod config;
 pub mod laws;
-mod play;
+pub mod play;
 mod status;
-mod top;
+pub mod top;
 
 pub use config::{Config, ConfigFault, read_config};
-pub use play::play;
 pub use status::Status;
-pub use top::top;

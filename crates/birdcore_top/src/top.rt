@@ -10,15 +10,12 @@ ghost use Rattle.birdcore_top.specs.Outcome.{Outcome, OverLimit, Played, Configu
 ghost use Rattle.birdcore_top.specs.Answer.{Answers, HasCause, MissesInTurn, NoneFailed, SinkTakes, IsMissed, FindsLacked, FindsLackedBy, IsReadStatus, Stops, writes};
 
 use crate::config::{Config, read_config};
-use crate::laws::texts_say_one_thing;
+use crate::laws::files_have_one_outcome;
 use crate::play::play;
 use crate::status::Status;
 use bits_ip::OutOfMemory;
 use outside_io::{Failed, Gate, ReadError, Shelf, Sink, read_whole, write_whole};
 use report::write_report;
-use script_lang::laws::{
-    a_text_has_one_bad_line, a_text_is_one_script, scripts_have_no_bad_line,
-};
 use script_lang::{Line, ScriptFault, read_script};
 use std::alloc::Global;
 
@@ -65,10 +62,7 @@ pub fn top<R, F: Shelf, K: Sink, G: Gate + Sync>(
     // A file that the shelf tells it doesn't hold is never taken for an empty one.
     ensures absent { FindsLacked (command_of words.now) (F.lacks shelf.old) (F.held shelf.old) result }
 {
-    texts_say_one_thing();
-    a_text_is_one_script();
-    a_text_has_one_bad_line();
-    scripts_have_no_bad_line();
+    files_have_one_outcome();
     run(alloc, words, shelf, out)
 }
 

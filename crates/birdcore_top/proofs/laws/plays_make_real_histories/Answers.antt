@@ -1,0 +1,8 @@
+use Rattle.birdcore_top.proofs.Machine.{history_is_real, log_is_one}
+use Rattle.birdcore_top.proofs.laws.plays_make_real_histories.Goals as goal
+
+pub returns-clause-real : goal.returns-clause-real
+returns-clause-real c = history_is_real
+
+pub returns-clause-log : goal.returns-clause-log
+returns-clause-log c = log_is_one
