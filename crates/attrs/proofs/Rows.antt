@@ -6,7 +6,7 @@ use Rattle.std.proofs.lemmas.Option.{same_Some}
 use Rattle.std.proofs.lemmas.Bool.Decides.{nat_tests}
 use Rattle.attrs.specs.declared.route.Route.{Route}
 use Rattle.attrs.specs.Selection.{Rule, Lower, Higher, before_by, before, IsBest, selection_rules}
-use Rattle.attrs.specs.Table.{IsBeforeAll, IsInOrder, HasNone, IsOfSources, route_of}
+use Rattle.attrs.specs.Table.{IsBeforeAll, IsInOrder, IsSorted, HasNone, IsOfSources, route_of}
 use Rattle.attrs.proofs.Same.{same_or_not}
 
 -- no route is before itself
@@ -52,10 +52,19 @@ pub before_each : (r : Route) (rest : List Route) → IsBeforeAll r rest → (ot
 before_each r [] all other h = absurd (Contains-nothing other h)
 before_each r (next ∷ rest) all other h = ⊎_elim (λ e. subst (λ (x : Route). before r x ≡ true) e all.0) (λ k. before_each r rest all.1 other k) (Contains-cons_cases next rest other h)
 
--- the first route of a row is the best
+-- the first route in order is the best
 pub IsBest-first : (r : Route) (rest : List Route) → IsInOrder (r ∷ rest) → IsBest (r ∷ rest) (Some r)
-IsBest-first r rest order =
-    ((0, omega arith, refl), λ other among differs. ⊎_elim (λ e. absurd (differs (sym e))) (λ k. before_each r rest order.0 other k) (Contains-cons_cases r rest other among))
+IsBest-first r rest order = order.0
+
+-- a route that is before all others is the best
+best_before_all : (r : Route) (rest : List Route) → IsBeforeAll r rest → IsBest (r ∷ rest) (Some r)
+best_before_all r rest all =
+    ((0, omega arith, refl), λ other among differs. ⊎_elim (λ e. absurd (differs (sym e))) (λ k. before_each r rest all other k) (Contains-cons_cases r rest other among))
+
+-- routes of which each is before all that follow it are in order
+pub in_order-from_sorted : (routes : List Route) → IsSorted routes → IsInOrder routes
+in_order-from_sorted [] h = tt
+in_order-from_sorted (r ∷ rest) h = (best_before_all r rest h.0, in_order-from_sorted rest h.1)
 
 -- there is one best route
 pub IsBest-one : (routes : List Route) (a b : Option Route) → IsBest routes a → IsBest routes b → a ≡ b
@@ -70,6 +79,22 @@ Contains-first x xs = (0, omega arith, refl)
 
 Contains-behind : {X : Type 0} → (x : X) (xs : List X) (y : X) → Contains xs y → Contains (x ∷ xs) y
 Contains-behind x xs y (k, h, e) = (suc k, omega arith, e)
+
+-- a route that is before the others of some of other sources
+before_others :
+    (r : Route) (xs : List Route) → HasNone r.src.num xs → ((other : Route) → Contains xs other → (other ≡ r → ⊥) → before r other ≡ true) → IsBeforeAll r xs
+before_others r [] none best = tt
+before_others r (x ∷ xs) none best =
+    (best x (Contains-first x xs) (λ e. none.0 (ap (λ (q : Route). q.src.num) e)), before_others r xs none.1 (λ other among. best other (Contains-behind x xs other among)))
+
+-- of routes in order, of different sources, each is before all that follow it
+pub sorted-from_in_order : (routes : List Route) → IsOfSources routes → IsInOrder routes → IsSorted routes
+sorted-from_in_order [] s h = tt
+sorted-from_in_order (r ∷ rest) s h =
+    (before_others r rest s.0 (λ other among. h.0.1 other (Contains-behind r rest other among)), sorted-from_in_order rest s.1 h.1)
+
+pub order_sorted : (routes : List Route) → IsOfSources routes → (IsInOrder routes → IsSorted routes) × (IsSorted routes → IsInOrder routes)
+order_sorted routes s = (sorted-from_in_order routes s, in_order-from_sorted routes)
 
 -- a route that is found stands there
 pub found_among : (num : ℕ) (routes : List Route) (r : Route) → route_of num routes ≡ Some r → Contains routes r
@@ -98,7 +123,7 @@ first_found r rest = cond-true _ _ _ (eq-eqb r.src.num r.src.num refl)
 -- another route that is found stands behind the first
 is_or_before : (r : Route) (rest : List Route) (q : Route) → IsInOrder (r ∷ rest) → route_of q.src.num (r ∷ rest) ≡ Some q → (r ≡ q) ⊎ (before r q ≡ true)
 is_or_before r rest q order h =
-    ⊎_elim (λ e. inl e) (λ k. inr (before_each r rest order.0 q k)) (Contains-cons_cases r rest q (found_among q.src.num (r ∷ rest) q h))
+    ⊎_elim (λ e. inl e) (λ ne. inr (order.0.1 q (found_among q.src.num (r ∷ rest) q h) (λ e. ne (sym e)))) (same_or_not r q)
 
 same_first :
     (q r : Route) (qs rs : List Route) → IsInOrder (q ∷ qs) → IsInOrder (r ∷ rs) → ((num : ℕ) → route_of num (q ∷ qs) ≡ route_of num (r ∷ rs)) → q ≡ r

@@ -1,11 +1,5 @@
 -- Which of two routes of a net is preferred: the first rule that tells them apart decides.
-use Rattle.std.specs.Prelude.{◌≡◌, ℕ, ◌+◌, Bool, true, false, ◌&&◌, ◌||◌, ◌==◌, nat_lt, List, [], ◌∷◌, length, Option, Some, None, unwrap_or, IsTrue, IsSome, Contains}
-use Rattle.bits_ip.specs.declared.address.Addr.{Addr}
-use Rattle.bits_ip.specs.declared.address.Addr.TheVariants.{V4, V6}
-use Rattle.attrs.specs.declared.attributes.Origin.{Origin}
-use Rattle.attrs.specs.declared.attributes.Origin.TheVariants.{Igp, Egp, Incomplete}
-use Rattle.attrs.specs.declared.attributes.Kind.{Kind}
-use Rattle.attrs.specs.declared.attributes.Kind.TheVariants.{Static, Bgp}
+use Rattle.std.specs.Prelude.{◌≡◌, ℕ, Bool, false, ◌&&◌, ◌||◌, ◌==◌, nat_lt, List, [], ◌∷◌, Option, Some, None, IsTrue, Contains}
 use Rattle.attrs.specs.declared.route.Route.{Route}
 
 -- a rule prefers the lower or the higher of a number that it reads off a route

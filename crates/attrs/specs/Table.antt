@@ -1,19 +1,24 @@
 -- A content as rows: what a table shows.
-use Rattle.std.specs.Prelude.{◌≡◌, ◌≢◌, ℕ, ◌+◌, Bool, true, false, ◌&&◌, ◌==◌, List, [], ◌∷◌, length, Option, Some, None, find, if◌then◌else◌, sum_by, IsTrue, ⊤}
+use Rattle.std.specs.Prelude.{◌≡◌, ◌≢◌, ℕ, ◌==◌, List, [], ◌∷◌, length, Option, Some, find, if◌then◌else◌, sum_by, IsTrue, ⊤}
 use Rattle.bits_ip.specs.Prefix.{Net, same_net, precedes}
 use Rattle.attrs.specs.declared.route.Route.{Route}
 use Rattle.attrs.specs.declared.route.Row.{Row}
-use Rattle.attrs.specs.Selection.{before}
+use Rattle.attrs.specs.Selection.{before, IsBest}
 use Rattle.attrs.specs.History.{Content}
+
+-- selection order: the best of the routes, and behind it the others in their order
+abbrev pub IsInOrder : List Route → Type 0
+IsInOrder [] = ⊤
+IsInOrder (r ∷ rest) = IsBest (r ∷ rest) (Some r) × IsInOrder rest
 
 -- each route is before all that follow it
 abbrev pub IsBeforeAll : Route → List Route → Type 0
 IsBeforeAll r [] = ⊤
 IsBeforeAll r (next ∷ rest) = IsTrue (before r next) × IsBeforeAll r rest
 
-abbrev pub IsInOrder : List Route → Type 0
-IsInOrder [] = ⊤
-IsInOrder (r ∷ rest) = IsBeforeAll r rest × IsInOrder rest
+abbrev pub IsSorted : List Route → Type 0
+IsSorted [] = ⊤
+IsSorted (r ∷ rest) = IsBeforeAll r rest × IsSorted rest
 
 -- no two have one source
 abbrev pub HasNone : ℕ → List Route → Type 0

@@ -1,18 +1,32 @@
 ghost use Rattle.std.specs.Prelude.{◌≡◌, ◌↔◌, IfOk, IsTrue};
+ghost use Rattle.attrs.specs.Text.{dest_text, kind_text, origin_text};
 
 use crate::{Clist, Path};
 use bits_ip::{Addr, OutOfMemory};
 
 /// Where a route came from (RFC 4271, section 4.3, ORIGIN).
-#[derive(Clone, Copy, Debug, PartialEq, Eq)]
+#[derive(Clone, Copy, Debug, PartialEq, Eq, Hash)]
 pub enum Origin {
     Igp,
     Egp,
     Incomplete,
 }
 
+impl Origin {
+    /// The word by which scripts and texts of attributes name it.
+    pub fn word(self) -> &'static str
+        ensures { result.now ≡ origin_text self }
+    {
+        match self {
+            Origin::Igp => "igp",
+            Origin::Egp => "egp",
+            Origin::Incomplete => "incomplete",
+        }
+    }
+}
+
 /// What is done with a packet for the net.
-#[derive(Clone, Copy, Debug, PartialEq, Eq)]
+#[derive(Clone, Copy, Debug, PartialEq, Eq, Hash)]
 pub enum Dest {
     Unicast,
     Blackhole,
@@ -20,11 +34,37 @@ pub enum Dest {
     Prohibit,
 }
 
+impl Dest {
+    /// The word by which BIRD names it in `show route`, and a static route in the configuration.
+    pub fn word(self) -> &'static str
+        ensures { result.now ≡ dest_text self }
+    {
+        match self {
+            Dest::Unicast => "unicast",
+            Dest::Blackhole => "blackhole",
+            Dest::Unreachable => "unreachable",
+            Dest::Prohibit => "prohibit",
+        }
+    }
+}
+
 /// By which kind of protocol a route was learned.
-#[derive(Clone, Copy, Debug, PartialEq, Eq)]
+#[derive(Clone, Copy, Debug, PartialEq, Eq, Hash)]
 pub enum Kind {
     Static,
     Bgp,
+}
+
+impl Kind {
+    /// The protocol's name in the configuration, in small letters.
+    pub fn word(self) -> &'static str
+        ensures { result.now ≡ kind_text self }
+    {
+        match self {
+            Kind::Static => "static",
+            Kind::Bgp => "bgp",
+        }
+    }
 }
 
 /// The attributes of a route (BIRD User's Guide, section 5.5, "Route attributes", and BGP's attributes).

@@ -1,6 +1,6 @@
 ghost use Rattle.std.specs.Prelude.{◌≡◌, ◌≤◌, ◌==◌, ◌↔◌, ◌++◌, [], ◌∷◌, length, Err, IsTrue, IsFalse, IsOk, IfOk, OnOk, OnErr};
 ghost use Rattle.attrs.specs.declared.clist.ClistFault.TheVariants.{Memory};
-ghost use Rattle.attrs.specs.Clist.{has_pair};
+ghost use Rattle.attrs.specs.Clist.{has_pair, IsClist};
 
 use bits_ip::OutOfMemory;
 use std::alloc::{AllocFailed, Global};
@@ -56,8 +56,26 @@ impl Clist {
         }
     }
 
+    /// The list of these communities. Takes no memory.
+    pub fn from_vec(pairs: Vec<(u16, u16)>) -> Clist
+        requires { IsClist pairs.items }
+        ensures { result ≡ pairs.items }
+    {
+        Clist { pairs }
+    }
+
+    /// The communities as a `Vec`. Takes no memory.
+    pub fn into_vec(self) -> Vec<(u16, u16)>
+        ensures value { result.items ≡ self }
+        ensures is { IsClist self }
+    {
+        let Clist { pairs } = self;
+        pairs
+    }
+
     pub fn as_slice(&self) -> &[(u16, u16)]
         ensures value { result.now ≡ self.now }
+        ensures is { IsClist self.now }
     {
         self.pairs.as_slice()
     }

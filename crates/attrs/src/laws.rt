@@ -1,9 +1,9 @@
-ghost use Rattle.std.specs.Prelude.{◌≡◌, ◌≢◌, ℕ, List, [], ◌∷◌, ◌++◌, Option, Some};
+ghost use Rattle.std.specs.Prelude.{◌≡◌, ◌≢◌, ◌↔◌, ℕ, List, [], ◌∷◌, ◌++◌, Option, Some};
 ghost use Rattle.bits_ip.specs.Prefix.{Net};
 ghost use Rattle.attrs.specs.declared.route.Change.{Change};
 ghost use Rattle.attrs.specs.History.{Content, after, IsReal};
 ghost use Rattle.attrs.specs.Selection.{IsBest};
-ghost use Rattle.attrs.specs.Table.{IsInOrder, Shows};
+ghost use Rattle.attrs.specs.Table.{IsInOrder, IsOfSources, IsSorted, Shows};
 ghost use Rattle.attrs.specs.declared.route.Route.{Route};
 ghost use Rattle.attrs.specs.declared.route.Row.{Row};
 
@@ -15,6 +15,11 @@ pub fn changes_add_up()
 /// A history of real changes stays one with a change that differs from what stands for its key.
 pub fn real_changes_add_up()
     ensures { (start : Content) (changes : List Change) (c : Change) → IsReal start changes → (after start changes c.net c.num ≢ c.new) → IsReal start (changes ++ c ∷ []) }
+{}
+
+/// Routes of different sources are in selection order exactly where each is before all that follow it.
+pub fn order_is_sorted()
+    ensures { (routes : List Route) → IsOfSources routes → IsInOrder routes ↔ IsSorted routes }
 {}
 
 /// The first of a net's routes in selection order is the best.

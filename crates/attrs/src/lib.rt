@@ -16,4 +16,6 @@ pub use clist::{Clist, ClistFault};
 pub use path::{Path, PathFault};
 pub use route::{Change, Route, Row, Select, Src};
 pub use seq::Seq;
-pub use text::attr_text;
+pub use text::{
+    attr_text, write_communities, write_optional_number, write_spaced_numbers, write_spaced_pairs,
+};

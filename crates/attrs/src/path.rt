@@ -1,4 +1,4 @@
-ghost use Rattle.std.specs.Prelude.{◌≡◌, ◌≤◌, ◌<◌, ◌==◌, ◌↔◌, [], ◌∷◌, length, Err, IfOk, OnOk, OnErr, MatchOption};
+ghost use Rattle.std.specs.Prelude.{◌≡◌, ◌<◌, ◌≤◌, ◌==◌, ◌↔◌, [], ◌∷◌, length, Err, IfOk, OnOk, OnErr, MatchOption};
 ghost use Rattle.attrs.specs.declared.path.PathFault.TheVariants.{Memory};
 
 use bits_ip::OutOfMemory;
@@ -62,7 +62,7 @@ impl Path {
         Path { numbers }
     }
 
-    /// The path of these numbers, and none where there are over 120. Takes no memory.
+    /// The path of these numbers, where they are at most 120. Takes no memory.
     pub fn try_from_vec(numbers: Vec<u32>) -> Option<Path>
         ensures { MatchOption result (120 < length numbers.items) (λ path. (path ≡ numbers.items) × (length numbers.items ≤ 120)) }
     {

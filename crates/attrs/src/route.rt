@@ -4,7 +4,7 @@ use crate::{Attrs, Seq};
 use bits_ip::{OutOfMemory, Prefix};
 
 /// The protocol that a route comes from: its number, and the values that stand for missing ones of its routes.
-#[derive(Clone, Copy, Debug, PartialEq, Eq)]
+#[derive(Clone, Copy, Debug, PartialEq, Eq, Hash)]
 pub struct Src {
     pub num: u32,
     /// What counts as the MED where there is none.
@@ -36,7 +36,7 @@ pub struct Row {
 }
 
 /// Which nets of a table are asked for.
-#[derive(Clone, Copy, Debug, PartialEq, Eq)]
+#[derive(Clone, Copy, Debug, PartialEq, Eq, Hash)]
 pub enum Select {
     All,
 }

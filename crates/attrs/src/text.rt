@@ -3,9 +3,8 @@ ghost use Rattle.std.specs.List.{flat_map};
 ghost use Rattle.bits_ip.specs.Text.{addr_text};
 ghost use Rattle.attrs.specs.Text.{attrs_text, community_text, dest_text, kind_text, list_text, optional_text, origin_text, peer_text};
 
-use crate::{Attrs, Clist, Dest, Kind, Origin, Path};
-use bits_ip::{Addr, OutOfMemory, write_addr};
-use itoa::Buffer;
+use crate::{Attrs, Clist, Kind, Origin, Path};
+use bits_ip::{Addr, OutOfMemory, write_addr, write_number};
 use std::alloc::Global;
 
 /// Appends the attributes as one line without its end: the fields in their order, without what is absent or empty.
@@ -37,9 +36,9 @@ fn write_head(attrs: &Attrs, out: &mut Vec<u8>) -> Result<(), OutOfMemory>
     out.extend_from_slice(b"pref ")?;
     write_number(attrs.pref, out)?;
     out.push(b' ')?;
-    out.extend_from_slice(kind_word(attrs.kind).as_bytes())?;
+    out.extend_from_slice(attrs.kind.word().as_bytes())?;
     out.push(b' ')?;
-    out.extend_from_slice(dest_word(attrs.dest).as_bytes())?;
+    out.extend_from_slice(attrs.dest.word().as_bytes())?;
     Ok(())
 }
 
@@ -70,45 +69,8 @@ fn write_metrics(attrs: &Attrs, out: &mut Vec<u8>) -> Result<(), OutOfMemory>
     write_optional_number(" igp ", attrs.igp, out)
 }
 
-fn kind_word(kind: Kind) -> &'static str
-    ensures { result.now ≡ kind_text kind }
-{
-    match kind {
-        Kind::Static => "static",
-        Kind::Bgp => "bgp",
-    }
-}
-
-fn dest_word(dest: Dest) -> &'static str
-    ensures { result.now ≡ dest_text dest }
-{
-    match dest {
-        Dest::Unicast => "unicast",
-        Dest::Blackhole => "blackhole",
-        Dest::Unreachable => "unreachable",
-        Dest::Prohibit => "prohibit",
-    }
-}
-
-fn origin_word(origin: Origin) -> &'static str
-    ensures { result.now ≡ origin_text origin }
-{
-    match origin {
-        Origin::Igp => "igp",
-        Origin::Egp => "egp",
-        Origin::Incomplete => "incomplete",
-    }
-}
-
-fn write_number(number: u32, out: &mut Vec<u8>) -> Result<(), OutOfMemory>
-    ensures { OnOk result (out.new.items ≡ out.old.items ++ decimal number) }
-{
-    let mut buffer = Buffer::new();
-    out.extend_from_slice(buffer.format(number).as_bytes())?;
-    Ok(())
-}
-
-fn write_optional_number(
+/// Appends a label and a number in decimal, where there is a number. On refusal a part of it may stand.
+pub fn write_optional_number(
     label: &str,
     number: Option<u32>,
     out: &mut Vec<u8>,
@@ -144,7 +106,7 @@ fn write_optional_origin(origin: Option<Origin>, out: &mut Vec<u8>) -> Result<()
         return Ok(());
     };
     out.extend_from_slice(b" origin ")?;
-    out.extend_from_slice(origin_word(origin).as_bytes())?;
+    out.extend_from_slice(origin.word().as_bytes())?;
     Ok(())
 }
 
@@ -171,8 +133,8 @@ fn write_path(path: &Path, out: &mut Vec<u8>) -> Result<(), OutOfMemory>
     write_spaced_numbers(path.as_slice(), out)
 }
 
-/// Appends each number, with a space before it.
-fn write_spaced_numbers(numbers: &[u32], out: &mut Vec<u8>) -> Result<(), OutOfMemory>
+/// Appends each number in decimal, with a space before it. On refusal a part of it may stand.
+pub fn write_spaced_numbers(numbers: &[u32], out: &mut Vec<u8>) -> Result<(), OutOfMemory>
     ensures { OnOk result (out.new.items ≡ out.old.items ++ flat_map (λ number. 32 ∷ decimal number) numbers.now) }
 {
     for number in numbers {
@@ -182,7 +144,8 @@ fn write_spaced_numbers(numbers: &[u32], out: &mut Vec<u8>) -> Result<(), OutOfM
     Ok(())
 }
 
-fn write_communities(communities: &Clist, out: &mut Vec<u8>) -> Result<(), OutOfMemory>
+/// Appends ` com` and each community, where there are some. On refusal a part of it may stand.
+pub fn write_communities(communities: &Clist, out: &mut Vec<u8>) -> Result<(), OutOfMemory>
     ensures { OnOk result (out.new.items ≡ out.old.items ++ list_text (codes " com") community_text communities.now) }
 {
     if communities.is_empty() {
@@ -192,15 +155,16 @@ fn write_communities(communities: &Clist, out: &mut Vec<u8>) -> Result<(), OutOf
     write_spaced_pairs(communities.as_slice(), out)
 }
 
-/// Appends each pair, with a space before it.
-fn write_spaced_pairs(pairs: &[(u16, u16)], out: &mut Vec<u8>) -> Result<(), OutOfMemory>
+/// Appends each community as `SYSTEM:VALUE` in decimal, with a space before it (RFC 1997). On refusal a part of it may
+/// stand.
+pub fn write_spaced_pairs(pairs: &[(u16, u16)], out: &mut Vec<u8>) -> Result<(), OutOfMemory>
     ensures { OnOk result (out.new.items ≡ out.old.items ++ flat_map (λ pair. 32 ∷ community_text pair) pairs.now) }
 {
     for (system, value) in pairs {
         out.push(b' ')?;
-        write_number(u32::from(*system), out)?;
+        write_number(*system, out)?;
         out.push(b':')?;
-        write_number(u32::from(*value), out)?;
+        write_number(*value, out)?;
     }
     Ok(())
 }

@@ -1,4 +1,5 @@
 pub mod Address
+pub mod Numbers
 pub mod Parts
 pub mod Prefix
 pub mod Text

@@ -20,6 +20,10 @@ pub record IsPrefix (addr : Addr) (len : ℕ) : Type 0 where
 abbrev pub front_bits : Addr → ℕ → ℕ
 front_bits addr len = number_of addr / 2 ^ (width_of addr - len)
 
+-- the bit at this place, the first at 0
+abbrev pub bit_at : Addr → ℕ → ℕ
+bit_at addr i = number_of addr / 2 ^ (width_of addr - 1 - i) % 2
+
 -- a covers b: one family, a isn't longer, and the bits of a agree
 pub record Covers (a b : Net) : Type 0 where
   pub family : family_of a.addr ≡ family_of b.addr

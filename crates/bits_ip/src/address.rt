@@ -3,14 +3,14 @@ ghost use Rattle.bits_ip.specs.Address.{family_rank, number_of, width_of};
 ghost use Rattle.bits_ip.specs.Prefix.{front_bits};
 
 /// The two families of internet addresses.
-#[derive(Clone, Copy, Debug, PartialEq, Eq)]
+#[derive(Clone, Copy, Debug, PartialEq, Eq, Hash)]
 pub enum Family {
     V4,
     V6,
 }
 
 /// An address. Its number has the address's first bit as the greatest.
-#[derive(Clone, Copy, Debug, PartialEq, Eq)]
+#[derive(Clone, Copy, Debug, PartialEq, Eq, Hash)]
 pub enum Addr {
     V4(u32),
     V6(u128),

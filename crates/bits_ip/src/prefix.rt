@@ -1,17 +1,19 @@
 ghost use Rattle.std.specs.Prelude.{◌≡◌, ◌↔◌, ◌≤◌, ◌<◌, ◌-◌, ◌/◌, ◌%◌, ◌^◌, IsTrue, IfOk, OnErr};
 ghost use Rattle.bits_ip.specs.Address.{family_of};
-ghost use Rattle.bits_ip.specs.Prefix.{Covers, IsPrefix, precedes, net_cmp};
+ghost use Rattle.bits_ip.specs.Prefix.{bit_at, Covers, IsPrefix, precedes, net_cmp};
 
 use crate::{Addr, Family};
 use std::cmp::Ordering;
 use std::marker::Model;
+use thiserror::Error;
 
 /// No prefix has this length, or has these host bits.
-#[derive(Clone, Copy, Debug, PartialEq, Eq)]
+#[derive(Clone, Copy, Debug, PartialEq, Eq, Drop, Error)]
+#[error("no prefix has this length or these host bits")]
 pub struct NotPrefix;
 
 /// A prefix: an address whose bits behind the length are zero.
-#[derive(Clone, Copy, Debug, PartialEq, Eq)]
+#[derive(Clone, Copy, Debug, PartialEq, Eq, Hash)]
 pub struct Prefix {
     addr: Addr,
     len: u8,
@@ -65,6 +67,14 @@ impl Prefix {
             Addr::V4(_) => Family::V4,
             Addr::V6(_) => Family::V6,
         }
+    }
+
+    /// The bit at this place, the first at 0, of those that count.
+    pub fn bit(&self, i: u8) -> bool
+        requires { i < self.now.len }
+        ensures { IsTrue result ↔ (bit_at self.now.addr i ≡ 1) }
+    {
+        self.addr.front_bits(i + 1) % 2 == 1
     }
 
     /// One family, not longer than the other, and its bits are the other's first.

@@ -22,7 +22,7 @@ pub fn read_addr(text: &[u8]) -> Result<(Addr, usize), BadText>
     ensures bad { OnErr result ((addr : Addr) → IsAddrText (addr_run text.now) addr → ⊥) }
 {
     let run = front_of_address_bytes(text);
-    match addr_of(run) {
+    match parse_addr(run) {
         Some(addr) => Ok((addr, run.len())),
         None => Err(BadText),
     }
@@ -35,7 +35,7 @@ pub fn read_prefix(text: &[u8]) -> Result<(Prefix, usize), BadText>
     ensures bad { OnErr result ((net : Net) → IsNetText (net_run text.now) net → ⊥) }
 {
     let run = front_of_prefix_bytes(text);
-    match prefix_of(run) {
+    match parse_prefix(run) {
         Some(net) => Ok((net, run.len())),
         None => Err(BadText),
     }
@@ -77,11 +77,12 @@ fn is_address_byte(byte: u8) -> bool
     byte.is_ascii_hexdigit() || byte == b'.' || byte == b':'
 }
 
-/// The address that the whole text spells.
-fn addr_of(text: &[u8]) -> Option<Addr>
+/// Reads the address that the whole text spells: IPv4 in dotted decimals without leading zeros,
+/// IPv6 in the first two forms of RFC 4291, section 2.2. Any other text gives nothing.
+pub fn parse_addr(text: &[u8]) -> Option<Addr>
     ensures { MatchOption result ((addr : Addr) → IsAddrText text.now addr → ⊥) (λ addr. IsAddrText text.now addr) }
 {
-    match v4_of(text) {
+    match parse_v4(text) {
         Some(number) => Some(Addr::V4(number)),
         None => {
             let number = v6_of(text)?;
@@ -90,18 +91,20 @@ fn addr_of(text: &[u8]) -> Option<Addr>
     }
 }
 
-/// The prefix that the whole text spells.
-fn prefix_of(text: &[u8]) -> Option<Prefix>
+/// Reads the prefix that the whole text spells: an address, a slash and a length without leading
+/// zeros, such that each bit behind the length is zero. Any other text gives nothing.
+pub fn parse_prefix(text: &[u8]) -> Option<Prefix>
     ensures { MatchOption result ((net : Net) → IsNetText text.now net → ⊥) (λ net. IsNetText text.now net) }
 {
     let (front, digits) = split_at(text, b'/')?;
-    let addr = addr_of(front)?;
+    let addr = parse_addr(front)?;
     let len = octet_of(digits)?;
     Prefix::make(addr, len).ok()
 }
 
-/// Four numbers below 256, with a dot between each two.
-fn v4_of(text: &[u8]) -> Option<u32>
+/// Reads the IPv4 address that the whole text spells: four numbers below 256 without leading zeros,
+/// with a dot between each two. Any other text gives nothing.
+pub fn parse_v4(text: &[u8]) -> Option<u32>
     ensures { MatchOption result ((n : ℕ) → IsAddrText text.now (V4 n) → ⊥) (λ n. IsAddrText text.now (V4 n)) }
 {
     let (first, rest) = octet_before_dot(text)?;

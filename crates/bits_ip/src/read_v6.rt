@@ -1,7 +1,9 @@
-ghost use Rattle.std.specs.Prelude.{◌≡◌, ◌+◌, ◌*◌, ◌-◌, ◌<◌, ◌≤◌, ◌^◌, ℕ, ◌==◌, ◌↔◌, IsTrue, length, slice_index, MatchOption};
+ghost use Rattle.std.specs.Prelude.{◌≡◌, ◌+◌, ◌*◌, ◌-◌, ◌<◌, ◌≤◌, ◌^◌, ℕ, ◌==◌, length, MatchOption};
 ghost use Rattle.std.specs.List.{slice_split};
 ghost use Rattle.bits_ip.specs.Parts.{group_words, values, AreWords, AreBeside, IsRow};
 ghost use Rattle.bits_ip.specs.Text.{groups, IsGroup, IsV6Text, IsWhole};
+
+use crate::numbers::begins_with_plus;
 
 /// Groups one behind the other: how many, and their bits as one number.
 #[derive(Clone, Copy)]
@@ -98,13 +100,4 @@ fn group_of(word: &str) -> Option<u16>
         return None;
     }
     u16::from_str_radix(word, 16).ok()
-}
-
-fn begins_with_plus(word: &[u8]) -> bool
-    ensures { IsTrue result ↔ (slice_index word.now 0 ≡ 43) }
-{
-    match word.first() {
-        Some(b'+') => true,
-        _ => false,
-    }
 }

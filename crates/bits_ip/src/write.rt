@@ -1,9 +1,9 @@
-ghost use Rattle.std.specs.Prelude.{◌≡◌, ◌++◌, ◌<◌, ◌^◌, decimal, OnOk, OnErr};
+ghost use Rattle.std.specs.Prelude.{◌≡◌, ◌++◌, OnOk, OnErr};
 ghost use Rattle.bits_ip.specs.Text.{addr_text, net_text, v4_text};
 
 use crate::ipv6::write_v6;
+use crate::numbers::write_number;
 use crate::{Addr, OutOfMemory, Prefix};
-use itoa::Buffer;
 use std::alloc::Global;
 
 /// Appends an address: IPv4 in dotted decimals, IPv6 as RFC 5952 says.
@@ -58,11 +58,4 @@ fn write_v4(number: u32, out: &mut Vec<u8>) -> Result<(), OutOfMemory>
     write_number(third, out)?;
     out.push(b'.')?;
     write_number(fourth, out)
-}
-
-fn write_number(number: u8, out: &mut Vec<u8>) -> Result<(), OutOfMemory>
-    ensures { OnOk result (out.new.items ≡ out.old.items ++ decimal number) }
-{
-    out.extend_from_slice(Buffer::new().format(number).as_bytes())?;
-    Ok(())
 }

@@ -1,7 +1,6 @@
--- What an announcement and a withdrawal are for a table.
--- Modelled: the attributes of an imported route, before any filter. Not modelled: filters, limits, and
--- what the table does with the change. From: RFC 4271, sections 5.1 and 5.1.5, and BIRD User's Guide,
--- "Route attributes".
+-- What an announcement and a withdrawal are for a table. Modelled: the attributes of an imported
+-- route, before any filter. Not modelled: filters, limits, and what the table does with the change.
+-- From: RFC 4271, sections 5.1 and 5.1.5, and BIRD User's Guide, "Route attributes".
 use Rattle.std.specs.Prelude.{ℕ, Option, Some, None, unwrap_or, if◌then◌else◌}
 use Rattle.bits_ip.specs.Prefix.{Net}
 use Rattle.attrs.specs.declared.attributes.Attrs.{Attrs}

@@ -1,7 +1,6 @@
--- What holds for all routes of a session of BGP.
--- Modelled: the defaults of one protocol, the first. Not modelled: options that change them.
--- From: BIRD User's Guide, BGP, `default bgp_med` and `default bgp_local_pref`, and the channel option
--- `preference`.
+-- What holds for all routes of a session of BGP. Modelled: the defaults of one protocol, the first.
+-- Not modelled: options that change them. From: BIRD User's Guide, BGP, `default bgp_med` and
+-- `default bgp_local_pref`, and the channel option `preference`.
 use Rattle.std.specs.Prelude.{ℕ, not, ◌==◌, Some}
 use Rattle.attrs.specs.declared.attributes.Kind.TheVariants.{Bgp}
 use Rattle.bits_ip.specs.declared.address.Addr.{Addr}

@@ -32,8 +32,8 @@ pub struct ImportSpec {
     pub pref: u32,
 }
 
-/// The first protocol, where it is one of BGP with these AS numbers, the own and the neighbour's, and
-/// a neighbour of this address.
+/// The first protocol, where it is one of BGP with these AS numbers, the own and the neighbour's,
+/// and a neighbour of this address.
 pub fn bgp_session(local: u32, remote: u32, neighbor: Addr) -> ImportSpec
     ensures { result ≡ bgp_session local remote neighbor }
 {

@@ -9,8 +9,8 @@ use bits_ip::{OutOfMemory, Prefix};
 /// The change that an announcement of a net is, in a session with a neighbour of this router id.
 ///
 /// The route has the spec's source, kind, neighbour and preference; its packets go to the given
-/// gateway. Its local preference is the given one on an internal session, and the default where none
-/// is given and on each external session (RFC 4271, section 5.1.5).
+/// gateway. Its local preference is the given one on an internal session, and the default where
+/// none is given and on each external session (RFC 4271, section 5.1.5).
 pub fn import(
     spec: &ImportSpec,
     id: u32,
@@ -30,7 +30,8 @@ pub fn import(
     })
 }
 
-/// The change that a withdrawal of a net is: no route of the spec's source stands there from now on.
+/// The change that a withdrawal of a net is: no route of the spec's source stands there from now
+/// on.
 pub fn withdraw(spec: &ImportSpec, net: &Prefix) -> Change
     ensures { result ≡ withdrawn spec.now net.now }
 {

@@ -1,7 +1,7 @@
--- The report's text: a function of what each phase reports.
--- Modelled: every byte of it. A part has a line or more; indentation is tabs, fields are separated by
--- one space, each line ends with a newline. Not modelled: where what is reported comes from. From: this
--- program's own format; attributes are written as specs/Text of attrs says.
+-- The report's text: a function of what each phase reports. Modelled: every byte of it. A part has
+-- a line or more; indentation is tabs, fields are separated by one space, each line ends with a
+-- newline. Not modelled: where what is reported comes from. From: this program's own format;
+-- attributes are written as specs/Text of attrs says.
 use Rattle.std.specs.Prelude.{ℕ, ◌+◌, Bool, true, false, if◌then◌else◌, List, [], ◌∷◌, ◌++◌, length, map, Option, Some, None, codes, decimal}
 use Rattle.std.specs.List.{flat_map}
 use Rattle.bits_ip.specs.Text.{net_text}
@@ -44,12 +44,15 @@ standing_text (Some route) = attrs_text route.attrs
 
 -- protocol NAME, and its operations
 abbrev pub protocol_text : ProtocolReport → List ℕ
-protocol_text p = codes "protocol " ++ p.name ++ codes "\n" ++ flat_map (λ op. line1 (op_text op)) p.ops
+protocol_text p =
+    codes "protocol " ++ p.name ++ codes "\n"
+    ++ flat_map (λ op. line1 (op_text op)) p.ops
 
 -- POS NET SOURCE ATTRS
 abbrev pub entry_text : List (List ℕ) → ℕ → Change → List ℕ
 entry_text names position c =
-    line1 (decimal position ++ 32 ∷ net_text c.net ++ 32 ∷ name_of names c.num ++ 32 ∷ standing_text c.new)
+    line1
+    (decimal position ++ 32 ∷ net_text c.net ++ 32 ∷ name_of names c.num ++ 32 ∷ standing_text c.new)
 
 -- entries at the positions behind this one
 abbrev pub entries_text : List (List ℕ) → ℕ → List Change → List ℕ
@@ -60,7 +63,8 @@ entries_text names position (c ∷ cs) =
 -- journal TABLE FROM TO, and its entries
 abbrev pub journal_text : List (List ℕ) → JournalReport → List ℕ
 journal_text names j =
-    codes "journal " ++ j.table ++ 32 ∷ decimal j.from ++ 32 ∷ decimal (j.from + length j.entries) ++ codes "\n"
+    codes "journal " ++ j.table ++ 32 ∷ decimal j.from ++ 32 ∷ decimal (j.from + length j.entries)
+    ++ codes "\n"
     ++ entries_text names j.from j.entries
 
 -- A channel's key and a space: NET, and of a pipe NET SOURCE.
@@ -98,19 +102,22 @@ channel_text names c =
 -- reply ACTOR TABLE POS, and the lines of its text
 abbrev pub reply_block : ReplyReport → List ℕ
 reply_block r =
-    codes "reply " ++ r.actor ++ 32 ∷ r.table ++ 32 ∷ decimal r.at ++ codes "\n" ++ flat_map line1 (lines_of r.text)
+    codes "reply " ++ r.actor ++ 32 ∷ r.table ++ 32 ∷ decimal r.at ++ codes "\n"
+    ++ flat_map line1 (lines_of r.text)
 
 -- NET SOURCE ATTRS, for each route of a net
 abbrev pub row_text : List (List ℕ) → Row → List ℕ
 row_text names row =
     flat_map
-    (λ route. line2 (net_text row.net ++ 32 ∷ name_of names route.src.num ++ 32 ∷ attrs_text route.attrs))
+    (λ route. line2
+    (net_text row.net ++ 32 ∷ name_of names route.src.num ++ 32 ∷ attrs_text route.attrs))
     row.routes
 
 -- table TABLE NETS ROUTES, and its routes
 abbrev pub table_text : List (List ℕ) → TableReport → List ℕ
 table_text names t =
-    line1 (codes "table " ++ t.name ++ 32 ∷ decimal (length t.rows) ++ 32 ∷ decimal (count_routes t.rows))
+    line1
+    (codes "table " ++ t.name ++ 32 ∷ decimal (length t.rows) ++ 32 ∷ decimal (count_routes t.rows))
     ++ flat_map (row_text names) t.rows
 
 abbrev pub mode_text : Mode → List ℕ
@@ -122,7 +129,9 @@ mode_text Limited = codes "limited"
 -- protocol NAME MODE ACCEPTED, and of a pipe protocol NAME MODE
 abbrev pub mode_line : ModeReport → List ℕ
 mode_line m =
-    line1 (codes "protocol " ++ m.name ++ 32 ∷ mode_text m.mode ++ optional_text (codes " ") decimal m.accepted)
+    line1
+    (codes "protocol " ++ m.name ++ 32 ∷ mode_text m.mode
+    ++ optional_text (codes " ") decimal m.accepted)
 
 -- NET ATTRS, and of a pipe NET SOURCE ATTRS
 abbrev pub standing_line : List (List ℕ) → Bool → Standing → List ℕ
@@ -132,7 +141,8 @@ standing_line names pipe s = line2 (key_text names pipe s.key ++ attrs_text s.at
 abbrev pub standing_block : List (List ℕ) → Bool → List ℕ → Option (List Standing) → List ℕ
 standing_block names pipe name None = line1 (codes "export " ++ name ++ codes " down")
 standing_block names pipe name (Some sent) =
-    line1 (codes "export " ++ name ++ 32 ∷ decimal (length sent)) ++ flat_map (standing_line names pipe) sent
+    line1 (codes "export " ++ name ++ 32 ∷ decimal (length sent))
+    ++ flat_map (standing_line names pipe) sent
 
 abbrev pub export_text : List (List ℕ) → ExportReport → List ℕ
 export_text names e = standing_block names e.pipe e.name e.standing

@@ -7,9 +7,8 @@ ghost use Rattle.report.specs.ReportParts.{names_in};
 use crate::phase::{ExportReport, ProtocolReport, Standing};
 use crate::place::write_key;
 use attrs::attr_text;
-use bits_ip::OutOfMemory;
+use bits_ip::{OutOfMemory, write_number};
 use std::alloc::Global;
-use text::write_number;
 
 /// Appends what stands as sent by each channel.
 pub(crate) fn write_exports(

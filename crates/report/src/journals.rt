@@ -7,9 +7,8 @@ ghost use Rattle.report.specs.ReportParts.{names_in};
 use crate::phase::{JournalReport, ProtocolReport};
 use crate::place::write_place;
 use attrs::{Change, Route, attr_text};
-use bits_ip::OutOfMemory;
+use bits_ip::{OutOfMemory, write_number};
 use std::alloc::Global;
-use text::{write_number, write_wide_number};
 
 /// Appends each table's changes of a phase.
 pub(crate) fn write_journals(
@@ -61,7 +60,7 @@ fn write_journal_head(journal: &JournalReport, out: &mut Vec<u8>) -> Result<(), 
     out.push(b' ')?;
     write_number(from, out)?;
     out.push(b' ')?;
-    write_wide_number(end, out)?;
+    write_number(end, out)?;
     out.push(b'\n')?;
     Ok(())
 }
@@ -97,7 +96,7 @@ fn write_entry(
         ++ entry_text (names_in protocols.now) position entry.now) }
 {
     out.push(b'\t')?;
-    write_wide_number(position, out)?;
+    write_number(position, out)?;
     out.push(b' ')?;
     write_place(alloc, protocols, &entry.net, entry.num, out)?;
     write_new(alloc, &entry.new, out)?;

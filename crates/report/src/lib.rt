@@ -1,17 +1,17 @@
 //! The report: the text of what came about in a phase, and of what stands at its end.
 //!
-//! A `PhaseReport` has a field for each part of the report, in the order in which they are written: what
-//! each protocol was told, what each table took, what each channel sent, what was replied; then the
-//! tables, the protocols and the channels as they stand. `phase_text` appends the text of a phase,
-//! `write_report` makes that of a whole report.
+//! A `PhaseReport` has a field for each part of the report, in the order in which they are written:
+//! what each protocol was told, what each table took, what each channel sent, what was replied;
+//! then the tables, the protocols and the channels as they stand. `phase_text` appends the text of
+//! a phase, `write_report` makes that of a whole report.
 //!
-//! Contracts see a phase as plain data, and its text by one function of specs/Report for each part. Two
-//! facts carry all: each writer appends the text of its part and nothing else, also where memory is
-//! refused, so what stood before can be restored by its length; and the parts of a list are written in
-//! its order (`flat_map`).
+//! Contracts see a phase as plain data, and its text by one function of specs/Report for each part.
+//! Two facts carry all: each writer appends the text of its part and nothing else, also where
+//! memory is refused, so what stood before can be restored by its length; and the parts of a list
+//! are written in its order (`flat_map`).
 //!
-//! Modules are named by the part that they write; `whole` joins them, and `place` writes nets with the
-//! names of sources.
+//! Modules are named by the part that they write; `whole` joins them, and `place` writes nets with
+//! the names of sources.
 #![tactic(auto)]
 
 mod exports;

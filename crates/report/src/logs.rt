@@ -7,10 +7,9 @@ ghost use Rattle.report.specs.ReportParts.{names_in};
 use crate::phase::{ChannelReport, ProtocolReport};
 use crate::place::write_key;
 use attrs::{Attrs, attr_text};
-use bits_ip::OutOfMemory;
+use bits_ip::{OutOfMemory, write_number};
 use export_core::{LogItem, Sending};
 use std::alloc::Global;
-use text::write_number;
 
 /// Appends each channel's log of a phase.
 pub(crate) fn write_channels(

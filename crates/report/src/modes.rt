@@ -5,9 +5,8 @@ ghost use Rattle.attrs.specs.Text.{optional_text};
 ghost use Rattle.report.specs.Report.{mode_line, mode_text};
 
 use crate::phase::ModeReport;
-use bits_ip::OutOfMemory;
+use bits_ip::{OutOfMemory, write_number};
 use import_core::Mode;
-use text::write_number;
 
 /// Appends each protocol's mode.
 pub(crate) fn write_modes(modes: &[ModeReport], out: &mut Vec<u8>) -> Result<(), OutOfMemory>

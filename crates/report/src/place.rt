@@ -27,8 +27,8 @@ pub(crate) fn write_place(
     Ok(())
 }
 
-/// Appends a channel's key: the net, and for a pipe the name of the source; each with a space behind
-/// it.
+/// Appends a channel's key: the net, and for a pipe the name of the source; each with a space
+/// behind it.
 pub(crate) fn write_key(
     alloc: Global,
     protocols: &[ProtocolReport],

@@ -5,8 +5,8 @@ ghost use Rattle.text.specs.Lines.{lines_of};
 ghost use Rattle.report.specs.Report.{line1, reply_block};
 
 use crate::phase::ReplyReport;
-use bits_ip::OutOfMemory;
-use text::{cut_line, write_number};
+use bits_ip::{OutOfMemory, write_number};
+use text::cut_line;
 
 /// Appends each reply to `show route`.
 pub(crate) fn write_replies(replies: &[ReplyReport], out: &mut Vec<u8>) -> Result<(), OutOfMemory>

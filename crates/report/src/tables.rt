@@ -8,9 +8,8 @@ ghost use Rattle.report.specs.ReportParts.{names_in, row_route_text};
 use crate::phase::{ProtocolReport, TableReport};
 use crate::place::write_place;
 use attrs::{Route, Row, attr_text};
-use bits_ip::{OutOfMemory, Prefix};
+use bits_ip::{OutOfMemory, Prefix, write_number};
 use std::alloc::Global;
-use text::{write_number, write_wide_number};
 
 /// Appends each table as it stands.
 pub(crate) fn write_tables(
@@ -54,7 +53,7 @@ fn write_table_head(table: &TableReport, out: &mut Vec<u8>) -> Result<(), OutOfM
     out.push(b' ')?;
     write_number(table.rows.len() as u64, out)?;
     out.push(b' ')?;
-    write_wide_number(number_of_routes(table.rows.as_slice()), out)?;
+    write_number(number_of_routes(table.rows.as_slice()), out)?;
     out.push(b'\n')?;
     Ok(())
 }

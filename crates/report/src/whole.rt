@@ -11,12 +11,11 @@ use crate::phase::PhaseReport;
 use crate::protocols::write_protocols;
 use crate::replies::write_replies;
 use crate::tables::write_tables;
-use bits_ip::OutOfMemory;
+use bits_ip::{OutOfMemory, write_number};
 use std::alloc::Global;
-use text::write_number;
 
-/// Appends the text of a phase. `OutOfMemory` comes where memory is refused, and nothing is appended
-/// then.
+/// Appends the text of a phase. `OutOfMemory` comes where memory is refused, and nothing is
+/// appended then.
 pub fn phase_text(phase: &PhaseReport, out: &mut Vec<u8>) -> Result<(), OutOfMemory>
     ensures written { OnOk result (out.new.items ≡ out.old.items ++ phase_text phase.now) }
     ensures refused { OnErr result (out.new.items ≡ out.old.items) }
@@ -59,7 +58,7 @@ fn write_phase_head(number: u32, out: &mut Vec<u8>) -> Result<(), OutOfMemory>
         (out.new.items ≡ out.old.items ++ codes "phase " ++ decimal number ++ codes "\n") }
 {
     out.extend_from_slice(b"phase ")?;
-    write_number(u64::from(number), out)?;
+    write_number(number, out)?;
     out.push(b'\n')?;
     Ok(())
 }

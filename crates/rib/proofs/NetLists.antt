@@ -11,11 +11,12 @@ use Rattle.attrs.specs.declared.route.Route.{Route}
 use Rattle.attrs.specs.declared.route.Change.{Change}
 use Rattle.attrs.specs.declared.route.Row.{Row}
 use Rattle.attrs.specs.Table.{AreRows, IsBelow, IsRow, count_routes, route_in, route_of, routes_of}
+use Rattle.attrs.proofs.Rows.{in_order-from_sorted, sorted-from_in_order}
 use Rattle.rib.specs.declared.nets.NetRoutes.{NetRoutes}
-use Rattle.rib.specs.Inside.{AreNets, AreOfFamily, HasRoom, HaveRoomAt, row_of, rows_of}
+use Rattle.rib.specs.Inside.{AreNets, HasRoom, HaveRoomAt, row_of, rows_of}
 use Rattle.rib.specs.declared.rib.Outcome.{Outcome}
 use Rattle.rib.specs.Outcome.{IfChanged}
-use Rattle.rib.specs.Rib.{first_of}
+use Rattle.rib.specs.Rib.{AreOfFamily, first_of}
 use Rattle.rib.specs.Steps.{AreBelow, AreRoutes, Changes, IsGapFor, IsNetAt, Leaves, Replaces}
 use Rattle.rib.proofs.OneNet.{Replaces-announced}
 use Rattle.rib.proofs.NetOrder.{same_net-from}
@@ -29,15 +30,15 @@ rows-join front back = map-append row_of front back
 
 -- ---- families
 
-family-out : (fam : Family) (front : List NetRoutes) (x : NetRoutes) (back : List NetRoutes) → AreOfFamily fam (front ++ x ∷ back) → AreOfFamily fam (front ++ back)
+family-out : (fam : Family) (front : List NetRoutes) (x : NetRoutes) (back : List NetRoutes) → AreOfFamily fam (rows_of (front ++ x ∷ back)) → AreOfFamily fam (rows_of (front ++ back))
 family-out fam [] x back h = h.1
 family-out fam (f ∷ front) x back h = (h.0, family-out fam front x back h.1)
 
-family-in : (fam : Family) (front : List NetRoutes) (x : NetRoutes) (back : List NetRoutes) → family_of x.net.addr ≡ fam → AreOfFamily fam (front ++ back) → AreOfFamily fam (front ++ x ∷ back)
+family-in : (fam : Family) (front : List NetRoutes) (x : NetRoutes) (back : List NetRoutes) → family_of x.net.addr ≡ fam → AreOfFamily fam (rows_of (front ++ back)) → AreOfFamily fam (rows_of (front ++ x ∷ back))
 family-in fam [] x back e h = (e, h)
 family-in fam (f ∷ front) x back e h = (h.0, family-in fam front x back e h.1)
 
-family-at : (fam : Family) (front : List NetRoutes) (x : NetRoutes) (back : List NetRoutes) → AreOfFamily fam (front ++ x ∷ back) → family_of x.net.addr ≡ fam
+family-at : (fam : Family) (front : List NetRoutes) (x : NetRoutes) (back : List NetRoutes) → AreOfFamily fam (rows_of (front ++ x ∷ back)) → family_of x.net.addr ≡ fam
 family-at fam [] x back h = h.0
 family-at fam (f ∷ front) x back h = family-at fam front x back h.1
 
@@ -103,7 +104,7 @@ filled : {r : Route} → r ∷ [] ≢ []
 filled e = absurd (cc)
 
 row-is : (x : NetRoutes) → x.routes.items ≢ [] → AreRoutes x.routes.items → IsRow (row_of x)
-row-is x filled are = record { filled = filled; order = are.order; sources = are.sources }
+row-is x filled are = record { filled = filled; order = in_order-from_sorted x.routes.items are.order; sources = are.sources }
 
 module _ (net : Net) (front : List NetRoutes) (x : NetRoutes) (back : List NetRoutes) (total : ℕ) (nets : AreNets (family_of net.addr) (front ++ x ∷ back) total) (is : x.net ≡ net) where
   leaves-set : (y : NetRoutes) (count : ℕ) → y.net ≡ x.net → AreRoutes y.routes.items → y.routes.items ≢ [] → count + length x.routes.items ≡ total + length y.routes.items
@@ -160,7 +161,7 @@ module _ (net : Net) (nets : List NetRoutes) (place total : ℕ) (x : NetRoutes)
   pub routes-here : AreRoutes x.routes.items
   routes-here =
       let row = row-at (family_of net.addr) (take place nets) x (drop (suc place) nets) total are-cut in
-      record { order = row.0.order; sources = row.0.sources }
+      record { order = sorted-from_in_order x.routes.items row.0.sources row.0.order; sources = row.0.sources }
 
   pub count-here : length x.routes.items ≤ total
   count-here = omega (arith, count-at (family_of net.addr) (take place nets) x (drop (suc place) nets) total are-cut)

@@ -4,7 +4,7 @@ use Rattle.std.proofs.lemmas.Bool.{cases_Bool, eqb-true, eqb-false, eq-eqb, ne_e
 use Rattle.std.specs.List.{position, position_or_len, insert, remove}
 use Rattle.attrs.specs.declared.route.Route.{Route}
 use Rattle.attrs.specs.Selection.{before}
-use Rattle.attrs.specs.Table.{IsBeforeAll, IsInOrder, HasNone, IsOfSources, route_of}
+use Rattle.attrs.specs.Table.{IsBeforeAll, IsSorted, HasNone, IsOfSources, route_of}
 use Rattle.rib.specs.Rib.{first_of}
 use Rattle.rib.specs.Steps.{AreRoutes, Replaces, without, placed, leads, goes_first}
 use Rattle.rib.proofs.Laws.{before-trans, before-total}
@@ -50,10 +50,10 @@ without-after : (num : ℕ) (a : Route) (xs : List Route) → IsBeforeAll a xs �
 without-after num a [] h = tt
 without-after num a (x ∷ xs) h = cases (IsBeforeAll a) (x.src.num == num) xs (x ∷ without num xs) (λ _. h.1) (λ _. (h.0, without-after num a xs h.1))
 
-without-order : (num : ℕ) (xs : List Route) → IsInOrder xs → IsInOrder (without num xs)
+without-order : (num : ℕ) (xs : List Route) → IsSorted xs → IsSorted (without num xs)
 without-order num [] h = tt
 without-order num (x ∷ xs) h =
-    cases IsInOrder (x.src.num == num) xs (x ∷ without num xs) (λ _. h.1) (λ _. (without-after num x xs h.0, without-order num xs h.1))
+    cases IsSorted (x.src.num == num) xs (x ∷ without num xs) (λ _. h.1) (λ _. (without-after num x xs h.0, without-order num xs h.1))
 
 without-are : (num : ℕ) (xs : List Route) → AreRoutes xs → AreRoutes (without num xs)
 without-are num xs are = record { order = without-order num xs are.order; sources = without-sources num xs are.sources }
@@ -92,10 +92,10 @@ before-all : (a b : Route) (xs : List Route) → IsTrue (before a b) → IsBefor
 before-all a b [] e h = tt
 before-all a b (x ∷ xs) e h = (before-trans a b x e h.0, before-all a b xs e h.1)
 
-placed-order : (r : Route) (xs : List Route) → HasNone r.src.num xs → IsInOrder xs → IsInOrder (placed r xs)
+placed-order : (r : Route) (xs : List Route) → HasNone r.src.num xs → IsSorted xs → IsSorted (placed r xs)
 placed-order r [] none h = (tt, tt)
 placed-order r (x ∷ xs) none h =
-    cases IsInOrder (before r x) (r ∷ x ∷ xs) (x ∷ placed r xs) (λ e. ((e, before-all r x xs e h.0), h))
+    cases IsSorted (before r x) (r ∷ x ∷ xs) (x ∷ placed r xs) (λ e. ((e, before-all r x xs e h.0), h))
     (λ e. (placed-after x r xs (before-total r x (λ same. none.0 (sym same)) e) h.0, placed-order r xs none.1 h.1))
 
 placed-are : (r : Route) (xs : List Route) → HasNone r.src.num xs → AreRoutes xs → AreRoutes (placed r xs)

@@ -1,13 +1,13 @@
 -- Room for a change, as it grows.
 use Rattle.std.proofs.Common.{◌≡◌, ℕ, ◌<◌, suc, zero, List, [], ◌∷◌, ◌++◌, length, take, drop, set, get_or, IsTrue, refl, sym, ap, ◌∙◌, subst, arith}
 use Rattle.std.proofs.lemmas.List.{take-append-drop}
-use Rattle.bits_ip.specs.Address.{family_of}
 use Rattle.bits_ip.specs.declared.address.Family.{Family}
 use Rattle.bits_ip.specs.Prefix.{Net, precedes}
 use Rattle.attrs.specs.declared.route.Row.{Row}
 use Rattle.attrs.specs.Table.{AreRows}
 use Rattle.rib.specs.declared.nets.NetRoutes.{NetRoutes}
-use Rattle.rib.specs.Inside.{AreOfFamily, HasRoom, HaveGrown, HaveRoomAt, row_of, rows_of}
+use Rattle.rib.specs.Inside.{HasRoom, HaveGrown, HaveRoomAt, row_of, rows_of}
+use Rattle.rib.specs.Rib.{AreOfFamily}
 use Rattle.rib.specs.Steps.{AreBelow, IsGapFor}
 use Rattle.rib.proofs.NetLists.{rows-behind}
 use Rattle.rib.proofs.NetOrder.{precedes-differs}
@@ -28,11 +28,8 @@ grown-rows [] (y ∷ now) h = absurd h
 grown-rows (x ∷ old) [] h = absurd h
 grown-rows (x ∷ old) (y ∷ now) h = ap (λ (r : Row). r ∷ rows_of now) h.0 ∙ ap (λ (l : List Row). row_of x ∷ l) (grown-rows old now h.2)
 
-pub grown-family : (fam : Family) (old now : List NetRoutes) → HaveGrown old now → AreOfFamily fam old → AreOfFamily fam now
-grown-family fam [] [] h are = tt
-grown-family fam [] (y ∷ now) h are = absurd h
-grown-family fam (x ∷ old) [] h are = absurd h
-grown-family fam (x ∷ old) (y ∷ now) h are = (ap (λ (r : Row). family_of r.net.addr) h.0 ∙ are.0, grown-family fam old now h.2 are.1)
+pub grown-family : (fam : Family) (old now : List NetRoutes) → HaveGrown old now → AreOfFamily fam (rows_of old) → AreOfFamily fam (rows_of now)
+grown-family fam old now h = subst (AreOfFamily fam) (sym (grown-rows old now h))
 
 pub grown-room : (net : Net) (old now : List NetRoutes) → HaveGrown old now → HaveRoomAt net old → HaveRoomAt net now
 grown-room net [] [] h room = tt

@@ -3,7 +3,6 @@ use Rattle.std.specs.Prelude.{◌≡◌, ◌<◌, ◌+◌, ◌^◌, ℕ, IsSome,
 use Rattle.std.specs.Vec.{vec_len, vec_capacity}
 use Rattle.std.specs.declared.alloc.Global.{Global}
 use Rattle.std.specs.declared.vec.Vec.{Vec}
-use Rattle.bits_ip.specs.Address.{family_of}
 use Rattle.bits_ip.specs.Prefix.{Net}
 use Rattle.bits_ip.specs.declared.address.Family.{Family}
 use Rattle.attrs.specs.declared.route.Route.{Route}
@@ -11,6 +10,7 @@ use Rattle.attrs.specs.declared.route.Row.{Row}
 use Rattle.attrs.specs.Table.{AreRows, count_routes}
 use Rattle.rib.specs.declared.nets.NetRoutes.{NetRoutes}
 use Rattle.rib.specs.declared.rib.Rib.TheInside.{Inside}
+use Rattle.rib.specs.Rib.{AreOfFamily}
 
 abbrev pub row_of : NetRoutes → Row
 row_of kept = record { net = kept.net; routes = kept.routes.items }
@@ -18,14 +18,10 @@ row_of kept = record { net = kept.net; routes = kept.routes.items }
 abbrev pub rows_of : List NetRoutes → List Row
 rows_of nets = map row_of nets
 
-abbrev pub AreOfFamily : Family → List NetRoutes → Type 0
-AreOfFamily family [] = ⊤
-AreOfFamily family (kept ∷ nets) = (family_of kept.net.addr ≡ family) × AreOfFamily family nets
-
 -- nets of one family in their order, with so many routes
 pub record AreNets (fam : Family) (nets : List NetRoutes) (count : ℕ) : Type 0 where
   pub rows : AreRows (rows_of nets)
-  pub family : AreOfFamily fam nets
+  pub family : AreOfFamily fam (rows_of nets)
   pub total : count ≡ count_routes (rows_of nets)
 
 -- one more element takes no memory
@@ -52,7 +48,7 @@ HaveGrown (x ∷ xs) [] = ⊥
 
 pub record IsRib (rib : Inside) : Type 0 where
   pub rows : AreRows (rows_of rib.nets.items)
-  pub family : AreOfFamily rib.family rib.nets.items
+  pub family : AreOfFamily rib.family (rows_of rib.nets.items)
   pub total : rib.total ≡ count_routes (rows_of rib.nets.items)
   pub counts : IsSome rib.room → rib.total + 1 < 2 ^ 64
   pub spare : rib.spare.items ≡ []

@@ -1,6 +1,7 @@
 -- A table: what contracts see of it.
-use Rattle.std.specs.Prelude.{ℕ, List, [], ◌∷◌, Option, Some, None}
+use Rattle.std.specs.Prelude.{◌≡◌, ℕ, List, [], ◌∷◌, Option, Some, None, ⊤}
 use Rattle.bits_ip.specs.declared.address.Family.{Family}
+use Rattle.bits_ip.specs.Address.{family_of}
 use Rattle.bits_ip.specs.Prefix.{Net}
 use Rattle.attrs.specs.declared.route.Route.{Route}
 use Rattle.attrs.specs.declared.route.Row.{Row}
@@ -11,6 +12,11 @@ pub record Table : Type 0 where
   pub family : Family
   pub rows : List Row
   pub room : Option (Net × ℕ)
+
+-- every row's net is of the family
+abbrev pub AreOfFamily : Family → List Row → Type 0
+AreOfFamily family [] = ⊤
+AreOfFamily family (row ∷ rows) = (family_of row.net.addr ≡ family) × AreOfFamily family rows
 
 -- the first of a net's routes, its best
 abbrev pub first_of : List Route → Option Route

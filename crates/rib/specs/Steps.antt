@@ -6,7 +6,7 @@ use Rattle.attrs.specs.declared.route.Change.{Change}
 use Rattle.attrs.specs.declared.route.Route.{Route}
 use Rattle.attrs.specs.declared.route.Row.{Row}
 use Rattle.attrs.specs.Selection.{before}
-use Rattle.attrs.specs.Table.{IsBelow, IsInOrder, IsOfSources, route_of, routes_of}
+use Rattle.attrs.specs.Table.{IsBelow, IsOfSources, IsSorted, route_of, routes_of}
 use Rattle.rib.specs.declared.nets.NetRoutes.{NetRoutes}
 use Rattle.rib.specs.Inside.{AreNets, rows_of}
 
@@ -30,9 +30,9 @@ abbrev pub goes_first : Route → List Route → Bool
 goes_first route [] = true
 goes_first route (r ∷ rest) = before route r
 
--- routes of different sources in selection order
+-- routes of different sources, each before all that follow it
 pub record AreRoutes (routes : List Route) : Type 0 where
-  pub order : IsInOrder routes
+  pub order : IsSorted routes
   pub sources : IsOfSources routes
 
 -- one source has another route now, or none

@@ -196,3 +196,24 @@ pub(crate) fn copy_rows(alloc: Global, nets: &[NetRoutes]) -> Result<Vec<Row>, O
     }
     Ok(rows)
 }
+
+fn move_row(kept: NetRoutes) -> Row
+    ensures { result ≡ row_of kept }
+{
+    let NetRoutes { net, routes } = kept;
+    Row {
+        net,
+        routes: Seq::from_vec(routes),
+    }
+}
+
+/// All rows, with the routes moved out of the nets.
+pub(crate) fn move_rows(nets: Vec<NetRoutes>) -> Result<Vec<Row>, OutOfMemory>
+    ensures { IfOk result (λ rows. rows.items ≡ rows_of nets.items) }
+{
+    let mut rows = Vec::with_capacity(*nets.allocator(), nets.len())?;
+    for kept in nets {
+        rows.push(move_row(kept))?;
+    }
+    Ok(rows)
+}

@@ -3,10 +3,10 @@ ghost use Rattle.bits_ip.specs.Address.{family_of};
 ghost use Rattle.bits_ip.specs.Prefix.{Net};
 ghost use Rattle.attrs.specs.History.{after};
 ghost use Rattle.attrs.specs.Table.{AreRows, route_in, count_routes};
-ghost use Rattle.rib.specs.Rib.{best_of};
+ghost use Rattle.rib.specs.Rib.{best_of, AreOfFamily};
 ghost use Rattle.rib.specs.Outcome.{IfChanged};
 
-use crate::nets::{NetRoutes, change_nets, copy_rows, find_routes, reserve_nets};
+use crate::nets::{NetRoutes, change_nets, copy_rows, find_routes, move_rows, reserve_nets};
 use crate::routes::{find_route, same_routes};
 use attrs::{Change, Route, Row, Select};
 use bits_ip::{Family, OutOfMemory, Prefix};
@@ -95,14 +95,25 @@ impl Rib {
         same_routes(find_route(routes, change.num), change.new.as_ref())
     }
 
-    /// A copy of the rows that are asked for, in the order of nets. OutOfMemory comes only where memory is refused.
+    /// A copy of the rows that are asked for, in the order of nets.
     pub fn select(&self, pick: &Select) -> Result<Vec<Row>, OutOfMemory>
         ensures rows { IfOk result (λ rows. rows.items ≡ self.now.rows) }
         ensures are_rows { AreRows self.now.rows }
+        ensures family { AreOfFamily self.now.family self.now.rows }
     {
         match pick {
             Select::All => copy_rows(*self.nets.allocator(), &self.nets),
         }
+    }
+
+    /// The rows themselves, in the order of nets. No route is copied: memory is taken for the list of rows alone.
+    pub fn into_rows(self) -> Result<Vec<Row>, OutOfMemory>
+        ensures rows { IfOk result (λ rows. rows.items ≡ self.rows) }
+        ensures are_rows { AreRows self.rows }
+        ensures family { AreOfFamily self.family self.rows }
+    {
+        let Rib { nets, .. } = self;
+        move_rows(nets)
     }
 
     /// How many routes there are.

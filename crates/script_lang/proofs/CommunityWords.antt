@@ -2,12 +2,15 @@
 use Rattle.std.proofs.Common.{◌≡◌, ◌∙◌, sym, ap, refl, subst, ℕ, ◌+◌, ◌<◌, ◌≤◌, ◌^◌, Bool, true, false, cond, eqb, ◌||◌, List, [], ◌∷◌, ◌++◌, length, length-append, arith, inl, inr, Result, Ok, Err, MatchResult}
 use Rattle.std.specs.Prelude.{codes, not, filter}
 use Rattle.std.specs.List.{list_all, take_while}
-use Rattle.std.proofs.lemmas.Bool.{false≢true, cases_Bool, and_parts, or_parts, eqb-true, not-false}
+use Rattle.std.specs.Int.{IsInRange}
+use Rattle.std.specs.Str.Parse.{AllDigits}
+use Rattle.std.proofs.lemmas.Bool.{false≢true, cases_Bool, and_from, and_parts, or_parts, eqb-true, not-false}
 use Rattle.std.proofs.lemmas.Bool.Decides.{nat_tests}
 use Rattle.std.proofs.lemmas.List.{append_assoc, append-nil}
 use Rattle.std.proofs.lemmas.List.Elements.{filter-append}
 use Rattle.std.proofs.lemmas.List.Folds.{list_all-append}
 use Rattle.std.proofs.lemmas.Map.Views.{any-filter_same}
+use Rattle.std.proofs.lemmas.Str.Parse.{digit_from_value}
 use Rattle.attrs.specs.Clist.{same_pair, has_pair}
 use Rattle.attrs.specs.declared.clist.ClistFault.{ClistFault}
 use Rattle.attrs.specs.declared.clist.ClistFault.TheVariants.{ClistLong, Memory}
@@ -18,7 +21,6 @@ use Rattle.script_lang.specs.Inside.{IfForm, refusal_of, is_no_colon, IsCut, wit
 use Rattle.text.specs.Cut.{first_passes}
 use Rattle.text.specs.Cut.{behind}
 use Rattle.text.proofs.Runs.{run_front, run_rest, run_whole, run_passes, run_stops}
-use Rattle.script_lang.proofs.AddressTexts.{TakesDigits, digits_all}
 use Rattle.script_lang.proofs.CommandParts.{form_more}
 use Rattle.script_lang.proofs.Options.{numbers_agree}
 
@@ -89,6 +91,14 @@ once_no_less front [] = omega (arith, ap (λ (l : List (ℕ × ℕ)). length (ea
 once_no_less front (p ∷ back) =
     let more = once_no_less (front ++ p ∷ []) back in
     omega (arith, more, with_no_less (each_once front) p, ap length (once_push front p), ap (λ (l : List (ℕ × ℕ)). length (each_once l)) (append_assoc front (p ∷ []) back))
+
+-- each decimal digit passes
+abbrev TakesDigits : (ℕ → Bool) → Type 0
+TakesDigits p = (c : ℕ) → IsInRange 48 57 c → p c ≡ true
+
+digits_all : (p : ℕ → Bool) → TakesDigits p → (ds : List ℕ) → AllDigits 10 ds → list_all p ds ≡ true
+digits_all p takes [] digits = refl
+digits_all p takes (c ∷ ds) digits = and_from (p c) (list_all p ds) (takes c (digit_from_value c digits.0)) (digits_all p takes ds digits.1)
 
 -- words
 colon_takes_digits : TakesDigits is_no_colon
@@ -241,7 +251,7 @@ refused_community ClistLong word old pair is full = λ other other_is. (
     omega (arith, size, ap (λ (x : ℕ × ℕ). length (with_pair old x)) (community_agree word pair other is other_is)))
 refused_community Memory word old pair is full = tt
 
-once_of_com : (words rest : List (List ℕ)) → words ≡ codes "com" ∷ rest → (coms : List (ℕ × ℕ)) → IsCom words coms → AreOnce rest coms
+pub once_of_com : (words rest : List (List ℕ)) → words ≡ codes "com" ∷ rest → (coms : List (ℕ × ℕ)) → IsCom words coms → AreOnce rest coms
 once_of_com words rest label coms (inl none) = let whole : [] ≡ codes "com" ∷ rest = sym none.0 ∙ label in cc
 once_of_com words rest label coms (inr given) =
     let whole : codes "com" ∷ given.first ∷ given.more ≡ codes "com" ∷ rest = sym given.whole ∙ label in

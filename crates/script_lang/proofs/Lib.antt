@@ -1,4 +1,4 @@
-mod AddressTexts
+mod NetTexts
 mod NumberRuns
 mod Options
 mod CommandParts

@@ -23,7 +23,7 @@ option_begins label words front rest None whole is other =
 option_begins label words front rest (Some n) whole is other = (is.0, whole ∙ ap (λ (l : List (List ℕ)). l ++ rest) is.1, is.2)
 
 -- one option begins some words
-option_same : (label : List ℕ) (words rest rest' : List (List ℕ)) (value value' : Option ℕ) → BeginWithOption label words value rest → BeginWithOption label words value' rest'
+pub option_same : (label : List ℕ) (words rest rest' : List (List ℕ)) (value value' : Option ℕ) → BeginWithOption label words value rest → BeginWithOption label words value' rest'
     → (value ≡ value') × (rest ≡ rest')
 option_same label words rest rest' None None one other = (refl, one.0 ∙ sym other.0)
 option_same label words rest rest' None (Some n) one other = absurd (one.1 (other.0 ∷ rest') other.1)
@@ -85,7 +85,7 @@ options_begin words med lp igp coms are = record {
       (com_begins_not (codes "igp") are.com_words coms igp_not_com are.com_is);
 }
 
-moved : (label : List ℕ) (words words' rest : List (List ℕ)) (value : Option ℕ) → words ≡ words' → BeginWithOption label words value rest → BeginWithOption label words' value rest
+pub moved : (label : List ℕ) (words words' rest : List (List ℕ)) (value : Option ℕ) → words ≡ words' → BeginWithOption label words value rest → BeginWithOption label words' value rest
 moved label words words' rest value same is = subst (λ (l : List (List ℕ)). BeginWithOption label l value rest) same is
 
 pub options_same : (words rest rest' : List (List ℕ)) (med lp igp med' lp' igp' : Option ℕ) → BeginWithOptions words med lp igp rest → BeginWithOptions words med' lp' igp' rest'

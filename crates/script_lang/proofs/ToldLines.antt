@@ -118,7 +118,7 @@ communities_of [] = inl ([], tt)
 communities_of (word ∷ words) = elim (found_community word) [
   | inl is ↦
       elim (communities_of words) [
-        | inl more ↦ inl (is.0 ∷ more.0, is.1, more.1)
+        | inl more ↦ inl (is.0 ∷ more.0, (is.1, more.1))
         | inr none ↦ inr (no_more_communities word words none)
       ]
   | inr none ↦ inr (no_first_community word words none)
@@ -203,7 +203,7 @@ via_four a b c d rest = elim (told_both (told_word b (codes "via")) (told_word d
       elim (found_net a) [
         | inl net ↦
             elim (found_address c) [
-              | inl gateway ↦ inl (net.0, gateway.0, rest, via_made a b c d rest net.0 gateway.0 net.1 net.2 labels.0 gateway.1 gateway.2 labels.1)
+              | inl gateway ↦ inl (net.0, gateway.0, rest, via_made a b c d rest net.0 gateway.0 net.1.0 net.1.1 labels.0 gateway.1.0 gateway.1.1 labels.1)
               | inr none ↦ inr (λ is. (
                   let same = parts_same _ _ _ _ _ _ _ _ _ _ is.3.whole in
                   none is.1 (subst (λ (w : List ℕ). IsAddrText w is.1) (sym same.2) is.3.gateway_is, is.3.gateway_family)))
@@ -292,11 +292,14 @@ add_of words = elim (via_of words) [
               | inl options ↦
                   elim (com_of options.3) [
                     | inl coms ↦
-                        inl (via.0, given_of via.1 path.0 path.1 options.0 options.1 options.2 coms.0,
-                          add_made words via.2 path.2 options.3 via.0 via.1 path.0 path.1 options.0 options.1 options.2 coms.0 via.3 path.3 options.4 coms.1)
+                        inl (
+                          via.0,
+                          given_of via.1 path.0 path.1 options.0 options.1 options.2 coms.0,
+                          add_made words via.2 path.2 options.3 via.0 via.1 path.0 path.1 options.0 options.1 options.2 coms.0 via.3 path.3 options.4 coms.1,
+                        )
                     | inr none ↦
                         inr (λ is.
-                          no_com_behind words via.2 path.2 options.3 via.0 via.1 path.0 path.1 options.0 options.1 options.2 via.3 path.3 options.4 none is.0 is.1 is.2)
+                        no_com_behind words via.2 path.2 options.3 via.0 via.1 path.0 path.1 options.0 options.1 options.2 via.3 path.3 options.4 none is.0 is.1 is.2)
                   ]
               | inr none ↦ inr (λ is. no_options_behind words via.2 path.2 via.0 via.1 path.0 path.1 via.3 path.3 none is.0 is.1 is.2)
             ]
@@ -309,7 +312,7 @@ add_of words = elim (via_of words) [
 open_of : (words : List (List ℕ)) → Told ((id : ℕ) × (words ≡ v4_text id ∷ []) × (id < 2 ^ 32))
 open_of [] = inr (λ is. no_words _ _ is.1)
 open_of (word ∷ []) = elim (found_id word) [
-  | inl is ↦ inl (is.0, ap (λ (w : List ℕ). w ∷ []) is.2, is.1)
+  | inl is ↦ inl (is.0, ap (λ (w : List ℕ). w ∷ []) is.1.1, is.1.0)
   | inr none ↦ inr (λ is. none is.0 (is.2, first_word word (v4_text is.0) [] [] is.1))
 ]
 open_of (word ∷ second ∷ words) = inr (λ is. no_words second words (sym (words_behind word (v4_text is.0) (second ∷ words) [] is.1)))
@@ -317,7 +320,7 @@ open_of (word ∷ second ∷ words) = inr (λ is. no_words second words (sym (wo
 del_of : (words : List (List ℕ)) → Told ((net : Net) × IsDel words net)
 del_of [] = inr (λ is. no_words _ _ is.1.whole)
 del_of (word ∷ []) = elim (found_net word) [
-  | inl is ↦ inl (is.0, record { word = word; whole = refl; net_is = is.1; family = is.2 })
+  | inl is ↦ inl (is.0, record { word = word; whole = refl; net_is = is.1.0; family = is.1.1 })
   | inr none ↦ inr (λ is. none is.0 (subst (λ (w : List ℕ). IsNetText w is.0) (sym (first_word word is.1.word [] [] is.1.whole)) is.1.net_is, is.1.family))
 ]
 del_of (word ∷ second ∷ words) = inr (λ is. no_words second words (sym (words_behind word is.1.word (second ∷ words) [] is.1.whole)))
@@ -333,15 +336,15 @@ route_of (word ∷ second ∷ words) = inr (λ is. no_words second words (sym (w
 -- a command, by its first word
 at_verb : (number : ℕ) (verb : Verb) (rest : List (List ℕ)) → Found (IsCommand number (verb_text verb ∷ rest))
 at_verb number verbs.Open rest = elim (open_of rest) [
-  | inl is ↦ inl (Apply number (SessionUp is.0), refl, ap (λ (l : List (List ℕ)). codes "open" ∷ l) is.1, is.2)
+  | inl is ↦ inl (Apply number (SessionUp is.0), (refl, (ap (λ (l : List (List ℕ)). codes "open" ∷ l) is.1, is.2)))
   | inr none ↦ inr (no_open number rest (λ id same small. none (id, same, small)))
 ]
 at_verb number verbs.Add rest = elim (add_of rest) [
-  | inl is ↦ inl (Apply number (Add is.0 is.1), refl, rest, refl, is.2)
+  | inl is ↦ inl (Apply number (Add is.0 is.1), (refl, (rest, refl, is.2)))
   | inr none ↦ inr (no_add number rest (λ net given is. none (net, given, is)))
 ]
 at_verb number verbs.Del rest = elim (del_of rest) [
-  | inl is ↦ inl (Apply number (Del is.0), refl, rest, refl, is.1)
+  | inl is ↦ inl (Apply number (Del is.0), (refl, (rest, refl, is.1)))
   | inr none ↦ inr (no_del number rest (λ net is. none (net, is)))
 ]
 at_verb number verbs.Show rest = elim (route_of rest) [

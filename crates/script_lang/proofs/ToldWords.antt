@@ -31,8 +31,8 @@ Found P = ((x : _) × P x) ⊎ ((x : _) → P x → ⊥)
 
 pub told_both : {P Q : Type 0} → Told P → Told Q → Told (P × Q)
 told_both (inl p) (inl q) = inl (p, q)
-told_both (inl p) (inr no) = inr (λ both. no both.1)
-told_both (inr no) q = inr (λ both. no both.0)
+told_both (inl p) (inr none) = inr (λ both. none both.1)
+told_both (inr none) q = inr (λ both. none both.0)
 
 pub told_less : (a b : ℕ) → Told (a < b)
 told_less a b = elim (leb_tells b a) [
@@ -73,10 +73,10 @@ none_more P k n none not_last small is = elim (leb_tells k n) [
 pub found_below : (P : ℕ → Type 0) → ((n : ℕ) → Told (P n)) → (k : ℕ) → Found (λ (n : ℕ). (n < k) × P n)
 found_below P each zero = inr (λ n is. omega (arith, is.0))
 found_below P each (suc k) = elim (each k) [
-  | inl is ↦ inl (k, omega arith, is)
+  | inl is ↦ inl (k, (omega arith, is))
   | inr not_last ↦
       elim (found_below P each k) [
-        | inl found ↦ inl (found.0, omega (arith, found.1), found.2)
+        | inl found ↦ inl (found.0, (omega (arith, found.1.0), found.1.1))
         | inr none ↦ inr (λ n is. none_more P k n none not_last is.0 is.1)
       ]
 ]
@@ -89,15 +89,15 @@ told_digits (b ∷ word) = told_both (told_less (digit_value b) 10) (told_digits
 pub found_number : (word : List ℕ) → Found (IsNumber word)
 found_number word = elim (told_both (told_both (told_less 0 (length word)) (told_digits word)) (told_less (digits_value 10 word) (2 ^ 32))) [
   | inl is ↦ inl (digits_value 10 word, record { numeral = (is.0.0, is.0.1); value = refl; fits = is.1 })
-  | inr no ↦ inr (λ n is. no ((is.numeral.0, is.numeral.1), subst (λ (m : ℕ). m < 2 ^ 32) (sym is.value) is.fits))
+  | inr none ↦ inr (λ n is. none ((is.numeral.0, is.numeral.1), subst (λ (m : ℕ). m < 2 ^ 32) (sym is.value) is.fits))
 ]
 
 pub found_part : (word : List ℕ) → Found (λ (n : ℕ). IsNumber word n × (n < 2 ^ 16))
 found_part word = elim (found_number word) [
   | inl is ↦
       elim (told_less is.0 (2 ^ 16)) [
-        | inl small ↦ inl (is.0, is.1, small)
-        | inr no ↦ inr (λ n other. no (subst (λ (m : ℕ). m < 2 ^ 16) (numbers_agree word n is.0 other.0 is.1) other.1))
+        | inl small ↦ inl (is.0, (is.1, small))
+        | inr big ↦ inr (λ n other. big (subst (λ (m : ℕ). m < 2 ^ 16) (numbers_agree word n is.0 other.0 is.1) other.1))
       ]
   | inr none ↦ inr (λ n other. none n other.0)
 ]
@@ -112,7 +112,7 @@ no_address word (V6 n) none is four = cc
 
 pub found_address : (word : List ℕ) → Found (λ (addr : Addr). IsAddrText word addr × (family_of addr ≡ families.V4))
 found_address word = elim (found_id word) [
-  | inl is ↦ inl (V4 is.0, (is.1, is.2), refl)
+  | inl is ↦ inl (V4 is.0, (is.1, refl))
   | inr none ↦ inr (λ addr is. no_address word addr none is.0 is.1)
 ]
 
@@ -125,27 +125,29 @@ HasLength word n = (len : ℕ) × (len < 33) × IsNet4 word n len
 told_length : (word : List ℕ) (n : ℕ) → Told (HasLength word n)
 told_length word n =
     elim (found_below (IsNet4 word n) (λ len. told_both (told_number (n % 2 ^ (32 - len)) 0) (told_word word (v4_text n ++ 47 ∷ decimal len))) 33) [
-      | inl is ↦ inl is
-      | inr none ↦ inr (λ is. none is.0 is.1)
+      | inl is ↦ inl (is.0, is.1.0, is.1.1)
+      | inr none ↦ inr (λ is. none is.0 (is.1, is.2))
     ]
 
 no_net : (word : List ℕ) (net : Net) (addr : Addr) → ((n : ℕ) → (n < 2 ^ 32) × HasLength word n → ⊥) → net.addr ≡ addr → IsNetText word net → family_of addr ≡ families.V4 → ⊥
 no_net word net (V4 n) none same is four =
     let prefix : IsPrefix (V4 n) net.len = subst (λ (a : Addr). IsPrefix a net.len) same is.prefix in
     let front : IsAddrText is.front (V4 n) = subst (λ (a : Addr). IsAddrText is.front a) same is.addr in
-    none n (front.0, net.len, omega (arith, prefix.within), prefix.host_bits, is.whole ∙ ap (λ (l : List ℕ). l ++ 47 ∷ decimal net.len) front.1)
+    none n (front.0, (net.len, omega (arith, prefix.within), (prefix.host_bits, is.whole ∙ ap (λ (l : List ℕ). l ++ 47 ∷ decimal net.len) front.1)))
 no_net word net (V6 n) none same is four = cc
 
 net_of : (word : List ℕ) (n : ℕ) → n < 2 ^ 32 → HasLength word n → (net : Net) × IsNetText word net × (family_of net.addr ≡ families.V4)
 net_of word n small is = (
   record { addr = V4 n; len = is.0 },
-  record { prefix = record { within = omega (arith, is.1); host_bits = is.2 }; front = v4_text n; addr = (small, refl); whole = is.3 },
+  record { prefix = record { within = omega (arith, is.1); host_bits = is.2.0 }; front = v4_text n; addr = (small, refl); whole = is.2.1 },
   refl,
 )
 
 pub found_net : (word : List ℕ) → Found (λ (net : Net). IsNetText word net × (family_of net.addr ≡ families.V4))
 found_net word = elim (found_below (HasLength word) (told_length word) (2 ^ 32)) [
-  | inl is ↦ inl (net_of word is.0 is.1 is.2)
+  | inl is ↦
+      let net = net_of word is.0 is.1.0 is.1.1 in
+      inl (net.0, (net.1, net.2))
   | inr none ↦ inr (λ net is. no_net word net net.addr none refl is.0 is.1)
 ]
 

@@ -1,8 +1,10 @@
 -- The parts of a line, as they are read one after the other.
 -- These definitions are for the private functions and the proofs; no public clause speaks of them.
--- Modelled: what a front of the words says, where no longer front says it. Not modelled: where in the line
--- a word stands. From: specs/Script, whose parts these are.
-use Rattle.std.specs.Prelude.{◌≡◌, ℕ, ◌^◌, ◌<◌, ◌≤◌, Bool, true, false, not, ◌==◌, ◌⊎◌, if◌then◌else◌, IsTrue, List, [], ◌∷◌, ◌++◌, length, codes, Option, None, Some, ⊤}
+-- Modelled: what a front of the words says, where no longer front says it. Not modelled: where in
+-- the line a word stands. From: specs/Script, whose parts these are.
+use Rattle.std.specs.Prelude.{◌≡◌, ℕ, ◌^◌, ◌<◌, ◌≤◌, Bool, true, false, not, ◌==◌, ◌⊎◌}
+use Rattle.std.specs.Prelude.{if◌then◌else◌, IsTrue, List, [], ◌∷◌, ◌++◌, length, codes, Option}
+use Rattle.std.specs.Prelude.{None, Some, ⊤}
 use Rattle.std.specs.List.{list_all}
 use Rattle.bits_ip.specs.Address.{family_of}
 use Rattle.bits_ip.specs.Prefix.{Net}
@@ -21,7 +23,8 @@ use Rattle.script_lang.specs.declared.refusal.Refusal.TheVariants.{Form, Memory}
 use Rattle.script_lang.specs.declared.commands.Verb.{Verb}
 use Rattle.script_lang.specs.declared.commands.Verb.TheVariants as verbs
 use Rattle.script_lang.specs.declared.script.Line.{Line}
-use Rattle.script_lang.specs.Script.{AreNumbers, AreCommunities, IsCommunity, IsOption, IsCom, each_once, is_passed, IsLine}
+use Rattle.script_lang.specs.Script.{AreNumbers, AreCommunities, IsCommunity, IsOption, IsCom}
+use Rattle.script_lang.specs.Script.{each_once, is_passed, IsLine}
 
 -- what a community that couldn't be added to a line's list says of the line
 abbrev pub refusal_of : ClistFault → Refusal
@@ -46,10 +49,12 @@ verb_text verbs.Show = codes "show"
 
 -- the first of these words spells no number
 abbrev pub HasNoNumber : List (List ℕ) → Type 0
-HasNoNumber words = (word : List ℕ) (more : List (List ℕ)) (n : ℕ) → words ≡ word ∷ more → IsNumber word n → ⊥
+HasNoNumber words =
+    (word : List ℕ) (more : List (List ℕ)) (n : ℕ) → words ≡ word ∷ more → IsNumber word n → ⊥
 
 -- The words begin with these numbers, and no further one, and go on with the rest.
-pub record BeginWithNumbers (words : List (List ℕ)) (numbers : List ℕ) (rest : List (List ℕ)) : Type 0 where
+pub record BeginWithNumbers (words : List (List ℕ)) (numbers : List ℕ) (rest : List (List ℕ))
+    : Type 0 where
   pub front : List (List ℕ)
   pub whole : words ≡ front ++ rest
   pub numbers_are : AreNumbers front numbers
@@ -62,7 +67,8 @@ pub record BeginWithNumber (words : List (List ℕ)) (n : ℕ) (rest : List (Lis
   pub number_is : IsNumber word n
 
 -- NET via IP path, and the rest
-pub record IsVia (words : List (List ℕ)) (net : Net) (gateway : Addr) (rest : List (List ℕ)) : Type 0 where
+pub record IsVia (words : List (List ℕ)) (net : Net) (gateway : Addr) (rest : List (List ℕ))
+    : Type 0 where
   pub net_word : List ℕ
   pub gateway_word : List ℕ
   pub whole : words ≡ net_word ∷ codes "via" ∷ gateway_word ∷ codes "path" ∷ rest
@@ -76,7 +82,8 @@ abbrev pub IsOrigin : List (List ℕ) → Origin → List (List ℕ) → Type 0
 IsOrigin words origin rest = words ≡ codes "origin" ∷ origin_text origin ∷ rest
 
 -- NUMBERS origin ORIGIN, and the rest
-pub record IsPathAndOrigin (words : List (List ℕ)) (path : List ℕ) (origin : Origin) (rest : List (List ℕ)) : Type 0 where
+pub record IsPathAndOrigin (words : List (List ℕ)) (path : List ℕ) (origin : Origin)
+    (rest : List (List ℕ)) : Type 0 where
   pub path_words : List (List ℕ)
   pub whole : words ≡ path_words ++ codes "origin" ∷ origin_text origin ∷ rest
   pub path_is : AreNumbers path_words path
@@ -89,14 +96,16 @@ BeginsNot label words = (more : List (List ℕ)) → words ≡ label ∷ more �
 -- An optional part at the front, and what follows it. Where it isn't there its label doesn't come.
 abbrev pub BeginWithOption : List ℕ → List (List ℕ) → Option ℕ → List (List ℕ) → Type 0
 BeginWithOption label words None rest = (rest ≡ words) × BeginsNot label words
-BeginWithOption label words (Some n) rest = (word : List ℕ) × (words ≡ label ∷ word ∷ rest) × IsNumber word n
+BeginWithOption label words (Some n) rest =
+    (word : List ℕ) × (words ≡ label ∷ word ∷ rest) × IsNumber word n
 
 -- the label comes, and no number behind it
 abbrev pub LacksNumber : List ℕ → List (List ℕ) → Type 0
 LacksNumber label words = (more : List (List ℕ)) × (words ≡ label ∷ more) × HasNoNumber more
 
 -- the optional numbers of an `add` in their order, and the rest
-pub record BeginWithOptions (words : List (List ℕ)) (med lp igp : Option ℕ) (rest : List (List ℕ)) : Type 0 where
+pub record BeginWithOptions (words : List (List ℕ)) (med lp igp : Option ℕ)
+    (rest : List (List ℕ)) : Type 0 where
   pub behind_med : List (List ℕ)
   pub behind_lp : List (List ℕ)
   pub med_is : BeginWithOption (codes "med") words med behind_med
@@ -104,7 +113,8 @@ pub record BeginWithOptions (words : List (List ℕ)) (med lp igp : Option ℕ) 
   pub igp_is : BeginWithOption (codes "igp") behind_lp igp rest
 
 -- the optional parts of an `add`, to the line's end
-pub record AreOptions (words : List (List ℕ)) (med lp igp : Option ℕ) (coms : List (ℕ × ℕ)) : Type 0 where
+pub record AreOptions (words : List (List ℕ)) (med lp igp : Option ℕ) (coms : List (ℕ × ℕ))
+    : Type 0 where
   pub med_words : List (List ℕ)
   pub lp_words : List (List ℕ)
   pub igp_words : List (List ℕ)
@@ -117,7 +127,8 @@ pub record AreOptions (words : List (List ℕ)) (med lp igp : Option ℕ) (coms 
 
 -- no optional parts are these words
 abbrev pub AreNoOptions : List (List ℕ) → Type 0
-AreNoOptions words = (med lp igp : Option ℕ) (coms : List (ℕ × ℕ)) → AreOptions words med lp igp coms → ⊥
+AreNoOptions words =
+    (med lp igp : Option ℕ) (coms : List (ℕ × ℕ)) → AreOptions words med lp igp coms → ⊥
 
 abbrev pub is_no_colon : ℕ → Bool
 is_no_colon b = not (b == 58)
@@ -153,8 +164,10 @@ pub record AreOnce (words : List (List ℕ)) (coms : List (ℕ × ℕ)) : Type 0
 abbrev pub ReadsOne : List ℕ → ℕ → List (List ℕ) → List Line → List Line → Type 0
 ReadsOne name number words old new =
     ((is_passed words ≡ true) × (new ≡ old))
-    ⊎ ((is_passed words ≡ false) × ((line : Line) × IsLine name number words line × (new ≡ old ++ line ∷ [])))
+    ⊎ ((is_passed words ≡ false)
+    × ((line : Line) × IsLine name number words line × (new ≡ old ++ line ∷ [])))
 
 -- A line that isn't passed over isn't of the form.
 abbrev pub ReadsNone : List ℕ → ℕ → List (List ℕ) → Type 0
-ReadsNone name number words = (is_passed words ≡ false) × ((line : Line) → IsLine name number words line → ⊥)
+ReadsNone name number words =
+    (is_passed words ≡ false) × ((line : Line) → IsLine name number words line → ⊥)

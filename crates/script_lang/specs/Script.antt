@@ -1,10 +1,11 @@
--- What a script says: each line that isn't passed over one operation of the protocol, or a question.
--- Modelled: scripts of one actor, the protocol of the given name, over nets and addresses of IPv4: `open`,
--- `add`, `del` and `show route`, with the number of each line. Not modelled: other actors and commands,
--- phases (`sync`), the options of `show route`, and what a line does. From: this program's own format of
--- scripts; the words of addresses and nets are BIRD's own spelling (BIRD User's Guide, "Configuration"),
--- communities those of RFC 1997.
-use Rattle.std.specs.Prelude.{◌≡◌, ℕ, ◌+◌, ◌^◌, ◌<◌, ◌≤◌, ◌⊎◌, Bool, true, false, not, List, [], ◌∷◌, ◌++◌, length, map, filter, codes, Option, None, Some, ⊤}
+-- What a script says: each line that isn't passed over an operation of the protocol, or a question.
+-- Modelled: scripts of one actor, the protocol of the given name, over nets and addresses of IPv4:
+-- `open`, `add`, `del` and `show route`, with the number of each line. Not modelled: other actors
+-- and commands, phases, the options of `show route`, and what a line does. From: this program's
+-- own format of scripts; `show route` is that of BIRD's client (BIRD User's Guide, "Remote
+-- control"), paths and origins are those of RFC 4271, communities those of RFC 1997.
+use Rattle.std.specs.Prelude.{◌≡◌, ℕ, ◌+◌, ◌^◌, ◌<◌, ◌≤◌, ◌⊎◌, Bool, true, false, not, List, []}
+use Rattle.std.specs.Prelude.{◌∷◌, ◌++◌, length, map, filter, codes, Option, None, Some, ⊤}
 use Rattle.bits_ip.specs.Address.{family_of}
 use Rattle.bits_ip.specs.Prefix.{Net}
 use Rattle.bits_ip.specs.Text.{IsAddrText, IsNetText, v4_text}
@@ -99,8 +100,10 @@ pub record IsDel (words : List (List ℕ)) (net : Net) : Type 0 where
 -- the words of an operation: open ID, add .., del NET
 abbrev pub IsOperation : List (List ℕ) → Op → Type 0
 IsOperation words (SessionUp id) = (words ≡ codes "open" ∷ v4_text id ∷ []) × (id < 2 ^ 32)
-IsOperation words (Add net given) = (rest : List (List ℕ)) × (words ≡ codes "add" ∷ rest) × IsAdd rest net given
-IsOperation words (Del net) = (rest : List (List ℕ)) × (words ≡ codes "del" ∷ rest) × IsDel rest net
+IsOperation words (Add net given) =
+    (rest : List (List ℕ)) × (words ≡ codes "add" ∷ rest) × IsAdd rest net given
+IsOperation words (Del net) =
+    (rest : List (List ℕ)) × (words ≡ codes "del" ∷ rest) × IsDel rest net
 
 -- the words of a command, in the line of this number
 abbrev pub IsCommand : ℕ → List (List ℕ) → Line → Type 0
@@ -145,7 +148,8 @@ AreLines name _ _ = ⊥
 abbrev pub IsScript : List ℕ → List ℕ → List Line → Type 0
 IsScript name text lines = AreLines name (without_comments (numbered 1 (lines_words text))) lines
 
--- The number of the first line that isn't of the form. All lines are counted, from 1, those passed over too.
+-- The number of the first line that isn't of the form. All lines are counted, from 1, those passed
+-- over too.
 pub record IsBadLine (name text : List ℕ) (number : ℕ) : Type 0 where
   pub front : List (List (List ℕ))
   pub bad : List (List ℕ)

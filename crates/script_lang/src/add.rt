@@ -9,13 +9,14 @@ ghost use Rattle.text.specs.Lines.{words_of};
 ghost use Rattle.script_lang.specs.Script.{IsAdd};
 ghost use Rattle.script_lang.specs.Inside.{IfForm, HasNoNumber, BeginWithNumber, BeginWithNumbers};
 ghost use Rattle.script_lang.specs.Inside.{IsVia, IsOrigin, IsPathAndOrigin};
-ghost use Rattle.script_lang.specs.Inside.{LacksNumber, BeginWithOption, BeginWithOptions, AreNoOptions};
+ghost use Rattle.script_lang.specs.Inside.{LacksNumber, BeginWithOption, BeginWithOptions};
+ghost use Rattle.script_lang.specs.Inside.{AreNoOptions};
 
 use crate::communities::read_com;
 use crate::refusal::Refusal;
-use crate::words::{read_v4, read_v4_net};
+use crate::words::parse_v4_prefix;
 use attrs::{Origin, Path};
-use bits_ip::{Addr, Prefix};
+use bits_ip::{Addr, Prefix, parse_v4};
 use import_core::Given;
 use std::alloc::Global;
 use text::{expect_word, next_word, read_number};
@@ -24,7 +25,8 @@ use text::{expect_word, next_word, read_number};
 pub fn read_add(alloc: Global, rest: &[u8]) -> Result<(Prefix, Given), Refusal>
     ensures { MatchResult result
         (λ found. IsAdd (words_of rest.now) found.0 found.1)
-        (λ refusal. IfForm refusal ((net : Net) (given : Given) → IsAdd (words_of rest.now) net given → ⊥)) }
+        (λ refusal. IfForm refusal ((net : Net) (given : Given)
+        → IsAdd (words_of rest.now) net given → ⊥)) }
 {
     let Some(via) = read_via(rest) else {
         return Err(Refusal::Form);
@@ -61,10 +63,10 @@ fn read_via(rest: &[u8]) -> Option<Via<'_>>
         (λ via. IsVia (words_of rest.now) via.net via.gateway (words_of via.rest.now)) }
 {
     let (word, rest) = next_word(rest)?;
-    let net = read_v4_net(word)?;
+    let net = parse_v4_prefix(word)?;
     let rest = expect_word(rest, b"via")?;
     let (word, rest) = next_word(rest)?;
-    let gateway = read_v4(word)?;
+    let gateway = parse_v4(word)?;
     let rest = expect_word(rest, b"path")?;
     Some(Via {
         net,
@@ -83,7 +85,8 @@ struct PathAndOrigin<'a> {
 
 fn read_path_and_origin(alloc: Global, rest: &[u8]) -> Result<PathAndOrigin<'_>, Refusal>
     ensures { MatchResult result
-        (λ found. IsPathAndOrigin (words_of rest.now) found.path found.origin (words_of found.rest.now))
+        (λ found. IsPathAndOrigin (words_of rest.now)
+        found.path found.origin (words_of found.rest.now))
         (λ refusal. IfForm refusal ((path : List ℕ) (origin : Origin) (more : List (List ℕ))
         → IsPathAndOrigin (words_of rest.now) path origin more → ⊥)) }
 {

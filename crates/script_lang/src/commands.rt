@@ -1,5 +1,6 @@
 //! What a line says.
-ghost use Rattle.std.specs.Prelude.{◌≡◌, ◌<◌, ◌^◌, ℕ, [], ◌∷◌, codes, IsTrue, ◌↔◌, MatchOption, MatchResult};
+ghost use Rattle.std.specs.Prelude.{◌≡◌, ◌<◌, ◌^◌, ℕ, [], ◌∷◌, codes, IsTrue, ◌↔◌, MatchOption};
+ghost use Rattle.std.specs.Prelude.{MatchResult};
 ghost use Rattle.bits_ip.specs.Prefix.{Net};
 ghost use Rattle.bits_ip.specs.Text.{v4_text};
 ghost use Rattle.text.specs.Lines.{words_of};
@@ -10,8 +11,8 @@ ghost use Rattle.script_lang.specs.declared.commands.Verb.{Verb};
 use crate::add::read_add;
 use crate::refusal::Refusal;
 use crate::script::Line;
-use crate::words::{read_v4, read_v4_net};
-use bits_ip::Prefix;
+use crate::words::parse_v4_prefix;
+use bits_ip::{Prefix, parse_v4};
 use import_core::Op;
 use std::alloc::Global;
 use text::{expect_word, is_end, next_word};
@@ -159,7 +160,7 @@ fn read_open(rest: &[u8]) -> Option<u32>
         (λ id. (words_of rest.now ≡ v4_text id ∷ []) × (id < 2 ^ 32)) }
 {
     let (word, rest) = next_word(rest)?;
-    let id = read_v4(word)?;
+    let id = parse_v4(word)?;
     if is_end(rest) { Some(id) } else { None }
 }
 
@@ -169,7 +170,7 @@ fn read_del(rest: &[u8]) -> Option<Prefix>
         (λ net. IsDel (words_of rest.now) net) }
 {
     let (word, rest) = next_word(rest)?;
-    let net = read_v4_net(word)?;
+    let net = parse_v4_prefix(word)?;
     if is_end(rest) { Some(net) } else { None }
 }
 

@@ -1,10 +1,12 @@
 //! The communities of an `add`.
-ghost use Rattle.std.specs.Prelude.{◌≡◌, ◌≤◌, ◌<◌, ◌^◌, ℕ, List, length, IsTrue, MatchOption, MatchResult};
+ghost use Rattle.std.specs.Prelude.{◌≡◌, ◌≤◌, ◌<◌, ◌^◌, ℕ, List, length, IsTrue, MatchOption};
+ghost use Rattle.std.specs.Prelude.{MatchResult};
 ghost use Rattle.std.specs.List.{prefix_len, list_all};
 ghost use Rattle.text.specs.Lines.{words_of};
 ghost use Rattle.text.specs.Numbers.{IsNumber};
 ghost use Rattle.script_lang.specs.Script.{IsCommunity, IsCom};
-ghost use Rattle.script_lang.specs.Inside.{IfForm, NoneIs, is_no_colon, IsCut, AddsOne, FitsNone, AreOnce};
+ghost use Rattle.script_lang.specs.Inside.{IfForm, NoneIs, is_no_colon, IsCut, AddsOne, FitsNone};
+ghost use Rattle.script_lang.specs.Inside.{AreOnce};
 
 use crate::refusal::Refusal;
 use attrs::Clist;

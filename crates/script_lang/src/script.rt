@@ -46,12 +46,12 @@ pub enum ScriptFault {
 /// Reads a script of the protocol of this name.
 ///
 /// A newline ends a line, the last one may do without, and a return directly before a newline is
-/// dropped. Spaces and tabs separate words. Blank lines and comments, whose first word begins with `#`,
-/// say nothing and are counted.
+/// dropped. Spaces and tabs separate words. Blank lines and comments, whose first word begins with
+/// `#`, say nothing and are counted.
 ///
 /// # Errors
-/// `Refused` exactly where a line isn't of the form, with the number of the first one; `Memory` where
-/// memory was wanted and not given.
+/// `Refused` exactly where a line isn't of the form, with the number of the first one; `Memory`
+/// where memory was wanted and not given.
 pub fn read_script(alloc: Global, name: &[u8], text: &[u8]) -> Result<Script, ScriptFault>
     requires { length text.now < 2 ^ 32 - 1 }
     ensures { MatchResult result

@@ -11,12 +11,11 @@ last_as (x ∷ []) n = refl
 last_as (x ∷ y ∷ rest) n = last_as (y ∷ rest) n
 
 pub last_written :
-    (path front : List ℕ) (n m : ℕ) (b b1 b2 : List ℕ)
-    → path ≡ front ++ n ∷ [] → m ≡ n → b1 ≡ b ++ codes "AS" → b2 ≡ b1 ++ decimal m → b2 ≡ b ++ last_as_text path
-last_written path front n m b b1 b2 is same e1 e2 =
-    e2 ∙ ap (λ (l : List ℕ). l ++ decimal m) e1
-    ∙ append_assoc b (codes "AS") (decimal m)
-    ∙ ap (λ (k : ℕ). b ++ (codes "AS" ++ decimal k)) same
+    (path front : List ℕ) (n : ℕ) (b b1 b2 : List ℕ)
+    → path ≡ front ++ n ∷ [] → b1 ≡ b ++ codes "AS" → b2 ≡ b1 ++ decimal n → b2 ≡ b ++ last_as_text path
+last_written path front n b b1 b2 is e1 e2 =
+    e2 ∙ ap (λ (l : List ℕ). l ++ decimal n) e1
+    ∙ append_assoc b (codes "AS") (decimal n)
     ∙ ap (λ (l : List ℕ). b ++ l) (sym (ap last_as_text is ∙ last_as front n))
 
 -- none behind the first has a star

@@ -1,7 +1,7 @@
--- What `show route` answers for rows of a table.
--- Modelled: the whole reply over all rows. Not modelled: its options (a choice of nets, of protocols,
--- of attributes shown), times and metrics of protocols. From: BIRD User's Guide, section 4 ("Remote
--- control"), `show route`; the form of a line is this program's own.
+-- What `show route` answers for rows of a table. Modelled: the whole reply over all rows. Not
+-- modelled: its options (a choice of nets, of protocols, of attributes shown), times and metrics of
+-- protocols. From: BIRD User's Guide, section 4 ("Remote control"), `show route`; the form of a
+-- line is this program's own.
 use Rattle.std.specs.Prelude.{ℕ, Bool, true, false, if◌then◌else◌, List, [], ◌∷◌, ◌++◌, Option, Some, None, codes, decimal}
 use Rattle.std.specs.List.{flat_map}
 use Rattle.bits_ip.specs.Prefix.{Net}
@@ -32,10 +32,12 @@ abbrev pub as_text : Kind → List ℕ → Option Origin → List ℕ
 as_text Static path origin = []
 as_text Bgp path origin = codes " [" ++ last_as_text path ++ origin_letter origin ++ codes "]"
 
--- a route: its net, its protocol, a star where it is the net's best, and its gateway on a line of its own
+-- a route: its net, its protocol, a star where it is the net's best, and its gateway on a line of
+-- its own
 abbrev pub shown_route : List (List ℕ) → Net → Bool → Route → List ℕ
 shown_route names net best r =
-    net_text net ++ 32 ∷ dest_text r.attrs.dest ++ codes " [" ++ name_of names r.src.num ++ codes "]"
+    net_text net ++ 32 ∷ dest_text r.attrs.dest
+    ++ codes " [" ++ name_of names r.src.num ++ codes "]"
     ++ (if best then codes " *" else []) ++ codes " (" ++ decimal r.attrs.pref ++ codes ")"
     ++ as_text r.attrs.kind r.attrs.path r.attrs.origin ++ codes "\n"
     ++ optional_text (codes "\tvia ") (λ gw. addr_text gw ++ codes "\n") r.attrs.gw
@@ -43,11 +45,13 @@ shown_route names net best r =
 -- A net's routes stand in selection order, so its best is the first.
 abbrev pub shown_routes : List (List ℕ) → Net → Bool → List Route → List ℕ
 shown_routes names net best [] = []
-shown_routes names net best (r ∷ rest) = shown_route names net best r ++ shown_routes names net false rest
+shown_routes names net best (r ∷ rest) =
+    shown_route names net best r ++ shown_routes names net false rest
 
 abbrev pub shown_row : List (List ℕ) → Row → List ℕ
 shown_row names row = shown_routes names row.net true row.routes
 
 -- the reply: the table's name, and the routes of each net
 abbrev pub reply_text : List (List ℕ) → List ℕ → List Row → List ℕ
-reply_text names table rows = codes "Table " ++ table ++ codes ":\n" ++ flat_map (shown_row names) rows
+reply_text names table rows =
+    codes "Table " ++ table ++ codes ":\n" ++ flat_map (shown_row names) rows

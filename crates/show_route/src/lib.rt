@@ -1,11 +1,12 @@
 //! Replies to `show route`: which routes stand in a table, in the words of BIRD's remote control.
 //!
-//! `answer` makes the reply over the rows of a table, with the names of protocols by number: a heading
-//! with the table's name, then for each net its routes, the best of which comes first and has a star.
+//! `answer` makes the reply over the rows of a table, with the names of protocols by number: a
+//! heading with the table's name, then for each net its routes, the best of which comes first and
+//! has a star.
 //!
-//! Contracts see the rows as lists and the reply by one function, `reply_text` of specs/Reply. All rests
-//! on one fact of tables, which attrs states: a row's routes stand in selection order, so that the first
-//! is the net's best and no other is.
+//! Contracts see the rows as lists and the reply by one function, `reply_text` of specs/Reply. All
+//! rests on one fact of tables, which attrs states: a row's routes stand in selection order, so
+//! that the first is the net's best and no other is.
 #![tactic(auto)]
 
 mod reply;

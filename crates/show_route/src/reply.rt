@@ -6,10 +6,9 @@ ghost use Rattle.attrs.specs.Text.{dest_text, optional_text};
 ghost use Rattle.text.specs.Names.{name_of};
 ghost use Rattle.show_route.specs.Reply.{as_text, last_as_text, origin_letter, reply_text, shown_route, shown_routes, shown_row};
 
-use attrs::{Attrs, Dest, Kind, Origin, Route, Row, Seq};
-use bits_ip::{Addr, OutOfMemory, Prefix, write_addr, write_prefix};
+use attrs::{Attrs, Kind, Origin, Route, Row};
+use bits_ip::{Addr, OutOfMemory, Prefix, write_addr, write_number, write_prefix};
 use std::alloc::Global;
-use text::write_number;
 
 /// The reply to `show route` over these rows of a table, with the protocols' names by number.
 ///
@@ -21,7 +20,9 @@ pub fn answer(
     table: &[u8],
     rows: &[Row],
 ) -> Result<Vec<u8>, OutOfMemory>
-    ensures { IfOk result (λ text. text.items ≡ reply_text (map (λ name. name.now) names.now) table.now rows.now) }
+    ensures { IfOk result
+        (λ text.
+        text.items ≡ reply_text (map (λ name. name.now) names.now) table.now rows.now) }
 {
     let mut out = Vec::new(alloc);
     out.extend_from_slice(b"Table ")?;
@@ -111,11 +112,12 @@ fn write_source(
     ensures { OnOk result
         (out.new.items ≡ out.old.items
         ++ net_text net.now ++ 32 ∷ dest_text route.now.attrs.dest
-        ++ codes " [" ++ name_of (map (λ name. name.now) names.now) route.now.src.num ++ codes "]") }
+        ++ codes " [" ++ name_of (map (λ name. name.now) names.now) route.now.src.num
+        ++ codes "]") }
 {
     write_prefix(alloc, net, out)?;
     out.push(b' ')?;
-    out.extend_from_slice(dest_word(route.attrs.dest).as_bytes())?;
+    out.extend_from_slice(route.attrs.dest.word().as_bytes())?;
     out.extend_from_slice(b" [")?;
     out.extend_from_slice(name_at(names, route.src.num))?;
     out.push(b']')?;
@@ -139,7 +141,7 @@ fn write_rank(is_best: bool, attrs: &Attrs, out: &mut Vec<u8>) -> Result<(), Out
         ++ as_text attrs.now.kind attrs.now.path attrs.now.origin ++ codes "\n") }
 {
     out.extend_from_slice(if is_best { b" * (" } else { b" (" })?;
-    write_number(u64::from(attrs.pref), out)?;
+    write_number(attrs.pref, out)?;
     out.push(b')')?;
     write_as(attrs, out)?;
     out.push(b'\n')?;
@@ -169,7 +171,7 @@ fn write_last_as(path: &[u32], out: &mut Vec<u8>) -> Result<(), OutOfMemory>
         return Ok(());
     };
     out.extend_from_slice(b"AS")?;
-    write_number(u64::from(*last), out)
+    write_number(*last, out)
 }
 
 fn write_gateway(alloc: Global, gateway: Option<Addr>, out: &mut Vec<u8>) -> Result<(), OutOfMemory>
@@ -194,16 +196,5 @@ fn origin_letter(origin: Option<Origin>) -> &'static str
         Some(Origin::Egp) => "e",
         Some(Origin::Incomplete) => "?",
         None => "?",
-    }
-}
-
-fn dest_word(dest: Dest) -> &'static str
-    ensures { result.now ≡ dest_text dest }
-{
-    match dest {
-        Dest::Unicast => "unicast",
-        Dest::Blackhole => "blackhole",
-        Dest::Unreachable => "unreachable",
-        Dest::Prohibit => "prohibit",
     }
 }

@@ -1,7 +1,7 @@
--- The lines of a text, and the words of a line.
--- Modelled: texts as lists of bytes, all of them, with the marks of ASCII. Not modelled: any encoding,
--- and characters. From: this program's own formats of scripts and reports (a newline ends a line, a
--- return directly before it is dropped; spaces and tabs separate words).
+-- The lines of a text, and the words of a line. Modelled: texts as lists of bytes, all of them,
+-- with the marks of ASCII. Not modelled: any encoding, and characters. From: this program's own
+-- formats of scripts and reports (a newline ends a line, a return directly before it is dropped;
+-- spaces and tabs separate words).
 use Rattle.std.specs.Prelude.{ℕ, Bool, false, ◌&&◌, ◌||◌, not, ◌==◌, if◌then◌else◌, List, [], ◌∷◌}
 
 -- a byte more at the front of the first of these pieces
@@ -13,7 +13,8 @@ abbrev pub begins_with : ℕ → List ℕ → Bool
 begins_with byte [] = false
 begins_with byte (b ∷ bytes) = b == byte
 
--- A newline ends a line; the last line may do without. A return directly before a newline is dropped.
+-- A newline ends a line; the last line may do without. A return directly before a newline is
+-- dropped.
 abbrev pub lines_of : List ℕ → List (List ℕ)
 lines_of [] = []
 lines_of (b ∷ bytes) =

@@ -1,6 +1,6 @@
 -- Numbers in decimal, of 32 bits.
 -- Modelled: which words spell which number. Not modelled: signs and separators, which spell none.
--- From: this program's own format of scripts. What is written is std's `decimal`.
+-- From: this program's own format of scripts.
 use Rattle.std.specs.Prelude.{◌≡◌, ℕ, ◌^◌, ◌<◌, List}
 use Rattle.std.specs.Str.Parse.{digits_value, IsNumeral}
 

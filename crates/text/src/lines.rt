@@ -9,7 +9,9 @@ ghost use Rattle.text.specs.Cut.{is_line_byte, without_return};
 /// The line is without its newline and without a return directly before that. The last line may do
 /// without a newline; a return at its end is then part of it.
 pub fn cut_line(rest: &[u8]) -> Option<(&[u8], &[u8])>
-    ensures line { MatchOption result (rest.now ≡ []) (λ cut. lines_of rest.now ≡ cut.0.now ∷ lines_of cut.1.now) }
+    ensures line { MatchOption result
+        (rest.now ≡ [])
+        (λ cut. lines_of rest.now ≡ cut.0.now ∷ lines_of cut.1.now) }
     ensures shorter { MatchOption result ⊤ (λ cut. length cut.1.now < length rest.now) }
 {
     if rest.is_empty() {

@@ -1,16 +1,13 @@
-//! Decimal numbers, read and written.
-ghost use Rattle.std.specs.Prelude.{◌≡◌, ℕ, ◌+◌, ◌*◌, ◌^◌, ◌<◌, ◌++◌, decimal, MatchOption, OnOk};
+//! Decimal numbers.
+ghost use Rattle.std.specs.Prelude.{◌≡◌, ℕ, ◌+◌, ◌*◌, ◌^◌, ◌<◌, MatchOption};
 ghost use Rattle.std.specs.Char.{digit_value};
 ghost use Rattle.std.specs.Option.{SomeIff};
 ghost use Rattle.text.specs.Numbers.{IsNumber};
 
-use bits_ip::OutOfMemory;
-use itoa::Buffer;
-
 /// The number that a word of decimal digits spells.
 ///
-/// None where the word is empty, has another byte (as a sign), or spells more than 32 bits hold. Zeros
-/// in front change nothing.
+/// None where the word is empty, has another byte (as a sign), or spells more than 32 bits hold.
+/// Zeros in front change nothing.
 pub fn read_number(word: &[u8]) -> Option<u32>
     ensures { MatchOption result ((n : ℕ) → IsNumber word.now n → ⊥) (λ n. IsNumber word.now n) }
 {
@@ -22,24 +19,6 @@ pub fn read_number(word: &[u8]) -> Option<u32>
         value = push_digit(value, *byte)?;
     }
     Some(value)
-}
-
-/// Appends a number in decimal, without zeros in front.
-pub fn write_number(number: u64, out: &mut Vec<u8>) -> Result<(), OutOfMemory>
-    ensures { OnOk result (out.new.items ≡ out.old.items ++ decimal number) }
-{
-    let mut buffer = Buffer::new();
-    out.extend_from_slice(buffer.format(number).as_bytes())?;
-    Ok(())
-}
-
-/// Appends a number in decimal that may take more than 64 bits.
-pub fn write_wide_number(number: u128, out: &mut Vec<u8>) -> Result<(), OutOfMemory>
-    ensures { OnOk result (out.new.items ≡ out.old.items ++ decimal number) }
-{
-    let mut buffer = Buffer::new();
-    out.extend_from_slice(buffer.format(number).as_bytes())?;
-    Ok(())
 }
 
 /// A number with a decimal digit behind it.

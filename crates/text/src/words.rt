@@ -8,7 +8,9 @@ ghost use Rattle.text.specs.Cut.{is_word_byte};
 ///
 /// Words are the longest runs of bytes that are neither a space nor a tab.
 pub fn next_word(rest: &[u8]) -> Option<(&[u8], &[u8])>
-    ensures word { MatchOption result (words_of rest.now ≡ []) (λ cut. words_of rest.now ≡ cut.0.now ∷ words_of cut.1.now) }
+    ensures word { MatchOption result
+        (words_of rest.now ≡ [])
+        (λ cut. words_of rest.now ≡ cut.0.now ∷ words_of cut.1.now) }
     ensures shorter { MatchOption result ⊤ (λ cut. length cut.1.now < length rest.now) }
 {
     let (_, text) = rest.split_at(blank_len(rest));
