@@ -1,6 +1,6 @@
 -- What is required is answered: an answer has a cause, and files that are told have one outcome.
 use Rattle.std.proofs.Common.{◌≡◌, ℕ, ◌≤◌, true, false, List, [], ◌∷◌, Option, Some, None, refl, sym, ◌∙◌, ap, subst, arith, inl, inr}
-use Rattle.std.specs.Prelude.{IfSome, IsSomeAnd}
+use Rattle.std.specs.Prelude.{◌⊎◌, IfSome, IsSomeAnd}
 use Rattle.std.specs.List.{All}
 use Rattle.outside_io.specs.Faults.{Rose}
 use Rattle.birdcore_top.specs.declared.config.Config.{Config}

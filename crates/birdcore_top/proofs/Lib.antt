@@ -3,6 +3,7 @@ pub mod Built
 pub mod SaidOnce
 pub mod Outcomes
 pub mod Decided
+pub mod Judged
 pub mod PlaySteps
 pub mod Machine
 pub mod OptionOrder

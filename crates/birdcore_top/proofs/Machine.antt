@@ -1,5 +1,6 @@
 -- The machine's run of lines is one, and what its history and its log are.
 use Rattle.std.proofs.Common.{◌≡◌, ◌≢◌, ℕ, true, false, List, [], ◌∷◌, ◌++◌, length, Option, Some, None, refl, sym, ◌∙◌, ap, subst, inl, inr}
+use Rattle.std.specs.Prelude.{◌⊎◌}
 use Rattle.bits_ip.specs.Prefix.{Net}
 use Rattle.attrs.specs.History.{after, empty, IsReal}
 use Rattle.attrs.specs.Table.{Shows}

@@ -1,6 +1,6 @@
 -- Files that are told come to one outcome at most.
 use Rattle.std.proofs.Common.{◌≡◌, ℕ, ◌+◌, ◌<◌, ◌≤◌, List, [], ◌∷◌, length, Option, Some, None, refl, sym, ◌∙◌, ap, subst, arith, inl, inr}
-use Rattle.std.specs.Prelude.{IfSome, IsSomeAnd}
+use Rattle.std.specs.Prelude.{◌⊎◌, IfSome, IsSomeAnd}
 use Rattle.conf_tree.specs.declared.kind.ConfKind.{ConfKind}
 use Rattle.script_lang.specs.Script.{IsScript, IsBadLine}
 use Rattle.script_lang.specs.declared.script.Line.{Line}
@@ -51,14 +51,14 @@ module _ (once : SaysOnce) where
   script_once : (config : Config) (name text : List ℕ) (o p : Outcome) → ScriptGives IsSomeAnd config name (Some text) o → ScriptGives IfSome config name (Some text) p → p ≡ o
   script_once config name text (OverLimit word) (OverLimit other) is may = ap OverLimit (may.0 ∙ sym is.0)
   script_once config name text (OverLimit word) (BadLine n) is may = absurd (omega (arith, is.1, may.0))
-  script_once config name text (OverLimit word) (Played read lines) is may = absurd (omega (arith, is.1, may.1))
+  script_once config name text (OverLimit word) (Played read lines) is may = absurd (omega (arith, is.1, may.1.0))
   script_once config name text (BadLine n) (OverLimit other) is may = absurd (omega (arith, may.1, is.0))
   script_once config name text (BadLine n) (BadLine m) is may = ap BadLine (once.bad_lines_agree config.name text m n may.1 is.1)
-  script_once config name text (BadLine n) (Played read lines) is may = absurd (once.script_or_bad config.name text lines n may.2 is.1)
-  script_once config name text (Played read lines) (OverLimit other) is may = absurd (omega (arith, may.1, is.1))
-  script_once config name text (Played read lines) (BadLine m) is may = absurd (once.script_or_bad config.name text lines m is.2 may.1)
+  script_once config name text (BadLine n) (Played read lines) is may = absurd (once.script_or_bad config.name text lines n may.1.1 is.1)
+  script_once config name text (Played read lines) (OverLimit other) is may = absurd (omega (arith, may.1, is.1.0))
+  script_once config name text (Played read lines) (BadLine m) is may = absurd (once.script_or_bad config.name text lines m is.1.1 may.1)
   script_once config name text (Played read lines) (Played other more) is may =
-      ap (λ (c : Config). Played c more) (may.0 ∙ sym is.0) ∙ ap (λ (l : List Line). Played read l) (once.scripts_agree config.name text more lines may.2 is.2)
+      ap (λ (c : Config). Played c more) (may.0 ∙ sym is.0) ∙ ap (λ (l : List Line). Played read l) (once.scripts_agree config.name text more lines may.1.1 is.1.1)
   script_once config name text Misused p is may = absurd is
   script_once config name text (Refused l c k) p is may = absurd is
   script_once config name text Unbuilt p is may = absurd is

@@ -70,7 +70,7 @@ impl Run {
         ensures is { OnOk result (IsRun self.new) }
     {
         match line {
-            Line::Apply { op, .. } => {
+            Line::Apply { line: _line, op } => {
                 self.act(config, &op)?;
                 self.ops.push(op)?;
                 Ok(())
