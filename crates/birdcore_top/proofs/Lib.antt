@@ -4,6 +4,7 @@ pub mod SaidOnce
 pub mod Outcomes
 pub mod Decided
 pub mod Judged
+pub mod Exists
 pub mod PlaySteps
 pub mod Machine
 pub mod OptionOrder

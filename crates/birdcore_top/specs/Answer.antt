@@ -43,11 +43,13 @@ HasCause possible status = IsTrue (is_answer status) → (o : Outcome) × possib
 -- Reading failed under a name that was read in its turn: CONF, or SCRIPT once CONF is accepted.
 abbrev pub MissesInTurn : Command → Held → (List ℕ → ℕ) → (List ℕ → ℕ) → Type 0
 MissesInTurn (Play conf script) held before now =
-    Rose (before conf) (now conf) ⊎ (IfSome (held conf) IsAccepted × Rose (before script) (now script))
+    Rose (before conf) (now conf)
+    ⊎ (IfSome (held conf) IsAccepted × Rose (before script) (now script))
 
 -- None of the files that decide an outcome failed.
 abbrev pub NoneFailed : Option Command → Outcome → (List ℕ → ℕ) → (List ℕ → ℕ) → Type 0
-NoneFailed command o before now = IfSome command (λ c. All (λ name. Rose (before name) (now name) → ⊥) (files_read c o))
+NoneFailed command o before now = IfSome command
+    (λ c. All (λ name. Rose (before name) (now name) → ⊥) (files_read c o))
 
 -- The sink didn't fail, where the outcome is written.
 abbrev pub SinkTakes : Outcome → ℕ → ℕ → Type 0
@@ -59,12 +61,15 @@ IsMissed status = (status ≡ ReadFault) ⊎ (status ≡ OutOfMemory)
 
 -- The status answers an outcome for which the script isn't read.
 abbrev pub AnswersConf : Command → Held → Status → Type 0
-AnswersConf (Play conf script) held status = (o : Outcome) × ConfGives IfSome conf (held conf) o × Answers o status
+AnswersConf (Play conf script) held status = (o : Outcome) × ConfGives IfSome conf (held conf) o
+    × Answers o status
 
 -- what is answered where a file isn't held: CONF, or SCRIPT unless CONF is refused itself
-pub record MissesLacked (lacks : List ℕ → Bool) (held : Held) (status : Status) (conf script : List ℕ) : Type 0 where
+pub record MissesLacked (lacks : List ℕ → Bool) (held : Held) (status : Status)
+    (conf script : List ℕ) : Type 0 where
   pub conf_lacked : IsTrue (lacks conf) → IsMissed status
-  pub script_lacked : IsTrue (lacks script) → IsMissed status ⊎ AnswersConf (Play conf script) held status
+  pub script_lacked : IsTrue (lacks script) → IsMissed status
+      ⊎ AnswersConf (Play conf script) held status
 
 abbrev pub FindsLacked : Option Command → (List ℕ → Bool) → Held → Status → Type 0
 FindsLacked None lacks held status = ⊤
@@ -82,11 +87,13 @@ pub record Stops (possible : Outcome → Type 0) (status : Status) : Type 0 wher
   pub cause : HasCause possible status
 
 -- the same of a result, in which a text is no status yet
-abbrev pub FindsLackedBy : {T : Type 0} → Option Command → (List ℕ → Bool) → Held → Result T Status → Type 0
+abbrev pub FindsLackedBy : {T : Type 0} → Option Command → (List ℕ → Bool) → Held → Result T Status
+    → Type 0
 FindsLackedBy None lacks held result = ⊤
 FindsLackedBy (Some (Play conf script)) lacks held result =
     (IsTrue (lacks conf) → IsErrAnd result IsMissed)
-    × (IsTrue (lacks script) → IsErrAnd result (λ status. IsMissed status ⊎ AnswersConf (Play conf script) held status))
+    × (IsTrue (lacks script) → IsErrAnd result
+    (λ status. IsMissed status ⊎ AnswersConf (Play conf script) held status))
 
 -- what is answered where the file of this name isn't read to its end
 abbrev pub IsReadStatus : List ℕ → ReadError → Status → Type 0

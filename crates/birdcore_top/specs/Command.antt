@@ -9,7 +9,8 @@ pub data Command : Type 0 where
 
 -- the command that these words are, and none where they are misused
 abbrev pub command_in : List (List ℕ) → Option Command
-command_in (word ∷ conf ∷ script ∷ []) = if bytes_eq word (codes "play") then Some (Play conf script) else None
+command_in (word ∷ conf ∷ script ∷ []) =
+    if bytes_eq word (codes "play") then Some (Play conf script) else None
 command_in words = None
 
 abbrev pub command_of : List (String Global) → Option Command

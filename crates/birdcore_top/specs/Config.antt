@@ -1,5 +1,6 @@
--- What is built of a configuration: one BGP protocol with one neighbour, from which all is imported and to which all is
--- exported. Of options written twice the last counts, and statements and options without effect count for nothing.
+-- What is built of a configuration: one BGP protocol with one neighbour, from which all is imported
+-- and to which all is exported. Of options written twice the last counts, and statements and
+-- options without effect count for nothing.
 use Rattle.std.specs.Prelude.{◌≡◌, ℕ, Bool, true, false, ◌&&◌, ◌||◌, not, List, [], ◌∷◌, take, drop, codes, Option, Some, None, Vec, filter}
 use Rattle.std.specs.Global.{Global}
 use Rattle.std.specs.Bool.{nat_eq}
@@ -83,7 +84,8 @@ channel_after said [] = said
 channel_after said (o ∷ os) = channel_after (channel_step said o) os
 
 abbrev pub channel_says : List ChannelOption → ChannelSays
-channel_says options = channel_after (record { imports_all = false; exports_all = false; limited = false; more = false }) options
+channel_says options = channel_after
+    (record { imports_all = false; exports_all = false; limited = false; more = false }) options
 
 abbrev pub says_all : ChannelSays → Bool
 says_all said = said.imports_all && said.exports_all && not said.limited && not said.more
@@ -125,7 +127,8 @@ is_on switches.Off = false
 is_on switches.No = false
 
 abbrev pub bgp_step : BgpSays → BgpOption → BgpSays
-bgp_step said (bgp_options.Channel c) = record said { channel = is_plain c; more = said.more || said.channel || not (is_plain c) }
+bgp_step said (bgp_options.Channel c) =
+    record said { channel = is_plain c; more = said.more || said.channel || not (is_plain c) }
 bgp_step said (bgp_options.Local a n) = record said { local = number_of n }
 bgp_step said (bgp_options.Neighbor a n) = record said { remote = remote_of a n }
 bgp_step said (bgp_options.MedMetric s) = record said { med = is_on s }
@@ -139,7 +142,8 @@ bgp_after said [] = said
 bgp_after said (o ∷ os) = bgp_after (bgp_step said o) os
 
 abbrev pub bgp_says : List BgpOption → BgpSays
-bgp_says options = bgp_after (record { local = None; remote = None; med = false; channel = false; more = false }) options
+bgp_says options = bgp_after
+    (record { local = None; remote = None; med = false; channel = false; more = false }) options
 
 -- The options give this session, and nothing that isn't built.
 pub record SaysSession (said : BgpSays) (local : ℕ) (remote : Remote) : Type 0 where
@@ -158,22 +162,26 @@ protocol_name text (Some name) = name_bytes text name
 pub record Builds (text : List ℕ) (tree : Tree) (config : Config) : Type 0 where
   pub protocol : Protocol BgpOption
   pub alone : effective text tree.statements.items ≡ statements.Bgp protocol ∷ []
-  pub session : SaysSession (bgp_says protocol.options.items) config.local (record { addr = config.neighbor; number = config.remote })
+  pub session : SaysSession (bgp_says protocol.options.items) config.local
+      (record { addr = config.neighbor; number = config.remote })
   pub name : config.name ≡ protocol_name text protocol.name
 
 -- ---- texts
 
 -- the text is a configuration of which this is built
 abbrev pub IsConfig : List ℕ → Config → Type 0
-IsConfig text config = (tree : Tree) × IsConfigText text (config_view tree) × Builds text tree config
+IsConfig text config = (tree : Tree) × IsConfigText text (config_view tree)
+    × Builds text tree config
 
 -- the text is a configuration of which nothing is built
 abbrev pub IsNotBuilt : List ℕ → Type 0
-IsNotBuilt text = (tree : Tree) × IsConfigText text (config_view tree) × ((config : Config) → Builds text tree config → ⊥)
+IsNotBuilt text = (tree : Tree) × IsConfigText text (config_view tree)
+    × ((config : Config) → Builds text tree config → ⊥)
 
 -- the text is refused so, in this line and column
 abbrev pub IsRefusedAt : List ℕ → ℕ → ℕ → ConfKind → Type 0
-IsRefusedAt text line column kind = (at : ℕ) × IsRefusedText text at kind × IsPlace text at line column
+IsRefusedAt text line column kind = (at : ℕ) × IsRefusedText text at kind
+    × IsPlace text at line column
 
 abbrev pub IsConfigFault : List ℕ → ConfigFault → Type 0
 IsConfigFault text (faults.Refused line column kind) = IsRefusedAt text line column kind

@@ -40,27 +40,37 @@ Configures config = Within (λ file. IsConfig file config)
 abbrev pub IsAccepted : List ℕ → Type 0
 IsAccepted file = (config : Config) × Configures config file
 
+-- the file is a configuration of which something is built, or one of which nothing is, or is refused
+abbrev pub SaysSomething : List ℕ → Type 0
+SaysSomething file = ((config : Config) × IsConfig file config)
+    ⊎ IsNotBuilt file
+    ⊎ ((line : ℕ) × (column : ℕ) × (kind : ConfKind) × IsRefusedAt file line column kind)
+
 -- ---- outcomes
 
 -- what the configuration of this name gives without the script
 abbrev pub ConfGives : Knowledge → List ℕ → Option (List ℕ) → Outcome → Type 0
 ConfGives known name conf (OverLimit word) = (word ≡ name) × known conf IsLong
-ConfGives known name conf (Refused line column kind) = known conf (Within (λ file. IsRefusedAt file line column kind))
+ConfGives known name conf (Refused line column kind) =
+    known conf (Within (λ file. IsRefusedAt file line column kind))
 ConfGives known name conf Unbuilt = known conf (Within IsNotBuilt)
 ConfGives known name conf _ = ⊥
 
 -- what the script of this name gives over a configuration
 abbrev pub ScriptGives : Knowledge → Config → List ℕ → Option (List ℕ) → Outcome → Type 0
 ScriptGives known config name script (OverLimit word) = (word ≡ name) × known script IsLong
-ScriptGives known config name script (BadLine n) = known script (Within (λ text. IsBadLine config.name text n))
-ScriptGives known config name script (Played read lines) = (read ≡ config) × known script (Within (λ text. IsScript config.name text lines))
+ScriptGives known config name script (BadLine n) =
+    known script (Within (λ text. IsBadLine config.name text n))
+ScriptGives known config name script (Played read lines) = (read ≡ config)
+    × known script (Within (λ text. IsScript config.name text lines))
 ScriptGives known config name script _ = ⊥
 
 -- The configuration comes first, and the script only where the configuration is accepted.
 abbrev pub PlayGives : Knowledge → List ℕ → List ℕ → Held → Outcome → Type 0
 PlayGives known conf script held o =
     ConfGives known conf (held conf) o
-    ⊎ ((config : Config) × known (held conf) (Configures config) × ScriptGives known config script (held script) o)
+    ⊎ ((config : Config) × known (held conf) (Configures config)
+    × ScriptGives known config script (held script) o)
 
 -- what a command gives over files, and words that are none
 abbrev pub Gives : Knowledge → Option Command → Held → Outcome → Type 0
@@ -88,7 +98,8 @@ files_read (Play conf script) (Played config lines) = conf ∷ script ∷ []
 
 -- the text is the report of these lines played over this configuration
 abbrev pub IsReport : Config → List Line → List ℕ → Type 0
-IsReport config lines text = (phase : PhaseReport) × IsPhase config lines phase × (text ≡ report_text (phase ∷ []))
+IsReport config lines text = (phase : PhaseReport) × IsPhase config lines phase
+    × (text ≡ report_text (phase ∷ []))
 
 -- A play of the files may be due, and this is said of the text of its report.
 pub record IfReport (command : Option Command) (held : Held) (P : List ℕ → Type 0) : Type 0 where

@@ -18,7 +18,8 @@ use grammar::Name;
 use std::alloc::{AllocError, Global};
 use thiserror::Error;
 
-/// What is built of a configuration: one neighbour, from which all is imported and to which all is exported.
+/// What is built of a configuration: one neighbour, from which all is imported and to which all is
+/// exported.
 #[derive(Debug, Drop)]
 pub struct Config {
     /// The protocol's name.
@@ -248,7 +249,8 @@ fn bgp_says(options: &[BgpOption]) -> BgpSays
 
 /// The own AS number and the neighbour, where the options are those that are built.
 fn session_of(said: BgpSays) -> Option<(u32, Remote)>
-    ensures { MatchOption result ((local : ℕ) (remote : Remote) → SaysSession said local remote → ⊥) (λ found. SaysSession said found.0 found.1) }
+    ensures { MatchOption result ((local : ℕ) (remote : Remote) → SaysSession said local remote → ⊥)
+        (λ found. SaysSession said found.0 found.1) }
 {
     let local = said.local?;
     let remote = said.remote?;
@@ -264,7 +266,8 @@ fn next_effective<'a>(
     text: &[u8],
     statements: &'a [Statement],
 ) -> Option<(&'a Statement, &'a [Statement])>
-    ensures { MatchOption result (effective text.now statements.now ≡ []) (λ found. effective text.now statements.now ≡ found.0.now ∷ effective text.now found.1.now) }
+    ensures { MatchOption result (effective text.now statements.now ≡ [])
+        (λ found. effective text.now statements.now ≡ found.0.now ∷ effective text.now found.1.now) }
 {
     for (index, statement) in statements.iter().enumerate() {
         if has_effect(text, statement) {
@@ -275,7 +278,8 @@ fn next_effective<'a>(
 }
 
 fn as_bgp(statement: &Statement) -> Option<&Protocol<BgpOption>>
-    ensures { MatchOption result ((p : Protocol BgpOption) → statement.now ≡ Statement.Bgp p → ⊥) (λ p. statement.now ≡ Statement.Bgp p.now) }
+    ensures { MatchOption result ((p : Protocol BgpOption) → statement.now ≡ Statement.Bgp p → ⊥)
+        (λ p. statement.now ≡ Statement.Bgp p.now) }
 {
     match statement {
         Statement::Bgp(protocol) => Some(protocol),
@@ -285,7 +289,9 @@ fn as_bgp(statement: &Statement) -> Option<&Protocol<BgpOption>>
 
 /// The one statement that has an effect, where it is a BGP protocol.
 fn only_protocol<'a>(text: &[u8], statements: &'a [Statement]) -> Option<&'a Protocol<BgpOption>>
-    ensures { MatchOption result ((p : Protocol BgpOption) → effective text.now statements.now ≡ Statement.Bgp p ∷ [] → ⊥) (λ p. effective text.now statements.now ≡ Statement.Bgp p.now ∷ []) }
+    ensures { MatchOption result ((p : Protocol BgpOption)
+        → effective text.now statements.now ≡ Statement.Bgp p ∷ [] → ⊥)
+        (λ p. effective text.now statements.now ≡ Statement.Bgp p.now ∷ []) }
 {
     match next_effective(text, statements) {
         Some((first, behind)) => match next_effective(text, behind) {
@@ -296,7 +302,8 @@ fn only_protocol<'a>(text: &[u8], statements: &'a [Statement]) -> Option<&'a Pro
     }
 }
 
-/// The name of a protocol: one without is called by its kind and the first number that gives a new name.
+/// The name of a protocol: one without is called by its kind and the first number that gives a new
+/// name.
 fn protocol_name(alloc: Global, text: &[u8], name: Option<Name>) -> Result<Vec<u8>, AllocError>
     ensures { IfOk result (λ bytes. bytes.items ≡ protocol_name text.now name) }
 {
@@ -308,7 +315,9 @@ fn protocol_name(alloc: Global, text: &[u8], name: Option<Name>) -> Result<Vec<u
 
 /// What is built of a configuration, and none where it is of another form than the one that is.
 fn built(alloc: Global, text: &[u8], tree: &conf_tree::Config) -> Result<Option<Config>, AllocError>
-    ensures { IfOk result (λ read. MatchOption read ((config : Config) → Builds text.now tree.now config → ⊥) (λ config. Builds text.now tree.now config)) }
+    ensures { IfOk result
+        (λ read. MatchOption read ((config : Config) → Builds text.now tree.now config → ⊥)
+        (λ config. Builds text.now tree.now config)) }
 {
     let Some(protocol) = only_protocol(text, &tree.statements) else {
         return Ok(None);

@@ -1,5 +1,5 @@
 //! What follows from the definitions and from the contract of `top`.
-ghost use Rattle.std.specs.Prelude.{◌≡◌, ◌≢◌, ◌⊎◌, ℕ, true, false, List, [], ◌∷◌, ◌++◌, Option, IfSome, IsSomeAnd};
+ghost use Rattle.std.specs.Prelude.{◌≡◌, ◌≢◌, ◌⊎◌, ℕ, true, false, List, [], ◌∷◌, ◌++◌, Option, Some, IfSome, IsSomeAnd};
 ghost use Rattle.attrs.specs.History.{empty, IsReal};
 ghost use Rattle.conf_tree.specs.declared.tree.BgpOption.{BgpOption};
 ghost use Rattle.conf_tree.specs.declared.tree.ChannelOption.{ChannelOption};
@@ -12,8 +12,8 @@ ghost use Rattle.conf_tree.specs.declared.kind.ConfKind.{ConfKind};
 ghost use Rattle.birdcore_top.specs.Config.{IsConfig, IsNotBuilt, IsRefusedAt, bgp_says, channel_says, effective, has_effect};
 ghost use Rattle.birdcore_top.specs.OptionKinds.{replaces, rests_on_order, says_nothing, channel_replaces, channel_says_nothing};
 ghost use Rattle.birdcore_top.specs.Play.{State, start, Plays, IsPhase};
-ghost use Rattle.birdcore_top.specs.Command.{Command, command_of};
-ghost use Rattle.birdcore_top.specs.Outcome.{Held, Outcome, ConfGives, IsAccepted, IsPossible, IsRequired};
+ghost use Rattle.birdcore_top.specs.Command.{Command, Play, command_of};
+ghost use Rattle.birdcore_top.specs.Outcome.{Held, Outcome, SaysSomething, ConfGives, IsAccepted, IsPossible, IsRequired};
 ghost use Rattle.birdcore_top.specs.Answer.{Answers};
 
 use crate::status::Status;
@@ -22,14 +22,15 @@ use conf_tree::laws::{
     a_text_has_one_refusal, a_text_is_one_configuration, configurations_are_not_refused,
     places_have_one_line_and_column,
 };
-use script_lang::laws::{
-    a_text_has_one_bad_line, a_text_is_one_script, scripts_have_no_bad_line,
-};
 use outside_io::{OpenGate, Shelf, SureShelf, SureSink};
+use script_lang::laws::{
+    a_text_has_one_bad_line, a_text_is_one_script, each_text_is_a_script_or_has_a_bad_line,
+    scripts_have_no_bad_line,
+};
 use std::alloc::Global;
 
-/// A text says one thing of configurations at most: one is built of it, or none, or it is refused, in
-/// one line and column for one reason.
+/// A text says one thing of configurations at most: one is built of it, or none, or it is refused,
+/// in one line and column for one reason.
 pub fn texts_say_one_thing()
     ensures built { (text : List ℕ) (a b : Config) → IsConfig text a → IsConfig text b → a ≡ b }
     ensures built_or_not { (text : List ℕ) (config : Config)
@@ -61,8 +62,17 @@ pub fn files_have_one_outcome()
     scripts_have_no_bad_line();
 }
 
-/// Of two options of a protocol that say the same kind of thing the last counts; the order of others is
-/// free; and what says nothing here can be left out.
+/// Files that are told come to an outcome, where the configuration says something.
+pub fn told_files_have_an_outcome()
+    ensures { (conf script : List ℕ) (held : Held) (file text : List ℕ)
+        → held conf ≡ Some file → held script ≡ Some text → SaysSomething file
+        → (o : Outcome) × IsRequired (Some (Play conf script)) held o }
+{
+    each_text_is_a_script_or_has_a_bad_line();
+}
+
+/// Of two options of a protocol that say the same kind of thing the last counts; the order of
+/// others is free; and what says nothing here can be left out.
 pub fn the_last_option_of_a_protocol_counts()
     ensures last { (front back : List BgpOption) (o p : BgpOption) → replaces o p ≡ true
         → bgp_says (front ++ o ∷ p ∷ back) ≡ bgp_says (front ++ p ∷ back) }
@@ -74,17 +84,21 @@ pub fn the_last_option_of_a_protocol_counts()
 
 /// The same of the options of a channel.
 pub fn the_last_option_of_a_channel_counts()
-    ensures last { (front back : List ChannelOption) (o p : ChannelOption) → channel_replaces o p ≡ true
+    ensures last { (front back : List ChannelOption) (o p : ChannelOption)
+        → channel_replaces o p ≡ true
         → channel_says (front ++ o ∷ p ∷ back) ≡ channel_says (front ++ p ∷ back) }
-    ensures order { (front back : List ChannelOption) (o p : ChannelOption) → channel_replaces o p ≡ false
+    ensures order { (front back : List ChannelOption) (o p : ChannelOption)
+        → channel_replaces o p ≡ false
         → channel_says (front ++ o ∷ p ∷ back) ≡ channel_says (front ++ p ∷ o ∷ back) }
-    ensures nothing { (front back : List ChannelOption) (o : ChannelOption) → channel_says_nothing o ≡ true
+    ensures nothing { (front back : List ChannelOption) (o : ChannelOption)
+        → channel_says_nothing o ≡ true
         → channel_says (front ++ o ∷ back) ≡ channel_says (front ++ back) }
 {}
 
 /// A statement without an effect can be left out.
 pub fn statements_without_effect_count_for_nothing()
-    ensures { (text : List ℕ) (front back : List Statement) (s : Statement) → has_effect text s ≡ false
+    ensures { (text : List ℕ) (front back : List Statement) (s : Statement)
+        → has_effect text s ≡ false
         → effective text (front ++ s ∷ back) ≡ effective text (front ++ back) }
 {}
 
@@ -94,8 +108,8 @@ pub fn lines_come_to_one_phase()
         → IsPhase config lines p → IsPhase config lines q → p ≡ q }
 {}
 
-/// The history of a play is real: each change is another route than the one that stands, or none where
-/// one stands. The channel's log is empty, or says that it came up before all changes.
+/// The history of a play is real: each change is another route than the one that stands, or none
+/// where one stands. The channel's log is empty, or says that it came up before all changes.
 pub fn plays_make_real_histories()
     ensures real { (config : Config) (lines : List Line) (end : State)
         → Plays config lines start end → IsReal empty end.history }

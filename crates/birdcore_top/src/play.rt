@@ -95,7 +95,8 @@ impl Run {
     /// The session and the channel come up where they are down.
     fn open(&mut self, id: u32) -> Result<(), OutOfMemory>
         ensures opened { OnOk result (state_of self.new ≡ opened self.old.session id (state_of self.old)) }
-        ensures same { OnOk result ((self.new.table ≡ self.old.table) × (self.new.history.items ≡ self.old.history.items)) }
+        ensures same { OnOk result ((self.new.table ≡ self.old.table)
+            × (self.new.history.items ≡ self.old.history.items)) }
     {
         if self.session.is_none() {
             self.log.push(LogItem::Up(self.history.len() as u64))?;
@@ -108,7 +109,8 @@ impl Run {
     fn add(&mut self, config: &Config, net: &Prefix, given: &Given) -> Result<(), OutOfMemory>
         requires is { IsRun self.old }
         requires v4 { family_of net.now.addr ≡ families.V4 }
-        ensures added { OnOk result (Imports self.old.session (λ id. imported (spec_of config.now) id net.now given.now) (state_of self.old) (state_of self.new)) }
+        ensures added { OnOk result (Imports self.old.session
+            (λ id. imported (spec_of config.now) id net.now given.now) (state_of self.old) (state_of self.new)) }
         ensures is { OnOk result (IsRun self.new) }
     {
         match self.session {
@@ -124,7 +126,8 @@ impl Run {
     fn del(&mut self, config: &Config, net: &Prefix) -> Result<(), OutOfMemory>
         requires is { IsRun self.old }
         requires v4 { family_of net.now.addr ≡ families.V4 }
-        ensures deleted { OnOk result (Imports self.old.session (λ id. withdrawn (spec_of config.now) net.now) (state_of self.old) (state_of self.new)) }
+        ensures deleted { OnOk result (Imports self.old.session
+            (λ id. withdrawn (spec_of config.now) net.now) (state_of self.old) (state_of self.new)) }
         ensures is { OnOk result (IsRun self.new) }
     {
         match self.session {
@@ -140,7 +143,8 @@ impl Run {
         requires source { IfSome change.new (λ route. route.src.num ≡ change.num) }
         ensures goes_on { OnOk result (GoesOn self.old.history.items change self.new.history.items) }
         ensures is { OnOk result (IsRun self.new) }
-        ensures rest { OnOk result (state_of self.new ≡ record (state_of self.old) { history = self.new.history.items }) }
+        ensures rest { OnOk result (state_of self.new
+            ≡ record (state_of self.old) { history = self.new.history.items }) }
     {
         if self.table.stands(&change) {
             return Ok(());
@@ -229,7 +233,9 @@ fn report_operations(
 
 /// The journals of both tables. That of IPv6 has no changes.
 fn report_journals(alloc: Global, history: Vec<Change>) -> Result<Seq<JournalReport>, OutOfMemory>
-    ensures { IfOk result (λ parts. parts ≡ record { table = main_table; from = 0; entries = history.items } ∷ record { table = codes "master6"; from = 0; entries = [] } ∷ []) }
+    ensures { IfOk result
+        (λ parts. parts ≡ record { table = main_table; from = 0; entries = history.items }
+        ∷ record { table = codes "master6"; from = 0; entries = [] } ∷ []) }
 {
     let ipv4 = JournalReport {
         table: copy_bytes(alloc, b"master4")?,
@@ -249,7 +255,8 @@ fn report_log(
     name: &[u8],
     log: Vec<LogItem>,
 ) -> Result<Seq<ChannelReport>, OutOfMemory>
-    ensures { IfOk result (λ parts. parts ≡ record { name = name.now; pipe = false; items = log.items } ∷ []) }
+    ensures { IfOk result
+        (λ parts. parts ≡ record { name = name.now; pipe = false; items = log.items } ∷ []) }
 {
     let name = copy_bytes(alloc, name)?;
     one(
@@ -264,7 +271,9 @@ fn report_log(
 
 /// The states of both tables. That of IPv6 has no routes.
 fn report_tables(alloc: Global, rows: Vec<Row>) -> Result<Seq<TableReport>, OutOfMemory>
-    ensures { IfOk result (λ parts. parts ≡ record { name = main_table; rows = rows.items } ∷ record { name = codes "master6"; rows = [] } ∷ []) }
+    ensures { IfOk result
+        (λ parts. parts ≡ record { name = main_table; rows = rows.items }
+        ∷ record { name = codes "master6"; rows = [] } ∷ []) }
 {
     let ipv4 = TableReport {
         name: copy_bytes(alloc, b"master4")?,
@@ -283,7 +292,8 @@ fn report_modes(
     mode: Mode,
     accepted: u64,
 ) -> Result<Seq<ModeReport>, OutOfMemory>
-    ensures { IfOk result (λ parts. parts ≡ record { name = name.now; mode = mode; accepted = Some accepted } ∷ []) }
+    ensures { IfOk result
+        (λ parts. parts ≡ record { name = name.now; mode = mode; accepted = Some accepted } ∷ []) }
 {
     let name = copy_bytes(alloc, name)?;
     one(
@@ -302,7 +312,9 @@ fn report_exports(
     name: &[u8],
     session: Option<u32>,
 ) -> Result<Seq<ExportReport>, OutOfMemory>
-    ensures { IfOk result (λ parts. parts ≡ record { name = name.now; pipe = false; standing = sent_in session } ∷ []) }
+    ensures { IfOk result
+        (λ parts. parts
+        ≡ record { name = name.now; pipe = false; standing = sent_in session } ∷ []) }
 {
     let name = copy_bytes(alloc, name)?;
     let standing = match session {

@@ -9,7 +9,8 @@ use conf_tree::ConfKind;
 use std::alloc::AllocError;
 use thiserror::Error;
 
-/// How the program ended. Its text is the line that is printed on standard error where it isn't `Ok`.
+/// How the program ended. Its text is the line that is printed on standard error where it isn't
+/// `Ok`.
 #[derive(Debug, PartialEq, Eq, Drop, Error)]
 pub enum Status {
     /// The input was read to its end, and the whole report was written.
@@ -18,7 +19,8 @@ pub enum Status {
     /// The words aren't `play CONF SCRIPT`.
     #[error("usage: birdcore COMMAND [CONF [SCRIPT]] [--journal N] [--number N] [-q]")]
     Usage,
-    /// The configuration is refused at this place. Lines, and the bytes of a line, are counted from 1.
+    /// The configuration is refused at this place. Lines, and the bytes of a line, are counted from
+    /// 1.
     #[error("config {line}:{column} {kind}")]
     ConfigRefused {
         line: u32,
@@ -35,11 +37,16 @@ pub enum Status {
     OutOfMemory,
     /// The file of this name has over 2^24 bytes.
     #[error("too long {name}")]
-    TooLong { name: String },
-    /// What the files say isn't built yet: the configuration (file 1, line 0), or a line of the script
-    /// (file 2), counted from 1.
+    TooLong {
+        name: String,
+    },
+    /// What the files say isn't built yet: the configuration (file 1, line 0), or a line of the
+    /// script (file 2), counted from 1.
     #[error("not built {file} {line}")]
-    NotBuilt { file: u32, line: u32 },
+    NotBuilt {
+        file: u32,
+        line: u32,
+    },
 }
 
 impl Status {

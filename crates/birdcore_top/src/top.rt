@@ -40,20 +40,20 @@ pub fn top<R, F: Shelf, K: Sink, G: Gate + Sync>(
     ensures read { result ≡ Status.ReadFault → Rose (F.faults shelf.old) (F.faults shelf.new) }
     ensures in_turn { result ≡ Status.ReadFault
         → IsSomeAnd (command_of words.now)
-            (λ c. MissesInTurn c (F.held shelf.old) (F.missed shelf.old) (F.missed shelf.new)) }
+        (λ c. MissesInTurn c (F.held shelf.old) (F.missed shelf.old) (F.missed shelf.new)) }
     ensures write { result ≡ Status.WriteFault → Rose (K.faults out.old) (K.faults out.new) }
 
     // What is written: the report of the machine's run of these files, a front of it, or nothing.
     ensures report { result ≡ Status.Ok
         → IfReport (command_of words.now) (F.held shelf.old)
-            (λ text. Appends (K.contents out.old) (K.contents out.new) text) }
+        (λ text. Appends (K.contents out.old) (K.contents out.new) text) }
     ensures front { result ≡ Status.WriteFault
         → IfReport (command_of words.now) (F.held shelf.old)
-            (λ text. WritesFront (K.contents out.old) (K.contents out.new) text) }
+        (λ text. WritesFront (K.contents out.old) (K.contents out.new) text) }
     ensures nothing_else { writes result ≡ false → Keeps (K.contents out.old) (K.contents out.new) }
 
-    // What the told files require is answered, or want of memory, unless one of the files that decide
-    // it failed, or the sink where there is a report.
+    // What the told files require is answered, or want of memory, unless one of the files that
+    // decide it failed, or the sink where there is a report.
     ensures exact { (o : Outcome) → IsRequired (command_of words.now) (F.held shelf.old) o
         → NoneFailed (command_of words.now) o (F.missed shelf.old) (F.missed shelf.new)
         → SinkTakes o (K.faults out.old) (K.faults out.new)
@@ -66,25 +66,20 @@ pub fn top<R, F: Shelf, K: Sink, G: Gate + Sync>(
     run(alloc, words, shelf, out)
 }
 
-fn run<F: Shelf, K: Sink>(
-    alloc: Global,
-    words: &[String],
-    shelf: &mut F,
-    out: &mut K,
-) -> Status
+fn run<F: Shelf, K: Sink>(alloc: Global, words: &[String], shelf: &mut F, out: &mut K) -> Status
     ensures usage { (result ≡ Status.Usage) ↔ (command_of words.now ≡ None) }
     ensures cause { HasCause (IsPossible (command_of words.now) (F.held shelf.old)) result }
     ensures read { result ≡ Status.ReadFault → Rose (F.faults shelf.old) (F.faults shelf.new) }
     ensures in_turn { result ≡ Status.ReadFault
         → IsSomeAnd (command_of words.now)
-            (λ c. MissesInTurn c (F.held shelf.old) (F.missed shelf.old) (F.missed shelf.new)) }
+        (λ c. MissesInTurn c (F.held shelf.old) (F.missed shelf.old) (F.missed shelf.new)) }
     ensures write { result ≡ Status.WriteFault → Rose (K.faults out.old) (K.faults out.new) }
     ensures report { result ≡ Status.Ok
         → IfReport (command_of words.now) (F.held shelf.old)
-            (λ text. Appends (K.contents out.old) (K.contents out.new) text) }
+        (λ text. Appends (K.contents out.old) (K.contents out.new) text) }
     ensures front { result ≡ Status.WriteFault
         → IfReport (command_of words.now) (F.held shelf.old)
-            (λ text. WritesFront (K.contents out.old) (K.contents out.new) text) }
+        (λ text. WritesFront (K.contents out.old) (K.contents out.new) text) }
     ensures nothing_else { writes result ≡ false → Keeps (K.contents out.old) (K.contents out.new) }
     ensures absent { FindsLacked (command_of words.now) (F.lacks shelf.old) (F.held shelf.old) result }
 {
@@ -106,7 +101,7 @@ fn prepare<F: Shelf>(alloc: Global, words: &[String], shelf: &mut F) -> Result<V
     ensures read { result ≡ Err Status.ReadFault → Rose (F.faults shelf.old) (F.faults shelf.new) }
     ensures in_turn { result ≡ Err Status.ReadFault
         → IsSomeAnd (command_of words.now)
-            (λ c. MissesInTurn c (F.held shelf.old) (F.missed shelf.old) (F.missed shelf.new)) }
+        (λ c. MissesInTurn c (F.held shelf.old) (F.missed shelf.old) (F.missed shelf.new)) }
     ensures absent { FindsLackedBy (command_of words.now) (F.lacks shelf.old) (F.held shelf.old) result }
 {
     match named(words) {
@@ -136,14 +131,15 @@ fn play_files<F: Shelf>(
     shelf: &mut F,
 ) -> Result<Vec<u8>, Status>
     ensures text { IfOk result (λ text.
-        IfReport (Some (Play conf.now script.now)) (F.held shelf.old) (λ known. text.items ≡ known)) }
+        IfReport (Some (Play conf.now script.now)) (F.held shelf.old)
+        (λ known. text.items ≡ known)) }
     ensures stopped { IfErr result
         (Stops (IsPossible (Some (Play conf.now script.now)) (F.held shelf.old))) }
     ensures usage { result ≢ Err Status.Usage }
     ensures read { result ≡ Err Status.ReadFault → Rose (F.faults shelf.old) (F.faults shelf.new) }
     ensures in_turn { result ≡ Err Status.ReadFault
         → MissesInTurn (Play conf.now script.now) (F.held shelf.old)
-            (F.missed shelf.old) (F.missed shelf.new) }
+        (F.missed shelf.old) (F.missed shelf.new) }
     ensures absent { FindsLackedBy (Some (Play conf.now script.now))
         (F.lacks shelf.old) (F.held shelf.old) result }
 {
@@ -153,7 +149,8 @@ fn play_files<F: Shelf>(
 
 /// Reads the configuration of this name.
 fn read_conf<F: Shelf>(alloc: Global, name: &str, shelf: &mut F) -> Result<Config, Status>
-    ensures config { IfOk result (λ config. IfSome (F.held shelf.old name.now) (Configures config)) }
+    ensures config { IfOk result
+        (λ config. IfSome (F.held shelf.old name.now) (Configures config)) }
     ensures stopped { IfErr result (Stops (ConfGives IfSome name.now (F.held shelf.old name.now))) }
     ensures read { result ≡ Err Status.ReadFault → Rose (F.faults shelf.old) (F.faults shelf.new) }
     ensures by_name { result ≡ Err Status.ReadFault

@@ -1,5 +1,5 @@
-//! Tries configurations and plays that files of cases hold: what is built of each configuration, what
-//! the program answers to each play, and which report it writes.
+//! Tries configurations and plays that files of cases hold: what is built of each configuration,
+//! what the program answers to each play, and which report it writes.
 #![tactic(auto)]
 
 mod configurations;

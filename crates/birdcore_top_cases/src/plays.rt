@@ -54,7 +54,8 @@ pub fn answer(rt: &HostRuntime, input: &[u8]) -> io::Result<String> {
     }
 }
 
-/// The name of the expected report's file where the play is done and writes it, and else what it did.
+/// The name of the expected report's file where the play is done and writes it, and else what it
+/// did.
 pub fn report(rt: &HostRuntime, name: &str, input: &[u8]) -> io::Result<String> {
     let (status, text) = played(rt, input)?;
     let expected = fs::read(rt, name)?;

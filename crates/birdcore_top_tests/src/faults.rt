@@ -7,8 +7,8 @@ use birdcore_top::top::top;
 use outside_io::{Failed, MemShelf, MemSink, OpenGate, Sink, SureShelf};
 use std::test::Fail;
 
-/// The status of the worked run over a shelf whose call of this number fails, what it wrote, and how often the shelf was
-/// called.
+/// The status of the worked run over a shelf whose call of this number fails, what it wrote, and
+/// how often the shelf was called.
 fn played_with_a_fault(rt: &HostRuntime, call: u64) -> Result<(Status, Vec<u8>, u64), Fail> {
     let alloc = rt.alloc();
     let words = words(alloc, &["play", "conf", "script"])?;
