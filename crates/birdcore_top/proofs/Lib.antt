@@ -7,4 +7,5 @@ pub mod Judged
 pub mod Exists
 pub mod PlaySteps
 pub mod Machine
+pub mod Entries
 pub mod OptionOrder

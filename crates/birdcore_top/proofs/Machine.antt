@@ -22,7 +22,7 @@ use Rattle.birdcore_top.specs.Play.{State, start, GoesOn, opened, Imports, Acts,
 
 -- ---- one run
 
-standing_or : (a b : Option Route) → (a ≡ b) ⊎ (a ≢ b)
+pub standing_or : (a b : Option Route) → (a ≡ b) ⊎ (a ≢ b)
 standing_or None None = inl refl
 standing_or None (Some r) = inr (λ h. cc)
 standing_or (Some r) None = inr (λ h. cc)

@@ -11,6 +11,7 @@ ghost use Rattle.birdcore_top.specs.declared.config.Config.{Config};
 ghost use Rattle.conf_tree.specs.declared.kind.ConfKind.{ConfKind};
 ghost use Rattle.birdcore_top.specs.Config.{IsConfig, IsNotBuilt, IsRefusedAt, bgp_says, channel_says, effective, has_effect};
 ghost use Rattle.birdcore_top.specs.OptionKinds.{replaces, rests_on_order, says_nothing, channel_replaces, channel_says_nothing};
+ghost use Rattle.birdcore_top.specs.Entries.{EachComesFrom};
 ghost use Rattle.birdcore_top.specs.Play.{State, start, Plays, IsPhase};
 ghost use Rattle.birdcore_top.specs.Command.{Command, Play, command_of};
 ghost use Rattle.birdcore_top.specs.Outcome.{Held, Outcome, SaysSomething, ConfGives, IsAccepted, IsPossible, IsRequired};
@@ -109,12 +110,15 @@ pub fn lines_come_to_one_phase()
 {}
 
 /// The history of a play is real: each change is another route than the one that stands, or none
-/// where one stands. The channel's log is empty, or says that it came up before all changes.
+/// where one stands. The channel's log is empty, or says that it came up before all changes. Each
+/// change comes from an `add` or a `del` behind the session's `open`.
 pub fn plays_make_real_histories()
     ensures real { (config : Config) (lines : List Line) (end : State)
         → Plays config lines start end → IsReal empty end.history }
     ensures log { (config : Config) (lines : List Line) (end : State)
         → Plays config lines start end → (end.log ≡ []) ⊎ (end.log ≡ Up 0 ∷ []) }
+    ensures entries { (config : Config) (lines : List Line) (end : State)
+        → Plays config lines start end → EachComesFrom config lines end.history }
 {}
 
 /// Plays the files of a shelf that never fails, and lets the report go to a sink that takes all.

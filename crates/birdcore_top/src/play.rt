@@ -178,7 +178,6 @@ impl Run {
         requires { IsRun self }
         ensures { IfOk result (Reports config.now (state_of self)) }
     {
-        let rows = self.table.select(&Select::All)?;
         let accepted = self.table.total();
         let name = config.name.as_slice();
         let mode = mode_of(self.session);
@@ -191,7 +190,7 @@ impl Run {
             ops,
             replies,
         } = self;
-        drop(table);
+        let rows = table.into_rows()?;
         Ok(PhaseReport {
             number: 1,
             protocols: report_operations(alloc, name, ops)?,
