@@ -30,11 +30,6 @@ pub plays_more : (config : Config) (lines : List Line) (line : Line) (s t u : St
 plays_more config [] line s t u plays step = (u, subst (λ (v : State). Steps config line v u) (sym plays) step, refl)
 plays_more config (first ∷ lines) line s t u plays step = (plays.0, plays.1, plays_more config lines line plays.0 t u plays.2 step)
 
-pub line_at_is_v4 : (lines : List Line) (k : ℕ) (line : Line) → AreOfV4 lines → k < length lines → line ≡ get_or lines k line → IsOfV4 line
-line_at_is_v4 [] k line are within is = absurd (omega arith)
-line_at_is_v4 (first ∷ lines) zero line are within is = subst IsOfV4 (sym is) are.0
-line_at_is_v4 (first ∷ lines) (suc k) line are within is = line_at_is_v4 lines k line are.1 (omega arith) is
-
 op_is_v4 : (n : ℕ) (words : List (List ℕ)) (op : Op) → IsOperation words op → IsOfV4 (Apply n op)
 op_is_v4 n words (SessionUp id) is = tt
 op_is_v4 n words (Add net given) is = is.2.net_family
