@@ -29,7 +29,7 @@ module _ (each : (name text : List ℕ) → ((lines : List Line) × IsScript nam
   play_outcome conf script held file text says = elim (within_or file) [
     | inl long ↦ (OverLimit conf, inl (refl, long))
     | inr within ↦ elim says [
-      | inl is ↦ let found = script_outcome is.0 script text in (found.0, inr (is.0, ((within, is.1), found.1)))
+      | inl is ↦ let found = script_outcome is.0 script text in (found.0, inr (is.0, (within, is.1), found.1))
       | inr other ↦ elim other [
         | inl unbuilt ↦ (Unbuilt, inl (within, unbuilt))
         | inr refused ↦ (Refused refused.0 refused.1 refused.2, inl (within, refused.3))
