@@ -1,0 +1,113 @@
+-- What the program answers to an outcome, and when it answers something else.
+use Rattle.std.specs.Prelude.{◌≡◌, ℕ, ◌⊎◌, Bool, true, false, List, ⊤, Option, Some, None, IfSome, IsSomeAnd, IsTrue, Result, IsErrAnd}
+use Rattle.std.specs.List.{All}
+use Rattle.std.specs.String.{string_bytes}
+use Rattle.conf_tree.specs.declared.kind.ConfKind.{ConfKind}
+use Rattle.outside_io.specs.Faults.{Rose}
+use Rattle.outside_io.specs.declared.whole.ReadError.{ReadError}
+use Rattle.outside_io.specs.declared.whole.ReadError.TheVariants as errors
+use Rattle.birdcore_top.specs.declared.config.ConfigFault.{ConfigFault}
+use Rattle.birdcore_top.specs.declared.config.ConfigFault.TheVariants as faults
+use Rattle.birdcore_top.specs.declared.status.Status.{Status}
+use Rattle.birdcore_top.specs.declared.status.Status.TheVariants.{Ok, Usage, ConfigRefused, NotBuilt, ReadFault, WriteFault, OutOfMemory, TooLong}
+use Rattle.birdcore_top.specs.Command.{Command, Play}
+use Rattle.birdcore_top.specs.Outcome.{Held, Outcome, Misused, OverLimit, Refused, Unbuilt, BadLine, Played, ConfGives, IsAccepted, IsPossible, IsRequired, files_read}
+
+-- the answer to an outcome
+abbrev pub Answers : Outcome → Status → Type 0
+Answers Misused Usage = ⊤
+Answers (OverLimit name) (TooLong word) = string_bytes word ≡ name
+Answers (Refused line column kind) (ConfigRefused l c k) = (l ≡ line) × (c ≡ column) × (k ≡ kind)
+Answers Unbuilt (NotBuilt file line) = (file ≡ 1) × (line ≡ 0)
+Answers (BadLine n) (NotBuilt file line) = (file ≡ 2) × (line ≡ n)
+Answers (Played config lines) Ok = ⊤
+Answers _ _ = ⊥
+
+-- A fault and want of memory answer no outcome: they come in place of the answer.
+abbrev pub is_answer : Status → Bool
+is_answer ReadFault = false
+is_answer WriteFault = false
+is_answer OutOfMemory = false
+is_answer _ = true
+
+-- this status has written something
+abbrev pub writes : Status → Bool
+writes Ok = true
+writes WriteFault = true
+writes _ = false
+
+-- The status answers an outcome that may be due.
+abbrev pub HasCause : (Outcome → Type 0) → Status → Type 0
+HasCause possible status = IsTrue (is_answer status) → (o : Outcome) × possible o × Answers o status
+
+-- Reading failed under a name that was read in its turn: CONF, or SCRIPT once CONF is accepted.
+abbrev pub MissesInTurn : Command → Held → (List ℕ → ℕ) → (List ℕ → ℕ) → Type 0
+MissesInTurn (Play conf script) held before now =
+    Rose (before conf) (now conf)
+    ⊎ (IfSome (held conf) IsAccepted × Rose (before script) (now script))
+
+-- None of the files that decide an outcome failed.
+abbrev pub NoneFailed : Option Command → Outcome → (List ℕ → ℕ) → (List ℕ → ℕ) → Type 0
+NoneFailed command o before now = IfSome command
+    (λ c. All (λ name. Rose (before name) (now name) → ⊥) (files_read c o))
+
+-- The sink didn't fail, where the outcome is written.
+abbrev pub SinkTakes : Outcome → ℕ → ℕ → Type 0
+SinkTakes (Played config lines) before now = Rose before now → ⊥
+SinkTakes _ before now = ⊤
+
+abbrev pub IsMissed : Status → Type 0
+IsMissed status = (status ≡ ReadFault) ⊎ (status ≡ OutOfMemory)
+
+-- The status answers an outcome for which the script isn't read.
+abbrev pub AnswersConf : Command → Held → Status → Type 0
+AnswersConf (Play conf script) held status = (o : Outcome) × ConfGives IfSome conf (held conf) o
+    × Answers o status
+
+-- what is answered where a file isn't held: CONF, or SCRIPT unless CONF is refused itself
+pub record MissesLacked (lacks : List ℕ → Bool) (held : Held) (status : Status)
+    (conf script : List ℕ) : Type 0 where
+  pub conf_lacked : IsTrue (lacks conf) → IsMissed status
+  pub script_lacked : IsTrue (lacks script) → IsMissed status
+      ⊎ AnswersConf (Play conf script) held status
+
+abbrev pub FindsLacked : Option Command → (List ℕ → Bool) → Held → Status → Type 0
+FindsLacked None lacks held status = ⊤
+FindsLacked (Some (Play conf script)) lacks held status = MissesLacked lacks held status conf script
+
+-- what is answered where a configuration gives nothing that is built
+abbrev pub status_of : ConfigFault → Status
+status_of (faults.Refused line column kind) = ConfigRefused line column kind
+status_of faults.NotBuilt = NotBuilt 1 0
+status_of faults.Memory = OutOfMemory
+
+-- A status before anything is written, with the outcome that it answers.
+pub record Stops (possible : Outcome → Type 0) (status : Status) : Type 0 where
+  pub silent : writes status ≡ false
+  pub cause : HasCause possible status
+
+-- the same of a result, in which a text is no status yet
+abbrev pub FindsLackedBy : {T : Type 0} → Option Command → (List ℕ → Bool) → Held → Result T Status
+    → Type 0
+FindsLackedBy None lacks held result = ⊤
+FindsLackedBy (Some (Play conf script)) lacks held result =
+    (IsTrue (lacks conf) → IsErrAnd result IsMissed)
+    × (IsTrue (lacks script) → IsErrAnd result
+    (λ status. IsMissed status ⊎ AnswersConf (Play conf script) held status))
+
+-- what is answered where the file of this name isn't read to its end
+abbrev pub IsReadStatus : List ℕ → ReadError → Status → Type 0
+IsReadStatus name errors.Failed status = status ≡ ReadFault
+IsReadStatus name errors.TooLong status = Answers (OverLimit name) status ⊎ (status ≡ OutOfMemory)
+IsReadStatus name errors.Memory status = status ≡ OutOfMemory
+
+-- the exit status of the program
+abbrev pub number_of : Status → ℕ
+number_of Ok = 0
+number_of Usage = 1
+number_of (ConfigRefused line column kind) = 2
+number_of ReadFault = 4
+number_of WriteFault = 5
+number_of OutOfMemory = 6
+number_of (TooLong word) = 7
+number_of (NotBuilt file line) = 9

@@ -1,0 +1,102 @@
+//! How the program ended.
+ghost use Rattle.std.specs.Prelude.{◌≡◌};
+ghost use Rattle.birdcore_top.specs.Answer.{number_of};
+ghost use Rattle.birdcore_top.specs.declared.status.Status.TheVariants.{OutOfMemory};
+
+use crate::config::ConfigFault;
+use bits_ip::OutOfMemory;
+use conf_tree::ConfKind;
+use std::alloc::AllocError;
+use thiserror::Error;
+
+/// How the program ended. Its text is the line that is printed on standard error where it isn't
+/// `Ok`.
+#[derive(Debug, PartialEq, Eq, Drop, Error)]
+pub enum Status {
+    /// The input was read to its end, and the whole report was written.
+    #[error("ok")]
+    Ok,
+    /// The words aren't `play CONF SCRIPT`.
+    #[error("usage: birdcore COMMAND [CONF [SCRIPT]] [--journal N] [--number N] [-q]")]
+    Usage,
+    /// The configuration is refused at this place. Lines, and the bytes of a line, are counted from
+    /// 1.
+    #[error("config {line}:{column} {kind}")]
+    ConfigRefused {
+        line: u32,
+        column: u32,
+        kind: ConfKind,
+    },
+    /// A file couldn't be read.
+    #[error("read fault")]
+    ReadFault,
+    /// The report couldn't be written to its end.
+    #[error("write fault")]
+    WriteFault,
+    #[error("out of memory")]
+    OutOfMemory,
+    /// The file of this name has over 2^24 bytes.
+    #[error("too long {name}")]
+    TooLong {
+        name: String,
+    },
+    /// What the files say isn't built yet: the configuration (file 1, line 0), or a line of the
+    /// script (file 2), counted from 1.
+    #[error("not built {file} {line}")]
+    NotBuilt {
+        file: u32,
+        line: u32,
+    },
+}
+
+impl Status {
+    /// The program's exit status: 0 for `Ok` alone, and another for each other one.
+    pub fn number(&self) -> u8
+        ensures { result ≡ number_of self.now }
+    {
+        match self {
+            Status::Ok => 0,
+            Status::Usage => 1,
+            Status::ConfigRefused { .. } => 2,
+            Status::ReadFault => 4,
+            Status::WriteFault => 5,
+            Status::OutOfMemory => 6,
+            Status::TooLong { .. } => 7,
+            Status::NotBuilt { .. } => 9,
+        }
+    }
+}
+
+impl From<AllocError> for Status {
+    ghost from_gives = { λ _ status. status ≡ OutOfMemory };
+
+    fn from(_: AllocError) -> Self {
+        Status::OutOfMemory
+    }
+}
+
+impl From<OutOfMemory> for Status {
+    ghost from_gives = { λ _ status. status ≡ OutOfMemory };
+
+    fn from(_: OutOfMemory) -> Self {
+        Status::OutOfMemory
+    }
+}
+
+impl From<ConfigFault> for Status {
+    ghost use Rattle.birdcore_top.specs.Answer.{status_of};
+
+    ghost from_gives = { λ fault status. status ≡ status_of fault };
+
+    fn from(fault: ConfigFault) -> Self {
+        match fault {
+            ConfigFault::Refused { line, column, kind } => Status::ConfigRefused {
+                line,
+                column,
+                kind,
+            },
+            ConfigFault::NotBuilt => Status::NotBuilt { file: 1, line: 0 },
+            ConfigFault::Memory => Status::OutOfMemory,
+        }
+    }
+}

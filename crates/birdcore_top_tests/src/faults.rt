@@ -1,0 +1,118 @@
+ghost use Rattle.std.specs.Prelude.{[], Some};
+
+use crate::worked::{CONF, REPORT, SCRIPT, files, words};
+use birdcore_top::Status;
+use birdcore_top::laws::play_surely;
+use birdcore_top::top::top;
+use outside_io::{Failed, MemShelf, MemSink, OpenGate, Sink, SureShelf};
+use std::test::Fail;
+
+/// The status of the worked run over a shelf whose call of this number fails, what it wrote, and
+/// how often the shelf was called.
+fn played_with_a_fault(rt: &HostRuntime, call: u64) -> Result<(Status, Vec<u8>, u64), Fail> {
+    let alloc = rt.alloc();
+    let words = words(alloc, &["play", "conf", "script"])?;
+    let mut shelf = MemShelf::new(alloc, files(alloc, CONF, SCRIPT)?);
+    shelf.failing.push(call)?;
+    let mut sink = MemSink::new(alloc);
+    let status = top(rt, alloc, &words, &mut shelf, &mut sink, &OpenGate);
+    Ok((status, sink.bytes, shelf.calls))
+}
+
+#[test]
+fn each_read_can_fail(rt: HostRuntime) -> Result<(), Fail> {
+    let (status, text, calls) = played_with_a_fault(&rt, 0)?;
+    assert_eq!(rt; status, Status::Ok);
+    assert_eq!(rt; text.as_slice(), REPORT.as_bytes());
+    // Each of the two files takes a read at least.
+    assert!(rt; calls >= 2);
+    for done in 0..calls {
+        let (status, text, _) = played_with_a_fault(&rt, done + 1)?;
+        assert_eq!(rt; status, Status::ReadFault, "behind {done}");
+        assert_eq!(rt; text.len(), 0);
+    }
+    Ok(())
+}
+
+/// Takes one byte a call, and fails where its sink does.
+struct Slow {
+    sink: MemSink,
+}
+
+impl Sink for Slow {
+    ghost contents = { λ s. Some s.sink.bytes.items };
+
+    ghost faults = { λ s. s.sink.faults };
+
+    fn write(&mut self, piece: &[u8]) -> Result<usize, Failed> {
+        self.sink.write(&piece[..piece.len().min(1)])
+    }
+}
+
+/// The status of the worked run into a slow sink whose call of this number fails, and what it took.
+fn written_slowly(rt: &HostRuntime, call: u64) -> Result<(Status, Vec<u8>), Fail> {
+    let alloc = rt.alloc();
+    let words = words(alloc, &["play", "conf", "script"])?;
+    let mut shelf = SureShelf {
+        files: files(alloc, CONF, SCRIPT)?,
+    };
+    let mut sink = MemSink::new(alloc);
+    sink.failing.push(call)?;
+    let mut slow = Slow { sink };
+    let status = top(rt, alloc, &words, &mut shelf, &mut slow, &OpenGate);
+    let Slow { sink } = slow;
+    Ok((status, sink.bytes))
+}
+
+#[test]
+fn a_slow_sink_gets_the_report_up_to_its_fault(rt: HostRuntime) -> Result<(), Fail> {
+    for taken in 0..REPORT.len() {
+        let (status, text) = written_slowly(&rt, taken as u64 + 1)?;
+        assert_eq!(rt; status, Status::WriteFault, "behind {taken}");
+        assert_eq!(rt; text.as_slice(), &REPORT.as_bytes()[..taken]);
+    }
+    let (status, text) = written_slowly(&rt, REPORT.len() as u64 + 1)?;
+    assert_eq!(rt; status, Status::Ok);
+    assert_eq!(rt; text.as_slice(), REPORT.as_bytes());
+    Ok(())
+}
+
+/// Takes nothing, which is a fault.
+#[derive(Drop)]
+struct Stuck {
+    faults: u64,
+}
+
+impl Sink for Stuck {
+    ghost contents = { λ s. Some [] };
+
+    ghost faults = { λ s. s.faults };
+
+    fn write(&mut self, _piece: &[u8]) -> Result<usize, Failed> {
+        self.faults = self.faults.saturating_add(1);
+        Ok(0)
+    }
+}
+
+#[test]
+fn a_sink_that_takes_nothing_is_a_write_fault(rt: HostRuntime) -> Result<(), Fail> {
+    let alloc = rt.alloc();
+    let words = words(alloc, &["play", "conf", "script"])?;
+    let mut shelf = MemShelf::new(alloc, files(alloc, CONF, SCRIPT)?);
+    let mut stuck = Stuck { faults: 0 };
+    let status = top(&rt, alloc, &words, &mut shelf, &mut stuck, &OpenGate);
+    assert_eq!(rt; status, Status::WriteFault);
+    assert_eq!(rt; stuck.faults, 1);
+    Ok(())
+}
+
+#[test]
+fn the_worked_run_over_what_never_fails_is_done(rt: HostRuntime) -> Result<(), Fail> {
+    let alloc = rt.alloc();
+    let words = words(alloc, &["play", "conf", "script"])?;
+    let mut shelf = SureShelf {
+        files: files(alloc, CONF, SCRIPT)?,
+    };
+    assert_eq!(rt; play_surely(alloc, &words, &mut shelf), Status::Ok);
+    Ok(())
+}

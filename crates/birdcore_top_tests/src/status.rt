@@ -1,0 +1,34 @@
+use birdcore_top::Status;
+use conf_tree::ConfKind;
+use std::test::Fail;
+
+#[test]
+fn a_status_has_a_line_and_a_number(rt: HostRuntime) -> Result<(), Fail> {
+    let alloc = rt.alloc();
+    let refused = Status::ConfigRefused {
+        line: 3,
+        column: 15,
+        kind: ConfKind::Syntax,
+    };
+    let name = String::from_str(alloc, "conf")?;
+    let table = [
+        (
+            Status::Usage,
+            1,
+            "usage: birdcore COMMAND [CONF [SCRIPT]] [--journal N] [--number N] [-q]",
+        ),
+        (refused, 2, "config 3:15 C2 Syntax"),
+        (Status::ReadFault, 4, "read fault"),
+        (Status::WriteFault, 5, "write fault"),
+        (Status::OutOfMemory, 6, "out of memory"),
+        (Status::TooLong { name }, 7, "too long conf"),
+        (Status::NotBuilt { file: 2, line: 4 }, 9, "not built 2 4"),
+    ];
+    assert_eq!(rt; Status::Ok.number(), 0);
+    for (status, number, line) in table.iter() {
+        assert_eq!(rt; status.number(), *number);
+        let text = format!(in alloc; "{status}")?;
+        assert_eq!(rt; text.as_str(), *line);
+    }
+    Ok(())
+}

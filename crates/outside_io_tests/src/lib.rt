@@ -1,0 +1,9 @@
+//! Tests of `outside_io`.
+#![tactic(auto)]
+
+#[cfg(test)]
+mod faults;
+#[cfg(test)]
+mod outside;
+#[cfg(test)]
+mod whole;
