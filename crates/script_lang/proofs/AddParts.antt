@@ -7,7 +7,7 @@ use Rattle.bits_ip.specs.declared.address.Addr.{Addr}
 use Rattle.attrs.specs.Text.{origin_text}
 use Rattle.attrs.specs.declared.attributes.Origin.{Origin}
 use Rattle.import_core.specs.declared.operation.Given.{Given}
-use Rattle.text.specs.Numbers.{IsNumber}
+use Rattle.bits_ip.specs.Numbers.{IsNumber}
 use Rattle.script_lang.specs.Script.{AreNumbers, IsAdd, IsCom}
 use Rattle.script_lang.specs.Inside.{HasNoNumber, BeginWithNumbers, IsVia, IsOrigin, IsPathAndOrigin, BeginWithOptions, AreOptions, AreNoOptions}
 use Rattle.script_lang.proofs.Options.{options_begin, options_same, options_read}

@@ -15,7 +15,7 @@ use Rattle.attrs.specs.Clist.{same_pair, has_pair}
 use Rattle.attrs.specs.declared.clist.ClistFault.{ClistFault}
 use Rattle.attrs.specs.declared.clist.ClistFault.TheVariants.{ClistLong, Memory}
 use Rattle.script_lang.specs.declared.refusal.Refusal.{Refusal}
-use Rattle.text.specs.Numbers.{IsNumber}
+use Rattle.bits_ip.specs.Numbers.{IsNumber}
 use Rattle.script_lang.specs.Script.{IsCommunity, AreCommunities, IsCom, each_once}
 use Rattle.script_lang.specs.Inside.{IfForm, refusal_of, is_no_colon, IsCut, with_pair, AddsOne, FitsNone, AreOnce}
 use Rattle.text.specs.Cut.{first_passes}

@@ -1,7 +1,7 @@
 -- The numbers at the front of some words.
 use Rattle.std.proofs.Common.{◌≡◌, ◌∙◌, sym, ap, refl, ℕ, List, [], ◌∷◌, ◌++◌}
 use Rattle.std.proofs.lemmas.List.{append_assoc}
-use Rattle.text.specs.Numbers.{IsNumber}
+use Rattle.bits_ip.specs.Numbers.{IsNumber}
 use Rattle.script_lang.specs.Script.{AreNumbers}
 use Rattle.script_lang.specs.Inside.{HasNoNumber, BeginWithNumber, BeginWithNumbers}
 

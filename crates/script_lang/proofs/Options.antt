@@ -1,7 +1,7 @@
 -- The optional parts of an `add`.
 use Rattle.std.proofs.Common.{◌≡◌, ◌∙◌, sym, ap, refl, subst, ℕ, List, [], ◌∷◌, ◌++◌, length, arith, Option, Some, None, inl, inr}
 use Rattle.std.specs.Prelude.{codes}
-use Rattle.text.specs.Numbers.{IsNumber}
+use Rattle.bits_ip.specs.Numbers.{IsNumber}
 use Rattle.script_lang.specs.Script.{IsOption, IsCom}
 use Rattle.script_lang.specs.Inside.{BeginsNot, BeginWithOption, BeginWithOptions, AreOptions}
 use Rattle.script_lang.proofs.CommandParts.{first_byte}

@@ -15,7 +15,7 @@ use Rattle.attrs.specs.Text.{origin_text}
 use Rattle.attrs.specs.declared.attributes.Origin.{Origin}
 use Rattle.attrs.specs.declared.attributes.Origin.TheVariants.{Igp, Egp, Incomplete}
 use Rattle.text.specs.Cut.{behind}
-use Rattle.text.specs.Numbers.{IsNumber}
+use Rattle.bits_ip.specs.Numbers.{IsNumber}
 use Rattle.script_lang.specs.Script.{IsCommunity}
 use Rattle.script_lang.specs.Inside.{is_no_colon, IsCut}
 use Rattle.script_lang.proofs.CommunityWords.{cut_none, cut_some, no_colon, no_left, no_right}

@@ -17,7 +17,7 @@ use Rattle.attrs.specs.declared.attributes.Origin.{Origin}
 use Rattle.attrs.specs.declared.clist.ClistFault.{ClistFault}
 use Rattle.attrs.specs.declared.clist.ClistFault.TheVariants.{ClistLong}
 use Rattle.attrs.specs.declared.clist.ClistFault.TheVariants as faults
-use Rattle.text.specs.Numbers.{IsNumber}
+use Rattle.bits_ip.specs.Numbers.{IsNumber}
 use Rattle.script_lang.specs.declared.refusal.Refusal.{Refusal}
 use Rattle.script_lang.specs.declared.refusal.Refusal.TheVariants.{Form, Memory}
 use Rattle.script_lang.specs.declared.commands.Verb.{Verb}

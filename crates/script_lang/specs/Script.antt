@@ -13,7 +13,7 @@ use Rattle.bits_ip.specs.declared.address.Family.TheVariants as families
 use Rattle.attrs.specs.Clist.{same_pair}
 use Rattle.attrs.specs.Text.{origin_text}
 use Rattle.text.specs.Lines.{lines_of, words_of, begins_with}
-use Rattle.text.specs.Numbers.{IsNumber}
+use Rattle.bits_ip.specs.Numbers.{IsNumber}
 use Rattle.import_core.specs.declared.operation.Given.{Given}
 use Rattle.import_core.specs.declared.operation.Op.{Op}
 use Rattle.import_core.specs.declared.operation.Op.TheVariants.{SessionUp, Add, Del}

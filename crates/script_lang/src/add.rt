@@ -16,10 +16,10 @@ use crate::communities::read_com;
 use crate::refusal::Refusal;
 use crate::words::parse_v4_prefix;
 use attrs::{Origin, Path};
-use bits_ip::{Addr, Prefix, parse_v4};
+use bits_ip::{Addr, Prefix, parse_decimal, parse_v4};
 use import_core::Given;
 use std::alloc::Global;
-use text::{expect_word, next_word, read_number};
+use text::{expect_word, next_word};
 
 /// The net of an `add`, and what the line says of the route.
 pub fn read_add(alloc: Global, rest: &[u8]) -> Result<(Prefix, Given), Refusal>
@@ -121,7 +121,7 @@ fn next_number(rest: &[u8]) -> Option<(u32, &[u8])>
     ensures shorter { MatchOption result ⊤ (λ found. length found.1.now < length rest.now) }
 {
     let (word, after) = next_word(rest)?;
-    let number = read_number(word)?;
+    let number = parse_decimal(word)?;
     Some((number, after))
 }
 

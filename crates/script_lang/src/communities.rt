@@ -3,15 +3,16 @@ ghost use Rattle.std.specs.Prelude.{◌≡◌, ◌≤◌, ◌<◌, ◌^◌, ℕ,
 ghost use Rattle.std.specs.Prelude.{MatchResult};
 ghost use Rattle.std.specs.List.{prefix_len, list_all};
 ghost use Rattle.text.specs.Lines.{words_of};
-ghost use Rattle.text.specs.Numbers.{IsNumber};
+ghost use Rattle.bits_ip.specs.Numbers.{IsNumber};
 ghost use Rattle.script_lang.specs.Script.{IsCommunity, IsCom};
 ghost use Rattle.script_lang.specs.Inside.{IfForm, NoneIs, is_no_colon, IsCut, AddsOne, FitsNone};
 ghost use Rattle.script_lang.specs.Inside.{AreOnce};
 
 use crate::refusal::Refusal;
 use attrs::Clist;
+use bits_ip::parse_decimal;
 use std::alloc::Global;
-use text::{expect_word, is_end, next_word, read_number};
+use text::{expect_word, is_end, next_word};
 
 /// The communities of an `add`, to the line's end.
 pub fn read_com(alloc: Global, rest: &[u8]) -> Result<Clist, Refusal>
@@ -74,7 +75,7 @@ fn read_part(word: &[u8]) -> Option<u16>
         ((n : ℕ) → IsNumber word.now n → n < 2 ^ 16 → ⊥)
         (λ n. IsNumber word.now n × (n < 2 ^ 16)) }
 {
-    let number = read_number(word)?;
+    let number = parse_decimal(word)?;
     u16::try_from(number).ok()
 }
 

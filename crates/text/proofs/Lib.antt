@@ -1,4 +1,3 @@
 pub mod Runs
 mod LineCuts
 mod WordCuts
-pub mod Numerals

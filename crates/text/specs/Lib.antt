@@ -1,4 +1,3 @@
 pub mod Lines
 pub mod Cut
-pub mod Numbers
 pub mod Names

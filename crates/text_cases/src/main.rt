@@ -1,5 +1,4 @@
-//! Tries texts that files of cases hold: the lines of a text, the words of a line, and the number
-//! that a word spells.
+//! Tries texts that files of cases hold: the lines of a text, and the words of a line.
 //!
 //! Lines and words are written in brackets, one behind another, with `\t` for a tab and `\r` for a
 //! return; `-` is none.
@@ -9,7 +8,7 @@ use cases::{Tally, read};
 use std::alloc::Global;
 use std::io;
 use std::process::ExitCode;
-use text::{cut_line, next_word, read_number};
+use text::{cut_line, next_word};
 
 fn push_piece(piece: &[u8], out: &mut String) -> io::Result<()> {
     out.push('[')?;
@@ -42,13 +41,6 @@ fn words_text(alloc: Global, text: &[u8]) -> io::Result<String> {
         rest = after;
     }
     Ok(out)
-}
-
-fn number_text(alloc: Global, word: &[u8]) -> io::Result<String> {
-    match read_number(word) {
-        Some(number) => Ok(format!(in alloc; "{number}")?),
-        None => Ok(String::from_str(alloc, "-")?),
-    }
 }
 
 fn are_cut(rt: &HostRuntime) -> io::Result<bool> {
@@ -85,20 +77,10 @@ fn are_split(rt: &HostRuntime) -> io::Result<bool> {
     tally.finish(rt)
 }
 
-fn are_numbers(rt: &HostRuntime) -> io::Result<bool> {
-    let mut tally = Tally::new("numbers.txt");
-    for case in read(rt, "numbers.txt")?.iter() {
-        let answer = number_text(rt.alloc(), case.input.as_slice())?;
-        tally.note(rt, case, answer.as_str())?;
-    }
-    tally.finish(rt)
-}
-
 fn main(rt: HostRuntime) -> io::Result<ExitCode> {
     let lines = are_cut(&rt)?;
     let words = are_split(&rt)?;
-    let numbers = are_numbers(&rt)?;
-    Ok(if lines && words && numbers {
+    Ok(if lines && words {
         ExitCode::SUCCESS
     } else {
         ExitCode::FAILURE
