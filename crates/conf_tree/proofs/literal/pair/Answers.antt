@@ -1,0 +1,28 @@
+use Rattle.std.proofs.Common.{refl}
+use Rattle.std.proofs.lemmas.Result.{err_from_is_err_and}
+use Rattle.grammar.proofs.Shapes.{fails_then}
+use Rattle.conf_tree.proofs.literal.pair.Goals as goal
+
+pub returns-in_err-first : goal.returns-in_err-first
+returns-in_err-first c =
+    let p = err_from_is_err_and c.from_residual.result c.from_residual.ensures.1 in
+    rw (p.1, p.2) (fails_then _ _ _ (fails_then _ _ _ c.in_err-first.ensures))
+
+pub returns-in_err-rest : goal.returns-in_err-rest
+returns-in_err-rest c =
+    let p = err_from_is_err_and c.from_residual-in_err-rest.result c.from_residual-in_err-rest.ensures.1 in
+    rw (p.1, p.2, c.in_ok-first.ensures) (fails_then _ _ _ (fails_then _ _ _ (fails_then _ _ _ c.in_err-rest.ensures)))
+
+pub returns-in_err-second : goal.returns-in_err-second
+returns-in_err-second c =
+    let p = err_from_is_err_and c.from_residual-in_err-second.result c.from_residual-in_err-second.ensures.1 in
+    rw (p.1, p.2, c.in_ok-first.ensures, c.in_ok-rest.ensures) (fails_then _ _ _ (fails_then _ _ _ (fails_then _ _ _ (fails_then _ _ _ c.in_err-second.ensures))))
+
+pub returns-in_err-rest-2 : goal.returns-in_err-rest-2
+returns-in_err-rest-2 c =
+    let p = err_from_is_err_and c.from_residual-in_err-rest-2.result c.from_residual-in_err-rest-2.ensures.1 in
+    rw (p.1, p.2, c.in_ok-first.ensures, c.in_ok-rest.ensures, c.in_ok-second.ensures) (fails_then _ _ _ (fails_then _ _ _ (fails_then _ _ _ (fails_then _ _ _ c.in_err-rest-2.ensures))))
+
+pub returns : goal.returns
+returns c =
+    rw (c.in_ok-first.ensures, c.in_ok-rest.ensures, c.in_ok-second.ensures, c.in_ok-rest-2.ensures) refl

@@ -1,0 +1,23 @@
+use Rattle.std.proofs.Common.{refl}
+use Rattle.std.proofs.lemmas.Result.{err_from_is_err_and}
+use Rattle.grammar.proofs.Shapes.{fails_then}
+use Rattle.conf_tree.proofs.statement.table_of.Goals as goal
+
+pub returns-in_err-rest : goal.returns-in_err-rest
+returns-in_err-rest c =
+    let p = err_from_is_err_and c.from_residual.result c.from_residual.ensures.1 in
+    rw (p.1, p.2) (fails_then _ _ _ (fails_then _ _ _ c.in_err-rest.ensures))
+
+pub returns-in_err-name : goal.returns-in_err-name
+returns-in_err-name c =
+    let p = err_from_is_err_and c.from_residual-in_err-name.result c.from_residual-in_err-name.ensures.1 in
+    rw (p.1, p.2, c.in_ok-rest.ensures) (fails_then _ _ _ (fails_then _ _ _ (fails_then _ _ _ c.in_err-name.ensures)))
+
+pub returns-in_err-rest-2 : goal.returns-in_err-rest-2
+returns-in_err-rest-2 c =
+    let p = err_from_is_err_and c.from_residual-in_err-rest-2.result c.from_residual-in_err-rest-2.ensures.1 in
+    rw (p.1, p.2, c.in_ok-rest.ensures, c.in_ok-name.ensures) (fails_then _ _ _ (fails_then _ _ _ (fails_then _ _ _ c.in_err-rest-2.ensures)))
+
+pub returns : goal.returns
+returns c =
+    rw (c.in_ok-rest.ensures, c.in_ok-name.ensures, c.in_ok-rest-2.ensures) refl
