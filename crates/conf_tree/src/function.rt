@@ -20,6 +20,7 @@ use filt_syntax::{Function, Parameter, Separator, VariableType};
 use grammar::{Refusal, after, expect, expect_name};
 use std::alloc::Global;
 
+#[tactic(auto, unfolding(crate::specs::Readers::parameter_at, filt_syntax::specs::StatementReaders::vtype_at))]
 fn parameter<'a>(
     separator: Option<Separator>,
     words: &'a [Word],

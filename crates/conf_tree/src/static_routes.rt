@@ -21,6 +21,7 @@ use conf_lex::{Symbol, Word};
 use grammar::{Refusal, after, expect, next_prefix};
 use std::alloc::Global;
 
+#[tactic(auto, unfolding(crate::specs::Readers::route_target_at))]
 fn route_target(words: &[Word]) -> Result<(RouteTarget, &[Word]), Refusal>
     ensures { Gives target_tree result (route_target_at 0 words.now) }
 {
