@@ -1,0 +1,18 @@
+use Rattle.std.proofs.Common.{refl}
+use Rattle.std.proofs.lemmas.Result.{err_from_is_err_and}
+use Rattle.grammar.proofs.Shapes.{fails_then}
+use Rattle.conf_tree.proofs.policy.where_policy.Goals as goal
+
+pub returns-in_err-rest : goal.returns-in_err-rest
+returns-in_err-rest c =
+    let p = err_from_is_err_and c.from_residual.result c.from_residual.ensures.1 in
+    rw (p.1, p.2) (fails_then _ _ _ (fails_then _ _ _ c.in_err-rest.ensures))
+
+pub returns-in_err-condition : goal.returns-in_err-condition
+returns-in_err-condition c =
+    let p = err_from_is_err_and c.from_residual-in_err-condition.result c.from_residual-in_err-condition.ensures.1 in
+    rw (p.1, p.2, c.in_ok-rest.ensures) (fails_then _ _ _ (fails_then _ _ _ c.in_err-condition.ensures))
+
+pub returns : goal.returns
+returns c =
+    rw (c.in_ok-rest.ensures, c.in_ok-condition.ensures) refl
