@@ -4,7 +4,7 @@ ghost use Rattle.bits_ip.specs.Text.{addr_text};
 ghost use Rattle.attrs.specs.Text.{attrs_text, community_text, dest_text, kind_text, list_text, optional_text, origin_text, peer_text};
 
 use crate::{Attrs, Clist, Kind, Origin, Path};
-use bits_ip::{Addr, OutOfMemory, write_addr, write_number};
+use bits_ip::{Addr, OutOfMemory, append_addr, write_number};
 use std::alloc::Global;
 
 /// Appends the attributes as one line without its end: the fields in their order, without what is
@@ -14,18 +14,18 @@ pub fn attr_text(alloc: Global, attrs: &Attrs, out: &mut Vec<u8>) -> Result<(), 
     ensures refused { OnErr result (out.new.items ≡ out.old.items) }
 {
     let mut text = Vec::new(alloc);
-    append_attrs(alloc, attrs, &mut text)?;
+    append_attrs(attrs, &mut text)?;
     out.extend_from_slice(&text)?;
     Ok(())
 }
 
-/// Appends the attributes; on refusal a part of them may stand.
-fn append_attrs(alloc: Global, attrs: &Attrs, out: &mut Vec<u8>) -> Result<(), OutOfMemory>
+/// Appends the attributes, as `attr_text` does. On refusal a part of them may stand.
+pub fn append_attrs(attrs: &Attrs, out: &mut Vec<u8>) -> Result<(), OutOfMemory>
     ensures { OnOk result (out.new.items ≡ out.old.items ++ attrs_text attrs.now) }
 {
     write_head(attrs, out)?;
-    write_neighbour(alloc, attrs, out)?;
-    write_way(alloc, attrs, out)?;
+    write_neighbour(attrs, out)?;
+    write_way(attrs, out)?;
     write_metrics(attrs, out)?;
     write_communities(&attrs.coms, out)
 }
@@ -45,19 +45,19 @@ fn write_head(attrs: &Attrs, out: &mut Vec<u8>) -> Result<(), OutOfMemory>
 }
 
 /// Where packets go, and from whom the route was learned.
-fn write_neighbour(alloc: Global, attrs: &Attrs, out: &mut Vec<u8>) -> Result<(), OutOfMemory>
+fn write_neighbour(attrs: &Attrs, out: &mut Vec<u8>) -> Result<(), OutOfMemory>
     ensures { OnOk result (out.new.items ≡ out.old.items
         ++ optional_text (codes " gw ") addr_text attrs.now.gw
         ++ optional_text (codes " from ") addr_text attrs.now.sender
         ++ peer_text attrs.now.kind attrs.now.peer_id attrs.now.ebgp) }
 {
-    write_optional_addr(alloc, " gw ", attrs.gw, out)?;
-    write_optional_addr(alloc, " from ", attrs.sender, out)?;
-    write_peer(alloc, attrs, out)
+    write_optional_addr(" gw ", attrs.gw, out)?;
+    write_optional_addr(" from ", attrs.sender, out)?;
+    write_peer(attrs, out)
 }
 
 /// The path that the route came by, with its origin and its next hop.
-fn write_way(alloc: Global, attrs: &Attrs, out: &mut Vec<u8>) -> Result<(), OutOfMemory>
+fn write_way(attrs: &Attrs, out: &mut Vec<u8>) -> Result<(), OutOfMemory>
     ensures { OnOk result (out.new.items ≡ out.old.items
         ++ list_text (codes " path") decimal attrs.now.path
         ++ optional_text (codes " origin ") origin_text attrs.now.origin
@@ -65,7 +65,7 @@ fn write_way(alloc: Global, attrs: &Attrs, out: &mut Vec<u8>) -> Result<(), OutO
 {
     write_path(&attrs.path, out)?;
     write_optional_origin(attrs.origin, out)?;
-    write_optional_addr(alloc, " nh ", attrs.next_hop, out)
+    write_optional_addr(" nh ", attrs.next_hop, out)
 }
 
 /// The numbers by which routes are compared.
@@ -98,7 +98,6 @@ pub fn write_optional_number(
 }
 
 fn write_optional_addr(
-    alloc: Global,
     label: &str,
     addr: Option<Addr>,
     out: &mut Vec<u8>,
@@ -110,7 +109,7 @@ fn write_optional_addr(
         return Ok(());
     };
     out.extend_from_slice(label.as_bytes())?;
-    write_addr(alloc, &addr, out)
+    append_addr(&addr, out)
 }
 
 fn write_optional_origin(origin: Option<Origin>, out: &mut Vec<u8>) -> Result<(), OutOfMemory>
@@ -127,7 +126,7 @@ fn write_optional_origin(origin: Option<Origin>, out: &mut Vec<u8>) -> Result<()
 
 /// What only routes of BGP have: the neighbour's router id, and whether it is in another autonomous
 /// system.
-fn write_peer(alloc: Global, attrs: &Attrs, out: &mut Vec<u8>) -> Result<(), OutOfMemory>
+fn write_peer(attrs: &Attrs, out: &mut Vec<u8>) -> Result<(), OutOfMemory>
     ensures { OnOk result (out.new.items ≡ out.old.items
         ++ peer_text attrs.now.kind attrs.now.peer_id attrs.now.ebgp) }
 {
@@ -135,7 +134,7 @@ fn write_peer(alloc: Global, attrs: &Attrs, out: &mut Vec<u8>) -> Result<(), Out
         return Ok(());
     }
     out.extend_from_slice(b" id ")?;
-    write_addr(alloc, &Addr::V4(attrs.peer_id), out)?;
+    append_addr(&Addr::V4(attrs.peer_id), out)?;
     out.extend_from_slice(if attrs.ebgp { b" ebgp" } else { b" ibgp" })?;
     Ok(())
 }

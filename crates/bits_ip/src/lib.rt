@@ -27,4 +27,4 @@ pub use memory::OutOfMemory;
 pub use numbers::{parse_decimal, write_number};
 pub use prefix::{NotPrefix, Prefix};
 pub use read::{BadText, parse_addr, parse_prefix, parse_v4, read_addr, read_prefix};
-pub use write::{write_addr, write_prefix};
+pub use write::{append_addr, append_prefix, write_addr, write_prefix};

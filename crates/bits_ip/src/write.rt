@@ -28,8 +28,8 @@ pub fn write_prefix(alloc: Global, net: &Prefix, out: &mut Vec<u8>) -> Result<()
     Ok(())
 }
 
-/// Appends an address; on refusal a part of it may stand.
-fn append_addr(addr: &Addr, out: &mut Vec<u8>) -> Result<(), OutOfMemory>
+/// Appends an address, as `write_addr` does. On refusal a part of it may stand.
+pub fn append_addr(addr: &Addr, out: &mut Vec<u8>) -> Result<(), OutOfMemory>
     ensures { OnOk result (out.new.items ≡ out.old.items ++ addr_text addr.now) }
 {
     match addr {
@@ -38,8 +38,8 @@ fn append_addr(addr: &Addr, out: &mut Vec<u8>) -> Result<(), OutOfMemory>
     }
 }
 
-/// Appends a prefix; on refusal a part of it may stand.
-fn append_prefix(net: &Prefix, out: &mut Vec<u8>) -> Result<(), OutOfMemory>
+/// Appends a prefix, as `write_prefix` does. On refusal a part of it may stand.
+pub fn append_prefix(net: &Prefix, out: &mut Vec<u8>) -> Result<(), OutOfMemory>
     ensures { OnOk result (out.new.items ≡ out.old.items ++ net_text net.now) }
 {
     append_addr(&net.addr(), out)?;

@@ -6,13 +6,11 @@ ghost use Rattle.report.specs.ReportParts.{names_in};
 
 use crate::phase::{ExportReport, ProtocolReport, Standing};
 use crate::place::write_key;
-use attrs::attr_text;
+use attrs::append_attrs;
 use bits_ip::{OutOfMemory, write_number};
-use std::alloc::Global;
 
 /// Appends what stands as sent by each channel.
 pub(crate) fn write_exports(
-    alloc: Global,
     protocols: &[ProtocolReport],
     exports: &[ExportReport],
     out: &mut Vec<u8>,
@@ -22,13 +20,12 @@ pub(crate) fn write_exports(
         ++ flat_map (export_text (names_in protocols.now)) exports.now) }
 {
     for export in exports {
-        write_export(alloc, protocols, export, out)?;
+        write_export(protocols, export, out)?;
     }
     Ok(())
 }
 
 fn write_export(
-    alloc: Global,
     protocols: &[ProtocolReport],
     export: &ExportReport,
     out: &mut Vec<u8>,
@@ -38,7 +35,7 @@ fn write_export(
 {
     let name = export.name.as_slice();
     match &export.standing {
-        Some(sent) => write_sent(alloc, protocols, export.pipe, name, sent.as_slice(), out),
+        Some(sent) => write_sent(protocols, export.pipe, name, sent.as_slice(), out),
         None => write_closed(name, out),
     }
 }
@@ -56,7 +53,6 @@ fn write_closed(name: &[u8], out: &mut Vec<u8>) -> Result<(), OutOfMemory>
 
 /// How much stands as sent, and what.
 fn write_sent(
-    alloc: Global,
     protocols: &[ProtocolReport],
     pipe: bool,
     name: &[u8],
@@ -72,11 +68,10 @@ fn write_sent(
     out.push(b' ')?;
     write_number(sent.len() as u64, out)?;
     out.push(b'\n')?;
-    write_standings(alloc, protocols, pipe, sent, out)
+    write_standings(protocols, pipe, sent, out)
 }
 
 fn write_standings(
-    alloc: Global,
     protocols: &[ProtocolReport],
     pipe: bool,
     sent: &[Standing],
@@ -87,13 +82,12 @@ fn write_standings(
         ++ flat_map (standing_line (names_in protocols.now) pipe) sent.now) }
 {
     for standing in sent {
-        write_standing(alloc, protocols, pipe, standing, out)?;
+        write_standing(protocols, pipe, standing, out)?;
     }
     Ok(())
 }
 
 fn write_standing(
-    alloc: Global,
     protocols: &[ProtocolReport],
     pipe: bool,
     standing: &Standing,
@@ -104,8 +98,8 @@ fn write_standing(
         ++ standing_line (names_in protocols.now) pipe standing.now) }
 {
     out.extend_from_slice(b"\t\t")?;
-    write_key(alloc, protocols, pipe, &standing.key, out)?;
-    attr_text(alloc, &standing.attrs, out)?;
+    write_key(protocols, pipe, &standing.key, out)?;
+    append_attrs(&standing.attrs, out)?;
     out.push(b'\n')?;
     Ok(())
 }

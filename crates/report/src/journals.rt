@@ -6,13 +6,11 @@ ghost use Rattle.report.specs.ReportParts.{names_in};
 
 use crate::phase::{JournalReport, ProtocolReport};
 use crate::place::write_place;
-use attrs::{Change, Route, attr_text};
+use attrs::{Change, Route, append_attrs};
 use bits_ip::{OutOfMemory, write_number};
-use std::alloc::Global;
 
 /// Appends each table's changes of a phase.
 pub(crate) fn write_journals(
-    alloc: Global,
     protocols: &[ProtocolReport],
     journals: &[JournalReport],
     out: &mut Vec<u8>,
@@ -22,13 +20,12 @@ pub(crate) fn write_journals(
         ++ flat_map (journal_text (names_in protocols.now)) journals.now) }
 {
     for journal in journals {
-        write_journal(alloc, protocols, journal, out)?;
+        write_journal(protocols, journal, out)?;
     }
     Ok(())
 }
 
 fn write_journal(
-    alloc: Global,
     protocols: &[ProtocolReport],
     journal: &JournalReport,
     out: &mut Vec<u8>,
@@ -38,7 +35,6 @@ fn write_journal(
 {
     write_journal_head(journal, out)?;
     write_entries(
-        alloc,
         protocols,
         journal.from,
         journal.entries.as_slice(),
@@ -67,7 +63,6 @@ fn write_journal_head(journal: &JournalReport, out: &mut Vec<u8>) -> Result<(), 
 
 /// The changes, at the positions behind `from`.
 fn write_entries(
-    alloc: Global,
     protocols: &[ProtocolReport],
     from: u64,
     entries: &[Change],
@@ -79,13 +74,12 @@ fn write_entries(
 {
     for (index, entry) in entries.iter().enumerate() {
         let position = u128::from(from) + index as u128 + 1;
-        write_entry(alloc, protocols, position, entry, out)?;
+        write_entry(protocols, position, entry, out)?;
     }
     Ok(())
 }
 
 fn write_entry(
-    alloc: Global,
     protocols: &[ProtocolReport],
     position: u128,
     entry: &Change,
@@ -98,18 +92,18 @@ fn write_entry(
     out.push(b'\t')?;
     write_number(position, out)?;
     out.push(b' ')?;
-    write_place(alloc, protocols, &entry.net, entry.num, out)?;
-    write_new(alloc, &entry.new, out)?;
+    write_place(protocols, &entry.net, entry.num, out)?;
+    write_new(&entry.new, out)?;
     out.push(b'\n')?;
     Ok(())
 }
 
 /// A route's attributes, and a dash where there is none.
-fn write_new(alloc: Global, new: &Option<Route>, out: &mut Vec<u8>) -> Result<(), OutOfMemory>
+fn write_new(new: &Option<Route>, out: &mut Vec<u8>) -> Result<(), OutOfMemory>
     ensures { OnOk result (out.new.items ≡ out.old.items ++ standing_text new.now) }
 {
     match new {
-        Some(route) => attr_text(alloc, &route.attrs, out),
+        Some(route) => append_attrs(&route.attrs, out),
         None => {
             out.push(b'-')?;
             Ok(())

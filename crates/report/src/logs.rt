@@ -6,14 +6,12 @@ ghost use Rattle.report.specs.ReportParts.{names_in};
 
 use crate::phase::{ChannelReport, ProtocolReport};
 use crate::place::write_key;
-use attrs::{Attrs, attr_text};
+use attrs::{Attrs, append_attrs};
 use bits_ip::{OutOfMemory, write_number};
 use export_core::{LogItem, Sending};
-use std::alloc::Global;
 
 /// Appends each channel's log of a phase.
 pub(crate) fn write_channels(
-    alloc: Global,
     protocols: &[ProtocolReport],
     channels: &[ChannelReport],
     out: &mut Vec<u8>,
@@ -23,13 +21,12 @@ pub(crate) fn write_channels(
         ++ flat_map (channel_text (names_in protocols.now)) channels.now) }
 {
     for channel in channels {
-        write_channel(alloc, protocols, channel, out)?;
+        write_channel(protocols, channel, out)?;
     }
     Ok(())
 }
 
 fn write_channel(
-    alloc: Global,
     protocols: &[ProtocolReport],
     channel: &ChannelReport,
     out: &mut Vec<u8>,
@@ -41,7 +38,6 @@ fn write_channel(
     out.extend_from_slice(channel.name.as_slice())?;
     out.push(b'\n')?;
     write_items(
-        alloc,
         protocols,
         channel.pipe,
         channel.items.as_slice(),
@@ -50,7 +46,6 @@ fn write_channel(
 }
 
 fn write_items(
-    alloc: Global,
     protocols: &[ProtocolReport],
     pipe: bool,
     items: &[LogItem],
@@ -62,14 +57,13 @@ fn write_items(
 {
     for item in items {
         out.push(b'\t')?;
-        write_item(alloc, protocols, pipe, item, out)?;
+        write_item(protocols, pipe, item, out)?;
         out.push(b'\n')?;
     }
     Ok(())
 }
 
 fn write_item(
-    alloc: Global,
     protocols: &[ProtocolReport],
     pipe: bool,
     item: &LogItem,
@@ -82,7 +76,7 @@ fn write_item(
         LogItem::Up(position) => write_up(*position, out),
         LogItem::Down => Ok(out.extend_from_slice(b"down")?),
         LogItem::Reload => Ok(out.extend_from_slice(b"reload")?),
-        LogItem::Sent(sending) => write_sending(alloc, protocols, pipe, sending, out),
+        LogItem::Sent(sending) => write_sending(protocols, pipe, sending, out),
     }
 }
 
@@ -94,7 +88,6 @@ fn write_up(position: u64, out: &mut Vec<u8>) -> Result<(), OutOfMemory>
 }
 
 fn write_sending(
-    alloc: Global,
     protocols: &[ProtocolReport],
     pipe: bool,
     sending: &Sending,
@@ -104,8 +97,8 @@ fn write_sending(
         (out.new.items ≡ out.old.items ++ sending_text (names_in protocols.now) pipe sending.now) }
 {
     write_when(sending.again, sending.at, out)?;
-    write_key(alloc, protocols, pipe, &sending.key, out)?;
-    write_value(alloc, &sending.value, out)
+    write_key(protocols, pipe, &sending.key, out)?;
+    write_value(&sending.value, out)
 }
 
 /// Whether the value is sent once more, and the position at which it stood, with a space behind it.
@@ -126,11 +119,11 @@ fn again_word(again: bool) -> &'static str
 }
 
 /// The attributes, and a dash for a withdrawal.
-fn write_value(alloc: Global, value: &Option<Attrs>, out: &mut Vec<u8>) -> Result<(), OutOfMemory>
+fn write_value(value: &Option<Attrs>, out: &mut Vec<u8>) -> Result<(), OutOfMemory>
     ensures { OnOk result (out.new.items ≡ out.old.items ++ value_text value.now) }
 {
     match value {
-        Some(attrs) => attr_text(alloc, attrs, out),
+        Some(attrs) => append_attrs(attrs, out),
         None => {
             out.push(b'-')?;
             Ok(())

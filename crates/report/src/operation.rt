@@ -7,44 +7,42 @@ ghost use Rattle.report.specs.Operation.{op_text};
 ghost use Rattle.import_core.specs.declared.operation.Op.TheVariants.{Add};
 
 use attrs::{write_communities, write_optional_number, write_spaced_numbers};
-use bits_ip::{Addr, OutOfMemory, Prefix, write_addr, write_prefix};
+use bits_ip::{Addr, OutOfMemory, Prefix, append_addr, append_prefix};
 use import_core::{Given, Op};
-use std::alloc::Global;
 
 /// Appends an operation as scripts spell it, without who gave it.
-pub(crate) fn write_op(alloc: Global, op: &Op, out: &mut Vec<u8>) -> Result<(), OutOfMemory>
+pub(crate) fn write_op(op: &Op, out: &mut Vec<u8>) -> Result<(), OutOfMemory>
     ensures { OnOk result (out.new.items ≡ out.old.items ++ op_text op.now) }
 {
     match op {
-        Op::SessionUp(id) => write_open(alloc, *id, out),
-        Op::Add(net, given) => write_add(alloc, net, given, out),
-        Op::Del(net) => write_del(alloc, net, out),
+        Op::SessionUp(id) => write_open(*id, out),
+        Op::Add(net, given) => write_add(net, given, out),
+        Op::Del(net) => write_del(net, out),
     }
 }
 
-fn write_open(alloc: Global, id: u32, out: &mut Vec<u8>) -> Result<(), OutOfMemory>
+fn write_open(id: u32, out: &mut Vec<u8>) -> Result<(), OutOfMemory>
     ensures { OnOk result (out.new.items ≡ out.old.items ++ codes "open " ++ v4_text id) }
 {
     out.extend_from_slice(b"open ")?;
-    write_addr(alloc, &Addr::V4(id), out)
+    append_addr(&Addr::V4(id), out)
 }
 
-fn write_del(alloc: Global, net: &Prefix, out: &mut Vec<u8>) -> Result<(), OutOfMemory>
+fn write_del(net: &Prefix, out: &mut Vec<u8>) -> Result<(), OutOfMemory>
     ensures { OnOk result (out.new.items ≡ out.old.items ++ codes "del " ++ net_text net.now) }
 {
     out.extend_from_slice(b"del ")?;
-    write_prefix(alloc, net, out)
+    append_prefix(net, out)
 }
 
 fn write_add(
-    alloc: Global,
     net: &Prefix,
     given: &Given,
     out: &mut Vec<u8>,
 ) -> Result<(), OutOfMemory>
     ensures { OnOk result (out.new.items ≡ out.old.items ++ op_text (Add net.now given.now)) }
 {
-    write_gateway(alloc, net, given, out)?;
+    write_gateway(net, given, out)?;
     write_way(given, out)?;
     write_metrics(given, out)?;
     write_communities(&given.coms, out)
@@ -52,7 +50,6 @@ fn write_add(
 
 /// Which net, and where its packets go.
 fn write_gateway(
-    alloc: Global,
     net: &Prefix,
     given: &Given,
     out: &mut Vec<u8>,
@@ -62,9 +59,9 @@ fn write_gateway(
         ++ codes "add " ++ net_text net.now ++ codes " via " ++ addr_text given.now.gw) }
 {
     out.extend_from_slice(b"add ")?;
-    write_prefix(alloc, net, out)?;
+    append_prefix(net, out)?;
     out.extend_from_slice(b" via ")?;
-    write_addr(alloc, &given.gw, out)
+    append_addr(&given.gw, out)
 }
 
 /// The path that the route came by, which may be empty, and its origin.

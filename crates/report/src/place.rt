@@ -5,13 +5,11 @@ ghost use Rattle.report.specs.Report.{key_text};
 ghost use Rattle.report.specs.ReportParts.{names_in, place_text};
 
 use crate::phase::ProtocolReport;
-use bits_ip::{OutOfMemory, Prefix, write_prefix};
+use bits_ip::{OutOfMemory, Prefix, append_prefix};
 use export_core::Key;
-use std::alloc::Global;
 
 /// Appends a net and the name of a route's source, each with a space behind it.
 pub(crate) fn write_place(
-    alloc: Global,
     protocols: &[ProtocolReport],
     net: &Prefix,
     num: u32,
@@ -20,7 +18,7 @@ pub(crate) fn write_place(
     ensures { OnOk result
         (out.new.items ≡ out.old.items ++ place_text (names_in protocols.now) net.now num) }
 {
-    write_prefix(alloc, net, out)?;
+    append_prefix(net, out)?;
     out.push(b' ')?;
     out.extend_from_slice(name_at(protocols, num))?;
     out.push(b' ')?;
@@ -30,7 +28,6 @@ pub(crate) fn write_place(
 /// Appends a channel's key: the net, and for a pipe the name of the source; each with a space
 /// behind it.
 pub(crate) fn write_key(
-    alloc: Global,
     protocols: &[ProtocolReport],
     pipe: bool,
     key: &Key,
@@ -40,9 +37,9 @@ pub(crate) fn write_key(
         (out.new.items ≡ out.old.items ++ key_text (names_in protocols.now) pipe key.now) }
 {
     if pipe {
-        return write_place(alloc, protocols, &key.net, key.num, out);
+        return write_place(protocols, &key.net, key.num, out);
     }
-    write_prefix(alloc, &key.net, out)?;
+    append_prefix(&key.net, out)?;
     out.push(b' ')?;
     Ok(())
 }

@@ -8,11 +8,9 @@ use crate::operation::write_op;
 use crate::phase::ProtocolReport;
 use bits_ip::OutOfMemory;
 use import_core::Op;
-use std::alloc::Global;
 
 /// Appends each protocol with its operations.
 pub(crate) fn write_protocols(
-    alloc: Global,
     protocols: &[ProtocolReport],
     out: &mut Vec<u8>,
 ) -> Result<(), OutOfMemory>
@@ -20,13 +18,12 @@ pub(crate) fn write_protocols(
         (out.new.items ≡ out.old.items ++ flat_map protocol_text protocols.now) }
 {
     for protocol in protocols {
-        write_protocol(alloc, protocol, out)?;
+        write_protocol(protocol, out)?;
     }
     Ok(())
 }
 
 fn write_protocol(
-    alloc: Global,
     protocol: &ProtocolReport,
     out: &mut Vec<u8>,
 ) -> Result<(), OutOfMemory>
@@ -35,16 +32,16 @@ fn write_protocol(
     out.extend_from_slice(b"protocol ")?;
     out.extend_from_slice(protocol.name.as_slice())?;
     out.push(b'\n')?;
-    write_ops(alloc, protocol.ops.as_slice(), out)
+    write_ops(protocol.ops.as_slice(), out)
 }
 
-fn write_ops(alloc: Global, ops: &[Op], out: &mut Vec<u8>) -> Result<(), OutOfMemory>
+fn write_ops(ops: &[Op], out: &mut Vec<u8>) -> Result<(), OutOfMemory>
     ensures { OnOk result
         (out.new.items ≡ out.old.items ++ flat_map (λ op. line1 (op_text op)) ops.now) }
 {
     for op in ops {
         out.push(b'\t')?;
-        write_op(alloc, op, out)?;
+        write_op(op, out)?;
         out.push(b'\n')?;
     }
     Ok(())

@@ -7,13 +7,11 @@ ghost use Rattle.report.specs.ReportParts.{names_in, row_route_text};
 
 use crate::phase::{ProtocolReport, TableReport};
 use crate::place::write_place;
-use attrs::{Route, Row, attr_text};
+use attrs::{Route, Row, append_attrs};
 use bits_ip::{OutOfMemory, Prefix, write_number};
-use std::alloc::Global;
 
 /// Appends each table as it stands.
 pub(crate) fn write_tables(
-    alloc: Global,
     protocols: &[ProtocolReport],
     tables: &[TableReport],
     out: &mut Vec<u8>,
@@ -23,13 +21,12 @@ pub(crate) fn write_tables(
         ++ flat_map (table_text (names_in protocols.now)) tables.now) }
 {
     for table in tables {
-        write_table(alloc, protocols, table, out)?;
+        write_table(protocols, table, out)?;
     }
     Ok(())
 }
 
 fn write_table(
-    alloc: Global,
     protocols: &[ProtocolReport],
     table: &TableReport,
     out: &mut Vec<u8>,
@@ -38,7 +35,7 @@ fn write_table(
         (out.new.items ≡ out.old.items ++ table_text (names_in protocols.now) table.now) }
 {
     write_table_head(table, out)?;
-    write_rows(alloc, protocols, table.rows.as_slice(), out)
+    write_rows(protocols, table.rows.as_slice(), out)
 }
 
 /// The table's name, with its numbers of nets and of routes.
@@ -69,7 +66,6 @@ fn number_of_routes(rows: &[Row]) -> u128
 }
 
 fn write_rows(
-    alloc: Global,
     protocols: &[ProtocolReport],
     rows: &[Row],
     out: &mut Vec<u8>,
@@ -78,13 +74,12 @@ fn write_rows(
         (out.new.items ≡ out.old.items ++ flat_map (row_text (names_in protocols.now)) rows.now) }
 {
     for row in rows {
-        write_routes(alloc, protocols, &row.net, row.routes.as_slice(), out)?;
+        write_routes(protocols, &row.net, row.routes.as_slice(), out)?;
     }
     Ok(())
 }
 
 fn write_routes(
-    alloc: Global,
     protocols: &[ProtocolReport],
     net: &Prefix,
     routes: &[Route],
@@ -95,13 +90,12 @@ fn write_routes(
         ++ flat_map (row_route_text (names_in protocols.now) net.now) routes.now) }
 {
     for route in routes {
-        write_route(alloc, protocols, net, route, out)?;
+        write_route(protocols, net, route, out)?;
     }
     Ok(())
 }
 
 fn write_route(
-    alloc: Global,
     protocols: &[ProtocolReport],
     net: &Prefix,
     route: &Route,
@@ -112,8 +106,8 @@ fn write_route(
         ++ row_route_text (names_in protocols.now) net.now route.now) }
 {
     out.extend_from_slice(b"\t\t")?;
-    write_place(alloc, protocols, net, route.src.num, out)?;
-    attr_text(alloc, &route.attrs, out)?;
+    write_place(protocols, net, route.src.num, out)?;
+    append_attrs(&route.attrs, out)?;
     out.push(b'\n')?;
     Ok(())
 }

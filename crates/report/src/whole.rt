@@ -21,7 +21,7 @@ pub fn phase_text(phase: &PhaseReport, out: &mut Vec<u8>) -> Result<(), OutOfMem
     ensures refused { OnErr result (out.new.items ≡ out.old.items) }
 {
     let mut text = Vec::new(*out.allocator());
-    write_phase(*out.allocator(), phase, &mut text)?;
+    write_phase(phase, &mut text)?;
     if out.is_empty() {
         *out = text;
         return Ok(());
@@ -36,26 +36,26 @@ pub fn write_report(alloc: Global, phases: &[PhaseReport]) -> Result<Vec<u8>, Ou
     ensures { IfOk result (λ text. text.items ≡ report_text phases.now) }
 {
     let mut out = Vec::new(alloc);
-    write_phases(alloc, phases, &mut out)?;
+    write_phases(phases, &mut out)?;
     out.extend_from_slice(b"end\n")?;
     Ok(out)
 }
 
-fn write_phases(alloc: Global, phases: &[PhaseReport], out: &mut Vec<u8>) -> Result<(), OutOfMemory>
+fn write_phases(phases: &[PhaseReport], out: &mut Vec<u8>) -> Result<(), OutOfMemory>
     ensures { OnOk result (out.new.items ≡ out.old.items ++ flat_map phase_text phases.now) }
 {
     for phase in phases {
-        write_phase(alloc, phase, out)?;
+        write_phase(phase, out)?;
     }
     Ok(())
 }
 
-fn write_phase(alloc: Global, phase: &PhaseReport, out: &mut Vec<u8>) -> Result<(), OutOfMemory>
+fn write_phase(phase: &PhaseReport, out: &mut Vec<u8>) -> Result<(), OutOfMemory>
     ensures { OnOk result (out.new.items ≡ out.old.items ++ phase_text phase.now) }
 {
     write_phase_head(phase.number, out)?;
-    write_events(alloc, phase, out)?;
-    write_state(alloc, phase, out)
+    write_events(phase, out)?;
+    write_state(phase, out)
 }
 
 fn write_phase_head(number: u32, out: &mut Vec<u8>) -> Result<(), OutOfMemory>
@@ -69,7 +69,7 @@ fn write_phase_head(number: u32, out: &mut Vec<u8>) -> Result<(), OutOfMemory>
 }
 
 /// What came about in the phase.
-fn write_events(alloc: Global, phase: &PhaseReport, out: &mut Vec<u8>) -> Result<(), OutOfMemory>
+fn write_events(phase: &PhaseReport, out: &mut Vec<u8>) -> Result<(), OutOfMemory>
     ensures { OnOk result (out.new.items ≡ out.old.items
         ++ flat_map protocol_text phase.now.protocols
         ++ flat_map (journal_text (names_of phase.now)) phase.now.journals
@@ -77,14 +77,14 @@ fn write_events(alloc: Global, phase: &PhaseReport, out: &mut Vec<u8>) -> Result
         ++ flat_map reply_block phase.now.replies) }
 {
     let protocols = phase.protocols.as_slice();
-    write_protocols(alloc, protocols, out)?;
-    write_journals(alloc, protocols, phase.journals.as_slice(), out)?;
-    write_channels(alloc, protocols, phase.channels.as_slice(), out)?;
+    write_protocols(protocols, out)?;
+    write_journals(protocols, phase.journals.as_slice(), out)?;
+    write_channels(protocols, phase.channels.as_slice(), out)?;
     write_replies(phase.replies.as_slice(), out)
 }
 
 /// What stands at the phase's end.
-fn write_state(alloc: Global, phase: &PhaseReport, out: &mut Vec<u8>) -> Result<(), OutOfMemory>
+fn write_state(phase: &PhaseReport, out: &mut Vec<u8>) -> Result<(), OutOfMemory>
     ensures { OnOk result (out.new.items ≡ out.old.items ++ codes "state\n"
         ++ flat_map (table_text (names_of phase.now)) phase.now.tables
         ++ flat_map mode_line phase.now.modes
@@ -92,7 +92,7 @@ fn write_state(alloc: Global, phase: &PhaseReport, out: &mut Vec<u8>) -> Result<
 {
     let protocols = phase.protocols.as_slice();
     out.extend_from_slice(b"state\n")?;
-    write_tables(alloc, protocols, phase.tables.as_slice(), out)?;
+    write_tables(protocols, phase.tables.as_slice(), out)?;
     write_modes(phase.modes.as_slice(), out)?;
-    write_exports(alloc, protocols, phase.exports.as_slice(), out)
+    write_exports(protocols, phase.exports.as_slice(), out)
 }

@@ -48,7 +48,7 @@ fn reserve_route(nets: &mut Vec<NetRoutes>, net: &Prefix) -> Result<(), OutOfMem
     ensures room { HasRoom nets.old → HasRoom nets.new }
 {
     if let Ok(place) = place_of_net(nets, net) {
-        nets[place].routes.reserve(1)?;
+        nets[place].routes.reserve_exact(1)?;
     }
     Ok(())
 }
@@ -66,7 +66,7 @@ pub(crate) fn reserve_nets(
     ensures spare { spare.new.items ≡ spare.old.items }
 {
     nets.reserve(1)?;
-    spare.reserve(1)?;
+    spare.reserve_exact(1)?;
     reserve_route(nets, net)
 }
 

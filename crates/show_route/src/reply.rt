@@ -7,7 +7,7 @@ ghost use Rattle.text.specs.Names.{name_of};
 ghost use Rattle.show_route.specs.Reply.{as_text, last_as_text, origin_letter, reply_text, shown_route, shown_routes, shown_row};
 
 use attrs::{Attrs, Kind, Origin, Route, Row};
-use bits_ip::{Addr, OutOfMemory, Prefix, write_addr, write_number, write_prefix};
+use bits_ip::{Addr, OutOfMemory, Prefix, append_addr, write_number, append_prefix};
 use std::alloc::Global;
 
 /// The reply to `show route` over these rows of a table, with the protocols' names by number.
@@ -28,12 +28,11 @@ pub fn answer(
     out.extend_from_slice(b"Table ")?;
     out.extend_from_slice(table)?;
     out.extend_from_slice(b":\n")?;
-    write_rows(alloc, names, rows, &mut out)?;
+    write_rows(names, rows, &mut out)?;
     Ok(out)
 }
 
 fn write_rows(
-    alloc: Global,
     names: &[&[u8]],
     rows: &[Row],
     out: &mut Vec<u8>,
@@ -43,14 +42,13 @@ fn write_rows(
         ++ flat_map (shown_row (map (λ name. name.now) names.now)) rows.now) }
 {
     for row in rows {
-        write_routes(alloc, names, &row.net, row.routes.as_slice(), out)?;
+        write_routes(names, &row.net, row.routes.as_slice(), out)?;
     }
     Ok(())
 }
 
 /// The routes of a net in selection order: the first is the best.
 fn write_routes(
-    alloc: Global,
     names: &[&[u8]],
     net: &Prefix,
     routes: &[Route],
@@ -63,12 +61,11 @@ fn write_routes(
     let Some((best, others)) = routes.split_first() else {
         return Ok(());
     };
-    write_route(alloc, names, net, true, best, out)?;
-    write_others(alloc, names, net, others, out)
+    write_route(names, net, true, best, out)?;
+    write_others(names, net, others, out)
 }
 
 fn write_others(
-    alloc: Global,
     names: &[&[u8]],
     net: &Prefix,
     routes: &[Route],
@@ -79,13 +76,12 @@ fn write_others(
         ++ flat_map (shown_route (map (λ name. name.now) names.now) net.now false) routes.now) }
 {
     for route in routes {
-        write_route(alloc, names, net, false, route, out)?;
+        write_route(names, net, false, route, out)?;
     }
     Ok(())
 }
 
 fn write_route(
-    alloc: Global,
     names: &[&[u8]],
     net: &Prefix,
     is_best: bool,
@@ -96,14 +92,13 @@ fn write_route(
         (out.new.items ≡ out.old.items
         ++ shown_route (map (λ name. name.now) names.now) net.now is_best route.now) }
 {
-    write_source(alloc, names, net, route, out)?;
+    write_source(names, net, route, out)?;
     write_rank(is_best, &route.attrs, out)?;
-    write_gateway(alloc, route.attrs.gw, out)
+    write_gateway(route.attrs.gw, out)
 }
 
 /// The net, what is done with its packets, and the protocol.
 fn write_source(
-    alloc: Global,
     names: &[&[u8]],
     net: &Prefix,
     route: &Route,
@@ -115,7 +110,7 @@ fn write_source(
         ++ codes " [" ++ name_of (map (λ name. name.now) names.now) route.now.src.num
         ++ codes "]") }
 {
-    write_prefix(alloc, net, out)?;
+    append_prefix(net, out)?;
     out.push(b' ')?;
     out.extend_from_slice(route.attrs.dest.word().as_bytes())?;
     out.extend_from_slice(b" [")?;
@@ -174,7 +169,7 @@ fn write_last_as(path: &[u32], out: &mut Vec<u8>) -> Result<(), OutOfMemory>
     write_number(*last, out)
 }
 
-fn write_gateway(alloc: Global, gateway: Option<Addr>, out: &mut Vec<u8>) -> Result<(), OutOfMemory>
+fn write_gateway(gateway: Option<Addr>, out: &mut Vec<u8>) -> Result<(), OutOfMemory>
     ensures { OnOk result
         (out.new.items ≡ out.old.items
         ++ optional_text (codes "\tvia ") (λ gw. addr_text gw ++ codes "\n") gateway) }
@@ -183,7 +178,7 @@ fn write_gateway(alloc: Global, gateway: Option<Addr>, out: &mut Vec<u8>) -> Res
         return Ok(());
     };
     out.extend_from_slice(b"\tvia ")?;
-    write_addr(alloc, &gateway, out)?;
+    append_addr(&gateway, out)?;
     out.push(b'\n')?;
     Ok(())
 }

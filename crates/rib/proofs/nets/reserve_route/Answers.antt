@@ -15,21 +15,21 @@ grown-at net nets place x v at read same len more =
     grown-set nets place (record { net = x.net; routes = v }) x at.within (ap (λ (l : List Route). record { net = x.net; routes = l }) same ∙ ap row_of read)
     (λ h. let room : HasRoom x.routes = subst (λ (k : NetRoutes). HasRoom k.routes) (sym read) h in omega arith)
 
-pub returns-in_err-reserve-clause-grown : goal.returns-in_err-reserve-clause-grown
-returns-in_err-reserve-clause-grown c =
+pub returns-in_err-reserve_exact-clause-grown : goal.returns-in_err-reserve_exact-clause-grown
+returns-in_err-reserve_exact-clause-grown c =
     let at = subst (λ (l : List NetRoutes). IsNetAt c.args.net.now l c.in-Ok.place) c.deref.ensures.value c.in-Ok.ensures in
-    grown-at c.args.net.now c.args.nets.now.items c.in-Ok.place c.index_mut.result.now c.reserve.new.self at c.index_mut.ensures.value c.reserve.ensures.items c.reserve.ensures.len c.reserve.ensures.capacity
+    grown-at c.args.net.now c.args.nets.now.items c.in-Ok.place c.index_mut.result.now c.reserve_exact.new.self at c.index_mut.ensures.value c.reserve_exact.ensures.items c.reserve_exact.ensures.len c.reserve_exact.ensures.capacity
 
-pub returns-in_ok-reserve-clause-grown : goal.returns-in_ok-reserve-clause-grown
-returns-in_ok-reserve-clause-grown c =
+pub returns-in_ok-reserve_exact-clause-grown : goal.returns-in_ok-reserve_exact-clause-grown
+returns-in_ok-reserve_exact-clause-grown c =
     let at = subst (λ (l : List NetRoutes). IsNetAt c.args.net.now l c.in-Ok.place) c.deref.ensures.value c.in-Ok.ensures in
-    grown-at c.args.net.now c.args.nets.now.items c.in-Ok.place c.index_mut.result.now c.reserve.new.self at c.index_mut.ensures.value c.reserve.ensures.items c.reserve.ensures.len c.reserve.ensures.capacity
+    grown-at c.args.net.now c.args.nets.now.items c.in-Ok.place c.index_mut.result.now c.reserve_exact.new.self at c.index_mut.ensures.value c.reserve_exact.ensures.items c.reserve_exact.ensures.len c.reserve_exact.ensures.capacity
 
-pub returns-in_ok-reserve-clause-made : goal.returns-in_ok-reserve-clause-made
-returns-in_ok-reserve-clause-made c =
+pub returns-in_ok-reserve_exact-clause-made : goal.returns-in_ok-reserve_exact-clause-made
+returns-in_ok-reserve_exact-clause-made c =
     let at = subst (λ (l : List NetRoutes). IsNetAt c.args.net.now l c.in-Ok.place) c.deref.ensures.value c.in-Ok.ensures in
     let x = c.index_mut.result.now in
-    room-set c.args.net.now c.args.nets.now.items c.in-Ok.place (record { net = x.net; routes = c.reserve.new.self }) x c.requires at.within (at.is x) (omega (arith, c.in_ok-reserve.ensures.ok))
+    room-set c.args.net.now c.args.nets.now.items c.in-Ok.place (record { net = x.net; routes = c.reserve_exact.new.self }) x c.requires at.within (at.is x) (omega (arith, c.in_ok-reserve_exact.ensures.ok))
 
 pub returns-in_default-clause-made : goal.returns-in_default-clause-made
 returns-in_default-clause-made c =
