@@ -187,7 +187,10 @@ fn play_script<F: Shelf>(
 {
     let bytes = read_file(alloc, name, shelf)?;
     match read_script(alloc, config.name.as_slice(), &bytes) {
-        Ok(script) => Ok(report(alloc, config, script.lines)?),
+        Ok(script) => {
+            drop(bytes);
+            Ok(report(alloc, config, script.lines)?)
+        }
         Err(ScriptFault::Refused { line }) => Err(Status::NotBuilt { file: 2, line }),
         Err(ScriptFault::Memory) => Err(Status::OutOfMemory),
     }

@@ -12,7 +12,7 @@ use Rattle.attrs.specs.declared.route.Change.{Change}
 use Rattle.attrs.specs.declared.route.Row.{Row}
 use Rattle.attrs.specs.Table.{AreRows, IsBelow, IsRow, count_routes, route_in, route_of, routes_of}
 use Rattle.attrs.proofs.Rows.{in_order-from_sorted, sorted-from_in_order}
-use Rattle.rib.specs.declared.nets.NetRoutes.{NetRoutes}
+use Rattle.rib.specs.declared.kept.NetRoutes.{NetRoutes}
 use Rattle.rib.specs.Inside.{AreNets, HasRoom, HaveRoomAt, row_of, rows_of}
 use Rattle.rib.specs.declared.rib.Outcome.{Outcome}
 use Rattle.rib.specs.Outcome.{IfChanged}

@@ -8,7 +8,7 @@ use Rattle.std.specs.Ordering.{is_lt}
 use Rattle.std.specs.declared.cmp.Ordering.TheVariants.{Less, Greater}
 use Rattle.bits_ip.specs.Prefix.{Net, net_cmp}
 use Rattle.attrs.specs.Table.{AreRows, IsBelow}
-use Rattle.rib.specs.declared.nets.NetRoutes.{NetRoutes}
+use Rattle.rib.specs.declared.kept.NetRoutes.{NetRoutes}
 use Rattle.rib.specs.Inside.{rows_of}
 use Rattle.rib.specs.Steps.{AreBelow, IsGapFor, IsNetAt}
 use Rattle.rib.proofs.NetOrder.{net_cmp-equal, net_cmp-total, precedes-from, precedes-one_way, precedes-turned}

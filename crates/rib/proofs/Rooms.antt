@@ -5,7 +5,7 @@ use Rattle.bits_ip.specs.declared.address.Family.{Family}
 use Rattle.bits_ip.specs.Prefix.{Net, precedes}
 use Rattle.attrs.specs.declared.route.Row.{Row}
 use Rattle.attrs.specs.Table.{AreRows}
-use Rattle.rib.specs.declared.nets.NetRoutes.{NetRoutes}
+use Rattle.rib.specs.declared.kept.NetRoutes.{NetRoutes}
 use Rattle.rib.specs.Inside.{HasRoom, HaveGrown, HaveRoomAt, row_of, rows_of}
 use Rattle.rib.specs.Rib.{AreOfFamily}
 use Rattle.rib.specs.Steps.{AreBelow, IsGapFor}

@@ -1,14 +1,13 @@
 -- How a table is kept.
-use Rattle.std.specs.Prelude.{◌≡◌, ◌<◌, ◌+◌, ◌^◌, ℕ, IsSome, IfSome, List, [], ◌∷◌, map, ⊤}
+use Rattle.std.specs.Prelude.{◌≡◌, ◌<◌, ◌+◌, ◌^◌, ℕ, IsSome, IfSome, List, [], ◌∷◌, map, Option, ⊤}
 use Rattle.std.specs.Vec.{vec_len, vec_capacity}
 use Rattle.std.specs.declared.alloc.Global.{Global}
 use Rattle.std.specs.declared.vec.Vec.{Vec}
 use Rattle.bits_ip.specs.Prefix.{Net}
 use Rattle.bits_ip.specs.declared.address.Family.{Family}
-use Rattle.attrs.specs.declared.route.Route.{Route}
 use Rattle.attrs.specs.declared.route.Row.{Row}
 use Rattle.attrs.specs.Table.{AreRows, count_routes}
-use Rattle.rib.specs.declared.nets.NetRoutes.{NetRoutes}
+use Rattle.rib.specs.declared.kept.NetRoutes.{NetRoutes}
 use Rattle.rib.specs.declared.rib.Rib.TheInside.{Inside}
 use Rattle.rib.specs.Rib.{AreOfFamily}
 
@@ -33,13 +32,18 @@ abbrev pub HaveRoomAt : Net → List NetRoutes → Type 0
 HaveRoomAt net [] = ⊤
 HaveRoomAt net (kept ∷ nets) = (kept.net ≡ net → HasRoom kept.routes) × HaveRoomAt net nets
 
--- room for any change of this net: for one more net, for its first route, and for one more among
--- those that it has
+-- a net without routes, and room for one
+pub record IsSpare (kept : NetRoutes) : Type 0 where
+  pub empty : kept.routes.items ≡ []
+  pub room : HasRoom kept.routes
+
+-- room for any change of this net: for one more net, a spare one, and room for one more among those
+-- that it has
 pub record IsRoomFor
-    (net : Net) (kept : Vec NetRoutes Global) (first : Vec Route Global)
+    (net : Net) (kept : Vec NetRoutes Global) (other : Option NetRoutes)
     : Type 0 where
   pub nets : HasRoom kept
-  pub spare : HasRoom first
+  pub spare : IsSome other
   pub routes : HaveRoomAt net kept.items
 
 -- the same nets with the same routes, and room where there was room
@@ -55,5 +59,5 @@ pub record IsRib (rib : Inside) : Type 0 where
   pub family : AreOfFamily rib.family (rows_of rib.nets.items)
   pub total : rib.total ≡ count_routes (rows_of rib.nets.items)
   pub counts : IsSome rib.room → rib.total + 1 < 2 ^ 64
-  pub spare : rib.spare.items ≡ []
+  pub spare : IfSome rib.spare IsSpare
   pub room : IfSome rib.room (λ key. IsRoomFor key.0 rib.nets rib.spare)

@@ -7,7 +7,7 @@ use Rattle.attrs.specs.declared.route.Route.{Route}
 use Rattle.attrs.specs.declared.route.Row.{Row}
 use Rattle.attrs.specs.Selection.{before}
 use Rattle.attrs.specs.Table.{IsBelow, IsOfSources, IsSorted, route_of, routes_of}
-use Rattle.rib.specs.declared.nets.NetRoutes.{NetRoutes}
+use Rattle.rib.specs.declared.kept.NetRoutes.{NetRoutes}
 use Rattle.rib.specs.Inside.{AreNets, rows_of}
 
 -- the routes without that of this source

@@ -11,6 +11,7 @@
 //! `nets` finds, puts in and takes out nets, and `routes` does the same with the routes of one net.
 #![tactic(auto)]
 
+mod kept;
 mod nets;
 mod rib;
 mod routes;

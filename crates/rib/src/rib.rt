@@ -6,7 +6,8 @@ ghost use Rattle.attrs.specs.Table.{AreRows, route_in, count_routes};
 ghost use Rattle.rib.specs.Rib.{best_of, AreOfFamily};
 ghost use Rattle.rib.specs.Outcome.{IfChanged};
 
-use crate::nets::{NetRoutes, change_nets, copy_rows, find_routes, move_rows, reserve_nets};
+use crate::kept::Kept;
+use crate::nets::{change_nets, copy_rows, find_routes, move_rows, reserve_nets};
 use crate::routes::{find_route, same_routes};
 use attrs::{Change, Route, Row, Select};
 use bits_ip::{Family, OutOfMemory, Prefix};
@@ -26,8 +27,8 @@ pub enum Outcome {
 #[derive(Debug, Drop)]
 pub struct Rib {
     family: Family,
-    nets: Vec<NetRoutes>,
-    spare: Vec<Route>,
+    nets: Vec<Kept>,
+    spare: Option<Kept>,
     total: u64,
     room: Option<(Prefix, u32)>,
 }
@@ -51,7 +52,7 @@ impl Rib {
         Rib {
             family,
             nets: Vec::new(alloc),
-            spare: Vec::new(alloc),
+            spare: None,
             total: 0,
             room: None,
         }

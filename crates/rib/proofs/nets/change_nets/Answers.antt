@@ -1,5 +1,5 @@
 use Rattle.std.proofs.Common.{refl, subst, List}
-use Rattle.rib.specs.declared.nets.NetRoutes.{NetRoutes}
+use Rattle.rib.specs.declared.kept.NetRoutes.{NetRoutes}
 use Rattle.rib.specs.Steps.{IsGapFor}
 use Rattle.rib.proofs.NetLists.{absent-changes, absent-stands}
 use Rattle.rib.proofs.nets.change_nets.Goals as goal

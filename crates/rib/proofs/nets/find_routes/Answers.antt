@@ -1,12 +1,10 @@
-use Rattle.std.proofs.Common.{◌∙◌, ap, sym}
-use Rattle.rib.specs.declared.nets.NetRoutes.{NetRoutes}
+use Rattle.std.proofs.Common.{◌∙◌, sym}
 use Rattle.rib.proofs.NetLists.{gap-has-none, own-at}
 use Rattle.rib.proofs.nets.find_routes.Goals as goal
 
 pub returns-in-Ok : goal.returns-in-Ok
 returns-in-Ok c =
-    c.as_slice.ensures.value
-    ∙ ap (λ (k : NetRoutes). k.routes.items) (sym c.index-nets-place.is)
+    c.routes.ensures
     ∙ sym (own-at c.args.net.now c.args.nets.now c.in-Ok.place c.index-nets-place.result c.in-Ok.ensures c.index-nets-place.is c.requires)
 
 pub returns-in-Err : goal.returns-in-Err

@@ -1,7 +1,7 @@
 use Rattle.std.proofs.Common.{rules}
 use Rattle.std.proofs.lemmas.Fn.{always_returns_same}
 use Rattle.bits_ip.specs.Prefix.{net_cmp}
-use Rattle.rib.specs.declared.nets.NetRoutes.{NetRoutes}
+use Rattle.rib.specs.declared.kept.NetRoutes.{NetRoutes}
 use Rattle.rib.proofs.NetPlaces.{place-found}
 use Rattle.rib.proofs.nets.place_of_net.Goals as goal
 

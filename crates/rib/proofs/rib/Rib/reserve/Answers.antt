@@ -18,7 +18,7 @@ invariant_of-self c =
       family = grown-family c.self.inside.family c.self.inside.nets.items c.reserve_nets.new.nets.items c.reserve_nets.ensures.grown c.self.invariant.family;
       total = c.self.invariant.total ∙ ap count_routes (sym same);
       counts = c.self.invariant.counts;
-      spare = c.reserve_nets.ensures.spare ∙ c.self.invariant.spare;
+      spare = c.reserve_nets.ensures.spare;
       room = IfSome_then c.self.inside.room c.self.invariant.room (λ key. c.reserve_nets.ensures.kept key.0);
     }
 
@@ -30,7 +30,7 @@ invariant_of-self-2 c =
       family = grown-family c.self.inside.family c.self.inside.nets.items c.reserve_nets.new.nets.items c.reserve_nets.ensures.grown c.self.invariant.family;
       total = c.self.invariant.total ∙ ap count_routes (sym same);
       counts = λ _. omega arith;
-      spare = c.reserve_nets.ensures.spare ∙ c.self.invariant.spare;
+      spare = c.reserve_nets.ensures.spare;
       room = c.in_ok-reserve_nets.ensures.made;
     }
 
