@@ -8,9 +8,10 @@ ghost use Rattle.import_core.specs.Import.{imported, imported_route, withdrawn};
 ghost use Rattle.import_core.specs.Session.{bgp_session};
 ghost use Rattle.birdcore_top.specs.Run.{state_of, IsRun};
 ghost use Rattle.script_lang.specs.Script.{IsOfV4, AreOfV4};
+ghost use Rattle.show_route.specs.Reply.{reply_text};
 
 use crate::config::Config;
-use attrs::{Change, Row, Select, Seq};
+use attrs::{Change, Row, Seq};
 use bits_ip::{Family, OutOfMemory, Prefix};
 use export_core::LogItem;
 use import_core::{Given, ImportSpec, Mode, Op, bgp_session, import, withdraw};
@@ -20,7 +21,7 @@ use report::{
 };
 use rib::Rib;
 use script_lang::Line;
-use show_route::answer;
+use show_route::{begin, write_routes};
 use std::alloc::Global;
 
 /// The run of a script: the table of IPv4 routes, and what has come about so far.
@@ -161,9 +162,7 @@ impl Run {
         ensures step { OnOk result (Steps config.now Line.Show (state_of self.old) (state_of self.new)) }
         ensures is { OnOk result (IsRun self.new) }
     {
-        let rows = self.table.select(&Select::All)?;
-        let names = [config.name.as_slice()];
-        let text = answer(alloc, &names, b"master4", &rows)?;
+        let text = reply(alloc, config, &self.table)?;
         self.replies.push(ReplyReport {
             actor: copy_bytes(alloc, config.name.as_slice())?,
             table: copy_bytes(alloc, b"master4")?,
@@ -202,6 +201,20 @@ impl Run {
             exports,
         })
     }
+}
+
+/// The reply to `show route` over the rows of the main table.
+fn reply(alloc: Global, config: &Config, table: &Rib) -> Result<Vec<u8>, OutOfMemory>
+    ensures { IfOk result
+        (λ text. text.items ≡ reply_text (config.now.name ∷ []) main_table table.now.rows) }
+{
+    let names = [config.name.as_slice()];
+    let mut text = begin(alloc, b"master4")?;
+    for place in 0..table.len() {
+        let (net, routes) = table.row(place);
+        write_routes(&names, net, routes, &mut text)?;
+    }
+    Ok(text)
 }
 
 fn mode_of(session: Option<u32>) -> Mode

@@ -1,6 +1,7 @@
-ghost use Rattle.std.specs.Prelude.{◌≡◌, ◌≢◌, ◌↔◌, ◌+◌, ◌<◌, ◌≤◌, ◌^◌, ℕ, [], ◌∷◌, IfOk, IfSome, IsSome, IsTrue, MatchResult, OnOk, length};
+ghost use Rattle.std.specs.Prelude.{◌≡◌, ◌≢◌, ◌↔◌, ◌+◌, ◌<◌, ◌≤◌, ◌^◌, ℕ, [], ◌∷◌, IfOk, IfSome, IsSome, IsTrue, MatchResult, OnOk, length, slice_index_or};
 ghost use Rattle.bits_ip.specs.Address.{family_of};
 ghost use Rattle.bits_ip.specs.Prefix.{Net};
+ghost use Rattle.attrs.specs.declared.route.Row.{Row};
 ghost use Rattle.attrs.specs.Table.{AreRows, route_in, route_of, routes_of};
 ghost use Rattle.rib.specs.Rib.{best_of, first_of};
 ghost use Rattle.rib.specs.Outcome.{IfChanged};
@@ -30,6 +31,16 @@ pub(crate) fn find_routes<'a>(nets: &'a [Kept], net: &Prefix) -> &'a [Route]
         Ok(place) => nets[place].routes(),
         Err(_) => &[],
     }
+}
+
+/// The net at this place, and its routes.
+pub(crate) fn row_at(nets: &[Kept], place: usize) -> (&Prefix, &[Route])
+    requires { place < length nets.now }
+    ensures { (default : Row) → slice_index_or (rows_of nets.now) place default
+        ≡ record { net = result.0.now; routes = result.1.now } }
+{
+    let kept = &nets[place];
+    (kept.net(), kept.routes())
 }
 
 /// Makes room for one more route of the net, if it is there.

@@ -1,13 +1,14 @@
-ghost use Rattle.std.specs.Prelude.{◌≡◌, ◌≢◌, ◌↔◌, ℕ, [], ◌∷◌, Some, None, IfOk, IfSome, IsTrue, IsSome, OnOk, OnErr, length};
+ghost use Rattle.std.specs.Prelude.{◌≡◌, ◌≢◌, ◌↔◌, ◌<◌, ℕ, [], ◌∷◌, Some, None, IfOk, IfSome, IsTrue, IsSome, OnOk, OnErr, length, slice_index_or};
 ghost use Rattle.bits_ip.specs.Address.{family_of};
 ghost use Rattle.bits_ip.specs.Prefix.{Net};
 ghost use Rattle.attrs.specs.History.{after};
+ghost use Rattle.attrs.specs.declared.route.Row.{Row};
 ghost use Rattle.attrs.specs.Table.{AreRows, route_in, count_routes};
 ghost use Rattle.rib.specs.Rib.{best_of, AreOfFamily};
 ghost use Rattle.rib.specs.Outcome.{IfChanged};
 
 use crate::kept::Kept;
-use crate::nets::{change_nets, copy_rows, find_routes, move_rows, reserve_nets};
+use crate::nets::{change_nets, copy_rows, find_routes, move_rows, reserve_nets, row_at};
 use crate::routes::{find_route, same_routes};
 use attrs::{Change, Route, Row, Select};
 use bits_ip::{Family, OutOfMemory, Prefix};
@@ -102,6 +103,23 @@ impl Rib {
     {
         let routes = find_routes(&self.nets, &change.net);
         same_routes(find_route(routes, change.num), change.new.as_ref())
+    }
+
+    /// How many nets there are.
+    pub fn len(&self) -> usize
+        ensures { result ≡ length self.now.rows }
+    {
+        self.nets.len()
+    }
+
+    /// The net at this place in the order of nets, and its routes in selection order: the row
+    /// itself, where `select` copies.
+    pub fn row(&self, place: usize) -> (&Prefix, &[Route])
+        requires { place < length self.now.rows }
+        ensures { (default : Row) → slice_index_or self.now.rows place default
+            ≡ record { net = result.0.now; routes = result.1.now } }
+    {
+        row_at(&self.nets, place)
     }
 
     /// A copy of the rows that are asked for, in the order of nets.

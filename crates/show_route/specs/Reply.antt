@@ -51,7 +51,10 @@ shown_routes names net best (r ∷ rest) =
 abbrev pub shown_row : List (List ℕ) → Row → List ℕ
 shown_row names row = shown_routes names row.net true row.routes
 
--- the reply: the table's name, and the routes of each net
+-- the heading: the table's name
+abbrev pub reply_head : List ℕ → List ℕ
+reply_head table = codes "Table " ++ table ++ codes ":\n"
+
+-- the reply: the heading, and the routes of each net
 abbrev pub reply_text : List (List ℕ) → List ℕ → List Row → List ℕ
-reply_text names table rows =
-    codes "Table " ++ table ++ codes ":\n" ++ flat_map (shown_row names) rows
+reply_text names table rows = reply_head table ++ flat_map (shown_row names) rows

@@ -4,7 +4,7 @@ ghost use Rattle.std.specs.List.{flat_map};
 ghost use Rattle.bits_ip.specs.Text.{addr_text, net_text};
 ghost use Rattle.attrs.specs.Text.{dest_text, optional_text};
 ghost use Rattle.text.specs.Names.{name_of};
-ghost use Rattle.show_route.specs.Reply.{as_text, last_as_text, origin_letter, reply_text, shown_route, shown_routes, shown_row};
+ghost use Rattle.show_route.specs.Reply.{as_text, last_as_text, origin_letter, reply_head, reply_text, shown_route, shown_routes, shown_row};
 
 use attrs::{Attrs, Kind, Origin, Route, Row};
 use bits_ip::{Addr, OutOfMemory, Prefix, append_addr, write_number, append_prefix};
@@ -24,11 +24,19 @@ pub fn answer(
         (λ text.
         text.items ≡ reply_text (map (λ name. name.now) names.now) table.now rows.now) }
 {
+    let mut out = begin(alloc, table)?;
+    write_rows(names, rows, &mut out)?;
+    Ok(out)
+}
+
+/// The beginning of a reply, to which `write_routes` appends each net.
+pub fn begin(alloc: Global, table: &[u8]) -> Result<Vec<u8>, OutOfMemory>
+    ensures { IfOk result (λ text. text.items ≡ reply_head table.now) }
+{
     let mut out = Vec::new(alloc);
     out.extend_from_slice(b"Table ")?;
     out.extend_from_slice(table)?;
     out.extend_from_slice(b":\n")?;
-    write_rows(names, rows, &mut out)?;
     Ok(out)
 }
 
@@ -47,8 +55,9 @@ fn write_rows(
     Ok(())
 }
 
-/// The routes of a net in selection order: the first is the best.
-fn write_routes(
+/// Appends the routes of a net in selection order: the first is the best. On refusal a part of them
+/// may stand.
+pub fn write_routes(
     names: &[&[u8]],
     net: &Prefix,
     routes: &[Route],
