@@ -22,5 +22,6 @@ pub use path::{Path, PathFault};
 pub use route::{Change, Route, Row, Select, Src};
 pub use seq::Seq;
 pub use text::{
-    append_attrs, attr_text, write_communities, write_optional_number, write_spaced_numbers, write_spaced_pairs,
+    append_attrs, attr_text, write_communities, write_optional_number, write_spaced_numbers,
+    write_spaced_pairs,
 };

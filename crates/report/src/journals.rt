@@ -34,12 +34,7 @@ fn write_journal(
         (out.new.items ≡ out.old.items ++ journal_text (names_in protocols.now) journal.now) }
 {
     write_journal_head(journal, out)?;
-    write_entries(
-        protocols,
-        journal.from,
-        journal.entries.as_slice(),
-        out,
-    )
+    write_entries(protocols, journal.from, journal.entries.as_slice(), out)
 }
 
 /// The table, with its positions before the phase and behind it.

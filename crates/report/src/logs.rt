@@ -37,12 +37,7 @@ fn write_channel(
     out.extend_from_slice(b"channel ")?;
     out.extend_from_slice(channel.name.as_slice())?;
     out.push(b'\n')?;
-    write_items(
-        protocols,
-        channel.pipe,
-        channel.items.as_slice(),
-        out,
-    )
+    write_items(protocols, channel.pipe, channel.items.as_slice(), out)
 }
 
 fn write_items(

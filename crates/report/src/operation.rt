@@ -35,11 +35,7 @@ fn write_del(net: &Prefix, out: &mut Vec<u8>) -> Result<(), OutOfMemory>
     append_prefix(net, out)
 }
 
-fn write_add(
-    net: &Prefix,
-    given: &Given,
-    out: &mut Vec<u8>,
-) -> Result<(), OutOfMemory>
+fn write_add(net: &Prefix, given: &Given, out: &mut Vec<u8>) -> Result<(), OutOfMemory>
     ensures { OnOk result (out.new.items ≡ out.old.items ++ op_text (Add net.now given.now)) }
 {
     write_gateway(net, given, out)?;
@@ -49,11 +45,7 @@ fn write_add(
 }
 
 /// Which net, and where its packets go.
-fn write_gateway(
-    net: &Prefix,
-    given: &Given,
-    out: &mut Vec<u8>,
-) -> Result<(), OutOfMemory>
+fn write_gateway(net: &Prefix, given: &Given, out: &mut Vec<u8>) -> Result<(), OutOfMemory>
     ensures { OnOk result
         (out.new.items ≡ out.old.items
         ++ codes "add " ++ net_text net.now ++ codes " via " ++ addr_text given.now.gw) }

@@ -23,10 +23,7 @@ pub(crate) fn write_protocols(
     Ok(())
 }
 
-fn write_protocol(
-    protocol: &ProtocolReport,
-    out: &mut Vec<u8>,
-) -> Result<(), OutOfMemory>
+fn write_protocol(protocol: &ProtocolReport, out: &mut Vec<u8>) -> Result<(), OutOfMemory>
     ensures { OnOk result (out.new.items ≡ out.old.items ++ protocol_text protocol.now) }
 {
     out.extend_from_slice(b"protocol ")?;

@@ -1,5 +1,5 @@
 //! A net of a table with its routes, kept apart from the list of nets.
-ghost use Rattle.std.specs.Prelude.{◌≡◌, ◌↔◌, ◌==◌, ◌<◌, ◌≤◌, ◌+◌, ◌^◌, ◌≢◌, ℕ, [], ◌∷◌, vec_len, length, IfOk, IfSome, IsTrue, OnOk};
+ghost use Rattle.std.specs.Prelude.{◌≡◌, ◌↔◌, ◌==◌, ◌<◌, ◌≤◌, ◌+◌, ◌^◌, ◌≢◌, [], ◌∷◌, vec_len, length, IfOk, IfSome, IsTrue, OnOk};
 ghost use Rattle.attrs.specs.Table.{route_of};
 ghost use Rattle.rib.specs.Rib.{first_of};
 ghost use Rattle.rib.specs.Outcome.{IfChanged};

@@ -8,7 +8,8 @@
 //! `change` takes none, so it can't fail half way. What a change leaves is the content that `attrs`
 //! defines (`after`), and one content is shown by one list of rows.
 //!
-//! `nets` finds, puts in and takes out nets, and `routes` does the same with the routes of one net.
+//! `nets` finds, puts in and takes out nets, `kept` is one of them with its routes, and `routes`
+//! puts these in and takes them out.
 #![tactic(auto)]
 
 mod kept;

@@ -1,12 +1,12 @@
-ghost use Rattle.std.specs.Prelude.{◌≡◌, ◌≢◌, ◌↔◌, ◌+◌, ◌<◌, ◌≤◌, ◌^◌, ℕ, [], ◌∷◌, IfOk, IfSome, IsSome, IsTrue, MatchResult, OnOk, length, slice_index_or};
+ghost use Rattle.std.specs.Prelude.{◌≡◌, ◌≢◌, ◌↔◌, ◌+◌, ◌<◌, ◌^◌, [], ◌∷◌, IfOk, IfSome, IsSome, IsTrue, MatchResult, OnOk, length, slice_index_or};
 ghost use Rattle.bits_ip.specs.Address.{family_of};
 ghost use Rattle.bits_ip.specs.Prefix.{Net};
 ghost use Rattle.attrs.specs.declared.route.Row.{Row};
-ghost use Rattle.attrs.specs.Table.{AreRows, route_in, route_of, routes_of};
-ghost use Rattle.rib.specs.Rib.{best_of, first_of};
+ghost use Rattle.attrs.specs.Table.{AreRows, route_in, routes_of};
+ghost use Rattle.rib.specs.Rib.{best_of};
 ghost use Rattle.rib.specs.Outcome.{IfChanged};
 ghost use Rattle.rib.specs.Inside.{AreNets, HasRoom, HaveGrown, HaveRoomAt, IsRoomFor, IsSpare, row_of, rows_of};
-ghost use Rattle.rib.specs.Steps.{AreRoutes, Changes, Replaces, IsGapFor, IsNetAt, Leaves};
+ghost use Rattle.rib.specs.Steps.{Changes, IsGapFor, IsNetAt, Leaves};
 
 use crate::kept::Kept;
 use crate::rib::Outcome;
@@ -57,11 +57,7 @@ fn reserve_route(nets: &mut Vec<Kept>, net: &Prefix) -> Result<(), OutOfMemory>
 }
 
 /// Makes a spare net, where there is none.
-fn reserve_spare(
-    alloc: Global,
-    spare: &mut Option<Kept>,
-    net: &Prefix,
-) -> Result<(), OutOfMemory>
+fn reserve_spare(alloc: Global, spare: &mut Option<Kept>, net: &Prefix) -> Result<(), OutOfMemory>
     requires { IfSome spare.old IsSpare }
     ensures made { OnOk result (IsSome spare.new) }
     ensures is { IfSome spare.new IsSpare }

@@ -7,7 +7,7 @@ ghost use Rattle.text.specs.Names.{name_of};
 ghost use Rattle.show_route.specs.Reply.{as_text, last_as_text, origin_letter, reply_head, reply_text, shown_route, shown_routes, shown_row};
 
 use attrs::{Attrs, Kind, Origin, Route, Row};
-use bits_ip::{Addr, OutOfMemory, Prefix, append_addr, write_number, append_prefix};
+use bits_ip::{Addr, OutOfMemory, Prefix, append_addr, append_prefix, write_number};
 use std::alloc::Global;
 
 /// The reply to `show route` over these rows of a table, with the protocols' names by number.
@@ -40,11 +40,7 @@ pub fn begin(alloc: Global, table: &[u8]) -> Result<Vec<u8>, OutOfMemory>
     Ok(out)
 }
 
-fn write_rows(
-    names: &[&[u8]],
-    rows: &[Row],
-    out: &mut Vec<u8>,
-) -> Result<(), OutOfMemory>
+fn write_rows(names: &[&[u8]], rows: &[Row], out: &mut Vec<u8>) -> Result<(), OutOfMemory>
     ensures { OnOk result
         (out.new.items ≡ out.old.items
         ++ flat_map (shown_row (map (λ name. name.now) names.now)) rows.now) }
