@@ -1,0 +1,9 @@
+pub mod Passing
+pub mod Logs
+pub mod Marks
+pub mod Standing
+pub mod Candidates
+pub mod Lanes
+pub mod States
+pub mod Calls
+pub mod Plan

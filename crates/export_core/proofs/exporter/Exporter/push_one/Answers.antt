@@ -1,0 +1,13 @@
+use Rattle.std.proofs.Common.{rules}
+use Rattle.export_core.specs.declared.exporter.Pushed.TheVariants as pushed
+use Rattle.export_core.proofs.Pushing.{push_stands_for, pushed_stands}
+use Rattle.export_core.proofs.exporter.Exporter.push_one.Goals as goal
+
+pub returns-in-Quiet-clause-pushes : goal.returns-in-Quiet-clause-pushes
+returns-in-Quiet-clause-pushes g c = search rules
+
+pub returns-in-Quiet-clause-stands : goal.returns-in-Quiet-clause-stands
+returns-in-Quiet-clause-stands g c = λ course s. push_stands_for g.J.Judge.verdict course pushed.Quiet _ _ _ _ (returns-in-Quiet-clause-pushes g c) c.requires.up s
+
+pub returns-in-Send-clause-stands : goal.returns-in-Send-clause-stands
+returns-in-Send-clause-stands g c = pushed_stands g.J.Judge.verdict _ _ _ _ c.send.result c.send.ensures.pushes c.requires.up
