@@ -6,3 +6,5 @@ pub mod Pushing
 pub mod Stretches
 pub mod Feeding
 pub mod Kept
+pub mod SendLists
+pub mod Courses

@@ -172,3 +172,12 @@ module _ {J : Type 0} where
   pub pushed_stands : (verdict : J → Net → Route → Verdict) (e e' : State J) (told told' : Option (List Sending)) (r : Result Pushed PushFault) → IfOk r (Pushes verdict e e' told told') → is_open e.log ≡ true → OnOk r ((c : Course) → StandsFor verdict c e → StandsFor verdict c e')
   pushed_stands verdict e e' told told' (Ok answer) p up = λ c s. push_stands_for verdict c answer e e' told told' p up s
   pushed_stands verdict e e' told told' (Err fault) p up = tt
+
+  pub push_open : (verdict : J → Net → Route → Verdict) (answer : Pushed) (e e' : State J) (told told' : Option (List Sending)) → Pushes verdict e e' told told' answer → is_open e.log ≡ true → is_open e'.log ≡ true
+  push_open verdict pushed.Nothing e e' told told' p up = ap (λ e. is_open e.log) p.1 ∙ up
+  push_open verdict pushed.Quiet e e' told told' p up = ap is_open p.2.log ∙ up
+  push_open verdict pushed.Sent e e' told told' p up = ap is_open p.2.log ∙ ap (λ l. is_some (stretch l)) (reverse-append e.log (Sent p.1 ∷ [])) ∙ up
+
+  pub pushed_open : (verdict : J → Net → Route → Verdict) (e e' : State J) (told told' : Option (List Sending)) (r : Result Pushed PushFault) → IfOk r (Pushes verdict e e' told told') → is_open e.log ≡ true → OnOk r (is_open e'.log ≡ true)
+  pushed_open verdict e e' told told' (Ok answer) p up = push_open verdict answer e e' told told' p up
+  pushed_open verdict e e' told told' (Err fault) p up = tt

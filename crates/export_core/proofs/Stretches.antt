@@ -86,3 +86,12 @@ module _ {J : Type 0} where
         right = λ k. (s.lanes o.0 o.1 k).still (none k) (ap (λ f. is_ahead f k) rest.fed) ∙ ap (λ p. passed value k (c.best k p)) (top k);
         fresh = λ k some. (s.lanes o.0 o.1 k).fresh (ap is_due (none k)) (rw rest.fed refl) some;
       }
+
+  pub up_open : (at : ℕ) (e e' : State J) → e' ≡ begun at e → is_open e'.log ≡ true
+  up_open at e e' same = ap (λ e. is_open e.log) same ∙ ap (λ l. is_some (stretch l)) (reverse-append e.log (Up at ∷ []))
+
+  pub refresh_open : (e e' : State J) → e' ≡ refreshed e → is_open e.log ≡ true → is_open e'.log ≡ true
+  refresh_open e e' same up = ap (λ e. is_open e.log) same ∙ ap (λ l. is_some (stretch l)) (reverse-append e.log (Reload ∷ [])) ∙ up
+
+  pub down_closed : (e e' : State J) → e' ≡ ended e → is_open e'.log ≡ false
+  down_closed e e' same = ap (λ e. is_open e.log) same ∙ ap (λ l. is_some (stretch l)) (reverse-append e.log (Down ∷ []))

@@ -7,3 +7,5 @@ pub mod Lanes
 pub mod States
 pub mod Calls
 pub mod Plan
+pub mod Sends
+pub mod Histories

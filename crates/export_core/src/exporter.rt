@@ -9,6 +9,7 @@ ghost use Rattle.export_core.specs.Logs.{Course, Settled, highest};
 ghost use Rattle.export_core.specs.declared.exporter.Next.TheVariants as next;
 ghost use Rattle.export_core.specs.Marks.{find};
 ghost use Rattle.export_core.specs.Plan.{IsFirst, IsNext};
+ghost use Rattle.export_core.specs.Sends.{IsStanding};
 ghost use Rattle.export_core.specs.Standing.{is_open};
 ghost use Rattle.export_core.specs.States.{IsChunkAt, IsEntryAt, StandsFor, reach_of, value_for};
 
@@ -177,6 +178,13 @@ impl<J: Judge> Exporter<J> {
         self.feed
     }
 
+    /// The values that stand as sent, in the order of nets.
+    pub fn standing(&self) -> Result<Vec<(Key, Attrs)>, OutOfMemory>
+        ensures { IfOk result (λ values. IsStanding self.now.log values.items) }
+    {
+        self.sent.values(self.alloc, &self.log)
+    }
+
     /// Takes the next entry of the table's journal.
     pub fn take(&mut self, pos: u64, entry: &JEntry) -> Result<(), OutOfMemory>
         requires up { is_open self.old.log ≡ true }
@@ -252,6 +260,7 @@ impl<J: Judge> Exporter<J> {
             ((self.new ≡ self.old) × (O.told outlet.new ≡ O.told outlet.old)) }
         ensures cause { IfErr result (λ fault. fault ≢ PushFault.Memory
             → O.refusals outlet.old < O.refusals outlet.new) }
+        ensures up { OnOk result (is_open self.new.log ≡ true) }
         ensures stands { OnOk result ((c : Course)
             → StandsFor J.verdict c self.old → StandsFor J.verdict c self.new) }
     {
@@ -270,6 +279,7 @@ impl<J: Judge> Exporter<J> {
         requires down { is_open self.old.log ≡ false }
         requires later { highest (reverse self.old.log) ≤ at }
         ensures begins { OnOk result (self.new ≡ begun at self.old) }
+        ensures up { OnOk result (is_open self.new.log ≡ true) }
         ensures refused { OnErr result (self.new ≡ self.old) }
         ensures stands { OnOk result ((c : Course) → at ≤ c.len
             → StandsFor J.verdict c self.old → StandsFor J.verdict c self.new) }
@@ -290,6 +300,7 @@ impl<J: Judge> Exporter<J> {
     pub fn refresh(&mut self) -> Result<(), OutOfMemory>
         requires up { is_open self.old.log ≡ true }
         ensures refreshes { OnOk result (self.new ≡ refreshed self.old) }
+        ensures up { OnOk result (is_open self.new.log ≡ true) }
         ensures refused { OnErr result (self.new ≡ self.old) }
         ensures stands { OnOk result ((c : Course)
             → StandsFor J.verdict c self.old → StandsFor J.verdict c self.new) }
@@ -305,6 +316,7 @@ impl<J: Judge> Exporter<J> {
     pub fn down(&mut self) -> Result<(), OutOfMemory>
         requires up { is_open self.old.log ≡ true }
         ensures ends { OnOk result (self.new ≡ ended self.old) }
+        ensures down { OnOk result (is_open self.new.log ≡ false) }
         ensures refused { OnErr result (self.new ≡ self.old) }
         ensures stands { OnOk result ((c : Course)
             → StandsFor J.verdict c self.old → StandsFor J.verdict c self.new) }

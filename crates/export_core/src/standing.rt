@@ -1,13 +1,17 @@
 //! The values that stand as sent: the numbers of the log's items that have them.
-ghost use Rattle.std.specs.Prelude.{◌≡◌, ◌&&◌, [], None, Some, is_some, OnOk, true, option_copied, if◌then◌else◌};
-ghost use Rattle.bits_ip.specs.Prefix.{Net, same_net};
+ghost use Rattle.std.specs.Prelude.{◌≡◌, ◌&&◌, ◌++◌, [], ◌∷◌, None, Some, is_some, map, option_map, IfOk, OnOk, true, option_copied, if◌then◌else◌};
+ghost use Rattle.std.specs.List.Sorted.{IsStrictlySortedBy};
+ghost use Rattle.std.specs.Map.{keys_of};
+ghost use Rattle.std.specs.List.{cons_option};
+ghost use Rattle.bits_ip.specs.Prefix.{Net, net_cmp, same_net};
 ghost use Rattle.export_core.specs.Candidates.{AddsNone, covers, is_from};
 ghost use Rattle.export_core.specs.Marks.{HasPlace};
+ghost use Rattle.export_core.specs.Sends.{entries_by, key_of, keyed};
 ghost use Rattle.export_core.specs.Standing.{index_at, value_at, value_in};
 
 use crate::candidates::{add_none, bounds_of};
 use crate::floors::Floor;
-use crate::log::LogItem;
+use crate::log::{Key, LogItem};
 use attrs::{Attrs, Route};
 use bits_ip::{OutOfMemory, Prefix};
 use std::alloc::Global;
@@ -57,6 +61,42 @@ impl Standing {
             Some(LogItem::Sent(sending)) => sending.value.as_ref(),
             _ => None,
         }
+    }
+
+    /// Puts the net's value, where it has one, behind the others.
+    fn push_value(
+        &self,
+        log: &[LogItem],
+        net: &Prefix,
+        values: &mut Vec<(Key, Attrs)>,
+    ) -> Result<(), OutOfMemory>
+        ensures { OnOk result (values.new.items ≡ values.old.items
+            ++ cons_option (option_map (λ v. (key_of net.now, v))
+            (value_at log.now (index_at net.now self.now))) []) }
+    {
+        if let Some(value) = self.value(log, net) {
+            let key = Key { net: *net, num: 0 };
+            values.push((key, value.copy()?))?;
+        }
+        Ok(())
+    }
+
+    /// The values, in the order of nets.
+    pub(crate) fn values(
+        &self,
+        alloc: Global,
+        log: &[LogItem],
+    ) -> Result<Vec<(Key, Attrs)>, OutOfMemory>
+        ensures values { IfOk result (λ values. values.items
+            ≡ map keyed
+            (entries_by (λ k. value_at log.now (index_at k self.now)) (keys_of self.now))) }
+        ensures ascend { IsStrictlySortedBy net_cmp (keys_of self.now) }
+    {
+        let mut values = Vec::new(alloc);
+        for net in self.places.keys() {
+            self.push_value(log, net, &mut values)?;
+        }
+        Ok(values)
     }
 
     /// Makes a place for a value of the net, which changes no value.

@@ -1,6 +1,6 @@
 use Rattle.std.proofs.Common.{rules}
 use Rattle.export_core.specs.declared.exporter.Pushed.TheVariants as pushed
-use Rattle.export_core.proofs.Pushing.{push_stands_for, pushed_stands}
+use Rattle.export_core.proofs.Pushing.{push_open, push_stands_for, pushed_open, pushed_stands}
 use Rattle.export_core.proofs.exporter.Exporter.push_one.Goals as goal
 
 pub returns-in-Quiet-clause-pushes : goal.returns-in-Quiet-clause-pushes
@@ -11,3 +11,9 @@ returns-in-Quiet-clause-stands g c = λ course s. push_stands_for g.J.Judge.verd
 
 pub returns-in-Send-clause-stands : goal.returns-in-Send-clause-stands
 returns-in-Send-clause-stands g c = pushed_stands g.J.Judge.verdict _ _ _ _ c.send.result c.send.ensures.pushes c.requires.up
+
+pub returns-in-Quiet-clause-up : goal.returns-in-Quiet-clause-up
+returns-in-Quiet-clause-up g c = push_open g.J.Judge.verdict pushed.Quiet _ _ _ _ (returns-in-Quiet-clause-pushes g c) c.requires.up
+
+pub returns-in-Send-clause-up : goal.returns-in-Send-clause-up
+returns-in-Send-clause-up g c = pushed_open g.J.Judge.verdict _ _ _ _ c.send.result c.send.ensures.pushes c.requires.up

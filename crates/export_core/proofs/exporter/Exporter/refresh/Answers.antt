@@ -3,7 +3,7 @@ use Rattle.export_core.specs.declared.log.LogItem.{LogItem}
 use Rattle.export_core.specs.declared.log.LogItem.TheVariants.{Reload}
 use Rattle.export_core.specs.Standing.{IsKept}
 use Rattle.export_core.proofs.Kept.{kept_reload}
-use Rattle.export_core.proofs.Stretches.{refresh_stands_for}
+use Rattle.export_core.proofs.Stretches.{refresh_open, refresh_stands_for}
 use Rattle.export_core.proofs.exporter.Exporter.refresh.Goals as goal
 
 pub invariant_of-self-2 : goal.invariant_of-self-2
@@ -17,3 +17,6 @@ returns-clause-refreshes g c = search rules
 
 pub returns-clause-stands : goal.returns-clause-stands
 returns-clause-stands g c = λ course s. refresh_stands_for g.J.Judge.verdict course _ _ (returns-clause-refreshes g c) c.requires.up s
+
+pub returns-clause-up : goal.returns-clause-up
+returns-clause-up g c = refresh_open c.args.self.now _ (returns-clause-refreshes g c) c.requires.up
