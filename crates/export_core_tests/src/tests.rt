@@ -24,7 +24,7 @@ enum Line {
     Other,
 }
 
-fn line(item: &LogItem) -> Line {
+fn line_of(item: &LogItem) -> Line {
     match item {
         LogItem::Up(_) => Line::Up,
         LogItem::Down => Line::Other,
@@ -48,7 +48,7 @@ fn line(item: &LogItem) -> Line {
 fn lines(alloc: Global, items: &[LogItem]) -> Result<Vec<Line>, Fail> {
     let mut lines = Vec::new(alloc);
     for item in items {
-        lines.push(line(item))?;
+        lines.push(line_of(item))?;
     }
     Ok(lines)
 }
