@@ -6,5 +6,6 @@ pub mod Pushing
 pub mod Stretches
 pub mod Feeding
 pub mod Kept
+pub mod Families
 pub mod SendLists
 pub mod Courses

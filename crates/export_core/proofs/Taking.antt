@@ -52,7 +52,7 @@ unmarked_if : (same : Bool) (r pos : ℕ) (x y : Option Mark) → pos ≤ r → 
 unmarked_if true r pos x y w = grind (arith, nat_tests)
 unmarked_if false r pos x y w = refl
 
-other_if : (same : Bool) (b : Bool) (x y : Option Mark) → same ≡ false → (if same && b then x else y) ≡ y
+pub other_if : (same : Bool) (b : Bool) (x y : Option Mark) → same ≡ false → (if same && b then x else y) ≡ y
 other_if same b x y e = rw e refl
 
 -- an exporter with the same gate and filter makes the same of each route

@@ -101,7 +101,7 @@ module _ {J : Type 0} where
     log = e.log ++ Down ∷ [];
   }
 
-  -- the chunk marks the net: it is in the range, and has a best route, a mark or a value that stands
+  -- the chunk marks the net: it is in the range, and has a best route, a mark or a value
   abbrev pub is_chosen : Chunk → State J → Net → Bool
   is_chosen chunk e k =
       covers (floor_of chunk) k
@@ -166,7 +166,7 @@ module _ {J : Type 0} where
     pub value : x.value ≡ passed (value_for verdict e) x.key.net m.candidate
     pub news : IsNews m.due x.value (standing_at x.key.net e.log) x.again
 
-  -- What a push does, by its answer; `told` and `told'` are what the outlet tells that it was given.
+  -- What a push does, by its answer; `told` and `told'` are what the outlet was given.
   abbrev pub Pushes :
       (J → Net → Route → Verdict) → State J → State J → Option (List Sending)
       → Option (List Sending) → Pushed → Type 0

@@ -24,7 +24,8 @@ tally b = if b then 1 else 0
 
 -- The mark stands in the stretch, not before the net's last item and not behind where the net has
 -- been read; its candidate is the net's best route from its position on to there.
-pub record IsMark (c : Course) (k : Net) (h reach : ℕ) (last : Option Sending) (m : Mark) : Type 0 where
+pub record IsMark
+    (c : Course) (k : Net) (h reach : ℕ) (last : Option Sending) (m : Mark) : Type 0 where
   pub begun : h ≤ m.at
   pub after : (x : Sending) → last ≡ Some x → x.at ≤ m.at
   pub within : m.at ≤ reach

@@ -3,6 +3,7 @@ pub mod Logs
 pub mod Marks
 pub mod Standing
 pub mod Candidates
+pub mod Families
 pub mod Lanes
 pub mod States
 pub mod Calls

@@ -97,7 +97,7 @@ MayCome value c Reload earlier = IsSome (stretch earlier)
 MayCome value c (Sent x) earlier =
     IsSend value c (stretch earlier) (account x.key.net earlier) (reloads earlier) x
 
--- the log is one that a channel over this history may have: each item may come after those before it
+-- the log is one that a channel over this history may have: each item may come after the earlier
 abbrev pub Follows : (Net → Route → Option Attrs) → Course → List LogItem → Type 0
 Follows value c [] = ⊤
 Follows value c (item ∷ earlier) = Follows value c earlier × MayCome value c item earlier

@@ -1,10 +1,10 @@
 //! The exporter.
 ghost use Rattle.std.specs.Prelude.{◌≡◌, ◌≢◌, ◌↔◌, ◌+◌, ◌<◌, ◌≤◌, ℕ, [], reverse, OnOk, OnErr, IfOk, IfErr, nat_lt, if◌then◌else◌, IfNone, IfSome, IsSome, IsTrue, false, true, Some, None, option_copied, option_map};
-ghost use Rattle.bits_ip.specs.declared.address.Family.{Family};
+ghost use Rattle.bits_ip.specs.Address.{family_of};
 ghost use Rattle.bits_ip.specs.Prefix.{Net};
 ghost use Rattle.export_core.specs.declared.floors.FeedState.TheVariants.{Done, From};
 ghost use Rattle.export_core.specs.Calls.{begun, ended, refreshed, no_marks, Feeds, IsAtRest, IsNews, IsQuiet, MarksAbove, Pushes, Takes, order_with};
-ghost use Rattle.export_core.specs.Candidates.{IsChunk};
+ghost use Rattle.export_core.specs.Candidates.{IsChunk, best_in};
 ghost use Rattle.export_core.specs.Logs.{Course, Settled, highest};
 ghost use Rattle.export_core.specs.declared.exporter.Next.TheVariants as next;
 ghost use Rattle.export_core.specs.Marks.{find};
@@ -62,18 +62,30 @@ pub struct Exporter<J: Judge> {
 
 impl<J: Judge> Model for Exporter<J> {
     ghost use Rattle.export_core.specs.States.{State};
+    ghost use Rattle.export_core.specs.Families.{AreOfFamily};
     ghost use Rattle.export_core.specs.Standing.{IsKept};
 
     ghost Value = { State J };
 
-    ghost view = { λ e. record { spec = e.through.spec; judge = e.through.judge; position = e.position; floors = e.floors.items; feed = e.feed; refreshing = e.refreshing; marks = e.marks; log = e.log.items } };
+    ghost view = { λ e. record {
+        spec = e.through.spec;
+        judge = e.through.judge;
+        position = e.position;
+        floors = e.floors.items;
+        feed = e.feed;
+        refreshing = e.refreshing;
+        marks = e.marks;
+        log = e.log.items;
+    } };
 
-    ghost invariant = { λ e. IsKept e.up e.sent e.log.items };
+    ghost invariant = { λ e. IsKept e.up e.sent e.log.items
+        × AreOfFamily e.through.spec.family e.marks e.sent };
 }
 
 /// Whether a value is sent as one sent again, and none where it isn't sent.
 fn send_of(value: Option<&Attrs>, last: Option<&Attrs>, due: bool) -> Option<bool>
-    ensures quiet { IfNone result (IsQuiet due (option_copied value.entry) (option_copied last.entry)) }
+    ensures quiet { IfNone result
+        (IsQuiet due (option_copied value.entry) (option_copied last.entry)) }
     ensures news { IfSome result (λ again.
         IsNews due (option_copied value.entry) (option_copied last.entry) again) }
 {
@@ -124,6 +136,9 @@ fn mark_above(
     ensures marks { OnOk result (MarksAbove reached pos entry.now marks.old marks.new) }
     ensures order { OnOk result (marks.new.order
         ≡ (if nat_lt reached pos then order_with entry.now.net marks.old else marks.old.order)) }
+    ensures refused { OnErr result
+        ((marks.new.order ≡ marks.old.order)
+        × ((q : Net) → find q marks.new ≡ find q marks.old)) }
 {
     if reached < pos {
         let mark = Mark {
@@ -189,6 +204,7 @@ impl<J: Judge> Exporter<J> {
     pub fn take(&mut self, pos: u64, entry: &JEntry) -> Result<(), OutOfMemory>
         requires up { is_open self.old.log ≡ true }
         requires next { pos ≡ self.old.position + 1 }
+        requires family { family_of entry.now.net.addr ≡ self.old.spec.family }
         ensures takes { OnOk result (Takes pos entry.now self.old self.new) }
         ensures stands { OnOk result ((c : Course) → IsEntryAt c pos entry.now
             → StandsFor J.verdict c self.old → StandsFor J.verdict c self.new) }
@@ -231,7 +247,7 @@ impl<J: Judge> Exporter<J> {
     /// Sends the first mark's value.
     fn send<O: Outlet>(&mut self, outlet: &mut O, sending: Sending) -> Result<Pushed, PushFault>
         requires next { IsNext J.verdict self.old (next.Send sending) }
-        requires takes { (family : Family) → O.takes outlet.old 0 family ≡ true }
+        requires takes { O.takes outlet.old 0 self.old.spec.family ≡ true }
         ensures pushes { IfOk result (Pushes J.verdict self.old self.new
             (O.told outlet.old) (O.told outlet.new)) }
         ensures refused { OnErr result
@@ -253,7 +269,7 @@ impl<J: Judge> Exporter<J> {
     /// Pushes the first mark out, in the order of first marking.
     pub fn push_one<O: Outlet>(&mut self, outlet: &mut O) -> Result<Pushed, PushFault>
         requires up { is_open self.old.log ≡ true }
-        requires takes { (family : Family) → O.takes outlet.old 0 family ≡ true }
+        requires takes { O.takes outlet.old 0 self.old.spec.family ≡ true }
         ensures pushes { IfOk result (Pushes J.verdict self.old self.new
             (O.told outlet.old) (O.told outlet.new)) }
         ensures refused { OnErr result
@@ -335,6 +351,8 @@ impl<J: Judge> Exporter<J> {
         requires here { self.old.feed ≡ From chunk.now.from }
         requires later { (k : Net) → reach_of self.old k ≤ chunk.now.at }
         requires chunk { IsChunk chunk.now }
+        requires family { (k : Net) → IsSome (best_in k chunk.now.rows)
+            → family_of k.addr ≡ self.old.spec.family }
         ensures feeds { OnOk result (Feeds chunk.now self.old self.new) }
         ensures stands { OnOk result ((c : Course) → IsChunkAt c chunk.now
             → StandsFor J.verdict c self.old → StandsFor J.verdict c self.new) }

@@ -210,7 +210,9 @@ impl Marks {
     /// where it was.
     pub(crate) fn put(&mut self, net: Prefix, mark: Mark) -> Result<(), OutOfMemory>
         ensures at { OnOk result ((q : Net) → find q self.new
-            ≡ (if same_net net q then Some (joined (find net self.old) mark) else find q self.old)) }
+            ≡ (if same_net net q
+              then Some (joined (find net self.old) mark)
+              else find q self.old)) }
         ensures order { OnOk result (self.new.order ≡ order_with net self.old) }
         ensures refused { OnErr result
             ((self.new.order ≡ self.old.order) × ((q : Net) → find q self.new ≡ find q self.old)) }

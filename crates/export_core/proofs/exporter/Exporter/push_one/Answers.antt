@@ -1,7 +1,16 @@
-use Rattle.std.proofs.Common.{rules}
+use Rattle.std.proofs.Common.{◌≡◌, Some, rules, subst, sym}
+use Rattle.std.specs.Prelude.{slice_get}
 use Rattle.export_core.specs.declared.exporter.Pushed.TheVariants as pushed
+use Rattle.export_core.specs.Plan.{IsNext}
+use Rattle.export_core.proofs.Families.{families_pop}
 use Rattle.export_core.proofs.Pushing.{push_open, push_stands_for, pushed_open, pushed_stands}
 use Rattle.export_core.proofs.exporter.Exporter.push_one.Goals as goal
+
+pub invariant_of-self : goal.invariant_of-self
+invariant_of-self g c =
+    let p = subst (λ n. IsNext g.J.Judge.verdict c.args.self.now n) c.in-Quiet.is c.in_ok-next.ensures in
+    let first = subst (λ e. slice_get e.marks.order 0 ≡ Some p.0) (sym c.self.view_is) p.2.is_first.first in
+    (c.self.invariant.0, families_pop _ p.0 _ _ _ c.self.invariant.1 (c.pop.ensures.gone p.0 first))
 
 pub returns-in-Quiet-clause-pushes : goal.returns-in-Quiet-clause-pushes
 returns-in-Quiet-clause-pushes g c = search rules
