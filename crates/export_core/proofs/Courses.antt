@@ -1,5 +1,5 @@
 -- What holds of a history's course, and of a longer one.
-use Rattle.std.proofs.Common.{◌≡◌, ◌≢◌, ℕ, ◌+◌, ◌-◌, ◌<◌, ◌≤◌, zero, suc, inl, inr, Bool, true, false, List, [], ◌∷◌, ◌++◌, reverse, Option, Some, None, refl, sym, ◌∙◌, ap, subst, arith, take, drop, length, map, cond}
+use Rattle.std.proofs.Common.{◌≡◌, ◌≢◌, ℕ, ◌+◌, ◌-◌, zero, suc, inl, inr, Bool, true, false, List, [], ◌∷◌, ◌++◌, reverse, Option, Some, None, refl, sym, ◌∙◌, ap, subst, arith, take, length, map, cond}
 use Rattle.std.specs.Prelude.{◌&&◌, ◌==◌, if◌then◌else◌, unwrap_or}
 use Rattle.std.proofs.lemmas.Grind.{fold-append}
 use Rattle.std.proofs.lemmas.List.{take_at, map-append, append_assoc, length-append}
@@ -9,18 +9,17 @@ use Rattle.attrs.specs.declared.journal.JEntry.{JEntry}
 use Rattle.attrs.specs.declared.judge.Verdict.{Verdict}
 use Rattle.attrs.specs.declared.route.Change.{Change}
 use Rattle.attrs.specs.declared.route.Route.{Route}
-use Rattle.attrs.specs.History.{Content, after, empty, content_at, is_of, last_of}
-use Rattle.attrs.specs.Selection.{IsBest}
+use Rattle.attrs.specs.History.{Content, after, empty, content_at, last_of}
 use Rattle.attrs.specs.Table.{route_of}
 use Rattle.attrs.proofs.Histories.{last_of-push}
 use Rattle.attrs.proofs.Nets.{same_net_itself}
 use Rattle.export_core.specs.declared.log.LogItem.{LogItem}
 use Rattle.export_core.specs.declared.log.LogItem.TheVariants.{Up, Down, Reload, Sent}
-use Rattle.export_core.specs.Histories.{AreRoutesOf, IsBestOf, IsLonger, TellsBest, best_after, change_of, course_of}
+use Rattle.export_core.specs.Histories.{IsBestOf, IsLonger, TellsBest, best_after, change_of, course_of}
 use Rattle.export_core.specs.Lanes.{IsLane, Lane}
 use Rattle.export_core.specs.Logs.{Course, Follows, reloads}
 use Rattle.export_core.specs.Passing.{passed}
-use Rattle.export_core.specs.States.{IsEntryAt, Stands, StandsFor, State, lane_of, value_for}
+use Rattle.export_core.specs.States.{IsEntryAt, StandsFor, State, lane_of, value_for}
 use Rattle.export_core.proofs.Nets.{net_tells, same_net_flip, skip_if, take_if}
 
 best_next : (k : Net) (entries : List JEntry) (e : JEntry) → best_after k (entries ++ e ∷ []) ≡ (if same_net e.net k then e.best else best_after k entries)
@@ -50,6 +49,7 @@ none_there [] none = refl
 none_there (r ∷ routes) none = absurd (here (r.src.num == r.src.num) (itself r.src.num) (none r.src.num)) where
   itself : (n : ℕ) → (n == n) ≡ true
   itself n = grind arith
+
   here : (b : Bool) → b ≡ true → cond b (Some r) (route_of r.src.num routes) ≡ None → ⊥
   here true e f = cc
   here false e f = cc

@@ -1,5 +1,5 @@
 -- The nets of an exporter stay of its family.
-use Rattle.std.proofs.Common.{◌≡◌, ℕ, Bool, true, false, ◌⊎◌, List, [], ◌∷◌, Option, Some, None, refl, inl, inr, sym, ◌∙◌, ap, subst, is_some, option_map}
+use Rattle.std.proofs.Common.{◌≡◌, ℕ, Bool, true, false, ◌⊎◌, List, [], Option, Some, None, refl, inl, inr, sym, ◌∙◌, ap, subst, is_some, option_map}
 use Rattle.std.specs.Prelude.{◌&&◌, IsSome, if◌then◌else◌, nat_lt}
 use Rattle.bits_ip.specs.declared.address.Family.{Family}
 use Rattle.bits_ip.specs.Address.{family_of}
@@ -13,7 +13,7 @@ use Rattle.export_core.specs.Candidates.{AddsNone, best_in, covers, floor_of}
 use Rattle.export_core.specs.Families.{AreOfFamily}
 use Rattle.export_core.specs.Marks.{Listed, MarksAll, at, find, joined, with_candidate}
 use Rattle.export_core.specs.Standing.{index_at}
-use Rattle.export_core.proofs.Nets.{net_tells, skip_if, take_if}
+use Rattle.export_core.proofs.Nets.{net_tells, skip_if}
 use Rattle.export_core.proofs.Taking.{other_if}
 
 false_true : false ≡ true → ⊥

@@ -1,6 +1,6 @@
 -- A chunk: which nets it marks, and that it keeps what the exporter stands for.
-use Rattle.std.proofs.Common.{◌≡◌, ◌≢◌, ℕ, ◌+◌, ◌<◌, ◌≤◌, max, inl, inr, ◌⊎◌, Bool, true, false, not, List, [], ◌∷◌, ◌++◌, reverse, Option, Some, None, refl, sym, ◌∙◌, ap, subst, arith, cond, is_some, option_map, option_and_then, get_or, length, drop, map}
-use Rattle.std.specs.Prelude.{◌||◌, ◌&&◌, IsSome, if◌then◌else◌, slice_get}
+use Rattle.std.proofs.Common.{◌≡◌, ℕ, ◌+◌, ◌<◌, ◌≤◌, inl, inr, Bool, true, false, not, List, [], ◌∷◌, ◌++◌, reverse, Option, Some, None, refl, sym, ◌∙◌, ap, subst, arith, cond, is_some, option_map, option_and_then, get_or, length, drop, map}
+use Rattle.std.specs.Prelude.{◌||◌, ◌&&◌, if◌then◌else◌, slice_get}
 use Rattle.std.specs.List.Sorted.{IsStrictlySortedBy}
 use Rattle.std.specs.Map.{keys_of}
 use Rattle.std.specs.Map.Iter.{deref_pair}
@@ -16,13 +16,13 @@ use Rattle.attrs.specs.declared.judge.Verdict.{Verdict}
 use Rattle.attrs.specs.declared.route.Route.{Route}
 use Rattle.attrs.specs.declared.route.Row.{Row}
 use Rattle.attrs.specs.Table.{routes_of}
-use Rattle.export_core.specs.declared.floors.FeedState.TheVariants.{Done, From}
+use Rattle.export_core.specs.declared.floors.FeedState.TheVariants.{From}
 use Rattle.export_core.specs.declared.floors.Floor.{Floor}
 use Rattle.export_core.specs.declared.marks.Mark.{Mark}
 use Rattle.export_core.specs.Calls.{Feeds, AreAdded, is_chosen}
-use Rattle.export_core.specs.Candidates.{AddsNone, IsChunk, best_in, covers, end_bound, first_bound, floor_of, is_below, is_from}
-use Rattle.export_core.specs.Lanes.{Lane, IsLane, tally}
-use Rattle.export_core.specs.Logs.{Course, stretch, reloads, account, value_of}
+use Rattle.export_core.specs.Candidates.{AddsNone, IsChunk, best_in, covers, end_bound, first_bound, floor_of, is_from}
+use Rattle.export_core.specs.Lanes.{IsLane, tally}
+use Rattle.export_core.specs.Logs.{Course, stretch, reloads, account}
 use Rattle.export_core.specs.Marks.{at, find, holds, is_due, joined, unmarked, with_candidate, MarksAll}
 use Rattle.export_core.specs.Standing.{standing_at}
 use Rattle.export_core.specs.States.{State, Stands, StandsFor, value_for, lane_of, reach, reach_of, higher, is_ahead, IsChunkAt, feed_after}
@@ -62,11 +62,14 @@ none_added asked k old new ask missing writes q = elim (net_tells k q) [
   none_there : (o : Option (Option Route)) (b : Bool) → is_some o ≡ false → b ≡ true → (if is_some o then o else (if b then Some None else None)) ≡ Some None
   none_there None b e f = rw f refl
   none_there (Some x) b e f = absurd (let bad : true ≡ false = e in cc)
+
   not_asked : (o : Option (Option Route)) (b : Bool) → b ≡ false → (if is_some o then o else (if b then Some None else None)) ≡ o
   not_asked None b f = rw f refl
   not_asked (Some x) b f = refl
+
   both_true : (a b : Bool) → a ≡ true → b ≡ true → (a && b) ≡ true
   both_true a b e f = rw (e, f) refl
+
   second_false : (a b : Bool) → b ≡ false → (a && b) ≡ false
   second_false true b f = f
   second_false false b f = refl
@@ -79,9 +82,11 @@ none_kept asked there k es not_both e q = sym (by_case (at q es) (asked && same_
   first_true : (a b : Bool) → (a && b) ≡ true → a ≡ true
   first_true true b f = refl
   first_true false b f = absurd (let bad : false ≡ true = f in cc)
+
   second_true : (a b : Bool) → (a && b) ≡ true → b ≡ true
   second_true true b f = f
   second_true false b f = absurd (let bad : false ≡ true = f in cc)
+
   by_case : (o : Option (Option Route)) (b : Bool) → (is_some o ≡ false → b ≡ true → ⊥) → (if is_some o then o else (if b then Some None else None)) ≡ o
   by_case (Some x) b f = refl
   by_case None false f = refl
@@ -162,9 +167,11 @@ ahead_out (Some first) (Some next) pos k f e = by_case (precedes k first) refl w
   not_true : (b : Bool) → not b ≡ true → b ≡ false
   not_true true g = absurd (let bad : false ≡ true = g in cc)
   not_true false g = refl
+
   rest_false : (a b : Bool) → a ≡ false → (not a && b) ≡ false → b ≡ false
   rest_false true b g h = absurd (let bad : true ≡ false = g in cc)
   rest_false false b g h = h
+
   by_case : (b : Bool) → precedes k first ≡ b → not (precedes k next) ≡ not (precedes k first)
   by_case true g = ap not (before_first k first next g (not_true (precedes next first) (f next refl)) ∙ sym g)
   by_case false g = ap not (rest_false (precedes k first) (precedes k next) g e ∙ sym g)
@@ -284,12 +291,12 @@ module _ {J : Type 0} where
         let d = due_more (is_due old) e.refreshing (is_ahead e.feed k && e.refreshing) (rw ahead refl) in
         either (is_chosen chunk e k)
         (λ yes.
-          let em : find k e'.marks ≡ Some (joined old m) = t.marks k ∙ chosen_in (is_chosen chunk e k) (Some (joined old m)) old yes in
-          lane-marked value c k h (reloads (reverse e.log)) (lane_of e k) (lane_of e' k) (joined old m) before em (sym r) up (omega (arith, is.told)) best same_account (rw passed_by d.0) (λ due _. d.1 due))
+        let em : find k e'.marks ≡ Some (joined old m) = t.marks k ∙ chosen_in (is_chosen chunk e k) (Some (joined old m)) old yes in
+        lane-marked value c k h (reloads (reverse e.log)) (lane_of e k) (lane_of e' k) (joined old m) before em (sym r) up (omega (arith, is.told)) best same_account (rw passed_by d.0) (λ due _. d.1 due))
         (λ unchosen.
-          let w = none_chosen (best_in k chunk.rows) old (standing_at k e.log) (ap (λ b. b && (is_some (best_in k chunk.rows) || is_some old || is_some (standing_at k e.log))) (sym over) ∙ unchosen) in
-          let em : find k e'.marks ≡ None = t.marks k ∙ chosen_out (is_chosen chunk e k) (Some (joined old m)) old unchosen ∙ w.1 in
-          lane-passed value c k h (reloads (reverse e.log)) (lane_of e k) (lane_of e' k) before w.1 em w.2 (rw passed_by refl) up (omega (arith, is.told)) (best ∙ w.0) same_account)
+        let w = none_chosen (best_in k chunk.rows) old (standing_at k e.log) (ap (λ b. b && (is_some (best_in k chunk.rows) || is_some old || is_some (standing_at k e.log))) (sym over) ∙ unchosen) in
+        let em : find k e'.marks ≡ None = t.marks k ∙ chosen_out (is_chosen chunk e k) (Some (joined old m)) old unchosen ∙ w.1 in
+        lane-passed value c k h (reloads (reverse e.log)) (lane_of e k) (lane_of e' k) before w.1 em w.2 (rw passed_by refl) up (omega (arith, is.told)) (best ∙ w.0) same_account)
 
   fed_stands : (value : Net → Route → Option Attrs) (c : Course) (chunk : Chunk) (e e' : State J) → Feeds chunk e e' → e.feed ≡ From chunk.from → ((k : Net) → reach_of e k ≤ chunk.at) → IsChunk chunk → IsChunkAt c chunk → Stands value c e → Stands value c e'
   fed_stands value c chunk e e' t was later is_chunk is s = record {

@@ -1,5 +1,5 @@
 -- What stands as sent is what the last stretch sent last.
-use Rattle.std.proofs.Common.{◌≡◌, ℕ, zero, suc, Bool, true, false, List, [], ◌∷◌, ◌++◌, reverse, length, Option, Some, None, refl, inl, inr, sym, ◌∙◌, ap, subst, is_some, option_map, option_and_then, arith}
+use Rattle.std.proofs.Common.{◌≡◌, ℕ, zero, suc, Bool, true, false, List, [], ◌∷◌, ◌++◌, reverse, length, Option, Some, None, refl, inl, inr, sym, ◌∙◌, ap, subst, is_some, option_map, option_and_then}
 use Rattle.std.specs.Prelude.{IsSome, if◌then◌else◌, slice_get}
 use Rattle.std.proofs.lemmas.List.{reverse-append}
 use Rattle.bits_ip.specs.Prefix.{Net, same_net}
@@ -7,8 +7,8 @@ use Rattle.attrs.specs.declared.attributes.Attrs.{Attrs}
 use Rattle.export_core.specs.declared.log.LogItem.{LogItem}
 use Rattle.export_core.specs.declared.log.LogItem.TheVariants.{Up, Down, Reload, Sent}
 use Rattle.export_core.specs.declared.log.Sending.{Sending}
-use Rattle.export_core.specs.Logs.{Account, account, entered, stretch, value_of}
-use Rattle.export_core.specs.Standing.{index_at, is_open, standing_at, value_at, value_in, IsKept}
+use Rattle.export_core.specs.Logs.{account, entered, stretch, value_of}
+use Rattle.export_core.specs.Standing.{index_at, standing_at, value_at, value_in, IsKept}
 use Rattle.export_core.proofs.Nets.{net_tells, take_if, skip_if}
 
 get_front : {X : Type 0} (xs ys : List X) (n : ℕ) → IsSome (slice_get xs n) → slice_get (xs ++ ys) n ≡ slice_get xs n

@@ -1,5 +1,5 @@
 -- What each step of an exporter does to what it keeps for one net.
-use Rattle.std.proofs.Common.{◌≡◌, ◌≢◌, ℕ, ◌+◌, ◌<◌, ◌≤◌, inl, inr, Bool, true, false, Option, Some, None, refl, sym, ◌∙◌, ap, subst, arith}
+use Rattle.std.proofs.Common.{◌≡◌, ℕ, ◌+◌, ◌≤◌, inl, inr, Bool, true, false, Option, Some, None, refl, sym, ◌∙◌, ap, subst, arith}
 use Rattle.std.proofs.Math.Nat.{le_refl}
 use Rattle.std.proofs.lemmas.Bool.{cases_lt}
 use Rattle.std.specs.Prelude.{IsSome, if◌then◌else◌}
@@ -8,7 +8,7 @@ use Rattle.attrs.specs.declared.attributes.Attrs.{Attrs}
 use Rattle.attrs.specs.declared.route.Route.{Route}
 use Rattle.export_core.specs.declared.log.Sending.{Sending}
 use Rattle.export_core.specs.declared.marks.Mark.{Mark}
-use Rattle.export_core.specs.Logs.{Course, Account, value_of, blank, aged, entered}
+use Rattle.export_core.specs.Logs.{Course, value_of, blank, aged, entered}
 use Rattle.export_core.specs.Lanes.{Lane, IsLane, IsMark, tally}
 use Rattle.export_core.specs.Marks.{is_due}
 use Rattle.export_core.specs.Passing.{passed}

@@ -1,21 +1,16 @@
 -- Nets as keys of maps, and ranges of nets.
-use Rattle.std.proofs.Common.{◌≡◌, ◌≢◌, ◌⊎◌, ℕ, Bool, true, false, not, inl, inr, Option, Some, None, refl, sym, ◌∙◌, ap, subst, arith, is_some, cond, List, [], ◌∷◌, Ordering, Less, Equal, Greater}
+use Rattle.std.proofs.Common.{◌≡◌, ◌≢◌, ◌⊎◌, ℕ, Bool, true, false, not, inl, inr, Option, Some, None, refl, sym, ◌∙◌, ap, subst, arith, is_some, cond, List, [], ◌∷◌}
 use Rattle.std.specs.Prelude.{◌&&◌, ◌||◌}
-use Rattle.std.specs.List.{filter}
-use Rattle.std.specs.Map.{lookup, keys_of}
+use Rattle.std.specs.Map.{keys_of}
 use Rattle.std.specs.BTreeMap.{is_at}
 use Rattle.std.specs.BTreeMap.Range.{IsLeBy, IsLtBy, range_contains, entries_between}
-use Rattle.std.specs.Ordering.{is_lt, is_le, is_gt, ordering_reverse}
-use Rattle.std.specs.Cmp.{IsTotalOrder}
+use Rattle.std.specs.Ordering.{is_le, is_gt}
 use Rattle.std.specs.Range.Bound.{IsForward}
-use Rattle.std.specs.declared.ops.Bound.{Bound}
-use Rattle.std.specs.declared.ops.Bound.TheVariants.{Included, Excluded, Unbounded}
 use Rattle.std.proofs.lemmas.Bool.Decides.{nat_tests}
 use Rattle.std.proofs.lemmas.Map.Entries.{lookup-filter-keys}
 use Rattle.bits_ip.specs.declared.address.Addr.{Addr}
 use Rattle.bits_ip.specs.declared.address.Addr.TheVariants.{V4, V6}
 use Rattle.bits_ip.specs.Prefix.{Net, net_cmp, precedes, same_net}
-use Rattle.bits_ip.proofs.Nets.{net_cmp_total}
 use Rattle.attrs.proofs.Nets.{same_net_is, same_net_itself, precedes_chain, net_cases}
 use Rattle.export_core.specs.declared.floors.Floor.{Floor}
 use Rattle.export_core.specs.Candidates.{covers, is_from, is_below, first_bound, end_bound}

@@ -1,5 +1,5 @@
 -- A push keeps what the exporter stands for.
-use Rattle.std.proofs.Common.{◌≡◌, ◌≢◌, ℕ, ◌+◌, ◌<◌, ◌≤◌, inl, inr, Bool, true, false, List, [], ◌∷◌, ◌++◌, reverse, Option, Some, None, refl, sym, ◌∙◌, ap, subst, arith, cond, is_some, option_and_then, Result, Ok, Err, IfOk, OnOk}
+use Rattle.std.proofs.Common.{◌≡◌, ◌≢◌, ℕ, ◌+◌, ◌<◌, ◌≤◌, inl, inr, Bool, true, false, List, [], ◌∷◌, ◌++◌, reverse, Option, Some, None, refl, sym, ◌∙◌, ap, subst, arith, is_some, option_and_then, Result, Ok, Err, IfOk, OnOk}
 use Rattle.std.specs.Prelude.{IsSome, if◌then◌else◌, ◌&&◌}
 use Rattle.std.proofs.Math.Nat.{le_refl}
 use Rattle.std.proofs.lemmas.Bool.{cases_lt}
@@ -16,12 +16,12 @@ use Rattle.export_core.specs.declared.log.LogItem.TheVariants.{Up, Down, Reload,
 use Rattle.export_core.specs.declared.log.Sending.{Sending}
 use Rattle.export_core.specs.declared.marks.Mark.{Mark}
 use Rattle.export_core.specs.declared.outlet.PushFault.{PushFault}
-use Rattle.export_core.specs.Calls.{IsQuiet, Pops, Pushes, PushesOut, PushesQuietly}
-use Rattle.export_core.specs.Lanes.{Lane, IsLane, IsMark, tally}
+use Rattle.export_core.specs.Calls.{IsQuiet, Pops, Pushes}
+use Rattle.export_core.specs.Lanes.{IsLane, IsMark, tally}
 use Rattle.export_core.specs.Logs.{Course, Account, stretch, reloads, account, entered, value_of, Follows, IsSend, Rises}
 use Rattle.export_core.specs.Marks.{find, is_due}
 use Rattle.export_core.specs.Passing.{passed}
-use Rattle.export_core.specs.Standing.{is_open, standing_at}
+use Rattle.export_core.specs.Standing.{is_open}
 use Rattle.export_core.specs.States.{State, Stands, StandsFor, value_for, lane_of, reach_of, is_ahead}
 use Rattle.export_core.proofs.LaneSteps.{lane-read, lane-quiet, lane-sent}
 use Rattle.export_core.proofs.Nets.{net_tells}
@@ -119,7 +119,7 @@ module _ {J : Type 0} where
       lane-read value c q h reloaded (lane_of e q) (lane_of e' q) r (omega arith) (omega (arith, r.within)) (ahead_same key m e e' p q) (coming_same key m e e' p q) (mark_kept key m e e' p q other) ea (λ p low high. ap (c.best q) (omega arith))
 
   -- a quiet push
-  quiet_stands : (value : Net → Route → Option Attrs) (c : Course) (key : Net) (m : Mark) (e e' : State J) → Pops key m e e' → e'.log ≡ e.log 
+  quiet_stands : (value : Net → Route → Option Attrs) (c : Course) (key : Net) (m : Mark) (e e' : State J) → Pops key m e e' → e'.log ≡ e.log
       → value_of (account key (reverse e.log)) ≡ passed value key m.candidate → (m.due ≡ true → value_of (account key (reverse e.log)) ≡ None) → Stands value c e → Stands value c e'
   quiet_stands value c key m e e' p el ev quiet s = record {
     follows = rw el s.follows;

@@ -1,7 +1,7 @@
 -- What was sent of one net.
-use Rattle.std.proofs.Common.{◌≡◌, ℕ, ◌≤◌, Bool, true, false, List, [], ◌∷◌, ◌++◌, reverse, Option, Some, None, refl, inl, inr, sym, ◌∙◌, ap, subst, is_some, map, option_map, option_and_then, arith, cond}
+use Rattle.std.proofs.Common.{◌≡◌, ℕ, ◌≤◌, Bool, true, false, List, [], ◌∷◌, ◌++◌, Option, Some, None, refl, inl, inr, sym, ◌∙◌, ap, subst, is_some, map, option_map, option_and_then, arith, cond}
 use Rattle.std.specs.Prelude.{◌||◌, if◌then◌else◌, slice_get}
-use Rattle.std.specs.List.{cons_option, filter, filter_map}
+use Rattle.std.specs.List.{cons_option, filter}
 use Rattle.std.specs.BTreeMap.{is_at}
 use Rattle.std.proofs.lemmas.List.{map-append}
 use Rattle.std.proofs.lemmas.List.Elements.{filter_map-append}
@@ -15,7 +15,7 @@ use Rattle.export_core.specs.declared.log.Key.{Key}
 use Rattle.export_core.specs.declared.log.LogItem.{LogItem}
 use Rattle.export_core.specs.declared.log.LogItem.TheVariants.{Up, Down, Reload, Sent}
 use Rattle.export_core.specs.declared.log.Sending.{Sending}
-use Rattle.export_core.specs.Logs.{Account, Course, Follows, IsSend, Rises, account, entered, highest, stretch, value_of}
+use Rattle.export_core.specs.Logs.{Account, Course, Follows, Rises, account, entered, highest, stretch, value_of}
 use Rattle.export_core.specs.Marks.{at, holds}
 use Rattle.export_core.specs.Passing.{passed}
 use Rattle.export_core.specs.Sends.{AreRight, AreRising, IsStanding, entries_by, key_of, keyed, last_value, sends}
@@ -98,12 +98,15 @@ at_by f k (x ∷ nets) = elim (net_tells x k) [
 ] where
   here : (b : Bool) → same_net x k ≡ b → is_at (net_cmp k) x ≡ b
   here b e = is_at_is k x ∙ same_net_flip k x ∙ e
+
   none_held : (b : Bool) (o : Option Attrs) → o ≡ None → cond b o None ≡ None
   none_held true o e = e
   none_held false o e = refl
+
   named : (o : Option Attrs) → o ≡ f k → same_net x k ≡ true → at k (entries_by f nets) ≡ cond (holds k nets) (f k) None → at k (cons_option (option_map (λ v. (x, v)) o) (entries_by f nets)) ≡ f k
   named None e s r = r ∙ none_held (holds k nets) (f k) (sym e) ∙ e
   named (Some v) e s r = ap (λ b. cond b (Some v) (at k (entries_by f nets))) (here true s) ∙ e
+
   other : (o : Option Attrs) → same_net x k ≡ false → at k (entries_by f nets) ≡ cond (holds k nets) (f k) None → at k (cons_option (option_map (λ v. (x, v)) o) (entries_by f nets)) ≡ cond (holds k nets) (f k) None
   other None s r = r
   other (Some v) s r = ap (λ b. cond b (Some v) (at k (entries_by f nets))) (here false s) ∙ r

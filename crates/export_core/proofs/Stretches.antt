@@ -1,18 +1,16 @@
 -- What the beginning, a refresh and the end of a stretch do to what the exporter stands for, and when
 -- it is settled.
-use Rattle.std.proofs.Common.{◌≡◌, ◌≢◌, ℕ, ◌+◌, ◌<◌, ◌≤◌, inl, inr, Bool, true, false, List, [], ◌∷◌, ◌++◌, reverse, Option, Some, None, refl, sym, ◌∙◌, ap, subst, arith, is_some}
-use Rattle.std.specs.Prelude.{IsSome, ◌&&◌}
+use Rattle.std.proofs.Common.{◌≡◌, ℕ, ◌≤◌, Bool, true, false, [], ◌∷◌, reverse, Option, Some, None, refl, sym, ◌∙◌, ap, subst, arith, is_some}
+use Rattle.std.specs.Prelude.{◌&&◌}
 use Rattle.std.proofs.lemmas.List.{reverse-append}
 use Rattle.bits_ip.specs.Prefix.{Net}
 use Rattle.attrs.specs.declared.attributes.Attrs.{Attrs}
 use Rattle.attrs.specs.declared.judge.Verdict.{Verdict}
 use Rattle.attrs.specs.declared.route.Route.{Route}
-use Rattle.export_core.specs.declared.floors.FeedState.TheVariants.{Done, From}
-use Rattle.export_core.specs.declared.log.LogItem.{LogItem}
-use Rattle.export_core.specs.declared.log.LogItem.TheVariants.{Up, Down, Reload, Sent}
+use Rattle.export_core.specs.declared.log.LogItem.TheVariants.{Up, Down, Reload}
 use Rattle.export_core.specs.Calls.{begun, refreshed, ended, IsAtRest}
-use Rattle.export_core.specs.Lanes.{Lane, IsLane}
-use Rattle.export_core.specs.Logs.{Course, stretch, reloads, account, highest, value_of, Follows, Settled}
+use Rattle.export_core.specs.Lanes.{IsLane}
+use Rattle.export_core.specs.Logs.{Course, stretch, reloads, account, highest, Settled}
 use Rattle.export_core.specs.Marks.{find, is_due}
 use Rattle.export_core.specs.Passing.{passed}
 use Rattle.export_core.specs.Standing.{is_open}

@@ -1,6 +1,6 @@
 -- A take keeps what the exporter stands for.
-use Rattle.std.proofs.Common.{◌≡◌, ◌≢◌, ℕ, ◌+◌, ◌-◌, ◌<◌, ◌≤◌, max, inl, inr, Bool, true, false, List, [], ◌∷◌, reverse, Option, Some, None, refl, sym, ◌∙◌, ap, subst, arith, cond, drop}
-use Rattle.std.specs.Prelude.{nat_lt, ◌&&◌, ◌||◌, if◌then◌else◌, slice_index_or}
+use Rattle.std.proofs.Common.{◌≡◌, ◌≢◌, ℕ, ◌+◌, ◌-◌, ◌<◌, ◌≤◌, max, inl, inr, Bool, true, false, List, [], ◌∷◌, reverse, Option, Some, refl, sym, ◌∙◌, ap, subst, arith, drop}
+use Rattle.std.specs.Prelude.{nat_lt, ◌&&◌, if◌then◌else◌, slice_index_or}
 use Rattle.std.proofs.Math.Nat.{le_refl}
 use Rattle.std.proofs.lemmas.Bool.{cases_lt}
 use Rattle.std.proofs.lemmas.Bool.Decides.{nat_tests}
@@ -14,11 +14,11 @@ use Rattle.export_core.specs.declared.floors.Floor.{Floor}
 use Rattle.export_core.specs.declared.marks.Mark.{Mark}
 use Rattle.export_core.specs.Calls.{Takes, mark_of}
 use Rattle.export_core.specs.Candidates.{covers}
-use Rattle.export_core.specs.Lanes.{Lane, IsLane, tally}
+use Rattle.export_core.specs.Lanes.{IsLane}
 use Rattle.export_core.specs.Logs.{Course, stretch, reloads, account}
 use Rattle.export_core.specs.Marks.{find, is_due, joined}
 use Rattle.export_core.specs.Passing.{value_by}
-use Rattle.export_core.specs.States.{State, Stands, StandsFor, value_for, lane_of, reach, reach_of, higher, is_ahead, IsEntryAt}
+use Rattle.export_core.specs.States.{State, Stands, StandsFor, value_for, lane_of, reach, reach_of, is_ahead, IsEntryAt}
 use Rattle.export_core.proofs.LaneSteps.{lane-read, lane-marked}
 use Rattle.export_core.proofs.Nets.{net_tells}
 
@@ -37,6 +37,7 @@ drop_low p k [] fs' f e is low = ap (λ fs. reach p fs k) e
 drop_low p k (g ∷ fs) fs' f e is low = ap (λ fs. reach p fs k) e ∙ ap (λ p. reach p fs k) (sym (by_test (covers g k))) where
   lower : g.at ≤ p
   lower = subst (λ (x : Floor). x.at ≤ p) is low
+
   by_test : (b : Bool) → (if b then max g.at p else p) ≡ p
   by_test true = omega (arith, lower)
   by_test false = refl
@@ -108,7 +109,7 @@ module _ {J : Type 0} where
               let due = due-joined old m refl in
               let er : reach_of e' k ≡ pos = omega arith in
               lane-marked value c k h (reloads (reverse e.log)) (lane_of e k) (lane_of e' k) (joined old m) r em (omega arith) (omega arith) (omega (arith, is.told))
-              (ap (c.best k) er ∙ is.best ) (same_account k) (rw (due, same_coming k) (le_refl _)) (λ d co. (sym due ∙ d, sym (same_coming k) ∙ co))
+              (ap (c.best k) er ∙ is.best) (same_account k) (rw (due, same_coming k) (le_refl _)) (λ d co. (sym due ∙ d, sym (same_coming k) ∙ co))
           | inr w ↦
               let em : find k e'.marks ≡ old = t.marks k ∙ unmarked_if (same_net k k) (reach_of e k) pos (Some (joined old m)) old w in
               lane-read value c k h (reloads (reverse e.log)) (lane_of e k) (lane_of e' k) r (omega arith) (omega (arith, r.within))

@@ -1,5 +1,5 @@
 -- What each call of an exporter does, exactly.
-use Rattle.std.specs.Prelude.{◌≡◌, ◌≢◌, ℕ, Bool, true, false, nat_lt, ◌&&◌, ◌||◌, not, List, [], ◌∷◌, ◌++◌, Option, Some, None, is_some, IsSome, slice_get, drop, reverse, option_map, if◌then◌else◌}
+use Rattle.std.specs.Prelude.{◌≡◌, ◌≢◌, ℕ, Bool, true, false, nat_lt, ◌&&◌, ◌||◌, not, List, [], ◌∷◌, ◌++◌, Option, Some, None, is_some, IsSome, slice_get, drop, option_map, if◌then◌else◌}
 use Rattle.std.specs.List.Sorted.{IsStrictlySortedBy}
 use Rattle.bits_ip.specs.Prefix.{Net, net_cmp, same_net}
 use Rattle.attrs.specs.declared.attributes.Attrs.{Attrs}
@@ -10,7 +10,6 @@ use Rattle.attrs.specs.declared.route.Route.{Route}
 use Rattle.export_core.specs.declared.exporter.Pushed.{Pushed}
 use Rattle.export_core.specs.declared.exporter.Pushed.TheVariants as pushed
 use Rattle.export_core.specs.declared.floors.FeedState.TheVariants.{Done, From}
-use Rattle.export_core.specs.declared.log.LogItem.{LogItem}
 use Rattle.export_core.specs.declared.log.LogItem.TheVariants.{Up, Down, Reload, Sent}
 use Rattle.export_core.specs.declared.log.Sending.{Sending}
 use Rattle.export_core.specs.declared.marks.Mark.{Mark}
@@ -33,8 +32,8 @@ abbrev pub MarksAbove : ℕ → ℕ → JEntry → Listed → Listed → Type 0
 MarksAbove reached pos entry old new =
     (q : Net) → find q new
     ≡ (if same_net entry.net q && nat_lt reached pos
-      then Some (joined (find q old) (mark_of pos entry))
-      else find q old)
+    then Some (joined (find q old) (mark_of pos entry))
+    else find q old)
 
 abbrev pub no_marks : Listed
 no_marks = record { order = []; bodies = [] }
@@ -59,8 +58,10 @@ module _ {J : Type 0} where
     pub read : (k : Net) → reach_of e' k ≡ reach pos e.floors k
     pub marks : MarksAbove (reach_of e entry.net) pos entry e.marks e'.marks
     pub order :
-      e'.marks.order
-      ≡ (if nat_lt (reach_of e entry.net) pos then order_with entry.net e.marks else e.marks.order)
+        e'.marks.order
+        ≡ (if nat_lt (reach_of e entry.net) pos
+        then order_with entry.net e.marks
+        else e.marks.order)
 
   -- a stretch begins at a position, with a feed
   abbrev pub begun : ℕ → State J → State J
@@ -113,7 +114,7 @@ module _ {J : Type 0} where
   pub record AreAdded (chunk : Chunk) (e : State J) (added : List Net) : Type 0 where
     pub ascend : IsStrictlySortedBy net_cmp added
     pub are :
-      (k : Net) → holds k added ≡ (is_chosen chunk e k && not (is_some (find k e.marks)))
+        (k : Net) → holds k added ≡ (is_chosen chunk e k && not (is_some (find k e.marks)))
 
   pub record Feeds (chunk : Chunk) (e e' : State J) : Type 0 where
     pub spec : e'.spec ≡ e.spec
@@ -124,8 +125,8 @@ module _ {J : Type 0} where
     pub feed : e'.feed ≡ feed_after chunk.upto
     pub read : (k : Net) → reach_of e' k ≡ higher k (reach_of e k) (floor_of chunk)
     pub marks :
-      (k : Net) → find k e'.marks
-      ≡ (if is_chosen chunk e k
+        (k : Net) → find k e'.marks
+        ≡ (if is_chosen chunk e k
         then Some (joined (find k e.marks) (record {
           at = chunk.at;
           candidate = best_in k chunk.rows;
@@ -133,7 +134,7 @@ module _ {J : Type 0} where
         }))
         else find k e.marks)
     pub order :
-      (added : List Net) × (e'.marks.order ≡ e.marks.order ++ added) × AreAdded chunk e added
+        (added : List Net) × (e'.marks.order ≡ e.marks.order ++ added) × AreAdded chunk e added
 
   -- the first mark, which is of this net, is taken out
   pub record Pops (k : Net) (m : Mark) (e e' : State J) : Type 0 where
@@ -147,14 +148,14 @@ module _ {J : Type 0} where
     pub refreshing : e'.refreshing ≡ e.refreshing
     pub order : e'.marks.order ≡ drop 1 e.marks.order
     pub marks :
-      (q : Net) → find q e'.marks ≡ (if same_net k q then None else find q e.marks)
+        (q : Net) → find q e'.marks ≡ (if same_net k q then None else find q e.marks)
 
   pub record PushesQuietly
       (verdict : J → Net → Route → Verdict) (k : Net) (m : Mark) (e e' : State J) : Type 0 where
     pub pops : Pops k m e e'
     pub log : e'.log ≡ e.log
     pub quiet :
-      IsQuiet m.due (passed (value_for verdict e) k m.candidate) (standing_at k e.log)
+        IsQuiet m.due (passed (value_for verdict e) k m.candidate) (standing_at k e.log)
 
   pub record PushesOut
       (verdict : J → Net → Route → Verdict) (m : Mark) (x : Sending) (e e' : State J)

@@ -1,10 +1,10 @@
 -- A table's history as a course.
-use Rattle.std.specs.Prelude.{◌≡◌, ℕ, ◌≤◌, List, [], ◌∷◌, ◌++◌, Option, Some, None, fold, map, take, length, if◌then◌else◌}
+use Rattle.std.specs.Prelude.{◌≡◌, ℕ, ◌≤◌, List, [], ◌∷◌, ◌++◌, Option, None, fold, map, take, length, if◌then◌else◌}
 use Rattle.bits_ip.specs.Prefix.{Net, same_net}
 use Rattle.attrs.specs.declared.journal.JEntry.{JEntry}
 use Rattle.attrs.specs.declared.route.Change.{Change}
 use Rattle.attrs.specs.declared.route.Route.{Route}
-use Rattle.attrs.specs.History.{Content, after, empty, content_at}
+use Rattle.attrs.specs.History.{Content, after, empty}
 use Rattle.attrs.specs.Selection.{IsBest}
 use Rattle.attrs.specs.Table.{IsOfSources, route_of}
 use Rattle.export_core.specs.Logs.{Course}

@@ -41,11 +41,11 @@ pub record IsLane
   pub mark : (m : Mark) → l.mark ≡ Some m → IsMark c k h l.reach l.account.last m
   -- what has been read and isn't marked stands as sent
   pub still :
-    l.mark ≡ None → l.ahead ≡ false → value_of l.account ≡ passed value k (c.best k l.reach)
+      l.mark ≡ None → l.ahead ≡ false → value_of l.account ≡ passed value k (c.best k l.reach)
   -- each refresh sends the net again at most once: those that did, the one that is due, and the one
   -- whose feed is still to come are at most all
   pub count : l.account.agains + (tally (is_due l.mark) + tally l.coming) ≤ reloaded
   -- and the last one did, where it is not due and not to come
   pub fresh :
-    is_due l.mark ≡ false → l.coming ≡ false → IsSome (value_of l.account)
-    → l.account.fresh ≡ true
+      is_due l.mark ≡ false → l.coming ≡ false → IsSome (value_of l.account)
+      → l.account.fresh ≡ true

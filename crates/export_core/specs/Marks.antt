@@ -1,5 +1,5 @@
 -- Marks: their nets in the order of first marking, and a mark at each.
-use Rattle.std.specs.Prelude.{if◌then◌else◌, ◌≡◌, ℕ, Bool, true, false, ◌||◌, List, [], ◌∷◌, Option, Some, None, is_some, IsSome, option_and_then, ⊤, not, ◌++◌, ◌+◌, ◌≤◌, length}
+use Rattle.std.specs.Prelude.{if◌then◌else◌, ◌≡◌, ℕ, Bool, false, ◌||◌, List, [], ◌∷◌, Option, Some, None, is_some, IsSome, option_and_then, ⊤, not, ◌++◌, ◌+◌, ◌≤◌, length}
 use Rattle.std.specs.List.{filter}
 use Rattle.std.specs.Map.{lookup, keys_of}
 use Rattle.std.specs.BTreeMap.{is_at}
@@ -61,8 +61,8 @@ pub record Fills
     (k : Net) (m : Mark) (nets : List Net) (bodies : List (Net × Option Mark)) (nets' : List Net)
     (bodies' : List (Net × Option Mark)) : Type 0 where
   pub marks :
-    (q : Net) → mark_at q bodies'
-    ≡ (if same_net k q then Some (joined (mark_at k bodies) m) else mark_at q bodies)
+      (q : Net) → mark_at q bodies'
+      ≡ (if same_net k q then Some (joined (mark_at k bodies) m) else mark_at q bodies)
   pub order : nets' ≡ (if is_some (mark_at k bodies) then nets else nets ++ k ∷ [])
   pub places : KeepsPlaces bodies bodies'
   pub listed : IsListed nets' bodies'
@@ -90,10 +90,10 @@ pub record IsFilling
     (old : List (Net × Option Mark)) (left : List (Net × Option Route)) (order : List Net)
     (len capacity : ℕ) (bodies : List (Net × Option Mark)) : Type 0 where
   pub marks :
-    (q : Net) → with_candidate pos due (at q left) (mark_at q bodies)
-    ≡ with_candidate pos due (at q candidates) (mark_at q old)
+      (q : Net) → with_candidate pos due (at q left) (mark_at q bodies)
+      ≡ with_candidate pos due (at q candidates) (mark_at q old)
   pub added :
-    order ++ unmarked bodies (keys_of left) ≡ first ++ unmarked old (keys_of candidates)
+      order ++ unmarked bodies (keys_of left) ≡ first ++ unmarked old (keys_of candidates)
   pub places : (q : Net) → HasPlace q left → HasPlace q bodies
   pub room : len + length left ≤ capacity
   pub listed : IsListed order bodies

@@ -1,5 +1,5 @@
 -- What the next push of an exporter will do.
-use Rattle.std.specs.Prelude.{◌≡◌, ℕ, [], Option, Some, slice_get}
+use Rattle.std.specs.Prelude.{◌≡◌, [], Some, slice_get}
 use Rattle.bits_ip.specs.Prefix.{Net}
 use Rattle.attrs.specs.declared.judge.Verdict.{Verdict}
 use Rattle.attrs.specs.declared.route.Route.{Route}
@@ -23,7 +23,7 @@ module _ {J : Type 0} where
       (verdict : J → Net → Route → Verdict) (k : Net) (m : Mark) (e : State J) : Type 0 where
     pub is_first : IsFirst k m e
     pub quiet :
-      IsQuiet m.due (passed (value_for verdict e) k m.candidate) (standing_at k e.log)
+        IsQuiet m.due (passed (value_for verdict e) k m.candidate) (standing_at k e.log)
 
   pub record WillSend
       (verdict : J → Net → Route → Verdict) (m : Mark) (x : Sending) (e : State J) : Type 0 where

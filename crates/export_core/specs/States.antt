@@ -64,8 +64,8 @@ module _ {J : Type 0} where
   pub record Stands (value : Net → Route → Option Attrs) (c : Course) (e : State J) : Type 0 where
     pub follows : Follows value c (reverse e.log)
     pub lanes :
-      (h : ℕ) → stretch (reverse e.log) ≡ Some h → (k : Net)
-      → IsLane value c k h (reloads (reverse e.log)) (lane_of e k)
+        (h : ℕ) → stretch (reverse e.log) ≡ Some h → (k : Net)
+        → IsLane value c k h (reloads (reverse e.log)) (lane_of e k)
 
   -- what the exporter makes of a route: its gate, then its filter
   abbrev pub value_for :
@@ -86,4 +86,4 @@ pub record IsEntryAt (c : Course) (at : ℕ) (entry : JEntry) : Type 0 where
 pub record IsChunkAt (c : Course) (chunk : Chunk) : Type 0 where
   pub told : chunk.at ≤ c.len
   pub best :
-    (k : Net) → covers (floor_of chunk) k ≡ true → c.best k chunk.at ≡ best_in k chunk.rows
+      (k : Net) → covers (floor_of chunk) k ≡ true → c.best k chunk.at ≡ best_in k chunk.rows

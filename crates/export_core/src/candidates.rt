@@ -37,14 +37,11 @@ pub(crate) fn bounds_of(range: &Floor) -> (Bound<Prefix>, Bound<Prefix>)
 }
 
 /// The row's best route becomes its net's candidate.
-fn put_row(
-    candidates: &mut BTreeMap<Prefix, Option<Route>>,
-    row: &Row,
-) -> Result<(), OutOfMemory>
+fn put_row(candidates: &mut BTreeMap<Prefix, Option<Route>>, row: &Row) -> Result<(), OutOfMemory>
     ensures { OnOk result ((q : Net) → at q candidates.new.entries
         ≡ (if same_net q row.now.net
-          then option_map (λ r. Some r) (slice_get row.now.routes 0)
-          else at q candidates.old.entries)) }
+        then option_map (λ r. Some r) (slice_get row.now.routes 0)
+        else at q candidates.old.entries)) }
 {
     match row.routes.as_slice().first() {
         Some(best) => {

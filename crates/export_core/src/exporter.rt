@@ -68,14 +68,14 @@ impl<J: Judge> Model for Exporter<J> {
     ghost Value = { State J };
 
     ghost view = { λ e. record {
-        spec = e.through.spec;
-        judge = e.through.judge;
-        position = e.position;
-        floors = e.floors.items;
-        feed = e.feed;
-        refreshing = e.refreshing;
-        marks = e.marks;
-        log = e.log.items;
+      spec = e.through.spec;
+      judge = e.through.judge;
+      position = e.position;
+      floors = e.floors.items;
+      feed = e.feed;
+      refreshing = e.refreshing;
+      marks = e.marks;
+      log = e.log.items;
     } };
 
     ghost invariant = { λ e. IsKept e.up e.sent e.log.items
@@ -127,12 +127,7 @@ fn is_done(feed: &FeedState) -> bool
 }
 
 /// Marks the entry's net where the entry stands above what has been read of it.
-fn mark_above(
-    marks: &mut Marks,
-    reached: u64,
-    pos: u64,
-    entry: &JEntry,
-) -> Result<(), OutOfMemory>
+fn mark_above(marks: &mut Marks, reached: u64, pos: u64, entry: &JEntry) -> Result<(), OutOfMemory>
     ensures marks { OnOk result (MarksAbove reached pos entry.now marks.old marks.new) }
     ensures order { OnOk result (marks.new.order
         ≡ (if nat_lt reached pos then order_with entry.now.net marks.old else marks.old.order)) }
@@ -155,14 +150,14 @@ impl<J: Judge> Exporter<J> {
     /// A channel that is down.
     pub fn make(alloc: Global, spec: ExportSpec, judge: J) -> Exporter<J>
         ensures { result ≡ record {
-            spec = spec;
-            judge = judge;
-            position = 0;
-            floors = [];
-            feed = Done;
-            refreshing = false;
-            marks = no_marks;
-            log = [];
+          spec = spec;
+          judge = judge;
+          position = 0;
+          floors = [];
+          feed = Done;
+          refreshing = false;
+          marks = no_marks;
+          log = [];
         } }
     {
         Exporter {

@@ -45,10 +45,7 @@ impl Model for Marks {
 }
 
 /// Makes a place for a mark of the net, which changes no mark.
-fn make_place(
-    bodies: &mut BTreeMap<Prefix, Option<Mark>>,
-    net: &Prefix,
-) -> Result<(), OutOfMemory>
+fn make_place(bodies: &mut BTreeMap<Prefix, Option<Mark>>, net: &Prefix) -> Result<(), OutOfMemory>
     ensures same { SameMarks bodies.old.entries bodies.new.entries }
     ensures places { KeepsPlaces bodies.old.entries bodies.new.entries }
     ensures made { OnOk result (HasPlace net.now bodies.new.entries) }
@@ -211,8 +208,8 @@ impl Marks {
     pub(crate) fn put(&mut self, net: Prefix, mark: Mark) -> Result<(), OutOfMemory>
         ensures at { OnOk result ((q : Net) → find q self.new
             ≡ (if same_net net q
-              then Some (joined (find net self.old) mark)
-              else find q self.old)) }
+            then Some (joined (find net self.old) mark)
+            else find q self.old)) }
         ensures order { OnOk result (self.new.order ≡ order_with net self.old) }
         ensures refused { OnErr result
             ((self.new.order ≡ self.old.order) × ((q : Net) → find q self.new ≡ find q self.old)) }

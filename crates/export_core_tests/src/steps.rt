@@ -1,7 +1,9 @@
-ghost use Rattle.std.specs.Prelude.{◌≡◌, [], IfOk, OnOk, None};
+ghost use Rattle.std.specs.Prelude.{◌≡◌, [], IfOk, IfSome, OnOk, None};
+ghost use Rattle.bits_ip.specs.declared.address.Family.TheVariants.{V4};
+ghost use Rattle.bits_ip.specs.Address.{family_of};
 ghost use Rattle.export_core.specs.Candidates.{IsChunk};
 ghost use Rattle.export_core.specs.declared.floors.FeedState.TheVariants.{From};
-ghost use Rattle.export_core_tests.specs.Steps.{IsBefore, IsUpAt};
+ghost use Rattle.export_core_tests.specs.Steps.{AreV4, IsBefore, IsUpAt};
 
 use attrs::{Attrs, Chunk, Clist, Dest, JEntry, Judge, Kind, Path, Route, Row, Seq, Src, Verdict};
 use bits_ip::{Addr, OutOfMemory, Prefix};
@@ -33,7 +35,9 @@ pub enum Step {
 }
 
 /// The one net of these scripts.
-pub fn net() -> Option<Prefix> {
+pub fn net() -> Option<Prefix>
+    ensures { IfSome result (λ net. family_of net.addr ≡ V4) }
+{
     Prefix::make(Addr::V4(0xCB00_7100), 24).ok()
 }
 
@@ -70,16 +74,35 @@ fn best_route(alloc: Global, best: Option<(u32, u32)>) -> Option<Route> {
     }
 }
 
-/// The rows of a table with one net or none.
-fn rows(alloc: Global, best: Option<(u32, u32)>) -> Result<Seq<Row>, OutOfMemory> {
+fn one_row(alloc: Global, row: Row) -> Result<Seq<Row>, OutOfMemory>
+    requires { family_of row.net.addr ≡ V4 }
+    ensures { IfOk result (λ rows. AreV4 rows) }
+{
     let mut rows = Seq::new(alloc);
-    let (Some((num, med)), Some(net)) = (best, net()) else {
-        return Ok(rows);
-    };
-    let mut routes = Seq::new(alloc);
-    routes.push(route(alloc, num, med))?;
-    rows.push(Row { net, routes })?;
+    rows.push(row)?;
     Ok(rows)
+}
+
+fn row_of(alloc: Global, net: Prefix, route: Route) -> Result<Row, OutOfMemory>
+    ensures { IfOk result (λ row. row.net ≡ net) }
+{
+    let mut routes = Seq::new(alloc);
+    routes.push(route)?;
+    Ok(Row { net, routes })
+}
+
+/// The rows of a table with one net or none.
+fn rows(alloc: Global, best: Option<(u32, u32)>) -> Result<Seq<Row>, OutOfMemory>
+    ensures { IfOk result (λ rows. AreV4 rows) }
+{
+    let Some((num, med)) = best else {
+        return Ok(Seq::new(alloc));
+    };
+    let Some(net) = net() else {
+        return Err(OutOfMemory);
+    };
+    let row = row_of(alloc, net, route(alloc, num, med))?;
+    one_row(alloc, row)
 }
 
 /// All of a table in one chunk.
@@ -87,6 +110,7 @@ fn whole(at: u64, rows: Seq<Row>) -> Chunk
     ensures chunk { IsChunk result }
     ensures at { result.at ≡ at }
     ensures from { result.from ≡ None }
+    ensures rows { result.rows ≡ rows }
 {
     Chunk {
         at,
@@ -114,7 +138,8 @@ fn feed(
 
 /// A channel comes up over an empty table.
 pub fn begin(alloc: Global, exporter: &mut Exporter<All>) -> Result<(), OutOfMemory>
-    requires { exporter.old.log ≡ [] }
+    requires log { exporter.old.log ≡ [] }
+    requires family { exporter.old.spec.family ≡ V4 }
     ensures { OnOk result (IsUpAt exporter.new 0) }
 {
     exporter.up(0)?;
@@ -209,12 +234,9 @@ fn after(
 }
 
 /// Makes the calls in their order, from the beginning of a stretch at 0.
-pub fn play(
-    alloc: Global,
-    exporter: &mut Exporter<All>,
-    steps: &[Step],
-) -> Result<u64, OutOfMemory>
-    requires { exporter.old.log ≡ [] }
+pub fn play(alloc: Global, exporter: &mut Exporter<All>, steps: &[Step]) -> Result<u64, OutOfMemory>
+    requires log { exporter.old.log ≡ [] }
+    requires family { exporter.old.spec.family ≡ V4 }
     ensures { IfOk result (λ at. IsUpAt exporter.new at) }
 {
     begin(alloc, exporter)?;

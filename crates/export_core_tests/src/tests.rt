@@ -71,7 +71,12 @@ const OWN: Option<(u32, u32)> = Some((2, 9));
 
 #[test]
 fn entries_of_one_net_are_sent_as_one(rt: HostRuntime) -> Result<(), Fail> {
-    let steps = [Step::Take(ONE), Step::Take(TWO), Step::Take(THREE), Step::Push];
+    let steps = [
+        Step::Take(ONE),
+        Step::Take(TWO),
+        Step::Take(THREE),
+        Step::Push,
+    ];
     let want = [Line::Up, Line::Sent(3, 3)];
     assert_eq!(rt; log_of(rt.alloc(), &steps)?.as_slice(), want.as_slice());
     Ok(())
@@ -118,14 +123,24 @@ fn the_best_moves_between_sources(rt: HostRuntime) -> Result<(), Fail> {
         Step::Take(ONE),
         Step::Push,
     ];
-    let want = [Line::Up, Line::Sent(1, 1), Line::Sent(2, 2), Line::Sent(3, 1)];
+    let want = [
+        Line::Up,
+        Line::Sent(1, 1),
+        Line::Sent(2, 2),
+        Line::Sent(3, 1),
+    ];
     assert_eq!(rt; log_of(rt.alloc(), &steps)?.as_slice(), want.as_slice());
     Ok(())
 }
 
 #[test]
 fn equal_attributes_are_not_sent(rt: HostRuntime) -> Result<(), Fail> {
-    let steps = [Step::Take(ONE), Step::Push, Step::Take(Some((3, 1))), Step::Push];
+    let steps = [
+        Step::Take(ONE),
+        Step::Push,
+        Step::Take(Some((3, 1))),
+        Step::Push,
+    ];
     let want = [Line::Up, Line::Sent(1, 1)];
     assert_eq!(rt; log_of(rt.alloc(), &steps)?.as_slice(), want.as_slice());
     Ok(())

@@ -8,7 +8,7 @@ abbrev pub invariant-loop-left : goal.invariant-loop-left
 invariant-loop-left l =
     (l.left ≤ length l.rows)
     × ((q : Net) → at q l.candidates.entries
-      ≡ option_map (λ r. Some r) (best_in q (drop l.left l.rows)))
+    ≡ option_map (λ r. Some r) (best_in q (drop l.left l.rows)))
 
 abbrev pub decreases-loop-left : goal.decreases-loop-left
 decreases-loop-left l = l.left

@@ -1,4 +1,4 @@
-use Rattle.std.proofs.Common.{◌≡◌, Bool, ap, not}
+use Rattle.std.proofs.Common.{Bool, ap, not}
 use Rattle.std.specs.Prelude.{◌||◌}
 use Rattle.export_core.specs.declared.marks.Mark.{Mark}
 use Rattle.export_core.proofs.MarkLists.{fills_of}

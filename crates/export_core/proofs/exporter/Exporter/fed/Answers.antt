@@ -4,7 +4,7 @@ use Rattle.bits_ip.specs.Address.{family_of}
 use Rattle.bits_ip.specs.Prefix.{Net}
 use Rattle.attrs.specs.declared.route.Route.{Route}
 use Rattle.export_core.specs.declared.floors.Floor.{Floor}
-use Rattle.export_core.specs.Candidates.{AddsNone, best_in, covers, floor_of}
+use Rattle.export_core.specs.Candidates.{AddsNone, best_in, covers}
 use Rattle.export_core.specs.Marks.{find}
 use Rattle.export_core.specs.Standing.{index_at}
 use Rattle.export_core.proofs.Families.{families_fed, families_same}
@@ -19,11 +19,11 @@ pub invariant_of-self-2 : goal.invariant_of-self-2
 invariant_of-self-2 g c = (
   c.self.invariant.0,
   families_fed _ c.args.chunk.now c.args.chunk.now.at c.self.inside.refreshing c.self.inside.marks _ c.self.inside.sent c.in_ok-candidates.candidates.entries c.add_to.new.candidates.entries c.add_to-2.new.candidates.entries c.self.invariant.1
-  (λ k. c.in_ok-candidates.ensures k ∙ ap (λ rows. option_map (λ (r : Route). Some r) (best_in k rows)) c.as_slice.ensures)
-  (subst (λ f. AddsNone (λ k. covers f k && is_some (find k c.self.inside.marks)) c.in_ok-candidates.candidates.entries c.add_to.new.candidates.entries) c.of_chunk-range.ensures c.in_ok-add_to.ensures)
-  (subst (λ f. AddsNone (λ k. covers f k && is_some (index_at k c.self.inside.sent)) c.add_to.new.candidates.entries c.add_to-2.new.candidates.entries) c.of_chunk-range.ensures c.in_ok-add_to-2.ensures)
-  c.in_ok-put_all.ensures.marks
-  (subst (λ e. (k : Net) → IsSome (best_in k c.args.chunk.now.rows) → family_of k.addr ≡ e.spec.family) (sym c.self.view_is) c.requires.family),
+      (λ k. c.in_ok-candidates.ensures k ∙ ap (λ rows. option_map (λ (r : Route). Some r) (best_in k rows)) c.as_slice.ensures)
+      (subst (λ f. AddsNone (λ k. covers f k && is_some (find k c.self.inside.marks)) c.in_ok-candidates.candidates.entries c.add_to.new.candidates.entries) c.of_chunk-range.ensures c.in_ok-add_to.ensures)
+      (subst (λ f. AddsNone (λ k. covers f k && is_some (index_at k c.self.inside.sent)) c.add_to.new.candidates.entries c.add_to-2.new.candidates.entries) c.of_chunk-range.ensures c.in_ok-add_to-2.ensures)
+      c.in_ok-put_all.ensures.marks
+      (subst (λ e. (k : Net) → IsSome (best_in k c.args.chunk.now.rows) → family_of k.addr ≡ e.spec.family) (sym c.self.view_is) c.requires.family),
 )
 
 pub returns-clause-feeds : goal.returns-clause-feeds
