@@ -1,6 +1,6 @@
 -- What holds of a history's course, and of a longer one.
 use Rattle.std.proofs.Common.{◌≡◌, ◌≢◌, ℕ, ◌+◌, ◌-◌, zero, suc, inl, inr, Bool, true, false, List, [], ◌∷◌, ◌++◌, reverse, Option, Some, None, refl, sym, ◌∙◌, ap, subst, arith, take, length, map, cond}
-use Rattle.std.specs.Prelude.{◌&&◌, ◌==◌, if◌then◌else◌, unwrap_or}
+use Rattle.std.specs.Prelude.{◌&&◌, ◌==◌, if◌then◌else◌, unwrap_or, slice_get}
 use Rattle.std.proofs.lemmas.Grind.{fold-append}
 use Rattle.std.proofs.lemmas.List.{take_at, map-append, append_assoc, length-append}
 use Rattle.bits_ip.specs.Prefix.{Net, same_net}
@@ -9,10 +9,14 @@ use Rattle.attrs.specs.declared.journal.JEntry.{JEntry}
 use Rattle.attrs.specs.declared.judge.Verdict.{Verdict}
 use Rattle.attrs.specs.declared.route.Change.{Change}
 use Rattle.attrs.specs.declared.route.Route.{Route}
+use Rattle.attrs.specs.declared.route.Row.{Row}
 use Rattle.attrs.specs.History.{Content, after, empty, content_at, last_of}
-use Rattle.attrs.specs.Table.{route_of}
+use Rattle.attrs.specs.Selection.{IsBest}
+use Rattle.attrs.specs.Table.{AreRows, IsInOrder, IsOfSources, Shows, route_of, routes_of}
 use Rattle.attrs.proofs.Histories.{last_of-push}
+use Rattle.attrs.proofs.Rows.{IsBest-one}
 use Rattle.attrs.proofs.Nets.{same_net_itself}
+use Rattle.export_core.specs.Candidates.{best_in}
 use Rattle.export_core.specs.declared.log.LogItem.{LogItem}
 use Rattle.export_core.specs.declared.log.LogItem.TheVariants.{Up, Down, Reload, Sent}
 use Rattle.export_core.specs.Histories.{IsBestOf, IsLonger, TellsBest, best_after, change_of, course_of}
@@ -96,6 +100,24 @@ told_from history tells k front (x ∷ back) e told (suc p) =
 pub course_best : (history : List JEntry) (k : Net) (p : ℕ) → TellsBest history → IsBestOf (content_at p (map change_of history)) k ((course_of history).best k p)
 course_best history k p tells =
     subst (λ cs. IsBestOf (after empty cs) k (best_after k (take p history))) (sym (take_map p history)) (told_from history tells k [] history refl (best_empty k) p)
+
+rows_in_order : (rows : List Row) → AreRows rows → (k : Net) → IsInOrder (routes_of k rows) × IsOfSources (routes_of k rows)
+rows_in_order [] are k = (tt, tt)
+rows_in_order (row ∷ rows) are k = by_test (same_net k row.net) (rows_in_order rows are.2 k) where
+  by_test : (b : Bool) → IsInOrder (routes_of k rows) × IsOfSources (routes_of k rows) → IsInOrder (if b then row.routes else routes_of k rows) × IsOfSources (if b then row.routes else routes_of k rows)
+  by_test true rest = (are.0.order, are.0.sources)
+  by_test false rest = rest
+
+first_best : (routes : List Route) → IsInOrder routes → IsBest routes (slice_get routes 0)
+first_best [] order = refl
+first_best (r ∷ rest) order = order.0
+
+-- and rows that show the content tell it too
+pub rows_best : (history : List JEntry) (rows : List Row) (p : ℕ) (k : Net) → TellsBest history → Shows rows (content_at p (map change_of history)) → (course_of history).best k p ≡ best_in k rows
+rows_best history rows p k tells shows =
+    let routes = routes_of k rows in
+    let are = rows_in_order rows shows.rows_are k in
+    IsBest-one routes _ _ (course_best history k p tells routes (record { sources = are.1; are = shows.routes_are k })) (first_best routes are.0)
 
 module _ (value : Net → Route → Option Attrs) (c d : Course) (m : IsLonger c d) where
   follows_longer : (log : List LogItem) → Follows value c log → Follows value d log

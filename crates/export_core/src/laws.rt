@@ -3,7 +3,10 @@ ghost use Rattle.bits_ip.specs.Prefix.{Net};
 ghost use Rattle.attrs.specs.declared.attributes.Attrs.{Attrs};
 ghost use Rattle.attrs.specs.declared.journal.JEntry.{JEntry};
 ghost use Rattle.attrs.specs.declared.route.Route.{Route};
+ghost use Rattle.attrs.specs.declared.route.Row.{Row};
 ghost use Rattle.attrs.specs.History.{content_at};
+ghost use Rattle.attrs.specs.Table.{Shows};
+ghost use Rattle.export_core.specs.Candidates.{best_in};
 ghost use Rattle.export_core.specs.declared.log.LogItem.{LogItem};
 ghost use Rattle.export_core.specs.Histories.{IsBestOf, IsLonger, TellsBest, change_of, course_of};
 ghost use Rattle.export_core.specs.Logs.{Course, Follows, Settled, account, highest, stretch, value_of};
@@ -63,4 +66,11 @@ pub fn entries_are_told()
 pub fn course_tells_best()
     ensures { (history : List JEntry) (k : Net) (p : ℕ) → TellsBest history
         → IsBestOf (content_at p (map change_of history)) k ((course_of history).best k p) }
+{}
+
+/// Rows that show the content at a position tell the same, so a feed may read them.
+pub fn rows_tell_best()
+    ensures { (history : List JEntry) (rows : List Row) (p : ℕ) (k : Net) → TellsBest history
+        → Shows rows (content_at p (map change_of history))
+        → (course_of history).best k p ≡ best_in k rows }
 {}
