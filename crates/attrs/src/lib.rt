@@ -5,11 +5,13 @@
 //! limits, so that a whole `Attrs` or `Route` compares with a definition's value. What a list of
 //! changes leaves of a table (`after`), which of two routes is preferred (`before`, `IsBest`) and
 //! which rows show a content (`Shows`) are defined in `specs/` here, below the crate that keeps
-//! tables.
+//! tables. A filter (`Judge`) is known by its meaning alone, a function of net and route.
 #![tactic(auto)]
 
 mod attributes;
 mod clist;
+mod journal;
+mod judge;
 pub mod laws;
 mod path;
 mod route;
@@ -18,6 +20,8 @@ mod text;
 
 pub use attributes::{Attrs, Dest, Kind, Origin};
 pub use clist::{Clist, ClistFault};
+pub use journal::{Chunk, JEntry};
+pub use judge::{FilterFault, Judge, Verdict};
 pub use path::{Path, PathFault};
 pub use route::{Change, Route, Row, Select, Src};
 pub use seq::Seq;

@@ -1,0 +1,12 @@
+pub mod Passing
+pub mod Logs
+pub mod Marks
+pub mod Standing
+pub mod Candidates
+pub mod Families
+pub mod Lanes
+pub mod States
+pub mod Calls
+pub mod Plan
+pub mod Sends
+pub mod Histories

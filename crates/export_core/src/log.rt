@@ -1,4 +1,6 @@
 //! The log of a channel.
+ghost use Rattle.std.specs.Prelude.{◌≡◌, length, option_map};
+
 use attrs::Attrs;
 use bits_ip::Prefix;
 
@@ -20,6 +22,24 @@ pub struct Sending {
     pub value: Option<Attrs>,
     /// Whether it is equal to the value that was sent before, in a refresh.
     pub again: bool,
+}
+
+impl Sending {
+    pub(crate) fn net(&self) -> Prefix
+        ensures { result ≡ self.now.key.net }
+    {
+        self.key.net
+    }
+
+    /// The number that the value gets behind the log's items, and none for a withdrawal.
+    pub(crate) fn number(&self, log: &[LogItem]) -> Option<usize>
+        ensures { result ≡ option_map (λ _. length log.now) self.now.value }
+    {
+        match self.value {
+            Some(_) => Some(log.len()),
+            None => None,
+        }
+    }
 }
 
 /// An item of a channel's log.

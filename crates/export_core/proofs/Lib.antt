@@ -1,0 +1,11 @@
+pub mod Nets
+pub mod LaneSteps
+pub mod MarkLists
+pub mod Taking
+pub mod Pushing
+pub mod Stretches
+pub mod Feeding
+pub mod Kept
+pub mod Families
+pub mod SendLists
+pub mod Courses

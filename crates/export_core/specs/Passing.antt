@@ -1,0 +1,51 @@
+-- What a channel makes of a route: the gate of its protocol, then its filter.
+use Rattle.std.specs.Prelude.{◌==◌, ℕ, Bool, true, false, not, ◌&&◌, ◌||◌, if◌then◌else◌, Option, Some, None, option_and_then}
+use Rattle.bits_ip.specs.Prefix.{Net}
+use Rattle.attrs.specs.Clist.{has_pair}
+use Rattle.attrs.specs.declared.attributes.Attrs.{Attrs}
+use Rattle.attrs.specs.declared.attributes.Kind.{Kind}
+use Rattle.attrs.specs.declared.attributes.Kind.TheVariants.{Static, Bgp}
+use Rattle.attrs.specs.declared.judge.Verdict.{Verdict}
+use Rattle.attrs.specs.declared.judge.Verdict.TheVariants.{Accept, Reject}
+use Rattle.attrs.specs.declared.route.Route.{Route}
+use Rattle.export_core.specs.declared.passing.ExportSpec.{ExportSpec}
+
+abbrev pub is_bgp : Kind → Bool
+is_bgp Static = false
+is_bgp Bgp = true
+
+-- learned from a neighbour in the own autonomous system
+abbrev pub is_internal : Attrs → Bool
+is_internal attrs = is_bgp attrs.kind && not attrs.ebgp
+
+-- a community that is known everywhere (RFC 1997), by its second part
+abbrev pub has_known : Attrs → ℕ → Bool
+has_known attrs community = has_pair attrs.coms (65535, community)
+
+-- NO_ADVERTISE: to nobody
+abbrev pub is_for_nobody : Attrs → Bool
+is_for_nobody attrs = has_known attrs 65282
+
+-- NO_EXPORT and NO_EXPORT_SUBCONFED: to nobody outside
+abbrev pub is_for_inside : Attrs → Bool
+is_for_inside attrs = has_known attrs 65281 || has_known attrs 65283
+
+-- the gate keeps the route from the channel
+abbrev pub is_kept : ExportSpec → Route → Bool
+is_kept spec r =
+    (r.src.num == spec.own)
+    || (is_internal r.attrs && not spec.to_ebgp)
+    || (spec.interpret && (is_for_nobody r.attrs || (spec.to_ebgp && is_for_inside r.attrs)))
+
+abbrev pub accepted : Verdict → Option Attrs
+accepted (Accept attrs) = Some attrs
+accepted (Reject fault) = None
+
+-- the attributes with which a route of a net is sent, and none where it isn't: the gate keeps it,
+-- or the filter rejects it
+abbrev pub value_by : ExportSpec → (Net → Route → Verdict) → Net → Route → Option Attrs
+value_by spec verdict net r = if is_kept spec r then None else accepted (verdict net r)
+
+-- the same of a net's best route, where there is one
+abbrev pub passed : (Net → Route → Option Attrs) → Net → Option Route → Option Attrs
+passed value net best = option_and_then (value net) best

@@ -1,0 +1,39 @@
+-- What the next push of an exporter will do.
+use Rattle.std.specs.Prelude.{◌≡◌, [], Some, slice_get}
+use Rattle.bits_ip.specs.Prefix.{Net}
+use Rattle.attrs.specs.declared.judge.Verdict.{Verdict}
+use Rattle.attrs.specs.declared.route.Route.{Route}
+use Rattle.export_core.specs.declared.exporter.Next.{Next}
+use Rattle.export_core.specs.declared.exporter.Next.TheVariants as next
+use Rattle.export_core.specs.declared.log.Sending.{Sending}
+use Rattle.export_core.specs.declared.marks.Mark.{Mark}
+use Rattle.export_core.specs.Calls.{IsNews, IsQuiet}
+use Rattle.export_core.specs.Marks.{find}
+use Rattle.export_core.specs.Passing.{passed}
+use Rattle.export_core.specs.Standing.{standing_at}
+use Rattle.export_core.specs.States.{State, value_for}
+
+module _ {J : Type 0} where
+  -- the first mark, and the net that it is of
+  pub record IsFirst (k : Net) (m : Mark) (e : State J) : Type 0 where
+    pub first : slice_get e.marks.order 0 ≡ Some k
+    pub mark : find k e.marks ≡ Some m
+
+  pub record WillBeQuiet
+      (verdict : J → Net → Route → Verdict) (k : Net) (m : Mark) (e : State J) : Type 0 where
+    pub is_first : IsFirst k m e
+    pub quiet :
+        IsQuiet m.due (passed (value_for verdict e) k m.candidate) (standing_at k e.log)
+
+  pub record WillSend
+      (verdict : J → Net → Route → Verdict) (m : Mark) (x : Sending) (e : State J) : Type 0 where
+    pub is_first : IsFirst x.key.net m e
+    pub at : x.at ≡ m.at
+    pub num : x.key.num ≡ 0
+    pub value : x.value ≡ passed (value_for verdict e) x.key.net m.candidate
+    pub news : IsNews m.due x.value (standing_at x.key.net e.log) x.again
+
+  abbrev pub IsNext : (J → Net → Route → Verdict) → State J → Next → Type 0
+  IsNext verdict e next.Nothing = e.marks.order ≡ []
+  IsNext verdict e next.Quiet = (k : Net) × (m : Mark) × WillBeQuiet verdict k m e
+  IsNext verdict e (next.Send x) = (m : Mark) × WillSend verdict m x e

@@ -1,0 +1,36 @@
+-- The values that stand as sent, each by the number of the log's item that has it.
+use Rattle.std.specs.Prelude.{◌≡◌, ℕ, Bool, List, Option, Some, None, IsSome, option_and_then, slice_get, reverse, is_some}
+use Rattle.bits_ip.specs.Prefix.{Net}
+use Rattle.attrs.specs.declared.attributes.Attrs.{Attrs}
+use Rattle.export_core.specs.declared.log.LogItem.{LogItem}
+use Rattle.export_core.specs.declared.log.LogItem.TheVariants.{Up, Down, Reload, Sent}
+use Rattle.export_core.specs.Logs.{account, value_of, stretch}
+use Rattle.export_core.specs.Marks.{at}
+
+-- the number of the item, and none where there is a place alone
+abbrev pub index_at : Net → List (Net × Option ℕ) → Option ℕ
+index_at k places = option_and_then (λ n. n) (at k places)
+
+abbrev pub value_in : LogItem → Option Attrs
+value_in (Up h) = None
+value_in Down = None
+value_in Reload = None
+value_in (Sent x) = x.value
+
+-- the value of the item with this number
+abbrev pub value_at : List LogItem → Option ℕ → Option Attrs
+value_at log number = option_and_then value_in (option_and_then (slice_get log) number)
+
+-- whether the last stretch of a log is open
+abbrev pub is_open : List LogItem → Bool
+is_open log = is_some (stretch (reverse log))
+
+-- the value of a net that the last stretch sent last
+abbrev pub standing_at : Net → List LogItem → Option Attrs
+standing_at k log = value_of (account k (reverse log))
+
+-- what stands as sent is what the last stretch sent last
+pub record IsKept (up : Bool) (sent : List (Net × Option ℕ)) (log : List LogItem) : Type 0 where
+  pub open_now : up ≡ is_open log
+  pub values : (k : Net) → value_at log (index_at k sent) ≡ standing_at k log
+  pub there : (k : Net) (n : ℕ) → index_at k sent ≡ Some n → IsSome (value_at log (Some n))

@@ -1,0 +1,384 @@
+//! The exporter.
+ghost use Rattle.std.specs.Prelude.{◌≡◌, ◌≢◌, ◌↔◌, ◌+◌, ◌<◌, ◌≤◌, ℕ, [], reverse, OnOk, OnErr, IfOk, IfErr, nat_lt, if◌then◌else◌, IfNone, IfSome, IsSome, IsTrue, false, true, Some, None, option_copied, option_map};
+ghost use Rattle.bits_ip.specs.Address.{family_of};
+ghost use Rattle.bits_ip.specs.Prefix.{Net};
+ghost use Rattle.export_core.specs.declared.floors.FeedState.TheVariants.{Done, From};
+ghost use Rattle.export_core.specs.Calls.{begun, ended, refreshed, no_marks, Feeds, IsAtRest, IsNews, IsQuiet, MarksAbove, Pushes, Takes, order_with};
+ghost use Rattle.export_core.specs.Candidates.{IsChunk, best_in};
+ghost use Rattle.export_core.specs.Logs.{Course, Settled, highest};
+ghost use Rattle.export_core.specs.declared.exporter.Next.TheVariants as next;
+ghost use Rattle.export_core.specs.Marks.{find};
+ghost use Rattle.export_core.specs.Plan.{IsFirst, IsNext};
+ghost use Rattle.export_core.specs.Sends.{IsStanding};
+ghost use Rattle.export_core.specs.Standing.{is_open};
+ghost use Rattle.export_core.specs.States.{IsChunkAt, IsEntryAt, StandsFor, reach_of, value_for};
+
+use crate::candidates::best_routes;
+use crate::floors::{FeedState, Floor, after_chunk, lower, reach_at};
+use crate::log::{Key, LogItem, Sending};
+use crate::marks::{Mark, Marks};
+use crate::outlet::{Outlet, PushFault};
+use crate::passing::{ExportSpec, Through};
+use crate::standing::Standing;
+use attrs::{Attrs, Chunk, JEntry, Judge, Route};
+use bits_ip::{OutOfMemory, Prefix};
+use std::alloc::Global;
+use std::collections::VecDeque;
+use std::marker::Model;
+
+/// What a push did.
+#[derive(Clone, Copy, Debug, PartialEq, Eq, Drop)]
+pub enum Pushed {
+    /// The first mark's value was sent.
+    Sent,
+    /// It stands already and no refresh is due.
+    Quiet,
+    /// No net is marked.
+    Nothing,
+}
+
+/// What the next push will do.
+#[derive(Debug, Drop)]
+enum Next {
+    Send(Sending),
+    Quiet,
+    Nothing,
+}
+
+/// The export side of one channel.
+#[derive(Debug, Drop)]
+pub struct Exporter<J: Judge> {
+    alloc: Global,
+    through: Through<J>,
+    up: bool,
+    position: u64,
+    floors: VecDeque<Floor>,
+    feed: FeedState,
+    refreshing: bool,
+    marks: Marks,
+    sent: Standing,
+    log: Vec<LogItem>,
+}
+
+impl<J: Judge> Model for Exporter<J> {
+    ghost use Rattle.export_core.specs.States.{State};
+    ghost use Rattle.export_core.specs.Families.{AreOfFamily};
+    ghost use Rattle.export_core.specs.Standing.{IsKept};
+
+    ghost Value = { State J };
+
+    ghost view = { λ e. record {
+      spec = e.through.spec;
+      judge = e.through.judge;
+      position = e.position;
+      floors = e.floors.items;
+      feed = e.feed;
+      refreshing = e.refreshing;
+      marks = e.marks;
+      log = e.log.items;
+    } };
+
+    ghost invariant = { λ e. IsKept e.up e.sent e.log.items
+        × AreOfFamily e.through.spec.family e.marks e.sent };
+}
+
+/// Whether a value is sent as one sent again, and none where it isn't sent.
+fn send_of(value: Option<&Attrs>, last: Option<&Attrs>, due: bool) -> Option<bool>
+    ensures quiet { IfNone result
+        (IsQuiet due (option_copied value.entry) (option_copied last.entry)) }
+    ensures news { IfSome result (λ again.
+        IsNews due (option_copied value.entry) (option_copied last.entry) again) }
+{
+    if !is_same(value, last) {
+        return Some(false);
+    }
+    if due && value.is_some() {
+        return Some(true);
+    }
+    None
+}
+
+fn is_same(one: Option<&Attrs>, other: Option<&Attrs>) -> bool
+    ensures { IsTrue result ↔ (option_copied one.entry ≡ option_copied other.entry) }
+{
+    match (one, other) {
+        (Some(one), Some(other)) => one.is_same(other),
+        (None, None) => true,
+        _ => false,
+    }
+}
+
+fn copy_best(best: Option<&Route>) -> Result<Option<Route>, OutOfMemory>
+    ensures { IfOk result (λ copy. copy ≡ option_copied best.entry) }
+{
+    match best {
+        Some(route) => Ok(Some(route.copy()?)),
+        None => Ok(None),
+    }
+}
+
+fn is_done(feed: &FeedState) -> bool
+    ensures { IsTrue result ↔ (feed.now ≡ Done) }
+{
+    match feed {
+        FeedState::Done => true,
+        FeedState::From(_) => false,
+    }
+}
+
+/// Marks the entry's net where the entry stands above what has been read of it.
+fn mark_above(marks: &mut Marks, reached: u64, pos: u64, entry: &JEntry) -> Result<(), OutOfMemory>
+    ensures marks { OnOk result (MarksAbove reached pos entry.now marks.old marks.new) }
+    ensures order { OnOk result (marks.new.order
+        ≡ (if nat_lt reached pos then order_with entry.now.net marks.old else marks.old.order)) }
+    ensures refused { OnErr result
+        ((marks.new.order ≡ marks.old.order)
+        × ((q : Net) → find q marks.new ≡ find q marks.old)) }
+{
+    if reached < pos {
+        let mark = Mark {
+            at: pos,
+            candidate: copy_best(entry.best.as_ref())?,
+            due: false,
+        };
+        marks.put(entry.net, mark)?;
+    }
+    Ok(())
+}
+
+impl<J: Judge> Exporter<J> {
+    /// A channel that is down.
+    pub fn make(alloc: Global, spec: ExportSpec, judge: J) -> Exporter<J>
+        ensures { result ≡ record {
+          spec = spec;
+          judge = judge;
+          position = 0;
+          floors = [];
+          feed = Done;
+          refreshing = false;
+          marks = no_marks;
+          log = [];
+        } }
+    {
+        Exporter {
+            alloc,
+            through: Through::make(spec, judge),
+            up: false,
+            position: 0,
+            floors: VecDeque::new(alloc),
+            feed: FeedState::Done,
+            refreshing: false,
+            marks: Marks::new(alloc),
+            sent: Standing::new(alloc),
+            log: Vec::new(alloc),
+        }
+    }
+
+    /// The log so far.
+    pub fn items(&self) -> &[LogItem]
+        ensures { result.now ≡ self.now.log }
+    {
+        self.log.as_slice()
+    }
+
+    /// Whether a feed goes on, and from which net.
+    pub fn feed_from(&self) -> FeedState
+        ensures { result ≡ self.now.feed }
+    {
+        self.feed
+    }
+
+    /// The values that stand as sent, in the order of nets.
+    pub fn standing(&self) -> Result<Vec<(Key, Attrs)>, OutOfMemory>
+        ensures { IfOk result (λ values. IsStanding self.now.log values.items) }
+    {
+        self.sent.values(self.alloc, &self.log)
+    }
+
+    /// Takes the next entry of the table's journal.
+    pub fn take(&mut self, pos: u64, entry: &JEntry) -> Result<(), OutOfMemory>
+        requires up { is_open self.old.log ≡ true }
+        requires next { pos ≡ self.old.position + 1 }
+        requires family { family_of entry.now.net.addr ≡ self.old.spec.family }
+        ensures takes { OnOk result (Takes pos entry.now self.old self.new) }
+        ensures stands { OnOk result ((c : Course) → IsEntryAt c pos entry.now
+            → StandsFor J.verdict c self.old → StandsFor J.verdict c self.new) }
+    {
+        let reached = reach_at(&self.floors, self.position, &entry.net);
+        mark_above(&mut self.marks, reached, pos, entry)?;
+        self.position = pos;
+        lower(&mut self.floors, pos);
+        Ok(())
+    }
+
+    /// What a push of the first mark will do.
+    fn next_of(&self, net: &Prefix, mark: &Mark) -> Result<Next, OutOfMemory>
+        requires { IsFirst net.now mark.now self.now }
+        ensures { IfOk result (λ next. IsNext J.verdict self.now next) }
+    {
+        let value = self.through.best_value(net, mark.candidate.as_ref())?;
+        let last = self.sent.value(&self.log, net);
+        let Some(again) = send_of(value.as_ref(), last, mark.due) else {
+            return Ok(Next::Quiet);
+        };
+        Ok(Next::Send(Sending {
+            at: mark.at,
+            key: Key { net: *net, num: 0 },
+            value,
+            again,
+        }))
+    }
+
+    /// What the next push will do.
+    fn next(&self) -> Result<Next, OutOfMemory>
+        ensures { IfOk result (λ next. IsNext J.verdict self.now next) }
+    {
+        match self.marks.first() {
+            Some(first) => self.next_of(&first.0, first.1),
+            None => Ok(Next::Nothing),
+        }
+    }
+
+    /// Sends the first mark's value.
+    fn send<O: Outlet>(&mut self, outlet: &mut O, sending: Sending) -> Result<Pushed, PushFault>
+        requires next { IsNext J.verdict self.old (next.Send sending) }
+        requires takes { O.takes outlet.old 0 self.old.spec.family ≡ true }
+        ensures pushes { IfOk result (Pushes J.verdict self.old self.new
+            (O.told outlet.old) (O.told outlet.new)) }
+        ensures refused { OnErr result
+            ((self.new ≡ self.old) × (O.told outlet.new ≡ O.told outlet.old)) }
+        ensures cause { IfErr result (λ fault. fault ≢ PushFault.Memory
+            → O.refusals outlet.old < O.refusals outlet.new) }
+    {
+        let net = sending.net();
+        let number = sending.number(&self.log);
+        self.log.reserve(1)?;
+        self.sent.make_place(&net)?;
+        outlet.put(&sending)?;
+        self.marks.pop();
+        self.sent.set(net, number);
+        self.log.push_reserved(LogItem::Sent(sending));
+        Ok(Pushed::Sent)
+    }
+
+    /// Pushes the first mark out, in the order of first marking.
+    pub fn push_one<O: Outlet>(&mut self, outlet: &mut O) -> Result<Pushed, PushFault>
+        requires up { is_open self.old.log ≡ true }
+        requires takes { O.takes outlet.old 0 self.old.spec.family ≡ true }
+        ensures pushes { IfOk result (Pushes J.verdict self.old self.new
+            (O.told outlet.old) (O.told outlet.new)) }
+        ensures refused { OnErr result
+            ((self.new ≡ self.old) × (O.told outlet.new ≡ O.told outlet.old)) }
+        ensures cause { IfErr result (λ fault. fault ≢ PushFault.Memory
+            → O.refusals outlet.old < O.refusals outlet.new) }
+        ensures up { OnOk result (is_open self.new.log ≡ true) }
+        ensures stands { OnOk result ((c : Course)
+            → StandsFor J.verdict c self.old → StandsFor J.verdict c self.new) }
+    {
+        match self.next()? {
+            Next::Nothing => Ok(Pushed::Nothing),
+            Next::Quiet => {
+                self.marks.pop();
+                Ok(Pushed::Quiet)
+            }
+            Next::Send(sending) => self.send(outlet, sending),
+        }
+    }
+
+    /// Begins a stretch at the position, with a feed.
+    pub fn up(&mut self, at: u64) -> Result<(), OutOfMemory>
+        requires down { is_open self.old.log ≡ false }
+        requires later { highest (reverse self.old.log) ≤ at }
+        ensures begins { OnOk result (self.new ≡ begun at self.old) }
+        ensures up { OnOk result (is_open self.new.log ≡ true) }
+        ensures refused { OnErr result (self.new ≡ self.old) }
+        ensures stands { OnOk result ((c : Course) → at ≤ c.len
+            → StandsFor J.verdict c self.old → StandsFor J.verdict c self.new) }
+    {
+        self.log.reserve(1)?;
+        self.log.push_reserved(LogItem::Up(at));
+        self.up = true;
+        self.position = at;
+        self.floors.clear();
+        self.feed = FeedState::From(None);
+        self.refreshing = false;
+        self.marks.clear();
+        self.sent.clear();
+        Ok(())
+    }
+
+    /// Begins a feed whose marks are due a refresh.
+    pub fn refresh(&mut self) -> Result<(), OutOfMemory>
+        requires up { is_open self.old.log ≡ true }
+        ensures refreshes { OnOk result (self.new ≡ refreshed self.old) }
+        ensures up { OnOk result (is_open self.new.log ≡ true) }
+        ensures refused { OnErr result (self.new ≡ self.old) }
+        ensures stands { OnOk result ((c : Course)
+            → StandsFor J.verdict c self.old → StandsFor J.verdict c self.new) }
+    {
+        self.log.reserve(1)?;
+        self.log.push_reserved(LogItem::Reload);
+        self.feed = FeedState::From(None);
+        self.refreshing = true;
+        Ok(())
+    }
+
+    /// Ends the stretch. Marks and sent values are forgotten.
+    pub fn down(&mut self) -> Result<(), OutOfMemory>
+        requires up { is_open self.old.log ≡ true }
+        ensures ends { OnOk result (self.new ≡ ended self.old) }
+        ensures down { OnOk result (is_open self.new.log ≡ false) }
+        ensures refused { OnErr result (self.new ≡ self.old) }
+        ensures stands { OnOk result ((c : Course)
+            → StandsFor J.verdict c self.old → StandsFor J.verdict c self.new) }
+    {
+        self.log.reserve(1)?;
+        self.log.push_reserved(LogItem::Down);
+        self.up = false;
+        self.feed = FeedState::Done;
+        self.marks.clear();
+        self.sent.clear();
+        Ok(())
+    }
+
+    /// Marks the nets of the chunk's range that have a best route, a mark or a sent value.
+    pub fn fed(&mut self, chunk: &Chunk) -> Result<(), OutOfMemory>
+        requires here { self.old.feed ≡ From chunk.now.from }
+        requires later { (k : Net) → reach_of self.old k ≤ chunk.now.at }
+        requires chunk { IsChunk chunk.now }
+        requires family { (k : Net) → IsSome (best_in k chunk.now.rows)
+            → family_of k.addr ≡ self.old.spec.family }
+        ensures feeds { OnOk result (Feeds chunk.now self.old self.new) }
+        ensures stands { OnOk result ((c : Course) → IsChunkAt c chunk.now
+            → StandsFor J.verdict c self.old → StandsFor J.verdict c self.new) }
+    {
+        let range = Floor::of_chunk(chunk);
+        let mut candidates = best_routes(self.alloc, chunk.rows.as_slice())?;
+        self.marks.add_to(&mut candidates, &range)?;
+        self.sent.add_to(&mut candidates, &range)?;
+        self.floors.reserve(1)?;
+        self.marks.put_all(candidates, chunk.at, self.refreshing)?;
+        self.floors.push_back_reserved(range);
+        self.feed = after_chunk(chunk.upto);
+        Ok(())
+    }
+
+    /// Whether the channel is up, at the head, fed, and without a mark.
+    fn rests(&self, head: u64) -> bool
+        ensures rests { IsTrue result ↔ IsAtRest self.now head }
+        ensures none { IsTrue result → (k : Net) → find k self.now.marks ≡ None }
+    {
+        let unmarked = self.marks.is_empty();
+        self.up & (self.position == head) & is_done(&self.feed) & unmarked
+    }
+
+    /// Whether the channel is up, and all up to the head is read and sent.
+    pub fn is_settled(&self, head: u64) -> bool
+        ensures rests { IsTrue result ↔ IsAtRest self.now head }
+        ensures settled { IsTrue result → (c : Course) → head ≡ c.len
+            → StandsFor J.verdict c self.now
+            → Settled (value_for J.verdict self.now) c (reverse self.now.log) }
+    {
+        self.rests(head)
+    }
+}
