@@ -1,7 +1,7 @@
 -- What is built of a configuration: one BGP protocol with one neighbour, from which all is imported
 -- and to which all is exported. Of options written twice the last counts, and statements and
 -- options without effect count for nothing.
-use Rattle.std.specs.Prelude.{◌≡◌, ℕ, Bool, true, false, ◌&&◌, ◌||◌, not, List, [], ◌∷◌, take, drop, codes, Option, Some, None, Vec, filter}
+use Rattle.std.specs.Prelude.{◌≡◌, ℕ, Bool, true, false, ◌&&◌, ◌||◌, not, List, [], ◌∷◌, codes, Option, Some, None, Vec, filter}
 use Rattle.std.specs.Global.{Global}
 use Rattle.std.specs.Bool.{nat_eq}
 use Rattle.std.specs.Cmp.Lexicographic.{pointwise}
@@ -9,6 +9,7 @@ use Rattle.bits_ip.specs.declared.address.Addr.{Addr}
 use Rattle.bits_ip.specs.declared.address.Addr.TheVariants as addrs
 use Rattle.bits_ip.specs.declared.address.Family.{Family}
 use Rattle.bits_ip.specs.declared.address.Family.TheVariants as families
+use Rattle.grammar.specs.Names.{name_bytes}
 use Rattle.grammar.specs.declared.named.Name.{Name}
 use Rattle.filt_syntax.specs.declared.tree.Num.{Num}
 use Rattle.filt_syntax.specs.declared.tree.Num.TheVariants as nums
@@ -40,9 +41,6 @@ use Rattle.birdcore_top.specs.declared.config.ConfigFault.TheVariants as faults
 use Rattle.birdcore_top.specs.declared.config.Remote.{Remote}
 
 -- ---- statements
-
-abbrev pub name_bytes : List ℕ → Name → List ℕ
-name_bytes text name = take name.len (drop name.start text)
 
 -- the table that is always there, which its statement doesn't declare anew
 abbrev pub is_main_table : List ℕ → Family → Name → Bool

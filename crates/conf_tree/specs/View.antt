@@ -276,5 +276,8 @@ statement_tree (statements.Static p) = of_protocol (nth 1 (protocol_tree sym.Sta
 statement_tree (statements.Bgp p) = of_protocol (nth 2 (protocol_tree sym.Bgp bgp_option_tree p))
 statement_tree (statements.Pipe p) = of_protocol (beyond 3 (protocol_tree sym.Pipe pipe_option_tree p))
 
+abbrev pub statements_tree : List Statement → Tree
+statements_tree ss = row_tree (map statement_tree ss)
+
 abbrev pub config_view : Config → Tree
-config_view c = row_tree (map statement_tree c.statements.items)
+config_view c = statements_tree c.statements.items

@@ -220,8 +220,9 @@ pub enum Statement {
     Pipe(Protocol<PipeOption>),
 }
 
-/// A configuration.
+/// A configuration: the source, in which names and texts have their bytes, and the statements.
 #[derive(Drop)]
-pub struct Config {
+pub struct Config<'a> {
+    pub text: &'a [u8],
     pub statements: Vec<Statement>,
 }
