@@ -97,7 +97,7 @@ pub fn of_attribute(
     ensures { Gives (λ found. in_parentheses found.2 (Leaf (attribute_word found.0 found.1)))
         result (level_at attribute_level left words.now) }
 {
-    let (_, open, inside) = open(words, left)?;
+    let (_below, open, inside) = open(words, left)?;
     let Some(((at, attribute), end)) = next_attribute(inside) else {
         return Err(Refusal::Bad(inside));
     };
