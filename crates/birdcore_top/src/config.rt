@@ -305,13 +305,18 @@ fn protocol_name(alloc: Global, text: &[u8], name: Option<Name>) -> Result<Vec<u
     }
 }
 
-/// What is built of a configuration, and none where it is of another form than the one that is.
-fn built(alloc: Global, text: &[u8], tree: &conf_tree::Config) -> Result<Option<Config>, AllocError>
+/// What is built of a configuration's statements, and none where they are of another form than the
+/// one that is.
+fn built(
+    alloc: Global,
+    text: &[u8],
+    statements: &[Statement],
+) -> Result<Option<Config>, AllocError>
     ensures { IfOk result
-        (λ read. MatchOption read ((config : Config) → Builds text.now tree.now config → ⊥)
-        (λ config. Builds text.now tree.now config)) }
+        (λ read. MatchOption read ((config : Config) → Builds text.now statements.now config → ⊥)
+        (λ config. Builds text.now statements.now config)) }
 {
-    let Some(protocol) = only_protocol(text, &tree.statements) else {
+    let Some(protocol) = only_protocol(text, statements) else {
         return Ok(None);
     };
     let Some((local, remote)) = session_of(bgp_says(&protocol.options)) else {
@@ -335,7 +340,7 @@ pub fn read_config(alloc: Global, text: &[u8]) -> Result<Config, ConfigFault>
     ensures fault { IfErr result (IsConfigFault text.now) }
 {
     match read_tree(alloc, text) {
-        Ok(tree) => match built(alloc, text, &tree) {
+        Ok(tree) => match built(alloc, text, &tree.statements) {
             Ok(Some(config)) => Ok(config),
             Ok(None) => Err(ConfigFault::NotBuilt),
             Err(_) => Err(ConfigFault::Memory),
