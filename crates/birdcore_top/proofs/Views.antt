@@ -366,7 +366,7 @@ config_same a b name local neighbor remote =
     ∙ ap (λ (n : Addr). make_config b.name b.local n a.remote) neighbor
     ∙ ap (λ (n : ℕ). make_config b.name b.local b.neighbor n) remote
 
-bgp_once : (ss : List Statement) (p q : Protocol BgpOption) → ss ≡ statements.Bgp p ∷ [] → ss ≡ statements.Bgp q ∷ [] → p ≡ q
+pub bgp_once : (ss : List Statement) (p q : Protocol BgpOption) → ss ≡ statements.Bgp p ∷ [] → ss ≡ statements.Bgp q ∷ [] → p ≡ q
 bgp_once ss p q one other = cc
 
 -- and of one syntax tree one thing.
