@@ -21,7 +21,7 @@ use std::alloc::Global;
 pub fn open(words: &[Word], left: u32) -> Result<(u32, usize, &[Word]), Refusal>
     ensures { MatchResult result
         (λ found. (words.now ≡ Word.Placed found.1 sym.OpenParenthesis ∷ found.2.now)
-            × (found.0 + 1 ≡ left))
+        × (found.0 + 1 ≡ left))
         (λ e. (n : ℕ) → Fails e (opened_at n left words.now)) }
 {
     match after_placed(words, Symbol::OpenParenthesis) {

@@ -77,13 +77,11 @@ fn has_a_pair_in_its_label(found: Option<&Stmt>) -> bool {
             Some(arm) => {
                 matches!(
                     arm.labels.first(),
-                    Some(
-                        Item::Pair {
-                            first: PairPart::Part(_),
-                            second: PairPart::Any,
-                            ..
-                        },
-                    )
+                    Some(Item::Pair {
+                        first: PairPart::Part(_),
+                        second: PairPart::Any,
+                        ..
+                    })
                 )
             }
             None => false,
