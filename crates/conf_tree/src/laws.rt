@@ -9,7 +9,9 @@ ghost use Rattle.conf_tree.specs.Said.{is, said, IsBalanced};
 ghost use Rattle.conf_tree.specs.Position.{IsPlace};
 ghost use Rattle.conf_tree.specs.Read.{IsConfigText, IsRefusedText};
 ghost use Rattle.conf_tree.specs.declared.kind.ConfKind.{ConfKind};
-ghost use Rattle.grammar.specs.Grammar.{Tree};
+ghost use Rattle.conf_tree.specs.Syntax.{config};
+ghost use Rattle.filt_syntax.specs.Syntax.{rule};
+ghost use Rattle.grammar.specs.Grammar.{Tree, yield, Fits, Spells};
 ghost use Rattle.grammar.specs.Kind.{kind_of, name};
 
 use crate::kind::ConfKind;
@@ -150,3 +152,10 @@ pub fn configurations_are_not_refused()
     texts_have_one_list_of_tokens();
     lexed_texts_are_not_refused();
 }
+
+/// Each configuration of the grammar alone is one: its words have a tree in which an `else` goes to
+/// the nearest `if`.
+pub fn sentences_decide()
+    ensures { (t : Tree) → Spells rule t config
+        → (u : Tree) × Fits rule u config × (yield u ≡ yield t) }
+{}

@@ -9,3 +9,4 @@ pub mod StatementSteps
 pub mod StatementTrees
 pub mod CycleSteps
 pub mod ArmSteps
+pub mod Decided

@@ -29,7 +29,7 @@ use Rattle.filt_syntax.specs.declared.tree.Expr.TheFolds.{fold_out-Expr}
 use Rattle.filt_syntax.specs.declared.tree.Expr.TheShapes.{former-Expr-Access-1-at-4}
 use Rattle.filt_syntax.specs.declared.tree.Expr.TheOpen.{Expr-F}
 use Rattle.filt_syntax.specs.ItemView.{items_tree, mask_items_tree}
-use Rattle.filt_syntax.specs.View.{Sight, sight, sight_step, as_prim, as_post, as_unary, as_prod, as_sum, as_cmp, as_expr, alone, attribute_word, simple_word, simple_tree, named_tree, group_tree, set_tree, mask_tree, defined_tree, method_call_tree, in_parentheses, arguments_tree, listed_after, listed_tree, with_next, second_part, parts_after, access_part, access_of, factor_part, factor_of, term_part, term_of, joint_part, joint_of, compare_symbol, expr_tree, expr_trees}
+use Rattle.filt_syntax.specs.View.{Sight, sight, sight_step, as_prim, as_post, as_unary, as_prod, as_sum, as_cmp, as_expr, alone, attribute_word, simple_word, simple_tree, named_tree, group_tree, set_tree, mask_tree, defined_tree, method_call_tree, in_parentheses, arguments_tree, listed_after, listed_tree, with_next, second_part, parts_after, chain_of, access_part, access_of, factor_part, factor_of, term_part, term_of, joint_part, joint_of, compare_symbol, expr_tree, expr_trees}
 
 pub exprs-map : (es : List Expr) → map (λ (s : Sight). s.expr) (map sight es) ≡ expr_trees es
 exprs-map [] = refl
@@ -85,19 +85,19 @@ sight-MethodCall m place a b = search (rules, the_lemmas)
 pub sight-Not : (at : ℕ) (e : Box Expr Global) → sight (exprs.Not at e) ≡ as_unary (First (Inside (words.Placed at symbols.Not) (sight e.value).unary))
 sight-Not at e = search (rules, the_lemmas)
 
-pub sight-Product : (a : Box Expr Global) (v : Vec (Factor × Expr) Global) → sight (exprs.Product a v) ≡ as_prod (parts_after (Start (sight a.value).unary) (map factor_of v.items))
+pub sight-Product : (a : Box Expr Global) (v : Vec (Factor × Expr) Global) → sight (exprs.Product a v) ≡ as_prod (chain_of (Start (sight a.value).unary) (map factor_of v.items))
 sight-Product a v = search (rules, the_lemmas, factors-map)
 
-pub sight-Sum : (a : Box Expr Global) (v : Vec (Term × Expr) Global) → sight (exprs.Sum a v) ≡ as_sum (parts_after (Start (sight a.value).prod) (map term_of v.items))
+pub sight-Sum : (a : Box Expr Global) (v : Vec (Term × Expr) Global) → sight (exprs.Sum a v) ≡ as_sum (chain_of (Start (sight a.value).prod) (map term_of v.items))
 sight-Sum a v = search (rules, the_lemmas, terms-map)
 
 pub sight-Compare : (op : Compare) (a b : Box Expr Global) → sight (exprs.Compare op a b) ≡ as_cmp (Both (sight a.value).sum (First (Both (symbol_leaf (compare_symbol op)) (sight b.value).sum)))
 sight-Compare op a b = search (rules, the_lemmas)
 
-pub sight-Joint : (a : Box Expr Global) (v : Vec (Joint × Expr) Global) → sight (exprs.Joint a v) ≡ as_expr (parts_after (Start (sight a.value).cmp) (map joint_of v.items))
+pub sight-Joint : (a : Box Expr Global) (v : Vec (Joint × Expr) Global) → sight (exprs.Joint a v) ≡ as_expr (chain_of (Start (sight a.value).cmp) (map joint_of v.items))
 sight-Joint a v = search (rules, the_lemmas, joints-map)
 
-pub sight-Access : (a : Box Expr Global) (v : Vec (Access Expr) Global) → sight (exprs.Access a v) ≡ as_post (parts_after (Start (sight a.value).prim) (map access_of v.items))
+pub sight-Access : (a : Box Expr Global) (v : Vec (Access Expr) Global) → sight (exprs.Access a v) ≡ as_post (chain_of (Start (sight a.value).prim) (map access_of v.items))
 sight-Access a v = search (rules, the_lemmas, accesses-map)
 
 -- ---- a form is also each greater form
@@ -171,6 +171,11 @@ map_more {Y = Y} f (y ∷ xs) x = ap (λ (ys : List Y). f y ∷ ys) (map_more f 
 
 pub one_more : {X : Type 0} (f : X → Word × Tree) (t : Tree) (xs : List X) (x : X) → parts_after t (map f (xs ++ x ∷ [])) ≡ More (parts_after t (map f xs)) (Both (Leaf (f x).0) (f x).1)
 one_more f t xs x = ap (λ (ys : List (Word × Tree)). parts_after t ys) (map_more f xs x) ∙ parts_more t (map f xs) (f x)
+
+-- a chain with parts is one
+pub chain_some : {X : Type 0} (f : X → Word × Tree) (t : Tree) (xs : List X) → (length xs ≡ 0 → ⊥) → chain_of t (map f xs) ≡ parts_after t (map f xs)
+chain_some f t [] some = absurd (some refl)
+chain_some f t (x ∷ xs) some = refl
 
 dot_word : (a : Access Expr) → (access_of a).0 ≡ words.Symbol symbols.Dot
 dot_word (accesses.Property p) = refl

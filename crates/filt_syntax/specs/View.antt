@@ -157,6 +157,11 @@ abbrev pub parts_after : Tree → List (Word × Tree) → Tree
 parts_after t [] = t
 parts_after t (x ∷ xs) = parts_after (More t (Both (Leaf x.0) x.1)) xs
 
+-- the parts of a chain behind its first; a chain without any has no tree of its own, since its first part is that
+abbrev pub chain_of : Tree → List (Word × Tree) → Tree
+chain_of t [] = Blank
+chain_of t (x ∷ xs) = parts_after t (x ∷ xs)
+
 -- one more, behind a comma
 abbrev pub with_next : Tree → Tree → Tree
 with_next t next = More t (Both (symbol_leaf sym.Comma) next)
@@ -239,12 +244,12 @@ sight_step (Expr-F.Mask at items) = as_prim (mask_tree at (mask_items_tree items
 sight_step (Expr-F.Defined at place attribute_at attribute) =
     as_prim (defined_tree at place (attribute_word attribute_at attribute))
 sight_step (Expr-F.MethodCall m place a b) = as_prim (method_call_tree m place a.value.expr b.value.expr)
-sight_step (Expr-F.Access e more) = as_post (parts_after (Start e.value.prim) (map access_part more.items))
+sight_step (Expr-F.Access e more) = as_post (chain_of (Start e.value.prim) (map access_part more.items))
 sight_step (Expr-F.Not at e) = as_unary (First (Inside (words.Placed at sym.Not) e.value.unary))
-sight_step (Expr-F.Product e more) = as_prod (parts_after (Start e.value.unary) (map factor_part more.items))
-sight_step (Expr-F.Sum e more) = as_sum (parts_after (Start e.value.prod) (map term_part more.items))
+sight_step (Expr-F.Product e more) = as_prod (chain_of (Start e.value.unary) (map factor_part more.items))
+sight_step (Expr-F.Sum e more) = as_sum (chain_of (Start e.value.prod) (map term_part more.items))
 sight_step (Expr-F.Compare op a b) = as_cmp (Both a.value.sum (First (Both (symbol_leaf (compare_symbol op)) b.value.sum)))
-sight_step (Expr-F.Joint e more) = as_expr (parts_after (Start e.value.cmp) (map joint_part more.items))
+sight_step (Expr-F.Joint e more) = as_expr (chain_of (Start e.value.cmp) (map joint_part more.items))
 
 abbrev pub sight : Expr → Sight
 sight = fold-Expr Sight sight_step

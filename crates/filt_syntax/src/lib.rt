@@ -5,6 +5,7 @@ mod block_words;
 mod bracket;
 mod expression;
 mod items;
+pub mod laws;
 mod operators;
 mod parse;
 pub mod parts;

@@ -16,7 +16,7 @@ strict asked after (Chain f g) = (strict asked after f && strict asked after g) 
 strict asked after (Nest p n) = asked n
 strict asked after (Unless p f) = strict asked after f
 
-apart : (p m s : Kind → Bool) (xs : List Word) → ((k : Kind) → p k ≡ true → m k ≡ true) → ((k : Kind) → (m k && s k) ≡ false) → ((w : Word) (ys : List Word) → xs ≡ w ∷ ys → s (kind_of w) ≡ true) → begins p xs ≡ false
+pub apart : (p m s : Kind → Bool) (xs : List Word) → ((k : Kind) → p k ≡ true → m k ≡ true) → ((k : Kind) → (m k && s k) ≡ false) → ((w : Word) (ys : List Word) → xs ≡ w ∷ ys → s (kind_of w) ≡ true) → begins p xs ≡ false
 apart p m s [] up off front = refl
 apart p m s (w ∷ ws) up off front = low (p (kind_of w)) (m (kind_of w)) (s (kind_of w)) (up (kind_of w)) (off (kind_of w)) (front w ws refl)
   where
@@ -24,7 +24,7 @@ apart p m s (w ∷ ws) up off front = low (p (kind_of w)) (m (kind_of w)) (s (ki
     low false b c up off front = refl
     low true b c up off front = let yes = up refl in let both : (true && true) ≡ false = rw (yes, front) at off in absurd cc
 
-front_starts : (f : Form) (xs : List Word) → Front f xs → (w : Word) (ys : List Word) → xs ≡ w ∷ ys → starts f (kind_of w) ≡ true
+pub front_starts : (f : Form) (xs : List Word) → Front f xs → (w : Word) (ys : List Word) → xs ≡ w ∷ ys → starts f (kind_of w) ≡ true
 front_starts f xs h w ys e = rw e at h
 
 module _ (rule : ℕ → Form) (model : ℕ → Tree) (after : ℕ → Kind → Bool) (checked : Checked rule model after) (asked : ℕ → Bool) (rules : (n : ℕ) → asked n ≡ true → strict asked after (rule n) ≡ true) where

@@ -23,7 +23,7 @@ same_code s r e = tag_one symbol_type.the_type tt s r (sym (code_tag s) ∙ e �
 nat_eq-refl : (n : ℕ) → nat_eq n n ≡ true
 nat_eq-refl n = grind (arith, nat_tests)
 
-nat_eq-is : (m n : ℕ) → nat_eq m n ≡ true → m ≡ n
+pub nat_eq-is : (m n : ℕ) → nat_eq m n ≡ true → m ≡ n
 nat_eq-is m n e = grind (arith, nat_tests)
 
 same_symbol : (s r : Symbol) → symbol s (IsSymbol r) ≡ true → s ≡ r

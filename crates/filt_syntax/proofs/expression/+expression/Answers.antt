@@ -1,11 +1,11 @@
-use Rattle.std.proofs.Common.{◌≡◌, List, [], ◌∷◌, ◌++◌, length, drop, map, refl, sym, ap, ◌∙◌, arith, rules, vec_len}
+use Rattle.std.proofs.Common.{◌≡◌, Bool, true, false, List, [], ◌∷◌, ◌++◌, length, drop, map, refl, sym, ap, ◌∙◌, arith, rules, vec_len}
 use Rattle.std.proofs.lemmas.Result.{err_from_is_err_and}
 use Rattle.std.proofs.lemmas.List.{length-append}
 use Rattle.conf_lex.specs.declared.symbol.Symbol.TheVariants as symbols
 use Rattle.conf_lex.specs.declared.word.Word.{Word}
 use Rattle.conf_lex.specs.declared.word.Word.TheVariants as words
-use Rattle.grammar.specs.Grammar.{Tree, First, Start}
-use Rattle.grammar.specs.Kind.{symbol}
+use Rattle.grammar.specs.Grammar.{Tree, First, Start, begins}
+use Rattle.grammar.specs.Kind.{Kind, kind_of, symbol}
 use Rattle.grammar.specs.Reading.{Read, Got, and_then}
 use Rattle.grammar.specs.Shapes.{links}
 use Rattle.grammar.proofs.Shapes.{fails_along, fails_then, gives_along, links_more, links_fail, links_end, optional_alone, optional_pair, optional_first_fails, optional_second_fails}
@@ -18,11 +18,20 @@ use Rattle.filt_syntax.specs.Syntax.{is_compare, is_term, is_factor, is_joint, g
 use Rattle.filt_syntax.specs.View.{sight, parts_after, access_of, factor_of, term_of, joint_of, listed_tree, expr_trees, compare_symbol, term_symbol, factor_symbol, joint_symbol}
 use Rattle.filt_syntax.specs.Readers.{expr_at, cmp_at, sum_at, prod_at, unary_at, post_at, prim_at, behind_dot_at, named_at, inside_at}
 use Rattle.filt_syntax.proofs.Steps.{joint_turns, expr_is, term_turns, sum_is, factor_turns, prod_is, dot_turns, post_is, comma_turns, cmp_is, group_is, expr_shorter, cmp_shorter, prod_shorter, unary_shorter, behind_shorter, joint_passes, compare_passes, term_passes, factor_passes, level_unopened, level_deep, level_inside_fails, level_end_fails, level_got, argument_inside, two_first_fails, two_comma_fails, two_second_fails, two_got, prim_simple, prim_named, group_fails, group_got, method_call_fails, method_call_got, prim_bad, not_too_deep, not_fails, not_got, unary_post, behind_property, behind_fails, behind_got, method_bad, method_fails, method_got, named_none, named_fails, named_got, arguments_empty, arguments_some, arguments_fail}
-use Rattle.filt_syntax.proofs.Sights.{lifts, sight-Simple, sight-Name, sight-Call, sight-Product, sight-Sum, sight-Joint, sight-Access, sight-Group, sight-Pair, sight-MethodCall, compare_of, not_of, one_more, one_more_access, one_more_expr, arguments_listed, gives_unary}
+use Rattle.filt_syntax.proofs.Sights.{lifts, sight-Simple, sight-Name, sight-Call, sight-Product, sight-Sum, sight-Joint, sight-Access, sight-Group, sight-Pair, sight-MethodCall, compare_of, not_of, one_more, chain_some, one_more_access, one_more_expr, arguments_listed, gives_unary}
 use Rattle.filt_syntax.proofs.expression.+expression.Goals as goal
 
 same_tail : (v w : Word) (us vs ws : List Word) → ws ≡ v ∷ us → ws ≡ w ∷ vs → us ≡ vs
 same_tail v w us vs ws p q = ap (λ (x : List Word). drop 1 x) (sym p ∙ q)
+
+more_than_none : {X : Type 0} (xs : List X) (x : X) → length (xs ++ x ∷ []) ≡ 0 → ⊥
+more_than_none xs x none = omega (arith, none, length-append xs (x ∷ []))
+
+not_both : (P : Type 0) (b : Bool) → (P → b ≡ true) → b ≡ false → P → ⊥
+not_both P b must off p = let e = must p in cc
+
+begins_with : (p : Kind → Bool) (ws : List Word) (w : Word) (us : List Word) → ws ≡ w ∷ us → p (kind_of w) ≡ true → begins p ws ≡ true
+begins_with p ws w us is passes = rw is passes
 
 -- ---- expression
 
@@ -36,13 +45,13 @@ pub expression-loop-joint-init : goal.expression-loop-joint-init
 expression-loop-joint-init t c =
     let none : c.new-more.result.items ≡ [] = search rules in
     let boxed : c.in_ok-first.first.value ≡ c.in_ok-value.value = search rules in
-    rw (none, boxed) (expr_is c.args.left c.args.words.now ∙ rw c.in_ok-value.ensures.tree refl)
+    record { some = λ none_yet. begins_with is_joint _ _ _ c.in-Some.ensures (joint_passes c.in-Some.field-0.0); reading = rw (none, boxed) (expr_is c.args.left c.args.words.now ∙ rw c.in_ok-value.ensures.tree refl) }
 
 pub expression-returns-in_err-operand : goal.expression-returns-in_err-operand
 expression-returns-in_err-operand t c =
     let p = err_from_is_err_and c.from_residual-in_err-operand.result c.from_residual-in_err-operand.ensures.1 in
     let k = c.args.left in
-    rw (p.1, p.2) (fails_along _ _ _ c.loop-joint.invariant (links_fail is_joint (cmp_at k) (joint_turns k) _ c.loop-joint.rest.now (words.Symbol (joint_symbol c.in-Some-next_joint.joint)) c.in-Some-next_joint.next.now c.in_err-operand.field-0.0 c.in-Some-next_joint.ensures (joint_passes c.in-Some-next_joint.joint) c.in_err-operand.ensures.tree))
+    rw (p.1, p.2) (fails_along _ _ _ c.loop-joint.invariant.reading (links_fail is_joint (cmp_at k) (joint_turns k) _ c.loop-joint.rest.now (words.Symbol (joint_symbol c.in-Some-next_joint.joint)) c.in-Some-next_joint.next.now c.in_err-operand.field-0.0 c.in-Some-next_joint.ensures (joint_passes c.in-Some-next_joint.joint) c.in_err-operand.ensures.tree))
 
 pub expression-loop-joint-smaller : goal.expression-loop-joint-smaller
 expression-loop-joint-smaller t c = omega (arith, cmp_shorter c.args.left c.in-Some-next_joint.next.now _ c.in_ok-operand.end.now c.in_ok-operand.ensures.tree, ap (λ (ws : List Word). length ws) c.in-Some-next_joint.ensures)
@@ -55,7 +64,7 @@ expression-loop-joint-preserved t c =
     let first = Start (sight c.in_ok-first.first.value).cmp in
     let pushed : c.push.new.self.items ≡ xs ++ x ∷ [] = search rules in
     let turn = links_more is_joint (cmp_at k) (joint_turns k) (parts_after first (map joint_of xs)) c.loop-joint.rest.now (words.Symbol (joint_symbol c.in-Some-next_joint.joint)) c.in-Some-next_joint.next.now (joint_of x).1 c.in_ok-operand.end.now c.in-Some-next_joint.ensures (joint_passes c.in-Some-next_joint.joint) c.in_ok-operand.ensures.tree in
-    rw pushed (c.loop-joint.invariant ∙ turn ∙ ap (λ (u : Tree). links is_joint (cmp_at k) u c.in_ok-operand.end.now) (sym (one_more joint_of first xs x)))
+    record { some = λ none. absurd (more_than_none xs x (rw pushed at none)); reading = rw pushed (c.loop-joint.invariant.reading ∙ turn ∙ ap (λ (u : Tree). links is_joint (cmp_at k) u c.in_ok-operand.end.now) (sym (one_more joint_of first xs x))) }
 
 pub expression-returns-in_default : goal.expression-returns-in_default
 expression-returns-in_default t c =
@@ -66,7 +75,8 @@ expression-returns-in_default t c =
 pub expression-returns : goal.expression-returns
 expression-returns t c =
     let k = c.args.left in
-    rw (sight-Joint c.in_ok-first.first c.loop-joint.more) (c.loop-joint.invariant ∙ links_end is_joint (cmp_at k) (joint_turns k) _ c.loop-joint.rest.now c.in_default-next_joint.ensures)
+    let some = not_both _ (begins is_joint c.loop-joint.rest.now) c.loop-joint.invariant.some c.in_default-next_joint.ensures in
+    rw (sight-Joint c.in_ok-first.first c.loop-joint.more, chain_some joint_of (Start (sight c.in_ok-first.first.value).cmp) c.loop-joint.more.items some) (c.loop-joint.invariant.reading ∙ links_end is_joint (cmp_at k) (joint_turns k) _ c.loop-joint.rest.now c.in_default-next_joint.ensures)
 
 -- ---- boxed
 
@@ -92,13 +102,13 @@ pub sum-loop-term-init : goal.sum-loop-term-init
 sum-loop-term-init t c =
     let none : c.new-more.result.items ≡ [] = search rules in
     let boxed : c.in_ok-first.first.value ≡ c.in_ok-value.value = search rules in
-    rw (none, boxed) (sum_is c.args.left c.args.words.now ∙ rw c.in_ok-value.ensures.tree refl)
+    record { some = λ none_yet. begins_with is_term _ _ _ c.in-Some.ensures (term_passes c.in-Some.field-0.0); reading = rw (none, boxed) (sum_is c.args.left c.args.words.now ∙ rw c.in_ok-value.ensures.tree refl) }
 
 pub sum-returns-in_err-operand-clause-tree : goal.sum-returns-in_err-operand-clause-tree
 sum-returns-in_err-operand-clause-tree t c =
     let p = err_from_is_err_and c.from_residual-in_err-operand.result c.from_residual-in_err-operand.ensures.1 in
     let k = c.args.left in
-    rw (p.1, p.2) (fails_along _ _ _ c.loop-term.invariant (links_fail is_term (prod_at k) (term_turns k) _ c.loop-term.rest.now (words.Symbol (term_symbol c.in-Some-next_term.term)) c.in-Some-next_term.next.now c.in_err-operand.field-0.0 c.in-Some-next_term.ensures (term_passes c.in-Some-next_term.term) c.in_err-operand.ensures.tree))
+    rw (p.1, p.2) (fails_along _ _ _ c.loop-term.invariant.reading (links_fail is_term (prod_at k) (term_turns k) _ c.loop-term.rest.now (words.Symbol (term_symbol c.in-Some-next_term.term)) c.in-Some-next_term.next.now c.in_err-operand.field-0.0 c.in-Some-next_term.ensures (term_passes c.in-Some-next_term.term) c.in_err-operand.ensures.tree))
 
 pub sum-loop-term-smaller : goal.sum-loop-term-smaller
 sum-loop-term-smaller t c = omega (arith, prod_shorter c.args.left c.in-Some-next_term.next.now _ c.in_ok-operand.end.now c.in_ok-operand.ensures.tree, ap (λ (ws : List Word). length ws) c.in-Some-next_term.ensures)
@@ -111,7 +121,7 @@ sum-loop-term-preserved t c =
     let first = Start (sight c.in_ok-first.first.value).prod in
     let pushed : c.push.new.self.items ≡ xs ++ x ∷ [] = search rules in
     let turn = links_more is_term (prod_at k) (term_turns k) (parts_after first (map term_of xs)) c.loop-term.rest.now (words.Symbol (term_symbol c.in-Some-next_term.term)) c.in-Some-next_term.next.now (term_of x).1 c.in_ok-operand.end.now c.in-Some-next_term.ensures (term_passes c.in-Some-next_term.term) c.in_ok-operand.ensures.tree in
-    rw pushed (c.loop-term.invariant ∙ turn ∙ ap (λ (u : Tree). links is_term (prod_at k) u c.in_ok-operand.end.now) (sym (one_more term_of first xs x)))
+    record { some = λ none. absurd (more_than_none xs x (rw pushed at none)); reading = rw pushed (c.loop-term.invariant.reading ∙ turn ∙ ap (λ (u : Tree). links is_term (prod_at k) u c.in_ok-operand.end.now) (sym (one_more term_of first xs x))) }
 
 pub sum-returns-in_default-clause-tree : goal.sum-returns-in_default-clause-tree
 sum-returns-in_default-clause-tree t c =
@@ -125,7 +135,8 @@ sum-returns-in_default-clause-rank t c = omega (arith, c.in_ok-value.ensures.ran
 pub sum-returns-clause-tree : goal.sum-returns-clause-tree
 sum-returns-clause-tree t c =
     let k = c.args.left in
-    rw (sight-Sum c.in_ok-first.first c.loop-term.more) (c.loop-term.invariant ∙ links_end is_term (prod_at k) (term_turns k) _ c.loop-term.rest.now c.in_default-next_term.ensures)
+    let some = not_both _ (begins is_term c.loop-term.rest.now) c.loop-term.invariant.some c.in_default-next_term.ensures in
+    rw (sight-Sum c.in_ok-first.first c.loop-term.more, chain_some term_of (Start (sight c.in_ok-first.first.value).prod) c.loop-term.more.items some) (c.loop-term.invariant.reading ∙ links_end is_term (prod_at k) (term_turns k) _ c.loop-term.rest.now c.in_default-next_term.ensures)
 
 -- ---- product
 
@@ -139,13 +150,13 @@ pub product-loop-factor-init : goal.product-loop-factor-init
 product-loop-factor-init t c =
     let none : c.new-more.result.items ≡ [] = search rules in
     let boxed : c.in_ok-first.first.value ≡ c.in_ok-value.value = search rules in
-    rw (none, boxed) (prod_is c.args.left c.args.words.now ∙ rw c.in_ok-value.ensures.tree refl)
+    record { some = λ none_yet. begins_with is_factor _ _ _ c.in-Some.ensures (factor_passes c.in-Some.field-0.0); reading = rw (none, boxed) (prod_is c.args.left c.args.words.now ∙ rw c.in_ok-value.ensures.tree refl) }
 
 pub product-returns-in_err-second-clause-tree : goal.product-returns-in_err-second-clause-tree
 product-returns-in_err-second-clause-tree t c =
     let p = err_from_is_err_and c.from_residual-in_err-second.result c.from_residual-in_err-second.ensures.1 in
     let k = c.args.left in
-    rw (p.1, p.2) (fails_along _ _ _ c.loop-factor.invariant (links_fail is_factor (unary_at k) (factor_turns k) _ c.loop-factor.rest.now (words.Symbol (factor_symbol c.in-Some-next_factor.factor)) c.in-Some-next_factor.next.now c.in_err-second.field-0.0 c.in-Some-next_factor.ensures (factor_passes c.in-Some-next_factor.factor) c.in_err-second.ensures.tree))
+    rw (p.1, p.2) (fails_along _ _ _ c.loop-factor.invariant.reading (links_fail is_factor (unary_at k) (factor_turns k) _ c.loop-factor.rest.now (words.Symbol (factor_symbol c.in-Some-next_factor.factor)) c.in-Some-next_factor.next.now c.in_err-second.field-0.0 c.in-Some-next_factor.ensures (factor_passes c.in-Some-next_factor.factor) c.in_err-second.ensures.tree))
 
 pub product-loop-factor-smaller : goal.product-loop-factor-smaller
 product-loop-factor-smaller t c = omega (arith, unary_shorter c.args.left c.in-Some-next_factor.next.now _ c.in_ok-second.end.now c.in_ok-second.ensures.tree, ap (λ (ws : List Word). length ws) c.in-Some-next_factor.ensures)
@@ -158,7 +169,7 @@ product-loop-factor-preserved t c =
     let first = Start (sight c.in_ok-first.first.value).unary in
     let pushed : c.push.new.self.items ≡ xs ++ x ∷ [] = search rules in
     let turn = links_more is_factor (unary_at k) (factor_turns k) (parts_after first (map factor_of xs)) c.loop-factor.rest.now (words.Symbol (factor_symbol c.in-Some-next_factor.factor)) c.in-Some-next_factor.next.now (factor_of x).1 c.in_ok-second.end.now c.in-Some-next_factor.ensures (factor_passes c.in-Some-next_factor.factor) c.in_ok-second.ensures.tree in
-    rw pushed (c.loop-factor.invariant ∙ turn ∙ ap (λ (u : Tree). links is_factor (unary_at k) u c.in_ok-second.end.now) (sym (one_more factor_of first xs x)))
+    record { some = λ none. absurd (more_than_none xs x (rw pushed at none)); reading = rw pushed (c.loop-factor.invariant.reading ∙ turn ∙ ap (λ (u : Tree). links is_factor (unary_at k) u c.in_ok-second.end.now) (sym (one_more factor_of first xs x))) }
 
 pub product-returns-in_default-clause-tree : goal.product-returns-in_default-clause-tree
 product-returns-in_default-clause-tree t c =
@@ -172,7 +183,8 @@ product-returns-in_default-clause-rank t c = omega (arith, c.in_ok-value.ensures
 pub product-returns-clause-tree : goal.product-returns-clause-tree
 product-returns-clause-tree t c =
     let k = c.args.left in
-    rw (sight-Product c.in_ok-first.first c.loop-factor.more) (c.loop-factor.invariant ∙ links_end is_factor (unary_at k) (factor_turns k) _ c.loop-factor.rest.now c.in_default-next_factor.ensures)
+    let some = not_both _ (begins is_factor c.loop-factor.rest.now) c.loop-factor.invariant.some c.in_default-next_factor.ensures in
+    rw (sight-Product c.in_ok-first.first c.loop-factor.more, chain_some factor_of (Start (sight c.in_ok-first.first.value).unary) c.loop-factor.more.items some) (c.loop-factor.invariant.reading ∙ links_end is_factor (unary_at k) (factor_turns k) _ c.loop-factor.rest.now c.in_default-next_factor.ensures)
 
 -- ---- accessed
 
@@ -186,13 +198,13 @@ pub accessed-loop-next-init : goal.accessed-loop-next-init
 accessed-loop-next-init t c =
     let none : c.new-more.result.items ≡ [] = search rules in
     let boxed : c.in_ok-first.first.value ≡ c.in_ok-value.value = search rules in
-    rw (none, boxed) (post_is c.args.left c.args.words.now ∙ rw c.in_ok-value.ensures.tree refl)
+    record { some = λ none_yet. begins_with (symbol symbols.Dot) _ _ _ c.in-Some.ensures refl; reading = rw (none, boxed) (post_is c.args.left c.args.words.now ∙ rw c.in_ok-value.ensures.tree refl) }
 
 pub accessed-returns-in_err-accessed-clause-tree : goal.accessed-returns-in_err-accessed-clause-tree
 accessed-returns-in_err-accessed-clause-tree t c =
     let p = err_from_is_err_and c.from_residual-in_err-accessed.result c.from_residual-in_err-accessed.ensures.1 in
     let k = c.args.left in
-    rw (p.1, p.2) (fails_along _ _ _ c.loop-next.invariant (links_fail (symbol symbols.Dot) (behind_dot_at k) (dot_turns k) _ c.loop-next.rest.now (words.Symbol symbols.Dot) c.in-Some-after.next.now c.in_err-accessed.field-0.0 c.in-Some-after.ensures refl c.in_err-accessed.ensures))
+    rw (p.1, p.2) (fails_along _ _ _ c.loop-next.invariant.reading (links_fail (symbol symbols.Dot) (behind_dot_at k) (dot_turns k) _ c.loop-next.rest.now (words.Symbol symbols.Dot) c.in-Some-after.next.now c.in_err-accessed.field-0.0 c.in-Some-after.ensures refl c.in_err-accessed.ensures))
 
 pub accessed-loop-next-smaller : goal.accessed-loop-next-smaller
 accessed-loop-next-smaller t c = omega (arith, behind_shorter c.args.left c.in-Some-after.next.now _ c.in_ok-accessed.end.now c.in_ok-accessed.ensures, ap (λ (ws : List Word). length ws) c.in-Some-after.ensures)
@@ -205,7 +217,7 @@ accessed-loop-next-preserved t c =
     let first = Start (sight c.in_ok-first.first.value).prim in
     let pushed : c.push.new.self.items ≡ xs ++ x ∷ [] = search rules in
     let turn = links_more (symbol symbols.Dot) (behind_dot_at k) (dot_turns k) (parts_after first (map access_of xs)) c.loop-next.rest.now (words.Symbol symbols.Dot) c.in-Some-after.next.now (access_of x).1 c.in_ok-accessed.end.now c.in-Some-after.ensures refl c.in_ok-accessed.ensures in
-    rw pushed (c.loop-next.invariant ∙ turn ∙ ap (λ (u : Tree). links (symbol symbols.Dot) (behind_dot_at k) u c.in_ok-accessed.end.now) (sym (one_more_access first xs x)))
+    record { some = λ none. absurd (more_than_none xs x (rw pushed at none)); reading = rw pushed (c.loop-next.invariant.reading ∙ turn ∙ ap (λ (u : Tree). links (symbol symbols.Dot) (behind_dot_at k) u c.in_ok-accessed.end.now) (sym (one_more_access first xs x))) }
 
 pub accessed-returns-in_default-clause-tree : goal.accessed-returns-in_default-clause-tree
 accessed-returns-in_default-clause-tree t c =
@@ -219,7 +231,8 @@ accessed-returns-in_default-clause-rank t c = omega (arith, c.in_ok-value.ensure
 pub accessed-returns-clause-tree : goal.accessed-returns-clause-tree
 accessed-returns-clause-tree t c =
     let k = c.args.left in
-    rw (sight-Access c.in_ok-first.first c.loop-next.more) (c.loop-next.invariant ∙ links_end (symbol symbols.Dot) (behind_dot_at k) (dot_turns k) _ c.loop-next.rest.now c.in_default-after.ensures)
+    let some = not_both _ (begins (symbol symbols.Dot) c.loop-next.rest.now) c.loop-next.invariant.some c.in_default-after.ensures in
+    rw (sight-Access c.in_ok-first.first c.loop-next.more, chain_some access_of (Start (sight c.in_ok-first.first.value).prim) c.loop-next.more.items some) (c.loop-next.invariant.reading ∙ links_end (symbol symbols.Dot) (behind_dot_at k) (dot_turns k) _ c.loop-next.rest.now c.in_default-after.ensures)
 
 -- ---- comparisons
 

@@ -1,9 +1,9 @@
-use Rattle.std.proofs.Common.{◌≡◌, ℕ, ◌≤◌, ◌+◌, ◌*◌, List, ◌∷◌, length, map}
+use Rattle.std.proofs.Common.{◌≡◌, ℕ, true, ◌≤◌, ◌+◌, ◌*◌, List, ◌∷◌, length, map}
 use Rattle.conf_lex.specs.declared.word.Word.{Word}
 use Rattle.conf_lex.specs.declared.word.Word.TheVariants as words
 use Rattle.conf_lex.specs.declared.symbol.Symbol.TheVariants as symbols
 use Rattle.grammar.specs.Kind.{symbol}
-use Rattle.grammar.specs.Grammar.{First, Start}
+use Rattle.grammar.specs.Grammar.{First, Start, begins}
 use Rattle.grammar.specs.Reading.{Got, and_then}
 use Rattle.grammar.specs.Shapes.{links}
 use Rattle.filt_syntax.specs.Syntax.{is_term, is_factor, is_joint, arguments_level}
@@ -55,25 +55,37 @@ abbrev pub decreases-arguments : goal.decreases-arguments
 decreases-arguments l = 16 * l.left + 2
 
 abbrev pub invariant-expression-loop-joint : goal.invariant-expression-loop-joint
-invariant-expression-loop-joint l = expr_at l.left l.words ≡ links is_joint (cmp_at l.left) (parts_after (Start (sight l.first.value).cmp) (map joint_of l.more.items)) l.rest
+invariant-expression-loop-joint l = record {
+  some : length l.more.items ≡ 0 → begins is_joint l.rest ≡ true;
+  reading : expr_at l.left l.words ≡ links is_joint (cmp_at l.left) (parts_after (Start (sight l.first.value).cmp) (map joint_of l.more.items)) l.rest;
+}
 
 abbrev pub decreases-expression-loop-joint : goal.decreases-expression-loop-joint
 decreases-expression-loop-joint l = length l.rest
 
 abbrev pub invariant-sum-loop-term : goal.invariant-sum-loop-term
-invariant-sum-loop-term l = sum_at l.left l.words ≡ links is_term (prod_at l.left) (parts_after (Start (sight l.first.value).prod) (map term_of l.more.items)) l.rest
+invariant-sum-loop-term l = record {
+  some : length l.more.items ≡ 0 → begins is_term l.rest ≡ true;
+  reading : sum_at l.left l.words ≡ links is_term (prod_at l.left) (parts_after (Start (sight l.first.value).prod) (map term_of l.more.items)) l.rest;
+}
 
 abbrev pub decreases-sum-loop-term : goal.decreases-sum-loop-term
 decreases-sum-loop-term l = length l.rest
 
 abbrev pub invariant-product-loop-factor : goal.invariant-product-loop-factor
-invariant-product-loop-factor l = prod_at l.left l.words ≡ links is_factor (unary_at l.left) (parts_after (Start (sight l.first.value).unary) (map factor_of l.more.items)) l.rest
+invariant-product-loop-factor l = record {
+  some : length l.more.items ≡ 0 → begins is_factor l.rest ≡ true;
+  reading : prod_at l.left l.words ≡ links is_factor (unary_at l.left) (parts_after (Start (sight l.first.value).unary) (map factor_of l.more.items)) l.rest;
+}
 
 abbrev pub decreases-product-loop-factor : goal.decreases-product-loop-factor
 decreases-product-loop-factor l = length l.rest
 
 abbrev pub invariant-accessed-loop-next : goal.invariant-accessed-loop-next
-invariant-accessed-loop-next l = post_at l.left l.words ≡ links (symbol symbols.Dot) (behind_dot_at l.left) (parts_after (Start (sight l.first.value).prim) (map access_of l.more.items)) l.rest
+invariant-accessed-loop-next l = record {
+  some : length l.more.items ≡ 0 → begins (symbol symbols.Dot) l.rest ≡ true;
+  reading : post_at l.left l.words ≡ links (symbol symbols.Dot) (behind_dot_at l.left) (parts_after (Start (sight l.first.value).prim) (map access_of l.more.items)) l.rest;
+}
 
 abbrev pub decreases-accessed-loop-next : goal.decreases-accessed-loop-next
 decreases-accessed-loop-next l = length l.rest
