@@ -4,10 +4,12 @@
 mod block_words;
 mod bracket;
 mod expression;
+mod followed;
 mod items;
 mod operators;
 mod parse;
 pub mod parts;
+mod refused_token;
 mod simple_statement;
 mod statement;
 mod tokens;
