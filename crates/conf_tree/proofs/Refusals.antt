@@ -13,11 +13,13 @@ use Rattle.grammar.specs.Sentences.{IsBegunWithin, IsTooDeep}
 use Rattle.filt_syntax.specs.Syntax.{rule}
 use Rattle.filt_syntax.specs.declared.parse.SyntaxFault.{SyntaxFault}
 use Rattle.filt_syntax.specs.declared.parse.SyntaxFault.TheVariants as faults
+use Rattle.filt_syntax.specs.RefusedToken.{IsPastAt, IsBadFrom}
+use Rattle.filt_syntax.proofs.RefusedTokens.{one_past_at}
 use Rattle.grammar.proofs.Shapes.{bad_from, deep_from}
 use Rattle.conf_tree.specs.Syntax.{config}
 use Rattle.conf_tree.specs.Readers.{whole_at}
 use Rattle.conf_tree.specs.Said.{said_words, said_starts, token_of}
-use Rattle.conf_tree.specs.Sentence.{first_bytes, IsUnsupported, IsKnown, Refuses, IsSentence, IsStop, StopsAt, DeepensAt, IsRefused, IsTree, IsAnswered}
+use Rattle.conf_tree.specs.Sentence.{word_bytes, IsUnsupported, IsKnown, Refuses, IsBadAt, IsSentence, IsStop, StopsAt, DeepensAt, IsRefused, IsTree, IsAnswered}
 use Rattle.conf_tree.specs.View.{config_view}
 use Rattle.conf_tree.specs.declared.tree.Config.{Config}
 use Rattle.conf_tree.proofs.Whole.{got_sentence, sentence_is, bad_is_stop, stop_is_bad, deep_is_deep, deep_is_fault}
@@ -54,19 +56,29 @@ stops_at : (text : List ℕ) (tokens : List Token) (rest : List Word) (place at 
 stops_at text tokens rest place at len is s =
     record { within = omega (arith, len); stop = subst (λ (u : List Word). IsStop (said_words text tokens) u) (sym (rest_at (said_words text tokens) s.before rest place len s.front)) s; token = is }
 
-stop_told : (text : List ℕ) (tokens : List Token) (rest : List Word) (place at : ℕ) → place + length rest ≡ length (said_words text tokens) → at ≡ token_of text tokens place → IsStop (said_words text tokens) rest → (e : SyntaxFault) → Refuses (IsSomeAnd (first_bytes text (drop at tokens)) (IsUnsupported (take place (said_words text tokens)))) at e → IsRefused text tokens e
-stop_told text tokens rest place at len is s (faults.Bad token) h = (place, stops_at text tokens rest place token len (h.0 ∙ is) s, λ known. h.1 (subst (λ (n : ℕ). IsSomeAnd (first_bytes text (drop n tokens)) (IsUnsupported (take place (said_words text tokens)))) h.0 known))
-stop_told text tokens rest place at len is s (faults.Unsupported token) h = (place, stops_at text tokens rest place token len (h.0 ∙ is) s, subst (λ (n : ℕ). IsSomeAnd (first_bytes text (drop n tokens)) (IsUnsupported (take place (said_words text tokens)))) (sym h.0) h.1)
+-- what is known of the word in this place of these
+abbrev Known : List ℕ → List Token → List Word → ℕ → ℕ → Type 0
+Known text tokens said place at = IsSomeAnd (word_bytes (drop place said) text (drop at tokens)) (IsUnsupported (take place said))
+
+pub bad_refuses : (known : Type 0) (said : List Word) (place at : ℕ) (e : SyntaxFault) → (known → ⊥) → IsBadFrom config said place at e → Refuses known said place at e
+bad_refuses known said place at (faults.Bad token) none h = (none, h.0, h.1, h.2)
+bad_refuses known said place at (faults.TooDeep token) none h = h
+bad_refuses known said place at (faults.Unsupported token) none h = absurd h
+bad_refuses known said place at faults.Memory none h = tt
+
+stop_told : (text : List ℕ) (tokens : List Token) (rest : List Word) (place at : ℕ) → place + length rest ≡ length (said_words text tokens) → at ≡ token_of text tokens place → IsStop (said_words text tokens) rest → (e : SyntaxFault) → Refuses (Known text tokens (said_words text tokens) place at) (said_words text tokens) place at e → IsRefused text tokens e
+stop_told text tokens rest place at len is s (faults.Bad token) h = (place, record { start = at; stops = stops_at text tokens rest place at len is s; unknown = h.0; past = h.1; is_past = h.2; token = h.3 })
+stop_told text tokens rest place at len is s (faults.Unsupported token) h = (place, stops_at text tokens rest place token len (h.0 ∙ is) s, subst (λ (n : ℕ). Known text tokens (said_words text tokens) place n) (sym h.0) h.1)
 stop_told text tokens rest place at len is s (faults.TooDeep token) h = absurd h
 stop_told text tokens rest place at len is s faults.Memory h = tt
 
-pub stop_refused : (text : List ℕ) (tokens : List Token) (said : List Word) (starts : List ℕ) → said ≡ said_words text tokens → starts ≡ said_starts text tokens → (rest : List Word) (place at : ℕ) → place + length rest ≡ length said → at ≡ slice_index_or starts place (length tokens) → IsStop said rest → (e : SyntaxFault) → Refuses (IsSomeAnd (first_bytes text (drop at tokens)) (IsUnsupported (take place said))) at e → IsRefused text tokens e
+pub stop_refused : (text : List ℕ) (tokens : List Token) (said : List Word) (starts : List ℕ) → said ≡ said_words text tokens → starts ≡ said_starts text tokens → (rest : List Word) (place at : ℕ) → place + length rest ≡ length said → at ≡ slice_index_or starts place (length tokens) → IsStop said rest → (e : SyntaxFault) → Refuses (IsSomeAnd (word_bytes (drop place said) text (drop at tokens)) (IsUnsupported (take place said))) said place at e → IsRefused text tokens e
 stop_refused text tokens said starts words-are starts-are rest place at len is s e h =
     stop_told text tokens rest place at
     (subst (λ (u : List Word). place + length rest ≡ length u) words-are len)
     (subst (λ (u : List ℕ). at ≡ slice_index_or u place (length tokens)) starts-are is)
     (subst (λ (u : List Word). IsStop u rest) words-are s) e
-    (subst (λ (u : List Word). Refuses (IsSomeAnd (first_bytes text (drop at tokens)) (IsUnsupported (take place u))) at e) words-are h)
+    (subst (λ (u : List Word). Refuses (Known text tokens u place at) u place at e) words-are h)
 
 deep_told : (text : List ℕ) (tokens : List Token) (rest : List Word) (place at : ℕ) → place + length rest ≡ length (said_words text tokens) → at ≡ token_of text tokens place → IsTooDeep rule 64 config (said_words text tokens) rest → IsRefused text tokens (faults.TooDeep at)
 deep_told text tokens rest place at len is h =
@@ -106,6 +118,12 @@ stop_not_deep text tokens m n a b h g =
     let same : Fault Bad (drop m (said_words text tokens)) ≡ Fault TooDeep (drop n (said_words text tokens)) = sym one ∙ two in
     cc
 
+bads_same : (text : List ℕ) (tokens : List Token) (m n a b : ℕ) → IsBadAt text tokens m a → IsBadAt text tokens n b → a ≡ b
+bads_same text tokens m n a b h g =
+    let same = stops_same text tokens m n h.start g.start h.stops g.stops in
+    let past = one_past_at config (said_words text tokens) n h.past g.past (subst (λ (k : ℕ). IsPastAt config (said_words text tokens) k h.past) same.0 h.is_past) g.is_past in
+    omega (arith, h.token, g.token, same.1, past)
+
 known_same : (text : List ℕ) (tokens : List Token) (m n a b : ℕ) → (m ≡ n) × (a ≡ b) → IsKnown text tokens m a → IsKnown text tokens n b
 known_same text tokens m n a b same known = subst (λ (k : ℕ). IsKnown text tokens k b) same.0 (subst (λ (k : ℕ). IsKnown text tokens m k) same.1 known)
 
@@ -121,13 +139,13 @@ sentence_no_deep text tokens t m a s h =
 
 -- words that are a configuration are refused at no place
 pub sentence_memory : (text : List ℕ) (tokens : List Token) (t : Tree) → IsSentence (said_words text tokens) t → (e : SyntaxFault) → IsRefused text tokens e → e ≡ faults.Memory
-sentence_memory text tokens t s (faults.Bad at) h = absurd (sentence_no_stop text tokens t h.0 at s h.1)
+sentence_memory text tokens t s (faults.Bad at) h = absurd (sentence_no_stop text tokens t h.0 h.1.start s h.1.stops)
 sentence_memory text tokens t s (faults.Unsupported at) h = absurd (sentence_no_stop text tokens t h.0 at s h.1)
 sentence_memory text tokens t s (faults.TooDeep at) h = absurd (sentence_no_deep text tokens t h.0 at s h.1)
 sentence_memory text tokens t s faults.Memory h = refl
 
 pub sentence_exact : (text : List ℕ) (tokens : List Token) (c : Config) → IsSentence (said_words text tokens) (config_view c) → (e : SyntaxFault) → IsRefused text tokens e → IsAnswered (Ok c) e
-sentence_exact text tokens c s (faults.Bad at) h = sentence_no_stop text tokens (config_view c) h.0 at s h.1
+sentence_exact text tokens c s (faults.Bad at) h = sentence_no_stop text tokens (config_view c) h.0 h.1.start s h.1.stops
 sentence_exact text tokens c s (faults.Unsupported at) h = sentence_no_stop text tokens (config_view c) h.0 at s h.1
 sentence_exact text tokens c s (faults.TooDeep at) h = sentence_no_deep text tokens (config_view c) h.0 at s h.1
 sentence_exact text tokens c s faults.Memory h = tt
@@ -142,13 +160,13 @@ one_fault text tokens d h faults.Memory g = tt
 one_fault text tokens faults.Memory h (faults.Bad b) g = inl refl
 one_fault text tokens faults.Memory h (faults.TooDeep b) g = inl refl
 one_fault text tokens faults.Memory h (faults.Unsupported b) g = inl refl
-one_fault text tokens (faults.Bad a) h (faults.Bad b) g = inr (ap (λ (n : ℕ). faults.Bad n) (stops_same text tokens h.0 g.0 a b h.1 g.1).1)
-one_fault text tokens (faults.Bad a) h (faults.TooDeep b) g = absurd (stop_not_deep text tokens h.0 g.0 a b h.1 g.1)
-one_fault text tokens (faults.Bad a) h (faults.Unsupported b) g = absurd (h.2 (known_same text tokens g.0 h.0 b a (stops_same text tokens g.0 h.0 b a g.1 h.1) g.2))
-one_fault text tokens (faults.TooDeep a) h (faults.Bad b) g = absurd (stop_not_deep text tokens g.0 h.0 b a g.1 h.1)
+one_fault text tokens (faults.Bad a) h (faults.Bad b) g = inr (ap (λ (n : ℕ). faults.Bad n) (bads_same text tokens h.0 g.0 a b h.1 g.1))
+one_fault text tokens (faults.Bad a) h (faults.TooDeep b) g = absurd (stop_not_deep text tokens h.0 g.0 h.1.start b h.1.stops g.1)
+one_fault text tokens (faults.Bad a) h (faults.Unsupported b) g = absurd (h.1.unknown (known_same text tokens g.0 h.0 b h.1.start (stops_same text tokens g.0 h.0 b h.1.start g.1 h.1.stops) g.2))
+one_fault text tokens (faults.TooDeep a) h (faults.Bad b) g = absurd (stop_not_deep text tokens g.0 h.0 g.1.start a g.1.stops h.1)
 one_fault text tokens (faults.TooDeep a) h (faults.TooDeep b) g = inr (ap (λ (n : ℕ). faults.TooDeep n) (deep_same text tokens h.0 g.0 a b h.1 g.1))
 one_fault text tokens (faults.TooDeep a) h (faults.Unsupported b) g = absurd (stop_not_deep text tokens g.0 h.0 b a g.1 h.1)
-one_fault text tokens (faults.Unsupported a) h (faults.Bad b) g = absurd (g.2 (known_same text tokens h.0 g.0 a b (stops_same text tokens h.0 g.0 a b h.1 g.1) h.2))
+one_fault text tokens (faults.Unsupported a) h (faults.Bad b) g = absurd (g.1.unknown (known_same text tokens h.0 g.0 a g.1.start (stops_same text tokens h.0 g.0 a g.1.start h.1 g.1.stops) h.2))
 one_fault text tokens (faults.Unsupported a) h (faults.TooDeep b) g = absurd (stop_not_deep text tokens h.0 g.0 a b h.1 g.1)
 one_fault text tokens (faults.Unsupported a) h (faults.Unsupported b) g = inr (ap (λ (n : ℕ). faults.Unsupported n) (stops_same text tokens h.0 g.0 a b h.1 g.1).1)
 

@@ -1,5 +1,5 @@
 -- Which words are a configuration, and the first word of others that is refused.
-use Rattle.std.specs.Prelude.{◌≡◌, ◌≢◌, ◌≤◌, ◌⊎◌, ℕ, Bool, List, [], ◌∷◌, ◌++◌, length, take, drop, codes, IsTrue, Option, Some, None, IsSomeAnd, Result, Ok, Err}
+use Rattle.std.specs.Prelude.{◌≡◌, ◌≢◌, ◌≤◌, ◌⊎◌, ◌+◌, cond, ℕ, Bool, List, [], ◌∷◌, ◌++◌, length, take, drop, codes, IsTrue, Option, Some, None, IsSomeAnd, Result, Ok, Err}
 use Rattle.std.specs.List.{list_any}
 use Rattle.std.specs.Bool.{nat_eq}
 use Rattle.std.specs.Cmp.Lexicographic.{pointwise}
@@ -11,9 +11,11 @@ use Rattle.conf_lex.specs.declared.token.TokenKind.{TokenKind}
 use Rattle.conf_lex.specs.declared.token.TokenKind.TheVariants as kinds
 use Rattle.conf_lex.specs.declared.word.Word.{Word}
 use Rattle.conf_lex.specs.declared.word.Word.TheVariants as words
-use Rattle.grammar.specs.Grammar.{Tree, yield, refused, Fits}
+use Rattle.grammar.specs.Grammar.{Tree, yield, refused, Fits, begins}
+use Rattle.grammar.specs.Kind.{symbol}
 use Rattle.grammar.specs.Sentences.{IsBegun, IsBegunWithin, IsLast, IsTooDeep}
 use Rattle.filt_syntax.specs.Syntax.{rule}
+use Rattle.filt_syntax.specs.RefusedToken.{IsPastAt}
 use Rattle.filt_syntax.specs.declared.parse.SyntaxFault.{SyntaxFault}
 use Rattle.filt_syntax.specs.declared.parse.SyntaxFault.TheVariants as faults
 use Rattle.conf_tree.specs.Syntax.{config}
@@ -90,6 +92,10 @@ abbrev pub first_bytes : List ℕ → List Token → Option (List ℕ)
 first_bytes text [] = None
 first_bytes text (t ∷ ts) = kind_bytes (slice_of text t) t.kind
 
+-- the same where the first of the words isn't a sign: `else` with a colon next is one
+abbrev pub word_bytes : List Word → List ℕ → List Token → Option (List ℕ)
+word_bytes rest text tokens = cond (begins (symbol sym.ElseColon) rest) None (first_bytes text tokens)
+
 -- ---- refusals
 
 -- the word in this place is refused, and begins with this token
@@ -100,7 +106,19 @@ pub record StopsAt (text : List ℕ) (tokens : List Token) (place at : ℕ) : Ty
 
 -- it is known there
 abbrev pub IsKnown : List ℕ → List Token → ℕ → ℕ → Type 0
-IsKnown text tokens place at = IsSomeAnd (first_bytes text (drop at tokens)) (IsUnsupported (take place (said_words text tokens)))
+IsKnown text tokens place at =
+    IsSomeAnd (word_bytes (drop place (said_words text tokens)) text (drop at tokens))
+    (IsUnsupported (take place (said_words text tokens)))
+
+-- The word in this place is refused and not known there. This is the first of its tokens that no
+-- sentence can have.
+pub record IsBadAt (text : List ℕ) (tokens : List Token) (place at : ℕ) : Type 0 where
+  pub start : ℕ
+  pub stops : StopsAt text tokens place start
+  pub unknown : IsKnown text tokens place start → ⊥
+  pub past : ℕ
+  pub is_past : IsPastAt config (said_words text tokens) place past
+  pub token : at ≡ start + past
 
 -- the word in this place opens the 65th level
 pub record DeepensAt (text : List ℕ) (tokens : List Token) (place at : ℕ) : Type 0 where
@@ -108,16 +126,18 @@ pub record DeepensAt (text : List ℕ) (tokens : List Token) (place at : ℕ) : 
   pub deep : IsTooDeep rule 64 config (said_words text tokens) (drop place (said_words text tokens))
   pub token : at ≡ token_of text tokens place
 
--- a word that can't stand in its place, and begins with this token, is refused so; whether it is known there
-abbrev pub Refuses : Type 0 → ℕ → SyntaxFault → Type 0
-Refuses known at (faults.Bad token) = (token ≡ at) × (known → ⊥)
-Refuses known at (faults.Unsupported token) = (token ≡ at) × known
-Refuses known at (faults.TooDeep token) = ⊥
-Refuses known at faults.Memory = Unit {0}
+-- The word in this place of these, which can't stand there and begins with this token, is refused so;
+-- whether it is known there.
+abbrev pub Refuses : Type 0 → List Word → ℕ → ℕ → SyntaxFault → Type 0
+Refuses known said place start (faults.Bad token) =
+    (known → ⊥) × (n : ℕ) × IsPastAt config said place n × (token ≡ start + n)
+Refuses known said place start (faults.Unsupported token) = (token ≡ start) × known
+Refuses known said place start (faults.TooDeep token) = ⊥
+Refuses known said place start faults.Memory = Unit {0}
 
 -- the tokens of a text are refused so
 abbrev pub IsRefused : List ℕ → List Token → SyntaxFault → Type 0
-IsRefused text tokens (faults.Bad at) = (place : ℕ) × StopsAt text tokens place at × (IsKnown text tokens place at → ⊥)
+IsRefused text tokens (faults.Bad at) = (place : ℕ) × IsBadAt text tokens place at
 IsRefused text tokens (faults.Unsupported at) = (place : ℕ) × StopsAt text tokens place at × IsKnown text tokens place at
 IsRefused text tokens (faults.TooDeep at) = (place : ℕ) × DeepensAt text tokens place at
 IsRefused text tokens faults.Memory = Unit {0}

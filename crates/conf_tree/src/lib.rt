@@ -4,6 +4,7 @@
 mod bgp;
 mod channel;
 mod config;
+mod followed;
 mod function;
 mod kind;
 pub mod laws;

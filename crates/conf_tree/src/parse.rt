@@ -1,27 +1,31 @@
 // The configuration of a text with these tokens.
 
-ghost use Rattle.std.specs.Prelude.{◌≡◌, ◌↔◌, ◌≤◌, ◌+◌, length, drop, None, Some, IsTrue, IsSomeAnd, MatchOption, IfOk, IfErr, slice_index_or};
+ghost use Rattle.std.specs.Prelude.{◌≡◌, ◌↔◌, ◌<◌, ◌≤◌, ◌+◌, ◌^◌, length, take, drop, None, Some};
+ghost use Rattle.std.specs.Prelude.{IsTrue, IsSomeAnd, MatchOption, IfOk, IfErr, slice_index_or};
+ghost use Rattle.conf_lex.specs.declared.symbol.Symbol.TheVariants as sym;
 ghost use Rattle.conf_lex.specs.Lex.{Lexes};
 ghost use Rattle.conf_lex.specs.Words.{slice_of};
-ghost use Rattle.grammar.specs.Grammar.{Tree};
+ghost use Rattle.grammar.specs.Grammar.{Tree, begins};
+ghost use Rattle.grammar.specs.Kind.{symbol};
 ghost use Rattle.grammar.specs.Sentences.{IsBegunWithin, IsTooDeep};
 ghost use Rattle.filt_syntax.specs.Syntax.{rule};
 ghost use Rattle.conf_tree.specs.Syntax.{config};
 ghost use Rattle.filt_syntax.specs.declared.parse.SyntaxFault.{SyntaxFault};
 ghost use Rattle.conf_tree.specs.Said.{said_words, said_starts};
-ghost use Rattle.conf_tree.specs.Sentence.{first_bytes, IsUnsupported, Refuses, IsSentence, IsStop, IsRefused, IsTree, IsAnswered};
+ghost use Rattle.conf_tree.specs.Sentence.{first_bytes, word_bytes, IsUnsupported, Refuses, IsSentence, IsStop, IsRefused, IsTree, IsAnswered};
 ghost use Rattle.conf_tree.specs.View.{config_view};
 
 use crate::config::config;
+use crate::followed::Configurations;
 use crate::said::said_words;
 use crate::tree::Config;
 use crate::unsupported::is_unsupported;
 use bits_ip::OutOfMemory;
 use conf_lex::laws::tokens_are_slices;
-use conf_lex::{Token, TokenKind, Word, Words};
+use conf_lex::{Symbol, Token, TokenKind, Word, Words};
 use filt_syntax::SyntaxFault;
-use filt_syntax::parts::LEVELS;
-use grammar::{Refusal, place_in};
+use filt_syntax::parts::{LEVELS, bad_from};
+use grammar::{Refusal, is_symbol, place_in};
 use std::alloc::Global;
 
 // The bytes of a token that is a word without quotes.
@@ -39,33 +43,74 @@ fn bytes_of<'a>(text: &'a [u8], tokens: &[Token], at: usize) -> Option<&'a [u8]>
     }
 }
 
-// Whether the word with which this token begins, and which can't stand behind the words before it, is known there.
+fn begins_with_else_sign(words: &[Word]) -> bool
+    ensures { result ≡ begins (symbol sym.ElseColon) words.now }
+{
+    match words.first() {
+        Some(word) => is_symbol(word, Symbol::ElseColon),
+        None => false,
+    }
+}
+
+// The same where the first of the words isn't a sign.
+fn word_bytes<'a>(
+    text: &'a [u8],
+    tokens: &[Token],
+    rest: &[Word],
+    at: usize,
+) -> Option<&'a [u8]>
+    requires { Lexes 0 text.now tokens.now }
+    ensures { MatchOption result (word_bytes rest.now text.now (drop at tokens.now) ≡ None)
+        (λ word. word_bytes rest.now text.now (drop at tokens.now) ≡ Some word.now) }
+{
+    if begins_with_else_sign(rest) {
+        None
+    } else {
+        bytes_of(text, tokens, at)
+    }
+}
+
+// Whether the word in this place, which begins with this token and can't stand there, is known there.
 fn is_known(
     alloc: Global,
     text: &[u8],
     tokens: &[Token],
-    before: &[Word],
+    said: &[Word],
+    place: usize,
     at: usize,
 ) -> Result<bool, OutOfMemory>
     requires lexed { Lexes 0 text.now tokens.now }
-    requires begun { IsBegunWithin rule 64 config before.now }
-    ensures { IfOk result (λ known. IsTrue known ↔ IsSomeAnd (first_bytes text.now (drop at tokens.now)) (IsUnsupported before.now)) }
+    requires within { place ≤ length said.now }
+    requires begun { IsBegunWithin rule 64 config (take place said.now) }
+    ensures { IfOk result (λ known. IsTrue known
+        ↔ IsSomeAnd (word_bytes (drop place said.now) text.now (drop at tokens.now))
+        (IsUnsupported (take place said.now))) }
 {
-    match bytes_of(text, tokens, at) {
-        Some(word) => is_unsupported(alloc, before, word),
+    match word_bytes(text, tokens, &said[place..], at) {
+        Some(word) => is_unsupported(alloc, &said[..place], word),
         None => Ok(false),
     }
 }
 
-// The refusal of a word that can't stand in its place.
-fn refusal(alloc: Global, text: &[u8], tokens: &[Token], before: &[Word], at: usize) -> SyntaxFault
+// The refusal of the word in this place, which begins with this token and can't stand there.
+fn refusal(
+    alloc: Global,
+    text: &[u8],
+    tokens: &[Token],
+    said: &[Word],
+    place: usize,
+    at: usize,
+) -> SyntaxFault
     requires lexed { Lexes 0 text.now tokens.now }
-    requires begun { IsBegunWithin rule 64 config before.now }
-    ensures { Refuses (IsSomeAnd (first_bytes text.now (drop at tokens.now)) (IsUnsupported before.now)) at result }
+    requires within { place ≤ length said.now }
+    requires begun { IsBegunWithin rule 64 config (take place said.now) }
+    requires start { at + 2 < 2 ^ 64 }
+    ensures { Refuses (IsSomeAnd (word_bytes (drop place said.now) text.now (drop at tokens.now))
+        (IsUnsupported (take place said.now))) said.now place at result }
 {
-    match is_known(alloc, text, tokens, before, at) {
+    match is_known(alloc, text, tokens, said, place, at) {
         Ok(true) => SyntaxFault::Unsupported { at },
-        Ok(false) => SyntaxFault::Bad { at },
+        Ok(false) => bad_from::<Configurations>(alloc, said, place, at),
         Err(OutOfMemory) => SyntaxFault::Memory,
     }
 }
@@ -80,7 +125,7 @@ fn stopped(alloc: Global, text: &[u8], tokens: &[Token], said: &Words, rest: &[W
 {
     let place = place_in(&said.words, rest);
     let at = said.token_at(place, tokens.len());
-    refusal(alloc, text, tokens, &said.words[..place], at)
+    refusal(alloc, text, tokens, &said.words, place, at)
 }
 
 // The refusal of words of which the rest begins with one that opens too many levels.
@@ -122,6 +167,7 @@ fn answer<'a>(
 /// The configuration of a text (BIRD User's Guide, "Configuration"). `tokens` are those that `lex` gives for the text.
 ///
 /// Places are those of tokens, and the number of the tokens where more of them would be wanted.
+/// Refused is the first token that no configuration can have there.
 pub fn parse_config<'a>(
     alloc: Global,
     tokens: &[Token],

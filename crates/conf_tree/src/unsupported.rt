@@ -8,11 +8,11 @@ ghost use Rattle.filt_syntax.specs.Syntax.{rule};
 ghost use Rattle.conf_tree.specs.Syntax.{config};
 ghost use Rattle.conf_tree.specs.Sentence.{CanStand, EndsIn, is_one_of, statement_words, bgp_words, channel_words, import_words, IsUnsupported};
 
-use crate::config::config;
+use crate::followed::Configurations;
 use bits_ip::OutOfMemory;
 use conf_lex::{Symbol, Word};
-use filt_syntax::parts::LEVELS;
-use grammar::{Refusal, is_symbol};
+use filt_syntax::parts::Sentences;
+use grammar::is_symbol;
 use std::alloc::Global;
 
 fn is_one_of(words: &[&[u8]], word: &[u8]) -> bool
@@ -71,29 +71,12 @@ fn is_import_word(word: &[u8]) -> bool
     is_one_of(&words, word)
 }
 
-// The words and this symbol behind them.
-fn followed_by(alloc: Global, before: &[Word], symbol: Symbol) -> Result<Vec<Word>, OutOfMemory>
-    ensures { IfOk result (λ words. words.items ≡ before.now ++ Word.Symbol symbol ∷ []) }
-{
-    let mut words = Vec::from_slice(alloc, before)?;
-    words.push(Word::Symbol(symbol))?;
-    Ok(words)
-}
-
-// Whether this symbol can stand behind these words: the parser takes it, or wants more behind it.
+// Whether this symbol can stand behind these words.
 fn can_stand(alloc: Global, before: &[Word], symbol: Symbol) -> Result<bool, OutOfMemory>
-    requires plain { keeps_place symbol ≡ false }
-    requires begun { IsBegunWithin rule 64 config before.now }
+    requires { IsBegunWithin rule 64 config before.now }
     ensures { IfOk result (λ can. IsTrue can ↔ CanStand symbol before.now) }
 {
-    let words = followed_by(alloc, before, symbol)?;
-    match config(alloc, &words, LEVELS) {
-        Ok(_) => Ok(true),
-        Err(Refusal::Memory) => Err(OutOfMemory),
-        Err(Refusal::Bad(rest)) => Ok(rest.is_empty()),
-        Err(Refusal::TooDeep(_)) => Ok(true),
-        Err(Refusal::Unsupported(_)) => Ok(true),
-    }
+    Configurations::can_follow(alloc, before, Word::Symbol(symbol))
 }
 
 // Whether a word that is one of those which this symbol stands for has it in its place.
@@ -103,8 +86,7 @@ fn stands_for(
     before: &[Word],
     symbol: Symbol,
 ) -> Result<bool, OutOfMemory>
-    requires plain { keeps_place symbol ≡ false }
-    requires begun { IsBegunWithin rule 64 config before.now }
+    requires { IsBegunWithin rule 64 config before.now }
     ensures { IfOk result (λ found. IsTrue found ↔ (IsTrue known × CanStand symbol before.now)) }
 {
     if known {

@@ -4,6 +4,8 @@ pub mod ItemSteps
 pub mod Steps
 pub mod Sights
 pub mod Places
+pub mod Follows
+pub mod RefusedTokens
 pub mod Picks
 pub mod StatementSteps
 pub mod StatementTrees

@@ -4,6 +4,7 @@ pub mod ItemReaders
 pub mod View
 pub mod Readers
 pub mod Parse
+pub mod RefusedToken
 pub mod Tokens
 pub mod StatementView
 pub mod StatementReaders

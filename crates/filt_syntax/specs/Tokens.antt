@@ -1,5 +1,5 @@
 -- What stands at a token of a text, or at which token it is refused.
-use Rattle.std.specs.Prelude.{◌≡◌, ℕ, List, length, map, drop, slice_index_or}
+use Rattle.std.specs.Prelude.{◌≡◌, ◌⊎◌, ℕ, ◌+◌, List, length, map, drop, slice_index_or}
 use Rattle.conf_lex.specs.Words.{words_from}
 use Rattle.conf_lex.specs.declared.token.Token.{Token}
 use Rattle.conf_lex.specs.declared.word.Word.{Word}
@@ -7,6 +7,7 @@ use Rattle.grammar.specs.Grammar.{Form, Tree}
 use Rattle.filt_syntax.specs.declared.parse.SyntaxFault.{SyntaxFault}
 use Rattle.filt_syntax.specs.declared.parse.SyntaxFault.TheVariants as faults
 use Rattle.filt_syntax.specs.Parse.{Stands, IsRefused}
+use Rattle.filt_syntax.specs.RefusedToken.{IsPastAt}
 
 -- the words of a text from a token on
 abbrev pub words_behind : List ℕ → List Token → ℕ → List Word
@@ -40,8 +41,22 @@ place_of (faults.TooDeep at) = at
 place_of (faults.Unsupported at) = at
 place_of faults.Memory = 0
 
--- The words are refused so, at the word that begins with the token of this refusal.
-pub record IsRefusedIn (f : Form) (text : List ℕ) (tokens : List Token) (from : ℕ) (e : SyntaxFault) : Type 0 where
+-- how far behind that token the refused one is; only a word that can't stand in its place is torn
+abbrev pub IsPastOf : Form → List Word → SyntaxFault → ℕ → Type 0
+IsPastOf f words (faults.Bad place) n = IsPastAt f words place n
+IsPastOf f words _ n = n ≡ 0
+
+-- The words are refused so, at the first token of this refused word that no sentence can have there.
+pub record IsRefusedIn (f : Form) (text : List ℕ) (tokens : List Token) (from : ℕ)
+    (e : SyntaxFault) : Type 0 where
   pub word_fault : SyntaxFault
   pub refused : IsRefused f (words_behind text tokens from) 0 word_fault
-  pub is : e ≡ moved (token_place text tokens from (place_of word_fault)) word_fault
+  pub past : ℕ
+  pub is_past : IsPastOf f (words_behind text tokens from) word_fault past
+  pub is : e ≡ moved (token_place text tokens from (place_of word_fault) + past) word_fault
+
+-- the refusal of these words is told so by their tokens, unless memory ran out
+abbrev pub IsToldAs : Form → List Word → List ℕ → ℕ → SyntaxFault → SyntaxFault → Type 0
+IsToldAs f words starts end fault told =
+    (told ≡ faults.Memory) ⊎ ((past : ℕ) × IsPastOf f words fault past
+    × (told ≡ moved (slice_index_or starts (place_of fault) end + past) fault))

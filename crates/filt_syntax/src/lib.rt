@@ -4,11 +4,13 @@
 mod block_words;
 mod bracket;
 mod expression;
+mod followed;
 mod items;
 pub mod laws;
 mod operators;
 mod parse;
 pub mod parts;
+mod refused_token;
 mod simple_statement;
 mod statement;
 mod tokens;

@@ -4,5 +4,6 @@
 pub use crate::expression::expression;
 pub use crate::items::{items, mask_items, next_num, num};
 pub use crate::parse::LEVELS;
+pub use crate::refused_token::{Sentences, bad_from, followed_by};
 pub use crate::statement::whole_block;
 pub use crate::variable_type::variable_type;

@@ -1,24 +1,28 @@
 // What stands at a token of a text.
 
-ghost use Rattle.std.specs.Prelude.{◌≡◌, ℕ, ◌≤◌, length, slice_index_or, IfOk, IfErr};
+ghost use Rattle.std.specs.Prelude.{◌≡◌, ℕ, ◌+◌, ◌^◌, ◌<◌, ◌≤◌, length, slice_index_or};
+ghost use Rattle.std.specs.Prelude.{IfOk, IfErr};
 ghost use Rattle.conf_lex.specs.Lex.{Lexes};
 ghost use Rattle.grammar.specs.Grammar.{Tree};
 ghost use Rattle.filt_syntax.specs.declared.parse.SyntaxFault.{SyntaxFault};
 ghost use Rattle.filt_syntax.specs.Syntax.{block, expr};
 ghost use Rattle.filt_syntax.specs.View.{sight};
 ghost use Rattle.filt_syntax.specs.StatementView.{block_view};
-ghost use Rattle.filt_syntax.specs.Parse.{IsAnswer, IsFault};
-ghost use Rattle.filt_syntax.specs.Tokens.{StandsIn, IsRefusedIn, moved, place_of};
+ghost use Rattle.filt_syntax.specs.Parse.{IsAnswer, IsFault, IsRefused};
+ghost use Rattle.filt_syntax.specs.Tokens.{StandsIn, IsRefusedIn, IsToldAs};
 
 use crate::block_words::parse_block_words;
+use crate::followed::{Blocks, Expressions};
 use crate::parse::{SyntaxFault, parse_expr_words};
+use crate::refused_token::{Sentences, bad_from};
 use crate::tree::{Block, Expr};
 use bits_ip::OutOfMemory;
 use conf_lex::{Token, Words, words_from};
 use std::alloc::Global;
 
 /// The longest expression from a token on, and the place of the token behind it (BIRD User's Guide, "Filters"). The tokens
-/// are those that `lex` gives for the text; places are theirs, their number where more of them would be wanted.
+/// are those that `lex` gives for the text; places are theirs, their number where more of them would be wanted. Refused is
+/// the first token that no expression can have there.
 pub fn parse_expr(
     alloc: Global,
     tokens: &[Token],
@@ -38,7 +42,7 @@ pub fn parse_expr(
     };
     match parse_expr_words(alloc, &found.words, 0) {
         Ok((expression, end)) => Ok((expression, found.token_at(end, tokens.len()))),
-        Err(fault) => Err(at_token(fault, &found, tokens.len())),
+        Err(fault) => Err(told::<Expressions>(alloc, &found, tokens.len(), fault)),
     }
 }
 
@@ -63,18 +67,21 @@ pub fn parse_block(
     };
     match parse_block_words(alloc, &found.words, 0) {
         Ok((block, end)) => Ok((block, found.token_at(end, tokens.len()))),
-        Err(fault) => Err(at_token(fault, &found, tokens.len())),
+        Err(fault) => Err(told::<Blocks>(alloc, &found, tokens.len(), fault)),
     }
 }
 
-// A refusal of words, by the token with which the refused one begins.
-fn at_token(fault: SyntaxFault, words: &Words, end: usize) -> SyntaxFault
-    ensures { result ≡ moved (slice_index_or words.now.starts.items (place_of fault) end) fault }
+// A refusal of words, by the first token of the refused word that no sentence can have there.
+fn told<S: Sentences>(alloc: Global, words: &Words, end: usize, fault: SyntaxFault) -> SyntaxFault
+    requires refused { IsRefused S.form words.now.words.items 0 fault }
+    requires starts { (place : ℕ) → slice_index_or words.now.starts.items place end ≤ end }
+    requires end { end + 2 < 2 ^ 64 }
+    ensures { IsToldAs S.form words.now.words.items words.now.starts.items end fault result }
 {
     match fault {
-        SyntaxFault::Bad { at } => SyntaxFault::Bad {
-            at: words.token_at(at, end),
-        },
+        SyntaxFault::Bad { at } => {
+            bad_from::<S>(alloc, &words.words, at, words.token_at(at, end))
+        }
         SyntaxFault::TooDeep { at } => SyntaxFault::TooDeep {
             at: words.token_at(at, end),
         },

@@ -1,0 +1,27 @@
+// Whether a word can go on with the beginning of a configuration.
+
+ghost use Rattle.conf_tree.specs.Syntax.{config};
+
+use crate::config::config;
+use bits_ip::OutOfMemory;
+use conf_lex::Word;
+use filt_syntax::parts::{LEVELS, Sentences, followed_by};
+use grammar::Refusal;
+use std::alloc::Global;
+
+pub struct Configurations;
+
+impl Sentences for Configurations {
+    ghost form = { config };
+
+    fn can_follow(alloc: Global, before: &[Word], word: Word) -> Result<bool, OutOfMemory> {
+        let words = followed_by(alloc, before, word)?;
+        match config(alloc, &words, LEVELS) {
+            Ok(_) => Ok(true),
+            Err(Refusal::Memory) => Err(OutOfMemory),
+            Err(Refusal::Bad(rest)) => Ok(rest.is_empty()),
+            Err(Refusal::TooDeep(_)) => Ok(true),
+            Err(Refusal::Unsupported(_)) => Ok(true),
+        }
+    }
+}

@@ -1,0 +1,219 @@
+-- How far behind its first token a refused word is refused.
+use Rattle.std.proofs.Common.{◌≡◌, ◌↔◌, ℕ, zero, suc, ◌+◌, ◌-◌, ◌≤◌, Bool, true, false, cond, if◌then◌else◌, IsTrue, List, [], ◌∷◌, ◌++◌, length, map, drop, slice_index_or, Ok, Err, Bor, MatchOption, refl, sym, ap, subst, ◌∙◌, arith, inl, inr, ◌⊎◌}
+use Rattle.std.specs.Bool.{then_some}
+use Rattle.std.proofs.lemmas.Bool.{false≢true}
+use Rattle.std.proofs.lemmas.List.{length-append}
+use Rattle.bits_ip.specs.declared.address.Addr.{Addr}
+use Rattle.conf_lex.specs.Words.{first_word, words_from}
+use Rattle.conf_lex.specs.declared.token.Token.{Token}
+use Rattle.conf_lex.specs.declared.word.Word.{Word}
+use Rattle.conf_lex.specs.declared.word.Word.TheVariants as words
+use Rattle.grammar.specs.Grammar.{Form, Tree}
+use Rattle.grammar.proofs.Unique.{fronts}
+use Rattle.filt_syntax.specs.declared.parse.SyntaxFault.{SyntaxFault}
+use Rattle.filt_syntax.specs.declared.parse.SyntaxFault.TheVariants as faults
+use Rattle.filt_syntax.specs.declared.refused_token.Torn.{Torn}
+use Rattle.filt_syntax.specs.declared.refused_token.Torn.TheVariants as torns
+use Rattle.filt_syntax.specs.Parse.{Stands, IsRefused, IsFault}
+use Rattle.filt_syntax.specs.RefusedToken.{CanFollow, some_prefix, some_address, is_address_word, EndInAddress, IsCount, IsPast, IsPastFirst, IsPastAt, IsBadFrom}
+use Rattle.filt_syntax.specs.Tokens.{words_behind, starts_behind, token_place, moved, place_of, IsPastOf, IsRefusedIn, IsToldAs}
+
+-- ---- the last word
+
+pub last_is : (a b : List Word) (v w : Word) → a ++ v ∷ [] ≡ b ++ w ∷ [] → (a ≡ b) × (v ≡ w)
+last_is a b v w e = elim (fronts a (v ∷ []) b (w ∷ []) e) [
+  | inl h ↦ let same : v ≡ w = let p = h.1 in cc in (h.0, same)
+  | inr h ↦ elim h [
+    | inl l ↦ absurd (omega (arith, ap (λ (u : List Word). length u) l.rest, length-append l.more (v ∷ [])))
+    | inr l ↦ absurd (omega (arith, ap (λ (u : List Word). length u) l.rest, length-append l.more (w ∷ [])))
+  ]
+]
+
+address_word : (w : Word) → is_address_word w ≡ true → (at : ℕ) × (addr : Addr) × (w ≡ words.Ip at addr)
+address_word (words.Ip at addr) e = (at, addr, refl)
+address_word (words.Name at start len) e = absurd cc
+address_word (words.Number at value) e = absurd cc
+address_word (words.Text at start len) e = absurd cc
+address_word (words.Prefix at net) e = absurd cc
+address_word (words.BadPrefix at) e = absurd cc
+address_word (words.Symbol s) e = absurd cc
+address_word (words.Placed at s) e = absurd cc
+
+pub last_address : (ws : List Word) (front : Bor (List Word)) (w : Word) (b : Bool) → ws ≡ front.now ++ w ∷ [] → b ≡ is_address_word w
+    → MatchOption (then_some b front) ((f : List Word) (at : ℕ) (addr : Addr) → ws ≡ f ++ words.Ip at addr ∷ [] → ⊥) (λ f. (at : ℕ) × (addr : Addr) × (ws ≡ f.now ++ words.Ip at addr ∷ []))
+last_address ws front w true cut e = let p = address_word w (sym e) in (p.0, p.1, cut ∙ ap (λ (x : Word). front.now ++ x ∷ []) p.2)
+last_address ws front w false cut e =
+    λ f at addr h. let same = last_is front.now f w (words.Ip at addr) (sym cut ∙ h) in
+    false≢true (e ∙ ap is_address_word same.1)
+
+pub no_address : (ws : List Word) → (at : ℕ) (addr : Addr) (f : List Word) → ws ≡ [] → ws ≡ f ++ words.Ip at addr ∷ [] → ⊥
+no_address ws at addr f none e = omega (arith, ap (λ (l : List Word). length l) none, ap (λ (l : List Word). length l) e, length-append f (words.Ip at addr ∷ []))
+
+pub ends_is : (f : Form) (before front : List Word) (at : ℕ) (addr : Addr) (asked : Word) (b : Bool) → before ≡ front ++ words.Ip at addr ∷ [] → asked ≡ some_prefix → IsTrue b ↔ CanFollow f front asked → IsTrue b ↔ EndInAddress f before
+ends_is f before front at addr asked b cut is told = (
+    λ t. record { front = front; at = at; addr = addr; cut = cut; prefix = subst (λ (w : Word). CanFollow f front w) is (told.0 t) },
+    λ e. told.1 (subst (λ (w : Word). CanFollow f front w) (sym is) (subst (λ (u : List Word). CanFollow f u some_prefix) (last_is e.front front (words.Ip e.at e.addr) (words.Ip at addr) (sym e.cut ∙ cut)).0 e.prefix)),
+  )
+
+pub ends_not : (f : Form) (before : List Word) → ((front : List Word) (at : ℕ) (addr : Addr) → before ≡ front ++ words.Ip at addr ∷ [] → ⊥) → IsTrue false ↔ EndInAddress f before
+ends_not f before none = (λ t. absurd (false≢true t), λ e. absurd (none e.front e.at e.addr e.cut))
+
+-- ---- counts
+
+pub counted : (P : Type 0) (b : Bool) (most n : ℕ) → IsTrue b ↔ P → n ≡ cond b most 0 → IsCount P most n
+counted P true most n told is = inl (told.0 refl, is)
+counted P false most n told is = inr (λ p. false≢true (told.1 p), is)
+
+abbrev Alone : Form → List Word → Word → Word → Type 0
+Alone f before one other = CanFollow f before one × (CanFollow f before other → ⊥)
+
+alone_is : (f : Form) (before : List Word) (a b one other : Word) (found : Bool) → a ≡ one → b ≡ other → IsTrue found ↔ Alone f before a b → IsTrue found ↔ Alone f before one other
+alone_is f before a b one other found is same told =
+    subst (λ (w : Word). IsTrue found ↔ Alone f before one w) same (subst (λ (w : Word). IsTrue found ↔ Alone f before w b) is told)
+
+pub prefix_past : (f : Form) (before : List Word) (torn : Torn) (slash : Bool) (a b : Word) (found : Bool) (n : ℕ) → torn ≡ torns.Prefix → a ≡ some_address → b ≡ some_prefix → IsTrue found ↔ Alone f before a b → n ≡ cond found 1 0 → IsPast f before torn slash n
+prefix_past f before torn slash a b found n is one other told c =
+    subst (λ (t : Torn). IsPast f before t slash n) (sym is) (counted (Alone f before some_address some_prefix) found 1 n (alone_is f before a b some_address some_prefix found one other told) c)
+
+pub address_past : (f : Form) (before : List Word) (torn : Torn) (slash : Bool) (a b : Word) (found : Bool) (most n : ℕ) → torn ≡ torns.Address → a ≡ some_prefix → b ≡ some_address → IsTrue found ↔ Alone f before a b → most ≡ (if slash then 2 else 1) → n ≡ cond found most 0 → IsPast f before torn slash n
+address_past f before torn slash a b found most n is one other told size c =
+    subst (λ (t : Torn). IsPast f before t slash n) (sym is) (counted (Alone f before some_prefix some_address) found (if slash then 2 else 1) n (alone_is f before a b some_prefix some_address found one other told) (c ∙ ap (λ (m : ℕ). cond found m 0) size))
+
+pub at_most_two : (b slash : Bool) (most n : ℕ) → most ≡ (if slash then 2 else 1) → n ≡ cond b most 0 → n ≤ 2
+at_most_two true true most n size is = omega (arith, size, is)
+at_most_two true false most n size is = omega (arith, size, is)
+at_most_two false slash most n size is = omega (arith, is)
+
+-- ---- one count
+
+one_count : (P : Type 0) (most m n : ℕ) → IsCount P most m → IsCount P most n → m ≡ n
+one_count P most m n (inl h) (inl g) = h.1 ∙ sym g.1
+one_count P most m n (inr h) (inr g) = h.1 ∙ sym g.1
+one_count P most m n (inl h) (inr g) = absurd (g.0 h.0)
+one_count P most m n (inr h) (inl g) = absurd (h.0 g.0)
+
+pub one_past : (f : Form) (before : List Word) (torn : Torn) (slash : Bool) (m n : ℕ) → IsPast f before torn slash m → IsPast f before torn slash n → m ≡ n
+one_past f before torns.Prefix slash m n h g = one_count (Alone f before some_address some_prefix) 1 m n h g
+one_past f before torns.Address slash m n h g = one_count (Alone f before some_prefix some_address) (if slash then 2 else 1) m n h g
+one_past f before torns.Slash slash m n h g = one_count (EndInAddress f before) 1 m n h g
+one_past f before torns.Other slash m n h g = h ∙ sym g
+
+one_past_first : (f : Form) (before rest : List Word) (m n : ℕ) → IsPastFirst f before rest m → IsPastFirst f before rest n → m ≡ n
+one_past_first f before [] m n h g = h ∙ sym g
+one_past_first f before (w ∷ ws) m n h g = one_past f before _ _ m n h g
+
+pub one_past_at : (f : Form) (ws : List Word) (place m n : ℕ) → IsPastAt f ws place m → IsPastAt f ws place n → m ≡ n
+one_past_at f ws place m n h g = one_past_first f _ (drop place ws) m n h g
+
+one_past_of : (f : Form) (ws : List Word) (e : SyntaxFault) (m n : ℕ) → IsPastOf f ws e m → IsPastOf f ws e n → m ≡ n
+one_past_of f ws (faults.Bad place) m n h g = one_past_at f ws place m n h g
+one_past_of f ws (faults.TooDeep place) m n h g = h ∙ sym g
+one_past_of f ws (faults.Unsupported place) m n h g = h ∙ sym g
+one_past_of f ws faults.Memory m n h g = h ∙ sym g
+
+-- ---- first tokens are no further than the end
+
+pub record Below (end : ℕ) (starts : List ℕ) : Type 0 where
+  pub below : (place : ℕ) → slice_index_or starts place end ≤ end
+
+below_none : (end place : ℕ) → slice_index_or [] place end ≤ end
+below_none end zero = omega arith
+below_none end (suc place) = omega arith
+
+below_more : (end start : ℕ) (starts : List ℕ) → start ≤ end → ((place : ℕ) → slice_index_or starts place end ≤ end) → (place : ℕ) → slice_index_or (start ∷ starts) place end ≤ end
+below_more end start starts low rest zero = low
+below_more end start starts low rest (suc place) = rest place
+
+pub below_words : (text : List ℕ) (end i skip : ℕ) (ts : List Token) → i + length ts ≤ end → (place : ℕ) → slice_index_or (map (λ word. word.0) (words_from text i skip ts)) place end ≤ end
+below_words text end i skip [] low place = below_none end place
+below_words text end i (suc skip) (t ∷ ts) low place = below_words text end (i + 1) skip ts (omega (arith, low)) place
+below_words text end i zero (t ∷ ts) low place =
+    below_more end i (map (λ word. word.0) (words_from text (i + 1) ((first_word text i t ts).1 - 1) ts)) (omega (arith, low))
+    (below_words text end (i + 1) ((first_word text i t ts).1 - 1) ts (omega (arith, low))) place
+
+-- ---- a refusal, told by tokens
+
+pub bad_told : (f : Form) (ws : List Word) (starts : List ℕ) (end place start : ℕ) (fault told : SyntaxFault) → fault ≡ faults.Bad place → start ≡ slice_index_or starts place end → IsBadFrom f ws place start told → IsToldAs f ws starts end fault told
+bad_told f ws starts end place start fault (faults.Bad at) is same h =
+    subst (λ (e : SyntaxFault). IsToldAs f ws starts end e (faults.Bad at)) (sym is) (inr (h.0, h.1, ap (λ (n : ℕ). faults.Bad n) (h.2 ∙ ap (λ (n : ℕ). n + h.0) same)))
+bad_told f ws starts end place start fault (faults.TooDeep at) is same h = absurd h
+bad_told f ws starts end place start fault (faults.Unsupported at) is same h = absurd h
+bad_told f ws starts end place start fault faults.Memory is same h = inl refl
+
+plus_none : (n : ℕ) → n ≡ n + 0
+plus_none n = omega arith
+
+pub deep_told : (f : Form) (ws : List Word) (starts : List ℕ) (end place at : ℕ) (fault : SyntaxFault) → fault ≡ faults.TooDeep place → at ≡ slice_index_or starts place end → IsToldAs f ws starts end fault (faults.TooDeep at)
+deep_told f ws starts end place at fault is same =
+    subst (λ (e : SyntaxFault). IsToldAs f ws starts end e (faults.TooDeep at)) (sym is) (inr (0, refl, ap (λ (n : ℕ). faults.TooDeep n) (same ∙ plus_none _)))
+
+pub shut_told : (f : Form) (ws : List Word) (starts : List ℕ) (end place at : ℕ) (fault : SyntaxFault) → fault ≡ faults.Unsupported place → at ≡ slice_index_or starts place end → IsToldAs f ws starts end fault (faults.Unsupported at)
+shut_told f ws starts end place at fault is same =
+    subst (λ (e : SyntaxFault). IsToldAs f ws starts end e (faults.Unsupported at)) (sym is) (inr (0, refl, ap (λ (n : ℕ). faults.Unsupported n) (same ∙ plus_none _)))
+
+module _ (f : Form) (text : List ℕ) (tokens : List Token) (from : ℕ) (ws : List Word) (starts : List ℕ) (words-are : ws ≡ words_behind text tokens from) (starts-are : starts ≡ starts_behind text tokens from) where
+  pub told_refused : (fault told : SyntaxFault) → IsRefused f ws 0 fault → IsToldAs f ws starts (length tokens) fault told → IsRefusedIn f text tokens from told
+  told_refused fault told refused (inl memory) = record { word_fault = faults.Memory; refused = tt; past = 0; is_past = refl; is = memory }
+  told_refused fault told refused (inr h) = record {
+    word_fault = fault;
+    refused = subst (λ (u : List Word). IsRefused f u 0 fault) words-are refused;
+    past = h.0;
+    is_past = subst (λ (u : List Word). IsPastOf f u fault h.0) words-are h.1;
+    is = h.2 ∙ ap (λ (u : List ℕ). moved (slice_index_or u (place_of fault) (length tokens) + h.0) fault) starts-are;
+  }
+
+  pub told_only : (fault told : SyntaxFault) → IsToldAs f ws starts (length tokens) fault told → fault ≡ faults.Memory → told ≡ faults.Memory
+  told_only fault told (inl memory) e = memory
+  told_only fault told (inr h) e = h.2 ∙ ap (λ (d : SyntaxFault). moved (slice_index_or starts (place_of fault) (length tokens) + h.0) d) e
+
+  by_fault : (X : Type 0) (found read : X × ℕ) (d : SyntaxFault) (n : ℕ) → IsFault {X = X} (Ok found) d → (e : SyntaxFault) → e ≡ moved n d → IsFault {X = X} (Ok read) e
+  by_fault X found read faults.Memory n h e is = subst (λ (x : SyntaxFault). IsFault {X = X} (Ok read) x) (sym is) tt
+  by_fault X found read (faults.Bad at) n h e is = absurd h
+  by_fault X found read (faults.TooDeep at) n h e is = absurd h
+  by_fault X found read (faults.Unsupported at) n h e is = absurd h
+
+  same_words : (d : SyntaxFault) → IsRefused f (words_behind text tokens from) 0 d → IsRefused f ws 0 d
+  same_words d r = subst (λ (u : List Word). IsRefused f u 0 d) (sym words-are) r
+
+  pub read_exact : (X : Type 0) (found read : X × ℕ) → ((e : SyntaxFault) → IsRefused f ws 0 e → IsFault {X = X} (Ok found) e) → (e : SyntaxFault) → IsRefusedIn f text tokens from e → IsFault {X = X} (Ok read) e
+  read_exact X found read exact e h = by_fault X found read h.word_fault _ (exact h.word_fault (same_words h.word_fault h.refused)) e h.is
+
+  memory_any : (X : Type 0) (told : SyntaxFault) → told ≡ faults.Memory → (e : SyntaxFault) → IsFault {X = X} (Err told) e
+  memory_any X told is (faults.Bad at) = inl is
+  memory_any X told is (faults.TooDeep at) = inl is
+  memory_any X told is (faults.Unsupported at) = inl is
+  memory_any X told is faults.Memory = tt
+
+  same_any : (X : Type 0) (told e : SyntaxFault) → told ≡ e → IsFault {X = X} (Err told) e
+  same_any X told (faults.Bad at) is = inr is
+  same_any X told (faults.TooDeep at) is = inr is
+  same_any X told (faults.Unsupported at) is = inr is
+  same_any X told faults.Memory is = tt
+
+  three : (X : Type 0) (fault d : SyntaxFault) → IsFault {X = X} (Err fault) d → (d ≡ faults.Memory) ⊎ ((fault ≡ faults.Memory) ⊎ (fault ≡ d))
+  three X fault (faults.Bad at) h = inr h
+  three X fault (faults.TooDeep at) h = inr h
+  three X fault (faults.Unsupported at) h = inr h
+  three X fault faults.Memory h = inl refl
+
+  same_told : (fault told d e : SyntaxFault) (m n : ℕ) → fault ≡ d → IsPastOf f ws fault m → IsPastOf f ws d n → told ≡ moved (slice_index_or starts (place_of fault) (length tokens) + m) fault → e ≡ moved (slice_index_or starts (place_of d) (length tokens) + n) d → told ≡ e
+  same_told fault told d e m n is h g one other =
+      let count : m ≡ n = one_past_of f ws d m n (subst (λ (x : SyntaxFault). IsPastOf f ws x m) is h) g in
+      one ∙ ap (λ (x : SyntaxFault). moved (slice_index_or starts (place_of x) (length tokens) + m) x) is ∙ ap (λ (k : ℕ). moved (slice_index_or starts (place_of d) (length tokens) + k) d) count ∙ sym other
+
+  same_case : (X : Type 0) (fault told e : SyntaxFault) (h : IsRefusedIn f text tokens from e) → IsToldAs f ws starts (length tokens) fault told → fault ≡ h.word_fault → IsFault {X = X} (Err told) e
+  same_case X fault told e h (inl memory) is = memory_any X told memory e
+  same_case X fault told e h (inr g) is =
+      same_any X told e (same_told fault told h.word_fault e g.0 h.past is g.1
+        (subst (λ (u : List Word). IsPastOf f u h.word_fault h.past) (sym words-are) h.is_past)
+        g.2
+        (h.is ∙ ap (λ (u : List ℕ). moved (slice_index_or u (place_of h.word_fault) (length tokens) + h.past) h.word_fault) (sym starts-are)))
+
+  pub told_exact : (X : Type 0) (fault told : SyntaxFault) → ((d : SyntaxFault) → IsRefused f ws 0 d → IsFault {X = X} (Err fault) d) → IsToldAs f ws starts (length tokens) fault told → (e : SyntaxFault) → IsRefusedIn f text tokens from e → IsFault {X = X} (Err told) e
+  told_exact X fault told exact is e h = elim (three X fault h.word_fault (exact h.word_fault (same_words h.word_fault h.refused))) [
+    | inl memory ↦ subst (λ (x : SyntaxFault). IsFault {X = X} (Err told) x) (sym (h.is ∙ ap (λ (d : SyntaxFault). moved (token_place text tokens from (place_of h.word_fault) + h.past) d) memory)) tt
+    | inr other ↦ elim other [
+      | inl memory ↦ memory_any X told (told_only fault told is memory) e
+      | inr same ↦ same_case X fault told e h is same
+    ]
+  ]
