@@ -5,6 +5,7 @@ pub mod Each
 pub mod FirstWords
 pub mod FunctionSteps
 pub mod Heads
+pub mod KindTrees
 pub mod Known
 pub mod LastWord
 pub mod LiteralSteps
@@ -18,6 +19,7 @@ pub mod RouteSteps
 pub mod SaidLaws
 pub mod SaidSteps
 pub mod Tested
+pub mod SlashTrees
 pub mod TextRefusals
 pub mod TextsOnce
 pub mod TokenBytes
