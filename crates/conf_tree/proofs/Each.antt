@@ -1,6 +1,6 @@
 -- Each text is a configuration or is refused, and each place has a line and a column.
 use Rattle.std.proofs.Common.{◌≡◌, ℕ, ◌+◌, Bool, true, false, IsTrue, not, ◌==◌, nat_eq, List, [], ◌∷◌, ◌++◌, length, take, drop, codes, Option, Some, None, IsSomeAnd, refl, sym, ap, subst, ◌∙◌, arith, inl, inr, ◌⊎◌}
-use Rattle.std.specs.Prelude.{filter}
+use Rattle.std.specs.Prelude.{filter, if◌then◌else◌}
 use Rattle.std.specs.List.{list_all}
 use Rattle.std.specs.Cmp.Lexicographic.{pointwise, same_text, other_text}
 use Rattle.std.proofs.lemmas.Bool.{eqb-true, and_from, not_from_false, false≢true}
@@ -18,10 +18,14 @@ use Rattle.grammar.specs.Kind.{kind_of, keeps_place, symbol}
 use Rattle.grammar.proofs.Symbols.{is_symbol_word, symbol_same}
 use Rattle.filt_syntax.specs.Syntax.{rule}
 use Rattle.filt_syntax.specs.declared.parse.SyntaxFault.TheVariants as faults
+use Rattle.filt_syntax.specs.declared.refused_token.Torn.{Torn}
+use Rattle.filt_syntax.specs.declared.refused_token.Torn.TheVariants as torns
+use Rattle.filt_syntax.specs.RefusedToken.{CanFollow, some_prefix, some_address, EndInAddress, IsCount, IsPast, IsPastFirst}
+use Rattle.filt_syntax.proofs.RefusedTokens.{last_is}
 use Rattle.conf_tree.specs.Syntax.{config}
 use Rattle.conf_tree.specs.Readers.{whole_at}
 use Rattle.conf_tree.specs.Said.{said_words, said_starts, token_of}
-use Rattle.conf_tree.specs.Sentence.{CanStand, EndsIn, is_one_of, statement_words, bgp_words, channel_words, import_words, IsUnsupported, a_kind, a_statement, a_bgp_option, a_channel_option, an_import, an_export, an_action, a_route, first_bytes, IsStop}
+use Rattle.conf_tree.specs.Sentence.{CanStand, EndsIn, is_one_of, statement_words, bgp_words, channel_words, import_words, IsUnsupported, a_kind, a_statement, a_bgp_option, a_channel_option, an_import, an_export, an_action, a_route, word_bytes, IsStop}
 use Rattle.conf_tree.specs.Position.{IsPlace}
 use Rattle.conf_tree.specs.Read.{byte_of, IsConfigText, IsRefusedText}
 use Rattle.conf_tree.specs.declared.kind.ConfKind.{ConfKind}
@@ -63,15 +67,18 @@ told_some (Some bytes) P each = each bytes
 
 -- ---- words that are known and not supported
 
-can_by : (before : List Word) (s : Symbol) → IsBegunWithin rule 64 config before → (r : Read) → whole_at 64 (before ++ words.Symbol s ∷ []) ≡ r → Told (CanStand s before)
-can_by before s begun (Got t rest) is = inl (got_stands (before ++ words.Symbol s ∷ []) t rest is)
-can_by before s begun (Fault Bad []) is = inl (bad_stands (before ++ words.Symbol s ∷ []) [] is refl)
-can_by before s begun (Fault Bad (w ∷ rest)) is = inr (bad_stands_not (before ++ words.Symbol s ∷ []) (w ∷ rest) is (λ none. cc))
-can_by before s begun (Fault TooDeep rest) is = inl (deep_stands before (words.Symbol s) rest begun is)
-can_by before s begun (Fault Unsupported rest) is = absurd (no_unsupported (before ++ words.Symbol s ∷ []) rest is)
+can_by : (before : List Word) (w : Word) → IsBegunWithin rule 64 config before → (r : Read) → whole_at 64 (before ++ w ∷ []) ≡ r → Told (CanFollow config before w)
+can_by before w begun (Got t rest) is = inl (got_stands (before ++ w ∷ []) t rest is)
+can_by before w begun (Fault Bad []) is = inl (bad_stands (before ++ w ∷ []) [] is refl)
+can_by before w begun (Fault Bad (v ∷ rest)) is = inr (bad_stands_not (before ++ w ∷ []) (v ∷ rest) is (λ none. cc))
+can_by before w begun (Fault TooDeep rest) is = inl (deep_stands before w rest begun is)
+can_by before w begun (Fault Unsupported rest) is = absurd (no_unsupported (before ++ w ∷ []) rest is)
+
+told_follow : (before : List Word) (w : Word) → IsBegunWithin rule 64 config before → Told (CanFollow config before w)
+told_follow before w begun = can_by before w begun (whole_at 64 (before ++ w ∷ [])) refl
 
 told_can : (before : List Word) (s : Symbol) → IsBegunWithin rule 64 config before → Told (CanStand s before)
-told_can before s begun = can_by before s begun (whole_at 64 (before ++ words.Symbol s ∷ [])) refl
+told_can before s begun = told_follow before (words.Symbol s) begun
 
 record Last (ws : List Word) : Type 0 where
   front : List Word
@@ -140,6 +147,51 @@ told_unsupported before word begun =
     or_else (λ h. a_route h.0 h.1) (told_both (told_text word (codes "recursive")) (told_can before symbols.Blackhole begun)) (λ g.
     inr (known_none before word k a b c d e f g)))))))))
 
+-- ---- how far behind its first token a word is refused
+
+counts : (P : Type 0) (most : ℕ) → Told P → (n : ℕ) × IsCount P most n
+counts P most (inl p) = (most, inl (p, refl))
+counts P most (inr none) = (0, inr (none, refl))
+
+told_alone : (before : List Word) (v w : Word) → IsBegunWithin rule 64 config before → Told (CanFollow config before v × (CanFollow config before w → ⊥))
+told_alone before v w begun = alone (told_follow before v begun) (told_follow before w begun)
+  where
+    alone : {P Q : Type 0} → Told P → Told Q → Told (P × (Q → ⊥))
+    alone (inl p) (inl q) = inr (λ both. both.1 q)
+    alone (inl p) (inr none) = inl (p, none)
+    alone (inr none) q = inr (λ both. none both.0)
+
+ends_with : (before front : List Word) (w : Word) → before ≡ front ++ w ∷ [] → IsBegunWithin rule 64 config before → Told (EndInAddress config before)
+ends_with before front (words.Ip at addr) cut begun =
+    let told = told_follow front some_prefix (front_begun before front (words.Ip at addr) cut begun) in
+    elim told [
+      | inl can ↦ inl (record { front = front; at = at; addr = addr; cut = cut; prefix = can })
+      | inr none ↦ inr (λ e. none (subst (λ (u : List Word). CanFollow config u some_prefix) (last_is e.front front (words.Ip e.at e.addr) (words.Ip at addr) (sym e.cut ∙ cut)).0 e.prefix))
+    ]
+ends_with before front (words.Name at start len) cut begun = inr (λ e. let same = (last_is front e.front (words.Name at start len) (words.Ip e.at e.addr) (sym cut ∙ e.cut)).1 in cc)
+ends_with before front (words.Number at value) cut begun = inr (λ e. let same = (last_is front e.front (words.Number at value) (words.Ip e.at e.addr) (sym cut ∙ e.cut)).1 in cc)
+ends_with before front (words.Text at start len) cut begun = inr (λ e. let same = (last_is front e.front (words.Text at start len) (words.Ip e.at e.addr) (sym cut ∙ e.cut)).1 in cc)
+ends_with before front (words.Prefix at net) cut begun = inr (λ e. let same = (last_is front e.front (words.Prefix at net) (words.Ip e.at e.addr) (sym cut ∙ e.cut)).1 in cc)
+ends_with before front (words.BadPrefix at) cut begun = inr (λ e. let same = (last_is front e.front (words.BadPrefix at) (words.Ip e.at e.addr) (sym cut ∙ e.cut)).1 in cc)
+ends_with before front (words.Symbol s) cut begun = inr (λ e. let same = (last_is front e.front (words.Symbol s) (words.Ip e.at e.addr) (sym cut ∙ e.cut)).1 in cc)
+ends_with before front (words.Placed at s) cut begun = inr (λ e. let same = (last_is front e.front (words.Placed at s) (words.Ip e.at e.addr) (sym cut ∙ e.cut)).1 in cc)
+
+told_address : (before : List Word) → IsBegunWithin rule 64 config before → Told (EndInAddress config before)
+told_address before begun = elim (last_of before) [
+  | inl none ↦ inr (λ e. omega (arith, ap (λ (l : List Word). length l) none, ap (λ (l : List Word). length l) e.cut, length-append e.front (words.Ip e.at e.addr ∷ [])))
+  | inr last ↦ ends_with before last.front last.word last.cut begun
+]
+
+some_past : (before : List Word) (torn : Torn) (slash : Bool) → IsBegunWithin rule 64 config before → (n : ℕ) × IsPast config before torn slash n
+some_past before torns.Prefix slash begun = counts _ 1 (told_alone before some_address some_prefix begun)
+some_past before torns.Address slash begun = counts _ (if slash then 2 else 1) (told_alone before some_prefix some_address begun)
+some_past before torns.Slash slash begun = counts _ 1 (told_address before begun)
+some_past before torns.Other slash begun = (0, refl)
+
+some_past_first : (before rest : List Word) → IsBegunWithin rule 64 config before → (n : ℕ) × IsPastFirst config before rest n
+some_past_first before [] begun = (0, refl)
+some_past_first before (w ∷ ws) begun = some_past before _ _ begun
+
 -- ---- a text
 
 abbrev Refused : List ℕ → Type 0
@@ -151,13 +203,15 @@ stop_text text tokens rest lexes s =
     let at = token_of text tokens (length s.before) in
     let len : length s.before + length rest ≡ length (said_words text tokens) = omega (arith, ap (λ (u : List Word). length u) s.front, length-append s.before rest) in
     let begun = begun_before (said_words text tokens) rest (length s.before) len s in
-    elim (told_some (first_bytes text (drop at tokens)) (IsUnsupported (take place (said_words text tokens))) (λ bytes. told_unsupported (take place (said_words text tokens)) bytes begun)) [
+    let bytes = word_bytes (drop place (said_words text tokens)) text (drop at tokens) in
+    elim (told_some bytes (IsUnsupported (take place (said_words text tokens))) (λ word. told_unsupported (take place (said_words text tokens)) word begun)) [
       | inl known ↦
           let h = stop_refused text tokens (said_words text tokens) (said_starts text tokens) refl refl rest place at len refl s (faults.Unsupported at) (refl, known) in
           (byte_of text tokens at, kinds.Unsupported, (tokens, at, lexes, h, refl))
       | inr other ↦
-          let h = stop_refused text tokens (said_words text tokens) (said_starts text tokens) refl refl rest place at len refl s (faults.Bad at) (refl, other) in
-          (byte_of text tokens at, kinds.Syntax, (tokens, at, lexes, h, refl))
+          let past = some_past_first (take place (said_words text tokens)) (drop place (said_words text tokens)) begun in
+          let h = stop_refused text tokens (said_words text tokens) (said_starts text tokens) refl refl rest place at len refl s (faults.Bad (at + past.0)) (other, past.0, past.1, refl) in
+          (byte_of text tokens (at + past.0), kinds.Syntax, (tokens, at + past.0, lexes, h, refl))
     ]
 
 deep_text : (text : List ℕ) (tokens : List Token) (rest : List Word) → Lexes 0 text tokens → IsTooDeep rule 64 config (said_words text tokens) rest → Refused text

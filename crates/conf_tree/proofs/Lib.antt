@@ -6,6 +6,7 @@ pub mod Each
 pub mod FirstWords
 pub mod FunctionSteps
 pub mod Heads
+pub mod KindTrees
 pub mod Known
 pub mod LastWord
 pub mod LiteralSteps
@@ -19,6 +20,7 @@ pub mod RouteSteps
 pub mod SaidLaws
 pub mod SaidSteps
 pub mod Tested
+pub mod SlashTrees
 pub mod TextRefusals
 pub mod TextsOnce
 pub mod TokenBytes

@@ -1,5 +1,5 @@
 -- How the tokens of a text are refused, by places among its words: in one way at most, and only where they are none.
-use Rattle.std.proofs.Common.{◌≡◌, ℕ, ◌+◌, ◌≤◌, List, [], ◌++◌, length, take, drop, slice_index_or, IsSomeAnd, Result, Ok, Err, IfOk, IfErr, refl, sym, ap, subst, ◌∙◌, arith, inl, inr}
+use Rattle.std.proofs.Common.{◌≡◌, ℕ, zero, suc, ◌+◌, ◌≤◌, Bool, true, false, cond, List, [], ◌∷◌, ◌++◌, length, map, take, drop, slice_index_or, IsSomeAnd, Result, Ok, Err, IfOk, IfErr, refl, sym, ap, subst, ◌∙◌, arith, inl, inr}
 use Rattle.std.proofs.lemmas.List.{length-append, length-drop, drop_at, take_at}
 use Rattle.std.specs.Borrow.{Bor}
 use Rattle.conf_lex.specs.declared.token.Token.{Token}
@@ -14,11 +14,14 @@ use Rattle.filt_syntax.specs.Syntax.{rule}
 use Rattle.filt_syntax.specs.declared.parse.SyntaxFault.{SyntaxFault}
 use Rattle.filt_syntax.specs.declared.parse.SyntaxFault.TheVariants as faults
 use Rattle.filt_syntax.specs.RefusedToken.{IsPastAt, IsBadFrom}
-use Rattle.filt_syntax.proofs.RefusedTokens.{one_past_at}
+use Rattle.filt_syntax.proofs.RefusedTokens.{one_past_at, below_words}
 use Rattle.grammar.proofs.Shapes.{bad_from, deep_from}
 use Rattle.conf_tree.specs.Syntax.{config}
 use Rattle.conf_tree.specs.Readers.{whole_at}
-use Rattle.conf_tree.specs.Said.{said_words, said_starts, token_of}
+use Rattle.conf_lex.specs.Words.{words_of}
+use Rattle.conf_tree.specs.Said.{behind, says, said, said_words, said_starts, token_of}
+use Rattle.conf_tree.specs.declared.said.Region.{Region}
+use Rattle.conf_tree.specs.declared.said.Region.TheVariants as regions
 use Rattle.conf_tree.specs.Sentence.{word_bytes, IsUnsupported, IsKnown, Refuses, IsBadAt, IsSentence, IsStop, StopsAt, DeepensAt, IsRefused, IsTree, IsAnswered}
 use Rattle.conf_tree.specs.View.{config_view}
 use Rattle.conf_tree.specs.declared.tree.Config.{Config}
@@ -49,6 +52,24 @@ deep_fewer said rest h = omega (arith, ap (λ (u : List Word). length u) h.front
 -- the words before the place begin a configuration
 pub begun_before : (said rest : List Word) (place : ℕ) → place + length rest ≡ length said → IsStop said rest → IsBegunWithin rule 64 config (take place said)
 begun_before said rest place len s = subst (λ (u : List Word). IsBegunWithin rule 64 config u) (sym (front_at said s.before rest place len s.front)) s.begun
+
+-- the first token of each word is within the tokens
+below_said : (end : ℕ) (ps : List (ℕ × Word)) (r : Region) → ((place : ℕ) → slice_index_or (map (λ p. p.0) ps) place end ≤ end) → (place : ℕ) → slice_index_or (map (λ p. p.0) (said r ps)) place end ≤ end
+below_said end [] r low place = low place
+below_said end (p ∷ ps) r low place = kept (says r p.1) (below_said end ps (behind r p.1) (λ n. low (suc n)))
+  where
+    more : ((n : ℕ) → slice_index_or (map (λ q. q.0) (said (behind r p.1) ps)) n end ≤ end) → (n : ℕ) → slice_index_or (p.0 ∷ map (λ q. q.0) (said (behind r p.1) ps)) n end ≤ end
+    more rest zero = low 0
+    more rest (suc n) = rest n
+
+    kept : (b : Bool) → ((n : ℕ) → slice_index_or (map (λ q. q.0) (said (behind r p.1) ps)) n end ≤ end) → slice_index_or (map (λ q. q.0) (cond b (p ∷ said (behind r p.1) ps) (said (behind r p.1) ps))) place end ≤ end
+    kept true rest = more rest place
+    kept false rest = rest place
+
+pub start_within : (text : List ℕ) (tokens : List Token) (starts : List ℕ) (place : ℕ) → starts ≡ said_starts text tokens → slice_index_or starts place (length tokens) ≤ length tokens
+start_within text tokens starts place is =
+    subst (λ (u : List ℕ). slice_index_or u place (length tokens) ≤ length tokens) (sym is)
+    (below_said (length tokens) (words_of text tokens) regions.Statements (below_words text (length tokens) 0 0 tokens (omega arith)) place)
 
 -- ---- what is answered
 

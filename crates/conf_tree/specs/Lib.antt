@@ -4,5 +4,6 @@ pub mod View
 pub mod Readers
 pub mod Said
 pub mod Sentence
+pub mod Alike
 pub mod Position
 pub mod Read

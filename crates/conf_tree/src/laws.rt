@@ -1,12 +1,15 @@
 //! What logs and device blocks hold, that a text says one thing, and that a place has one line and one column.
 ghost use Rattle.std.specs.Prelude.{◌≡◌, ◌≢◌, ◌⊎◌, ℕ, true, false, not, ◌||◌};
-ghost use Rattle.std.specs.Prelude.{List, [], ◌∷◌, ◌++◌, map};
+ghost use Rattle.std.specs.Prelude.{List, [], ◌∷◌, ◌++◌, length, map};
 ghost use Rattle.std.specs.List.{list_all};
 ghost use Rattle.conf_lex.specs.declared.symbol.Symbol.{Symbol};
+ghost use Rattle.conf_lex.specs.declared.token.Token.{Token};
 ghost use Rattle.conf_lex.specs.declared.word.Word.{Word};
 ghost use Rattle.conf_tree.specs.declared.said.Region.{Region};
 ghost use Rattle.conf_tree.specs.Said.{is, said, IsBalanced};
 ghost use Rattle.conf_tree.specs.Position.{IsPlace};
+ghost use Rattle.conf_tree.specs.Sentence.{IsRefused};
+ghost use Rattle.conf_tree.specs.Alike.{IsAlike, AreAlike, DecideAlike, IsNoSentence};
 ghost use Rattle.conf_tree.specs.Read.{IsConfigText, IsRefusedText};
 ghost use Rattle.conf_tree.specs.declared.kind.ConfKind.{ConfKind};
 ghost use Rattle.conf_tree.specs.Syntax.{config};
@@ -21,6 +24,7 @@ use conf_lex::laws::{
     texts_have_one_list_of_tokens,
 };
 use conf_lex::{Symbol, Word};
+use filt_syntax::SyntaxFault;
 
 /// What stands between the braces of a device, with a name or without one, says nothing: words in which each brace is
 /// closed are taken out, up to the brace that closes the block.
@@ -158,4 +162,20 @@ pub fn configurations_are_not_refused()
 pub fn sentences_decide()
     ensures { (t : Tree) → Spells rule t config
         → (u : Tree) × Fits rule u config × (yield u ≡ yield t) }
+{}
+
+/// A text is refused at the first token that no configuration has there: none begins with the
+/// tokens up to and with the refused one, kind for kind and byte for byte, nor has just these where
+/// the end is refused. How many levels are open doesn't matter to it. Two tokens decide with those
+/// behind them: `else`, which a colon makes one sign, and the address of a bad prefix, which is
+/// refused there though a good one may begin with it.
+pub fn refusals_are_by_tokens()
+    ensures token { (text other : List ℕ) (front back seen more : List Token) (t u : Token)
+        → IsRefused text (front ++ t ∷ back) (SyntaxFault.Bad (length front))
+        → AreAlike text front other seen → IsAlike text t other u
+        → DecideAlike text t back other u more
+        → IsNoSentence other (seen ++ u ∷ more) }
+    ensures end { (text other : List ℕ) (tokens seen : List Token)
+        → IsRefused text tokens (SyntaxFault.Bad (length tokens))
+        → AreAlike text tokens other seen → IsNoSentence other seen }
 {}

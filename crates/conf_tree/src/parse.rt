@@ -1,6 +1,6 @@
 // The configuration of a text with these tokens.
 
-ghost use Rattle.std.specs.Prelude.{◌≡◌, ◌↔◌, ◌<◌, ◌≤◌, ◌+◌, ◌^◌, length, take, drop, None, Some};
+ghost use Rattle.std.specs.Prelude.{◌≡◌, ◌↔◌, ◌≤◌, ◌+◌, length, take, drop, None, Some};
 ghost use Rattle.std.specs.Prelude.{IsTrue, IsSomeAnd, MatchOption, IfOk, IfErr, slice_index_or};
 ghost use Rattle.conf_lex.specs.declared.symbol.Symbol.TheVariants as sym;
 ghost use Rattle.conf_lex.specs.Lex.{Lexes};
@@ -70,6 +70,13 @@ fn word_bytes<'a>(
     }
 }
 
+fn words_from(words: &[Word], place: usize) -> &[Word]
+    requires { place ≤ length words.now }
+    ensures { result.now ≡ drop place words.now }
+{
+    &words[place..]
+}
+
 // Whether the word in this place, which begins with this token and can't stand there, is known there.
 fn is_known(
     alloc: Global,
@@ -86,7 +93,7 @@ fn is_known(
         ↔ IsSomeAnd (word_bytes (drop place said.now) text.now (drop at tokens.now))
         (IsUnsupported (take place said.now))) }
 {
-    match word_bytes(text, tokens, &said[place..], at) {
+    match word_bytes(text, tokens, words_from(said, place), at) {
         Some(word) => is_unsupported(alloc, &said[..place], word),
         None => Ok(false),
     }
@@ -104,7 +111,7 @@ fn refusal(
     requires lexed { Lexes 0 text.now tokens.now }
     requires within { place ≤ length said.now }
     requires begun { IsBegunWithin rule 64 config (take place said.now) }
-    requires start { at + 2 < 2 ^ 64 }
+    requires start { at ≤ length tokens.now }
     ensures { Refuses (IsSomeAnd (word_bytes (drop place said.now) text.now (drop at tokens.now))
         (IsUnsupported (take place said.now))) said.now place at result }
 {

@@ -1,0 +1,216 @@
+-- A grammar looks at kinds alone: trees of words of the same kinds, of an address with a slash behind it in whose place
+-- a prefix stands, and of no prefix that is bad.
+use Rattle.std.proofs.Common.{◌≡◌, ℕ, zero, suc, Bool, true, false, ◌&&◌, ◌||◌, List, [], ◌∷◌, ◌++◌, length, map, refl, sym, ap, subst, ◌∙◌, append_assoc, arith, inl, inr, ◌⊎◌}
+use Rattle.std.proofs.lemmas.List.{length-append}
+use Rattle.conf_lex.specs.declared.symbol.Symbol.TheVariants as symbols
+use Rattle.conf_lex.specs.declared.word.Word.{Word}
+use Rattle.conf_lex.specs.declared.word.Word.TheVariants as words
+use Rattle.grammar.specs.Kind.{Kind, IsAddress, IsPrefix, IsNoPrefix, IsSymbol, kind_of, symbol}
+use Rattle.grammar.specs.Grammar.{Form, One, Empty, Seq, Either, Chain, Nest, Unless, Tree, Leaf, Blank, Both, First, Second, Start, More, Inside, Shut, yield, begins, nullable, starts, is_blank, goes_on, goes_in, Fits}
+use Rattle.grammar.specs.Sentences.{IsBegun}
+use Rattle.grammar.proofs.Checks.{check, and_true, more, not, not_true, goes_more, goes_inner}
+use Rattle.grammar.proofs.Good.{fits_front}
+use Rattle.grammar.proofs.Spelled.{}
+use Rattle.grammar.proofs.Unique.{fronts}
+use Rattle.filt_syntax.specs.Syntax.{rule}
+use Rattle.filt_syntax.specs.RefusedToken.{some_prefix, some_address}
+use Rattle.filt_syntax.proofs.Tested.{model, after, checked, solid_at}
+use Rattle.conf_tree.specs.Syntax.{config}
+use Rattle.conf_tree.proofs.Tested.{config_checked}
+
+-- ---- words of the same kinds
+
+abbrev pub kinds_of : List Word → List Kind
+kinds_of ws = map kind_of ws
+
+record Split (xs ys vs : List Word) : Type 0 where
+  one : List Word
+  two : List Word
+  cut : vs ≡ one ++ two
+  first : kinds_of xs ≡ kinds_of one
+  second : kinds_of ys ≡ kinds_of two
+
+split : (xs ys vs : List Word) → kinds_of (xs ++ ys) ≡ kinds_of vs → Split xs ys vs
+split [] ys vs e = record { one = []; two = vs; cut = refl; first = refl; second = e }
+split (x ∷ xs) ys [] e = absurd cc
+split (x ∷ xs) ys (v ∷ vs) e =
+    let head : kind_of x ≡ kind_of v = cc in
+    let tail : kinds_of (xs ++ ys) ≡ kinds_of vs = cc in
+    let s = split xs ys vs tail in
+    record { one = v ∷ s.one; two = s.two; cut = ap (λ (l : List Word). v ∷ l) s.cut; first = ap2 head s.first; second = s.second }
+  where
+    ap2 : {k j : Kind} {ks js : List Kind} → k ≡ j → ks ≡ js → k ∷ ks ≡ j ∷ js
+    ap2 e f = cc
+
+blank_same : (xs ys : List Word) → kinds_of xs ≡ kinds_of ys → is_blank xs ≡ is_blank ys
+blank_same [] [] e = refl
+blank_same [] (y ∷ ys) e = absurd cc
+blank_same (x ∷ xs) [] e = absurd cc
+blank_same (x ∷ xs) (y ∷ ys) e = refl
+
+begins_same : (p q : Kind → Bool) → ((k : Kind) → p k ≡ q k) → (xs ys : List Word) → kinds_of xs ≡ kinds_of ys → begins p xs ≡ begins q ys
+begins_same p q same [] [] e = refl
+begins_same p q same [] (y ∷ ys) e = absurd cc
+begins_same p q same (x ∷ xs) [] e = absurd cc
+begins_same p q same (x ∷ xs) (y ∷ ys) e = let head : kind_of x ≡ kind_of y = cc in same (kind_of x) ∙ ap q head
+
+one_word : (w : Word) (vs : List Word) → kinds_of (w ∷ []) ≡ kinds_of vs → (v : Word) × (vs ≡ v ∷ []) × (kind_of w ≡ kind_of v)
+one_word w [] e = absurd cc
+one_word w (v ∷ []) e = let head : kind_of w ≡ kind_of v = cc in (v, refl, head)
+one_word w (v ∷ x ∷ vs) e = let rest : [] ≡ kind_of x ∷ kinds_of vs = cc in absurd cc
+
+none_left : (vs : List Word) → kinds_of [] ≡ kinds_of vs → vs ≡ []
+none_left [] e = refl
+none_left (v ∷ vs) e = absurd cc
+
+-- a tree of the form, of these words, with which the same words go on
+record Alike (t : Tree) (f : Form) (vs : List Word) : Type 0 where
+  tree : Tree
+  fits : Fits rule tree f
+  reads : yield tree ≡ vs
+  on : (k : Kind) → goes_on rule tree f k ≡ goes_on rule t f k
+  inside : (k : Kind) → goes_in rule tree f k ≡ goes_in rule t f k
+
+both_same : (a b c d e f : Bool) → a ≡ b → c ≡ d → e ≡ f → (a || (c && e)) ≡ (b || (d && f))
+both_same a b c d e f p q r = rw (p, q, r) refl
+
+or_same : (a b c : Bool) → a ≡ b → (a || c) ≡ (b || c)
+or_same a b c e = rw e refl
+
+apart_same : (p q : Kind → Bool) → ((k : Kind) → p k ≡ q k) → (xs ys : List Word) → kinds_of xs ≡ kinds_of ys → begins q xs ≡ false → begins p ys ≡ false
+apart_same p q same xs ys e h = sym (begins_same q p (λ k. sym (same k)) xs ys e) ∙ h
+
+kinds_in : (u v : List Word) → u ≡ v → (ks : List Kind) → ks ≡ kinds_of v → kinds_of u ≡ ks
+kinds_in u v e ks is = ap kinds_of e ∙ sym is
+
+alike : (t : Tree) (f : Form) (vs : List Word) → Fits rule t f → kinds_of (yield t) ≡ kinds_of vs → Alike t f vs
+alike (Leaf w) (One p) vs h e =
+    let v = one_word w vs e in
+    record { tree = Leaf v.0; fits = ap p (sym v.2) ∙ h; reads = sym v.1; on = λ k. refl; inside = λ k. refl }
+alike Blank Empty vs h e = record { tree = Blank; fits = tt; reads = sym (none_left vs e); on = λ k. refl; inside = λ k. refl }
+alike (Both a b) (Seq f g) vs h e =
+    let s = split (yield a) (yield b) vs e in
+    let x = alike a f s.one h.0 s.first in
+    let y = alike b g s.two h.1 s.second in
+    let back : kinds_of (yield b) ≡ kinds_of (yield y.tree) = s.second ∙ ap kinds_of (sym y.reads) in
+    record {
+      tree = Both x.tree y.tree;
+      fits = (x.fits, y.fits, apart_same (goes_on rule x.tree f) (goes_on rule a f) x.on (yield b) (yield y.tree) back h.2);
+      reads = ap (λ (l : List Word). l ++ yield y.tree) x.reads ∙ ap (λ (l : List Word). s.one ++ l) y.reads ∙ sym s.cut;
+      on = λ k. both_same _ _ _ _ _ _ (y.on k) (sym (blank_same (yield b) (yield y.tree) back)) (x.on k);
+      inside = λ k. refl;
+    }
+alike (First a) (Either f g) vs h e =
+    let x = alike a f vs h e in
+    record { tree = First x.tree; fits = x.fits; reads = x.reads; on = x.on; inside = λ k. refl }
+alike (Second b) (Either f g) vs h e =
+    let y = alike b g vs h e in
+    let back : kinds_of (yield b) ≡ kinds_of (yield y.tree) = e ∙ ap kinds_of (sym y.reads) in
+    record { tree = Second y.tree; fits = y.fits; reads = y.reads; on = λ k. both_same _ _ _ _ _ _ (y.on k) (sym (blank_same (yield b) (yield y.tree) back)) refl; inside = λ k. refl }
+alike (Start a) (Chain f g) vs h e =
+    let x = alike a f vs h e in
+    record { tree = Start x.tree; fits = x.fits; reads = x.reads; on = λ k. or_same _ _ _ (x.on k); inside = x.on }
+alike (More t b) (Chain f g) vs h e =
+    let s = split (yield t) (yield b) vs e in
+    let x = alike t (Chain f g) s.one h.0 s.first in
+    let y = alike b g s.two h.1 s.second in
+    let back : kinds_of (yield b) ≡ kinds_of (yield y.tree) = s.second ∙ ap kinds_of (sym y.reads) in
+    record {
+      tree = More x.tree y.tree;
+      fits = (x.fits, y.fits, apart_same (goes_in rule x.tree (Chain f g)) (goes_in rule t (Chain f g)) x.inside (yield b) (yield y.tree) back h.2);
+      reads = ap (λ (l : List Word). l ++ yield y.tree) x.reads ∙ ap (λ (l : List Word). s.one ++ l) y.reads ∙ sym s.cut;
+      on = λ k. or_same _ _ _ (y.on k);
+      inside = y.on;
+    }
+alike (Inside w t) (Nest p n) [] h e = absurd cc
+alike (Inside w t) (Nest p n) (v ∷ vs) h e =
+    let head : kind_of w ≡ kind_of v = cc in
+    let tail : kinds_of (yield t) ≡ kinds_of vs = cc in
+    let x = alike t (rule n) vs h.1 tail in
+    record { tree = Inside v x.tree; fits = (ap p (sym head) ∙ h.0, x.fits); reads = ap (λ (l : List Word). v ∷ l) x.reads; on = x.on; inside = λ k. refl }
+alike (Second b) (Unless p f) vs h e =
+    let y = alike b f vs h e in
+    let back : kinds_of (yield b) ≡ kinds_of (yield y.tree) = e ∙ ap kinds_of (sym y.reads) in
+    record { tree = Second y.tree; fits = y.fits; reads = y.reads; on = λ k. both_same _ _ _ _ _ _ (y.on k) (sym (blank_same (yield b) (yield y.tree) back)) refl; inside = λ k. refl }
+alike (Shut w) (Unless p f) vs h e =
+    let v = one_word w vs e in
+    record { tree = Shut v.0; fits = ap p (sym v.2) ∙ h; reads = sym v.1; on = λ k. refl; inside = λ k. refl }
+alike _ _ vs h e = absurd h
+
+-- what is begun by words is begun by others of the same kinds
+pub begun_alike : (f : Form) (xs ys : List Word) → kinds_of xs ≡ kinds_of ys → IsBegun rule f xs → IsBegun rule f ys
+begun_alike f xs ys e b =
+    let same : kinds_of (yield b.0) ≡ kinds_of (ys ++ b.1) = ap kinds_of b.3 ∙ append_kinds xs ys b.1 e in
+    let x = alike b.0 f (ys ++ b.1) b.2 same in
+    (x.tree, b.1, x.fits, x.reads)
+  where
+    append_kinds : (xs ys more : List Word) → kinds_of xs ≡ kinds_of ys → kinds_of (xs ++ more) ≡ kinds_of (ys ++ more)
+    append_kinds [] [] more e = refl
+    append_kinds [] (y ∷ ys) more e = absurd cc
+    append_kinds (x ∷ xs) [] more e = absurd cc
+    append_kinds (x ∷ xs) (y ∷ ys) more e =
+        let head : kind_of x ≡ kind_of y = cc in
+        let tail : kinds_of xs ≡ kinds_of ys = cc in
+        let rest = append_kinds xs ys more tail in cc
+
+-- ---- no bad prefix
+
+abbrev takes_none : Form → Bool
+takes_none (One p) = not (p IsNoPrefix)
+takes_none Empty = true
+takes_none (Seq f g) = takes_none f && takes_none g
+takes_none (Either f g) = takes_none f && takes_none g
+takes_none (Chain f g) = takes_none f && takes_none g
+takes_none (Nest p n) = not (p IsNoPrefix)
+takes_none (Unless p f) = not (p IsNoPrefix) && takes_none f
+
+levels_take_none : (n : ℕ) → takes_none (rule n) ≡ true
+levels_take_none zero = refl
+levels_take_none (suc zero) = refl
+levels_take_none (suc (suc zero)) = refl
+levels_take_none (suc (suc (suc zero))) = refl
+levels_take_none (suc (suc (suc (suc zero)))) = refl
+levels_take_none (suc (suc (suc (suc (suc zero))))) = refl
+levels_take_none (suc (suc (suc (suc (suc (suc zero)))))) = refl
+levels_take_none (suc (suc (suc (suc (suc (suc (suc zero))))))) = refl
+levels_take_none (suc (suc (suc (suc (suc (suc (suc (suc zero)))))))) = refl
+levels_take_none (suc (suc (suc (suc (suc (suc (suc (suc (suc zero))))))))) = refl
+levels_take_none (suc (suc (suc (suc (suc (suc (suc (suc (suc (suc zero)))))))))) = refl
+levels_take_none (suc (suc (suc (suc (suc (suc (suc (suc (suc (suc (suc zero))))))))))) = refl
+levels_take_none (suc (suc (suc (suc (suc (suc (suc (suc (suc (suc (suc (suc n)))))))))))) = refl
+
+-- none of the words is a bad prefix
+HasNone : List Word → Type 0
+HasNone [] = Unit {0}
+HasNone (w ∷ ws) = (kind_of w ≡ IsNoPrefix → ⊥) × HasNone ws
+
+has_none_both : (xs ys : List Word) → HasNone xs → HasNone ys → HasNone (xs ++ ys)
+has_none_both [] ys h g = g
+has_none_both (x ∷ xs) ys h g = (h.0, has_none_both xs ys h.1 g)
+
+never_taken : (p : Kind → Bool) (w : Word) → not (p IsNoPrefix) ≡ true → p (kind_of w) ≡ true → kind_of w ≡ IsNoPrefix → ⊥
+never_taken p w none takes is =
+    let no : p IsNoPrefix ≡ false = not_true (p IsNoPrefix) none in
+    let other : p IsNoPrefix ≡ true = ap p (sym is) ∙ takes in
+    cc
+
+fits_none : (t : Tree) (f : Form) → takes_none f ≡ true → Fits rule t f → HasNone (yield t)
+fits_none (Leaf w) (One p) e h = (never_taken p w e h, tt)
+fits_none Blank Empty e h = tt
+fits_none (Both a b) (Seq f g) e h = let c = and_true (takes_none f) (takes_none g) e in has_none_both (yield a) (yield b) (fits_none a f c.0 h.0) (fits_none b g c.1 h.1)
+fits_none (First a) (Either f g) e h = fits_none a f (and_true (takes_none f) (takes_none g) e).0 h
+fits_none (Second b) (Either f g) e h = fits_none b g (and_true (takes_none f) (takes_none g) e).1 h
+fits_none (Start a) (Chain f g) e h = fits_none a f (and_true (takes_none f) (takes_none g) e).0 h
+fits_none (More t b) (Chain f g) e h = has_none_both (yield t) (yield b) (fits_none t (Chain f g) e h.0) (fits_none b g (and_true (takes_none f) (takes_none g) e).1 h.1)
+fits_none (Inside w t) (Nest p n) e h = (never_taken p w e h.0, fits_none t (rule n) (levels_take_none n) h.1)
+fits_none (Second b) (Unless p f) e h = fits_none b f (and_true (not (p IsNoPrefix)) (takes_none f) e).1 h
+fits_none (Shut w) (Unless p f) e h = (never_taken p w (and_true (not (p IsNoPrefix)) (takes_none f) e).0 h, tt)
+fits_none _ _ e h = absurd h
+
+has_none_at : (before : List Word) (w : Word) (more : List Word) → HasNone (before ++ w ∷ more) → kind_of w ≡ IsNoPrefix → ⊥
+has_none_at [] w more h is = h.0 is
+has_none_at (v ∷ before) w more h is = has_none_at before w more h.1 is
+
+pub never_bad_prefix : (before : List Word) (w : Word) → kind_of w ≡ IsNoPrefix → IsBegun rule config (before ++ w ∷ []) → ⊥
+never_bad_prefix before w is b =
+    has_none_at before w b.1 (subst HasNone (b.3 ∙ append_assoc before (w ∷ []) b.1) (fits_none b.0 config refl b.2)) is

@@ -1,0 +1,285 @@
+-- Where an address and a slash can stand, so can a prefix.
+use Rattle.std.proofs.Common.{◌≡◌, ℕ, zero, suc, Bool, true, false, ◌&&◌, ◌||◌, List, [], ◌∷◌, ◌++◌, length, refl, sym, ap, subst, ◌∙◌, append_assoc, append-nil, arith, inl, inr, ◌⊎◌}
+use Rattle.conf_lex.specs.declared.symbol.Symbol.TheVariants as symbols
+use Rattle.conf_lex.specs.declared.word.Word.{Word}
+use Rattle.conf_lex.specs.declared.word.Word.TheVariants as words
+use Rattle.grammar.specs.Kind.{Kind, IsAddress, IsPrefix, IsSymbol, kind_of, symbol}
+use Rattle.grammar.specs.Grammar.{Form, One, Empty, Seq, Either, Chain, Nest, Unless, Tree, Leaf, Blank, Both, First, Second, Start, More, Inside, Shut, yield, begins, nullable, starts, is_blank, goes_on, goes_in, Fits}
+use Rattle.grammar.specs.Sentences.{IsBegun}
+use Rattle.grammar.proofs.Checks.{check, and_true, or_cases, or_left, or_right, more, not, not_true, solid_of, goes_more, goes_inner}
+use Rattle.grammar.proofs.Good.{Front, fits_front}
+use Rattle.grammar.proofs.Symbols.{is_symbol_word}
+use Rattle.grammar.proofs.Unique.{fronts}
+use Rattle.filt_syntax.specs.Syntax.{rule}
+use Rattle.filt_syntax.specs.RefusedToken.{some_prefix}
+use Rattle.filt_syntax.proofs.Tested.{model, after, checked}
+use Rattle.conf_tree.specs.Syntax.{config}
+use Rattle.conf_tree.proofs.Tested.{config_checked}
+
+abbrev slash : Kind
+slash = IsSymbol symbols.Slash
+
+-- the form may end in an address, in whose place a prefix can't stand; no level does
+abbrev ends_short : Form → Bool
+ends_short (One p) = p IsAddress && not (p IsPrefix)
+ends_short Empty = false
+ends_short (Seq f g) = ends_short g || (nullable g && ends_short f)
+ends_short (Either f g) = ends_short f || ends_short g
+ends_short (Chain f g) = ends_short f || ends_short g
+ends_short (Nest p n) = false
+ends_short (Unless p f) = true
+
+-- no such address has a slash behind it, and no part goes on with a prefix that begins the next one
+abbrev tidy : Form → Bool
+tidy (One p) = true
+tidy Empty = true
+tidy (Seq f g) = (tidy f && tidy g) && (not (ends_short f && starts g slash) && not (more after f IsPrefix && starts g IsPrefix))
+tidy (Either f g) = tidy f && tidy g
+tidy (Chain f g) = (tidy f && tidy g) && (not ((ends_short f || ends_short g) && starts g slash) && not ((more after f IsPrefix || more after g IsPrefix) && starts g IsPrefix))
+tidy (Nest p n) = not (p IsAddress)
+tidy (Unless p f) = false
+
+levels_tidy : (n : ℕ) → (tidy (rule n) && not (ends_short (rule n))) ≡ true
+levels_tidy zero = refl
+levels_tidy (suc zero) = refl
+levels_tidy (suc (suc zero)) = refl
+levels_tidy (suc (suc (suc zero))) = refl
+levels_tidy (suc (suc (suc (suc zero)))) = refl
+levels_tidy (suc (suc (suc (suc (suc zero))))) = refl
+levels_tidy (suc (suc (suc (suc (suc (suc zero)))))) = refl
+levels_tidy (suc (suc (suc (suc (suc (suc (suc zero))))))) = refl
+levels_tidy (suc (suc (suc (suc (suc (suc (suc (suc zero)))))))) = refl
+levels_tidy (suc (suc (suc (suc (suc (suc (suc (suc (suc zero))))))))) = refl
+levels_tidy (suc (suc (suc (suc (suc (suc (suc (suc (suc (suc zero)))))))))) = refl
+levels_tidy (suc (suc (suc (suc (suc (suc (suc (suc (suc (suc (suc zero))))))))))) = refl
+levels_tidy (suc (suc (suc (suc (suc (suc (suc (suc (suc (suc (suc (suc n)))))))))))) = refl
+
+-- what comes behind the address: a slash, or nothing where the form doesn't end in a short one
+Behind : Form → List Word → Type 0
+Behind f rest = (begins (symbol symbols.Slash) rest ≡ true) ⊎ ((rest ≡ []) × (ends_short f ≡ false))
+
+-- the tree with a prefix in place of the address
+record Swapped (t : Tree) (f : Form) (front rest : List Word) : Type 0 where
+  tree : Tree
+  fits : Fits rule tree f
+  reads : yield tree ≡ front ++ some_prefix ∷ rest
+  on : (k : Kind) → goes_on rule tree f k ≡ goes_on rule t f k
+  inside : (k : Kind) → goes_in rule tree f k ≡ goes_in rule t f k
+
+-- ---- booleans
+
+and_false : (a b : Bool) → not (a && b) ≡ true → b ≡ true → a ≡ false
+and_false true true e h = absurd cc
+and_false true false e h = absurd cc
+and_false false b e h = refl
+
+or_none : (a b : Bool) → (a || b) ≡ false → (a ≡ false) × (b ≡ false)
+or_none true b e = absurd cc
+or_none false b e = (refl, e)
+
+or_and_none : (a n b : Bool) → (a || (n && b)) ≡ false → n ≡ true → b ≡ false
+or_and_none true n b e h = absurd cc
+or_and_none false n b e h = rw h at e
+
+implied_false : (a b : Bool) → (a ≡ true → b ≡ true) → b ≡ false → a ≡ false
+implied_false true b up none = let yes = up refl in cc
+implied_false false b up none = refl
+
+or_false : (a b : Bool) → a ≡ false → b ≡ false → (a || b) ≡ false
+or_false a b e h = rw (e, h) refl
+
+takes : (p : Kind → Bool) → (p IsAddress && not (p IsPrefix)) ≡ false → p IsAddress ≡ true → p IsPrefix ≡ true
+takes p short is = low (p IsAddress) (p IsPrefix) short is
+  where
+    low : (a b : Bool) → (a && not b) ≡ false → a ≡ true → b ≡ true
+    low a true e h = refl
+    low true false e h = absurd cc
+    low false false e h = absurd cc
+
+both_same : (a b c d e f : Bool) → a ≡ b → c ≡ d → e ≡ f → (a || (c && e)) ≡ (b || (d && f))
+both_same a b c d e f p q r = rw (p, q, r) refl
+
+or_same : (a b c : Bool) → a ≡ b → (a || c) ≡ (b || c)
+or_same a b c e = rw e refl
+
+blank_in : (front : List Word) (w v : Word) (rest xs ys : List Word) → xs ≡ front ++ w ∷ rest → ys ≡ front ++ v ∷ rest → is_blank ys ≡ is_blank xs
+blank_in [] w v rest xs ys e h = rw (e, h) refl
+blank_in (x ∷ front) w v rest xs ys e h = rw (e, h) refl
+
+-- ---- what follows a part
+
+slash_starts : (g : Form) (ws : List Word) → Front g ws → begins (symbol symbols.Slash) ws ≡ true → starts g slash ≡ true
+slash_starts g [] h e = absurd cc
+slash_starts g (w ∷ ws) h e = ap (λ (v : Word). starts g (kind_of v)) (sym (is_symbol_word w symbols.Slash refl e)) ∙ h
+
+begins_on : (p q : Kind → Bool) → ((k : Kind) → p k ≡ q k) → (ws : List Word) → begins q ws ≡ false → begins p ws ≡ false
+begins_on p q same [] e = refl
+begins_on p q same (w ∷ ws) e = same (kind_of w) ∙ e
+
+-- behind the first of two parts
+behind_first : (short : Bool) (g : Form) (f : Form) (whole : Bool) (more rest back : List Word) → ends_short f ≡ short → Front g back → not (short && starts g slash) ≡ true
+    → (nullable g ≡ true → whole ≡ false → short ≡ false) → rest ≡ more ++ back → (begins (symbol symbols.Slash) rest ≡ true) ⊎ ((rest ≡ []) × (whole ≡ false)) → Behind f more
+behind_first short g f whole (v ∷ more) rest back is front apart last e (inl slashed) = inl (ap (begins (symbol symbols.Slash)) (sym e) ∙ slashed)
+behind_first short g f whole (v ∷ more) rest back is front apart last e (inr none) = let never = sym none.0 ∙ e in absurd cc
+behind_first short g f whole [] rest back is front apart last e (inl slashed) =
+    inr (refl, is ∙ and_false short (starts g slash) apart (slash_starts g back front (ap (begins (symbol symbols.Slash)) (sym e) ∙ slashed)))
+behind_first short g f whole [] rest back is front apart last e (inr none) =
+    let empty : back ≡ [] = sym e ∙ none.0 in
+    inr (refl, is ∙ last (subst (λ (u : List Word). Front g u) empty front) none.1)
+
+after_swap : (p : Kind → Bool) (inner : List Word) (w : Word) (rest xs ys : List Word) (some : Bool) (g : Form) → xs ≡ inner ++ w ∷ rest → ys ≡ inner ++ some_prefix ∷ rest → begins p xs ≡ false → (some ≡ false → p IsPrefix ≡ false) → not (some && starts g IsPrefix) ≡ true → Front g ys → begins p ys ≡ false
+after_swap p [] w rest xs ys some g e h none off apart front =
+    let here : starts g IsPrefix ≡ true = subst (λ (u : List Word). Front g u) h front in
+    rw h (off (and_false some (starts g IsPrefix) apart here))
+after_swap p (v ∷ inner) w rest xs ys some g e h none off apart front = rw h (sym (ap (begins p) e) ∙ none)
+
+either_first : (f g : Form) (rest : List Word) → (begins (symbol symbols.Slash) rest ≡ true) ⊎ ((rest ≡ []) × ((ends_short f || ends_short g) ≡ false)) → Behind f rest
+either_first f g rest (inl slashed) = inl slashed
+either_first f g rest (inr none) = inr (none.0, (or_none (ends_short f) (ends_short g) none.1).0)
+
+either_second : (f g : Form) (rest : List Word) → (begins (symbol symbols.Slash) rest ≡ true) ⊎ ((rest ≡ []) × ((ends_short f || ends_short g) ≡ false)) → Behind g rest
+either_second f g rest (inl slashed) = inl slashed
+either_second f g rest (inr none) = inr (none.0, (or_none (ends_short f) (ends_short g) none.1).1)
+
+inside_behind : (n : ℕ) (rest : List Word) → ends_short (rule n) ≡ false → (begins (symbol symbols.Slash) rest ≡ true) ⊎ ((rest ≡ []) × (false ≡ false)) → Behind (rule n) rest
+inside_behind n rest short (inl slashed) = inl slashed
+inside_behind n rest short (inr none) = inr (none.0, short)
+
+none_long : (front : List Word) (w : Word) (rest : List Word) → [] ≡ front ++ w ∷ rest → ⊥
+none_long [] w rest e = cc
+none_long (v ∷ front) w rest e = cc
+
+swap : (t : Tree) (f : Form) → check model after f ≡ true → tidy f ≡ true → Fits rule t f → (front : List Word) (w : Word) (rest : List Word) → kind_of w ≡ IsAddress → yield t ≡ front ++ w ∷ rest → Behind f rest → Swapped t f front rest
+swap (Leaf v) (One p) ok one h [] w rest is e (inl slashed) = let none : [] ≡ rest = cc in let never : begins (symbol symbols.Slash) [] ≡ true = ap (begins (symbol symbols.Slash)) none ∙ slashed in absurd cc
+swap (Leaf v) (One p) ok one h [] w rest is e (inr last) =
+    let same : v ≡ w = cc in
+    let none : [] ≡ rest = cc in
+    let here : p IsAddress ≡ true = ap p (sym is ∙ ap kind_of (sym same)) ∙ h in
+    record { tree = Leaf some_prefix; fits = takes p last.1 here; reads = ap (λ (l : List Word). some_prefix ∷ l) none; on = λ k. refl; inside = λ k. refl }
+swap (Leaf v) (One p) ok one h (x ∷ front) w rest is e behind = let tail : [] ≡ front ++ w ∷ rest = cc in absurd (none_long front w rest tail)
+swap Blank Empty ok one h front w rest is e behind = absurd (none_long front w rest e)
+swap (Both a b) (Seq f g) ok one h front w rest is e behind = elim (fronts (yield a) (yield b) front (w ∷ rest) e) [
+  | inl x ↦ right [] (sym (append-nil (yield a) ∙ x.0)) x.1
+  | inr x ↦ elim x [
+    | inl l ↦
+        let same : w ≡ l.word = let q = l.rest in cc in
+        let tail : rest ≡ l.more ++ yield b = let q = l.rest in cc in
+        left l.more (l.front ∙ ap (λ (v : Word). front ++ v ∷ l.more) (sym same)) tail
+    | inr l ↦ right (l.word ∷ l.more) l.front l.rest
+  ]
+]
+  where
+    c : (check model after f ≡ true) × (check model after g ≡ true)
+    c = and_true _ _ (and_true _ _ ok).0
+
+    parts : (tidy f ≡ true) × (tidy g ≡ true)
+    parts = and_true _ _ (and_true _ _ one).0
+
+    rules : (not (ends_short f && starts g slash) ≡ true) × (not (more after f IsPrefix && starts g IsPrefix) ≡ true)
+    rules = and_true _ _ (and_true _ _ one).1
+
+    left : (more : List Word) → yield a ≡ front ++ w ∷ more → rest ≡ more ++ yield b → Swapped (Both a b) (Seq f g) front rest
+    left more cut tail =
+        let x = swap a f c.0 parts.0 h.0 front w more is cut (behind_first (ends_short f) g f (ends_short (Seq f g)) more rest (yield b) refl (fits_front rule b g (solid_of rule model after g c.1) h.1) rules.0 (λ full none. or_and_none (ends_short g) (nullable g) (ends_short f) none full) tail behind) in
+        record {
+          tree = Both x.tree b;
+          fits = (x.fits, h.1, begins_on (goes_on rule x.tree f) (goes_on rule a f) x.on (yield b) h.2);
+          reads = ap (λ (l : List Word). l ++ yield b) x.reads ∙ append_assoc front (some_prefix ∷ more) (yield b) ∙ ap (λ (l : List Word). front ++ some_prefix ∷ l) (sym tail);
+          on = λ k. both_same _ _ _ _ _ _ refl refl (x.on k);
+          inside = λ k. refl;
+        }
+
+    behind_right : Behind (Seq f g) rest → Behind g rest
+    behind_right (inl slashed) = inl slashed
+    behind_right (inr none) = inr (none.0, (or_none (ends_short g) (nullable g && ends_short f) none.1).0)
+
+    right : (inner : List Word) → front ≡ yield a ++ inner → yield b ≡ inner ++ w ∷ rest → Swapped (Both a b) (Seq f g) front rest
+    right inner cut tail =
+        let y = swap b g c.1 parts.1 h.1 inner w rest is tail (behind_right behind) in
+        let off = implied_false (goes_on rule a f IsPrefix) (more after f IsPrefix) (goes_more rule model after checked a f IsPrefix (solid_of rule model after f c.0) h.0) in
+        record {
+          tree = Both a y.tree;
+          fits = (h.0, y.fits, after_swap (goes_on rule a f) inner w rest (yield b) (yield y.tree) (more after f IsPrefix) g tail y.reads h.2 off rules.1 (fits_front rule y.tree g (solid_of rule model after g c.1) y.fits));
+          reads = ap (λ (l : List Word). yield a ++ l) y.reads ∙ sym (append_assoc (yield a) inner (some_prefix ∷ rest)) ∙ ap (λ (l : List Word). l ++ some_prefix ∷ rest) (sym cut);
+          on = λ k. both_same _ _ _ _ _ _ (y.on k) (blank_in inner w some_prefix rest (yield b) (yield y.tree) tail y.reads) refl;
+          inside = λ k. refl;
+        }
+swap (First a) (Either f g) ok one h front w rest is e behind =
+    let c = (and_true (check model after f) (check model after g) (and_true _ _ ok).0) in
+    let x = swap a f c.0 (and_true (tidy f) (tidy g) one).0 h front w rest is e (either_first f g rest behind) in
+    record { tree = First x.tree; fits = x.fits; reads = x.reads; on = x.on; inside = λ k. refl }
+swap (Second b) (Either f g) ok one h front w rest is e behind =
+    let c = (and_true (check model after f) (check model after g) (and_true _ _ ok).0) in
+    let y = swap b g c.1 (and_true (tidy f) (tidy g) one).1 h front w rest is e (either_second f g rest behind) in
+    record { tree = Second y.tree; fits = y.fits; reads = y.reads; on = λ k. both_same _ _ _ _ _ _ (y.on k) (blank_in front w some_prefix rest (yield b) (yield y.tree) e y.reads) refl; inside = λ k. refl }
+swap (Start a) (Chain f g) ok one h front w rest is e behind =
+    let c = (and_true (check model after f) (check model after g) (and_true _ _ ok).0) in
+    let parts = (and_true (tidy f) (tidy g) (and_true _ _ one).0) in
+    let x = swap a f c.0 parts.0 h front w rest is e (either_first f g rest behind) in
+    record { tree = Start x.tree; fits = x.fits; reads = x.reads; on = λ k. or_same _ _ _ (x.on k); inside = x.on }
+swap (More t b) (Chain f g) ok one h front w rest is e behind = elim (fronts (yield t) (yield b) front (w ∷ rest) e) [
+  | inl x ↦ right [] (sym (append-nil (yield t) ∙ x.0)) x.1
+  | inr x ↦ elim x [
+    | inl l ↦
+        let same : w ≡ l.word = let q = l.rest in cc in
+        let tail : rest ≡ l.more ++ yield b = let q = l.rest in cc in
+        left l.more (l.front ∙ ap (λ (v : Word). front ++ v ∷ l.more) (sym same)) tail
+    | inr l ↦ right (l.word ∷ l.more) l.front l.rest
+  ]
+]
+  where
+    c : (check model after f ≡ true) × (check model after g ≡ true)
+    c = and_true _ _ (and_true _ _ ok).0
+
+    parts : (tidy f ≡ true) × (tidy g ≡ true)
+    parts = and_true _ _ (and_true _ _ one).0
+
+    rules : (not ((ends_short f || ends_short g) && starts g slash) ≡ true) × (not ((more after f IsPrefix || more after g IsPrefix) && starts g IsPrefix) ≡ true)
+    rules = and_true _ _ (and_true _ _ one).1
+
+    left : (more : List Word) → yield t ≡ front ++ w ∷ more → rest ≡ more ++ yield b → Swapped (More t b) (Chain f g) front rest
+    left more cut tail =
+        let x = swap t (Chain f g) ok one h.0 front w more is cut (behind_first (ends_short (Chain f g)) g (Chain f g) (ends_short (Chain f g)) more rest (yield b) refl (fits_front rule b g (solid_of rule model after g c.1) h.1) rules.0 (λ full none. none) tail behind) in
+        record {
+          tree = More x.tree b;
+          fits = (x.fits, h.1, begins_on (goes_in rule x.tree (Chain f g)) (goes_in rule t (Chain f g)) x.inside (yield b) h.2);
+          reads = ap (λ (l : List Word). l ++ yield b) x.reads ∙ append_assoc front (some_prefix ∷ more) (yield b) ∙ ap (λ (l : List Word). front ++ some_prefix ∷ l) (sym tail);
+          on = λ k. refl;
+          inside = λ k. refl;
+        }
+
+    right : (inner : List Word) → front ≡ yield t ++ inner → yield b ≡ inner ++ w ∷ rest → Swapped (More t b) (Chain f g) front rest
+    right inner cut tail =
+        let y = swap b g c.1 parts.1 h.1 inner w rest is tail (either_second f g rest behind) in
+        let off = implied_false (goes_in rule t (Chain f g) IsPrefix) (more after f IsPrefix || more after g IsPrefix) (goes_inner rule model after checked t f g IsPrefix (solid_of rule model after (Chain f g) ok) h.0) in
+        record {
+          tree = More t y.tree;
+          fits = (h.0, y.fits, after_swap (goes_in rule t (Chain f g)) inner w rest (yield b) (yield y.tree) (more after f IsPrefix || more after g IsPrefix) g tail y.reads h.2 off rules.1 (fits_front rule y.tree g (solid_of rule model after g c.1) y.fits));
+          reads = ap (λ (l : List Word). yield t ++ l) y.reads ∙ sym (append_assoc (yield t) inner (some_prefix ∷ rest)) ∙ ap (λ (l : List Word). l ++ some_prefix ∷ rest) (sym cut);
+          on = λ k. or_same _ _ _ (y.on k);
+          inside = y.on;
+        }
+swap (Inside v t) (Nest p n) ok one h [] w rest is e behind =
+    let same : v ≡ w = cc in
+    let here : p IsAddress ≡ true = ap p (sym is ∙ ap kind_of (sym same)) ∙ h.0 in
+    let never = not_true (p IsAddress) one in
+    absurd cc
+swap (Inside v t) (Nest p n) ok one h (x ∷ front) w rest is e behind =
+    let same : v ≡ x = cc in
+    let tail : yield t ≡ front ++ w ∷ rest = cc in
+    let level = and_true (tidy (rule n)) (not (ends_short (rule n))) (levels_tidy n) in
+    let y = swap t (rule n) (checked.checks n) level.0 h.1 front w rest is tail (inside_behind n rest (not_true _ level.1) behind) in
+    record { tree = Inside v y.tree; fits = (h.0, y.fits); reads = ap (λ (l : List Word). v ∷ l) y.reads ∙ ap (λ (u : Word). u ∷ (front ++ some_prefix ∷ rest)) same; on = y.on; inside = λ k. refl }
+swap (Second b) (Unless p f) ok one h front w rest is e behind = absurd cc
+swap (Shut v) (Unless p f) ok one h front w rest is e behind = absurd cc
+swap _ _ ok one h front w rest is e behind = absurd h
+
+pub prefix_follows : (before : List Word) (w : Word) (more : List Word) → kind_of w ≡ IsAddress → begins (symbol symbols.Slash) more ≡ true → IsBegun rule config (before ++ w ∷ more) → IsBegun rule config (before ++ some_prefix ∷ [])
+prefix_follows before w more is slashed b =
+    let cut : yield b.0 ≡ before ++ w ∷ (more ++ b.1) = b.3 ∙ append_assoc before (w ∷ more) b.1 in
+    let x = swap b.0 config config_checked refl b.2 before w (more ++ b.1) is cut (inl (still more b.1 slashed)) in
+    (x.tree, more ++ b.1, x.fits, x.reads ∙ sym (append_assoc before (some_prefix ∷ []) (more ++ b.1)))
+  where
+    still : (more back : List Word) → begins (symbol symbols.Slash) more ≡ true → begins (symbol symbols.Slash) (more ++ back) ≡ true
+    still [] back e = absurd cc
+    still (v ∷ more) back e = e
