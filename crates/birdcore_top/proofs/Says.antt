@@ -70,9 +70,9 @@ BuildsNone text all = (config : Config) → Builds text all config → ⊥
 of_protocol : (text : List ℕ) (all : List Statement) (p : Protocol BgpOption) → effective text all ≡ statements.Bgp p ∷ [] → BuildsOne text all ⊎ BuildsNone text all
 of_protocol text all p alone = elim (session_by (bgp_says p.options.items) _ _ _ _ _ refl refl refl refl refl) [
   | inl found ↦ inl (
-      record { name = protocol_name text p.name; local = found.0; neighbor = found.1.addr; remote = found.1.number },
-      built_is text all p p.options.items (bgp_says p.options.items) found.0 found.1 (protocol_name text p.name) alone refl refl found.2 refl,
-    )
+    record { name = protocol_name text p.name; local = found.0; neighbor = found.1.addr; remote = found.1.number },
+    built_is text all p p.options.items (bgp_says p.options.items) found.0 found.1 (protocol_name text p.name) alone refl refl found.2 refl,
+  )
   | inr none ↦ inr (λ config builds.
       let there : Remote = record { addr = config.neighbor; number = config.remote } in
       let same : builds.protocol ≡ p = bgp_once (effective text all) builds.protocol p builds.alone alone in

@@ -307,11 +307,7 @@ fn protocol_name(alloc: Global, text: &[u8], name: Option<Name>) -> Result<Vec<u
 
 /// What is built of a configuration's statements, and none where they are of another form than the
 /// one that is.
-fn built(
-    alloc: Global,
-    text: &[u8],
-    statements: &[Statement],
-) -> Result<Option<Config>, AllocError>
+fn built(alloc: Global, text: &[u8], statements: &[Statement]) -> Result<Option<Config>, AllocError>
     ensures { IfOk result
         (λ read. MatchOption read ((config : Config) → Builds text.now statements.now config → ⊥)
         (λ config. Builds text.now statements.now config)) }

@@ -61,7 +61,7 @@ fn next_value(words: &[Word]) -> Option<(Literal, &[Word])>
 fn pair(at: usize, words: &[Word]) -> Result<(Literal, &[Word]), Refusal>
     ensures { Gives literal_tree result (seen_as
         (both (word is_num) (both (word (symbol sym.Comma))
-            (both (word is_num) (word (symbol sym.CloseParenthesis)))))
+        (both (word is_num) (word (symbol sym.CloseParenthesis)))))
         (λ t. nth 1 (Both (placed_leaf at sym.OpenParenthesis) t)) words.now) }
 {
     let (first, rest) = num(words)?;

@@ -40,11 +40,7 @@ pub enum Literal {
     /// The value of another constant.
     Name(Name),
     /// A pair; `at` is the place of its parenthesis.
-    Pair {
-        at: usize,
-        first: Num,
-        second: Num,
-    },
+    Pair { at: usize, first: Num, second: Num },
     Set { at: usize, items: Vec<Item> },
     Mask { at: usize, items: Vec<MaskItem> },
 }
