@@ -5,7 +5,6 @@ use Rattle.conf_tree.specs.Position.{IsPlace}
 use Rattle.conf_tree.specs.Read.{IsRefusedText}
 use Rattle.conf_tree.specs.declared.kind.ConfKind.{ConfKind}
 use Rattle.conf_tree.specs.declared.tree.BgpOption.{BgpOption}
-use Rattle.conf_tree.specs.declared.tree.Config.{Config as Syntax}
 use Rattle.conf_tree.specs.declared.tree.Protocol.{Protocol}
 use Rattle.conf_tree.specs.declared.tree.Statement.{Statement}
 use Rattle.conf_tree.specs.declared.tree.Statement.TheVariants.{Bgp}
@@ -39,12 +38,12 @@ none_left text ss i past so_far = sym so_far ∙ ap (effective text) (drop_all i
 
 -- ---- what is built
 
-pub built_is : (text : List ℕ) (tree : Syntax) (ss : List Statement) (p : Protocol BgpOption) (options : List BgpOption) (said : BgpSays) (local : ℕ) (remote : Remote) (name : List ℕ)
-    → ss ≡ tree.statements.items → effective text ss ≡ Bgp p ∷ [] → options ≡ p.options.items → said ≡ bgp_says options → SaysSession said local remote → name ≡ protocol_name text p.name
-    → Builds text tree (record { name = name; local = local; neighbor = remote.addr; remote = remote.number })
-built_is text tree ss p options said local remote name whole alone options_are said_is session name_is = record {
+pub built_is : (text : List ℕ) (ss : List Statement) (p : Protocol BgpOption) (options : List BgpOption) (said : BgpSays) (local : ℕ) (remote : Remote) (name : List ℕ)
+    → effective text ss ≡ Bgp p ∷ [] → options ≡ p.options.items → said ≡ bgp_says options → SaysSession said local remote → name ≡ protocol_name text p.name
+    → Builds text ss (record { name = name; local = local; neighbor = remote.addr; remote = remote.number })
+built_is text ss p options said local remote name alone options_are said_is session name_is = record {
   protocol = p;
-  alone = sym (ap (effective text) whole) ∙ alone;
+  alone = alone;
   session = subst (λ (s : BgpSays). SaysSession s local remote) (said_is ∙ ap bgp_says options_are) session;
   name = name_is;
 }

@@ -9,3 +9,4 @@ pub mod PlaySteps
 pub mod Machine
 pub mod Entries
 pub mod OptionOrder
+pub mod Says

@@ -14,14 +14,13 @@ use Rattle.filt_syntax.specs.declared.tree.Num.{Num}
 use Rattle.filt_syntax.specs.declared.tree.Num.TheVariants as nums
 use Rattle.filt_syntax.specs.ItemView.{num_tree}
 use Rattle.filt_syntax.specs.StatementView.{row_after, row_tree}
-use Rattle.conf_tree.specs.View.{maybe, family_leaf, switch_leaf, policy_tree, limit_tree, channel_option_tree, channel_options_tree, channel_tree, ended_tree, bgp_option_tree, protocol_tree, statement_tree, config_view}
+use Rattle.conf_tree.specs.View.{maybe, family_leaf, switch_leaf, policy_tree, limit_tree, channel_option_tree, channel_options_tree, channel_tree, ended_tree, bgp_option_tree, protocol_tree, statement_tree, statements_tree}
 use Rattle.conf_tree.specs.declared.tree.Address.{Address}
 use Rattle.conf_tree.specs.declared.tree.BgpOption.{BgpOption}
 use Rattle.conf_tree.specs.declared.tree.BgpOption.TheVariants as bgp_options
 use Rattle.conf_tree.specs.declared.tree.Channel.{Channel}
 use Rattle.conf_tree.specs.declared.tree.ChannelOption.{ChannelOption}
 use Rattle.conf_tree.specs.declared.tree.ChannelOption.TheVariants as channel_options
-use Rattle.conf_tree.specs.declared.tree.Config.{Config as Syntax}
 use Rattle.conf_tree.specs.declared.tree.Limit.{Limit}
 use Rattle.conf_tree.specs.declared.tree.Limit.TheVariants as limits
 use Rattle.conf_tree.specs.declared.tree.Policy.{Policy}
@@ -323,10 +322,10 @@ record TreeBuilds (text : List ℕ) (tree : Tree) (config : Config) : Type 0 whe
   session : SaysSession (tree_says protocol) config.local (record { addr = config.neighbor; number = config.remote })
   name : config.name ≡ protocol_name text (tree_protocol_name protocol)
 
-row_of_view : (text : List ℕ) (a : Syntax) → filter (tree_effect text) (row_onto (config_view a) []) ≡ map statement_tree (effective text a.statements.items)
-row_of_view text a = ap (filter (tree_effect text)) (row_again (map statement_tree a.statements.items)) ∙ effective_same text a.statements.items
+row_of_view : (text : List ℕ) (a : List Statement) → filter (tree_effect text) (row_onto (statements_tree a) []) ≡ map statement_tree (effective text a)
+row_of_view text a = ap (filter (tree_effect text)) (row_again (map statement_tree a)) ∙ effective_same text a
 
-told : (text : List ℕ) (a : Syntax) (config : Config) → Builds text a config → TreeBuilds text (config_view a) config
+told : (text : List ℕ) (a : List Statement) (config : Config) → Builds text a config → TreeBuilds text (statements_tree a) config
 told text a config is =
     let P : BgpSays → Type 0 = λ said. SaysSession said config.local (record { addr = config.neighbor; number = config.remote }) in
     let Q : Option Name → Type 0 = λ name. config.name ≡ protocol_name text name in
@@ -339,11 +338,11 @@ told text a config is =
       name = subst Q (sym (name_same is.protocol)) is.name;
     }
 
-untold : (text : List ℕ) (a : Syntax) (config : Config) → TreeBuilds text (config_view a) config → Builds text a config
+untold : (text : List ℕ) (a : List Statement) (config : Config) → TreeBuilds text (statements_tree a) config → Builds text a config
 untold text a config is =
     let P : BgpSays → Type 0 = λ said. SaysSession said config.local (record { addr = config.neighbor; number = config.remote }) in
     let Q : Option Name → Type 0 = λ name. config.name ≡ protocol_name text name in
-    let one = one_of_map (effective text a.statements.items) is.statement (sym (row_of_view text a) ∙ is.alone) in
+    let one = one_of_map (effective text a) is.statement (sym (row_of_view text a) ∙ is.alone) in
     let found = bgp_of one.0 is.protocol (ap behind_protocol one.2 ∙ is.is_bgp) in
     record {
       protocol = found.0;
@@ -353,7 +352,7 @@ untold text a config is =
     }
 
 -- Of two syntax trees of one tree of the grammar the same is built,
-pub views_build : (text : List ℕ) (a b : Syntax) (config : Config) → config_view a ≡ config_view b → Builds text a config → Builds text b config
+pub views_build : (text : List ℕ) (a b : List Statement) (config : Config) → statements_tree a ≡ statements_tree b → Builds text a config → Builds text b config
 views_build text a b config same is = untold text b config (subst (λ (t : Tree). TreeBuilds text t config) same (told text a config is))
 
 make_config : List ℕ → ℕ → Addr → ℕ → Config
@@ -367,17 +366,17 @@ config_same a b name local neighbor remote =
     ∙ ap (λ (n : Addr). make_config b.name b.local n a.remote) neighbor
     ∙ ap (λ (n : ℕ). make_config b.name b.local b.neighbor n) remote
 
-bgp_once : (ss : List Statement) (p q : Protocol BgpOption) → ss ≡ statements.Bgp p ∷ [] → ss ≡ statements.Bgp q ∷ [] → p ≡ q
+pub bgp_once : (ss : List Statement) (p q : Protocol BgpOption) → ss ≡ statements.Bgp p ∷ [] → ss ≡ statements.Bgp q ∷ [] → p ≡ q
 bgp_once ss p q one other = cc
 
 -- and of one syntax tree one thing.
-built_once : (text : List ℕ) (a : Syntax) (c d : Config) → Builds text a c → Builds text a d → c ≡ d
+built_once : (text : List ℕ) (a : List Statement) (c d : Config) → Builds text a c → Builds text a d → c ≡ d
 built_once text a c d one other =
-    let same = bgp_once (effective text a.statements.items) one.protocol other.protocol one.alone other.alone in
+    let same = bgp_once (effective text a) one.protocol other.protocol one.alone other.alone in
     let said : bgp_says one.protocol.options.items ≡ bgp_says other.protocol.options.items = ap (λ (p : Protocol BgpOption). bgp_says p.options.items) same in
     let local = some_tree c.local d.local (sym one.session.local_is ∙ ap (λ (s : BgpSays). s.local) said ∙ other.session.local_is) in
     let remote = some_tree _ _ (sym one.session.remote_is ∙ ap (λ (s : BgpSays). s.remote) said ∙ other.session.remote_is) in
     config_same c d (one.name ∙ ap (λ (p : Protocol BgpOption). protocol_name text p.name) same ∙ sym other.name) local (ap (λ (r : Remote). r.addr) remote) (ap (λ (r : Remote). r.number) remote)
 
-pub views_agree : (text : List ℕ) (a b : Syntax) (c d : Config) → config_view a ≡ config_view b → Builds text a c → Builds text b d → c ≡ d
+pub views_agree : (text : List ℕ) (a b : List Statement) (c d : Config) → statements_tree a ≡ statements_tree b → Builds text a c → Builds text b d → c ≡ d
 views_agree text a b c d same one other = built_once text b c d (views_build text a b c same one) other

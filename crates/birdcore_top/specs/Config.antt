@@ -1,7 +1,7 @@
 -- What is built of a configuration: one BGP protocol with one neighbour, from which all is imported
 -- and to which all is exported. Of options written twice the last counts, and statements and
 -- options without effect count for nothing.
-use Rattle.std.specs.Prelude.{◌≡◌, ℕ, Bool, true, false, ◌&&◌, ◌||◌, not, List, [], ◌∷◌, take, drop, codes, Option, Some, None, Vec, filter}
+use Rattle.std.specs.Prelude.{◌≡◌, ℕ, Bool, true, false, ◌&&◌, ◌||◌, not, List, [], ◌∷◌, codes, Option, Some, None, Vec, filter}
 use Rattle.std.specs.Global.{Global}
 use Rattle.std.specs.Bool.{nat_eq}
 use Rattle.std.specs.Cmp.Lexicographic.{pointwise}
@@ -9,10 +9,11 @@ use Rattle.bits_ip.specs.declared.address.Addr.{Addr}
 use Rattle.bits_ip.specs.declared.address.Addr.TheVariants as addrs
 use Rattle.bits_ip.specs.declared.address.Family.{Family}
 use Rattle.bits_ip.specs.declared.address.Family.TheVariants as families
+use Rattle.grammar.specs.Names.{name_bytes}
 use Rattle.grammar.specs.declared.named.Name.{Name}
 use Rattle.filt_syntax.specs.declared.tree.Num.{Num}
 use Rattle.filt_syntax.specs.declared.tree.Num.TheVariants as nums
-use Rattle.conf_tree.specs.View.{config_view}
+use Rattle.conf_tree.specs.View.{statements_tree}
 use Rattle.conf_tree.specs.Read.{IsConfigText, IsRefusedText}
 use Rattle.conf_tree.specs.Position.{IsPlace}
 use Rattle.conf_tree.specs.declared.kind.ConfKind.{ConfKind}
@@ -22,7 +23,6 @@ use Rattle.conf_tree.specs.declared.tree.BgpOption.TheVariants as bgp_options
 use Rattle.conf_tree.specs.declared.tree.Channel.{Channel}
 use Rattle.conf_tree.specs.declared.tree.ChannelOption.{ChannelOption}
 use Rattle.conf_tree.specs.declared.tree.ChannelOption.TheVariants as channel_options
-use Rattle.conf_tree.specs.declared.tree.Config.{Config as Tree}
 use Rattle.conf_tree.specs.declared.tree.Limit.{Limit}
 use Rattle.conf_tree.specs.declared.tree.Limit.TheVariants as limits
 use Rattle.conf_tree.specs.declared.tree.Policy.{Policy}
@@ -40,9 +40,6 @@ use Rattle.birdcore_top.specs.declared.config.ConfigFault.TheVariants as faults
 use Rattle.birdcore_top.specs.declared.config.Remote.{Remote}
 
 -- ---- statements
-
-abbrev pub name_bytes : List ℕ → Name → List ℕ
-name_bytes text name = take name.len (drop name.start text)
 
 -- the table that is always there, which its statement doesn't declare anew
 abbrev pub is_main_table : List ℕ → Family → Name → Bool
@@ -158,10 +155,10 @@ abbrev pub protocol_name : List ℕ → Option Name → List ℕ
 protocol_name text None = codes "bgp1"
 protocol_name text (Some name) = name_bytes text name
 
--- The configuration is one BGP protocol beside what has no effect, and gives this.
-pub record Builds (text : List ℕ) (tree : Tree) (config : Config) : Type 0 where
+-- The statements are one BGP protocol beside what has no effect, and give this.
+pub record Builds (text : List ℕ) (all : List Statement) (config : Config) : Type 0 where
   pub protocol : Protocol BgpOption
-  pub alone : effective text tree.statements.items ≡ statements.Bgp protocol ∷ []
+  pub alone : effective text all ≡ statements.Bgp protocol ∷ []
   pub session : SaysSession (bgp_says protocol.options.items) config.local
       (record { addr = config.neighbor; number = config.remote })
   pub name : config.name ≡ protocol_name text protocol.name
@@ -170,13 +167,13 @@ pub record Builds (text : List ℕ) (tree : Tree) (config : Config) : Type 0 whe
 
 -- the text is a configuration of which this is built
 abbrev pub IsConfig : List ℕ → Config → Type 0
-IsConfig text config = (tree : Tree) × IsConfigText text (config_view tree)
-    × Builds text tree config
+IsConfig text config = (all : List Statement) × IsConfigText text (statements_tree all)
+    × Builds text all config
 
 -- the text is a configuration of which nothing is built
 abbrev pub IsNotBuilt : List ℕ → Type 0
-IsNotBuilt text = (tree : Tree) × IsConfigText text (config_view tree)
-    × ((config : Config) → Builds text tree config → ⊥)
+IsNotBuilt text = (all : List Statement) × IsConfigText text (statements_tree all)
+    × ((config : Config) → Builds text all config → ⊥)
 
 -- the text is refused so, in this line and column
 abbrev pub IsRefusedAt : List ℕ → ℕ → ℕ → ConfKind → Type 0

@@ -5,7 +5,7 @@ ghost use Rattle.conf_tree.specs.declared.tree.Statement.{Statement};
 ghost use Rattle.outside_io.specs.Whole.{limit};
 ghost use Rattle.birdcore_top.specs.declared.config.Config.{Config};
 ghost use Rattle.birdcore_top.specs.declared.config.Remote.{Remote};
-ghost use Rattle.birdcore_top.specs.Config.{name_bytes, is_main_table, has_effect, effective, is_all, is_limit, channel_step, channel_says, says_all, is_plain, number_of, remote_of, is_on, bgp_step, bgp_says, SaysSession, protocol_name, Builds, IsConfig, IsConfigFault};
+ghost use Rattle.birdcore_top.specs.Config.{is_main_table, has_effect, effective, is_all, is_limit, channel_step, channel_says, says_all, is_plain, number_of, remote_of, is_on, bgp_step, bgp_says, SaysSession, protocol_name, Builds, IsConfig, IsConfigFault};
 
 use attrs::Seq;
 use bits_ip::{Addr, Family, OutOfMemory};
@@ -77,19 +77,11 @@ pub struct BgpSays {
     pub more: bool,
 }
 
-/// The bytes of a name.
-fn name_bytes(text: &[u8], name: Name) -> &[u8]
-    ensures { result.now ≡ name_bytes text.now name }
-{
-    let tail = &text[name.start.min(text.len())..];
-    &tail[..name.len.min(tail.len())]
-}
-
 /// Whether it is the table that is always there.
 fn is_main_table(text: &[u8], family: Family, name: Name) -> bool
     ensures { result ≡ is_main_table text.now family name }
 {
-    let bytes = name_bytes(text, name);
+    let bytes = name.bytes(text);
     match family {
         Family::V4 => bytes == b"master4".as_slice(),
         Family::V6 => bytes == b"master6".as_slice(),
@@ -308,18 +300,23 @@ fn protocol_name(alloc: Global, text: &[u8], name: Option<Name>) -> Result<Vec<u
     ensures { IfOk result (λ bytes. bytes.items ≡ protocol_name text.now name) }
 {
     match name {
-        Some(name) => Vec::from_slice(alloc, name_bytes(text, name)),
+        Some(name) => Vec::from_slice(alloc, name.bytes(text)),
         None => Vec::from_slice(alloc, b"bgp1"),
     }
 }
 
-/// What is built of a configuration, and none where it is of another form than the one that is.
-fn built(alloc: Global, text: &[u8], tree: &conf_tree::Config) -> Result<Option<Config>, AllocError>
+/// What is built of a configuration's statements, and none where they are of another form than the
+/// one that is.
+fn built(
+    alloc: Global,
+    text: &[u8],
+    statements: &[Statement],
+) -> Result<Option<Config>, AllocError>
     ensures { IfOk result
-        (λ read. MatchOption read ((config : Config) → Builds text.now tree.now config → ⊥)
-        (λ config. Builds text.now tree.now config)) }
+        (λ read. MatchOption read ((config : Config) → Builds text.now statements.now config → ⊥)
+        (λ config. Builds text.now statements.now config)) }
 {
-    let Some(protocol) = only_protocol(text, &tree.statements) else {
+    let Some(protocol) = only_protocol(text, statements) else {
         return Ok(None);
     };
     let Some((local, remote)) = session_of(bgp_says(&protocol.options)) else {
@@ -343,7 +340,7 @@ pub fn read_config(alloc: Global, text: &[u8]) -> Result<Config, ConfigFault>
     ensures fault { IfErr result (IsConfigFault text.now) }
 {
     match read_tree(alloc, text) {
-        Ok(tree) => match built(alloc, text, &tree) {
+        Ok(tree) => match built(alloc, text, &tree.statements) {
             Ok(Some(config)) => Ok(config),
             Ok(None) => Err(ConfigFault::NotBuilt),
             Err(_) => Err(ConfigFault::Memory),

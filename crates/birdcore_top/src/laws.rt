@@ -9,7 +9,7 @@ ghost use Rattle.report.specs.declared.phase.PhaseReport.{PhaseReport};
 ghost use Rattle.script_lang.specs.declared.script.Line.{Line};
 ghost use Rattle.birdcore_top.specs.declared.config.Config.{Config};
 ghost use Rattle.conf_tree.specs.declared.kind.ConfKind.{ConfKind};
-ghost use Rattle.birdcore_top.specs.Config.{IsConfig, IsNotBuilt, IsRefusedAt, bgp_says, channel_says, effective, has_effect};
+ghost use Rattle.birdcore_top.specs.Config.{Builds, IsConfig, IsNotBuilt, IsRefusedAt, bgp_says, channel_says, effective, has_effect};
 ghost use Rattle.birdcore_top.specs.OptionKinds.{replaces, rests_on_order, says_nothing, channel_replaces, channel_says_nothing};
 ghost use Rattle.birdcore_top.specs.Entries.{EachComesFrom};
 ghost use Rattle.birdcore_top.specs.Play.{State, start, Plays, IsPhase};
@@ -62,6 +62,13 @@ pub fn files_have_one_outcome()
     a_text_has_one_bad_line();
     scripts_have_no_bad_line();
 }
+
+/// Of the statements of a configuration something is built, or nothing is.
+pub fn statements_are_built_or_not()
+    ensures { (text : List ℕ) (all : List Statement)
+        → ((config : Config) × Builds text all config)
+        ⊎ ((config : Config) → Builds text all config → ⊥) }
+{}
 
 /// Files that are told come to an outcome, where the configuration says something.
 pub fn told_files_have_an_outcome()

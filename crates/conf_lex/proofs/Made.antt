@@ -35,56 +35,56 @@ made_if : (P : Word × ℕ → Type 0) (b : Bool) (x y : Word × ℕ) → (b ≡
 made_if P true x y one other = one refl
 made_if P false x y one other = other
 
-abbrev Makes : List ℕ → ℕ → List Token → Word × ℕ → Type 0
-Makes text i tokens word = IsMadeOf text i (take word.1 tokens) word.0
+abbrev Makes : List ℕ → List Token → Word × ℕ → Type 0
+Makes text tokens word = IsMadeOf text (take word.1 tokens) word.0
 
-else_colon : (text : List ℕ) (i : ℕ) (t u : Token) (ts : List Token) → (is_else (token_symbol text t) && is_colon (token_symbol text u)) ≡ true → Makes text i (t ∷ u ∷ ts) (words.Symbol symbols.ElseColon, 2)
-else_colon text i t u ts is =
+else_colon : (text : List ℕ) (t u : Token) (ts : List Token) → (is_else (token_symbol text t) && is_colon (token_symbol text u)) ≡ true → Makes text (t ∷ u ∷ ts) (words.Symbol symbols.ElseColon, 2)
+else_colon text t u ts is =
     let parts = and_parts (is_else (token_symbol text t)) (is_colon (token_symbol text u)) is in
     ElseColon t u refl (else_is (token_symbol text t) parts.0) (colon_is (token_symbol text u) parts.1) refl
 
-or_slashed : (text : List ℕ) (i : ℕ) (t u v : Token) (ts : List Token) (k : TokenKind) (b : Bool) (l : TokenKind) → t.kind ≡ k → is_slash (token_symbol text u) ≡ b → v.kind ≡ l
-    → Makes text i (t ∷ u ∷ v ∷ ts) (or_alone (slashed i k b l) (word_of text i t))
-or_slashed text i t u v ts (kinds.Ip addr) true (kinds.Number n) ip slash number = Slashed t u v addr n refl ip (slash_is (token_symbol text u) slash) number refl
-or_slashed text i t u v ts (kinds.Ip addr) true _ ip slash number = Alone t refl refl
-or_slashed text i t u v ts (kinds.Ip addr) false l ip slash number = Alone t refl refl
-or_slashed text i t u v ts _ b l ip slash number = Alone t refl refl
+or_slashed : (text : List ℕ) (t u v : Token) (ts : List Token) (k : TokenKind) (b : Bool) (l : TokenKind) → t.kind ≡ k → is_slash (token_symbol text u) ≡ b → v.kind ≡ l
+    → Makes text (t ∷ u ∷ v ∷ ts) (or_alone (slashed t.at k b l) (word_of text t))
+or_slashed text t u v ts (kinds.Ip addr) true (kinds.Number n) ip slash number = Slashed t u v addr n refl ip (slash_is (token_symbol text u) slash) number refl
+or_slashed text t u v ts (kinds.Ip addr) true _ ip slash number = Alone t refl refl
+or_slashed text t u v ts (kinds.Ip addr) false l ip slash number = Alone t refl refl
+or_slashed text t u v ts _ b l ip slash number = Alone t refl refl
 
-first_made : (text : List ℕ) (i : ℕ) (t : Token) (ts : List Token) → Makes text i (t ∷ ts) (first_word text i t ts)
-first_made text i t [] = Alone t refl refl
-first_made text i t (u ∷ []) =
-    made_if (Makes text i (t ∷ u ∷ [])) (is_else (token_symbol text t) && is_colon (token_symbol text u)) (words.Symbol symbols.ElseColon, 2) (word_of text i t, 1)
-    (λ is. else_colon text i t u [] is) (Alone t refl refl)
-first_made text i t (u ∷ v ∷ ts) =
-    made_if (Makes text i (t ∷ u ∷ v ∷ ts)) (is_else (token_symbol text t) && is_colon (token_symbol text u)) (words.Symbol symbols.ElseColon, 2) (or_alone (slashed i t.kind (is_slash (token_symbol text u)) v.kind) (word_of text i t))
-    (λ is. else_colon text i t u (v ∷ ts) is) (or_slashed text i t u v ts t.kind (is_slash (token_symbol text u)) v.kind refl refl refl)
+first_made : (text : List ℕ) (t : Token) (ts : List Token) → Makes text (t ∷ ts) (first_word text t ts)
+first_made text t [] = Alone t refl refl
+first_made text t (u ∷ []) =
+    made_if (Makes text (t ∷ u ∷ [])) (is_else (token_symbol text t) && is_colon (token_symbol text u)) (words.Symbol symbols.ElseColon, 2) (word_of text t, 1)
+    (λ is. else_colon text t u [] is) (Alone t refl refl)
+first_made text t (u ∷ v ∷ ts) =
+    made_if (Makes text (t ∷ u ∷ v ∷ ts)) (is_else (token_symbol text t) && is_colon (token_symbol text u)) (words.Symbol symbols.ElseColon, 2) (or_alone (slashed t.at t.kind (is_slash (token_symbol text u)) v.kind) (word_of text t))
+    (λ is. else_colon text t u (v ∷ ts) is) (or_slashed text t u v ts t.kind (is_slash (token_symbol text u)) v.kind refl refl refl)
 
 -- all words
 
-words_next : (text : List ℕ) (i : ℕ) (t : Token) (ts : List Token) (n : ℕ) → n ≡ (first_word text i t ts).1 → words_from text (i + 1) ((first_word text i t ts).1 - 1) ts ≡ words_from text (i + n) 0 (drop n (t ∷ ts))
+words_next : (text : List ℕ) (i : ℕ) (t : Token) (ts : List Token) (n : ℕ) → n ≡ (first_word text t ts).1 → words_from text (i + 1) ((first_word text t ts).1 - 1) ts ≡ words_from text (i + n) 0 (drop n (t ∷ ts))
 words_next text i t ts n is =
-    let size = first_size text i t ts in
-    let place : i + 1 + ((first_word text i t ts).1 - 1) ≡ i + n = omega (arith, size.0, is) in
-    words_behind text (i + 1) ((first_word text i t ts).1 - 1) ts ∙ ap (λ (m : ℕ). words_from text m 0 (drop ((first_word text i t ts).1 - 1) ts)) place
-    ∙ ap (λ (l : List Token). words_from text (i + n) 0 l) (drop_one (first_word text i t ts).1 t ts size.0 ∙ ap (λ (m : ℕ). drop m (t ∷ ts)) (sym is))
+    let size = first_size text t ts in
+    let place : i + 1 + ((first_word text t ts).1 - 1) ≡ i + n = omega (arith, size.0, is) in
+    words_behind text (i + 1) ((first_word text t ts).1 - 1) ts ∙ ap (λ (m : ℕ). words_from text m 0 (drop ((first_word text t ts).1 - 1) ts)) place
+    ∙ ap (λ (l : List Token). words_from text (i + n) 0 l) (drop_one (first_word text t ts).1 t ts size.0 ∙ ap (λ (m : ℕ). drop m (t ∷ ts)) (sym is))
 
 make_up : (k : ℕ) (text : List ℕ) (i : ℕ) (ts : List Token) → length ts ≤ k → MakeUp text i ts (words_from text i 0 ts)
 make_up k text i [] few = refl
 make_up zero text i (t ∷ ts) few = absurd (omega (arith, few))
 make_up (suc k) text i (t ∷ ts) few =
-    let n = (first_word text i t ts).1 in
-    let size = first_size text i t ts in
-    let len : (first_word text i t ts).1 ≡ length (take (first_word text i t ts).1 (t ∷ ts)) = omega (arith, length-take (first_word text i t ts).1 (t ∷ ts), size.1) in
-    let shorter : length (drop (first_word text i t ts).1 (t ∷ ts)) ≤ k = omega (arith, length-drop (first_word text i t ts).1 (t ∷ ts), size.0, few) in
-    let P : ℕ → Type 0 = λ m. MakeUp text (i + m) (drop (first_word text i t ts).1 (t ∷ ts)) (words_from text (i + 1) ((first_word text i t ts).1 - 1) ts) in
-    let Q : List (ℕ × Word) → Type 0 = λ ws. MakeUp text (i + (first_word text i t ts).1) (drop (first_word text i t ts).1 (t ∷ ts)) ws in
-    let more = make_up k text (i + (first_word text i t ts).1) (drop (first_word text i t ts).1 (t ∷ ts)) shorter in (
-      take (first_word text i t ts).1 (t ∷ ts),
-      drop (first_word text i t ts).1 (t ∷ ts),
-      sym (take-append-drop (first_word text i t ts).1 (t ∷ ts)),
+    let n = (first_word text t ts).1 in
+    let size = first_size text t ts in
+    let len : (first_word text t ts).1 ≡ length (take (first_word text t ts).1 (t ∷ ts)) = omega (arith, length-take (first_word text t ts).1 (t ∷ ts), size.1) in
+    let shorter : length (drop (first_word text t ts).1 (t ∷ ts)) ≤ k = omega (arith, length-drop (first_word text t ts).1 (t ∷ ts), size.0, few) in
+    let P : ℕ → Type 0 = λ m. MakeUp text (i + m) (drop (first_word text t ts).1 (t ∷ ts)) (words_from text (i + 1) ((first_word text t ts).1 - 1) ts) in
+    let Q : List (ℕ × Word) → Type 0 = λ ws. MakeUp text (i + (first_word text t ts).1) (drop (first_word text t ts).1 (t ∷ ts)) ws in
+    let more = make_up k text (i + (first_word text t ts).1) (drop (first_word text t ts).1 (t ∷ ts)) shorter in (
+      take (first_word text t ts).1 (t ∷ ts),
+      drop (first_word text t ts).1 (t ∷ ts),
+      sym (take-append-drop (first_word text t ts).1 (t ∷ ts)),
       refl,
-      first_made text i t ts,
-      subst P len (subst Q (sym (words_next text i t ts (first_word text i t ts).1 refl)) more),
+      first_made text t ts,
+      subst P len (subst Q (sym (words_next text i t ts (first_word text t ts).1 refl)) more),
     )
 
 pub tokens_make_up : (text : List ℕ) (tokens : List Token) → MakeUp text 0 tokens (words_of text tokens)
@@ -123,24 +123,24 @@ no_colon_no : (a b : Bool) → b ≡ false → (a && b) ≡ true → ⊥
 no_colon_no true b none is = false≢true (sym none ∙ is)
 no_colon_no false b none is = false≢true is
 
-size_before : (text : List ℕ) (i : ℕ) (f : Token) (front : List Token) (t : Token) (ts : List Token) → IsFirst text t → (first_word text i f (front ++ t ∷ ts)).1 ≤ suc (length front)
-size_before text i f [] t [] first =
-    most_if 1 (is_else (token_symbol text f) && is_colon (token_symbol text t)) (words.Symbol symbols.ElseColon, 2) (word_of text i f, 1)
+size_before : (text : List ℕ) (f : Token) (front : List Token) (t : Token) (ts : List Token) → IsFirst text t → (first_word text f (front ++ t ∷ ts)).1 ≤ suc (length front)
+size_before text f [] t [] first =
+    most_if 1 (is_else (token_symbol text f) && is_colon (token_symbol text t)) (words.Symbol symbols.ElseColon, 2) (word_of text f, 1)
     (λ is. absurd (no_colon_no (is_else (token_symbol text f)) (is_colon (token_symbol text t)) first.no_colon is)) (omega arith)
-size_before text i f [] t (v ∷ ts) first =
-    let none : slashed i f.kind (is_slash (token_symbol text t)) v.kind ≡ None = ap (λ (b : Bool). slashed i f.kind b v.kind) first.no_slash ∙ no_slash_none i f.kind v.kind in
-    most_if 1 (is_else (token_symbol text f) && is_colon (token_symbol text t)) (words.Symbol symbols.ElseColon, 2) (or_alone (slashed i f.kind (is_slash (token_symbol text t)) v.kind) (word_of text i f))
+size_before text f [] t (v ∷ ts) first =
+    let none : slashed f.at f.kind (is_slash (token_symbol text t)) v.kind ≡ None = ap (λ (b : Bool). slashed f.at f.kind b v.kind) first.no_slash ∙ no_slash_none f.at f.kind v.kind in
+    most_if 1 (is_else (token_symbol text f) && is_colon (token_symbol text t)) (words.Symbol symbols.ElseColon, 2) (or_alone (slashed f.at f.kind (is_slash (token_symbol text t)) v.kind) (word_of text f))
     (λ is. absurd (no_colon_no (is_else (token_symbol text f)) (is_colon (token_symbol text t)) first.no_colon is))
-    (one_or (slashed i f.kind (is_slash (token_symbol text t)) v.kind) (word_of text i f) none)
-size_before text i f (u ∷ []) t ts first =
-    let none = no_number_none i f.kind (is_slash (token_symbol text u)) t.kind first.no_number in
-    let one = one_or (slashed i f.kind (is_slash (token_symbol text u)) t.kind) (word_of text i f) none in
-    most_if 2 (is_else (token_symbol text f) && is_colon (token_symbol text u)) (words.Symbol symbols.ElseColon, 2) (or_alone (slashed i f.kind (is_slash (token_symbol text u)) t.kind) (word_of text i f))
+    (one_or (slashed f.at f.kind (is_slash (token_symbol text t)) v.kind) (word_of text f) none)
+size_before text f (u ∷ []) t ts first =
+    let none = no_number_none f.at f.kind (is_slash (token_symbol text u)) t.kind first.no_number in
+    let one = one_or (slashed f.at f.kind (is_slash (token_symbol text u)) t.kind) (word_of text f) none in
+    most_if 2 (is_else (token_symbol text f) && is_colon (token_symbol text u)) (words.Symbol symbols.ElseColon, 2) (or_alone (slashed f.at f.kind (is_slash (token_symbol text u)) t.kind) (word_of text f))
     (λ is. omega arith) (omega (arith, one))
-size_before text i f (u ∷ v ∷ front) t ts first =
-    let three : (first_word text i f (u ∷ v ∷ (front ++ t ∷ ts))).1 ≤ 3 =
-    most_if 3 (is_else (token_symbol text f) && is_colon (token_symbol text u)) (words.Symbol symbols.ElseColon, 2) (or_alone (slashed i f.kind (is_slash (token_symbol text u)) v.kind) (word_of text i f))
-    (λ is. omega arith) (most_or (slashed i f.kind (is_slash (token_symbol text u)) v.kind) (word_of text i f)) in
+size_before text f (u ∷ v ∷ front) t ts first =
+    let three : (first_word text f (u ∷ v ∷ (front ++ t ∷ ts))).1 ≤ 3 =
+    most_if 3 (is_else (token_symbol text f) && is_colon (token_symbol text u)) (words.Symbol symbols.ElseColon, 2) (or_alone (slashed f.at f.kind (is_slash (token_symbol text u)) v.kind) (word_of text f))
+    (λ is. omega arith) (most_or (slashed f.at f.kind (is_slash (token_symbol text u)) v.kind) (word_of text f)) in
     omega (arith, three)
 
 begins_word : (text : List ℕ) (i k : ℕ) (front : List Token) (t : Token) (ts : List Token) → IsFirst text t → k ≤ length front
@@ -154,11 +154,11 @@ begins_word text i (suc k) (f ∷ front) t ts first few =
     let place : i + 1 + length front ≡ i + length (f ∷ front) = omega arith in
     (more.0, more.1 ∙ ap (λ (n : ℕ). more.0 ++ words_from text n 0 (t ∷ ts)) place)
 begins_word text i zero (f ∷ front) t ts first few =
-    let word = first_word text i f (front ++ t ∷ ts) in
-    let size = size_before text i f front t ts first in
-    let more = begins_word text (i + 1) ((first_word text i f (front ++ t ∷ ts)).1 - 1) front t ts first (omega (arith, size)) in
+    let word = first_word text f (front ++ t ∷ ts) in
+    let size = size_before text f front t ts first in
+    let more = begins_word text (i + 1) ((first_word text f (front ++ t ∷ ts)).1 - 1) front t ts first (omega (arith, size)) in
     let place : i + 1 + length front ≡ i + length (f ∷ front) = omega arith in
-    ((i, (first_word text i f (front ++ t ∷ ts)).0) ∷ more.0, ap (λ (l : List (ℕ × Word)). (i, (first_word text i f (front ++ t ∷ ts)).0) ∷ l) (more.1 ∙ ap (λ (n : ℕ). more.0 ++ words_from text n 0 (t ∷ ts)) place))
+    ((i, (first_word text f (front ++ t ∷ ts)).0) ∷ more.0, ap (λ (l : List (ℕ × Word)). (i, (first_word text f (front ++ t ∷ ts)).0) ∷ l) (more.1 ∙ ap (λ (n : ℕ). more.0 ++ words_from text n 0 (t ∷ ts)) place))
 
 -- an address, a slash and a number
 
@@ -170,25 +170,25 @@ ip_first text t addr ip =
     let none : token_symbol text t ≡ None = symbol_of_kind text t (kinds.Ip addr) ip in
     record { no_colon = ap is_colon none; no_slash = ap is_slash none; no_number = λ n is. let same : kinds.Ip addr ≡ kinds.Number n = sym ip ∙ is in cc }
 
-slashed_first : (text : List ℕ) (i : ℕ) (t u v : Token) (addr : Addr) (n : ℕ) (ts : List Token) → t.kind ≡ kinds.Ip addr → token_symbol text u ≡ Some symbols.Slash → v.kind ≡ kinds.Number n
-    → first_word text i t (u ∷ v ∷ ts) ≡ (prefix_word i addr n, 3)
-slashed_first text i t u v addr n ts ip slash number =
-    ap (λ (k : TokenKind). cond (is_else (kind_symbol (slice_of text t) k) && is_colon (token_symbol text u)) (words.Symbol symbols.ElseColon, 2) (or_alone (slashed i k (is_slash (token_symbol text u)) v.kind) (word_of text i t))) ip
-    ∙ ap (λ (o : Option Symbol). or_alone (slashed i (kinds.Ip addr) (is_slash o) v.kind) (word_of text i t)) slash
-    ∙ ap (λ (k : TokenKind). or_alone (slashed i (kinds.Ip addr) true k) (word_of text i t)) number
+slashed_first : (text : List ℕ) (t u v : Token) (addr : Addr) (n : ℕ) (ts : List Token) → t.kind ≡ kinds.Ip addr → token_symbol text u ≡ Some symbols.Slash → v.kind ≡ kinds.Number n
+    → first_word text t (u ∷ v ∷ ts) ≡ (prefix_word t.at addr n, 3)
+slashed_first text t u v addr n ts ip slash number =
+    ap (λ (k : TokenKind). cond (is_else (kind_symbol (slice_of text t) k) && is_colon (token_symbol text u)) (words.Symbol symbols.ElseColon, 2) (or_alone (slashed t.at k (is_slash (token_symbol text u)) v.kind) (word_of text t))) ip
+    ∙ ap (λ (o : Option Symbol). or_alone (slashed t.at (kinds.Ip addr) (is_slash o) v.kind) (word_of text t)) slash
+    ∙ ap (λ (k : TokenKind). or_alone (slashed t.at (kinds.Ip addr) true k) (word_of text t)) number
 
 pub slashed_word : (text : List ℕ) (front back : List Token) (t u v : Token) (addr : Addr) (n : ℕ) → t.kind ≡ kinds.Ip addr → token_symbol text u ≡ Some symbols.Slash → v.kind ≡ kinds.Number n
-    → (before : List (ℕ × Word)) × (words_of text (front ++ t ∷ u ∷ v ∷ back) ≡ before ++ (length front, prefix_word (length front) addr n) ∷ words_from text (length front + 3) 0 back)
+    → (before : List (ℕ × Word)) × (words_of text (front ++ t ∷ u ∷ v ∷ back) ≡ before ++ (length front, prefix_word t.at addr n) ∷ words_from text (length front + 3) 0 back)
 slashed_word text front back t u v addr n ip slash number =
     let begun = begins_word text 0 0 front t (u ∷ v ∷ back) (ip_first text t addr ip) (omega arith) in
     let i = length front in
     let start : 0 + length front ≡ length front = omega arith in
-    let word = slashed_first text (length front) t u v addr n back ip slash number in
+    let word = slashed_first text t u v addr n back ip slash number in
     let place : length front + 1 + 1 + 1 ≡ length front + 3 = omega arith in (
       begun.0,
       begun.1 ∙ ap (λ (m : ℕ). begun.0 ++ words_from text m 0 (t ∷ u ∷ v ∷ back)) start
           ∙ ap (λ (w : Word × ℕ). begun.0 ++ (length front, w.0) ∷ words_from text (length front + 1) (w.1 - 1) (u ∷ v ∷ back)) word
-          ∙ ap (λ (m : ℕ). begun.0 ++ (length front, prefix_word (length front) addr n) ∷ words_from text m 0 back) place,
+          ∙ ap (λ (m : ℕ). begun.0 ++ (length front, prefix_word t.at addr n) ∷ words_from text m 0 back) place,
     )
 
 -- `else` and a colon
@@ -200,21 +200,21 @@ else_first text t is = record {
   no_number = λ n number. let same : ◌≡◌ {A = Option Symbol} None (Some symbols.Else) = sym (symbol_of_kind text t (kinds.Number n) number) ∙ is in cc;
 }
 
-colon_first : (text : List ℕ) (i : ℕ) (t u : Token) (ts : List Token) → token_symbol text t ≡ Some symbols.Else → token_symbol text u ≡ Some symbols.Colon
-    → first_word text i t (u ∷ ts) ≡ (words.Symbol symbols.ElseColon, 2)
-colon_first text i t u [] els colon =
-    ap (λ (o : Option Symbol). cond (is_else o && is_colon (token_symbol text u)) (words.Symbol symbols.ElseColon, 2) (word_of text i t, 1)) els
-    ∙ ap (λ (o : Option Symbol). cond (is_colon o) (words.Symbol symbols.ElseColon, 2) (word_of text i t, 1)) colon
-colon_first text i t u (v ∷ ts) els colon =
-    ap (λ (o : Option Symbol). cond (is_else o && is_colon (token_symbol text u)) (words.Symbol symbols.ElseColon, 2) (or_alone (slashed i t.kind (is_slash (token_symbol text u)) v.kind) (word_of text i t))) els
-    ∙ ap (λ (o : Option Symbol). cond (is_colon o) (words.Symbol symbols.ElseColon, 2) (or_alone (slashed i t.kind (is_slash (token_symbol text u)) v.kind) (word_of text i t))) colon
+colon_first : (text : List ℕ) (t u : Token) (ts : List Token) → token_symbol text t ≡ Some symbols.Else → token_symbol text u ≡ Some symbols.Colon
+    → first_word text t (u ∷ ts) ≡ (words.Symbol symbols.ElseColon, 2)
+colon_first text t u [] els colon =
+    ap (λ (o : Option Symbol). cond (is_else o && is_colon (token_symbol text u)) (words.Symbol symbols.ElseColon, 2) (word_of text t, 1)) els
+    ∙ ap (λ (o : Option Symbol). cond (is_colon o) (words.Symbol symbols.ElseColon, 2) (word_of text t, 1)) colon
+colon_first text t u (v ∷ ts) els colon =
+    ap (λ (o : Option Symbol). cond (is_else o && is_colon (token_symbol text u)) (words.Symbol symbols.ElseColon, 2) (or_alone (slashed t.at t.kind (is_slash (token_symbol text u)) v.kind) (word_of text t))) els
+    ∙ ap (λ (o : Option Symbol). cond (is_colon o) (words.Symbol symbols.ElseColon, 2) (or_alone (slashed t.at t.kind (is_slash (token_symbol text u)) v.kind) (word_of text t))) colon
 
 pub else_colon_word : (text : List ℕ) (front back : List Token) (t u : Token) → token_symbol text t ≡ Some symbols.Else → token_symbol text u ≡ Some symbols.Colon
     → (before : List (ℕ × Word)) × (words_of text (front ++ t ∷ u ∷ back) ≡ before ++ (length front, words.Symbol symbols.ElseColon) ∷ words_from text (length front + 2) 0 back)
 else_colon_word text front back t u els colon =
     let begun = begins_word text 0 0 front t (u ∷ back) (else_first text t els) (omega arith) in
     let start : 0 + length front ≡ length front = omega arith in
-    let word = colon_first text (length front) t u back els colon in
+    let word = colon_first text t u back els colon in
     let place : length front + 1 + 1 ≡ length front + 2 = omega arith in (
       begun.0,
       begun.1 ∙ ap (λ (m : ℕ). begun.0 ++ words_from text m 0 (t ∷ u ∷ back)) start

@@ -8,21 +8,20 @@ use Rattle.conf_lex.specs.declared.token.TokenKind.TheVariants as kinds
 use Rattle.conf_lex.specs.declared.word.Word.{Word}
 use Rattle.conf_lex.specs.declared.word.Word.TheVariants as words
 
--- A word is one token, or `else` and a colon, or an address, a slash and a number. Its first token
--- has this place.
-pub data IsMadeOf (text : List ℕ) (i : ℕ) (made : List Token) (word : Word) : Type 0 where
-  Alone : (t : Token) → made ≡ t ∷ [] → word ≡ word_of text i t → IsMadeOf text i made word
+-- A word is one token, or `else` and a colon, or an address, a slash and a number.
+pub data IsMadeOf (text : List ℕ) (made : List Token) (word : Word) : Type 0 where
+  Alone : (t : Token) → made ≡ t ∷ [] → word ≡ word_of text t → IsMadeOf text made word
   ElseColon : (t u : Token) → made ≡ t ∷ u ∷ [] → token_symbol text t ≡ Some symbols.Else
       → token_symbol text u ≡ Some symbols.Colon → word ≡ words.Symbol symbols.ElseColon
-      → IsMadeOf text i made word
+      → IsMadeOf text made word
   Slashed : (t u v : Token) (addr : Addr) (n : ℕ) → made ≡ t ∷ u ∷ v ∷ []
       → t.kind ≡ kinds.Ip addr → token_symbol text u ≡ Some symbols.Slash
-      → v.kind ≡ kinds.Number n → word ≡ prefix_word i addr n → IsMadeOf text i made word
+      → v.kind ≡ kinds.Number n → word ≡ prefix_word t.at addr n → IsMadeOf text made word
 
--- These tokens, of which the first has this place, make up these words, each with the place of its
--- first token.
+-- These tokens, of which the first has this number, make up these words, each with the number of
+-- its first token.
 abbrev pub MakeUp : List ℕ → ℕ → List Token → List (ℕ × Word) → Type 0
 MakeUp text i tokens [] = tokens ≡ []
 MakeUp text i tokens (w ∷ ws) =
     (made : List Token) × (rest : List Token) × (tokens ≡ made ++ rest) × (w.0 ≡ i)
-    × IsMadeOf text i made w.1 × MakeUp text (i + length made) rest ws
+    × IsMadeOf text made w.1 × MakeUp text (i + length made) rest ws

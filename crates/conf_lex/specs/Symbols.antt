@@ -113,6 +113,8 @@ is_placed symbols.For = true
 is_placed symbols.Return = true
 is_placed symbols.Not = true
 is_placed symbols.OpenBracket = true
+is_placed symbols.OpenParenthesis = true
+is_placed symbols.Where = true
 is_placed _ = false
 
 abbrev pub is_else : Option Symbol → Bool

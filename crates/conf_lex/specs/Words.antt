@@ -24,57 +24,61 @@ kind_symbol slice _ = None
 abbrev pub token_symbol : List ℕ → Token → Option Symbol
 token_symbol text t = kind_symbol (slice_of text t) t.kind
 
--- `i` is the token's place among the tokens
+-- a symbol that begins at this byte
 abbrev pub symbol_word : ℕ → Symbol → Word
-symbol_word i symbol = if is_placed symbol then words.Placed i symbol else words.Symbol symbol
+symbol_word at symbol = if is_placed symbol then words.Placed at symbol else words.Symbol symbol
 
-abbrev pub spelled_word : ℕ → Token → Option Symbol → Word
-spelled_word i t None = words.Name i t.at t.len
-spelled_word i t (Some symbol) = symbol_word i symbol
+abbrev pub spelled_word : Token → Option Symbol → Word
+spelled_word t None = words.Name t.at t.at t.len
+spelled_word t (Some symbol) = symbol_word t.at symbol
 
 -- the word that a token of this kind is alone
-abbrev pub kind_word : List ℕ → ℕ → Token → TokenKind → Word
-kind_word text i t kinds.Quoted = words.Name i (t.at + 1) (t.len - 2)
-kind_word text i t kinds.Text = words.Text i (t.at + 1) (t.len - 2)
-kind_word text i t (kinds.Number n) = words.Number i n
-kind_word text i t (kinds.Ip addr) = words.Ip i addr
-kind_word text i t _ = spelled_word i t (symbol_of (slice_of text t))
+abbrev pub kind_word : List ℕ → Token → TokenKind → Word
+kind_word text t kinds.Quoted = words.Name t.at (t.at + 1) (t.len - 2)
+kind_word text t kinds.Text = words.Text t.at (t.at + 1) (t.len - 2)
+kind_word text t (kinds.Number n) = words.Number t.at n
+kind_word text t (kinds.Ip addr) = words.Ip t.at addr
+kind_word text t _ = spelled_word t (symbol_of (slice_of text t))
 
-abbrev pub word_of : List ℕ → ℕ → Token → Word
-word_of text i t = kind_word text i t t.kind
+abbrev pub word_of : List ℕ → Token → Word
+word_of text t = kind_word text t t.kind
 
 -- an address and a length make a prefix
 abbrev pub is_prefix : Addr → ℕ → Bool
 is_prefix addr n = nat_le n (width_of addr) && (number_of addr % 2 ^ (width_of addr - n) == 0)
 
 abbrev pub prefix_word : ℕ → Addr → ℕ → Word
-prefix_word i addr n = if is_prefix addr n then words.Prefix i (record { addr = addr; len = n }) else words.BadPrefix i
+prefix_word at addr n =
+    if is_prefix addr n then words.Prefix at (record { addr = addr; len = n }) else words.BadPrefix at
 
--- the word of an address, a slash and a number
+-- the word of an address, which begins at this byte, a slash and a number
 abbrev pub slashed : ℕ → TokenKind → Bool → TokenKind → Option Word
-slashed i (kinds.Ip addr) true (kinds.Number n) = Some (prefix_word i addr n)
-slashed i _ _ _ = None
+slashed at (kinds.Ip addr) true (kinds.Number n) = Some (prefix_word at addr n)
+slashed at _ _ _ = None
 
 abbrev pub or_alone : Option Word → Word → Word × ℕ
 or_alone None alone = (alone, 1)
 or_alone (Some folded) alone = (folded, 3)
 
 -- The word that begins with a token, by what follows it, and of how many tokens it is made.
-abbrev pub first_word : List ℕ → ℕ → Token → List Token → Word × ℕ
-first_word text i t [] = (word_of text i t, 1)
-first_word text i t (u ∷ []) =
-    if is_else (token_symbol text t) && is_colon (token_symbol text u) then (words.Symbol symbols.ElseColon, 2) else (word_of text i t, 1)
-first_word text i t (u ∷ v ∷ ts) =
-    if is_else (token_symbol text t) && is_colon (token_symbol text u) then (words.Symbol symbols.ElseColon, 2)
-    else or_alone (slashed i t.kind (is_slash (token_symbol text u)) v.kind) (word_of text i t)
+abbrev pub first_word : List ℕ → Token → List Token → Word × ℕ
+first_word text t [] = (word_of text t, 1)
+first_word text t (u ∷ []) =
+    if is_else (token_symbol text t) && is_colon (token_symbol text u)
+    then (words.Symbol symbols.ElseColon, 2) else (word_of text t, 1)
+first_word text t (u ∷ v ∷ ts) =
+    if is_else (token_symbol text t) && is_colon (token_symbol text u)
+    then (words.Symbol symbols.ElseColon, 2)
+    else or_alone (slashed t.at t.kind (is_slash (token_symbol text u)) v.kind) (word_of text t)
 
--- The words from the token of this place on, each with the place of its first token. The first `skip` tokens belong to the word before.
+-- The words from the token of this number on, each with the number of its first token. The first
+-- `skip` tokens belong to the word before.
 abbrev pub words_from : List ℕ → ℕ → ℕ → List Token → List (ℕ × Word)
 words_from text i skip [] = []
 words_from text i (suc skip) (t ∷ ts) = words_from text (i + 1) skip ts
-words_from text i zero (t ∷ ts) = (i, (first_word text i t ts).0) ∷ words_from text (i + 1) ((first_word text i t ts).1 - 1) ts
+words_from text i zero (t ∷ ts) = (i, (first_word text t ts).0) ∷ words_from text (i + 1) ((first_word text t ts).1 - 1) ts
 
--- the words of a text with these tokens, each with the place of its first token
+-- the words of a text with these tokens, each with the number of its first token
 abbrev pub words_of : List ℕ → List Token → List (ℕ × Word)
 words_of text tokens = words_from text 0 0 tokens
 

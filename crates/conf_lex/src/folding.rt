@@ -44,14 +44,14 @@ fn token_symbol(text: &[u8], token: Token) -> Option<Symbol>
     }
 }
 
-fn spelled_word(text: &[u8], at: usize, token: Token) -> Word
+fn spelled_word(text: &[u8], token: Token) -> Word
     requires { IsWithin text.now token }
-    ensures { result ≡ spelled_word at token (symbol_of (slice_of text.now token)) }
+    ensures { result ≡ spelled_word token (symbol_of (slice_of text.now token)) }
 {
     match symbol_of(token.bytes(text)) {
-        Some(symbol) => symbol_word(at, symbol),
+        Some(symbol) => symbol_word(token.at, symbol),
         None => Word::Name {
-            at,
+            at: token.at,
             start: token.at,
             len: token.len,
         },
@@ -59,10 +59,11 @@ fn spelled_word(text: &[u8], at: usize, token: Token) -> Word
 }
 
 /// The word that a token is alone.
-fn word_of(text: &[u8], at: usize, token: Token) -> Word
+fn word_of(text: &[u8], token: Token) -> Word
     requires { IsWithin text.now token }
-    ensures { result ≡ word_of text.now at token }
+    ensures { result ≡ word_of text.now token }
 {
+    let at = token.at;
     match token.kind {
         TokenKind::Quoted => Word::Name {
             at,
@@ -76,8 +77,8 @@ fn word_of(text: &[u8], at: usize, token: Token) -> Word
         },
         TokenKind::Number(value) => Word::Number { at, value },
         TokenKind::Ip(addr) => Word::Ip { at, addr },
-        TokenKind::Name => spelled_word(text, at, token),
-        TokenKind::Sign => spelled_word(text, at, token),
+        TokenKind::Name => spelled_word(text, token),
+        TokenKind::Sign => spelled_word(text, token),
     }
 }
 
@@ -113,24 +114,24 @@ fn slashed(at: usize, first: TokenKind, slash: bool, third: TokenKind) -> Option
 }
 
 /// The word that begins with a token, by what follows it, and of how many tokens it is made.
-fn first_word(text: &[u8], at: usize, token: Token, behind: &[Token]) -> (Word, usize)
+fn first_word(text: &[u8], token: Token, behind: &[Token]) -> (Word, usize)
     requires first { IsWithin text.now token }
     requires behind { AreWithin text.now behind.now }
-    ensures { result ≡ first_word text.now at token behind.now }
+    ensures { result ≡ first_word text.now token behind.now }
 {
     let Some((second, rest)) = behind.split_first() else {
-        return (word_of(text, at, token), 1);
+        return (word_of(text, token), 1);
     };
     let sign = token_symbol(text, *second);
     if is_else(token_symbol(text, token)) && is_colon(sign) {
         return (Word::Symbol(Symbol::ElseColon), 2);
     }
     let Some(third) = rest.first() else {
-        return (word_of(text, at, token), 1);
+        return (word_of(text, token), 1);
     };
-    match slashed(at, token.kind, is_slash(sign), third.kind) {
+    match slashed(token.at, token.kind, is_slash(sign), third.kind) {
         Some(word) => (word, 3),
-        None => (word_of(text, at, token), 1),
+        None => (word_of(text, token), 1),
     }
 }
 
@@ -150,7 +151,7 @@ pub fn word_at(text: &[u8], tokens: &[Token], at: usize) -> Option<(Word, usize)
 {
     match tokens_from(tokens, at).split_first() {
         Some((token, behind)) => {
-            let (word, taken) = first_word(text, at, *token, behind);
+            let (word, taken) = first_word(text, *token, behind);
             Some((word, at + taken))
         }
         None => None,

@@ -63,7 +63,7 @@ pub fn tokens_in_a_row_are_one_word()
         → t.kind ≡ TokenKind.Ip addr → token_symbol text u ≡ Some Symbol.Slash
         → v.kind ≡ TokenKind.Number n
         → (before : List (ℕ × Word)) × (words_of text (front ++ t ∷ u ∷ v ∷ back)
-        ≡ before ++ (length front, prefix_word (length front) addr n)
+        ≡ before ++ (length front, prefix_word t.at addr n)
         ∷ words_from text (length front + 3) 0 back) }
     ensures else_colon { (text : List ℕ) (front back : List Token) (t u : Token)
         → token_symbol text t ≡ Some Symbol.Else → token_symbol text u ≡ Some Symbol.Colon

@@ -299,6 +299,8 @@ pub fn is_placed(symbol: Symbol) -> bool
         Symbol::Return => true,
         Symbol::Not => true,
         Symbol::OpenBracket => true,
+        Symbol::OpenParenthesis => true,
+        Symbol::Where => true,
         _ => false,
     }
 }

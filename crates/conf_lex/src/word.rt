@@ -3,12 +3,12 @@ ghost use Rattle.std.specs.Prelude.{◌≡◌, slice_index_or};
 use crate::symbol::Symbol;
 use bits_ip::{Addr, Prefix};
 
-/// What the grammars read: a token, or several that are one word to them. `at` is the place of the word's first token
-/// among the tokens.
+/// What the grammars read: a token, or several that are one word to them. `at` is the byte of the
+/// source at which the word begins.
 #[derive(Clone, Copy, Debug, PartialEq, Eq)]
 pub enum Word {
-    /// A name that is no word of the grammars, or any name that is quoted. `start` and `len` tell its bytes in the source,
-    /// which are those between the quotes.
+    /// A name that is no word of the grammars, or any name that is quoted. `start` and `len` tell
+    /// its bytes in the source, which are those between the quotes.
     Name { at: usize, start: usize, len: usize },
     Number { at: usize, value: u32 },
     /// A text: `start` and `len` tell the bytes between its quotes.
@@ -24,7 +24,7 @@ pub enum Word {
     Placed { at: usize, symbol: Symbol },
 }
 
-/// The words of a text, and in the same place of `starts` each word's first token.
+/// The words of a text, and in the same place of `starts` the number of each word's first token.
 #[derive(Debug, Drop)]
 pub struct Words {
     pub words: Vec<Word>,

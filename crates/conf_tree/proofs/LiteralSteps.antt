@@ -6,7 +6,7 @@ use Rattle.conf_lex.specs.declared.word.Word.TheVariants as words
 use Rattle.grammar.specs.Kind.{kind_of, symbol}
 use Rattle.grammar.specs.Grammar.{Tree, Leaf, Both, First, begins, starts, Bad, TooDeep}
 use Rattle.grammar.specs.Reading.{Read, Got, Fault, Reader, and_then, word, both, read}
-use Rattle.grammar.specs.Shapes.{symbol_leaf, closed}
+use Rattle.grammar.specs.Shapes.{closed}
 use Rattle.grammar.proofs.Shapes.{bool_cases, closed_is}
 use Rattle.filt_syntax.specs.Syntax.{rule, is_num, set, mask, set_level}
 use Rattle.filt_syntax.specs.StatementView.{nth, beyond}
@@ -17,7 +17,7 @@ use Rattle.conf_tree.specs.Syntax.{literal, is_value}
 use Rattle.conf_tree.specs.Readers.{literal_at}
 use Rattle.conf_tree.specs.declared.tree.Literal.{Literal}
 use Rattle.conf_tree.specs.declared.tree.Literal.TheVariants as literals
-use Rattle.conf_tree.specs.View.{literal_tree, value_tree}
+use Rattle.conf_tree.specs.View.{placed_leaf, literal_tree, value_tree}
 use Rattle.conf_tree.proofs.Heads.{headed}
 
 literal_checked : is_checked literal
@@ -37,7 +37,7 @@ value_passes (literals.Prefix at net) w same = rw (← ap word_of same) refl
 value_passes (literals.True at) w same = rw (← ap word_of same) refl
 value_passes (literals.False at) w same = rw (← ap word_of same) refl
 value_passes (literals.Name n) w same = rw (← ap word_of same) refl
-value_passes (literals.Pair a b) w same = absurd cc
+value_passes (literals.Pair at a b) w same = absurd cc
 value_passes (literals.Set at items) w same = absurd cc
 value_passes (literals.Mask at items) w same = absurd cc
 
@@ -46,10 +46,10 @@ unfolding literal_at
 value_read zero ws w u is passes = rw (is, passes) refl
 value_read (suc k) ws w u is passes = rw (is, passes) refl
 
-pub pair_is : (k : ℕ) (ws u : List Word) → ws ≡ words.Symbol sym.OpenParenthesis ∷ u → literal_at k ws ≡ and_then (both (word is_num) (both (word (symbol sym.Comma)) (both (word is_num) (word (symbol sym.CloseParenthesis)))) u) (λ t v. Got (nth 1 (Both (symbol_leaf sym.OpenParenthesis) t)) v)
+pub pair_is : (k at : ℕ) (ws u : List Word) → ws ≡ words.Placed at sym.OpenParenthesis ∷ u → literal_at k ws ≡ and_then (both (word is_num) (both (word (symbol sym.Comma)) (both (word is_num) (word (symbol sym.CloseParenthesis)))) u) (λ t v. Got (nth 1 (Both (placed_leaf at sym.OpenParenthesis) t)) v)
 unfolding literal_at
-pair_is zero ws u is = headed 1 0 (symbol sym.OpenParenthesis) literal _ _ literal_checked refl refl ws (words.Symbol sym.OpenParenthesis) u is refl
-pair_is (suc k) ws u is = headed 1 (suc k) (symbol sym.OpenParenthesis) literal _ _ literal_checked refl refl ws (words.Symbol sym.OpenParenthesis) u is refl
+pair_is zero at ws u is = headed 1 0 (symbol sym.OpenParenthesis) literal _ _ literal_checked refl refl ws (words.Placed at sym.OpenParenthesis) u is refl
+pair_is (suc k) at ws u is = headed 1 (suc k) (symbol sym.OpenParenthesis) literal _ _ literal_checked refl refl ws (words.Placed at sym.OpenParenthesis) u is refl
 
 -- ---- sets
 

@@ -92,7 +92,7 @@ policy_tree policies.All = nth 0 (symbol_leaf sym.All)
 policy_tree policies.None = nth 0 (symbol_leaf sym.None)
 policy_tree (policies.Filter at name) = nth 1 (Both (placed_leaf at sym.Filter) (First (name_leaf name)))
 policy_tree (policies.Block at block) = nth 1 (Both (placed_leaf at sym.Filter) (Second (block_view block)))
-policy_tree (policies.Where e) = beyond 2 (Both (symbol_leaf sym.Where) (sight e).expr)
+policy_tree (policies.Where at e) = beyond 2 (Both (placed_leaf at sym.Where) (sight e).expr)
 
 abbrev pub action_symbol : Action → Symbol
 action_symbol actions.Warn = sym.Warn
@@ -195,8 +195,9 @@ pipe_option_tree (pipe_options.Export policy) = beyond 3 (Both (symbol_leaf sym.
 abbrev pub value_tree : Word → Tree
 value_tree w = nth 0 (Leaf w)
 
-abbrev pub pair_tree : Num → Num → Tree
-pair_tree a b = Both (symbol_leaf sym.OpenParenthesis) (Both (num_tree a) (Both (symbol_leaf sym.Comma) (Both (num_tree b) (symbol_leaf sym.CloseParenthesis))))
+abbrev pub pair_tree : ℕ → Num → Num → Tree
+pair_tree at a b = Both (placed_leaf at sym.OpenParenthesis)
+    (Both (num_tree a) (Both (symbol_leaf sym.Comma) (Both (num_tree b) (symbol_leaf sym.CloseParenthesis))))
 
 abbrev pub literal_tree : Literal → Tree
 literal_tree (literals.Number at value) = value_tree (words.Number at value)
@@ -206,7 +207,7 @@ literal_tree (literals.Prefix at net) = value_tree (words.Prefix at net)
 literal_tree (literals.True at) = value_tree (words.Placed at sym.True)
 literal_tree (literals.False at) = value_tree (words.Placed at sym.False)
 literal_tree (literals.Name name) = value_tree (words.Name name.at name.start name.len)
-literal_tree (literals.Pair a b) = nth 1 (pair_tree a b)
+literal_tree (literals.Pair at a b) = nth 1 (pair_tree at a b)
 literal_tree (literals.Set at items) = nth 2 (between (words.Placed at sym.OpenBracket) (items_tree items.items) sym.CloseBracket)
 literal_tree (literals.Mask at items) = beyond 3 (Both (Both (placed_leaf at sym.OpenMask) (mask_items_tree items.items)) (symbol_leaf sym.CloseMask))
 
@@ -239,7 +240,7 @@ abbrev pub gives_tree : VariableType → Tree
 gives_tree v = Both (symbol_leaf sym.Arrow) (type_tree v)
 
 abbrev pub function_tree : Function → Tree
-function_tree f = Both (symbol_leaf sym.Function) (Both (name_leaf f.name) (Both (symbol_leaf sym.OpenParenthesis) (Both (parameters_tree f.parameters.items)
+function_tree f = Both (symbol_leaf sym.Function) (Both (name_leaf f.name) (Both (placed_leaf f.open sym.OpenParenthesis) (Both (parameters_tree f.parameters.items)
     (Both (symbol_leaf sym.CloseParenthesis) (Both (maybe gives_tree f.gives) (block_view f.block))))))
 
 abbrev pub filter_tree : ℕ → Filter → Tree
@@ -275,5 +276,8 @@ statement_tree (statements.Static p) = of_protocol (nth 1 (protocol_tree sym.Sta
 statement_tree (statements.Bgp p) = of_protocol (nth 2 (protocol_tree sym.Bgp bgp_option_tree p))
 statement_tree (statements.Pipe p) = of_protocol (beyond 3 (protocol_tree sym.Pipe pipe_option_tree p))
 
+abbrev pub statements_tree : List Statement → Tree
+statements_tree ss = row_tree (map statement_tree ss)
+
 abbrev pub config_view : Config → Tree
-config_view c = row_tree (map statement_tree c.statements.items)
+config_view c = statements_tree c.statements.items

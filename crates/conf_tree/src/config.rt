@@ -1,11 +1,11 @@
-// A configuration over words.
+// The statements of a configuration.
 
 ghost use Rattle.grammar.specs.Gives.{Gives};
-ghost use Rattle.conf_tree.specs.View.{config_view};
+ghost use Rattle.conf_tree.specs.View.{statements_tree};
 ghost use Rattle.conf_tree.specs.Readers.{whole_at};
 
 use crate::statement::statement;
-use crate::tree::Config;
+use crate::tree::Statement;
 use conf_lex::Word;
 use grammar::Refusal;
 use std::alloc::Global;
@@ -15,8 +15,8 @@ pub fn config<'a>(
     alloc: Global,
     words: &'a [Word],
     left: u32,
-) -> Result<(Config, &'a [Word]), Refusal<'a>>
-    ensures { Gives config_view result (whole_at left words.now) }
+) -> Result<(Vec<Statement>, &'a [Word]), Refusal<'a>>
+    ensures { Gives (λ found. statements_tree found.items) result (whole_at left words.now) }
 {
     let mut statements = Vec::new(alloc);
     let mut rest = words;
@@ -25,5 +25,5 @@ pub fn config<'a>(
         statements.push(statement)?;
         rest = end;
     }
-    Ok((Config { statements }, rest))
+    Ok((statements, rest))
 }

@@ -17,7 +17,7 @@ use crate::tree::Statement;
 use conf_lex::{Symbol, Word};
 use filt_syntax::parts::{variable_type, whole_block};
 use filt_syntax::{Function, Parameter, Separator, VariableType};
-use grammar::{Refusal, after, expect, expect_name};
+use grammar::{Refusal, after, expect, expect_name, expect_placed};
 use std::alloc::Global;
 
 #[tactic(auto, unfolding(crate::specs::Readers::parameter_at, filt_syntax::specs::StatementReaders::vtype_at))]
@@ -108,12 +108,13 @@ pub fn function<'a>(
     ensures { Gives statement_tree result (seen_as (both (word name) (both (word (symbol sym.OpenParenthesis)) (signature_at left))) (λ t. nth 4 (Both (symbol_leaf sym.Function) t)) words.now) }
 {
     let (name, rest) = expect_name(words)?;
-    let rest = expect(rest, Symbol::OpenParenthesis)?;
+    let (open, rest) = expect_placed(rest, Symbol::OpenParenthesis)?;
     let (parameters, rest) = parameters(alloc, rest)?;
     let (gives, rest) = optional_type(rest)?;
     let (block, rest) = whole_block(alloc, rest, left)?;
     let function = Function {
         name,
+        open,
         parameters,
         gives,
         block,

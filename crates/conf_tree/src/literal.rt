@@ -4,7 +4,6 @@ ghost use Rattle.std.specs.Prelude.{◌≡◌, [], ◌∷◌, false, MatchOption
 ghost use Rattle.conf_lex.specs.declared.symbol.Symbol.TheVariants as sym;
 ghost use Rattle.conf_lex.specs.declared.word.Word.{Word};
 ghost use Rattle.grammar.specs.Kind.{symbol};
-ghost use Rattle.grammar.specs.Shapes.{symbol_leaf};
 ghost use Rattle.grammar.specs.Grammar.{Both, begins};
 ghost use Rattle.grammar.specs.Reading.{Got, both, word};
 ghost use Rattle.grammar.specs.Gives.{Gives};
@@ -18,7 +17,7 @@ ghost use Rattle.conf_tree.specs.Readers.{seen_as, literal_at};
 use crate::tree::{Address, Literal, Quoted};
 use conf_lex::{Symbol, Word};
 use filt_syntax::parts::{items, mask_items, num};
-use grammar::{Name, Refusal, after, after_placed, expect, level_below, next};
+use grammar::{Name, Refusal, after_placed, expect, level_below, next};
 use std::alloc::Global;
 
 // What a word is alone.
@@ -58,15 +57,18 @@ fn next_value(words: &[Word]) -> Option<(Literal, &[Word])>
     }
 }
 
-// By the words after `(`.
-fn pair(words: &[Word]) -> Result<(Literal, &[Word]), Refusal>
-    ensures { Gives literal_tree result (seen_as (both (word is_num) (both (word (symbol sym.Comma)) (both (word is_num) (word (symbol sym.CloseParenthesis))))) (λ t. nth 1 (Both (symbol_leaf sym.OpenParenthesis) t)) words.now) }
+// By the words after `(`, whose place is told.
+fn pair(at: usize, words: &[Word]) -> Result<(Literal, &[Word]), Refusal>
+    ensures { Gives literal_tree result (seen_as
+        (both (word is_num) (both (word (symbol sym.Comma))
+            (both (word is_num) (word (symbol sym.CloseParenthesis)))))
+        (λ t. nth 1 (Both (placed_leaf at sym.OpenParenthesis) t)) words.now) }
 {
     let (first, rest) = num(words)?;
     let rest = expect(rest, Symbol::Comma)?;
     let (second, rest) = num(rest)?;
     let rest = expect(rest, Symbol::CloseParenthesis)?;
-    Ok((Literal::Pair(first, second), rest))
+    Ok((Literal::Pair { at, first, second }, rest))
 }
 
 // By the words after `[`.
@@ -110,8 +112,8 @@ pub fn literal<'a>(
     if let Some((value, rest)) = next_value(words) {
         return Ok((value, rest));
     }
-    if let Some(behind) = after(words, Symbol::OpenParenthesis) {
-        return pair(behind);
+    if let Some((at, behind)) = after_placed(words, Symbol::OpenParenthesis) {
+        return pair(at, behind);
     }
     if let Some((at, behind)) = after_placed(words, Symbol::OpenBracket) {
         return set(alloc, words, at, behind, left);

@@ -96,15 +96,21 @@ fn deepened(text: &[u8], tokens: &[Token], said: &Words, rest: &[Word]) -> Synta
 }
 
 // The configuration of these words, or their refusal.
-fn answer(alloc: Global, text: &[u8], tokens: &[Token], said: &Words) -> Result<Config, SyntaxFault>
+fn answer<'a>(
+    alloc: Global,
+    text: &'a [u8],
+    tokens: &[Token],
+    said: &Words,
+) -> Result<Config<'a>, SyntaxFault>
     requires lexed { Lexes 0 text.now tokens.now }
     requires words { said.now.words.items ≡ said_words text.now tokens.now }
     requires starts { said.now.starts.items ≡ said_starts text.now tokens.now }
+    ensures text { IfOk result (λ config. config.text.now ≡ text.now) }
     ensures tree { IfOk result (λ config. IsSentence (said_words text.now tokens.now) (config_view config)) }
     ensures fault { IfErr result (IsRefused text.now tokens.now) }
 {
     match config(alloc, &said.words, LEVELS) {
-        Ok((config, _)) => Ok(config),
+        Ok((statements, _)) => Ok(Config { text, statements }),
         Err(Refusal::Memory) => Err(SyntaxFault::Memory),
         Err(Refusal::Bad(rest)) => Err(stopped(alloc, text, tokens, said, rest)),
         Err(Refusal::TooDeep(rest)) => Err(deepened(text, tokens, said, rest)),
@@ -116,8 +122,13 @@ fn answer(alloc: Global, text: &[u8], tokens: &[Token], said: &Words) -> Result<
 /// The configuration of a text (BIRD User's Guide, "Configuration"). `tokens` are those that `lex` gives for the text.
 ///
 /// Places are those of tokens, and the number of the tokens where more of them would be wanted.
-pub fn parse_config(alloc: Global, tokens: &[Token], text: &[u8]) -> Result<Config, SyntaxFault>
+pub fn parse_config<'a>(
+    alloc: Global,
+    tokens: &[Token],
+    text: &'a [u8],
+) -> Result<Config<'a>, SyntaxFault>
     requires { Lexes 0 text.now tokens.now }
+    ensures text { IfOk result (λ config. config.text.now ≡ text.now) }
     ensures tree { IfOk result (λ config. IsSentence (said_words text.now tokens.now) (config_view config)) }
     ensures fault { IfErr result (IsRefused text.now tokens.now) }
     ensures only { (t : Tree) → IsSentence (said_words text.now tokens.now) t → IsTree result t }

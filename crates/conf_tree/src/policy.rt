@@ -17,7 +17,7 @@ ghost use Rattle.conf_tree.specs.Readers.{seen_as, policy_at};
 use crate::tree::Policy;
 use conf_lex::{Symbol, Word};
 use filt_syntax::parts::{expression, whole_block};
-use grammar::{Refusal, after, after_placed, expect, next_name};
+use grammar::{Refusal, after, after_placed, expect_placed, next_name};
 use std::alloc::Global;
 
 // By the words after `filter`, whose place is told.
@@ -55,11 +55,12 @@ fn where_policy<'a>(
     words: &'a [Word],
     left: u32,
 ) -> Result<(Policy, &'a [Word]), Refusal<'a>>
-    ensures { Gives policy_tree result (seen_as (both (word (symbol sym.Where)) (expr_at left)) (λ t. beyond 2 t) words.now) }
+    ensures { Gives policy_tree result
+        (seen_as (both (word (symbol sym.Where)) (expr_at left)) (λ t. beyond 2 t) words.now) }
 {
-    let rest = expect(words, Symbol::Where)?;
+    let (at, rest) = expect_placed(words, Symbol::Where)?;
     let (condition, rest) = expression(alloc, rest, left)?;
-    Ok((Policy::Where(condition), rest))
+    Ok((Policy::Where { at, condition }, rest))
 }
 
 /// The policy that comes next.

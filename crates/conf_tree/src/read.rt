@@ -52,7 +52,8 @@ fn refused(text: &[u8], tokens: &[Token], fault: SyntaxFault) -> ConfFault
 
 /// The configuration of a text, or the first byte of the token at which it is refused: for want of a token first, then by
 /// the grammar (BIRD User's Guide, "Configuration").
-pub fn read_config(alloc: Global, text: &[u8]) -> Result<Config, ConfFault>
+pub fn read_config<'a>(alloc: Global, text: &'a [u8]) -> Result<Config<'a>, ConfFault>
+    ensures text { IfOk result (λ config. config.text.now ≡ text.now) }
     ensures tree { IfOk result (λ config. IsConfigText text.now (config_view config)) }
     ensures fault { IfErr result (IsFault text.now) }
     ensures within { IfErr result (IsWithin (length text.now)) }

@@ -1,15 +1,17 @@
+// The trees of configurations. Each `at` is the byte of the source at which what it is of begins.
+
 use bits_ip::{Addr, Family, Prefix};
 use filt_syntax::{Block, Expr, Filter, Function, Item, MaskItem, Num};
 use grammar::Name;
 
-/// An address, and the place of its token.
+/// An address, and its place.
 #[derive(Clone, Copy, Debug)]
 pub struct Address {
     pub at: usize,
     pub addr: Addr,
 }
 
-/// A text, the bytes between its quotes, and the place of its token.
+/// A text: its place, and where the bytes between its quotes stand in the source.
 #[derive(Clone, Copy, Debug)]
 pub struct Quoted {
     pub at: usize,
@@ -37,7 +39,12 @@ pub enum Literal {
     False { at: usize },
     /// The value of another constant.
     Name(Name),
-    Pair(Num, Num),
+    /// A pair; `at` is the place of its parenthesis.
+    Pair {
+        at: usize,
+        first: Num,
+        second: Num,
+    },
     Set { at: usize, items: Vec<Item> },
     Mask { at: usize, items: Vec<MaskItem> },
 }
@@ -50,8 +57,8 @@ pub enum Policy {
     /// A filter by its name; `at` is the place of the word `filter`.
     Filter { at: usize, name: Name },
     Block { at: usize, block: Block },
-    /// `where`
-    Where(Expr),
+    /// A condition; `at` is the place of the word `where`.
+    Where { at: usize, condition: Expr },
 }
 
 /// What is done at an import limit.
@@ -213,8 +220,9 @@ pub enum Statement {
     Pipe(Protocol<PipeOption>),
 }
 
-/// A configuration.
+/// A configuration: the source, in which names and texts have their bytes, and the statements.
 #[derive(Drop)]
-pub struct Config {
+pub struct Config<'a> {
+    pub text: &'a [u8],
     pub statements: Vec<Statement>,
 }

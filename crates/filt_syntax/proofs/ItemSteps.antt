@@ -83,16 +83,16 @@ braced_is (suc (suc k)) b ws u below is = rw (is, ← closed_is (words.Symbol sy
 
 -- ---- items
 
-pub pair_deep : (k : ℕ) (ws u : List Word) → k ≡ 0 → ws ≡ words.Symbol sym.OpenParenthesis ∷ u → item_at k ws ≡ Fault TooDeep ws
+pub pair_deep : (k at : ℕ) (ws u : List Word) → k ≡ 0 → ws ≡ words.Placed at sym.OpenParenthesis ∷ u → item_at k ws ≡ Fault TooDeep ws
 unfolding item_at
-pair_deep zero ws u none is = rw is refl
-pair_deep (suc k) ws u none is = absurd (omega arith)
+pair_deep zero at ws u none is = rw is refl
+pair_deep (suc k) at ws u none is = absurd (omega arith)
 
-pub pair_item_is : (k b : ℕ) (ws u : List Word) → b + 1 ≡ k → ws ≡ words.Symbol sym.OpenParenthesis ∷ u → item_at k ws ≡ and_then (closed (words.Symbol sym.OpenParenthesis) (pair_at 0) sym.CloseParenthesis u) (λ t v. Got (Second (First t)) v)
+pub pair_item_is : (k b at : ℕ) (ws u : List Word) → b + 1 ≡ k → ws ≡ words.Placed at sym.OpenParenthesis ∷ u → item_at k ws ≡ and_then (closed (words.Placed at sym.OpenParenthesis) (pair_at 0) sym.CloseParenthesis u) (λ t v. Got (Second (First t)) v)
 unfolding item_at pair_at
-pair_item_is zero b ws u below is = absurd (omega arith)
-pair_item_is (suc zero) b ws u below is = rw (is, ← closed_is (words.Symbol sym.OpenParenthesis) sym.CloseParenthesis (pair_at 0) u) (maps2 _ (λ t. First t) (λ t. Second t))
-pair_item_is (suc (suc k)) b ws u below is = rw (is, ← closed_is (words.Symbol sym.OpenParenthesis) sym.CloseParenthesis (pair_at 0) u) (maps2 _ (λ t. First t) (λ t. Second t))
+pair_item_is zero b at ws u below is = absurd (omega arith)
+pair_item_is (suc zero) b at ws u below is = rw (is, ← closed_is (words.Placed at sym.OpenParenthesis) sym.CloseParenthesis (pair_at 0) u) (maps2 _ (λ t. First t) (λ t. Second t))
+pair_item_is (suc (suc k)) b at ws u below is = rw (is, ← closed_is (words.Placed at sym.OpenParenthesis) sym.CloseParenthesis (pair_at 0) u) (maps2 _ (λ t. First t) (λ t. Second t))
 
 prefix_map : (x : Read) (w : Word) → and_then (and_then (and_then x (λ l v. Got (Both (Leaf w) l) v)) (λ t v. Got (Second t) v)) (λ t v. Got (Second t) v) ≡ and_then x (λ l v. Got (Second (Second (Both (Leaf w) l))) v)
 prefix_map (Got l v) w = refl

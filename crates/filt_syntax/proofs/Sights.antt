@@ -49,7 +49,7 @@ joints-map (x ∷ xs) = ap (λ (ts : List (Word × Tree)). joint_of x ∷ ts) (j
 
 access_one : (a : Access Expr) → access_part ((former-Expr-Access-1-at-3).map Expr Sight (fold-Expr Sight sight_step) a) ≡ access_of a
 access_one (accesses.Property p) = refl
-access_one (accesses.Method m e) = refl
+access_one (accesses.Method m place e) = refl
 
 pub accesses-map : (xs : List (Access Expr)) → map access_part (map ((former-Expr-Access-1-at-3).map Expr Sight (fold-Expr Sight sight_step)) xs) ≡ map access_of xs
 accesses-map [] = refl
@@ -61,14 +61,14 @@ sight-Simple s = search (rules, the_lemmas)
 pub sight-Name : (n : Name) → sight (exprs.Name n) ≡ as_prim (named_tree n (Second Blank))
 sight-Name n = search (rules, the_lemmas)
 
-pub sight-Call : (n : Name) (v : Vec Expr Global) → sight (exprs.Call n v) ≡ as_prim (named_tree n (First (in_parentheses (arguments_tree (expr_trees v.items)))))
-sight-Call n v = search (rules, the_lemmas, exprs-map)
+pub sight-Call : (n : Name) (at : ℕ) (v : Vec Expr Global) → sight (exprs.Call n at v) ≡ as_prim (named_tree n (First (in_parentheses at (arguments_tree (expr_trees v.items)))))
+sight-Call n at v = search (rules, the_lemmas, exprs-map)
 
-pub sight-Group : (e : Box Expr Global) → sight (exprs.Group e) ≡ as_prim (group_tree (alone (sight e.value).expr))
-sight-Group e = search (rules, the_lemmas)
+pub sight-Group : (at : ℕ) (e : Box Expr Global) → sight (exprs.Group at e) ≡ as_prim (group_tree at (alone (sight e.value).expr))
+sight-Group at e = search (rules, the_lemmas)
 
-pub sight-Pair : (a b : Box Expr Global) → sight (exprs.Pair a b) ≡ as_prim (group_tree (Both (sight a.value).expr (First (second_part (sight b.value).expr))))
-sight-Pair a b = search (rules, the_lemmas)
+pub sight-Pair : (at : ℕ) (a b : Box Expr Global) → sight (exprs.Pair at a b) ≡ as_prim (group_tree at (Both (sight a.value).expr (First (second_part (sight b.value).expr))))
+sight-Pair at a b = search (rules, the_lemmas)
 
 pub sight-Set : (at : ℕ) (v : Vec Item Global) → sight (exprs.Set at v) ≡ as_prim (set_tree at (items_tree v.items))
 sight-Set at v = search (rules, the_lemmas)
@@ -76,11 +76,11 @@ sight-Set at v = search (rules, the_lemmas)
 pub sight-Mask : (at : ℕ) (v : Vec MaskItem Global) → sight (exprs.Mask at v) ≡ as_prim (mask_tree at (mask_items_tree v.items))
 sight-Mask at v = search (rules, the_lemmas)
 
-pub sight-Defined : (at attribute_at : ℕ) (a : Attribute) → sight (exprs.Defined at attribute_at a) ≡ as_prim (defined_tree at (attribute_word attribute_at a))
-sight-Defined at attribute_at a = search (rules, the_lemmas)
+pub sight-Defined : (at place attribute_at : ℕ) (a : Attribute) → sight (exprs.Defined at place attribute_at a) ≡ as_prim (defined_tree at place (attribute_word attribute_at a))
+sight-Defined at place attribute_at a = search (rules, the_lemmas)
 
-pub sight-MethodCall : (m : Method) (a b : Box Expr Global) → sight (exprs.MethodCall m a b) ≡ as_prim (method_call_tree m (sight a.value).expr (sight b.value).expr)
-sight-MethodCall m a b = search (rules, the_lemmas)
+pub sight-MethodCall : (m : Method) (place : ℕ) (a b : Box Expr Global) → sight (exprs.MethodCall m place a b) ≡ as_prim (method_call_tree m place (sight a.value).expr (sight b.value).expr)
+sight-MethodCall m place a b = search (rules, the_lemmas)
 
 pub sight-Not : (at : ℕ) (e : Box Expr Global) → sight (exprs.Not at e) ≡ as_unary (First (Inside (words.Placed at symbols.Not) (sight e.value).unary))
 sight-Not at e = search (rules, the_lemmas)
@@ -134,13 +134,13 @@ lifts_expr t = record { post = λ h. absurd (omega arith); unary = λ h. absurd 
 lifts_step : (x : Expr-F Sight) → Lifts (sight_step x)
 lifts_step (Expr-F.Simple s) = lifts_prim _
 lifts_step (Expr-F.Name n) = lifts_prim _
-lifts_step (Expr-F.Call n es) = lifts_prim _
-lifts_step (Expr-F.Group e) = lifts_prim _
-lifts_step (Expr-F.Pair a b) = lifts_prim _
+lifts_step (Expr-F.Call n at es) = lifts_prim _
+lifts_step (Expr-F.Group at e) = lifts_prim _
+lifts_step (Expr-F.Pair at a b) = lifts_prim _
 lifts_step (Expr-F.Set at items) = lifts_prim _
 lifts_step (Expr-F.Mask at items) = lifts_prim _
-lifts_step (Expr-F.Defined at attribute_at attribute) = lifts_prim _
-lifts_step (Expr-F.MethodCall m a b) = lifts_prim _
+lifts_step (Expr-F.Defined at place attribute_at attribute) = lifts_prim _
+lifts_step (Expr-F.MethodCall m place a b) = lifts_prim _
 lifts_step (Expr-F.Access e more) = lifts_post _
 lifts_step (Expr-F.Not at e) = lifts_unary _
 lifts_step (Expr-F.Product e more) = lifts_prod _
@@ -179,7 +179,7 @@ chain_some f t (x ∷ xs) some = refl
 
 dot_word : (a : Access Expr) → (access_of a).0 ≡ words.Symbol symbols.Dot
 dot_word (accesses.Property p) = refl
-dot_word (accesses.Method m e) = refl
+dot_word (accesses.Method m place e) = refl
 
 pub one_more_access : (t : Tree) (xs : List (Access Expr)) (x : Access Expr) → parts_after t (map access_of (xs ++ x ∷ [])) ≡ More (parts_after t (map access_of xs)) (Both (Leaf (words.Symbol symbols.Dot)) (access_of x).1)
 one_more_access t xs x = one_more access_of t xs x ∙ rw (dot_word x) refl

@@ -33,8 +33,8 @@ tree-Assign target e = search (rules, the_lemmas)
 pub tree-Change : (target : Target) (c : Change) → stmt_tree (stmts.Change target c) ≡ change_stmt_tree target c
 tree-Change target c = search (rules, the_lemmas)
 
-pub tree-Unset : (at : ℕ) (a : Attribute) → stmt_tree (stmts.Unset at a) ≡ unset_tree at a
-tree-Unset at a = search (rules, the_lemmas)
+pub tree-Unset : (place at : ℕ) (a : Attribute) → stmt_tree (stmts.Unset place at a) ≡ unset_tree place at a
+tree-Unset place at a = search (rules, the_lemmas)
 
 tree-If : (e : Expr) (s : Box Stmt Global) (x : Stmt) → s.value ≡ x → stmt_tree (stmts.If e s) ≡ choice_tree e (stmt_tree x) (Second Blank)
 tree-If e s x p = rw (← p) (search (rules, the_lemmas))
@@ -77,8 +77,8 @@ tree-Print v = search (rules, the_lemmas)
 pub tree-PrintPart : (v : Vec Expr Global) → stmt_tree (stmts.PrintPart v) ≡ print_tree sym.Printn v.items
 tree-PrintPart v = search (rules, the_lemmas)
 
-pub tree-Call : (n : Name) (v : Vec Expr Global) → stmt_tree (stmts.Call n v) ≡ call_tree n v.items
-tree-Call n v = search (rules, the_lemmas)
+pub tree-Call : (n : Name) (at : ℕ) (v : Vec Expr Global) → stmt_tree (stmts.Call n at v) ≡ call_tree n at v.items
+tree-Call n at v = search (rules, the_lemmas)
 
 row_more : (t : Tree) (ss : List Stmt) (s : Stmt) → row_after t (map stmt_tree (ss ++ s ∷ [])) ≡ More (row_after t (map stmt_tree ss)) (stmt_tree s)
 row_more t [] s = refl

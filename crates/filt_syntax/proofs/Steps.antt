@@ -181,10 +181,10 @@ opened_bad [] none n (suc k) = refl
 opened_bad (w ∷ ws) none n zero = rw none refl
 opened_bad (w ∷ ws) none n (suc k) = rw none refl
 
-pub opened_deep : (k : ℕ) (ws u : List Word) → k ≡ 0 → ws ≡ words.Symbol symbols.OpenParenthesis ∷ u → (n : ℕ) → opened_at n k ws ≡ Fault TooDeep ws
+pub opened_deep : (k at : ℕ) (ws u : List Word) → k ≡ 0 → ws ≡ words.Placed at symbols.OpenParenthesis ∷ u → (n : ℕ) → opened_at n k ws ≡ Fault TooDeep ws
 unfolding opened_at
-opened_deep zero ws u none is n = rw is refl
-opened_deep (suc k) ws u none is n = absurd (omega arith)
+opened_deep zero at ws u none is n = rw is refl
+opened_deep (suc k) at ws u none is n = absurd (omega arith)
 
 level_opened : (n k : ℕ) (ws : List Word) → level_at n k ws ≡ and_then (opened_at n k ws) (λ a u. and_then (word (symbol symbols.CloseParenthesis) u) (λ c v. Got (Both a c) v))
 unfolding level_at opened_at
@@ -194,25 +194,25 @@ level_opened n (suc k) ws = refl
 pub level_unopened : (n k : ℕ) (ws : List Word) (e : Refusal) → Fails e (opened_at n k ws) → Fails e (level_at n k ws)
 level_unopened n k ws e failed = fails_along e (level_at n k ws) _ (level_opened n k ws) (fails_then e (opened_at n k ws) (λ a u. and_then (word (symbol symbols.CloseParenthesis) u) (λ c v. Got (Both a c) v)) failed)
 
-pub level_deep : (n k : ℕ) (ws u : List Word) (e : Refusal) → k ≡ 0 → ws ≡ words.Symbol symbols.OpenParenthesis ∷ u → Fails e (Fault TooDeep ws) → Fails e (level_at n k ws)
-level_deep n k ws u e none is failed = level_unopened n k ws e (fails_along e (opened_at n k ws) (Fault TooDeep ws) (opened_deep k ws u none is n) failed)
+pub level_deep : (n k at : ℕ) (ws u : List Word) (e : Refusal) → k ≡ 0 → ws ≡ words.Placed at symbols.OpenParenthesis ∷ u → Fails e (Fault TooDeep ws) → Fails e (level_at n k ws)
+level_deep n k at ws u e none is failed = level_unopened n k ws e (fails_along e (opened_at n k ws) (Fault TooDeep ws) (opened_deep k at ws u none is n) failed)
 
-level_some : (n k : ℕ) (ws u : List Word) → 0 < k → ws ≡ words.Symbol symbols.OpenParenthesis ∷ u → level_at n k ws ≡ closed (words.Symbol symbols.OpenParenthesis) (inside_at n (k - 1)) symbols.CloseParenthesis u
+level_some : (n k at : ℕ) (ws u : List Word) → 0 < k → ws ≡ words.Placed at symbols.OpenParenthesis ∷ u → level_at n k ws ≡ closed (words.Placed at symbols.OpenParenthesis) (inside_at n (k - 1)) symbols.CloseParenthesis u
 unfolding level_at inside_at
-level_some n zero ws u some is = absurd (omega arith)
-level_some n (suc k) ws u some is = rw (is, sub-one) (closed_is (words.Symbol symbols.OpenParenthesis) symbols.CloseParenthesis (read rule k (rule n)) u)
+level_some n zero at ws u some is = absurd (omega arith)
+level_some n (suc k) at ws u some is = rw (is, sub-one) (closed_is (words.Placed at symbols.OpenParenthesis) symbols.CloseParenthesis (read rule k (rule n)) u)
 
-pub level_is : (n k b : ℕ) (ws u : List Word) → b + 1 ≡ k → ws ≡ words.Symbol symbols.OpenParenthesis ∷ u → level_at n k ws ≡ closed (words.Symbol symbols.OpenParenthesis) (inside_at n b) symbols.CloseParenthesis u
-level_is n k b ws u below is = level_some n k ws u (omega arith) is ∙ rw (less_one b k below) refl
+pub level_is : (n k b at : ℕ) (ws u : List Word) → b + 1 ≡ k → ws ≡ words.Placed at symbols.OpenParenthesis ∷ u → level_at n k ws ≡ closed (words.Placed at symbols.OpenParenthesis) (inside_at n b) symbols.CloseParenthesis u
+level_is n k b at ws u below is = level_some n k at ws u (omega arith) is ∙ rw (less_one b k below) refl
 
-pub level_inside_fails : (n k b : ℕ) (ws u : List Word) (e : Refusal) → b + 1 ≡ k → ws ≡ words.Symbol symbols.OpenParenthesis ∷ u → Fails e (inside_at n b u) → Fails e (level_at n k ws)
-level_inside_fails n k b ws u e below is failed = fails_along e (level_at n k ws) _ (level_is n k b ws u below is) (closed_inside_fails (words.Symbol symbols.OpenParenthesis) symbols.CloseParenthesis (inside_at n b) u e failed)
+pub level_inside_fails : (n k b at : ℕ) (ws u : List Word) (e : Refusal) → b + 1 ≡ k → ws ≡ words.Placed at symbols.OpenParenthesis ∷ u → Fails e (inside_at n b u) → Fails e (level_at n k ws)
+level_inside_fails n k b at ws u e below is failed = fails_along e (level_at n k ws) _ (level_is n k b at ws u below is) (closed_inside_fails (words.Placed at symbols.OpenParenthesis) symbols.CloseParenthesis (inside_at n b) u e failed)
 
-pub level_end_fails : (n k b : ℕ) (ws u : List Word) (t : Tree) (rest : List Word) (e : Refusal) → b + 1 ≡ k → ws ≡ words.Symbol symbols.OpenParenthesis ∷ u → inside_at n b u ≡ Got t rest → Fails e (word (symbol symbols.CloseParenthesis) rest) → Fails e (level_at n k ws)
-level_end_fails n k b ws u t rest e below is got failed = fails_along e (level_at n k ws) _ (level_is n k b ws u below is) (closed_end_fails (words.Symbol symbols.OpenParenthesis) symbols.CloseParenthesis (inside_at n b) u t rest e got failed)
+pub level_end_fails : (n k b at : ℕ) (ws u : List Word) (t : Tree) (rest : List Word) (e : Refusal) → b + 1 ≡ k → ws ≡ words.Placed at symbols.OpenParenthesis ∷ u → inside_at n b u ≡ Got t rest → Fails e (word (symbol symbols.CloseParenthesis) rest) → Fails e (level_at n k ws)
+level_end_fails n k b at ws u t rest e below is got failed = fails_along e (level_at n k ws) _ (level_is n k b at ws u below is) (closed_end_fails (words.Placed at symbols.OpenParenthesis) symbols.CloseParenthesis (inside_at n b) u t rest e got failed)
 
-pub level_got : (n k b : ℕ) (ws u : List Word) (t : Tree) (rest end : List Word) → b + 1 ≡ k → ws ≡ words.Symbol symbols.OpenParenthesis ∷ u → inside_at n b u ≡ Got t rest → rest ≡ words.Symbol symbols.CloseParenthesis ∷ end → level_at n k ws ≡ Got (in_parentheses t) end
-level_got n k b ws u t rest end below is got close = level_is n k b ws u below is ∙ closed_got (words.Symbol symbols.OpenParenthesis) symbols.CloseParenthesis refl (inside_at n b) u t rest end got close
+pub level_got : (n k b at : ℕ) (ws u : List Word) (t : Tree) (rest end : List Word) → b + 1 ≡ k → ws ≡ words.Placed at symbols.OpenParenthesis ∷ u → inside_at n b u ≡ Got t rest → rest ≡ words.Symbol symbols.CloseParenthesis ∷ end → level_at n k ws ≡ Got (in_parentheses at t) end
+level_got n k b at ws u t rest end below is got close = level_is n k b at ws u below is ∙ closed_got (words.Placed at symbols.OpenParenthesis) symbols.CloseParenthesis refl (inside_at n b) u t rest end got close
 
 -- ---- an attribute, an argument, two of them
 
@@ -286,16 +286,16 @@ unfolding prim_at named_at call_at
 prim_named zero ws n u is = rw is (up-name n (read rule 0 (optional call) u))
 prim_named (suc k) ws n u is = rw is (up-name n (read rule (suc k) (optional call) u))
 
-prim_group : (k : ℕ) (ws u : List Word) → ws ≡ words.Symbol symbols.OpenParenthesis ∷ u → prim_at k ws ≡ and_then (level_at group_level k ws) (λ a v. Got (Second (Second (First a))) v)
+prim_group : (k at : ℕ) (ws u : List Word) → ws ≡ words.Placed at symbols.OpenParenthesis ∷ u → prim_at k ws ≡ and_then (level_at group_level k ws) (λ a v. Got (Second (Second (First a))) v)
 unfolding prim_at level_at
-prim_group zero ws u is = rw is (up-3 (read rule 0 (in_level group_level) (words.Symbol symbols.OpenParenthesis ∷ u)))
-prim_group (suc k) ws u is = rw is (up-3 (read rule (suc k) (in_level group_level) (words.Symbol symbols.OpenParenthesis ∷ u)))
+prim_group zero at ws u is = rw is (up-3 (read rule 0 (in_level group_level) (words.Placed at symbols.OpenParenthesis ∷ u)))
+prim_group (suc k) at ws u is = rw is (up-3 (read rule (suc k) (in_level group_level) (words.Placed at symbols.OpenParenthesis ∷ u)))
 
-pub group_fails : (k : ℕ) (ws u : List Word) (e : Refusal) → ws ≡ words.Symbol symbols.OpenParenthesis ∷ u → Fails e (level_at group_level k ws) → Fails e (prim_at k ws)
-group_fails k ws u e is failed = fails_along e (prim_at k ws) _ (prim_group k ws u is) (fails_then e (level_at group_level k ws) (λ a v. Got (Second (Second (First a))) v) failed)
+pub group_fails : (k at : ℕ) (ws u : List Word) (e : Refusal) → ws ≡ words.Placed at symbols.OpenParenthesis ∷ u → Fails e (level_at group_level k ws) → Fails e (prim_at k ws)
+group_fails k at ws u e is failed = fails_along e (prim_at k ws) _ (prim_group k at ws u is) (fails_then e (level_at group_level k ws) (λ a v. Got (Second (Second (First a))) v) failed)
 
-pub group_got : (k b : ℕ) (ws u : List Word) (t : Tree) (rest end : List Word) → b + 1 ≡ k → ws ≡ words.Symbol symbols.OpenParenthesis ∷ u → inside_at group_level b u ≡ Got t rest → rest ≡ words.Symbol symbols.CloseParenthesis ∷ end → prim_at k ws ≡ Got (group_tree t) end
-group_got k b ws u t rest end below is got close = prim_group k ws u is ∙ rw (level_got group_level k b ws u t rest end below is got close) refl
+pub group_got : (k b at : ℕ) (ws u : List Word) (t : Tree) (rest end : List Word) → b + 1 ≡ k → ws ≡ words.Placed at symbols.OpenParenthesis ∷ u → inside_at group_level b u ≡ Got t rest → rest ≡ words.Symbol symbols.CloseParenthesis ∷ end → prim_at k ws ≡ Got (group_tree at t) end
+group_got k b at ws u t rest end below is got close = prim_group k at ws u is ∙ rw (level_got group_level k b at ws u t rest end below is got close) refl
 
 prim_set : (k at : ℕ) (ws u : List Word) → ws ≡ words.Placed at symbols.OpenBracket ∷ u → prim_at k ws ≡ and_then (read rule k set ws) (λ a v. Got (Second (Second (Second (First a)))) v)
 unfolding prim_at
@@ -373,8 +373,8 @@ prim_defined (suc k) at ws u is = rw is (up-6 (words.Placed at symbols.Defined) 
 pub defined_fails : (k at : ℕ) (ws u : List Word) (e : Refusal) → ws ≡ words.Placed at symbols.Defined ∷ u → Fails e (level_at attribute_level k u) → Fails e (prim_at k ws)
 defined_fails k at ws u e is failed = fails_along e (prim_at k ws) _ (prim_defined k at ws u is) (fails_then e (level_at attribute_level k u) (λ a v. Got (Second (Second (Second (Second (Second (First (Both (Leaf (words.Placed at symbols.Defined)) a))))))) v) failed)
 
-pub defined_got : (k at : ℕ) (ws u : List Word) (w : Word) (end : List Word) → ws ≡ words.Placed at symbols.Defined ∷ u → level_at attribute_level k u ≡ Got (in_parentheses (Leaf w)) end → prim_at k ws ≡ Got (defined_tree at w) end
-defined_got k at ws u w end is got = prim_defined k at ws u is ∙ rw got refl
+pub defined_got : (k at place : ℕ) (ws u : List Word) (w : Word) (end : List Word) → ws ≡ words.Placed at symbols.Defined ∷ u → level_at attribute_level k u ≡ Got (in_parentheses place (Leaf w)) end → prim_at k ws ≡ Got (defined_tree at place w) end
+defined_got k at place ws u w end is got = prim_defined k at ws u is ∙ rw got refl
 
 prim_of_method : (k at : ℕ) (kind : MethodKind) (u : List Word) → prim_at k (words.Placed at (method_symbol kind) ∷ u) ≡ and_then (level_at two_level k u) (λ a v. Got (Second (Second (Second (Second (Second (Second (Both (Leaf (words.Placed at (method_symbol kind))) a))))))) v)
 unfolding prim_at level_at
@@ -390,8 +390,8 @@ prim_of_method (suc k) at methods.Filter u = up-7 (words.Placed at symbols.Filte
 pub method_call_fails : (k : ℕ) (m : Method) (ws u : List Word) (e : Refusal) → ws ≡ method_word m ∷ u → Fails e (level_at two_level k u) → Fails e (prim_at k ws)
 method_call_fails k m ws u e is failed = rw is (fails_along e (prim_at k (method_word m ∷ u)) _ (prim_of_method k m.at m.kind u) (fails_then e (level_at two_level k u) (λ a v. Got (Second (Second (Second (Second (Second (Second (Both (Leaf (method_word m)) a))))))) v) failed))
 
-pub method_call_got : (k : ℕ) (m : Method) (ws u : List Word) (a b : Tree) (end : List Word) → ws ≡ method_word m ∷ u → level_at two_level k u ≡ Got (in_parentheses (Both a (second_part b))) end → prim_at k ws ≡ Got (method_call_tree m a b) end
-method_call_got k m ws u a b end is got = rw is (prim_of_method k m.at m.kind u ∙ rw got refl)
+pub method_call_got : (k place : ℕ) (m : Method) (ws u : List Word) (a b : Tree) (end : List Word) → ws ≡ method_word m ∷ u → level_at two_level k u ≡ Got (in_parentheses place (Both a (second_part b))) end → prim_at k ws ≡ Got (method_call_tree m place a b) end
+method_call_got k place m ws u a b end is got = rw is (prim_of_method k m.at m.kind u ∙ rw got refl)
 
 no_prim : (ws : List Word) → begins is_simple ws ≡ false → begins name ws ≡ false → begins (symbol symbols.OpenParenthesis) ws ≡ false → begins (symbol symbols.OpenBracket) ws ≡ false → begins (symbol symbols.OpenMask) ws ≡ false → begins (symbol symbols.Defined) ws ≡ false → begins is_method ws ≡ false → begins (starts prim) ws ≡ false
 no_prim [] a b c d e f g = refl
@@ -475,8 +475,8 @@ method_is (suc k) m ws u is = rw (is, method_passes m.at m.kind) refl
 pub method_fails : (k : ℕ) (m : Method) (ws u : List Word) (e : Refusal) → ws ≡ method_word m ∷ u → Fails e (level_at argument_level k u) → Fails e (method_at k ws)
 method_fails k m ws u e is failed = fails_along e (method_at k ws) _ (method_is k m ws u is) (fails_then e (level_at argument_level k u) (λ a v. Got (Both (Leaf (method_word m)) a) v) failed)
 
-pub method_got : (k : ℕ) (m : Method) (ws u : List Word) (t : Tree) (rest : List Word) → ws ≡ method_word m ∷ u → level_at argument_level k u ≡ Got (in_parentheses t) rest → method_at k ws ≡ Got (method_tree m t) rest
-method_got k m ws u t rest is got = method_is k m ws u is ∙ rw got refl
+pub method_got : (k place : ℕ) (m : Method) (ws u : List Word) (t : Tree) (rest : List Word) → ws ≡ method_word m ∷ u → level_at argument_level k u ≡ Got (in_parentheses place t) rest → method_at k ws ≡ Got (method_tree m place t) rest
+method_got k place m ws u t rest is got = method_is k m ws u is ∙ rw got refl
 
 -- ---- calls
 
@@ -487,18 +487,18 @@ named_none (suc k) n [] none = refl
 named_none zero n (w ∷ ws) none = rw none refl
 named_none (suc k) n (w ∷ ws) none = rw none refl
 
-call_some : (k : ℕ) (n : Name) (ws u : List Word) → ws ≡ words.Symbol symbols.OpenParenthesis ∷ u → named_at k n ws ≡ and_then (and_then (level_at arguments_level k ws) (λ t v. Got (First t) v)) (λ c rest. Got (Second (First (Both (name_leaf n) c))) rest)
+call_some : (k at : ℕ) (n : Name) (ws u : List Word) → ws ≡ words.Placed at symbols.OpenParenthesis ∷ u → named_at k n ws ≡ and_then (and_then (level_at arguments_level k ws) (λ t v. Got (First t) v)) (λ c rest. Got (Second (First (Both (name_leaf n) c))) rest)
 unfolding named_at call_at level_at
-call_some zero n ws u is = rw is refl
-call_some (suc k) n ws u is = rw is refl
+call_some zero at n ws u is = rw is refl
+call_some (suc k) at n ws u is = rw is refl
 
-pub named_fails : (k : ℕ) (n : Name) (ws u : List Word) (e : Refusal) → ws ≡ words.Symbol symbols.OpenParenthesis ∷ u → Fails e (level_at arguments_level k ws) → Fails e (named_at k n ws)
-named_fails k n ws u e is failed =
-    fails_along e (named_at k n ws) _ (call_some k n ws u is)
+pub named_fails : (k at : ℕ) (n : Name) (ws u : List Word) (e : Refusal) → ws ≡ words.Placed at symbols.OpenParenthesis ∷ u → Fails e (level_at arguments_level k ws) → Fails e (named_at k n ws)
+named_fails k at n ws u e is failed =
+    fails_along e (named_at k n ws) _ (call_some k at n ws u is)
     (fails_then e (and_then (level_at arguments_level k ws) (λ t v. Got (First t) v)) (λ c rest. Got (Second (First (Both (name_leaf n) c))) rest) (fails_then e (level_at arguments_level k ws) (λ t v. Got (First t) v) failed))
 
-pub named_got : (k : ℕ) (n : Name) (ws u : List Word) (t : Tree) (rest : List Word) → ws ≡ words.Symbol symbols.OpenParenthesis ∷ u → level_at arguments_level k ws ≡ Got t rest → named_at k n ws ≡ Got (named_tree n (First t)) rest
-named_got k n ws u t rest is got = call_some k n ws u is ∙ rw got refl
+pub named_got : (k at : ℕ) (n : Name) (ws u : List Word) (t : Tree) (rest : List Word) → ws ≡ words.Placed at symbols.OpenParenthesis ∷ u → level_at arguments_level k ws ≡ Got t rest → named_at k n ws ≡ Got (named_tree n (First t)) rest
+named_got k at n ws u t rest is got = call_some k at n ws u is ∙ rw got refl
 
 -- ---- arguments
 
@@ -507,8 +507,8 @@ unfolding inside_at
 arguments_none zero ws end is = rw is refl
 arguments_none (suc k) ws end is = rw is refl
 
-pub arguments_empty : (k b : ℕ) (ws u end : List Word) → b + 1 ≡ k → ws ≡ words.Symbol symbols.OpenParenthesis ∷ u → u ≡ words.Symbol symbols.CloseParenthesis ∷ end → level_at arguments_level k ws ≡ Got (in_parentheses (Second Blank)) end
-arguments_empty k b ws u end below is close = level_got arguments_level k b ws u (Second Blank) u end below is (arguments_none b u end close) close
+pub arguments_empty : (k b at : ℕ) (ws u end : List Word) → b + 1 ≡ k → ws ≡ words.Placed at symbols.OpenParenthesis ∷ u → u ≡ words.Symbol symbols.CloseParenthesis ∷ end → level_at arguments_level k ws ≡ Got (in_parentheses at (Second Blank)) end
+arguments_empty k b at ws u end below is close = level_got arguments_level k b at ws u (Second Blank) u end below is (arguments_none b u end close) close
 
 arguments_start : (k : ℕ) (ws : List Word) → begins (starts expr) ws ≡ true → inside_at arguments_level k ws ≡ and_then (and_then (expr_at k ws) (λ a rest. links (symbol symbols.Comma) (expr_at k) (Start a) rest)) (λ t v. Got (First t) v)
 unfolding inside_at expr_at links
@@ -532,15 +532,15 @@ pub arguments_some : (k : ℕ) (ws : List Word) (a : Tree) (rest : List Word) �
 arguments_some k ws a rest got = arguments_start k ws (expr_begun k ws a rest got) ∙ rw got refl
 
 -- what begins no expression and isn't the closing parenthesis either is refused
-pub arguments_fail : (k b : ℕ) (ws u : List Word) (e : Refusal) → b + 1 ≡ k → ws ≡ words.Symbol symbols.OpenParenthesis ∷ u → begins (symbol symbols.CloseParenthesis) u ≡ false → Fails e (expr_at b u) → Fails e (level_at arguments_level k ws)
-arguments_fail k b ws u e below is not_closed failed = elim (bool_cases (begins (starts expr) u)) [
+pub arguments_fail : (k b at : ℕ) (ws u : List Word) (e : Refusal) → b + 1 ≡ k → ws ≡ words.Placed at symbols.OpenParenthesis ∷ u → begins (symbol symbols.CloseParenthesis) u ≡ false → Fails e (expr_at b u) → Fails e (level_at arguments_level k ws)
+arguments_fail k b at ws u e below is not_closed failed = elim (bool_cases (begins (starts expr) u)) [
   | inl starts_here ↦
-      level_inside_fails arguments_level k b ws u e below is (fails_along e (inside_at arguments_level b u) _ (arguments_start b u starts_here)
+      level_inside_fails arguments_level k b at ws u e below is (fails_along e (inside_at arguments_level b u) _ (arguments_start b u starts_here)
       (fails_then e (and_then (expr_at b u) (λ a rest. links (symbol symbols.Comma) (expr_at b) (Start a) rest)) (λ t v. Got (First t) v)
       (fails_then e (expr_at b u) (λ a rest. links (symbol symbols.Comma) (expr_at b) (Start a) rest) failed)))
   | inr none ↦
       let same : word (symbol symbols.CloseParenthesis) u ≡ expr_at b u = word_bad (symbol symbols.CloseParenthesis) u not_closed ∙ sym (expr_refused b u none) in
-      level_end_fails arguments_level k b ws u (Second Blank) u e below is (arguments_no_start b u none) (fails_along e (word (symbol symbols.CloseParenthesis) u) (expr_at b u) same failed)
+      level_end_fails arguments_level k b at ws u (Second Blank) u e below is (arguments_no_start b u none) (fails_along e (word (symbol symbols.CloseParenthesis) u) (expr_at b u) same failed)
 ]
 
 pub expr_same : (k : ℕ) (ws : List Word) → read rule k expr ws ≡ expr_at k ws
@@ -553,5 +553,5 @@ closed_bad : (first : Word) (close : Symbol) (r : Reader) (u : List Word) → r 
 unfolding closed
 closed_bad first close r u bad = rw bad refl
 
-pub level_attribute_bad : (k b : ℕ) (ws u : List Word) → b + 1 ≡ k → ws ≡ words.Symbol symbols.OpenParenthesis ∷ u → begins is_attribute u ≡ false → level_at attribute_level k ws ≡ Fault Bad u
-level_attribute_bad k b ws u below is none = level_is attribute_level k b ws u below is ∙ closed_bad (words.Symbol symbols.OpenParenthesis) symbols.CloseParenthesis (inside_at attribute_level b) u (attribute_inside b u ∙ word_bad is_attribute u none)
+pub level_attribute_bad : (k b at : ℕ) (ws u : List Word) → b + 1 ≡ k → ws ≡ words.Placed at symbols.OpenParenthesis ∷ u → begins is_attribute u ≡ false → level_at attribute_level k ws ≡ Fault Bad u
+level_attribute_bad k b at ws u below is none = level_is attribute_level k b at ws u below is ∙ closed_bad (words.Placed at symbols.OpenParenthesis) symbols.CloseParenthesis (inside_at attribute_level b) u (attribute_inside b u ∙ word_bad is_attribute u none)

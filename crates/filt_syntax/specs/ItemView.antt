@@ -52,7 +52,8 @@ lengths_part (Some l) = First (lengths_tree l)
 
 abbrev pub item_tree : Item → Tree
 item_tree (items.Part p) = First (part_tree p)
-item_tree (items.Pair a b) = Second (First (between (words.Symbol sym.OpenParenthesis) (with_comma (pair_part_tree a) (pair_part_tree b)) sym.CloseParenthesis))
+item_tree (items.Pair at a b) = Second (First (between (words.Placed at sym.OpenParenthesis)
+    (with_comma (pair_part_tree a) (pair_part_tree b)) sym.CloseParenthesis))
 item_tree (items.Prefix at net l) = Second (Second (Both (Leaf (words.Prefix at net)) (lengths_part l)))
 
 -- items after a tree, each behind a comma

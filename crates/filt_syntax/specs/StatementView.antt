@@ -73,7 +73,7 @@ assigned_tree e = Both (symbol_leaf sym.Equal) (ended e)
 
 abbrev pub change_tree : Change → Tree
 change_tree changes.Empty = First (symbol_leaf sym.Empty)
-change_tree (changes.Method m e) = Second (method_tree m (sight e).expr)
+change_tree (changes.Method m place e) = Second (method_tree m place (sight e).expr)
 
 abbrev pub changed_tree : Change → Tree
 changed_tree c = Both (symbol_leaf sym.Dot) (Both (change_tree c) semicolon_leaf)
@@ -122,11 +122,13 @@ abbrev pub change_stmt_tree : Target → Change → Tree
 change_stmt_tree (targets.Name n) c = of_name n (Second (First (changed_tree c)))
 change_stmt_tree (targets.Attribute at a) c = of_attribute_tree at a (Second (changed_tree c))
 
-abbrev pub call_tree : Name → List Expr → Tree
-call_tree n es = of_name n (Second (Second (Both (in_parentheses (arguments_tree (expr_trees es))) semicolon_leaf)))
+abbrev pub call_tree : Name → ℕ → List Expr → Tree
+call_tree n place es =
+    of_name n (Second (Second (Both (in_parentheses place (arguments_tree (expr_trees es))) semicolon_leaf)))
 
-abbrev pub unset_tree : ℕ → Attribute → Tree
-unset_tree at a = Second (nth 4 (Both (symbol_leaf sym.Unset) (Both (in_parentheses (Leaf (attribute_word at a))) semicolon_leaf)))
+abbrev pub unset_tree : ℕ → ℕ → Attribute → Tree
+unset_tree place at a = Second (nth 4 (Both (symbol_leaf sym.Unset)
+    (Both (in_parentheses place (Leaf (attribute_word at a))) semicolon_leaf)))
 
 -- the condition, and the branches
 abbrev pub chosen_tree : Expr → Tree → Tree
@@ -222,7 +224,7 @@ stmt_step Stmt-F.Empty = empty_tree
 stmt_step (Stmt-F.Declare v n e) = declare_tree v n e
 stmt_step (Stmt-F.Assign target e) = assign_tree target e
 stmt_step (Stmt-F.Change target c) = change_stmt_tree target c
-stmt_step (Stmt-F.Unset at a) = unset_tree at a
+stmt_step (Stmt-F.Unset place at a) = unset_tree place at a
 stmt_step (Stmt-F.If e s) = choice_tree e s.value (Second Blank)
 stmt_step (Stmt-F.IfElse e s t) = choice_tree e s.value (else_tree t.value)
 stmt_step (Stmt-F.Case at e arms otherwise) = case_tree at e (Both (arms_row (map seen_arm arms.items)) (otherwise_tree (some_items otherwise)))
@@ -232,7 +234,7 @@ stmt_step Stmt-F.Reject = verdict_tree sym.Reject
 stmt_step (Stmt-F.Return at e) = return_tree at e
 stmt_step (Stmt-F.Print es) = print_tree sym.Print es.items
 stmt_step (Stmt-F.PrintPart es) = print_tree sym.Printn es.items
-stmt_step (Stmt-F.Call n es) = call_tree n es.items
+stmt_step (Stmt-F.Call n place es) = call_tree n place es.items
 
 abbrev pub stmt_tree : Stmt → Tree
 stmt_tree = fold-Stmt Tree stmt_step

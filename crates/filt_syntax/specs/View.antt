@@ -180,9 +180,9 @@ abbrev pub arguments_tree : List Tree → Tree
 arguments_tree [] = Second Blank
 arguments_tree (x ∷ xs) = First (listed_after (Start x) xs)
 
--- parentheses round a tree
-abbrev pub in_parentheses : Tree → Tree
-in_parentheses t = between (words.Symbol sym.OpenParenthesis) t sym.CloseParenthesis
+-- parentheses round a tree, with the place of the first of them
+abbrev pub in_parentheses : ℕ → Tree → Tree
+in_parentheses at t = between (words.Placed at sym.OpenParenthesis) t sym.CloseParenthesis
 
 abbrev pub second_part : Tree → Tree
 second_part t = Both (symbol_leaf sym.Comma) t
@@ -194,8 +194,8 @@ simple_tree w = First (Leaf w)
 abbrev pub named_tree : Name → Tree → Tree
 named_tree n call = Second (First (Both (name_leaf n) call))
 
-abbrev pub group_tree : Tree → Tree
-group_tree inside = Second (Second (First (in_parentheses inside)))
+abbrev pub group_tree : ℕ → Tree → Tree
+group_tree at inside = Second (Second (First (in_parentheses at inside)))
 
 abbrev pub set_tree : ℕ → Tree → Tree
 set_tree at items = Second (Second (Second (First (between (words.Placed at sym.OpenBracket) items sym.CloseBracket))))
@@ -203,22 +203,24 @@ set_tree at items = Second (Second (Second (First (between (words.Placed at sym.
 abbrev pub mask_tree : ℕ → Tree → Tree
 mask_tree at items = Second (Second (Second (Second (First (Both (Both (Leaf (words.Placed at sym.OpenMask)) items) (symbol_leaf sym.CloseMask))))))
 
-abbrev pub defined_tree : ℕ → Word → Tree
-defined_tree at attribute = Second (Second (Second (Second (Second (First (Both (Leaf (words.Placed at sym.Defined)) (in_parentheses (Leaf attribute))))))))
+abbrev pub defined_tree : ℕ → ℕ → Word → Tree
+defined_tree at place attribute = Second (Second (Second (Second (Second (First
+    (Both (Leaf (words.Placed at sym.Defined)) (in_parentheses place (Leaf attribute))))))))
 
-abbrev pub method_call_tree : Method → Tree → Tree → Tree
-method_call_tree m a b = Second (Second (Second (Second (Second (Second (Both (Leaf (method_word m)) (in_parentheses (Both a (second_part b)))))))))
+abbrev pub method_call_tree : Method → ℕ → Tree → Tree → Tree
+method_call_tree m place a b = Second (Second (Second (Second (Second (Second
+    (Both (Leaf (method_word m)) (in_parentheses place (Both a (second_part b)))))))))
 
 -- what stands behind a dot
 abbrev pub property_tree : Property → Tree
 property_tree p = First (symbol_leaf (property_symbol p))
 
-abbrev pub method_tree : Method → Tree → Tree
-method_tree m argument = Both (Leaf (method_word m)) (in_parentheses argument)
+abbrev pub method_tree : Method → ℕ → Tree → Tree
+method_tree m place argument = Both (Leaf (method_word m)) (in_parentheses place argument)
 
 abbrev pub access_part : Access Sight → Word × Tree
 access_part (accesses.Property p) = (words.Symbol sym.Dot, property_tree p)
-access_part (accesses.Method m e) = (words.Symbol sym.Dot, Second (method_tree m e.expr))
+access_part (accesses.Method m place e) = (words.Symbol sym.Dot, Second (method_tree m place e.expr))
 
 abbrev pub factor_part : Factor × Sight → Word × Tree
 factor_part x = (words.Symbol (factor_symbol x.0), x.1.unary)
@@ -233,13 +235,15 @@ joint_part x = (words.Symbol (joint_symbol x.0), x.1.cmp)
 abbrev pub sight_step : Expr-F Sight → Sight
 sight_step (Expr-F.Simple s) = as_prim (simple_tree (simple_word s))
 sight_step (Expr-F.Name n) = as_prim (named_tree n (Second Blank))
-sight_step (Expr-F.Call n es) = as_prim (named_tree n (First (in_parentheses (arguments_tree (map (λ (s : Sight). s.expr) es.items)))))
-sight_step (Expr-F.Group e) = as_prim (group_tree (alone e.value.expr))
-sight_step (Expr-F.Pair a b) = as_prim (group_tree (Both a.value.expr (First (second_part b.value.expr))))
+sight_step (Expr-F.Call n place es) =
+    as_prim (named_tree n (First (in_parentheses place (arguments_tree (map (λ (s : Sight). s.expr) es.items)))))
+sight_step (Expr-F.Group at e) = as_prim (group_tree at (alone e.value.expr))
+sight_step (Expr-F.Pair at a b) = as_prim (group_tree at (Both a.value.expr (First (second_part b.value.expr))))
 sight_step (Expr-F.Set at items) = as_prim (set_tree at (items_tree items.items))
 sight_step (Expr-F.Mask at items) = as_prim (mask_tree at (mask_items_tree items.items))
-sight_step (Expr-F.Defined at attribute_at attribute) = as_prim (defined_tree at (attribute_word attribute_at attribute))
-sight_step (Expr-F.MethodCall m a b) = as_prim (method_call_tree m a.value.expr b.value.expr)
+sight_step (Expr-F.Defined at place attribute_at attribute) =
+    as_prim (defined_tree at place (attribute_word attribute_at attribute))
+sight_step (Expr-F.MethodCall m place a b) = as_prim (method_call_tree m place a.value.expr b.value.expr)
 sight_step (Expr-F.Access e more) = as_post (chain_of (Start e.value.prim) (map access_part more.items))
 sight_step (Expr-F.Not at e) = as_unary (First (Inside (words.Placed at sym.Not) e.value.unary))
 sight_step (Expr-F.Product e more) = as_prod (chain_of (Start e.value.unary) (map factor_part more.items))
@@ -260,7 +264,7 @@ expr_trees es = map expr_tree es
 
 abbrev pub access_of : Access Expr → Word × Tree
 access_of (accesses.Property p) = (words.Symbol sym.Dot, property_tree p)
-access_of (accesses.Method m e) = (words.Symbol sym.Dot, Second (method_tree m (sight e).expr))
+access_of (accesses.Method m place e) = (words.Symbol sym.Dot, Second (method_tree m place (sight e).expr))
 
 abbrev pub factor_of : Factor × Expr → Word × Tree
 factor_of x = (words.Symbol (factor_symbol x.0), (sight x.1).unary)

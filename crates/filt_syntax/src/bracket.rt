@@ -13,19 +13,21 @@ use crate::items::{items, mask_items};
 use crate::operators::next_attribute;
 use crate::tree::{Attribute, Expr};
 use conf_lex::{Symbol, Word};
-use grammar::{Refusal, after, expect, level_below};
+use grammar::{Refusal, after_placed, expect, level_below};
 use std::alloc::Global;
 
-/// How many levels are left behind the parenthesis that has to come next, and the words after it.
-pub fn open(words: &[Word], left: u32) -> Result<(u32, &[Word]), Refusal>
+/// How many levels are left behind the parenthesis that has to come next, its place, and the words
+/// after it.
+pub fn open(words: &[Word], left: u32) -> Result<(u32, usize, &[Word]), Refusal>
     ensures { MatchResult result
-        (λ found. (words.now ≡ Word.Symbol sym.OpenParenthesis ∷ found.1.now) × (found.0 + 1 ≡ left))
+        (λ found. (words.now ≡ Word.Placed found.1 sym.OpenParenthesis ∷ found.2.now)
+            × (found.0 + 1 ≡ left))
         (λ e. (n : ℕ) → Fails e (opened_at n left words.now)) }
 {
-    match after(words, Symbol::OpenParenthesis) {
-        Some(inside) => {
+    match after_placed(words, Symbol::OpenParenthesis) {
+        Some((at, inside)) => {
             let below = level_below(words, left)?;
-            Ok((below, inside))
+            Ok((below, at, inside))
         }
         None => Err(Refusal::Bad(words)),
     }
@@ -77,23 +79,28 @@ pub fn defined<'a>(
     ensures tree { Gives (λ e. (sight e).prim) result (prim_at left words.now) }
     ensures rank { IfOk result (λ found. (sight found.0).rank ≤ 0) }
 {
-    let ((attribute_at, attribute), rest) = of_attribute(next, left)?;
+    let ((attribute_at, attribute, open), rest) = of_attribute(next, left)?;
     let defined = Expr::Defined {
         at,
+        open,
         attribute_at,
         attribute,
     };
     Ok((defined, rest))
 }
 
-/// An attribute in parentheses, and its place.
-pub fn of_attribute(words: &[Word], left: u32) -> Result<((usize, Attribute), &[Word]), Refusal>
-    ensures { Gives (λ found. in_parentheses (Leaf (attribute_word found.0 found.1))) result (level_at attribute_level left words.now) }
+/// The place of an attribute in parentheses, the attribute, and the place of the first of these.
+pub fn of_attribute(
+    words: &[Word],
+    left: u32,
+) -> Result<((usize, Attribute, usize), &[Word]), Refusal>
+    ensures { Gives (λ found. in_parentheses found.2 (Leaf (attribute_word found.0 found.1)))
+        result (level_at attribute_level left words.now) }
 {
-    let (_, inside) = open(words, left)?;
-    let Some((found, end)) = next_attribute(inside) else {
+    let (_below, open, inside) = open(words, left)?;
+    let Some(((at, attribute), end)) = next_attribute(inside) else {
         return Err(Refusal::Bad(inside));
     };
     let rest = expect(end, Symbol::CloseParenthesis)?;
-    Ok((found, rest))
+    Ok(((at, attribute, open), rest))
 }

@@ -174,28 +174,34 @@ fn access<'a>(
     match next_property(words) {
         Some((property, rest)) => Ok((Access::Property(property), rest)),
         None => {
-            let ((method, argument), rest) = method(alloc, words, left)?;
-            Ok((Access::Method(method, argument), rest))
+            let ((method, argument, open), rest) = method(alloc, words, left)?;
+            let method = Access::Method {
+                method,
+                open,
+                argument,
+            };
+            Ok((method, rest))
         }
     }
 }
 
-/// A method and its argument.
+/// A method, its argument, and the place of the parenthesis before that.
 #[cycle(expression)]
 pub fn method<'a>(
     alloc: Global,
     words: &'a [Word],
     left: u32,
-) -> Result<((Method, Expr), &'a [Word]), Refusal<'a>>
-    ensures { Gives (λ found. method_tree found.0 (sight found.1).expr) result (method_at left words.now) }
+) -> Result<((Method, Expr, usize), &'a [Word]), Refusal<'a>>
+    ensures { Gives (λ found. method_tree found.0 found.2 (sight found.1).expr)
+        result (method_at left words.now) }
 {
     let Some((method, next)) = next_method(words) else {
         return Err(Refusal::Bad(words));
     };
-    let (below, inside) = open(next, left)?;
+    let (below, open, inside) = open(next, left)?;
     let (argument, end) = expression(alloc, inside, below)?;
     let rest = expect(end, Symbol::CloseParenthesis)?;
-    Ok(((method, argument), rest))
+    Ok(((method, argument, open), rest))
 }
 
 #[cycle(expression)]
@@ -213,8 +219,8 @@ fn primary<'a>(
     if let Some((name, rest)) = next_name(words) {
         return call(alloc, name, rest, left);
     }
-    if let Some(inside) = after(words, Symbol::OpenParenthesis) {
-        return group(alloc, words, inside, left);
+    if let Some((at, inside)) = after_placed(words, Symbol::OpenParenthesis) {
+        return group(alloc, words, at, inside, left);
     }
     if let Some((at, inside)) = after_placed(words, Symbol::OpenBracket) {
         return set(alloc, words, at, inside, left);
@@ -231,15 +237,16 @@ fn primary<'a>(
     }
 }
 
-// An expression in brackets, or a pair, behind its opening bracket.
+// An expression in parentheses, or a pair, behind the first of them.
 #[cycle(expression)]
 fn group<'a>(
     alloc: Global,
     words: &'a [Word],
+    at: usize,
     inside: &'a [Word],
     left: u32,
 ) -> Result<(Expr, &'a [Word]), Refusal<'a>>
-    requires { words.now ≡ Word.Symbol sym.OpenParenthesis ∷ inside.now }
+    requires { words.now ≡ Word.Placed at sym.OpenParenthesis ∷ inside.now }
     ensures tree { Gives (λ e. (sight e).prim) result (prim_at left words.now) }
     ensures rank { IfOk result (λ found. (sight found.0).rank ≤ 0) }
 {
@@ -248,12 +255,12 @@ fn group<'a>(
     match after(end, Symbol::Comma) {
         None => {
             let rest = expect(end, Symbol::CloseParenthesis)?;
-            Ok((Expr::Group(first), rest))
+            Ok((Expr::Group { at, inner: first }, rest))
         }
         Some(next) => {
             let (second, end) = boxed(alloc, next, below)?;
             let rest = expect(end, Symbol::CloseParenthesis)?;
-            Ok((Expr::Pair(first, second), rest))
+            Ok((Expr::Pair { at, first, second }, rest))
         }
     }
 }
@@ -271,12 +278,18 @@ fn method_call<'a>(
     ensures tree { Gives (λ e. (sight e).prim) result (prim_at left words.now) }
     ensures rank { IfOk result (λ found. (sight found.0).rank ≤ 0) }
 {
-    let (below, inside) = open(next, left)?;
+    let (below, open, inside) = open(next, left)?;
     let (list, end) = boxed(alloc, inside, below)?;
     let second = expect(end, Symbol::Comma)?;
     let (argument, end) = boxed(alloc, second, below)?;
     let rest = expect(end, Symbol::CloseParenthesis)?;
-    Ok((Expr::MethodCall(method, list, argument), rest))
+    let called = Expr::MethodCall {
+        method,
+        open,
+        list,
+        argument,
+    };
+    Ok((called, rest))
 }
 
 // A name, or a call of it, by the words after it.
@@ -290,28 +303,34 @@ fn call<'a>(
     ensures tree { Gives (λ e. (sight e).prim) result (named_at left name words.now) }
     ensures rank { IfOk result (λ found. (sight found.0).rank ≤ 0) }
 {
-    match after(words, Symbol::OpenParenthesis) {
+    match after_placed(words, Symbol::OpenParenthesis) {
         None => Ok((Expr::Name(name), words)),
         Some(_) => {
-            let (arguments, rest) = arguments(alloc, words, left)?;
-            Ok((Expr::Call(name, arguments), rest))
+            let ((arguments, open), rest) = arguments(alloc, words, left)?;
+            let called = Expr::Call {
+                name,
+                open,
+                arguments,
+            };
+            Ok((called, rest))
         }
     }
 }
 
-/// The arguments of a call, in their parentheses.
+/// The arguments of a call, in their parentheses, and the place of the first of these.
 #[cycle(expression)]
 pub fn arguments<'a>(
     alloc: Global,
     words: &'a [Word],
     left: u32,
-) -> Result<(Vec<Expr>, &'a [Word]), Refusal<'a>>
-    ensures { Gives (λ es. in_parentheses (arguments_tree (expr_trees es.items))) result (level_at arguments_level left words.now) }
+) -> Result<((Vec<Expr>, usize), &'a [Word]), Refusal<'a>>
+    ensures { Gives (λ found. in_parentheses found.1 (arguments_tree (expr_trees found.0.items)))
+        result (level_at arguments_level left words.now) }
 {
-    let (below, inside) = open(words, left)?;
+    let (below, open, inside) = open(words, left)?;
     let mut found = Vec::new(alloc);
     if let Some(rest) = after(inside, Symbol::CloseParenthesis) {
-        return Ok((found, rest));
+        return Ok(((found, open), rest));
     }
     let (first, mut rest) = expression(alloc, inside, below)?;
     found.push(first)?;
@@ -321,5 +340,5 @@ pub fn arguments<'a>(
         rest = end;
     }
     let rest = expect(rest, Symbol::CloseParenthesis)?;
-    Ok((found, rest))
+    Ok(((found, open), rest))
 }

@@ -14,7 +14,7 @@ ghost use Rattle.filt_syntax.specs.ItemReaders.{part_at, pair_part_at, pair_at, 
 use crate::tree::{Item, Lengths, MaskAtom, MaskItem, Num, PairPart, Part};
 use bits_ip::Prefix;
 use conf_lex::{Symbol, Word};
-use grammar::{Name, Refusal, after, expect, level_below, next_prefix};
+use grammar::{Name, Refusal, after, after_placed, expect, level_below, next_prefix};
 use std::alloc::Global;
 
 /// A written number or the name of a constant that is one, where either comes next.
@@ -128,19 +128,20 @@ fn lengths(words: &[Word], left: u32) -> Result<(Option<Lengths>, &[Word]), Refu
     }
 }
 
-// A pair in brackets, by the words after the opening one.
+// A pair in parentheses, by the words after the first of them.
 fn pair_item<'a>(
     words: &'a [Word],
+    at: usize,
     inside: &'a [Word],
     left: u32,
 ) -> Result<(Item, &'a [Word]), Refusal<'a>>
-    requires { words.now ≡ Word.Symbol OpenParenthesis ∷ inside.now }
+    requires { words.now ≡ Word.Placed at OpenParenthesis ∷ inside.now }
     ensures { Gives item_tree result (item_at left words.now) }
 {
     let _below = level_below(words, left)?;
     let ((first, second), rest) = pair(inside)?;
     let rest = expect(rest, Symbol::CloseParenthesis)?;
-    Ok((Item::Pair(first, second), rest))
+    Ok((Item::Pair { at, first, second }, rest))
 }
 
 // A prefix and its lengths, by the words after it.
@@ -161,8 +162,8 @@ fn prefix_item<'a>(
 pub fn item(words: &[Word], left: u32) -> Result<(Item, &[Word]), Refusal>
     ensures { Gives item_tree result (item_at left words.now) }
 {
-    if let Some(inside) = after(words, Symbol::OpenParenthesis) {
-        return pair_item(words, inside, left);
+    if let Some((at, inside)) = after_placed(words, Symbol::OpenParenthesis) {
+        return pair_item(words, at, inside, left);
     }
     match next_prefix(words) {
         Some(((at, net), rest)) => prefix_item(words, at, net, rest, left),

@@ -60,9 +60,14 @@ fn change<'a>(
         let rest = expect(end, Symbol::Semicolon)?;
         return Ok((Change::Empty, rest));
     }
-    let ((method, argument), end) = method(alloc, words, left)?;
+    let ((method, argument, open), end) = method(alloc, words, left)?;
     let rest = expect(end, Symbol::Semicolon)?;
-    Ok((Change::Method(method, argument), rest))
+    let change = Change::Method {
+        method,
+        open,
+        argument,
+    };
+    Ok((change, rest))
 }
 
 /// A statement that a name begins, by the words after it.
@@ -98,9 +103,14 @@ fn call<'a>(
     requires dot { begins (symbol sym.Dot) words.now ≡ false }
     ensures { Gives boxed_tree result (of_name_at left name words.now) }
 {
-    let (arguments, end) = arguments(alloc, words, left)?;
+    let ((arguments, open), end) = arguments(alloc, words, left)?;
     let rest = expect(end, Symbol::Semicolon)?;
-    made(alloc, Stmt::Call(name, arguments), rest)
+    let called = Stmt::Call {
+        name,
+        open,
+        arguments,
+    };
+    made(alloc, called, rest)
 }
 
 // A statement that an attribute begins, by the words after it.
@@ -183,9 +193,10 @@ fn unset<'a>(
     requires { words.now ≡ Word.Symbol sym.Unset ∷ next.now }
     ensures { Gives boxed_tree result (stmt_at left words.now) }
 {
-    let ((attribute_at, attribute), end) = of_attribute(next, left)?;
+    let ((attribute_at, attribute, open), end) = of_attribute(next, left)?;
     let rest = expect(end, Symbol::Semicolon)?;
     let unset = Stmt::Unset {
+        open,
         attribute_at,
         attribute,
     };

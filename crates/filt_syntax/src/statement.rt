@@ -389,7 +389,12 @@ fn begins_item(words: &[Word]) -> bool
     matches!(
         words,
         [
-            Word::Number { .. } | Word::Prefix { .. } | Word::Symbol(Symbol::OpenParenthesis),
+            Word::Number { .. }
+                | Word::Prefix { .. }
+                | Word::Placed {
+                    symbol: Symbol::OpenParenthesis,
+                    ..
+                },
             ..
         ]
     )

@@ -1,3 +1,6 @@
+// The trees of filters. Each `at` is the byte of the source at which what it is of begins, and
+// `open` the byte of a parenthesis.
+
 use bits_ip::{Addr, Prefix};
 use grammar::Name;
 
@@ -72,7 +75,12 @@ pub enum Lengths {
 #[derive(Clone, Copy, Debug)]
 pub enum Item {
     Part(Part),
-    Pair(PairPart, PairPart),
+    /// A pair; `at` is the place of its parenthesis.
+    Pair {
+        at: usize,
+        first: PairPart,
+        second: PairPart,
+    },
     Prefix {
         at: usize,
         net: Prefix,
@@ -97,7 +105,7 @@ pub struct MaskItem {
     pub many: bool,
 }
 
-/// A word that is an expression: a value, an attribute or a constant, and the place of its token.
+/// A word that is an expression: a value, an attribute or a constant, and its place.
 #[derive(Clone, Copy, Debug)]
 pub enum Simple {
     Number { at: usize, value: u32 },
@@ -144,7 +152,12 @@ pub struct Method {
 #[derive(Drop)]
 pub enum Access<E> {
     Property(Property),
-    Method(Method, E),
+    /// A method and its argument; `open` is the place of the parenthesis before it.
+    Method {
+        method: Method,
+        open: usize,
+        argument: E,
+    },
 }
 
 #[derive(Clone, Copy, Debug, PartialEq, Eq)]
@@ -183,10 +196,23 @@ pub enum Expr {
     Simple(Simple),
     /// A variable, or a constant of the configuration.
     Name(Name),
-    Call(Name, Vec<Expr>),
-    /// An expression in brackets.
-    Group(Box<Expr>),
-    Pair(Box<Expr>, Box<Expr>),
+    /// A call; `open` is the place of the parenthesis behind the name.
+    Call {
+        name: Name,
+        open: usize,
+        arguments: Vec<Expr>,
+    },
+    /// An expression in parentheses; `at` is the place of the first of them.
+    Group {
+        at: usize,
+        inner: Box<Expr>,
+    },
+    /// A pair; `at` is the place of its parenthesis.
+    Pair {
+        at: usize,
+        first: Box<Expr>,
+        second: Box<Expr>,
+    },
     Set {
         at: usize,
         items: Vec<Item>,
@@ -198,11 +224,17 @@ pub enum Expr {
     /// `defined(attribute)`
     Defined {
         at: usize,
+        open: usize,
         attribute_at: usize,
         attribute: Attribute,
     },
     /// `method(list, argument)`
-    MethodCall(Method, Box<Expr>, Box<Expr>),
+    MethodCall {
+        method: Method,
+        open: usize,
+        list: Box<Expr>,
+        argument: Box<Expr>,
+    },
     /// An operand and, one after another, what stands behind its dots.
     Access(Box<Expr>, Vec<Access<Expr>>),
     Not {
@@ -242,7 +274,12 @@ pub enum Target {
 /// What a statement does to its target's list.
 #[derive(Drop)]
 pub enum Change {
-    Method(Method, Expr),
+    /// A method and its argument; `open` is the place of the parenthesis before it.
+    Method {
+        method: Method,
+        open: usize,
+        argument: Expr,
+    },
     /// `empty`
     Empty,
 }
@@ -268,6 +305,7 @@ pub enum Stmt {
     Assign(Target, Expr),
     Change(Target, Change),
     Unset {
+        open: usize,
         attribute_at: usize,
         attribute: Attribute,
     },
@@ -295,8 +333,13 @@ pub enum Stmt {
     Print(Vec<Expr>),
     /// As `print`, without an end of line.
     PrintPart(Vec<Expr>),
-    /// A call of a function that gives nothing.
-    Call(Name, Vec<Expr>),
+    /// A call of a function that gives nothing; `open` is the place of the parenthesis behind
+    /// its name.
+    Call {
+        name: Name,
+        open: usize,
+        arguments: Vec<Expr>,
+    },
 }
 
 /// The statements between the braces of a filter, a function or a policy.
@@ -325,6 +368,8 @@ pub struct Parameter {
 #[derive(Drop)]
 pub struct Function {
     pub name: Name,
+    /// The place of the parenthesis before the parameters.
+    pub open: usize,
     pub parameters: Vec<Parameter>,
     /// The type of what it gives, where it gives something.
     pub gives: Option<VariableType>,

@@ -41,7 +41,7 @@ fn joins_a_comparison_and_a_name(found: &Option<Expr>) -> bool {
 fn prepends_and_counts(found: &Option<Expr>) -> bool {
     match found {
         Some(Expr::Access(_, more)) => match (more.first(), more.last()) {
-            (Some(Access::Method(method, _)), Some(Access::Property(property))) => {
+            (Some(Access::Method { method, .. }), Some(Access::Property(property))) => {
                 method.kind == MethodKind::Prepend && *property == Property::Len
             }
             _ => false,
@@ -52,8 +52,17 @@ fn prepends_and_counts(found: &Option<Expr>) -> bool {
 
 fn calls_with_two(found: &Option<Expr>) -> bool {
     match found {
-        Some(Expr::Call(_, arguments)) => arguments.len() == 2,
+        Some(Expr::Call { arguments, .. }) => arguments.len() == 2,
         _ => false,
+    }
+}
+
+/// The place of the parenthesis of a group or of a call.
+fn parenthesis_of(found: &Option<Expr>) -> Option<usize> {
+    match found {
+        Some(Expr::Group { at, .. }) => Some(*at),
+        Some(Expr::Call { open, .. }) => Some(*open),
+        _ => None,
     }
 }
 
@@ -71,7 +80,7 @@ fn methods_and_calls(rt: HostRuntime) -> Result<(), Fail> {
     let alloc = rt.alloc();
     assert!(rt; prepends_and_counts(&tree(alloc, b"bgp_path.prepend(1).len", 8)?));
     let call = tree(alloc, b"prepend(bgp_path, 1)", 6)?;
-    assert!(rt; matches!(&call, Some(Expr::MethodCall(_, _, _))));
+    assert!(rt; matches!(&call, Some(Expr::MethodCall { .. })));
     assert!(rt; calls_with_two(&tree(alloc, b"f(x, y)", 6)?));
     Ok(())
 }
@@ -80,10 +89,20 @@ fn methods_and_calls(rt: HostRuntime) -> Result<(), Fail> {
 fn pairs_attributes_and_the_end(rt: HostRuntime) -> Result<(), Fail> {
     let alloc = rt.alloc();
     let pair = tree(alloc, b"(1, 2)", 5)?;
-    assert!(rt; matches!(&pair, Some(Expr::Pair(_, _))));
+    assert!(rt; matches!(&pair, Some(Expr::Pair { .. })));
     let asked = tree(alloc, b"defined(bgp_med)", 4)?;
     assert!(rt; matches!(&asked, Some(Expr::Defined { .. })));
     let one = tree(alloc, b"1 2", 1)?;
     assert!(rt; matches!(&one, Some(Expr::Simple(_))));
+    Ok(())
+}
+
+#[test]
+fn parentheses_by_their_bytes(rt: HostRuntime) -> Result<(), Fail> {
+    let alloc = rt.alloc();
+    let group = tree(alloc, b"/* a */ (x)", 3)?;
+    assert!(rt; parenthesis_of(&group) == Some(8));
+    let call = tree(alloc, b"# a\n f /* b */ (x)", 4)?;
+    assert!(rt; parenthesis_of(&call) == Some(15));
     Ok(())
 }

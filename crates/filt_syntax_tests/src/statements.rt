@@ -77,7 +77,13 @@ fn has_a_pair_in_its_label(found: Option<&Stmt>) -> bool {
             Some(arm) => {
                 matches!(
                     arm.labels.first(),
-                    Some(Item::Pair(PairPart::Part(_), PairPart::Any))
+                    Some(
+                        Item::Pair {
+                            first: PairPart::Part(_),
+                            second: PairPart::Any,
+                            ..
+                        },
+                    )
                 )
             }
             None => false,
@@ -108,13 +114,13 @@ fn is_simple(place: usize, stmt: &Stmt) -> bool {
         }
         1 => matches!(
             stmt,
-            Stmt::Change(Target::Attribute { .. }, Change::Method(_, _))
+            Stmt::Change(Target::Attribute { .. }, Change::Method { .. })
         ),
         2 => matches!(stmt, Stmt::Change(_, Change::Empty)),
         3 => matches!(stmt, Stmt::Unset { .. }),
         4 => matches!(stmt, Stmt::Return { value: None, .. }),
         5 => prints_two(stmt),
-        6 => matches!(stmt, Stmt::Call(_, _)),
+        6 => matches!(stmt, Stmt::Call { .. }),
         7 => {
             matches!(
                 stmt,

@@ -6,7 +6,7 @@ mod named;
 mod refusal;
 mod words;
 
-pub use named::Name;
+pub use named::{Name, bytes_at};
 pub use refusal::Refusal;
 pub use words::{
     after, after_placed, expect, expect_name, expect_number, expect_placed, is_symbol, level_below,

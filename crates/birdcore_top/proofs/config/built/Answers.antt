@@ -4,5 +4,5 @@ use Rattle.birdcore_top.proofs.config.built.Goals as goal
 
 pub returns : goal.returns
 returns c =
-    built_is c.args.text.now c.args.tree.now c.deref.result.now c.in-Some.protocol.now c.deref-2.result.now c.bgp_says.result c.in-Some-session_of.local c.in-Some-session_of.remote
-    c.from_vec.result c.deref.ensures.value c.in-Some.ensures c.deref-2.ensures.value c.bgp_says.ensures c.in-Some-session_of.ensures (c.from_vec.ensures ∙ c.in_ok-name.ensures)
+    built_is c.args.text.now c.args.statements.now c.in-Some.protocol.now c.deref.result.now c.bgp_says.result c.in-Some-session_of.local c.in-Some-session_of.remote
+    c.from_vec.result c.in-Some.ensures c.deref.ensures.value c.bgp_says.ensures c.in-Some-session_of.ensures (c.from_vec.ensures ∙ c.in_ok-name.ensures)

@@ -7,14 +7,14 @@ pub returns-in-Some : goal.returns-in-Some
 returns-in-Some c =
     more_levels c.args.left c.args.words.now _ c.in-Some.rest.now c.in-Some.ensures
 
-pub returns-in-Some-after : goal.returns-in-Some-after
-returns-in-Some-after c =
-    gives_along literal_tree _ _ _ (pair_is c.args.left c.args.words.now c.in-Some-after.behind.now c.in-Some-after.ensures) c.pair.ensures
+pub returns-in-Some-after_placed : goal.returns-in-Some-after_placed
+returns-in-Some-after_placed c =
+    gives_along literal_tree _ _ _ (pair_is c.args.left c.in-Some-after_placed.at c.args.words.now c.in-Some-after_placed.behind.now c.in-Some-after_placed.ensures) c.pair.ensures
 
-pub returns-in-Some-after_placed-2 : goal.returns-in-Some-after_placed-2
-returns-in-Some-after_placed-2 c =
-    gives_along literal_tree _ _ _ (mask_is c.args.left c.in-Some-after_placed-2.at c.args.words.now c.in-Some-after_placed-2.behind.now c.in-Some-after_placed-2.ensures) c.mask.ensures
+pub returns-in-Some-after_placed-3 : goal.returns-in-Some-after_placed-3
+returns-in-Some-after_placed-3 c =
+    gives_along literal_tree _ _ _ (mask_is c.args.left c.in-Some-after_placed-3.at c.args.words.now c.in-Some-after_placed-3.behind.now c.in-Some-after_placed-3.ensures) c.mask.ensures
 
 pub returns-in-None : goal.returns-in-None
 returns-in-None c =
-    literal_bad c.args.left c.args.words.now c.in_default.ensures c.in_default-after.ensures c.in_default-after_placed.ensures c.in-None.ensures
+    literal_bad c.args.left c.args.words.now c.in_default.ensures c.in_default-after_placed.ensures c.in_default-after_placed-2.ensures c.in-None.ensures

@@ -21,8 +21,8 @@ use Rattle.filt_syntax.proofs.Steps.{joint_turns, expr_is, term_turns, sum_is, f
 use Rattle.filt_syntax.proofs.Sights.{lifts, sight-Simple, sight-Name, sight-Call, sight-Product, sight-Sum, sight-Joint, sight-Access, sight-Group, sight-Pair, sight-MethodCall, compare_of, not_of, one_more, chain_some, one_more_access, one_more_expr, arguments_listed, gives_unary}
 use Rattle.filt_syntax.proofs.expression.+expression.Goals as goal
 
-same_tail : (w : Word) (us vs ws : List Word) → ws ≡ w ∷ us → ws ≡ w ∷ vs → us ≡ vs
-same_tail w us vs ws p q = ap (λ (x : List Word). drop 1 x) (sym p ∙ q)
+same_tail : (v w : Word) (us vs ws : List Word) → ws ≡ v ∷ us → ws ≡ w ∷ vs → us ≡ vs
+same_tail v w us vs ws p q = ap (λ (x : List Word). drop 1 x) (sym p ∙ q)
 
 more_than_none : {X : Type 0} (xs : List X) (x : X) → length (xs ++ x ∷ []) ≡ 0 → ⊥
 more_than_none xs x none = omega (arith, none, length-append xs (x ∷ []))
@@ -314,7 +314,7 @@ method-returns-in_err-argument t c =
     let b = c.in_ok-below.below in
     let u = c.in_ok-below.inside.now in
     let failed = fails_along e (inside_at argument_level b u) (expr_at b u) (argument_inside b u) c.in_err-argument.ensures in
-    rw (p.1, p.2) (method_fails c.args.left c.in-Some.method c.args.words.now c.in-Some.next.now e c.in-Some.ensures (level_inside_fails argument_level c.args.left b c.in-Some.next.now u e c.in_ok-below.ensures.1 c.in_ok-below.ensures.0 failed))
+    rw (p.1, p.2) (method_fails c.args.left c.in-Some.method c.args.words.now c.in-Some.next.now e c.in-Some.ensures (level_inside_fails argument_level c.args.left b c.in_ok-below.open c.in-Some.next.now u e c.in_ok-below.ensures.1 c.in_ok-below.ensures.0 failed))
 
 pub method-returns-in_err-rest : goal.method-returns-in_err-rest
 method-returns-in_err-rest t c =
@@ -322,13 +322,13 @@ method-returns-in_err-rest t c =
     let e = c.in_err-rest.field-0.0 in
     let b = c.in_ok-below.below in
     let u = c.in_ok-below.inside.now in
-    rw (p.1, p.2) (method_fails c.args.left c.in-Some.method c.args.words.now c.in-Some.next.now e c.in-Some.ensures (level_end_fails argument_level c.args.left b c.in-Some.next.now u _ c.in_ok-argument.end.now e c.in_ok-below.ensures.1 c.in_ok-below.ensures.0 (argument_inside b u ∙ c.in_ok-argument.ensures) c.in_err-rest.ensures))
+    rw (p.1, p.2) (method_fails c.args.left c.in-Some.method c.args.words.now c.in-Some.next.now e c.in-Some.ensures (level_end_fails argument_level c.args.left b c.in_ok-below.open c.in-Some.next.now u _ c.in_ok-argument.end.now e c.in_ok-below.ensures.1 c.in_ok-below.ensures.0 (argument_inside b u ∙ c.in_ok-argument.ensures) c.in_err-rest.ensures))
 
 pub method-returns : goal.method-returns
 method-returns t c =
     let b = c.in_ok-below.below in
     let u = c.in_ok-below.inside.now in
-    method_got c.args.left c.in-Some.method c.args.words.now c.in-Some.next.now _ c.in_ok-rest.rest.now c.in-Some.ensures (level_got argument_level c.args.left b c.in-Some.next.now u _ c.in_ok-argument.end.now c.in_ok-rest.rest.now c.in_ok-below.ensures.1 c.in_ok-below.ensures.0 (argument_inside b u ∙ c.in_ok-argument.ensures) c.in_ok-rest.ensures)
+    method_got c.args.left c.in_ok-below.open c.in-Some.method c.args.words.now c.in-Some.next.now _ c.in_ok-rest.rest.now c.in-Some.ensures (level_got argument_level c.args.left b c.in_ok-below.open c.in-Some.next.now u _ c.in_ok-argument.end.now c.in_ok-rest.rest.now c.in_ok-below.ensures.1 c.in_ok-below.ensures.0 (argument_inside b u ∙ c.in_ok-argument.ensures) c.in_ok-rest.ensures)
 
 -- ---- groups
 
@@ -336,7 +336,7 @@ pub group-returns-in_err-below-clause-tree : goal.group-returns-in_err-below-cla
 group-returns-in_err-below-clause-tree t c =
     let p = err_from_is_err_and c.from_residual.result c.from_residual.ensures.1 in
     let e = c.in_err-below.field-0.0 in
-    rw (p.1, p.2) (group_fails c.args.left c.args.words.now c.args.inside.now e c.requires (level_deep group_level c.args.left c.args.words.now c.args.inside.now e c.in_err-below.ensures.0 c.requires c.in_err-below.ensures.1))
+    rw (p.1, p.2) (group_fails c.args.left c.args.at c.args.words.now c.args.inside.now e c.requires (level_deep group_level c.args.left c.args.at c.args.words.now c.args.inside.now e c.in_err-below.ensures.0 c.requires c.in_err-below.ensures.1))
 
 pub group-returns-in_err-first-clause-tree : goal.group-returns-in_err-first-clause-tree
 group-returns-in_err-first-clause-tree t c =
@@ -345,7 +345,7 @@ group-returns-in_err-first-clause-tree t c =
     let b = c.in_ok-below.below in
     let u = c.args.inside.now in
     let failed = fails_along e (inside_at group_level b u) _ (group_is b u) (optional_first_fails (symbol symbols.Comma) (expr_at b) (expr_at b) u e c.in_err-first.ensures) in
-    rw (p.1, p.2) (group_fails c.args.left c.args.words.now u e c.requires (level_inside_fails group_level c.args.left b c.args.words.now u e c.in_ok-below.ensures c.requires failed))
+    rw (p.1, p.2) (group_fails c.args.left c.args.at c.args.words.now u e c.requires (level_inside_fails group_level c.args.left b c.args.at c.args.words.now u e c.in_ok-below.ensures c.requires failed))
 
 pub group-returns-in_err-rest-in-None-clause-tree : goal.group-returns-in_err-rest-in-None-clause-tree
 group-returns-in_err-rest-in-None-clause-tree t c =
@@ -354,14 +354,14 @@ group-returns-in_err-rest-in-None-clause-tree t c =
     let b = c.in_ok-below.below in
     let u = c.args.inside.now in
     let got = group_is b u ∙ optional_alone (symbol symbols.Comma) (expr_at b) (expr_at b) u _ c.in_ok-first.end.now c.in_ok-first.ensures c.in-None.ensures in
-    rw (p.1, p.2) (group_fails c.args.left c.args.words.now u e c.requires (level_end_fails group_level c.args.left b c.args.words.now u _ c.in_ok-first.end.now e c.in_ok-below.ensures c.requires got c.in_err-rest-in-None.ensures))
+    rw (p.1, p.2) (group_fails c.args.left c.args.at c.args.words.now u e c.requires (level_end_fails group_level c.args.left b c.args.at c.args.words.now u _ c.in_ok-first.end.now e c.in_ok-below.ensures c.requires got c.in_err-rest-in-None.ensures))
 
 pub group-returns-in_ok-rest-in-None-clause-tree : goal.group-returns-in_ok-rest-in-None-clause-tree
 group-returns-in_ok-rest-in-None-clause-tree t c =
     let b = c.in_ok-below.below in
     let u = c.args.inside.now in
     let got = group_is b u ∙ optional_alone (symbol symbols.Comma) (expr_at b) (expr_at b) u _ c.in_ok-first.end.now c.in_ok-first.ensures c.in-None.ensures in
-    rw (sight-Group c.in_ok-first.first) (group_got c.args.left b c.args.words.now u _ c.in_ok-first.end.now c.in_ok-rest-in-None.rest.now c.in_ok-below.ensures c.requires got c.in_ok-rest-in-None.ensures)
+    rw (sight-Group c.args.at c.in_ok-first.first) (group_got c.args.left b c.args.at c.args.words.now u _ c.in_ok-first.end.now c.in_ok-rest-in-None.rest.now c.in_ok-below.ensures c.requires got c.in_ok-rest-in-None.ensures)
 
 pub group-returns-in_err-second-in-Some-clause-tree : goal.group-returns-in_err-second-in-Some-clause-tree
 group-returns-in_err-second-in-Some-clause-tree t c =
@@ -370,7 +370,7 @@ group-returns-in_err-second-in-Some-clause-tree t c =
     let b = c.in_ok-below.below in
     let u = c.args.inside.now in
     let failed = fails_along e (inside_at group_level b u) _ (group_is b u) (optional_second_fails (symbol symbols.Comma) (expr_at b) (expr_at b) u _ c.in_ok-first.end.now (words.Symbol symbols.Comma) c.in-Some.next.now e c.in_ok-first.ensures c.in-Some.ensures refl c.in_err-second-in-Some.ensures) in
-    rw (p.1, p.2) (group_fails c.args.left c.args.words.now u e c.requires (level_inside_fails group_level c.args.left b c.args.words.now u e c.in_ok-below.ensures c.requires failed))
+    rw (p.1, p.2) (group_fails c.args.left c.args.at c.args.words.now u e c.requires (level_inside_fails group_level c.args.left b c.args.at c.args.words.now u e c.in_ok-below.ensures c.requires failed))
 
 pub group-returns-in_err-rest-in-Some-clause-tree : goal.group-returns-in_err-rest-in-Some-clause-tree
 group-returns-in_err-rest-in-Some-clause-tree t c =
@@ -379,14 +379,14 @@ group-returns-in_err-rest-in-Some-clause-tree t c =
     let b = c.in_ok-below.below in
     let u = c.args.inside.now in
     let got = group_is b u ∙ optional_pair (symbol symbols.Comma) (expr_at b) (expr_at b) u _ c.in_ok-first.end.now (words.Symbol symbols.Comma) c.in-Some.next.now _ c.in_ok-second-in-Some.end.now c.in_ok-first.ensures c.in-Some.ensures refl c.in_ok-second-in-Some.ensures in
-    rw (p.1, p.2) (group_fails c.args.left c.args.words.now u e c.requires (level_end_fails group_level c.args.left b c.args.words.now u _ c.in_ok-second-in-Some.end.now e c.in_ok-below.ensures c.requires got c.in_err-rest-in-Some.ensures))
+    rw (p.1, p.2) (group_fails c.args.left c.args.at c.args.words.now u e c.requires (level_end_fails group_level c.args.left b c.args.at c.args.words.now u _ c.in_ok-second-in-Some.end.now e c.in_ok-below.ensures c.requires got c.in_err-rest-in-Some.ensures))
 
 pub group-returns-in_ok-rest-in-Some-clause-tree : goal.group-returns-in_ok-rest-in-Some-clause-tree
 group-returns-in_ok-rest-in-Some-clause-tree t c =
     let b = c.in_ok-below.below in
     let u = c.args.inside.now in
     let got = group_is b u ∙ optional_pair (symbol symbols.Comma) (expr_at b) (expr_at b) u _ c.in_ok-first.end.now (words.Symbol symbols.Comma) c.in-Some.next.now _ c.in_ok-second-in-Some.end.now c.in_ok-first.ensures c.in-Some.ensures refl c.in_ok-second-in-Some.ensures in
-    rw (sight-Pair c.in_ok-first.first c.in_ok-second-in-Some.second) (group_got c.args.left b c.args.words.now u _ c.in_ok-second-in-Some.end.now c.in_ok-rest-in-Some.rest.now c.in_ok-below.ensures c.requires got c.in_ok-rest-in-Some.ensures)
+    rw (sight-Pair c.args.at c.in_ok-first.first c.in_ok-second-in-Some.second) (group_got c.args.left b c.args.at c.args.words.now u _ c.in_ok-second-in-Some.end.now c.in_ok-rest-in-Some.rest.now c.in_ok-below.ensures c.requires got c.in_ok-rest-in-Some.ensures)
 
 -- ---- calls of methods
 
@@ -402,7 +402,7 @@ method_call-returns-in_err-list-clause-tree t c =
     let e = c.in_err-list.field-0.0 in
     let b = c.in_ok-below.below in
     let u = c.in_ok-below.inside.now in
-    rw (p.1, p.2) (method_call_fails c.args.left c.args.method c.args.words.now c.args.next.now e c.requires (level_inside_fails two_level c.args.left b c.args.next.now u e c.in_ok-below.ensures.1 c.in_ok-below.ensures.0 (two_first_fails b u e c.in_err-list.ensures)))
+    rw (p.1, p.2) (method_call_fails c.args.left c.args.method c.args.words.now c.args.next.now e c.requires (level_inside_fails two_level c.args.left b c.in_ok-below.open c.args.next.now u e c.in_ok-below.ensures.1 c.in_ok-below.ensures.0 (two_first_fails b u e c.in_err-list.ensures)))
 
 pub method_call-returns-in_err-second-clause-tree : goal.method_call-returns-in_err-second-clause-tree
 method_call-returns-in_err-second-clause-tree t c =
@@ -410,7 +410,7 @@ method_call-returns-in_err-second-clause-tree t c =
     let e = c.in_err-second.field-0.0 in
     let b = c.in_ok-below.below in
     let u = c.in_ok-below.inside.now in
-    rw (p.1, p.2) (method_call_fails c.args.left c.args.method c.args.words.now c.args.next.now e c.requires (level_inside_fails two_level c.args.left b c.args.next.now u e c.in_ok-below.ensures.1 c.in_ok-below.ensures.0 (two_comma_fails b u _ c.in_ok-list.end.now e c.in_ok-list.ensures c.in_err-second.ensures)))
+    rw (p.1, p.2) (method_call_fails c.args.left c.args.method c.args.words.now c.args.next.now e c.requires (level_inside_fails two_level c.args.left b c.in_ok-below.open c.args.next.now u e c.in_ok-below.ensures.1 c.in_ok-below.ensures.0 (two_comma_fails b u _ c.in_ok-list.end.now e c.in_ok-list.ensures c.in_err-second.ensures)))
 
 pub method_call-returns-in_err-argument-clause-tree : goal.method_call-returns-in_err-argument-clause-tree
 method_call-returns-in_err-argument-clause-tree t c =
@@ -418,7 +418,7 @@ method_call-returns-in_err-argument-clause-tree t c =
     let e = c.in_err-argument.field-0.0 in
     let b = c.in_ok-below.below in
     let u = c.in_ok-below.inside.now in
-    rw (p.1, p.2) (method_call_fails c.args.left c.args.method c.args.words.now c.args.next.now e c.requires (level_inside_fails two_level c.args.left b c.args.next.now u e c.in_ok-below.ensures.1 c.in_ok-below.ensures.0 (two_second_fails b u _ c.in_ok-list.end.now c.in_ok-second.second.now e c.in_ok-list.ensures c.in_ok-second.ensures c.in_err-argument.ensures)))
+    rw (p.1, p.2) (method_call_fails c.args.left c.args.method c.args.words.now c.args.next.now e c.requires (level_inside_fails two_level c.args.left b c.in_ok-below.open c.args.next.now u e c.in_ok-below.ensures.1 c.in_ok-below.ensures.0 (two_second_fails b u _ c.in_ok-list.end.now c.in_ok-second.second.now e c.in_ok-list.ensures c.in_ok-second.ensures c.in_err-argument.ensures)))
 
 pub method_call-returns-in_err-rest-clause-tree : goal.method_call-returns-in_err-rest-clause-tree
 method_call-returns-in_err-rest-clause-tree t c =
@@ -427,14 +427,14 @@ method_call-returns-in_err-rest-clause-tree t c =
     let b = c.in_ok-below.below in
     let u = c.in_ok-below.inside.now in
     let got = two_got b u _ c.in_ok-list.end.now c.in_ok-second.second.now _ c.in_ok-argument.end.now c.in_ok-list.ensures c.in_ok-second.ensures c.in_ok-argument.ensures in
-    rw (p.1, p.2) (method_call_fails c.args.left c.args.method c.args.words.now c.args.next.now e c.requires (level_end_fails two_level c.args.left b c.args.next.now u _ c.in_ok-argument.end.now e c.in_ok-below.ensures.1 c.in_ok-below.ensures.0 got c.in_err-rest.ensures))
+    rw (p.1, p.2) (method_call_fails c.args.left c.args.method c.args.words.now c.args.next.now e c.requires (level_end_fails two_level c.args.left b c.in_ok-below.open c.args.next.now u _ c.in_ok-argument.end.now e c.in_ok-below.ensures.1 c.in_ok-below.ensures.0 got c.in_err-rest.ensures))
 
 pub method_call-returns-clause-tree : goal.method_call-returns-clause-tree
 method_call-returns-clause-tree t c =
     let b = c.in_ok-below.below in
     let u = c.in_ok-below.inside.now in
     let got = two_got b u _ c.in_ok-list.end.now c.in_ok-second.second.now _ c.in_ok-argument.end.now c.in_ok-list.ensures c.in_ok-second.ensures c.in_ok-argument.ensures in
-    rw (sight-MethodCall c.args.method c.in_ok-list.list c.in_ok-argument.argument) (method_call_got c.args.left c.args.method c.args.words.now c.args.next.now _ _ c.in_ok-rest.rest.now c.requires (level_got two_level c.args.left b c.args.next.now u _ c.in_ok-argument.end.now c.in_ok-rest.rest.now c.in_ok-below.ensures.1 c.in_ok-below.ensures.0 got c.in_ok-rest.ensures))
+    rw (sight-MethodCall c.args.method c.in_ok-below.open c.in_ok-list.list c.in_ok-argument.argument) (method_call_got c.args.left c.in_ok-below.open c.args.method c.args.words.now c.args.next.now _ _ c.in_ok-rest.rest.now c.requires (level_got two_level c.args.left b c.in_ok-below.open c.args.next.now u _ c.in_ok-argument.end.now c.in_ok-rest.rest.now c.in_ok-below.ensures.1 c.in_ok-below.ensures.0 got c.in_ok-rest.ensures))
 
 -- ---- calls
 
@@ -444,11 +444,11 @@ call-returns-in-None-clause-tree t c = rw (sight-Name c.args.name) (named_none c
 pub call-returns-in_err-arguments-in-Some-clause-tree : goal.call-returns-in_err-arguments-in-Some-clause-tree
 call-returns-in_err-arguments-in-Some-clause-tree t c =
     let p = err_from_is_err_and c.from_residual.result c.from_residual.ensures.1 in
-    rw (p.1, p.2) (named_fails c.args.left c.args.name c.args.words.now _ c.in_err-arguments-in-Some.field-0.0 c.in-Some.ensures c.in_err-arguments-in-Some.ensures)
+    rw (p.1, p.2) (named_fails c.args.left _ c.args.name c.args.words.now _ c.in_err-arguments-in-Some.field-0.0 c.in-Some.ensures c.in_err-arguments-in-Some.ensures)
 
 pub call-returns-in_ok-arguments-in-Some-clause-tree : goal.call-returns-in_ok-arguments-in-Some-clause-tree
 call-returns-in_ok-arguments-in-Some-clause-tree t c =
-    rw (sight-Call c.args.name c.in_ok-arguments-in-Some.arguments) (named_got c.args.left c.args.name c.args.words.now _ _ c.in_ok-arguments-in-Some.rest.now c.in-Some.ensures c.in_ok-arguments-in-Some.ensures)
+    rw (sight-Call c.args.name c.in_ok-arguments-in-Some.open c.in_ok-arguments-in-Some.arguments) (named_got c.args.left _ c.args.name c.args.words.now _ _ c.in_ok-arguments-in-Some.rest.now c.in-Some.ensures c.in_ok-arguments-in-Some.ensures)
 
 -- ---- arguments
 
@@ -461,20 +461,20 @@ arguments-returns-in_err-below t c =
 pub arguments-returns-in-Some : goal.arguments-returns-in-Some
 arguments-returns-in-Some t c =
     let none : c.new-found.result.items ≡ [] = search rules in
-    rw none (arguments_empty c.args.left c.in_ok-below.below c.args.words.now c.in_ok-below.inside.now c.in-Some.rest.now c.in_ok-below.ensures.1 c.in_ok-below.ensures.0 c.in-Some.ensures)
+    rw none (arguments_empty c.args.left c.in_ok-below.below c.in_ok-below.open c.args.words.now c.in_ok-below.inside.now c.in-Some.rest.now c.in_ok-below.ensures.1 c.in_ok-below.ensures.0 c.in-Some.ensures)
 
 pub arguments-returns-in_err-first : goal.arguments-returns-in_err-first
 arguments-returns-in_err-first t c =
     let p = err_from_is_err_and c.from_residual-in_err-first.result c.from_residual-in_err-first.ensures.1 in
-    rw (p.1, p.2) (arguments_fail c.args.left c.in_ok-below.below c.args.words.now c.in_ok-below.inside.now c.in_err-first.field-0.0 c.in_ok-below.ensures.1 c.in_ok-below.ensures.0 c.in_default.ensures c.in_err-first.ensures)
+    rw (p.1, p.2) (arguments_fail c.args.left c.in_ok-below.below c.in_ok-below.open c.args.words.now c.in_ok-below.inside.now c.in_err-first.field-0.0 c.in_ok-below.ensures.1 c.in_ok-below.ensures.0 c.in_default.ensures c.in_err-first.ensures)
 
 pub arguments-loop-next-init : goal.arguments-loop-next-init
 arguments-loop-next-init t c =
     let pushed : c.push.new.self.items ≡ c.in_ok-first.first ∷ [] = search rules in
     record {
       some = rw pushed (omega arith);
-      reading = λ u is.
-          let same : u ≡ c.in_ok-below.inside.now = same_tail (words.Symbol symbols.OpenParenthesis) u c.in_ok-below.inside.now c.args.words.now is c.in_ok-below.ensures.0 in
+      reading = λ at u is.
+          let same : u ≡ c.in_ok-below.inside.now = same_tail (words.Placed at symbols.OpenParenthesis) (words.Placed c.in_ok-below.open symbols.OpenParenthesis) u c.in_ok-below.inside.now c.args.words.now is c.in_ok-below.ensures.0 in
           rw (same, pushed) (arguments_some c.in_ok-below.below c.in_ok-below.inside.now _ c.in_ok-first.rest.now c.in_ok-first.ensures);
     }
 
@@ -484,7 +484,7 @@ arguments-returns-in_err-argument t c =
     let b = c.in_ok-below.below in
     let e = c.in_err-argument.field-0.0 in
     let failed = links_fail (symbol symbols.Comma) (expr_at b) (comma_turns b) (listed_tree (expr_trees c.loop-next.found.items)) c.loop-next.rest.now (words.Symbol symbols.Comma) c.in-Some-after.next.now e c.in-Some-after.ensures refl c.in_err-argument.ensures in
-    rw (p.1, p.2) (level_inside_fails arguments_level c.args.left b c.args.words.now c.in_ok-below.inside.now e c.in_ok-below.ensures.1 c.in_ok-below.ensures.0 (fails_along e _ _ (c.loop-next.invariant.reading c.in_ok-below.inside.now c.in_ok-below.ensures.0) (fails_then e _ (λ a rest. Got (First a) rest) failed)))
+    rw (p.1, p.2) (level_inside_fails arguments_level c.args.left b c.in_ok-below.open c.args.words.now c.in_ok-below.inside.now e c.in_ok-below.ensures.1 c.in_ok-below.ensures.0 (fails_along e _ _ (c.loop-next.invariant.reading c.in_ok-below.open c.in_ok-below.inside.now c.in_ok-below.ensures.0) (fails_then e _ (λ a rest. Got (First a) rest) failed)))
 
 pub arguments-loop-next-smaller : goal.arguments-loop-next-smaller
 arguments-loop-next-smaller t c = omega (arith, expr_shorter c.in_ok-below.below c.in-Some-after.next.now _ c.in_ok-argument.end.now c.in_ok-argument.ensures, ap (λ (ws : List Word). length ws) c.in-Some-after.ensures)
@@ -500,7 +500,7 @@ arguments-loop-next-preserved t c =
     let listed = turn ∙ ap (λ (x : Tree). links (symbol symbols.Comma) (expr_at b) x end) (sym (one_more_expr es e c.loop-next.invariant.some)) in
     record {
       some = rw pushed (omega (arith, length-append es (e ∷ [])));
-      reading = λ u is. rw pushed (c.loop-next.invariant.reading u is ∙ ap (λ (x : Read). and_then x (λ a rest. Got (First a) rest)) listed);
+      reading = λ at u is. rw pushed (c.loop-next.invariant.reading at u is ∙ ap (λ (x : Read). and_then x (λ a rest. Got (First a) rest)) listed);
     }
 
 pub arguments-returns-in_err-rest : goal.arguments-returns-in_err-rest
@@ -508,16 +508,16 @@ arguments-returns-in_err-rest t c =
     let p = err_from_is_err_and c.from_residual-in_err-rest.result c.from_residual-in_err-rest.ensures.1 in
     let b = c.in_ok-below.below in
     let ended = links_end (symbol symbols.Comma) (expr_at b) (comma_turns b) (listed_tree (expr_trees c.loop-next.found.items)) c.loop-next.rest.now c.in_default-after.ensures in
-    let got = c.loop-next.invariant.reading c.in_ok-below.inside.now c.in_ok-below.ensures.0 ∙ ap (λ (x : Read). and_then x (λ a rest. Got (First a) rest)) ended in
-    rw (p.1, p.2) (level_end_fails arguments_level c.args.left b c.args.words.now c.in_ok-below.inside.now (First (listed_tree (expr_trees c.loop-next.found.items))) c.loop-next.rest.now c.in_err-rest.field-0.0 c.in_ok-below.ensures.1 c.in_ok-below.ensures.0 got c.in_err-rest.ensures)
+    let got = c.loop-next.invariant.reading c.in_ok-below.open c.in_ok-below.inside.now c.in_ok-below.ensures.0 ∙ ap (λ (x : Read). and_then x (λ a rest. Got (First a) rest)) ended in
+    rw (p.1, p.2) (level_end_fails arguments_level c.args.left b c.in_ok-below.open c.args.words.now c.in_ok-below.inside.now (First (listed_tree (expr_trees c.loop-next.found.items))) c.loop-next.rest.now c.in_err-rest.field-0.0 c.in_ok-below.ensures.1 c.in_ok-below.ensures.0 got c.in_err-rest.ensures)
 
 pub arguments-returns : goal.arguments-returns
 arguments-returns t c =
     let b = c.in_ok-below.below in
     let es = c.loop-next.found.items in
     let ended = links_end (symbol symbols.Comma) (expr_at b) (comma_turns b) (listed_tree (expr_trees es)) c.loop-next.rest.now c.in_default-after.ensures in
-    let got = c.loop-next.invariant.reading c.in_ok-below.inside.now c.in_ok-below.ensures.0 ∙ ap (λ (x : Read). and_then x (λ a rest. Got (First a) rest)) ended in
-    rw (arguments_listed es c.loop-next.invariant.some) (level_got arguments_level c.args.left b c.args.words.now c.in_ok-below.inside.now (First (listed_tree (expr_trees es))) c.loop-next.rest.now c.in_ok-rest.rest.now c.in_ok-below.ensures.1 c.in_ok-below.ensures.0 got c.in_ok-rest.ensures)
+    let got = c.loop-next.invariant.reading c.in_ok-below.open c.in_ok-below.inside.now c.in_ok-below.ensures.0 ∙ ap (λ (x : Read). and_then x (λ a rest. Got (First a) rest)) ended in
+    rw (arguments_listed es c.loop-next.invariant.some) (level_got arguments_level c.args.left b c.in_ok-below.open c.args.words.now c.in_ok-below.inside.now (First (listed_tree (expr_trees es))) c.loop-next.rest.now c.in_ok-rest.rest.now c.in_ok-below.ensures.1 c.in_ok-below.ensures.0 got c.in_ok-rest.ensures)
 
 -- ---- primary expressions
 
@@ -528,4 +528,4 @@ pub primary-returns-in-Some-next_name-clause-tree : goal.primary-returns-in-Some
 primary-returns-in-Some-next_name-clause-tree t c = gives_along (λ e. (sight e).prim) c.call.result (prim_at c.args.left c.args.words.now) (named_at c.args.left c.in-Some-next_name.name c.in-Some-next_name.rest.now) (prim_named c.args.left c.args.words.now c.in-Some-next_name.name c.in-Some-next_name.rest.now c.in-Some-next_name.ensures) c.call.ensures.tree
 
 pub primary-returns-in-None-clause-tree : goal.primary-returns-in-None-clause-tree
-primary-returns-in-None-clause-tree t c = prim_bad c.args.left c.args.words.now c.in_default.ensures c.in_default-next_name.ensures c.in_default-after.ensures c.in_default-after_placed.ensures c.in_default-after_placed-2.ensures c.in_default-after_placed-3.ensures c.in-None.ensures
+primary-returns-in-None-clause-tree t c = prim_bad c.args.left c.args.words.now c.in_default.ensures c.in_default-next_name.ensures c.in_default-after_placed.ensures c.in_default-after_placed-2.ensures c.in_default-after_placed-3.ensures c.in_default-after_placed-4.ensures c.in-None.ensures

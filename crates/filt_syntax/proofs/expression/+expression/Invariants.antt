@@ -1,4 +1,4 @@
-use Rattle.std.proofs.Common.{◌≡◌, true, ◌≤◌, ◌+◌, ◌*◌, List, ◌∷◌, length, map}
+use Rattle.std.proofs.Common.{◌≡◌, ℕ, true, ◌≤◌, ◌+◌, ◌*◌, List, ◌∷◌, length, map}
 use Rattle.conf_lex.specs.declared.word.Word.{Word}
 use Rattle.conf_lex.specs.declared.word.Word.TheVariants as words
 use Rattle.conf_lex.specs.declared.symbol.Symbol.TheVariants as symbols
@@ -93,7 +93,7 @@ decreases-accessed-loop-next l = length l.rest
 abbrev pub invariant-arguments-loop-next : goal.invariant-arguments-loop-next
 invariant-arguments-loop-next l = record {
   some : 1 ≤ length l.found.items;
-  reading : (inside : List Word) → l.words ≡ words.Symbol symbols.OpenParenthesis ∷ inside → inside_at arguments_level l.below inside ≡ and_then (links (symbol symbols.Comma) (expr_at l.below) (listed_tree (expr_trees l.found.items)) l.rest) (λ t rest. Got (First t) rest);
+  reading : (at : ℕ) (inside : List Word) → l.words ≡ words.Placed at symbols.OpenParenthesis ∷ inside → inside_at arguments_level l.below inside ≡ and_then (links (symbol symbols.Comma) (expr_at l.below) (listed_tree (expr_trees l.found.items)) l.rest) (λ t rest. Got (First t) rest);
 }
 
 abbrev pub decreases-arguments-loop-next : goal.decreases-arguments-loop-next

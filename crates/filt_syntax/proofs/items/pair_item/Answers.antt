@@ -19,18 +19,18 @@ use Rattle.filt_syntax.proofs.items.pair_item.Goals as goal
 pub returns-in_err-_below : goal.returns-in_err-_below
 returns-in_err-_below c =
     let p = err_from_is_err_and c.from_residual.result c.from_residual.ensures.1 in
-    rw (p.1, p.2, pair_deep c.args.left c.args.words.now c.args.inside.now c.in_err-_below.ensures.0 c.requires) (c.in_err-_below.ensures.1)
+    rw (p.1, p.2, pair_deep c.args.left c.args.at c.args.words.now c.args.inside.now c.in_err-_below.ensures.0 c.requires) (c.in_err-_below.ensures.1)
 
 pub returns-in_err-first : goal.returns-in_err-first
 returns-in_err-first c =
     let p = err_from_is_err_and c.from_residual-in_err-first.result c.from_residual-in_err-first.ensures.1 in
-    rw (p.1, p.2, pair_item_is c.args.left c.in_ok-_below._below c.args.words.now c.args.inside.now c.in_ok-_below.ensures c.requires) (fails_then _ _ _ (closed_inside_fails (words.Symbol sym.OpenParenthesis) sym.CloseParenthesis (pair_at 0) c.args.inside.now _ c.in_err-first.ensures))
+    rw (p.1, p.2, pair_item_is c.args.left c.in_ok-_below._below c.args.at c.args.words.now c.args.inside.now c.in_ok-_below.ensures c.requires) (fails_then _ _ _ (closed_inside_fails (words.Placed c.args.at sym.OpenParenthesis) sym.CloseParenthesis (pair_at 0) c.args.inside.now _ c.in_err-first.ensures))
 
 pub returns-in_err-rest : goal.returns-in_err-rest
 returns-in_err-rest c =
     let p = err_from_is_err_and c.from_residual-in_err-rest.result c.from_residual-in_err-rest.ensures.1 in
-    rw (p.1, p.2, pair_item_is c.args.left c.in_ok-_below._below c.args.words.now c.args.inside.now c.in_ok-_below.ensures c.requires) (fails_then _ _ _ (closed_end_fails (words.Symbol sym.OpenParenthesis) sym.CloseParenthesis (pair_at 0) c.args.inside.now _ c.in_ok-first.rest.now _ c.in_ok-first.ensures c.in_err-rest.ensures))
+    rw (p.1, p.2, pair_item_is c.args.left c.in_ok-_below._below c.args.at c.args.words.now c.args.inside.now c.in_ok-_below.ensures c.requires) (fails_then _ _ _ (closed_end_fails (words.Placed c.args.at sym.OpenParenthesis) sym.CloseParenthesis (pair_at 0) c.args.inside.now _ c.in_ok-first.rest.now _ c.in_ok-first.ensures c.in_err-rest.ensures))
 
 pub returns : goal.returns
 returns c =
-    pair_item_is c.args.left c.in_ok-_below._below c.args.words.now c.args.inside.now c.in_ok-_below.ensures c.requires ∙ rw (closed_got (words.Symbol sym.OpenParenthesis) sym.CloseParenthesis refl (pair_at 0) c.args.inside.now _ c.in_ok-first.rest.now c.in_ok-rest.rest.now c.in_ok-first.ensures c.in_ok-rest.ensures) refl
+    pair_item_is c.args.left c.in_ok-_below._below c.args.at c.args.words.now c.args.inside.now c.in_ok-_below.ensures c.requires ∙ rw (closed_got (words.Placed c.args.at sym.OpenParenthesis) sym.CloseParenthesis refl (pair_at 0) c.args.inside.now _ c.in_ok-first.rest.now c.in_ok-rest.rest.now c.in_ok-first.ensures c.in_ok-rest.ensures) refl

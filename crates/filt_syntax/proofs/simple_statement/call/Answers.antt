@@ -33,4 +33,4 @@ returns-in_err-rest c =
 
 pub returns : goal.returns
 returns c =
-    c.made.ensures (of_name_at c.args.left c.args.name c.args.words.now) (rw (tree-Call c.args.name c.in_ok-arguments.arguments) (name_called c.args.left c.args.name c.args.words.now c.requires.equal c.requires.dot ∙ rw (c.in_ok-arguments.ensures, c.in_ok-rest.ensures) refl))
+    c.made.ensures (of_name_at c.args.left c.args.name c.args.words.now) (rw (tree-Call c.args.name c.in_ok-arguments.open c.in_ok-arguments.arguments) (name_called c.args.left c.args.name c.args.words.now c.requires.equal c.requires.dot ∙ rw (c.in_ok-arguments.ensures, c.in_ok-rest.ensures) refl))

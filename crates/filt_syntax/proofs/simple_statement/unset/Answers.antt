@@ -33,4 +33,4 @@ returns-in_err-rest c =
 
 pub returns : goal.returns
 returns c =
-    c.made.ensures (stmt_at c.args.left c.args.words.now) (rw (tree-Unset c.in_ok-attribute_at.attribute_at c.in_ok-attribute_at.attribute) (unset_is c.args.left c.args.words.now c.args.next.now c.requires ∙ rw (c.in_ok-attribute_at.ensures, c.in_ok-rest.ensures) refl))
+    c.made.ensures (stmt_at c.args.left c.args.words.now) (rw (tree-Unset c.in_ok-attribute_at.open c.in_ok-attribute_at.attribute_at c.in_ok-attribute_at.attribute) (unset_is c.args.left c.args.words.now c.args.next.now c.requires ∙ rw (c.in_ok-attribute_at.ensures, c.in_ok-rest.ensures) refl))
