@@ -10,3 +10,6 @@ pub mod StatementTrees
 pub mod CycleSteps
 pub mod ArmSteps
 pub mod Decided
+pub mod SortsOfWords
+pub mod ItemsTold
+pub mod ExprTold

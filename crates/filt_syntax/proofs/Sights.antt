@@ -26,7 +26,7 @@ use Rattle.filt_syntax.specs.declared.tree.Joint.{Joint}
 use Rattle.filt_syntax.specs.declared.tree.Expr.{Expr, the_lemmas, fold-Expr}
 use Rattle.filt_syntax.specs.declared.tree.Expr.TheVariants as exprs
 use Rattle.filt_syntax.specs.declared.tree.Expr.TheFolds.{fold_out-Expr}
-use Rattle.filt_syntax.specs.declared.tree.Expr.TheShapes.{former-Expr-Access-1-at-3}
+use Rattle.filt_syntax.specs.declared.tree.Expr.TheShapes.{former-Expr-Access-1-at-4}
 use Rattle.filt_syntax.specs.declared.tree.Expr.TheOpen.{Expr-F}
 use Rattle.filt_syntax.specs.ItemView.{items_tree, mask_items_tree}
 use Rattle.filt_syntax.specs.View.{Sight, sight, sight_step, as_prim, as_post, as_unary, as_prod, as_sum, as_cmp, as_expr, alone, attribute_word, simple_word, simple_tree, named_tree, group_tree, set_tree, mask_tree, defined_tree, method_call_tree, in_parentheses, arguments_tree, listed_after, listed_tree, with_next, second_part, parts_after, chain_of, access_part, access_of, factor_part, factor_of, term_part, term_of, joint_part, joint_of, compare_symbol, expr_tree, expr_trees}
@@ -47,11 +47,11 @@ pub joints-map : (xs : List (Joint × Expr)) → map joint_part (map (λ (x : Jo
 joints-map [] = refl
 joints-map (x ∷ xs) = ap (λ (ts : List (Word × Tree)). joint_of x ∷ ts) (joints-map xs)
 
-access_one : (a : Access Expr) → access_part ((former-Expr-Access-1-at-3).map Expr Sight (fold-Expr Sight sight_step) a) ≡ access_of a
+access_one : (a : Access Expr) → access_part ((former-Expr-Access-1-at-4).map Expr Sight (fold-Expr Sight sight_step) a) ≡ access_of a
 access_one (accesses.Property p) = refl
 access_one (accesses.Method m place e) = refl
 
-pub accesses-map : (xs : List (Access Expr)) → map access_part (map ((former-Expr-Access-1-at-3).map Expr Sight (fold-Expr Sight sight_step)) xs) ≡ map access_of xs
+pub accesses-map : (xs : List (Access Expr)) → map access_part (map ((former-Expr-Access-1-at-4).map Expr Sight (fold-Expr Sight sight_step)) xs) ≡ map access_of xs
 accesses-map [] = refl
 accesses-map (x ∷ xs) = rw (access_one x, accesses-map xs) refl
 
