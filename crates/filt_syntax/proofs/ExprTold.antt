@@ -10,7 +10,7 @@ use Rattle.grammar.specs.declared.named.Name.{Name}
 use Rattle.grammar.specs.Kind.{Kind, kind_of, symbol, name, is_attribute}
 use Rattle.grammar.specs.Grammar.{Form, One, Empty, Seq, Either, Chain, Nest, Tree, Leaf, Blank, Both, First, Second, Start, More, Inside, yield, Fits}
 use Rattle.grammar.specs.Shapes.{symbol_leaf, name_leaf, between}
-use Rattle.grammar.proofs.Parts.{Small, more_room, chain_small, part_small, start_small, some_size, placed_word, one_is, seq_is, either_is, nest_is, symbol_is, placed_is, name_is, optional_is}
+use Rattle.grammar.proofs.Parts.{size, Small, more_room, chain_small, part_small, start_small, some_size, placed_word, one_is, seq_is, either_is, nest_is, symbol_is, placed_is, name_is, optional_is}
 use Rattle.grammar.proofs.Rows.{Seen, Some as Some_row, both_of, more_of, inside_of, listed_told}
 use Rattle.filt_syntax.specs.declared.tree.Access.{Access}
 use Rattle.filt_syntax.specs.declared.tree.Access.TheVariants as accesses
@@ -399,3 +399,6 @@ none_small t s = absurd (omega (arith, s.parts, some_size t))
 pub levels : (n : ℕ) → Levels n
 levels zero = record { to_prim = λ t s h. none_small t s; to_post = λ t s h. none_small t s; to_unary = λ t s h. none_small t s; to_prod = λ t s h. none_small t s; to_sum = λ t s h. none_small t s; to_cmp = λ t s h. none_small t s; to_expr = λ t s h. none_small t s }
 levels (suc n) = levels_next n (levels n)
+
+pub expression_of : (t : Tree) → Fits rule t expr → length (yield t) < 2 ^ 63 → IsExpr t
+expression_of t h short = (levels (size t)).to_expr t (record { parts = omega arith; short = short }) h

@@ -99,7 +99,7 @@ either_symbol t a b plain other h =
       | inr x ↦ inr (w.is ∙ ap (λ (u : Word). Leaf u) (is_symbol_word w.word b other x))
     ]
 
-high_told : (n : ℕ) (t : Tree) → Small (suc n) t → Fits rule t (optional (Seq (One (symbol symbols.Range)) (One is_num))) → Seen high_tree t
+pub high_told : (n : ℕ) (t : Tree) → Small (suc n) t → Fits rule t (optional (Seq (One (symbol symbols.Range)) (One is_num))) → Seen high_tree t
 high_told n t s h = elim (optional_is rule n t (Seq (One (symbol symbols.Range)) (One is_num)) s h) [
   | inl a ↦
       let p = seq_is rule n a.part (One (symbol symbols.Range)) (One is_num) (more_room n a.part a.small) a.fits in

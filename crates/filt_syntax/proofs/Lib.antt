@@ -13,3 +13,5 @@ pub mod Decided
 pub mod SortsOfWords
 pub mod ItemsTold
 pub mod ExprTold
+pub mod ArmsTold
+pub mod StatementsTold
