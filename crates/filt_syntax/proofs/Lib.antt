@@ -12,3 +12,8 @@ pub mod StatementTrees
 pub mod CycleSteps
 pub mod ArmSteps
 pub mod Decided
+pub mod SortsOfWords
+pub mod ItemsTold
+pub mod ExprTold
+pub mod ArmsTold
+pub mod StatementsTold

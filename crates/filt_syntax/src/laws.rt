@@ -1,7 +1,13 @@
 //! What the definitions of the grammar and of its trees come to.
-ghost use Rattle.std.specs.Prelude.{◌≡◌};
+ghost use Rattle.std.specs.Prelude.{◌≡◌, ◌<◌, ◌^◌, length};
 ghost use Rattle.grammar.specs.Grammar.{Tree, yield, Fits, Spells};
-ghost use Rattle.filt_syntax.specs.Syntax.{block, rule, stmt};
+ghost use Rattle.filt_syntax.specs.declared.tree.Block.{Block};
+ghost use Rattle.filt_syntax.specs.declared.tree.Expr.{Expr};
+ghost use Rattle.filt_syntax.specs.Syntax.{block, expr, rule, stmt};
+ghost use Rattle.filt_syntax.specs.StatementView.{block_view};
+ghost use Rattle.filt_syntax.specs.View.{sight};
+
+use crate::tree::{Block, Expr};
 
 /// Each statement of the grammar alone is one: its words have a tree in which an `else` goes to the
 /// nearest `if`.
@@ -14,4 +20,17 @@ pub fn statements_decide()
 pub fn blocks_decide()
     ensures { (t : Tree) → Spells rule t block
         → (u : Tree) × Fits rule u block × (yield u ≡ yield t) }
+{}
+
+/// Each tree of an expression is the view of one. A list in memory has less than 2 ^ 63 items, so
+/// an expression of more words has none.
+pub fn each_tree_is_of_an_expression()
+    ensures { (t : Tree) → Fits rule t expr → length (yield t) < 2 ^ 63
+        → (e : Expr) × ((sight e).expr ≡ t) }
+{}
+
+/// Each tree of a block is the view of one.
+pub fn each_tree_is_of_a_block()
+    ensures { (t : Tree) → Fits rule t block → length (yield t) < 2 ^ 63
+        → (b : Block) × (block_view b ≡ t) }
 {}

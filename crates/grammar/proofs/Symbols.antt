@@ -26,7 +26,7 @@ nat_eq-refl n = grind (arith, nat_tests)
 pub nat_eq-is : (m n : ℕ) → nat_eq m n ≡ true → m ≡ n
 nat_eq-is m n e = grind (arith, nat_tests)
 
-same_symbol : (s r : Symbol) → symbol s (IsSymbol r) ≡ true → s ≡ r
+pub same_symbol : (s r : Symbol) → symbol s (IsSymbol r) ≡ true → s ≡ r
 same_symbol s r e = same_code s r (nat_eq-is (code s) (code r) e)
 
 same_bools : (a b : Bool) → (a ≡ true → b ≡ true) → (b ≡ true → a ≡ true) → a ≡ b
@@ -56,7 +56,7 @@ placed_or_not s wanted true here plain = rw here (same_bools _ _ (λ e. absurd (
 pub symbol_test : (w : Word) (s wanted : Symbol) → w ≡ words.Symbol s → keeps_place wanted ≡ false → sameb symbol_type.the_type s wanted ≡ symbol wanted (kind_of w)
 symbol_test w s wanted is plain = rw is (equal_is s wanted ∙ placed_or_not s wanted (keeps_place s) refl plain)
 
-not_placed : (at : ℕ) (s wanted : Symbol) (b : Bool) → keeps_place s ≡ b → keeps_place wanted ≡ true → symbol wanted (IsSymbol s) ≡ symbol wanted (kind_of (words.Placed at s))
+pub not_placed : (at : ℕ) (s wanted : Symbol) (b : Bool) → keeps_place s ≡ b → keeps_place wanted ≡ true → symbol wanted (IsSymbol s) ≡ symbol wanted (kind_of (words.Placed at s))
 not_placed at s wanted true here placed = rw here refl
 not_placed at s wanted false here placed = rw here (same_bools _ _ (λ e. absurd (let same = same_symbol wanted s e in let other : keeps_place s ≡ true = rw (← same) placed in cc)) (λ e. absurd cc))
 
