@@ -180,7 +180,7 @@ levels_take_none (suc (suc (suc (suc (suc (suc (suc (suc (suc (suc (suc zero))))
 levels_take_none (suc (suc (suc (suc (suc (suc (suc (suc (suc (suc (suc (suc n)))))))))))) = refl
 
 -- none of the words is a bad prefix
-HasNone : List Word → Type 0
+abbrev HasNone : List Word → Type 0
 HasNone [] = Unit {0}
 HasNone (w ∷ ws) = (kind_of w ≡ IsNoPrefix → ⊥) × HasNone ws
 

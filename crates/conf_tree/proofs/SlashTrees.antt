@@ -55,7 +55,7 @@ levels_tidy (suc (suc (suc (suc (suc (suc (suc (suc (suc (suc (suc zero)))))))))
 levels_tidy (suc (suc (suc (suc (suc (suc (suc (suc (suc (suc (suc (suc n)))))))))))) = refl
 
 -- what comes behind the address: a slash, or nothing where the form doesn't end in a short one
-Behind : Form → List Word → Type 0
+abbrev Behind : Form → List Word → Type 0
 Behind f rest = (begins (symbol symbols.Slash) rest ≡ true) ⊎ ((rest ≡ []) × (ends_short f ≡ false))
 
 -- the tree with a prefix in place of the address
@@ -149,6 +149,81 @@ none_long : (front : List Word) (w : Word) (rest : List Word) → [] ≡ front +
 none_long [] w rest e = cc
 none_long (v ∷ front) w rest e = cc
 
+-- the tests of two parts
+record Parts (f g : Form) (short some : Bool) : Type 0 where
+  ok_first : check model after f ≡ true
+  ok_second : check model after g ≡ true
+  first : tidy f ≡ true
+  second : tidy g ≡ true
+  slashed : not (short && starts g slash) ≡ true
+  apart : not (some && starts g IsPrefix) ≡ true
+
+seq_parts : (f g : Form) → check model after (Seq f g) ≡ true → tidy (Seq f g) ≡ true → Parts f g (ends_short f) (more after f IsPrefix)
+seq_parts f g ok one =
+    let c : (check model after f ≡ true) × (check model after g ≡ true) = and_true _ _ (and_true _ _ ok).0 in
+    let parts : (tidy f ≡ true) × (tidy g ≡ true) = and_true _ _ (and_true _ _ one).0 in
+    let rules : (not (ends_short f && starts g slash) ≡ true) × (not (more after f IsPrefix && starts g IsPrefix) ≡ true) = and_true _ _ (and_true _ _ one).1 in
+    record { ok_first = c.0; ok_second = c.1; first = parts.0; second = parts.1; slashed = rules.0; apart = rules.1 }
+
+chain_parts : (f g : Form) → check model after (Chain f g) ≡ true → tidy (Chain f g) ≡ true → Parts f g (ends_short f || ends_short g) (more after f IsPrefix || more after g IsPrefix)
+chain_parts f g ok one =
+    let c : (check model after f ≡ true) × (check model after g ≡ true) = and_true _ _ (and_true _ _ ok).0 in
+    let parts : (tidy f ≡ true) × (tidy g ≡ true) = and_true _ _ (and_true _ _ one).0 in
+    let rules : (not ((ends_short f || ends_short g) && starts g slash) ≡ true) × (not ((more after f IsPrefix || more after g IsPrefix) && starts g IsPrefix) ≡ true) = and_true _ _ (and_true _ _ one).1 in
+    record { ok_first = c.0; ok_second = c.1; first = parts.0; second = parts.1; slashed = rules.0; apart = rules.1 }
+
+seq_behind : (a b : Tree) (f g : Form) (behind rest : List Word) → Parts f g (ends_short f) (more after f IsPrefix) → Fits rule b g → rest ≡ behind ++ yield b → Behind (Seq f g) rest → Behind f behind
+seq_behind a b f g behind rest c h tail is =
+    behind_first (ends_short f) g f (ends_short (Seq f g)) behind rest (yield b) refl (fits_front rule b g (solid_of rule model after g c.ok_second) h) c.slashed (λ full none. or_and_none (ends_short g) (nullable g) (ends_short f) none full) tail is
+
+chain_behind : (t b : Tree) (f g : Form) (behind rest : List Word) → Parts f g (ends_short f || ends_short g) (more after f IsPrefix || more after g IsPrefix) → Fits rule b g → rest ≡ behind ++ yield b → Behind (Chain f g) rest → Behind (Chain f g) behind
+chain_behind t b f g behind rest c h tail is =
+    behind_first (ends_short (Chain f g)) g (Chain f g) (ends_short (Chain f g)) behind rest (yield b) refl (fits_front rule b g (solid_of rule model after g c.ok_second) h) c.slashed (λ full none. none) tail is
+
+seq_right_behind : (f g : Form) (rest : List Word) → Behind (Seq f g) rest → Behind g rest
+seq_right_behind f g rest (inl slashed) = inl slashed
+seq_right_behind f g rest (inr none) = inr (none.0, (or_none (ends_short g) (nullable g && ends_short f) none.1).0)
+
+seq_left : (a b : Tree) (f g : Form) (front behind rest : List Word) → Fits rule (Both a b) (Seq f g) → rest ≡ behind ++ yield b → Swapped a f front behind → Swapped (Both a b) (Seq f g) front rest
+seq_left a b f g front behind rest h tail x = record {
+  tree = Both x.tree b;
+  fits = (x.fits, h.1, begins_on (goes_on rule x.tree f) (goes_on rule a f) x.on (yield b) h.2);
+  reads = ap (λ (l : List Word). l ++ yield b) x.reads ∙ append_assoc front (some_prefix ∷ behind) (yield b) ∙ ap (λ (l : List Word). front ++ some_prefix ∷ l) (sym tail);
+  on = λ k. both_same _ _ _ _ _ _ refl refl (x.on k);
+  inside = λ k. refl;
+}
+
+seq_right : (a b : Tree) (f g : Form) (front inner : List Word) (w : Word) (rest : List Word) → Parts f g (ends_short f) (more after f IsPrefix) → Fits rule (Both a b) (Seq f g) → front ≡ yield a ++ inner → yield b ≡ inner ++ w ∷ rest → Swapped b g inner rest → Swapped (Both a b) (Seq f g) front rest
+seq_right a b f g front inner w rest c h cut tail y =
+    let off = implied_false (goes_on rule a f IsPrefix) (more after f IsPrefix) (goes_more rule model after checked a f IsPrefix (solid_of rule model after f c.ok_first) h.0) in
+    record {
+      tree = Both a y.tree;
+      fits = (h.0, y.fits, after_swap (goes_on rule a f) inner w rest (yield b) (yield y.tree) (more after f IsPrefix) g tail y.reads h.2 off c.apart (fits_front rule y.tree g (solid_of rule model after g c.ok_second) y.fits));
+      reads = ap (λ (l : List Word). yield a ++ l) y.reads ∙ sym (append_assoc (yield a) inner (some_prefix ∷ rest)) ∙ ap (λ (l : List Word). l ++ some_prefix ∷ rest) (sym cut);
+      on = λ k. both_same _ _ _ _ _ _ (y.on k) (blank_in inner w some_prefix rest (yield b) (yield y.tree) tail y.reads) refl;
+      inside = λ k. refl;
+    }
+
+chain_left : (t b : Tree) (f g : Form) (front behind rest : List Word) → Fits rule (More t b) (Chain f g) → rest ≡ behind ++ yield b → Swapped t (Chain f g) front behind → Swapped (More t b) (Chain f g) front rest
+chain_left t b f g front behind rest h tail x = record {
+  tree = More x.tree b;
+  fits = (x.fits, h.1, begins_on (goes_in rule x.tree (Chain f g)) (goes_in rule t (Chain f g)) x.inside (yield b) h.2);
+  reads = ap (λ (l : List Word). l ++ yield b) x.reads ∙ append_assoc front (some_prefix ∷ behind) (yield b) ∙ ap (λ (l : List Word). front ++ some_prefix ∷ l) (sym tail);
+  on = λ k. refl;
+  inside = λ k. refl;
+}
+
+chain_right : (t b : Tree) (f g : Form) (front inner : List Word) (w : Word) (rest : List Word) → check model after (Chain f g) ≡ true → Parts f g (ends_short f || ends_short g) (more after f IsPrefix || more after g IsPrefix) → Fits rule (More t b) (Chain f g) → front ≡ yield t ++ inner → yield b ≡ inner ++ w ∷ rest → Swapped b g inner rest → Swapped (More t b) (Chain f g) front rest
+chain_right t b f g front inner w rest ok c h cut tail y =
+    let off = implied_false (goes_in rule t (Chain f g) IsPrefix) (more after f IsPrefix || more after g IsPrefix) (goes_inner rule model after checked t f g IsPrefix (solid_of rule model after (Chain f g) ok) h.0) in
+    record {
+      tree = More t y.tree;
+      fits = (h.0, y.fits, after_swap (goes_in rule t (Chain f g)) inner w rest (yield b) (yield y.tree) (more after f IsPrefix || more after g IsPrefix) g tail y.reads h.2 off c.apart (fits_front rule y.tree g (solid_of rule model after g c.ok_second) y.fits));
+      reads = ap (λ (l : List Word). yield t ++ l) y.reads ∙ sym (append_assoc (yield t) inner (some_prefix ∷ rest)) ∙ ap (λ (l : List Word). l ++ some_prefix ∷ rest) (sym cut);
+      on = λ k. or_same _ _ _ (y.on k);
+      inside = y.on;
+    }
+
 swap : (t : Tree) (f : Form) → check model after f ≡ true → tidy f ≡ true → Fits rule t f → (front : List Word) (w : Word) (rest : List Word) → kind_of w ≡ IsAddress → yield t ≡ front ++ w ∷ rest → Behind f rest → Swapped t f front rest
 swap (Leaf v) (One p) ok one h [] w rest is e (inl slashed) = let none : [] ≡ rest = cc in let never : begins (symbol symbols.Slash) [] ≡ true = ap (begins (symbol symbols.Slash)) none ∙ slashed in absurd cc
 swap (Leaf v) (One p) ok one h [] w rest is e (inr last) =
@@ -158,52 +233,18 @@ swap (Leaf v) (One p) ok one h [] w rest is e (inr last) =
     record { tree = Leaf some_prefix; fits = takes p last.1 here; reads = ap (λ (l : List Word). some_prefix ∷ l) none; on = λ k. refl; inside = λ k. refl }
 swap (Leaf v) (One p) ok one h (x ∷ front) w rest is e behind = let tail : [] ≡ front ++ w ∷ rest = cc in absurd (none_long front w rest tail)
 swap Blank Empty ok one h front w rest is e behind = absurd (none_long front w rest e)
-swap (Both a b) (Seq f g) ok one h front w rest is e behind = elim (fronts (yield a) (yield b) front (w ∷ rest) e) [
-  | inl x ↦ right [] (sym (append-nil (yield a) ∙ x.0)) x.1
-  | inr x ↦ elim x [
-    | inl l ↦
-        let same : w ≡ l.word = let q = l.rest in cc in
-        let tail : rest ≡ l.more ++ yield b = let q = l.rest in cc in
-        left l.more (l.front ∙ ap (λ (v : Word). front ++ v ∷ l.more) (sym same)) tail
-    | inr l ↦ right (l.word ∷ l.more) l.front l.rest
-  ]
-]
-  where
-    c : (check model after f ≡ true) × (check model after g ≡ true)
-    c = and_true _ _ (and_true _ _ ok).0
-
-    parts : (tidy f ≡ true) × (tidy g ≡ true)
-    parts = and_true _ _ (and_true _ _ one).0
-
-    rules : (not (ends_short f && starts g slash) ≡ true) × (not (more after f IsPrefix && starts g IsPrefix) ≡ true)
-    rules = and_true _ _ (and_true _ _ one).1
-
-    left : (more : List Word) → yield a ≡ front ++ w ∷ more → rest ≡ more ++ yield b → Swapped (Both a b) (Seq f g) front rest
-    left more cut tail =
-        let x = swap a f c.0 parts.0 h.0 front w more is cut (behind_first (ends_short f) g f (ends_short (Seq f g)) more rest (yield b) refl (fits_front rule b g (solid_of rule model after g c.1) h.1) rules.0 (λ full none. or_and_none (ends_short g) (nullable g) (ends_short f) none full) tail behind) in
-        record {
-          tree = Both x.tree b;
-          fits = (x.fits, h.1, begins_on (goes_on rule x.tree f) (goes_on rule a f) x.on (yield b) h.2);
-          reads = ap (λ (l : List Word). l ++ yield b) x.reads ∙ append_assoc front (some_prefix ∷ more) (yield b) ∙ ap (λ (l : List Word). front ++ some_prefix ∷ l) (sym tail);
-          on = λ k. both_same _ _ _ _ _ _ refl refl (x.on k);
-          inside = λ k. refl;
-        }
-
-    behind_right : Behind (Seq f g) rest → Behind g rest
-    behind_right (inl slashed) = inl slashed
-    behind_right (inr none) = inr (none.0, (or_none (ends_short g) (nullable g && ends_short f) none.1).0)
-
-    right : (inner : List Word) → front ≡ yield a ++ inner → yield b ≡ inner ++ w ∷ rest → Swapped (Both a b) (Seq f g) front rest
-    right inner cut tail =
-        let y = swap b g c.1 parts.1 h.1 inner w rest is tail (behind_right behind) in
-        let off = implied_false (goes_on rule a f IsPrefix) (more after f IsPrefix) (goes_more rule model after checked a f IsPrefix (solid_of rule model after f c.0) h.0) in
-        record {
-          tree = Both a y.tree;
-          fits = (h.0, y.fits, after_swap (goes_on rule a f) inner w rest (yield b) (yield y.tree) (more after f IsPrefix) g tail y.reads h.2 off rules.1 (fits_front rule y.tree g (solid_of rule model after g c.1) y.fits));
-          reads = ap (λ (l : List Word). yield a ++ l) y.reads ∙ sym (append_assoc (yield a) inner (some_prefix ∷ rest)) ∙ ap (λ (l : List Word). l ++ some_prefix ∷ rest) (sym cut);
-          on = λ k. both_same _ _ _ _ _ _ (y.on k) (blank_in inner w some_prefix rest (yield b) (yield y.tree) tail y.reads) refl;
-          inside = λ k. refl;
-        }
+swap (Both a b) (Seq f g) ok one h front w rest is e behind =
+    let c = seq_parts f g ok one in
+    elim (fronts (yield a) (yield b) front (w ∷ rest) e) [
+      | inl x ↦ seq_right a b f g front [] w rest c h (sym (append-nil (yield a) ∙ x.0)) x.1 (swap b g c.ok_second c.second h.1 [] w rest is x.1 (seq_right_behind f g rest behind))
+      | inr x ↦ elim x [
+        | inl l ↦
+            let same : w ≡ l.word = let q = l.rest in cc in
+            let tail : rest ≡ l.more ++ yield b = let q = l.rest in cc in
+            seq_left a b f g front l.more rest h tail (swap a f c.ok_first c.first h.0 front w l.more is (l.front ∙ ap (λ (v : Word). front ++ v ∷ l.more) (sym same)) (seq_behind a b f g l.more rest c h.1 tail behind))
+        | inr l ↦ seq_right a b f g front (l.word ∷ l.more) w rest c h l.front l.rest (swap b g c.ok_second c.second h.1 (l.word ∷ l.more) w rest is l.rest (seq_right_behind f g rest behind))
+      ]
+    ]
 swap (First a) (Either f g) ok one h front w rest is e behind =
     let c = (and_true (check model after f) (check model after g) (and_true _ _ ok).0) in
     let x = swap a f c.0 (and_true (tidy f) (tidy g) one).0 h front w rest is e (either_first f g rest behind) in
@@ -217,48 +258,18 @@ swap (Start a) (Chain f g) ok one h front w rest is e behind =
     let parts = (and_true (tidy f) (tidy g) (and_true _ _ one).0) in
     let x = swap a f c.0 parts.0 h front w rest is e (either_first f g rest behind) in
     record { tree = Start x.tree; fits = x.fits; reads = x.reads; on = λ k. or_same _ _ _ (x.on k); inside = x.on }
-swap (More t b) (Chain f g) ok one h front w rest is e behind = elim (fronts (yield t) (yield b) front (w ∷ rest) e) [
-  | inl x ↦ right [] (sym (append-nil (yield t) ∙ x.0)) x.1
-  | inr x ↦ elim x [
-    | inl l ↦
-        let same : w ≡ l.word = let q = l.rest in cc in
-        let tail : rest ≡ l.more ++ yield b = let q = l.rest in cc in
-        left l.more (l.front ∙ ap (λ (v : Word). front ++ v ∷ l.more) (sym same)) tail
-    | inr l ↦ right (l.word ∷ l.more) l.front l.rest
-  ]
-]
-  where
-    c : (check model after f ≡ true) × (check model after g ≡ true)
-    c = and_true _ _ (and_true _ _ ok).0
-
-    parts : (tidy f ≡ true) × (tidy g ≡ true)
-    parts = and_true _ _ (and_true _ _ one).0
-
-    rules : (not ((ends_short f || ends_short g) && starts g slash) ≡ true) × (not ((more after f IsPrefix || more after g IsPrefix) && starts g IsPrefix) ≡ true)
-    rules = and_true _ _ (and_true _ _ one).1
-
-    left : (more : List Word) → yield t ≡ front ++ w ∷ more → rest ≡ more ++ yield b → Swapped (More t b) (Chain f g) front rest
-    left more cut tail =
-        let x = swap t (Chain f g) ok one h.0 front w more is cut (behind_first (ends_short (Chain f g)) g (Chain f g) (ends_short (Chain f g)) more rest (yield b) refl (fits_front rule b g (solid_of rule model after g c.1) h.1) rules.0 (λ full none. none) tail behind) in
-        record {
-          tree = More x.tree b;
-          fits = (x.fits, h.1, begins_on (goes_in rule x.tree (Chain f g)) (goes_in rule t (Chain f g)) x.inside (yield b) h.2);
-          reads = ap (λ (l : List Word). l ++ yield b) x.reads ∙ append_assoc front (some_prefix ∷ more) (yield b) ∙ ap (λ (l : List Word). front ++ some_prefix ∷ l) (sym tail);
-          on = λ k. refl;
-          inside = λ k. refl;
-        }
-
-    right : (inner : List Word) → front ≡ yield t ++ inner → yield b ≡ inner ++ w ∷ rest → Swapped (More t b) (Chain f g) front rest
-    right inner cut tail =
-        let y = swap b g c.1 parts.1 h.1 inner w rest is tail (either_second f g rest behind) in
-        let off = implied_false (goes_in rule t (Chain f g) IsPrefix) (more after f IsPrefix || more after g IsPrefix) (goes_inner rule model after checked t f g IsPrefix (solid_of rule model after (Chain f g) ok) h.0) in
-        record {
-          tree = More t y.tree;
-          fits = (h.0, y.fits, after_swap (goes_in rule t (Chain f g)) inner w rest (yield b) (yield y.tree) (more after f IsPrefix || more after g IsPrefix) g tail y.reads h.2 off rules.1 (fits_front rule y.tree g (solid_of rule model after g c.1) y.fits));
-          reads = ap (λ (l : List Word). yield t ++ l) y.reads ∙ sym (append_assoc (yield t) inner (some_prefix ∷ rest)) ∙ ap (λ (l : List Word). l ++ some_prefix ∷ rest) (sym cut);
-          on = λ k. or_same _ _ _ (y.on k);
-          inside = y.on;
-        }
+swap (More t b) (Chain f g) ok one h front w rest is e behind =
+    let c = chain_parts f g ok one in
+    elim (fronts (yield t) (yield b) front (w ∷ rest) e) [
+      | inl x ↦ chain_right t b f g front [] w rest ok c h (sym (append-nil (yield t) ∙ x.0)) x.1 (swap b g c.ok_second c.second h.1 [] w rest is x.1 (either_second f g rest behind))
+      | inr x ↦ elim x [
+        | inl l ↦
+            let same : w ≡ l.word = let q = l.rest in cc in
+            let tail : rest ≡ l.more ++ yield b = let q = l.rest in cc in
+            chain_left t b f g front l.more rest h tail (swap t (Chain f g) ok one h.0 front w l.more is (l.front ∙ ap (λ (v : Word). front ++ v ∷ l.more) (sym same)) (chain_behind t b f g l.more rest c h.1 tail behind))
+        | inr l ↦ chain_right t b f g front (l.word ∷ l.more) w rest ok c h l.front l.rest (swap b g c.ok_second c.second h.1 (l.word ∷ l.more) w rest is l.rest (either_second f g rest behind))
+      ]
+    ]
 swap (Inside v t) (Nest p n) ok one h [] w rest is e behind =
     let same : v ≡ w = cc in
     let here : p IsAddress ≡ true = ap p (sym is ∙ ap kind_of (sym same)) ∙ h.0 in
