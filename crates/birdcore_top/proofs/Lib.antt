@@ -9,4 +9,5 @@ pub mod PlaySteps
 pub mod Machine
 pub mod Entries
 pub mod OptionOrder
+pub mod Counted
 pub mod Says

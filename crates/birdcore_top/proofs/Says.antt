@@ -1,7 +1,20 @@
--- Of the statements of a configuration something is built, or nothing is.
-use Rattle.std.proofs.Common.{◌≡◌, ◌∙◌, sym, ap, refl, subst, ℕ, Bool, true, false, List, [], ◌∷◌, Option, Some, None, inl, inr}
+-- Of the statements of a configuration something is built, or nothing is; so each text within the
+-- limit says something.
+use Rattle.std.proofs.Common.{◌≡◌, ◌∙◌, ◌≤◌, ◌<◌, ◌^◌, sym, ap, refl, subst, ℕ, Bool, true, false, List, [], ◌∷◌, length, Option, Some, None, arith, inl, inr}
 use Rattle.std.specs.Prelude.{◌⊎◌}
 use Rattle.std.proofs.lemmas.Bool.{false≢true}
+use Rattle.conf_lex.specs.Lex.{Lexes}
+use Rattle.conf_lex.specs.declared.token.Token.{Token}
+use Rattle.conf_lex.specs.declared.word.Word.{Word}
+use Rattle.grammar.specs.Grammar.{Tree, Fits, yield}
+use Rattle.filt_syntax.specs.Syntax.{rule}
+use Rattle.conf_tree.specs.Position.{IsPlace}
+use Rattle.conf_tree.specs.Read.{IsConfigText, IsRefusedText}
+use Rattle.conf_tree.specs.Said.{said_words}
+use Rattle.conf_tree.specs.Sentence.{IsSentence}
+use Rattle.conf_tree.specs.Syntax.{config}
+use Rattle.conf_tree.specs.View.{statements_tree}
+use Rattle.conf_tree.specs.declared.kind.ConfKind.{ConfKind}
 use Rattle.conf_tree.specs.declared.tree.BgpOption.{BgpOption}
 use Rattle.conf_tree.specs.declared.tree.Protocol.{Protocol}
 use Rattle.conf_tree.specs.declared.tree.Statement.{Statement}
@@ -9,7 +22,9 @@ use Rattle.conf_tree.specs.declared.tree.Statement.TheVariants as statements
 use Rattle.birdcore_top.specs.declared.config.BgpSays.{BgpSays}
 use Rattle.birdcore_top.specs.declared.config.Config.{Config}
 use Rattle.birdcore_top.specs.declared.config.Remote.{Remote}
+use Rattle.outside_io.specs.Whole.{limit}
 use Rattle.birdcore_top.specs.Config.{effective, bgp_says, SaysSession, protocol_name, Builds}
+use Rattle.birdcore_top.specs.Outcome.{SaysSomething}
 use Rattle.birdcore_top.proofs.Built.{built_is}
 use Rattle.birdcore_top.proofs.Views.{bgp_once}
 
@@ -89,3 +104,28 @@ by_effective text all (s ∷ []) is = elim (is_bgp s) [
 
 pub built_or_none : (text : List ℕ) (all : List Statement) → BuildsOne text all ⊎ BuildsNone text all
 built_or_none text all = by_effective text all (effective text all) refl
+
+-- ---- texts
+
+of_statements : (text : List ℕ) (all : List Statement) → IsConfigText text (statements_tree all) → SaysSomething text
+of_statements text all is = elim (built_or_none text all) [
+  | inl built ↦ inl (built.0, (all, is, built.1))
+  | inr none ↦ inr (inl (all, is, none))
+]
+
+module _ (few : (text : List ℕ) (tokens : List Token) → Lexes 0 text tokens → length (said_words text tokens) ≤ length text)
+    (each_tree : (t : Tree) → Fits rule t config → length (yield t) < 2 ^ 63 → (all : List Statement) × (statements_tree all ≡ t)) where
+  of_tree : (text : List ℕ) (t : Tree) → length text ≤ limit → IsConfigText text t → SaysSomething text
+  of_tree text t within is =
+      let sentence = is.2 in
+      let words : length (yield t) ≡ length (said_words text is.0) = ap (λ (ws : List Word). length ws) sentence.whole in
+      let all = each_tree t sentence.fits (omega (arith, words, few text is.0 is.1, within)) in
+      of_statements text all.0 (subst (λ (u : Tree). IsConfigText text u) (sym all.1) is)
+
+  pub says_something : ((text : List ℕ) → ((t : Tree) × IsConfigText text t) ⊎ ((at : ℕ) × (kind : ConfKind) × IsRefusedText text at kind))
+      → ((text : List ℕ) (at : ℕ) → (line : ℕ) × (column : ℕ) × IsPlace text at line column)
+      → (text : List ℕ) → length text ≤ limit → SaysSomething text
+  says_something each_text each_place text within = elim (each_text text) [
+    | inl is ↦ of_tree text is.0 within is.1
+    | inr refused ↦ let place = each_place text refused.0 in inr (inr (place.0, place.1, refused.1, (refused.0, refused.2, place.2)))
+  ]

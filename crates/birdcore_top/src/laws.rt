@@ -1,10 +1,11 @@
 //! What follows from the definitions and from the contract of `top`.
-ghost use Rattle.std.specs.Prelude.{◌≡◌, ◌≢◌, ◌⊎◌, ℕ, true, false, List, [], ◌∷◌, ◌++◌, Option, Some, IfSome, IsSomeAnd};
+ghost use Rattle.std.specs.Prelude.{◌≡◌, ◌≢◌, ◌⊎◌, ◌≤◌, ℕ, length, true, false, List, [], ◌∷◌, ◌++◌, Option, Some, IfSome, IsSomeAnd};
 ghost use Rattle.attrs.specs.History.{empty, IsReal};
 ghost use Rattle.conf_tree.specs.declared.tree.BgpOption.{BgpOption};
 ghost use Rattle.conf_tree.specs.declared.tree.ChannelOption.{ChannelOption};
 ghost use Rattle.conf_tree.specs.declared.tree.Statement.{Statement};
 ghost use Rattle.export_core.specs.declared.log.LogItem.TheVariants.{Up};
+ghost use Rattle.outside_io.specs.Whole.{limit};
 ghost use Rattle.report.specs.declared.phase.PhaseReport.{PhaseReport};
 ghost use Rattle.script_lang.specs.declared.script.Line.{Line};
 ghost use Rattle.birdcore_top.specs.declared.config.Config.{Config};
@@ -19,9 +20,11 @@ ghost use Rattle.birdcore_top.specs.Answer.{Answers};
 
 use crate::status::Status;
 use crate::top::top;
+use conf_lex::laws::{tokens_are_slices, tokens_rise};
 use conf_tree::laws::{
     a_text_has_one_refusal, a_text_is_one_configuration, configurations_are_not_refused,
-    places_have_one_line_and_column,
+    each_place_has_a_line_and_a_column, each_text_is_a_configuration_or_is_refused,
+    each_tree_is_of_a_configuration, places_have_one_line_and_column,
 };
 use outside_io::{OpenGate, Shelf, SureShelf, SureSink};
 use script_lang::laws::{
@@ -70,12 +73,25 @@ pub fn statements_are_built_or_not()
         ⊎ ((config : Config) → Builds text all config → ⊥) }
 {}
 
-/// Files that are told come to an outcome, where the configuration says something.
+/// Each text within the limit says something: something is built of it or nothing is, or it is
+/// refused.
+pub fn each_text_says_something()
+    ensures { (text : List ℕ) → length text ≤ limit → SaysSomething text }
+{
+    tokens_are_slices();
+    tokens_rise();
+    each_tree_is_of_a_configuration();
+    each_text_is_a_configuration_or_is_refused();
+    each_place_has_a_line_and_a_column();
+}
+
+/// Files that are told come to an outcome.
 pub fn told_files_have_an_outcome()
     ensures { (conf script : List ℕ) (held : Held) (file text : List ℕ)
-        → held conf ≡ Some file → held script ≡ Some text → SaysSomething file
+        → held conf ≡ Some file → held script ≡ Some text
         → (o : Outcome) × IsRequired (Some (Play conf script)) held o }
 {
+    each_text_says_something();
     each_text_is_a_script_or_has_a_bad_line();
 }
 
