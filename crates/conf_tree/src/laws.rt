@@ -1,6 +1,6 @@
 //! What logs and device blocks hold, that a text says one thing, and that a place has one line and one column.
-ghost use Rattle.std.specs.Prelude.{◌≡◌, ◌≢◌, ◌⊎◌, ℕ, true, false, not, ◌||◌};
-ghost use Rattle.std.specs.Prelude.{List, [], ◌∷◌, ◌++◌, map};
+ghost use Rattle.std.specs.Prelude.{◌≡◌, ◌≢◌, ◌⊎◌, ℕ, ◌<◌, ◌^◌, true, false, not, ◌||◌};
+ghost use Rattle.std.specs.Prelude.{List, [], ◌∷◌, ◌++◌, length, map};
 ghost use Rattle.std.specs.List.{list_all};
 ghost use Rattle.conf_lex.specs.declared.symbol.Symbol.{Symbol};
 ghost use Rattle.conf_lex.specs.declared.word.Word.{Word};
@@ -9,7 +9,9 @@ ghost use Rattle.conf_tree.specs.Said.{is, said, IsBalanced};
 ghost use Rattle.conf_tree.specs.Position.{IsPlace};
 ghost use Rattle.conf_tree.specs.Read.{IsConfigText, IsRefusedText};
 ghost use Rattle.conf_tree.specs.declared.kind.ConfKind.{ConfKind};
+ghost use Rattle.conf_tree.specs.declared.tree.Statement.{Statement};
 ghost use Rattle.conf_tree.specs.Syntax.{config};
+ghost use Rattle.conf_tree.specs.View.{statements_tree};
 ghost use Rattle.filt_syntax.specs.Syntax.{rule};
 ghost use Rattle.grammar.specs.Grammar.{Tree, yield, Fits, Spells};
 ghost use Rattle.grammar.specs.Kind.{kind_of, name};
@@ -158,4 +160,11 @@ pub fn configurations_are_not_refused()
 pub fn sentences_decide()
     ensures { (t : Tree) → Spells rule t config
         → (u : Tree) × Fits rule u config × (yield u ≡ yield t) }
+{}
+
+/// Each tree of a configuration is the view of statements. A list in memory has less than 2 ^ 63
+/// items, so a configuration of more words has none.
+pub fn each_tree_is_of_a_configuration()
+    ensures { (t : Tree) → Fits rule t config → length (yield t) < 2 ^ 63
+        → (statements : List Statement) × (statements_tree statements ≡ t) }
 {}
