@@ -1,6 +1,7 @@
 pub mod BgpSteps
 pub mod ChannelSteps
 pub mod ConfigSteps
+pub mod ConfigTold
 pub mod Decided
 pub mod Each
 pub mod FirstWords

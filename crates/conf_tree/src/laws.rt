@@ -1,5 +1,5 @@
 //! What logs and device blocks hold, that a text says one thing, and that a place has one line and one column.
-ghost use Rattle.std.specs.Prelude.{◌≡◌, ◌≢◌, ◌⊎◌, ℕ, true, false, not, ◌||◌};
+ghost use Rattle.std.specs.Prelude.{◌≡◌, ◌≢◌, ◌⊎◌, ℕ, ◌<◌, ◌^◌, true, false, not, ◌||◌};
 ghost use Rattle.std.specs.Prelude.{List, [], ◌∷◌, ◌++◌, length, map};
 ghost use Rattle.std.specs.List.{list_all};
 ghost use Rattle.conf_lex.specs.declared.symbol.Symbol.{Symbol};
@@ -12,7 +12,9 @@ ghost use Rattle.conf_tree.specs.Sentence.{IsRefused};
 ghost use Rattle.conf_tree.specs.Alike.{IsAlike, AreAlike, DecideAlike, IsNoSentence};
 ghost use Rattle.conf_tree.specs.Read.{IsConfigText, IsRefusedText};
 ghost use Rattle.conf_tree.specs.declared.kind.ConfKind.{ConfKind};
+ghost use Rattle.conf_tree.specs.declared.tree.Statement.{Statement};
 ghost use Rattle.conf_tree.specs.Syntax.{config};
+ghost use Rattle.conf_tree.specs.View.{statements_tree};
 ghost use Rattle.filt_syntax.specs.Syntax.{rule};
 ghost use Rattle.grammar.specs.Grammar.{Tree, yield, Fits, Spells};
 ghost use Rattle.grammar.specs.Kind.{kind_of, name};
@@ -178,4 +180,11 @@ pub fn refusals_are_by_tokens()
     ensures end { (text other : List ℕ) (tokens seen : List Token)
         → IsRefused text tokens (SyntaxFault.Bad (length tokens))
         → AreAlike text tokens other seen → IsNoSentence other seen }
+{}
+
+/// Each tree of a configuration is the view of statements. A list in memory has less than 2 ^ 63
+/// items, so a configuration of more words has none.
+pub fn each_tree_is_of_a_configuration()
+    ensures { (t : Tree) → Fits rule t config → length (yield t) < 2 ^ 63
+        → (statements : List Statement) × (statements_tree statements ≡ t) }
 {}

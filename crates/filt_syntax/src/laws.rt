@@ -7,8 +7,6 @@ ghost use Rattle.filt_syntax.specs.Syntax.{block, expr, rule, stmt};
 ghost use Rattle.filt_syntax.specs.StatementView.{block_view};
 ghost use Rattle.filt_syntax.specs.View.{sight};
 
-use crate::tree::{Block, Expr};
-
 /// Each statement of the grammar alone is one: its words have a tree in which an `else` goes to the
 /// nearest `if`.
 pub fn statements_decide()
