@@ -473,5 +473,394 @@ prefix_one front p m xs ys before tree w ws o r torn no_prefix =
     (λ e. no_prefix (prefix_follows before some_address (words.Symbol symbols.Slash ∷ []) refl refl
       (follows_two front p m (m ∷ xs) ys before tree o (address_alone p (m ∷ ys) ip e) slashed free some_address (words.Symbol symbols.Slash) refl refl)))
 
-pub never : ℕ
-never = 0
+one_no_zero : ◌≡◌ {A = ℕ} 1 0 → ⊥
+one_no_zero e = omega (arith, e)
+
+two_or_one : (b : Bool) → ◌≡◌ {A = ℕ} 1 (if b then 2 else 1) → b ≡ false
+two_or_one true e = absurd (omega (arith, e))
+two_or_one false e = refl
+
+-- an address in a prefix's place, at what is no slash
+address_one : (front : List Mark) (p m : Mark) (xs ys : List Mark) (before : List Word) (tree : Tree) (w : Word) (ws : List Word) → Other front p (m ∷ xs) (m ∷ ys) before tree → Refuses front p (m ∷ xs) before w ws → torn_of w ≡ torns.Address → begins (symbol symbols.Slash) ws ≡ false → ⊥
+address_one front p m xs ys before tree w ws o r torn none =
+    let is = is_address w torn in
+    let ip = ip_here p (m ∷ xs) w r.kind (ap is_net is) in
+    let free = opened front p (m ∷ xs) before w ws r (ap is_net is) in
+    let q = region front p (m ∷ xs) in
+    let one = address_alone p (m ∷ xs) ip (r.kind ∙ is) in
+    let behind : kinds_of ws ≡ heard (behind_kind q IsAddress) 0 (m ∷ xs) = r.behind ∙ ap (λ (j : Kind × ℕ). heard (behind_kind q j.0) (j.1 - 1) (m ∷ xs)) one in
+    by_slash (is_slash (sym_of m)) refl (is) ip free behind
+  where
+    begins_kind : (vs : List Word) (ks : List Kind) → kinds_of vs ≡ slash_kind ∷ ks → begins (symbol symbols.Slash) vs ≡ true
+    begins_kind [] ks e = absurd cc
+    begins_kind (v ∷ vs) ks e = let head : kind_of v ≡ slash_kind = cc in ap (symbol symbols.Slash) head
+
+    by_slash : (b : Bool) → is_slash (sym_of m) ≡ b → kind_of w ≡ IsAddress → is_ip p.1 ≡ true → is_open (region front p (m ∷ xs)) ≡ true → kinds_of ws ≡ heard (behind_kind (region front p (m ∷ xs)) IsAddress) 0 (m ∷ xs) → ⊥
+    by_slash false is kind ip free behind = same_case front p (m ∷ xs) (m ∷ ys) before tree w ws o r (ap (λ (j : Kind × ℕ). j.0) (no_slash_alone p (m ∷ ys) ip is) ∙ sym kind)
+    by_slash true is kind ip free behind =
+        let t = behind_kind (region front p (m ∷ xs)) IsAddress in
+        let slash = slash_first_kind m xs is in
+        let first : heard t 0 (m ∷ xs) ≡ slash_kind ∷ heard (behind_kind t slash_kind) 0 xs =
+          heard_first t m xs (ap (λ (j : Kind × ℕ). says_kind t j.0) slash ∙ open_says t slash_kind (open_address (region front p (m ∷ xs)) free))
+          ∙ ap (λ (j : Kind × ℕ). j.0 ∷ heard (behind_kind t j.0) (j.1 - 1) xs) slash in
+        not_both (begins (symbol symbols.Slash) ws) (begins_kind ws _ (behind ∙ first)) none
+
+-- where the next token is alike too
+past_one : (front : List Mark) (p m : Mark) (xs ys : List Mark) (before : List Word) (tree : Tree) (w : Word) (ws : List Word) (t : Torn) → Other front p (m ∷ xs) (m ∷ ys) before tree → Refuses front p (m ∷ xs) before w ws → torn_of w ≡ t → IsPast config before t (begins (symbol symbols.Slash) ws) 1 → ⊥
+past_one front p m xs ys before tree w ws torns.Prefix o r torn (inl h) = prefix_one front p m xs ys before tree w ws o r torn h.0.1
+past_one front p m xs ys before tree w ws torns.Prefix o r torn (inr h) = one_no_zero h.1
+past_one front p m xs ys before tree w ws torns.Address o r torn (inl h) = address_one front p m xs ys before tree w ws o r torn (two_or_one (begins (symbol symbols.Slash) ws) h.1)
+past_one front p m xs ys before tree w ws torns.Address o r torn (inr h) = one_no_zero h.1
+past_one front p m xs ys before tree w ws torns.Slash o r torn h =
+    let is = is_slash_word w torn in
+    let plain = no_ip_here p (m ∷ xs) w r.kind (ap is_net is) in
+    same_case front p (m ∷ xs) (m ∷ ys) before tree w ws o r (ap (λ (j : Kind × ℕ). j.0) (sym (same_first p (m ∷ xs) (m ∷ ys) (λ e. refl) plain)) ∙ r.kind)
+past_one front p m xs ys before tree w ws torns.Other o r torn h = one_no_zero h
+
+-- where two more are
+past_two : (front : List Mark) (p n m : Mark) (xs ys : List Mark) (before : List Word) (tree : Tree) (w : Word) (ws : List Word) → Other front p (n ∷ m ∷ xs) (n ∷ m ∷ ys) before tree → Refuses front p (n ∷ m ∷ xs) before w ws → ⊥
+past_two front p n m xs ys before tree w ws o r =
+    same_case front p (n ∷ m ∷ xs) (n ∷ m ∷ ys) before tree w ws o r (ap (λ (j : Kind × ℕ). j.0) (sym (look_same p (n ∷ m ∷ xs) (n ∷ m ∷ ys) refl refl)) ∙ r.kind)
+
+-- ---- at the first token
+
+-- a bad prefix, by marks
+pub record IsBad (m : Mark) (ms : List Mark) : Type 0 where
+  pub addr : Addr
+  pub n : ℕ
+  pub first : m.1 ≡ sorts.Ip addr
+  pub second : slash_first ms ≡ true
+  pub third : sort_first (behind_one ms) ≡ Some (sorts.Number n)
+  pub none : is_prefix addr n ≡ false
+
+bad_first : (m : Mark) (ms : List Mark) → IsBad m ms → (first_kind m ms).0 ≡ IsNoPrefix
+bad_first m ms b = ap (λ (k : Kind × ℕ). k.0) (ip_first m ms b.addr b.first) ∙ rw (b.second, b.third, b.none) refl
+
+abbrev Told : Addr → Bool → Option TokenKind → Type 0
+Told addr b o = (n : ℕ) × (b ≡ true) × (o ≡ Some (sorts.Number n)) × (is_prefix addr n ≡ false)
+
+prefix_told : (addr : Addr) (n : ℕ) (b : Bool) → is_prefix addr n ≡ b → prefix_kind addr n ≡ IsNoPrefix → b ≡ false
+prefix_told addr n true is e = let same : IsPrefix ≡ IsNoPrefix = rw is at e in absurd cc
+prefix_told addr n false is e = refl
+
+told_bad : (addr : Addr) (b : Bool) (o : Option TokenKind) → (or_kind (folded (sorts.Ip addr) b o) IsAddress).0 ≡ IsNoPrefix → Told addr b o
+told_bad addr true (Some (sorts.Number n)) e = (n, refl, refl, prefix_told addr n (is_prefix addr n) refl e)
+told_bad addr true (Some sorts.Name) e = absurd cc
+told_bad addr true (Some sorts.Quoted) e = absurd cc
+told_bad addr true (Some (sorts.Ip a)) e = absurd cc
+told_bad addr true (Some sorts.Text) e = absurd cc
+told_bad addr true (Some sorts.Sign) e = absurd cc
+told_bad addr true None e = absurd cc
+told_bad addr false o e = absurd cc
+
+is_bad : (m : Mark) (ms : List Mark) → is_ip m.1 ≡ true → (first_kind m ms).0 ≡ IsNoPrefix → IsBad m ms
+is_bad m ms ip e =
+    let a = ip_is m.1 ip in
+    let t = told_bad a.0 (slash_first ms) (sort_first (behind_one ms)) (ap (λ (k : Kind × ℕ). k.0) (sym (ip_first m ms a.0 a.1)) ∙ e) in
+    record { addr = a.0; n = t.0; first = a.1; second = t.1; third = t.2; none = t.3 }
+
+prefix_zero : (front : List Mark) (p : Mark) (xs ys : List Mark) (before : List Word) (tree : Tree) (w : Word) (ws : List Word) → Other front p xs ys before tree → Refuses front p xs before w ws → torn_of w ≡ torns.Prefix → (CanFollow config before some_address × (CanFollow config before some_prefix → ⊥) → ⊥) → (IsBad p xs → IsBad p ys) → ⊥
+prefix_zero front p xs ys before tree w ws o r torn none bad = elim (is_any_prefix w torn) [
+  | inr is ↦
+      let ip = ip_here p xs w r.kind (ap is_net is) in
+      same_case front p xs ys before tree w ws o r (bad_first p ys (bad (is_bad p xs ip (r.kind ∙ is))) ∙ sym is)
+  | inl is ↦
+      let ip = ip_here p xs w r.kind (ap is_net is) in
+      let free = opened front p xs before w ws r (ap is_net is) in
+      net_case front p xs ys before tree o free (first_kind p ys).0 refl (first_is_net p ys ip)
+      (λ e. same_case front p xs ys before tree w ws o r (e ∙ sym is))
+      (λ e. none (address_stands front p xs ys before tree o free e, λ can. r.last (begun_as before some_prefix w (sym is) can)))
+]
+
+address_zero : (front : List Mark) (p : Mark) (xs ys : List Mark) (before : List Word) (tree : Tree) (w : Word) (ws : List Word) → Other front p xs ys before tree → Refuses front p xs before w ws → torn_of w ≡ torns.Address → (CanFollow config before some_prefix × (CanFollow config before some_address → ⊥) → ⊥) → ⊥
+address_zero front p xs ys before tree w ws o r torn none =
+    let is = is_address w torn in
+    let ip = ip_here p xs w r.kind (ap is_net is) in
+    let free = opened front p xs before w ws r (ap is_net is) in
+    net_case front p xs ys before tree o free (first_kind p ys).0 refl (first_is_net p ys ip)
+    (λ e. none (prefix_stands front p xs ys before tree o free e, λ can. r.last (begun_as before some_address w (sym is) can)))
+    (λ e. same_case front p xs ys before tree w ws o r (e ∙ sym is))
+
+-- ---- a front that ends in an address
+
+record Ended (ms : List Mark) : Type 0 where
+  front : List Mark
+  mark : Mark
+  cut : ms ≡ front ++ mark ∷ []
+  ip : is_ip mark.1 ≡ true
+
+ended_by : (m : Mark) (b : Bool) → is_ip m.1 ≡ b → LastIs (m ∷ []) (λ n. is_ip n.1 ≡ false) ⊎ Ended (m ∷ [])
+ended_by m true is = inr (record { front = []; mark = m; cut = refl; ip = is })
+ended_by m false is = inl is
+
+ended : (ms : List Mark) → LastIs ms (λ n. is_ip n.1 ≡ false) ⊎ Ended ms
+ended [] = inl tt
+ended (m ∷ []) = ended_by m (is_ip m.1) refl
+ended (m ∷ n ∷ ms) = elim (ended (n ∷ ms)) [
+  | inl last ↦ inl last
+  | inr e ↦ inr (record { front = m ∷ e.front; mark = e.mark; cut = ap (λ (l : List Mark). m ∷ l) e.cut; ip = e.ip })
+]
+
+steady_plain : (ms : List Mark) (p : Mark) (xs ys : List Mark) → LastIs ms (λ n. is_ip n.1 ≡ false) → LastIs ms (Folds p xs ys)
+steady_plain [] p xs ys last = tt
+steady_plain (m ∷ []) p xs ys last = no_ip m.1 (is_slash (sym_of p)) (sort_first xs) last ∙ sym (no_ip m.1 (is_slash (sym_of p)) (sort_first ys) last)
+steady_plain (m ∷ n ∷ ms) p xs ys last = steady_plain (n ∷ ms) p xs ys last
+
+steady_other : (ms : List Mark) (p : Mark) (xs ys : List Mark) → is_slash (sym_of p) ≡ false → LastIs ms (Folds p xs ys)
+steady_other ms p xs ys none = last_any ms (Folds p xs ys) (λ m. ap (λ (b : Bool). folded m.1 b (sort_first xs)) none ∙ no_slash m.1 (sort_first xs) ∙ sym (no_slash m.1 (sort_first ys)) ∙ ap (λ (b : Bool). folded m.1 b (sort_first ys)) (sym none))
+
+-- the marks that belong to a word begun before are no addresses
+abbrev Heads : ℕ → List Mark → Type 0
+Heads zero ms = Unit {0}
+Heads (suc n) [] = Unit {0}
+Heads (suc n) (m ∷ ms) = (is_ip m.1 ≡ false) × Heads n ms
+
+front_both : (r : Region) (skip : ℕ) (ms ns rest : List Mark) → front_heard r skip (ms ++ ns) rest ≡ front_heard r skip ms (ns ++ rest) ++ front_heard (state r skip ms (ns ++ rest)).0 (state r skip ms (ns ++ rest)).1 ns rest
+front_both r skip [] ns rest = refl
+front_both r (suc skip) (m ∷ ms) ns rest = front_both r skip ms ns rest
+front_both r zero (m ∷ ms) ns rest =
+    let k = first_kind m (ms ++ (ns ++ rest)) in
+    ap (λ (j : Kind × ℕ). cond (says_kind r j.0) (j.0 ∷ front_heard (behind_kind r j.0) (j.1 - 1) (ms ++ ns) rest) (front_heard (behind_kind r j.0) (j.1 - 1) (ms ++ ns) rest)) (ap (first_kind m) (append_assoc ms ns rest))
+    ∙ ap (λ (l : List Kind). cond (says_kind r k.0) (k.0 ∷ l) l) (front_both (behind_kind r k.0) (k.1 - 1) ms ns rest)
+    ∙ cond_both (says_kind r k.0) k.0 (front_heard (behind_kind r k.0) (k.1 - 1) ms (ns ++ rest)) _
+  where
+    cond_both : (b : Bool) (k : Kind) (xs ys : List Kind) → cond b (k ∷ (xs ++ ys)) (xs ++ ys) ≡ cond b (k ∷ xs) xs ++ ys
+    cond_both true k xs ys = refl
+    cond_both false k xs ys = refl
+
+state_both : (r : Region) (skip : ℕ) (ms ns rest : List Mark) → state r skip (ms ++ ns) rest ≡ state (state r skip ms (ns ++ rest)).0 (state r skip ms (ns ++ rest)).1 ns rest
+state_both r skip [] ns rest = refl
+state_both r (suc skip) (m ∷ ms) ns rest = state_both r skip ms ns rest
+state_both r zero (m ∷ ms) ns rest =
+    let k = first_kind m (ms ++ (ns ++ rest)) in
+    ap (λ (j : Kind × ℕ). state (behind_kind r j.0) (j.1 - 1) (ms ++ ns) rest) (ap (first_kind m) (append_assoc ms ns rest))
+    ∙ state_both (behind_kind r k.0) (k.1 - 1) ms ns rest
+
+sign_no_ip : (slice : List ℕ) (k : TokenKind) (b : Bool) → is_ip k ≡ b → (kind_symbol slice k ≡ None → ⊥) → b ≡ false
+sign_no_ip slice (sorts.Ip addr) b is some = absurd (some refl)
+sign_no_ip slice sorts.Name b is some = sym is
+sign_no_ip slice sorts.Quoted b is some = sym is
+sign_no_ip slice (sorts.Number n) b is some = sym is
+sign_no_ip slice sorts.Text b is some = sym is
+sign_no_ip slice sorts.Sign b is some = sym is
+
+colon_heads : (ms : List Mark) → colon_first ms ≡ true → Heads 1 ms
+colon_heads [] e = absurd cc
+colon_heads (m ∷ ms) e = (sign_no_ip m.0 m.1 (is_ip m.1) refl (λ none. (let never : is_colon None ≡ true = ap is_colon (sym none) ∙ e in cc)), tt)
+
+ip_third : (k : TokenKind) (b : Bool) (a : Addr) → folded k b (Some (sorts.Ip a)) ≡ None
+ip_third (sorts.Ip addr) true a = refl
+ip_third (sorts.Ip addr) false a = refl
+ip_third sorts.Name b a = refl
+ip_third sorts.Quoted b a = refl
+ip_third (sorts.Number n) b a = refl
+ip_third sorts.Text b a = refl
+ip_third sorts.Sign b a = refl
+
+fold_heads : (k : TokenKind) (ms : List Mark) (l : Kind) → (o : Option Kind) → folded k (slash_first ms) (sort_first (behind_one ms)) ≡ o → Heads ((or_kind o l).1 - 1) ms
+fold_heads k ms l None e = tt
+fold_heads k [] l (Some j) e = tt
+fold_heads k (m ∷ []) l (Some j) e = absurd (let never = sym (no_second k (is_slash (sym_of m))) ∙ e in cc)
+fold_heads k (m ∷ n ∷ ms) l (Some j) e = (slashed (is_slash (sym_of m)) refl, (numbered n.1 (is_slash (sym_of m)) e, tt))
+  where
+    slashed : (b : Bool) → is_slash (sym_of m) ≡ b → is_ip m.1 ≡ false
+    slashed true is = sign_no_ip m.0 m.1 (is_ip m.1) refl (λ none. (let never : is_slash None ≡ true = ap is_slash (sym none) ∙ is in cc))
+    slashed false is = absurd (let never = sym (no_slash k (Some n.1)) ∙ ap (λ (b : Bool). folded k b (Some n.1)) (sym is) ∙ e in cc)
+
+    numbered : (s : TokenKind) (b : Bool) → folded k b (Some s) ≡ Some j → is_ip s ≡ false
+    numbered (sorts.Ip a) b h = absurd (let never = sym (ip_third k b a) ∙ h in cc)
+    numbered sorts.Name b h = refl
+    numbered sorts.Quoted b h = refl
+    numbered (sorts.Number i) b h = refl
+    numbered sorts.Text b h = refl
+    numbered sorts.Sign b h = refl
+
+first_heads : (m : Mark) (ms : List Mark) → Heads ((first_kind m ms).1 - 1) ms
+first_heads m ms = by (is_else (sym_of m)) (colon_first ms) refl
+  where
+    by : (b c : Bool) → colon_first ms ≡ c → Heads ((if b && c then (IsSymbol symbols.ElseColon, 2) else or_kind (folded m.1 (slash_first ms) (sort_first (behind_one ms))) (alone m.0 m.1)).1 - 1) ms
+    by true true is = colon_heads ms is
+    by true false is = fold_heads m.1 ms (alone m.0 m.1) (folded m.1 (slash_first ms) (sort_first (behind_one ms))) refl
+    by false c is = fold_heads m.1 ms (alone m.0 m.1) (folded m.1 (slash_first ms) (sort_first (behind_one ms))) refl
+
+state_heads : (r : Region) (skip : ℕ) (ms rest : List Mark) → Heads skip (ms ++ rest) → Heads (state r skip ms rest).1 rest
+state_heads r skip [] rest h = h
+state_heads r (suc skip) (m ∷ ms) rest h = state_heads r skip ms rest h.1
+state_heads r zero (m ∷ ms) rest h = state_heads (behind_kind r (first_kind m (ms ++ rest)).0) ((first_kind m (ms ++ rest)).1 - 1) ms rest (first_heads m (ms ++ rest))
+
+no_head : (n : ℕ) (m : Mark) (ms : List Mark) → is_ip m.1 ≡ true → Heads n (m ∷ ms) → n ≡ 0
+no_head zero m ms ip h = refl
+no_head (suc n) m ms ip h = absurd (not_both (is_ip m.1) ip h.0)
+
+spelled_slash : (b : Bool) (o : Option Symbol) → (else_or b (spelled_kind o)).0 ≡ slash_kind → is_slash o ≡ true
+spelled_slash true o e = absurd (let never : symbol symbols.Slash (IsSymbol symbols.ElseColon) ≡ true = ap (symbol symbols.Slash) e in cc)
+spelled_slash false None e = absurd cc
+spelled_slash false (Some s) e = let same : s ≡ symbols.Slash = cc in ap (λ (r : Symbol). is_slash (Some r)) same
+
+slash_of_kind : (slice : List ℕ) (k : TokenKind) (ms : List Mark) → (first_kind (slice, k) ms).0 ≡ slash_kind → is_slash (kind_symbol slice k) ≡ true
+slash_of_kind slice sorts.Name ms e = spelled_slash (is_else (symbol_of slice) && colon_first ms) (symbol_of slice) e
+slash_of_kind slice sorts.Sign ms e = spelled_slash (is_else (symbol_of slice) && colon_first ms) (symbol_of slice) e
+slash_of_kind slice sorts.Quoted ms e = absurd cc
+slash_of_kind slice (sorts.Number n) ms e = absurd cc
+slash_of_kind slice sorts.Text ms e = absurd cc
+slash_of_kind slice (sorts.Ip addr) ms e = absurd (not_both _ (fold_net addr (slash_first ms) (sort_first (behind_one ms))) (ap is_net e))
+
+record LastKind (ws : List Word) (ks : List Kind) (k : Kind) : Type 0 where
+  front : List Word
+  word : Word
+  cut : ws ≡ front ++ word ∷ []
+  are : kinds_of front ≡ ks
+  kind : kind_of word ≡ k
+
+no_more : (ws : List Word) → kinds_of ws ≡ [] → ws ≡ []
+no_more [] e = refl
+no_more (w ∷ ws) e = absurd cc
+
+last_kind : (ws : List Word) (ks : List Kind) (k : Kind) → kinds_of ws ≡ ks ++ k ∷ [] → LastKind ws ks k
+last_kind [] [] k e = absurd cc
+last_kind [] (j ∷ ks) k e = absurd cc
+last_kind (w ∷ ws) [] k e =
+    let head : kind_of w ≡ k = cc in
+    let tail : kinds_of ws ≡ [] = cc in
+    record { front = []; word = w; cut = ap (λ (l : List Word). w ∷ l) (no_more ws tail); are = refl; kind = head }
+last_kind (w ∷ ws) (j ∷ ks) k e =
+    let head : kind_of w ≡ j = cc in
+    let tail : kinds_of ws ≡ ks ++ k ∷ [] = cc in
+    let l = last_kind ws ks k tail in
+    record { front = w ∷ l.front; word = l.word; cut = ap (λ (u : List Word). w ∷ u) l.cut; are = rw (head, l.are) refl; kind = l.kind }
+
+cond_address : (b : Bool) (x : Kind) → cond b (IsSymbol symbols.Slash) x ≡ IsAddress → b ≡ false
+cond_address true x e = absurd cc
+cond_address false x e = refl
+
+ip_word : (w : Word) → kind_of w ≡ IsAddress → (at : ℕ) × (addr : Addr) × (w ≡ words.Ip at addr)
+ip_word (words.Ip at addr) e = (at, addr, refl)
+ip_word (words.Name at start len) e = absurd cc
+ip_word (words.Number at value) e = absurd cc
+ip_word (words.Text at start len) e = absurd cc
+ip_word (words.Prefix at net) e = absurd cc
+ip_word (words.BadPrefix at) e = absurd cc
+ip_word (words.Symbol s) e = absurd (by (keeps_place s) refl)
+  where
+    by : (b : Bool) → keeps_place s ≡ b → ⊥
+    by true is = let never : IsStray ≡ IsAddress = rw is at e in cc
+    by false is = let never : IsSymbol s ≡ IsAddress = rw is at e in cc
+ip_word (words.Placed at s) e = absurd (by (keeps_place s) refl)
+  where
+    by : (b : Bool) → keeps_place s ≡ b → ⊥
+    by true is = let never : IsSymbol s ≡ IsAddress = rw is at e in cc
+    by false is = let never : IsStray ≡ IsAddress = rw is at e in cc
+
+-- a slash behind an address that can't be a prefix's
+slash_zero : (front : List Mark) (p : Mark) (xs ys : List Mark) (before : List Word) (tree : Tree) (w : Word) (ws : List Word) → Fits rule tree config → kinds_of before ≡ front_heard regions.Statements 0 front (p ∷ xs) → (state regions.Statements 0 front (p ∷ xs)).1 ≡ 0 → kinds_of (yield tree) ≡ heard regions.Statements 0 (front ++ p ∷ ys) → Refuses front p xs before w ws → kind_of w ≡ slash_kind → (EndInAddress config before → ⊥) → Ended front → ⊥
+slash_zero front p xs ys before tree w ws fits are done reads r kind none e =
+    let start = state regions.Statements 0 e.front (e.mark ∷ p ∷ xs) in
+    let said = front_heard regions.Statements 0 e.front (e.mark ∷ p ∷ xs) in
+    let at : start.1 ≡ 0 = no_head start.1 e.mark (p ∷ xs) e.ip (state_heads regions.Statements 0 e.front (e.mark ∷ p ∷ xs) tt) in
+    let made = first_kind e.mark (p ∷ xs) in
+    let a = ip_is e.mark.1 e.ip in
+    let first = ip_first e.mark (p ∷ xs) a.0 a.1 in
+    let behind : state regions.Statements 0 front (p ∷ xs) ≡ state start.0 0 (e.mark ∷ []) (p ∷ xs) =
+      ap (λ (l : List Mark). state regions.Statements 0 l (p ∷ xs)) e.cut ∙ state_both regions.Statements 0 e.front (e.mark ∷ []) (p ∷ xs) ∙ ap (λ (n : ℕ). state start.0 n (e.mark ∷ []) (p ∷ xs)) at in
+    let size : made.1 - 1 ≡ 0 = sym (ap (λ (s : Region × ℕ). s.1) behind) ∙ done in
+    let one : made ≡ (IsAddress, 1) = first ∙ alone_by_size (folded (sorts.Ip a.0) (slash_first (p ∷ xs)) (sort_first (behind_one (p ∷ xs)))) (ap (λ (k : Kind × ℕ). k.1 - 1) (sym first) ∙ size) in
+    let here : region front p xs ≡ behind_kind start.0 IsAddress = ap (λ (s : Region × ℕ). s.0) behind ∙ ap (λ (k : Kind × ℕ). behind_kind start.0 k.0) one in
+    let free : is_open (region front p xs) ≡ true = open_of (region front p xs) slash_kind (ap (says_kind (region front p xs)) (sym kind) ∙ r.says) refl refl in
+    let before_free : is_open start.0 ≡ true = open_back start.0 (ap is_open (sym here) ∙ free) in
+    let heard_one : front_heard start.0 0 (e.mark ∷ []) (p ∷ xs) ≡ IsAddress ∷ [] =
+      ap (λ (k : Kind × ℕ). cond (says_kind start.0 k.0) (k.0 ∷ []) []) one ∙ ap (λ (b : Bool). cond b (IsAddress ∷ []) []) (open_says start.0 IsAddress before_free) in
+    let kinds : kinds_of before ≡ said ++ IsAddress ∷ [] =
+      are ∙ ap (λ (l : List Mark). front_heard regions.Statements 0 l (p ∷ xs)) e.cut ∙ front_both regions.Statements 0 e.front (e.mark ∷ []) (p ∷ xs)
+      ∙ ap (λ (n : ℕ). said ++ front_heard start.0 n (e.mark ∷ []) (p ∷ xs)) at ∙ ap (λ (l : List Kind). said ++ l) heard_one in
+    let l = last_kind before said IsAddress kinds in
+    let ip = ip_word l.word l.kind in
+    let no_prefix : CanFollow config l.front some_prefix → ⊥ = λ can. none (record { front = l.front; at = ip.0; addr = ip.1; cut = l.cut ∙ ap (λ (x : Word). l.front ++ x ∷ []) ip.2; prefix = can }) in
+    let o : Other e.front e.mark (p ∷ xs) (p ∷ ys) l.front tree = record {
+      fits = fits;
+      are = l.are;
+      done = at;
+      reads = reads ∙ ap (λ (u : List Mark). heard regions.Statements 0 u) (ap (λ (u : List Mark). u ++ p ∷ ys) e.cut ∙ append_assoc e.front (e.mark ∷ []) (p ∷ ys));
+      steady = last_any e.front (Folds e.mark (p ∷ xs) (p ∷ ys)) (λ m. refl);
+    } in
+    let slashed = slash_of_kind p.0 p.1 xs (r.kind ∙ kind) in
+    net_case e.front e.mark (p ∷ xs) (p ∷ ys) l.front tree o before_free (first_kind e.mark (p ∷ ys)).0 refl (first_is_net e.mark (p ∷ ys) e.ip)
+    (λ is. no_prefix (prefix_stands e.front e.mark (p ∷ xs) (p ∷ ys) l.front tree o before_free is))
+    (λ is. r.last (subst (λ (u : List Word). IsBegun rule config u) (sym (append_assoc l.front (l.word ∷ []) (w ∷ [])) ∙ ap (λ (u : List Word). u ++ w ∷ []) (sym l.cut))
+      (follows_two e.front e.mark p (p ∷ xs) ys l.front tree o (address_alone e.mark (p ∷ ys) e.ip is) slashed before_free l.word w l.kind kind)))
+
+zero_no_one : ◌≡◌ {A = ℕ} 0 1 → ⊥
+zero_no_one e = omega (arith, e)
+
+zero_no_two : (b : Bool) → ◌≡◌ {A = ℕ} 0 (if b then 2 else 1) → ⊥
+zero_no_two true e = omega (arith, e)
+zero_no_two false e = omega (arith, e)
+
+no_slash_here : (p : Mark) (xs : List Mark) (w : Word) (b : Bool) → (first_kind p xs).0 ≡ kind_of w → torn_of w ≡ torns.Other → is_slash (sym_of p) ≡ b → b ≡ false
+no_slash_here p xs w true is torn e = absurd (kind_no_slash w torn (sym is ∙ ap (λ (k : Kind × ℕ). k.0) (slash_first_kind p xs e)))
+no_slash_here p xs w false is torn e = refl
+
+past_zero : (front : List Mark) (p : Mark) (xs ys : List Mark) (before : List Word) (tree : Tree) (w : Word) (ws : List Word) (t : Torn) (slash : Bool) → Fits rule tree config → kinds_of before ≡ front_heard regions.Statements 0 front (p ∷ xs) → (state regions.Statements 0 front (p ∷ xs)).1 ≡ 0 → kinds_of (yield tree) ≡ heard regions.Statements 0 (front ++ p ∷ ys) → Refuses front p xs before w ws → torn_of w ≡ t → IsPast config before t slash 0 → (is_else (sym_of p) ≡ true → colon_first xs ≡ colon_first ys) → (IsBad p xs → IsBad p ys) → ⊥
+past_zero front p xs ys before tree w ws torns.Prefix slash fits are done reads r torn (inl h) colons bad = zero_no_one h.1
+past_zero front p xs ys before tree w ws torns.Prefix slash fits are done reads r torn (inr h) colons bad =
+    let net : is_net (kind_of w) ≡ true = elim (is_any_prefix w torn) [ inl e ↦ ap is_net e | inr e ↦ ap is_net e ] in
+    let plain = ip_no_slash p.0 p.1 (ip_here p xs w r.kind net) in
+    prefix_zero front p xs ys before tree w ws (record { fits = fits; are = are; done = done; reads = reads; steady = steady_other front p xs ys plain }) r torn h.0 bad
+past_zero front p xs ys before tree w ws torns.Address slash fits are done reads r torn (inl h) colons bad = zero_no_two slash h.1
+past_zero front p xs ys before tree w ws torns.Address slash fits are done reads r torn (inr h) colons bad =
+    let plain = ip_no_slash p.0 p.1 (ip_here p xs w r.kind (ap is_net (is_address w torn))) in
+    address_zero front p xs ys before tree w ws (record { fits = fits; are = are; done = done; reads = reads; steady = steady_other front p xs ys plain }) r torn h.0
+past_zero front p xs ys before tree w ws torns.Slash slash fits are done reads r torn (inl h) colons bad = zero_no_one h.1
+past_zero front p xs ys before tree w ws torns.Slash slash fits are done reads r torn (inr h) colons bad =
+    let kind = is_slash_word w torn in
+    let plain = no_ip_here p xs w r.kind (ap is_net kind) in
+    elim (ended front) [
+      | inl last ↦
+          same_case front p xs ys before tree w ws (record { fits = fits; are = are; done = done; reads = reads; steady = steady_plain front p xs ys last }) r
+          (ap (λ (k : Kind × ℕ). k.0) (sym (same_first p xs ys colons plain)) ∙ r.kind)
+      | inr e ↦ slash_zero front p xs ys before tree w ws fits are done reads r kind h.0 e
+    ]
+past_zero front p xs ys before tree w ws torns.Other slash fits are done reads r torn h colons bad =
+    let plain = no_ip_here p xs w r.kind (kind_other w torn) in
+    let steady = steady_other front p xs ys (no_slash_here p xs w (is_slash (sym_of p)) r.kind torn refl) in
+    same_case front p xs ys before tree w ws (record { fits = fits; are = are; done = done; reads = reads; steady = steady }) r
+    (ap (λ (k : Kind × ℕ). k.0) (sym (same_first p xs ys colons plain)) ∙ r.kind)
+
+-- ---- all of them
+
+refuses : (front : List Mark) (p : Mark) (xs : List Mark) (before : List Word) (w : Word) (ws : List Word) → (state regions.Statements 0 front (p ∷ xs)).1 ≡ 0 → says_kind (region front p xs) (first_kind p xs).0 ≡ true → kinds_of (w ∷ ws) ≡ heard (region front p xs) (state regions.Statements 0 front (p ∷ xs)).1 (p ∷ xs) → (IsBegun rule config (before ++ w ∷ []) → ⊥) → Refuses front p xs before w ws
+refuses front p xs before w ws done says kinds last =
+    let all : kind_of w ∷ kinds_of ws ≡ (first_kind p xs).0 ∷ heard (behind_kind (region front p xs) (first_kind p xs).0) ((first_kind p xs).1 - 1) xs =
+      kinds ∙ ap (λ (n : ℕ). heard (region front p xs) n (p ∷ xs)) done ∙ heard_first (region front p xs) p xs says in
+    let head : kind_of w ≡ (first_kind p xs).0 = cc in
+    let tail : kinds_of ws ≡ heard (behind_kind (region front p xs) (first_kind p xs).0) ((first_kind p xs).1 - 1) xs = cc in
+    record { last = last; kind = sym head; says = ap (says_kind (region front p xs)) head ∙ says; behind = tail }
+
+few : (before : List Word) (t : Torn) (slash : Bool) (n : ℕ) → IsPast config before t slash n → n ≤ 2
+few before torns.Prefix slash n (inl h) = omega (arith, h.1)
+few before torns.Prefix slash n (inr h) = omega (arith, h.1)
+few before torns.Address true n (inl h) = omega (arith, h.1)
+few before torns.Address false n (inl h) = omega (arith, h.1)
+few before torns.Address slash n (inr h) = omega (arith, h.1)
+few before torns.Slash slash n (inl h) = omega (arith, h.1)
+few before torns.Slash slash n (inr h) = omega (arith, h.1)
+few before torns.Other slash n h = omega (arith, h)
+
+pub refuted : (front gone : List Mark) (before : List Word) (w : Word) (ws : List Word) (m : Mark) (xs ys : List Mark) (tree : Tree) → Fits rule tree config
+    → kinds_of before ≡ front_heard regions.Statements 0 front (gone ++ m ∷ xs)
+    → IsNext (state regions.Statements 0 front (gone ++ m ∷ xs)) (gone ++ m ∷ xs)
+    → kinds_of (w ∷ ws) ≡ heard (state regions.Statements 0 front (gone ++ m ∷ xs)).0 (state regions.Statements 0 front (gone ++ m ∷ xs)).1 (gone ++ m ∷ xs)
+    → (IsBegun rule config (before ++ w ∷ []) → ⊥) → IsPast config before (torn_of w) (begins (symbol symbols.Slash) ws) (length gone)
+    → kinds_of (yield tree) ≡ heard regions.Statements 0 (front ++ (gone ++ m ∷ ys))
+    → (is_else (sym_of m) ≡ true → colon_first xs ≡ colon_first ys) → (IsBad m xs → IsBad m ys) → ⊥
+refuted front [] before w ws m xs ys tree fits are next kinds last past reads colons bad =
+    past_zero front m xs ys before tree w ws (torn_of w) _ fits are next.0 reads (refuses front m xs before w ws next.0 next.1 kinds last) refl past colons bad
+refuted front (g ∷ []) before w ws m xs ys tree fits are next kinds last past reads colons bad =
+    past_one front g m xs ys before tree w ws (torn_of w)
+    (record { fits = fits; are = are; done = next.0; reads = reads; steady = last_any front (Folds g (m ∷ xs) (m ∷ ys)) (λ k. refl) })
+    (refuses front g (m ∷ xs) before w ws next.0 next.1 kinds last) refl past
+refuted front (g ∷ h ∷ []) before w ws m xs ys tree fits are next kinds last past reads colons bad =
+    past_two front g h m xs ys before tree w ws
+    (record { fits = fits; are = are; done = next.0; reads = reads; steady = last_any front (Folds g (h ∷ m ∷ xs) (h ∷ m ∷ ys)) (λ k. refl) })
+    (refuses front g (h ∷ m ∷ xs) before w ws next.0 next.1 kinds last)
+refuted front (g ∷ h ∷ i ∷ gone) before w ws m xs ys tree fits are next kinds last past reads colons bad =
+    omega (arith, few before (torn_of w) (begins (symbol symbols.Slash) ws) (length (g ∷ h ∷ i ∷ gone)) past)
