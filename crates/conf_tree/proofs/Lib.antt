@@ -1,4 +1,5 @@
 pub mod BgpSteps
+pub mod ByTokens
 pub mod ChannelSteps
 pub mod ConfigSteps
 pub mod ConfigTold
@@ -11,6 +12,7 @@ pub mod KindTrees
 pub mod Known
 pub mod LastWord
 pub mod LiteralSteps
+pub mod Marks
 pub mod OneOf
 pub mod OptionSteps
 pub mod PlaceSteps
