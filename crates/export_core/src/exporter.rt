@@ -248,7 +248,8 @@ impl<J: Judge> Exporter<J> {
         ensures refused { OnErr result
             ((self.new ≡ self.old) × (O.told outlet.new ≡ O.told outlet.old)) }
         ensures cause { IfErr result (λ fault. fault ≢ PushFault.Memory
-            → O.refusals outlet.old < O.refusals outlet.new) }
+            → (O.refusals outlet.old < O.refusals outlet.new)
+            × (O.fault outlet.new ≡ Some fault)) }
     {
         let net = sending.net();
         let number = sending.number(&self.log);
@@ -270,7 +271,8 @@ impl<J: Judge> Exporter<J> {
         ensures refused { OnErr result
             ((self.new ≡ self.old) × (O.told outlet.new ≡ O.told outlet.old)) }
         ensures cause { IfErr result (λ fault. fault ≢ PushFault.Memory
-            → O.refusals outlet.old < O.refusals outlet.new) }
+            → (O.refusals outlet.old < O.refusals outlet.new)
+            × (O.fault outlet.new ≡ Some fault)) }
         ensures up { OnOk result (is_open self.new.log ≡ true) }
         ensures stands { OnOk result ((c : Course)
             → StandsFor J.verdict c self.old → StandsFor J.verdict c self.new) }

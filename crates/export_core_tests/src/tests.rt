@@ -1,22 +1,31 @@
+ghost use Rattle.std.specs.Prelude.{◌≡◌};
+ghost use Rattle.bits_ip.specs.declared.address.Family.TheVariants.{V4};
+
 use crate::{All, Step, net, play, route};
 use attrs::Route;
 use bits_ip::Family;
-use export_core::{ExportSpec, Exporter, LogItem, Through};
+use export_core::{ExportSpec, Exporter, FeedState, Key, LogItem, Sending, Through};
 use std::alloc::Global;
+use std::process::Abort;
 use std::test::Fail;
 
-/// What stands for a channel of source 2 that is sent all.
-const SPEC: ExportSpec = ExportSpec {
-    family: Family::V4,
-    own: 2,
-    to_ebgp: true,
-    interpret: true,
-};
+/// What stands for the channel of a neighbour in another autonomous system.
+fn spec_of(own: u32) -> ExportSpec
+    ensures { result.family ≡ V4 }
+{
+    ExportSpec {
+        family: Family::V4,
+        own,
+        to_ebgp: true,
+        interpret: true,
+    }
+}
 
-/// An item of a log: whether it is a value sent again, its position and its MED.
+/// An item of a log: a value by its position and its MED.
 #[derive(Clone, Copy, Debug, PartialEq, Eq)]
 enum Line {
-    Up,
+    Up(u64),
+    Down,
     Reload,
     Sent(u64, u32),
     Again(u64, u32),
@@ -24,22 +33,37 @@ enum Line {
     Other,
 }
 
+fn is_key(key: &Key) -> bool {
+    match net() {
+        Some(net) => key.net == net && key.num == 0,
+        None => false,
+    }
+}
+
+fn sent_line(sending: &Sending) -> Line {
+    let Some(value) = sending.value.as_ref() else {
+        return Line::Gone(sending.at);
+    };
+    let Some(med) = value.med else {
+        return Line::Other;
+    };
+    if sending.again {
+        Line::Again(sending.at, med)
+    } else {
+        Line::Sent(sending.at, med)
+    }
+}
+
 fn line_of(item: &LogItem) -> Line {
     match item {
-        LogItem::Up(_) => Line::Up,
-        LogItem::Down => Line::Other,
+        LogItem::Up(at) => Line::Up(*at),
+        LogItem::Down => Line::Down,
         LogItem::Reload => Line::Reload,
         LogItem::Sent(sending) => {
-            let Some(value) = sending.value.as_ref() else {
-                return Line::Gone(sending.at);
-            };
-            let Some(med) = value.med else {
-                return Line::Other;
-            };
-            if sending.again {
-                Line::Again(sending.at, med)
+            if is_key(&sending.key) {
+                sent_line(sending)
             } else {
-                Line::Sent(sending.at, med)
+                Line::Other
             }
         }
     }
@@ -53,11 +77,18 @@ fn lines(alloc: Global, items: &[LogItem]) -> Result<Vec<Line>, Fail> {
     Ok(lines)
 }
 
-/// The log of the channel after these steps.
-fn log_of(alloc: Global, steps: &[Step]) -> Result<Vec<Line>, Fail> {
-    let mut exporter = Exporter::make(alloc, SPEC, All);
+/// The channel of this protocol has this log after these steps.
+fn assert_log(
+    rt: &impl Abort,
+    alloc: Global,
+    own: u32,
+    steps: &[Step],
+    want: &[Line],
+) -> Result<(), Fail> {
+    let mut exporter = Exporter::make(alloc, spec_of(own), All);
     let _at = play(alloc, &mut exporter, steps)?;
-    lines(alloc, exporter.items())
+    assert_eq!(rt; lines(alloc, exporter.items())?.as_slice(), want);
+    Ok(())
 }
 
 const ONE: Option<(u32, u32)> = Some((1, 1));
@@ -66,8 +97,8 @@ const TWO: Option<(u32, u32)> = Some((1, 2));
 
 const THREE: Option<(u32, u32)> = Some((1, 3));
 
-/// A route of the channel's own protocol.
-const OWN: Option<(u32, u32)> = Some((2, 9));
+/// A route of the second neighbour.
+const SECOND: Option<(u32, u32)> = Some((2, 9));
 
 #[test]
 fn entries_of_one_net_are_sent_as_one(rt: HostRuntime) -> Result<(), Fail> {
@@ -77,9 +108,8 @@ fn entries_of_one_net_are_sent_as_one(rt: HostRuntime) -> Result<(), Fail> {
         Step::Take(THREE),
         Step::Push,
     ];
-    let want = [Line::Up, Line::Sent(3, 3)];
-    assert_eq!(rt; log_of(rt.alloc(), &steps)?.as_slice(), want.as_slice());
-    Ok(())
+    let want = [Line::Up(0), Line::Sent(3, 3)];
+    assert_log(&rt, rt.alloc(), 2, &steps, &want)
 }
 
 #[test]
@@ -92,45 +122,53 @@ fn a_mark_is_sent_as_it_stood(rt: HostRuntime) -> Result<(), Fail> {
         Step::Push,
         Step::Push,
     ];
-    let want = [Line::Up, Line::Sent(1, 1), Line::Sent(3, 3)];
-    assert_eq!(rt; log_of(rt.alloc(), &steps)?.as_slice(), want.as_slice());
-    Ok(())
+    let want = [Line::Up(0), Line::Sent(1, 1), Line::Sent(3, 3)];
+    assert_log(&rt, rt.alloc(), 2, &steps, &want)
+}
+
+/// The second neighbour's route is the better one while it stands.
+const COMES_AND_GOES: [Step; 6] = [
+    Step::Take(ONE),
+    Step::Push,
+    Step::Take(SECOND),
+    Step::Push,
+    Step::Take(ONE),
+    Step::Push,
+];
+
+#[test]
+fn the_best_moves_between_neighbours(rt: HostRuntime) -> Result<(), Fail> {
+    let want = [
+        Line::Up(0),
+        Line::Sent(1, 1),
+        Line::Sent(2, 9),
+        Line::Sent(3, 1),
+    ];
+    assert_log(&rt, rt.alloc(), 3, &COMES_AND_GOES, &want)
 }
 
 #[test]
 fn an_own_route_withdraws(rt: HostRuntime) -> Result<(), Fail> {
-    let steps = [
-        Step::Take(ONE),
-        Step::Push,
-        Step::Take(OWN),
-        Step::Push,
-        Step::Take(ONE),
-        Step::Push,
-    ];
-    let want = [Line::Up, Line::Sent(1, 1), Line::Gone(2), Line::Sent(3, 1)];
-    assert_eq!(rt; log_of(rt.alloc(), &steps)?.as_slice(), want.as_slice());
-    Ok(())
-}
-
-#[test]
-fn the_best_moves_between_sources(rt: HostRuntime) -> Result<(), Fail> {
-    let other = Some((3, 2));
-    let steps = [
-        Step::Take(ONE),
-        Step::Push,
-        Step::Take(other),
-        Step::Push,
-        Step::Take(ONE),
-        Step::Push,
-    ];
     let want = [
-        Line::Up,
+        Line::Up(0),
         Line::Sent(1, 1),
-        Line::Sent(2, 2),
+        Line::Gone(2),
         Line::Sent(3, 1),
     ];
-    assert_eq!(rt; log_of(rt.alloc(), &steps)?.as_slice(), want.as_slice());
-    Ok(())
+    assert_log(&rt, rt.alloc(), 2, &COMES_AND_GOES, &want)
+}
+
+/// The same where all entries are taken before the first push.
+#[test]
+fn the_last_best_route_alone_is_sent_and_never_the_own(rt: HostRuntime) -> Result<(), Fail> {
+    let steps = [
+        Step::Take(ONE),
+        Step::Take(SECOND),
+        Step::Take(ONE),
+        Step::Push,
+    ];
+    assert_log(&rt, rt.alloc(), 2, &steps, &[Line::Up(0), Line::Sent(3, 1)])?;
+    assert_log(&rt, rt.alloc(), 1, &steps, &[Line::Up(0)])
 }
 
 #[test]
@@ -141,17 +179,20 @@ fn equal_attributes_are_not_sent(rt: HostRuntime) -> Result<(), Fail> {
         Step::Take(Some((3, 1))),
         Step::Push,
     ];
-    let want = [Line::Up, Line::Sent(1, 1)];
-    assert_eq!(rt; log_of(rt.alloc(), &steps)?.as_slice(), want.as_slice());
-    Ok(())
+    let want = [Line::Up(0), Line::Sent(1, 1)];
+    assert_log(&rt, rt.alloc(), 2, &steps, &want)
 }
 
 #[test]
 fn a_refresh_sends_again(rt: HostRuntime) -> Result<(), Fail> {
     let steps = [Step::Take(ONE), Step::Push, Step::Reload(ONE), Step::Push];
-    let want = [Line::Up, Line::Sent(1, 1), Line::Reload, Line::Again(1, 1)];
-    assert_eq!(rt; log_of(rt.alloc(), &steps)?.as_slice(), want.as_slice());
-    Ok(())
+    let want = [
+        Line::Up(0),
+        Line::Sent(1, 1),
+        Line::Reload,
+        Line::Again(1, 1),
+    ];
+    assert_log(&rt, rt.alloc(), 2, &steps, &want)
 }
 
 #[test]
@@ -163,21 +204,61 @@ fn a_due_mark_stays_due(rt: HostRuntime) -> Result<(), Fail> {
         Step::Take(ONE),
         Step::Push,
     ];
-    let want = [Line::Up, Line::Sent(1, 1), Line::Reload, Line::Again(2, 1)];
-    assert_eq!(rt; log_of(rt.alloc(), &steps)?.as_slice(), want.as_slice());
-    Ok(())
+    let want = [
+        Line::Up(0),
+        Line::Sent(1, 1),
+        Line::Reload,
+        Line::Again(2, 1),
+    ];
+    assert_log(&rt, rt.alloc(), 2, &steps, &want)
+}
+
+#[test]
+fn a_refresh_makes_a_mark_due(rt: HostRuntime) -> Result<(), Fail> {
+    let steps = [
+        Step::Take(ONE),
+        Step::Push,
+        Step::Take(TWO),
+        Step::Take(ONE),
+        Step::Reload(ONE),
+        Step::Push,
+    ];
+    let want = [
+        Line::Up(0),
+        Line::Sent(1, 1),
+        Line::Reload,
+        Line::Again(3, 1),
+    ];
+    assert_log(&rt, rt.alloc(), 2, &steps, &want)
 }
 
 #[test]
 fn a_settled_channel_has_the_present_value(rt: HostRuntime) -> Result<(), Fail> {
     let alloc = rt.alloc();
-    let mut exporter = Exporter::make(alloc, SPEC, All);
+    let mut exporter = Exporter::make(alloc, spec_of(2), All);
     let steps = [Step::Take(ONE), Step::Take(TWO), Step::Push];
-    assert_eq!(rt; play(alloc, &mut exporter, &steps)?, 2);
+    let at = play(alloc, &mut exporter, &steps)?;
+    assert_eq!(rt; at, 2);
     assert!(rt; exporter.is_settled(2));
     assert!(rt; !exporter.is_settled(3));
-    let standing = exporter.standing()?;
-    assert_eq!(rt; standing.len(), 1);
+    assert_eq!(rt; exporter.standing()?.len(), 1);
+    exporter.refresh()?;
+    assert!(rt; exporter.feed_from() == FeedState::From(None));
+    assert!(rt; !exporter.is_settled(2));
+    Ok(())
+}
+
+#[test]
+fn a_channel_that_goes_down_forgets_what_it_sent(rt: HostRuntime) -> Result<(), Fail> {
+    let alloc = rt.alloc();
+    let mut exporter = Exporter::make(alloc, spec_of(2), All);
+    let _at = play(alloc, &mut exporter, &[Step::Take(ONE), Step::Push])?;
+    exporter.down()?;
+    let want = [Line::Up(0), Line::Sent(1, 1), Line::Down];
+    assert_eq!(rt; lines(alloc, exporter.items())?.as_slice(), want.as_slice());
+    assert!(rt; exporter.standing()?.is_empty());
+    assert!(rt; exporter.feed_from() == FeedState::Done);
+    assert!(rt; !exporter.is_settled(1));
     Ok(())
 }
 
@@ -200,7 +281,7 @@ fn sends(through: &Through<All>, route: &Route) -> bool {
 #[test]
 fn the_gate_keeps_what_is_not_for_outside(rt: HostRuntime) -> Result<(), Fail> {
     let alloc = rt.alloc();
-    let through = Through::make(SPEC, All);
+    let through = Through::make(spec_of(2), All);
     assert!(rt; sends(&through, &route(alloc, 1, 1)));
     assert!(rt; !sends(&through, &route(alloc, 2, 1)));
     assert!(rt; !sends(&through, &with_community(alloc, 65281)?));
