@@ -137,6 +137,10 @@ alike (Shut w) (Unless p f) vs h e =
     record { tree = Shut v.0; fits = ap p (sym v.2) ∙ h; reads = sym v.1; on = λ k. refl; inside = λ k. refl }
 alike _ _ vs h e = absurd h
 
+-- a tree of other words of the same kinds
+pub same_words : (t : Tree) (f : Form) (vs : List Word) → Fits rule t f → kinds_of (yield t) ≡ kinds_of vs → (u : Tree) × Fits rule u f × (yield u ≡ vs)
+same_words t f vs h e = let x = alike t f vs h e in (x.tree, x.fits, x.reads)
+
 -- what is begun by words is begun by others of the same kinds
 pub begun_alike : (f : Form) (xs ys : List Word) → kinds_of xs ≡ kinds_of ys → IsBegun rule f xs → IsBegun rule f ys
 begun_alike f xs ys e b =

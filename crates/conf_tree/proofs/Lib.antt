@@ -27,5 +27,6 @@ pub mod SlashTrees
 pub mod TextRefusals
 pub mod TextsOnce
 pub mod TokenBytes
+pub mod TokenLaw
 pub mod TransportSteps
 pub mod Whole
