@@ -104,17 +104,17 @@ symbol_kind : (i : ℕ) (s : Symbol) (b : Bool) → is_placed s ≡ b → kind_o
 symbol_kind i s true is = rw (is, is) refl
 symbol_kind i s false is = rw (is, is) refl
 
-spelled_is : (i : ℕ) (t : Token) (o : Option Symbol) → kind_of (spelled_word i t o) ≡ spelled_kind o
-spelled_is i t None = refl
-spelled_is i t (Some s) = symbol_kind i s (is_placed s) refl
+spelled_is : (t : Token) (o : Option Symbol) → kind_of (spelled_word t o) ≡ spelled_kind o
+spelled_is t None = refl
+spelled_is t (Some s) = symbol_kind t.at s (is_placed s) refl
 
-alone_is : (text : List ℕ) (i : ℕ) (t : Token) (k : TokenKind) → kind_of (kind_word text i t k) ≡ alone (slice_of text t) k
-alone_is text i t sorts.Quoted = refl
-alone_is text i t sorts.Text = refl
-alone_is text i t (sorts.Number n) = refl
-alone_is text i t (sorts.Ip addr) = refl
-alone_is text i t sorts.Name = spelled_is i t (symbol_of (slice_of text t))
-alone_is text i t sorts.Sign = spelled_is i t (symbol_of (slice_of text t))
+alone_is : (text : List ℕ) (t : Token) (k : TokenKind) → kind_of (kind_word text t k) ≡ alone (slice_of text t) k
+alone_is text t sorts.Quoted = refl
+alone_is text t sorts.Text = refl
+alone_is text t (sorts.Number n) = refl
+alone_is text t (sorts.Ip addr) = refl
+alone_is text t sorts.Name = spelled_is t (symbol_of (slice_of text t))
+alone_is text t sorts.Sign = spelled_is t (symbol_of (slice_of text t))
 
 prefix_is : (i : ℕ) (addr : Addr) (n : ℕ) (b : Bool) → is_prefix addr n ≡ b → kind_of (prefix_word i addr n) ≡ prefix_kind addr n
 prefix_is i addr n true is = rw is refl
@@ -158,14 +158,14 @@ no_colon false = refl
 single_is : (m : Mark) (ms : List Mark) (x : Word × ℕ) → ms ≡ [] → Link x (alone m.0 m.1, 1) → Link x (first_kind m ms)
 single_is m ms x none l = rw (none, no_colon (is_else (sym_of m)), no_second m.1 false) l
 
-first_is : (text : List ℕ) (i : ℕ) (t : Token) (ts : List Token) → Link (first_word text i t ts) (first_kind (mark text t) (marks text ts))
-first_is text i t [] = single_is (mark text t) [] (word_of text i t, 1) refl (alone_is text i t t.kind, refl)
-first_is text i t (u ∷ []) =
+first_is : (text : List ℕ) (t : Token) (ts : List Token) → Link (first_word text t ts) (first_kind (mark text t) (marks text ts))
+first_is text t [] = single_is (mark text t) [] (word_of text t, 1) refl (alone_is text t t.kind, refl)
+first_is text t (u ∷ []) =
     link_if (is_else (token_symbol text t) && is_colon (token_symbol text u)) _ _ _ _ (refl, refl)
-    (rw (no_second t.kind (is_slash (token_symbol text u))) (alone_is text i t t.kind, refl))
-first_is text i t (u ∷ v ∷ ts) =
+    (rw (no_second t.kind (is_slash (token_symbol text u))) (alone_is text t t.kind, refl))
+first_is text t (u ∷ v ∷ ts) =
     link_if (is_else (token_symbol text t) && is_colon (token_symbol text u)) _ _ _ _ (refl, refl)
-    (folded_is i t.kind (is_slash (token_symbol text u)) v.kind (word_of text i t) (alone (slice_of text t) t.kind) (alone_is text i t t.kind))
+    (folded_is t.at t.kind (is_slash (token_symbol text u)) v.kind (word_of text t) (alone (slice_of text t) t.kind) (alone_is text t t.kind))
 
 -- ---- what is said, by kinds
 
@@ -221,12 +221,12 @@ pub heard_is : (text : List ℕ) (r : Region) (i skip : ℕ) (ts : List Token) �
 heard_is text r i skip [] = refl
 heard_is text r i (suc skip) (t ∷ ts) = heard_is text r (i + 1) skip ts
 heard_is text r i zero (t ∷ ts) =
-    let l = first_is text i t ts in
-    let w = (first_word text i t ts).0 in
+    let l = first_is text t ts in
+    let w = (first_word text t ts).0 in
     let k = first_kind (mark text t) (marks text ts) in
-    let tail : said_kinds (said (behind r w) (words_from text (i + 1) ((first_word text i t ts).1 - 1) ts)) ≡ heard (behind_kind r k.0) (k.1 - 1) (marks text ts) =
-    heard_is text (behind r w) (i + 1) ((first_word text i t ts).1 - 1) ts
-    ∙ ap (λ (q : Region). heard q ((first_word text i t ts).1 - 1) (marks text ts)) (behind_is r w ∙ ap (behind_kind r) l.0)
+    let tail : said_kinds (said (behind r w) (words_from text (i + 1) ((first_word text t ts).1 - 1) ts)) ≡ heard (behind_kind r k.0) (k.1 - 1) (marks text ts) =
+    heard_is text (behind r w) (i + 1) ((first_word text t ts).1 - 1) ts
+    ∙ ap (λ (q : Region). heard q ((first_word text t ts).1 - 1) (marks text ts)) (behind_is r w ∙ ap (behind_kind r) l.0)
     ∙ ap (λ (n : ℕ). heard (behind_kind r k.0) (n - 1) (marks text ts)) l.1 in
     heard_one (says r w) (says_kind r k.0) (i, w) _ k.0 _ (says_is r w ∙ ap (says_kind r) l.0) l.0 tail
 
@@ -300,21 +300,21 @@ at_none : (r : Region) (skip i end place : ℕ) → end ≡ i + 0 → place ≤ 
 at_none r skip i end zero is low = record { front = []; rest = []; cut = refl; at = is; count = refl; next = tt }
 at_none r skip i end (suc place) is low = absurd (omega (arith, low))
 
-at_word : (text : List ℕ) (r : Region) (i : ℕ) (t : Token) (ts : List Token) (end place : ℕ) (ps : List (ℕ × Word)) (b : Bool) → says r (first_word text i t ts).0 ≡ b
-    → ((n : ℕ) → n ≤ length ps → At (behind r (first_word text i t ts).0) ((first_word text i t ts).1 - 1) (i + 1) (marks text ts) n (slice_index_or (starts_of ps) n end))
-    → place ≤ length (cond b ((i, (first_word text i t ts).0) ∷ ps) ps)
-    → At r zero i (marks text (t ∷ ts)) place (slice_index_or (starts_of (cond b ((i, (first_word text i t ts).0) ∷ ps) ps)) place end)
+at_word : (text : List ℕ) (r : Region) (i : ℕ) (t : Token) (ts : List Token) (end place : ℕ) (ps : List (ℕ × Word)) (b : Bool) → says r (first_word text t ts).0 ≡ b
+    → ((n : ℕ) → n ≤ length ps → At (behind r (first_word text t ts).0) ((first_word text t ts).1 - 1) (i + 1) (marks text ts) n (slice_index_or (starts_of ps) n end))
+    → place ≤ length (cond b ((i, (first_word text t ts).0) ∷ ps) ps)
+    → At r zero i (marks text (t ∷ ts)) place (slice_index_or (starts_of (cond b ((i, (first_word text t ts).0) ∷ ps) ps)) place end)
 at_word text r i t ts end zero ps true says more low =
-    let l = first_is text i t ts in
-    record { front = []; rest = marks text (t ∷ ts); cut = refl; at = omega arith; count = refl; next = (refl, ap (says_kind r) (sym l.0) ∙ sym (says_is r (first_word text i t ts).0) ∙ says) }
+    let l = first_is text t ts in
+    record { front = []; rest = marks text (t ∷ ts); cut = refl; at = omega arith; count = refl; next = (refl, ap (says_kind r) (sym l.0) ∙ sym (says_is r (first_word text t ts).0) ∙ says) }
 at_word text r i t ts end (suc place) ps true says more low =
-    let l = first_is text i t ts in
-    let w = (first_word text i t ts).0 in
-    at_more r i (mark text t) (marks text ts) (behind r w) (first_word text i t ts).1 place _ (behind_is r w ∙ ap (behind_kind r) l.0) l.1 true (ap (says_kind r) (sym l.0) ∙ sym (says_is r w) ∙ says) (more place (omega (arith, low)))
+    let l = first_is text t ts in
+    let w = (first_word text t ts).0 in
+    at_more r i (mark text t) (marks text ts) (behind r w) (first_word text t ts).1 place _ (behind_is r w ∙ ap (behind_kind r) l.0) l.1 true (ap (says_kind r) (sym l.0) ∙ sym (says_is r w) ∙ says) (more place (omega (arith, low)))
 at_word text r i t ts end place ps false says more low =
-    let l = first_is text i t ts in
-    let w = (first_word text i t ts).0 in
-    at_more r i (mark text t) (marks text ts) (behind r w) (first_word text i t ts).1 place _ (behind_is r w ∙ ap (behind_kind r) l.0) l.1 false (ap (says_kind r) (sym l.0) ∙ sym (says_is r w) ∙ says) (more place low)
+    let l = first_is text t ts in
+    let w = (first_word text t ts).0 in
+    at_more r i (mark text t) (marks text ts) (behind r w) (first_word text t ts).1 place _ (behind_is r w ∙ ap (behind_kind r) l.0) l.1 false (ap (says_kind r) (sym l.0) ∙ sym (says_is r w) ∙ says) (more place low)
 
 pub place_at : (text : List ℕ) (r : Region) (i skip : ℕ) (ts : List Token) (end place : ℕ) → end ≡ i + length ts → place ≤ length (said r (words_from text i skip ts)) → At r skip i (marks text ts) place (slice_index_or (starts_of (said r (words_from text i skip ts))) place end)
 place_at text r i skip [] end place is low = at_none r skip i end place is low
@@ -322,6 +322,6 @@ place_at text r i (suc skip) (t ∷ ts) end place is low =
     let a = place_at text r (i + 1) skip ts end place (omega (arith, is)) low in
     record { front = mark text t ∷ a.front; rest = a.rest; cut = ap (λ (l : List Mark). mark text t ∷ l) a.cut; at = omega (arith, a.at); count = a.count; next = a.next }
 place_at text r i zero (t ∷ ts) end place is low =
-    at_word text r i t ts end place (said (behind r (first_word text i t ts).0) (words_from text (i + 1) ((first_word text i t ts).1 - 1) ts)) (says r (first_word text i t ts).0) refl
-    (λ n few. place_at text (behind r (first_word text i t ts).0) (i + 1) ((first_word text i t ts).1 - 1) ts end n (omega (arith, is)) few)
+    at_word text r i t ts end place (said (behind r (first_word text t ts).0) (words_from text (i + 1) ((first_word text t ts).1 - 1) ts)) (says r (first_word text t ts).0) refl
+    (λ n few. place_at text (behind r (first_word text t ts).0) (i + 1) ((first_word text t ts).1 - 1) ts end n (omega (arith, is)) few)
     low

@@ -128,8 +128,8 @@ pub below_words : (text : List ℕ) (end i skip : ℕ) (ts : List Token) → i +
 below_words text end i skip [] low place = below_none end place
 below_words text end i (suc skip) (t ∷ ts) low place = below_words text end (i + 1) skip ts (omega (arith, low)) place
 below_words text end i zero (t ∷ ts) low place =
-    below_more end i (map (λ word. word.0) (words_from text (i + 1) ((first_word text i t ts).1 - 1) ts)) (omega (arith, low))
-    (below_words text end (i + 1) ((first_word text i t ts).1 - 1) ts (omega (arith, low))) place
+    below_more end i (map (λ word. word.0) (words_from text (i + 1) ((first_word text t ts).1 - 1) ts)) (omega (arith, low))
+    (below_words text end (i + 1) ((first_word text t ts).1 - 1) ts (omega (arith, low))) place
 
 -- ---- a refusal, told by tokens
 
