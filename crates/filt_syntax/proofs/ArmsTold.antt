@@ -26,7 +26,6 @@ use Rattle.filt_syntax.proofs.ExprTold.{vec}
 
 -- ---- labels
 
-
 -- labels and the tree that they are seen as
 pub record Labels (see : List Item → Tree) (t : Tree) : Type 0 where
   pub labels : List Item
@@ -39,7 +38,6 @@ next_item i = Both (symbol_leaf symbols.Comma) (item_tree i)
 items_more : (t : Tree) (is : List Item) (i : Item) → items_after t (is ++ i ∷ []) ≡ More (items_after t is) (next_item i)
 items_more t [] i = refl
 items_more t (j ∷ is) i = items_more (More t (next_item j)) is i
-
 
 next_told : (n : ℕ) (b : Tree) → Small n b → Fits rule b (Seq (One (symbol symbols.Comma)) item) → Seen next_item b
 next_told n b s h =

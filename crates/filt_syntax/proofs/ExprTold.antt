@@ -175,7 +175,7 @@ module _ (n : ℕ) (known : Levels n) where
         | inl o ↦
             let b = sign_part n is_compare sum (λ c. words.Symbol (compare_symbol c)) (λ e. (sight e).sum) compare_is (λ u r f. let x = known.to_sum u r f in (x.value, x.seen)) o.part o.small o.fits in
             told_by (λ u. u.cmp) 5 t (exprs.Compare b.0.0 (boxed a.value) (boxed b.0.1)) _ (sight-Compare b.0.0 (boxed a.value) (boxed b.0.1)) (omega arith)
-                (both_of (sight a.value).sum (First (Both (symbol_leaf (compare_symbol b.0.0)) (sight b.0.1).sum)) p.left p.right a.seen (ap (λ (u : Tree). First u) b.1 ∙ sym o.is) ∙ sym p.is)
+            (both_of (sight a.value).sum (First (Both (symbol_leaf (compare_symbol b.0.0)) (sight b.0.1).sum)) p.left p.right a.seen (ap (λ (u : Tree). First u) b.1 ∙ sym o.is) ∙ sym p.is)
         | inr none ↦ cmp_of t p.left a (both_of p.left (Second Blank) p.left p.right refl (sym none) ∙ sym p.is)
       ]
 
@@ -212,7 +212,7 @@ module _ (n : ℕ) (known : Levels n) where
         let w = placed_word i.word symbols.Not refl i.passes in
         let x = known.to_unary i.part i.small i.fits in
         told_by (λ u. u.unary) 2 t (exprs.Not w.0 (boxed x.value)) _ (sight-Not w.0 (boxed x.value)) (omega arith)
-            (ap (λ (u : Tree). First u) (inside_of (words.Placed w.0 symbols.Not) i.word (sight x.value).unary i.part (sym w.1) x.seen ∙ sym i.is) ∙ sym a.is)
+        (ap (λ (u : Tree). First u) (inside_of (words.Placed w.0 symbols.Not) i.word (sight x.value).unary i.part (sym w.1) x.seen ∙ sym i.is) ∙ sym a.is)
     | inr b ↦ unary_of t b.part (known.to_post b.part b.small b.fits) (sym b.is)
   ]
 
@@ -224,8 +224,7 @@ module _ (n : ℕ) (known : Levels n) where
       let w = one_is rule p.left is_method p.left_fits in
       let m = method_is w.word w.passes in
       let i = between_is n symbols.OpenParenthesis symbols.CloseParenthesis argument_level p.right refl refl (more_room n p.right p.right_small) p.right_fits in
-      let e = known.to_expr i.inner i.small i.fits in
-      (
+      let e = known.to_expr i.inner i.small i.fits in (
         m.0,
         i.at,
         e.0,
@@ -291,7 +290,7 @@ module _ (n : ℕ) (known : Levels n) where
         | inl a ↦
             let r = arguments_told a.part (more_room n a.part a.small) a.fits in
             prim_by t _ (exprs.Call m.0 r.at r.values) (sight-Call m.0 r.at r.values)
-                (ap (λ (v : Tree). Second (First v)) (both_of (name_leaf m.0) (First (in_parentheses r.at (arguments_tree (expr_trees r.values.items)))) p.left p.right (sym m.1) (ap (λ (v : Tree). First v) r.seen ∙ sym a.is) ∙ sym p.is) ∙ sym is)
+            (ap (λ (v : Tree). Second (First v)) (both_of (name_leaf m.0) (First (in_parentheses r.at (arguments_tree (expr_trees r.values.items)))) p.left p.right (sym m.1) (ap (λ (v : Tree). First v) r.seen ∙ sym a.is) ∙ sym p.is) ∙ sym is)
         | inr none ↦ prim_by t _ (exprs.Name m.0) (sight-Name m.0) (ap (λ (v : Tree). Second (First v)) (both_of (name_leaf m.0) (Second Blank) p.left p.right (sym m.1) (sym none) ∙ sym p.is) ∙ sym is)
       ]
 
@@ -307,7 +306,7 @@ module _ (n : ℕ) (known : Levels n) where
             let second = ap (λ (v : Tree). First v) (both_of (symbol_leaf symbols.Comma) (sight b.0).expr q.left q.right (sym (symbol_is rule q.left symbols.Comma refl q.left_fits)) b.1 ∙ sym q.is) ∙ sym o.is in
             let inside = both_of (sight a.0).expr (First (second_part (sight b.0).expr)) p.left p.right a.1 second ∙ sym p.is in
             prim_by t _ (exprs.Pair i.at (boxed a.0) (boxed b.0)) (sight-Pair i.at (boxed a.0) (boxed b.0))
-                (ap (λ (v : Tree). Second (Second (First v))) (ap (λ (v : Tree). in_parentheses i.at v) inside ∙ sym i.is) ∙ sym is)
+            (ap (λ (v : Tree). Second (Second (First v))) (ap (λ (v : Tree). in_parentheses i.at v) inside ∙ sym i.is) ∙ sym is)
         | inr none ↦
             let inside = both_of (sight a.0).expr (Second Blank) p.left p.right a.1 (sym none) ∙ sym p.is in
             prim_by t _ (exprs.Group i.at (boxed a.0)) (sight-Group i.at (boxed a.0)) (ap (λ (v : Tree). Second (Second (First v))) (ap (λ (v : Tree). in_parentheses i.at v) inside ∙ sym i.is) ∙ sym is)

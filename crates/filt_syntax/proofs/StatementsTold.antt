@@ -144,8 +144,7 @@ module _ (n : ℕ) (to_stmt : (t : Tree) → Small n t → Fits rule t stmt → 
           | inl a ↦ let x = changed_told a.part a.small a.fits in (stmts.Change (targets.Name m.0) x.0, tree-Change (targets.Name m.0) x.0 ∙ back (Second (First (changed_tree x.0))) (ap (λ (v : Tree). Second v) (ap (λ (v : Tree). First v) x.1 ∙ flip a.is) ∙ flip b.is))
           | inr c ↦
               let e = ended_is n call c.part (more_room n c.part c.small) c.fits in
-              let r = arguments_told n (levels n) e.left (more_room n e.left e.small) e.fits in
-              (
+              let r = arguments_told n (levels n) e.left (more_room n e.left e.small) e.fits in (
                 stmts.Call m.0 r.at r.values,
                 tree-Call m.0 r.at r.values ∙ back (Second (Second (Both (in_parentheses r.at (arguments_tree (expr_trees r.values.items))) semicolon_leaf)))
                     (ap (λ (v : Tree). Second v) (ap (λ (v : Tree). Second v) (ap (λ (v : Tree). Both v semicolon_leaf) r.seen ∙ flip e.is) ∙ flip c.is) ∙ flip b.is),
@@ -199,8 +198,7 @@ module _ (n : ℕ) (to_stmt : (t : Tree) → Small n t → Fits rule t stmt → 
   unset_told t u is s h =
       let b = behind_sign n sym.Unset (Seq of_attribute semicolon) u refl (more_room n u s) h in
       let e = ended_is n of_attribute b.right (more_room n b.right b.small) b.fits in
-      let a = attribute_told n (levels n) e.left (more_room n e.left e.small) e.fits in
-      (
+      let a = attribute_told n (levels n) e.left (more_room n e.left e.small) e.fits in (
         stmts.Unset a.0 a.1 a.2,
         tree-Unset a.0 a.1 a.2 ∙ ap (λ (w : Tree). Second (nth 4 w)) (ap (λ (w : Tree). Both (symbol_leaf sym.Unset) w) (ap (λ (w : Tree). Both w semicolon_leaf) (flip a.3) ∙ flip e.is) ∙ flip b.is) ∙ flip is,
       )

@@ -188,17 +188,17 @@ module _ (rule : ℕ → Form) (model : ℕ → Tree) (after : ℕ → Kind → 
     beside : (f g : Form) (a b : Tree) → check model after f ≡ true → check model after g ≡ true → (all_of kinds (λ k. not (more after f k && starts g k)) || ((takes tail inside f && ends tail inside g) && all_of kinds (λ k. not (more after f k && starts g k) || tail k))) ≡ true → Fits rule a f → Fits rule b g → (u : Tree) × Fits rule u (Seq f g) × (yield u ≡ yield a ++ yield b)
     beside f g a b ok next one left right = elim (or_cases (all_of kinds (λ k. not (more after f k && starts g k))) ((takes tail inside f && ends tail inside g) && all_of kinds (λ k. not (more after f k && starts g k) || tail k)) one) [
       | inl strict ↦ (
-          Both a b,
-          (
-            left,
-            right,
-            apart (goes_on rule a f) (more after f) (starts g) (yield b)
-                (λ k. goes_more rule model after checked a f k (solid_of rule model after f ok) left)
-                (λ k. not_true _ (all_in (λ j. not (more after f j && starts g j)) k kinds (is_kind k) strict))
-                (front_starts g (yield b) (fits_front rule b g (solid_of rule model after g next) right)),
-          ),
-          refl,
-        )
+        Both a b,
+        (
+          left,
+          right,
+          apart (goes_on rule a f) (more after f) (starts g) (yield b)
+              (λ k. goes_more rule model after checked a f k (solid_of rule model after f ok) left)
+              (λ k. not_true _ (all_in (λ j. not (more after f j && starts g j)) k kinds (is_kind k) strict))
+              (front_starts g (yield b) (fits_front rule b g (solid_of rule model after g next) right)),
+        ),
+        refl,
+      )
       | inr x ↦
           let both = and_true _ _ x in
           let may = and_true _ _ both.0 in
