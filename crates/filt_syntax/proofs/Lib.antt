@@ -12,6 +12,7 @@ pub mod StatementTrees
 pub mod CycleSteps
 pub mod ArmSteps
 pub mod Decided
+pub mod ChainParts
 pub mod SortsOfWords
 pub mod ItemsTold
 pub mod ExprTold

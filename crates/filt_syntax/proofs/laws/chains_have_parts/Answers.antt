@@ -1,0 +1,14 @@
+use Rattle.filt_syntax.proofs.ChainParts.{joint_parts, sum_parts, product_parts, access_parts}
+use Rattle.filt_syntax.proofs.laws.chains_have_parts.Goals as goal
+
+pub returns-clause-joint : goal.returns-clause-joint
+returns-clause-joint c = joint_parts
+
+pub returns-clause-sum : goal.returns-clause-sum
+returns-clause-sum c = sum_parts
+
+pub returns-clause-product : goal.returns-clause-product
+returns-clause-product c = product_parts
+
+pub returns-clause-access : goal.returns-clause-access
+returns-clause-access c = access_parts
