@@ -26,5 +26,6 @@ pub mod TextRefusals
 pub mod TextsOnce
 pub mod TokenBytes
 pub mod TokenLaw
+pub mod TokenPlaces
 pub mod TransportSteps
 pub mod Whole

@@ -52,7 +52,7 @@ fn begins_with_else_sign(words: &[Word]) -> bool
     }
 }
 
-// The same where the first of the words isn't a sign.
+// The same, unless the words begin with the sign of `else` and a colon.
 fn word_bytes<'a>(
     text: &'a [u8],
     tokens: &[Token],
@@ -77,7 +77,7 @@ fn words_from(words: &[Word], place: usize) -> &[Word]
     &words[place..]
 }
 
-// Whether the word in this place, which begins with this token and can't stand there, is known there.
+// Whether the word in this place, which begins with this token and can't stand, is known there.
 fn is_known(
     alloc: Global,
     text: &[u8],
@@ -167,8 +167,8 @@ fn answer(alloc: Global, text: &[u8], tokens: &[Token], said: &Words) -> Result<
 
 /// The configuration of a text (BIRD User's Guide, "Configuration"). `tokens` are those that `lex` gives for the text.
 ///
-/// Places are those of tokens, and the number of the tokens where more of them would be wanted. Refused is the first token
-/// that no configuration can have there.
+/// Places are those of tokens, and the number of the tokens where more of them would be wanted.
+/// Refused is the first token that no configuration can have there.
 pub fn parse_config(alloc: Global, tokens: &[Token], text: &[u8]) -> Result<Config, SyntaxFault>
     requires { Lexes 0 text.now tokens.now }
     ensures tree { IfOk result (λ config. IsSentence (said_words text.now tokens.now) (config_view config)) }
