@@ -28,5 +28,6 @@ pub mod TextRefusals
 pub mod TextsOnce
 pub mod TokenBytes
 pub mod TokenLaw
+pub mod TokenPlaces
 pub mod TransportSteps
 pub mod Whole

@@ -79,8 +79,8 @@ stopped_never said [] s tree fits e = s.unfinished refl tree fits (e ∙ s.front
 stopped_never said (w ∷ ws) s tree fits e =
     s.last (tree, ws, fits, e ∙ s.front ∙ sym (append_assoc s.before (w ∷ []) ws))
 
-pub by_end : (text other : List ℕ) (tokens seen : List Token) → IsRefused text tokens (faults.Bad (length tokens)) → AreAlike text tokens other seen → IsNoSentence other seen
-by_end text other tokens seen h are tree fits e =
+pub by_end : (text other : List ℕ) (tokens seen : List Token) (token : ℕ) → IsRefused text tokens (faults.Bad token) → AreAlike text tokens other seen → IsNoSentence other seen
+by_end text other tokens seen token h are tree fits e =
     let kinds : kinds_of (yield tree) ≡ kinds_of (said_words text tokens) =
       ap kinds_of e ∙ heard_is other regions.Statements 0 0 seen ∙ ap (heard regions.Statements 0) (sym (same_marks text other tokens seen are)) ∙ sym (heard_is text regions.Statements 0 0 tokens) in
     let x = same_words tree config (said_words text tokens) fits kinds in

@@ -94,7 +94,8 @@ first_bytes text (t ∷ ts) = kind_bytes (slice_of text t) t.kind
 
 -- the same where the first of the words isn't a sign: `else` with a colon next is one
 abbrev pub word_bytes : List Word → List ℕ → List Token → Option (List ℕ)
-word_bytes rest text tokens = cond (begins (symbol sym.ElseColon) rest) None (first_bytes text tokens)
+word_bytes rest text tokens =
+    cond (begins (symbol sym.ElseColon) rest) None (first_bytes text tokens)
 
 -- ---- refusals
 
@@ -126,8 +127,8 @@ pub record DeepensAt (text : List ℕ) (tokens : List Token) (place at : ℕ) : 
   pub deep : IsTooDeep rule 64 config (said_words text tokens) (drop place (said_words text tokens))
   pub token : at ≡ token_of text tokens place
 
--- The word in this place of these, which can't stand there and begins with this token, is refused so;
--- whether it is known there.
+-- The word in this place of these, which can't stand there and begins with this token, is refused
+-- so; whether it is known there.
 abbrev pub Refuses : Type 0 → List Word → ℕ → ℕ → SyntaxFault → Type 0
 Refuses known said place start (faults.Bad token) =
     (known → ⊥) × (n : ℕ) × IsPastAt config said place n × (token ≡ start + n)

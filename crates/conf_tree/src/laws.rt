@@ -2,13 +2,13 @@
 ghost use Rattle.std.specs.Prelude.{◌≡◌, ◌≢◌, ◌⊎◌, ℕ, ◌<◌, ◌^◌, true, false, not, ◌||◌};
 ghost use Rattle.std.specs.Prelude.{List, [], ◌∷◌, ◌++◌, length, map};
 ghost use Rattle.std.specs.List.{list_all};
+ghost use Rattle.conf_lex.specs.Lex.{Lexes};
 ghost use Rattle.conf_lex.specs.declared.symbol.Symbol.{Symbol};
 ghost use Rattle.conf_lex.specs.declared.token.Token.{Token};
 ghost use Rattle.conf_lex.specs.declared.word.Word.{Word};
 ghost use Rattle.conf_tree.specs.declared.said.Region.{Region};
 ghost use Rattle.conf_tree.specs.Said.{is, said, IsBalanced};
 ghost use Rattle.conf_tree.specs.Position.{IsPlace};
-ghost use Rattle.conf_tree.specs.Sentence.{IsRefused};
 ghost use Rattle.conf_tree.specs.Alike.{IsAlike, AreAlike, DecideAlike, IsNoSentence};
 ghost use Rattle.conf_tree.specs.Read.{IsConfigText, IsRefusedText};
 ghost use Rattle.conf_tree.specs.declared.kind.ConfKind.{ConfKind};
@@ -23,10 +23,9 @@ use crate::kind::ConfKind;
 use crate::said::Region;
 use conf_lex::laws::{
     each_text_has_tokens_or_a_place, lexed_texts_are_not_refused, texts_are_refused_at_one_place,
-    texts_have_one_list_of_tokens,
+    texts_have_one_list_of_tokens, tokens_are_slices, tokens_rise,
 };
 use conf_lex::{Symbol, Word};
-use filt_syntax::SyntaxFault;
 
 /// What stands between the braces of a device, with a name or without one, says nothing: words in which each brace is
 /// closed are taken out, up to the brace that closes the block.
@@ -173,14 +172,18 @@ pub fn sentences_decide()
 /// refused there though a good one may begin with it.
 pub fn refusals_are_by_tokens()
     ensures token { (text other : List ℕ) (front back seen more : List Token) (t u : Token)
-        → IsRefused text (front ++ t ∷ back) (SyntaxFault.Bad (length front))
+        → Lexes 0 text (front ++ t ∷ back) → IsRefusedText text t.at ConfKind.Syntax
         → AreAlike text front other seen → IsAlike text t other u
         → DecideAlike text t back other u more
         → IsNoSentence other (seen ++ u ∷ more) }
     ensures end { (text other : List ℕ) (tokens seen : List Token)
-        → IsRefused text tokens (SyntaxFault.Bad (length tokens))
+        → Lexes 0 text tokens → IsRefusedText text (length text) ConfKind.Syntax
         → AreAlike text tokens other seen → IsNoSentence other seen }
-{}
+{
+    texts_have_one_list_of_tokens();
+    tokens_are_slices();
+    tokens_rise();
+}
 
 /// Each tree of a configuration is the view of statements. A list in memory has less than 2 ^ 63
 /// items, so a configuration of more words has none.

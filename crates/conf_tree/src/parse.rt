@@ -52,7 +52,7 @@ fn begins_with_else_sign(words: &[Word]) -> bool
     }
 }
 
-// The same where the first of the words isn't a sign.
+// The same, unless the words begin with the sign of `else` and a colon.
 fn word_bytes<'a>(text: &'a [u8], tokens: &[Token], rest: &[Word], at: usize) -> Option<&'a [u8]>
     requires { Lexes 0 text.now tokens.now }
     ensures { MatchOption result (word_bytes rest.now text.now (drop at tokens.now) ≡ None)
@@ -72,7 +72,7 @@ fn words_from(words: &[Word], place: usize) -> &[Word]
     &words[place..]
 }
 
-// Whether the word in this place, which begins with this token and can't stand there, is known there.
+// Whether the word in this place, which begins with this token and can't stand, is known there.
 fn is_known(
     alloc: Global,
     text: &[u8],
@@ -170,11 +170,8 @@ fn answer<'a>(
 ///
 /// Places are those of tokens, and the number of the tokens where more of them would be wanted.
 /// Refused is the first token that no configuration can have there.
-pub fn parse_config<'a>(
-    alloc: Global,
-    tokens: &[Token],
-    text: &'a [u8],
-) -> Result<Config<'a>, SyntaxFault>
+// The same, unless the words begin with the sign of `else` and a colon.
+fn word_bytes<'a>(text: &'a [u8], tokens: &[Token], rest: &[Word], at: usize) -> Option<&'a [u8]>
     requires { Lexes 0 text.now tokens.now }
     ensures text { IfOk result (λ config. config.text.now ≡ text.now) }
     ensures tree { IfOk result (λ config. IsSentence (said_words text.now tokens.now) (config_view config)) }

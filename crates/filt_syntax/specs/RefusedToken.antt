@@ -21,7 +21,7 @@ use Rattle.filt_syntax.specs.declared.refused_token.Torn.TheVariants as torns
 abbrev pub CanFollow : Form → List Word → Word → Type 0
 CanFollow f before word = IsBegun rule f (before ++ word ∷ [])
 
--- 0.0.0.0/0 and 0.0.0.0 stand for each prefix and each address, since a grammar looks at kinds alone
+-- 0.0.0.0/0 and 0.0.0.0 stand for each prefix and each address: a grammar looks at kinds alone
 abbrev pub some_prefix : Word
 some_prefix = words.Prefix 0 (record { addr = V4 0; len = 0 })
 

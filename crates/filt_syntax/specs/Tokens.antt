@@ -46,7 +46,7 @@ abbrev pub IsPastOf : Form → List Word → SyntaxFault → ℕ → Type 0
 IsPastOf f words (faults.Bad place) n = IsPastAt f words place n
 IsPastOf f words _ n = n ≡ 0
 
--- The words are refused so, at the first token of this refused word that no sentence can have there.
+-- The words are refused so, at the first token of the refused word that no sentence can have there.
 pub record IsRefusedIn (f : Form) (text : List ℕ) (tokens : List Token) (from : ℕ)
     (e : SyntaxFault) : Type 0 where
   pub word_fault : SyntaxFault

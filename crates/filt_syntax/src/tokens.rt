@@ -21,8 +21,8 @@ use conf_lex::{Token, Words, words_from};
 use std::alloc::Global;
 
 /// The longest expression from a token on, and the place of the token behind it (BIRD User's Guide, "Filters"). The tokens
-/// are those that `lex` gives for the text; places are theirs, their number where more of them would be wanted. Refused is
-/// the first token that no expression can have there.
+/// are those that `lex` gives for the text; places are theirs, their number where more of them would be wanted.
+/// Refused is the first token that no expression can have there.
 pub fn parse_expr(
     alloc: Global,
     tokens: &[Token],
