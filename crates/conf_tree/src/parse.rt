@@ -170,8 +170,11 @@ fn answer<'a>(
 ///
 /// Places are those of tokens, and the number of the tokens where more of them would be wanted.
 /// Refused is the first token that no configuration can have there.
-// The same, unless the words begin with the sign of `else` and a colon.
-fn word_bytes<'a>(text: &'a [u8], tokens: &[Token], rest: &[Word], at: usize) -> Option<&'a [u8]>
+pub fn parse_config<'a>(
+    alloc: Global,
+    tokens: &[Token],
+    text: &'a [u8],
+) -> Result<Config<'a>, SyntaxFault>
     requires { Lexes 0 text.now tokens.now }
     ensures text { IfOk result (λ config. config.text.now ≡ text.now) }
     ensures tree { IfOk result (λ config. IsSentence (said_words text.now tokens.now) (config_view config)) }
