@@ -130,7 +130,7 @@ all_same policies.All = refl
 all_same policies.None = refl
 all_same (policies.Filter at name) = refl
 all_same (policies.Block at block) = refl
-all_same (policies.Where e) = refl
+all_same (policies.Where at e) = refl
 
 limit_same : (l : Limit) → tree_is_limit (limit_tree l) ≡ is_limit l
 limit_same limits.Off = refl
