@@ -1,29 +1,26 @@
 -- What a refusal says of the texts that begin with the same tokens.
-use Rattle.std.proofs.Common.{◌≡◌, ℕ, zero, suc, ◌+◌, ◌-◌, ◌≤◌, Bool, true, false, cond, List, [], ◌∷◌, ◌++◌, length, map, take, drop, slice_index_or, Option, Some, refl, sym, ap, subst, ◌∙◌, arith, append_assoc, append-nil, inl, inr, ◌⊎◌}
+use Rattle.std.proofs.Common.{◌≡◌, ℕ, suc, ◌+◌, ◌-◌, ◌≤◌, true, List, [], ◌∷◌, ◌++◌, length, map, take, drop, Some, refl, sym, ap, subst, ◌∙◌, arith, append_assoc, append-nil, inl, inr}
 use Rattle.std.proofs.lemmas.List.{length-append, length-take, take-append-drop}
-use Rattle.bits_ip.specs.declared.address.Addr.{Addr}
-use Rattle.conf_lex.specs.Symbols.{is_else, is_slash}
-use Rattle.conf_lex.specs.Words.{token_symbol, is_prefix, words_from, words_of}
-use Rattle.conf_lex.specs.declared.symbol.Symbol.TheVariants as symbols
+use Rattle.conf_lex.specs.Symbols.{is_else}
 use Rattle.conf_lex.specs.declared.token.Token.{Token}
 use Rattle.conf_lex.specs.declared.token.TokenKind.{TokenKind}
 use Rattle.conf_lex.specs.declared.token.TokenKind.TheVariants as sorts
 use Rattle.conf_lex.specs.declared.word.Word.{Word}
-use Rattle.grammar.specs.Kind.{Kind, kind_of, symbol}
-use Rattle.grammar.specs.Grammar.{Tree, yield, begins, Fits}
-use Rattle.grammar.specs.Sentences.{IsBegun, IsLast}
+use Rattle.grammar.specs.Kind.{Kind, kind_of}
+use Rattle.grammar.specs.Grammar.{Tree, yield, Fits}
+use Rattle.grammar.specs.Sentences.{IsLast}
 use Rattle.grammar.proofs.Unique.{fronts}
 use Rattle.filt_syntax.specs.Syntax.{rule}
 use Rattle.filt_syntax.specs.declared.parse.SyntaxFault.TheVariants as faults
 use Rattle.filt_syntax.specs.RefusedToken.{IsPastFirst}
 use Rattle.conf_tree.specs.Syntax.{config}
-use Rattle.conf_tree.specs.Said.{said, said_of, said_words, said_starts, token_of}
-use Rattle.conf_tree.specs.Sentence.{IsStop, StopsAt, IsBadAt, IsRefused}
+use Rattle.conf_tree.specs.Said.{said, said_of, said_words}
+use Rattle.conf_tree.specs.Sentence.{IsStop, IsRefused}
 use Rattle.conf_tree.specs.Alike.{IsAlike, AreAlike, colon_next, IsBadPrefix, DecideAlike, IsNoSentence}
 use Rattle.conf_tree.specs.declared.said.Region.{Region}
 use Rattle.conf_tree.specs.declared.said.Region.TheVariants as regions
 use Rattle.conf_tree.proofs.KindTrees.{kinds_of, same_words}
-use Rattle.conf_tree.proofs.Marks.{Mark, mark, marks, marks_both, one_mark, same_marks, sym_of, colon_first, slash_first, sort_first, behind_one, says_kind, behind_kind, first_kind, heard, heard_is, heard_both, front_heard, state, IsNext, At, place_at}
+use Rattle.conf_tree.proofs.Marks.{Mark, mark, marks, marks_both, one_mark, same_marks, sym_of, colon_first, behind_kind, first_kind, heard, heard_is, heard_both, front_heard, state, IsNext, place_at}
 use Rattle.conf_tree.proofs.ByTokens.{IsBad, refuted}
 
 -- ---- lists

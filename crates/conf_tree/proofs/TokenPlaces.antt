@@ -1,5 +1,5 @@
 -- Each token begins at a byte of its own.
-use Rattle.std.proofs.Common.{◌≡◌, ℕ, zero, suc, ◌+◌, ◌<◌, ◌≤◌, List, [], ◌∷◌, ◌++◌, length, map, slice_index_or, refl, sym, ap, subst, ◌∙◌, arith, append_assoc}
+use Rattle.std.proofs.Common.{◌≡◌, ℕ, zero, suc, ◌+◌, ◌≤◌, List, [], ◌∷◌, ◌++◌, length, map, slice_index_or, refl, sym, ap, subst, arith, append_assoc}
 use Rattle.conf_lex.specs.Lex.{Lexes}
 use Rattle.conf_lex.specs.Spans.{IsSpan, IsBetween}
 use Rattle.conf_lex.specs.declared.token.Token.{Token}
