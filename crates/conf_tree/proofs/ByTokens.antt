@@ -283,7 +283,7 @@ follows front p xs ys before tree o v is says =
     let tail = heard (behind_kind q (first_kind p ys).0) ((first_kind p ys).1 - 1) ys in
     begun_kinds tree o.fits (before ++ v ∷ []) tail
     (heard_here front p xs ys before tree o ∙ ap (λ (l : List Kind). kinds_of before ++ l) (heard_first q p ys (ap (says_kind q) is ∙ says) ∙ ap (λ (k : Kind). k ∷ tail) is)
-      ∙ sym (append_assoc (kinds_of before) (kind_of v ∷ []) tail) ∙ ap (λ (l : List Kind). l ++ tail) (sym (kinds_both before (v ∷ []))))
+    ∙ sym (append_assoc (kinds_of before) (kind_of v ∷ []) tail) ∙ ap (λ (l : List Kind). l ++ tail) (sym (kinds_both before (v ∷ []))))
 
 -- an address alone, and the slash behind it
 follows_two : (front : List Mark) (p m : Mark) (xs ys : List Mark) (before : List Word) (tree : Tree) → Other front p xs (m ∷ ys) before tree → first_kind p (m ∷ ys) ≡ (IsAddress, 1) → is_slash (sym_of m) ≡ true → is_open (region front p xs) ≡ true → (v z : Word) → kind_of v ≡ IsAddress → kind_of z ≡ slash_kind → IsBegun rule config (before ++ v ∷ z ∷ [])
@@ -291,17 +291,17 @@ follows_two front p m xs ys before tree o is slashed opened v z v-is z-is =
     let q = region front p xs in
     let r = behind_kind q IsAddress in
     let one : heard q 0 (p ∷ m ∷ ys) ≡ IsAddress ∷ heard (behind_kind q IsAddress) 0 (m ∷ ys) =
-      heard_first q p (m ∷ ys) (ap (λ (j : Kind × ℕ). says_kind q j.0) is ∙ open_says q IsAddress opened)
-      ∙ ap (λ (j : Kind × ℕ). j.0 ∷ heard (behind_kind q j.0) (j.1 - 1) (m ∷ ys)) is in
+    heard_first q p (m ∷ ys) (ap (λ (j : Kind × ℕ). says_kind q j.0) is ∙ open_says q IsAddress opened)
+    ∙ ap (λ (j : Kind × ℕ). j.0 ∷ heard (behind_kind q j.0) (j.1 - 1) (m ∷ ys)) is in
     let slash = slash_first_kind m ys slashed in
     let two : heard (behind_kind q IsAddress) 0 (m ∷ ys) ≡ slash_kind ∷ heard (behind_kind (behind_kind q IsAddress) slash_kind) 0 ys =
-      heard_first r m ys (ap (λ (j : Kind × ℕ). says_kind r j.0) slash ∙ open_says r slash_kind (open_address q opened))
-      ∙ ap (λ (j : Kind × ℕ). j.0 ∷ heard (behind_kind r j.0) (j.1 - 1) ys) slash in
+    heard_first r m ys (ap (λ (j : Kind × ℕ). says_kind r j.0) slash ∙ open_says r slash_kind (open_address q opened))
+    ∙ ap (λ (j : Kind × ℕ). j.0 ∷ heard (behind_kind r j.0) (j.1 - 1) ys) slash in
     let tail = heard (behind_kind (behind_kind q IsAddress) slash_kind) 0 ys in
     let kinds : kinds_of (v ∷ z ∷ []) ≡ IsAddress ∷ slash_kind ∷ [] = rw (v-is, z-is) refl in
     begun_kinds tree o.fits (before ++ v ∷ z ∷ []) tail
     (heard_here front p xs (m ∷ ys) before tree o ∙ ap (λ (l : List Kind). kinds_of before ++ l) (one ∙ ap (λ (l : List Kind). IsAddress ∷ l) two)
-      ∙ sym (append_assoc (kinds_of before) (IsAddress ∷ slash_kind ∷ []) tail) ∙ ap (λ (l : List Kind). l ++ tail) (ap (λ (l : List Kind). kinds_of before ++ l) (sym kinds) ∙ sym (kinds_both before (v ∷ z ∷ []))))
+    ∙ sym (append_assoc (kinds_of before) (IsAddress ∷ slash_kind ∷ []) tail) ∙ ap (λ (l : List Kind). l ++ tail) (ap (λ (l : List Kind). kinds_of before ++ l) (sym kinds) ∙ sym (kinds_both before (v ∷ z ∷ []))))
 
 -- ---- the refused word
 
@@ -471,7 +471,7 @@ prefix_one front p m xs ys before tree w ws o r torn no_prefix =
     net_case front p (m ∷ xs) (m ∷ ys) before tree o free (first_kind p (m ∷ ys)).0 refl (first_is_net p (m ∷ ys) ip)
     (λ e. no_prefix (prefix_stands front p (m ∷ xs) (m ∷ ys) before tree o free e))
     (λ e. no_prefix (prefix_follows before some_address (words.Symbol symbols.Slash ∷ []) refl refl
-      (follows_two front p m (m ∷ xs) ys before tree o (address_alone p (m ∷ ys) ip e) slashed free some_address (words.Symbol symbols.Slash) refl refl)))
+    (follows_two front p m (m ∷ xs) ys before tree o (address_alone p (m ∷ ys) ip e) slashed free some_address (words.Symbol symbols.Slash) refl refl)))
 
 one_no_zero : ◌≡◌ {A = ℕ} 1 0 → ⊥
 one_no_zero e = omega (arith, e)
@@ -501,8 +501,8 @@ address_one front p m xs ys before tree w ws o r torn none =
         let t = behind_kind (region front p (m ∷ xs)) IsAddress in
         let slash = slash_first_kind m xs is in
         let first : heard t 0 (m ∷ xs) ≡ slash_kind ∷ heard (behind_kind t slash_kind) 0 xs =
-          heard_first t m xs (ap (λ (j : Kind × ℕ). says_kind t j.0) slash ∙ open_says t slash_kind (open_address (region front p (m ∷ xs)) free))
-          ∙ ap (λ (j : Kind × ℕ). j.0 ∷ heard (behind_kind t j.0) (j.1 - 1) xs) slash in
+        heard_first t m xs (ap (λ (j : Kind × ℕ). says_kind t j.0) slash ∙ open_says t slash_kind (open_address (region front p (m ∷ xs)) free))
+        ∙ ap (λ (j : Kind × ℕ). j.0 ∷ heard (behind_kind t j.0) (j.1 - 1) xs) slash in
         not_both (begins (symbol symbols.Slash) ws) (begins_kind ws _ (behind ∙ first)) none
 
 -- where the next token is alike too
@@ -761,17 +761,17 @@ slash_zero front p xs ys before tree w ws fits are done reads r kind none e =
     let a = ip_is e.mark.1 e.ip in
     let first = ip_first e.mark (p ∷ xs) a.0 a.1 in
     let behind : state regions.Statements 0 front (p ∷ xs) ≡ state start.0 0 (e.mark ∷ []) (p ∷ xs) =
-      ap (λ (l : List Mark). state regions.Statements 0 l (p ∷ xs)) e.cut ∙ state_both regions.Statements 0 e.front (e.mark ∷ []) (p ∷ xs) ∙ ap (λ (n : ℕ). state start.0 n (e.mark ∷ []) (p ∷ xs)) at in
+    ap (λ (l : List Mark). state regions.Statements 0 l (p ∷ xs)) e.cut ∙ state_both regions.Statements 0 e.front (e.mark ∷ []) (p ∷ xs) ∙ ap (λ (n : ℕ). state start.0 n (e.mark ∷ []) (p ∷ xs)) at in
     let size : made.1 - 1 ≡ 0 = sym (ap (λ (s : Region × ℕ). s.1) behind) ∙ done in
     let one : made ≡ (IsAddress, 1) = first ∙ alone_by_size (folded (sorts.Ip a.0) (slash_first (p ∷ xs)) (sort_first (behind_one (p ∷ xs)))) (ap (λ (k : Kind × ℕ). k.1 - 1) (sym first) ∙ size) in
     let here : region front p xs ≡ behind_kind start.0 IsAddress = ap (λ (s : Region × ℕ). s.0) behind ∙ ap (λ (k : Kind × ℕ). behind_kind start.0 k.0) one in
     let free : is_open (region front p xs) ≡ true = open_of (region front p xs) slash_kind (ap (says_kind (region front p xs)) (sym kind) ∙ r.says) refl refl in
     let before_free : is_open start.0 ≡ true = open_back start.0 (ap is_open (sym here) ∙ free) in
     let heard_one : front_heard start.0 0 (e.mark ∷ []) (p ∷ xs) ≡ IsAddress ∷ [] =
-      ap (λ (k : Kind × ℕ). cond (says_kind start.0 k.0) (k.0 ∷ []) []) one ∙ ap (λ (b : Bool). cond b (IsAddress ∷ []) []) (open_says start.0 IsAddress before_free) in
+    ap (λ (k : Kind × ℕ). cond (says_kind start.0 k.0) (k.0 ∷ []) []) one ∙ ap (λ (b : Bool). cond b (IsAddress ∷ []) []) (open_says start.0 IsAddress before_free) in
     let kinds : kinds_of before ≡ said ++ IsAddress ∷ [] =
-      are ∙ ap (λ (l : List Mark). front_heard regions.Statements 0 l (p ∷ xs)) e.cut ∙ front_both regions.Statements 0 e.front (e.mark ∷ []) (p ∷ xs)
-      ∙ ap (λ (n : ℕ). said ++ front_heard start.0 n (e.mark ∷ []) (p ∷ xs)) at ∙ ap (λ (l : List Kind). said ++ l) heard_one in
+    are ∙ ap (λ (l : List Mark). front_heard regions.Statements 0 l (p ∷ xs)) e.cut ∙ front_both regions.Statements 0 e.front (e.mark ∷ []) (p ∷ xs)
+    ∙ ap (λ (n : ℕ). said ++ front_heard start.0 n (e.mark ∷ []) (p ∷ xs)) at ∙ ap (λ (l : List Kind). said ++ l) heard_one in
     let l = last_kind before said IsAddress kinds in
     let ip = ip_word l.word l.kind in
     let no_prefix : CanFollow config l.front some_prefix → ⊥ = λ can. none (record { front = l.front; at = ip.0; addr = ip.1; cut = l.cut ∙ ap (λ (x : Word). l.front ++ x ∷ []) ip.2; prefix = can }) in
@@ -786,7 +786,7 @@ slash_zero front p xs ys before tree w ws fits are done reads r kind none e =
     net_case e.front e.mark (p ∷ xs) (p ∷ ys) l.front tree o before_free (first_kind e.mark (p ∷ ys)).0 refl (first_is_net e.mark (p ∷ ys) e.ip)
     (λ is. no_prefix (prefix_stands e.front e.mark (p ∷ xs) (p ∷ ys) l.front tree o before_free is))
     (λ is. r.last (subst (λ (u : List Word). IsBegun rule config u) (sym (append_assoc l.front (l.word ∷ []) (w ∷ [])) ∙ ap (λ (u : List Word). u ++ w ∷ []) (sym l.cut))
-      (follows_two e.front e.mark p (p ∷ xs) ys l.front tree o (address_alone e.mark (p ∷ ys) e.ip is) slashed before_free l.word w l.kind kind)))
+    (follows_two e.front e.mark p (p ∷ xs) ys l.front tree o (address_alone e.mark (p ∷ ys) e.ip is) slashed before_free l.word w l.kind kind)))
 
 zero_no_one : ◌≡◌ {A = ℕ} 0 1 → ⊥
 zero_no_one e = omega (arith, e)
@@ -830,7 +830,7 @@ past_zero front p xs ys before tree w ws torns.Other slash fits are done reads r
 refuses : (front : List Mark) (p : Mark) (xs : List Mark) (before : List Word) (w : Word) (ws : List Word) → (state regions.Statements 0 front (p ∷ xs)).1 ≡ 0 → says_kind (region front p xs) (first_kind p xs).0 ≡ true → kinds_of (w ∷ ws) ≡ heard (region front p xs) (state regions.Statements 0 front (p ∷ xs)).1 (p ∷ xs) → (IsBegun rule config (before ++ w ∷ []) → ⊥) → Refuses front p xs before w ws
 refuses front p xs before w ws done says kinds last =
     let all : kind_of w ∷ kinds_of ws ≡ (first_kind p xs).0 ∷ heard (behind_kind (region front p xs) (first_kind p xs).0) ((first_kind p xs).1 - 1) xs =
-      kinds ∙ ap (λ (n : ℕ). heard (region front p xs) n (p ∷ xs)) done ∙ heard_first (region front p xs) p xs says in
+    kinds ∙ ap (λ (n : ℕ). heard (region front p xs) n (p ∷ xs)) done ∙ heard_first (region front p xs) p xs says in
     let head : kind_of w ≡ (first_kind p xs).0 = cc in
     let tail : kinds_of ws ≡ heard (behind_kind (region front p xs) (first_kind p xs).0) ((first_kind p xs).1 - 1) xs = cc in
     record { last = last; kind = sym head; says = ap (says_kind (region front p xs)) head ∙ says; behind = tail }

@@ -79,7 +79,7 @@ stopped_never said (w ∷ ws) s tree fits e =
 pub by_end : (text other : List ℕ) (tokens seen : List Token) (token : ℕ) → IsRefused text tokens (faults.Bad token) → AreAlike text tokens other seen → IsNoSentence other seen
 by_end text other tokens seen token h are tree fits e =
     let kinds : kinds_of (yield tree) ≡ kinds_of (said_words text tokens) =
-      ap kinds_of e ∙ heard_is other regions.Statements 0 0 seen ∙ ap (heard regions.Statements 0) (sym (same_marks text other tokens seen are)) ∙ sym (heard_is text regions.Statements 0 0 tokens) in
+    ap kinds_of e ∙ heard_is other regions.Statements 0 0 seen ∙ ap (heard regions.Statements 0) (sym (same_marks text other tokens seen are)) ∙ sym (heard_is text regions.Statements 0 0 tokens) in
     let x = same_words tree config (said_words text tokens) fits kinds in
     stopped_never (said_words text tokens) (drop h.0 (said_words text tokens)) h.1.stops.stop x.0 x.1 x.2
 
@@ -142,20 +142,20 @@ by_tokens text other front back seen more t u h are is decide tree fits e =
     let size : b.past ≡ length g.gone = omega (arith, start, b.token, len_map (mark text) front, ap (λ (l : List Mark). length l) g.whole, length-append a.front g.gone) in
     let st = state regions.Statements 0 a.front a.rest in
     let all : kinds_of (take h.0 said_all) ++ kinds_of (drop h.0 said_all) ≡ front_heard regions.Statements 0 a.front a.rest ++ heard st.0 st.1 a.rest =
-      sym (kinds_both (take h.0 said_all) (drop h.0 said_all)) ∙ ap kinds_of (take-append-drop h.0 said_all) ∙ heard_is text regions.Statements 0 0 tokens
-      ∙ ap (heard regions.Statements 0) a.cut ∙ heard_both regions.Statements 0 a.front a.rest in
+    sym (kinds_both (take h.0 said_all) (drop h.0 said_all)) ∙ ap kinds_of (take-append-drop h.0 said_all) ∙ heard_is text regions.Statements 0 0 tokens
+    ∙ ap (heard regions.Statements 0) a.cut ∙ heard_both regions.Statements 0 a.front a.rest in
     let two = halves (kinds_of (take h.0 said_all)) (kinds_of (drop h.0 said_all)) (front_heard regions.Statements 0 a.front a.rest) (heard st.0 st.1 a.rest) all
-      (omega (arith, len_map kind_of (take h.0 said_all), length-take h.0 said_all, b.stops.within, a.count)) in
+    (omega (arith, len_map kind_of (take h.0 said_all), length-take h.0 said_all, b.stops.within, a.count)) in
     let s = b.stops.stop in
     let before : s.before ≡ take h.0 said_all = same_front s.before (take h.0 said_all) (drop h.0 said_all) (sym s.front ∙ sym (take-append-drop h.0 said_all)) in
     let last : IsLast rule config (take h.0 said_all) (drop h.0 said_all) = subst (λ (v : List Word). IsLast rule config v (drop h.0 said_all)) before s.last in
     let past : IsPastFirst config (take h.0 said_all) (drop h.0 said_all) (length g.gone) = subst (λ (n : ℕ). IsPastFirst config (take h.0 said_all) (drop h.0 said_all) n) size b.is_past in
     let marked : marks other (seen ++ u ∷ more) ≡ a.front ++ (g.gone ++ m ∷ ys) =
-      marks_both other seen (u ∷ more) ∙ ap (λ (l : List Mark). l ++ mark other u ∷ ys) (sym (same_marks text other front seen are))
-      ∙ ap (λ (k : Mark). marks text front ++ k ∷ ys) (sym (one_mark text other t u is))
-      ∙ ap (λ (l : List Mark). l ++ m ∷ ys) g.whole ∙ append_assoc a.front g.gone (m ∷ ys) in
+    marks_both other seen (u ∷ more) ∙ ap (λ (l : List Mark). l ++ mark other u ∷ ys) (sym (same_marks text other front seen are))
+    ∙ ap (λ (k : Mark). marks text front ++ k ∷ ys) (sym (one_mark text other t u is))
+    ∙ ap (λ (l : List Mark). l ++ m ∷ ys) g.whole ∙ append_assoc a.front g.gone (m ∷ ys) in
     let reads : kinds_of (yield tree) ≡ heard regions.Statements 0 (a.front ++ (g.gone ++ m ∷ ys)) =
-      ap kinds_of e ∙ heard_is other regions.Statements 0 0 (seen ++ u ∷ more) ∙ ap (heard regions.Statements 0) marked in
+    ap kinds_of e ∙ heard_is other regions.Statements 0 0 (seen ++ u ∷ more) ∙ ap (heard regions.Statements 0) marked in
     let colons : is_else (sym_of m) ≡ true → colon_first xs ≡ colon_first ys = λ el. colon_is text back ∙ decide.else_sign el ∙ sym (colon_is other more) in
     let bad : IsBad m xs → IsBad m ys = λ k. subst (λ (n : Mark). IsBad n ys) (sym (one_mark text other t u is)) (is_bad other u more (decide.bad_prefix (bad_is text t back k))) in
     by_words a.front g.gone (take h.0 said_all) (drop h.0 said_all) m xs ys tree fits

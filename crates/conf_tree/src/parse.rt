@@ -53,12 +53,7 @@ fn begins_with_else_sign(words: &[Word]) -> bool
 }
 
 // The same, unless the words begin with the sign of `else` and a colon.
-fn word_bytes<'a>(
-    text: &'a [u8],
-    tokens: &[Token],
-    rest: &[Word],
-    at: usize,
-) -> Option<&'a [u8]>
+fn word_bytes<'a>(text: &'a [u8], tokens: &[Token], rest: &[Word], at: usize) -> Option<&'a [u8]>
     requires { Lexes 0 text.now tokens.now }
     ensures { MatchOption result (word_bytes rest.now text.now (drop at tokens.now) ≡ None)
         (λ word. word_bytes rest.now text.now (drop at tokens.now) ≡ Some word.now) }

@@ -51,9 +51,9 @@ no_address ws at addr f none e = omega (arith, ap (λ (l : List Word). length l)
 
 pub ends_is : (f : Form) (before front : List Word) (at : ℕ) (addr : Addr) (asked : Word) (b : Bool) → before ≡ front ++ words.Ip at addr ∷ [] → asked ≡ some_prefix → IsTrue b ↔ CanFollow f front asked → IsTrue b ↔ EndInAddress f before
 ends_is f before front at addr asked b cut is told = (
-    λ t. record { front = front; at = at; addr = addr; cut = cut; prefix = subst (λ (w : Word). CanFollow f front w) is (told.0 t) },
-    λ e. told.1 (subst (λ (w : Word). CanFollow f front w) (sym is) (subst (λ (u : List Word). CanFollow f u some_prefix) (last_is e.front front (words.Ip e.at e.addr) (words.Ip at addr) (sym e.cut ∙ cut)).0 e.prefix)),
-  )
+  λ t. record { front = front; at = at; addr = addr; cut = cut; prefix = subst (λ (w : Word). CanFollow f front w) is (told.0 t) },
+  λ e. told.1 (subst (λ (w : Word). CanFollow f front w) (sym is) (subst (λ (u : List Word). CanFollow f u some_prefix) (last_is e.front front (words.Ip e.at e.addr) (words.Ip at addr) (sym e.cut ∙ cut)).0 e.prefix)),
+)
 
 pub ends_not : (f : Form) (before : List Word) → ((front : List Word) (at : ℕ) (addr : Addr) → before ≡ front ++ words.Ip at addr ∷ [] → ⊥) → IsTrue false ↔ EndInAddress f before
 ends_not f before none = (λ t. absurd (false≢true t), λ e. absurd (none e.front e.at e.addr e.cut))
@@ -205,9 +205,9 @@ module _ (f : Form) (text : List ℕ) (tokens : List Token) (from : ℕ) (ws : L
   same_case X fault told e h (inl memory) is = memory_any X told memory e
   same_case X fault told e h (inr g) is =
       same_any X told e (same_told fault told h.word_fault e g.0 h.past is g.1
-        (subst (λ (u : List Word). IsPastOf f u h.word_fault h.past) (sym words-are) h.is_past)
-        g.2
-        (h.is ∙ ap (λ (u : List ℕ). moved (slice_index_or u (place_of h.word_fault) (length tokens) + h.past) h.word_fault) (sym starts-are)))
+      (subst (λ (u : List Word). IsPastOf f u h.word_fault h.past) (sym words-are) h.is_past)
+      g.2
+      (h.is ∙ ap (λ (u : List ℕ). moved (slice_index_or u (place_of h.word_fault) (length tokens) + h.past) h.word_fault) (sym starts-are)))
 
   pub told_exact : (X : Type 0) (fault told : SyntaxFault) → ((d : SyntaxFault) → IsRefused f ws 0 d → IsFault {X = X} (Err fault) d) → IsToldAs f ws starts (length tokens) fault told → (e : SyntaxFault) → IsRefusedIn f text tokens from e → IsFault {X = X} (Err told) e
   told_exact X fault told exact is e h = elim (three X fault h.word_fault (exact h.word_fault (same_words h.word_fault h.refused))) [
