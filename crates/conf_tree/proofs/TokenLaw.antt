@@ -12,7 +12,7 @@ use Rattle.grammar.specs.Sentences.{IsLast}
 use Rattle.grammar.proofs.Unique.{fronts}
 use Rattle.filt_syntax.specs.Syntax.{rule}
 use Rattle.filt_syntax.specs.declared.parse.SyntaxFault.TheVariants as faults
-use Rattle.filt_syntax.specs.RefusedToken.{IsPastFirst}
+use Rattle.filt_syntax.specs.RefusedToken.{CanFollow, some_prefix, IsPastFirst}
 use Rattle.conf_tree.specs.Syntax.{config}
 use Rattle.conf_tree.specs.Said.{said, said_of, said_words}
 use Rattle.conf_tree.specs.Sentence.{IsStop, IsRefused}
@@ -121,12 +121,12 @@ by_words : (front gone : List Mark) (before rest : List Word) (m : Mark) (xs ys 
     → kinds_of rest ≡ heard (state regions.Statements 0 front (gone ++ m ∷ xs)).0 (state regions.Statements 0 front (gone ++ m ∷ xs)).1 (gone ++ m ∷ xs)
     → IsLast rule config before rest → IsPastFirst config before rest (length gone)
     → kinds_of (yield tree) ≡ heard regions.Statements 0 (front ++ (gone ++ m ∷ ys))
-    → (is_else (sym_of m) ≡ true → colon_first xs ≡ colon_first ys) → (IsBad m xs → IsBad m ys) → ⊥
+    → (is_else (sym_of m) ≡ true → colon_first xs ≡ colon_first ys) → (length gone ≡ 0 → IsBad m xs → CanFollow config before some_prefix → IsBad m ys) → ⊥
 by_words front gone before [] m xs ys tree fits are next kinds last past reads colons bad = no_gone (state regions.Statements 0 front (gone ++ m ∷ xs)) gone m xs next kinds
 by_words front gone before (w ∷ ws) m xs ys tree fits are next kinds last past reads colons bad =
     refuted front gone before w ws m xs ys tree fits are next kinds last past reads colons bad
 
-pub by_tokens : (text other : List ℕ) (front back seen more : List Token) (t u : Token) → IsRefused text (front ++ t ∷ back) (faults.Bad (length front)) → AreAlike text front other seen → IsAlike text t other u → DecideAlike text t back other u more → IsNoSentence other (seen ++ u ∷ more)
+pub by_tokens : (text other : List ℕ) (front back seen more : List Token) (t u : Token) → IsRefused text (front ++ t ∷ back) (faults.Bad (length front)) → AreAlike text front other seen → IsAlike text t other u → DecideAlike text front t back other u more → IsNoSentence other (seen ++ u ∷ more)
 by_tokens text other front back seen more t u h are is decide tree fits e =
     let tokens = front ++ t ∷ back in
     let b = h.1 in
@@ -157,7 +157,9 @@ by_tokens text other front back seen more t u h are is decide tree fits e =
     let reads : kinds_of (yield tree) ≡ heard regions.Statements 0 (a.front ++ (g.gone ++ m ∷ ys)) =
     ap kinds_of e ∙ heard_is other regions.Statements 0 0 (seen ++ u ∷ more) ∙ ap (heard regions.Statements 0) marked in
     let colons : is_else (sym_of m) ≡ true → colon_first xs ≡ colon_first ys = λ el. colon_is text back ∙ decide.else_sign el ∙ sym (colon_is other more) in
-    let bad : IsBad m xs → IsBad m ys = λ k. subst (λ (n : Mark). IsBad n ys) (sym (one_mark text other t u is)) (is_bad other u more (decide.bad_prefix (bad_is text t back k))) in
+    let bad : length g.gone ≡ 0 → IsBad m xs → CanFollow config (take h.0 said_all) some_prefix → IsBad m ys =
+    λ none k can. subst (λ (n : Mark). IsBad n ys) (sym (one_mark text other t u is))
+    (is_bad other u more (decide.bad_prefix (bad_is text t back k) (h.0, omega (arith, b.token, size, none, b.stops.token), can))) in
     by_words a.front g.gone (take h.0 said_all) (drop h.0 said_all) m xs ys tree fits
     (subst (λ (r : List Mark). kinds_of (take h.0 said_all) ≡ front_heard regions.Statements 0 a.front r) g.rest two.0)
     (subst (λ (r : List Mark). IsNext (state regions.Statements 0 a.front r) r) g.rest a.next)
