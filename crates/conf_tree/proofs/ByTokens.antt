@@ -1,5 +1,5 @@
 -- A refused token is the first that no sentence has there.
-use Rattle.std.proofs.Common.{◌≡◌, ℕ, zero, suc, ◌+◌, ◌-◌, ◌≤◌, Bool, true, false, cond, ◌&&◌, List, [], ◌∷◌, ◌++◌, length, map, take, drop, Option, Some, None, refl, sym, ap, subst, ◌∙◌, arith, append_assoc, append-nil, inl, inr, ◌⊎◌}
+use Rattle.std.proofs.Common.{◌≡◌, ℕ, zero, suc, ◌-◌, ◌≤◌, Bool, true, false, cond, ◌&&◌, List, [], ◌∷◌, ◌++◌, length, Option, Some, None, refl, sym, ap, subst, ◌∙◌, arith, append_assoc, inl, inr, ◌⊎◌}
 use Rattle.std.specs.Prelude.{if◌then◌else◌}
 use Rattle.bits_ip.specs.declared.address.Addr.{Addr}
 use Rattle.conf_lex.specs.Symbols.{symbol_of, is_else, is_colon, is_slash}
@@ -559,11 +559,16 @@ is_bad m ms ip e =
     let t = told_bad a.0 (slash_first ms) (sort_first (behind_one ms)) (ap (λ (k : Kind × ℕ). k.0) (sym (ip_first m ms a.0 a.1)) ∙ e) in
     record { addr = a.0; n = t.0; first = a.1; second = t.1; third = t.2; none = t.3 }
 
-prefix_zero : (front : List Mark) (p : Mark) (xs ys : List Mark) (before : List Word) (tree : Tree) (w : Word) (ws : List Word) → Other front p xs ys before tree → Refuses front p xs before w ws → torn_of w ≡ torns.Prefix → (CanFollow config before some_address × (CanFollow config before some_prefix → ⊥) → ⊥) → (IsBad p xs → IsBad p ys) → ⊥
+prefix_zero : (front : List Mark) (p : Mark) (xs ys : List Mark) (before : List Word) (tree : Tree) (w : Word) (ws : List Word) → Other front p xs ys before tree → Refuses front p xs before w ws → torn_of w ≡ torns.Prefix → (CanFollow config before some_address × (CanFollow config before some_prefix → ⊥) → ⊥) → (IsBad p xs → CanFollow config before some_prefix → IsBad p ys) → ⊥
 prefix_zero front p xs ys before tree w ws o r torn none bad = elim (is_any_prefix w torn) [
   | inr is ↦
       let ip = ip_here p xs w r.kind (ap is_net is) in
-      same_case front p xs ys before tree w ws o r (bad_first p ys (bad (is_bad p xs ip (r.kind ∙ is))) ∙ sym is)
+      let free = opened front p xs before w ws r (ap is_net is) in
+      let no_prefix : CanFollow config before some_prefix → ⊥ =
+      λ can. same_case front p xs ys before tree w ws o r (bad_first p ys (bad (is_bad p xs ip (r.kind ∙ is)) can) ∙ sym is) in
+      net_case front p xs ys before tree o free (first_kind p ys).0 refl (first_is_net p ys ip)
+      (λ e. no_prefix (prefix_stands front p xs ys before tree o free e))
+      (λ e. none (address_stands front p xs ys before tree o free e, no_prefix))
   | inl is ↦
       let ip = ip_here p xs w r.kind (ap is_net is) in
       let free = opened front p xs before w ws r (ap is_net is) in
@@ -799,7 +804,7 @@ no_slash_here : (p : Mark) (xs : List Mark) (w : Word) (b : Bool) → (first_kin
 no_slash_here p xs w true is torn e = absurd (kind_no_slash w torn (sym is ∙ ap (λ (k : Kind × ℕ). k.0) (slash_first_kind p xs e)))
 no_slash_here p xs w false is torn e = refl
 
-past_zero : (front : List Mark) (p : Mark) (xs ys : List Mark) (before : List Word) (tree : Tree) (w : Word) (ws : List Word) (t : Torn) (slash : Bool) → Fits rule tree config → kinds_of before ≡ front_heard regions.Statements 0 front (p ∷ xs) → (state regions.Statements 0 front (p ∷ xs)).1 ≡ 0 → kinds_of (yield tree) ≡ heard regions.Statements 0 (front ++ p ∷ ys) → Refuses front p xs before w ws → torn_of w ≡ t → IsPast config before t slash 0 → (is_else (sym_of p) ≡ true → colon_first xs ≡ colon_first ys) → (IsBad p xs → IsBad p ys) → ⊥
+past_zero : (front : List Mark) (p : Mark) (xs ys : List Mark) (before : List Word) (tree : Tree) (w : Word) (ws : List Word) (t : Torn) (slash : Bool) → Fits rule tree config → kinds_of before ≡ front_heard regions.Statements 0 front (p ∷ xs) → (state regions.Statements 0 front (p ∷ xs)).1 ≡ 0 → kinds_of (yield tree) ≡ heard regions.Statements 0 (front ++ p ∷ ys) → Refuses front p xs before w ws → torn_of w ≡ t → IsPast config before t slash 0 → (is_else (sym_of p) ≡ true → colon_first xs ≡ colon_first ys) → (IsBad p xs → CanFollow config before some_prefix → IsBad p ys) → ⊥
 past_zero front p xs ys before tree w ws torns.Prefix slash fits are done reads r torn (inl h) colons bad = zero_no_one h.1
 past_zero front p xs ys before tree w ws torns.Prefix slash fits are done reads r torn (inr h) colons bad =
     let net : is_net (kind_of w) ≡ true = elim (is_any_prefix w torn) [ inl e ↦ ap is_net e | inr e ↦ ap is_net e ] in
@@ -851,9 +856,9 @@ pub refuted : (front gone : List Mark) (before : List Word) (w : Word) (ws : Lis
     → kinds_of (w ∷ ws) ≡ heard (state regions.Statements 0 front (gone ++ m ∷ xs)).0 (state regions.Statements 0 front (gone ++ m ∷ xs)).1 (gone ++ m ∷ xs)
     → (IsBegun rule config (before ++ w ∷ []) → ⊥) → IsPast config before (torn_of w) (begins (symbol symbols.Slash) ws) (length gone)
     → kinds_of (yield tree) ≡ heard regions.Statements 0 (front ++ (gone ++ m ∷ ys))
-    → (is_else (sym_of m) ≡ true → colon_first xs ≡ colon_first ys) → (IsBad m xs → IsBad m ys) → ⊥
+    → (is_else (sym_of m) ≡ true → colon_first xs ≡ colon_first ys) → (length gone ≡ 0 → IsBad m xs → CanFollow config before some_prefix → IsBad m ys) → ⊥
 refuted front [] before w ws m xs ys tree fits are next kinds last past reads colons bad =
-    past_zero front m xs ys before tree w ws (torn_of w) _ fits are next.0 reads (refuses front m xs before w ws next.0 next.1 kinds last) refl past colons bad
+    past_zero front m xs ys before tree w ws (torn_of w) _ fits are next.0 reads (refuses front m xs before w ws next.0 next.1 kinds last) refl past colons (bad refl)
 refuted front (g ∷ []) before w ws m xs ys tree fits are next kinds last past reads colons bad =
     past_one front g m xs ys before tree w ws (torn_of w)
     (record { fits = fits; are = are; done = next.0; reads = reads; steady = last_any front (Folds g (m ∷ xs) (m ∷ ys)) (λ k. refl) })

@@ -1,22 +1,14 @@
 -- A grammar looks at kinds alone: trees of words of the same kinds, of an address with a slash behind it in whose place
 -- a prefix stands, and of no prefix that is bad.
-use Rattle.std.proofs.Common.{◌≡◌, ℕ, zero, suc, Bool, true, false, ◌&&◌, ◌||◌, List, [], ◌∷◌, ◌++◌, length, map, refl, sym, ap, subst, ◌∙◌, append_assoc, arith, inl, inr, ◌⊎◌}
-use Rattle.std.proofs.lemmas.List.{length-append}
-use Rattle.conf_lex.specs.declared.symbol.Symbol.TheVariants as symbols
+use Rattle.std.proofs.Common.{◌≡◌, ℕ, zero, suc, Bool, true, false, ◌&&◌, ◌||◌, List, [], ◌∷◌, ◌++◌, map, refl, sym, ap, subst, ◌∙◌, append_assoc}
 use Rattle.conf_lex.specs.declared.word.Word.{Word}
-use Rattle.conf_lex.specs.declared.word.Word.TheVariants as words
-use Rattle.grammar.specs.Kind.{Kind, IsAddress, IsPrefix, IsNoPrefix, IsSymbol, kind_of, symbol}
-use Rattle.grammar.specs.Grammar.{Form, One, Empty, Seq, Either, Chain, Nest, Unless, Tree, Leaf, Blank, Both, First, Second, Start, More, Inside, Shut, yield, begins, nullable, starts, is_blank, goes_on, goes_in, Fits}
+use Rattle.grammar.specs.Kind.{Kind, IsNoPrefix, kind_of}
+use Rattle.grammar.specs.Grammar.{Form, One, Empty, Seq, Either, Chain, Nest, Unless, Tree, Leaf, Blank, Both, First, Second, Start, More, Inside, Shut, yield, begins, is_blank, goes_on, goes_in, Fits}
 use Rattle.grammar.specs.Sentences.{IsBegun}
-use Rattle.grammar.proofs.Checks.{check, and_true, more, not, not_true, goes_more, goes_inner}
-use Rattle.grammar.proofs.Good.{fits_front}
+use Rattle.grammar.proofs.Checks.{and_true, more, not, not_true}
 use Rattle.grammar.proofs.Spelled.{}
-use Rattle.grammar.proofs.Unique.{fronts}
 use Rattle.filt_syntax.specs.Syntax.{rule}
-use Rattle.filt_syntax.specs.RefusedToken.{some_prefix, some_address}
-use Rattle.filt_syntax.proofs.Tested.{model, after, checked, solid_at}
 use Rattle.conf_tree.specs.Syntax.{config}
-use Rattle.conf_tree.proofs.Tested.{config_checked}
 
 -- ---- words of the same kinds
 

@@ -1,18 +1,17 @@
 -- What a text says, by the kinds and the bytes of its tokens alone.
-use Rattle.std.proofs.Common.{◌≡◌, ℕ, zero, suc, ◌+◌, ◌-◌, ◌≤◌, Bool, true, false, cond, ◌&&◌, List, [], ◌∷◌, ◌++◌, length, map, take, drop, slice_index_or, Option, Some, None, refl, sym, ap, subst, ◌∙◌, arith, append_assoc}
+use Rattle.std.proofs.Common.{◌≡◌, ℕ, zero, suc, ◌+◌, ◌-◌, ◌≤◌, Bool, true, false, cond, ◌&&◌, List, [], ◌∷◌, ◌++◌, length, map, slice_index_or, Option, Some, None, refl, sym, ap, ◌∙◌, arith}
 use Rattle.std.specs.Prelude.{if◌then◌else◌}
 use Rattle.bits_ip.specs.declared.address.Addr.{Addr}
 use Rattle.conf_lex.specs.Symbols.{symbol_of, is_placed, is_else, is_colon, is_slash}
-use Rattle.conf_lex.specs.Words.{slice_of, kind_symbol, token_symbol, is_prefix, symbol_word, spelled_word, kind_word, word_of, prefix_word, slashed, or_alone, first_word, words_from, words_of}
+use Rattle.conf_lex.specs.Words.{slice_of, kind_symbol, token_symbol, is_prefix, symbol_word, spelled_word, kind_word, word_of, prefix_word, slashed, or_alone, first_word, words_from}
 use Rattle.conf_lex.specs.declared.symbol.Symbol.{Symbol}
 use Rattle.conf_lex.specs.declared.symbol.Symbol.TheVariants as symbols
 use Rattle.conf_lex.specs.declared.token.Token.{Token}
 use Rattle.conf_lex.specs.declared.token.TokenKind.{TokenKind}
 use Rattle.conf_lex.specs.declared.token.TokenKind.TheVariants as sorts
 use Rattle.conf_lex.specs.declared.word.Word.{Word}
-use Rattle.conf_lex.specs.declared.word.Word.TheVariants as words
 use Rattle.grammar.specs.Kind.{Kind, IsNumber, IsName, IsText, IsAddress, IsPrefix, IsNoPrefix, IsSymbol, kind_of, name, symbol}
-use Rattle.conf_tree.specs.Said.{behind, says, said, said_words}
+use Rattle.conf_tree.specs.Said.{behind, says, said}
 use Rattle.conf_tree.specs.Alike.{IsAlike, AreAlike}
 use Rattle.conf_tree.specs.declared.said.Region.{Region}
 use Rattle.conf_tree.specs.declared.said.Region.TheVariants as regions

@@ -1,12 +1,11 @@
 -- Where an address and a slash can stand, so can a prefix.
-use Rattle.std.proofs.Common.{◌≡◌, ℕ, zero, suc, Bool, true, false, ◌&&◌, ◌||◌, List, [], ◌∷◌, ◌++◌, length, refl, sym, ap, subst, ◌∙◌, append_assoc, append-nil, arith, inl, inr, ◌⊎◌}
+use Rattle.std.proofs.Common.{◌≡◌, ℕ, zero, suc, Bool, true, false, ◌&&◌, ◌||◌, List, [], ◌∷◌, ◌++◌, refl, sym, ap, subst, ◌∙◌, append_assoc, append-nil, inl, inr, ◌⊎◌}
 use Rattle.conf_lex.specs.declared.symbol.Symbol.TheVariants as symbols
 use Rattle.conf_lex.specs.declared.word.Word.{Word}
-use Rattle.conf_lex.specs.declared.word.Word.TheVariants as words
 use Rattle.grammar.specs.Kind.{Kind, IsAddress, IsPrefix, IsSymbol, kind_of, symbol}
 use Rattle.grammar.specs.Grammar.{Form, One, Empty, Seq, Either, Chain, Nest, Unless, Tree, Leaf, Blank, Both, First, Second, Start, More, Inside, Shut, yield, begins, nullable, starts, is_blank, goes_on, goes_in, Fits}
 use Rattle.grammar.specs.Sentences.{IsBegun}
-use Rattle.grammar.proofs.Checks.{check, and_true, or_cases, or_left, or_right, more, not, not_true, solid_of, goes_more, goes_inner}
+use Rattle.grammar.proofs.Checks.{check, and_true, more, not, not_true, solid_of, goes_more, goes_inner}
 use Rattle.grammar.proofs.Good.{Front, fits_front}
 use Rattle.grammar.proofs.Symbols.{is_symbol_word}
 use Rattle.grammar.proofs.Unique.{fronts}

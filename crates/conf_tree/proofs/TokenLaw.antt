@@ -1,29 +1,26 @@
 -- What a refusal says of the texts that begin with the same tokens.
-use Rattle.std.proofs.Common.{◌≡◌, ℕ, zero, suc, ◌+◌, ◌-◌, ◌≤◌, Bool, true, false, cond, List, [], ◌∷◌, ◌++◌, length, map, take, drop, slice_index_or, Option, Some, refl, sym, ap, subst, ◌∙◌, arith, append_assoc, append-nil, inl, inr, ◌⊎◌}
+use Rattle.std.proofs.Common.{◌≡◌, ℕ, suc, ◌+◌, ◌-◌, ◌≤◌, true, List, [], ◌∷◌, ◌++◌, length, map, take, drop, Some, refl, sym, ap, subst, ◌∙◌, arith, append_assoc, append-nil, inl, inr}
 use Rattle.std.proofs.lemmas.List.{length-append, length-take, take-append-drop}
-use Rattle.bits_ip.specs.declared.address.Addr.{Addr}
-use Rattle.conf_lex.specs.Symbols.{is_else, is_slash}
-use Rattle.conf_lex.specs.Words.{token_symbol, is_prefix, words_from, words_of}
-use Rattle.conf_lex.specs.declared.symbol.Symbol.TheVariants as symbols
+use Rattle.conf_lex.specs.Symbols.{is_else}
 use Rattle.conf_lex.specs.declared.token.Token.{Token}
 use Rattle.conf_lex.specs.declared.token.TokenKind.{TokenKind}
 use Rattle.conf_lex.specs.declared.token.TokenKind.TheVariants as sorts
 use Rattle.conf_lex.specs.declared.word.Word.{Word}
-use Rattle.grammar.specs.Kind.{Kind, kind_of, symbol}
-use Rattle.grammar.specs.Grammar.{Tree, yield, begins, Fits}
-use Rattle.grammar.specs.Sentences.{IsBegun, IsLast}
+use Rattle.grammar.specs.Kind.{Kind, kind_of}
+use Rattle.grammar.specs.Grammar.{Tree, yield, Fits}
+use Rattle.grammar.specs.Sentences.{IsLast}
 use Rattle.grammar.proofs.Unique.{fronts}
 use Rattle.filt_syntax.specs.Syntax.{rule}
 use Rattle.filt_syntax.specs.declared.parse.SyntaxFault.TheVariants as faults
-use Rattle.filt_syntax.specs.RefusedToken.{IsPastFirst}
+use Rattle.filt_syntax.specs.RefusedToken.{CanFollow, some_prefix, IsPastFirst}
 use Rattle.conf_tree.specs.Syntax.{config}
-use Rattle.conf_tree.specs.Said.{said, said_of, said_words, said_starts, token_of}
-use Rattle.conf_tree.specs.Sentence.{IsStop, StopsAt, IsBadAt, IsRefused}
+use Rattle.conf_tree.specs.Said.{said, said_of, said_words}
+use Rattle.conf_tree.specs.Sentence.{IsStop, IsRefused}
 use Rattle.conf_tree.specs.Alike.{IsAlike, AreAlike, colon_next, IsBadPrefix, DecideAlike, IsNoSentence}
 use Rattle.conf_tree.specs.declared.said.Region.{Region}
 use Rattle.conf_tree.specs.declared.said.Region.TheVariants as regions
 use Rattle.conf_tree.proofs.KindTrees.{kinds_of, same_words}
-use Rattle.conf_tree.proofs.Marks.{Mark, mark, marks, marks_both, one_mark, same_marks, sym_of, colon_first, slash_first, sort_first, behind_one, says_kind, behind_kind, first_kind, heard, heard_is, heard_both, front_heard, state, IsNext, At, place_at}
+use Rattle.conf_tree.proofs.Marks.{Mark, mark, marks, marks_both, one_mark, same_marks, sym_of, colon_first, behind_kind, first_kind, heard, heard_is, heard_both, front_heard, state, IsNext, place_at}
 use Rattle.conf_tree.proofs.ByTokens.{IsBad, refuted}
 
 -- ---- lists
@@ -124,12 +121,12 @@ by_words : (front gone : List Mark) (before rest : List Word) (m : Mark) (xs ys 
     → kinds_of rest ≡ heard (state regions.Statements 0 front (gone ++ m ∷ xs)).0 (state regions.Statements 0 front (gone ++ m ∷ xs)).1 (gone ++ m ∷ xs)
     → IsLast rule config before rest → IsPastFirst config before rest (length gone)
     → kinds_of (yield tree) ≡ heard regions.Statements 0 (front ++ (gone ++ m ∷ ys))
-    → (is_else (sym_of m) ≡ true → colon_first xs ≡ colon_first ys) → (IsBad m xs → IsBad m ys) → ⊥
+    → (is_else (sym_of m) ≡ true → colon_first xs ≡ colon_first ys) → (length gone ≡ 0 → IsBad m xs → CanFollow config before some_prefix → IsBad m ys) → ⊥
 by_words front gone before [] m xs ys tree fits are next kinds last past reads colons bad = no_gone (state regions.Statements 0 front (gone ++ m ∷ xs)) gone m xs next kinds
 by_words front gone before (w ∷ ws) m xs ys tree fits are next kinds last past reads colons bad =
     refuted front gone before w ws m xs ys tree fits are next kinds last past reads colons bad
 
-pub by_tokens : (text other : List ℕ) (front back seen more : List Token) (t u : Token) → IsRefused text (front ++ t ∷ back) (faults.Bad (length front)) → AreAlike text front other seen → IsAlike text t other u → DecideAlike text t back other u more → IsNoSentence other (seen ++ u ∷ more)
+pub by_tokens : (text other : List ℕ) (front back seen more : List Token) (t u : Token) → IsRefused text (front ++ t ∷ back) (faults.Bad (length front)) → AreAlike text front other seen → IsAlike text t other u → DecideAlike text front t back other u more → IsNoSentence other (seen ++ u ∷ more)
 by_tokens text other front back seen more t u h are is decide tree fits e =
     let tokens = front ++ t ∷ back in
     let b = h.1 in
@@ -160,7 +157,9 @@ by_tokens text other front back seen more t u h are is decide tree fits e =
     let reads : kinds_of (yield tree) ≡ heard regions.Statements 0 (a.front ++ (g.gone ++ m ∷ ys)) =
     ap kinds_of e ∙ heard_is other regions.Statements 0 0 (seen ++ u ∷ more) ∙ ap (heard regions.Statements 0) marked in
     let colons : is_else (sym_of m) ≡ true → colon_first xs ≡ colon_first ys = λ el. colon_is text back ∙ decide.else_sign el ∙ sym (colon_is other more) in
-    let bad : IsBad m xs → IsBad m ys = λ k. subst (λ (n : Mark). IsBad n ys) (sym (one_mark text other t u is)) (is_bad other u more (decide.bad_prefix (bad_is text t back k))) in
+    let bad : length g.gone ≡ 0 → IsBad m xs → CanFollow config (take h.0 said_all) some_prefix → IsBad m ys =
+    λ none k can. subst (λ (n : Mark). IsBad n ys) (sym (one_mark text other t u is))
+    (is_bad other u more (decide.bad_prefix (bad_is text t back k) (h.0, omega (arith, b.token, size, none, b.stops.token), can))) in
     by_words a.front g.gone (take h.0 said_all) (drop h.0 said_all) m xs ys tree fits
     (subst (λ (r : List Mark). kinds_of (take h.0 said_all) ≡ front_heard regions.Statements 0 a.front r) g.rest two.0)
     (subst (λ (r : List Mark). IsNext (state regions.Statements 0 a.front r) r) g.rest a.next)

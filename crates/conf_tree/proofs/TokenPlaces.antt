@@ -1,5 +1,5 @@
 -- Each token begins at a byte of its own.
-use Rattle.std.proofs.Common.{◌≡◌, ℕ, zero, suc, ◌+◌, ◌<◌, ◌≤◌, List, [], ◌∷◌, ◌++◌, length, map, slice_index_or, refl, sym, ap, subst, ◌∙◌, arith, append_assoc}
+use Rattle.std.proofs.Common.{◌≡◌, ℕ, zero, suc, ◌+◌, ◌≤◌, List, [], ◌∷◌, ◌++◌, length, map, slice_index_or, refl, sym, ap, subst, arith, append_assoc}
 use Rattle.conf_lex.specs.Lex.{Lexes}
 use Rattle.conf_lex.specs.Spans.{IsSpan, IsBetween}
 use Rattle.conf_lex.specs.declared.token.Token.{Token}
@@ -50,7 +50,7 @@ module _ (once : (text : List ℕ) (ts us : List Token) → Lexes 0 text ts → 
   rise_all text [] lexes = omega arith
   rise_all text (t ∷ ts) lexes = (omega arith, rise_behind text [] t ts lexes)
 
-  pub text_by_tokens : (text other : List ℕ) (front back seen more : List Token) (t u : Token) → Lexes 0 text (front ++ t ∷ back) → IsRefusedText text t.at kinds.Syntax → AreAlike text front other seen → IsAlike text t other u → DecideAlike text t back other u more → IsNoSentence other (seen ++ u ∷ more)
+  pub text_by_tokens : (text other : List ℕ) (front back seen more : List Token) (t u : Token) → Lexes 0 text (front ++ t ∷ back) → IsRefusedText text t.at kinds.Syntax → AreAlike text front other seen → IsAlike text t other u → DecideAlike text front t back other u more → IsNoSentence other (seen ++ u ∷ more)
   text_by_tokens text other front back seen more t u lexes h are is decide =
       let same : h.0 ≡ front ++ t ∷ back = once text h.0 (front ++ t ∷ back) h.2 lexes in
       let refused : IsRefused text (front ++ t ∷ back) (faults.Bad h.1) = subst (λ (l : List Token). IsRefused text l (faults.Bad h.1)) same h.3 in

@@ -1,6 +1,6 @@
 -- For the laws of refusals: tokens of two texts that say the same, and what beside a token decides
 -- whether it can stand.
-use Rattle.std.specs.Prelude.{◌≡◌, ℕ, Bool, true, false, List, [], ◌∷◌}
+use Rattle.std.specs.Prelude.{◌≡◌, ℕ, Bool, true, false, List, [], ◌∷◌, ◌++◌, length, take}
 use Rattle.bits_ip.specs.declared.address.Addr.{Addr}
 use Rattle.conf_lex.specs.Symbols.{is_colon, is_else, is_slash}
 use Rattle.conf_lex.specs.Words.{slice_of, token_symbol, is_prefix}
@@ -8,8 +8,9 @@ use Rattle.conf_lex.specs.declared.token.Token.{Token}
 use Rattle.conf_lex.specs.declared.token.TokenKind.TheVariants as kinds
 use Rattle.grammar.specs.Grammar.{Tree, yield, Fits}
 use Rattle.filt_syntax.specs.Syntax.{rule}
+use Rattle.filt_syntax.specs.RefusedToken.{CanFollow, some_prefix}
 use Rattle.conf_tree.specs.Syntax.{config}
-use Rattle.conf_tree.specs.Said.{said_words}
+use Rattle.conf_tree.specs.Said.{said_words, token_of}
 
 -- a token of one text and a token of another are of one kind and have the same bytes
 pub record IsAlike (text : List ℕ) (t : Token) (other : List ℕ) (u : Token) : Type 0 where
@@ -35,13 +36,20 @@ IsBadPrefix text t (u ∷ v ∷ ts) =
     × (is_prefix addr n ≡ false)
 IsBadPrefix text t _ = ⊥
 
+-- a prefix can stand behind the words before this token
+abbrev pub CanBePrefix : List ℕ → List Token → ℕ → Type 0
+CanBePrefix text tokens token =
+    (place : ℕ) × (token ≡ token_of text tokens place)
+    × CanFollow config (take place (said_words text tokens)) some_prefix
+
 -- What comes behind two tokens that are alike decides alike: behind `else` whether a colon does,
--- since it is one sign with it, and behind the address of a bad prefix the other two of it.
-pub record DecideAlike (text : List ℕ) (t : Token) (back : List Token) (other : List ℕ) (u : Token)
-    (more : List Token) : Type 0 where
+-- since it is one sign with it, and where a prefix can stand the other two tokens of a bad one.
+pub record DecideAlike (text : List ℕ) (front : List Token) (t : Token) (back : List Token)
+    (other : List ℕ) (u : Token) (more : List Token) : Type 0 where
   pub else_sign : is_else (token_symbol text t) ≡ true
       → colon_next text back ≡ colon_next other more
-  pub bad_prefix : IsBadPrefix text t back → IsBadPrefix other u more
+  pub bad_prefix : IsBadPrefix text t back
+      → CanBePrefix text (front ++ t ∷ back) (length front) → IsBadPrefix other u more
 
 -- a text with these tokens is no configuration, whatever its levels
 abbrev pub IsNoSentence : List ℕ → List Token → Type 0

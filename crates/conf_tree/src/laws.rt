@@ -168,13 +168,13 @@ pub fn sentences_decide()
 /// A text is refused at the first token that no configuration has there: none begins with the
 /// tokens up to and with the refused one, kind for kind and byte for byte, nor has just these where
 /// the end is refused. How many levels are open doesn't matter to it. Two tokens decide with those
-/// behind them: `else`, which a colon makes one sign, and the address of a bad prefix, which is
-/// refused there though a good one may begin with it.
+/// behind them: `else`, which a colon makes one sign, and where a prefix can stand the address of a
+/// bad one, which is refused there though a good one may begin with it.
 pub fn refusals_are_by_tokens()
     ensures token { (text other : List ℕ) (front back seen more : List Token) (t u : Token)
         → Lexes 0 text (front ++ t ∷ back) → IsRefusedText text t.at ConfKind.Syntax
         → AreAlike text front other seen → IsAlike text t other u
-        → DecideAlike text t back other u more
+        → DecideAlike text front t back other u more
         → IsNoSentence other (seen ++ u ∷ more) }
     ensures end { (text other : List ℕ) (tokens seen : List Token)
         → Lexes 0 text tokens → IsRefusedText text (length text) ConfKind.Syntax

@@ -1,15 +1,15 @@
 -- Whether a word can stand behind others, by what the parser answers to them all.
 use Rattle.std.proofs.Common.{◌≡◌, ◌↔◌, ℕ, zero, suc, ◌≤◌, ◌<◌, Bool, true, false, IsTrue, ◌&&◌, List, [], ◌∷◌, ◌++◌, length, drop, Option, Some, None, refl, sym, ap, subst, ◌∙◌, append_assoc, append-nil, arith, ◌==◌, inl, inr}
 use Rattle.std.proofs.lemmas.List.{length-append, length-drop}
-use Rattle.std.proofs.lemmas.Bool.{eqb-true, false≢true}
+use Rattle.std.proofs.lemmas.Bool.{eqb-true}
 use Rattle.conf_lex.specs.declared.word.Word.{Word}
-use Rattle.grammar.specs.Grammar.{Why, Bad, TooDeep, Unsupported, Form, One, Empty, Seq, Either, Chain, Nest, Unless, Tree, Leaf, Blank, Both, First, Second, Start, More, Inside, Shut, plain, yield, refused, Fits}
-use Rattle.grammar.specs.Reading.{Read, Fault, read}
-use Rattle.grammar.specs.Sentences.{IsBegun, IsBegunWithin, IsLast, IsRead, IsBad, IsTooDeep, IsUnsupported}
+use Rattle.grammar.specs.Grammar.{Why, TooDeep, Form, One, Empty, Seq, Either, Chain, Nest, Unless, Tree, Leaf, Blank, Both, First, Second, Start, More, Inside, Shut, plain, yield, refused, Fits}
+use Rattle.grammar.specs.Reading.{Fault}
+use Rattle.grammar.specs.Sentences.{IsBegun, IsBegunWithin, IsLast, IsTooDeep}
 use Rattle.grammar.proofs.Good.{outcome}
 use Rattle.grammar.proofs.Checks.{check, and_true, and_both}
 use Rattle.grammar.proofs.Exact.{whole}
-use Rattle.grammar.proofs.Unique.{Longer, fronts, too_deep_is_fault}
+use Rattle.grammar.proofs.Unique.{fronts, too_deep_is_fault}
 use Rattle.filt_syntax.specs.Syntax.{rule}
 use Rattle.filt_syntax.specs.declared.parse.SyntaxFault.{SyntaxFault}
 use Rattle.filt_syntax.specs.declared.parse.SyntaxFault.TheVariants as faults

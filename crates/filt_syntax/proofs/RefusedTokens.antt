@@ -8,13 +8,13 @@ use Rattle.conf_lex.specs.Words.{first_word, words_from}
 use Rattle.conf_lex.specs.declared.token.Token.{Token}
 use Rattle.conf_lex.specs.declared.word.Word.{Word}
 use Rattle.conf_lex.specs.declared.word.Word.TheVariants as words
-use Rattle.grammar.specs.Grammar.{Form, Tree}
+use Rattle.grammar.specs.Grammar.{Form}
 use Rattle.grammar.proofs.Unique.{fronts}
 use Rattle.filt_syntax.specs.declared.parse.SyntaxFault.{SyntaxFault}
 use Rattle.filt_syntax.specs.declared.parse.SyntaxFault.TheVariants as faults
 use Rattle.filt_syntax.specs.declared.refused_token.Torn.{Torn}
 use Rattle.filt_syntax.specs.declared.refused_token.Torn.TheVariants as torns
-use Rattle.filt_syntax.specs.Parse.{Stands, IsRefused, IsFault}
+use Rattle.filt_syntax.specs.Parse.{IsRefused, IsFault}
 use Rattle.filt_syntax.specs.RefusedToken.{CanFollow, some_prefix, some_address, is_address_word, EndInAddress, IsCount, IsPast, IsPastFirst, IsPastAt, IsBadFrom}
 use Rattle.filt_syntax.specs.Tokens.{words_behind, starts_behind, token_place, moved, place_of, IsPastOf, IsRefusedIn, IsToldAs}
 
