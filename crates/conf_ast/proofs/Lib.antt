@@ -1,0 +1,3 @@
+mod ExpressionsBack
+pub mod ItemsBack
+mod WordsBack
