@@ -135,11 +135,11 @@ module _ {X : Type 0} (part : X → Word × Tree) (f g : Form) (from : Tree → 
   chain_back [] t a first h = first h
   chain_back (x ∷ xs) t a first h = chain_back xs (More t (Both (Leaf (part x).0) (part x).1)) (join a x) (λ k. turn t x k.1 ∙ ap (λ (u : Expression). join u x) (first k.0)) h
 
-two_maps : {A B C : Type 0} (f : A → B) (g : B → C) (k : A → C) → ((a : A) → g (f a) ≡ k a) → (xs : List A) → map g (map f xs) ≡ map k xs
+pub two_maps : {A B C : Type 0} (f : A → B) (g : B → C) (k : A → C) → ((a : A) → g (f a) ≡ k a) → (xs : List A) → map g (map f xs) ≡ map k xs
 two_maps f g k same [] = refl
 two_maps {C = C} f g k same (x ∷ xs) = ap (λ (y : C). y ∷ map g (map f xs)) (same x) ∙ ap (λ (ys : List C). k x ∷ ys) (two_maps f g k same xs)
 
-three_maps : {A B C D : Type 0} (f : A → B) (g : B → C) (h : C → D) (k : A → D) → ((a : A) → h (g (f a)) ≡ k a) → (xs : List A) → map h (map g (map f xs)) ≡ map k xs
+pub three_maps : {A B C D : Type 0} (f : A → B) (g : B → C) (h : C → D) (k : A → D) → ((a : A) → h (g (f a)) ≡ k a) → (xs : List A) → map h (map g (map f xs)) ≡ map k xs
 three_maps f g h k same [] = refl
 three_maps {D = D} f g h k same (x ∷ xs) = ap (λ (y : D). y ∷ map h (map g (map f xs))) (same x) ∙ ap (λ (ys : List D). k x ∷ ys) (three_maps f g h k same xs)
 
@@ -254,7 +254,7 @@ access_made (accesses.Method m place e) = refl
 
 -- ---- expressions between commas
 
-abbrev ahead : {X : Type 0} → (X → Expression) → List X → Expressions → Expressions
+abbrev pub ahead : {X : Type 0} → (X → Expression) → List X → Expressions → Expressions
 ahead value [] more = more
 ahead value (x ∷ xs) more = AndExpressions (value x) (ahead value xs more)
 
@@ -283,7 +283,7 @@ known_arguments ks ts is h = ap (λ (us : List Tree). arguments_from (arguments_
 abbrev parts : Expr-F Known → Expr-F Expr
 parts y = map-Expr Known Expr (λ p. p.0) y
 
-two : {A B C : Type 0} (f : A → B → C) (a c : A) (b d : B) → a ≡ c → b ≡ d → f a b ≡ f c d
+pub two : {A B C : Type 0} (f : A → B → C) (a c : A) (b d : B) → a ≡ c → b ≡ d → f a b ≡ f c d
 two {A = A} {B = B} f a c b d p q = ap (λ (x : A). f x b) p ∙ ap (λ (x : B). f c x) q
 
 step : (y : Expr-F Known) → Back (sight_step (map-Expr Expr Sight (fold-Expr Sight sight_step) (parts y))) (expression_step (map-Expr Expr Expression (fold-Expr Expression expression_step) (parts y)))

@@ -148,3 +148,7 @@ mask_after_back t (m ∷ ms) more = mask_after_back _ ms more ∙ ap (λ (x : Ma
 
 pub mask_back : (ms : List MaskItem) → mask_from (mask_items_tree ms) [] ≡ ms
 mask_back ms = mask_after_back (Start Blank) ms [] ∙ append_nil ms
+
+-- the items of a label behind its first
+pub rest_back : (is : List Item) → items_from (items_after (Start Blank) is) [] ≡ is
+rest_back is = items_after_back (Start Blank) is [] ∙ append_nil is

@@ -1,3 +1,5 @@
 mod ExpressionsBack
-pub mod ItemsBack
+mod ItemsBack
+mod StatementsBack
+mod TypesBack
 mod WordsBack
