@@ -1,5 +1,5 @@
 -- Expressions, back from their trees.
-use Rattle.std.proofs.Common.{◌≡◌, ℕ, List, [], ◌∷◌, map, refl, sym as flip, ap, subst, ◌∙◌}
+use Rattle.std.proofs.Common.{◌≡◌, List, [], ◌∷◌, map, refl, sym as flip, ap, subst, ◌∙◌}
 use Rattle.conf_lex.specs.declared.word.Word.{Word}
 use Rattle.conf_lex.specs.declared.word.Word.TheVariants as words
 use Rattle.conf_lex.specs.declared.symbol.Symbol.TheVariants as sym
@@ -24,8 +24,8 @@ use Rattle.filt_syntax.specs.declared.tree.Expr.TheFolds.{map-Expr, fold-roll-Ex
 use Rattle.filt_syntax.specs.declared.tree.Expr.TheShapes.{former-Expr-Access-1-at-4}
 use Rattle.filt_syntax.specs.Syntax.{rule, prim, post, unary, prod, sum, cmp, expr, listed, optional}
 use Rattle.filt_syntax.specs.Syntax as forms
-use Rattle.filt_syntax.specs.View.{Sight, sight, sight_step, as_prim, as_post, as_unary, as_prod, as_sum, as_cmp, as_expr, chain_of, parts_after, listed_after, arguments_tree, listed_tree, access_part, factor_part, term_part, joint_part, property_tree, method_tree, factor_symbol, term_symbol, joint_symbol, expr_tree, expr_trees}
-use Rattle.conf_ast.specs.Filters.{Expression, Plain, Named, Called, Grouped, Paired, SetOf, MaskOf, IsDefined, MethodOf, PropertyOf, Changed, Negated, Multiplied, Added, Compared, Joined, Expressions, NoExpressions, AndExpressions, expressions, expressions_of, accessed, multiplied, added, joined, expression_step, expression_of}
+use Rattle.filt_syntax.specs.View.{Sight, sight, sight_step, as_prim, as_post, as_unary, as_prod, as_sum, as_cmp, as_expr, chain_of, parts_after, listed_after, arguments_tree, listed_tree, access_part, factor_part, term_part, joint_part, property_tree, method_tree, factor_symbol, term_symbol, joint_symbol}
+use Rattle.conf_ast.specs.Filters.{Expression, Plain, Named, Called, Grouped, Paired, SetOf, MaskOf, IsDefined, MethodOf, PropertyOf, Changed, Negated, Multiplied, Added, Compared, Joined, Expressions, NoExpressions, AndExpressions, expressions, accessed, multiplied, added, joined, expression_step, expression_of}
 use Rattle.conf_ast.proofs.WordsBack.{place_of, name_from, attribute_from, simple_from, property_from, method_from, factor_from, term_from, compare_from, joint_from, attribute_back, simple_back, property_back, method_back, factor_back, term_back, compare_back, joint_back}
 use Rattle.conf_ast.proofs.ItemsBack.{items_from, mask_from, items_back, mask_back}
 

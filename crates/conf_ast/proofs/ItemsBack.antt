@@ -1,5 +1,5 @@
 -- The items of sets and masks, back from their trees.
-use Rattle.std.proofs.Common.{◌≡◌, ℕ, Bool, true, false, List, [], ◌∷◌, ◌++◌, Option, Some, None, refl, ap, ◌∙◌}
+use Rattle.std.proofs.Common.{◌≡◌, Bool, true, false, List, [], ◌∷◌, ◌++◌, Option, Some, None, refl, ap, ◌∙◌}
 use Rattle.conf_lex.specs.declared.symbol.Symbol.TheVariants as sym
 use Rattle.conf_lex.specs.declared.word.Word.{Word}
 use Rattle.conf_lex.specs.declared.word.Word.TheVariants as words
@@ -16,7 +16,7 @@ use Rattle.filt_syntax.specs.declared.tree.Item.TheVariants as items
 use Rattle.filt_syntax.specs.declared.tree.MaskAtom.{MaskAtom}
 use Rattle.filt_syntax.specs.declared.tree.MaskAtom.TheVariants as atoms
 use Rattle.filt_syntax.specs.declared.tree.MaskItem.{MaskItem}
-use Rattle.filt_syntax.specs.ItemView.{num_word, num_tree, high_tree, part_tree, pair_part_tree, lengths_tree, lengths_part, item_tree, items_after, items_tree, mask_atom_tree, many_tree, mask_item_tree, mask_after, mask_items_tree}
+use Rattle.filt_syntax.specs.ItemView.{num_word, high_tree, part_tree, pair_part_tree, lengths_part, item_tree, items_after, items_tree, mask_atom_tree, many_tree, mask_item_tree, mask_after, mask_items_tree}
 use Rattle.conf_ast.proofs.WordsBack.{place_of, name_from}
 
 -- ---- back from trees

@@ -1,3 +1,4 @@
+mod ConfigurationsBack
 mod ExpressionsBack
 mod ItemsBack
 mod StatementsBack

@@ -1,12 +1,11 @@
 -- Statements, back from their trees.
-use Rattle.std.proofs.Common.{◌≡◌, ℕ, List, [], ◌∷◌, Option, Some, None, option_map, map, refl, sym as flip, ap, subst, ◌∙◌, Vec}
-use Rattle.std.specs.Global.{Global}
+use Rattle.std.proofs.Common.{◌≡◌, ℕ, List, [], ◌∷◌, Option, Some, None, option_map, map, refl, sym as flip, ap, subst, ◌∙◌}
 use Rattle.conf_lex.specs.declared.word.Word.{Word}
 use Rattle.conf_lex.specs.declared.word.Word.TheVariants as words
 use Rattle.conf_lex.specs.declared.symbol.Symbol.TheVariants as sym
 use Rattle.grammar.specs.declared.named.Name.{Name}
 use Rattle.grammar.specs.Kind.{symbol}
-use Rattle.grammar.specs.Grammar.{Form, One, Empty, Seq, Chain, Tree, Leaf, Blank, Both, First, Second, Start, More, Inside, Fits}
+use Rattle.grammar.specs.Grammar.{One, Seq, Chain, Tree, Leaf, Blank, Both, First, Second, Start, More, Inside, Fits}
 use Rattle.filt_syntax.specs.declared.tree.Arm.{Arm}
 use Rattle.filt_syntax.specs.declared.tree.Attribute.{Attribute}
 use Rattle.filt_syntax.specs.declared.tree.Block.{Block}
@@ -15,7 +14,6 @@ use Rattle.filt_syntax.specs.declared.tree.Change.TheVariants as changes
 use Rattle.filt_syntax.specs.declared.tree.Expr.{Expr}
 use Rattle.filt_syntax.specs.declared.tree.Item.{Item}
 use Rattle.filt_syntax.specs.declared.tree.Item.TheVariants as items
-use Rattle.filt_syntax.specs.declared.tree.Method.{Method}
 use Rattle.filt_syntax.specs.declared.tree.Num.{Num}
 use Rattle.filt_syntax.specs.declared.tree.Num.TheVariants as nums
 use Rattle.filt_syntax.specs.declared.tree.Stmt.{Stmt, fold-Stmt}
@@ -26,15 +24,14 @@ use Rattle.filt_syntax.specs.declared.tree.Target.{Target}
 use Rattle.filt_syntax.specs.declared.tree.Target.TheVariants as targets
 use Rattle.filt_syntax.specs.declared.tree.VariableType.{VariableType}
 use Rattle.filt_syntax.specs.Syntax.{rule, expr, stmt, label, arm_part, listed, optional, many, block}
-use Rattle.filt_syntax.specs.Syntax as forms
-use Rattle.filt_syntax.specs.ItemView.{item_tree, label_tree, label_end_tree}
+use Rattle.filt_syntax.specs.ItemView.{label_tree}
 use Rattle.filt_syntax.specs.View.{sight, method_word, expr_tree, listed_tree, arguments_tree}
-use Rattle.filt_syntax.specs.StatementView.{stmt_step, stmt_tree, stmts_tree, row_after, row_tree, as_part, as_label, body_after, ArmParts, arms_after, arms_chain, arms_row, seen_arm, initial_tree, result_tree, assign_tree, change_stmt_tree, block_view}
+use Rattle.filt_syntax.specs.StatementView.{stmt_step, stmt_tree, row_after, row_tree, as_part, as_label, body_after, ArmParts, arms_after, arms_row, seen_arm, initial_tree, result_tree, assign_tree, change_stmt_tree, block_view}
 use Rattle.conf_ast.specs.Filters.{Expression, Expressions, NoExpressions, AndExpressions, expression_of, expressions_of, Statement, Braced, Nothing, Declare, Assign, ChangeBy, Clear, Unset, If, IfElse, Case, CaseElse, For, Accept, Reject, Return, Print, PrintPart, Call, Statements, NoStatements, AndStatements, Arms, NoArms, AndArms, statements, arms, statement_step, statement_of, statements_of, block_of, changed}
 use Rattle.conf_ast.proofs.WordsBack.{place_of, name_from, attribute_from, method_from, attribute_back, method_back}
-use Rattle.conf_ast.proofs.ItemsBack.{part_from, item_from, items_from, part_back, item_back, rest_back}
+use Rattle.conf_ast.proofs.ItemsBack.{part_from, item_from, items_from, item_back, rest_back}
 use Rattle.conf_ast.proofs.TypesBack.{type_from, type_back}
-use Rattle.conf_ast.proofs.ExpressionsBack.{expr_from, arguments_from, listed_from, ahead, listed_back, arguments_back, expression_back, two, two_maps, three_maps}
+use Rattle.conf_ast.proofs.ExpressionsBack.{expr_from, arguments_from, listed_from, ahead, listed_back, arguments_back, expression_back, two, three_maps}
 
 -- ---- back from trees
 
@@ -103,10 +100,10 @@ abbrev mutual
   unnamed_from (Second (Second (Second (First t)))) = of_attribute_from t
   unnamed_from (Second (Second (Second (Second (First t))))) = unset_from t
   unnamed_from (Second (Second (Second (Second (Second (First (Both (Both if_word e) (Both (Inside v s) (Second b))))))))) = If (expr_from e) (stmt_from s)
-  unnamed_from (Second (Second (Second (Second (Second (First (Both (Both if_word e) (Both (Inside v s) (First (Inside u t))))))))))  = IfElse (expr_from e) (stmt_from s) (stmt_from t)
+  unnamed_from (Second (Second (Second (Second (Second (First (Both (Both if_word e) (Both (Inside v s) (First (Inside u t)))))))))) = IfElse (expr_from e) (stmt_from s) (stmt_from t)
   unnamed_from (Second (Second (Second (Second (Second (Second (First (Both (Both (Leaf w) e) (Both (Inside v (Both t (Second b))) c))))))))) = Case (place_of w) (expr_from e) (arms_row_from t)
   unnamed_from (Second (Second (Second (Second (Second (Second (First (Both (Both (Leaf w) e) (Both (Inside v (Both t (First (Both else_word ss)))) c))))))))) = CaseElse (place_of w) (expr_from e) (arms_row_from t) (row_from ss NoStatements)
-  unnamed_from (Second (Second (Second (Second (Second (Second (Second (First (Both (Leaf w) (Both t (Both (Leaf n) (Both (Both in_word e) (Inside v s)))))))))))))  = For (place_of w) (type_from t) (name_from n) (expr_from e) (stmt_from s)
+  unnamed_from (Second (Second (Second (Second (Second (Second (Second (First (Both (Leaf w) (Both t (Both (Leaf n) (Both (Both in_word e) (Inside v s))))))))))))) = For (place_of w) (type_from t) (name_from n) (expr_from e) (stmt_from s)
   unnamed_from (Second (Second (Second (Second (Second (Second (Second (Second (First t))))))))) = verdict_from t
   unnamed_from (Second (Second (Second (Second (Second (Second (Second (Second (Second (First t)))))))))) = return_from t
   unnamed_from (Second (Second (Second (Second (Second (Second (Second (Second (Second (Second t)))))))))) = print_from t
@@ -254,7 +251,7 @@ return_back at e = record { shape = tt; told = λ f. ap (λ (x : Option Expressi
 
 -- ---- all statements
 
-three : {A B C D : Type 0} (f : A → B → C → D) (a d : A) (b e : B) (c g : C) → a ≡ d → b ≡ e → c ≡ g → f a b c ≡ f d e g
+pub three : {A B C D : Type 0} (f : A → B → C → D) (a d : A) (b e : B) (c g : C) → a ≡ d → b ≡ e → c ≡ g → f a b c ≡ f d e g
 three {A = A} f a d b e c g p q r = ap (λ (x : A). f x b c) p ∙ two (f d) b e c g q r
 
 abbrev parts : Stmt-F Known → Stmt-F Stmt

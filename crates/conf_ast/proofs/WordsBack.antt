@@ -6,7 +6,6 @@ use Rattle.conf_lex.specs.declared.word.Word.TheVariants as words
 use Rattle.grammar.specs.declared.named.Name.{Name}
 use Rattle.filt_syntax.specs.declared.tree.Attribute.{Attribute}
 use Rattle.filt_syntax.specs.declared.tree.Attribute.TheVariants as attributes
-use Rattle.filt_syntax.specs.declared.tree.Constant.{Constant}
 use Rattle.filt_syntax.specs.declared.tree.Constant.TheVariants as constants
 use Rattle.filt_syntax.specs.declared.tree.Simple.{Simple}
 use Rattle.filt_syntax.specs.declared.tree.Simple.TheVariants as simples

@@ -1,4 +1,4 @@
-//! The abstract syntax of configurations and filters: plain data without memory, of which a text has one.
+//! The abstract syntax of configurations and filters: plain data without memory. A text has one.
 #![tactic(auto)]
 
 pub mod laws;
