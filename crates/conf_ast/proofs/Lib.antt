@@ -1,4 +1,5 @@
 mod ConfigurationsBack
+mod ExpressionsAgain
 mod ExpressionsBack
 mod ItemsBack
 mod StatementsBack

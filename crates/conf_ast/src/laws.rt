@@ -21,6 +21,12 @@ pub fn a_tree_is_of_one_expression()
         → expression_of c ≡ expression_of d }
 {}
 
+/// One expression is seen as one tree: the abstract syntax forgets nothing of it.
+pub fn an_expression_is_of_one_tree()
+    ensures { (c d : Expr) → Fits rule (sight c).expr expr → Fits rule (sight d).expr expr
+        → expression_of c ≡ expression_of d → (sight c).expr ≡ (sight d).expr }
+{}
+
 /// Two blocks that are seen as one tree are one.
 pub fn a_tree_is_of_one_block()
     ensures { (c d : Block) → Fits rule (block_view c) block → block_view c ≡ block_view d
