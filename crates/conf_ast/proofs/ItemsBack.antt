@@ -17,6 +17,7 @@ use Rattle.filt_syntax.specs.declared.tree.MaskAtom.{MaskAtom}
 use Rattle.filt_syntax.specs.declared.tree.MaskAtom.TheVariants as atoms
 use Rattle.filt_syntax.specs.declared.tree.MaskItem.{MaskItem}
 use Rattle.filt_syntax.specs.ItemView.{num_word, high_tree, part_tree, pair_part_tree, lengths_part, item_tree, items_after, items_tree, mask_atom_tree, many_tree, mask_item_tree, mask_after, mask_items_tree}
+use Rattle.conf_ast.proofs.Pairs.{append_nil}
 use Rattle.conf_ast.proofs.WordsBack.{place_of, name_from}
 
 -- ---- back from trees
@@ -110,10 +111,6 @@ item_back (items.Prefix at net l) = ap (λ (x : Option Lengths). items.Prefix at
 pub items_after_back : (t : Tree) (is : List Item) (more : List Item) → items_from (items_after t is) more ≡ items_from t (is ++ more)
 items_after_back t [] more = refl
 items_after_back t (i ∷ is) more = items_after_back _ is more ∙ ap (λ (x : Item). items_from t (x ∷ (is ++ more))) (item_back i)
-
-append_nil : {A : Type 0} (xs : List A) → xs ++ [] ≡ xs
-append_nil [] = refl
-append_nil {A = A} (x ∷ xs) = ap (λ (ys : List A). x ∷ ys) (append_nil xs)
 
 start_back : (i : Item) (more : List Item) → items_from (Start (item_tree i)) more ≡ i ∷ more
 start_back (items.Part p) more = ap (λ (x : Item). x ∷ more) (item_back (items.Part p))

@@ -1,7 +1,7 @@
 mod ConfigurationsBack
-mod ExpressionsAgain
 mod ExpressionsBack
 mod ItemsBack
+mod Pairs
 mod StatementsBack
 mod TypesBack
 mod WordsBack

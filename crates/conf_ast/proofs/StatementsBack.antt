@@ -28,10 +28,11 @@ use Rattle.filt_syntax.specs.ItemView.{label_tree}
 use Rattle.filt_syntax.specs.View.{sight, method_word, expr_tree, listed_tree, arguments_tree}
 use Rattle.filt_syntax.specs.StatementView.{stmt_step, stmt_tree, row_after, row_tree, as_part, as_label, body_after, ArmParts, arms_after, arms_row, seen_arm, initial_tree, result_tree, assign_tree, change_stmt_tree, block_view}
 use Rattle.conf_ast.specs.Filters.{Expression, Expressions, NoExpressions, AndExpressions, expression_of, expressions_of, Statement, Braced, Nothing, Declare, Assign, ChangeBy, Clear, Unset, If, IfElse, Case, CaseElse, For, Accept, Reject, Return, Print, PrintPart, Call, Statements, NoStatements, AndStatements, Arms, NoArms, AndArms, statements, arms, statement_step, statement_of, statements_of, block_of, changed}
+use Rattle.conf_ast.proofs.Pairs.{two, three, three_maps}
 use Rattle.conf_ast.proofs.WordsBack.{place_of, name_from, attribute_from, method_from, attribute_back, method_back}
 use Rattle.conf_ast.proofs.ItemsBack.{part_from, item_from, items_from, item_back, rest_back}
 use Rattle.conf_ast.proofs.TypesBack.{type_from, type_back}
-use Rattle.conf_ast.proofs.ExpressionsBack.{expr_from, arguments_from, listed_from, ahead, listed_back, arguments_back, expression_back, two, three_maps}
+use Rattle.conf_ast.proofs.ExpressionsBack.{expr_from, arguments_from, listed_from, ahead, listed_back, arguments_back, expression_back}
 
 -- ---- back from trees
 
@@ -250,9 +251,6 @@ return_back : (at : ℕ) (e : Option Expr) → Back (stmt_step (Stmt-F.Return at
 return_back at e = record { shape = tt; told = λ f. ap (λ (x : Option Expression). Return at x) (result_back e f.1.0) }
 
 -- ---- all statements
-
-pub three : {A B C D : Type 0} (f : A → B → C → D) (a d : A) (b e : B) (c g : C) → a ≡ d → b ≡ e → c ≡ g → f a b c ≡ f d e g
-three {A = A} f a d b e c g p q r = ap (λ (x : A). f x b c) p ∙ two (f d) b e c g q r
 
 abbrev parts : Stmt-F Known → Stmt-F Stmt
 parts y = map-Stmt Known Stmt (λ p. p.0) y
