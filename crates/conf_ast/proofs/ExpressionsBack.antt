@@ -338,7 +338,7 @@ pub record AreSeen (made known : List Tree) (t : Tree) : Type 0 where
   pub same : made ≡ known
   pub fits : Fits rule t (listed expr)
 
-abbrev made_of : {X : Type 0} → (X → Expression) → List X → Expressions
+abbrev pub made_of : {X : Type 0} → (X → Expression) → List X → Expressions
 made_of value [] = NoExpressions
 made_of value (x ∷ xs) = AndExpressions (value x) (made_of value xs)
 

@@ -33,6 +33,12 @@ pub fn a_tree_is_of_one_block()
         → block_of c ≡ block_of d }
 {}
 
+/// One block is seen as one tree.
+pub fn a_block_is_of_one_tree()
+    ensures { (c d : Block) → Fits rule (block_view c) block → Fits rule (block_view d) block
+        → block_of c ≡ block_of d → block_view c ≡ block_view d }
+{}
+
 /// Two configurations that are seen as one tree are one.
 pub fn a_tree_is_of_one_configuration()
     ensures { (c d : List Statement) → Fits rule (statements_tree c) config
