@@ -55,7 +55,7 @@ use Rattle.conf_tree.specs.Syntax as forms
 use Rattle.conf_tree.specs.View.{switch_symbol, family_symbol, maybe, address_leaf, switch_leaf, policy_tree, action_symbol, action_tree, limit_tree, hop_symbol, channel_option_tree, ended_tree, ended_row, channel_options_tree, channel_tree, target_tree, static_option_tree, transport_tree, bgp_option_tree, pipe_option_tree, literal_tree, separator_symbol, next_parameter, parameters_after, first_parameter, parameters_tree, gives_tree, function_tree, semicolon_tree, protocol_tree, statement_tree, statements_tree}
 use Rattle.conf_ast.specs.Filters.{Expression, Statements}
 use Rattle.conf_ast.specs.Configurations.{Value, NumberValue, TextValue, AddressValue, PrefixValue, TrueValue, FalseValue, ValueOf, PairValue, SetValue, MaskValue, value_of, Passing, PassAll, PassNone, PassByFilter, PassByBlock, PassWhere, passing_of, ChannelSetting, ChannelTable, ChannelImport, ChannelExport, ChannelPreference, ChannelLimit, ChannelNextHop, channel_setting_of, FamilyChannel, channel_of, channel_settings_of, StaticSetting, StaticChannel, StaticRoute, static_setting_of, BgpSetting, BgpChannel, BgpLocal, BgpNeighbor, BgpMedMetric, BgpInterpretCommunities, BgpDefaultMed, BgpDefaultLocalPref, BgpTransport, bgp_setting_of, PipeSetting, PipeTable, PipePeerTable, PipeImport, PipeExport, pipe_setting_of, Instance, instance_of, Routine, routine_of, Declaration, RouterId, Log, Define, Table, DefineFunction, DefineFilter, Device, Static, Bgp, Pipe, declaration_of, configuration_of}
-use Rattle.conf_ast.proofs.Pairs.{two, three, append_nil}
+use Rattle.conf_ast.proofs.Equations.{two, three, append_nil}
 use Rattle.conf_ast.proofs.WordsBack.{place_of, name_from}
 use Rattle.conf_ast.proofs.ItemsBack.{num_from, items_from, mask_from, num_back, items_back, mask_back}
 use Rattle.conf_ast.proofs.TypesBack.{type_from, type_back}

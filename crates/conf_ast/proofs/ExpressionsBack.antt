@@ -1,5 +1,5 @@
 -- Expressions: back from their trees, and the trees that they are of.
-use Rattle.std.proofs.Common.{◌≡◌, List, [], ◌∷◌, map, refl, sym as flip, ap, subst, ◌∙◌, ℕ}
+use Rattle.std.proofs.Common.{◌≡◌, List, [], ◌∷◌, map, refl, sym as flip, ap, subst, ◌∙◌}
 use Rattle.conf_lex.specs.declared.word.Word.{Word}
 use Rattle.conf_lex.specs.declared.word.Word.TheVariants as words
 use Rattle.conf_lex.specs.declared.symbol.Symbol.TheVariants as sym
@@ -24,12 +24,13 @@ use Rattle.filt_syntax.specs.declared.tree.Expr.TheFolds.{map-Expr, fold-roll-Ex
 use Rattle.filt_syntax.specs.declared.tree.Expr.TheShapes.{former-Expr-Access-1-at-4}
 use Rattle.filt_syntax.specs.Syntax.{rule, prim, post, unary, prod, sum, cmp, expr, listed, optional}
 use Rattle.filt_syntax.specs.Syntax as forms
-use Rattle.filt_syntax.specs.View.{Sight, sight, sight_step, as_prim, as_post, as_unary, as_prod, as_sum, as_cmp, as_expr, chain_of, parts_after, listed_after, arguments_tree, listed_tree, access_part, factor_part, term_part, joint_part, property_tree, method_tree, factor_symbol, term_symbol, joint_symbol, alone, simple_tree, simple_word, named_tree, group_tree, set_tree, mask_tree, defined_tree, method_call_tree, attribute_word, in_parentheses, second_part, compare_symbol, expr_tree}
-use Rattle.conf_ast.specs.Filters.{Expression, Plain, Named, Called, Grouped, Paired, SetOf, MaskOf, IsDefined, MethodOf, PropertyOf, Changed, Negated, Multiplied, Added, Compared, Joined, Expressions, NoExpressions, AndExpressions, expressions, accessed, multiplied, added, joined, expression_step, expression_of, expressions_of}
-use Rattle.conf_ast.proofs.Pairs.{two, two_maps, three_maps}
+use Rattle.filt_syntax.specs.View.{Sight, sight, sight_step, as_prim, as_post, as_unary, as_prod, as_sum, as_cmp, as_expr, chain_of, parts_after, listed_after, arguments_tree, listed_tree, access_part, factor_part, term_part, joint_part, property_tree, method_tree, factor_symbol, term_symbol, joint_symbol, alone, simple_tree, simple_word, named_tree, group_tree, set_tree, mask_tree, defined_tree, method_call_tree, attribute_word, in_parentheses, second_part, compare_symbol}
+use Rattle.conf_ast.specs.Filters.{Expression, Plain, Named, Called, Grouped, Paired, SetOf, MaskOf, IsDefined, MethodOf, PropertyOf, Changed, Negated, Multiplied, Added, Compared, Joined, Expressions, NoExpressions, AndExpressions, expressions, accessed, multiplied, added, joined, expression_step, expression_of}
+use Rattle.conf_ast.proofs.Equations.{two, two_maps, three_maps}
 use Rattle.conf_ast.proofs.WordsBack.{place_of, name_from, attribute_from, simple_from, property_from, method_from, factor_from, term_from, compare_from, joint_from, attribute_back, simple_back, property_back, method_back, factor_back, term_back, compare_back, joint_back}
 use Rattle.conf_ast.proofs.ItemsBack.{items_from, mask_from, items_back, mask_back}
 use Rattle.filt_syntax.specs.ItemView.{items_tree, mask_items_tree}
+
 -- ---- back from trees
 
 abbrev no_expression : Expression

@@ -17,7 +17,7 @@ use Rattle.filt_syntax.specs.declared.tree.MaskAtom.{MaskAtom}
 use Rattle.filt_syntax.specs.declared.tree.MaskAtom.TheVariants as atoms
 use Rattle.filt_syntax.specs.declared.tree.MaskItem.{MaskItem}
 use Rattle.filt_syntax.specs.ItemView.{num_word, high_tree, part_tree, pair_part_tree, lengths_part, item_tree, items_after, items_tree, mask_atom_tree, many_tree, mask_item_tree, mask_after, mask_items_tree}
-use Rattle.conf_ast.proofs.Pairs.{append_nil}
+use Rattle.conf_ast.proofs.Equations.{append_nil}
 use Rattle.conf_ast.proofs.WordsBack.{place_of, name_from}
 
 -- ---- back from trees

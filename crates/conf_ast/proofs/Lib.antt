@@ -1,7 +1,8 @@
+mod ConfigurationTrees
 mod ConfigurationsBack
+mod Equations
 mod ExpressionsBack
 mod ItemsBack
-mod Pairs
 mod StatementsBack
 mod TypesBack
 mod WordsBack

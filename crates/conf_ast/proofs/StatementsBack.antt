@@ -1,4 +1,4 @@
--- Statements, back from their trees.
+-- Statements: back from their trees, and the trees that they are of.
 use Rattle.std.proofs.Common.{◌≡◌, ℕ, List, [], ◌∷◌, Option, Some, None, option_map, map, refl, sym as flip, ap, subst, ◌∙◌}
 use Rattle.conf_lex.specs.declared.word.Word.{Word}
 use Rattle.conf_lex.specs.declared.word.Word.TheVariants as words
@@ -30,7 +30,7 @@ use Rattle.filt_syntax.specs.ItemView.{label_tree}
 use Rattle.filt_syntax.specs.View.{sight, method_word, expr_tree, listed_tree, arguments_tree, method_tree, in_parentheses}
 use Rattle.filt_syntax.specs.StatementView.{stmt_step, stmt_tree, row_after, row_tree, as_part, as_label, body_after, ArmParts, arms_after, arms_row, seen_arm, initial_tree, result_tree, assign_tree, change_stmt_tree, block_view, semicolon_leaf, type_tree, nth, beyond, of_name, of_attribute_tree, block_tree, empty_tree, unset_tree, else_tree, verdict_tree}
 use Rattle.conf_ast.specs.Filters.{Expression, Expressions, NoExpressions, AndExpressions, expression_of, expressions_of, Statement, Braced, Nothing, Declare, Assign, ChangeBy, Clear, Unset, If, IfElse, Case, CaseElse, For, Accept, Reject, Return, Print, PrintPart, Call, Statements, NoStatements, AndStatements, Arms, NoArms, AndArms, statements, arms, statement_step, statement_of, statements_of, block_of, changed}
-use Rattle.conf_ast.proofs.Pairs.{two, three, three_maps}
+use Rattle.conf_ast.proofs.Equations.{two, three, three_maps}
 use Rattle.conf_ast.proofs.WordsBack.{place_of, name_from, attribute_from, method_from, attribute_back, method_back}
 use Rattle.conf_ast.proofs.ItemsBack.{part_from, item_from, items_from, item_back, rest_back}
 use Rattle.conf_ast.proofs.TypesBack.{type_from, type_back}
@@ -244,7 +244,7 @@ called_again : (es : List Expr) → Fits rule (arguments_tree (map expr_tree es)
 called_again es h = ap (λ (x : Expressions). all_seen x) (made_is es) ∙ arguments_again expr_tree expression_of expression_again es h
 
 -- trees of what was made, and that what they stand behind fits too
-record AreSeen {X : Type 0} (made known : X) (t : Tree) (f : Form) : Type 0 where
+pub record AreSeen {X : Type 0} (made known : X) (t : Tree) (f : Form) : Type 0 where
   pub same : made ≡ known
   pub fits : Fits rule t f
 

@@ -1,6 +1,6 @@
 -- The abstract syntax of filters: expressions and statements as plain data, without memory, and the
--- ones that values in memory are. Each `at` is the byte of the source at which what it is of begins,
--- and `place` the byte of a parenthesis.
+-- ones that values in memory are. Each `at` is the byte of the source at which what it is of
+-- begins, and `place` the byte of a parenthesis.
 use Rattle.std.specs.Prelude.{ℕ, List, [], ◌∷◌, Option, Some, None, option_map, Vec}
 use Rattle.std.specs.Global.{Global}
 use Rattle.grammar.specs.declared.named.Name.{Name}

@@ -1,4 +1,4 @@
-//! A tree of the grammar is of one abstract syntax, and so is a text.
+//! A tree of the grammar is of one abstract syntax and that of one tree, and a text is one at most.
 ghost use Rattle.std.specs.Prelude.{◌≡◌, ℕ, List};
 ghost use Rattle.grammar.specs.Grammar.{Fits};
 ghost use Rattle.filt_syntax.specs.declared.tree.Block.{Block};
@@ -45,7 +45,14 @@ pub fn a_tree_is_of_one_configuration()
         → statements_tree c ≡ statements_tree d → configuration_of c ≡ configuration_of d }
 {}
 
-/// A text is one abstract syntax: whatever statements it says, they are one configuration.
+/// One configuration is seen as one tree.
+pub fn a_configuration_is_of_one_tree()
+    ensures { (c d : List Statement) → Fits rule (statements_tree c) config
+        → Fits rule (statements_tree d) config → configuration_of c ≡ configuration_of d
+        → statements_tree c ≡ statements_tree d }
+{}
+
+/// A text is one abstract syntax at most: whatever statements it says, they are one configuration.
 pub fn a_text_is_one_syntax()
     ensures { (text : List ℕ) (c d : List Statement) → IsConfigText text (statements_tree c)
         → IsConfigText text (statements_tree d) → configuration_of c ≡ configuration_of d }
