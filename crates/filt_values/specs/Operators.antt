@@ -112,10 +112,13 @@ not_of v = and_then (bool_in v) (λ b. says (not b))
 
 -- ---- `(a, b)`
 
+-- both parts have 16 bits
+abbrev pub joined : ℕ → ℕ → Result Val Failure
+joined a b =
+    if nat_lt a (2 ^ 16) && nat_lt b (2 ^ 16) then Ok (VPair (a, b)) else Err (Fault faults.PairPart)
+
 abbrev pub pair_of : Val → Val → Result Val Failure
-pair_of v w =
-    and_then (int_in v) (λ a. and_then (int_in w) (λ b.
-    if nat_lt a (2 ^ 16) && nat_lt b (2 ^ 16) then Ok (VPair (a, b)) else Err (Fault faults.PairPart)))
+pair_of v w = and_then (int_in v) (λ a. and_then (int_in w) (λ b. joined a b))
 
 -- ---- `=`, `!=`: two of one sort, but for sets and masks; lists in their order
 
