@@ -3,6 +3,8 @@
 
 mod compare;
 mod contain;
+mod kept;
+mod lists;
 mod logic;
 mod members;
 mod numbers;
@@ -13,6 +15,7 @@ mod value;
 
 pub use compare::{equal, greater, greater_or_equal, less, less_or_equal, not_equal};
 pub use contain::{matches, matches_not};
+pub use lists::{add, delete, empty, filter, prepend};
 pub use logic::{not, truth};
 pub use numbers::{minus, over, plus, times};
 pub use properties::{first, ip, last, len, pair};
