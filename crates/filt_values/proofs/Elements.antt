@@ -26,19 +26,19 @@ same_tests true false h k = sym (k.1 (h.0 refl))
 same_tests false true h k = h.1 (k.0 refl)
 same_tests false false h k = refl
 
-any_decides :
+pub any_decides :
     {X : Type 0} (test : X → Bool) (P : X → Type 0) (xs : List X) → ((x : X) → (test x ≡ true → P x) × (P x → test x ≡ true))
     → (list_any test xs ≡ true → Any P xs) × (Any P xs → list_any test xs ≡ true)
 any_decides test P xs decides =
     ( λ is. let (k, x, below, at, holds) = Any-from_list_any test xs is in (k, x, below, at, (decides x).0 holds)
     , λ some. let (k, x, below, at, holds) = some in list_any-from_Any test xs (k, x, below, at, (decides x).1 holds))
 
-int_decides : (n : ℕ) (item : IntItem) → (takes_int item n ≡ true → TakesInt item n) × (TakesInt item n → takes_int item n ≡ true)
+pub int_decides : (n : ℕ) (item : IntItem) → (takes_int item n ≡ true → TakesInt item n) × (TakesInt item n → takes_int item n ≡ true)
 int_decides n item =
     ( λ is. let both = and_parts _ _ is in (leb-true item.lo n both.0, leb-true n item.hi both.1)
     , λ takes. and_from _ _ (le-leb item.lo n takes.0) (le-leb n item.hi takes.1))
 
-pair_decides : (p : ℕ × ℕ) (item : PairItem) → (takes_pair item p ≡ true → TakesPair item p.0 p.1) × (TakesPair item p.0 p.1 → takes_pair item p ≡ true)
+pub pair_decides : (p : ℕ × ℕ) (item : PairItem) → (takes_pair item p ≡ true → TakesPair item p.0 p.1) × (TakesPair item p.0 p.1 → takes_pair item p ≡ true)
 pair_decides p item =
     ( λ is. let both = and_parts (takes_int item.a p.0) (takes_int item.b p.1) is in ((int_decides p.0 item.a).0 both.0, (int_decides p.1 item.b).0 both.1)
     , λ takes. and_from _ _ ((int_decides p.0 item.a).1 takes.0) ((int_decides p.1 item.b).1 takes.1))
@@ -58,7 +58,7 @@ family_to (V6 m) (V4 n) is = absurd (cc)
 eq_from : (m n : ℕ) → m ≡ n → (m == n) ≡ true
 eq_from m n is = (Decides-eqb m n).1 is
 
-net_decides : (net : Net) (item : PrefixItem) → (takes_net item net ≡ true → TakesNet item net) × (TakesNet item net → takes_net item net ≡ true)
+pub net_decides : (net : Net) (item : PrefixItem) → (takes_net item net ≡ true → TakesNet item net) × (TakesNet item net → takes_net item net ≡ true)
 net_decides net item =
     ( λ is.
         let one = and_parts (family_rank item.net.addr == family_rank net.addr) _ is in
@@ -75,7 +75,7 @@ net_decides net item =
         (and_from _ _ (le-leb item.lo net.len takes.lo)
         (and_from _ _ (le-leb net.len item.hi takes.hi) (eq_from _ _ takes.bits))))
 
-covers_decides : (a b : Net) → (covers a b ≡ true → Covers a b) × (Covers a b → covers a b ≡ true)
+pub covers_decides : (a b : Net) → (covers a b ≡ true → Covers a b) × (Covers a b → covers a b ≡ true)
 covers_decides a b =
     ( λ is.
         let one = and_parts (family_rank a.addr == family_rank b.addr) _ is in

@@ -24,7 +24,8 @@ use Rattle.filt_values.specs.Values.{Val, VInt, VBool, VIp, VPrefix, VPair, VStr
 -- ---- what a value is, of one sort
 
 -- one thing after another
-abbrev pub and_then : {A B : Type 0} → Result A Failure → (A → Result B Failure) → Result B Failure
+abbrev pub and_then :
+    {A B : Type 0} → Result A Failure → (A → Result B Failure) → Result B Failure
 and_then (Ok a) next = next a
 and_then (Err failure) next = Err failure
 
@@ -115,7 +116,8 @@ not_of v = and_then (bool_in v) (λ b. says (not b))
 -- both parts have 16 bits
 abbrev pub joined : ℕ → ℕ → Result Val Failure
 joined a b =
-    if nat_lt a (2 ^ 16) && nat_lt b (2 ^ 16) then Ok (VPair (a, b)) else Err (Fault faults.PairPart)
+    if nat_lt a (2 ^ 16) && nat_lt b (2 ^ 16) then Ok (VPair (a, b))
+    else Err (Fault faults.PairPart)
 
 abbrev pub pair_of : Val → Val → Result Val Failure
 pair_of v w = and_then (int_in v) (λ a. and_then (int_in w) (λ b. joined a b))

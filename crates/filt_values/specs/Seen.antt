@@ -30,7 +30,8 @@ Answers view (Ok x) given = given ≡ Ok (view x)
 Answers view (Err failure) given = given ≡ Err failure
 
 -- The call answers what the definition gives, or wants memory.
-abbrev pub Builds : {X A : Type 0} → (X → A) → Result X ListFailure → Result A Failure → Type 0
+abbrev pub Builds :
+    {X A : Type 0} → (X → A) → Result X ListFailure → Result A Failure → Type 0
 Builds view (Ok x) given = given ≡ Ok (view x)
 Builds view (Err (Failed failure)) given = given ≡ Err failure
 Builds view (Err Memory) given = ⊤

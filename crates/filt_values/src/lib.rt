@@ -4,6 +4,7 @@
 mod compare;
 mod contain;
 mod kept;
+pub mod laws;
 mod lists;
 mod logic;
 mod members;
