@@ -1,14 +1,13 @@
 -- The tests of plain values answer what the relations of sets and prefixes say.
-use Rattle.std.proofs.Common.{◌≡◌, ℕ, ◌==◌, ◌≤◌, Bool, true, false, ◌&&◌, nat_le, min, List, length, IsTrue, ◌↔◌, ⊎_elim, refl, sym, ap, ◌∙◌}
-use Rattle.std.specs.Bool.{Decides}
+use Rattle.std.proofs.Common.{◌≡◌, ℕ, ◌==◌, Bool, true, false, nat_le, List, IsTrue, ◌↔◌, refl, sym}
 use Rattle.std.specs.List.{Any, list_any}
-use Rattle.std.proofs.lemmas.Bool.{and_parts, and_from, cases_Bool, leb-true, le-leb, eqb-true}
-use Rattle.std.proofs.lemmas.Bool.Decides.{Decides-eqb, Decides-and}
+use Rattle.std.proofs.lemmas.Bool.{and_parts, and_from, leb-true, le-leb, eqb-true}
+use Rattle.std.proofs.lemmas.Bool.Decides.{Decides-eqb}
 use Rattle.std.proofs.lemmas.List.Folds.{Any-from_list_any, list_any-from_Any}
 use Rattle.bits_ip.specs.declared.address.Addr.{Addr}
 use Rattle.bits_ip.specs.declared.address.Addr.TheVariants.{V4, V6}
 use Rattle.bits_ip.specs.Address.{family_of, family_rank}
-use Rattle.bits_ip.specs.Prefix.{Net, Covers, front_bits}
+use Rattle.bits_ip.specs.Prefix.{Net, Covers}
 use Rattle.filt_sets.specs.declared.ints.IntItem.{IntItem}
 use Rattle.filt_sets.specs.declared.pairs.PairItem.{PairItem}
 use Rattle.filt_sets.specs.declared.prefixes.PrefixItem.{PrefixItem}
@@ -29,19 +28,22 @@ same_tests false false h k = refl
 pub any_decides :
     {X : Type 0} (test : X → Bool) (P : X → Type 0) (xs : List X) → ((x : X) → (test x ≡ true → P x) × (P x → test x ≡ true))
     → (list_any test xs ≡ true → Any P xs) × (Any P xs → list_any test xs ≡ true)
-any_decides test P xs decides =
-    ( λ is. let (k, x, below, at, holds) = Any-from_list_any test xs is in (k, x, below, at, (decides x).0 holds)
-    , λ some. let (k, x, below, at, holds) = some in list_any-from_Any test xs (k, x, below, at, (decides x).1 holds))
+any_decides test P xs decides = (
+  λ is. let (k, x, below, at, holds) = Any-from_list_any test xs is in (k, x, below, at, (decides x).0 holds),
+  λ some. let (k, x, below, at, holds) = some in list_any-from_Any test xs (k, x, below, at, (decides x).1 holds),
+)
 
 pub int_decides : (n : ℕ) (item : IntItem) → (takes_int item n ≡ true → TakesInt item n) × (TakesInt item n → takes_int item n ≡ true)
-int_decides n item =
-    ( λ is. let both = and_parts _ _ is in (leb-true item.lo n both.0, leb-true n item.hi both.1)
-    , λ takes. and_from _ _ (le-leb item.lo n takes.0) (le-leb n item.hi takes.1))
+int_decides n item = (
+  λ is. let both = and_parts _ _ is in (leb-true item.lo n both.0, leb-true n item.hi both.1),
+  λ takes. and_from _ _ (le-leb item.lo n takes.0) (le-leb n item.hi takes.1),
+)
 
 pub pair_decides : (p : ℕ × ℕ) (item : PairItem) → (takes_pair item p ≡ true → TakesPair item p.0 p.1) × (TakesPair item p.0 p.1 → takes_pair item p ≡ true)
-pair_decides p item =
-    ( λ is. let both = and_parts (takes_int item.a p.0) (takes_int item.b p.1) is in ((int_decides p.0 item.a).0 both.0, (int_decides p.1 item.b).0 both.1)
-    , λ takes. and_from _ _ ((int_decides p.0 item.a).1 takes.0) ((int_decides p.1 item.b).1 takes.1))
+pair_decides p item = (
+  λ is. let both = and_parts (takes_int item.a p.0) (takes_int item.b p.1) is in ((int_decides p.0 item.a).0 both.0, (int_decides p.1 item.b).0 both.1),
+  λ takes. and_from _ _ ((int_decides p.0 item.a).1 takes.0) ((int_decides p.1 item.b).1 takes.1),
+)
 
 family_from : (a b : Addr) → (family_rank a == family_rank b) ≡ true → family_of a ≡ family_of b
 family_from (V4 m) (V4 n) is = refl
@@ -59,29 +61,31 @@ eq_from : (m n : ℕ) → m ≡ n → (m == n) ≡ true
 eq_from m n is = (Decides-eqb m n).1 is
 
 pub net_decides : (net : Net) (item : PrefixItem) → (takes_net item net ≡ true → TakesNet item net) × (TakesNet item net → takes_net item net ≡ true)
-net_decides net item =
-    ( λ is.
-        let one = and_parts (family_rank item.net.addr == family_rank net.addr) _ is in
-        let two = and_parts (nat_le item.lo net.len) _ one.1 in
-        let three = and_parts (nat_le net.len item.hi) _ two.1 in
-        record {
-          family = family_from item.net.addr net.addr one.0;
-          lo = leb-true item.lo net.len two.0;
-          hi = leb-true net.len item.hi three.0;
-          bits = eqb-true _ _ three.1;
-        }
-    , λ takes.
-        and_from _ _ (family_to item.net.addr net.addr takes.family)
-        (and_from _ _ (le-leb item.lo net.len takes.lo)
-        (and_from _ _ (le-leb net.len item.hi takes.hi) (eq_from _ _ takes.bits))))
+net_decides net item = (
+  λ is.
+      let one = and_parts (family_rank item.net.addr == family_rank net.addr) _ is in
+      let two = and_parts (nat_le item.lo net.len) _ one.1 in
+      let three = and_parts (nat_le net.len item.hi) _ two.1 in
+      record {
+        family = family_from item.net.addr net.addr one.0;
+        lo = leb-true item.lo net.len two.0;
+        hi = leb-true net.len item.hi three.0;
+        bits = eqb-true _ _ three.1;
+      },
+  λ takes.
+      and_from _ _ (family_to item.net.addr net.addr takes.family)
+      (and_from _ _ (le-leb item.lo net.len takes.lo)
+      (and_from _ _ (le-leb net.len item.hi takes.hi) (eq_from _ _ takes.bits))),
+)
 
 pub covers_decides : (a b : Net) → (covers a b ≡ true → Covers a b) × (Covers a b → covers a b ≡ true)
-covers_decides a b =
-    ( λ is.
-        let one = and_parts (family_rank a.addr == family_rank b.addr) _ is in
-        let two = and_parts (nat_le a.len b.len) _ one.1 in
-        record { family = family_from a.addr b.addr one.0; len = leb-true a.len b.len two.0; bits = eqb-true _ _ two.1 }
-    , λ is. and_from _ _ (family_to a.addr b.addr is.family) (and_from _ _ (le-leb a.len b.len is.len) (eq_from _ _ is.bits)))
+covers_decides a b = (
+  λ is.
+      let one = and_parts (family_rank a.addr == family_rank b.addr) _ is in
+      let two = and_parts (nat_le a.len b.len) _ one.1 in
+      record { family = family_from a.addr b.addr one.0; len = leb-true a.len b.len two.0; bits = eqb-true _ _ two.1 },
+  λ is. and_from _ _ (family_to a.addr b.addr is.family) (and_from _ _ (le-leb a.len b.len is.len) (eq_from _ _ is.bits)),
+)
 
 pub in_ints_is : (items : List IntItem) (n : ℕ) (b : Bool) → IsTrue b ↔ Any (λ item. TakesInt item n) items → b ≡ in_ints items n
 in_ints_is items n b h = same_tests b (in_ints items n) h (any_decides (λ item. takes_int item n) (λ item. TakesInt item n) items (int_decides n))

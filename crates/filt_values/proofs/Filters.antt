@@ -1,5 +1,5 @@
 -- A part of a short list without repetitions is one.
-use Rattle.std.proofs.Common.{◌≡◌, ℕ, ◌≤◌, Bool, true, false, cond, List, [], ◌∷◌, length, arith, refl, ap, ◌∙◌, ⊎_elim}
+use Rattle.std.proofs.Common.{◌≡◌, ℕ, ◌≤◌, Bool, false, List, [], ◌∷◌, length, arith, ap, ◌∙◌, ⊎_elim}
 use Rattle.std.specs.List.{AllByRecursion, IsDistinct, filter}
 use Rattle.std.proofs.lemmas.Bool.{cases_Bool}
 use Rattle.attrs.specs.Clist.{same_pair, IsClist}

@@ -1,7 +1,7 @@
 -- What operators give, in the words of the relations below, and of `≡`.
-use Rattle.std.proofs.Common.{◌≡◌, ℕ, zero, suc, ◌==◌, Bool, true, false, ◌&&◌, not, nat_lt, List, [], ◌∷◌, length, Result, Ok, Err, ◌↔◌, IsTrue, refl, sym, ap, ◌∙◌}
+use Rattle.std.proofs.Common.{◌≡◌, ℕ, zero, suc, ◌==◌, Bool, true, false, not, List, Err, ◌↔◌, refl, sym, ap, ◌∙◌}
 use Rattle.std.specs.Bool.{Decides}
-use Rattle.std.specs.List.{Any, list_any}
+use Rattle.std.specs.List.{Any}
 use Rattle.std.specs.Cmp.Lexicographic.{pointwise}
 use Rattle.std.proofs.lemmas.Bool.Decides.{Decides-eqb, Decides-and, Decides-like}
 use Rattle.std.proofs.lemmas.Slice.Eq.{slice_eq-Decides}
@@ -24,8 +24,7 @@ use Rattle.attrs.specs.declared.attributes.Origin.{Origin}
 use Rattle.attrs.specs.declared.attributes.Origin.TheVariants.{Igp, Egp, Incomplete}
 use Rattle.attrs.specs.Clist.{same_pair}
 use Rattle.filt_values.specs.declared.value.Failure.{Failure}
-use Rattle.filt_values.specs.declared.value.Failure.TheVariants.{Fault, Stuck}
-use Rattle.filt_values.specs.Members.{in_ints, in_pairs, host_of, covers, same_bool, source_rank, dest_rank, origin_rank, takes_int, takes_pair, takes_net}
+use Rattle.filt_values.specs.Members.{in_ints, in_pairs, host_of, same_bool, source_rank, dest_rank, origin_rank, takes_int, takes_pair, takes_net}
 use Rattle.filt_values.specs.Values.{Val, VInt, VBool, VIp, VPrefix, VPair, VString, VPath, VMask, VClist, VIntSet, VPairSet, VPrefixSet, VSource, VDest, VOrigin, sort_of}
 use Rattle.filt_values.specs.Operators.{and_then, equal_of, matches_not_of, matches_of, not_equal_of, not_of, says}
 use Rattle.filt_values.specs.Sorts.{compared}

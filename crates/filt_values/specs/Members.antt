@@ -1,6 +1,6 @@
 -- Tests of plain values: which elements a set has, which net is within which, what is equal, and
 -- which comes first.
-use Rattle.std.specs.Prelude.{ℕ, ◌-◌, ◌==◌, Bool, true, false, ◌&&◌, not, nat_le, min, List, []}
+use Rattle.std.specs.Prelude.{ℕ, ◌==◌, Bool, true, false, ◌&&◌, not, nat_le, min, List}
 use Rattle.std.specs.List.{list_any}
 use Rattle.std.specs.Ordering.{nat_cmp, on, then_cmp}
 use Rattle.std.specs.declared.cmp.Ordering.{Ordering}
@@ -32,7 +32,7 @@ takes_net item net =
     (family_rank item.net.addr == family_rank net.addr)
     && (nat_le item.lo net.len && (nat_le net.len item.hi
     && (front_bits item.net.addr (min net.len item.net.len)
-        == front_bits net.addr (min net.len item.net.len))))
+    == front_bits net.addr (min net.len item.net.len))))
 
 abbrev pub in_ints : List IntItem → ℕ → Bool
 in_ints items n = list_any (λ item. takes_int item n) items

@@ -1,6 +1,6 @@
 -- What each operator gives at values: a value, a fault, or `Stuck` where the values are of other
 -- sorts than it takes. No typed filter comes to `Stuck`.
-use Rattle.std.specs.Prelude.{ℕ, ◌+◌, ◌-◌, ◌*◌, ◌/◌, ◌%◌, ◌^◌, ◌==◌, Bool, true, false, ◌&&◌, not, nat_le, nat_lt, if◌then◌else◌, List, [], ◌∷◌, ◌++◌, length, get_or, Result, Ok, Err}
+use Rattle.std.specs.Prelude.{ℕ, ◌+◌, ◌-◌, ◌*◌, ◌/◌, ◌%◌, ◌^◌, ◌==◌, Bool, ◌&&◌, not, nat_lt, if◌then◌else◌, List, [], ◌∷◌, ◌++◌, length, get_or, Result, Ok, Err}
 use Rattle.std.specs.List.{filter, list_any}
 use Rattle.std.specs.Cmp.Lexicographic.{pointwise}
 use Rattle.std.specs.Ordering.{is_lt, is_le, is_gt, is_ge, nat_cmp}
@@ -13,7 +13,6 @@ use Rattle.filt_sets.specs.Search.{cuts}
 use Rattle.attrs.specs.declared.attributes.Kind.{Kind}
 use Rattle.attrs.specs.declared.attributes.Dest.{Dest}
 use Rattle.attrs.specs.declared.attributes.Origin.{Origin}
-use Rattle.attrs.specs.declared.judge.FilterFault.{FilterFault}
 use Rattle.attrs.specs.declared.judge.FilterFault.TheVariants as faults
 use Rattle.attrs.specs.Clist.{has_pair, same_pair}
 use Rattle.filt_values.specs.declared.value.Failure.{Failure}

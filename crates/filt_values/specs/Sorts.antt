@@ -12,11 +12,12 @@ IsGiven sort (Ok v) = sort_of v ≡ sort
 IsGiven sort (Err (Fault fault)) = ⊤
 IsGiven sort (Err Stuck) = ⊥
 
--- Where the operator takes the value's sort, it gives a value of the result's sort or a fault. It is
--- stuck exactly where it doesn't.
+-- Where the operator takes the value's sort, it gives a value of the result's sort or a fault, and
+-- elsewhere it is stuck.
 abbrev pub TakesOne : (Sort → Bool) → (Sort → Sort) → (Val → Result Val Failure) → Type 0
 TakesOne takes gives op =
-    (v : Val) → MatchBool (takes (sort_of v)) (IsGiven (gives (sort_of v)) (op v)) (op v ≡ Err Stuck)
+    (v : Val)
+    → MatchBool (takes (sort_of v)) (IsGiven (gives (sort_of v)) (op v)) (op v ≡ Err Stuck)
 
 -- the same of two values; the result's sort goes by the left one's
 abbrev pub TakesTwo :
@@ -24,8 +25,8 @@ abbrev pub TakesTwo :
 TakesTwo takes gives op =
     (v w : Val)
     → MatchBool (takes (sort_of v) (sort_of w))
-        (IsGiven (gives (sort_of v)) (op v w))
-        (op v w ≡ Err Stuck)
+    (IsGiven (gives (sort_of v)) (op v w))
+    (op v w ≡ Err Stuck)
 
 -- ---- results
 

@@ -93,8 +93,8 @@ pub fn delete<'a>(list: Value<'a>, argument: &Value<'a>) -> Result<Value<'a>, Fa
     }
 }
 
-/// `list.filter(argument)`: those numbers of the path that are in a set, or those communities of the
-/// list that are in a set or a list. Takes no memory.
+/// `list.filter(argument)`: those numbers of the path that are in a set, or those communities of
+/// the list that are in a set or a list. Takes no memory.
 pub fn filter<'a>(list: Value<'a>, argument: &Value<'a>) -> Result<Value<'a>, Failure>
     ensures { Answers val_of result (filtered_of (val_of list.entry) (val_of argument.now)) }
 {

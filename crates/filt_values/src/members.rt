@@ -91,5 +91,7 @@ pub(crate) fn some_in_ints(path: &Path, set: &IntSet) -> bool
 pub(crate) fn some_in_pairs(list: &Clist, set: &PairSet) -> bool
     ensures { result ≡ list_any (λ p. in_pairs set.now p) list.now }
 {
-    list.as_slice().iter().any(|pair| in_pairs(set, pair.0, pair.1))
+    list.as_slice()
+        .iter()
+        .any(|pair| in_pairs(set, pair.0, pair.1))
 }

@@ -1,4 +1,4 @@
-use Rattle.std.proofs.Common.{rules, ℕ, ◌==◌, not}
+use Rattle.std.proofs.Common.{rules, ℕ}
 use Rattle.std.proofs.lemmas.Fn.{filter_same}
 use Rattle.filt_values.specs.Members.{in_ints}
 use Rattle.filt_values.proofs.Filters.{kept_is}

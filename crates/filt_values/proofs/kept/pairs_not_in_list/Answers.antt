@@ -1,4 +1,4 @@
-use Rattle.std.proofs.Common.{rules, ℕ, ◌==◌, not, refl}
+use Rattle.std.proofs.Common.{rules, ℕ, not, refl}
 use Rattle.std.proofs.lemmas.Fn.{filter_same}
 use Rattle.attrs.specs.Clist.{has_pair}
 use Rattle.filt_values.proofs.Filters.{clist_left, kept_is}

@@ -18,4 +18,3 @@ returns-clause-greater c = greater_takes
 
 pub returns-clause-greater_or_equal : goal.returns-clause-greater_or_equal
 returns-clause-greater_or_equal c = greater_or_equal_takes
-

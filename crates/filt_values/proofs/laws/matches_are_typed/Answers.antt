@@ -6,4 +6,3 @@ returns-clause-matches c = matches_takes
 
 pub returns-clause-matches_not : goal.returns-clause-matches_not
 returns-clause-matches_not c = matches_not_takes
-

@@ -15,4 +15,3 @@ returns-clause-filtered c = filtered_takes
 
 pub returns-clause-emptied : goal.returns-clause-emptied
 returns-clause-emptied c = emptied_takes
-

@@ -15,4 +15,3 @@ returns-clause-over c = over_takes
 
 pub returns-clause-pair : goal.returns-clause-pair
 returns-clause-pair c = pair_takes
-

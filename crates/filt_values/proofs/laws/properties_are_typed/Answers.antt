@@ -12,4 +12,3 @@ returns-clause-last c = last_takes
 
 pub returns-clause-ip : goal.returns-clause-ip
 returns-clause-ip c = ip_takes
-

@@ -6,4 +6,3 @@ returns-clause-truth c = truth_takes
 
 pub returns-clause-not : goal.returns-clause-not
 returns-clause-not c = not_takes
-
