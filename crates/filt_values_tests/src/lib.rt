@@ -1,13 +1,13 @@
-// A library with one function.
+//! Tests of the filter language's values: each line of `~`, each fault, each property and method.
 #![tactic(auto)]
 
-ghost use Rattle.std.specs.Prelude.{◌≡◌};
-ghost use Rattle.filt_values_tests.specs.Echo.{echo_of};
-
-// The `ensures` clause is the contract: what `echo` returns is `echo_of` of its argument, a definition
-// in `specs/Echo.antt`, which a caller's clause can cite too.
-pub fn echo(x: usize) -> usize
-    ensures { result ≡ echo_of x }
-{
-    x
-}
+#[cfg(test)]
+mod comparing;
+#[cfg(test)]
+mod lists;
+#[cfg(test)]
+mod matching;
+#[cfg(test)]
+mod numbers;
+#[cfg(test)]
+mod samples;
