@@ -1,5 +1,6 @@
 -- What each operator gives at values: a value, a fault, or `Stuck` where the values are of other
 -- sorts than it takes. No typed filter comes to `Stuck`.
+-- Of a mask `cuts` tests what `IsCut` says, by the law `lists_are_matched`.
 use Rattle.std.specs.Prelude.{ℕ, ◌+◌, ◌-◌, ◌*◌, ◌/◌, ◌%◌, ◌^◌, ◌==◌, Bool, ◌&&◌, not, nat_lt, if◌then◌else◌, List, [], ◌∷◌, ◌++◌, length, get_or, Result, Ok, Err}
 use Rattle.std.specs.List.{filter, list_any}
 use Rattle.std.specs.Cmp.Lexicographic.{pointwise}

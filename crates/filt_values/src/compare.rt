@@ -11,7 +11,8 @@ use crate::same::{
 use crate::{Failure, Value};
 use std::cmp::Ordering;
 
-/// `left = right`, of two of one sort other than sets and masks. Lists are equal in their order.
+/// `left = right`, of two of one sort other than sets and masks (BIRD User's Guide, "Operators").
+/// Lists are equal in their order.
 pub fn equal<'a>(left: &Value<'a>, right: &Value<'a>) -> Result<Value<'a>, Failure>
     ensures { Answers val_of result (equal_of (val_of left.now) (val_of right.now)) }
 {
@@ -62,8 +63,8 @@ fn order<'a>(left: &Value<'a>, right: &Value<'a>) -> Result<Ordering, Failure>
     }
 }
 
-/// `left < right`, of two numbers, of two pairs, by the first part first, or of two addresses, IPv4
-/// before IPv6.
+/// `left < right` (BIRD User's Guide, "Operators"), of two numbers, of two pairs, by the first part
+/// first, or of two addresses, IPv4 before IPv6.
 pub fn less<'a>(left: &Value<'a>, right: &Value<'a>) -> Result<Value<'a>, Failure>
     ensures { Answers val_of result (less_of (val_of left.now) (val_of right.now)) }
 {
@@ -71,7 +72,7 @@ pub fn less<'a>(left: &Value<'a>, right: &Value<'a>) -> Result<Value<'a>, Failur
     Ok(Value::Bool(order.is_lt()))
 }
 
-/// `left <= right`
+/// `left <= right`, ordered as by `less`
 pub fn less_or_equal<'a>(left: &Value<'a>, right: &Value<'a>) -> Result<Value<'a>, Failure>
     ensures { Answers val_of result (less_or_equal_of (val_of left.now) (val_of right.now)) }
 {
@@ -79,7 +80,7 @@ pub fn less_or_equal<'a>(left: &Value<'a>, right: &Value<'a>) -> Result<Value<'a
     Ok(Value::Bool(order.is_le()))
 }
 
-/// `left > right`
+/// `left > right`, ordered as by `less`
 pub fn greater<'a>(left: &Value<'a>, right: &Value<'a>) -> Result<Value<'a>, Failure>
     ensures { Answers val_of result (greater_of (val_of left.now) (val_of right.now)) }
 {
@@ -87,7 +88,7 @@ pub fn greater<'a>(left: &Value<'a>, right: &Value<'a>) -> Result<Value<'a>, Fai
     Ok(Value::Bool(order.is_gt()))
 }
 
-/// `left >= right`
+/// `left >= right`, ordered as by `less`
 pub fn greater_or_equal<'a>(left: &Value<'a>, right: &Value<'a>) -> Result<Value<'a>, Failure>
     ensures { Answers val_of result (greater_or_equal_of (val_of left.now) (val_of right.now)) }
 {

@@ -12,8 +12,8 @@ use crate::{Failure, Value};
 use attrs::Path;
 use bits_ip::Prefix;
 
-/// `left ~ right`: an element in a set or a list, an address or a prefix within a prefix, a list of
-/// which some element is in a set, or a path that a mask matches.
+/// `left ~ right` (BIRD User's Guide, "Operators"): an element in a set or a list, an address or a
+/// prefix within a prefix, a list of which some element is in a set, or a path that a mask matches.
 pub fn matches<'a>(left: &Value<'a>, right: &Value<'a>) -> Result<Value<'a>, Failure>
     ensures { Answers val_of result (matches_of (val_of left.now) (val_of right.now)) }
 {

@@ -13,8 +13,8 @@ use crate::{Failure, ListFailure, Value};
 use attrs::{Clist, ClistFault, FilterFault, Path, PathFault};
 use std::alloc::Global;
 
-/// `list.prepend(argument)`: the path with a number before the others. Behind 120 numbers it is the
-/// fault `PathLong`.
+/// `list.prepend(argument)`: the path with a number before the others (BIRD User's Guide, "Data
+/// types", `bgppath`). Before 120 numbers it is the fault `PathLong`.
 pub fn prepend<'a>(list: Value<'a>, argument: &Value<'a>) -> Result<Value<'a>, ListFailure>
     ensures { Builds val_of result (prepended_of (val_of list.entry) (val_of argument.now)) }
 {
@@ -41,7 +41,8 @@ fn fault(fault: FilterFault) -> ListFailure
 }
 
 /// `list.add(argument)`: the list of communities with a pair, or with each of a list, that isn't
-/// there yet. With more than 64 it is the fault `ClistLong`.
+/// there yet (BIRD User's Guide, "Data types", `clist`). With more than 64 it is the fault
+/// `ClistLong`.
 pub fn add<'a>(list: Value<'a>, argument: &Value<'a>) -> Result<Value<'a>, ListFailure>
     ensures { Builds val_of result (added_of (val_of list.entry) (val_of argument.now)) }
 {
@@ -82,7 +83,8 @@ fn with_pairs(list: Clist, pairs: &[(u16, u16)]) -> Result<Clist, ListFailure>
 }
 
 /// `list.delete(argument)`: the path without a number or those of a set, or the list of communities
-/// without a pair or those of a set or a list. Takes no memory.
+/// without a pair or those of a set or a list (BIRD User's Guide, "Data types", `bgppath` and
+/// `clist`). Takes no memory.
 pub fn delete<'a>(list: Value<'a>, argument: &Value<'a>) -> Result<Value<'a>, Failure>
     ensures { Answers val_of result (deleted_of (val_of list.entry) (val_of argument.now)) }
 {
@@ -94,7 +96,8 @@ pub fn delete<'a>(list: Value<'a>, argument: &Value<'a>) -> Result<Value<'a>, Fa
 }
 
 /// `list.filter(argument)`: those numbers of the path that are in a set, or those communities of
-/// the list that are in a set or a list. Takes no memory.
+/// the list that are in a set or a list (BIRD User's Guide, "Data types", `bgppath` and `clist`).
+/// Takes no memory.
 pub fn filter<'a>(list: Value<'a>, argument: &Value<'a>) -> Result<Value<'a>, Failure>
     ensures { Answers val_of result (filtered_of (val_of list.entry) (val_of argument.now)) }
 {
@@ -143,7 +146,8 @@ fn pairs_within(list: Clist, argument: &Value<'_>) -> Result<Clist, Failure>
     }
 }
 
-/// The empty list of the same sort, as `list.empty` leaves it. Takes no memory.
+/// The empty list of the same sort, as `list.empty` leaves it (BIRD User's Guide, "Data types").
+/// Takes no memory.
 pub fn empty<'a>(alloc: Global, list: &Value<'a>) -> Result<Value<'a>, Failure>
     ensures { Answers val_of result (emptied_of (val_of list.now)) }
 {

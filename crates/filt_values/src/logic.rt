@@ -5,7 +5,8 @@ ghost use Rattle.filt_values.specs.Seen.{val_of, Answers};
 use crate::parts::bool;
 use crate::{Failure, Value};
 
-/// The value, which is a truth value.
+/// The value, where it is a truth value, as conditions want it (BIRD User's Guide, "Control
+/// structures").
 pub fn truth<'a>(value: &Value<'a>) -> Result<Value<'a>, Failure>
     ensures { Answers val_of result (truth_of (val_of value.now)) }
 {
@@ -13,7 +14,7 @@ pub fn truth<'a>(value: &Value<'a>) -> Result<Value<'a>, Failure>
     Ok(Value::Bool(truth))
 }
 
-/// `!value`
+/// `!value` (BIRD User's Guide, "Operators")
 pub fn not<'a>(value: &Value<'a>) -> Result<Value<'a>, Failure>
     ensures { Answers val_of result (not_of (val_of value.now)) }
 {

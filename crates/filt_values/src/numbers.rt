@@ -6,7 +6,7 @@ use crate::parts::int;
 use crate::{Failure, Value};
 use attrs::FilterFault;
 
-/// `left + right`, modulo 2 to the 32nd.
+/// `left + right`, modulo 2 to the 32nd (BIRD User's Guide, "Operators").
 pub fn plus<'a>(left: &Value<'a>, right: &Value<'a>) -> Result<Value<'a>, Failure>
     ensures { Answers val_of result (plus_of (val_of left.now) (val_of right.now)) }
 {
@@ -15,7 +15,7 @@ pub fn plus<'a>(left: &Value<'a>, right: &Value<'a>) -> Result<Value<'a>, Failur
     Ok(Value::Int(a.wrapping_add(b)))
 }
 
-/// `left - right`, modulo 2 to the 32nd.
+/// `left - right`, modulo 2 to the 32nd (BIRD User's Guide, "Operators").
 pub fn minus<'a>(left: &Value<'a>, right: &Value<'a>) -> Result<Value<'a>, Failure>
     ensures { Answers val_of result (minus_of (val_of left.now) (val_of right.now)) }
 {
@@ -24,7 +24,7 @@ pub fn minus<'a>(left: &Value<'a>, right: &Value<'a>) -> Result<Value<'a>, Failu
     Ok(Value::Int(a.wrapping_sub(b)))
 }
 
-/// `left * right`, modulo 2 to the 32nd.
+/// `left * right`, modulo 2 to the 32nd (BIRD User's Guide, "Operators").
 pub fn times<'a>(left: &Value<'a>, right: &Value<'a>) -> Result<Value<'a>, Failure>
     ensures { Answers val_of result (times_of (val_of left.now) (val_of right.now)) }
 {
@@ -33,7 +33,7 @@ pub fn times<'a>(left: &Value<'a>, right: &Value<'a>) -> Result<Value<'a>, Failu
     Ok(Value::Int(a.wrapping_mul(b)))
 }
 
-/// `left / right`; by 0 it is the fault `ZeroDivisor`.
+/// `left / right` (BIRD User's Guide, "Operators"). By 0 it is the fault `ZeroDivisor`.
 pub fn over<'a>(left: &Value<'a>, right: &Value<'a>) -> Result<Value<'a>, Failure>
     ensures { Answers val_of result (over_of (val_of left.now) (val_of right.now)) }
 {

@@ -6,7 +6,8 @@ use crate::parts::{int, path, prefix};
 use crate::{Failure, Value};
 use attrs::FilterFault;
 
-/// `(left, right)`; a part over 65535 is the fault `PairPart`.
+/// `(left, right)` (BIRD User's Guide, "Data types", `pair`). A part over 65535 is the fault
+/// `PairPart`.
 pub fn pair<'a>(left: &Value<'a>, right: &Value<'a>) -> Result<Value<'a>, Failure>
     ensures { Answers val_of result (pair_of (val_of left.now) (val_of right.now)) }
 {
@@ -25,7 +26,7 @@ fn joined<'a>(a: u32, b: u32) -> Result<Value<'a>, Failure>
     }
 }
 
-/// `value.len`, of a prefix, a path or a list of communities.
+/// `value.len`, of a prefix, a path or a list of communities (BIRD User's Guide, "Data types").
 pub fn len<'a>(value: &Value<'a>) -> Result<Value<'a>, Failure>
     ensures { Answers val_of result (len_of (val_of value.now)) }
 {
@@ -37,7 +38,8 @@ pub fn len<'a>(value: &Value<'a>) -> Result<Value<'a>, Failure>
     }
 }
 
-/// `value.first`: the nearest number of a path, 0 where it is empty.
+/// `value.first`: the nearest number of a path, 0 where it is empty (BIRD User's Guide, "Data
+/// types", `bgppath`).
 pub fn first<'a>(value: &Value<'a>) -> Result<Value<'a>, Failure>
     ensures { Answers val_of result (first_of (val_of value.now)) }
 {
@@ -45,7 +47,8 @@ pub fn first<'a>(value: &Value<'a>) -> Result<Value<'a>, Failure>
     Ok(Value::Int(path.as_slice().first().copied().unwrap_or(0)))
 }
 
-/// `value.last`: the farthest number of a path, 0 where it is empty.
+/// `value.last`: the farthest number of a path, 0 where it is empty (BIRD User's Guide, "Data
+/// types", `bgppath`).
 pub fn last<'a>(value: &Value<'a>) -> Result<Value<'a>, Failure>
     ensures { Answers val_of result (last_of (val_of value.now)) }
 {
@@ -53,7 +56,7 @@ pub fn last<'a>(value: &Value<'a>) -> Result<Value<'a>, Failure>
     Ok(Value::Int(path.as_slice().last().copied().unwrap_or(0)))
 }
 
-/// `value.ip`: the address that a prefix begins with.
+/// `value.ip`: the address that a prefix begins with (BIRD User's Guide, "Data types", `prefix`).
 pub fn ip<'a>(value: &Value<'a>) -> Result<Value<'a>, Failure>
     ensures { Answers val_of result (ip_of (val_of value.now)) }
 {

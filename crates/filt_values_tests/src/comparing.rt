@@ -1,5 +1,5 @@
 use crate::samples::{STUCK, assert_failure, assert_truth, clist, net, path};
-use attrs::{Dest, Kind, Origin};
+use attrs::{Clist, Dest, Kind, Origin, Path};
 use bits_ip::Addr;
 use filt_sets::{IntSet, Mask};
 use filt_values::{Value, equal, greater, greater_or_equal, less, less_or_equal, not_equal};
@@ -7,8 +7,8 @@ use std::process::Abort;
 use std::test::Fail;
 
 fn assert_equal(rt: &impl Abort, left: &Value<'_>, right: &Value<'_>, want: bool) {
-    assert_truth(rt, equal(left, right), want);
-    assert_truth(rt, not_equal(left, right), !want);
+    assert_truth(rt, &equal(left, right), want);
+    assert_truth(rt, &not_equal(left, right), !want);
 }
 
 #[test]
@@ -26,11 +26,12 @@ fn values_of_one_sort_are_compared(rt: HostRuntime) -> Result<(), Fail> {
 
 #[test]
 fn addresses_are_of_one_family(rt: HostRuntime) -> Result<(), Fail> {
+    let eight = net(0x0A00_0000, 8)?;
+    let nine = net(0x0A00_0000, 9)?;
     assert_equal(&rt, &Value::Ip(Addr::V4(1)), &Value::Ip(Addr::V4(1)), true);
     assert_equal(&rt, &Value::Ip(Addr::V4(1)), &Value::Ip(Addr::V6(1)), false);
-    let ten = Value::Prefix(net(0x0A00_0000, 8)?);
-    assert_equal(&rt, &ten, &Value::Prefix(net(0x0A00_0000, 8)?), true);
-    assert_equal(&rt, &ten, &Value::Prefix(net(0x0A00_0000, 9)?), false);
+    assert_equal(&rt, &Value::Prefix(eight), &Value::Prefix(eight), true);
+    assert_equal(&rt, &Value::Prefix(eight), &Value::Prefix(nine), false);
     Ok(())
 }
 
@@ -66,26 +67,24 @@ fn attributes_words_are_compared(rt: HostRuntime) -> Result<(), Fail> {
     Ok(())
 }
 
+fn assert_same_path(rt: &impl Abort, left: Path, right: Path, want: bool) {
+    assert_equal(rt, &Value::Path(left), &Value::Path(right), want);
+}
+
+fn assert_same_list(rt: &impl Abort, left: Clist, right: Clist, want: bool) {
+    assert_equal(rt, &Value::Clist(left), &Value::Clist(right), want);
+}
+
 #[test]
 fn lists_are_equal_in_their_order(rt: HostRuntime) -> Result<(), Fail> {
     let alloc = rt.alloc();
-    let left = Value::Path(path(alloc, &[1, 2])?);
-    assert_equal(&rt, &left, &Value::Path(path(alloc, &[1, 2])?), true);
-    assert_equal(&rt, &left, &Value::Path(path(alloc, &[2, 1])?), false);
-    assert_equal(&rt, &left, &Value::Path(path(alloc, &[1])?), false);
-    let pairs = Value::Clist(clist(alloc, &[(1, 2), (3, 4)])?);
-    assert_equal(
-        &rt,
-        &pairs,
-        &Value::Clist(clist(alloc, &[(1, 2), (3, 4)])?),
-        true,
-    );
-    assert_equal(
-        &rt,
-        &pairs,
-        &Value::Clist(clist(alloc, &[(3, 4), (1, 2)])?),
-        false,
-    );
+    assert_same_path(&rt, path(alloc, &[1, 2])?, path(alloc, &[1, 2])?, true);
+    assert_same_path(&rt, path(alloc, &[1, 2])?, path(alloc, &[2, 1])?, false);
+    assert_same_path(&rt, path(alloc, &[1, 2])?, path(alloc, &[1])?, false);
+    let pairs = [(1, 2), (3, 4)];
+    assert_same_list(&rt, clist(alloc, &pairs)?, clist(alloc, &pairs)?, true);
+    let turned = [(3, 4), (1, 2)];
+    assert_same_list(&rt, clist(alloc, &pairs)?, clist(alloc, &turned)?, false);
     Ok(())
 }
 
@@ -96,27 +95,27 @@ fn sets_and_masks_are_not_compared(rt: HostRuntime) -> Result<(), Fail> {
     let mask = Mask::make(Vec::new(alloc));
     assert_failure(
         &rt,
-        equal(&Value::IntSet(&set), &Value::IntSet(&set)),
+        &equal(&Value::IntSet(&set), &Value::IntSet(&set)),
         STUCK,
     );
-    assert_failure(&rt, equal(&Value::Mask(&mask), &Value::Mask(&mask)), STUCK);
-    assert_failure(&rt, equal(&Value::Int(5), &Value::IntSet(&set)), STUCK);
-    assert_failure(&rt, not_equal(&Value::Int(1), &Value::Bool(true)), STUCK);
+    assert_failure(&rt, &equal(&Value::Mask(&mask), &Value::Mask(&mask)), STUCK);
+    assert_failure(&rt, &equal(&Value::Int(5), &Value::IntSet(&set)), STUCK);
+    assert_failure(&rt, &not_equal(&Value::Int(1), &Value::Bool(true)), STUCK);
     Ok(())
 }
 
 /// The left value is before the right one.
 fn assert_less(rt: &impl Abort, left: &Value<'_>, right: &Value<'_>) {
-    assert_truth(rt, less(left, right), true);
-    assert_truth(rt, less_or_equal(left, right), true);
-    assert_truth(rt, greater(left, right), false);
-    assert_truth(rt, greater_or_equal(left, right), false);
-    assert_truth(rt, less(right, left), false);
-    assert_truth(rt, greater(right, left), true);
-    assert_truth(rt, less(left, left), false);
-    assert_truth(rt, less_or_equal(left, left), true);
-    assert_truth(rt, greater(left, left), false);
-    assert_truth(rt, greater_or_equal(left, left), true);
+    assert_truth(rt, &less(left, right), true);
+    assert_truth(rt, &less_or_equal(left, right), true);
+    assert_truth(rt, &greater(left, right), false);
+    assert_truth(rt, &greater_or_equal(left, right), false);
+    assert_truth(rt, &less(right, left), false);
+    assert_truth(rt, &greater(right, left), true);
+    assert_truth(rt, &less(left, left), false);
+    assert_truth(rt, &less_or_equal(left, left), true);
+    assert_truth(rt, &greater(left, left), false);
+    assert_truth(rt, &greater_or_equal(left, left), true);
 }
 
 #[test]
@@ -131,7 +130,7 @@ fn numbers_pairs_and_addresses_are_ordered(rt: HostRuntime) -> Result<(), Fail> 
         &Value::Ip(Addr::V4(4294967295)),
         &Value::Ip(Addr::V6(0)),
     );
-    assert_failure(&rt, less(&Value::Bool(false), &Value::Bool(true)), STUCK);
-    assert_failure(&rt, less(&Value::Int(1), &Value::Pair(1, 2)), STUCK);
+    assert_failure(&rt, &less(&Value::Bool(false), &Value::Bool(true)), STUCK);
+    assert_failure(&rt, &less(&Value::Int(1), &Value::Pair(1, 2)), STUCK);
     Ok(())
 }

@@ -1,4 +1,5 @@
 use crate::samples::{STUCK, assert_failure, assert_truth, clist, net, path};
+use attrs::{Clist, Path};
 use bits_ip::{Addr, Prefix};
 use filt_sets::{Atom, IntItem, IntSet, Mask, MaskItem, PairItem, PairSet, PrefixItem, PrefixSet};
 use filt_values::{Defaults, Sort, Value, matches, matches_not};
@@ -7,8 +8,8 @@ use std::process::Abort;
 use std::test::Fail;
 
 fn assert_match(rt: &impl Abort, left: &Value<'_>, right: &Value<'_>, want: bool) {
-    assert_truth(rt, matches(left, right), want);
-    assert_truth(rt, matches_not(left, right), !want);
+    assert_truth(rt, &matches(left, right), want);
+    assert_truth(rt, &matches_not(left, right), !want);
 }
 
 /// `[1, 5..7]`
@@ -55,6 +56,7 @@ fn mask(alloc: Global) -> Result<Mask, Fail> {
 fn a_number_is_in_a_set_or_a_path(rt: HostRuntime) -> Result<(), Fail> {
     let alloc = rt.alloc();
     let set = ints(alloc)?;
+    let path = path(alloc, &[1, 2, 3])?;
     let right = Value::IntSet(&set);
     for (number, want) in [
         (0, false),
@@ -66,7 +68,7 @@ fn a_number_is_in_a_set_or_a_path(rt: HostRuntime) -> Result<(), Fail> {
     ] {
         assert_match(&rt, &Value::Int(number), &right, want);
     }
-    let right = Value::Path(path(alloc, &[1, 2, 3])?);
+    let right = Value::Path(path);
     for (number, want) in [(1, true), (3, true), (4, false)] {
         assert_match(&rt, &Value::Int(number), &right, want);
     }
@@ -77,76 +79,81 @@ fn a_number_is_in_a_set_or_a_path(rt: HostRuntime) -> Result<(), Fail> {
 fn a_pair_is_in_a_set_or_a_list(rt: HostRuntime) -> Result<(), Fail> {
     let alloc = rt.alloc();
     let set = pairs(alloc)?;
+    let list = clist(alloc, &[(1, 2), (3, 4)])?;
     assert_match(&rt, &Value::Pair(1, 9), &Value::PairSet(&set), true);
     assert_match(&rt, &Value::Pair(9, 1), &Value::PairSet(&set), false);
-    let right = Value::Clist(clist(alloc, &[(1, 2), (3, 4)])?);
+    let right = Value::Clist(list);
     assert_match(&rt, &Value::Pair(3, 4), &right, true);
     assert_match(&rt, &Value::Pair(4, 3), &right, false);
     Ok(())
 }
 
+fn assert_within(rt: &impl Abort, net: Prefix, other: Prefix, want: bool) {
+    assert_match(rt, &Value::Prefix(net), &Value::Prefix(other), want);
+}
+
 #[test]
 fn a_prefix_is_in_a_set_or_within_another(rt: HostRuntime) -> Result<(), Fail> {
     let set = prefixes(rt.alloc())?;
-    let eight = Value::Prefix(net(0x0A00_0000, 8)?);
-    let sixteen = Value::Prefix(net(0x0A01_0000, 16)?);
-    let other = Value::Prefix(net(0x0B00_0000, 8)?);
-    assert_match(&rt, &sixteen, &Value::PrefixSet(&set), true);
-    assert_match(&rt, &other, &Value::PrefixSet(&set), false);
-    assert_match(&rt, &sixteen, &eight, true);
-    assert_match(&rt, &eight, &eight, true);
-    assert_match(&rt, &eight, &sixteen, false);
-    assert_match(&rt, &other, &eight, false);
+    let eight = net(0x0A00_0000, 8)?;
+    let sixteen = net(0x0A01_0000, 16)?;
+    let other = net(0x0B00_0000, 8)?;
+    assert_match(&rt, &Value::Prefix(sixteen), &Value::PrefixSet(&set), true);
+    assert_match(&rt, &Value::Prefix(other), &Value::PrefixSet(&set), false);
+    assert_within(&rt, sixteen, eight, true);
+    assert_within(&rt, eight, eight, true);
+    assert_within(&rt, eight, sixteen, false);
+    assert_within(&rt, other, eight, false);
     Ok(())
+}
+
+fn assert_holds(rt: &impl Abort, net: Prefix, addr: Addr, want: bool) {
+    assert_match(rt, &Value::Ip(addr), &Value::Prefix(net), want);
 }
 
 #[test]
 fn an_address_is_within_a_prefix(rt: HostRuntime) -> Result<(), Fail> {
-    let eight = Value::Prefix(net(0x0A00_0000, 8)?);
-    assert_match(&rt, &Value::Ip(Addr::V4(0x0A01_0203)), &eight, true);
-    assert_match(&rt, &Value::Ip(Addr::V4(0x0B00_0000)), &eight, false);
-    let host = Value::Prefix(net(0x0A00_0001, 32)?);
-    assert_match(&rt, &Value::Ip(Addr::V4(0x0A00_0001)), &host, true);
-    assert_match(&rt, &Value::Ip(Addr::V4(0x0A00_0000)), &host, false);
-    assert_match(
-        &rt,
-        &Value::Ip(Addr::V6(0)),
-        &Value::Prefix(net(0, 0)?),
-        false,
-    );
-    let all = Value::Prefix(Prefix::make(Addr::V6(0), 0)?);
-    assert_match(&rt, &Value::Ip(Addr::V6(1)), &all, true);
+    assert_holds(&rt, net(0x0A00_0000, 8)?, Addr::V4(0x0A01_0203), true);
+    assert_holds(&rt, net(0x0A00_0000, 8)?, Addr::V4(0x0B00_0000), false);
+    assert_holds(&rt, net(0x0A00_0001, 32)?, Addr::V4(0x0A00_0001), true);
+    assert_holds(&rt, net(0x0A00_0001, 32)?, Addr::V4(0x0A00_0000), false);
+    assert_holds(&rt, net(0, 0)?, Addr::V6(0), false);
+    assert_holds(&rt, Prefix::make(Addr::V6(0), 0)?, Addr::V6(1), true);
     Ok(())
+}
+
+fn assert_some_number(rt: &impl Abort, path: Path, set: &IntSet, want: bool) {
+    assert_match(rt, &Value::Path(path), &Value::IntSet(set), want);
+}
+
+fn assert_some_pair(rt: &impl Abort, list: Clist, set: &PairSet, want: bool) {
+    assert_match(rt, &Value::Clist(list), &Value::PairSet(set), want);
 }
 
 #[test]
 fn some_element_of_a_list_is_in_a_set(rt: HostRuntime) -> Result<(), Fail> {
     let alloc = rt.alloc();
     let set = ints(alloc)?;
-    let right = Value::IntSet(&set);
-    assert_match(&rt, &Value::Path(path(alloc, &[9, 6])?), &right, true);
-    assert_match(&rt, &Value::Path(path(alloc, &[9, 8])?), &right, false);
-    assert_match(&rt, &Value::Path(path(alloc, &[])?), &right, false);
+    assert_some_number(&rt, path(alloc, &[9, 6])?, &set, true);
+    assert_some_number(&rt, path(alloc, &[9, 8])?, &set, false);
+    assert_some_number(&rt, Path::new(alloc), &set, false);
     let set = pairs(alloc)?;
-    let right = Value::PairSet(&set);
-    assert_match(
-        &rt,
-        &Value::Clist(clist(alloc, &[(9, 9), (1, 0)])?),
-        &right,
-        true,
-    );
-    assert_match(&rt, &Value::Clist(clist(alloc, &[(9, 1)])?), &right, false);
+    assert_some_pair(&rt, clist(alloc, &[(9, 9), (1, 0)])?, &set, true);
+    assert_some_pair(&rt, clist(alloc, &[(9, 1)])?, &set, false);
     Ok(())
+}
+
+fn assert_mask(rt: &impl Abort, path: Path, mask: &Mask, want: bool) {
+    assert_match(rt, &Value::Path(path), &Value::Mask(mask), want);
 }
 
 #[test]
 fn a_mask_matches_the_whole_path(rt: HostRuntime) -> Result<(), Fail> {
     let alloc = rt.alloc();
     let mask = mask(alloc)?;
-    let right = Value::Mask(&mask);
-    assert_match(&rt, &Value::Path(path(alloc, &[1, 2, 3])?), &right, true);
-    assert_match(&rt, &Value::Path(path(alloc, &[2, 1])?), &right, false);
-    assert_match(&rt, &Value::Path(path(alloc, &[])?), &right, false);
+    assert_mask(&rt, path(alloc, &[1, 2, 3])?, &mask, true);
+    assert_mask(&rt, path(alloc, &[2, 1])?, &mask, false);
+    assert_mask(&rt, Path::new(alloc), &mask, false);
     Ok(())
 }
 
@@ -154,21 +161,21 @@ fn a_mask_matches_the_whole_path(rt: HostRuntime) -> Result<(), Fail> {
 fn other_sorts_are_stuck(rt: HostRuntime) -> Result<(), Fail> {
     let set = prefixes(rt.alloc())?;
     let net = Value::Prefix(net(0x0A00_0000, 8)?);
-    assert_failure(&rt, matches(&Value::Int(1), &Value::Int(1)), STUCK);
+    assert_failure(&rt, &matches(&Value::Int(1), &Value::Int(1)), STUCK);
     assert_failure(
         &rt,
-        matches(&Value::Ip(Addr::V4(1)), &Value::PrefixSet(&set)),
+        &matches(&Value::Ip(Addr::V4(1)), &Value::PrefixSet(&set)),
         STUCK,
     );
-    assert_failure(&rt, matches(&net, &Value::Ip(Addr::V4(1))), STUCK);
+    assert_failure(&rt, &matches(&net, &Value::Ip(Addr::V4(1))), STUCK);
     assert_failure(
         &rt,
-        matches(&Value::String(b"a"), &Value::String(b"a")),
+        &matches(&Value::String(b"a"), &Value::String(b"a")),
         STUCK,
     );
     assert_failure(
         &rt,
-        matches_not(&Value::Pair(1, 2), &Value::Pair(1, 2)),
+        &matches_not(&Value::Pair(1, 2), &Value::Pair(1, 2)),
         STUCK,
     );
     Ok(())
@@ -177,22 +184,41 @@ fn other_sorts_are_stuck(rt: HostRuntime) -> Result<(), Fail> {
 #[test]
 fn variables_without_a_value_are_empty(rt: HostRuntime) -> Result<(), Fail> {
     let alloc = rt.alloc();
+    let one = path(alloc, &[1])?;
+    let eight = net(0x0A00_0000, 8)?;
     let defaults = Defaults::make(alloc);
-    let empty = defaults.value(alloc, Sort::Path);
     let mask = defaults.value(alloc, Sort::Mask);
-    assert_match(&rt, &empty, &mask, true);
-    assert_match(&rt, &Value::Path(path(alloc, &[1])?), &mask, false);
+    assert_match(&rt, &defaults.value(alloc, Sort::Path), &mask, true);
+    assert_match(&rt, &Value::Path(one), &mask, false);
     assert_match(
         &rt,
         &Value::Int(0),
         &defaults.value(alloc, Sort::IntSet),
         false,
     );
-    let pair = defaults.value(alloc, Sort::Pair);
-    assert_match(&rt, &pair, &defaults.value(alloc, Sort::Clist), false);
-    assert_match(&rt, &pair, &defaults.value(alloc, Sort::PairSet), false);
-    let whole = defaults.value(alloc, Sort::Prefix);
-    assert_match(&rt, &Value::Prefix(net(0x0A00_0000, 8)?), &whole, true);
-    assert_match(&rt, &whole, &defaults.value(alloc, Sort::PrefixSet), false);
+    assert_match(
+        &rt,
+        &Value::Pair(0, 0),
+        &defaults.value(alloc, Sort::Clist),
+        false,
+    );
+    assert_match(
+        &rt,
+        &Value::Pair(0, 0),
+        &defaults.value(alloc, Sort::PairSet),
+        false,
+    );
+    assert_match(
+        &rt,
+        &Value::Prefix(eight),
+        &defaults.value(alloc, Sort::Prefix),
+        true,
+    );
+    assert_match(
+        &rt,
+        &Value::Prefix(eight),
+        &defaults.value(alloc, Sort::PrefixSet),
+        false,
+    );
     Ok(())
 }

@@ -28,44 +28,92 @@ pub fn net(number: u32, len: u8) -> Result<Prefix, NotPrefix> {
     Prefix::make(Addr::V4(number), len)
 }
 
-pub fn assert_truth(rt: &impl Abort, answer: Result<Value<'_>, Failure>, want: bool) {
+pub fn assert_truth(rt: &impl Abort, answer: &Result<Value<'_>, Failure>, want: bool) {
+    assert_eq!(rt; truth(answer), Some(want));
+}
+
+fn truth(answer: &Result<Value<'_>, Failure>) -> Option<bool> {
     match answer {
-        Ok(Value::Bool(truth)) => assert_eq!(rt; truth, want),
-        _ => assert!(rt; false),
+        Ok(Value::Bool(truth)) => Some(*truth),
+        _ => None,
     }
 }
 
-pub fn assert_number(rt: &impl Abort, answer: Result<Value<'_>, Failure>, want: u32) {
+pub fn assert_number(rt: &impl Abort, answer: &Result<Value<'_>, Failure>, want: u32) {
+    assert_eq!(rt; number(answer), Some(want));
+}
+
+fn number(answer: &Result<Value<'_>, Failure>) -> Option<u32> {
     match answer {
-        Ok(Value::Int(number)) => assert_eq!(rt; number, want),
-        _ => assert!(rt; false),
+        Ok(Value::Int(number)) => Some(*number),
+        _ => None,
     }
 }
 
-pub fn assert_failure(rt: &impl Abort, answer: Result<Value<'_>, Failure>, want: Failure) {
+pub fn assert_failure(rt: &impl Abort, answer: &Result<Value<'_>, Failure>, want: Failure) {
+    assert_eq!(rt; failure(answer), Some(want));
+}
+
+fn failure(answer: &Result<Value<'_>, Failure>) -> Option<Failure> {
     match answer {
-        Ok(_) => assert!(rt; false),
-        Err(failure) => assert_eq!(rt; failure, want),
+        Ok(_) => None,
+        Err(failure) => Some(*failure),
     }
 }
 
-pub fn assert_list_failure(rt: &impl Abort, answer: Result<Value<'_>, ListFailure>, want: Failure) {
-    match answer {
-        Ok(_) => assert!(rt; false),
-        Err(failure) => assert_eq!(rt; failure, ListFailure::Failed(want)),
+pub fn assert_list_failure(rt: &impl Abort, made: &Result<Value<'_>, ListFailure>, want: Failure) {
+    assert_eq!(rt; list_failure(made), Some(ListFailure::Failed(want)));
+}
+
+fn list_failure(made: &Result<Value<'_>, ListFailure>) -> Option<ListFailure> {
+    match made {
+        Ok(_) => None,
+        Err(failure) => Some(*failure),
     }
 }
 
-pub fn assert_path(rt: &impl Abort, answer: Option<Value<'_>>, want: &[u32]) {
-    match answer {
-        Some(Value::Path(path)) => assert_eq!(rt; path.as_slice(), want),
-        _ => assert!(rt; false),
+pub fn is_path(value: &Value<'_>, want: &[u32]) -> bool {
+    match value {
+        Value::Path(path) => path.as_slice() == want,
+        _ => false,
     }
 }
 
-pub fn assert_clist(rt: &impl Abort, answer: Option<Value<'_>>, want: &[(u16, u16)]) {
-    match answer {
-        Some(Value::Clist(list)) => assert_eq!(rt; list.as_slice(), want),
-        _ => assert!(rt; false),
+pub fn is_clist(value: &Value<'_>, want: &[(u16, u16)]) -> bool {
+    match value {
+        Value::Clist(list) => list.as_slice() == want,
+        _ => false,
+    }
+}
+
+pub fn assert_left(rt: &impl Abort, left: &Result<Value<'_>, Failure>, numbers: &[u32]) {
+    match left {
+        Ok(value) => assert!(rt; is_path(value, numbers)),
+        Err(_) => assert!(rt; false),
+    }
+}
+
+pub fn assert_pairs_left(rt: &impl Abort, left: &Result<Value<'_>, Failure>, pairs: &[(u16, u16)]) {
+    match left {
+        Ok(value) => assert!(rt; is_clist(value, pairs)),
+        Err(_) => assert!(rt; false),
+    }
+}
+
+pub fn assert_made(rt: &impl Abort, made: &Result<Value<'_>, ListFailure>, numbers: &[u32]) {
+    match made {
+        Ok(value) => assert!(rt; is_path(value, numbers)),
+        Err(_) => assert!(rt; false),
+    }
+}
+
+pub fn assert_pairs_made(
+    rt: &impl Abort,
+    made: &Result<Value<'_>, ListFailure>,
+    pairs: &[(u16, u16)],
+) {
+    match made {
+        Ok(value) => assert!(rt; is_clist(value, pairs)),
+        Err(_) => assert!(rt; false),
     }
 }
