@@ -1,4 +1,4 @@
-mod Cuts
+pub mod Cuts
 mod InOrder
 mod Marks
 mod Meaning

@@ -1,0 +1,8 @@
+use Rattle.std.proofs.Common.{rules, ℕ}
+use Rattle.std.proofs.lemmas.Fn.{filter_same}
+use Rattle.filt_values.specs.Members.{in_ints}
+use Rattle.filt_values.proofs.Filters.{kept_is}
+use Rattle.filt_values.proofs.kept.numbers_in_set.Goals as goal
+
+pub returns : goal.returns
+returns c = kept_is (λ (m : ℕ). in_ints c.args.set.now m) _ _ _ _ c.from_vec.ensures (filter_same _ (λ (m : ℕ). in_ints c.args.set.now m) _ (λ x b f' k. search rules) _ _ c.retain.ensures.filtered) c.into_vec-numbers.ensures

@@ -1,0 +1,5 @@
+pub mod Members
+pub mod Operators
+pub mod Seen
+pub mod Sorts
+pub mod Values
