@@ -6,7 +6,7 @@ use Rattle.filt_values.specs.declared.value.Failure.{Failure}
 use Rattle.filt_values.specs.declared.value.Sort.TheVariants as sorts
 use Rattle.filt_values.specs.Values.{Val, VInt, VBool, VIp, VPrefix, VPair, VString, VPath, VMask, VClist, VIntSet, VPairSet, VPrefixSet, VSource, VDest, VOrigin}
 use Rattle.filt_values.specs.Operators.{and_then, quotient_of, joined, longer, with_pair, with_pairs, plus_of, minus_of, times_of, over_of, pair_of, equal_of, not_equal_of, less_of, less_or_equal_of, greater_of, greater_or_equal_of, matches_of, matches_not_of, prepended_of, added_of, deleted_of, filtered_of, truth_of, not_of, len_of, first_of, last_of, ip_of, emptied_of}
-use Rattle.filt_values.specs.Sorts.{IsGiven, TakesOne, TakesTwo, added, compared, deleted, emptied, filtered, matched, measured, one_bool, one_path, one_prefix, ordered, prepended, two_ints, a_bool, a_pair, an_int, an_ip, the_same}
+use Rattle.filt_values.specs.Sorts.{IsGiven, TakesOne, TakesTwo, added, compared, deleted, one_list, filtered, matched, measured, one_bool, one_path, one_prefix, ordered, prepended, two_ints, a_bool, a_pair, an_int, an_ip, the_same}
 
 quotient_given : (a b : ℕ) → IsGiven sorts.Int (quotient_of a b)
 quotient_given a b = ⊎_elim (λ t. rw t tt) (λ f. rw f refl) (cases_Bool (b == 0))
@@ -182,7 +182,7 @@ pub ip_takes : TakesOne one_prefix an_ip ip_of
 ip_takes (VPrefix a) = refl
 ip_takes _ = refl
 
-pub emptied_takes : TakesOne emptied the_same emptied_of
+pub emptied_takes : TakesOne one_list the_same emptied_of
 emptied_takes (VPath a) = refl
 emptied_takes (VClist a) = refl
 emptied_takes _ = refl

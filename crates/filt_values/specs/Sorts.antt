@@ -137,8 +137,8 @@ filtered sorts.Clist sorts.PairSet = true
 filtered sorts.Clist sorts.Clist = true
 filtered _ _ = false
 
--- `empty`
-abbrev pub emptied : Sort → Bool
-emptied sorts.Path = true
-emptied sorts.Clist = true
-emptied _ = false
+-- `empty`; and what is copied with memory
+abbrev pub one_list : Sort → Bool
+one_list sorts.Path = true
+one_list sorts.Clist = true
+one_list _ = false

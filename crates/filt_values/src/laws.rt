@@ -11,7 +11,7 @@ ghost use Rattle.filt_values.specs.declared.value.Failure.{Failure};
 ghost use Rattle.filt_values.specs.Members.{host_of};
 ghost use Rattle.filt_values.specs.Values.{Val, VInt, VIp, VPrefix, VPair, VPath, VMask, VClist, VIntSet, VPairSet, VPrefixSet, sort_of};
 ghost use Rattle.filt_values.specs.Operators.{added_of, deleted_of, emptied_of, equal_of, filtered_of, first_of, greater_of, greater_or_equal_of, ip_of, last_of, len_of, less_of, less_or_equal_of, matches_not_of, matches_of, minus_of, not_equal_of, not_of, over_of, pair_of, plus_of, prepended_of, times_of, truth_of, says};
-ghost use Rattle.filt_values.specs.Sorts.{TakesOne, TakesTwo, added, compared, deleted, emptied, filtered, matched, measured, one_bool, one_path, one_prefix, ordered, prepended, two_ints, a_bool, a_pair, an_int, an_ip, the_same};
+ghost use Rattle.filt_values.specs.Sorts.{TakesOne, TakesTwo, added, compared, deleted, one_list, filtered, matched, measured, one_bool, one_path, one_prefix, ordered, prepended, two_ints, a_bool, a_pair, an_int, an_ip, the_same};
 
 /// Numbers give numbers and pairs.
 pub fn numbers_are_typed()
@@ -58,7 +58,7 @@ pub fn methods_are_typed()
     ensures added { TakesTwo added the_same added_of }
     ensures deleted { TakesTwo deleted the_same deleted_of }
     ensures filtered { TakesTwo filtered the_same filtered_of }
-    ensures emptied { TakesOne emptied the_same emptied_of }
+    ensures emptied { TakesOne one_list the_same emptied_of }
 {}
 
 /// `!~` is the contrary of `~`, and fails as it does.

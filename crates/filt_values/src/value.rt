@@ -1,8 +1,9 @@
-ghost use Rattle.std.specs.Prelude.{◌≡◌, IfOk};
+ghost use Rattle.std.specs.Prelude.{◌≡◌, IfOk, IsTrue, OnErr};
 ghost use Rattle.bits_ip.specs.declared.address.Addr.TheVariants.{V4};
 ghost use Rattle.filt_values.specs.declared.value.ListFailure.TheVariants.{Failed, Memory};
 ghost use Rattle.filt_values.specs.Seen.{val_of};
-ghost use Rattle.filt_values.specs.Values.{default_of};
+ghost use Rattle.filt_values.specs.Sorts.{one_list};
+ghost use Rattle.filt_values.specs.Values.{default_of, sort_of};
 
 use attrs::{Clist, Dest, FilterFault, Kind, Origin, Path};
 use bits_ip::{Addr, OutOfMemory, Prefix};
@@ -141,7 +142,8 @@ impl Defaults {
 
 /// A copy. Only of a path and of a list of communities it takes memory.
 pub fn copy<'a>(value: &Value<'a>) -> Result<Value<'a>, OutOfMemory>
-    ensures { IfOk result (λ copy. val_of copy ≡ val_of value.now) }
+    ensures copied { IfOk result (λ copy. val_of copy ≡ val_of value.now) }
+    ensures refused { OnErr result (IsTrue (one_list (sort_of (val_of value.now)))) }
 {
     match value {
         Value::Int(number) => Ok(Value::Int(*number)),

@@ -2,7 +2,7 @@ use crate::samples::{STUCK, assert_failure, assert_truth, clist, net, path};
 use attrs::{Clist, Dest, Kind, Origin, Path};
 use bits_ip::Addr;
 use filt_sets::{IntSet, Mask};
-use filt_values::{Value, equal, greater, greater_or_equal, less, less_or_equal, not_equal};
+use filt_values::{Value, copy, equal, greater, greater_or_equal, less, less_or_equal, not_equal};
 use std::process::Abort;
 use std::test::Fail;
 
@@ -132,5 +132,15 @@ fn numbers_pairs_and_addresses_are_ordered(rt: HostRuntime) -> Result<(), Fail> 
     );
     assert_failure(&rt, &less(&Value::Bool(false), &Value::Bool(true)), STUCK);
     assert_failure(&rt, &less(&Value::Int(1), &Value::Pair(1, 2)), STUCK);
+    Ok(())
+}
+
+#[test]
+fn copies_are_equal(rt: HostRuntime) -> Result<(), Fail> {
+    let two = Value::Path(path(rt.alloc(), &[1, 2])?);
+    let again = copy(&two)?;
+    assert_equal(&rt, &again, &two, true);
+    let pair = copy(&Value::Pair(1, 2))?;
+    assert_equal(&rt, &pair, &Value::Pair(1, 2), true);
     Ok(())
 }
