@@ -1,4 +1,15 @@
-//! Sets and masks of the filter language: which numbers, pairs, prefixes and paths they take.
+//! Sets and masks of the filter language: which numbers, pairs, prefixes and paths they take (BIRD
+//! User's Guide, "Data types").
+//!
+//! A set is seen as the list of its items, in the order in which they were written, and has what
+//! some item takes. A number's item is a range, a pair's two ranges; a prefix's item is a net and
+//! the lengths that count, and takes what has its family, such a length, and as many first bits as
+//! both have. A mask is seen as the list of its items too, and matches a path that can be cut into
+//! one piece for each of them.
+//!
+//! Nothing here takes memory. Where the ranges of a set are in order and apart, or each of its
+//! prefixes stands for itself alone and they are in order, a search by halves answers, else a walk
+//! over the items. A mask costs its items times the path's length.
 #![tactic(auto)]
 
 mod ints;

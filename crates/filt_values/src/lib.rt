@@ -1,4 +1,14 @@
-//! The values of the filter language, and what its operators give at them.
+//! The values of the filter language, and what its operators give at them (BIRD User's Guide,
+//! "Filters").
+//!
+//! A `Value` is of one `Sort`. It borrows strings, sets and masks from where they were written and
+//! owns paths and lists of communities, so no set is ever copied. Contracts see it as a `Val`,
+//! plain data without memory.
+//!
+//! Each operator is a function of values of any sorts: where it doesn't take theirs it is `Stuck`,
+//! which is no fault of a filter, since what is refused for its types isn't run. Faults are those
+//! that a filter can meet, as a division by zero. A definition of `specs/Operators` is a line of
+//! the language, and `specs/Sorts` says which sorts it takes and gives.
 #![tactic(auto)]
 
 mod compare;
