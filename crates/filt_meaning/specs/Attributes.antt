@@ -1,5 +1,5 @@
 -- Reading and changing the attributes of a route, and the constants of their values.
-use Rattle.std.specs.Prelude.{ℕ, Bool, true, false, List, [], Option, Some, None, Result, Ok, Err, get_or}
+use Rattle.std.specs.Prelude.{Bool, true, false, [], Option, Some, None, Result, Ok, Err, get_or}
 use Rattle.attrs.specs.declared.attributes.Attrs.{Attrs}
 use Rattle.attrs.specs.declared.attributes.Kind.TheVariants as kinds
 use Rattle.attrs.specs.declared.attributes.Dest.TheVariants as dests

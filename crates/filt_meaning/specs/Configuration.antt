@@ -1,24 +1,21 @@
 -- What functions and filters of a configuration do, and what a filter says of a route.
-use Rattle.std.specs.Prelude.{ℕ, Bool, true, false, List, [], ◌∷◌, ◌++◌, map, Option, Some, None, Result, Ok, Err, take, drop}
+use Rattle.std.specs.Prelude.{ℕ, true, false, List, [], ◌∷◌, ◌++◌, map, Option, Some, None, Result, Ok, Err, take, drop}
 use Rattle.bits_ip.specs.Prefix.{Net}
 use Rattle.attrs.specs.declared.attributes.Attrs.{Attrs}
 use Rattle.attrs.specs.declared.judge.FilterFault.TheVariants as faults
 use Rattle.attrs.specs.declared.judge.Verdict.{Verdict}
 use Rattle.attrs.specs.declared.judge.Verdict.TheVariants as verdicts
 use Rattle.attrs.specs.declared.route.Route.{Route}
-use Rattle.grammar.specs.declared.named.Name.{Name}
 use Rattle.grammar.specs.Names.{name_bytes}
-use Rattle.filt_syntax.specs.declared.tree.Num.{Num}
 use Rattle.filt_syntax.specs.declared.tree.Parameter.{Parameter}
-use Rattle.filt_syntax.specs.declared.tree.VariableType.{VariableType}
 use Rattle.conf_ast.specs.Configurations as conf
-use Rattle.conf_ast.specs.Filters.{Expression, Statement, If, Accept, Reject, Statements, NoStatements, AndStatements}
+use Rattle.conf_ast.specs.Filters.{Expression, If, Accept, Reject, Statements, NoStatements, AndStatements}
 use Rattle.filt_values.specs.declared.value.Failure.{Failure}
 use Rattle.filt_values.specs.Operators.{and_then, pair_of}
 use Rattle.filt_values.specs.Values.{Val, VInt, VBool, VIp, VPrefix, VString}
 use Rattle.filt_meaning.specs.Flow.{AtEnd, Returned, Accepted, Rejected, Faulted, Stuck, Flow, Done, Stopped, Frame}
 use Rattle.filt_meaning.specs.Items.{number, set_of, mask_of}
-use Rattle.filt_meaning.specs.Meaning.{all_declared, names_of, defaults, within, acts}
+use Rattle.filt_meaning.specs.Meaning.{all_declared, defaults, within, acts}
 use Rattle.filt_meaning.specs.Names.{Around, Context, Doing, constant_of, there}
 
 -- ---- constants
@@ -74,10 +71,14 @@ body c names ss arguments attrs =
     let own = all_declared c.text ss in
     acts ss (within (with_parameters c names) own) (arguments ++ defaults own) attrs
 
+-- what a function's statements come to, over its arguments
+abbrev pub run_of : Context → conf.Routine → Frame → Attrs → Flow Frame
+run_of c f arguments attrs =
+    body c (parameter_names c.text f.parameters) f.body arguments attrs
+
 -- what a function does with its arguments
 abbrev pub doing : Context → conf.Routine → Doing
-doing c f arguments attrs =
-    given_by f.gives (body c (parameter_names c.text f.parameters) f.body arguments attrs)
+doing c f arguments attrs = given_by f.gives (run_of c f arguments attrs)
 
 -- ---- the configuration before a filter
 
@@ -174,4 +175,4 @@ abbrev pub verdict_where :
     → Net → Route → Verdict
 verdict_where text before protocols condition_text e net route =
     judged (of_text (behind (at_start text (around_route protocols net route)) before)
-        condition_text) (filter_where e) route.attrs
+    condition_text) (filter_where e) route.attrs

@@ -5,3 +5,4 @@ pub mod Attributes
 pub mod Meaning
 pub mod Configuration
 pub mod Orders
+pub mod Worked

@@ -25,13 +25,12 @@ use Rattle.filt_syntax.specs.declared.tree.VariableType.{VariableType}
 use Rattle.conf_ast.specs.Filters.{Expression, Plain, Named, Called, Grouped, Paired, SetOf, MaskOf, IsDefined, MethodOf, PropertyOf, Changed, Negated, Multiplied, Added, Compared, Joined, Expressions, NoExpressions, AndExpressions, Statement, Braced, Nothing, Declare, Assign, ChangeBy, Clear, Unset, If, IfElse, Case, CaseElse, For, Accept, Reject, Return, Print, PrintPart, Call, Statements, NoStatements, AndStatements, Arms, NoArms, AndArms}
 use Rattle.filt_values.specs.declared.value.Failure.{Failure}
 use Rattle.filt_values.specs.declared.value.Failure.TheVariants as failures
-use Rattle.filt_values.specs.declared.value.Sort.{Sort}
 use Rattle.filt_values.specs.Operators.{bool_in, plus_of, minus_of, times_of, over_of, truth_of, not_of, pair_of, equal_of, not_equal_of, less_of, less_or_equal_of, greater_of, greater_or_equal_of, matches_of, matches_not_of, len_of, first_of, last_of, ip_of, prepended_of, added_of, deleted_of, filtered_of, emptied_of}
 use Rattle.filt_values.specs.Values.{Val, VInt, VBool, VIp, VPrefix, VPair, VString, VPath, VClist, default_of}
 use Rattle.filt_meaning.specs.Attributes.{attribute_of, is_defined, with_attribute, without_attribute, value_of_constant}
 use Rattle.filt_meaning.specs.Flow.{Why, AtEnd, Returned, Accepted, Rejected, Stuck, Flow, Done, Stopped, Frame, Run, and_then, plainly}
 use Rattle.filt_meaning.specs.Items.{set_of, mask_of, has_label}
-use Rattle.filt_meaning.specs.Names.{Doing, Context, place_of, constant_of, function_of, there, Variable, sort_of_type, with_variables}
+use Rattle.filt_meaning.specs.Names.{Around, Doing, Context, place_of, constant_of, function_of, there, Variable, sort_of_type, with_variables}
 
 -- ---- forms of expressions
 
@@ -71,7 +70,8 @@ no_values vals attrs = Done [] attrs
 
 abbrev pub one_more : Run Val → Run Frame → Run Frame
 one_more a more vals attrs =
-    and_then (a vals attrs) (λ v attrs. and_then (more vals attrs) (λ vs attrs. Done (v ∷ vs) attrs))
+    and_then (a vals attrs) (λ v attrs. and_then (more vals attrs)
+    (λ vs attrs. Done (v ∷ vs) attrs))
 
 -- a function of these arguments, which are evaluated first
 abbrev pub call : Option Doing → Run Frame → Run (Option Val)
@@ -117,6 +117,9 @@ method_of methods.Filter = filtered_of
 
 -- ---- expressions
 
+abbrev pub attribute : Around → Attribute → Run Val
+attribute around a vals attrs = plainly (attribute_of around a attrs) attrs
+
 -- values, attributes and constants, by their words
 abbrev pub plain : Simple → Context → Run Val
 plain (simples.Number at n) c = given (Ok (VInt n))
@@ -127,8 +130,12 @@ plain (simples.True at) c = given (Ok (VBool true))
 plain (simples.False at) c = given (Ok (VBool false))
 plain (simples.EmptyPath at) c = given (Ok (VPath []))
 plain (simples.EmptyClist at) c = given (Ok (VClist []))
-plain (simples.Attribute at a) c = λ vals attrs. plainly (attribute_of c.around a attrs) attrs
+plain (simples.Attribute at a) c = attribute c.around a
 plain (simples.Constant at constant) c = given (Ok (value_of_constant constant))
+
+-- `defined(attribute)`
+abbrev pub defined : Attribute → Run Val
+defined a vals attrs = Done (VBool (is_defined a attrs)) attrs
 
 abbrev pub named : Name → Context → Run Val
 named n c = variable_or (place_of c n) (constant_of c n)
@@ -142,7 +149,7 @@ abbrev mutual
   value (Paired at a b) c = on_two (value a c) (value b c) pair_of
   value (SetOf at items) c = given (set_of c items)
   value (MaskOf at items) c = given (mask_of c items)
-  value (IsDefined at place attribute_at a) c = λ vals attrs. Done (VBool (is_defined a attrs)) attrs
+  value (IsDefined at place attribute_at a) c = defined a
   value (MethodOf m place a b) c = on_two (value a c) (value b c) (method_of m.kind)
   value (PropertyOf a p) c = on_value (value a c) (property_of p)
   value (Changed a m place b) c = on_two (value a c) (value b c) (method_of m.kind)
@@ -233,6 +240,9 @@ set_target c (targets.Name n) v vals attrs = set_variable (place_of c n) v vals 
 set_target c (targets.Attribute at a) v vals attrs =
     set_attributes vals (with_attribute a v attrs) attrs
 
+abbrev pub unset : Attribute → Act
+unset a vals attrs = set_attributes vals (without_attribute a attrs) attrs
+
 -- what is evaluated becomes what the target holds
 abbrev pub assign : Context → Target → Run Val → Act
 assign c target a vals attrs =
@@ -311,7 +321,7 @@ abbrev mutual
   act (ChangeBy target m place e) c =
       assign c target (on_two (value (read target) c) (value e c) (method_of m.kind))
   act (Clear target) c = assign c target (on_value (value (read target) c) emptied_of)
-  act (Unset place at a) c = λ vals attrs. set_attributes vals (without_attribute a attrs) attrs
+  act (Unset place at a) c = unset a
   act (If e s) c = choice (value e c) (act s c) nothing
   act (IfElse e s t) c = choice (value e c) (act s c) (act t c)
   act (Case at e as_arms) c = cases (value e c) (λ v. arms_act as_arms c nothing v)
