@@ -192,6 +192,13 @@ pub fn a_case_does_one_arm_at_most()
         → act (CaseElse at e arms ss) c vals attrs ≡ arms_act arms c (acts ss c) v vals after }
 {}
 
+/// A statement that is done leaves as many variables as it found: those of its blocks and loops are
+/// gone.
+pub fn a_statement_keeps_the_variables()
+    ensures { (s : Statement) (c : Context) (vals after : Frame) (attrs same : Attrs)
+        → act s c vals attrs ≡ Done after same → length after ≡ length vals }
+{}
+
 /// Behind a declaration without a value its variable holds the default of its sort, whatever it
 /// held before: so it does at each turn of a loop.
 pub fn a_local_without_a_value_holds_its_default()
