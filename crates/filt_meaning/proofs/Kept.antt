@@ -39,8 +39,8 @@ variable_kept : (place : Option ℕ) (v : Val) → KeepsAll (set_variable place 
 variable_kept None v vals attrs = tt
 variable_kept (Some place) v vals attrs = go (nat_lt place (length vals))
   where
-    go : (b : Bool)
-        → Keeps (length vals) (if b then Done (slice_set vals place v) attrs else Stopped Stuck attrs)
+    go : (b : Bool) → Keeps (length vals)
+        (if b then Done (slice_set vals place v) attrs else Stopped Stuck attrs)
     go true = set_length vals place v
     go false = tt
 

@@ -307,7 +307,7 @@ abbrev pub result : Option Expression → Context → Act
 result None c = stop AtEnd
 result (Some e) c = give (value e c)
 
--- what variables see of those of a block
+-- what is seen in a block that declares these variables
 abbrev pub within : Context → List Variable → Context
 within c variables = with_variables c (names_of variables)
 

@@ -133,7 +133,7 @@ pub fn a_return_ends_its_function_alone()
 /// `return;` does what reaching the end does: in a function with `->` both are the fault that it
 /// gives no value, in one without it the call is done, and in a filter there is no verdict.
 pub fn a_return_without_a_value_is_the_end()
-    ensures with_arrow { (c : Context) (f : Routine) (t : VariableType) (vals arguments : Frame)
+    ensures with_arrow { (c : Context) (f : Routine) (t : VariableType) (arguments : Frame)
         (attrs after : Attrs) → f.gives ≡ Some t
         → run_of c f arguments attrs ≡ Stopped AtEnd after
         → doing c f arguments attrs ≡ Stopped (Faulted faults.NoValue) after }
