@@ -1,0 +1,2 @@
+mod Defined
+mod Kept
