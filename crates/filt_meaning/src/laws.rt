@@ -1,4 +1,4 @@
-ghost use Rattle.std.specs.Prelude.{◌≡◌, ℕ, Bool, true, false, List, [], ◌∷◌, length, map, Some, None, Ok, Err};
+ghost use Rattle.std.specs.Prelude.{◌≡◌, ℕ, Bool, true, false, List, [], ◌∷◌, ◌++◌, length, map, Some, None, Ok, Err};
 ghost use Rattle.attrs.specs.declared.attributes.Attrs.{Attrs};
 ghost use Rattle.attrs.specs.declared.attributes.Dest.{Dest};
 ghost use Rattle.attrs.specs.declared.attributes.Dest.TheVariants as dests;
@@ -15,14 +15,16 @@ ghost use Rattle.filt_syntax.specs.declared.tree.Attribute.TheVariants as attrib
 ghost use Rattle.filt_syntax.specs.declared.tree.Compare.{Compare};
 ghost use Rattle.filt_syntax.specs.declared.tree.Factor.{Factor};
 ghost use Rattle.filt_syntax.specs.declared.tree.Item.{Item};
+ghost use Rattle.filt_syntax.specs.declared.tree.Joint.{Joint};
 ghost use Rattle.filt_syntax.specs.declared.tree.Joint.TheVariants as joints;
+ghost use Rattle.filt_syntax.specs.declared.tree.Simple.TheVariants as simples;
 ghost use Rattle.filt_syntax.specs.declared.tree.Method.{Method};
 ghost use Rattle.filt_syntax.specs.declared.tree.Target.{Target};
 ghost use Rattle.filt_syntax.specs.declared.tree.Target.TheVariants as targets;
 ghost use Rattle.filt_syntax.specs.declared.tree.Term.{Term};
 ghost use Rattle.filt_syntax.specs.declared.tree.VariableType.{VariableType};
 ghost use Rattle.conf_ast.specs.Configurations.{Routine};
-ghost use Rattle.conf_ast.specs.Filters.{Expression, Named, Called, Paired, MethodOf, Changed, Multiplied, Added, Compared, Joined, Expressions, AndExpressions, Statement, Declare, Assign, ChangeBy, Case, CaseElse, For, Call, Statements, AndStatements, Arms, NoArms, AndArms};
+ghost use Rattle.conf_ast.specs.Filters.{Expression, Plain, Named, Called, Paired, MethodOf, Changed, Multiplied, Added, Compared, Joined, Expressions, AndExpressions, Statement, If, Unset, Declare, Assign, ChangeBy, Case, CaseElse, For, Call, Statements, AndStatements, Arms, NoArms, AndArms};
 ghost use Rattle.filt_values.specs.declared.value.Failure.TheVariants.{Fault};
 ghost use Rattle.filt_values.specs.Values.{Val, VInt, VBool, VIp, VPair, VPath, VClist, VDest, default_of};
 ghost use Rattle.filt_meaning.specs.Attributes.{attribute_of, is_defined, with_attribute, without_attribute};
@@ -54,6 +56,20 @@ pub fn the_left_side_decides()
         → value a c vals attrs ≡ Done (VBool false) between
         → value b c vals between ≡ Done (VBool right) after
         → value (Joined a joints.Or b) c vals attrs ≡ Done (VBool right) after }
+    ensures left_stops { (a b : Expression) (joint : Joint) (c : Context) (vals : Frame)
+        (attrs after : Attrs) (why : Why)
+        → value a c vals attrs ≡ Stopped why after
+        → value (Joined a joint b) c vals attrs ≡ Stopped why after }
+    ensures and_stops { (a b : Expression) (c : Context) (vals : Frame)
+        (attrs between after : Attrs) (why : Why)
+        → value a c vals attrs ≡ Done (VBool true) between
+        → value b c vals between ≡ Stopped why after
+        → value (Joined a joints.And b) c vals attrs ≡ Stopped why after }
+    ensures or_stops { (a b : Expression) (c : Context) (vals : Frame)
+        (attrs between after : Attrs) (why : Why)
+        → value a c vals attrs ≡ Done (VBool false) between
+        → value b c vals between ≡ Stopped why after
+        → value (Joined a joints.Or b) c vals attrs ≡ Stopped why after }
 {}
 
 /// Operators, pairs and methods evaluate their operands from left to right, so the first fault
@@ -77,6 +93,27 @@ pub fn what_stopped_stays_stopped()
         (attrs after : Attrs)
         (why : Why) → act s c vals attrs ≡ Stopped why after
         → acts (AndStatements s ss) c vals attrs ≡ Stopped why after }
+    ensures later_expressions { (e : Expression) (es : Expressions) (c : Context) (vals : Frame)
+        (attrs between after : Attrs) (v : Val) (why : Why)
+        → value e c vals attrs ≡ Done v between
+        → values es c vals between ≡ Stopped why after
+        → values (AndExpressions e es) c vals attrs ≡ Stopped why after }
+    ensures later_statements { (s : Statement) (ss : Statements) (c : Context) (vals more : Frame)
+        (attrs between after : Attrs) (why : Why)
+        → act s c vals attrs ≡ Done more between
+        → acts ss c more between ≡ Stopped why after
+        → acts (AndStatements s ss) c vals attrs ≡ Stopped why after }
+    ensures conditions { (e : Expression) (s : Statement) (c : Context) (vals : Frame)
+        (attrs after : Attrs) (why : Why) → value e c vals attrs ≡ Stopped why after
+        → act (If e s) c vals attrs ≡ Stopped why after }
+    ensures branches { (e : Expression) (s : Statement) (c : Context) (vals : Frame)
+        (attrs between after : Attrs) (why : Why)
+        → value e c vals attrs ≡ Done (VBool true) between
+        → act s c vals between ≡ Stopped why after
+        → act (If e s) c vals attrs ≡ Stopped why after }
+    ensures turns { (n : ℕ) (v : Val) (vs : List Val) (body : Act) (vals : Frame)
+        (attrs after : Attrs) (why : Why) → body (vals ++ v ∷ []) attrs ≡ Stopped why after
+        → turns n (v ∷ vs) body vals attrs ≡ Stopped why after }
 {}
 
 /// `accept` and `reject` in a function that is called, and faults, end the filter: the call is
@@ -112,6 +149,21 @@ pub fn verdicts_end_the_filter()
     ensures at_the_end { (c : Context) (ss : Statements) (vals : Frame) (attrs after : Attrs)
         → body c [] ss [] attrs ≡ Done vals after
         → judged c ss attrs ≡ verdicts.Reject (Some faults.NoVerdict) }
+    ensures reject_in_an_expression { (c d : Context) (f : Routine) (n : Name) (place : ℕ)
+        (es : Expressions)
+        (vals arguments : Frame) (attrs between after : Attrs)
+        → function_of c n ≡ Some (doing d f) → values es c vals attrs ≡ Done arguments between
+        → run_of d f arguments between ≡ Stopped Rejected after
+        → value (Called n place es) c vals attrs ≡ Stopped Rejected after }
+    ensures fault_in_an_expression { (c d : Context) (f : Routine) (n : Name) (place : ℕ)
+        (es : Expressions)
+        (vals arguments : Frame) (attrs between after : Attrs) (why : FilterFault)
+        → function_of c n ≡ Some (doing d f) → values es c vals attrs ≡ Done arguments between
+        → run_of d f arguments between ≡ Stopped (Faulted why) after
+        → value (Called n place es) c vals attrs ≡ Stopped (Faulted why) after }
+    ensures rejected { (c : Context) (ss : Statements) (attrs after : Attrs)
+        → body c [] ss [] attrs ≡ Stopped Rejected after
+        → judged c ss attrs ≡ verdicts.Reject None }
 {}
 
 /// `return` with a value ends its function alone: the call has that value, or as a statement is
@@ -148,6 +200,10 @@ pub fn a_return_without_a_value_is_the_end()
     ensures in_a_filter { (c : Context) (ss : Statements) (attrs after : Attrs)
         → body c [] ss [] attrs ≡ Stopped AtEnd after
         → judged c ss attrs ≡ verdicts.Reject (Some faults.NoVerdict) }
+    ensures end_without_arrow { (c : Context) (f : Routine) (vals arguments : Frame)
+        (attrs after : Attrs) → f.gives ≡ None
+        → run_of c f arguments attrs ≡ Done vals after
+        → doing c f arguments attrs ≡ Done None after }
 {}
 
 /// A loop runs over its list as it was before the first turn, whatever its body does to it.
@@ -223,6 +279,11 @@ pub fn what_is_assigned_is_read()
         → value (Named n) c after same ≡ Done v same }
     ensures attribute { (a : Attribute) (v : Val) (around : Around) (attrs after : Attrs)
         → with_attribute a v attrs ≡ Ok after → attribute_of around a after ≡ Ok v }
+    ensures statement { (at : ℕ) (a : Attribute) (e : Expression) (c : Context)
+        (vals after : Frame) (attrs between same : Attrs) (v : Val)
+        → value e c vals attrs ≡ Done v between
+        → act (Assign (targets.Attribute at a) e) c vals attrs ≡ Done after same
+        → value (Plain (simples.Attribute at a)) c after same ≡ Done v same }
 {}
 
 /// Reading an attribute is a fault where it isn't defined, and gives a value where it is.
@@ -231,11 +292,18 @@ pub fn undefined_attributes_are_faults()
         → is_defined a attrs ≡ false → attribute_of around a attrs ≡ Err (Fault faults.Undefined) }
     ensures defined { (a : Attribute) (around : Around) (attrs : Attrs)
         → is_defined a attrs ≡ true → (v : Val) × (attribute_of around a attrs ≡ Ok v) }
+    ensures read { (at : ℕ) (a : Attribute) (c : Context) (vals : Frame) (attrs : Attrs)
+        → is_defined a attrs ≡ false
+        → value (Plain (simples.Attribute at a)) c vals attrs
+        ≡ Stopped (Faulted faults.Undefined) attrs }
 {}
 
 /// What is unset isn't defined any more; the two lists are empty.
 pub fn what_is_unset_is_gone()
-    ensures { (a : Attribute) (attrs after : Attrs) → without_attribute a attrs ≡ Ok after
+    ensures attribute { (a : Attribute) (attrs after : Attrs) → without_attribute a attrs ≡ Ok after
+        → IsGone a after }
+    ensures statement { (place at : ℕ) (a : Attribute) (c : Context) (vals same : Frame)
+        (attrs after : Attrs) → act (Unset place at a) c vals attrs ≡ Done same after
         → IsGone a after }
 {}
 
