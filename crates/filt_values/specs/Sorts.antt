@@ -1,5 +1,6 @@
 -- Which sorts each operator takes, and of which sort its value is.
 use Rattle.std.specs.Prelude.{◌≡◌, Bool, true, false, MatchBool, Result, Ok, Err, ⊤}
+use Rattle.attrs.specs.declared.judge.FilterFault.{FilterFault}
 use Rattle.filt_values.specs.declared.value.Failure.{Failure}
 use Rattle.filt_values.specs.declared.value.Failure.TheVariants.{Fault, Stuck}
 use Rattle.filt_values.specs.declared.value.Sort.{Sort}
@@ -27,6 +28,10 @@ TakesTwo takes gives op =
     → MatchBool (takes (sort_of v) (sort_of w))
     (IsGiven (gives (sort_of v)) (op v w))
     (op v w ≡ Err Stuck)
+
+-- It gives a value, or is stuck.
+abbrev pub IsNoFault : {A : Type 0} → Result A Failure → Type 0
+IsNoFault given = (fault : FilterFault) → given ≡ Err (Fault fault) → ⊥
 
 -- ---- results
 

@@ -11,7 +11,7 @@ ghost use Rattle.filt_values.specs.declared.value.Failure.{Failure};
 ghost use Rattle.filt_values.specs.Members.{host_of};
 ghost use Rattle.filt_values.specs.Values.{Val, VInt, VIp, VPrefix, VPair, VPath, VMask, VClist, VIntSet, VPairSet, VPrefixSet, sort_of};
 ghost use Rattle.filt_values.specs.Operators.{added_of, deleted_of, emptied_of, equal_of, filtered_of, first_of, greater_of, greater_or_equal_of, ip_of, last_of, len_of, less_of, less_or_equal_of, matches_not_of, matches_of, minus_of, not_equal_of, not_of, over_of, pair_of, plus_of, prepended_of, times_of, truth_of, says};
-ghost use Rattle.filt_values.specs.Sorts.{TakesOne, TakesTwo, added, compared, deleted, one_list, filtered, matched, measured, one_bool, one_path, one_prefix, ordered, prepended, two_ints, a_bool, a_pair, an_int, an_ip, the_same};
+ghost use Rattle.filt_values.specs.Sorts.{IsNoFault, TakesOne, TakesTwo, added, compared, deleted, one_list, filtered, matched, measured, one_bool, one_path, one_prefix, ordered, prepended, two_ints, a_bool, a_pair, an_int, an_ip, the_same};
 
 /// Numbers give numbers and pairs.
 pub fn numbers_are_typed()
@@ -59,6 +59,24 @@ pub fn methods_are_typed()
     ensures deleted { TakesTwo deleted the_same deleted_of }
     ensures filtered { TakesTwo filtered the_same filtered_of }
     ensures emptied { TakesOne one_list the_same emptied_of }
+{}
+
+/// Tests and properties never fault: they give a value, or are stuck.
+pub fn tests_never_fault()
+    ensures equal { (v w : Val) → IsNoFault (equal_of v w) }
+    ensures not_equal { (v w : Val) → IsNoFault (not_equal_of v w) }
+    ensures less { (v w : Val) → IsNoFault (less_of v w) }
+    ensures less_or_equal { (v w : Val) → IsNoFault (less_or_equal_of v w) }
+    ensures greater { (v w : Val) → IsNoFault (greater_of v w) }
+    ensures greater_or_equal { (v w : Val) → IsNoFault (greater_or_equal_of v w) }
+    ensures matches { (v w : Val) → IsNoFault (matches_of v w) }
+    ensures matches_not { (v w : Val) → IsNoFault (matches_not_of v w) }
+    ensures truth { (v : Val) → IsNoFault (truth_of v) }
+    ensures not { (v : Val) → IsNoFault (not_of v) }
+    ensures len { (v : Val) → IsNoFault (len_of v) }
+    ensures first { (v : Val) → IsNoFault (first_of v) }
+    ensures last { (v : Val) → IsNoFault (last_of v) }
+    ensures ip { (v : Val) → IsNoFault (ip_of v) }
 {}
 
 /// `!~` is the contrary of `~`, and fails as it does.
