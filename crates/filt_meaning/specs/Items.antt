@@ -1,5 +1,5 @@
 -- What written sets, masks and labels are, whose numbers may be the names of constants.
-use Rattle.std.specs.Prelude.{ℕ, ◌-◌, ◌^◌, List, [], ◌∷◌, Bool, Option, Some, None, Result, Ok, Err}
+use Rattle.std.specs.Prelude.{ℕ, ◌-◌, ◌^◌, nat_lt, if◌then◌else◌, List, [], ◌∷◌, Bool, Option, Some, None, Result, Ok, Err}
 use Rattle.bits_ip.specs.Address.{width_of}
 use Rattle.bits_ip.specs.Prefix.{Net}
 use Rattle.filt_sets.specs.declared.ints.IntItem.{IntItem}
@@ -53,15 +53,25 @@ pair_item c first second =
     and_then (pair_part c first) (λ a. and_then (pair_part c second)
     (λ b. Ok (record { a = a; b = b })))
 
+-- a length in braces: what has more than 8 bits is none
+abbrev pub in_8_bits : ℕ → Result ℕ Failure
+in_8_bits n = if nat_lt n (2 ^ 8) then Ok n else Err Stuck
+
+abbrev pub prefix_length : Context → Num → Result ℕ Failure
+prefix_length c n = and_then (number c n) in_8_bits
+
+abbrev pub between : Context → Net → Num → Num → Result PrefixItem Failure
+between c net low high =
+    and_then (prefix_length c low) (λ lo. and_then (prefix_length c high)
+    (λ hi. Ok (record { net = net; lo = lo; hi = hi })))
+
 -- `net`, `net+`, `net-`, `net{lo,hi}`
 abbrev pub prefix_item : Context → Net → Option Lengths → Result PrefixItem Failure
 prefix_item c net None = Ok (record { net = net; lo = net.len; hi = net.len })
 prefix_item c net (Some lengths.AndLonger) =
     Ok (record { net = net; lo = net.len; hi = width_of net.addr })
 prefix_item c net (Some lengths.AndShorter) = Ok (record { net = net; lo = 0; hi = net.len })
-prefix_item c net (Some (lengths.Between low high)) =
-    and_then (number c low) (λ lo. and_then (number c high)
-    (λ hi. Ok (record { net = net; lo = lo; hi = hi })))
+prefix_item c net (Some (lengths.Between low high)) = between c net low high
 
 -- an item more before those of a set, which are of its sort
 abbrev pub with_int_item : IntItem → Val → Result Val Failure

@@ -1,7 +1,9 @@
 -- Running values and answers, as the definitions see them.
-use Rattle.std.specs.Prelude.{◌≡◌, Result, Ok, Err, ⊤}
+use Rattle.std.specs.Prelude.{◌≡◌, [], Result, Ok, Err, ⊤}
 use Rattle.filt_values.specs.declared.value.Value.{Value}
 use Rattle.filt_values.specs.declared.value.Value.TheVariants as values
+use Rattle.filt_values.specs.declared.fixed.Fixed.{Fixed}
+use Rattle.filt_values.specs.declared.fixed.Fixed.TheVariants as fixed
 use Rattle.filt_values.specs.declared.value.Failure.{Failure}
 use Rattle.filt_values.specs.declared.value.ListFailure.{ListFailure}
 use Rattle.filt_values.specs.declared.value.ListFailure.TheVariants.{Failed, Memory}
@@ -15,14 +17,33 @@ val_of (values.Prefix net) = VPrefix net
 val_of (values.Pair a b) = VPair (a, b)
 val_of (values.String s) = VString s.now
 val_of (values.Path p) = VPath p
+val_of (values.PathOf p) = VPath p.now
 val_of (values.Mask m) = VMask m.now
 val_of (values.Clist l) = VClist l
+val_of (values.ClistOf l) = VClist l.now
 val_of (values.IntSet s) = VIntSet s.now
 val_of (values.PairSet s) = VPairSet s.now
 val_of (values.PrefixSet s) = VPrefixSet s.now
 val_of (values.Source k) = VSource k
 val_of (values.Dest d) = VDest d
 val_of (values.Origin o) = VOrigin o
+
+abbrev pub val_of_fixed : Fixed → Val
+val_of_fixed (fixed.Int n) = VInt n
+val_of_fixed (fixed.Bool b) = VBool b
+val_of_fixed (fixed.Ip a) = VIp a
+val_of_fixed (fixed.Prefix net) = VPrefix net
+val_of_fixed (fixed.Pair a b) = VPair (a, b)
+val_of_fixed (fixed.String s) = VString s.items
+val_of_fixed fixed.EmptyPath = VPath []
+val_of_fixed fixed.EmptyClist = VClist []
+val_of_fixed (fixed.Mask m) = VMask m
+val_of_fixed (fixed.IntSet s) = VIntSet s
+val_of_fixed (fixed.PairSet s) = VPairSet s
+val_of_fixed (fixed.PrefixSet s) = VPrefixSet s
+val_of_fixed (fixed.Source k) = VSource k
+val_of_fixed (fixed.Dest d) = VDest d
+val_of_fixed (fixed.Origin o) = VOrigin o
 
 -- The call answers what the definition gives.
 abbrev pub Answers : {X A : Type 0} → (X → A) → Result X Failure → Result A Failure → Type 0

@@ -1,5 +1,5 @@
 ghost use Rattle.std.specs.Prelude.{◌≡◌};
-ghost use Rattle.filt_values.specs.Operators.{has_int, has_net, has_one_pair, matches_not_of, matches_of, takes_path};
+ghost use Rattle.filt_values.specs.Operators.{has_int, has_net, has_one_pair, matches_not_of, matches_of, takes_clist, takes_path};
 ghost use Rattle.filt_values.specs.Seen.{val_of, Answers};
 
 use crate::logic::contrary;
@@ -9,7 +9,7 @@ use crate::members::{
 };
 use crate::parts::{pair_set, prefix};
 use crate::{Failure, Value};
-use attrs::Path;
+use attrs::{Clist, Path};
 use bits_ip::Prefix;
 
 /// `left ~ right` (BIRD User's Guide, "Operators"): an element in a set or a list, an address or a
@@ -26,10 +26,9 @@ pub fn matches<'a>(left: &Value<'a>, right: &Value<'a>) -> Result<Value<'a>, Fai
             Ok(Value::Bool(has_addr(net, addr)))
         }
         Value::Path(path) => takes_path(right, path),
-        Value::Clist(list) => {
-            let set = pair_set(right)?;
-            Ok(Value::Bool(some_in_pairs(list, set)))
-        }
+        Value::PathOf(path) => takes_path(right, path),
+        Value::Clist(list) => takes_clist(right, list),
+        Value::ClistOf(list) => takes_clist(right, list),
         _ => Err(Failure::Stuck),
     }
 }
@@ -48,6 +47,7 @@ fn has_int<'a>(right: &Value<'a>, number: u32) -> Result<Value<'a>, Failure>
     match right {
         Value::IntSet(set) => Ok(Value::Bool(in_ints(set, number))),
         Value::Path(path) => Ok(Value::Bool(in_path(path, number))),
+        Value::PathOf(path) => Ok(Value::Bool(in_path(path, number))),
         _ => Err(Failure::Stuck),
     }
 }
@@ -58,6 +58,7 @@ fn has_one_pair<'a>(right: &Value<'a>, first: u16, second: u16) -> Result<Value<
     match right {
         Value::PairSet(set) => Ok(Value::Bool(in_pairs(set, first, second))),
         Value::Clist(list) => Ok(Value::Bool(has_pair(list, first, second))),
+        Value::ClistOf(list) => Ok(Value::Bool(has_pair(list, first, second))),
         _ => Err(Failure::Stuck),
     }
 }
@@ -80,4 +81,11 @@ fn takes_path<'a>(right: &Value<'a>, path: &Path) -> Result<Value<'a>, Failure>
         Value::Mask(mask) => Ok(Value::Bool(mask_matches(mask, path))),
         _ => Err(Failure::Stuck),
     }
+}
+
+fn takes_clist<'a>(right: &Value<'a>, list: &Clist) -> Result<Value<'a>, Failure>
+    ensures { Answers val_of result (takes_clist (val_of right.now) list.now) }
+{
+    let set = pair_set(right)?;
+    Ok(Value::Bool(some_in_pairs(list, set)))
 }

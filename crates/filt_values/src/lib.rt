@@ -1,8 +1,9 @@
 //! The values of the filter language, and what its operators give at them (BIRD User's Guide,
 //! "Filters").
 //!
-//! A `Value` is of one `Sort`. It borrows strings, sets and masks from where they were written and
-//! owns paths and lists of communities, so no set is ever copied. Contracts see it as a `Val`,
+//! A `Value` is of one `Sort`. It borrows strings, sets and masks from where they were written, so
+//! no set is ever copied, and owns paths and lists of communities, or borrows what nothing changes.
+//! A `Fixed` is known before a filter runs, and lends its value. Contracts see both as a `Val`,
 //! plain data without memory.
 //!
 //! Each operator is a function of values of any sorts: where it doesn't take theirs it is `Stuck`,
@@ -13,6 +14,7 @@
 
 mod compare;
 mod contain;
+mod fixed;
 mod kept;
 pub mod laws;
 mod lists;
@@ -26,6 +28,7 @@ mod value;
 
 pub use compare::{equal, greater, greater_or_equal, less, less_or_equal, not_equal};
 pub use contain::{matches, matches_not};
+pub use fixed::Fixed;
 pub use lists::{add, delete, empty, filter, prepend};
 pub use logic::{not, truth};
 pub use numbers::{minus, over, plus, times};

@@ -57,6 +57,7 @@ fn added_to(list: Clist, argument: &Value<'_>) -> Result<Clist, ListFailure>
     match argument {
         Value::Pair(first, second) => with_pair(list, *first, *second),
         Value::Clist(others) => with_pairs(list, others.as_slice()),
+        Value::ClistOf(others) => with_pairs(list, others.as_slice()),
         _ => Err(ListFailure::Failed(Failure::Stuck)),
     }
 }
@@ -84,27 +85,31 @@ fn with_pairs(list: Clist, pairs: &[(u16, u16)]) -> Result<Clist, ListFailure>
 
 /// `list.delete(argument)`: the path without a number or those of a set, or the list of communities
 /// without a pair or those of a set or a list (BIRD User's Guide, "Data types", `bgppath` and
-/// `clist`). Takes no memory.
-pub fn delete<'a>(list: Value<'a>, argument: &Value<'a>) -> Result<Value<'a>, Failure>
-    ensures { Answers val_of result (deleted_of (val_of list.entry) (val_of argument.now)) }
+/// `clist`). Takes memory only of a list that stands elsewhere, which stays as it was.
+pub fn delete<'a>(list: Value<'a>, argument: &Value<'a>) -> Result<Value<'a>, ListFailure>
+    ensures { Builds val_of result (deleted_of (val_of list.entry) (val_of argument.now)) }
 {
     match list {
         Value::Path(path) => Ok(Value::Path(numbers_without(path, argument)?)),
+        Value::PathOf(path) => Ok(Value::Path(numbers_without(path.copy()?, argument)?)),
         Value::Clist(pairs) => Ok(Value::Clist(pairs_without(pairs, argument)?)),
-        _ => Err(Failure::Stuck),
+        Value::ClistOf(pairs) => Ok(Value::Clist(pairs_without(pairs.copy()?, argument)?)),
+        _ => Err(ListFailure::Failed(Failure::Stuck)),
     }
 }
 
 /// `list.filter(argument)`: those numbers of the path that are in a set, or those communities of
 /// the list that are in a set or a list (BIRD User's Guide, "Data types", `bgppath` and `clist`).
-/// Takes no memory.
-pub fn filter<'a>(list: Value<'a>, argument: &Value<'a>) -> Result<Value<'a>, Failure>
-    ensures { Answers val_of result (filtered_of (val_of list.entry) (val_of argument.now)) }
+/// Takes memory only of a list that stands elsewhere, which stays as it was.
+pub fn filter<'a>(list: Value<'a>, argument: &Value<'a>) -> Result<Value<'a>, ListFailure>
+    ensures { Builds val_of result (filtered_of (val_of list.entry) (val_of argument.now)) }
 {
     match list {
         Value::Path(path) => Ok(Value::Path(numbers_within(path, argument)?)),
+        Value::PathOf(path) => Ok(Value::Path(numbers_within(path.copy()?, argument)?)),
         Value::Clist(pairs) => Ok(Value::Clist(pairs_within(pairs, argument)?)),
-        _ => Err(Failure::Stuck),
+        Value::ClistOf(pairs) => Ok(Value::Clist(pairs_within(pairs.copy()?, argument)?)),
+        _ => Err(ListFailure::Failed(Failure::Stuck)),
     }
 }
 
@@ -132,6 +137,7 @@ fn pairs_without(list: Clist, argument: &Value<'_>) -> Result<Clist, Failure>
         Value::Pair(first, second) => Ok(other_pairs(list, *first, *second)),
         Value::PairSet(set) => Ok(pairs_not_in_set(list, set)),
         Value::Clist(others) => Ok(pairs_not_in_list(list, others)),
+        Value::ClistOf(others) => Ok(pairs_not_in_list(list, others)),
         _ => Err(Failure::Stuck),
     }
 }
@@ -142,6 +148,7 @@ fn pairs_within(list: Clist, argument: &Value<'_>) -> Result<Clist, Failure>
     match argument {
         Value::PairSet(set) => Ok(pairs_in_set(list, set)),
         Value::Clist(others) => Ok(pairs_in_list(list, others)),
+        Value::ClistOf(others) => Ok(pairs_in_list(list, others)),
         _ => Err(Failure::Stuck),
     }
 }
@@ -153,7 +160,9 @@ pub fn empty<'a>(alloc: Global, list: &Value<'a>) -> Result<Value<'a>, Failure>
 {
     match list {
         Value::Path(_) => Ok(Value::Path(Path::new(alloc))),
+        Value::PathOf(_) => Ok(Value::Path(Path::new(alloc))),
         Value::Clist(_) => Ok(Value::Clist(Clist::new(alloc))),
+        Value::ClistOf(_) => Ok(Value::Clist(Clist::new(alloc))),
         _ => Err(Failure::Stuck),
     }
 }

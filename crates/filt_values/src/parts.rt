@@ -2,9 +2,9 @@
 
 ghost use Rattle.std.specs.Prelude.{◌≡◌};
 ghost use Rattle.filt_values.specs.Operators.{int_in, bool_in, ip_in, prefix_in, pair_in, string_in, path_in, clist_in, int_set_in, pair_set_in, source_in, dest_in, origin_in};
-ghost use Rattle.filt_values.specs.Seen.{val_of, Answers};
+ghost use Rattle.filt_values.specs.Seen.{val_of, Answers, Builds};
 
-use crate::{Failure, Value};
+use crate::{Failure, ListFailure, Value};
 use attrs::{Clist, Dest, Kind, Origin, Path};
 use bits_ip::{Addr, Prefix};
 use filt_sets::{IntSet, PairSet};
@@ -68,6 +68,7 @@ pub(crate) fn path<'a, 'b>(value: &'b Value<'a>) -> Result<&'b Path, Failure>
 {
     match value {
         Value::Path(path) => Ok(path),
+        Value::PathOf(path) => Ok(*path),
         _ => Err(Failure::Stuck),
     }
 }
@@ -77,6 +78,7 @@ pub(crate) fn clist<'a, 'b>(value: &'b Value<'a>) -> Result<&'b Clist, Failure>
 {
     match value {
         Value::Clist(list) => Ok(list),
+        Value::ClistOf(list) => Ok(*list),
         _ => Err(Failure::Stuck),
     }
 }
@@ -126,20 +128,24 @@ pub(crate) fn origin<'a>(value: &Value<'a>) -> Result<Origin, Failure>
     }
 }
 
-pub(crate) fn into_path(value: Value<'_>) -> Result<Path, Failure>
-    ensures { Answers (λ p. p) result (path_in (val_of value.entry)) }
+/// The path itself, or a copy where it stands elsewhere.
+pub(crate) fn into_path(value: Value<'_>) -> Result<Path, ListFailure>
+    ensures { Builds (λ p. p) result (path_in (val_of value.entry)) }
 {
     match value {
         Value::Path(path) => Ok(path),
-        _ => Err(Failure::Stuck),
+        Value::PathOf(path) => Ok(path.copy()?),
+        _ => Err(ListFailure::Failed(Failure::Stuck)),
     }
 }
 
-pub(crate) fn into_clist(value: Value<'_>) -> Result<Clist, Failure>
-    ensures { Answers (λ l. l) result (clist_in (val_of value.entry)) }
+/// The list itself, or a copy where it stands elsewhere.
+pub(crate) fn into_clist(value: Value<'_>) -> Result<Clist, ListFailure>
+    ensures { Builds (λ l. l) result (clist_in (val_of value.entry)) }
 {
     match value {
         Value::Clist(list) => Ok(list),
-        _ => Err(Failure::Stuck),
+        Value::ClistOf(list) => Ok(list.copy()?),
+        _ => Err(ListFailure::Failed(Failure::Stuck)),
     }
 }

@@ -33,7 +33,9 @@ pub fn len<'a>(value: &Value<'a>) -> Result<Value<'a>, Failure>
     match value {
         Value::Prefix(net) => Ok(Value::Int(u32::from(net.len()))),
         Value::Path(path) => Ok(Value::Int(path.as_slice().len() as u32)),
+        Value::PathOf(path) => Ok(Value::Int(path.as_slice().len() as u32)),
         Value::Clist(list) => Ok(Value::Int(list.as_slice().len() as u32)),
+        Value::ClistOf(list) => Ok(Value::Int(list.as_slice().len() as u32)),
         _ => Err(Failure::Stuck),
     }
 }

@@ -34,7 +34,8 @@ pub enum Sort {
     Origin,
 }
 
-/// A value while a filter runs. Sets, masks and strings stay where the filter has them.
+/// A value while a filter runs. Sets, masks and strings stay where the filter has them, and so may
+/// paths and lists of communities that nothing changes.
 #[derive(Debug, Drop)]
 pub enum Value<'a> {
     Int(u32),
@@ -44,14 +45,44 @@ pub enum Value<'a> {
     Pair(u16, u16),
     String(&'a [u8]),
     Path(Path),
+    /// A path that stands elsewhere.
+    PathOf(&'a Path),
     Mask(&'a Mask),
     Clist(Clist),
+    /// A list of communities that stands elsewhere.
+    ClistOf(&'a Clist),
     IntSet(&'a IntSet),
     PairSet(&'a PairSet),
     PrefixSet(&'a PrefixSet),
     Source(Kind),
     Dest(Dest),
     Origin(Origin),
+}
+
+impl<'a> Value<'a> {
+    pub fn sort(&self) -> Sort
+        ensures { result ≡ sort_of (val_of self.now) }
+    {
+        match self {
+            Value::Int(_) => Sort::Int,
+            Value::Bool(_) => Sort::Bool,
+            Value::Ip(_) => Sort::Ip,
+            Value::Prefix(_) => Sort::Prefix,
+            Value::Pair(_, _) => Sort::Pair,
+            Value::String(_) => Sort::String,
+            Value::Path(_) => Sort::Path,
+            Value::PathOf(_) => Sort::Path,
+            Value::Mask(_) => Sort::Mask,
+            Value::Clist(_) => Sort::Clist,
+            Value::ClistOf(_) => Sort::Clist,
+            Value::IntSet(_) => Sort::IntSet,
+            Value::PairSet(_) => Sort::PairSet,
+            Value::PrefixSet(_) => Sort::PrefixSet,
+            Value::Source(_) => Sort::Source,
+            Value::Dest(_) => Sort::Dest,
+            Value::Origin(_) => Sort::Origin,
+        }
+    }
 }
 
 /// Why an operator gives no value.
@@ -140,7 +171,8 @@ impl Defaults {
     }
 }
 
-/// A copy. Only of a path and of a list of communities it takes memory.
+/// A copy. Only of a path and of a list of communities that the value owns it takes memory; one
+/// that stands elsewhere is lent again.
 pub fn copy<'a>(value: &Value<'a>) -> Result<Value<'a>, OutOfMemory>
     ensures copied { IfOk result (λ copy. val_of copy ≡ val_of value.now) }
     ensures refused { OnErr result (IsTrue (one_list (sort_of (val_of value.now)))) }
@@ -153,8 +185,10 @@ pub fn copy<'a>(value: &Value<'a>) -> Result<Value<'a>, OutOfMemory>
         Value::Pair(first, second) => Ok(Value::Pair(*first, *second)),
         Value::String(bytes) => Ok(Value::String(*bytes)),
         Value::Path(path) => Ok(Value::Path(path.copy()?)),
+        Value::PathOf(path) => Ok(Value::PathOf(*path)),
         Value::Mask(mask) => Ok(Value::Mask(*mask)),
         Value::Clist(list) => Ok(Value::Clist(list.copy()?)),
+        Value::ClistOf(list) => Ok(Value::ClistOf(*list)),
         Value::IntSet(set) => Ok(Value::IntSet(*set)),
         Value::PairSet(set) => Ok(Value::PairSet(*set)),
         Value::PrefixSet(set) => Ok(Value::PrefixSet(*set)),

@@ -151,11 +151,11 @@ fn a_list_has_at_most_64_pairs(rt: HostRuntime) -> Result<(), Fail> {
 }
 
 fn assert_deleted(rt: &impl Abort, path: Path, argument: &Value<'_>, want: &[u32]) {
-    assert_left(rt, &delete(Value::Path(path), argument), want);
+    assert_made(rt, &delete(Value::Path(path), argument), want);
 }
 
 fn assert_kept(rt: &impl Abort, path: Path, argument: &Value<'_>, want: &[u32]) {
-    assert_left(rt, &filter(Value::Path(path), argument), want);
+    assert_made(rt, &filter(Value::Path(path), argument), want);
 }
 
 #[test]
@@ -171,20 +171,20 @@ fn members_of_a_path_are_deleted_or_kept(rt: HostRuntime) -> Result<(), Fail> {
         &[2, 2, 3],
     );
     let path = Path::new(alloc);
-    assert_failure(&rt, &filter(Value::Path(path), &Value::Int(2)), STUCK);
+    assert_list_failure(&rt, &filter(Value::Path(path), &Value::Int(2)), STUCK);
     let path = Path::new(alloc);
-    assert_failure(&rt, &delete(Value::Path(path), &Value::Pair(2, 1)), STUCK);
+    assert_list_failure(&rt, &delete(Value::Path(path), &Value::Pair(2, 1)), STUCK);
     Ok(())
 }
 
 const THREE: [(u16, u16); 3] = [(1, 1), (1, 2), (1, 3)];
 
 fn assert_pairs_deleted(rt: &impl Abort, list: Clist, argument: &Value<'_>, want: &[(u16, u16)]) {
-    assert_pairs_left(rt, &delete(Value::Clist(list), argument), want);
+    assert_pairs_made(rt, &delete(Value::Clist(list), argument), want);
 }
 
 fn assert_pairs_kept(rt: &impl Abort, list: Clist, argument: &Value<'_>, want: &[(u16, u16)]) {
-    assert_pairs_left(rt, &filter(Value::Clist(list), argument), want);
+    assert_pairs_made(rt, &filter(Value::Clist(list), argument), want);
 }
 
 #[test]
@@ -205,7 +205,7 @@ fn communities_are_deleted_or_kept(rt: HostRuntime) -> Result<(), Fail> {
         &[(1, 2), (1, 3)],
     );
     let list = clist(alloc, &THREE)?;
-    assert_failure(&rt, &filter(Value::Clist(list), &Value::Pair(1, 1)), STUCK);
+    assert_list_failure(&rt, &filter(Value::Clist(list), &Value::Pair(1, 1)), STUCK);
     Ok(())
 }
 

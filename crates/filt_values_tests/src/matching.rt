@@ -1,55 +1,16 @@
-use crate::samples::{STUCK, assert_failure, assert_truth, clist, net, path};
+use crate::samples::{
+    STUCK, assert_failure, assert_truth, clist, ints, mask, net, pairs, path, prefixes,
+};
 use attrs::{Clist, Path};
 use bits_ip::{Addr, Prefix};
-use filt_sets::{Atom, IntItem, IntSet, Mask, MaskItem, PairItem, PairSet, PrefixItem, PrefixSet};
+use filt_sets::{IntSet, Mask, PairSet};
 use filt_values::{Defaults, Sort, Value, matches, matches_not};
-use std::alloc::Global;
 use std::process::Abort;
 use std::test::Fail;
 
 fn assert_match(rt: &impl Abort, left: &Value<'_>, right: &Value<'_>, want: bool) {
     assert_truth(rt, &matches(left, right), want);
     assert_truth(rt, &matches_not(left, right), !want);
-}
-
-/// `[1, 5..7]`
-fn ints(alloc: Global) -> Result<IntSet, Fail> {
-    let mut items = Vec::new(alloc);
-    items.push(IntItem { lo: 1, hi: 1 })?;
-    items.push(IntItem { lo: 5, hi: 7 })?;
-    Ok(IntSet::make(items))
-}
-
-/// `[(1, *)]`
-fn pairs(alloc: Global) -> Result<PairSet, Fail> {
-    let mut items = Vec::new(alloc);
-    let a = IntItem { lo: 1, hi: 1 };
-    let b = IntItem { lo: 0, hi: 65535 };
-    items.push(PairItem { a, b })?;
-    Ok(PairSet::make(items))
-}
-
-/// `[10.0.0.0/8+]`
-fn prefixes(alloc: Global) -> Result<PrefixSet, Fail> {
-    let mut items = Vec::new(alloc);
-    let net = net(0x0A00_0000, 8)?;
-    items.push(PrefixItem { net, lo: 8, hi: 32 })?;
-    Ok(PrefixSet::make(items))
-}
-
-/// `[= 1 * =]`
-fn mask(alloc: Global) -> Result<Mask, Fail> {
-    let mut items = Vec::new(alloc);
-    let many = false;
-    items.push(MaskItem {
-        atom: Atom::Range(1, 1),
-        many,
-    })?;
-    items.push(MaskItem {
-        atom: Atom::Any,
-        many,
-    })?;
-    Ok(Mask::make(items))
 }
 
 #[test]

@@ -2,6 +2,7 @@ ghost use Rattle.std.specs.Prelude.{◌≤◌, length};
 
 use attrs::{Clist, Path};
 use bits_ip::{Addr, NotPrefix, Prefix};
+use filt_sets::{Atom, IntItem, IntSet, Mask, MaskItem, PairItem, PairSet, PrefixItem, PrefixSet};
 use filt_values::{Failure, ListFailure, Value};
 use std::alloc::Global;
 use std::process::Abort;
@@ -26,6 +27,46 @@ pub fn clist(alloc: Global, pairs: &[(u16, u16)]) -> Result<Clist, Fail> {
 /// An IPv4 net.
 pub fn net(number: u32, len: u8) -> Result<Prefix, NotPrefix> {
     Prefix::make(Addr::V4(number), len)
+}
+
+/// `[1, 5..7]`
+pub fn ints(alloc: Global) -> Result<IntSet, Fail> {
+    let mut items = Vec::new(alloc);
+    items.push(IntItem { lo: 1, hi: 1 })?;
+    items.push(IntItem { lo: 5, hi: 7 })?;
+    Ok(IntSet::make(items))
+}
+
+/// `[(1, *)]`
+pub fn pairs(alloc: Global) -> Result<PairSet, Fail> {
+    let mut items = Vec::new(alloc);
+    let a = IntItem { lo: 1, hi: 1 };
+    let b = IntItem { lo: 0, hi: 65535 };
+    items.push(PairItem { a, b })?;
+    Ok(PairSet::make(items))
+}
+
+/// `[10.0.0.0/8+]`
+pub fn prefixes(alloc: Global) -> Result<PrefixSet, Fail> {
+    let mut items = Vec::new(alloc);
+    let net = net(0x0A00_0000, 8)?;
+    items.push(PrefixItem { net, lo: 8, hi: 32 })?;
+    Ok(PrefixSet::make(items))
+}
+
+/// `[= 1 * =]`
+pub fn mask(alloc: Global) -> Result<Mask, Fail> {
+    let mut items = Vec::new(alloc);
+    let many = false;
+    items.push(MaskItem {
+        atom: Atom::Range(1, 1),
+        many,
+    })?;
+    items.push(MaskItem {
+        atom: Atom::Any,
+        many,
+    })?;
+    Ok(Mask::make(items))
 }
 
 pub fn assert_truth(rt: &impl Abort, answer: &Result<Value<'_>, Failure>, want: bool) {
@@ -75,6 +116,7 @@ fn list_failure(made: &Result<Value<'_>, ListFailure>) -> Option<ListFailure> {
 pub fn is_path(value: &Value<'_>, want: &[u32]) -> bool {
     match value {
         Value::Path(path) => path.as_slice() == want,
+        Value::PathOf(path) => path.as_slice() == want,
         _ => false,
     }
 }
@@ -82,6 +124,7 @@ pub fn is_path(value: &Value<'_>, want: &[u32]) -> bool {
 pub fn is_clist(value: &Value<'_>, want: &[(u16, u16)]) -> bool {
     match value {
         Value::Clist(list) => list.as_slice() == want,
+        Value::ClistOf(list) => list.as_slice() == want,
         _ => false,
     }
 }

@@ -1,0 +1,103 @@
+#!/usr/bin/env python3
+"""Times verdicts of filters: `PROGRAM CONFIG ROUNDS`, beside the same conditions in plain Rust (plain_filters.rs).
+
+    bench/filters.py PROGRAM
+
+PROGRAM is the one of the crate `filt_rounds`. A filter has so many conditions, none of which holds, in turn of five
+kinds: the net's length, the MED, a community, the path's length, the first number of the path. Another has a set of
+100,000 prefixes, in their order. A verdict's time is what a run of many rounds takes more than one of one round, a round
+being 256 routes; the shortest of three runs counts. In plain Rust the conditions are closures in a vector, and the set is
+a sorted vector. Both print how many routes were accepted. It wants rustc.
+"""
+
+import pathlib
+import subprocess
+import sys
+import tempfile
+import time
+
+CONDITIONS = [1, 10, 100, 1_000]
+PREFIXES = 100_000
+ROUTES = 256
+RUNS = 3
+SHORTEST = 0.5
+
+HEAD = f"{'filter':>16} {'us/verdict':>10} {'verdicts/s':>11} {'plain us':>9} {'times':>6}"
+
+
+def condition(index):
+    """A condition that holds for no route."""
+    number = 1_000 + index
+    return [
+        f"net.len > {25 + index % 7}",
+        f"bgp_med = {number}",
+        f"(65010, {number}) ~ bgp_community",
+        f"bgp_path.len > {20 + index % 50}",
+        f"bgp_path.first = {number}",
+    ][index % 5]
+
+
+def conditions(count):
+    lines = "".join(f"  if {condition(index)} then reject;\n" for index in range(count))
+    return f"filter f {{\n{lines}  accept;\n}}\n"
+
+
+def prefix(index):
+    """The nets 11.0.0.0/24, 11.0.1.0/24 and so on, of which no route has one."""
+    return f"{11 + (index >> 16)}.{index >> 8 & 255}.{index & 255}.0/24"
+
+
+def prefixes(count):
+    nets = ",\n    ".join(prefix(index) for index in range(count))
+    return f"filter f {{\n  if net ~ [\n    {nets} ] then reject;\n  accept;\n}}\n"
+
+
+def seconds(command):
+    """The time of the shortest run, and what it printed."""
+    times = []
+    for _ in range(RUNS):
+        begun = time.perf_counter()
+        printed = subprocess.run(command, check=True, capture_output=True, text=True).stdout
+        times.append(time.perf_counter() - begun)
+    return min(times), printed.strip()
+
+
+def verdict_time(command):
+    """Seconds for each verdict, by a number of rounds that takes long enough."""
+    base, _ = seconds(command + ["1"])
+    rounds = 64
+    while True:
+        whole, printed = seconds(command + [str(rounds)])
+        if whole - base > SHORTEST:
+            return (whole - base) / (rounds * ROUTES), printed, rounds
+        rounds *= 4
+
+
+def row(name, text, plain, kind, count, folder, program):
+    config = folder / "filter.conf"
+    config.write_text(text)
+    ours, printed, rounds = verdict_time([str(program), str(config)])
+    theirs, _, _ = verdict_time([str(plain), kind, str(count)])
+    same = subprocess.run([plain, kind, str(count), str(rounds)], check=True, capture_output=True, text=True)
+    if same.stdout.strip() != printed:
+        sys.exit(f"{name}: {printed} accepted, plain Rust {same.stdout.strip()}")
+    print(f"{name:>16} {ours * 1e6:10.3f} {1 / ours:11.0f} {theirs * 1e6:9.3f} {ours / theirs:6.2f}")
+
+
+def main():
+    if len(sys.argv) != 2:
+        sys.exit("usage: bench/filters.py PROGRAM")
+    program = pathlib.Path(sys.argv[1]).resolve()
+    here = pathlib.Path(__file__).resolve().parent
+    with tempfile.TemporaryDirectory() as name:
+        folder = pathlib.Path(name)
+        plain = folder / "plain"
+        subprocess.run(["rustc", "-O", "-o", plain, here / "plain_filters.rs"], check=True)
+        print(HEAD)
+        for count in CONDITIONS:
+            row(f"{count} conditions", conditions(count), plain, "conditions", count, folder, program)
+        row(f"{PREFIXES} nets", prefixes(PREFIXES), plain, "nets", PREFIXES, folder, program)
+
+
+if __name__ == "__main__":
+    main()

@@ -1,0 +1,10 @@
+pub mod Acting
+pub mod Forms
+pub mod Gathered
+pub mod Growing
+pub mod Lookups
+pub mod Placed
+pub mod Resolving
+pub mod Sets
+pub mod Told
+pub mod Whole

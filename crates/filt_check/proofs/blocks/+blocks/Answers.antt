@@ -1,0 +1,151 @@
+use Rattle.std.proofs.Common.{◌≡◌, ℕ, ◌+◌, ◌++◌, [], ◌∷◌, arith, List, map, Option, Some, drop, ap, refl, sym, ◌∙◌, Vec, Bor}
+use Rattle.std.specs.Global.{Global}
+use Rattle.std.proofs.lemmas.Result.{IfOk-weaker}
+use Rattle.grammar.specs.Names.{name_bytes}
+use Rattle.filt_syntax.specs.declared.tree.Arm.{Arm}
+use Rattle.filt_syntax.specs.declared.tree.Item.{Item}
+use Rattle.filt_syntax.specs.declared.tree.Stmt.{Stmt}
+use Rattle.filt_syntax.specs.declared.tree.Stmt.TheVariants as s
+use Rattle.conf_ast.specs.Filters.{Statement, expression_of, statement_of, statements_of, Nothing, Unset, Accept, Reject}
+use Rattle.filt_values.specs.declared.value.Failure.{Failure}
+use Rattle.filt_values.specs.Values.{Val}
+use Rattle.filt_meaning.specs.Flow as flow
+use Rattle.filt_meaning.specs.Items as written
+use Rattle.filt_meaning.specs.Meaning.{Act, act, acts, all_declared, nothing, stop, unset, value, within}
+use Rattle.filt_meaning.specs.Names.{Around, Context, Variable, with_variables}
+use Rattle.filt_tree.specs.Scopes.{context_of, tables_of}
+use Rattle.filt_tree.specs.Trees as trees
+use Rattle.filt_tree.specs.declared.tree.TStmt.{TStmt}
+use Rattle.filt_tree.specs.declared.tree.TStmt.TheVariants as ts
+use Rattle.filt_types.proofs.Cost as k
+use Rattle.filt_types.proofs.Trees as o
+use Rattle.filt_check.specs.declared.collect.Declared.{Declared}
+use Rattle.filt_check.specs.Seen.{Branch, names_of, name_of, sort_of, variables_of, acts_in, arm_in, arms_in, arm_seen, arms_seen, otherwise_in}
+use Rattle.filt_check.proofs.Acting as a
+use Rattle.filt_check.proofs.Forms as f
+use Rattle.filt_check.proofs.Gathered as g
+use Rattle.filt_check.proofs.Resolving as r
+use Rattle.filt_check.proofs.Sets.{next_item}
+use Rattle.filt_check.proofs.blocks.+blocks.Goals as goal
+
+pub resolve_statement-braced-requires : goal.resolve_statement-braced-requires
+resolve_statement-braced-requires t c = (omega (arith, ap (λ (x : Stmt). k.stmt_cost x) c.in-Block.is, k.cost-Block c.in-Block.body, ap (λ (xs : List Stmt). k.stmts_cost xs) c.deref.ensures.value), tt)
+
+pub resolve_statement-if_then-requires : goal.resolve_statement-if_then-requires
+resolve_statement-if_then-requires t c = (omega (arith, ap (λ (x : Stmt). k.stmt_cost x) c.in-If.is, k.cost-If c.in-If.e c.in-If.first, ap (λ (x : Stmt). k.stmt_cost x) c.deref-in-If.ensures), tt)
+
+pub resolve_statement-if_else-requires : goal.resolve_statement-if_else-requires
+resolve_statement-if_else-requires t c = (omega (arith, ap (λ (x : Stmt). k.stmt_cost x) c.in-IfElse.is, k.cost-IfElse c.in-IfElse.e c.in-IfElse.first c.in-IfElse.second, ap (λ (x : Stmt). k.stmt_cost x) c.deref-in-IfElse.ensures, ap (λ (x : Stmt). k.stmt_cost x) c.deref-in-IfElse-2.ensures), tt)
+
+pub resolve_statement-case-requires : goal.resolve_statement-case-requires
+resolve_statement-case-requires t c = (omega (arith, ap (λ (x : Stmt). k.stmt_cost x) c.in-Case.is, k.cost-Case c.in-Case.at c.in-Case.value c.in-Case.arms c.in-Case.otherwise, ap (λ (xs : List (Arm Stmt)). k.arms_cost xs) c.deref-in-Case.ensures.value), tt)
+
+pub resolve_statement-each-requires : goal.resolve_statement-each-requires
+resolve_statement-each-requires t c = (omega (arith, ap (λ (x : Stmt). k.stmt_cost x) c.in-For.is, k.cost-For c.in-For.at c.in-For.variable_type c.in-For.name c.in-For.list c.in-For.body, ap (λ (x : Stmt). k.stmt_cost x) c.deref-in-For.ensures), tt)
+
+pub resolve_all-resolve_statement-requires : goal.resolve_all-resolve_statement-requires
+resolve_all-resolve_statement-requires t c = (omega (arith, k.item_below k.stmt_cost c.args.body.now c.loop-s.s-index c.s-item.result c.loop-s-test.true c.s-item.is), tt)
+
+pub resolve_arms-resolve_arm-requires : goal.resolve_arms-resolve_arm-requires
+resolve_arms-resolve_arm-requires t c = (omega (arith, k.item_below k.arm_cost c.args.arms.now c.loop-arm.arm-index c.arm-item.result c.loop-arm-test.true c.arm-item.is), tt)
+
+pub resolve_arm-resolve_all-requires : goal.resolve_arm-resolve_all-requires
+resolve_arm-resolve_all-requires t c = (omega (arith, ap (λ (xs : List Stmt). k.stmts_cost xs) c.deref.ensures.value), tt)
+
+pub resolve_statement-returns-in-Block : goal.resolve_statement-returns-in-Block
+resolve_statement-returns-in-Block t c = a.block_ok c.braced.result (λ around. tables_of around c.args.scope.now) (λ around. context_of c.args.text.now around c.args.scope.now (names_of c.args.names.now)) c.args.s.now c.in-Block.body c.deref.result.now c.in-Block.is c.deref.ensures.value c.braced.ensures
+
+pub resolve_statement-returns-in-Declare : goal.resolve_statement-returns-in-Declare
+resolve_statement-returns-in-Declare t c = a.declare_ok c.declare.result (λ around. tables_of around c.args.scope.now) (λ around. context_of c.args.text.now around c.args.scope.now (names_of c.args.names.now)) c.args.s.now c.in-Declare.variable_type c.in-Declare.name c.in-Declare.value c.in-Declare.is c.declare.ensures
+
+pub resolve_statement-returns-in-Assign : goal.resolve_statement-returns-in-Assign
+resolve_statement-returns-in-Assign t c = a.assign_ok c.assign.result (λ around. tables_of around c.args.scope.now) (λ around. context_of c.args.text.now around c.args.scope.now (names_of c.args.names.now)) c.args.s.now c.in-Assign.target c.in-Assign.e c.in-Assign.is c.assign.ensures
+
+pub resolve_statement-returns-in-Change : goal.resolve_statement-returns-in-Change
+resolve_statement-returns-in-Change t c = a.change_ok c.change.result (λ around. tables_of around c.args.scope.now) (λ around. context_of c.args.text.now around c.args.scope.now (names_of c.args.names.now)) c.args.s.now c.in-Change.target c.in-Change.what c.in-Change.is c.change.ensures
+
+pub resolve_statement-returns-in-If : goal.resolve_statement-returns-in-If
+resolve_statement-returns-in-If t c = a.if_ok c.if_then.result (λ around. tables_of around c.args.scope.now) (λ around. context_of c.args.text.now around c.args.scope.now (names_of c.args.names.now)) c.args.s.now c.in-If.e c.in-If.first c.deref-in-If.result.now c.in-If.is c.deref-in-If.ensures c.if_then.ensures
+
+pub resolve_statement-returns-in-IfElse : goal.resolve_statement-returns-in-IfElse
+resolve_statement-returns-in-IfElse t c = a.if_else_ok c.if_else.result (λ around. tables_of around c.args.scope.now) (λ around. context_of c.args.text.now around c.args.scope.now (names_of c.args.names.now)) c.args.s.now c.in-IfElse.e c.in-IfElse.first c.in-IfElse.second c.deref-in-IfElse.result.now c.deref-in-IfElse-2.result.now c.in-IfElse.is c.deref-in-IfElse.ensures c.deref-in-IfElse-2.ensures c.if_else.ensures
+
+pub resolve_statement-returns-in-Case : goal.resolve_statement-returns-in-Case
+resolve_statement-returns-in-Case t c = a.case_ok c.case.result (λ around. tables_of around c.args.scope.now) (λ around. context_of c.args.text.now around c.args.scope.now (names_of c.args.names.now)) c.args.s.now c.in-Case.at c.in-Case.value c.in-Case.arms c.deref-in-Case.result.now c.in-Case.otherwise c.in-Case.is c.deref-in-Case.ensures.value c.case.ensures
+
+pub resolve_statement-returns-in-For : goal.resolve_statement-returns-in-For
+resolve_statement-returns-in-For t c = a.for_ok c.each.result (λ around. tables_of around c.args.scope.now) (λ around. context_of c.args.text.now around c.args.scope.now (names_of c.args.names.now)) c.args.s.now c.in-For.at c.in-For.variable_type c.in-For.name c.in-For.list c.in-For.body c.deref-in-For.result.now (λ around. with_variables (context_of c.args.text.now around c.args.scope.now (names_of c.args.names.now)) (name_bytes c.args.text.now c.in-For.name ∷ [])) c.in-For.is c.deref-in-For.ensures (λ around. refl) c.each.ensures
+
+pub resolve_statement-returns-in-Return : goal.resolve_statement-returns-in-Return
+resolve_statement-returns-in-Return t c = a.return_ok c.returned.result (λ around. tables_of around c.args.scope.now) (λ around. context_of c.args.text.now around c.args.scope.now (names_of c.args.names.now)) c.args.s.now c.in-Return.at c.in-Return.value c.in-Return.is c.returned.ensures
+
+pub resolve_statement-returns-in-Print : goal.resolve_statement-returns-in-Print
+resolve_statement-returns-in-Print t c = a.print_ok c.print.result (λ around. tables_of around c.args.scope.now) (λ around. context_of c.args.text.now around c.args.scope.now (names_of c.args.names.now)) c.args.s.now c.in-Print.given c.deref-in-Print.result.now c.in-Print.is c.deref-in-Print.ensures.value c.print.ensures
+
+pub resolve_statement-returns-in-PrintPart : goal.resolve_statement-returns-in-PrintPart
+resolve_statement-returns-in-PrintPart t c = a.print_part_ok c.print-in-PrintPart.result (λ around. tables_of around c.args.scope.now) (λ around. context_of c.args.text.now around c.args.scope.now (names_of c.args.names.now)) c.args.s.now c.in-PrintPart.given c.deref-in-PrintPart.result.now c.in-PrintPart.is c.deref-in-PrintPart.ensures.value c.print-in-PrintPart.ensures
+
+pub resolve_statement-returns-in-Call : goal.resolve_statement-returns-in-Call
+resolve_statement-returns-in-Call t c = a.call_ok c.called.result (λ around. tables_of around c.args.scope.now) (λ around. context_of c.args.text.now around c.args.scope.now (names_of c.args.names.now)) c.args.s.now c.in-Call.name c.in-Call.open c.in-Call.arguments c.deref-in-Call.result.now c.in-Call.is c.deref-in-Call.ensures.value c.called.ensures
+
+pub resolve_statement-returns-in-Empty : goal.resolve_statement-returns-in-Empty
+resolve_statement-returns-in-Empty t c = λ around. a.form_same (tables_of around c.args.scope.now) (context_of c.args.text.now around c.args.scope.now (names_of c.args.names.now)) ts.Nothing nothing c.args.s.now s.Empty Nothing (f.stmt-Nothing (tables_of around c.args.scope.now)) refl c.in-Empty.is o.as-Empty
+
+pub resolve_statement-returns-in-Accept : goal.resolve_statement-returns-in-Accept
+resolve_statement-returns-in-Accept t c = λ around. a.form_same (tables_of around c.args.scope.now) (context_of c.args.text.now around c.args.scope.now (names_of c.args.names.now)) ts.Accept (stop flow.Accepted) c.args.s.now s.Accept Accept (f.stmt-Accept (tables_of around c.args.scope.now)) refl c.in-Accept.is o.as-Accept
+
+pub resolve_statement-returns-in-Reject : goal.resolve_statement-returns-in-Reject
+resolve_statement-returns-in-Reject t c = λ around. a.form_same (tables_of around c.args.scope.now) (context_of c.args.text.now around c.args.scope.now (names_of c.args.names.now)) ts.Reject (stop flow.Rejected) c.args.s.now s.Reject Reject (f.stmt-Reject (tables_of around c.args.scope.now)) refl c.in-Reject.is o.as-Reject
+
+pub resolve_statement-returns-in-Unset : goal.resolve_statement-returns-in-Unset
+resolve_statement-returns-in-Unset t c = λ around. a.form_same (tables_of around c.args.scope.now) (context_of c.args.text.now around c.args.scope.now (names_of c.args.names.now)) (ts.Unset c.in-Unset.attribute) (unset c.in-Unset.attribute) c.args.s.now (s.Unset c.in-Unset.open c.in-Unset.attribute_at c.in-Unset.attribute) (Unset c.in-Unset.open c.in-Unset.attribute_at c.in-Unset.attribute) (f.stmt-Unset c.in-Unset.attribute (tables_of around c.args.scope.now)) refl c.in-Unset.is (o.as-Unset c.in-Unset.open c.in-Unset.attribute_at c.in-Unset.attribute)
+
+pub braced-returns : goal.braced-returns
+braced-returns t c = λ around. a.block_made (tables_of around c.args.scope.now) (context_of c.args.text.now around c.args.scope.now (names_of c.args.names.now)) c.in_ok-block.block.sorts c.in_ok-block.block.body (statements_of c.args.body.now) c.in_ok-block.ensures.sorts (c.in_ok-block.ensures.body around)
+
+pub if_then-returns : goal.if_then-returns
+if_then-returns t c = λ around. a.if_made (tables_of around c.args.scope.now) c.in_ok-x.x c.in_ok-a.a (value (expression_of c.args.e.now) (context_of c.args.text.now around c.args.scope.now (names_of c.args.names.now))) (act (statement_of c.args.first.now) (context_of c.args.text.now around c.args.scope.now (names_of c.args.names.now))) (c.in_ok-x.ensures around) (c.in_ok-a.ensures around)
+
+pub if_else-returns : goal.if_else-returns
+if_else-returns t c = λ around. a.if_else_made (tables_of around c.args.scope.now) c.in_ok-x.x c.in_ok-a.a c.in_ok-b.b (value (expression_of c.args.e.now) (context_of c.args.text.now around c.args.scope.now (names_of c.args.names.now))) (act (statement_of c.args.first.now) (context_of c.args.text.now around c.args.scope.now (names_of c.args.names.now))) (act (statement_of c.args.second.now) (context_of c.args.text.now around c.args.scope.now (names_of c.args.names.now))) (c.in_ok-x.ensures around) (c.in_ok-a.ensures around) (c.in_ok-b.ensures around)
+
+pub case-returns : goal.case-returns
+case-returns t c = λ around. a.case_made (tables_of around c.args.scope.now) c.in_ok-x.x c.in_ok-a.a c.in_ok-b.b (value (expression_of c.args.e.now) (context_of c.args.text.now around c.args.scope.now (names_of c.args.names.now))) (arms_in (context_of c.args.text.now around c.args.scope.now (names_of c.args.names.now)) c.args.arms.now) (otherwise_in (context_of c.args.text.now around c.args.scope.now (names_of c.args.names.now)) c.args.otherwise.now) (c.in_ok-x.ensures around) (c.in_ok-a.ensures around) (c.in_ok-b.ensures around)
+
+pub resolve_all-loop-s-preserved : goal.resolve_all-loop-s-preserved
+resolve_all-loop-s-preserved t c = λ around. r.moved (λ (x : TStmt). trees.stmt x (tables_of around c.args.scope.now)) (λ (y : Stmt). act (statement_of y) (context_of c.args.text.now around c.args.scope.now (names_of c.args.names.now))) c.loop-s.all.items c.push.new.self.items c.in_ok-resolve_statement.field-0 c.s-item.result (drop (c.loop-s.s-index + 1) c.args.body.now) (drop c.loop-s.s-index c.args.body.now) (acts_in (context_of c.args.text.now around c.args.scope.now (names_of c.args.names.now)) c.args.body.now) c.in_ok-push.ensures.items (next_item c.args.body.now c.loop-s.s-index c.s-item.result c.loop-s-test.true c.s-item.is) (c.in_ok-resolve_statement.ensures around) (c.loop-s.invariant around)
+
+pub resolve_all-returns : goal.resolve_all-returns
+resolve_all-returns t c = λ around. r.finished (trees.stmts (tables_of around c.args.scope.now) c.loop-s.all.items) (λ (y : Stmt). act (statement_of y) (context_of c.args.text.now around c.args.scope.now (names_of c.args.names.now))) c.args.body.now c.loop-s.s-index (acts_in (context_of c.args.text.now around c.args.scope.now (names_of c.args.names.now)) c.args.body.now) c.loop-s-test.false (c.loop-s.invariant around)
+
+pub resolve_arms-loop-arm-preserved : goal.resolve_arms-loop-arm-preserved
+resolve_arms-loop-arm-preserved t c = λ around. r.moved (arm_seen (tables_of around c.args.scope.now)) (arm_in (context_of c.args.text.now around c.args.scope.now (names_of c.args.names.now))) c.loop-arm.all.items c.push.new.self.items c.in_ok-resolve_arm.field-0 c.arm-item.result (drop (c.loop-arm.arm-index + 1) c.args.arms.now) (drop c.loop-arm.arm-index c.args.arms.now) (arms_in (context_of c.args.text.now around c.args.scope.now (names_of c.args.names.now)) c.args.arms.now) c.in_ok-push.ensures.items (next_item c.args.arms.now c.loop-arm.arm-index c.arm-item.result c.loop-arm-test.true c.arm-item.is) (c.in_ok-resolve_arm.ensures around) (c.loop-arm.invariant around)
+
+pub resolve_arms-returns : goal.resolve_arms-returns
+resolve_arms-returns t c = λ around. r.finished (arms_seen (tables_of around c.args.scope.now) c.loop-arm.all.items) (arm_in (context_of c.args.text.now around c.args.scope.now (names_of c.args.names.now))) c.args.arms.now c.loop-arm.arm-index (arms_in (context_of c.args.text.now around c.args.scope.now (names_of c.args.names.now)) c.args.arms.now) c.loop-arm-test.false (c.loop-arm.invariant around)
+
+pub resolve_arm-returns : goal.resolve_arm-returns
+resolve_arm-returns t c = λ around. a.arm_made (tables_of around c.args.scope.now) (context_of c.args.text.now around c.args.scope.now (names_of c.args.names.now)) c.in_ok-labels.labels c.in_ok-body.body.items c.args.arm.now c.deref-2.result.now c.deref.result.now c.deref-2.ensures.value c.deref.ensures.value (c.in_ok-labels.ensures around (names_of c.args.names.now)) (c.in_ok-body.ensures around)
+
+pub resolve_otherwise-returns-in-Some : goal.resolve_otherwise-returns-in-Some
+resolve_otherwise-returns-in-Some t c =
+    IfOk-weaker c.resolve_all.result
+    (λ v. (around : Around) → trees.stmts (tables_of around c.args.scope.now) v.items ≡ acts_in (context_of c.args.text.now around c.args.scope.now (names_of c.args.names.now)) c.deref.result.now)
+    (λ v. (around : Around) → trees.body (tables_of around c.args.scope.now) v.items ≡ otherwise_in (context_of c.args.text.now around c.args.scope.now (names_of c.args.names.now)) c.args.otherwise.now)
+    (λ v h around. a.body_same (tables_of around c.args.scope.now) (context_of c.args.text.now around c.args.scope.now (names_of c.args.names.now)) v.items c.deref.result.now (h around) ∙ ap (λ (ss : List Stmt). acts (statements_of ss) (context_of c.args.text.now around c.args.scope.now (names_of c.args.names.now))) c.deref.ensures.value ∙ ap (λ (o : Option (Vec Stmt Global)). otherwise_in (context_of c.args.text.now around c.args.scope.now (names_of c.args.names.now)) o) (sym c.in-Some.is))
+    c.resolve_all.ensures
+
+pub resolve_block-returns-clause-sorts : goal.resolve_block-returns-clause-sorts
+resolve_block-returns-clause-sorts t c =
+    let own = all_declared c.args.text.now (statements_of c.args.body.now) in
+    g.sorts_made c.collect_all.new.out.items own c.in_ok-sorts.sorts.items (c.in_ok-collect_all.ensures ∙ ap (λ (ds : List Declared). variables_of ds ++ own) c.new-declared.ensures.items)
+    (c.in_ok-sorts.ensures ∙ ap (λ (ds : List Declared). map sort_of ds) c.deref-2.ensures.value)
+
+pub resolve_block-returns-clause-body : goal.resolve_block-returns-clause-body
+resolve_block-returns-clause-body t c = λ around.
+    let own = all_declared c.args.text.now (statements_of c.args.body.now) in
+    a.body_same (tables_of around c.args.scope.now) (context_of c.args.text.now around c.args.scope.now (names_of c.in_ok-inner.inner.items)) c.in_ok-body.body.items c.args.body.now
+    (c.in_ok-body.ensures around ∙ ap (λ (ns : List (Bor (List ℕ))). acts_in (context_of c.args.text.now around c.args.scope.now (names_of ns)) c.args.body.now) c.deref-3.ensures.value)
+    ∙ ap (λ (cx : Context). acts (statements_of c.args.body.now) cx)
+    (g.within_made c.args.text.now around c.args.scope.now (names_of c.args.names.now) (names_of c.in_ok-inner.inner.items) c.collect_all.new.out.items own (c.in_ok-collect_all.ensures ∙ ap (λ (ds : List Declared). variables_of ds ++ own) c.new-declared.ensures.items)
+    (c.in_ok-inner.ensures ∙ ap (λ (ds : List Declared). names_of c.args.names.now ++ map name_of ds) c.deref.ensures.value))

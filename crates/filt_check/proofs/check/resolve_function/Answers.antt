@@ -1,0 +1,26 @@
+use Rattle.std.proofs.Common.{◌≡◌, ℕ, List, ap, sym, ◌∙◌, Vec, Bor}
+use Rattle.std.specs.Global.{Global}
+use Rattle.filt_values.specs.declared.fixed.Fixed.{Fixed}
+use Rattle.filt_tree.specs.declared.scope.TFunction.{TFunction}
+use Rattle.filt_syntax.specs.declared.tree.Parameter.{Parameter}
+use Rattle.filt_syntax.specs.declared.tree.Stmt.{Stmt}
+use Rattle.conf_ast.specs.Configurations.{routine_of}
+use Rattle.conf_ast.specs.Filters.{statements_of}
+use Rattle.filt_meaning.specs.Configuration.{parameter_names}
+use Rattle.filt_meaning.specs.Meaning.{acts, all_declared, within}
+use Rattle.filt_tree.specs.Scopes.{context_of}
+use Rattle.filt_check.specs.Seen.{names_of, sorts_in}
+use Rattle.filt_check.proofs.Lookups.{mapped_length}
+use Rattle.filt_check.proofs.Whole.{function_same}
+use Rattle.filt_check.proofs.check.resolve_function.Goals as goal
+
+pub returns-clause-meaning : goal.returns-clause-meaning
+returns-clause-meaning c = λ around. function_same c.args.text.now around c.args.scope.now (routine_of c.args.function.now)
+    (record { parameters = c.in_ok-parameters.parameters; gives = c.sort_given.result; weight = c.weigh_block.result; constants = c.len.result; sorts = c.in_ok-block.block.sorts; body = c.in_ok-block.block.body })
+    (names_of c.in_ok-names.names.items) c.sort_given.ensures
+    (c.len.ensures.len ∙ sym (mapped_length (λ (e : Vec ℕ Global × Fixed). e.1) c.args.scope.now.constants.entries))
+    (c.in_ok-block.ensures.sorts ∙ ap (λ (ss : List Stmt). sorts_in (all_declared c.args.text.now (statements_of ss))) c.deref-4.ensures.value)
+    (c.in_ok-names.ensures ∙ ap (λ (ps : List Parameter). parameter_names c.args.text.now ps) c.deref.ensures.value)
+    (c.in_ok-block.ensures.body around
+    ∙ ap (λ (ss : List Stmt). acts (statements_of ss) (within (context_of c.args.text.now around c.args.scope.now (names_of c.deref-3.result.now)) (all_declared c.args.text.now (statements_of ss)))) c.deref-4.ensures.value
+    ∙ ap (λ (ns : List (Bor (List ℕ))). acts (statements_of c.args.function.now.block.statements.items) (within (context_of c.args.text.now around c.args.scope.now (names_of ns)) (all_declared c.args.text.now (statements_of c.args.function.now.block.statements.items)))) c.deref-3.ensures.value)

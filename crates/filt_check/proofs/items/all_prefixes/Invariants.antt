@@ -1,0 +1,10 @@
+use Rattle.std.proofs.Common.{◌≡◌, ℕ, List, drop}
+use Rattle.filt_meaning.specs.Names.{Around}
+use Rattle.filt_tree.specs.Scopes.{context_of}
+use Rattle.filt_check.specs.Seen.{each}
+use Rattle.filt_check.specs.Seen.{prefix_of}
+use Rattle.filt_check.proofs.Sets.{rest_of}
+use Rattle.filt_check.proofs.items.all_prefixes.Given as goal
+
+abbrev pub invariant-loop-item : goal.invariant-loop-item
+invariant-loop-item l = (around : Around) (variables : List (List ℕ)) → rest_of (prefix_of (context_of l.text around l.scope variables)) l.all.items (drop l.item-index l.items) ≡ each (prefix_of (context_of l.text around l.scope variables)) l.items

@@ -1,0 +1,126 @@
+use Rattle.std.proofs.Common.{◌≡◌, ◌+◌, arith, List, drop, ap, refl, sym, ◌∙◌}
+use Rattle.filt_syntax.specs.declared.tree.Access.{Access}
+use Rattle.filt_syntax.specs.declared.tree.Expr.{Expr}
+use Rattle.filt_syntax.specs.declared.tree.Factor.{Factor}
+use Rattle.filt_syntax.specs.declared.tree.Joint.{Joint}
+use Rattle.filt_syntax.specs.declared.tree.Term.{Term}
+use Rattle.conf_ast.specs.Filters.{expression_of}
+use Rattle.filt_values.specs.Values.{Val}
+use Rattle.filt_meaning.specs.Flow.{Run}
+use Rattle.filt_meaning.specs.Meaning.{value}
+use Rattle.filt_tree.specs.Scopes.{context_of, tables_of}
+use Rattle.filt_tree.specs.declared.tree.TExpr.{TExpr}
+use Rattle.filt_tree.specs.Trees as trees
+use Rattle.filt_types.proofs.Cost as k
+use Rattle.filt_check.specs.Seen.{names_of, values_in, access_in, accesses_in, parts_in}
+use Rattle.filt_check.proofs.Resolving as r
+use Rattle.filt_check.proofs.Sets.{next_item}
+use Rattle.filt_check.proofs.resolve.+resolve.Goals as goal
+
+pub access-returns : goal.access-returns
+access-returns t c = λ around. r.access_made (tables_of around c.args.scope.now) c.in_ok-a.a c.in_ok-accesses.accesses (value (expression_of c.args.operand.now) (context_of c.args.text.now around c.args.scope.now (names_of c.args.names.now))) (accesses_in (context_of c.args.text.now around c.args.scope.now (names_of c.args.names.now)) c.args.more.now) (c.in_ok-a.ensures around) (c.in_ok-accesses.ensures around)
+
+pub product-returns : goal.product-returns
+product-returns t c = λ around. r.product_made (tables_of around c.args.scope.now) c.in_ok-a.a c.in_ok-factors.factors (value (expression_of c.args.operand.now) (context_of c.args.text.now around c.args.scope.now (names_of c.args.names.now))) (parts_in (context_of c.args.text.now around c.args.scope.now (names_of c.args.names.now)) c.args.more.now) (c.in_ok-a.ensures around) (c.in_ok-factors.ensures around)
+
+pub sum-returns : goal.sum-returns
+sum-returns t c = λ around. r.sum_made (tables_of around c.args.scope.now) c.in_ok-a.a c.in_ok-terms.terms (value (expression_of c.args.operand.now) (context_of c.args.text.now around c.args.scope.now (names_of c.args.names.now))) (parts_in (context_of c.args.text.now around c.args.scope.now (names_of c.args.names.now)) c.args.more.now) (c.in_ok-a.ensures around) (c.in_ok-terms.ensures around)
+
+pub joint-returns : goal.joint-returns
+joint-returns t c = λ around. r.joint_made (tables_of around c.args.scope.now) c.in_ok-a.a c.in_ok-others.others (value (expression_of c.args.operand.now) (context_of c.args.text.now around c.args.scope.now (names_of c.args.names.now))) (parts_in (context_of c.args.text.now around c.args.scope.now (names_of c.args.names.now)) c.args.more.now) (c.in_ok-a.ensures around) (c.in_ok-others.ensures around)
+
+pub resolve-returns-in_ok-given-in-Call : goal.resolve-returns-in_ok-given-in-Call
+resolve-returns-in_ok-given-in-Call t c = λ around. r.call_same (tables_of around c.args.scope.now) (context_of c.args.text.now around c.args.scope.now (names_of c.args.names.now)) c.args.e.now c.in-Call.name c.in-Call.open c.in-Call.arguments c.deref.result.now c.called.result c.in_ok-given-in-Call.given.items c.in-Call.is c.deref.ensures.value (c.called.ensures around (names_of c.args.names.now)) (c.in_ok-given-in-Call.ensures around)
+
+pub resolve-returns-in-Set : goal.resolve-returns-in-Set
+resolve-returns-in-Set t c = r.set_ok c.set.result (λ around. tables_of around c.args.scope.now) (λ around variables. context_of c.args.text.now around c.args.scope.now variables) (names_of c.args.names.now) c.args.e.now c.in-Set.at c.in-Set.items c.deref-in-Set.result.now c.in-Set.is c.deref-in-Set.ensures.value c.set.ensures
+
+pub resolve-returns-in-Mask : goal.resolve-returns-in-Mask
+resolve-returns-in-Mask t c = r.mask_ok c.mask.result (λ around. tables_of around c.args.scope.now) (λ around variables. context_of c.args.text.now around c.args.scope.now variables) (names_of c.args.names.now) c.args.e.now c.in-Mask.at c.in-Mask.items c.deref-in-Mask.result.now c.in-Mask.is c.deref-in-Mask.ensures.value c.mask.ensures
+
+pub resolve-returns-in-Access : goal.resolve-returns-in-Access
+resolve-returns-in-Access t c = r.access_ok c.access.result (λ around. tables_of around c.args.scope.now) (λ around. context_of c.args.text.now around c.args.scope.now (names_of c.args.names.now)) c.args.e.now c.in-Access.operand c.in-Access.more c.deref-in-Access.result.now c.deref-in-Access-2.result.now c.in-Access.is c.deref-in-Access.ensures c.deref-in-Access-2.ensures.value c.access.ensures
+
+pub resolve-returns-in-Product : goal.resolve-returns-in-Product
+resolve-returns-in-Product t c = r.product_ok c.product.result (λ around. tables_of around c.args.scope.now) (λ around. context_of c.args.text.now around c.args.scope.now (names_of c.args.names.now)) c.args.e.now c.in-Product.operand c.in-Product.more c.deref-in-Product.result.now c.deref-in-Product-2.result.now c.in-Product.is c.deref-in-Product.ensures c.deref-in-Product-2.ensures.value c.product.ensures
+
+pub resolve-returns-in-Sum : goal.resolve-returns-in-Sum
+resolve-returns-in-Sum t c = r.sum_ok c.sum.result (λ around. tables_of around c.args.scope.now) (λ around. context_of c.args.text.now around c.args.scope.now (names_of c.args.names.now)) c.args.e.now c.in-Sum.operand c.in-Sum.more c.deref-in-Sum.result.now c.deref-in-Sum-2.result.now c.in-Sum.is c.deref-in-Sum.ensures c.deref-in-Sum-2.ensures.value c.sum.ensures
+
+pub resolve-returns-in-Joint : goal.resolve-returns-in-Joint
+resolve-returns-in-Joint t c = r.joint_ok c.joint.result (λ around. tables_of around c.args.scope.now) (λ around. context_of c.args.text.now around c.args.scope.now (names_of c.args.names.now)) c.args.e.now c.in-Joint.operand c.in-Joint.more c.deref-in-Joint.result.now c.deref-in-Joint-2.result.now c.in-Joint.is c.deref-in-Joint.ensures c.deref-in-Joint-2.ensures.value c.joint.ensures
+
+pub resolve_all-loop-e-preserved : goal.resolve_all-loop-e-preserved
+resolve_all-loop-e-preserved t c = λ around. r.moved (λ (x : TExpr). trees.expr x (tables_of around c.args.scope.now)) (λ (y : Expr). value (expression_of y) (context_of c.args.text.now around c.args.scope.now (names_of c.args.names.now))) c.loop-e.all.items c.push.new.self.items c.in_ok-resolve.field-0 c.e-item.result (drop (c.loop-e.e-index + 1) c.args.given.now) (drop c.loop-e.e-index c.args.given.now) (values_in (context_of c.args.text.now around c.args.scope.now (names_of c.args.names.now)) c.args.given.now) c.in_ok-push.ensures.items (next_item c.args.given.now c.loop-e.e-index c.e-item.result c.loop-e-test.true c.e-item.is) (c.in_ok-resolve.ensures around) (c.loop-e.invariant around)
+
+pub resolve_accesses-loop-access-preserved : goal.resolve_accesses-loop-access-preserved
+resolve_accesses-loop-access-preserved t c = λ around. r.moved (trees.access (tables_of around c.args.scope.now)) (access_in (context_of c.args.text.now around c.args.scope.now (names_of c.args.names.now))) c.loop-access.all.items c.push.new.self.items c.in_ok-resolve_access.field-0 c.access-item.result (drop (c.loop-access.access-index + 1) c.args.more.now) (drop c.loop-access.access-index c.args.more.now) (accesses_in (context_of c.args.text.now around c.args.scope.now (names_of c.args.names.now)) c.args.more.now) c.in_ok-push.ensures.items (next_item c.args.more.now c.loop-access.access-index c.access-item.result c.loop-access-test.true c.access-item.is) (c.in_ok-resolve_access.ensures around) (c.loop-access.invariant around)
+
+pub resolve_factors-loop-x-preserved : goal.resolve_factors-loop-x-preserved
+resolve_factors-loop-x-preserved t c = λ around. r.moved (λ (x : Factor × TExpr). (x.0, trees.expr x.1 (tables_of around c.args.scope.now))) (λ (y : Factor × Expr). (y.0, value (expression_of y.1) (context_of c.args.text.now around c.args.scope.now (names_of c.args.names.now)))) c.loop-x.all.items c.push.new.self.items (c.x-item.result.0, c.in_ok-operand.operand) c.x-item.result (drop (c.loop-x.x-index + 1) c.args.more.now) (drop c.loop-x.x-index c.args.more.now) (parts_in (context_of c.args.text.now around c.args.scope.now (names_of c.args.names.now)) c.args.more.now) c.in_ok-push.ensures.items (next_item c.args.more.now c.loop-x.x-index c.x-item.result c.loop-x-test.true c.x-item.is) (ap (λ (f : Run Val). (c.x-item.result.0, f)) (c.in_ok-operand.ensures around)) (c.loop-x.invariant around)
+
+pub resolve_terms-loop-x-preserved : goal.resolve_terms-loop-x-preserved
+resolve_terms-loop-x-preserved t c = λ around. r.moved (λ (x : Term × TExpr). (x.0, trees.expr x.1 (tables_of around c.args.scope.now))) (λ (y : Term × Expr). (y.0, value (expression_of y.1) (context_of c.args.text.now around c.args.scope.now (names_of c.args.names.now)))) c.loop-x.all.items c.push.new.self.items (c.x-item.result.0, c.in_ok-operand.operand) c.x-item.result (drop (c.loop-x.x-index + 1) c.args.more.now) (drop c.loop-x.x-index c.args.more.now) (parts_in (context_of c.args.text.now around c.args.scope.now (names_of c.args.names.now)) c.args.more.now) c.in_ok-push.ensures.items (next_item c.args.more.now c.loop-x.x-index c.x-item.result c.loop-x-test.true c.x-item.is) (ap (λ (f : Run Val). (c.x-item.result.0, f)) (c.in_ok-operand.ensures around)) (c.loop-x.invariant around)
+
+pub resolve_joints-loop-x-preserved : goal.resolve_joints-loop-x-preserved
+resolve_joints-loop-x-preserved t c = λ around. r.moved (λ (x : Joint × TExpr). (x.0, trees.expr x.1 (tables_of around c.args.scope.now))) (λ (y : Joint × Expr). (y.0, value (expression_of y.1) (context_of c.args.text.now around c.args.scope.now (names_of c.args.names.now)))) c.loop-x.all.items c.push.new.self.items (c.x-item.result.0, c.in_ok-operand.operand) c.x-item.result (drop (c.loop-x.x-index + 1) c.args.more.now) (drop c.loop-x.x-index c.args.more.now) (parts_in (context_of c.args.text.now around c.args.scope.now (names_of c.args.names.now)) c.args.more.now) c.in_ok-push.ensures.items (next_item c.args.more.now c.loop-x.x-index c.x-item.result c.loop-x-test.true c.x-item.is) (ap (λ (f : Run Val). (c.x-item.result.0, f)) (c.in_ok-operand.ensures around)) (c.loop-x.invariant around)
+
+pub resolve-resolve_all-requires : goal.resolve-resolve_all-requires
+resolve-resolve_all-requires t c = (omega (arith, ap (λ (x : Expr). k.cost x) c.in-Call.is, k.cost-Call c.in-Call.name c.in-Call.open c.in-Call.arguments, ap (λ (xs : List Expr). k.costs xs) c.deref.ensures.value), tt)
+
+pub resolve-resolve-requires : goal.resolve-resolve-requires
+resolve-resolve-requires t c = (omega (arith, ap (λ (x : Expr). k.cost x) c.in-Group.is, k.cost-Group c.in-Group.at c.in-Group.inner, ap (λ (x : Expr). k.cost x) c.deref-in-Group.ensures), tt)
+
+pub resolve-pair-requires : goal.resolve-pair-requires
+resolve-pair-requires t c = (omega (arith, ap (λ (x : Expr). k.cost x) c.in-Pair.is, k.cost-Pair c.in-Pair.at c.in-Pair.first c.in-Pair.second, ap (λ (x : Expr). k.cost x) c.deref-in-Pair.ensures, ap (λ (x : Expr). k.cost x) c.deref-in-Pair-2.ensures), tt)
+
+pub resolve-method_of-requires : goal.resolve-method_of-requires
+resolve-method_of-requires t c = (omega (arith, ap (λ (x : Expr). k.cost x) c.in-MethodCall.is, k.cost-MethodCall c.in-MethodCall.method c.in-MethodCall.open c.in-MethodCall.list c.in-MethodCall.argument, ap (λ (x : Expr). k.cost x) c.deref-in-MethodCall.ensures, ap (λ (x : Expr). k.cost x) c.deref-in-MethodCall-2.ensures), tt)
+
+pub resolve-compare-requires : goal.resolve-compare-requires
+resolve-compare-requires t c = (omega (arith, ap (λ (x : Expr). k.cost x) c.in-Compare.is, k.cost-Compare c.in-Compare.op c.in-Compare.left c.in-Compare.right, ap (λ (x : Expr). k.cost x) c.deref-in-Compare.ensures, ap (λ (x : Expr). k.cost x) c.deref-in-Compare-2.ensures), tt)
+
+pub resolve-boxed-requires : goal.resolve-boxed-requires
+resolve-boxed-requires t c = (omega (arith, ap (λ (x : Expr). k.cost x) c.in-Not.is, k.cost-Not c.in-Not.at c.in-Not.operand, ap (λ (x : Expr). k.cost x) c.deref-in-Not.ensures), tt)
+
+pub resolve-access-requires : goal.resolve-access-requires
+resolve-access-requires t c = (omega (arith, ap (λ (x : Expr). k.cost x) c.in-Access.is, k.cost-Access c.in-Access.operand c.in-Access.more, ap (λ (x : Expr). k.cost x) c.deref-in-Access.ensures, ap (λ (xs : List (Access Expr)). k.accesses_cost xs) c.deref-in-Access-2.ensures.value), tt)
+
+pub resolve-product-requires : goal.resolve-product-requires
+resolve-product-requires t c = (omega (arith, ap (λ (x : Expr). k.cost x) c.in-Product.is, k.cost-Product c.in-Product.operand c.in-Product.more, ap (λ (x : Expr). k.cost x) c.deref-in-Product.ensures, ap (λ (xs : List (Factor × Expr)). k.operands_cost xs) c.deref-in-Product-2.ensures.value), tt)
+
+pub resolve-sum-requires : goal.resolve-sum-requires
+resolve-sum-requires t c = (omega (arith, ap (λ (x : Expr). k.cost x) c.in-Sum.is, k.cost-Sum c.in-Sum.operand c.in-Sum.more, ap (λ (x : Expr). k.cost x) c.deref-in-Sum.ensures, ap (λ (xs : List (Term × Expr)). k.operands_cost xs) c.deref-in-Sum-2.ensures.value), tt)
+
+pub resolve-joint-requires : goal.resolve-joint-requires
+resolve-joint-requires t c = (omega (arith, ap (λ (x : Expr). k.cost x) c.in-Joint.is, k.cost-Joint c.in-Joint.operand c.in-Joint.more, ap (λ (x : Expr). k.cost x) c.deref-in-Joint.ensures, ap (λ (xs : List (Joint × Expr)). k.operands_cost xs) c.deref-in-Joint-2.ensures.value), tt)
+
+pub resolve_all-resolve-requires : goal.resolve_all-resolve-requires
+resolve_all-resolve-requires t c = (omega (arith, k.item_below k.cost c.args.given.now c.loop-e.e-index c.e-item.result c.loop-e-test.true c.e-item.is), tt)
+
+pub resolve_accesses-resolve_access-requires : goal.resolve_accesses-resolve_access-requires
+resolve_accesses-resolve_access-requires t c = (omega (arith, k.item_below k.access_cost c.args.more.now c.loop-access.access-index c.access-item.result c.loop-access-test.true c.access-item.is), tt)
+
+pub resolve_factors-resolve-requires : goal.resolve_factors-resolve-requires
+resolve_factors-resolve-requires t c = (omega (arith, k.item_below (λ (x : Factor × Expr). k.cost x.1) c.args.more.now c.loop-x.x-index c.x-item.result c.loop-x-test.true c.x-item.is), tt)
+
+pub resolve_terms-resolve-requires : goal.resolve_terms-resolve-requires
+resolve_terms-resolve-requires t c = (omega (arith, k.item_below (λ (x : Term × Expr). k.cost x.1) c.args.more.now c.loop-x.x-index c.x-item.result c.loop-x-test.true c.x-item.is), tt)
+
+pub resolve_joints-resolve-requires : goal.resolve_joints-resolve-requires
+resolve_joints-resolve-requires t c = (omega (arith, k.item_below (λ (x : Joint × Expr). k.cost x.1) c.args.more.now c.loop-x.x-index c.x-item.result c.loop-x-test.true c.x-item.is), tt)
+
+pub resolve_all-returns : goal.resolve_all-returns
+resolve_all-returns t c = λ around. r.finished (trees.exprs (tables_of around c.args.scope.now) c.loop-e.all.items) (λ (y : Expr). value (expression_of y) (context_of c.args.text.now around c.args.scope.now (names_of c.args.names.now))) c.args.given.now c.loop-e.e-index (values_in (context_of c.args.text.now around c.args.scope.now (names_of c.args.names.now)) c.args.given.now) c.loop-e-test.false (c.loop-e.invariant around)
+
+pub resolve_accesses-returns : goal.resolve_accesses-returns
+resolve_accesses-returns t c = λ around. r.finished (trees.accesses_of (tables_of around c.args.scope.now) c.loop-access.all.items) (access_in (context_of c.args.text.now around c.args.scope.now (names_of c.args.names.now))) c.args.more.now c.loop-access.access-index (accesses_in (context_of c.args.text.now around c.args.scope.now (names_of c.args.names.now)) c.args.more.now) c.loop-access-test.false (c.loop-access.invariant around)
+
+pub resolve_factors-returns : goal.resolve_factors-returns
+resolve_factors-returns t c = λ around. r.finished (trees.parts (tables_of around c.args.scope.now) c.loop-x.all.items) (λ (y : Factor × Expr). (y.0, value (expression_of y.1) (context_of c.args.text.now around c.args.scope.now (names_of c.args.names.now)))) c.args.more.now c.loop-x.x-index (parts_in (context_of c.args.text.now around c.args.scope.now (names_of c.args.names.now)) c.args.more.now) c.loop-x-test.false (c.loop-x.invariant around)
+
+pub resolve_terms-returns : goal.resolve_terms-returns
+resolve_terms-returns t c = λ around. r.finished (trees.parts (tables_of around c.args.scope.now) c.loop-x.all.items) (λ (y : Term × Expr). (y.0, value (expression_of y.1) (context_of c.args.text.now around c.args.scope.now (names_of c.args.names.now)))) c.args.more.now c.loop-x.x-index (parts_in (context_of c.args.text.now around c.args.scope.now (names_of c.args.names.now)) c.args.more.now) c.loop-x-test.false (c.loop-x.invariant around)
+
+pub resolve_joints-returns : goal.resolve_joints-returns
+resolve_joints-returns t c = λ around. r.finished (trees.parts (tables_of around c.args.scope.now) c.loop-x.all.items) (λ (y : Joint × Expr). (y.0, value (expression_of y.1) (context_of c.args.text.now around c.args.scope.now (names_of c.args.names.now)))) c.args.more.now c.loop-x.x-index (parts_in (context_of c.args.text.now around c.args.scope.now (names_of c.args.names.now)) c.args.more.now) c.loop-x-test.false (c.loop-x.invariant around)

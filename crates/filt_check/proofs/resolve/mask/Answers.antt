@@ -1,0 +1,15 @@
+use Rattle.std.proofs.Common.{List, Option, option_map, ap, sym, ◌∙◌}
+use Rattle.filt_sets.specs.declared.mask.MaskItem.{MaskItem}
+use Rattle.filt_values.specs.declared.fixed.Fixed.TheVariants as fixed
+use Rattle.filt_values.specs.Values.{VMask}
+use Rattle.filt_meaning.specs.Meaning.{given}
+use Rattle.filt_meaning.specs.Names.{there}
+use Rattle.filt_tree.specs.Scopes.{tables_of}
+use Rattle.filt_check.proofs.Forms as f
+use Rattle.filt_check.proofs.resolve.mask.Goals as goal
+
+pub returns-in-Some : goal.returns-in-Some
+returns-in-Some c = λ around variables. f.expr-Value (fixed.Mask c.in-Some.mask) (tables_of around c.args.scope.now) ∙ ap given (ap (λ (o : Option (List MaskItem)). there (option_map (λ m. VMask m) o)) (sym c.in-Some.is) ∙ c.in_ok-mask.ensures around variables)
+
+pub returns-in-None : goal.returns-in-None
+returns-in-None c = λ around variables. f.expr-Stuck (tables_of around c.args.scope.now) ∙ ap given (ap (λ (o : Option (List MaskItem)). there (option_map (λ m. VMask m) o)) (sym c.in-None.is) ∙ c.in_ok-mask.ensures around variables)

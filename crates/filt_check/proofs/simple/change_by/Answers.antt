@@ -1,0 +1,17 @@
+use Rattle.std.proofs.Common.{ap, ◌∙◌}
+use Rattle.conf_ast.specs.Filters.{expression_of}
+use Rattle.filt_meaning.specs.Meaning.{method_of, on_two, read, value}
+use Rattle.filt_tree.specs.declared.tree.TExpr.{TExpr}
+use Rattle.filt_tree.specs.declared.tree.TExpr.TheVariants as te
+use Rattle.filt_tree.specs.Trees.{expr}
+use Rattle.filt_tree.specs.Scopes.{context_of, tables_of}
+use Rattle.filt_check.specs.Seen.{names_of}
+use Rattle.filt_check.proofs.Acting.{assigned, method_same}
+use Rattle.filt_check.proofs.simple.change_by.Goals as goal
+
+pub returns : goal.returns
+returns c = λ around.
+    let u = value (read c.args.target.now) (context_of c.args.text.now around c.args.scope.now (names_of c.args.names.now)) in
+    let v = value (expression_of c.args.argument.now) (context_of c.args.text.now around c.args.scope.now (names_of c.args.names.now)) in
+    assigned (tables_of around c.args.scope.now) (context_of c.args.text.now around c.args.scope.now (names_of c.args.names.now)) c.target_place.result c.args.target.now (te.Method c.args.kind c.in_ok-held.held c.in_ok-given.given) (on_two u v (method_of c.args.kind)) (c.target_place.ensures around c.args.scope.now)
+    (method_same (tables_of around c.args.scope.now) c.args.kind c.in_ok-held.held c.in_ok-given.given u v (ap (λ (x : TExpr). expr x (tables_of around c.args.scope.now)) c.in_ok-held.ensures.ok ∙ c.target_value.ensures around) (c.in_ok-given.ensures around))

@@ -1,0 +1,10 @@
+use Rattle.std.proofs.Common.{ap, sym, ◌∙◌}
+use Rattle.filt_syntax.specs.declared.tree.Target.{Target}
+use Rattle.filt_meaning.specs.Meaning.{read, value}
+use Rattle.filt_tree.specs.Scopes.{context_of}
+use Rattle.filt_check.specs.Seen.{names_of}
+use Rattle.filt_check.proofs.Resolving.{attribute_same}
+use Rattle.filt_check.proofs.simple.target_value.Goals as goal
+
+pub returns-in-Attribute : goal.returns-in-Attribute
+returns-in-Attribute c = λ around. attribute_same around c.args.scope.now c.in-Attribute.attribute ∙ sym (ap (λ (target : Target). value (read target) (context_of c.args.text.now around c.args.scope.now (names_of c.args.names.now))) c.in-Attribute.is)

@@ -1,0 +1,147 @@
+-- For the contracts of private functions: parts of checked trees beside what they stand for.
+use Rattle.std.specs.Prelude.{◌≡◌, ℕ, Bool, List, [], ◌∷◌, ◌++◌, map, Option, Some, None, Result, Ok, Err, slice_get, Vec}
+use Rattle.std.specs.Global.{Global}
+use Rattle.std.specs.Borrow.{Bor}
+use Rattle.filt_sets.specs.declared.ints.IntItem.{IntItem}
+use Rattle.filt_sets.specs.declared.pairs.PairItem.{PairItem}
+use Rattle.filt_sets.specs.declared.prefixes.PrefixItem.{PrefixItem}
+use Rattle.filt_syntax.specs.declared.tree.Access.{Access}
+use Rattle.filt_syntax.specs.declared.tree.Access.TheVariants as accesses
+use Rattle.filt_syntax.specs.declared.tree.Arm.{Arm}
+use Rattle.filt_syntax.specs.declared.tree.Expr.{Expr}
+use Rattle.filt_syntax.specs.declared.tree.Item.{Item}
+use Rattle.filt_syntax.specs.declared.tree.Item.TheVariants as items
+use Rattle.filt_syntax.specs.declared.tree.Parameter.{Parameter}
+use Rattle.filt_syntax.specs.declared.tree.Stmt.{Stmt}
+use Rattle.conf_ast.specs.Filters.{expression_of, statement_of, statements_of}
+use Rattle.filt_values.specs.declared.value.Failure.{Failure}
+use Rattle.filt_values.specs.declared.value.Failure.TheVariants.{Stuck}
+use Rattle.filt_values.specs.declared.value.Sort.{Sort}
+use Rattle.filt_values.specs.Operators.{and_then}
+use Rattle.filt_values.specs.Values.{Val}
+use Rattle.filt_meaning.specs.Flow.{Accepted, Rejected, Run}
+use Rattle.filt_meaning.specs.Items.{among, int_item, pair_item, prefix_item, set_of}
+use Rattle.filt_meaning.specs.Meaning.{Act, act, acts, all_declared, arm, choice, in_turn, nothing, stop, value}
+use Rattle.filt_meaning.specs.Names.{Context, Variable, sort_of_type}
+use Rattle.filt_tree.specs.declared.tree.TAccess.{TAccess}
+use Rattle.filt_tree.specs.declared.tree.TAccess.TheVariants as checked
+use Rattle.filt_tree.specs.declared.tree.TArm.{TArm}
+use Rattle.filt_tree.specs.declared.tree.TStmt.{TStmt}
+use Rattle.filt_tree.specs.Trees.{Tables, body, set_of_labels}
+use Rattle.filt_check.specs.declared.collect.Declared.{Declared}
+
+-- names that stand in the source, as bytes
+abbrev pub names_of : List (Bor (List ℕ)) → List (List ℕ)
+names_of names = map (λ name. name.now) names
+
+-- what stands at a place
+abbrev pub at_place : {A : Type 0} → List A → Option ℕ → Option A
+at_place xs None = None
+at_place xs (Some n) = slice_get xs n
+
+-- ---- parts of expressions
+
+abbrev pub values_in : Context → List Expr → List (Run Val)
+values_in c es = map (λ e. value (expression_of e) c) es
+
+abbrev pub access_in : Context → Access Expr → TAccess (Run Val)
+access_in c (accesses.Property p) = checked.Property p
+access_in c (accesses.Method m place e) = checked.Method m.kind (value (expression_of e) c)
+
+abbrev pub accesses_in : Context → List (Access Expr) → List (TAccess (Run Val))
+accesses_in c more = map (access_in c) more
+
+-- operators, each with the expression behind it
+abbrev pub parts_in : {Op : Type 0} → Context → List (Op × Expr) → List (Op × Run Val)
+parts_in c more = map (λ x. (x.0, value (expression_of x.1) c)) more
+
+-- ---- items
+
+-- what all of a list are, in their order
+abbrev pub each : {X A : Type 0} → (X → Result A Failure) → List X → Result (List A) Failure
+each f [] = Ok []
+each f (x ∷ xs) = and_then (f x) (λ a. and_then (each f xs) (λ more. Ok (a ∷ more)))
+
+abbrev pub int_of : Context → Item → Result IntItem Failure
+int_of c (items.Part p) = int_item c p
+int_of c (items.Pair at a b) = Err Stuck
+int_of c (items.Prefix at net l) = Err Stuck
+
+abbrev pub pair_of : Context → Item → Result PairItem Failure
+pair_of c (items.Part p) = Err Stuck
+pair_of c (items.Pair at a b) = pair_item c a b
+pair_of c (items.Prefix at net l) = Err Stuck
+
+abbrev pub prefix_of : Context → Item → Result PrefixItem Failure
+prefix_of c (items.Part p) = Err Stuck
+prefix_of c (items.Pair at a b) = Err Stuck
+prefix_of c (items.Prefix at net l) = prefix_item c net l
+
+-- ---- variables that statements declare
+
+abbrev pub name_of : Declared → List ℕ
+name_of v = v.name.now
+
+abbrev pub sort_of : Declared → Sort
+sort_of v = v.sort
+
+abbrev pub variable_of : Declared → Variable
+variable_of v = (v.name.now, v.sort)
+
+abbrev pub variables_of : List Declared → List Variable
+variables_of vs = map variable_of vs
+
+abbrev pub sorts_in : List Variable → List Sort
+sorts_in vs = map (λ (v : Variable). v.1) vs
+
+abbrev pub arm_declares : List ℕ → Arm Stmt → List Variable
+arm_declares text a = all_declared text (statements_of a.body.items)
+
+abbrev pub arms_declare : List ℕ → List (Arm Stmt) → List Variable
+arms_declare text [] = []
+arms_declare text (a ∷ more) = arm_declares text a ++ arms_declare text more
+
+abbrev pub otherwise_declares : List ℕ → Option (Vec Stmt Global) → List Variable
+otherwise_declares text None = []
+otherwise_declares text (Some body) = all_declared text (statements_of body.items)
+
+abbrev pub parameter_sort : Parameter → Sort
+parameter_sort p = sort_of_type p.variable_type
+
+abbrev pub parameter_sorts : List Parameter → List Sort
+parameter_sorts parameters = map parameter_sort parameters
+
+-- ---- parts of statements
+
+abbrev pub acts_in : Context → List Stmt → List Act
+acts_in c ss = map (λ s. act (statement_of s) c) ss
+
+-- the set of an arm's labels, and what is done where it has the value
+abbrev pub Branch : Type 0
+Branch = Result Val Failure × Act
+
+abbrev pub arm_in : Context → Arm Stmt → Branch
+arm_in c a = (set_of c a.labels.items, acts (statements_of a.body.items) c)
+
+abbrev pub arms_in : Context → List (Arm Stmt) → List Branch
+arms_in c arms = map (arm_in c) arms
+
+abbrev pub arm_seen : Tables → TArm TStmt → Branch
+arm_seen t a = (set_of_labels a.labels, body t a.body.items)
+
+abbrev pub arms_seen : Tables → List (TArm TStmt) → List Branch
+arms_seen t arms = map (arm_seen t) arms
+
+abbrev pub otherwise_in : Context → Option (Vec Stmt Global) → Act
+otherwise_in c None = nothing
+otherwise_in c (Some body) = acts (statements_of body.items) c
+
+-- the first arm that has the value, and none behind it
+abbrev pub picked : List Branch → (otherwise : Act) → Val → Act
+picked [] otherwise v = otherwise
+picked (a ∷ more) otherwise v =
+    arm (and_then a.0 (λ set. among set v)) a.1 (picked more otherwise v)
+
+-- what accepts where a value holds, and rejects elsewhere
+abbrev pub where_act : Run Val → Act
+where_act a = in_turn (choice a (stop Accepted) nothing) (in_turn (stop Rejected) nothing)

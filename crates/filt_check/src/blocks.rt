@@ -1,0 +1,305 @@
+// Statements from names to places.
+
+ghost use Rattle.std.specs.Prelude.{◌≡◌, List, ℕ, [], ◌∷◌, IfOk, map};
+ghost use Rattle.grammar.specs.Names.{name_bytes};
+ghost use Rattle.conf_ast.specs.Filters.{Braced, expression_of, statement_of, statements_of};
+ghost use Rattle.filt_meaning.specs.Meaning.{act, acts, all_declared, cases, choice, loop, nothing, value, within};
+ghost use Rattle.filt_meaning.specs.Names.{Around, with_variables};
+ghost use Rattle.filt_tree.specs.Scopes.{context_of, tables_of};
+ghost use Rattle.filt_tree.specs.Trees as trees;
+ghost use Rattle.filt_check.specs.Seen.{names_of, sorts_in, acts_in, arm_seen, arms_seen, arm_in, arms_in, otherwise_in, picked};
+
+use crate::collect::{collect_all, sorts_of, with_declared, with_name};
+use crate::items::set_of;
+use crate::resolve::resolve;
+use crate::simple::{assign, called, change, declare, print, returned};
+use bits_ip::OutOfMemory;
+use filt_syntax::{Arm, Expr, Stmt};
+use filt_tree::{Scope, TArm, TStmt};
+use filt_values::Sort;
+use grammar::Name;
+use std::alloc::Global;
+
+/// A block: the sorts of its own variables, and its statements.
+#[derive(Drop)]
+pub(crate) struct Resolved {
+    pub sorts: Vec<Sort>,
+    pub body: Vec<TStmt>,
+}
+
+#[cycle(blocks)]
+pub(crate) fn resolve_statement<'a>(
+    alloc: Global,
+    text: &'a [u8],
+    scope: &Scope,
+    names: &[&'a [u8]],
+    s: &Stmt,
+) -> Result<TStmt, OutOfMemory>
+    ensures { IfOk result (λ x. (around : Around) → trees.stmt x (tables_of around scope.now)
+        ≡ act (statement_of s.now)
+        (context_of text.now around scope.now (names_of names.now))) }
+{
+    match s {
+        Stmt::Block(body) => braced(alloc, text, scope, names, body),
+        Stmt::Empty => Ok(TStmt::Nothing),
+        Stmt::Declare {
+            variable_type,
+            name,
+            value,
+        } => { declare(alloc, text, scope, names, *variable_type, name, value) }
+        Stmt::Assign(target, e) => assign(alloc, text, scope, names, target, e),
+        Stmt::Change(target, what) => change(alloc, text, scope, names, target, what),
+        Stmt::Unset { attribute, .. } => Ok(TStmt::Unset(*attribute)),
+        Stmt::If(e, first) => if_then(alloc, text, scope, names, e, first),
+        Stmt::IfElse(e, first, second) => if_else(alloc, text, scope, names, e, first, second),
+        Stmt::Case {
+            value,
+            arms,
+            otherwise,
+            ..
+        } => { case(alloc, text, scope, names, value, arms, otherwise) }
+        Stmt::For {
+            name,
+            list,
+            body,
+            ..
+        } => each(alloc, text, scope, names, name, list, body),
+        Stmt::Accept => Ok(TStmt::Accept),
+        Stmt::Reject => Ok(TStmt::Reject),
+        Stmt::Return { value, .. } => returned(alloc, text, scope, names, value),
+        Stmt::Print(given) => print(alloc, text, scope, names, given),
+        Stmt::PrintPart(given) => print(alloc, text, scope, names, given),
+        Stmt::Call {
+            name,
+            arguments,
+            ..
+        } => called(alloc, text, scope, names, name, arguments),
+    }
+}
+
+#[cycle(blocks)]
+fn boxed<'a>(
+    alloc: Global,
+    text: &'a [u8],
+    scope: &Scope,
+    names: &[&'a [u8]],
+    s: &Stmt,
+) -> Result<Box<TStmt>, OutOfMemory>
+    ensures { IfOk result (λ b. (around : Around) → trees.stmt b.value (tables_of around scope.now)
+        ≡ act (statement_of s.now)
+        (context_of text.now around scope.now (names_of names.now))) }
+{
+    let x = resolve_statement(alloc, text, scope, names, s)?;
+    Ok(Box::new(alloc, x)?)
+}
+
+// ---- blocks
+
+/// The statements of a block, over these variables and its own.
+#[cycle(blocks)]
+pub(crate) fn resolve_block<'a>(
+    alloc: Global,
+    text: &'a [u8],
+    scope: &Scope,
+    names: &[&'a [u8]],
+    body: &[Stmt],
+) -> Result<Resolved, OutOfMemory>
+    ensures sorts { IfOk result (λ b.
+        b.sorts.items ≡ sorts_in (all_declared text.now (statements_of body.now))) }
+    ensures body { IfOk result (λ b. (around : Around)
+        → trees.body (tables_of around scope.now) b.body.items
+        ≡ acts (statements_of body.now)
+        (within (context_of text.now around scope.now (names_of names.now))
+        (all_declared text.now (statements_of body.now)))) }
+{
+    let mut declared = Vec::new(alloc);
+    collect_all(text, body, &mut declared)?;
+    let inner = with_declared(alloc, names, &declared)?;
+    let sorts = sorts_of(alloc, &declared)?;
+    let body = resolve_all(alloc, text, scope, &inner, body)?;
+    Ok(Resolved { sorts, body })
+}
+
+#[cycle(blocks)]
+fn braced<'a>(
+    alloc: Global,
+    text: &'a [u8],
+    scope: &Scope,
+    names: &[&'a [u8]],
+    body: &[Stmt],
+) -> Result<TStmt, OutOfMemory>
+    ensures { IfOk result (λ x. (around : Around) → trees.stmt x (tables_of around scope.now)
+        ≡ act (Braced (statements_of body.now))
+        (context_of text.now around scope.now (names_of names.now))) }
+{
+    let block = resolve_block(alloc, text, scope, names, body)?;
+    Ok(TStmt::Block(block.sorts, block.body))
+}
+
+#[cycle(blocks)]
+fn resolve_all<'a>(
+    alloc: Global,
+    text: &'a [u8],
+    scope: &Scope,
+    names: &[&'a [u8]],
+    body: &[Stmt],
+) -> Result<Vec<TStmt>, OutOfMemory>
+    ensures { IfOk result (λ v. (around : Around)
+        → trees.stmts (tables_of around scope.now) v.items
+        ≡ acts_in (context_of text.now around scope.now (names_of names.now)) body.now) }
+{
+    let mut all = Vec::new(alloc);
+    for s in body {
+        all.push(resolve_statement(alloc, text, scope, names, s)?)?;
+    }
+    Ok(all)
+}
+
+// ---- branches
+
+#[cycle(blocks)]
+fn if_then<'a>(
+    alloc: Global,
+    text: &'a [u8],
+    scope: &Scope,
+    names: &[&'a [u8]],
+    e: &Expr,
+    first: &Stmt,
+) -> Result<TStmt, OutOfMemory>
+    ensures { IfOk result (λ x. (around : Around) → trees.stmt x (tables_of around scope.now)
+        ≡ choice
+        (value (expression_of e.now) (context_of text.now around scope.now (names_of names.now)))
+        (act (statement_of first.now) (context_of text.now around scope.now (names_of names.now)))
+        nothing) }
+{
+    let a = boxed(alloc, text, scope, names, first)?;
+    let x = resolve(alloc, text, scope, names, e)?;
+    Ok(TStmt::If(x, a))
+}
+
+#[cycle(blocks)]
+fn if_else<'a>(
+    alloc: Global,
+    text: &'a [u8],
+    scope: &Scope,
+    names: &[&'a [u8]],
+    e: &Expr,
+    first: &Stmt,
+    second: &Stmt,
+) -> Result<TStmt, OutOfMemory>
+    ensures { IfOk result (λ x. (around : Around) → trees.stmt x (tables_of around scope.now)
+        ≡ choice
+        (value (expression_of e.now) (context_of text.now around scope.now (names_of names.now)))
+        (act (statement_of first.now) (context_of text.now around scope.now (names_of names.now)))
+        (act (statement_of second.now)
+        (context_of text.now around scope.now (names_of names.now)))) }
+{
+    let a = boxed(alloc, text, scope, names, first)?;
+    let b = boxed(alloc, text, scope, names, second)?;
+    let x = resolve(alloc, text, scope, names, e)?;
+    Ok(TStmt::IfElse(x, a, b))
+}
+
+#[cycle(blocks)]
+fn case<'a>(
+    alloc: Global,
+    text: &'a [u8],
+    scope: &Scope,
+    names: &[&'a [u8]],
+    e: &Expr,
+    arms: &[Arm<Stmt>],
+    otherwise: &Option<Vec<Stmt>>,
+) -> Result<TStmt, OutOfMemory>
+    ensures { IfOk result (λ x. (around : Around) → trees.stmt x (tables_of around scope.now)
+        ≡ cases
+        (value (expression_of e.now) (context_of text.now around scope.now (names_of names.now)))
+        (picked (arms_in (context_of text.now around scope.now (names_of names.now)) arms.now)
+        (otherwise_in (context_of text.now around scope.now (names_of names.now))
+        otherwise.now))) }
+{
+    let b = resolve_otherwise(alloc, text, scope, names, otherwise)?;
+    let a = resolve_arms(alloc, text, scope, names, arms)?;
+    let x = resolve(alloc, text, scope, names, e)?;
+    Ok(TStmt::Case(x, a, b))
+}
+
+#[cycle(blocks)]
+fn resolve_otherwise<'a>(
+    alloc: Global,
+    text: &'a [u8],
+    scope: &Scope,
+    names: &[&'a [u8]],
+    otherwise: &Option<Vec<Stmt>>,
+) -> Result<Vec<TStmt>, OutOfMemory>
+    ensures { IfOk result (λ v. (around : Around)
+        → trees.body (tables_of around scope.now) v.items
+        ≡ otherwise_in (context_of text.now around scope.now (names_of names.now))
+        otherwise.now) }
+{
+    match otherwise {
+        None => Ok(Vec::new(alloc)),
+        Some(body) => resolve_all(alloc, text, scope, names, body),
+    }
+}
+
+#[cycle(blocks)]
+fn resolve_arm<'a>(
+    alloc: Global,
+    text: &'a [u8],
+    scope: &Scope,
+    names: &[&'a [u8]],
+    arm: &Arm<Stmt>,
+) -> Result<TArm<TStmt>, OutOfMemory>
+    ensures { IfOk result (λ x. (around : Around)
+        → arm_seen (tables_of around scope.now) x
+        ≡ arm_in (context_of text.now around scope.now (names_of names.now)) arm.now) }
+{
+    let body = resolve_all(alloc, text, scope, names, &arm.body)?;
+    let labels = set_of(alloc, text, scope, &arm.labels)?;
+    Ok(TArm { labels, body })
+}
+
+#[cycle(blocks)]
+fn resolve_arms<'a>(
+    alloc: Global,
+    text: &'a [u8],
+    scope: &Scope,
+    names: &[&'a [u8]],
+    arms: &[Arm<Stmt>],
+) -> Result<Vec<TArm<TStmt>>, OutOfMemory>
+    ensures { IfOk result (λ v. (around : Around)
+        → arms_seen (tables_of around scope.now) v.items
+        ≡ arms_in (context_of text.now around scope.now (names_of names.now)) arms.now) }
+{
+    let mut all = Vec::new(alloc);
+    for arm in arms {
+        all.push(resolve_arm(alloc, text, scope, names, arm)?)?;
+    }
+    Ok(all)
+}
+
+// ---- loops
+
+/// The variable is the last one in the body, and isn't seen behind it.
+#[cycle(blocks)]
+fn each<'a>(
+    alloc: Global,
+    text: &'a [u8],
+    scope: &Scope,
+    names: &[&'a [u8]],
+    name: &Name,
+    list: &Expr,
+    body: &Stmt,
+) -> Result<TStmt, OutOfMemory>
+    ensures { IfOk result (λ x. (around : Around) → trees.stmt x (tables_of around scope.now)
+        ≡ loop
+        (value (expression_of list.now) (context_of text.now around scope.now (names_of names.now)))
+        (act (statement_of body.now)
+        (with_variables (context_of text.now around scope.now (names_of names.now))
+        (name_bytes text.now name.now ∷ [])))) }
+{
+    let inner = with_name(alloc, names, name.bytes(text))?;
+    let a = boxed(alloc, text, scope, &inner, body)?;
+    let x = resolve(alloc, text, scope, names, list)?;
+    Ok(TStmt::For(x, a))
+}

@@ -1,0 +1,250 @@
+// The public calls. Each asks for the first refusal, and resolves what has none.
+
+ghost use Rattle.std.specs.Prelude.{◌≡◌, ◌+◌, ◌^◌, [], List, length, min, None, IfOk, MatchResult};
+ghost use Rattle.attrs.specs.declared.attributes.Attrs.{Attrs};
+ghost use Rattle.conf_ast.specs.Configurations.{routine_of};
+ghost use Rattle.conf_ast.specs.Filters.{block_of, expression_of, statements_of};
+ghost use Rattle.filt_meaning.specs.Configuration as meaning;
+ghost use Rattle.filt_meaning.specs.Configuration.{doing, filter_where};
+ghost use Rattle.filt_meaning.specs.Names.{Around};
+ghost use Rattle.filt_tree.specs.Scopes.{constant_values, context_of, function_trees, tables_of};
+ghost use Rattle.filt_tree.specs.Trees as trees;
+ghost use Rattle.filt_types.specs.Refusals.{first_in};
+ghost use Rattle.filt_types.specs.Seen.{scene_of, signature_of};
+ghost use Rattle.filt_types.specs.Statements.{sort_given};
+ghost use Rattle.filt_types.specs.Weight.{block_weight, capped};
+ghost use Rattle.filt_check.specs.Answers.{IsFault, of_filter, of_function, signature_in};
+ghost use Rattle.filt_check.specs.Seen.{where_act};
+
+use crate::blocks::resolve_block;
+use crate::collect::{parameter_names, parameter_sorts, sort_of_type};
+use crate::fault::{TypeFault, fault};
+use crate::resolve::resolve;
+use bits_ip::OutOfMemory;
+use filt_rules::{first_in_block, first_in_condition, first_in_function, weigh, weigh_block};
+use filt_syntax::{Block, Expr, Filter, Function, Stmt, VariableType};
+use filt_tree::{Scope, TExpr, TFilter, TFunction, TStmt};
+use filt_values::Sort;
+use std::alloc::Global;
+
+// ---- filters
+
+/// Checks a filter of the configuration, whose names the scope declares before it. What is refused
+/// first by place is answered; a filter that is too heavy is refused at its name.
+///
+/// The filter that is made means what the source says, over this scope and each one that declares
+/// more behind it. BIRD User's Guide, "Filters".
+pub fn check_filter(
+    alloc: Global,
+    text: &[u8],
+    scope: &Scope,
+    filter: &Filter,
+) -> Result<TFilter, TypeFault>
+    ensures answer { MatchResult result
+        (λ _. first_in None (of_filter (scene_of text.now scope.now) filter.now.name.at
+        (block_of filter.now.block)) ≡ None)
+        (λ fault. IsFault
+        (block_weight (scene_of text.now scope.now) (block_of filter.now.block)) fault
+        (first_in None (of_filter (scene_of text.now scope.now) filter.now.name.at
+        (block_of filter.now.block)))) }
+    ensures meaning { IfOk result (λ f. (around : Around) (attrs : Attrs)
+        → trees.judged around (constant_values scope.now) (function_trees scope.now) f attrs
+        ≡ meaning.judged (context_of text.now around scope.now []) (block_of filter.now.block)
+        attrs) }
+    ensures sees { IfOk result (λ f. (f.constants ≡ length (constant_values scope.now))
+        × (f.functions ≡ length (function_trees scope.now))) }
+{
+    check_block(alloc, text, scope, filter.name.at, &filter.block)
+}
+
+/// Checks the statements of a filter without a name, as `check_filter` does. It is refused at `at`
+/// if it is too heavy.
+pub fn check_block(
+    alloc: Global,
+    text: &[u8],
+    scope: &Scope,
+    at: usize,
+    block: &Block,
+) -> Result<TFilter, TypeFault>
+    ensures answer { MatchResult result
+        (λ _. first_in None (of_filter (scene_of text.now scope.now) at (block_of block.now))
+        ≡ None)
+        (λ fault. IsFault
+        (block_weight (scene_of text.now scope.now) (block_of block.now)) fault
+        (first_in None
+        (of_filter (scene_of text.now scope.now) at (block_of block.now)))) }
+    ensures meaning { IfOk result (λ f. (around : Around) (attrs : Attrs)
+        → trees.judged around (constant_values scope.now) (function_trees scope.now) f attrs
+        ≡ meaning.judged (context_of text.now around scope.now []) (block_of block.now) attrs) }
+    ensures sees { IfOk result (λ f. (f.constants ≡ length (constant_values scope.now))
+        × (f.functions ≡ length (function_trees scope.now))) }
+{
+    match first_in_block(alloc, text, scope, at, block)? {
+        Some(refusal) => Err(fault(refusal, weigh_block(text, scope, block))),
+        None => Ok(resolve_filter(alloc, text, scope, &block.statements)?),
+    }
+}
+
+fn resolve_filter(
+    alloc: Global,
+    text: &[u8],
+    scope: &Scope,
+    body: &[Stmt],
+) -> Result<TFilter, OutOfMemory>
+    ensures meaning { IfOk result (λ f. (around : Around) (attrs : Attrs)
+        → trees.judged around (constant_values scope.now) (function_trees scope.now) f attrs
+        ≡ meaning.judged (context_of text.now around scope.now []) (statements_of body.now)
+        attrs) }
+    ensures sees { IfOk result (λ f. (f.constants ≡ length (constant_values scope.now))
+        × (f.functions ≡ length (function_trees scope.now))) }
+{
+    let block = resolve_block(alloc, text, scope, &[], body)?;
+    Ok(TFilter {
+        constants: scope.constants.len(),
+        functions: scope.functions.len(),
+        sorts: block.sorts,
+        body: block.body,
+    })
+}
+
+// ---- conditions
+
+/// Checks a condition (`where`): it is the filter that accepts where it holds, and rejects
+/// elsewhere. It is refused at `at` if it is too heavy. The text is its own, which may be another
+/// than the configuration's.
+pub fn check_expr(
+    alloc: Global,
+    text: &[u8],
+    scope: &Scope,
+    at: usize,
+    condition: &Expr,
+) -> Result<TFilter, TypeFault>
+    ensures answer { MatchResult result
+        (λ _. first_in None (of_filter (scene_of text.now scope.now) at
+        (filter_where (expression_of condition.now))) ≡ None)
+        (λ fault. IsFault
+        (block_weight (scene_of text.now scope.now)
+        (filter_where (expression_of condition.now))) fault
+        (first_in None (of_filter (scene_of text.now scope.now) at
+        (filter_where (expression_of condition.now))))) }
+    ensures meaning { IfOk result (λ f. (around : Around) (attrs : Attrs)
+        → trees.judged around (constant_values scope.now) (function_trees scope.now) f attrs
+        ≡ meaning.judged (context_of text.now around scope.now [])
+        (filter_where (expression_of condition.now)) attrs) }
+    ensures sees { IfOk result (λ f. (f.constants ≡ length (constant_values scope.now))
+        × (f.functions ≡ length (function_trees scope.now))) }
+{
+    match first_in_condition(text, scope, at, condition) {
+        Some(refusal) => Err(fault(refusal, weigh_condition(text, scope, condition))),
+        None => Ok(resolve_condition(alloc, text, scope, condition)?),
+    }
+}
+
+/// Its block, `if`, `accept` and `reject` weigh 1 each.
+fn weigh_condition(text: &[u8], scope: &Scope, condition: &Expr) -> u128
+    ensures { result ≡ capped (block_weight (scene_of text.now scope.now)
+        (filter_where (expression_of condition.now))) }
+{
+    const CAP: u128 = 170141183460469231731687303715884105728;
+    (weigh(text, scope, condition) + 4).min(CAP)
+}
+
+fn where_body(alloc: Global, condition: TExpr) -> Result<Vec<TStmt>, OutOfMemory>
+    ensures { IfOk result (λ v. (tables : trees.Tables) → trees.body tables v.items
+        ≡ where_act (trees.expr condition tables)) }
+{
+    let accept = Box::new(alloc, TStmt::Accept)?;
+    let mut body = Vec::new(alloc);
+    body.push(TStmt::If(condition, accept))?;
+    body.push(TStmt::Reject)?;
+    Ok(body)
+}
+
+fn resolve_condition(
+    alloc: Global,
+    text: &[u8],
+    scope: &Scope,
+    condition: &Expr,
+) -> Result<TFilter, OutOfMemory>
+    ensures meaning { IfOk result (λ f. (around : Around) (attrs : Attrs)
+        → trees.judged around (constant_values scope.now) (function_trees scope.now) f attrs
+        ≡ meaning.judged (context_of text.now around scope.now [])
+        (filter_where (expression_of condition.now)) attrs) }
+    ensures sees { IfOk result (λ f. (f.constants ≡ length (constant_values scope.now))
+        × (f.functions ≡ length (function_trees scope.now))) }
+{
+    let x = resolve(alloc, text, scope, &[], condition)?;
+    let body = where_body(alloc, x)?;
+    Ok(TFilter {
+        constants: scope.constants.len(),
+        functions: scope.functions.len(),
+        sorts: Vec::new(alloc),
+        body,
+    })
+}
+
+// ---- functions
+
+/// Checks a function of the configuration, which sees what the scope declares before it: neither
+/// itself nor a later function. What is refused first by place is answered; one that is too heavy
+/// is refused at its name. BIRD User's Guide, "Filters".
+pub fn check_function(
+    alloc: Global,
+    text: &[u8],
+    scope: &Scope,
+    function: &Function,
+) -> Result<TFunction, TypeFault>
+    ensures answer { MatchResult result
+        (λ _. first_in None
+        (of_function (scene_of text.now scope.now) (routine_of function.now)) ≡ None)
+        (λ fault. IsFault
+        (block_weight (scene_of text.now scope.now) (block_of function.now.block)) fault
+        (first_in None
+        (of_function (scene_of text.now scope.now) (routine_of function.now)))) }
+    ensures signature { IfOk result (λ f. signature_of f
+        ≡ signature_in (scene_of text.now scope.now) (routine_of function.now)) }
+    ensures meaning { IfOk result (λ f. (around : Around)
+        → trees.function (tables_of around scope.now) f
+        ≡ doing (context_of text.now around scope.now []) (routine_of function.now)) }
+    ensures sees { IfOk result (λ f. f.constants ≡ length (constant_values scope.now)) }
+{
+    match first_in_function(alloc, text, scope, function)? {
+        Some(refusal) => Err(fault(refusal, weigh_block(text, scope, &function.block))),
+        None => Ok(resolve_function(alloc, text, scope, function)?),
+    }
+}
+
+fn resolve_function(
+    alloc: Global,
+    text: &[u8],
+    scope: &Scope,
+    function: &Function,
+) -> Result<TFunction, OutOfMemory>
+    ensures signature { IfOk result (λ f. signature_of f
+        ≡ signature_in (scene_of text.now scope.now) (routine_of function.now)) }
+    ensures meaning { IfOk result (λ f. (around : Around)
+        → trees.function (tables_of around scope.now) f
+        ≡ doing (context_of text.now around scope.now []) (routine_of function.now)) }
+    ensures sees { IfOk result (λ f. f.constants ≡ length (constant_values scope.now)) }
+{
+    let names = parameter_names(alloc, text, &function.parameters)?;
+    let parameters = parameter_sorts(alloc, &function.parameters)?;
+    let block = resolve_block(alloc, text, scope, &names, &function.block.statements)?;
+    Ok(TFunction {
+        parameters,
+        gives: sort_given(function.gives),
+        weight: weigh_block(text, scope, &function.block),
+        constants: scope.constants.len(),
+        sorts: block.sorts,
+        body: block.body,
+    })
+}
+
+fn sort_given(gives: Option<VariableType>) -> Option<Sort>
+    ensures { result ≡ sort_given gives }
+{
+    match gives {
+        None => None,
+        Some(variable_type) => Some(sort_of_type(variable_type)),
+    }
+}

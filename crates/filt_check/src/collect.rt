@@ -1,0 +1,226 @@
+// The variables that statements declare in the block round them.
+
+ghost use Rattle.std.specs.Prelude.{◌≡◌, ◌++◌, ◌∷◌, [], IfOk, OnOk, map};
+ghost use Rattle.grammar.specs.Names.{name_bytes};
+ghost use Rattle.conf_ast.specs.Filters.{statement_of, statements_of};
+ghost use Rattle.filt_meaning.specs.Configuration.{parameter_names};
+ghost use Rattle.filt_meaning.specs.Meaning.{declared, all_declared};
+ghost use Rattle.filt_meaning.specs.Names.{sort_of_type};
+ghost use Rattle.filt_check.specs.Seen.{names_of, variables_of, name_of, sort_of, arms_declare, otherwise_declares, parameter_sorts};
+
+use bits_ip::OutOfMemory;
+use filt_syntax::{Arm, Parameter, Stmt, VariableType};
+use filt_values::Sort;
+use grammar::Name;
+use std::alloc::Global;
+
+/// A variable that is declared.
+#[derive(Clone, Copy)]
+pub(crate) struct Declared<'a> {
+    pub name: &'a [u8],
+    pub sort: Sort,
+}
+
+/// The sort of the values of a type's variables.
+pub(crate) fn sort_of_type(variable_type: VariableType) -> Sort
+    ensures { result ≡ sort_of_type variable_type }
+{
+    match variable_type {
+        VariableType::Int => Sort::Int,
+        VariableType::Bool => Sort::Bool,
+        VariableType::Ip => Sort::Ip,
+        VariableType::Prefix => Sort::Prefix,
+        VariableType::Pair => Sort::Pair,
+        VariableType::String => Sort::String,
+        VariableType::Path => Sort::Path,
+        VariableType::Mask => Sort::Mask,
+        VariableType::Clist => Sort::Clist,
+        VariableType::IntSet => Sort::IntSet,
+        VariableType::PairSet => Sort::PairSet,
+        VariableType::PrefixSet => Sort::PrefixSet,
+    }
+}
+
+fn push_declared<'a>(
+    text: &'a [u8],
+    variable_type: VariableType,
+    name: &Name,
+    out: &mut Vec<Declared<'a>>,
+) -> Result<(), OutOfMemory>
+    ensures { OnOk result
+        (variables_of out.new.items
+        ≡ variables_of out.old.items ++ (name_bytes text.now name.now, sort_of_type variable_type)
+        ∷ []) }
+{
+    out.push(Declared {
+        name: name.bytes(text),
+        sort: sort_of_type(variable_type),
+    })?;
+    Ok(())
+}
+
+#[cycle(collect)]
+fn collect<'a>(text: &'a [u8], s: &Stmt, out: &mut Vec<Declared<'a>>) -> Result<(), OutOfMemory>
+    ensures { OnOk result
+        (variables_of out.new.items
+        ≡ variables_of out.old.items ++ declared text.now (statement_of s.now)) }
+{
+    match s {
+        Stmt::Block(_) => Ok(()),
+        Stmt::Empty => Ok(()),
+        Stmt::Declare {
+            variable_type,
+            name,
+            ..
+        } => {
+            push_declared(text, *variable_type, name, out)?;
+            Ok(())
+        }
+        Stmt::Assign(_, _) => Ok(()),
+        Stmt::Change(_, _) => Ok(()),
+        Stmt::Unset { .. } => Ok(()),
+        Stmt::If(_, body) => collect(text, body, out),
+        Stmt::IfElse(_, first, second) => {
+            collect(text, first, out)?;
+            collect(text, second, out)?;
+            Ok(())
+        }
+        Stmt::Case {
+            arms,
+            otherwise,
+            ..
+        } => {
+            collect_arms(text, arms, out)?;
+            collect_otherwise(text, otherwise, out)?;
+            Ok(())
+        }
+        Stmt::For { body, .. } => collect(text, body, out),
+        Stmt::Accept => Ok(()),
+        Stmt::Reject => Ok(()),
+        Stmt::Return { .. } => Ok(()),
+        Stmt::Print(_) => Ok(()),
+        Stmt::PrintPart(_) => Ok(()),
+        Stmt::Call { .. } => Ok(()),
+    }
+}
+
+#[cycle(collect)]
+pub(crate) fn collect_all<'a>(
+    text: &'a [u8],
+    body: &[Stmt],
+    out: &mut Vec<Declared<'a>>,
+) -> Result<(), OutOfMemory>
+    ensures { OnOk result
+        (variables_of out.new.items
+        ≡ variables_of out.old.items ++ all_declared text.now (statements_of body.now)) }
+{
+    for s in body {
+        collect(text, s, out)?;
+    }
+    Ok(())
+}
+
+#[cycle(collect)]
+fn collect_arms<'a>(
+    text: &'a [u8],
+    arms: &[Arm<Stmt>],
+    out: &mut Vec<Declared<'a>>,
+) -> Result<(), OutOfMemory>
+    ensures { OnOk result
+        (variables_of out.new.items
+        ≡ variables_of out.old.items ++ arms_declare text.now arms.now) }
+{
+    for arm in arms {
+        collect_all(text, &arm.body, out)?;
+    }
+    Ok(())
+}
+
+#[cycle(collect)]
+fn collect_otherwise<'a>(
+    text: &'a [u8],
+    otherwise: &Option<Vec<Stmt>>,
+    out: &mut Vec<Declared<'a>>,
+) -> Result<(), OutOfMemory>
+    ensures { OnOk result
+        (variables_of out.new.items
+        ≡ variables_of out.old.items ++ otherwise_declares text.now otherwise.now) }
+{
+    match otherwise {
+        None => Ok(()),
+        Some(body) => {
+            collect_all(text, body, out)?;
+            Ok(())
+        }
+    }
+}
+
+// ---- names and sorts
+
+/// Names, and behind them those of declared variables.
+pub(crate) fn with_declared<'a>(
+    alloc: Global,
+    names: &[&'a [u8]],
+    declared: &[Declared<'a>],
+) -> Result<Vec<&'a [u8]>, OutOfMemory>
+    ensures { IfOk result
+        (λ v. names_of v.items ≡ names_of names.now ++ map name_of declared.now) }
+{
+    let mut all = Vec::from_slice(alloc, names)?;
+    for variable in declared {
+        all.push(variable.name)?;
+    }
+    Ok(all)
+}
+
+/// Names, and one more behind them.
+pub(crate) fn with_name<'a>(
+    alloc: Global,
+    names: &[&'a [u8]],
+    name: &'a [u8],
+) -> Result<Vec<&'a [u8]>, OutOfMemory>
+    ensures { IfOk result (λ v. names_of v.items ≡ names_of names.now ++ name.now ∷ []) }
+{
+    let mut all = Vec::from_slice(alloc, names)?;
+    all.push(name)?;
+    Ok(all)
+}
+
+pub(crate) fn sorts_of(alloc: Global, declared: &[Declared<'_>]) -> Result<Vec<Sort>, OutOfMemory>
+    ensures { IfOk result (λ v. v.items ≡ map sort_of declared.now) }
+{
+    let mut all = Vec::new(alloc);
+    for variable in declared {
+        all.push(variable.sort)?;
+    }
+    Ok(all)
+}
+
+// ---- parameters
+
+pub(crate) fn parameter_names<'a>(
+    alloc: Global,
+    text: &'a [u8],
+    parameters: &[Parameter],
+) -> Result<Vec<&'a [u8]>, OutOfMemory>
+    ensures { IfOk result (λ v. names_of v.items ≡ parameter_names text.now parameters.now) }
+{
+    let mut all = Vec::new(alloc);
+    for parameter in parameters {
+        all.push(parameter.name.bytes(text))?;
+    }
+    Ok(all)
+}
+
+pub(crate) fn parameter_sorts(
+    alloc: Global,
+    parameters: &[Parameter],
+) -> Result<Vec<Sort>, OutOfMemory>
+    ensures { IfOk result (λ v. v.items ≡ parameter_sorts parameters.now) }
+{
+    let mut all = Vec::new(alloc);
+    for parameter in parameters {
+        all.push(sort_of_type(parameter.variable_type))?;
+    }
+    Ok(all)
+}

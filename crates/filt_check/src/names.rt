@@ -1,0 +1,57 @@
+// What names stand for.
+
+ghost use Rattle.std.specs.Prelude.{◌≡◌, Some, None, List, ℕ};
+ghost use Rattle.filt_meaning.specs.Meaning.{named};
+ghost use Rattle.filt_meaning.specs.Names.{Around, place_in, constant_of, function_of};
+ghost use Rattle.filt_tree.specs.Scopes.{context_of, tables_of};
+ghost use Rattle.filt_tree.specs.Trees as trees;
+ghost use Rattle.filt_check.specs.Seen.{names_of, at_place};
+
+use filt_tree::{Scope, TExpr, TTarget};
+use grammar::Name;
+
+/// The last place of a name.
+pub(crate) fn place(names: &[&[u8]], name: &[u8]) -> Option<usize>
+    ensures { result ≡ place_in (names_of names.now) name.now }
+{
+    let mut left = names;
+    while let [front @ .., last] = left {
+        if *last == name {
+            return Some(front.len());
+        }
+        left = front;
+    }
+    None
+}
+
+/// The number of a constant.
+pub(crate) fn constant(text: &[u8], scope: &Scope, name: &Name) -> Option<usize>
+    ensures { (around : Around) (variables : List (List ℕ))
+        → constant_of (context_of text.now around scope.now variables) name.now
+        ≡ at_place (tables_of around scope.now).constants result }
+{
+    scope.constants.get_index_of(name.bytes(text))
+}
+
+/// The number of a function.
+pub(crate) fn function(text: &[u8], scope: &Scope, name: &Name) -> Option<usize>
+    ensures { (around : Around) (variables : List (List ℕ))
+        → function_of (context_of text.now around scope.now variables) name.now
+        ≡ at_place (tables_of around scope.now).functions result }
+{
+    scope.functions.get_index_of(name.bytes(text))
+}
+
+/// A variable, or a constant where there is none of that name.
+pub(crate) fn named(text: &[u8], scope: &Scope, names: &[&[u8]], name: &Name) -> TExpr
+    ensures { (around : Around) → trees.expr result (tables_of around scope.now)
+        ≡ named name.now (context_of text.now around scope.now (names_of names.now)) }
+{
+    match place(names, name.bytes(text)) {
+        Some(slot) => TExpr::Local(slot),
+        None => match constant(text, scope, name) {
+            Some(number) => TExpr::Constant(number),
+            None => TExpr::Stuck,
+        },
+    }
+}

@@ -1,0 +1,459 @@
+// Expressions from names to places. What stands for nothing is `Stuck`, so that a tree comes of
+// each expression, whatever its types.
+
+ghost use Rattle.std.specs.Prelude.{◌≡◌, List, ℕ, IfOk, Ok, take, drop};
+ghost use Rattle.conf_ast.specs.Filters.{expression_of};
+ghost use Rattle.filt_meaning.specs.Meaning.{value, plain, given, on_two, called_value, factor_of, term_of};
+ghost use Rattle.filt_meaning.specs.Meaning as meaning;
+ghost use Rattle.filt_meaning.specs.Attributes.{value_of_constant};
+ghost use Rattle.filt_meaning.specs.Items.{mask_of, set_of};
+ghost use Rattle.filt_meaning.specs.Names.{Around, function_of};
+ghost use Rattle.filt_tree.specs.declared.scope.Scope.{Scope};
+ghost use Rattle.filt_tree.specs.Scopes.{context_of, tables_of};
+ghost use Rattle.filt_tree.specs.Trees as trees;
+ghost use Rattle.filt_tree.specs.Trees.{Tables};
+ghost use Rattle.filt_values.specs.Operators.{pair_of};
+ghost use Rattle.filt_values.specs.Seen.{val_of_fixed};
+ghost use Rattle.filt_values.specs.Values.{VString};
+ghost use Rattle.filt_check.specs.Seen.{names_of, access_in, accesses_in, values_in, parts_in};
+
+use crate::items::{mask_of, set_of};
+use crate::names::{function, named};
+use attrs::{Dest, Kind, Origin};
+use bits_ip::OutOfMemory;
+use filt_syntax::{
+    Access, Compare, Constant, Expr, Factor, Item, Joint, MaskItem, MethodKind, Simple, Term,
+};
+use filt_tree::{Labels, Scope, TAccess, TExpr};
+use filt_values::Fixed;
+use grammar::{Name, bytes_at};
+use std::alloc::Global;
+
+// ---- words
+
+fn constant_value(constant: Constant) -> Fixed
+    ensures { val_of_fixed result ≡ value_of_constant constant }
+{
+    match constant {
+        Constant::RtsStatic => Fixed::Source(Kind::Static),
+        Constant::RtsBgp => Fixed::Source(Kind::Bgp),
+        Constant::RtdUnicast => Fixed::Dest(Dest::Unicast),
+        Constant::RtdRouter => Fixed::Dest(Dest::Unicast),
+        Constant::RtdBlackhole => Fixed::Dest(Dest::Blackhole),
+        Constant::RtdUnreachable => Fixed::Dest(Dest::Unreachable),
+        Constant::RtdProhibit => Fixed::Dest(Dest::Prohibit),
+        Constant::OriginIgp => Fixed::Origin(Origin::Igp),
+        Constant::OriginEgp => Fixed::Origin(Origin::Egp),
+        Constant::OriginIncomplete => Fixed::Origin(Origin::Incomplete),
+    }
+}
+
+fn text_value(alloc: Global, text: &[u8], start: usize, len: usize) -> Result<TExpr, OutOfMemory>
+    ensures { IfOk result (λ x. (tables : Tables) → trees.expr x tables
+        ≡ given (Ok (VString (take len (drop start text.now))))) }
+{
+    let bytes = Vec::from_slice(alloc, bytes_at(text, start, len))?;
+    Ok(TExpr::Value(Fixed::String(bytes)))
+}
+
+fn simple(alloc: Global, text: &[u8], word: &Simple) -> Result<TExpr, OutOfMemory>
+    ensures { IfOk result (λ x. (around : Around) (scope : Scope) (variables : List (List ℕ))
+        → trees.expr x (tables_of around scope)
+        ≡ plain word.now (context_of text.now around scope variables)) }
+{
+    match word {
+        Simple::Number { value, .. } => Ok(TExpr::Value(Fixed::Int(*value))),
+        Simple::Text { start, len, .. } => text_value(alloc, text, *start, *len),
+        Simple::Ip { addr, .. } => Ok(TExpr::Value(Fixed::Ip(*addr))),
+        Simple::Prefix { net, .. } => Ok(TExpr::Value(Fixed::Prefix(*net))),
+        Simple::True { .. } => Ok(TExpr::Value(Fixed::Bool(true))),
+        Simple::False { .. } => Ok(TExpr::Value(Fixed::Bool(false))),
+        Simple::EmptyPath { .. } => Ok(TExpr::Value(Fixed::EmptyPath)),
+        Simple::EmptyClist { .. } => Ok(TExpr::Value(Fixed::EmptyClist)),
+        Simple::Attribute { attribute, .. } => Ok(TExpr::Attribute(*attribute)),
+        Simple::Constant { constant, .. } => Ok(TExpr::Value(constant_value(*constant))),
+    }
+}
+
+// ---- sets and masks
+
+fn set_value(set: Labels) -> TExpr
+    ensures { (tables : Tables) → trees.expr result tables ≡ given (trees.set_of_labels set) }
+{
+    match set {
+        Labels::Ints(ints) => TExpr::Value(Fixed::IntSet(ints)),
+        Labels::Pairs(pairs) => TExpr::Value(Fixed::PairSet(pairs)),
+        Labels::Prefixes(prefixes) => TExpr::Value(Fixed::PrefixSet(prefixes)),
+        Labels::Stuck => TExpr::Stuck,
+    }
+}
+
+fn set(alloc: Global, text: &[u8], scope: &Scope, items: &[Item]) -> Result<TExpr, OutOfMemory>
+    ensures { IfOk result (λ x. (around : Around) (variables : List (List ℕ))
+        → trees.expr x (tables_of around scope.now)
+        ≡ given (set_of (context_of text.now around scope.now variables) items.now)) }
+{
+    let labels = set_of(alloc, text, scope, items)?;
+    Ok(set_value(labels))
+}
+
+fn mask(alloc: Global, text: &[u8], scope: &Scope, items: &[MaskItem]) -> Result<TExpr, OutOfMemory>
+    ensures { IfOk result (λ x. (around : Around) (variables : List (List ℕ))
+        → trees.expr x (tables_of around scope.now)
+        ≡ given (mask_of (context_of text.now around scope.now variables) items.now)) }
+{
+    match mask_of(alloc, text, scope, items)? {
+        Some(mask) => Ok(TExpr::Value(Fixed::Mask(mask))),
+        None => Ok(TExpr::Stuck),
+    }
+}
+
+// ---- calls
+
+fn called(text: &[u8], scope: &Scope, name: &Name, arguments: Vec<TExpr>) -> TExpr
+    ensures { (around : Around) (variables : List (List ℕ))
+        → trees.expr result (tables_of around scope.now)
+        ≡ called_value (function_of (context_of text.now around scope.now variables) name.now)
+        (trees.all_values (trees.exprs (tables_of around scope.now) arguments.items)) }
+{
+    match function(text, scope, name) {
+        Some(number) => TExpr::Call(number, arguments),
+        None => TExpr::Stuck,
+    }
+}
+
+// ---- expressions
+
+/// The tree of an expression over variables that stand in the frame in the order of these names.
+#[cycle(resolve)]
+pub(crate) fn resolve(
+    alloc: Global,
+    text: &[u8],
+    scope: &Scope,
+    names: &[&[u8]],
+    e: &Expr,
+) -> Result<TExpr, OutOfMemory>
+    ensures { IfOk result (λ x. (around : Around) → trees.expr x (tables_of around scope.now)
+        ≡ value (expression_of e.now)
+        (context_of text.now around scope.now (names_of names.now))) }
+{
+    match e {
+        Expr::Simple(word) => simple(alloc, text, word),
+        Expr::Name(name) => Ok(named(text, scope, names, name)),
+        Expr::Call {
+            name,
+            arguments,
+            ..
+        } => {
+            let given = resolve_all(alloc, text, scope, names, arguments)?;
+            Ok(called(text, scope, name, given))
+        }
+        Expr::Group { inner, .. } => resolve(alloc, text, scope, names, inner),
+        Expr::Pair { first, second, .. } => pair(alloc, text, scope, names, first, second),
+        Expr::Set { items, .. } => set(alloc, text, scope, items),
+        Expr::Mask { items, .. } => mask(alloc, text, scope, items),
+        Expr::Defined { attribute, .. } => Ok(TExpr::Defined(*attribute)),
+        Expr::MethodCall {
+            method,
+            list,
+            argument,
+            ..
+        } => { method_of(alloc, text, scope, names, method.kind, list, argument) }
+        Expr::Access(operand, more) => access(alloc, text, scope, names, operand, more),
+        Expr::Not { operand, .. } => {
+            let x = boxed(alloc, text, scope, names, operand)?;
+            Ok(TExpr::Not(x))
+        }
+        Expr::Product(operand, more) => product(alloc, text, scope, names, operand, more),
+        Expr::Sum(operand, more) => sum(alloc, text, scope, names, operand, more),
+        Expr::Compare(op, left, right) => compare(alloc, text, scope, names, *op, left, right),
+        Expr::Joint(operand, more) => joint(alloc, text, scope, names, operand, more),
+    }
+}
+
+#[cycle(resolve)]
+pub(crate) fn boxed(
+    alloc: Global,
+    text: &[u8],
+    scope: &Scope,
+    names: &[&[u8]],
+    e: &Expr,
+) -> Result<Box<TExpr>, OutOfMemory>
+    ensures { IfOk result (λ b. (around : Around) → trees.expr b.value (tables_of around scope.now)
+        ≡ value (expression_of e.now)
+        (context_of text.now around scope.now (names_of names.now))) }
+{
+    let x = resolve(alloc, text, scope, names, e)?;
+    Ok(Box::new(alloc, x)?)
+}
+
+#[cycle(resolve)]
+fn pair(
+    alloc: Global,
+    text: &[u8],
+    scope: &Scope,
+    names: &[&[u8]],
+    first: &Expr,
+    second: &Expr,
+) -> Result<TExpr, OutOfMemory>
+    ensures { IfOk result (λ x. (around : Around) → trees.expr x (tables_of around scope.now)
+        ≡ on_two
+        (value (expression_of first.now)
+        (context_of text.now around scope.now (names_of names.now)))
+        (value (expression_of second.now)
+        (context_of text.now around scope.now (names_of names.now))) pair_of) }
+{
+    let a = boxed(alloc, text, scope, names, first)?;
+    let b = boxed(alloc, text, scope, names, second)?;
+    Ok(TExpr::Pair(a, b))
+}
+
+#[cycle(resolve)]
+fn method_of(
+    alloc: Global,
+    text: &[u8],
+    scope: &Scope,
+    names: &[&[u8]],
+    kind: MethodKind,
+    list: &Expr,
+    argument: &Expr,
+) -> Result<TExpr, OutOfMemory>
+    ensures { IfOk result (λ x. (around : Around) → trees.expr x (tables_of around scope.now)
+        ≡ on_two
+        (value (expression_of list.now)
+        (context_of text.now around scope.now (names_of names.now)))
+        (value (expression_of argument.now)
+        (context_of text.now around scope.now (names_of names.now))) (meaning.method_of kind)) }
+{
+    let a = boxed(alloc, text, scope, names, list)?;
+    let b = boxed(alloc, text, scope, names, argument)?;
+    Ok(TExpr::Method(kind, a, b))
+}
+
+#[cycle(resolve)]
+fn compare(
+    alloc: Global,
+    text: &[u8],
+    scope: &Scope,
+    names: &[&[u8]],
+    op: Compare,
+    left: &Expr,
+    right: &Expr,
+) -> Result<TExpr, OutOfMemory>
+    ensures { IfOk result (λ x. (around : Around) → trees.expr x (tables_of around scope.now)
+        ≡ on_two
+        (value (expression_of left.now)
+        (context_of text.now around scope.now (names_of names.now)))
+        (value (expression_of right.now)
+        (context_of text.now around scope.now (names_of names.now))) (meaning.compare_of op)) }
+{
+    let a = boxed(alloc, text, scope, names, left)?;
+    let b = boxed(alloc, text, scope, names, right)?;
+    Ok(TExpr::Compare(op, a, b))
+}
+
+/// Values between commas.
+#[cycle(resolve)]
+pub(crate) fn resolve_all(
+    alloc: Global,
+    text: &[u8],
+    scope: &Scope,
+    names: &[&[u8]],
+    given: &[Expr],
+) -> Result<Vec<TExpr>, OutOfMemory>
+    ensures { IfOk result (λ v. (around : Around)
+        → trees.exprs (tables_of around scope.now) v.items
+        ≡ values_in (context_of text.now around scope.now (names_of names.now)) given.now) }
+{
+    let mut all = Vec::new(alloc);
+    for e in given {
+        all.push(resolve(alloc, text, scope, names, e)?)?;
+    }
+    Ok(all)
+}
+
+// ---- chains
+
+#[cycle(resolve)]
+fn access(
+    alloc: Global,
+    text: &[u8],
+    scope: &Scope,
+    names: &[&[u8]],
+    operand: &Expr,
+    more: &[Access<Expr>],
+) -> Result<TExpr, OutOfMemory>
+    ensures { IfOk result (λ x. (around : Around) → trees.expr x (tables_of around scope.now)
+        ≡ trees.accessed
+        (value (expression_of operand.now)
+        (context_of text.now around scope.now (names_of names.now)))
+        (accesses_in (context_of text.now around scope.now (names_of names.now)) more.now)) }
+{
+    let a = boxed(alloc, text, scope, names, operand)?;
+    let accesses = resolve_accesses(alloc, text, scope, names, more)?;
+    Ok(TExpr::Access(a, accesses))
+}
+
+#[cycle(resolve)]
+fn resolve_access(
+    alloc: Global,
+    text: &[u8],
+    scope: &Scope,
+    names: &[&[u8]],
+    access: &Access<Expr>,
+) -> Result<TAccess<TExpr>, OutOfMemory>
+    ensures { IfOk result (λ x. (around : Around)
+        → trees.access (tables_of around scope.now) x
+        ≡ access_in (context_of text.now around scope.now (names_of names.now)) access.now) }
+{
+    match access {
+        Access::Property(property) => Ok(TAccess::Property(*property)),
+        Access::Method {
+            method,
+            argument,
+            ..
+        } => {
+            let x = resolve(alloc, text, scope, names, argument)?;
+            Ok(TAccess::Method(method.kind, x))
+        }
+    }
+}
+
+#[cycle(resolve)]
+fn resolve_accesses(
+    alloc: Global,
+    text: &[u8],
+    scope: &Scope,
+    names: &[&[u8]],
+    more: &[Access<Expr>],
+) -> Result<Vec<TAccess<TExpr>>, OutOfMemory>
+    ensures { IfOk result (λ v. (around : Around)
+        → trees.accesses_of (tables_of around scope.now) v.items
+        ≡ accesses_in (context_of text.now around scope.now (names_of names.now)) more.now) }
+{
+    let mut all = Vec::new(alloc);
+    for access in more {
+        all.push(resolve_access(alloc, text, scope, names, access)?)?;
+    }
+    Ok(all)
+}
+
+#[cycle(resolve)]
+fn product(
+    alloc: Global,
+    text: &[u8],
+    scope: &Scope,
+    names: &[&[u8]],
+    operand: &Expr,
+    more: &[(Factor, Expr)],
+) -> Result<TExpr, OutOfMemory>
+    ensures { IfOk result (λ x. (around : Around) → trees.expr x (tables_of around scope.now)
+        ≡ trees.chain factor_of
+        (value (expression_of operand.now)
+        (context_of text.now around scope.now (names_of names.now)))
+        (parts_in (context_of text.now around scope.now (names_of names.now)) more.now)) }
+{
+    let a = boxed(alloc, text, scope, names, operand)?;
+    let factors = resolve_factors(alloc, text, scope, names, more)?;
+    Ok(TExpr::Product(a, factors))
+}
+
+#[cycle(resolve)]
+fn resolve_factors(
+    alloc: Global,
+    text: &[u8],
+    scope: &Scope,
+    names: &[&[u8]],
+    more: &[(Factor, Expr)],
+) -> Result<Vec<(Factor, TExpr)>, OutOfMemory>
+    ensures { IfOk result (λ v. (around : Around)
+        → trees.parts (tables_of around scope.now) v.items
+        ≡ parts_in (context_of text.now around scope.now (names_of names.now)) more.now) }
+{
+    let mut all = Vec::new(alloc);
+    for x in more {
+        let operand = resolve(alloc, text, scope, names, &x.1)?;
+        all.push((x.0, operand))?;
+    }
+    Ok(all)
+}
+
+#[cycle(resolve)]
+fn sum(
+    alloc: Global,
+    text: &[u8],
+    scope: &Scope,
+    names: &[&[u8]],
+    operand: &Expr,
+    more: &[(Term, Expr)],
+) -> Result<TExpr, OutOfMemory>
+    ensures { IfOk result (λ x. (around : Around) → trees.expr x (tables_of around scope.now)
+        ≡ trees.chain term_of
+        (value (expression_of operand.now)
+        (context_of text.now around scope.now (names_of names.now)))
+        (parts_in (context_of text.now around scope.now (names_of names.now)) more.now)) }
+{
+    let a = boxed(alloc, text, scope, names, operand)?;
+    let terms = resolve_terms(alloc, text, scope, names, more)?;
+    Ok(TExpr::Sum(a, terms))
+}
+
+#[cycle(resolve)]
+fn resolve_terms(
+    alloc: Global,
+    text: &[u8],
+    scope: &Scope,
+    names: &[&[u8]],
+    more: &[(Term, Expr)],
+) -> Result<Vec<(Term, TExpr)>, OutOfMemory>
+    ensures { IfOk result (λ v. (around : Around)
+        → trees.parts (tables_of around scope.now) v.items
+        ≡ parts_in (context_of text.now around scope.now (names_of names.now)) more.now) }
+{
+    let mut all = Vec::new(alloc);
+    for x in more {
+        let operand = resolve(alloc, text, scope, names, &x.1)?;
+        all.push((x.0, operand))?;
+    }
+    Ok(all)
+}
+
+#[cycle(resolve)]
+fn joint(
+    alloc: Global,
+    text: &[u8],
+    scope: &Scope,
+    names: &[&[u8]],
+    operand: &Expr,
+    more: &[(Joint, Expr)],
+) -> Result<TExpr, OutOfMemory>
+    ensures { IfOk result (λ x. (around : Around) → trees.expr x (tables_of around scope.now)
+        ≡ trees.joints
+        (value (expression_of operand.now)
+        (context_of text.now around scope.now (names_of names.now)))
+        (parts_in (context_of text.now around scope.now (names_of names.now)) more.now)) }
+{
+    let a = boxed(alloc, text, scope, names, operand)?;
+    let others = resolve_joints(alloc, text, scope, names, more)?;
+    Ok(TExpr::Joint(a, others))
+}
+
+#[cycle(resolve)]
+fn resolve_joints(
+    alloc: Global,
+    text: &[u8],
+    scope: &Scope,
+    names: &[&[u8]],
+    more: &[(Joint, Expr)],
+) -> Result<Vec<(Joint, TExpr)>, OutOfMemory>
+    ensures { IfOk result (λ v. (around : Around)
+        → trees.parts (tables_of around scope.now) v.items
+        ≡ parts_in (context_of text.now around scope.now (names_of names.now)) more.now) }
+{
+    let mut all = Vec::new(alloc);
+    for x in more {
+        let operand = resolve(alloc, text, scope, names, &x.1)?;
+        all.push((x.0, operand))?;
+    }
+    Ok(all)
+}

@@ -1,0 +1,44 @@
+//! Reads tables of filters, each with its answer: what the filter says of a route, or the line, the
+//! column and the kind of its refusal.
+//!
+//! An input is `ROUTE @ CONFIG`, or a configuration alone; the modules `route` and `judging` say
+//! what they hold. The program's words name the tables. It prints each case that is answered
+//! otherwise, and counts the others.
+#![tactic(auto)]
+
+mod answer;
+mod changes;
+mod constants;
+mod items;
+mod judging;
+mod route;
+
+use crate::answer::answer;
+use cases::{Tally, read};
+use std::process::ExitCode;
+use std::{env, io};
+
+/// Whether each case of a table is answered as it expects.
+fn check_table(rt: &HostRuntime, name: &str) -> io::Result<bool> {
+    let mut tally = Tally::new(name);
+    for case in &read(rt, name)? {
+        let answer = answer(rt.alloc(), &case.input)?;
+        tally.note(rt, case, &answer)?;
+    }
+    tally.finish(rt)
+}
+
+fn check_tables(rt: &HostRuntime) -> io::Result<bool> {
+    let mut all = true;
+    for name in env::args(rt)?.skip(1) {
+        all &= check_table(rt, &name)?;
+    }
+    Ok(all)
+}
+
+fn main(rt: HostRuntime) -> io::Result<ExitCode> {
+    match check_tables(&rt)? {
+        true => Ok(ExitCode::SUCCESS),
+        false => Ok(ExitCode::FAILURE),
+    }
+}

@@ -1,0 +1,11 @@
+mod Acts
+mod Agreeing
+mod Declared
+mod Flows
+mod Names
+mod Operators
+mod Refused
+mod Sets
+mod Slots
+mod Typed
+mod Typing

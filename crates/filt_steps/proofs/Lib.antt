@@ -1,0 +1,5 @@
+mod Behind
+mod Configured
+mod Lists
+mod Weighed
+mod Within

@@ -1,0 +1,4 @@
+pub mod Steps
+pub mod Limits
+pub mod Agreement
+pub mod Configured

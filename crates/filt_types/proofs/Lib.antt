@@ -1,0 +1,7 @@
+pub mod Alone
+pub mod Cost
+pub mod Firsts
+pub mod Gathered
+pub mod Judging
+pub mod Lookups
+pub mod Trees

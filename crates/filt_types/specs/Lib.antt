@@ -1,0 +1,9 @@
+pub mod Refusals
+pub mod Scenes
+pub mod Rules
+pub mod Items
+pub mod Expressions
+pub mod Statements
+pub mod Weight
+pub mod Seen
+pub mod Walk

@@ -1,0 +1,117 @@
+-- What the walks over filters keep while they go, as the definitions see it. What is refused rests
+-- on nothing here.
+use Rattle.std.specs.Prelude.{ℕ, Bool, false, not, ◌==◌, List, [], ◌∷◌, ◌++◌, map, length, if◌then◌else◌, option_map, Option, Some, None}
+use Rattle.std.specs.Borrow.{Bor}
+use Rattle.filt_syntax.specs.declared.tree.Access.{Access}
+use Rattle.filt_syntax.specs.declared.tree.Access.TheVariants as accesses
+use Rattle.filt_syntax.specs.declared.tree.Expr.{Expr}
+use Rattle.conf_ast.specs.Filters.{Expression, expression_of, expressions_of}
+use Rattle.filt_values.specs.declared.fixed.Fixed.{Fixed}
+use Rattle.filt_values.specs.Seen.{val_of_fixed}
+use Rattle.filt_values.specs.declared.value.Sort.{Sort}
+use Rattle.filt_values.specs.Values.{Val}
+use Rattle.filt_tree.specs.declared.scope.TFunction.{TFunction}
+use Rattle.filt_types.specs.declared.items.Common.{Common}
+use Rattle.filt_types.specs.declared.items.Common.TheVariants as commons
+use Rattle.filt_types.specs.declared.judged.Judged.{Judged}
+use Rattle.filt_types.specs.declared.rules.Operator.{Operator}
+use Rattle.filt_types.specs.declared.rules.Operator.TheVariants as operators
+use Rattle.filt_types.specs.declared.rules.Single.{Single}
+use Rattle.filt_types.specs.declared.rules.Single.TheVariants as singles
+use Rattle.filt_types.specs.declared.scene.Seen.{Seen}
+use Rattle.filt_types.specs.Expressions.{Judgement, all_refusals, arguments_wanted, between, is_taken, judge, judge_all, of_one, wants}
+use Rattle.filt_types.specs.Items as items
+use Rattle.filt_types.specs.Rules.{RuleOfOne, RuleOfTwo, arithmetic, pairing, joining, comparing, method, negating, property, same_sort}
+use Rattle.filt_types.specs.declared.refusal.Cause.TheVariants as causes
+use Rattle.filt_types.specs.declared.refusal.Refusal.{Refusal}
+use Rattle.filt_types.specs.Refusals.{refused_if}
+use Rattle.filt_types.specs.Scenes.{Scene, Signature, Variables}
+use Rattle.filt_types.specs.Seen.{scene_in, signature_of, variables_in}
+
+-- a judgement without what is refused
+abbrev pub said_of : Judgement → Judged
+said_of j = record { at = j.at; sort = j.sort }
+
+-- the judgements of expressions at a place
+abbrev pub judged : Seen → Expression → Judgement
+judged seen e = judge (scene_in seen) (variables_in seen) e
+
+abbrev pub judged_of : Seen → Expr → Judgement
+judged_of seen e = judged seen (expression_of e)
+
+abbrev pub all_judged : Seen → List Expr → List Judgement
+all_judged seen es = judge_all (scene_in seen) (variables_in seen) (expressions_of es)
+
+-- an operand: what is refused in it was noted before
+abbrev pub bare : Judged → Judgement
+bare judged = record { at = judged.at; sort = judged.sort; refusals = [] }
+
+abbrev pub common_seen : Common → items.Common
+common_seen commons.NoneYet = items.NoneYet
+common_seen (commons.One sort) = items.One sort
+common_seen commons.Many = items.Many
+
+abbrev pub constant_seen : Option (Bor Fixed) → Option Val
+constant_seen constant = option_map (λ fixed. val_of_fixed fixed.now) constant
+
+-- ---- operators
+
+abbrev pub rule_of : Operator → RuleOfTwo
+rule_of operators.Arithmetic = arithmetic
+rule_of operators.Pairing = pairing
+rule_of operators.Joining = joining
+rule_of (operators.Comparing op) = comparing op
+rule_of (operators.Method kind) = method kind
+
+abbrev pub rule_of_one : Single → RuleOfOne
+rule_of_one singles.Negating = negating
+rule_of_one (singles.Property p) = property p
+
+-- ---- parts of chains
+
+abbrev pub access_of : Access Expr → Access Expression
+access_of (accesses.Property p) = accesses.Property p
+access_of (accesses.Method m place e) = accesses.Method m place (expression_of e)
+
+abbrev pub accesses_of : List (Access Expr) → List (Access Expression)
+accesses_of = map access_of
+
+-- an operator and the expression behind it
+abbrev pub operand_of : {Op : Type 0} → Op × Expr → Op × Expression
+operand_of x = (x.0, expression_of x.1)
+
+abbrev pub operands_of : {Op : Type 0} → List (Op × Expr) → List (Op × Expression)
+operands_of = map operand_of
+
+-- an operand with one thing more behind a dot
+abbrev pub with_access : Scene → Variables → Judgement → Access Expression → Judgement
+with_access scene vs j (accesses.Property p) = of_one j.at (property p) j
+with_access scene vs j (accesses.Method m place e) = between (method m.kind) j (judge scene vs e)
+
+-- what a chain with one part is, where there is one alone
+abbrev pub where_alone : {A : Type 0} → Bool → Option A → Option A
+where_alone is_alone found = if is_alone then found else None
+
+-- ---- calls
+
+abbrev pub function_seen : Option (Bor TFunction) → Option Signature
+function_seen function = option_map (λ f. signature_of f.now) function
+
+abbrev pub front_of : List Sort → Option Sort
+front_of [] = None
+front_of (sort ∷ more) = Some sort
+
+abbrev pub is_of_parameter : Option Sort → Option Sort → Bool
+is_of_parameter None found = false
+is_of_parameter (Some sort) found = is_taken (same_sort sort) found
+
+abbrev pub wants_parameter : Option Sort → Judgement → List Refusal
+wants_parameter None j = []
+wants_parameter (Some sort) j = wants (same_sort sort) j
+
+-- a call of a function that there is, at its name's place
+abbrev pub call_at : (at : ℕ) → Signature → List Judgement → List Refusal
+call_at at f js =
+    refused_if (not (length f.parameters == length js)) at causes.Mismatch
+    ++ all_refusals js
+    ++ (if length f.parameters == length js then arguments_wanted f.parameters js else [])

@@ -1,0 +1,191 @@
+// Expressions without other expressions in them.
+
+ghost use Rattle.std.specs.Prelude.{◌≡◌, []};
+ghost use Rattle.filt_values.specs.Seen.{val_of_fixed};
+ghost use Rattle.filt_types.specs.Expressions as expressions;
+ghost use Rattle.filt_types.specs.Expressions.{sort_of_named, known_as};
+ghost use Rattle.filt_types.specs.Items as of;
+ghost use Rattle.filt_types.specs.Refusals.{first_in};
+ghost use Rattle.filt_types.specs.Rules as rules;
+ghost use Rattle.filt_types.specs.Scenes.{variable_of, constant_of};
+ghost use Rattle.filt_types.specs.Seen.{scene_in, variables_in};
+ghost use Rattle.filt_types.specs.Walk.{common_seen, said_of};
+
+use crate::items::{Common, all_atoms, all_items, differ};
+use crate::judged::Judged;
+use crate::refusal::{Cause, Refusal, note, note_if};
+use crate::rules::sort_if;
+use crate::scene::{Seen, constant_named, variable_named};
+use filt_syntax::{Attribute, Constant, Item, MaskItem, Simple};
+use filt_values::Sort;
+use grammar::Name;
+
+pub(crate) fn sound(at: usize, sort: Sort) -> Judged
+    ensures { result ≡ said_of (expressions.sound at sort) }
+{
+    Judged {
+        at,
+        sort: Some(sort),
+    }
+}
+
+/// The sort of what an attribute holds.
+pub fn attribute_sort(attribute: Attribute) -> Sort
+    ensures { result ≡ rules.sort_of_attribute attribute }
+{
+    match attribute {
+        Attribute::Net => Sort::Prefix,
+        Attribute::Preference => Sort::Int,
+        Attribute::Gw => Sort::Ip,
+        Attribute::From => Sort::Ip,
+        Attribute::BgpNextHop => Sort::Ip,
+        Attribute::Proto => Sort::String,
+        Attribute::Source => Sort::Source,
+        Attribute::Dest => Sort::Dest,
+        Attribute::BgpPath => Sort::Path,
+        Attribute::BgpOrigin => Sort::Origin,
+        Attribute::BgpMed => Sort::Int,
+        Attribute::BgpLocalPref => Sort::Int,
+        Attribute::IgpMetric => Sort::Int,
+        Attribute::BgpCommunity => Sort::Clist,
+    }
+}
+
+fn constant_sort(constant: Constant) -> Sort
+    ensures { result ≡ rules.sort_of_constant constant }
+{
+    match constant {
+        Constant::RtsStatic => Sort::Source,
+        Constant::RtsBgp => Sort::Source,
+        Constant::RtdUnicast => Sort::Dest,
+        Constant::RtdRouter => Sort::Dest,
+        Constant::RtdBlackhole => Sort::Dest,
+        Constant::RtdUnreachable => Sort::Dest,
+        Constant::RtdProhibit => Sort::Dest,
+        Constant::OriginIgp => Sort::Origin,
+        Constant::OriginEgp => Sort::Origin,
+        Constant::OriginIncomplete => Sort::Origin,
+    }
+}
+
+pub(crate) fn plain(word: Simple) -> Judged
+    ensures judged { result ≡ said_of (expressions.plain word) }
+    ensures sound { (expressions.plain word).refusals ≡ [] }
+{
+    match word {
+        Simple::Number { at, .. } => sound(at, Sort::Int),
+        Simple::Text { at, .. } => sound(at, Sort::String),
+        Simple::Ip { at, .. } => sound(at, Sort::Ip),
+        Simple::Prefix { at, .. } => sound(at, Sort::Prefix),
+        Simple::True { at } => sound(at, Sort::Bool),
+        Simple::False { at } => sound(at, Sort::Bool),
+        Simple::EmptyPath { at } => sound(at, Sort::Path),
+        Simple::EmptyClist { at } => sound(at, Sort::Clist),
+        Simple::Attribute { at, attribute } => sound(at, attribute_sort(attribute)),
+        Simple::Constant { at, constant } => sound(at, constant_sort(constant)),
+    }
+}
+
+/// The sort of what a name stands for: of a variable, or of a constant where there is none.
+fn named_sort(seen: Seen<'_>, name: Name) -> Option<Sort>
+    ensures { result
+        ≡ sort_of_named (variable_of (scene_in seen.entry) (variables_in seen.entry) name)
+        (constant_of (scene_in seen.entry) name) }
+{
+    match variable_named(seen, name) {
+        Some(variable) => Some(variable.sort),
+        None => match constant_named(seen, name) {
+            Some(constant) => Some(constant.sort()),
+            None => None,
+        },
+    }
+}
+
+pub(crate) fn named(seen: Seen<'_>, name: Name, first: &mut Option<Refusal>) -> Judged
+    ensures judged { result
+        ≡ said_of (expressions.named (scene_in seen.entry) (variables_in seen.entry) name) }
+    ensures first { first.new
+        ≡ first_in first.old (expressions.named (scene_in seen.entry) (variables_in seen.entry)
+        name).refusals }
+{
+    known_at(name.at, named_sort(seen, name), first)
+}
+
+fn known_at(at: usize, sort: Option<Sort>, first: &mut Option<Refusal>) -> Judged
+    ensures judged { result ≡ said_of (known_as at sort) }
+    ensures first { first.new ≡ first_in first.old (known_as at sort).refusals }
+{
+    match sort {
+        Some(sort) => sound(at, sort),
+        None => {
+            note(first, at, Cause::UnknownName);
+            Judged { at, sort: None }
+        }
+    }
+}
+
+/// The sort of the set of elements of such sorts.
+fn set_sort(common: Common) -> Option<Sort>
+    ensures { result ≡ expressions.set_sort (common_seen common) }
+{
+    match common {
+        Common::NoneYet => None,
+        Common::One(sort) => set_of_sort(sort),
+        Common::Many => None,
+    }
+}
+
+fn set_of_sort(sort: Sort) -> Option<Sort>
+    ensures { result ≡ of.set_of_sort sort }
+{
+    match sort {
+        Sort::Int => Some(Sort::IntSet),
+        Sort::Pair => Some(Sort::PairSet),
+        Sort::Prefix => Some(Sort::PrefixSet),
+        _ => None,
+    }
+}
+
+/// `[ .. ]`
+pub(crate) fn set(
+    seen: Seen<'_>,
+    at: usize,
+    elements: &[Item],
+    first: &mut Option<Refusal>,
+) -> Judged
+    ensures judged { result ≡ said_of (expressions.set (scene_in seen.entry) at elements.now) }
+    ensures first { first.new
+        ≡ first_in first.old (expressions.set (scene_in seen.entry) at elements.now).refusals }
+{
+    let found = all_items(seen, elements, Common::NoneYet, first);
+    let is_refused = elements.is_empty() | differ(found.common);
+    note_if(first, is_refused, at, Cause::Mismatch);
+    Judged {
+        at,
+        sort: and_known(found.all_known, set_sort(found.common)),
+    }
+}
+
+pub(crate) fn and_known(test: bool, sort: Option<Sort>) -> Option<Sort>
+    ensures { result ≡ expressions.and_known test sort }
+{
+    if test { sort } else { None }
+}
+
+/// `[= .. =]`
+pub(crate) fn mask(
+    seen: Seen<'_>,
+    at: usize,
+    elements: &[MaskItem],
+    first: &mut Option<Refusal>,
+) -> Judged
+    ensures judged { result ≡ said_of (expressions.mask (scene_in seen.entry) at elements.now) }
+    ensures first { first.new
+        ≡ first_in first.old (expressions.mask (scene_in seen.entry) at elements.now).refusals }
+{
+    let all_known = all_atoms(seen, elements, first);
+    Judged {
+        at,
+        sort: sort_if(all_known, Sort::Mask),
+    }
+}
