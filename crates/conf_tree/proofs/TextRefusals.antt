@@ -39,6 +39,7 @@ stuck_exact text at never place (outcomes.Refused b kinds.Lex) h = inr (ap (λ (
 stuck_exact text at never place (outcomes.Refused b kinds.Syntax) h = absurd (never h.0 h.2)
 stuck_exact text at never place (outcomes.Refused b kinds.TooDeep) h = absurd (never h.0 h.2)
 stuck_exact text at never place (outcomes.Refused b kinds.Unsupported) h = absurd (never h.0 h.2)
+stuck_exact text at never place (outcomes.Refused b _) h = absurd h
 stuck_exact text at never place outcomes.Memory h = tt
 
 -- ---- a text with these tokens
@@ -55,6 +56,7 @@ module _ (text : List ℕ) (tokens : List Token) (one : (other : List Token) →
   tree_exact c never exact (outcomes.Refused b kinds.Syntax) h = exact (faults.Bad h.1) (again (faults.Bad h.1) h.0 h.2 h.3)
   tree_exact c never exact (outcomes.Refused b kinds.TooDeep) h = exact (faults.TooDeep h.1) (again (faults.TooDeep h.1) h.0 h.2 h.3)
   tree_exact c never exact (outcomes.Refused b kinds.Unsupported) h = exact (faults.Unsupported h.1) (again (faults.Unsupported h.1) h.0 h.2 h.3)
+  tree_exact c never exact (outcomes.Refused b _) h = h
   tree_exact c never exact outcomes.Memory h = tt
 
   told : (d e : SyntaxFault) (r s : ConfFault) → r ≡ fault_of text tokens d → fault_of text tokens e ≡ s → (d ≡ faults.Memory) ⊎ (d ≡ e) → (r ≡ outcomes.Memory) ⊎ (r ≡ s)
@@ -66,4 +68,5 @@ module _ (text : List ℕ) (tokens : List Token) (one : (other : List Token) →
   fault_exact d r is never exact (outcomes.Refused b kinds.Syntax) h = told d (faults.Bad h.1) r (outcomes.Refused b kinds.Syntax) is (ap (λ (n : ℕ). outcomes.Refused n kinds.Syntax) (same_byte h.0 h.1 b h.2 h.4)) (exact (faults.Bad h.1) (again (faults.Bad h.1) h.0 h.2 h.3))
   fault_exact d r is never exact (outcomes.Refused b kinds.TooDeep) h = told d (faults.TooDeep h.1) r (outcomes.Refused b kinds.TooDeep) is (ap (λ (n : ℕ). outcomes.Refused n kinds.TooDeep) (same_byte h.0 h.1 b h.2 h.4)) (exact (faults.TooDeep h.1) (again (faults.TooDeep h.1) h.0 h.2 h.3))
   fault_exact d r is never exact (outcomes.Refused b kinds.Unsupported) h = told d (faults.Unsupported h.1) r (outcomes.Refused b kinds.Unsupported) is (ap (λ (n : ℕ). outcomes.Refused n kinds.Unsupported) (same_byte h.0 h.1 b h.2 h.4)) (exact (faults.Unsupported h.1) (again (faults.Unsupported h.1) h.0 h.2 h.3))
+  fault_exact d r is never exact (outcomes.Refused b _) h = absurd h
   fault_exact d r is never exact outcomes.Memory h = tt

@@ -68,6 +68,7 @@ module _ (lexed_once : (text : List ℕ) (ts us : List Token) → Lexes 0 text t
     never_both text t at kinds.Syntax one other = let e = sentence_memory text one.0 t one.2 (faults.Bad other.1) (same_fault text one.0 other.0 faults.Memory (faults.Bad other.1) one.1 other.2 tt other.3) in cc
     never_both text t at kinds.TooDeep one other = let e = sentence_memory text one.0 t one.2 (faults.TooDeep other.1) (same_fault text one.0 other.0 faults.Memory (faults.TooDeep other.1) one.1 other.2 tt other.3) in cc
     never_both text t at kinds.Unsupported one other = let e = sentence_memory text one.0 t one.2 (faults.Unsupported other.1) (same_fault text one.0 other.0 faults.Memory (faults.Unsupported other.1) one.1 other.2 tt other.3) in cc
+    never_both text t at _ one other = other
 
     module _ (stuck_once : (text : List ℕ) (ts us : List Token) (place stop : ℕ) → Stops 0 text ts place → Stops 0 text us stop → place ≡ stop) where
       answers : (text : List ℕ) (at b : ℕ) (d e : ℕ → SyntaxFault) (one : IsRefusedSo d text at) (other : IsRefusedSo e text b) → IsRefused text one.0 (e other.1)
@@ -93,3 +94,8 @@ module _ (lexed_once : (text : List ℕ) (ts us : List Token) → Lexes 0 text t
       refusal_once text at b kinds.TooDeep kinds.Unsupported one two = absurd (deep_shut one.1 two.1 (one_fault text one.0 (faults.TooDeep one.1) one.3 (faults.Unsupported two.1) (answers text at b faults.TooDeep faults.Unsupported one two)))
       refusal_once text at b kinds.Unsupported kinds.Syntax one two = absurd (shut_bad one.1 two.1 (one_fault text one.0 (faults.Unsupported one.1) one.3 (faults.Bad two.1) (answers text at b faults.Unsupported faults.Bad one two)))
       refusal_once text at b kinds.Unsupported kinds.TooDeep one two = absurd (shut_deep one.1 two.1 (one_fault text one.0 (faults.Unsupported one.1) one.3 (faults.TooDeep two.1) (answers text at b faults.Unsupported faults.TooDeep one two)))
+      refusal_once text at b kinds.Lex _ one two = absurd two
+      refusal_once text at b kinds.Syntax _ one two = absurd two
+      refusal_once text at b kinds.TooDeep _ one two = absurd two
+      refusal_once text at b kinds.Unsupported _ one two = absurd two
+      refusal_once text at b _ _ one two = absurd one

@@ -39,6 +39,7 @@ IsRefusedText text at refusals.Lex = (tokens : List Token) × Stops 0 text token
 IsRefusedText text at refusals.Syntax = IsRefusedSo faults.Bad text at
 IsRefusedText text at refusals.TooDeep = IsRefusedSo faults.TooDeep text at
 IsRefusedText text at refusals.Unsupported = IsRefusedSo faults.Unsupported text at
+IsRefusedText text at _ = ⊥
 
 abbrev pub IsFault : List ℕ → ConfFault → Type 0
 IsFault text (outcomes.Refused at kind) = IsRefusedText text at kind
