@@ -218,18 +218,22 @@ abbrev pub med_metric : (at : ℕ) → Option Switch → List Refusal
 med_metric at None = refused_if true at kinds.MedRule
 med_metric at (Some s) = refused_if (not (is_on s)) at kinds.Unsupported
 
+-- what is refused of the options that count
+abbrev pub session : Known → (at : ℕ) → List BgpSetting → List Refusal
+session known at settings =
+    let local = last_local None settings in
+    let neighbor = last_neighbor None settings in
+    lacks at local ++ lacks at neighbor
+    ++ policies at (is_external (as_number known local) (as_number known neighbor))
+       (bgp_channels settings)
+    ++ med_metric at (last_med_metric None settings)
+
 abbrev pub bgp : Known → Instance BgpSetting → List Refusal
 bgp known p =
-    let at = place_of p.at p.name in
-    let local = last_local None p.settings in
-    let neighbor = last_neighbor None p.settings in
     declaring known p.at p.name (own_name known bgp_stem p.name ∷ [])
     ++ bgp_settings known p.settings
-    ++ one_channel at (bgp_channels p.settings)
-    ++ lacks at local ++ lacks at neighbor
-    ++ policies at (is_external (as_number known local) (as_number known neighbor))
-       (bgp_channels p.settings)
-    ++ med_metric at (last_med_metric None p.settings)
+    ++ one_channel (place_of p.at p.name) (bgp_channels p.settings)
+    ++ session known (place_of p.at p.name) p.settings
 
 -- ---- pipes
 

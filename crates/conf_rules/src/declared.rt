@@ -64,3 +64,19 @@ pub(crate) fn table_of(text: &[u8], declared: &Declared, name: Name) -> Option<F
 {
     declared.tables.get(name.bytes(text)).copied()
 }
+
+/// The name of a table.
+pub(crate) fn table(text: &[u8], declared: &Declared, name: Name, first: &mut Option<Refusal>)
+    ensures { first.new ≡ first_in first.old (of.table (known_of text.now declared.now) name) }
+{
+    let is_unknown = table_of(text, declared, name).is_none();
+    note_if(first, is_unknown, name.at, ConfKind::UnknownName);
+}
+
+/// The name of a filter.
+pub(crate) fn filter(text: &[u8], declared: &Declared, name: Name, first: &mut Option<Refusal>)
+    ensures { first.new ≡ first_in first.old (of.filter (known_of text.now declared.now) name) }
+{
+    let is_known = declared.filters.contains(name.bytes(text));
+    note_if(first, !is_known, name.at, ConfKind::UnknownName);
+}

@@ -10,6 +10,8 @@ mod bgp;
 mod channels;
 mod constants;
 mod declared;
+mod filters;
+pub mod laws;
 mod names;
 mod pipes;
 mod refusal;

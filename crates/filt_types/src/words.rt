@@ -146,8 +146,8 @@ fn set_of_sort(sort: Sort) -> Option<Sort>
     }
 }
 
-/// `[ .. ]`
-pub(crate) fn set(
+/// The judgement of a set. It keeps the first of what is refused in it.
+pub fn set(
     seen: Seen<'_>,
     at: usize,
     elements: &[Item],
@@ -172,8 +172,8 @@ pub(crate) fn and_known(test: bool, sort: Option<Sort>) -> Option<Sort>
     if test { sort } else { None }
 }
 
-/// `[= .. =]`
-pub(crate) fn mask(
+/// The judgement of a mask. It keeps the first of what is refused in it.
+pub fn mask(
     seen: Seen<'_>,
     at: usize,
     elements: &[MaskItem],

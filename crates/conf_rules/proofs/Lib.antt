@@ -1,0 +1,4 @@
+pub mod Firsts
+pub mod Numbers
+pub mod Settings
+pub mod Turns
