@@ -71,7 +71,7 @@ kind_back kinds.DuplicateStatic = refl
 kind_back kinds.Limit = refl
 kind_back kinds.Unsupported = refl
 
-abbrev refusal : ℕ → ConfKind → Refusal
+abbrev pub refusal : ℕ → ConfKind → Refusal
 refusal at kind = record { at = at; kind = kind }
 
 same_key : (a b : Refusal) → key a ≡ key b → a ≡ b

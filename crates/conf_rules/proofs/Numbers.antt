@@ -1,5 +1,5 @@
 -- The names that numbers give, and how many of them can be declared.
-use Rattle.std.proofs.Common.{◌≡◌, ◌≢◌, ℕ, zero, suc, arith, ◌+◌, ◌<◌, ◌≤◌, ◌^◌, ◌==◌, Bool, true, false, ◌||◌, ◌&&◌, if◌then◌else◌, cond, List, [], ◌∷◌, ◌++◌, map, length, refl, ap, ◌∙◌, sym, decimal, true≢false}
+use Rattle.std.proofs.Common.{◌≡◌, ◌≢◌, ℕ, zero, suc, arith, ◌+◌, ◌<◌, ◌≤◌, ◌^◌, ◌==◌, Bool, true, false, ◌||◌, ◌&&◌, if◌then◌else◌, cond, List, [], ◌∷◌, ◌++◌, map, length, length-append, refl, ap, ◌∙◌, sym, decimal, true≢false}
 use Rattle.std.specs.List.{list_any}
 use Rattle.std.specs.Str.Parse.{digits_value}
 use Rattle.std.proofs.lemmas.Bool.{eqb-true, eqb-false}
@@ -10,22 +10,19 @@ use Rattle.filt_types.specs.Scenes as scenes
 use Rattle.filt_types.specs.Scenes.{Scene}
 use Rattle.conf_rules.specs.Known.{Known, is_declared}
 use Rattle.conf_rules.specs.Protocols.{free_from, free_number, names}
-use Rattle.conf_rules.proofs.Turns.{any_append}
+use Rattle.conf_rules.proofs.Turns.{any_append, or_apart}
 
 -- ---- texts
 
 decimal_tells : (m n : ℕ) → m < 10 ^ 64 → n < 10 ^ 64 → decimal m ≡ decimal n → m ≡ n
 decimal_tells m n p q e = sym (decimal_is_IsNumeral_wide m p).1 ∙ ap (digits_value 10) e ∙ (decimal_is_IsNumeral_wide n q).1
 
-head_of : List ℕ → ℕ
-head_of [] = 0
-head_of (x ∷ xs) = x
-
 tail_of : List ℕ → List ℕ
 tail_of [] = []
 tail_of (x ∷ xs) = xs
 
 behind_stem : (stem a b : List ℕ) → stem ++ a ≡ stem ++ b → a ≡ b
+unfolding tail_of
 behind_stem [] a b e = e
 behind_stem (x ∷ stem) a b e = behind_stem stem a b (ap tail_of e)
 
@@ -76,7 +73,7 @@ any_names [] name = refl
 any_names (x ∷ named) name = ap (λ (b : Bool). same_name x.0 name || b) (any_names named name)
 
 declared_among : (known : Known) (name : List ℕ) → is_declared known name ≡ is_among (all_names known) name
-declared_among known name = sym (
+declared_among known name = or_apart (scenes.is_declared known.scene.constants name) (scenes.is_declared known.scene.functions name) (is_among known.scene.others name) ∙ sym (
     any_append (λ n. same_name n name) (map (λ e. e.0) known.scene.constants) (map (λ e. e.0) known.scene.functions ++ known.scene.others)
     ∙ ap (λ (b : Bool). is_among (map (λ e. e.0) known.scene.constants) name || b) (any_append (λ n. same_name n name) (map (λ e. e.0) known.scene.functions) known.scene.others)
     ∙ ap (λ (b : Bool). b || (is_among (map (λ e. e.0) known.scene.functions) name || is_among known.scene.others name)) (sym (any_names known.scene.constants name))
@@ -86,14 +83,10 @@ length_names : {A : Type 0} (named : List (List ℕ × A)) → length (map (λ (
 length_names [] = refl
 length_names (x ∷ named) = ap (λ (n : ℕ). suc n) (length_names named)
 
-length_two : {A : Type 0} (xs ys : List A) → length (xs ++ ys) ≡ length xs + length ys
-length_two [] ys = refl
-length_two (x ∷ xs) ys = ap (λ (n : ℕ). suc n) (length_two xs ys)
-
 count_names : (known : Known) → length (all_names known) ≡ names known
 count_names known =
-    let a = length_two (map (λ e. e.0) known.scene.constants) (map (λ e. e.0) known.scene.functions ++ known.scene.others) in
-    let b = length_two (map (λ e. e.0) known.scene.functions) known.scene.others in
+    let a = length-append (map (λ e. e.0) known.scene.constants) (map (λ e. e.0) known.scene.functions ++ known.scene.others) in
+    let b = length-append (map (λ e. e.0) known.scene.functions) known.scene.others in
     let c = length_names known.scene.constants in
     let d = length_names known.scene.functions in
     omega (arith, a, b, c, d)
@@ -127,8 +120,8 @@ too_many : (known : Known) (stem : List ℕ) → names known + 1 < 10 ^ 64 → (
 too_many known stem small all =
     let among = λ (i : ℕ) (lt : i < names known + 1). sym (declared_among known (stem ++ decimal (i + 1))) ∙ all (i + 1) (omega arith) (omega (arith, lt)) in
     let le = pigeonhole (names known + 1) (names known) (λ i. place (all_names known) (stem ++ decimal (i + 1)))
-        (λ i lt. let below = place_below (all_names known) (stem ++ decimal (i + 1)) (among i lt) in omega (arith, below, count_names known))
-        (λ i j lt less e. let is = decimal_tells (i + 1) (j + 1) (omega (arith, lt, small)) (omega (arith, less, small)) (behind_stem stem (decimal (i + 1)) (decimal (j + 1)) (place_tells (all_names known) (stem ++ decimal (i + 1)) (stem ++ decimal (j + 1)) (among i lt) (among j less) e)) in omega (arith, is)) in
+    (λ i lt. let below = place_below (all_names known) (stem ++ decimal (i + 1)) (among i lt) in omega (arith, below, count_names known))
+    (λ i j lt less e. let is = decimal_tells (i + 1) (j + 1) (omega (arith, lt, small)) (omega (arith, less, small)) (behind_stem stem (decimal (i + 1)) (decimal (j + 1)) (place_tells (all_names known) (stem ++ decimal (i + 1)) (stem ++ decimal (j + 1)) (among i lt) (among j less) e)) in omega (arith, is)) in
     omega (arith, le)
 
 up_to : (known : Known) (stem : List ℕ) → is_declared known (stem ++ decimal (free_number known stem)) ≡ true → (n : ℕ) → 1 ≤ n → n ≤ names known + 1 → is_declared known (stem ++ decimal n) ≡ true
@@ -144,3 +137,16 @@ free_by known stem small false is = refl
 
 pub is_free : (known : Known) (stem : List ℕ) → names known + 1 < 10 ^ 64 → is_declared known (stem ++ decimal (free_number known stem)) ≡ false
 is_free known stem small = free_by known stem small (is_declared known (stem ++ decimal (free_number known stem))) refl
+
+-- ---- the search for it
+
+pub found_here : (known : Known) (stem : List ℕ) (left number total : ℕ) → 0 < left → is_declared known (stem ++ decimal number) ≡ false → total ≡ free_from known stem left number → total ≡ number
+found_here known stem zero number total some free is = absurd (omega (arith, some))
+found_here known stem (suc left) number total some free is = is ∙ ap (λ (b : Bool). if b then free_from known stem left (suc number) else number) free
+
+pub found_later : (known : Known) (stem : List ℕ) (left number total less next : ℕ) → 0 < left → is_declared known (stem ++ decimal number) ≡ true → total ≡ free_from known stem left number → left ≡ suc less → next ≡ suc number → total ≡ free_from known stem less next
+found_later known stem zero number total less next some taken is down up = absurd (omega (arith, some))
+found_later known stem (suc left) number total less next some taken is down up =
+    let same : left ≡ less = omega (arith, down) in
+    is ∙ ap (λ (b : Bool). if b then free_from known stem left (suc number) else number) taken
+    ∙ ap (λ (n : ℕ). free_from known stem n (suc number)) same ∙ ap (λ (n : ℕ). free_from known stem less n) (sym up)

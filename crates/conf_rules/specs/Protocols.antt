@@ -225,7 +225,7 @@ session known at settings =
     let neighbor = last_neighbor None settings in
     lacks at local ++ lacks at neighbor
     ++ policies at (is_external (as_number known local) (as_number known neighbor))
-       (bgp_channels settings)
+    (bgp_channels settings)
     ++ med_metric at (last_med_metric None settings)
 
 abbrev pub bgp : Known → Instance BgpSetting → List Refusal

@@ -337,7 +337,15 @@ pub(crate) fn bgp(
 {
     let options = protocol.options.as_slice();
     let at = place_of(protocol.at, protocol.name);
-    declaring(alloc, text, declared, BGP_STEM, protocol.at, protocol.name, first)?;
+    declaring(
+        alloc,
+        text,
+        declared,
+        BGP_STEM,
+        protocol.at,
+        protocol.name,
+        first,
+    )?;
     settings(alloc, text, declared, options, first)?;
     want_channel(at, options, first);
     session(text, declared, at, options, first);

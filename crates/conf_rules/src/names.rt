@@ -1,6 +1,6 @@
 // The names of protocols.
 
-ghost use Rattle.std.specs.Prelude.{◌≡◌, ◌+◌, ◌*◌, ◌^◌, ◌<◌, ◌++◌, ◌∷◌, [], ℕ, List, None, IfOk, OnOk, codes, decimal};
+ghost use Rattle.std.specs.Prelude.{◌≡◌, ◌+◌, ◌*◌, ◌^◌, ◌<◌, ◌++◌, ◌∷◌, [], ℕ, List, None, IfOk, OnOk, decimal, nat_lt, not};
 ghost use Rattle.std.specs.List.{list_any};
 ghost use Rattle.conf_rules.specs.Known as known;
 ghost use Rattle.conf_rules.specs.Protocols as of;
@@ -15,7 +15,9 @@ use grammar::Name;
 use std::alloc::Global;
 
 pub const STATIC_STEM: &[u8] = b"static";
+
 pub const BGP_STEM: &[u8] = b"bgp";
+
 pub const PIPE_STEM: &[u8] = b"pipe";
 
 /// How many protocols there may be.
@@ -119,6 +121,13 @@ pub(crate) fn name_too_long(text: &[u8], name: Option<Name>, first: &mut Option<
     }
 }
 
+/// Whether there may be no more protocols.
+fn is_full(protocols: usize) -> bool
+    ensures { result ≡ not (nat_lt protocols of.most_protocols) }
+{
+    MOST_PROTOCOLS <= protocols
+}
+
 /// What is refused of a protocol, some of whose names may be declared already, and of there being
 /// one more.
 fn one_more(
@@ -137,8 +146,7 @@ fn one_more(
     let place = place_of(at, name);
     note_if(first, is_taken, place, ConfKind::DuplicateName);
     name_too_long(text, name, first);
-    let is_over = MOST_PROTOCOLS <= declared.protocols;
-    note_if(first, is_over, place, ConfKind::Limit);
+    note_if(first, is_full(declared.protocols), place, ConfKind::Limit);
 }
 
 /// A protocol with one name.
@@ -162,11 +170,7 @@ pub(crate) fn declaring(
 }
 
 /// Whether a name of a pipe is declared.
-fn is_pipe_declared(
-    alloc: Global,
-    declared: &Declared,
-    name: &[u8],
-) -> Result<bool, OutOfMemory>
+fn is_pipe_declared(alloc: Global, declared: &Declared, name: &[u8]) -> Result<bool, OutOfMemory>
     ensures { (text : List ℕ) → IfOk result (λ is_taken. is_taken
         ≡ list_any (known.is_declared (known_of text declared.now)) (of.pipe_names name.now)) }
 {

@@ -7,7 +7,7 @@ ghost use Rattle.conf_rules.specs.Refusals.{first_in};
 ghost use Rattle.conf_rules.specs.Seen.{known_of};
 
 use crate::channels::{is_other_family, passing};
-use crate::declared::{Declared, table, table_of};
+use crate::declared::{Declared, family_of, table, table_of};
 use crate::names::{declaring_pipe, place_of};
 use crate::refusal::{Refusal, note_if};
 use bits_ip::{Family, OutOfMemory};
@@ -113,7 +113,7 @@ fn primary_family(text: &[u8], declared: &Declared, primary: Option<Name>) -> Op
     ensures { result ≡ of.primary_family (known_of text.now declared.now) primary }
 {
     match primary {
-        None => declared.tables.get(b"master4".as_slice()).copied(),
+        None => family_of(declared, b"master4"),
         Some(name) => table_of(text, declared, name),
     }
 }

@@ -1,6 +1,6 @@
 // What is refused first in a statement.
 
-ghost use Rattle.std.specs.Prelude.{◌≡◌, ◌++◌, ◌&&◌, None, IfOk, OnOk};
+ghost use Rattle.std.specs.Prelude.{◌≡◌, ◌++◌, [], if◌then◌else◌, None, IfOk, OnOk};
 ghost use Rattle.conf_ast.specs.Configurations.{declaration_of, routine_of, value_of};
 ghost use Rattle.conf_ast.specs.Filters.{block_of};
 ghost use Rattle.filt_check.specs.Answers as answers;
@@ -100,20 +100,28 @@ fn one_more_table(text: &[u8], declared: &Declared, name: Name, first: &mut Opti
     note_if(first, is_over, name.at, ConfKind::Limit);
 }
 
-/// The statement of a table that is always there declares nothing.
-fn table(
+fn table_unless(
+    is_master: bool,
     text: &[u8],
     declared: &Declared,
-    family: Family,
     name: Name,
     first: &mut Option<Refusal>,
 )
     ensures { first.new
-        ≡ first_in first.old (of.table (known_of text.now declared.now) family name) }
+        ≡ first_in first.old (if is_master then []
+        else of.one_more_table (known_of text.now declared.now) name) }
 {
-    if !is_master(text, family, name) {
+    if !is_master {
         one_more_table(text, declared, name, first);
     }
+}
+
+/// The statement of a table that is always there declares nothing.
+fn table(text: &[u8], declared: &Declared, family: Family, name: Name, first: &mut Option<Refusal>)
+    ensures { first.new
+        ≡ first_in first.old (of.table (known_of text.now declared.now) family name) }
+{
+    table_unless(is_master(text, family, name), text, declared, name, first);
 }
 
 // ---- all statements

@@ -253,7 +253,15 @@ pub(crate) fn static_protocol(
         (instance_of static_setting_of protocol.now))) }
 {
     let options = protocol.options.as_slice();
-    declaring(alloc, text, declared, STATIC_STEM, protocol.at, protocol.name, first)?;
+    declaring(
+        alloc,
+        text,
+        declared,
+        STATIC_STEM,
+        protocol.at,
+        protocol.name,
+        first,
+    )?;
     settings(alloc, text, declared, options, first)?;
     want_channel(place_of(protocol.at, protocol.name), options, first);
     nettypes(options, first);
