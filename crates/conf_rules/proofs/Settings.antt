@@ -2,7 +2,6 @@
 use Rattle.std.proofs.Common.{◌≡◌, ℕ, Bool, true, false, ◌||◌, not, List, [], ◌∷◌, ◌++◌, Option, Some, None, append_assoc, refl, ap, ◌∙◌, sym}
 use Rattle.std.specs.List.{list_any}
 use Rattle.bits_ip.specs.Prefix.{Net, same_net}
-use Rattle.bits_ip.specs.Address.{family_of}
 use Rattle.bits_ip.specs.declared.address.Family.{Family}
 use Rattle.grammar.specs.declared.named.Name.{Name}
 use Rattle.filt_syntax.specs.declared.tree.Num.{Num}
@@ -17,7 +16,7 @@ use Rattle.conf_rules.specs.Protocols.{families_of_routes, family_of_route, repe
 use Rattle.conf_rules.specs.Refusals.{first_in, refused_if}
 use Rattle.conf_rules.specs.Walks.{behind, family_in, has_channel, seen_behind}
 use Rattle.conf_rules.proofs.Firsts.{first_append, first_rest, lists_past}
-use Rattle.conf_rules.proofs.Turns.{or_apart, any_append}
+use Rattle.conf_rules.proofs.Turns.{or_apart}
 
 -- ---- the last one that counts
 

@@ -1,5 +1,5 @@
 -- Loops over lists, one item more.
-use Rattle.std.proofs.Common.{◌≡◌, ℕ, ◌+◌, ◌<◌, ◌≤◌, Bool, true, false, ◌||◌, not, List, [], ◌∷◌, ◌++◌, length, drop, get_or, Option, refl, ap, ◌∙◌, sym}
+use Rattle.std.proofs.Common.{◌≡◌, ℕ, ◌+◌, ◌<◌, ◌≤◌, Bool, true, false, ◌||◌, List, [], ◌∷◌, ◌++◌, length, drop, get_or, Option, refl, ap, ◌∙◌, sym}
 use Rattle.std.specs.List.{list_any}
 use Rattle.filt_types.proofs.Lookups.{next_item, nothing_left}
 use Rattle.conf_rules.specs.declared.refusal.Refusal.{Refusal}

@@ -1,5 +1,5 @@
 -- What is refused of the value of a constant.
-use Rattle.std.specs.Prelude.{ℕ, List, [], ◌++◌}
+use Rattle.std.specs.Prelude.{List, [], ◌++◌}
 use Rattle.grammar.specs.declared.named.Name.{Name}
 use Rattle.filt_syntax.specs.declared.tree.Num.{Num}
 use Rattle.conf_tree.specs.declared.kind.ConfKind.TheVariants as kinds

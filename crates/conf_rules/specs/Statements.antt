@@ -1,6 +1,6 @@
 -- What is refused in a statement of a configuration, over what is declared before it. All refusals
 -- are gathered, whichever of them counts.
-use Rattle.std.specs.Prelude.{ℕ, Bool, true, false, not, ◌&&◌, nat_lt, if◌then◌else◌, List, [], ◌++◌, length, Option, Some, None, codes}
+use Rattle.std.specs.Prelude.{ℕ, Bool, not, nat_lt, if◌then◌else◌, List, [], ◌++◌, length, codes}
 use Rattle.bits_ip.specs.declared.address.Family.{Family}
 use Rattle.bits_ip.specs.declared.address.Family.TheVariants as families
 use Rattle.grammar.specs.declared.named.Name.{Name}

@@ -1,10 +1,8 @@
-use Rattle.std.proofs.Common.{◌≡◌, ◌||◌, ◌∷◌, [], false, Bool, List, map, drop, ◌+◌, ap, ◌∙◌, sym}
+use Rattle.std.proofs.Common.{◌∷◌, [], List, map, drop, ◌+◌, ap, ◌∙◌}
 use Rattle.conf_tree.specs.declared.tree.BgpOption.{BgpOption}
 use Rattle.conf_ast.specs.Configurations.{bgp_setting_of}
 use Rattle.conf_rules.specs.Protocols.{bgp_channels}
-use Rattle.conf_rules.specs.Refusals.{first_in}
-use Rattle.conf_rules.specs.Walks.{behind, has_channel}
-use Rattle.filt_types.proofs.Lookups.{next_item, nothing_left}
+use Rattle.filt_types.proofs.Lookups.{next_item}
 use Rattle.conf_rules.proofs.Settings.{more_bgp_channels, has_turn, behind_turn}
 use Rattle.conf_rules.proofs.bgp.second_channels.Goals as goal
 

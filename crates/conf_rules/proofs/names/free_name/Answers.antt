@@ -1,4 +1,4 @@
-use Rattle.std.proofs.Common.{ℕ, suc, arith, ◌+◌, ◌-◌, ◌++◌, List, decimal, ap, ◌∙◌, sym}
+use Rattle.std.proofs.Common.{ℕ, arith, ◌+◌, ◌-◌, ◌++◌, List, decimal, ap, ◌∙◌, sym}
 use Rattle.conf_rules.specs.Known.{is_declared}
 use Rattle.conf_rules.specs.Protocols.{free_from, free_number}
 use Rattle.conf_rules.specs.Seen.{known_of}

@@ -1,10 +1,8 @@
-use Rattle.std.proofs.Common.{◌≡◌, ◌||◌, ◌∷◌, [], false, Bool, List, map, drop, ◌+◌, ap, ◌∙◌, sym}
+use Rattle.std.proofs.Common.{◌∷◌, [], List, map, drop, ◌+◌, ap, ◌∙◌}
 use Rattle.conf_tree.specs.declared.tree.StaticOption.{StaticOption}
 use Rattle.conf_ast.specs.Configurations.{static_setting_of}
 use Rattle.conf_rules.specs.Protocols.{static_channels}
-use Rattle.conf_rules.specs.Refusals.{first_in}
-use Rattle.conf_rules.specs.Walks.{behind, has_channel}
-use Rattle.filt_types.proofs.Lookups.{next_item, nothing_left}
+use Rattle.filt_types.proofs.Lookups.{next_item}
 use Rattle.conf_rules.proofs.Settings.{more_static_channels, has_turn, behind_turn}
 use Rattle.conf_rules.proofs.static_protocols.second_channels.Goals as goal
 
