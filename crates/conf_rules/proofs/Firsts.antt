@@ -257,3 +257,17 @@ each_later x rs (suc k) d lt = not_before (get_or rs k d) (least x rs) (least_ea
 pub found_before : (rs : List Refusal) (r : Refusal) → first_in None rs ≡ Some r → All (λ (other : Refusal). precedes other r ≡ false) rs
 found_before [] r found k d lt = absurd (omega (arith, lt))
 found_before (x ∷ rs) r found k d lt = ap (λ (m : Refusal). precedes (get_or (x ∷ rs) k d) m) (inside r (least x rs) (sym found ∙ least_is x rs)) ∙ each_later x rs k d lt
+
+le_each : (x : Refusal) (rs : List Refusal) (k : ℕ) (d : Refusal) → k < length (x ∷ rs) → key (least x rs) ≤ key (get_or (x ∷ rs) k d)
+le_each x rs zero d lt = least_le x rs
+le_each x rs (suc k) d lt = least_each x rs k d (omega (arith, lt))
+
+pub found_only : (rs : List Refusal) (r : Refusal) → Contains rs r → All (λ (other : Refusal). precedes other r ≡ false) rs → first_in None rs ≡ Some r
+found_only [] r among before = absurd (omega (arith, among.1))
+found_only (x ∷ rs) r among before =
+    let at = least_among x rs in
+    let later = sym (precedes_key (least x rs) r) ∙ ap (λ (m : Refusal). precedes m r) (sym at.2) ∙ before at.0 (least x rs) at.1 in
+    let le = ltb-false (key (least x rs)) (key r) later in
+    let back = le_each x rs among.0 r among.1 in
+    let same = ap key among.2 in
+    least_is x rs ∙ ap (λ (m : Refusal). Some m) (same_key (least x rs) r (omega (arith, le, back, same)))

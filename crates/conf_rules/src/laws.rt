@@ -16,14 +16,16 @@ pub fn own_names_are_free_and_the_least()
         → is_declared known (stem ++ decimal n) ≡ true }
 {}
 
-/// Where there is no first refusal nothing is refused; a first refusal is one of those that there
-/// are, and none of them comes before it.
+/// Where there is no first refusal nothing is refused. A first refusal is one of those that there
+/// are, and none of them comes before it; there is one such refusal alone.
 pub fn first_refusals_are_the_first()
     ensures accepted { (rs : List Refusal) → first_in None rs ≡ None → rs ≡ [] }
     ensures among { (rs : List Refusal) (r : Refusal) → first_in None rs ≡ Some r
         → Contains rs r }
     ensures before { (rs : List Refusal) (r : Refusal) → first_in None rs ≡ Some r
         → All (λ (other : Refusal). precedes other r ≡ false) rs }
+    ensures only { (rs : List Refusal) (r : Refusal) → Contains rs r
+        → All (λ (other : Refusal). precedes other r ≡ false) rs → first_in None rs ≡ Some r }
 {}
 
 /// The order in which refusals are gathered doesn't matter.

@@ -14,6 +14,7 @@ use conf_tree::ConfKind;
 use grammar::Name;
 use std::alloc::Global;
 
+/// What the names that are made for protocols begin with, by kind.
 pub const STATIC_STEM: &[u8] = b"static";
 
 pub const BGP_STEM: &[u8] = b"bgp";
@@ -28,9 +29,7 @@ const MOST_PROTOCOLS: usize = 256;
 fn copied(alloc: Global, text: &[u8]) -> Result<Vec<u8>, OutOfMemory>
     ensures { IfOk result (λ bytes. bytes.items ≡ text.now) }
 {
-    let mut bytes = Vec::new(alloc);
-    bytes.extend_from_slice(text)?;
-    Ok(bytes)
+    Ok(text.to_vec(alloc)?)
 }
 
 /// A text, and behind it another one.
