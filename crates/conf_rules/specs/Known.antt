@@ -1,0 +1,65 @@
+-- What a configuration declares before one of its statements, as the rules see it.
+use Rattle.std.specs.Prelude.{ℕ, Bool, not, nat_lt, List, [], ◌++◌, length, Option}
+use Rattle.std.specs.List.{list_any}
+use Rattle.bits_ip.specs.declared.address.Family.{Family}
+use Rattle.grammar.specs.declared.named.Name.{Name}
+use Rattle.grammar.specs.Names.{name_bytes}
+use Rattle.filt_syntax.specs.declared.tree.Num.{Num}
+use Rattle.conf_tree.specs.declared.kind.ConfKind.TheVariants as kinds
+use Rattle.filt_meaning.specs.Names.{named_in, same_name}
+use Rattle.filt_types.specs.Items as items
+use Rattle.filt_types.specs.Items.{is_none}
+use Rattle.filt_types.specs.Scenes.{Scene, is_seen}
+use Rattle.conf_rules.specs.declared.refusal.Refusal.{Refusal}
+use Rattle.conf_rules.specs.Refusals.{of_filters, refused_if}
+
+-- What is declared: the source, constants, functions and all other names (the scene of filters);
+-- the tables with their families, and the names of the filters, each in the order of its numbers;
+-- and how many protocols there are. The tables master4 and master6 are there from the start.
+pub record Known : Type 0 where
+  pub scene : Scene
+  pub tables : List (List ℕ × Family)
+  pub filters : List (List ℕ)
+  pub protocols : ℕ
+
+-- ---- names
+
+-- All names share one space.
+abbrev pub is_declared : Known → List ℕ → Bool
+is_declared known name = is_seen known.scene [] name
+
+-- The most bytes of a name.
+abbrev pub longest_name : ℕ
+longest_name = 64
+
+abbrev pub too_long : Known → Name → List Refusal
+too_long known n =
+    refused_if (nat_lt longest_name (length (name_bytes known.scene.text n))) n.at kinds.Limit
+
+-- what is refused of a name that is declared here: it is declared already, or over 64 bytes long
+abbrev pub declaring : Known → Name → List Refusal
+declaring known n =
+    refused_if (is_declared known (name_bytes known.scene.text n)) n.at kinds.DuplicateName
+    ++ too_long known n
+
+-- ---- uses of names
+
+-- the family of the table of that name
+abbrev pub table_of : Known → Name → Option Family
+table_of known n = named_in known.tables (name_bytes known.scene.text n)
+
+abbrev pub table : Known → Name → List Refusal
+table known n = refused_if (is_none (table_of known n)) n.at kinds.UnknownName
+
+abbrev pub is_filter : Known → Name → Bool
+is_filter known n = list_any (λ name. same_name name (name_bytes known.scene.text n)) known.filters
+
+abbrev pub filter : Known → Name → List Refusal
+filter known n = refused_if (not (is_filter known n)) n.at kinds.UnknownName
+
+-- a number as it is written, or the name of a constant that is a number
+abbrev pub number : Known → Num → List Refusal
+number known n = of_filters (items.number known.scene n)
+
+abbrev pub number_of : Known → Num → Option ℕ
+number_of known n = items.value_of known.scene n

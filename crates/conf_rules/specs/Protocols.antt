@@ -1,0 +1,279 @@
+-- What is refused in protocols (BIRD User's Guide, "Protocol options", "BGP", "Static", "Pipe").
+use Rattle.std.specs.Prelude.{ℕ, zero, suc, ◌+◌, ◌==◌, Bool, true, false, not, ◌&&◌, nat_lt, if◌then◌else◌, List, [], ◌∷◌, ◌++◌, length, Option, Some, None, codes, decimal}
+use Rattle.std.specs.List.{list_any}
+use Rattle.bits_ip.specs.Address.{family_of}
+use Rattle.bits_ip.specs.Prefix.{Net, same_net}
+use Rattle.bits_ip.specs.declared.address.Family.{Family}
+use Rattle.grammar.specs.declared.named.Name.{Name}
+use Rattle.grammar.specs.Names.{name_bytes}
+use Rattle.filt_syntax.specs.declared.tree.Num.{Num}
+use Rattle.conf_tree.specs.declared.kind.ConfKind.TheVariants as kinds
+use Rattle.conf_tree.specs.declared.tree.Route.{Route}
+use Rattle.conf_tree.specs.declared.tree.RouteTarget.{RouteTarget}
+use Rattle.conf_tree.specs.declared.tree.RouteTarget.TheVariants as targets
+use Rattle.conf_tree.specs.declared.tree.Switch.{Switch}
+use Rattle.conf_tree.specs.declared.tree.Switch.TheVariants as switches
+use Rattle.conf_tree.specs.declared.tree.Transport.{Transport}
+use Rattle.conf_tree.specs.declared.tree.Transport.TheVariants as transports
+use Rattle.conf_ast.specs.Configurations.{FamilyChannel, StaticSetting, StaticChannel, StaticRoute, BgpSetting, BgpChannel, BgpLocal, BgpNeighbor, BgpMedMetric, BgpInterpretCommunities, BgpDefaultMed, BgpDefaultLocalPref, BgpTransport, PipeSetting, PipeTable, PipePeerTable, PipeImport, PipeExport, Instance}
+use Rattle.filt_meaning.specs.Names.{named_in}
+use Rattle.conf_rules.specs.declared.refusal.Refusal.{Refusal}
+use Rattle.conf_rules.specs.Channels.{channel, is_other_family, lacks_policy, one_channel, passing, same_family}
+use Rattle.conf_rules.specs.Known.{Known, is_declared, number, number_of, table, table_of, too_long}
+use Rattle.conf_rules.specs.Refusals.{refused_if}
+
+-- ---- names
+
+-- how many names of constants, functions and other things there are
+abbrev pub names : Known → ℕ
+names known =
+    length known.scene.constants + (length known.scene.functions + length known.scene.others)
+
+-- the first number from this one on whose name isn't declared, of so many numbers, and the one
+-- behind them where each name is
+abbrev pub free_from : Known → (stem : List ℕ) → (count first : ℕ) → ℕ
+free_from known stem zero first = first
+free_from known stem (suc count) first =
+    if is_declared known (stem ++ decimal first)
+    then free_from known stem count (suc first) else first
+
+-- The least number from 1 on that gives a name not declared so far. One of the numbers up to that
+-- of all names does, or the next one.
+abbrev pub free_number : Known → (stem : List ℕ) → ℕ
+free_number known stem = free_from known stem (names known) 1
+
+-- A protocol without a name is called by its kind and that number.
+abbrev pub own_name : Known → (stem : List ℕ) → Option Name → List ℕ
+own_name known stem None = stem ++ decimal (free_number known stem)
+own_name known stem (Some n) = name_bytes known.scene.text n
+
+abbrev pub static_stem : List ℕ
+static_stem = codes "static"
+
+abbrev pub bgp_stem : List ℕ
+bgp_stem = codes "bgp"
+
+abbrev pub pipe_stem : List ℕ
+pipe_stem = codes "pipe"
+
+-- A pipe has two channels, each with a name of its own.
+abbrev pub pipe_names : List ℕ → List (List ℕ)
+pipe_names name = name ∷ (name ++ codes ".export") ∷ (name ++ codes ".import") ∷ []
+
+-- where a protocol is refused: at its name, or at its kind's word
+abbrev pub place_of : (at : ℕ) → Option Name → ℕ
+place_of at None = at
+place_of at (Some n) = n.at
+
+abbrev pub name_too_long : Known → Option Name → List Refusal
+name_too_long known None = []
+name_too_long known (Some n) = too_long known n
+
+-- How many protocols there may be.
+abbrev pub most_protocols : ℕ
+most_protocols = 256
+
+-- what is refused of a protocol that declares these names, and of there being one more
+abbrev pub declaring : Known → (at : ℕ) → Option Name → List (List ℕ) → List Refusal
+declaring known at name declared =
+    refused_if (list_any (is_declared known) declared) (place_of at name) kinds.DuplicateName
+    ++ name_too_long known name
+    ++ refused_if (not (nat_lt known.protocols most_protocols)) (place_of at name) kinds.Limit
+
+-- ---- static protocols
+
+abbrev pub static_setting : Known → StaticSetting → List Refusal
+static_setting known (StaticChannel c) = channel known c
+static_setting known (StaticRoute r) = []
+
+abbrev pub static_settings : Known → List StaticSetting → List Refusal
+static_settings known [] = []
+static_settings known (s ∷ more) = static_setting known s ++ static_settings known more
+
+abbrev pub static_channels : List StaticSetting → List FamilyChannel
+static_channels [] = []
+static_channels (StaticChannel c ∷ more) = c ∷ static_channels more
+static_channels (StaticRoute r ∷ more) = static_channels more
+
+abbrev pub static_routes : List StaticSetting → List Route
+static_routes [] = []
+static_routes (StaticChannel c ∷ more) = static_routes more
+static_routes (StaticRoute r ∷ more) = r ∷ static_routes more
+
+abbrev pub family_of_target : Family → RouteTarget → List Refusal
+family_of_target family (targets.Via a) =
+    refused_if (not (same_family family (family_of a.addr))) a.at kinds.Nettype
+family_of_target family targets.Blackhole = []
+family_of_target family targets.Unreachable = []
+family_of_target family targets.Prohibit = []
+
+-- a route's net and its gateway are of the channel's family
+abbrev pub family_of_route : Family → Route → List Refusal
+family_of_route family r =
+    refused_if (not (same_family family (family_of r.net.addr))) r.at kinds.Nettype
+    ++ family_of_target family r.target
+
+abbrev pub families_of_routes : Family → List Route → List Refusal
+families_of_routes family [] = []
+families_of_routes family (r ∷ more) =
+    family_of_route family r ++ families_of_routes family more
+
+-- The first channel is the one that counts. Where there is none no family is wrong.
+abbrev pub nettypes : List FamilyChannel → List Route → List Refusal
+nettypes [] routes = []
+nettypes (c ∷ more) routes = families_of_routes c.family routes
+
+-- routes of a net that has one before, among these nets or in the list
+abbrev pub repeated : List Net → List Route → List Refusal
+repeated seen [] = []
+repeated seen (r ∷ more) =
+    refused_if (list_any (same_net r.net) seen) r.at kinds.DuplicateStatic
+    ++ repeated (r.net ∷ seen) more
+
+abbrev pub static : Known → Instance StaticSetting → List Refusal
+static known p =
+    declaring known p.at p.name (own_name known static_stem p.name ∷ [])
+    ++ static_settings known p.settings
+    ++ one_channel (place_of p.at p.name) (static_channels p.settings)
+    ++ nettypes (static_channels p.settings) (static_routes p.settings)
+    ++ repeated [] (static_routes p.settings)
+
+-- ---- BGP
+
+-- The transport has no effect, but its numbers are numbers.
+abbrev pub optional_number : Known → Option Num → List Refusal
+optional_number known None = []
+optional_number known (Some n) = number known n
+
+abbrev pub transport : Known → Transport → List Refusal
+transport known (transports.HoldTime n) = number known n
+transport known (transports.KeepaliveTime n) = number known n
+transport known (transports.ConnectRetryTime n) = number known n
+transport known (transports.Multihop n) = optional_number known n
+transport known _ = []
+
+abbrev pub bgp_setting : Known → BgpSetting → List Refusal
+bgp_setting known (BgpChannel c) = channel known c
+bgp_setting known (BgpLocal a n) = number known n
+bgp_setting known (BgpNeighbor a n) = number known n
+bgp_setting known (BgpMedMetric s) = []
+bgp_setting known (BgpInterpretCommunities s) = []
+bgp_setting known (BgpDefaultMed at n) = number known n
+bgp_setting known (BgpDefaultLocalPref at n) = number known n
+bgp_setting known (BgpTransport t) = transport known t
+
+abbrev pub bgp_settings : Known → List BgpSetting → List Refusal
+bgp_settings known [] = []
+bgp_settings known (s ∷ more) = bgp_setting known s ++ bgp_settings known more
+
+abbrev pub bgp_channels : List BgpSetting → List FamilyChannel
+bgp_channels [] = []
+bgp_channels (BgpChannel c ∷ more) = c ∷ bgp_channels more
+bgp_channels (s ∷ more) = bgp_channels more
+
+-- Of options written twice the last counts.
+abbrev pub last_local : Option Num → List BgpSetting → Option Num
+last_local found [] = found
+last_local found (BgpLocal a n ∷ more) = last_local (Some n) more
+last_local found (s ∷ more) = last_local found more
+
+abbrev pub last_neighbor : Option Num → List BgpSetting → Option Num
+last_neighbor found [] = found
+last_neighbor found (BgpNeighbor a n ∷ more) = last_neighbor (Some n) more
+last_neighbor found (s ∷ more) = last_neighbor found more
+
+abbrev pub last_med_metric : Option Switch → List BgpSetting → Option Switch
+last_med_metric found [] = found
+last_med_metric found (BgpMedMetric s ∷ more) = last_med_metric (Some s) more
+last_med_metric found (s ∷ more) = last_med_metric found more
+
+-- a protocol has both numbers of autonomous systems
+abbrev pub lacks : {A : Type 0} → (at : ℕ) → Option A → List Refusal
+lacks at None = refused_if true at kinds.Unsupported
+lacks at (Some a) = []
+
+abbrev pub as_number : Known → Option Num → Option ℕ
+as_number known None = None
+as_number known (Some n) = number_of known n
+
+-- The neighbour is in another autonomous system. Where a number isn't known it can't be told.
+abbrev pub is_external : Option ℕ → Option ℕ → Bool
+is_external (Some local) (Some remote) = not (local == remote)
+is_external _ _ = false
+
+-- An external session says for each channel what passes both ways.
+abbrev pub policies : (at : ℕ) → (external : Bool) → List FamilyChannel → List Refusal
+policies at external cs = refused_if (external && list_any lacks_policy cs) at kinds.PolicyMissing
+
+abbrev pub is_on : Switch → Bool
+is_on switches.On = true
+is_on switches.Yes = true
+is_on switches.Off = false
+is_on switches.No = false
+
+-- MEDs of all neighbours are compared, and the configuration has to say so.
+abbrev pub med_metric : (at : ℕ) → Option Switch → List Refusal
+med_metric at None = refused_if true at kinds.MedRule
+med_metric at (Some s) = refused_if (not (is_on s)) at kinds.Unsupported
+
+-- what is refused of the options that count
+abbrev pub session : Known → (at : ℕ) → List BgpSetting → List Refusal
+session known at settings =
+    let local = last_local None settings in
+    let neighbor = last_neighbor None settings in
+    lacks at local ++ lacks at neighbor
+    ++ policies at (is_external (as_number known local) (as_number known neighbor))
+    (bgp_channels settings)
+    ++ med_metric at (last_med_metric None settings)
+
+abbrev pub bgp : Known → Instance BgpSetting → List Refusal
+bgp known p =
+    declaring known p.at p.name (own_name known bgp_stem p.name ∷ [])
+    ++ bgp_settings known p.settings
+    ++ one_channel (place_of p.at p.name) (bgp_channels p.settings)
+    ++ session known (place_of p.at p.name) p.settings
+
+-- ---- pipes
+
+abbrev pub pipe_setting : Known → PipeSetting → List Refusal
+pipe_setting known (PipeTable name) = table known name
+pipe_setting known (PipePeerTable name) = table known name
+pipe_setting known (PipeImport p) = passing known p
+pipe_setting known (PipeExport p) = passing known p
+
+abbrev pub pipe_settings : Known → List PipeSetting → List Refusal
+pipe_settings known [] = []
+pipe_settings known (s ∷ more) = pipe_setting known s ++ pipe_settings known more
+
+abbrev pub last_table : Option Name → List PipeSetting → Option Name
+last_table found [] = found
+last_table found (PipeTable name ∷ more) = last_table (Some name) more
+last_table found (s ∷ more) = last_table found more
+
+abbrev pub last_peer : Option Name → List PipeSetting → Option Name
+last_peer found [] = found
+last_peer found (PipePeerTable name ∷ more) = last_peer (Some name) more
+last_peer found (s ∷ more) = last_peer found more
+
+-- The primary table is master4 where none is named.
+abbrev pub primary_family : Known → Option Name → Option Family
+primary_family known None = named_in known.tables (codes "master4")
+primary_family known (Some name) = table_of known name
+
+abbrev pub differ : Option Family → Option Family → Bool
+differ (Some family) other = is_other_family family other
+differ None other = false
+
+-- The second table is of the family of the first.
+abbrev pub peer_family : Known → (primary peer : Option Name) → List Refusal
+peer_family known primary None = []
+peer_family known primary (Some name) =
+    refused_if (differ (primary_family known primary) (table_of known name)) name.at kinds.Nettype
+
+abbrev pub pipe : Known → Instance PipeSetting → List Refusal
+pipe known p =
+    let peer = last_peer None p.settings in
+    declaring known p.at p.name (pipe_names (own_name known pipe_stem p.name))
+    ++ pipe_settings known p.settings
+    ++ lacks (place_of p.at p.name) peer
+    ++ peer_family known (last_table None p.settings) peer
