@@ -1,5 +1,5 @@
 -- What resolving keeps of statements.
-use Rattle.std.proofs.Common.{◌≡◌, ℕ, List, [], ◌∷◌, ◌++◌, map, Option, Some, None, option_map, Result, Ok, Err, IfOk, slice_get, refl, sym, ap, ◌∙◌, Box, Vec}
+use Rattle.std.proofs.Common.{◌≡◌, ℕ, List, [], ◌∷◌, map, Option, Some, None, option_map, Result, Ok, Err, IfOk, refl, sym, ap, ◌∙◌, Box, Vec}
 use Rattle.std.specs.Global.{Global}
 use Rattle.std.proofs.Math.Path.{fun_ext}
 use Rattle.std.proofs.lemmas.Result.{IfOk-weaker}
@@ -7,7 +7,6 @@ use Rattle.bits_ip.specs.declared.memory.OutOfMemory.{OutOfMemory}
 use Rattle.grammar.specs.declared.named.Name.{Name}
 use Rattle.grammar.specs.Names.{name_bytes}
 use Rattle.filt_syntax.specs.declared.tree.Arm.{Arm}
-use Rattle.filt_syntax.specs.declared.tree.Attribute.{Attribute}
 use Rattle.filt_syntax.specs.declared.tree.Change.{Change}
 use Rattle.filt_syntax.specs.declared.tree.Expr.{Expr}
 use Rattle.filt_syntax.specs.declared.tree.Item.{Item}
@@ -17,7 +16,7 @@ use Rattle.filt_syntax.specs.declared.tree.Stmt.TheVariants as s
 use Rattle.filt_syntax.specs.declared.tree.Target.{Target}
 use Rattle.filt_syntax.specs.declared.tree.Target.TheVariants as targets
 use Rattle.filt_syntax.specs.declared.tree.VariableType.{VariableType}
-use Rattle.conf_ast.specs.Filters.{Expression, Statement, Braced, Case, CaseElse, Statements, expression_of, expressions_of, statement_of, statements_of, changed}
+use Rattle.conf_ast.specs.Filters.{Statement, Braced, Statements, expression_of, statement_of, statements_of, changed}
 use Rattle.filt_values.specs.declared.value.Failure.{Failure}
 use Rattle.filt_values.specs.declared.value.Failure.TheVariants as failures
 use Rattle.filt_values.specs.declared.value.Sort.{Sort}
@@ -25,8 +24,8 @@ use Rattle.filt_values.specs.Operators.{emptied_of}
 use Rattle.filt_values.specs.Values.{Val, default_of}
 use Rattle.filt_meaning.specs.Flow.{Run, Frame, and_then}
 use Rattle.filt_meaning.specs.Items.{has_label, set_of}
-use Rattle.filt_meaning.specs.Meaning.{Act, act, acts, arms_act, arm, all_declared, assign, block, call, cases, choice, defaults, evaluate, given, give, in_turn, initial, loop, nothing, on_two, on_value, method_of, result, set_target, set_variable, stop, unset, value, values, within}
-use Rattle.filt_meaning.specs.Names.{Around, Context, Doing, Variable, function_of, place_in, place_of, sort_of_type, with_variables}
+use Rattle.filt_meaning.specs.Meaning.{Act, act, acts, arms_act, arm, all_declared, assign, block, call, cases, choice, defaults, evaluate, given, give, in_turn, initial, loop, nothing, on_two, on_value, method_of, result, set_target, set_variable, value, within}
+use Rattle.filt_meaning.specs.Names.{Around, Context, Doing, function_of, place_in, sort_of_type, with_variables}
 use Rattle.filt_tree.specs.declared.tree.Labels.{Labels}
 use Rattle.filt_tree.specs.declared.tree.TArm.{TArm}
 use Rattle.filt_tree.specs.declared.tree.TExpr.{TExpr}
@@ -37,9 +36,9 @@ use Rattle.filt_tree.specs.declared.tree.TTarget.{TTarget}
 use Rattle.filt_tree.specs.declared.tree.TTarget.TheVariants as checked
 use Rattle.filt_tree.specs.Trees as trees
 use Rattle.filt_tree.specs.Trees.{Tables, expr, exprs, all_values, stmt, stmts, body, in_order, set_place}
-use Rattle.filt_types.proofs.Trees.{arms_of}
+use Rattle.filt_types.specs.Walk.{arms_of}
 use Rattle.filt_types.proofs.Trees as o
-use Rattle.filt_check.specs.Seen.{Branch, acts_in, arm_in, arms_in, arm_seen, arms_seen, otherwise_in, picked, sorts_in, values_in, at_place}
+use Rattle.filt_check.specs.Seen.{Branch, acts_in, arm_in, arms_in, arms_seen, otherwise_in, picked, sorts_in, values_in, at_place}
 use Rattle.filt_check.proofs.Forms as f
 use Rattle.filt_check.proofs.Gathered.{defaults_are}
 use Rattle.filt_check.proofs.Resolving.{values_are}

@@ -1,6 +1,6 @@
 -- What checked trees do, form by form: what a fold gives at each variant, of what it gives for the
 -- parts.
-use Rattle.std.proofs.Common.{◌≡◌, ℕ, Bool, List, [], ◌∷◌, map, Option, Some, None, Ok, Err, refl, ap, ◌∙◌, rules, Box, Vec, slice_get}
+use Rattle.std.proofs.Common.{◌≡◌, ℕ, List, map, Option, Some, None, Ok, Err, refl, ap, ◌∙◌, rules, Box, Vec, slice_get}
 use Rattle.std.specs.Global.{Global}
 use Rattle.filt_syntax.specs.declared.tree.Attribute.{Attribute}
 use Rattle.filt_syntax.specs.declared.tree.Compare.{Compare}
@@ -31,7 +31,7 @@ use Rattle.filt_tree.specs.declared.tree.TStmt.TheVariants as ts
 use Rattle.filt_tree.specs.declared.tree.TStmt.TheOpen.{TStmt-F}
 use Rattle.filt_tree.specs.declared.tree.TStmt.TheFolds.{map-TStmt}
 use Rattle.filt_tree.specs.declared.tree.TTarget.{TTarget}
-use Rattle.filt_tree.specs.Trees.{Tables, expr, expr_step, exprs, parts, access, access_over, accesses_of, accessed, all_values, chain, joints, stmt, stmt_step, stmts, body, assign, arms, arm_of, arm_over, arms_of, in_order, result}
+use Rattle.filt_tree.specs.Trees.{Tables, expr, expr_step, exprs, parts, access, access_over, accesses_of, accessed, all_values, chain, joints, stmt, stmt_step, body, assign, arms, arm_of, arm_over, arms_of, in_order, result}
 use Rattle.filt_types.proofs.Trees.{by_parts}
 
 of-Value : (A : Type 0) (step : TExpr-F A → A) (v : Fixed) → fold-TExpr A step (te.Value v) ≡ step (map-TExpr TExpr A (fold-TExpr A step) (TExpr-F.Value v))

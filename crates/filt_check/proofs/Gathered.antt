@@ -1,5 +1,5 @@
 -- The variables that statements declare, one statement after another.
-use Rattle.std.proofs.Common.{◌≡◌, ℕ, ◌+◌, ◌≤◌, List, [], ◌∷◌, ◌++◌, length, map, drop, Option, Some, None, option_map, refl, sym, ap, ◌∙◌, append_assoc, append-nil, Box, Vec, Bor}
+use Rattle.std.proofs.Common.{◌≡◌, ℕ, ◌+◌, ◌≤◌, List, [], ◌∷◌, ◌++◌, length, map, drop, Option, Some, None, refl, sym, ap, ◌∙◌, append_assoc, append-nil, Box, Vec}
 use Rattle.std.specs.Global.{Global}
 use Rattle.std.proofs.lemmas.List.{drop_all, map-append}
 use Rattle.grammar.specs.declared.named.Name.{Name}
@@ -8,19 +8,19 @@ use Rattle.filt_syntax.specs.declared.tree.Expr.{Expr}
 use Rattle.filt_syntax.specs.declared.tree.Stmt.{Stmt}
 use Rattle.filt_syntax.specs.declared.tree.Stmt.TheVariants as s
 use Rattle.filt_syntax.specs.declared.tree.VariableType.{VariableType}
-use Rattle.conf_ast.specs.Filters.{Statement, Arms, Statements, statement_of, statements_of}
+use Rattle.conf_ast.specs.Filters.{Statement, statement_of, statements_of}
 use Rattle.filt_values.specs.declared.value.Sort.{Sort}
 use Rattle.filt_values.specs.Values.{Val, default_of}
 use Rattle.filt_meaning.specs.Meaning as meaning
 use Rattle.filt_meaning.specs.Meaning.{declared, all_declared, arms_declare as all_arms_declare, defaults, within}
 use Rattle.grammar.specs.Names.{name_bytes}
-use Rattle.filt_meaning.specs.Names.{Around, Context, Variable, sort_of_type, with_variables}
+use Rattle.filt_meaning.specs.Names.{Around, Variable, sort_of_type}
 use Rattle.filt_tree.specs.declared.scope.Scope.{Scope}
 use Rattle.filt_tree.specs.Scopes.{context_of}
-use Rattle.filt_types.proofs.Trees.{arms_of}
+use Rattle.filt_types.specs.Walk.{arms_of}
 use Rattle.filt_types.proofs.Trees as o
 use Rattle.filt_check.specs.declared.collect.Declared.{Declared}
-use Rattle.filt_check.specs.Seen.{names_of, name_of, sort_of, variable_of, variables_of, sorts_in, arms_declare, otherwise_declares}
+use Rattle.filt_check.specs.Seen.{name_of, sort_of, variable_of, variables_of, sorts_in, arms_declare, otherwise_declares}
 
 -- ---- lists of statements
 

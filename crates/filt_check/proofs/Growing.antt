@@ -1,5 +1,5 @@
 -- Scopes that declare more.
-use Rattle.std.proofs.Common.{◌≡◌, ℕ, suc, ◌+◌, ◌≤◌, All, List, [], ◌∷◌, ◌++◌, length, map, take, Option, Some, None, Result, Ok, refl, sym, ap, ◌∙◌, arith, slice_get, append_assoc, append-nil, Vec}
+use Rattle.std.proofs.Common.{◌≡◌, ℕ, suc, ◌+◌, ◌≤◌, All, List, [], ◌∷◌, ◌++◌, length, map, take, Some, Ok, refl, sym, ap, ◌∙◌, arith, slice_get, append_assoc, append-nil, Vec}
 use Rattle.std.specs.Global.{Global}
 use Rattle.std.proofs.lemmas.List.{map-append, take-append-le}
 use Rattle.attrs.specs.declared.attributes.Attrs.{Attrs}
@@ -8,12 +8,12 @@ use Rattle.filt_values.specs.Seen.{val_of_fixed}
 use Rattle.filt_values.specs.Values.{Val}
 use Rattle.filt_meaning.specs.Configuration as meaning
 use Rattle.filt_meaning.specs.Configuration.{given_by, verdict_of}
-use Rattle.filt_meaning.specs.Names.{Around, Context, Doing}
+use Rattle.filt_meaning.specs.Names.{Around, Doing}
 use Rattle.filt_tree.specs.declared.scope.Scope.{Scope}
 use Rattle.filt_tree.specs.declared.scope.TFunction.{TFunction}
 use Rattle.filt_tree.specs.declared.tree.TFilter.{TFilter}
 use Rattle.filt_tree.specs.Scopes.{constant_values, constants_in, context_of, function_names, function_trees, named, tables_of}
-use Rattle.filt_tree.specs.Trees.{Tables, first_constants, function, judged, run, tables, with_function, with_functions}
+use Rattle.filt_tree.specs.Trees.{Tables, function, judged, run, tables, with_function, with_functions}
 use Rattle.filt_check.proofs.Lookups.{around_stays, constants_stay, functions_length, mapped_length}
 
 -- ---- filters

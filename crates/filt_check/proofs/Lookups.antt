@@ -1,5 +1,5 @@
 -- Names that are looked up: variables from the end of a list, constants and functions in a map.
-use Rattle.std.proofs.Common.{◌≡◌, ℕ, zero, suc, ◌+◌, ◌-◌, ◌<◌, Bool, true, false, cond, if◌then◌else◌, nat_eq, nat_lt, List, [], ◌∷◌, ◌++◌, length, map, take, get_or, Option, Some, None, option_map, slice_get, position, refl, sym, ap, ◌∙◌, arith, length-append, length-take, append_assoc, rules, not, true≢false, ◌≤◌, Vec, Bor}
+use Rattle.std.proofs.Common.{◌≡◌, ℕ, suc, ◌+◌, ◌-◌, Bool, true, false, cond, if◌then◌else◌, nat_eq, nat_lt, List, [], ◌∷◌, ◌++◌, length, map, take, get_or, Option, Some, None, option_map, position, refl, sym, ap, ◌∙◌, arith, length-append, length-take, rules, not, true≢false, ◌≤◌, Vec, Bor}
 use Rattle.std.specs.List.{position_or_len}
 use Rattle.std.proofs.lemmas.List.{map-append, take_all, take_more}
 use Prim.Native.Nat.compare
@@ -13,10 +13,10 @@ use Rattle.grammar.specs.Names.{name_bytes}
 use Rattle.filt_values.specs.declared.fixed.Fixed.{Fixed}
 use Rattle.filt_values.specs.Seen.{val_of_fixed}
 use Rattle.filt_values.specs.Values.{Val}
-use Rattle.filt_meaning.specs.Names.{Around, Context, Doing, same_name, place_in, or_here, further, named_in, constant_of, function_of}
+use Rattle.filt_meaning.specs.Names.{Around, same_name, place_in, or_here, further, named_in, constant_of, function_of}
 use Rattle.filt_tree.specs.declared.scope.Scope.{Scope}
 use Rattle.filt_tree.specs.declared.scope.TFunction.{TFunction}
-use Rattle.filt_tree.specs.Scopes.{constants_in, constant_values, function_names, function_trees, tables_of, named, context_of}
+use Rattle.filt_tree.specs.Scopes.{constant_values, function_trees, tables_of, named, context_of}
 use Rattle.filt_tree.specs.Trees.{Tables, tables, function, with_function, with_functions}
 use Rattle.filt_check.specs.Seen.{names_of, at_place}
 

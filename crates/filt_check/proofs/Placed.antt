@@ -1,16 +1,12 @@
 -- Names that have become places.
-use Rattle.std.proofs.Common.{◌≡◌, ℕ, List, Option, Some, None, Ok, Err, slice_get, refl, sym, ap, ◌∙◌}
+use Rattle.std.proofs.Common.{◌≡◌, ℕ, List, Option, Some, None, slice_get, refl, sym, ap, ◌∙◌}
 use Rattle.std.proofs.Math.Path.{fun_ext}
 use Rattle.grammar.specs.declared.named.Name.{Name}
 use Rattle.grammar.specs.Names.{name_bytes}
-use Rattle.filt_values.specs.declared.value.Failure.TheVariants as failures
 use Rattle.filt_values.specs.Values.{Val}
-use Rattle.filt_meaning.specs.Flow.{Run}
 use Rattle.filt_meaning.specs.Meaning.{given, variable_or, named}
-use Rattle.filt_meaning.specs.Names.{Around, Context, place_in, place_of, constant_of, there}
-use Rattle.filt_tree.specs.declared.scope.Scope.{Scope}
+use Rattle.filt_meaning.specs.Names.{Context, place_in, constant_of, there}
 use Rattle.filt_tree.specs.declared.tree.TExpr.TheVariants as te
-use Rattle.filt_tree.specs.Scopes.{tables_of, context_of}
 use Rattle.filt_tree.specs.Trees.{Tables, expr}
 use Rattle.filt_check.specs.Seen.{at_place}
 use Rattle.filt_check.proofs.Forms as f

@@ -1,5 +1,5 @@
 -- What resolving keeps of expressions.
-use Rattle.std.proofs.Common.{◌≡◌, ℕ, List, [], ◌∷◌, ◌++◌, map, Option, Some, None, Result, Ok, Err, IfOk, slice_get, refl, sym, ap, ◌∙◌, append_assoc, append-nil, drop, length, ◌≤◌, rules, Box, Vec}
+use Rattle.std.proofs.Common.{◌≡◌, ℕ, List, [], ◌∷◌, ◌++◌, map, Option, Some, None, Result, Err, IfOk, refl, sym, ap, ◌∙◌, append_assoc, append-nil, drop, length, ◌≤◌, Box, Vec}
 use Rattle.std.specs.Global.{Global}
 use Rattle.std.proofs.lemmas.List.{map-append, drop_all}
 use Rattle.std.proofs.lemmas.Result.{IfOk-weaker}
@@ -19,25 +19,25 @@ use Rattle.filt_syntax.specs.declared.tree.Method.{Method}
 use Rattle.filt_syntax.specs.declared.tree.MethodKind.{MethodKind}
 use Rattle.filt_syntax.specs.declared.tree.Simple.{Simple}
 use Rattle.filt_syntax.specs.declared.tree.Term.{Term}
-use Rattle.conf_ast.specs.Filters.{Expression, PropertyOf, Changed, Multiplied, Added, Joined, Expressions, expression_of, expressions_of, accessed, multiplied, added, joined}
+use Rattle.conf_ast.specs.Filters.{Expression, PropertyOf, Changed, Multiplied, Added, Joined, expression_of, expressions_of, accessed, multiplied, added, joined}
 use Rattle.filt_values.specs.declared.value.Failure.{Failure}
 use Rattle.filt_values.specs.declared.value.Failure.TheVariants as failures
 use Rattle.filt_values.specs.Operators.{pair_of, not_of}
 use Rattle.filt_values.specs.Values.{Val}
 use Rattle.filt_meaning.specs.Flow.{Run, Frame}
 use Rattle.filt_meaning.specs.Items.{set_of, mask_of}
-use Rattle.filt_meaning.specs.Meaning.{value, values, plain, named, given, defined, attribute, on_value, on_two, called_value, one_more, factor_of, term_of, compare_of, method_of}
+use Rattle.filt_meaning.specs.Meaning.{value, values, plain, named, given, attribute, on_value, on_two, called_value, one_more, factor_of, term_of, compare_of, method_of}
 use Rattle.filt_meaning.specs.Names.{Around, Context, Doing, function_of}
 use Rattle.filt_tree.specs.declared.scope.Scope.{Scope}
 use Rattle.filt_tree.specs.declared.tree.TAccess.{TAccess}
 use Rattle.filt_tree.specs.declared.tree.TExpr.{TExpr}
 use Rattle.filt_tree.specs.declared.tree.TExpr.TheVariants as te
-use Rattle.filt_tree.specs.Scopes.{tables_of, context_of}
+use Rattle.filt_tree.specs.Scopes.{tables_of}
 use Rattle.filt_tree.specs.Trees as trees
 use Rattle.filt_tree.specs.Trees.{Tables, expr, exprs, all_values}
 use Rattle.filt_types.specs.Walk.{accesses_of, operands_of}
 use Rattle.filt_types.proofs.Trees as o
-use Rattle.filt_check.specs.Seen.{values_in, access_in, accesses_in, parts_in, at_place}
+use Rattle.filt_check.specs.Seen.{values_in, accesses_in, parts_in, at_place}
 use Rattle.filt_check.proofs.Forms as f
 use Rattle.filt_check.proofs.Lookups.{around_is}
 

@@ -1,13 +1,10 @@
 -- Sets and masks of written items, one item after another.
-use Rattle.std.proofs.Common.{◌≡◌, ℕ, suc, ◌+◌, ◌<◌, ◌≤◌, ◌^◌, Bool, true, false, if◌then◌else◌, nat_lt, List, [], ◌∷◌, ◌++◌, length, drop, get_or, Option, Some, None, Result, Ok, Err, refl, sym, ap, ◌∙◌, subst, arith, drop-cons, append_assoc, append-nil, slice_get}
+use Rattle.std.proofs.Common.{◌≡◌, ℕ, suc, ◌+◌, ◌<◌, ◌≤◌, ◌^◌, Bool, true, false, if◌then◌else◌, nat_lt, List, [], ◌∷◌, ◌++◌, length, drop, get_or, Option, Some, None, Result, Ok, Err, refl, sym, ap, ◌∙◌, arith, drop-cons, append_assoc, append-nil, slice_get}
 use Rattle.std.specs.Bool.{⊤}
 use Rattle.std.proofs.lemmas.List.{drop_all}
 use Rattle.std.proofs.lemmas.Option.{none-some}
 use Rattle.std.specs.Option.{unwrap_or}
 use Rattle.bits_ip.specs.Prefix.{Net}
-use Rattle.filt_sets.specs.declared.ints.IntItem.{IntItem}
-use Rattle.filt_sets.specs.declared.pairs.PairItem.{PairItem}
-use Rattle.filt_sets.specs.declared.prefixes.PrefixItem.{PrefixItem}
 use Rattle.filt_sets.specs.declared.mask.MaskItem as set
 use Rattle.filt_syntax.specs.declared.tree.Item.{Item}
 use Rattle.filt_syntax.specs.declared.tree.Item.TheVariants as items
@@ -22,8 +19,8 @@ use Rattle.filt_syntax.specs.declared.tree.Part.{Part}
 use Rattle.filt_values.specs.declared.value.Failure.{Failure}
 use Rattle.filt_values.specs.declared.value.Failure.TheVariants.{Stuck}
 use Rattle.filt_values.specs.Operators.{and_then, int_in}
-use Rattle.filt_values.specs.Values.{Val, VInt, VMask, VIntSet, VPairSet, VPrefixSet}
-use Rattle.filt_meaning.specs.Items.{number, last_number, int_item, pair_part, pair_item, in_8_bits, prefix_length, between, prefix_item, with_int_item, with_pair_item, with_prefix_item, before_set, set_of, mask_item, mask_items, mask_of}
+use Rattle.filt_values.specs.Values.{Val, VInt, VIntSet, VPairSet, VPrefixSet}
+use Rattle.filt_meaning.specs.Items.{number, last_number, int_item, pair_part, pair_item, in_8_bits, prefix_length, prefix_item, with_int_item, with_pair_item, with_prefix_item, before_set, set_of, mask_item, mask_items}
 use Rattle.filt_meaning.specs.Names.{Context, constant_of, there}
 use Rattle.filt_check.specs.Seen.{each, int_of, pair_of, prefix_of}
 

@@ -1,5 +1,5 @@
 -- Whole filters, conditions and functions.
-use Rattle.std.proofs.Common.{◌≡◌, ℕ, ◌+◌, ◌≤◌, List, [], ◌∷◌, ◌++◌, length, map, take, Option, Some, None, refl, sym, ap, ◌∙◌, arith, Box, Vec}
+use Rattle.std.proofs.Common.{◌≡◌, ℕ, ◌+◌, List, [], ◌∷◌, ◌++◌, length, map, take, Option, Some, None, refl, sym, ap, ◌∙◌, arith, Box}
 use Rattle.std.specs.Global.{Global}
 use Rattle.std.proofs.Math.Path.{fun_ext}
 use Rattle.std.proofs.lemmas.List.{take_all}
@@ -13,9 +13,9 @@ use Rattle.filt_values.specs.Seen.{val_of_fixed}
 use Rattle.filt_values.specs.Values.{Val, default_of}
 use Rattle.filt_meaning.specs.Configuration as meaning
 use Rattle.filt_meaning.specs.Configuration.{at_end, given_by, verdict_of, doing, parameter_names}
-use Rattle.filt_meaning.specs.Flow.{Flow, Done, Stopped, AtEnd, Returned, Accepted, Rejected, Faulted, Stuck, Frame, Run}
+use Rattle.filt_meaning.specs.Flow.{Flow, Done, Stopped, AtEnd, Returned, Accepted, Rejected, Faulted, Stuck, Frame}
 use Rattle.filt_meaning.specs.Meaning.{Act, acts, all_declared, choice, defaults, in_turn, nothing, stop, within}
-use Rattle.filt_meaning.specs.Names.{Around, Context, Doing}
+use Rattle.filt_meaning.specs.Names.{Around, Context}
 use Rattle.filt_tree.specs.declared.scope.Scope.{Scope}
 use Rattle.filt_tree.specs.declared.scope.TFunction.{TFunction}
 use Rattle.filt_tree.specs.declared.tree.TExpr.{TExpr}
@@ -23,7 +23,7 @@ use Rattle.filt_tree.specs.declared.tree.TFilter.{TFilter}
 use Rattle.filt_tree.specs.declared.tree.TStmt.{TStmt}
 use Rattle.filt_tree.specs.declared.tree.TStmt.TheVariants as ts
 use Rattle.filt_tree.specs.Scopes.{constant_values, context_of, function_trees, tables_of}
-use Rattle.filt_tree.specs.Trees.{Tables, body, expr, first_constants, function, in_order, judged, run, stmt, tables}
+use Rattle.filt_tree.specs.Trees.{Tables, body, expr, first_constants, function, judged, run, stmt, tables}
 use Rattle.filt_types.specs.Scenes.{Signature}
 use Rattle.filt_types.specs.Statements.{sort_given}
 use Rattle.filt_check.specs.Seen.{sorts_in, where_act}

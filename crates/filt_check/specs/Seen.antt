@@ -1,5 +1,6 @@
 -- For the contracts of private functions: parts of checked trees beside what they stand for.
-use Rattle.std.specs.Prelude.{◌≡◌, ℕ, Bool, List, [], ◌∷◌, ◌++◌, map, Option, Some, None, Result, Ok, Err, slice_get, Vec}
+use Rattle.std.specs.Prelude.{ℕ, List, [], ◌∷◌, ◌++◌, map, Option, Some, None, Result, Ok, Err}
+use Rattle.std.specs.Prelude.{slice_get, Vec}
 use Rattle.std.specs.Global.{Global}
 use Rattle.std.specs.Borrow.{Bor}
 use Rattle.filt_sets.specs.declared.ints.IntItem.{IntItem}
@@ -21,7 +22,8 @@ use Rattle.filt_values.specs.Operators.{and_then}
 use Rattle.filt_values.specs.Values.{Val}
 use Rattle.filt_meaning.specs.Flow.{Accepted, Rejected, Run}
 use Rattle.filt_meaning.specs.Items.{among, int_item, pair_item, prefix_item, set_of}
-use Rattle.filt_meaning.specs.Meaning.{Act, act, acts, all_declared, arm, choice, in_turn, nothing, stop, value}
+use Rattle.filt_meaning.specs.Meaning.{Act, act, acts, all_declared, arm, choice, in_turn, nothing}
+use Rattle.filt_meaning.specs.Meaning.{stop, value}
 use Rattle.filt_meaning.specs.Names.{Context, Variable, sort_of_type}
 use Rattle.filt_tree.specs.declared.tree.TAccess.{TAccess}
 use Rattle.filt_tree.specs.declared.tree.TAccess.TheVariants as checked

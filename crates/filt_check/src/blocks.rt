@@ -1,13 +1,15 @@
 // Statements from names to places.
 
-ghost use Rattle.std.specs.Prelude.{◌≡◌, List, ℕ, [], ◌∷◌, IfOk, map};
+ghost use Rattle.std.specs.Prelude.{◌≡◌, [], ◌∷◌, IfOk};
 ghost use Rattle.grammar.specs.Names.{name_bytes};
 ghost use Rattle.conf_ast.specs.Filters.{Braced, expression_of, statement_of, statements_of};
-ghost use Rattle.filt_meaning.specs.Meaning.{act, acts, all_declared, cases, choice, loop, nothing, value, within};
+ghost use Rattle.filt_meaning.specs.Meaning.{act, acts, all_declared, cases, choice, loop, nothing};
+ghost use Rattle.filt_meaning.specs.Meaning.{value, within};
 ghost use Rattle.filt_meaning.specs.Names.{Around, with_variables};
 ghost use Rattle.filt_tree.specs.Scopes.{context_of, tables_of};
 ghost use Rattle.filt_tree.specs.Trees as trees;
-ghost use Rattle.filt_check.specs.Seen.{names_of, sorts_in, acts_in, arm_seen, arms_seen, arm_in, arms_in, otherwise_in, picked};
+ghost use Rattle.filt_check.specs.Seen.{names_of, sorts_in, acts_in, arm_seen, arms_seen, arm_in};
+ghost use Rattle.filt_check.specs.Seen.{arms_in, otherwise_in, picked};
 
 use crate::collect::{collect_all, sorts_of, with_declared, with_name};
 use crate::items::set_of;

@@ -1,6 +1,6 @@
 // The public calls. Each asks for the first refusal, and resolves what has none.
 
-ghost use Rattle.std.specs.Prelude.{◌≡◌, ◌+◌, ◌^◌, [], List, length, min, None, IfOk, MatchResult};
+ghost use Rattle.std.specs.Prelude.{◌≡◌, [], length, None, IfOk, MatchResult};
 ghost use Rattle.attrs.specs.declared.attributes.Attrs.{Attrs};
 ghost use Rattle.conf_ast.specs.Configurations.{routine_of};
 ghost use Rattle.conf_ast.specs.Filters.{block_of, expression_of, statements_of};
@@ -11,20 +11,20 @@ ghost use Rattle.filt_tree.specs.Scopes.{constant_values, context_of, function_t
 ghost use Rattle.filt_tree.specs.Trees as trees;
 ghost use Rattle.filt_types.specs.Refusals.{first_in};
 ghost use Rattle.filt_types.specs.Seen.{scene_of, signature_of};
-ghost use Rattle.filt_types.specs.Statements.{sort_given};
-ghost use Rattle.filt_types.specs.Weight.{block_weight, capped};
+ghost use Rattle.filt_types.specs.Weight.{block_weight};
 ghost use Rattle.filt_check.specs.Answers.{IsFault, of_filter, of_function, signature_in};
 ghost use Rattle.filt_check.specs.Seen.{where_act};
 
 use crate::blocks::resolve_block;
-use crate::collect::{parameter_names, parameter_sorts, sort_of_type};
+use crate::collect::{parameter_names, parameter_sorts};
 use crate::fault::{TypeFault, fault};
 use crate::resolve::resolve;
 use bits_ip::OutOfMemory;
-use filt_rules::{first_in_block, first_in_condition, first_in_function, weigh, weigh_block};
-use filt_syntax::{Block, Expr, Filter, Function, Stmt, VariableType};
+use filt_rules::{
+    first_in_block, first_in_condition, first_in_function, sort_given, weigh_block, weigh_condition,
+};
+use filt_syntax::{Block, Expr, Filter, Function, Stmt};
 use filt_tree::{Scope, TExpr, TFilter, TFunction, TStmt};
-use filt_values::Sort;
 use std::alloc::Global;
 
 // ---- filters
@@ -140,15 +140,6 @@ pub fn check_expr(
     }
 }
 
-/// Its block, `if`, `accept` and `reject` weigh 1 each.
-fn weigh_condition(text: &[u8], scope: &Scope, condition: &Expr) -> u128
-    ensures { result ≡ capped (block_weight (scene_of text.now scope.now)
-        (filter_where (expression_of condition.now))) }
-{
-    const CAP: u128 = 170141183460469231731687303715884105728;
-    (weigh(text, scope, condition) + 4).min(CAP)
-}
-
 fn where_body(alloc: Global, condition: TExpr) -> Result<Vec<TStmt>, OutOfMemory>
     ensures { IfOk result (λ v. (tables : trees.Tables) → trees.body tables v.items
         ≡ where_act (trees.expr condition tables)) }
@@ -238,13 +229,4 @@ fn resolve_function(
         sorts: block.sorts,
         body: block.body,
     })
-}
-
-fn sort_given(gives: Option<VariableType>) -> Option<Sort>
-    ensures { result ≡ sort_given gives }
-{
-    match gives {
-        None => None,
-        Some(variable_type) => Some(sort_of_type(variable_type)),
-    }
 }

@@ -6,9 +6,11 @@ ghost use Rattle.conf_ast.specs.Filters.{statement_of, statements_of};
 ghost use Rattle.filt_meaning.specs.Configuration.{parameter_names};
 ghost use Rattle.filt_meaning.specs.Meaning.{declared, all_declared};
 ghost use Rattle.filt_meaning.specs.Names.{sort_of_type};
-ghost use Rattle.filt_check.specs.Seen.{names_of, variables_of, name_of, sort_of, arms_declare, otherwise_declares, parameter_sorts};
+ghost use Rattle.filt_check.specs.Seen.{names_of, variables_of, name_of, sort_of, arms_declare};
+ghost use Rattle.filt_check.specs.Seen.{otherwise_declares, parameter_sorts};
 
 use bits_ip::OutOfMemory;
+use filt_rules::type_sort;
 use filt_syntax::{Arm, Parameter, Stmt, VariableType};
 use filt_values::Sort;
 use grammar::Name;
@@ -19,26 +21,6 @@ use std::alloc::Global;
 pub(crate) struct Declared<'a> {
     pub name: &'a [u8],
     pub sort: Sort,
-}
-
-/// The sort of the values of a type's variables.
-pub(crate) fn sort_of_type(variable_type: VariableType) -> Sort
-    ensures { result ≡ sort_of_type variable_type }
-{
-    match variable_type {
-        VariableType::Int => Sort::Int,
-        VariableType::Bool => Sort::Bool,
-        VariableType::Ip => Sort::Ip,
-        VariableType::Prefix => Sort::Prefix,
-        VariableType::Pair => Sort::Pair,
-        VariableType::String => Sort::String,
-        VariableType::Path => Sort::Path,
-        VariableType::Mask => Sort::Mask,
-        VariableType::Clist => Sort::Clist,
-        VariableType::IntSet => Sort::IntSet,
-        VariableType::PairSet => Sort::PairSet,
-        VariableType::PrefixSet => Sort::PrefixSet,
-    }
 }
 
 fn push_declared<'a>(
@@ -54,7 +36,7 @@ fn push_declared<'a>(
 {
     out.push(Declared {
         name: name.bytes(text),
-        sort: sort_of_type(variable_type),
+        sort: type_sort(variable_type),
     })?;
     Ok(())
 }
@@ -220,7 +202,7 @@ pub(crate) fn parameter_sorts(
 {
     let mut all = Vec::new(alloc);
     for parameter in parameters {
-        all.push(sort_of_type(parameter.variable_type))?;
+        all.push(type_sort(parameter.variable_type))?;
     }
     Ok(all)
 }

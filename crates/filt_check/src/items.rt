@@ -128,7 +128,8 @@ fn prefix_length(text: &[u8], scope: &Scope, n: &Num) -> Option<u8>
 
 fn between(text: &[u8], scope: &Scope, net: &Prefix, low: &Num, high: &Num) -> Option<PrefixItem>
     ensures { (around : Around) (variables : List (List ℕ)) → there result
-        ≡ written.between (context_of text.now around scope.now variables) net.now low.now high.now }
+        ≡ written.between (context_of text.now around scope.now variables) net.now low.now
+        high.now }
 {
     let lo = prefix_length(text, scope, low)?;
     let hi = prefix_length(text, scope, high)?;

@@ -1,6 +1,7 @@
 //! What follows from the definitions alone. The functions are empty: their clauses are the laws.
 
-ghost use Rattle.std.specs.Prelude.{◌≡◌, ℕ, ◌≤◌, ◌⊎◌, All, List, [], ◌∷◌, ◌++◌, length, Option, None, Some, Ok, slice_get, Vec};
+ghost use Rattle.std.specs.Prelude.{◌≡◌, ℕ, ◌≤◌, ◌⊎◌, All, List, [], ◌∷◌, ◌++◌, length, None, Some};
+ghost use Rattle.std.specs.Prelude.{Ok, slice_get, Vec};
 ghost use Rattle.std.specs.Global.{Global};
 ghost use Rattle.attrs.specs.declared.attributes.Attrs.{Attrs};
 ghost use Rattle.filt_values.specs.declared.fixed.Fixed.{Fixed};

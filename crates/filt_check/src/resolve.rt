@@ -3,7 +3,8 @@
 
 ghost use Rattle.std.specs.Prelude.{◌≡◌, List, ℕ, IfOk, Ok, take, drop};
 ghost use Rattle.conf_ast.specs.Filters.{expression_of};
-ghost use Rattle.filt_meaning.specs.Meaning.{value, plain, given, on_two, called_value, factor_of, term_of};
+ghost use Rattle.filt_meaning.specs.Meaning.{value, plain, given, on_two, called_value, factor_of};
+ghost use Rattle.filt_meaning.specs.Meaning.{term_of};
 ghost use Rattle.filt_meaning.specs.Meaning as meaning;
 ghost use Rattle.filt_meaning.specs.Attributes.{value_of_constant};
 ghost use Rattle.filt_meaning.specs.Items.{mask_of, set_of};

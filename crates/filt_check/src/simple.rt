@@ -1,10 +1,11 @@
 // Statements without statements in them, from names to places.
 
-ghost use Rattle.std.specs.Prelude.{◌≡◌, List, ℕ, IfOk, Some, option_map};
+ghost use Rattle.std.specs.Prelude.{◌≡◌, IfOk, Some, option_map};
 ghost use Rattle.conf_ast.specs.Filters.{expression_of, changed};
 ghost use Rattle.filt_syntax.specs.declared.tree.Target.TheVariants as targets;
 ghost use Rattle.filt_meaning.specs.Meaning as meaning;
-ghost use Rattle.filt_meaning.specs.Meaning.{act, assign, call, evaluate, initial, on_two, on_value, read, set_target, value};
+ghost use Rattle.filt_meaning.specs.Meaning.{act, assign, call, evaluate, initial, on_two};
+ghost use Rattle.filt_meaning.specs.Meaning.{on_value, read, set_target, value};
 ghost use Rattle.filt_values.specs.Operators.{emptied_of};
 ghost use Rattle.filt_meaning.specs.Names.{Around, function_of};
 ghost use Rattle.filt_tree.specs.declared.scope.Scope.{Scope};
@@ -12,10 +13,10 @@ ghost use Rattle.filt_tree.specs.Scopes.{context_of, tables_of};
 ghost use Rattle.filt_tree.specs.Trees as trees;
 ghost use Rattle.filt_check.specs.Seen.{names_of, values_in};
 
-use crate::collect::sort_of_type;
 use crate::names::{function, named, place};
 use crate::resolve::{boxed, resolve, resolve_all};
 use bits_ip::OutOfMemory;
+use filt_rules::type_sort;
 use filt_syntax::{Change, Expr, MethodKind, Target, VariableType};
 use filt_tree::{Scope, TExpr, TStmt, TTarget};
 use grammar::Name;
@@ -75,7 +76,7 @@ pub(crate) fn declare(
 {
     match first {
         None => {
-            let empty = TExpr::Default(sort_of_type(variable_type));
+            let empty = TExpr::Default(type_sort(variable_type));
             Ok(TStmt::Assign(variable(text, names, name), empty))
         }
         Some(e) => {

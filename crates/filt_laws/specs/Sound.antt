@@ -6,7 +6,8 @@ use Rattle.filt_syntax.specs.declared.tree.Parameter.{Parameter}
 use Rattle.conf_ast.specs.Configurations.{Routine}
 use Rattle.filt_values.specs.declared.value.Sort.{Sort}
 use Rattle.filt_values.specs.Values.{Val, sort_of}
-use Rattle.filt_meaning.specs.Flow.{Why, AtEnd, Returned, Accepted, Rejected, Faulted, Stuck, Flow, Done, Stopped, Frame}
+use Rattle.filt_meaning.specs.Flow.{Why, AtEnd, Returned, Accepted, Rejected, Faulted, Stuck, Flow}
+use Rattle.filt_meaning.specs.Flow.{Done, Stopped, Frame}
 use Rattle.filt_meaning.specs.Names.{Doing, Context, sort_of_type}
 use Rattle.filt_types.specs.Scenes.{Scene, Signature}
 use Rattle.filt_types.specs.Statements.{sort_given}

@@ -5,13 +5,15 @@ ghost use Rattle.conf_ast.specs.Configurations.{Declaration, Routine};
 ghost use Rattle.conf_ast.specs.Filters.{Expression, Statements};
 ghost use Rattle.filt_values.specs.declared.value.Failure.{Failure};
 ghost use Rattle.filt_values.specs.Values.{Val};
-ghost use Rattle.filt_meaning.specs.Configuration.{at_start, behind, body, doing, filter_where, judged, of_text, with_constant, with_function};
+ghost use Rattle.filt_meaning.specs.Configuration.{at_start, behind, body, doing, filter_where};
+ghost use Rattle.filt_meaning.specs.Configuration.{judged, of_text, with_constant, with_function};
 ghost use Rattle.filt_meaning.specs.Flow.{Rejected, Returned, Stuck, Stopped};
 ghost use Rattle.filt_meaning.specs.Names.{Around, Context};
 ghost use Rattle.filt_meaning.specs.Worked.{counts, names, passes_over, prepends_one, prepends_two};
 ghost use Rattle.filt_types.specs.Scenes.{Scene};
 ghost use Rattle.filt_types.specs.Statements.{in_filter, in_function};
-ghost use Rattle.filt_laws.specs.Behind.{refused_in_functions, seen_at_start, seen_behind, seen_in_text, with_signature, with_value};
+ghost use Rattle.filt_laws.specs.Behind.{refused_in_functions, seen_at_start, seen_behind};
+ghost use Rattle.filt_laws.specs.Behind.{seen_in_text, with_signature, with_value};
 ghost use Rattle.filt_laws.specs.Operators.{AreTyped};
 ghost use Rattle.filt_laws.specs.Sound.{Agrees, IsOfSignature, signature_of};
 
@@ -32,8 +34,8 @@ fn operators_are_typed()
     methods_are_typed();
 }
 
-/// A filter in which nothing is refused isn't stuck, and gives no value: so where it rejects without
-/// a fault it has come to `reject`.
+/// A filter in which nothing is refused isn't stuck, and gives no value: so where it rejects
+/// without a fault it has come to `reject`.
 pub fn typed_filters_are_never_stuck()
     ensures stuck { (scene : Scene) (c : Context) → Agrees scene c
         → (ss : Statements) → in_filter scene ss ≡ []

@@ -25,16 +25,15 @@ use Rattle.filt_types.specs.declared.scene.Variable.{Variable as SeenVariable}
 use Rattle.filt_types.specs.declared.judged.Judged.{Judged}
 use Rattle.filt_types.specs.Expressions.{Judgement, judge, is_other, wants, wanted, constant_word}
 use Rattle.filt_types.specs.Items.{Common, common, differ, with_sort, is_empty, sorts_of_items, sort_of_item, all_items, item}
-use Rattle.filt_rules.specs.Passes.{arms_of, body_seen, else_of, own, inside}
+use Rattle.filt_rules.specs.Passes.{body_seen, else_of, own, inside}
 use Rattle.filt_types.specs.Refusals.{first_in, first_of, refused_if}
 use Rattle.filt_types.specs.Rules.{one_of_cases, same_sort}
 use Rattle.filt_types.specs.Scenes.{Scene, Variable, Variables, declared, declaring}
 use Rattle.filt_types.specs.Seen.{variable_seen, variables_of}
 use Rattle.filt_types.specs.Statements.{Around, Checked, plainly, check, check_all, check_arms, parameters, labels, lacks_labels, assigned_dest, is_dest_word, no_sort, returned, over_list, lists_of, is_other_list, cases, of_value, sort_given}
-use Rattle.filt_types.specs.Walk.{said_of}
+use Rattle.filt_types.specs.Walk.{arms_of, said_of}
 use Rattle.filt_types.proofs.Firsts.{first_append, first_two, first_rest}
 use Rattle.filt_types.proofs.Trees as o
-use Rattle.filt_rules.proofs.Weighing.{same_arms}
 
 -- ---- lists
 
@@ -204,15 +203,14 @@ if_else_first a vs x b d f =
     ∙ first_append f (check a vs (statement_of b.value)).refusals (check a (check a vs (statement_of b.value)).variables (statement_of d.value)).refusals
 
 pub inside-Case : (a : Around) (vs : Variables) (at : ℕ) (x : Expr) (v : Vec (Arm Stmt) Global) (other : Option (Vec Stmt Global)) → (inside a vs (statement_of (s.Case at x v other))).variables ≡ (check_all a (check_arms a vs (arms_of v.items)).variables (else_of other)).variables
-inside-Case a vs at x v None = ap (λ (st : Statement). (inside a vs st).variables) (o.as-Case at x v) ∙ ap (λ (more : Arms). (check_arms a vs more).variables) (same_arms v.items)
-inside-Case a vs at x v (Some w) = ap (λ (st : Statement). (inside a vs st).variables) (o.as-CaseElse at x v w) ∙ ap (λ (more : Arms). (check_all a (check_arms a vs more).variables (statements_of w.items)).variables) (same_arms v.items)
+inside-Case a vs at x v None = ap (λ (st : Statement). (inside a vs st).variables) (o.as-Case at x v)
+inside-Case a vs at x v (Some w) = ap (λ (st : Statement). (inside a vs st).variables) (o.as-CaseElse at x v w)
 
 pub case_first : (a : Around) (vs : Variables) (at : ℕ) (x : Expr) (v : Vec (Arm Stmt) Global) (other : Option (Vec Stmt Global)) (f : Option Refusal) → first_in f (inside a vs (statement_of (s.Case at x v other))).refusals ≡ first_in (first_in f (check_arms a vs (arms_of v.items)).refusals) (check_all a (check_arms a vs (arms_of v.items)).variables (else_of other)).refusals
-case_first a vs at x v None f = ap (λ (st : Statement). first_in f (inside a vs st).refusals) (o.as-Case at x v) ∙ ap (λ (more : Arms). first_in f (check_arms a vs more).refusals) (same_arms v.items)
+case_first a vs at x v None f = ap (λ (st : Statement). first_in f (inside a vs st).refusals) (o.as-Case at x v)
 case_first a vs at x v (Some w) f =
     ap (λ (st : Statement). first_in f (inside a vs st).refusals) (o.as-CaseElse at x v w)
-    ∙ first_append f (check_arms a vs (o.arms_of v.items)).refusals (check_all a (check_arms a vs (o.arms_of v.items)).variables (statements_of w.items)).refusals
-    ∙ ap (λ (more : Arms). first_in (first_in f (check_arms a vs more).refusals) (check_all a (check_arms a vs more).variables (statements_of w.items)).refusals) (same_arms v.items)
+    ∙ first_append f (check_arms a vs (arms_of v.items)).refusals (check_all a (check_arms a vs (arms_of v.items)).variables (statements_of w.items)).refusals
 
 pub inside-For : (a : Around) (vs : Variables) (at : ℕ) (t : VariableType) (n : Name) (x : Expr) (b : Box Stmt Global) → inside a vs (statement_of (s.For at t n x b)) ≡ body_seen a vs t n (statement_of b.value)
 inside-For a vs at t n x b = ap (λ (st : Statement). inside a vs st) (o.as-For at t n x b)
@@ -313,8 +311,8 @@ change_first a vs target changes.Empty = sym (ap (λ (st : Statement). own a vs 
 change_first a vs target (changes.Method m place e) = sym (ap (λ (st : Statement). own a vs st) (o.as-Change target (changes.Method m place e)))
 
 pub own-Case : (a : Around) (vs : Variables) (at : ℕ) (x : Expr) (v : Vec (Arm Stmt) Global) (other : Option (Vec Stmt Global)) → own a vs (statement_of (s.Case at x v other)) ≡ cases a.scene at (judge a.scene vs (expression_of x)) (arms_of v.items)
-own-Case a vs at x v None = ap (λ (st : Statement). own a vs st) (o.as-Case at x v) ∙ ap (λ (more : Arms). cases a.scene at (judge a.scene vs (expression_of x)) more) (same_arms v.items)
-own-Case a vs at x v (Some w) = ap (λ (st : Statement). own a vs st) (o.as-CaseElse at x v w) ∙ ap (λ (more : Arms). cases a.scene at (judge a.scene vs (expression_of x)) more) (same_arms v.items)
+own-Case a vs at x v None = ap (λ (st : Statement). own a vs st) (o.as-Case at x v)
+own-Case a vs at x v (Some w) = ap (λ (st : Statement). own a vs st) (o.as-CaseElse at x v w)
 
 pub cases_first : (scene : Scene) (at : ℕ) (j : Judgement) (judged : Judged) (more : Arms) (other lacks wrong : Bool) (start found : Common) (f g h i k : Option Refusal) → judged ≡ said_of j → other ≡ is_other one_of_cases judged.sort → start ≡ of_value judged.sort → found ≡ common start (sorts_of_items scene (labels more)) → lacks ≡ lacks_labels more → wrong ≡ differ found → g ≡ first_in f j.refusals → h ≡ first_in g (refused_if other judged.at causes.Mismatch) → i ≡ first_in h (all_items scene (labels more)) → k ≡ first_in i (refused_if (lacks || wrong) at causes.Mismatch) → k ≡ first_in f (cases scene at j more)
 cases_first scene at j judged more other lacks wrong start found f g h i k is test starts finds is_lacking is_wrong p q r u =

@@ -1,5 +1,5 @@
 -- The weight of each form that has a list, and of the statements with parts.
-use Rattle.std.proofs.Common.{◌≡◌, ℕ, arith, ◌+◌, List, [], ◌∷◌, Option, Some, None, refl, ap, Vec}
+use Rattle.std.proofs.Common.{◌≡◌, ℕ, arith, ◌+◌, List, [], ◌∷◌, Option, Some, None, ap, Vec}
 use Rattle.std.specs.Global.{Global}
 use Rattle.filt_syntax.specs.declared.tree.Access.{Access}
 use Rattle.filt_syntax.specs.declared.tree.Access.TheVariants as accesses
@@ -10,10 +10,10 @@ use Rattle.filt_syntax.specs.declared.tree.Joint.{Joint}
 use Rattle.filt_syntax.specs.declared.tree.Stmt.{Stmt}
 use Rattle.filt_syntax.specs.declared.tree.Stmt.TheVariants as s
 use Rattle.filt_syntax.specs.declared.tree.Term.{Term}
-use Rattle.conf_ast.specs.Filters.{Expression, PropertyOf, Changed, Multiplied, Added, Joined, multiplied, added, joined, accessed, expression_of, statement_of, statements_of, Statement, Arms, AndArms}
-use Rattle.filt_rules.specs.Passes.{access_weight, arms_of, else_of}
+use Rattle.conf_ast.specs.Filters.{Expression, PropertyOf, Changed, Multiplied, Added, Joined, multiplied, added, joined, accessed, expression_of, statement_of, Statement}
+use Rattle.filt_rules.specs.Passes.{access_weight, else_of}
 use Rattle.filt_types.specs.Scenes.{Scene}
-use Rattle.filt_types.specs.Walk.{accesses_of, operands_of}
+use Rattle.filt_types.specs.Walk.{accesses_of, arms_of, operands_of}
 use Rattle.filt_types.specs.Weight.{weight, act_weight, acts_weight, arms_weight}
 use Rattle.filt_types.proofs.Trees as o
 
@@ -43,16 +43,10 @@ of-accessed scene a [] = omega arith
 of-accessed scene a (accesses.Property p ∷ xs) = let h = of-accessed scene (PropertyOf a p) xs in omega (arith, h)
 of-accessed scene a (accesses.Method m place x ∷ xs) = let h = of-accessed scene (Changed a m place (expression_of x)) xs in omega (arith, h)
 
-pub same_arms : (xs : List (Arm Stmt)) → o.arms_of xs ≡ arms_of xs
-same_arms [] = refl
-same_arms (x ∷ xs) = ap (λ (more : Arms). AndArms x.labels.items (statements_of x.body.items) more) (same_arms xs)
-
 pub of-Case : (scene : Scene) (at : ℕ) (x : Expr) (v : Vec (Arm Stmt) Global) (other : Option (Vec Stmt Global)) → act_weight scene (statement_of (s.Case at x v other)) ≡ 1 + weight scene (expression_of x) + arms_weight scene (arms_of v.items) + acts_weight scene (else_of other)
 of-Case scene at x v None =
     let e = ap (λ (st : Statement). act_weight scene st) (o.as-Case at x v) in
-    let f = ap (λ (more : Arms). arms_weight scene more) (same_arms v.items) in
-    omega (arith, e, f)
+    omega (arith, e)
 of-Case scene at x v (Some w) =
     let e = ap (λ (st : Statement). act_weight scene st) (o.as-CaseElse at x v w) in
-    let f = ap (λ (more : Arms). arms_weight scene more) (same_arms v.items) in
-    omega (arith, e, f)
+    omega (arith, e)

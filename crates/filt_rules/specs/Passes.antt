@@ -1,15 +1,17 @@
 -- What the passes over statements keep while they go, and parts of trees, as the definitions see
 -- them. What is refused and what filters weigh rests on nothing here.
-use Rattle.std.specs.Prelude.{ℕ, ◌+◌, true, not, List, [], ◌∷◌, ◌++◌, length, Option, Some, None, Vec}
+use Rattle.std.specs.Prelude.{ℕ, ◌+◌, true, not, List, [], ◌∷◌, ◌++◌, length, Option, Some, None}
+use Rattle.std.specs.Prelude.{Vec}
 use Rattle.std.specs.Global.{Global}
 use Rattle.grammar.specs.declared.named.Name.{Name}
 use Rattle.filt_syntax.specs.declared.tree.Access.{Access}
 use Rattle.filt_syntax.specs.declared.tree.Access.TheVariants as accesses
-use Rattle.filt_syntax.specs.declared.tree.Arm.{Arm}
 use Rattle.filt_syntax.specs.declared.tree.Expr.{Expr}
 use Rattle.filt_syntax.specs.declared.tree.Stmt.{Stmt}
 use Rattle.filt_syntax.specs.declared.tree.VariableType.{VariableType}
-use Rattle.conf_ast.specs.Filters.{expression_of, Statement, Braced, Declare, Assign, ChangeBy, Clear, Unset, If, IfElse, Case, CaseElse, For, Return, Print, PrintPart, Call, Statements, NoStatements, statements_of, Arms, NoArms, AndArms}
+use Rattle.conf_ast.specs.Filters.{expression_of, Statement, Braced, Declare, Assign, ChangeBy}
+use Rattle.conf_ast.specs.Filters.{Clear, Unset, If, IfElse, Case, CaseElse, For, Return, Print}
+use Rattle.conf_ast.specs.Filters.{PrintPart, Call, Statements, NoStatements, statements_of}
 use Rattle.filt_values.specs.Sorts.{one_bool}
 use Rattle.filt_meaning.specs.Names.{sort_of_type}
 use Rattle.filt_types.specs.declared.refusal.Cause.TheVariants as causes
@@ -23,14 +25,12 @@ use Rattle.filt_types.specs.Rules.{can_be_unset}
 use Rattle.filt_types.specs.Scenes.{Scene, Variables, function_of, declaring, declared}
 use Rattle.filt_types.specs.Seen.{scene_of}
 use Rattle.filt_types.specs.Statements as statements
-use Rattle.filt_types.specs.Statements.{Checked, plainly, in_turn, assign, place_of, changed, aim, cleared, cases, over_list, without, return, check, check_all, check_arms}
+use Rattle.filt_types.specs.Statements.{Checked, plainly, in_turn, assign, place_of, changed, aim}
+use Rattle.filt_types.specs.Statements.{cleared, cases, over_list, without, return, check}
+use Rattle.filt_types.specs.Statements.{check_all, check_arms}
 use Rattle.filt_types.specs.Weight.{weight}
 
 -- ---- parts of trees
-
-abbrev pub arms_of : List (Arm Stmt) → Arms
-arms_of [] = NoArms
-arms_of (a ∷ more) = AndArms a.labels.items (statements_of a.body.items) (arms_of more)
 
 -- what stands behind `else:`, if anything
 abbrev pub else_of : Option (Vec Stmt Global) → Statements

@@ -55,8 +55,8 @@ pub fn first_in_block(
     Ok(first)
 }
 
-/// The first of what is refused in a condition, which is the filter that accepts where it holds. One
-/// that is too heavy is refused at the place `at`. It takes no memory.
+/// The first of what is refused in a condition, which is the filter that accepts where it holds.
+/// One that is too heavy is refused at the place `at`. It takes no memory.
 pub fn first_in_condition(
     text: &[u8],
     scope: &Scope,
@@ -113,7 +113,8 @@ pub fn first_in_function(
     Ok(first)
 }
 
-fn sort_given(gives: Option<VariableType>) -> Option<Sort>
+/// The sort of what a function gives, if it gives a value.
+pub fn sort_given(gives: Option<VariableType>) -> Option<Sort>
     ensures { result ≡ statements.sort_given gives }
 {
     match gives {

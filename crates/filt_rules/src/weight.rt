@@ -1,14 +1,17 @@
 //! How much filters weigh. Sums stop at 2^127.
 
-ghost use Rattle.std.specs.Prelude.{◌≡◌, ℕ, ◌+◌, ◌*◌, ◌≤◌, ◌^◌, min, option_map};
+ghost use Rattle.std.specs.Prelude.{◌≡◌, ◌+◌, ◌*◌, ◌≤◌, ◌^◌, min, option_map};
 ghost use Rattle.filt_syntax.specs.declared.tree.Target.{Target};
-ghost use Rattle.conf_ast.specs.Filters.{Expression, multiplied, added, joined, accessed, changed, expression_of, expressions_of, statement_of, statements_of, block_of};
+ghost use Rattle.conf_ast.specs.Filters.{multiplied, added, joined, accessed, changed};
+ghost use Rattle.conf_ast.specs.Filters.{expression_of, expressions_of, statement_of};
+ghost use Rattle.conf_ast.specs.Filters.{statements_of, block_of};
 ghost use Rattle.filt_meaning.specs.Configuration.{filter_where};
 ghost use Rattle.filt_types.specs.Scenes.{function_of};
-ghost use Rattle.filt_rules.specs.Passes.{access_weight, arms_of, else_of};
+ghost use Rattle.filt_rules.specs.Passes.{access_weight, else_of};
 ghost use Rattle.filt_types.specs.Seen.{scene_of};
-ghost use Rattle.filt_types.specs.Walk.{accesses_of, operands_of};
-ghost use Rattle.filt_types.specs.Weight.{weight, weights, optional, act_weight, acts_weight, arms_weight, block_weight, of_function, capped};
+ghost use Rattle.filt_types.specs.Walk.{accesses_of, arms_of, operands_of};
+ghost use Rattle.filt_types.specs.Weight.{weight, weights, optional, act_weight, acts_weight};
+ghost use Rattle.filt_types.specs.Weight.{arms_weight, block_weight, of_function, capped};
 
 use filt_syntax::{Access, Arm, Block, Change, Expr, Factor, Joint, Stmt, Term};
 use filt_tree::Scope;
@@ -333,8 +336,9 @@ pub fn weigh_block(text: &[u8], scope: &Scope, block: &Block) -> u128
     plus(1, weigh_statements(text, scope, &block.statements))
 }
 
-/// The filter that accepts where the condition holds, and rejects elsewhere.
-pub(crate) fn weigh_condition(text: &[u8], scope: &Scope, condition: &Expr) -> u128
+/// How much a condition weighs, at most 2^127: it is the filter that accepts where it holds, and
+/// rejects elsewhere.
+pub fn weigh_condition(text: &[u8], scope: &Scope, condition: &Expr) -> u128
     ensures { result
         ≡ capped (block_weight (scene_of text.now scope.now)
         (filter_where (expression_of condition.now))) }

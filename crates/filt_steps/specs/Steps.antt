@@ -4,21 +4,29 @@
 -- filt_meaning/specs/Meaning.
 -- A target, the items of a set or a mask and the labels of an arm are no expressions: they are read
 -- in the step of what they stand in.
-use Rattle.std.specs.Prelude.{ℕ, ◌+◌, Bool, true, false, List, [], ◌∷◌, ◌++◌, length, take, Option, Some, None, Result}
+use Rattle.std.specs.Prelude.{ℕ, ◌+◌, Bool, true, false, List, [], ◌∷◌, ◌++◌, length, take, Option}
+use Rattle.std.specs.Prelude.{Some, None, Result}
 use Rattle.attrs.specs.declared.attributes.Attrs.{Attrs}
 use Rattle.grammar.specs.declared.named.Name.{Name}
 use Rattle.grammar.specs.Names.{name_bytes}
 use Rattle.filt_syntax.specs.declared.tree.Joint.{Joint}
 use Rattle.filt_syntax.specs.declared.tree.Joint.TheVariants as joints
 use Rattle.conf_ast.specs.Configurations.{Routine}
-use Rattle.conf_ast.specs.Filters.{Expression, Plain, Named, Called, Grouped, Paired, SetOf, MaskOf, IsDefined, MethodOf, PropertyOf, Changed, Negated, Multiplied, Added, Compared, Joined, Expressions, NoExpressions, AndExpressions, Statement, Braced, Nothing, Declare, Assign, ChangeBy, Clear, Unset, If, IfElse, Case, CaseElse, For, Accept, Reject, Return, Print, PrintPart, Call, Statements, NoStatements, AndStatements, Arms, NoArms, AndArms}
+use Rattle.conf_ast.specs.Filters.{Expression, Plain, Named, Called, Grouped, Paired, SetOf, MaskOf}
+use Rattle.conf_ast.specs.Filters.{IsDefined, MethodOf, PropertyOf, Changed, Negated, Multiplied}
+use Rattle.conf_ast.specs.Filters.{Added, Compared, Joined, Expressions, NoExpressions}
+use Rattle.conf_ast.specs.Filters.{AndExpressions, Statement, Braced, Nothing, Declare, Assign}
+use Rattle.conf_ast.specs.Filters.{ChangeBy, Clear, Unset, If, IfElse, Case, CaseElse, For, Accept}
+use Rattle.conf_ast.specs.Filters.{Reject, Return, Print, PrintPart, Call, Statements, NoStatements}
+use Rattle.conf_ast.specs.Filters.{AndStatements, Arms, NoArms, AndArms}
 use Rattle.filt_values.specs.declared.value.Failure.{Failure}
 use Rattle.filt_values.specs.Operators.{bool_in}
 use Rattle.filt_values.specs.Values.{Val}
 use Rattle.filt_meaning.specs.Configuration.{parameter_names, with_parameters}
 use Rattle.filt_meaning.specs.Flow.{Flow, Done, Stopped, Frame, Run, plainly}
 use Rattle.filt_meaning.specs.Items.{has_label}
-use Rattle.filt_meaning.specs.Meaning.{Act, act, all_declared, defaults, elements, read, value, values, within}
+use Rattle.filt_meaning.specs.Meaning.{Act, act, all_declared, defaults, elements, read, value}
+use Rattle.filt_meaning.specs.Meaning.{values, within}
 use Rattle.filt_meaning.specs.Names.{Context, named_in, with_variables}
 
 -- How many steps something takes that is run over a frame and attributes.

@@ -1,4 +1,5 @@
-ghost use Rattle.std.specs.Prelude.{◌≡◌, ◌≤◌, ◌+◌, ℕ, true, false, List, [], ◌∷◌, ◌++◌, length, map, take, Some, Ok};
+ghost use Rattle.std.specs.Prelude.{◌≡◌, ◌≤◌, ◌+◌, ℕ, true, false, List, [], ◌∷◌, ◌++◌, length};
+ghost use Rattle.std.specs.Prelude.{map, take, Some, Ok};
 ghost use Rattle.attrs.specs.declared.attributes.Attrs.{Attrs};
 ghost use Rattle.grammar.specs.declared.named.Name.{Name};
 ghost use Rattle.grammar.specs.Names.{name_bytes};
@@ -7,7 +8,8 @@ ghost use Rattle.filt_syntax.specs.declared.tree.Joint.TheVariants as joints;
 ghost use Rattle.filt_syntax.specs.declared.tree.Term.{Term};
 ghost use Rattle.filt_syntax.specs.declared.tree.VariableType.{VariableType};
 ghost use Rattle.conf_ast.specs.Configurations.{Declaration, Routine};
-ghost use Rattle.conf_ast.specs.Filters.{Expression, Called, Added, Joined, Expressions, Statement, IfElse, For, Statements, AndStatements, Arms, AndArms};
+ghost use Rattle.conf_ast.specs.Filters.{Expression, Called, Added, Joined, Expressions, Statement};
+ghost use Rattle.conf_ast.specs.Filters.{IfElse, For, Statements, AndStatements, Arms, AndArms};
 ghost use Rattle.filt_values.specs.Values.{Val, VInt, VBool, VPath};
 ghost use Rattle.filt_meaning.specs.Configuration.{at_start, behind, body, doing, with_function};
 ghost use Rattle.filt_meaning.specs.Flow.{Why, Done, Stopped, Frame};
@@ -16,11 +18,15 @@ ghost use Rattle.filt_meaning.specs.Meaning.{Act, act, acts, value, values};
 ghost use Rattle.filt_meaning.specs.Names.{Around, Context, with_variables};
 ghost use Rattle.filt_meaning.specs.Worked.{counts, names, passes_over, prepends_one, prepends_two};
 ghost use Rattle.filt_types.specs.Scenes.{Scene, Signature};
-ghost use Rattle.filt_types.specs.Weight.{act_weight, acts_weight, block_weight, too_heavy, weight, weights};
+ghost use Rattle.filt_types.specs.Weight.{act_weight, acts_weight, block_weight, too_heavy, weight};
+ghost use Rattle.filt_types.specs.Weight.{weights};
 ghost use Rattle.filt_steps.specs.Agreement.{Agree, TakesAtMost, with_signature};
 ghost use Rattle.filt_steps.specs.Configured.{at_first, counts_behind, weighed_behind};
-ghost use Rattle.filt_steps.specs.Limits.{AreWithin, AttrsAreWithin, ContextIsWithin, IsWithin, KeepsLimits, Leaves};
-ghost use Rattle.filt_steps.specs.Steps.{Count, Counts, act_steps, acts_steps, all_steps, arms_steps, count_of, filter_steps, function_steps, steps, turns};
+ghost use Rattle.filt_steps.specs.Limits.{AreWithin, AttrsAreWithin, ContextIsWithin, IsWithin};
+ghost use Rattle.filt_steps.specs.Limits.{KeepsLimits, Leaves};
+ghost use Rattle.filt_steps.specs.Steps.{Count, Counts, act_steps, acts_steps, all_steps};
+ghost use Rattle.filt_steps.specs.Steps.{arms_steps, count_of, filter_steps, function_steps, steps};
+ghost use Rattle.filt_steps.specs.Steps.{turns};
 
 /// Over values and attributes within their limits a run leaves such, whether it is done or stops:
 /// no filter makes a path of more than 120 numbers or a list of more than 64 communities. So do

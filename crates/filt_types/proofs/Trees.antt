@@ -27,8 +27,8 @@ use Rattle.filt_syntax.specs.declared.tree.Stmt.TheFolds.{map-Stmt}
 use Rattle.filt_syntax.specs.declared.tree.Target.{Target}
 use Rattle.filt_syntax.specs.declared.tree.Term.{Term}
 use Rattle.filt_syntax.specs.declared.tree.VariableType.{VariableType}
-use Rattle.filt_types.specs.Walk.{access_of, accesses_of, operands_of}
-use Rattle.conf_ast.specs.Filters.{Expression, Plain, Named, Called, Grouped, Paired, SetOf, MaskOf, IsDefined, MethodOf, Negated, Compared, Expressions, AndExpressions, expressions, expressions_of, expression_of, expression_step, accessed, multiplied, added, joined, Statement, Braced, Nothing, Declare, Assign, Unset, If, IfElse, Case, CaseElse, For, Accept, Reject, Return, Print, PrintPart, Call, Statements, AndStatements, statements, statements_of, statement_of, statement_step, Arms, AndArms, NoArms, arms, changed}
+use Rattle.filt_types.specs.Walk.{access_of, accesses_of, arms_of, operands_of}
+use Rattle.conf_ast.specs.Filters.{Expression, Plain, Named, Called, Grouped, Paired, SetOf, MaskOf, IsDefined, MethodOf, Negated, Compared, Expressions, AndExpressions, expressions, expressions_of, expression_of, expression_step, accessed, multiplied, added, joined, Statement, Braced, Nothing, Declare, Assign, Unset, If, IfElse, Case, CaseElse, For, Accept, Reject, Return, Print, PrintPart, Call, Statements, AndStatements, statements, statements_of, statement_of, statement_step, Arms, AndArms, arms, changed}
 
 -- ---- folds, whatever they give
 
@@ -130,10 +130,6 @@ pub do-Call : (A : Type 0) (step : Stmt-F A → A) (n : Name) (place : ℕ) (v :
 do-Call A step n place v = search (rules, stmt_lemmas)
 
 -- ---- lists of parts
-
-abbrev pub arms_of : List (Arm Stmt) → Arms
-arms_of [] = NoArms
-arms_of (a ∷ more) = AndArms a.labels.items (statements_of a.body.items) (arms_of more)
 
 pub all_expressions : (xs : List Expr) → expressions (map expression_of xs) ≡ expressions_of xs
 all_expressions [] = refl

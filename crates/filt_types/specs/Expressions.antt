@@ -1,24 +1,33 @@
 -- The sorts of expressions, and what is refused of them. Each part that is refused is gathered;
 -- which counts is another definition. What was refused for its sort or its names has no sort, so
 -- what stands round it isn't refused for it.
-use Rattle.std.specs.Prelude.{ℕ, Bool, true, false, not, ◌&&◌, ◌||◌, ◌==◌, if◌then◌else◌, List, [], ◌∷◌, ◌++◌, length, Option, Some, None}
+use Rattle.std.specs.Prelude.{ℕ, Bool, true, false, not, ◌&&◌, ◌||◌, ◌==◌, if◌then◌else◌, List, []}
+use Rattle.std.specs.Prelude.{◌∷◌, ◌++◌, length, Option, Some, None}
 use Rattle.grammar.specs.declared.named.Name.{Name}
 use Rattle.filt_syntax.specs.declared.tree.Constant.{Constant}
 use Rattle.filt_syntax.specs.declared.tree.Item.{Item}
 use Rattle.filt_syntax.specs.declared.tree.MaskItem.{MaskItem}
 use Rattle.filt_syntax.specs.declared.tree.Simple.{Simple}
 use Rattle.filt_syntax.specs.declared.tree.Simple.TheVariants as simples
-use Rattle.conf_ast.specs.Filters.{Expression, Plain, Named, Called, Grouped, Paired, SetOf, MaskOf, IsDefined, MethodOf, PropertyOf, Changed, Negated, Multiplied, Added, Compared, Joined, Expressions, NoExpressions, AndExpressions}
+use Rattle.conf_ast.specs.Filters.{Expression, Plain, Named, Called, Grouped, Paired, SetOf, MaskOf}
+use Rattle.conf_ast.specs.Filters.{IsDefined, MethodOf, PropertyOf, Changed, Negated, Multiplied}
+use Rattle.conf_ast.specs.Filters.{Added, Compared, Joined, Expressions, NoExpressions}
+use Rattle.conf_ast.specs.Filters.{AndExpressions}
 use Rattle.filt_values.specs.declared.value.Sort.{Sort}
 use Rattle.filt_values.specs.declared.value.Sort.TheVariants as sorts
 use Rattle.filt_values.specs.Values.{Val, sort_of}
 use Rattle.filt_types.specs.declared.refusal.Cause.TheVariants as causes
 use Rattle.filt_types.specs.declared.refusal.Refusal.{Refusal}
-use Rattle.filt_types.specs.Items.{NoneYet, One, Many, Common, common, differ, all_known, set_of_sort, all_items, sorts_of_items, all_atoms, names_in_mask, is_empty, is_known, is_over, sort_where}
+use Rattle.filt_types.specs.Items.{NoneYet, One, Many, Common, common, differ, all_known}
+use Rattle.filt_types.specs.Items.{set_of_sort, all_items, sorts_of_items, all_atoms, names_in_mask}
+use Rattle.filt_types.specs.Items.{is_empty, is_known, is_over, sort_where}
 use Rattle.filt_types.specs.Items as items
 use Rattle.filt_types.specs.Refusals.{refused_if}
-use Rattle.filt_types.specs.Rules.{RuleOfOne, RuleOfTwo, left_of, right_of, arithmetic, pairing, joining, comparing, method, negating, property, same_sort, sort_of_attribute, sort_of_constant}
-use Rattle.filt_types.specs.Scenes.{Scene, Signature, Variable, Variables, variable_of, constant_of, function_of}
+use Rattle.filt_types.specs.Rules.{RuleOfOne, RuleOfTwo, left_of, right_of, arithmetic, pairing}
+use Rattle.filt_types.specs.Rules.{joining, comparing, method, negating, property, same_sort}
+use Rattle.filt_types.specs.Rules.{sort_of_attribute, sort_of_constant}
+use Rattle.filt_types.specs.Scenes.{Scene, Signature, Variable, Variables, variable_of, constant_of}
+use Rattle.filt_types.specs.Scenes.{function_of}
 
 -- What is found of an expression: the byte at which it begins, its sort, and what is refused in it.
 pub record Judgement : Type 0 where
@@ -129,8 +138,8 @@ abbrev pub and_known : Bool → Option Sort → Option Sort
 and_known true sort = sort
 and_known false sort = None
 
--- `[ .. ]`: elements of more than one sort are refused at the bracket. The grammar has no set without
--- elements; it would have no sort.
+-- `[ .. ]`: elements of more than one sort are refused at the bracket. The grammar has no set
+-- without elements; it would have no sort.
 abbrev pub set : Scene → (at : ℕ) → List Item → Judgement
 set scene at elements =
     let found = sorts_of_items scene elements in

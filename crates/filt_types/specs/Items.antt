@@ -1,6 +1,7 @@
 -- Sets, masks and labels as they are written: the sort of each item, and what is refused of it. An
 -- item that names no constant that is a number is refused there, and has no sort.
-use Rattle.std.specs.Prelude.{ℕ, Bool, true, false, ◌||◌, nat_lt, if◌then◌else◌, List, [], ◌∷◌, ◌++◌, Option, Some, None}
+use Rattle.std.specs.Prelude.{ℕ, Bool, true, false, ◌||◌, nat_lt, if◌then◌else◌, List, [], ◌∷◌}
+use Rattle.std.specs.Prelude.{◌++◌, Option, Some, None}
 use Rattle.bits_ip.specs.Address.{width_of}
 use Rattle.bits_ip.specs.Prefix.{Net}
 use Rattle.filt_syntax.specs.declared.tree.Item.{Item}

@@ -1,7 +1,6 @@
 -- Which sorts the places of a form take, by the sorts that its operator takes.
-use Rattle.std.specs.Prelude.{ℕ, Bool, true, false, not, ◌&&◌, if◌then◌else◌, List, [], ◌∷◌, Option, Some, None}
+use Rattle.std.specs.Prelude.{Bool, true, false, ◌&&◌, List, [], ◌∷◌}
 use Rattle.std.specs.List.{list_any}
-use Rattle.attrs.specs.declared.attributes.Kind.{Kind}
 use Rattle.filt_syntax.specs.declared.tree.Attribute.{Attribute}
 use Rattle.filt_syntax.specs.declared.tree.Attribute.TheVariants as attributes
 use Rattle.filt_syntax.specs.declared.tree.Compare.{Compare}
@@ -14,7 +13,9 @@ use Rattle.filt_syntax.specs.declared.tree.Property.{Property}
 use Rattle.filt_syntax.specs.declared.tree.Property.TheVariants as properties
 use Rattle.filt_values.specs.declared.value.Sort.{Sort}
 use Rattle.filt_values.specs.declared.value.Sort.TheVariants as sorts
-use Rattle.filt_values.specs.Sorts.{an_int, a_bool, an_ip, a_pair, the_same, two_ints, one_bool, compared, ordered, matched, measured, one_path, one_prefix, one_list, prepended, added, deleted, filtered}
+use Rattle.filt_values.specs.Sorts.{an_int, a_bool, an_ip, a_pair, the_same, two_ints, one_bool}
+use Rattle.filt_values.specs.Sorts.{compared, ordered, matched, measured, one_path, one_prefix}
+use Rattle.filt_values.specs.Sorts.{prepended, added, deleted, filtered}
 
 abbrev pub all_sorts : List Sort
 all_sorts =

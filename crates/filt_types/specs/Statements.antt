@@ -1,7 +1,7 @@
 -- What is refused in statements, and which variables are seen behind them.
-use Rattle.std.specs.Prelude.{ℕ, Bool, true, false, not, ◌&&◌, ◌||◌, nat_lt, if◌then◌else◌, List, [], ◌∷◌, ◌++◌, length, remove, Option, Some, None}
+use Rattle.std.specs.Prelude.{ℕ, Bool, true, false, not, ◌&&◌, ◌||◌, if◌then◌else◌, List, [], ◌∷◌}
+use Rattle.std.specs.Prelude.{◌++◌, length, remove, Option, Some, None}
 use Rattle.grammar.specs.declared.named.Name.{Name}
-use Rattle.filt_syntax.specs.declared.tree.Attribute.{Attribute}
 use Rattle.filt_syntax.specs.declared.tree.Attribute.TheVariants as attributes
 use Rattle.filt_syntax.specs.declared.tree.Constant.{Constant}
 use Rattle.filt_syntax.specs.declared.tree.Item.{Item}
@@ -12,7 +12,10 @@ use Rattle.filt_syntax.specs.declared.tree.Target.TheVariants as targets
 use Rattle.filt_syntax.specs.declared.tree.VariableType.{VariableType}
 use Rattle.filt_syntax.specs.declared.tree.VariableType.TheVariants as types
 use Rattle.conf_ast.specs.Configurations.{Routine}
-use Rattle.conf_ast.specs.Filters.{Expression, Statement, Braced, Nothing, Declare, Assign, ChangeBy, Clear, Unset, If, IfElse, Case, CaseElse, For, Accept, Reject, Return, Print, PrintPart, Call, Statements, NoStatements, AndStatements, Arms, NoArms, AndArms}
+use Rattle.conf_ast.specs.Filters.{Expression, Statement, Braced, Nothing, Declare, Assign}
+use Rattle.conf_ast.specs.Filters.{ChangeBy, Clear, Unset, If, IfElse, Case, CaseElse, For, Accept}
+use Rattle.conf_ast.specs.Filters.{Reject, Return, Print, PrintPart, Call, Statements, NoStatements}
+use Rattle.conf_ast.specs.Filters.{AndStatements, Arms, NoArms, AndArms}
 use Rattle.filt_values.specs.declared.value.Sort.{Sort}
 use Rattle.filt_values.specs.declared.value.Sort.TheVariants as sorts
 use Rattle.filt_values.specs.Sorts.{one_bool, one_list}
@@ -20,11 +23,15 @@ use Rattle.filt_values.specs.Values.{Val}
 use Rattle.filt_meaning.specs.Names.{sort_of_type}
 use Rattle.filt_types.specs.declared.refusal.Cause.TheVariants as causes
 use Rattle.filt_types.specs.declared.refusal.Refusal.{Refusal}
-use Rattle.filt_types.specs.Expressions.{Judgement, judge, judge_all, all_refusals, call, constant_word, is_other, is_taken, of_two, wanted, wants}
-use Rattle.filt_types.specs.Items.{NoneYet, One, Common, common, differ, all_items, sorts_of_items, is_empty}
+use Rattle.filt_types.specs.Expressions.{Judgement, judge, judge_all, all_refusals, call}
+use Rattle.filt_types.specs.Expressions.{constant_word, is_other, is_taken, of_two, wanted, wants}
+use Rattle.filt_types.specs.Items.{NoneYet, One, Common, common, differ, all_items, sorts_of_items}
+use Rattle.filt_types.specs.Items.{is_empty}
 use Rattle.filt_types.specs.Refusals.{refused_if}
-use Rattle.filt_types.specs.Rules.{method, same_sort, one_of_cases, sort_of_attribute, is_assignable, can_be_unset, is_assigned_dest}
-use Rattle.filt_types.specs.Scenes.{Scene, Variable, Variables, variable_of, constant_of, function_of, declaring, declared}
+use Rattle.filt_types.specs.Rules.{method, same_sort, one_of_cases, sort_of_attribute}
+use Rattle.filt_types.specs.Rules.{is_assignable, can_be_unset, is_assigned_dest}
+use Rattle.filt_types.specs.Scenes.{Scene, Variable, Variables, variable_of, constant_of}
+use Rattle.filt_types.specs.Scenes.{function_of, declaring, declared}
 
 -- Where statements stand: what the configuration declares before them, and the sort of what the
 -- function gives that they are of, if it gives something. A filter gives nothing.

@@ -1,11 +1,15 @@
 -- What the walks over filters keep while they go, as the definitions see it. What is refused rests
 -- on nothing here.
-use Rattle.std.specs.Prelude.{ℕ, Bool, false, not, ◌==◌, List, [], ◌∷◌, ◌++◌, map, length, if◌then◌else◌, option_map, Option, Some, None}
+use Rattle.std.specs.Prelude.{ℕ, Bool, false, not, ◌==◌, List, [], ◌∷◌, ◌++◌, map, length}
+use Rattle.std.specs.Prelude.{if◌then◌else◌, option_map, Option, Some, None}
 use Rattle.std.specs.Borrow.{Bor}
 use Rattle.filt_syntax.specs.declared.tree.Access.{Access}
 use Rattle.filt_syntax.specs.declared.tree.Access.TheVariants as accesses
+use Rattle.filt_syntax.specs.declared.tree.Arm.{Arm}
 use Rattle.filt_syntax.specs.declared.tree.Expr.{Expr}
-use Rattle.conf_ast.specs.Filters.{Expression, expression_of, expressions_of}
+use Rattle.filt_syntax.specs.declared.tree.Stmt.{Stmt}
+use Rattle.conf_ast.specs.Filters.{Expression, expression_of, expressions_of, statements_of}
+use Rattle.conf_ast.specs.Filters.{Arms, NoArms, AndArms}
 use Rattle.filt_values.specs.declared.fixed.Fixed.{Fixed}
 use Rattle.filt_values.specs.Seen.{val_of_fixed}
 use Rattle.filt_values.specs.declared.value.Sort.{Sort}
@@ -19,9 +23,11 @@ use Rattle.filt_types.specs.declared.rules.Operator.TheVariants as operators
 use Rattle.filt_types.specs.declared.rules.Single.{Single}
 use Rattle.filt_types.specs.declared.rules.Single.TheVariants as singles
 use Rattle.filt_types.specs.declared.scene.Seen.{Seen}
-use Rattle.filt_types.specs.Expressions.{Judgement, all_refusals, arguments_wanted, between, is_taken, judge, judge_all, of_one, wants}
+use Rattle.filt_types.specs.Expressions.{Judgement, all_refusals, arguments_wanted, between}
+use Rattle.filt_types.specs.Expressions.{is_taken, judge, judge_all, of_one, wants}
 use Rattle.filt_types.specs.Items as items
-use Rattle.filt_types.specs.Rules.{RuleOfOne, RuleOfTwo, arithmetic, pairing, joining, comparing, method, negating, property, same_sort}
+use Rattle.filt_types.specs.Rules.{RuleOfOne, RuleOfTwo, arithmetic, pairing, joining, comparing}
+use Rattle.filt_types.specs.Rules.{method, negating, property, same_sort}
 use Rattle.filt_types.specs.declared.refusal.Cause.TheVariants as causes
 use Rattle.filt_types.specs.declared.refusal.Refusal.{Refusal}
 use Rattle.filt_types.specs.Refusals.{refused_if}
@@ -67,7 +73,7 @@ abbrev pub rule_of_one : Single → RuleOfOne
 rule_of_one singles.Negating = negating
 rule_of_one (singles.Property p) = property p
 
--- ---- parts of chains
+-- ---- parts of chains and cases
 
 abbrev pub access_of : Access Expr → Access Expression
 access_of (accesses.Property p) = accesses.Property p
@@ -82,6 +88,11 @@ operand_of x = (x.0, expression_of x.1)
 
 abbrev pub operands_of : {Op : Type 0} → List (Op × Expr) → List (Op × Expression)
 operands_of = map operand_of
+
+-- the arms of a `case`
+abbrev pub arms_of : List (Arm Stmt) → Arms
+arms_of [] = NoArms
+arms_of (a ∷ more) = AndArms a.labels.items (statements_of a.body.items) (arms_of more)
 
 -- an operand with one thing more behind a dot
 abbrev pub with_access : Scene → Variables → Judgement → Access Expression → Judgement

@@ -1,15 +1,20 @@
 // The pass over expressions: the sort of each, and the first refusal of all.
 
 ghost use Rattle.std.specs.Prelude.{◌≡◌, ◌++◌, Some, drop};
-ghost use Rattle.conf_ast.specs.Filters.{expression_of, accessed, multiplied, added, joined, Named, Paired, Plain};
+ghost use Rattle.conf_ast.specs.Filters.{expression_of, accessed, multiplied, added, joined, Named};
+ghost use Rattle.conf_ast.specs.Filters.{Paired, Plain};
 ghost use Rattle.filt_types.specs.Expressions as expressions;
-ghost use Rattle.filt_types.specs.Expressions.{all_refusals, arguments_wanted, arguments_fit, given_sort, is_other, is_taken, wants};
+ghost use Rattle.filt_types.specs.Expressions.{all_refusals, arguments_wanted, arguments_fit};
+ghost use Rattle.filt_types.specs.Expressions.{given_sort, is_other, is_taken, wants};
 ghost use Rattle.filt_types.specs.Refusals.{first_in};
 ghost use Rattle.filt_types.specs.Rules as rules;
 ghost use Rattle.filt_types.specs.Rules.{same_sort};
 ghost use Rattle.filt_types.specs.Scenes.{Scene, Variables, function_of};
 ghost use Rattle.filt_types.specs.Seen.{scene_in, variables_in, signature_of};
-ghost use Rattle.filt_types.specs.Walk.{access_of, accesses_of, all_judged, bare, call_at, front_of, function_seen, is_of_parameter, judged, judged_of, operands_of, rule_of, said_of, wants_parameter, where_alone, with_access};
+ghost use Rattle.filt_types.specs.Walk.{access_of, accesses_of, all_judged, bare, call_at};
+ghost use Rattle.filt_types.specs.Walk.{front_of, function_seen, is_of_parameter, judged};
+ghost use Rattle.filt_types.specs.Walk.{judged_of, operands_of, rule_of, said_of, wants_parameter};
+ghost use Rattle.filt_types.specs.Walk.{where_alone, with_access};
 
 use crate::items::{is_over, number_in};
 use crate::judged::Judged;

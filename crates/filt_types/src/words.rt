@@ -1,7 +1,6 @@
 // Expressions without other expressions in them.
 
 ghost use Rattle.std.specs.Prelude.{◌≡◌, []};
-ghost use Rattle.filt_values.specs.Seen.{val_of_fixed};
 ghost use Rattle.filt_types.specs.Expressions as expressions;
 ghost use Rattle.filt_types.specs.Expressions.{sort_of_named, known_as};
 ghost use Rattle.filt_types.specs.Items as of;

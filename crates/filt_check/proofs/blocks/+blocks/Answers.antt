@@ -1,18 +1,14 @@
-use Rattle.std.proofs.Common.{◌≡◌, ℕ, ◌+◌, ◌++◌, [], ◌∷◌, arith, List, map, Option, Some, drop, ap, refl, sym, ◌∙◌, Vec, Bor}
+use Rattle.std.proofs.Common.{◌≡◌, ℕ, ◌+◌, ◌++◌, [], ◌∷◌, arith, List, map, Option, drop, ap, refl, sym, ◌∙◌, Vec, Bor}
 use Rattle.std.specs.Global.{Global}
 use Rattle.std.proofs.lemmas.Result.{IfOk-weaker}
 use Rattle.grammar.specs.Names.{name_bytes}
 use Rattle.filt_syntax.specs.declared.tree.Arm.{Arm}
-use Rattle.filt_syntax.specs.declared.tree.Item.{Item}
 use Rattle.filt_syntax.specs.declared.tree.Stmt.{Stmt}
 use Rattle.filt_syntax.specs.declared.tree.Stmt.TheVariants as s
-use Rattle.conf_ast.specs.Filters.{Statement, expression_of, statement_of, statements_of, Nothing, Unset, Accept, Reject}
-use Rattle.filt_values.specs.declared.value.Failure.{Failure}
-use Rattle.filt_values.specs.Values.{Val}
+use Rattle.conf_ast.specs.Filters.{expression_of, statement_of, statements_of, Nothing, Unset, Accept, Reject}
 use Rattle.filt_meaning.specs.Flow as flow
-use Rattle.filt_meaning.specs.Items as written
-use Rattle.filt_meaning.specs.Meaning.{Act, act, acts, all_declared, nothing, stop, unset, value, within}
-use Rattle.filt_meaning.specs.Names.{Around, Context, Variable, with_variables}
+use Rattle.filt_meaning.specs.Meaning.{act, acts, all_declared, nothing, stop, unset, value}
+use Rattle.filt_meaning.specs.Names.{Around, Context, with_variables}
 use Rattle.filt_tree.specs.Scopes.{context_of, tables_of}
 use Rattle.filt_tree.specs.Trees as trees
 use Rattle.filt_tree.specs.declared.tree.TStmt.{TStmt}
@@ -20,7 +16,7 @@ use Rattle.filt_tree.specs.declared.tree.TStmt.TheVariants as ts
 use Rattle.filt_types.proofs.Cost as k
 use Rattle.filt_types.proofs.Trees as o
 use Rattle.filt_check.specs.declared.collect.Declared.{Declared}
-use Rattle.filt_check.specs.Seen.{Branch, names_of, name_of, sort_of, variables_of, acts_in, arm_in, arms_in, arm_seen, arms_seen, otherwise_in}
+use Rattle.filt_check.specs.Seen.{names_of, name_of, sort_of, variables_of, acts_in, arm_in, arms_in, arm_seen, arms_seen, otherwise_in}
 use Rattle.filt_check.proofs.Acting as a
 use Rattle.filt_check.proofs.Forms as f
 use Rattle.filt_check.proofs.Gathered as g

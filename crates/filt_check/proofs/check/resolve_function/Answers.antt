@@ -1,7 +1,6 @@
-use Rattle.std.proofs.Common.{◌≡◌, ℕ, List, ap, sym, ◌∙◌, Vec, Bor}
+use Rattle.std.proofs.Common.{ℕ, List, ap, sym, ◌∙◌, Vec, Bor}
 use Rattle.std.specs.Global.{Global}
 use Rattle.filt_values.specs.declared.fixed.Fixed.{Fixed}
-use Rattle.filt_tree.specs.declared.scope.TFunction.{TFunction}
 use Rattle.filt_syntax.specs.declared.tree.Parameter.{Parameter}
 use Rattle.filt_syntax.specs.declared.tree.Stmt.{Stmt}
 use Rattle.conf_ast.specs.Configurations.{routine_of}

@@ -1,4 +1,4 @@
-use Rattle.std.proofs.Common.{◌≡◌, ◌+◌, ◌++◌, arith, List, ap, sym, ◌∙◌}
+use Rattle.std.proofs.Common.{◌+◌, ◌++◌, arith, List, ap, ◌∙◌}
 use Rattle.filt_syntax.specs.declared.tree.Arm.{Arm}
 use Rattle.filt_syntax.specs.declared.tree.Stmt.{Stmt}
 use Rattle.conf_ast.specs.Filters.{statement_of}

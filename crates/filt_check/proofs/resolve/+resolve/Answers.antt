@@ -1,4 +1,4 @@
-use Rattle.std.proofs.Common.{◌≡◌, ◌+◌, arith, List, drop, ap, refl, sym, ◌∙◌}
+use Rattle.std.proofs.Common.{◌+◌, arith, List, drop, ap}
 use Rattle.filt_syntax.specs.declared.tree.Access.{Access}
 use Rattle.filt_syntax.specs.declared.tree.Expr.{Expr}
 use Rattle.filt_syntax.specs.declared.tree.Factor.{Factor}

@@ -1,4 +1,4 @@
-use Rattle.std.proofs.Common.{◌≡◌, ◌+◌, ◌++◌, List, drop}
+use Rattle.std.proofs.Common.{◌≡◌, ◌+◌, ◌++◌, drop}
 use Rattle.filt_types.proofs.Cost as k
 use Rattle.filt_meaning.specs.Names.{Around}
 use Rattle.filt_tree.specs.Scopes.{context_of, tables_of}

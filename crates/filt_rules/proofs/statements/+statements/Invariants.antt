@@ -1,6 +1,7 @@
 use Rattle.std.proofs.Common.{◌≡◌, ◌+◌, drop}
 use Rattle.conf_ast.specs.Filters.{statements_of}
-use Rattle.filt_rules.specs.Passes.{around_in, arms_of}
+use Rattle.filt_rules.specs.Passes.{around_in}
+use Rattle.filt_types.specs.Walk.{arms_of}
 use Rattle.filt_types.specs.Refusals.{first_in}
 use Rattle.filt_types.specs.Seen.{variables_of}
 use Rattle.filt_types.specs.Statements.{check_all, check_arms}

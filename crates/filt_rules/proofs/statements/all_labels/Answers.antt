@@ -3,11 +3,10 @@ use Rattle.filt_syntax.specs.declared.tree.Arm.{Arm}
 use Rattle.filt_syntax.specs.declared.tree.Item.{Item}
 use Rattle.filt_syntax.specs.declared.tree.Stmt.{Stmt}
 use Rattle.filt_types.specs.Items.{all_items, common, sorts_of_items}
-use Rattle.filt_rules.specs.Passes.{arms_of}
 use Rattle.filt_types.specs.Refusals.{first_in}
 use Rattle.filt_types.specs.Seen.{scene_in}
 use Rattle.filt_types.specs.Statements.{labels}
-use Rattle.filt_types.specs.Walk.{common_seen}
+use Rattle.filt_types.specs.Walk.{arms_of, common_seen}
 use Rattle.filt_rules.proofs.Checking as g
 use Rattle.filt_rules.proofs.statements.all_labels.Goals as goal
 

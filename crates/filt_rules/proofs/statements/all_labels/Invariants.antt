@@ -1,10 +1,9 @@
 use Rattle.std.proofs.Common.{◌≡◌, drop}
 use Rattle.filt_types.specs.Items.{all_items, common, sorts_of_items}
-use Rattle.filt_rules.specs.Passes.{arms_of}
 use Rattle.filt_types.specs.Refusals.{first_in}
 use Rattle.filt_types.specs.Seen.{scene_in}
 use Rattle.filt_types.specs.Statements.{labels}
-use Rattle.filt_types.specs.Walk.{common_seen}
+use Rattle.filt_types.specs.Walk.{arms_of, common_seen}
 use Rattle.filt_rules.proofs.statements.all_labels.Given as goal
 
 abbrev pub invariant-loop-arm : goal.invariant-loop-arm

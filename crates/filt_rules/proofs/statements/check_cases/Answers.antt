@@ -1,8 +1,7 @@
 use Rattle.conf_ast.specs.Filters.{expression_of}
 use Rattle.filt_types.specs.Expressions.{judge}
 use Rattle.filt_types.specs.Seen.{scene_in, variables_in}
-use Rattle.filt_rules.specs.Passes.{arms_of}
-use Rattle.filt_types.specs.Walk.{common_seen}
+use Rattle.filt_types.specs.Walk.{arms_of, common_seen}
 use Rattle.filt_rules.proofs.Checking.{cases_first}
 use Rattle.filt_rules.proofs.statements.check_cases.Goals as goal
 

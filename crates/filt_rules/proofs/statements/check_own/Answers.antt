@@ -4,7 +4,8 @@ use Rattle.filt_syntax.specs.declared.tree.Stmt.{Stmt}
 use Rattle.filt_types.specs.declared.refusal.Refusal.{Refusal}
 use Rattle.conf_ast.specs.Filters.{expression_of, statement_of}
 use Rattle.filt_types.specs.Expressions.{judge}
-use Rattle.filt_rules.specs.Passes.{arms_of, own}
+use Rattle.filt_rules.specs.Passes.{own}
+use Rattle.filt_types.specs.Walk.{arms_of}
 use Rattle.filt_types.specs.Refusals.{first_in}
 use Rattle.filt_types.specs.Seen.{scene_in, variables_in}
 use Rattle.filt_types.specs.Statements.{Around, cases}

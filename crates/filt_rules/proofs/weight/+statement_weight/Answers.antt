@@ -2,7 +2,7 @@ use Rattle.std.proofs.Common.{arith, List, ap, ◌∙◌}
 use Rattle.filt_syntax.specs.declared.tree.Arm.{Arm}
 use Rattle.filt_syntax.specs.declared.tree.Stmt.{Stmt}
 use Rattle.conf_ast.specs.Filters.{Statement, statement_of, statements_of}
-use Rattle.filt_rules.specs.Passes.{arms_of}
+use Rattle.filt_types.specs.Walk.{arms_of}
 use Rattle.filt_types.specs.Seen.{scene_of}
 use Rattle.filt_types.specs.Weight.{act_weight, acts_weight, arms_weight}
 use Rattle.filt_types.proofs.Cost as k

@@ -1,6 +1,6 @@
 use Rattle.std.proofs.Common.{◌≡◌, ◌≤◌, ◌+◌, ◌^◌, drop}
 use Rattle.conf_ast.specs.Filters.{statements_of}
-use Rattle.filt_rules.specs.Passes.{arms_of}
+use Rattle.filt_types.specs.Walk.{arms_of}
 use Rattle.filt_types.specs.Seen.{scene_of}
 use Rattle.filt_types.specs.Weight.{acts_weight, arms_weight, capped}
 use Rattle.filt_types.proofs.Cost as k

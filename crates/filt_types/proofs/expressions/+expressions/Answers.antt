@@ -10,7 +10,7 @@ use Rattle.conf_ast.specs.Filters.{expression_of}
 use Rattle.filt_types.specs.declared.judged.Judged.{Judged}
 use Rattle.filt_types.specs.declared.refusal.Refusal.{Refusal}
 use Rattle.filt_types.specs.Expressions as ex
-use Rattle.filt_types.specs.Expressions.{Judgement, all_refusals, arguments_fit, arguments_wanted, between, of_one, of_two}
+use Rattle.filt_types.specs.Expressions.{Judgement, all_refusals, arguments_fit, arguments_wanted, of_two}
 use Rattle.filt_types.specs.Refusals.{first_in}
 use Rattle.filt_types.specs.Rules.{arithmetic, joining, comparing, method, negating}
 use Rattle.filt_types.specs.Scenes.{function_of}
