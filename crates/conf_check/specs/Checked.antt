@@ -74,9 +74,9 @@ or_zero (Some n) = n
 -- ---- filters
 
 -- The tree does over the scope what the statements do behind these statements of a configuration.
-abbrev pub Does : (text : List ℕ) → (before : List conf.Declaration) → Scope → Statements
+abbrev pub Does : (text : List ℕ) → Scope → (before : List conf.Declaration) → Statements
     → TFilter → Type 0
-Does text before scope ss f = (around : Around) (attrs : Attrs)
+Does text scope before ss f = (around : Around) (attrs : Attrs)
     → trees.judged around (constant_values scope) (function_trees scope) f attrs
     ≡ meaning.judged (meaning.behind (meaning.at_start text around) before) ss attrs
 
@@ -84,16 +84,19 @@ Does text before scope ss f = (around : Around) (attrs : Attrs)
 abbrev pub Source : Type 0
 Source = List conf.Declaration × Statements
 
+abbrev pub filter_source : (before : List conf.Declaration) → conf.Declaration → List Source
+filter_source before (conf.DefineFilter at name ss) = (before, ss) ∷ []
+filter_source before _ = []
+
 abbrev pub filter_sources : (before : List conf.Declaration) → List conf.Declaration → List Source
 filter_sources before [] = []
-filter_sources before (conf.DefineFilter at name ss ∷ ds) =
-    (before, ss) ∷ filter_sources (before ++ conf.DefineFilter at name ss ∷ []) ds
-filter_sources before (d ∷ ds) = filter_sources (before ++ d ∷ []) ds
+filter_sources before (d ∷ ds) = filter_source before d ++ filter_sources (before ++ d ∷ []) ds
 
-abbrev pub DoEach : List ℕ → Scope → List Source → List TFilter → Type 0
-DoEach text scope [] [] = ⊤
-DoEach text scope (s ∷ more) (f ∷ fs) = Does text s.0 scope s.1 f × DoEach text scope more fs
-DoEach text scope _ _ = ⊥
+abbrev pub DoEach : (does : List conf.Declaration → Statements → TFilter → Type 0)
+    → List Source → List TFilter → Type 0
+DoEach does [] [] = ⊤
+DoEach does (s ∷ more) (f ∷ fs) = does s.0 s.1 f × DoEach does more fs
+DoEach does _ _ = ⊥
 
 -- ---- policies
 
@@ -282,24 +285,30 @@ is_protocol (conf.Bgp p) = true
 is_protocol (conf.Pipe p) = true
 is_protocol _ = false
 
+-- the first of these protocols where there is one, and the rest of them
+abbrev pub NextProtocol : (is_there : Bool) → (ProtocolDef → Type 0)
+    → (List ProtocolDef → Type 0) → List ProtocolDef → Type 0
+NextProtocol false is rest defs = rest defs
+NextProtocol true is rest [] = ⊥
+NextProtocol true is rest (def ∷ defs) = is def × rest defs
+
 -- The protocols are those of the statements, in their order, each over what is declared before it.
-abbrev pub AreProtocols : (text : List ℕ) → Scope → (before : List conf.Declaration)
-    → List conf.Declaration → List ProtocolDef → Type 0
-AreProtocols text scope before [] [] = ⊤
-AreProtocols text scope before [] (def ∷ defs) = ⊥
-AreProtocols text scope before (d ∷ ds) defs =
-    or_next (is_protocol d) defs (AreProtocols text scope (before ++ d ∷ []) ds)
-  where
-    or_next : Bool → List ProtocolDef → (List ProtocolDef → Type 0) → Type 0
-    or_next false all rest = rest all
-    or_next true [] rest = ⊥
-    or_next true (def ∷ defs) rest =
-        IsProtocol (behind (at_start text) before) (Does text before scope) d def × rest defs
+abbrev pub AreProtocols : (text : List ℕ)
+    → (does : List conf.Declaration → Statements → TFilter → Type 0)
+    → (before : List conf.Declaration) → List conf.Declaration → List ProtocolDef → Type 0
+AreProtocols text does before [] [] = ⊤
+AreProtocols text does before [] (def ∷ defs) = ⊥
+AreProtocols text does before (d ∷ ds) defs =
+    NextProtocol (is_protocol d)
+    (IsProtocol (behind (at_start text) before) (does before) d)
+    (AreProtocols text does (before ++ d ∷ []) ds) defs
 
 -- ---- the configuration
 
 pub record IsChecked (text : List ℕ) (ds : List conf.Declaration) (checked : Checked)
     : Type 0 where
   pub declared : known_of text checked.declared ≡ behind (at_start text) ds
-  pub filters : DoEach text checked.declared.scope (filter_sources [] ds) checked.filters.items
-  pub protocols : AreProtocols text checked.declared.scope [] ds checked.protocols.items
+  pub filters : DoEach (Does text checked.declared.scope) (filter_sources [] ds)
+      checked.filters.items
+  pub protocols : AreProtocols text (Does text checked.declared.scope) [] ds
+      checked.protocols.items

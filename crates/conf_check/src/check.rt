@@ -1,4 +1,4 @@
-ghost use Rattle.std.specs.Prelude.{◌≡◌, None, MatchResult};
+ghost use Rattle.std.specs.Prelude.{◌≡◌, None, IfOk, MatchResult};
 ghost use Rattle.conf_ast.specs.Configurations.{configuration_of};
 ghost use Rattle.conf_check.specs.Behind.{at_start};
 ghost use Rattle.conf_check.specs.Checked.{IsChecked};

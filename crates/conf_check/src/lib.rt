@@ -10,6 +10,7 @@ mod channel;
 mod check;
 mod checked;
 mod constants;
+mod declare;
 mod pipe;
 mod policy;
 mod statements;
