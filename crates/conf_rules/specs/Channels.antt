@@ -1,5 +1,6 @@
 -- What is refused in channels and their policies (BIRD User's Guide, "Channel options").
 use Rattle.std.specs.Prelude.{ℕ, Bool, true, false, not, ◌||◌, List, [], ◌∷◌, ◌++◌, Option, Some, None}
+use Rattle.std.specs.List.{list_any}
 use Rattle.bits_ip.specs.declared.address.Family.{Family}
 use Rattle.bits_ip.specs.declared.address.Family.TheVariants as families
 use Rattle.grammar.specs.declared.named.Name.{Name}
@@ -8,7 +9,6 @@ use Rattle.conf_tree.specs.declared.tree.Limit.{Limit}
 use Rattle.conf_tree.specs.declared.tree.Limit.TheVariants as limits
 use Rattle.conf_ast.specs.Configurations.{Passing, PassAll, PassNone, PassByFilter, PassByBlock, PassWhere, ChannelSetting, ChannelTable, ChannelImport, ChannelExport, ChannelPreference, ChannelLimit, ChannelNextHop, FamilyChannel}
 use Rattle.filt_meaning.specs.Configuration.{filter_where}
-use Rattle.filt_types.specs.Items.{is_none}
 use Rattle.filt_check.specs.Answers as filters
 use Rattle.conf_rules.specs.declared.refusal.Refusal.{Refusal}
 use Rattle.conf_rules.specs.Known.{Known, filter, number, table, table_of}
@@ -99,15 +99,19 @@ one_channel at cs = refused_if (is_empty cs) at kinds.Unsupported ++ second_chan
 
 -- ---- policies that are missing
 
+abbrev pub is_import : ChannelSetting → Bool
+is_import (ChannelImport p) = true
+is_import _ = false
+
+abbrev pub is_export : ChannelSetting → Bool
+is_export (ChannelExport p) = true
+is_export _ = false
+
 abbrev pub has_import : List ChannelSetting → Bool
-has_import [] = false
-has_import (ChannelImport p ∷ more) = true
-has_import (s ∷ more) = has_import more
+has_import = list_any is_import
 
 abbrev pub has_export : List ChannelSetting → Bool
-has_export [] = false
-has_export (ChannelExport p ∷ more) = true
-has_export (s ∷ more) = has_export more
+has_export = list_any is_export
 
 -- a channel that says nothing of its imports or of its exports
 abbrev pub lacks_policy : FamilyChannel → Bool

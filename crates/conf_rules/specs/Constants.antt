@@ -1,5 +1,7 @@
 -- What is refused of the value of a constant.
-use Rattle.std.specs.Prelude.{ℕ, List, [], ◌++◌}
+use Rattle.std.specs.Prelude.{List, [], ◌++◌}
+use Rattle.grammar.specs.declared.named.Name.{Name}
+use Rattle.filt_syntax.specs.declared.tree.Num.{Num}
 use Rattle.conf_tree.specs.declared.kind.ConfKind.TheVariants as kinds
 use Rattle.conf_ast.specs.Configurations.{Value, NumberValue, TextValue, AddressValue, PrefixValue, TrueValue, FalseValue, ValueOf, PairValue, SetValue, MaskValue}
 use Rattle.conf_ast.specs.Filters.{SetOf, MaskOf}
@@ -11,8 +13,18 @@ use Rattle.conf_rules.specs.declared.refusal.Refusal.{Refusal}
 use Rattle.conf_rules.specs.Known.{Known, number}
 use Rattle.conf_rules.specs.Refusals.{of_filters, refused_if}
 
--- A constant may be the value of another one of any sort; the parts of a pair are numbers of at
--- most 16 bits; sets and masks are as in filters.
+-- the name of a constant of any sort
+abbrev pub constant : Known → Name → List Refusal
+constant known name =
+    refused_if (is_none (constant_of known.scene name)) name.at kinds.UnknownName
+
+-- The parts of a pair are numbers of at most 16 bits.
+abbrev pub pair : Known → (first second : Num) → List Refusal
+pair known a b =
+    number known a ++ of_filters (items.over_16_bits known.scene a)
+    ++ (number known b ++ of_filters (items.over_16_bits known.scene b))
+
+-- Sets and masks are as in filters.
 abbrev pub value : Known → Value → List Refusal
 value known (NumberValue at n) = []
 value known (TextValue q) = []
@@ -20,11 +32,8 @@ value known (AddressValue a) = []
 value known (PrefixValue at net) = []
 value known (TrueValue at) = []
 value known (FalseValue at) = []
-value known (ValueOf name) =
-    refused_if (is_none (constant_of known.scene name)) name.at kinds.UnknownName
-value known (PairValue at a b) =
-    number known a ++ of_filters (items.over_16_bits known.scene a)
-    ++ number known b ++ of_filters (items.over_16_bits known.scene b)
+value known (ValueOf name) = constant known name
+value known (PairValue at a b) = pair known a b
 value known (SetValue at elements) = of_filters (judge known.scene [] (SetOf at elements)).refusals
 value known (MaskValue at elements) =
     of_filters (judge known.scene [] (MaskOf at elements)).refusals

@@ -1,5 +1,5 @@
 -- What a configuration declares before one of its statements, as the rules see it.
-use Rattle.std.specs.Prelude.{ℕ, Bool, not, nat_lt, List, [], ◌∷◌, ◌++◌, length, Option, Some, None}
+use Rattle.std.specs.Prelude.{ℕ, Bool, not, nat_lt, List, [], ◌++◌, length, Option}
 use Rattle.std.specs.List.{list_any}
 use Rattle.bits_ip.specs.declared.address.Family.{Family}
 use Rattle.grammar.specs.declared.named.Name.{Name}

@@ -5,3 +5,4 @@ pub mod Channels
 pub mod Protocols
 pub mod Statements
 pub mod Seen
+pub mod Walks

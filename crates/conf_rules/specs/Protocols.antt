@@ -1,15 +1,13 @@
 -- What is refused in protocols (BIRD User's Guide, "Protocol options", "BGP", "Static", "Pipe").
-use Rattle.std.specs.Prelude.{ℕ, zero, suc, ◌+◌, ◌==◌, Bool, true, false, not, ◌&&◌, ◌||◌, nat_lt, if◌then◌else◌, List, [], ◌∷◌, ◌++◌, length, Option, Some, None, codes, decimal}
+use Rattle.std.specs.Prelude.{ℕ, zero, suc, ◌+◌, ◌==◌, Bool, true, false, not, ◌&&◌, nat_lt, if◌then◌else◌, List, [], ◌∷◌, ◌++◌, length, Option, Some, None, codes, decimal}
 use Rattle.std.specs.List.{list_any}
 use Rattle.bits_ip.specs.Address.{family_of}
 use Rattle.bits_ip.specs.Prefix.{Net, same_net}
 use Rattle.bits_ip.specs.declared.address.Family.{Family}
-use Rattle.bits_ip.specs.declared.address.Family.TheVariants as families
 use Rattle.grammar.specs.declared.named.Name.{Name}
 use Rattle.grammar.specs.Names.{name_bytes}
 use Rattle.filt_syntax.specs.declared.tree.Num.{Num}
 use Rattle.conf_tree.specs.declared.kind.ConfKind.TheVariants as kinds
-use Rattle.conf_tree.specs.declared.tree.Address.{Address}
 use Rattle.conf_tree.specs.declared.tree.Route.{Route}
 use Rattle.conf_tree.specs.declared.tree.RouteTarget.{RouteTarget}
 use Rattle.conf_tree.specs.declared.tree.RouteTarget.TheVariants as targets
@@ -20,7 +18,7 @@ use Rattle.conf_tree.specs.declared.tree.Transport.TheVariants as transports
 use Rattle.conf_ast.specs.Configurations.{FamilyChannel, StaticSetting, StaticChannel, StaticRoute, BgpSetting, BgpChannel, BgpLocal, BgpNeighbor, BgpMedMetric, BgpInterpretCommunities, BgpDefaultMed, BgpDefaultLocalPref, BgpTransport, PipeSetting, PipeTable, PipePeerTable, PipeImport, PipeExport, Instance}
 use Rattle.filt_meaning.specs.Names.{named_in}
 use Rattle.conf_rules.specs.declared.refusal.Refusal.{Refusal}
-use Rattle.conf_rules.specs.Channels.{channel, is_empty, is_other_family, lacks_policy, one_channel, passing, same_family}
+use Rattle.conf_rules.specs.Channels.{channel, is_other_family, lacks_policy, one_channel, passing, same_family}
 use Rattle.conf_rules.specs.Known.{Known, is_declared, number, number_of, table, table_of, too_long}
 use Rattle.conf_rules.specs.Refusals.{refused_if}
 
@@ -218,18 +216,22 @@ abbrev pub med_metric : (at : ℕ) → Option Switch → List Refusal
 med_metric at None = refused_if true at kinds.MedRule
 med_metric at (Some s) = refused_if (not (is_on s)) at kinds.Unsupported
 
+-- what is refused of the options that count
+abbrev pub session : Known → (at : ℕ) → List BgpSetting → List Refusal
+session known at settings =
+    let local = last_local None settings in
+    let neighbor = last_neighbor None settings in
+    lacks at local ++ lacks at neighbor
+    ++ policies at (is_external (as_number known local) (as_number known neighbor))
+    (bgp_channels settings)
+    ++ med_metric at (last_med_metric None settings)
+
 abbrev pub bgp : Known → Instance BgpSetting → List Refusal
 bgp known p =
-    let at = place_of p.at p.name in
-    let local = last_local None p.settings in
-    let neighbor = last_neighbor None p.settings in
     declaring known p.at p.name (own_name known bgp_stem p.name ∷ [])
     ++ bgp_settings known p.settings
-    ++ one_channel at (bgp_channels p.settings)
-    ++ lacks at local ++ lacks at neighbor
-    ++ policies at (is_external (as_number known local) (as_number known neighbor))
-       (bgp_channels p.settings)
-    ++ med_metric at (last_med_metric None p.settings)
+    ++ one_channel (place_of p.at p.name) (bgp_channels p.settings)
+    ++ session known (place_of p.at p.name) p.settings
 
 -- ---- pipes
 

@@ -1,6 +1,5 @@
 -- What is declared, in memory, as the definitions see it.
 use Rattle.std.specs.Prelude.{ℕ, List, map}
-use Rattle.bits_ip.specs.declared.address.Family.{Family}
 use Rattle.filt_types.specs.Seen.{scene_of}
 use Rattle.conf_rules.specs.declared.declared.Declared.{Declared}
 use Rattle.conf_rules.specs.Known.{Known}

@@ -1,6 +1,6 @@
 -- What is refused in a statement of a configuration, over what is declared before it. All refusals
 -- are gathered, whichever of them counts.
-use Rattle.std.specs.Prelude.{ℕ, Bool, true, false, not, ◌&&◌, nat_lt, if◌then◌else◌, List, [], ◌++◌, length, Option, Some, None, codes}
+use Rattle.std.specs.Prelude.{ℕ, Bool, not, nat_lt, if◌then◌else◌, List, [], ◌++◌, length, codes}
 use Rattle.bits_ip.specs.declared.address.Family.{Family}
 use Rattle.bits_ip.specs.declared.address.Family.TheVariants as families
 use Rattle.grammar.specs.declared.named.Name.{Name}
@@ -29,11 +29,14 @@ master families.V6 = codes "master6"
 abbrev pub is_master : Known → Family → Name → Bool
 is_master known family n = same_name (name_bytes known.scene.text n) (master family)
 
-abbrev pub table : Known → Family → Name → List Refusal
-table known family n =
-    if is_master known family n then []
-    else declaring known n
+-- what is refused of one more table
+abbrev pub one_more_table : Known → Name → List Refusal
+one_more_table known n =
+    declaring known n
     ++ refused_if (not (nat_lt (length known.tables) most_tables)) n.at kinds.Limit
+
+abbrev pub table : Known → Family → Name → List Refusal
+table known family n = if is_master known family n then [] else one_more_table known n
 
 -- ---- all statements
 

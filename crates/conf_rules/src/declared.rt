@@ -1,5 +1,7 @@
 //! What a configuration declares before one of its statements.
-ghost use Rattle.std.specs.Prelude.{◌≡◌, ℕ, List, Some, option_map};
+ghost use Rattle.std.specs.Prelude.{◌≡◌, ℕ, List};
+ghost use Rattle.std.specs.List.{list_any};
+ghost use Rattle.filt_meaning.specs.Names.{named_in, same_name};
 ghost use Rattle.conf_rules.specs.Known as of;
 ghost use Rattle.conf_rules.specs.Refusals.{first_in};
 ghost use Rattle.conf_rules.specs.Seen.{known_of};
@@ -44,12 +46,7 @@ pub(crate) fn too_long(text: &[u8], name: Name, first: &mut Option<Refusal>)
 }
 
 /// What is refused of a name that is declared here.
-pub(crate) fn declaring(
-    text: &[u8],
-    declared: &Declared,
-    name: Name,
-    first: &mut Option<Refusal>,
-)
+pub(crate) fn declaring(text: &[u8], declared: &Declared, name: Name, first: &mut Option<Refusal>)
     ensures { first.new
         ≡ first_in first.old (of.declaring (known_of text.now declared.now) name) }
 {
@@ -58,9 +55,39 @@ pub(crate) fn declaring(
     too_long(text, name, first);
 }
 
+/// The family of the table that is called so.
+pub(crate) fn family_of(declared: &Declared, name: &[u8]) -> Option<Family>
+    ensures { (text : List ℕ) → result ≡ named_in (known_of text declared.now).tables name.now }
+{
+    declared.tables.get(name).copied()
+}
+
 /// The family of the table of that name.
 pub(crate) fn table_of(text: &[u8], declared: &Declared, name: Name) -> Option<Family>
     ensures { result ≡ of.table_of (known_of text.now declared.now) name }
 {
-    declared.tables.get(name.bytes(text)).copied()
+    family_of(declared, name.bytes(text))
+}
+
+/// The name of a table.
+pub(crate) fn table(text: &[u8], declared: &Declared, name: Name, first: &mut Option<Refusal>)
+    ensures { first.new ≡ first_in first.old (of.table (known_of text.now declared.now) name) }
+{
+    let is_unknown = table_of(text, declared, name).is_none();
+    note_if(first, is_unknown, name.at, ConfKind::UnknownName);
+}
+
+fn is_filter(declared: &Declared, name: &[u8]) -> bool
+    ensures { (text : List ℕ) → result
+        ≡ list_any (λ known. same_name known name.now) (known_of text declared.now).filters }
+{
+    declared.filters.contains(name)
+}
+
+/// The name of a filter.
+pub(crate) fn filter(text: &[u8], declared: &Declared, name: Name, first: &mut Option<Refusal>)
+    ensures { first.new ≡ first_in first.old (of.filter (known_of text.now declared.now) name) }
+{
+    let is_known = is_filter(declared, name.bytes(text));
+    note_if(first, !is_known, name.at, ConfKind::UnknownName);
 }

@@ -34,8 +34,9 @@ pub(crate) fn note_first(first: &mut Option<Refusal>, found: Option<filt_types::
     ensures { (rs : List FilterRefusal) → found ≡ filters.first_in None rs
         → first.new ≡ first_in first.old (of_filters rs) }
 {
-    if let Some(refusal) = found {
-        note(first, refusal.at, kind(refusal.cause));
+    match found {
+        None => (),
+        Some(refusal) => note(first, refusal.at, kind(refusal.cause)),
     }
 }
 

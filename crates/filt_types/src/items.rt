@@ -56,7 +56,7 @@ fn number_of(value: &Fixed) -> Option<u32>
 }
 
 /// The number, where the name is one of a constant that is a number.
-fn value_of(seen: Seen<'_>, number: Num) -> Option<u32>
+pub fn value_of(seen: Seen<'_>, number: Num) -> Option<u32>
     ensures { result ≡ of.value_of (scene_in seen.entry) number }
 {
     match number {
@@ -74,8 +74,8 @@ fn place_of(number: Num) -> usize
     }
 }
 
-/// Whether the number is known.
-fn number(seen: Seen<'_>, number: Num, first: &mut Option<Refusal>) -> bool
+/// Whether the number is known. A name that is no number's is refused.
+pub fn number(seen: Seen<'_>, number: Num, first: &mut Option<Refusal>) -> bool
     ensures known { result ≡ is_known (of.number (scene_in seen.entry) number) }
     ensures first { first.new ≡ first_in first.old (of.number (scene_in seen.entry) number) }
 {
@@ -147,7 +147,8 @@ fn backwards(seen: Seen<'_>, part: Part, at: usize, first: &mut Option<Refusal>)
 
 // ---- pairs
 
-fn over_16_bits(seen: Seen<'_>, number: Num, first: &mut Option<Refusal>)
+/// A part of a pair is a number of at most 16 bits.
+pub fn over_16_bits(seen: Seen<'_>, number: Num, first: &mut Option<Refusal>)
     ensures { first.new ≡ first_in first.old (of.over_16_bits (scene_in seen.entry) number) }
 {
     let is_refused = is_over(65535, value_of(seen, number));

@@ -15,11 +15,11 @@ mod words;
 pub use expressions::{
     call, constant_word, has_other_sort, judge, judge_each, want_sort, with_right,
 };
-pub use items::{Common, ItemSorts, all_items, differ};
+pub use items::{Common, ItemSorts, all_items, differ, number, over_16_bits, value_of};
 pub use judged::Judged;
 pub use refusal::{Cause, Refusal, note, note_if};
 pub use rules::{Operator, Single, is};
 pub use scene::{
     Seen, Variable, constant_named, declaring, function_named, is_seen, variable_named,
 };
-pub use words::attribute_sort;
+pub use words::{attribute_sort, mask, set};

@@ -146,13 +146,8 @@ fn set_of_sort(sort: Sort) -> Option<Sort>
     }
 }
 
-/// `[ .. ]`
-pub(crate) fn set(
-    seen: Seen<'_>,
-    at: usize,
-    elements: &[Item],
-    first: &mut Option<Refusal>,
-) -> Judged
+/// The judgement of a set. It keeps the first of what is refused in it.
+pub fn set(seen: Seen<'_>, at: usize, elements: &[Item], first: &mut Option<Refusal>) -> Judged
     ensures judged { result ≡ said_of (expressions.set (scene_in seen.entry) at elements.now) }
     ensures first { first.new
         ≡ first_in first.old (expressions.set (scene_in seen.entry) at elements.now).refusals }
@@ -172,13 +167,8 @@ pub(crate) fn and_known(test: bool, sort: Option<Sort>) -> Option<Sort>
     if test { sort } else { None }
 }
 
-/// `[= .. =]`
-pub(crate) fn mask(
-    seen: Seen<'_>,
-    at: usize,
-    elements: &[MaskItem],
-    first: &mut Option<Refusal>,
-) -> Judged
+/// The judgement of a mask. It keeps the first of what is refused in it.
+pub fn mask(seen: Seen<'_>, at: usize, elements: &[MaskItem], first: &mut Option<Refusal>) -> Judged
     ensures judged { result ≡ said_of (expressions.mask (scene_in seen.entry) at elements.now) }
     ensures first { first.new
         ≡ first_in first.old (expressions.mask (scene_in seen.entry) at elements.now).refusals }

@@ -1,0 +1,18 @@
+use Rattle.std.proofs.Common.{List, Option, None, map, refl}
+use Rattle.filt_syntax.specs.declared.tree.Num.{Num}
+use Rattle.conf_tree.specs.declared.tree.BgpOption.{BgpOption}
+use Rattle.conf_ast.specs.Configurations.{bgp_setting_of}
+use Rattle.conf_rules.specs.Protocols.{last_local}
+use Rattle.conf_rules.proofs.Settings.{next_local}
+use Rattle.conf_rules.proofs.Turns.{found_turn, found_ends}
+use Rattle.conf_rules.proofs.bgp.last_local.Goals as goal
+
+pub loop-option-preserved : goal.loop-option-preserved
+loop-option-preserved c =
+    found_turn (λ (found : Option Num) (xs : List BgpOption). last_local found (map bgp_setting_of xs)) (λ found x xs. next_local found (bgp_setting_of x) (map bgp_setting_of xs))
+    c.args.options.now c.loop-option.option-index c.option-item.result None c.loop-option.found c.next_local-found.result c.loop-option-test.true c.option-item.is c.loop-option.invariant c.next_local-found.ensures
+
+pub returns : goal.returns
+returns c =
+    found_ends (λ (found : Option Num) (xs : List BgpOption). last_local found (map bgp_setting_of xs)) (λ found. refl)
+    c.args.options.now c.loop-option.option-index None c.loop-option.found c.loop-option-test.false c.loop-option.invariant

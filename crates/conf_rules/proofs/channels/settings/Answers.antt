@@ -1,0 +1,17 @@
+use Rattle.std.proofs.Common.{List, map, refl}
+use Rattle.conf_tree.specs.declared.tree.ChannelOption.{ChannelOption}
+use Rattle.conf_ast.specs.Configurations.{channel_setting_of}
+use Rattle.conf_rules.specs.Channels.{settings, setting}
+use Rattle.conf_rules.specs.Seen.{known_of}
+use Rattle.conf_rules.proofs.Turns.{turn, ends}
+use Rattle.conf_rules.proofs.channels.settings.Goals as goal
+
+pub loop-option-preserved : goal.loop-option-preserved
+loop-option-preserved c =
+    turn (λ (xs : List ChannelOption). settings (known_of c.args.text.now c.args.declared.now) (map channel_setting_of xs)) (λ (x : ChannelOption). setting (known_of c.args.text.now c.args.declared.now) (channel_setting_of x)) (λ x xs. refl)
+    c.args.options.now c.loop-option.option-index c.option-item.result c.args.first.now c.loop-option.first c.setting.new.first c.loop-option-test.true c.option-item.is c.loop-option.invariant c.in_ok-setting.ensures
+
+pub returns : goal.returns
+returns c =
+    ends (λ (xs : List ChannelOption). settings (known_of c.args.text.now c.args.declared.now) (map channel_setting_of xs)) refl
+    c.args.options.now c.loop-option.option-index c.args.first.now c.loop-option.first c.loop-option-test.false c.loop-option.invariant

@@ -1,0 +1,171 @@
+// What is refused in pipes.
+
+ghost use Rattle.std.specs.Prelude.{◌≡◌, ◌++◌, ◌∷◌, [], map, None, OnOk};
+ghost use Rattle.conf_ast.specs.Configurations.{instance_of, pipe_setting_of};
+ghost use Rattle.conf_rules.specs.Protocols as of;
+ghost use Rattle.conf_rules.specs.Refusals.{first_in};
+ghost use Rattle.conf_rules.specs.Seen.{known_of};
+
+use crate::channels::{is_other_family, passing};
+use crate::declared::{Declared, family_of, table, table_of};
+use crate::names::{declaring_pipe, place_of};
+use crate::refusal::{Refusal, note_if};
+use bits_ip::{Family, OutOfMemory};
+use conf_tree::{ConfKind, PipeOption, Protocol};
+use grammar::Name;
+use std::alloc::Global;
+
+fn setting(
+    alloc: Global,
+    text: &[u8],
+    declared: &Declared,
+    option: &PipeOption,
+    first: &mut Option<Refusal>,
+) -> Result<(), OutOfMemory>
+    ensures { OnOk result (first.new
+        ≡ first_in first.old (of.pipe_setting (known_of text.now declared.now)
+        (pipe_setting_of option.now))) }
+{
+    match option {
+        PipeOption::Table(name) => {
+            table(text, declared, *name, first);
+            Ok(())
+        }
+        PipeOption::PeerTable(name) => {
+            table(text, declared, *name, first);
+            Ok(())
+        }
+        PipeOption::Import(policy) => passing(alloc, text, declared, policy, first),
+        PipeOption::Export(policy) => passing(alloc, text, declared, policy, first),
+    }
+}
+
+fn settings(
+    alloc: Global,
+    text: &[u8],
+    declared: &Declared,
+    options: &[PipeOption],
+    first: &mut Option<Refusal>,
+) -> Result<(), OutOfMemory>
+    ensures { OnOk result (first.new
+        ≡ first_in first.old (of.pipe_settings (known_of text.now declared.now)
+        (map pipe_setting_of options.now))) }
+{
+    for option in options {
+        setting(alloc, text, declared, option, first)?;
+    }
+    Ok(())
+}
+
+// ---- the tables that count
+
+fn next_table(found: Option<Name>, option: &PipeOption) -> Option<Name>
+    ensures { result ≡ of.last_table found (pipe_setting_of option.now ∷ []) }
+{
+    match option {
+        PipeOption::Table(name) => Some(*name),
+        PipeOption::PeerTable(_) => found,
+        PipeOption::Import(_) => found,
+        PipeOption::Export(_) => found,
+    }
+}
+
+/// The primary table that was named last.
+pub fn last_table(options: &[PipeOption]) -> Option<Name>
+    ensures { result ≡ of.last_table None (map pipe_setting_of options.now) }
+{
+    let mut found = None;
+    for option in options {
+        found = next_table(found, option);
+    }
+    found
+}
+
+fn next_peer(found: Option<Name>, option: &PipeOption) -> Option<Name>
+    ensures { result ≡ of.last_peer found (pipe_setting_of option.now ∷ []) }
+{
+    match option {
+        PipeOption::Table(_) => found,
+        PipeOption::PeerTable(name) => Some(*name),
+        PipeOption::Import(_) => found,
+        PipeOption::Export(_) => found,
+    }
+}
+
+/// The peer table that was named last.
+pub fn last_peer(options: &[PipeOption]) -> Option<Name>
+    ensures { result ≡ of.last_peer None (map pipe_setting_of options.now) }
+{
+    let mut found = None;
+    for option in options {
+        found = next_peer(found, option);
+    }
+    found
+}
+
+/// A pipe has a peer table.
+fn want_peer(at: usize, peer: Option<Name>, first: &mut Option<Refusal>)
+    ensures { first.new ≡ first_in first.old (of.lacks at peer) }
+{
+    note_if(first, peer.is_none(), at, ConfKind::Unsupported);
+}
+
+/// The family of the primary table.
+fn primary_family(text: &[u8], declared: &Declared, primary: Option<Name>) -> Option<Family>
+    ensures { result ≡ of.primary_family (known_of text.now declared.now) primary }
+{
+    match primary {
+        None => family_of(declared, b"master4"),
+        Some(name) => table_of(text, declared, name),
+    }
+}
+
+fn differ(family: Option<Family>, other: Option<Family>) -> bool
+    ensures { result ≡ of.differ family other }
+{
+    match family {
+        None => false,
+        Some(family) => is_other_family(family, other),
+    }
+}
+
+/// The second table is of the family of the first.
+fn peer_family(
+    text: &[u8],
+    declared: &Declared,
+    primary: Option<Name>,
+    peer: Option<Name>,
+    first: &mut Option<Refusal>,
+)
+    ensures { first.new
+        ≡ first_in first.old (of.peer_family (known_of text.now declared.now) primary peer) }
+{
+    match peer {
+        None => (),
+        Some(name) => {
+            let family = primary_family(text, declared, primary);
+            let is_refused = differ(family, table_of(text, declared, name));
+            note_if(first, is_refused, name.at, ConfKind::Nettype);
+        }
+    }
+}
+
+pub(crate) fn pipe(
+    alloc: Global,
+    text: &[u8],
+    declared: &Declared,
+    protocol: &Protocol<PipeOption>,
+    first: &mut Option<Refusal>,
+) -> Result<(), OutOfMemory>
+    ensures { OnOk result (first.new
+        ≡ first_in first.old (of.pipe (known_of text.now declared.now)
+        (instance_of pipe_setting_of protocol.now))) }
+{
+    let options = protocol.options.as_slice();
+    declaring_pipe(alloc, text, declared, protocol.at, protocol.name, first)?;
+    settings(alloc, text, declared, options, first)?;
+    let peer = last_peer(options);
+    want_peer(place_of(protocol.at, protocol.name), peer, first);
+    peer_family(text, declared, last_table(options), peer, first);
+    Ok(())
+}
