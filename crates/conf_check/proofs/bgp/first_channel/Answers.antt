@@ -15,8 +15,10 @@ pub loop-option-preserved : goal.loop-option-preserved
 loop-option-preserved c = walked c.args.options.now c.loop-option.option-index c.option-item.result [] (next_item c.args.options.now c.loop-option.option-index c.option-item.result c.loop-option-test.true c.option-item.is) c.in_default.ensures c.loop-option.invariant
 
 pub returns-in-Some : goal.returns-in-Some
-returns-in-Some c = (bgp_channels (map bgp_setting_of (drop (c.loop-option.option-index + 1) c.args.options.now)),
-    walked c.args.options.now c.loop-option.option-index c.option-item.result (channel_of c.in-Some.channel.now ∷ []) (next_item c.args.options.now c.loop-option.option-index c.option-item.result c.loop-option-test.true c.option-item.is) c.in-Some.ensures c.loop-option.invariant)
+returns-in-Some c = (
+  bgp_channels (map bgp_setting_of (drop (c.loop-option.option-index + 1) c.args.options.now)),
+  walked c.args.options.now c.loop-option.option-index c.option-item.result (channel_of c.in-Some.channel.now ∷ []) (next_item c.args.options.now c.loop-option.option-index c.option-item.result c.loop-option-test.true c.option-item.is) c.in-Some.ensures c.loop-option.invariant,
+)
 
 pub returns : goal.returns
 returns c = c.loop-option.invariant ∙ ap (λ (os : List BgpOption). bgp_channels (map bgp_setting_of os)) (nothing_left c.args.options.now c.loop-option.option-index c.loop-option-test.false)
