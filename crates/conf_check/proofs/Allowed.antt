@@ -1,5 +1,5 @@
 -- What is so where nothing is refused of a statement.
-use Rattle.std.proofs.Common.{◌≡◌, ℕ, suc, ◌+◌, ◌<◌, Bool, true, false, ◌||◌, not, nat_lt, if◌then◌else◌, List, [], ◌∷◌, ◌++◌, length, map, Option, Some, None, refl, sym, ap, ◌∙◌, arith, true≢false}
+use Rattle.std.proofs.Common.{◌≡◌, ℕ, ◌<◌, Bool, true, false, ◌||◌, not, nat_lt, if◌then◌else◌, List, [], ◌∷◌, ◌++◌, length, Option, Some, None, refl, sym, ap, ◌∙◌, arith, true≢false}
 use Rattle.std.proofs.lemmas.Bool.{ltb-true}
 use Rattle.std.proofs.lemmas.Option.{none-some}
 use Rattle.std.specs.List.{list_any}
@@ -20,7 +20,7 @@ use Rattle.conf_rules.specs.Constants.{value}
 use Rattle.conf_rules.specs.Known as of
 use Rattle.conf_rules.specs.Known.{Known, is_declared}
 use Rattle.conf_rules.specs.Protocols as p
-use Rattle.conf_rules.specs.Refusals.{first_in, first_of, of_filters, precedes, refused_if}
+use Rattle.conf_rules.specs.Refusals.{first_in, of_filters, precedes, refused_if}
 use Rattle.conf_rules.specs.Statements as rules
 use Rattle.conf_check.specs.Seen.{HasOne, HasPeer}
 use Rattle.conf_check.proofs.Names.{or_left, or_right}

@@ -1,9 +1,9 @@
 -- Scopes that declare one thing more, or none.
-use Rattle.std.proofs.Common.{◌≡◌, ℕ, suc, ◌+◌, ◌<◌, ◌≤◌, All, Bool, true, false, List, [], ◌∷◌, ◌++◌, length, map, Option, Some, None, Result, Ok, Err, refl, sym, ap, subst, ◌∙◌, arith, append_assoc, append-nil, length-append, Vec}
+use Rattle.std.proofs.Common.{◌≡◌, ℕ, ◌≤◌, All, List, [], ◌∷◌, ◌++◌, length, map, Some, None, Result, Ok, Err, refl, sym, ap, subst, ◌∙◌, arith, append-nil, length-append, Vec}
 use Rattle.std.specs.Global.{Global}
 use Rattle.std.specs.Result.{result_ok}
 use Rattle.std.proofs.lemmas.List.{map-append}
-use Rattle.std.proofs.lemmas.List.Elements.{All-push, All-weaker}
+use Rattle.std.proofs.lemmas.List.Elements.{All-push}
 use Rattle.bits_ip.specs.declared.address.Family.{Family}
 use Rattle.grammar.specs.declared.named.Name.{Name}
 use Rattle.grammar.specs.Names.{name_bytes}
@@ -20,15 +20,14 @@ use Rattle.filt_tree.specs.declared.scope.Scope.{Scope}
 use Rattle.filt_tree.specs.declared.scope.TFunction.{TFunction}
 use Rattle.filt_tree.specs.Scopes.{constant_values, constants_in, context_of, function_names, function_trees, named, tables_of}
 use Rattle.filt_tree.specs.Trees.{function, tables}
-use Rattle.filt_types.specs.Scenes.{Scene, Signature}
+use Rattle.filt_types.specs.Scenes.{Signature}
 use Rattle.filt_types.specs.Seen.{functions_in, scene_of, signature_of}
 use Rattle.filt_check.specs.Answers.{signature_in}
 use Rattle.filt_check.proofs.Growing.{constant_declared, function_declared}
-use Rattle.filt_check.proofs.Lookups.{mapped_length}
 use Rattle.conf_rules.specs.declared.declared.Declared.{Declared}
 use Rattle.conf_rules.specs.Known.{Known}
 use Rattle.conf_rules.specs.Seen.{known_of}
-use Rattle.conf_check.specs.Behind.{behind_one, context_in, no_route, with_filter, with_others, with_protocol, with_scene, with_signature, with_table, with_value}
+use Rattle.conf_check.specs.Behind.{behind_one, context_in, no_route, with_filter, with_others, with_protocol, with_scene, with_table, with_value}
 use Rattle.conf_check.specs.Seen.{AreWithin, Declares, Grows, Joins, Stays, counted, other_names}
 use Rattle.conf_check.proofs.Names.{nothing}
 use Rattle.conf_check.proofs.ConstantValues.{constant_same, given_none, given_some}

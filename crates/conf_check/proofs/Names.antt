@@ -1,5 +1,5 @@
 -- Names that are declared, and one more.
-use Rattle.std.proofs.Common.{◌≡◌, ℕ, suc, ◌+◌, ◌<◌, ◌≤◌, Bool, true, false, cond, ◌||◌, ◌&&◌, not, nat_eq, nat_lt, if◌then◌else◌, List, [], ◌∷◌, ◌++◌, length, map, Option, Some, None, option_map, is_some, position, refl, sym, ap, subst, ◌∙◌, arith, append_assoc, append-nil, length-append, true≢false, Result, Ok, Err, Vec, codes}
+use Rattle.std.proofs.Common.{◌≡◌, ℕ, suc, ◌+◌, ◌≤◌, Bool, true, false, cond, ◌||◌, ◌&&◌, not, nat_eq, nat_lt, if◌then◌else◌, List, [], ◌∷◌, ◌++◌, length, map, Option, Some, None, option_map, is_some, position, refl, sym, ap, ◌∙◌, arith, true≢false, Result, Ok, Err, Vec, codes}
 use Rattle.std.specs.Cmp.Lexicographic.{pointwise}
 use Rattle.std.specs.Global.{Global}
 use Rattle.std.specs.List.{list_any, position_or_len}
@@ -17,14 +17,13 @@ use Rattle.filt_values.specs.declared.value.Failure.{Failure}
 use Rattle.filt_values.specs.Values.{Val}
 use Rattle.filt_meaning.specs.Configuration.{constant}
 use Rattle.filt_meaning.specs.Names.{named_in, same_name}
-use Rattle.filt_check.specs.Answers.{signature_in}
 use Rattle.filt_types.specs.Scenes.{is_declared}
 use Rattle.filt_check.proofs.Lookups.{mapped_length}
 use Rattle.filt_types.proofs.Lookups.{is_among, is_looked_up, looked_up, same_flip}
 use Rattle.conf_rules.specs.Known.{Known}
 use Rattle.conf_rules.specs.Protocols.{bgp_stem, own_name, pipe_names, pipe_stem, static_stem}
 use Rattle.conf_rules.specs.Statements.{is_master, master}
-use Rattle.conf_check.specs.Behind.{at_start, behind, behind_one, context_in, with_filter, with_protocol, with_scene, with_signature, with_table, with_value}
+use Rattle.conf_check.specs.Behind.{at_start, behind, behind_one, context_in, with_filter, with_protocol, with_scene, with_table, with_value}
 use Rattle.conf_check.specs.Checked.{place_in}
 use Rattle.conf_check.specs.Seen.{AreNamed, Joins}
 

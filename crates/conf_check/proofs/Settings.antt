@@ -1,5 +1,5 @@
 -- Settings, one more at a time.
-use Rattle.std.proofs.Common.{◌≡◌, ℕ, Bool, List, [], ◌∷◌, ◌++◌, Option, map, refl, sym, ap, ◌∙◌}
+use Rattle.std.proofs.Common.{◌≡◌, ℕ, Bool, List, [], ◌∷◌, ◌++◌, map, refl, ap, ◌∙◌}
 use Rattle.std.proofs.lemmas.List.{map-append}
 use Rattle.bits_ip.specs.declared.address.Addr.{Addr}
 use Rattle.conf_tree.specs.declared.tree.Limit.{Limit}

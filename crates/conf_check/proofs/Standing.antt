@@ -1,9 +1,8 @@
 -- What has been made of statements, and of one more.
-use Rattle.std.proofs.Common.{◌≡◌, ℕ, suc, ◌+◌, ◌<◌, ◌≤◌, All, Bool, true, false, List, [], ◌∷◌, ◌++◌, length, map, take, get_or, Option, Some, None, Result, Ok, Err, refl, sym, ap, subst, ◌∙◌, arith, append_assoc, append-nil, length-append}
+use Rattle.std.proofs.Common.{◌≡◌, ℕ, ◌+◌, ◌<◌, ◌≤◌, All, Bool, true, false, List, [], ◌∷◌, ◌++◌, length, map, take, get_or, Option, None, Result, Ok, Err, refl, sym, ap, subst, ◌∙◌, arith, append_assoc, append-nil, length-append}
 use Rattle.std.proofs.lemmas.List.{map-append, take_more}
 use Rattle.std.proofs.lemmas.Option.{same_Some}
 use Rattle.std.specs.Result.{IfOk, IsErrAnd, MatchResult, result_ok}
-use Rattle.attrs.specs.declared.attributes.Attrs.{Attrs}
 use Rattle.conf_tree.specs.declared.kind.ConfFault.{ConfFault}
 use Rattle.conf_tree.specs.declared.kind.ConfFault.TheVariants as faults
 use Rattle.conf_tree.specs.declared.tree.Statement.{Statement}
@@ -12,7 +11,7 @@ use Rattle.conf_ast.specs.Configurations.{configuration_of, declaration_of, Pass
 use Rattle.conf_ast.specs.Filters.{Statements}
 use Rattle.filt_meaning.specs.Configuration as meaning
 use Rattle.filt_meaning.specs.Configuration.{filter_where}
-use Rattle.filt_meaning.specs.Names.{Around, Context}
+use Rattle.filt_meaning.specs.Names.{Context}
 use Rattle.filt_tree.specs.declared.scope.Scope.{Scope}
 use Rattle.filt_tree.specs.declared.scope.TFunction.{TFunction}
 use Rattle.filt_tree.specs.declared.tree.TFilter.{TFilter}
@@ -40,7 +39,7 @@ use Rattle.conf_check.specs.declared.checked.StaticDef.{StaticDef}
 use Rattle.conf_check.specs.Behind.{at_start, behind, behind_one}
 use Rattle.conf_check.specs.Checked.{AreProtocols, DoEach, Does, IsBgp, IsBody, IsChannel, IsChecked, IsOnly, IsPipe, IsPolicy, IsProtocol, IsStatic, NextProtocol, Source, bgp_preference, filter_source, filter_sources, is_protocol, last_export, last_import, last_pipe_export, last_pipe_import, static_preference}
 use Rattle.conf_check.specs.Refused.{IsFault, or_later, refusal_of}
-use Rattle.conf_check.specs.Seen.{Adds, AddsFilter, AddsOne, AddsProtocol, AreWithin, Declares, Grows, Lasts, Means, SeesAs, Stands}
+use Rattle.conf_check.specs.Seen.{Adds, AddsFilter, AddsOne, AddsProtocol, Grows, Lasts, Means, SeesAs, Stands}
 
 -- ---- behind one statement more
 

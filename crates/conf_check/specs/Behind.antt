@@ -1,9 +1,8 @@
 -- What a configuration declares behind its statements, one after another.
-use Rattle.std.specs.Prelude.{ℕ, ◌+◌, Bool, true, false, if◌then◌else◌, List, [], ◌∷◌, ◌++◌, Result, Ok, Err, codes}
+use Rattle.std.specs.Prelude.{ℕ, ◌+◌, if◌then◌else◌, List, [], ◌∷◌, ◌++◌, Result, Ok, Err}
 use Rattle.bits_ip.specs.declared.address.Addr.TheVariants as addrs
 use Rattle.bits_ip.specs.declared.address.Family.{Family}
 use Rattle.bits_ip.specs.declared.address.Family.TheVariants as families
-use Rattle.bits_ip.specs.Prefix.{Net}
 use Rattle.grammar.specs.Names.{name_bytes}
 use Rattle.conf_ast.specs.Configurations as conf
 use Rattle.filt_values.specs.declared.value.Failure.{Failure}
@@ -117,7 +116,8 @@ behind_one known (conf.RouterId a) = known
 behind_one known conf.Log = known
 behind_one known (conf.Define name v) =
     with_scene known
-    (with_value known.scene (name_bytes known.scene.text name) (constant (context_in known.scene) v))
+    (with_value known.scene (name_bytes known.scene.text name)
+    (constant (context_in known.scene) v))
 behind_one known (conf.Table at family name) =
     if is_master known family name then known
     else with_table known (name_bytes known.scene.text name) family

@@ -1,23 +1,19 @@
 -- What a configuration comes to that is accepted: its protocols with each option or its default, by
 -- the options that count, and its filters by what they do.
-use Rattle.std.specs.Prelude.{◌≡◌, ℕ, zero, suc, ◌==◌, Bool, true, false, not, if◌then◌else◌, List, [], ◌∷◌, ◌++◌, length, map, Option, Some, None, ⊤, codes}
-use Rattle.std.specs.List.{All}
+use Rattle.std.specs.Prelude.{◌≡◌, ℕ, suc, Bool, true, false, if◌then◌else◌, List, [], ◌∷◌, ◌++◌, map, Option, Some, None, ⊤, codes}
 use Rattle.attrs.specs.declared.attributes.Attrs.{Attrs}
 use Rattle.bits_ip.specs.declared.address.Addr.{Addr}
 use Rattle.bits_ip.specs.declared.address.Addr.TheVariants as addrs
 use Rattle.bits_ip.specs.declared.address.Family.{Family}
 use Rattle.grammar.specs.declared.named.Name.{Name}
 use Rattle.grammar.specs.Names.{name_bytes}
-use Rattle.filt_syntax.specs.declared.tree.Num.{Num}
 use Rattle.conf_tree.specs.declared.tree.Action.{Action}
 use Rattle.conf_tree.specs.declared.tree.Action.TheVariants as actions
-use Rattle.conf_tree.specs.declared.tree.Address.{Address}
 use Rattle.conf_tree.specs.declared.tree.Limit.{Limit}
 use Rattle.conf_tree.specs.declared.tree.Limit.TheVariants as limits
 use Rattle.conf_tree.specs.declared.tree.Route.{Route}
 use Rattle.conf_tree.specs.declared.tree.RouteTarget.{RouteTarget}
 use Rattle.conf_tree.specs.declared.tree.RouteTarget.TheVariants as targets
-use Rattle.conf_tree.specs.declared.tree.Switch.{Switch}
 use Rattle.conf_ast.specs.Configurations as conf
 use Rattle.conf_ast.specs.Configurations.{Passing, PassAll, PassNone, PassByFilter, PassByBlock, PassWhere, ChannelSetting, ChannelTable, ChannelImport, ChannelExport, ChannelPreference, ChannelLimit, ChannelNextHop, FamilyChannel, StaticSetting, BgpSetting, BgpChannel, BgpLocal, BgpNeighbor, BgpMedMetric, BgpInterpretCommunities, BgpDefaultMed, BgpDefaultLocalPref, BgpTransport, PipeSetting, PipeTable, PipePeerTable, PipeImport, PipeExport, Instance}
 use Rattle.conf_ast.specs.Filters.{Statements}
@@ -28,7 +24,6 @@ use Rattle.filt_tree.specs.declared.scope.Scope.{Scope}
 use Rattle.filt_tree.specs.declared.tree.TFilter.{TFilter}
 use Rattle.filt_tree.specs.Scopes.{constant_values, function_trees}
 use Rattle.filt_tree.specs.Trees as trees
-use Rattle.filt_types.specs.Items.{is_over}
 use Rattle.conf_rules.specs.Channels.{last_table, settings_of}
 use Rattle.conf_rules.specs.Known.{Known, number_of}
 use Rattle.conf_rules.specs.Protocols as rules
@@ -49,7 +44,7 @@ use Rattle.conf_check.specs.declared.checked.StaticDef.{StaticDef}
 use Rattle.conf_check.specs.declared.checked.StaticRoute.{StaticRoute}
 use Rattle.conf_check.specs.declared.checked.StaticTarget.{StaticTarget}
 use Rattle.conf_check.specs.declared.checked.StaticTarget.TheVariants as static_targets
-use Rattle.conf_check.specs.Behind.{at_start, behind, behind_one}
+use Rattle.conf_check.specs.Behind.{at_start, behind}
 
 -- ---- numbers of names
 
@@ -216,8 +211,8 @@ last_default_local_pref known found (BgpDefaultLocalPref at n ∷ more) =
     last_default_local_pref known (or_zero (number_of known n)) more
 last_default_local_pref known found (s ∷ more) = last_default_local_pref known found more
 
--- Communities are interpreted where the protocol doesn't say otherwise; a route without a MED counts
--- as one with 0, one without a local preference as one with 100.
+-- Communities are interpreted where the protocol doesn't say otherwise; a route without a MED
+-- counts as one with 0, one without a local preference as one with 100.
 pub record IsBgp (known : Known) (does : Statements → TFilter → Type 0)
     (p : Instance BgpSetting) (def : BgpDef) : Type 0 where
   pub local : def.local ≡ or_zero (as_number known (last_local None p.settings))

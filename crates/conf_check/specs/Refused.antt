@@ -1,6 +1,6 @@
 -- Which refusal of a configuration counts: the first of the first statement that is refused. The
 -- bytes of statements follow each other, so it is the first by place of all that there are.
-use Rattle.std.specs.Prelude.{◌≡◌, ℕ, List, [], ◌∷◌, ◌++◌, Option, Some, None, ⊤}
+use Rattle.std.specs.Prelude.{◌≡◌, List, [], ◌∷◌, Option, Some, None, ⊤}
 use Rattle.conf_tree.specs.declared.kind.ConfFault.{ConfFault}
 use Rattle.conf_tree.specs.declared.kind.ConfFault.TheVariants as faults
 use Rattle.conf_ast.specs.Configurations as conf

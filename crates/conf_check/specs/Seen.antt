@@ -1,5 +1,5 @@
--- For the contracts of private functions: what is made of a statement, and what has been made of the
--- statements so far.
+-- For the contracts of private functions: what is made of a statement, and what has been made of
+-- the statements so far.
 use Rattle.std.specs.Prelude.{◌≡◌, ℕ, ◌+◌, ◌≤◌, Bool, true, false, List, [], ◌∷◌, ◌++◌, length, map, Option, Some, None, Vec}
 use Rattle.std.specs.Global.{Global}
 use Rattle.std.specs.List.{All, list_any}
@@ -29,8 +29,8 @@ use Rattle.conf_check.specs.Checked.{AreProtocols, DoEach, Does, IsProtocol, fil
 
 -- ---- filters
 
--- The tree does what the statements do where the scope declares what there is, and sees no more than
--- the scope has.
+-- The tree does what the statements do where the scope declares what there is, and sees no more
+-- than the scope has.
 pub record Means (text : List ℕ) (scope : Scope) (ss : Statements) (f : TFilter) : Type 0 where
   pub does : (around : Around) (attrs : Attrs)
       → trees.judged around (constant_values scope) (function_trees scope) f attrs

@@ -13,8 +13,8 @@ use std::alloc::Global;
 /// first by its number. Pipes may form a cycle. BIRD User's Guide, "Configuration".
 pub fn check_config(alloc: Global, config: &Config<'_>) -> Result<Checked, ConfFault>
     ensures answer { MatchResult result
-        (λ _. refusal_of (at_start config.now.text.now) (configuration_of config.now.statements.items)
-        ≡ None)
+        (λ _. refusal_of (at_start config.now.text.now)
+        (configuration_of config.now.statements.items) ≡ None)
         (λ fault. IsFault fault
         (refusal_of (at_start config.now.text.now)
         (configuration_of config.now.statements.items))) }

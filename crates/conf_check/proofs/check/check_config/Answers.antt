@@ -1,4 +1,4 @@
-use Rattle.std.proofs.Common.{◌≡◌, ℕ, ◌+◌, List, [], ◌∷◌, take, drop, length, Option, refl, sym, ap, subst, ◌∙◌}
+use Rattle.std.proofs.Common.{◌+◌, List, take, drop, sym, ap, subst, ◌∙◌}
 use Rattle.std.proofs.lemmas.List.{take_all}
 use Rattle.std.proofs.lemmas.Result.{err_from_is_err_and}
 use Rattle.conf_tree.specs.declared.tree.Statement.{Statement}
@@ -8,8 +8,7 @@ use Rattle.filt_types.proofs.Lookups.{next_item, nothing_left}
 use Rattle.conf_rules.specs.Known.{Known}
 use Rattle.conf_rules.specs.Seen.{known_of}
 use Rattle.conf_check.specs.Behind.{at_start}
-use Rattle.conf_check.specs.Checked.{IsChecked}
-use Rattle.conf_check.specs.Refused.{IsFault, refusal_of}
+use Rattle.conf_check.specs.Refused.{refusal_of}
 use Rattle.conf_check.specs.Seen.{AreNamed, Stands}
 use Rattle.conf_check.proofs.Names.{named_behind}
 use Rattle.conf_check.proofs.Standing.{fault_whole, one_taken, refusal_turn, stands_checked, stands_more}

@@ -1,7 +1,4 @@
-use Rattle.std.proofs.Common.{List, ℕ, ap, ◌∙◌}
 use Rattle.filt_values.specs.Seen.{val_of_fixed}
-use Rattle.filt_tree.specs.Scopes.{constants_in}
-use Rattle.filt_types.specs.Scenes.{is_declared}
 use Rattle.conf_check.proofs.Names.{absent, entry_joins}
 use Rattle.conf_check.proofs.declare.declare_constant.Goals as goal
 

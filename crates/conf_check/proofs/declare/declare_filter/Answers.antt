@@ -1,4 +1,4 @@
-use Rattle.std.proofs.Common.{List, ℕ, ap, ◌∙◌, map, ◌++◌, ◌∷◌, [], refl}
+use Rattle.std.proofs.Common.{[]}
 use Rattle.conf_rules.specs.Seen.{known_of}
 use Rattle.conf_check.proofs.Allowed.{is_free}
 use Rattle.conf_check.proofs.Growing.{filter_known}

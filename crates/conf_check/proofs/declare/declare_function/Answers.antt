@@ -1,6 +1,4 @@
-use Rattle.std.proofs.Common.{List, ℕ, ap, ◌∙◌}
-use Rattle.filt_types.specs.Seen.{functions_in, signature_of}
-use Rattle.filt_types.specs.Scenes.{is_declared}
+use Rattle.filt_types.specs.Seen.{signature_of}
 use Rattle.conf_check.proofs.Names.{absent, entry_joins}
 use Rattle.conf_check.proofs.declare.declare_function.Goals as goal
 

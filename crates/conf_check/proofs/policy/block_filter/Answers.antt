@@ -1,4 +1,4 @@
-use Rattle.std.proofs.Common.{◌≡◌, List, ap, ◌∙◌, arith, []}
+use Rattle.std.proofs.Common.{List, ap, ◌∙◌, arith, []}
 use Rattle.filt_syntax.specs.declared.tree.Stmt.{Stmt}
 use Rattle.conf_ast.specs.Filters.{statements_of}
 use Rattle.filt_meaning.specs.Configuration.{judged}

@@ -1,5 +1,4 @@
-use Rattle.std.proofs.Common.{◌≡◌, Bool, true, false, if◌then◌else◌, List, ℕ, [], ◌∷◌, ◌++◌, Option, option_map, map, ap, sym, subst, ◌∙◌, refl, Vec}
-use Rattle.std.specs.Global.{Global}
+use Rattle.std.proofs.Common.{List, ℕ, ◌++◌, ap, ◌∙◌, refl}
 use Rattle.std.specs.List.{list_any}
 use Rattle.conf_ast.specs.Configurations as conf
 use Rattle.conf_ast.specs.Configurations.{instance_of, pipe_setting_of}

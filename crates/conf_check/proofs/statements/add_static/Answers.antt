@@ -1,5 +1,4 @@
-use Rattle.std.proofs.Common.{◌≡◌, Bool, true, false, if◌then◌else◌, List, ℕ, [], ◌∷◌, ◌++◌, Option, option_map, map, ap, sym, subst, ◌∙◌, refl, Vec}
-use Rattle.std.specs.Global.{Global}
+use Rattle.std.proofs.Common.{List, ℕ, [], ◌∷◌, ◌++◌, ap, ◌∙◌, refl}
 use Rattle.conf_ast.specs.Configurations as conf
 use Rattle.conf_ast.specs.Configurations.{instance_of, static_setting_of}
 use Rattle.conf_rules.specs.Protocols.{own_name, static_stem}

@@ -1,4 +1,4 @@
-use Rattle.std.proofs.Common.{◌≡◌, Bool, true, false, if◌then◌else◌, List, ℕ, [], ◌∷◌, ◌++◌, Option, option_map, map, ap, sym, subst, ◌∙◌, refl, Vec}
+use Rattle.std.proofs.Common.{List, ℕ, Option, option_map, map, ap, sym, ◌∙◌, Vec}
 use Rattle.std.specs.Global.{Global}
 use Rattle.conf_ast.specs.Configurations.{value_of}
 use Rattle.filt_types.specs.Scenes.{is_declared}

@@ -1,11 +1,10 @@
-use Rattle.std.proofs.Common.{◌≡◌, Bool, true, false, if◌then◌else◌, List, ℕ, [], ◌∷◌, ◌++◌, Option, option_map, map, ap, sym, subst, ◌∙◌, refl, Vec}
-use Rattle.std.specs.Global.{Global}
+use Rattle.std.proofs.Common.{◌≡◌, Bool, true, false, if◌then◌else◌, List, ℕ, ap, sym, ◌∙◌, refl}
 use Rattle.grammar.specs.Names.{name_bytes}
 use Rattle.conf_ast.specs.Configurations as conf
 use Rattle.filt_meaning.specs.Names.{same_name}
-use Rattle.conf_rules.specs.Known.{Known, is_declared}
+use Rattle.conf_rules.specs.Known.{is_declared}
 use Rattle.conf_rules.specs.Seen.{known_of}
-use Rattle.conf_rules.specs.Statements.{is_master, master}
+use Rattle.conf_rules.specs.Statements.{master}
 use Rattle.conf_check.specs.Behind.{with_table}
 use Rattle.conf_check.proofs.Allowed.{table_free}
 use Rattle.conf_check.proofs.Growing.{stays_declares}

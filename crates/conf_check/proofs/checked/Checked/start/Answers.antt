@@ -1,4 +1,4 @@
-use Rattle.std.proofs.Common.{◌≡◌, List, ℕ, [], ◌∙◌}
+use Rattle.std.proofs.Common.{◌≡◌, List, ℕ, []}
 use Rattle.conf_rules.specs.declared.declared.Declared.{Declared}
 use Rattle.conf_rules.specs.Seen.{known_of}
 use Rattle.conf_check.specs.Behind.{at_start}
