@@ -180,7 +180,8 @@ fn next_local(found: Option<Num>, option: &BgpOption) -> Option<Num>
     }
 }
 
-fn last_local(options: &[BgpOption]) -> Option<Num>
+/// The number of the own autonomous system, as it was written last.
+pub fn last_local(options: &[BgpOption]) -> Option<Num>
     ensures { result ≡ of.last_local None (map bgp_setting_of options.now) }
 {
     let mut found = None;
@@ -205,7 +206,8 @@ fn next_neighbor(found: Option<Num>, option: &BgpOption) -> Option<Num>
     }
 }
 
-fn last_neighbor(options: &[BgpOption]) -> Option<Num>
+/// The number of the neighbour's autonomous system, as it was written last.
+pub fn last_neighbor(options: &[BgpOption]) -> Option<Num>
     ensures { result ≡ of.last_neighbor None (map bgp_setting_of options.now) }
 {
     let mut found = None;
@@ -242,7 +244,7 @@ fn last_med_metric(options: &[BgpOption]) -> Option<Switch>
 
 // ---- sessions
 
-fn as_number(text: &[u8], declared: &Declared, number: Option<Num>) -> Option<u32>
+pub fn as_number(text: &[u8], declared: &Declared, number: Option<Num>) -> Option<u32>
     ensures { result ≡ of.as_number (known_of text.now declared.now) number }
 {
     match number {
@@ -281,7 +283,7 @@ fn policies(at: usize, external: bool, options: &[BgpOption], first: &mut Option
     note_if(first, external & lacks, at, ConfKind::PolicyMissing);
 }
 
-fn is_on(switch: Switch) -> bool
+pub fn is_on(switch: Switch) -> bool
     ensures { result ≡ of.is_on switch }
 {
     match switch {

@@ -118,7 +118,8 @@ fn named_table(found: Option<Name>, option: &ChannelOption) -> Option<Name>
     }
 }
 
-fn last_table(options: &[ChannelOption]) -> Option<Name>
+/// The table of a channel that was named last.
+pub fn last_table(options: &[ChannelOption]) -> Option<Name>
     ensures { result ≡ of.last_table None (map channel_setting_of options.now) }
 {
     let mut found = None;

@@ -42,7 +42,7 @@ pub(crate) fn number(text: &[u8], declared: &Declared, number: Num, first: &mut 
     note_first(first, found);
 }
 
-pub(crate) fn number_of(text: &[u8], declared: &Declared, number: Num) -> Option<u32>
+pub fn number_of(text: &[u8], declared: &Declared, number: Num) -> Option<u32>
     ensures { result ≡ of.number_of (known_of text.now declared.now) number }
 {
     filt_types::value_of(seen_in(text, declared), number)

@@ -18,7 +18,11 @@ mod refusal;
 mod statements;
 mod static_protocols;
 
+pub use bgp::{as_number, is_on, last_local, last_neighbor};
+pub use channels::last_table;
 pub use declared::Declared;
+pub use filters::number_of;
 pub use names::{BGP_STEM, PIPE_STEM, STATIC_STEM, own_name};
+pub use pipes::{last_peer, last_table as last_pipe_table};
 pub use refusal::Refusal;
 pub use statements::first_in_statement;

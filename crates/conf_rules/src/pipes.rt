@@ -70,7 +70,8 @@ fn next_table(found: Option<Name>, option: &PipeOption) -> Option<Name>
     }
 }
 
-fn last_table(options: &[PipeOption]) -> Option<Name>
+/// The primary table that was named last.
+pub fn last_table(options: &[PipeOption]) -> Option<Name>
     ensures { result ≡ of.last_table None (map pipe_setting_of options.now) }
 {
     let mut found = None;
@@ -91,7 +92,8 @@ fn next_peer(found: Option<Name>, option: &PipeOption) -> Option<Name>
     }
 }
 
-fn last_peer(options: &[PipeOption]) -> Option<Name>
+/// The peer table that was named last.
+pub fn last_peer(options: &[PipeOption]) -> Option<Name>
     ensures { result ≡ of.last_peer None (map pipe_setting_of options.now) }
 {
     let mut found = None;

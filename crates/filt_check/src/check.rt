@@ -85,7 +85,8 @@ pub fn check_block(
     }
 }
 
-fn resolve_filter(
+/// The tree of a filter's statements, in which nothing is to be refused; its rules aren't asked.
+pub fn resolve_filter(
     alloc: Global,
     text: &[u8],
     scope: &Scope,
@@ -151,7 +152,8 @@ fn where_body(alloc: Global, condition: TExpr) -> Result<Vec<TStmt>, OutOfMemory
     Ok(body)
 }
 
-fn resolve_condition(
+/// The tree of a condition, as `resolve_filter`.
+pub fn resolve_condition(
     alloc: Global,
     text: &[u8],
     scope: &Scope,
@@ -205,7 +207,8 @@ pub fn check_function(
     }
 }
 
-fn resolve_function(
+/// The tree of a function, as `resolve_filter`.
+pub fn resolve_function(
     alloc: Global,
     text: &[u8],
     scope: &Scope,

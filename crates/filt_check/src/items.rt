@@ -49,7 +49,8 @@ fn named_number(text: &[u8], scope: &Scope, name: &Name) -> Option<u32>
     int_in(value)
 }
 
-fn number(text: &[u8], scope: &Scope, n: &Num) -> Option<u32>
+/// A number, or the value of the constant of that name, which is one.
+pub fn number(text: &[u8], scope: &Scope, n: &Num) -> Option<u32>
     ensures { (around : Around) (variables : List (List ℕ)) → there result
         ≡ written.number (context_of text.now around scope.now variables) n.now }
 {
@@ -307,7 +308,7 @@ fn prefix_set(
 }
 
 /// The set of items of one sort, that of the first.
-pub(crate) fn set_of(
+pub fn set_of(
     alloc: Global,
     text: &[u8],
     scope: &Scope,
@@ -378,7 +379,8 @@ fn all_atoms(
     Ok(Some(all))
 }
 
-pub(crate) fn mask_of(
+/// The mask of these items.
+pub fn mask_of(
     alloc: Global,
     text: &[u8],
     scope: &Scope,

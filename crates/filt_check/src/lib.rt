@@ -16,5 +16,9 @@ mod names;
 mod resolve;
 mod simple;
 
-pub use check::{check_block, check_expr, check_filter, check_function};
+pub use check::{
+    check_block, check_expr, check_filter, check_function, resolve_condition, resolve_filter,
+    resolve_function,
+};
 pub use fault::TypeFault;
+pub use items::{mask_of, number, set_of};

@@ -1,0 +1,24 @@
+use Rattle.std.proofs.Common.{◌≡◌, ℕ, ◌+◌, ◌++◌, ◌∷◌, [], List, map, drop, ap, ◌∙◌}
+use Rattle.conf_tree.specs.declared.tree.BgpOption.{BgpOption}
+use Rattle.conf_ast.specs.Configurations.{FamilyChannel, channel_of, bgp_setting_of}
+use Rattle.filt_types.proofs.Lookups.{next_item, nothing_left}
+use Rattle.conf_rules.specs.Protocols.{bgp_channels}
+use Rattle.conf_rules.proofs.Settings.{more_bgp_channels}
+use Rattle.conf_check.proofs.bgp.first_channel.Goals as goal
+
+walked : (options : List BgpOption) (i : ℕ) (x : BgpOption) (found : List FamilyChannel) → drop i options ≡ x ∷ drop (i + 1) options → bgp_channels (bgp_setting_of x ∷ []) ≡ found → bgp_channels (map bgp_setting_of options) ≡ bgp_channels (map bgp_setting_of (drop i options)) → bgp_channels (map bgp_setting_of options) ≡ found ++ bgp_channels (map bgp_setting_of (drop (i + 1) options))
+walked options i x found item is before =
+    before ∙ ap (λ (os : List BgpOption). bgp_channels (map bgp_setting_of os)) item ∙ more_bgp_channels (bgp_setting_of x) (map bgp_setting_of (drop (i + 1) options))
+    ∙ ap (λ (cs : List FamilyChannel). cs ++ bgp_channels (map bgp_setting_of (drop (i + 1) options))) is
+
+pub loop-option-preserved : goal.loop-option-preserved
+loop-option-preserved c = walked c.args.options.now c.loop-option.option-index c.option-item.result [] (next_item c.args.options.now c.loop-option.option-index c.option-item.result c.loop-option-test.true c.option-item.is) c.in_default.ensures c.loop-option.invariant
+
+pub returns-in-Some : goal.returns-in-Some
+returns-in-Some c = (
+  bgp_channels (map bgp_setting_of (drop (c.loop-option.option-index + 1) c.args.options.now)),
+  walked c.args.options.now c.loop-option.option-index c.option-item.result (channel_of c.in-Some.channel.now ∷ []) (next_item c.args.options.now c.loop-option.option-index c.option-item.result c.loop-option-test.true c.option-item.is) c.in-Some.ensures c.loop-option.invariant,
+)
+
+pub returns : goal.returns
+returns c = c.loop-option.invariant ∙ ap (λ (os : List BgpOption). bgp_channels (map bgp_setting_of os)) (nothing_left c.args.options.now c.loop-option.option-index c.loop-option-test.false)

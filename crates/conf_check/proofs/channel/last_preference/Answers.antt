@@ -1,0 +1,19 @@
+use Rattle.std.proofs.Common.{List, map, refl}
+use Rattle.std.proofs.Common.{ℕ}
+use Rattle.conf_tree.specs.declared.tree.ChannelOption.{ChannelOption}
+use Rattle.conf_ast.specs.Configurations.{channel_setting_of}
+use Rattle.conf_rules.proofs.Turns.{found_turn, found_ends}
+use Rattle.conf_check.specs.Checked as of
+use Rattle.conf_rules.specs.Seen.{known_of}
+use Rattle.conf_check.proofs.Settings.{next_preference}
+use Rattle.conf_check.proofs.channel.last_preference.Goals as goal
+
+pub loop-option-preserved : goal.loop-option-preserved
+loop-option-preserved c =
+    found_turn (λ (found : ℕ) (xs : List ChannelOption). of.last_preference (known_of c.args.text.now c.args.declared.now) found (map channel_setting_of xs)) (λ found x xs. next_preference (known_of c.args.text.now c.args.declared.now) found (channel_setting_of x) (map channel_setting_of xs))
+    c.args.options.now c.loop-option.option-index c.option-item.result c.args.preference c.loop-option.found c.preference_in-found.result c.loop-option-test.true c.option-item.is c.loop-option.invariant c.preference_in-found.ensures
+
+pub returns : goal.returns
+returns c =
+    found_ends (λ (found : ℕ) (xs : List ChannelOption). of.last_preference (known_of c.args.text.now c.args.declared.now) found (map channel_setting_of xs)) (λ found. refl)
+    c.args.options.now c.loop-option.option-index c.args.preference c.loop-option.found c.loop-option-test.false c.loop-option.invariant

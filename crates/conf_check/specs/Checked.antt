@@ -1,0 +1,309 @@
+-- What a configuration comes to that is accepted: its protocols with each option or its default, by
+-- the options that count, and its filters by what they do.
+use Rattle.std.specs.Prelude.{◌≡◌, ℕ, suc, Bool, true, false, if◌then◌else◌, List, [], ◌∷◌, ◌++◌, map, Option, Some, None, ⊤, codes}
+use Rattle.attrs.specs.declared.attributes.Attrs.{Attrs}
+use Rattle.bits_ip.specs.declared.address.Addr.{Addr}
+use Rattle.bits_ip.specs.declared.address.Addr.TheVariants as addrs
+use Rattle.bits_ip.specs.declared.address.Family.{Family}
+use Rattle.grammar.specs.declared.named.Name.{Name}
+use Rattle.grammar.specs.Names.{name_bytes}
+use Rattle.conf_tree.specs.declared.tree.Action.{Action}
+use Rattle.conf_tree.specs.declared.tree.Action.TheVariants as actions
+use Rattle.conf_tree.specs.declared.tree.Limit.{Limit}
+use Rattle.conf_tree.specs.declared.tree.Limit.TheVariants as limits
+use Rattle.conf_tree.specs.declared.tree.Route.{Route}
+use Rattle.conf_tree.specs.declared.tree.RouteTarget.{RouteTarget}
+use Rattle.conf_tree.specs.declared.tree.RouteTarget.TheVariants as targets
+use Rattle.conf_ast.specs.Configurations as conf
+use Rattle.conf_ast.specs.Configurations.{Passing, PassAll, PassNone, PassByFilter, PassByBlock, PassWhere, ChannelSetting, ChannelTable, ChannelImport, ChannelExport, ChannelPreference, ChannelLimit, ChannelNextHop, FamilyChannel, StaticSetting, BgpSetting, BgpChannel, BgpLocal, BgpNeighbor, BgpMedMetric, BgpInterpretCommunities, BgpDefaultMed, BgpDefaultLocalPref, BgpTransport, PipeSetting, PipeTable, PipePeerTable, PipeImport, PipeExport, Instance}
+use Rattle.conf_ast.specs.Filters.{Statements}
+use Rattle.filt_meaning.specs.Configuration as meaning
+use Rattle.filt_meaning.specs.Configuration.{filter_where}
+use Rattle.filt_meaning.specs.Names.{Around, same_name}
+use Rattle.filt_tree.specs.declared.scope.Scope.{Scope}
+use Rattle.filt_tree.specs.declared.tree.TFilter.{TFilter}
+use Rattle.filt_tree.specs.Scopes.{constant_values, function_trees}
+use Rattle.filt_tree.specs.Trees as trees
+use Rattle.conf_rules.specs.Channels.{last_table, settings_of}
+use Rattle.conf_rules.specs.Known.{Known, number_of}
+use Rattle.conf_rules.specs.Protocols as rules
+use Rattle.conf_rules.specs.Protocols.{as_number, bgp_channels, bgp_stem, is_on, last_local, own_name, pipe_stem, static_channels, static_routes, static_stem}
+use Rattle.conf_rules.specs.Statements.{master}
+use Rattle.conf_rules.specs.Seen.{known_of}
+use Rattle.conf_check.specs.declared.checked.BgpDef.{BgpDef}
+use Rattle.conf_check.specs.declared.checked.ChannelDef.{ChannelDef}
+use Rattle.conf_check.specs.declared.checked.Checked.{Checked}
+use Rattle.conf_check.specs.declared.checked.ImportLimit.{ImportLimit}
+use Rattle.conf_check.specs.declared.checked.PipeDef.{PipeDef}
+use Rattle.conf_check.specs.declared.checked.PolicyDef.{PolicyDef}
+use Rattle.conf_check.specs.declared.checked.PolicyDef.TheVariants as policies
+use Rattle.conf_check.specs.declared.checked.ProtocolBody.{ProtocolBody}
+use Rattle.conf_check.specs.declared.checked.ProtocolBody.TheVariants as bodies
+use Rattle.conf_check.specs.declared.checked.ProtocolDef.{ProtocolDef}
+use Rattle.conf_check.specs.declared.checked.StaticDef.{StaticDef}
+use Rattle.conf_check.specs.declared.checked.StaticRoute.{StaticRoute}
+use Rattle.conf_check.specs.declared.checked.StaticTarget.{StaticTarget}
+use Rattle.conf_check.specs.declared.checked.StaticTarget.TheVariants as static_targets
+use Rattle.conf_check.specs.Behind.{at_start, behind}
+
+-- ---- numbers of names
+
+-- the place of a name in a list, behind the last one where it isn't there
+abbrev pub place_in : List (List ℕ) → List ℕ → ℕ
+place_in [] name = 0
+place_in (n ∷ ns) name = if same_name n name then 0 else suc (place_in ns name)
+
+-- the number of the table of that name
+abbrev pub table_number : Known → List ℕ → ℕ
+table_number known name = place_in (map (λ t. t.0) known.tables) name
+
+-- the number of the filter of that name
+abbrev pub filter_number : Known → Name → ℕ
+filter_number known n = place_in known.filters (name_bytes known.scene.text n)
+
+-- a number that is known, else 0; in what is accepted it is known
+abbrev pub or_zero : Option ℕ → ℕ
+or_zero None = 0
+or_zero (Some n) = n
+
+-- ---- filters
+
+-- The tree does over the scope what the statements do behind these statements of a configuration.
+abbrev pub Does : (text : List ℕ) → Scope → (before : List conf.Declaration) → Statements
+    → TFilter → Type 0
+Does text scope before ss f = (around : Around) (attrs : Attrs)
+    → trees.judged around (constant_values scope) (function_trees scope) f attrs
+    ≡ meaning.judged (meaning.behind (meaning.at_start text around) before) ss attrs
+
+-- the filters by name, each with the statements before it
+abbrev pub Source : Type 0
+Source = List conf.Declaration × Statements
+
+abbrev pub filter_source : (before : List conf.Declaration) → conf.Declaration → List Source
+filter_source before (conf.DefineFilter at name ss) = (before, ss) ∷ []
+filter_source before _ = []
+
+abbrev pub filter_sources : (before : List conf.Declaration) → List conf.Declaration → List Source
+filter_sources before [] = []
+filter_sources before (d ∷ ds) = filter_source before d ++ filter_sources (before ++ d ∷ []) ds
+
+abbrev pub DoEach : (does : List conf.Declaration → Statements → TFilter → Type 0)
+    → List Source → List TFilter → Type 0
+DoEach does [] [] = ⊤
+DoEach does (s ∷ more) (f ∷ fs) = does s.0 s.1 f × DoEach does more fs
+DoEach does _ _ = ⊥
+
+-- ---- policies
+
+-- A policy is one of these where filters of its own do what its statements do.
+abbrev pub IsPolicy : Known → (Statements → TFilter → Type 0) → Passing → PolicyDef → Type 0
+IsPolicy known does PassAll policies.All = ⊤
+IsPolicy known does PassNone policies.None = ⊤
+IsPolicy known does (PassByFilter at name) (policies.Filter n) = n ≡ filter_number known name
+IsPolicy known does (PassByBlock at ss) (policies.Own f) = does ss f
+IsPolicy known does (PassWhere at e) (policies.Own f) = does (filter_where e) f
+IsPolicy known does _ _ = ⊥
+
+-- ---- channels
+
+-- Of options written twice the last counts.
+abbrev pub last_import : Passing → List ChannelSetting → Passing
+last_import found [] = found
+last_import found (ChannelImport p ∷ more) = last_import p more
+last_import found (s ∷ more) = last_import found more
+
+abbrev pub last_export : Passing → List ChannelSetting → Passing
+last_export found [] = found
+last_export found (ChannelExport p ∷ more) = last_export p more
+last_export found (s ∷ more) = last_export found more
+
+abbrev pub last_preference : Known → ℕ → List ChannelSetting → ℕ
+last_preference known found [] = found
+last_preference known found (ChannelPreference at n ∷ more) =
+    last_preference known (or_zero (number_of known n)) more
+last_preference known found (s ∷ more) = last_preference known found more
+
+abbrev pub last_limit : Limit → List ChannelSetting → Limit
+last_limit found [] = found
+last_limit found (ChannelLimit l ∷ more) = last_limit l more
+last_limit found (s ∷ more) = last_limit found more
+
+-- At a limit without an action the protocol is disabled.
+abbrev pub action_of : Option Action → Action
+action_of None = actions.Disable
+action_of (Some action) = action
+
+abbrev pub limit_of : Known → Limit → Option ImportLimit
+limit_of known limits.Off = None
+limit_of known (limits.Count n action) =
+    Some (record { count = or_zero (number_of known n); action = action_of action })
+
+-- The table is that of the family where none is named.
+abbrev pub table_name : List ℕ → Family → Option Name → List ℕ
+table_name text family None = master family
+table_name text family (Some n) = name_bytes text n
+
+abbrev pub channel_table : Known → FamilyChannel → ℕ
+channel_table known c =
+    table_number known (table_name known.scene.text c.family (last_table None (settings_of c)))
+
+-- A channel imports all and exports none where it doesn't say otherwise. `preference` is that of
+-- the protocol's kind.
+pub record IsChannel (known : Known) (does : Statements → TFilter → Type 0) (preference : ℕ)
+    (c : FamilyChannel) (def : ChannelDef) : Type 0 where
+  pub family : def.family ≡ c.family
+  pub table : def.table ≡ channel_table known c
+  pub imports : IsPolicy known does (last_import PassAll (settings_of c)) def.import
+  pub exports : IsPolicy known does (last_export PassNone (settings_of c)) def.export
+  pub preferred : def.preference ≡ last_preference known preference (settings_of c)
+  pub limited : def.limit ≡ limit_of known (last_limit limits.Off (settings_of c))
+
+-- the one channel of a protocol
+abbrev pub IsOnly : (FamilyChannel → Type 0) → List FamilyChannel → Type 0
+IsOnly is (c ∷ []) = is c
+IsOnly is _ = ⊥
+
+-- ---- static protocols
+
+-- the preference of static routes, and that of BGP's
+abbrev pub static_preference : ℕ
+static_preference = 200
+
+abbrev pub bgp_preference : ℕ
+bgp_preference = 100
+
+abbrev pub target_of : RouteTarget → StaticTarget
+target_of (targets.Via a) = static_targets.Via a.addr
+target_of targets.Blackhole = static_targets.Blackhole
+target_of targets.Unreachable = static_targets.Unreachable
+target_of targets.Prohibit = static_targets.Prohibit
+
+abbrev pub route_of : Route → StaticRoute
+route_of r = record { net = r.net; target = target_of r.target }
+
+pub record IsStatic (known : Known) (does : Statements → TFilter → Type 0)
+    (p : Instance StaticSetting) (def : StaticDef) : Type 0 where
+  pub channel : IsOnly (λ c. IsChannel known does static_preference c def.channel)
+      (static_channels p.settings)
+  pub routes : def.routes ≡ map route_of (static_routes p.settings)
+
+-- ---- BGP
+
+abbrev pub last_neighbor : Addr → List BgpSetting → Addr
+last_neighbor found [] = found
+last_neighbor found (BgpNeighbor a n ∷ more) = last_neighbor a.addr more
+last_neighbor found (s ∷ more) = last_neighbor found more
+
+abbrev pub last_interpret : Bool → List BgpSetting → Bool
+last_interpret found [] = found
+last_interpret found (BgpInterpretCommunities s ∷ more) = last_interpret (is_on s) more
+last_interpret found (s ∷ more) = last_interpret found more
+
+abbrev pub last_default_med : Known → ℕ → List BgpSetting → ℕ
+last_default_med known found [] = found
+last_default_med known found (BgpDefaultMed at n ∷ more) =
+    last_default_med known (or_zero (number_of known n)) more
+last_default_med known found (s ∷ more) = last_default_med known found more
+
+abbrev pub last_default_local_pref : Known → ℕ → List BgpSetting → ℕ
+last_default_local_pref known found [] = found
+last_default_local_pref known found (BgpDefaultLocalPref at n ∷ more) =
+    last_default_local_pref known (or_zero (number_of known n)) more
+last_default_local_pref known found (s ∷ more) = last_default_local_pref known found more
+
+-- Communities are interpreted where the protocol doesn't say otherwise; a route without a MED
+-- counts as one with 0, one without a local preference as one with 100.
+pub record IsBgp (known : Known) (does : Statements → TFilter → Type 0)
+    (p : Instance BgpSetting) (def : BgpDef) : Type 0 where
+  pub local : def.local ≡ or_zero (as_number known (last_local None p.settings))
+  pub remote : def.remote ≡ or_zero (as_number known (rules.last_neighbor None p.settings))
+  pub neighbor : def.neighbor ≡ last_neighbor (addrs.V4 0) p.settings
+  pub interpret : def.interpret_communities ≡ last_interpret true p.settings
+  pub med : def.default_med ≡ last_default_med known 0 p.settings
+  pub local_pref : def.default_local_pref ≡ last_default_local_pref known 100 p.settings
+  pub channel : IsOnly (λ c. IsChannel known does bgp_preference c def.channel)
+      (bgp_channels p.settings)
+
+-- ---- pipes
+
+abbrev pub last_pipe_import : Passing → List PipeSetting → Passing
+last_pipe_import found [] = found
+last_pipe_import found (PipeImport p ∷ more) = last_pipe_import p more
+last_pipe_import found (s ∷ more) = last_pipe_import found more
+
+abbrev pub last_pipe_export : Passing → List PipeSetting → Passing
+last_pipe_export found [] = found
+last_pipe_export found (PipeExport p ∷ more) = last_pipe_export p more
+last_pipe_export found (s ∷ more) = last_pipe_export found more
+
+-- The primary table is master4 where none is named.
+abbrev pub primary_name : List ℕ → Option Name → List ℕ
+primary_name text None = codes "master4"
+primary_name text (Some n) = name_bytes text n
+
+abbrev pub IsPeer : Known → Option Name → ℕ → Type 0
+IsPeer known None n = ⊥
+IsPeer known (Some name) n = n ≡ table_number known (name_bytes known.scene.text name)
+
+pub record IsPipe (known : Known) (does : Statements → TFilter → Type 0)
+    (p : Instance PipeSetting) (def : PipeDef) : Type 0 where
+  pub table : def.table
+      ≡ table_number known (primary_name known.scene.text (rules.last_table None p.settings))
+  pub peer : IsPeer known (rules.last_peer None p.settings) def.peer
+  pub imports : IsPolicy known does (last_pipe_import PassAll p.settings) def.import
+  pub exports : IsPolicy known does (last_pipe_export PassNone p.settings) def.export
+
+-- ---- protocols
+
+abbrev pub IsBody : Known → (Statements → TFilter → Type 0) → conf.Declaration → ProtocolBody
+    → Type 0
+IsBody known does (conf.Static p) (bodies.Static def) = IsStatic known does p def
+IsBody known does (conf.Bgp p) (bodies.Bgp def) = IsBgp known does p def
+IsBody known does (conf.Pipe p) (bodies.Pipe def) = IsPipe known does p def
+IsBody known does _ _ = ⊥
+
+-- the name of a protocol
+abbrev pub protocol_name : Known → conf.Declaration → List ℕ
+protocol_name known (conf.Static p) = own_name known static_stem p.name
+protocol_name known (conf.Bgp p) = own_name known bgp_stem p.name
+protocol_name known (conf.Pipe p) = own_name known pipe_stem p.name
+protocol_name known _ = []
+
+pub record IsProtocol (known : Known) (does : Statements → TFilter → Type 0)
+    (d : conf.Declaration) (def : ProtocolDef) : Type 0 where
+  pub name : def.name ≡ protocol_name known d
+  pub body : IsBody known does d def.body
+
+abbrev pub is_protocol : conf.Declaration → Bool
+is_protocol (conf.Static p) = true
+is_protocol (conf.Bgp p) = true
+is_protocol (conf.Pipe p) = true
+is_protocol _ = false
+
+-- the first of these protocols where there is one, and the rest of them
+abbrev pub NextProtocol : (is_there : Bool) → (ProtocolDef → Type 0)
+    → (List ProtocolDef → Type 0) → List ProtocolDef → Type 0
+NextProtocol false is rest defs = rest defs
+NextProtocol true is rest [] = ⊥
+NextProtocol true is rest (def ∷ defs) = is def × rest defs
+
+-- The protocols are those of the statements, in their order, each over what is declared before it.
+abbrev pub AreProtocols : (text : List ℕ)
+    → (does : List conf.Declaration → Statements → TFilter → Type 0)
+    → (before : List conf.Declaration) → List conf.Declaration → List ProtocolDef → Type 0
+AreProtocols text does before [] [] = ⊤
+AreProtocols text does before [] (def ∷ defs) = ⊥
+AreProtocols text does before (d ∷ ds) defs =
+    NextProtocol (is_protocol d)
+    (IsProtocol (behind (at_start text) before) (does before) d)
+    (AreProtocols text does (before ++ d ∷ []) ds) defs
+
+-- ---- the configuration
+
+pub record IsChecked (text : List ℕ) (ds : List conf.Declaration) (checked : Checked)
+    : Type 0 where
+  pub declared : known_of text checked.declared ≡ behind (at_start text) ds
+  pub filters : DoEach (Does text checked.declared.scope) (filter_sources [] ds)
+      checked.filters.items
+  pub protocols : AreProtocols text (Does text checked.declared.scope) [] ds
+      checked.protocols.items

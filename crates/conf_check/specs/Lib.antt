@@ -1,0 +1,4 @@
+pub mod Behind
+pub mod Refused
+pub mod Checked
+pub mod Seen

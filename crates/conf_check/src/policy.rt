@@ -1,0 +1,122 @@
+//! Policies, and the numbers of what they name.
+
+ghost use Rattle.std.specs.Prelude.{◌≡◌, ℕ, IfOk, List, option_copied};
+ghost use Rattle.conf_ast.specs.Configurations.{PassAll, PassNone, passing_of};
+ghost use Rattle.conf_ast.specs.Filters.{block_of, expression_of};
+ghost use Rattle.filt_meaning.specs.Configuration.{filter_where};
+ghost use Rattle.conf_rules.specs.Seen.{known_of};
+ghost use Rattle.conf_check.specs.Checked as of;
+ghost use Rattle.conf_check.specs.Checked.{IsPolicy};
+ghost use Rattle.conf_check.specs.Seen.{Means, passing_or};
+
+use crate::checked::PolicyDef;
+use bits_ip::OutOfMemory;
+use conf_rules::Declared;
+use conf_tree::Policy;
+use filt_check::{resolve_condition, resolve_filter};
+use filt_syntax::{Block, Expr};
+use filt_tree::{Scope, TFilter};
+use grammar::Name;
+use std::alloc::Global;
+
+/// The number of the table of that name; behind the last one where there is none.
+pub(crate) fn table_number(declared: &Declared, name: &[u8]) -> usize
+    ensures { (text : List ℕ) → result ≡ of.table_number (known_of text declared.now) name.now }
+{
+    match declared.tables.get_index_of(name) {
+        Some(number) => number,
+        None => declared.tables.len(),
+    }
+}
+
+/// The number of the filter of that name; behind the last one where there is none.
+fn filter_number(text: &[u8], declared: &Declared, name: Name) -> usize
+    ensures { result ≡ of.filter_number (known_of text.now declared.now) name }
+{
+    match declared.filters.get_index_of(name.bytes(text)) {
+        Some(number) => number,
+        None => declared.filters.len(),
+    }
+}
+
+/// The filter of these statements. Nothing of its rules is asked.
+pub(crate) fn block_filter(
+    alloc: Global,
+    text: &[u8],
+    scope: &Scope,
+    block: &Block,
+) -> Result<TFilter, OutOfMemory>
+    ensures { IfOk result (λ f. Means text.now scope.now (block_of block.now) f) }
+{
+    let filter = resolve_filter(alloc, text, scope, &block.statements)?;
+    Ok(filter)
+}
+
+fn where_filter(
+    alloc: Global,
+    text: &[u8],
+    scope: &Scope,
+    condition: &Expr,
+) -> Result<TFilter, OutOfMemory>
+    ensures { IfOk result (λ f.
+        Means text.now scope.now (filter_where (expression_of condition.now)) f) }
+{
+    let filter = resolve_condition(alloc, text, scope, condition)?;
+    Ok(filter)
+}
+
+pub(crate) fn policy(
+    alloc: Global,
+    text: &[u8],
+    declared: &Declared,
+    policy: &Policy,
+) -> Result<PolicyDef, OutOfMemory>
+    ensures { IfOk result (λ p. IsPolicy (known_of text.now declared.now)
+        (Means text.now declared.now.scope) (passing_of policy.now) p) }
+{
+    match policy {
+        Policy::All => Ok(PolicyDef::All),
+        Policy::None => Ok(PolicyDef::None),
+        Policy::Filter { name, .. } => Ok(PolicyDef::Filter(filter_number(text, declared, *name))),
+        Policy::Block { block, .. } => {
+            let filter = block_filter(alloc, text, &declared.scope, block)?;
+            Ok(PolicyDef::Own(filter))
+        }
+        Policy::Where { condition, .. } => {
+            let filter = where_filter(alloc, text, &declared.scope, condition)?;
+            Ok(PolicyDef::Own(filter))
+        }
+    }
+}
+
+/// The policy of imports. All is imported where nothing is said.
+pub(crate) fn import_policy(
+    alloc: Global,
+    text: &[u8],
+    declared: &Declared,
+    found: Option<&Policy>,
+) -> Result<PolicyDef, OutOfMemory>
+    ensures { IfOk result (λ p. IsPolicy (known_of text.now declared.now)
+        (Means text.now declared.now.scope) (passing_or PassAll (option_copied found.entry)) p) }
+{
+    match found {
+        None => Ok(PolicyDef::All),
+        Some(written) => policy(alloc, text, declared, written),
+    }
+}
+
+/// The policy of exports. Nothing is exported where nothing is said.
+pub(crate) fn export_policy(
+    alloc: Global,
+    text: &[u8],
+    declared: &Declared,
+    found: Option<&Policy>,
+) -> Result<PolicyDef, OutOfMemory>
+    ensures { IfOk result (λ p. IsPolicy (known_of text.now declared.now)
+        (Means text.now declared.now.scope) (passing_or PassNone (option_copied found.entry)) p) }
+{
+    match found {
+        None => Ok(PolicyDef::None),
+        Some(written) => policy(alloc, text, declared, written),
+    }
+}
