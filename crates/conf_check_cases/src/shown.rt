@@ -2,7 +2,8 @@
 //! them), filters and protocols it has, and the last eight of its protocols, behind `; ` each:
 //!
 //!     NAME static CHANNEL {, NET TARGET}
-//!     NAME bgp CHANNEL as NUMBER neighbor ADDRESS as NUMBER med NUMBER lp NUMBER communities on|off
+//!     NAME bgp CHANNEL as NUMBER neighbor ADDRESS as NUMBER med NUMBER lp NUMBER
+//!         communities (on | off)
 //!     NAME pipe TABLE TABLE import POLICY export POLICY
 //!
 //! CHANNEL is `FAMILY TABLE import POLICY export POLICY pref NUMBER limit COUNT ACTION`, or `limit
