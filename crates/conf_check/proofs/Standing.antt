@@ -37,9 +37,9 @@ use Rattle.conf_check.specs.declared.checked.ProtocolBody.TheVariants as bodies
 use Rattle.conf_check.specs.declared.checked.ProtocolDef.{ProtocolDef}
 use Rattle.conf_check.specs.declared.checked.StaticDef.{StaticDef}
 use Rattle.conf_check.specs.Behind.{at_start, behind, behind_one}
-use Rattle.conf_check.specs.Checked.{AreProtocols, DoEach, Does, IsBgp, IsBody, IsChannel, IsChecked, IsOnly, IsPipe, IsPolicy, IsProtocol, IsStatic, NextProtocol, Source, bgp_preference, filter_source, filter_sources, is_protocol, last_export, last_import, last_pipe_export, last_pipe_import, static_preference}
+use Rattle.conf_check.specs.Checked.{AreProtocols, DoEach, Does, IsBgp, IsBody, IsChannel, IsChecked, IsOnly, IsPipe, IsPolicy, IsProtocol, IsStatic, NextProtocol, SeesAs, Source, bgp_preference, filter_source, filter_sources, is_protocol, last_export, last_import, last_pipe_export, last_pipe_import, static_preference}
 use Rattle.conf_check.specs.Refused.{IsFault, or_later, refusal_of}
-use Rattle.conf_check.specs.Seen.{Adds, AddsFilter, AddsOne, AddsProtocol, Grows, Lasts, Means, SeesAs, Stands}
+use Rattle.conf_check.specs.Seen.{Adds, AddsFilter, AddsOne, AddsProtocol, Grows, Lasts, Means, Stands}
 
 -- ---- behind one statement more
 
@@ -256,6 +256,7 @@ stands_more text before d old new s a =
 pub stands_checked : (text : List ℕ) (ds : List conf.Declaration) (checked : Checked) → Stands text ds checked → IsChecked text ds checked
 stands_checked text ds checked s = record {
   declared = s.declared;
+  scope = s.sees;
   filters = each_map (Lasts text checked.declared.scope) (Does text checked.declared.scope) (lasts_does text checked.declared.scope) (filter_sources [] ds) checked.filters.items s.filters;
   protocols = protocols_map text (Lasts text checked.declared.scope) (Does text checked.declared.scope) (lasts_does text checked.declared.scope) [] ds checked.protocols.items s.protocols;
 }

@@ -22,7 +22,7 @@ use Rattle.filt_meaning.specs.Configuration.{filter_where}
 use Rattle.filt_meaning.specs.Names.{Around, same_name}
 use Rattle.filt_tree.specs.declared.scope.Scope.{Scope}
 use Rattle.filt_tree.specs.declared.tree.TFilter.{TFilter}
-use Rattle.filt_tree.specs.Scopes.{constant_values, function_trees}
+use Rattle.filt_tree.specs.Scopes.{constant_values, context_of, function_trees}
 use Rattle.filt_tree.specs.Trees as trees
 use Rattle.conf_rules.specs.Channels.{last_table, settings_of}
 use Rattle.conf_rules.specs.Known.{Known, number_of}
@@ -74,6 +74,11 @@ abbrev pub Does : (text : List ℕ) → Scope → (before : List conf.Declaratio
 Does text scope before ss f = (around : Around) (attrs : Attrs)
     → trees.judged around (constant_values scope) (function_trees scope) f attrs
     ≡ meaning.judged (meaning.behind (meaning.at_start text around) before) ss attrs
+
+-- the scope is seen as the meaning of filters sees the place behind these statements
+abbrev pub SeesAs : List ℕ → List conf.Declaration → Scope → Type 0
+SeesAs text before scope = (around : Around)
+    → context_of text around scope [] ≡ meaning.behind (meaning.at_start text around) before
 
 -- the filters by name, each with the statements before it
 abbrev pub Source : Type 0
@@ -303,6 +308,7 @@ AreProtocols text does before (d ∷ ds) defs =
 pub record IsChecked (text : List ℕ) (ds : List conf.Declaration) (checked : Checked)
     : Type 0 where
   pub declared : known_of text checked.declared ≡ behind (at_start text) ds
+  pub scope : SeesAs text ds checked.declared.scope
   pub filters : DoEach (Does text checked.declared.scope) (filter_sources [] ds)
       checked.filters.items
   pub protocols : AreProtocols text (Does text checked.declared.scope) [] ds

@@ -25,7 +25,7 @@ use Rattle.conf_rules.specs.Statements.{refusals}
 use Rattle.conf_check.specs.declared.checked.Checked.{Checked}
 use Rattle.conf_check.specs.declared.checked.ProtocolDef.{ProtocolDef}
 use Rattle.conf_check.specs.Behind.{at_start, behind, behind_one}
-use Rattle.conf_check.specs.Checked.{AreProtocols, DoEach, Does, IsProtocol, filter_sources, is_protocol}
+use Rattle.conf_check.specs.Checked.{AreProtocols, DoEach, Does, SeesAs, IsProtocol, filter_sources, is_protocol}
 
 -- ---- filters
 
@@ -46,11 +46,6 @@ pub record Lasts (text : List ℕ) (scope : Scope) (before : List conf.Declarati
   pub functions : f.functions ≤ length (function_trees scope)
 
 -- ---- scopes
-
--- the scope is seen as the meaning of filters sees the place behind these statements
-abbrev pub SeesAs : List ℕ → List conf.Declaration → Scope → Type 0
-SeesAs text before scope = (around : Around)
-    → context_of text around scope [] ≡ meaning.behind (meaning.at_start text around) before
 
 -- no function sees more constants than there are
 abbrev pub AreWithin : Scope → Type 0
