@@ -11,6 +11,7 @@ ghost use Rattle.filt_tree.specs.Trees as trees;
 ghost use Rattle.filt_comp.specs.Seen.{elements_in, other_side, tables_in, vals_of, Gives};
 
 use crate::parts::bool;
+use crate::plain::passes;
 use crate::run::call;
 use crate::running::Running;
 use crate::setting::Setting;
@@ -51,9 +52,28 @@ fn body<'a>(
         (vals_of frame.old) attrs.old) }
 {
     for s in statements {
-        act(setting, s, frame, attrs)?;
+        step(setting, s, frame, attrs)?;
     }
     Ok(())
+}
+
+/// A statement, of which nothing is done where it is an `if` that passes.
+#[cycle(run)]
+#[inline(always)]
+fn step<'a>(
+    setting: &Setting<'a>,
+    s: &'a TStmt,
+    frame: &mut Vec<Value<'a>>,
+    attrs: &mut Running<'a>,
+) -> Result<(), Stop<'a>>
+    ensures { Gives (λ _. vals_of frame.new) result attrs.new
+        (trees.stmt s.now (tables_in setting.now)
+        (vals_of frame.old) attrs.old) }
+{
+    if passes(setting, s, frame, attrs) {
+        return Ok(());
+    }
+    act(setting, s, frame, attrs)
 }
 
 #[cycle(run)]
@@ -279,7 +299,7 @@ fn among_prefixes<'a>(set: &'a PrefixSet, value: &Value<'a>) -> Result<bool, Fai
     }
 }
 
-fn is_element<'a>(value: &Value<'a>, set: &Value<'a>) -> Result<bool, Failure>
+pub(crate) fn is_element<'a>(value: &Value<'a>, set: &Value<'a>) -> Result<bool, Failure>
     ensures { Answers (λ b. b) result
         (and_then (matches_of (val_of value.now) (val_of set.now))
         bool_in) }
