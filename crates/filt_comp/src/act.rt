@@ -52,28 +52,12 @@ fn body<'a>(
         (vals_of frame.old) attrs.old) }
 {
     for s in statements {
-        step(setting, s, frame, attrs)?;
+        if passes(setting, s, frame, attrs) {
+            continue;
+        }
+        act(setting, s, frame, attrs)?;
     }
     Ok(())
-}
-
-/// A statement, of which nothing is done where it is an `if` that passes.
-#[cycle(run)]
-#[inline(always)]
-fn step<'a>(
-    setting: &Setting<'a>,
-    s: &'a TStmt,
-    frame: &mut Vec<Value<'a>>,
-    attrs: &mut Running<'a>,
-) -> Result<(), Stop<'a>>
-    ensures { Gives (λ _. vals_of frame.new) result attrs.new
-        (trees.stmt s.now (tables_in setting.now)
-        (vals_of frame.old) attrs.old) }
-{
-    if passes(setting, s, frame, attrs) {
-        return Ok(());
-    }
-    act(setting, s, frame, attrs)
 }
 
 #[cycle(run)]

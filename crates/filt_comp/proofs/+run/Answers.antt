@@ -41,8 +41,8 @@ pub act::act-returns-in-Case : goal.act::act-returns-in-Case
 act::act-returns-in-Case t c =
     rw (w.case_is (tables_in c.args.setting.now) c.in-Case.e c.in-Case.arms c.in-Case.otherwise c.args.s.now c.deref-in-Case.result.now c.deref-in-Case-2.result.now (vals_of c.args.frame.now) c.args.attrs.now c.in-Case.is c.deref-in-Case.ensures.value c.deref-in-Case-2.ensures.value) c.case.ensures
 
-pub act::body-step-requires : goal.act::body-step-requires
-act::body-step-requires t c =
+pub act::body-act-requires : goal.act::body-act-requires
+act::body-act-requires t c =
     (omega (arith, k.item_below k.act_cost c.args.statements.now c.loop-s.s-index c.s-item.result c.loop-s-test.true c.s-item.is), tt)
 
 pub act::case-returns-in_err-has : goal.act::case-returns-in_err-has

@@ -25,9 +25,6 @@ decreases-act::choice l = k.under l.setting.now.functions.now + k.cost l.e.now +
 abbrev pub decreases-act::give : goal.decreases-act::give
 decreases-act::give l = k.under l.setting.now.functions.now + k.given_cost l.e.now + 1
 
-abbrev pub decreases-act::step : goal.decreases-act::step
-decreases-act::step l = k.under l.setting.now.functions.now + k.act_cost l.s.now + 1
-
 abbrev pub decreases-act::turns : goal.decreases-act::turns
 decreases-act::turns l = k.under l.setting.now.functions.now + k.cost l.e.now + k.act_cost l.turn.now + 1
 
