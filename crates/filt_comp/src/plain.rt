@@ -9,6 +9,7 @@ ghost use Rattle.filt_meaning.specs.Meaning.{compare_of, on_two, property_of};
 ghost use Rattle.filt_meaning.specs.Names.{there};
 ghost use Rattle.filt_tree.specs.declared.tree.TAccess.TheVariants as accesses;
 ghost use Rattle.filt_tree.specs.Trees as trees;
+ghost use Rattle.filt_values.specs.Operators as operators;
 ghost use Rattle.filt_values.specs.Operators.{matches_of, pair_of};
 ghost use Rattle.filt_values.specs.Seen.{val_of, val_of_fixed};
 ghost use Rattle.filt_values.specs.Values.{VBool, VClist, VInt, VPair, VPath, VPrefix, VPrefixSet};
@@ -140,6 +141,10 @@ fn number<'a>(
             let found = attribute_number(setting, of, property, frame, attrs)?;
             Some(found)
         }
+        TExpr::Constant(number) => {
+            let found = constant_number(setting, *number)?;
+            Some(found)
+        }
         TExpr::Local(place) => {
             let found = local_number(*place, frame)?;
             Some(found)
@@ -158,7 +163,17 @@ fn fixed_number(known: &Fixed) -> Option<u32>
     }
 }
 
-#[inline(always)]
+fn constant_number(setting: &Setting<'_>, number: usize) -> Option<u32>
+    ensures { IfSome result (λ n. there (slice_get (tables_in setting.now).constants number)
+        ≡ Ok (VInt n)) }
+{
+    let seen = setting.seen;
+    match seen.get(number) {
+        Some(Fixed::Int(found)) => Some(*found),
+        _ => None,
+    }
+}
+
 fn local_number(place: usize, frame: &[Value<'_>]) -> Option<u32>
     ensures { IfSome result (λ n. there (slice_get (map val_of frame.now) place) ≡ Ok (VInt n)) }
 {
@@ -268,6 +283,11 @@ fn is_among<'a>(
             let is = in_nets(net, set)?;
             Some(is)
         }
+        TExpr::Constant(number) => {
+            let net = net(setting, left, frame, attrs)?;
+            let is = in_constant(setting, net, *number)?;
+            Some(is)
+        }
         _ => None,
     }
 }
@@ -286,6 +306,23 @@ fn in_nets(net: &Prefix, set: &PrefixSet) -> Option<bool>
     match is_element(&Value::Prefix(*net), &Value::PrefixSet(set)) {
         Ok(is) => Some(is),
         Err(_) => None,
+    }
+}
+
+/// Whether a constant is a set that has the net.
+fn in_constant(setting: &Setting<'_>, net: &Prefix, number: usize) -> Option<bool>
+    ensures { IfSome result (λ b. operators.and_then
+        (there (slice_get (tables_in setting.now).constants number))
+        (λ set. matches_of (VPrefix net.now) set)
+        ≡ Ok (VBool b)) }
+{
+    let seen = setting.seen;
+    match seen.get(number) {
+        Some(Fixed::PrefixSet(set)) => {
+            let is = in_nets(net, set)?;
+            Some(is)
+        }
+        _ => None,
     }
 }
 
