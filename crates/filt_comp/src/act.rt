@@ -11,6 +11,7 @@ ghost use Rattle.filt_tree.specs.Trees as trees;
 ghost use Rattle.filt_comp.specs.Seen.{elements_in, other_side, tables_in, vals_of, Gives};
 
 use crate::parts::bool;
+use crate::plain::passes;
 use crate::run::call;
 use crate::running::Running;
 use crate::setting::Setting;
@@ -51,6 +52,9 @@ fn body<'a>(
         (vals_of frame.old) attrs.old) }
 {
     for s in statements {
+        if passes(setting, s, frame, attrs) {
+            continue;
+        }
         act(setting, s, frame, attrs)?;
     }
     Ok(())
@@ -279,7 +283,7 @@ fn among_prefixes<'a>(set: &'a PrefixSet, value: &Value<'a>) -> Result<bool, Fai
     }
 }
 
-fn is_element<'a>(value: &Value<'a>, set: &Value<'a>) -> Result<bool, Failure>
+pub(crate) fn is_element<'a>(value: &Value<'a>, set: &Value<'a>) -> Result<bool, Failure>
     ensures { Answers (λ b. b) result
         (and_then (matches_of (val_of value.now) (val_of set.now))
         bool_in) }

@@ -11,6 +11,7 @@
 mod act;
 mod chain;
 mod parts;
+mod plain;
 mod run;
 mod running;
 mod setting;

@@ -1,6 +1,6 @@
 //! The attributes of a route while a filter runs.
 
-ghost use Rattle.std.specs.Prelude.{◌≡◌, IfOk, OnErr};
+ghost use Rattle.std.specs.Prelude.{◌≡◌, Ok, IfOk, IfSome, OnErr};
 ghost use Rattle.attrs.specs.declared.judge.FilterFault.TheVariants as faults;
 ghost use Rattle.filt_syntax.specs.declared.tree.Attribute.TheVariants as attributes;
 ghost use Rattle.filt_values.specs.declared.value.Failure.TheVariants.{Fault};
@@ -8,6 +8,7 @@ ghost use Rattle.filt_values.specs.declared.value.ListFailure.TheVariants.{Faile
 ghost use Rattle.filt_values.specs.Operators.{clist_in, path_in};
 ghost use Rattle.filt_values.specs.Seen.{val_of, Answers, Builds};
 ghost use Rattle.filt_values.specs.Values.{VClist, VInt, VIp, VOrigin, VPath};
+ghost use Rattle.filt_meaning.specs.Names.{Around};
 ghost use Rattle.filt_meaning.specs.Attributes.{attribute_of, defined_as, is_defined, with_attribute, without_attribute};
 ghost use Rattle.filt_comp.specs.Lists.{numbers_of, pairs_of};
 ghost use Rattle.filt_comp.specs.Seen.{around_in};
@@ -164,6 +165,41 @@ impl<'a> Running<'a> {
             Attribute::BgpLocalPref => held_number(self.lp),
             Attribute::IgpMetric => held_number(self.igp),
             Attribute::BgpCommunity => Ok(list_value(&self.coms)?),
+        }
+    }
+
+    /// What an attribute holds, where it holds a number.
+    #[inline(always)]
+    pub(crate) fn number(&self, attribute: Attribute) -> Option<u32>
+        ensures { (around : Around)
+            → IfSome result (λ n. attribute_of around attribute self.now ≡ Ok (VInt n)) }
+    {
+        match attribute {
+            Attribute::Preference => Some(self.pref),
+            Attribute::BgpMed => Some(self.med?),
+            Attribute::BgpLocalPref => Some(self.lp?),
+            Attribute::IgpMetric => Some(self.igp?),
+            _ => None,
+        }
+    }
+
+    #[inline(always)]
+    pub(crate) fn path(&self) -> &Path
+        ensures { result.now ≡ self.now.path }
+    {
+        match &self.path {
+            Numbers::Lent(path) => *path,
+            Numbers::Made(path) => path,
+        }
+    }
+
+    #[inline(always)]
+    pub(crate) fn list(&self) -> &Clist
+        ensures { result.now ≡ self.now.coms }
+    {
+        match &self.coms {
+            Pairs::Lent(list) => *list,
+            Pairs::Made(list) => list,
         }
     }
 

@@ -12,6 +12,7 @@ ghost use Rattle.filt_comp.specs.Seen.{around_in, condition, given_of, made_by, 
 
 use crate::chain::{Rest, Step, apply_one, apply_two, decides};
 use crate::parts::bool;
+use crate::plain::truth;
 use crate::run::call;
 use crate::running::Running;
 use crate::setting::Setting;
@@ -135,6 +136,9 @@ pub(crate) fn holds<'a>(
         (condition (trees.expr e.now (tables_in setting.now))
         (map val_of frame.now) attrs.old) }
 {
+    if let Some(truth) = truth(setting, e, frame, attrs) {
+        return Ok(truth);
+    }
     let found = value(setting, e, frame, attrs)?;
     Ok(bool(&found)?)
 }

@@ -1,0 +1,380 @@
+//! Conditions over operands that are there already, which most conditions of filters are: literals,
+//! attributes, and properties of attributes. Where a form is another one, or an attribute isn't
+//! there, the functions here say nothing, and the walk over the tree answers.
+
+ghost use Rattle.std.specs.Prelude.{◌≡◌, [], ◌∷◌, map, slice_get, Ok, IfSome, IsTrue};
+ghost use Rattle.attrs.specs.Clist.{has_pair};
+ghost use Rattle.filt_meaning.specs.Flow.{Done, and_then, plainly};
+ghost use Rattle.filt_meaning.specs.Meaning.{compare_of, on_two, property_of};
+ghost use Rattle.filt_meaning.specs.Names.{there};
+ghost use Rattle.filt_tree.specs.declared.tree.TAccess.TheVariants as accesses;
+ghost use Rattle.filt_tree.specs.Trees as trees;
+ghost use Rattle.filt_values.specs.Operators as operators;
+ghost use Rattle.filt_values.specs.Operators.{matches_of, pair_of};
+ghost use Rattle.filt_values.specs.Seen.{val_of, val_of_fixed};
+ghost use Rattle.filt_values.specs.Values.{VBool, VClist, VInt, VPair, VPath, VPrefix, VPrefixSet};
+ghost use Rattle.filt_comp.specs.Seen.{tables_in};
+
+use crate::act::is_element;
+use crate::running::Running;
+use crate::setting::Setting;
+use attrs::{Clist, Path};
+use bits_ip::Prefix;
+use filt_sets::PrefixSet;
+use filt_syntax::{Attribute, Compare, Property};
+use filt_tree::{TAccess, TExpr, TStmt};
+use filt_values::{Fixed, Value};
+
+/// Whether the statement is an `if` whose condition is there already, and doesn't hold.
+#[inline(always)]
+pub(crate) fn passes<'a>(
+    setting: &Setting<'a>,
+    s: &TStmt,
+    frame: &[Value<'a>],
+    attrs: &Running<'a>,
+) -> bool
+    ensures { IsTrue result → trees.stmt s.now (tables_in setting.now)
+        (map val_of frame.now) attrs.now
+        ≡ Done (map val_of frame.now) attrs.now }
+{
+    match s {
+        TStmt::If(e, _) => match truth(setting, e, frame, attrs) {
+            Some(holds) => !holds,
+            None => false,
+        },
+        _ => false,
+    }
+}
+
+/// Whether a condition holds, where it is a comparison of operands that are there already.
+#[inline(always)]
+pub(crate) fn truth<'a>(
+    setting: &Setting<'a>,
+    e: &TExpr,
+    frame: &[Value<'a>],
+    attrs: &Running<'a>,
+) -> Option<bool>
+    ensures { IfSome result (λ b. trees.expr e.now (tables_in setting.now)
+        (map val_of frame.now) attrs.now
+        ≡ Done (VBool b) attrs.now) }
+{
+    match e {
+        TExpr::Compare(compare, left, right) => {
+            let holds = compared(setting, *compare, left, right, frame, attrs)?;
+            Some(holds)
+        }
+        _ => None,
+    }
+}
+
+#[inline(always)]
+fn compared<'a>(
+    setting: &Setting<'a>,
+    compare: Compare,
+    left: &TExpr,
+    right: &TExpr,
+    frame: &[Value<'a>],
+    attrs: &Running<'a>,
+) -> Option<bool>
+    ensures { IfSome result (λ b. on_two (trees.expr left.now (tables_in setting.now))
+        (trees.expr right.now (tables_in setting.now)) (compare_of compare)
+        (map val_of frame.now) attrs.now
+        ≡ Done (VBool b) attrs.now) }
+{
+    match compare {
+        Compare::Matches => {
+            let is = is_among(setting, left, right, frame, attrs)?;
+            Some(is)
+        }
+        Compare::MatchesNot => {
+            let is = is_among(setting, left, right, frame, attrs)?;
+            Some(!is)
+        }
+        _ => {
+            let a = number(setting, left, frame, attrs)?;
+            let b = number(setting, right, frame, attrs)?;
+            let holds = compare_numbers(compare, a, b)?;
+            Some(holds)
+        }
+    }
+}
+
+#[inline(always)]
+fn compare_numbers(compare: Compare, a: u32, b: u32) -> Option<bool>
+    ensures { IfSome result (λ holds. compare_of compare (VInt a) (VInt b) ≡ Ok (VBool holds)) }
+{
+    match compare {
+        Compare::Equal => Some(a == b),
+        Compare::NotEqual => Some(!(a == b)),
+        Compare::Less => Some(a.cmp(&b).is_lt()),
+        Compare::LessOrEqual => Some(a.cmp(&b).is_le()),
+        Compare::Greater => Some(a.cmp(&b).is_gt()),
+        Compare::GreaterOrEqual => Some(a.cmp(&b).is_ge()),
+        Compare::Matches => None,
+        Compare::MatchesNot => None,
+    }
+}
+
+/// The number that an expression is.
+#[inline(always)]
+fn number<'a>(
+    setting: &Setting<'a>,
+    e: &TExpr,
+    frame: &[Value<'a>],
+    attrs: &Running<'a>,
+) -> Option<u32>
+    ensures { IfSome result (λ n. trees.expr e.now (tables_in setting.now)
+        (map val_of frame.now) attrs.now
+        ≡ Done (VInt n) attrs.now) }
+{
+    match e {
+        TExpr::Value(known) => {
+            let found = fixed_number(known)?;
+            Some(found)
+        }
+        TExpr::Attribute(a) => {
+            let found = attrs.number(*a)?;
+            Some(found)
+        }
+        TExpr::Access(of, more) => {
+            let property = lone_property(more)?;
+            let found = attribute_number(setting, of, property, frame, attrs)?;
+            Some(found)
+        }
+        TExpr::Constant(number) => {
+            let found = constant_number(setting, *number)?;
+            Some(found)
+        }
+        TExpr::Local(place) => {
+            let found = local_number(*place, frame)?;
+            Some(found)
+        }
+        _ => None,
+    }
+}
+
+#[inline(always)]
+fn fixed_number(known: &Fixed) -> Option<u32>
+    ensures { IfSome result (λ n. val_of_fixed known.now ≡ VInt n) }
+{
+    match known {
+        Fixed::Int(number) => Some(*number),
+        _ => None,
+    }
+}
+
+fn constant_number(setting: &Setting<'_>, number: usize) -> Option<u32>
+    ensures { IfSome result (λ n. there (slice_get (tables_in setting.now).constants number)
+        ≡ Ok (VInt n)) }
+{
+    let seen = setting.seen;
+    match seen.get(number) {
+        Some(Fixed::Int(found)) => Some(*found),
+        _ => None,
+    }
+}
+
+fn local_number(place: usize, frame: &[Value<'_>]) -> Option<u32>
+    ensures { IfSome result (λ n. there (slice_get (map val_of frame.now) place) ≡ Ok (VInt n)) }
+{
+    match frame.get(place) {
+        Some(Value::Int(number)) => Some(*number),
+        _ => None,
+    }
+}
+
+/// The property, where it is the only thing behind an operand.
+#[inline(always)]
+fn lone_property(more: &[TAccess<TExpr>]) -> Option<Property>
+    ensures { IfSome result (λ property. more.now ≡ accesses.Property property ∷ []) }
+{
+    if more.len() != 1 {
+        return None;
+    }
+    match &more[0] {
+        TAccess::Property(property) => Some(*property),
+        TAccess::Method(_, _) => None,
+    }
+}
+
+/// The number that a property of an attribute is.
+#[inline(always)]
+fn attribute_number<'a>(
+    setting: &Setting<'a>,
+    of: &TExpr,
+    property: Property,
+    frame: &[Value<'a>],
+    attrs: &Running<'a>,
+) -> Option<u32>
+    ensures { IfSome result (λ n. and_then
+        (trees.expr of.now (tables_in setting.now) (map val_of frame.now) attrs.now)
+        (λ v attrs. plainly (property_of property v) attrs)
+        ≡ Done (VInt n) attrs.now) }
+{
+    match of {
+        TExpr::Attribute(Attribute::Net) => {
+            let found = net_number(setting.net, property)?;
+            Some(found)
+        }
+        TExpr::Attribute(Attribute::BgpPath) => {
+            let found = path_number(attrs.path(), property)?;
+            Some(found)
+        }
+        TExpr::Attribute(Attribute::BgpCommunity) => {
+            let found = list_number(attrs.list(), property)?;
+            Some(found)
+        }
+        _ => None,
+    }
+}
+
+#[inline(always)]
+fn net_number(net: &Prefix, property: Property) -> Option<u32>
+    ensures { IfSome result (λ n. property_of property (VPrefix net.now) ≡ Ok (VInt n)) }
+{
+    match property {
+        Property::Len => Some(u32::from(net.len())),
+        _ => None,
+    }
+}
+
+#[inline(always)]
+fn path_number(path: &Path, property: Property) -> Option<u32>
+    ensures { IfSome result (λ n. property_of property (VPath path.now) ≡ Ok (VInt n)) }
+{
+    match property {
+        Property::Len => Some(path.as_slice().len() as u32),
+        Property::First => Some(path.as_slice().first().copied().unwrap_or(0)),
+        Property::Last => Some(path.as_slice().last().copied().unwrap_or(0)),
+        Property::Ip => None,
+    }
+}
+
+#[inline(always)]
+fn list_number(list: &Clist, property: Property) -> Option<u32>
+    ensures { IfSome result (λ n. property_of property (VClist list.now) ≡ Ok (VInt n)) }
+{
+    match property {
+        Property::Len => Some(list.as_slice().len() as u32),
+        _ => None,
+    }
+}
+
+/// Whether the left operand is an element of the right one.
+fn is_among<'a>(
+    setting: &Setting<'a>,
+    left: &TExpr,
+    right: &TExpr,
+    frame: &[Value<'a>],
+    attrs: &Running<'a>,
+) -> Option<bool>
+    ensures { IfSome result (λ b. on_two (trees.expr left.now (tables_in setting.now))
+        (trees.expr right.now (tables_in setting.now)) matches_of
+        (map val_of frame.now) attrs.now
+        ≡ Done (VBool b) attrs.now) }
+{
+    match right {
+        TExpr::Attribute(Attribute::BgpCommunity) => {
+            let found = pair(setting, left, frame, attrs)?;
+            Some(has_pair(attrs.list(), found.0, found.1))
+        }
+        TExpr::Value(Fixed::PrefixSet(set)) => {
+            let net = net(setting, left, frame, attrs)?;
+            let is = in_nets(net, set)?;
+            Some(is)
+        }
+        TExpr::Constant(number) => {
+            let net = net(setting, left, frame, attrs)?;
+            let is = in_constant(setting, net, *number)?;
+            Some(is)
+        }
+        _ => None,
+    }
+}
+
+#[inline(always)]
+fn has_pair(list: &Clist, first: u16, second: u16) -> bool
+    ensures { result ≡ has_pair list.now (first, second) }
+{
+    list.as_slice().contains(&(first, second))
+}
+
+fn in_nets(net: &Prefix, set: &PrefixSet) -> Option<bool>
+    ensures { IfSome result (λ b. matches_of (VPrefix net.now) (VPrefixSet set.now)
+        ≡ Ok (VBool b)) }
+{
+    match is_element(&Value::Prefix(*net), &Value::PrefixSet(set)) {
+        Ok(is) => Some(is),
+        Err(_) => None,
+    }
+}
+
+/// Whether a constant is a set that has the net.
+fn in_constant(setting: &Setting<'_>, net: &Prefix, number: usize) -> Option<bool>
+    ensures { IfSome result (λ b. operators.and_then
+        (there (slice_get (tables_in setting.now).constants number))
+        (λ set. matches_of (VPrefix net.now) set)
+        ≡ Ok (VBool b)) }
+{
+    let seen = setting.seen;
+    match seen.get(number) {
+        Some(Fixed::PrefixSet(set)) => {
+            let is = in_nets(net, set)?;
+            Some(is)
+        }
+        _ => None,
+    }
+}
+
+/// The net, where the expression is it.
+#[inline(always)]
+fn net<'a>(
+    setting: &Setting<'a>,
+    e: &TExpr,
+    frame: &[Value<'a>],
+    attrs: &Running<'a>,
+) -> Option<&'a Prefix>
+    ensures { IfSome result (λ net. trees.expr e.now (tables_in setting.now)
+        (map val_of frame.now) attrs.now
+        ≡ Done (VPrefix net.now) attrs.now) }
+{
+    match e {
+        TExpr::Attribute(Attribute::Net) => Some(setting.net),
+        _ => None,
+    }
+}
+
+/// The pair that an expression is.
+#[inline(always)]
+fn pair<'a>(
+    setting: &Setting<'a>,
+    e: &TExpr,
+    frame: &[Value<'a>],
+    attrs: &Running<'a>,
+) -> Option<(u16, u16)>
+    ensures { IfSome result (λ p. trees.expr e.now (tables_in setting.now)
+        (map val_of frame.now) attrs.now
+        ≡ Done (VPair p) attrs.now) }
+{
+    match e {
+        TExpr::Value(Fixed::Pair(first, second)) => Some((*first, *second)),
+        TExpr::Pair(left, right) => {
+            let a = number(setting, left, frame, attrs)?;
+            let b = number(setting, right, frame, attrs)?;
+            let both = joined(a, b)?;
+            Some(both)
+        }
+        _ => None,
+    }
+}
+
+#[inline(always)]
+fn joined(a: u32, b: u32) -> Option<(u16, u16)>
+    ensures { IfSome result (λ p. pair_of (VInt a) (VInt b) ≡ Ok (VPair p)) }
+{
+    if a < 65536 && b < 65536 {
+        Some((a as u16, b as u16))
+    } else {
+        None
+    }
+}
