@@ -1,5 +1,5 @@
 //! What is answered to a case.
-use crate::asked::{Asked, Method, OfOne, OfTwo, read_asked};
+use crate::asked::{Asked, Method, OfTwo, Single, read_asked};
 use crate::literal::{Literal, Way, read_literal, value};
 use crate::notation::bad;
 use crate::operators::{of_method, of_one, of_two};
@@ -10,38 +10,6 @@ use filt_values::{Defaults, Failure, ListFailure, Value, copy};
 use std::alloc::Global;
 use std::io;
 use std::io::{Error, ErrorKind};
-
-/// A case with its values.
-#[derive(Debug, Drop)]
-enum Question {
-    Itself(Literal),
-    Sort(Literal),
-    One(OfOne, Literal),
-    Two(OfTwo, Literal, Literal),
-    Method(Method, Literal, Literal),
-}
-
-fn read_question(alloc: Global, text: &str) -> io::Result<Question> {
-    Ok(match read_asked(text).ok_or(bad())? {
-        Asked::Itself(operand) => Question::Itself(read_literal(alloc, operand)?),
-        Asked::Sort(operand) => Question::Sort(read_literal(alloc, operand)?),
-        Asked::One(operator, operand) => Question::One(operator, read_literal(alloc, operand)?),
-        Asked::Two(operator, left, right) => {
-            Question::Two(
-                operator,
-                read_literal(alloc, left)?,
-                read_literal(alloc, right)?,
-            )
-        }
-        Asked::Method(method, list, argument) => {
-            Question::Method(
-                method,
-                read_literal(alloc, list)?,
-                read_literal(alloc, argument)?,
-            )
-        }
-    })
-}
 
 // ---- values and failures
 
@@ -110,48 +78,37 @@ fn write_sort(literal: &Literal, value: &Value<'_>, out: &mut Vec<u8>) -> Result
 
 // ---- cases
 
-fn answer_itself(
+fn write_one(
     alloc: Global,
-    literal: &Literal,
-    way: Way,
-    out: &mut Vec<u8>,
-) -> Result<(), OutOfMemory> {
-    let defaults = Defaults::make(alloc);
-    let value = value(alloc, literal, &defaults, way)?;
-    write_itself(&value, out)
-}
-
-fn answer_sort(
-    alloc: Global,
-    literal: &Literal,
-    way: Way,
-    out: &mut Vec<u8>,
-) -> Result<(), OutOfMemory> {
-    let defaults = Defaults::make(alloc);
-    let value = value(alloc, literal, &defaults, way)?;
-    write_sort(literal, &value, out)
-}
-
-fn answer_one(
-    alloc: Global,
-    operator: OfOne,
+    single: Single,
     literal: &Literal,
     way: Way,
     out: &mut Vec<u8>,
 ) -> Result<(), OutOfMemory> {
     let defaults = Defaults::make(alloc);
     let operand = value(alloc, literal, &defaults, way)?;
-    write_answer(&of_one(alloc, operator, &operand), out)
+    match single {
+        Single::Itself => write_itself(&operand, out),
+        Single::Sort => write_sort(literal, &operand, out),
+        Single::Operator(operator) => write_answer(&of_one(alloc, operator, &operand), out),
+    }
+}
+
+fn answer_one(alloc: Global, single: Single, operand: &str, way: Way) -> io::Result<Vec<u8>> {
+    let literal = read_literal(alloc, operand)?;
+    let mut out = Vec::new(alloc);
+    write_one(alloc, single, &literal, way, &mut out).map_err(no_memory)?;
+    Ok(out)
 }
 
 /// How the two values of a case are handed on.
-#[derive(Clone, Copy, Debug)]
+#[derive(Clone, Copy)]
 struct Ways {
     left: Way,
     right: Way,
 }
 
-fn answer_two(
+fn write_two(
     alloc: Global,
     operator: OfTwo,
     literals: (&Literal, &Literal),
@@ -164,7 +121,20 @@ fn answer_two(
     write_answer(&of_two(operator, &left, &right), out)
 }
 
-fn answer_method(
+fn answer_two(
+    alloc: Global,
+    operator: OfTwo,
+    operands: (&str, &str),
+    ways: Ways,
+) -> io::Result<Vec<u8>> {
+    let left = read_literal(alloc, operands.0)?;
+    let right = read_literal(alloc, operands.1)?;
+    let mut out = Vec::new(alloc);
+    write_two(alloc, operator, (&left, &right), ways, &mut out).map_err(no_memory)?;
+    Ok(out)
+}
+
+fn write_method(
     alloc: Global,
     method: Method,
     literals: (&Literal, &Literal),
@@ -177,22 +147,27 @@ fn answer_method(
     write_made(&of_method(method, list, &argument), out)
 }
 
-fn answered(alloc: Global, question: &Question, ways: Ways) -> Result<Vec<u8>, OutOfMemory> {
+fn answer_method(
+    alloc: Global,
+    method: Method,
+    operands: (&str, &str),
+    ways: Ways,
+) -> io::Result<Vec<u8>> {
+    let list = read_literal(alloc, operands.0)?;
+    let argument = read_literal(alloc, operands.1)?;
     let mut out = Vec::new(alloc);
-    match question {
-        Question::Itself(literal) => answer_itself(alloc, literal, ways.left, &mut out)?,
-        Question::Sort(literal) => answer_sort(alloc, literal, ways.left, &mut out)?,
-        Question::One(operator, literal) => {
-            answer_one(alloc, *operator, literal, ways.left, &mut out)?;
-        }
-        Question::Two(operator, left, right) => {
-            answer_two(alloc, *operator, (left, right), ways, &mut out)?;
-        }
-        Question::Method(method, list, argument) => {
-            answer_method(alloc, *method, (list, argument), ways, &mut out)?;
+    write_method(alloc, method, (&list, &argument), ways, &mut out).map_err(no_memory)?;
+    Ok(out)
+}
+
+fn answered(alloc: Global, asked: Asked<'_>, ways: Ways) -> io::Result<Vec<u8>> {
+    match asked {
+        Asked::One(single, operand) => answer_one(alloc, single, operand, ways.left),
+        Asked::Two(operator, left, right) => answer_two(alloc, operator, (left, right), ways),
+        Asked::Method(method, list, argument) => {
+            answer_method(alloc, method, (list, argument), ways)
         }
     }
-    Ok(out)
 }
 
 const LENT: Ways = Ways {
@@ -219,11 +194,11 @@ const OTHER_WAYS: [Ways; 4] = [
     },
 ];
 
-/// The answer, or an answer that depends on how lists are handed on.
-fn answer_in_bytes(alloc: Global, question: &Question) -> Result<Vec<u8>, OutOfMemory> {
-    let mut answer = answered(alloc, question, LENT)?;
+/// The answer, and another one where it depends on how lists are handed on.
+fn answer_in_bytes(alloc: Global, asked: Asked<'_>) -> io::Result<Vec<u8>> {
+    let mut answer = answered(alloc, asked, LENT)?;
     for ways in OTHER_WAYS {
-        let other = answered(alloc, question, ways)?;
+        let other = answered(alloc, asked, ways)?;
         if other.as_slice() != answer.as_slice() {
             answer.extend_from_slice(b", or ")?;
             answer.extend_from_slice(&other)?;
@@ -235,9 +210,8 @@ fn answer_in_bytes(alloc: Global, question: &Question) -> Result<Vec<u8>, OutOfM
 
 /// What is answered to a case.
 pub fn answer(alloc: Global, text: &str) -> io::Result<String> {
-    let question = read_question(alloc, text)?;
-    let answer = answer_in_bytes(alloc, &question).map_err(no_memory)?;
-    String::from_utf8(answer).map_err(|_| bad())
+    let asked = read_asked(text).ok_or(bad())?;
+    String::from_utf8(answer_in_bytes(alloc, asked)?).map_err(|_| bad())
 }
 
 fn no_memory(_: OutOfMemory) -> Error {

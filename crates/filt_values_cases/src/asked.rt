@@ -2,7 +2,7 @@
 use crate::notation::inside;
 
 /// An operator of one value.
-#[derive(Clone, Copy, Debug)]
+#[derive(Clone, Copy)]
 pub enum OfOne {
     If,
     Not,
@@ -13,8 +13,18 @@ pub enum OfOne {
     Empty,
 }
 
+/// What is asked of one value.
+#[derive(Clone, Copy)]
+pub enum Single {
+    Operator(OfOne),
+    /// The value itself.
+    Itself,
+    /// The value's sort.
+    Sort,
+}
+
 /// An operator of two values that makes no list.
-#[derive(Clone, Copy, Debug)]
+#[derive(Clone, Copy)]
 pub enum OfTwo {
     Matches,
     MatchesNot,
@@ -32,7 +42,7 @@ pub enum OfTwo {
 }
 
 /// A method that makes a list of a list and an argument.
-#[derive(Clone, Copy, Debug)]
+#[derive(Clone, Copy)]
 pub enum Method {
     Prepend,
     Add,
@@ -40,18 +50,19 @@ pub enum Method {
     Filter,
 }
 
-#[derive(Clone, Copy, Debug)]
+#[derive(Clone, Copy)]
 pub enum Asked<'a> {
-    One(OfOne, &'a str),
+    One(Single, &'a str),
     Two(OfTwo, &'a str, &'a str),
     Method(Method, &'a str, &'a str),
-    /// The value itself.
-    Itself(&'a str),
-    /// The sort of a value.
-    Sort(&'a str),
 }
 
-const FRONTS: [(&str, OfOne); 2] = [("if ", OfOne::If), ("!", OfOne::Not)];
+const FRONTS: [(&str, Single); 4] = [
+    ("if ", Single::Operator(OfOne::If)),
+    ("!", Single::Operator(OfOne::Not)),
+    ("value ", Single::Itself),
+    ("sort ", Single::Sort),
+];
 
 const BACKS: [(&str, OfOne); 5] = [
     (".len", OfOne::Len),
@@ -95,10 +106,10 @@ fn method_call(text: &str) -> Option<Asked<'_>> {
     None
 }
 
-fn behind_a_sign(text: &str) -> Option<Asked<'_>> {
-    for (front, operator) in FRONTS {
+fn behind_a_front(text: &str) -> Option<Asked<'_>> {
+    for (front, single) in FRONTS {
         if let Some(operand) = text.strip_prefix(front) {
-            return Some(Asked::One(operator, operand));
+            return Some(Asked::One(single, operand));
         }
     }
     None
@@ -107,7 +118,7 @@ fn behind_a_sign(text: &str) -> Option<Asked<'_>> {
 fn property(text: &str) -> Option<Asked<'_>> {
     for (back, operator) in BACKS {
         if let Some(operand) = text.strip_suffix(back) {
-            return Some(Asked::One(operator, operand));
+            return Some(Asked::One(Single::Operator(operator), operand));
         }
     }
     None
@@ -128,23 +139,12 @@ fn pair(text: &str) -> Option<Asked<'_>> {
     Some(Asked::Two(OfTwo::Pair, left, right))
 }
 
-fn named(text: &str) -> Option<Asked<'_>> {
-    if let Some(operand) = text.strip_prefix("value ") {
-        return Some(Asked::Itself(operand));
-    }
-    let operand = text.strip_prefix("sort ")?;
-    Some(Asked::Sort(operand))
-}
-
 /// What a case asks for, if it is in the notation.
 pub fn read_asked(text: &str) -> Option<Asked<'_>> {
     if let Some(asked) = method_call(text) {
         return Some(asked);
     }
-    if let Some(asked) = named(text) {
-        return Some(asked);
-    }
-    if let Some(asked) = behind_a_sign(text) {
+    if let Some(asked) = behind_a_front(text) {
         return Some(asked);
     }
     if let Some(asked) = property(text) {

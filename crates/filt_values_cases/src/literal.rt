@@ -11,7 +11,7 @@ use filt_values::{Defaults, Fixed, Sort, Value, copy};
 use std::alloc::Global;
 use std::io;
 
-#[derive(Debug, Drop)]
+#[derive(Drop)]
 pub enum Literal {
     Fixed(Fixed),
     Path(Path),
@@ -20,7 +20,7 @@ pub enum Literal {
 }
 
 /// How a list of a case is handed on.
-#[derive(Clone, Copy, Debug)]
+#[derive(Clone, Copy)]
 pub enum Way {
     /// It stands elsewhere.
     Lent,
@@ -82,34 +82,57 @@ fn clist(alloc: Global, text: &str) -> io::Result<Clist> {
 }
 
 /// What stands between parentheses.
-fn in_parentheses(alloc: Global, text: &str) -> io::Result<Literal> {
+fn in_parentheses(alloc: Global, text: &str) -> io::Result<Box<Literal>> {
     if text.contains(",") {
         let (first, second) = pair(text)?;
-        return Ok(Literal::Fixed(Fixed::Pair(first, second)));
+        return boxed(alloc, Fixed::Pair(first, second));
     }
-    Ok(Literal::Path(path(alloc, text)?))
+    let path = path(alloc, text)?;
+    Ok(Box::new(alloc, Literal::Path(path))?)
 }
 
-pub fn read_literal(alloc: Global, text: &str) -> io::Result<Literal> {
+fn boxed(alloc: Global, fixed: Fixed) -> io::Result<Box<Literal>> {
+    Ok(Box::new(alloc, Literal::Fixed(fixed))?)
+}
+
+/// What stands between braces.
+fn in_braces(alloc: Global, text: &str) -> io::Result<Box<Literal>> {
+    let list = clist(alloc, text)?;
+    Ok(Box::new(alloc, Literal::Clist(list))?)
+}
+
+fn string(alloc: Global, text: &str) -> io::Result<Fixed> {
+    let bytes = text.as_bytes().to_vec(alloc)?;
+    Ok(Fixed::String(bytes))
+}
+
+/// The literal that a text is. It is boxed, since proofs look into what isn't.
+pub fn read_literal(alloc: Global, text: &str) -> io::Result<Box<Literal>> {
     if let Some(found) = word_of(text) {
-        return Ok(Literal::Fixed(word(found)));
+        return boxed(alloc, word(found));
     }
     if let Some(name) = text.strip_prefix("default ") {
-        return Ok(Literal::Default(sort_named(name).ok_or(bad())?));
-    }
-    if let Some(bytes) = inside(text, "\"", "\"") {
-        return Ok(Literal::Fixed(Fixed::String(bytes.as_bytes().to_vec(alloc)?)));
+        let sort = sort_named(name).ok_or(bad())?;
+        return Ok(Box::new(alloc, Literal::Default(sort))?);
     }
     if let Some(text) = inside(text, "(", ")") {
         return in_parentheses(alloc, text);
     }
     if let Some(text) = inside(text, "{", "}") {
-        return Ok(Literal::Clist(clist(alloc, text)?));
+        return in_braces(alloc, text);
     }
-    if let Some(text) = inside(text, "[", "]") {
-        return Ok(Literal::Fixed(items(alloc, text)?));
+    boxed(alloc, fixed(alloc, text)?)
+}
+
+/// What is no list, no word and no pair.
+fn fixed(alloc: Global, text: &str) -> io::Result<Fixed> {
+    if let Some(text) = inside(text, "\"", "\"") {
+        return string(alloc, text);
     }
-    Ok(Literal::Fixed(plain(text)?))
+    match inside(text, "[", "]") {
+        Some(text) => items(alloc, text),
+        None => plain(text),
+    }
 }
 
 /// The value of a literal.

@@ -3,7 +3,7 @@ use attrs::{Dest, FilterFault, Kind, Origin};
 use filt_values::Sort;
 
 /// A value that is a word.
-#[derive(Clone, Copy, Debug, PartialEq, Eq)]
+#[derive(Clone, Copy, PartialEq, Eq)]
 pub enum Word {
     Bool(bool),
     EmptyPath,
