@@ -1,0 +1,11 @@
+use Rattle.std.proofs.Common.{rules, ◌∙◌}
+use Rattle.std.proofs.lemmas.Iterator.{YieldsList-from_slice}
+use Rattle.std.proofs.lemmas.Iterator.Search.{any_from_yields_List}
+use Rattle.conf_tree.specs.declared.tree.ChannelOption.{ChannelOption}
+use Rattle.conf_ast.specs.Configurations.{channel_setting_of}
+use Rattle.session.specs.Built.{is_preference}
+use Rattle.conf_rules.proofs.Wholes.{any_viewed}
+use Rattle.session.proofs.built.some_preference.Goals as goal
+
+pub returns : goal.returns
+returns c = any_from_yields_List (λ (x : ChannelOption). is_preference (channel_setting_of x)) _ _ _ c.any.ensures.ran (YieldsList-from_slice c.args.options.now cc) (λ x b q k. search rules) ∙ any_viewed is_preference channel_setting_of c.args.options.now

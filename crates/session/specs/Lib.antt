@@ -1,0 +1,4 @@
+pub mod Filtered
+pub mod Configured
+pub mod Built
+pub mod Seen
