@@ -4,3 +4,5 @@ pub mod Histories
 pub mod Nets
 pub mod Rows
 pub mod Shown
+pub mod Bests
+pub mod Covering

@@ -1,11 +1,11 @@
 -- Routes in selection order, and rows.
-use Rattle.std.proofs.Common.{◌≡◌, ◌≢◌, ℕ, zero, suc, true, false, cond, ◌⊎◌, inl, inr, ⊎_elim, List, [], ◌∷◌, Option, Some, None, refl, sym, ap, ◌∙◌, subst, arith}
-use Rattle.std.specs.Prelude.{Contains, ◌==◌}
+use Rattle.std.proofs.Common.{◌≡◌, ◌≢◌, ℕ, zero, suc, Bool, true, false, ◌&&◌, ◌||◌, nat_lt, cond, ◌⊎◌, inl, inr, ⊎_elim, List, [], ◌∷◌, ◌++◌, Option, Some, None, refl, sym, ap, ◌∙◌, subst, arith}
+use Rattle.std.specs.Prelude.{Contains, ◌==◌, not, take}
 use Rattle.std.proofs.lemmas.Bool.{eqb-true, eq-eqb, ne_eqb, cond-true, cond-false, cases_Bool}
 use Rattle.std.proofs.lemmas.Option.{same_Some}
 use Rattle.std.proofs.lemmas.Bool.Decides.{nat_tests}
 use Rattle.attrs.specs.declared.route.Route.{Route}
-use Rattle.attrs.specs.Selection.{Rule, Lower, Higher, before_by, before, IsBest, selection_rules}
+use Rattle.attrs.specs.Selection.{Rule, Lower, Higher, before_by, before, IsBest, selection_rules, source_number}
 use Rattle.attrs.specs.Table.{IsBeforeAll, IsInOrder, IsSorted, HasNone, IsOfSources, route_of}
 use Rattle.attrs.proofs.Same.{same_or_not}
 
@@ -37,8 +37,27 @@ pub before_chain : (a b c : Route) → before a b ≡ true → before b c ≡ tr
 before_chain = before_by_chain selection_rules
 
 -- of two sources' routes one is before the other
+either_lower : (x y : ℕ) (t u : Bool) → (t ≡ true) ⊎ (u ≡ true) → ((nat_lt x y || (x == y && t)) ≡ true) ⊎ ((nat_lt y x || (y == x && u)) ≡ true)
+either_lower x y t u h = ⊎_elim (λ e. grind (arith, nat_tests)) (λ e. grind (arith, nat_tests)) h
+
+either_higher : (x y : ℕ) (t u : Bool) → (t ≡ true) ⊎ (u ≡ true) → ((nat_lt y x || (x == y && t)) ≡ true) ⊎ ((nat_lt x y || (y == x && u)) ≡ true)
+either_higher x y t u h = ⊎_elim (λ e. grind (arith, nat_tests)) (λ e. grind (arith, nat_tests)) h
+
+before_by_either :
+    (list : List Rule) (a b : Route) → (a.src.num ≢ b.src.num) → (before_by (list ++ Lower source_number ∷ []) a b ≡ true) ⊎ (before_by (list ++ Lower source_number ∷ []) b a ≡ true)
+before_by_either [] a b differ = grind (arith, nat_tests)
+before_by_either (Lower key ∷ list) a b differ = either_lower (key a) (key b) _ _ (before_by_either list a b differ)
+before_by_either (Higher key ∷ list) a b differ = either_higher (key a) (key b) _ _ (before_by_either list a b differ)
+
 pub before_either : (a b : Route) → (a.src.num ≢ b.src.num) → (before a b ≡ true) ⊎ (before b a ≡ true)
-before_either a b differ = grind (arith, nat_tests)
+before_either = before_by_either (take 10 selection_rules)
+
+-- exactly one of them is
+pub before_one : (a b : Route) → (a.src.num ≢ b.src.num) → before a b ≡ not (before b a)
+before_one a b differ = ⊎_elim (λ h. h ∙ sym (ap not (absent (before b a) (before_back a b h)))) (λ h. absent (before a b) (λ e. before_back a b e h) ∙ sym (ap not h)) (before_either a b differ) where
+  absent : (t : Bool) → (t ≡ true → ⊥) → t ≡ false
+  absent true h = absurd (h refl)
+  absent false h = refl
 
 -- what a list begins with, or what stands behind that
 pub Contains-cons_cases : {X : Type 0} → (x : X) (xs : List X) (y : X) → Contains (x ∷ xs) y → (x ≡ y) ⊎ Contains xs y
@@ -121,7 +140,7 @@ pub first_found : (r : Route) (rest : List Route) → route_of r.src.num (r ∷ 
 first_found r rest = cond-true _ _ _ (eq-eqb r.src.num r.src.num refl)
 
 -- another route that is found stands behind the first
-is_or_before : (r : Route) (rest : List Route) (q : Route) → IsInOrder (r ∷ rest) → route_of q.src.num (r ∷ rest) ≡ Some q → (r ≡ q) ⊎ (before r q ≡ true)
+pub is_or_before : (r : Route) (rest : List Route) (q : Route) → IsInOrder (r ∷ rest) → route_of q.src.num (r ∷ rest) ≡ Some q → (r ≡ q) ⊎ (before r q ≡ true)
 is_or_before r rest q order h =
     ⊎_elim (λ e. inl e) (λ ne. inr (order.0.1 q (found_among q.src.num (r ∷ rest) q h) (λ e. ne (sym e)))) (same_or_not r q)
 

@@ -3,3 +3,4 @@ pub mod Text
 pub mod Selection
 pub mod History
 pub mod Table
+pub mod Select

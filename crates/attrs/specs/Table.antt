@@ -64,3 +64,13 @@ pub record Shows (rows : List Row) (content : Content) : Type 0 where
 -- how many routes stand in the rows
 abbrev pub count_routes : List Row → ℕ
 count_routes rows = sum_by (λ row. length row.routes) rows
+
+-- the routes of a net in a content, in any order
+pub record AreRoutesOf (content : Content) (net : Net) (routes : List Route) : Type 0 where
+  pub sources : IsOfSources routes
+  pub are : (num : ℕ) → route_of num routes ≡ content net num
+
+-- the best of the net's routes in the content
+abbrev pub IsBestOf : Content → Net → Option Route → Type 0
+IsBestOf content net best =
+    (routes : List Route) → AreRoutesOf content net routes → IsBest routes best

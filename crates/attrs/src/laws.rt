@@ -1,9 +1,10 @@
-ghost use Rattle.std.specs.Prelude.{◌≡◌, ◌≢◌, ◌↔◌, ℕ, List, [], ◌∷◌, ◌++◌, Option, Some};
-ghost use Rattle.bits_ip.specs.Prefix.{Net};
+ghost use Rattle.std.specs.Prelude.{◌≡◌, ◌≢◌, ◌↔◌, ℕ, false, not, List, [], ◌∷◌, ◌++◌, Option, Some, None, IsTrue};
+ghost use Rattle.bits_ip.specs.Prefix.{Net, Covers};
 ghost use Rattle.attrs.specs.declared.route.Change.{Change};
 ghost use Rattle.attrs.specs.History.{Content, after, IsReal};
-ghost use Rattle.attrs.specs.Selection.{IsBest};
-ghost use Rattle.attrs.specs.Table.{IsInOrder, IsOfSources, IsSorted, Shows};
+ghost use Rattle.attrs.specs.Selection.{IsBest, before};
+ghost use Rattle.attrs.specs.Select.{covers};
+ghost use Rattle.attrs.specs.Table.{AreRoutesOf, IsBestOf, IsInOrder, IsOfSources, IsSorted, Shows};
 ghost use Rattle.attrs.specs.declared.route.Route.{Route};
 ghost use Rattle.attrs.specs.declared.route.Row.{Row};
 
@@ -17,6 +18,15 @@ pub fn changes_add_up()
 pub fn real_changes_add_up()
     ensures { (start : Content) (changes : List Change) (c : Change) → IsReal start changes
         → (after start changes c.net c.num ≢ c.new) → IsReal start (changes ++ c ∷ []) }
+{}
+
+/// No route is before itself, a route is before all that one behind it is before, and of two routes
+/// of different sources exactly one is before the other.
+pub fn selection_is_an_order()
+    ensures itself { (r : Route) → before r r ≡ false }
+    ensures onward { (a b c : Route) → IsTrue (before a b) → IsTrue (before b c)
+        → IsTrue (before a c) }
+    ensures either { (a b : Route) → (a.src.num ≢ b.src.num) → before a b ≡ not (before b a) }
 {}
 
 /// Routes of different sources are in selection order exactly where each is before all that follow
@@ -40,4 +50,19 @@ pub fn best_is_one()
 pub fn shown_by_one()
     ensures { (rows others : List Row) (content : Content) → Shows rows content
         → Shows others content → rows ≡ others }
+{}
+
+/// Of the routes of a net in a content the best is none where there are none, and the first where
+/// they are in selection order.
+pub fn best_of_a_content()
+    ensures none { (content : Content) (net : Net) → AreRoutesOf content net []
+        → IsBestOf content net None }
+    ensures first { (content : Content) (net : Net) (r : Route) (rest : List Route)
+        → AreRoutesOf content net (r ∷ rest) → IsInOrder (r ∷ rest)
+        → IsBestOf content net (Some r) }
+{}
+
+/// The test of covering by which rows are selected answers what the relation of prefixes says.
+pub fn covering_is_tested()
+    ensures { (a b : Net) → IsTrue (covers a b) ↔ Covers a b }
 {}

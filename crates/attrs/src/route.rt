@@ -37,10 +37,16 @@ pub struct Row {
     pub routes: Seq<Route>,
 }
 
-/// Which nets of a table are asked for.
+/// Which nets of a table are asked for (BIRD User's Guide, "Remote control", `show route`).
 #[derive(Clone, Copy, Debug, PartialEq, Eq, Hash)]
 pub enum Select {
     All,
+    /// This net alone.
+    Exact(Prefix),
+    /// The longest net that covers this prefix, which may be the prefix itself.
+    For(Prefix),
+    /// The nets that this prefix covers, itself among them.
+    Within(Prefix),
 }
 
 impl Route {

@@ -1,7 +1,5 @@
 pub mod Laws
-pub mod NetLists
-pub mod NetOrder
-pub mod NetPlaces
+pub mod NetRows
+pub mod NetSteps
 pub mod OneNet
-pub mod Rooms
-pub mod RowList
+pub mod Picking

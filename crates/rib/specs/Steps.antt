@@ -1,14 +1,11 @@
 -- What a change does to the routes of its net, and to the rows.
-use Rattle.std.specs.Prelude.{◌≡◌, ◌<◌, ◌≤◌, ◌+◌, ℕ, Bool, true, false, ◌==◌, if◌then◌else◌, IsTrue, List, [], ◌∷◌, length, take, drop, slice_index_or, Option, ⊤}
-use Rattle.bits_ip.specs.Address.{family_of}
-use Rattle.bits_ip.specs.Prefix.{Net, same_net, precedes}
+use Rattle.std.specs.Prelude.{◌≡◌, ◌≤◌, ◌+◌, ℕ, Bool, true, false, ◌==◌, if◌then◌else◌, List, [], ◌∷◌, length, Option}
+use Rattle.bits_ip.specs.Prefix.{Net, same_net}
 use Rattle.attrs.specs.declared.route.Change.{Change}
 use Rattle.attrs.specs.declared.route.Route.{Route}
 use Rattle.attrs.specs.declared.route.Row.{Row}
 use Rattle.attrs.specs.Selection.{before}
-use Rattle.attrs.specs.Table.{IsBelow, IsOfSources, IsSorted, route_of, routes_of}
-use Rattle.rib.specs.declared.kept.NetRoutes.{NetRoutes}
-use Rattle.rib.specs.Inside.{AreNets, rows_of}
+use Rattle.attrs.specs.Table.{IsOfSources, IsSorted, route_of, routes_of}
 
 -- the routes without that of this source
 abbrev pub without : ℕ → List Route → List Route
@@ -46,29 +43,3 @@ pub record Changes (change : Change) (old now : List Row) : Type 0 where
   pub own : (n : ℕ) → route_of n (routes_of change.net now)
       ≡ (if n == change.num then change.new else route_of n (routes_of change.net old))
   pub others : (net : Net) → same_net net change.net ≡ false → routes_of net now ≡ routes_of net old
-
--- the net's routes are others now, and all else stands
-pub record Leaves
-    (net : Net) (before after : List Route) (old now : List NetRoutes) (count : ℕ)
-    : Type 0 where
-  pub nets : AreNets (family_of net.addr) now count
-  pub had : routes_of net (rows_of old) ≡ before
-  pub has : routes_of net (rows_of now) ≡ after
-  pub others : (n : Net) → same_net n net ≡ false
-      → routes_of n (rows_of now) ≡ routes_of n (rows_of old)
-
--- the rows stand before the net
-abbrev pub AreBelow : List Row → Net → Type 0
-AreBelow [] net = ⊤
-AreBelow (row ∷ rows) net = IsTrue (precedes row.net net) × AreBelow rows net
-
--- the net stands at this place
-pub record IsNetAt (net : Net) (nets : List NetRoutes) (place : ℕ) : Type 0 where
-  pub within : place < length nets
-  pub is : (d : NetRoutes) → (slice_index_or nets place d).net ≡ net
-
--- the net isn't there, and would go to this place
-pub record IsGapFor (net : Net) (nets : List NetRoutes) (place : ℕ) : Type 0 where
-  pub within : place ≤ length nets
-  pub front : AreBelow (rows_of (take place nets)) net
-  pub back : IsBelow net (rows_of (drop place nets))

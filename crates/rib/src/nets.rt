@@ -1,214 +1,415 @@
-ghost use Rattle.std.specs.Prelude.{◌≡◌, ◌≢◌, ◌↔◌, ◌+◌, ◌<◌, ◌^◌, [], ◌∷◌, IfOk, IfSome, IsSome, IsTrue, MatchResult, OnOk, length, slice_index_or};
-ghost use Rattle.bits_ip.specs.Address.{family_of};
-ghost use Rattle.bits_ip.specs.Prefix.{Net};
+ghost use Rattle.std.specs.Prelude.{◌≡◌, ◌≢◌, ◌↔◌, ◌≤◌, ◌<◌, ◌+◌, ◌++◌, ◌^◌, [], false, IfOk, IfSome, IsSome, IsSomeAnd, IsTrue, OnOk, OnErr, Some, length, not, ◌==◌, option_copied, slice_index_or, take, if◌then◌else◌};
+ghost use Rattle.std.specs.BTreeMap.{insert_entry, is_at};
+ghost use Rattle.std.specs.List.{count_by};
+ghost use Rattle.std.specs.Map.{values_of};
 ghost use Rattle.attrs.specs.declared.route.Row.{Row};
-ghost use Rattle.attrs.specs.Table.{AreRows, route_in, routes_of};
-ghost use Rattle.rib.specs.Rib.{best_of};
+ghost use Rattle.bits_ip.specs.Address.{family_of};
+ghost use Rattle.bits_ip.specs.Prefix.{Net, net_cmp};
+ghost use Rattle.attrs.specs.Select.{rows_from, selected};
+ghost use Rattle.attrs.specs.Table.{route_in, route_of, routes_of};
+ghost use Rattle.rib.specs.Rib.{best_of, first_of};
 ghost use Rattle.rib.specs.Outcome.{IfChanged};
-ghost use Rattle.rib.specs.Inside.{AreNets, HasRoom, HaveGrown, HaveRoomAt, IsRoomFor, IsSpare, row_of, rows_of};
-ghost use Rattle.rib.specs.Steps.{Changes, IsGapFor, IsNetAt, Leaves};
+ghost use Rattle.rib.specs.Entries.{AreKeys, AreNets, HasRoom, HasRoomAt, IsEmptyAt, count_of, entry_at, row_of, routes_at, rows_of};
+ghost use Rattle.rib.specs.Picks.{first_bound, longest_for, longest_from, picked_row};
+ghost use Rattle.rib.specs.Steps.{AreRoutes, Changes, Replaces};
 
-use crate::kept::Kept;
+use crate::picks::{is_picked, longer_cover};
 use crate::rib::Outcome;
-use attrs::{Change, Route, Row, Seq};
+use crate::routes::{change_routes, copy_routes};
+use attrs::{Change, Route, Row, Select, Seq};
 use bits_ip::{OutOfMemory, Prefix};
 use std::alloc::Global;
+use std::collections::BTreeMap;
+use std::marker::Model;
+use std::ops::Bound;
 
-/// Where a net stands, or where it would go.
-fn place_of_net(nets: &[Kept], net: &Prefix) -> Result<usize, usize>
-    requires { AreRows (rows_of nets.now) }
-    ensures { MatchResult result (IsNetAt net.now nets.now) (IsGapFor net.now nets.now) }
-{
-    nets.binary_search_by(|kept| kept.net().cmp(net))
+/// Nets with their routes in selection order. A net may be there without routes.
+#[derive(Debug, Drop)]
+pub(crate) struct Nets {
+    map: BTreeMap<Prefix, Vec<Route>>,
 }
 
-/// The routes of a net.
-pub(crate) fn find_routes<'a>(nets: &'a [Kept], net: &Prefix) -> &'a [Route]
-    requires { AreRows (rows_of nets.now) }
-    ensures { result.now ≡ routes_of net.now (rows_of nets.now) }
-{
-    match place_of_net(nets, net) {
-        Ok(place) => nets[place].routes(),
-        Err(_) => &[],
+impl Model for Nets {
+    ghost use Rattle.rib.specs.Entries.{Entries};
+
+    ghost Value = { Entries };
+
+    ghost view = { λ nets. nets.map.entries };
+}
+
+impl Nets {
+    pub(crate) fn new(alloc: Global) -> Nets
+        ensures { result ≡ [] }
+    {
+        Nets {
+            map: BTreeMap::new(alloc),
+        }
+    }
+
+    /// The routes of a net.
+    pub(crate) fn routes(&self, net: &Prefix) -> &[Route]
+        requires { AreKeys self.now }
+        ensures { result.now ≡ routes_of net.now (rows_of self.now) }
+    {
+        match self.map.get(net) {
+            Some(routes) => routes.as_slice(),
+            None => &[],
+        }
+    }
+
+    /// Whether the net is there without routes.
+    fn is_empty_at(&self, net: &Prefix) -> bool
+        ensures { IsTrue result ↔ IsEmptyAt net.now self.now }
+    {
+        match self.map.get(net) {
+            Some(routes) => routes.is_empty(),
+            None => false,
+        }
+    }
+
+    /// Puts routes in the place of those of a net that is there, and gives these.
+    fn replace(&mut self, net: Prefix, routes: Vec<Route>) -> Vec<Route>
+        requires { IsSome (entry_at net self.old) }
+        ensures old { entry_at net self.old ≡ Some result }
+        ensures entries { self.new ≡ insert_entry net_cmp self.old net routes }
+        ensures at { (q : Net) → entry_at q self.new
+            ≡ (if is_at (net_cmp net) q then Some routes else entry_at q self.old) }
+        ensures was { AreKeys self.old }
+        ensures keys { AreKeys self.new }
+    {
+        match self.map.insert(net, routes) {
+            Ok(Some(old)) => old,
+            _ => unreachable!(),
+        }
+    }
+
+    /// Puts a net there, which has no routes yet, with room for one.
+    fn add(&mut self, alloc: Global, net: Prefix) -> Result<(), OutOfMemory>
+        requires { IsSome (entry_at net self.old) → ⊥ }
+        ensures made { OnOk result (HasRoomAt net self.new) }
+        ensures routes { (q : Net) → routes_at q self.new ≡ routes_at q self.old }
+        ensures others { (q : Net) → is_at (net_cmp net) q ≡ false
+            → entry_at q self.new ≡ entry_at q self.old }
+        ensures refused { OnErr result (self.new ≡ self.old) }
+        ensures room { (q : Net) → HasRoomAt q self.old → HasRoomAt q self.new }
+        ensures count { count_of self.new ≡ count_of self.old }
+        ensures keys { AreKeys self.old → AreKeys self.new }
+    {
+        let routes = Vec::with_capacity(alloc, 1)?;
+        self.map.insert(net, routes)?;
+        Ok(())
+    }
+
+    /// Makes room for one more route of a net that is there.
+    fn grow(&mut self, alloc: Global, net: Prefix) -> Result<(), OutOfMemory>
+        requires { IsSome (entry_at net self.old) }
+        ensures made { OnOk result (HasRoomAt net self.new) }
+        ensures room { HasRoomAt net self.old → HasRoomAt net self.new }
+        ensures routes { (q : Net) → routes_at q self.new ≡ routes_at q self.old }
+        ensures there { IsSome (entry_at net self.new) }
+        ensures others { (q : Net) → is_at (net_cmp net) q ≡ false
+            → entry_at q self.new ≡ entry_at q self.old }
+        ensures count { count_of self.new ≡ count_of self.old }
+        ensures keys { AreKeys self.new }
+    {
+        let mut routes = self.replace(net, Vec::new(alloc));
+        let grown = grow_routes(&mut routes);
+        let _empty = self.replace(net, routes);
+        grown
+    }
+
+    /// Takes the net out, where it has no routes.
+    pub(crate) fn drop_empty(&mut self, net: &Prefix)
+        requires { AreKeys self.old }
+        ensures gone { IsEmptyAt net.now self.new → ⊥ }
+        ensures routes { (q : Net) → routes_at q self.new ≡ routes_at q self.old }
+        ensures others { (q : Net) → is_at (net_cmp net.now) q ≡ false
+            → entry_at q self.new ≡ entry_at q self.old }
+        ensures count { count_of self.new ≡ count_of self.old }
+        ensures keys { AreKeys self.new }
+    {
+        if self.is_empty_at(net) {
+            self.take_out(net);
+        }
+    }
+
+    /// Takes out a net that has no routes.
+    fn take_out(&mut self, net: &Prefix)
+        requires empty { IsEmptyAt net.now self.old }
+        requires keys { AreKeys self.old }
+        ensures gone { IsEmptyAt net.now self.new → ⊥ }
+        ensures routes { (q : Net) → routes_at q self.new ≡ routes_at q self.old }
+        ensures others { (q : Net) → is_at (net_cmp net.now) q ≡ false
+            → entry_at q self.new ≡ entry_at q self.old }
+        ensures count { count_of self.new ≡ count_of self.old }
+        ensures keys { AreKeys self.new }
+    {
+        self.map.remove(net);
+    }
+
+    /// Changes the route of a source of a net, for which there is room, and counts it. It may be
+    /// the net's last.
+    fn change_at(
+        &mut self,
+        alloc: Global,
+        total: &mut u64,
+        net: Prefix,
+        num: u32,
+        new: Option<Route>,
+    ) -> Outcome
+        requires room { HasRoomAt net self.old }
+        requires are { AreRoutes (routes_at net self.old) }
+        requires within { length (routes_at net self.old) ≤ total.old }
+        requires counts { total.old + 1 < 2 ^ 64 }
+        requires source { IfSome new (λ route. route.src.num ≡ num) }
+        ensures routes { Replaces num new (routes_at net self.old) (routes_at net self.new) }
+        ensures others { (q : Net) → is_at (net_cmp net) q ≡ false
+            → entry_at q self.new ≡ entry_at q self.old }
+        ensures total { total.new + count_of self.old ≡ total.old + count_of self.new }
+        ensures keys { AreKeys self.new }
+        ensures same { (result ≡ Outcome.Same) ↔ (route_of num (routes_at net self.old) ≡ new) }
+        ensures moved { IfChanged result
+            (λ moved. IsTrue moved
+            ↔ (first_of (routes_at net self.new) ≢ first_of (routes_at net self.old))) }
+    {
+        let mut routes = self.replace(net, Vec::new(alloc));
+        let outcome = change_counted(&mut routes, total, num, new);
+        let _empty = self.replace(net, routes);
+        outcome
+    }
+
+    /// Makes a change, in the memory that is there for it. A net that has no routes then goes.
+    pub(crate) fn change(&mut self, alloc: Global, total: &mut u64, change: Change) -> Outcome
+        requires nets { AreNets (family_of change.net.addr) self.old total.old }
+        requires room { HasRoomAt change.net self.old }
+        requires counts { total.old + 1 < 2 ^ 64 }
+        requires source { IfSome change.new (λ route. route.src.num ≡ change.num) }
+        ensures nets { AreNets (family_of change.net.addr) self.new total.new }
+        ensures empty { (q : Net) → IsEmptyAt q self.new → IsEmptyAt q self.old × (change.net ≢ q) }
+        ensures changes { Changes change (rows_of self.old) (rows_of self.new) }
+        ensures same { (result ≡ Outcome.Same)
+            ↔ (route_in (rows_of self.old) change.net change.num ≡ change.new) }
+        ensures moved { IfChanged result
+            (λ moved. IsTrue moved
+            ↔ (best_of change.net (rows_of self.new) ≢ best_of change.net (rows_of self.old))) }
+    {
+        let Change { net, num, new } = change;
+        let outcome = self.change_at(alloc, total, net, num, new);
+        self.drop_empty(&net);
+        outcome
+    }
+
+    /// Makes room for one more route of the net, which is put there without routes where it isn't.
+    pub(crate) fn make_room(&mut self, alloc: Global, net: &Prefix) -> Result<(), OutOfMemory>
+        requires { AreKeys self.old }
+        ensures made { OnOk result (HasRoomAt net.now self.new) }
+        ensures room { (q : Net) → HasRoomAt q self.old → HasRoomAt q self.new }
+        ensures routes { (q : Net) → routes_at q self.new ≡ routes_at q self.old }
+        ensures empty { (q : Net) → IsEmptyAt q self.new → net.now ≢ q → IsEmptyAt q self.old }
+        ensures refused { OnErr result ((q : Net) → IsEmptyAt q self.new → IsEmptyAt q self.old) }
+        ensures count { count_of self.new ≡ count_of self.old }
+        ensures keys { AreKeys self.new }
+    {
+        if self.map.contains_key(net) {
+            self.grow(alloc, *net)
+        } else {
+            self.add(alloc, *net)
+        }
+    }
+
+    /// Takes out the net for which there was room, where it has no routes and isn't the kept one.
+    pub(crate) fn drop_room(&mut self, room: Option<(Prefix, u32)>, kept: &Prefix)
+        requires { AreKeys self.old }
+        ensures kept { HasRoomAt kept.now self.old → HasRoomAt kept.now self.new }
+        ensures routes { (q : Net) → routes_at q self.new ≡ routes_at q self.old }
+        ensures empty { (q : Net) → IsEmptyAt q self.new
+            → IsEmptyAt q self.old × (IsSomeAnd room (λ key. key.0 ≡ q) → kept.now ≡ q) }
+        ensures count { count_of self.new ≡ count_of self.old }
+        ensures keys { AreKeys self.new }
+    {
+        if let Some((net, _)) = room {
+            if net.cmp(kept).is_ne() {
+                self.drop_empty(&net);
+            }
+        }
+    }
+
+    fn longest_cover(&self, asked: &Prefix) -> u8
+        ensures { result ≡ longest_from asked.now 0 (rows_of self.now) }
+    {
+        let mut longest = 0;
+        for (net, routes) in &self.map {
+            longest = longest_with(asked, net, routes.as_slice(), longest);
+        }
+        longest
+    }
+
+    fn longest_for(&self, pick: &Select) -> u8
+        ensures { result ≡ longest_for pick.now (rows_of self.now) }
+    {
+        match pick {
+            Select::For(asked) => self.longest_cover(asked),
+            _ => 0,
+        }
+    }
+
+    /// Copies of the rows that are asked for.
+    pub(crate) fn copy_rows(&self, alloc: Global, pick: &Select) -> Result<Vec<Row>, OutOfMemory>
+        ensures { IfOk result (λ rows. rows.items ≡ selected pick.now (rows_of self.now)) }
+    {
+        let longest = self.longest_for(pick);
+        let mut rows = Vec::new(alloc);
+        for (net, routes) in &self.map {
+            let is_picked = is_picked(pick, longest, net);
+            copy_picked(alloc, net, routes.as_slice(), is_picked, &mut rows)?;
+        }
+        Ok(rows)
+    }
+
+    /// Copies of the first rows from a net on, itself included; at most so many.
+    pub(crate) fn copy_next(
+        &self,
+        alloc: Global,
+        from: Option<&Prefix>,
+        max: usize,
+    ) -> Result<Vec<Row>, OutOfMemory>
+        ensures { IfOk result (λ rows. rows.items
+            ≡ take max (rows_from (option_copied from.entry) (rows_of self.now))) }
+    {
+        let mut rows = Vec::new(alloc);
+        for (net, routes) in self.map.range((first_bound(from), Bound::Unbounded)) {
+            if rows.len() >= max {
+                break;
+            }
+            copy_picked(alloc, net, routes.as_slice(), true, &mut rows)?;
+        }
+        Ok(rows)
+    }
+
+    fn count_filled(&self) -> usize
+        ensures { result ≡ count_by (λ v. not (length v.items == 0)) (values_of self.now) }
+    {
+        self.map
+            .values()
+            .filter(|routes| !routes.as_slice().is_empty())
+            .count()
+    }
+
+    /// How many nets have routes.
+    pub(crate) fn len(&self) -> usize
+        ensures { result ≡ length (rows_of self.now) }
+    {
+        self.count_filled()
+    }
+
+    /// The net at this place among those with routes, and its routes.
+    pub(crate) fn row(&self, place: usize) -> (&Prefix, &[Route])
+        requires { place < length (rows_of self.now) }
+        ensures { (default : Row) → slice_index_or (rows_of self.now) place default
+            ≡ record { net = result.0.now; routes = result.1.now } }
+    {
+        let mut left = place;
+        for (net, routes) in &self.map {
+            let found = routes.as_slice();
+            if !found.is_empty() {
+                if left == 0 {
+                    return (net, found);
+                }
+                left -= 1;
+            }
+        }
+        unreachable!()
+    }
+
+    /// All rows, with the routes moved out.
+    pub(crate) fn into_rows(self, alloc: Global) -> Result<Vec<Row>, OutOfMemory>
+        ensures { IfOk result (λ rows. rows.items ≡ rows_of self) }
+    {
+        let Nets { map } = self;
+        let mut rows = Vec::with_capacity(alloc, map.len())?;
+        for (net, routes) in map {
+            push_row(net, routes, &mut rows)?;
+        }
+        Ok(rows)
     }
 }
 
-/// The net at this place, and its routes.
-pub(crate) fn row_at(nets: &[Kept], place: usize) -> (&Prefix, &[Route])
-    requires { place < length nets.now }
-    ensures { (default : Row) → slice_index_or (rows_of nets.now) place default
-        ≡ record { net = result.0.now; routes = result.1.now } }
+fn first_bound(from: Option<&Prefix>) -> Bound<Prefix>
+    ensures { result ≡ first_bound (option_copied from.entry) }
 {
-    let kept = &nets[place];
-    (kept.net(), kept.routes())
-}
-
-/// Makes room for one more route of the net, if it is there.
-fn reserve_route(nets: &mut Vec<Kept>, net: &Prefix) -> Result<(), OutOfMemory>
-    requires { AreRows (rows_of nets.old.items) }
-    ensures made { OnOk result (HaveRoomAt net.now nets.new.items) }
-    ensures grown { HaveGrown nets.old.items nets.new.items }
-    ensures room { HasRoom nets.old → HasRoom nets.new }
-{
-    if let Ok(place) = place_of_net(nets, net) {
-        nets[place].reserve()?;
+    match from {
+        Some(net) => Bound::Included(*net),
+        None => Bound::Unbounded,
     }
-    Ok(())
 }
 
-/// Makes a spare net, where there is none.
-fn reserve_spare(alloc: Global, spare: &mut Option<Kept>, net: &Prefix) -> Result<(), OutOfMemory>
-    requires { IfSome spare.old IsSpare }
-    ensures made { OnOk result (IsSome spare.new) }
-    ensures is { IfSome spare.new IsSpare }
-    ensures kept { IsSome spare.old → IsSome spare.new }
-{
-    if spare.is_none() {
-        *spare = Some(Kept::make(alloc, *net)?);
-    }
-    Ok(())
-}
-
-/// Makes room for any change of a route of this net.
-pub(crate) fn reserve_nets(
-    nets: &mut Vec<Kept>,
-    spare: &mut Option<Kept>,
-    net: &Prefix,
-) -> Result<(), OutOfMemory>
-    requires rows { AreRows (rows_of nets.old.items) }
-    requires spare { IfSome spare.old IsSpare }
-    ensures made { OnOk result (IsRoomFor net.now nets.new spare.new) }
-    ensures kept { (n : Net) → IsRoomFor n nets.old spare.old → IsRoomFor n nets.new spare.new }
-    ensures grown { HaveGrown nets.old.items nets.new.items }
-    ensures spare { IfSome spare.new IsSpare }
-{
-    nets.reserve(1)?;
-    reserve_spare(*nets.allocator(), spare, net)?;
-    reserve_route(nets, net)
-}
-
-/// Changes a route of the net at this place. A net without routes goes.
-fn change_at(nets: &mut Vec<Kept>, total: &mut u64, place: usize, change: Change) -> Outcome
-    requires place { IsNetAt change.net nets.old.items place }
-    requires nets { AreNets (family_of change.net.addr) nets.old.items total.old }
-    requires room { HaveRoomAt change.net nets.old.items }
+/// Changes the route of a source, and counts it.
+fn change_counted(routes: &mut Vec<Route>, total: &mut u64, num: u32, new: Option<Route>) -> Outcome
+    requires room { HasRoom routes.old }
+    requires are { AreRoutes routes.old.items }
+    requires within { length routes.old.items ≤ total.old }
     requires counts { total.old + 1 < 2 ^ 64 }
-    requires source { IfSome change.new (λ route. route.src.num ≡ change.num) }
-    ensures nets { AreNets (family_of change.net.addr) nets.new.items total.new }
-    ensures changes { Changes change (rows_of nets.old.items) (rows_of nets.new.items) }
-    ensures same { (result ≡ Outcome.Same)
-        ↔ (route_in (rows_of nets.old.items) change.net change.num ≡ change.new) }
+    requires source { IfSome new (λ route. route.src.num ≡ num) }
+    ensures routes { Replaces num new routes.old.items routes.new.items }
+    ensures total { total.new + length routes.old.items ≡ total.old + length routes.new.items }
+    ensures same { (result ≡ Outcome.Same) ↔ (route_of num routes.old.items ≡ new) }
     ensures moved { IfChanged result
-        (λ moved. IsTrue moved
-        ↔ (best_of change.net (rows_of nets.new.items)
-        ≢ best_of change.net (rows_of nets.old.items))) }
+        (λ moved. IsTrue moved ↔ (first_of routes.new.items ≢ first_of routes.old.items)) }
 {
-    let Change { net: _, num, new } = change;
-    let outcome = nets[place].change(total, num, new);
-    if nets[place].is_empty() {
-        let _emptied = nets.remove(place);
-    }
+    *total -= routes.len() as u64;
+    let outcome = change_routes(routes, num, new);
+    *total += routes.len() as u64;
     outcome
 }
 
-/// Adds a net with its first route, in the place of the spare one.
-fn insert_net(
-    nets: &mut Vec<Kept>,
-    spare: &mut Option<Kept>,
-    total: &mut u64,
-    place: usize,
-    net: Prefix,
-    route: Route,
-)
-    requires place { IsGapFor net nets.old.items place }
-    requires nets { AreNets (family_of net.addr) nets.old.items total.old }
-    requires room { HasRoom nets.old }
-    requires spare { IsSome spare.old }
-    requires is { IfSome spare.old IsSpare }
-    requires counts { total.old + 1 < 2 ^ 64 }
-    ensures leaves { Leaves net [] (route ∷ []) nets.old.items nets.new.items total.new }
-    ensures is { IfSome spare.new IsSpare }
+/// Makes room for one more route.
+fn grow_routes(routes: &mut Vec<Route>) -> Result<(), OutOfMemory>
+    ensures made { OnOk result (HasRoom routes.new) }
+    ensures room { HasRoom routes.old → HasRoom routes.new }
+    ensures same { routes.new.items ≡ routes.old.items }
 {
-    let mut kept = spare.take().unwrap();
-    kept.fill(net, route);
-    nets.insert(place, kept).unwrap();
-    *total += 1;
+    routes.reserve_exact(1)?;
+    Ok(())
 }
 
-/// Makes a change, in the memory that `reserve_nets` left for it.
-pub(crate) fn change_nets(
-    nets: &mut Vec<Kept>,
-    spare: &mut Option<Kept>,
-    total: &mut u64,
-    change: Change,
-) -> Outcome
-    requires nets { AreNets (family_of change.net.addr) nets.old.items total.old }
-    requires room { IsRoomFor change.net nets.old spare.old }
-    requires counts { total.old + 1 < 2 ^ 64 }
-    requires spare { IfSome spare.old IsSpare }
-    requires source { IfSome change.new (λ route. route.src.num ≡ change.num) }
-    ensures nets { AreNets (family_of change.net.addr) nets.new.items total.new }
-    ensures spare { IfSome spare.new IsSpare }
-    ensures changes { Changes change (rows_of nets.old.items) (rows_of nets.new.items) }
-    ensures same { (result ≡ Outcome.Same)
-        ↔ (route_in (rows_of nets.old.items) change.net change.num ≡ change.new) }
-    ensures moved { IfChanged result
-        (λ moved. IsTrue moved
-        ↔ (best_of change.net (rows_of nets.new.items)
-        ≢ best_of change.net (rows_of nets.old.items))) }
+/// The greater of the length so far and the net's, where it has routes and covers the asked one.
+fn longest_with(asked: &Prefix, net: &Prefix, routes: &[Route], longest: u8) -> u8
+    ensures { result ≡ longest_from asked.now longest (row_of net.now routes.now) }
 {
-    let place = match place_of_net(nets, &change.net) {
-        Ok(place) => return change_at(nets, total, place, change),
-        Err(place) => place,
-    };
-    let Change { net, num: _, new } = change;
-    match new {
-        Some(route) => {
-            insert_net(nets, spare, total, place, net, route);
-            Outcome::Changed { moved: true }
-        }
-        None => Outcome::Same,
+    if routes.is_empty() {
+        longest
+    } else {
+        longer_cover(asked, net, longest)
     }
 }
 
-fn copy_routes(alloc: Global, routes: &[Route]) -> Result<Vec<Route>, OutOfMemory>
-    ensures { IfOk result (λ copies. copies.items ≡ routes.now) }
+/// Puts a copy of the row behind the others, where the net has routes and is asked for.
+fn copy_picked(
+    alloc: Global,
+    net: &Prefix,
+    routes: &[Route],
+    is_picked: bool,
+    rows: &mut Vec<Row>,
+) -> Result<(), OutOfMemory>
+    ensures { OnOk result (rows.new.items
+        ≡ rows.old.items ++ picked_row is_picked net.now routes.now) }
 {
-    let mut copies = Vec::with_capacity(alloc, routes.len())?;
-    for route in routes {
-        copies.push(route.copy()?)?;
+    if is_picked {
+        let copies = copy_routes(alloc, routes)?;
+        push_row(*net, copies, rows)?;
     }
-    Ok(copies)
+    Ok(())
 }
 
-fn copy_row(alloc: Global, kept: &Kept) -> Result<Row, OutOfMemory>
-    ensures { IfOk result (λ row. row ≡ row_of kept.now) }
+/// Puts the row behind the others, where the net has routes.
+fn push_row(net: Prefix, routes: Vec<Route>, rows: &mut Vec<Row>) -> Result<(), OutOfMemory>
+    ensures { OnOk result (rows.new.items ≡ rows.old.items ++ row_of net routes.items) }
 {
-    let routes = copy_routes(alloc, kept.routes())?;
-    Ok(Row {
-        net: *kept.net(),
-        routes: Seq::from_vec(routes),
-    })
-}
-
-/// Copies of all rows.
-pub(crate) fn copy_rows(alloc: Global, nets: &[Kept]) -> Result<Vec<Row>, OutOfMemory>
-    ensures { IfOk result (λ rows. rows.items ≡ rows_of nets.now) }
-{
-    let mut rows = Vec::with_capacity(alloc, nets.len())?;
-    for kept in nets {
-        rows.push(copy_row(alloc, kept)?)?;
+    if !routes.is_empty() {
+        rows.push(Row {
+            net,
+            routes: Seq::from_vec(routes),
+        })?;
     }
-    Ok(rows)
-}
-
-/// All rows, with the routes moved out of the nets.
-pub(crate) fn move_rows(nets: Vec<Kept>) -> Result<Vec<Row>, OutOfMemory>
-    ensures { IfOk result (λ rows. rows.items ≡ rows_of nets.items) }
-{
-    let mut rows = Vec::with_capacity(*nets.allocator(), nets.len())?;
-    for kept in nets {
-        rows.push(kept.into_row())?;
-    }
-    Ok(rows)
+    Ok(())
 }

@@ -1,15 +1,15 @@
-ghost use Rattle.std.specs.Prelude.{◌≡◌, ◌≢◌, ◌↔◌, ◌<◌, ℕ, [], ◌∷◌, Some, None, IfOk, IfSome, IsTrue, IsSome, OnOk, OnErr, length, slice_index_or};
+ghost use Rattle.std.specs.Prelude.{◌≡◌, ◌≢◌, ◌↔◌, ◌<◌, ◌≤◌, ℕ, [], ◌∷◌, Some, None, IfOk, IfSome, IsTrue, IsSome, OnOk, OnErr, length, option_copied, slice_index_or, take};
 ghost use Rattle.bits_ip.specs.Address.{family_of};
 ghost use Rattle.bits_ip.specs.Prefix.{Net};
 ghost use Rattle.attrs.specs.History.{after};
 ghost use Rattle.attrs.specs.declared.route.Row.{Row};
-ghost use Rattle.attrs.specs.Table.{AreRows, route_in, count_routes};
+ghost use Rattle.attrs.specs.Select.{rows_from, selected};
+ghost use Rattle.attrs.specs.Table.{AreRows, IsBestOf, count_routes, route_in, routes_of};
 ghost use Rattle.rib.specs.Rib.{best_of, AreOfFamily};
 ghost use Rattle.rib.specs.Outcome.{IfChanged};
 
-use crate::kept::Kept;
-use crate::nets::{change_nets, copy_rows, find_routes, move_rows, reserve_nets, row_at};
-use crate::routes::{find_route, same_routes};
+use crate::nets::Nets;
+use crate::routes::{best_with, copy_option, copy_routes, find_route, same_routes};
 use attrs::{Change, Route, Row, Select};
 use bits_ip::{Family, OutOfMemory, Prefix};
 use std::alloc::Global;
@@ -28,19 +28,20 @@ pub enum Outcome {
 #[derive(Debug, Drop)]
 pub struct Rib {
     family: Family,
-    nets: Vec<Kept>,
-    spare: Option<Kept>,
+    alloc: Global,
+    nets: Nets,
     total: u64,
     room: Option<(Prefix, u32)>,
 }
 
 impl Model for Rib {
     ghost use Rattle.rib.specs.Rib.{Table};
-    ghost use Rattle.rib.specs.Inside.{rows_of, IsRib};
+    ghost use Rattle.rib.specs.Entries.{rows_of};
+    ghost use Rattle.rib.specs.Inside.{IsRib};
 
     ghost Value = { Table };
 
-    ghost view = { λ rib. record { family = rib.family; rows = rows_of rib.nets.items; room = rib.room } };
+    ghost view = { λ rib. record { family = rib.family; rows = rows_of rib.nets; room = rib.room } };
 
     ghost invariant = { IsRib };
 }
@@ -52,8 +53,8 @@ impl Rib {
     {
         Rib {
             family,
-            nets: Vec::new(alloc),
-            spare: None,
+            alloc,
+            nets: Nets::new(alloc),
             total: 0,
             room: None,
         }
@@ -69,7 +70,8 @@ impl Rib {
         if self.total == u64::MAX {
             return Err(OutOfMemory);
         }
-        reserve_nets(&mut self.nets, &mut self.spare, &change.net)?;
+        self.nets.make_room(self.alloc, &change.net)?;
+        self.nets.drop_room(self.room, &change.net);
         self.room = Some((change.net, change.num));
         Ok(())
     }
@@ -93,7 +95,7 @@ impl Rib {
             ↔ (best_of change.net self.new.rows ≢ best_of change.net self.old.rows)) }
     {
         self.room = None;
-        change_nets(&mut self.nets, &mut self.spare, &mut self.total, change)
+        self.nets.change(self.alloc, &mut self.total, change)
     }
 
     /// Whether the key's route is the given one already.
@@ -101,11 +103,11 @@ impl Rib {
         ensures { IsTrue result
             ↔ (route_in self.now.rows change.now.net change.now.num ≡ change.now.new) }
     {
-        let routes = find_routes(&self.nets, &change.net);
+        let routes = self.nets.routes(&change.net);
         same_routes(find_route(routes, change.num), change.new.as_ref())
     }
 
-    /// How many nets there are.
+    /// How many nets there are. It goes through all of them.
     pub fn len(&self) -> usize
         ensures { result ≡ length self.now.rows }
     {
@@ -113,24 +115,64 @@ impl Rib {
     }
 
     /// The net at this place in the order of nets, and its routes in selection order: the row
-    /// itself, where `select` copies.
+    /// itself, where `select` copies. It goes through the nets before it.
     pub fn row(&self, place: usize) -> (&Prefix, &[Route])
         requires { place < length self.now.rows }
         ensures { (default : Row) → slice_index_or self.now.rows place default
             ≡ record { net = result.0.now; routes = result.1.now } }
     {
-        row_at(&self.nets, place)
+        self.nets.row(place)
     }
 
-    /// A copy of the rows that are asked for, in the order of nets.
+    /// The best of a net's routes, which is the first in selection order.
+    pub fn best(&self, net: &Prefix) -> Option<&Route>
+        ensures { option_copied result ≡ best_of net.now self.now.rows }
+    {
+        self.nets.routes(net).first()
+    }
+
+    /// Copies of a net's routes, in selection order.
+    pub fn copy_routes(&self, net: &Prefix) -> Result<Vec<Route>, OutOfMemory>
+        ensures { IfOk result (λ routes. routes.items ≡ routes_of net.now self.now.rows) }
+    {
+        copy_routes(self.alloc, self.nets.routes(net))
+    }
+
+    /// A copy of the best of a net's routes.
+    pub fn copy_best(&self, net: &Prefix) -> Result<Option<Route>, OutOfMemory>
+        ensures { IfOk result (λ best. best ≡ best_of net.now self.now.rows) }
+    {
+        copy_option(self.best(net))
+    }
+
+    /// A copy of what the best of the change's net would be after the change. The table stays.
+    pub fn copy_best_with(&self, change: &Change) -> Result<Option<Route>, OutOfMemory>
+        requires { IfSome change.now.new (λ route. route.src.num ≡ change.now.num) }
+        ensures { IfOk result (IsBestOf
+            (after (route_in self.now.rows) (change.now ∷ []))
+            change.now.net) }
+    {
+        let routes = self.nets.routes(&change.net);
+        copy_option(best_with(routes, change.num, change.new.as_ref()))
+    }
+
+    /// Copies of the rows that are asked for, in the order of nets.
     pub fn select(&self, pick: &Select) -> Result<Vec<Row>, OutOfMemory>
-        ensures rows { IfOk result (λ rows. rows.items ≡ self.now.rows) }
+        ensures rows { IfOk result (λ rows. rows.items ≡ selected pick.now self.now.rows) }
         ensures are_rows { AreRows self.now.rows }
         ensures family { AreOfFamily self.now.family self.now.rows }
     {
-        match pick {
-            Select::All => copy_rows(*self.nets.allocator(), &self.nets),
-        }
+        self.nets.copy_rows(self.alloc, pick)
+    }
+
+    /// Copies of the first rows from a net on, itself included, or from the first net; at most so
+    /// many.
+    pub fn next_nets(&self, from: Option<&Prefix>, max: u32) -> Result<Vec<Row>, OutOfMemory>
+        requires { 1 ≤ max }
+        ensures { IfOk result (λ rows. rows.items
+            ≡ take max (rows_from (option_copied from.entry) self.now.rows)) }
+    {
+        self.nets.copy_next(self.alloc, from, max as usize)
     }
 
     /// The rows themselves, in the order of nets. No route is copied: memory is taken for the list
@@ -140,8 +182,8 @@ impl Rib {
         ensures are_rows { AreRows self.rows }
         ensures family { AreOfFamily self.family self.rows }
     {
-        let Rib { nets, .. } = self;
-        move_rows(nets)
+        let Rib { alloc, nets, .. } = self;
+        nets.into_rows(alloc)
     }
 
     /// How many routes there are.

@@ -1,21 +1,77 @@
-ghost use Rattle.std.specs.Prelude.{◌≡◌, ◌≢◌, ◌↔◌, ◌==◌, None, Some, IfSome, IsTrue, option_copied, position};
+ghost use Rattle.std.specs.Prelude.{◌≡◌, ◌≢◌, ◌↔◌, ◌==◌, None, Some, IfOk, IfSome, IsTrue, find, not, option_copied, position};
 ghost use Rattle.std.specs.Vec.{vec_capacity};
 ghost use Rattle.attrs.specs.Selection.{before};
 ghost use Rattle.attrs.specs.Table.{route_of};
 ghost use Rattle.rib.specs.Rib.{first_of};
 ghost use Rattle.rib.specs.Outcome.{IfChanged};
-ghost use Rattle.rib.specs.Inside.{HasRoom};
+ghost use Rattle.rib.specs.Entries.{HasRoom};
+ghost use Rattle.rib.specs.Picks.{better_of, routes_with};
 ghost use Rattle.rib.specs.Steps.{AreRoutes, Replaces, without, placed, leads, goes_first};
 
 use crate::before;
 use crate::rib::Outcome;
 use attrs::Route;
+use bits_ip::OutOfMemory;
+use std::alloc::Global;
 
 /// The route of a source.
 pub(crate) fn find_route(routes: &[Route], num: u32) -> Option<&Route>
     ensures { option_copied result ≡ route_of num routes.now }
 {
     routes.iter().find(|route| route.src.num == num)
+}
+
+/// The best of the other sources' routes.
+fn best_beside(routes: &[Route], num: u32) -> Option<&Route>
+    ensures { option_copied result ≡ find (λ r. not (r.src.num == num)) routes.now }
+{
+    routes.iter().find(|route| route.src.num != num)
+}
+
+/// The preferred of two routes of different sources, of which each may be missing.
+fn better_of<'a>(route: Option<&'a Route>, other: Option<&'a Route>) -> Option<&'a Route>
+    ensures { option_copied result
+        ≡ better_of (option_copied route.entry) (option_copied other.entry) }
+{
+    match (route, other) {
+        (Some(new), Some(kept)) => { if before(new, kept) { route } else { other } }
+        (Some(_), None) => route,
+        _ => other,
+    }
+}
+
+/// The best of a net's routes, were this the route of the source, or were there none of it.
+pub(crate) fn best_with<'a>(
+    routes: &'a [Route],
+    num: u32,
+    new: Option<&'a Route>,
+) -> Option<&'a Route>
+    requires { AreRoutes routes.now }
+    ensures { option_copied result
+        ≡ first_of (routes_with num (option_copied new.entry) routes.now) }
+{
+    better_of(new, best_beside(routes, num))
+}
+
+/// A copy of the route, where there is one.
+pub(crate) fn copy_option(route: Option<&Route>) -> Result<Option<Route>, OutOfMemory>
+    ensures { IfOk result (λ copy. copy ≡ option_copied route.entry) }
+{
+    match route {
+        Some(route) => Ok(Some(route.copy()?)),
+        None => Ok(None),
+    }
+}
+
+/// Copies of the routes.
+pub(crate) fn copy_routes(alloc: Global, routes: &[Route]) -> Result<Vec<Route>, OutOfMemory>
+    ensures { IfOk result (λ copies. copies.items ≡ routes.now) }
+{
+    let mut copies = Vec::with_capacity(alloc, routes.len())?;
+    for route in routes {
+        copies.push(route.copy()?)?;
+    }
+    Ok(copies)
 }
 
 /// Whether both are the same route, or neither is there.

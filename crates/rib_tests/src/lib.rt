@@ -1,8 +1,13 @@
-//! Tests of tables: what changes leave and answer, and in which order rows and routes stand.
+//! Tests of tables: which routes are preferred, what changes leave and answer, in which order rows
+//! and routes stand, and which rows are selected.
 #![tactic(auto)]
 
+#[cfg(test)]
+mod selection;
+mod shapes;
 mod steps;
 #[cfg(test)]
 mod tests;
 
-pub use steps::{Step, net, play, route};
+pub use shapes::{PLAIN, Shape, put_all, shaped};
+pub use steps::{Step, net, new_route, play, route};

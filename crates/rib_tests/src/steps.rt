@@ -51,7 +51,8 @@ pub fn route(alloc: Global, num: u32, pref: u32) -> Route
     Route { src, attrs }
 }
 
-fn new_route(alloc: Global, num: u32, pref: Option<u32>) -> Option<Route>
+/// A static route of a source, where it has a preference.
+pub fn new_route(alloc: Global, num: u32, pref: Option<u32>) -> Option<Route>
     ensures { IfSome result (λ route. route.src.num ≡ num) }
 {
     match pref {
