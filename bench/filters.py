@@ -5,9 +5,10 @@
 
 PROGRAM is the one of the crate `filt_rounds`. A filter has so many conditions, none of which holds, in turn of five
 kinds: the net's length, the MED, a community, the path's length, the first number of the path. Another has a set of
-100,000 prefixes, in their order. A verdict's time is what a run of many rounds takes more than one of one round, a round
+100,000 prefixes, in their order, and one more such a set whose items have ranges and are spread over all addresses; no
+route is taken by either. A verdict's time is what a run of many rounds takes more than one of one round, a round
 being 256 routes; the shortest of three runs counts. In plain Rust the conditions are closures in a vector, and the set is
-a sorted vector. Both print how many routes were accepted. It wants rustc.
+a sorted vector, which is searched once for each length that a net has where its items have ranges. Both print how many routes were accepted. It wants rustc.
 """
 
 import pathlib
@@ -47,8 +48,15 @@ def prefix(index):
     return f"{11 + (index >> 16)}.{index >> 8 & 255}.{index & 255}.0/24"
 
 
-def prefixes(count):
-    nets = ",\n    ".join(prefix(index) for index in range(count))
+def range_item(index):
+    """Nets of 24 bits at even distances, of which those of 25 bits and more are taken, and no route."""
+    number = index * (2**32 // PREFIXES) & 0xFFFFFF00
+    parts = ".".join(str(number >> shift & 255) for shift in (24, 16, 8, 0))
+    return f"{parts}/24{{25,32}}"
+
+
+def prefixes(count, item):
+    nets = ",\n    ".join(item(index) for index in range(count))
     return f"filter f {{\n  if net ~ [\n    {nets} ] then reject;\n  accept;\n}}\n"
 
 
@@ -96,7 +104,8 @@ def main():
         print(HEAD)
         for count in CONDITIONS:
             row(f"{count} conditions", conditions(count), plain, "conditions", count, folder, program)
-        row(f"{PREFIXES} nets", prefixes(PREFIXES), plain, "nets", PREFIXES, folder, program)
+        row(f"{PREFIXES} nets", prefixes(PREFIXES, prefix), plain, "nets", PREFIXES, folder, program)
+        row(f"{PREFIXES} ranges", prefixes(PREFIXES, range_item), plain, "ranges", PREFIXES, folder, program)
 
 
 if __name__ == "__main__":

@@ -1,4 +1,5 @@
-//! The same conditions as those of filters.py, in plain Rust: `conditions COUNT ROUNDS` or `nets COUNT ROUNDS`.
+//! The same conditions as those of filters.py, in plain Rust: `conditions COUNT ROUNDS`, `nets COUNT ROUNDS` or
+//! `ranges COUNT ROUNDS`.
 
 use std::env;
 
@@ -38,6 +39,22 @@ fn in_nets(count: u32) -> Condition {
     Box::new(move |route| nets.binary_search(&(route.net, route.length)).is_ok())
 }
 
+/// The item of the net of this length that covers the route's, where it takes the route's length.
+fn takes(items: &[(u32, u8, u8, u8)], route: &Route, length: u8) -> bool {
+    let front = u32::MAX.checked_shl(32 - u32::from(length)).unwrap_or(0);
+    let net = (route.net & front, length);
+    match items.binary_search_by_key(&net, |item| (item.0, item.1)) {
+        Ok(found) => items[found].2 <= route.length && route.length <= items[found].3,
+        Err(_) => false,
+    }
+}
+
+fn in_ranges(count: u32) -> Condition {
+    let step = ((1u64 << 32) / 100_000) as u32;
+    let items: Vec<(u32, u8, u8, u8)> = (0..count).map(|index| ((index * step) & 0xFFFF_FF00, 24, 25, 32)).collect();
+    Box::new(move |route| (0..=route.length).any(|length| takes(&items, route, length)))
+}
+
 fn copy(attrs: &Attrs) -> Attrs {
     Attrs {
         path: attrs.path.clone(),
@@ -75,6 +92,7 @@ fn main() {
     let rounds: u32 = words[3].parse().unwrap();
     let conditions: Vec<Condition> = match words[1].as_str() {
         "nets" => vec![in_nets(count)],
+        "ranges" => vec![in_ranges(count)],
         _ => (0..count).map(condition).collect(),
     };
     let routes: Vec<Route> = (0..256).map(route).collect();

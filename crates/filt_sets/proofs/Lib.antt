@@ -2,3 +2,4 @@ pub mod Cuts
 mod InOrder
 mod Marks
 mod Meaning
+mod NetOrder

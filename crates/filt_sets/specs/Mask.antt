@@ -1,5 +1,6 @@
 -- Which paths a mask matches.
-use Rattle.std.specs.Prelude.{◌≡◌, ℕ, ◌<◌, ◌≤◌, Bool, true, false, List, [], ◌∷◌, ◌++◌, length, All, ⊤}
+use Rattle.std.specs.Prelude.{◌≡◌, ℕ, ◌<◌, ◌≤◌, Bool, true, false, ⊤}
+use Rattle.std.specs.Prelude.{List, [], ◌∷◌, ◌++◌, length, All}
 use Rattle.std.specs.List.{concat}
 use Rattle.filt_sets.specs.declared.mask.Atom.{Atom}
 use Rattle.filt_sets.specs.declared.mask.Atom.TheVariants.{Range, One, Any}
@@ -26,7 +27,9 @@ IsPieceOf true atom piece = AreElements atom piece
 abbrev pub IsPiece : MaskItem → List ℕ → Type 0
 IsPiece item piece = IsPieceOf item.many item.atom piece
 
--- The whole path is cut into one piece for each item, in order. So no items match the empty path alone.
+-- The whole path is cut into one piece for each item, in order. So no items match the empty path
+-- alone.
 abbrev pub IsCut : List MaskItem → List ℕ → Type 0
 IsCut [] path = path ≡ []
-IsCut (item ∷ items) path = (piece rest : List ℕ) × (path ≡ piece ++ rest) × IsPiece item piece × IsCut items rest
+IsCut (item ∷ items) path =
+    (piece rest : List ℕ) × (path ≡ piece ++ rest) × IsPiece item piece × IsCut items rest

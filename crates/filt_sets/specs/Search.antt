@@ -1,12 +1,18 @@
 -- How the code searches sets and masks: nothing that is promised.
-use Rattle.std.specs.Prelude.{◌≡◌, ℕ, ◌<◌, ◌≤◌, Bool, true, false, ◌&&◌, ◌||◌, nat_le, nat_lt, if◌then◌else◌, List, [], ◌∷◌, length, drop, slice_index_or, All}
+use Rattle.std.specs.Prelude.{◌≡◌, ℕ, ◌<◌, ◌≤◌, ◌==◌, nat_le, nat_lt, if◌then◌else◌, ⊤}
+use Rattle.std.specs.Prelude.{Bool, true, false, ◌&&◌, ◌||◌}
+use Rattle.std.specs.Prelude.{List, [], ◌∷◌, length, take, drop, slice_index_or, All}
 use Rattle.std.specs.List.{AllAdjacentBelow}
 use Rattle.std.specs.List.Sorted.{IsSortedBy}
 use Rattle.std.specs.declared.cmp.Ordering.{Ordering}
 use Rattle.std.specs.declared.cmp.Ordering.TheVariants.{Less, Equal, Greater}
-use Rattle.bits_ip.specs.Prefix.{IsPrefix, precedes}
+use Rattle.bits_ip.specs.declared.address.Addr.{Addr}
+use Rattle.bits_ip.specs.Address.{family_of, family_rank, width_of}
+use Rattle.bits_ip.specs.Prefix.{Net, IsPrefix, Covers, front_bits, precedes}
 use Rattle.filt_sets.specs.declared.ints.IntItem.{IntItem}
 use Rattle.filt_sets.specs.declared.prefixes.PrefixItem.{PrefixItem}
+use Rattle.filt_sets.specs.declared.prefixes.Search.{Search}
+use Rattle.filt_sets.specs.declared.prefixes.Search.TheVariants.{Each, Exact, InOrder}
 use Rattle.filt_sets.specs.declared.mask.Atom.{Atom}
 use Rattle.filt_sets.specs.declared.mask.Atom.TheVariants.{Range, One, Any}
 use Rattle.filt_sets.specs.declared.mask.MaskItem.{MaskItem}
@@ -26,16 +32,18 @@ abbrev pub is_empty : List ℕ → Bool
 is_empty [] = true
 is_empty (n ∷ path) = false
 
--- The item and the later ones match from a place on. `here` and `behind` tell of the later ones alone, at the place and
--- behind its AS, and `again` of the item and the later ones behind it.
+-- The item and the later ones match from a place on. `here` and `behind` tell of the later ones
+-- alone, at the place and behind its AS, and `again` of the item and the later ones behind it.
 abbrev pub matches_at : MaskItem → ℕ → Bool → Bool → Bool → Bool
 matches_at item n here behind again =
-    if is_run item.atom then here || again else accepts item.atom n && (behind || (item.many && again))
+    if is_run item.atom then here || again
+    else accepts item.atom n && (behind || (item.many && again))
 
 -- the item matches a path with what the later ones match
 abbrev pub before : MaskItem → (List ℕ → Bool) → List ℕ → Bool
 before item later [] = is_run item.atom && later []
-before item later (n ∷ path) = matches_at item n (later (n ∷ path)) (later path) (before item later path)
+before item later (n ∷ path) =
+    matches_at item n (later (n ∷ path)) (later path) (before item later path)
 
 abbrev pub cuts : List MaskItem → List ℕ → Bool
 cuts [] path = is_empty path
@@ -43,7 +51,8 @@ cuts (item ∷ items) path = before item (cuts items) path
 
 -- the marks tell the answer from each place of the path on
 abbrev pub Tells : (List ℕ → Bool) → List ℕ → List Bool → Type 0
-Tells answer path marks = (k : ℕ) → k ≤ length path → slice_index_or marks k false ≡ answer (drop k path)
+Tells answer path marks =
+    (k : ℕ) → k ≤ length path → slice_index_or marks k false ≡ answer (drop k path)
 
 -- where an item's range lies, seen from a number
 abbrev pub side_of : ℕ → IntItem → Ordering
@@ -64,3 +73,72 @@ pub record IsExact (item : PrefixItem) : Type 0 where
 pub record AreExact (items : List PrefixItem) : Type 0 where
   pub each : All IsExact items
   pub rising : IsSortedBy (λ a b. precedes a.net b.net) items
+
+-- the length is among those that the item takes
+abbrev pub TakesLength : PrefixItem → ℕ → Type 0
+TakesLength item len = (item.lo ≤ len) × (len ≤ item.hi)
+
+-- its net is a prefix
+abbrev pub IsNet : PrefixItem → Type 0
+IsNet item = IsPrefix item.net.addr item.net.len
+
+-- items in the order of their nets
+pub record AreRising (items : List PrefixItem) : Type 0 where
+  pub each : All IsNet items
+  pub rising : IsSortedBy (λ a b. precedes a.net b.net) items
+
+-- an item takes nets shorter than its own from this length on at most
+abbrev pub Reaches : ℕ → PrefixItem → Type 0
+Reaches shortest item = item.lo < item.net.len → shortest ≤ item.lo
+
+pub record AreInOrder (shortest : ℕ) (items : List PrefixItem) : Type 0 where
+  pub nets : AreRising items
+  pub least : All (Reaches shortest) items
+
+-- the items may be searched so
+abbrev pub IsSearchOf : Search → List PrefixItem → Type 0
+IsSearchOf Each items = ⊤
+IsSearchOf Exact items = AreExact items
+IsSearchOf (InOrder shortest) items = AreInOrder shortest items
+
+-- the item's net covers this one, whose length it takes
+pub record TakesCovered (net : Net) (item : PrefixItem) : Type 0 where
+  pub length : TakesLength item net.len
+  pub covers : Covers item.net net
+
+-- the item's net is covered by this one, whose length it takes
+pub record TakesCovering (net : Net) (item : PrefixItem) : Type 0 where
+  pub length : TakesLength item net.len
+  pub covers : Covers net item.net
+
+abbrev pub is_covered : Net → PrefixItem → Bool
+is_covered net item =
+    (family_rank net.addr == family_rank item.net.addr) && nat_le net.len item.net.len
+    && (front_bits net.addr net.len == front_bits item.net.addr net.len)
+
+-- the net of the bits that both addresses begin with
+pub record IsShared (a b : Addr) (both : Net) : Type 0 where
+  pub prefix : IsPrefix both.addr both.len
+  pub family : family_of both.addr ≡ family_of b
+  pub bits : front_bits both.addr both.len ≡ front_bits b both.len
+  pub longest : (len : ℕ) → len ≤ width_of b
+      → front_bits a len ≡ front_bits b len → len ≤ both.len
+
+-- none of these comes behind the item, which doesn't come behind the net
+pub record AreBehind (items : List PrefixItem) (item : PrefixItem) (net : Net) : Type 0 where
+  pub before : All (λ a. precedes item.net a.net ≡ false) items
+  pub upto : precedes net item.net ≡ false
+
+-- each item whose net covers this one is among the first so many
+abbrev pub HoldCovering : Net → List PrefixItem → ℕ → Type 0
+HoldCovering net items n =
+    (k : ℕ) (d : PrefixItem) → k < length items → Covers (slice_index_or items k d).net net → k < n
+
+-- a front of the items, none behind the net, which has each item that is looked for
+pub record AreLeft (net : Net) (items front : List PrefixItem) : Type 0 where
+  pub part : front ≡ take (length front) items
+  pub within : length front ≤ length items
+  pub upto : (k : ℕ) (d : PrefixItem) → k < length front
+      → precedes net (slice_index_or items k d).net ≡ false
+  pub held : (k : ℕ) (d : PrefixItem) → k < length items
+      → TakesCovered net (slice_index_or items k d) → k < length front

@@ -14,10 +14,11 @@ TakesInt item n = (item.lo ≤ n) × (n ≤ item.hi)
 abbrev pub TakesPair : PairItem → ℕ → ℕ → Type 0
 TakesPair item a b = TakesInt item.a a × TakesInt item.b b
 
--- A net of the item's family, with a length in the item's range. Its first bits are those of the item's net: as many
--- bits as both have.
+-- A net of the item's family, with a length in the item's range. Its first bits are those of the
+-- item's net: as many bits as both have.
 pub record TakesNet (item : PrefixItem) (net : Net) : Type 0 where
   pub family : family_of item.net.addr ≡ family_of net.addr
   pub lo : item.lo ≤ net.len
   pub hi : net.len ≤ item.hi
-  pub bits : let both = min net.len item.net.len in front_bits item.net.addr both ≡ front_bits net.addr both
+  pub bits : let both = min net.len item.net.len in
+      front_bits item.net.addr both ≡ front_bits net.addr both

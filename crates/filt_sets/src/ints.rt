@@ -72,8 +72,8 @@ impl IntSet {
         self.items.as_slice()
     }
 
-    /// Whether some item has the number in its range. A binary search answers where the items are in rising order and
-    /// apart, else a walk over the items.
+    /// Whether some item has the number in its range. A binary search answers where the items are
+    /// in rising order and apart, else a walk over the items.
     pub fn has(&self, number: u32) -> bool
         ensures { IsTrue result ↔ Any (λ item. TakesInt item number) self.now }
     {

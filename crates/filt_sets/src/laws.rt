@@ -9,17 +9,29 @@ ghost use Rattle.filt_sets.specs.Sets.{TakesNet};
 
 /// The item `a/l` takes its own net alone.
 pub fn exact_item_takes_one()
-    ensures { (item : PrefixItem) (net : Net) → IsPrefix item.net.addr item.net.len → IsPrefix net.addr net.len → item.lo ≡ item.net.len → item.hi ≡ item.net.len → TakesNet item net ↔ (net ≡ item.net) }
+    ensures { (item : PrefixItem) (net : Net)
+        → IsPrefix item.net.addr item.net.len
+        → IsPrefix net.addr net.len
+        → item.lo ≡ item.net.len
+        → item.hi ≡ item.net.len
+        → TakesNet item net ↔ (net ≡ item.net) }
 {}
 
 /// The item `a/l+` takes the nets that its net covers.
 pub fn plus_item_takes_the_covered()
-    ensures { (item : PrefixItem) (net : Net) → IsPrefix net.addr net.len → item.lo ≡ item.net.len → item.hi ≡ width_of item.net.addr → TakesNet item net ↔ Covers item.net net }
+    ensures { (item : PrefixItem) (net : Net)
+        → IsPrefix net.addr net.len
+        → item.lo ≡ item.net.len
+        → item.hi ≡ width_of item.net.addr
+        → TakesNet item net ↔ Covers item.net net }
 {}
 
 /// The item `a/l-` takes the nets that cover its net.
 pub fn minus_item_takes_the_covering()
-    ensures { (item : PrefixItem) (net : Net) → item.lo ≡ 0 → item.hi ≡ item.net.len → TakesNet item net ↔ Covers net item.net }
+    ensures { (item : PrefixItem) (net : Net)
+        → item.lo ≡ 0
+        → item.hi ≡ item.net.len
+        → TakesNet item net ↔ Covers net item.net }
 {}
 
 /// The mask `[= * =]` matches each path.
@@ -29,10 +41,18 @@ pub fn run_matches_each_path()
 
 /// A range with `+` takes each run of one or more numbers in the range, and no other.
 pub fn many_of_a_range()
-    ensures { (lo hi : ℕ) (piece : List ℕ) → IsPiece (record { atom = Range lo hi; many = true }) piece ↔ ((piece ≢ []) × All (λ n. (lo ≤ n) × (n ≤ hi)) piece) }
+    ensures { (lo hi : ℕ) (piece : List ℕ)
+        → IsPiece (record { atom = Range lo hi; many = true }) piece
+        ↔ ((piece ≢ []) × All (λ n. (lo ≤ n) × (n ≤ hi)) piece) }
 {}
 
 /// A mask followed by another matches a path of the one followed by a path of the other.
 pub fn masks_join()
-    ensures { (first later : List MaskItem) (path : List ℕ) → IsCut (first ++ later) path ↔ ((front : List ℕ) × (back : List ℕ) × (path ≡ front ++ back) × IsCut first front × IsCut later back) }
+    ensures { (first later : List MaskItem) (path : List ℕ)
+        → IsCut (first ++ later) path
+        ↔ ((front : List ℕ)
+        × (back : List ℕ)
+        × (path ≡ front ++ back)
+        × IsCut first front
+        × IsCut later back) }
 {}

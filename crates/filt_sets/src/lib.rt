@@ -7,11 +7,12 @@
 //! both have. A mask is seen as the list of its items too, and matches a path that can be cut into
 //! one piece for each of them.
 //!
-//! Nothing here takes memory. Where the ranges of a set are in order and apart, or each of its
-//! prefixes stands for itself alone and they are in order, a search by halves answers, else a walk
-//! over the items. A mask costs its items times the path's length.
+//! Nothing here takes memory. Where the ranges of a set of numbers are in order and apart, or the
+//! nets of a set of prefixes are in order, searches by halves answer, else a walk over the items.
+//! A mask costs its items times the path's length.
 #![tactic(auto)]
 
+mod covering;
 mod ints;
 pub mod laws;
 mod mask;

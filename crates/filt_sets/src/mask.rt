@@ -1,11 +1,12 @@
-ghost use Rattle.std.specs.Prelude.{◌≡◌, ◌==◌, ℕ, ◌<◌, ◌↔◌, Bool, List, length, slice_index_or, false, IsTrue};
+ghost use Rattle.std.specs.Prelude.{◌≡◌, ◌==◌, ℕ, ◌<◌, ◌↔◌, Bool, List, length, slice_index_or};
+ghost use Rattle.std.specs.Prelude.{false, IsTrue};
 ghost use Rattle.filt_sets.specs.Mask.{IsCut};
 ghost use Rattle.filt_sets.specs.Search.{accepts, before, cuts, is_run, matches_at, Tells};
 
 use std::marker::Model;
 
-/// What a mask's item takes: an AS in a range, whose ends belong to it, one AS (`?`), or any run of them, the empty one
-/// too (`*`). A number alone is a range.
+/// What a mask's item takes: an AS in a range, whose ends belong to it, one AS (`?`), or any run of
+/// them, the empty one too (`*`). A number alone is a range.
 #[derive(Clone, Copy, Debug, PartialEq, Eq)]
 pub enum Atom {
     Range(u32, u32),
@@ -41,8 +42,9 @@ impl Atom {
 }
 
 impl MaskItem {
-    /// Whether the item and the later ones match from a place on. `here` and `behind` tell of the later ones alone, at
-    /// the place and behind its number, and `again` of the item and the later ones behind it.
+    /// Whether the item and the later ones match from a place on. `here` and `behind` tell of the
+    /// later ones alone, at the place and behind its number, and `again` of the item and the later
+    /// ones behind it.
     fn matches_at(&self, number: u32, here: bool, behind: bool, again: bool) -> bool
         ensures { result ≡ matches_at self.now number here behind again }
     {
@@ -83,8 +85,8 @@ impl Mask {
         self.items.as_slice()
     }
 
-    /// Whether the mask matches the whole path. Its cost is the number of items times the path's length, for paths of
-    /// fewer than 128 numbers; longer ones are tried piece by piece.
+    /// Whether the mask matches the whole path. Its cost is the number of items times the path's
+    /// length, for paths of fewer than 128 numbers; longer ones are tried piece by piece.
     pub fn matches(&self, path: &[u32]) -> bool
         ensures { IsTrue result ↔ IsCut self.now path.now }
     {
@@ -99,8 +101,8 @@ impl Mask {
 /// How many places of a path are kept at once. A path of a route has at most 121.
 const PLACES: usize = 128;
 
-/// Goes through the items from the last one, and keeps of each place of the path whether the items gone through match
-/// from there on.
+/// Goes through the items from the last one, and keeps of each place of the path whether the items
+/// gone through match from there on.
 fn matches_by_places(items: &[MaskItem], path: &[u32]) -> bool
     requires { length path.now < 128 }
     ensures { result ≡ cuts items.now path.now }
@@ -127,7 +129,9 @@ fn marks_at(place: usize) -> [bool; PLACES]
 /// From marks that tell of the later items to marks that tell of this item and the later ones.
 fn step_back(item: &MaskItem, path: &[u32], marks: &mut [bool])
     requires { length path.now < length marks.old }
-    ensures { (later : List ℕ → Bool) → Tells later path.now marks.old → Tells (before item.now later) path.now marks.new }
+    ensures { (later : List ℕ → Bool)
+        → Tells later path.now marks.old
+        → Tells (before item.now later) path.now marks.new }
 {
     let mut place = path.len();
     let mut behind = marks[place];

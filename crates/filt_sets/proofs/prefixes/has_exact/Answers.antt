@@ -3,7 +3,7 @@ use Rattle.std.proofs.lemmas.Fn.{always_returns_same}
 use Rattle.bits_ip.specs.Prefix.{net_cmp}
 use Rattle.filt_sets.specs.declared.prefixes.PrefixItem.{PrefixItem}
 use Rattle.filt_sets.proofs.InOrder.{nets_in_order}
-use Rattle.filt_sets.proofs.prefixes.has_in_order.Goals as goal
+use Rattle.filt_sets.proofs.prefixes.has_exact.Goals as goal
 
 pub returns : goal.returns
 returns c =
