@@ -1,0 +1,11 @@
+mod Spaced
+mod Pieces
+mod Complete
+mod Regions
+mod ElseColon
+mod Joined
+mod Begins
+mod Within
+mod Tokens
+mod WordsBefore
+mod Levels

@@ -1,0 +1,11 @@
+mod Blocks
+mod Configurations
+mod Every
+mod Expressions
+mod Filters
+mod Firsts
+mod Order
+mod Refused
+mod Statements
+mod Texts
+mod Trees

@@ -1,0 +1,4 @@
+pub mod Filters
+pub mod Configurations
+pub mod Words
+pub mod Refused

@@ -1,0 +1,12 @@
+-- All that is refused of a configuration.
+use Rattle.std.specs.Prelude.{List, [], ◌∷◌, ◌++◌}
+use Rattle.conf_ast.specs.Configurations as conf
+use Rattle.conf_rules.specs.declared.refusal.Refusal.{Refusal}
+use Rattle.conf_rules.specs.Known.{Known}
+use Rattle.conf_rules.specs.Statements.{refusals}
+use Rattle.conf_check.specs.Behind.{behind_one}
+
+-- what is refused of each of these statements, over what is declared before it
+abbrev pub gathered : Known → List conf.Declaration → List Refusal
+gathered known [] = []
+gathered known (d ∷ ds) = refusals known d ++ gathered (behind_one known d) ds
