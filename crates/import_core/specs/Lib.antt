@@ -1,2 +1,8 @@
 pub mod Session
 pub mod Import
+pub mod Imports
+pub mod Decisions
+pub mod Operations
+pub mod Changes
+pub mod Held
+pub mod Importers

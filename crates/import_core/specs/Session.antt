@@ -1,7 +1,7 @@
 -- What holds for all routes of a session of BGP. Modelled: the defaults of one protocol, the first.
 -- Not modelled: options that change them. From: BIRD User's Guide, BGP, `default bgp_med` and
 -- `default bgp_local_pref`, and the channel option `preference`.
-use Rattle.std.specs.Prelude.{ℕ, not, ◌==◌, Some}
+use Rattle.std.specs.Prelude.{ℕ, not, ◌==◌, [], None, Some}
 use Rattle.attrs.specs.declared.attributes.Kind.TheVariants.{Bgp}
 use Rattle.bits_ip.specs.declared.address.Addr.{Addr}
 use Rattle.import_core.specs.declared.import_spec.ImportSpec.{ImportSpec}
@@ -31,4 +31,6 @@ bgp_session local remote neighbor = record {
   sender = Some neighbor;
   ebgp = not (local == remote);
   pref = bgp_preference;
+  limit = None;
+  fixed = [];
 }

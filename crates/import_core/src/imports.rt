@@ -43,7 +43,7 @@ pub fn withdraw(spec: &ImportSpec, net: &Prefix) -> Change
     }
 }
 
-fn import_attrs(spec: &ImportSpec, id: u32, given: &Given) -> Result<Attrs, OutOfMemory>
+pub(crate) fn import_attrs(spec: &ImportSpec, id: u32, given: &Given) -> Result<Attrs, OutOfMemory>
     ensures { IfOk result (λ attrs. attrs ≡ imported_attrs spec.now id given.now) }
 {
     Ok(Attrs {

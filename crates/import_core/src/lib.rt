@@ -5,20 +5,32 @@
 //! `import` makes of an announcement in a session the change that it is for the table, `withdraw`
 //! of a withdrawal.
 //!
+//! An `Importer` is the imports of one protocol with its filter and its limit. It does operations,
+//! and says of each what changed in what is accepted (`Step`): specs/Operations has what each of
+//! them does in each `Mode`, specs/Changes what the changes are.
+//!
 //! Contracts see the types as plain data, and one function of specs/Import for each call. Two facts
 //! carry all: a change names the source of its spec, and the only attribute that is not copied from
 //! the spec or from what is given is the local preference, which an external neighbour cannot set
 //! (RFC 4271, section 5.1.5).
 #![tactic(auto)]
 
+mod held;
 mod import_spec;
+mod importer;
 mod imports;
+pub mod laws;
 mod mode;
+mod nets;
 mod operation;
+mod step;
 
 pub use import_spec::{
-    BGP_PREFERENCE, DEFAULT_LOCAL_PREFERENCE, DEFAULT_MED, FIRST_SOURCE, ImportSpec, bgp_session,
+    Action, BGP_PREFERENCE, DEFAULT_LOCAL_PREFERENCE, DEFAULT_MED, FIRST_SOURCE, Fixed, ImportSpec,
+    Limit, bgp_session,
 };
+pub use importer::Importer;
 pub use imports::{import, withdraw};
 pub use mode::Mode;
-pub use operation::{Given, Op};
+pub use operation::{Given, Op, SessionOp};
+pub use step::{Done, Mark, Step};

@@ -21,6 +21,31 @@ pub struct Given {
 /// An operation on a protocol's imports.
 #[derive(Debug, Drop)]
 pub enum Op {
+    /// A static protocol comes up with its configured routes.
+    Start,
+    /// The session comes up with a neighbour of this router id.
+    SessionUp(u32),
+    /// The neighbour announces a route of this net.
+    Add(Prefix, Given),
+    /// The neighbour withdraws its route of this net.
+    Del(Prefix),
+    /// The session goes down.
+    SessionDown,
+    /// The protocol is switched off by hand.
+    Disable,
+    /// It is switched on by hand.
+    Enable,
+    /// Its imports are filtered anew.
+    ReloadIn,
+    /// Its exports are sent anew.
+    ReloadOut,
+    /// Both.
+    Reload,
+}
+
+/// An operation on the imports of one session, as the program plays them today.
+#[derive(Debug, Drop)]
+pub enum SessionOp {
     /// The session comes up with a neighbour of this router id.
     SessionUp(u32),
     /// The neighbour announces a route of this net.

@@ -71,7 +71,7 @@ fn assert_import(
     given_lp: Option<u32>,
     lp: u32,
 ) -> Result<(), Fail> {
-    let spec = bgp_session(65000, remote, NEIGHBOUR);
+    let spec = bgp_session(alloc, 65000, remote, NEIGHBOUR);
     let change = import(&spec, ROUTER_ID, &net()?, &given(alloc, given_lp)?)?;
     let src = Src {
         num: 0,
@@ -94,7 +94,7 @@ fn an_external_neighbour_sets_no_preference(rt: HostRuntime) -> Result<(), Fail>
 
 #[test]
 fn a_withdrawal_leaves_no_route(rt: HostRuntime) -> Result<(), Fail> {
-    let change = withdraw(&bgp_session(65000, 65001, NEIGHBOUR), &net()?);
+    let change = withdraw(&bgp_session(rt.alloc(), 65000, 65001, NEIGHBOUR), &net()?);
     assert!(rt; change.net == net()? && change.num == 0);
     assert!(rt; change.new.is_none());
     Ok(())

@@ -19,7 +19,7 @@ use Rattle.export_core.specs.declared.log.Key.{Key}
 use Rattle.export_core.specs.declared.log.LogItem.{LogItem}
 use Rattle.export_core.specs.declared.log.LogItem.TheVariants.{Up, Down, Reload, Sent}
 use Rattle.export_core.specs.declared.log.Sending.{Sending}
-use Rattle.report.specs.Operation.{op_text}
+use Rattle.report.specs.Operation.{done_text}
 use Rattle.report.specs.declared.phase.ProtocolReport.{ProtocolReport}
 use Rattle.report.specs.declared.phase.JournalReport.{JournalReport}
 use Rattle.report.specs.declared.phase.ChannelReport.{ChannelReport}
@@ -46,7 +46,7 @@ standing_text (Some route) = attrs_text route.attrs
 abbrev pub protocol_text : ProtocolReport → List ℕ
 protocol_text p =
     codes "protocol " ++ p.name ++ codes "\n"
-    ++ flat_map (λ op. line1 (op_text op)) p.ops
+    ++ flat_map (λ done. line1 (done_text done)) p.ops
 
 -- POS NET SOURCE ATTRS
 abbrev pub entry_text : List (List ℕ) → ℕ → Change → List ℕ

@@ -3,21 +3,52 @@ ghost use Rattle.std.specs.Prelude.{◌≡◌, ◌++◌, ◌∷◌, codes, decim
 ghost use Rattle.std.specs.List.{flat_map};
 ghost use Rattle.bits_ip.specs.Text.{addr_text, net_text, v4_text};
 ghost use Rattle.attrs.specs.Text.{optional_text, origin_text};
-ghost use Rattle.report.specs.Operation.{op_text};
+ghost use Rattle.report.specs.Operation.{done_text, op_text, over_text};
 ghost use Rattle.import_core.specs.declared.operation.Op.TheVariants.{Add};
 
 use attrs::{write_communities, write_optional_number, write_spaced_numbers};
 use bits_ip::{Addr, OutOfMemory, Prefix, append_addr, append_prefix};
-use import_core::{Given, Op};
+use import_core::{Done, Given, Op};
+
+/// Appends an operation that was done, marked where a route was over the limit.
+pub(crate) fn write_done(done: &Done, out: &mut Vec<u8>) -> Result<(), OutOfMemory>
+    ensures { OnOk result (out.new.items ≡ out.old.items ++ done_text done.now) }
+{
+    write_op(&done.op, out)?;
+    write_over(done.over, out)
+}
+
+fn write_over(over: bool, out: &mut Vec<u8>) -> Result<(), OutOfMemory>
+    ensures { OnOk result (out.new.items ≡ out.old.items ++ over_text over) }
+{
+    if over {
+        out.extend_from_slice(b" !limit")?;
+    }
+    Ok(())
+}
+
+fn write_word(word: &[u8], out: &mut Vec<u8>) -> Result<(), OutOfMemory>
+    ensures { OnOk result (out.new.items ≡ out.old.items ++ word.now) }
+{
+    out.extend_from_slice(word)?;
+    Ok(())
+}
 
 /// Appends an operation as scripts spell it, without who gave it.
-pub(crate) fn write_op(op: &Op, out: &mut Vec<u8>) -> Result<(), OutOfMemory>
+fn write_op(op: &Op, out: &mut Vec<u8>) -> Result<(), OutOfMemory>
     ensures { OnOk result (out.new.items ≡ out.old.items ++ op_text op.now) }
 {
     match op {
+        Op::Start => write_word(b"start", out),
         Op::SessionUp(id) => write_open(*id, out),
         Op::Add(net, given) => write_add(net, given, out),
         Op::Del(net) => write_del(net, out),
+        Op::SessionDown => write_word(b"close", out),
+        Op::Disable => write_word(b"disable", out),
+        Op::Enable => write_word(b"enable", out),
+        Op::ReloadIn => write_word(b"reload in", out),
+        Op::ReloadOut => write_word(b"reload out", out),
+        Op::Reload => write_word(b"reload", out),
     }
 }
 

@@ -1,7 +1,7 @@
 //! What is reported of a phase.
 use attrs::{Attrs, Change, Row, Seq};
 use export_core::{Key, LogItem};
-use import_core::{Mode, Op};
+use import_core::{Done, Mode};
 
 /// All that is reported of a phase. A protocol's number is its place in `protocols`.
 #[derive(Debug, Drop)]
@@ -21,7 +21,7 @@ pub struct PhaseReport {
 #[derive(Debug, Drop)]
 pub struct ProtocolReport {
     pub name: Seq<u8>,
-    pub ops: Seq<Op>,
+    pub ops: Seq<Done>,
 }
 
 /// A table's changes of a phase.

@@ -1,13 +1,13 @@
 //! What each protocol was told in a phase.
 ghost use Rattle.std.specs.Prelude.{◌≡◌, ◌++◌, OnOk};
 ghost use Rattle.std.specs.List.{flat_map};
-ghost use Rattle.report.specs.Operation.{op_text};
+ghost use Rattle.report.specs.Operation.{done_text};
 ghost use Rattle.report.specs.Report.{line1, protocol_text};
 
-use crate::operation::write_op;
+use crate::operation::write_done;
 use crate::phase::ProtocolReport;
 use bits_ip::OutOfMemory;
-use import_core::Op;
+use import_core::Done;
 
 /// Appends each protocol with its operations.
 pub(crate) fn write_protocols(
@@ -32,13 +32,13 @@ fn write_protocol(protocol: &ProtocolReport, out: &mut Vec<u8>) -> Result<(), Ou
     write_ops(protocol.ops.as_slice(), out)
 }
 
-fn write_ops(ops: &[Op], out: &mut Vec<u8>) -> Result<(), OutOfMemory>
+fn write_ops(ops: &[Done], out: &mut Vec<u8>) -> Result<(), OutOfMemory>
     ensures { OnOk result
-        (out.new.items ≡ out.old.items ++ flat_map (λ op. line1 (op_text op)) ops.now) }
+        (out.new.items ≡ out.old.items ++ flat_map (λ done. line1 (done_text done)) ops.now) }
 {
-    for op in ops {
+    for done in ops {
         out.push(b'\t')?;
-        write_op(op, out)?;
+        write_done(done, out)?;
         out.push(b'\n')?;
     }
     Ok(())

@@ -3,6 +3,8 @@
 #![tactic(auto)]
 
 #[cfg(test)]
+mod operations;
+#[cfg(test)]
 mod parts;
 #[cfg(test)]
 mod phases;

@@ -2,7 +2,7 @@
 use crate::parts::{NEIGHBOUR, assert_text, learned, net, one, protocol, quiet, route, word};
 use attrs::{Change, Clist, Origin, Path, Row, Seq};
 use export_core::LogItem;
-use import_core::{Given, Mode, Op};
+use import_core::{Done, Given, Mode, Op};
 use report::{
     ChannelReport, ExportReport, JournalReport, ModeReport, PhaseReport, ReplyReport, TableReport,
     write_report,
@@ -62,6 +62,11 @@ fn added(alloc: Global) -> Result<Op, Fail> {
     Ok(Op::Add(net()?, given))
 }
 
+/// An operation in which no route was over the limit.
+fn done(op: Op) -> Done {
+    Done { op, over: false }
+}
+
 fn journal(alloc: Global, table: &str, from: u64) -> Result<JournalReport, Fail> {
     Ok(JournalReport {
         table: word(alloc, table)?,
@@ -97,9 +102,9 @@ fn log(alloc: Global, items: Seq<LogItem>) -> Result<ChannelReport, Fail> {
 /// The protocol's operations, and the changes that they made.
 fn add_events(alloc: Global, phase: &mut PhaseReport) -> Result<(), Fail> {
     let mut active = protocol(alloc, "p1")?;
-    active.ops.push(Op::SessionUp(0x0A00_0001))?;
-    active.ops.push(added(alloc)?)?;
-    active.ops.push(Op::Del(net()?))?;
+    active.ops.push(done(Op::SessionUp(0x0A00_0001)))?;
+    active.ops.push(done(added(alloc)?))?;
+    active.ops.push(done(Op::Del(net()?)))?;
     phase.protocols = one(alloc, active)?;
     Ok(())
 }

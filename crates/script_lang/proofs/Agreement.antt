@@ -10,8 +10,8 @@ use Rattle.attrs.specs.Text.{origin_text}
 use Rattle.attrs.specs.declared.attributes.Origin.{Origin}
 use Rattle.attrs.specs.declared.attributes.Origin.TheVariants.{Igp, Egp, Incomplete}
 use Rattle.import_core.specs.declared.operation.Given.{Given}
-use Rattle.import_core.specs.declared.operation.Op.{Op}
-use Rattle.import_core.specs.declared.operation.Op.TheVariants.{SessionUp, Add, Del}
+use Rattle.import_core.specs.declared.operation.SessionOp.{SessionOp as Op}
+use Rattle.import_core.specs.declared.operation.SessionOp.TheVariants.{SessionUp, Add, Del}
 use Rattle.script_lang.specs.declared.script.Line.{Line}
 use Rattle.script_lang.specs.declared.script.Line.TheVariants.{Apply, Show}
 use Rattle.script_lang.specs.Script.{AreNumbers, IsAdd, IsDel, IsCom, IsOperation, IsCommand, IsLine, AreLines, IsScript, lines_words, numbered, without_comments}

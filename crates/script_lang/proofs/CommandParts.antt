@@ -4,7 +4,7 @@ use Rattle.std.specs.Prelude.{codes}
 use Rattle.bits_ip.specs.Prefix.{Net}
 use Rattle.bits_ip.specs.Text.{v4_text}
 use Rattle.import_core.specs.declared.operation.Given.{Given}
-use Rattle.import_core.specs.declared.operation.Op.TheVariants.{SessionUp, Add, Del}
+use Rattle.import_core.specs.declared.operation.SessionOp.TheVariants.{SessionUp, Add, Del}
 use Rattle.script_lang.specs.declared.refusal.Refusal.{Refusal}
 use Rattle.script_lang.specs.declared.refusal.Refusal.TheVariants.{Form, Memory}
 use Rattle.script_lang.specs.declared.commands.Verb.{Verb}

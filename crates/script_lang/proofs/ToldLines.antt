@@ -12,7 +12,7 @@ use Rattle.attrs.specs.Text.{origin_text}
 use Rattle.attrs.specs.declared.attributes.Origin.{Origin}
 use Rattle.bits_ip.specs.Numbers.{IsNumber}
 use Rattle.import_core.specs.declared.operation.Given.{Given}
-use Rattle.import_core.specs.declared.operation.Op.TheVariants.{SessionUp, Add, Del}
+use Rattle.import_core.specs.declared.operation.SessionOp.TheVariants.{SessionUp, Add, Del}
 use Rattle.script_lang.specs.declared.commands.Verb.{Verb}
 use Rattle.script_lang.specs.declared.commands.Verb.TheVariants as verbs
 use Rattle.script_lang.specs.declared.script.Line.{Line}

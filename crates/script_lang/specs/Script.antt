@@ -15,8 +15,8 @@ use Rattle.attrs.specs.Text.{origin_text}
 use Rattle.text.specs.Lines.{lines_of, words_of, begins_with}
 use Rattle.bits_ip.specs.Numbers.{IsNumber}
 use Rattle.import_core.specs.declared.operation.Given.{Given}
-use Rattle.import_core.specs.declared.operation.Op.{Op}
-use Rattle.import_core.specs.declared.operation.Op.TheVariants.{SessionUp, Add, Del}
+use Rattle.import_core.specs.declared.operation.SessionOp.{SessionOp as Op}
+use Rattle.import_core.specs.declared.operation.SessionOp.TheVariants.{SessionUp, Add, Del}
 use Rattle.script_lang.specs.declared.script.Line.{Line}
 use Rattle.script_lang.specs.declared.script.Line.TheVariants.{Apply, Show}
 use Rattle.script_lang.specs.declared.script.ScriptFault.{ScriptFault}

@@ -13,7 +13,7 @@ use crate::refusal::Refusal;
 use crate::script::Line;
 use crate::words::parse_v4_prefix;
 use bits_ip::{Prefix, parse_v4};
-use import_core::Op;
+use import_core::SessionOp as Op;
 use std::alloc::Global;
 use text::{expect_word, is_end, next_word};
 

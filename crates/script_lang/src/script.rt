@@ -6,7 +6,7 @@ ghost use Rattle.script_lang.specs.Inside.{IfForm, ReadsOne, ReadsNone};
 
 use crate::commands::read_line;
 use crate::refusal::Refusal;
-use import_core::Op;
+use import_core::SessionOp as Op;
 use std::alloc::Global;
 use text::{cut_line, next_word};
 use thiserror::Error;

@@ -1,6 +1,6 @@
 use attrs::{write_communities, write_optional_number, write_spaced_numbers};
 use bits_ip::{Addr, OutOfMemory, Prefix, write_addr, write_number, write_prefix};
-use import_core::{Given, Op};
+use import_core::{Given, SessionOp as Op};
 use script_lang::{Line, ScriptFault, read_script};
 use std::alloc::Global;
 use std::io;

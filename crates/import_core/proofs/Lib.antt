@@ -1,0 +1,11 @@
+pub mod Routes
+pub mod Deciding
+pub mod Sound
+pub mod Differences
+pub mod Repeats
+pub mod Keeping
+pub mod Planning
+pub mod Noting
+pub mod Steps
+pub mod Turns
+pub mod Methods
