@@ -1,0 +1,17 @@
+mod AddKept
+mod AddParts
+mod Agreement
+mod CommandParts
+mod CommunityWords
+mod Kept
+mod LineParts
+mod NumberRuns
+mod Numerals
+mod Options
+mod Places
+mod ScriptLines
+mod States
+mod TextAnswers
+mod ToldAddresses
+mod ToldLines
+mod ToldWords

@@ -1,0 +1,5 @@
+use Rattle.text.specs.Lines.{words_of}
+use Rattle.script_lines.proofs.commands.add_line.Goals as goal
+
+pub returns : goal.returns
+returns c = c.judge_add.ensures (words_of c.args.rest.now) c.in_ok-said.ensures

@@ -1,0 +1,5 @@
+use Rattle.script_lines.proofs.TextAnswers.{one_answer}
+use Rattle.script_lines.proofs.laws.a_text_has_one_answer.Goals as goal
+
+pub returns : goal.returns
+returns c = one_answer

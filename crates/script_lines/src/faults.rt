@@ -1,0 +1,42 @@
+//! Why a text isn't read as a script.
+use thiserror::Error;
+
+/// Why a line is refused. In a line the first kind of these that applies is given.
+#[derive(Clone, Copy, Debug, PartialEq, Eq, Error)]
+pub enum ScriptKind {
+    /// The line isn't of the grammar, has a prefix or an address that is none, or its actor's name
+    /// has over 64 bytes.
+    #[error("S1 Syntax")]
+    Syntax,
+    /// An operation of a session by an actor that isn't the name of a bgp protocol.
+    #[error("S2 UnknownActor")]
+    UnknownActor,
+    /// No channel or no protocol has this name.
+    #[error("S3 UnknownName")]
+    UnknownName,
+    /// A net or a gateway is of another family than the channel.
+    #[error("S4 Nettype")]
+    Nettype,
+    /// A number is over 4294967295, a part of a community over 65535, a path has over 120 numbers,
+    /// or there are over 64 different communities.
+    #[error("S5 AttrLimit")]
+    AttrLimit,
+    /// The first line of a 65th actor.
+    #[error("S7 Actors")]
+    Actors,
+}
+
+/// Why a text isn't read as a script.
+#[derive(Clone, Copy, Debug, PartialEq, Eq, Drop, Error)]
+pub enum ScriptFault {
+    /// The line of this number is refused. It is the first such line; all lines are counted, from
+    /// 1.
+    #[error("{line} {kind}")]
+    Refused { line: u32, kind: ScriptKind },
+    /// No line is refused, and the one of this number is the first that isn't built yet.
+    #[error("line {line} isn't built yet")]
+    NotBuilt { line: u32 },
+    /// Memory was wanted and not given.
+    #[error("out of memory")]
+    Memory,
+}

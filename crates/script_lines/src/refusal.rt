@@ -1,0 +1,69 @@
+//! Why a part of a line isn't read, and why a line isn't.
+use crate::faults::ScriptKind;
+use bits_ip::OutOfMemory;
+use std::alloc::AllocFailed;
+
+/// Why a part of a line isn't read.
+#[derive(Clone, Copy, Debug, PartialEq, Eq)]
+pub enum Refusal {
+    /// It isn't of the grammar.
+    Form,
+    /// Memory was wanted and not given.
+    Memory,
+}
+
+impl<T: Drop> From<AllocFailed<T>> for Refusal {
+    ghost use Rattle.std.specs.Prelude.{◌≡◌};
+    ghost use Rattle.script_lines.specs.declared.refusal.Refusal.TheVariants.{Memory};
+
+    ghost from_gives = { λ _ refusal. refusal ≡ Memory };
+
+    fn from(_: AllocFailed<T>) -> Self {
+        Refusal::Memory
+    }
+}
+
+/// Why a line isn't read.
+#[derive(Clone, Copy, Debug, PartialEq, Eq)]
+pub enum LineFault {
+    /// The least kind that applies.
+    Refused(ScriptKind),
+    /// Memory was wanted and not given.
+    Memory,
+}
+
+impl From<Refusal> for LineFault {
+    ghost use Rattle.std.specs.Prelude.{◌≡◌};
+    ghost use Rattle.script_lines.specs.Inside.{fault_of};
+
+    ghost from_gives = { λ refusal fault. fault ≡ fault_of refusal };
+
+    fn from(refusal: Refusal) -> Self {
+        match refusal {
+            Refusal::Form => LineFault::Refused(ScriptKind::Syntax),
+            Refusal::Memory => LineFault::Memory,
+        }
+    }
+}
+
+impl<T: Drop> From<AllocFailed<T>> for LineFault {
+    ghost use Rattle.std.specs.Prelude.{◌≡◌};
+    ghost use Rattle.script_lines.specs.declared.refusal.LineFault.TheVariants.{Memory};
+
+    ghost from_gives = { λ _ fault. fault ≡ Memory };
+
+    fn from(_: AllocFailed<T>) -> Self {
+        LineFault::Memory
+    }
+}
+
+impl From<OutOfMemory> for LineFault {
+    ghost use Rattle.std.specs.Prelude.{◌≡◌};
+    ghost use Rattle.script_lines.specs.declared.refusal.LineFault.TheVariants.{Memory};
+
+    ghost from_gives = { λ _ fault. fault ≡ Memory };
+
+    fn from(_: OutOfMemory) -> Self {
+        LineFault::Memory
+    }
+}

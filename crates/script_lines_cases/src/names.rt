@@ -1,0 +1,49 @@
+//! What the scripts of the tables can name.
+use bits_ip::{Family, OutOfMemory};
+use script_lines::{Name, Named, NamedProtocol, ProtocolKind};
+use std::alloc::Global;
+
+/// A name of 64 bytes.
+const LONG: &[u8] = b"long-name-of-sixty-four-bytes-0123456789-0123456789-0123456789-x";
+
+fn protocol(alloc: Global, name: &[u8], kind: ProtocolKind) -> Result<NamedProtocol, OutOfMemory> {
+    let name = Name::new(alloc, name)?;
+    Ok(NamedProtocol { name, kind })
+}
+
+fn protocols(alloc: Global) -> Result<Vec<NamedProtocol>, OutOfMemory> {
+    let mut all = Vec::new(alloc);
+    all.push(protocol(alloc, b"p1", ProtocolKind::Bgp(Family::V4))?)?;
+    all.push(protocol(alloc, b"p2", ProtocolKind::Bgp(Family::V4))?)?;
+    all.push(protocol(alloc, b"v6.up", ProtocolKind::Bgp(Family::V6))?)?;
+    all.push(protocol(alloc, b"agg", ProtocolKind::Static(Family::V4))?)?;
+    all.push(protocol(alloc, b"a", ProtocolKind::Pipe)?)?;
+    all.push(protocol(alloc, LONG, ProtocolKind::Pipe)?)?;
+    all.push(protocol(alloc, b"out", ProtocolKind::Bgp(Family::V4))?)?;
+    Ok(all)
+}
+
+fn channels(alloc: Global) -> Result<Vec<Name>, OutOfMemory> {
+    let mut all = Vec::new(alloc);
+    all.push(Name::new(alloc, b"p1")?)?;
+    all.push(Name::new(alloc, b"p2")?)?;
+    all.push(Name::new(alloc, b"v6.up")?)?;
+    all.push(Name::new(alloc, b"a.export")?)?;
+    all.push(Name::new(alloc, b"a.import")?)?;
+    let mut export = Vec::from_slice(alloc, LONG)?;
+    export.extend_from_slice(b".export")?;
+    all.push(Name::new(alloc, export.as_slice())?)?;
+    all.push(Name::new(alloc, b"out")?)?;
+    Ok(all)
+}
+
+/// The protocols, from 0: the bgp protocols p1 and p2 of IPv4, v6.up of IPv6, the static one agg,
+/// the pipe a, a pipe with a name of 64 bytes, and the bgp protocol out; and their channels.
+pub fn named(alloc: Global) -> Result<Named, OutOfMemory> {
+    let protocols = protocols(alloc)?;
+    let channels = channels(alloc)?;
+    Ok(Named {
+        protocols,
+        channels,
+    })
+}

@@ -1,0 +1,12 @@
+use Rattle.system.proofs.Told.{check_told, held_told}
+use Rattle.system.proofs.read.read_system.Goals as goal
+
+pub returns-in-Err-check_config-clause-fault : goal.returns-in-Err-check_config-clause-fault
+returns-in-Err-check_config-clause-fault c =
+    check_told c.args.text.now c.in-Ok.tree.statements.items c.in-Err-check_config.fault c.refused-in-Err-check_config.result c.in-Ok.ensures.tree
+    (rw c.in-Ok.ensures.text at c.in-Err-check_config.ensures.answer) c.refused-in-Err-check_config.ensures
+
+pub returns-in-Ok-names-clause-system : goal.returns-in-Ok-names-clause-system
+returns-in-Ok-names-clause-system c =
+    held_told c.args.text.now c.in-Ok.tree.statements.items _ c.in-Ok.ensures.tree (rw c.in-Ok.ensures.text at c.in-Ok-check_config.ensures.answer)
+    (rw c.in-Ok.ensures.text at c.in-Ok-check_config.ensures.checked) (rw c.deref.ensures.value at c.in-Ok-names.ensures)

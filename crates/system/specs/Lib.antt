@@ -1,0 +1,4 @@
+pub mod Policies
+pub mod System
+pub mod Texts
+pub mod Seen

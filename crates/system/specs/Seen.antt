@@ -1,0 +1,99 @@
+-- For the contracts of private functions: what is configured, in memory, as the definitions see it.
+use Rattle.std.specs.Prelude.{◌≡◌, ⊤, ℕ, List, map, Option, Some, None, slice_get}
+use Rattle.attrs.specs.declared.judge.Verdict.TheVariants as verdicts
+use Rattle.conf_tree.specs.Position.{IsPlace}
+use Rattle.conf_tree.specs.declared.kind.ConfFault.{ConfFault}
+use Rattle.conf_tree.specs.declared.kind.ConfFault.TheVariants as conf_faults
+use Rattle.conf_check.specs.declared.checked.BgpDef.{BgpDef}
+use Rattle.conf_check.specs.declared.checked.ChannelDef.{ChannelDef}
+use Rattle.conf_check.specs.declared.checked.PipeDef.{PipeDef}
+use Rattle.conf_check.specs.declared.checked.PolicyDef.{PolicyDef}
+use Rattle.conf_check.specs.declared.checked.PolicyDef.TheVariants as policies
+use Rattle.conf_check.specs.declared.checked.ProtocolBody.{ProtocolBody}
+use Rattle.conf_check.specs.declared.checked.ProtocolBody.TheVariants as bodies
+use Rattle.conf_check.specs.declared.checked.ProtocolDef.{ProtocolDef}
+use Rattle.conf_check.specs.declared.checked.StaticDef.{StaticDef}
+use Rattle.filt_meaning.specs.Configuration.{around_route}
+use Rattle.filt_tree.specs.Scopes.{constant_values, function_trees}
+use Rattle.filt_tree.specs.Trees.{judged}
+use Rattle.filt_tree.specs.declared.scope.Scope.{Scope}
+use Rattle.filt_tree.specs.declared.tree.TFilter.{TFilter}
+use Rattle.system.specs.Policies.{Filter}
+use Rattle.system.specs.System.{Bgp, Body, Channel, IsBgp, IsPipe, IsStatic, Pipe, Protocol, Static, System}
+use Rattle.system.specs.declared.system.System.{System as Held}
+use Rattle.system.specs.declared.read.SystemFault.{SystemFault}
+use Rattle.system.specs.declared.read.SystemFault.TheVariants as faults
+
+-- What trees do over a scope with these filters by number, where protocols have these names.
+module _ (scope : Scope) (filters : List TFilter) (names : List (List ℕ)) where
+  -- what a tree says
+  abbrev pub tree_says : TFilter → Filter
+  tree_says f net route =
+      judged (around_route names net route) (constant_values scope) (function_trees scope) f
+      route.attrs
+
+  abbrev pub numbered : Option TFilter → Filter
+  numbered None net route = verdicts.Reject None
+  numbered (Some f) net route = tree_says f net route
+
+  abbrev pub policy_says : PolicyDef → Filter
+  policy_says policies.All net route = verdicts.Accept route.attrs
+  policy_says policies.None net route = verdicts.Reject None
+  policy_says (policies.Filter n) net route = numbered (slice_get filters n) net route
+  policy_says (policies.Own f) net route = tree_says f net route
+
+  abbrev pub channel_seen : ChannelDef → Channel
+  channel_seen def = record {
+    family = def.family;
+    table = def.table;
+    import = policy_says def.import;
+    export = policy_says def.export;
+    preference = def.preference;
+    limit = def.limit;
+  }
+
+  abbrev pub static_seen : StaticDef → Static
+  static_seen def = record { channel = channel_seen def.channel; routes = def.routes }
+
+  abbrev pub bgp_seen : BgpDef → Bgp
+  bgp_seen def = record {
+    local = def.local;
+    neighbor = def.neighbor;
+    remote = def.remote;
+    interpret_communities = def.interpret_communities;
+    default_med = def.default_med;
+    default_local_pref = def.default_local_pref;
+    channel = channel_seen def.channel;
+  }
+
+  abbrev pub pipe_seen : PipeDef → Pipe
+  pipe_seen def = record {
+    table = def.table;
+    peer = def.peer;
+    import = policy_says def.import;
+    export = policy_says def.export;
+  }
+
+  abbrev pub body_seen : ProtocolBody → Body
+  body_seen (bodies.Static def) = IsStatic (static_seen def)
+  body_seen (bodies.Bgp def) = IsBgp (bgp_seen def)
+  body_seen (bodies.Pipe def) = IsPipe (pipe_seen def)
+
+  abbrev pub protocol_seen : ProtocolDef → Protocol
+  protocol_seen def = record { name = def.name; body = body_seen def.body }
+
+-- what is configured, where it is held so
+abbrev pub system_of : Held → System
+system_of held = record {
+  tables = map (λ e. (e.0.items, e.1)) held.checked.declared.tables.entries;
+  protocols = map
+      (protocol_seen held.checked.declared.scope held.checked.filters.items held.names)
+      held.checked.protocols.items;
+}
+
+-- the fault tells this one of the text, at its line and column
+abbrev pub IsTold : List ℕ → ConfFault → SystemFault → Type 0
+IsTold text (conf_faults.Refused at kind) (faults.Refused line column other) =
+    (other ≡ kind) × IsPlace text at line column
+IsTold text conf_faults.Memory faults.Memory = ⊤
+IsTold text _ _ = ⊥

@@ -1,0 +1,14 @@
+//! What a configuration comes to when it is played: its tables, and its protocols with what their
+//! policies say of routes (`specs/System`, `specs/Policies`).
+//!
+//! `read_system` reads a text: the system, or where it is refused and why (`specs/Texts`). A policy
+//! is a `Judge` (`Passes`): `System::passes` gives the one of a channel or a pipe.
+#![tactic(auto)]
+
+mod passes;
+mod read;
+mod system;
+
+pub use passes::Passes;
+pub use read::{SystemFault, read_system};
+pub use system::System;
