@@ -1,0 +1,34 @@
+-- A table's history, read backwards: the newest change stands first. Modelled: which changes there
+-- were, in their order, and the content that they leave (`after` and `IsReal` of attrs). Not
+-- modelled: how a table keeps either. The form is the project's own.
+use Rattle.std.specs.Prelude.{◌≡◌, ◌==◌, ℕ, nat_lt, List, [], ◌∷◌, length, reverse, Option, Some, None, if◌then◌else◌, ⊤}
+use Rattle.attrs.specs.declared.route.Change.{Change}
+use Rattle.attrs.specs.History.{Content, after, empty, IsReal}
+
+-- the content of a table after its history
+abbrev pub content_of : List Change → Content
+content_of history = after empty (reverse history)
+
+-- each change differs from what stood for its net and source
+abbrev pub AreReal : List Change → Type 0
+AreReal history = IsReal empty (reverse history)
+
+-- the history as it was at a position: its first changes, as many as the position says
+abbrev pub front : ℕ → List Change → List Change
+front p [] = []
+front p (c ∷ earlier) = if nat_lt (length earlier) p then c ∷ earlier else front p earlier
+
+-- the change that a reader at a position reads next, and none at the head
+abbrev pub entry : ℕ → List Change → Option Change
+entry p [] = None
+entry p (c ∷ earlier) = if length earlier == p then Some c else entry p earlier
+
+-- the changes of one source
+abbrev pub own : ℕ → List Change → List Change
+own source [] = []
+own source (c ∷ earlier) = if c.num == source then c ∷ own source earlier else own source earlier
+
+-- all changes are of this source
+abbrev pub AreOf : ℕ → List Change → Type 0
+AreOf source [] = ⊤
+AreOf source (c ∷ earlier) = (c.num ≡ source) × AreOf source earlier

@@ -1,0 +1,14 @@
+pub mod Histories
+pub mod Lines
+pub mod Rules
+pub mod Marks
+pub mod Channels
+pub mod Room
+pub mod Machine
+pub mod Merges
+pub mod Signals
+pub mod Replies
+pub mod SyncState
+pub mod Legal
+pub mod Phases
+pub mod Match

@@ -1,0 +1,45 @@
+-- Room for a change. A table's journal holds so many changes for those who are still to read them.
+-- A channel that is up and has as many still to take lags by the whole journal, and takes one
+-- before a further change comes; so no reader loses one. Modelled: which channels take. Not
+-- modelled: the journal's cells. Form: the project's own.
+use Rattle.std.specs.Prelude.{◌≡◌, ◌==◌, ◌&&◌, ℕ, zero, suc, ◌-◌, ◌<◌, Bool, true, false, List, length, if◌then◌else◌}
+use Rattle.attrs.specs.declared.route.Change.{Change}
+use Rattle.core_machine.specs.Channels.{Channel, is_open, take_one}
+use Rattle.core_machine.specs.Rules.{Rules}
+
+-- the channel is up and lags by the whole journal
+abbrev pub lags : Rules → List Change → Channel → Bool
+lags rules history ch = is_open ch && (length history - ch.position == rules.cells)
+
+-- it takes one change where it lags so
+abbrev pub roomed : Rules → List Change → Channel → Channel
+roomed rules history ch = if lags rules history ch then take_one history ch else ch
+
+-- the channels once room is made in a table: each one over it that lags has taken one change
+abbrev pub in_room : Rules → ℕ → List Change → (ℕ → Channel) → ℕ → Channel
+in_room rules table history channels j =
+    if rules.table j == table then roomed rules history (channels j) else channels j
+
+-- the lowest-numbered channel over a table that lags
+pub record IsLowest
+    (rules : Rules) (table : ℕ) (history : List Change) (channels : ℕ → Channel) (i : ℕ)
+    : Type 0 where
+  pub reads : rules.table i ≡ table
+  pub lag : lags rules history (channels i) ≡ true
+  pub lower :
+      (j : ℕ) → j < i → rules.table j ≡ table → lags rules history (channels j) ≡ false
+
+-- one channel takes one change
+abbrev pub helped : ℕ → List Change → (ℕ → Channel) → ℕ → Channel
+helped i history channels j = if i == j then take_one history (channels i) else channels j
+
+-- The same step by step: so many times the lowest-numbered channel that lags takes one change, and
+-- then none lags.
+abbrev pub Makes :
+    Rules → ℕ → List Change → ℕ → (ℕ → Channel) → (ℕ → Channel) → Type 0
+Makes rules table history zero channels after =
+    ((i : ℕ) → rules.table i ≡ table → lags rules history (channels i) ≡ false)
+    × ((j : ℕ) → after j ≡ channels j)
+Makes rules table history (suc n) channels after =
+    (i : ℕ) × IsLowest rules table history channels i
+    × Makes rules table history n (helped i history channels) after
