@@ -4,8 +4,8 @@
     bench/config.py PROGRAM [SIXTEENTHS ..]
 
 The greatest configuration is one byte under the limit of 16 MiB: a filter with a set of 400,000 prefixes, and 10,000 small
-functions, filled up with comments. Smaller ones have so many sixteenths of each. All are sentences of the grammar of
-which nothing is built, so the program reads them whole and ends with status 9. Each runs three times, of which the
+functions, filled up with comments. Smaller ones have so many sixteenths of each. All are accepted and have no protocol,
+so the program reads and checks them whole, builds nothing and ends with status 9. Each runs three times, of which the
 shortest counts, and once more under /usr/bin/time for the greatest memory.
 """
 

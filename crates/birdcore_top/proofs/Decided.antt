@@ -3,7 +3,7 @@ use Rattle.std.proofs.Common.{◌≡◌, ℕ, ◌≤◌, true, false, List, [], 
 use Rattle.std.specs.Prelude.{◌⊎◌, IfSome, IsSomeAnd}
 use Rattle.std.specs.List.{All}
 use Rattle.outside_io.specs.Faults.{Rose}
-use Rattle.birdcore_top.specs.declared.config.Config.{Config}
+use Rattle.session.specs.Configured.{Configured}
 use Rattle.script_lang.specs.declared.script.Line.{Line}
 use Rattle.birdcore_top.specs.declared.status.Status.{Status}
 use Rattle.birdcore_top.specs.declared.status.Status.TheVariants.{Usage, ConfigRefused, NotBuilt, ReadFault, WriteFault, OutOfMemory, TooLong}
@@ -35,7 +35,7 @@ module _ (law : HasOneOutcome) (conf script : List ℕ) (held : Held) (before no
   conf_failed (BadLine n) is none rose = is
   conf_failed (Played config lines) is none rose = is
 
-  script_conf_failed : (config : Config) (o : Outcome) → ScriptGives IsSomeAnd config script (held script) o → All (λ name. Rose (before name) (now name) → ⊥) (files_read (Play conf script) o)
+  script_conf_failed : (config : Configured) (o : Outcome) → ScriptGives IsSomeAnd config script (held script) o → All (λ name. Rose (before name) (now name) → ⊥) (files_read (Play conf script) o)
       → Rose (before conf) (now conf) → ⊥
   script_conf_failed config (OverLimit word) is none rose = none 0 conf (omega arith) rose
   script_conf_failed config (BadLine n) is none rose = none 0 conf (omega arith) rose
@@ -44,7 +44,7 @@ module _ (law : HasOneOutcome) (conf script : List ℕ) (held : Held) (before no
   script_conf_failed config (Refused l c k) is none rose = is
   script_conf_failed config Unbuilt is none rose = is
 
-  script_failed : (config : Config) (o : Outcome) → ScriptGives IsSomeAnd config script (held script) o → All (λ name. Rose (before name) (now name) → ⊥) (files_read (Play conf script) o)
+  script_failed : (config : Configured) (o : Outcome) → ScriptGives IsSomeAnd config script (held script) o → All (λ name. Rose (before name) (now name) → ⊥) (files_read (Play conf script) o)
       → Rose (before script) (now script) → ⊥
   script_failed config (OverLimit word) is none rose = none 1 conf (omega arith) (subst (λ (name : List ℕ). Rose (before name) (now name)) (sym is.0) rose)
   script_failed config (BadLine n) is none rose = none 1 conf (omega arith) rose

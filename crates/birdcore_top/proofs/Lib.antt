@@ -1,13 +1,11 @@
-pub mod Views
-pub mod Built
 pub mod SaidOnce
 pub mod Outcomes
 pub mod Decided
 pub mod Judged
+pub mod Joined
 pub mod Exists
 pub mod PlaySteps
 pub mod Machine
 pub mod Entries
-pub mod OptionOrder
 pub mod Counted
 pub mod Says

@@ -4,7 +4,7 @@ use Rattle.std.specs.Prelude.{◌⊎◌, IfSome, IsSomeAnd}
 use Rattle.conf_tree.specs.declared.kind.ConfKind.{ConfKind}
 use Rattle.script_lang.specs.Script.{IsScript, IsBadLine}
 use Rattle.script_lang.specs.declared.script.Line.{Line}
-use Rattle.birdcore_top.specs.declared.config.Config.{Config}
+use Rattle.session.specs.Configured.{Configured}
 use Rattle.birdcore_top.specs.Command.{Command, Play}
 use Rattle.birdcore_top.specs.Outcome.{Outcome, Misused, OverLimit, Refused, Unbuilt, BadLine, Played, Held, Configures, IsAccepted, ConfGives, ScriptGives, PlayGives, IsPossible, IsRequired}
 use Rattle.birdcore_top.proofs.SaidOnce.{SaysOnce}
@@ -39,7 +39,7 @@ module _ (once : SaysOnce) where
   conf_once name file Unbuilt (Played config lines) is may = absurd may
 
   -- A configuration that is accepted has no outcome without its script.
-  accepted_goes_on : (name file : List ℕ) (config : Config) (o : Outcome) → Configures config file → ConfGives IfSome name (Some file) o → ⊥
+  accepted_goes_on : (name file : List ℕ) (config : Configured) (o : Outcome) → Configures config file → ConfGives IfSome name (Some file) o → ⊥
   accepted_goes_on name file config (OverLimit word) is may = omega (arith, may.1, is.0)
   accepted_goes_on name file config (Refused l c k) is may = once.built_or_refused file config l c k is.1 may.1
   accepted_goes_on name file config Unbuilt is may = once.built_or_not file config is.1 may.1
@@ -48,7 +48,7 @@ module _ (once : SaysOnce) where
   accepted_goes_on name file config (Played read lines) is may = may
 
   -- two outcomes of one script over one configuration
-  script_once : (config : Config) (name text : List ℕ) (o p : Outcome) → ScriptGives IsSomeAnd config name (Some text) o → ScriptGives IfSome config name (Some text) p → p ≡ o
+  script_once : (config : Configured) (name text : List ℕ) (o p : Outcome) → ScriptGives IsSomeAnd config name (Some text) o → ScriptGives IfSome config name (Some text) p → p ≡ o
   script_once config name text (OverLimit word) (OverLimit other) is may = ap OverLimit (may.0 ∙ sym is.0)
   script_once config name text (OverLimit word) (BadLine n) is may = absurd (omega (arith, is.1, may.0))
   script_once config name text (OverLimit word) (Played read lines) is may = absurd (omega (arith, is.1, may.1.0))
@@ -58,7 +58,7 @@ module _ (once : SaysOnce) where
   script_once config name text (Played read lines) (OverLimit other) is may = absurd (omega (arith, may.1, is.1.0))
   script_once config name text (Played read lines) (BadLine m) is may = absurd (once.script_or_bad config.name text lines m is.1.1 may.1)
   script_once config name text (Played read lines) (Played other more) is may =
-      ap (λ (c : Config). Played c more) (may.0 ∙ sym is.0) ∙ ap (λ (l : List Line). Played read l) (once.scripts_agree config.name text more lines may.1.1 is.1.1)
+      ap (λ (c : Configured). Played c more) (may.0 ∙ sym is.0) ∙ ap (λ (l : List Line). Played read l) (once.scripts_agree config.name text more lines may.1.1 is.1.1)
   script_once config name text Misused p is may = absurd is
   script_once config name text (Refused l c k) p is may = absurd is
   script_once config name text Unbuilt p is may = absurd is
@@ -94,7 +94,7 @@ module _ (once : SaysOnce) where
   accepted_not_required name None o is accepted = no_conf name o is
   accepted_not_required name (Some file) o is accepted = accepted_goes_on name file accepted.0 o accepted.1 (as_told name file o is)
 
-  no_script : (config : Config) (name : List ℕ) (o : Outcome) → ScriptGives IsSomeAnd config name None o → ⊥
+  no_script : (config : Configured) (name : List ℕ) (o : Outcome) → ScriptGives IsSomeAnd config name None o → ⊥
   no_script config name (OverLimit word) is = is.1
   no_script config name (BadLine n) is = is
   no_script config name (Played read lines) is = is.1
@@ -102,13 +102,13 @@ module _ (once : SaysOnce) where
   no_script config name (Refused l c k) is = is
   no_script config name Unbuilt is = is
 
-  scripts_once : (config : Config) (name : List ℕ) (script : Option (List ℕ)) (o p : Outcome) → ScriptGives IsSomeAnd config name script o → ScriptGives IfSome config name script p → p ≡ o
+  scripts_once : (config : Configured) (name : List ℕ) (script : Option (List ℕ)) (o p : Outcome) → ScriptGives IsSomeAnd config name script o → ScriptGives IfSome config name script p → p ≡ o
   scripts_once config name None o p is may = absurd (no_script config name o is)
   scripts_once config name (Some text) o p is may = script_once config name text o p is may
 
   plays_once : (conf script : List ℕ) (first second : Option (List ℕ)) (o p : Outcome)
-      → ConfGives IsSomeAnd conf first o ⊎ ((config : Config) × IsSomeAnd first (Configures config) × ScriptGives IsSomeAnd config script second o)
-      → ConfGives IfSome conf first p ⊎ ((config : Config) × IfSome first (Configures config) × ScriptGives IfSome config script second p) → p ≡ o
+      → ConfGives IsSomeAnd conf first o ⊎ ((config : Configured) × IsSomeAnd first (Configures config) × ScriptGives IsSomeAnd config script second o)
+      → ConfGives IfSome conf first p ⊎ ((config : Configured) × IfSome first (Configures config) × ScriptGives IfSome config script second p) → p ≡ o
   plays_once conf script None second o p (inl is) may = absurd (no_conf conf o is)
   plays_once conf script None second o p (inr is) may = absurd is.1
   plays_once conf script (Some file) second o p (inl is) (inl may) = conf_once conf file o p is may
@@ -116,7 +116,7 @@ module _ (once : SaysOnce) where
   plays_once conf script (Some file) second o p (inr is) (inl may) = absurd (accepted_goes_on conf file is.0 p is.1 may)
   plays_once conf script (Some file) second o p (inr is) (inr may) =
       let same : may.0 ≡ is.0 = once.configurations_agree file may.0 is.0 may.1.1 is.1.1 in
-      scripts_once is.0 script second o p is.2 (subst (λ (c : Config). ScriptGives IfSome c script second p) same may.2)
+      scripts_once is.0 script second o p is.2 (subst (λ (c : Configured). ScriptGives IfSome c script second p) same may.2)
 
   -- What may be due is what is required.
   pub one_outcome : (command : Option Command) (held : Held) (o p : Outcome) → IsRequired command held o → IsPossible command held p → p ≡ o

@@ -6,8 +6,8 @@ use Rattle.conf_tree.specs.declared.kind.ConfKind.{ConfKind}
 use Rattle.outside_io.specs.Faults.{Rose}
 use Rattle.outside_io.specs.declared.whole.ReadError.{ReadError}
 use Rattle.outside_io.specs.declared.whole.ReadError.TheVariants as errors
-use Rattle.birdcore_top.specs.declared.config.ConfigFault.{ConfigFault}
-use Rattle.birdcore_top.specs.declared.config.ConfigFault.TheVariants as faults
+use Rattle.session.specs.declared.read.SessionFault.{SessionFault}
+use Rattle.session.specs.declared.read.SessionFault.TheVariants as faults
 use Rattle.birdcore_top.specs.declared.status.Status.{Status}
 use Rattle.birdcore_top.specs.declared.status.Status.TheVariants.{Ok, Usage, ConfigRefused, NotBuilt, ReadFault, WriteFault, OutOfMemory, TooLong}
 use Rattle.birdcore_top.specs.Command.{Command, Play}
@@ -76,7 +76,7 @@ FindsLacked None lacks held status = ⊤
 FindsLacked (Some (Play conf script)) lacks held status = MissesLacked lacks held status conf script
 
 -- what is answered where a configuration gives nothing that is built
-abbrev pub status_of : ConfigFault → Status
+abbrev pub status_of : SessionFault → Status
 status_of (faults.Refused line column kind) = ConfigRefused line column kind
 status_of faults.NotBuilt = NotBuilt 1 0
 status_of faults.Memory = OutOfMemory

@@ -1,6 +1,4 @@
 pub mod Command
-pub mod Config
-pub mod OptionKinds
 pub mod Play
 pub mod Entries
 pub mod Run

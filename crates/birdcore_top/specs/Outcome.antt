@@ -6,9 +6,9 @@ use Rattle.report.specs.Report.{report_text}
 use Rattle.report.specs.declared.phase.PhaseReport.{PhaseReport}
 use Rattle.script_lang.specs.Script.{IsScript, IsBadLine}
 use Rattle.script_lang.specs.declared.script.Line.{Line}
-use Rattle.birdcore_top.specs.declared.config.Config.{Config}
+use Rattle.session.specs.Configured.{Configured}
 use Rattle.birdcore_top.specs.Command.{Command, Play}
-use Rattle.birdcore_top.specs.Config.{IsConfig, IsNotBuilt, IsRefusedAt}
+use Rattle.session.specs.Built.{IsConfig, IsNotBuilt, IsRefusedAt}
 use Rattle.birdcore_top.specs.Play.{IsPhase}
 
 pub data Outcome : Type 0 where
@@ -17,7 +17,7 @@ pub data Outcome : Type 0 where
   Refused : ℕ → ℕ → ConfKind → Outcome  -- the configuration is refused in this line and column
   Unbuilt : Outcome  -- the configuration is of another form than the one that is built
   BadLine : ℕ → Outcome  -- this line of the script isn't of the form
-  Played : Config → List Line → Outcome  -- the lines are played over the configuration
+  Played : Configured → List Line → Outcome  -- the lines are played over the configuration
 
 -- ---- files
 
@@ -34,15 +34,16 @@ abbrev pub Within : (List ℕ → Type 0) → List ℕ → Type 0
 Within P file = (length file ≤ limit) × P file
 
 -- a configuration of which this is built
-abbrev pub Configures : Config → List ℕ → Type 0
+abbrev pub Configures : Configured → List ℕ → Type 0
 Configures config = Within (λ file. IsConfig file config)
 
 abbrev pub IsAccepted : List ℕ → Type 0
-IsAccepted file = (config : Config) × Configures config file
+IsAccepted file = (config : Configured) × Configures config file
 
--- the file is a configuration of which something is built, or one of which nothing is, or is refused
+-- The file is a configuration of which something is built, or one of which nothing is, or it is
+-- refused.
 abbrev pub SaysSomething : List ℕ → Type 0
-SaysSomething file = ((config : Config) × IsConfig file config)
+SaysSomething file = ((config : Configured) × IsConfig file config)
     ⊎ IsNotBuilt file
     ⊎ ((line : ℕ) × (column : ℕ) × (kind : ConfKind) × IsRefusedAt file line column kind)
 
@@ -57,7 +58,7 @@ ConfGives known name conf Unbuilt = known conf (Within IsNotBuilt)
 ConfGives known name conf _ = ⊥
 
 -- what the script of this name gives over a configuration
-abbrev pub ScriptGives : Knowledge → Config → List ℕ → Option (List ℕ) → Outcome → Type 0
+abbrev pub ScriptGives : Knowledge → Configured → List ℕ → Option (List ℕ) → Outcome → Type 0
 ScriptGives known config name script (OverLimit word) = (word ≡ name) × known script IsLong
 ScriptGives known config name script (BadLine n) =
     known script (Within (λ text. IsBadLine config.name text n))
@@ -69,7 +70,7 @@ ScriptGives known config name script _ = ⊥
 abbrev pub PlayGives : Knowledge → List ℕ → List ℕ → Held → Outcome → Type 0
 PlayGives known conf script held o =
     ConfGives known conf (held conf) o
-    ⊎ ((config : Config) × known (held conf) (Configures config)
+    ⊎ ((config : Configured) × known (held conf) (Configures config)
     × ScriptGives known config script (held script) o)
 
 -- what a command gives over files, and words that are none
@@ -97,13 +98,13 @@ files_read (Play conf script) (Played config lines) = conf ∷ script ∷ []
 -- ---- reports
 
 -- the text is the report of these lines played over this configuration
-abbrev pub IsReport : Config → List Line → List ℕ → Type 0
+abbrev pub IsReport : Configured → List Line → List ℕ → Type 0
 IsReport config lines text = (phase : PhaseReport) × IsPhase config lines phase
     × (text ≡ report_text (phase ∷ []))
 
 -- A play of the files may be due, and this is said of the text of its report.
 pub record IfReport (command : Option Command) (held : Held) (P : List ℕ → Type 0) : Type 0 where
-  pub config : Config
+  pub config : Configured
   pub lines : List Line
   pub text : List ℕ
   pub played : IsPossible command held (Played config lines)

@@ -5,12 +5,13 @@ use Rattle.attrs.specs.History.{after, empty}
 use Rattle.attrs.specs.Table.{Shows, count_routes}
 use Rattle.attrs.specs.declared.route.Change.{Change}
 use Rattle.attrs.specs.declared.route.Row.{Row}
-use Rattle.import_core.specs.Import.{imported, withdrawn}
-use Rattle.import_core.specs.Session.{bgp_session}
-use Rattle.import_core.specs.declared.import_spec.ImportSpec.{ImportSpec}
-use Rattle.birdcore_top.specs.declared.config.Config.{Config}
-use Rattle.import_core.specs.declared.operation.Op.{Op}
-use Rattle.import_core.specs.declared.operation.Op.TheVariants.{SessionUp, Add, Del}
+use Rattle.import_core.specs.Import.{withdrawn}
+use Rattle.session.specs.Configured.{Configured}
+use Rattle.session.specs.Filtered.{filtered}
+use Rattle.import_core.specs.declared.operation.SessionOp.{SessionOp as Op}
+use Rattle.import_core.specs.declared.operation.SessionOp.TheVariants.{SessionUp, Add, Del}
+use Rattle.import_core.specs.declared.operation.Op.TheVariants as ops
+use Rattle.import_core.specs.declared.step.Done.{Done}
 use Rattle.script_lang.specs.declared.script.Line.{Line}
 use Rattle.script_lang.specs.declared.script.Line.TheVariants.{Apply, Show}
 use Rattle.export_core.specs.declared.log.LogItem.{LogItem}
@@ -28,15 +29,11 @@ pub record State : Type 0 where
   pub history : List Change
   pub session : Option ℕ
   pub log : List LogItem
-  pub ops : List Op
+  pub ops : List Done
   pub replies : List ReplyReport
 
 abbrev pub start : State
 start = record { history = []; session = None; log = []; ops = []; replies = [] }
-
--- the protocol, as its imports see it
-abbrev pub spec_of : Config → ImportSpec
-spec_of config = bgp_session config.local config.remote config.neighbor
 
 -- the history goes on by the change, unless the key's route is this one already
 pub record GoesOn (old : List Change) (c : Change) (new : List Change) : Type 0 where
@@ -56,18 +53,25 @@ Imports None change s t = t ≡ s
 Imports (Some id) change s t = (history : List Change) × GoesOn s.history (change id) history
     × (t ≡ record s { history = history })
 
-abbrev pub Acts : Config → Op → State → State → Type 0
+-- An announcement is imported as the filter leaves it: one that it rejects withdraws the net.
+abbrev pub Acts : Configured → Op → State → State → Type 0
 Acts config (SessionUp id) s t = t ≡ opened s.session id s
 Acts config (Add net given) s t = Imports s.session
-    (λ id. imported (spec_of config) id net given) s t
-Acts config (Del net) s t = Imports s.session (λ id. withdrawn (spec_of config) net) s t
+    (λ id. filtered config.filter config.spec id net given) s t
+Acts config (Del net) s t = Imports s.session (λ id. withdrawn config.spec net) s t
+
+-- the operation as it is reported; where no limit is built no route is over it
+abbrev pub done_of : Op → Done
+done_of (SessionUp id) = record { op = ops.SessionUp id; over = false }
+done_of (Add net given) = record { op = ops.Add net given; over = false }
+done_of (Del net) = record { op = ops.Del net; over = false }
 
 -- the name of the one table that has routes
 abbrev pub main_table : List ℕ
 main_table = codes "master4"
 
 -- the reply to `show route` over these rows, at the head
-abbrev pub replied : Config → ℕ → List Row → ReplyReport
+abbrev pub replied : Configured → ℕ → List Row → ReplyReport
 replied config head rows = record {
   actor = config.name;
   table = main_table;
@@ -77,14 +81,14 @@ replied config head rows = record {
 
 -- A line is an operation, which is recorded in any mode, or a question, which is answered from what
 -- the table shows.
-abbrev pub Steps : Config → Line → State → State → Type 0
+abbrev pub Steps : Configured → Line → State → State → Type 0
 Steps config (Apply line op) s t = (acted : State) × Acts config op s acted
-    × (t ≡ record acted { ops = s.ops ++ op ∷ [] })
+    × (t ≡ record acted { ops = s.ops ++ done_of op ∷ [] })
 Steps config Show s t = (rows : List Row) × Shows rows (after empty s.history)
     × (t ≡ record s { replies = s.replies ++ replied config (length s.history) rows ∷ [] })
 
 -- the lines, one after another
-abbrev pub Plays : Config → List Line → State → State → Type 0
+abbrev pub Plays : Configured → List Line → State → State → Type 0
 Plays config [] s t = s ≡ t
 Plays config (line ∷ lines) s t = (between : State) × Steps config line s between
     × Plays config lines between t
@@ -99,7 +103,7 @@ sent_in None = None
 sent_in (Some id) = Some []
 
 -- what is reported of the one phase, where the table shows these rows at its end
-abbrev pub phase_of : Config → State → List Row → PhaseReport
+abbrev pub phase_of : Configured → State → List Row → PhaseReport
 phase_of config s rows = record {
   number = 1;
   protocols = record { name = config.name; ops = s.ops } ∷ [];
@@ -118,12 +122,12 @@ phase_of config s rows = record {
 }
 
 -- what is reported in a state, with the rows that its table shows
-abbrev pub Reports : Config → State → PhaseReport → Type 0
+abbrev pub Reports : Configured → State → PhaseReport → Type 0
 Reports config s phase = (rows : List Row) × Shows rows (after empty s.history)
     × (phase ≡ phase_of config s rows)
 
 -- the phase is the machine's on these lines
-pub record IsPhase (config : Config) (lines : List Line) (phase : PhaseReport) : Type 0 where
+pub record IsPhase (config : Configured) (lines : List Line) (phase : PhaseReport) : Type 0 where
   pub state : State
   pub plays : Plays config lines start state
   pub reports : Reports config state phase

@@ -1,17 +1,13 @@
 //! What follows from the definitions and from the contract of `top`.
-ghost use Rattle.std.specs.Prelude.{◌≡◌, ◌≢◌, ◌⊎◌, ◌≤◌, ℕ, length, true, false, List, [], ◌∷◌, ◌++◌, Option, Some, IfSome, IsSomeAnd};
+ghost use Rattle.std.specs.Prelude.{◌≡◌, ◌≢◌, ◌⊎◌, ◌≤◌, ℕ, length, List, [], ◌∷◌, Option, Some, IfSome, IsSomeAnd};
 ghost use Rattle.attrs.specs.History.{empty, IsReal};
-ghost use Rattle.conf_tree.specs.declared.tree.BgpOption.{BgpOption};
-ghost use Rattle.conf_tree.specs.declared.tree.ChannelOption.{ChannelOption};
-ghost use Rattle.conf_tree.specs.declared.tree.Statement.{Statement};
 ghost use Rattle.export_core.specs.declared.log.LogItem.TheVariants.{Up};
 ghost use Rattle.outside_io.specs.Whole.{limit};
 ghost use Rattle.report.specs.declared.phase.PhaseReport.{PhaseReport};
 ghost use Rattle.script_lang.specs.declared.script.Line.{Line};
-ghost use Rattle.birdcore_top.specs.declared.config.Config.{Config};
+ghost use Rattle.session.specs.Built.{IsConfig, IsNotBuilt, IsRefusedAt};
+ghost use Rattle.session.specs.Configured.{Configured};
 ghost use Rattle.conf_tree.specs.declared.kind.ConfKind.{ConfKind};
-ghost use Rattle.birdcore_top.specs.Config.{Builds, IsConfig, IsNotBuilt, IsRefusedAt, bgp_says, channel_says, effective, has_effect};
-ghost use Rattle.birdcore_top.specs.OptionKinds.{replaces, rests_on_order, says_nothing, channel_replaces, channel_says_nothing};
 ghost use Rattle.birdcore_top.specs.Entries.{EachComesFrom};
 ghost use Rattle.birdcore_top.specs.Play.{State, start, Plays, IsPhase};
 ghost use Rattle.birdcore_top.specs.Command.{Command, Play, command_of};
@@ -20,11 +16,12 @@ ghost use Rattle.birdcore_top.specs.Answer.{Answers};
 
 use crate::status::Status;
 use crate::top::top;
+use conf_ast::laws::a_text_is_one_syntax;
 use conf_lex::laws::{tokens_are_slices, tokens_rise};
 use conf_tree::laws::{
-    a_text_has_one_refusal, a_text_is_one_configuration, configurations_are_not_refused,
-    each_place_has_a_line_and_a_column, each_text_is_a_configuration_or_is_refused,
-    each_tree_is_of_a_configuration, places_have_one_line_and_column,
+    a_text_has_one_refusal, configurations_are_not_refused, each_place_has_a_line_and_a_column,
+    each_text_is_a_configuration_or_is_refused, each_tree_is_of_a_configuration,
+    places_have_one_line_and_column,
 };
 use outside_io::{OpenGate, Shelf, SureShelf, SureSink};
 use script_lang::laws::{
@@ -36,17 +33,18 @@ use std::alloc::Global;
 /// A text says one thing of configurations at most: one is built of it, or none, or it is refused,
 /// in one line and column for one reason.
 pub fn texts_say_one_thing()
-    ensures built { (text : List ℕ) (a b : Config) → IsConfig text a → IsConfig text b → a ≡ b }
-    ensures built_or_not { (text : List ℕ) (config : Config)
+    ensures built { (text : List ℕ) (a b : Configured)
+        → IsConfig text a → IsConfig text b → a ≡ b }
+    ensures built_or_not { (text : List ℕ) (config : Configured)
         → IsConfig text config → IsNotBuilt text → ⊥ }
-    ensures built_or_refused { (text : List ℕ) (config : Config) (line column : ℕ) (kind : ConfKind)
-        → IsConfig text config → IsRefusedAt text line column kind → ⊥ }
+    ensures built_or_refused { (text : List ℕ) (config : Configured) (line column : ℕ)
+        (kind : ConfKind) → IsConfig text config → IsRefusedAt text line column kind → ⊥ }
     ensures not_built_or_refused { (text : List ℕ) (line column : ℕ) (kind : ConfKind)
         → IsNotBuilt text → IsRefusedAt text line column kind → ⊥ }
     ensures refused { (text : List ℕ) (l m c d : ℕ) (k j : ConfKind)
         → IsRefusedAt text l c k → IsRefusedAt text m d j → (l ≡ m) × (c ≡ d) × (k ≡ j) }
 {
-    a_text_is_one_configuration();
+    a_text_is_one_syntax();
     a_text_has_one_refusal();
     configurations_are_not_refused();
     places_have_one_line_and_column();
@@ -65,13 +63,6 @@ pub fn files_have_one_outcome()
     a_text_has_one_bad_line();
     scripts_have_no_bad_line();
 }
-
-/// Of the statements of a configuration something is built, or nothing is.
-pub fn statements_are_built_or_not()
-    ensures { (text : List ℕ) (all : List Statement)
-        → ((config : Config) × Builds text all config)
-        ⊎ ((config : Config) → Builds text all config → ⊥) }
-{}
 
 /// Each text within the limit says something: something is built of it or nothing is, or it is
 /// refused.
@@ -95,40 +86,9 @@ pub fn told_files_have_an_outcome()
     each_text_is_a_script_or_has_a_bad_line();
 }
 
-/// Of two options of a protocol that say the same kind of thing the last counts; the order of
-/// others is free; and what says nothing here can be left out.
-pub fn the_last_option_of_a_protocol_counts()
-    ensures last { (front back : List BgpOption) (o p : BgpOption) → replaces o p ≡ true
-        → bgp_says (front ++ o ∷ p ∷ back) ≡ bgp_says (front ++ p ∷ back) }
-    ensures order { (front back : List BgpOption) (o p : BgpOption) → rests_on_order o p ≡ false
-        → bgp_says (front ++ o ∷ p ∷ back) ≡ bgp_says (front ++ p ∷ o ∷ back) }
-    ensures nothing { (front back : List BgpOption) (o : BgpOption) → says_nothing o ≡ true
-        → bgp_says (front ++ o ∷ back) ≡ bgp_says (front ++ back) }
-{}
-
-/// The same of the options of a channel.
-pub fn the_last_option_of_a_channel_counts()
-    ensures last { (front back : List ChannelOption) (o p : ChannelOption)
-        → channel_replaces o p ≡ true
-        → channel_says (front ++ o ∷ p ∷ back) ≡ channel_says (front ++ p ∷ back) }
-    ensures order { (front back : List ChannelOption) (o p : ChannelOption)
-        → channel_replaces o p ≡ false
-        → channel_says (front ++ o ∷ p ∷ back) ≡ channel_says (front ++ p ∷ o ∷ back) }
-    ensures nothing { (front back : List ChannelOption) (o : ChannelOption)
-        → channel_says_nothing o ≡ true
-        → channel_says (front ++ o ∷ back) ≡ channel_says (front ++ back) }
-{}
-
-/// A statement without an effect can be left out.
-pub fn statements_without_effect_count_for_nothing()
-    ensures { (text : List ℕ) (front back : List Statement) (s : Statement)
-        → has_effect text s ≡ false
-        → effective text (front ++ s ∷ back) ≡ effective text (front ++ back) }
-{}
-
 /// Lines played over a configuration come to one phase.
 pub fn lines_come_to_one_phase()
-    ensures { (config : Config) (lines : List Line) (p q : PhaseReport)
+    ensures { (config : Configured) (lines : List Line) (p q : PhaseReport)
         → IsPhase config lines p → IsPhase config lines q → p ≡ q }
 {}
 
@@ -136,11 +96,11 @@ pub fn lines_come_to_one_phase()
 /// where one stands. The channel's log is empty, or says that it came up before all changes. Each
 /// change comes from an `add` or a `del` behind the session's `open`.
 pub fn plays_make_real_histories()
-    ensures real { (config : Config) (lines : List Line) (end : State)
+    ensures real { (config : Configured) (lines : List Line) (end : State)
         → Plays config lines start end → IsReal empty end.history }
-    ensures log { (config : Config) (lines : List Line) (end : State)
+    ensures log { (config : Configured) (lines : List Line) (end : State)
         → Plays config lines start end → (end.log ≡ []) ⊎ (end.log ≡ Up 0 ∷ []) }
-    ensures entries { (config : Config) (lines : List Line) (end : State)
+    ensures entries { (config : Configured) (lines : List Line) (end : State)
         → Plays config lines start end → EachComesFrom config lines end.history }
 {}
 

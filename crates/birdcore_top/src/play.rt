@@ -3,25 +3,26 @@ ghost use Rattle.bits_ip.specs.Address.{family_of};
 ghost use Rattle.bits_ip.specs.declared.address.Family.TheVariants as families;
 ghost use Rattle.attrs.specs.History.{after, empty};
 ghost use Rattle.attrs.specs.declared.route.Change.{Change};
-ghost use Rattle.birdcore_top.specs.Play.{start, spec_of, GoesOn, opened, Imports, Acts, Steps, IsPhase, phase_of, main_table, replied, mode_of, sent_in, Reports};
-ghost use Rattle.import_core.specs.Import.{imported, imported_route, withdrawn};
-ghost use Rattle.import_core.specs.Session.{bgp_session};
+ghost use Rattle.birdcore_top.specs.Play.{start, GoesOn, done_of, opened, Imports, Acts, Steps, IsPhase, phase_of, main_table, replied, mode_of, sent_in, Reports};
+ghost use Rattle.import_core.specs.Import.{withdrawn};
 ghost use Rattle.birdcore_top.specs.Run.{state_of, IsRun};
 ghost use Rattle.script_lang.specs.Script.{IsOfV4, AreOfV4};
+ghost use Rattle.session.specs.Filtered.{filtered};
+ghost use Rattle.session.specs.Seen.{configured_of};
 ghost use Rattle.show_route.specs.Reply.{reply_text};
 
-use crate::config::Config;
-use attrs::{Change, Row, Seq};
+use attrs::{Change, Row, Select, Seq};
 use bits_ip::{Family, OutOfMemory, Prefix};
 use export_core::LogItem;
-use import_core::{Given, ImportSpec, Mode, Op, bgp_session, import, withdraw};
+use import_core::{Done, Given, Mode, Op, SessionOp, withdraw};
 use report::{
     ChannelReport, ExportReport, JournalReport, ModeReport, PhaseReport, ProtocolReport,
     ReplyReport, TableReport,
 };
 use rib::Rib;
 use script_lang::Line;
-use show_route::{begin, write_routes};
+use session::Session;
+use show_route::answer;
 use std::alloc::Global;
 
 /// The run of a script: the table of IPv4 routes, and what has come about so far.
@@ -32,14 +33,14 @@ pub struct Run {
     /// The neighbour's router id, while the session is up.
     session: Option<u32>,
     log: Vec<LogItem>,
-    ops: Vec<Op>,
+    ops: Vec<Done>,
     replies: Vec<ReplyReport>,
 }
 
 /// Does the lines in their order, and reports the phase.
-pub fn play(alloc: Global, config: &Config, lines: Vec<Line>) -> Result<PhaseReport, OutOfMemory>
+pub fn play(alloc: Global, config: &Session, lines: Vec<Line>) -> Result<PhaseReport, OutOfMemory>
     requires { AreOfV4 lines.items }
-    ensures { IfOk result (IsPhase config.now lines.items) }
+    ensures { IfOk result (IsPhase (configured_of config.now) lines.items) }
 {
     let mut run = Run::new(alloc);
     for line in lines {
@@ -64,38 +65,42 @@ impl Run {
     }
 
     /// Does a line: an operation is recorded, and a question answered.
-    fn step(&mut self, alloc: Global, config: &Config, line: Line) -> Result<(), OutOfMemory>
+    fn step(&mut self, alloc: Global, config: &Session, line: Line) -> Result<(), OutOfMemory>
         requires is { IsRun self.old }
         requires v4 { IsOfV4 line }
-        ensures step { OnOk result (Steps config.now line (state_of self.old) (state_of self.new)) }
+        ensures step { OnOk result (Steps (configured_of config.now) line
+            (state_of self.old) (state_of self.new)) }
         ensures is { OnOk result (IsRun self.new) }
     {
         match line {
             Line::Apply { line: _line, op } => {
-                self.act(config, &op)?;
-                self.ops.push(op)?;
+                self.act(alloc, config, &op)?;
+                self.ops.push(done(op))?;
                 Ok(())
             }
             Line::Show => self.show(alloc, config),
         }
     }
 
-    fn act(&mut self, config: &Config, op: &Op) -> Result<(), OutOfMemory>
+    fn act(&mut self, alloc: Global, config: &Session, op: &SessionOp) -> Result<(), OutOfMemory>
         requires is { IsRun self.old }
         requires v4 { IsOfV4 (Line.Apply 0 op.now) }
-        ensures acts { OnOk result (Acts config.now op.now (state_of self.old) (state_of self.new)) }
+        ensures acts { OnOk result (Acts (configured_of config.now) op.now
+            (state_of self.old) (state_of self.new)) }
         ensures is { OnOk result (IsRun self.new) }
     {
         match op {
-            Op::SessionUp(id) => self.open(*id),
-            Op::Add(net, given) => self.add(config, net, given),
-            Op::Del(net) => self.del(config, net),
+            SessionOp::SessionUp(id) => self.open(*id),
+            SessionOp::Add(net, given) => self.add(alloc, config, net, given),
+            SessionOp::Del(net) => self.del(config, net),
         }
     }
 
     /// The session and the channel come up where they are down.
     fn open(&mut self, id: u32) -> Result<(), OutOfMemory>
-        ensures opened { OnOk result (state_of self.new ≡ opened self.old.session id (state_of self.old)) }
+        ensures opened { OnOk result
+            (state_of self.new
+            ≡ opened self.old.session id (state_of self.old)) }
         ensures same { OnOk result ((self.new.table ≡ self.old.table)
             × (self.new.history.items ≡ self.old.history.items)) }
     {
@@ -106,17 +111,24 @@ impl Run {
         Ok(())
     }
 
-    /// Imports a route where the session is up.
-    fn add(&mut self, config: &Config, net: &Prefix, given: &Given) -> Result<(), OutOfMemory>
+    /// Imports a route, as the policy leaves it, where the session is up.
+    fn add(
+        &mut self,
+        alloc: Global,
+        config: &Session,
+        net: &Prefix,
+        given: &Given,
+    ) -> Result<(), OutOfMemory>
         requires is { IsRun self.old }
         requires v4 { family_of net.now.addr ≡ families.V4 }
         ensures added { OnOk result (Imports self.old.session
-            (λ id. imported (spec_of config.now) id net.now given.now) (state_of self.old) (state_of self.new)) }
+            (λ id. filtered (configured_of config.now).filter config.now.spec id net.now given.now)
+            (state_of self.old) (state_of self.new)) }
         ensures is { OnOk result (IsRun self.new) }
     {
         match self.session {
             Some(id) => {
-                let change = import(&spec_of(config), id, net, given)?;
+                let change = config.change(alloc, id, net, given)?;
                 self.announce(change)
             }
             None => Ok(()),
@@ -124,15 +136,15 @@ impl Run {
     }
 
     /// Withdraws a net where the session is up.
-    fn del(&mut self, config: &Config, net: &Prefix) -> Result<(), OutOfMemory>
+    fn del(&mut self, config: &Session, net: &Prefix) -> Result<(), OutOfMemory>
         requires is { IsRun self.old }
         requires v4 { family_of net.now.addr ≡ families.V4 }
         ensures deleted { OnOk result (Imports self.old.session
-            (λ id. withdrawn (spec_of config.now) net.now) (state_of self.old) (state_of self.new)) }
+            (λ id. withdrawn config.now.spec net.now) (state_of self.old) (state_of self.new)) }
         ensures is { OnOk result (IsRun self.new) }
     {
         match self.session {
-            Some(_) => self.announce(withdraw(&spec_of(config), net)),
+            Some(_) => self.announce(withdraw(&config.spec, net)),
             None => Ok(()),
         }
     }
@@ -142,7 +154,9 @@ impl Run {
         requires is { IsRun self.old }
         requires v4 { family_of change.net.addr ≡ families.V4 }
         requires source { IfSome change.new (λ route. route.src.num ≡ change.num) }
-        ensures goes_on { OnOk result (GoesOn self.old.history.items change self.new.history.items) }
+        ensures goes_on { OnOk result
+            (GoesOn self.old.history.items change
+            self.new.history.items) }
         ensures is { OnOk result (IsRun self.new) }
         ensures rest { OnOk result (state_of self.new
             ≡ record (state_of self.old) { history = self.new.history.items }) }
@@ -157,9 +171,10 @@ impl Run {
     }
 
     /// Answers `show route` of the main table.
-    fn show(&mut self, alloc: Global, config: &Config) -> Result<(), OutOfMemory>
+    fn show(&mut self, alloc: Global, config: &Session) -> Result<(), OutOfMemory>
         requires { IsRun self.old }
-        ensures step { OnOk result (Steps config.now Line.Show (state_of self.old) (state_of self.new)) }
+        ensures step { OnOk result (Steps (configured_of config.now) Line.Show
+            (state_of self.old) (state_of self.new)) }
         ensures is { OnOk result (IsRun self.new) }
     {
         let text = reply(alloc, config, &self.table)?;
@@ -173,9 +188,9 @@ impl Run {
     }
 
     /// The report of the phase that ends here.
-    fn finish(self, alloc: Global, config: &Config) -> Result<PhaseReport, OutOfMemory>
+    fn finish(self, alloc: Global, config: &Session) -> Result<PhaseReport, OutOfMemory>
         requires { IsRun self }
-        ensures { IfOk result (Reports config.now (state_of self)) }
+        ensures { IfOk result (Reports (configured_of config.now) (state_of self)) }
     {
         let accepted = self.table.total();
         let name = config.name.as_slice();
@@ -204,17 +219,25 @@ impl Run {
 }
 
 /// The reply to `show route` over the rows of the main table.
-fn reply(alloc: Global, config: &Config, table: &Rib) -> Result<Vec<u8>, OutOfMemory>
+fn reply(alloc: Global, config: &Session, table: &Rib) -> Result<Vec<u8>, OutOfMemory>
     ensures { IfOk result
         (λ text. text.items ≡ reply_text (config.now.name ∷ []) main_table table.now.rows) }
 {
     let names = [config.name.as_slice()];
-    let mut text = begin(alloc, b"master4")?;
-    for place in 0..table.len() {
-        let (net, routes) = table.row(place);
-        write_routes(&names, net, routes, &mut text)?;
-    }
-    Ok(text)
+    let rows = table.select(&Select::All)?;
+    answer(alloc, &names, b"master4", rows.as_slice())
+}
+
+/// The operation as it is reported. Where no limit is built no route is over it.
+fn done(op: SessionOp) -> Done
+    ensures { result ≡ done_of op }
+{
+    let op = match op {
+        SessionOp::SessionUp(id) => Op::SessionUp(id),
+        SessionOp::Add(net, given) => Op::Add(net, given),
+        SessionOp::Del(net) => Op::Del(net),
+    };
+    Done { op, over: false }
 }
 
 fn mode_of(session: Option<u32>) -> Mode
@@ -229,7 +252,7 @@ fn mode_of(session: Option<u32>) -> Mode
 fn report_operations(
     alloc: Global,
     name: &[u8],
-    ops: Vec<Op>,
+    ops: Vec<Done>,
 ) -> Result<Seq<ProtocolReport>, OutOfMemory>
     ensures { IfOk result (λ parts. parts ≡ record { name = name.now; ops = ops.items } ∷ []) }
 {
@@ -357,13 +380,6 @@ fn two<T: Drop>(alloc: Global, first: T, second: T) -> Result<Seq<T>, OutOfMemor
     let mut seq = one(alloc, first)?;
     seq.push(second)?;
     Ok(seq)
-}
-
-/// The protocol, as its imports see it.
-fn spec_of(config: &Config) -> ImportSpec
-    ensures { result ≡ spec_of config.now }
-{
-    bgp_session(config.local, config.remote, config.neighbor)
 }
 
 fn copy_change(change: &Change) -> Result<Change, OutOfMemory>

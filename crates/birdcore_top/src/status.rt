@@ -3,9 +3,9 @@ ghost use Rattle.std.specs.Prelude.{◌≡◌};
 ghost use Rattle.birdcore_top.specs.Answer.{number_of};
 ghost use Rattle.birdcore_top.specs.declared.status.Status.TheVariants.{OutOfMemory};
 
-use crate::config::ConfigFault;
 use bits_ip::OutOfMemory;
 use conf_tree::ConfKind;
+use session::SessionFault;
 use std::alloc::AllocError;
 use thiserror::Error;
 
@@ -83,20 +83,20 @@ impl From<OutOfMemory> for Status {
     }
 }
 
-impl From<ConfigFault> for Status {
+impl From<SessionFault> for Status {
     ghost use Rattle.birdcore_top.specs.Answer.{status_of};
 
     ghost from_gives = { λ fault status. status ≡ status_of fault };
 
-    fn from(fault: ConfigFault) -> Self {
+    fn from(fault: SessionFault) -> Self {
         match fault {
-            ConfigFault::Refused { line, column, kind } => Status::ConfigRefused {
+            SessionFault::Refused { line, column, kind } => Status::ConfigRefused {
                 line,
                 column,
                 kind,
             },
-            ConfigFault::NotBuilt => Status::NotBuilt { file: 1, line: 0 },
-            ConfigFault::Memory => Status::OutOfMemory,
+            SessionFault::NotBuilt => Status::NotBuilt { file: 1, line: 0 },
+            SessionFault::Memory => Status::OutOfMemory,
         }
     }
 }

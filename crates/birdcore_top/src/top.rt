@@ -5,11 +5,11 @@ ghost use Rattle.outside_io.specs.Faults.{Rose, NoneFell};
 ghost use Rattle.outside_io.specs.Whole.{IsLong, IsWhole, WritesFront};
 ghost use Rattle.script_lang.specs.Script.{AreOfV4};
 ghost use Rattle.script_lang.specs.declared.script.Line.{Line};
+ghost use Rattle.session.specs.Seen.{configured_of};
 ghost use Rattle.birdcore_top.specs.Command.{Command, Play, command_of};
 ghost use Rattle.birdcore_top.specs.Outcome.{Outcome, OverLimit, Played, Configures, IsAccepted, ConfGives, ScriptGives, IsPossible, IsRequired, IfReport, IsReport};
 ghost use Rattle.birdcore_top.specs.Answer.{Answers, HasCause, MissesInTurn, NoneFailed, SinkTakes, IsMissed, FindsLacked, FindsLackedBy, IsReadStatus, Stops, writes};
 
-use crate::config::{Config, read_config};
 use crate::laws::files_have_one_outcome;
 use crate::play::play;
 use crate::status::Status;
@@ -17,6 +17,7 @@ use bits_ip::OutOfMemory;
 use outside_io::{Failed, Gate, ReadError, Shelf, Sink, read_whole, write_whole};
 use report::write_report;
 use script_lang::{Line, ScriptFault, read_script};
+use session::{Session, read_session};
 use std::alloc::Global;
 
 /// Does all that the program does: plays the script over the configuration that the words name, and
@@ -60,7 +61,9 @@ pub fn top<R, F: Shelf, K: Sink, G: Gate + Sync>(
         → Answers o result ⊎ (result ≡ Status.OutOfMemory) }
 
     // A file that the shelf tells it doesn't hold is never taken for an empty one.
-    ensures absent { FindsLacked (command_of words.now) (F.lacks shelf.old) (F.held shelf.old) result }
+    ensures absent { FindsLacked (command_of words.now)
+        (F.lacks shelf.old) (F.held shelf.old)
+        result }
 {
     files_have_one_outcome();
     run(alloc, words, shelf, out)
@@ -81,7 +84,9 @@ fn run<F: Shelf, K: Sink>(alloc: Global, words: &[String], shelf: &mut F, out: &
         → IfReport (command_of words.now) (F.held shelf.old)
         (λ text. WritesFront (K.contents out.old) (K.contents out.new) text) }
     ensures nothing_else { writes result ≡ false → Keeps (K.contents out.old) (K.contents out.new) }
-    ensures absent { FindsLacked (command_of words.now) (F.lacks shelf.old) (F.held shelf.old) result }
+    ensures absent { FindsLacked (command_of words.now)
+        (F.lacks shelf.old) (F.held shelf.old)
+        result }
 {
     match prepare(alloc, words, shelf) {
         Ok(text) => match write_whole(out, &text) {
@@ -102,7 +107,9 @@ fn prepare<F: Shelf>(alloc: Global, words: &[String], shelf: &mut F) -> Result<V
     ensures in_turn { result ≡ Err Status.ReadFault
         → IsSomeAnd (command_of words.now)
         (λ c. MissesInTurn c (F.held shelf.old) (F.missed shelf.old) (F.missed shelf.new)) }
-    ensures absent { FindsLackedBy (command_of words.now) (F.lacks shelf.old) (F.held shelf.old) result }
+    ensures absent { FindsLackedBy (command_of words.now)
+        (F.lacks shelf.old) (F.held shelf.old)
+        result }
 {
     match named(words) {
         Some((conf, script)) => play_files(alloc, conf, script, shelf),
@@ -148,9 +155,9 @@ fn play_files<F: Shelf>(
 }
 
 /// Reads the configuration of this name.
-fn read_conf<F: Shelf>(alloc: Global, name: &str, shelf: &mut F) -> Result<Config, Status>
+fn read_conf<F: Shelf>(alloc: Global, name: &str, shelf: &mut F) -> Result<Session, Status>
     ensures config { IfOk result
-        (λ config. IfSome (F.held shelf.old name.now) (Configures config)) }
+        (λ config. IfSome (F.held shelf.old name.now) (Configures (configured_of config))) }
     ensures stopped { IfErr result (Stops (ConfGives IfSome name.now (F.held shelf.old name.now))) }
     ensures read { result ≡ Err Status.ReadFault → Rose (F.faults shelf.old) (F.faults shelf.new) }
     ensures by_name { result ≡ Err Status.ReadFault
@@ -162,22 +169,24 @@ fn read_conf<F: Shelf>(alloc: Global, name: &str, shelf: &mut F) -> Result<Confi
     ensures lacks { F.lacks shelf.new ≡ F.lacks shelf.old }
 {
     let bytes = read_file(alloc, name, shelf)?;
-    let config = read_config(alloc, &bytes)?;
+    let config = read_session(alloc, &bytes)?;
     Ok(config)
 }
 
 /// Reads the script of this name, plays it over the configuration, and makes the report.
 fn play_script<F: Shelf>(
     alloc: Global,
-    config: &Config,
+    config: &Session,
     name: &str,
     shelf: &mut F,
 ) -> Result<Vec<u8>, Status>
     ensures text { IfOk result (λ text. (lines : List Line)
-        × ScriptGives IfSome config.now name.now (F.held shelf.old name.now) (Played config.now lines)
-        × IsReport config.now lines text.items) }
+        × ScriptGives IfSome (configured_of config.now) name.now (F.held shelf.old name.now)
+        (Played (configured_of config.now) lines)
+        × IsReport (configured_of config.now) lines text.items) }
     ensures stopped { IfErr result
-        (Stops (ScriptGives IfSome config.now name.now (F.held shelf.old name.now))) }
+        (Stops (ScriptGives IfSome (configured_of config.now) name.now
+        (F.held shelf.old name.now))) }
     ensures read { result ≡ Err Status.ReadFault → Rose (F.faults shelf.old) (F.faults shelf.new) }
     ensures by_name { result ≡ Err Status.ReadFault
         → Rose (F.missed shelf.old name.now) (F.missed shelf.new name.now) }
@@ -231,9 +240,9 @@ fn status_of(alloc: Global, name: &str, error: ReadError) -> Status
 }
 
 /// The text of the report of these lines.
-fn report(alloc: Global, config: &Config, lines: Vec<Line>) -> Result<Vec<u8>, OutOfMemory>
+fn report(alloc: Global, config: &Session, lines: Vec<Line>) -> Result<Vec<u8>, OutOfMemory>
     requires { AreOfV4 lines.items }
-    ensures { IfOk result (λ text. IsReport config.now lines.items text.items) }
+    ensures { IfOk result (λ text. IsReport (configured_of config.now) lines.items text.items) }
 {
     let phase = play(alloc, config, lines)?;
     write_report(alloc, &[phase])

@@ -139,7 +139,7 @@ mutual
     Print : Expressions → Statement
     -- as `Print`, without an end of line
     PrintPart : Expressions → Statement
-    -- a call of a function that gives nothing
+    -- a call of a function; what it gives, if anything, is dropped
     Call : Name → (place : ℕ) → Expressions → Statement
 
   -- Statements, one after another.

@@ -1,5 +1,7 @@
 -- What is told of a text that is refused, and of one of which something is built.
-use Rattle.std.proofs.Common.{◌≡◌, ◌∙◌, sym, subst, refl, ℕ, List, Option, Some, None, inl, inr}
+use Rattle.std.proofs.Common.{◌≡◌, ◌∙◌, sym, ap, subst, refl, ℕ, List, Option, Some, None, inl, inr}
+use Rattle.std.proofs.Math.Path.{fun_ext}
+use Rattle.import_core.specs.declared.import_spec.ImportSpec.{ImportSpec}
 use Rattle.conf_tree.specs.Position.{IsPlace}
 use Rattle.conf_tree.specs.Read as tree
 use Rattle.conf_tree.specs.Read.{IsConfigText, IsRefusedText}
@@ -15,6 +17,7 @@ use Rattle.conf_check.specs.Refused as check
 use Rattle.conf_check.specs.Refused.{refusal_of}
 use Rattle.session.specs.Built.{IsAcceptedText, IsConfig, IsSessionFault, IsNotBuilt, configured_in, refused_in}
 use Rattle.session.specs.Configured.{Configured}
+use Rattle.session.specs.Filtered.{Filter}
 use Rattle.session.specs.Seen.{Agrees, IsTold, configured_of}
 use Rattle.session.specs.declared.session.Session.{Session}
 use Rattle.session.specs.declared.read.SessionFault.{SessionFault}
@@ -53,10 +56,18 @@ accepted : (text : List ℕ) (all : List Statement) → IsConfigText text (state
 unfolding refused_in
 accepted text all is none = record { statements = all; tree = is; are = refl; accepted = none }
 
+-- two that agree are one
+same : (a b : Configured) → Agrees a b → a ≡ b
+same a b agrees =
+    ap (λ (n : List ℕ). record a { name = n }) agrees.name
+    ∙ ap (λ (s : ImportSpec). record b { spec = s; filter = a.filter }) agrees.spec
+    ∙ ap (λ (f : Filter). record b { filter = f }) (fun_ext (λ net. fun_ext (λ route. agrees.filter net route)))
+
 pub config_built : (text : List ℕ) (all : List Statement) (config : Session) → IsConfigText text (statements_tree all) → refusal_of (at_start text) (configuration_of all) ≡ None
     → ((c : Configured) × (configured_in text (configuration_of all) ≡ Some c) × Agrees (configured_of config) c)
-    → (c : Configured) × IsConfig text c × Agrees (configured_of config) c
-config_built text all config is none built = (built.0, (configuration_of all, accepted text all is none, built.1), built.2)
+    → IsConfig text (configured_of config)
+config_built text all config is none built =
+    (configuration_of all, accepted text all is none, built.1 ∙ ap (λ (c : Configured). Some c) (sym (same (configured_of config) built.0 built.2)))
 
 pub none_built : (text : List ℕ) (all : List Statement) → IsConfigText text (statements_tree all) → refusal_of (at_start text) (configuration_of all) ≡ None
     → configured_in text (configuration_of all) ≡ None → IsNotBuilt text

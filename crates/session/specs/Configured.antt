@@ -1,6 +1,6 @@
 -- What is configured: one session of BGP. From: BIRD User's Guide, BGP, `local`, `neighbor`,
 -- `default bgp_med` and `default bgp_local_pref`.
-use Rattle.std.specs.Prelude.{ℕ, not, ◌==◌, List, Some}
+use Rattle.std.specs.Prelude.{ℕ, not, ◌==◌, List, [], None, Some}
 use Rattle.attrs.specs.declared.attributes.Kind.TheVariants.{Bgp}
 use Rattle.bits_ip.specs.declared.address.Addr.{Addr}
 use Rattle.import_core.specs.Session.{bgp_preference, first_source}
@@ -17,6 +17,8 @@ spec_with local remote neighbor med local_preference = record {
   sender = Some neighbor;
   ebgp = not (local == remote);
   pref = bgp_preference;
+  limit = None;
+  fixed = [];
 }
 
 -- The protocol's name, what holds for all its routes, and what the filter of its imports says.

@@ -139,7 +139,7 @@ fn first_protocol(protocols: Vec<ProtocolDef>) -> Option<ProtocolDef>
     protocols.into_iter().next()
 }
 
-fn spec_of(def: &BgpDef) -> ImportSpec
+fn spec_of(alloc: Global, def: &BgpDef) -> ImportSpec
     ensures { result ≡ spec_of def.now }
 {
     ImportSpec {
@@ -152,6 +152,8 @@ fn spec_of(def: &BgpDef) -> ImportSpec
         sender: Some(def.neighbor),
         ebgp: def.local != def.remote,
         pref: BGP_PREFERENCE,
+        limit: None,
+        fixed: Seq::new(alloc),
     }
 }
 
@@ -190,7 +192,7 @@ pub(crate) fn built(
     Ok(Some(Session {
         names: names(alloc, name.as_slice())?,
         name,
-        spec: spec_of(&def),
+        spec: spec_of(alloc, &def),
         import: def.channel.import,
         scope: declared.scope,
         filters,

@@ -2,7 +2,7 @@
 //! (`specs/Built`), and the change that an announcement in it is for the table (`specs/Filtered`).
 //!
 //! `read_session` reads a text: the session, or where it is refused and why, or that nothing is
-//! built of it. The program doesn't use it yet.
+//! built of it.
 #![tactic(auto)]
 
 mod built;

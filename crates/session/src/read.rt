@@ -1,7 +1,6 @@
 ghost use Rattle.std.specs.Prelude.{◌≡◌, ◌<◌, ◌-◌, ◌^◌, length, IfOk, IfErr};
 ghost use Rattle.session.specs.Built.{IsConfig, IsSessionFault};
-ghost use Rattle.session.specs.Configured.{Configured};
-ghost use Rattle.session.specs.Seen.{Agrees, IsTold, configured_of};
+ghost use Rattle.session.specs.Seen.{IsTold, configured_of};
 
 use crate::built::built;
 use crate::session::Session;
@@ -47,8 +46,7 @@ fn refused(text: &[u8], fault: ConfFault) -> SessionFault
 /// something is built of it or nothing is.
 pub fn read_session(alloc: Global, text: &[u8]) -> Result<Session, SessionFault>
     requires { length text.now < 2 ^ 32 - 1 }
-    ensures built { IfOk result (λ session. (c : Configured) × IsConfig text.now c
-        × Agrees (configured_of session) c) }
+    ensures built { IfOk result (λ session. IsConfig text.now (configured_of session)) }
     ensures fault { IfErr result (IsSessionFault text.now) }
 {
     let tree = match read_config(alloc, text) {

@@ -1,5 +1,6 @@
 use Rattle.std.proofs.lemmas.Result.{err_from_is_err_and}
-use Rattle.birdcore_top.specs.Config.{IsConfig}
+use Rattle.session.specs.Built.{IsConfig}
+use Rattle.session.specs.Seen.{configured_of}
 use Rattle.birdcore_top.proofs.Judged.{judged, conf_stops}
 use Rattle.birdcore_top.proofs.top.read_conf.Goals as goal
 
@@ -11,5 +12,5 @@ returns-in_err-config-clause-stopped g c =
 
 pub returns-clause-config : goal.returns-clause-config
 returns-clause-config g c =
-    judged (g.F.Shelf.held c.args.shelf.now c.args.name.now) c.in_ok-bytes.bytes.items (λ text. IsConfig text c.in_ok-config.config) c.in_ok-bytes.ensures.whole
+    judged (g.F.Shelf.held c.args.shelf.now c.args.name.now) c.in_ok-bytes.bytes.items (λ text. IsConfig text (configured_of c.in_ok-config.config)) c.in_ok-bytes.ensures.whole
     (rw c.deref.ensures.value at c.in_ok-config.ensures.built)
