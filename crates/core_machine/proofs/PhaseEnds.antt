@@ -183,7 +183,7 @@ module _ (g : Rules) (ok : IsRules g) where
   told_show : (past : Joined) (base : ℕ → List Op) (lines : List Line) (q : Ask) (s t : State) → Steps g (Show q) s t → IsState g ok s → IsTold past base lines s → IsTold past base (Show q ∷ lines) t
   told_show past base lines q s t p is k =
       let h = s.history q.table in
-      let r : Reply = record { actor = q.actor; table = q.table; at = length h; text = g.shown q.query (content_of h) } in
+      let r : Reply = record { actor = q.actor; table = q.table; at = length h; query = q.query } in
       let question : Question = record { ask = q; lines = lines } in
       let before = k.grown q.table in
       let low : length (past.history q.table) ≤ length h = omega (arith, ap length before.1, length-append before.0 (past.history q.table)) in
@@ -194,7 +194,7 @@ module _ (g : Rules) (ok : IsRules g) where
           | true ↦ (
             record {
               table = refl;
-              text = ap (λ f. g.shown q.query (content_of f)) (sym (front_all h));
+              query = refl;
               within = le_refl (length h);
               later = latest_le g (λ t. length (past.history t)) base s.history (λ i. turns_of i lines) a q.table (questions a lines) (replies_to a s.replies) low (k.answers a);
               seen = λ i on. subst (λ n. needed g i (base i) a (length (asked a i lines)) (turns_of i lines) ≤ n)

@@ -92,7 +92,7 @@ module _ (g : Rules) (heads : ℕ → ℕ) (base : ℕ → List Op) (h new_h : �
       let e : front r.at (new_h q.ask.table) ≡ front r.at (h q.ask.table) = ap (front r.at) more_of.1 ∙ front_on r.at more_of.0 (h q.ask.table) s.0.within in (
         record {
           table = s.0.table;
-          text = s.0.text ∙ ap (λ f. g.shown q.ask.query (content_of f)) (sym e);
+          query = s.0.query;
           within = omega (arith, ap length more_of.1, length-append more_of.0 (h q.ask.table), s.0.within);
           later = s.0.later;
           seen = λ i on. subst (λ f. needed g i (base i) a (length (asked a i q.lines)) (new i) ≤ length (own i f)) (sym e)

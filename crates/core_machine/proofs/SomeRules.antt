@@ -1,6 +1,6 @@
 -- What the functions owe can be met: by one protocol whose first operation brings its channel up, and whose second one
 -- imports a route.
-use Rattle.std.proofs.Common.{◌≡◌, ◌≢◌, ℕ, zero, suc, ◌≤◌, inl, inr, true, List, [], ◌∷◌, Some, None, refl, sym, ◌∙◌, subst, arith}
+use Rattle.std.proofs.Common.{◌≡◌, ◌≢◌, ℕ, zero, suc, ◌≤◌, inl, inr, true, false, List, [], ◌∷◌, Some, None, refl, sym, ◌∙◌, subst, arith}
 use Rattle.std.specs.Prelude.{◌==◌}
 use Rattle.std.proofs.lemmas.Bool.Decides.{eqb_tells}
 use Rattle.bits_ip.specs.declared.address.Addr.TheVariants.{V4}
@@ -34,10 +34,10 @@ abbrev change : Change
 change = record { net = net; num = 0; new = Some (route 0 100) }
 
 abbrev gives : ℕ → List Op → Op → Effect
-gives zero [] op = record { changes = []; signal = Rise }
-gives zero (x ∷ []) op = record { changes = change ∷ []; signal = Stay }
-gives zero (x ∷ y ∷ earlier) op = record { changes = []; signal = Stay }
-gives (suc i) earlier op = record { changes = []; signal = Stay }
+gives zero [] op = record { changes = []; signal = Rise; over = false }
+gives zero (x ∷ []) op = record { changes = change ∷ []; signal = Stay; over = false }
+gives zero (x ∷ y ∷ earlier) op = record { changes = []; signal = Stay; over = false }
+gives (suc i) earlier op = record { changes = []; signal = Stay; over = false }
 
 abbrev some : Rules
 some = record {
@@ -47,7 +47,6 @@ some = record {
   gives = gives;
   mode = λ i ops. modes.Idle;
   accepted = λ i ops. 0;
-  shown = λ query content. [];
   table = λ i. 0;
   cells = 1;
 }

@@ -52,10 +52,9 @@ rules_with preferred cells = record {
   protocols = 2;
   value = λ i k r. if r.src.num == i then None else Some r.attrs;
   choose = λ routes. if preferred == 0 then or_else (routes 0) (routes 1) else or_else (routes 1) (routes 0);
-  gives = λ i ops op. record { changes = []; signal = Stay };
+  gives = λ i ops op. record { changes = []; signal = Stay; over = false };
   mode = λ i ops. modes.Up;
   accepted = λ i ops. 0;
-  shown = λ query content. [];
   table = λ i. 0;
   cells = cells;
 }

@@ -27,9 +27,9 @@ pub data Line : Type 0 where
   Push : Count → Line
   Show : Ask → Line
 
--- what an actor was shown of a table, and at which of its positions
+-- what an actor asked of a table, and at which of its positions it was answered
 pub record Reply : Type 0 where
   pub actor : ℕ
   pub table : ℕ
   pub at : ℕ
-  pub text : List ℕ
+  pub query : List ℕ

@@ -7,7 +7,6 @@ use Rattle.std.specs.Prelude.{◌≡◌, ◌==◌, ℕ, ◌-◌, List, [], ◌�
 use Rattle.import_core.specs.declared.operation.Op.{Op}
 use Rattle.attrs.specs.declared.route.Change.{Change}
 use Rattle.core_machine.specs.Channels.{Channel, Obeys, if_open, push_one, take_one, times}
-use Rattle.core_machine.specs.Histories.{content_of}
 use Rattle.core_machine.specs.Lines.{Act, Line, Apply, Take, Push, Show, Reply}
 use Rattle.core_machine.specs.Room.{in_room}
 use Rattle.core_machine.specs.Rules.{Rules}
@@ -60,7 +59,7 @@ Steps rules (Show q) s t =
         actor = q.actor;
         table = q.table;
         at = length (s.history q.table);
-        text = rules.shown q.query (content_of (s.history q.table));
+        query = q.query;
       } ∷ s.replies;
     }
 

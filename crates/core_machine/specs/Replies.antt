@@ -1,12 +1,12 @@
 -- What actors may be shown of tables. A reply tells a table as it stood at one position: not before
 -- what the actor was shown of it earlier, and not before what the actor itself has done there.
 -- Lists are read backwards. Modelled: which positions may be shown. Not modelled: the texts, which
--- are `shown` of the rules. From: BIRD User's Guide, "Remote control" (`show route`); the positions
+-- are functions of the table's content at that position. From: BIRD User's Guide, "Remote control" (`show route`); the positions
 -- are the project's own.
 use Rattle.std.specs.Prelude.{◌≡◌, ◌==◌, ◌&&◌, ℕ, ◌≤◌, nat_lt, not, Bool, true, false, List, [], ◌∷◌, ◌++◌, length, if◌then◌else◌, ⊤}
 use Rattle.import_core.specs.declared.operation.Op.{Op}
 use Rattle.attrs.specs.declared.route.Change.{Change}
-use Rattle.core_machine.specs.Histories.{content_of, front, own}
+use Rattle.core_machine.specs.Histories.{front, own}
 use Rattle.core_machine.specs.Lines.{Ask, Line, Apply, Take, Push, Show, Reply}
 use Rattle.core_machine.specs.Merges.{Turn, asked, ops_of, picked}
 use Rattle.core_machine.specs.Rules.{Rules, changes}
@@ -61,7 +61,7 @@ pub record IsReply
     (rules : Rules) (base : ℕ → List Op) (history : ℕ → List Change) (turns : ℕ → List Turn)
     (actor : ℕ) (q : Question) (before : ℕ) (r : Reply) : Type 0 where
   pub table : r.table ≡ q.ask.table
-  pub text : r.text ≡ rules.shown q.ask.query (content_of (front r.at (history q.ask.table)))
+  pub query : r.query ≡ q.ask.query
   pub within : r.at ≤ length (history q.ask.table)
   pub later : before ≤ r.at
   pub seen :

@@ -1,9 +1,8 @@
 -- What a configuration says, as far as the machine and the legality of a report want it: functions
 -- of a protocol's number, and what they owe. Modelled: what imports give operation by operation,
--- the best route of a net, the values that a channel sends, the text of a reply. Not modelled here:
--- how a configuration says it. What a protocol has come to is a function of its operations, so
--- nothing else of it is kept. Lists of operations and of changes are read backwards, the newest
--- first. From: BIRD User's Guide, "Remote control", "Protocol options" and "BGP"; RFC 4271,
+-- the best route of a net, the values that a channel sends. Not modelled here: how a configuration
+-- says it. What a protocol has come to is a function of its operations, so nothing else of it is
+-- kept. Lists of operations and of changes are read backwards, the newest first. From: BIRD User's Guide, "Remote control", "Protocol options" and "BGP"; RFC 4271,
 -- section 9.
 use Rattle.std.specs.Prelude.{◌≡◌, ◌≤◌, ◌==◌, ℕ, Bool, true, false, List, [], ◌∷◌, ◌++◌, length, Option, None, if◌then◌else◌, ⊤}
 use Rattle.bits_ip.specs.Prefix.{Net}
@@ -33,6 +32,8 @@ pub data Signal : Type 0 where
 pub record Effect : Type 0 where
   pub changes : List Change
   pub signal : Signal
+  -- whether a route was over the limit of the protocol's imports in it
+  pub over : Bool
 
 pub record Rules : Type 0 where
   -- how many protocols there are; their numbers are those below it
@@ -47,8 +48,6 @@ pub record Rules : Type 0 where
   -- a protocol's mode after its operations, and how many routes it has accepted
   pub mode : ℕ → List Op → Mode
   pub accepted : ℕ → List Op → ℕ
-  -- the text of a reply to a query over a content
-  pub shown : List ℕ → Content → List ℕ
   -- the table that a protocol imports to, and that its channel reads
   pub table : ℕ → ℕ
   -- how many changes the journal of a table holds for those who are still to read them
