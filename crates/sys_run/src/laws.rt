@@ -1,0 +1,1 @@
+//! What follows of what a core has played.

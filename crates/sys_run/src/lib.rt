@@ -1,0 +1,22 @@
+//! Plays scripts over tables, protocols and channels, on one thread.
+//!
+//! A `Core` is made of the parts of tables and protocols (`parts`) and plays one phase of a script
+//! after another (`play`): its lines in their order, and then a sync, in which each channel that is
+//! up takes to the head of its table and sends all. Each phase comes to a report.
+//!
+//! Contracts say it by the machine of `core_machine`: what a core has played are the machine's
+//! phases, and its reports are what is reported of these (`specs/Playing`). Inside, `tables` and
+//! `channels` are the machine's histories and channels, one for each number.
+#![tactic(auto)]
+
+mod channel;
+mod core;
+mod imports;
+pub mod laws;
+mod parts;
+mod phase;
+mod routes;
+mod table;
+
+pub use core::Core;
+pub use parts::{ExportParts, ProtocolParts, TableParts};

@@ -1,0 +1,137 @@
+//! All tables and channels.
+ghost use Rattle.std.specs.Prelude.{◌≡◌, ◌<◌, ℕ, [], ◌∷◌, length, List, OnOk, reverse};
+ghost use Rattle.attrs.specs.declared.route.Change.{Change};
+ghost use Rattle.core_machine.specs.Channels as machine;
+ghost use Rattle.core_machine.specs.Channels.{Obeys, if_open, is_open, push_one, take_one, times};
+ghost use Rattle.core_machine.specs.Machine.{State, appended, synced};
+ghost use Rattle.core_machine.specs.Machine as machine_steps;
+ghost use Rattle.core_machine.specs.Rules.{Fits};
+ghost use Rattle.core_setup.specs.Protocols.{rules_of, signal_of};
+ghost use Rattle.core_setup.specs.Setup.{Setup};
+ghost use Rattle.sys_run.specs.Routes.{AreRoutes, Holds, with_channel, with_change, with_room};
+
+use crate::channel::Channel;
+use crate::table::Table;
+use attrs::{Change, Judge};
+use bits_ip::OutOfMemory;
+use import_core::Mark;
+
+/// All tables, and the channels of all protocols, by their numbers.
+#[derive(Debug, Drop)]
+pub(crate) struct Routes<J: Judge> {
+    /// How many changes the journal of each table holds for those that are still to read them.
+    pub(crate) cells: u64,
+    pub(crate) tables: Vec<Table>,
+    pub(crate) channels: Vec<Channel<J>>,
+}
+
+impl<J: Judge> Routes<J> {
+    /// Lets each channel that lags by the whole journal of a table take one change of it.
+    fn make_room(&mut self, table: usize) -> Result<(), OutOfMemory>
+        requires holds { Holds J.verdict self.old }
+        requires there { table < length self.old.tables.items }
+        ensures { OnOk result ((setup : Setup) (s : State)
+            → AreRoutes J.verdict setup s self.old
+            → AreRoutes J.verdict setup (with_room setup table s) self.new) }
+    {
+        for number in 0..self.channels.len() {
+            if self.channels[number].table == table {
+                self.channels[number].make_room(&self.tables[table], self.cells)?;
+            }
+        }
+        Ok(())
+    }
+
+    /// Changes a table, in which room is made first.
+    fn append(&mut self, table: usize, change: Change) -> Result<(), OutOfMemory>
+        requires holds { Holds J.verdict self.old }
+        requires there { table < length self.old.tables.items }
+        requires source { change.num < length self.old.channels.items }
+        ensures { OnOk result ((setup : Setup) (s : State)
+            → AreRoutes J.verdict setup s self.old
+            → AreRoutes J.verdict setup (with_change table change (with_room setup table s))
+            self.new) }
+    {
+        self.make_room(table)?;
+        self.tables[table].append(change)
+    }
+
+    /// Changes a table by one change after another.
+    pub(crate) fn append_all(
+        &mut self,
+        table: usize,
+        changes: Vec<Change>,
+    ) -> Result<(), OutOfMemory>
+        requires holds { Holds J.verdict self.old }
+        requires there { table < length self.old.tables.items }
+        requires sources { All (λ (c : Change). c.num < length self.old.channels.items) changes.items }
+        ensures { OnOk result ((setup : Setup) (s : State)
+            → AreRoutes J.verdict setup s self.old
+            → AreRoutes J.verdict setup
+            (appended (rules_of setup) table (reverse changes.items) s) self.new) }
+    {
+        for change in changes {
+            self.append(table, change)?;
+        }
+        Ok(())
+    }
+
+    /// Has a channel take so many changes, or all that there are.
+    pub(crate) fn take(&mut self, channel: usize, count: u32) -> Result<(), OutOfMemory>
+        requires holds { Holds J.verdict self.old }
+        requires there { channel < length self.old.channels.items }
+        ensures { OnOk result ((setup : Setup) (s : State)
+            → AreRoutes J.verdict setup s self.old
+            → AreRoutes J.verdict setup
+            (machine_steps.with_channel channel
+            (times count (take_one (s.history ((rules_of setup).table channel)))) s) self.new) }
+    {
+        let table = self.channels[channel].table;
+        self.channels[channel].take_many(&self.tables[table], u64::from(count))
+    }
+
+    /// Has a channel push so many marked nets, or all that there are.
+    pub(crate) fn push(&mut self, channel: usize, count: u32) -> Result<(), OutOfMemory>
+        requires holds { Holds J.verdict self.old }
+        requires there { channel < length self.old.channels.items }
+        ensures { OnOk result ((setup : Setup) (s : State)
+            → AreRoutes J.verdict setup s self.old
+            → AreRoutes J.verdict setup
+            (machine_steps.with_channel channel
+            (times count (push_one (rules_of setup) channel
+            (s.history ((rules_of setup).table channel)))) s) self.new) }
+    {
+        self.channels[channel].push_many(u64::from(count))
+    }
+
+    /// Does what an operation of a protocol means for its channel.
+    pub(crate) fn obey(&mut self, channel: usize, mark: Mark) -> Result<(), OutOfMemory>
+        requires holds { (setup : Setup) × (s : State) × AreRoutes J.verdict setup s self.old
+            × Fits (signal_of mark) (is_open (s.channels channel)) }
+        requires there { channel < length self.old.channels.items }
+        ensures { OnOk result ((setup : Setup) (s : State)
+            → AreRoutes J.verdict setup s self.old
+            → Fits (signal_of mark) (is_open (s.channels channel))
+            → (new : machine.Channel)
+            × Obeys (signal_of mark) (rules_of setup)
+            (s.history ((rules_of setup).table channel)) (s.channels channel) new
+            × AreRoutes J.verdict setup (with_channel channel new s) self.new) }
+    {
+        let table = self.channels[channel].table;
+        self.channels[channel].obey(&self.tables[table], mark)
+    }
+
+    /// Each channel that is up takes to the head of its table and pushes until nothing is marked.
+    pub(crate) fn sync(&mut self) -> Result<(), OutOfMemory>
+        requires { Holds J.verdict self.old }
+        ensures { OnOk result ((setup : Setup) (s : State)
+            → AreRoutes J.verdict setup s self.old
+            → AreRoutes J.verdict setup (synced (rules_of setup) s) self.new) }
+    {
+        for number in 0..self.channels.len() {
+            let table = self.channels[number].table;
+            self.channels[number].settle(&self.tables[table])?;
+        }
+        Ok(())
+    }
+}
