@@ -6,6 +6,7 @@ ghost use Rattle.script_lines.specs.Kinds.{protocol_of, session_of, is_of_family
 ghost use Rattle.script_lines.specs.Kinds.{AreFew};
 ghost use Rattle.script_lines.specs.Inside.{session_place, protocol_place};
 
+use attrs::Seq;
 use bits_ip::{Addr, Family, OutOfMemory};
 use std::alloc::Global;
 use std::marker::Model;
@@ -60,10 +61,10 @@ pub struct NamedProtocol {
 #[derive(Debug, Drop)]
 pub struct Named {
     /// The protocols in their order.
-    pub protocols: Vec<NamedProtocol>,
+    pub protocols: Seq<NamedProtocol>,
     /// The names of the channels in their order: of a bgp protocol its own name, of a pipe P
     /// `P.export` and `P.import`.
-    pub channels: Vec<Name>,
+    pub channels: Seq<Name>,
 }
 
 /// The number of the channel of this name.
@@ -71,7 +72,7 @@ pub fn channel_of(named: &Named, name: &[u8]) -> Option<u32>
     requires { AreFew named.now }
     ensures { result ≡ channel_of named.now name.now }
 {
-    let place = place_of(&named.channels, name)?;
+    let place = place_of(named.channels.as_slice(), name)?;
     u32::try_from(place).ok()
 }
 
@@ -80,7 +81,7 @@ pub fn protocol_of(named: &Named, name: &[u8]) -> Option<u32>
     requires { AreFew named.now }
     ensures { result ≡ protocol_of named.now name.now }
 {
-    let place = protocol_place(&named.protocols, name)?;
+    let place = protocol_place(named.protocols.as_slice(), name)?;
     u32::try_from(place).ok()
 }
 
@@ -89,7 +90,7 @@ pub fn session_of(named: &Named, name: &[u8]) -> Option<u32>
     requires { AreFew named.now }
     ensures { result ≡ session_of named.now name.now }
 {
-    let place = session_place(&named.protocols, name)?;
+    let place = session_place(named.protocols.as_slice(), name)?;
     u32::try_from(place).ok()
 }
 
@@ -97,8 +98,8 @@ pub fn session_of(named: &Named, name: &[u8]) -> Option<u32>
 pub fn is_of_family(named: &Named, name: &[u8], family: Family) -> bool
     ensures { result ≡ is_of_family named.now name.now family }
 {
-    named.protocols.iter().any(|protocol| is_called(protocol, name)
-        && is_bgp_of(family, protocol.kind))
+    let protocols = named.protocols.as_slice();
+    protocols.iter().any(|protocol| is_called(protocol, name) && is_bgp_of(family, protocol.kind))
 }
 
 /// The place of a name in a list, from 0.
