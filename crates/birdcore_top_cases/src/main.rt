@@ -17,6 +17,24 @@ fn are_answered(rt: &HostRuntime, name: &str) -> io::Result<bool> {
     tally.finish(rt)
 }
 
+fn are_refused(rt: &HostRuntime, name: &str) -> io::Result<bool> {
+    let mut tally = Tally::new(name);
+    for case in read(rt, name)?.iter() {
+        let answer = plays::refusal(rt, case.input.as_slice())?;
+        tally.note(rt, case, answer.as_str())?;
+    }
+    tally.finish(rt)
+}
+
+fn are_understood(rt: &HostRuntime, name: &str) -> io::Result<bool> {
+    let mut tally = Tally::new(name);
+    for case in read(rt, name)?.iter() {
+        let answer = plays::words(rt, case.input.as_slice())?;
+        tally.note(rt, case, answer.as_str())?;
+    }
+    tally.finish(rt)
+}
+
 fn are_reported(rt: &HostRuntime, name: &str) -> io::Result<bool> {
     let mut tally = Tally::new(name);
     for case in read(rt, name)?.iter() {
@@ -29,7 +47,7 @@ fn are_reported(rt: &HostRuntime, name: &str) -> io::Result<bool> {
 fn are_played(rt: &HostRuntime, name: &str) -> io::Result<bool> {
     let mut tally = Tally::new(name);
     for case in read(rt, name)?.iter() {
-        let answer = plays::example(rt, case.expected.as_str(), case.input.as_slice())?;
+        let answer = plays::play(rt, case.expected.as_str(), case.input.as_slice())?;
         tally.note(rt, case, answer.as_str())?;
     }
     tally.finish(rt)
@@ -37,11 +55,16 @@ fn are_played(rt: &HostRuntime, name: &str) -> io::Result<bool> {
 
 fn main(rt: HostRuntime) -> io::Result<ExitCode> {
     let answered = are_answered(&rt, "answers.txt")?;
+    let refused = are_refused(&rt, "refused.txt")?;
+    let understood = are_understood(&rt, "words.txt")?;
     let reported = are_reported(&rt, "reports.txt")?;
-    let played = are_played(&rt, "examples.txt")?;
-    Ok(if answered && reported && played {
-        ExitCode::SUCCESS
-    } else {
-        ExitCode::FAILURE
-    })
+    let played = are_played(&rt, "plays.txt")?;
+    let shown = are_played(&rt, "examples.txt")?;
+    Ok(
+        if answered && refused && understood && reported && played && shown {
+            ExitCode::SUCCESS
+        } else {
+            ExitCode::FAILURE
+        },
+    )
 }
