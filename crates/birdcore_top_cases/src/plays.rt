@@ -102,7 +102,12 @@ pub fn refusal(rt: &HostRuntime, input: &[u8]) -> io::Result<String> {
     let (conf, script) = text_of(input)?.split_once(" @@ ").ok_or(bad_line())?;
     let mut files = Vec::new(rt.alloc());
     put_file(rt.alloc(), "conf", fs::read(rt, conf)?, &mut files)?;
-    put_file(rt.alloc(), "script", script.as_bytes().to_vec(rt.alloc())?, &mut files)?;
+    put_file(
+        rt.alloc(),
+        "script",
+        script.as_bytes().to_vec(rt.alloc())?,
+        &mut files,
+    )?;
     let (status, text) = done(rt, files, "play conf script")?;
     status_of(rt, status, text.as_slice())
 }
