@@ -15,16 +15,17 @@ d  Memory: 400,000 adds of different nets over one neighbour, over eight that ex
    greatest memory of PROGRAM must stay under 8 GiB.
 
 Both programs run three times (once in d), of which the shortest counts, and once more under /usr/bin/time for the
-greatest memory. Both must write the same bytes. A `us/line` is of all lines of the script. It wants rustc.
+greatest memory. Seconds are those of a processor, so other processes disturb less; `us/line` is of all lines of the
+script. Both programs must write the same bytes. It wants rustc.
 """
 
 import filecmp
 import pathlib
 import random
+import resource
 import subprocess
 import sys
 import tempfile
-import time
 
 from runs import greatest_memory
 
@@ -132,12 +133,17 @@ LOADS = {
 }
 
 
+def processor_seconds():
+    used = resource.getrusage(resource.RUSAGE_CHILDREN)
+    return used.ru_utime + used.ru_stime
+
+
 def run(command, output):
     """The seconds of one run."""
     with open(output, "wb") as out:
-        begun = time.perf_counter()
+        begun = processor_seconds()
         subprocess.run(command, stdout=out, check=True)
-        return time.perf_counter() - begun
+        return processor_seconds() - begun
 
 
 def measure(name, program, folder, runs, labels, lines):
