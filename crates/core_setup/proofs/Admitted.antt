@@ -1,6 +1,6 @@
 -- What holds of all routes of a protocol: of the configured ones, of those that operations announce, and of what a filter
 -- leaves of either. It holds of the routes that are received and accepted, and so of those of changes.
-use Rattle.std.proofs.Common.{◌≡◌, ℕ, inl, inr, Bool, true, false, cond, not, List, [], ◌∷◌, ◌++◌, Option, Some, None, refl, sym, ◌∙◌, ap, subst, reverse, Ordering, Less, Equal, Greater}
+use Rattle.std.proofs.Common.{◌≡◌, ℕ, inl, inr, Bool, true, false, cond, not, List, [], ◌∷◌, ◌++◌, Option, Some, None, refl, sym, ap, subst, reverse, Ordering, Less, Equal, Greater}
 use Rattle.std.specs.Prelude.{◌||◌, IfSome, ⊤, filter, fold, if◌then◌else◌}
 use Rattle.std.specs.BTreeMap.{is_at}
 use Rattle.std.specs.List.{AllByRecursion, flat_map}
@@ -24,13 +24,12 @@ use Rattle.import_core.specs.declared.import_spec.ImportSpec.{ImportSpec}
 use Rattle.import_core.specs.declared.import_spec.Limit.{Limit}
 use Rattle.import_core.specs.declared.mode.Mode.{Mode}
 use Rattle.import_core.specs.declared.mode.Mode.TheVariants as mode
-use Rattle.import_core.specs.declared.operation.Given.{Given}
 use Rattle.import_core.specs.declared.operation.Op.{Op}
 use Rattle.import_core.specs.declared.operation.Op.TheVariants.{Start, SessionUp, Add, Del, SessionDown, Disable, Enable, ReloadIn, ReloadOut, Reload}
 use Rattle.import_core.specs.Decisions.{Filter, Outcome, accepting, at_limit, beyond, decided, decided_next, is_over, left_by, left_of, left_received, only, rebuilt, taken}
 use Rattle.import_core.specs.Import.{imported_route}
 use Rattle.import_core.specs.Imports.{Imports, Routes, is_up, route_at, with_route, without}
-use Rattle.import_core.specs.Operations.{also_refreshed, configured, done, done_in, enabled, fixed_route, opened, refreshed, started, up_with}
+use Rattle.import_core.specs.Operations.{also_refreshed, configured, done_in, enabled, fixed_route, opened, refreshed, started, up_with}
 use Rattle.import_core.proofs.Routes.{at_tells}
 use Rattle.core_setup.specs.Announced.{IsFrom, IsOfFamily, fixed_at}
 use Rattle.core_setup.specs.Differences.{difference_at, nets_of, same_route, with_net, with_nets}

@@ -19,7 +19,7 @@ use Rattle.import_core.specs.Decisions.{Filter, Outcome, accepting, at_limit, be
 use Rattle.import_core.specs.Import.{imported_route}
 use Rattle.import_core.specs.Imports.{Imports, Routes, is_up, with_route}
 use Rattle.import_core.specs.Operations.{also_refreshed, configured, done, done_in, enabled, opened, refreshed, started, up_with}
-use Rattle.core_machine.specs.Rules.{Fits, Fall, Renew, Rise, Signal, Stay, signalled}
+use Rattle.core_machine.specs.Rules.{Fits, signalled}
 use Rattle.core_setup.specs.Protocols.{effect_after, imports_after, signal_of}
 use Rattle.core_setup.specs.Setup.{Protocol}
 
