@@ -1,7 +1,7 @@
 -- The best of the routes that sources have: the fold over their numbers comes to it.
-use Rattle.std.proofs.Common.{◌≡◌, ◌≢◌, ℕ, zero, suc, ◌<◌, ◌≤◌, ◌⊎◌, inl, inr, Bool, true, false, cond, not, List, [], ◌∷◌, Option, Some, None, refl, sym, ◌∙◌, ap, subst, arith, length}
-use Rattle.std.specs.Prelude.{◌==◌, Contains, if◌then◌else◌}
-use Rattle.std.proofs.lemmas.Bool.{cases_Bool, cond-false, ne_eqb}
+use Rattle.std.proofs.Common.{◌≡◌, ◌≢◌, ℕ, zero, suc, ◌<◌, ◌≤◌, ◌⊎◌, inl, inr, Bool, true, false, cond, not, List, [], ◌∷◌, Option, Some, None, refl, sym, ◌∙◌, ap, subst, arith}
+use Rattle.std.specs.Prelude.{Contains, if◌then◌else◌}
+use Rattle.std.proofs.lemmas.Bool.{cond-false, ne_eqb}
 use Rattle.std.proofs.lemmas.Bool.Decides.{eqb_tells, nat_tests}
 use Rattle.attrs.specs.declared.route.Route.{Route}
 use Rattle.attrs.specs.Selection.{IsBest, before}
@@ -75,29 +75,38 @@ module _ (routes : ℕ → Option Route) (named : (num : ℕ) (r : Route) → ro
 
   still_best : (k : ℕ) (r : Route) → routes k ≡ None → IsBelow k (Some r) → IsBelow (suc k) (Some r)
   still_best k r e best =
-      let lt = best.0 in
-      (omega (arith, lt), best.1, λ num x lt other found. elim (eqb_tells num k) [
-        | inl w ↦ none_some (sym e ∙ sym (ap routes w.1) ∙ found)
-        | inr w ↦ best.2 num x (below_next num k lt w.1) other found
-      ])
+      let lt = best.0 in (
+        omega (arith, lt),
+        best.1,
+        λ num x lt other found. elim (eqb_tells num k) [
+          | inl w ↦ none_some (sym e ∙ sym (ap routes w.1) ∙ found)
+          | inr w ↦ best.2 num x (below_next num k lt w.1) other found
+        ],
+      )
 
   new_best : (k : ℕ) (r q : Route) → routes k ≡ Some q → before q r ≡ true → IsBelow k (Some r) → IsBelow (suc k) (Some q)
   new_best k r q e ahead best =
-      let mine = its_own k q e in
-      (mine.0, mine.1, λ num x lt other found. elim (eqb_tells num r.src.num) [
-        | inl w ↦ subst (λ (y : Route). before q y ≡ true) (some_same (sym best.1 ∙ sym (ap routes w.1) ∙ found)) ahead
-        | inr w ↦ before_chain q r x ahead (best.2 num x (below_next num k lt (λ v. other (v ∙ sym (named k q e)))) w.1 found)
-      ])
+      let mine = its_own k q e in (
+        mine.0,
+        mine.1,
+        λ num x lt other found. elim (eqb_tells num r.src.num) [
+          | inl w ↦ subst (λ (y : Route). before q y ≡ true) (some_same (sym best.1 ∙ sym (ap routes w.1) ∙ found)) ahead
+          | inr w ↦ before_chain q r x ahead (best.2 num x (below_next num k lt (λ v. other (v ∙ sym (named k q e)))) w.1 found)
+        ],
+      )
 
   old_best : (k : ℕ) (r q : Route) → routes k ≡ Some q → before q r ≡ false → IsBelow k (Some r) → IsBelow (suc k) (Some r)
   old_best k r q e behind best =
       let lt = best.0 in
       let n = named k q e in
-      let apart : r.src.num ≢ q.src.num = λ w. absurd (let bad : 1 ≤ 0 = omega (arith, lt, n, w) in omega (arith, bad)) in
-      (omega (arith, lt), best.1, λ num x lt other found. elim (eqb_tells num k) [
-        | inl w ↦ subst (λ (y : Route). before r y ≡ true) (some_same (sym e ∙ sym (ap routes w.1) ∙ found)) (before_one r q apart ∙ ap not behind)
-        | inr w ↦ best.2 num x (below_next num k lt w.1) other found
-      ])
+      let apart : r.src.num ≢ q.src.num = λ w. absurd (let bad : 1 ≤ 0 = omega (arith, lt, n, w) in omega (arith, bad)) in (
+        omega (arith, lt),
+        best.1,
+        λ num x lt other found. elim (eqb_tells num k) [
+          | inl w ↦ subst (λ (y : Route). before r y ≡ true) (some_same (sym e ∙ sym (ap routes w.1) ∙ found)) (before_one r q apart ∙ ap not behind)
+          | inr w ↦ best.2 num x (below_next num k lt w.1) other found
+        ],
+      )
 
   chosen : (k : ℕ) (b o : Option Route) → routes k ≡ o → IsBelow k b → IsBelow (suc k) (preferred b o)
   chosen k None None e is = still_none k e is

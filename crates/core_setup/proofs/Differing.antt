@@ -1,5 +1,5 @@
 -- The differences of two states of routes are the changes between them.
-use Rattle.std.proofs.Common.{◌≡◌, ◌≢◌, ℕ, inl, inr, Bool, true, false, cond, List, [], ◌∷◌, ◌++◌, Option, Some, None, refl, sym, ◌∙◌, ap, subst, Ordering, Less, Equal, Greater}
+use Rattle.std.proofs.Common.{◌≡◌, ◌≢◌, ℕ, inl, inr, Bool, true, false, cond, List, [], ◌∷◌, ◌++◌, Some, None, refl, sym, ◌∙◌, ap, Ordering, Less, Equal, Greater}
 use Rattle.std.specs.Prelude.{◌||◌, if◌then◌else◌}
 use Rattle.std.specs.List.{AllByRecursion, flat_map}
 use Rattle.std.specs.Map.{keys_of}
@@ -7,7 +7,6 @@ use Rattle.std.specs.Ordering.{is_eq, is_lt}
 use Rattle.std.proofs.lemmas.Bool.{cases_Bool, false≢true}
 use Rattle.bits_ip.specs.Prefix.{Net, net_cmp, precedes, same_net}
 use Rattle.attrs.specs.declared.route.Change.{Change}
-use Rattle.attrs.specs.declared.route.Route.{Route}
 use Rattle.attrs.proofs.Same.{route_option_decides}
 use Rattle.import_core.specs.Changes.{IsDifference, new_at}
 use Rattle.import_core.specs.Imports.{Routes, route_at}

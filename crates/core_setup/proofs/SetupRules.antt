@@ -1,13 +1,8 @@
 -- Tables and protocols say rules as the machine asks for them.
 use Rattle.std.proofs.Common.{◌≡◌, ℕ, zero, suc, ◌+◌, ◌≤◌, List, [], ◌∷◌, ◌++◌, Option, Some, None, refl, sym, ◌∙◌, ap, subst, arith, length}
 use Rattle.std.specs.Prelude.{slice_get}
-use Rattle.bits_ip.specs.Prefix.{Net}
 use Rattle.bits_ip.specs.declared.address.Family.{Family}
-use Rattle.attrs.specs.declared.route.Route.{Route}
-use Rattle.attrs.specs.History.{Content}
-use Rattle.attrs.specs.Selection.{IsBest}
 use Rattle.import_core.specs.declared.operation.Op.{Op}
-use Rattle.export_core.specs.Histories.{AreRoutesOf}
 use Rattle.core_machine.specs.Histories.{AreOf, AreReal}
 use Rattle.core_machine.specs.Rules.{Fits, IsRules, changes, is_up, signalled}
 use Rattle.core_setup.specs.Protocols.{effect_after, effect_at, protocol_at, rules_of}

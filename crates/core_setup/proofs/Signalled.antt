@@ -19,7 +19,7 @@ use Rattle.import_core.specs.Decisions.{Filter, Outcome, accepting, at_limit, be
 use Rattle.import_core.specs.Import.{imported_route}
 use Rattle.import_core.specs.Imports.{Imports, Routes, is_up, with_route}
 use Rattle.import_core.specs.Operations.{also_refreshed, configured, done, done_in, enabled, opened, refreshed, started, up_with}
-use Rattle.core_machine.specs.Rules.{Fits, Fall, Renew, Rise, Signal, Stay, signalled}
+use Rattle.core_machine.specs.Rules.{Fits, signalled}
 use Rattle.core_setup.specs.Protocols.{effect_after, imports_after, signal_of}
 use Rattle.core_setup.specs.Setup.{Protocol}
 
@@ -88,7 +88,8 @@ module _ (spec : ImportSpec) (verdict : Filter) (static : spec.kind ≡ Static) 
     by true = quiet_mark mark.Refresh
     by false = h
 
-  quiet_done : (op : Op) (m : Mode) (i : Imports) → (done_in spec verdict op m i).mark ≡ mark.Stay
+  -- no operation says anything to its channel
+  pub quiet_done : (op : Op) (m : Mode) (i : Imports) → (done_in spec verdict op m i).mark ≡ mark.Stay
   quiet_done Start mode.Idle i = quiet_start spec.kind i
   quiet_done (SessionUp id) mode.Idle i = quiet_open spec.kind id i static
   quiet_done (Add net given) mode.Up i =
@@ -217,7 +218,8 @@ module _ (p : Protocol) where
       → Moves (done p.spec p.filter op (imports_after p earlier)).mark (is_up (imports_after p earlier).mode) (is_up (imports_after p (op ∷ earlier)).mode)
   moves_after bgp earlier op = done_moves p.spec p.filter bgp op (imports_after p earlier).mode (imports_after p earlier) refl
 
-  up_is_up : p.spec.kind ≡ Bgp → (ops : List Op) → up_of ops ≡ is_up (imports_after p ops).mode
+  -- the channel is up where the imports are
+  pub up_is_up : p.spec.kind ≡ Bgp → (ops : List Op) → up_of ops ≡ is_up (imports_after p ops).mode
   up_is_up bgp [] = refl
   up_is_up bgp (op ∷ earlier) =
       let i = imports_after p earlier in
