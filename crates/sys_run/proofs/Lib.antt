@@ -1,3 +1,6 @@
 pub mod Journals
 pub mod Chunks
 pub mod Runs
+pub mod Steps
+pub mod Loops
+pub mod Stretches

@@ -134,7 +134,8 @@ impl<J: Judge> Channel<J> {
             → IsChannel J.verdict rules i (Some family) history self.new
             (if_open (times count (take_one history)) ch)) }
     {
-        for _ in 0..self.left(table.head(), count) {
+        let left = self.left(table.head(), count);
+        for _ in 0..left {
             self.take(table)?;
         }
         Ok(())
@@ -153,9 +154,7 @@ impl<J: Judge> Channel<J> {
             return Ok(());
         }
         match self.exporter.as_mut() {
-            Some(exporter) => {
-                push_out(exporter, count)?;
-            }
+            Some(exporter) => push_some(exporter, count)?,
             None => {}
         }
         Ok(())
@@ -174,9 +173,10 @@ impl<J: Judge> Channel<J> {
             return Ok(());
         }
         match self.exporter.as_mut() {
-            Some(exporter) => push_to_end(exporter),
-            None => Ok(()),
+            Some(exporter) => push_to_end(exporter)?,
+            None => {}
         }
+        Ok(())
     }
 
     /// Does what an operation of the protocol means for its channel. OutOfMemory also answers an
@@ -191,12 +191,10 @@ impl<J: Judge> Channel<J> {
             × IsChannel J.verdict rules i (Some family) history self.new new) }
     {
         match self.exporter.as_mut() {
-            Some(exporter) => {
-                self.cursor = follow(exporter, table, mark, self.cursor)?;
-                Ok(())
-            }
-            None => do_without(mark),
+            Some(exporter) => self.cursor = follow(exporter, table, mark, self.cursor)?,
+            None => do_without(mark)?,
         }
+        Ok(())
     }
 
     /// Takes all that there is, and then pushes until nothing is marked.
@@ -209,7 +207,8 @@ impl<J: Judge> Channel<J> {
             (round rules i history ch)) }
     {
         self.take_many(table, table.head())?;
-        self.push_all()
+        self.push_all()?;
+        Ok(())
     }
 }
 
@@ -227,11 +226,13 @@ fn take_next<J: Judge>(
         → IsExporter J.verdict rules i (Some family) history exporter.new (take_one history ch)
         × (Some next ≡ cursor_of (take_one history ch))) }
 {
-    let Some(entry) = table.entry(position) else {
-        return Ok(position);
-    };
-    exporter.take(position + 1, entry)?;
-    Ok(position + 1)
+    match table.entry(position) {
+        Some(entry) => {
+            exporter.take(position + 1, entry)?;
+            Ok(position + 1)
+        }
+        None => Ok(position),
+    }
 }
 
 /// Pushes the first marked net, and tells whether none was marked.
@@ -243,7 +244,7 @@ fn push_next<J: Judge>(exporter: &mut Exporter<J>) -> Result<bool, OutOfMemory>
         → IsExporter J.verdict rules i family history exporter.old ch
         → IsExporter J.verdict rules i family history exporter.new
         (push_one rules i history ch)) }
-    ensures end { IfOk result (λ ended. IsTrue ended → exporter.old.marks.order ≡ []) }
+    ensures end { IfOk result (λ ended. IsTrue ended → exporter.new.marks.order ≡ []) }
 {
     match exporter.push_one(&mut LogOnly) {
         Ok(pushed) => Ok(pushed == Pushed::Nothing),
@@ -270,6 +271,19 @@ fn push_out<J: Judge>(exporter: &mut Exporter<J>, count: u64) -> Result<bool, Ou
     Ok(false)
 }
 
+/// Pushes so many marked nets, or all that there are.
+fn push_some<J: Judge>(exporter: &mut Exporter<J>, count: u64) -> Result<(), OutOfMemory>
+    requires { is_log_open exporter.old.log ≡ true }
+    ensures { OnOk result ((rules : Rules) (i : ℕ) (family : Option Family)
+        (history : List Change) (ch : machine.Channel)
+        → IsExporter J.verdict rules i family history exporter.old ch
+        → IsExporter J.verdict rules i family history exporter.new
+        (times count (push_one rules i history) ch)) }
+{
+    let _ = push_out(exporter, count)?;
+    Ok(())
+}
+
 /// Pushes until no net is marked.
 fn push_to_end<J: Judge>(exporter: &mut Exporter<J>) -> Result<(), OutOfMemory>
     requires { is_log_open exporter.old.log ≡ true }
@@ -279,11 +293,16 @@ fn push_to_end<J: Judge>(exporter: &mut Exporter<J>) -> Result<(), OutOfMemory>
         → IsExporter J.verdict rules i family history exporter.new
         (pushed_out rules i history ch)) }
 {
-    if push_out(exporter, u64::MAX)? {
+    if push_out(exporter, most())? {
         Ok(())
     } else {
         Err(OutOfMemory)
     }
+}
+
+/// More than there ever are.
+fn most() -> u64 {
+    u64::MAX
 }
 
 /// A protocol without a channel has no operation that means anything for it.
@@ -345,7 +364,8 @@ fn rise<J: Judge>(exporter: &mut Exporter<J>, table: &Table) -> Result<(), OutOf
         × IsExporter J.verdict rules i (Some family) history exporter.new new) }
 {
     exporter.up(table.head())?;
-    feed(exporter, table)
+    feed(exporter, table)?;
+    Ok(())
 }
 
 /// Is fed anew.
@@ -359,7 +379,8 @@ fn renew<J: Judge>(exporter: &mut Exporter<J>, table: &Table) -> Result<(), OutO
         × IsExporter J.verdict rules i (Some family) history exporter.new new) }
 {
     exporter.refresh()?;
-    feed(exporter, table)
+    feed(exporter, table)?;
+    Ok(())
 }
 
 /// Feeds the channel, whose feed has begun, with the whole table.
