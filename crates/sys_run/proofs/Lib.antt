@@ -4,3 +4,5 @@ pub mod Runs
 pub mod Steps
 pub mod Loops
 pub mod Stretches
+pub mod Kept
+pub mod Obeying

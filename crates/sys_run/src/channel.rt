@@ -150,9 +150,9 @@ impl<J: Judge> Channel<J> {
             → IsChannel J.verdict rules i (Some family) history self.new
             (if_open (times count (push_one rules i history)) ch)) }
     {
-        if self.cursor.is_none() {
+        let Some(_) = self.cursor else {
             return Ok(());
-        }
+        };
         match self.exporter.as_mut() {
             Some(exporter) => push_some(exporter, count)?,
             None => {}
@@ -169,9 +169,9 @@ impl<J: Judge> Channel<J> {
             → IsChannel J.verdict rules i (Some family) history self.new
             (if_open (pushed_out rules i history) ch)) }
     {
-        if self.cursor.is_none() {
+        let Some(_) = self.cursor else {
             return Ok(());
-        }
+        };
         match self.exporter.as_mut() {
             Some(exporter) => push_to_end(exporter)?,
             None => {}
