@@ -1,4 +1,5 @@
-use Rattle.std.proofs.Common.{◌≡◌, ◌∙◌, rules}
+use Rattle.std.proofs.Common.{◌≡◌, ℕ, subst, sym, rules}
+use Rattle.sys_run.specs.Channels.{left_of}
 use Rattle.sys_run.proofs.Kept.{all_takes, one_take}
 use Rattle.sys_run.proofs.channel.Channel.take_many.Goals as goal
 
@@ -11,4 +12,4 @@ loop-preserved g c = record {
 pub returns : goal.returns
 returns g c =
     let e : c.loop.counter ≡ c.left-left.result = search rules in
-    all_takes g.J.Judge.verdict c.args.table.now c.args.self.now c.loop.self c.loop.counter c.head.result c.args.count c.loop.invariant.far (e ∙ c.left-left.ensures) c.head.ensures
+    all_takes g.J.Judge.verdict c.args.table.now c.args.self.now c.loop.self c.loop.counter c.head.result c.args.count c.loop.invariant.far (subst (λ (n : ℕ). n ≡ left_of c.args.self.now.cursor c.head.result c.args.count) (sym e) c.left-left.ensures) c.head.ensures
