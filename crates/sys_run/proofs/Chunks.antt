@@ -1,8 +1,8 @@
 -- A chunk of a table's rows.
-use Rattle.std.proofs.Common.{◌≡◌, ◌≢◌, ℕ, ◌+◌, ◌<◌, ◌≤◌, inl, inr, Bool, true, false, not, List, [], ◌∷◌, ◌++◌, Option, Some, None, refl, sym, ◌∙◌, ap, subst, arith, length, min}
-use Rattle.std.specs.Prelude.{◌&&◌, IsSome, IsTrue, drop, slice_get, take, if◌then◌else◌}
+use Rattle.std.proofs.Common.{◌≡◌, ◌≤◌, inl, inr, Bool, true, false, not, List, [], ◌∷◌, ◌++◌, Option, Some, None, refl, sym, ◌∙◌, ap, subst, arith, length}
+use Rattle.std.specs.Prelude.{◌&&◌, IsSome, drop, slice_get, take, if◌then◌else◌}
 use Rattle.std.specs.List.{filter}
-use Rattle.std.proofs.lemmas.List.{append_assoc, length-append, length-take, take-append-drop, take_all}
+use Rattle.std.proofs.lemmas.List.{append_assoc, length-take, take-append-drop, take_all}
 use Rattle.bits_ip.specs.Address.{family_of}
 use Rattle.bits_ip.specs.Prefix.{Net, precedes, same_net}
 use Rattle.bits_ip.specs.declared.address.Family.{Family}
@@ -11,14 +11,14 @@ use Rattle.attrs.specs.declared.route.Change.{Change}
 use Rattle.attrs.specs.declared.route.Route.{Route}
 use Rattle.attrs.specs.declared.route.Row.{Row}
 use Rattle.attrs.specs.Select.{rows_from}
-use Rattle.attrs.specs.Table.{AreRows, IsBelow, route_in, route_of, routes_of}
-use Rattle.attrs.proofs.Nets.{precedes_chain, precedes_other}
+use Rattle.attrs.specs.Table.{AreRows, IsBelow, route_of, routes_of}
+use Rattle.attrs.proofs.Nets.{precedes_chain}
 use Rattle.attrs.proofs.Rows.{first_found}
 use Rattle.attrs.proofs.Shown.{routes_below}
-use Rattle.export_core.proofs.Nets.{net_tells, same_net_flip}
-use Rattle.export_core.specs.Candidates.{IsChunk, best_in, covers, floor_of, is_below, is_from}
+use Rattle.export_core.proofs.Nets.{net_tells}
+use Rattle.export_core.specs.Candidates.{best_in, covers, floor_of, is_below, is_from}
 use Rattle.core_machine.specs.Histories.{content_of}
-use Rattle.core_machine.specs.Rules.{IsRules, Rules, best_of}
+use Rattle.core_machine.specs.Rules.{IsRules, Rules}
 use Rattle.core_machine.proofs.Contents.{if_false, if_true, none_some, some_same}
 use Rattle.core_machine.proofs.ToldRows.{rows_tell}
 use Rattle.sys_run.specs.declared.table.Table.{Table}

@@ -1,5 +1,5 @@
 -- A channel as it is held, and what steps of its exporter do to it.
-use Rattle.std.proofs.Common.{◌≡◌, ℕ, suc, ◌+◌, ◌-◌, ◌≤◌, min, Bool, true, false, List, [], Option, Some, None, refl, sym, ◌∙◌, ap, subst, arith, length, if◌then◌else◌}
+use Rattle.std.proofs.Common.{◌≡◌, ℕ, suc, ◌+◌, ◌-◌, Bool, true, false, List, Option, Some, None, refl, sym, ◌∙◌, ap, subst, arith, length, if◌then◌else◌}
 use Rattle.std.specs.Prelude.{◌==◌, ◌&&◌}
 use Rattle.bits_ip.specs.Prefix.{Net}
 use Rattle.bits_ip.specs.declared.address.Family.{Family}

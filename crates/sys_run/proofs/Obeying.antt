@@ -1,5 +1,5 @@
 -- What a mark means for a channel.
-use Rattle.std.proofs.Common.{◌≡◌, ℕ, Bool, true, false, List, [], Option, Some, None, refl, sym, ◌∙◌, ap, subst, length}
+use Rattle.std.proofs.Common.{◌≡◌, ℕ, Bool, true, false, List, Option, Some, None, refl, sym, ◌∙◌, ap, subst, length}
 use Rattle.bits_ip.specs.Prefix.{Net}
 use Rattle.bits_ip.specs.declared.address.Family.{Family}
 use Rattle.attrs.specs.declared.judge.Verdict.{Verdict}
@@ -11,13 +11,11 @@ use Rattle.import_core.specs.declared.step.Mark.{Mark}
 use Rattle.import_core.specs.declared.step.Mark.TheVariants as mark
 use Rattle.core_machine.specs.Channels.{IsFed, Obeys, closed, is_open, opened, renewed}
 use Rattle.core_machine.specs.Channels as machine
-use Rattle.core_machine.specs.Rules.{Fits, IsRules, Rules, Signal}
+use Rattle.core_machine.specs.Rules.{Fits, IsRules, Rules}
 use Rattle.core_setup.specs.Protocols.{signal_of}
 use Rattle.sys_run.specs.Channels.{Awaits, IsChannel, IsExporter, IsOver, MayExport, cursor_of}
 use Rattle.sys_run.specs.declared.channel.Channel.{Channel}
 use Rattle.sys_run.specs.declared.table.Table.{Table}
-use Rattle.sys_run.specs.Tables.{IsTable}
-use Rattle.sys_run.proofs.Journals.{head_is}
 use Rattle.sys_run.proofs.Steps.{down_is}
 use Rattle.sys_run.proofs.Kept.{exporter_of}
 

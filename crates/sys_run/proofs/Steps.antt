@@ -1,7 +1,6 @@
 -- An exporter and its channel of the machine, step by step.
-use Rattle.std.proofs.Common.{◌≡◌, ℕ, ◌+◌, ◌<◌, ◌≤◌, max, Bool, true, false, List, [], ◌∷◌, Option, Some, None, refl, sym, ◌∙◌, ap, subst, arith, length, reverse, is_some, option_map}
-use Rattle.std.specs.Prelude.{slice_get, if◌then◌else◌}
-use Rattle.bits_ip.specs.Address.{family_of}
+use Rattle.std.proofs.Common.{◌≡◌, ℕ, ◌+◌, ◌≤◌, Bool, true, List, [], ◌∷◌, Option, Some, None, refl, sym, ◌∙◌, ap, subst, arith, length, reverse, is_some, option_map}
+use Rattle.std.specs.Prelude.{slice_get}
 use Rattle.bits_ip.specs.Prefix.{Net}
 use Rattle.bits_ip.specs.declared.address.Family.{Family}
 use Rattle.attrs.specs.declared.journal.JEntry.{JEntry}
@@ -10,21 +9,20 @@ use Rattle.attrs.specs.declared.route.Change.{Change}
 use Rattle.attrs.specs.declared.route.Route.{Route}
 use Rattle.export_core.specs.declared.exporter.Pushed.{Pushed}
 use Rattle.export_core.specs.declared.exporter.Pushed.TheVariants as answers
-use Rattle.export_core.specs.declared.log.LogItem.{LogItem}
 use Rattle.export_core.specs.declared.log.Sending.{Sending}
 use Rattle.export_core.specs.declared.passing.ExportSpec.{ExportSpec}
-use Rattle.export_core.specs.Calls.{Pushes, Takes, begun, ended, refreshed}
+use Rattle.export_core.specs.Calls.{Pushes, Takes, ended}
 use Rattle.export_core.specs.Histories.{change_of}
 use Rattle.export_core.specs.Logs.{highest, stretch}
 use Rattle.export_core.specs.Standing.{is_open as is_log_open}
 use Rattle.export_core.specs.States.{State}
-use Rattle.core_machine.specs.Channels.{Channel, IsFed, closed, is_open, opened, push_one, renewed, take_one, taken}
+use Rattle.core_machine.specs.Channels.{Channel, IsFed, closed, is_open, opened, push_one, take_one, taken}
 use Rattle.core_machine.specs.Histories.{entry}
 use Rattle.core_machine.specs.Marks.{Marked, find, nets_of}
-use Rattle.core_machine.specs.Match.{IsNextEntry, Matches, MatchesFed}
+use Rattle.core_machine.specs.Match.{Matches}
 use Rattle.core_machine.specs.Rules.{Rules}
 use Rattle.core_machine.proofs.Contents.{entry_lt, if_true}
-use Rattle.core_machine.proofs.Fed.{down_matches, refresh_matches, up_matches}
+use Rattle.core_machine.proofs.Fed.{down_matches}
 use Rattle.core_machine.proofs.MarkSteps.{find_here}
 use Rattle.core_machine.proofs.Matching.{push_matches, take_matches}
 use Rattle.core_machine.proofs.PhaseEnds.{take_position}

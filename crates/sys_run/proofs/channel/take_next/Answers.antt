@@ -1,4 +1,4 @@
-use Rattle.std.proofs.Common.{Some, sym, ap, ◌∙◌}
+use Rattle.std.proofs.Common.{sym, ap, ◌∙◌}
 use Rattle.std.specs.Prelude.{option_copied}
 use Rattle.sys_run.proofs.Steps.{end_is, take_is}
 use Rattle.sys_run.proofs.channel.take_next.Goals as goal

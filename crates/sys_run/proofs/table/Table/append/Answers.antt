@@ -1,5 +1,4 @@
 use Rattle.std.proofs.Common.{◌≡◌, [], ◌∷◌, Option, refl, ap, ◌∙◌}
-use Rattle.attrs.specs.declared.route.Change.{Change}
 use Rattle.attrs.specs.declared.route.Route.{Route}
 use Rattle.attrs.specs.History.{after}
 use Rattle.attrs.specs.Table.{route_in}
