@@ -20,7 +20,7 @@ use Rattle.sys_run.specs.declared.table.Table.{Table}
 pub record IsTable (rules : Rules) (family : Family) (history : List Change) (table : Table)
     : Type 0 where
   pub family_is : table.family ≡ family
-  pub family : table.rib.family ≡ family
+  pub rib_family : table.rib.family ≡ family
   pub shows : Shows table.rib.rows (content_of history)
   pub entries : map change_of table.entries.items ≡ reverse history
   pub best :
