@@ -14,12 +14,15 @@ kind_of (IsPipe p) = kinds.Pipe
 abbrev pub named_protocol : Protocol → NamedProtocol
 named_protocol p = record { name = p.name; kind = kind_of p.body }
 
--- the channel of a bgp protocol has its name; a pipe has one each way
+-- a pipe has a channel each way
+abbrev pub pipe_channels : List ℕ → List (List ℕ)
+pipe_channels name = (name ++ codes ".export") ∷ (name ++ codes ".import") ∷ []
+
+-- the channel of a bgp protocol has its name
 abbrev pub channels_of : List ℕ → Body → List (List ℕ)
 channels_of name (IsStatic p) = []
 channels_of name (IsBgp p) = name ∷ []
-channels_of name (IsPipe p) =
-    (name ++ codes ".export") ∷ (name ++ codes ".import") ∷ []
+channels_of name (IsPipe p) = pipe_channels name
 
 abbrev pub all_channels : List Protocol → List (List ℕ)
 all_channels [] = []

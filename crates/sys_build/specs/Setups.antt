@@ -1,8 +1,9 @@
 -- What a configuration gives to play: its tables, and its protocols but for pipes, with what holds
 -- for their routes and what their filters say. From: BIRD User's Guide, "Static", "BGP" and "Channel
 -- options".
-use Rattle.std.specs.Prelude.{ℕ, ◌+◌, Bool, true, false, not, ◌==◌, if◌then◌else◌, List, [], ◌∷◌, map, Option, Some, None, option_map}
+use Rattle.std.specs.Prelude.{◌≡◌, ℕ, ◌+◌, Bool, true, false, not, ◌==◌, if◌then◌else◌, List, [], ◌∷◌, map, Option, Some, None, option_map}
 use Rattle.bits_ip.specs.declared.address.Addr.{Addr}
+use Rattle.bits_ip.specs.declared.address.Family.{Family}
 use Rattle.attrs.specs.declared.attributes.Dest.{Dest}
 use Rattle.attrs.specs.declared.attributes.Dest.TheVariants as dests
 use Rattle.attrs.specs.declared.route.Src.{Src}
@@ -14,12 +15,15 @@ use Rattle.conf_tree.specs.declared.tree.Action.{Action as Written}
 use Rattle.conf_tree.specs.declared.tree.Action.TheVariants as written
 use Rattle.import_core.specs.declared.import_spec.Action.{Action}
 use Rattle.import_core.specs.declared.import_spec.Action.TheVariants as actions
+use Rattle.export_core.specs.declared.passing.ExportSpec.{ExportSpec}
 use Rattle.import_core.specs.declared.import_spec.Fixed.{Fixed}
+use Rattle.import_core.specs.declared.import_spec.ImportSpec.{ImportSpec}
 use Rattle.import_core.specs.declared.import_spec.Limit.{Limit}
 use Rattle.protos.specs.Protocols.{bgp_spec, static_spec}
 use Rattle.core_setup.specs.Setup as setup
 use Rattle.core_setup.specs.Setup.{Exports, Setup}
 use Rattle.system.specs.System.{Bgp, Body, IsBgp, IsPipe, IsStatic, Protocol, Static, System}
+use Rattle.system.specs.Texts.{IsSystem}
 
 -- ---- imports
 
@@ -53,36 +57,50 @@ fixed_of route = record {
 
 -- ---- protocols
 
--- static routes lack neither a MED nor a local preference that anything reads
+-- what counts where a MED or a local preference is missing, no static route asks
+abbrev pub static_imports : ℕ → (preference : ℕ) → Option ImportLimit → List StaticRoute
+    → ImportSpec
+static_imports number preference limit routes =
+    static_spec (record { num = number; def_med = 0; def_lp = 0 }) preference
+    (option_map limit_of limit) (map fixed_of routes)
+
 abbrev pub static_of : ℕ → List ℕ → Static → setup.Protocol
 static_of number name p = record {
   name = name;
   table = p.channel.table;
-  spec = static_spec (record { num = number; def_med = 0; def_lp = 0 }) p.channel.preference
-      (option_map limit_of p.channel.limit) (map fixed_of p.routes);
+  spec = static_imports number p.channel.preference p.channel.limit p.routes;
   filter = p.channel.import;
   exports = None;
 }
 
 -- the neighbour is in another autonomous system
-abbrev pub is_external : Bgp → Bool
-is_external p = not (p.local == p.remote)
+abbrev pub is_external : (local remote : ℕ) → Bool
+is_external local remote = not (local == remote)
+
+abbrev pub bgp_imports : ℕ → (med local_pref : ℕ) → Addr → (external : Bool) → (preference : ℕ)
+    → Option ImportLimit → ImportSpec
+bgp_imports number med local_pref neighbor external preference limit =
+    bgp_spec (record { num = number; def_med = med; def_lp = local_pref }) neighbor external
+    preference (option_map limit_of limit)
+
+abbrev pub gate_of : ℕ → Family → (external interpret : Bool) → ExportSpec
+gate_of number family external interpret = record {
+  family = family;
+  own = number;
+  to_ebgp = external;
+  interpret = interpret;
+}
 
 abbrev pub bgp_of : ℕ → List ℕ → Bgp → setup.Protocol
 bgp_of number name p = record {
   name = name;
   table = p.channel.table;
-  spec = bgp_spec
-      (record { num = number; def_med = p.default_med; def_lp = p.default_local_pref })
-      p.neighbor (is_external p) p.channel.preference (option_map limit_of p.channel.limit);
+  spec = bgp_imports number p.default_med p.default_local_pref p.neighbor
+      (is_external p.local p.remote) p.channel.preference p.channel.limit;
   filter = p.channel.import;
   exports = Some (record {
-    spec = record {
-      family = p.channel.family;
-      own = number;
-      to_ebgp = is_external p;
-      interpret = p.interpret_communities;
-    };
+    spec = gate_of number p.channel.family (is_external p.local p.remote)
+        p.interpret_communities;
     filter = p.channel.export;
   });
 }
@@ -116,3 +134,8 @@ is_pipe (IsPipe p) = true
 abbrev pub has_pipe : List Protocol → Bool
 has_pipe [] = false
 has_pipe (p ∷ more) = if is_pipe p.body then true else has_pipe more
+
+-- an accepted configuration without pipes
+abbrev pub IsPlayable : System → Type 0
+IsPlayable system =
+    (text : List ℕ) × IsSystem text system × (has_pipe system.protocols ≡ false)

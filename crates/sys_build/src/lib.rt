@@ -5,8 +5,11 @@
 //! names. Pipes aren't played yet: `has_pipe` tells whether there is one.
 #![tactic(auto)]
 
-mod build;
-mod named;
+pub mod laws;
+mod names;
+mod protocols;
+mod tables;
+mod whole;
 
-pub use build::{build, has_pipe};
-pub use named::named;
+pub use names::named;
+pub use whole::{build, has_pipe};

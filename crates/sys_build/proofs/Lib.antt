@@ -1,0 +1,4 @@
+pub mod Handed
+pub mod Playable
+pub mod TablesThere
+pub mod Turns

@@ -1,0 +1,82 @@
+-- What is given of the first protocols of a list, and one more.
+use Rattle.std.proofs.Common.{◌≡◌, ◌∙◌, sym, ap, refl, ℕ, suc, ◌+◌, ◌<◌, ◌≤◌, Bool, true, false, List, [], ◌∷◌, ◌++◌, length, map, take, get_or, Some, arith, append_assoc, append-nil}
+use Rattle.std.specs.Prelude.{slice_get, if◌then◌else◌, ◌||◌}
+use Rattle.std.specs.List.{list_any}
+use Rattle.std.proofs.lemmas.List.{length-map, length-take-le, map-append, take_all, take_more}
+use Rattle.std.proofs.lemmas.Option.{get_or_from_slice_get, slice_get_within}
+use Rattle.core_setup.specs.Setup as setup
+use Rattle.system.specs.System.{Body, IsBgp, IsPipe, IsStatic, Protocol}
+use Rattle.sys_build.specs.Names.{all_channels, channels_of}
+use Rattle.sys_build.specs.Setups.{has_pipe, is_pipe, protocols_from, with_protocol}
+
+-- ---- lists
+
+-- one item more, as it is seen
+seen_more : {D S : Type 0} (see : D → S) (defs : List D) (i : ℕ) (d : D) → i < length defs → d ≡ get_or defs i d → map see (take (i + 1) defs) ≡ map see (take i defs) ++ see d ∷ []
+seen_more see defs i d below is =
+    ap (λ (l : List _). map see l) (take_more defs i d below ∙ ap (λ (y : _). take i defs ++ y ∷ []) (sym is))
+    ∙ map-append see (take i defs) (d ∷ [])
+
+pub seen_all : {D S : Type 0} (see : D → S) (defs : List D) (i : ℕ) → length defs ≤ i → map see (take i defs) ≡ map see defs
+seen_all see defs i past = ap (λ (l : List _). map see l) (take_all i defs past)
+
+pub got_next : {S : Type 0} (xs old new : List S) (i : ℕ) (x : S) → old ≡ take i xs → new ≡ old ++ x ∷ [] → slice_get xs i ≡ Some x → new ≡ take (i + 1) xs
+got_next xs old new i x so_far pushed is =
+    pushed ∙ ap (λ (l : List _). l ++ x ∷ []) so_far
+    ∙ sym (take_more xs i x (slice_get_within xs i x is) ∙ ap (λ (y : _). take i xs ++ y ∷ []) (get_or_from_slice_get xs i x x is))
+
+-- ---- protocols
+
+with_append : (n : ℕ) (name : List ℕ) (body : Body) (xs ys : List setup.Protocol) → with_protocol n name body (xs ++ ys) ≡ with_protocol n name body xs ++ ys
+with_append n name (IsStatic p) xs ys = refl
+with_append n name (IsBgp p) xs ys = refl
+with_append n name (IsPipe p) xs ys = refl
+
+protocols_push : (n : ℕ) (ps : List Protocol) (p : Protocol) → protocols_from n (ps ++ p ∷ []) ≡ protocols_from n ps ++ with_protocol (n + length ps) p.name p.body []
+protocols_push n [] p = ap (λ (k : ℕ). with_protocol k p.name p.body []) (omega arith)
+protocols_push n (q ∷ ps) p =
+    ap (λ (l : List setup.Protocol). with_protocol n q.name q.body l) (protocols_push (n + 1) ps p)
+    ∙ with_append n q.name q.body (protocols_from (n + 1) ps) (with_protocol (n + 1 + length ps) p.name p.body [])
+    ∙ ap (λ (k : ℕ). with_protocol n q.name q.body (protocols_from (n + 1) ps) ++ with_protocol k p.name p.body []) (omega arith)
+
+pub protocols_turn : {D : Type 0} (see : D → Protocol) (defs : List D) (i : ℕ) (d : D) (old new : List setup.Protocol) → i < length defs → d ≡ get_or defs i d → old ≡ protocols_from 0 (map see (take i defs))
+    → new ≡ old ++ with_protocol i (see d).name (see d).body [] → new ≡ protocols_from 0 (map see (take (i + 1) defs))
+protocols_turn see defs i d old new below is so_far pushed =
+    pushed ∙ ap (λ (l : List setup.Protocol). l ++ with_protocol i (see d).name (see d).body []) so_far
+    ∙ ap (λ (k : ℕ). protocols_from 0 (map see (take i defs)) ++ with_protocol k (see d).name (see d).body []) (omega (arith, length-map (take i defs) see, length-take-le i defs (omega (arith, below))))
+    ∙ sym (protocols_push 0 (map see (take i defs)) (see d))
+    ∙ ap (λ (l : List Protocol). protocols_from 0 l) (sym (seen_more see defs i d below is))
+
+-- ---- names
+
+pub named_turn : {D S N : Type 0} (see : D → S) (name : S → N) (defs : List D) (i : ℕ) (d : D) (old new : List N) (x : N) → i < length defs → d ≡ get_or defs i d → old ≡ map name (map see (take i defs))
+    → new ≡ old ++ x ∷ [] → x ≡ name (see d) → new ≡ map name (map see (take (i + 1) defs))
+named_turn see name defs i d old new x below is so_far pushed given =
+    pushed ∙ ap (λ (l : List _). l ++ x ∷ []) so_far ∙ ap (λ (y : _). map name (map see (take i defs)) ++ y ∷ []) given
+    ∙ sym (map-append name (map see (take i defs)) (see d ∷ []))
+    ∙ ap (λ (l : List _). map name l) (sym (seen_more see defs i d below is))
+
+channels_push : (ps : List Protocol) (p : Protocol) → all_channels (ps ++ p ∷ []) ≡ all_channels ps ++ channels_of p.name p.body
+channels_push [] p = append-nil (channels_of p.name p.body)
+channels_push (q ∷ ps) p =
+    ap (λ (l : List (List ℕ)). channels_of q.name q.body ++ l) (channels_push ps p)
+    ∙ sym (append_assoc (channels_of q.name q.body) (all_channels ps) (channels_of p.name p.body))
+
+pub channels_turn : {D : Type 0} (see : D → Protocol) (defs : List D) (i : ℕ) (d : D) (old new : List (List ℕ)) → i < length defs → d ≡ get_or defs i d → old ≡ all_channels (map see (take i defs))
+    → new ≡ old ++ channels_of (see d).name (see d).body → new ≡ all_channels (map see (take (i + 1) defs))
+channels_turn see defs i d old new below is so_far pushed =
+    pushed ∙ ap (λ (l : List (List ℕ)). l ++ channels_of (see d).name (see d).body) so_far
+    ∙ sym (channels_push (map see (take i defs)) (see d))
+    ∙ ap (λ (l : List Protocol). all_channels l) (sym (seen_more see defs i d below is))
+
+-- ---- pipes
+
+or_else : (b c : Bool) → b || c ≡ (if b then true else c)
+or_else true c = refl
+or_else false c = refl
+
+pub some_pipe : {D : Type 0} (see : D → Protocol) (defs : List D) → list_any (λ d. is_pipe (see d).body) defs ≡ has_pipe (map see defs)
+some_pipe see [] = refl
+some_pipe see (d ∷ defs) =
+    or_else (is_pipe (see d).body) (list_any (λ (x : _). is_pipe (see x).body) defs)
+    ∙ ap (λ (b : Bool). if is_pipe (see d).body then true else b) (some_pipe see defs)

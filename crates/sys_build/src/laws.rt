@@ -1,0 +1,14 @@
+//! What holds of all that an accepted configuration gives to play.
+ghost use Rattle.std.specs.Prelude.{◌≡◌, ℕ, List, false};
+ghost use Rattle.core_setup.specs.Setup.{IsSetup};
+ghost use Rattle.sys_build.specs.Setups.{has_pipe, setup_of};
+ghost use Rattle.system.specs.System.{System};
+ghost use Rattle.system.specs.Texts.{IsSystem};
+
+/// An accepted configuration without pipes can be played: routes tell the numbers of their
+/// protocols, each table that a protocol names is there, and each channel is of the family of its
+/// table.
+pub fn accepted_configurations_are_setups()
+    ensures { (text : List ℕ) (system : System) → IsSystem text system
+        → has_pipe system.protocols ≡ false → (cells : ℕ) → IsSetup (setup_of system cells) }
+{}
