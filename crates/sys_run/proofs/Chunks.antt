@@ -136,9 +136,9 @@ module _ (from : Option Net) (all rows cut : List Row) (are : AreRows all) (rows
       let split = parts row is.1 in
       let sorted = subst AreRows split (from_rows from all are) in
       subst (λ (n : Net). routes_of k cut ≡ (if is_from from k && precedes k n then routes_of k all else [])) is.2 (on (precedes k row.net) row refl back split sorted) where
-    on : (b : Bool) (row : Row) → precedes k row.net ≡ b → (back : List Row) → rows_from from all ≡ cut ++ row ∷ back → AreRows (cut ++ row ∷ back) → routes_of k cut ≡ (if is_from from k && b then routes_of k all else [])
-    on true row low back split sorted = sym (routes_before k cut row back sorted low) ∙ ap (routes_of k) (sym split) ∙ from_routes from all k ∙ and_true (is_from from k) (routes_of k all)
-    on false row high back split sorted = routes_behind k cut row back sorted high ∙ and_false (is_from from k) (routes_of k all)
+        on : (b : Bool) (row : Row) → precedes k row.net ≡ b → (back : List Row) → rows_from from all ≡ cut ++ row ∷ back → AreRows (cut ++ row ∷ back) → routes_of k cut ≡ (if is_from from k && b then routes_of k all else [])
+        on true row low back split sorted = sym (routes_before k cut row back sorted low) ∙ ap (routes_of k) (sym split) ∙ from_routes from all k ∙ and_true (is_from from k) (routes_of k all)
+        on false row high back split sorted = routes_behind k cut row back sorted high ∙ and_false (is_from from k) (routes_of k all)
 
   cut_forward : (upto : Option Net) → IsCut rows cut upto → (end : Net) → upto ≡ Some end → is_from from end ≡ true
   cut_forward None is end e = absurd (none_some e)
@@ -155,8 +155,8 @@ module _ (rules : Rules) (family : Family) (h : List Change) (t : Table) (ok : I
   pub chunk_is : (from : Option Net) (rows : List Row) (chunk : Chunk) → rows ≡ take 257 (rows_from from t.rib.rows) → IsCut rows chunk.rows chunk.upto → chunk.from ≡ from → chunk.at ≡ length h → IsChunkOf rules family h chunk
   chunk_is from rows chunk rows_are cut from_is at_is =
       let range : (k : Net) → routes_of k chunk.rows ≡ (if covers (floor_of chunk) k then routes_of k t.rib.rows else []) =
-          λ k. cut_routes from t.rib.rows rows chunk.rows is.shows.rows_are rows_are chunk.upto cut k
-          ∙ ap (λ f. if is_from f k && is_below chunk.upto k then routes_of k t.rib.rows else []) (sym from_is) in
+      λ k. cut_routes from t.rib.rows rows chunk.rows is.shows.rows_are rows_are chunk.upto cut k
+      ∙ ap (λ f. if is_from f k && is_below chunk.upto k then routes_of k t.rib.rows else []) (sym from_is) in
       let inside : (k : Net) → covers (floor_of chunk) k ≡ true → routes_of k chunk.rows ≡ routes_of k t.rib.rows = λ k e. range k ∙ if_true (covers (floor_of chunk) k) (routes_of k t.rib.rows) [] e in
       let outside : (k : Net) → covers (floor_of chunk) k ≡ false → routes_of k chunk.rows ≡ [] = λ k e. range k ∙ if_false (covers (floor_of chunk) k) (routes_of k t.rib.rows) [] e in
       record {
@@ -168,6 +168,6 @@ module _ (rules : Rules) (family : Family) (h : List Change) (t : Table) (ok : I
         best = λ k e. ap (λ rs. slice_get rs 0) (inside k e) ∙ rows_tell rules (content_of h) t.rib.rows k ok (λ num le. is.sources k num le) is.shows;
         families = λ k some. by_test k (covers (floor_of chunk) k) refl (inside k) (outside k) some;
       } where
-    by_test : (k : Net) (b : Bool) → covers (floor_of chunk) k ≡ b → (covers (floor_of chunk) k ≡ true → routes_of k chunk.rows ≡ routes_of k t.rib.rows) → (covers (floor_of chunk) k ≡ false → routes_of k chunk.rows ≡ []) → IsSome (best_in k chunk.rows) → family_of k.addr ≡ family
-    by_test k true e inside outside some = best_family k (routes_of k t.rib.rows) refl (subst (λ rs. IsSome (slice_get rs 0)) (inside e) some)
-    by_test k false e inside outside some = absurd (let bad : false ≡ true = subst (λ rs. IsSome (slice_get rs 0)) (outside e) some in cc)
+        by_test : (k : Net) (b : Bool) → covers (floor_of chunk) k ≡ b → (covers (floor_of chunk) k ≡ true → routes_of k chunk.rows ≡ routes_of k t.rib.rows) → (covers (floor_of chunk) k ≡ false → routes_of k chunk.rows ≡ []) → IsSome (best_in k chunk.rows) → family_of k.addr ≡ family
+        by_test k true e inside outside some = best_family k (routes_of k t.rib.rows) refl (subst (λ rs. IsSome (slice_get rs 0)) (inside e) some)
+        by_test k false e inside outside some = absurd (let bad : false ≡ true = subst (λ rs. IsSome (slice_get rs 0)) (outside e) some in cc)

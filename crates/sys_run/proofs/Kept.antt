@@ -1,6 +1,5 @@
 -- A channel as it is held, and what steps of its exporter do to it.
-use Rattle.std.proofs.Common.{◌≡◌, ℕ, suc, ◌+◌, ◌-◌, Bool, true, false, List, Option, Some, None, refl, sym, ◌∙◌, ap, subst, arith, length, if◌then◌else◌}
-use Rattle.std.specs.Prelude.{◌==◌, ◌&&◌}
+use Rattle.std.proofs.Common.{◌≡◌, ℕ, suc, ◌+◌, Bool, true, false, List, Option, Some, None, refl, sym, ◌∙◌, ap, subst, arith, length, if◌then◌else◌}
 use Rattle.bits_ip.specs.Prefix.{Net}
 use Rattle.bits_ip.specs.declared.address.Family.{Family}
 use Rattle.attrs.specs.declared.judge.Verdict.{Verdict}
@@ -10,7 +9,6 @@ use Rattle.export_core.specs.States.{State}
 use Rattle.core_machine.specs.Channels.{if_open, is_open, push_one, take_one, times}
 use Rattle.core_machine.specs.Channels as machine
 use Rattle.core_machine.specs.Machine.{pushed_out, round, taken_up}
-use Rattle.core_machine.specs.Room.{lags, roomed}
 use Rattle.core_machine.specs.Rules.{Rules}
 use Rattle.core_machine.proofs.Contents.{if_false, if_true, none_some}
 use Rattle.sys_run.specs.Channels.{IsChannel, IsExporter, IsSomeChannel, MayExport, Reads, cursor_of, left_of}
@@ -22,12 +20,6 @@ use Rattle.sys_run.proofs.Loops.{TakenSoFar}
 use Rattle.sys_run.proofs.Runs.{pushes_cursor, takes_left, takes_open, takes_up}
 
 -- ---- the machine's channels
-
-shut_of : (ch : machine.Channel) → cursor_of ch ≡ None → is_open ch ≡ false
-shut_of ch e = on (is_open ch) e where
-  on : (b : Bool) → (if b then Some ch.position else None) ≡ None → b ≡ false
-  on true e = absurd (none_some (sym e))
-  on false e = refl
 
 open_of : (ch : machine.Channel) (p : ℕ) → cursor_of ch ≡ Some p → is_open ch ≡ true
 open_of ch p e = on (is_open ch) e where
@@ -61,9 +53,9 @@ left_times : (h : List Change) (cursor : Option ℕ) (head count : ℕ) (ch : ma
 left_times h cursor head count ch at was =
     ap (λ (c : Option ℕ). if_open (times (left_of c head count) (take_one h)) ch) was
     ∙ ap (λ (n : ℕ). if_open (times (left_of (cursor_of ch) n count) (take_one h)) ch) at ∙ on (is_open ch) where
-  on : (b : Bool) → (if b then times (left_of (if b then Some ch.position else None) (length h) count) (take_one h) ch else ch) ≡ (if b then times count (take_one h) ch else ch)
-  on true = takes_left h count ch
-  on false = refl
+      on : (b : Bool) → (if b then times (left_of (if b then Some ch.position else None) (length h) count) (take_one h) ch else ch) ≡ (if b then times count (take_one h) ch else ch)
+      on true = takes_left h count ch
+      on false = refl
 
 pub round_is : (rules : Rules) (i : ℕ) (h : List Change) (n : ℕ) (ch : machine.Channel) → n ≡ length h → if_open (pushed_out rules i h) (if_open (times n (take_one h)) ch) ≡ round rules i h ch
 round_is rules i h n ch at = on (is_open ch) refl where
@@ -74,13 +66,6 @@ round_is rules i h n ch at = on (is_open ch) refl where
   on false e =
       ap (if_open (pushed_out rules i h)) (shut_does (times n (take_one h)) ch e) ∙ shut_does (pushed_out rules i h) ch e
       ∙ sym (shut_does (λ c. pushed_out rules i h (taken_up h c)) ch e)
-
--- a channel that lags is up
-room_taken : (rules : Rules) (h : List Change) (ch : machine.Channel) → lags rules h ch ≡ true → if_open (take_one h) ch ≡ roomed rules h ch
-room_taken rules h ch lag = open_does (take_one h) ch (first (is_open ch) (length h - ch.position == rules.cells) lag) ∙ sym (if_true (lags rules h ch) (take_one h ch) ch lag) where
-  first : (a b : Bool) → (a && b) ≡ true → a ≡ true
-  first true b e = refl
-  first false b e = absurd (let bad : false ≡ true = e in cc)
 
 -- ---- as they are held
 
@@ -117,12 +102,6 @@ module _ {J : Type 0} (verdict : J → Net → Route → Verdict) (rules : Rules
     push_all_kept cursor pushes =
         steps (pushed_out rules i h) (cursor ∙ m.cursor ∙ sym (pushes_cursor rules i h (length ch.marks) ch)) (pushes (exporter_of old ch e before m))
 
-  pub room_kept : (new : Channel J) (ch : machine.Channel) → lags rules h ch ≡ true → IsChannel verdict rules i family h new (if_open (take_one h) ch) → IsChannel verdict rules i family h new (roomed rules h ch)
-  room_kept new ch lag m = subst (IsChannel verdict rules i family h new) (room_taken rules h ch lag) m
-
-  pub no_room_kept : (held : Channel J) (ch : machine.Channel) → lags rules h ch ≡ false → IsChannel verdict rules i family h held ch → IsChannel verdict rules i family h held (roomed rules h ch)
-  no_room_kept held ch lag m = subst (IsChannel verdict rules i family h held) (sym (if_false (lags rules h ch) (take_one h ch) ch lag)) m
-
   pub round_kept : (new : Channel J) (ch : machine.Channel) (n : ℕ) → n ≡ length h → IsChannel verdict rules i family h new (if_open (pushed_out rules i h) (if_open (times n (take_one h)) ch)) → IsChannel verdict rules i family h new (round rules i h ch)
   round_kept new ch n at m = subst (IsChannel verdict rules i family h new) (round_is rules i h n ch at) m
 
@@ -133,32 +112,12 @@ module _ {J : Type 0} (verdict : J → Net → Route → Verdict) (rules : Rules
 -- ---- takes, one after another
 
 module _ {J : Type 0} (verdict : J → Net → Route → Verdict) (table : Table) where
-  none_open : (h : List Change) (ch : machine.Channel) → ch ≡ if_open (times 0 (take_one h)) ch
-  none_open h ch = on (is_open ch) where
-    on : (b : Bool) → ch ≡ (if b then ch else ch)
-    on true = refl
-    on false = refl
-
-  pub no_take : (old : Channel J) → TakenSoFar verdict table old old 0
-  no_take old = record { takes = λ rules i family h ch is m. subst (IsChannel verdict rules i (Some family) h old) (none_open h ch) m }
-
   pub one_take : (old mid new : Channel J) (n : ℕ) → TakenSoFar verdict table old mid n
       → ((rules : Rules) (i : ℕ) (family : Family) (h : List Change) (ch : machine.Channel) → IsTable rules family h table → IsChannel verdict rules i (Some family) h mid ch → IsChannel verdict rules i (Some family) h new (if_open (take_one h) ch))
       → TakenSoFar verdict table old new (n + 1)
   one_take old mid new n far step = record {
     takes = λ rules i family h ch is m. subst (IsChannel verdict rules i (Some family) h new) (take_more h n ch)
         (step rules i family h (if_open (times n (take_one h)) ch) is (far.takes rules i family h ch is m));
-  }
-
-  pub still_reads : (old mid : Channel J) (n : ℕ) → TakenSoFar verdict table old mid n → Reads verdict old table → Reads verdict mid table
-  still_reads old mid n far r = record {
-    rules = r.rules;
-    i = r.i;
-    family = r.family;
-    history = r.history;
-    ch = if_open (times n (take_one r.history)) r.ch;
-    is = r.is;
-    channel = far.takes r.rules r.i r.family r.history r.ch r.is r.channel;
   }
 
   pub all_takes : (old new : Channel J) (n head count : ℕ) → TakenSoFar verdict table old new n → n ≡ left_of old.cursor head count → head ≡ length table.entries.items

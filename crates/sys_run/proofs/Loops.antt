@@ -1,5 +1,5 @@
 -- What loops over a channel keep.
-use Rattle.std.proofs.Common.{◌≡◌, ℕ, suc, ◌+◌, ◌≤◌, max, Bool, true, false, List, [], Option, Some, refl, sym, ◌∙◌, ap, subst, arith, length, if◌then◌else◌}
+use Rattle.std.proofs.Common.{◌≡◌, ℕ, suc, ◌+◌, ◌≤◌, max, Bool, true, false, List, [], Option, Some, sym, ◌∙◌, ap, subst, arith, length, if◌then◌else◌}
 use Rattle.std.specs.Prelude.{IsSome}
 use Rattle.bits_ip.specs.Address.{family_of}
 use Rattle.bits_ip.specs.Prefix.{Net}
@@ -39,9 +39,6 @@ module _ {J : Type 0} (verdict : J → Net → Route → Verdict) where
         → IsExporter verdict rules i family h old ch
         → IsExporter verdict rules i family h new (times n (push_one rules i h) ch)
 
-  pub no_push : (old : State J) → is_log_open old.log ≡ true → PushedSoFar old old 0
-  no_push old up = record { up = up; pushes = λ rules i family h ch m. m }
-
   pub one_push : (old mid new : State J) (n : ℕ) → PushedSoFar old mid n → is_log_open new.log ≡ true
       → ((rules : Rules) (i : ℕ) (family : Option Family) (h : List Change) (ch : machine.Channel) → IsExporter verdict rules i family h mid ch → IsExporter verdict rules i family h new (push_one rules i h ch))
       → PushedSoFar old new (n + 1)
@@ -71,9 +68,6 @@ module _ {J : Type 0} (verdict : J → Net → Route → Verdict) where
         (rules : Rules) (i : ℕ) (family : Family) (h : List Change) (due : Bool) (ch : machine.Channel)
         → IsRules rules → IsTable rules family h table → MatchesFed verdict rules i h due [] old ch
         → (nets : List Net) × MatchesFed verdict rules i h due nets new ch
-
-  pub no_feed : (table : Table) (old : State J) → FedSoFar table old old
-  no_feed table old = record { spec = refl; fed = λ rules i family h due ch ok is m. ([], m) }
 
   pub one_chunk : (table : Table) (old mid new : State J) (chunk : Chunk) → FedSoFar table old mid → mid.feed ≡ From chunk.from → Feeds chunk mid new
       → ((rules : Rules) (family : Family) (h : List Change) → IsRules rules → IsTable rules family h table → IsChunkOf rules family h chunk)

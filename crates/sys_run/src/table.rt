@@ -49,8 +49,8 @@ impl Table {
         self.entries.get(position as usize)
     }
 
-    /// Whether the change is one of this table: of its family, and of a route that tells its source.
-    /// Imports of a protocol over the table give no other.
+    /// Whether the change is one of this table: of its family, and of a route that tells its
+    /// source. Imports of a protocol over the table give no other.
     fn admits(&self, change: &Change) -> bool
         ensures { IsTrue result → Admits self.now.family change.now }
     {
