@@ -2,8 +2,8 @@
 //! attributes, and properties of attributes. Where a form is another one, or an attribute isn't
 //! there, the functions here say nothing, and the walk over the tree answers.
 
-ghost use Rattle.std.specs.Prelude.{◌≡◌, [], ◌∷◌, map, slice_get, Ok, IfSome, IsTrue};
-ghost use Rattle.attrs.specs.Clist.{has_pair};
+ghost use Rattle.std.specs.Prelude.{◌≡◌, [], ◌∷◌, false, map, slice_get, Ok, IfSome, IsTrue};
+ghost use Rattle.attrs.specs.Clist.{has_pair, same_pair};
 ghost use Rattle.filt_meaning.specs.Flow.{Done, and_then, plainly};
 ghost use Rattle.filt_meaning.specs.Meaning.{compare_of, on_two, property_of};
 ghost use Rattle.filt_meaning.specs.Names.{there};
@@ -38,11 +38,218 @@ pub(crate) fn passes<'a>(
         ≡ Done (map val_of frame.now) attrs.now }
 {
     match s {
-        TStmt::If(e, _) => match truth(setting, e, frame, attrs) {
-            Some(holds) => !holds,
-            None => false,
-        },
+        TStmt::If(e, _) => is_refuted(setting, e, frame, attrs),
         _ => false,
+    }
+}
+
+/// Whether a condition is there already, and doesn't hold.
+#[inline(always)]
+fn is_refuted<'a>(
+    setting: &Setting<'a>,
+    e: &TExpr,
+    frame: &[Value<'a>],
+    attrs: &Running<'a>,
+) -> bool
+    ensures { IsTrue result → trees.expr e.now (tables_in setting.now)
+        (map val_of frame.now) attrs.now
+        ≡ Done (VBool false) attrs.now }
+{
+    match e {
+        TExpr::Compare(compare, left, right) => {
+            refutes(setting, *compare, left, right, frame, attrs)
+        }
+        _ => false,
+    }
+}
+
+/// Whether a comparison doesn't hold. What is compared with a literal stands here, and only the
+/// rest behind a call: what is inlined into the loop over statements has to be small.
+#[inline(always)]
+fn refutes<'a>(
+    setting: &Setting<'a>,
+    compare: Compare,
+    left: &TExpr,
+    right: &TExpr,
+    frame: &[Value<'a>],
+    attrs: &Running<'a>,
+) -> bool
+    ensures { IsTrue result → on_two (trees.expr left.now (tables_in setting.now))
+        (trees.expr right.now (tables_in setting.now)) (compare_of compare)
+        (map val_of frame.now) attrs.now
+        ≡ Done (VBool false) attrs.now }
+{
+    match literal(setting, right, frame, attrs) {
+        Some(b) => match held(setting, left, frame, attrs) {
+            Some(a) => differs(compare, a, b),
+            None => refutes_otherwise(setting, compare, left, right, frame, attrs),
+        },
+        None => refutes_community(setting, compare, left, right, frame, attrs),
+    }
+}
+
+/// The same, where the right operand is no literal.
+#[inline(always)]
+fn refutes_community<'a>(
+    setting: &Setting<'a>,
+    compare: Compare,
+    left: &TExpr,
+    right: &TExpr,
+    frame: &[Value<'a>],
+    attrs: &Running<'a>,
+) -> bool
+    ensures { IsTrue result → on_two (trees.expr left.now (tables_in setting.now))
+        (trees.expr right.now (tables_in setting.now)) (compare_of compare)
+        (map val_of frame.now) attrs.now
+        ≡ Done (VBool false) attrs.now }
+{
+    match right {
+        TExpr::Attribute(Attribute::BgpCommunity) => {
+            match literal_pair(setting, left, frame, attrs) {
+                Some(found) => lacks(compare, attrs.list(), found.0, found.1),
+                None => refutes_otherwise(setting, compare, left, right, frame, attrs),
+            }
+        }
+        _ => refutes_otherwise(setting, compare, left, right, frame, attrs),
+    }
+}
+
+/// The same, of all operands that are there already.
+#[inline(never)]
+fn refutes_otherwise<'a>(
+    setting: &Setting<'a>,
+    compare: Compare,
+    left: &TExpr,
+    right: &TExpr,
+    frame: &[Value<'a>],
+    attrs: &Running<'a>,
+) -> bool
+    ensures { IsTrue result → on_two (trees.expr left.now (tables_in setting.now))
+        (trees.expr right.now (tables_in setting.now)) (compare_of compare)
+        (map val_of frame.now) attrs.now
+        ≡ Done (VBool false) attrs.now }
+{
+    match compared(setting, compare, left, right, frame, attrs) {
+        Some(holds) => !holds,
+        None => false,
+    }
+}
+
+/// Whether a comparison of two numbers doesn't hold.
+#[inline(always)]
+fn differs(compare: Compare, a: u32, b: u32) -> bool
+    ensures { IsTrue result → compare_of compare (VInt a) (VInt b) ≡ Ok (VBool false) }
+{
+    match compare {
+        Compare::Equal => !(a == b),
+        Compare::NotEqual => a == b,
+        Compare::Less => !a.cmp(&b).is_lt(),
+        Compare::LessOrEqual => !a.cmp(&b).is_le(),
+        Compare::Greater => !a.cmp(&b).is_gt(),
+        Compare::GreaterOrEqual => !a.cmp(&b).is_ge(),
+        Compare::Matches => false,
+        Compare::MatchesNot => false,
+    }
+}
+
+/// Whether a list lacks a community that is looked for.
+#[inline(always)]
+fn lacks(compare: Compare, list: &Clist, first: u16, second: u16) -> bool
+    ensures { IsTrue result → compare_of compare (VPair (first, second)) (VClist list.now)
+        ≡ Ok (VBool false) }
+{
+    match compare {
+        Compare::Matches => !has_pair(list, first, second),
+        _ => false,
+    }
+}
+
+/// The number that a literal is.
+#[inline(always)]
+fn literal<'a>(
+    setting: &Setting<'a>,
+    e: &TExpr,
+    frame: &[Value<'a>],
+    attrs: &Running<'a>,
+) -> Option<u32>
+    ensures { IfSome result (λ n. trees.expr e.now (tables_in setting.now)
+        (map val_of frame.now) attrs.now
+        ≡ Done (VInt n) attrs.now) }
+{
+    match e {
+        TExpr::Value(known) => {
+            let found = fixed_number(known)?;
+            Some(found)
+        }
+        _ => None,
+    }
+}
+
+/// The number that the route holds: a property of an attribute, or an attribute.
+#[inline(always)]
+fn held<'a>(
+    setting: &Setting<'a>,
+    e: &TExpr,
+    frame: &[Value<'a>],
+    attrs: &Running<'a>,
+) -> Option<u32>
+    ensures { IfSome result (λ n. trees.expr e.now (tables_in setting.now)
+        (map val_of frame.now) attrs.now
+        ≡ Done (VInt n) attrs.now) }
+{
+    match e {
+        TExpr::Access(of, more) => {
+            let property = lone_property(more)?;
+            let found = attribute_number(setting, of, property, frame, attrs)?;
+            Some(found)
+        }
+        _ => {
+            let found = held_alone(setting, e, frame, attrs)?;
+            Some(found)
+        }
+    }
+}
+
+#[inline(always)]
+fn held_alone<'a>(
+    setting: &Setting<'a>,
+    e: &TExpr,
+    frame: &[Value<'a>],
+    attrs: &Running<'a>,
+) -> Option<u32>
+    ensures { IfSome result (λ n. trees.expr e.now (tables_in setting.now)
+        (map val_of frame.now) attrs.now
+        ≡ Done (VInt n) attrs.now) }
+{
+    match e {
+        TExpr::Attribute(a) => {
+            let found = attrs.number(*a)?;
+            Some(found)
+        }
+        _ => None,
+    }
+}
+
+/// The pair of two literals.
+#[inline(always)]
+fn literal_pair<'a>(
+    setting: &Setting<'a>,
+    e: &TExpr,
+    frame: &[Value<'a>],
+    attrs: &Running<'a>,
+) -> Option<(u16, u16)>
+    ensures { IfSome result (λ p. trees.expr e.now (tables_in setting.now)
+        (map val_of frame.now) attrs.now
+        ≡ Done (VPair p) attrs.now) }
+{
+    match e {
+        TExpr::Pair(left, right) => {
+            let a = literal(setting, left, frame, attrs)?;
+            let b = literal(setting, right, frame, attrs)?;
+            let both = joined(a, b)?;
+            Some(both)
+        }
+        _ => None,
     }
 }
 
@@ -67,7 +274,6 @@ pub(crate) fn truth<'a>(
     }
 }
 
-#[inline(always)]
 fn compared<'a>(
     setting: &Setting<'a>,
     compare: Compare,
@@ -296,7 +502,15 @@ fn is_among<'a>(
 fn has_pair(list: &Clist, first: u16, second: u16) -> bool
     ensures { result ≡ has_pair list.now (first, second) }
 {
-    list.as_slice().contains(&(first, second))
+    let pairs = list.as_slice();
+    pairs.iter().any(|pair| is_pair(pair, first, second))
+}
+
+#[inline(always)]
+fn is_pair(pair: &(u16, u16), first: u16, second: u16) -> bool
+    ensures { result ≡ same_pair pair.now (first, second) }
+{
+    pair.0 == first && pair.1 == second
 }
 
 fn in_nets(net: &Prefix, set: &PrefixSet) -> Option<bool>
