@@ -1,0 +1,136 @@
+-- Two lists, item by item: what holds of each two is what holds at each place.
+use Rattle.std.proofs.Common.{◌≡◌, ◌≢◌, ℕ, zero, suc, ◌+◌, ◌<◌, ◌≤◌, ◌⊎◌, inl, inr, List, [], ◌∷◌, ◌++◌, length, set, take, map, Option, Some, None, refl, sym, ap, subst, ◌∙◌, arith, add-zero}
+use Rattle.std.specs.Prelude.{slice_get}
+use Rattle.std.proofs.lemmas.Option.{none-some, same_Some}
+use Rattle.core_setup.specs.Pairs.{Pairs}
+
+-- ---- places of a list
+
+module _ {X : Type 0} where
+  pub get_here : (xs : List X) (j : ℕ) → j < length xs → (x : X) × (slice_get xs j ≡ Some x)
+  get_here [] j w = absurd (omega arith)
+  get_here (x ∷ xs) zero w = (x, refl)
+  get_here (x ∷ xs) (suc j) w = get_here xs j (omega arith)
+
+  pub get_within : (xs : List X) (j : ℕ) (x : X) → slice_get xs j ≡ Some x → j < length xs
+  get_within [] j x e = absurd (none-some x e)
+  get_within (y ∷ xs) zero x e = omega arith
+  get_within (y ∷ xs) (suc j) x e = let h = get_within xs j x e in omega (arith, h)
+
+  pub get_one : (xs : List X) (j : ℕ) (x y : X) → slice_get xs j ≡ Some x → slice_get xs j ≡ Some y → x ≡ y
+  get_one xs j x y a b = same_Some x y (sym a ∙ b)
+
+  pub get-set : (xs : List X) (k : ℕ) (x : X) → k < length xs → slice_get (set xs k x) k ≡ Some x
+  get-set [] k x w = absurd (omega arith)
+  get-set (y ∷ xs) zero x w = refl
+  get-set (y ∷ xs) (suc k) x w = get-set xs k x (omega arith)
+
+  pub get-set_other : (xs : List X) (k j : ℕ) (x : X) → (j ≡ k → ⊥) → slice_get (set xs k x) j ≡ slice_get xs j
+  get-set_other [] k j x n = refl
+  get-set_other (y ∷ xs) zero zero x n = absurd (n refl)
+  get-set_other (y ∷ xs) zero (suc j) x n = refl
+  get-set_other (y ∷ xs) (suc k) zero x n = refl
+  get-set_other (y ∷ xs) (suc k) (suc j) x n = get-set_other xs k j x (λ e. n (ap suc e))
+
+  pub length-set_at : (xs : List X) (k : ℕ) (x : X) → length (set xs k x) ≡ length xs
+  length-set_at [] k x = refl
+  length-set_at (y ∷ xs) zero x = refl
+  length-set_at (y ∷ xs) (suc k) x = ap suc (length-set_at xs k x)
+
+  pub take_one_more : (xs : List X) (k : ℕ) (x : X) → slice_get xs k ≡ Some x → take (k + 1) xs ≡ take k xs ++ x ∷ []
+  take_one_more [] k x e = absurd (none-some x e)
+  take_one_more (y ∷ xs) zero x e = ap (λ z. z ∷ []) (same_Some y x e)
+  take_one_more (y ∷ xs) (suc k) x e =
+      let more : suc k + 1 ≡ suc (k + 1) = omega arith in
+      ap (λ n. take n (y ∷ xs)) more ∙ ap (λ zs. y ∷ zs) (take_one_more xs k x e)
+
+  pub length_front : (xs : List X) (k : ℕ) (x : X) → slice_get xs k ≡ Some x → 0 + length (take k xs) ≡ k
+  length_front [] k x e = absurd (none-some x e)
+  length_front (y ∷ xs) zero x e = refl
+  length_front (y ∷ xs) (suc k) x e = let h = length_front xs k x e in omega (arith, h)
+
+pub cases_same : (j k : ℕ) → (j ≡ k) ⊎ (j ≡ k → ⊥)
+cases_same zero zero = inl refl
+cases_same zero (suc k) = inr (λ e. omega (arith, e))
+cases_same (suc j) zero = inr (λ e. omega (arith, e))
+cases_same (suc j) (suc k) = elim (cases_same j k) [ inl e ↦ inl (ap suc e) | inr n ↦ inr (λ e. n (omega (arith, e))) ]
+
+module _ {X Y : Type 0} where
+  -- ---- both ways
+
+  pub pairs_length : (P : ℕ → X → Y → Type 0) (n : ℕ) (xs : List X) (ys : List Y) → Pairs P n xs ys → length xs ≡ length ys
+  pairs_length P n [] [] ps = refl
+  pairs_length P n [] (y ∷ ys) ps = absurd ps
+  pairs_length P n (x ∷ xs) [] ps = absurd ps
+  pairs_length P n (x ∷ xs) (y ∷ ys) ps = ap suc (pairs_length P (n + 1) xs ys ps.1)
+
+  moved : (P : ℕ → X → Y → Type 0) (n m : ℕ) (x a : X) (y b : Y) → n ≡ m → x ≡ a → y ≡ b → P n x y → P m a b
+  moved P n m x a y b en ea eb p = subst (λ z. P m a z) eb (subst (λ z. P m z y) ea (subst (λ z. P z x y) en p))
+
+  pub pairs_at : (P : ℕ → X → Y → Type 0) (n : ℕ) (xs : List X) (ys : List Y) → Pairs P n xs ys
+      → (j : ℕ) (x : X) (y : Y) → slice_get xs j ≡ Some x → slice_get ys j ≡ Some y → P (n + j) x y
+  pairs_at P n [] ys ps j x y ex ey = absurd (none-some x ex)
+  pairs_at P n (a ∷ xs) [] ps j x y ex ey = absurd ps
+  pairs_at P n (a ∷ xs) (b ∷ ys) ps zero x y ex ey = moved P n (n + zero) a x b y (omega arith) (same_Some a x ex) (same_Some b y ey) ps.0
+  pairs_at P n (a ∷ xs) (b ∷ ys) ps (suc j) x y ex ey = subst (λ m. P m x y) (omega arith) (pairs_at P (n + 1) xs ys ps.1 j x y ex ey)
+
+  pub pairs_from : (P : ℕ → X → Y → Type 0) (n : ℕ) (xs : List X) (ys : List Y) → length xs ≡ length ys
+      → ((j : ℕ) (x : X) (y : Y) → slice_get xs j ≡ Some x → slice_get ys j ≡ Some y → P (n + j) x y) → Pairs P n xs ys
+  pairs_from P n [] [] e f = tt
+  pairs_from P n [] (y ∷ ys) e f = absurd (omega (arith, e))
+  pairs_from P n (x ∷ xs) [] e f = absurd (omega (arith, e))
+  pairs_from P n (x ∷ xs) (y ∷ ys) e f =
+      (subst (λ m. P m x y) (omega arith) (f zero x y refl refl), pairs_from P (n + 1) xs ys (omega (arith, e)) (λ j a b ea eb. subst (λ m. P m a b) (omega arith) (f (suc j) a b ea eb)))
+
+  -- the other of two
+  pub pair_of : (P : ℕ → X → Y → Type 0) (n : ℕ) (xs : List X) (ys : List Y) → Pairs P n xs ys → (j : ℕ) (x : X) → slice_get xs j ≡ Some x
+      → (y : Y) × (slice_get ys j ≡ Some y) × P (n + j) x y
+  pair_of P n xs ys ps j x e =
+      let w = get_within xs j x e in
+      let h = get_here ys j (omega (arith, w, pairs_length P n xs ys ps)) in
+      (h.0, h.1, pairs_at P n xs ys ps j x h.0 e h.1)
+
+  pub pair_with : (P : ℕ → X → Y → Type 0) (n : ℕ) (xs : List X) (ys : List Y) → Pairs P n xs ys → (j : ℕ) (y : Y) → slice_get ys j ≡ Some y
+      → (x : X) × (slice_get xs j ≡ Some x) × P (n + j) x y
+  pair_with P n xs ys ps j y e =
+      let w = get_within ys j y e in
+      let h = get_here xs j (omega (arith, w, pairs_length P n xs ys ps)) in
+      (h.0, h.1, pairs_at P n xs ys ps j h.0 y h.1 e)
+
+  -- ---- weakening, a change at a place, one more
+
+  pub pairs_weaker : (P Q : ℕ → X → Y → Type 0) (n : ℕ) (xs : List X) (ys : List Y)
+      → ((j : ℕ) (x : X) (y : Y) → slice_get xs j ≡ Some x → slice_get ys j ≡ Some y → P (n + j) x y → Q (n + j) x y)
+      → Pairs P n xs ys → Pairs Q n xs ys
+  pairs_weaker P Q n xs ys f ps = pairs_from Q n xs ys (pairs_length P n xs ys ps) (λ j x y ex ey. f j x y ex ey (pairs_at P n xs ys ps j x y ex ey))
+
+  pub pairs_set : (P Q : ℕ → X → Y → Type 0) (n : ℕ) (xs : List X) (ys : List Y) (k : ℕ) (new : Y)
+      → ((j : ℕ) (x : X) (y : Y) → (j ≡ k → ⊥) → slice_get xs j ≡ Some x → slice_get ys j ≡ Some y → P (n + j) x y → Q (n + j) x y)
+      → ((x : X) (y : Y) → slice_get xs k ≡ Some x → slice_get ys k ≡ Some y → P (n + k) x y → Q (n + k) x new)
+      → Pairs P n xs ys → Pairs Q n xs (set ys k new)
+  pairs_set P Q n xs ys k new others here ps =
+      pairs_from Q n xs (set ys k new) (pairs_length P n xs ys ps ∙ sym (length-set_at ys k new)) (λ j x y ex ey. at j x y ex ey (cases_same j k))
+    where
+      at : (j : ℕ) (x : X) (y : Y) → slice_get xs j ≡ Some x → slice_get (set ys k new) j ≡ Some y → ((j ≡ k) ⊎ (j ≡ k → ⊥)) → Q (n + j) x y
+      at j x y ex ey (inl e) =
+          let ex' : slice_get xs k ≡ Some x = ap (slice_get xs) (sym e) ∙ ex in
+          let there = pair_of P n xs ys ps k x ex' in
+          let w = get_within ys k there.0 there.1 in
+          let same : new ≡ y = same_Some new y (sym (get-set ys k new w) ∙ ap (slice_get (set ys k new)) (sym e) ∙ ey) in
+          subst (λ m. Q (n + m) x y) (sym e) (subst (λ z. Q (n + k) x z) same (here x there.0 ex' there.1 there.2))
+      at j x y ex ey (inr apart) =
+          let ey' : slice_get ys j ≡ Some y = sym (get-set_other ys k j new apart) ∙ ey in
+          others j x y apart ex ey' (pairs_at P n xs ys ps j x y ex ey')
+
+  pub pairs_push : (P : ℕ → X → Y → Type 0) (n : ℕ) (xs : List X) (ys : List Y) (x : X) (y : Y) → Pairs P n xs ys → P (n + length xs) x y → Pairs P n (xs ++ x ∷ []) (ys ++ y ∷ [])
+  pairs_push P n [] [] x y ps p = (subst (λ m. P m x y) (omega arith) p, tt)
+  pairs_push P n [] (b ∷ ys) x y ps p = absurd ps
+  pairs_push P n (a ∷ xs) [] x y ps p = absurd ps
+  pairs_push P n (a ∷ xs) (b ∷ ys) x y ps p = (ps.0, pairs_push P (n + 1) xs ys x y ps.1 (subst (λ m. P m x y) (omega arith) p))
+
+  -- the pairs of a loop's list, as far as it has come
+  pub pairs_more : (P : ℕ → X → Y → Type 0) (xs : List X) (ys : List Y) (k : ℕ) (x : X) (y : Y) → slice_get xs k ≡ Some x
+      → Pairs P 0 (take k xs) ys → P k x y → Pairs P 0 (take (k + 1) xs) (ys ++ y ∷ [])
+  pairs_more P xs ys k x y e ps p =
+      subst (λ (front : List X). Pairs P 0 front (ys ++ y ∷ [])) (sym (take_one_more xs k x e))
+      (pairs_push P 0 (take k xs) ys x y ps (subst (λ m. P m x y) (sym (length_front xs k x e)) p))
