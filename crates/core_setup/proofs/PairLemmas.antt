@@ -1,5 +1,5 @@
 -- Two lists, item by item: what holds of each two is what holds at each place.
-use Rattle.std.proofs.Common.{◌≡◌, ◌≢◌, ℕ, zero, suc, ◌+◌, ◌<◌, ◌≤◌, ◌⊎◌, inl, inr, List, [], ◌∷◌, ◌++◌, length, set, take, map, Option, Some, None, refl, sym, ap, subst, ◌∙◌, arith, add-zero}
+use Rattle.std.proofs.Common.{◌≡◌, ℕ, zero, suc, ◌+◌, ◌<◌, ◌⊎◌, inl, inr, List, [], ◌∷◌, ◌++◌, length, set, take, Some, refl, sym, ap, subst, ◌∙◌, arith, zero-add}
 use Rattle.std.specs.Prelude.{slice_get}
 use Rattle.std.proofs.lemmas.Option.{none-some, same_Some}
 use Rattle.core_setup.specs.Pairs.{Pairs}
@@ -127,6 +127,37 @@ module _ {X Y : Type 0} where
   pairs_push P n [] (b ∷ ys) x y ps p = absurd ps
   pairs_push P n (a ∷ xs) [] x y ps p = absurd ps
   pairs_push P n (a ∷ xs) (b ∷ ys) x y ps p = (ps.0, pairs_push P (n + 1) xs ys x y ps.1 (subst (λ m. P m x y) (omega arith) p))
+
+  -- ---- counted from 0
+
+  pub pairs_here : (P : ℕ → X → Y → Type 0) (xs : List X) (ys : List Y) → Pairs P 0 xs ys
+      → (j : ℕ) (x : X) (y : Y) → slice_get xs j ≡ Some x → slice_get ys j ≡ Some y → P j x y
+  pairs_here P xs ys ps j x y ex ey = subst (λ m. P m x y) (zero-add j) (pairs_at P 0 xs ys ps j x y ex ey)
+
+  pub pairs_all : (P : ℕ → X → Y → Type 0) (xs : List X) (ys : List Y) → length xs ≡ length ys
+      → ((j : ℕ) (x : X) (y : Y) → slice_get xs j ≡ Some x → slice_get ys j ≡ Some y → P j x y) → Pairs P 0 xs ys
+  pairs_all P xs ys e f = pairs_from P 0 xs ys e (λ j x y ex ey. subst (λ m. P m x y) (sym (zero-add j)) (f j x y ex ey))
+
+  pub other_here : (P : ℕ → X → Y → Type 0) (xs : List X) (ys : List Y) → Pairs P 0 xs ys → (j : ℕ) (x : X) → slice_get xs j ≡ Some x
+      → (y : Y) × (slice_get ys j ≡ Some y) × P j x y
+  other_here P xs ys ps j x e = let h = pair_of P 0 xs ys ps j x e in (h.0, h.1, subst (λ m. P m x h.0) (zero-add j) h.2)
+
+  pub one_here : (P : ℕ → X → Y → Type 0) (xs : List X) (ys : List Y) → Pairs P 0 xs ys → (j : ℕ) (y : Y) → slice_get ys j ≡ Some y
+      → (x : X) × (slice_get xs j ≡ Some x) × P j x y
+  one_here P xs ys ps j y e = let h = pair_with P 0 xs ys ps j y e in (h.0, h.1, subst (λ m. P m h.0 y) (zero-add j) h.2)
+
+  pub weaker_here : (P Q : ℕ → X → Y → Type 0) (xs : List X) (ys : List Y)
+      → ((j : ℕ) (x : X) (y : Y) → slice_get xs j ≡ Some x → slice_get ys j ≡ Some y → P j x y → Q j x y)
+      → Pairs P 0 xs ys → Pairs Q 0 xs ys
+  weaker_here P Q xs ys f ps = pairs_all Q xs ys (pairs_length P 0 xs ys ps) (λ j x y ex ey. f j x y ex ey (pairs_here P xs ys ps j x y ex ey))
+
+  pub set_here : (P Q : ℕ → X → Y → Type 0) (xs : List X) (ys : List Y) (k : ℕ) (new : Y)
+      → ((j : ℕ) (x : X) (y : Y) → (j ≡ k → ⊥) → slice_get xs j ≡ Some x → slice_get ys j ≡ Some y → P j x y → Q j x y)
+      → ((x : X) (y : Y) → slice_get xs k ≡ Some x → slice_get ys k ≡ Some y → P k x y → Q k x new)
+      → Pairs P 0 xs ys → Pairs Q 0 xs (set ys k new)
+  set_here P Q xs ys k new others here ps = pairs_set P Q 0 xs ys k new
+      (λ j x y apart ex ey p. subst (λ m. Q m x y) (sym (zero-add j)) (others j x y apart ex ey (subst (λ m. P m x y) (zero-add j) p)))
+      (λ x y ex ey p. subst (λ m. Q m x new) (sym (zero-add k)) (here x y ex ey (subst (λ m. P m x y) (zero-add k) p))) ps
 
   -- the pairs of a loop's list, as far as it has come
   pub pairs_more : (P : ℕ → X → Y → Type 0) (xs : List X) (ys : List Y) (k : ℕ) (x : X) (y : Y) → slice_get xs k ≡ Some x
