@@ -15,3 +15,4 @@ mod TextAnswers
 mod ToldAddresses
 mod ToldLines
 mod ToldWords
+mod WhatIs

@@ -50,7 +50,7 @@ use Rattle.script_lines.specs.Grammar.{ReloadIn, ReloadOut, ShowRoute, ShowMore,
 use Rattle.script_lines.specs.Grammar.{Push, Says}
 use Rattle.script_lines.specs.Grammar as grammar
 use Rattle.script_lines.specs.Kinds.{place_of, channel_of, protocol_of, session_of, is_called}
-use Rattle.script_lines.specs.Kinds.{is_bgp, is_of_family, fits, option_fits, path_fits}
+use Rattle.script_lines.specs.Kinds.{is_session_of, is_of_family, fits, option_fits, path_fits}
 use Rattle.script_lines.specs.Kinds.{pair_fits, given_fits, applies, least_kind}
 use Rattle.script_lines.specs.Kinds.{is_actor_too_many}
 use Rattle.script_lines.specs.Script.{is_passed, with_actor, IsRefusedAs}
@@ -59,8 +59,7 @@ abbrev pub protocol_place : List NamedProtocol → List ℕ → Option ℕ
 protocol_place protocols name = position (is_called name) protocols
 
 abbrev pub session_place : List NamedProtocol → List ℕ → Option ℕ
-session_place protocols name =
-    position (λ protocol. is_called name protocol && is_bgp protocol.kind) protocols
+session_place protocols name = position (is_session_of name) protocols
 
 -- the value, where it passes
 abbrev pub kept : {X : Type 0} → (X → Bool) → X → Option X

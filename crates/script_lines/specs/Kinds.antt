@@ -6,7 +6,7 @@
 -- sixteen (RFC 6793, RFC 4271, RFC 1997).
 use Rattle.std.specs.Prelude.{ℕ, ◌<◌, ◌^◌, Bool, true, false, not, ◌&&◌, nat_le, is_some, is_none}
 use Rattle.std.specs.Prelude.{List, [], ◌∷◌, length, Option, None, Some}
-use Rattle.std.specs.List.{list_all, list_any, position, find}
+use Rattle.std.specs.List.{list_all, position, find}
 use Rattle.std.specs.Str.{bytes_eq}
 use Rattle.bits_ip.specs.Address.{family_of}
 use Rattle.bits_ip.specs.declared.address.Family.{Family}
@@ -26,8 +26,8 @@ use Rattle.script_lines.specs.Grammar.{Form, Take, Push, Says}
 
 -- There are few enough protocols and channels for numbers of 32 bits.
 pub record AreFew (named : Named) : Type 0 where
-  pub protocols : length named.protocols.items < 2 ^ 32
-  pub channels : length named.channels.items < 2 ^ 32
+  pub protocols : length named.protocols < 2 ^ 32
+  pub channels : length named.channels < 2 ^ 32
 
 -- the place of a name in a list, from 0, where it is there
 abbrev pub place_of : List (List ℕ) → List ℕ → Option ℕ
@@ -35,23 +35,26 @@ place_of names name = position (λ other. bytes_eq other name) names
 
 -- the number of the channel of this name
 abbrev pub channel_of : Named → List ℕ → Option ℕ
-channel_of named name = place_of named.channels.items name
+channel_of named name = place_of named.channels name
 
 abbrev pub is_called : List ℕ → NamedProtocol → Bool
 is_called name protocol = bytes_eq protocol.name name
 
 -- the number of the protocol of this name
 abbrev pub protocol_of : Named → List ℕ → Option ℕ
-protocol_of named name = position (is_called name) named.protocols.items
+protocol_of named name = position (is_called name) named.protocols
 
 abbrev pub is_bgp : ProtocolKind → Bool
 is_bgp (Bgp family) = true
 is_bgp _ = false
 
+-- the protocol is a bgp one of this name
+abbrev pub is_session_of : List ℕ → NamedProtocol → Bool
+is_session_of name protocol = is_called name protocol && is_bgp protocol.kind
+
 -- the number of the bgp protocol of this name
 abbrev pub session_of : Named → List ℕ → Option ℕ
-session_of named name =
-    position (λ protocol. is_called name protocol && is_bgp protocol.kind) named.protocols.items
+session_of named name = position (is_session_of name) named.protocols
 
 abbrev pub same_family : Family → Family → Bool
 same_family families.V4 families.V4 = true
@@ -62,11 +65,13 @@ abbrev pub is_bgp_of : Family → ProtocolKind → Bool
 is_bgp_of family (Bgp own) = same_family own family
 is_bgp_of family _ = false
 
+abbrev pub is_some_of : Family → Option NamedProtocol → Bool
+is_some_of family None = false
+is_some_of family (Some protocol) = is_bgp_of family protocol.kind
+
 -- the bgp protocol of this name has a channel of this family
 abbrev pub is_of_family : Named → List ℕ → Family → Bool
-is_of_family named name family =
-    list_any (λ protocol. is_called name protocol && is_bgp_of family protocol.kind)
-    named.protocols.items
+is_of_family named name family = is_some_of family (find (is_session_of name) named.protocols)
 
 -- what fits a number of 32 bits
 abbrev pub fits : ℕ → Bool

@@ -4,10 +4,16 @@
 -- From: this program's own format of scripts.
 use Rattle.std.specs.Prelude.{◌≡◌, ℕ, ◌+◌, Bool, true, false, not, is_some, if◌then◌else◌, List}
 use Rattle.std.specs.Prelude.{[], ◌∷◌, ◌++◌, length, map, filter, Option, None, Some, unwrap_or, ⊤}
+use Rattle.std.specs.Prelude.{◌<◌, ◌^◌}
+use Rattle.std.specs.List.{slice_get}
+use Rattle.bits_ip.specs.Address.{family_of}
 use Rattle.text.specs.Lines.{lines_of, words_of, begins_with}
 use Rattle.import_core.specs.declared.operation.Op.{Op}
 use Rattle.import_core.specs.declared.operation.Op.TheVariants as ops
 use Rattle.script_lines.specs.declared.named.Named.{Named}
+use Rattle.script_lines.specs.declared.named.NamedProtocol.{NamedProtocol}
+use Rattle.script_lines.specs.declared.named.ProtocolKind.{ProtocolKind}
+use Rattle.script_lines.specs.declared.named.ProtocolKind.TheVariants.{Bgp}
 use Rattle.script_lines.specs.declared.faults.ScriptKind.{ScriptKind}
 use Rattle.script_lines.specs.declared.faults.ScriptKind.TheVariants.{Syntax}
 use Rattle.script_lines.specs.declared.faults.ScriptFault.{ScriptFault}
@@ -18,6 +24,7 @@ use Rattle.script_lines.specs.Grammar.{Command, Open, Close, Add, Del, Disable, 
 use Rattle.script_lines.specs.Grammar.{ReloadIn, ReloadOut, ShowRoute, ShowMore}
 use Rattle.script_lines.specs.Grammar.{Form, Sync, Take, Push, Says, HasForm}
 use Rattle.script_lines.specs.Kinds.{place_of, channel_of, protocol_of, session_of, least_kind}
+use Rattle.script_lines.specs.Kinds.{is_bgp}
 
 -- the words of each line of a text
 abbrev pub lines_words : List ℕ → List (List (List ℕ))
@@ -130,6 +137,30 @@ pub record IsScript (named : Named) (text : List ℕ) (phases : List (List Line)
   pub built : first_unbuilt forms ≡ None
   pub phases_are : phases ≡ phases_of named [] forms
   pub actors_are : actors ≡ actors_of [] forms
+
+-- An operation of a script suits a protocol of this kind: what a session does, a bgp one alone has,
+-- with nets and gateways of its channel's family, and no script starts a protocol.
+abbrev pub Suits : ProtocolKind → Op → Type 0
+Suits kind ops.Start = ⊥
+Suits kind (ops.SessionUp id) = is_bgp kind ≡ true
+Suits kind (ops.Add net given) =
+    (kind ≡ Bgp (family_of net.addr)) × (kind ≡ Bgp (family_of given.gw))
+Suits kind (ops.Del net) = kind ≡ Bgp (family_of net.addr)
+Suits kind ops.SessionDown = is_bgp kind ≡ true
+Suits kind _ = ⊤
+
+-- The line names what there is: a channel and a protocol that are declared, an actor that has
+-- spoken; and its operation suits the protocol.
+abbrev pub NamesWhatIs : Named → List (List ℕ) → Line → Type 0
+NamesWhatIs named actors (lines.Take channel count) =
+    (channel < length named.channels) × (count < 2 ^ 32)
+NamesWhatIs named actors (lines.Push channel count) =
+    (channel < length named.channels) × (count < 2 ^ 32)
+NamesWhatIs named actors (lines.Apply actor number protocol op) =
+    (actor < length actors) × (protocol < length named.protocols)
+    × (declared : NamedProtocol) × (slice_get named.protocols protocol ≡ Some declared)
+    × Suits declared.kind op
+NamesWhatIs named actors (lines.Show actor) = actor < length actors
 
 -- Nothing is refused, and this line is the first that isn't built.
 pub record IsNotBuilt (named : Named) (text : List ℕ) (number : ℕ) : Type 0 where

@@ -10,7 +10,8 @@
 //! Contracts see a text as the words of its lines. What words say by the grammar is a `Form`, with
 //! numbers of any size (specs/Grammar); each kind of refusal is a test of a form (specs/Kinds); and
 //! a text has one answer, which `read_script` gives (specs/Script). `laws` has that words have one
-//! form at most, and that each text has an answer, and one alone.
+//! form at most, that each text has an answer, and one alone, and that a script names what there
+//! is: no number of a channel, of a protocol or of an actor leads beyond those that are there.
 //!
 //! A line is read to its end before it is judged, so a number that is too large is kept as nothing
 //! and reading goes on: whether the line is of the grammar comes first, then the least kind that

@@ -1,11 +1,12 @@
 //! What a configuration declares, as far as scripts can name it.
-ghost use Rattle.std.specs.Prelude.{◌≡◌, IfOk};
+ghost use Rattle.std.specs.Prelude.{◌≡◌, IfOk, find, option_map};
 ghost use Rattle.bits_ip.specs.Address.{family_of};
 ghost use Rattle.script_lines.specs.Kinds.{place_of, is_called, is_bgp, is_bgp_of, channel_of};
 ghost use Rattle.script_lines.specs.Kinds.{protocol_of, session_of, is_of_family, same_family};
-ghost use Rattle.script_lines.specs.Kinds.{AreFew};
+ghost use Rattle.script_lines.specs.Kinds.{AreFew, is_session_of};
 ghost use Rattle.script_lines.specs.Inside.{session_place, protocol_place};
 
+use attrs::Seq;
 use bits_ip::{Addr, Family, OutOfMemory};
 use std::alloc::Global;
 use std::marker::Model;
@@ -60,10 +61,10 @@ pub struct NamedProtocol {
 #[derive(Debug, Drop)]
 pub struct Named {
     /// The protocols in their order.
-    pub protocols: Vec<NamedProtocol>,
+    pub protocols: Seq<NamedProtocol>,
     /// The names of the channels in their order: of a bgp protocol its own name, of a pipe P
     /// `P.export` and `P.import`.
-    pub channels: Vec<Name>,
+    pub channels: Seq<Name>,
 }
 
 /// The number of the channel of this name.
@@ -71,7 +72,7 @@ pub fn channel_of(named: &Named, name: &[u8]) -> Option<u32>
     requires { AreFew named.now }
     ensures { result ≡ channel_of named.now name.now }
 {
-    let place = place_of(&named.channels, name)?;
+    let place = place_of(named.channels.as_slice(), name)?;
     u32::try_from(place).ok()
 }
 
@@ -80,7 +81,7 @@ pub fn protocol_of(named: &Named, name: &[u8]) -> Option<u32>
     requires { AreFew named.now }
     ensures { result ≡ protocol_of named.now name.now }
 {
-    let place = protocol_place(&named.protocols, name)?;
+    let place = protocol_place(named.protocols.as_slice(), name)?;
     u32::try_from(place).ok()
 }
 
@@ -89,7 +90,7 @@ pub fn session_of(named: &Named, name: &[u8]) -> Option<u32>
     requires { AreFew named.now }
     ensures { result ≡ session_of named.now name.now }
 {
-    let place = session_place(&named.protocols, name)?;
+    let place = session_place(named.protocols.as_slice(), name)?;
     u32::try_from(place).ok()
 }
 
@@ -97,8 +98,20 @@ pub fn session_of(named: &Named, name: &[u8]) -> Option<u32>
 pub fn is_of_family(named: &Named, name: &[u8], family: Family) -> bool
     ensures { result ≡ is_of_family named.now name.now family }
 {
-    named.protocols.iter().any(|protocol| is_called(protocol, name)
-        && is_bgp_of(family, protocol.kind))
+    match session(named.protocols.as_slice(), name) {
+        Some(protocol) => is_bgp_of(family, protocol.kind),
+        None => false,
+    }
+}
+
+/// The bgp protocol of this name.
+fn session<'a>(protocols: &'a [NamedProtocol], name: &[u8]) -> Option<&'a NamedProtocol>
+    ensures { option_map (λ protocol. protocol.now) result
+        ≡ find (is_session_of name.now) protocols.now }
+{
+    protocols
+        .iter()
+        .find(|protocol| is_session_of(protocol, name))
 }
 
 /// The place of a name in a list, from 0.
@@ -119,7 +132,15 @@ fn protocol_place(protocols: &[NamedProtocol], name: &[u8]) -> Option<usize>
 fn session_place(protocols: &[NamedProtocol], name: &[u8]) -> Option<usize>
     ensures { result ≡ session_place protocols.now name.now }
 {
-    protocols.iter().position(|protocol| is_called(protocol, name) && is_bgp(protocol.kind))
+    protocols
+        .iter()
+        .position(|protocol| is_session_of(protocol, name))
+}
+
+fn is_session_of(protocol: &NamedProtocol, name: &[u8]) -> bool
+    ensures { result ≡ is_session_of name.now protocol.now }
+{
+    is_called(protocol, name) && is_bgp(protocol.kind)
 }
 
 fn is_called(protocol: &NamedProtocol, name: &[u8]) -> bool

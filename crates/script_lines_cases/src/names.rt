@@ -1,4 +1,5 @@
 //! What the scripts of the tables can name.
+use attrs::Seq;
 use bits_ip::{Family, OutOfMemory};
 use script_lines::{Name, Named, NamedProtocol, ProtocolKind};
 use std::alloc::Global;
@@ -40,8 +41,8 @@ fn channels(alloc: Global) -> Result<Vec<Name>, OutOfMemory> {
 /// The protocols, from 0: the bgp protocols p1 and p2 of IPv4, v6.up of IPv6, the static one agg,
 /// the pipe a, a pipe with a name of 64 bytes, and the bgp protocol out; and their channels.
 pub fn named(alloc: Global) -> Result<Named, OutOfMemory> {
-    let protocols = protocols(alloc)?;
-    let channels = channels(alloc)?;
+    let protocols = Seq::from_vec(protocols(alloc)?);
+    let channels = Seq::from_vec(channels(alloc)?);
     Ok(Named {
         protocols,
         channels,
