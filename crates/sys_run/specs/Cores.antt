@@ -1,5 +1,5 @@
 -- For the contracts of private functions: a core in the midst of a phase, and the machine's state.
-use Rattle.std.specs.Prelude.{◌≡◌, ◌++◌, ℕ, List, [], length, map, reverse, Some, slice_get}
+use Rattle.std.specs.Prelude.{◌≡◌, ◌≤◌, ◌++◌, ℕ, List, [], length, map, reverse, Some, slice_get}
 use Rattle.std.specs.declared.alloc.Global.{Global}
 use Rattle.std.specs.declared.vec.Vec.{Vec}
 use Rattle.bits_ip.specs.Prefix.{Net}
@@ -31,6 +31,7 @@ use Rattle.sys_run.specs.declared.parts.TableParts.{TableParts}
 pub record IsAnswered (setup : Setup) (s : State) (held : Answered) (reply : Reply) : Type 0 where
   pub table : reply.table ≡ 0
   pub at : held.at ≡ reply.at
+  pub within : reply.at ≤ length (s.history 0)
   pub query : reply.query ≡ []
   pub rows : List Row
   pub shown : Shows rows (content_of (front reply.at (s.history 0)))
@@ -71,3 +72,8 @@ module _ {J : Type 0} (verdict : J → Net → Route → Verdict) where
 
   abbrev pub Holds : Core J → Type 0
   Holds core = (setup : Setup) × (b : State) × (s : State) × IsCore setup b s core
+
+-- how many phases have ended, and for how many actors there are replies, stays
+pub record Keeps {J : Type 0} (old new : Core J) : Type 0 where
+  pub phases : new.phases ≡ old.phases
+  pub replies : length new.replies.items ≡ length old.replies.items
