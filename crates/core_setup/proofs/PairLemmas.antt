@@ -1,5 +1,5 @@
 -- Two lists, item by item: what holds of each two is what holds at each place.
-use Rattle.std.proofs.Common.{◌≡◌, ℕ, zero, suc, ◌+◌, ◌<◌, ◌⊎◌, inl, inr, List, [], ◌∷◌, ◌++◌, length, set, take, Some, refl, sym, ap, subst, ◌∙◌, arith, zero-add}
+use Rattle.std.proofs.Common.{◌≡◌, ℕ, zero, suc, ◌+◌, ◌<◌, ◌⊎◌, inl, inr, List, [], ◌∷◌, ◌++◌, length, set, take, map, Some, refl, sym, ap, subst, ◌∙◌, arith, zero-add}
 use Rattle.std.specs.Prelude.{slice_get}
 use Rattle.std.proofs.lemmas.Option.{none-some, same_Some}
 use Rattle.core_setup.specs.Pairs.{Pairs}
@@ -165,3 +165,27 @@ module _ {X Y : Type 0} where
   pairs_more P xs ys k x y e ps p =
       subst (λ (front : List X). Pairs P 0 front (ys ++ y ∷ [])) (sym (take_one_more xs k x e))
       (pairs_push P 0 (take k xs) ys x y ps (subst (λ m. P m x y) (sym (length_front xs k x e)) p))
+
+  -- ---- lists that end to end are longer, and mapped ones
+
+  pub pairs_append : (P : X → Y → Type 0) (n m k : ℕ) (xs more : List X) (ys bs : List Y) → Pairs (λ _ x y. P x y) n xs ys → Pairs (λ _ x y. P x y) m more bs → Pairs (λ _ x y. P x y) k (xs ++ more) (ys ++ bs)
+  pairs_append P n m k [] more [] bs ps qs = pairs_from (λ _ x y. P x y) k more bs (pairs_length (λ _ x y. P x y) m more bs qs) (λ j x y ex ey. pairs_at (λ _ x y. P x y) m more bs qs j x y ex ey)
+  pairs_append P n m k [] more (y ∷ ys) bs ps qs = absurd ps
+  pairs_append P n m k (x ∷ xs) more [] bs ps qs = absurd ps
+  pairs_append P n m k (x ∷ xs) more (y ∷ ys) bs ps qs = (ps.0, pairs_append P (n + 1) m (k + 1) xs more ys bs ps.1 qs)
+
+  pub pairs_mapped : {A B : Type 0} (P : X → Y → Type 0) (Q : A → B → Type 0) (f : X → B) (g : Y → A) (n m : ℕ) (xs : List X) (ys : List Y)
+      → ((x : X) (y : Y) → P x y → Q (g y) (f x)) → Pairs (λ _ x y. P x y) n xs ys → Pairs (λ _ a b. Q a b) m (map g ys) (map f xs)
+  pairs_mapped P Q f g n m [] [] each ps = tt
+  pairs_mapped P Q f g n m [] (y ∷ ys) each ps = absurd ps
+  pairs_mapped P Q f g n m (x ∷ xs) [] each ps = absurd ps
+  pairs_mapped P Q f g n m (x ∷ xs) (y ∷ ys) each ps = (each x y ps.0, pairs_mapped P Q f g (n + 1) (m + 1) xs ys each ps.1)
+
+-- through a list between the two
+pub pairs_through : {X Y Z : Type 0} (P : ℕ → X → Y → Type 0) (Q : ℕ → Y → Z → Type 0) (R : ℕ → X → Z → Type 0) (xs : List X) (ys : List Y) (zs : List Z)
+    → ((j : ℕ) (x : X) (y : Y) (z : Z) → slice_get xs j ≡ Some x → slice_get ys j ≡ Some y → slice_get zs j ≡ Some z → P j x y → Q j y z → R j x z)
+    → Pairs P 0 xs ys → Pairs Q 0 ys zs → Pairs R 0 xs zs
+pairs_through P Q R xs ys zs each ps qs =
+    pairs_all R xs zs (pairs_length P 0 xs ys ps ∙ pairs_length Q 0 ys zs qs) (λ j x z ex ez.
+      let h = other_here P xs ys ps j x ex in
+      each j x h.0 z ex h.1 ez h.2 (pairs_here Q ys zs qs j h.0 z h.1 ez))

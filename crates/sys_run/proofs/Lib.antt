@@ -1,3 +1,5 @@
 mod UpTo
 mod Routing
 mod RouteSteps
+mod Reading
+mod Growing

@@ -1,6 +1,8 @@
 -- Room, rounds and many changes: what loops over channels and changes come to.
-use Rattle.std.proofs.Common.{◌≡◌, ℕ, ◌+◌, ◌<◌, ◌≤◌, ◌-◌, Bool, true, false, inl, inr, List, length, refl, sym, ap, ◌∙◌, arith}
+use Rattle.std.proofs.Common.{◌≡◌, ℕ, ◌+◌, ◌<◌, ◌≤◌, ◌-◌, Bool, true, false, inl, inr, List, [], ◌∷◌, ◌++◌, length, get_or, refl, sym, ap, subst, ◌∙◌, arith}
 use Rattle.std.specs.Prelude.{◌==◌, ◌&&◌, if◌then◌else◌}
+use Rattle.std.specs.List.{All}
+use Rattle.std.proofs.lemmas.List.{length-append}
 use Rattle.std.proofs.lemmas.Bool.{cases_lt}
 use Rattle.std.proofs.lemmas.Bool.Decides.{eqb_tells}
 use Rattle.bits_ip.specs.Prefix.{Net}
@@ -111,3 +113,16 @@ module _ {J : Type 0} (verdict : J → Net → Route → Verdict) where
       | inr w ↦ up_to_behind (rounds setup s) s.channels n j w
           ∙ sym (round_down (rules_of setup) j (s.history ((rules_of setup).table j)) (s.channels j) (before.beyond j (omega (arith, w, e, channels_length verdict setup s old before))))
     ]
+
+-- ---- a list of changes
+
+get_mid : (ys rest : List Change) (c d : Change) → get_or (ys ++ c ∷ rest) (length ys) d ≡ c
+get_mid [] rest c d = refl
+get_mid (y ∷ ys) rest c d = get_mid ys rest c d
+
+-- each change of a list is one of its sources
+pub source_at : (n : ℕ) (all ys rest : List Change) (c : Change) → All (λ (c : Change). c.num < n) all → ys ++ c ∷ rest ≡ all → c.num < n
+source_at n all ys rest c each e =
+    let here : length ys < length all = omega (arith, ap length e, length-append ys (c ∷ rest)) in
+    let at : get_or all (length ys) c ≡ c = ap (λ l. get_or l (length ys) c) (sym e) ∙ get_mid ys rest c c in
+    subst (λ (x : Change). x.num < n) at (each (length ys) c here)

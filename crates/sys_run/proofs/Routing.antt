@@ -1,8 +1,8 @@
 -- All tables and channels beside the machine's state of them: what is read there, and what one
 -- change of a channel or of a table leaves.
-use Rattle.std.proofs.Common.{◌≡◌, ℕ, ◌+◌, ◌<◌, ◌≤◌, Bool, true, false, ◌⊎◌, inl, inr, List, [], ◌∷◌, length, set, Option, Some, None, refl, sym, ap, subst, ◌∙◌, arith}
-use Rattle.std.specs.Prelude.{slice_get, nat_lt, option_map, ◌==◌, if◌then◌else◌}
-use Rattle.std.proofs.lemmas.Bool.Decides.{nat_tests}
+use Rattle.std.proofs.Common.{◌≡◌, ℕ, zero, suc, ◌+◌, ◌<◌, ◌≤◌, Bool, true, false, ◌⊎◌, inl, inr, List, [], ◌∷◌, length, get_or, set, Option, Some, None, refl, sym, ap, subst, ◌∙◌, arith}
+use Rattle.std.specs.Prelude.{slice_get, option_map}
+use Rattle.std.proofs.lemmas.Option.{slice_get_read}
 use Rattle.bits_ip.specs.Prefix.{Net}
 use Rattle.bits_ip.specs.declared.address.Family.{Family}
 use Rattle.attrs.specs.declared.judge.Verdict.{Verdict}
@@ -39,7 +39,7 @@ module _ {J : Type 0} (verdict : J → Net → Route → Verdict) (rules : Rules
   longer_exporter c None ch m = m
   longer_exporter c (Some e) ch m = record {
     matches = longer_matches verdict rules i h c e ch m.matches;
-    family = m.family;
+    family_is = m.family_is;
     told = let t = m.told in omega (arith, t);
   }
 
@@ -214,3 +214,8 @@ module _ {J : Type 0} (verdict : J → Net → Route → Verdict) where
         subst (λ h. IsChannel verdict (rules_of setup) i (family_at setup.tables p.table) h old (s.channels i)) grown more
     longer i p old is (inr apart) =
         subst (λ h. IsChannel verdict (rules_of setup) i (family_at setup.tables p.table) h old (s.channels i)) (sym (there p.table (λ same. apart (sym same)))) is
+
+-- ---- what code reads
+
+pub item_read : {X : Type 0} (xs : List X) (i : ℕ) (x : X) → i < length xs → x ≡ get_or xs i x → slice_get xs i ≡ Some x
+item_read xs i x w e = slice_get_read xs (length xs) i x refl w e

@@ -58,6 +58,7 @@ module _ {J : Type 0} (verdict : J → Net → Route → Verdict) where
     pub up : (i : ℕ) → is_open (s.channels i) ≡ is_up (rules_of setup) i (s.ops i)
     -- what there was before the phase
     pub histories : (n : ℕ) → (changes : List Change) × (s.history n ≡ changes ++ b.history n)
+    pub operations : (i : ℕ) → (ops : List Op) × (s.ops i ≡ ops ++ b.ops i)
     pub logs :
         (i : ℕ) → (items : List LogItem) × ((s.channels i).log ≡ items ++ (b.channels i).log)
     pub replies :

@@ -38,10 +38,10 @@ impl<J: Judge> Routes<J> {
             (in_room (rules_of setup) table (s.history table) s.channels number) s) self.new) }
     {
         let read = self.channels[number].table;
-        if read == table {
-            self.channels[number].make_room(&self.tables[read], self.cells)?;
+        if read != table {
+            return Ok(());
         }
-        Ok(())
+        self.channels[number].make_room(&self.tables[read], self.cells)
     }
 
     /// Lets each channel that lags by the whole journal of a table take one change of it.
