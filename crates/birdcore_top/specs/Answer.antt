@@ -6,12 +6,12 @@ use Rattle.conf_tree.specs.declared.kind.ConfKind.{ConfKind}
 use Rattle.outside_io.specs.Faults.{Rose}
 use Rattle.outside_io.specs.declared.whole.ReadError.{ReadError}
 use Rattle.outside_io.specs.declared.whole.ReadError.TheVariants as errors
-use Rattle.session.specs.declared.read.SessionFault.{SessionFault}
-use Rattle.session.specs.declared.read.SessionFault.TheVariants as faults
+use Rattle.system.specs.declared.read.SystemFault.{SystemFault}
+use Rattle.system.specs.declared.read.SystemFault.TheVariants as faults
 use Rattle.birdcore_top.specs.declared.status.Status.{Status}
-use Rattle.birdcore_top.specs.declared.status.Status.TheVariants.{Ok, Usage, ConfigRefused, NotBuilt, ReadFault, WriteFault, OutOfMemory, TooLong}
+use Rattle.birdcore_top.specs.declared.status.Status.TheVariants.{Ok, Usage, ConfigRefused, ScriptRefused, NotBuilt, ReadFault, WriteFault, OutOfMemory, TooLong}
 use Rattle.birdcore_top.specs.Command.{Command, Play}
-use Rattle.birdcore_top.specs.Outcome.{Held, Outcome, Misused, OverLimit, Refused, Unbuilt, BadLine, Played, ConfGives, IsAccepted, IsPossible, IsRequired, files_read}
+use Rattle.birdcore_top.specs.Outcome.{Held, Outcome, Misused, OverLimit, Refused, Unbuilt, BadLine, UnbuiltLine, Played, ConfGives, IsAccepted, IsPossible, IsRequired, files_read}
 
 -- the answer to an outcome
 abbrev pub Answers : Outcome → Status → Type 0
@@ -19,8 +19,9 @@ Answers Misused Usage = ⊤
 Answers (OverLimit name) (TooLong word) = string_bytes word ≡ name
 Answers (Refused line column kind) (ConfigRefused l c k) = (l ≡ line) × (c ≡ column) × (k ≡ kind)
 Answers Unbuilt (NotBuilt file line) = (file ≡ 1) × (line ≡ 0)
-Answers (BadLine n) (NotBuilt file line) = (file ≡ 2) × (line ≡ n)
-Answers (Played config lines) Ok = ⊤
+Answers (BadLine n kind) (ScriptRefused line k) = (line ≡ n) × (k ≡ kind)
+Answers (UnbuiltLine n) (NotBuilt file line) = (file ≡ 2) × (line ≡ n)
+Answers (Played setup actors phases) Ok = ⊤
 Answers _ _ = ⊥
 
 -- A fault and want of memory answer no outcome: they come in place of the answer.
@@ -30,10 +31,11 @@ is_answer WriteFault = false
 is_answer OutOfMemory = false
 is_answer _ = true
 
--- this status has written something
+-- this status may have written something
 abbrev pub writes : Status → Bool
 writes Ok = true
 writes WriteFault = true
+writes OutOfMemory = true
 writes _ = false
 
 -- The status answers an outcome that may be due.
@@ -42,7 +44,7 @@ HasCause possible status = IsTrue (is_answer status) → (o : Outcome) × possib
 
 -- Reading failed under a name that was read in its turn: CONF, or SCRIPT once CONF is accepted.
 abbrev pub MissesInTurn : Command → Held → (List ℕ → ℕ) → (List ℕ → ℕ) → Type 0
-MissesInTurn (Play conf script) held before now =
+MissesInTurn (Play conf script cells) held before now =
     Rose (before conf) (now conf)
     ⊎ (IfSome (held conf) IsAccepted × Rose (before script) (now script))
 
@@ -53,7 +55,7 @@ NoneFailed command o before now = IfSome command
 
 -- The sink didn't fail, where the outcome is written.
 abbrev pub SinkTakes : Outcome → ℕ → ℕ → Type 0
-SinkTakes (Played config lines) before now = Rose before now → ⊥
+SinkTakes (Played setup actors phases) before now = Rose before now → ⊥
 SinkTakes _ before now = ⊤
 
 abbrev pub IsMissed : Status → Type 0
@@ -61,39 +63,36 @@ IsMissed status = (status ≡ ReadFault) ⊎ (status ≡ OutOfMemory)
 
 -- The status answers an outcome for which the script isn't read.
 abbrev pub AnswersConf : Command → Held → Status → Type 0
-AnswersConf (Play conf script) held status = (o : Outcome) × ConfGives IfSome conf (held conf) o
+AnswersConf (Play conf script cells) held status = (o : Outcome) × ConfGives IfSome conf (held conf) o
     × Answers o status
 
 -- what is answered where a file isn't held: CONF, or SCRIPT unless CONF is refused itself
 pub record MissesLacked (lacks : List ℕ → Bool) (held : Held) (status : Status)
-    (conf script : List ℕ) : Type 0 where
+    (conf script : List ℕ) (cells : ℕ) : Type 0 where
   pub conf_lacked : IsTrue (lacks conf) → IsMissed status
   pub script_lacked : IsTrue (lacks script) → IsMissed status
-      ⊎ AnswersConf (Play conf script) held status
+      ⊎ AnswersConf (Play conf script cells) held status
 
 abbrev pub FindsLacked : Option Command → (List ℕ → Bool) → Held → Status → Type 0
 FindsLacked None lacks held status = ⊤
-FindsLacked (Some (Play conf script)) lacks held status = MissesLacked lacks held status conf script
+FindsLacked (Some (Play conf script cells)) lacks held status =
+    MissesLacked lacks held status conf script cells
 
--- what is answered where a configuration gives nothing that is built
-abbrev pub status_of : SessionFault → Status
+-- what is answered where a configuration is refused
+abbrev pub status_of : SystemFault → Status
 status_of (faults.Refused line column kind) = ConfigRefused line column kind
-status_of faults.NotBuilt = NotBuilt 1 0
 status_of faults.Memory = OutOfMemory
+
+-- a status that comes before anything is written
+abbrev pub is_early : Status → Bool
+is_early Ok = false
+is_early WriteFault = false
+is_early _ = true
 
 -- A status before anything is written, with the outcome that it answers.
 pub record Stops (possible : Outcome → Type 0) (status : Status) : Type 0 where
-  pub silent : writes status ≡ false
+  pub early : is_early status ≡ true
   pub cause : HasCause possible status
-
--- the same of a result, in which a text is no status yet
-abbrev pub FindsLackedBy : {T : Type 0} → Option Command → (List ℕ → Bool) → Held → Result T Status
-    → Type 0
-FindsLackedBy None lacks held result = ⊤
-FindsLackedBy (Some (Play conf script)) lacks held result =
-    (IsTrue (lacks conf) → IsErrAnd result IsMissed)
-    × (IsTrue (lacks script) → IsErrAnd result
-    (λ status. IsMissed status ⊎ AnswersConf (Play conf script) held status))
 
 -- what is answered where the file of this name isn't read to its end
 abbrev pub IsReadStatus : List ℕ → ReadError → Status → Type 0
@@ -106,8 +105,16 @@ abbrev pub number_of : Status → ℕ
 number_of Ok = 0
 number_of Usage = 1
 number_of (ConfigRefused line column kind) = 2
+number_of (ScriptRefused line kind) = 3
 number_of ReadFault = 4
 number_of WriteFault = 5
 number_of OutOfMemory = 6
 number_of (TooLong word) = 7
 number_of (NotBuilt file line) = 9
+
+-- how a play ends
+abbrev pub IsEnd : Status → Type 0
+IsEnd Ok = ⊤
+IsEnd WriteFault = ⊤
+IsEnd OutOfMemory = ⊤
+IsEnd _ = ⊥

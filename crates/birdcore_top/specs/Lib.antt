@@ -1,6 +1,4 @@
 pub mod Command
-pub mod Play
-pub mod Entries
-pub mod Run
 pub mod Outcome
 pub mod Answer
+pub mod Written

@@ -1,23 +1,26 @@
 -- What a command and its files come to: the one thing that the program has to answer.
-use Rattle.std.specs.Prelude.{◌≡◌, ℕ, ◌≤◌, ◌⊎◌, List, [], ◌∷◌, length, Option, Some, None, IfSome, IsSomeAnd}
+use Rattle.std.specs.Prelude.{◌≡◌, ℕ, ◌≤◌, ◌⊎◌, false, true, List, [], ◌∷◌, length, Option, Some, None, IfSome, IsSomeAnd}
 use Rattle.conf_tree.specs.declared.kind.ConfKind.{ConfKind}
 use Rattle.outside_io.specs.Whole.{limit, IsLong}
-use Rattle.report.specs.Report.{report_text}
-use Rattle.report.specs.declared.phase.PhaseReport.{PhaseReport}
-use Rattle.script_lang.specs.Script.{IsScript, IsBadLine}
-use Rattle.script_lang.specs.declared.script.Line.{Line}
-use Rattle.session.specs.Configured.{Configured}
+use Rattle.core_setup.specs.Setup.{Setup}
+use Rattle.script_lines.specs.declared.faults.ScriptKind.{ScriptKind}
+use Rattle.script_lines.specs.declared.script.Line.{Line}
+use Rattle.script_lines.specs.Script as script_answers
+use Rattle.script_lines.specs.Script.{Answers}
+use Rattle.sys_build.specs.Names.{named_of}
+use Rattle.sys_build.specs.Setups.{has_pipe, setup_of}
+use Rattle.system.specs.System.{System}
+use Rattle.system.specs.Texts.{IsRefusedAt, IsSystem}
 use Rattle.birdcore_top.specs.Command.{Command, Play}
-use Rattle.session.specs.Built.{IsConfig, IsNotBuilt, IsRefusedAt}
-use Rattle.birdcore_top.specs.Play.{IsPhase}
 
 pub data Outcome : Type 0 where
   Misused : Outcome  -- the words are no command
   OverLimit : List ℕ → Outcome  -- the file of this name is over the limit
   Refused : ℕ → ℕ → ConfKind → Outcome  -- the configuration is refused in this line and column
-  Unbuilt : Outcome  -- the configuration is of another form than the one that is built
-  BadLine : ℕ → Outcome  -- this line of the script isn't of the form
-  Played : Configured → List Line → Outcome  -- the lines are played over the configuration
+  Unbuilt : Outcome  -- the configuration is accepted, and has a pipe
+  BadLine : ℕ → ScriptKind → Outcome  -- this line of the script is refused
+  UnbuiltLine : ℕ → Outcome  -- no line is refused, and this one is the first that isn't built
+  Played : Setup → List (List ℕ) → List (List Line) → Outcome  -- actors and phases are played
 
 -- ---- files
 
@@ -33,17 +36,24 @@ Knowledge = Option (List ℕ) → (List ℕ → Type 0) → Type 0
 abbrev pub Within : (List ℕ → Type 0) → List ℕ → Type 0
 Within P file = (length file ≤ limit) × P file
 
--- a configuration of which this is built
-abbrev pub Configures : Configured → List ℕ → Type 0
-Configures config = Within (λ file. IsConfig file config)
+-- the text is accepted, comes to this, and all of it is built
+abbrev pub IsBuilt : List ℕ → System → Type 0
+IsBuilt text system = IsSystem text system × (has_pipe system.protocols ≡ false)
+
+-- the text is accepted, and a pipe isn't built
+abbrev pub IsNotBuilt : List ℕ → Type 0
+IsNotBuilt text =
+    (system : System) × IsSystem text system × (has_pipe system.protocols ≡ true)
+
+abbrev pub Configures : System → List ℕ → Type 0
+Configures system = Within (λ file. IsBuilt file system)
 
 abbrev pub IsAccepted : List ℕ → Type 0
-IsAccepted file = (config : Configured) × Configures config file
+IsAccepted file = (system : System) × Configures system file
 
--- The file is a configuration of which something is built, or one of which nothing is, or it is
--- refused.
+-- The file is a configuration that is built, or one that isn't, or it is refused.
 abbrev pub SaysSomething : List ℕ → Type 0
-SaysSomething file = ((config : Configured) × IsConfig file config)
+SaysSomething file = ((system : System) × IsBuilt file system)
     ⊎ IsNotBuilt file
     ⊎ ((line : ℕ) × (column : ℕ) × (kind : ConfKind) × IsRefusedAt file line column kind)
 
@@ -58,25 +68,32 @@ ConfGives known name conf Unbuilt = known conf (Within IsNotBuilt)
 ConfGives known name conf _ = ⊥
 
 -- what the script of this name gives over a configuration
-abbrev pub ScriptGives : Knowledge → Configured → List ℕ → Option (List ℕ) → Outcome → Type 0
-ScriptGives known config name script (OverLimit word) = (word ≡ name) × known script IsLong
-ScriptGives known config name script (BadLine n) =
-    known script (Within (λ text. IsBadLine config.name text n))
-ScriptGives known config name script (Played read lines) = (read ≡ config)
-    × known script (Within (λ text. IsScript config.name text lines))
-ScriptGives known config name script _ = ⊥
+abbrev pub ScriptGives :
+    Knowledge → System → ℕ → List ℕ → Option (List ℕ) → Outcome → Type 0
+ScriptGives known system cells name script (OverLimit word) =
+    (word ≡ name) × known script IsLong
+ScriptGives known system cells name script (BadLine line kind) =
+    known script
+    (Within (λ text. Answers (named_of system) text (script_answers.Refused line kind)))
+ScriptGives known system cells name script (UnbuiltLine line) =
+    known script (Within (λ text. Answers (named_of system) text (script_answers.NotBuilt line)))
+ScriptGives known system cells name script (Played setup actors phases) =
+    (setup ≡ setup_of system cells)
+    × known script
+    (Within (λ text. Answers (named_of system) text (script_answers.Accepted phases actors)))
+ScriptGives known system cells name script _ = ⊥
 
 -- The configuration comes first, and the script only where the configuration is accepted.
-abbrev pub PlayGives : Knowledge → List ℕ → List ℕ → Held → Outcome → Type 0
-PlayGives known conf script held o =
+abbrev pub PlayGives : Knowledge → List ℕ → List ℕ → ℕ → Held → Outcome → Type 0
+PlayGives known conf script cells held o =
     ConfGives known conf (held conf) o
-    ⊎ ((config : Configured) × known (held conf) (Configures config)
-    × ScriptGives known config script (held script) o)
+    ⊎ ((system : System) × known (held conf) (Configures system)
+    × ScriptGives known system cells script (held script) o)
 
 -- what a command gives over files, and words that are none
 abbrev pub Gives : Knowledge → Option Command → Held → Outcome → Type 0
 Gives known None held o = o ≡ Misused
-Gives known (Some (Play conf script)) held o = PlayGives known conf script held o
+Gives known (Some (Play conf script cells)) held o = PlayGives known conf script cells held o
 
 -- This may be due, as far as the files are told,
 abbrev pub IsPossible : Option Command → Held → Outcome → Type 0
@@ -88,25 +105,10 @@ IsRequired = Gives IsSomeAnd
 
 -- the names of the files that decide an outcome, in the order in which they are read
 abbrev pub files_read : Command → Outcome → List (List ℕ)
-files_read (Play conf script) Misused = []
-files_read (Play conf script) (OverLimit name) = conf ∷ name ∷ []
-files_read (Play conf script) (Refused line column kind) = conf ∷ []
-files_read (Play conf script) Unbuilt = conf ∷ []
-files_read (Play conf script) (BadLine n) = conf ∷ script ∷ []
-files_read (Play conf script) (Played config lines) = conf ∷ script ∷ []
-
--- ---- reports
-
--- the text is the report of these lines played over this configuration
-abbrev pub IsReport : Configured → List Line → List ℕ → Type 0
-IsReport config lines text = (phase : PhaseReport) × IsPhase config lines phase
-    × (text ≡ report_text (phase ∷ []))
-
--- A play of the files may be due, and this is said of the text of its report.
-pub record IfReport (command : Option Command) (held : Held) (P : List ℕ → Type 0) : Type 0 where
-  pub config : Configured
-  pub lines : List Line
-  pub text : List ℕ
-  pub played : IsPossible command held (Played config lines)
-  pub report : IsReport config lines text
-  pub said : P text
+files_read (Play conf script cells) Misused = []
+files_read (Play conf script cells) (OverLimit name) = conf ∷ name ∷ []
+files_read (Play conf script cells) (Refused line column kind) = conf ∷ []
+files_read (Play conf script cells) Unbuilt = conf ∷ []
+files_read (Play conf script cells) (BadLine line kind) = conf ∷ script ∷ []
+files_read (Play conf script cells) (UnbuiltLine line) = conf ∷ script ∷ []
+files_read (Play conf script cells) (Played setup actors phases) = conf ∷ script ∷ []

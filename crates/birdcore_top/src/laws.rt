@@ -1,18 +1,18 @@
 //! What follows from the definitions and from the contract of `top`.
-ghost use Rattle.std.specs.Prelude.{◌≡◌, ◌≢◌, ◌⊎◌, ◌≤◌, ℕ, length, List, [], ◌∷◌, Option, Some, IfSome, IsSomeAnd};
-ghost use Rattle.attrs.specs.History.{empty, IsReal};
-ghost use Rattle.export_core.specs.declared.log.LogItem.TheVariants.{Up};
+ghost use Rattle.std.specs.Prelude.{◌≡◌, ◌≢◌, ◌⊎◌, ◌≤◌, ℕ, length, List, Option, Some, IfSome, IsSomeAnd, map};
 ghost use Rattle.outside_io.specs.Whole.{limit};
-ghost use Rattle.report.specs.declared.phase.PhaseReport.{PhaseReport};
-ghost use Rattle.script_lang.specs.declared.script.Line.{Line};
-ghost use Rattle.session.specs.Built.{IsConfig, IsNotBuilt, IsRefusedAt};
-ghost use Rattle.session.specs.Configured.{Configured};
 ghost use Rattle.conf_tree.specs.declared.kind.ConfKind.{ConfKind};
-ghost use Rattle.birdcore_top.specs.Entries.{EachComesFrom};
-ghost use Rattle.birdcore_top.specs.Play.{State, start, Plays, IsPhase};
+ghost use Rattle.core_setup.specs.Plays.{IsLegalPlay};
+ghost use Rattle.core_setup.specs.Setup.{Setup};
+ghost use Rattle.report.specs.declared.phase.PhaseReport.{PhaseReport};
+ghost use Rattle.script_lines.specs.declared.script.Line.{Line};
+ghost use Rattle.sys_run.specs.Scripts.{phase_of};
+ghost use Rattle.system.specs.System.{System};
+ghost use Rattle.system.specs.Texts.{IsRefusedAt};
 ghost use Rattle.birdcore_top.specs.Command.{Command, Play, command_of};
-ghost use Rattle.birdcore_top.specs.Outcome.{Held, Outcome, SaysSomething, ConfGives, IsAccepted, IsPossible, IsRequired};
+ghost use Rattle.birdcore_top.specs.Outcome.{Held, Outcome, Played, SaysSomething, ConfGives, IsAccepted, IsBuilt, IsNotBuilt, IsPossible, IsRequired};
 ghost use Rattle.birdcore_top.specs.Answer.{Answers};
+ghost use Rattle.birdcore_top.specs.Written.{ArePlayed};
 
 use crate::status::Status;
 use crate::top::top;
@@ -24,21 +24,18 @@ use conf_tree::laws::{
     places_have_one_line_and_column,
 };
 use outside_io::{OpenGate, Shelf, SureShelf, SureSink};
-use script_lang::laws::{
-    a_text_has_one_bad_line, a_text_is_one_script, each_text_is_a_script_or_has_a_bad_line,
-    scripts_have_no_bad_line,
-};
+use script_lines::laws::{a_text_has_one_answer, each_text_has_an_answer};
 use std::alloc::Global;
 
-/// A text says one thing of configurations at most: one is built of it, or none, or it is refused,
-/// in one line and column for one reason.
+/// A text says one thing of configurations at most: it is built, or it isn't, or it is refused, in
+/// one line and column for one reason.
 pub fn texts_say_one_thing()
-    ensures built { (text : List ℕ) (a b : Configured)
-        → IsConfig text a → IsConfig text b → a ≡ b }
-    ensures built_or_not { (text : List ℕ) (config : Configured)
-        → IsConfig text config → IsNotBuilt text → ⊥ }
-    ensures built_or_refused { (text : List ℕ) (config : Configured) (line column : ℕ)
-        (kind : ConfKind) → IsConfig text config → IsRefusedAt text line column kind → ⊥ }
+    ensures built { (text : List ℕ) (a b : System)
+        → IsBuilt text a → IsBuilt text b → a ≡ b }
+    ensures built_or_not { (text : List ℕ) (system : System)
+        → IsBuilt text system → IsNotBuilt text → ⊥ }
+    ensures built_or_refused { (text : List ℕ) (system : System) (line column : ℕ)
+        (kind : ConfKind) → IsBuilt text system → IsRefusedAt text line column kind → ⊥ }
     ensures not_built_or_refused { (text : List ℕ) (line column : ℕ) (kind : ConfKind)
         → IsNotBuilt text → IsRefusedAt text line column kind → ⊥ }
     ensures refused { (text : List ℕ) (l m c d : ℕ) (k j : ConfKind)
@@ -59,13 +56,11 @@ pub fn files_have_one_outcome()
         → IsRequired command held o → IsPossible command held p → p ≡ o }
 {
     texts_say_one_thing();
-    a_text_is_one_script();
-    a_text_has_one_bad_line();
-    scripts_have_no_bad_line();
+    a_text_has_one_answer();
 }
 
-/// Each text within the limit says something: something is built of it or nothing is, or it is
-/// refused.
+/// Each text within the limit says something: it is a configuration that is built, or one that
+/// isn't, or it is refused.
 pub fn each_text_says_something()
     ensures { (text : List ℕ) → length text ≤ limit → SaysSomething text }
 {
@@ -78,30 +73,32 @@ pub fn each_text_says_something()
 
 /// Files that are told come to an outcome.
 pub fn told_files_have_an_outcome()
-    ensures { (conf script : List ℕ) (held : Held) (file text : List ℕ)
+    ensures { (conf script : List ℕ) (cells : ℕ) (held : Held) (file text : List ℕ)
         → held conf ≡ Some file → held script ≡ Some text
-        → (o : Outcome) × IsRequired (Some (Play conf script)) held o }
+        → (o : Outcome) × IsRequired (Some (Play conf script cells)) held o }
 {
     each_text_says_something();
-    each_text_is_a_script_or_has_a_bad_line();
+    each_text_has_an_answer();
 }
 
-/// Lines played over a configuration come to one phase.
-pub fn lines_come_to_one_phase()
-    ensures { (config : Configured) (lines : List Line) (p q : PhaseReport)
-        → IsPhase config lines p → IsPhase config lines q → p ≡ q }
+/// Phases played come to one list of reports.
+pub fn phases_come_to_one_report()
+    ensures { (command : Option Command) (held : Held) (setup : Setup)
+        (actors : List (List ℕ)) (phases : List (List Line)) (reports others : List PhaseReport)
+        → IsPossible command held (Played setup actors phases)
+        → ArePlayed setup actors phases reports → ArePlayed setup actors phases others
+        → reports ≡ others }
 {}
 
-/// The history of a play is real: each change is another route than the one that stands, or none
-/// where one stands. The channel's log is empty, or says that it came up before all changes. Each
-/// change comes from an `add` or a `del` behind the session's `open`.
-pub fn plays_make_real_histories()
-    ensures real { (config : Configured) (lines : List Line) (end : State)
-        → Plays config lines start end → IsReal empty end.history }
-    ensures log { (config : Configured) (lines : List Line) (end : State)
-        → Plays config lines start end → (end.log ≡ []) ⊎ (end.log ≡ Up 0 ∷ []) }
-    ensures entries { (config : Configured) (lines : List Line) (end : State)
-        → Plays config lines start end → EachComesFrom config lines end.history }
+/// The reports of a play are legal: operations are merges of the actors' lines, each table's journal
+/// has every protocol's imports once, in order, each channel's log follows its table's history,
+/// each reply is its table's, and the state is that of the operations.
+pub fn reports_are_legal()
+    ensures { (command : Option Command) (held : Held) (setup : Setup)
+        (actors : List (List ℕ)) (phases : List (List Line)) (reports : List PhaseReport)
+        → IsPossible command held (Played setup actors phases)
+        → ArePlayed setup actors phases reports
+        → IsLegalPlay setup actors (map (phase_of setup) phases) reports }
 {}
 
 /// Plays the files of a shelf that never fails, and lets the report go to a sink that takes all.

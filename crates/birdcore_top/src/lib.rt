@@ -2,17 +2,19 @@
 //!
 //! `top` does all of it. What its words and its files come to is an `Outcome` (specs/Outcome):
 //! files that are told come to one at most, which the laws say, and `top` answers it, or want of
-//! memory, unless a file that decides it, or the sink, fails. Of a play the outcome is the lines of
-//! the script over what is configured (specs/Built of `session`), and what is written is the report
-//! of the phase that the machine of specs/Play comes to.
+//! memory, unless a file that decides it, or the sink, fails. Of a play the outcome is the phases of
+//! the script over what the configuration gives to play (specs/Setups of `sys_build`), and what is
+//! written are the reports of the phases to which the machine of `core_machine` comes on them
+//! (specs/Written), each as soon as it has ended.
 //!
-//! `play` does the lines of a script in their order, `status` is how the program ends, `laws` what
-//! follows from the definitions.
+//! `words` reads the command line, `write` plays and writes, `status` is how the program ends, `laws`
+//! what follows from the definitions.
 #![tactic(auto)]
 
 pub mod laws;
-pub mod play;
 mod status;
 pub mod top;
+mod words;
+mod write;
 
 pub use status::Status;

@@ -5,8 +5,9 @@ ghost use Rattle.birdcore_top.specs.declared.status.Status.TheVariants.{OutOfMem
 
 use bits_ip::OutOfMemory;
 use conf_tree::ConfKind;
-use session::SessionFault;
+use script_lines::ScriptKind;
 use std::alloc::AllocError;
+use system::SystemFault;
 use thiserror::Error;
 
 /// How the program ended. Its text is the line that is printed on standard error where it isn't
@@ -16,7 +17,7 @@ pub enum Status {
     /// The input was read to its end, and the whole report was written.
     #[error("ok")]
     Ok,
-    /// The words aren't `play CONF SCRIPT`.
+    /// The words aren't `play CONF SCRIPT`, perhaps with `--journal N` behind them.
     #[error("usage: birdcore COMMAND [CONF [SCRIPT]] [--journal N] [--number N] [-q]")]
     Usage,
     /// The configuration is refused at this place. Lines, and the bytes of a line, are counted from
@@ -26,6 +27,12 @@ pub enum Status {
         line: u32,
         column: u32,
         kind: ConfKind,
+    },
+    /// This line of the script is refused. Lines are counted from 1.
+    #[error("script {line} {kind}")]
+    ScriptRefused {
+        line: u32,
+        kind: ScriptKind,
     },
     /// A file couldn't be read.
     #[error("read fault")]
@@ -40,8 +47,8 @@ pub enum Status {
     TooLong {
         name: String,
     },
-    /// What the files say isn't built yet: the configuration (file 1, line 0), or a line of the
-    /// script (file 2), counted from 1.
+    /// What the files say isn't built yet: a pipe of the configuration (file 1, line 0), or further
+    /// words of `show route` in a line of the script (file 2), counted from 1.
     #[error("not built {file} {line}")]
     NotBuilt {
         file: u32,
@@ -58,6 +65,7 @@ impl Status {
             Status::Ok => 0,
             Status::Usage => 1,
             Status::ConfigRefused { .. } => 2,
+            Status::ScriptRefused { .. } => 3,
             Status::ReadFault => 4,
             Status::WriteFault => 5,
             Status::OutOfMemory => 6,
@@ -83,20 +91,19 @@ impl From<OutOfMemory> for Status {
     }
 }
 
-impl From<SessionFault> for Status {
+impl From<SystemFault> for Status {
     ghost use Rattle.birdcore_top.specs.Answer.{status_of};
 
     ghost from_gives = { λ fault status. status ≡ status_of fault };
 
-    fn from(fault: SessionFault) -> Self {
+    fn from(fault: SystemFault) -> Self {
         match fault {
-            SessionFault::Refused { line, column, kind } => Status::ConfigRefused {
+            SystemFault::Refused { line, column, kind } => Status::ConfigRefused {
                 line,
                 column,
                 kind,
             },
-            SessionFault::NotBuilt => Status::NotBuilt { file: 1, line: 0 },
-            SessionFault::Memory => Status::OutOfMemory,
+            SystemFault::Memory => Status::OutOfMemory,
         }
     }
 }

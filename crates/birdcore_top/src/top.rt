@@ -1,29 +1,32 @@
 //! The one call that does all that the program does.
-ghost use Rattle.std.specs.Prelude.{◌≡◌, ◌≢◌, ◌≤◌, ◌⊎◌, ℕ, List, Err, Some, None, false, IsTrue, IfOk, IfErr, IfSome, IsSomeAnd, IsErrAnd, MatchOption, ◌↔◌};
+ghost use Rattle.std.specs.Prelude.{◌≡◌, ◌≢◌, ◌≤◌, ◌⊎◌, ℕ, List, Err, Some, None, false, map, IsTrue, IfOk, IfErr, IfSome, IsSomeAnd, IsErrAnd, ◌↔◌};
 ghost use Rattle.std.specs.Io.KnownBytes.{Appends, Keeps};
+ghost use Rattle.std.specs.List.{flat_map};
 ghost use Rattle.outside_io.specs.Faults.{Rose, NoneFell};
 ghost use Rattle.outside_io.specs.Whole.{IsLong, IsWhole, WritesFront};
-ghost use Rattle.script_lang.specs.Script.{AreOfV4};
-ghost use Rattle.script_lang.specs.declared.script.Line.{Line};
-ghost use Rattle.session.specs.Seen.{configured_of};
+ghost use Rattle.report.specs.Report.{phase_text, report_text};
+ghost use Rattle.sys_build.specs.Setups.{setup_of};
+ghost use Rattle.system.specs.Seen.{system_of};
 ghost use Rattle.birdcore_top.specs.Command.{Command, Play, command_of};
-ghost use Rattle.birdcore_top.specs.Outcome.{Outcome, OverLimit, Played, Configures, IsAccepted, ConfGives, ScriptGives, IsPossible, IsRequired, IfReport, IsReport};
-ghost use Rattle.birdcore_top.specs.Answer.{Answers, HasCause, MissesInTurn, NoneFailed, SinkTakes, IsMissed, FindsLacked, FindsLackedBy, IsReadStatus, Stops, writes};
+ghost use Rattle.birdcore_top.specs.Outcome.{Outcome, OverLimit, Played, Configures, IsAccepted, ConfGives, ScriptGives, IsPossible, IsRequired};
+ghost use Rattle.birdcore_top.specs.Answer.{Answers, HasCause, MissesInTurn, NoneFailed, SinkTakes, IsMissed, FindsLacked, IsReadStatus, Stops, writes};
+ghost use Rattle.birdcore_top.specs.Written.{IfBegun, IfPlayed};
 
 use crate::laws::files_have_one_outcome;
-use crate::play::play;
 use crate::status::Status;
-use bits_ip::OutOfMemory;
-use outside_io::{Failed, Gate, ReadError, Shelf, Sink, read_whole, write_whole};
-use report::write_report;
-use script_lang::{Line, ScriptFault, read_script};
-use session::{Session, read_session};
+use crate::words::{Named, named};
+use crate::write::write_play;
+use outside_io::{Gate, ReadError, Shelf, Sink, read_whole};
+use script_lines::{Script, ScriptFault, read_script};
 use std::alloc::Global;
+use sys_build::has_pipe;
+use system::{System, read_system};
 
 /// Does all that the program does: plays the script over the configuration that the words name, and
-/// writes the report.
+/// writes the report, phase by phase.
 ///
-/// Want of memory may come in place of any answer. What then stands written is what stood before.
+/// Want of memory may come in place of any answer. What then stands written are the reports of the
+/// first phases, or nothing.
 pub fn top<R, F: Shelf, K: Sink, G: Gate + Sync>(
     _rt: &R,
     alloc: Global,
@@ -44,13 +47,19 @@ pub fn top<R, F: Shelf, K: Sink, G: Gate + Sync>(
         (λ c. MissesInTurn c (F.held shelf.old) (F.missed shelf.old) (F.missed shelf.new)) }
     ensures write { result ≡ Status.WriteFault → Rose (K.faults out.old) (K.faults out.new) }
 
-    // What is written: the report of the machine's run of these files, a front of it, or nothing.
+    // What is written: the report of the machine's phases on these files, a front of the report of
+    // the first phases, the reports of the first phases, each whole, or nothing.
     ensures report { result ≡ Status.Ok
-        → IfReport (command_of words.now) (F.held shelf.old)
-        (λ text. Appends (K.contents out.old) (K.contents out.new) text) }
+        → IfPlayed (command_of words.now) (F.held shelf.old)
+        (λ reports. Appends (K.contents out.old) (K.contents out.new) (report_text reports)) }
     ensures front { result ≡ Status.WriteFault
-        → IfReport (command_of words.now) (F.held shelf.old)
-        (λ text. WritesFront (K.contents out.old) (K.contents out.new) text) }
+        → IfBegun (command_of words.now) (F.held shelf.old)
+        (λ reports. WritesFront (K.contents out.old) (K.contents out.new) (report_text reports)) }
+    ensures begun { result ≡ Status.OutOfMemory
+        → Keeps (K.contents out.old) (K.contents out.new)
+        ⊎ IfBegun (command_of words.now) (F.held shelf.old)
+        (λ reports.
+        Appends (K.contents out.old) (K.contents out.new) (flat_map phase_text reports)) }
     ensures nothing_else { writes result ≡ false → Keeps (K.contents out.old) (K.contents out.new) }
 
     // What the told files require is answered, or want of memory, unless one of the files that
@@ -78,86 +87,56 @@ fn run<F: Shelf, K: Sink>(alloc: Global, words: &[String], shelf: &mut F, out: &
         (λ c. MissesInTurn c (F.held shelf.old) (F.missed shelf.old) (F.missed shelf.new)) }
     ensures write { result ≡ Status.WriteFault → Rose (K.faults out.old) (K.faults out.new) }
     ensures report { result ≡ Status.Ok
-        → IfReport (command_of words.now) (F.held shelf.old)
-        (λ text. Appends (K.contents out.old) (K.contents out.new) text) }
+        → IfPlayed (command_of words.now) (F.held shelf.old)
+        (λ reports. Appends (K.contents out.old) (K.contents out.new) (report_text reports)) }
     ensures front { result ≡ Status.WriteFault
-        → IfReport (command_of words.now) (F.held shelf.old)
-        (λ text. WritesFront (K.contents out.old) (K.contents out.new) text) }
+        → IfBegun (command_of words.now) (F.held shelf.old)
+        (λ reports. WritesFront (K.contents out.old) (K.contents out.new) (report_text reports)) }
+    ensures begun { result ≡ Status.OutOfMemory
+        → Keeps (K.contents out.old) (K.contents out.new)
+        ⊎ IfBegun (command_of words.now) (F.held shelf.old)
+        (λ reports.
+        Appends (K.contents out.old) (K.contents out.new) (flat_map phase_text reports)) }
     ensures nothing_else { writes result ≡ false → Keeps (K.contents out.old) (K.contents out.new) }
     ensures absent { FindsLacked (command_of words.now)
         (F.lacks shelf.old) (F.held shelf.old)
         result }
 {
-    match prepare(alloc, words, shelf) {
-        Ok(text) => match write_whole(out, &text) {
-            Ok(()) => Status::Ok,
-            Err(Failed) => Status::WriteFault,
-        },
-        Err(status) => status,
-    }
-}
-
-/// Does what the words ask for but for the writing.
-fn prepare<F: Shelf>(alloc: Global, words: &[String], shelf: &mut F) -> Result<Vec<u8>, Status>
-    ensures text { IfOk result (λ text.
-        IfReport (command_of words.now) (F.held shelf.old) (λ known. text.items ≡ known)) }
-    ensures stopped { IfErr result (Stops (IsPossible (command_of words.now) (F.held shelf.old))) }
-    ensures usage { (result ≡ Err Status.Usage) ↔ (command_of words.now ≡ None) }
-    ensures read { result ≡ Err Status.ReadFault → Rose (F.faults shelf.old) (F.faults shelf.new) }
-    ensures in_turn { result ≡ Err Status.ReadFault
-        → IsSomeAnd (command_of words.now)
-        (λ c. MissesInTurn c (F.held shelf.old) (F.missed shelf.old) (F.missed shelf.new)) }
-    ensures absent { FindsLackedBy (command_of words.now)
-        (F.lacks shelf.old) (F.held shelf.old)
-        result }
-{
     match named(words) {
-        Some((conf, script)) => play_files(alloc, conf, script, shelf),
-        None => Err(Status::Usage),
+        Some(named) => play_files(alloc, &named, shelf, out),
+        None => Status::Usage,
     }
 }
 
-/// CONF and SCRIPT, where the words are `play CONF SCRIPT`.
-fn named(words: &[String]) -> Option<(&str, &str)>
-    ensures { MatchOption result (command_of words.now ≡ None)
-        (λ names. command_of words.now ≡ Some (Play names.0.now names.1.now)) }
-{
-    match words {
-        [command, conf, script] if command.as_str() == "play" => {
-            Some((conf.as_str(), script.as_str()))
-        }
-        _ => None,
-    }
-}
-
-/// Reads the two files of these names, plays them, and makes the text that is to be written.
-fn play_files<F: Shelf>(
+/// Reads the two files, plays them, and writes the report.
+fn play_files<F: Shelf, K: Sink>(
     alloc: Global,
-    conf: &str,
-    script: &str,
+    named: &Named<'_>,
     shelf: &mut F,
-) -> Result<Vec<u8>, Status>
-    ensures text { IfOk result (λ text.
-        IfReport (Some (Play conf.now script.now)) (F.held shelf.old)
-        (λ known. text.items ≡ known)) }
-    ensures stopped { IfErr result
-        (Stops (IsPossible (Some (Play conf.now script.now)) (F.held shelf.old))) }
-    ensures usage { result ≢ Err Status.Usage }
-    ensures read { result ≡ Err Status.ReadFault → Rose (F.faults shelf.old) (F.faults shelf.new) }
-    ensures in_turn { result ≡ Err Status.ReadFault
-        → MissesInTurn (Play conf.now script.now) (F.held shelf.old)
-        (F.missed shelf.old) (F.missed shelf.new) }
-    ensures absent { FindsLackedBy (Some (Play conf.now script.now))
-        (F.lacks shelf.old) (F.held shelf.old) result }
-{
-    let config = read_conf(alloc, conf, shelf)?;
-    play_script(alloc, &config, script, shelf)
+    out: &mut K,
+) -> Status {
+    let (system, script) = match read_files(alloc, named, shelf) {
+        Ok(files) => files,
+        Err(status) => return status,
+    };
+    write_play(alloc, &system, named.cells, script, out)
+}
+
+/// The configuration and the script of these names.
+fn read_files<F: Shelf>(
+    alloc: Global,
+    named: &Named<'_>,
+    shelf: &mut F,
+) -> Result<(System, Script), Status> {
+    let system = read_conf(alloc, named.conf, shelf)?;
+    let script = read_lines(alloc, &system, named.script, shelf)?;
+    Ok((system, script))
 }
 
 /// Reads the configuration of this name.
-fn read_conf<F: Shelf>(alloc: Global, name: &str, shelf: &mut F) -> Result<Session, Status>
+fn read_conf<F: Shelf>(alloc: Global, name: &str, shelf: &mut F) -> Result<System, Status>
     ensures config { IfOk result
-        (λ config. IfSome (F.held shelf.old name.now) (Configures (configured_of config))) }
+        (λ system. IfSome (F.held shelf.old name.now) (Configures (system_of system))) }
     ensures stopped { IfErr result (Stops (ConfGives IfSome name.now (F.held shelf.old name.now))) }
     ensures read { result ≡ Err Status.ReadFault → Rose (F.faults shelf.old) (F.faults shelf.new) }
     ensures by_name { result ≡ Err Status.ReadFault
@@ -169,24 +148,27 @@ fn read_conf<F: Shelf>(alloc: Global, name: &str, shelf: &mut F) -> Result<Sessi
     ensures lacks { F.lacks shelf.new ≡ F.lacks shelf.old }
 {
     let bytes = read_file(alloc, name, shelf)?;
-    let config = read_session(alloc, &bytes)?;
-    Ok(config)
+    let system = read_system(alloc, &bytes)?;
+    if has_pipe(&system) {
+        return Err(Status::NotBuilt { file: 1, line: 0 });
+    }
+    Ok(system)
 }
 
-/// Reads the script of this name, plays it over the configuration, and makes the report.
-fn play_script<F: Shelf>(
+/// Reads the script of this name over the configuration.
+fn read_lines<F: Shelf>(
     alloc: Global,
-    config: &Session,
+    system: &System,
     name: &str,
     shelf: &mut F,
-) -> Result<Vec<u8>, Status>
-    ensures text { IfOk result (λ text. (lines : List Line)
-        × ScriptGives IfSome (configured_of config.now) name.now (F.held shelf.old name.now)
-        (Played (configured_of config.now) lines)
-        × IsReport (configured_of config.now) lines text.items) }
-    ensures stopped { IfErr result
-        (Stops (ScriptGives IfSome (configured_of config.now) name.now
-        (F.held shelf.old name.now))) }
+) -> Result<Script, Status>
+    ensures script { IfOk result (λ script. (cells : ℕ)
+        → ScriptGives IfSome (system_of system.now) cells name.now (F.held shelf.old name.now)
+        (Played (setup_of (system_of system.now) cells) script.actors.items
+        (map (λ phase. phase.items) script.phases.items))) }
+    ensures stopped { IfErr result (Stops (λ o. (cells : ℕ)
+        → ScriptGives IfSome (system_of system.now) cells name.now
+        (F.held shelf.old name.now) o)) }
     ensures read { result ≡ Err Status.ReadFault → Rose (F.faults shelf.old) (F.faults shelf.new) }
     ensures by_name { result ≡ Err Status.ReadFault
         → Rose (F.missed shelf.old name.now) (F.missed shelf.new name.now) }
@@ -195,12 +177,11 @@ fn play_script<F: Shelf>(
     ensures none_fell { NoneFell (F.missed shelf.old) (F.missed shelf.new) }
 {
     let bytes = read_file(alloc, name, shelf)?;
-    match read_script(alloc, config.name.as_slice(), &bytes) {
-        Ok(script) => {
-            drop(bytes);
-            Ok(report(alloc, config, script.lines)?)
-        }
-        Err(ScriptFault::Refused { line }) => Err(Status::NotBuilt { file: 2, line }),
+    let named = sys_build::named(alloc, system)?;
+    match read_script(alloc, &bytes, &named) {
+        Ok(script) => Ok(script),
+        Err(ScriptFault::Refused { line, kind }) => Err(Status::ScriptRefused { line, kind }),
+        Err(ScriptFault::NotBuilt { line }) => Err(Status::NotBuilt { file: 2, line }),
         Err(ScriptFault::Memory) => Err(Status::OutOfMemory),
     }
 }
@@ -237,13 +218,4 @@ fn status_of(alloc: Global, name: &str, error: ReadError) -> Status
         },
         ReadError::Memory => Status::OutOfMemory,
     }
-}
-
-/// The text of the report of these lines.
-fn report(alloc: Global, config: &Session, lines: Vec<Line>) -> Result<Vec<u8>, OutOfMemory>
-    requires { AreOfV4 lines.items }
-    ensures { IfOk result (λ text. IsReport (configured_of config.now) lines.items text.items) }
-{
-    let phase = play(alloc, config, lines)?;
-    write_report(alloc, &[phase])
 }

@@ -1,0 +1,55 @@
+-- What is written: the report of a play, or of its first phases.
+use Rattle.std.specs.Prelude.{◌≡◌, ℕ, List, ◌++◌, map, Option}
+use Rattle.core_setup.specs.Plays.{IsPlay}
+use Rattle.core_setup.specs.Setup.{Setup}
+use Rattle.report.specs.declared.phase.PhaseReport.{PhaseReport}
+use Rattle.script_lines.specs.declared.script.Line.{Line}
+use Rattle.sys_run.specs.Scripts.{phase_of}
+use Rattle.birdcore_top.specs.Command.{Command}
+use Rattle.birdcore_top.specs.Outcome.{Held, IsPossible, Played}
+
+-- the phases played, with these reports
+abbrev pub ArePlayed : Setup → List (List ℕ) → List (List Line) → List PhaseReport → Type 0
+ArePlayed setup actors phases reports = IsPlay setup actors (map (phase_of setup) phases) reports
+
+-- A play of the files may be due, and this is said of the reports of its phases.
+pub record IfPlayed
+    (command : Option Command) (held : Held) (P : List PhaseReport → Type 0) : Type 0 where
+  pub setup : Setup
+  pub actors : List (List ℕ)
+  pub phases : List (List Line)
+  pub reports : List PhaseReport
+  pub possible : IsPossible command held (Played setup actors phases)
+  pub played : ArePlayed setup actors phases reports
+  pub said : P reports
+
+-- A play of the files may be due, and this is said of the reports of some of its first phases.
+pub record IfBegun
+    (command : Option Command) (held : Held) (P : List PhaseReport → Type 0) : Type 0 where
+  pub setup : Setup
+  pub actors : List (List ℕ)
+  pub first : List (List Line)
+  pub more : List (List Line)
+  pub reports : List PhaseReport
+  pub possible : IsPossible command held (Played setup actors (first ++ more))
+  pub played : ArePlayed setup actors first reports
+  pub said : P reports
+
+-- ---- the same of a given play, for the contracts of private functions
+
+pub record HasPlayed
+    (setup : Setup) (actors : List (List ℕ)) (phases : List (List Line))
+    (P : List PhaseReport → Type 0) : Type 0 where
+  pub reports : List PhaseReport
+  pub played : ArePlayed setup actors phases reports
+  pub said : P reports
+
+pub record HasBegun
+    (setup : Setup) (actors : List (List ℕ)) (phases : List (List Line))
+    (P : List PhaseReport → Type 0) : Type 0 where
+  pub first : List (List Line)
+  pub more : List (List Line)
+  pub reports : List PhaseReport
+  pub whole : phases ≡ first ++ more
+  pub played : ArePlayed setup actors first reports
+  pub said : P reports

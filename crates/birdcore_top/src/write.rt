@@ -1,0 +1,93 @@
+//! Plays a script over a configuration, and writes the report of each phase when it has ended.
+ghost use Rattle.std.specs.Prelude.{◌≡◌, ◌++◌, ℕ, List, false, map};
+ghost use Rattle.std.specs.Io.KnownBytes.{Appends};
+ghost use Rattle.std.specs.List.{flat_map};
+ghost use Rattle.outside_io.specs.Faults.{Rose};
+ghost use Rattle.outside_io.specs.Whole.{WritesFront};
+ghost use Rattle.report.specs.Report.{phase_text, report_text};
+ghost use Rattle.script_lines.specs.declared.script.Line.{Line as Said};
+ghost use Rattle.sys_build.specs.Setups as setups;
+ghost use Rattle.sys_build.specs.Setups.{setup_of};
+ghost use Rattle.system.specs.Seen.{system_of};
+ghost use Rattle.birdcore_top.specs.Answer.{IsEnd};
+ghost use Rattle.birdcore_top.specs.Written.{HasBegun, HasPlayed};
+
+use crate::status::Status;
+use attrs::Judge;
+use bits_ip::OutOfMemory;
+use outside_io::{Failed, Sink, write_whole};
+use report::{PhaseReport, phase_text};
+use script_lines::{Line, Name, Script};
+use std::alloc::Global;
+use sys_build::build;
+use sys_run::Core;
+use system::System;
+
+/// Plays the script over the configuration, and writes the reports.
+///
+/// With `OutOfMemory` the reports of the first phases may have been written, each whole.
+pub(crate) fn write_play<K: Sink>(
+    alloc: Global,
+    system: &System,
+    cells: u32,
+    script: Script,
+    out: &mut K,
+) -> Status
+    requires { setups.has_pipe (system_of system.now).protocols ≡ false }
+    ensures end { IsEnd result }
+    ensures report { result ≡ Status.Ok
+        → HasPlayed (setup_of (system_of system.now) cells) script.actors.items
+        (map (λ phase. phase.items) script.phases.items)
+        (λ reports. Appends (K.contents out.old) (K.contents out.new) (report_text reports)) }
+    ensures front { result ≡ Status.WriteFault
+        → HasBegun (setup_of (system_of system.now) cells) script.actors.items
+        (map (λ phase. phase.items) script.phases.items)
+        (λ reports. WritesFront (K.contents out.old) (K.contents out.new) (report_text reports)) }
+    ensures begun { result ≡ Status.OutOfMemory
+        → HasBegun (setup_of (system_of system.now) cells) script.actors.items
+        (map (λ phase. phase.items) script.phases.items)
+        (λ reports.
+        Appends (K.contents out.old) (K.contents out.new) (flat_map phase_text reports)) }
+    ensures write { result ≡ Status.WriteFault → Rose (K.faults out.old) (K.faults out.new) }
+{
+    let Script { phases, actors } = script;
+    let mut core = match build(alloc, system, cells) {
+        Ok(core) => core,
+        Err(OutOfMemory) => return Status::OutOfMemory,
+    };
+    match write_phases(alloc, &mut core, &actors, phases, out) {
+        Ok(()) => end_report(out),
+        Err(status) => status,
+    }
+}
+
+/// Plays the phases, and writes the report of each.
+fn write_phases<J: Judge, K: Sink>(
+    alloc: Global,
+    core: &mut Core<J>,
+    actors: &[Name],
+    phases: Vec<Vec<Line>>,
+    out: &mut K,
+) -> Result<(), Status> {
+    for lines in phases {
+        let report = core.play(actors, lines)?;
+        write_phase(alloc, &report, out)?;
+    }
+    Ok(())
+}
+
+fn write_phase<K: Sink>(alloc: Global, report: &PhaseReport, out: &mut K) -> Result<(), Status> {
+    let mut text = Vec::new(alloc);
+    phase_text(report, &mut text)?;
+    match write_whole(out, &text) {
+        Ok(()) => Ok(()),
+        Err(Failed) => Err(Status::WriteFault),
+    }
+}
+
+fn end_report<K: Sink>(out: &mut K) -> Status {
+    match write_whole(out, b"end\n") {
+        Ok(()) => Status::Ok,
+        Err(Failed) => Status::WriteFault,
+    }
+}

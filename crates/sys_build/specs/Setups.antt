@@ -1,0 +1,118 @@
+-- What a configuration gives to play: its tables, and its protocols but for pipes, with what holds
+-- for their routes and what their filters say. From: BIRD User's Guide, "Static", "BGP" and "Channel
+-- options".
+use Rattle.std.specs.Prelude.{ℕ, ◌+◌, Bool, true, false, not, ◌==◌, if◌then◌else◌, List, [], ◌∷◌, map, Option, Some, None, option_map}
+use Rattle.bits_ip.specs.declared.address.Addr.{Addr}
+use Rattle.attrs.specs.declared.attributes.Dest.{Dest}
+use Rattle.attrs.specs.declared.attributes.Dest.TheVariants as dests
+use Rattle.attrs.specs.declared.route.Src.{Src}
+use Rattle.conf_check.specs.declared.checked.ImportLimit.{ImportLimit}
+use Rattle.conf_check.specs.declared.checked.StaticRoute.{StaticRoute}
+use Rattle.conf_check.specs.declared.checked.StaticTarget.{StaticTarget}
+use Rattle.conf_check.specs.declared.checked.StaticTarget.TheVariants as targets
+use Rattle.conf_tree.specs.declared.tree.Action.{Action as Written}
+use Rattle.conf_tree.specs.declared.tree.Action.TheVariants as written
+use Rattle.import_core.specs.declared.import_spec.Action.{Action}
+use Rattle.import_core.specs.declared.import_spec.Action.TheVariants as actions
+use Rattle.import_core.specs.declared.import_spec.Fixed.{Fixed}
+use Rattle.import_core.specs.declared.import_spec.Limit.{Limit}
+use Rattle.protos.specs.Protocols.{bgp_spec, static_spec}
+use Rattle.core_setup.specs.Setup as setup
+use Rattle.core_setup.specs.Setup.{Exports, Setup}
+use Rattle.system.specs.System.{Bgp, Body, IsBgp, IsPipe, IsStatic, Protocol, Static, System}
+
+-- ---- imports
+
+abbrev pub action_of : Written → Action
+action_of written.Warn = actions.Warn
+action_of written.Block = actions.Block
+action_of written.Disable = actions.Disable
+
+abbrev pub limit_of : ImportLimit → Limit
+limit_of limit = record { count = limit.count; action = action_of limit.action }
+
+-- a route leads to a gateway, or is dropped in one of three ways
+abbrev pub dest_of : StaticTarget → Dest
+dest_of (targets.Via gateway) = dests.Unicast
+dest_of targets.Blackhole = dests.Blackhole
+dest_of targets.Unreachable = dests.Unreachable
+dest_of targets.Prohibit = dests.Prohibit
+
+abbrev pub gateway_of : StaticTarget → Option Addr
+gateway_of (targets.Via gateway) = Some gateway
+gateway_of targets.Blackhole = None
+gateway_of targets.Unreachable = None
+gateway_of targets.Prohibit = None
+
+abbrev pub fixed_of : StaticRoute → Fixed
+fixed_of route = record {
+  net = route.net;
+  dest = dest_of route.target;
+  gw = gateway_of route.target;
+}
+
+-- ---- protocols
+
+-- static routes lack neither a MED nor a local preference that anything reads
+abbrev pub static_of : ℕ → List ℕ → Static → setup.Protocol
+static_of number name p = record {
+  name = name;
+  table = p.channel.table;
+  spec = static_spec (record { num = number; def_med = 0; def_lp = 0 }) p.channel.preference
+      (option_map limit_of p.channel.limit) (map fixed_of p.routes);
+  filter = p.channel.import;
+  exports = None;
+}
+
+-- the neighbour is in another autonomous system
+abbrev pub is_external : Bgp → Bool
+is_external p = not (p.local == p.remote)
+
+abbrev pub bgp_of : ℕ → List ℕ → Bgp → setup.Protocol
+bgp_of number name p = record {
+  name = name;
+  table = p.channel.table;
+  spec = bgp_spec
+      (record { num = number; def_med = p.default_med; def_lp = p.default_local_pref })
+      p.neighbor (is_external p) p.channel.preference (option_map limit_of p.channel.limit);
+  filter = p.channel.import;
+  exports = Some (record {
+    spec = record {
+      family = p.channel.family;
+      own = number;
+      to_ebgp = is_external p;
+      interpret = p.interpret_communities;
+    };
+    filter = p.channel.export;
+  });
+}
+
+abbrev pub with_protocol :
+    ℕ → List ℕ → Body → List setup.Protocol → List setup.Protocol
+with_protocol number name (IsStatic p) more = static_of number name p ∷ more
+with_protocol number name (IsBgp p) more = bgp_of number name p ∷ more
+with_protocol number name (IsPipe p) more = more
+
+abbrev pub protocols_from : ℕ → List Protocol → List setup.Protocol
+protocols_from number [] = []
+protocols_from number (p ∷ more) =
+    with_protocol number p.name p.body (protocols_from (number + 1) more)
+
+-- what a system gives to play, with journals of so many changes
+unfoldable pub setup_of : System → ℕ → Setup
+setup_of system cells = record {
+  tables = system.tables;
+  protocols = protocols_from 0 system.protocols;
+  cells = cells;
+}
+
+-- ---- pipes aren't played yet
+
+abbrev pub is_pipe : Body → Bool
+is_pipe (IsStatic p) = false
+is_pipe (IsBgp p) = false
+is_pipe (IsPipe p) = true
+
+abbrev pub has_pipe : List Protocol → Bool
+has_pipe [] = false
+has_pipe (p ∷ more) = if is_pipe p.body then true else has_pipe more
