@@ -3,3 +3,7 @@ mod Routing
 mod RouteSteps
 mod Reading
 mod Growing
+mod Acting
+mod Reporting
+mod Played
+mod Numbering
