@@ -1,6 +1,7 @@
 -- Two lists, item by item: what holds of each two is what holds at each place.
-use Rattle.std.proofs.Common.{◌≡◌, ℕ, zero, suc, ◌+◌, ◌<◌, ◌⊎◌, inl, inr, List, [], ◌∷◌, ◌++◌, length, set, take, map, Some, refl, sym, ap, subst, ◌∙◌, arith, zero-add}
+use Rattle.std.proofs.Common.{◌≡◌, ℕ, zero, suc, ◌+◌, ◌<◌, ◌≤◌, ◌⊎◌, inl, inr, List, [], ◌∷◌, ◌++◌, length, set, take, map, Some, refl, sym, ap, subst, ◌∙◌, arith, zero-add}
 use Rattle.std.specs.Prelude.{slice_get}
+use Rattle.std.proofs.lemmas.List.{take_all}
 use Rattle.std.proofs.lemmas.Option.{none-some, same_Some}
 use Rattle.core_setup.specs.Pairs.{Pairs}
 
@@ -189,3 +190,11 @@ pairs_through P Q R xs ys zs each ps qs =
     pairs_all R xs zs (pairs_length P 0 xs ys ps ∙ pairs_length Q 0 ys zs qs) (λ j x z ex ez.
       let h = other_here P xs ys ps j x ex in
       each j x h.0 z ex h.1 ez h.2 (pairs_here Q ys zs qs j h.0 z h.1 ez))
+
+-- a turn of a loop over the first list, and its end
+pub pairs_turn : {X Y : Type 0} (P : ℕ → X → Y → Type 0) (xs : List X) (ys zs : List Y) (k : ℕ) (x : X) (y : Y) → slice_get xs k ≡ Some x → zs ≡ ys ++ y ∷ []
+    → Pairs P 0 (take k xs) ys → P k x y → Pairs P 0 (take (k + 1) xs) zs
+pairs_turn {Y} P xs ys zs k x y e ez ps p = subst (λ (l : List Y). Pairs P 0 (take (k + 1) xs) l) (sym ez) (pairs_more P xs ys k x y e ps p)
+
+pub pairs_end : {X Y : Type 0} (P : ℕ → X → Y → Type 0) (xs : List X) (ys : List Y) (k : ℕ) → length xs ≤ k → Pairs P 0 (take k xs) ys → Pairs P 0 xs ys
+pairs_end {X} P xs ys k w ps = subst (λ (l : List X). Pairs P 0 l ys) (take_all k xs w) ps

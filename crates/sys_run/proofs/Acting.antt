@@ -6,6 +6,7 @@ use Rattle.std.specs.declared.alloc.Global.{Global}
 use Rattle.std.specs.declared.vec.Vec.{Vec}
 use Rattle.std.proofs.lemmas.Bool.Decides.{eqb_tells}
 use Rattle.std.proofs.lemmas.List.{length-append, reverse-append}
+use Rattle.std.proofs.lemmas.Option.{same_Some}
 use Rattle.bits_ip.specs.Prefix.{Net}
 use Rattle.attrs.specs.declared.judge.Verdict.{Verdict}
 use Rattle.attrs.specs.declared.route.Change.{Change}
@@ -27,7 +28,7 @@ use Rattle.core_machine.specs.Lines.{Reply}
 use Rattle.core_machine.specs.Machine.{Applies, State, appended}
 use Rattle.core_machine.specs.Machine as steps
 use Rattle.core_machine.specs.Replies.{replies_to}
-use Rattle.core_machine.specs.Rules.{Effect, Rules, is_up, signalled}
+use Rattle.core_machine.specs.Rules.{Effect, Fits, Rules, is_up, signalled}
 use Rattle.core_machine.proofs.Contents.{if_true, if_false}
 use Rattle.core_machine.proofs.Replying.{front_on}
 use Rattle.core_machine.proofs.WholeState.{set_here as at_here, set_there as at_there}
@@ -37,15 +38,15 @@ use Rattle.core_setup.specs.Protocols.{effect_at, effect_of, imports_after, prot
 use Rattle.core_setup.specs.Reports.{dones}
 use Rattle.core_setup.specs.Setup.{Protocol, Setup}
 use Rattle.core_setup.proofs.Differing.{differences_are}
-use Rattle.core_setup.proofs.PairLemmas.{cases_same, get-set, get-set_other, get_one, get_within, pairs_push, set_here, weaker_here}
+use Rattle.core_setup.proofs.PairLemmas.{cases_same, get-set, get-set_other, get_one, get_within, one_here, pairs_length, pairs_push, set_here, weaker_here}
 use Rattle.sys_run.specs.Cores.{IsAnswered, IsCore, IsImporting}
 use Rattle.sys_run.specs.Routes.{AreRoutes, with_channel}
-use Rattle.sys_run.specs.declared.core.Answered.{Answered}
-use Rattle.sys_run.specs.declared.core.Core.{Core}
+use Rattle.sys_run.specs.declared.player.Answered.{Answered}
+use Rattle.sys_run.specs.declared.player.Core.{Core}
 use Rattle.sys_run.specs.declared.imports.Imports.{Imports}
 use Rattle.sys_run.specs.declared.routes.Routes.{Routes}
 use Rattle.sys_run.proofs.Growing.{Grows, appended_grows, appended_history, appended_ops, appended_replies, grows_not, obeys_log, obeys_open}
-use Rattle.sys_run.proofs.Routing.{are_same}
+use Rattle.sys_run.proofs.Routing.{are_same, channels_length, protocol_is}
 
 pub push_reverse : {A : Type 0} (x : A) (xs : List A) → reverse (x ∷ xs) ≡ reverse xs ++ x ∷ []
 push_reverse x xs = reverse-append (x ∷ []) xs
@@ -285,3 +286,73 @@ module _ {J : Type 0} (verdict : J → Net → Route → Verdict) (setup : Setup
         let there : slice_get core.replies.items actor ≡ Some given = sym (get-set_other core.replies.items reply.actor actor after (λ same. w.1 (sym same))) ∙ e in
         let rest : replies_to actor s.replies ≡ replies_to actor t.replies = sym (if_false (reply.actor == actor) (reply ∷ replies_to actor s.replies) (replies_to actor s.replies) w.0) in
         subst (λ (xs : List Reply). Pairs (λ n a r. IsAnswered setup t a r) 0 given.items (reverse xs)) rest (on actor given (are.replies actor given there))
+
+-- ---- an operation, step by step
+
+module _ {J : Type 0} (verdict : J → Net → Route → Verdict) where
+  pub record IsDone (setup : Setup) (b s : State) (i : ℕ) (op : Op) (held : Imports J) (next : Importing J) (step : Step) : Type 0 where
+    pub q : Protocol
+    pub there : slice_get setup.protocols i ≡ Some q
+    pub source : q.spec.src.num ≡ i
+    pub importing : IsImporting verdict setup i q (b.ops i) (s.ops i) held
+    pub step_is : IsStep q.spec (imports_after q (s.ops i)) (done q.spec q.filter op (imports_after q (s.ops i))) next.imports step
+    pub effect : IsEffect setup i (s.ops i) op step
+
+  pub done_of : (setup : Setup) (b s : State) (core : Core J) (i : ℕ) (op : Op) (held : Imports J) (next : Importing J) (step : Step) → IsCore verdict setup b s core
+      → slice_get core.imports.items i ≡ Some held → IsNext held.importer (done held.importer.spec (verdict held.importer.judge) op held.importer.imports) next step
+      → IsDone setup b s i op held next step
+  done_of setup b s core i op held next step are e got =
+      let q = one_here (λ j p x. IsImporting verdict setup j p (b.ops j) (s.ops j) x) setup.protocols core.imports.items are.imports i held e in
+      let is = step_is verdict setup i q.0 (b.ops i) (s.ops i) op held next step q.2 got in
+      record {
+        q = q.0;
+        there = q.1;
+        source = (protocol_is setup.tables 0 setup.protocols are.routes.setup_is i q.0 q.1).source ∙ (let z : 0 + i ≡ i = omega arith in z);
+        importing = q.2;
+        step_is = is;
+        effect = effect_is verdict setup i q.0 (b.ops i) (s.ops i) op held next step q.1 is;
+      }
+
+  -- how many there are
+  pub imports_length : (setup : Setup) (b s : State) (core : Core J) → IsCore verdict setup b s core → length core.imports.items ≡ length core.routes.channels.items
+  imports_length setup b s core are =
+      sym (pairs_length (λ j p x. IsImporting verdict setup j p (b.ops j) (s.ops j) x) 0 setup.protocols core.imports.items are.imports) ∙ channels_length verdict setup s core.routes are.routes
+
+  pub sources_of : (setup : Setup) (b s : State) (i : ℕ) (op : Op) (held : Imports J) (next : Importing J) (step : Step) (n : ℕ) (changes : List Change) → IsDone setup b s i op held next step → i < n → changes ≡ step.changes
+      → (k : ℕ) (d : Change) → k < length changes → (get_or changes k d).num < n
+  sources_of setup b s i op held next step n changes is w e =
+      sources_below is.q.spec.src.num n changes (let source = is.source in omega (arith, source, w))
+      (subst (λ (cs : List Change). AllByRecursion (λ (c : Change). c.num ≡ is.q.spec.src.num) cs) (sym e) is.step_is.changes.source)
+
+  -- the state behind the operation's changes, and that its mark fits there
+  abbrev pub changed : Setup → ℕ → Op → State → State
+  changed setup i op s = appended (rules_of setup) ((rules_of setup).table i) ((rules_of setup).gives i (s.ops i) op).changes s
+
+  pub changed_is : (setup : Setup) (b s : State) (i table : ℕ) (op : Op) (held : Imports J) (next : Importing J) (step : Step) (changes : List Change) (routes : Routes J) → IsDone setup b s i op held next step
+      → changes ≡ step.changes → table ≡ (rules_of setup).table i → AreRoutes verdict setup (appended (rules_of setup) table (reverse changes) s) routes → AreRoutes verdict setup (changed setup i op s) routes
+  changed_is setup b s i table op held next step changes routes is e et are =
+      subst (λ (cs : List Change). AreRoutes verdict setup (appended (rules_of setup) ((rules_of setup).table i) cs s) routes) (ap reverse e ∙ is.effect.changes)
+      (subst (λ n. AreRoutes verdict setup (appended (rules_of setup) n (reverse changes) s) routes) et are)
+
+  pub mark_fits : (setup : Setup) (b s : State) (core : Core J) (i : ℕ) (op : Op) (held : Imports J) (next : Importing J) (step : Step) → IsCore verdict setup b s core → IsDone setup b s i op held next step
+      → Fits (signal_of step.mark) (is_open ((changed setup i op s).channels i))
+  mark_fits setup b s core i op held next step are is =
+      let effect = (rules_of setup).gives i (s.ops i) op in
+      subst (λ up. Fits (signal_of step.mark) up) (sym ((appended_grows (rules_of setup) ((rules_of setup).table i) effect.changes s i).up ∙ are.up i))
+      (subst (λ signal. Fits signal (is_up (rules_of setup) i (s.ops i))) (sym is.effect.signal) (are.routes.rules_are.fits i (s.ops i) op))
+
+  pub operation_done : (setup : Setup) (b s : State) (core : Core J) (i : ℕ) (op : Op) (routes : Routes J) (imports : Vec (Imports J) Global) (held mid after : Imports J) (next : Importing J) (step : Step) (ch : machine.Channel)
+      → IsCore verdict setup b s core → slice_get core.imports.items i ≡ Some held → IsDone setup b s i op held next step → KeepsSpec held.importer next
+      → Obeys (signal_of step.mark) (rules_of setup) ((changed setup i op s).history ((rules_of setup).table i)) ((changed setup i op s).channels i) ch
+      → AreRoutes verdict setup (with_channel i ch (changed setup i op s)) routes
+      → imports.items ≡ set (set core.imports.items i mid) i after
+      → after.kind ≡ held.kind → after.importer ≡ next → after.done.items ≡ held.done.items ++ record { op = op; over = step.over } ∷ []
+      → (t : State) × ((actor : ℕ) → Applies (rules_of setup) (record { actor = actor; protocol = i; op = op }) s t)
+        × IsCore verdict setup b t (record core { routes = routes; imports = imports })
+  operation_done setup b s core i op routes imports held mid after next step ch are e is keeps obeys now ei kind importer noted =
+      acted verdict setup b s core i op routes imports held mid after ch are e
+      (subst (λ signal. Obeys signal (rules_of setup) ((changed setup i op s).history ((rules_of setup).table i)) ((changed setup i op s).channels i) ch) is.effect.signal obeys, now) ei
+      (λ q there importing.
+        let same : is.q ≡ q = same_Some is.q q (sym is.there ∙ there) in
+        subst (λ (p : Protocol). IsImporting verdict setup i p (b.ops i) (op ∷ s.ops i) after) same
+        (imported_more verdict setup i is.q (b.ops i) (s.ops i) op held next step after is.importing keeps is.step_is is.effect kind importer noted))

@@ -7,3 +7,5 @@ mod Acting
 mod Reporting
 mod Played
 mod Numbering
+mod Making
+mod Looping

@@ -17,7 +17,7 @@ use Rattle.core_setup.proofs.PairLemmas.{get_within, length_front, take_one_more
 use Rattle.script_lines.specs.declared.script.Line.{Line}
 use Rattle.sys_run.specs.Cores.{IsCore}
 use Rattle.sys_run.specs.Scripts.{line_of, number_of, phase_of, protocol_of_channel}
-use Rattle.sys_run.specs.declared.core.Core.{Core}
+use Rattle.sys_run.specs.declared.player.Core.{Core}
 use Rattle.sys_run.proofs.Reporting.{channel_named}
 
 pub number_is : (setup : Setup) (k number : ℕ) → slice_get (map (λ (c : ℕ × List ℕ). c.0) (channels setup)) k ≡ Some number

@@ -17,7 +17,7 @@ use Rattle.report.specs.declared.phase.PhaseReport.{PhaseReport}
 use Rattle.sys_run.specs.Cores.{IsCore}
 use Rattle.sys_run.specs.Phase.{joined_of}
 use Rattle.sys_run.specs.Playing.{HasPlayed, PlaysTo, silent, starts_in}
-use Rattle.sys_run.specs.declared.core.Core.{Core}
+use Rattle.sys_run.specs.declared.player.Core.{Core}
 
 pub both_ok : {T E : Type 0} (r : Result T E) (P Q : T → Type 0) → IfOk r P → IfOk r Q → IfOk r (λ x. P x × Q x)
 both_ok (Ok x) P Q p q = (p, q)

@@ -50,8 +50,8 @@ use Rattle.sys_run.specs.Playing.{silent}
 use Rattle.sys_run.specs.Routes.{AreRoutes}
 use Rattle.sys_run.specs.Tables.{IsTable}
 use Rattle.sys_run.specs.declared.channel.Channel.{Channel}
-use Rattle.sys_run.specs.declared.core.Answered.{Answered}
-use Rattle.sys_run.specs.declared.core.Core.{Core}
+use Rattle.sys_run.specs.declared.player.Answered.{Answered}
+use Rattle.sys_run.specs.declared.player.Core.{Core}
 use Rattle.sys_run.specs.declared.imports.Imports.{Imports}
 use Rattle.sys_run.specs.declared.parts.TableParts.{TableParts}
 use Rattle.sys_run.specs.declared.phase.Begun.{Begun}

@@ -22,8 +22,8 @@ use Rattle.core_setup.specs.Reports.{channels, dones, protocol_names, table_name
 use Rattle.core_setup.specs.Setup.{Protocol, Setup}
 use Rattle.show_route.specs.Reply.{reply_text}
 use Rattle.sys_run.specs.Routes.{AreRoutes}
-use Rattle.sys_run.specs.declared.core.Answered.{Answered}
-use Rattle.sys_run.specs.declared.core.Core.{Core}
+use Rattle.sys_run.specs.declared.player.Answered.{Answered}
+use Rattle.sys_run.specs.declared.player.Core.{Core}
 use Rattle.sys_run.specs.declared.imports.Imports.{Imports}
 use Rattle.sys_run.specs.declared.parts.TableParts.{TableParts}
 

@@ -30,7 +30,7 @@ use Rattle.report.specs.declared.phase.TableReport.{TableReport}
 use Rattle.sys_run.specs.Channels.{IsChannel, TellsStanding}
 use Rattle.sys_run.specs.Tables.{IsTable}
 use Rattle.sys_run.specs.declared.channel.Channel.{Channel}
-use Rattle.sys_run.specs.declared.core.Answered.{Answered}
+use Rattle.sys_run.specs.declared.player.Answered.{Answered}
 use Rattle.sys_run.specs.declared.imports.Imports.{Imports}
 use Rattle.sys_run.specs.declared.parts.TableParts.{TableParts}
 use Rattle.sys_run.specs.declared.phase.Begun.{Begun}

@@ -5,7 +5,7 @@ ghost use Rattle.core_setup.specs.Plays.{IsPlay};
 ghost use Rattle.core_setup.specs.Setup.{Setup};
 ghost use Rattle.report.specs.declared.phase.PhaseReport.{PhaseReport};
 ghost use Rattle.sys_run.specs.Playing.{HasPlayed};
-ghost use Rattle.sys_run.specs.declared.core.Core.{Core};
+ghost use Rattle.sys_run.specs.declared.player.Core.{Core};
 
 use attrs::Judge;
 

@@ -18,7 +18,7 @@ ghost use Rattle.sys_run.specs.Phase.{BeganAt, IsEmptied, IsExportOf, IsJournalO
 ghost use Rattle.sys_run.specs.Playing.{silent};
 
 use crate::channel::Channel;
-use crate::core::{Answered, Core};
+use crate::player::{Answered, Core};
 use crate::imports::Imports;
 use crate::parts::TableParts;
 use crate::table::Table;
@@ -95,35 +95,32 @@ impl<J: Judge> Core<J> {
         let Some(number) = self.phases.checked_add(1) else {
             return Err(OutOfMemory);
         };
-        let replies = mem::replace(&mut self.replies, Vec::new(self.alloc));
-        let report = PhaseReport {
-            number,
-            protocols: report_operations(self.alloc, &self.names, &mut self.imports)?,
-            journals: report_journals(
-                self.alloc,
-                &self.tables,
-                &self.routes.tables,
-                &begun.heads,
-            )?,
-            channels: report_logs(
-                self.alloc,
-                &self.names,
-                &self.channels,
-                &self.routes.channels,
-                &begun.logged,
-            )?,
-            replies: report_replies(self.alloc, actors, &self.tables, replies)?,
-            tables: report_tables(self.alloc, &self.tables, &self.routes.tables)?,
-            modes: report_modes(self.alloc, &self.names, &self.imports)?,
-            exports: report_exports(
-                self.alloc,
-                &self.names,
-                &self.channels,
-                &self.routes.channels,
-            )?,
-        };
+        let alloc = self.alloc;
+        let answered = mem::replace(&mut self.replies, Vec::new(alloc));
+        let protocols = report_operations(alloc, &self.names, &mut self.imports)?;
+        let journals = report_journals(alloc, &self.tables, &self.routes.tables, &begun.heads)?;
+        let channels = report_logs(
+            alloc,
+            &self.names,
+            &self.channels,
+            &self.routes.channels,
+            &begun.logged,
+        )?;
+        let replies = report_replies(alloc, actors, &self.tables, answered)?;
+        let tables = report_tables(alloc, &self.tables, &self.routes.tables)?;
+        let modes = report_modes(alloc, &self.names, &self.imports)?;
+        let exports = report_exports(alloc, &self.names, &self.channels, &self.routes.channels)?;
         self.phases = number;
-        Ok(report)
+        Ok(PhaseReport {
+            number,
+            protocols,
+            journals,
+            channels,
+            replies,
+            tables,
+            modes,
+            exports,
+        })
     }
 }
 

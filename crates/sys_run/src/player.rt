@@ -11,9 +11,10 @@ ghost use Rattle.sys_run.specs.Cores.{Holds, IsAnswered, IsCore, Keeps};
 ghost use Rattle.sys_run.specs.Parts.{setup_seen};
 ghost use Rattle.sys_run.specs.Playing.{HasPlayed, IsPlaying, starts_in};
 ghost use Rattle.sys_run.specs.Scripts.{line_of, phase_of};
-ghost use Rattle.sys_run.specs.declared.core.Answered.{Answered as HeldAnswer};
+ghost use Rattle.sys_run.specs.declared.player.Answered.{Answered as HeldAnswer};
 
 use crate::imports::Imports;
+use crate::made::{Made, make_protocols, make_tables};
 use crate::parts::{ProtocolParts, TableParts};
 use crate::phase::Begun;
 use crate::routes::Routes;
@@ -51,7 +52,7 @@ pub struct Core<J: Judge> {
     pub(crate) names: Vec<Seq<u8>>,
 }
 
-impl<J: Judge> Core<J> {
+impl<J: Judge + Drop> Core<J> {
     /// A core that has played nothing. The journal of each table holds so many changes for the
     /// channels that are still to take them.
     pub fn make(
@@ -65,9 +66,31 @@ impl<J: Judge> Core<J> {
             → HasPlayed J.verdict (setup_seen J.verdict tables.items protocols.items cells)
             actors [] [] core) }
     {
-        Err(OutOfMemory)
+        let held = make_tables(alloc, &tables)?;
+        let Made {
+            names,
+            imports,
+            channels,
+            numbers,
+        } = make_protocols(alloc, protocols)?;
+        Ok(Core {
+            alloc,
+            phases: 0,
+            routes: Routes {
+                cells: u64::from(cells),
+                tables: held,
+                channels,
+            },
+            imports,
+            channels: numbers,
+            replies: Vec::new(alloc),
+            tables,
+            names,
+        })
     }
+}
 
+impl<J: Judge> Core<J> {
     /// Plays one more phase: these lines in their order, in the first phase behind the start of
     /// each static protocol, and then a sync. `actors` are the names of all who speak in the script.
     ///
@@ -178,11 +201,12 @@ impl<J: Judge> Core<J> {
         if number >= self.imports.len() {
             return Err(OutOfMemory);
         }
+        let step = self.imports[number].importer.apply(&op)?;
         let Step {
             changes,
             over,
             mark,
-        } = self.imports[number].importer.apply(&op)?;
+        } = step;
         let table = self.routes.channels[number].table;
         self.routes.append_all(table, changes.into_vec())?;
         self.routes.obey(number, mark)?;
@@ -280,7 +304,7 @@ fn no_replies(alloc: Global, actors: usize) -> Result<Vec<Vec<Answered>>, OutOfM
         → held.items ≡ [])) }
 {
     let mut replies = Vec::new(alloc);
-    for _ in 0..actors {
+    for _number in 0..actors {
         replies.push(Vec::new(alloc))?;
     }
     Ok(replies)
