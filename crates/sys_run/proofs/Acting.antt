@@ -38,7 +38,7 @@ use Rattle.core_setup.specs.Protocols.{effect_at, effect_of, imports_after, prot
 use Rattle.core_setup.specs.Reports.{dones}
 use Rattle.core_setup.specs.Setup.{Protocol, Setup}
 use Rattle.core_setup.proofs.Differing.{differences_are}
-use Rattle.core_setup.proofs.PairLemmas.{cases_same, get-set, get-set_other, get_one, get_within, one_here, pairs_length, pairs_push, set_here, weaker_here}
+use Rattle.core_setup.proofs.PairLemmas.{cases_same, get-set, get-set_other, get_one, get_within, one_here, pairs_here, pairs_length, pairs_push, set_here, weaker_here}
 use Rattle.sys_run.specs.Cores.{IsAnswered, IsCore, IsImporting}
 use Rattle.sys_run.specs.Routes.{AreRoutes, with_channel}
 use Rattle.sys_run.specs.declared.player.Answered.{Answered}
@@ -313,7 +313,13 @@ module _ {J : Type 0} (verdict : J → Net → Route → Verdict) where
         effect = effect_is verdict setup i q.0 (b.ops i) (s.ops i) op held next step q.1 is;
       }
 
+  pub kind_of : (setup : Setup) (b s : State) (core : Core J) (i : ℕ) (held : Imports J) (p : Protocol) → IsCore verdict setup b s core → slice_get core.imports.items i ≡ Some held → slice_get setup.protocols i ≡ Some p → held.kind ≡ p.spec.kind
+  kind_of setup b s core i held p are e there = (pairs_here (λ j p x. IsImporting verdict setup j p (b.ops j) (s.ops j) x) setup.protocols core.imports.items are.imports i p held there e).kind
+
   -- how many there are
+  pub imports_count : (setup : Setup) (b s : State) (core : Core J) → IsCore verdict setup b s core → length setup.protocols ≡ length core.imports.items
+  imports_count setup b s core are = pairs_length (λ j p x. IsImporting verdict setup j p (b.ops j) (s.ops j) x) 0 setup.protocols core.imports.items are.imports
+
   pub imports_length : (setup : Setup) (b s : State) (core : Core J) → IsCore verdict setup b s core → length core.imports.items ≡ length core.routes.channels.items
   imports_length setup b s core are =
       sym (pairs_length (λ j p x. IsImporting verdict setup j p (b.ops j) (s.ops j) x) 0 setup.protocols core.imports.items are.imports) ∙ channels_length verdict setup s core.routes are.routes

@@ -8,13 +8,13 @@ use Rattle.export_core.specs.declared.log.LogItem.{LogItem}
 use Rattle.export_core.specs.declared.log.LogItem.TheVariants.{Up, Down, Reload, Sent}
 use Rattle.export_core.specs.Logs.{account, stretch, value_of}
 use Rattle.export_core.specs.Sends.{key_of}
-use Rattle.core_machine.specs.Channels.{Channel, Obeys, closed, fed, if_open, is_open, logged, opened, push_one, pushed, renewed, same_value, send_of, take_one, times, value_at}
+use Rattle.core_machine.specs.Channels.{Channel, Obeys, closed, fed, if_open, is_open, logged, opened, push_one, pushed, renewed, same_value, send_of, take_one, taken, times, value_at}
 use Rattle.core_machine.specs.Histories.{entry}
 use Rattle.core_machine.specs.Machine.{State, appended, pushed_out, round, set, taken_up}
 use Rattle.core_machine.specs.Marks.{Marked}
 use Rattle.core_machine.specs.Room.{in_room, lags, roomed}
 use Rattle.core_machine.specs.Rules.{Rules, Signal, Stay, Rise, Fall, Renew, signalled}
-use Rattle.core_machine.proofs.OneChannel.{stretch_logged, taken_log}
+use Rattle.core_machine.proofs.OneChannel.{stretch_logged}
 use Rattle.core_machine.proofs.WholeState.{set_here, set_there}
 use Rattle.core_setup.proofs.PairLemmas.{cases_same}
 
@@ -43,7 +43,10 @@ grows_if f true ch g = g
 grows_if f false ch g = grows_not ch ch refl
 
 take_grows : (h : List Change) (ch : Channel) → Grows ch (take_one h ch)
-take_grows h ch = grows_not ch (take_one h ch) (taken_log (entry ch.position h) ch)
+take_grows h ch = grows_not ch (take_one h ch) (log (entry ch.position h)) where
+  log : (o : Option Change) → (taken o ch).log ≡ ch.log
+  log None = refl
+  log (Some c) = refl
 
 logged_items : (o : Option Bool) (m : Marked) (v : Option Attrs) (log : List LogItem) → (items : List LogItem) × (logged o m v log ≡ items ++ log)
 logged_items None m v log = ([], refl)

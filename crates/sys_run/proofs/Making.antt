@@ -37,7 +37,7 @@ use Rattle.sys_run.proofs.Routing.{ChannelIs, TableIs, protocol_is}
 
 pairs_seen : {X A Y : Type 0} (P : ℕ → A → Y → Type 0) (Q : ℕ → X → Y → Type 0) (f : X → A) (xs : List X) (ys : List Y)
     → ((j : ℕ) (x : X) (y : Y) → slice_get (map f xs) j ≡ Some (f x) → Q j x y → P j (f x) y) → Pairs Q 0 xs ys → Pairs P 0 (map f xs) ys
-pairs_seen P Q f xs ys each qs = pairs_all P (map f xs) ys (length-map f xs ∙ pairs_length Q 0 xs ys qs) (λ j a y ea ey.
+pairs_seen P Q f xs ys each qs = pairs_all P (map f xs) ys (length-map xs f ∙ pairs_length Q 0 xs ys qs) (λ j a y ea ey.
     let x = one_here Q xs ys qs j y ey in
     let there : slice_get (map f xs) j ≡ Some (f x.0) = slice_get-map f xs j ∙ ap (option_map f) x.1 in
     subst (λ z. P j z y) (same_Some (f x.0) a (sym there ∙ ea)) (each j x.0 y there x.2))
@@ -71,7 +71,7 @@ module _ {J : Type 0} where
         ∙ ap (λ m. numbers_from 0 ps ++ (if is_some p.exports then m ∷ [] else [])) place ∙ sym (numbers_push 0 ps p);
   } where
     place : number ≡ 0 + length ps
-    place = let e : length old.names.items ≡ length ps = ap length is.names ∙ length-map (λ (p : ProtocolParts J). p.name) ps in omega (arith, at, e)
+    place = let e : length old.names.items ≡ length ps = ap length is.names ∙ length-map ps (λ (p : ProtocolParts J). p.name) in omega (arith, at, e)
 
 -- ---- the whole
 

@@ -1,11 +1,15 @@
 -- The protocol of a channel's number, and a reply's table.
 use Rattle.std.proofs.Common.{◌≡◌, ℕ, zero, suc, ◌+◌, ◌<◌, List, [], ◌∷◌, ◌++◌, length, map, take, reverse, Option, Some, None, refl, sym, ap, subst, ◌∙◌, arith}
-use Rattle.std.specs.Prelude.{slice_get, option_map}
+use denote.Bor.{Bor}
+use Rattle.std.specs.Prelude.{slice_get, option_map, option_copied}
+use Rattle.std.specs.Slice.{IsItemAt}
 use Rattle.std.proofs.lemmas.List.{reverse-append}
-use Rattle.std.proofs.lemmas.Option.{none-some, same_Some, slice_get-map}
+use Rattle.std.proofs.lemmas.Option.{none-some, same_Some, slice_get-map, slice_get_read}
 use Rattle.attrs.specs.declared.attributes.Kind.{Kind}
 use Rattle.attrs.specs.declared.attributes.Kind.TheVariants.{Static, Bgp}
 use Rattle.import_core.specs.declared.operation.Op.TheVariants.{Start}
+use Rattle.attrs.specs.declared.route.Row.{Row}
+use Rattle.show_route.specs.Reply.{reply_text}
 use Rattle.core_machine.specs.Lines as machine
 use Rattle.core_machine.specs.Lines.{Act}
 use Rattle.core_machine.specs.Machine.{Applies, Begins, Plays, State, Steps}
@@ -61,3 +65,13 @@ begins_more setup n p s between t e begins one =
             ap (λ ps. starts_from 0 ps []) (take_one_more setup.protocols n p e) ∙ starts_push 0 (take n setup.protocols) p []
             ∙ ap (λ m. with_start m p.spec.kind (starts_from 0 (take n setup.protocols) [])) (length_front setup.protocols n p e) in
     subst (λ acts. Begins (rules_of setup) acts s t) (sym more) (begins_one (rules_of setup) n p.spec.kind (starts_from 0 (take n setup.protocols) []) s between t begins one)
+
+-- ---- what code reads
+
+pub got_copied : {X : Type 0} (xs : List X) (i : ℕ) (r : Option (Bor X)) (x : X) → IsItemAt xs i r → option_copied r ≡ Some x → slice_get xs i ≡ Some x
+got_copied xs i None x look e = absurd (none-some x e)
+got_copied xs i (Some y) x look e =
+    slice_get_read xs (length xs) i y.now refl look.3.0 look.1 ∙ e
+
+pub text_same : (a b : List (List ℕ)) (n m : List ℕ) (x y : List Row) → a ≡ b → n ≡ m → x ≡ y → reply_text a n x ≡ reply_text b m y
+text_same a b n m x y ea en ex = ap (λ l. reply_text l n x) ea ∙ ap (λ l. reply_text b l x) en ∙ ap (λ l. reply_text b m l) ex

@@ -84,13 +84,14 @@ channel_later p ps n channel is = record { place = suc is.place; q = is.q; there
 
 channel_in : (n : ℕ) (ps : List Protocol) (j : ℕ) (channel : ℕ × List ℕ) → slice_get (channels_from n ps) j ≡ Some channel → IsChannelOf ps n channel
 channel_in n [] j channel e = absurd (none-some channel e)
-channel_in n (p ∷ ps) j channel e = by p.exports j e where
-  by : (o : Option Exports) (j : ℕ) → slice_get (with_channel n p.name o (channels_from (n + 1) ps)) j ≡ Some channel → IsChannelOf (p ∷ ps) n channel
-  by None j e = channel_later p ps n channel (channel_in (n + 1) ps j channel e)
-  by (Some exports) zero e =
+channel_in n (p ∷ ps) j channel e = by p.exports j (λ k. channel_in (n + 1) ps k channel) e where
+  by : (o : Option Exports) (j : ℕ) → ((k : ℕ) → slice_get (channels_from (n + 1) ps) k ≡ Some channel → IsChannelOf ps (n + 1) channel)
+      → slice_get (with_channel n p.name o (channels_from (n + 1) ps)) j ≡ Some channel → IsChannelOf (p ∷ ps) n channel
+  by None j later e = channel_later p ps n channel (later j e)
+  by (Some exports) zero later e =
       let same = same_Some (n, p.name) channel e in
       record { place = 0; q = p; there = refl; number = (let h : channel.0 ≡ n = sym (ap (λ (c : ℕ × List ℕ). c.0) same) in omega (arith, h)); name = sym (ap (λ (c : ℕ × List ℕ). c.1) same) }
-  by (Some exports) (suc j) e = channel_later p ps n channel (channel_in (n + 1) ps j channel e)
+  by (Some exports) (suc j) later e = channel_later p ps n channel (later j e)
 
 pub channel_named : (setup : Setup) (j : ℕ) (channel : ℕ × List ℕ) → slice_get (channels setup) j ≡ Some channel
     → (q : Protocol) × (slice_get setup.protocols channel.0 ≡ Some q) × (channel.1 ≡ q.name)
@@ -171,7 +172,7 @@ module _ {J : Type 0} (verdict : J → Net → Route → Verdict) (setup : Setup
 
   numbers : Pairs (λ j (channel : ℕ × List ℕ) number. number ≡ channel.0) 0 (channels setup) core.channels.items
   numbers = pairs_all (λ j (channel : ℕ × List ℕ) number. number ≡ channel.0) (channels setup) core.channels.items
-      (sym (ap length are.channels ∙ length-map (λ (c : ℕ × List ℕ). c.0) (channels setup))) numbered
+      (sym (ap length are.channels ∙ length-map (channels setup) (λ (c : ℕ × List ℕ). c.0))) numbered
 
   channel_at : (i : ℕ) (q : Protocol) (held : Channel J) → slice_get setup.protocols i ≡ Some q → slice_get core.routes.channels.items i ≡ Some held → ChannelIs verdict setup s i q held
   channel_at i q held eq eh = pairs_here (ChannelIs verdict setup s) setup.protocols core.routes.channels.items are.routes.channels i q held eq eh
