@@ -1,3 +1,4 @@
+pub mod PairLemmas
 pub mod Differing
 pub mod Choosing
 pub mod Chained

@@ -6,3 +6,14 @@ pub mod Loops
 pub mod Stretches
 pub mod Kept
 pub mod Obeying
+mod UpTo
+mod Routing
+mod RouteSteps
+mod Reading
+mod Growing
+mod Acting
+mod Reporting
+mod Played
+mod Numbering
+mod Making
+mod Looping

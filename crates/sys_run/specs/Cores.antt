@@ -1,5 +1,5 @@
 -- For the contracts of private functions: a core in the midst of a phase, and the machine's state.
-use Rattle.std.specs.Prelude.{◌≡◌, ◌++◌, ℕ, List, [], length, map, reverse, Some, slice_get}
+use Rattle.std.specs.Prelude.{◌≡◌, ◌≤◌, ◌++◌, ℕ, List, [], length, map, reverse, Some, slice_get}
 use Rattle.std.specs.declared.alloc.Global.{Global}
 use Rattle.std.specs.declared.vec.Vec.{Vec}
 use Rattle.bits_ip.specs.Prefix.{Net}
@@ -22,8 +22,8 @@ use Rattle.core_setup.specs.Reports.{channels, dones, protocol_names, table_name
 use Rattle.core_setup.specs.Setup.{Protocol, Setup}
 use Rattle.show_route.specs.Reply.{reply_text}
 use Rattle.sys_run.specs.Routes.{AreRoutes}
-use Rattle.sys_run.specs.declared.core.Answered.{Answered}
-use Rattle.sys_run.specs.declared.core.Core.{Core}
+use Rattle.sys_run.specs.declared.player.Answered.{Answered}
+use Rattle.sys_run.specs.declared.player.Core.{Core}
 use Rattle.sys_run.specs.declared.imports.Imports.{Imports}
 use Rattle.sys_run.specs.declared.parts.TableParts.{TableParts}
 
@@ -31,6 +31,7 @@ use Rattle.sys_run.specs.declared.parts.TableParts.{TableParts}
 pub record IsAnswered (setup : Setup) (s : State) (held : Answered) (reply : Reply) : Type 0 where
   pub table : reply.table ≡ 0
   pub at : held.at ≡ reply.at
+  pub within : reply.at ≤ length (s.history 0)
   pub query : reply.query ≡ []
   pub rows : List Row
   pub shown : Shows rows (content_of (front reply.at (s.history 0)))
@@ -57,6 +58,7 @@ module _ {J : Type 0} (verdict : J → Net → Route → Verdict) where
     pub up : (i : ℕ) → is_open (s.channels i) ≡ is_up (rules_of setup) i (s.ops i)
     -- what there was before the phase
     pub histories : (n : ℕ) → (changes : List Change) × (s.history n ≡ changes ++ b.history n)
+    pub operations : (i : ℕ) → (ops : List Op) × (s.ops i ≡ ops ++ b.ops i)
     pub logs :
         (i : ℕ) → (items : List LogItem) × ((s.channels i).log ≡ items ++ (b.channels i).log)
     pub replies :
@@ -71,3 +73,8 @@ module _ {J : Type 0} (verdict : J → Net → Route → Verdict) where
 
   abbrev pub Holds : Core J → Type 0
   Holds core = (setup : Setup) × (b : State) × (s : State) × IsCore setup b s core
+
+-- how many phases have ended, and for how many actors there are replies, stays
+pub record Keeps {J : Type 0} (old new : Core J) : Type 0 where
+  pub phases : new.phases ≡ old.phases
+  pub replies : length new.replies.items ≡ length old.replies.items

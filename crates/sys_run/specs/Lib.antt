@@ -2,6 +2,7 @@ pub mod Scripts
 pub mod Parts
 pub mod Tables
 pub mod Channels
+pub mod Made
 pub mod Routes
 pub mod Phase
 pub mod Cores

@@ -1,10 +1,40 @@
--- For the contracts of private functions: where a phase began.
-use Rattle.std.specs.Prelude.{◌≡◌, ℕ, List, length, map}
+-- For the contracts of private functions: where a phase began, and what is reported at its end of
+-- the single parts of a core.
+use Rattle.std.specs.Prelude.{◌≡◌, ◌++◌, ℕ, true, false, List, [], ◌∷◌, drop, length, map, reverse, Option, Some, None, option_map, slice_get}
+use Rattle.std.specs.declared.alloc.Global.{Global}
+use Rattle.std.specs.declared.vec.Vec.{Vec}
+use Rattle.bits_ip.specs.Prefix.{Net}
+use Rattle.bits_ip.specs.declared.address.Family.{Family}
+use Rattle.attrs.specs.declared.attributes.Attrs.{Attrs}
+use Rattle.attrs.specs.declared.judge.Verdict.{Verdict}
+use Rattle.attrs.specs.declared.route.Change.{Change}
+use Rattle.attrs.specs.declared.route.Route.{Route}
+use Rattle.attrs.specs.Table.{Shows}
+use Rattle.export_core.specs.declared.log.Key.{Key}
+use Rattle.export_core.specs.Histories.{change_of}
+use Rattle.core_machine.specs.Channels as machine
+use Rattle.core_machine.specs.Histories.{content_of}
 use Rattle.core_machine.specs.Legal.{Joined}
 use Rattle.core_machine.specs.Machine.{State}
+use Rattle.core_machine.specs.Rules.{Rules}
 use Rattle.core_setup.specs.Pairs.{Pairs}
 use Rattle.core_setup.specs.Setup.{Setup}
+use Rattle.report.specs.declared.phase.ChannelReport.{ChannelReport}
+use Rattle.report.specs.declared.phase.ExportReport.{ExportReport}
+use Rattle.report.specs.declared.phase.JournalReport.{JournalReport}
+use Rattle.report.specs.declared.phase.ModeReport.{ModeReport}
+use Rattle.report.specs.declared.phase.ProtocolReport.{ProtocolReport}
+use Rattle.report.specs.declared.phase.ReplyReport.{ReplyReport}
+use Rattle.report.specs.declared.phase.Standing.{Standing}
+use Rattle.report.specs.declared.phase.TableReport.{TableReport}
+use Rattle.sys_run.specs.Channels.{IsChannel, TellsStanding}
+use Rattle.sys_run.specs.Tables.{IsTable}
+use Rattle.sys_run.specs.declared.channel.Channel.{Channel}
+use Rattle.sys_run.specs.declared.player.Answered.{Answered}
+use Rattle.sys_run.specs.declared.imports.Imports.{Imports}
+use Rattle.sys_run.specs.declared.parts.TableParts.{TableParts}
 use Rattle.sys_run.specs.declared.phase.Begun.{Begun}
+use Rattle.sys_run.specs.declared.table.Table.{Table}
 
 -- all that a state has come to
 abbrev pub joined_of : State → Joined
@@ -16,3 +46,94 @@ pub record BeganAt (setup : Setup) (b : State) (begun : Begun) : Type 0 where
       Pairs (λ n table head. head ≡ length (b.history n)) 0 setup.tables begun.heads.items
   pub logged :
       Pairs (λ i p len. len ≡ length (b.channels i).log) 0 setup.protocols begun.logged.items
+
+-- the name of the table of a number
+abbrev pub name_at : ℕ → List TableParts → Option (List ℕ)
+name_at number parts = option_map (λ (table : TableParts). table.name) (slice_get parts number)
+
+module _ {J : Type 0} where
+  -- the report has the protocol's operations
+  pub record IsOperationsOf
+      (names : List (List ℕ)) (i : ℕ) (held : Imports J) (report : ProtocolReport) : Type 0 where
+    pub name : slice_get names i ≡ Some report.name
+    pub ops : report.ops ≡ held.done.items
+
+  -- the operations are forgotten
+  pub record IsEmptied (i : ℕ) (held new : Imports J) : Type 0 where
+    pub kind : new.kind ≡ held.kind
+    pub importer : new.importer ≡ held.importer
+    pub done : new.done.items ≡ []
+
+  pub record IsModeOf
+      (names : List (List ℕ)) (i : ℕ) (held : Imports J) (report : ModeReport) : Type 0 where
+    pub name : slice_get names i ≡ Some report.name
+    pub mode : report.mode ≡ held.importer.imports.mode
+    pub accepted : report.accepted ≡ Some (length held.importer.imports.accepted)
+
+-- the report has the changes from a position on
+pub record IsJournalOf
+    (parts : List TableParts) (heads : List ℕ) (number : ℕ) (table : Table)
+    (report : JournalReport) : Type 0 where
+  pub name : name_at number parts ≡ Some report.table
+  pub from : slice_get heads number ≡ Some report.from
+  pub entries : report.entries ≡ drop report.from (map change_of table.entries.items)
+
+pub record IsTableOf (parts : List TableParts) (number : ℕ) (table : Table) (report : TableReport)
+    : Type 0 where
+  pub name : name_at number parts ≡ Some report.name
+  pub rows :
+      (rules : Rules) (family : Family) (history : List Change)
+      → IsTable rules family history table → Shows report.rows (content_of history)
+
+-- what stands for a key
+abbrev pub standing_in : Key × Attrs → Standing
+standing_in value = record { key = value.0; attrs = value.1 }
+
+module _ {J : Type 0} (verdict : J → Net → Route → Verdict) where
+  -- the report has the items of the log from a length on
+  pub record IsLogOf
+      (names : List (List ℕ)) (channels : List (Channel J)) (logged : List ℕ) (number : ℕ)
+      (report : ChannelReport) : Type 0 where
+    pub name : slice_get names number ≡ Some report.name
+    pub pipe : report.pipe ≡ false
+    pub held : Channel J
+    pub from : ℕ
+    pub channel : slice_get channels number ≡ Some held
+    pub begun : slice_get logged number ≡ Some from
+    pub items :
+        (rules : Rules) (i : ℕ) (family : Option Family) (history : List Change)
+        (ch : machine.Channel) → IsChannel verdict rules i family history held ch
+        → report.items ≡ drop from (reverse ch.log)
+
+  pub record IsExportOf
+      (names : List (List ℕ)) (channels : List (Channel J)) (number : ℕ) (report : ExportReport)
+      : Type 0 where
+    pub name : slice_get names number ≡ Some report.name
+    pub pipe : report.pipe ≡ false
+    pub held : Channel J
+    pub channel : slice_get channels number ≡ Some held
+    pub values : Option (Vec (Key × Attrs) Global)
+    pub told :
+        (rules : Rules) (i : ℕ) (family : Option Family) (history : List Change)
+        (ch : machine.Channel) → IsChannel verdict rules i family history held ch
+        → TellsStanding ch values
+    pub standing :
+        report.standing
+        ≡ option_map (λ (held : Vec (Key × Attrs) Global). map standing_in held.items) values
+
+-- ---- replies, which are all of the first table
+
+abbrev pub name_of : Option TableParts → List ℕ
+name_of None = []
+name_of (Some table) = table.name
+
+abbrev pub reply_of : Option TableParts → List ℕ → Answered → ReplyReport
+reply_of table actor held =
+    record { actor = actor; table = name_of table; at = held.at; text = held.text.items }
+
+-- the replies to each actor
+abbrev pub told : Option TableParts → List (List ℕ) → List (Vec Answered Global) → List ReplyReport
+told table [] replies = []
+told table (actor ∷ actors) [] = []
+told table (actor ∷ actors) (held ∷ more) =
+    map (reply_of table actor) held.items ++ told table actors more

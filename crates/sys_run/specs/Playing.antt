@@ -13,7 +13,7 @@ use Rattle.core_setup.specs.Reports.{AreReports}
 use Rattle.core_setup.specs.Setup.{Setup}
 use Rattle.report.specs.declared.phase.PhaseReport.{PhaseReport}
 use Rattle.sys_run.specs.Cores.{IsCore}
-use Rattle.sys_run.specs.declared.core.Core.{Core}
+use Rattle.sys_run.specs.declared.player.Core.{Core}
 
 -- the phases of scripts from a state on, what is printed of them, and the state to which they come
 abbrev pub PlaysTo :

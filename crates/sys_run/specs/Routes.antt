@@ -1,5 +1,5 @@
 -- For the contracts of private functions: all tables and channels, and the machine's state of them.
-use Rattle.std.specs.Prelude.{◌≡◌, ◌≤◌, ℕ, false, List, length}
+use Rattle.std.specs.Prelude.{◌≡◌, ◌≤◌, ℕ, false, ◌∷◌, length}
 use Rattle.bits_ip.specs.Prefix.{Net}
 use Rattle.attrs.specs.declared.judge.Verdict.{Verdict}
 use Rattle.attrs.specs.declared.route.Change.{Change}
@@ -7,6 +7,7 @@ use Rattle.attrs.specs.declared.route.Route.{Route}
 use Rattle.core_machine.specs.Channels.{Channel, is_open}
 use Rattle.core_machine.specs.Machine.{State, set}
 use Rattle.core_machine.specs.Room.{in_room}
+use Rattle.core_machine.specs.Rules.{IsRules}
 use Rattle.core_setup.specs.Pairs.{Pairs}
 use Rattle.core_setup.specs.Protocols.{rules_of}
 use Rattle.core_setup.specs.Setup.{IsSetup, Setup, family_at}
@@ -30,6 +31,7 @@ with_channel i new s = record s { channels = set i new s.channels }
 module _ {J : Type 0} (verdict : J → Net → Route → Verdict) where
   pub record AreRoutes (setup : Setup) (s : State) (routes : Routes J) : Type 0 where
     pub setup_is : IsSetup setup
+    pub rules_are : IsRules (rules_of setup)
     pub cells : routes.cells ≡ setup.cells
     pub tables :
         Pairs (λ n seen table. IsTable (rules_of setup) seen.1 (s.history n) table)

@@ -10,13 +10,14 @@
 #![tactic(auto)]
 
 mod channel;
-mod core;
 mod imports;
 pub mod laws;
+mod made;
 mod parts;
 mod phase;
+mod player;
 mod routes;
 mod table;
 
-pub use core::Core;
 pub use parts::{ExportParts, ProtocolParts, TableParts};
+pub use player::Core;

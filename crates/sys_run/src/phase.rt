@@ -1,24 +1,30 @@
 //! The report of a phase.
-ghost use Rattle.std.specs.Prelude.{◌≡◌, ◌+◌, ℕ, List, IfOk, OnOk, map};
+ghost use Rattle.std.specs.Prelude.{◌≡◌, ◌+◌, ◌++◌, ℕ, List, Option, Some, IfOk, OnOk, drop, length, map, option_copied, option_map, slice_get};
+ghost use Rattle.attrs.specs.declared.route.Change.{Change as HeldChange};
+ghost use Rattle.bits_ip.specs.declared.address.Family.{Family};
+ghost use Rattle.core_machine.specs.Channels as machine;
 ghost use Rattle.core_machine.specs.Legal.{Printed};
 ghost use Rattle.core_machine.specs.Machine.{State};
 ghost use Rattle.core_machine.specs.Phases.{Prints};
+ghost use Rattle.core_machine.specs.Rules.{Rules};
+ghost use Rattle.core_setup.specs.Pairs.{Pairs};
 ghost use Rattle.core_setup.specs.Protocols.{rules_of};
 ghost use Rattle.core_setup.specs.Reports.{IsReport};
 ghost use Rattle.core_setup.specs.Setup.{Setup};
+ghost use Rattle.export_core.specs.Histories.{change_of};
+ghost use Rattle.sys_run.specs.Channels.{IsChannel};
 ghost use Rattle.sys_run.specs.Cores.{Holds, IsCore};
-ghost use Rattle.sys_run.specs.Phase.{BeganAt, joined_of};
+ghost use Rattle.sys_run.specs.Phase.{BeganAt, IsEmptied, IsExportOf, IsJournalOf, IsLogOf, IsModeOf, IsOperationsOf, IsTableOf, joined_of, reply_of, standing_in, told};
 ghost use Rattle.sys_run.specs.Playing.{silent};
 
 use crate::channel::Channel;
-use crate::core::{Answered, Core};
+use crate::player::{Answered, Core};
 use crate::imports::Imports;
 use crate::parts::TableParts;
 use crate::table::Table;
-use attrs::{Change, Judge, Route, Seq};
+use attrs::{Attrs, Change, JEntry, Judge, Route, Seq};
 use bits_ip::OutOfMemory;
 use export_core::{Key, LogItem, Sending};
-use import_core::Done;
 use report::{
     ChannelReport, ExportReport, JournalReport, ModeReport, PhaseReport, ProtocolReport,
     ReplyReport, Standing, TableReport,
@@ -36,19 +42,38 @@ pub(crate) struct Begun {
 
 impl Begun {
     pub(crate) fn of<J: Judge>(core: &Core<J>) -> Result<Begun, OutOfMemory>
-        ensures { IfOk result (λ begun. (setup : Setup) (b : State)
-            → IsCore J.verdict setup b b core.now → BeganAt setup b begun) }
+        ensures { IfOk result (λ begun. (setup : Setup) (b s : State)
+            → IsCore J.verdict setup b s core.now → BeganAt setup s begun) }
     {
-        let mut heads = Vec::new(core.alloc);
-        for table in &core.routes.tables {
-            heads.push(table.head())?;
-        }
-        let mut logged = Vec::new(core.alloc);
-        for channel in &core.routes.channels {
-            logged.push(channel.logged())?;
-        }
-        Ok(Begun { heads, logged })
+        Ok(Begun {
+            heads: heads_of(core.alloc, &core.routes.tables)?,
+            logged: logged_of(core.alloc, &core.routes.channels)?,
+        })
     }
+}
+
+fn heads_of(alloc: Global, tables: &[Table]) -> Result<Vec<u64>, OutOfMemory>
+    ensures { IfOk result
+        (λ heads. heads.items ≡ map (λ table. length table.entries.items) tables.now) }
+{
+    let mut heads = Vec::new(alloc);
+    for table in tables {
+        heads.push(table.head())?;
+    }
+    Ok(heads)
+}
+
+fn logged_of<J: Judge>(alloc: Global, channels: &[Channel<J>]) -> Result<Vec<usize>, OutOfMemory>
+    ensures { IfOk result (λ logged. Pairs (λ n held len. (rules : Rules) (i : ℕ)
+        (family : Option Family) (history : List HeldChange) (ch : machine.Channel)
+        → IsChannel J.verdict rules i family history held ch → len ≡ length ch.log)
+        0 channels.now logged.items) }
+{
+    let mut logged = Vec::new(alloc);
+    for channel in channels {
+        logged.push(channel.logged())?;
+    }
+    Ok(logged)
 }
 
 impl<J: Judge> Core<J> {
@@ -70,34 +95,414 @@ impl<J: Judge> Core<J> {
         let Some(number) = self.phases.checked_add(1) else {
             return Err(OutOfMemory);
         };
-        let replies = mem::replace(&mut self.replies, Vec::new(self.alloc));
-        let report = PhaseReport {
-            number,
-            protocols: report_operations(self.alloc, &self.names, &mut self.imports)?,
-            journals: report_journals(
-                self.alloc,
-                &self.tables,
-                &self.routes.tables,
-                &begun.heads,
-            )?,
-            channels: report_logs(
-                self.alloc,
-                &self.names,
-                &self.channels,
-                &self.routes.channels,
-                &begun.logged,
-            )?,
-            replies: report_replies(self.alloc, actors, &self.tables, replies)?,
-            tables: report_tables(self.alloc, &self.tables, &self.routes.tables)?,
-            modes: report_modes(self.alloc, &self.names, &self.imports)?,
-            exports: report_exports(
-                self.alloc,
-                &self.names,
-                &self.channels,
-                &self.routes.channels,
-            )?,
-        };
+        let alloc = self.alloc;
+        let answered = mem::replace(&mut self.replies, Vec::new(alloc));
+        let protocols = report_operations(alloc, &self.names, &mut self.imports)?;
+        let journals = report_journals(alloc, &self.tables, &self.routes.tables, &begun.heads)?;
+        let channels = report_logs(
+            alloc,
+            &self.names,
+            &self.channels,
+            &self.routes.channels,
+            &begun.logged,
+        )?;
+        let replies = report_replies(alloc, actors, &self.tables, answered)?;
+        let tables = report_tables(alloc, &self.tables, &self.routes.tables)?;
+        let modes = report_modes(alloc, &self.names, &self.imports)?;
+        let exports = report_exports(alloc, &self.names, &self.channels, &self.routes.channels)?;
         self.phases = number;
-        Ok(report)
+        Ok(PhaseReport {
+            number,
+            protocols,
+            journals,
+            channels,
+            replies,
+            tables,
+            modes,
+            exports,
+        })
     }
+}
+
+/// A copy of the name of this number.
+fn copy_name(alloc: Global, names: &[Seq<u8>], number: usize) -> Result<Seq<u8>, OutOfMemory>
+    ensures { IfOk result (λ name. slice_get names.now number ≡ Some name) }
+{
+    match names.get(number) {
+        Some(name) => Ok(Seq::from_vec(Vec::from_slice(alloc, name.as_slice())?)),
+        None => Err(OutOfMemory),
+    }
+}
+
+/// A copy of the name of the table of this number.
+fn copy_table_name(
+    alloc: Global,
+    tables: &[TableParts],
+    number: usize,
+) -> Result<Seq<u8>, OutOfMemory>
+    ensures { IfOk result
+        (λ name. option_map (λ table. table.name) (slice_get tables.now number) ≡ Some name) }
+{
+    match tables.get(number) {
+        Some(table) => Ok(Seq::from_vec(Vec::from_slice(alloc, table.name.as_slice())?)),
+        None => Err(OutOfMemory),
+    }
+}
+
+/// The operations of each protocol, which are forgotten there.
+fn report_operations<J: Judge>(
+    alloc: Global,
+    names: &[Seq<u8>],
+    imports: &mut Vec<Imports<J>>,
+) -> Result<Seq<ProtocolReport>, OutOfMemory>
+    ensures reports { IfOk result (λ reports.
+        Pairs (IsOperationsOf names.now) 0 imports.old.items reports) }
+    ensures emptied { OnOk result (Pairs IsEmptied 0 imports.old.items imports.new.items) }
+{
+    let mut reports = Seq::new(alloc);
+    for number in 0..imports.len() {
+        let name = copy_name(alloc, names, number)?;
+        let done = mem::replace(&mut imports[number].done, Vec::new(alloc));
+        let ops = Seq::from_vec(done);
+        reports.push(ProtocolReport { name, ops })?;
+    }
+    Ok(reports)
+}
+
+/// The changes of each table, from these positions on.
+fn report_journals(
+    alloc: Global,
+    parts: &[TableParts],
+    tables: &[Table],
+    heads: &[u64],
+) -> Result<Seq<JournalReport>, OutOfMemory>
+    ensures { IfOk result (λ reports.
+        Pairs (IsJournalOf parts.now heads.now) 0 tables.now reports) }
+{
+    let mut reports = Seq::new(alloc);
+    for (number, table) in tables.iter().enumerate() {
+        reports.push(report_journal(alloc, parts, table, heads, number)?)?;
+    }
+    Ok(reports)
+}
+
+fn report_journal(
+    alloc: Global,
+    parts: &[TableParts],
+    table: &Table,
+    heads: &[u64],
+    number: usize,
+) -> Result<JournalReport, OutOfMemory>
+    ensures { IfOk result (λ report. IsJournalOf parts.now heads.now number table.now report) }
+{
+    let name = copy_table_name(alloc, parts, number)?;
+    let Some(from) = heads.get(number).copied() else {
+        return Err(OutOfMemory);
+    };
+    if from > table.entries.len() as u64 {
+        return Err(OutOfMemory);
+    }
+    let entries = copy_changes(alloc, &table.entries[from as usize..])?;
+    Ok(JournalReport {
+        table: name,
+        from,
+        entries,
+    })
+}
+
+fn copy_changes(alloc: Global, entries: &[JEntry]) -> Result<Seq<Change>, OutOfMemory>
+    ensures { IfOk result (λ changes. changes ≡ map change_of entries.now) }
+{
+    let mut changes = Seq::new(alloc);
+    for entry in entries {
+        changes.push(copy_change(entry)?)?;
+    }
+    Ok(changes)
+}
+
+fn copy_change(entry: &JEntry) -> Result<Change, OutOfMemory>
+    ensures { IfOk result (λ change. change ≡ change_of entry.now) }
+{
+    Ok(Change {
+        net: entry.net,
+        num: entry.num,
+        new: copy_route(entry.new.as_ref())?,
+    })
+}
+
+fn copy_route(route: Option<&Route>) -> Result<Option<Route>, OutOfMemory>
+    ensures { IfOk result (λ copy. copy ≡ option_copied route.entry) }
+{
+    match route {
+        Some(route) => Ok(Some(route.copy()?)),
+        None => Ok(None),
+    }
+}
+
+/// The log of each channel of these numbers, from these lengths on.
+fn report_logs<J: Judge>(
+    alloc: Global,
+    names: &[Seq<u8>],
+    numbers: &[usize],
+    channels: &[Channel<J>],
+    logged: &[usize],
+) -> Result<Seq<ChannelReport>, OutOfMemory>
+    ensures { IfOk result (λ reports.
+        Pairs (λ n number report. IsLogOf J.verdict names.now channels.now logged.now number report)
+        0 numbers.now reports) }
+{
+    let mut reports = Seq::new(alloc);
+    for number in numbers {
+        reports.push(report_log(alloc, names, *number, channels, logged)?)?;
+    }
+    Ok(reports)
+}
+
+fn report_log<J: Judge>(
+    alloc: Global,
+    names: &[Seq<u8>],
+    number: usize,
+    channels: &[Channel<J>],
+    logged: &[usize],
+) -> Result<ChannelReport, OutOfMemory>
+    ensures { IfOk result (λ report.
+        IsLogOf J.verdict names.now channels.now logged.now number report) }
+{
+    let name = copy_name(alloc, names, number)?;
+    let Some(from) = logged.get(number).copied() else {
+        return Err(OutOfMemory);
+    };
+    let Some(channel) = channels.get(number) else {
+        return Err(OutOfMemory);
+    };
+    let items = copy_behind(alloc, channel.items(), from)?;
+    Ok(ChannelReport {
+        name,
+        pipe: false,
+        items,
+    })
+}
+
+/// A copy of the items behind so many.
+fn copy_behind(alloc: Global, items: &[LogItem], from: usize) -> Result<Seq<LogItem>, OutOfMemory>
+    ensures { IfOk result (λ copy. copy ≡ drop from items.now) }
+{
+    if from > items.len() {
+        return Err(OutOfMemory);
+    }
+    copy_items(alloc, &items[from..])
+}
+
+fn copy_items(alloc: Global, items: &[LogItem]) -> Result<Seq<LogItem>, OutOfMemory>
+    ensures { IfOk result (λ copy. copy ≡ items.now) }
+{
+    let mut copy = Seq::new(alloc);
+    for item in items {
+        copy.push(copy_item(item)?)?;
+    }
+    Ok(copy)
+}
+
+fn copy_item(item: &LogItem) -> Result<LogItem, OutOfMemory>
+    ensures { IfOk result (λ copy. copy ≡ item.now) }
+{
+    match item {
+        LogItem::Up(at) => Ok(LogItem::Up(*at)),
+        LogItem::Down => Ok(LogItem::Down),
+        LogItem::Reload => Ok(LogItem::Reload),
+        LogItem::Sent(sending) => Ok(LogItem::Sent(copy_sending(sending)?)),
+    }
+}
+
+fn copy_sending(sending: &Sending) -> Result<Sending, OutOfMemory>
+    ensures { IfOk result (λ copy. copy ≡ sending.now) }
+{
+    Ok(Sending {
+        at: sending.at,
+        key: sending.key,
+        value: copy_value(sending.value.as_ref())?,
+        again: sending.again,
+    })
+}
+
+fn copy_value(value: Option<&Attrs>) -> Result<Option<Attrs>, OutOfMemory>
+    ensures { IfOk result (λ copy. copy ≡ option_copied value.entry) }
+{
+    match value {
+        Some(attrs) => Ok(Some(attrs.copy()?)),
+        None => Ok(None),
+    }
+}
+
+/// The replies to each actor, all of the first table.
+fn report_replies(
+    alloc: Global,
+    actors: &[Name],
+    tables: &[TableParts],
+    replies: Vec<Vec<Answered>>,
+) -> Result<Seq<ReplyReport>, OutOfMemory>
+    ensures { IfOk result (λ reports.
+        reports ≡ told (slice_get tables.now 0) actors.now replies.items) }
+{
+    let mut reports = Seq::new(alloc);
+    let mut number: usize = 0;
+    for answered in replies {
+        let Some(actor) = actors.get(number) else {
+            return Err(OutOfMemory);
+        };
+        tell(alloc, actor.as_slice(), tables, answered, &mut reports)?;
+        let Some(next) = number.checked_add(1) else {
+            return Err(OutOfMemory);
+        };
+        number = next;
+    }
+    Ok(reports)
+}
+
+/// Appends the replies to an actor.
+fn tell(
+    alloc: Global,
+    actor: &[u8],
+    tables: &[TableParts],
+    answered: Vec<Answered>,
+    reports: &mut Seq<ReplyReport>,
+) -> Result<(), OutOfMemory>
+    ensures { OnOk result (reports.new
+        ≡ reports.old ++ map (reply_of (slice_get tables.now 0) actor.now) answered.items) }
+{
+    for reply in answered {
+        reports.push(report_reply(alloc, actor, tables, reply)?)?;
+    }
+    Ok(())
+}
+
+fn report_reply(
+    alloc: Global,
+    actor: &[u8],
+    tables: &[TableParts],
+    reply: Answered,
+) -> Result<ReplyReport, OutOfMemory>
+    ensures { IfOk result
+        (λ report. report ≡ reply_of (slice_get tables.now 0) actor.now reply) }
+{
+    let Answered { at, text } = reply;
+    Ok(ReplyReport {
+        actor: Seq::from_vec(Vec::from_slice(alloc, actor)?),
+        table: copy_table_name(alloc, tables, 0)?,
+        at,
+        text: Seq::from_vec(text),
+    })
+}
+
+/// The rows of each table.
+fn report_tables(
+    alloc: Global,
+    parts: &[TableParts],
+    tables: &[Table],
+) -> Result<Seq<TableReport>, OutOfMemory>
+    ensures { IfOk result (λ reports. Pairs (IsTableOf parts.now) 0 tables.now reports) }
+{
+    let mut reports = Seq::new(alloc);
+    for (number, table) in tables.iter().enumerate() {
+        reports.push(report_table(alloc, parts, table, number)?)?;
+    }
+    Ok(reports)
+}
+
+fn report_table(
+    alloc: Global,
+    parts: &[TableParts],
+    table: &Table,
+    number: usize,
+) -> Result<TableReport, OutOfMemory>
+    ensures { IfOk result (λ report. IsTableOf parts.now number table.now report) }
+{
+    Ok(TableReport {
+        name: copy_table_name(alloc, parts, number)?,
+        rows: Seq::from_vec(table.rows()?),
+    })
+}
+
+/// What each protocol has come to.
+fn report_modes<J: Judge>(
+    alloc: Global,
+    names: &[Seq<u8>],
+    imports: &[Imports<J>],
+) -> Result<Seq<ModeReport>, OutOfMemory>
+    ensures { IfOk result (λ reports. Pairs (IsModeOf names.now) 0 imports.now reports) }
+{
+    let mut reports = Seq::new(alloc);
+    for (number, held) in imports.iter().enumerate() {
+        let name = copy_name(alloc, names, number)?;
+        reports.push(ModeReport {
+            name,
+            mode: held.importer.mode(),
+            accepted: Some(held.importer.accepted()),
+        })?;
+    }
+    Ok(reports)
+}
+
+/// What stands as sent by each channel of these numbers.
+fn report_exports<J: Judge>(
+    alloc: Global,
+    names: &[Seq<u8>],
+    numbers: &[usize],
+    channels: &[Channel<J>],
+) -> Result<Seq<ExportReport>, OutOfMemory>
+    ensures { IfOk result (λ reports.
+        Pairs (λ n number report. IsExportOf J.verdict names.now channels.now number report)
+        0 numbers.now reports) }
+{
+    let mut reports = Seq::new(alloc);
+    for number in numbers {
+        reports.push(report_export(alloc, names, *number, channels)?)?;
+    }
+    Ok(reports)
+}
+
+fn report_export<J: Judge>(
+    alloc: Global,
+    names: &[Seq<u8>],
+    number: usize,
+    channels: &[Channel<J>],
+) -> Result<ExportReport, OutOfMemory>
+    ensures { IfOk result (λ report. IsExportOf J.verdict names.now channels.now number report) }
+{
+    let name = copy_name(alloc, names, number)?;
+    let Some(channel) = channels.get(number) else {
+        return Err(OutOfMemory);
+    };
+    let standing = channel.standing()?;
+    Ok(ExportReport {
+        name,
+        pipe: false,
+        standing: all_standing(alloc, standing)?,
+    })
+}
+
+fn all_standing(
+    alloc: Global,
+    values: Option<Vec<(Key, Attrs)>>,
+) -> Result<Option<Seq<Standing>>, OutOfMemory>
+    ensures { IfOk result (λ standing.
+        standing ≡ option_map (λ held. map standing_in held.items) values) }
+{
+    match values {
+        Some(values) => Ok(Some(standing_of(alloc, values)?)),
+        None => Ok(None),
+    }
+}
+
+fn standing_of(
+    alloc: Global,
+    values: Vec<(Key, Attrs)>,
+) -> Result<Seq<Standing>, OutOfMemory>
+    ensures { IfOk result (λ standing. standing ≡ map standing_in values.items) }
+{
+    let mut standing = Seq::new(alloc);
+    for (key, attrs) in values {
+        standing.push(Standing { key, attrs })?;
+    }
+    Ok(standing)
 }

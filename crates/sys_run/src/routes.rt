@@ -1,10 +1,12 @@
 //! All tables and channels.
-ghost use Rattle.std.specs.Prelude.{◌≡◌, ◌<◌, ℕ, [], ◌∷◌, length, List, OnOk, reverse};
+ghost use Rattle.std.specs.Prelude.{◌<◌, length, OnOk, reverse};
+ghost use Rattle.std.specs.List.{All};
 ghost use Rattle.attrs.specs.declared.route.Change.{Change};
 ghost use Rattle.core_machine.specs.Channels as machine;
-ghost use Rattle.core_machine.specs.Channels.{Obeys, if_open, is_open, push_one, take_one, times};
-ghost use Rattle.core_machine.specs.Machine.{State, appended, synced};
+ghost use Rattle.core_machine.specs.Channels.{Obeys, is_open, push_one, take_one, times};
+ghost use Rattle.core_machine.specs.Machine.{State, appended, round, synced};
 ghost use Rattle.core_machine.specs.Machine as machine_steps;
+ghost use Rattle.core_machine.specs.Room.{in_room};
 ghost use Rattle.core_machine.specs.Rules.{Fits};
 ghost use Rattle.core_setup.specs.Protocols.{rules_of, signal_of};
 ghost use Rattle.core_setup.specs.Setup.{Setup};
@@ -26,18 +28,31 @@ pub(crate) struct Routes<J: Judge> {
 }
 
 impl<J: Judge> Routes<J> {
+    /// Lets a channel that reads this table take one change, where it lags by the whole journal.
+    fn make_room_of(&mut self, number: usize, table: usize) -> Result<(), OutOfMemory>
+        requires holds { Holds J.verdict self.old }
+        requires there { number < length self.old.channels.items }
+        ensures { OnOk result ((setup : Setup) (s : State)
+            → AreRoutes J.verdict setup s self.old
+            → AreRoutes J.verdict setup (with_channel number
+            (in_room (rules_of setup) table (s.history table) s.channels number) s) self.new) }
+    {
+        let read = self.channels[number].table;
+        if read != table {
+            return Ok(());
+        }
+        self.channels[number].make_room(&self.tables[read], self.cells)
+    }
+
     /// Lets each channel that lags by the whole journal of a table take one change of it.
     fn make_room(&mut self, table: usize) -> Result<(), OutOfMemory>
-        requires holds { Holds J.verdict self.old }
-        requires there { table < length self.old.tables.items }
+        requires { Holds J.verdict self.old }
         ensures { OnOk result ((setup : Setup) (s : State)
             → AreRoutes J.verdict setup s self.old
             → AreRoutes J.verdict setup (with_room setup table s) self.new) }
     {
         for number in 0..self.channels.len() {
-            if self.channels[number].table == table {
-                self.channels[number].make_room(&self.tables[table], self.cells)?;
-            }
+            self.make_room_of(number, table)?;
         }
         Ok(())
     }
@@ -121,6 +136,20 @@ impl<J: Judge> Routes<J> {
         self.channels[channel].obey(&self.tables[table], mark)
     }
 
+    /// Has a channel take to the head of its table, and push until nothing is marked.
+    fn settle(&mut self, number: usize) -> Result<(), OutOfMemory>
+        requires holds { Holds J.verdict self.old }
+        requires there { number < length self.old.channels.items }
+        ensures { OnOk result ((setup : Setup) (s : State)
+            → AreRoutes J.verdict setup s self.old
+            → AreRoutes J.verdict setup (with_channel number
+            (round (rules_of setup) number (s.history ((rules_of setup).table number))
+            (s.channels number)) s) self.new) }
+    {
+        let table = self.channels[number].table;
+        self.channels[number].settle(&self.tables[table])
+    }
+
     /// Each channel that is up takes to the head of its table and pushes until nothing is marked.
     pub(crate) fn sync(&mut self) -> Result<(), OutOfMemory>
         requires { Holds J.verdict self.old }
@@ -129,8 +158,7 @@ impl<J: Judge> Routes<J> {
             → AreRoutes J.verdict setup (synced (rules_of setup) s) self.new) }
     {
         for number in 0..self.channels.len() {
-            let table = self.channels[number].table;
-            self.channels[number].settle(&self.tables[table])?;
+            self.settle(number)?;
         }
         Ok(())
     }
