@@ -20,10 +20,10 @@ seen_more see defs i d below is =
 pub seen_all : {D S : Type 0} (see : D → S) (defs : List D) (i : ℕ) → length defs ≤ i → map see (take i defs) ≡ map see defs
 seen_all see defs i past = ap (λ (l : List _). map see l) (take_all i defs past)
 
-pub got_next : {S : Type 0} (xs old new : List S) (i : ℕ) (x : S) → old ≡ take i xs → new ≡ old ++ x ∷ [] → slice_get xs i ≡ Some x → new ≡ take (i + 1) xs
-got_next xs old new i x so_far pushed is =
-    pushed ∙ ap (λ (l : List _). l ++ x ∷ []) so_far
-    ∙ sym (take_more xs i x (slice_get_within xs i x is) ∙ ap (λ (y : _). take i xs ++ y ∷ []) (get_or_from_slice_get xs i x x is))
+pub got_next : {P S : Type 0} (see : P → S) (xs : List S) (old new : List P) (i : ℕ) (x : P) → map see old ≡ take i xs → new ≡ old ++ x ∷ [] → slice_get xs i ≡ Some (see x) → map see new ≡ take (i + 1) xs
+got_next see xs old new i x so_far pushed is =
+    ap (λ (l : List _). map see l) pushed ∙ map-append see old (x ∷ []) ∙ ap (λ (l : List _). l ++ see x ∷ []) so_far
+    ∙ sym (take_more xs i (see x) (slice_get_within xs i (see x) is) ∙ ap (λ (y : _). take i xs ++ y ∷ []) (get_or_from_slice_get xs i (see x) (see x) is))
 
 -- ---- protocols
 
