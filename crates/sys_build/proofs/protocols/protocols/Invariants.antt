@@ -8,4 +8,4 @@ use Rattle.sys_build.proofs.protocols.protocols.Given as goal
 abbrev pub invariant-loop-number : goal.invariant-loop-number
 invariant-loop-number l =
     map (protocol_seen (passes.ghosts).verdict) l.parts.items
-    ≡ protocols_from 0 (map (system.protocol_seen l.system.now.checked.declared.scope l.system.now.checked.filters.items l.system.now.names) (take l.number l.system.now.checked.protocols.items))
+    ≡ protocols_from 0 (map (system.protocol_seen l.system.checked.declared.scope l.system.checked.filters.items l.system.names) (take l.number l.system.checked.protocols.items))
