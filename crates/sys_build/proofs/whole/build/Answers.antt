@@ -16,7 +16,7 @@ returns c =
     let protocols = c.in_ok-protocols.protocols.items in
     let system = system_of c.args.system.now in
     let cells = c.args.cells in
-    IfOk-weaker _ _ c.make.result
+    IfOk-weaker c.make.result _ _
     (λ core made actors.
     handed_on IsSetup (λ s. HasPlayed verdict s actors [] [] core) (setup_seen verdict tables protocols cells) (setup_of system cells)
     (handed verdict tables protocols system cells c.in_ok-tables.ensures c.in_ok-protocols.ensures)

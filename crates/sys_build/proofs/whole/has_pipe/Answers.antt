@@ -14,6 +14,6 @@ returns c =
     let scope = s.checked.declared.scope in
     let filters = s.checked.filters.items in
     any_from_yields_List (λ (x : ProtocolDef). is_pipe (body_seen scope filters s.names x.body)) _ _ _ c.any.ensures.ran (YieldsList-from_slice c.as_slice-protocols.result.now cc)
-    (λ x b q k. k scope filters s.names)
+    (λ x b q k. search rules)
     ∙ ap (λ (l : List ProtocolDef). list_any (λ (x : ProtocolDef). is_pipe (body_seen scope filters s.names x.body)) l) c.as_slice-protocols.ensures.value
     ∙ some_pipe (protocol_seen scope filters s.names) s.checked.protocols.items
