@@ -5,8 +5,9 @@ use Rattle.std.specs.List.{list_any}
 use Rattle.std.proofs.lemmas.List.{length-map, length-take-le, map-append, take_all, take_more}
 use Rattle.std.proofs.lemmas.Option.{get_or_from_slice_get, slice_get_within}
 use Rattle.core_setup.specs.Setup as setup
-use Rattle.system.specs.System.{Body, IsBgp, IsPipe, IsStatic, Protocol}
-use Rattle.sys_build.specs.Names.{all_channels, channels_of}
+use Rattle.script_lines.specs.declared.named.NamedProtocol.{NamedProtocol}
+use Rattle.system.specs.System.{Body, IsBgp, IsPipe, IsStatic, Protocol, System}
+use Rattle.sys_build.specs.Names.{all_channels, channels_of, named_of, named_protocol}
 use Rattle.sys_build.specs.Setups.{has_pipe, is_pipe, protocols_from, with_protocol}
 
 -- ---- lists
@@ -20,10 +21,10 @@ seen_more see defs i d below is =
 pub seen_all : {D S : Type 0} (see : D → S) (defs : List D) (i : ℕ) → length defs ≤ i → map see (take i defs) ≡ map see defs
 seen_all see defs i past = ap (λ (l : List _). map see l) (take_all i defs past)
 
-pub got_next : {S : Type 0} (xs old new : List S) (i : ℕ) (x : S) → old ≡ take i xs → new ≡ old ++ x ∷ [] → slice_get xs i ≡ Some x → new ≡ take (i + 1) xs
-got_next xs old new i x so_far pushed is =
-    pushed ∙ ap (λ (l : List _). l ++ x ∷ []) so_far
-    ∙ sym (take_more xs i x (slice_get_within xs i x is) ∙ ap (λ (y : _). take i xs ++ y ∷ []) (get_or_from_slice_get xs i x x is))
+pub got_next : {P S : Type 0} (see : P → S) (xs : List S) (old new : List P) (i : ℕ) (x : P) → map see old ≡ take i xs → new ≡ old ++ x ∷ [] → slice_get xs i ≡ Some (see x) → map see new ≡ take (i + 1) xs
+got_next see xs old new i x so_far pushed is =
+    ap (λ (l : List _). map see l) pushed ∙ map-append see old (x ∷ []) ∙ ap (λ (l : List _). l ++ see x ∷ []) so_far
+    ∙ sym (take_more xs i (see x) (slice_get_within xs i (see x) is) ∙ ap (λ (y : _). take i xs ++ y ∷ []) (get_or_from_slice_get xs i (see x) (see x) is))
 
 -- ---- protocols
 
@@ -68,6 +69,13 @@ channels_turn see defs i d old new below is so_far pushed =
     pushed ∙ ap (λ (l : List (List ℕ)). l ++ channels_of (see d).name (see d).body) so_far
     ∙ sym (channels_push (map see (take i defs)) (see d))
     ∙ ap (λ (l : List Protocol). all_channels l) (sym (seen_more see defs i d below is))
+
+pub named_is : (system : System) (protocols : List NamedProtocol) (channels : List (List ℕ)) → protocols ≡ map named_protocol system.protocols → channels ≡ all_channels system.protocols
+    → record { protocols = protocols; channels = channels } ≡ named_of system
+unfolding named_of
+named_is system protocols channels protocols_are channels_are =
+    ap (λ (l : List NamedProtocol). record { protocols = l; channels = channels }) protocols_are
+    ∙ ap (λ (l : List (List ℕ)). record { protocols = map named_protocol system.protocols; channels = l }) channels_are
 
 -- ---- pipes
 

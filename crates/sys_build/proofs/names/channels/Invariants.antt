@@ -1,0 +1,10 @@
+use Rattle.std.proofs.Common.{◌≡◌, ℕ, List, map, take}
+use Rattle.filt_tree.specs.declared.scope.Scope.{Scope}
+use Rattle.filt_tree.specs.declared.tree.TFilter.{TFilter}
+use Rattle.system.specs.Seen.{protocol_seen}
+use Rattle.sys_build.specs.Names.{all_channels}
+use Rattle.sys_build.proofs.names.channels.Given as goal
+
+abbrev pub invariant-loop-def : goal.invariant-loop-def
+invariant-loop-def l =
+    (scope : Scope) (filters : List TFilter) (names : List (List ℕ)) → l.channels.items ≡ all_channels (map (protocol_seen scope filters names) (take l.def-index l.defs))
