@@ -1,6 +1,6 @@
 -- What a configuration gives to play: its tables, and its protocols but for pipes, with what holds
--- for their routes and what their filters say. From: BIRD User's Guide, "Static", "BGP" and "Channel
--- options".
+-- for their routes and what their filters say. From: BIRD User's Guide, "Static", "BGP" and
+-- "Channel options".
 use Rattle.std.specs.Prelude.{◌≡◌, ℕ, ◌+◌, Bool, true, false, not, ◌==◌, if◌then◌else◌, List, [], ◌∷◌, map, Option, Some, None, option_map}
 use Rattle.bits_ip.specs.declared.address.Addr.{Addr}
 use Rattle.bits_ip.specs.declared.address.Family.{Family}
@@ -57,7 +57,7 @@ fixed_of route = record {
 
 -- ---- protocols
 
--- what counts where a MED or a local preference is missing, no static route asks
+-- static routes lack neither a MED nor a local preference that anything reads
 abbrev pub static_imports : ℕ → (preference : ℕ) → Option ImportLimit → List StaticRoute
     → ImportSpec
 static_imports number preference limit routes =

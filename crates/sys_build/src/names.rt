@@ -41,7 +41,8 @@ fn protocols(alloc: Global, defs: &[ProtocolDef]) -> Result<Vec<NamedProtocol>, 
 
 fn protocol(alloc: Global, def: &ProtocolDef) -> Result<NamedProtocol, OutOfMemory>
     ensures { (scope : Scope) (filters : List TFilter) (names : List (List ℕ))
-        → IfOk result (λ named. named ≡ named_protocol (protocol_seen scope filters names def.now)) }
+        → IfOk result (λ named. named
+        ≡ named_protocol (protocol_seen scope filters names def.now)) }
 {
     Ok(NamedProtocol {
         name: Name::new(alloc, def.name.as_slice())?,

@@ -9,8 +9,7 @@ use crate::tables::copied;
 use attrs::{Dest, Judge, Src};
 use bits_ip::{Addr, OutOfMemory};
 use conf_check::{
-    BgpDef, ImportLimit, PolicyDef, ProtocolBody, ProtocolDef, StaticDef, StaticRoute,
-    StaticTarget,
+    BgpDef, ImportLimit, PolicyDef, ProtocolBody, ProtocolDef, StaticDef, StaticRoute, StaticTarget,
 };
 use conf_tree::Action as Written;
 use export_core::ExportSpec;
@@ -107,7 +106,8 @@ fn static_imports(alloc: Global, number: u32, def: &StaticDef) -> Result<ImportS
         def_lp: 0,
     };
     let routes = fixed(alloc, def.routes.as_slice())?;
-    Ok(static_spec(src, def.channel.preference, limit(&def.channel.limit), routes))
+    let limits = limit(&def.channel.limit);
+    Ok(static_spec(src, def.channel.preference, limits, routes))
 }
 
 /// The routes, in their order.
