@@ -1,11 +1,4 @@
-pub mod SaidOnce
-pub mod Outcomes
-pub mod Decided
+pub mod Cells
+pub mod Writing
 pub mod Judged
 pub mod Joined
-pub mod Exists
-pub mod PlaySteps
-pub mod Machine
-pub mod Entries
-pub mod Counted
-pub mod Says
