@@ -1,6 +1,6 @@
 -- What the script comes to, over a configuration that is accepted, and what is played of both.
 use Rattle.std.proofs.Common.{◌≡◌, ℕ, ◌+◌, ◌-◌, ◌^◌, ◌≤◌, true, List, ◌++◌, Option, Some, None, refl, sym, ◌∙◌, subst, arith, inl, inr}
-use Rattle.std.specs.Prelude.{◌⊎◌, Bool, min, Result, Ok, Err, IfSome, IsErrAnd, IsTrue}
+use Rattle.std.specs.Prelude.{◌⊎◌, Bool, min, Result, Ok, Err, IfErr, IfSome, IsErrAnd, IsTrue}
 use Rattle.core_setup.specs.Setup.{Setup}
 use Rattle.outside_io.specs.Faults.{NoneFell, Rose}
 use Rattle.report.specs.declared.phase.PhaseReport.{PhaseReport}
@@ -8,7 +8,7 @@ use Rattle.script_lines.specs.declared.script.Line.{Line}
 use Rattle.system.specs.System.{System}
 use Rattle.birdcore_top.specs.Answer.{AnswersConf, HasCause, IsEnd, IsMissed, MissesInTurn, Stops}
 use Rattle.birdcore_top.specs.Command.{Command, Play}
-use Rattle.birdcore_top.specs.Outcome.{Configures, ConfGives, Held, Outcome, IsAccepted, IsPossible, Played, ScriptGives}
+use Rattle.birdcore_top.specs.Outcome.{Configures, ConfGives, Held, Misused, Outcome, IsAccepted, IsPossible, Played, ScriptGives}
 use Rattle.birdcore_top.specs.Written.{HasBegun, HasPlayed, IfBegun, IfPlayed}
 use Rattle.birdcore_top.specs.declared.status.Status.{Status}
 use Rattle.birdcore_top.specs.declared.status.Status.TheVariants.{Usage, ConfigRefused, ScriptRefused, NotBuilt, ReadFault, WriteFault, OutOfMemory, TooLong}
@@ -18,6 +18,11 @@ use Rattle.birdcore_top.specs.declared.status.Status.TheVariants as variants
 pub err_is : {T : Type 0} (result : Result T Status) (made status : Status) → IsErrAnd result (λ e. e ≡ made) → result ≡ Err status → made ≡ status
 err_is (Ok x) made status is same = absurd is
 err_is (Err e) made status is same = sym is ∙ cc
+
+-- an error that is made of a status that stops
+pub stops_as : {T : Type 0} (possible : Outcome → Type 0) (result : Result T Status) (made : Status) → IsErrAnd result (λ e. e ≡ made) → Stops possible made → IfErr result (Stops possible)
+stops_as possible (Ok x) made is stops = tt
+stops_as possible (Err e) made is stops = subst (λ (s : Status). Stops possible s) (sym is) stops
 
 accepted_of : (file : Option (List ℕ)) (system : System) → IfSome file (Configures system) → IfSome file IsAccepted
 accepted_of None system is = tt
@@ -53,6 +58,11 @@ module _ (conf script : List ℕ) (cells : ℕ) (held : Held) where
   missed_or (ScriptRefused line kind) is = inr (is.cause refl)
   missed_or (TooLong word) is = inr (is.cause refl)
   missed_or (NotBuilt file line) is = inr (is.cause refl)
+
+-- words that are no command
+pub misused : (command : Option Command) (held : Held) → command ≡ None → IsPossible command held Misused
+misused None held is = refl
+misused (Some c) held is = absurd (cc)
 
 -- what is played of a possible play, and what is begun
 module _ (command : Option Command) (held : Held) (setup : Setup) (actors : List (List ℕ)) (phases : List (List Line)) (possible : IsPossible command held (Played setup actors phases))

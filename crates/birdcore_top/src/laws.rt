@@ -5,10 +5,12 @@ ghost use Rattle.conf_tree.specs.declared.kind.ConfKind.{ConfKind};
 ghost use Rattle.core_setup.specs.Plays.{IsLegalPlay};
 ghost use Rattle.core_setup.specs.Setup.{Setup};
 ghost use Rattle.report.specs.declared.phase.PhaseReport.{PhaseReport};
+ghost use Rattle.script_lines.specs.Kinds.{AreFew};
 ghost use Rattle.script_lines.specs.declared.script.Line.{Line};
+ghost use Rattle.sys_build.specs.Names.{named_of};
 ghost use Rattle.sys_run.specs.Scripts.{phase_of};
 ghost use Rattle.system.specs.System.{System};
-ghost use Rattle.system.specs.Texts.{IsRefusedAt};
+ghost use Rattle.system.specs.Texts.{IsRefusedAt, IsSystem};
 ghost use Rattle.birdcore_top.specs.Command.{Command, Play, command_of};
 ghost use Rattle.birdcore_top.specs.Outcome.{Held, Outcome, Played, SaysSomething, ConfGives, IsAccepted, IsBuilt, IsNotBuilt, IsPossible, IsRequired};
 ghost use Rattle.birdcore_top.specs.Answer.{Answers};
@@ -46,6 +48,13 @@ pub fn texts_say_one_thing()
     configurations_are_not_refused();
     places_have_one_line_and_column();
 }
+
+/// What an accepted configuration names is little enough for numbers of 32 bits: it has at most 256
+/// protocols.
+pub fn accepted_configurations_are_few()
+    ensures { (text : List ℕ) (system : System) → IsSystem text system
+        → AreFew (named_of system) }
+{}
 
 /// Files that are told come to one outcome at most: what may be due is what is required. Where the
 /// configuration decides it alone, the configuration isn't accepted.

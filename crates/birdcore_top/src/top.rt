@@ -5,6 +5,8 @@ ghost use Rattle.std.specs.List.{flat_map};
 ghost use Rattle.outside_io.specs.Faults.{Rose, NoneFell};
 ghost use Rattle.outside_io.specs.Whole.{IsLong, IsWhole, WritesFront};
 ghost use Rattle.report.specs.Report.{phase_text, report_text};
+ghost use Rattle.script_lines.specs.Kinds.{AreFew};
+ghost use Rattle.sys_build.specs.Names.{named_of};
 ghost use Rattle.sys_build.specs.Setups.{has_pipe as is_piped, setup_of};
 ghost use Rattle.system.specs.Seen.{system_of};
 ghost use Rattle.birdcore_top.specs.Command.{command_asked, command_of};
@@ -12,7 +14,7 @@ ghost use Rattle.birdcore_top.specs.Outcome.{Outcome, OverLimit, Played, Configu
 ghost use Rattle.birdcore_top.specs.Answer.{Answers, HasCause, MissesInTurn, NoneFailed, SinkTakes, IsMissed, FindsLacked, FindsLackedBy, IsReadStatus, Stops, writes};
 ghost use Rattle.birdcore_top.specs.Written.{IfBegun, IfPlayed};
 
-use crate::laws::files_have_one_outcome;
+use crate::laws::{accepted_configurations_are_few, files_have_one_outcome};
 use crate::status::Status;
 use crate::words::{Asked, asked_by};
 use crate::write::write_play;
@@ -139,7 +141,7 @@ fn play_files<F: Shelf, K: Sink>(
         result }
 {
     match read_files(alloc, asked, shelf) {
-        Ok(files) => write_play(alloc, &files.system, asked.cells, files.script, out),
+        Ok(Files { system, script }) => write_play(alloc, &system, asked.cells, script, out),
         Err(status) => status,
     }
 }
@@ -182,6 +184,8 @@ fn read_files<F: Shelf>(
 fn read_conf<F: Shelf>(alloc: Global, name: &str, shelf: &mut F) -> Result<System, Status>
     ensures config { IfOk result
         (λ system. IfSome (F.held shelf.old name.now) (Configures (system_of system))) }
+    ensures built { IfOk result (λ system. is_piped (system_of system).protocols ≡ false) }
+    ensures few { IfOk result (λ system. AreFew (named_of (system_of system))) }
     ensures stopped { IfErr result (Stops (ConfGives IfSome name.now (F.held shelf.old name.now))) }
     ensures read { result ≡ Err Status.ReadFault → Rose (F.faults shelf.old) (F.faults shelf.new) }
     ensures by_name { result ≡ Err Status.ReadFault
@@ -192,6 +196,7 @@ fn read_conf<F: Shelf>(alloc: Global, name: &str, shelf: &mut F) -> Result<Syste
     ensures held { F.held shelf.new ≡ F.held shelf.old }
     ensures lacks { F.lacks shelf.new ≡ F.lacks shelf.old }
 {
+    accepted_configurations_are_few();
     let bytes = read_file(alloc, name, shelf)?;
     let system = read_system(alloc, &bytes)?;
     if has_pipe(&system) {
@@ -207,6 +212,7 @@ fn read_lines<F: Shelf>(
     name: &str,
     shelf: &mut F,
 ) -> Result<Script, Status>
+    requires { AreFew (named_of (system_of system.now)) }
     ensures script { IfOk result (λ script. (cells : ℕ)
         → ScriptGives IfSome (system_of system.now) cells name.now (F.held shelf.old name.now)
         (Played (setup_of (system_of system.now) cells) script.actors.items

@@ -86,6 +86,7 @@ fn write_phases<J: Judge, K: Sink>(
         (λ reports.
         Appends (K.contents out.old) (K.contents out.new) (flat_map phase_text reports)) }
     ensures write { result ≡ Err Status.WriteFault → Rose (K.faults out.old) (K.faults out.new) }
+    ensures later { K.faults out.old ≤ K.faults out.new }
 {
     for lines in phases {
         let report = core.play(actors, lines)?;
