@@ -2,3 +2,9 @@ pub mod Cells
 pub mod Writing
 pub mod Judged
 pub mod Joined
+pub mod Outcomes
+pub mod Decided
+pub mod Exists
+pub mod SaidOnce
+pub mod Counted
+pub mod Says
