@@ -64,8 +64,8 @@ module _ (law : HasOneOutcome) (conf script : List ℕ) (cells : ℕ) (held : He
       → MissesInTurn (Play conf script cells) held before now → ⊥
   not_in_turn o (inl is) none (inl rose) = conf_failed o is none rose
   not_in_turn o (inl is) none (inr later) = law.accepted conf (held conf) o is later.0
-  not_in_turn o (inr is) none (inl rose) = script_conf_failed is.0 o is.2 none rose
-  not_in_turn o (inr is) none (inr later) = script_failed is.0 o is.2 none later.1
+  not_in_turn o (inr is) none (inl rose) = script_conf_failed is.0 o is.3 none rose
+  not_in_turn o (inr is) none (inr later) = script_failed is.0 o is.3 none later.1
 
 -- no read failed that decides the outcome
 calm : (law : HasOneOutcome) (command : Option Command) (held : Held) (before now : List ℕ → ℕ) (o : Outcome) → IsRequired command held o → NoneFailed command o before now

@@ -8,3 +8,4 @@ pub mod Exists
 pub mod SaidOnce
 pub mod Counted
 pub mod Says
+pub mod Legal

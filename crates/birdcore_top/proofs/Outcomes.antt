@@ -12,7 +12,7 @@ use Rattle.sys_build.specs.Names.{named_of}
 use Rattle.system.specs.System.{System}
 use Rattle.system.specs.Texts.{IsRefusedAt}
 use Rattle.birdcore_top.specs.Command.{Command, Play}
-use Rattle.birdcore_top.specs.Outcome.{Outcome, Misused, OverLimit, Refused, Unbuilt, BadLine, UnbuiltLine, Played, Held, Configures, IsAccepted, IsBuilt, IsNotBuilt, ConfGives, ScriptGives, IsPossible, IsRequired}
+use Rattle.birdcore_top.specs.Outcome.{Outcome, Misused, OverLimit, Refused, Unbuilt, BadLine, UnbuiltLine, Played, Held, Configures, IsAccepted, IsBuilt, IsConfigured, IsNotBuilt, ConfGives, ScriptGives, IsPossible, IsRequired}
 
 -- What a text says: of configurations it is one that is built, or one that isn't, or it is refused, at one place for one
 -- reason; of scripts it has one answer. This is what the laws of texts say.
@@ -161,16 +161,16 @@ module _ (once : SaysOnce) where
   scripts_once system cells name (Some text) o p is may = script_once system cells name text o p is may
 
   plays_once : (conf script : List ℕ) (cells : ℕ) (first second : Option (List ℕ)) (o p : Outcome)
-      → ConfGives IsSomeAnd conf first o ⊎ ((system : System) × IsSomeAnd first (Configures system) × ScriptGives IsSomeAnd system cells script second o)
-      → ConfGives IfSome conf first p ⊎ ((system : System) × IfSome first (Configures system) × ScriptGives IfSome system cells script second p) → p ≡ o
+      → ConfGives IsSomeAnd conf first o ⊎ ((system : System) × IsConfigured system × IsSomeAnd first (Configures system) × ScriptGives IsSomeAnd system cells script second o)
+      → ConfGives IfSome conf first p ⊎ ((system : System) × IsConfigured system × IfSome first (Configures system) × ScriptGives IfSome system cells script second p) → p ≡ o
   plays_once conf script cells None second o p (inl is) may = absurd (no_conf conf o is)
-  plays_once conf script cells None second o p (inr is) may = absurd is.1
+  plays_once conf script cells None second o p (inr is) may = absurd is.2
   plays_once conf script cells (Some file) second o p (inl is) (inl may) = conf_once conf file o p is may
-  plays_once conf script cells (Some file) second o p (inl is) (inr may) = absurd (accepted_goes_on conf file may.0 o may.1 (as_told conf file o is))
-  plays_once conf script cells (Some file) second o p (inr is) (inl may) = absurd (accepted_goes_on conf file is.0 p is.1 may)
+  plays_once conf script cells (Some file) second o p (inl is) (inr may) = absurd (accepted_goes_on conf file may.0 o may.2 (as_told conf file o is))
+  plays_once conf script cells (Some file) second o p (inr is) (inl may) = absurd (accepted_goes_on conf file is.0 p is.2 may)
   plays_once conf script cells (Some file) second o p (inr is) (inr may) =
-      let same : may.0 ≡ is.0 = once.configurations_agree file may.0 is.0 may.1.1 is.1.1 in
-      scripts_once is.0 cells script second o p is.2 (subst (λ (s : System). ScriptGives IfSome s cells script second p) same may.2)
+      let same : may.0 ≡ is.0 = once.configurations_agree file may.0 is.0 may.2.1 is.2.1 in
+      scripts_once is.0 cells script second o p is.3 (subst (λ (s : System). ScriptGives IfSome s cells script second p) same may.3)
 
   -- What may be due is what is required.
   pub one_outcome : (command : Option Command) (held : Held) (o p : Outcome) → IsRequired command held o → IsPossible command held p → p ≡ o

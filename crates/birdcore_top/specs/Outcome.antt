@@ -51,6 +51,10 @@ Configures system = Within (λ file. IsBuilt file system)
 abbrev pub IsAccepted : List ℕ → Type 0
 IsAccepted file = (system : System) × Configures system file
 
+-- the system is one that some text within the limit configures
+abbrev pub IsConfigured : System → Type 0
+IsConfigured system = (file : List ℕ) × Configures system file
+
 -- The file is a configuration that is built, or one that isn't, or it is refused.
 abbrev pub SaysSomething : List ℕ → Type 0
 SaysSomething file = ((system : System) × IsBuilt file system)
@@ -87,7 +91,7 @@ ScriptGives known system cells name script _ = ⊥
 abbrev pub PlayGives : Knowledge → List ℕ → List ℕ → ℕ → Held → Outcome → Type 0
 PlayGives known conf script cells held o =
     ConfGives known conf (held conf) o
-    ⊎ ((system : System) × known (held conf) (Configures system)
+    ⊎ ((system : System) × IsConfigured system × known (held conf) (Configures system)
     × ScriptGives known system cells script (held script) o)
 
 -- what a command gives over files, and words that are none

@@ -25,9 +25,11 @@ use conf_tree::laws::{
     each_text_is_a_configuration_or_is_refused, each_tree_is_of_a_configuration,
     places_have_one_line_and_column,
 };
+use core_setup::laws::{plays_are_legal, reports_are_determined};
 use outside_io::{OpenGate, Shelf, SureShelf, SureSink};
 use script_lines::laws::{a_text_has_one_answer, each_text_has_an_answer};
 use std::alloc::Global;
+use sys_build::laws::accepted_configurations_are_setups;
 
 /// A text says one thing of configurations at most: it is built, or it isn't, or it is refused, in
 /// one line and column for one reason.
@@ -97,7 +99,10 @@ pub fn phases_come_to_one_report()
         → IsPossible command held (Played setup actors phases)
         → ArePlayed setup actors phases reports → ArePlayed setup actors phases others
         → reports ≡ others }
-{}
+{
+    accepted_configurations_are_setups();
+    reports_are_determined();
+}
 
 /// The reports of a play are legal: operations are merges of the actors' lines, each table's journal
 /// has every protocol's imports once, in order, each channel's log follows its table's history,
@@ -108,7 +113,10 @@ pub fn reports_are_legal()
         → IsPossible command held (Played setup actors phases)
         → ArePlayed setup actors phases reports
         → IsLegalPlay setup actors (map (phase_of setup) phases) reports }
-{}
+{
+    accepted_configurations_are_setups();
+    plays_are_legal();
+}
 
 /// Plays the files of a shelf that never fails, and lets the report go to a sink that takes all.
 ///

@@ -10,7 +10,7 @@ ghost use Rattle.sys_build.specs.Names.{named_of};
 ghost use Rattle.sys_build.specs.Setups.{has_pipe as is_piped, setup_of};
 ghost use Rattle.system.specs.Seen.{system_of};
 ghost use Rattle.birdcore_top.specs.Command.{command_asked, command_of};
-ghost use Rattle.birdcore_top.specs.Outcome.{Outcome, OverLimit, Played, Configures, ConfGives, ScriptGives, IsPossible, IsRequired};
+ghost use Rattle.birdcore_top.specs.Outcome.{Outcome, OverLimit, Played, Configures, ConfGives, IsConfigured, ScriptGives, IsPossible, IsRequired};
 ghost use Rattle.birdcore_top.specs.Answer.{Answers, HasCause, MissesInTurn, NoneFailed, SinkTakes, IsMissed, FindsLacked, FindsLackedBy, IsReadStatus, Stops, writes};
 ghost use Rattle.birdcore_top.specs.Written.{IfBegun, IfPlayed};
 
@@ -184,6 +184,7 @@ fn read_files<F: Shelf>(
 fn read_conf<F: Shelf>(alloc: Global, name: &str, shelf: &mut F) -> Result<System, Status>
     ensures config { IfOk result
         (λ system. IfSome (F.held shelf.old name.now) (Configures (system_of system))) }
+    ensures configured { IfOk result (λ system. IsConfigured (system_of system)) }
     ensures built { IfOk result (λ system. is_piped (system_of system).protocols ≡ false) }
     ensures few { IfOk result (λ system. AreFew (named_of (system_of system))) }
     ensures stopped { IfErr result (Stops (ConfGives IfSome name.now (F.held shelf.old name.now))) }
