@@ -9,3 +9,4 @@ pub mod SaidOnce
 pub mod Counted
 pub mod Says
 pub mod Legal
+pub mod Few
