@@ -4,42 +4,60 @@
 
 mod plays;
 
-use cases::{Tally, read};
+use cases::{Case, Tally, read};
 use std::io;
 use std::process::ExitCode;
 
-fn are_answered(rt: &HostRuntime, name: &str) -> io::Result<bool> {
-    let mut tally = Tally::new(name);
-    for case in read(rt, name)?.iter() {
-        let answer = plays::answer(rt, case.input.as_slice())?;
-        tally.note(rt, case, answer.as_str())?;
-    }
-    tally.finish(rt)
+/// What the inputs of a table are, and what is expected of them.
+#[derive(Clone, Copy, Debug, Drop)]
+enum Sort {
+    /// Two texts, and the status.
+    Texts,
+    /// The name of a configuration's file and a script, and the status.
+    Scripts,
+    /// The program's words, and the status or the report's name.
+    Words,
+    /// Two texts, and the report's name.
+    Reports,
+    /// The names of two files, and the report's name.
+    Plays,
 }
 
-fn are_reported(rt: &HostRuntime, name: &str) -> io::Result<bool> {
-    let mut tally = Tally::new(name);
-    for case in read(rt, name)?.iter() {
-        let answer = plays::report(rt, case.expected.as_str(), case.input.as_slice())?;
-        tally.note(rt, case, answer.as_str())?;
+fn answer(rt: &HostRuntime, sort: Sort, case: &Case) -> io::Result<String> {
+    let name = case.expected.as_str();
+    let input = case.input.as_slice();
+    match sort {
+        Sort::Texts => plays::answer(rt, input),
+        Sort::Scripts => plays::refusal(rt, input),
+        Sort::Words => plays::words(rt, input),
+        Sort::Reports => plays::report(rt, name, input),
+        Sort::Plays => plays::play(rt, name, input),
     }
-    tally.finish(rt)
 }
 
-fn are_played(rt: &HostRuntime, name: &str) -> io::Result<bool> {
+fn are_as_expected(rt: &HostRuntime, sort: Sort, name: &str) -> io::Result<bool> {
     let mut tally = Tally::new(name);
     for case in read(rt, name)?.iter() {
-        let answer = plays::example(rt, case.expected.as_str(), case.input.as_slice())?;
+        let answer = answer(rt, sort, case)?;
         tally.note(rt, case, answer.as_str())?;
     }
     tally.finish(rt)
 }
 
 fn main(rt: HostRuntime) -> io::Result<ExitCode> {
-    let answered = are_answered(&rt, "answers.txt")?;
-    let reported = are_reported(&rt, "reports.txt")?;
-    let played = are_played(&rt, "examples.txt")?;
-    Ok(if answered && reported && played {
+    let tables = [
+        (Sort::Texts, "answers.txt"),
+        (Sort::Scripts, "refused.txt"),
+        (Sort::Words, "words.txt"),
+        (Sort::Reports, "reports.txt"),
+        (Sort::Plays, "plays.txt"),
+        (Sort::Plays, "examples.txt"),
+    ];
+    let mut good = true;
+    for (sort, name) in tables {
+        good = are_as_expected(&rt, sort, name)? && good;
+    }
+    Ok(if good {
         ExitCode::SUCCESS
     } else {
         ExitCode::FAILURE

@@ -1,7 +1,8 @@
 //! What a play answers and writes.
 //!
 //! An input is `CONF @@ SCRIPT`, the two files' texts; `none` stands for a file that isn't there.
-//! That of an example is `CONF SCRIPT`, the names of two files.
+//! Where the files lie beside the table it is `CONF SCRIPT`, their names, and what stands behind
+//! them is given to `play` behind its three words.
 use birdcore_top::Status;
 use birdcore_top::top::top;
 use outside_io::{MemFile, MemShelf, MemSink, OpenGate};
@@ -9,52 +10,55 @@ use std::alloc::Global;
 use std::io::{Error, ErrorKind};
 use std::{fs, io, str};
 
-fn put_file(alloc: Global, name: &str, text: &str, files: &mut Vec<MemFile>) -> io::Result<()> {
-    if text != "none" {
-        let name = String::from_str(alloc, name)?;
-        files.push(MemFile::new(name, text.as_bytes().to_vec(alloc)?))?;
-    }
+fn bad_line() -> Error {
+    Error::from(ErrorKind::InvalidData)
+}
+
+fn text_of(input: &[u8]) -> io::Result<&str> {
+    let Ok(text) = str::from_utf8(input) else {
+        return Err(bad_line());
+    };
+    Ok(text)
+}
+
+fn put_file(alloc: Global, name: &str, bytes: Vec<u8>, files: &mut Vec<MemFile>) -> io::Result<()> {
+    let name = String::from_str(alloc, name)?;
+    files.push(MemFile::new(name, bytes))?;
     Ok(())
 }
 
 fn files_of(alloc: Global, input: &[u8]) -> io::Result<Vec<MemFile>> {
-    let bad = Error::from(ErrorKind::InvalidData);
-    let Ok(text) = str::from_utf8(input) else {
-        return Err(bad);
-    };
-    let Some((conf, script)) = text.split_once(" @@ ") else {
-        return Err(bad);
-    };
+    let (conf, script) = text_of(input)?.split_once(" @@ ").ok_or(bad_line())?;
     let mut files = Vec::new(alloc);
-    put_file(alloc, "conf", conf, &mut files)?;
-    put_file(alloc, "script", script, &mut files)?;
-    Ok(files)
-}
-
-fn example_files(rt: &HostRuntime, input: &[u8]) -> io::Result<Vec<MemFile>> {
-    let alloc = rt.alloc();
-    let bad = Error::from(ErrorKind::InvalidData);
-    let Ok(text) = str::from_utf8(input) else {
-        return Err(bad);
-    };
-    let Some((conf, script)) = text.split_once(' ') else {
-        return Err(bad);
-    };
-    let mut files = Vec::new(alloc);
-    for (name, source) in [("conf", conf), ("script", script)] {
-        let name = String::from_str(alloc, name)?;
-        files.push(MemFile::new(name, fs::read(rt, source)?))?;
+    for (name, text) in [("conf", conf), ("script", script)] {
+        if text != "none" {
+            put_file(alloc, name, text.as_bytes().to_vec(alloc)?, &mut files)?;
+        }
     }
     Ok(files)
 }
 
-/// The status of `play conf script` over these files, and what was written.
-fn played(rt: &HostRuntime, files: Vec<MemFile>) -> io::Result<(Status, Vec<u8>)> {
-    let alloc = rt.alloc();
+fn files_at(rt: &HostRuntime, conf: &str, script: &str) -> io::Result<Vec<MemFile>> {
+    let mut files = Vec::new(rt.alloc());
+    for (name, source) in [("conf", conf), ("script", script)] {
+        put_file(rt.alloc(), name, fs::read(rt, source)?, &mut files)?;
+    }
+    Ok(files)
+}
+
+/// The words of a text, between which one space each stands.
+fn words_of(alloc: Global, text: &str) -> io::Result<Vec<String>> {
     let mut words = Vec::new(alloc);
-    for word in ["play", "conf", "script"] {
+    for word in text.split(' ') {
         words.push(String::from_str(alloc, word)?)?;
     }
+    Ok(words)
+}
+
+/// The status of the program with these words over these files, and what was written.
+fn done(rt: &HostRuntime, files: Vec<MemFile>, words: &str) -> io::Result<(Status, Vec<u8>)> {
+    let alloc = rt.alloc();
+    let words = words_of(alloc, words)?;
     let mut shelf = MemShelf::new(alloc, files);
     let mut sink = MemSink::new(alloc);
     let status = top(rt, alloc, &words, &mut shelf, &mut sink, &OpenGate);
@@ -62,8 +66,7 @@ fn played(rt: &HostRuntime, files: Vec<MemFile>) -> io::Result<(Status, Vec<u8>)
 }
 
 /// The status, and that something was written beside a status with which nothing should be.
-pub fn answer(rt: &HostRuntime, input: &[u8]) -> io::Result<String> {
-    let (status, text) = played(rt, files_of(rt.alloc(), input)?)?;
+fn status_of(rt: &HostRuntime, status: Status, text: &[u8]) -> io::Result<String> {
     if text.is_empty() {
         Ok(format!(in rt.alloc(); "{status}")?)
     } else {
@@ -72,26 +75,68 @@ pub fn answer(rt: &HostRuntime, input: &[u8]) -> io::Result<String> {
     }
 }
 
-/// The name of the expected report's file where the play is done and writes it, and else what it
+/// The name of the expected report's file where the program is done and wrote it, and else what it
 /// did.
-fn compared(rt: &HostRuntime, name: &str, files: Vec<MemFile>) -> io::Result<String> {
-    let (status, text) = played(rt, files)?;
-    let expected = fs::read(rt, name)?;
+fn compared(rt: &HostRuntime, name: &str, status: Status, text: &[u8]) -> io::Result<String> {
     if status != Status::Ok {
-        return Ok(format!(in rt.alloc(); "{status}")?);
+        return status_of(rt, status, text);
     }
-    if text != expected {
-        return Ok(String::from_str(rt.alloc(), "another report")?);
-    }
-    Ok(String::from_str(rt.alloc(), name)?)
+    let expected = fs::read(rt, name)?;
+    let answer = if text == expected.as_slice() {
+        name
+    } else {
+        "another report"
+    };
+    Ok(String::from_str(rt.alloc(), answer)?)
+}
+
+/// The status of the play of an input.
+pub fn answer(rt: &HostRuntime, input: &[u8]) -> io::Result<String> {
+    let files = files_of(rt.alloc(), input)?;
+    let (status, text) = done(rt, files, "play conf script")?;
+    status_of(rt, status, text.as_slice())
+}
+
+/// The status of the play of a script, which stands behind the name of a configuration's file.
+pub fn refusal(rt: &HostRuntime, input: &[u8]) -> io::Result<String> {
+    let (conf, script) = text_of(input)?.split_once(" @@ ").ok_or(bad_line())?;
+    let mut files = Vec::new(rt.alloc());
+    put_file(rt.alloc(), "conf", fs::read(rt, conf)?, &mut files)?;
+    put_file(
+        rt.alloc(),
+        "script",
+        script.as_bytes().to_vec(rt.alloc())?,
+        &mut files,
+    )?;
+    let (status, text) = done(rt, files, "play conf script")?;
+    status_of(rt, status, text.as_slice())
+}
+
+/// What the program answers to these words over two files that are played by `play conf script`,
+/// or the name of their report where it writes that.
+pub fn words(rt: &HostRuntime, input: &[u8]) -> io::Result<String> {
+    let files = files_at(rt, "one_peer.conf", "one_route.script")?;
+    let (status, text) = done(rt, files, text_of(input)?)?;
+    compared(rt, "one_route.report", status, text.as_slice())
 }
 
 /// Which report the play of an input writes.
 pub fn report(rt: &HostRuntime, name: &str, input: &[u8]) -> io::Result<String> {
-    compared(rt, name, files_of(rt.alloc(), input)?)
+    let files = files_of(rt.alloc(), input)?;
+    let (status, text) = done(rt, files, "play conf script")?;
+    compared(rt, name, status, text.as_slice())
 }
 
-/// Which report the play of an example writes.
-pub fn example(rt: &HostRuntime, name: &str, input: &[u8]) -> io::Result<String> {
-    compared(rt, name, example_files(rt, input)?)
+/// Which report the play of files of these names writes.
+pub fn play(rt: &HostRuntime, name: &str, input: &[u8]) -> io::Result<String> {
+    let (conf, rest) = text_of(input)?.split_once(' ').ok_or(bad_line())?;
+    let (script, more) = rest.split_once(' ').unwrap_or((rest, ""));
+    let files = files_at(rt, conf, script)?;
+    let (status, text) = if more.is_empty() {
+        done(rt, files, "play conf script")?
+    } else {
+        let words = format!(in rt.alloc(); "play conf script {more}")?;
+        done(rt, files, words.as_str())?
+    };
+    compared(rt, name, status, text.as_slice())
 }

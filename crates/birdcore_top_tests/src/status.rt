@@ -1,5 +1,6 @@
 use birdcore_top::Status;
 use conf_tree::ConfKind;
+use script_lines::ScriptKind;
 use std::test::Fail;
 
 #[test]
@@ -10,6 +11,10 @@ fn a_status_has_a_line_and_a_number(rt: HostRuntime) -> Result<(), Fail> {
         column: 15,
         kind: ConfKind::Syntax,
     };
+    let unknown = Status::ScriptRefused {
+        line: 4,
+        kind: ScriptKind::UnknownActor,
+    };
     let name = String::from_str(alloc, "conf")?;
     let table = [
         (
@@ -18,6 +23,7 @@ fn a_status_has_a_line_and_a_number(rt: HostRuntime) -> Result<(), Fail> {
             "usage: birdcore COMMAND [CONF [SCRIPT]] [--journal N] [--number N] [-q]",
         ),
         (refused, 2, "config 3:15 C2 Syntax"),
+        (unknown, 3, "script 4 S2 UnknownActor"),
         (Status::ReadFault, 4, "read fault"),
         (Status::WriteFault, 5, "write fault"),
         (Status::OutOfMemory, 6, "out of memory"),

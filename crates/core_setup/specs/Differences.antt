@@ -1,6 +1,6 @@
 -- The changes between two states of a protocol's accepted routes. Modelled: which they are and in
 -- which order. Not modelled: how they are found. Form: the project's own.
-use Rattle.std.specs.Prelude.{ℕ, List, [], ◌∷◌, Option, if◌then◌else◌}
+use Rattle.std.specs.Prelude.{ℕ, Bool, List, [], ◌∷◌, Option, if◌then◌else◌}
 use Rattle.std.specs.List.{flat_map}
 use Rattle.std.specs.Map.{keys_of}
 use Rattle.std.specs.Option.{option_eq}

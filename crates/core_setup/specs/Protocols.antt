@@ -1,6 +1,6 @@
--- What tables and protocols say to the machine: its rules. Modelled: what an operation of a protocol
--- does after its earlier ones, what its channel sends of a route, and the best of a net's routes.
--- Lists of operations and of changes are read backwards. From: the definitions of imports
+-- What tables and protocols say to the machine: its rules. Modelled: what an operation of a
+-- protocol does after its earlier ones, what its channel sends of a route, and the best of a net's
+-- routes. Lists of operations and of changes are read backwards. From: the definitions of imports
 -- (specs/Operations of import_core), of exports (specs/Passing of export_core) and of selection.
 use Rattle.std.specs.Prelude.{ℕ, ◌+◌, false, List, [], ◌∷◌, length, reverse, Option, Some, None, option_and_then, slice_get}
 use Rattle.bits_ip.specs.Prefix.{Net}

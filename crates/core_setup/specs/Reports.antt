@@ -11,13 +11,11 @@ use Rattle.attrs.specs.Table.{Shows}
 use Rattle.attrs.specs.declared.route.Row.{Row}
 use Rattle.import_core.specs.declared.operation.Op.{Op}
 use Rattle.import_core.specs.declared.step.Done.{Done}
-use Rattle.export_core.specs.declared.log.Key.{Key}
 use Rattle.export_core.specs.Marks.{at}
 use Rattle.export_core.specs.Sends.{key_of}
 use Rattle.report.specs.declared.phase.ChannelReport.{ChannelReport}
 use Rattle.report.specs.declared.phase.ExportReport.{ExportReport}
 use Rattle.report.specs.declared.phase.JournalReport.{JournalReport}
-use Rattle.report.specs.declared.phase.ModeReport.{ModeReport}
 use Rattle.report.specs.declared.phase.PhaseReport.{PhaseReport}
 use Rattle.report.specs.declared.phase.ProtocolReport.{ProtocolReport}
 use Rattle.report.specs.declared.phase.ReplyReport.{ReplyReport}

@@ -1,6 +1,6 @@
 -- What is played: tables, and protocols with their filters. Modelled: names, families, what holds
--- for all routes of a protocol, filters as functions. Not modelled: where all this comes from. From:
--- BIRD User's Guide, "Routing tables", "Protocol options" and "Channel options".
+-- for all routes of a protocol, filters as functions. Not modelled: where all this comes from.
+-- From: BIRD User's Guide, "Routing tables", "Protocol options" and "Channel options".
 use Rattle.std.specs.Prelude.{◌≡◌, ◌<◌, ◌+◌, ℕ, List, [], ◌∷◌, length, Option, Some, None, option_map, slice_get, ⊤}
 use Rattle.attrs.specs.declared.attributes.Kind.{Kind}
 use Rattle.attrs.specs.declared.attributes.Kind.TheVariants.{Static, Bgp}

@@ -1,5 +1,5 @@
 -- Lines of a script name what there is.
-use Rattle.std.proofs.Common.{◌≡◌, ◌∙◌, sym, ap, refl, subst, ℕ, zero, suc, ◌+◌, ◌<◌, ◌≤◌, ◌^◌, Bool, true, false, cond, List, [], ◌∷◌, ◌++◌, length, length-append, arith, inl, inr, Option, Some, None}
+use Rattle.std.proofs.Common.{◌≡◌, ◌∙◌, sym, ap, refl, subst, ℕ, zero, suc, ◌<◌, ◌≤◌, ◌^◌, Bool, true, false, cond, List, [], ◌∷◌, ◌++◌, length, length-append, arith, inl, inr, Option, Some, None}
 use Rattle.std.specs.Prelude.{not, is_none, is_some, nat_le, nat_lt, ◌&&◌, unwrap_or, IfSome}
 use Rattle.std.specs.List.{All, find, position, position_or_len, slice_get}
 use Rattle.std.proofs.lemmas.Bool.{cases_Bool}

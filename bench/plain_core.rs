@@ -1,0 +1,630 @@
+//! Routes, tables, imports and exporters of `plain.rs`, and the machine that plays lines over them.
+
+use std::cmp::Ordering;
+use std::collections::{BTreeMap, BTreeSet, HashMap, VecDeque};
+use std::mem;
+use std::net::IpAddr;
+use std::rc::Rc;
+
+const NO_EXPORT: (u16, u16) = (65535, 65281);
+const NO_ADVERTISE: (u16, u16) = (65535, 65282);
+const NO_EXPORT_SUBCONFED: (u16, u16) = (65535, 65283);
+
+/// A net; IPv4 first, then by address and length.
+#[derive(Clone, Copy, PartialEq, Eq, PartialOrd, Ord, Hash)]
+pub struct Net {
+    pub addr: IpAddr,
+    pub len: u8,
+}
+
+#[derive(Clone, Copy, PartialEq, Eq, PartialOrd, Ord)]
+pub enum Kind {
+    Static,
+    Bgp,
+}
+
+#[derive(Clone, Copy, PartialEq, Eq)]
+pub enum Dest {
+    Unicast,
+    Blackhole,
+    Unreachable,
+    Prohibit,
+}
+
+#[derive(Clone, Copy, PartialEq, Eq, PartialOrd, Ord)]
+pub enum Origin {
+    Igp,
+    Egp,
+    Incomplete,
+}
+
+#[derive(Clone, PartialEq, Eq)]
+pub struct Attrs {
+    pub pref: u32,
+    pub kind: Kind,
+    pub dest: Dest,
+    pub gw: Option<IpAddr>,
+    pub sender: Option<IpAddr>,
+    pub peer_id: u32,
+    pub ebgp: bool,
+    pub path: Rc<[u32]>,
+    pub origin: Option<Origin>,
+    pub next_hop: Option<IpAddr>,
+    pub med: Option<u32>,
+    pub lp: Option<u32>,
+    pub igp: Option<u32>,
+    pub coms: Rc<[(u16, u16)]>,
+}
+
+/// A protocol's number, and what it has for a missing MED and local preference.
+#[derive(Clone, Copy)]
+pub struct Source {
+    pub number: usize,
+    pub med: u32,
+    pub lp: u32,
+}
+
+#[derive(Clone)]
+pub struct Route {
+    pub source: Source,
+    pub attrs: Rc<Attrs>,
+}
+
+/// What an `add` line says of its net.
+pub struct Given {
+    pub gw: IpAddr,
+    pub path: Rc<[u32]>,
+    pub origin: Origin,
+    pub med: Option<u32>,
+    pub lp: Option<u32>,
+    pub igp: Option<u32>,
+    pub coms: Rc<[(u16, u16)]>,
+}
+
+pub enum Op {
+    Start,
+    Open(u32),
+    Close,
+    Add(Net, Given),
+    Del(Net),
+    Disable,
+    Enable,
+    Reload,
+    ReloadIn,
+    ReloadOut,
+}
+
+pub enum Line {
+    Sync,
+    Take { protocol: usize, count: u64 },
+    Push { protocol: usize, count: u64 },
+    Apply { protocol: usize, op: Op },
+    Show { actor: usize, table: usize },
+}
+
+pub struct Entry {
+    pub net: Net,
+    pub source: usize,
+    pub new: Option<Rc<Attrs>>,
+    best: Option<Route>,
+}
+
+/// The routes of each net, the best first, and the entries of this phase.
+pub struct Table {
+    pub name: String,
+    pub nets: BTreeMap<Net, Vec<Route>>,
+    pub routes: usize,
+    pub begun: u64,
+    pub entries: Vec<Entry>,
+}
+
+#[derive(Clone, Copy, PartialEq, Eq)]
+pub enum Mode {
+    Idle,
+    Up,
+    Disabled,
+}
+
+/// What a bgp protocol gives its routes.
+pub struct Session {
+    pub neighbor: IpAddr,
+    pub ebgp: bool,
+    pub router_id: u32,
+}
+
+pub enum Feeder {
+    Static(BTreeMap<Net, Rc<Attrs>>),
+    Bgp(Session),
+}
+
+/// The import side of a protocol.
+pub struct Importer {
+    pub feeder: Feeder,
+    pub import: bool,
+    pub pref: u32,
+    pub mode: Mode,
+    pub received: BTreeMap<Net, Rc<Attrs>>,
+    pub accepted: BTreeMap<Net, Rc<Attrs>>,
+}
+
+enum Then {
+    Stay,
+    Up,
+    Down,
+    Refresh,
+}
+
+struct Mark {
+    position: u64,
+    candidate: Option<Route>,
+    due: bool,
+}
+
+/// Marked nets in the order of their first marking.
+#[derive(Default)]
+struct Marks {
+    order: VecDeque<Net>,
+    marks: HashMap<Net, Mark>,
+}
+
+pub enum Item {
+    Up(u64),
+    Down,
+    Reload,
+    Sent {
+        again: bool,
+        position: u64,
+        net: Net,
+        value: Option<Rc<Attrs>>,
+    },
+}
+
+/// The export channel of a bgp protocol.
+pub struct Exporter {
+    pub source: usize,
+    pub ebgp: bool,
+    pub communities: bool,
+    pub export: bool,
+    pub up: bool,
+    position: u64,
+    floor: u64,
+    marks: Marks,
+    pub sent: BTreeMap<Net, Rc<Attrs>>,
+    pub log: Vec<Item>,
+}
+
+pub struct Protocol {
+    pub name: String,
+    pub source: Source,
+    pub table: usize,
+    pub importer: Importer,
+    pub exporter: Option<Exporter>,
+    pub ops: Vec<Op>,
+}
+
+pub struct System {
+    pub cells: u64,
+    pub tables: Vec<Table>,
+    pub protocols: Vec<Protocol>,
+}
+
+/// Less where `a` is preferred to `b`, a route of the same net from another source.
+fn selection(a: &Route, b: &Route) -> Ordering {
+    let (x, y) = (&a.attrs, &b.attrs);
+    y.pref
+        .cmp(&x.pref)
+        .then_with(|| x.kind.cmp(&y.kind))
+        .then_with(|| match x.kind {
+            Kind::Static => Ordering::Equal,
+            Kind::Bgp => bgp_selection(a, b),
+        })
+        .then_with(|| a.source.number.cmp(&b.source.number))
+}
+
+fn bgp_selection(a: &Route, b: &Route) -> Ordering {
+    let (x, y) = (&a.attrs, &b.attrs);
+    let lp = |route: &Route| route.attrs.lp.unwrap_or(route.source.lp);
+    let med = |route: &Route| route.attrs.med.unwrap_or(route.source.med);
+    let origin = |attrs: &Attrs| attrs.origin.unwrap_or(Origin::Incomplete);
+    lp(b)
+        .cmp(&lp(a))
+        .then_with(|| x.path.len().cmp(&y.path.len()))
+        .then_with(|| origin(x).cmp(&origin(y)))
+        .then_with(|| med(a).cmp(&med(b)))
+        .then_with(|| y.ebgp.cmp(&x.ebgp))
+        .then_with(|| x.igp.unwrap_or(0).cmp(&y.igp.unwrap_or(0)))
+        .then_with(|| x.peer_id.cmp(&y.peer_id))
+        .then_with(|| x.sender.cmp(&y.sender))
+}
+
+impl Table {
+    pub fn new(name: &str) -> Table {
+        Table {
+            name: name.to_string(),
+            nets: BTreeMap::new(),
+            routes: 0,
+            begun: 0,
+            entries: Vec::new(),
+        }
+    }
+
+    pub fn head(&self) -> u64 {
+        self.begun + self.entries.len() as u64
+    }
+
+    fn entry(&self, position: u64) -> &Entry {
+        &self.entries[(position - self.begun - 1) as usize]
+    }
+
+    fn change(&mut self, net: Net, source: Source, new: Option<Rc<Attrs>>) {
+        let routes = self.nets.entry(net).or_default();
+        self.routes -= routes.len();
+        routes.retain(|route| route.source.number != source.number);
+        if let Some(attrs) = new.clone() {
+            let route = Route { source, attrs };
+            let place = routes.partition_point(|kept| selection(kept, &route).is_lt());
+            routes.insert(place, route);
+        }
+        self.routes += routes.len();
+        let best = routes.first().cloned();
+        if best.is_none() {
+            self.nets.remove(&net);
+        }
+        self.entries.push(Entry {
+            net,
+            source: source.number,
+            new,
+            best,
+        });
+    }
+}
+
+type Changes = Vec<(Net, Option<Rc<Attrs>>)>;
+
+/// The nets that differ, with what they are now.
+fn difference(old: &BTreeMap<Net, Rc<Attrs>>, new: &BTreeMap<Net, Rc<Attrs>>) -> Changes {
+    let nets: BTreeSet<Net> = old.keys().chain(new.keys()).copied().collect();
+    nets.into_iter()
+        .filter(|net| old.get(net) != new.get(net))
+        .map(|net| (net, new.get(&net).cloned()))
+        .collect()
+}
+
+impl Importer {
+    pub fn new(feeder: Feeder, import: bool, pref: u32) -> Importer {
+        Importer {
+            feeder,
+            import,
+            pref,
+            mode: Mode::Idle,
+            received: BTreeMap::new(),
+            accepted: BTreeMap::new(),
+        }
+    }
+
+    fn is_bgp(&self) -> bool {
+        matches!(self.feeder, Feeder::Bgp(_))
+    }
+
+    fn apply(&mut self, op: &Op, default_lp: u32) -> (Changes, Then) {
+        let none = (Changes::new(), Then::Stay);
+        match (op, self.mode) {
+            (Op::Start, Mode::Idle) => (self.start(), Then::Stay),
+            (Op::Open(id), Mode::Idle) => self.open(*id),
+            (Op::Add(net, given), Mode::Up) => (self.add(*net, given, default_lp), Then::Stay),
+            (Op::Del(net), Mode::Up) => (self.del(*net), Then::Stay),
+            (Op::Close, Mode::Up) => self.down(Mode::Idle),
+            (Op::Disable, Mode::Idle | Mode::Up) => self.down(Mode::Disabled),
+            (Op::Enable, Mode::Disabled) if self.is_bgp() => {
+                self.mode = Mode::Idle;
+                none
+            }
+            (Op::Enable, Mode::Disabled) => {
+                self.mode = Mode::Up;
+                (self.rebuild(), Then::Stay)
+            }
+            (Op::ReloadIn, Mode::Up) => (self.rebuild(), Then::Stay),
+            (Op::ReloadOut, Mode::Up) => (Changes::new(), self.refresh()),
+            (Op::Reload, Mode::Up) => (self.rebuild(), self.refresh()),
+            _ => none,
+        }
+    }
+
+    fn start(&mut self) -> Changes {
+        if let Feeder::Static(routes) = &self.feeder {
+            self.received = routes.clone();
+        }
+        self.mode = Mode::Up;
+        self.rebuild()
+    }
+
+    fn open(&mut self, id: u32) -> (Changes, Then) {
+        if let Feeder::Bgp(session) = &mut self.feeder {
+            session.router_id = id;
+        }
+        self.mode = Mode::Up;
+        (Changes::new(), Then::Up)
+    }
+
+    fn refresh(&self) -> Then {
+        if self.is_bgp() {
+            Then::Refresh
+        } else {
+            Then::Stay
+        }
+    }
+
+    fn down(&mut self, mode: Mode) -> (Changes, Then) {
+        let was_up = self.mode == Mode::Up && self.is_bgp();
+        self.mode = mode;
+        if self.is_bgp() {
+            self.received.clear();
+        }
+        let old = mem::take(&mut self.accepted);
+        let changes = old.into_keys().map(|net| (net, None)).collect();
+        (changes, if was_up { Then::Down } else { Then::Stay })
+    }
+
+    fn rebuild(&mut self) -> Changes {
+        let new = if self.import {
+            self.received.clone()
+        } else {
+            BTreeMap::new()
+        };
+        let old = mem::replace(&mut self.accepted, new);
+        difference(&old, &self.accepted)
+    }
+
+    fn add(&mut self, net: Net, given: &Given, default_lp: u32) -> Changes {
+        let Feeder::Bgp(session) = &self.feeder else {
+            panic!("a bgp protocol");
+        };
+        let attrs = Rc::new(session.attrs(given, self.pref, default_lp));
+        self.received.insert(net, attrs.clone());
+        if !self.import || self.accepted.get(&net) == Some(&attrs) {
+            return Changes::new();
+        }
+        self.accepted.insert(net, attrs.clone());
+        vec![(net, Some(attrs))]
+    }
+
+    fn del(&mut self, net: Net) -> Changes {
+        self.received.remove(&net);
+        match self.accepted.remove(&net) {
+            Some(_) => vec![(net, None)],
+            None => Changes::new(),
+        }
+    }
+}
+
+impl Session {
+    fn attrs(&self, given: &Given, pref: u32, default_lp: u32) -> Attrs {
+        let lp = given.lp.filter(|_| !self.ebgp).unwrap_or(default_lp);
+        Attrs {
+            pref,
+            kind: Kind::Bgp,
+            dest: Dest::Unicast,
+            gw: Some(given.gw),
+            sender: Some(self.neighbor),
+            peer_id: self.router_id,
+            ebgp: self.ebgp,
+            path: given.path.clone(),
+            origin: Some(given.origin),
+            next_hop: Some(given.gw),
+            med: given.med,
+            lp: Some(lp),
+            igp: given.igp,
+            coms: given.coms.clone(),
+        }
+    }
+}
+
+impl Marks {
+    /// A net that is marked already keeps its place, and stays due where it was.
+    fn put(&mut self, net: Net, position: u64, candidate: Option<Route>, due: bool) {
+        let mark = Mark {
+            position,
+            candidate,
+            due,
+        };
+        if let Some(kept) = self.marks.get_mut(&net) {
+            let due = kept.due || due;
+            *kept = Mark { due, ..mark };
+        } else {
+            self.order.push_back(net);
+            self.marks.insert(net, mark);
+        }
+    }
+
+    fn take_first(&mut self) -> Option<(Net, Mark)> {
+        let net = self.order.pop_front()?;
+        let mark = self.marks.remove(&net)?;
+        Some((net, mark))
+    }
+
+    fn clear(&mut self) {
+        self.order.clear();
+        self.marks.clear();
+    }
+}
+
+impl Exporter {
+    pub fn new(source: usize, ebgp: bool, communities: bool, export: bool) -> Exporter {
+        Exporter {
+            source,
+            ebgp,
+            communities,
+            export,
+            up: false,
+            position: 0,
+            floor: 0,
+            marks: Marks::default(),
+            sent: BTreeMap::new(),
+            log: Vec::new(),
+        }
+    }
+
+    fn gate_keeps(&self, route: &Route) -> bool {
+        let attrs = &route.attrs;
+        let has = |community| self.communities && attrs.coms.contains(&community);
+        route.source.number == self.source
+            || attrs.kind == Kind::Bgp && !attrs.ebgp && !self.ebgp
+            || has(NO_ADVERTISE)
+            || self.ebgp && (has(NO_EXPORT) || has(NO_EXPORT_SUBCONFED))
+    }
+
+    fn value(&self, candidate: Option<Route>) -> Option<Rc<Attrs>> {
+        candidate
+            .filter(|route| self.export && !self.gate_keeps(route))
+            .map(|route| route.attrs)
+    }
+
+    fn feed(&mut self, table: &Table, due: bool) {
+        let mut nets: BTreeSet<Net> = table.nets.keys().copied().collect();
+        nets.extend(&self.marks.order);
+        nets.extend(self.sent.keys());
+        self.floor = table.head();
+        for net in nets {
+            let best = table.nets.get(&net).map(|routes| routes[0].clone());
+            self.marks.put(net, self.floor, best, due);
+        }
+    }
+
+    fn mark(&mut self, table: &Table, then: Then) {
+        match then {
+            Then::Stay => {}
+            Then::Up => {
+                self.up = true;
+                self.position = table.head();
+                self.log.push(Item::Up(self.position));
+                self.feed(table, false);
+            }
+            Then::Refresh => {
+                self.log.push(Item::Reload);
+                self.feed(table, true);
+            }
+            Then::Down => {
+                self.up = false;
+                self.log.push(Item::Down);
+                self.marks.clear();
+                self.sent.clear();
+            }
+        }
+    }
+
+    /// False where the cursor stands at the head.
+    fn take(&mut self, table: &Table) -> bool {
+        if self.position == table.head() {
+            return false;
+        }
+        self.position += 1;
+        if self.position > self.floor {
+            let entry = table.entry(self.position);
+            let best = entry.best.clone();
+            self.marks.put(entry.net, self.position, best, false);
+        }
+        true
+    }
+
+    /// False where nothing is marked.
+    fn push(&mut self) -> bool {
+        let Some((net, mark)) = self.marks.take_first() else {
+            return false;
+        };
+        let value = self.value(mark.candidate);
+        let again = value.as_ref() == self.sent.get(&net);
+        if again && (!mark.due || value.is_none()) {
+            return true;
+        }
+        match &value {
+            Some(attrs) => self.sent.insert(net, attrs.clone()),
+            None => self.sent.remove(&net),
+        };
+        self.log.push(Item::Sent {
+            again,
+            position: mark.position,
+            net,
+            value,
+        });
+        true
+    }
+}
+
+impl System {
+    /// The exporter of a protocol where it is up, with the table that it reads.
+    fn channel(&mut self, protocol: usize) -> Option<(&mut Exporter, &Table)> {
+        let protocol = &mut self.protocols[protocol];
+        let exporter = protocol.exporter.as_mut().filter(|exporter| exporter.up)?;
+        Some((exporter, &self.tables[protocol.table]))
+    }
+
+    pub fn start(&mut self) {
+        for protocol in 0..self.protocols.len() {
+            if !self.protocols[protocol].importer.is_bgp() {
+                self.apply(protocol, Op::Start);
+            }
+        }
+    }
+
+    pub fn apply(&mut self, number: usize, op: Op) {
+        let protocol = &mut self.protocols[number];
+        let (source, table) = (protocol.source, protocol.table);
+        let (changes, then) = protocol.importer.apply(&op, source.lp);
+        protocol.ops.push(op);
+        for (net, new) in changes {
+            self.make_room(table);
+            self.tables[table].change(net, source, new);
+        }
+        if let Some(exporter) = &mut self.protocols[number].exporter {
+            exporter.mark(&self.tables[table], then);
+        }
+    }
+
+    /// Each cursor that lags by the whole journal takes one entry.
+    fn make_room(&mut self, number: usize) {
+        let table = &self.tables[number];
+        let readers = self
+            .protocols
+            .iter_mut()
+            .filter(|protocol| protocol.table == number);
+        for exporter in readers.filter_map(|protocol| protocol.exporter.as_mut()) {
+            if exporter.up && table.head() - exporter.position == self.cells {
+                exporter.take(table);
+            }
+        }
+    }
+
+    pub fn take(&mut self, protocol: usize, count: u64) {
+        if let Some((exporter, table)) = self.channel(protocol) {
+            let _ = (0..count).all(|_| exporter.take(table));
+        }
+    }
+
+    pub fn push(&mut self, protocol: usize, count: u64) {
+        if let Some((exporter, _)) = self.channel(protocol) {
+            let _ = (0..count).all(|_| exporter.push());
+        }
+    }
+
+    /// Without pipes one round settles all channels.
+    pub fn sync(&mut self) {
+        for protocol in 0..self.protocols.len() {
+            self.take(protocol, u64::MAX);
+            self.push(protocol, u64::MAX);
+        }
+    }
+
+    /// Forgets what the report of a phase has shown.
+    pub fn end_phase(&mut self) {
+        for table in &mut self.tables {
+            table.begun = table.head();
+            table.entries.clear();
+        }
+        for protocol in &mut self.protocols {
+            protocol.ops.clear();
+            if let Some(exporter) = &mut protocol.exporter {
+                exporter.log.clear();
+            }
+        }
+    }
+}

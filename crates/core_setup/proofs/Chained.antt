@@ -1,0 +1,86 @@
+-- What the operations of a protocol change, one after another: the definition of imports has the lists in the order of time,
+-- and the machine reads them backwards.
+use Rattle.std.proofs.Common.{◌≡◌, ℕ, List, [], ◌∷◌, ◌++◌, refl, sym, ◌∙◌, ap, subst, reverse}
+use Rattle.std.specs.List.{AllByRecursion}
+use Rattle.std.proofs.lemmas.List.{append-nil, append_assoc, reverse-append, reverse-reverse}
+use Rattle.attrs.specs.declared.route.Change.{Change}
+use Rattle.import_core.specs.declared.import_spec.ImportSpec.{ImportSpec}
+use Rattle.import_core.specs.declared.operation.Op.{Op}
+use Rattle.import_core.specs.Changes.{AreChanges, IsDifference}
+use Rattle.import_core.specs.Decisions.{Filter}
+use Rattle.import_core.specs.Imports.{Imports, nothing_yet}
+use Rattle.import_core.specs.Operations.{after_from, done}
+use Rattle.import_core.proofs.Differences.{real_from_nothing}
+use Rattle.core_machine.specs.Histories.{AreOf, AreReal}
+use Rattle.core_setup.specs.Differences.{differences}
+use Rattle.core_setup.specs.Protocols.{effect_after, imports_after}
+use Rattle.core_setup.specs.Setup.{Protocol}
+use Rattle.core_setup.proofs.Differing.{differences_are}
+
+of_append : (num : ℕ) (xs ys : List Change) → AreOf num xs → AreOf num ys → AreOf num (xs ++ ys)
+of_append num [] ys first later = later
+of_append num (x ∷ xs) ys first later = (first.0, of_append num xs ys first.1 later)
+
+pub reverse_push : {A : Type 0} (x : A) (xs : List A) → reverse (x ∷ xs) ≡ reverse xs ++ x ∷ []
+reverse_push x xs = reverse-append (x ∷ []) xs
+
+of_reverse : (num : ℕ) (xs : List Change) → AllByRecursion (λ (c : Change). c.num ≡ num) xs → AreOf num (reverse xs)
+of_reverse num [] all = tt
+of_reverse num (x ∷ xs) all = subst (AreOf num) (sym (reverse_push x xs)) (of_append num (reverse xs) (x ∷ []) (of_reverse num xs all.1) (all.0, tt))
+
+module _ (spec : ImportSpec) (verdict : Filter) where
+  -- one more operation at the end
+  after_push : (ops : List Op) (op : Op) (i : Imports) → after_from spec verdict i (ops ++ op ∷ []) ≡ (done spec verdict op (after_from spec verdict i ops)).imports
+  after_push [] op i = refl
+  after_push (o ∷ ops) op i = after_push ops op (done spec verdict o i).imports
+
+  changes_push : (ops : List Op) (op : Op) (i : Imports) (cs ds : List Change) → AreChanges spec verdict i ops cs
+      → IsDifference spec.src.num (after_from spec verdict i ops).accepted (done spec verdict op (after_from spec verdict i ops)).imports.accepted ds
+      → AreChanges spec verdict i (ops ++ op ∷ []) (cs ++ ds)
+  changes_push [] op i cs ds are is = (ds, [], ap (λ c. c ++ ds) are ∙ sym (append-nil ds), is, refl)
+  changes_push (o ∷ ops) op i cs ds are is = (
+    are.0,
+    are.1 ++ ds,
+    ap (λ c. c ++ ds) are.2 ∙ append_assoc are.0 are.1 ds,
+    are.3,
+    changes_push ops op (done spec verdict o i).imports are.1 ds are.4 is,
+  )
+
+module _ (p : Protocol) where
+  -- the changes of all operations
+  abbrev pub all_of : List Op → List Change
+  all_of [] = []
+  all_of (op ∷ earlier) = (effect_after p earlier op).changes ++ all_of earlier
+
+  after_is : (ops : List Op) → after_from p.spec p.filter nothing_yet (reverse ops) ≡ imports_after p ops
+  after_is [] = refl
+  after_is (op ∷ earlier) =
+      ap (after_from p.spec p.filter nothing_yet) (reverse_push op earlier)
+      ∙ after_push p.spec p.filter (reverse earlier) op nothing_yet
+      ∙ ap (λ i. (done p.spec p.filter op i).imports) (after_is earlier)
+
+  reverse_all : (op : Op) (earlier : List Op) (ds : List Change) → reverse (reverse ds ++ all_of earlier) ≡ reverse (all_of earlier) ++ ds
+  reverse_all op earlier ds = reverse-append (reverse ds) (all_of earlier) ∙ ap (λ d. reverse (all_of earlier) ++ d) (reverse-reverse ds)
+
+  all_are : (ops : List Op) → AreChanges p.spec p.filter nothing_yet (reverse ops) (reverse (all_of ops))
+  all_are [] = refl
+  all_are (op ∷ earlier) =
+      let i = imports_after p earlier in
+      let ds = differences p.spec.src.num i.accepted (imports_after p (op ∷ earlier)).accepted in
+      let is : IsDifference p.spec.src.num i.accepted (done p.spec p.filter op i).imports.accepted ds =
+      differences_are p.spec.src.num i.accepted (imports_after p (op ∷ earlier)).accepted in
+      let more : AreChanges p.spec p.filter nothing_yet (reverse earlier ++ op ∷ []) (reverse (all_of earlier) ++ ds) =
+      changes_push p.spec p.filter (reverse earlier) op nothing_yet (reverse (all_of earlier)) ds (all_are earlier)
+      (subst (λ (j : Imports). IsDifference p.spec.src.num j.accepted (done p.spec p.filter op j).imports.accepted ds) (sym (after_is earlier)) is) in
+      subst (λ ops. AreChanges p.spec p.filter nothing_yet ops (reverse (all_of (op ∷ earlier)))) (sym (reverse_push op earlier))
+      (subst (λ cs. AreChanges p.spec p.filter nothing_yet (reverse earlier ++ op ∷ []) cs) (sym (reverse_all op earlier ds)) more)
+
+  pub all_real : (ops : List Op) → AreReal (all_of ops)
+  all_real ops = real_from_nothing p.spec p.filter (reverse ops) (reverse (all_of ops)) (all_are ops)
+
+  pub all_own : (ops : List Op) → AreOf p.spec.src.num (all_of ops)
+  all_own [] = tt
+  all_own (op ∷ earlier) =
+      of_append p.spec.src.num (effect_after p earlier op).changes (all_of earlier)
+      (of_reverse p.spec.src.num _ (differences_are p.spec.src.num (imports_after p earlier).accepted (imports_after p (op ∷ earlier)).accepted).source)
+      (all_own earlier)

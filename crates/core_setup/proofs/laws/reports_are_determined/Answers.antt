@@ -1,0 +1,5 @@
+use Rattle.core_setup.proofs.Determined.{reports_determined}
+use Rattle.core_setup.proofs.laws.reports_are_determined.Goals as goal
+
+pub returns : goal.returns
+returns c = reports_determined

@@ -1,7 +1,0 @@
-use Rattle.text.specs.Lines.{words_of}
-use Rattle.script_lang.proofs.CommandParts.{no_verb}
-use Rattle.script_lang.proofs.commands.read_command.Goals as goal
-
-pub returns-in_default-verb_of : goal.returns-in_default-verb_of
-returns-in_default-verb_of c =
-    no_verb c.args.number (words_of c.args.rest.now) (words_of c.in-Some.rest.now) c.in-Some.word.now c.in-Some.ensures.word c.in_default-verb_of.ensures

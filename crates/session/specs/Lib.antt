@@ -1,4 +1,0 @@
-pub mod Filtered
-pub mod Configured
-pub mod Built
-pub mod Seen
