@@ -8,10 +8,10 @@ use Rattle.script_lines.specs.Script as script_answers
 use Rattle.script_lines.specs.Script.{Answer, Answers}
 use Rattle.script_lines.specs.declared.named.Named.{Named}
 use Rattle.sys_build.specs.Names.{named_of}
-use Rattle.sys_build.specs.Setups.{setup_of}
+use Rattle.sys_build.specs.Setups.{IsPlayable, setup_of}
 use Rattle.system.specs.System.{System}
 use Rattle.birdcore_top.specs.Command.{Command, Play}
-use Rattle.birdcore_top.specs.Outcome.{Held, Outcome, OverLimit, Refused, Unbuilt, BadLine, UnbuiltLine, Played, Configures, IsConfigured, SaysSomething, ConfGives, ScriptGives, IsRequired}
+use Rattle.birdcore_top.specs.Outcome.{Held, Outcome, OverLimit, Refused, Unbuilt, BadLine, UnbuiltLine, Played, Configures, SaysSomething, ConfGives, ScriptGives, IsRequired}
 
 within_or : (file : List ℕ) → IsLong file ⊎ (length file ≤ limit)
 within_or file = cases_lt limit (length file)
@@ -31,14 +31,14 @@ module _ (says : (text : List ℕ) → length text ≤ limit → SaysSomething t
   -- what files give, of which this is told
   Given : (conf script : List ℕ) (cells : ℕ) (first second : Option (List ℕ)) (o : Outcome) → Type 0
   Given conf script cells first second o =
-      ConfGives IsSomeAnd conf first o ⊎ ((system : System) × IsConfigured system × IsSomeAnd first (Configures system) × ScriptGives IsSomeAnd system cells script second o)
+      ConfGives IsSomeAnd conf first o ⊎ ((system : System) × IsPlayable system × IsSomeAnd first (Configures system) × ScriptGives IsSomeAnd system cells script second o)
 
   play_outcome : (conf script : List ℕ) (cells : ℕ) (file text : List ℕ) → (o : Outcome) × Given conf script cells (Some file) (Some text) o
   unfolding Given
   play_outcome conf script cells file text = elim (within_or file) [
     | inl long ↦ (OverLimit conf, inl (refl, long))
     | inr within ↦ elim (says file within) [
-      | inl is ↦ let found = script_outcome is.0 cells script text in (found.0, inr (is.0, (file, (within, is.1)), (within, is.1), found.1))
+      | inl is ↦ let found = script_outcome is.0 cells script text in (found.0, inr (is.0, (file, is.1.0, is.1.1), (within, is.1), found.1))
       | inr other ↦ elim other [
         | inl unbuilt ↦ (Unbuilt, inl (within, unbuilt))
         | inr refused ↦ (Refused refused.0 refused.1 refused.2, inl (within, refused.3))

@@ -2,10 +2,11 @@
 use Rattle.std.proofs.Common.{◌≡◌, ℕ, ◌+◌, ◌-◌, ◌^◌, ◌≤◌, List, Option, Some, None, refl, sym, ◌∙◌, subst, arith, inl, inr}
 use Rattle.std.specs.Prelude.{◌⊎◌, min, Result, Ok, Err, IfErr, IfSome, IsErrAnd}
 use Rattle.outside_io.specs.Faults.{NoneFell, Rose}
+use Rattle.sys_build.specs.Setups.{IsPlayable}
 use Rattle.system.specs.System.{System}
 use Rattle.birdcore_top.specs.Answer.{MissesInTurn, Stops}
 use Rattle.birdcore_top.specs.Command.{Command, Play}
-use Rattle.birdcore_top.specs.Outcome.{Configures, IsConfigured, Held, Misused, Outcome, IsAccepted, IsPossible, ScriptGives}
+use Rattle.birdcore_top.specs.Outcome.{Configures, Held, Misused, Outcome, IsAccepted, IsPossible, ScriptGives}
 use Rattle.birdcore_top.specs.declared.status.Status.{Status}
 
 -- the status that an error is made of
@@ -25,13 +26,13 @@ accepted_of (Some text) system is = (system, is)
 pub rose_since : (before between now : ℕ) → before ≤ between → Rose between now → Rose before now
 rose_since before between now later rose = grind (arith, later, rose)
 
-module _ (conf script : List ℕ) (cells : ℕ) (held : Held) (system : System) (configured : IsConfigured system) (accepted : IfSome (held conf) (Configures system)) where
+module _ (conf script : List ℕ) (cells : ℕ) (held : Held) (system : System) (playable : IsPlayable system) (accepted : IfSome (held conf) (Configures system)) where
   pub over : (o : Outcome) → ScriptGives IfSome system cells script (held script) o → IsPossible (Some (Play conf script cells)) held o
-  over o is = inr (system, configured, accepted, is)
+  over o is = inr (system, playable, accepted, is)
 
   -- the script is refused, or isn't built
   pub script_stopped : (status : Status) → Stops (λ o. (n : ℕ) → ScriptGives IfSome system n script (held script) o) status → Stops (IsPossible (Some (Play conf script cells)) held) status
-  script_stopped status is = record { early = is.early; cause = λ answer. let found = is.cause answer in (found.0, inr (system, configured, accepted, found.1 cells), found.2) }
+  script_stopped status is = record { early = is.early; cause = λ answer. let found = is.cause answer in (found.0, inr (system, playable, accepted, found.1 cells), found.2) }
 
   pub in_turn : (before between now : List ℕ → ℕ) → NoneFell before between → Rose (between script) (now script) → MissesInTurn (Play conf script cells) held before now
   in_turn before between now none_fell rose = inr (accepted_of (held conf) system accepted, rose_since (before script) (between script) (now script) (none_fell script) rose)

@@ -9,10 +9,11 @@ use Rattle.script_lines.specs.declared.faults.ScriptKind.{ScriptKind}
 use Rattle.script_lines.specs.declared.named.Named.{Named}
 use Rattle.script_lines.specs.declared.script.Line.{Line}
 use Rattle.sys_build.specs.Names.{named_of}
+use Rattle.sys_build.specs.Setups.{IsPlayable}
 use Rattle.system.specs.System.{System}
 use Rattle.system.specs.Texts.{IsRefusedAt}
 use Rattle.birdcore_top.specs.Command.{Command, Play}
-use Rattle.birdcore_top.specs.Outcome.{Outcome, Misused, OverLimit, Refused, Unbuilt, BadLine, UnbuiltLine, Played, Held, Configures, IsAccepted, IsBuilt, IsConfigured, IsNotBuilt, ConfGives, ScriptGives, IsPossible, IsRequired}
+use Rattle.birdcore_top.specs.Outcome.{Outcome, Misused, OverLimit, Refused, Unbuilt, BadLine, UnbuiltLine, Played, Held, Configures, IsAccepted, IsBuilt, IsNotBuilt, ConfGives, ScriptGives, IsPossible, IsRequired}
 
 -- What a text says: of configurations it is one that is built, or one that isn't, or it is refused, at one place for one
 -- reason; of scripts it has one answer. This is what the laws of texts say.
@@ -161,8 +162,8 @@ module _ (once : SaysOnce) where
   scripts_once system cells name (Some text) o p is may = script_once system cells name text o p is may
 
   plays_once : (conf script : List ℕ) (cells : ℕ) (first second : Option (List ℕ)) (o p : Outcome)
-      → ConfGives IsSomeAnd conf first o ⊎ ((system : System) × IsConfigured system × IsSomeAnd first (Configures system) × ScriptGives IsSomeAnd system cells script second o)
-      → ConfGives IfSome conf first p ⊎ ((system : System) × IsConfigured system × IfSome first (Configures system) × ScriptGives IfSome system cells script second p) → p ≡ o
+      → ConfGives IsSomeAnd conf first o ⊎ ((system : System) × IsPlayable system × IsSomeAnd first (Configures system) × ScriptGives IsSomeAnd system cells script second o)
+      → ConfGives IfSome conf first p ⊎ ((system : System) × IsPlayable system × IfSome first (Configures system) × ScriptGives IfSome system cells script second p) → p ≡ o
   plays_once conf script cells None second o p (inl is) may = absurd (no_conf conf o is)
   plays_once conf script cells None second o p (inr is) may = absurd is.2
   plays_once conf script cells (Some file) second o p (inl is) (inl may) = conf_once conf file o p is may

@@ -7,10 +7,10 @@ ghost use Rattle.outside_io.specs.Whole.{IsLong, IsWhole, WritesFront};
 ghost use Rattle.report.specs.Report.{phase_text, report_text};
 ghost use Rattle.script_lines.specs.Kinds.{AreFew};
 ghost use Rattle.sys_build.specs.Names.{named_of};
-ghost use Rattle.sys_build.specs.Setups.{has_pipe as is_piped, setup_of};
+ghost use Rattle.sys_build.specs.Setups.{IsPlayable, setup_of};
 ghost use Rattle.system.specs.Seen.{system_of};
 ghost use Rattle.birdcore_top.specs.Command.{command_asked, command_of};
-ghost use Rattle.birdcore_top.specs.Outcome.{Outcome, OverLimit, Played, Configures, ConfGives, IsConfigured, ScriptGives, IsPossible, IsRequired};
+ghost use Rattle.birdcore_top.specs.Outcome.{Outcome, OverLimit, Played, Configures, ConfGives, ScriptGives, IsPossible, IsRequired};
 ghost use Rattle.birdcore_top.specs.Answer.{Answers, HasCause, MissesInTurn, NoneFailed, SinkTakes, IsMissed, FindsLacked, FindsLackedBy, IsReadStatus, Stops, writes};
 ghost use Rattle.birdcore_top.specs.Written.{IfBegun, IfPlayed};
 
@@ -163,8 +163,7 @@ fn read_files<F: Shelf>(
         IsPossible (Some (command_asked asked.now)) (F.held shelf.old)
         (Played (setup_of (system_of files.system) asked.now.cells) files.script.actors.items
         (map (λ phase. phase.items) files.script.phases.items))) }
-    ensures built { IfOk result
-        (λ files. is_piped (system_of files.system).protocols ≡ false) }
+    ensures playable { IfOk result (λ files. IsPlayable (system_of files.system)) }
     ensures stopped { IfErr result
         (Stops (IsPossible (Some (command_asked asked.now)) (F.held shelf.old))) }
     ensures read { result ≡ Err Status.ReadFault → Rose (F.faults shelf.old) (F.faults shelf.new) }
@@ -184,8 +183,7 @@ fn read_files<F: Shelf>(
 fn read_conf<F: Shelf>(alloc: Global, name: &str, shelf: &mut F) -> Result<System, Status>
     ensures config { IfOk result
         (λ system. IfSome (F.held shelf.old name.now) (Configures (system_of system))) }
-    ensures configured { IfOk result (λ system. IsConfigured (system_of system)) }
-    ensures built { IfOk result (λ system. is_piped (system_of system).protocols ≡ false) }
+    ensures playable { IfOk result (λ system. IsPlayable (system_of system)) }
     ensures few { IfOk result (λ system. AreFew (named_of (system_of system))) }
     ensures stopped { IfErr result (Stops (ConfGives IfSome name.now (F.held shelf.old name.now))) }
     ensures read { result ≡ Err Status.ReadFault → Rose (F.faults shelf.old) (F.faults shelf.new) }

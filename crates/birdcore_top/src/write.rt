@@ -1,13 +1,12 @@
 //! Plays a script over a configuration, and writes the report of each phase when it has ended.
-ghost use Rattle.std.specs.Prelude.{◌≡◌, ◌⊎◌, ◌≤◌, ◌++◌, ℕ, List, [], Err, false, codes, map, IfErr, OnOk};
+ghost use Rattle.std.specs.Prelude.{◌≡◌, ◌⊎◌, ◌≤◌, ◌++◌, ℕ, List, [], Err, codes, map, IfErr, OnOk};
 ghost use Rattle.std.specs.Io.KnownBytes.{Appends, Keeps};
 ghost use Rattle.std.specs.List.{flat_map};
 ghost use Rattle.core_setup.specs.Setup.{Setup};
 ghost use Rattle.outside_io.specs.Faults.{Rose};
 ghost use Rattle.outside_io.specs.Whole.{WritesFront};
 ghost use Rattle.report.specs.Report.{phase_text, report_text};
-ghost use Rattle.sys_build.specs.Setups as setups;
-ghost use Rattle.sys_build.specs.Setups.{setup_of};
+ghost use Rattle.sys_build.specs.Setups.{IsPlayable, setup_of};
 ghost use Rattle.sys_run.specs.Playing as played;
 ghost use Rattle.system.specs.Seen.{system_of};
 ghost use Rattle.birdcore_top.specs.Answer.{CutsOff, IsEnd};
@@ -34,7 +33,7 @@ pub(crate) fn write_play<K: Sink>(
     script: Script,
     out: &mut K,
 ) -> Status
-    requires { setups.has_pipe (system_of system.now).protocols ≡ false }
+    requires { IsPlayable (system_of system.now) }
     ensures end { IsEnd result }
     ensures report { result ≡ Status.Ok
         → HasPlayed (setup_of (system_of system.now) cells) script.actors.items

@@ -19,7 +19,7 @@ pub returns-clause-few : goal.returns-clause-few
 returns-clause-few g c =
     c.accepted_configurations_are_few.ensures c.in_ok-bytes.bytes.items (system_of c.in_ok-system.system) (rw c.deref.ensures.value at c.in_ok-system.ensures.system)
 
-pub returns-clause-configured : goal.returns-clause-configured
-returns-clause-configured g c =
+pub returns-clause-playable : goal.returns-clause-playable
+returns-clause-playable g c =
     let is = rw c.deref.ensures.value at c.in_ok-system.ensures.system in
-    (c.in_ok-bytes.bytes.items, (c.in_ok-bytes.ensures.whole.within, (is, sym c.has_pipe.ensures ∙ c.if-has_pipe.false)))
+    (c.in_ok-bytes.bytes.items, is, sym c.has_pipe.ensures ∙ c.if-has_pipe.false)

@@ -12,20 +12,20 @@ pub returns-in_err-script-clause-stopped : goal.returns-in_err-script-clause-sto
 returns-in_err-script-clause-stopped g c =
     let asked = c.args.asked.now in
     stops_as _ c.from_residual-in_err-script.result c.in_err-script.field-0.0 c.from_residual-in_err-script.ensures.1
-    (script_stopped asked.conf.now asked.script.now asked.cells (g.F.Shelf.held c.args.shelf.now) (system_of c.in_ok-system.system) c.in_ok-system.ensures.configured c.in_ok-system.ensures.config c.in_err-script.field-0.0
+    (script_stopped asked.conf.now asked.script.now asked.cells (g.F.Shelf.held c.args.shelf.now) (system_of c.in_ok-system.system) c.in_ok-system.ensures.playable c.in_ok-system.ensures.config c.in_err-script.field-0.0
     (rw c.in_ok-system.ensures.held at c.in_err-script.ensures.stopped))
 
 pub returns-in_err-script-clause-in_turn : goal.returns-in_err-script-clause-in_turn
 returns-in_err-script-clause-in_turn g c = λ is.
     let asked = c.args.asked.now in
     let failed = err_is c.from_residual-in_err-script.result c.in_err-script.field-0.0 _ c.from_residual-in_err-script.ensures.1 is in
-    in_turn asked.conf.now asked.script.now asked.cells (g.F.Shelf.held c.args.shelf.now) (system_of c.in_ok-system.system) c.in_ok-system.ensures.configured c.in_ok-system.ensures.config
+    in_turn asked.conf.now asked.script.now asked.cells (g.F.Shelf.held c.args.shelf.now) (system_of c.in_ok-system.system) c.in_ok-system.ensures.playable c.in_ok-system.ensures.config
     (g.F.Shelf.missed c.args.shelf.now) (g.F.Shelf.missed c.read_conf.new.shelf) (g.F.Shelf.missed c.read_lines.new.shelf) c.in_ok-system.ensures.none_fell
     (c.in_err-script.ensures.by_name (ap (λ (s : Status). Err s) failed))
 
 pub returns-clause-files : goal.returns-clause-files
 returns-clause-files g c =
     let asked = c.args.asked.now in
-    over asked.conf.now asked.script.now asked.cells (g.F.Shelf.held c.args.shelf.now) (system_of c.in_ok-system.system) c.in_ok-system.ensures.configured c.in_ok-system.ensures.config
+    over asked.conf.now asked.script.now asked.cells (g.F.Shelf.held c.args.shelf.now) (system_of c.in_ok-system.system) c.in_ok-system.ensures.playable c.in_ok-system.ensures.config
     (Played (setup_of (system_of c.in_ok-system.system) asked.cells) c.in_ok-script.script.actors.items (map (λ (phase : Vec Line Global). phase.items) c.in_ok-script.script.phases.items))
     ((rw c.in_ok-system.ensures.held at c.in_ok-script.ensures.script) asked.cells)
