@@ -1,13 +1,19 @@
 -- What the script comes to, over a configuration that is accepted.
-use Rattle.std.proofs.Common.{◌≡◌, ℕ, ◌+◌, ◌-◌, ◌^◌, ◌≤◌, List, Option, Some, None, refl, sym, ◌∙◌, subst, arith, inl, inr}
-use Rattle.std.specs.Prelude.{◌⊎◌, min, Result, Ok, Err, IfErr, IfSome, IsErrAnd}
+use Rattle.std.proofs.Common.{◌≡◌, ℕ, ◌+◌, ◌-◌, ◌^◌, ◌≤◌, List, ◌++◌, Option, Some, None, refl, sym, ◌∙◌, subst, arith, inl, inr}
+use Rattle.std.specs.Prelude.{◌⊎◌, Bool, min, Result, Ok, Err, IfErr, IfSome, IsErrAnd, IsTrue}
+use Rattle.core_setup.specs.Setup.{Setup}
 use Rattle.outside_io.specs.Faults.{NoneFell, Rose}
+use Rattle.report.specs.declared.phase.PhaseReport.{PhaseReport}
+use Rattle.script_lines.specs.declared.script.Line.{Line}
 use Rattle.sys_build.specs.Setups.{IsPlayable}
 use Rattle.system.specs.System.{System}
-use Rattle.birdcore_top.specs.Answer.{MissesInTurn, Stops}
+use Rattle.birdcore_top.specs.Answer.{FindsLackedBy, HasCause, IsEnd, IsMissed, MissesInTurn, Stops}
 use Rattle.birdcore_top.specs.Command.{Command, Play}
-use Rattle.birdcore_top.specs.Outcome.{Configures, Held, Misused, Outcome, IsAccepted, IsPossible, ScriptGives}
+use Rattle.birdcore_top.specs.Outcome.{Configures, Held, Misused, Outcome, IsAccepted, IsPossible, Played, ScriptGives}
+use Rattle.birdcore_top.specs.Written.{HasBegun, IfBegun}
 use Rattle.birdcore_top.specs.declared.status.Status.{Status}
+use Rattle.birdcore_top.specs.declared.status.Status.TheVariants.{Usage, ConfigRefused, ScriptRefused, NotBuilt, ReadFault, WriteFault, OutOfMemory, TooLong}
+use Rattle.birdcore_top.specs.declared.status.Status.TheVariants as variants
 
 -- the status that an error is made of
 pub err_is : {T : Type 0} (result : Result T Status) (made status : Status) → IsErrAnd result (λ e. e ≡ made) → result ≡ Err status → made ≡ status
@@ -41,3 +47,36 @@ module _ (conf script : List ℕ) (cells : ℕ) (held : Held) (system : System) 
 pub misused : (command : Option Command) (held : Held) → command ≡ None → IsPossible command held Misused
 misused None held is = refl
 misused (Some c) held is = absurd (cc)
+
+-- where the script isn't held
+pub lacked_script : {T : Type 0} (conf script : List ℕ) (cells : ℕ) (held : Held) (lacks : List ℕ → Bool) (result : Result T Status) (made : Status) → IsErrAnd result (λ e. e ≡ made)
+    → (IsTrue (lacks conf) → ⊥) → (IsTrue (lacks script) → IsMissed made) → FindsLackedBy (Play conf script cells) lacks held result
+lacked_script conf script cells held lacks (Ok x) made is held_conf missed = absurd is
+lacked_script conf script cells held lacks (Err e) made is held_conf missed = (λ lacks_it. absurd (held_conf lacks_it), λ lacks_it. inl (subst (λ (s : Status). IsMissed s) (sym is) (missed lacks_it)))
+
+-- what is begun of a play that may be due
+pub begun_of : (command : Option Command) (held : Held) (setup : Setup) (actors : List (List ℕ)) (phases : List (List Line)) (P : List PhaseReport → Type 0)
+    → IsPossible command held (Played setup actors phases) → HasBegun setup actors phases P → IfBegun command held P
+begun_of command held setup actors phases P possible is = record {
+  setup = setup;
+  actors = actors;
+  first = is.first;
+  more = is.more;
+  reports = is.reports;
+  possible = subst (λ (l : List (List Line)). IsPossible command held (Played setup actors l)) is.whole possible;
+  played = is.played;
+  said = is.said;
+}
+
+-- a play that came to its end answers the outcome
+pub end_has_cause : (command : Option Command) (held : Held) (setup : Setup) (actors : List (List ℕ)) (phases : List (List Line)) → IsPossible command held (Played setup actors phases)
+    → (status : Status) → IsEnd status → HasCause (IsPossible command held) status
+end_has_cause command held setup actors phases possible variants.Ok is = λ answer. (Played setup actors phases, possible, tt)
+end_has_cause command held setup actors phases possible WriteFault is = λ answer. absurd (cc)
+end_has_cause command held setup actors phases possible OutOfMemory is = λ answer. absurd (cc)
+end_has_cause command held setup actors phases possible ReadFault is = absurd is
+end_has_cause command held setup actors phases possible Usage is = absurd is
+end_has_cause command held setup actors phases possible (ConfigRefused line column kind) is = absurd is
+end_has_cause command held setup actors phases possible (ScriptRefused line kind) is = absurd is
+end_has_cause command held setup actors phases possible (TooLong word) is = absurd is
+end_has_cause command held setup actors phases possible (NotBuilt file line) is = absurd is

@@ -27,7 +27,7 @@ use Rattle.birdcore_top.specs.Outcome.{SaysSomething}
 of_accepted : (text : List ℕ) (ds : List Declaration) → IsAcceptedText text ds → SaysSomething text
 of_accepted text ds is = elim (cases_Bool (has_pipe (system_in text ds).protocols)) [
   | inl pipe ↦ inr (inl (system_in text ds, (ds, is, refl), pipe))
-  | inr none ↦ inl (system_in text ds, (ds, is, refl), none)
+  | inr none ↦ inl (system_in text ds, ((ds, is, refl), none))
 ]
 
 -- ---- texts

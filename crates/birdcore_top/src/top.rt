@@ -154,11 +154,7 @@ struct Files {
 }
 
 /// Reads the two files, the configuration first.
-fn read_files<F: Shelf>(
-    alloc: Global,
-    asked: &Asked<'_>,
-    shelf: &mut F,
-) -> Result<Files, Status>
+fn read_files<F: Shelf>(alloc: Global, asked: &Asked<'_>, shelf: &mut F) -> Result<Files, Status>
     ensures files { IfOk result (λ files.
         IsPossible (Some (command_asked asked.now)) (F.held shelf.old)
         (Played (setup_of (system_of files.system) asked.now.cells) files.script.actors.items

@@ -29,8 +29,7 @@ pub(crate) fn asked_by(words: &[String]) -> Option<Asked<'_>>
             cells: USUAL_CELLS,
         }),
         [command, conf, script, option, number]
-            if command.as_str() == "play" && option.as_str() == "--journal" =>
-        {
+            if command.as_str() == "play" && option.as_str() == "--journal" => {
             Some(Asked {
                 conf: conf.as_str(),
                 script: script.as_str(),
