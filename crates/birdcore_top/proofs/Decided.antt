@@ -1,15 +1,18 @@
 -- What is required is answered: an answer has a cause, and files that are told have one outcome.
-use Rattle.std.proofs.Common.{◌≡◌, ℕ, ◌≤◌, true, false, List, [], ◌∷◌, Option, Some, None, refl, sym, ◌∙◌, ap, subst, arith, inl, inr}
-use Rattle.std.specs.Prelude.{◌⊎◌, IfSome, IsSomeAnd}
+use Rattle.std.proofs.Common.{◌≡◌, ℕ, ◌≤◌, true, false, List, [], ◌∷◌, ◌++◌, Option, Some, None, refl, sym, ◌∙◌, ap, subst, arith, inl, inr}
+use Rattle.std.specs.Prelude.{◌⊎◌, IfSome, IsSomeAnd, slice_index_or}
 use Rattle.std.specs.List.{All}
 use Rattle.outside_io.specs.Faults.{Rose}
-use Rattle.session.specs.Configured.{Configured}
-use Rattle.script_lang.specs.declared.script.Line.{Line}
+use Rattle.core_setup.specs.Setup.{Setup}
+use Rattle.report.specs.declared.phase.PhaseReport.{PhaseReport}
+use Rattle.script_lines.specs.declared.script.Line.{Line}
+use Rattle.system.specs.System.{System}
 use Rattle.birdcore_top.specs.declared.status.Status.{Status}
-use Rattle.birdcore_top.specs.declared.status.Status.TheVariants.{Usage, ConfigRefused, NotBuilt, ReadFault, WriteFault, OutOfMemory, TooLong}
+use Rattle.birdcore_top.specs.declared.status.Status.TheVariants.{Usage, ConfigRefused, ScriptRefused, NotBuilt, ReadFault, WriteFault, OutOfMemory, TooLong}
 use Rattle.birdcore_top.specs.declared.status.Status.TheVariants as variants
 use Rattle.birdcore_top.specs.Command.{Command, Play}
-use Rattle.birdcore_top.specs.Outcome.{Outcome, Misused, OverLimit, Refused, Unbuilt, BadLine, Played, Held, Configures, IsAccepted, ConfGives, ScriptGives, IsPossible, IsRequired, IfReport, files_read}
+use Rattle.birdcore_top.specs.Outcome.{Outcome, Misused, OverLimit, Refused, Unbuilt, BadLine, UnbuiltLine, Played, Held, Configures, IsAccepted, ConfGives, ScriptGives, IsPossible, IsRequired, files_read}
+use Rattle.birdcore_top.specs.Written.{IfBegun}
 use Rattle.birdcore_top.specs.Answer.{Answers, HasCause, MissesInTurn, NoneFailed, SinkTakes}
 
 -- the law `files_have_one_outcome`
@@ -22,58 +25,64 @@ module _ (law : HasOneOutcome) (command : Option Command) (held : Held) (o : Out
   from_cause status p may answers = subst (λ (q : Outcome). Answers q status) (law.one command held o p required may) answers
 
   -- a report is written only where the outcome is a play
-  written : (P : List ℕ → Type 0) (before now : ℕ) → IfReport command held P → SinkTakes o before now → Rose before now → ⊥
-  written P before now report takes = subst (λ (q : Outcome). SinkTakes q before now) (sym (law.one command held o (Played report.config report.lines) required report.played)) takes
+  written : (P : List PhaseReport → Type 0) (before now : ℕ) → IfBegun command held P → SinkTakes o before now → Rose before now → ⊥
+  written P before now begun takes =
+      subst (λ (q : Outcome). SinkTakes q before now) (sym (law.one command held o (Played begun.setup begun.actors (begun.first ++ begun.more)) required begun.possible)) takes
 
 -- a file that decides an outcome has failed
-module _ (law : HasOneOutcome) (conf script : List ℕ) (held : Held) (before now : List ℕ → ℕ) where
-  conf_failed : (o : Outcome) → ConfGives IsSomeAnd conf (held conf) o → All (λ name. Rose (before name) (now name) → ⊥) (files_read (Play conf script) o) → Rose (before conf) (now conf) → ⊥
+module _ (law : HasOneOutcome) (conf script : List ℕ) (cells : ℕ) (held : Held) (before now : List ℕ → ℕ) where
+  conf_failed : (o : Outcome) → ConfGives IsSomeAnd conf (held conf) o → All (λ name. Rose (before name) (now name) → ⊥) (files_read (Play conf script cells) o) → Rose (before conf) (now conf) → ⊥
   conf_failed (OverLimit word) is none rose = none 0 conf (omega arith) rose
   conf_failed (Refused l c k) is none rose = none 0 conf (omega arith) rose
   conf_failed Unbuilt is none rose = none 0 conf (omega arith) rose
   conf_failed Misused is none rose = is
-  conf_failed (BadLine n) is none rose = is
-  conf_failed (Played config lines) is none rose = is
+  conf_failed (BadLine n k) is none rose = is
+  conf_failed (UnbuiltLine n) is none rose = is
+  conf_failed (Played setup actors phases) is none rose = is
 
-  script_conf_failed : (config : Configured) (o : Outcome) → ScriptGives IsSomeAnd config script (held script) o → All (λ name. Rose (before name) (now name) → ⊥) (files_read (Play conf script) o)
+  script_conf_failed : (system : System) (o : Outcome) → ScriptGives IsSomeAnd system cells script (held script) o → All (λ name. Rose (before name) (now name) → ⊥) (files_read (Play conf script cells) o)
       → Rose (before conf) (now conf) → ⊥
-  script_conf_failed config (OverLimit word) is none rose = none 0 conf (omega arith) rose
-  script_conf_failed config (BadLine n) is none rose = none 0 conf (omega arith) rose
-  script_conf_failed config (Played read lines) is none rose = none 0 conf (omega arith) rose
-  script_conf_failed config Misused is none rose = is
-  script_conf_failed config (Refused l c k) is none rose = is
-  script_conf_failed config Unbuilt is none rose = is
+  script_conf_failed system (OverLimit word) is none rose = none 0 conf (omega arith) rose
+  script_conf_failed system (BadLine n k) is none rose = none 0 conf (omega arith) rose
+  script_conf_failed system (UnbuiltLine n) is none rose = none 0 conf (omega arith) rose
+  script_conf_failed system (Played setup actors phases) is none rose = none 0 conf (omega arith) rose
+  script_conf_failed system Misused is none rose = is
+  script_conf_failed system (Refused l c k) is none rose = is
+  script_conf_failed system Unbuilt is none rose = is
 
-  script_failed : (config : Configured) (o : Outcome) → ScriptGives IsSomeAnd config script (held script) o → All (λ name. Rose (before name) (now name) → ⊥) (files_read (Play conf script) o)
+  script_failed : (system : System) (o : Outcome) → ScriptGives IsSomeAnd system cells script (held script) o → All (λ name. Rose (before name) (now name) → ⊥) (files_read (Play conf script cells) o)
       → Rose (before script) (now script) → ⊥
-  script_failed config (OverLimit word) is none rose = none 1 conf (omega arith) (subst (λ (name : List ℕ). Rose (before name) (now name)) (sym is.0) rose)
-  script_failed config (BadLine n) is none rose = none 1 conf (omega arith) rose
-  script_failed config (Played read lines) is none rose = none 1 conf (omega arith) rose
-  script_failed config Misused is none rose = is
-  script_failed config (Refused l c k) is none rose = is
-  script_failed config Unbuilt is none rose = is
+  script_failed system (OverLimit word) is none rose = none 1 conf (omega arith) (subst (λ (name : List ℕ). Rose (before name) (now name)) (sym is.0) rose)
+  script_failed system (BadLine n k) is none rose = none 1 conf (omega arith) rose
+  script_failed system (UnbuiltLine n) is none rose = none 1 conf (omega arith) rose
+  script_failed system (Played setup actors phases) is none rose = none 1 conf (omega arith) rose
+  script_failed system Misused is none rose = is
+  script_failed system (Refused l c k) is none rose = is
+  script_failed system Unbuilt is none rose = is
 
-  not_in_turn : (o : Outcome) → IsRequired (Some (Play conf script)) held o → All (λ name. Rose (before name) (now name) → ⊥) (files_read (Play conf script) o)
-      → MissesInTurn (Play conf script) held before now → ⊥
+  not_in_turn : (o : Outcome) → IsRequired (Some (Play conf script cells)) held o → All (λ name. Rose (before name) (now name) → ⊥) (files_read (Play conf script cells) o)
+      → MissesInTurn (Play conf script cells) held before now → ⊥
   not_in_turn o (inl is) none (inl rose) = conf_failed o is none rose
   not_in_turn o (inl is) none (inr later) = law.accepted conf (held conf) o is later.0
-  not_in_turn o (inr is) none (inl rose) = script_conf_failed is.0 o is.2 none rose
-  not_in_turn o (inr is) none (inr later) = script_failed is.0 o is.2 none later.1
+  not_in_turn o (inr is) none (inl rose) = script_conf_failed is.0 o is.3 none rose
+  not_in_turn o (inr is) none (inr later) = script_failed is.0 o is.3 none later.1
 
 -- no read failed that decides the outcome
 calm : (law : HasOneOutcome) (command : Option Command) (held : Held) (before now : List ℕ → ℕ) (o : Outcome) → IsRequired command held o → NoneFailed command o before now
     → IsSomeAnd command (λ c. MissesInTurn c held before now) → ⊥
 calm law None held before now o required none missed = missed
-calm law (Some (Play conf script)) held before now o required none missed = not_in_turn law conf script held before now o required none missed
+calm law (Some (Play conf script cells)) held before now o required none missed = not_in_turn law conf script cells held before now o required none missed
 
 -- the answer is the one that is required, or want of memory
-pub exact : (law : HasOneOutcome) (command : Option Command) (held : Held) (before now : List ℕ → ℕ) (old new : ℕ) (P : List ℕ → Type 0) (status : Status) → HasCause (IsPossible command held) status
-    → (status ≡ ReadFault → IsSomeAnd command (λ c. MissesInTurn c held before now)) → (status ≡ WriteFault → Rose old new) → (status ≡ WriteFault → IfReport command held P)
+pub exact : (law : HasOneOutcome) (command : Option Command) (held : Held) (before now : List ℕ → ℕ) (old new : ℕ) (P : List PhaseReport → Type 0) (status : Status) → HasCause (IsPossible command held) status
+    → (status ≡ ReadFault → IsSomeAnd command (λ c. MissesInTurn c held before now)) → (status ≡ WriteFault → Rose old new) → (status ≡ WriteFault → IfBegun command held P)
     → (o : Outcome) → IsRequired command held o → NoneFailed command o before now → SinkTakes o old new → Answers o status ⊎ (status ≡ OutOfMemory)
 exact law command held before now old new P variants.Ok cause read write front o required none takes = let found = cause refl in inl (from_cause law command held o required variants.Ok found.0 found.1 found.2)
 exact law command held before now old new P Usage cause read write front o required none takes = let found = cause refl in inl (from_cause law command held o required Usage found.0 found.1 found.2)
 exact law command held before now old new P (ConfigRefused l c k) cause read write front o required none takes =
     let found = cause refl in inl (from_cause law command held o required (ConfigRefused l c k) found.0 found.1 found.2)
+exact law command held before now old new P (ScriptRefused line kind) cause read write front o required none takes =
+    let found = cause refl in inl (from_cause law command held o required (ScriptRefused line kind) found.0 found.1 found.2)
 exact law command held before now old new P (TooLong word) cause read write front o required none takes =
     let found = cause refl in inl (from_cause law command held o required (TooLong word) found.0 found.1 found.2)
 exact law command held before now old new P (NotBuilt file line) cause read write front o required none takes =
@@ -81,3 +90,22 @@ exact law command held before now old new P (NotBuilt file line) cause read writ
 exact law command held before now old new P ReadFault cause read write front o required none takes = absurd (calm law command held before now o required none (read refl))
 exact law command held before now old new P WriteFault cause read write front o required none takes = absurd (written law command held o required P old new (front refl) takes (write refl))
 exact law command held before now old new P OutOfMemory cause read write front o required none takes = inr refl
+
+-- ---- where nothing fails
+
+-- a counter that counts nothing hasn't risen
+pub none_rose : Rose 0 0 → ⊥
+none_rose rose = omega (arith, rose)
+
+pub sink_takes : (o : Outcome) (before now : ℕ) → (Rose before now → ⊥) → SinkTakes o before now
+sink_takes Misused before now none = tt
+sink_takes (OverLimit word) before now none = tt
+sink_takes (Refused l c k) before now none = tt
+sink_takes Unbuilt before now none = tt
+sink_takes (BadLine n k) before now none = tt
+sink_takes (UnbuiltLine n) before now none = tt
+sink_takes (Played setup actors phases) before now none = none
+
+pub none_failed : (command : Option Command) (o : Outcome) (before now : List ℕ → ℕ) → ((name : List ℕ) → Rose (before name) (now name) → ⊥) → NoneFailed command o before now
+none_failed None o before now none = tt
+none_failed (Some c) o before now none = λ i d within. none (slice_index_or (files_read c o) i d)

@@ -1,39 +1,82 @@
 -- What the script comes to, over a configuration that is accepted.
-use Rattle.std.proofs.Common.{◌≡◌, ℕ, ◌+◌, ◌-◌, ◌^◌, ◌≤◌, List, Option, Some, None, refl, arith, inl, inr}
-use Rattle.std.specs.Prelude.{◌⊎◌, Bool, min, Result, Ok, Err, IfOk, IfErr, IfSome, IsErrAnd, IsTrue}
+use Rattle.std.proofs.Common.{◌≡◌, ℕ, ◌+◌, ◌-◌, ◌^◌, ◌≤◌, List, ◌++◌, Option, Some, None, refl, sym, ◌∙◌, subst, arith, inl, inr}
+use Rattle.std.specs.Prelude.{◌⊎◌, Bool, min, Result, Ok, Err, IfErr, IfSome, IsErrAnd, IsTrue}
+use Rattle.core_setup.specs.Setup.{Setup}
 use Rattle.outside_io.specs.Faults.{NoneFell, Rose}
-use Rattle.script_lang.specs.declared.script.Line.{Line}
-use Rattle.session.specs.Configured.{Configured}
-use Rattle.birdcore_top.specs.Answer.{AnswersConf, FindsLackedBy, IsMissed, MissesInTurn, Stops}
+use Rattle.report.specs.declared.phase.PhaseReport.{PhaseReport}
+use Rattle.script_lines.specs.declared.script.Line.{Line}
+use Rattle.sys_build.specs.Setups.{IsPlayable}
+use Rattle.system.specs.System.{System}
+use Rattle.birdcore_top.specs.Answer.{FindsLackedBy, HasCause, IsEnd, IsMissed, MissesInTurn, Stops}
 use Rattle.birdcore_top.specs.Command.{Command, Play}
-use Rattle.birdcore_top.specs.Outcome.{Configures, Held, IfReport, IsAccepted, IsPossible, IsReport, Played, ScriptGives}
+use Rattle.birdcore_top.specs.Outcome.{Configures, Held, Misused, Outcome, IsAccepted, IsPossible, Played, ScriptGives}
+use Rattle.birdcore_top.specs.Written.{HasBegun, IfBegun}
 use Rattle.birdcore_top.specs.declared.status.Status.{Status}
+use Rattle.birdcore_top.specs.declared.status.Status.TheVariants.{Usage, ConfigRefused, ScriptRefused, NotBuilt, ReadFault, WriteFault, OutOfMemory, TooLong}
+use Rattle.birdcore_top.specs.declared.status.Status.TheVariants as variants
 
-accepted_of : (file : Option (List ℕ)) (config : Configured) → IfSome file (Configures config) → IfSome file IsAccepted
-accepted_of None config is = tt
-accepted_of (Some text) config is = (config, is)
+-- the status that an error is made of
+pub err_is : {T : Type 0} (result : Result T Status) (made status : Status) → IsErrAnd result (λ e. e ≡ made) → result ≡ Err status → made ≡ status
+err_is (Ok x) made status is same = absurd is
+err_is (Err e) made status is same = sym is ∙ cc
 
-rose_since : (before between now : ℕ) → before ≤ between → Rose between now → Rose before now
+-- an error that is made of a status that stops
+pub stops_as : {T : Type 0} (possible : Outcome → Type 0) (result : Result T Status) (made : Status) → IsErrAnd result (λ e. e ≡ made) → Stops possible made → IfErr result (Stops possible)
+stops_as possible (Ok x) made is stops = tt
+stops_as possible (Err e) made is stops = subst (λ (s : Status). Stops possible s) (sym is) stops
+
+accepted_of : (file : Option (List ℕ)) (system : System) → IfSome file (Configures system) → IfSome file IsAccepted
+accepted_of None system is = tt
+accepted_of (Some text) system is = (system, is)
+
+pub rose_since : (before between now : ℕ) → before ≤ between → Rose between now → Rose before now
 rose_since before between now later rose = grind (arith, later, rose)
 
-module _ (conf script : List ℕ) (held : Held) (config : Configured) (accepted : IfSome (held conf) (Configures config)) where
-  pub reported : {T : Type 0} (bytes : T → List ℕ) (result : Result T Status)
-      → IfOk result (λ text. (lines : List Line) × ScriptGives IfSome config script (held script) (Played config lines) × IsReport config lines (bytes text))
-      → IfOk result (λ text. IfReport (Some (Play conf script)) held (λ known. bytes text ≡ known))
-  reported bytes (Ok text) is = record { config = config; lines = is.0; text = bytes text; played = inr (config, accepted, is.1); report = is.2; said = refl }
-  reported bytes (Err status) is = tt
+module _ (conf script : List ℕ) (cells : ℕ) (held : Held) (system : System) (playable : IsPlayable system) (accepted : IfSome (held conf) (Configures system)) where
+  pub over : (o : Outcome) → ScriptGives IfSome system cells script (held script) o → IsPossible (Some (Play conf script cells)) held o
+  over o is = inr (system, playable, accepted, is)
 
-  pub stopped : {T : Type 0} (result : Result T Status) → IfErr result (Stops (ScriptGives IfSome config script (held script))) → IfErr result (Stops (IsPossible (Some (Play conf script)) held))
-  stopped (Ok text) is = tt
-  stopped (Err status) is = record { silent = is.silent; cause = λ answer. let found = is.cause answer in (found.0, inr (config, accepted, found.1), found.2) }
+  -- the script is refused, or isn't built
+  pub script_stopped : (status : Status) → Stops (λ o. (n : ℕ) → ScriptGives IfSome system n script (held script) o) status → Stops (IsPossible (Some (Play conf script cells)) held) status
+  script_stopped status is = record { early = is.early; cause = λ answer. let found = is.cause answer in (found.0, inr (system, playable, accepted, found.1 cells), found.2) }
 
-  pub in_turn : (before between now : List ℕ → ℕ) → NoneFell before between → Rose (between script) (now script) → MissesInTurn (Play conf script) held before now
-  in_turn before between now none_fell rose = inr (accepted_of (held conf) config accepted, rose_since (before script) (between script) (now script) (none_fell script) rose)
+  pub in_turn : (before between now : List ℕ → ℕ) → NoneFell before between → Rose (between script) (now script) → MissesInTurn (Play conf script cells) held before now
+  in_turn before between now none_fell rose = inr (accepted_of (held conf) system accepted, rose_since (before script) (between script) (now script) (none_fell script) rose)
 
-missed_or : {T : Type 0} (conf script : List ℕ) (held : Held) (result : Result T Status) → IsErrAnd result IsMissed → IsErrAnd result (λ status. IsMissed status ⊎ AnswersConf (Play conf script) held status)
-missed_or conf script held (Ok text) is = absurd is
-missed_or conf script held (Err status) is = inl is
+-- words that are no command
+pub misused : (command : Option Command) (held : Held) → command ≡ None → IsPossible command held Misused
+misused None held is = refl
+misused (Some c) held is = absurd (cc)
 
-pub lacked : {T : Type 0} (conf script : List ℕ) (held : Held) (lacks : List ℕ → Bool) (result : Result T Status) → (IsTrue (lacks conf) → ⊥) → (IsTrue (lacks script) → IsErrAnd result IsMissed)
-    → FindsLackedBy (Some (Play conf script)) lacks held result
-lacked conf script held lacks result conf_lacked script_lacked = (λ lacks_it. absurd (conf_lacked lacks_it), λ lacks_it. missed_or conf script held result (script_lacked lacks_it))
+-- where the script isn't held
+pub lacked_script : {T : Type 0} (conf script : List ℕ) (cells : ℕ) (held : Held) (lacks : List ℕ → Bool) (result : Result T Status) (made : Status) → IsErrAnd result (λ e. e ≡ made)
+    → (IsTrue (lacks conf) → ⊥) → (IsTrue (lacks script) → IsMissed made) → FindsLackedBy (Play conf script cells) lacks held result
+lacked_script conf script cells held lacks (Ok x) made is held_conf missed = absurd is
+lacked_script conf script cells held lacks (Err e) made is held_conf missed = (λ lacks_it. absurd (held_conf lacks_it), λ lacks_it. inl (subst (λ (s : Status). IsMissed s) (sym is) (missed lacks_it)))
+
+-- what is begun of a play that may be due
+pub begun_of : (command : Option Command) (held : Held) (setup : Setup) (actors : List (List ℕ)) (phases : List (List Line)) (P : List PhaseReport → Type 0)
+    → IsPossible command held (Played setup actors phases) → HasBegun setup actors phases P → IfBegun command held P
+begun_of command held setup actors phases P possible is = record {
+  setup = setup;
+  actors = actors;
+  first = is.first;
+  more = is.more;
+  reports = is.reports;
+  possible = subst (λ (l : List (List Line)). IsPossible command held (Played setup actors l)) is.whole possible;
+  played = is.played;
+  said = is.said;
+}
+
+-- a play that came to its end answers the outcome
+pub end_has_cause : (command : Option Command) (held : Held) (setup : Setup) (actors : List (List ℕ)) (phases : List (List Line)) → IsPossible command held (Played setup actors phases)
+    → (status : Status) → IsEnd status → HasCause (IsPossible command held) status
+end_has_cause command held setup actors phases possible variants.Ok is = λ answer. (Played setup actors phases, possible, tt)
+end_has_cause command held setup actors phases possible WriteFault is = λ answer. absurd (cc)
+end_has_cause command held setup actors phases possible OutOfMemory is = λ answer. absurd (cc)
+end_has_cause command held setup actors phases possible ReadFault is = absurd is
+end_has_cause command held setup actors phases possible Usage is = absurd is
+end_has_cause command held setup actors phases possible (ConfigRefused line column kind) is = absurd is
+end_has_cause command held setup actors phases possible (ScriptRefused line kind) is = absurd is
+end_has_cause command held setup actors phases possible (TooLong word) is = absurd is
+end_has_cause command held setup actors phases possible (NotBuilt file line) is = absurd is

@@ -1,32 +1,60 @@
 -- What a file that was read whole tells of the outcome.
-use Rattle.std.proofs.Common.{◌≡◌, ℕ, ◌≤◌, List, length, Option, Some, None, refl, sym, subst}
+use Rattle.std.proofs.Common.{◌≡◌, ℕ, ◌≤◌, true, List, length, Option, Some, None, refl, sym, subst}
 use Rattle.std.specs.Prelude.{IfSome}
 use Rattle.conf_tree.specs.declared.kind.ConfKind.{ConfKind}
-use Rattle.outside_io.specs.Whole.{limit, IsWhole}
-use Rattle.script_lang.specs.Script.{IsScript, IsBadLine}
-use Rattle.session.specs.Configured.{Configured}
-use Rattle.session.specs.declared.read.SessionFault.{SessionFault}
-use Rattle.session.specs.declared.read.SessionFault.TheVariants as faults
-use Rattle.session.specs.Built.{IsConfig, IsSessionFault}
-use Rattle.birdcore_top.specs.Outcome.{Refused, Unbuilt, BadLine, Within, ConfGives, ScriptGives}
+use Rattle.outside_io.specs.Whole.{limit, IsLong, IsWhole}
+use Rattle.script_lines.specs.Script as script
+use Rattle.script_lines.specs.Script.{Tells}
+use Rattle.script_lines.specs.declared.faults.ScriptKind.{ScriptKind}
+use Rattle.sys_build.specs.Names.{named_of}
+use Rattle.sys_build.specs.Setups.{has_pipe}
+use Rattle.system.specs.System.{System}
+use Rattle.system.specs.Texts.{IsFault, IsSystem}
+use Rattle.system.specs.declared.read.SystemFault.{SystemFault}
+use Rattle.system.specs.declared.read.SystemFault.TheVariants as faults
+use Rattle.birdcore_top.specs.Outcome.{Outcome, OverLimit, Refused, Unbuilt, BadLine, UnbuiltLine, Within, ConfGives, ScriptGives}
 use Rattle.birdcore_top.specs.Answer.{status_of, Stops}
-use Rattle.birdcore_top.specs.declared.status.Status.TheVariants.{NotBuilt}
+use Rattle.birdcore_top.specs.declared.status.Status.{Status}
+use Rattle.birdcore_top.specs.declared.status.Status.TheVariants.{NotBuilt, ScriptRefused}
 
 -- what holds of the bytes that were read holds of the file, where it is told
 pub judged : (held : Option (List ℕ)) (bytes : List ℕ) (P : List ℕ → Type 0) → IsWhole held bytes → P bytes → IfSome held (Within P)
 judged None bytes P whole is = tt
 judged (Some file) bytes P whole is = (subst (λ (b : List ℕ). length b ≤ limit) (sym whole.told) whole.within, subst P (sym whole.told) is)
 
--- a configuration that gives nothing that is built
-pub conf_stops : (name : List ℕ) (held : Option (List ℕ)) (bytes : List ℕ) (fault : SessionFault) → IsWhole held bytes → IsSessionFault bytes fault → Stops (ConfGives IfSome name held) (status_of fault)
+-- a configuration that is refused
+pub conf_stops : (name : List ℕ) (held : Option (List ℕ)) (bytes : List ℕ) (fault : SystemFault) → IsWhole held bytes → IsFault bytes fault → Stops (ConfGives IfSome name held) (status_of fault)
 conf_stops name held bytes (faults.Refused line column kind) whole is = record {
-  silent = refl;
+  early = refl;
   cause = λ answer. (Refused line column kind, judged held bytes _ whole is, (refl, refl, refl));
 }
-conf_stops name held bytes faults.NotBuilt whole is = record { silent = refl; cause = λ answer. (Unbuilt, judged held bytes _ whole is, (refl, refl)) }
-conf_stops name held bytes faults.Memory whole is = record { silent = refl; cause = λ answer. cc }
+conf_stops name held bytes faults.Memory whole is = record { early = refl; cause = λ answer. cc }
 
--- a script with a line that isn't of the form
-pub script_stops : (config : Configured) (name : List ℕ) (held : Option (List ℕ)) (bytes : List ℕ) (line : ℕ) → IsWhole held bytes → IsBadLine config.name bytes line
-    → Stops (ScriptGives IfSome config name held) (NotBuilt 2 line)
-script_stops config name held bytes line whole is = record { silent = refl; cause = λ answer. (BadLine line, judged held bytes _ whole is, (refl, refl)) }
+-- a configuration that has a pipe
+pub pipe_stops : (name : List ℕ) (held : Option (List ℕ)) (bytes : List ℕ) (system : System) → IsWhole held bytes → IsSystem bytes system → has_pipe system.protocols ≡ true
+    → Stops (ConfGives IfSome name held) (NotBuilt 1 0)
+pipe_stops name held bytes system whole is pipe = record { early = refl; cause = λ answer. (Unbuilt, judged held bytes _ whole (system, is, pipe), (refl, refl)) }
+
+module _ (system : System) (name : List ℕ) (held : Option (List ℕ)) where
+  -- a script that is over the limit
+  pub long_stops : (status : Status) → Stops (λ o. (o ≡ OverLimit name) × IfSome held IsLong) status → Stops (λ o. (cells : ℕ) → ScriptGives IfSome system cells name held o) status
+  long_stops status is = record {
+    early = is.early;
+    cause = λ answer.
+        let found = is.cause answer in (
+          found.0,
+          λ cells. subst (λ (o : Outcome). ScriptGives IfSome system cells name held o) (sym found.1.0) (refl, found.1.1),
+          found.2,
+        );
+  }
+
+  module _ (bytes : List ℕ) (whole : IsWhole held bytes) where
+    -- a line of the script is refused
+    pub line_stops : (line : ℕ) (kind : ScriptKind) → script.Answers (named_of system) bytes (script.Refused line kind)
+        → Stops (λ o. (cells : ℕ) → ScriptGives IfSome system cells name held o) (ScriptRefused line kind)
+    line_stops line kind is = record { early = refl; cause = λ answer. (BadLine line kind, λ cells. judged held bytes _ whole is, (refl, refl)) }
+
+    -- a line of the script isn't built
+    pub unbuilt_stops : (line : ℕ) → script.Answers (named_of system) bytes (script.NotBuilt line)
+        → Stops (λ o. (cells : ℕ) → ScriptGives IfSome system cells name held o) (NotBuilt 2 line)
+    unbuilt_stops line is = record { early = refl; cause = λ answer. (UnbuiltLine line, λ cells. judged held bytes _ whole is, (refl, refl)) }

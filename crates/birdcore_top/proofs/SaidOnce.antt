@@ -1,6 +1,7 @@
 -- A text says one configuration at most.
 use Rattle.std.proofs.Common.{◌≡◌, ◌∙◌, sym, ap, subst, ℕ, List, Option, Some, None, inl, inr}
 use Rattle.std.specs.Prelude.{◌⊎◌}
+use Rattle.std.proofs.lemmas.Bool.{true≢false}
 use Rattle.grammar.specs.Grammar.{Tree}
 use Rattle.conf_tree.specs.Position.{IsPlace}
 use Rattle.conf_tree.specs.Read.{IsConfigText, IsRefusedText}
@@ -9,22 +10,10 @@ use Rattle.conf_tree.specs.declared.kind.ConfKind.{ConfKind}
 use Rattle.conf_tree.specs.declared.tree.Statement.{Statement}
 use Rattle.conf_ast.specs.Configurations.{Declaration, configuration_of}
 use Rattle.conf_rules.specs.declared.refusal.Refusal.{Refusal}
-use Rattle.script_lang.specs.Script.{IsScript, IsBadLine}
-use Rattle.script_lang.specs.declared.script.Line.{Line}
-use Rattle.session.specs.Built.{IsAcceptedText, IsConfig, IsNotBuilt, IsRefusedAt, IsRefusedWhenChecked, configured_in, refused_in}
-use Rattle.session.specs.Configured.{Configured}
-
--- What a text says: of configurations one is built of it, or none, or it is refused, at one place for one reason;
--- of scripts it is one, or has a first bad line.
-pub record SaysOnce : Type 0 where
-  pub configurations_agree : (text : List ℕ) (a b : Configured) → IsConfig text a → IsConfig text b → a ≡ b
-  pub built_or_not : (text : List ℕ) (config : Configured) → IsConfig text config → IsNotBuilt text → ⊥
-  pub built_or_refused : (text : List ℕ) (config : Configured) (line column : ℕ) (kind : ConfKind) → IsConfig text config → IsRefusedAt text line column kind → ⊥
-  pub not_built_or_refused : (text : List ℕ) (line column : ℕ) (kind : ConfKind) → IsNotBuilt text → IsRefusedAt text line column kind → ⊥
-  pub refusals_agree : (text : List ℕ) (l m c d : ℕ) (k j : ConfKind) → IsRefusedAt text l c k → IsRefusedAt text m d j → (l ≡ m) × (c ≡ d) × (k ≡ j)
-  pub scripts_agree : (name text : List ℕ) (a b : List Line) → IsScript name text a → IsScript name text b → a ≡ b
-  pub bad_lines_agree : (name text : List ℕ) (m n : ℕ) → IsBadLine name text m → IsBadLine name text n → m ≡ n
-  pub script_or_bad : (name text : List ℕ) (lines : List Line) (n : ℕ) → IsScript name text lines → IsBadLine name text n → ⊥
+use Rattle.sys_build.specs.Setups.{has_pipe}
+use Rattle.system.specs.System.{System, system_in}
+use Rattle.system.specs.Texts.{IsAcceptedText, IsRefusedAt, IsRefusedWhenChecked, IsSystem, refused_in}
+use Rattle.birdcore_top.specs.Outcome.{IsBuilt, IsNotBuilt}
 
 some_is : {A : Type 0} (a b : A) → Some a ≡ Some b → a ≡ b
 some_is a b same = cc
@@ -37,11 +26,15 @@ module _ (syntax_once : (text : List ℕ) (c d : List Statement) → IsConfigTex
   accepted_once : (text : List ℕ) (c d : List Declaration) → IsAcceptedText text c → IsAcceptedText text d → c ≡ d
   accepted_once text c d one two = sym one.are ∙ syntax_once text one.statements two.statements one.tree two.tree ∙ two.are
 
-  pub configurations_agree : (text : List ℕ) (a b : Configured) → IsConfig text a → IsConfig text b → a ≡ b
-  configurations_agree text a b one two = some_is a b (sym one.2 ∙ ap (configured_in text) (accepted_once text one.0 two.0 one.1 two.1) ∙ two.2)
+  systems_agree : (text : List ℕ) (a b : System) → IsSystem text a → IsSystem text b → a ≡ b
+  systems_agree text a b one two = one.2 ∙ ap (system_in text) (accepted_once text one.0 two.0 one.1 two.1) ∙ sym two.2
 
-  pub built_or_not : (text : List ℕ) (config : Configured) → IsConfig text config → IsNotBuilt text → ⊥
-  built_or_not text config is none = some_or_none config (sym is.2 ∙ ap (configured_in text) (accepted_once text is.0 none.0 is.1 none.1) ∙ none.2)
+  pub configurations_agree : (text : List ℕ) (a b : System) → IsBuilt text a → IsBuilt text b → a ≡ b
+  configurations_agree text a b one two = systems_agree text a b one.0 two.0
+
+  pub built_or_not : (text : List ℕ) (system : System) → IsBuilt text system → IsNotBuilt text → ⊥
+  built_or_not text system is none =
+      true≢false (sym none.2 ∙ ap (λ (s : System). has_pipe s.protocols) (sym (systems_agree text system none.0 is.0 none.1)) ∙ is.1)
 
   checked_or_accepted : (text : List ℕ) (ds : List Declaration) (at : ℕ) (kind : ConfKind) → IsAcceptedText text ds → IsRefusedWhenChecked text at kind → ⊥
   checked_or_accepted text ds at kind is refused =
@@ -62,11 +55,11 @@ module _ (syntax_once : (text : List ℕ) (c d : List Statement) → IsConfigTex
       | inr checked ↦ checked_or_accepted text ds refused.0 kind is checked
     ]
 
-    pub built_or_refused : (text : List ℕ) (config : Configured) (line column : ℕ) (kind : ConfKind) → IsConfig text config → IsRefusedAt text line column kind → ⊥
-    built_or_refused text config line column kind is refused = accepted_or_refused text is.0 line column kind is.1 refused
+    pub built_or_refused : (text : List ℕ) (system : System) (line column : ℕ) (kind : ConfKind) → IsBuilt text system → IsRefusedAt text line column kind → ⊥
+    built_or_refused text system line column kind is refused = accepted_or_refused text is.0.0 line column kind is.0.1 refused
 
     pub not_built_or_refused : (text : List ℕ) (line column : ℕ) (kind : ConfKind) → IsNotBuilt text → IsRefusedAt text line column kind → ⊥
-    not_built_or_refused text line column kind none refused = accepted_or_refused text none.0 line column kind none.1 refused
+    not_built_or_refused text line column kind none refused = accepted_or_refused text none.1.0 line column kind none.1.1 refused
 
     module _ (refusal_once : (text : List ℕ) (at b : ℕ) (kind other : ConfKind) → IsRefusedText text at kind → IsRefusedText text b other → (at ≡ b) × (kind ≡ other))
         (place_once : (text : List ℕ) (at l m c d : ℕ) → IsPlace text at l c → IsPlace text at m d → (l ≡ m) × (c ≡ d)) where

@@ -1,6 +1,7 @@
 -- Each text within the limit says something.
 use Rattle.std.proofs.Common.{◌≡◌, ◌≤◌, ◌<◌, ◌^◌, ap, refl, sym, subst, ℕ, List, length, Option, Some, None, arith, inl, inr}
 use Rattle.std.specs.Prelude.{◌⊎◌}
+use Rattle.std.proofs.lemmas.Bool.{cases_Bool}
 use Rattle.conf_lex.specs.Lex.{Lexes}
 use Rattle.conf_lex.specs.declared.token.Token.{Token}
 use Rattle.conf_lex.specs.declared.word.Word.{Word}
@@ -16,22 +17,25 @@ use Rattle.conf_tree.specs.declared.tree.Statement.{Statement}
 use Rattle.conf_ast.specs.Configurations.{Declaration, configuration_of}
 use Rattle.conf_rules.specs.declared.refusal.Refusal.{Refusal}
 use Rattle.outside_io.specs.Whole.{limit}
-use Rattle.session.specs.Built.{IsAcceptedText, configured_in, refused_in}
-use Rattle.session.specs.Configured.{Configured}
+use Rattle.sys_build.specs.Setups.{has_pipe}
+use Rattle.system.specs.System.{System, system_in}
+use Rattle.system.specs.Texts.{IsAcceptedText, refused_in}
 use Rattle.birdcore_top.specs.Outcome.{SaysSomething}
 
 -- ---- what is accepted
 
-of_accepted : (text : List ℕ) (ds : List Declaration) → IsAcceptedText text ds → (found : Option Configured) → configured_in text ds ≡ found → SaysSomething text
-of_accepted text ds is (Some config) found = inl (config, (ds, is, found))
-of_accepted text ds is None found = inr (inl (ds, is, found))
+of_accepted : (text : List ℕ) (ds : List Declaration) → IsAcceptedText text ds → SaysSomething text
+of_accepted text ds is = elim (cases_Bool (has_pipe (system_in text ds).protocols)) [
+  | inl pipe ↦ inr (inl (system_in text ds, (ds, is, refl), pipe))
+  | inr none ↦ inl (system_in text ds, ((ds, is, refl), none))
+]
 
 -- ---- texts
 
 module _ (each_place : (text : List ℕ) (at : ℕ) → (line : ℕ) × (column : ℕ) × IsPlace text at line column) where
   of_statements : (text : List ℕ) (all : List Statement) → IsConfigText text (statements_tree all) → (found : Option Refusal) → refused_in text (configuration_of all) ≡ found → SaysSomething text
   of_statements text all is None found =
-      of_accepted text (configuration_of all) (record { statements = all; tree = is; are = refl; accepted = found }) (configured_in text (configuration_of all)) refl
+      of_accepted text (configuration_of all) (record { statements = all; tree = is; are = refl; accepted = found })
   of_statements text all is (Some r) found =
       let place = each_place text r.at in inr (inr (place.0, place.1, r.kind, (r.at, inr (record { statements = all; tree = is; refused = found }), place.2)))
 

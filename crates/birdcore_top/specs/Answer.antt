@@ -11,7 +11,7 @@ use Rattle.system.specs.declared.read.SystemFault.TheVariants as faults
 use Rattle.birdcore_top.specs.declared.status.Status.{Status}
 use Rattle.birdcore_top.specs.declared.status.Status.TheVariants.{Ok, Usage, ConfigRefused, ScriptRefused, NotBuilt, ReadFault, WriteFault, OutOfMemory, TooLong}
 use Rattle.birdcore_top.specs.Command.{Command, Play}
-use Rattle.birdcore_top.specs.Outcome.{Held, Outcome, Misused, OverLimit, Refused, Unbuilt, BadLine, UnbuiltLine, Played, ConfGives, IsAccepted, IsPossible, IsRequired, files_read}
+use Rattle.birdcore_top.specs.Outcome.{Held, Outcome, Misused, OverLimit, Refused, Unbuilt, BadLine, UnbuiltLine, Played, ConfGives, IsAccepted, files_read}
 
 -- the answer to an outcome
 abbrev pub Answers : Outcome → Status → Type 0
@@ -78,6 +78,28 @@ FindsLacked None lacks held status = ⊤
 FindsLacked (Some (Play conf script cells)) lacks held status =
     MissesLacked lacks held status conf script cells
 
+-- the exit status of the program
+abbrev pub number_of : Status → ℕ
+number_of Ok = 0
+number_of Usage = 1
+number_of (ConfigRefused line column kind) = 2
+number_of (ScriptRefused line kind) = 3
+number_of ReadFault = 4
+number_of WriteFault = 5
+number_of OutOfMemory = 6
+number_of (TooLong word) = 7
+number_of (NotBuilt file line) = 9
+
+-- ---- for the contracts of private functions
+
+-- the same of a result, in which what was read is no status yet
+abbrev pub FindsLackedBy : {T : Type 0} → Command → (List ℕ → Bool) → Held → Result T Status
+    → Type 0
+FindsLackedBy (Play conf script cells) lacks held result =
+    (IsTrue (lacks conf) → IsErrAnd result IsMissed)
+    × (IsTrue (lacks script) → IsErrAnd result
+    (λ status. IsMissed status ⊎ AnswersConf (Play conf script cells) held status))
+
 -- what is answered where a configuration is refused
 abbrev pub status_of : SystemFault → Status
 status_of (faults.Refused line column kind) = ConfigRefused line column kind
@@ -100,21 +122,13 @@ IsReadStatus name errors.Failed status = status ≡ ReadFault
 IsReadStatus name errors.TooLong status = Answers (OverLimit name) status ⊎ (status ≡ OutOfMemory)
 IsReadStatus name errors.Memory status = status ≡ OutOfMemory
 
--- the exit status of the program
-abbrev pub number_of : Status → ℕ
-number_of Ok = 0
-number_of Usage = 1
-number_of (ConfigRefused line column kind) = 2
-number_of (ScriptRefused line kind) = 3
-number_of ReadFault = 4
-number_of WriteFault = 5
-number_of OutOfMemory = 6
-number_of (TooLong word) = 7
-number_of (NotBuilt file line) = 9
-
 -- how a play ends
 abbrev pub IsEnd : Status → Type 0
 IsEnd Ok = ⊤
 IsEnd WriteFault = ⊤
 IsEnd OutOfMemory = ⊤
 IsEnd _ = ⊥
+
+-- why a play ends before all is written
+abbrev pub CutsOff : Status → Type 0
+CutsOff status = (status ≡ WriteFault) ⊎ (status ≡ OutOfMemory)

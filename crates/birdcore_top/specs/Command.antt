@@ -1,11 +1,10 @@
 -- The words of the command line, as a command.
 use Rattle.std.specs.Prelude.{◌&&◌, ◌==◌, not, nat_le, ℕ, Bool, List, [], ◌∷◌, length, map, String, Option, Some, None, codes, if◌then◌else◌}
-use Rattle.std.specs.Char.{is_ascii_digit}
-use Rattle.std.specs.List.{list_all}
-use Rattle.std.specs.Str.{bytes_eq}
+use Rattle.std.specs.Str.{all_ascii_digits, bytes_eq}
 use Rattle.std.specs.Str.Parse.{digits_value, without_leading_plus}
 use Rattle.std.specs.String.{string_bytes}
 use Rattle.std.specs.declared.alloc.Global.{Global}
+use Rattle.birdcore_top.specs.declared.words.Asked.{Asked}
 
 -- play CONF SCRIPT: the names of the two files, and how many changes the journal of a table holds
 -- for the channels that are still to take them
@@ -23,7 +22,7 @@ most_cells = 4096
 abbrev pub spells_cells : List ℕ → Bool
 spells_cells word =
     let digits = without_leading_plus word in
-    (not (length digits == 0) && list_all is_ascii_digit digits)
+    (not (length digits == 0) && all_ascii_digits digits)
     && (nat_le 1 (digits_value 10 digits) && nat_le (digits_value 10 digits) most_cells)
 
 abbrev pub cells_in : List ℕ → Option ℕ
@@ -46,3 +45,7 @@ command_in words = None
 
 abbrev pub command_of : List (String Global) → Option Command
 command_of words = command_in (map string_bytes words)
+
+-- for the contracts of private functions: the command that is asked for so
+abbrev pub command_asked : Asked → Command
+command_asked asked = Play asked.conf.now asked.script.now asked.cells

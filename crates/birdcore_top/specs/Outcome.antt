@@ -8,7 +8,7 @@ use Rattle.script_lines.specs.declared.script.Line.{Line}
 use Rattle.script_lines.specs.Script as script_answers
 use Rattle.script_lines.specs.Script.{Answers}
 use Rattle.sys_build.specs.Names.{named_of}
-use Rattle.sys_build.specs.Setups.{has_pipe, setup_of}
+use Rattle.sys_build.specs.Setups.{IsPlayable, has_pipe, setup_of}
 use Rattle.system.specs.System.{System}
 use Rattle.system.specs.Texts.{IsRefusedAt, IsSystem}
 use Rattle.birdcore_top.specs.Command.{Command, Play}
@@ -87,7 +87,7 @@ ScriptGives known system cells name script _ = ⊥
 abbrev pub PlayGives : Knowledge → List ℕ → List ℕ → ℕ → Held → Outcome → Type 0
 PlayGives known conf script cells held o =
     ConfGives known conf (held conf) o
-    ⊎ ((system : System) × known (held conf) (Configures system)
+    ⊎ ((system : System) × IsPlayable system × known (held conf) (Configures system)
     × ScriptGives known system cells script (held script) o)
 
 -- what a command gives over files, and words that are none

@@ -1,10 +1,18 @@
 -- What is written: the report of a play, or of its first phases.
 use Rattle.std.specs.Prelude.{◌≡◌, ℕ, List, ◌++◌, map, Option}
+use Rattle.std.specs.Io.KnownBytes.{Appends}
+use Rattle.std.specs.List.{flat_map}
+use Rattle.attrs.specs.declared.judge.Verdict.{Verdict}
+use Rattle.attrs.specs.declared.route.Route.{Route}
+use Rattle.bits_ip.specs.Prefix.{Net}
 use Rattle.core_setup.specs.Plays.{IsPlay}
 use Rattle.core_setup.specs.Setup.{Setup}
+use Rattle.report.specs.Report.{phase_text}
 use Rattle.report.specs.declared.phase.PhaseReport.{PhaseReport}
 use Rattle.script_lines.specs.declared.script.Line.{Line}
+use Rattle.sys_run.specs.Playing as core
 use Rattle.sys_run.specs.Scripts.{phase_of}
+use Rattle.sys_run.specs.declared.player.Core.{Core}
 use Rattle.birdcore_top.specs.Command.{Command}
 use Rattle.birdcore_top.specs.Outcome.{Held, IsPossible, Played}
 
@@ -53,3 +61,11 @@ pub record HasBegun
   pub whole : phases ≡ first ++ more
   pub played : ArePlayed setup actors first reports
   pub said : P reports
+
+-- The core has played these phases, and the texts of their reports are written.
+pub record HasWritten
+    {J : Type 0} (verdict : J → Net → Route → Verdict) (setup : Setup) (actors : List (List ℕ))
+    (phases : List (List Line)) (now : Core J) (before after : Option (List ℕ)) : Type 0 where
+  pub reports : List PhaseReport
+  pub played : core.HasPlayed verdict setup actors (map (phase_of setup) phases) reports now
+  pub written : Appends before after (flat_map phase_text reports)

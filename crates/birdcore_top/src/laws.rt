@@ -5,10 +5,12 @@ ghost use Rattle.conf_tree.specs.declared.kind.ConfKind.{ConfKind};
 ghost use Rattle.core_setup.specs.Plays.{IsLegalPlay};
 ghost use Rattle.core_setup.specs.Setup.{Setup};
 ghost use Rattle.report.specs.declared.phase.PhaseReport.{PhaseReport};
+ghost use Rattle.script_lines.specs.Kinds.{AreFew};
 ghost use Rattle.script_lines.specs.declared.script.Line.{Line};
+ghost use Rattle.sys_build.specs.Names.{named_of};
 ghost use Rattle.sys_run.specs.Scripts.{phase_of};
 ghost use Rattle.system.specs.System.{System};
-ghost use Rattle.system.specs.Texts.{IsRefusedAt};
+ghost use Rattle.system.specs.Texts.{IsRefusedAt, IsSystem};
 ghost use Rattle.birdcore_top.specs.Command.{Command, Play, command_of};
 ghost use Rattle.birdcore_top.specs.Outcome.{Held, Outcome, Played, SaysSomething, ConfGives, IsAccepted, IsBuilt, IsNotBuilt, IsPossible, IsRequired};
 ghost use Rattle.birdcore_top.specs.Answer.{Answers};
@@ -23,9 +25,11 @@ use conf_tree::laws::{
     each_text_is_a_configuration_or_is_refused, each_tree_is_of_a_configuration,
     places_have_one_line_and_column,
 };
+use core_setup::laws::{plays_are_legal, reports_are_determined};
 use outside_io::{OpenGate, Shelf, SureShelf, SureSink};
 use script_lines::laws::{a_text_has_one_answer, each_text_has_an_answer};
 use std::alloc::Global;
+use sys_build::laws::accepted_configurations_are_setups;
 
 /// A text says one thing of configurations at most: it is built, or it isn't, or it is refused, in
 /// one line and column for one reason.
@@ -46,6 +50,13 @@ pub fn texts_say_one_thing()
     configurations_are_not_refused();
     places_have_one_line_and_column();
 }
+
+/// What an accepted configuration names is little enough for numbers of 32 bits: it has at most 256
+/// protocols.
+pub fn accepted_configurations_are_few()
+    ensures { (text : List ℕ) (system : System) → IsSystem text system
+        → AreFew (named_of system) }
+{}
 
 /// Files that are told come to one outcome at most: what may be due is what is required. Where the
 /// configuration decides it alone, the configuration isn't accepted.
@@ -88,7 +99,10 @@ pub fn phases_come_to_one_report()
         → IsPossible command held (Played setup actors phases)
         → ArePlayed setup actors phases reports → ArePlayed setup actors phases others
         → reports ≡ others }
-{}
+{
+    accepted_configurations_are_setups();
+    reports_are_determined();
+}
 
 /// The reports of a play are legal: operations are merges of the actors' lines, each table's journal
 /// has every protocol's imports once, in order, each channel's log follows its table's history,
@@ -99,7 +113,10 @@ pub fn reports_are_legal()
         → IsPossible command held (Played setup actors phases)
         → ArePlayed setup actors phases reports
         → IsLegalPlay setup actors (map (phase_of setup) phases) reports }
-{}
+{
+    accepted_configurations_are_setups();
+    plays_are_legal();
+}
 
 /// Plays the files of a shelf that never fails, and lets the report go to a sink that takes all.
 ///

@@ -1,20 +1,22 @@
 //! The one call that does all that the program does.
-ghost use Rattle.std.specs.Prelude.{◌≡◌, ◌≢◌, ◌≤◌, ◌⊎◌, ℕ, List, Err, Some, None, false, map, IsTrue, IfOk, IfErr, IfSome, IsSomeAnd, IsErrAnd, ◌↔◌};
+ghost use Rattle.std.specs.Prelude.{◌≡◌, ◌≢◌, ◌≤◌, ◌⊎◌, ℕ, Err, Some, None, false, map, IsTrue, IfOk, IfErr, IfSome, IsSomeAnd, IsErrAnd, ◌↔◌};
 ghost use Rattle.std.specs.Io.KnownBytes.{Appends, Keeps};
 ghost use Rattle.std.specs.List.{flat_map};
 ghost use Rattle.outside_io.specs.Faults.{Rose, NoneFell};
 ghost use Rattle.outside_io.specs.Whole.{IsLong, IsWhole, WritesFront};
 ghost use Rattle.report.specs.Report.{phase_text, report_text};
-ghost use Rattle.sys_build.specs.Setups.{setup_of};
+ghost use Rattle.script_lines.specs.Kinds.{AreFew};
+ghost use Rattle.sys_build.specs.Names.{named_of};
+ghost use Rattle.sys_build.specs.Setups.{IsPlayable, setup_of};
 ghost use Rattle.system.specs.Seen.{system_of};
-ghost use Rattle.birdcore_top.specs.Command.{Command, Play, command_of};
-ghost use Rattle.birdcore_top.specs.Outcome.{Outcome, OverLimit, Played, Configures, IsAccepted, ConfGives, ScriptGives, IsPossible, IsRequired};
-ghost use Rattle.birdcore_top.specs.Answer.{Answers, HasCause, MissesInTurn, NoneFailed, SinkTakes, IsMissed, FindsLacked, IsReadStatus, Stops, writes};
+ghost use Rattle.birdcore_top.specs.Command.{command_asked, command_of};
+ghost use Rattle.birdcore_top.specs.Outcome.{Outcome, OverLimit, Played, Configures, ConfGives, ScriptGives, IsPossible, IsRequired};
+ghost use Rattle.birdcore_top.specs.Answer.{Answers, HasCause, MissesInTurn, NoneFailed, SinkTakes, IsMissed, FindsLacked, FindsLackedBy, IsReadStatus, Stops, writes};
 ghost use Rattle.birdcore_top.specs.Written.{IfBegun, IfPlayed};
 
-use crate::laws::files_have_one_outcome;
+use crate::laws::{accepted_configurations_are_few, files_have_one_outcome};
 use crate::status::Status;
-use crate::words::{Named, named};
+use crate::words::{Asked, asked_by};
 use crate::write::write_play;
 use outside_io::{Gate, ReadError, Shelf, Sink, read_whole};
 use script_lines::{Script, ScriptFault, read_script};
@@ -102,8 +104,8 @@ fn run<F: Shelf, K: Sink>(alloc: Global, words: &[String], shelf: &mut F, out: &
         (F.lacks shelf.old) (F.held shelf.old)
         result }
 {
-    match named(words) {
-        Some(named) => play_files(alloc, &named, shelf, out),
+    match asked_by(words) {
+        Some(asked) => play_files(alloc, &asked, shelf, out),
         None => Status::Usage,
     }
 }
@@ -111,32 +113,74 @@ fn run<F: Shelf, K: Sink>(alloc: Global, words: &[String], shelf: &mut F, out: &
 /// Reads the two files, plays them, and writes the report.
 fn play_files<F: Shelf, K: Sink>(
     alloc: Global,
-    named: &Named<'_>,
+    asked: &Asked<'_>,
     shelf: &mut F,
     out: &mut K,
-) -> Status {
-    let (system, script) = match read_files(alloc, named, shelf) {
-        Ok(files) => files,
-        Err(status) => return status,
-    };
-    write_play(alloc, &system, named.cells, script, out)
+) -> Status
+    ensures usage { result ≢ Status.Usage }
+    ensures cause { HasCause (IsPossible (Some (command_asked asked.now)) (F.held shelf.old)) result }
+    ensures read { result ≡ Status.ReadFault → Rose (F.faults shelf.old) (F.faults shelf.new) }
+    ensures in_turn { result ≡ Status.ReadFault
+        → MissesInTurn (command_asked asked.now) (F.held shelf.old)
+        (F.missed shelf.old) (F.missed shelf.new) }
+    ensures write { result ≡ Status.WriteFault → Rose (K.faults out.old) (K.faults out.new) }
+    ensures report { result ≡ Status.Ok
+        → IfPlayed (Some (command_asked asked.now)) (F.held shelf.old)
+        (λ reports. Appends (K.contents out.old) (K.contents out.new) (report_text reports)) }
+    ensures front { result ≡ Status.WriteFault
+        → IfBegun (Some (command_asked asked.now)) (F.held shelf.old)
+        (λ reports. WritesFront (K.contents out.old) (K.contents out.new) (report_text reports)) }
+    ensures begun { result ≡ Status.OutOfMemory
+        → Keeps (K.contents out.old) (K.contents out.new)
+        ⊎ IfBegun (Some (command_asked asked.now)) (F.held shelf.old)
+        (λ reports.
+        Appends (K.contents out.old) (K.contents out.new) (flat_map phase_text reports)) }
+    ensures nothing_else { writes result ≡ false → Keeps (K.contents out.old) (K.contents out.new) }
+    ensures absent { FindsLacked (Some (command_asked asked.now))
+        (F.lacks shelf.old) (F.held shelf.old)
+        result }
+{
+    match read_files(alloc, asked, shelf) {
+        Ok(Files { system, script }) => write_play(alloc, &system, asked.cells, script, out),
+        Err(status) => status,
+    }
 }
 
-/// The configuration and the script of these names.
-fn read_files<F: Shelf>(
-    alloc: Global,
-    named: &Named<'_>,
-    shelf: &mut F,
-) -> Result<(System, Script), Status> {
-    let system = read_conf(alloc, named.conf, shelf)?;
-    let script = read_lines(alloc, &system, named.script, shelf)?;
-    Ok((system, script))
+/// What the two files say.
+#[derive(Drop)]
+struct Files {
+    system: System,
+    script: Script,
+}
+
+/// Reads the two files, the configuration first.
+fn read_files<F: Shelf>(alloc: Global, asked: &Asked<'_>, shelf: &mut F) -> Result<Files, Status>
+    ensures files { IfOk result (λ files.
+        IsPossible (Some (command_asked asked.now)) (F.held shelf.old)
+        (Played (setup_of (system_of files.system) asked.now.cells) files.script.actors.items
+        (map (λ phase. phase.items) files.script.phases.items))) }
+    ensures playable { IfOk result (λ files. IsPlayable (system_of files.system)) }
+    ensures stopped { IfErr result
+        (Stops (IsPossible (Some (command_asked asked.now)) (F.held shelf.old))) }
+    ensures read { result ≡ Err Status.ReadFault → Rose (F.faults shelf.old) (F.faults shelf.new) }
+    ensures in_turn { result ≡ Err Status.ReadFault
+        → MissesInTurn (command_asked asked.now) (F.held shelf.old)
+        (F.missed shelf.old) (F.missed shelf.new) }
+    ensures absent { FindsLackedBy (command_asked asked.now)
+        (F.lacks shelf.old) (F.held shelf.old)
+        result }
+{
+    let system = read_conf(alloc, asked.conf, shelf)?;
+    let script = read_lines(alloc, &system, asked.script, shelf)?;
+    Ok(Files { system, script })
 }
 
 /// Reads the configuration of this name.
 fn read_conf<F: Shelf>(alloc: Global, name: &str, shelf: &mut F) -> Result<System, Status>
     ensures config { IfOk result
         (λ system. IfSome (F.held shelf.old name.now) (Configures (system_of system))) }
+    ensures playable { IfOk result (λ system. IsPlayable (system_of system)) }
+    ensures few { IfOk result (λ system. AreFew (named_of (system_of system))) }
     ensures stopped { IfErr result (Stops (ConfGives IfSome name.now (F.held shelf.old name.now))) }
     ensures read { result ≡ Err Status.ReadFault → Rose (F.faults shelf.old) (F.faults shelf.new) }
     ensures by_name { result ≡ Err Status.ReadFault
@@ -147,6 +191,7 @@ fn read_conf<F: Shelf>(alloc: Global, name: &str, shelf: &mut F) -> Result<Syste
     ensures held { F.held shelf.new ≡ F.held shelf.old }
     ensures lacks { F.lacks shelf.new ≡ F.lacks shelf.old }
 {
+    accepted_configurations_are_few();
     let bytes = read_file(alloc, name, shelf)?;
     let system = read_system(alloc, &bytes)?;
     if has_pipe(&system) {
@@ -162,6 +207,7 @@ fn read_lines<F: Shelf>(
     name: &str,
     shelf: &mut F,
 ) -> Result<Script, Status>
+    requires { AreFew (named_of (system_of system.now)) }
     ensures script { IfOk result (λ script. (cells : ℕ)
         → ScriptGives IfSome (system_of system.now) cells name.now (F.held shelf.old name.now)
         (Played (setup_of (system_of system.now) cells) script.actors.items

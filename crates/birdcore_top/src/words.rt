@@ -1,6 +1,6 @@
 //! The command line.
 ghost use Rattle.std.specs.Prelude.{◌≡◌, None, Some, MatchOption};
-ghost use Rattle.birdcore_top.specs.Command.{Play, cells_in, command_of};
+ghost use Rattle.birdcore_top.specs.Command.{cells_in, command_asked, command_of};
 
 /// How many changes the journal of a table holds where nothing is said.
 const USUAL_CELLS: u32 = 256;
@@ -8,31 +8,29 @@ const USUAL_CELLS: u32 = 256;
 /// How many it holds at most.
 const MOST_CELLS: u32 = 4096;
 
-/// What is played: the names of the two files, and how many changes the journal of a table holds for
+/// What the words ask for: the names of the two files, and how many changes the journal of a table holds for
 /// the channels that are still to take them.
 #[derive(Clone, Copy, Debug)]
-pub(crate) struct Named<'a> {
+pub(crate) struct Asked<'a> {
     pub(crate) conf: &'a str,
     pub(crate) script: &'a str,
     pub(crate) cells: u32,
 }
 
-/// What the words name, where they are `play CONF SCRIPT`, perhaps with `--journal N` behind them.
-pub(crate) fn named(words: &[String]) -> Option<Named<'_>>
+/// What the words ask for, where they are `play CONF SCRIPT`, perhaps with `--journal N` behind them.
+pub(crate) fn asked_by(words: &[String]) -> Option<Asked<'_>>
     ensures { MatchOption result (command_of words.now ≡ None)
-        (λ named. command_of words.now
-        ≡ Some (Play named.conf.now named.script.now named.cells)) }
+        (λ asked. command_of words.now ≡ Some (command_asked asked)) }
 {
     match words {
-        [command, conf, script] if command.as_str() == "play" => Some(Named {
+        [command, conf, script] if command.as_str() == "play" => Some(Asked {
             conf: conf.as_str(),
             script: script.as_str(),
             cells: USUAL_CELLS,
         }),
         [command, conf, script, option, number]
-            if command.as_str() == "play" && option.as_str() == "--journal" =>
-        {
-            Some(Named {
+            if command.as_str() == "play" && option.as_str() == "--journal" => {
+            Some(Asked {
                 conf: conf.as_str(),
                 script: script.as_str(),
                 cells: cells_of(number.as_str())?,
@@ -46,9 +44,10 @@ pub(crate) fn named(words: &[String]) -> Option<Named<'_>>
 fn cells_of(word: &str) -> Option<u32>
     ensures { result ≡ cells_in word.now }
 {
-    let number = word.parse::<u64>().ok()?;
-    if number < 1 || number > u64::from(MOST_CELLS) {
-        return None;
+    let number = word.parse::<u32>().ok()?;
+    if 1 <= number && number <= MOST_CELLS {
+        Some(number)
+    } else {
+        None
     }
-    u32::try_from(number).ok()
 }

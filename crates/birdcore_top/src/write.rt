@@ -1,16 +1,16 @@
 //! Plays a script over a configuration, and writes the report of each phase when it has ended.
-ghost use Rattle.std.specs.Prelude.{◌≡◌, ◌++◌, ℕ, List, false, map};
-ghost use Rattle.std.specs.Io.KnownBytes.{Appends};
+ghost use Rattle.std.specs.Prelude.{◌≡◌, ◌⊎◌, ◌≤◌, ◌++◌, ℕ, List, [], Err, codes, map, IfErr, OnOk};
+ghost use Rattle.std.specs.Io.KnownBytes.{Appends, Keeps};
 ghost use Rattle.std.specs.List.{flat_map};
+ghost use Rattle.core_setup.specs.Setup.{Setup};
 ghost use Rattle.outside_io.specs.Faults.{Rose};
 ghost use Rattle.outside_io.specs.Whole.{WritesFront};
 ghost use Rattle.report.specs.Report.{phase_text, report_text};
-ghost use Rattle.script_lines.specs.declared.script.Line.{Line as Said};
-ghost use Rattle.sys_build.specs.Setups as setups;
-ghost use Rattle.sys_build.specs.Setups.{setup_of};
+ghost use Rattle.sys_build.specs.Setups.{IsPlayable, setup_of};
+ghost use Rattle.sys_run.specs.Playing as played;
 ghost use Rattle.system.specs.Seen.{system_of};
-ghost use Rattle.birdcore_top.specs.Answer.{IsEnd};
-ghost use Rattle.birdcore_top.specs.Written.{HasBegun, HasPlayed};
+ghost use Rattle.birdcore_top.specs.Answer.{CutsOff, IsEnd};
+ghost use Rattle.birdcore_top.specs.Written.{HasBegun, HasPlayed, HasWritten};
 
 use crate::status::Status;
 use attrs::Judge;
@@ -33,7 +33,7 @@ pub(crate) fn write_play<K: Sink>(
     script: Script,
     out: &mut K,
 ) -> Status
-    requires { setups.has_pipe (system_of system.now).protocols ≡ false }
+    requires { IsPlayable (system_of system.now) }
     ensures end { IsEnd result }
     ensures report { result ≡ Status.Ok
         → HasPlayed (setup_of (system_of system.now) cells) script.actors.items
@@ -68,7 +68,25 @@ fn write_phases<J: Judge, K: Sink>(
     actors: &[Name],
     phases: Vec<Vec<Line>>,
     out: &mut K,
-) -> Result<(), Status> {
+) -> Result<(), Status>
+    requires { (setup : Setup) × played.HasPlayed J.verdict setup actors.now [] [] core.old }
+    ensures played { OnOk result ((setup : Setup)
+        → played.HasPlayed J.verdict setup actors.now [] [] core.old
+        → HasWritten J.verdict setup actors.now (map (λ phase. phase.items) phases.items) core.new
+        (K.contents out.old) (K.contents out.new)) }
+    ensures cut { IfErr result CutsOff }
+    ensures front { result ≡ Err Status.WriteFault → (setup : Setup)
+        → played.HasPlayed J.verdict setup actors.now [] [] core.old
+        → HasBegun setup actors.now (map (λ phase. phase.items) phases.items)
+        (λ reports. WritesFront (K.contents out.old) (K.contents out.new) (report_text reports)) }
+    ensures begun { result ≡ Err Status.OutOfMemory → (setup : Setup)
+        → played.HasPlayed J.verdict setup actors.now [] [] core.old
+        → HasBegun setup actors.now (map (λ phase. phase.items) phases.items)
+        (λ reports.
+        Appends (K.contents out.old) (K.contents out.new) (flat_map phase_text reports)) }
+    ensures write { result ≡ Err Status.WriteFault → Rose (K.faults out.old) (K.faults out.new) }
+    ensures later { K.faults out.old ≤ K.faults out.new }
+{
     for lines in phases {
         let report = core.play(actors, lines)?;
         write_phase(alloc, &report, out)?;
@@ -76,7 +94,18 @@ fn write_phases<J: Judge, K: Sink>(
     Ok(())
 }
 
-fn write_phase<K: Sink>(alloc: Global, report: &PhaseReport, out: &mut K) -> Result<(), Status> {
+/// Writes the report of one phase.
+fn write_phase<K: Sink>(alloc: Global, report: &PhaseReport, out: &mut K) -> Result<(), Status>
+    ensures whole { OnOk result
+        (Appends (K.contents out.old) (K.contents out.new) (phase_text report.now)) }
+    ensures cut { IfErr result CutsOff }
+    ensures front { result ≡ Err Status.WriteFault
+        → WritesFront (K.contents out.old) (K.contents out.new) (phase_text report.now) }
+    ensures nothing { result ≡ Err Status.OutOfMemory
+        → Keeps (K.contents out.old) (K.contents out.new) }
+    ensures write { result ≡ Err Status.WriteFault → Rose (K.faults out.old) (K.faults out.new) }
+    ensures later { K.faults out.old ≤ K.faults out.new }
+{
     let mut text = Vec::new(alloc);
     phase_text(report, &mut text)?;
     match write_whole(out, &text) {
@@ -85,7 +114,15 @@ fn write_phase<K: Sink>(alloc: Global, report: &PhaseReport, out: &mut K) -> Res
     }
 }
 
-fn end_report<K: Sink>(out: &mut K) -> Status {
+/// Writes the last line of the report.
+fn end_report<K: Sink>(out: &mut K) -> Status
+    ensures end { (result ≡ Status.Ok) ⊎ (result ≡ Status.WriteFault) }
+    ensures whole { result ≡ Status.Ok
+        → Appends (K.contents out.old) (K.contents out.new) (codes "end\n") }
+    ensures front { result ≡ Status.WriteFault
+        → WritesFront (K.contents out.old) (K.contents out.new) (codes "end\n") }
+    ensures write { result ≡ Status.WriteFault → Rose (K.faults out.old) (K.faults out.new) }
+{
     match write_whole(out, b"end\n") {
         Ok(()) => Status::Ok,
         Err(Failed) => Status::WriteFault,

@@ -1,17 +1,14 @@
-use Rattle.birdcore_top.proofs.SaidOnce.{SaysOnce}
-use Rattle.birdcore_top.proofs.Outcomes.{one_outcome, accepted_not_required}
+use Rattle.birdcore_top.proofs.Outcomes.{SaysOnce, accepted_not_required, one_outcome}
 use Rattle.birdcore_top.proofs.laws.files_have_one_outcome.Goals as goal
 
-once : goal.After-scripts_have_no_bad_line → SaysOnce
+once : goal.After-a_text_has_one_answer → SaysOnce
 once c = record {
   configurations_agree = c.texts_say_one_thing.ensures.built;
   built_or_not = c.texts_say_one_thing.ensures.built_or_not;
   built_or_refused = c.texts_say_one_thing.ensures.built_or_refused;
   not_built_or_refused = c.texts_say_one_thing.ensures.not_built_or_refused;
   refusals_agree = c.texts_say_one_thing.ensures.refused;
-  scripts_agree = c.a_text_is_one_script.ensures;
-  bad_lines_agree = c.a_text_has_one_bad_line.ensures;
-  script_or_bad = c.scripts_have_no_bad_line.ensures;
+  answers_agree = c.a_text_has_one_answer.ensures;
 }
 
 pub returns-clause-accepted : goal.returns-clause-accepted

@@ -1,16 +1,25 @@
+use Rattle.std.proofs.Common.{sym, ◌∙◌}
 use Rattle.std.proofs.lemmas.Result.{err_from_is_err_and}
-use Rattle.session.specs.Built.{IsConfig}
-use Rattle.session.specs.Seen.{configured_of}
-use Rattle.birdcore_top.proofs.Judged.{judged, conf_stops}
+use Rattle.system.specs.Seen.{system_of}
+use Rattle.birdcore_top.proofs.Judged.{conf_stops, judged, pipe_stops}
 use Rattle.birdcore_top.proofs.top.read_conf.Goals as goal
 
-pub returns-in_err-config-clause-stopped : goal.returns-in_err-config-clause-stopped
-returns-in_err-config-clause-stopped g c =
-    let p = err_from_is_err_and c.from_residual-in_err-config.result c.from_residual-in_err-config.ensures.1 in
+pub returns-in_err-system-clause-stopped : goal.returns-in_err-system-clause-stopped
+returns-in_err-system-clause-stopped g c =
+    let p = err_from_is_err_and c.from_residual-in_err-system.result c.from_residual-in_err-system.ensures.1 in
     rw (p.1, p.2)
-    (conf_stops c.args.name.now _ c.in_ok-bytes.bytes.items c.in_err-config.field-0.0 c.in_ok-bytes.ensures.whole (rw c.deref.ensures.value at c.in_err-config.ensures.fault))
+    (conf_stops c.args.name.now _ c.in_ok-bytes.bytes.items c.in_err-system.field-0.0 c.in_ok-bytes.ensures.whole (rw c.deref.ensures.value at c.in_err-system.ensures.fault))
 
-pub returns-clause-config : goal.returns-clause-config
-returns-clause-config g c =
-    judged (g.F.Shelf.held c.args.shelf.now c.args.name.now) c.in_ok-bytes.bytes.items (λ text. IsConfig text (configured_of c.in_ok-config.config)) c.in_ok-bytes.ensures.whole
-    (rw c.deref.ensures.value at c.in_ok-config.ensures.built)
+pub returns-then-has_pipe-clause-stopped : goal.returns-then-has_pipe-clause-stopped
+returns-then-has_pipe-clause-stopped g c =
+    pipe_stops c.args.name.now _ c.in_ok-bytes.bytes.items (system_of c.in_ok-system.system) c.in_ok-bytes.ensures.whole (rw c.deref.ensures.value at c.in_ok-system.ensures.system)
+    (sym c.has_pipe.ensures ∙ c.if-has_pipe.true)
+
+pub returns-clause-few : goal.returns-clause-few
+returns-clause-few g c =
+    c.accepted_configurations_are_few.ensures c.in_ok-bytes.bytes.items (system_of c.in_ok-system.system) (rw c.deref.ensures.value at c.in_ok-system.ensures.system)
+
+pub returns-clause-playable : goal.returns-clause-playable
+returns-clause-playable g c =
+    let is = rw c.deref.ensures.value at c.in_ok-system.ensures.system in
+    (c.in_ok-bytes.bytes.items, is, sym c.has_pipe.ensures ∙ c.if-has_pipe.false)

@@ -1,0 +1,155 @@
+-- What is written of a play, phase by phase.
+use Rattle.std.proofs.Common.{◌≡◌, ℕ, List, [], ◌∷◌, ◌++◌, length, take, drop, map, Option, refl, sym, ◌∙◌, ap, subst, append_assoc, append-nil, take-append-drop}
+use Rattle.std.proofs.KnownBytes.{Appends-nil}
+use Rattle.std.proofs.Math.Seq.{take-append_seam}
+use Rattle.std.proofs.lemmas.Grind.{flat_map-append}
+use Rattle.std.proofs.lemmas.List.{map-append}
+use Rattle.std.specs.Prelude.{codes}
+use Rattle.std.specs.Io.KnownBytes.{Appends, Keeps}
+use Rattle.std.specs.List.{flat_map}
+use Rattle.attrs.specs.declared.judge.Verdict.{Verdict}
+use Rattle.attrs.specs.declared.route.Route.{Route}
+use Rattle.bits_ip.specs.Prefix.{Net}
+use Rattle.core_machine.specs.Legal.{Printed}
+use Rattle.core_machine.specs.Lines.{Act, Line as MachineLine}
+use Rattle.core_machine.specs.Machine.{State}
+use Rattle.core_machine.specs.Phases.{PlaysAll}
+use Rattle.core_machine.specs.Rules.{Rules}
+use Rattle.core_setup.specs.Protocols.{rules_of, starts}
+use Rattle.core_setup.specs.Setup.{Setup}
+use Rattle.outside_io.proofs.Blocks.{appends_kept, appends_more}
+use Rattle.outside_io.specs.Whole.{WritesFront}
+use Rattle.report.specs.Report.{phase_text, report_text}
+use Rattle.report.specs.declared.phase.PhaseReport.{PhaseReport}
+use Rattle.script_lines.specs.declared.script.Line.{Line}
+use Rattle.sys_run.specs.Playing as core
+use Rattle.sys_run.specs.Playing.{PlaysTo}
+use Rattle.sys_run.specs.Scripts.{phase_of}
+use Rattle.sys_run.specs.declared.player.Core.{Core}
+use Rattle.birdcore_top.specs.Written.{ArePlayed, HasBegun, HasPlayed, HasWritten}
+
+-- ---- texts
+
+-- a front of a text
+is_front : (a c : Option (List ℕ)) (front back text : List ℕ) → text ≡ front ++ back → Appends a c front → WritesFront a c text
+is_front a c front back text whole appends =
+    (length front, subst (λ (l : List ℕ). Appends a c l) (sym (ap (λ (l : List ℕ). take (length front) l) whole ∙ take-append_seam front back)) appends)
+
+joined : (xs ys zs : List ℕ) (n : ℕ) → xs ++ ys ++ zs ≡ (xs ++ take n ys) ++ (drop n ys ++ zs)
+joined xs ys zs n =
+    append_assoc xs ys zs
+    ∙ ap (λ (l : List ℕ). xs ++ l) (ap (λ (l : List ℕ). l ++ zs) (sym (take-append-drop n ys)) ∙ append_assoc (take n ys) (drop n ys) zs)
+    ∙ sym (append_assoc xs (take n ys) (drop n ys ++ zs))
+
+-- a text, and a front of a second one, before a third
+pub front_more : (a b c : Option (List ℕ)) (xs ys zs : List ℕ) → Appends a b xs → WritesFront b c ys → WritesFront a c (xs ++ ys ++ zs)
+front_more a b c xs ys zs whole front =
+    is_front a c (xs ++ take front.0 ys) (drop front.0 ys ++ zs) (xs ++ ys ++ zs) (joined xs ys zs front.0) (appends_more a b c xs (take front.0 ys) whole front.1)
+
+-- the same with no third one
+pub front_last : (a b c : Option (List ℕ)) (xs ys : List ℕ) → Appends a b xs → WritesFront b c ys → WritesFront a c (xs ++ ys)
+front_last a b c xs ys whole front = subst (λ (l : List ℕ). WritesFront a c l) (append-nil (xs ++ ys)) (front_more a b c xs ys [] whole front)
+
+-- the text of a report more
+more_text : (reports : List PhaseReport) (report : PhaseReport) → flat_map phase_text (reports ++ report ∷ []) ≡ flat_map phase_text reports ++ phase_text report
+more_text reports report =
+    flat_map-append phase_text reports (report ∷ []) ∙ ap (λ (l : List ℕ). flat_map phase_text reports ++ l) (append-nil (phase_text report))
+
+-- ---- phases
+
+-- what is done and what is left
+pub split : {A B : Type 0} (f : A → B) (done rest all : List A) → done ++ rest ≡ all → map f all ≡ map f done ++ map f rest
+split f done rest all whole = ap (λ l. map f l) (sym whole) ∙ map-append f done rest
+
+-- what is done with one more, and what is left behind it
+pub split_behind : {A B : Type 0} (f : A → B) (done : List A) (x : A) (rest all : List A) → done ++ x ∷ rest ≡ all → map f all ≡ map f done ++ f x ∷ [] ++ map f rest
+split_behind f done x rest all whole = split f done (x ∷ rest) all whole ∙ sym (append_assoc (map f done) (f x ∷ []) (map f rest))
+
+plays_all : (rules : Rules) (acts : List Act) (s : State) (scripts : List (List MachineLine)) (printed : List Printed) (t : State) → PlaysTo rules acts s scripts printed t
+    → PlaysAll rules acts s scripts printed
+plays_all rules acts s [] [] t is = tt
+plays_all rules acts s [] (p ∷ printed) t is = is
+plays_all rules acts s (lines ∷ more) [] t is = is
+plays_all rules acts s (lines ∷ more) (p ∷ printed) t is = (is.0, is.1, is.2, plays_all rules [] is.0 more printed t is.3)
+
+module _ {J : Type 0} (verdict : J → Net → Route → Verdict) (setup : Setup) (actors : List (List ℕ)) where
+  -- what a core has played is a play
+  pub is_play : (phases : List (List Line)) (reports : List PhaseReport) (now : Core J) → core.HasPlayed verdict setup actors (map (phase_of setup) phases) reports now
+      → ArePlayed setup actors phases reports
+  is_play phases reports now is = record {
+    printed = is.printed;
+    plays = plays_all (rules_of setup) (starts setup) _ (map (phase_of setup) phases) is.printed is.state is.plays;
+    are = is.are;
+  }
+
+  -- no phase is done
+  pub nothing_yet : (now : Core J) (a : Option (List ℕ)) → core.HasPlayed verdict setup actors [] [] now → HasWritten verdict setup actors [] now a a
+  nothing_yet now a is = record { reports = []; played = is; written = Appends-nil a }
+
+  module _ (phases : List (List Line)) (lines : List Line) (now next : Core J) (report : PhaseReport) (a b c : Option (List ℕ)) (so_far : HasWritten verdict setup actors phases now a b)
+      (played : core.HasPlayed verdict setup actors (map (phase_of setup) phases ++ phase_of setup lines ∷ []) (so_far.reports ++ report ∷ []) next) where
+    one_more : core.HasPlayed verdict setup actors (map (phase_of setup) (phases ++ lines ∷ [])) (so_far.reports ++ report ∷ []) next
+    one_more = subst (λ (l : List (List MachineLine)). core.HasPlayed verdict setup actors l (so_far.reports ++ report ∷ []) next) (sym (map-append (phase_of setup) phases (lines ∷ []))) played
+
+    -- a phase more is done
+    pub phase_more : Appends b c (phase_text report) → HasWritten verdict setup actors (phases ++ lines ∷ []) next a c
+    phase_more text = record {
+      reports = so_far.reports ++ report ∷ [];
+      played = one_more;
+      written = subst (λ (l : List ℕ). Appends a c l) (sym (more_text so_far.reports report)) (appends_more a b c (flat_map phase_text so_far.reports) (phase_text report) so_far.written text);
+    }
+
+    -- the sink failed in the report of a phase
+    pub cut_in_phase : (all more : List (List Line)) → all ≡ (phases ++ lines ∷ []) ++ more → WritesFront b c (phase_text report)
+        → HasBegun setup actors all (λ reports. WritesFront a c (report_text reports))
+    cut_in_phase all more whole text = record {
+      first = phases ++ lines ∷ [];
+      more = more;
+      reports = so_far.reports ++ report ∷ [];
+      whole = whole;
+      played = is_play (phases ++ lines ∷ []) (so_far.reports ++ report ∷ []) next one_more;
+      said = subst (λ (l : List ℕ). WritesFront a c (l ++ codes "end\n")) (sym (more_text so_far.reports report))
+          (front_more a b c (flat_map phase_text so_far.reports) (phase_text report) (codes "end\n") so_far.written text);
+    }
+
+  module _ (phases : List (List Line)) (now : Core J) (a b c : Option (List ℕ)) (so_far : HasWritten verdict setup actors phases now a b) where
+    -- nothing more is written
+    pub cut_between : (all more : List (List Line)) → all ≡ phases ++ more → Keeps b c → HasBegun setup actors all (λ reports. Appends a c (flat_map phase_text reports))
+    cut_between all more whole kept = record {
+      first = phases;
+      more = more;
+      reports = so_far.reports;
+      whole = whole;
+      played = is_play phases so_far.reports now so_far.played;
+      said = appends_kept a b c (flat_map phase_text so_far.reports) so_far.written kept;
+    }
+
+    -- all is written
+    pub all_written : Appends b c (codes "end\n") → HasPlayed setup actors phases (λ reports. Appends a c (report_text reports))
+    all_written text = record {
+      reports = so_far.reports;
+      played = is_play phases so_far.reports now so_far.played;
+      said = appends_more a b c (flat_map phase_text so_far.reports) (codes "end\n") so_far.written text;
+    }
+
+    -- the sink failed in the last line
+    pub cut_at_end : WritesFront b c (codes "end\n") → HasBegun setup actors phases (λ reports. WritesFront a c (report_text reports))
+    cut_at_end text = record {
+      first = phases;
+      more = [];
+      reports = so_far.reports;
+      whole = sym (append-nil phases);
+      played = is_play phases so_far.reports now so_far.played;
+      said = front_last a b c (flat_map phase_text so_far.reports) (codes "end\n") so_far.written text;
+    }
+
+-- nothing is played, nothing is written
+pub not_begun : (setup : Setup) (actors : List (List ℕ)) (phases : List (List Line)) (a : Option (List ℕ)) → HasBegun setup actors phases (λ reports. Appends a a (flat_map phase_text reports))
+not_begun setup actors phases a = record {
+  first = [];
+  more = phases;
+  reports = [];
+  whole = refl;
+  played = record { printed = []; plays = tt; are = tt };
+  said = Appends-nil a;
+}
