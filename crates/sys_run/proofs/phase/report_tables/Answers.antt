@@ -1,0 +1,7 @@
+use Rattle.sys_run.proofs.phase.report_tables.Goals as goal
+
+pub loop-number-preserved : goal.loop-number-preserved
+loop-number-preserved c = ?
+
+pub returns : goal.returns
+returns c = ?
