@@ -242,7 +242,25 @@ module _ {J : Type 0} (verdict : J → Net → Route → Verdict) (setup : Setup
     names = are.names;
   }
 
-  -- ---- a reply
+  -- ---- replies
+
+  -- of a new phase there are none
+  pub unreplied : (b s : State) (core : Core J) (replies : Vec (Vec Answered Global) Global) → IsCore verdict setup b s core → s.replies ≡ []
+      → ((a : ℕ) (held : Vec Answered Global) → slice_get replies.items a ≡ Some held → held.items ≡ []) → IsCore verdict setup b s (record core { replies = replies })
+  unreplied b s core replies are none each = record {
+    routes = are.routes;
+    imports = are.imports;
+    up = are.up;
+    histories = are.histories;
+    operations = are.operations;
+    logs = are.logs;
+    replies = λ actor held e. subst (λ (rs : List Reply). Pairs (λ n a r. IsAnswered setup s a r) 0 held.items (reverse (replies_to actor rs))) (sym none)
+        (subst (λ (xs : List Answered). Pairs (λ n a r. IsAnswered setup s a r) 0 xs []) (sym (each actor held e)) tt);
+    channels = are.channels;
+    tables = are.tables;
+    names = are.names;
+  }
+
 
   pub asked : (b s : State) (core : Core J) (replies : Vec (Vec Answered Global) Global) (held after : Vec Answered Global) (answered : Answered) (reply : Reply)
       → IsCore verdict setup b s core → slice_get core.replies.items reply.actor ≡ Some held → replies.items ≡ set core.replies.items reply.actor after

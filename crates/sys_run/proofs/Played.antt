@@ -19,9 +19,9 @@ use Rattle.sys_run.specs.Phase.{joined_of}
 use Rattle.sys_run.specs.Playing.{HasPlayed, PlaysTo, silent, starts_in}
 use Rattle.sys_run.specs.declared.player.Core.{Core}
 
-pub both_ok : {T E : Type 0} (r : Result T E) (P Q : T → Type 0) → IfOk r P → IfOk r Q → IfOk r (λ x. P x × Q x)
-both_ok (Ok x) P Q p q = (p, q)
-both_ok (Err e) P Q p q = tt
+pub ok_both : {T E : Type 0} {P Q R : T → Type 0} (r : Result T E) → ((x : T) → P x → Q x → R x) → IfOk r P → IfOk r Q → IfOk r R
+ok_both (Ok x) f p q = f x p q
+ok_both (Err e) f p q = tt
 
 -- what begins a phase behind these scripts
 abbrev pub first_of : List (List Line) → List Act → List Act

@@ -473,11 +473,12 @@ fn report_export<J: Judge>(
     let Some(channel) = channels.get(number) else {
         return Err(OutOfMemory);
     };
-    let standing = channel.standing()?;
+    let values = channel.standing()?;
+    let standing = all_standing(alloc, values)?;
     Ok(ExportReport {
         name,
         pipe: false,
-        standing: all_standing(alloc, standing)?,
+        standing,
     })
 }
 
