@@ -1,11 +1,19 @@
 -- For the contracts of private functions: a channel, and the machine's channel that it is.
-use Rattle.std.specs.Prelude.{◌≡◌, ◌≤◌, ℕ, Bool, true, false, nat_le, List, [], length, Option, Some, None, if◌then◌else◌}
-use Rattle.bits_ip.specs.Prefix.{Net}
+use Rattle.std.specs.Prelude.{◌≡◌, ◌-◌, ◌≤◌, ℕ, min, Bool, true, false, List, [], length, map, Option, Some, None, if◌then◌else◌}
+use Rattle.std.specs.List.Sorted.{IsStrictlySortedBy}
+use Rattle.std.specs.Map.{keys_of}
+use Rattle.std.specs.declared.alloc.Global.{Global}
+use Rattle.std.specs.declared.vec.Vec.{Vec}
+use Rattle.bits_ip.specs.Prefix.{Net, net_cmp}
 use Rattle.bits_ip.specs.declared.address.Family.{Family}
+use Rattle.attrs.specs.declared.attributes.Attrs.{Attrs}
 use Rattle.attrs.specs.declared.judge.Verdict.{Verdict}
 use Rattle.attrs.specs.declared.route.Change.{Change}
 use Rattle.attrs.specs.declared.route.Route.{Route}
-use Rattle.export_core.specs.Logs.{highest}
+use Rattle.export_core.specs.declared.log.Key.{Key}
+use Rattle.export_core.specs.Logs.{account, highest, value_of}
+use Rattle.export_core.specs.Marks.{at}
+use Rattle.export_core.specs.Sends.{keyed}
 use Rattle.export_core.specs.States.{State as Exporter}
 use Rattle.core_machine.specs.Channels as machine
 use Rattle.core_machine.specs.Channels.{is_open}
@@ -26,7 +34,7 @@ module _ {J : Type 0} (verdict : J → Net → Route → Verdict) (rules : Rules
   -- the exporter of a channel of protocol i, over a table of this family with this history
   pub record IsExporter (e : Exporter J) (ch : machine.Channel) : Type 0 where
     pub matches : Matches verdict rules i history e ch
-    pub family : family ≡ Some e.spec.family
+    pub family_is : family ≡ Some e.spec.family
     pub told : highest ch.log ≤ length history
 
   -- a protocol without a channel is always down
@@ -39,10 +47,22 @@ module _ {J : Type 0} (verdict : J → Net → Route → Verdict) (rules : Rules
     pub cursor : held.cursor ≡ cursor_of ch
     pub exporter : MayExport held.exporter ch
 
--- a reader has nothing more to take: there is none, or it has read up to the head
-abbrev pub is_at : Option ℕ → ℕ → Bool
-is_at None head = true
-is_at (Some position) head = nat_le head position
+-- how many of so many changes there are still to take, and none where the channel is down
+abbrev pub left_of : Option ℕ → ℕ → ℕ → ℕ
+left_of None head count = 0
+left_of (Some position) head count = min count (head - position)
+
+-- The values that stand as sent, in the order of nets.
+pub record AreValues (ch : machine.Channel) (items : List (Key × Attrs)) : Type 0 where
+  pub entries : List (Net × Attrs)
+  pub items_are : items ≡ map keyed entries
+  pub ascend : IsStrictlySortedBy net_cmp (keys_of entries)
+  pub values : (net : Net) → at net entries ≡ value_of (account net ch.log)
+
+-- what stands of a channel, and nothing of one that is down
+abbrev pub TellsStanding : machine.Channel → Option (Vec (Key × Attrs) Global) → Type 0
+TellsStanding ch None = is_open ch ≡ false
+TellsStanding ch (Some values) = (is_open ch ≡ true) × AreValues ch values.items
 
 -- ---- the same of some channel of the machine, as conditions
 
@@ -77,7 +97,18 @@ module _ {J : Type 0} (verdict : J → Net → Route → Verdict) where
     pub fits : Fits (signal_of mark) (is_open ch)
     pub channel : IsChannel verdict rules i (Some family) history held ch
 
-  -- an exporter whose feed has begun, over this table
+  -- an exporter, over this table, which is up or isn't
+  pub record IsOver (e : Exporter J) (table : Table) (up : Bool) : Type 0 where
+    pub rules : Rules
+    pub i : ℕ
+    pub family : Family
+    pub history : List Change
+    pub ch : machine.Channel
+    pub is : IsTable rules family history table
+    pub is_up : is_open ch ≡ up
+    pub exporter : IsExporter verdict rules i (Some family) history e ch
+
+  -- one whose feed has begun
   pub record HasBegun (e : Exporter J) (table : Table) : Type 0 where
     pub rules : Rules
     pub i : ℕ

@@ -1,4 +1,5 @@
--- For the contracts of private functions: a table with its journal, and the machine's history of it.
+-- For the contracts of private functions: a table with its journal, and the machine's history of
+-- it.
 use Rattle.std.specs.Prelude.{◌≡◌, ◌+◌, ◌≤◌, ℕ, true, List, [], ◌∷◌, ◌++◌, length, Option, Some, None, IsSome, map, reverse, slice_get, ⊤}
 use Rattle.bits_ip.specs.Address.{family_of}
 use Rattle.bits_ip.specs.Prefix.{Net}
@@ -20,7 +21,7 @@ use Rattle.sys_run.specs.declared.table.Table.{Table}
 pub record IsTable (rules : Rules) (family : Family) (history : List Change) (table : Table)
     : Type 0 where
   pub family_is : table.family ≡ family
-  pub family : table.rib.family ≡ family
+  pub rib_family : table.rib.family ≡ family
   pub shows : Shows table.rib.rows (content_of history)
   pub entries : map change_of table.entries.items ≡ reverse history
   pub best :

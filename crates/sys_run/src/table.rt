@@ -49,8 +49,8 @@ impl Table {
         self.entries.get(position as usize)
     }
 
-    /// Whether the change is one of this table: of its family, and of a route that tells its source.
-    /// Imports of a protocol over the table give no other.
+    /// Whether the change is one of this table: of its family, and of a route that tells its
+    /// source. Imports of a protocol over the table give no other.
     fn admits(&self, change: &Change) -> bool
         ensures { IsTrue result → Admits self.now.family change.now }
     {
@@ -63,6 +63,7 @@ impl Table {
 
     /// Changes the table, and goes on with the journal.
     pub(crate) fn append(&mut self, change: Change) -> Result<(), OutOfMemory>
+        requires { self.old.family ≡ self.old.rib.family }
         ensures { OnOk result ((rules : Rules) (family : Family) (history : List Change)
             → IsRules rules → change.num < rules.protocols
             → IsTable rules family history self.old
@@ -72,14 +73,18 @@ impl Table {
             return Err(OutOfMemory);
         }
         self.rib.reserve(&change)?;
-        let new = copy_option(change.new.as_ref())?;
-        let Change { net, num, .. } = change;
-        let _ = self.rib.change(Change { net, num, new });
+        let copy = copy_option(change.new.as_ref())?;
+        let Change { net, num, new } = change;
+        let _ = self.rib.change(Change {
+            net,
+            num,
+            new: copy,
+        });
         let best = self.rib.copy_best(&net)?;
         self.entries.push(JEntry {
             net,
             num,
-            new: change.new,
+            new,
             best,
         })?;
         Ok(())
