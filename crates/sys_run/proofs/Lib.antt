@@ -1,11 +1,3 @@
-pub mod Journals
-pub mod Chunks
-pub mod Runs
-pub mod Steps
-pub mod Loops
-pub mod Stretches
-pub mod Kept
-pub mod Obeying
 mod UpTo
 mod Routing
 mod RouteSteps
@@ -17,3 +9,11 @@ mod Played
 mod Numbering
 mod Making
 mod Looping
+pub mod Journals
+pub mod Chunks
+pub mod Runs
+pub mod Steps
+pub mod Loops
+pub mod Stretches
+pub mod Kept
+pub mod Obeying

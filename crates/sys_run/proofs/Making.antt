@@ -82,12 +82,12 @@ tables_seen n (t ∷ tables) = (refl, tables_seen (n + 1) tables)
 module _ {J : Type 0} (verdict : J → Net → Route → Verdict) where
   channels_seen : (n : ℕ) (ps : List (ProtocolParts J)) → numbers_from n ps ≡ map (λ (c : ℕ × List ℕ). c.0) (channels_from n (map (protocol_seen verdict) ps))
   channels_seen n [] = refl
-  channels_seen n (p ∷ ps) = by p.exports where
-    by : (o : Option (ExportParts J))
+  channels_seen n (p ∷ ps) = by p.exports (channels_seen (n + 1) ps) where
+    by : (o : Option (ExportParts J)) → numbers_from (n + 1) ps ≡ map (λ (c : ℕ × List ℕ). c.0) (channels_from (n + 1) (map (protocol_seen verdict) ps))
         → (if is_some o then n ∷ [] else []) ++ numbers_from (n + 1) ps
         ≡ map (λ (c : ℕ × List ℕ). c.0) (with_channel n p.name (option_map (exports_seen verdict) o) (channels_from (n + 1) (map (protocol_seen verdict) ps)))
-    by None = channels_seen (n + 1) ps
-    by (Some e) = ap (λ l. n ∷ l) (channels_seen (n + 1) ps)
+    by None later = later
+    by (Some e) later = ap (λ l. n ∷ l) later
 
   names_seen : (ps : List (ProtocolParts J)) → map (λ (p : ProtocolParts J). p.name) ps ≡ map (λ (p : Protocol). p.name) (map (protocol_seen verdict) ps)
   names_seen [] = refl
