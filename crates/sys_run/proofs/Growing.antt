@@ -76,8 +76,8 @@ round_grows rules i h ch =
     let t = taken_up h ch in
     grows_if (λ c. pushed_out rules i h (taken_up h c)) (is_open ch) ch
     (grows_on ch t (pushed_out rules i h t)
-      (grows_times (take_one h) (take_grows h) (length h - ch.position) ch)
-      (grows_times (push_one rules i h) (λ c. pushed_grows rules i h c.marks c) (length t.marks) t))
+    (grows_times (take_one h) (take_grows h) (length h - ch.position) ch)
+    (grows_times (push_one rules i h) (λ c. pushed_grows rules i h c.marks c) (length t.marks) t))
 
 -- ---- changes of a table
 

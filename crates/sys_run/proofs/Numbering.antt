@@ -62,8 +62,8 @@ pub begins_more : (setup : Setup) (n : ℕ) (p : Protocol) (s between t : State)
     → Begins (rules_of setup) (starts_from 0 (take (n + 1) setup.protocols) []) s t
 begins_more setup n p s between t e begins one =
     let more : starts_from 0 (take (n + 1) setup.protocols) [] ≡ with_start n p.spec.kind (starts_from 0 (take n setup.protocols) []) =
-            ap (λ ps. starts_from 0 ps []) (take_one_more setup.protocols n p e) ∙ starts_push 0 (take n setup.protocols) p []
-            ∙ ap (λ m. with_start m p.spec.kind (starts_from 0 (take n setup.protocols) [])) (length_front setup.protocols n p e) in
+    ap (λ ps. starts_from 0 ps []) (take_one_more setup.protocols n p e) ∙ starts_push 0 (take n setup.protocols) p []
+    ∙ ap (λ m. with_start m p.spec.kind (starts_from 0 (take n setup.protocols) [])) (length_front setup.protocols n p e) in
     subst (λ acts. Begins (rules_of setup) acts s t) (sym more) (begins_one (rules_of setup) n p.spec.kind (starts_from 0 (take n setup.protocols) []) s between t begins one)
 
 -- ---- what code reads

@@ -33,7 +33,7 @@ module _ {J : Type 0} (verdict : J → Net → Route → Verdict) where
       let h = item_read r.channels.items i held w eh in
       let same : first ≡ held = get_one r.channels.items i first held f h in
       let t : slice_get r.tables.items held.table ≡ Some table =
-              ap (λ (c : Channel J). slice_get r.tables.items c.table) (sym same) ∙ item_read r.tables.items first.table table (table_there verdict setup s r are i first f) et in
+      ap (λ (c : Channel J). slice_get r.tables.items c.table) (sym same) ∙ item_read r.tables.items first.table table (table_there verdict setup s r are i first f) et in
       record { there = h; same = same; read = read_of verdict setup s r are i held table h t }
 
   pub reads : (setup : Setup) (s : State) (i : ℕ) (held : Channel J) (table : Table) → IsRead verdict setup s i held table → Reads verdict held table

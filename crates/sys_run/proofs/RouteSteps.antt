@@ -74,7 +74,7 @@ module _ {J : Type 0} (verdict : J → Net → Route → Verdict) where
       let new = in_room (rules_of setup) table h s.channels in
       let old : t.channels n ≡ s.channels n = up_to_behind new s.channels n n (omega arith) in
       let at : in_room (rules_of setup) table h t.channels n ≡ new n =
-              ap (λ ch. if (rules_of setup).table n == table then roomed (rules_of setup) h ch else ch) old in
+      ap (λ ch. if (rules_of setup).table n == table then roomed (rules_of setup) h ch else ch) old in
       are_same verdict setup (with_channel n (in_room (rules_of setup) table h t.channels n) t) (roomed_to setup table (n + 1) s) r (λ n. refl)
       (up_to_more new s.channels n (in_room (rules_of setup) table h t.channels n) at) are
 
