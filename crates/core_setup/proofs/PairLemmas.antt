@@ -188,8 +188,8 @@ pub pairs_through : {X Y Z : Type 0} (P : ℕ → X → Y → Type 0) (Q : ℕ �
     → Pairs P 0 xs ys → Pairs Q 0 ys zs → Pairs R 0 xs zs
 pairs_through P Q R xs ys zs each ps qs =
     pairs_all R xs zs (pairs_length P 0 xs ys ps ∙ pairs_length Q 0 ys zs qs) (λ j x z ex ez.
-      let h = other_here P xs ys ps j x ex in
-      each j x h.0 z ex h.1 ez h.2 (pairs_here Q ys zs qs j h.0 z h.1 ez))
+    let h = other_here P xs ys ps j x ex in
+    each j x h.0 z ex h.1 ez h.2 (pairs_here Q ys zs qs j h.0 z h.1 ez))
 
 -- a turn of a loop over the first list, and its end
 pub pairs_turn : {X Y : Type 0} (P : ℕ → X → Y → Type 0) (xs : List X) (ys zs : List Y) (k : ℕ) (x : X) (y : Y) → slice_get xs k ≡ Some x → zs ≡ ys ++ y ∷ []

@@ -1,6 +1,6 @@
 -- The core behind an operation, behind a channel's steps, and behind a reply.
-use Rattle.std.proofs.Common.{◌≡◌, ℕ, zero, suc, ◌+◌, ◌<◌, ◌≤◌, Bool, true, false, ◌⊎◌, inl, inr, List, [], ◌∷◌, ◌++◌, length, get_or, set, reverse, Option, Some, None, refl, sym, ap, subst, ◌∙◌, arith, append_assoc}
-use Rattle.std.specs.Prelude.{slice_get, ◌==◌, if◌then◌else◌}
+use Rattle.std.proofs.Common.{◌≡◌, ℕ, zero, suc, ◌+◌, ◌<◌, true, false, ◌⊎◌, inl, inr, List, [], ◌∷◌, ◌++◌, length, get_or, set, reverse, Some, refl, sym, ap, subst, ◌∙◌, arith, append_assoc}
+use Rattle.std.specs.Prelude.{slice_get, ◌==◌}
 use Rattle.std.specs.List.{AllByRecursion}
 use Rattle.std.specs.declared.alloc.Global.{Global}
 use Rattle.std.specs.declared.vec.Vec.{Vec}
@@ -17,7 +17,6 @@ use Rattle.import_core.specs.declared.operation.Op.{Op}
 use Rattle.import_core.specs.declared.step.Done.{Done}
 use Rattle.import_core.specs.declared.step.Step.{Step}
 use Rattle.import_core.specs.Changes.{IsStep}
-use Rattle.import_core.specs.Decisions.{Outcome}
 use Rattle.import_core.specs.Importers.{Importing, IsNext, KeepsSpec}
 use Rattle.import_core.specs.Operations.{done}
 use Rattle.import_core.proofs.Differences.{difference_one}
@@ -45,7 +44,7 @@ use Rattle.sys_run.specs.declared.player.Answered.{Answered}
 use Rattle.sys_run.specs.declared.player.Core.{Core}
 use Rattle.sys_run.specs.declared.imports.Imports.{Imports}
 use Rattle.sys_run.specs.declared.routes.Routes.{Routes}
-use Rattle.sys_run.proofs.Growing.{Grows, appended_grows, appended_history, appended_ops, appended_replies, grows_not, obeys_log, obeys_open}
+use Rattle.sys_run.proofs.Growing.{Grows, appended_grows, appended_history, appended_replies, grows_not, obeys_log, obeys_open}
 use Rattle.sys_run.proofs.Routing.{are_same, channels_length, protocol_is}
 
 pub push_reverse : {A : Type 0} (x : A) (xs : List A) → reverse (x ∷ xs) ≡ reverse xs ++ x ∷ []
@@ -78,7 +77,7 @@ module _ {J : Type 0} (verdict : J → Net → Route → Verdict) (setup : Setup
       let e = held.importer in
       subst (λ z. IsStep p.spec z (done p.spec p.filter op z) next.imports step) is.imports
       (subst (λ f. IsStep p.spec e.imports (done p.spec f op e.imports) next.imports step) is.judge
-        (subst (λ sp. IsStep sp e.imports (done sp (verdict e.judge) op e.imports) next.imports step) is.spec got))
+      (subst (λ sp. IsStep sp e.imports (done sp (verdict e.judge) op e.imports) next.imports step) is.spec got))
 
   pub effect_is : (next : Importing J) (step : Step) → protocol_at setup i ≡ Some p
       → IsStep p.spec (imports_after p ops) (done p.spec p.filter op (imports_after p ops)) next.imports step → IsEffect setup i ops op step
@@ -88,8 +87,8 @@ module _ {J : Type 0} (verdict : J → Net → Route → Verdict) (setup : Setup
       let num = p.spec.src.num in
       let e : effect_at (protocol_at setup i) ops op ≡ effect_of p before o = ap (λ q. effect_at q ops op) ep in
       let same : step.changes ≡ differences num before.accepted o.imports.accepted =
-              difference_one num before.accepted o.imports.accepted step.changes (differences num before.accepted o.imports.accepted) is.changes
-              (differences_are num before.accepted o.imports.accepted) in
+      difference_one num before.accepted o.imports.accepted step.changes (differences num before.accepted o.imports.accepted) is.changes
+      (differences_are num before.accepted o.imports.accepted) in
       record {
         changes = ap reverse same ∙ sym (ap (λ (f : Effect). f.changes) e);
         signal = ap signal_of is.mark ∙ sym (ap (λ (f : Effect). f.signal) e);
@@ -138,12 +137,12 @@ module _ {J : Type 0} (verdict : J → Net → Route → Verdict) (setup : Setup
   pub acted : (b s : State) (core : Core J) (i : ℕ) (op : Op) (routes : Routes J) (imports : Vec (Imports J) Global) (held mid after : Imports J) (ch : machine.Channel)
       → IsCore verdict setup b s core → slice_get core.imports.items i ≡ Some held
       → (let u = appended (rules_of setup) ((rules_of setup).table i) ((rules_of setup).gives i (s.ops i) op).changes s in
-        Obeys ((rules_of setup).gives i (s.ops i) op).signal (rules_of setup) (u.history ((rules_of setup).table i)) (u.channels i) ch
-        × AreRoutes verdict setup (with_channel i ch u) routes)
+      Obeys ((rules_of setup).gives i (s.ops i) op).signal (rules_of setup) (u.history ((rules_of setup).table i)) (u.channels i) ch
+      × AreRoutes verdict setup (with_channel i ch u) routes)
       → imports.items ≡ set (set core.imports.items i mid) i after
       → ((p : Protocol) → slice_get setup.protocols i ≡ Some p → IsImporting verdict setup i p (b.ops i) (s.ops i) held → IsImporting verdict setup i p (b.ops i) (op ∷ s.ops i) after)
       → (t : State) × ((actor : ℕ) → Applies (rules_of setup) (record { actor = actor; protocol = i; op = op }) s t)
-        × IsCore verdict setup b t (record core { routes = routes; imports = imports })
+      × IsCore verdict setup b t (record core { routes = routes; imports = imports })
   acted b s core i op routes imports held mid after ch are eh obeyed ei more = (t, λ actor. (ch, obeyed.0, refl), is) where
     rules : Rules
     rules = rules_of setup
@@ -199,10 +198,10 @@ module _ {J : Type 0} (verdict : J → Net → Route → Verdict) (setup : Setup
       imports = subst (λ (xs : List (Imports J)). Pairs (λ j q x. IsImporting verdict setup j q (b.ops j) (t.ops j) x) 0 setup.protocols xs)
           (sym (ei ∙ set_twice core.imports.items i mid after))
           (set_here (λ j q x. IsImporting verdict setup j q (b.ops j) (s.ops j) x) (λ j q x. IsImporting verdict setup j q (b.ops j) (t.ops j) x) setup.protocols core.imports.items i after
-            (λ j q x apart _ _ old. subst (λ ops. IsImporting verdict setup j q (b.ops j) ops x) (sym (at_there i (op ∷ s.ops i) s.ops j (λ same. apart (sym same)))) old)
-            (λ q x eq ex old. subst (λ ops. IsImporting verdict setup i q (b.ops i) ops after) (sym (at_here i (op ∷ s.ops i) s.ops i refl))
-              (more q eq (subst (λ y. IsImporting verdict setup i q (b.ops i) (s.ops i) y) (get_one core.imports.items i x held ex eh) old)))
-            are.imports);
+          (λ j q x apart _ _ old. subst (λ ops. IsImporting verdict setup j q (b.ops j) ops x) (sym (at_there i (op ∷ s.ops i) s.ops j (λ same. apart (sym same)))) old)
+          (λ q x eq ex old. subst (λ ops. IsImporting verdict setup i q (b.ops i) ops after) (sym (at_here i (op ∷ s.ops i) s.ops i refl))
+          (more q eq (subst (λ y. IsImporting verdict setup i q (b.ops i) (s.ops i) y) (get_one core.imports.items i x held ex eh) old)))
+          are.imports);
       up = λ j. up_at j (cases_same i j);
       histories = past;
       operations = λ j. op_at j (cases_same i j);
@@ -211,7 +210,7 @@ module _ {J : Type 0} (verdict : J → Net → Route → Verdict) (setup : Setup
           let x = appended_history (rules_of setup) ((rules_of setup).table i) effect.changes s 0 in
           subst (λ rs. Pairs (λ n answered reply. IsAnswered setup t answered reply) 0 replies.items (reverse (replies_to actor rs))) (sym (appended_replies (rules_of setup) ((rules_of setup).table i) effect.changes s))
           (weaker_here (λ n answered reply. IsAnswered setup s answered reply) (λ n answered reply. IsAnswered setup t answered reply) replies.items (reverse (replies_to actor s.replies))
-            (λ n answered reply _ _ a. answered_on setup s t x.0 answered reply x.1 a) (are.replies actor replies e));
+          (λ n answered reply _ _ a. answered_on setup s t x.0 answered reply x.1 a) (are.replies actor replies e));
       channels = are.channels;
       tables = are.tables;
       names = are.names;
@@ -261,7 +260,6 @@ module _ {J : Type 0} (verdict : J → Net → Route → Verdict) (setup : Setup
     names = are.names;
   }
 
-
   pub asked : (b s : State) (core : Core J) (replies : Vec (Vec Answered Global) Global) (held after : Vec Answered Global) (answered : Answered) (reply : Reply)
       → IsCore verdict setup b s core → slice_get core.replies.items reply.actor ≡ Some held → replies.items ≡ set core.replies.items reply.actor after
       → after.items ≡ held.items ++ answered ∷ [] → IsAnswered setup s answered reply
@@ -292,14 +290,14 @@ module _ {J : Type 0} (verdict : J → Net → Route → Verdict) (setup : Setup
     told actor given e (inl w) =
         let inside = get_within core.replies.items reply.actor held eh in
         let same : after ≡ given = get_one (set core.replies.items reply.actor after) reply.actor after given (get-set core.replies.items reply.actor after inside)
-                (ap (slice_get (set core.replies.items reply.actor after)) w.1 ∙ e) in
+        (ap (slice_get (set core.replies.items reply.actor after)) w.1 ∙ e) in
         let items : held.items ++ answered ∷ [] ≡ given.items = sym ea ∙ ap (λ (v : Vec Answered Global). v.items) same in
         let before = on actor held (are.replies actor held (ap (slice_get core.replies.items) (sym w.1) ∙ eh)) in
         let last : reverse (replies_to actor s.replies) ++ reply ∷ [] ≡ reverse (replies_to actor t.replies) =
-                sym (push_reverse reply (replies_to actor s.replies)) ∙ ap reverse (sym (if_true (reply.actor == actor) (reply ∷ replies_to actor s.replies) (replies_to actor s.replies) w.0)) in
+        sym (push_reverse reply (replies_to actor s.replies)) ∙ ap reverse (sym (if_true (reply.actor == actor) (reply ∷ replies_to actor s.replies) (replies_to actor s.replies) w.0)) in
         subst (λ (xs : List Reply). Pairs (λ n a r. IsAnswered setup t a r) 0 given.items xs) last
         (subst (λ (xs : List Answered). Pairs (λ n a r. IsAnswered setup t a r) 0 xs (reverse (replies_to actor s.replies) ++ reply ∷ [])) items
-          (pairs_push (λ n a r. IsAnswered setup t a r) 0 held.items (reverse (replies_to actor s.replies)) answered reply before (answered_on setup s t [] answered reply refl is)))
+        (pairs_push (λ n a r. IsAnswered setup t a r) 0 held.items (reverse (replies_to actor s.replies)) answered reply before (answered_on setup s t [] answered reply refl is)))
     told actor given e (inr w) =
         let there : slice_get core.replies.items actor ≡ Some given = sym (get-set_other core.replies.items reply.actor actor after (λ same. w.1 (sym same))) ∙ e in
         let rest : replies_to actor s.replies ≡ replies_to actor t.replies = sym (if_false (reply.actor == actor) (reply ∷ replies_to actor s.replies) (replies_to actor s.replies) w.0) in
@@ -372,11 +370,11 @@ module _ {J : Type 0} (verdict : J → Net → Route → Verdict) where
       → imports.items ≡ set (set core.imports.items i mid) i after
       → after.kind ≡ held.kind → after.importer ≡ next → after.done.items ≡ held.done.items ++ record { op = op; over = step.over } ∷ []
       → (t : State) × ((actor : ℕ) → Applies (rules_of setup) (record { actor = actor; protocol = i; op = op }) s t)
-        × IsCore verdict setup b t (record core { routes = routes; imports = imports })
+      × IsCore verdict setup b t (record core { routes = routes; imports = imports })
   operation_done setup b s core i op routes imports held mid after next step ch are e is keeps obeys now ei kind importer noted =
       acted verdict setup b s core i op routes imports held mid after ch are e
       (subst (λ signal. Obeys signal (rules_of setup) ((changed setup i op s).history ((rules_of setup).table i)) ((changed setup i op s).channels i) ch) is.effect.signal obeys, now) ei
       (λ q there importing.
-        let same : is.q ≡ q = same_Some is.q q (sym is.there ∙ there) in
-        subst (λ (p : Protocol). IsImporting verdict setup i p (b.ops i) (op ∷ s.ops i) after) same
-        (imported_more verdict setup i is.q (b.ops i) (s.ops i) op held next step after is.importing keeps is.step_is is.effect kind importer noted))
+      let same : is.q ≡ q = same_Some is.q q (sym is.there ∙ there) in
+      subst (λ (p : Protocol). IsImporting verdict setup i p (b.ops i) (op ∷ s.ops i) after) same
+      (imported_more verdict setup i is.q (b.ops i) (s.ops i) op held next step after is.importing keeps is.step_is is.effect kind importer noted))

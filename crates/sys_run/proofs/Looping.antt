@@ -1,5 +1,5 @@
 -- What loops of a report say so far.
-use Rattle.std.proofs.Common.{◌≡◌, ℕ, zero, suc, ◌+◌, ◌-◌, ◌<◌, ◌≤◌, List, [], ◌∷◌, ◌++◌, length, map, set, take, drop, Option, Some, None, refl, sym, ap, ◌∙◌, append_assoc, arith}
+use Rattle.std.proofs.Common.{◌≡◌, ℕ, zero, suc, ◌+◌, ◌-◌, ◌<◌, ◌≤◌, List, [], ◌∷◌, ◌++◌, length, map, set, take, drop, Option, Some, refl, sym, ap, ◌∙◌, append_assoc, arith}
 use Rattle.std.specs.Prelude.{slice_get, option_map}
 use Rattle.std.specs.declared.alloc.Global.{Global}
 use Rattle.std.specs.declared.vec.Vec.{Vec}
@@ -110,11 +110,11 @@ pub heads_began : (setup : Setup) (s : State) (tables : List Table) (heads : Lis
 heads_began setup s tables heads are e =
     pairs_all (λ n table head. head ≡ length (s.history n)) setup.tables heads (pairs_length (TableIs setup s) 0 setup.tables tables are ∙ sym (ap length e ∙ length-map tables (λ (table : Table). length table.entries.items)))
     (λ j seen head es eh.
-      let t = other_here (TableIs setup s) setup.tables tables are j seen es in
-      let is : slice_get (map (λ (table : Table). length table.entries.items) tables) j ≡ Some (length t.0.entries.items) =
-              slice_get-map (λ (table : Table). length table.entries.items) tables j ∙ ap (option_map (λ (table : Table). length table.entries.items)) t.1 in
-      same_Some head (length t.0.entries.items) (sym eh ∙ ap (λ l. slice_get l j) e ∙ is)
-      ∙ sym (length-map t.0.entries.items change_of) ∙ ap length t.2.entries ∙ length-reverse (s.history j))
+    let t = other_here (TableIs setup s) setup.tables tables are j seen es in
+    let is : slice_get (map (λ (table : Table). length table.entries.items) tables) j ≡ Some (length t.0.entries.items) =
+    slice_get-map (λ (table : Table). length table.entries.items) tables j ∙ ap (option_map (λ (table : Table). length table.entries.items)) t.1 in
+    same_Some head (length t.0.entries.items) (sym eh ∙ ap (λ l. slice_get l j) e ∙ is)
+    ∙ sym (length-map t.0.entries.items change_of) ∙ ap length t.2.entries ∙ length-reverse (s.history j))
 
 module _ {J : Type 0} (verdict : J → Net → Route → Verdict) where
   pub logged_began : (setup : Setup) (s : State) (channels : List (Channel J)) (logged : List ℕ) → Pairs (ChannelIs verdict setup s) 0 setup.protocols channels → Pairs (TellsLogged verdict) 0 channels logged

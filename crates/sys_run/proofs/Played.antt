@@ -1,10 +1,10 @@
 -- One more phase behind those that were played.
-use Rattle.std.proofs.Common.{◌≡◌, ℕ, zero, suc, ◌+◌, List, [], ◌∷◌, ◌++◌, length, Result, Ok, Err, refl, sym, ap, subst, ◌∙◌, arith}
+use Rattle.std.proofs.Common.{◌≡◌, ℕ, suc, ◌+◌, List, [], ◌∷◌, ◌++◌, length, Result, Ok, Err, refl, sym, ap, subst, ◌∙◌, arith}
 use Rattle.std.specs.Prelude.{IfOk}
 use Rattle.bits_ip.specs.Prefix.{Net}
 use Rattle.attrs.specs.declared.judge.Verdict.{Verdict}
 use Rattle.attrs.specs.declared.route.Route.{Route}
-use Rattle.core_machine.specs.Legal.{Joined, Printed, join, nothing}
+use Rattle.core_machine.specs.Legal.{Joined, Printed, join}
 use Rattle.core_machine.specs.Lines.{Act, Line}
 use Rattle.core_machine.specs.Machine.{Begins, IsPhase, Plays, State, start, synced}
 use Rattle.core_machine.specs.Phases.{PlaysAll, Prints}
@@ -63,13 +63,12 @@ reports_more setup actors rules first s t n [] (q ∷ printed) reports p r bad a
 reports_more setup actors rules first s t n (l ∷ scripts) [] reports p r bad are is = absurd bad
 reports_more setup actors rules first s t n (l ∷ scripts) (q ∷ printed) [] p r plays are is = absurd are
 reports_more setup actors rules first s t n (l ∷ scripts) (q ∷ printed) (y ∷ reports) p r plays are is =
-    let joined = join_is rules s plays.0 q plays.2 in
-    (
+    let joined = join_is rules s plays.0 q plays.2 in (
       are.0,
       subst (λ (past : Joined). AreReports setup actors (n + 1) past (printed ++ p ∷ []) (reports ++ r ∷ [])) (sym joined)
-      (reports_more setup actors rules [] plays.0 t (n + 1) scripts printed reports p r plays.3
-        (subst (λ (past : Joined). AreReports setup actors (n + 1) past printed reports) joined are.1)
-        (subst (λ m. IsReport setup actors m (joined_of t) p r) (let z : n + suc (length scripts) ≡ n + 1 + length scripts = omega arith in z) is)),
+          (reports_more setup actors rules [] plays.0 t (n + 1) scripts printed reports p r plays.3
+          (subst (λ (past : Joined). AreReports setup actors (n + 1) past printed reports) joined are.1)
+          (subst (λ m. IsReport setup actors m (joined_of t) p r) (let z : n + suc (length scripts) ≡ n + 1 + length scripts = omega arith in z) is)),
     )
 
 pub plays_all : (rules : Rules) (first : List Act) (s t : State) (scripts : List (List Line)) (printed : List Printed) → PlaysTo rules first s scripts printed t → PlaysAll rules first s scripts printed

@@ -1,5 +1,5 @@
 -- A channel and its table as code reads them by their numbers.
-use Rattle.std.proofs.Common.{◌≡◌, ℕ, ◌<◌, ◌≤◌, length, get_or, refl, sym, ap, subst, ◌∙◌, Some, arith}
+use Rattle.std.proofs.Common.{◌≡◌, ℕ, ◌<◌, length, get_or, sym, ap, ◌∙◌, Some}
 use Rattle.std.specs.Prelude.{slice_get}
 use Rattle.bits_ip.specs.Prefix.{Net}
 use Rattle.attrs.specs.declared.judge.Verdict.{Verdict}
@@ -33,7 +33,7 @@ module _ {J : Type 0} (verdict : J → Net → Route → Verdict) where
       let h = item_read r.channels.items i held w eh in
       let same : first ≡ held = get_one r.channels.items i first held f h in
       let t : slice_get r.tables.items held.table ≡ Some table =
-              ap (λ (c : Channel J). slice_get r.tables.items c.table) (sym same) ∙ item_read r.tables.items first.table table (table_there verdict setup s r are i first f) et in
+      ap (λ (c : Channel J). slice_get r.tables.items c.table) (sym same) ∙ item_read r.tables.items first.table table (table_there verdict setup s r are i first f) et in
       record { there = h; same = same; read = read_of verdict setup s r are i held table h t }
 
   pub reads : (setup : Setup) (s : State) (i : ℕ) (held : Channel J) (table : Table) → IsRead verdict setup s i held table → Reads verdict held table

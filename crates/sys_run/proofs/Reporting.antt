@@ -11,51 +11,44 @@ use Rattle.attrs.specs.declared.attributes.Attrs.{Attrs}
 use Rattle.attrs.specs.declared.judge.Verdict.{Verdict}
 use Rattle.attrs.specs.declared.route.Change.{Change}
 use Rattle.attrs.specs.declared.route.Route.{Route}
-use Rattle.attrs.specs.declared.route.Row.{Row}
 use Rattle.attrs.specs.Table.{Shows}
 use Rattle.export_core.specs.declared.log.Key.{Key}
 use Rattle.export_core.specs.declared.log.LogItem.{LogItem}
-use Rattle.export_core.specs.Histories.{change_of}
 use Rattle.export_core.specs.Logs.{account, value_of}
 use Rattle.export_core.specs.Sends.{keyed}
-use Rattle.import_core.specs.declared.operation.Op.{Op}
 use Rattle.import_core.specs.declared.step.Done.{Done}
 use Rattle.core_machine.specs.Channels as machine
 use Rattle.core_machine.specs.Channels.{is_open}
 use Rattle.core_machine.specs.Histories.{content_of, front}
-use Rattle.core_machine.specs.Legal.{Joined, Printed, join}
+use Rattle.core_machine.specs.Legal.{Printed, join}
 use Rattle.core_machine.specs.Lines.{Reply}
 use Rattle.core_machine.specs.Machine.{State}
 use Rattle.core_machine.specs.Phases.{Prints}
 use Rattle.core_machine.specs.Replies.{replies_to}
 use Rattle.core_setup.specs.Pairs.{Pairs}
-use Rattle.core_setup.specs.Protocols.{mode_at, accepted_at, protocol_at, rules_of}
-use Rattle.core_setup.specs.Reports.{AreStanding, IsExportReport, IsReplyReport, IsReport, IsStandingReport, IsTableReport, channel_report, channels, channels_from, dones, journal_report, name_in, protocol_names, protocol_report, replies_from, standing_of, table_name, with_channel}
+use Rattle.core_setup.specs.Protocols.{mode_at, accepted_at, rules_of}
+use Rattle.core_setup.specs.Reports.{IsExportReport, IsReplyReport, IsStandingReport, IsTableReport, channel_report, channels, channels_from, dones, journal_report, name_in, protocol_names, protocol_report, replies_from, standing_of, table_name, with_channel}
 use Rattle.core_setup.specs.Setup.{Exports, Protocol, Setup}
-use Rattle.core_setup.proofs.PairLemmas.{get_here, get_one, get_within, one_here, other_here, pairs_all, pairs_append, pairs_at, pairs_from, pairs_here, pairs_length, pairs_mapped, pairs_through, weaker_here}
+use Rattle.core_setup.proofs.PairLemmas.{other_here, pairs_all, pairs_append, pairs_here, pairs_mapped, pairs_through}
 use Rattle.show_route.specs.Reply.{reply_text}
 use Rattle.report.specs.declared.phase.ChannelReport.{ChannelReport}
 use Rattle.report.specs.declared.phase.ExportReport.{ExportReport}
 use Rattle.report.specs.declared.phase.JournalReport.{JournalReport}
 use Rattle.report.specs.declared.phase.ModeReport.{ModeReport}
-use Rattle.report.specs.declared.phase.PhaseReport.{PhaseReport}
 use Rattle.report.specs.declared.phase.ProtocolReport.{ProtocolReport}
 use Rattle.report.specs.declared.phase.ReplyReport.{ReplyReport}
 use Rattle.report.specs.declared.phase.Standing.{Standing}
 use Rattle.report.specs.declared.phase.TableReport.{TableReport}
-use Rattle.sys_run.specs.Channels.{AreValues, TellsStanding}
+use Rattle.sys_run.specs.Channels.{TellsStanding}
 use Rattle.sys_run.specs.Cores.{IsAnswered, IsCore, IsImporting}
 use Rattle.sys_run.specs.Phase.{BeganAt, IsEmptied, IsExportOf, IsJournalOf, IsLogOf, IsModeOf, IsOperationsOf, IsTableOf, joined_of, name_at, name_of, reply_of, standing_in, told}
 use Rattle.sys_run.specs.Playing.{silent}
-use Rattle.sys_run.specs.Routes.{AreRoutes}
-use Rattle.sys_run.specs.Tables.{IsTable}
 use Rattle.sys_run.specs.declared.channel.Channel.{Channel}
 use Rattle.sys_run.specs.declared.player.Answered.{Answered}
 use Rattle.sys_run.specs.declared.player.Core.{Core}
 use Rattle.sys_run.specs.declared.imports.Imports.{Imports}
 use Rattle.sys_run.specs.declared.parts.TableParts.{TableParts}
 use Rattle.sys_run.specs.declared.phase.Begun.{Begun}
-use Rattle.sys_run.specs.declared.table.Table.{Table}
 use Rattle.sys_run.proofs.Routing.{ChannelIs, TableIs, are_same}
 
 drop_first : {A : Type 0} (xs ys : List A) → drop (length xs) (xs ++ ys) ≡ ys
@@ -144,7 +137,7 @@ module _ {J : Type 0} (verdict : J → Net → Route → Verdict) (setup : Setup
       pairs_through (λ i q held. IsImporting verdict setup i q (b.ops i) (s.ops i) held) (IsOperationsOf core.names.items) (λ i q r. r ≡ protocol_report (rules_of setup) (joined_of b) printed i q)
       setup.protocols core.imports.items reports
       (λ j q held r eq _ _ is of. same r q.name (reverse (dones (rules_of setup) j (b.ops j) (printed.ops j))) (named j q r.name eq of.name)
-        (of.ops ∙ is.done ∙ ap (λ ops. reverse (dones (rules_of setup) j (b.ops j) ops)) (new_ops j q held is)))
+      (of.ops ∙ is.done ∙ ap (λ ops. reverse (dones (rules_of setup) j (b.ops j) ops)) (new_ops j q held is)))
       are.imports told_of
     where
       same : (r : ProtocolReport) (name : List ℕ) (ops : List Done) → r.name ≡ name → r.ops ≡ ops → r ≡ record { name = name; ops = ops }
@@ -156,10 +149,10 @@ module _ {J : Type 0} (verdict : J → Net → Route → Verdict) (setup : Setup
       pairs_through (TableIs setup s) (IsJournalOf core.tables.items begun.heads.items) (λ n table r. r ≡ journal_report (joined_of b) printed n table)
       setup.tables core.routes.tables.items reports
       (λ j seen table r es _ _ is of.
-        let head = other_here (λ n seen head. head ≡ length (b.history n)) setup.tables begun.heads.items at.heads j seen es in
-        let start : r.from ≡ length (b.history j) = same_Some r.from head.0 (sym of.from ∙ head.1) ∙ head.2 in
-        same r seen.0 (length (b.history j)) (reverse (printed.entries j)) (table_named j seen r.table es of.name) start
-        (of.entries ∙ ap (drop r.from) is.entries ∙ behind r.from (s.history j) (printed.entries j) (b.history j) (are.histories j).1 start))
+      let head = other_here (λ n seen head. head ≡ length (b.history n)) setup.tables begun.heads.items at.heads j seen es in
+      let start : r.from ≡ length (b.history j) = same_Some r.from head.0 (sym of.from ∙ head.1) ∙ head.2 in
+      same r seen.0 (length (b.history j)) (reverse (printed.entries j)) (table_named j seen r.table es of.name) start
+      (of.entries ∙ ap (drop r.from) is.entries ∙ behind r.from (s.history j) (printed.entries j) (b.history j) (are.histories j).1 start))
       are.routes.tables told_of
     where
       same : (r : JournalReport) (table : List ℕ) (start : ℕ) (entries : List Change) → r.table ≡ table → r.from ≡ start → r.entries ≡ entries → r ≡ record { table = table; from = start; entries = entries }
@@ -184,14 +177,14 @@ module _ {J : Type 0} (verdict : J → Net → Route → Verdict) (setup : Setup
       pairs_through (λ j (channel : ℕ × List ℕ) number. number ≡ channel.0) (λ n number r. IsLogOf verdict core.names.items core.routes.channels.items begun.logged.items number r)
       (λ n channel r. r ≡ channel_report printed channel) (channels setup) core.channels.items reports
       (λ j channel number r ec _ _ en of.
-        let q = channel_named setup j channel ec in
-        let there : slice_get setup.protocols number ≡ Some q.0 = ap (slice_get setup.protocols) en ∙ q.1 in
-        let began = other_here (λ i p len. len ≡ length (b.channels i).log) setup.protocols begun.logged.items at.logged number q.0 there in
-        let start : of.from ≡ length (b.channels number).log = same_Some of.from began.0 (sym of.begun ∙ began.1) ∙ began.2 in
-        let held = channel_at number q.0 of.held there of.channel in
-        let items : r.items ≡ reverse (printed.items number) =
-                of.items (rules_of setup) number _ _ (s.channels number) held ∙ behind of.from (s.channels number).log (printed.items number) (b.channels number).log (are.logs number).1 start in
-        same r channel.1 (reverse (printed.items channel.0)) (named number q.0 r.name there of.name ∙ sym q.2) of.pipe (items ∙ ap (λ k. reverse (printed.items k)) en))
+      let q = channel_named setup j channel ec in
+      let there : slice_get setup.protocols number ≡ Some q.0 = ap (slice_get setup.protocols) en ∙ q.1 in
+      let began = other_here (λ i p len. len ≡ length (b.channels i).log) setup.protocols begun.logged.items at.logged number q.0 there in
+      let start : of.from ≡ length (b.channels number).log = same_Some of.from began.0 (sym of.begun ∙ began.1) ∙ began.2 in
+      let held = channel_at number q.0 of.held there of.channel in
+      let items : r.items ≡ reverse (printed.items number) =
+      of.items (rules_of setup) number _ _ (s.channels number) held ∙ behind of.from (s.channels number).log (printed.items number) (b.channels number).log (are.logs number).1 start in
+      same r channel.1 (reverse (printed.items channel.0)) (named number q.0 r.name there of.name ∙ sym q.2) of.pipe (items ∙ ap (λ k. reverse (printed.items k)) en))
       numbers told_of
     where
       same : (r : ChannelReport) (name : List ℕ) (items : List LogItem) → r.name ≡ name → r.pipe ≡ false → r.items ≡ items → r ≡ record { name = name; pipe = false; items = items }
@@ -256,15 +249,15 @@ module _ {J : Type 0} (verdict : J → Net → Route → Verdict) (setup : Setup
       pairs_through (λ j (channel : ℕ × List ℕ) number. number ≡ channel.0) (λ n number r. IsExportOf verdict core.names.items core.routes.channels.items number r)
       (λ n channel r. IsExportReport printed channel r) (channels setup) core.channels.items reports
       (λ j channel number r ec _ _ en of.
-        let q = channel_named setup j channel ec in
-        let there : slice_get setup.protocols number ≡ Some q.0 = ap (slice_get setup.protocols) en ∙ q.1 in
-        let held = channel_at number q.0 of.held there of.channel in
-        record {
-          name = named number q.0 r.name there of.name ∙ sym q.2;
-          pipe = of.pipe;
-          standing = subst (λ k. IsStandingReport (is_open (s.channels k)) (λ net. value_of (account net (s.channels k).log)) r.standing) en
-              (standing_is (s.channels number) (is_open (s.channels number)) of.values r.standing refl (of.told (rules_of setup) number _ _ (s.channels number) held) of.standing);
-        })
+      let q = channel_named setup j channel ec in
+      let there : slice_get setup.protocols number ≡ Some q.0 = ap (slice_get setup.protocols) en ∙ q.1 in
+      let held = channel_at number q.0 of.held there of.channel in
+      record {
+        name = named number q.0 r.name there of.name ∙ sym q.2;
+        pipe = of.pipe;
+        standing = subst (λ k. IsStandingReport (is_open (s.channels k)) (λ net. value_of (account net (s.channels k).log)) r.standing) en
+            (standing_is (s.channels number) (is_open (s.channels number)) of.values r.standing refl (of.told (rules_of setup) number _ _ (s.channels number) held) of.standing);
+      })
       numbers told_of
 
   -- ---- replies
@@ -298,19 +291,19 @@ module _ {J : Type 0} (verdict : J → Net → Route → Verdict) (setup : Setup
       let here : n + 0 ≡ n = omega arith in
       pairs_append (λ reply r. IsReplyReport setup (join (joined_of b) printed) reply r) 0 0 0 _ _ _ _
       (pairs_mapped (λ answered reply. IsAnswered setup s answered reply) (λ reply r. IsReplyReport setup (join (joined_of b) printed) reply r)
-        (reply_of (slice_get core.tables.items 0) name) (λ r. (name, r)) 0 0 held.items (reverse (replies_to n s.replies)) (λ answered reply is. reply_is name answered reply is)
-        (subst (λ m. Pairs (λ _ answered reply. IsAnswered setup s answered reply) 0 held.items (reverse (replies_to m s.replies))) here (each 0 held refl)))
+      (reply_of (slice_get core.tables.items 0) name) (λ r. (name, r)) 0 0 held.items (reverse (replies_to n s.replies)) (λ answered reply is. reply_is name answered reply is)
+      (subst (λ m. Pairs (λ _ answered reply. IsAnswered setup s answered reply) 0 held.items (reverse (replies_to m s.replies))) here (each 0 held refl)))
       (replies_are (n + 1) actors more (omega (arith, e)) (λ k x ex.
-        let further : n + suc k ≡ n + 1 + k = omega arith in
-        subst (λ m. Pairs (λ _ answered reply. IsAnswered setup s answered reply) 0 x.items (reverse (replies_to m s.replies))) further (each (suc k) x ex)))
+      let further : n + suc k ≡ n + 1 + k = omega arith in
+      subst (λ m. Pairs (λ _ answered reply. IsAnswered setup s answered reply) 0 x.items (reverse (replies_to m s.replies))) further (each (suc k) x ex)))
 
   pub replies_reported : (actors : List (List ℕ)) (reports : List ReplyReport) → length core.replies.items ≡ length actors → reports ≡ told (slice_get core.tables.items 0) actors core.replies.items
       → Pairs (λ n reply r. IsReplyReport setup (join (joined_of b) printed) reply r) 0 (replies_from 0 actors printed.replies) reports
   replies_reported actors reports e told_of =
       subst (λ (rs : List ReplyReport). Pairs (λ n reply r. IsReplyReport setup (join (joined_of b) printed) reply r) 0 (replies_from 0 actors printed.replies) rs) (sym told_of)
       (replies_are 0 actors core.replies.items e (λ k held ek.
-        let at : k ≡ 0 + k = omega arith in
-        subst (λ m. Pairs (λ _ answered reply. IsAnswered setup s answered reply) 0 held.items (reverse (replies_to m s.replies))) at (are.replies k held ek)))
+      let at : k ≡ 0 + k = omega arith in
+      subst (λ m. Pairs (λ _ answered reply. IsAnswered setup s answered reply) 0 held.items (reverse (replies_to m s.replies))) at (are.replies k held ek)))
 
   -- ---- the core behind the report
 

@@ -1,6 +1,6 @@
 -- All tables and channels beside the machine's state of them: what is read there, and what one
 -- change of a channel or of a table leaves.
-use Rattle.std.proofs.Common.{◌≡◌, ℕ, zero, suc, ◌+◌, ◌<◌, ◌≤◌, Bool, true, false, ◌⊎◌, inl, inr, List, [], ◌∷◌, length, get_or, set, Option, Some, None, refl, sym, ap, subst, ◌∙◌, arith}
+use Rattle.std.proofs.Common.{◌≡◌, ℕ, zero, suc, ◌+◌, ◌<◌, ◌≤◌, ◌⊎◌, inl, inr, List, [], ◌∷◌, length, get_or, set, Option, Some, None, refl, sym, ap, subst, ◌∙◌, arith}
 use Rattle.std.specs.Prelude.{slice_get, option_map}
 use Rattle.std.proofs.lemmas.Option.{slice_get_read}
 use Rattle.bits_ip.specs.Prefix.{Net}
@@ -12,15 +12,14 @@ use Rattle.export_core.specs.States.{State as Exporter}
 use Rattle.core_machine.specs.Channels as machine
 use Rattle.core_machine.specs.Channels.{is_open}
 use Rattle.core_machine.specs.Machine.{State}
-use Rattle.core_machine.specs.Machine as steps
 use Rattle.core_machine.specs.Rules.{Rules}
 use Rattle.core_machine.proofs.Matching.{longer_matches}
 use Rattle.core_machine.proofs.WholeState.{set_here as at_here, set_there as at_there}
 use Rattle.core_setup.specs.Pairs.{Pairs}
 use Rattle.core_setup.specs.Protocols.{rules_of, table_at}
 use Rattle.core_setup.specs.Setup.{AreProtocols, IsProtocol, Protocol, Setup, family_at}
-use Rattle.core_setup.proofs.PairLemmas.{get_here, get_within, get_one, get-set, length-set_at, cases_same, pairs_length, pairs_here, pairs_all, other_here, one_here, weaker_here, set_here}
-use Rattle.sys_run.specs.Channels.{IsChannel, IsExporter, MayExport}
+use Rattle.core_setup.proofs.PairLemmas.{get_within, get_one, cases_same, pairs_length, one_here, weaker_here, set_here}
+use Rattle.sys_run.specs.Channels.{IsChannel, MayExport}
 use Rattle.sys_run.specs.Routes.{AreRoutes, with_change, with_channel}
 use Rattle.sys_run.specs.Tables.{IsTable}
 use Rattle.sys_run.specs.declared.channel.Channel.{Channel}
@@ -114,7 +113,7 @@ module _ {J : Type 0} (verdict : J → Net → Route → Verdict) where
         (λ n seen table _ _ is. subst (λ h. IsTable (rules_of setup) seen.1 h table) (histories n) is) are.tables;
     channels = weaker_here (ChannelIs setup s) (ChannelIs setup t) setup.protocols r.channels.items
         (λ i p held _ _ is. subst (λ h. IsChannel verdict (rules_of setup) i (family_at setup.tables p.table) h held (t.channels i)) (histories p.table)
-          (subst (λ ch. IsChannel verdict (rules_of setup) i (family_at setup.tables p.table) (s.history p.table) held ch) (channels i) is)) are.channels;
+        (subst (λ ch. IsChannel verdict (rules_of setup) i (family_at setup.tables p.table) (s.history p.table) held ch) (channels i) is)) are.channels;
     beyond = λ i w. ap is_open (sym (channels i)) ∙ are.beyond i w;
   }
 
@@ -132,11 +131,11 @@ module _ {J : Type 0} (verdict : J → Net → Route → Verdict) where
     cells = cells ∙ are.cells;
     tables = subst (λ (xs : List Table). Pairs (TableIs setup t) 0 setup.tables xs) (sym tables)
         (weaker_here (TableIs setup s) (TableIs setup t) setup.tables r.tables.items
-          (λ n seen table _ _ is. subst (λ h. IsTable (rules_of setup) seen.1 h table) (histories n) is) are.tables);
+        (λ n seen table _ _ is. subst (λ h. IsTable (rules_of setup) seen.1 h table) (histories n) is) are.tables);
     channels = subst (λ (xs : List (Channel J)). Pairs (ChannelIs setup t) 0 setup.protocols xs) (sym channels)
         (set_here (ChannelIs setup s) (ChannelIs setup t) setup.protocols r.channels.items i after
-          (λ j p old apart _ _ is. moved j p old (t.channels j) (subst (λ ch. IsChannel verdict (rules_of setup) j (family_at setup.tables p.table) (s.history p.table) old ch) (others j apart) is))
-          (λ p old ep eo is. moved i p after (t.channels i) (here p (table_is p old ep eo is))) are.channels);
+        (λ j p old apart _ _ is. moved j p old (t.channels j) (subst (λ ch. IsChannel verdict (rules_of setup) j (family_at setup.tables p.table) (s.history p.table) old ch) (others j apart) is))
+        (λ p old ep eo is. moved i p after (t.channels i) (here p (table_is p old ep eo is))) are.channels);
     beyond = λ j w. ap is_open (sym (others j (far j w))) ∙ are.beyond j w;
   } where
     moved : (j : ℕ) (p : Protocol) (c : Channel J) (ch : machine.Channel) → IsChannel verdict (rules_of setup) j (family_at setup.tables p.table) (s.history p.table) c ch
@@ -189,12 +188,12 @@ module _ {J : Type 0} (verdict : J → Net → Route → Verdict) where
     cells = cells ∙ are.cells;
     tables = subst (λ (xs : List Table). Pairs (TableIs setup t) 0 setup.tables xs) (sym tables)
         (set_here (TableIs setup s) (TableIs setup t) setup.tables r.tables.items n after
-          (λ j seen old apart _ _ is. subst (λ h. IsTable (rules_of setup) seen.1 h old) (sym (there j (λ same. apart (sym same)))) is)
-          (λ seen old _ eo is. subst (λ h. IsTable (rules_of setup) seen.1 h after) (sym here)
-            (step seen.1 (subst (IsTable (rules_of setup) seen.1 (s.history n)) (get_one r.tables.items n old held eo e) is))) are.tables);
+        (λ j seen old apart _ _ is. subst (λ h. IsTable (rules_of setup) seen.1 h old) (sym (there j (λ same. apart (sym same)))) is)
+        (λ seen old _ eo is. subst (λ h. IsTable (rules_of setup) seen.1 h after) (sym here)
+        (step seen.1 (subst (IsTable (rules_of setup) seen.1 (s.history n)) (get_one r.tables.items n old held eo e) is))) are.tables);
     channels = subst (λ (xs : List (Channel J)). Pairs (ChannelIs setup t) 0 setup.protocols xs) (sym channels)
         (weaker_here (ChannelIs setup s) (ChannelIs setup t) setup.protocols r.channels.items
-          (λ i p old _ _ is. longer i p old is (cases_same p.table n)) are.channels);
+        (λ i p old _ _ is. longer i p old is (cases_same p.table n)) are.channels);
     beyond = are.beyond;
   } where
     t : State
@@ -209,7 +208,7 @@ module _ {J : Type 0} (verdict : J → Net → Route → Verdict) where
     longer : (i : ℕ) (p : Protocol) (old : Channel J) → ChannelIs setup s i p old → ((p.table ≡ n) ⊎ (p.table ≡ n → ⊥)) → ChannelIs setup t i p old
     longer i p old is (inl same) =
         let more : IsChannel verdict (rules_of setup) i (family_at setup.tables p.table) (c ∷ s.history p.table) old (s.channels i) =
-                longer_channel verdict (rules_of setup) i (family_at setup.tables p.table) (s.history p.table) c old (s.channels i) is in
+        longer_channel verdict (rules_of setup) i (family_at setup.tables p.table) (s.history p.table) c old (s.channels i) is in
         let grown : c ∷ s.history p.table ≡ t.history p.table = ap (λ m. c ∷ s.history m) same ∙ sym here ∙ ap t.history (sym same) in
         subst (λ h. IsChannel verdict (rules_of setup) i (family_at setup.tables p.table) h old (s.channels i)) grown more
     longer i p old is (inr apart) =

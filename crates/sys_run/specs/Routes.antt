@@ -38,8 +38,8 @@ module _ {J : Type 0} (verdict : J → Net → Route → Verdict) where
         0 setup.tables routes.tables.items
     pub channels :
         Pairs (λ i p held.
-          IsChannel verdict (rules_of setup) i (family_at setup.tables p.table)
-          (s.history p.table) held (s.channels i))
+        IsChannel verdict (rules_of setup) i (family_at setup.tables p.table)
+        (s.history p.table) held (s.channels i))
         0 setup.protocols routes.channels.items
     pub beyond : (i : ℕ) → length setup.protocols ≤ i → is_open (s.channels i) ≡ false
 

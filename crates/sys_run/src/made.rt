@@ -84,11 +84,7 @@ impl<J: Judge + Drop> Made<J> {
 }
 
 /// Appends a number, where it is one of a channel.
-fn add_number(
-    numbers: &mut Vec<usize>,
-    number: usize,
-    is_channel: bool,
-) -> Result<(), OutOfMemory>
+fn add_number(numbers: &mut Vec<usize>, number: usize, is_channel: bool) -> Result<(), OutOfMemory>
     ensures { OnOk result
         (numbers.new.items ≡ numbers.old.items ++ (if is_channel then number ∷ [] else [])) }
 {
@@ -98,10 +94,7 @@ fn add_number(
     Ok(())
 }
 
-fn make_exporter<J: Judge>(
-    alloc: Global,
-    exports: Option<ExportParts<J>>,
-) -> Option<Exporter<J>>
+fn make_exporter<J: Judge>(alloc: Global, exports: Option<ExportParts<J>>) -> Option<Exporter<J>>
     ensures { result ≡ option_map new_exporter exports }
 {
     match exports {

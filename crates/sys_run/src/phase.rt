@@ -18,9 +18,9 @@ ghost use Rattle.sys_run.specs.Phase.{BeganAt, IsEmptied, IsExportOf, IsJournalO
 ghost use Rattle.sys_run.specs.Playing.{silent};
 
 use crate::channel::Channel;
-use crate::player::{Answered, Core};
 use crate::imports::Imports;
 use crate::parts::TableParts;
+use crate::player::{Answered, Core};
 use crate::table::Table;
 use attrs::{Attrs, Change, JEntry, Judge, Route, Seq};
 use bits_ip::OutOfMemory;
@@ -495,10 +495,7 @@ fn all_standing(
     }
 }
 
-fn standing_of(
-    alloc: Global,
-    values: Vec<(Key, Attrs)>,
-) -> Result<Seq<Standing>, OutOfMemory>
+fn standing_of(alloc: Global, values: Vec<(Key, Attrs)>) -> Result<Seq<Standing>, OutOfMemory>
     ensures { IfOk result (λ standing. standing ≡ map standing_in values.items) }
 {
     let mut standing = Seq::new(alloc);

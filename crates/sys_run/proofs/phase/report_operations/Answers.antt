@@ -1,4 +1,4 @@
-use Rattle.std.proofs.Common.{◌≡◌, ◌<◌, ◌≤◌, ℕ, List, [], length, refl, sym, ap, subst, ◌∙◌, arith}
+use Rattle.std.proofs.Common.{◌≡◌, ◌<◌, ◌≤◌, List, [], length, refl, sym, ap, subst, ◌∙◌, arith}
 use Rattle.std.specs.declared.alloc.Global.{Global}
 use Rattle.std.specs.declared.vec.Vec.{Vec}
 use Rattle.import_core.specs.declared.step.Done.{Done}
@@ -24,10 +24,9 @@ loop-number-preserved g c =
     let w : k < length now = omega (arith, c.args.imports.now.ok.0, pairs_length (IsEmptiedTo k) 0 old now is) in
     let eh = item_read now k held w c.index_mut.ensures.value in
     let first = one_here (IsEmptiedTo k) old now is k held eh in
-    let none : c.replace-done.new.dest.items ≡ [] = ap (λ (v : Vec Done Global). v.items) c.replace-done.ensures.after ∙ c.new.ensures.items in
-    (
+    let none : c.replace-done.new.dest.items ≡ [] = ap (λ (v : Vec Done Global). v.items) c.replace-done.ensures.after ∙ c.new.ensures.items in (
       pairs_turn (IsOperationsOf c.args.names.now) old c.loop-number.reports c.push.new.self k first.0 (record { name = c.in_ok-name.name; ops = c.from_vec-ops.result }) first.1 c.in_ok-push.ensures.pushed c.loop-number.invariant.0
-        (record { name = c.in_ok-name.ensures; ops = c.from_vec-ops.ensures ∙ ap (λ (v : Vec Done Global). v.items) c.replace-done.ensures.value ∙ first.2.rest (let le : k ≤ k = omega arith in le) }),
+          (record { name = c.in_ok-name.ensures; ops = c.from_vec-ops.ensures ∙ ap (λ (v : Vec Done Global). v.items) c.replace-done.ensures.value ∙ first.2.rest (let le : k ≤ k = omega arith in le) }),
       emptied_more k old now held _ eh refl refl none is,
     )
 

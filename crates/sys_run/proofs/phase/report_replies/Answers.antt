@@ -24,12 +24,11 @@ loop-answered-preserved c =
     let actor = c.in-Some-get.actor.now in
     let at : c.loop-answered.number ≡ length held = c.loop-answered.invariant.0 in
     let there : slice_get actors (length held) ≡ Some actor =
-            ap (slice_get actors) (sym at) ∙ slice_get_read actors (length actors) c.loop-answered.number actor refl c.in-Some-get.ensures.lookup.3.0 c.in-Some-get.ensures.lookup.1 in
-    let next : c.in-Some-checked_add.next ≡ c.loop-answered.number + 1 = c.in-Some-checked_add.ensures.1 in
-    (
+    ap (slice_get actors) (sym at) ∙ slice_get_read actors (length actors) c.loop-answered.number actor refl c.in-Some-get.ensures.lookup.3.0 c.in-Some-get.ensures.lookup.1 in
+    let next : c.in-Some-checked_add.next ≡ c.loop-answered.number + 1 = c.in-Some-checked_add.ensures.1 in (
       omega (arith, at, next, length-append held (last ∷ [])),
       c.in_ok-tell.ensures ∙ ap (λ (l : List ReplyReport). l ++ map (reply_of table c.as_slice.result.now) last.items) c.loop-answered.invariant.1
-        ∙ ap (λ (a : List ℕ). told table actors held ++ map (reply_of table a) last.items) c.as_slice.ensures ∙ sym (told_more table actors held last actor there),
+          ∙ ap (λ (a : List ℕ). told table actors held ++ map (reply_of table a) last.items) c.as_slice.ensures ∙ sym (told_more table actors held last actor there),
       append_assoc held (last ∷ []) c.next.new.self.rest.items ∙ ap (λ (l : List (Vec Answered Global)). held ++ l) (sym c.in-Some.ensures.steps.0) ∙ c.loop-answered.invariant.2,
     )
 
@@ -37,5 +36,5 @@ pub returns : goal.returns
 returns c =
     let none : c.loop-answered.answered-iterator.rest.items ≡ [] = search (rules, nil_from_length) in
     let whole : c.loop-answered.yielded ≡ c.args.replies.items =
-            sym (append-nil c.loop-answered.yielded) ∙ ap (λ (l : List (Vec Answered Global)). c.loop-answered.yielded ++ l) (sym none) ∙ c.loop-answered.invariant.2 in
+    sym (append-nil c.loop-answered.yielded) ∙ ap (λ (l : List (Vec Answered Global)). c.loop-answered.yielded ++ l) (sym none) ∙ c.loop-answered.invariant.2 in
     c.loop-answered.invariant.1 ∙ ap (told (slice_get c.args.tables.now 0) c.args.actors.now) whole

@@ -1,4 +1,4 @@
-use Rattle.std.proofs.Common.{◌≡◌, ℕ, List, length, map, Some, refl, sym, ap, subst, ◌∙◌, arith}
+use Rattle.std.proofs.Common.{◌≡◌, ℕ, List, length, map, Some, sym, ap, subst, ◌∙◌, arith}
 use Rattle.std.specs.Prelude.{slice_get}
 use Rattle.std.proofs.lemmas.List.{length-map, length-reverse}
 use denote.Bor.{Bor}
@@ -30,7 +30,7 @@ returns g c = λ setup b s reply are table at query.
     let len : length held.entries.items ≡ length h = sym (length-map held.entries.items change_of) ∙ ap length is.2.entries ∙ length-reverse h in
     let whole : front reply.at h ≡ h = ap (λ n. front n h) at ∙ front_all h in
     let names : map (λ (name : Bor (List ℕ)). name.now) c.deref-4.result.now ≡ protocol_names setup =
-            ap (λ (l : List (Bor (List ℕ))). map (λ (name : Bor (List ℕ)). name.now) l) c.deref-4.ensures.value ∙ c.in_ok-names.ensures ∙ c.deref-3.ensures.value ∙ are.names in
+    ap (λ (l : List (Bor (List ℕ))). map (λ (name : Bor (List ℕ)). name.now) l) c.deref-4.ensures.value ∙ c.in_ok-names.ensures ∙ c.deref-3.ensures.value ∙ are.names in
     record {
       table = table;
       at = c.head.ensures ∙ len ∙ sym at;

@@ -1,7 +1,4 @@
-use Rattle.std.proofs.Common.{◌≡◌, ◌<◌, ℕ, ◌++◌, [], ◌∷◌, List, length, set, refl, sym, ap, ◌∙◌, arith}
-
-use Rattle.import_core.specs.declared.step.Done.{Done}
-use Rattle.core_setup.specs.Protocols.{rules_of}
+use Rattle.std.proofs.Common.{◌≡◌, ◌<◌, ◌++◌, [], ◌∷◌, length, set, refl, ap, ◌∙◌, arith}
 use Rattle.core_setup.proofs.PairLemmas.{get-set, get_one, length-set_at}
 use Rattle.sys_run.specs.declared.imports.Imports.{Imports}
 use Rattle.sys_run.proofs.Acting.{changed, changed_is, done_of, imports_length, mark_fits, operation_done, sources_of}
@@ -47,12 +44,11 @@ obey-requires-clause-holds g c =
     let wi : i < length core.imports.items = omega (arith, core.imports.ok.0) in
     let w : i < length core.routes.channels.items = omega (arith, imports_length v h.0 h.1 h.2 core h.3, wi) in
     let d = done_of v h.0 h.1 h.2 core i c.args.op held c.apply.new.self c.in_ok-step.step h.3 (item_read core.imports.items i held wi c.index_mut.ensures.value) c.in_ok-step.ensures.step in
-    let at = table_of v h.0 h.2 core.routes h.3.routes i c.index.result.now (item_read core.routes.channels.items i c.index.result.now w c.index.ensures) in
-    (
+    let at = table_of v h.0 h.2 core.routes h.3.routes i c.index.result.now (item_read core.routes.channels.items i c.index.result.now w c.index.ensures) in (
       h.0,
       changed v h.0 i c.args.op h.2,
       changed_is v h.0 h.1 h.2 i c.index.result.now.table c.args.op held c.apply.new.self c.in_ok-step.step c.into_vec.result.items c.append_all.new.self d c.into_vec.ensures at
-        (c.in_ok-append_all.ensures h.0 h.2 h.3.routes),
+          (c.in_ok-append_all.ensures h.0 h.2 h.3.routes),
       mark_fits v h.0 h.1 h.2 core i c.args.op held c.apply.new.self c.in_ok-step.step h.3 d,
     )
 
@@ -61,8 +57,13 @@ obey-requires-clause-there g c =
     let v = g.J.Judge.verdict in
     let h = c.requires in
     let core = c.args.self.now in
-    omega (arith, imports_length v h.0 h.1 h.2 core h.3, core.imports.ok.0, channels_length v h.0 h.2 core.routes h.3.routes,
-      channels_length v h.0 _ c.append_all.new.self (c.in_ok-append_all.ensures h.0 h.2 h.3.routes))
+    omega (
+      arith,
+      imports_length v h.0 h.1 h.2 core h.3,
+      core.imports.ok.0,
+      channels_length v h.0 h.2 core.routes h.3.routes,
+      channels_length v h.0 _ c.append_all.new.self (c.in_ok-append_all.ensures h.0 h.2 h.3.routes),
+    )
 
 pub index_mut-requires-2 : goal.index_mut-requires-2
 index_mut-requires-2 g c = omega arith

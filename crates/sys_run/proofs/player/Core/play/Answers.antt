@@ -1,4 +1,4 @@
-use Rattle.std.proofs.Common.{◌≡◌, ◌+◌, ℕ, length, refl, sym, ap, subst, ◌∙◌}
+use Rattle.std.proofs.Common.{◌≡◌, ◌+◌, length, refl, ap, subst, ◌∙◌}
 use Rattle.core_machine.specs.Machine.{synced}
 use Rattle.core_setup.specs.Protocols.{rules_of}
 use Rattle.core_setup.specs.Reports.{IsReport}
@@ -48,7 +48,7 @@ returns g c = ok_both c.finish.result (λ report reported phases setup scripts r
     let ran = c.in_ok-run.ensures.core setup s begun.0 begun.2 in
     let done = c.in_ok-sync.ensures.core setup s ran.0 ran.2 in
     let len : length c.sync.new.self.replies.items ≡ length actors =
-            c.in_ok-sync.ensures.kept.replies ∙ c.in_ok-run.ensures.kept.replies ∙ c.in_ok-begin.ensures.kept.replies ∙ c.in_ok-self.ensures.0 in
+    c.in_ok-sync.ensures.kept.replies ∙ c.in_ok-run.ensures.kept.replies ∙ c.in_ok-begin.ensures.kept.replies ∙ c.in_ok-self.ensures.0 in
     let number : c.sync.new.self.phases ≡ old.phases = c.in_ok-sync.ensures.kept.phases ∙ c.in_ok-run.ensures.kept.phases ∙ c.in_ok-begin.ensures.kept.phases in
     let got = reported setup s (synced (rules_of setup) ran.0) done (c.in_ok-begun.ensures setup s s played.rests.core_is) len in
     played_more v setup actors scripts reports old c.finish.new.self (phase_of setup c.args.lines.items) begun.0 ran.0 got.0 report played begun.1 ran.1 got.1

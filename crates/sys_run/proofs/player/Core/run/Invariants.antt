@@ -11,4 +11,4 @@ invariant-loop-line g l =
     Keeps l.fn.self l.self
     × (l.yielded ++ l.line-iterator.rest.items ≡ l.fn.lines.items)
     × ((setup : Setup) (b s : State) → IsCore g.J.Judge.verdict setup b s l.fn.self
-      → (t : State) × Plays (rules_of setup) (phase_of setup l.yielded) s t × IsCore g.J.Judge.verdict setup b t l.self)
+    → (t : State) × Plays (rules_of setup) (phase_of setup l.yielded) s t × IsCore g.J.Judge.verdict setup b t l.self)

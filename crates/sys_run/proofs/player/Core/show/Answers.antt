@@ -1,4 +1,4 @@
-use Rattle.std.proofs.Common.{◌≡◌, ◌<◌, [], ◌∷◌, length, refl, arith}
+use Rattle.std.proofs.Common.{◌<◌, [], ◌∷◌, length, refl, arith}
 use Rattle.core_machine.specs.Lines.{Reply}
 use Rattle.core_setup.proofs.PairLemmas.{length-set_at}
 use Rattle.sys_run.proofs.Acting.{asked}
@@ -10,12 +10,11 @@ returns-clause-core g c = λ setup b s are.
     let core = c.args.self.now in
     let reply : Reply = record { actor = c.args.actor; table = 0; at = length (s.history 0); query = [] } in
     let held = c.index_mut.result.now in
-    let w : c.args.actor < length core.replies.items = omega (arith, core.replies.ok.0) in
-    (
+    let w : c.args.actor < length core.replies.items = omega (arith, core.replies.ok.0) in (
       record s { replies = reply ∷ s.replies },
       refl,
       asked g.J.Judge.verdict setup b s core _ held c.push.new.self c.in_ok-reply.reply reply are (item_read core.replies.items c.args.actor held w c.index_mut.ensures.value) refl c.in_ok-push.ensures.items
-        (c.in_ok-reply.ensures setup b s reply are refl refl refl),
+          (c.in_ok-reply.ensures setup b s reply are refl refl refl),
     )
 
 pub returns-clause-kept : goal.returns-clause-kept

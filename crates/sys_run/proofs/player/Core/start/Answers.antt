@@ -1,4 +1,4 @@
-use Rattle.std.proofs.Common.{◌≡◌, ℕ, [], length, refl, sym, subst, ◌∙◌, arith}
+use Rattle.std.proofs.Common.{[], refl, subst, ◌∙◌, arith}
 use Rattle.std.proofs.lemmas.List.{take_all}
 use Rattle.core_machine.specs.Machine.{Begins}
 use Rattle.core_setup.specs.Protocols.{rules_of, starts_from}
@@ -28,14 +28,13 @@ loop-number-preserved g c =
     let v = g.J.Judge.verdict in
     let n = c.loop-number.number in
     let kept = c.loop-number.invariant.0 in
-    let more = c.in_ok-start_one.ensures.kept in
-    (
+    let more = c.in_ok-start_one.ensures.kept in (
       record { phases = more.phases ∙ kept.phases; replies = more.replies ∙ kept.replies },
       λ setup b s are.
-        let now = c.loop-number.invariant.1 setup b s are in
-        let p = get_here setup.protocols n (omega (arith, imports_count v setup b s c.args.self.now are, c.args.self.now.imports.ok.0)) in
-        let one = c.in_ok-start_one.ensures.core setup b now.0 p.0 now.2 p.1 in
-        (one.0, begins_more setup n p.0 s now.0 one.0 p.1 now.1 one.1, one.2),
+          let now = c.loop-number.invariant.1 setup b s are in
+          let p = get_here setup.protocols n (omega (arith, imports_count v setup b s c.args.self.now are, c.args.self.now.imports.ok.0)) in
+          let one = c.in_ok-start_one.ensures.core setup b now.0 p.0 now.2 p.1 in
+          (one.0, begins_more setup n p.0 s now.0 one.0 p.1 now.1 one.1, one.2),
     )
 
 pub returns-clause-core : goal.returns-clause-core

@@ -9,5 +9,5 @@ abbrev pub invariant-loop-number : goal.invariant-loop-number
 invariant-loop-number g l =
     Keeps l.fn.self l.self
     × ((setup : Setup) (b s : State) → IsCore g.J.Judge.verdict setup b s l.fn.self
-      → (t : State) × Begins (rules_of setup) (starts_from 0 (take l.number setup.protocols) []) s t
-      × IsCore g.J.Judge.verdict setup b t l.self)
+    → (t : State) × Begins (rules_of setup) (starts_from 0 (take l.number setup.protocols) []) s t
+    × IsCore g.J.Judge.verdict setup b t l.self)

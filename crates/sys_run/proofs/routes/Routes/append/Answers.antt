@@ -1,4 +1,4 @@
-use Rattle.std.proofs.Common.{◌≡◌, ℕ, Some, refl, sym, ap, subst, ◌∙◌, arith}
+use Rattle.std.proofs.Common.{refl, sym, ◌∙◌, arith}
 use Rattle.std.proofs.lemmas.Result.{on_ok_weaker}
 use Rattle.core_setup.specs.Protocols.{rules_of}
 use Rattle.core_setup.proofs.PairLemmas.{one_here}
@@ -24,7 +24,7 @@ append-requires g c =
     let s = with_room h.0 c.args.table h.1 in
     let are = c.in_ok-make_room.ensures h.0 h.1 h.2 in
     let e = item_read r.tables.items c.args.table c.index_mut.result.now
-            (omega (arith, there, tables_length v h.0 h.1 c.args.self.now h.2, tables_length v h.0 s r are)) c.index_mut.ensures.value in
+    (omega (arith, there, tables_length v h.0 h.1 c.args.self.now h.2, tables_length v h.0 s r are)) c.index_mut.ensures.value in
     let is = one_here (TableIs h.0 s) h.0.tables r.tables.items are.tables c.args.table c.index_mut.result.now e in
     is.2.family_is ∙ sym is.2.rib_family
 
@@ -38,6 +38,6 @@ returns g c = on_ok_weaker c.append.result (λ appended setup s are.
     let t = with_room setup c.args.table s in
     let now = c.in_ok-make_room.ensures setup s are in
     let e = item_read r.tables.items c.args.table c.index_mut.result.now
-            (omega (arith, there, tables_length v setup s old are, tables_length v setup t r now)) c.index_mut.ensures.value in
+    (omega (arith, there, tables_length v setup s old are, tables_length v setup t r now)) c.index_mut.ensures.value in
     table_changed v setup t r _ c.args.table c.args.change c.index_mut.result.now c.append.new.self e refl refl refl
     (λ family is. appended (rules_of setup) family (s.history c.args.table) are.rules_are (omega (arith, source, channels_length v setup s old are)) is) now) c.append.ensures

@@ -9,4 +9,4 @@ abbrev pub invariant-loop-change : goal.invariant-loop-change
 invariant-loop-change g l =
     (l.yielded ++ l.change-iterator.rest.items ≡ l.fn.changes.items)
     × ((setup : Setup) (s : State) → AreRoutes g.J.Judge.verdict setup s l.fn.self
-      → AreRoutes g.J.Judge.verdict setup (appended (rules_of setup) l.table (reverse l.yielded) s) l.self)
+    → AreRoutes g.J.Judge.verdict setup (appended (rules_of setup) l.table (reverse l.yielded) s) l.self)

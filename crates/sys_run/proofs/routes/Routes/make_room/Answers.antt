@@ -1,4 +1,4 @@
-use Rattle.std.proofs.Common.{◌≡◌, ◌+◌, length, sym, ◌∙◌, arith}
+use Rattle.std.proofs.Common.{◌+◌, sym, ◌∙◌, arith}
 use Rattle.core_machine.specs.Machine.{State}
 use Rattle.core_setup.specs.Setup.{Setup}
 use Rattle.sys_run.specs.Routes.{AreRoutes}
@@ -14,7 +14,7 @@ loop-number-preserved g c =
     let n = c.loop-number.number in
     let new = c.make_room_of.new.self in
     let more : (setup : Setup) (s : State) → AreRoutes v setup s c.args.self.now → AreRoutes v setup (roomed_to setup t (n + 1) s) new =
-            λ setup s are. room_more v setup t n s new (c.in_ok-make_room_of.ensures setup (roomed_to setup t n s) (c.loop-number.invariant.1 setup s are)) in
+    λ setup s are. room_more v setup t n s new (c.in_ok-make_room_of.ensures setup (roomed_to setup t n s) (c.loop-number.invariant.1 setup s are)) in
     (sym (channels_length v h.0 (roomed_to h.0 t (n + 1) h.1) new (more h.0 h.1 h.2)) ∙ channels_length v h.0 h.1 c.args.self.now h.2, more)
 
 pub returns : goal.returns

@@ -1,4 +1,4 @@
-use Rattle.std.proofs.Common.{◌≡◌, ℕ, Some, refl, sym, ap, subst, ◌∙◌, arith}
+use Rattle.std.proofs.Common.{◌≡◌, Some, refl, sym, ap, subst, ◌∙◌, arith}
 use Rattle.std.proofs.lemmas.Result.{on_ok_weaker}
 use Rattle.core_machine.specs.Room.{in_room, roomed}
 use Rattle.core_setup.specs.Protocols.{rules_of}
@@ -42,7 +42,7 @@ returns g c = on_ok_weaker c.make_room.result (λ made setup s are.
     let at = table_of v setup s r are i held f.there in
     let to : held.table ≡ table = ap (λ x. x.table) (sym f.same) ∙ c.if-read-table.false in
     let room : roomed (rules_of setup) (s.history held.table) (s.channels i) ≡ in_room (rules_of setup) table (s.history table) s.channels i =
-            ap (λ n. roomed (rules_of setup) (s.history n) (s.channels i)) to ∙ sym (room_here (rules_of setup) table (s.history table) s.channels i (sym at ∙ to)) in
+    ap (λ n. roomed (rules_of setup) (s.history n) (s.channels i)) to ∙ sym (room_here (rules_of setup) table (s.history table) s.channels i (sym at ∙ to)) in
     channel_is v setup s r _ i held c.make_room.new.self c.index-2.result.now f.read f.there refl refl refl
     (in_room (rules_of setup) table (s.history table) s.channels i)
     (subst (IsChannel v (rules_of setup) i (Some f.read.family) (s.history held.table) c.make_room.new.self) room is) are) c.make_room.ensures

@@ -1,4 +1,4 @@
-use Rattle.std.proofs.Common.{◌≡◌, ℕ, Some, refl, sym, ap, subst, ◌∙◌, arith}
+use Rattle.std.proofs.Common.{refl, subst, arith}
 use Rattle.std.proofs.lemmas.Result.{on_ok_weaker}
 use Rattle.core_machine.specs.Channels.{Obeys}
 use Rattle.core_setup.specs.Protocols.{rules_of, signal_of}
@@ -26,6 +26,8 @@ returns g c = on_ok_weaker c.obey.result (λ obeyed setup s are fits.
     let held = c.index_mut.result.now in
     let f = found v setup s r i c.index.result.now held c.index-2.result.now are c.requires.there c.index.ensures c.index_mut.ensures.value c.index-2.ensures in
     let got = obeyed (rules_of setup) i f.read.family (s.history held.table) (s.channels i) are.rules_are f.read.is fits f.read.channel in
-    let at = table_of v setup s r are i held f.there in
-    (got.0, subst (λ n. Obeys (signal_of c.args.mark) (rules_of setup) (s.history n) (s.channels i) got.0) at got.1,
-      channel_is v setup s r _ i held c.obey.new.self c.index-2.result.now f.read f.there refl refl refl got.0 got.2 are)) c.obey.ensures
+    let at = table_of v setup s r are i held f.there in (
+      got.0,
+      subst (λ n. Obeys (signal_of c.args.mark) (rules_of setup) (s.history n) (s.channels i) got.0) at got.1,
+      channel_is v setup s r _ i held c.obey.new.self c.index-2.result.now f.read f.there refl refl refl got.0 got.2 are,
+    )) c.obey.ensures

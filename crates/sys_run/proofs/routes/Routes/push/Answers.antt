@@ -1,4 +1,4 @@
-use Rattle.std.proofs.Common.{◌≡◌, ℕ, Some, refl, sym, ap, subst, ◌∙◌, arith}
+use Rattle.std.proofs.Common.{◌≡◌, Some, refl, subst, arith}
 use Rattle.std.proofs.lemmas.Result.{on_ok_weaker}
 use Rattle.core_machine.specs.Channels.{if_open, push_one, times}
 use Rattle.core_setup.specs.Protocols.{rules_of}
@@ -27,4 +27,4 @@ returns g c = on_ok_weaker c.push_many.result (λ pushed setup s are.
     channel_is v setup s r _ i held c.push_many.new.self f.0 f.2 f.1 refl refl refl
     (if_open (times c.args.count (push_one (rules_of setup) i (s.history ((rules_of setup).table i)))) (s.channels i))
     (subst (λ m. IsChannel v (rules_of setup) i (Some f.2.family) (s.history held.table) c.push_many.new.self (if_open (times m (push_one (rules_of setup) i (s.history ((rules_of setup).table i)))) (s.channels i))) count
-      (subst (λ n. IsChannel v (rules_of setup) i (Some f.2.family) (s.history held.table) c.push_many.new.self (if_open (times c.from.result (push_one (rules_of setup) i (s.history n))) (s.channels i))) at is)) are) c.push_many.ensures
+    (subst (λ n. IsChannel v (rules_of setup) i (Some f.2.family) (s.history held.table) c.push_many.new.self (if_open (times c.from.result (push_one (rules_of setup) i (s.history n))) (s.channels i))) at is)) are) c.push_many.ensures

@@ -1,4 +1,4 @@
-use Rattle.std.proofs.Common.{◌≡◌, ◌+◌, length, sym, ◌∙◌, arith}
+use Rattle.std.proofs.Common.{◌+◌, sym, ◌∙◌, arith}
 use Rattle.core_machine.specs.Machine.{State}
 use Rattle.core_setup.specs.Setup.{Setup}
 use Rattle.sys_run.specs.Routes.{AreRoutes}
@@ -12,7 +12,7 @@ loop-number-preserved g c =
     let h = c.requires in
     let n = c.loop-number.number in
     let more : (setup : Setup) (s : State) → AreRoutes v setup s c.args.self.now → AreRoutes v setup (synced_to setup (n + 1) s) c.settle.new.self =
-            λ setup s are. sync_more v setup n s c.settle.new.self (c.in_ok-settle.ensures setup (synced_to setup n s) (c.loop-number.invariant.1 setup s are)) in
+    λ setup s are. sync_more v setup n s c.settle.new.self (c.in_ok-settle.ensures setup (synced_to setup n s) (c.loop-number.invariant.1 setup s are)) in
     (sym (channels_length v h.0 (synced_to h.0 (n + 1) h.1) c.settle.new.self (more h.0 h.1 h.2)) ∙ channels_length v h.0 h.1 c.args.self.now h.2, more)
 
 pub returns : goal.returns

@@ -9,4 +9,4 @@ abbrev pub invariant-loop-number : goal.invariant-loop-number
 invariant-loop-number g l =
     (length l.self.channels.items ≡ length l.fn.self.channels.items)
     × ((setup : Setup) (s : State) → AreRoutes g.J.Judge.verdict setup s l.fn.self
-      → AreRoutes g.J.Judge.verdict setup (synced_to setup l.number s) l.self)
+    → AreRoutes g.J.Judge.verdict setup (synced_to setup l.number s) l.self)

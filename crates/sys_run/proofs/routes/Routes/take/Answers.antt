@@ -1,4 +1,4 @@
-use Rattle.std.proofs.Common.{◌≡◌, ℕ, Some, refl, sym, ap, subst, ◌∙◌, arith}
+use Rattle.std.proofs.Common.{◌≡◌, Some, refl, subst, arith}
 use Rattle.std.proofs.lemmas.Result.{on_ok_weaker}
 use Rattle.core_machine.specs.Channels.{if_open, take_one, times}
 use Rattle.core_setup.specs.Protocols.{rules_of}
@@ -32,4 +32,4 @@ returns g c = on_ok_weaker c.take_many.result (λ taken setup s are.
     channel_is v setup s r _ i held c.take_many.new.self c.index-2.result.now f.read f.there refl refl refl
     (if_open (times c.args.count (take_one (s.history ((rules_of setup).table i)))) (s.channels i))
     (subst (λ m. IsChannel v (rules_of setup) i (Some f.read.family) (s.history held.table) c.take_many.new.self (if_open (times m (take_one (s.history ((rules_of setup).table i)))) (s.channels i))) count
-      (subst (λ n. IsChannel v (rules_of setup) i (Some f.read.family) (s.history held.table) c.take_many.new.self (if_open (times c.from.result (take_one (s.history n))) (s.channels i))) at is)) are) c.take_many.ensures
+    (subst (λ n. IsChannel v (rules_of setup) i (Some f.read.family) (s.history held.table) c.take_many.new.self (if_open (times c.from.result (take_one (s.history n))) (s.channels i))) at is)) are) c.take_many.ensures
