@@ -1,6 +1,6 @@
 -- The core behind an operation, behind a channel's steps, and behind a reply.
-use Rattle.std.proofs.Common.{◌≡◌, ℕ, zero, suc, ◌+◌, ◌<◌, ◌≤◌, Bool, true, false, ◌⊎◌, inl, inr, List, [], ◌∷◌, ◌++◌, length, get_or, set, reverse, Option, Some, None, refl, sym, ap, subst, ◌∙◌, arith, append_assoc}
-use Rattle.std.specs.Prelude.{slice_get, ◌==◌, if◌then◌else◌}
+use Rattle.std.proofs.Common.{◌≡◌, ℕ, zero, suc, ◌+◌, ◌<◌, true, false, ◌⊎◌, inl, inr, List, [], ◌∷◌, ◌++◌, length, get_or, set, reverse, Some, refl, sym, ap, subst, ◌∙◌, arith, append_assoc}
+use Rattle.std.specs.Prelude.{slice_get, ◌==◌}
 use Rattle.std.specs.List.{AllByRecursion}
 use Rattle.std.specs.declared.alloc.Global.{Global}
 use Rattle.std.specs.declared.vec.Vec.{Vec}
@@ -17,7 +17,6 @@ use Rattle.import_core.specs.declared.operation.Op.{Op}
 use Rattle.import_core.specs.declared.step.Done.{Done}
 use Rattle.import_core.specs.declared.step.Step.{Step}
 use Rattle.import_core.specs.Changes.{IsStep}
-use Rattle.import_core.specs.Decisions.{Outcome}
 use Rattle.import_core.specs.Importers.{Importing, IsNext, KeepsSpec}
 use Rattle.import_core.specs.Operations.{done}
 use Rattle.import_core.proofs.Differences.{difference_one}
@@ -45,7 +44,7 @@ use Rattle.sys_run.specs.declared.player.Answered.{Answered}
 use Rattle.sys_run.specs.declared.player.Core.{Core}
 use Rattle.sys_run.specs.declared.imports.Imports.{Imports}
 use Rattle.sys_run.specs.declared.routes.Routes.{Routes}
-use Rattle.sys_run.proofs.Growing.{Grows, appended_grows, appended_history, appended_ops, appended_replies, grows_not, obeys_log, obeys_open}
+use Rattle.sys_run.proofs.Growing.{Grows, appended_grows, appended_history, appended_replies, grows_not, obeys_log, obeys_open}
 use Rattle.sys_run.proofs.Routing.{are_same, channels_length, protocol_is}
 
 pub push_reverse : {A : Type 0} (x : A) (xs : List A) → reverse (x ∷ xs) ≡ reverse xs ++ x ∷ []

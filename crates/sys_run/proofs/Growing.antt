@@ -1,6 +1,6 @@
 -- What steps of the machine leave of channels and histories: logs and histories grow, and but for
 -- signals channels stay up or down.
-use Rattle.std.proofs.Common.{◌≡◌, ℕ, zero, suc, ◌-◌, Bool, true, false, inl, inr, List, [], ◌∷◌, ◌++◌, length, Option, Some, None, refl, sym, ap, subst, ◌∙◌, is_some, append_assoc}
+use Rattle.std.proofs.Common.{◌≡◌, ℕ, zero, suc, ◌-◌, Bool, true, false, inl, inr, List, [], ◌∷◌, ◌++◌, length, Option, Some, None, refl, sym, ap, ◌∙◌, is_some, append_assoc}
 use Rattle.std.specs.Prelude.{◌==◌, if◌then◌else◌}
 use Rattle.attrs.specs.declared.attributes.Attrs.{Attrs}
 use Rattle.attrs.specs.declared.route.Change.{Change}
@@ -8,9 +8,9 @@ use Rattle.export_core.specs.declared.log.LogItem.{LogItem}
 use Rattle.export_core.specs.declared.log.LogItem.TheVariants.{Up, Down, Reload, Sent}
 use Rattle.export_core.specs.Logs.{account, stretch, value_of}
 use Rattle.export_core.specs.Sends.{key_of}
-use Rattle.core_machine.specs.Channels.{Channel, Obeys, closed, fed, if_open, is_open, logged, opened, push_one, pushed, renewed, same_value, send_of, take_one, taken, times, value_at}
+use Rattle.core_machine.specs.Channels.{Channel, Obeys, if_open, is_open, logged, push_one, pushed, same_value, send_of, take_one, taken, times, value_at}
 use Rattle.core_machine.specs.Histories.{entry}
-use Rattle.core_machine.specs.Machine.{State, appended, pushed_out, round, set, taken_up}
+use Rattle.core_machine.specs.Machine.{State, appended, pushed_out, round, taken_up}
 use Rattle.core_machine.specs.Marks.{Marked}
 use Rattle.core_machine.specs.Room.{in_room, lags, roomed}
 use Rattle.core_machine.specs.Rules.{Rules, Signal, Stay, Rise, Fall, Renew, signalled}

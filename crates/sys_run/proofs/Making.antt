@@ -1,5 +1,5 @@
 -- A core that has played nothing.
-use Rattle.std.proofs.Common.{◌≡◌, ℕ, zero, suc, ◌+◌, ◌≤◌, Bool, true, false, List, [], ◌∷◌, ◌++◌, length, map, Option, Some, None, refl, sym, ap, subst, ◌∙◌, is_some, arith, append_assoc}
+use Rattle.std.proofs.Common.{◌≡◌, ℕ, suc, ◌+◌, ◌≤◌, List, [], ◌∷◌, ◌++◌, length, map, Option, Some, None, refl, sym, ap, subst, ◌∙◌, is_some, arith, append_assoc}
 use Rattle.std.specs.Prelude.{slice_get, option_map, if◌then◌else◌}
 use Rattle.std.specs.declared.alloc.Global.{Global}
 use Rattle.std.specs.declared.vec.Vec.{Vec}
@@ -9,18 +9,17 @@ use Rattle.bits_ip.specs.Prefix.{Net}
 use Rattle.bits_ip.specs.declared.address.Family.{Family}
 use Rattle.attrs.specs.declared.judge.Verdict.{Verdict}
 use Rattle.attrs.specs.declared.route.Route.{Route}
-use Rattle.export_core.specs.States.{State as Exporter, value_for}
+use Rattle.export_core.specs.States.{State as Exporter}
 use Rattle.import_core.specs.Importers.{Importing}
 use Rattle.core_machine.specs.Machine.{start}
 use Rattle.core_machine.proofs.Matching.{new_matches}
 use Rattle.core_setup.specs.Pairs.{Pairs}
 use Rattle.core_setup.specs.Protocols.{exports_at, protocol_at, rules_of, sent_by, table_at}
-use Rattle.core_setup.specs.Reports.{channels, channels_from, protocol_names, with_channel}
-use Rattle.core_setup.specs.Setup.{Exports, IsSetup, Protocol, ReadsFamily, Setup, family_at}
-use Rattle.core_setup.proofs.PairLemmas.{get_within, one_here, pairs_all, pairs_length, pairs_push}
+use Rattle.core_setup.specs.Reports.{channels_from, with_channel}
+use Rattle.core_setup.specs.Setup.{IsSetup, Protocol, ReadsFamily, Setup, family_at}
+use Rattle.core_setup.proofs.PairLemmas.{one_here, pairs_all, pairs_length, pairs_push}
 use Rattle.core_setup.proofs.SetupRules.{setup_rules}
-use Rattle.report.specs.declared.phase.PhaseReport.{PhaseReport}
-use Rattle.sys_run.specs.Channels.{IsChannel, MayExport}
+use Rattle.sys_run.specs.Channels.{MayExport}
 use Rattle.sys_run.specs.Cores.{IsCore, IsImporting}
 use Rattle.sys_run.specs.Made.{IsMade, IsMadeChannel, IsMadeImports, IsMadeTable, new_exporter, numbers_from}
 use Rattle.sys_run.specs.Parts.{exports_seen, protocol_seen, setup_seen, table_seen}

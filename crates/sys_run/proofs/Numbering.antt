@@ -1,5 +1,5 @@
 -- The protocol of a channel's number, and a reply's table.
-use Rattle.std.proofs.Common.{◌≡◌, ℕ, zero, suc, ◌+◌, ◌<◌, List, [], ◌∷◌, ◌++◌, length, map, take, reverse, Option, Some, None, refl, sym, ap, subst, ◌∙◌, arith}
+use Rattle.std.proofs.Common.{◌≡◌, ℕ, suc, ◌+◌, ◌<◌, List, [], ◌∷◌, ◌++◌, length, map, take, reverse, Option, Some, None, refl, sym, ap, subst, ◌∙◌, arith}
 use denote.Bor.{Bor}
 use Rattle.std.specs.Prelude.{slice_get, option_map, option_copied}
 use Rattle.std.specs.Slice.{IsItemAt}
@@ -10,18 +10,15 @@ use Rattle.attrs.specs.declared.attributes.Kind.TheVariants.{Static, Bgp}
 use Rattle.import_core.specs.declared.operation.Op.TheVariants.{Start}
 use Rattle.attrs.specs.declared.route.Row.{Row}
 use Rattle.show_route.specs.Reply.{reply_text}
-use Rattle.core_machine.specs.Lines as machine
 use Rattle.core_machine.specs.Lines.{Act}
 use Rattle.core_machine.specs.Machine.{Applies, Begins, Plays, State, Steps}
 use Rattle.core_machine.specs.Rules.{Rules}
-use Rattle.core_setup.specs.Protocols.{rules_of, starts, starts_from, with_start}
+use Rattle.core_setup.specs.Protocols.{rules_of, starts_from, with_start}
 use Rattle.core_setup.specs.Reports.{channels}
 use Rattle.core_setup.specs.Setup.{Protocol, Setup}
 use Rattle.core_setup.proofs.PairLemmas.{get_within, length_front, take_one_more}
 use Rattle.script_lines.specs.declared.script.Line.{Line}
-use Rattle.sys_run.specs.Cores.{IsCore}
 use Rattle.sys_run.specs.Scripts.{line_of, number_of, phase_of, protocol_of_channel}
-use Rattle.sys_run.specs.declared.player.Core.{Core}
 use Rattle.sys_run.proofs.Reporting.{channel_named}
 
 pub number_is : (setup : Setup) (k number : ℕ) → slice_get (map (λ (c : ℕ × List ℕ). c.0) (channels setup)) k ≡ Some number

@@ -1,10 +1,10 @@
 -- One more phase behind those that were played.
-use Rattle.std.proofs.Common.{◌≡◌, ℕ, zero, suc, ◌+◌, List, [], ◌∷◌, ◌++◌, length, Result, Ok, Err, refl, sym, ap, subst, ◌∙◌, arith}
+use Rattle.std.proofs.Common.{◌≡◌, ℕ, suc, ◌+◌, List, [], ◌∷◌, ◌++◌, length, Result, Ok, Err, refl, sym, ap, subst, ◌∙◌, arith}
 use Rattle.std.specs.Prelude.{IfOk}
 use Rattle.bits_ip.specs.Prefix.{Net}
 use Rattle.attrs.specs.declared.judge.Verdict.{Verdict}
 use Rattle.attrs.specs.declared.route.Route.{Route}
-use Rattle.core_machine.specs.Legal.{Joined, Printed, join, nothing}
+use Rattle.core_machine.specs.Legal.{Joined, Printed, join}
 use Rattle.core_machine.specs.Lines.{Act, Line}
 use Rattle.core_machine.specs.Machine.{Begins, IsPhase, Plays, State, start, synced}
 use Rattle.core_machine.specs.Phases.{PlaysAll, Prints}

@@ -11,51 +11,44 @@ use Rattle.attrs.specs.declared.attributes.Attrs.{Attrs}
 use Rattle.attrs.specs.declared.judge.Verdict.{Verdict}
 use Rattle.attrs.specs.declared.route.Change.{Change}
 use Rattle.attrs.specs.declared.route.Route.{Route}
-use Rattle.attrs.specs.declared.route.Row.{Row}
 use Rattle.attrs.specs.Table.{Shows}
 use Rattle.export_core.specs.declared.log.Key.{Key}
 use Rattle.export_core.specs.declared.log.LogItem.{LogItem}
-use Rattle.export_core.specs.Histories.{change_of}
 use Rattle.export_core.specs.Logs.{account, value_of}
 use Rattle.export_core.specs.Sends.{keyed}
-use Rattle.import_core.specs.declared.operation.Op.{Op}
 use Rattle.import_core.specs.declared.step.Done.{Done}
 use Rattle.core_machine.specs.Channels as machine
 use Rattle.core_machine.specs.Channels.{is_open}
 use Rattle.core_machine.specs.Histories.{content_of, front}
-use Rattle.core_machine.specs.Legal.{Joined, Printed, join}
+use Rattle.core_machine.specs.Legal.{Printed, join}
 use Rattle.core_machine.specs.Lines.{Reply}
 use Rattle.core_machine.specs.Machine.{State}
 use Rattle.core_machine.specs.Phases.{Prints}
 use Rattle.core_machine.specs.Replies.{replies_to}
 use Rattle.core_setup.specs.Pairs.{Pairs}
-use Rattle.core_setup.specs.Protocols.{mode_at, accepted_at, protocol_at, rules_of}
-use Rattle.core_setup.specs.Reports.{AreStanding, IsExportReport, IsReplyReport, IsReport, IsStandingReport, IsTableReport, channel_report, channels, channels_from, dones, journal_report, name_in, protocol_names, protocol_report, replies_from, standing_of, table_name, with_channel}
+use Rattle.core_setup.specs.Protocols.{mode_at, accepted_at, rules_of}
+use Rattle.core_setup.specs.Reports.{IsExportReport, IsReplyReport, IsStandingReport, IsTableReport, channel_report, channels, channels_from, dones, journal_report, name_in, protocol_names, protocol_report, replies_from, standing_of, table_name, with_channel}
 use Rattle.core_setup.specs.Setup.{Exports, Protocol, Setup}
-use Rattle.core_setup.proofs.PairLemmas.{get_here, get_one, get_within, one_here, other_here, pairs_all, pairs_append, pairs_at, pairs_from, pairs_here, pairs_length, pairs_mapped, pairs_through, weaker_here}
+use Rattle.core_setup.proofs.PairLemmas.{other_here, pairs_all, pairs_append, pairs_here, pairs_mapped, pairs_through}
 use Rattle.show_route.specs.Reply.{reply_text}
 use Rattle.report.specs.declared.phase.ChannelReport.{ChannelReport}
 use Rattle.report.specs.declared.phase.ExportReport.{ExportReport}
 use Rattle.report.specs.declared.phase.JournalReport.{JournalReport}
 use Rattle.report.specs.declared.phase.ModeReport.{ModeReport}
-use Rattle.report.specs.declared.phase.PhaseReport.{PhaseReport}
 use Rattle.report.specs.declared.phase.ProtocolReport.{ProtocolReport}
 use Rattle.report.specs.declared.phase.ReplyReport.{ReplyReport}
 use Rattle.report.specs.declared.phase.Standing.{Standing}
 use Rattle.report.specs.declared.phase.TableReport.{TableReport}
-use Rattle.sys_run.specs.Channels.{AreValues, TellsStanding}
+use Rattle.sys_run.specs.Channels.{TellsStanding}
 use Rattle.sys_run.specs.Cores.{IsAnswered, IsCore, IsImporting}
 use Rattle.sys_run.specs.Phase.{BeganAt, IsEmptied, IsExportOf, IsJournalOf, IsLogOf, IsModeOf, IsOperationsOf, IsTableOf, joined_of, name_at, name_of, reply_of, standing_in, told}
 use Rattle.sys_run.specs.Playing.{silent}
-use Rattle.sys_run.specs.Routes.{AreRoutes}
-use Rattle.sys_run.specs.Tables.{IsTable}
 use Rattle.sys_run.specs.declared.channel.Channel.{Channel}
 use Rattle.sys_run.specs.declared.player.Answered.{Answered}
 use Rattle.sys_run.specs.declared.player.Core.{Core}
 use Rattle.sys_run.specs.declared.imports.Imports.{Imports}
 use Rattle.sys_run.specs.declared.parts.TableParts.{TableParts}
 use Rattle.sys_run.specs.declared.phase.Begun.{Begun}
-use Rattle.sys_run.specs.declared.table.Table.{Table}
 use Rattle.sys_run.proofs.Routing.{ChannelIs, TableIs, are_same}
 
 drop_first : {A : Type 0} (xs ys : List A) → drop (length xs) (xs ++ ys) ≡ ys

@@ -1,5 +1,5 @@
 -- Room, rounds and many changes: what loops over channels and changes come to.
-use Rattle.std.proofs.Common.{◌≡◌, ℕ, ◌+◌, ◌<◌, ◌≤◌, ◌-◌, Bool, true, false, inl, inr, List, [], ◌∷◌, ◌++◌, length, get_or, refl, sym, ap, subst, ◌∙◌, arith}
+use Rattle.std.proofs.Common.{◌≡◌, ℕ, ◌+◌, ◌<◌, ◌-◌, Bool, true, false, inl, inr, List, [], ◌∷◌, ◌++◌, length, get_or, refl, sym, ap, subst, ◌∙◌, arith}
 use Rattle.std.specs.Prelude.{◌==◌, ◌&&◌, if◌then◌else◌}
 use Rattle.std.specs.List.{All}
 use Rattle.std.proofs.lemmas.List.{length-append}
@@ -11,7 +11,7 @@ use Rattle.attrs.specs.declared.route.Change.{Change}
 use Rattle.attrs.specs.declared.route.Route.{Route}
 use Rattle.core_machine.specs.Channels as machine
 use Rattle.core_machine.specs.Channels.{is_open, take_one}
-use Rattle.core_machine.specs.Machine.{State, pushed_out, round, set, synced, taken_up}
+use Rattle.core_machine.specs.Machine.{State, pushed_out, round, synced, taken_up}
 use Rattle.core_machine.specs.Room.{in_room, lags, roomed}
 use Rattle.core_machine.specs.Rules.{Rules}
 use Rattle.core_machine.proofs.Contents.{if_true, if_false}

@@ -1,6 +1,6 @@
 -- All tables and channels beside the machine's state of them: what is read there, and what one
 -- change of a channel or of a table leaves.
-use Rattle.std.proofs.Common.{◌≡◌, ℕ, zero, suc, ◌+◌, ◌<◌, ◌≤◌, Bool, true, false, ◌⊎◌, inl, inr, List, [], ◌∷◌, length, get_or, set, Option, Some, None, refl, sym, ap, subst, ◌∙◌, arith}
+use Rattle.std.proofs.Common.{◌≡◌, ℕ, zero, suc, ◌+◌, ◌<◌, ◌≤◌, ◌⊎◌, inl, inr, List, [], ◌∷◌, length, get_or, set, Option, Some, None, refl, sym, ap, subst, ◌∙◌, arith}
 use Rattle.std.specs.Prelude.{slice_get, option_map}
 use Rattle.std.proofs.lemmas.Option.{slice_get_read}
 use Rattle.bits_ip.specs.Prefix.{Net}
@@ -12,15 +12,14 @@ use Rattle.export_core.specs.States.{State as Exporter}
 use Rattle.core_machine.specs.Channels as machine
 use Rattle.core_machine.specs.Channels.{is_open}
 use Rattle.core_machine.specs.Machine.{State}
-use Rattle.core_machine.specs.Machine as steps
 use Rattle.core_machine.specs.Rules.{Rules}
 use Rattle.core_machine.proofs.Matching.{longer_matches}
 use Rattle.core_machine.proofs.WholeState.{set_here as at_here, set_there as at_there}
 use Rattle.core_setup.specs.Pairs.{Pairs}
 use Rattle.core_setup.specs.Protocols.{rules_of, table_at}
 use Rattle.core_setup.specs.Setup.{AreProtocols, IsProtocol, Protocol, Setup, family_at}
-use Rattle.core_setup.proofs.PairLemmas.{get_here, get_within, get_one, get-set, length-set_at, cases_same, pairs_length, pairs_here, pairs_all, other_here, one_here, weaker_here, set_here}
-use Rattle.sys_run.specs.Channels.{IsChannel, IsExporter, MayExport}
+use Rattle.core_setup.proofs.PairLemmas.{get_within, get_one, cases_same, pairs_length, one_here, weaker_here, set_here}
+use Rattle.sys_run.specs.Channels.{IsChannel, MayExport}
 use Rattle.sys_run.specs.Routes.{AreRoutes, with_change, with_channel}
 use Rattle.sys_run.specs.Tables.{IsTable}
 use Rattle.sys_run.specs.declared.channel.Channel.{Channel}

@@ -1,5 +1,5 @@
 -- For the contracts of private functions: what is made of the parts of tables and protocols.
-use Rattle.std.specs.Prelude.{◌≡◌, ◌+◌, ◌++◌, ℕ, false, List, [], ◌∷◌, map, Option, None, is_some, option_map, if◌then◌else◌}
+use Rattle.std.specs.Prelude.{◌≡◌, ◌+◌, ◌++◌, ℕ, false, List, [], ◌∷◌, map, None, is_some, option_map, if◌then◌else◌}
 use Rattle.export_core.specs.declared.floors.FeedState.TheVariants.{Done}
 use Rattle.export_core.specs.Calls.{no_marks}
 use Rattle.export_core.specs.States.{State as Exporter}

@@ -1,5 +1,5 @@
 -- What a core is made of, as what is played.
-use Rattle.std.specs.Prelude.{ℕ, List, Option, Some, None, map, option_map}
+use Rattle.std.specs.Prelude.{ℕ, List, map, option_map}
 use Rattle.bits_ip.specs.Prefix.{Net}
 use Rattle.bits_ip.specs.declared.address.Family.{Family}
 use Rattle.attrs.specs.declared.judge.Verdict.{Verdict}

@@ -1,5 +1,6 @@
--- Scripts as the machine reads them: lines with the numbers of protocols, backwards. Modelled: which
--- protocol a channel's number means. Not modelled: texts and names (specs/Script of script_lines).
+-- Scripts as the machine reads them: lines with the numbers of protocols, backwards. Modelled:
+-- which protocol a channel's number means. Not modelled: texts and names (specs/Script of
+-- script_lines).
 use Rattle.std.specs.Prelude.{ℕ, List, [], length, map, reverse, Option, Some, None, slice_get}
 use Rattle.core_machine.specs.Lines as machine
 use Rattle.core_setup.specs.Reports.{channels}

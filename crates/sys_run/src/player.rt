@@ -92,7 +92,8 @@ impl<J: Judge + Drop> Core<J> {
 
 impl<J: Judge> Core<J> {
     /// Plays one more phase: these lines in their order, in the first phase behind the start of
-    /// each static protocol, and then a sync. `actors` are the names of all who speak in the script.
+    /// each static protocol, and then a sync. `actors` are the names of all who speak in the
+    /// script.
     ///
     /// `OutOfMemory` comes where memory is refused. The core is of no use then.
     pub fn play(&mut self, actors: &[Name], lines: Vec<Line>) -> Result<PhaseReport, OutOfMemory>

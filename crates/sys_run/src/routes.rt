@@ -79,7 +79,8 @@ impl<J: Judge> Routes<J> {
     ) -> Result<(), OutOfMemory>
         requires holds { Holds J.verdict self.old }
         requires there { table < length self.old.tables.items }
-        requires sources { All (λ (c : Change). c.num < length self.old.channels.items) changes.items }
+        requires sources { All
+            (λ (c : Change). c.num < length self.old.channels.items) changes.items }
         ensures { OnOk result ((setup : Setup) (s : State)
             → AreRoutes J.verdict setup s self.old
             → AreRoutes J.verdict setup

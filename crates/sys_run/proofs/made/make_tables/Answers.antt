@@ -1,4 +1,4 @@
-use Rattle.std.proofs.Common.{◌≡◌, ◌<◌, length, arith}
+use Rattle.std.proofs.Common.{arith}
 use Rattle.core_setup.proofs.PairLemmas.{pairs_end, pairs_turn}
 use Rattle.sys_run.specs.Made.{IsMadeTable}
 use Rattle.sys_run.proofs.Routing.{item_read}

@@ -1,4 +1,4 @@
-use Rattle.std.proofs.Common.{◌≡◌, ℕ, take}
+use Rattle.std.proofs.Common.{take}
 use Rattle.core_setup.specs.Pairs.{Pairs}
 use Rattle.sys_run.proofs.Looping.{TellsLogged}
 use Rattle.sys_run.proofs.phase.logged_of.Given as goal

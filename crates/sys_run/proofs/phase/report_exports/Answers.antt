@@ -1,4 +1,4 @@
-use Rattle.std.proofs.Common.{◌≡◌, ◌<◌, length, get_or, arith}
+use Rattle.std.proofs.Common.{get_or, arith}
 use Rattle.std.proofs.lemmas.Option.{slice_get-get_or}
 use Rattle.core_setup.proofs.PairLemmas.{pairs_end, pairs_turn}
 use Rattle.sys_run.proofs.Looping.{TellsExport}

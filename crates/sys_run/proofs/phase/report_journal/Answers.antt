@@ -1,4 +1,4 @@
-use Rattle.std.proofs.Common.{◌≡◌, List, drop, length, map, sym, ap, ◌∙◌}
+use Rattle.std.proofs.Common.{List, drop, map, sym, ap, ◌∙◌}
 use Rattle.attrs.specs.declared.journal.JEntry.{JEntry}
 use Rattle.export_core.specs.Histories.{change_of}
 use Rattle.sys_run.proofs.Looping.{back_is}

@@ -1,4 +1,4 @@
-use Rattle.std.proofs.Common.{◌≡◌, length, drop, reverse, refl, sym, ap, ◌∙◌}
+use Rattle.std.proofs.Common.{length, drop, reverse, refl, sym, ap, ◌∙◌}
 use Rattle.std.proofs.lemmas.List.{reverse-reverse}
 use Rattle.std.proofs.lemmas.Option.{slice_get_read}
 use Rattle.sys_run.proofs.Numbering.{got_copied}

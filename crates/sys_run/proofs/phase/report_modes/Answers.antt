@@ -1,4 +1,4 @@
-use Rattle.std.proofs.Common.{◌≡◌, ◌<◌, length, Some, ap, arith}
+use Rattle.std.proofs.Common.{Some, ap, arith}
 use Rattle.core_setup.proofs.PairLemmas.{pairs_end, pairs_turn}
 use Rattle.sys_run.specs.Phase.{IsModeOf}
 use Rattle.sys_run.proofs.Routing.{item_read}

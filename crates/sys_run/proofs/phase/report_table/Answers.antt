@@ -1,4 +1,4 @@
-use Rattle.std.proofs.Common.{◌≡◌, List, sym, subst}
+use Rattle.std.proofs.Common.{List, sym, subst}
 use Rattle.attrs.specs.declared.route.Row.{Row}
 use Rattle.attrs.specs.Table.{Shows}
 use Rattle.core_machine.specs.Histories.{content_of}

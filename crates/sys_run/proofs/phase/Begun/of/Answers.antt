@@ -1,4 +1,4 @@
-use Rattle.std.proofs.Common.{◌≡◌, List, length, map, ap, subst, ◌∙◌}
+use Rattle.std.proofs.Common.{List, length, map, ap, subst, ◌∙◌}
 use Rattle.core_setup.specs.Pairs.{Pairs}
 use Rattle.sys_run.specs.declared.channel.Channel.{Channel}
 use Rattle.sys_run.specs.declared.table.Table.{Table}

@@ -1,4 +1,4 @@
-use Rattle.std.proofs.Common.{◌≡◌, List, refl, subst}
+use Rattle.std.proofs.Common.{List, refl, subst}
 use Rattle.core_setup.specs.Pairs.{Pairs}
 use Rattle.sys_run.specs.Made.{IsMadeTable}
 use Rattle.sys_run.specs.declared.parts.TableParts.{TableParts}

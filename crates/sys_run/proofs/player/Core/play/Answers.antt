@@ -1,4 +1,4 @@
-use Rattle.std.proofs.Common.{◌≡◌, ◌+◌, ℕ, length, refl, sym, ap, subst, ◌∙◌}
+use Rattle.std.proofs.Common.{◌≡◌, ◌+◌, length, refl, ap, subst, ◌∙◌}
 use Rattle.core_machine.specs.Machine.{synced}
 use Rattle.core_setup.specs.Protocols.{rules_of}
 use Rattle.core_setup.specs.Reports.{IsReport}

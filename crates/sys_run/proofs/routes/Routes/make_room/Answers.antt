@@ -1,4 +1,4 @@
-use Rattle.std.proofs.Common.{◌≡◌, ◌+◌, length, sym, ◌∙◌, arith}
+use Rattle.std.proofs.Common.{◌+◌, sym, ◌∙◌, arith}
 use Rattle.core_machine.specs.Machine.{State}
 use Rattle.core_setup.specs.Setup.{Setup}
 use Rattle.sys_run.specs.Routes.{AreRoutes}
