@@ -1,10 +1,4 @@
-<<<<<<< HEAD
-use Rattle.std.proofs.Common.{◌≡◌, ◌<◌, ℕ, ◌++◌, [], ◌∷◌, List, length, set, refl, sym, ap, ◌∙◌, arith}
-use Rattle.import_core.specs.declared.step.Done.{Done}
-use Rattle.core_setup.specs.Protocols.{rules_of}
-=======
 use Rattle.std.proofs.Common.{◌≡◌, ◌<◌, ◌++◌, [], ◌∷◌, length, set, refl, ap, ◌∙◌, arith}
->>>>>>> 698d7cb6b69ef40f5b0d4c2f8f26e271795480dc
 use Rattle.core_setup.proofs.PairLemmas.{get-set, get_one, length-set_at}
 use Rattle.sys_run.specs.declared.imports.Imports.{Imports}
 use Rattle.sys_run.proofs.Acting.{changed, changed_is, done_of, imports_length, mark_fits, operation_done, sources_of}
