@@ -1,6 +1,6 @@
 ghost use Rattle.std.specs.Prelude.{◌≡◌, IfOk};
 
-use crate::{Attrs, Route};
+use crate::{Attrs, Route, Shared};
 use bits_ip::{OutOfMemory, Prefix};
 
 /// Why a filter has no verdict of its own: the route is rejected.
@@ -23,7 +23,7 @@ pub enum FilterFault {
 #[derive(Debug, Drop)]
 pub enum Verdict {
     /// The route passes with these attributes.
-    Accept(Attrs),
+    Accept(Shared<Attrs>),
     /// It doesn't, by the filter's word or by a fault.
     Reject(Option<FilterFault>),
 }

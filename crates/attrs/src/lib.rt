@@ -17,6 +17,7 @@ mod names;
 mod path;
 mod route;
 mod seq;
+mod shared;
 mod text;
 
 pub use attributes::{Attrs, Dest, Kind, Origin};
@@ -27,6 +28,7 @@ pub use names::Names;
 pub use path::{Path, PathFault};
 pub use route::{Change, Route, Row, Select, Src};
 pub use seq::Seq;
+pub use shared::Shared;
 pub use text::{
     append_attrs, attr_text, write_communities, write_optional_number, write_spaced_numbers,
     write_spaced_pairs,

@@ -1,7 +1,8 @@
 ghost use Rattle.std.specs.Prelude.{◌≡◌, ◌↔◌, IfOk, IsTrue};
 
-use crate::{Attrs, Seq};
+use crate::{Attrs, Seq, Shared};
 use bits_ip::{OutOfMemory, Prefix};
+use std::alloc::Global;
 
 /// The protocol that a route comes from: its number, and the values that stand for missing ones of
 /// its routes.
@@ -18,7 +19,7 @@ pub struct Src {
 #[derive(Debug, Drop, PartialEq, Eq)]
 pub struct Route {
     pub src: Src,
-    pub attrs: Attrs,
+    pub attrs: Shared<Attrs>,
 }
 
 /// A change of a table: a net and a source's number, with the route that stands there from now on,
@@ -50,11 +51,19 @@ pub enum Select {
 }
 
 impl Route {
-    /// A copy, equal to the original.
+    /// A route with these attributes.
+    pub fn make(alloc: Global, src: Src, attrs: Attrs) -> Result<Route, OutOfMemory>
+        ensures { IfOk result (λ route. route ≡ record { src = src; attrs = attrs }) }
+    {
+        let attrs = Shared::new(alloc, attrs)?;
+        Ok(Route { src, attrs })
+    }
+
+    /// A copy, equal to the original, which owns the same attributes. Takes no memory.
     pub fn copy(&self) -> Result<Route, OutOfMemory>
         ensures { IfOk result (λ copy. copy ≡ self.now) }
     {
-        let attrs = self.attrs.copy()?;
+        let attrs = self.attrs.share()?;
         Ok(Route {
             src: self.src,
             attrs,

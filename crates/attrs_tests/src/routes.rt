@@ -7,7 +7,7 @@ use std::test::Fail;
 #[test]
 fn copies_are_the_same(rt: HostRuntime) -> Result<(), Fail> {
     let alloc = rt.alloc();
-    let original = route(1, learned(alloc)?);
+    let original = route(alloc, 1, learned(alloc)?)?;
     let copy = original.copy()?;
     assert!(rt; copy == original);
     assert!(rt; copy.is_same(&original));
@@ -49,6 +49,6 @@ fn each_changed_field_is_seen(rt: HostRuntime) -> Result<(), Fail> {
     for field in 0..14 {
         assert!(rt; changed(alloc, field)? != original, "field {field}");
     }
-    assert!(rt; route(1, learned(alloc)?) != route(2, original));
+    assert!(rt; route(alloc, 1, learned(alloc)?)? != route(alloc, 2, original)?);
     Ok(())
 }

@@ -53,13 +53,11 @@ pub fn configured(alloc: Global) -> Attrs {
     }
 }
 
-pub fn route(num: u32, attrs: Attrs) -> Route {
-    Route {
-        src: Src {
-            num,
-            def_med: 0,
-            def_lp: 100,
-        },
-        attrs,
-    }
+pub fn route(alloc: Global, num: u32, attrs: Attrs) -> Result<Route, Fail> {
+    let src = Src {
+        num,
+        def_med: 0,
+        def_lp: 100,
+    };
+    Ok(Route::make(alloc, src, attrs)?)
 }

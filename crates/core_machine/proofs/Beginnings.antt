@@ -48,7 +48,7 @@ module _ (g : Rules) (ok : IsRules g) where
       let f = own_front num p (s.history t) in
       content_own k num (front p (s.history t)) ∙ ap (λ l. content_of l k num) (nothing_left f.0 (own num (front p (s.history t))) (sym (none_own s is t num le) ∙ f.1))
 
-  between : (phases : List (List Act × List Line)) (starts : List Act) (lines : List Line) (s b u : State) → Comes g phases s → Begins g starts (record s { replies = [] }) b → Plays g lines b u → IsState g ok u
+  pub between : (phases : List (List Act × List Line)) (starts : List Act) (lines : List Line) (s b u : State) → Comes g phases s → Begins g starts (record s { replies = [] }) b → Plays g lines b u → IsState g ok u
   between phases starts lines s b u c d q = plays_keeps g ok lines b u q (begins_keeps g ok starts (record s { replies = [] }) b d (quiet_start g ok s (comes_keeps g ok phases s c)))
 
 pub only_protocols : (g : Rules) (phases : List (List Act × List Line)) (starts : List Act) (lines : List Line) (s b u : State) (t p : ℕ) (k : Net) (num : ℕ) → IsRules g → Comes g phases s → Begins g starts (record s { replies = [] }) b → Plays g lines b u

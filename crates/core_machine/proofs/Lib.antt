@@ -15,5 +15,6 @@ pub mod SomeRules
 pub mod Matching
 pub mod Fed
 pub mod Beginnings
+pub mod Rounds
 pub mod WorkedRows
 pub mod ToldRows

@@ -38,7 +38,7 @@ take_position h ch lt = elim (entry ch.position h) as (λ o. entry ch.position h
   | Some c ↦ λ e. refl
 ] refl
 
-takes_position : (h : List Change) (n : ℕ) (ch : Channel) → ch.position + n ≤ length h → (times n (take_one h) ch).position ≡ ch.position + n
+pub takes_position : (h : List Change) (n : ℕ) (ch : Channel) → ch.position + n ≤ length h → (times n (take_one h) ch).position ≡ ch.position + n
 takes_position h zero ch le = omega arith
 takes_position h (suc n) ch le =
     let p = takes_position h n ch (omega arith) in
@@ -48,7 +48,7 @@ pub push_position : (g : Rules) (i : ℕ) (h : List Change) (ms : List Marked) (
 push_position g i h [] ch = refl
 push_position g i h (m ∷ ms) ch = refl
 
-pushes_position : (g : Rules) (i : ℕ) (h : List Change) (n : ℕ) (ch : Channel) → (times n (push_one g i h) ch).position ≡ ch.position
+pub pushes_position : (g : Rules) (i : ℕ) (h : List Change) (n : ℕ) (ch : Channel) → (times n (push_one g i h) ch).position ≡ ch.position
 pushes_position g i h zero ch = refl
 pushes_position g i h (suc n) ch = let x = times n (push_one g i h) ch in push_position g i h x.marks x ∙ pushes_position g i h n ch
 
@@ -56,11 +56,11 @@ push_marks : (g : Rules) (i : ℕ) (h : List Change) (n : ℕ) (ms : List Marked
 push_marks g i h n [] ch e le = omega (arith, ap length e)
 push_marks g i h n (m ∷ ms) ch e le = omega arith
 
-pushes_marks : (g : Rules) (i : ℕ) (h : List Change) (n k : ℕ) (ch : Channel) → length ch.marks ≤ k + n → length (times n (push_one g i h) ch).marks ≤ k
+pub pushes_marks : (g : Rules) (i : ℕ) (h : List Change) (n k : ℕ) (ch : Channel) → length ch.marks ≤ k + n → length (times n (push_one g i h) ch).marks ≤ k
 pushes_marks g i h zero k ch le = omega arith
 pushes_marks g i h (suc n) k ch le = let x = times n (push_one g i h) ch in push_marks g i h k x.marks x refl (pushes_marks g i h n (suc k) ch (omega arith))
 
-no_marks : (ms : List Marked) → length ms ≤ 0 → ms ≡ []
+pub no_marks : (ms : List Marked) → length ms ≤ 0 → ms ≡ []
 no_marks [] le = refl
 no_marks (m ∷ ms) le = absurd (let bad : 1 ≤ 0 = omega arith in omega (arith, bad))
 

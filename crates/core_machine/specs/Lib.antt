@@ -9,6 +9,7 @@ pub mod Merges
 pub mod Signals
 pub mod Replies
 pub mod SyncState
+pub mod Rounds
 pub mod Legal
 pub mod Phases
 pub mod Match

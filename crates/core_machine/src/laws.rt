@@ -20,10 +20,11 @@ ghost use Rattle.core_machine.specs.Channels.{Channel, IsFed, closed, fed, is_op
 ghost use Rattle.core_machine.specs.Histories.{content_of, front, own};
 ghost use Rattle.core_machine.specs.Legal.{AreLegal, Printed, nothing};
 ghost use Rattle.core_machine.specs.Lines.{Act, Line};
-ghost use Rattle.core_machine.specs.Machine.{Begins, Comes, IsPhase, Plays, State, start};
+ghost use Rattle.core_machine.specs.Machine.{Begins, Comes, IsPhase, Plays, State, start, synced};
 ghost use Rattle.core_machine.specs.Match.{IsHeadChunk, IsNextEntry, Matches, MatchesFed};
 ghost use Rattle.core_machine.specs.Phases.{PlaysAll};
 ghost use Rattle.core_machine.specs.Room.{Makes, in_room};
+ghost use Rattle.core_machine.specs.Rounds.{AreSettled, HasRounds};
 ghost use Rattle.core_machine.specs.Rules.{IsRules, Rules, best_of, course_of};
 
 use attrs::Judge;
@@ -44,6 +45,21 @@ pub fn channels_are_settled()
         × ((s.channels i).marks ≡ [])
         × Settled (rules.value i) (course_of rules (s.history (rules.table i)))
         (s.channels i).log }
+{}
+
+/// Behind any lines, one round settles each channel that is up, and a second one changes nothing: a
+/// sync has at most one round.
+pub fn one_round_is_enough()
+    ensures settled { (rules : Rules) (phases : List (List Act × List Line)) (starts : List Act)
+        (lines : List Line) (s b u : State) → IsRules rules → Comes rules phases s
+        → Begins rules starts (record s { replies = [] }) b → Plays rules lines b u
+        → AreSettled rules (synced rules u) }
+    ensures again { (rules : Rules) (s : State)
+        → synced rules (synced rules s) ≡ synced rules s }
+    ensures few { (rules : Rules) (phases : List (List Act × List Line)) (starts : List Act)
+        (lines : List Line) (s b u : State) (rounds : ℕ) → IsRules rules → Comes rules phases s
+        → Begins rules starts (record s { replies = [] }) b → Plays rules lines b u
+        → HasRounds rules u rounds → rounds ≤ 1 }
 {}
 
 /// Each list of scripts comes to phases, so that the first law speaks of something.

@@ -20,7 +20,7 @@ use crate::marks::{Mark, Marks};
 use crate::outlet::{Outlet, PushFault};
 use crate::passing::{ExportSpec, Through};
 use crate::standing::Standing;
-use attrs::{Attrs, Chunk, JEntry, Judge, Route};
+use attrs::{Attrs, Chunk, JEntry, Judge, Route, Shared};
 use bits_ip::{OutOfMemory, Prefix};
 use std::alloc::Global;
 use std::collections::VecDeque;
@@ -83,7 +83,7 @@ impl<J: Judge> Model for Exporter<J> {
 }
 
 /// Whether a value is sent as one sent again, and none where it isn't sent.
-fn send_of(value: Option<&Attrs>, last: Option<&Attrs>, due: bool) -> Option<bool>
+fn send_of(value: Option<&Shared<Attrs>>, last: Option<&Shared<Attrs>>, due: bool) -> Option<bool>
     ensures quiet { IfNone result
         (IsQuiet due (option_copied value.entry) (option_copied last.entry)) }
     ensures news { IfSome result (λ again.
@@ -98,7 +98,7 @@ fn send_of(value: Option<&Attrs>, last: Option<&Attrs>, due: bool) -> Option<boo
     None
 }
 
-fn is_same(one: Option<&Attrs>, other: Option<&Attrs>) -> bool
+fn is_same(one: Option<&Shared<Attrs>>, other: Option<&Shared<Attrs>>) -> bool
     ensures { IsTrue result ↔ (option_copied one.entry ≡ option_copied other.entry) }
 {
     match (one, other) {
@@ -189,7 +189,7 @@ impl<J: Judge> Exporter<J> {
     }
 
     /// The values that stand as sent, in the order of nets.
-    pub fn standing(&self) -> Result<Vec<(Key, Attrs)>, OutOfMemory>
+    pub fn standing(&self) -> Result<Vec<(Key, Shared<Attrs>)>, OutOfMemory>
         ensures { IfOk result (λ values. IsStanding self.now.log values.items) }
     {
         self.sent.values(self.alloc, &self.log)

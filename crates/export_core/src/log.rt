@@ -1,7 +1,7 @@
 //! The log of a channel.
 ghost use Rattle.std.specs.Prelude.{◌≡◌, length, option_map};
 
-use attrs::Attrs;
+use attrs::{Attrs, Shared};
 use bits_ip::Prefix;
 
 /// What a channel sends values for.
@@ -19,7 +19,7 @@ pub struct Sending {
     pub at: u64,
     pub key: Key,
     /// The attributes, and none for a withdrawal.
-    pub value: Option<Attrs>,
+    pub value: Option<Shared<Attrs>>,
     /// Whether it is equal to the value that was sent before, in a refresh.
     pub again: bool,
 }

@@ -3,7 +3,7 @@ ghost use Rattle.std.specs.Prelude.{◌≡◌, ℕ, IfOk, option_copied};
 ghost use Rattle.attrs.specs.Clist.{has_pair};
 ghost use Rattle.export_core.specs.Passing.{has_known, is_for_inside, is_internal, is_kept, passed, value_by};
 
-use attrs::{Attrs, Judge, Kind, Route, Verdict};
+use attrs::{Attrs, Judge, Kind, Route, Shared, Verdict};
 use bits_ip::{Family, OutOfMemory, Prefix};
 
 /// What a channel's gate goes by.
@@ -72,7 +72,7 @@ impl<J: Judge> Through<J> {
 
     /// The attributes with which the route is sent. None exactly where the gate keeps it or the
     /// filter rejects it, by its word or by a fault.
-    pub fn value(&self, net: &Prefix, route: &Route) -> Result<Option<Attrs>, OutOfMemory>
+    pub fn value(&self, net: &Prefix, route: &Route) -> Result<Option<Shared<Attrs>>, OutOfMemory>
         ensures { IfOk result (λ value. value
             ≡ value_by self.now.spec (J.verdict self.now.judge) net.now route.now) }
     {
@@ -90,7 +90,7 @@ impl<J: Judge> Through<J> {
         &self,
         net: &Prefix,
         best: Option<&Route>,
-    ) -> Result<Option<Attrs>, OutOfMemory>
+    ) -> Result<Option<Shared<Attrs>>, OutOfMemory>
         ensures { IfOk result (λ value. value
             ≡ passed (value_by self.now.spec (J.verdict self.now.judge)) net.now
             (option_copied best.entry)) }

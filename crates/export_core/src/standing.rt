@@ -12,7 +12,7 @@ ghost use Rattle.export_core.specs.Standing.{index_at, value_at, value_in};
 use crate::candidates::{add_none, bounds_of};
 use crate::floors::Floor;
 use crate::log::{Key, LogItem};
-use attrs::{Attrs, Route};
+use attrs::{Attrs, Route, Shared};
 use bits_ip::{OutOfMemory, Prefix};
 use std::alloc::Global;
 use std::collections::BTreeMap;
@@ -53,7 +53,7 @@ impl Standing {
     }
 
     /// The net's value in the log.
-    pub(crate) fn value<'a>(&self, log: &'a [LogItem], net: &Prefix) -> Option<&'a Attrs>
+    pub(crate) fn value<'a>(&self, log: &'a [LogItem], net: &Prefix) -> Option<&'a Shared<Attrs>>
         ensures { option_copied result ≡ value_at log.now (index_at net.now self.now) }
     {
         let number = self.index(net)?;
@@ -68,7 +68,7 @@ impl Standing {
         &self,
         log: &[LogItem],
         net: &Prefix,
-        values: &mut Vec<(Key, Attrs)>,
+        values: &mut Vec<(Key, Shared<Attrs>)>,
     ) -> Result<(), OutOfMemory>
         ensures { OnOk result (values.new.items ≡ values.old.items
             ++ cons_option (option_map (λ v. (key_of net.now, v))
@@ -76,7 +76,7 @@ impl Standing {
     {
         if let Some(value) = self.value(log, net) {
             let key = Key { net: *net, num: 0 };
-            values.push((key, value.copy()?))?;
+            values.push((key, value.share()?))?;
         }
         Ok(())
     }
@@ -86,7 +86,7 @@ impl Standing {
         &self,
         alloc: Global,
         log: &[LogItem],
-    ) -> Result<Vec<(Key, Attrs)>, OutOfMemory>
+    ) -> Result<Vec<(Key, Shared<Attrs>)>, OutOfMemory>
         ensures values { IfOk result (λ values. values.items
             ≡ map keyed
             (entries_by (λ k. value_at log.now (index_at k self.now)) (keys_of self.now))) }

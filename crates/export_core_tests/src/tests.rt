@@ -263,9 +263,10 @@ fn a_channel_that_goes_down_forgets_what_it_sent(rt: HostRuntime) -> Result<(), 
 }
 
 fn with_community(alloc: Global, value: u16) -> Result<Route, Fail> {
-    let mut route = route(alloc, 1, 1);
-    let _added = route.attrs.coms.add(65535, value);
-    Ok(route)
+    let Route { src, attrs } = route(alloc, 1, 1)?;
+    let mut attrs = attrs.copy()?;
+    let _added = attrs.coms.add(65535, value);
+    Ok(Route::make(alloc, src, attrs)?)
 }
 
 fn sends(through: &Through<All>, route: &Route) -> bool {
@@ -282,8 +283,8 @@ fn sends(through: &Through<All>, route: &Route) -> bool {
 fn the_gate_keeps_what_is_not_for_outside(rt: HostRuntime) -> Result<(), Fail> {
     let alloc = rt.alloc();
     let through = Through::make(spec_of(2), All);
-    assert!(rt; sends(&through, &route(alloc, 1, 1)));
-    assert!(rt; !sends(&through, &route(alloc, 2, 1)));
+    assert!(rt; sends(&through, &route(alloc, 1, 1)?));
+    assert!(rt; !sends(&through, &route(alloc, 2, 1)?));
     assert!(rt; !sends(&through, &with_community(alloc, 65281)?));
     assert!(rt; !sends(&through, &with_community(alloc, 65282)?));
     assert!(rt; !sends(&through, &with_community(alloc, 65283)?));

@@ -226,5 +226,6 @@ pub fn read_route(alloc: Global, words: &[u8]) -> io::Result<(Prefix, Route)> {
         def_lp: 100,
     };
     let attrs = attrs_of(alloc, said)?;
-    Ok((net, Route { src, attrs }))
+    let route = Route::make(alloc, src, attrs).map_err(|_| bad())?;
+    Ok((net, route))
 }

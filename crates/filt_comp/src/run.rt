@@ -165,22 +165,26 @@ fn run_over<'a>(
         &mut frame,
         &mut attrs,
     );
-    verdict(outcome, attrs)
+    verdict(alloc, outcome, attrs)
 }
 
 /// What a filter says of what its statements come to.
-fn verdict<'a>(outcome: Result<(), Stop<'a>>, attrs: Running<'a>) -> Result<Verdict, OutOfMemory>
+fn verdict<'a>(
+    alloc: Global,
+    outcome: Result<(), Stop<'a>>,
+    attrs: Running<'a>,
+) -> Result<Verdict, OutOfMemory>
     ensures { (after : Frame) (flow : Flow Frame)
         → Gives (λ _. after) outcome.entry attrs.entry flow
         → IfOk result (λ v. v ≡ verdict_of flow) }
 {
     match outcome {
         Ok(()) => Ok(Verdict::Reject(Some(FilterFault::NoVerdict))),
-        Err(stop) => verdict_at(stop, attrs),
+        Err(stop) => verdict_at(alloc, stop, attrs),
     }
 }
 
-fn verdict_at<'a>(stop: Stop<'a>, attrs: Running<'a>) -> Result<Verdict, OutOfMemory>
+fn verdict_at<'a>(alloc: Global, stop: Stop<'a>, attrs: Running<'a>) -> Result<Verdict, OutOfMemory>
     ensures { (flow : Flow Frame)
         → Halts stop.entry attrs.entry flow
         → IfOk result (λ v. v ≡ verdict_of flow) }
@@ -188,7 +192,7 @@ fn verdict_at<'a>(stop: Stop<'a>, attrs: Running<'a>) -> Result<Verdict, OutOfMe
     match stop {
         Stop::End => Ok(Verdict::Reject(Some(FilterFault::NoVerdict))),
         Stop::Return(_) => Ok(Verdict::Reject(None)),
-        Stop::Accept => Ok(Verdict::Accept(attrs.finish()?)),
+        Stop::Accept => Ok(Verdict::Accept(attrs.finish(alloc)?)),
         Stop::Reject => Ok(Verdict::Reject(None)),
         Stop::Fault(fault) => Ok(Verdict::Reject(Some(fault))),
         Stop::Stuck => Ok(Verdict::Reject(None)),

@@ -15,7 +15,7 @@ ghost use Rattle.filt_comp.specs.Seen.{around_in};
 
 use crate::parts::{dest, int, ip, origin};
 use crate::setting::Setting;
-use attrs::{Attrs, Clist, Dest, FilterFault, Kind, Origin, Path};
+use attrs::{Attrs, Clist, Dest, FilterFault, Kind, Origin, Path, Shared};
 use bits_ip::{Addr, OutOfMemory};
 use filt_syntax::Attribute;
 use filt_values::{Failure, ListFailure, Value};
@@ -39,6 +39,8 @@ pub(crate) enum Pairs<'a> {
 /// The attributes of a route as the filter has left them so far. Contracts see the `Attrs`.
 #[derive(Drop)]
 pub(crate) struct Running<'a> {
+    /// The route's own attributes, while none was changed.
+    own: Option<&'a Shared<Attrs>>,
     pref: u32,
     kind: Kind,
     dest: Dest,
@@ -56,6 +58,7 @@ pub(crate) struct Running<'a> {
 }
 
 impl<'a> Model for Running<'a> {
+    ghost use Rattle.std.specs.Prelude.{◌≡◌, IfSome};
     ghost use Rattle.attrs.specs.declared.attributes.Attrs.{Attrs};
     ghost use Rattle.filt_comp.specs.Lists.{numbers_of, pairs_of};
 
@@ -77,14 +80,32 @@ impl<'a> Model for Running<'a> {
       igp = r.igp;
       coms = pairs_of r.coms;
     } };
+
+    ghost invariant = { λ r. IfSome r.own (λ own. own.now ≡ record {
+      pref = r.pref;
+      kind = r.kind;
+      dest = r.dest;
+      gw = r.gw;
+      sender = r.sender;
+      peer_id = r.peer_id;
+      ebgp = r.ebgp;
+      path = numbers_of r.path;
+      origin = r.origin;
+      next_hop = r.next_hop;
+      med = r.med;
+      lp = r.lp;
+      igp = r.igp;
+      coms = pairs_of r.coms;
+    }) };
 }
 
 impl<'a> Running<'a> {
     /// The attributes as they are before the filter. Takes no memory.
-    pub(crate) fn of(attrs: &'a Attrs) -> Running<'a>
+    pub(crate) fn of(attrs: &'a Shared<Attrs>) -> Running<'a>
         ensures { result ≡ attrs.now }
     {
         Running {
+            own: Some(attrs),
             pref: attrs.pref,
             kind: attrs.kind,
             dest: attrs.dest,
@@ -102,11 +123,22 @@ impl<'a> Running<'a> {
         }
     }
 
-    /// The attributes as the filter leaves them: what the route lends is copied.
-    pub(crate) fn finish(self) -> Result<Attrs, OutOfMemory>
+    /// The attributes as the filter leaves them: the route's own where it changed none.
+    pub(crate) fn finish(self, alloc: Global) -> Result<Shared<Attrs>, OutOfMemory>
+        ensures { IfOk result (λ attrs. attrs ≡ self.entry) }
+    {
+        match self.own {
+            Some(own) => own.share(),
+            None => Shared::new(alloc, self.made()?),
+        }
+    }
+
+    /// The attributes, where what the route lends is copied.
+    fn made(self) -> Result<Attrs, OutOfMemory>
         ensures { IfOk result (λ attrs. attrs ≡ self.entry) }
     {
         let Running {
+            own: _,
             pref,
             kind,
             dest,
@@ -257,6 +289,7 @@ impl<'a> Running<'a> {
         ensures refused { OnErr result (self.new ≡ self.old) }
     {
         self.pref = int(value)?;
+        self.own = None;
         Ok(())
     }
 
@@ -268,6 +301,7 @@ impl<'a> Running<'a> {
         ensures refused { OnErr result (self.new ≡ self.old) }
     {
         self.gw = Some(ip(value)?);
+        self.own = None;
         self.dest = Dest::Unicast;
         Ok(())
     }
@@ -279,6 +313,7 @@ impl<'a> Running<'a> {
         ensures refused { OnErr result (self.new ≡ self.old) }
     {
         self.sender = Some(ip(value)?);
+        self.own = None;
         Ok(())
     }
 
@@ -289,6 +324,7 @@ impl<'a> Running<'a> {
         ensures refused { OnErr result (self.new ≡ self.old) }
     {
         self.next_hop = Some(ip(value)?);
+        self.own = None;
         Ok(())
     }
 
@@ -300,6 +336,7 @@ impl<'a> Running<'a> {
         ensures refused { OnErr result (self.new ≡ self.old) }
     {
         self.dest = dest(value)?;
+        self.own = None;
         self.gw = None;
         Ok(())
     }
@@ -311,6 +348,7 @@ impl<'a> Running<'a> {
         ensures refused { OnErr result (self.new ≡ self.old) }
     {
         self.origin = Some(origin(value)?);
+        self.own = None;
         Ok(())
     }
 
@@ -321,6 +359,7 @@ impl<'a> Running<'a> {
         ensures refused { OnErr result (self.new ≡ self.old) }
     {
         self.med = Some(int(value)?);
+        self.own = None;
         Ok(())
     }
 
@@ -331,6 +370,7 @@ impl<'a> Running<'a> {
         ensures refused { OnErr result (self.new ≡ self.old) }
     {
         self.lp = Some(int(value)?);
+        self.own = None;
         Ok(())
     }
 
@@ -341,6 +381,7 @@ impl<'a> Running<'a> {
         ensures refused { OnErr result (self.new ≡ self.old) }
     {
         self.igp = Some(int(value)?);
+        self.own = None;
         Ok(())
     }
 
@@ -351,6 +392,7 @@ impl<'a> Running<'a> {
         ensures refused { OnErr result (self.new ≡ self.old) }
     {
         self.path = path_kept(value)?;
+        self.own = None;
         Ok(())
     }
 
@@ -361,6 +403,7 @@ impl<'a> Running<'a> {
         ensures refused { OnErr result (self.new ≡ self.old) }
     {
         self.coms = list_kept(value)?;
+        self.own = None;
         Ok(())
     }
 
@@ -385,6 +428,7 @@ impl<'a> Running<'a> {
             Attribute::IgpMetric => self.igp = None,
             Attribute::BgpCommunity => self.coms = Pairs::Made(Clist::new(alloc)),
         }
+        self.own = None;
         Ok(())
     }
 }

@@ -16,14 +16,12 @@ pub fn route(alloc: Global) -> Result<Route, Fail> {
     path.prepend(65001)?;
     let mut coms = Clist::new(alloc);
     coms.add(1, 2)?;
-    Ok(Route {
-        src: Src {
-            num: 0,
-            def_med: 0,
-            def_lp: 100,
-        },
-        attrs: attrs(path, coms),
-    })
+    let src = Src {
+        num: 0,
+        def_med: 0,
+        def_lp: 100,
+    };
+    Ok(Route::make(alloc, src, attrs(path, coms))?)
 }
 
 pub fn attrs(path: Path, coms: Clist) -> Attrs {

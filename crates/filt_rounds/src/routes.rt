@@ -50,7 +50,8 @@ fn route(alloc: Global, index: u16) -> io::Result<(Prefix, Route)> {
         def_lp: 100,
     };
     let attrs = attrs(alloc, index)?;
-    Ok((net, Route { src, attrs }))
+    let route = Route::make(alloc, src, attrs).map_err(|_| bad())?;
+    Ok((net, route))
 }
 
 pub fn routes(alloc: Global) -> io::Result<Vec<(Prefix, Route)>> {

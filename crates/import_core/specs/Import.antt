@@ -1,11 +1,9 @@
--- What an announcement and a withdrawal are for a table. Modelled: the attributes of an imported
--- route, before any filter. Not modelled: filters, limits, and what the table does with the change.
+-- What an announcement is for a table. Modelled: the attributes of an imported route, before any
+-- filter. Not modelled: filters, limits, and what the table does with the route.
 -- From: RFC 4271, sections 5.1 and 5.1.5, and BIRD User's Guide, "Route attributes".
-use Rattle.std.specs.Prelude.{ℕ, Option, Some, None, unwrap_or, if◌then◌else◌}
-use Rattle.bits_ip.specs.Prefix.{Net}
+use Rattle.std.specs.Prelude.{ℕ, Option, Some, unwrap_or, if◌then◌else◌}
 use Rattle.attrs.specs.declared.attributes.Attrs.{Attrs}
 use Rattle.attrs.specs.declared.attributes.Dest.TheVariants.{Unicast}
-use Rattle.attrs.specs.declared.route.Change.{Change}
 use Rattle.attrs.specs.declared.route.Route.{Route}
 use Rattle.import_core.specs.declared.import_spec.ImportSpec.{ImportSpec}
 use Rattle.import_core.specs.declared.operation.Given.{Given}
@@ -36,15 +34,3 @@ imported_attrs spec id given = record {
 
 abbrev pub imported_route : ImportSpec → ℕ → Given → Route
 imported_route spec id given = record { src = spec.src; attrs = imported_attrs spec id given }
-
--- the change that an announcement is
-abbrev pub imported : ImportSpec → ℕ → Net → Given → Change
-imported spec id net given = record {
-  net = net;
-  num = spec.src.num;
-  new = Some (imported_route spec id given);
-}
-
--- the change that a withdrawal is
-abbrev pub withdrawn : ImportSpec → Net → Change
-withdrawn spec net = record { net = net; num = spec.src.num; new = None }

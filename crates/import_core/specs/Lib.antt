@@ -1,4 +1,3 @@
-pub mod Session
 pub mod Import
 pub mod Imports
 pub mod Decisions

@@ -5,7 +5,7 @@ ghost use Rattle.import_core.specs.declared.held.Accepted.{Accepted};
 ghost use Rattle.import_core.specs.Held.{accepted_of, accepted_route, excessive, is_nothing, limited_by, settled};
 
 use crate::{Action, Limit};
-use attrs::{Attrs, Judge, Route, Verdict};
+use attrs::{Attrs, Judge, Route, Shared, Verdict};
 use bits_ip::{OutOfMemory, Prefix};
 
 /// What of a received route is accepted.
@@ -15,7 +15,7 @@ pub(crate) enum Accepted {
     /// The filter left it as it was.
     AsReceived,
     /// The filter left it with other attributes.
-    With(Attrs),
+    With(Shared<Attrs>),
 }
 
 /// The received route of a net, and what of it is accepted.
@@ -34,7 +34,7 @@ pub(crate) enum Decision {
     Limited,
 }
 
-fn accepted_as(route: &Route, attrs: Attrs) -> Accepted
+fn accepted_as(route: &Route, attrs: Shared<Attrs>) -> Accepted
     ensures { accepted_route route.now result
         ≡ Some (record { src = route.now.src; attrs = attrs }) }
 {
@@ -146,7 +146,7 @@ impl Accepted {
             Accepted::AsReceived => Ok(Some(route.copy()?)),
             Accepted::With(attrs) => Ok(Some(Route {
                 src: route.src,
-                attrs: attrs.copy()?,
+                attrs: attrs.share()?,
             })),
         }
     }

@@ -1,23 +1,6 @@
 //! What holds for all routes of a protocol.
-ghost use Rattle.std.specs.Prelude.{◌≡◌};
-ghost use Rattle.import_core.specs.Session.{bgp_session};
-
 use attrs::{Dest, Kind, Seq, Src};
 use bits_ip::{Addr, Prefix};
-use std::alloc::Global;
-
-/// The number of the first protocol of a configuration, and of the source that its routes have.
-pub const FIRST_SOURCE: u32 = 0;
-
-/// What counts as the MED of a route without one (BIRD User's Guide, BGP, `default bgp_med`).
-pub const DEFAULT_MED: u32 = 0;
-
-/// The local preference of a route that is given none, and of each route of an external neighbour
-/// (BIRD User's Guide, BGP, `default bgp_local_pref`).
-pub const DEFAULT_LOCAL_PREFERENCE: u32 = 100;
-
-/// The preference of BGP's routes (BIRD User's Guide, channel options, `preference`).
-pub const BGP_PREFERENCE: u32 = 100;
 
 /// What is done with a route over the limit (BIRD User's Guide, channel options, `import limit`).
 #[derive(Clone, Copy, Debug, PartialEq, Eq)]
@@ -62,24 +45,4 @@ pub struct ImportSpec {
     pub limit: Option<Limit>,
     /// The configured routes of a static protocol, each of another net.
     pub fixed: Seq<Fixed>,
-}
-
-/// The first protocol, where it is one of BGP with these AS numbers, the own and the neighbour's,
-/// and a neighbour of this address.
-pub fn bgp_session(alloc: Global, local: u32, remote: u32, neighbor: Addr) -> ImportSpec
-    ensures { result ≡ bgp_session local remote neighbor }
-{
-    ImportSpec {
-        src: Src {
-            num: FIRST_SOURCE,
-            def_med: DEFAULT_MED,
-            def_lp: DEFAULT_LOCAL_PREFERENCE,
-        },
-        kind: Kind::Bgp,
-        sender: Some(neighbor),
-        ebgp: local != remote,
-        pref: BGP_PREFERENCE,
-        limit: None,
-        fixed: Seq::new(alloc),
-    }
 }

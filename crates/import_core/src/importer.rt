@@ -14,7 +14,7 @@ use crate::held::{Accepted, Decision, Held, decide};
 use crate::imports::import_attrs;
 use crate::nets::{Nets, Rebuilt};
 use crate::{Fixed, Given, ImportSpec, Mark, Mode, Op, Step};
-use attrs::{Attrs, Clist, Judge, Kind, Path, Route, Seq};
+use attrs::{Attrs, Clist, Judge, Kind, Path, Route, Seq, Shared};
 use bits_ip::{OutOfMemory, Prefix};
 use std::alloc::Global;
 use std::marker::Model;
@@ -52,28 +52,29 @@ impl<J: Judge> Model for Importer<J> {
     ghost invariant = { λ i. is_unstarted i.spec.kind i.mode ≡ true → i.nets ≡ none_kept };
 }
 
-fn fixed_route(alloc: Global, spec: &ImportSpec, fixed: &Fixed) -> Route
-    ensures { result ≡ fixed_route spec.now fixed.now }
+fn fixed_route(alloc: Global, spec: &ImportSpec, fixed: &Fixed) -> Result<Route, OutOfMemory>
+    ensures { IfOk result (λ route. route ≡ fixed_route spec.now fixed.now) }
 {
-    Route {
+    let attrs = Attrs {
+        pref: spec.pref,
+        kind: Kind::Static,
+        dest: fixed.dest,
+        gw: fixed.gw,
+        sender: None,
+        peer_id: 0,
+        ebgp: false,
+        path: Path::new(alloc),
+        origin: None,
+        next_hop: None,
+        med: None,
+        lp: None,
+        igp: None,
+        coms: Clist::new(alloc),
+    };
+    Ok(Route {
         src: spec.src,
-        attrs: Attrs {
-            pref: spec.pref,
-            kind: Kind::Static,
-            dest: fixed.dest,
-            gw: fixed.gw,
-            sender: None,
-            peer_id: 0,
-            ebgp: false,
-            path: Path::new(alloc),
-            origin: None,
-            next_hop: None,
-            med: None,
-            lp: None,
-            igp: None,
-            coms: Clist::new(alloc),
-        },
-    }
+        attrs: Shared::new(alloc, attrs)?,
+    })
 }
 
 /// The configured routes, of which nothing is accepted yet.
@@ -84,7 +85,7 @@ fn configured(alloc: Global, spec: &ImportSpec) -> Result<Nets, OutOfMemory>
     let mut nets = Nets::new(alloc);
     for fixed in spec.fixed.as_slice() {
         let held = Held {
-            route: fixed_route(alloc, spec, fixed),
+            route: fixed_route(alloc, spec, fixed)?,
             accepted: Accepted::Nothing,
         };
         nets.put(fixed.net, held)?;
@@ -315,8 +316,10 @@ impl<J: Judge> Importer<J> {
             return Ok(self.still(Mark::Stay));
         }
         let attrs = import_attrs(&self.spec, self.id, given)?;
-        let src = self.spec.src;
-        let route = Route { src, attrs };
+        let route = Route {
+            src: self.spec.src,
+            attrs: Shared::new(self.alloc, attrs)?,
+        };
         let decision = self.decide(net, &route)?;
         self.follow(net, route, decision)
     }

@@ -1,48 +1,16 @@
-//! What an announcement and a withdrawal are for a table.
+//! What an announcement is for a table.
 ghost use Rattle.std.specs.Prelude.{◌≡◌, IfOk};
-ghost use Rattle.import_core.specs.Import.{imported, imported_attrs, local_preference, withdrawn};
+ghost use Rattle.import_core.specs.Import.{imported_attrs, local_preference};
 
 use crate::{Given, ImportSpec};
-use attrs::{Attrs, Change, Dest, Route};
-use bits_ip::{OutOfMemory, Prefix};
+use attrs::{Attrs, Dest};
+use bits_ip::OutOfMemory;
 
-/// The change that an announcement of a net is, in a session with a neighbour of this router id.
+/// The attributes that an announcement gives, in a session with a neighbour of this router id.
 ///
-/// The route has the spec's source, kind, neighbour and preference; its packets go to the given
-/// gateway. Its local preference is the given one on an internal session, and the default where
-/// none is given and on each external session (RFC 4271, section 5.1.5). `OutOfMemory` comes where
-/// memory is refused.
-pub fn import(
-    spec: &ImportSpec,
-    id: u32,
-    net: &Prefix,
-    given: &Given,
-) -> Result<Change, OutOfMemory>
-    ensures { IfOk result (λ change. change ≡ imported spec.now id net.now given.now) }
-{
-    let attrs = import_attrs(spec, id, given)?;
-    Ok(Change {
-        net: *net,
-        num: spec.src.num,
-        new: Some(Route {
-            src: spec.src,
-            attrs,
-        }),
-    })
-}
-
-/// The change that a withdrawal of a net is: no route of the spec's source stands there from now
-/// on.
-pub fn withdraw(spec: &ImportSpec, net: &Prefix) -> Change
-    ensures { result ≡ withdrawn spec.now net.now }
-{
-    Change {
-        net: *net,
-        num: spec.src.num,
-        new: None,
-    }
-}
-
+/// The route has the spec's kind, neighbour and preference; its packets go to the given gateway.
+/// Its local preference is the given one on an internal session, and the default where none is
+/// given and on each external session (RFC 4271, section 5.1.5).
 pub(crate) fn import_attrs(spec: &ImportSpec, id: u32, given: &Given) -> Result<Attrs, OutOfMemory>
     ensures { IfOk result (λ attrs. attrs ≡ imported_attrs spec.now id given.now) }
 {

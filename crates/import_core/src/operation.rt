@@ -42,14 +42,3 @@ pub enum Op {
     /// Both.
     Reload,
 }
-
-/// An operation on the imports of one session, as the program plays them today.
-#[derive(Debug, Drop)]
-pub enum SessionOp {
-    /// The session comes up with a neighbour of this router id.
-    SessionUp(u32),
-    /// The neighbour announces a route of this net.
-    Add(Prefix, Given),
-    /// The neighbour withdraws its route of this net.
-    Del(Prefix),
-}

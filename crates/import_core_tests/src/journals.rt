@@ -214,7 +214,7 @@ fn a_repeated_open_keeps_the_router_id(rt: HostRuntime) -> Result<(), Fail> {
 fn the_filter_sets_the_preference(rt: HostRuntime) -> Result<(), Fail> {
     let alloc = rt.alloc();
     let spec = bgp_spec(alloc, SOURCE, NEIGHBOUR, true, BGP_PREFERENCE, None);
-    let mut importer = Importer::make(alloc, spec, Preferring(170));
+    let mut importer = Importer::make(alloc, spec, Preferring { alloc, pref: 170 });
     apply(alloc, &mut importer, Open(1))?;
     assert_route(&rt, alloc, &mut importer, Add(1), 0x0A00_0001, 170)
 }

@@ -2,7 +2,7 @@
 ghost use Rattle.std.specs.Prelude.{◌≡◌};
 ghost use Rattle.bits_ip.specs.Address.{number_of};
 
-use attrs::{Attrs, Clist, Dest, Judge, Origin, Path, Route, Src, Verdict};
+use attrs::{Attrs, Clist, Dest, Judge, Origin, Path, Route, Shared, Src, Verdict};
 use bits_ip::{Addr, OutOfMemory, Prefix};
 use import_core::{Fixed, Given, Importer, Limit, Op, Step};
 use protos::{BGP_PREFERENCE, STATIC_PREFERENCE, bgp_spec, static_spec};
@@ -48,7 +48,7 @@ impl Judge for UpTo {
     fn judge(&self, net: &Prefix, route: &Route) -> Result<Verdict, OutOfMemory> {
         let last = 167_772_160 + 65536 * u128::from(self.0);
         if number_of(net) <= last {
-            Ok(Verdict::Accept(route.attrs.copy()?))
+            Ok(Verdict::Accept(route.attrs.share()?))
         } else {
             Ok(Verdict::Reject(None))
         }
@@ -66,17 +66,20 @@ fn number_of(net: &Prefix) -> u128
 
 /// Accepts all with this preference.
 #[derive(Clone, Copy, Debug, Drop)]
-pub struct Preferring(pub u32);
+pub struct Preferring {
+    pub alloc: Global,
+    pub pref: u32,
+}
 
 impl Judge for Preferring {
     ghost use Rattle.attrs.specs.declared.judge.Verdict.TheVariants.{Accept};
 
-    ghost verdict = { λ j net route. Accept (record route.attrs { pref = j.0 }) };
+    ghost verdict = { λ j net route. Accept (record route.attrs { pref = j.pref }) };
 
     fn judge(&self, _net: &Prefix, route: &Route) -> Result<Verdict, OutOfMemory> {
         let copy = route.attrs.copy()?;
-        Ok(Verdict::Accept(Attrs {
-            pref: self.0,
+        let attrs = Attrs {
+            pref: self.pref,
             kind: copy.kind,
             dest: copy.dest,
             gw: copy.gw,
@@ -90,7 +93,8 @@ impl Judge for Preferring {
             lp: copy.lp,
             igp: copy.igp,
             coms: copy.coms,
-        }))
+        };
+        Ok(Verdict::Accept(Shared::new(self.alloc, attrs)?))
     }
 }
 

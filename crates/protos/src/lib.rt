@@ -10,8 +10,17 @@ ghost use Rattle.protos.specs.Protocols.{bgp_spec, static_spec};
 use attrs::{Kind, Seq, Src};
 use bits_ip::Addr;
 use import_core::{Fixed, ImportSpec, Limit};
-pub use import_core::{BGP_PREFERENCE, DEFAULT_LOCAL_PREFERENCE, DEFAULT_MED};
 use std::alloc::Global;
+
+/// What counts as the MED of a route without one (BIRD User's Guide, BGP, `default bgp_med`).
+pub const DEFAULT_MED: u32 = 0;
+
+/// The local preference of a route that is given none, and of each route of an external neighbour
+/// (BIRD User's Guide, BGP, `default bgp_local_pref`).
+pub const DEFAULT_LOCAL_PREFERENCE: u32 = 100;
+
+/// The preference of BGP's routes (BIRD User's Guide, channel options, `preference`).
+pub const BGP_PREFERENCE: u32 = 100;
 
 /// The preference of static routes (BIRD User's Guide, channel options, `preference`).
 pub const STATIC_PREFERENCE: u32 = 200;

@@ -6,7 +6,7 @@ ghost use Rattle.report.specs.ReportParts.{names_in};
 
 use crate::phase::{ChannelReport, ProtocolReport};
 use crate::place::write_key;
-use attrs::{Attrs, append_attrs};
+use attrs::{Attrs, Shared, append_attrs};
 use bits_ip::{OutOfMemory, write_number};
 use export_core::{LogItem, Sending};
 
@@ -114,7 +114,7 @@ fn again_word(again: bool) -> &'static str
 }
 
 /// The attributes, and a dash for a withdrawal.
-fn write_value(value: &Option<Attrs>, out: &mut Vec<u8>) -> Result<(), OutOfMemory>
+fn write_value(value: &Option<Shared<Attrs>>, out: &mut Vec<u8>) -> Result<(), OutOfMemory>
     ensures { OnOk result (out.new.items ≡ out.old.items ++ value_text value.now) }
 {
     match value {

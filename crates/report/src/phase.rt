@@ -1,5 +1,5 @@
 //! What is reported of a phase.
-use attrs::{Attrs, Change, Row, Seq};
+use attrs::{Attrs, Change, Row, Seq, Shared};
 use export_core::{Key, LogItem};
 use import_core::{Done, Mode};
 
@@ -83,5 +83,5 @@ pub struct ExportReport {
 #[derive(Debug, Drop)]
 pub struct Standing {
     pub key: Key,
-    pub attrs: Attrs,
+    pub attrs: Shared<Attrs>,
 }

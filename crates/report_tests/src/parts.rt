@@ -1,5 +1,5 @@
 //! Parts of phases, of which the tests put theirs together.
-use attrs::{Attrs, Clist, Dest, Kind, Origin, Path, Route, Seq, Src};
+use attrs::{Attrs, Clist, Dest, Kind, Origin, Path, Route, Seq, Shared, Src};
 use bits_ip::{Addr, Prefix};
 use export_core::Key;
 use report::{PhaseReport, ProtocolReport, phase_text};
@@ -49,8 +49,8 @@ pub fn learned(alloc: Global) -> Result<Attrs, Fail> {
 }
 
 /// As a static route has it.
-pub fn fixed(alloc: Global) -> Attrs {
-    Attrs {
+pub fn fixed(alloc: Global) -> Result<Shared<Attrs>, Fail> {
+    let attrs = Attrs {
         pref: 200,
         kind: Kind::Static,
         dest: Dest::Unreachable,
@@ -65,18 +65,17 @@ pub fn fixed(alloc: Global) -> Attrs {
         lp: None,
         igp: None,
         coms: Clist::new(alloc),
-    }
+    };
+    Ok(Shared::new(alloc, attrs)?)
 }
 
-pub fn route(attrs: Attrs) -> Route {
-    Route {
-        src: Src {
-            num: 0,
-            def_med: 0,
-            def_lp: 100,
-        },
-        attrs,
-    }
+pub fn route(alloc: Global, attrs: Attrs) -> Result<Route, Fail> {
+    let src = Src {
+        num: 0,
+        def_med: 0,
+        def_lp: 100,
+    };
+    Ok(Route::make(alloc, src, attrs)?)
 }
 
 /// A protocol that was told nothing.

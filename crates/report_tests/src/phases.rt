@@ -114,7 +114,7 @@ fn add_changes(alloc: Global, phase: &mut PhaseReport) -> Result<(), Fail> {
     changed.entries.push(Change {
         net: net()?,
         num: 0,
-        new: Some(route(learned(alloc)?)),
+        new: Some(route(alloc, learned(alloc)?)?),
     })?;
     phase.journals.push(changed)?;
     phase.journals.push(journal(alloc, "master6", 0)?)?;
@@ -138,7 +138,7 @@ fn add_state(alloc: Global, phase: &mut PhaseReport) -> Result<(), Fail> {
     let mut filled = table(alloc, "master4")?;
     filled.rows.push(Row {
         net: net()?,
-        routes: one(alloc, route(learned(alloc)?))?,
+        routes: one(alloc, route(alloc, learned(alloc)?)?)?,
     })?;
     phase.tables.push(filled)?;
     phase.tables.push(table(alloc, "master6")?)?;

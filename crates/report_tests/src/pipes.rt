@@ -1,6 +1,6 @@
 //! What channels sent, and pipes.
 use crate::parts::{assert_text, fixed, key, one, protocol, quiet, word};
-use attrs::{Attrs, Seq};
+use attrs::{Attrs, Seq, Shared};
 use export_core::{LogItem, Sending};
 use import_core::Mode;
 use report::{ChannelReport, ExportReport, ModeReport, PhaseReport, Standing};
@@ -38,7 +38,7 @@ fn piped(alloc: Global, number: u32) -> Result<PhaseReport, Fail> {
     Ok(phase)
 }
 
-fn sent(at: u64, again: bool, value: Option<Attrs>) -> Result<LogItem, Fail> {
+fn sent(at: u64, again: bool, value: Option<Shared<Attrs>>) -> Result<LogItem, Fail> {
     Ok(LogItem::Sent(Sending {
         at,
         key: key(0)?,
@@ -49,9 +49,9 @@ fn sent(at: u64, again: bool, value: Option<Attrs>) -> Result<LogItem, Fail> {
 
 /// A value, a withdrawal, and a value once more.
 fn log(alloc: Global, name: &str, pipe: bool) -> Result<ChannelReport, Fail> {
-    let mut items = one(alloc, sent(3, false, Some(fixed(alloc)))?)?;
+    let mut items = one(alloc, sent(3, false, Some(fixed(alloc)?))?)?;
     items.push(sent(4, false, None)?)?;
-    items.push(sent(5, true, Some(fixed(alloc)))?)?;
+    items.push(sent(5, true, Some(fixed(alloc)?))?)?;
     Ok(ChannelReport {
         name: word(alloc, name)?,
         pipe,
@@ -74,7 +74,7 @@ fn standing(alloc: Global) -> Result<Seq<Standing>, Fail> {
         alloc,
         Standing {
             key: key(0)?,
-            attrs: fixed(alloc),
+            attrs: fixed(alloc)?,
         },
     )
 }

@@ -10,4 +10,4 @@ mod steps;
 mod tests;
 
 pub use shapes::{PLAIN, Shape, put_all, shaped};
-pub use steps::{Step, net, new_route, play, route};
+pub use steps::{Step, change_of, net, new_route, play, route};

@@ -70,7 +70,7 @@ pub fn shaped(alloc: Global, shape: &Shape) -> Result<Route, Fail>
         def_med,
         def_lp,
     };
-    Ok(Route { src, attrs })
+    Ok(Route::make(alloc, src, attrs)?)
 }
 
 /// Puts a route of this shape into a table of IPv4 nets, at 10.0.0.0/8.

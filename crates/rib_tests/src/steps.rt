@@ -2,7 +2,7 @@ ghost use Rattle.std.specs.Prelude.{◌≡◌, IfOk, IfSome};
 ghost use Rattle.bits_ip.specs.Address.{family_of};
 
 use attrs::{Attrs, Change, Clist, Dest, Kind, Path, Route, Src};
-use bits_ip::{Addr, Family, NotPrefix, Prefix};
+use bits_ip::{Addr, Family, NotPrefix, OutOfMemory, Prefix};
 use rib::{Outcome, Rib};
 use std::alloc::Global;
 
@@ -24,8 +24,8 @@ pub fn net(number: u32, len: u8) -> Result<Prefix, NotPrefix>
 }
 
 /// A static route of a source.
-pub fn route(alloc: Global, num: u32, pref: u32) -> Route
-    ensures { result.src.num ≡ num }
+pub fn route(alloc: Global, num: u32, pref: u32) -> Result<Route, OutOfMemory>
+    ensures { IfOk result (λ route. route.src.num ≡ num) }
 {
     let attrs = Attrs {
         pref,
@@ -48,7 +48,13 @@ pub fn route(alloc: Global, num: u32, pref: u32) -> Route
         def_med: 0,
         def_lp: 100,
     };
-    Route { src, attrs }
+    Route::make(alloc, src, attrs)
+}
+
+/// The change that puts a static route of a source to a net.
+pub fn change_of(alloc: Global, net: Prefix, num: u32, pref: u32) -> Result<Change, OutOfMemory> {
+    let new = Some(route(alloc, num, pref)?);
+    Ok(Change { net, num, new })
 }
 
 /// A static route of a source, where it has a preference.
@@ -56,7 +62,7 @@ pub fn new_route(alloc: Global, num: u32, pref: Option<u32>) -> Option<Route>
     ensures { IfSome result (λ route. route.src.num ≡ num) }
 {
     match pref {
-        Some(pref) => Some(route(alloc, num, pref)),
+        Some(pref) => route(alloc, num, pref).ok(),
         None => None,
     }
 }

@@ -1,6 +1,6 @@
 ghost use Rattle.std.specs.Prelude.{◌≡◌, IfOk};
 
-use crate::{Step, net, new_route, play, route};
+use crate::{Step, change_of, net, new_route, play, route};
 use attrs::{Change, Route, Row, Select};
 use bits_ip::{Addr, Family};
 use rib::{Outcome, Rib, before};
@@ -131,11 +131,7 @@ fn a_route_stands_for_its_net_and_source(rt: HostRuntime) -> Result<(), Fail> {
         (16, 1, 100, false),
     ];
     for (len, num, pref, stands) in cases {
-        let change = Change {
-            net: net(TEN, len)?,
-            num,
-            new: Some(route(alloc, num, pref)),
-        };
+        let change = change_of(alloc, net(TEN, len)?, num, pref)?;
         assert_eq!(rt; table.stands(&change), stands);
     }
     let none = Change {
@@ -147,12 +143,24 @@ fn a_route_stands_for_its_net_and_source(rt: HostRuntime) -> Result<(), Fail> {
     Ok(())
 }
 
+/// Whether one of two routes is before the other, by their sources and preferences.
+fn is_before(alloc: Global, one: (u32, u32), other: (u32, u32)) -> Result<bool, Fail> {
+    let one = route(alloc, one.0, one.1)?;
+    let other = route(alloc, other.0, other.1)?;
+    Ok(before(&one, &other))
+}
+
 #[test]
-fn the_preference_comes_before_the_source(rt: HostRuntime) {
-    let alloc = rt.alloc();
-    assert!(rt; before(&route(alloc, 2, 200), &route(alloc, 1, 100)));
-    assert!(rt; before(&route(alloc, 1, 100), &route(alloc, 2, 100)));
-    assert!(rt; !before(&route(alloc, 2, 100), &route(alloc, 1, 100)));
+fn the_preference_comes_before_the_source(rt: HostRuntime) -> Result<(), Fail> {
+    let cases = [
+        ((2, 200), (1, 100), true),
+        ((1, 100), (2, 100), true),
+        ((2, 100), (1, 100), false),
+    ];
+    for (one, other, want) in cases {
+        assert_eq!(rt; is_before(rt.alloc(), one, other)?, want);
+    }
+    Ok(())
 }
 
 /// A table of four nets, each with one route.
@@ -279,11 +287,7 @@ fn nets_are_given_in_parts(rt: HostRuntime) -> Result<(), Fail> {
 }
 
 fn reserve_at(alloc: Global, table: &mut Rib, len: u8) -> Result<(), Fail> {
-    let change = Change {
-        net: net(TEN_ONE, len)?,
-        num: 1,
-        new: Some(route(alloc, 1, 100)),
-    };
+    let change = change_of(alloc, net(TEN_ONE, len)?, 1, 100)?;
     table.reserve(&change)?;
     Ok(())
 }

@@ -59,15 +59,13 @@ fn fixed(alloc: Global, dest: Dest) -> Result<Attrs, Fail> {
     Ok(attrs)
 }
 
-fn route(num: u32, attrs: Attrs) -> Route {
-    Route {
-        src: Src {
-            num,
-            def_med: 0,
-            def_lp: 100,
-        },
-        attrs,
-    }
+fn route(alloc: Global, num: u32, attrs: Attrs) -> Result<Route, Fail> {
+    let src = Src {
+        num,
+        def_med: 0,
+        def_lp: 100,
+    };
+    Ok(Route::make(alloc, src, attrs)?)
 }
 
 /// The reply for routes of 203.0.113.0/24 is wanted so, behind the heading.
@@ -94,7 +92,7 @@ fn one(alloc: Global, item: Route) -> Result<Seq<Route>, Fail> {
 fn a_row_is_answered(rt: HostRuntime) -> Result<(), Fail> {
     let alloc = rt.alloc();
     for (systems, origin, shown) in ORIGINS {
-        let routes = one(alloc, route(0, learned(alloc, systems, origin)?))?;
+        let routes = one(alloc, route(alloc, 0, learned(alloc, systems, origin)?)?)?;
         let want = format!(in alloc;
             "203.0.113.0/24 unicast [p1] * (100) [{shown}]\n\tvia 192.0.2.1\n"
         )?;
@@ -107,7 +105,7 @@ fn a_row_is_answered(rt: HostRuntime) -> Result<(), Fail> {
 fn a_static_route_has_no_origin(rt: HostRuntime) -> Result<(), Fail> {
     let alloc = rt.alloc();
     for (dest, word) in DESTS {
-        let routes = one(alloc, route(1, fixed(alloc, dest)?))?;
+        let routes = one(alloc, route(alloc, 1, fixed(alloc, dest)?)?)?;
         let want = format!(in alloc; "203.0.113.0/24 {word} [p2] * (100)\n")?;
         assert_reply(&rt, alloc, routes, &want)?;
     }
@@ -119,9 +117,12 @@ fn the_best_route_has_the_star(rt: HostRuntime) -> Result<(), Fail> {
     let alloc = rt.alloc();
     let mut no_gateway = learned(alloc, &[], None)?;
     no_gateway.gw = None;
-    let mut routes = one(alloc, route(0, learned(alloc, &[], Some(Origin::Igp))?))?;
-    routes.push(route(0, no_gateway))?;
-    routes.push(route(2, learned(alloc, &[65001], None)?))?;
+    let mut routes = one(
+        alloc,
+        route(alloc, 0, learned(alloc, &[], Some(Origin::Igp))?)?,
+    )?;
+    routes.push(route(alloc, 0, no_gateway)?)?;
+    routes.push(route(alloc, 2, learned(alloc, &[65001], None)?)?)?;
     let want = "203.0.113.0/24 unicast [p1] * (100) [i]\n\tvia 192.0.2.1\n\
         203.0.113.0/24 unicast [p1] (100) [?]\n\
         203.0.113.0/24 unicast [] (100) [AS65001?]\n\tvia 192.0.2.1\n";

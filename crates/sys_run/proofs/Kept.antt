@@ -21,7 +21,7 @@ use Rattle.sys_run.proofs.Runs.{pushes_cursor, takes_left, takes_open, takes_up}
 
 -- ---- the machine's channels
 
-open_of : (ch : machine.Channel) (p : ℕ) → cursor_of ch ≡ Some p → is_open ch ≡ true
+pub open_of : (ch : machine.Channel) (p : ℕ) → cursor_of ch ≡ Some p → is_open ch ≡ true
 open_of ch p e = on (is_open ch) e where
   on : (b : Bool) → (if b then Some ch.position else None) ≡ Some p → b ≡ true
   on true e = refl

@@ -9,6 +9,7 @@ mod Played
 mod Numbering
 mod Making
 mod Looping
+mod Settling
 pub mod Journals
 pub mod Chunks
 pub mod Runs

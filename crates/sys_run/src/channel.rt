@@ -1,5 +1,5 @@
 //! A channel to a neighbour.
-ghost use Rattle.std.specs.Prelude.{◌≡◌, ℕ, Bool, true, false, [], List, length, reverse, IfOk, IsTrue, OnOk, Option, Some};
+ghost use Rattle.std.specs.Prelude.{◌≡◌, ◌↔◌, ℕ, Bool, true, false, [], List, length, reverse, IfOk, IsTrue, OnOk, Option, Some};
 ghost use Rattle.attrs.specs.declared.route.Change.{Change};
 ghost use Rattle.bits_ip.specs.declared.address.Family.{Family};
 ghost use Rattle.core_machine.specs.Channels as machine;
@@ -7,6 +7,7 @@ ghost use Rattle.core_machine.specs.Channels.{IsFed, Obeys, if_open, is_open, op
 ghost use Rattle.core_machine.specs.Room.{lags, roomed};
 ghost use Rattle.core_machine.specs.Machine.{pushed_out, round};
 ghost use Rattle.core_machine.specs.Match.{Matches, MatchesFed};
+ghost use Rattle.core_machine.specs.Rounds.{IsSettled};
 ghost use Rattle.core_machine.specs.Rules.{Fits, IsRules, Rules};
 ghost use Rattle.core_setup.specs.Protocols.{signal_of};
 ghost use Rattle.export_core.specs.Standing.{is_open as is_log_open};
@@ -15,7 +16,7 @@ ghost use Rattle.sys_run.specs.Channels.{Awaits, HasBegun, IsChannel, IsExporter
 ghost use Rattle.sys_run.specs.Tables.{IsTable};
 
 use crate::table::Table;
-use attrs::{Attrs, Judge};
+use attrs::{Attrs, Judge, Shared};
 use bits_ip::OutOfMemory;
 use export_core::{Exporter, FeedState, Key, LogItem, LogOnly, Pushed};
 use import_core::Mark;
@@ -53,7 +54,7 @@ impl<J: Judge> Channel<J> {
     }
 
     /// The values that stand as sent, in the order of nets, where the channel is up.
-    pub(crate) fn standing(&self) -> Result<Option<Vec<(Key, Attrs)>>, OutOfMemory>
+    pub(crate) fn standing(&self) -> Result<Option<Vec<(Key, Shared<Attrs>)>>, OutOfMemory>
         ensures { IfOk result (λ standing. (rules : Rules) (i : ℕ) (family : Option Family)
             (history : List Change) (ch : machine.Channel)
             → IsChannel J.verdict rules i family history self.now ch → TellsStanding ch standing) }
@@ -195,6 +196,22 @@ impl<J: Judge> Channel<J> {
             None => do_without(mark)?,
         }
         Ok(())
+    }
+
+    /// Whether the channel, where it is up, has taken all that there is, and nothing is marked.
+    pub(crate) fn is_settled(&self, head: u64) -> bool
+        ensures { (rules : Rules) (i : ℕ) (family : Option Family) (history : List Change)
+            (ch : machine.Channel) → head ≡ length history
+            → IsChannel J.verdict rules i family history self.now ch
+            → IsTrue result ↔ (is_open ch ≡ true → IsSettled history ch) }
+    {
+        let Some(_) = self.cursor else {
+            return true;
+        };
+        match &self.exporter {
+            Some(exporter) => exporter.is_settled(head),
+            None => true,
+        }
     }
 
     /// Takes all that there is, and then pushes until nothing is marked.

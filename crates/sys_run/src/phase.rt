@@ -22,7 +22,7 @@ use crate::imports::Imports;
 use crate::parts::TableParts;
 use crate::player::{Answered, Core};
 use crate::table::Table;
-use attrs::{Attrs, Change, JEntry, Judge, Route, Seq};
+use attrs::{Attrs, Change, JEntry, Judge, Route, Seq, Shared};
 use bits_ip::OutOfMemory;
 use export_core::{Key, LogItem, Sending};
 use report::{
@@ -325,11 +325,11 @@ fn copy_sending(sending: &Sending) -> Result<Sending, OutOfMemory>
     })
 }
 
-fn copy_value(value: Option<&Attrs>) -> Result<Option<Attrs>, OutOfMemory>
+fn copy_value(value: Option<&Shared<Attrs>>) -> Result<Option<Shared<Attrs>>, OutOfMemory>
     ensures { IfOk result (λ copy. copy ≡ option_copied value.entry) }
 {
     match value {
-        Some(attrs) => Ok(Some(attrs.copy()?)),
+        Some(attrs) => Ok(Some(attrs.share()?)),
         None => Ok(None),
     }
 }
@@ -484,7 +484,7 @@ fn report_export<J: Judge>(
 
 fn all_standing(
     alloc: Global,
-    values: Option<Vec<(Key, Attrs)>>,
+    values: Option<Vec<(Key, Shared<Attrs>)>>,
 ) -> Result<Option<Seq<Standing>>, OutOfMemory>
     ensures { IfOk result (λ standing.
         standing ≡ option_map (λ held. map standing_in held.items) values) }
@@ -495,7 +495,10 @@ fn all_standing(
     }
 }
 
-fn standing_of(alloc: Global, values: Vec<(Key, Attrs)>) -> Result<Seq<Standing>, OutOfMemory>
+fn standing_of(
+    alloc: Global,
+    values: Vec<(Key, Shared<Attrs>)>,
+) -> Result<Seq<Standing>, OutOfMemory>
     ensures { IfOk result (λ standing. standing ≡ map standing_in values.items) }
 {
     let mut standing = Seq::new(alloc);

@@ -4,6 +4,7 @@ ghost use Rattle.std.specs.declared.alloc.Global.{Global};
 ghost use Rattle.std.specs.declared.vec.Vec.{Vec};
 ghost use Rattle.core_machine.specs.Lines.{Line as MachineLine, Reply};
 ghost use Rattle.core_machine.specs.Machine.{Applies, Begins, Plays, State, Steps, synced};
+ghost use Rattle.core_machine.specs.Rounds.{HasRounds};
 ghost use Rattle.core_setup.specs.Protocols.{rules_of, starts, with_start};
 ghost use Rattle.core_setup.specs.Setup.{IsSetup, Protocol, Setup};
 ghost use Rattle.report.specs.declared.phase.PhaseReport.{PhaseReport as Report};
@@ -286,13 +287,15 @@ impl<J: Judge> Core<J> {
         })
     }
 
-    /// The sync at a phase's end.
-    fn sync(&mut self) -> Result<(), OutOfMemory>
+    /// The sync at a phase's end; answers the number of its rounds.
+    fn sync(&mut self) -> Result<u32, OutOfMemory>
         requires { Holds J.verdict self.old }
         ensures core { OnOk result ((setup : Setup) (b s : State)
             → IsCore J.verdict setup b s self.old
             → IsCore J.verdict setup b (synced (rules_of setup) s) self.new) }
         ensures kept { OnOk result (Keeps self.old self.new) }
+        ensures rounds { IfOk result (λ rounds. (setup : Setup) (b s : State)
+            → IsCore J.verdict setup b s self.old → HasRounds (rules_of setup) s rounds) }
     {
         self.routes.sync()
     }

@@ -1,5 +1,5 @@
 //! All tables and channels.
-ghost use Rattle.std.specs.Prelude.{◌<◌, length, OnOk, reverse};
+ghost use Rattle.std.specs.Prelude.{◌≡◌, ◌↔◌, ◌<◌, true, length, IfOk, IsTrue, OnOk, reverse};
 ghost use Rattle.std.specs.List.{All};
 ghost use Rattle.attrs.specs.declared.route.Change.{Change};
 ghost use Rattle.core_machine.specs.Channels as machine;
@@ -7,6 +7,7 @@ ghost use Rattle.core_machine.specs.Channels.{Obeys, is_open, push_one, take_one
 ghost use Rattle.core_machine.specs.Machine.{State, appended, round, synced};
 ghost use Rattle.core_machine.specs.Machine as machine_steps;
 ghost use Rattle.core_machine.specs.Room.{in_room};
+ghost use Rattle.core_machine.specs.Rounds.{AreSettled, HasRounds, IsSettled};
 ghost use Rattle.core_machine.specs.Rules.{Fits};
 ghost use Rattle.core_setup.specs.Protocols.{rules_of, signal_of};
 ghost use Rattle.core_setup.specs.Setup.{Setup};
@@ -151,8 +152,34 @@ impl<J: Judge> Routes<J> {
         self.channels[number].settle(&self.tables[table])
     }
 
+    /// Whether a channel, where it is up, is settled.
+    fn is_settled_at(&self, number: usize) -> bool
+        requires holds { Holds J.verdict self.now }
+        requires there { number < length self.now.channels.items }
+        ensures { (setup : Setup) (s : State) → AreRoutes J.verdict setup s self.now
+            → IsTrue result ↔ (is_open (s.channels number) ≡ true
+            → IsSettled (s.history ((rules_of setup).table number)) (s.channels number)) }
+    {
+        let table = self.channels[number].table;
+        self.channels[number].is_settled(self.tables[table].head())
+    }
+
+    /// Whether each channel that is up is settled.
+    fn are_settled(&self) -> bool
+        requires { Holds J.verdict self.now }
+        ensures { (setup : Setup) (s : State) → AreRoutes J.verdict setup s self.now
+            → IsTrue result ↔ AreSettled (rules_of setup) s }
+    {
+        for number in 0..self.channels.len() {
+            if !self.is_settled_at(number) {
+                return false;
+            }
+        }
+        true
+    }
+
     /// Each channel that is up takes to the head of its table and pushes until nothing is marked.
-    pub(crate) fn sync(&mut self) -> Result<(), OutOfMemory>
+    fn round(&mut self) -> Result<(), OutOfMemory>
         requires { Holds J.verdict self.old }
         ensures { OnOk result ((setup : Setup) (s : State)
             → AreRoutes J.verdict setup s self.old
@@ -162,5 +189,22 @@ impl<J: Judge> Routes<J> {
             self.settle(number)?;
         }
         Ok(())
+    }
+
+    /// Rounds until each channel that is up is settled; answers how many. Without pipes one is
+    /// enough.
+    pub(crate) fn sync(&mut self) -> Result<u32, OutOfMemory>
+        requires { Holds J.verdict self.old }
+        ensures synced { OnOk result ((setup : Setup) (s : State)
+            → AreRoutes J.verdict setup s self.old
+            → AreRoutes J.verdict setup (synced (rules_of setup) s) self.new) }
+        ensures rounds { IfOk result (λ rounds. (setup : Setup) (s : State)
+            → AreRoutes J.verdict setup s self.old → HasRounds (rules_of setup) s rounds) }
+    {
+        if self.are_settled() {
+            return Ok(0);
+        }
+        self.round()?;
+        Ok(1)
     }
 }

@@ -59,7 +59,7 @@ impl Judge for Passes<'_> {
 
     fn judge(&self, net: &Prefix, route: &Route) -> Result<Verdict, OutOfMemory> {
         match self.policy {
-            PolicyDef::All => Ok(Verdict::Accept(route.attrs.copy()?)),
+            PolicyDef::All => Ok(Verdict::Accept(route.attrs.share()?)),
             PolicyDef::None => Ok(Verdict::Reject(None)),
             PolicyDef::Filter(number) => match self.filters.get(*number) {
                 Some(filter) => self.run(filter, net, route),

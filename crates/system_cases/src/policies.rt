@@ -26,29 +26,28 @@ fn route(alloc: Global) -> io::Result<Route> {
     let path = [65001, 65002].as_slice().to_vec(alloc)?;
     let mut coms = Clist::new(alloc);
     coms.add(65001, 1).map_err(|_| bad())?;
-    Ok(Route {
-        src: Src {
-            num: 0,
-            def_med: 0,
-            def_lp: 100,
-        },
-        attrs: Attrs {
-            pref: 100,
-            kind: Kind::Bgp,
-            dest: Dest::Unicast,
-            gw: Some(GATEWAY),
-            sender: Some(GATEWAY),
-            peer_id: ROUTER_ID,
-            ebgp: true,
-            path: Path::try_from_vec(path).ok_or(bad())?,
-            origin: Some(Origin::Igp),
-            next_hop: Some(GATEWAY),
-            med: Some(1),
-            lp: Some(100),
-            igp: None,
-            coms,
-        },
-    })
+    let src = Src {
+        num: 0,
+        def_med: 0,
+        def_lp: 100,
+    };
+    let attrs = Attrs {
+        pref: 100,
+        kind: Kind::Bgp,
+        dest: Dest::Unicast,
+        gw: Some(GATEWAY),
+        sender: Some(GATEWAY),
+        peer_id: ROUTER_ID,
+        ebgp: true,
+        path: Path::try_from_vec(path).ok_or(bad())?,
+        origin: Some(Origin::Igp),
+        next_hop: Some(GATEWAY),
+        med: Some(1),
+        lp: Some(100),
+        igp: None,
+        coms,
+    };
+    Route::make(alloc, src, attrs).map_err(|_| bad())
 }
 
 fn verdict_text(alloc: Global, verdict: &Verdict) -> io::Result<String> {

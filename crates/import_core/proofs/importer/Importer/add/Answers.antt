@@ -1,3 +1,4 @@
+use Rattle.std.proofs.Common.{◌∙◌}
 use Rattle.std.proofs.lemmas.Result.{IfOk-weaker}
 use Rattle.import_core.proofs.Methods.{add_method, route_seen}
 use Rattle.import_core.proofs.Steps.{add_off, off_from, stays}
@@ -11,4 +12,4 @@ returns-then-not-is_up-clause-step g c =
 
 pub returns-clause-step : goal.returns-clause-step
 returns-clause-step g c =
-    IfOk-weaker c.follow.result _ _ (λ step is. add_method g.J.Judge.verdict c.args.self.now c.args.net.now c.args.given.now _ _ _ c.is_up.result step c.is_up.ensures c.if-not-is_up.false (route_seen _ c.args.self.now c.self.view_is c.args.given.now c.in_ok-attrs.attrs c.in_ok-attrs.ensures) c.in_ok-decision.ensures is) c.follow.ensures.step
+    IfOk-weaker c.follow.result _ _ (λ step is. add_method g.J.Judge.verdict c.args.self.now c.args.net.now c.args.given.now _ _ _ c.is_up.result step c.is_up.ensures c.if-not-is_up.false (route_seen _ c.args.self.now c.self.view_is c.args.given.now c.in_ok-new.field-0 (c.in_ok-new.ensures ∙ c.in_ok-attrs.ensures)) c.in_ok-decision.ensures is) c.follow.ensures.step

@@ -3,7 +3,7 @@ use Rattle.core_machine.specs.Machine.{State}
 use Rattle.core_setup.specs.Setup.{Setup}
 use Rattle.sys_run.specs.Routes.{AreRoutes}
 use Rattle.sys_run.proofs.RouteSteps.{synced_to}
-use Rattle.sys_run.proofs.routes.Routes.sync.Given as goal
+use Rattle.sys_run.proofs.routes.Routes.round.Given as goal
 
 abbrev pub invariant-loop-number : goal.invariant-loop-number
 invariant-loop-number g l =
