@@ -1,11 +1,10 @@
 -- The best of a net's routes in a content, from routes in selection order.
-use Rattle.std.proofs.Common.{◌≡◌, ◌≢◌, ℕ, List, [], ◌∷◌, Option, Some, None, ⊎_elim, refl, sym, ap, ◌∙◌, subst}
-use Rattle.std.specs.Prelude.{Contains, ◌==◌}
+use Rattle.std.proofs.Common.{◌≡◌, ◌≢◌, ℕ, List, [], ◌∷◌, Some, None, ⊎_elim, refl, sym, ◌∙◌, subst}
+use Rattle.std.specs.Prelude.{Contains}
 use Rattle.std.proofs.lemmas.Bool.{ne_eqb, cond-false}
 use Rattle.bits_ip.specs.Prefix.{Net}
 use Rattle.attrs.specs.declared.route.Route.{Route}
 use Rattle.attrs.specs.History.{Content}
-use Rattle.attrs.specs.Selection.{before, IsBest}
 use Rattle.attrs.specs.Table.{AreRoutesOf, HasNone, IsBestOf, IsInOrder, IsOfSources, route_of}
 use Rattle.attrs.proofs.Rows.{Contains-cons_cases, Contains-nothing, first_found, found_among, is_or_before}
 

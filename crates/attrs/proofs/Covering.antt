@@ -1,5 +1,5 @@
 -- The test of covering answers what the relation says.
-use Rattle.std.proofs.Common.{◌≡◌, ℕ, ◌==◌, Bool, true, false, nat_le, IsTrue, ◌↔◌, refl, sym, subst}
+use Rattle.std.proofs.Common.{◌≡◌, ◌==◌, Bool, true, false, nat_le, IsTrue, ◌↔◌, refl, sym}
 use Rattle.std.proofs.lemmas.Bool.{and_parts, and_from, leb-true, le-leb, eqb-true, eq-eqb}
 use Rattle.bits_ip.specs.declared.address.Addr.{Addr}
 use Rattle.bits_ip.specs.declared.address.Addr.TheVariants.{V4, V6}

@@ -2,9 +2,10 @@ ghost use Rattle.std.specs.Prelude.{◌≡◌, ◌++◌, ◌∷◌, codes, decim
 ghost use Rattle.std.specs.List.{flat_map};
 ghost use Rattle.bits_ip.specs.Text.{addr_text};
 ghost use Rattle.attrs.specs.Text.{attrs_text, community_text, dest_text, kind_text, list_text, optional_text, origin_text, peer_text};
+ghost use Rattle.bits_ip.specs.Out.{Kept};
 
 use crate::{Attrs, Clist, Kind, Origin, Path};
-use bits_ip::{Addr, OutOfMemory, append_addr, write_number};
+use bits_ip::{Addr, OutOfMemory, TextOut, append_addr, write_number};
 use std::alloc::Global;
 
 /// Appends the attributes as one line without its end: the fields in their order, without what is
@@ -20,8 +21,9 @@ pub fn attr_text(alloc: Global, attrs: &Attrs, out: &mut Vec<u8>) -> Result<(), 
 }
 
 /// Appends the attributes, as `attr_text` does. On refusal a part of them may stand.
-pub fn append_attrs(attrs: &Attrs, out: &mut Vec<u8>) -> Result<(), OutOfMemory>
-    ensures { OnOk result (out.new.items ≡ out.old.items ++ attrs_text attrs.now) }
+pub fn append_attrs<W: TextOut>(attrs: &Attrs, out: &mut W) -> Result<(), W::Fault>
+    ensures written { OnOk result (W.written out.new ≡ W.written out.old ++ attrs_text attrs.now) }
+    ensures kept { Kept W.follows out.old out.new }
 {
     write_head(attrs, out)?;
     write_neighbour(attrs, out)?;
@@ -31,25 +33,27 @@ pub fn append_attrs(attrs: &Attrs, out: &mut Vec<u8>) -> Result<(), OutOfMemory>
 }
 
 /// The fields that each route has: the preference, the kind and what is done with packets.
-fn write_head(attrs: &Attrs, out: &mut Vec<u8>) -> Result<(), OutOfMemory>
-    ensures { OnOk result (out.new.items ≡ out.old.items ++ codes "pref " ++ decimal attrs.now.pref
+fn write_head<W: TextOut>(attrs: &Attrs, out: &mut W) -> Result<(), W::Fault>
+    ensures written { OnOk result
+        (W.written out.new ≡ W.written out.old ++ codes "pref " ++ decimal attrs.now.pref
         ++ 32 ∷ kind_text attrs.now.kind ++ 32 ∷ dest_text attrs.now.dest) }
+    ensures kept { Kept W.follows out.old out.new }
 {
-    out.extend_from_slice(b"pref ")?;
+    out.put(b"pref ")?;
     write_number(attrs.pref, out)?;
-    out.push(b' ')?;
-    out.extend_from_slice(attrs.kind.word().as_bytes())?;
-    out.push(b' ')?;
-    out.extend_from_slice(attrs.dest.word().as_bytes())?;
-    Ok(())
+    out.put(b" ")?;
+    out.put(attrs.kind.word().as_bytes())?;
+    out.put(b" ")?;
+    out.put(attrs.dest.word().as_bytes())
 }
 
 /// Where packets go, and from whom the route was learned.
-fn write_neighbour(attrs: &Attrs, out: &mut Vec<u8>) -> Result<(), OutOfMemory>
-    ensures { OnOk result (out.new.items ≡ out.old.items
+fn write_neighbour<W: TextOut>(attrs: &Attrs, out: &mut W) -> Result<(), W::Fault>
+    ensures written { OnOk result (W.written out.new ≡ W.written out.old
         ++ optional_text (codes " gw ") addr_text attrs.now.gw
         ++ optional_text (codes " from ") addr_text attrs.now.sender
         ++ peer_text attrs.now.kind attrs.now.peer_id attrs.now.ebgp) }
+    ensures kept { Kept W.follows out.old out.new }
 {
     write_optional_addr(" gw ", attrs.gw, out)?;
     write_optional_addr(" from ", attrs.sender, out)?;
@@ -57,11 +61,12 @@ fn write_neighbour(attrs: &Attrs, out: &mut Vec<u8>) -> Result<(), OutOfMemory>
 }
 
 /// The path that the route came by, with its origin and its next hop.
-fn write_way(attrs: &Attrs, out: &mut Vec<u8>) -> Result<(), OutOfMemory>
-    ensures { OnOk result (out.new.items ≡ out.old.items
+fn write_way<W: TextOut>(attrs: &Attrs, out: &mut W) -> Result<(), W::Fault>
+    ensures written { OnOk result (W.written out.new ≡ W.written out.old
         ++ list_text (codes " path") decimal attrs.now.path
         ++ optional_text (codes " origin ") origin_text attrs.now.origin
         ++ optional_text (codes " nh ") addr_text attrs.now.next_hop) }
+    ensures kept { Kept W.follows out.old out.new }
 {
     write_path(&attrs.path, out)?;
     write_optional_origin(attrs.origin, out)?;
@@ -69,11 +74,12 @@ fn write_way(attrs: &Attrs, out: &mut Vec<u8>) -> Result<(), OutOfMemory>
 }
 
 /// The numbers by which routes are compared.
-fn write_metrics(attrs: &Attrs, out: &mut Vec<u8>) -> Result<(), OutOfMemory>
-    ensures { OnOk result (out.new.items ≡ out.old.items
+fn write_metrics<W: TextOut>(attrs: &Attrs, out: &mut W) -> Result<(), W::Fault>
+    ensures written { OnOk result (W.written out.new ≡ W.written out.old
         ++ optional_text (codes " med ") decimal attrs.now.med
         ++ optional_text (codes " lp ") decimal attrs.now.lp
         ++ optional_text (codes " igp ") decimal attrs.now.igp) }
+    ensures kept { Kept W.follows out.old out.new }
 {
     write_optional_number(" med ", attrs.med, out)?;
     write_optional_number(" lp ", attrs.lp, out)?;
@@ -82,108 +88,114 @@ fn write_metrics(attrs: &Attrs, out: &mut Vec<u8>) -> Result<(), OutOfMemory>
 
 /// Appends a label and a number in decimal, where there is a number. On refusal a part of it may
 /// stand.
-pub fn write_optional_number(
+pub fn write_optional_number<W: TextOut>(
     label: &str,
     number: Option<u32>,
-    out: &mut Vec<u8>,
-) -> Result<(), OutOfMemory>
-    ensures { OnOk result (out.new.items ≡ out.old.items
+    out: &mut W,
+) -> Result<(), W::Fault>
+    ensures written { OnOk result (W.written out.new ≡ W.written out.old
         ++ optional_text label.now decimal number) }
+    ensures kept { Kept W.follows out.old out.new }
 {
     let Some(number) = number else {
         return Ok(());
     };
-    out.extend_from_slice(label.as_bytes())?;
+    out.put(label.as_bytes())?;
     write_number(number, out)
 }
 
-fn write_optional_addr(
+fn write_optional_addr<W: TextOut>(
     label: &str,
     addr: Option<Addr>,
-    out: &mut Vec<u8>,
-) -> Result<(), OutOfMemory>
-    ensures { OnOk result (out.new.items ≡ out.old.items
+    out: &mut W,
+) -> Result<(), W::Fault>
+    ensures written { OnOk result (W.written out.new ≡ W.written out.old
         ++ optional_text label.now addr_text addr) }
+    ensures kept { Kept W.follows out.old out.new }
 {
     let Some(addr) = addr else {
         return Ok(());
     };
-    out.extend_from_slice(label.as_bytes())?;
+    out.put(label.as_bytes())?;
     append_addr(&addr, out)
 }
 
-fn write_optional_origin(origin: Option<Origin>, out: &mut Vec<u8>) -> Result<(), OutOfMemory>
-    ensures { OnOk result (out.new.items ≡ out.old.items
+fn write_optional_origin<W: TextOut>(origin: Option<Origin>, out: &mut W) -> Result<(), W::Fault>
+    ensures written { OnOk result (W.written out.new ≡ W.written out.old
         ++ optional_text (codes " origin ") origin_text origin) }
+    ensures kept { Kept W.follows out.old out.new }
 {
     let Some(origin) = origin else {
         return Ok(());
     };
-    out.extend_from_slice(b" origin ")?;
-    out.extend_from_slice(origin.word().as_bytes())?;
-    Ok(())
+    out.put(b" origin ")?;
+    out.put(origin.word().as_bytes())
 }
 
 /// What only routes of BGP have: the neighbour's router id, and whether it is in another autonomous
 /// system.
-fn write_peer(attrs: &Attrs, out: &mut Vec<u8>) -> Result<(), OutOfMemory>
-    ensures { OnOk result (out.new.items ≡ out.old.items
+fn write_peer<W: TextOut>(attrs: &Attrs, out: &mut W) -> Result<(), W::Fault>
+    ensures written { OnOk result (W.written out.new ≡ W.written out.old
         ++ peer_text attrs.now.kind attrs.now.peer_id attrs.now.ebgp) }
+    ensures kept { Kept W.follows out.old out.new }
 {
     if attrs.kind == Kind::Static {
         return Ok(());
     }
-    out.extend_from_slice(b" id ")?;
+    out.put(b" id ")?;
     append_addr(&Addr::V4(attrs.peer_id), out)?;
-    out.extend_from_slice(if attrs.ebgp { b" ebgp" } else { b" ibgp" })?;
-    Ok(())
+    out.put(if attrs.ebgp { b" ebgp" } else { b" ibgp" })
 }
 
-fn write_path(path: &Path, out: &mut Vec<u8>) -> Result<(), OutOfMemory>
-    ensures { OnOk result (out.new.items ≡ out.old.items
+fn write_path<W: TextOut>(path: &Path, out: &mut W) -> Result<(), W::Fault>
+    ensures written { OnOk result (W.written out.new ≡ W.written out.old
         ++ list_text (codes " path") decimal path.now) }
+    ensures kept { Kept W.follows out.old out.new }
 {
     if path.is_empty() {
         return Ok(());
     }
-    out.extend_from_slice(b" path")?;
+    out.put(b" path")?;
     write_spaced_numbers(path.as_slice(), out)
 }
 
 /// Appends each number in decimal, with a space before it. On refusal a part of it may stand.
-pub fn write_spaced_numbers(numbers: &[u32], out: &mut Vec<u8>) -> Result<(), OutOfMemory>
-    ensures { OnOk result (out.new.items ≡ out.old.items
+pub fn write_spaced_numbers<W: TextOut>(numbers: &[u32], out: &mut W) -> Result<(), W::Fault>
+    ensures written { OnOk result (W.written out.new ≡ W.written out.old
         ++ flat_map (λ number. 32 ∷ decimal number) numbers.now) }
+    ensures kept { Kept W.follows out.old out.new }
 {
     for number in numbers {
-        out.push(b' ')?;
+        out.put(b" ")?;
         write_number(*number, out)?;
     }
     Ok(())
 }
 
 /// Appends ` com` and each community, where there are some. On refusal a part of it may stand.
-pub fn write_communities(communities: &Clist, out: &mut Vec<u8>) -> Result<(), OutOfMemory>
-    ensures { OnOk result (out.new.items ≡ out.old.items
+pub fn write_communities<W: TextOut>(communities: &Clist, out: &mut W) -> Result<(), W::Fault>
+    ensures written { OnOk result (W.written out.new ≡ W.written out.old
         ++ list_text (codes " com") community_text communities.now) }
+    ensures kept { Kept W.follows out.old out.new }
 {
     if communities.is_empty() {
         return Ok(());
     }
-    out.extend_from_slice(b" com")?;
+    out.put(b" com")?;
     write_spaced_pairs(communities.as_slice(), out)
 }
 
 /// Appends each community as `SYSTEM:VALUE` in decimal, with a space before it (RFC 1997). On
 /// refusal a part of it may stand.
-pub fn write_spaced_pairs(pairs: &[(u16, u16)], out: &mut Vec<u8>) -> Result<(), OutOfMemory>
-    ensures { OnOk result (out.new.items ≡ out.old.items
+pub fn write_spaced_pairs<W: TextOut>(pairs: &[(u16, u16)], out: &mut W) -> Result<(), W::Fault>
+    ensures written { OnOk result (W.written out.new ≡ W.written out.old
         ++ flat_map (λ pair. 32 ∷ community_text pair) pairs.now) }
+    ensures kept { Kept W.follows out.old out.new }
 {
     for (system, value) in pairs {
-        out.push(b' ')?;
+        out.put(b" ")?;
         write_number(*system, out)?;
-        out.push(b':')?;
+        out.put(b":")?;
         write_number(*value, out)?;
     }
     Ok(())

@@ -15,7 +15,7 @@ ghost use Rattle.birdcore_top.specs.Written.{HasBegun, HasPlayed, HasWritten};
 use crate::status::Status;
 use attrs::Judge;
 use bits_ip::OutOfMemory;
-use outside_io::{Failed, Sink, write_whole};
+use outside_io::{Block, Failed, Sink, Stream, write_whole};
 use report::{PhaseReport, phase_text};
 use script_lines::{Line, Name, Script};
 use std::alloc::Global;
@@ -94,7 +94,7 @@ fn write_phases<J: Judge, K: Sink>(
     Ok(())
 }
 
-/// Writes the report of one phase.
+/// Writes the report of one phase. Memory is wanted for a block alone, before anything is written.
 fn write_phase<K: Sink>(alloc: Global, report: &PhaseReport, out: &mut K) -> Result<(), Status>
     ensures whole { OnOk result
         (Appends (K.contents out.old) (K.contents out.new) (phase_text report.now)) }
@@ -106,9 +106,16 @@ fn write_phase<K: Sink>(alloc: Global, report: &PhaseReport, out: &mut K) -> Res
     ensures write { result ≡ Err Status.WriteFault → Rose (K.faults out.old) (K.faults out.new) }
     ensures later { K.faults out.old ≤ K.faults out.new }
 {
-    let mut text = Vec::new(alloc);
-    phase_text(report, &mut text)?;
-    match write_whole(out, &text) {
+    let mut stream = Stream::new(Block::make(alloc)?, out);
+    match phase_text(report, &mut stream) {
+        Ok(()) => {}
+        Err(never) => match never {},
+    }
+    let finished = stream.finish();
+    let sink = stream.into_sink();
+    // No effect at run time: from this use the proof reads what the sink holds.
+    let _ = &*sink;
+    match finished {
         Ok(()) => Ok(()),
         Err(Failed) => Err(Status::WriteFault),
     }

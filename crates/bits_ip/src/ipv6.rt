@@ -3,12 +3,14 @@ ghost use Rattle.std.specs.Fmt.{digits, digit_glyph};
 ghost use Rattle.std.specs.List.{flat_map, prefix_len};
 ghost use Rattle.bits_ip.specs.Parts.{behind_colon};
 ghost use Rattle.bits_ip.specs.Text.{v6_text, groups, colon_text, short_text, longest_run, run_start};
+ghost use Rattle.bits_ip.specs.Out.{Kept};
 
-use crate::OutOfMemory;
+use crate::TextOut;
 
 /// Appends an IPv6 address as RFC 5952, section 4, says.
-pub(crate) fn write_v6(number: u128, out: &mut Vec<u8>) -> Result<(), OutOfMemory>
-    ensures { OnOk result (out.new.items ≡ out.old.items ++ v6_text number) }
+pub(crate) fn write_v6<W: TextOut>(number: u128, out: &mut W) -> Result<(), W::Fault>
+    ensures written { OnOk result (W.written out.new ≡ W.written out.old ++ v6_text number) }
+    ensures kept { Kept W.follows out.old out.new }
 {
     let groups = groups_of(number);
     let run = longest_run(&groups);
@@ -20,17 +22,19 @@ pub(crate) fn write_v6(number: u128, out: &mut Vec<u8>) -> Result<(), OutOfMemor
 }
 
 /// Groups with two colons in place of a part of them.
-fn write_without(
+fn write_without<W: TextOut>(
     start: usize,
     count: usize,
     groups: &[u16],
-    out: &mut Vec<u8>,
-) -> Result<(), OutOfMemory>
+    out: &mut W,
+) -> Result<(), W::Fault>
     requires { start + count ≤ length groups.now }
-    ensures { OnOk result (out.new.items ≡ out.old.items ++ short_text start count groups.now) }
+    ensures written { OnOk result
+        (W.written out.new ≡ W.written out.old ++ short_text start count groups.now) }
+    ensures kept { Kept W.follows out.old out.new }
 {
     write_groups(&groups[..start], out)?;
-    out.extend_from_slice(b"::")?;
+    out.put(b"::")?;
     write_groups(&groups[start + count..], out)
 }
 
@@ -90,8 +94,9 @@ fn run_start(run: usize, groups: &[u16]) -> usize
 }
 
 /// Groups with a colon between each two.
-fn write_groups(groups: &[u16], out: &mut Vec<u8>) -> Result<(), OutOfMemory>
-    ensures { OnOk result (out.new.items ≡ out.old.items ++ colon_text groups.now) }
+fn write_groups<W: TextOut>(groups: &[u16], out: &mut W) -> Result<(), W::Fault>
+    ensures written { OnOk result (W.written out.new ≡ W.written out.old ++ colon_text groups.now) }
+    ensures kept { Kept W.follows out.old out.new }
 {
     match groups {
         [] => Ok(()),
@@ -103,25 +108,28 @@ fn write_groups(groups: &[u16], out: &mut Vec<u8>) -> Result<(), OutOfMemory>
 }
 
 /// Groups with a colon before each.
-fn write_more_groups(groups: &[u16], out: &mut Vec<u8>) -> Result<(), OutOfMemory>
-    ensures { OnOk result (out.new.items ≡ out.old.items ++ flat_map behind_colon groups.now) }
+fn write_more_groups<W: TextOut>(groups: &[u16], out: &mut W) -> Result<(), W::Fault>
+    ensures written { OnOk result
+        (W.written out.new ≡ W.written out.old ++ flat_map behind_colon groups.now) }
+    ensures kept { Kept W.follows out.old out.new }
 {
     for group in groups {
-        out.push(b':')?;
+        out.put(b":")?;
         write_hex(*group, out)?;
     }
     Ok(())
 }
 
 /// Hexadecimal digits in small letters, without leading zeros.
-fn write_hex(number: u16, out: &mut Vec<u8>) -> Result<(), OutOfMemory>
-    ensures { OnOk result (out.new.items ≡ out.old.items ++ digits 16 false number) }
+fn write_hex<W: TextOut>(number: u16, out: &mut W) -> Result<(), W::Fault>
+    ensures written { OnOk result
+        (W.written out.new ≡ W.written out.old ++ digits 16 false number) }
+    ensures kept { Kept W.follows out.old out.new }
 {
     if number >= 16 {
         write_hex(number / 16, out)?;
     }
-    out.push(hex_digit((number % 16) as u8))?;
-    Ok(())
+    out.put(&[hex_digit((number % 16) as u8)])
 }
 
 fn hex_digit(value: u8) -> u8

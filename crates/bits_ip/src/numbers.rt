@@ -1,7 +1,8 @@
 ghost use Rattle.std.specs.Prelude.{◌≡◌, ◌++◌, ◌↔◌, ℕ, IsTrue, MatchOption, OnOk, slice_index};
 ghost use Rattle.bits_ip.specs.Numbers.{IsNumber};
+ghost use Rattle.bits_ip.specs.Out.{Kept};
 
-use crate::OutOfMemory;
+use crate::TextOut;
 use itoa::{Buffer, Integer};
 
 /// Reads the number that the whole text spells: one or more decimal digits and nothing else, so no
@@ -28,10 +29,10 @@ pub(crate) fn begins_with_plus(text: &[u8]) -> bool
 }
 
 /// Appends an integer in decimal, as `{}` writes it: without leading zeros.
-pub fn write_number<N: Integer>(number: N, out: &mut Vec<u8>) -> Result<(), OutOfMemory>
-    ensures { OnOk result (out.new.items ≡ out.old.items ++ N.text number) }
+pub fn write_number<N: Integer, W: TextOut>(number: N, out: &mut W) -> Result<(), W::Fault>
+    ensures written { OnOk result (W.written out.new ≡ W.written out.old ++ N.text number) }
+    ensures kept { Kept W.follows out.old out.new }
 {
     let mut buffer = Buffer::new();
-    out.extend_from_slice(buffer.format(number).as_bytes())?;
-    Ok(())
+    out.put(buffer.format(number).as_bytes())
 }

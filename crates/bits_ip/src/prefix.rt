@@ -4,6 +4,8 @@ ghost use Rattle.bits_ip.specs.Prefix.{bit_at, Covers, IsPrefix, precedes, net_c
 
 use crate::{Addr, Family};
 use std::cmp::Ordering;
+use std::fmt::{self, Debug, Formatter, Write};
+use std::hash::{Hash, Hasher};
 use std::marker::Model;
 use thiserror::Error;
 
@@ -13,9 +15,15 @@ use thiserror::Error;
 pub struct NotPrefix;
 
 /// A prefix: an address whose bits behind the length are zero.
-#[derive(Clone, Copy, Debug, PartialEq, Eq, Hash)]
+///
+/// The address's number stands in four parts, since an `Addr` would take twice the room.
+#[derive(Clone, Copy)]
 pub struct Prefix {
-    addr: Addr,
+    first: u32,
+    second: u32,
+    third: u32,
+    fourth: u32,
+    family: Family,
     len: u8,
 }
 
@@ -24,11 +32,15 @@ impl Model for Prefix {
 
     ghost Value = { Net };
 
-    ghost view = { λ p. record { addr = p.addr; len = p.len } };
+    ghost use Rattle.bits_ip.specs.Quarters.{AreParts, net_in, parts_are, parts_of};
 
-    ghost invariant = { λ p. IsPrefix p.addr p.len };
+    ghost view = { net_in };
 
-    ghost inverse = { λ n. record { addr = n.addr; len = n.len } };
+    ghost invariant = { λ p. AreParts p × IsPrefix (net_in p).addr p.len };
+
+    ghost inverse = { parts_of };
+
+    ghost inverse_ok = { λ p is. parts_are p is.0 };
 }
 
 impl Prefix {
@@ -39,9 +51,24 @@ impl Prefix {
         ensures refused { OnErr result (IsPrefix addr len → ⊥) }
     {
         if len <= addr.width() && addr.ends_at(len) {
-            Ok(Prefix { addr, len })
+            Ok(Prefix::of(addr, len))
         } else {
             Err(NotPrefix)
+        }
+    }
+
+    fn of(addr: Addr, len: u8) -> Prefix
+        requires { IsPrefix addr len }
+        ensures { (result.addr ≡ addr) × (result.len ≡ len) }
+    {
+        let number = addr.number();
+        Prefix {
+            first: (number >> 96) as u32,
+            second: ((number >> 64) % 0x1_0000_0000) as u32,
+            third: ((number >> 32) % 0x1_0000_0000) as u32,
+            fourth: (number % 0x1_0000_0000) as u32,
+            family: addr.family(),
+            len,
         }
     }
 
@@ -50,7 +77,13 @@ impl Prefix {
         ensures value { result ≡ self.now.addr }
         ensures prefix { IsPrefix self.now.addr self.now.len }
     {
-        self.addr
+        let front = u128::from(self.first) * 0x1_0000_0000 + u128::from(self.second);
+        let back = u128::from(self.third) * 0x1_0000_0000 + u128::from(self.fourth);
+        let number = front * 0x1_0000_0000_0000_0000 + back;
+        match self.family {
+            Family::V4 => Addr::V4(number as u32),
+            Family::V6 => Addr::V6(number),
+        }
     }
 
     /// How many bits of the address count.
@@ -63,10 +96,7 @@ impl Prefix {
     pub fn family(&self) -> Family
         ensures { result ≡ family_of self.now.addr }
     {
-        match self.addr {
-            Addr::V4(_) => Family::V4,
-            Addr::V6(_) => Family::V6,
-        }
+        self.family
     }
 
     /// The bit at this place, the first at 0, of those that count.
@@ -74,7 +104,7 @@ impl Prefix {
         requires { i < self.now.len }
         ensures { IsTrue result ↔ (bit_at self.now.addr i ≡ 1) }
     {
-        self.addr.front_bits(i + 1) % 2 == 1
+        self.addr().front_bits(i + 1) % 2 == 1
     }
 
     /// One family, not longer than the other, and its bits are the other's first.
@@ -83,7 +113,7 @@ impl Prefix {
     {
         self.family() == other.family()
             && self.len <= other.len
-            && self.addr.front_bits(self.len) == other.addr.front_bits(self.len)
+            && self.addr().front_bits(self.len) == other.addr().front_bits(self.len)
     }
 
     /// The order of nets: IPv4 first, then by address, then by length.
@@ -91,6 +121,53 @@ impl Prefix {
         ensures { result ≡ precedes self.now other.now }
     {
         self.cmp(other) == Ordering::Less
+    }
+}
+
+impl PartialEq for Prefix {
+    ghost use Rattle.std.specs.Prelude.{◌==◌};
+    ghost use Rattle.std.proofs.Common.{rules};
+    ghost use Rattle.std.specs.Cmp.Rules.{comparing};
+    ghost use Rattle.std.specs.Ordering.{eq_of_both, on};
+    ghost use Rattle.bits_ip.specs.Prefix.{Net};
+
+    ghost eq = { eq_of_both (on (λ (n : Net). n.addr) ⟦<Addr as PartialEq>⟧.eq) (on (λ (n : Net). n.len) ◌==◌) };
+
+    ghost laws = { Prim.search (comparing, rules) };
+
+    fn eq(&self, other: &Prefix) -> bool {
+        self.addr() == other.addr() && self.len == other.len
+    }
+}
+
+impl Eq for Prefix {
+    ghost use Rattle.std.proofs.Common.{rules};
+    ghost use Rattle.std.specs.Cmp.Rules.{comparing};
+
+    ghost laws = { Prim.search (comparing, rules) };
+}
+
+impl Hash for Prefix {
+    ghost use Rattle.std.specs.Prelude.{◌++◌};
+    ghost use Rattle.std.proofs.Common.{rules};
+    ghost use Rattle.std.specs.Hash as fed;
+
+    ghost hash_input = { λ n. ⟦<Addr as Hash>⟧.hash_input n.addr ++ fed.u8 n.len };
+
+    ghost respects_eq = { Prim.search rules };
+
+    fn hash<H: Hasher>(&self, state: &mut H) {
+        self.addr().hash(state);
+        self.len.hash(state);
+    }
+}
+
+impl Debug for Prefix {
+    fn fmt<W: Write>(&self, f: &mut Formatter<W>) -> fmt::Result {
+        f.debug_struct("Prefix")
+            .field("addr", &self.addr())
+            .field("len", &self.len)
+            .finish()
     }
 }
 
@@ -108,8 +185,8 @@ impl Ord for Prefix {
     ghost matches_eq = { Prim.search (comparing, rules) };
 
     fn cmp(&self, other: &Prefix) -> Ordering {
-        let family = self.addr.family_rank().cmp(&other.addr.family_rank());
-        let address = self.addr.number().cmp(&other.addr.number());
+        let family = self.addr().family_rank().cmp(&other.addr().family_rank());
+        let address = self.addr().number().cmp(&other.addr().number());
         family.then(address).then(self.len.cmp(&other.len))
     }
 }

@@ -31,7 +31,8 @@ use Rattle.filt_tree.specs.declared.tree.TStmt.TheVariants as ts
 use Rattle.filt_tree.specs.declared.tree.TStmt.TheOpen.{TStmt-F}
 use Rattle.filt_tree.specs.declared.tree.TStmt.TheFolds.{map-TStmt}
 use Rattle.filt_tree.specs.declared.tree.TTarget.{TTarget}
-use Rattle.filt_tree.specs.Trees.{Tables, expr, expr_step, exprs, parts, access, access_over, accesses_of, accessed, all_values, chain, joints, stmt, stmt_step, body, assign, arms, arm_of, arm_over, arms_of, in_order, result}
+use Rattle.filt_tree.specs.declared.tree.TTest.{TTest}
+use Rattle.filt_tree.specs.Trees.{Tables, expr, expr_step, exprs, parts, access, access_over, accesses_of, accessed, all_values, chain, joints, stmt, stmt_step, body, assign, arms, arm_of, arm_over, arms_of, in_order, result, test}
 use Rattle.filt_types.proofs.Trees.{by_parts}
 
 of-Value : (A : Type 0) (step : TExpr-F A → A) (v : Fixed) → fold-TExpr A step (te.Value v) ≡ step (map-TExpr TExpr A (fold-TExpr A step) (TExpr-F.Value v))
@@ -78,6 +79,9 @@ of-Sum A step a v = search (rules, expr_lemmas)
 
 of-Compare : (A : Type 0) (step : TExpr-F A → A) (op : Compare) (a b : Box TExpr Global) → fold-TExpr A step (te.Compare op a b) ≡ step (map-TExpr TExpr A (fold-TExpr A step) (TExpr-F.Compare op a b))
 of-Compare A step op a b = search (rules, expr_lemmas)
+
+of-Test : (A : Type 0) (step : TExpr-F A → A) (what : TTest) → fold-TExpr A step (te.Test what) ≡ step (map-TExpr TExpr A (fold-TExpr A step) (TExpr-F.Test what))
+of-Test A step what = search (rules, expr_lemmas)
 
 of-Joint : (A : Type 0) (step : TExpr-F A → A) (a : Box TExpr Global) (v : Vec (Joint × TExpr) Global) → fold-TExpr A step (te.Joint a v) ≡ step (map-TExpr TExpr A (fold-TExpr A step) (TExpr-F.Joint a v))
 of-Joint A step a v = search (rules, expr_lemmas)
@@ -172,6 +176,9 @@ expr-Sum a v t = ap (λ (f : Tables → Run Val). f t) (of-Sum (Tables → Run V
 
 pub expr-Compare : (op : Compare) (a b : Box TExpr Global) (t : Tables) → expr (te.Compare op a b) t ≡ on_two (expr a.value t) (expr b.value t) (compare_of op)
 expr-Compare op a b t = ap (λ (f : Tables → Run Val). f t) (of-Compare (Tables → Run Val) expr_step op a b)
+
+pub expr-Test : (what : TTest) (t : Tables) → expr (te.Test what) t ≡ test t.around what
+expr-Test what t = ap (λ (f : Tables → Run Val). f t) (of-Test (Tables → Run Val) expr_step what)
 
 pub expr-Joint : (a : Box TExpr Global) (v : Vec (Joint × TExpr) Global) (t : Tables) → expr (te.Joint a v) t ≡ joints (expr a.value t) (parts t v.items)
 expr-Joint a v t = ap (λ (f : Tables → Run Val). f t) (of-Joint (Tables → Run Val) expr_step a v) ∙ ap (λ (rs : List (Joint × Run Val)). joints (expr a.value t) rs) (by_parts {B = Joint × (Tables → Run Val)} _ _ _ (λ a. refl) v.items)

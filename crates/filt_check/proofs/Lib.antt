@@ -6,5 +6,6 @@ pub mod Lookups
 pub mod Placed
 pub mod Resolving
 pub mod Sets
+pub mod Tested
 pub mod Told
 pub mod Whole

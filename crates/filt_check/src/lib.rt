@@ -9,6 +9,7 @@
 mod blocks;
 mod check;
 mod collect;
+mod comparing;
 mod fault;
 mod items;
 pub mod laws;

@@ -18,6 +18,7 @@ ghost use Rattle.filt_values.specs.Seen.{val_of_fixed};
 ghost use Rattle.filt_values.specs.Values.{VString};
 ghost use Rattle.filt_check.specs.Seen.{names_of, access_in, accesses_in, values_in, parts_in};
 
+use crate::comparing::comparison;
 use crate::items::{mask_of, set_of};
 use crate::names::{function, named};
 use attrs::{Dest, Kind, Origin};
@@ -250,7 +251,7 @@ fn compare(
 {
     let a = boxed(alloc, text, scope, names, left)?;
     let b = boxed(alloc, text, scope, names, right)?;
-    Ok(TExpr::Compare(op, a, b))
+    Ok(comparison(op, a, b))
 }
 
 /// Values between commas.

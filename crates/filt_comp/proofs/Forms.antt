@@ -12,6 +12,7 @@ use Rattle.filt_tree.specs.declared.tree.TAccess.{TAccess}
 use Rattle.filt_tree.specs.declared.tree.TAccess.TheVariants as accesses
 use Rattle.filt_tree.specs.declared.tree.TArm.{TArm}
 use Rattle.filt_tree.specs.declared.tree.TTarget.{TTarget}
+use Rattle.filt_tree.specs.declared.tree.TTest.{TTest}
 use Rattle.filt_tree.specs.declared.tree.TExpr.{TExpr, fold-TExpr, the_lemmas as expr_lemmas}
 use Rattle.filt_tree.specs.declared.tree.TExpr.TheVariants as e
 use Rattle.filt_tree.specs.declared.tree.TExpr.TheOpen.{TExpr-F}
@@ -59,6 +60,9 @@ of-Sum A step a v = search (rules, expr_lemmas)
 
 pub of-Compare : (A : Type 0) (step : TExpr-F A → A) (compare : Compare) (a : Box TExpr Global) (b : Box TExpr Global) → fold-TExpr A step (e.Compare compare a b) ≡ step (map-TExpr TExpr A (fold-TExpr A step) (TExpr-F.Compare compare a b))
 of-Compare A step compare a b = search (rules, expr_lemmas)
+
+pub of-Test : (A : Type 0) (step : TExpr-F A → A) (what : TTest) → fold-TExpr A step (e.Test what) ≡ step (map-TExpr TExpr A (fold-TExpr A step) (TExpr-F.Test what))
+of-Test A step what = search (rules, expr_lemmas)
 
 pub of-Joint : (A : Type 0) (step : TExpr-F A → A) (a : Box TExpr Global) (v : Vec (Joint × TExpr) Global) → fold-TExpr A step (e.Joint a v) ≡ step (map-TExpr TExpr A (fold-TExpr A step) (TExpr-F.Joint a v))
 of-Joint A step a v = search (rules, expr_lemmas)

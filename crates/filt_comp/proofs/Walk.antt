@@ -21,7 +21,8 @@ use Rattle.filt_values.specs.declared.value.Value.{Value}
 use Rattle.filt_values.specs.Operators.{bool_in, pair_of, not_of, emptied_of}
 use Rattle.filt_values.specs.Operators as operators
 use Rattle.filt_values.specs.Seen.{val_of, val_of_fixed}
-use Rattle.filt_values.specs.Values.{Val, VInt, VBool, VPath, VClist, default_of}
+use Rattle.filt_values.specs.Values.{Val, VInt, VBool, VPair, VPath, VClist, default_of}
+use Rattle.filt_meaning.specs.Attributes.{attribute_of}
 use Rattle.filt_meaning.specs.Configuration.{given_by, verdict_of}
 use Rattle.filt_meaning.specs.Flow.{Stuck, Flow, Done, Stopped, Frame, Run, and_then, plainly, why_of}
 use Rattle.filt_meaning.specs.Meaning as m
@@ -33,6 +34,8 @@ use Rattle.filt_tree.specs.declared.tree.TAccess.{TAccess}
 use Rattle.filt_tree.specs.declared.tree.TAccess.TheVariants as accesses
 use Rattle.filt_tree.specs.declared.tree.TArm.{TArm}
 use Rattle.filt_tree.specs.declared.tree.TTarget.{TTarget}
+use Rattle.filt_tree.specs.declared.tree.TTest.{TTest}
+use Rattle.filt_tree.specs.declared.tree.TTest.TheVariants as tests
 use Rattle.filt_tree.specs.declared.tree.TExpr.{TExpr}
 use Rattle.filt_tree.specs.declared.tree.TFilter.{TFilter}
 use Rattle.filt_tree.specs.declared.tree.TExpr.TheVariants as e
@@ -47,7 +50,7 @@ use Rattle.filt_comp.specs.declared.chain.OfTwo.TheVariants as of_two
 use Rattle.filt_comp.specs.declared.setting.Setting.{Setting}
 use Rattle.filt_comp.specs.declared.stop.Stop.{Stop}
 use Rattle.filt_comp.specs.declared.stop.Stop.TheVariants as stops
-use Rattle.filt_comp.specs.Seen.{Halts, Gives, stop_of, Part, One, Two, Joined, part_of_access, made_by, made_by_all, condition, decides, elements_in, one_of, two_of, around_in, tables_in, IsOfCall}
+use Rattle.filt_comp.specs.Seen.{Halts, Gives, stop_of, Part, One, Two, Joined, part_of_access, made_by, made_by_all, condition, decides, elements_in, one_of, two_of, around_in, tables_in, test_in, IsOfCall}
 use Rattle.filt_comp.proofs.Forms as forms
 use Rattle.filt_comp.proofs.Forms.{by_parts, by_accesses}
 
@@ -251,6 +254,24 @@ method_is t kind a b x first second vals attrs is f g = two_is t (of_two.Method 
 
 pub compare_is : (t : Tables) (compare : Compare) (a b : Box TExpr Global) (x first second : TExpr) (vals : Frame) (attrs : Attrs) → x ≡ e.Compare compare a b → first ≡ a.value → second ≡ b.value → trees.expr x t vals attrs ≡ chained t first (Two (of_two.Compare compare) second ∷ []) vals attrs
 compare_is t compare a b x first second vals attrs is f g = two_is t (of_two.Compare compare) a b x first second vals attrs (ap (λ (x : TExpr). trees.expr x t) is ∙ ap (λ (f : Tables → Run Val). f t) (forms.of-Compare _ trees.expr_step compare a b)) f g
+
+-- ---- tests
+
+plainly_then : (r : Result Val Failure) (f : Val → Result Val Failure) (attrs : Attrs) → and_then (plainly r attrs) (λ v attrs. plainly (f v) attrs) ≡ plainly (operators.and_then r f) attrs
+plainly_then (Ok v) f attrs = refl
+plainly_then (Err failure) f attrs = refl
+
+part_then : (r : Result Val Failure) (f g : Val → Result Val Failure) (attrs : Attrs) → and_then (and_then (plainly r attrs) (λ v attrs. plainly (f v) attrs)) (λ v attrs. plainly (g v) attrs) ≡ plainly (operators.and_then r (λ v. operators.and_then (f v) g)) attrs
+part_then (Ok v) f g attrs = plainly_then (f v) g attrs
+part_then (Err failure) f g attrs = refl
+
+test_plain : (around : Around) (what : TTest) (vals : Frame) (attrs : Attrs) → trees.test around what vals attrs ≡ plainly (test_in around what attrs) attrs
+test_plain around (tests.Attribute a op n) vals attrs = plainly_then (attribute_of around a attrs) (λ v. m.compare_of op v (VInt n)) attrs
+test_plain around (tests.Property a p op n) vals attrs = part_then (attribute_of around a attrs) (m.property_of p) (λ v. m.compare_of op v (VInt n)) attrs
+test_plain around (tests.Pair x y op a) vals attrs = plainly_then (attribute_of around a attrs) (λ v. m.compare_of op (VPair (x, y)) v) attrs
+
+pub test_is : (t : Tables) (what : TTest) (x : TExpr) (vals : Frame) (attrs : Attrs) → x ≡ e.Test what → trees.expr x t vals attrs ≡ plainly (test_in t.around what attrs) attrs
+test_is t what x vals attrs is = ap (λ (x : TExpr). trees.expr x t vals attrs) is ∙ ap (λ (f : Tables → Run Val). f t vals attrs) (forms.of-Test _ trees.expr_step what) ∙ test_plain t.around what vals attrs
 
 pub called_is : (t : Tables) (n : ℕ) (v : Vec TExpr Global) (x : TExpr) (es : List TExpr) (vals : Frame) (attrs : Attrs) → x ≡ e.Call n v → es ≡ v.items → trees.expr x t vals attrs ≡ and_then (m.call (slice_get t.functions n) (trees.all_values (trees.exprs t es)) vals attrs) (λ given attrs. plainly (there given) attrs)
 called_is t n v x es vals attrs is i =

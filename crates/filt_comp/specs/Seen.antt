@@ -11,8 +11,10 @@ use Rattle.filt_values.specs.declared.value.ListFailure.{ListFailure}
 use Rattle.filt_values.specs.declared.value.ListFailure.TheVariants as list_failures
 use Rattle.filt_values.specs.declared.value.Value.{Value}
 use Rattle.filt_values.specs.Operators.{bool_in, emptied_of, not_of, pair_of}
+use Rattle.filt_values.specs.Operators as operators
 use Rattle.filt_values.specs.Seen.{val_of, val_of_fixed}
 use Rattle.filt_values.specs.Values.{Val, VInt, VPair, VPath, VClist}
+use Rattle.filt_meaning.specs.Attributes.{attribute_of}
 use Rattle.filt_meaning.specs.Flow.{AtEnd, Returned, Accepted, Rejected, Faulted, Stuck, Flow, Done, Stopped, Frame, Run, and_then, plainly}
 use Rattle.filt_meaning.specs.Meaning.{Act, nothing, compare_of, factor_of, method_of, property_of, right_side, term_of}
 use Rattle.filt_meaning.specs.Names.{Around}
@@ -20,6 +22,8 @@ use Rattle.filt_tree.specs.declared.tree.TAccess.{TAccess}
 use Rattle.filt_tree.specs.declared.tree.TAccess.TheVariants as accesses
 use Rattle.filt_tree.specs.declared.tree.TExpr.{TExpr}
 use Rattle.filt_tree.specs.declared.tree.TStmt.{TStmt}
+use Rattle.filt_tree.specs.declared.tree.TTest.{TTest}
+use Rattle.filt_tree.specs.declared.tree.TTest.TheVariants as tests
 use Rattle.filt_tree.specs.Trees.{Tables, expr, stmt, tables}
 use Rattle.filt_comp.specs.declared.chain.OfOne.{OfOne}
 use Rattle.filt_comp.specs.declared.chain.OfOne.TheVariants as of_one
@@ -90,6 +94,18 @@ pub record IsOfCall (outer : Setting) (number constants : ℕ) (inner : Setting)
   pub constants_same : inner.constants.now ≡ outer.constants.now
   pub seen : inner.seen.now ≡ take constants outer.constants.now
   pub functions : inner.functions.now ≡ take number outer.functions.now
+
+-- ---- tests
+
+-- what a test comes to, as an operator on the values of attributes
+abbrev pub test_in : Around → TTest → Attrs → Result Val Failure
+test_in around (tests.Attribute a op n) attrs =
+    operators.and_then (attribute_of around a attrs) (λ v. compare_of op v (VInt n))
+test_in around (tests.Property a p op n) attrs =
+    operators.and_then (attribute_of around a attrs)
+    (λ v. operators.and_then (property_of p v) (λ w. compare_of op w (VInt n)))
+test_in around (tests.Pair x y op a) attrs =
+    operators.and_then (attribute_of around a attrs) (λ v. compare_of op (VPair (x, y)) v)
 
 -- ---- chains of operators
 

@@ -205,7 +205,7 @@ fn apply_term<'a>(term: Term, left: &Value<'a>, right: &Value<'a>) -> Result<Val
     }
 }
 
-fn apply_compare<'a>(
+pub(crate) fn apply_compare<'a>(
     compare: Compare,
     left: &Value<'a>,
     right: &Value<'a>,

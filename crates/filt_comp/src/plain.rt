@@ -4,16 +4,17 @@
 
 ghost use Rattle.std.specs.Prelude.{◌≡◌, [], ◌∷◌, false, map, slice_get, Ok, IfSome, IsTrue};
 ghost use Rattle.attrs.specs.Clist.{has_pair, same_pair};
+ghost use Rattle.filt_meaning.specs.Attributes.{attribute_of};
 ghost use Rattle.filt_meaning.specs.Flow.{Done, and_then, plainly};
 ghost use Rattle.filt_meaning.specs.Meaning.{compare_of, on_two, property_of};
-ghost use Rattle.filt_meaning.specs.Names.{there};
+ghost use Rattle.filt_meaning.specs.Names.{Around, there};
 ghost use Rattle.filt_tree.specs.declared.tree.TAccess.TheVariants as accesses;
 ghost use Rattle.filt_tree.specs.Trees as trees;
 ghost use Rattle.filt_values.specs.Operators as operators;
 ghost use Rattle.filt_values.specs.Operators.{matches_of, pair_of};
 ghost use Rattle.filt_values.specs.Seen.{val_of, val_of_fixed};
 ghost use Rattle.filt_values.specs.Values.{VBool, VClist, VInt, VPair, VPath, VPrefix, VPrefixSet};
-ghost use Rattle.filt_comp.specs.Seen.{tables_in};
+ghost use Rattle.filt_comp.specs.Seen.{around_in, tables_in};
 
 use crate::act::is_element;
 use crate::running::Running;
@@ -22,7 +23,7 @@ use attrs::{Clist, Path};
 use bits_ip::Prefix;
 use filt_sets::PrefixSet;
 use filt_syntax::{Attribute, Compare, Property};
-use filt_tree::{TAccess, TExpr, TStmt};
+use filt_tree::{TAccess, TExpr, TStmt, TTest};
 use filt_values::{Fixed, Value};
 
 /// Whether the statement is an `if` whose condition is there already, and doesn't hold.
@@ -43,7 +44,8 @@ pub(crate) fn passes<'a>(
     }
 }
 
-/// Whether a condition is there already, and doesn't hold.
+/// Whether a condition is there already, and doesn't hold. Only tests stand here: what is inlined
+/// into the loop over statements has to be small.
 #[inline(always)]
 fn is_refuted<'a>(
     setting: &Setting<'a>,
@@ -56,198 +58,99 @@ fn is_refuted<'a>(
         ≡ Done (VBool false) attrs.now }
 {
     match e {
-        TExpr::Compare(compare, left, right) => {
-            refutes(setting, *compare, left, right, frame, attrs)
-        }
-        _ => false,
+        TExpr::Test(what) => test_fails(setting, what, frame, attrs),
+        _ => is_refuted_otherwise(setting, e, frame, attrs),
     }
 }
 
-/// Whether a comparison doesn't hold. What is compared with a literal stands here, and only the
-/// rest behind a call: what is inlined into the loop over statements has to be small.
-#[inline(always)]
-fn refutes<'a>(
-    setting: &Setting<'a>,
-    compare: Compare,
-    left: &TExpr,
-    right: &TExpr,
-    frame: &[Value<'a>],
-    attrs: &Running<'a>,
-) -> bool
-    ensures { IsTrue result → on_two (trees.expr left.now (tables_in setting.now))
-        (trees.expr right.now (tables_in setting.now)) (compare_of compare)
-        (map val_of frame.now) attrs.now
-        ≡ Done (VBool false) attrs.now }
-{
-    match literal(setting, right, frame, attrs) {
-        Some(b) => match held(setting, left, frame, attrs) {
-            Some(a) => differs(compare, a, b),
-            None => refutes_otherwise(setting, compare, left, right, frame, attrs),
-        },
-        None => refutes_community(setting, compare, left, right, frame, attrs),
-    }
-}
-
-/// The same, where the right operand is no literal.
-#[inline(always)]
-fn refutes_community<'a>(
-    setting: &Setting<'a>,
-    compare: Compare,
-    left: &TExpr,
-    right: &TExpr,
-    frame: &[Value<'a>],
-    attrs: &Running<'a>,
-) -> bool
-    ensures { IsTrue result → on_two (trees.expr left.now (tables_in setting.now))
-        (trees.expr right.now (tables_in setting.now)) (compare_of compare)
-        (map val_of frame.now) attrs.now
-        ≡ Done (VBool false) attrs.now }
-{
-    match right {
-        TExpr::Attribute(Attribute::BgpCommunity) => {
-            match literal_pair(setting, left, frame, attrs) {
-                Some(found) => lacks(compare, attrs.list(), found.0, found.1),
-                None => refutes_otherwise(setting, compare, left, right, frame, attrs),
-            }
-        }
-        _ => refutes_otherwise(setting, compare, left, right, frame, attrs),
-    }
-}
-
-/// The same, of all operands that are there already.
+/// The same, of a comparison of all operands that are there already.
 #[inline(never)]
-fn refutes_otherwise<'a>(
+fn is_refuted_otherwise<'a>(
     setting: &Setting<'a>,
-    compare: Compare,
-    left: &TExpr,
-    right: &TExpr,
+    e: &TExpr,
     frame: &[Value<'a>],
     attrs: &Running<'a>,
 ) -> bool
-    ensures { IsTrue result → on_two (trees.expr left.now (tables_in setting.now))
-        (trees.expr right.now (tables_in setting.now)) (compare_of compare)
+    ensures { IsTrue result → trees.expr e.now (tables_in setting.now)
         (map val_of frame.now) attrs.now
         ≡ Done (VBool false) attrs.now }
 {
-    match compared(setting, compare, left, right, frame, attrs) {
+    match truth(setting, e, frame, attrs) {
         Some(holds) => !holds,
         None => false,
     }
 }
 
-/// Whether a comparison of two numbers doesn't hold.
+/// Whether a test is there already, and doesn't hold.
 #[inline(always)]
-fn differs(compare: Compare, a: u32, b: u32) -> bool
-    ensures { IsTrue result → compare_of compare (VInt a) (VInt b) ≡ Ok (VBool false) }
-{
-    match compare {
-        Compare::Equal => !(a == b),
-        Compare::NotEqual => a == b,
-        Compare::Less => !a.cmp(&b).is_lt(),
-        Compare::LessOrEqual => !a.cmp(&b).is_le(),
-        Compare::Greater => !a.cmp(&b).is_gt(),
-        Compare::GreaterOrEqual => !a.cmp(&b).is_ge(),
-        Compare::Matches => false,
-        Compare::MatchesNot => false,
-    }
-}
-
-/// Whether a list lacks a community that is looked for.
-#[inline(always)]
-fn lacks(compare: Compare, list: &Clist, first: u16, second: u16) -> bool
-    ensures { IsTrue result → compare_of compare (VPair (first, second)) (VClist list.now)
-        ≡ Ok (VBool false) }
-{
-    match compare {
-        Compare::Matches => !has_pair(list, first, second),
-        _ => false,
-    }
-}
-
-/// The number that a literal is.
-#[inline(always)]
-fn literal<'a>(
+fn test_fails<'a>(
     setting: &Setting<'a>,
-    e: &TExpr,
+    what: &TTest,
     frame: &[Value<'a>],
     attrs: &Running<'a>,
-) -> Option<u32>
-    ensures { IfSome result (λ n. trees.expr e.now (tables_in setting.now)
+) -> bool
+    ensures { IsTrue result → trees.test (around_in setting.now) what.now
         (map val_of frame.now) attrs.now
-        ≡ Done (VInt n) attrs.now) }
+        ≡ Done (VBool false) attrs.now }
 {
-    match e {
-        TExpr::Value(known) => {
-            let found = fixed_number(known)?;
-            Some(found)
-        }
-        _ => None,
+    match test_truth(setting, what, frame, attrs) {
+        Some(holds) => !holds,
+        None => false,
     }
 }
 
-/// The number that the route holds: a property of an attribute, or an attribute.
+/// Whether a test holds, where what the route holds is there.
 #[inline(always)]
-fn held<'a>(
+fn test_truth<'a>(
     setting: &Setting<'a>,
-    e: &TExpr,
+    what: &TTest,
     frame: &[Value<'a>],
     attrs: &Running<'a>,
-) -> Option<u32>
-    ensures { IfSome result (λ n. trees.expr e.now (tables_in setting.now)
+) -> Option<bool>
+    ensures { IfSome result (λ b. trees.test (around_in setting.now) what.now
         (map val_of frame.now) attrs.now
-        ≡ Done (VInt n) attrs.now) }
+        ≡ Done (VBool b) attrs.now) }
 {
-    match e {
-        TExpr::Access(of, more) => {
-            let property = lone_property(more)?;
-            let found = attribute_number(setting, of, property, frame, attrs)?;
-            Some(found)
+    match what {
+        TTest::Attribute(a, compare, number) => {
+            let held = attrs.number(*a)?;
+            let holds = compare_numbers(*compare, held, *number)?;
+            Some(holds)
         }
-        _ => {
-            let found = held_alone(setting, e, frame, attrs)?;
-            Some(found)
+        TTest::Property(a, property, compare, number) => {
+            let held = part_number(setting, *a, *property, attrs)?;
+            let holds = compare_numbers(*compare, held, *number)?;
+            Some(holds)
+        }
+        TTest::Pair(first, second, compare, a) => {
+            let is = pair_holds(*first, *second, *compare, *a, attrs)?;
+            Some(is)
         }
     }
 }
 
+/// Whether a pair is in the list of communities.
 #[inline(always)]
-fn held_alone<'a>(
-    setting: &Setting<'a>,
-    e: &TExpr,
-    frame: &[Value<'a>],
-    attrs: &Running<'a>,
-) -> Option<u32>
-    ensures { IfSome result (λ n. trees.expr e.now (tables_in setting.now)
-        (map val_of frame.now) attrs.now
-        ≡ Done (VInt n) attrs.now) }
+fn pair_holds(
+    first: u16,
+    second: u16,
+    compare: Compare,
+    a: Attribute,
+    attrs: &Running<'_>,
+) -> Option<bool>
+    ensures { (around : Around) → IfSome result (λ b. and_then
+        (plainly (attribute_of around a attrs.now) attrs.now)
+        (λ list attrs. plainly (compare_of compare (VPair (first, second)) list) attrs)
+        ≡ Done (VBool b) attrs.now) }
 {
-    match e {
-        TExpr::Attribute(a) => {
-            let found = attrs.number(*a)?;
-            Some(found)
-        }
-        _ => None,
-    }
-}
-
-/// The pair of two literals.
-#[inline(always)]
-fn literal_pair<'a>(
-    setting: &Setting<'a>,
-    e: &TExpr,
-    frame: &[Value<'a>],
-    attrs: &Running<'a>,
-) -> Option<(u16, u16)>
-    ensures { IfSome result (λ p. trees.expr e.now (tables_in setting.now)
-        (map val_of frame.now) attrs.now
-        ≡ Done (VPair p) attrs.now) }
-{
-    match e {
-        TExpr::Pair(left, right) => {
-            let a = literal(setting, left, frame, attrs)?;
-            let b = literal(setting, right, frame, attrs)?;
-            let both = joined(a, b)?;
-            Some(both)
+    match a {
+        Attribute::BgpCommunity => {
+            let is = has_pair(attrs.list(), first, second);
+            match compare {
+                Compare::Matches => Some(is),
+                Compare::MatchesNot => Some(!is),
+                _ => None,
+            }
         }
         _ => None,
     }
@@ -266,6 +169,10 @@ pub(crate) fn truth<'a>(
         ≡ Done (VBool b) attrs.now) }
 {
     match e {
+        TExpr::Test(what) => {
+            let holds = test_truth(setting, what, frame, attrs)?;
+            Some(holds)
+        }
         TExpr::Compare(compare, left, right) => {
             let holds = compared(setting, *compare, left, right, frame, attrs)?;
             Some(holds)
@@ -418,15 +325,36 @@ fn attribute_number<'a>(
         ≡ Done (VInt n) attrs.now) }
 {
     match of {
-        TExpr::Attribute(Attribute::Net) => {
+        TExpr::Attribute(a) => {
+            let found = part_number(setting, *a, property, attrs)?;
+            Some(found)
+        }
+        _ => None,
+    }
+}
+
+#[inline(always)]
+fn part_number<'a>(
+    setting: &Setting<'a>,
+    a: Attribute,
+    property: Property,
+    attrs: &Running<'a>,
+) -> Option<u32>
+    ensures { IfSome result (λ n. and_then
+        (plainly (attribute_of (around_in setting.now) a attrs.now) attrs.now)
+        (λ v attrs. plainly (property_of property v) attrs)
+        ≡ Done (VInt n) attrs.now) }
+{
+    match a {
+        Attribute::Net => {
             let found = net_number(setting.net, property)?;
             Some(found)
         }
-        TExpr::Attribute(Attribute::BgpPath) => {
+        Attribute::BgpPath => {
             let found = path_number(attrs.path(), property)?;
             Some(found)
         }
-        TExpr::Attribute(Attribute::BgpCommunity) => {
+        Attribute::BgpCommunity => {
             let found = list_number(attrs.list(), property)?;
             Some(found)
         }

@@ -1,25 +1,27 @@
 //! The values of expressions.
 
 ghost use Rattle.std.specs.Prelude.{map, slice_get};
-ghost use Rattle.filt_values.specs.Seen.{val_of};
+ghost use Rattle.filt_values.specs.Seen.{val_of, Builds};
+ghost use Rattle.filt_values.specs.Values.{VInt, VPair};
 ghost use Rattle.filt_meaning.specs.Attributes.{attribute_of};
 ghost use Rattle.filt_meaning.specs.Flow.{and_then, plainly};
-ghost use Rattle.filt_meaning.specs.Meaning.{right_side};
+ghost use Rattle.filt_meaning.specs.Meaning.{compare_of, property_of, right_side};
 ghost use Rattle.filt_meaning.specs.Names.{there};
 ghost use Rattle.filt_tree.specs.Trees as trees;
+ghost use Rattle.filt_values.specs.Operators as operators;
 ghost use Rattle.filt_values.specs.Operators.{bool_in};
-ghost use Rattle.filt_comp.specs.Seen.{around_in, condition, given_of, made_by, made_by_all, part_of, parts_of, tables_in, vals_of, Gives, GivesPlainly};
+ghost use Rattle.filt_comp.specs.Seen.{around_in, condition, given_of, made_by, made_by_all, part_of, parts_of, tables_in, test_in, vals_of, Gives, GivesPlainly};
 
-use crate::chain::{Rest, Step, apply_one, apply_two, decides};
+use crate::chain::{OfOne, Rest, Step, apply_compare, apply_one, apply_two, decides};
 use crate::parts::bool;
 use crate::plain::truth;
 use crate::run::call;
 use crate::running::Running;
 use crate::setting::Setting;
 use crate::stop::Stop;
-use filt_syntax::{Attribute, Joint};
-use filt_tree::TExpr;
-use filt_values::{Value, copy};
+use filt_syntax::{Attribute, Compare, Joint, Property};
+use filt_tree::{TExpr, TTest};
+use filt_values::{ListFailure, Value, copy};
 
 #[cycle(run)]
 pub(crate) fn value<'a>(
@@ -53,6 +55,7 @@ pub(crate) fn value<'a>(
         TExpr::Compare(compare, a, b) => {
             chain(setting, a, Rest::Compare(*compare, b), frame, attrs)
         }
+        TExpr::Test(what) => test(setting, *what, attrs),
         TExpr::Joint(a, more) => chain(setting, a, Rest::Joints(more), frame, attrs),
         TExpr::Stuck => Err(Stop::Stuck),
     }
@@ -192,6 +195,67 @@ fn attribute<'a>(
         (attribute_of (around_in setting.now) attribute attrs.now) }
 {
     Ok(attrs.read(setting, attribute)?)
+}
+
+/// What a comparison of what the route holds comes to.
+fn test<'a>(setting: &Setting<'a>, what: TTest, attrs: &Running<'a>) -> Result<Value<'a>, Stop<'a>>
+    ensures { GivesPlainly val_of result (test_in (around_in setting.now) what attrs.now) }
+{
+    match what {
+        TTest::Attribute(a, op, number) => Ok(attribute_test(setting, a, op, number, attrs)?),
+        TTest::Property(a, property, op, number) => {
+            Ok(property_test(setting, a, property, op, number, attrs)?)
+        }
+        TTest::Pair(first, second, op, a) => Ok(pair_test(setting, first, second, op, a, attrs)?),
+    }
+}
+
+fn attribute_test<'a>(
+    setting: &Setting<'a>,
+    a: Attribute,
+    op: Compare,
+    number: u32,
+    attrs: &Running<'a>,
+) -> Result<Value<'a>, ListFailure>
+    ensures { Builds val_of result (operators.and_then
+        (attribute_of (around_in setting.now) a attrs.now)
+        (λ v. compare_of op v (VInt number))) }
+{
+    let held = attrs.read(setting, a)?;
+    Ok(apply_compare(op, &held, &Value::Int(number))?)
+}
+
+fn property_test<'a>(
+    setting: &Setting<'a>,
+    a: Attribute,
+    property: Property,
+    op: Compare,
+    number: u32,
+    attrs: &Running<'a>,
+) -> Result<Value<'a>, ListFailure>
+    ensures { Builds val_of result (operators.and_then
+        (attribute_of (around_in setting.now) a attrs.now)
+        (λ v. operators.and_then (property_of property v) (λ w. compare_of op w (VInt number)))) }
+{
+    let held = attrs.read(setting, a)?;
+    let part = apply_one(setting.alloc, OfOne::Property(property), &held)?;
+    Ok(apply_compare(op, &part, &Value::Int(number))?)
+}
+
+fn pair_test<'a>(
+    setting: &Setting<'a>,
+    first: u16,
+    second: u16,
+    op: Compare,
+    a: Attribute,
+    attrs: &Running<'a>,
+) -> Result<Value<'a>, ListFailure>
+    ensures { Builds val_of result (operators.and_then
+        (attribute_of (around_in setting.now) a attrs.now)
+        (λ v. compare_of op (VPair (first, second)) v)) }
+{
+    let held = attrs.read(setting, a)?;
+    Ok(apply_compare(op, &Value::Pair(first, second), &held)?)
 }
 
 /// The value that a function gave.

@@ -12,7 +12,7 @@ use Rattle.filt_values.specs.declared.value.Failure.TheVariants as failures
 use Rattle.filt_values.specs.declared.value.Sort.{Sort}
 use Rattle.filt_values.specs.Operators.{and_then, not_of, pair_of, emptied_of}
 use Rattle.filt_values.specs.Seen.{val_of_fixed}
-use Rattle.filt_values.specs.Values.{Val, VIntSet, VPairSet, VPrefixSet, default_of}
+use Rattle.filt_values.specs.Values.{Val, VInt, VPair, VIntSet, VPairSet, VPrefixSet, default_of}
 use Rattle.filt_meaning.specs.Attributes.{with_attribute}
 use Rattle.filt_meaning.specs.Configuration.{given_by, verdict_of}
 use Rattle.filt_meaning.specs.Flow.{Flow, Frame, Run, AtEnd, Accepted, Rejected}
@@ -33,6 +33,8 @@ use Rattle.filt_tree.specs.declared.tree.TStmt.{TStmt, fold-TStmt}
 use Rattle.filt_tree.specs.declared.tree.TStmt.TheOpen.{TStmt-F}
 use Rattle.filt_tree.specs.declared.tree.TTarget.{TTarget}
 use Rattle.filt_tree.specs.declared.tree.TTarget.TheVariants as targets
+use Rattle.filt_tree.specs.declared.tree.TTest.{TTest}
+use Rattle.filt_tree.specs.declared.tree.TTest.TheVariants as tests
 
 -- What trees are run over: what no statement changes, the values of the constants, and what the
 -- functions do, both by their numbers.
@@ -73,6 +75,15 @@ abbrev pub all_values : List (Run Val) → Run Frame
 all_values [] = no_values
 all_values (a ∷ more) = one_more a (all_values more)
 
+-- what the route holds beside what the filter says, as the comparison of the two
+abbrev pub test : Around → TTest → Run Val
+test around (tests.Attribute a op n) =
+    on_two (attribute around a) (given (Ok (VInt n))) (compare_of op)
+test around (tests.Property a p op n) =
+    on_two (on_value (attribute around a) (property_of p)) (given (Ok (VInt n))) (compare_of op)
+test around (tests.Pair x y op a) =
+    on_two (given (Ok (VPair (x, y)))) (attribute around a) (compare_of op)
+
 -- one level, with each expression inside already run
 abbrev pub expr_step : TExpr-F (Tables → Run Val) → Tables → Run Val
 expr_step (TExpr-F.Value v) t = given (Ok (val_of_fixed v))
@@ -92,6 +103,7 @@ expr_step (TExpr-F.Product a more) t =
     chain factor_of (a.value t) (map (part_over t) more.items)
 expr_step (TExpr-F.Sum a more) t = chain term_of (a.value t) (map (part_over t) more.items)
 expr_step (TExpr-F.Compare op a b) t = on_two (a.value t) (b.value t) (compare_of op)
+expr_step (TExpr-F.Test what) t = test t.around what
 expr_step (TExpr-F.Joint a more) t = joints (a.value t) (map (part_over t) more.items)
 expr_step TExpr-F.Stuck t = given (Err failures.Stuck)
 

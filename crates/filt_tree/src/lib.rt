@@ -9,4 +9,4 @@ mod scope;
 mod tree;
 
 pub use scope::{Scope, TFunction};
-pub use tree::{Labels, TAccess, TArm, TExpr, TFilter, TStmt, TTarget};
+pub use tree::{Labels, TAccess, TArm, TExpr, TFilter, TStmt, TTarget, TTest};

@@ -12,6 +12,18 @@ pub enum TAccess<E> {
     Method(MethodKind, E),
 }
 
+/// A comparison of what the route holds with what the filter says, in place of `Compare` over these
+/// two: it has no boxes, so that a filter of many conditions reads little memory.
+#[derive(Clone, Copy, Debug, PartialEq, Eq)]
+pub enum TTest {
+    /// An attribute, and a number.
+    Attribute(Attribute, Compare, u32),
+    /// A property of an attribute, and a number.
+    Property(Attribute, Property, Compare, u32),
+    /// A pair, and an attribute.
+    Pair(u16, u16, Compare, Attribute),
+}
+
 /// An expression.
 #[derive(Drop)]
 pub enum TExpr {
@@ -33,6 +45,7 @@ pub enum TExpr {
     Product(Box<TExpr>, Vec<(Factor, TExpr)>),
     Sum(Box<TExpr>, Vec<(Term, TExpr)>),
     Compare(Compare, Box<TExpr>, Box<TExpr>),
+    Test(TTest),
     Joint(Box<TExpr>, Vec<(Joint, TExpr)>),
     /// What stands for nothing; in no checked filter.
     Stuck,

@@ -6,4 +6,6 @@ mod faults;
 #[cfg(test)]
 mod outside;
 #[cfg(test)]
+mod stream;
+#[cfg(test)]
 mod whole;

@@ -1,8 +1,12 @@
 -- Pieces of the report's text, appended one after another.
 use Rattle.std.proofs.Common.{◌≡◌, ◌++◌, ◌∷◌, [], ℕ, ◌+◌, ◌<◌, List, length, take, get_or, append_assoc, ap, sym, ◌∙◌, arith}
-use Rattle.std.proofs.lemmas.List.{append-nil, length-take-le, take_more}
+use Rattle.std.proofs.lemmas.List.{append-nil, flat_map_more, length-take-le, take_more}
+use Rattle.std.specs.List.{flat_map}
 use Rattle.attrs.specs.declared.route.Change.{Change}
-use Rattle.report.specs.Report.{entries_text, entry_text, line2}
+use Rattle.attrs.specs.declared.route.Route.{Route}
+use Rattle.attrs.specs.declared.route.Row.{Row}
+use Rattle.report.specs.Report.{entries_text, entry_text, line2, row_text}
+use Rattle.report.specs.ReportParts.{row_route_text}
 
 -- a line of a net, a source and attributes
 pub route_line :
@@ -43,3 +47,16 @@ entries_step names p q i cs c b b1 b2 below is at e1 e2 =
     e2 ∙ ap (λ (l : List ℕ). l ++ entry_text names q c) e1
     ∙ append_assoc b (entries_text names p (take i cs)) (entry_text names q c)
     ∙ ap (λ (l : List ℕ). b ++ l) (sym (ap (entries_text names p) front ∙ more))
+
+-- one step over a table's nets
+pub rows_step :
+    (names : List (List ℕ)) (i : ℕ) (rows : List Row) (row : Row) (routes : List Route) (b b1 b2 : List ℕ)
+    → i < length rows → row ≡ get_or rows i row → routes ≡ row.routes
+    → b1 ≡ b ++ flat_map (row_text names) (take i rows) → b2 ≡ b1 ++ flat_map (row_route_text names row.net) routes
+    → b2 ≡ b ++ flat_map (row_text names) (take (i + 1) rows)
+rows_step names i rows row routes b b1 b2 below is all e1 e2 =
+    let front : take (i + 1) rows ≡ take i rows ++ row ∷ [] = take_more rows i row below ∙ ap (λ (x : Row). take i rows ++ x ∷ []) (sym is) in
+    e2 ∙ ap (λ (l : List Route). b1 ++ flat_map (row_route_text names row.net) l) all
+    ∙ ap (λ (l : List ℕ). l ++ row_text names row) e1
+    ∙ flat_map_more (row_text names) b (take i rows) row
+    ∙ ap (λ (xs : List Row). b ++ flat_map (row_text names) xs) (sym front)

@@ -3,12 +3,13 @@
 //! A `PhaseReport` has a field for each part of the report, in the order in which they are written:
 //! what each protocol was told, what each table took, what each channel sent, what was replied;
 //! then the tables, the protocols and the channels as they stand. `phase_text` appends the text of
-//! a phase, `write_report` makes that of a whole report.
+//! a phase to what takes text (`TextOut` of bits_ip): a `Vec<u8>`, or a stream to a sink, which
+//! needs no memory for it.
 //!
 //! Contracts see a phase as plain data, and its text by one function of specs/Report for each part.
 //! Two facts carry all: each writer appends the text of its part and nothing else, and the parts of
-//! a list are written in its order (`flat_map`). Where memory is refused within a phase a part of
-//! its text may stand, so `phase_text` writes into a text of its own and hands that over whole.
+//! a list are written in its order (`flat_map`). Where a piece isn't taken, a part of a phase's
+//! text may stand: how much of it is for what takes the text to say, by what its `follows` keeps.
 //!
 //! Modules are named by the part that they write; `whole` joins them, and `place` writes nets with
 //! the names of sources.
@@ -30,4 +31,4 @@ pub use phase::{
     ChannelReport, ExportReport, JournalReport, ModeReport, PhaseReport, ProtocolReport,
     ReplyReport, Standing, TableReport,
 };
-pub use whole::{phase_text, write_report};
+pub use whole::phase_text;

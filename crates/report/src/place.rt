@@ -1,47 +1,48 @@
 //! Nets, with the names of sources.
 ghost use Rattle.std.specs.Prelude.{◌≡◌, ◌++◌, ◌∷◌, OnOk};
+ghost use Rattle.bits_ip.specs.Out.{Kept};
 ghost use Rattle.text.specs.Names.{name_of};
 ghost use Rattle.report.specs.Report.{key_text};
 ghost use Rattle.report.specs.ReportParts.{names_in, place_text};
 
 use crate::phase::ProtocolReport;
-use bits_ip::{OutOfMemory, Prefix, append_prefix};
+use bits_ip::{Prefix, TextOut, append_prefix};
 use export_core::Key;
 
 /// Appends a net and the name of a route's source, each with a space behind it.
-pub(crate) fn write_place(
+pub(crate) fn write_place<W: TextOut>(
     protocols: &[ProtocolReport],
     net: &Prefix,
     num: u32,
-    out: &mut Vec<u8>,
-) -> Result<(), OutOfMemory>
-    ensures { OnOk result
-        (out.new.items ≡ out.old.items ++ place_text (names_in protocols.now) net.now num) }
+    out: &mut W,
+) -> Result<(), W::Fault>
+    ensures written { OnOk result
+        (W.written out.new ≡ W.written out.old ++ place_text (names_in protocols.now) net.now num) }
+    ensures kept { Kept W.follows out.old out.new }
 {
     append_prefix(net, out)?;
-    out.push(b' ')?;
-    out.extend_from_slice(name_at(protocols, num))?;
-    out.push(b' ')?;
-    Ok(())
+    out.put(b" ")?;
+    out.put(name_at(protocols, num))?;
+    out.put(b" ")
 }
 
 /// Appends a channel's key: the net, and for a pipe the name of the source; each with a space
 /// behind it.
-pub(crate) fn write_key(
+pub(crate) fn write_key<W: TextOut>(
     protocols: &[ProtocolReport],
     pipe: bool,
     key: &Key,
-    out: &mut Vec<u8>,
-) -> Result<(), OutOfMemory>
-    ensures { OnOk result
-        (out.new.items ≡ out.old.items ++ key_text (names_in protocols.now) pipe key.now) }
+    out: &mut W,
+) -> Result<(), W::Fault>
+    ensures written { OnOk result
+        (W.written out.new ≡ W.written out.old ++ key_text (names_in protocols.now) pipe key.now) }
+    ensures kept { Kept W.follows out.old out.new }
 {
     if pipe {
         return write_place(protocols, &key.net, key.num, out);
     }
     append_prefix(&key.net, out)?;
-    out.push(b' ')?;
-    Ok(())
+    out.put(b" ")
 }
 
 /// The name of the protocol of this number, and nothing where there is none.

@@ -1,21 +1,23 @@
 //! What each protocol was told in a phase.
 ghost use Rattle.std.specs.Prelude.{◌≡◌, ◌++◌, OnOk};
 ghost use Rattle.std.specs.List.{flat_map};
+ghost use Rattle.bits_ip.specs.Out.{Kept};
 ghost use Rattle.report.specs.Operation.{done_text};
 ghost use Rattle.report.specs.Report.{line1, protocol_text};
 
 use crate::operation::write_done;
 use crate::phase::ProtocolReport;
-use bits_ip::OutOfMemory;
+use bits_ip::TextOut;
 use import_core::Done;
 
 /// Appends each protocol with its operations.
-pub(crate) fn write_protocols(
+pub(crate) fn write_protocols<W: TextOut>(
     protocols: &[ProtocolReport],
-    out: &mut Vec<u8>,
-) -> Result<(), OutOfMemory>
-    ensures { OnOk result
-        (out.new.items ≡ out.old.items ++ flat_map protocol_text protocols.now) }
+    out: &mut W,
+) -> Result<(), W::Fault>
+    ensures written { OnOk result
+        (W.written out.new ≡ W.written out.old ++ flat_map protocol_text protocols.now) }
+    ensures kept { Kept W.follows out.old out.new }
 {
     for protocol in protocols {
         write_protocol(protocol, out)?;
@@ -23,23 +25,27 @@ pub(crate) fn write_protocols(
     Ok(())
 }
 
-fn write_protocol(protocol: &ProtocolReport, out: &mut Vec<u8>) -> Result<(), OutOfMemory>
-    ensures { OnOk result (out.new.items ≡ out.old.items ++ protocol_text protocol.now) }
+fn write_protocol<W: TextOut>(protocol: &ProtocolReport, out: &mut W) -> Result<(), W::Fault>
+    ensures written { OnOk result
+        (W.written out.new ≡ W.written out.old ++ protocol_text protocol.now) }
+    ensures kept { Kept W.follows out.old out.new }
 {
-    out.extend_from_slice(b"protocol ")?;
-    out.extend_from_slice(protocol.name.as_slice())?;
-    out.push(b'\n')?;
+    out.put(b"protocol ")?;
+    out.put(protocol.name.as_slice())?;
+    out.put(b"\n")?;
     write_ops(protocol.ops.as_slice(), out)
 }
 
-fn write_ops(ops: &[Done], out: &mut Vec<u8>) -> Result<(), OutOfMemory>
-    ensures { OnOk result
-        (out.new.items ≡ out.old.items ++ flat_map (λ done. line1 (done_text done)) ops.now) }
+fn write_ops<W: TextOut>(ops: &[Done], out: &mut W) -> Result<(), W::Fault>
+    ensures written { OnOk result
+        (W.written out.new ≡ W.written out.old
+        ++ flat_map (λ done. line1 (done_text done)) ops.now) }
+    ensures kept { Kept W.follows out.old out.new }
 {
     for done in ops {
-        out.push(b'\t')?;
+        out.put(b"\t")?;
         write_done(done, out)?;
-        out.push(b'\n')?;
+        out.put(b"\n")?;
     }
     Ok(())
 }

@@ -1,6 +1,7 @@
 //! The tables as they stand.
 ghost use Rattle.std.specs.Prelude.{◌≡◌, ◌++◌, ◌∷◌, codes, decimal, length, OnOk};
 ghost use Rattle.std.specs.List.{flat_map};
+ghost use Rattle.bits_ip.specs.Out.{Kept};
 ghost use Rattle.attrs.specs.Table.{count_routes};
 ghost use Rattle.report.specs.Report.{line1, row_text, table_text};
 ghost use Rattle.report.specs.ReportParts.{names_in, row_route_text};
@@ -8,17 +9,18 @@ ghost use Rattle.report.specs.ReportParts.{names_in, row_route_text};
 use crate::phase::{ProtocolReport, TableReport};
 use crate::place::write_place;
 use attrs::{Route, Row, append_attrs};
-use bits_ip::{OutOfMemory, Prefix, write_number};
+use bits_ip::{Prefix, TextOut, write_number};
 
 /// Appends each table as it stands.
-pub(crate) fn write_tables(
+pub(crate) fn write_tables<W: TextOut>(
     protocols: &[ProtocolReport],
     tables: &[TableReport],
-    out: &mut Vec<u8>,
-) -> Result<(), OutOfMemory>
-    ensures { OnOk result
-        (out.new.items ≡ out.old.items
+    out: &mut W,
+) -> Result<(), W::Fault>
+    ensures written { OnOk result
+        (W.written out.new ≡ W.written out.old
         ++ flat_map (table_text (names_in protocols.now)) tables.now) }
+    ensures kept { Kept W.follows out.old out.new }
 {
     for table in tables {
         write_table(protocols, table, out)?;
@@ -26,33 +28,34 @@ pub(crate) fn write_tables(
     Ok(())
 }
 
-fn write_table(
+fn write_table<W: TextOut>(
     protocols: &[ProtocolReport],
     table: &TableReport,
-    out: &mut Vec<u8>,
-) -> Result<(), OutOfMemory>
-    ensures { OnOk result
-        (out.new.items ≡ out.old.items ++ table_text (names_in protocols.now) table.now) }
+    out: &mut W,
+) -> Result<(), W::Fault>
+    ensures written { OnOk result
+        (W.written out.new ≡ W.written out.old ++ table_text (names_in protocols.now) table.now) }
+    ensures kept { Kept W.follows out.old out.new }
 {
     write_table_head(table, out)?;
     write_rows(protocols, table.rows.as_slice(), out)
 }
 
 /// The table's name, with its numbers of nets and of routes.
-fn write_table_head(table: &TableReport, out: &mut Vec<u8>) -> Result<(), OutOfMemory>
-    ensures { OnOk result
-        (out.new.items ≡ out.old.items
+fn write_table_head<W: TextOut>(table: &TableReport, out: &mut W) -> Result<(), W::Fault>
+    ensures written { OnOk result
+        (W.written out.new ≡ W.written out.old
         ++ line1 (codes "table " ++ table.now.name ++ 32 ∷ decimal (length table.now.rows)
         ++ 32 ∷ decimal (count_routes table.now.rows))) }
+    ensures kept { Kept W.follows out.old out.new }
 {
-    out.extend_from_slice(b"\ttable ")?;
-    out.extend_from_slice(table.name.as_slice())?;
-    out.push(b' ')?;
+    out.put(b"\ttable ")?;
+    out.put(table.name.as_slice())?;
+    out.put(b" ")?;
     write_number(table.rows.len() as u64, out)?;
-    out.push(b' ')?;
+    out.put(b" ")?;
     write_number(number_of_routes(table.rows.as_slice()), out)?;
-    out.push(b'\n')?;
-    Ok(())
+    out.put(b"\n")
 }
 
 fn number_of_routes(rows: &[Row]) -> u128
@@ -65,13 +68,15 @@ fn number_of_routes(rows: &[Row]) -> u128
     total
 }
 
-fn write_rows(
+fn write_rows<W: TextOut>(
     protocols: &[ProtocolReport],
     rows: &[Row],
-    out: &mut Vec<u8>,
-) -> Result<(), OutOfMemory>
-    ensures { OnOk result
-        (out.new.items ≡ out.old.items ++ flat_map (row_text (names_in protocols.now)) rows.now) }
+    out: &mut W,
+) -> Result<(), W::Fault>
+    ensures written { OnOk result
+        (W.written out.new ≡ W.written out.old
+        ++ flat_map (row_text (names_in protocols.now)) rows.now) }
+    ensures kept { Kept W.follows out.old out.new }
 {
     for row in rows {
         write_routes(protocols, &row.net, row.routes.as_slice(), out)?;
@@ -79,15 +84,16 @@ fn write_rows(
     Ok(())
 }
 
-fn write_routes(
+fn write_routes<W: TextOut>(
     protocols: &[ProtocolReport],
     net: &Prefix,
     routes: &[Route],
-    out: &mut Vec<u8>,
-) -> Result<(), OutOfMemory>
-    ensures { OnOk result
-        (out.new.items ≡ out.old.items
+    out: &mut W,
+) -> Result<(), W::Fault>
+    ensures written { OnOk result
+        (W.written out.new ≡ W.written out.old
         ++ flat_map (row_route_text (names_in protocols.now) net.now) routes.now) }
+    ensures kept { Kept W.follows out.old out.new }
 {
     for route in routes {
         write_route(protocols, net, route, out)?;
@@ -95,19 +101,19 @@ fn write_routes(
     Ok(())
 }
 
-fn write_route(
+fn write_route<W: TextOut>(
     protocols: &[ProtocolReport],
     net: &Prefix,
     route: &Route,
-    out: &mut Vec<u8>,
-) -> Result<(), OutOfMemory>
-    ensures { OnOk result
-        (out.new.items ≡ out.old.items
+    out: &mut W,
+) -> Result<(), W::Fault>
+    ensures written { OnOk result
+        (W.written out.new ≡ W.written out.old
         ++ row_route_text (names_in protocols.now) net.now route.now) }
+    ensures kept { Kept W.follows out.old out.new }
 {
-    out.extend_from_slice(b"\t\t")?;
+    out.put(b"\t\t")?;
     write_place(protocols, net, route.src.num, out)?;
     append_attrs(&route.attrs, out)?;
-    out.push(b'\n')?;
-    Ok(())
+    out.put(b"\n")
 }

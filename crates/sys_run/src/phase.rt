@@ -213,7 +213,7 @@ fn report_journal(
 fn copy_changes(alloc: Global, entries: &[JEntry]) -> Result<Seq<Change>, OutOfMemory>
     ensures { IfOk result (λ changes. changes ≡ map change_of entries.now) }
 {
-    let mut changes = Seq::new(alloc);
+    let mut changes = Seq::from_vec(Vec::with_capacity(alloc, entries.len())?);
     for entry in entries {
         changes.push(copy_change(entry)?)?;
     }
@@ -296,7 +296,7 @@ fn copy_behind(alloc: Global, items: &[LogItem], from: usize) -> Result<Seq<LogI
 fn copy_items(alloc: Global, items: &[LogItem]) -> Result<Seq<LogItem>, OutOfMemory>
     ensures { IfOk result (λ copy. copy ≡ items.now) }
 {
-    let mut copy = Seq::new(alloc);
+    let mut copy = Seq::from_vec(Vec::with_capacity(alloc, items.len())?);
     for item in items {
         copy.push(copy_item(item)?)?;
     }
@@ -501,7 +501,7 @@ fn standing_of(
 ) -> Result<Seq<Standing>, OutOfMemory>
     ensures { IfOk result (λ standing. standing ≡ map standing_in values.items) }
 {
-    let mut standing = Seq::new(alloc);
+    let mut standing = Seq::from_vec(Vec::with_capacity(alloc, values.len())?);
     for (key, attrs) in values {
         standing.push(Standing { key, attrs })?;
     }

@@ -203,3 +203,7 @@ value::value-returns-in-Compare t c =
 pub value::values-value-requires : goal.value::values-value-requires
 value::values-value-requires t c =
     (omega (arith, k.item_below k.cost c.args.es.now c.loop-e.e-index c.e-item.result c.loop-e-test.true c.e-item.is), tt)
+
+pub value::value-returns-in-Test : goal.value::value-returns-in-Test
+value::value-returns-in-Test t c =
+    rw (w.test_is (tables_in c.args.setting.now) c.in-Test.what c.args.e.now (map val_of c.args.frame.now) c.args.attrs.now c.in-Test.is) (c.test.ensures c.args.attrs.now)

@@ -29,8 +29,8 @@ line a b =
     (optional_text (codes " med ") decimal a.med) (optional_text (codes " lp ") decimal a.lp) (optional_text (codes " igp ") decimal a.igp)
     (list_text (codes " com") community_text a.coms)
 
-pub returns : goal.returns
-returns c =
+pub returns-clause-written : goal.returns-clause-written
+returns-clause-written g c =
     on_ok_weaker c.write_communities.result
-    (line c.args.attrs.now c.args.out.now.items _ _ _ _ _ c.in_ok-write_head.ensures c.in_ok-write_neighbour.ensures c.in_ok-write_way.ensures c.in_ok-write_metrics.ensures)
-    c.write_communities.ensures
+    (line c.args.attrs.now (g.W.TextOut.written c.args.out.now) _ _ _ _ _ c.in_ok-write_head.ensures.written c.in_ok-write_neighbour.ensures.written c.in_ok-write_way.ensures.written c.in_ok-write_metrics.ensures.written)
+    c.write_communities.ensures.written

@@ -1,4 +1,4 @@
-use Rattle.std.proofs.Common.{◌+◌, arith, List, drop, ap}
+use Rattle.std.proofs.Common.{◌+◌, ◌∙◌, arith, List, drop, ap}
 use Rattle.filt_syntax.specs.declared.tree.Access.{Access}
 use Rattle.filt_syntax.specs.declared.tree.Expr.{Expr}
 use Rattle.filt_syntax.specs.declared.tree.Factor.{Factor}
@@ -13,9 +13,13 @@ use Rattle.filt_tree.specs.declared.tree.TExpr.{TExpr}
 use Rattle.filt_tree.specs.Trees as trees
 use Rattle.filt_types.proofs.Cost as k
 use Rattle.filt_check.specs.Seen.{names_of, values_in, access_in, accesses_in, parts_in}
+use Rattle.filt_check.proofs.Tested as x
 use Rattle.filt_check.proofs.Resolving as r
 use Rattle.filt_check.proofs.Sets.{next_item}
 use Rattle.filt_check.proofs.resolve.+resolve.Goals as goal
+
+pub compare-returns : goal.compare-returns
+compare-returns t c = λ around. c.comparison.ensures (tables_of around c.args.scope.now) ∙ x.on_both c.args.op (trees.expr c.in_ok-a.a.value (tables_of around c.args.scope.now)) (trees.expr c.in_ok-b.b.value (tables_of around c.args.scope.now)) (value (expression_of c.args.left.now) (context_of c.args.text.now around c.args.scope.now (names_of c.args.names.now))) (value (expression_of c.args.right.now) (context_of c.args.text.now around c.args.scope.now (names_of c.args.names.now))) (c.in_ok-a.ensures around) (c.in_ok-b.ensures around)
 
 pub access-returns : goal.access-returns
 access-returns t c = λ around. r.access_made (tables_of around c.args.scope.now) c.in_ok-a.a c.in_ok-accesses.accesses (value (expression_of c.args.operand.now) (context_of c.args.text.now around c.args.scope.now (names_of c.args.names.now))) (accesses_in (context_of c.args.text.now around c.args.scope.now (names_of c.args.names.now)) c.args.more.now) (c.in_ok-a.ensures around) (c.in_ok-accesses.ensures around)

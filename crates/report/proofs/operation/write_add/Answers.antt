@@ -31,8 +31,8 @@ grouped net given b =
     (optional_text (codes " med ") decimal given.med) (optional_text (codes " lp ") decimal given.lp) (optional_text (codes " igp ") decimal given.igp)
     (list_text (codes " com") community_text given.coms)
 
-pub returns : goal.returns
-returns c =
+pub returns-clause-written : goal.returns-clause-written
+returns-clause-written g c =
     on_ok_weaker c.write_communities.result
-    (grouped c.args.net.now c.args.given.now c.args.out.now.items _ _ _ _ c.in_ok-write_gateway.ensures c.in_ok-write_way.ensures c.in_ok-write_metrics.ensures)
-    c.write_communities.ensures
+    (grouped c.args.net.now c.args.given.now (g.W.TextOut.written c.args.out.now) _ _ _ _ c.in_ok-write_gateway.ensures.written c.in_ok-write_way.ensures.written c.in_ok-write_metrics.ensures.written)
+    c.write_communities.ensures.written
