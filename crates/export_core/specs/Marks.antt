@@ -56,13 +56,17 @@ SameMarks old new = (q : Net) → mark_at q new ≡ mark_at q old
 abbrev pub KeepsPlaces : {X : Type 0} → List (Net × X) → List (Net × X) → Type 0
 KeepsPlaces old new = (q : Net) → HasPlace q old → HasPlace q new
 
+-- the marks after a net is marked, which stays due where it was
+abbrev pub Joins : Net → Mark → List (Net × Option Mark) → List (Net × Option Mark) → Type 0
+Joins k m old new =
+    (q : Net) → mark_at q new
+    ≡ (if same_net k q then Some (joined (mark_at k old) m) else mark_at q old)
+
 -- A net is marked: it goes behind the others, or keeps its place and stays due where it was.
 pub record Fills
     (k : Net) (m : Mark) (nets : List Net) (bodies : List (Net × Option Mark)) (nets' : List Net)
     (bodies' : List (Net × Option Mark)) : Type 0 where
-  pub marks :
-      (q : Net) → mark_at q bodies'
-      ≡ (if same_net k q then Some (joined (mark_at k bodies) m) else mark_at q bodies)
+  pub marks : Joins k m bodies bodies'
   pub order : nets' ≡ (if is_some (mark_at k bodies) then nets else nets ++ k ∷ [])
   pub places : KeepsPlaces bodies bodies'
   pub listed : IsListed nets' bodies'

@@ -1,12 +1,12 @@
 //! Marks in the order of first marking.
-ghost use Rattle.std.specs.Prelude.{◌≡◌, ◌↔◌, ◌+◌, ◌<◌, ◌≤◌, ◌||◌, List, [], ◌∷◌, ◌++◌, ◌&&◌, OnOk, OnErr, IfSome, IfNone, IsTrue, IsSome, None, Some, is_some, slice_get, drop, length, option_copied, true, if◌then◌else◌};
+ghost use Rattle.std.specs.Prelude.{◌≡◌, ◌↔◌, ◌+◌, ◌<◌, ◌≤◌, ◌||◌, List, [], ◌∷◌, ◌++◌, ◌&&◌, OnOk, OnErr, IfErr, IfOk, IfNone, IfSome, IsTrue, IsSome, None, Some, is_some, slice_get, drop, length, option_copied, true, if◌then◌else◌, not};
 ghost use Rattle.std.specs.VecDeque.{deque_len, deque_capacity};
 ghost use Rattle.std.specs.Map.{keys_of};
 ghost use Rattle.std.specs.List.Sorted.{IsStrictlySortedBy};
 ghost use Rattle.bits_ip.specs.Prefix.{Net, net_cmp, same_net};
 ghost use Rattle.export_core.specs.Candidates.{AddsNone, covers, is_from};
 ghost use Rattle.export_core.specs.Calls.{order_with};
-ghost use Rattle.export_core.specs.Marks.{at, find, mark_at, is_due, joined, unmarked, Fills, HasPlace, KeepsPlaces, IsListed, MarksAll, SameMarks};
+ghost use Rattle.export_core.specs.Marks.{at, find, mark_at, joined, unmarked, Fills, HasPlace, Joins, KeepsPlaces, IsListed, MarksAll, SameMarks};
 
 use crate::candidates::{add_none, bounds_of};
 use crate::floors::Floor;
@@ -86,25 +86,79 @@ fn has_mark(bodies: &BTreeMap<Prefix, Option<Mark>>, net: &Prefix) -> bool
     mark_of(bodies, net).is_some()
 }
 
-fn is_due(bodies: &BTreeMap<Prefix, Option<Mark>>, net: &Prefix) -> bool
-    ensures { result ≡ is_due (mark_at net.now bodies.now.entries) }
+/// Marks a place, and tells whether it had no mark. A mark that takes the place of another stays due
+/// where that was.
+fn mark_place(place: &mut Option<Mark>, mark: Mark) -> bool
+    ensures mark { place.new ≡ Some (joined place.old mark) }
+    ensures new { result ≡ not (is_some place.old) }
 {
-    match mark_of(bodies, net) {
-        Some(mark) => mark.due,
+    let was_due = match place {
+        Some(old) => old.due,
         None => false,
+    };
+    let is_new = place.is_none();
+    *place = Some(Mark {
+        at: mark.at,
+        candidate: mark.candidate,
+        due: mark.due | was_due,
+    });
+    is_new
+}
+
+/// Marks the net at its place, and tells whether it had no mark. Where it has no place the mark is
+/// given back.
+fn mark_there(
+    bodies: &mut BTreeMap<Prefix, Option<Mark>>,
+    net: &Prefix,
+    mark: Mark,
+) -> Result<bool, Mark>
+    ensures marks { OnOk result (Joins net.now mark bodies.old.entries bodies.new.entries) }
+    ensures new { IfOk result
+        (λ is_new. is_new ≡ not (is_some (mark_at net.now bodies.old.entries))) }
+    ensures places { KeepsPlaces bodies.old.entries bodies.new.entries }
+    ensures back { IfErr result (λ back. back ≡ mark) }
+    ensures none { OnErr result ((at net.now bodies.old.entries ≡ None)
+        × (bodies.new.entries ≡ bodies.old.entries)) }
+{
+    match bodies.get_mut(net) {
+        Some(place) => Ok(mark_place(place, mark)),
+        None => Err(mark),
     }
 }
 
-/// Writes a mark into its place.
-fn write(bodies: &mut BTreeMap<Prefix, Option<Mark>>, net: Prefix, mark: Mark)
-    requires { HasPlace net bodies.old.entries }
-    ensures at { (q : Net) → mark_at q bodies.new.entries
-        ≡ (if same_net net q then Some mark else mark_at q bodies.old.entries) }
+/// Makes a place with a mark of the net, which has none.
+fn make_marked(
+    bodies: &mut BTreeMap<Prefix, Option<Mark>>,
+    net: &Prefix,
+    mark: Mark,
+) -> Result<(), OutOfMemory>
+    requires { at net.now bodies.old.entries ≡ None }
+    ensures marks { OnOk result (Joins net.now mark bodies.old.entries bodies.new.entries) }
     ensures places { KeepsPlaces bodies.old.entries bodies.new.entries }
+    ensures refused { OnErr result (bodies.new.entries ≡ bodies.old.entries) }
 {
-    match bodies.insert(net, Some(mark)) {
-        Ok(_) => {}
-        Err(_) => unreachable!(),
+    bodies.insert(*net, Some(mark))?;
+    Ok(())
+}
+
+/// Marks the net, and tells whether it had no mark.
+fn mark_net(
+    bodies: &mut BTreeMap<Prefix, Option<Mark>>,
+    net: &Prefix,
+    mark: Mark,
+) -> Result<bool, OutOfMemory>
+    ensures marks { OnOk result (Joins net.now mark bodies.old.entries bodies.new.entries) }
+    ensures new { IfOk result
+        (λ is_new. is_new ≡ not (is_some (mark_at net.now bodies.old.entries))) }
+    ensures places { KeepsPlaces bodies.old.entries bodies.new.entries }
+    ensures refused { OnErr result (bodies.new.entries ≡ bodies.old.entries) }
+{
+    match mark_there(bodies, net, mark) {
+        Ok(is_new) => Ok(is_new),
+        Err(mark) => {
+            make_marked(bodies, net, mark)?;
+            Ok(true)
+        }
     }
 }
 
@@ -137,18 +191,29 @@ fn fill(
     ensures room { deque_capacity order.new ≡ deque_capacity order.old }
     ensures len { deque_len order.new ≤ deque_len order.old + 1 }
 {
-    let is_new = !has_mark(bodies, &net);
-    let due = mark.due | is_due(bodies, &net);
-    write(
-        bodies,
-        net,
-        Mark {
-            at: mark.at,
-            candidate: mark.candidate,
-            due,
-        },
-    );
+    match mark_there(bodies, &net, mark) {
+        Ok(is_new) => place_last(order, net, is_new),
+        Err(_) => unreachable!(),
+    }
+}
+
+/// Marks the net, as `fill` does, where it may have no place yet.
+fn put(
+    order: &mut VecDeque<Prefix>,
+    bodies: &mut BTreeMap<Prefix, Option<Mark>>,
+    net: Prefix,
+    mark: Mark,
+) -> Result<(), OutOfMemory>
+    requires room { deque_len order.old < deque_capacity order.old }
+    requires listed { IsListed order.old.items bodies.old.entries }
+    ensures fills { OnOk result (Fills net mark order.old.items bodies.old.entries
+        order.new.items bodies.new.entries) }
+    ensures refused { OnErr result ((order.new.items ≡ order.old.items)
+        × (bodies.new.entries ≡ bodies.old.entries)) }
+{
+    let is_new = mark_net(bodies, &net, mark)?;
     place_last(order, net, is_new);
+    Ok(())
 }
 
 /// Marks a net with its candidate, as `fill` does.
@@ -215,9 +280,7 @@ impl Marks {
             ((self.new.order ≡ self.old.order) × ((q : Net) → find q self.new ≡ find q self.old)) }
     {
         self.order.reserve(1)?;
-        make_place(&mut self.bodies, &net)?;
-        fill(&mut self.order, &mut self.bodies, net, mark);
-        Ok(())
+        put(&mut self.order, &mut self.bodies, net, mark)
     }
 
     /// The first mark with its net.
