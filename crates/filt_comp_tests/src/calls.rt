@@ -1,78 +1,108 @@
-use crate::samples::{
-    arguments, assert_med, assert_rejected, declare, filter, function, med_is, net, no_scope,
-    number, one, plus, print, route, said, two,
-};
-use attrs::{FilterFault, Names, Verdict};
+use crate::samples::{filter, net, no_scope, one, route};
+use attrs::{Names, Verdict};
 use bits_ip::OutOfMemory;
 use filt_comp::run_tree;
-use filt_tree::{Scope, TExpr, TStmt};
+use filt_syntax::{Attribute, Term};
+use filt_tree::{Scope, TExpr, TFunction, TStmt, TTarget};
+use filt_values::{Fixed, Sort};
 use std::alloc::Global;
+use std::process::Abort;
 use std::test::Fail;
 
-/// Function 0 gives its argument and 1, and each function behind it what the one before it gives.
-fn declared(alloc: Global, count: usize) -> Result<Scope, Fail> {
-    let mut scope = no_scope(alloc);
-    let more = plus(alloc, TExpr::Local(0), number(1))?;
-    let first = one(alloc, TStmt::Return(Some(more)))?;
-    declare(alloc, &mut scope, function(alloc, first)?)?;
-    for before in 0..count {
-        let call = TExpr::Call(before, arguments(alloc, TExpr::Local(0))?);
-        let next = one(alloc, TStmt::Return(Some(call)))?;
-        declare(alloc, &mut scope, function(alloc, next)?)?;
-    }
-    Ok(scope)
+fn alone(alloc: Global, e: TExpr) -> Result<Vec<TExpr>, OutOfMemory> {
+    let mut es = Vec::new(alloc);
+    es.push(e)?;
+    Ok(es)
 }
 
-/// `bgp_med = f(41); accept;`, where f stands behind so many functions.
-fn called(alloc: Global, before: usize) -> Result<Result<Verdict, OutOfMemory>, Fail> {
-    let scope = declared(alloc, before)?;
-    let call = TExpr::Call(before, arguments(alloc, number(41))?);
-    let body = two(alloc, med_is(call), TStmt::Accept)?;
-    let filter = filter(alloc, &scope, body)?;
+/// `return n + 1;`, where n is the argument.
+fn adding_one(alloc: Global) -> Result<Vec<TStmt>, OutOfMemory> {
+    let mut more = Vec::new(alloc);
+    more.push((Term::Plus, TExpr::Value(Fixed::Int(1))))?;
+    let sum = TExpr::Sum(Box::new(alloc, TExpr::Local(0))?, more);
+    one(alloc, TStmt::Return(Some(sum)))
+}
+
+/// `return f(n);`, where f is the function of this number.
+fn handing_on(alloc: Global, to: usize) -> Result<Vec<TStmt>, OutOfMemory> {
+    let call = TExpr::Call(to, alone(alloc, TExpr::Local(0))?);
+    one(alloc, TStmt::Return(Some(call)))
+}
+
+/// `bgp_med = f(41); accept;`
+fn setting_the_med(alloc: Global, to: usize) -> Result<Vec<TStmt>, OutOfMemory> {
+    let call = TExpr::Call(to, alone(alloc, TExpr::Value(Fixed::Int(41)))?);
+    let target = TTarget::Attribute(Attribute::BgpMed);
+    let mut body = one(alloc, TStmt::Assign(target, call))?;
+    body.push(TStmt::Accept)?;
+    Ok(body)
+}
+
+/// A function of one number, which gives a number.
+fn function(alloc: Global, body: Vec<TStmt>) -> Result<TFunction, OutOfMemory> {
+    let mut parameters = Vec::new(alloc);
+    parameters.push(Sort::Int)?;
+    Ok(TFunction {
+        parameters,
+        gives: Some(Sort::Int),
+        weight: 1,
+        constants: 0,
+        sorts: Vec::new(alloc),
+        body,
+    })
+}
+
+/// Declares a function; its name is the number of those before it.
+fn declare(alloc: Global, scope: &mut Scope, body: Vec<TStmt>) -> Result<(), OutOfMemory> {
+    let function = function(alloc, body)?;
+    let mut name = Vec::new(alloc);
+    name.push((scope.functions.len() % 256) as u8)?;
+    scope.functions.insert(name, function)?;
+    Ok(())
+}
+
+/// Function 0 adds one, and each of so many behind it hands on to the one before it.
+fn declare_all(alloc: Global, scope: &mut Scope, count: usize) -> Result<(), OutOfMemory> {
+    declare(alloc, scope, adding_one(alloc)?)?;
+    for before in 0..count {
+        declare(alloc, scope, handing_on(alloc, before)?)?;
+    }
+    Ok(())
+}
+
+/// The MED that a filter of these statements leaves, where it accepts, or want of memory.
+type Left = Result<Option<u32>, OutOfMemory>;
+
+fn med_left(alloc: Global, scope: &Scope, body: Vec<TStmt>) -> Result<Left, Fail> {
+    let filter = filter(alloc, scope, body)?;
     let names = Names::make(Vec::new(alloc));
-    let net = net()?;
     let route = route(alloc)?;
-    Ok(run_tree(alloc, &scope, &filter, &names, &net, &route))
+    let net = net()?;
+    Ok(
+        match run_tree(alloc, scope, &filter, &names, &net, &route) {
+            Ok(Verdict::Accept(attrs)) => Ok(attrs.med),
+            Ok(Verdict::Reject(_)) => Ok(None),
+            Err(refused) => Err(refused),
+        },
+    )
+}
+
+/// The MED that a call of a function leaves that stands behind so many.
+fn med_behind(alloc: Global, before: usize) -> Result<Left, Fail> {
+    let mut scope = no_scope(alloc);
+    declare_all(alloc, &mut scope, before)?;
+    med_left(alloc, &scope, setting_the_med(alloc, before)?)
 }
 
 #[test]
 fn a_function_gives_a_value(rt: HostRuntime) -> Result<(), Fail> {
-    let verdict = called(rt.alloc(), 0)??;
-    assert_med(&rt, &verdict, 42);
+    assert_eq!(rt; med_behind(rt.alloc(), 0)??, Some(42));
     Ok(())
 }
 
 #[test]
 fn calls_stand_within_one_another_64_times(rt: HostRuntime) -> Result<(), Fail> {
-    let verdict = called(rt.alloc(), 63)??;
-    assert_med(&rt, &verdict, 42);
-    assert!(rt; called(rt.alloc(), 64)?.is_err());
-    Ok(())
-}
-
-/// A filter that prints what function 0 of this body gives, and then accepts.
-fn printed(alloc: Global, body: Vec<TStmt>) -> Result<Verdict, Fail> {
-    let mut scope = no_scope(alloc);
-    declare(alloc, &mut scope, function(alloc, body)?)?;
-    let call = TExpr::Call(0, arguments(alloc, number(1))?);
-    let body = two(alloc, print(alloc, call)?, TStmt::Accept)?;
-    said(alloc, &scope, body)
-}
-
-#[test]
-fn a_function_that_gives_nothing(rt: HostRuntime) -> Result<(), Fail> {
-    let alloc = rt.alloc();
-    let verdict = printed(alloc, one(alloc, TStmt::Nothing)?)?;
-    assert_rejected(&rt, &verdict, Some(FilterFault::NoValue));
-    Ok(())
-}
-
-#[test]
-fn a_function_ends_the_filter(rt: HostRuntime) -> Result<(), Fail> {
-    let alloc = rt.alloc();
-    let verdict = printed(alloc, two(alloc, med_is(number(7)), TStmt::Accept)?)?;
-    assert_med(&rt, &verdict, 7);
-    let rejected = printed(alloc, one(alloc, TStmt::Reject)?)?;
-    assert_rejected(&rt, &rejected, None);
+    assert_eq!(rt; med_behind(rt.alloc(), 63)??, Some(42));
+    assert!(rt; med_behind(rt.alloc(), 64)?.is_err());
     Ok(())
 }

@@ -1,10 +1,10 @@
-//! Tests of filters that run: verdicts, changed attributes, each fault, calls, loops, cases, sets,
-//! and how many calls may stand within one another.
+//! Tests of checked filters that are made in code: one that changes nothing, as a judge, and how many
+//! calls may stand within one another. What filters say is tried as text, with the check before it.
 #![tactic(auto)]
 
 #[cfg(test)]
 mod calls;
 #[cfg(test)]
-mod samples;
+mod judges;
 #[cfg(test)]
-mod verdicts;
+mod samples;

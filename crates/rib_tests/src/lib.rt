@@ -1,5 +1,5 @@
-//! Tests of tables: which routes are preferred, what changes leave and answer, in which order rows
-//! and routes stand, and which rows are selected.
+//! Tests of tables: what changes leave and answer, in which order rows and routes stand, and which
+//! rows are selected.
 #![tactic(auto)]
 
 #[cfg(test)]
@@ -9,5 +9,5 @@ mod steps;
 #[cfg(test)]
 mod tests;
 
-pub use shapes::{PLAIN, Shape, put_all, shaped};
+pub use shapes::{PLAIN, Shape, put_all};
 pub use steps::{Step, change_of, net, new_route, play, route};

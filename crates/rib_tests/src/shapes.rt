@@ -7,68 +7,49 @@ use rib::Rib;
 use std::alloc::Global;
 use std::test::Fail;
 
-/// What the rules of selection read off a route. The path has so many numbers, all the same.
+/// What tells the routes of BGP apart that the tests put in.
 #[derive(Clone, Copy, Debug)]
 pub struct Shape {
     pub num: u32,
-    pub pref: u32,
-    pub kind: Kind,
-    pub lp: Option<u32>,
-    pub path_len: usize,
-    pub origin: Option<Origin>,
     pub med: Option<u32>,
-    pub ebgp: bool,
-    pub igp: Option<u32>,
     pub peer_id: u32,
-    pub sender: Option<Addr>,
-    pub defaults: (u32, u32),
+    pub sender: Addr,
 }
 
-/// A route of BGP in whose place the tests put others.
+/// A route in whose place the tests put others.
 pub const PLAIN: Shape = Shape {
     num: 1,
-    pref: 100,
-    kind: Kind::Bgp,
-    lp: Some(100),
-    path_len: 2,
-    origin: Some(Origin::Egp),
     med: Some(10),
-    ebgp: false,
-    igp: Some(10),
     peer_id: 7,
-    sender: Some(Addr::V4(9)),
-    defaults: (0, 100),
+    sender: Addr::V4(9),
 };
 
-/// A route of this shape.
-pub fn shaped(alloc: Global, shape: &Shape) -> Result<Route, Fail>
+/// A route of this shape, which has a path of one number.
+fn shaped(alloc: Global, shape: &Shape) -> Result<Route, Fail>
     ensures { IfOk result (λ route. route.src.num ≡ shape.now.num) }
 {
     let mut path = Path::new(alloc);
-    for _ in 0..shape.path_len {
-        path.prepend(65001)?;
-    }
+    path.prepend(65001)?;
     let attrs = Attrs {
-        pref: shape.pref,
-        kind: shape.kind,
+        pref: 100,
+        kind: Kind::Bgp,
         dest: Dest::Unicast,
-        gw: shape.sender,
-        sender: shape.sender,
+        gw: Some(shape.sender),
+        sender: Some(shape.sender),
         peer_id: shape.peer_id,
-        ebgp: shape.ebgp,
+        ebgp: true,
         path,
-        origin: shape.origin,
-        next_hop: shape.sender,
+        origin: Some(Origin::Igp),
+        next_hop: Some(shape.sender),
         med: shape.med,
-        lp: shape.lp,
-        igp: shape.igp,
+        lp: Some(100),
+        igp: None,
         coms: Clist::new(alloc),
     };
-    let (def_med, def_lp) = shape.defaults;
     let src = Src {
         num: shape.num,
-        def_med,
-        def_lp,
+        def_med: 0,
+        def_lp: 100,
     };
     Ok(Route::make(alloc, src, attrs)?)
 }
