@@ -5,8 +5,8 @@
 
 The greatest configuration is one byte under the limit of 16 MiB: a filter with a set of 400,000 prefixes, and 10,000 small
 functions, filled up with comments. Smaller ones have so many sixteenths of each. All are accepted and have no protocol,
-so the program reads and checks them whole, builds nothing and ends with status 9. Each runs three times, of which the
-shortest counts, and once more under /usr/bin/time for the greatest memory.
+so the program reads and checks them whole, plays next to nothing and ends with status 0. Each runs three times, of which
+the shortest counts, and once more under /usr/bin/time for the greatest memory.
 """
 
 import pathlib
@@ -22,7 +22,6 @@ LIMIT = 16 * 1024 * 1024
 PREFIXES = 400_000
 FUNCTIONS = 10_000
 RUNS = 3
-NOT_BUILT = 9
 
 HEAD = f"{'bytes':>9} {'seconds':>8} {'ns/byte':>8} {'MiB':>7} {'byte/byte':>9}"
 
@@ -56,8 +55,8 @@ def configuration(sixteenths):
 
 def seconds(command):
     begun = time.perf_counter()
-    status = subprocess.run(command, stderr=subprocess.DEVNULL).returncode
-    if status != NOT_BUILT:
+    status = subprocess.run(command, stdout=subprocess.DEVNULL, stderr=subprocess.DEVNULL).returncode
+    if status != 0:
         sys.exit(f"the program ended with status {status}")
     return time.perf_counter() - begun
 
@@ -68,7 +67,7 @@ def measure(program, folder, sixteenths):
     size = conf.stat().st_size
     command = [program, "play", conf, folder / "script"]
     shortest = min(seconds(command) for _ in range(RUNS))
-    most = greatest_memory(command, folder, stderr=subprocess.DEVNULL) * 1024
+    most = greatest_memory(command, folder, stdout=subprocess.DEVNULL, stderr=subprocess.DEVNULL) * 1024
     print(f"{size:9} {shortest:8.3f} {shortest * 1e9 / size:8.1f} {most / 2**20:7.1f} {most / size:9.2f}", flush=True)
 
 

@@ -6,9 +6,9 @@ use Rattle.conf_lex.specs.Spans.{IsSpan, IsBetween}
 use Rattle.conf_lex.specs.Words.{first_word, words_from, words_of}
 use Rattle.conf_lex.specs.declared.token.Token.{Token}
 use Rattle.conf_lex.specs.declared.word.Word.{Word}
-use Rattle.conf_tree.specs.declared.said.Region.{Region}
-use Rattle.conf_tree.specs.declared.said.Region.TheVariants as regions
-use Rattle.conf_tree.specs.Said.{behind, says, said, said_words}
+use Rattle.conf_tree.specs.declared.significant.Region.{Region}
+use Rattle.conf_tree.specs.declared.significant.Region.TheVariants as regions
+use Rattle.conf_tree.specs.Significant.{behind, is_significant, significant, significant_words}
 
 words_few : (text : List ℕ) (i skip : ℕ) (ts : List Token) → length (words_from text i skip ts) ≤ length ts
 words_few text i skip [] = omega arith
@@ -19,9 +19,9 @@ perhaps_few : (b : Bool) (p : ℕ × Word) (ps : List (ℕ × Word)) (n : ℕ) �
 perhaps_few true p ps n few = omega (arith, few)
 perhaps_few false p ps n few = omega (arith, few)
 
-said_few : (region : Region) (ps : List (ℕ × Word)) → length (said region ps) ≤ length ps
+said_few : (region : Region) (ps : List (ℕ × Word)) → length (significant region ps) ≤ length ps
 said_few region [] = omega arith
-said_few region (p ∷ ps) = perhaps_few (says region p.1) p (said (behind region p.1) ps) (length ps) (said_few (behind region p.1) ps)
+said_few region (p ∷ ps) = perhaps_few (is_significant region p.1) p (significant (behind region p.1) ps) (length ps) (said_few (behind region p.1) ps)
 
 -- Tokens stand in order and apart, each with a byte or more.
 module _ (slices : (text : List ℕ) (front back : List Token) (t : Token) → Lexes 0 text (front ++ t ∷ back) → IsSpan text t)
@@ -38,6 +38,6 @@ module _ (slices : (text : List ℕ) (front back : List Token) (t : Token) → L
   tokens_few text [] lexed = omega arith
   tokens_few text (t ∷ ts) lexed = omega (arith, tokens_from text [] t ts lexed)
 
-  pub said_within : (text : List ℕ) (ts : List Token) → Lexes 0 text ts → length (said_words text ts) ≤ length text
+  pub said_within : (text : List ℕ) (ts : List Token) → Lexes 0 text ts → length (significant_words text ts) ≤ length text
   said_within text ts lexed =
-      omega (arith, length-map (said regions.Statements (words_of text ts)) (λ (p : ℕ × Word). p.1), said_few regions.Statements (words_of text ts), words_few text 0 0 ts, tokens_few text ts lexed)
+      omega (arith, length-map (significant regions.Statements (words_of text ts)) (λ (p : ℕ × Word). p.1), said_few regions.Statements (words_of text ts), words_few text 0 0 ts, tokens_few text ts lexed)

@@ -2,12 +2,12 @@
 use Rattle.std.proofs.Common.{◌≡◌, ◌∙◌, sym, ap, subst, ℕ, List, Option, Some, None, inl, inr}
 use Rattle.std.specs.Prelude.{◌⊎◌}
 use Rattle.std.proofs.lemmas.Bool.{true≢false}
-use Rattle.grammar.specs.Grammar.{Tree}
+use Rattle.grammar.specs.Grammar.{ParseTree}
 use Rattle.conf_tree.specs.Position.{IsPlace}
 use Rattle.conf_tree.specs.Read.{IsConfigText, IsRefusedText}
 use Rattle.conf_tree.specs.View.{statements_tree}
 use Rattle.conf_tree.specs.declared.kind.ConfKind.{ConfKind}
-use Rattle.conf_tree.specs.declared.tree.Statement.{Statement}
+use Rattle.conf_tree.specs.declared.ast.Statement.{Statement}
 use Rattle.conf_ast.specs.Configurations.{Declaration, configuration_of}
 use Rattle.conf_rules.specs.declared.refusal.Refusal.{Refusal}
 use Rattle.sys_build.specs.Setups.{has_pipe}
@@ -48,7 +48,7 @@ module _ (syntax_once : (text : List ℕ) (c d : List Statement) → IsConfigTex
       let same : found ≡ again = some_is found again (sym one.refused ∙ ap (refused_in text) (syntax_once text one.statements two.statements one.tree two.tree) ∙ two.refused) in
       (ap (λ (r : Refusal). r.at) same, ap (λ (r : Refusal). r.kind) same)
 
-  module _ (never_both : (text : List ℕ) (t : Tree) (at : ℕ) (kind : ConfKind) → IsConfigText text t → IsRefusedText text at kind → ⊥) where
+  module _ (never_both : (text : List ℕ) (t : ParseTree) (at : ℕ) (kind : ConfKind) → IsConfigText text t → IsRefusedText text at kind → ⊥) where
     accepted_or_refused : (text : List ℕ) (ds : List Declaration) (line column : ℕ) (kind : ConfKind) → IsAcceptedText text ds → IsRefusedAt text line column kind → ⊥
     accepted_or_refused text ds line column kind is refused = elim refused.1 [
       | inl read ↦ never_both text (statements_tree is.statements) refused.0 kind is.tree read

@@ -5,15 +5,15 @@ use Rattle.std.proofs.lemmas.Bool.{cases_Bool}
 use Rattle.conf_lex.specs.Lex.{Lexes}
 use Rattle.conf_lex.specs.declared.token.Token.{Token}
 use Rattle.conf_lex.specs.declared.word.Word.{Word}
-use Rattle.grammar.specs.Grammar.{Tree, Fits, yield}
+use Rattle.grammar.specs.Grammar.{ParseTree, DerivesLongest, yield}
 use Rattle.filt_syntax.specs.Syntax.{rule}
 use Rattle.conf_tree.specs.Position.{IsPlace}
 use Rattle.conf_tree.specs.Read.{IsConfigText, IsRefusedText}
-use Rattle.conf_tree.specs.Said.{said_words}
+use Rattle.conf_tree.specs.Significant.{significant_words}
 use Rattle.conf_tree.specs.Syntax.{config}
 use Rattle.conf_tree.specs.View.{statements_tree}
 use Rattle.conf_tree.specs.declared.kind.ConfKind.{ConfKind}
-use Rattle.conf_tree.specs.declared.tree.Statement.{Statement}
+use Rattle.conf_tree.specs.declared.ast.Statement.{Statement}
 use Rattle.conf_ast.specs.Configurations.{Declaration, configuration_of}
 use Rattle.conf_rules.specs.declared.refusal.Refusal.{Refusal}
 use Rattle.outside_io.specs.Whole.{limit}
@@ -39,16 +39,16 @@ module _ (each_place : (text : List ℕ) (at : ℕ) → (line : ℕ) × (column 
   of_statements text all is (Some r) found =
       let place = each_place text r.at in inr (inr (place.0, place.1, r.kind, (r.at, inr (record { statements = all; tree = is; refused = found }), place.2)))
 
-  module _ (few : (text : List ℕ) (tokens : List Token) → Lexes 0 text tokens → length (said_words text tokens) ≤ length text)
-      (each_tree : (t : Tree) → Fits rule t config → length (yield t) < 2 ^ 63 → (all : List Statement) × (statements_tree all ≡ t)) where
-    of_tree : (text : List ℕ) (t : Tree) → length text ≤ limit → IsConfigText text t → SaysSomething text
+  module _ (few : (text : List ℕ) (tokens : List Token) → Lexes 0 text tokens → length (significant_words text tokens) ≤ length text)
+      (each_tree : (t : ParseTree) → DerivesLongest rule t config → length (yield t) < 2 ^ 63 → (all : List Statement) × (statements_tree all ≡ t)) where
+    of_tree : (text : List ℕ) (t : ParseTree) → length text ≤ limit → IsConfigText text t → SaysSomething text
     of_tree text t within is =
         let sentence = is.2 in
-        let words : length (yield t) ≡ length (said_words text is.0) = ap (λ (ws : List Word). length ws) sentence.whole in
+        let words : length (yield t) ≡ length (significant_words text is.0) = ap (λ (ws : List Word). length ws) sentence.whole in
         let all = each_tree t sentence.fits (omega (arith, words, few text is.0 is.1, within)) in
-        of_statements text all.0 (subst (λ (u : Tree). IsConfigText text u) (sym all.1) is) (refused_in text (configuration_of all.0)) refl
+        of_statements text all.0 (subst (λ (u : ParseTree). IsConfigText text u) (sym all.1) is) (refused_in text (configuration_of all.0)) refl
 
-    pub says_something : ((text : List ℕ) → ((t : Tree) × IsConfigText text t) ⊎ ((at : ℕ) × (kind : ConfKind) × IsRefusedText text at kind)) → (text : List ℕ) → length text ≤ limit → SaysSomething text
+    pub says_something : ((text : List ℕ) → ((t : ParseTree) × IsConfigText text t) ⊎ ((at : ℕ) × (kind : ConfKind) × IsRefusedText text at kind)) → (text : List ℕ) → length text ≤ limit → SaysSomething text
     says_something each_text text within = elim (each_text text) [
       | inl is ↦ of_tree text is.0 within is.1
       | inr refused ↦ let place = each_place text refused.0 in inr (inr (place.0, place.1, refused.1, (refused.0, inl refused.2, place.2)))

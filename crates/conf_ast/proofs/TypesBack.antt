@@ -2,23 +2,23 @@
 use Rattle.std.proofs.Common.{◌≡◌, refl}
 use Rattle.conf_lex.specs.declared.symbol.Symbol.TheVariants as sym
 use Rattle.conf_lex.specs.declared.word.Word.TheVariants as words
-use Rattle.grammar.specs.Grammar.{Tree, Leaf, Both, First, Second}
-use Rattle.filt_syntax.specs.declared.tree.VariableType.{VariableType}
-use Rattle.filt_syntax.specs.declared.tree.VariableType.TheVariants as types
+use Rattle.grammar.specs.Grammar.{ParseTree, Leaf, Pair, Left, Right}
+use Rattle.filt_syntax.specs.declared.ast.VariableType.{VariableType}
+use Rattle.filt_syntax.specs.declared.ast.VariableType.TheVariants as types
 use Rattle.filt_syntax.specs.StatementView.{type_tree}
 
-abbrev pub type_from : Tree → VariableType
-type_from (First (Leaf (words.Symbol sym.Bool))) = types.Bool
-type_from (First (Leaf (words.Symbol sym.Ip))) = types.Ip
-type_from (Second (Both (Leaf (words.Symbol sym.Prefix)) (Second b))) = types.Prefix
-type_from (Second (Both (Leaf (words.Symbol sym.Pair)) (Second b))) = types.Pair
-type_from (First (Leaf (words.Symbol sym.String))) = types.String
-type_from (First (Leaf (words.Symbol sym.PathType))) = types.Path
-type_from (First (Leaf (words.Symbol sym.MaskType))) = types.Mask
-type_from (First (Leaf (words.Symbol sym.Clist))) = types.Clist
-type_from (Second (Both (Leaf (words.Symbol sym.Int)) (First b))) = types.IntSet
-type_from (Second (Both (Leaf (words.Symbol sym.Pair)) (First b))) = types.PairSet
-type_from (Second (Both (Leaf (words.Symbol sym.Prefix)) (First b))) = types.PrefixSet
+abbrev pub type_from : ParseTree → VariableType
+type_from (Left (Leaf (words.Symbol sym.Bool))) = types.Bool
+type_from (Left (Leaf (words.Symbol sym.Ip))) = types.Ip
+type_from (Right (Pair (Leaf (words.Symbol sym.Prefix)) (Right b))) = types.Prefix
+type_from (Right (Pair (Leaf (words.Symbol sym.Pair)) (Right b))) = types.Pair
+type_from (Left (Leaf (words.Symbol sym.String))) = types.String
+type_from (Left (Leaf (words.Symbol sym.PathType))) = types.Path
+type_from (Left (Leaf (words.Symbol sym.MaskType))) = types.Mask
+type_from (Left (Leaf (words.Symbol sym.Clist))) = types.Clist
+type_from (Right (Pair (Leaf (words.Symbol sym.Int)) (Left b))) = types.IntSet
+type_from (Right (Pair (Leaf (words.Symbol sym.Pair)) (Left b))) = types.PairSet
+type_from (Right (Pair (Leaf (words.Symbol sym.Prefix)) (Left b))) = types.PrefixSet
 type_from _ = types.Int
 
 pub type_back : (v : VariableType) → type_from (type_tree v) ≡ v

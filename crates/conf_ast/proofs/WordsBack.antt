@@ -4,25 +4,25 @@ use Rattle.conf_lex.specs.declared.symbol.Symbol.TheVariants as sym
 use Rattle.conf_lex.specs.declared.word.Word.{Word}
 use Rattle.conf_lex.specs.declared.word.Word.TheVariants as words
 use Rattle.grammar.specs.declared.named.Name.{Name}
-use Rattle.filt_syntax.specs.declared.tree.Attribute.{Attribute}
-use Rattle.filt_syntax.specs.declared.tree.Attribute.TheVariants as attributes
-use Rattle.filt_syntax.specs.declared.tree.Constant.TheVariants as constants
-use Rattle.filt_syntax.specs.declared.tree.Simple.{Simple}
-use Rattle.filt_syntax.specs.declared.tree.Simple.TheVariants as simples
-use Rattle.filt_syntax.specs.declared.tree.Property.{Property}
-use Rattle.filt_syntax.specs.declared.tree.Property.TheVariants as properties
-use Rattle.filt_syntax.specs.declared.tree.MethodKind.{MethodKind}
-use Rattle.filt_syntax.specs.declared.tree.MethodKind.TheVariants as methods
-use Rattle.filt_syntax.specs.declared.tree.Method.{Method}
-use Rattle.filt_syntax.specs.declared.tree.Factor.{Factor}
-use Rattle.filt_syntax.specs.declared.tree.Factor.TheVariants as factors
-use Rattle.filt_syntax.specs.declared.tree.Term.{Term}
-use Rattle.filt_syntax.specs.declared.tree.Term.TheVariants as terms
-use Rattle.filt_syntax.specs.declared.tree.Compare.{Compare}
-use Rattle.filt_syntax.specs.declared.tree.Compare.TheVariants as compares
-use Rattle.filt_syntax.specs.declared.tree.Joint.{Joint}
-use Rattle.filt_syntax.specs.declared.tree.Joint.TheVariants as joints
-use Rattle.filt_syntax.specs.View.{attribute_word, simple_word, property_symbol, method_word, factor_symbol, term_symbol, compare_symbol, joint_symbol}
+use Rattle.filt_syntax.specs.declared.ast.Attribute.{Attribute}
+use Rattle.filt_syntax.specs.declared.ast.Attribute.TheVariants as attributes
+use Rattle.filt_syntax.specs.declared.ast.Constant.TheVariants as constants
+use Rattle.filt_syntax.specs.declared.ast.Atom.{Atom}
+use Rattle.filt_syntax.specs.declared.ast.Atom.TheVariants as atoms
+use Rattle.filt_syntax.specs.declared.ast.Property.{Property}
+use Rattle.filt_syntax.specs.declared.ast.Property.TheVariants as properties
+use Rattle.filt_syntax.specs.declared.ast.MethodKind.{MethodKind}
+use Rattle.filt_syntax.specs.declared.ast.MethodKind.TheVariants as methods
+use Rattle.filt_syntax.specs.declared.ast.Method.{Method}
+use Rattle.filt_syntax.specs.declared.ast.MulOp.{MulOp}
+use Rattle.filt_syntax.specs.declared.ast.MulOp.TheVariants as mul_ops
+use Rattle.filt_syntax.specs.declared.ast.AddOp.{AddOp}
+use Rattle.filt_syntax.specs.declared.ast.AddOp.TheVariants as add_ops
+use Rattle.filt_syntax.specs.declared.ast.CompareOp.{CompareOp}
+use Rattle.filt_syntax.specs.declared.ast.CompareOp.TheVariants as compare_op_ops
+use Rattle.filt_syntax.specs.declared.ast.LogicalOp.{LogicalOp}
+use Rattle.filt_syntax.specs.declared.ast.LogicalOp.TheVariants as logical_ops
+use Rattle.filt_syntax.specs.View.{attribute_word, atom_word, property_symbol, method_word, mul_op_symbol, add_op_symbol, compare_op_symbol, logical_op_symbol}
 
 abbrev pub place_of : Word → ℕ
 place_of (words.Placed at s) = at
@@ -48,40 +48,40 @@ attribute_from (words.Placed at sym.IgpMetric) = attributes.IgpMetric
 attribute_from (words.Placed at sym.BgpCommunity) = attributes.BgpCommunity
 attribute_from _ = attributes.Net
 
-abbrev pub simple_from : Word → Simple
-simple_from (words.Number at value) = simples.Number at value
-simple_from (words.Text at start len) = simples.Text at start len
-simple_from (words.Ip at addr) = simples.Ip at addr
-simple_from (words.Prefix at net) = simples.Prefix at net
-simple_from (words.Placed at sym.True) = simples.True at
-simple_from (words.Placed at sym.False) = simples.False at
-simple_from (words.Placed at sym.EmptyPath) = simples.EmptyPath at
-simple_from (words.Placed at sym.EmptyClist) = simples.EmptyClist at
-simple_from (words.Placed at sym.Net) = simples.Attribute at attributes.Net
-simple_from (words.Placed at sym.Preference) = simples.Attribute at attributes.Preference
-simple_from (words.Placed at sym.Gw) = simples.Attribute at attributes.Gw
-simple_from (words.Placed at sym.From) = simples.Attribute at attributes.From
-simple_from (words.Placed at sym.BgpNextHop) = simples.Attribute at attributes.BgpNextHop
-simple_from (words.Placed at sym.Proto) = simples.Attribute at attributes.Proto
-simple_from (words.Placed at sym.Source) = simples.Attribute at attributes.Source
-simple_from (words.Placed at sym.Dest) = simples.Attribute at attributes.Dest
-simple_from (words.Placed at sym.BgpPath) = simples.Attribute at attributes.BgpPath
-simple_from (words.Placed at sym.BgpOrigin) = simples.Attribute at attributes.BgpOrigin
-simple_from (words.Placed at sym.BgpMed) = simples.Attribute at attributes.BgpMed
-simple_from (words.Placed at sym.BgpLocalPref) = simples.Attribute at attributes.BgpLocalPref
-simple_from (words.Placed at sym.IgpMetric) = simples.Attribute at attributes.IgpMetric
-simple_from (words.Placed at sym.BgpCommunity) = simples.Attribute at attributes.BgpCommunity
-simple_from (words.Placed at sym.RtsStatic) = simples.Constant at constants.RtsStatic
-simple_from (words.Placed at sym.RtsBgp) = simples.Constant at constants.RtsBgp
-simple_from (words.Placed at sym.RtdUnicast) = simples.Constant at constants.RtdUnicast
-simple_from (words.Placed at sym.RtdRouter) = simples.Constant at constants.RtdRouter
-simple_from (words.Placed at sym.RtdBlackhole) = simples.Constant at constants.RtdBlackhole
-simple_from (words.Placed at sym.RtdUnreachable) = simples.Constant at constants.RtdUnreachable
-simple_from (words.Placed at sym.RtdProhibit) = simples.Constant at constants.RtdProhibit
-simple_from (words.Placed at sym.OriginIgp) = simples.Constant at constants.OriginIgp
-simple_from (words.Placed at sym.OriginEgp) = simples.Constant at constants.OriginEgp
-simple_from (words.Placed at sym.OriginIncomplete) = simples.Constant at constants.OriginIncomplete
-simple_from _ = simples.True 0
+abbrev pub simple_from : Word → Atom
+simple_from (words.Number at value) = atoms.Number at value
+simple_from (words.Text at start len) = atoms.Text at start len
+simple_from (words.Ip at addr) = atoms.Ip at addr
+simple_from (words.Prefix at net) = atoms.Prefix at net
+simple_from (words.Placed at sym.True) = atoms.True at
+simple_from (words.Placed at sym.False) = atoms.False at
+simple_from (words.Placed at sym.EmptyPath) = atoms.EmptyPath at
+simple_from (words.Placed at sym.EmptyClist) = atoms.EmptyClist at
+simple_from (words.Placed at sym.Net) = atoms.Attribute at attributes.Net
+simple_from (words.Placed at sym.Preference) = atoms.Attribute at attributes.Preference
+simple_from (words.Placed at sym.Gw) = atoms.Attribute at attributes.Gw
+simple_from (words.Placed at sym.From) = atoms.Attribute at attributes.From
+simple_from (words.Placed at sym.BgpNextHop) = atoms.Attribute at attributes.BgpNextHop
+simple_from (words.Placed at sym.Proto) = atoms.Attribute at attributes.Proto
+simple_from (words.Placed at sym.Source) = atoms.Attribute at attributes.Source
+simple_from (words.Placed at sym.Dest) = atoms.Attribute at attributes.Dest
+simple_from (words.Placed at sym.BgpPath) = atoms.Attribute at attributes.BgpPath
+simple_from (words.Placed at sym.BgpOrigin) = atoms.Attribute at attributes.BgpOrigin
+simple_from (words.Placed at sym.BgpMed) = atoms.Attribute at attributes.BgpMed
+simple_from (words.Placed at sym.BgpLocalPref) = atoms.Attribute at attributes.BgpLocalPref
+simple_from (words.Placed at sym.IgpMetric) = atoms.Attribute at attributes.IgpMetric
+simple_from (words.Placed at sym.BgpCommunity) = atoms.Attribute at attributes.BgpCommunity
+simple_from (words.Placed at sym.RtsStatic) = atoms.Constant at constants.RtsStatic
+simple_from (words.Placed at sym.RtsBgp) = atoms.Constant at constants.RtsBgp
+simple_from (words.Placed at sym.RtdUnicast) = atoms.Constant at constants.RtdUnicast
+simple_from (words.Placed at sym.RtdRouter) = atoms.Constant at constants.RtdRouter
+simple_from (words.Placed at sym.RtdBlackhole) = atoms.Constant at constants.RtdBlackhole
+simple_from (words.Placed at sym.RtdUnreachable) = atoms.Constant at constants.RtdUnreachable
+simple_from (words.Placed at sym.RtdProhibit) = atoms.Constant at constants.RtdProhibit
+simple_from (words.Placed at sym.OriginIgp) = atoms.Constant at constants.OriginIgp
+simple_from (words.Placed at sym.OriginEgp) = atoms.Constant at constants.OriginEgp
+simple_from (words.Placed at sym.OriginIncomplete) = atoms.Constant at constants.OriginIncomplete
+simple_from _ = atoms.True 0
 
 abbrev pub property_from : Word → Property
 property_from (words.Symbol sym.First) = properties.First
@@ -98,27 +98,27 @@ method_kind_from _ = methods.Prepend
 abbrev pub method_from : Word → Method
 method_from w = record { at = place_of w; kind = method_kind_from w }
 
-abbrev pub factor_from : Word → Factor
-factor_from (words.Symbol sym.Slash) = factors.Over
-factor_from _ = factors.Times
+abbrev pub mul_op_from : Word → MulOp
+mul_op_from (words.Symbol sym.Slash) = mul_ops.Over
+mul_op_from _ = mul_ops.Times
 
-abbrev pub term_from : Word → Term
-term_from (words.Symbol sym.Minus) = terms.Minus
-term_from _ = terms.Plus
+abbrev pub add_op_from : Word → AddOp
+add_op_from (words.Symbol sym.Minus) = add_ops.Minus
+add_op_from _ = add_ops.Plus
 
-abbrev pub compare_from : Word → Compare
-compare_from (words.Symbol sym.NotEqual) = compares.NotEqual
-compare_from (words.Symbol sym.Less) = compares.Less
-compare_from (words.Symbol sym.LessOrEqual) = compares.LessOrEqual
-compare_from (words.Symbol sym.Greater) = compares.Greater
-compare_from (words.Symbol sym.GreaterOrEqual) = compares.GreaterOrEqual
-compare_from (words.Symbol sym.Matches) = compares.Matches
-compare_from (words.Symbol sym.MatchesNot) = compares.MatchesNot
-compare_from _ = compares.Equal
+abbrev pub compare_op_from : Word → CompareOp
+compare_op_from (words.Symbol sym.NotEqual) = compare_op_ops.NotEqual
+compare_op_from (words.Symbol sym.Less) = compare_op_ops.Less
+compare_op_from (words.Symbol sym.LessOrEqual) = compare_op_ops.LessOrEqual
+compare_op_from (words.Symbol sym.Greater) = compare_op_ops.Greater
+compare_op_from (words.Symbol sym.GreaterOrEqual) = compare_op_ops.GreaterOrEqual
+compare_op_from (words.Symbol sym.Matches) = compare_op_ops.Matches
+compare_op_from (words.Symbol sym.MatchesNot) = compare_op_ops.MatchesNot
+compare_op_from _ = compare_op_ops.Equal
 
-abbrev pub joint_from : Word → Joint
-joint_from (words.Symbol sym.Or) = joints.Or
-joint_from _ = joints.And
+abbrev pub logical_op_from : Word → LogicalOp
+logical_op_from (words.Symbol sym.Or) = logical_ops.Or
+logical_op_from _ = logical_ops.And
 
 -- ---- each word is of what it was made of
 
@@ -138,39 +138,39 @@ attribute_back at attributes.BgpLocalPref = refl
 attribute_back at attributes.IgpMetric = refl
 attribute_back at attributes.BgpCommunity = refl
 
-pub simple_back : (s : Simple) → simple_from (simple_word s) ≡ s
-simple_back (simples.Number at value) = refl
-simple_back (simples.Text at start len) = refl
-simple_back (simples.Ip at addr) = refl
-simple_back (simples.Prefix at net) = refl
-simple_back (simples.True at) = refl
-simple_back (simples.False at) = refl
-simple_back (simples.EmptyPath at) = refl
-simple_back (simples.EmptyClist at) = refl
-simple_back (simples.Attribute at attributes.Net) = refl
-simple_back (simples.Attribute at attributes.Preference) = refl
-simple_back (simples.Attribute at attributes.Gw) = refl
-simple_back (simples.Attribute at attributes.From) = refl
-simple_back (simples.Attribute at attributes.BgpNextHop) = refl
-simple_back (simples.Attribute at attributes.Proto) = refl
-simple_back (simples.Attribute at attributes.Source) = refl
-simple_back (simples.Attribute at attributes.Dest) = refl
-simple_back (simples.Attribute at attributes.BgpPath) = refl
-simple_back (simples.Attribute at attributes.BgpOrigin) = refl
-simple_back (simples.Attribute at attributes.BgpMed) = refl
-simple_back (simples.Attribute at attributes.BgpLocalPref) = refl
-simple_back (simples.Attribute at attributes.IgpMetric) = refl
-simple_back (simples.Attribute at attributes.BgpCommunity) = refl
-simple_back (simples.Constant at constants.RtsStatic) = refl
-simple_back (simples.Constant at constants.RtsBgp) = refl
-simple_back (simples.Constant at constants.RtdUnicast) = refl
-simple_back (simples.Constant at constants.RtdRouter) = refl
-simple_back (simples.Constant at constants.RtdBlackhole) = refl
-simple_back (simples.Constant at constants.RtdUnreachable) = refl
-simple_back (simples.Constant at constants.RtdProhibit) = refl
-simple_back (simples.Constant at constants.OriginIgp) = refl
-simple_back (simples.Constant at constants.OriginEgp) = refl
-simple_back (simples.Constant at constants.OriginIncomplete) = refl
+pub simple_back : (s : Atom) → simple_from (atom_word s) ≡ s
+simple_back (atoms.Number at value) = refl
+simple_back (atoms.Text at start len) = refl
+simple_back (atoms.Ip at addr) = refl
+simple_back (atoms.Prefix at net) = refl
+simple_back (atoms.True at) = refl
+simple_back (atoms.False at) = refl
+simple_back (atoms.EmptyPath at) = refl
+simple_back (atoms.EmptyClist at) = refl
+simple_back (atoms.Attribute at attributes.Net) = refl
+simple_back (atoms.Attribute at attributes.Preference) = refl
+simple_back (atoms.Attribute at attributes.Gw) = refl
+simple_back (atoms.Attribute at attributes.From) = refl
+simple_back (atoms.Attribute at attributes.BgpNextHop) = refl
+simple_back (atoms.Attribute at attributes.Proto) = refl
+simple_back (atoms.Attribute at attributes.Source) = refl
+simple_back (atoms.Attribute at attributes.Dest) = refl
+simple_back (atoms.Attribute at attributes.BgpPath) = refl
+simple_back (atoms.Attribute at attributes.BgpOrigin) = refl
+simple_back (atoms.Attribute at attributes.BgpMed) = refl
+simple_back (atoms.Attribute at attributes.BgpLocalPref) = refl
+simple_back (atoms.Attribute at attributes.IgpMetric) = refl
+simple_back (atoms.Attribute at attributes.BgpCommunity) = refl
+simple_back (atoms.Constant at constants.RtsStatic) = refl
+simple_back (atoms.Constant at constants.RtsBgp) = refl
+simple_back (atoms.Constant at constants.RtdUnicast) = refl
+simple_back (atoms.Constant at constants.RtdRouter) = refl
+simple_back (atoms.Constant at constants.RtdBlackhole) = refl
+simple_back (atoms.Constant at constants.RtdUnreachable) = refl
+simple_back (atoms.Constant at constants.RtdProhibit) = refl
+simple_back (atoms.Constant at constants.OriginIgp) = refl
+simple_back (atoms.Constant at constants.OriginEgp) = refl
+simple_back (atoms.Constant at constants.OriginIncomplete) = refl
 
 pub property_back : (x : Property) → property_from (words.Symbol (property_symbol x)) ≡ x
 property_back properties.Len = refl
@@ -187,24 +187,24 @@ kind_back at methods.Filter = refl
 pub method_back : (m : Method) → method_from (method_word m) ≡ m
 method_back m = ap (λ (k : MethodKind). record { at = m.at; kind = k }) (kind_back m.at m.kind)
 
-pub factor_back : (x : Factor) → factor_from (words.Symbol (factor_symbol x)) ≡ x
-factor_back factors.Times = refl
-factor_back factors.Over = refl
+pub mul_op_back : (x : MulOp) → mul_op_from (words.Symbol (mul_op_symbol x)) ≡ x
+mul_op_back mul_ops.Times = refl
+mul_op_back mul_ops.Over = refl
 
-pub term_back : (x : Term) → term_from (words.Symbol (term_symbol x)) ≡ x
-term_back terms.Plus = refl
-term_back terms.Minus = refl
+pub add_op_back : (x : AddOp) → add_op_from (words.Symbol (add_op_symbol x)) ≡ x
+add_op_back add_ops.Plus = refl
+add_op_back add_ops.Minus = refl
 
-pub compare_back : (x : Compare) → compare_from (words.Symbol (compare_symbol x)) ≡ x
-compare_back compares.Equal = refl
-compare_back compares.NotEqual = refl
-compare_back compares.Less = refl
-compare_back compares.LessOrEqual = refl
-compare_back compares.Greater = refl
-compare_back compares.GreaterOrEqual = refl
-compare_back compares.Matches = refl
-compare_back compares.MatchesNot = refl
+pub compare_op_back : (x : CompareOp) → compare_op_from (words.Symbol (compare_op_symbol x)) ≡ x
+compare_op_back compare_op_ops.Equal = refl
+compare_op_back compare_op_ops.NotEqual = refl
+compare_op_back compare_op_ops.Less = refl
+compare_op_back compare_op_ops.LessOrEqual = refl
+compare_op_back compare_op_ops.Greater = refl
+compare_op_back compare_op_ops.GreaterOrEqual = refl
+compare_op_back compare_op_ops.Matches = refl
+compare_op_back compare_op_ops.MatchesNot = refl
 
-pub joint_back : (x : Joint) → joint_from (words.Symbol (joint_symbol x)) ≡ x
-joint_back joints.And = refl
-joint_back joints.Or = refl
+pub logical_op_back : (x : LogicalOp) → logical_op_from (words.Symbol (logical_op_symbol x)) ≡ x
+logical_op_back logical_ops.And = refl
+logical_op_back logical_ops.Or = refl

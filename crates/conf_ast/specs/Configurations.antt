@@ -5,35 +5,35 @@ use Rattle.std.specs.Global.{Global}
 use Rattle.bits_ip.specs.Prefix.{Net}
 use Rattle.bits_ip.specs.declared.address.Family.{Family}
 use Rattle.grammar.specs.declared.named.Name.{Name}
-use Rattle.filt_syntax.specs.declared.tree.Function.{Function}
-use Rattle.filt_syntax.specs.declared.tree.Item.{Item}
-use Rattle.filt_syntax.specs.declared.tree.MaskItem.{MaskItem}
-use Rattle.filt_syntax.specs.declared.tree.Num.{Num}
-use Rattle.filt_syntax.specs.declared.tree.Parameter.{Parameter}
-use Rattle.filt_syntax.specs.declared.tree.VariableType.{VariableType}
-use Rattle.conf_tree.specs.declared.tree.Address.{Address}
-use Rattle.conf_tree.specs.declared.tree.BgpOption.{BgpOption}
-use Rattle.conf_tree.specs.declared.tree.BgpOption.TheVariants as bgp_options
-use Rattle.conf_tree.specs.declared.tree.Channel.{Channel}
-use Rattle.conf_tree.specs.declared.tree.ChannelOption.{ChannelOption}
-use Rattle.conf_tree.specs.declared.tree.ChannelOption.TheVariants as channel_options
-use Rattle.conf_tree.specs.declared.tree.Limit.{Limit}
-use Rattle.conf_tree.specs.declared.tree.Literal.{Literal}
-use Rattle.conf_tree.specs.declared.tree.Literal.TheVariants as literals
-use Rattle.conf_tree.specs.declared.tree.NextHop.{NextHop}
-use Rattle.conf_tree.specs.declared.tree.PipeOption.{PipeOption}
-use Rattle.conf_tree.specs.declared.tree.PipeOption.TheVariants as pipe_options
-use Rattle.conf_tree.specs.declared.tree.Policy.{Policy}
-use Rattle.conf_tree.specs.declared.tree.Policy.TheVariants as policies
-use Rattle.conf_tree.specs.declared.tree.Protocol.{Protocol}
-use Rattle.conf_tree.specs.declared.tree.Quoted.{Quoted}
-use Rattle.conf_tree.specs.declared.tree.Route.{Route}
-use Rattle.conf_tree.specs.declared.tree.Statement.{Statement}
-use Rattle.conf_tree.specs.declared.tree.Statement.TheVariants as statements
-use Rattle.conf_tree.specs.declared.tree.StaticOption.{StaticOption}
-use Rattle.conf_tree.specs.declared.tree.StaticOption.TheVariants as static_options
-use Rattle.conf_tree.specs.declared.tree.Switch.{Switch}
-use Rattle.conf_tree.specs.declared.tree.Transport.{Transport}
+use Rattle.filt_syntax.specs.declared.ast.Function.{Function}
+use Rattle.filt_syntax.specs.declared.ast.Item.{Item}
+use Rattle.filt_syntax.specs.declared.ast.MaskItem.{MaskItem}
+use Rattle.filt_syntax.specs.declared.ast.Num.{Num}
+use Rattle.filt_syntax.specs.declared.ast.Parameter.{Parameter}
+use Rattle.filt_syntax.specs.declared.ast.VariableType.{VariableType}
+use Rattle.conf_tree.specs.declared.ast.Address.{Address}
+use Rattle.conf_tree.specs.declared.ast.BgpOption.{BgpOption}
+use Rattle.conf_tree.specs.declared.ast.BgpOption.TheVariants as bgp_options
+use Rattle.conf_tree.specs.declared.ast.Channel.{Channel}
+use Rattle.conf_tree.specs.declared.ast.ChannelOption.{ChannelOption}
+use Rattle.conf_tree.specs.declared.ast.ChannelOption.TheVariants as channel_options
+use Rattle.conf_tree.specs.declared.ast.Limit.{Limit}
+use Rattle.conf_tree.specs.declared.ast.Literal.{Literal}
+use Rattle.conf_tree.specs.declared.ast.Literal.TheVariants as literals
+use Rattle.conf_tree.specs.declared.ast.NextHop.{NextHop}
+use Rattle.conf_tree.specs.declared.ast.PipeOption.{PipeOption}
+use Rattle.conf_tree.specs.declared.ast.PipeOption.TheVariants as pipe_options
+use Rattle.conf_tree.specs.declared.ast.Policy.{Policy}
+use Rattle.conf_tree.specs.declared.ast.Policy.TheVariants as policies
+use Rattle.conf_tree.specs.declared.ast.Protocol.{Protocol}
+use Rattle.conf_tree.specs.declared.ast.StringLiteral.{StringLiteral}
+use Rattle.conf_tree.specs.declared.ast.Route.{Route}
+use Rattle.conf_tree.specs.declared.ast.Statement.{Statement}
+use Rattle.conf_tree.specs.declared.ast.Statement.TheVariants as statements
+use Rattle.conf_tree.specs.declared.ast.StaticOption.{StaticOption}
+use Rattle.conf_tree.specs.declared.ast.StaticOption.TheVariants as static_options
+use Rattle.conf_tree.specs.declared.ast.Switch.{Switch}
+use Rattle.conf_tree.specs.declared.ast.Transport.{Transport}
 use Rattle.conf_ast.specs.Filters.{Expression, Statements, block_of, expression_of}
 
 -- ---- values of constants
@@ -41,7 +41,7 @@ use Rattle.conf_ast.specs.Filters.{Expression, Statements, block_of, expression_
 -- The value of a constant.
 pub data Value : Type 0 where
   NumberValue : (at value : ℕ) → Value
-  TextValue : Quoted → Value
+  TextValue : StringLiteral → Value
   AddressValue : Address → Value
   PrefixValue : (at : ℕ) → Net → Value
   TrueValue : (at : ℕ) → Value

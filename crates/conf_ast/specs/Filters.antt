@@ -4,28 +4,28 @@
 use Rattle.std.specs.Prelude.{ℕ, List, [], ◌∷◌, Option, Some, None, option_map, Vec}
 use Rattle.std.specs.Global.{Global}
 use Rattle.grammar.specs.declared.named.Name.{Name}
-use Rattle.filt_syntax.specs.declared.tree.Access.{Access}
-use Rattle.filt_syntax.specs.declared.tree.Access.TheVariants as accesses
-use Rattle.filt_syntax.specs.declared.tree.Arm.{Arm}
-use Rattle.filt_syntax.specs.declared.tree.Attribute.{Attribute}
-use Rattle.filt_syntax.specs.declared.tree.Block.{Block}
-use Rattle.filt_syntax.specs.declared.tree.Change.{Change}
-use Rattle.filt_syntax.specs.declared.tree.Change.TheVariants as changes
-use Rattle.filt_syntax.specs.declared.tree.Compare.{Compare}
-use Rattle.filt_syntax.specs.declared.tree.Expr.{Expr, fold-Expr}
-use Rattle.filt_syntax.specs.declared.tree.Expr.TheOpen.{Expr-F}
-use Rattle.filt_syntax.specs.declared.tree.Factor.{Factor}
-use Rattle.filt_syntax.specs.declared.tree.Item.{Item}
-use Rattle.filt_syntax.specs.declared.tree.Joint.{Joint}
-use Rattle.filt_syntax.specs.declared.tree.MaskItem.{MaskItem}
-use Rattle.filt_syntax.specs.declared.tree.Method.{Method}
-use Rattle.filt_syntax.specs.declared.tree.Property.{Property}
-use Rattle.filt_syntax.specs.declared.tree.Simple.{Simple}
-use Rattle.filt_syntax.specs.declared.tree.Stmt.{Stmt, fold-Stmt}
-use Rattle.filt_syntax.specs.declared.tree.Stmt.TheOpen.{Stmt-F}
-use Rattle.filt_syntax.specs.declared.tree.Target.{Target}
-use Rattle.filt_syntax.specs.declared.tree.Term.{Term}
-use Rattle.filt_syntax.specs.declared.tree.VariableType.{VariableType}
+use Rattle.filt_syntax.specs.declared.ast.Postfix.{Postfix}
+use Rattle.filt_syntax.specs.declared.ast.Postfix.TheVariants as postfixes
+use Rattle.filt_syntax.specs.declared.ast.Arm.{Arm}
+use Rattle.filt_syntax.specs.declared.ast.Attribute.{Attribute}
+use Rattle.filt_syntax.specs.declared.ast.Block.{Block}
+use Rattle.filt_syntax.specs.declared.ast.Change.{Change}
+use Rattle.filt_syntax.specs.declared.ast.Change.TheVariants as changes
+use Rattle.filt_syntax.specs.declared.ast.CompareOp.{CompareOp}
+use Rattle.filt_syntax.specs.declared.ast.Expr.{Expr, fold-Expr}
+use Rattle.filt_syntax.specs.declared.ast.Expr.TheOpen.{Expr-F}
+use Rattle.filt_syntax.specs.declared.ast.MulOp.{MulOp}
+use Rattle.filt_syntax.specs.declared.ast.Item.{Item}
+use Rattle.filt_syntax.specs.declared.ast.LogicalOp.{LogicalOp}
+use Rattle.filt_syntax.specs.declared.ast.MaskItem.{MaskItem}
+use Rattle.filt_syntax.specs.declared.ast.Method.{Method}
+use Rattle.filt_syntax.specs.declared.ast.Property.{Property}
+use Rattle.filt_syntax.specs.declared.ast.Atom.{Atom}
+use Rattle.filt_syntax.specs.declared.ast.Stmt.{Stmt, fold-Stmt}
+use Rattle.filt_syntax.specs.declared.ast.Stmt.TheOpen.{Stmt-F}
+use Rattle.filt_syntax.specs.declared.ast.Target.{Target}
+use Rattle.filt_syntax.specs.declared.ast.AddOp.{AddOp}
+use Rattle.filt_syntax.specs.declared.ast.VariableType.{VariableType}
 
 -- ---- expressions
 
@@ -34,7 +34,7 @@ mutual
   -- `a + b - c` is `Added (Added a Plus b) Minus c`.
   pub data Expression : Type 0 where
     -- a value, an attribute or a constant, by its word
-    Plain : Simple → Expression
+    Plain : Atom → Expression
     -- a variable, or a constant of the configuration
     Named : Name → Expression
     -- a call of a function
@@ -53,10 +53,10 @@ mutual
     -- `operand.method(argument)`
     Changed : (operand : Expression) → Method → (place : ℕ) → (argument : Expression) → Expression
     Negated : (at : ℕ) → Expression → Expression
-    Multiplied : Expression → Factor → Expression → Expression
-    Added : Expression → Term → Expression → Expression
-    Compared : Expression → Compare → Expression → Expression
-    Joined : Expression → Joint → Expression → Expression
+    Multiplied : Expression → MulOp → Expression → Expression
+    Added : Expression → AddOp → Expression → Expression
+    Compared : Expression → CompareOp → Expression → Expression
+    Joined : Expression → LogicalOp → Expression → Expression
 
   -- Expressions between commas.
   pub data Expressions : Type 0 where
@@ -68,27 +68,27 @@ expressions [] = NoExpressions
 expressions (e ∷ es) = AndExpressions e (expressions es)
 
 -- what stands behind an operand's dots, one after another
-abbrev pub accessed : Expression → List (Access Expression) → Expression
+abbrev pub accessed : Expression → List (Postfix Expression) → Expression
 accessed a [] = a
-accessed a (accesses.Property p ∷ more) = accessed (PropertyOf a p) more
-accessed a (accesses.Method m place e ∷ more) = accessed (Changed a m place e) more
+accessed a (postfixes.Property p ∷ more) = accessed (PropertyOf a p) more
+accessed a (postfixes.Method m place e ∷ more) = accessed (Changed a m place e) more
 
 -- the operators of a chain, one after another
-abbrev pub multiplied : Expression → List (Factor × Expression) → Expression
+abbrev pub multiplied : Expression → List (MulOp × Expression) → Expression
 multiplied a [] = a
 multiplied a (x ∷ more) = multiplied (Multiplied a x.0 x.1) more
 
-abbrev pub added : Expression → List (Term × Expression) → Expression
+abbrev pub added : Expression → List (AddOp × Expression) → Expression
 added a [] = a
 added a (x ∷ more) = added (Added a x.0 x.1) more
 
-abbrev pub joined : Expression → List (Joint × Expression) → Expression
+abbrev pub joined : Expression → List (LogicalOp × Expression) → Expression
 joined a [] = a
 joined a (x ∷ more) = joined (Joined a x.0 x.1) more
 
 -- one level, with each expression inside already made
 abbrev pub expression_step : Expr-F Expression → Expression
-expression_step (Expr-F.Simple s) = Plain s
+expression_step (Expr-F.Atom s) = Plain s
 expression_step (Expr-F.Name n) = Named n
 expression_step (Expr-F.Call n place es) = Called n place (expressions es.items)
 expression_step (Expr-F.Group at e) = Grouped at e.value
@@ -97,12 +97,12 @@ expression_step (Expr-F.Set at items) = SetOf at items.items
 expression_step (Expr-F.Mask at items) = MaskOf at items.items
 expression_step (Expr-F.Defined at place attribute_at a) = IsDefined at place attribute_at a
 expression_step (Expr-F.MethodCall m place a b) = MethodOf m place a.value b.value
-expression_step (Expr-F.Access e more) = accessed e.value more.items
+expression_step (Expr-F.Postfix e more) = accessed e.value more.items
 expression_step (Expr-F.Not at e) = Negated at e.value
 expression_step (Expr-F.Product e more) = multiplied e.value more.items
 expression_step (Expr-F.Sum e more) = added e.value more.items
 expression_step (Expr-F.Compare op a b) = Compared a.value op b.value
-expression_step (Expr-F.Joint e more) = joined e.value more.items
+expression_step (Expr-F.Logical e more) = joined e.value more.items
 
 -- the expression that a value is
 abbrev pub expression_of : Expr → Expression
@@ -138,7 +138,7 @@ mutual
     Return : (at : ℕ) → (value : Option Expression) → Statement
     Print : Expressions → Statement
     -- as `Print`, without an end of line
-    PrintPart : Expressions → Statement
+    Printn : Expressions → Statement
     -- a call of a function; what it gives, if anything, is dropped
     Call : Name → (place : ℕ) → Expressions → Statement
 
@@ -184,7 +184,7 @@ statement_step Stmt-F.Accept = Accept
 statement_step Stmt-F.Reject = Reject
 statement_step (Stmt-F.Return at e) = Return at (option_map expression_of e)
 statement_step (Stmt-F.Print es) = Print (expressions_of es.items)
-statement_step (Stmt-F.PrintPart es) = PrintPart (expressions_of es.items)
+statement_step (Stmt-F.Printn es) = Printn (expressions_of es.items)
 statement_step (Stmt-F.Call n place es) = Call n place (expressions_of es.items)
 
 -- the statement that a value is

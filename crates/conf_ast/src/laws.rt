@@ -1,12 +1,12 @@
 //! A tree of the grammar is of one abstract syntax and that of one tree, and a text is one at most.
 ghost use Rattle.std.specs.Prelude.{◌≡◌, ℕ, List};
-ghost use Rattle.grammar.specs.Grammar.{Fits};
-ghost use Rattle.filt_syntax.specs.declared.tree.Block.{Block};
-ghost use Rattle.filt_syntax.specs.declared.tree.Expr.{Expr};
+ghost use Rattle.grammar.specs.Grammar.{DerivesLongest};
+ghost use Rattle.filt_syntax.specs.declared.ast.Block.{Block};
+ghost use Rattle.filt_syntax.specs.declared.ast.Expr.{Expr};
 ghost use Rattle.filt_syntax.specs.Syntax.{block, expr, rule};
 ghost use Rattle.filt_syntax.specs.StatementView.{block_view};
-ghost use Rattle.filt_syntax.specs.View.{sight};
-ghost use Rattle.conf_tree.specs.declared.tree.Statement.{Statement};
+ghost use Rattle.filt_syntax.specs.View.{derivations};
+ghost use Rattle.conf_tree.specs.declared.ast.Statement.{Statement};
 ghost use Rattle.conf_tree.specs.Read.{IsConfigText};
 ghost use Rattle.conf_tree.specs.Syntax.{config};
 ghost use Rattle.conf_tree.specs.View.{statements_tree};
@@ -17,38 +17,38 @@ use conf_tree::laws::a_text_is_one_configuration;
 
 /// Two expressions that are seen as one tree are one.
 pub fn a_tree_is_of_one_expression()
-    ensures { (c d : Expr) → Fits rule (sight c).expr expr → (sight c).expr ≡ (sight d).expr
+    ensures { (c d : Expr) → DerivesLongest rule (derivations c).expr expr → (derivations c).expr ≡ (derivations d).expr
         → expression_of c ≡ expression_of d }
 {}
 
 /// One expression is seen as one tree: the abstract syntax forgets nothing of it.
 pub fn an_expression_is_of_one_tree()
-    ensures { (c d : Expr) → Fits rule (sight c).expr expr → Fits rule (sight d).expr expr
-        → expression_of c ≡ expression_of d → (sight c).expr ≡ (sight d).expr }
+    ensures { (c d : Expr) → DerivesLongest rule (derivations c).expr expr → DerivesLongest rule (derivations d).expr expr
+        → expression_of c ≡ expression_of d → (derivations c).expr ≡ (derivations d).expr }
 {}
 
 /// Two blocks that are seen as one tree are one.
 pub fn a_tree_is_of_one_block()
-    ensures { (c d : Block) → Fits rule (block_view c) block → block_view c ≡ block_view d
+    ensures { (c d : Block) → DerivesLongest rule (block_view c) block → block_view c ≡ block_view d
         → block_of c ≡ block_of d }
 {}
 
 /// One block is seen as one tree.
 pub fn a_block_is_of_one_tree()
-    ensures { (c d : Block) → Fits rule (block_view c) block → Fits rule (block_view d) block
+    ensures { (c d : Block) → DerivesLongest rule (block_view c) block → DerivesLongest rule (block_view d) block
         → block_of c ≡ block_of d → block_view c ≡ block_view d }
 {}
 
 /// Two configurations that are seen as one tree are one.
 pub fn a_tree_is_of_one_configuration()
-    ensures { (c d : List Statement) → Fits rule (statements_tree c) config
+    ensures { (c d : List Statement) → DerivesLongest rule (statements_tree c) config
         → statements_tree c ≡ statements_tree d → configuration_of c ≡ configuration_of d }
 {}
 
 /// One configuration is seen as one tree.
 pub fn a_configuration_is_of_one_tree()
-    ensures { (c d : List Statement) → Fits rule (statements_tree c) config
-        → Fits rule (statements_tree d) config → configuration_of c ≡ configuration_of d
+    ensures { (c d : List Statement) → DerivesLongest rule (statements_tree c) config
+        → DerivesLongest rule (statements_tree d) config → configuration_of c ≡ configuration_of d
         → statements_tree c ≡ statements_tree d }
 {}
 

@@ -9,18 +9,18 @@ use Rattle.filt_sets.specs.declared.mask.Atom.TheVariants as atoms
 use Rattle.filt_sets.specs.declared.mask.MaskItem as set
 use Rattle.filt_sets.specs.declared.pairs.PairItem.{PairItem}
 use Rattle.filt_sets.specs.declared.prefixes.PrefixItem.{PrefixItem}
-use Rattle.filt_syntax.specs.declared.tree.Item.{Item}
-use Rattle.filt_syntax.specs.declared.tree.Item.TheVariants as items
-use Rattle.filt_syntax.specs.declared.tree.Lengths.{Lengths}
-use Rattle.filt_syntax.specs.declared.tree.Lengths.TheVariants as lengths
-use Rattle.filt_syntax.specs.declared.tree.MaskAtom.{MaskAtom}
-use Rattle.filt_syntax.specs.declared.tree.MaskAtom.TheVariants as mask_atoms
-use Rattle.filt_syntax.specs.declared.tree.MaskItem.{MaskItem}
-use Rattle.filt_syntax.specs.declared.tree.Num.{Num}
-use Rattle.filt_syntax.specs.declared.tree.Num.TheVariants as nums
-use Rattle.filt_syntax.specs.declared.tree.PairPart.{PairPart}
-use Rattle.filt_syntax.specs.declared.tree.PairPart.TheVariants as parts
-use Rattle.filt_syntax.specs.declared.tree.Part.{Part}
+use Rattle.filt_syntax.specs.declared.ast.Item.{Item}
+use Rattle.filt_syntax.specs.declared.ast.Item.TheVariants as items
+use Rattle.filt_syntax.specs.declared.ast.Lengths.{Lengths}
+use Rattle.filt_syntax.specs.declared.ast.Lengths.TheVariants as lengths
+use Rattle.filt_syntax.specs.declared.ast.MaskAtom.{MaskAtom}
+use Rattle.filt_syntax.specs.declared.ast.MaskAtom.TheVariants as mask_atoms
+use Rattle.filt_syntax.specs.declared.ast.MaskItem.{MaskItem}
+use Rattle.filt_syntax.specs.declared.ast.Num.{Num}
+use Rattle.filt_syntax.specs.declared.ast.Num.TheVariants as nums
+use Rattle.filt_syntax.specs.declared.ast.PairPart.{PairPart}
+use Rattle.filt_syntax.specs.declared.ast.PairPart.TheVariants as parts
+use Rattle.filt_syntax.specs.declared.ast.NumRange.{NumRange}
 use Rattle.conf_ast.specs.Configurations as conf
 use Rattle.filt_values.specs.declared.value.Failure.{Failure}
 use Rattle.filt_values.specs.Operators.{and_then, pair_of}
@@ -54,13 +54,13 @@ module _ (text : List ℕ) (ks : List (List ℕ × Val)) (a b : Around) (fs gs :
   last_same lo None = refl
   last_same lo (Some n) = number_same n
 
-  int_same : (p : Part) → i.int_item one p ≡ i.int_item two p
+  int_same : (p : NumRange) → i.int_item one p ≡ i.int_item two p
   int_same p = and_same (i.number one p.low) (i.number two p.low) (λ lo. and_then (i.last_number one lo p.high) (λ hi. Ok (record { lo = lo; hi = hi }))) (λ lo. and_then (i.last_number two lo p.high) (λ hi. Ok (record { lo = lo; hi = hi }))) (number_same p.low)
       (λ lo. ap (λ (r : Result ℕ Failure). and_then r (λ hi. Ok (record { lo = lo; hi = hi }))) (last_same lo p.high))
 
   part_same : (p : PairPart) → i.pair_part one p ≡ i.pair_part two p
   part_same parts.Any = refl
-  part_same (parts.Part p) = int_same p
+  part_same (parts.Range p) = int_same p
 
   pair_same : (p q : PairPart) → i.pair_item one p q ≡ i.pair_item two p q
   pair_same p q = and_same (i.pair_part one p) (i.pair_part two p) (λ x. and_then (i.pair_part one q) (λ y. Ok (record { a = x; b = y }))) (λ x. and_then (i.pair_part two q) (λ y. Ok (record { a = x; b = y }))) (part_same p)
@@ -77,12 +77,12 @@ module _ (text : List ℕ) (ks : List (List ℕ × Val)) (a b : Around) (fs gs :
       (λ lo. ap (λ (r : Result ℕ Failure). and_then r (λ hi. Ok (record { net = net; lo = lo; hi = hi }))) (length_same high))
 
   one_same : (x : Item) → i.set_of_one one x ≡ i.set_of_one two x
-  one_same (items.Part p) = ap (λ (r : Result IntItem Failure). and_then r (λ item. Ok (VIntSet (item ∷ [])))) (int_same p)
+  one_same (items.Range p) = ap (λ (r : Result IntItem Failure). and_then r (λ item. Ok (VIntSet (item ∷ [])))) (int_same p)
   one_same (items.Pair at p q) = ap (λ (r : Result PairItem Failure). and_then r (λ item. Ok (VPairSet (item ∷ [])))) (pair_same p q)
   one_same (items.Prefix at net l) = ap (λ (r : Result PrefixItem Failure). and_then r (λ item. Ok (VPrefixSet (item ∷ [])))) (prefix_same net l)
 
   before_same : (x : Item) (v : Val) → i.before_set one x v ≡ i.before_set two x v
-  before_same (items.Part p) v = ap (λ (r : Result IntItem Failure). and_then r (λ item. i.with_int_item item v)) (int_same p)
+  before_same (items.Range p) v = ap (λ (r : Result IntItem Failure). and_then r (λ item. i.with_int_item item v)) (int_same p)
   before_same (items.Pair at p q) v = ap (λ (r : Result PairItem Failure). and_then r (λ item. i.with_pair_item item v)) (pair_same p q)
   before_same (items.Prefix at net l) v = ap (λ (r : Result PrefixItem Failure). and_then r (λ item. i.with_prefix_item item v)) (prefix_same net l)
 
@@ -94,7 +94,7 @@ module _ (text : List ℕ) (ks : List (List ℕ × Val)) (a b : Around) (fs gs :
   atom_same : (x : MaskAtom) → i.atom_of one x ≡ i.atom_of two x
   atom_same mask_atoms.One = refl
   atom_same mask_atoms.Any = refl
-  atom_same (mask_atoms.Part p) = ap (λ (r : Result IntItem Failure). and_then r (λ item. Ok (atoms.Range item.lo item.hi))) (int_same p)
+  atom_same (mask_atoms.Range p) = ap (λ (r : Result IntItem Failure). and_then r (λ item. Ok (atoms.Range item.lo item.hi))) (int_same p)
 
   mask_item_same : (x : MaskItem) → i.mask_item one x ≡ i.mask_item two x
   mask_item_same x = ap (λ (r : Result Atom Failure). and_then r (λ atom. Ok (record { atom = atom; many = x.many }))) (atom_same x.atom)

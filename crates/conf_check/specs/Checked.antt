@@ -7,13 +7,13 @@ use Rattle.bits_ip.specs.declared.address.Addr.TheVariants as addrs
 use Rattle.bits_ip.specs.declared.address.Family.{Family}
 use Rattle.grammar.specs.declared.named.Name.{Name}
 use Rattle.grammar.specs.Names.{name_bytes}
-use Rattle.conf_tree.specs.declared.tree.Action.{Action}
-use Rattle.conf_tree.specs.declared.tree.Action.TheVariants as actions
-use Rattle.conf_tree.specs.declared.tree.Limit.{Limit}
-use Rattle.conf_tree.specs.declared.tree.Limit.TheVariants as limits
-use Rattle.conf_tree.specs.declared.tree.Route.{Route}
-use Rattle.conf_tree.specs.declared.tree.RouteTarget.{RouteTarget}
-use Rattle.conf_tree.specs.declared.tree.RouteTarget.TheVariants as targets
+use Rattle.conf_tree.specs.declared.ast.Action.{Action}
+use Rattle.conf_tree.specs.declared.ast.Action.TheVariants as actions
+use Rattle.conf_tree.specs.declared.ast.Limit.{Limit}
+use Rattle.conf_tree.specs.declared.ast.Limit.TheVariants as limits
+use Rattle.conf_tree.specs.declared.ast.Route.{Route}
+use Rattle.conf_tree.specs.declared.ast.RouteTarget.{RouteTarget}
+use Rattle.conf_tree.specs.declared.ast.RouteTarget.TheVariants as targets
 use Rattle.conf_ast.specs.Configurations as conf
 use Rattle.conf_ast.specs.Configurations.{Passing, PassAll, PassNone, PassByFilter, PassByBlock, PassWhere, ChannelSetting, ChannelTable, ChannelImport, ChannelExport, ChannelPreference, ChannelLimit, ChannelNextHop, FamilyChannel, StaticSetting, BgpSetting, BgpChannel, BgpLocal, BgpNeighbor, BgpMedMetric, BgpInterpretCommunities, BgpDefaultMed, BgpDefaultLocalPref, BgpTransport, PipeSetting, PipeTable, PipePeerTable, PipeImport, PipeExport, Instance}
 use Rattle.conf_ast.specs.Filters.{Statements}

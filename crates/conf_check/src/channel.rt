@@ -2,7 +2,7 @@
 
 ghost use Rattle.std.specs.Prelude.{◌≡◌, ◌∷◌, [], IfOk, map, option_copied};
 ghost use Rattle.conf_ast.specs.Configurations.{PassAll, PassNone, channel_of, channel_setting_of};
-ghost use Rattle.conf_tree.specs.declared.tree.Limit.TheVariants as limits;
+ghost use Rattle.conf_tree.specs.declared.ast.Limit.TheVariants as limits;
 ghost use Rattle.conf_rules.specs.Channels.{settings_of};
 ghost use Rattle.conf_rules.specs.Known as rules;
 ghost use Rattle.conf_rules.specs.Statements as statements;
@@ -15,8 +15,8 @@ use crate::checked::{ChannelDef, ImportLimit};
 use crate::policy::{export_policy, import_policy, table_number};
 use bits_ip::{Family, OutOfMemory};
 use conf_rules::{Declared, last_table, number_of};
-use conf_tree::{Action, Channel, ChannelOption, Limit, Policy};
-use filt_syntax::Num;
+use conf_tree::ast::{Action, Channel, ChannelOption, Limit, Policy};
+use filt_syntax::ast::Num;
 use grammar::Name;
 use std::alloc::Global;
 

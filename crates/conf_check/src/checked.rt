@@ -3,7 +3,7 @@
 use attrs::Seq;
 use bits_ip::{Addr, Family, Prefix};
 use conf_rules::Declared;
-use conf_tree::Action;
+use conf_tree::ast::Action;
 use filt_tree::TFilter;
 
 /// What of the routes passes (BIRD User's Guide, "Channel options", `import` and `export`).

@@ -13,10 +13,10 @@ ghost use Rattle.filt_values.specs.Seen.{val_of_fixed};
 ghost use Rattle.filt_values.specs.Values.{VInt, VIntSet, VMask, VPairSet, VPrefixSet, VString};
 
 use bits_ip::OutOfMemory;
-use conf_tree::{Literal, Quoted};
+use conf_tree::ast::{Literal, StringLiteral};
 use filt_check::{mask_of, number, set_of};
 use filt_sets::{IntSet, Mask, PairSet, PrefixSet};
-use filt_syntax::{Item, MaskItem, Num};
+use filt_syntax::ast::{Item, MaskItem, Num};
 use filt_tree::{Labels, Scope};
 use filt_types::{Seen, constant_named};
 use filt_values::Fixed;
@@ -116,7 +116,7 @@ fn pair(text: &[u8], scope: &Scope, first: &Num, second: &Num) -> Option<Fixed>
     joined(a, b)
 }
 
-fn string(alloc: Global, text: &[u8], quoted: Quoted) -> Result<Option<Fixed>, OutOfMemory>
+fn string(alloc: Global, text: &[u8], quoted: StringLiteral) -> Result<Option<Fixed>, OutOfMemory>
     ensures { IfOk result (λ found. option_map val_of_fixed found
         ≡ Some (VString (take quoted.len (drop quoted.start text.now)))) }
 {

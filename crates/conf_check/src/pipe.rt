@@ -12,7 +12,7 @@ use crate::checked::PipeDef;
 use crate::policy::{export_policy, import_policy, table_number};
 use bits_ip::OutOfMemory;
 use conf_rules::{Declared, last_peer, last_pipe_table};
-use conf_tree::{PipeOption, Policy, Protocol};
+use conf_tree::ast::{PipeOption, Policy, Protocol};
 use grammar::Name;
 use std::alloc::Global;
 

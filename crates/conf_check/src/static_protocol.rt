@@ -13,7 +13,7 @@ use crate::checked::{StaticDef, StaticRoute, StaticTarget};
 use attrs::Seq;
 use bits_ip::OutOfMemory;
 use conf_rules::Declared;
-use conf_tree::{Channel, Protocol, Route, RouteTarget, StaticOption};
+use conf_tree::ast::{Channel, Protocol, Route, RouteTarget, StaticOption};
 use std::alloc::Global;
 
 /// The preference of static routes.

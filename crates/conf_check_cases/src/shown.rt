@@ -13,7 +13,7 @@ use conf_check::{
     BgpDef, ChannelDef, Checked, ImportLimit, PipeDef, PolicyDef, ProtocolBody, ProtocolDef,
     StaticDef, StaticRoute, StaticTarget,
 };
-use conf_tree::Action;
+use conf_tree::ast::Action;
 
 /// How many protocols are shown.
 const SHOWN: usize = 8;

@@ -1,5 +1,5 @@
 -- What stands before a refused word begins a configuration.
-use Rattle.std.proofs.Common.{cond, ◌≡◌, ℕ, zero, suc, ◌+◌, ◌-◌, ◌≤◌, Bool, true, false, ◌&&◌, List, [], ◌∷◌, ◌++◌, length, map, take, drop, Option, Some, None, refl, sym, ap, subst, ◌∙◌, arith, append_assoc, append-nil, inl, inr, ◌<◌, ◌⊎◌}
+use Rattle.std.proofs.Common.{cond, ◌≡◌, ℕ, zero, suc, ◌+◌, ◌-◌, ◌≤◌, Bool, true, false, ◌&&◌, List, [], ◌∷◌, ◌++◌, length, take, drop, Option, Some, None, refl, sym, ap, subst, ◌∙◌, arith, append_assoc, append-nil, inl, inr, ◌<◌, ◌⊎◌}
 use Rattle.std.specs.Prelude.{if◌then◌else◌}
 use Rattle.std.proofs.lemmas.List.{length-append, length-take, take-append-drop}
 use Rattle.conf_lex.specs.Symbols.{is_else, is_slash}
@@ -10,68 +10,44 @@ use Rattle.conf_lex.specs.declared.symbol.Symbol.TheVariants as symbols
 use Rattle.conf_lex.specs.declared.token.Token.{Token}
 use Rattle.conf_lex.specs.declared.word.Word.{Word}
 use Rattle.grammar.specs.Kind.{Kind, IsSymbol, kind_of}
-use Rattle.grammar.specs.Grammar.{Tree, yield, Fits, Spells, Why, refused}
+use Rattle.grammar.specs.Grammar.{ParseTree, yield, DerivesLongest, Derives, too_deep}
 use Rattle.grammar.specs.Sentences.{IsBegunWithin, IsTooDeep}
-use Rattle.grammar.proofs.Unique.{fronts}
 use Rattle.filt_syntax.specs.Syntax.{rule}
 use Rattle.conf_tree.specs.Syntax.{config}
-use Rattle.conf_tree.specs.Said.{said_of, said_words, token_of}
+use Rattle.conf_tree.specs.Significant.{significant_of, significant_words, token_of}
 use Rattle.conf_tree.specs.Sentence.{StopsAt}
 use Rattle.conf_tree.specs.Alike.{AreAlike}
-use Rattle.conf_tree.specs.declared.said.Region.{Region}
-use Rattle.conf_tree.specs.declared.said.Region.TheVariants as regions
+use Rattle.conf_tree.specs.declared.significant.Region.{Region}
+use Rattle.conf_tree.specs.declared.significant.Region.TheVariants as regions
 use Rattle.conf_tree.proofs.Decided.{sentences}
-use Rattle.conf_tree.proofs.KindTrees.{kinds_of, same_words}
-use Rattle.conf_tree.proofs.Marks.{Mark, mark, marks, marks_both, sym_of, alone, colon_first, slash_first, sort_first, behind_one, folded, no_second, or_kind, first_kind, behind_kind, says_kind, heard, heard_is, heard_both, front_heard, state, IsNext, place_at}
-use Rattle.conf_laws.proofs.Levels.{Opens, config_opens, config_plain, never_within, within_alike}
+use Rattle.conf_tree.proofs.KindTrees.{kinds_of, same_words, within_alike}
+use Rattle.conf_tree.proofs.Marks.{Mark, mark, marks, marks_both, sym_of, alone, colon_first, slash_first, sort_first, behind_one, folded, no_second, or_kind, first_kind, behind_kind, is_significant_kind, heard, heard_is, heard_both, front_heard, state, IsNext, place_at}
+use Rattle.conf_tree.proofs.ByTokens.{cut_kinds, front_both, kinds_both, last_kind}
+use Rattle.conf_tree.proofs.TokenLaw.{gone_of, len_map, same_front}
+use Rattle.conf_laws.proofs.Levels.{Opens, config_opens, never_within}
 use Rattle.conf_laws.specs.Spaced.{AreSpellings, spaced}
 use Rattle.conf_laws.specs.Begun.{BeginSome, IsConfigOrDeeper}
 use Rattle.conf_laws.proofs.Spaced.{read_back, shape_spaced}
 use Rattle.conf_laws.proofs.Pieces.{Good}
 use Rattle.conf_laws.proofs.Complete.{words_of, completed, fits_spells}
-use Rattle.conf_laws.proofs.Regions.{Run, kinds_both, config_run}
+use Rattle.conf_laws.proofs.Regions.{Run, config_run}
 use Rattle.conf_laws.proofs.ElseColon.{no_colon_behind}
 use Rattle.conf_laws.proofs.Joined.{spell, spelled, spellings_both, calm_slash, calm_number, after, run_behind, Near, front_near, Tail, near_tail, open_colon, Off, kept}
 
 -- ---- a front of marks, completed
 
--- the words before end in one of this kind
-pub record LastKind (ws : List Word) (ks : List Kind) (k : Kind) : Type 0 where
-  pub front : List Word
-  pub word : Word
-  pub cut : ws ≡ front ++ word ∷ []
-  pub are : kinds_of front ≡ ks
-  pub kind : kind_of word ≡ k
-
-no_more : (ws : List Word) → kinds_of ws ≡ [] → ws ≡ []
-no_more [] e = refl
-no_more (w ∷ ws) e = absurd cc
-
-pub last_kind : (ws : List Word) (ks : List Kind) (k : Kind) → kinds_of ws ≡ ks ++ k ∷ [] → LastKind ws ks k
-last_kind [] [] k e = absurd cc
-last_kind [] (j ∷ ks) k e = absurd cc
-last_kind (w ∷ ws) [] k e =
-    let head : kind_of w ≡ k = cc in
-    let tail : kinds_of ws ≡ [] = cc in
-    record { front = []; word = w; cut = ap (λ (l : List Word). w ∷ l) (no_more ws tail); are = refl; kind = head }
-last_kind (w ∷ ws) (j ∷ ks) k e =
-    let head : kind_of w ≡ j = cc in
-    let tail : kinds_of ws ≡ ks ++ k ∷ [] = cc in
-    let l = last_kind ws ks k tail in
-    record { front = w ∷ l.front; word = l.word; cut = ap (λ (u : List Word). w ∷ u) l.cut; are = rw (head, l.are) refl; kind = l.kind }
-
 -- behind the front these words make a sentence
 pub record Core (c : List Mark) (W : List Word) (gs : List Good) : Type 0 where
   pub all : List Good
-  pub tree : Tree
-  pub fits : Fits rule tree config
+  pub tree : ParseTree
+  pub fits : DerivesLongest rule tree config
   pub reads : kinds_of (yield tree) ≡ heard regions.Statements 0 (c ++ spell all)
   pub front : front_heard regions.Statements 0 c (spell all) ≡ kinds_of W
   pub done : (state regions.Statements 0 c (spell all)).1 ≡ 0
   pub kinds : kinds_of (yield tree) ≡ kinds_of W ++ kinds_of (words_of gs)
-  pub same : (g : Good) (hs : List Good) → gs ≡ g ∷ hs → says_kind (regions.Inside 0) (kind_of g.0.0) ≡ false → all ≡ gs
+  pub same : (g : Good) (hs : List Good) → gs ≡ g ∷ hs → is_significant_kind (regions.Inside 0) (kind_of g.0.0) ≡ false → all ≡ gs
 
-off_colon : (q : Region) (W : List Word) (fh : List Kind) (gs : List Good) (t : Tree) → Spells rule t config → yield t ≡ W ++ words_of gs → kinds_of W ≡ fh → (tail : Tail q gs) → Off q fh (spell tail.all)
+off_colon : (q : Region) (W : List Word) (fh : List Kind) (gs : List Good) (t : ParseTree) → Derives rule t config → yield t ≡ W ++ words_of gs → kinds_of W ≡ fh → (tail : Tail q gs) → Off q fh (spell tail.all)
 off_colon q W fh gs t h reads are tail colon =
     let x = tail.colon colon in (
       open_colon q x.4,
@@ -81,7 +57,7 @@ off_colon q W fh gs t h reads are tail colon =
           (reads ∙ ap (λ (u : List Word). u ++ words_of gs) l.cut ∙ ap (λ (u : List Good). (l.front ++ l.word ∷ []) ++ words_of u) x.2 ∙ append_assoc l.front (l.word ∷ []) (x.0.0.0 ∷ words_of x.1)) l.kind x.3,
     )
 
-pub core : (c rest : List Mark) (W : List Word) (gs : List Good) (t : Tree) → Spells rule t config → yield t ≡ W ++ words_of gs → kinds_of W ≡ front_heard regions.Statements 0 c rest → (state regions.Statements 0 c rest).1 ≡ 0 → Core c W gs
+pub core : (c rest : List Mark) (W : List Word) (gs : List Good) (t : ParseTree) → Derives rule t config → yield t ≡ W ++ words_of gs → kinds_of W ≡ front_heard regions.Statements 0 c rest → (state regions.Statements 0 c rest).1 ≡ 0 → Core c W gs
 core c rest W gs t h reads are done =
     let S = regions.Statements in
     let q = (state regions.Statements 0 c rest).0 in
@@ -109,67 +85,13 @@ core c rest W gs t h reads are done =
 
 -- ---- levels
 
-pub len_map : {A B : Type 0} (f : A → B) (xs : List A) → length (map f xs) ≡ length xs
-len_map f [] = refl
-len_map f (x ∷ xs) = ap (λ (n : ℕ). suc n) (len_map f xs)
-
 -- Where a tree of these words opens too many levels, it isn't within the first marks.
 abbrev pub LateIn : List Mark → List Mark → Type 0
 LateIn ms zs =
-    (u : Tree) (r : Why × List Word) → Fits rule u config → refused u 64 ≡ Some r → (o : Opens u r)
+    (u : ParseTree) (r : List Word) → DerivesLongest rule u config → too_deep u 64 ≡ Some r → (o : Opens u r)
     → kinds_of (yield u) ≡ heard regions.Statements 0 (ms ++ zs)
     → (front rest : List Mark) → ms ++ zs ≡ front ++ rest → IsNext (state regions.Statements 0 front rest) rest
     → length (front_heard regions.Statements 0 front rest) ≡ length o.before → length front < length ms → ⊥
-
-pub record Gone (a r g t : List Mark) : Type 0 where
-  pub gone : List Mark
-  pub whole : g ≡ a ++ gone
-  pub rest : r ≡ gone ++ t
-
-pub gone_of : (a r g t : List Mark) → a ++ r ≡ g ++ t → length a ≤ length g → Gone a r g t
-gone_of [] r g t e low = record { gone = g; whole = refl; rest = e }
-gone_of (m ∷ a) r [] t e low = absurd (omega (arith, low))
-gone_of (m ∷ a) r (n ∷ g) t e low =
-    let head : m ≡ n = cc in
-    let tail : a ++ r ≡ g ++ t = cc in
-    let h = gone_of a r g t tail (omega (arith, low)) in
-    record { gone = h.gone; whole = ap (λ (l : List Mark). n ∷ l) h.whole ∙ ap (λ (k : Mark). k ∷ (a ++ h.gone)) (sym head); rest = h.rest }
-
-front_both : (r : Region) (skip : ℕ) (ms ns rest : List Mark) → front_heard r skip (ms ++ ns) rest ≡ front_heard r skip ms (ns ++ rest) ++ front_heard (state r skip ms (ns ++ rest)).0 (state r skip ms (ns ++ rest)).1 ns rest
-front_both r skip [] ns rest = refl
-front_both r (suc skip) (m ∷ ms) ns rest = front_both r skip ms ns rest
-front_both r zero (m ∷ ms) ns rest =
-    let k = first_kind m (ms ++ (ns ++ rest)) in
-    ap (λ (j : Kind × ℕ). cond (says_kind r j.0) (j.0 ∷ front_heard (behind_kind r j.0) (j.1 - 1) (ms ++ ns) rest) (front_heard (behind_kind r j.0) (j.1 - 1) (ms ++ ns) rest)) (ap (first_kind m) (append_assoc ms ns rest))
-    ∙ ap (λ (l : List Kind). cond (says_kind r k.0) (k.0 ∷ l) l) (front_both (behind_kind r k.0) (k.1 - 1) ms ns rest)
-    ∙ cond_both (says_kind r k.0) k.0 (front_heard (behind_kind r k.0) (k.1 - 1) ms (ns ++ rest)) _
-  where
-    cond_both : (b : Bool) (k : Kind) (xs ys : List Kind) → cond b (k ∷ (xs ++ ys)) (xs ++ ys) ≡ cond b (k ∷ xs) xs ++ ys
-    cond_both true k xs ys = refl
-    cond_both false k xs ys = refl
-
-pub state_both : (r : Region) (skip : ℕ) (ms ns rest : List Mark) → state r skip (ms ++ ns) rest ≡ state (state r skip ms (ns ++ rest)).0 (state r skip ms (ns ++ rest)).1 ns rest
-state_both r skip [] ns rest = refl
-state_both r (suc skip) (m ∷ ms) ns rest = state_both r skip ms ns rest
-state_both r zero (m ∷ ms) ns rest =
-    let k = first_kind m (ms ++ (ns ++ rest)) in
-    ap (λ (j : Kind × ℕ). state (behind_kind r j.0) (j.1 - 1) (ms ++ ns) rest) (ap (first_kind m) (append_assoc ms ns rest))
-    ∙ state_both (behind_kind r k.0) (k.1 - 1) ms ns rest
-
-record Cut (ws : List Word) (ks : List Kind) : Type 0 where
-  one : List Word
-  two : List Word
-  cut : ws ≡ one ++ two
-  are : kinds_of one ≡ ks
-
-cut_kinds : (ws : List Word) (ks js : List Kind) → kinds_of ws ≡ ks ++ js → Cut ws ks
-cut_kinds ws [] js e = record { one = []; two = ws; cut = refl; are = refl }
-cut_kinds [] (k ∷ ks) js e = absurd cc
-cut_kinds (w ∷ ws) (k ∷ ks) js e =
-    let head : kind_of w ≡ k = cc in
-    let tail : kinds_of ws ≡ ks ++ js = cc in
-    let c = cut_kinds ws ks js tail in
-    record { one = w ∷ c.one; two = c.two; cut = ap (λ (l : List Word). w ∷ l) c.cut; are = rw (head, c.are) refl }
 
 is_inside : (one two before : List Word) (w : Word) (more : List Word) → one ++ two ≡ before ++ w ∷ more → length before < length one → (m : List Word) × (one ≡ before ++ w ∷ m)
 is_inside [] two before w more e low = absurd (omega (arith, low))
@@ -180,13 +102,13 @@ is_inside (x ∷ one) two (y ∷ before) w more e low =
     let i = is_inside one two before w more tail (omega (arith, low)) in
     (i.0, ap (λ (u : Word). u ∷ one) head ∙ ap (λ (l : List Word). y ∷ l) i.1)
 
-next_said : (q : Region) (s : ℕ) (m : Mark) (ms rest : List Mark) → s ≡ 0 → says_kind q (first_kind m (ms ++ rest)).0 ≡ true → 1 ≤ length (front_heard q s (m ∷ ms) rest)
-next_said q zero m ms rest none says =
+next_significant : (q : Region) (s : ℕ) (m : Mark) (ms rest : List Mark) → s ≡ 0 → is_significant_kind q (first_kind m (ms ++ rest)).0 ≡ true → 1 ≤ length (front_heard q s (m ∷ ms) rest)
+next_significant q zero m ms rest none says =
     let k = first_kind m (ms ++ rest) in
     let fh = front_heard (behind_kind q k.0) (k.1 - 1) ms rest in
-    let said : front_heard q 0 (m ∷ ms) rest ≡ k.0 ∷ fh = ap (λ (b : Bool). cond b (k.0 ∷ fh) fh) says in
-    omega (arith, ap (λ (l : List Kind). length l) said)
-next_said q (suc s) m ms rest none says = absurd (omega (arith, none))
+    let significant : front_heard q 0 (m ∷ ms) rest ≡ k.0 ∷ fh = ap (λ (b : Bool). cond b (k.0 ∷ fh) fh) says in
+    omega (arith, ap (λ (l : List Kind). length l) significant)
+next_significant q (suc s) m ms rest none says = absurd (omega (arith, none))
 
 gone_next : (c ns front gone : List Mark) → length front < length c → c ≡ front ++ gone → IsNext (state regions.Statements 0 front (gone ++ ns)) (gone ++ ns) → length (front_heard regions.Statements 0 front (gone ++ ns)) < length (front_heard regions.Statements 0 c ns)
 gone_next c ns front [] low cut next = absurd (omega (arith, low, ap (λ (l : List Mark). length l) (cut ∙ append-nil front)))
@@ -194,11 +116,11 @@ gone_next c ns front (m ∷ gone) low cut next =
     let st = state regions.Statements 0 front (m ∷ (gone ++ ns)) in
     let all : front_heard regions.Statements 0 c ns ≡ front_heard regions.Statements 0 front (m ∷ (gone ++ ns)) ++ front_heard st.0 st.1 (m ∷ gone) ns =
     ap (λ (l : List Mark). front_heard regions.Statements 0 l ns) cut ∙ front_both regions.Statements 0 front (m ∷ gone) ns in
-    omega (arith, ap (λ (l : List Kind). length l) all, length-append (front_heard regions.Statements 0 front (m ∷ (gone ++ ns))) (front_heard st.0 st.1 (m ∷ gone) ns), next_said st.0 st.1 m gone ns next.0 next.1)
+    omega (arith, ap (λ (l : List Kind). length l) all, length-append (front_heard regions.Statements 0 front (m ∷ (gone ++ ns))) (front_heard st.0 st.1 (m ∷ gone) ns), next_significant st.0 st.1 m gone ns next.0 next.1)
 
 -- the word isn't within a front that begins a configuration within the levels
 pub front_late : (c ns : List Mark) (W : List Word) → IsBegunWithin rule 64 config W → front_heard regions.Statements 0 c ns ≡ kinds_of W
-    → (u : Tree) (r : Why × List Word) → Fits rule u config → refused u 64 ≡ Some r → (o : Opens u r) → kinds_of (yield u) ≡ heard regions.Statements 0 (c ++ ns)
+    → (u : ParseTree) (r : List Word) → DerivesLongest rule u config → too_deep u 64 ≡ Some r → (o : Opens u r) → kinds_of (yield u) ≡ heard regions.Statements 0 (c ++ ns)
     → (front rest : List Mark) → c ++ ns ≡ front ++ rest → IsNext (state regions.Statements 0 front rest) rest
     → length (front_heard regions.Statements 0 front rest) ≡ length o.before → length front < length c → ⊥
 front_late c ns W b are u r h e o reads front rest cut next size low =
@@ -210,7 +132,7 @@ front_late c ns W b are u r h e o reads front rest cut next size low =
     let shorter : length o.before < length x.one =
     omega (arith, more, size, ap (λ (l : List Mark). length (front_heard regions.Statements 0 front l)) g.rest, ap (λ (l : List Kind). length l) are, ap (λ (l : List Kind). length l) x.are, len_map kind_of x.one, len_map kind_of W) in
     let i = is_inside x.one x.two o.before o.opener o.more (sym x.cut ∙ o.reads) shorter in
-    never_within x.one o.before i.0 u r (within_alike config 64 W x.one refl (sym x.are) b) h e o i.1
+    never_within x.one o.before i.0 u r (within_alike config 64 W x.one (sym x.are) b) h e o i.1
 
 -- ---- the text of marks
 
@@ -251,29 +173,28 @@ at_least a b never = elim (cases_le a b) [ inl low ↦ low | inr high ↦ absurd
     cases_le (suc a) (suc b) = elim (cases_le a b) [ inl low ↦ inl (omega (arith, low)) | inr high ↦ inr (omega (arith, high)) ]
 
 -- a text whose words are a sentence is a configuration or refused for its levels
-levels_of : (other : List ℕ) (tokens : List Token) (ms zs : List Mark) (u : Tree) → Lexes 0 other tokens → marks other tokens ≡ ms ++ zs → LateIn ms zs → Fits rule u config → yield u ≡ said_words other tokens → (d : Option (Why × List Word)) → refused u 64 ≡ d → IsConfigOrDeeper other tokens (length ms) u
+levels_of : (other : List ℕ) (tokens : List Token) (ms zs : List Mark) (u : ParseTree) → Lexes 0 other tokens → marks other tokens ≡ ms ++ zs → LateIn ms zs → DerivesLongest rule u config → yield u ≡ significant_words other tokens → (d : Option (List Word)) → too_deep u 64 ≡ d → IsConfigOrDeeper other tokens (length ms) u
 levels_of other tokens ms zs u lexes are late h reads None e = inl (tokens, lexes, record { fits = h; whole = reads; levels = e })
 levels_of other tokens ms zs u lexes are late h reads (Some r) e =
     let o = config_opens u r h e in
-    let ws = said_words other tokens in
-    let said : said_words other tokens ≡ o.before ++ o.opener ∷ o.more = sym reads ∙ o.reads in
-    let rest : drop (length o.before) (said_words other tokens) ≡ o.opener ∷ o.more = ap (drop (length o.before)) said ∙ drop_front o.before (o.opener ∷ o.more) in
-    let within : length o.before ≤ length (said_words other tokens) = omega (arith, ap (λ (l : List Word). length l) said, length-append o.before (o.opener ∷ o.more)) in
-    let low : length o.before ≤ length (said_of other tokens) = omega (arith, within, len_map (λ (p : ℕ × Word). p.1) (said_of other tokens)) in
+    let ws = significant_words other tokens in
+    let significant : significant_words other tokens ≡ o.before ++ o.opener ∷ o.more = sym reads ∙ o.reads in
+    let rest : drop (length o.before) (significant_words other tokens) ≡ o.opener ∷ o.more = ap (drop (length o.before)) significant ∙ drop_front o.before (o.opener ∷ o.more) in
+    let within : length o.before ≤ length (significant_words other tokens) = omega (arith, ap (λ (l : List Word). length l) significant, length-append o.before (o.opener ∷ o.more)) in
+    let low : length o.before ≤ length (significant_of other tokens) = omega (arith, within, len_map (λ (p : ℕ × Word). p.1) (significant_of other tokens)) in
     let a = place_at other regions.Statements 0 0 tokens (length tokens) (length o.before) (omega arith) low in
     let kinds : kinds_of (yield u) ≡ heard regions.Statements 0 (ms ++ zs) = ap kinds_of reads ∙ heard_is other regions.Statements 0 0 tokens ∙ ap (heard regions.Statements 0) are in
-    let deep : IsTooDeep rule 64 config (said_words other tokens) (drop (length o.before) (said_words other tokens)) = record {
+    let deep : IsTooDeep rule 64 config (significant_words other tokens) (drop (length o.before) (significant_words other tokens)) = record {
       before = o.before;
       opener = o.opener;
       behind = o.more;
       tree = u;
       more = o.more;
-      front = said ∙ ap (λ (l : List Word). o.before ++ l) (sym rest);
+      front = significant ∙ ap (λ (l : List Word). o.before ++ l) (sym rest);
       opens = rest;
       fits = h;
       begun = o.reads;
-      plain = config_plain u h;
-      levels = e ∙ ap (λ (x : Why × List Word). Some x) o.is;
+      levels = e ∙ ap (λ (x : List Word). Some x) o.is;
     } in
     inr (
       token_of other tokens (length o.before),
@@ -283,15 +204,15 @@ levels_of other tokens ms zs u lexes are late h reads (Some r) e =
     )
 
 -- marks that are a sentence are a text
-pub text_of : (text : List ℕ) (front : List Token) (zs : List Mark) (tree : Tree) → AreSpellings (marks text front) → AreSpellings zs → Fits rule tree config → kinds_of (yield tree) ≡ heard regions.Statements 0 (marks text front ++ zs) → LateIn (marks text front) zs → BeginSome text front
+pub text_of : (text : List ℕ) (front : List Token) (zs : List Mark) (tree : ParseTree) → AreSpellings (marks text front) → AreSpellings zs → DerivesLongest rule tree config → kinds_of (yield tree) ≡ heard regions.Statements 0 (marks text front ++ zs) → LateIn (marks text front) zs → BeginSome text front
 text_of text front zs tree one two fits reads late =
     let r = read_back (marks text front ++ zs) (spellings_both (marks text front) zs one two) in
     let other = spaced (marks text front ++ zs) in
     let are : marks (spaced (marks text front ++ zs)) r.0 ≡ marks text front ++ zs = r.2 in
     let h = halves_of other r.0 (marks text front) zs are in
-    let kinds : kinds_of (yield tree) ≡ kinds_of (said_words (spaced (marks text front ++ zs)) (h.seen ++ h.more)) =
+    let kinds : kinds_of (yield tree) ≡ kinds_of (significant_words (spaced (marks text front ++ zs)) (h.seen ++ h.more)) =
     reads ∙ ap (heard regions.Statements 0) (sym are ∙ ap (marks other) h.cut) ∙ sym (heard_is other regions.Statements 0 0 (h.seen ++ h.more)) in
-    let x = same_words tree config (said_words other (h.seen ++ h.more)) fits kinds in
+    let x = same_words tree config (significant_words other (h.seen ++ h.more)) fits kinds in
     let lexes : Lexes 0 (spaced (marks text front ++ zs)) (h.seen ++ h.more) = subst (λ (l : List Token). Lexes 0 (spaced (marks text front ++ zs)) l) h.cut r.1 in
     let size : length (marks text front) ≡ length h.seen = omega (arith, ap (λ (l : List Mark). length l) h.first, len_map (mark other) h.seen) in
     record {
@@ -304,7 +225,7 @@ text_of text front zs tree one two fits reads late =
       fits = x.1;
       reads = x.2;
       levels = subst (λ (n : ℕ). IsConfigOrDeeper other (h.seen ++ h.more) n x.0) size
-          (levels_of other (h.seen ++ h.more) (marks text front) zs x.0 lexes (sym (ap (marks other) h.cut) ∙ are) late x.1 x.2 (refused x.0 64) refl);
+          (levels_of other (h.seen ++ h.more) (marks text front) zs x.0 lexes (sym (ap (marks other) h.cut) ∙ are) late x.1 x.2 (too_deep x.0 64) refl);
     }
 
 -- ---- the words before a place
@@ -328,15 +249,6 @@ mark_halves (k ∷ a) b (j ∷ c) d e len =
     let tail : a ++ b ≡ c ++ d = cc in
     let h = mark_halves a b c d tail (omega (arith, len)) in
     (ap (λ (m : Mark). m ∷ a) head ∙ ap (λ (l : List Mark). j ∷ l) h.0, h.1)
-
-pub same_front : (a b s : List Word) → a ++ s ≡ b ++ s → a ≡ b
-same_front a b s e = elim (fronts a s b s e) [
-  | inl h ↦ h.0
-  | inr h ↦ elim h [
-    | inl l ↦ absurd (omega (arith, ap (λ (u : List Word). length u) l.rest, length-append l.more s))
-    | inr l ↦ absurd (omega (arith, ap (λ (u : List Word). length u) l.rest, length-append l.more s))
-  ]
-]
 
 -- a word has no more marks than there are
 few_if : (b c : Bool) (o : Option Kind) (k : Kind) (ms : List Mark) → colon_first ms ≡ c → ((or_kind o k).1 - 1 ≤ length ms) → (if b && c then (IsSymbol symbols.ElseColon, 2) else or_kind o k).1 - 1 ≤ length ms
@@ -371,16 +283,16 @@ pub record Before (text : List ℕ) (tokens : List Token) (place start : ℕ) : 
   pub rest : List Mark
   pub cut : marks text tokens ≡ front ++ rest
   pub at : start ≡ length front
-  pub are : kinds_of (take place (said_words text tokens)) ≡ front_heard regions.Statements 0 front rest
-  pub left : kinds_of (drop place (said_words text tokens)) ≡ heard (state regions.Statements 0 front rest).0 (state regions.Statements 0 front rest).1 rest
+  pub are : kinds_of (take place (significant_words text tokens)) ≡ front_heard regions.Statements 0 front rest
+  pub left : kinds_of (drop place (significant_words text tokens)) ≡ heard (state regions.Statements 0 front rest).0 (state regions.Statements 0 front rest).1 rest
   pub next : IsNext (state regions.Statements 0 front rest) rest
   pub done : (state regions.Statements 0 front rest).1 ≡ 0
-  pub begun : IsBegunWithin rule 64 config (take place (said_words text tokens))
+  pub begun : IsBegunWithin rule 64 config (take place (significant_words text tokens))
 
 pub before_place : (text : List ℕ) (tokens : List Token) (place start : ℕ) → StopsAt text tokens place start → Before text tokens place start
 before_place text tokens place start s =
-    let ws = said_words text tokens in
-    let low : place ≤ length (said_of text tokens) = omega (arith, s.within, len_map (λ (p : ℕ × Word). p.1) (said_of text tokens)) in
+    let ws = significant_words text tokens in
+    let low : place ≤ length (significant_of text tokens) = omega (arith, s.within, len_map (λ (p : ℕ × Word). p.1) (significant_of text tokens)) in
     let a = place_at text regions.Statements 0 0 tokens (length tokens) place (omega arith) low in
     let st = state regions.Statements 0 a.front a.rest in
     let all : kinds_of (take place ws) ++ kinds_of (drop place ws) ≡ front_heard regions.Statements 0 a.front a.rest ++ heard st.0 st.1 a.rest =
@@ -405,8 +317,8 @@ before_place text tokens place start s =
 -- these marks begin a configuration
 pub record Ends (ms : List Mark) : Type 0 where
   pub zs : List Mark
-  pub tree : Tree
-  pub fits : Fits rule tree config
+  pub tree : ParseTree
+  pub fits : DerivesLongest rule tree config
   pub spellings : AreSpellings zs
   pub reads : kinds_of (yield tree) ≡ heard regions.Statements 0 (ms ++ zs)
   pub late : LateIn ms zs
@@ -434,6 +346,6 @@ module _ (slices : (text : List ℕ) (front back : List Token) (t : Token) → L
   before_word text front back place lexes s =
       let a = before_place text (front ++ back) place (length front) s in
       let m = mark_halves (marks text front) (marks text back) a.front a.rest (sym (marks_both text front back) ∙ a.cut) (omega (arith, a.at, len_map (mark text) front)) in
-      let e = begun_ends a.front a.rest (take place (said_words text (front ++ back))) a.are a.done a.begun in
+      let e = begun_ends a.front a.rest (take place (significant_words text (front ++ back))) a.are a.done a.begun in
       let x : Ends (marks text front) = subst Ends (sym m.0) e in
       text_of text front x.zs x.tree (spelled_front text front back lexes) x.spellings x.fits x.reads x.late

@@ -1,12 +1,13 @@
 -- What begins a configuration is completed by words of the pieces.
-use Rattle.std.proofs.Common.{◌≡◌, ℕ, zero, suc, ◌<◌, Bool, true, false, cond, ◌&&◌, ◌||◌, List, [], ◌∷◌, ◌++◌, length, map, refl, sym, ap, ◌∙◌, arith, append_assoc, append-nil, inl, inr}
+use Rattle.std.proofs.Common.{◌≡◌, ◌<◌, Bool, true, false, cond, ◌&&◌, ◌||◌, List, [], ◌∷◌, ◌++◌, length, map, refl, sym, ap, ◌∙◌, arith, append_assoc, append-nil, inl, inr}
 use Rattle.std.proofs.lemmas.Bool.{cases_Bool}
 use Rattle.conf_lex.specs.declared.word.Word.{Word}
 use Rattle.grammar.specs.Kind.{Kind, kind_of}
-use Rattle.grammar.specs.Grammar.{Form, One, Empty, Seq, Either, Chain, Nest, Unless, Tree, Leaf, Blank, Both, First, Second, Start, More, Inside, Shut, yield, Fits, Spells}
+use Rattle.grammar.specs.Grammar.{Terminal, Epsilon, Seq, Alt, Repeat, Nested, ParseTree, Leaf, NoWords, Pair, Left, Right, Single, Snoc, Deeper, yield, DerivesLongest, Derives}
 use Rattle.grammar.proofs.Checks.{and_true}
 use Rattle.grammar.proofs.Unique.{fronts}
 use Rattle.filt_syntax.specs.Syntax.{rule}
+use Rattle.filt_syntax.specs.Levels.{Level, Form, group_level}
 use Rattle.conf_tree.specs.Syntax.{config}
 use Rattle.conf_laws.proofs.Pieces.{Good, pieces, quoted_piece}
 
@@ -24,13 +25,12 @@ picks p = p (kind_of (pick p).0.0)
 
 -- whether pieces can be a sentence of the form, where they can inside these levels
 abbrev can : Bool → Form → Bool
-can deep (One p) = picks p
-can deep Empty = true
+can deep (Terminal p) = picks p
+can deep Epsilon = true
 can deep (Seq f g) = can deep f && can deep g
-can deep (Either f g) = can deep f || can deep g
-can deep (Chain f g) = can deep f
-can deep (Nest p n) = deep && picks p
-can deep (Unless p f) = false
+can deep (Alt f g) = can deep f || can deep g
+can deep (Repeat f g) = can deep f
+can deep (Nested p n) = deep && picks p
 
 abbrev pub words_of : List Good → List Word
 words_of gs = map (λ g. g.0.0) gs
@@ -40,52 +40,40 @@ words_both [] hs = refl
 words_both (g ∷ gs) hs = ap (λ (l : List Word). g.0.0 ∷ l) (words_both gs hs)
 
 record Filled (f : Form) : Type 0 where
-  tree : Tree
+  tree : ParseTree
   good : List Good
-  spells : Spells rule tree f
+  spells : Derives rule tree f
   reads : yield tree ≡ words_of good
 
-fill : (deep : Bool) → (deep ≡ true → (n : ℕ) → Filled (rule n)) → (f : Form) → can deep f ≡ true → Filled f
-fill deep inside (One p) ok = record { tree = Leaf (pick p).0.0; good = pick p ∷ []; spells = ok; reads = refl }
-fill deep inside Empty ok = record { tree = Blank; good = []; spells = tt; reads = refl }
+fill : (deep : Bool) → (deep ≡ true → (n : Level) → Filled (rule n)) → (f : Form) → can deep f ≡ true → Filled f
+fill deep inside (Terminal p) ok = record { tree = Leaf (pick p).0.0; good = pick p ∷ []; spells = ok; reads = refl }
+fill deep inside Epsilon ok = record { tree = NoWords; good = []; spells = tt; reads = refl }
 fill deep inside (Seq f g) ok =
     let c = and_true (can deep f) (can deep g) ok in
     let x = fill deep inside f c.0 in
     let y = fill deep inside g c.1 in
-    record { tree = Both x.tree y.tree; good = x.good ++ y.good; spells = (x.spells, y.spells); reads = rw (x.reads, y.reads) (sym (words_both x.good y.good)) }
-fill deep inside (Either f g) ok = elim (cases_Bool (can deep g)) [
-  | inl is ↦ (let y = fill deep inside g is in record { tree = Second y.tree; good = y.good; spells = y.spells; reads = y.reads })
-  | inr none ↦ (let x = fill deep inside f (left (can deep f) (can deep g) ok none) in record { tree = First x.tree; good = x.good; spells = x.spells; reads = x.reads })
+    record { tree = Pair x.tree y.tree; good = x.good ++ y.good; spells = (x.spells, y.spells); reads = rw (x.reads, y.reads) (sym (words_both x.good y.good)) }
+fill deep inside (Alt f g) ok = elim (cases_Bool (can deep g)) [
+  | inl is ↦ (let y = fill deep inside g is in record { tree = Right y.tree; good = y.good; spells = y.spells; reads = y.reads })
+  | inr none ↦ (let x = fill deep inside f (left (can deep f) (can deep g) ok none) in record { tree = Left x.tree; good = x.good; spells = x.spells; reads = x.reads })
 ]
   where
     left : (a b : Bool) → (a || b) ≡ true → b ≡ false → a ≡ true
     left true b e h = refl
     left false b e h = absurd (let never = sym e ∙ h in cc)
-fill deep inside (Chain f g) ok =
+fill deep inside (Repeat f g) ok =
     let x = fill deep inside f ok in
-    record { tree = Start x.tree; good = x.good; spells = x.spells; reads = x.reads }
-fill deep inside (Nest p n) ok =
+    record { tree = Single x.tree; good = x.good; spells = x.spells; reads = x.reads }
+fill deep inside (Nested p n) ok =
     let c = and_true deep (picks p) ok in
     let x = inside c.0 n in
-    record { tree = Inside (pick p).0.0 x.tree; good = pick p ∷ x.good; spells = (c.1, x.spells); reads = ap (λ (l : List Word). (pick p).0.0 ∷ l) x.reads }
-fill deep inside (Unless p f) ok = absurd cc
+    record { tree = Deeper (pick p).0.0 x.tree; good = pick p ∷ x.good; spells = (c.1, x.spells); reads = ap (λ (l : List Word). (pick p).0.0 ∷ l) x.reads }
 
-levels_can : (n : ℕ) → can false (rule n) ≡ true
-levels_can zero = refl
-levels_can (suc zero) = refl
-levels_can (suc (suc zero)) = refl
-levels_can (suc (suc (suc zero))) = refl
-levels_can (suc (suc (suc (suc zero)))) = refl
-levels_can (suc (suc (suc (suc (suc zero))))) = refl
-levels_can (suc (suc (suc (suc (suc (suc zero)))))) = refl
-levels_can (suc (suc (suc (suc (suc (suc (suc zero))))))) = refl
-levels_can (suc (suc (suc (suc (suc (suc (suc (suc zero)))))))) = refl
-levels_can (suc (suc (suc (suc (suc (suc (suc (suc (suc zero))))))))) = refl
-levels_can (suc (suc (suc (suc (suc (suc (suc (suc (suc (suc zero)))))))))) = refl
-levels_can (suc (suc (suc (suc (suc (suc (suc (suc (suc (suc (suc zero))))))))))) = refl
-levels_can (suc (suc (suc (suc (suc (suc (suc (suc (suc (suc (suc (suc n)))))))))))) = refl
+levels_can : (n : Level) → can false (rule n) ≡ true
+levels_can group_level = refl
+levels_can _ = refl
 
-filled_level : (n : ℕ) → Filled (rule n)
+filled_level : (n : Level) → Filled (rule n)
 filled_level n = fill false (λ e. absurd (let never : false ≡ true = e in cc)) (rule n) (levels_can n)
 
 filled : (f : Form) → can true f ≡ true → Filled f
@@ -95,56 +83,44 @@ filled f ok = fill true (λ e. filled_level) f ok
 
 -- each part of the form that may be left is a form of the pieces
 abbrev fillable : Form → Bool
-fillable (One p) = true
-fillable Empty = true
+fillable (Terminal p) = true
+fillable Epsilon = true
 fillable (Seq f g) = (fillable f && fillable g) && can true g
-fillable (Either f g) = fillable f && fillable g
-fillable (Chain f g) = fillable f && fillable g
-fillable (Nest p n) = true
-fillable (Unless p f) = false
+fillable (Alt f g) = fillable f && fillable g
+fillable (Repeat f g) = fillable f && fillable g
+fillable (Nested p n) = true
 
-levels_fillable : (n : ℕ) → fillable (rule n) ≡ true
-levels_fillable zero = refl
-levels_fillable (suc zero) = refl
-levels_fillable (suc (suc zero)) = refl
-levels_fillable (suc (suc (suc zero))) = refl
-levels_fillable (suc (suc (suc (suc zero)))) = refl
-levels_fillable (suc (suc (suc (suc (suc zero))))) = refl
-levels_fillable (suc (suc (suc (suc (suc (suc zero)))))) = refl
-levels_fillable (suc (suc (suc (suc (suc (suc (suc zero))))))) = refl
-levels_fillable (suc (suc (suc (suc (suc (suc (suc (suc zero)))))))) = refl
-levels_fillable (suc (suc (suc (suc (suc (suc (suc (suc (suc zero))))))))) = refl
-levels_fillable (suc (suc (suc (suc (suc (suc (suc (suc (suc (suc zero)))))))))) = refl
-levels_fillable (suc (suc (suc (suc (suc (suc (suc (suc (suc (suc (suc zero))))))))))) = refl
-levels_fillable (suc (suc (suc (suc (suc (suc (suc (suc (suc (suc (suc (suc n)))))))))))) = refl
+levels_fillable : (n : Level) → fillable (rule n) ≡ true
+levels_fillable group_level = refl
+levels_fillable _ = refl
 
 pub record Completed (f : Form) (before : List Word) : Type 0 where
-  pub tree : Tree
+  pub tree : ParseTree
   pub good : List Good
-  pub spells : Spells rule tree f
+  pub spells : Derives rule tree f
   pub reads : yield tree ≡ before ++ words_of good
 
-seq_left : (a : Tree) (f g : Form) (before : List Word) → can true g ≡ true → Completed f before → Completed (Seq f g) before
+seq_left : (a : ParseTree) (f g : Form) (before : List Word) → can true g ≡ true → Completed f before → Completed (Seq f g) before
 seq_left a f g before ok x =
     let y = filled g ok in
     record {
-      tree = Both x.tree y.tree;
+      tree = Pair x.tree y.tree;
       good = x.good ++ y.good;
       spells = (x.spells, y.spells);
       reads = rw (x.reads, y.reads) (append_assoc before (words_of x.good) (words_of y.good)) ∙ ap (λ (l : List Word). before ++ l) (sym (words_both x.good y.good));
     }
 
-seq_right : (a : Tree) (f g : Form) (before rest : List Word) → Spells rule a f → before ≡ yield a ++ rest → Completed g rest → Completed (Seq f g) before
+seq_right : (a : ParseTree) (f g : Form) (before rest : List Word) → Derives rule a f → before ≡ yield a ++ rest → Completed g rest → Completed (Seq f g) before
 seq_right a f g before rest h cut y = record {
-  tree = Both a y.tree;
+  tree = Pair a y.tree;
   good = y.good;
   spells = (h, y.spells);
   reads = ap (λ (l : List Word). yield a ++ l) y.reads ∙ sym (append_assoc (yield a) rest (words_of y.good)) ∙ ap (λ (l : List Word). l ++ words_of y.good) (sym cut);
 }
 
-chain_right : (t : Tree) (f g : Form) (before rest : List Word) → Spells rule t (Chain f g) → before ≡ yield t ++ rest → Completed g rest → Completed (Chain f g) before
+chain_right : (t : ParseTree) (f g : Form) (before rest : List Word) → Derives rule t (Repeat f g) → before ≡ yield t ++ rest → Completed g rest → Completed (Repeat f g) before
 chain_right t f g before rest h cut y = record {
-  tree = More t y.tree;
+  tree = Snoc t y.tree;
   good = y.good;
   spells = (h, y.spells);
   reads = ap (λ (l : List Word). yield t ++ l) y.reads ∙ sym (append_assoc (yield t) rest (words_of y.good)) ∙ ap (λ (l : List Word). l ++ words_of y.good) (sym cut);
@@ -159,11 +135,11 @@ one_left w [] more some e = absurd (omega (arith, some))
 one_left w (v ∷ []) more some e = let head : w ≡ v = cc in ap (λ (u : Word). u ∷ []) head
 one_left w (v ∷ u ∷ before) more some e = absurd (let tail : [] ≡ u ∷ (before ++ more) = cc in cc)
 
-complete : (t : Tree) (f : Form) → fillable f ≡ true → Spells rule t f → (before more : List Word) → 0 < length before → yield t ≡ before ++ more → Completed f before
-complete (Leaf w) (One p) ok h before more some e =
+complete : (t : ParseTree) (f : Form) → fillable f ≡ true → Derives rule t f → (before more : List Word) → 0 < length before → yield t ≡ before ++ more → Completed f before
+complete (Leaf w) (Terminal p) ok h before more some e =
     record { tree = Leaf w; good = []; spells = h; reads = one_left w before more some e ∙ sym (append-nil before) }
-complete Blank Empty ok h before more some e = absurd (none_left before more some e)
-complete (Both a b) (Seq f g) ok h before more some e =
+complete NoWords Epsilon ok h before more some e = absurd (none_left before more some e)
+complete (Pair a b) (Seq f g) ok h before more some e =
     let c = and_true (fillable f && fillable g) (can true g) ok in
     let parts = and_true (fillable f) (fillable g) c.0 in
     elim (fronts (yield a) (yield b) before more e) [
@@ -173,55 +149,51 @@ complete (Both a b) (Seq f g) ok h before more some e =
         | inr l ↦ seq_right a f g before (l.word ∷ l.more) h.0 l.front (complete b g parts.1 h.1 (l.word ∷ l.more) more (omega arith) l.rest)
       ]
     ]
-complete (First a) (Either f g) ok h before more some e =
+complete (Left a) (Alt f g) ok h before more some e =
     let x = complete a f (and_true (fillable f) (fillable g) ok).0 h before more some e in
-    record { tree = First x.tree; good = x.good; spells = x.spells; reads = x.reads }
-complete (Second b) (Either f g) ok h before more some e =
+    record { tree = Left x.tree; good = x.good; spells = x.spells; reads = x.reads }
+complete (Right b) (Alt f g) ok h before more some e =
     let x = complete b g (and_true (fillable f) (fillable g) ok).1 h before more some e in
-    record { tree = Second x.tree; good = x.good; spells = x.spells; reads = x.reads }
-complete (Start a) (Chain f g) ok h before more some e =
+    record { tree = Right x.tree; good = x.good; spells = x.spells; reads = x.reads }
+complete (Single a) (Repeat f g) ok h before more some e =
     let x = complete a f (and_true (fillable f) (fillable g) ok).0 h before more some e in
-    record { tree = Start x.tree; good = x.good; spells = x.spells; reads = x.reads }
-complete (More t b) (Chain f g) ok h before more some e =
+    record { tree = Single x.tree; good = x.good; spells = x.spells; reads = x.reads }
+complete (Snoc t b) (Repeat f g) ok h before more some e =
     let parts = and_true (fillable f) (fillable g) ok in
     elim (fronts (yield t) (yield b) before more e) [
-      | inl same ↦ complete t (Chain f g) ok h.0 before [] some (same.0 ∙ sym (append-nil before))
+      | inl same ↦ complete t (Repeat f g) ok h.0 before [] some (same.0 ∙ sym (append-nil before))
       | inr x ↦ elim x [
-        | inl l ↦ complete t (Chain f g) ok h.0 before (l.word ∷ l.more) some l.front
+        | inl l ↦ complete t (Repeat f g) ok h.0 before (l.word ∷ l.more) some l.front
         | inr l ↦ chain_right t f g before (l.word ∷ l.more) h.0 l.front (complete b g parts.1 h.1 (l.word ∷ l.more) more (omega arith) l.rest)
       ]
     ]
-complete (Inside w t) (Nest p n) ok h [] more some e = absurd (omega (arith, some))
-complete (Inside w t) (Nest p n) ok h (v ∷ []) more some e =
+complete (Deeper w t) (Nested p n) ok h [] more some e = absurd (omega (arith, some))
+complete (Deeper w t) (Nested p n) ok h (v ∷ []) more some e =
     let head : w ≡ v = cc in
     let x = filled_level n in
-    record { tree = Inside w x.tree; good = x.good; spells = (h.0, x.spells); reads = ap (λ (u : Word). u ∷ yield x.tree) head ∙ ap (λ (l : List Word). v ∷ l) x.reads }
-complete (Inside w t) (Nest p n) ok h (v ∷ u ∷ before) more some e =
+    record { tree = Deeper w x.tree; good = x.good; spells = (h.0, x.spells); reads = ap (λ (u : Word). u ∷ yield x.tree) head ∙ ap (λ (l : List Word). v ∷ l) x.reads }
+complete (Deeper w t) (Nested p n) ok h (v ∷ u ∷ before) more some e =
     let head : w ≡ v = cc in
     let tail : yield t ≡ u ∷ (before ++ more) = cc in
     let x = complete t (rule n) (levels_fillable n) h.1 (u ∷ before) more (omega arith) tail in
-    record { tree = Inside w x.tree; good = x.good; spells = (h.0, x.spells); reads = ap (λ (k : Word). k ∷ yield x.tree) head ∙ ap (λ (l : List Word). v ∷ l) x.reads }
-complete (Second b) (Unless p f) ok h before more some e = absurd cc
-complete (Shut w) (Unless p f) ok h before more some e = absurd cc
+    record { tree = Deeper w x.tree; good = x.good; spells = (h.0, x.spells); reads = ap (λ (k : Word). k ∷ yield x.tree) head ∙ ap (λ (l : List Word). v ∷ l) x.reads }
 complete _ _ ok h before more some e = absurd h
 
-pub fits_spells : (t : Tree) (f : Form) → Fits rule t f → Spells rule t f
-fits_spells (Leaf w) (One p) h = h
-fits_spells Blank Empty h = tt
-fits_spells (Both a b) (Seq f g) h = (fits_spells a f h.0, fits_spells b g h.1)
-fits_spells (First a) (Either f g) h = fits_spells a f h
-fits_spells (Second b) (Either f g) h = fits_spells b g h
-fits_spells (Start a) (Chain f g) h = fits_spells a f h
-fits_spells (More t b) (Chain f g) h = (fits_spells t (Chain f g) h.0, fits_spells b g h.1)
-fits_spells (Inside w t) (Nest p n) h = (h.0, fits_spells t (rule n) h.1)
-fits_spells (Second b) (Unless p f) h = fits_spells b f h
-fits_spells (Shut w) (Unless p f) h = h
+pub fits_spells : (t : ParseTree) (f : Form) → DerivesLongest rule t f → Derives rule t f
+fits_spells (Leaf w) (Terminal p) h = h
+fits_spells NoWords Epsilon h = tt
+fits_spells (Pair a b) (Seq f g) h = (fits_spells a f h.0, fits_spells b g h.1)
+fits_spells (Left a) (Alt f g) h = fits_spells a f h
+fits_spells (Right b) (Alt f g) h = fits_spells b g h
+fits_spells (Single a) (Repeat f g) h = fits_spells a f h
+fits_spells (Snoc t b) (Repeat f g) h = (fits_spells t (Repeat f g) h.0, fits_spells b g h.1)
+fits_spells (Deeper w t) (Nested p n) h = (h.0, fits_spells t (rule n) h.1)
 fits_spells _ _ h = absurd h
 
 config_fillable : fillable config ≡ true
 config_fillable = refl
 
 -- what begins a configuration is completed
-pub completed : (t : Tree) (before more : List Word) → Spells rule t config → yield t ≡ before ++ more → Completed config before
-completed t [] more h e = record { tree = Start Blank; good = []; spells = tt; reads = refl }
+pub completed : (t : ParseTree) (before more : List Word) → Derives rule t config → yield t ≡ before ++ more → Completed config before
+completed t [] more h e = record { tree = Single NoWords; good = []; spells = tt; reads = refl }
 completed t (w ∷ before) more h e = complete t config config_fillable h (w ∷ before) more (omega arith) e

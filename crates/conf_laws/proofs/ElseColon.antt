@@ -1,12 +1,13 @@
 -- In a sentence no colon comes behind an `else`: both are one sign.
-use Rattle.std.proofs.Common.{◌≡◌, ℕ, zero, suc, Bool, true, false, ◌&&◌, ◌||◌, List, [], ◌∷◌, ◌++◌, refl, sym, ap, ◌∙◌, inl, inr, ◌⊎◌}
+use Rattle.std.proofs.Common.{◌≡◌, Bool, true, false, ◌&&◌, ◌||◌, List, [], ◌∷◌, ◌++◌, refl, sym, ap, ◌∙◌, inl, inr, ◌⊎◌}
 use Rattle.conf_lex.specs.declared.symbol.Symbol.TheVariants as symbols
 use Rattle.conf_lex.specs.declared.word.Word.{Word}
 use Rattle.grammar.specs.Kind.{Kind, IsSymbol, kind_of}
-use Rattle.grammar.specs.Grammar.{Form, One, Empty, Seq, Either, Chain, Nest, Unless, Tree, Leaf, Blank, Both, First, Second, Start, More, Inside, Shut, nullable, starts, yield, Spells}
+use Rattle.grammar.specs.Grammar.{Terminal, Epsilon, Seq, Alt, Repeat, Nested, ParseTree, Leaf, NoWords, Pair, Left, Right, Single, Snoc, Deeper, nullable, first_set, yield, Derives}
 use Rattle.grammar.proofs.Checks.{and_true, not, not_true}
 use Rattle.grammar.proofs.Unique.{fronts}
 use Rattle.filt_syntax.specs.Syntax.{rule}
+use Rattle.filt_syntax.specs.Levels.{Level, Form, group_level}
 use Rattle.conf_tree.specs.Syntax.{config}
 
 abbrev else_kind : Kind
@@ -17,37 +18,24 @@ colon_kind = IsSymbol symbols.Colon
 
 -- the form may end in `else`; no level does
 abbrev ends : Form → Bool
-ends (One p) = p else_kind
-ends Empty = false
+ends (Terminal p) = p else_kind
+ends Epsilon = false
 ends (Seq f g) = ends g || (nullable g && ends f)
-ends (Either f g) = ends f || ends g
-ends (Chain f g) = ends f || ends g
-ends (Nest p n) = nullable (rule n) && p else_kind
-ends (Unless p f) = true
+ends (Alt f g) = ends f || ends g
+ends (Repeat f g) = ends f || ends g
+ends (Nested p n) = nullable (rule n) && p else_kind
 
 abbrev safe : Form → Bool
-safe (One p) = true
-safe Empty = true
-safe (Seq f g) = (safe f && safe g) && not (ends f && starts g colon_kind)
-safe (Either f g) = safe f && safe g
-safe (Chain f g) = (safe f && safe g) && not ((ends f || ends g) && starts g colon_kind)
-safe (Nest p n) = not (p else_kind && starts (rule n) colon_kind)
-safe (Unless p f) = false
+safe (Terminal p) = true
+safe Epsilon = true
+safe (Seq f g) = (safe f && safe g) && not (ends f && first_set g colon_kind)
+safe (Alt f g) = safe f && safe g
+safe (Repeat f g) = (safe f && safe g) && not ((ends f || ends g) && first_set g colon_kind)
+safe (Nested p n) = not (p else_kind && first_set (rule n) colon_kind)
 
-levels_safe : (n : ℕ) → (safe (rule n) && not (ends (rule n))) ≡ true
-levels_safe zero = refl
-levels_safe (suc zero) = refl
-levels_safe (suc (suc zero)) = refl
-levels_safe (suc (suc (suc zero))) = refl
-levels_safe (suc (suc (suc (suc zero)))) = refl
-levels_safe (suc (suc (suc (suc (suc zero))))) = refl
-levels_safe (suc (suc (suc (suc (suc (suc zero)))))) = refl
-levels_safe (suc (suc (suc (suc (suc (suc (suc zero))))))) = refl
-levels_safe (suc (suc (suc (suc (suc (suc (suc (suc zero)))))))) = refl
-levels_safe (suc (suc (suc (suc (suc (suc (suc (suc (suc zero))))))))) = refl
-levels_safe (suc (suc (suc (suc (suc (suc (suc (suc (suc (suc zero)))))))))) = refl
-levels_safe (suc (suc (suc (suc (suc (suc (suc (suc (suc (suc (suc zero))))))))))) = refl
-levels_safe (suc (suc (suc (suc (suc (suc (suc (suc (suc (suc (suc (suc n)))))))))))) = refl
+levels_safe : (n : Level) → (safe (rule n) && not (ends (rule n))) ≡ true
+levels_safe group_level = refl
+levels_safe _ = refl
 
 -- ---- booleans and lists
 
@@ -76,17 +64,15 @@ no_end (x ∷ xs) w ys e = cc
 
 -- ---- first and last words
 
-is_empty : (t : Tree) (f : Form) → Spells rule t f → yield t ≡ [] → nullable f ≡ true
-is_empty (Leaf w) (One p) h e = absurd cc
-is_empty Blank Empty h e = refl
-is_empty (Both a b) (Seq f g) h e = let n = none_both (yield a) (yield b) e in both_true (nullable f) (nullable g) (is_empty a f h.0 n.0) (is_empty b g h.1 n.1)
-is_empty (First a) (Either f g) h e = or_left (nullable f) (nullable g) (is_empty a f h e)
-is_empty (Second b) (Either f g) h e = or_right (nullable f) (nullable g) (is_empty b g h e)
-is_empty (Start a) (Chain f g) h e = is_empty a f h e
-is_empty (More t b) (Chain f g) h e = is_empty t (Chain f g) h.0 (none_both (yield t) (yield b) e).0
-is_empty (Inside w t) (Nest p n) h e = absurd cc
-is_empty (Second b) (Unless p f) h e = is_empty b f h e
-is_empty (Shut w) (Unless p f) h e = absurd cc
+is_empty : (t : ParseTree) (f : Form) → Derives rule t f → yield t ≡ [] → nullable f ≡ true
+is_empty (Leaf w) (Terminal p) h e = absurd cc
+is_empty NoWords Epsilon h e = refl
+is_empty (Pair a b) (Seq f g) h e = let n = none_both (yield a) (yield b) e in both_true (nullable f) (nullable g) (is_empty a f h.0 n.0) (is_empty b g h.1 n.1)
+is_empty (Left a) (Alt f g) h e = or_left (nullable f) (nullable g) (is_empty a f h e)
+is_empty (Right b) (Alt f g) h e = or_right (nullable f) (nullable g) (is_empty b g h e)
+is_empty (Single a) (Repeat f g) h e = is_empty a f h e
+is_empty (Snoc t b) (Repeat f g) h e = is_empty t (Repeat f g) h.0 (none_both (yield t) (yield b) e).0
+is_empty (Deeper w t) (Nested p n) h e = absurd cc
 is_empty _ _ h e = absurd h
 
 abbrev First_in : List Word → List Word → Word → List Word → Type 0
@@ -96,23 +82,21 @@ first_in : (xs ys : List Word) (w : Word) (ws : List Word) → xs ++ ys ≡ w �
 first_in [] ys w ws e = inr (refl, e)
 first_in (x ∷ xs) ys w ws e = let head : x ≡ w = cc in inl (xs, ap (λ (u : Word). u ∷ xs) head)
 
-begins_with : (t : Tree) (f : Form) → Spells rule t f → (w : Word) (ws : List Word) → yield t ≡ w ∷ ws → starts f (kind_of w) ≡ true
-begins_with (Leaf v) (One p) h w ws e = let same : v ≡ w = cc in ap (λ (u : Word). p (kind_of u)) (sym same) ∙ h
-begins_with Blank Empty h w ws e = absurd cc
-begins_with (Both a b) (Seq f g) h w ws e = elim (first_in (yield a) (yield b) w ws e) [
-  | inl x ↦ or_left (starts f (kind_of w)) (nullable f && starts g (kind_of w)) (begins_with a f h.0 w x.0 x.1)
-  | inr y ↦ or_right (starts f (kind_of w)) (nullable f && starts g (kind_of w)) (both_true (nullable f) (starts g (kind_of w)) (is_empty a f h.0 y.0) (begins_with b g h.1 w ws y.1))
+begins_with : (t : ParseTree) (f : Form) → Derives rule t f → (w : Word) (ws : List Word) → yield t ≡ w ∷ ws → first_set f (kind_of w) ≡ true
+begins_with (Leaf v) (Terminal p) h w ws e = let same : v ≡ w = cc in ap (λ (u : Word). p (kind_of u)) (sym same) ∙ h
+begins_with NoWords Epsilon h w ws e = absurd cc
+begins_with (Pair a b) (Seq f g) h w ws e = elim (first_in (yield a) (yield b) w ws e) [
+  | inl x ↦ or_left (first_set f (kind_of w)) (nullable f && first_set g (kind_of w)) (begins_with a f h.0 w x.0 x.1)
+  | inr y ↦ or_right (first_set f (kind_of w)) (nullable f && first_set g (kind_of w)) (both_true (nullable f) (first_set g (kind_of w)) (is_empty a f h.0 y.0) (begins_with b g h.1 w ws y.1))
 ]
-begins_with (First a) (Either f g) h w ws e = or_left (starts f (kind_of w)) (starts g (kind_of w)) (begins_with a f h w ws e)
-begins_with (Second b) (Either f g) h w ws e = or_right (starts f (kind_of w)) (starts g (kind_of w)) (begins_with b g h w ws e)
-begins_with (Start a) (Chain f g) h w ws e = or_left (starts f (kind_of w)) (nullable f && starts g (kind_of w)) (begins_with a f h w ws e)
-begins_with (More t b) (Chain f g) h w ws e = elim (first_in (yield t) (yield b) w ws e) [
-  | inl x ↦ begins_with t (Chain f g) h.0 w x.0 x.1
-  | inr y ↦ or_right (starts f (kind_of w)) (nullable f && starts g (kind_of w)) (both_true (nullable f) (starts g (kind_of w)) (is_empty t (Chain f g) h.0 y.0) (begins_with b g h.1 w ws y.1))
+begins_with (Left a) (Alt f g) h w ws e = or_left (first_set f (kind_of w)) (first_set g (kind_of w)) (begins_with a f h w ws e)
+begins_with (Right b) (Alt f g) h w ws e = or_right (first_set f (kind_of w)) (first_set g (kind_of w)) (begins_with b g h w ws e)
+begins_with (Single a) (Repeat f g) h w ws e = or_left (first_set f (kind_of w)) (nullable f && first_set g (kind_of w)) (begins_with a f h w ws e)
+begins_with (Snoc t b) (Repeat f g) h w ws e = elim (first_in (yield t) (yield b) w ws e) [
+  | inl x ↦ begins_with t (Repeat f g) h.0 w x.0 x.1
+  | inr y ↦ or_right (first_set f (kind_of w)) (nullable f && first_set g (kind_of w)) (both_true (nullable f) (first_set g (kind_of w)) (is_empty t (Repeat f g) h.0 y.0) (begins_with b g h.1 w ws y.1))
 ]
-begins_with (Inside v t) (Nest p n) h w ws e = let same : v ≡ w = cc in ap (λ (u : Word). p (kind_of u)) (sym same) ∙ h.0
-begins_with (Second b) (Unless p f) h w ws e = or_right (p (kind_of w)) (starts f (kind_of w)) (begins_with b f h w ws e)
-begins_with (Shut v) (Unless p f) h w ws e = let same : v ≡ w = cc in or_left (p (kind_of w)) (starts f (kind_of w)) (ap (λ (u : Word). p (kind_of u)) (sym same) ∙ h)
+begins_with (Deeper v t) (Nested p n) h w ws e = let same : v ≡ w = cc in ap (λ (u : Word). p (kind_of u)) (sym same) ∙ h.0
 begins_with _ _ h w ws e = absurd h
 
 -- the last word of two parts is that of the second, or the second has none
@@ -137,21 +121,21 @@ one_last : (v w : Word) (front : List Word) → v ∷ [] ≡ front ++ w ∷ [] �
 one_last v w [] e = cc
 one_last v w (x ∷ front) e = absurd (no_end front w [] (let tail : [] ≡ front ++ w ∷ [] = cc in sym tail))
 
-ends_in : (t : Tree) (f : Form) → Spells rule t f → (front : List Word) (w : Word) → yield t ≡ front ++ w ∷ [] → kind_of w ≡ else_kind → ends f ≡ true
-ends_in (Leaf v) (One p) h front w e is = ap p (sym is) ∙ ap (λ (u : Word). p (kind_of u)) (sym (one_last v w front e)) ∙ h
-ends_in Blank Empty h front w e is = absurd (no_end front w [] (sym e))
-ends_in (Both a b) (Seq f g) h front w e is = elim (last_in (yield a) (yield b) front w e) [
+ends_in : (t : ParseTree) (f : Form) → Derives rule t f → (front : List Word) (w : Word) → yield t ≡ front ++ w ∷ [] → kind_of w ≡ else_kind → ends f ≡ true
+ends_in (Leaf v) (Terminal p) h front w e is = ap p (sym is) ∙ ap (λ (u : Word). p (kind_of u)) (sym (one_last v w front e)) ∙ h
+ends_in NoWords Epsilon h front w e is = absurd (no_end front w [] (sym e))
+ends_in (Pair a b) (Seq f g) h front w e is = elim (last_in (yield a) (yield b) front w e) [
   | inl x ↦ or_left (ends g) (nullable g && ends f) (ends_in b g h.1 x.0 w x.1 is)
   | inr y ↦ or_right (ends g) (nullable g && ends f) (both_true (nullable g) (ends f) (is_empty b g h.1 y.0) (ends_in a f h.0 front w y.1 is))
 ]
-ends_in (First a) (Either f g) h front w e is = or_left (ends f) (ends g) (ends_in a f h front w e is)
-ends_in (Second b) (Either f g) h front w e is = or_right (ends f) (ends g) (ends_in b g h front w e is)
-ends_in (Start a) (Chain f g) h front w e is = or_left (ends f) (ends g) (ends_in a f h front w e is)
-ends_in (More t b) (Chain f g) h front w e is = elim (last_in (yield t) (yield b) front w e) [
+ends_in (Left a) (Alt f g) h front w e is = or_left (ends f) (ends g) (ends_in a f h front w e is)
+ends_in (Right b) (Alt f g) h front w e is = or_right (ends f) (ends g) (ends_in b g h front w e is)
+ends_in (Single a) (Repeat f g) h front w e is = or_left (ends f) (ends g) (ends_in a f h front w e is)
+ends_in (Snoc t b) (Repeat f g) h front w e is = elim (last_in (yield t) (yield b) front w e) [
   | inl x ↦ or_right (ends f) (ends g) (ends_in b g h.1 x.0 w x.1 is)
-  | inr y ↦ ends_in t (Chain f g) h.0 front w y.1 is
+  | inr y ↦ ends_in t (Repeat f g) h.0 front w y.1 is
 ]
-ends_in (Inside v t) (Nest p n) h front w e is = elim (last_in (v ∷ []) (yield t) front w e) [
+ends_in (Deeper v t) (Nested p n) h front w e is = elim (last_in (v ∷ []) (yield t) front w e) [
   | inl x ↦
       let level = and_true (safe (rule n)) (not (ends (rule n))) (levels_safe n) in
       let never : ends (rule n) ≡ false = not_true (ends (rule n)) level.1 in
@@ -159,8 +143,6 @@ ends_in (Inside v t) (Nest p n) h front w e is = elim (last_in (v ∷ []) (yield
       absurd cc
   | inr y ↦ both_true (nullable (rule n)) (p else_kind) (is_empty t (rule n) h.1 y.0) (ap p (sym is) ∙ ap (λ (u : Word). p (kind_of u)) (sym (one_last v w front y.1)) ∙ h.0)
 ]
-ends_in (Second b) (Unless p f) h front w e is = refl
-ends_in (Shut v) (Unless p f) h front w e is = refl
 ends_in _ _ h front w e is = absurd h
 
 -- ---- both
@@ -186,39 +168,39 @@ between (x ∷ xs) ys (z ∷ front) v w back e =
       ]
     ]
 
-apart : (t : Tree) (f : Form) → safe f ≡ true → Spells rule t f → (front : List Word) (v w : Word) (back : List Word) → yield t ≡ front ++ v ∷ w ∷ back → kind_of v ≡ else_kind → kind_of w ≡ colon_kind → ⊥
-apart (Leaf x) (One p) ok h [] v w back e one two = cc
-apart (Leaf x) (One p) ok h (y ∷ front) v w back e one two = no_end front v (w ∷ back) (let tail : [] ≡ front ++ v ∷ w ∷ back = cc in sym tail)
-apart Blank Empty ok h front v w back e one two = no_end front v (w ∷ back) (sym e)
-apart (Both a b) (Seq f g) ok h front v w back e one two =
-    let c = and_true (safe f && safe g) (not (ends f && starts g colon_kind)) ok in
+apart : (t : ParseTree) (f : Form) → safe f ≡ true → Derives rule t f → (front : List Word) (v w : Word) (back : List Word) → yield t ≡ front ++ v ∷ w ∷ back → kind_of v ≡ else_kind → kind_of w ≡ colon_kind → ⊥
+apart (Leaf x) (Terminal p) ok h [] v w back e one two = cc
+apart (Leaf x) (Terminal p) ok h (y ∷ front) v w back e one two = no_end front v (w ∷ back) (let tail : [] ≡ front ++ v ∷ w ∷ back = cc in sym tail)
+apart NoWords Epsilon ok h front v w back e one two = no_end front v (w ∷ back) (sym e)
+apart (Pair a b) (Seq f g) ok h front v w back e one two =
+    let c = and_true (safe f && safe g) (not (ends f && first_set g colon_kind)) ok in
     let parts = and_true (safe f) (safe g) c.0 in
     elim (between (yield a) (yield b) front v w back e) [
       | inl l ↦ apart a f parts.0 h.0 front v w l.0 l.1 one two
       | inr r ↦ elim r [
-        | inl m ↦ never_both (ends f) (starts g colon_kind) c.1 (ends_in a f h.0 front v m.0 one) (ap (starts g) (sym two) ∙ begins_with b g h.1 w back m.1)
+        | inl m ↦ never_both (ends f) (first_set g colon_kind) c.1 (ends_in a f h.0 front v m.0 one) (ap (first_set g) (sym two) ∙ begins_with b g h.1 w back m.1)
         | inr n ↦ apart b g parts.1 h.1 n.0 v w back n.1 one two
       ]
     ]
-apart (First a) (Either f g) ok h front v w back e one two = apart a f (and_true (safe f) (safe g) ok).0 h front v w back e one two
-apart (Second b) (Either f g) ok h front v w back e one two = apart b g (and_true (safe f) (safe g) ok).1 h front v w back e one two
-apart (Start a) (Chain f g) ok h front v w back e one two = apart a f (and_true (safe f) (safe g) (and_true (safe f && safe g) (not ((ends f || ends g) && starts g colon_kind)) ok).0).0 h front v w back e one two
-apart (More t b) (Chain f g) ok h front v w back e one two =
-    let c = and_true (safe f && safe g) (not ((ends f || ends g) && starts g colon_kind)) ok in
+apart (Left a) (Alt f g) ok h front v w back e one two = apart a f (and_true (safe f) (safe g) ok).0 h front v w back e one two
+apart (Right b) (Alt f g) ok h front v w back e one two = apart b g (and_true (safe f) (safe g) ok).1 h front v w back e one two
+apart (Single a) (Repeat f g) ok h front v w back e one two = apart a f (and_true (safe f) (safe g) (and_true (safe f && safe g) (not ((ends f || ends g) && first_set g colon_kind)) ok).0).0 h front v w back e one two
+apart (Snoc t b) (Repeat f g) ok h front v w back e one two =
+    let c = and_true (safe f && safe g) (not ((ends f || ends g) && first_set g colon_kind)) ok in
     let parts = and_true (safe f) (safe g) c.0 in
     elim (between (yield t) (yield b) front v w back e) [
-      | inl l ↦ apart t (Chain f g) ok h.0 front v w l.0 l.1 one two
+      | inl l ↦ apart t (Repeat f g) ok h.0 front v w l.0 l.1 one two
       | inr r ↦ elim r [
-        | inl m ↦ never_both (ends f || ends g) (starts g colon_kind) c.1 (ends_in t (Chain f g) h.0 front v m.0 one) (ap (starts g) (sym two) ∙ begins_with b g h.1 w back m.1)
+        | inl m ↦ never_both (ends f || ends g) (first_set g colon_kind) c.1 (ends_in t (Repeat f g) h.0 front v m.0 one) (ap (first_set g) (sym two) ∙ begins_with b g h.1 w back m.1)
         | inr n ↦ apart b g parts.1 h.1 n.0 v w back n.1 one two
       ]
     ]
-apart (Inside x t) (Nest p n) ok h front v w back e one two =
+apart (Deeper x t) (Nested p n) ok h front v w back e one two =
     let level = and_true (safe (rule n)) (not (ends (rule n))) (levels_safe n) in
     elim (between (x ∷ []) (yield t) front v w back e) [
       | inl l ↦ too_long front l.0 l.1
       | inr r ↦ elim r [
-        | inl m ↦ never_both (p else_kind) (starts (rule n) colon_kind) ok (ap p (sym one) ∙ ap (λ (u : Word). p (kind_of u)) (sym (one_last x v front m.0)) ∙ h.0) (ap (starts (rule n)) (sym two) ∙ begins_with t (rule n) h.1 w back m.1)
+        | inl m ↦ never_both (p else_kind) (first_set (rule n) colon_kind) ok (ap p (sym one) ∙ ap (λ (u : Word). p (kind_of u)) (sym (one_last x v front m.0)) ∙ h.0) (ap (first_set (rule n)) (sym two) ∙ begins_with t (rule n) h.1 w back m.1)
         | inr n_ ↦ apart t (rule n) level.0 h.1 n_.0 v w back n_.1 one two
       ]
     ]
@@ -226,9 +208,7 @@ apart (Inside x t) (Nest p n) ok h front v w back e one two =
     too_long : (front us : List Word) → x ∷ [] ≡ front ++ v ∷ w ∷ us → ⊥
     too_long [] us e = cc
     too_long (y ∷ front) us e = no_end front v (w ∷ us) (let tail : [] ≡ front ++ v ∷ w ∷ us = cc in sym tail)
-apart (Second b) (Unless p f) ok h front v w back e one two = cc
-apart (Shut x) (Unless p f) ok h front v w back e one two = cc
 apart _ _ ok h front v w back e one two = absurd h
 
-pub no_colon_behind : (t : Tree) → Spells rule t config → (front : List Word) (v w : Word) (back : List Word) → yield t ≡ front ++ v ∷ w ∷ back → kind_of v ≡ IsSymbol symbols.Else → kind_of w ≡ IsSymbol symbols.Colon → ⊥
+pub no_colon_behind : (t : ParseTree) → Derives rule t config → (front : List Word) (v w : Word) (back : List Word) → yield t ≡ front ++ v ∷ w ∷ back → kind_of v ≡ IsSymbol symbols.Else → kind_of w ≡ IsSymbol symbols.Colon → ⊥
 no_colon_behind t h front v w back e one two = apart t config refl h front v w back e one two

@@ -1,18 +1,19 @@
 -- The tokens before a refused word, and behind them those of a completion.
-use Rattle.std.proofs.Common.{◌≡◌, ℕ, zero, suc, ◌-◌, Bool, true, false, cond, ◌&&◌, List, [], ◌∷◌, ◌++◌, Option, Some, None, refl, sym, ap, subst, ◌∙◌, arith, append_assoc, inl, inr, ◌⊎◌}
+use Rattle.std.proofs.Common.{◌≡◌, ℕ, zero, suc, ◌-◌, Bool, true, false, cond, ◌&&◌, List, [], ◌∷◌, ◌++◌, Option, Some, None, refl, sym, ap, subst, ◌∙◌, arith, inl, inr, ◌⊎◌}
 use Rattle.std.specs.Prelude.{if◌then◌else◌, codes}
 use Rattle.conf_lex.specs.Symbols.{symbol_of, is_else, is_colon, is_slash}
 use Rattle.conf_lex.specs.Words.{kind_symbol}
 use Rattle.conf_lex.specs.declared.symbol.Symbol.{Symbol}
 use Rattle.conf_lex.specs.declared.symbol.Symbol.TheVariants as symbols
 use Rattle.conf_lex.specs.declared.token.TokenKind.{TokenKind}
-use Rattle.conf_lex.specs.declared.token.TokenKind.TheVariants as sorts
+use Rattle.conf_lex.specs.declared.token.TokenKind.TheVariants as token_kinds
 use Rattle.conf_lex.specs.declared.word.Word.TheVariants as words
 use Rattle.grammar.specs.Kind.{Kind, IsSymbol, kind_of, symbol, name}
-use Rattle.conf_tree.specs.declared.said.Region.{Region}
-use Rattle.conf_tree.specs.declared.said.Region.TheVariants as regions
+use Rattle.conf_tree.specs.declared.significant.Region.{Region}
+use Rattle.conf_tree.specs.declared.significant.Region.TheVariants as regions
 use Rattle.conf_tree.proofs.KindTrees.{kinds_of}
-use Rattle.conf_tree.proofs.Marks.{Mark, sym_of, alone, spelled_kind, colon_first, slash_first, sort_first, behind_one, folded, or_kind, first_kind, no_slash, behind_kind, says_kind, heard, front_heard, state}
+use Rattle.conf_tree.proofs.Marks.{Mark, sym_of, alone, spelled_kind, colon_first, slash_first, sort_first, behind_one, folded, or_kind, first_kind, no_slash, behind_kind, is_significant_kind, heard, front_heard, state}
+use Rattle.conf_tree.proofs.ByTokens.{is_open}
 use Rattle.conf_laws.specs.Spaced.{AreSpellings}
 use Rattle.conf_laws.proofs.Pieces.{Good, sign_piece, sign_closebrace, is_number}
 use Rattle.conf_laws.proofs.Complete.{words_of}
@@ -23,10 +24,6 @@ use Rattle.conf_laws.proofs.Regions.{Run}
 abbrev pub spell : List Good → List Mark
 spell [] = []
 spell (g ∷ gs) = g.0.1 ++ spell gs
-
-pub spell_both : (gs hs : List Good) → spell (gs ++ hs) ≡ spell gs ++ spell hs
-spell_both [] hs = refl
-spell_both (g ∷ gs) hs = ap (λ (l : List Mark). g.0.1 ++ l) (spell_both gs hs) ∙ sym (append_assoc g.0.1 (spell gs) (spell hs))
 
 pub spellings_both : (xs ys : List Mark) → AreSpellings xs → AreSpellings ys → AreSpellings (xs ++ ys)
 spellings_both [] ys one two = two
@@ -71,7 +68,7 @@ shallow _ = true
 abbrev pub Near : Region → Region → Type 0
 Near q p = ((q ≡ p) × (shallow p ≡ true)) ⊎ ((n : ℕ) × (q ≡ regions.Inside n) × (p ≡ regions.Inside 0))
 
-inside_stays : (n : ℕ) (k : Kind) → says_kind (regions.Inside n) k ≡ false → (m : ℕ) × (behind_kind (regions.Inside n) k ≡ regions.Inside m)
+inside_stays : (n : ℕ) (k : Kind) → is_significant_kind (regions.Inside n) k ≡ false → (m : ℕ) × (behind_kind (regions.Inside n) k ≡ regions.Inside m)
 inside_stays zero k none = by (symbol symbols.OpenBrace k) refl
   where
     by : (b : Bool) → symbol symbols.OpenBrace k ≡ b → (m : ℕ) × (behind_kind (regions.Inside zero) k ≡ regions.Inside m)
@@ -84,7 +81,7 @@ inside_stays (suc n) k none = by (symbol symbols.CloseBrace k) (symbol symbols.O
     by false true is isnt = (suc (suc n), rw (is, isnt) refl)
     by false false is isnt = (suc n, rw (is, isnt) refl)
 
-unsaid_same : (q : Region) (k : Kind) → shallow q ≡ true → says_kind q k ≡ false → Near (behind_kind q k) q
+unsaid_same : (q : Region) (k : Kind) → shallow q ≡ true → is_significant_kind q k ≡ false → Near (behind_kind q k) q
 unsaid_same regions.Statements k flat none = absurd cc
 unsaid_same regions.Log k flat none = inl (rw none refl, refl)
 unsaid_same regions.Protocol k flat none = absurd cc
@@ -93,19 +90,19 @@ unsaid_same regions.Named k flat none = absurd cc
 unsaid_same (regions.Inside zero) k flat none = let s = inside_stays 0 k none in inr (s.0, s.1, refl)
 unsaid_same (regions.Inside (suc n)) k flat none = absurd cc
 
-unsaid_near : (q p : Region) (k : Kind) → Near q p → says_kind q k ≡ false → Near (behind_kind q k) p
+unsaid_near : (q p : Region) (k : Kind) → Near q p → is_significant_kind q k ≡ false → Near (behind_kind q k) p
 unsaid_near q p k (inl h) none =
     let n : Near (behind_kind q k) q = unsaid_same q k (ap shallow h.0 ∙ h.1) none in
     subst (λ (r : Region). Near (behind_kind q k) r) h.0 n
 unsaid_near q p k (inr h) none =
-    let s = inside_stays h.0 k (ap (λ (r : Region). says_kind r k) (sym h.1) ∙ none) in
+    let s = inside_stays h.0 k (ap (λ (r : Region). is_significant_kind r k) (sym h.1) ∙ none) in
     inr (s.0, ap (λ (r : Region). behind_kind r k) h.1 ∙ s.1, h.2)
 
 shallow_cond : (b : Bool) (r q : Region) → shallow r ≡ true → shallow q ≡ true → shallow (cond b r q) ≡ true
 shallow_cond true r q e h = e
 shallow_cond false r q e h = h
 
-shallow_behind : (p : Region) (k : Kind) → shallow p ≡ true → says_kind p k ≡ true → shallow (behind_kind p k) ≡ true
+shallow_behind : (p : Region) (k : Kind) → shallow p ≡ true → is_significant_kind p k ≡ true → shallow (behind_kind p k) ≡ true
 shallow_behind regions.Statements k flat says = shallow_cond (symbol symbols.Log k) _ _ refl (shallow_cond (symbol symbols.Protocol k) _ _ refl refl)
 shallow_behind regions.Log k flat says = shallow_cond (symbol symbols.Semicolon k) _ _ refl refl
 shallow_behind regions.Protocol k flat says = shallow_cond (symbol symbols.Device k) _ _ refl refl
@@ -114,21 +111,21 @@ shallow_behind regions.Named k flat says = shallow_cond (symbol symbols.OpenBrac
 shallow_behind (regions.Inside zero) k flat says = rw says refl
 shallow_behind (regions.Inside (suc n)) k flat says = absurd cc
 
-said_same : (n : ℕ) (k : Kind) → says_kind (regions.Inside n) k ≡ true → n ≡ 0
-said_same zero k says = refl
-said_same (suc n) k says = absurd cc
+significant_same : (n : ℕ) (k : Kind) → is_significant_kind (regions.Inside n) k ≡ true → n ≡ 0
+significant_same zero k says = refl
+significant_same (suc n) k says = absurd cc
 
-said_flat : (q p : Region) (k : Kind) → q ≡ p → shallow p ≡ true → says_kind q k ≡ true → Near (behind_kind q k) (behind_kind p k)
-said_flat q p k same flat says = inl (ap (λ (r : Region). behind_kind r k) same, shallow_behind p k flat (ap (λ (r : Region). says_kind r k) (sym same) ∙ says))
+significant_flat : (q p : Region) (k : Kind) → q ≡ p → shallow p ≡ true → is_significant_kind q k ≡ true → Near (behind_kind q k) (behind_kind p k)
+significant_flat q p k same flat says = inl (ap (λ (r : Region). behind_kind r k) same, shallow_behind p k flat (ap (λ (r : Region). is_significant_kind r k) (sym same) ∙ says))
 
-said_near : (q p : Region) (k : Kind) → Near q p → says_kind q k ≡ true → Near (behind_kind q k) (behind_kind p k)
-said_near q p k (inl h) says = said_flat q p k h.0 h.1 says
-said_near q p k (inr h) says =
-    let flat = said_same h.0 k (ap (λ (r : Region). says_kind r k) (sym h.1) ∙ says) in
-    said_flat q p k (h.1 ∙ ap (λ (n : ℕ). regions.Inside n) flat ∙ sym h.2) (ap shallow h.2) says
+significant_near : (q p : Region) (k : Kind) → Near q p → is_significant_kind q k ≡ true → Near (behind_kind q k) (behind_kind p k)
+significant_near q p k (inl h) says = significant_flat q p k h.0 h.1 says
+significant_near q p k (inr h) says =
+    let flat = significant_same h.0 k (ap (λ (r : Region). is_significant_kind r k) (sym h.1) ∙ says) in
+    significant_flat q p k (h.1 ∙ ap (λ (n : ℕ). regions.Inside n) flat ∙ sym h.2) (ap shallow h.2) says
 
-near_step : (q p : Region) (k : Kind) (fh : List Kind) (s : Region) → Near q p → (Near (behind_kind q k) (behind_kind p k) → Near s (after (behind_kind p k) fh)) → (Near (behind_kind q k) p → Near s (after p fh)) → (b : Bool) → says_kind q k ≡ b → Near s (after p (cond b (k ∷ fh) fh))
-near_step q p k fh s near one other true says = one (said_near q p k near says)
+near_step : (q p : Region) (k : Kind) (fh : List Kind) (s : Region) → Near q p → (Near (behind_kind q k) (behind_kind p k) → Near s (after (behind_kind p k) fh)) → (Near (behind_kind q k) p → Near s (after p fh)) → (b : Bool) → is_significant_kind q k ≡ b → Near s (after p (cond b (k ∷ fh) fh))
+near_step q p k fh s near one other true says = one (significant_near q p k near says)
 near_step q p k fh s near one other false none = other (unsaid_near q p k near none)
 
 -- the region behind a front, by the kinds that are heard of it
@@ -139,29 +136,29 @@ front_near q p zero (m ∷ ms) rest near =
     let k = first_kind m (ms ++ rest) in
     near_step q p k.0 (front_heard (behind_kind q k.0) (k.1 - 1) ms rest) (state (behind_kind q k.0) (k.1 - 1) ms rest).0 near
     (λ n. front_near (behind_kind q k.0) (behind_kind p k.0) (k.1 - 1) ms rest n)
-    (λ n. front_near (behind_kind q k.0) p (k.1 - 1) ms rest n) (says_kind q k.0) refl
+    (λ n. front_near (behind_kind q k.0) p (k.1 - 1) ms rest n) (is_significant_kind q k.0) refl
 
 -- ---- braces that a device's block wants closed
 
 abbrev pub braces : ℕ → List Good
 braces zero = []
-braces (suc n) = ((words.Symbol symbols.CloseBrace, (codes "}", sorts.Sign) ∷ []), sign_piece symbols.CloseBrace (codes "}") sign_closebrace (refl, λ e. refl) refl refl) ∷ braces n
+braces (suc n) = ((words.Symbol symbols.CloseBrace, (codes "}", token_kinds.Punctuation) ∷ []), sign_piece symbols.CloseBrace (codes "}") sign_closebrace (refl, λ e. refl) refl refl) ∷ braces n
 
 closed : (n : ℕ) (gs : List Good) → heard (regions.Inside n) 0 (spell (braces n ++ gs)) ≡ heard (regions.Inside 0) 0 (spell gs)
 closed zero gs = refl
 closed (suc n) gs =
     (sign_piece symbols.CloseBrace (codes "}") sign_closebrace (refl, λ e. refl) refl refl).heard (regions.Inside (suc n)) (spell (braces n ++ gs)) (calm_slash (braces n ++ gs)) ∙ closed n gs
 
-brace_no_colon : (rest : List Mark) → colon_first ((codes "}", sorts.Sign) ∷ rest) ≡ false
+brace_no_colon : (rest : List Mark) → colon_first ((codes "}", token_kinds.Punctuation) ∷ rest) ≡ false
 unfolding symbol_of
 brace_no_colon rest = refl
 
-unsaid : (gs : List Good) (s : Region) → Run (regions.Inside 0) (kinds_of (words_of gs)) s → (g : Good) (hs : List Good) → gs ≡ g ∷ hs → says_kind (regions.Inside 0) (kind_of g.0.0) ≡ false → ⊥
+unsaid : (gs : List Good) (s : Region) → Run (regions.Inside 0) (kinds_of (words_of gs)) s → (g : Good) (hs : List Good) → gs ≡ g ∷ hs → is_significant_kind (regions.Inside 0) (kind_of g.0.0) ≡ false → ⊥
 unsaid [] s run g hs e none = cc
 unsaid (x ∷ gs) s run g hs e none =
     let same : x ≡ g = cc in
-    let never : says_kind (regions.Inside 0) (kind_of x.0.0) ≡ false = ap (λ (y : Good). says_kind (regions.Inside 0) (kind_of y.0.0)) same ∙ none in
-    let yes : says_kind (regions.Inside 0) (kind_of x.0.0) ≡ true = run.0 in
+    let never : is_significant_kind (regions.Inside 0) (kind_of x.0.0) ≡ false = ap (λ (y : Good). is_significant_kind (regions.Inside 0) (kind_of y.0.0)) same ∙ none in
+    let yes : is_significant_kind (regions.Inside 0) (kind_of x.0.0) ≡ true = run.0 in
     let both : true ≡ false = sym yes ∙ never in
     cc
 
@@ -169,17 +166,17 @@ unsaid (x ∷ gs) s run g hs e none =
 pub record Tail (q : Region) (gs : List Good) : Type 0 where
   pub all : List Good
   pub heard : heard q 0 (spell all) ≡ kinds_of (words_of gs)
-  pub colon : colon_first (spell all) ≡ true → (g : Good) × (hs : List Good) × (gs ≡ g ∷ hs) × (kind_of g.0.0 ≡ IsSymbol symbols.Colon) × (says_kind q (IsSymbol symbols.Colon) ≡ true)
-  pub same : (g : Good) (hs : List Good) → gs ≡ g ∷ hs → says_kind (regions.Inside 0) (kind_of g.0.0) ≡ false → all ≡ gs
+  pub colon : colon_first (spell all) ≡ true → (g : Good) × (hs : List Good) × (gs ≡ g ∷ hs) × (kind_of g.0.0 ≡ IsSymbol symbols.Colon) × (is_significant_kind q (IsSymbol symbols.Colon) ≡ true)
+  pub same : (g : Good) (hs : List Good) → gs ≡ g ∷ hs → is_significant_kind (regions.Inside 0) (kind_of g.0.0) ≡ false → all ≡ gs
 
 tail_of : (q s : Region) (gs : List Good) → Run q (kinds_of (words_of gs)) s → Tail q gs
 tail_of q s gs run = record { all = gs; heard = heard_run q s gs run; colon = λ e. by gs run e; same = λ g hs e none. refl }
   where
-    by : (gs : List Good) → Run q (kinds_of (words_of gs)) s → colon_first (spell gs) ≡ true → (g : Good) × (hs : List Good) × (gs ≡ g ∷ hs) × (kind_of g.0.0 ≡ IsSymbol symbols.Colon) × (says_kind q (IsSymbol symbols.Colon) ≡ true)
+    by : (gs : List Good) → Run q (kinds_of (words_of gs)) s → colon_first (spell gs) ≡ true → (g : Good) × (hs : List Good) × (gs ≡ g ∷ hs) × (kind_of g.0.0 ≡ IsSymbol symbols.Colon) × (is_significant_kind q (IsSymbol symbols.Colon) ≡ true)
     by [] run e = absurd cc
     by (g ∷ gs) run e =
         let is = g.1.colon (spell gs) e in
-        (g, gs, refl, is, ap (says_kind q) (sym is) ∙ run.0)
+        (g, gs, refl, is, ap (is_significant_kind q) (sym is) ∙ run.0)
 
 pub near_tail : (q p s : Region) (gs : List Good) → Near q p → Run p (kinds_of (words_of gs)) s → Tail q gs
 near_tail q p s gs (inl h) run = tail_of q s gs (subst (λ (r : Region). Run r (kinds_of (words_of gs)) s) (sym h.0) run)
@@ -194,12 +191,7 @@ near_tail q p s gs (inr h) run = subst (λ (r : Region). Tail r gs) (sym h.1) (b
 
 -- ---- a front with a completion behind it
 
-abbrev pub is_open : Region → Bool
-is_open regions.Log = false
-is_open (regions.Inside n) = false
-is_open _ = true
-
-pub open_colon : (q : Region) → says_kind q (IsSymbol symbols.Colon) ≡ true → is_open q ≡ true
+pub open_colon : (q : Region) → is_significant_kind q (IsSymbol symbols.Colon) ≡ true → is_open q ≡ true
 open_colon regions.Statements e = refl
 open_colon regions.Log e = absurd cc
 open_colon regions.Protocol e = refl
@@ -208,7 +200,7 @@ open_colon regions.Named e = refl
 open_colon (regions.Inside zero) e = absurd cc
 open_colon (regions.Inside (suc n)) e = absurd cc
 
-open_else : (r : Region) → is_open (behind_kind r (IsSymbol symbols.Else)) ≡ true → says_kind r (IsSymbol symbols.Else) ≡ true
+open_else : (r : Region) → is_open (behind_kind r (IsSymbol symbols.Else)) ≡ true → is_significant_kind r (IsSymbol symbols.Else) ≡ true
 open_else regions.Statements e = refl
 open_else regions.Log e = absurd cc
 open_else regions.Protocol e = refl
@@ -222,19 +214,19 @@ abbrev pub Off : Region → List Kind → List Mark → Type 0
 Off q ks ns = colon_first ns ≡ true → (is_open q ≡ true) × ((js : List Kind) → ks ≡ js ++ IsSymbol symbols.Else ∷ [] → ⊥)
 
 fold_none : (k : TokenKind) (b : Bool) (o : Option TokenKind) → is_number o ≡ false → folded k b o ≡ None
-fold_none (sorts.Ip addr) true None e = refl
-fold_none (sorts.Ip addr) true (Some (sorts.Number n)) e = absurd cc
-fold_none (sorts.Ip addr) true (Some sorts.Name) e = refl
-fold_none (sorts.Ip addr) true (Some sorts.Quoted) e = refl
-fold_none (sorts.Ip addr) true (Some (sorts.Ip a)) e = refl
-fold_none (sorts.Ip addr) true (Some sorts.Text) e = refl
-fold_none (sorts.Ip addr) true (Some sorts.Sign) e = refl
-fold_none (sorts.Ip addr) false o e = refl
-fold_none sorts.Name b o e = refl
-fold_none sorts.Quoted b o e = refl
-fold_none (sorts.Number n) b o e = refl
-fold_none sorts.Text b o e = refl
-fold_none sorts.Sign b o e = refl
+fold_none (token_kinds.Ip addr) true None e = refl
+fold_none (token_kinds.Ip addr) true (Some (token_kinds.Number n)) e = absurd cc
+fold_none (token_kinds.Ip addr) true (Some token_kinds.Name) e = refl
+fold_none (token_kinds.Ip addr) true (Some token_kinds.QuotedName) e = refl
+fold_none (token_kinds.Ip addr) true (Some (token_kinds.Ip a)) e = refl
+fold_none (token_kinds.Ip addr) true (Some token_kinds.Text) e = refl
+fold_none (token_kinds.Ip addr) true (Some token_kinds.Punctuation) e = refl
+fold_none (token_kinds.Ip addr) false o e = refl
+fold_none token_kinds.Name b o e = refl
+fold_none token_kinds.QuotedName b o e = refl
+fold_none (token_kinds.Number n) b o e = refl
+fold_none token_kinds.Text b o e = refl
+fold_none token_kinds.Punctuation b o e = refl
 
 size_one : (o : Option Kind) (k : Kind) → (or_kind o k).1 - 1 ≡ 0 → or_kind o k ≡ (k, 1)
 size_one None k e = refl
@@ -245,22 +237,22 @@ size_two None k e = refl
 size_two (Some j) k e = absurd (omega (arith, e))
 
 else_is : (slice : List ℕ) (k : TokenKind) → is_else (kind_symbol slice k) ≡ true → alone slice k ≡ IsSymbol symbols.Else
-else_is slice sorts.Name e = spelled (symbol_of slice) e
+else_is slice token_kinds.Name e = spelled (symbol_of slice) e
   where
     spelled : (o : Option Symbol) → is_else o ≡ true → spelled_kind o ≡ IsSymbol symbols.Else
     spelled (Some symbols.Else) e = refl
     spelled (Some _) e = absurd cc
     spelled None e = absurd cc
-else_is slice sorts.Sign e = spelled (symbol_of slice) e
+else_is slice token_kinds.Punctuation e = spelled (symbol_of slice) e
   where
     spelled : (o : Option Symbol) → is_else o ≡ true → spelled_kind o ≡ IsSymbol symbols.Else
     spelled (Some symbols.Else) e = refl
     spelled (Some _) e = absurd cc
     spelled None e = absurd cc
-else_is slice sorts.Quoted e = absurd cc
-else_is slice (sorts.Number n) e = absurd cc
-else_is slice (sorts.Ip addr) e = absurd cc
-else_is slice sorts.Text e = absurd cc
+else_is slice token_kinds.QuotedName e = absurd cc
+else_is slice (token_kinds.Number n) e = absurd cc
+else_is slice (token_kinds.Ip addr) e = absurd cc
+else_is slice token_kinds.Text e = absurd cc
 
 -- the word that the last mark of a front is, with other marks behind it
 module _ (r : Region) (m : Mark) (rest ns : List Mark) (slash : slash_first ns ≡ false) where
@@ -287,7 +279,7 @@ module _ (r : Region) (m : Mark) (rest ns : List Mark) (slash : slash_first ns �
   old_alone true o e = absurd (omega (arith, e))
   old_alone false o e = (refl, size_one o (alone m.0 m.1) e)
 
-  last_first : (first_kind m rest).1 - 1 ≡ 0 → Off (behind_kind r (first_kind m rest).0) (cond (says_kind r (first_kind m rest).0) ((first_kind m rest).0 ∷ []) []) ns → first_kind m ns ≡ first_kind m rest
+  last_first : (first_kind m rest).1 - 1 ≡ 0 → Off (behind_kind r (first_kind m rest).0) (cond (is_significant_kind r (first_kind m rest).0) ((first_kind m rest).0 ∷ []) []) ns → first_kind m ns ≡ first_kind m rest
   last_first one off =
       let old = old_alone (is_else (sym_of m) && colon_first rest) (folded m.1 (slash_first rest) (sort_first (behind_one rest))) one in
       by (is_else (sym_of m)) (colon_first ns) refl refl old.1
@@ -296,9 +288,9 @@ module _ (r : Region) (m : Mark) (rest ns : List Mark) (slash : slash_first ns �
       by true true is colon old =
           let o = off colon in
           let k : (first_kind m rest).0 ≡ IsSymbol symbols.Else = ap (λ (j : Kind × ℕ). j.0) old ∙ else_is m.0 m.1 is in
-          let says : says_kind r (IsSymbol symbols.Else) ≡ true = open_else r (ap (λ (j : Kind). is_open (behind_kind r j)) (sym k) ∙ o.0) in
-          let ends : cond (says_kind r (first_kind m rest).0) ((first_kind m rest).0 ∷ []) [] ≡ [] ++ IsSymbol symbols.Else ∷ [] =
-          ap (λ (j : Kind). cond (says_kind r j) (j ∷ []) []) k ∙ ap (λ (b : Bool). cond b (IsSymbol symbols.Else ∷ []) []) says in
+          let says : is_significant_kind r (IsSymbol symbols.Else) ≡ true = open_else r (ap (λ (j : Kind). is_open (behind_kind r j)) (sym k) ∙ o.0) in
+          let ends : cond (is_significant_kind r (first_kind m rest).0) ((first_kind m rest).0 ∷ []) [] ≡ [] ++ IsSymbol symbols.Else ∷ [] =
+          ap (λ (j : Kind). cond (is_significant_kind r j) (j ∷ []) []) k ∙ ap (λ (b : Bool). cond b (IsSymbol symbols.Else ∷ []) []) says in
           absurd (o.1 [] ends)
       by true false is colon old = ap (λ (b : Bool). made b (folded m.1 (slash_first ns) (sort_first (behind_one ns)))) (no_sign true false is colon) ∙ ap (λ (o : Option Kind). or_kind o (alone m.0 m.1)) new_none ∙ sym old
       by false c is colon old = ap (λ (b : Bool). made b (folded m.1 (slash_first ns) (sort_first (behind_one ns)))) (no_else (colon_first ns) is) ∙ ap (λ (o : Option Kind). or_kind o (alone m.0 m.1)) new_none ∙ sym old
@@ -326,8 +318,8 @@ kept_more : (r : Region) (m : Mark) (ms rest ns : List Mark) → first_kind m (m
 kept_more r m ms rest ns same k =
     let j = first_kind m (ms ++ rest) in
     record {
-      heard = ap (λ (i : Kind × ℕ). cond (says_kind r i.0) (i.0 ∷ front_heard (behind_kind r i.0) (i.1 - 1) ms ns) (front_heard (behind_kind r i.0) (i.1 - 1) ms ns)) same
-          ∙ ap (λ (l : List Kind). cond (says_kind r j.0) (j.0 ∷ l) l) k.heard;
+      heard = ap (λ (i : Kind × ℕ). cond (is_significant_kind r i.0) (i.0 ∷ front_heard (behind_kind r i.0) (i.1 - 1) ms ns) (front_heard (behind_kind r i.0) (i.1 - 1) ms ns)) same
+          ∙ ap (λ (l : List Kind). cond (is_significant_kind r j.0) (j.0 ∷ l) l) k.heard;
       state = ap (λ (i : Kind × ℕ). state (behind_kind r i.0) (i.1 - 1) ms ns) same ∙ k.state;
     }
 
@@ -350,7 +342,7 @@ kept r zero (m ∷ []) rest ns done slash number off =
     rest_state = refl
 kept r zero (m ∷ n ∷ []) rest ns done slash number off =
     let j = first_kind m (n ∷ rest) in
-    let more = off_more (state r zero (m ∷ n ∷ []) rest).0 (says_kind r j.0) j.0 (front_heard (behind_kind r j.0) (j.1 - 1) (n ∷ []) rest) ns off in
+    let more = off_more (state r zero (m ∷ n ∷ []) rest).0 (is_significant_kind r j.0) j.0 (front_heard (behind_kind r j.0) (j.1 - 1) (n ∷ []) rest) ns off in
     kept_more r m (n ∷ []) rest ns (before_first m n rest ns number (two (behind_kind r j.0) (j.1 - 1) done))
     (kept (behind_kind r j.0) (j.1 - 1) (n ∷ []) rest ns done slash number more)
   where
@@ -359,6 +351,6 @@ kept r zero (m ∷ n ∷ []) rest ns done slash number off =
     two q (suc k) e = omega (arith, e)
 kept r zero (m ∷ n ∷ o ∷ ms) rest ns done slash number off =
     let j = first_kind m (n ∷ o ∷ (ms ++ rest)) in
-    let more = off_more (state r zero (m ∷ n ∷ o ∷ ms) rest).0 (says_kind r j.0) j.0 (front_heard (behind_kind r j.0) (j.1 - 1) (n ∷ o ∷ ms) rest) ns off in
+    let more = off_more (state r zero (m ∷ n ∷ o ∷ ms) rest).0 (is_significant_kind r j.0) j.0 (front_heard (behind_kind r j.0) (j.1 - 1) (n ∷ o ∷ ms) rest) ns off in
     kept_more r m (n ∷ o ∷ ms) rest ns refl
     (kept (behind_kind r j.0) (j.1 - 1) (n ∷ o ∷ ms) rest ns done slash number more)

@@ -8,7 +8,7 @@ use Rattle.bits_ip.specs.declared.address.Addr.TheVariants.{V4}
 use Rattle.conf_lex.specs.Symbols.{symbol_of, is_placed, is_else, is_colon, is_slash}
 use Rattle.conf_lex.specs.Words.{symbol_word}
 use Rattle.conf_lex.specs.Shapes.{IsShape, IsDigits}
-use Rattle.conf_lex.specs.declared.shapes.Sort.TheVariants as sorts
+use Rattle.conf_lex.specs.declared.scan.Lexeme.TheVariants as lexemes
 use Rattle.conf_lex.specs.declared.symbol.Symbol.{Symbol}
 use Rattle.conf_lex.specs.declared.symbol.Symbol.TheVariants as symbols
 use Rattle.conf_lex.specs.declared.token.TokenKind.{TokenKind}
@@ -16,8 +16,8 @@ use Rattle.conf_lex.specs.declared.token.TokenKind.TheVariants as kinds
 use Rattle.conf_lex.specs.declared.word.Word.{Word}
 use Rattle.conf_lex.specs.declared.word.Word.TheVariants as words
 use Rattle.grammar.specs.Kind.{Kind, IsAddress, IsSymbol, kind_of}
-use Rattle.conf_tree.specs.declared.said.Region.{Region}
-use Rattle.conf_tree.proofs.Marks.{Mark, sym_of, alone, spelled_kind, colon_first, slash_first, sort_first, behind_one, folded, first_kind, behind_kind, says_kind, heard}
+use Rattle.conf_tree.specs.declared.significant.Region.{Region}
+use Rattle.conf_tree.proofs.Marks.{Mark, sym_of, alone, spelled_kind, colon_first, slash_first, sort_first, behind_one, folded, first_kind, behind_kind, is_significant_kind, heard}
 use Rattle.conf_laws.specs.Spaced.{IsSpelling, AreSpellings}
 
 abbrev pub is_ip : TokenKind → Bool
@@ -31,14 +31,14 @@ is_number _ = false
 pub no_ip : (k : TokenKind) (b : Bool) (o : Option TokenKind) → is_ip k ≡ false → folded k b o ≡ None
 no_ip (kinds.Ip addr) b o e = absurd cc
 no_ip kinds.Name b o e = refl
-no_ip kinds.Quoted b o e = refl
+no_ip kinds.QuotedName b o e = refl
 no_ip (kinds.Number n) b o e = refl
 no_ip kinds.Text b o e = refl
-no_ip kinds.Sign b o e = refl
+no_ip kinds.Punctuation b o e = refl
 
 -- what is heard where a word of this kind comes first
 abbrev pub heard_then : Region → Kind → List Mark → List Kind
-heard_then r k rest = cond (says_kind r k) (k ∷ heard (behind_kind r k) 0 rest) (heard (behind_kind r k) 0 rest)
+heard_then r k rest = cond (is_significant_kind r k) (k ∷ heard (behind_kind r k) 0 rest) (heard (behind_kind r k) 0 rest)
 
 -- a word and its tokens
 abbrev pub Piece : Type 0
@@ -55,7 +55,7 @@ abbrev pub Good : Type 0
 Good = (p : Piece) × IsPiece p
 
 one_heard : (r : Region) (m : Mark) (rest : List Mark) (k : Kind) → first_kind m rest ≡ (k, 1) → heard r 0 (m ∷ rest) ≡ heard_then r k rest
-one_heard r m rest k e = ap (λ (j : Kind × ℕ). cond (says_kind r j.0) (j.0 ∷ heard (behind_kind r j.0) (j.1 - 1) rest) (heard (behind_kind r j.0) (j.1 - 1) rest)) e
+one_heard r m rest k e = ap (λ (j : Kind × ℕ). cond (is_significant_kind r j.0) (j.0 ∷ heard (behind_kind r j.0) (j.1 - 1) rest) (heard (behind_kind r j.0) (j.1 - 1) rest)) e
 
 plain_first : (m : Mark) (rest : List Mark) → is_else (sym_of m) ≡ false → is_ip m.1 ≡ false → first_kind m rest ≡ (alone m.0 m.1, 1)
 plain_first m rest plain no_addr = rw (plain, no_ip m.1 (slash_first rest) (sort_first (behind_one rest)) no_addr) refl
@@ -69,19 +69,19 @@ colon_is symbols.Colon e = refl
 colon_is _ e = absurd cc
 
 -- a word or sign of the grammars, spelled so
-pub word_piece : (s : Symbol) (slice : List ℕ) → symbol_of slice ≡ Some s → IsShape sorts.Word slice (32 ∷ []) → is_else (Some s) ≡ false → is_slash (Some s) ≡ false → IsPiece (symbol_word 0 s, (slice, kinds.Name) ∷ [])
+pub word_piece : (s : Symbol) (slice : List ℕ) → symbol_of slice ≡ Some s → IsShape lexemes.Word slice (32 ∷ []) → is_else (Some s) ≡ false → is_slash (Some s) ≡ false → IsPiece (symbol_word 0 s, (slice, kinds.Name) ∷ [])
 word_piece s slice is shape no_else slash = record {
-  spelled = (record { sort = sorts.Word; shape = shape; value = tt }, tt);
+  spelled = (record { sort = lexemes.Word; shape = shape; value = tt }, tt);
   heard = λ r rest calm. one_heard r (slice, kinds.Name) rest (kind_of (symbol_word 0 s)) (plain_first (slice, kinds.Name) rest (ap is_else is ∙ no_else) refl ∙ ap (λ (k : Kind). (k, 1)) (ap spelled_kind is ∙ sym (symbol_kind s (is_placed s) refl)));
   no_slash = λ rest. ap is_slash is ∙ slash;
   no_number = λ rest. refl;
   colon = λ rest e. symbol_kind s (is_placed s) refl ∙ ap IsSymbol (colon_is s (ap is_colon (sym is) ∙ e));
 }
 
-pub sign_piece : (s : Symbol) (slice : List ℕ) → symbol_of slice ≡ Some s → IsShape sorts.Mark slice (32 ∷ []) → is_else (Some s) ≡ false → is_slash (Some s) ≡ false → IsPiece (symbol_word 0 s, (slice, kinds.Sign) ∷ [])
+pub sign_piece : (s : Symbol) (slice : List ℕ) → symbol_of slice ≡ Some s → IsShape lexemes.Punctuation slice (32 ∷ []) → is_else (Some s) ≡ false → is_slash (Some s) ≡ false → IsPiece (symbol_word 0 s, (slice, kinds.Punctuation) ∷ [])
 sign_piece s slice is shape no_else slash = record {
-  spelled = (record { sort = sorts.Mark; shape = shape; value = tt }, tt);
-  heard = λ r rest calm. one_heard r (slice, kinds.Sign) rest (kind_of (symbol_word 0 s)) (plain_first (slice, kinds.Sign) rest (ap is_else is ∙ no_else) refl ∙ ap (λ (k : Kind). (k, 1)) (ap spelled_kind is ∙ sym (symbol_kind s (is_placed s) refl)));
+  spelled = (record { sort = lexemes.Punctuation; shape = shape; value = tt }, tt);
+  heard = λ r rest calm. one_heard r (slice, kinds.Punctuation) rest (kind_of (symbol_word 0 s)) (plain_first (slice, kinds.Punctuation) rest (ap is_else is ∙ no_else) refl ∙ ap (λ (k : Kind). (k, 1)) (ap spelled_kind is ∙ sym (symbol_kind s (is_placed s) refl)));
   no_slash = λ rest. ap is_slash is ∙ slash;
   no_number = λ rest. refl;
   colon = λ rest e. symbol_kind s (is_placed s) refl ∙ ap IsSymbol (colon_is s (ap is_colon (sym is) ∙ e));
@@ -89,9 +89,9 @@ sign_piece s slice is shape no_else slash = record {
 
 -- ---- the pieces
 
-pub quoted_piece : IsPiece (words.Name 0 0 0, (codes "'a'", kinds.Quoted) ∷ [])
+pub quoted_piece : IsPiece (words.Name 0 0 0, (codes "'a'", kinds.QuotedName) ∷ [])
 quoted_piece = record {
-  spelled = (record { sort = sorts.Quote; shape = record { name = 97 ∷ []; whole = refl; some = omega arith; bytes = refl }; value = tt }, tt);
+  spelled = (record { sort = lexemes.QuotedName; shape = record { name = 97 ∷ []; whole = refl; some = omega arith; bytes = refl }; value = tt }, tt);
   heard = λ r rest calm. refl;
   no_slash = λ rest. refl;
   no_number = λ rest. refl;
@@ -100,24 +100,21 @@ quoted_piece = record {
 
 pub text_piece : IsPiece (words.Text 0 0 0, (34 ∷ 34 ∷ [], kinds.Text) ∷ [])
 text_piece = record {
-  spelled = (record { sort = sorts.Text; shape = record { text = []; whole = refl; bytes = refl }; value = tt }, tt);
+  spelled = (record { sort = lexemes.Text; shape = record { text = []; whole = refl; bytes = refl }; value = tt }, tt);
   heard = λ r rest calm. refl;
   no_slash = λ rest. refl;
   no_number = λ rest. refl;
   colon = λ rest e. absurd cc;
 }
 
-pub zero_mark : Mark
-zero_mark = (codes "0.0.0.0", kinds.Ip (V4 0))
-
-zero_dotted : IsShape sorts.Dotted (codes "0.0.0.0") (32 ∷ [])
+zero_dotted : IsShape lexemes.Ipv4 (codes "0.0.0.0") (32 ∷ [])
 zero_dotted = (48 ∷ [], codes "0.0.0", zero_digit, refl, (48 ∷ [], codes "0.0", zero_digit, refl, (48 ∷ [], 48 ∷ [], zero_digit, refl, zero_digit)))
   where
     zero_digit : IsDigits (48 ∷ [])
     zero_digit = (omega arith, refl)
 
 zero_spelling : IsSpelling (codes "0.0.0.0", kinds.Ip (V4 0))
-zero_spelling = record { sort = sorts.Dotted; shape = zero_dotted; value = (omega arith, zero_text) }
+zero_spelling = record { sort = lexemes.Ipv4; shape = zero_dotted; value = (omega arith, zero_text) }
   where
     zero_text : codes "0.0.0.0" ≡ v4_text 0
     zero_text = let zero : decimal 0 ≡ 48 ∷ [] = decimal_digit 0 (omega arith) in rw zero refl
@@ -131,10 +128,10 @@ address_piece = record {
   colon = λ rest e. absurd cc;
 }
 
-pub prefix_piece : IsPiece (words.Prefix 0 (record { addr = V4 0; len = 0 }), (codes "0.0.0.0", kinds.Ip (V4 0)) ∷ (47 ∷ [], kinds.Sign) ∷ (48 ∷ [], kinds.Number 0) ∷ [])
+pub prefix_piece : IsPiece (words.Prefix 0 (record { addr = V4 0; len = 0 }), (codes "0.0.0.0", kinds.Ip (V4 0)) ∷ (47 ∷ [], kinds.Punctuation) ∷ (48 ∷ [], kinds.Number 0) ∷ [])
 unfolding symbol_of
 prefix_piece = record {
-  spelled = (zero_spelling, (record { sort = sorts.Mark; shape = (refl, λ e. refl); value = tt }, (record { sort = sorts.Decimal; shape = (omega arith, refl); value = record { some = omega arith; value = refl; fits = omega arith } }, tt)));
+  spelled = (zero_spelling, (record { sort = lexemes.Punctuation; shape = (refl, λ e. refl); value = tt }, (record { sort = lexemes.Decimal; shape = (omega arith, refl); value = record { some = omega arith; value = refl; fits = omega arith } }, tt)));
   heard = λ r rest calm. refl;
   no_slash = λ rest. refl;
   no_number = λ rest. refl;

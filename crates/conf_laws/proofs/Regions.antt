@@ -1,31 +1,29 @@
 -- In a sentence each word says something, and behind it the next statement begins.
-use Rattle.std.proofs.Common.{◌≡◌, ℕ, zero, suc, Bool, true, false, ◌&&◌, List, [], ◌∷◌, ◌++◌, refl, sym, ap, subst, ◌∙◌}
+use Rattle.std.proofs.Common.{◌≡◌, Bool, true, false, ◌&&◌, List, [], ◌∷◌, ◌++◌, refl, sym, ap, subst, ◌∙◌}
 use Rattle.conf_lex.specs.declared.symbol.Symbol.{Symbol}
 use Rattle.conf_lex.specs.declared.symbol.Symbol.TheVariants as symbols
 use Rattle.conf_lex.specs.declared.word.Word.{Word}
 use Rattle.grammar.specs.Kind.{Kind, IsSymbol, IsName, kind_of, symbol, name}
-use Rattle.grammar.specs.Grammar.{Form, One, Empty, Seq, Either, Chain, Nest, Unless, Tree, Leaf, Blank, Both, First, Second, Start, More, Inside, Shut, yield, Spells}
+use Rattle.grammar.specs.Grammar.{Terminal, Epsilon, Seq, Alt, Repeat, Nested, ParseTree, Leaf, NoWords, Pair, Left, Right, Single, Snoc, Deeper, yield, Derives}
 use Rattle.grammar.proofs.Checks.{and_true, not, not_true}
 use Rattle.grammar.proofs.Symbols.{same_symbol}
 use Rattle.filt_syntax.specs.Syntax.{rule, optional, semicolon}
+use Rattle.filt_syntax.specs.Levels.{Level, Form, group_level}
 use Rattle.conf_tree.specs.Syntax.{config, statement, router_id, log, define, table, function, filter, protocol, device, protocol_of, protocol_end, ended_options, static_option, bgp_option, pipe_option}
-use Rattle.conf_tree.specs.declared.said.Region.{Region}
-use Rattle.conf_tree.specs.declared.said.Region.TheVariants as regions
+use Rattle.conf_tree.specs.declared.significant.Region.{Region}
+use Rattle.conf_tree.specs.declared.significant.Region.TheVariants as regions
 use Rattle.conf_tree.proofs.KindTrees.{kinds_of}
-use Rattle.conf_tree.proofs.Marks.{behind_kind, says_kind}
+use Rattle.conf_tree.proofs.Marks.{behind_kind, is_significant_kind}
+use Rattle.conf_tree.proofs.ByTokens.{kinds_both}
 
 -- each of the words says something, and they lead from one region to the other
 abbrev pub Run : Region → List Kind → Region → Type 0
 Run r [] s = r ≡ s
-Run r (k ∷ ks) s = (says_kind r k ≡ true) × Run (behind_kind r k) ks s
+Run r (k ∷ ks) s = (is_significant_kind r k ≡ true) × Run (behind_kind r k) ks s
 
 run_both : (r s q : Region) (ks js : List Kind) → Run r ks s → Run s js q → Run r (ks ++ js) q
 run_both r s q [] js one two = subst (λ (x : Region). Run x js q) (sym one) two
 run_both r s q (k ∷ ks) js one two = (one.0, run_both (behind_kind r k) s q ks js one.1 two)
-
-pub kinds_both : (xs ys : List Word) → kinds_of (xs ++ ys) ≡ kinds_of xs ++ kinds_of ys
-kinds_both [] ys = refl
-kinds_both (x ∷ xs) ys = ap (λ (l : List Kind). kind_of x ∷ l) (kinds_both xs ys)
 
 runs : (r s q : Region) (xs ys : List Word) → Run r (kinds_of xs) s → Run s (kinds_of ys) q → Run r (kinds_of (xs ++ ys)) q
 runs r s q xs ys one two = subst (λ (l : List Kind). Run r l q) (sym (kinds_both xs ys)) (run_both r s q (kinds_of xs) (kinds_of ys) one two)
@@ -36,28 +34,16 @@ abbrev calm : (Kind → Bool) → Bool
 calm p = not (p (IsSymbol symbols.Log)) && not (p (IsSymbol symbols.Protocol))
 
 abbrev plain : Form → Bool
-plain (One p) = calm p
-plain Empty = true
+plain (Terminal p) = calm p
+plain Epsilon = true
 plain (Seq f g) = plain f && plain g
-plain (Either f g) = plain f && plain g
-plain (Chain f g) = plain f && plain g
-plain (Nest p n) = calm p
-plain (Unless p f) = false
+plain (Alt f g) = plain f && plain g
+plain (Repeat f g) = plain f && plain g
+plain (Nested p n) = calm p
 
-levels_plain : (n : ℕ) → plain (rule n) ≡ true
-levels_plain zero = refl
-levels_plain (suc zero) = refl
-levels_plain (suc (suc zero)) = refl
-levels_plain (suc (suc (suc zero))) = refl
-levels_plain (suc (suc (suc (suc zero)))) = refl
-levels_plain (suc (suc (suc (suc (suc zero))))) = refl
-levels_plain (suc (suc (suc (suc (suc (suc zero)))))) = refl
-levels_plain (suc (suc (suc (suc (suc (suc (suc zero))))))) = refl
-levels_plain (suc (suc (suc (suc (suc (suc (suc (suc zero)))))))) = refl
-levels_plain (suc (suc (suc (suc (suc (suc (suc (suc (suc zero))))))))) = refl
-levels_plain (suc (suc (suc (suc (suc (suc (suc (suc (suc (suc zero)))))))))) = refl
-levels_plain (suc (suc (suc (suc (suc (suc (suc (suc (suc (suc (suc zero))))))))))) = refl
-levels_plain (suc (suc (suc (suc (suc (suc (suc (suc (suc (suc (suc (suc n)))))))))))) = refl
+levels_plain : (n : Level) → plain (rule n) ≡ true
+levels_plain group_level = refl
+levels_plain _ = refl
 
 pub kind_is : (k : Kind) (s : Symbol) → symbol s k ≡ true → k ≡ IsSymbol s
 kind_is (IsSymbol r) s e = ap (λ (q : Symbol). IsSymbol q) (sym (same_symbol s r e))
@@ -77,113 +63,111 @@ plain_word p w ok is =
     let no_protocol = other_kind p (kind_of w) symbols.Protocol c.1 is (symbol symbols.Protocol (kind_of w)) refl in
     (refl, rw (no_log, no_protocol) refl)
 
-plain_run : (t : Tree) (f : Form) → plain f ≡ true → Spells rule t f → Run regions.Statements (kinds_of (yield t)) regions.Statements
-plain_run (Leaf w) (One p) ok h = plain_word p w ok h
-plain_run Blank Empty ok h = refl
-plain_run (Both a b) (Seq f g) ok h =
+plain_run : (t : ParseTree) (f : Form) → plain f ≡ true → Derives rule t f → Run regions.Statements (kinds_of (yield t)) regions.Statements
+plain_run (Leaf w) (Terminal p) ok h = plain_word p w ok h
+plain_run NoWords Epsilon ok h = refl
+plain_run (Pair a b) (Seq f g) ok h =
     let c = and_true (plain f) (plain g) ok in
     runs regions.Statements regions.Statements regions.Statements (yield a) (yield b) (plain_run a f c.0 h.0) (plain_run b g c.1 h.1)
-plain_run (First a) (Either f g) ok h = plain_run a f (and_true (plain f) (plain g) ok).0 h
-plain_run (Second b) (Either f g) ok h = plain_run b g (and_true (plain f) (plain g) ok).1 h
-plain_run (Start a) (Chain f g) ok h = plain_run a f (and_true (plain f) (plain g) ok).0 h
-plain_run (More t b) (Chain f g) ok h =
-    runs regions.Statements regions.Statements regions.Statements (yield t) (yield b) (plain_run t (Chain f g) ok h.0) (plain_run b g (and_true (plain f) (plain g) ok).1 h.1)
-plain_run (Inside w t) (Nest p n) ok h =
+plain_run (Left a) (Alt f g) ok h = plain_run a f (and_true (plain f) (plain g) ok).0 h
+plain_run (Right b) (Alt f g) ok h = plain_run b g (and_true (plain f) (plain g) ok).1 h
+plain_run (Single a) (Repeat f g) ok h = plain_run a f (and_true (plain f) (plain g) ok).0 h
+plain_run (Snoc t b) (Repeat f g) ok h =
+    runs regions.Statements regions.Statements regions.Statements (yield t) (yield b) (plain_run t (Repeat f g) ok h.0) (plain_run b g (and_true (plain f) (plain g) ok).1 h.1)
+plain_run (Deeper w t) (Nested p n) ok h =
     let one = plain_word p w ok h.0 in
     (refl, subst (λ (r : Region). Run r (kinds_of (yield t)) regions.Statements) (sym one.1) (plain_run t (rule n) (levels_plain n) h.1))
-plain_run (Second b) (Unless p f) ok h = absurd cc
-plain_run (Shut w) (Unless p f) ok h = absurd cc
 plain_run _ _ ok h = absurd h
 
 -- ---- the others
 
-log_run : (t : Tree) → Spells rule t log → Run regions.Statements (kinds_of (yield t)) regions.Statements
-log_run (Both (Leaf w) (Leaf v)) h =
+log_run : (t : ParseTree) → Derives rule t log → Run regions.Statements (kinds_of (yield t)) regions.Statements
+log_run (Pair (Leaf w) (Leaf v)) h =
     let first = kind_is (kind_of w) symbols.Log h.0 in
     let second = kind_is (kind_of v) symbols.Semicolon h.1 in
     rw (first, second) (refl, (refl, refl))
-log_run (Both (Leaf w) _) h = absurd h.1
-log_run (Both _ b) h = absurd h.0
+log_run (Pair (Leaf w) _) h = absurd h.1
+log_run (Pair _ b) h = absurd h.0
 log_run _ h = absurd h
 
-end_run : (t : Tree) → Spells rule t protocol_end → Run (regions.Inside 0) (kinds_of (yield t)) regions.Statements
-end_run (Both (Leaf w) b) h =
+end_run : (t : ParseTree) → Derives rule t protocol_end → Run (regions.Inside 0) (kinds_of (yield t)) regions.Statements
+end_run (Pair (Leaf w) b) h =
     let first = kind_is (kind_of w) symbols.CloseBrace h.0 in
     let rest = plain_run b (optional semicolon) refl h.1 in
     (rw first refl, rw first rest)
-end_run (Both _ b) h = absurd h.0
+end_run (Pair _ b) h = absurd h.0
 end_run _ h = absurd h
 
 name_is : (k : Kind) → name k ≡ true → k ≡ IsName
 name_is IsName e = refl
 name_is _ e = absurd cc
 
-device_run : (t : Tree) → Spells rule t device → Run regions.Protocol (kinds_of (yield t)) regions.Statements
-device_run (Both (Leaf w) (Both (First (Leaf n)) (Both (Leaf v) e))) h =
+device_run : (t : ParseTree) → Derives rule t device → Run regions.Protocol (kinds_of (yield t)) regions.Statements
+device_run (Pair (Leaf w) (Pair (Left (Leaf n)) (Pair (Leaf v) e))) h =
     let first = kind_is (kind_of w) symbols.Device h.0 in
     let called = name_is (kind_of n) h.1.0 in
     let brace = kind_is (kind_of v) symbols.OpenBrace h.1.1.0 in
     rw (first, called, brace) (refl, (refl, (refl, end_run e h.1.1.1)))
-device_run (Both (Leaf w) (Both (Second Blank) (Both (Leaf v) e))) h =
+device_run (Pair (Leaf w) (Pair (Right NoWords) (Pair (Leaf v) e))) h =
     let first = kind_is (kind_of w) symbols.Device h.0 in
     let brace = kind_is (kind_of v) symbols.OpenBrace h.1.1.0 in
     rw (first, brace) (refl, (refl, end_run e h.1.1.1))
-device_run (Both (Leaf w) (Both (First (Leaf n)) (Both _ e))) h = absurd h.1.1.0
-device_run (Both (Leaf w) (Both (First (Leaf n)) _)) h = absurd h.1.1
-device_run (Both (Leaf w) (Both (First _) _)) h = absurd h.1.0
-device_run (Both (Leaf w) (Both (Second Blank) (Both _ e))) h = absurd h.1.1.0
-device_run (Both (Leaf w) (Both (Second Blank) _)) h = absurd h.1.1
-device_run (Both (Leaf w) (Both (Second _) _)) h = absurd h.1.0
-device_run (Both (Leaf w) (Both _ _)) h = absurd h.1.0
-device_run (Both (Leaf w) _) h = absurd h.1
-device_run (Both _ b) h = absurd h.0
+device_run (Pair (Leaf w) (Pair (Left (Leaf n)) (Pair _ e))) h = absurd h.1.1.0
+device_run (Pair (Leaf w) (Pair (Left (Leaf n)) _)) h = absurd h.1.1
+device_run (Pair (Leaf w) (Pair (Left _) _)) h = absurd h.1.0
+device_run (Pair (Leaf w) (Pair (Right NoWords) (Pair _ e))) h = absurd h.1.1.0
+device_run (Pair (Leaf w) (Pair (Right NoWords) _)) h = absurd h.1.1
+device_run (Pair (Leaf w) (Pair (Right _) _)) h = absurd h.1.0
+device_run (Pair (Leaf w) (Pair _ _)) h = absurd h.1.0
+device_run (Pair (Leaf w) _) h = absurd h.1
+device_run (Pair _ b) h = absurd h.0
 device_run _ h = absurd h
 
 -- a protocol of another kind
-other_run : (kind : Symbol) (item : Form) → symbol symbols.Device (IsSymbol kind) ≡ false → plain (Seq (optional (One name)) (Seq (One (symbol symbols.OpenBrace)) (Seq (ended_options item) protocol_end))) ≡ true
-    → (t : Tree) → Spells rule t (protocol_of kind item) → Run regions.Protocol (kinds_of (yield t)) regions.Statements
-other_run kind item not_device ok (Both (Leaf w) b) h =
+other_run : (kind : Symbol) (item : Form) → symbol symbols.Device (IsSymbol kind) ≡ false → plain (Seq (optional (Terminal name)) (Seq (Terminal (symbol symbols.OpenBrace)) (Seq (ended_options item) protocol_end))) ≡ true
+    → (t : ParseTree) → Derives rule t (protocol_of kind item) → Run regions.Protocol (kinds_of (yield t)) regions.Statements
+other_run kind item not_device ok (Pair (Leaf w) b) h =
     let first = kind_is (kind_of w) kind h.0 in
     let there : symbol symbols.Device (kind_of w) ≡ false = ap (symbol symbols.Device) first ∙ not_device in
-    let rest = plain_run b (Seq (optional (One name)) (Seq (One (symbol symbols.OpenBrace)) (Seq (ended_options item) protocol_end))) ok h.1 in
+    let rest = plain_run b (Seq (optional (Terminal name)) (Seq (Terminal (symbol symbols.OpenBrace)) (Seq (ended_options item) protocol_end))) ok h.1 in
     (refl, rw there rest)
-other_run kind item not_device ok (Both _ b) h = absurd h.0
+other_run kind item not_device ok (Pair _ b) h = absurd h.0
 other_run kind item not_device ok _ h = absurd h
 
-protocol_run : (t : Tree) → Spells rule t protocol → Run regions.Statements (kinds_of (yield t)) regions.Statements
-protocol_run (Both (Leaf w) b) h =
+protocol_run : (t : ParseTree) → Derives rule t protocol → Run regions.Statements (kinds_of (yield t)) regions.Statements
+protocol_run (Pair (Leaf w) b) h =
     let first = kind_is (kind_of w) symbols.Protocol h.0 in
     rw first (refl, kind_run b h.1)
   where
-    kind_run : (t : Tree) → Spells rule t (Either device (Either (protocol_of symbols.Static static_option) (Either (protocol_of symbols.Bgp bgp_option) (protocol_of symbols.Pipe pipe_option)))) → Run regions.Protocol (kinds_of (yield t)) regions.Statements
-    kind_run (First a) h = device_run a h
-    kind_run (Second (First a)) h = other_run symbols.Static static_option refl refl a h
-    kind_run (Second (Second (First a))) h = other_run symbols.Bgp bgp_option refl refl a h
-    kind_run (Second (Second (Second a))) h = other_run symbols.Pipe pipe_option refl refl a h
-    kind_run (Second (Second _)) h = absurd h
-    kind_run (Second _) h = absurd h
+    kind_run : (t : ParseTree) → Derives rule t (Alt device (Alt (protocol_of symbols.Static static_option) (Alt (protocol_of symbols.Bgp bgp_option) (protocol_of symbols.Pipe pipe_option)))) → Run regions.Protocol (kinds_of (yield t)) regions.Statements
+    kind_run (Left a) h = device_run a h
+    kind_run (Right (Left a)) h = other_run symbols.Static static_option refl refl a h
+    kind_run (Right (Right (Left a))) h = other_run symbols.Bgp bgp_option refl refl a h
+    kind_run (Right (Right (Right a))) h = other_run symbols.Pipe pipe_option refl refl a h
+    kind_run (Right (Right _)) h = absurd h
+    kind_run (Right _) h = absurd h
     kind_run _ h = absurd h
-protocol_run (Both _ b) h = absurd h.0
+protocol_run (Pair _ b) h = absurd h.0
 protocol_run _ h = absurd h
 
-statement_run : (t : Tree) → Spells rule t statement → Run regions.Statements (kinds_of (yield t)) regions.Statements
-statement_run (First a) h = plain_run a router_id refl h
-statement_run (Second (First a)) h = log_run a h
-statement_run (Second (Second (First a))) h = plain_run a define refl h
-statement_run (Second (Second (Second (First a)))) h = plain_run a table refl h
-statement_run (Second (Second (Second (Second (First a))))) h = plain_run a function refl h
-statement_run (Second (Second (Second (Second (Second (First a)))))) h = plain_run a filter refl h
-statement_run (Second (Second (Second (Second (Second (Second a)))))) h = protocol_run a h
-statement_run (Second (Second (Second (Second (Second _))))) h = absurd h
-statement_run (Second (Second (Second (Second _)))) h = absurd h
-statement_run (Second (Second (Second _))) h = absurd h
-statement_run (Second (Second _)) h = absurd h
-statement_run (Second _) h = absurd h
+statement_run : (t : ParseTree) → Derives rule t statement → Run regions.Statements (kinds_of (yield t)) regions.Statements
+statement_run (Left a) h = plain_run a router_id refl h
+statement_run (Right (Left a)) h = log_run a h
+statement_run (Right (Right (Left a))) h = plain_run a define refl h
+statement_run (Right (Right (Right (Left a)))) h = plain_run a table refl h
+statement_run (Right (Right (Right (Right (Left a))))) h = plain_run a function refl h
+statement_run (Right (Right (Right (Right (Right (Left a)))))) h = plain_run a filter refl h
+statement_run (Right (Right (Right (Right (Right (Right a)))))) h = protocol_run a h
+statement_run (Right (Right (Right (Right (Right _))))) h = absurd h
+statement_run (Right (Right (Right (Right _)))) h = absurd h
+statement_run (Right (Right (Right _))) h = absurd h
+statement_run (Right (Right _)) h = absurd h
+statement_run (Right _) h = absurd h
 statement_run _ h = absurd h
 
 -- the words of a configuration lead from statement to statement
-pub config_run : (t : Tree) → Spells rule t config → Run regions.Statements (kinds_of (yield t)) regions.Statements
-config_run (Start Blank) h = refl
-config_run (More t b) h = runs regions.Statements regions.Statements regions.Statements (yield t) (yield b) (config_run t h.0) (statement_run b h.1)
-config_run (Start _) h = absurd h
+pub config_run : (t : ParseTree) → Derives rule t config → Run regions.Statements (kinds_of (yield t)) regions.Statements
+config_run (Single NoWords) h = refl
+config_run (Snoc t b) h = runs regions.Statements regions.Statements regions.Statements (yield t) (yield b) (config_run t h.0) (statement_run b h.1)
+config_run (Single _) h = absurd h
 config_run _ h = absurd h

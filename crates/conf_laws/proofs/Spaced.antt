@@ -9,8 +9,8 @@ use Rattle.std.proofs.lemmas.Bool.Decides.{nat_tests}
 use Rattle.std.proofs.lemmas.List.{length-append}
 use Rattle.conf_lex.specs.Shapes.{is_letter, is_name_byte, is_quoted_byte, is_text_byte, is_colons_byte, is_sign, is_short_sign, is_pair_sign, is_empty_sign, short_signs, pair_signs, empty_signs, IsDotted, IsShape, IsToken, IsText, Blank, IsGap}
 use Rattle.conf_lex.specs.Lex.{Lexes}
-use Rattle.conf_lex.specs.declared.shapes.Sort.{Sort}
-use Rattle.conf_lex.specs.declared.shapes.Sort.TheVariants as sorts
+use Rattle.conf_lex.specs.declared.scan.Lexeme.{Lexeme}
+use Rattle.conf_lex.specs.declared.scan.Lexeme.TheVariants as lexemes
 use Rattle.conf_lex.specs.declared.token.Token.{Token}
 use Rattle.conf_laws.specs.Spaced.{Spelling, AreSpellings, spaced, spellings_of}
 
@@ -84,25 +84,19 @@ tight_sign slice is = elim (or_cases (is_short_sign slice || is_pair_sign slice)
 ]
 
 -- a token is a text or has neither spaces nor double quotes
-tight_or_text : (sort : Sort) (slice rest : List ℕ) → IsShape sort slice rest → (list_all is_tight slice ≡ true) ⊎ IsText slice
-tight_or_text sorts.Word [] rest is = absurd is
-tight_or_text sorts.Word (b ∷ bytes) rest is = inl (and_from (is_tight b) (list_all is_tight bytes) (tight_letter b is.0) (all_weaker is_name_byte is_tight tight_name bytes is.1))
-tight_or_text sorts.Quote slice rest is =
+tight_or_text : (sort : Lexeme) (slice rest : List ℕ) → IsShape sort slice rest → (list_all is_tight slice ≡ true) ⊎ IsText slice
+tight_or_text lexemes.Word [] rest is = absurd is
+tight_or_text lexemes.Word (b ∷ bytes) rest is = inl (and_from (is_tight b) (list_all is_tight bytes) (tight_letter b is.0) (all_weaker is_name_byte is_tight tight_name bytes is.1))
+tight_or_text lexemes.QuotedName slice rest is =
     inl (ap (list_all is_tight) is.whole ∙ all_joined is_tight is.name (39 ∷ []) (all_weaker is_quoted_byte is_tight tight_quoted is.name is.bytes) refl)
-tight_or_text sorts.Decimal slice rest is = inl (all_weaker is_ascii_digit is_tight tight_digit slice is.1)
-tight_or_text sorts.Hexadecimal slice rest is = inl (ap (list_all is_tight) is.whole ∙ all_weaker is_ascii_hexdigit is_tight tight_hexadecimal is.digits is.bytes)
-tight_or_text sorts.Dotted slice rest is = inl (tight_dotted 3 slice is)
-tight_or_text sorts.Colons slice rest is = inl (all_weaker is_colons_byte is_tight tight_colons slice is.bytes)
-tight_or_text sorts.Text slice rest is = inr is
-tight_or_text sorts.Mark slice rest is = inl (tight_sign slice is.0)
+tight_or_text lexemes.Decimal slice rest is = inl (all_weaker is_ascii_digit is_tight tight_digit slice is.1)
+tight_or_text lexemes.Hexadecimal slice rest is = inl (ap (list_all is_tight) is.whole ∙ all_weaker is_ascii_hexdigit is_tight tight_hexadecimal is.digits is.bytes)
+tight_or_text lexemes.Ipv4 slice rest is = inl (tight_dotted 3 slice is)
+tight_or_text lexemes.Ipv6 slice rest is = inl (all_weaker is_colons_byte is_tight tight_colons slice is.bytes)
+tight_or_text lexemes.Text slice rest is = inr is
+tight_or_text lexemes.Punctuation slice rest is = inl (tight_sign slice is.0)
 
 -- ---- what stands before a space
-
--- a text is cut at one of two places: they are one, or one is further on
-record Further (a b c : List ℕ) : Type 0 where
-  gone : List ℕ
-  whole : c ≡ a ++ gone
-  rest : b ≡ gone
 
 no_space : (slice gone : List ℕ) → list_all is_tight (slice ++ 32 ∷ gone) ≡ true → ⊥
 no_space [] gone all = false≢true all
@@ -140,7 +134,7 @@ first_quote (b ∷ slice) gone other all e =
     let head : b ≡ 34 = cc in
     false≢true (subst (λ (n : ℕ). is_tight n ≡ true) head (and_parts (is_tight b) (list_all is_tight slice) all).0)
 
-no_longer : (one two : Sort) (slice more front back : List ℕ) → IsShape one slice (32 ∷ []) → IsShape two front back → slice ++ 32 ∷ more ≡ front ++ back → length slice < length front → ⊥
+no_longer : (one two : Lexeme) (slice more front back : List ℕ) → IsShape one slice (32 ∷ []) → IsShape two front back → slice ++ 32 ∷ more ≡ front ++ back → length slice < length front → ⊥
 no_longer one two slice more front back shape other e less =
     let l = longer slice more front back e less in
     elim (tight_or_text two front back other) [
@@ -155,25 +149,25 @@ no_longer one two slice more front back shape other e less =
     ]
 
 -- the shape looks no further than to the space
-shape_there : (sort : Sort) (slice more : List ℕ) → IsShape sort slice (32 ∷ []) → IsShape sort slice (32 ∷ more)
-shape_there sorts.Word slice more is = is
-shape_there sorts.Quote slice more is = is
-shape_there sorts.Decimal slice more is = is
-shape_there sorts.Hexadecimal slice more is = is
-shape_there sorts.Dotted slice more is = is
-shape_there sorts.Colons slice more is = record { bytes = is.bytes; colons = is.colons; longest = refl }
-shape_there sorts.Text slice more is = is
-shape_there sorts.Mark slice more is = (is.0, λ e. refl)
+shape_there : (sort : Lexeme) (slice more : List ℕ) → IsShape sort slice (32 ∷ []) → IsShape sort slice (32 ∷ more)
+shape_there lexemes.Word slice more is = is
+shape_there lexemes.QuotedName slice more is = is
+shape_there lexemes.Decimal slice more is = is
+shape_there lexemes.Hexadecimal slice more is = is
+shape_there lexemes.Ipv4 slice more is = is
+shape_there lexemes.Ipv6 slice more is = record { bytes = is.bytes; colons = is.colons; longest = refl }
+shape_there lexemes.Text slice more is = is
+shape_there lexemes.Punctuation slice more is = (is.0, λ e. refl)
 
-pub shape_spaced : (sort : Sort) (slice rest : List ℕ) → IsShape sort slice rest → IsShape sort slice (32 ∷ [])
-shape_spaced sorts.Word slice rest is = is
-shape_spaced sorts.Quote slice rest is = is
-shape_spaced sorts.Decimal slice rest is = is
-shape_spaced sorts.Hexadecimal slice rest is = is
-shape_spaced sorts.Dotted slice rest is = is
-shape_spaced sorts.Colons slice rest is = record { bytes = is.bytes; colons = is.colons; longest = refl }
-shape_spaced sorts.Text slice rest is = is
-shape_spaced sorts.Mark slice rest is = (is.0, λ e. refl)
+pub shape_spaced : (sort : Lexeme) (slice rest : List ℕ) → IsShape sort slice rest → IsShape sort slice (32 ∷ [])
+shape_spaced lexemes.Word slice rest is = is
+shape_spaced lexemes.QuotedName slice rest is = is
+shape_spaced lexemes.Decimal slice rest is = is
+shape_spaced lexemes.Hexadecimal slice rest is = is
+shape_spaced lexemes.Ipv4 slice rest is = is
+shape_spaced lexemes.Ipv6 slice rest is = record { bytes = is.bytes; colons = is.colons; longest = refl }
+shape_spaced lexemes.Text slice rest is = is
+shape_spaced lexemes.Punctuation slice rest is = (is.0, λ e. refl)
 
 at_most : (a b : ℕ) → (a < b → ⊥) → b ≤ a
 at_most a b never = elim (cases_le a b) [ inl low ↦ low | inr high ↦ absurd (never high) ]
@@ -183,7 +177,7 @@ at_most a b never = elim (cases_le a b) [ inl low ↦ low | inr high ↦ absurd 
     cases_le zero (suc b) = inr (omega arith)
     cases_le (suc a) (suc b) = elim (cases_le a b) [ inl low ↦ inl (omega (arith, low)) | inr high ↦ inr (omega (arith, high)) ]
 
-spaced_token : (sort : Sort) (slice more : List ℕ) → IsShape sort slice (32 ∷ []) → IsToken (slice ++ 32 ∷ more) sort slice (32 ∷ more)
+spaced_token : (sort : Lexeme) (slice more : List ℕ) → IsShape sort slice (32 ∷ []) → IsToken (slice ++ 32 ∷ more) sort slice (32 ∷ more)
 spaced_token sort slice more shape = record {
   whole = refl;
   shape = shape_there sort slice more shape;

@@ -1,5 +1,5 @@
 -- What stands before a refused token begins a configuration.
-use Rattle.std.proofs.Common.{◌≡◌, ℕ, zero, suc, ◌+◌, ◌-◌, ◌≤◌, Bool, true, false, cond, List, [], ◌∷◌, ◌++◌, length, map, take, drop, slice_index_or, refl, sym, ap, subst, ◌∙◌, arith, append_assoc, append-nil, inl, inr, ◌<◌, ◌⊎◌}
+use Rattle.std.proofs.Common.{◌≡◌, ℕ, zero, suc, ◌+◌, ◌-◌, ◌≤◌, Bool, true, false, cond, List, [], ◌∷◌, ◌++◌, length, take, drop, slice_index_or, refl, sym, ap, subst, ◌∙◌, arith, append_assoc, append-nil, inl, inr, ◌<◌, ◌⊎◌}
 use Rattle.std.specs.Prelude.{if◌then◌else◌, codes}
 use Rattle.std.proofs.lemmas.List.{length-append}
 use Rattle.conf_lex.specs.Symbols.{is_slash}
@@ -7,11 +7,11 @@ use Rattle.conf_lex.specs.Lex.{Lexes}
 use Rattle.conf_lex.specs.Spans.{IsSpan, IsBetween}
 use Rattle.conf_lex.specs.declared.symbol.Symbol.TheVariants as symbols
 use Rattle.conf_lex.specs.declared.token.Token.{Token}
-use Rattle.conf_lex.specs.declared.token.TokenKind.TheVariants as sorts
+use Rattle.conf_lex.specs.declared.token.TokenKind.TheVariants as token_kinds
 use Rattle.conf_lex.specs.declared.word.Word.{Word}
 use Rattle.conf_lex.specs.declared.word.Word.TheVariants as words
 use Rattle.grammar.specs.Kind.{Kind, IsAddress, kind_of, symbol}
-use Rattle.grammar.specs.Grammar.{Tree, yield, begins, Why}
+use Rattle.grammar.specs.Grammar.{ParseTree, yield, begins}
 use Rattle.grammar.specs.Sentences.{IsBegun, IsBegunWithin}
 use Rattle.filt_syntax.specs.Syntax.{rule}
 use Rattle.filt_syntax.specs.RefusedToken.{some_prefix, some_address, torn_of, IsPast, IsPastFirst}
@@ -19,24 +19,28 @@ use Rattle.filt_syntax.specs.declared.parse.SyntaxFault.TheVariants as faults
 use Rattle.filt_syntax.specs.declared.refused_token.Torn.{Torn}
 use Rattle.filt_syntax.specs.declared.refused_token.Torn.TheVariants as torns
 use Rattle.conf_tree.specs.Syntax.{config}
-use Rattle.conf_tree.specs.Said.{said_words}
+use Rattle.conf_tree.specs.Significant.{significant_words}
 use Rattle.conf_tree.specs.Sentence.{IsRefused}
 use Rattle.conf_tree.specs.Read.{byte_of, IsRefusedText}
 use Rattle.conf_tree.specs.declared.kind.ConfKind.TheVariants as kinds
-use Rattle.conf_tree.specs.declared.said.Region.{Region}
-use Rattle.conf_tree.specs.declared.said.Region.TheVariants as regions
+use Rattle.conf_tree.specs.declared.significant.Region.{Region}
+use Rattle.conf_tree.specs.declared.significant.Region.TheVariants as regions
 use Rattle.conf_tree.proofs.KindTrees.{kinds_of}
-use Rattle.conf_tree.proofs.Marks.{Mark, mark, marks, marks_both, sym_of, first_kind, behind_kind, says_kind, heard, front_heard, state, IsNext}
+use Rattle.conf_tree.proofs.Marks.{Mark, mark, marks, marks_both, sym_of, first_kind, behind_kind, is_significant_kind, heard, front_heard, state, IsNext}
+use Rattle.conf_tree.proofs.Whole.{front_begun}
 use Rattle.bits_ip.specs.declared.address.Addr.{Addr}
+use Rattle.conf_tree.proofs.TokenPlaces.{Rise, one_place, starts, within}
+use Rattle.conf_tree.proofs.ByTokens.{heard_first, is_address, is_net, is_slash_word, kinds_both, one_no_zero, open_address, open_says, state_both}
+use Rattle.conf_tree.proofs.TokenLaw.{gone_of, len_map}
 use Rattle.conf_laws.proofs.Levels.{Opens}
 use Rattle.conf_laws.specs.Spaced.{AreSpellings, IsSpelling}
 use Rattle.conf_laws.specs.Begun.{BeginSome}
 use Rattle.conf_laws.proofs.Pieces.{IsPiece, Good}
 use Rattle.conf_laws.proofs.Complete.{words_of, completed, fits_spells}
-use Rattle.conf_laws.proofs.Regions.{kinds_both, kind_is}
+use Rattle.conf_laws.proofs.Regions.{kind_is}
 use Rattle.conf_laws.proofs.Joined.{spell, spelled, spellings_both}
-use Rattle.conf_laws.proofs.Begins.{core, text_of, before_place, spelled_front, LateIn, gone_of, state_both, front_late, Ends, begun_ends, halves, len_map}
-use Rattle.conf_laws.proofs.Within.{whole_mark, is_net, net_mark, slash_mark, address_alone, address_open, open_behind, open_says, address_piece, prefix_piece, sign_slash, sign_spelling, ends_in_ip, slash_word, address_word, prefix_word, whole_first}
+use Rattle.conf_laws.proofs.Begins.{core, text_of, before_place, spelled_front, LateIn, front_late, Ends, begun_ends, halves}
+use Rattle.conf_laws.proofs.Within.{whole_mark, net_mark, slash_mark, address_alone, address_open, address_piece, prefix_piece, sign_slash, sign_spelling, ends_in_ip, prefix_word, whole_first}
 
 -- ---- a completion that begins with a word of the front
 
@@ -49,7 +53,7 @@ GoesOn gone added =
 one_goes_on : (m : Mark) (added : List Mark) → GoesOn (m ∷ []) added
 one_goes_on m added good q x g e low = absurd (omega (arith, low, ap (λ (l : List Mark). length l) e))
 
-two_go_on : (m s : Mark) (addr : Addr) → m.1 ≡ sorts.Ip addr → is_slash (sym_of s) ≡ true → GoesOn (m ∷ s ∷ []) (whole_mark addr ∷ [])
+two_go_on : (m s : Mark) (addr : Addr) → m.1 ≡ token_kinds.Ip addr → is_slash (sym_of s) ≡ true → GoesOn (m ∷ s ∷ []) (whole_mark addr ∷ [])
 two_go_on m s addr ip slash good q x g e low =
     let head : m ≡ x = cc in
     let tail : s ∷ [] ≡ g = cc in
@@ -65,7 +69,7 @@ less_or (suc a) (suc b) = elim (less_or a b) [ inl l ↦ inl (omega (arith, l)) 
 -- a front, marks of the piece that belong to it, and the others
 module _ (c gone added : List Mark) (W : List Word) (v : Word) (is : IsPiece (v, gone ++ added)) (net : is_net (kind_of v) ≡ true) (few : length gone ≤ 2) (torn : GoesOn gone added) where
   -- the refused word isn't that of the piece
-  not_there : (ks : List Kind) (u : Tree) (r : Why × List Word) (o : Opens u r) → kinds_of (yield u) ≡ kinds_of W ++ kind_of v ∷ ks → length W ≡ length o.before → ⊥
+  not_there : (ks : List Kind) (u : ParseTree) (r : List Word) (o : Opens u r) → kinds_of (yield u) ≡ kinds_of W ++ kind_of v ∷ ks → length W ≡ length o.before → ⊥
   not_there ks u r o kinds same =
       let all : kinds_of o.before ++ kind_of o.opener ∷ kinds_of o.more ≡ kinds_of W ++ kind_of v ∷ ks = sym (kinds_both o.before (o.opener ∷ o.more)) ∙ ap kinds_of (sym o.reads) ∙ kinds in
       let h = halves (kinds_of o.before) (kind_of o.opener ∷ kinds_of o.more) (kinds_of W) (kind_of v ∷ ks) all (omega (arith, same, len_map kind_of o.before, len_map kind_of W)) in
@@ -101,7 +105,7 @@ module _ (c gone added : List Mark) (W : List Word) (v : Word) (is : IsPiece (v,
       omega (arith, low, ap (λ (l : List Mark). length l) is_front, length-append c (x ∷ m ∷ g), length-append c gone, ap (λ (l : List Mark). length l) is_gone)
   behind_there good x g (y ∷ z ∷ w ∷ gs) front back is_gone is_front is_rest low done next = omega (arith, few, ap (λ (l : List Mark). length l) is_gone)
 
-  behind_front : (good : List Good) (u : Tree) (r : Why × List Word) (o : Opens u r) (g front back : List Mark) → front ≡ c ++ g → (gone ++ added) ++ spell good ≡ g ++ back → length front < length (c ++ gone)
+  behind_front : (good : List Good) (u : ParseTree) (r : List Word) (o : Opens u r) (g front back : List Mark) → front ≡ c ++ g → (gone ++ added) ++ spell good ≡ g ++ back → length front < length (c ++ gone)
       → front_heard regions.Statements 0 c ((gone ++ added) ++ spell good) ≡ kinds_of W → (state regions.Statements 0 c ((gone ++ added) ++ spell good)).1 ≡ 0
       → kinds_of (yield u) ≡ kinds_of W ++ kind_of v ∷ kinds_of (words_of good) → length (front_heard regions.Statements 0 front back) ≡ length o.before → IsNext (state regions.Statements 0 front back) back → ⊥
   behind_front good u r o [] front back is_front is_rest low are done all size next =
@@ -125,7 +129,7 @@ module _ (c gone added : List Mark) (W : List Word) (v : Word) (is : IsPiece (v,
       ]
 
   -- a piece that belongs to the front in part, and a completion
-  pieced : (rest : List Mark) → says_kind (regions.Inside 0) (kind_of v) ≡ false → AreSpellings added → kinds_of W ≡ front_heard regions.Statements 0 c rest → (state regions.Statements 0 c rest).1 ≡ 0
+  pieced : (rest : List Mark) → is_significant_kind (regions.Inside 0) (kind_of v) ≡ false → AreSpellings added → kinds_of W ≡ front_heard regions.Statements 0 c rest → (state regions.Statements 0 c rest).1 ≡ 0
       → IsBegunWithin rule 64 config W → IsBegun rule config (W ++ v ∷ []) → Ends (c ++ gone)
   pieced rest unsaid spellings are done within b =
       let x = completed b.0 (W ++ v ∷ []) b.1 (fits_spells b.0 config b.2) b.3 in
@@ -149,9 +153,6 @@ spelled_at : (xs : List Mark) (m : Mark) (ys : List Mark) → AreSpellings (xs +
 spelled_at [] m ys are = are.0
 spelled_at (x ∷ xs) m ys are = spelled_at xs m ys are.1
 
-one_no_zero : ◌≡◌ {A = ℕ} 1 0 → ⊥
-one_no_zero e = omega (arith, e)
-
 two_no_one : ◌≡◌ {A = ℕ} 2 1 → ⊥
 two_no_one e = omega (arith, e)
 
@@ -161,9 +162,6 @@ two_no_zero e = omega (arith, e)
 is_two : (b : Bool) → ◌≡◌ {A = ℕ} 2 (if b then 2 else 1) → b ≡ true
 is_two true e = refl
 is_two false e = absurd (omega (arith, e))
-
-heard_first : (q : Region) (p : Mark) (xs : List Mark) → says_kind q (first_kind p xs).0 ≡ true → heard q 0 (p ∷ xs) ≡ (first_kind p xs).0 ∷ heard (behind_kind q (first_kind p xs).0) ((first_kind p xs).1 - 1) xs
-heard_first q p xs e = rw e refl
 
 -- What is known where a word is refused, and some of its marks stand before the refused token.
 record Here (c rest : List Mark) (W ws : List Word) : Type 0 where
@@ -176,7 +174,7 @@ record Here (c rest : List Mark) (W ws : List Word) : Type 0 where
 -- the first of the words begins with the first of the marks
 record Heads (q : Region) (x : Mark) (behind : List Mark) (w : Word) (ws : List Word) : Type 0 where
   kind : (first_kind x behind).0 ≡ kind_of w
-  says : says_kind q (first_kind x behind).0 ≡ true
+  says : is_significant_kind q (first_kind x behind).0 ≡ true
   tail : kinds_of ws ≡ heard (behind_kind q (first_kind x behind).0) ((first_kind x behind).1 - 1) behind
 
 heads : (c : List Mark) (x : Mark) (behind : List Mark) (W : List Word) (w : Word) (ws : List Word) → Here c (x ∷ behind) W (w ∷ ws) → Heads (state regions.Statements 0 c (x ∷ behind)).0 x behind w ws
@@ -197,13 +195,9 @@ slash_second q x y behind w (v ∷ ws) h is slash =
     let free = address_open q (first_kind x (y ∷ behind)).0 net h.says in
     let p = behind_kind q IsAddress in
     let tail : kind_of v ∷ kinds_of ws ≡ (first_kind y behind).0 ∷ heard (behind_kind p (first_kind y behind).0) ((first_kind y behind).1 - 1) behind =
-    h.tail ∙ ap (λ (j : Kind × ℕ). heard (behind_kind q j.0) (j.1 - 1) (y ∷ behind)) one ∙ heard_first p y behind (open_says p (first_kind y behind).0 (open_behind q free)) in
+    h.tail ∙ ap (λ (j : Kind × ℕ). heard (behind_kind q j.0) (j.1 - 1) (y ∷ behind)) one ∙ heard_first p y behind (open_says p (first_kind y behind).0 (open_address q free)) in
     let head : kind_of v ≡ (first_kind y behind).0 = cc in
     slash_mark y behind (sym head ∙ kind_is (kind_of v) symbols.Slash slash)
-
--- a front of what begins within the levels does so
-address_before : (W front : List Word) (w : Word) → W ≡ front ++ w ∷ [] → IsBegunWithin rule 64 config W → IsBegunWithin rule 64 config front
-address_before W front w e b = (b.0, w ∷ b.1, b.2, b.3 ∙ ap (λ (u : List Word). u ++ b.1) e ∙ append_assoc front (w ∷ []) b.1, b.4, λ r s. omega (arith, b.5 r s))
 
 -- one mark of the word stands before
 one_mark : (c : List Mark) (x : Mark) (behind ms : List Mark) (W : List Word) (w : Word) (ws : List Word) (t : Torn) → ms ≡ c ++ x ∷ [] → AreSpellings ms → Here c (x ∷ behind) W (w ∷ ws) → torn_of w ≡ t → IsPast config W t (begins (symbol symbols.Slash) ws) 1 → Ends ms
@@ -215,14 +209,14 @@ one_mark c x behind ms W w ws torns.Prefix cut are h torn (inl p) =
 one_mark c x behind ms W w ws torns.Prefix cut are h torn (inr p) = absurd (one_no_zero p.1)
 one_mark c x behind ms W w ws torns.Address cut are h torn (inl p) =
     let e = heads c x behind W w ws h in
-    let a = net_mark x behind (ap is_net (e.kind ∙ address_word w torn)) in
+    let a = net_mark x behind (ap is_net (e.kind ∙ is_address w torn)) in
     let is = spelled_at c x [] (subst AreSpellings cut are) in
-    let piece = prefix_piece x (codes "/", sorts.Sign) a.0 a.1 sign_slash is sign_spelling in
-    subst Ends (sym cut) (pieced c (x ∷ []) ((codes "/", sorts.Sign) ∷ whole_mark a.0 ∷ []) W some_prefix piece refl (omega arith) (one_goes_on x ((codes "/", sorts.Sign) ∷ whole_mark a.0 ∷ [])) (x ∷ behind) refl piece.spelled.1 h.are h.done h.begun p.0.0)
+    let piece = prefix_piece x (codes "/", token_kinds.Punctuation) a.0 a.1 sign_slash is sign_spelling in
+    subst Ends (sym cut) (pieced c (x ∷ []) ((codes "/", token_kinds.Punctuation) ∷ whole_mark a.0 ∷ []) W some_prefix piece refl (omega arith) (one_goes_on x ((codes "/", token_kinds.Punctuation) ∷ whole_mark a.0 ∷ [])) (x ∷ behind) refl piece.spelled.1 h.are h.done h.begun p.0.0)
 one_mark c x behind ms W w ws torns.Address cut are h torn (inr p) = absurd (one_no_zero p.1)
 one_mark c x behind ms W w ws torns.Slash cut are h torn (inl p) =
     let e = heads c x behind W w ws h in
-    let slash = slash_mark x behind (e.kind ∙ slash_word w torn) in
+    let slash = slash_mark x behind (e.kind ∙ is_slash_word w torn) in
     let last : front_heard regions.Statements 0 c (x ∷ behind) ≡ kinds_of p.0.front ++ IsAddress ∷ [] =
     sym h.are ∙ ap kinds_of p.0.cut ∙ kinds_both p.0.front (words.Ip p.0.at p.0.addr ∷ []) in
     let z = ends_in_ip regions.Statements 0 c (x ∷ behind) (kinds_of p.0.front) last h.done in
@@ -230,7 +224,7 @@ one_mark c x behind ms W w ws torns.Slash cut are h torn (inl p) =
     let spellings = subst AreSpellings all are in
     let other = subst AreSpellings (all ∙ sym (append_assoc z.front (z.mark ∷ []) (x ∷ []))) are in
     let piece = prefix_piece z.mark x z.addr z.ip slash (spelled_at z.front z.mark (x ∷ []) spellings) (spelled_at (z.front ++ z.mark ∷ []) x [] other) in
-    subst Ends (sym all) (pieced z.front (z.mark ∷ x ∷ []) (whole_mark z.addr ∷ []) p.0.front some_prefix piece refl (omega arith) (two_go_on z.mark x z.addr z.ip slash) (z.mark ∷ x ∷ behind) refl piece.spelled.1.1 (sym z.heard) z.done (address_before W p.0.front (words.Ip p.0.at p.0.addr) p.0.cut h.begun) p.0.prefix)
+    subst Ends (sym all) (pieced z.front (z.mark ∷ x ∷ []) (whole_mark z.addr ∷ []) p.0.front some_prefix piece refl (omega arith) (two_go_on z.mark x z.addr z.ip slash) (z.mark ∷ x ∷ behind) refl piece.spelled.1.1 (sym z.heard) z.done (front_begun W p.0.front (words.Ip p.0.at p.0.addr) p.0.cut h.begun) p.0.prefix)
 one_mark c x behind ms W w ws torns.Slash cut are h torn (inr p) = absurd (one_no_zero p.1)
 one_mark c x behind ms W w ws torns.Other cut are h torn p = absurd (one_no_zero p)
 
@@ -241,7 +235,7 @@ two_marks c x y behind ms W w ws torns.Prefix cut are h torn (inr p) = absurd (t
 two_marks c x y behind ms W w ws torns.Address cut are h torn (inl p) =
     let q = (state regions.Statements 0 c (x ∷ y ∷ behind)).0 in
     let e = heads c x (y ∷ behind) W w ws h in
-    let is = address_word w torn in
+    let is = is_address w torn in
     let a = net_mark x (y ∷ behind) (ap is_net (e.kind ∙ is)) in
     let slash = slash_second q x y behind w ws e is (is_two (begins (symbol symbols.Slash) ws) p.1) in
     let spellings = subst AreSpellings cut are in
@@ -289,7 +283,7 @@ heard_short r skip [] = omega arith
 heard_short r (suc skip) (m ∷ ms) = omega (arith, heard_short r skip ms)
 heard_short r zero (m ∷ ms) =
     let k = first_kind m ms in
-    cond_short (says_kind r k.0) k.0 (heard (behind_kind r k.0) (k.1 - 1) ms) (length ms) (heard_short (behind_kind r k.0) (k.1 - 1) ms)
+    cond_short (is_significant_kind r k.0) k.0 (heard (behind_kind r k.0) (k.1 - 1) ms) (length ms) (heard_short (behind_kind r k.0) (k.1 - 1) ms)
 
 past_words : (W ws : List Word) (n : ℕ) → IsPastFirst config W ws n → n ≤ length ws
 past_words W [] n past = omega (arith, past)
@@ -299,8 +293,8 @@ past_words W (w ∷ ws) n past = (few W (torn_of w) (begins (symbol symbols.Slas
 refused_within : (text : List ℕ) (tokens : List Token) (at : ℕ) → IsRefused text tokens (faults.Bad at) → at ≤ length tokens
 refused_within text tokens at h =
     let a = before_place text tokens h.0 h.1.start h.1.stops in
-    let W = take h.0 (said_words text tokens) in
-    let ws = drop h.0 (said_words text tokens) in
+    let W = take h.0 (significant_words text tokens) in
+    let ws = drop h.0 (significant_words text tokens) in
     let st = state regions.Statements 0 a.front a.rest in
     omega (
       arith,
@@ -319,8 +313,8 @@ before_refused : (text : List ℕ) (front back : List Token) → AreSpellings (m
 before_refused text front back are h =
     let tokens = front ++ back in
     let a = before_place text (front ++ back) h.0 h.1.start h.1.stops in
-    let W = take h.0 (said_words text (front ++ back)) in
-    let ws = drop h.0 (said_words text (front ++ back)) in
+    let W = take h.0 (significant_words text (front ++ back)) in
+    let ws = drop h.0 (significant_words text (front ++ back)) in
     let cut : a.front ++ a.rest ≡ marks text front ++ marks text back = sym a.cut ∙ marks_both text front back in
     let g = gone_of a.front a.rest (marks text front) (marks text back) cut (omega (arith, a.at, h.1.token, len_map (mark text) front)) in
     let size : h.1.past ≡ length g.gone = omega (arith, a.at, h.1.token, len_map (mark text) front, ap (λ (l : List Mark). length l) g.whole, length-append a.front g.gone) in
@@ -331,30 +325,6 @@ before_refused text front back are h =
     text_of text front e.zs e.tree are e.spellings e.fits e.reads e.late
 
 -- ---- a place in the text
-
--- the bytes at which tokens begin rise from one place to the other
-abbrev Rise : ℕ → ℕ → List Token → Type 0
-Rise low end [] = low ≤ end
-Rise low end (t ∷ ts) = (low ≤ t.at) × Rise (t.at + 1) end ts
-
-abbrev starts : List Token → List ℕ
-starts ts = map (λ t. t.at) ts
-
-no_lower : (low end : ℕ) (ts : List Token) → Rise low end ts → (i : ℕ) → low ≤ slice_index_or (starts ts) i end
-no_lower low end [] h zero = h
-no_lower low end [] h (suc i) = h
-no_lower low end (t ∷ ts) h zero = h.0
-no_lower low end (t ∷ ts) h (suc i) = let less = no_lower (t.at + 1) end ts h.1 i in omega (arith, h.0, less)
-
-within : (low end : ℕ) (front : List Token) (t : Token) (back : List Token) → Rise low end (front ++ t ∷ back) → low ≤ t.at
-within low end [] t back h = h.0
-within low end (x ∷ front) t back h = let less = within (x.at + 1) end front t back h.1 in omega (arith, h.0, less)
-
-one_place : (low end : ℕ) (front : List Token) (t : Token) (back : List Token) → Rise low end (front ++ t ∷ back) → (i : ℕ) → slice_index_or (starts (front ++ t ∷ back)) i end ≡ t.at → i ≡ length front
-one_place low end [] t back h zero e = refl
-one_place low end [] t back h (suc i) e = absurd (omega (arith, no_lower (t.at + 1) end back h.1 i, e))
-one_place low end (x ∷ front) t back h zero e = absurd (omega (arith, within (x.at + 1) end front t back h.1, e))
-one_place low end (x ∷ front) t back h (suc i) e = ap (λ (n : ℕ). suc n) (one_place (x.at + 1) end front t back h.1 i e)
 
 low_end : (low end : ℕ) (ts : List Token) → Rise low end ts → low ≤ end
 low_end low end [] h = h

@@ -3,22 +3,22 @@ use Rattle.std.proofs.Common.{◌≡◌, ℕ, List, ◌++◌, take, drop, sym, s
 use Rattle.std.proofs.lemmas.List.{take-append-drop}
 use Rattle.conf_lex.specs.declared.token.Token.{Token}
 use Rattle.conf_lex.specs.declared.word.Word.{Word}
-use Rattle.grammar.specs.Grammar.{Form}
 use Rattle.grammar.specs.Sentences.{IsBegunWithin}
 use Rattle.filt_syntax.specs.Syntax.{rule}
+use Rattle.filt_syntax.specs.Levels.{Form}
 use Rattle.filt_syntax.specs.Parse.{IsRefused}
 use Rattle.filt_syntax.specs.declared.parse.SyntaxFault.TheVariants as faults
 use Rattle.conf_tree.specs.Syntax.{config}
-use Rattle.conf_tree.specs.Said.{said_words}
+use Rattle.conf_tree.specs.Significant.{significant_words}
 use Rattle.conf_tree.specs.Sentence.{StopsAt}
-use Rattle.conf_laws.proofs.Begins.{same_front}
+use Rattle.conf_tree.proofs.TokenLaw.{same_front}
 
 front_is : (words before : List Word) (at : ℕ) → words ≡ before ++ drop at words → before ≡ take at words
 front_is words before at e = same_front before (take at words) (drop at words) (sym e ∙ sym (take-append-drop at words))
 
-pub config_before : (text : List ℕ) (tokens : List Token) (place at : ℕ) → StopsAt text tokens place at → IsBegunWithin rule 64 config (take place (said_words text tokens))
+pub config_before : (text : List ℕ) (tokens : List Token) (place at : ℕ) → StopsAt text tokens place at → IsBegunWithin rule 64 config (take place (significant_words text tokens))
 config_before text tokens place at s =
-    subst (λ (u : List Word). IsBegunWithin rule 64 config u) (front_is (said_words text tokens) s.stop.before place s.stop.front) s.stop.begun
+    subst (λ (u : List Word). IsBegunWithin rule 64 config u) (front_is (significant_words text tokens) s.stop.before place s.stop.front) s.stop.begun
 
 pub words_before : (f : Form) (words : List Word) (at : ℕ) → IsRefused f words 0 (faults.Bad at) → IsBegunWithin rule 64 f (take at words)
 words_before f words at h = subst (λ (u : List Word). IsBegunWithin rule 64 f u) (front_is words h.1.before at h.1.front) h.1.begun

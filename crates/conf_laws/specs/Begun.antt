@@ -2,17 +2,17 @@
 use Rattle.std.specs.Prelude.{◌≡◌, ◌≤◌, ◌⊎◌, ℕ, List, ◌++◌, length}
 use Rattle.conf_lex.specs.Lex.{Lexes}
 use Rattle.conf_lex.specs.declared.token.Token.{Token}
-use Rattle.grammar.specs.Grammar.{Tree, yield, Fits}
+use Rattle.grammar.specs.Grammar.{ParseTree, yield, DerivesLongest}
 use Rattle.filt_syntax.specs.Syntax.{rule}
 use Rattle.filt_syntax.specs.declared.parse.SyntaxFault.TheVariants as faults
 use Rattle.conf_tree.specs.Syntax.{config}
-use Rattle.conf_tree.specs.Said.{said_words}
+use Rattle.conf_tree.specs.Significant.{significant_words}
 use Rattle.conf_tree.specs.Sentence.{IsRefused}
 use Rattle.conf_tree.specs.Read.{IsConfigText}
 use Rattle.conf_tree.specs.Alike.{AreAlike}
 
 -- The text is a configuration; or it is refused for its levels alone, at a token behind so many.
-abbrev pub IsConfigOrDeeper : List ℕ → List Token → ℕ → Tree → Type 0
+abbrev pub IsConfigOrDeeper : List ℕ → List Token → ℕ → ParseTree → Type 0
 IsConfigOrDeeper text tokens count tree =
     IsConfigText text tree
     ⊎ ((token : ℕ) × IsRefused text tokens (faults.TooDeep token) × (count ≤ token))
@@ -24,9 +24,9 @@ pub record BeginSome (text : List ℕ) (front : List Token) : Type 0 where
   pub other : List ℕ
   pub seen : List Token
   pub more : List Token
-  pub tree : Tree
+  pub tree : ParseTree
   pub lexes : Lexes 0 other (seen ++ more)
   pub alike : AreAlike text front other seen
-  pub fits : Fits rule tree config
-  pub reads : yield tree ≡ said_words other (seen ++ more)
+  pub fits : DerivesLongest rule tree config
+  pub reads : yield tree ≡ significant_words other (seen ++ more)
   pub levels : IsConfigOrDeeper other (seen ++ more) (length seen) tree

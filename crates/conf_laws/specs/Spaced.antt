@@ -2,7 +2,7 @@
 use Rattle.std.specs.Prelude.{ℕ, ⊤, List, [], ◌∷◌, ◌++◌, map}
 use Rattle.conf_lex.specs.Shapes.{IsShape, IsValue}
 use Rattle.conf_lex.specs.Words.{slice_of}
-use Rattle.conf_lex.specs.declared.shapes.Sort.{Sort}
+use Rattle.conf_lex.specs.declared.scan.Lexeme.{Lexeme}
 use Rattle.conf_lex.specs.declared.token.Token.{Token}
 use Rattle.conf_lex.specs.declared.token.TokenKind.{TokenKind}
 
@@ -12,7 +12,7 @@ Spelling = List ℕ × TokenKind
 
 -- these bytes are a token that says so, where a space comes behind them
 pub record IsSpelling (s : Spelling) : Type 0 where
-  pub sort : Sort
+  pub sort : Lexeme
   pub shape : IsShape sort s.0 (32 ∷ [])
   pub value : IsValue sort s.0 s.1
 

@@ -7,7 +7,7 @@ ghost use Rattle.grammar.specs.Sentences.{IsBegunWithin};
 ghost use Rattle.filt_syntax.specs.Parse.{IsRefused};
 ghost use Rattle.filt_syntax.specs.Syntax.{block, expr, rule};
 ghost use Rattle.conf_tree.specs.Read.{IsRefusedText};
-ghost use Rattle.conf_tree.specs.Said.{said_words};
+ghost use Rattle.conf_tree.specs.Significant.{significant_words};
 ghost use Rattle.conf_tree.specs.Sentence.{StopsAt};
 ghost use Rattle.conf_tree.specs.Syntax.{config};
 ghost use Rattle.conf_tree.specs.declared.kind.ConfKind.{ConfKind};
@@ -24,7 +24,7 @@ use filt_syntax::SyntaxFault;
 pub fn words_before_a_refused_one_begin_a_sentence()
     ensures config { (text : List ℕ) (tokens : List Token) (place at : ℕ)
         → StopsAt text tokens place at
-        → IsBegunWithin rule 64 config (take place (said_words text tokens)) }
+        → IsBegunWithin rule 64 config (take place (significant_words text tokens)) }
     ensures block { (words : List Word) (at : ℕ)
         → IsRefused block words 0 (SyntaxFault.Bad at)
         → IsBegunWithin rule 64 block (take at words) }

@@ -2,8 +2,8 @@
 use Rattle.std.proofs.Common.{◌≡◌, ℕ, suc, zero, ◌+◌, ◌<◌, ◌≤◌, List, [], ◌∷◌, length, take, drop, Option, Some, None, refl, arith, inl, inr, ◌⊎◌}
 use Rattle.std.proofs.lemmas.List.{length-drop}
 use Rattle.bits_ip.specs.declared.address.Addr.TheVariants.{V4, V6}
-use Rattle.conf_lex.specs.declared.shapes.Sort.{Sort}
-use Rattle.conf_lex.specs.declared.shapes.Sort.TheVariants as sorts
+use Rattle.conf_lex.specs.declared.scan.Lexeme.{Lexeme}
+use Rattle.conf_lex.specs.declared.scan.Lexeme.TheVariants as lexemes
 use Rattle.conf_lex.specs.declared.token.Token.{Token}
 use Rattle.conf_lex.specs.declared.token.TokenKind.{TokenKind}
 use Rattle.conf_lex.specs.declared.token.TokenKind.TheVariants as kinds
@@ -18,39 +18,39 @@ use Rattle.conf_lex.proofs.Told.{Found, told_less, found_number, found_v4, found
 
 -- what a token says
 
-decimal_found : (slice : List ℕ) → Found (IsValue sorts.Decimal slice)
+decimal_found : (slice : List ℕ) → Found (IsValue lexemes.Decimal slice)
 decimal_found slice = elim (found_number 10 slice) [
   | inl is ↦ inl (kinds.Number is.0, is.1)
   | inr none ↦ inr (λ kind is. let spelled = decimal_kind slice kind is in none spelled.0 spelled.2)
 ]
 
-hexadecimal_found : (slice : List ℕ) → IsHexadecimal slice → Found (IsValue sorts.Hexadecimal slice)
+hexadecimal_found : (slice : List ℕ) → IsHexadecimal slice → Found (IsValue lexemes.Hexadecimal slice)
 hexadecimal_found slice hex = elim (found_number 16 (drop 2 slice)) [
   | inl is ↦ inl (kinds.Number is.0, hex_number slice is.0 hex is.1)
   | inr none ↦ inr (λ kind is. let spelled = hexadecimal_kind slice kind is in none spelled.0 (hex_spelled slice spelled.0 spelled.2))
 ]
 
-dotted_found : (slice : List ℕ) → Found (IsValue sorts.Dotted slice)
+dotted_found : (slice : List ℕ) → Found (IsValue lexemes.Ipv4 slice)
 dotted_found slice = elim (found_v4 slice) [
   | inl is ↦ inl (kinds.Ip (V4 is.0), is.1)
   | inr none ↦ inr (λ kind is. let spelled = dotted_kind slice kind is in none spelled.0 spelled.2)
 ]
 
-colons_found : (slice : List ℕ) → Found (IsValue sorts.Colons slice)
+colons_found : (slice : List ℕ) → Found (IsValue lexemes.Ipv6 slice)
 colons_found slice = elim (found_v6 slice) [
   | inl is ↦ inl (kinds.Ip (V6 is.0), is.1)
   | inr none ↦ inr (λ kind is. let spelled = colons_kind slice kind is in none spelled.0 spelled.2)
 ]
 
-value_found : (sort : Sort) (slice rest : List ℕ) → IsShape sort slice rest → Found (IsValue sort slice)
-value_found sorts.Word slice rest shape = inl (kinds.Name, tt)
-value_found sorts.Quote slice rest shape = inl (kinds.Quoted, tt)
-value_found sorts.Decimal slice rest shape = decimal_found slice
-value_found sorts.Hexadecimal slice rest shape = hexadecimal_found slice shape
-value_found sorts.Dotted slice rest shape = dotted_found slice
-value_found sorts.Colons slice rest shape = colons_found slice
-value_found sorts.Text slice rest shape = inl (kinds.Text, tt)
-value_found sorts.Mark slice rest shape = inl (kinds.Sign, tt)
+value_found : (sort : Lexeme) (slice rest : List ℕ) → IsShape sort slice rest → Found (IsValue sort slice)
+value_found lexemes.Word slice rest shape = inl (kinds.Name, tt)
+value_found lexemes.QuotedName slice rest shape = inl (kinds.QuotedName, tt)
+value_found lexemes.Decimal slice rest shape = decimal_found slice
+value_found lexemes.Hexadecimal slice rest shape = hexadecimal_found slice shape
+value_found lexemes.Ipv4 slice rest shape = dotted_found slice
+value_found lexemes.Ipv6 slice rest shape = colons_found slice
+value_found lexemes.Text slice rest shape = inl (kinds.Text, tt)
+value_found lexemes.Punctuation slice rest shape = inl (kinds.Punctuation, tt)
 
 -- the token at the front
 
@@ -59,7 +59,7 @@ record Begins (text : List ℕ) : Type 0 where
   len : ℕ
   tells : Tells text kind len
 
-token_by : (text : List ℕ) (o : Option (Sort × ℕ)) → front text ≡ o → Begins text ⊎ HasNoToken text
+token_by : (text : List ℕ) (o : Option (Lexeme × ℕ)) → front text ≡ o → Begins text ⊎ HasNoToken text
 token_by text None is = inr (no_tokens text is)
 token_by text (Some found) is =
     let token = front_token text found.0 found.1 is in

@@ -1,8 +1,8 @@
 -- The words of a list of tokens, one after another.
 use Rattle.std.proofs.Common.{◌≡◌, ℕ, suc, zero, ◌+◌, ◌-◌, ◌≤◌, Bool, true, false, cond, ◌&&◌, List, [], ◌∷◌, ◌++◌, length, map, drop, Option, Some, None, refl, sym, ◌∙◌, ap, subst, arith, append_assoc}
 use Rattle.std.proofs.lemmas.List.{length-append, length-drop, drop-drop}
-use Rattle.conf_lex.specs.declared.shapes.Sort.{Sort}
-use Rattle.conf_lex.specs.declared.shapes.Sort.TheVariants as sorts
+use Rattle.conf_lex.specs.declared.scan.Lexeme.{Lexeme}
+use Rattle.conf_lex.specs.declared.scan.Lexeme.TheVariants as lexemes
 use Rattle.conf_lex.specs.declared.token.Token.{Token}
 use Rattle.conf_lex.specs.declared.token.TokenKind.{TokenKind}
 use Rattle.conf_lex.specs.declared.token.TokenKind.TheVariants as kinds
@@ -19,19 +19,19 @@ no_quotes : (kind other : TokenKind) (n : ℕ) → kind ≡ other → quotes_of 
 no_quotes kind other n same none = omega (arith, ap quotes_of same, none)
 
 at_most_two : (kind : TokenKind) → quotes_of kind ≤ 2
-at_most_two kinds.Quoted = omega arith
+at_most_two kinds.QuotedName = omega arith
 at_most_two kinds.Text = omega arith
 at_most_two _ = omega arith
 
-quotes_len : (sort : Sort) (slice rest : List ℕ) (kind : TokenKind) → IsShape sort slice rest → IsValue sort slice kind → quotes_of kind ≤ length slice
-quotes_len sorts.Word slice rest kind is value = no_quotes kind kinds.Name (length slice) (word_kind slice kind value) refl
-quotes_len sorts.Quote slice rest kind is value = omega (arith, at_most_two kind, ap (λ (l : List ℕ). length l) is.whole, length-append is.name (39 ∷ []))
-quotes_len sorts.Decimal slice rest kind is value = let k = decimal_kind slice kind value in no_quotes kind (kinds.Number k.0) (length slice) k.1 refl
-quotes_len sorts.Hexadecimal slice rest kind is value = let k = hexadecimal_kind slice kind value in no_quotes kind (kinds.Number k.0) (length slice) k.1 refl
-quotes_len sorts.Dotted slice rest kind is value = let k = dotted_kind slice kind value in no_quotes kind _ (length slice) k.1 refl
-quotes_len sorts.Colons slice rest kind is value = let k = colons_kind slice kind value in no_quotes kind _ (length slice) k.1 refl
-quotes_len sorts.Text slice rest kind is value = omega (arith, at_most_two kind, ap (λ (l : List ℕ). length l) is.whole, length-append is.text (34 ∷ []))
-quotes_len sorts.Mark slice rest kind is value = no_quotes kind kinds.Sign (length slice) (mark_kind slice kind value) refl
+pub quotes_len : (sort : Lexeme) (slice rest : List ℕ) (kind : TokenKind) → IsShape sort slice rest → IsValue sort slice kind → quotes_of kind ≤ length slice
+quotes_len lexemes.Word slice rest kind is value = no_quotes kind kinds.Name (length slice) (word_kind slice kind value) refl
+quotes_len lexemes.QuotedName slice rest kind is value = omega (arith, at_most_two kind, ap (λ (l : List ℕ). length l) is.whole, length-append is.name (39 ∷ []))
+quotes_len lexemes.Decimal slice rest kind is value = let k = decimal_kind slice kind value in no_quotes kind (kinds.Number k.0) (length slice) k.1 refl
+quotes_len lexemes.Hexadecimal slice rest kind is value = let k = hexadecimal_kind slice kind value in no_quotes kind (kinds.Number k.0) (length slice) k.1 refl
+quotes_len lexemes.Ipv4 slice rest kind is value = let k = dotted_kind slice kind value in no_quotes kind _ (length slice) k.1 refl
+quotes_len lexemes.Ipv6 slice rest kind is value = let k = colons_kind slice kind value in no_quotes kind _ (length slice) k.1 refl
+quotes_len lexemes.Text slice rest kind is value = omega (arith, at_most_two kind, ap (λ (l : List ℕ). length l) is.whole, length-append is.text (34 ∷ []))
+quotes_len lexemes.Punctuation slice rest kind is value = no_quotes kind kinds.Punctuation (length slice) (mark_kind slice kind value) refl
 
 within_from : (place : ℕ) (whole before text : List ℕ) (ts : List Token) → place ≡ length before → whole ≡ before ++ text → Lexes place text ts → AreWithin whole ts
 within_from place whole before text [] at cut lexes = tt

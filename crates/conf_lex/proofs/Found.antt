@@ -8,14 +8,14 @@ use Rattle.std.proofs.lemmas.Bool.Decides.{nat_tests}
 use Rattle.std.proofs.lemmas.List.{length-append}
 use Rattle.std.proofs.lemmas.List.Folds.{length-prefix_len}
 use Rattle.std.proofs.lemmas.Option.{option_and_then_some}
-use Rattle.conf_lex.specs.declared.shapes.Sort.{Sort}
-use Rattle.conf_lex.specs.declared.shapes.Sort.TheVariants as sorts
+use Rattle.conf_lex.specs.declared.scan.Lexeme.{Lexeme}
+use Rattle.conf_lex.specs.declared.scan.Lexeme.TheVariants as lexemes
 use Rattle.conf_lex.specs.Shapes.{is_letter, is_name_byte, is_quoted_byte, is_text_byte, first_passes, IsDigits, IsDotted, IsShape}
 use Rattle.conf_lex.specs.Fronts.{quote_len, text_len, dot_len, dotted_len, front}
 use Rattle.conf_lex.proofs.Runs.{run_whole, run_passes, len_yes, first_is, if_some, map_some}
 
 -- a front of the text that is of the sort, and its length
-pub record Found (sort : Sort) (text : List ℕ) (n : ℕ) : Type 0 where
+pub record Found (sort : Lexeme) (text : List ℕ) (n : ℕ) : Type 0 where
   pub slice : List ℕ
   pub rest : List ℕ
   pub whole : text ≡ slice ++ rest
@@ -25,7 +25,7 @@ pub record Found (sort : Sort) (text : List ℕ) (n : ℕ) : Type 0 where
 letter_is_name_byte : (b : ℕ) → is_letter b ≡ true → is_name_byte b ≡ true
 letter_is_name_byte b is = grind (arith, nat_tests)
 
-pub found_word : (b : ℕ) (bytes : List ℕ) → is_letter b ≡ true → Found sorts.Word (b ∷ bytes) (prefix_len is_name_byte (b ∷ bytes))
+pub found_word : (b : ℕ) (bytes : List ℕ) → is_letter b ≡ true → Found lexemes.Word (b ∷ bytes) (prefix_len is_name_byte (b ∷ bytes))
 found_word b bytes letter =
     let name = letter_is_name_byte b letter in
     let len = length-prefix_len is_name_byte bytes in
@@ -37,7 +37,7 @@ found_word b bytes letter =
       shape = (letter, run_passes is_name_byte bytes);
     }
 
-pub found_digits : (text : List ℕ) → 0 < prefix_len is_ascii_digit text → Found sorts.Decimal text (prefix_len is_ascii_digit text)
+pub found_digits : (text : List ℕ) → 0 < prefix_len is_ascii_digit text → Found lexemes.Decimal text (prefix_len is_ascii_digit text)
 found_digits text some =
     let len = length-prefix_len is_ascii_digit text in
     record {
@@ -48,7 +48,7 @@ found_digits text some =
       shape = (omega (arith, some, len), run_passes is_ascii_digit text);
     }
 
-pub found_hexadecimal : (bytes : List ℕ) → Found sorts.Hexadecimal (48 ∷ 120 ∷ bytes) (prefix_len is_ascii_hexdigit bytes + 2)
+pub found_hexadecimal : (bytes : List ℕ) → Found lexemes.Hexadecimal (48 ∷ 120 ∷ bytes) (prefix_len is_ascii_hexdigit bytes + 2)
 found_hexadecimal bytes =
     let len = length-prefix_len is_ascii_hexdigit bytes in
     record {
@@ -67,7 +67,7 @@ enclosed p mark bytes rest behind =
 enclosed_len : (p : ℕ → Bool) (mark : ℕ) (bytes : List ℕ) → prefix_len p bytes + 2 ≡ length (mark ∷ take_while p bytes ++ mark ∷ [])
 enclosed_len p mark bytes = omega (arith, length-append (take_while p bytes) (mark ∷ []), length-prefix_len p bytes)
 
-pub found_quote : (bytes : List ℕ) (n : ℕ) → quote_len bytes ≡ Some n → Found sorts.Quote (39 ∷ bytes) n
+pub found_quote : (bytes : List ℕ) (n : ℕ) → quote_len bytes ≡ Some n → Found lexemes.QuotedName (39 ∷ bytes) n
 found_quote bytes n is =
     let tests = if_some (nat_le 1 (prefix_len is_quoted_byte bytes) && first_passes (λ c. c == 39) (drop (prefix_len is_quoted_byte bytes) bytes)) (prefix_len is_quoted_byte bytes + 2) n is in
     let parts = and_parts (nat_le 1 (prefix_len is_quoted_byte bytes)) _ tests.0 in
@@ -85,7 +85,7 @@ found_quote bytes n is =
       };
     }
 
-pub found_text : (bytes : List ℕ) (n : ℕ) → text_len bytes ≡ Some n → Found sorts.Text (34 ∷ bytes) n
+pub found_text : (bytes : List ℕ) (n : ℕ) → text_len bytes ≡ Some n → Found lexemes.Text (34 ∷ bytes) n
 found_text bytes n is =
     let tests = if_some (first_passes (λ c. c == 34) (drop (prefix_len is_text_byte bytes) bytes)) (prefix_len is_text_byte bytes + 2) n is in
     let behind = first_is 34 (drop (prefix_len is_text_byte bytes) bytes) tests.0 in

@@ -11,3 +11,4 @@ mod Places
 mod Told
 mod Each
 mod Made
+mod Walks

@@ -10,20 +10,20 @@ use Rattle.std.proofs.lemmas.List.{length-append}
 use Rattle.std.proofs.lemmas.List.Folds.{length-prefix_len}
 use Rattle.std.proofs.lemmas.List.Sums.{count_by-le-length, sum_by-cons}
 use Rattle.std.proofs.lemmas.Option.{option_and_then_some}
-use Rattle.conf_lex.specs.declared.shapes.Sort.{Sort}
-use Rattle.conf_lex.specs.declared.shapes.Sort.TheVariants as sorts
+use Rattle.conf_lex.specs.declared.scan.Lexeme.{Lexeme}
+use Rattle.conf_lex.specs.declared.scan.Lexeme.TheVariants as lexemes
 use Rattle.conf_lex.specs.Shapes.{is_letter, is_name_byte, is_quoted_byte, is_text_byte, is_colons_byte, is_sign, is_short_sign, is_pair_sign, is_empty_sign, short_signs, pair_signs, empty_signs, first_passes, IsDigits, IsDotted, IsShape, IsWord, IsQuote, IsText, IsHexadecimal, IsColons}
 use Rattle.conf_lex.specs.Fronts.{quote_len, text_len, dot_len, dotted_len, begins_hexadecimal, dotted_or_number, has_sign, begins_comment, sign_len, begins_colons, plain_front, front}
 use Rattle.conf_lex.proofs.Runs.{run_reach, run_is, len_yes, len_no, run_yes, run_no, first_is, if_some, map_some, among}
 use Rattle.conf_lex.proofs.Found.{drop_front}
 
 -- the computed front is at least so long, and of the sort where it is no longer
-abbrev pub Reaches : Sort → ℕ → Option (Sort × ℕ) → Type 0
+abbrev pub Reaches : Lexeme → ℕ → Option (Lexeme × ℕ) → Type 0
 Reaches sort k None = ⊥
 Reaches sort k (Some found) = (k ≤ found.1) × (k ≡ found.1 → sort ≡ found.0)
 
-reaches_along : (sort : Sort) (k : ℕ) (o p : Option (Sort × ℕ)) → o ≡ p → Reaches sort k p → Reaches sort k o
-reaches_along sort k o p e h = subst (λ (q : Option (Sort × ℕ)). Reaches sort k q) (sym e) h
+reaches_along : (sort : Lexeme) (k : ℕ) (o p : Option (Lexeme × ℕ)) → o ≡ p → Reaches sort k p → Reaches sort k o
+reaches_along sort k o p e h = subst (λ (q : Option (Lexeme × ℕ)). Reaches sort k q) (sym e) h
 
 le_is : (m n : ℕ) → m ≤ n → nat_le m n ≡ true
 le_is m n h = le-leb m n h
@@ -103,17 +103,17 @@ no_colons_at b bytes other = elim (cases_Bool (begins_colons (b ∷ bytes))) [
 ]
 
 -- a sort of token in whose place an IPv6 address may stand, which is then longer
-under_colons : (sort : Sort) (slice rest : List ℕ) (n : ℕ) → (begins_colons (slice ++ rest) ≡ true → length slice < prefix_len is_colons_byte (slice ++ rest)) → Reaches sort (length slice) (plain_front (slice ++ rest)) → Reaches sort (length slice) (front (slice ++ rest))
+under_colons : (sort : Lexeme) (slice rest : List ℕ) (n : ℕ) → (begins_colons (slice ++ rest) ≡ true → length slice < prefix_len is_colons_byte (slice ++ rest)) → Reaches sort (length slice) (plain_front (slice ++ rest)) → Reaches sort (length slice) (front (slice ++ rest))
 under_colons sort slice rest n longer plain = elim (cases_Bool (begins_colons (slice ++ rest))) [
-  | inl is ↦ reaches_along sort (length slice) (front (slice ++ rest)) (Some (sorts.Colons, prefix_len is_colons_byte (slice ++ rest)))
-      (ap (λ (t : Bool). cond t (Some (sorts.Colons, prefix_len is_colons_byte (slice ++ rest))) (plain_front (slice ++ rest))) is)
+  | inl is ↦ reaches_along sort (length slice) (front (slice ++ rest)) (Some (lexemes.Ipv6, prefix_len is_colons_byte (slice ++ rest)))
+      (ap (λ (t : Bool). cond t (Some (lexemes.Ipv6, prefix_len is_colons_byte (slice ++ rest))) (plain_front (slice ++ rest))) is)
       (omega (arith, longer is), λ e. absurd (omega (arith, longer is, e)))
   | inr fails ↦ reaches_along sort (length slice) (front (slice ++ rest)) (plain_front (slice ++ rest))
-      (ap (λ (t : Bool). cond t (Some (sorts.Colons, prefix_len is_colons_byte (slice ++ rest))) (plain_front (slice ++ rest))) fails) plain
+      (ap (λ (t : Bool). cond t (Some (lexemes.Ipv6, prefix_len is_colons_byte (slice ++ rest))) (plain_front (slice ++ rest))) fails) plain
 ]
 
 pub front_plain : (text : List ℕ) → begins_colons text ≡ false → front text ≡ plain_front text
-front_plain text fails = ap (λ (t : Bool). cond t (Some (sorts.Colons, prefix_len is_colons_byte text)) (plain_front text)) fails
+front_plain text fails = ap (λ (t : Bool). cond t (Some (lexemes.Ipv6, prefix_len is_colons_byte text)) (plain_front text)) fails
 
 -- what a test says of each byte, a weaker one does
 all_weaker : (p q : ℕ → Bool) → ((b : ℕ) → p b ≡ true → q b ≡ true) → (xs : List ℕ) → list_all p xs ≡ true → list_all q xs ≡ true
@@ -151,13 +151,13 @@ without_colon slice rest none is = run_longer slice rest none (omega (arith, col
 letter_is_name_byte : (b : ℕ) → is_letter b ≡ true → is_name_byte b ≡ true
 letter_is_name_byte b is = grind (arith, nat_tests)
 
-reach_word : (slice rest : List ℕ) → IsWord slice → Reaches sorts.Word (length slice) (front (slice ++ rest))
+reach_word : (slice rest : List ℕ) → IsWord slice → Reaches lexemes.Word (length slice) (front (slice ++ rest))
 reach_word [] rest word = absurd word
 reach_word (b ∷ bytes) rest word =
     let all : list_all is_name_byte (b ∷ bytes) ≡ true = and_from (is_name_byte b) (list_all is_name_byte bytes) (letter_is_name_byte b word.0) word.1 in
-    let plain : plain_front (b ∷ (bytes ++ rest)) ≡ Some (sorts.Word, prefix_len is_name_byte (b ∷ (bytes ++ rest))) = rw word.0 refl in
-    under_colons sorts.Word (b ∷ bytes) rest 0 (without_colon (b ∷ bytes) rest (all_weaker is_name_byte (λ c. not (c == 58)) no_colon_in_name (b ∷ bytes) all))
-    (reaches_along sorts.Word (length (b ∷ bytes)) (plain_front (b ∷ (bytes ++ rest))) (Some (sorts.Word, prefix_len is_name_byte (b ∷ (bytes ++ rest)))) plain
+    let plain : plain_front (b ∷ (bytes ++ rest)) ≡ Some (lexemes.Word, prefix_len is_name_byte (b ∷ (bytes ++ rest))) = rw word.0 refl in
+    under_colons lexemes.Word (b ∷ bytes) rest 0 (without_colon (b ∷ bytes) rest (all_weaker is_name_byte (λ c. not (c == 58)) no_colon_in_name (b ∷ bytes) all))
+    (reaches_along lexemes.Word (length (b ∷ bytes)) (plain_front (b ∷ (bytes ++ rest))) (Some (lexemes.Word, prefix_len is_name_byte (b ∷ (bytes ++ rest)))) plain
     (run_reach is_name_byte (b ∷ bytes) rest all, λ e. refl))
 
 -- numbers and IPv4 addresses
@@ -189,38 +189,38 @@ one_digit (b ∷ bytes) is =
 dotted_longer : (k : ℕ) (text : List ℕ) (n : ℕ) → dotted_len (suc k) text ≡ Some n → prefix_len is_ascii_digit text < n
 dotted_longer k text n is = dot_longer (dotted_len k) text n is
 
-reach_number : (text : List ℕ) (k : ℕ) (o : Option ℕ) → o ≡ dotted_len 3 text → k ≤ prefix_len is_ascii_digit text → Reaches sorts.Decimal k (Some (dotted_or_number o text))
+reach_number : (text : List ℕ) (k : ℕ) (o : Option ℕ) → o ≡ dotted_len 3 text → k ≤ prefix_len is_ascii_digit text → Reaches lexemes.Decimal k (Some (dotted_or_number o text))
 reach_number text k (Some n) is within =
     let longer = dotted_longer 2 text n (sym is) in
     (omega (arith, longer), λ e. absurd (omega (arith, longer)))
 reach_number text k None is within = elim (cases_Bool (begins_hexadecimal text)) [
-  | inl hex ↦ reaches_along sorts.Decimal k (Some (dotted_or_number None text)) (Some (sorts.Hexadecimal, prefix_len is_ascii_hexdigit (drop 2 text) + 2))
-      (ap (λ (t : Bool). Some (cond t (sorts.Hexadecimal, prefix_len is_ascii_hexdigit (drop 2 text) + 2) (sorts.Decimal, prefix_len is_ascii_digit text))) hex)
+  | inl hex ↦ reaches_along lexemes.Decimal k (Some (dotted_or_number None text)) (Some (lexemes.Hexadecimal, prefix_len is_ascii_hexdigit (drop 2 text) + 2))
+      (ap (λ (t : Bool). Some (cond t (lexemes.Hexadecimal, prefix_len is_ascii_hexdigit (drop 2 text) + 2) (lexemes.Decimal, prefix_len is_ascii_digit text))) hex)
       (let one = one_digit text hex in (omega (arith, one), λ e. absurd (omega (arith, one))))
-  | inr other ↦ reaches_along sorts.Decimal k (Some (dotted_or_number None text)) (Some (sorts.Decimal, prefix_len is_ascii_digit text))
-      (ap (λ (t : Bool). Some (cond t (sorts.Hexadecimal, prefix_len is_ascii_hexdigit (drop 2 text) + 2) (sorts.Decimal, prefix_len is_ascii_digit text))) other)
+  | inr other ↦ reaches_along lexemes.Decimal k (Some (dotted_or_number None text)) (Some (lexemes.Decimal, prefix_len is_ascii_digit text))
+      (ap (λ (t : Bool). Some (cond t (lexemes.Hexadecimal, prefix_len is_ascii_hexdigit (drop 2 text) + 2) (lexemes.Decimal, prefix_len is_ascii_digit text))) other)
       (within, λ e. refl)
 ]
 
-reach_decimal : (slice rest : List ℕ) → IsDigits slice → Reaches sorts.Decimal (length slice) (front (slice ++ rest))
+reach_decimal : (slice rest : List ℕ) → IsDigits slice → Reaches lexemes.Decimal (length slice) (front (slice ++ rest))
 reach_decimal [] rest digits = absurd (omega (arith, digits.0))
 reach_decimal (b ∷ bytes) rest digits =
     let first = (and_parts (is_ascii_digit b) (list_all is_ascii_digit bytes) digits.1).0 in
-    under_colons sorts.Decimal (b ∷ bytes) rest 0 (without_colon (b ∷ bytes) rest (all_weaker is_ascii_digit (λ c. not (c == 58)) no_colon_in_digits (b ∷ bytes) digits.1))
-    (reaches_along sorts.Decimal (length (b ∷ bytes)) (plain_front (b ∷ (bytes ++ rest))) (Some (dotted_or_number (dotted_len 3 (b ∷ (bytes ++ rest))) (b ∷ (bytes ++ rest)))) (plain_digit b (bytes ++ rest) first)
+    under_colons lexemes.Decimal (b ∷ bytes) rest 0 (without_colon (b ∷ bytes) rest (all_weaker is_ascii_digit (λ c. not (c == 58)) no_colon_in_digits (b ∷ bytes) digits.1))
+    (reaches_along lexemes.Decimal (length (b ∷ bytes)) (plain_front (b ∷ (bytes ++ rest))) (Some (dotted_or_number (dotted_len 3 (b ∷ (bytes ++ rest))) (b ∷ (bytes ++ rest)))) (plain_digit b (bytes ++ rest) first)
     (reach_number (b ∷ (bytes ++ rest)) (length (b ∷ bytes)) (dotted_len 3 (b ∷ (bytes ++ rest))) refl (run_reach is_ascii_digit (b ∷ bytes) rest digits.1)))
 
-hex_front : (bytes : List ℕ) → plain_front (48 ∷ 120 ∷ bytes) ≡ Some (sorts.Hexadecimal, prefix_len is_ascii_hexdigit bytes + 2)
+hex_front : (bytes : List ℕ) → plain_front (48 ∷ 120 ∷ bytes) ≡ Some (lexemes.Hexadecimal, prefix_len is_ascii_hexdigit bytes + 2)
 hex_front bytes = refl
 
-reach_hexadecimal : (slice rest : List ℕ) → IsHexadecimal slice → Reaches sorts.Hexadecimal (length slice) (front (slice ++ rest))
+reach_hexadecimal : (slice rest : List ℕ) → IsHexadecimal slice → Reaches lexemes.Hexadecimal (length slice) (front (slice ++ rest))
 reach_hexadecimal slice rest hex =
-    let P : List ℕ → Type 0 = λ s. Reaches sorts.Hexadecimal (length s) (front (s ++ rest)) in
+    let P : List ℕ → Type 0 = λ s. Reaches lexemes.Hexadecimal (length s) (front (s ++ rest)) in
     let spelled = 48 ∷ 120 ∷ hex.digits in
     let none : list_all (λ c. not (c == 58)) (48 ∷ 120 ∷ hex.digits) ≡ true = all_weaker is_ascii_hexdigit (λ c. not (c == 58)) no_colon_in_hex hex.digits hex.bytes in
     let reach = run_reach is_ascii_hexdigit hex.digits rest hex.bytes in
-    subst P (sym hex.whole) (under_colons sorts.Hexadecimal (48 ∷ 120 ∷ hex.digits) rest 0 (without_colon (48 ∷ 120 ∷ hex.digits) rest none)
-    (reaches_along sorts.Hexadecimal (length (48 ∷ 120 ∷ hex.digits)) (plain_front (48 ∷ 120 ∷ (hex.digits ++ rest))) (Some (sorts.Hexadecimal, prefix_len is_ascii_hexdigit (hex.digits ++ rest) + 2)) (hex_front (hex.digits ++ rest))
+    subst P (sym hex.whole) (under_colons lexemes.Hexadecimal (48 ∷ 120 ∷ hex.digits) rest 0 (without_colon (48 ∷ 120 ∷ hex.digits) rest none)
+    (reaches_along lexemes.Hexadecimal (length (48 ∷ 120 ∷ hex.digits)) (plain_front (48 ∷ 120 ∷ (hex.digits ++ rest))) (Some (lexemes.Hexadecimal, prefix_len is_ascii_hexdigit (hex.digits ++ rest) + 2)) (hex_front (hex.digits ++ rest))
     (omega (arith, reach), λ e. refl)))
 
 first_of_number : (number more slice : List ℕ) → IsDigits number → slice ≡ number ++ 46 ∷ more → (b : ℕ) × (bytes : List ℕ) × (slice ≡ b ∷ bytes) × (is_ascii_digit b ≡ true)
@@ -232,17 +232,17 @@ first_digit zero [] digits = absurd (omega (arith, digits.0))
 first_digit zero (b ∷ bytes) digits = (b, bytes, refl, (and_parts (is_ascii_digit b) (list_all is_ascii_digit bytes) digits.1).0)
 first_digit (suc k) slice dotted = first_of_number dotted.0 dotted.1 slice dotted.2 dotted.3
 
-reach_ipv4 : (slice rest : List ℕ) → IsDotted 3 slice → Reaches sorts.Dotted (length slice) (front (slice ++ rest))
+reach_ipv4 : (slice rest : List ℕ) → IsDotted 3 slice → Reaches lexemes.Ipv4 (length slice) (front (slice ++ rest))
 reach_ipv4 slice rest dotted =
     let first = first_digit 3 slice dotted in
     let reach = reach_dotted 3 slice rest dotted in
     let whole : slice ++ rest ≡ first.0 ∷ (first.1 ++ rest) = ap (λ (l : List ℕ). l ++ rest) first.2 in
-    let plain : plain_front (slice ++ rest) ≡ Some (sorts.Dotted, reach.0) =
+    let plain : plain_front (slice ++ rest) ≡ Some (lexemes.Ipv4, reach.0) =
     ap plain_front whole ∙ plain_digit first.0 (first.1 ++ rest) first.3
     ∙ ap (λ (l : List ℕ). Some (dotted_or_number (dotted_len 3 l) l)) (sym whole)
     ∙ ap (λ (o : Option ℕ). Some (dotted_or_number o (slice ++ rest))) reach.1 in
-    under_colons sorts.Dotted slice rest 0 (without_colon slice rest (no_colon_in_dotted 3 slice dotted))
-    (reaches_along sorts.Dotted (length slice) (plain_front (slice ++ rest)) (Some (sorts.Dotted, reach.0)) plain (reach.2, λ e. refl))
+    under_colons lexemes.Ipv4 slice rest 0 (without_colon slice rest (no_colon_in_dotted 3 slice dotted))
+    (reaches_along lexemes.Ipv4 (length slice) (plain_front (slice ++ rest)) (Some (lexemes.Ipv4, reach.0)) plain (reach.2, λ e. refl))
 
 -- quoted names and texts
 
@@ -264,26 +264,26 @@ text_len_is text rest all =
     ap (λ (n : ℕ). cond (first_passes (λ c. c == 34) (drop n (text ++ 34 ∷ rest))) (Some (n + 2)) None) run
     ∙ ap (λ (t : Bool). cond t (Some (length text + 2)) None) behind
 
-front_at_quote : (bytes : List ℕ) → front (39 ∷ bytes) ≡ option_map (λ n. (sorts.Quote, n)) (quote_len bytes)
+front_at_quote : (bytes : List ℕ) → front (39 ∷ bytes) ≡ option_map (λ n. (lexemes.QuotedName, n)) (quote_len bytes)
 front_at_quote bytes = front_plain (39 ∷ bytes) (no_colons_at 39 bytes refl)
 
-front_at_text : (bytes : List ℕ) → front (34 ∷ bytes) ≡ option_map (λ n. (sorts.Text, n)) (text_len bytes)
+front_at_text : (bytes : List ℕ) → front (34 ∷ bytes) ≡ option_map (λ n. (lexemes.Text, n)) (text_len bytes)
 front_at_text bytes = front_plain (34 ∷ bytes) (no_colons_at 34 bytes refl)
 
-reach_quote : (slice rest : List ℕ) → IsQuote slice → Reaches sorts.Quote (length slice) (front (slice ++ rest))
+reach_quote : (slice rest : List ℕ) → IsQuote slice → Reaches lexemes.QuotedName (length slice) (front (slice ++ rest))
 reach_quote slice rest quote =
     let whole : slice ++ rest ≡ 39 ∷ (quote.name ++ 39 ∷ rest) = ap (λ (l : List ℕ). l ++ rest) quote.whole ∙ ap (λ (l : List ℕ). 39 ∷ l) (append_assoc quote.name (39 ∷ []) rest) in
-    let is : front (slice ++ rest) ≡ Some (sorts.Quote, length quote.name + 2) =
-    ap front whole ∙ front_at_quote (quote.name ++ 39 ∷ rest) ∙ ap (option_map (λ n. (sorts.Quote, n))) (quote_len_is quote.name rest quote.some quote.bytes) in
-    reaches_along sorts.Quote (length slice) (front (slice ++ rest)) (Some (sorts.Quote, length quote.name + 2)) is
+    let is : front (slice ++ rest) ≡ Some (lexemes.QuotedName, length quote.name + 2) =
+    ap front whole ∙ front_at_quote (quote.name ++ 39 ∷ rest) ∙ ap (option_map (λ n. (lexemes.QuotedName, n))) (quote_len_is quote.name rest quote.some quote.bytes) in
+    reaches_along lexemes.QuotedName (length slice) (front (slice ++ rest)) (Some (lexemes.QuotedName, length quote.name + 2)) is
     (omega (arith, ap (λ (l : List ℕ). length l) quote.whole, length-append quote.name (39 ∷ [])), λ e. refl)
 
-reach_text : (slice rest : List ℕ) → IsText slice → Reaches sorts.Text (length slice) (front (slice ++ rest))
+reach_text : (slice rest : List ℕ) → IsText slice → Reaches lexemes.Text (length slice) (front (slice ++ rest))
 reach_text slice rest text =
     let whole : slice ++ rest ≡ 34 ∷ (text.text ++ 34 ∷ rest) = ap (λ (l : List ℕ). l ++ rest) text.whole ∙ ap (λ (l : List ℕ). 34 ∷ l) (append_assoc text.text (34 ∷ []) rest) in
-    let is : front (slice ++ rest) ≡ Some (sorts.Text, length text.text + 2) =
-    ap front whole ∙ front_at_text (text.text ++ 34 ∷ rest) ∙ ap (option_map (λ n. (sorts.Text, n))) (text_len_is text.text rest text.bytes) in
-    reaches_along sorts.Text (length slice) (front (slice ++ rest)) (Some (sorts.Text, length text.text + 2)) is
+    let is : front (slice ++ rest) ≡ Some (lexemes.Text, length text.text + 2) =
+    ap front whole ∙ front_at_text (text.text ++ 34 ∷ rest) ∙ ap (option_map (λ n. (lexemes.Text, n))) (text_len_is text.text rest text.bytes) in
+    reaches_along lexemes.Text (length slice) (front (slice ++ rest)) (Some (lexemes.Text, length text.text + 2)) is
     (omega (arith, ap (λ (l : List ℕ). length l) text.whole, length-append text.text (34 ∷ [])), λ e. refl)
 
 -- signs
@@ -316,7 +316,7 @@ alone slice = not (first_passes is_colons_byte slice) || (length slice == 1)
 sign_first : (b : ℕ) (bytes : List ℕ) → is_sign (b ∷ bytes) ≡ true → is_mark_first b ≡ true
 sign_first b bytes is = sign_test (first_passes is_mark_first) (b ∷ bytes) refl refl refl is
 
-pub plain_mark : (b : ℕ) (bytes : List ℕ) → is_mark_first b ≡ true → plain_front (b ∷ bytes) ≡ option_map (λ n. (sorts.Mark, n)) (sign_len (b ∷ bytes))
+pub plain_mark : (b : ℕ) (bytes : List ℕ) → is_mark_first b ≡ true → plain_front (b ∷ bytes) ≡ option_map (λ n. (lexemes.Punctuation, n)) (sign_len (b ∷ bytes))
 plain_mark b bytes is =
     let one = and_parts (not (is_letter b)) _ is in
     let two = and_parts (not (is_ascii_digit b)) _ one.1 in
@@ -381,14 +381,14 @@ sign_under_colons (b ∷ bytes) rest is colons =
       | inr one ↦ omega (arith, run, eqb-true (length (b ∷ bytes)) 1 one)
     ]
 
-reach_mark : (slice rest : List ℕ) → is_sign slice ≡ true → (slice ≡ codes "/" → first_passes (λ b. b == 42) rest ≡ false) → Reaches sorts.Mark (length slice) (front (slice ++ rest))
+reach_mark : (slice rest : List ℕ) → is_sign slice ≡ true → (slice ≡ codes "/" → first_passes (λ b. b == 42) rest ≡ false) → Reaches lexemes.Punctuation (length slice) (front (slice ++ rest))
 reach_mark [] rest is slash = absurd (false≢true is)
 reach_mark (b ∷ bytes) rest is slash =
     let lens = mark_lens (length (b ∷ bytes)) (sign_test mark_len (b ∷ bytes) refl refl refl is) in
     let reach = sign_reach (b ∷ (bytes ++ rest)) (length (b ∷ bytes)) (no_comment (b ∷ bytes) rest is slash) (has_sign_is (b ∷ bytes) rest is) lens in
-    let plain : plain_front (b ∷ (bytes ++ rest)) ≡ Some (sorts.Mark, reach.0) = plain_mark b (bytes ++ rest) (sign_first b bytes is) ∙ ap (option_map (λ n. (sorts.Mark, n))) reach.1 in
-    under_colons sorts.Mark (b ∷ bytes) rest 0 (sign_under_colons (b ∷ bytes) rest is)
-    (reaches_along sorts.Mark (length (b ∷ bytes)) (plain_front (b ∷ (bytes ++ rest))) (Some (sorts.Mark, reach.0)) plain (reach.2, λ e. refl))
+    let plain : plain_front (b ∷ (bytes ++ rest)) ≡ Some (lexemes.Punctuation, reach.0) = plain_mark b (bytes ++ rest) (sign_first b bytes is) ∙ ap (option_map (λ n. (lexemes.Punctuation, n))) reach.1 in
+    under_colons lexemes.Punctuation (b ∷ bytes) rest 0 (sign_under_colons (b ∷ bytes) rest is)
+    (reaches_along lexemes.Punctuation (length (b ∷ bytes)) (plain_front (b ∷ (bytes ++ rest))) (Some (lexemes.Punctuation, reach.0)) plain (reach.2, λ e. refl))
 
 -- IPv6 addresses
 
@@ -410,20 +410,20 @@ colons_begin slice rest colons =
     let last : not (first_passes is_name_byte (drop (prefix_len is_colons_byte (slice ++ rest)) (slice ++ rest))) ≡ true = ap (λ (l : List ℕ). not (first_passes is_name_byte l)) behind ∙ not_from_false (first_passes is_name_byte rest) stops.0 in
     (and_from (nat_le 2 (count_by is_colon (take_while is_colons_byte (slice ++ rest)))) _ two last, run)
 
-reach_colons : (slice rest : List ℕ) → IsColons slice rest → Reaches sorts.Colons (length slice) (front (slice ++ rest))
+reach_colons : (slice rest : List ℕ) → IsColons slice rest → Reaches lexemes.Ipv6 (length slice) (front (slice ++ rest))
 reach_colons slice rest colons =
     let begin = colons_begin slice rest colons in
-    reaches_along sorts.Colons (length slice) (front (slice ++ rest)) (Some (sorts.Colons, prefix_len is_colons_byte (slice ++ rest)))
-    (ap (λ (t : Bool). cond t (Some (sorts.Colons, prefix_len is_colons_byte (slice ++ rest))) (plain_front (slice ++ rest))) begin.0)
+    reaches_along lexemes.Ipv6 (length slice) (front (slice ++ rest)) (Some (lexemes.Ipv6, prefix_len is_colons_byte (slice ++ rest)))
+    (ap (λ (t : Bool). cond t (Some (lexemes.Ipv6, prefix_len is_colons_byte (slice ++ rest))) (plain_front (slice ++ rest))) begin.0)
     (omega (arith, begin.1), λ e. refl)
 
 -- The computed front is at least as long as any front of some sort, and of its sort where it is as long.
-pub reaches : (sort : Sort) (slice rest : List ℕ) → IsShape sort slice rest → Reaches sort (length slice) (front (slice ++ rest))
-reaches sorts.Word slice rest is = reach_word slice rest is
-reaches sorts.Quote slice rest is = reach_quote slice rest is
-reaches sorts.Decimal slice rest is = reach_decimal slice rest is
-reaches sorts.Hexadecimal slice rest is = reach_hexadecimal slice rest is
-reaches sorts.Dotted slice rest is = reach_ipv4 slice rest is
-reaches sorts.Colons slice rest is = reach_colons slice rest is
-reaches sorts.Text slice rest is = reach_text slice rest is
-reaches sorts.Mark slice rest is = reach_mark slice rest is.0 is.1
+pub reaches : (sort : Lexeme) (slice rest : List ℕ) → IsShape sort slice rest → Reaches sort (length slice) (front (slice ++ rest))
+reaches lexemes.Word slice rest is = reach_word slice rest is
+reaches lexemes.QuotedName slice rest is = reach_quote slice rest is
+reaches lexemes.Decimal slice rest is = reach_decimal slice rest is
+reaches lexemes.Hexadecimal slice rest is = reach_hexadecimal slice rest is
+reaches lexemes.Ipv4 slice rest is = reach_ipv4 slice rest is
+reaches lexemes.Ipv6 slice rest is = reach_colons slice rest is
+reaches lexemes.Text slice rest is = reach_text slice rest is
+reaches lexemes.Punctuation slice rest is = reach_mark slice rest is.0 is.1

@@ -12,8 +12,8 @@ use Rattle.bits_ip.specs.Text.{IsAddrText}
 use Rattle.bits_ip.specs.declared.address.Addr.{Addr}
 use Rattle.bits_ip.specs.declared.address.Addr.TheVariants.{V4, V6}
 use Rattle.bits_ip.proofs.Nets.{addr_texts_agree}
-use Rattle.conf_lex.specs.declared.shapes.Sort.{Sort}
-use Rattle.conf_lex.specs.declared.shapes.Sort.TheVariants as sorts
+use Rattle.conf_lex.specs.declared.scan.Lexeme.{Lexeme}
+use Rattle.conf_lex.specs.declared.scan.Lexeme.TheVariants as lexemes
 use Rattle.conf_lex.specs.declared.token.Token.{Token}
 use Rattle.conf_lex.specs.declared.token.TokenKind.{TokenKind}
 use Rattle.conf_lex.specs.declared.token.TokenKind.TheVariants as kinds
@@ -64,7 +64,7 @@ blank_first : (b : ℕ) → (is_blank b || (b == 35)) ≡ true → (is_mark_firs
 blank_first b is = (grind (arith, nat_tests), grind (arith, nat_tests))
 
 front_at_mark : (b : ℕ) (bytes : List ℕ) → is_mark_first b ≡ true → is_colons_byte b ≡ false → sign_len (b ∷ bytes) ≡ None → front (b ∷ bytes) ≡ None
-front_at_mark b bytes mark colons none = front_plain (b ∷ bytes) (no_colons_at b bytes colons) ∙ plain_mark b bytes mark ∙ ap (option_map (λ n. (sorts.Mark, n))) none
+front_at_mark b bytes mark colons none = front_plain (b ∷ bytes) (no_colons_at b bytes colons) ∙ plain_mark b bytes mark ∙ ap (option_map (λ n. (lexemes.Punctuation, n))) none
 
 front_at_separator : (piece rest : List ℕ) → IsSeparator piece rest → front (piece ++ rest) ≡ None
 front_at_separator piece rest (Blank b whole is) =
@@ -76,40 +76,40 @@ front_at_separator piece rest (Line bytes whole all ends) =
 front_at_separator piece rest (Block bytes whole first) =
     ap (λ (l : List ℕ). front (l ++ rest)) whole ∙ front_at_mark 47 (42 ∷ (bytes ++ 42 ∷ 47 ∷ []) ++ rest) refl refl refl
 
-pub token_no_separator : (text : List ℕ) (sort : Sort) (slice rest : List ℕ) → IsToken text sort slice rest → HasNoSeparator text
+pub token_no_separator : (text : List ℕ) (sort : Lexeme) (slice rest : List ℕ) → IsToken text sort slice rest → HasNoSeparator text
 token_no_separator text sort slice rest token piece more whole is = no_token text (ap front whole ∙ front_at_separator piece more is) sort slice rest token
 
 -- what a token says
 
-pub word_kind : (slice : List ℕ) (k : TokenKind) → IsValue sorts.Word slice k → k ≡ kinds.Name
+pub word_kind : (slice : List ℕ) (k : TokenKind) → IsValue lexemes.Word slice k → k ≡ kinds.Name
 word_kind slice kinds.Name is = refl
 word_kind slice _ is = absurd is
 
-quote_kind : (slice : List ℕ) (k : TokenKind) → IsValue sorts.Quote slice k → k ≡ kinds.Quoted
-quote_kind slice kinds.Quoted is = refl
+quote_kind : (slice : List ℕ) (k : TokenKind) → IsValue lexemes.QuotedName slice k → k ≡ kinds.QuotedName
+quote_kind slice kinds.QuotedName is = refl
 quote_kind slice _ is = absurd is
 
-text_kind : (slice : List ℕ) (k : TokenKind) → IsValue sorts.Text slice k → k ≡ kinds.Text
+text_kind : (slice : List ℕ) (k : TokenKind) → IsValue lexemes.Text slice k → k ≡ kinds.Text
 text_kind slice kinds.Text is = refl
 text_kind slice _ is = absurd is
 
-pub mark_kind : (slice : List ℕ) (k : TokenKind) → IsValue sorts.Mark slice k → k ≡ kinds.Sign
-mark_kind slice kinds.Sign is = refl
+pub mark_kind : (slice : List ℕ) (k : TokenKind) → IsValue lexemes.Punctuation slice k → k ≡ kinds.Punctuation
+mark_kind slice kinds.Punctuation is = refl
 mark_kind slice _ is = absurd is
 
-pub decimal_kind : (slice : List ℕ) (k : TokenKind) → IsValue sorts.Decimal slice k → (n : ℕ) × (k ≡ kinds.Number n) × IsNumber 10 slice n
+pub decimal_kind : (slice : List ℕ) (k : TokenKind) → IsValue lexemes.Decimal slice k → (n : ℕ) × (k ≡ kinds.Number n) × IsNumber 10 slice n
 decimal_kind slice (kinds.Number n) is = (n, refl, is)
 decimal_kind slice _ is = absurd is
 
-pub hexadecimal_kind : (slice : List ℕ) (k : TokenKind) → IsValue sorts.Hexadecimal slice k → (n : ℕ) × (k ≡ kinds.Number n) × IsHexNumber slice n
+pub hexadecimal_kind : (slice : List ℕ) (k : TokenKind) → IsValue lexemes.Hexadecimal slice k → (n : ℕ) × (k ≡ kinds.Number n) × IsHexNumber slice n
 hexadecimal_kind slice (kinds.Number n) is = (n, refl, is)
 hexadecimal_kind slice _ is = absurd is
 
-pub dotted_kind : (slice : List ℕ) (k : TokenKind) → IsValue sorts.Dotted slice k → (n : ℕ) × (k ≡ kinds.Ip (V4 n)) × IsAddrText slice (V4 n)
+pub dotted_kind : (slice : List ℕ) (k : TokenKind) → IsValue lexemes.Ipv4 slice k → (n : ℕ) × (k ≡ kinds.Ip (V4 n)) × IsAddrText slice (V4 n)
 dotted_kind slice (kinds.Ip (V4 n)) is = (n, refl, is)
 dotted_kind slice _ is = absurd is
 
-pub colons_kind : (slice : List ℕ) (k : TokenKind) → IsValue sorts.Colons slice k → (n : ℕ) × (k ≡ kinds.Ip (V6 n)) × IsAddrText slice (V6 n)
+pub colons_kind : (slice : List ℕ) (k : TokenKind) → IsValue lexemes.Ipv6 slice k → (n : ℕ) × (k ≡ kinds.Ip (V6 n)) × IsAddrText slice (V6 n)
 colons_kind slice (kinds.Ip (V6 n)) is = (n, refl, is)
 colons_kind slice _ is = absurd is
 
@@ -119,27 +119,27 @@ hex_same slice m n one other =
     let digits : one.digits ≡ other.digits = cc in
     sym one.number.value ∙ ap (digits_value 16) digits ∙ other.number.value
 
-pub value_once : (sort : Sort) (slice : List ℕ) (k l : TokenKind) → IsValue sort slice k → IsValue sort slice l → k ≡ l
-value_once sorts.Word slice k l one other = word_kind slice k one ∙ sym (word_kind slice l other)
-value_once sorts.Quote slice k l one other = quote_kind slice k one ∙ sym (quote_kind slice l other)
-value_once sorts.Decimal slice k l one other =
+pub value_once : (sort : Lexeme) (slice : List ℕ) (k l : TokenKind) → IsValue sort slice k → IsValue sort slice l → k ≡ l
+value_once lexemes.Word slice k l one other = word_kind slice k one ∙ sym (word_kind slice l other)
+value_once lexemes.QuotedName slice k l one other = quote_kind slice k one ∙ sym (quote_kind slice l other)
+value_once lexemes.Decimal slice k l one other =
     let a = decimal_kind slice k one in let b = decimal_kind slice l other in
     a.1 ∙ ap (λ (n : ℕ). kinds.Number n) (sym a.2.value ∙ b.2.value) ∙ sym b.1
-value_once sorts.Hexadecimal slice k l one other =
+value_once lexemes.Hexadecimal slice k l one other =
     let a = hexadecimal_kind slice k one in let b = hexadecimal_kind slice l other in
     a.1 ∙ ap (λ (n : ℕ). kinds.Number n) (hex_same slice a.0 b.0 a.2 b.2) ∙ sym b.1
-value_once sorts.Dotted slice k l one other =
+value_once lexemes.Ipv4 slice k l one other =
     let a = dotted_kind slice k one in let b = dotted_kind slice l other in
     a.1 ∙ ap (λ (x : Addr). kinds.Ip x) (addr_texts_agree slice (V4 a.0) (V4 b.0) a.2 b.2) ∙ sym b.1
-value_once sorts.Colons slice k l one other =
+value_once lexemes.Ipv6 slice k l one other =
     let a = colons_kind slice k one in let b = colons_kind slice l other in
     a.1 ∙ ap (λ (x : Addr). kinds.Ip x) (addr_texts_agree slice (V6 a.0) (V6 b.0) a.2 b.2) ∙ sym b.1
-value_once sorts.Text slice k l one other = text_kind slice k one ∙ sym (text_kind slice l other)
-value_once sorts.Mark slice k l one other = mark_kind slice k one ∙ sym (mark_kind slice l other)
+value_once lexemes.Text slice k l one other = text_kind slice k one ∙ sym (text_kind slice l other)
+value_once lexemes.Punctuation slice k l one other = mark_kind slice k one ∙ sym (mark_kind slice l other)
 
 -- one token
 
-token_by : (text : List ℕ) (o : Option (Sort × ℕ)) → front text ≡ o → (sort other : Sort) (slice rest front' back : List ℕ) → IsToken text sort slice rest → IsToken text other front' back → (sort ≡ other) × (slice ≡ front') × (rest ≡ back)
+token_by : (text : List ℕ) (o : Option (Lexeme × ℕ)) → front text ≡ o → (sort other : Lexeme) (slice rest front' back : List ℕ) → IsToken text sort slice rest → IsToken text other front' back → (sort ≡ other) × (slice ≡ front') × (rest ≡ back)
 token_by text None is sort other slice rest front' back one two = absurd (no_token text is sort slice rest one)
 token_by text (Some found) is sort other slice rest front' back one two =
     let a = one_token text found.0 found.1 is sort slice rest one in
@@ -147,7 +147,7 @@ token_by text (Some found) is sort other slice rest front' back one two =
     (a.0 ∙ sym b.0, a.1 ∙ sym b.1, a.2 ∙ sym b.2)
 
 -- two tokens at the front of one text are one
-pub token_once : (text : List ℕ) (sort other : Sort) (slice rest front' back : List ℕ) → IsToken text sort slice rest → IsToken text other front' back → (sort ≡ other) × (slice ≡ front') × (rest ≡ back)
+pub token_once : (text : List ℕ) (sort other : Lexeme) (slice rest front' back : List ℕ) → IsToken text sort slice rest → IsToken text other front' back → (sort ≡ other) × (slice ≡ front') × (rest ≡ back)
 token_once text sort other slice rest front' back one two = token_by text (front text) refl sort other slice rest front' back one two
 
 nil_no_separator : HasNoSeparator []
@@ -168,7 +168,7 @@ next_once place text t u rest back one two =
     let gap = gap_once one.gap (one.slice ++ rest) two.gap (two.slice ++ back) one.separators two.separators (next_no_separator place text t rest one) (next_no_separator place text u back two) (sym one.whole ∙ two.whole) in
     let P : List ℕ → Type 0 = λ l. IsToken l one.sort one.slice rest in
     let same = token_once (two.slice ++ back) one.sort two.sort one.slice rest two.slice back (subst P gap.1 one.token) two.token in
-    let V : Sort → Type 0 = λ s. IsValue s one.slice t.kind in
+    let V : Lexeme → Type 0 = λ s. IsValue s one.slice t.kind in
     let W : List ℕ → Type 0 = λ l. IsValue two.sort l t.kind in
     let kind = value_once two.sort two.slice t.kind u.kind (subst W same.1 (subst V same.0 one.value)) two.value in (
       token_parts t u kind
@@ -178,7 +178,7 @@ next_once place text t u rest back one two =
     )
 
 -- where a gap ends the text, no token follows it
-gap_no_next : {A : Type 0} (place : ℕ) (text : List ℕ) (t : Token) (rest : List ℕ) → IsGap text [] → IsNext place text t rest → A
+pub gap_no_next : {A : Type 0} (place : ℕ) (text : List ℕ) (t : Token) (rest : List ℕ) → IsGap text [] → IsNext place text t rest → A
 gap_no_next place text t rest gap next =
     let same = gap_once text [] next.gap (next.slice ++ rest) gap next.separators nil_no_separator (next_no_separator place text t rest next) (append-nil text ∙ next.whole) in
     let some = shape_some next.sort next.slice rest next.token.shape in
@@ -295,22 +295,22 @@ gap_stops text at g within gap bare some none =
 
 -- what spells an address of one family spells none of the other
 
-pub dotted_not_v6 : (slice : List ℕ) (n : ℕ) → IsAddrText slice (V6 n) → (kind : TokenKind) → IsValue sorts.Dotted slice kind → ⊥
+pub dotted_not_v6 : (slice : List ℕ) (n : ℕ) → IsAddrText slice (V6 n) → (kind : TokenKind) → IsValue lexemes.Ipv4 slice kind → ⊥
 dotted_not_v6 slice n is kind value =
     let spelled = dotted_kind slice kind value in
     let same : ◌≡◌ {A = Addr} (V6 n) (V4 spelled.0) = addr_texts_agree slice (V6 n) (V4 spelled.0) is spelled.2 in
     cc
 
-pub colons_not_v4 : (slice : List ℕ) (n : ℕ) → IsAddrText slice (V4 n) → (kind : TokenKind) → IsValue sorts.Colons slice kind → ⊥
+pub colons_not_v4 : (slice : List ℕ) (n : ℕ) → IsAddrText slice (V4 n) → (kind : TokenKind) → IsValue lexemes.Ipv6 slice kind → ⊥
 colons_not_v4 slice n is kind value =
     let spelled = colons_kind slice kind value in
     let same : ◌≡◌ {A = Addr} (V4 n) (V6 spelled.0) = addr_texts_agree slice (V4 n) (V6 spelled.0) is spelled.2 in
     cc
 
-pub dotted_none : (slice : List ℕ) → ((addr : Addr) → IsAddrText slice addr → ⊥) → (kind : TokenKind) → IsValue sorts.Dotted slice kind → ⊥
+pub dotted_none : (slice : List ℕ) → ((addr : Addr) → IsAddrText slice addr → ⊥) → (kind : TokenKind) → IsValue lexemes.Ipv4 slice kind → ⊥
 dotted_none slice none kind value = let spelled = dotted_kind slice kind value in none (V4 spelled.0) spelled.2
 
-pub colons_none : (slice : List ℕ) → ((addr : Addr) → IsAddrText slice addr → ⊥) → (kind : TokenKind) → IsValue sorts.Colons slice kind → ⊥
+pub colons_none : (slice : List ℕ) → ((addr : Addr) → IsAddrText slice addr → ⊥) → (kind : TokenKind) → IsValue lexemes.Ipv6 slice kind → ⊥
 colons_none slice none kind value = let spelled = colons_kind slice kind value in none (V6 spelled.0) spelled.2
 
 -- In a run that begins no IPv6 address none begins at any later byte.
@@ -347,14 +347,14 @@ pub no_tokens : (text : List ℕ) → front text ≡ None → HasNoToken text
 no_tokens text none sort slice rest kind token value = no_token text none sort slice rest token
 
 -- a token that says nothing
-pub no_value : (text : List ℕ) (sort : Sort) (n : ℕ) → front text ≡ Some (sort, n) → ((kind : TokenKind) → IsValue sort (take n text) kind → ⊥) → HasNoToken text
+pub no_value : (text : List ℕ) (sort : Lexeme) (n : ℕ) → front text ≡ Some (sort, n) → ((kind : TokenKind) → IsValue sort (take n text) kind → ⊥) → HasNoToken text
 no_value text sort n is none other slice rest kind token value =
     let same = one_token text sort n is other slice rest token in
-    let P : Sort → Type 0 = λ s. IsValue s slice kind in
+    let P : Lexeme → Type 0 = λ s. IsValue s slice kind in
     let Q : List ℕ → Type 0 = λ l. IsValue sort l kind in
     none kind (subst Q same.1 (subst P same.0 value))
 
-pub tells : (text : List ℕ) (sort : Sort) (n : ℕ) (kind : TokenKind) → front text ≡ Some (sort, n) → IsValue sort (take n text) kind → Tells text kind n
+pub tells : (text : List ℕ) (sort : Lexeme) (n : ℕ) (kind : TokenKind) → front text ≡ Some (sort, n) → IsValue sort (take n text) kind → Tells text kind n
 tells text sort n kind is value =
     let token = front_token text sort n is in
     record { sort = sort; some = token.0; within = token.1; token = token.2; value = value }

@@ -1,7 +1,9 @@
--- The tokens of a text.
+-- The tokens of a text: each is the longest that begins at its place, and a gap stands before,
+-- between and behind them; or the one place where a text has none (BIRD User's Guide,
+-- "Configuration").
 use Rattle.std.specs.Prelude.{◌≡◌, ℕ, ◌+◌, ◌<◌, List, [], ◌∷◌, ◌++◌, length, ⊤}
 use Rattle.conf_lex.specs.Shapes.{IsToken, IsValue, IsSeparator, IsGap}
-use Rattle.conf_lex.specs.declared.shapes.Sort.{Sort}
+use Rattle.conf_lex.specs.declared.scan.Lexeme.{Lexeme}
 use Rattle.conf_lex.specs.declared.token.LexFault.{LexFault}
 use Rattle.conf_lex.specs.declared.token.LexFault.TheVariants.{Bad, Memory}
 use Rattle.conf_lex.specs.declared.token.Token.{Token}
@@ -9,7 +11,7 @@ use Rattle.conf_lex.specs.declared.token.TokenKind.{TokenKind}
 
 -- Behind a gap stands this token, and the rest behind it. The text begins at a place of the source.
 pub record IsNext (place : ℕ) (text : List ℕ) (t : Token) (rest : List ℕ) : Type 0 where
-  pub sort : Sort
+  pub sort : Lexeme
   pub gap : List ℕ
   pub slice : List ℕ
   pub whole : text ≡ gap ++ (slice ++ rest)
@@ -19,10 +21,11 @@ pub record IsNext (place : ℕ) (text : List ℕ) (t : Token) (rest : List ℕ) 
   pub at : t.at ≡ place + length gap
   pub len : t.len ≡ length slice
 
--- the tokens of a text that begins at a place of the source, with a gap before, between and behind them
+-- the tokens of a text from a place of the source on, with a gap before, between and behind them
 abbrev pub Lexes : ℕ → List ℕ → List Token → Type 0
 Lexes place text [] = IsGap text []
-Lexes place text (t ∷ ts) = (rest : List ℕ) × IsNext place text t rest × Lexes (t.at + t.len) rest ts
+Lexes place text (t ∷ ts) =
+    (rest : List ℕ) × IsNext place text t rest × Lexes (t.at + t.len) rest ts
 
 -- no separator begins the text
 abbrev pub HasNoSeparator : List ℕ → Type 0
@@ -30,7 +33,8 @@ HasNoSeparator text = (piece rest : List ℕ) → text ≡ piece ++ rest → IsS
 
 -- no token that says something begins the text
 abbrev pub HasNoToken : List ℕ → Type 0
-HasNoToken text = (sort : Sort) (slice rest : List ℕ) (kind : TokenKind) → IsToken text sort slice rest → IsValue sort slice kind → ⊥
+HasNoToken text = (sort : Lexeme) (slice rest : List ℕ) (kind : TokenKind)
+    → IsToken text sort slice rest → IsValue sort slice kind → ⊥
 
 -- Behind a gap stands something else, at this place of the source.
 pub record IsStuck (start : ℕ) (text : List ℕ) (place : ℕ) : Type 0 where
@@ -46,7 +50,8 @@ pub record IsStuck (start : ℕ) (text : List ℕ) (place : ℕ) : Type 0 where
 -- behind these tokens and a gap stands, at this place, what is neither a separator nor a token
 abbrev pub Stops : ℕ → List ℕ → List Token → ℕ → Type 0
 Stops start text [] place = IsStuck start text place
-Stops start text (t ∷ ts) place = (rest : List ℕ) × IsNext start text t rest × Stops (t.at + t.len) rest ts place
+Stops start text (t ∷ ts) place =
+    (rest : List ℕ) × IsNext start text t rest × Stops (t.at + t.len) rest ts place
 
 -- the fault names this place, or want of memory
 abbrev pub IsBadAt : LexFault → ℕ → Type 0

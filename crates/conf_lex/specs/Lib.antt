@@ -1,3 +1,4 @@
+pub mod Packed
 pub mod Shapes
 pub mod Lex
 pub mod Fronts
@@ -5,3 +6,4 @@ pub mod Symbols
 pub mod Words
 pub mod Spans
 pub mod Made
+pub mod Walks

@@ -1,14 +1,18 @@
--- Which bytes are a token, what a token says, and which bytes separate tokens.
-use Rattle.std.specs.Prelude.{◌≡◌, ℕ, suc, zero, ◌^◌, ◌<◌, ◌≤◌, Bool, true, false, ◌&&◌, ◌||◌, not, ◌==◌, IsTrue, ⊤, List, [], ◌∷◌, ◌++◌, length, codes, count_by}
-use Rattle.std.specs.Char.{is_ascii_alphabetic, is_ascii_alphanumeric, is_ascii_digit, is_ascii_hexdigit}
+-- Which bytes are a token, what a token says, and which bytes separate tokens (BIRD User's Guide,
+-- "Configuration"). Which text an address has is said in bits_ip/specs/Text (RFC 4291, section
+-- 2.2).
+use Rattle.std.specs.Prelude.{◌≡◌, ℕ, suc, zero, ◌^◌, ◌<◌, ◌≤◌, Bool, true, false, ◌&&◌, ◌||◌, not}
+use Rattle.std.specs.Prelude.{◌==◌, IsTrue, ⊤, List, [], ◌∷◌, ◌++◌, length, codes, count_by}
+use Rattle.std.specs.Char.{is_ascii_alphabetic, is_ascii_alphanumeric, is_ascii_digit}
+use Rattle.std.specs.Char.{is_ascii_hexdigit}
 use Rattle.std.specs.Cmp.Lexicographic.{pointwise}
 use Rattle.std.specs.List.{concat, list_all, list_any}
 use Rattle.std.specs.Bool.{nat_eq}
 use Rattle.std.specs.Str.Parse.{digits_value}
 use Rattle.bits_ip.specs.Text.{IsAddrText}
 use Rattle.bits_ip.specs.declared.address.Addr.TheVariants.{V4, V6}
-use Rattle.conf_lex.specs.declared.shapes.Sort.{Sort}
-use Rattle.conf_lex.specs.declared.shapes.Sort.TheVariants as sorts
+use Rattle.conf_lex.specs.declared.scan.Lexeme.{Lexeme}
+use Rattle.conf_lex.specs.declared.scan.Lexeme.TheVariants as lexemes
 use Rattle.conf_lex.specs.declared.token.TokenKind.{TokenKind}
 use Rattle.conf_lex.specs.declared.token.TokenKind.TheVariants as kinds
 
@@ -59,9 +63,11 @@ pub record IsHexadecimal (slice : List ℕ) : Type 0 where
 -- so many numbers with a dot behind each, and one number more
 abbrev pub IsDotted : ℕ → List ℕ → Type 0
 IsDotted zero slice = IsDigits slice
-IsDotted (suc k) slice = (number more : List ℕ) × IsDigits number × (slice ≡ number ++ 46 ∷ more) × IsDotted k more
+IsDotted (suc k) slice =
+    (number more : List ℕ) × IsDigits number × (slice ≡ number ++ 46 ∷ more) × IsDotted k more
 
--- a longest run of hexadecimal digits and colons that has two colons and isn't followed by a letter, digit or underscore
+-- a longest run of hexadecimal digits and colons that has two colons and isn't followed by a
+-- letter, digit or underscore
 pub record IsColons (slice rest : List ℕ) : Type 0 where
   pub bytes : IsTrue (list_all is_colons_byte slice)
   pub colons : 2 ≤ count_by (λ b. b == 58) slice
@@ -73,15 +79,19 @@ pub record IsText (slice : List ℕ) : Type 0 where
   pub whole : slice ≡ 34 ∷ text ++ 34 ∷ []
   pub bytes : IsTrue (list_all is_text_byte text)
 
--- the signs of the grammars: of one byte, of two, and the empty path and the empty list of communities
+-- the signs of the grammars: of one byte, of two, and the empty path and the empty list of
+-- communities
 abbrev pub short_signs : List (List ℕ)
 short_signs =
-    codes ";" ∷ codes "{" ∷ codes "}" ∷ codes "(" ∷ codes ")" ∷ codes "," ∷ codes "/" ∷ codes "=" ∷ codes "." ∷ codes "!"
-    ∷ codes "<" ∷ codes ">" ∷ codes "~" ∷ codes "+" ∷ codes "-" ∷ codes "*" ∷ codes "[" ∷ codes "]" ∷ codes ":" ∷ codes "?" ∷ []
+    codes ";" ∷ codes "{" ∷ codes "}" ∷ codes "(" ∷ codes ")" ∷ codes "," ∷ codes "/" ∷ codes "="
+    ∷ codes "." ∷ codes "!"
+    ∷ codes "<" ∷ codes ">" ∷ codes "~" ∷ codes "+" ∷ codes "-" ∷ codes "*" ∷ codes "[" ∷ codes "]"
+    ∷ codes ":" ∷ codes "?" ∷ []
 
 abbrev pub pair_signs : List (List ℕ)
 pair_signs =
-    codes "->" ∷ codes "&&" ∷ codes "||" ∷ codes "!=" ∷ codes "<=" ∷ codes ">=" ∷ codes "!~" ∷ codes "[=" ∷ codes "=]" ∷ codes ".." ∷ []
+    codes "->" ∷ codes "&&" ∷ codes "||" ∷ codes "!=" ∷ codes "<=" ∷ codes ">=" ∷ codes "!~"
+    ∷ codes "[=" ∷ codes "=]" ∷ codes ".." ∷ []
 
 abbrev pub empty_signs : List (List ℕ)
 empty_signs = codes "+empty+" ∷ codes "-empty-" ∷ []
@@ -98,22 +108,25 @@ is_empty_sign slice = list_any (pointwise nat_eq slice) empty_signs
 abbrev pub is_sign : List ℕ → Bool
 is_sign slice = is_short_sign slice || is_pair_sign slice || is_empty_sign slice
 
--- These bytes are of the sort, and may stand before those that follow. A slash before a star begins a comment and is no sign.
-abbrev pub IsShape : Sort → List ℕ → List ℕ → Type 0
-IsShape sorts.Word slice rest = IsWord slice
-IsShape sorts.Quote slice rest = IsQuote slice
-IsShape sorts.Decimal slice rest = IsDigits slice
-IsShape sorts.Hexadecimal slice rest = IsHexadecimal slice
-IsShape sorts.Dotted slice rest = IsDotted 3 slice
-IsShape sorts.Colons slice rest = IsColons slice rest
-IsShape sorts.Text slice rest = IsText slice
-IsShape sorts.Mark slice rest = IsTrue (is_sign slice) × (slice ≡ codes "/" → first_passes (λ b. b == 42) rest ≡ false)
+-- These bytes are of the sort, and may stand before those that follow. A slash before a star begins
+-- a comment and is no sign.
+abbrev pub IsShape : Lexeme → List ℕ → List ℕ → Type 0
+IsShape lexemes.Word slice rest = IsWord slice
+IsShape lexemes.QuotedName slice rest = IsQuote slice
+IsShape lexemes.Decimal slice rest = IsDigits slice
+IsShape lexemes.Hexadecimal slice rest = IsHexadecimal slice
+IsShape lexemes.Ipv4 slice rest = IsDotted 3 slice
+IsShape lexemes.Ipv6 slice rest = IsColons slice rest
+IsShape lexemes.Text slice rest = IsText slice
+IsShape lexemes.Punctuation slice rest =
+    IsTrue (is_sign slice) × (slice ≡ codes "/" → first_passes (λ b. b == 42) rest ≡ false)
 
 -- The text begins with this token: no longer front of it is one of any sort.
-pub record IsToken (text : List ℕ) (sort : Sort) (slice rest : List ℕ) : Type 0 where
+pub record IsToken (text : List ℕ) (sort : Lexeme) (slice rest : List ℕ) : Type 0 where
   pub whole : text ≡ slice ++ rest
   pub shape : IsShape sort slice rest
-  pub longest : (other : Sort) (front back : List ℕ) → text ≡ front ++ back → IsShape other front back → length front ≤ length slice
+  pub longest : (other : Lexeme) (front back : List ℕ) → text ≡ front ++ back
+      → IsShape other front back → length front ≤ length slice
 
 -- Digits that are complete and not too large.
 pub record IsNumber (radix : ℕ) (digits : List ℕ) (n : ℕ) : Type 0 where
@@ -127,16 +140,17 @@ pub record IsHexNumber (slice : List ℕ) (n : ℕ) : Type 0 where
   pub whole : slice ≡ 48 ∷ 120 ∷ digits
   pub number : IsNumber 16 digits n
 
--- What a token of the sort says. It says nothing where it isn't complete, is too large, or is no address.
-abbrev pub IsValue : Sort → List ℕ → TokenKind → Type 0
-IsValue sorts.Word slice kinds.Name = ⊤
-IsValue sorts.Quote slice kinds.Quoted = ⊤
-IsValue sorts.Decimal slice (kinds.Number n) = IsNumber 10 slice n
-IsValue sorts.Hexadecimal slice (kinds.Number n) = IsHexNumber slice n
-IsValue sorts.Dotted slice (kinds.Ip (V4 n)) = IsAddrText slice (V4 n)
-IsValue sorts.Colons slice (kinds.Ip (V6 n)) = IsAddrText slice (V6 n)
-IsValue sorts.Text slice kinds.Text = ⊤
-IsValue sorts.Mark slice kinds.Sign = ⊤
+-- What a token of the sort says. It says nothing where it isn't complete, is too large, or is no
+-- address.
+abbrev pub IsValue : Lexeme → List ℕ → TokenKind → Type 0
+IsValue lexemes.Word slice kinds.Name = ⊤
+IsValue lexemes.QuotedName slice kinds.QuotedName = ⊤
+IsValue lexemes.Decimal slice (kinds.Number n) = IsNumber 10 slice n
+IsValue lexemes.Hexadecimal slice (kinds.Number n) = IsHexNumber slice n
+IsValue lexemes.Ipv4 slice (kinds.Ip (V4 n)) = IsAddrText slice (V4 n)
+IsValue lexemes.Ipv6 slice (kinds.Ip (V6 n)) = IsAddrText slice (V6 n)
+IsValue lexemes.Text slice kinds.Text = ⊤
+IsValue lexemes.Punctuation slice kinds.Punctuation = ⊤
 IsValue _ slice kind = ⊥
 
 -- Separators
@@ -157,16 +171,20 @@ abbrev pub has_close : List ℕ → Bool
 has_close [] = false
 has_close (b ∷ bytes) = ((b == 42) && first_passes (λ c. c == 47) bytes) || has_close bytes
 
--- One separator: a space, tab, return or newline; `#` up to the line's end; or `/*` up to the first `*/` behind it.
+-- One separator: a space, tab, return or newline; `#` up to the line's end; or `/*` up to the first
+-- `*/` behind it.
 pub data IsSeparator (piece rest : List ℕ) : Type 0 where
   Blank : (b : ℕ) → piece ≡ b ∷ [] → IsTrue (is_blank b) → IsSeparator piece rest
-  Line : (bytes : List ℕ) → piece ≡ 35 ∷ bytes → IsTrue (list_all (λ b. not (is_newline b)) bytes) → IsTrue (ends_line rest) → IsSeparator piece rest
-  Block : (bytes : List ℕ) → piece ≡ 47 ∷ 42 ∷ bytes ++ 42 ∷ 47 ∷ [] → has_close (bytes ++ 42 ∷ []) ≡ false → IsSeparator piece rest
+  Line : (bytes : List ℕ) → piece ≡ 35 ∷ bytes → IsTrue (list_all (λ b. not (is_newline b)) bytes)
+      → IsTrue (ends_line rest) → IsSeparator piece rest
+  Block : (bytes : List ℕ) → piece ≡ 47 ∷ 42 ∷ bytes ++ 42 ∷ 47 ∷ []
+      → has_close (bytes ++ 42 ∷ []) ≡ false → IsSeparator piece rest
 
 -- separators one after another, each with what follows it
 abbrev pub AreSeparators : List (List ℕ) → List ℕ → Type 0
 AreSeparators [] rest = ⊤
-AreSeparators (piece ∷ pieces) rest = IsSeparator piece (concat pieces ++ rest) × AreSeparators pieces rest
+AreSeparators (piece ∷ pieces) rest =
+    IsSeparator piece (concat pieces ++ rest) × AreSeparators pieces rest
 
 -- what stands between tokens
 pub record IsGap (gap rest : List ℕ) : Type 0 where

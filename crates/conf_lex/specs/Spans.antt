@@ -1,12 +1,12 @@
 -- Where tokens stand in their text.
 use Rattle.std.specs.Prelude.{ℕ, ◌+◌, ◌-◌, ◌<◌, ◌≤◌, List, length, take, drop}
-use Rattle.conf_lex.specs.declared.shapes.Sort.{Sort}
+use Rattle.conf_lex.specs.declared.scan.Lexeme.{Lexeme}
 use Rattle.conf_lex.specs.declared.token.Token.{Token}
 use Rattle.conf_lex.specs.Shapes.{IsToken, IsValue, IsGap}
 
 -- the token's bytes at its place are the longest token that begins there, and say what it says
 pub record IsSpan (text : List ℕ) (t : Token) : Type 0 where
-  pub sort : Sort
+  pub sort : Lexeme
   pub some : 0 < t.len
   pub within : t.at + t.len ≤ length text
   pub token : IsToken (drop t.at text) sort (take t.len (drop t.at text)) (drop (t.at + t.len) text)

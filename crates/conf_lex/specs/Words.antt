@@ -1,5 +1,8 @@
--- The words that a text's tokens are to the grammars.
-use Rattle.std.specs.Prelude.{ℕ, suc, zero, ◌+◌, ◌-◌, ◌%◌, ◌^◌, ◌≤◌, Bool, true, ◌&&◌, ◌==◌, nat_le, if◌then◌else◌, ⊤, Option, Some, None, List, [], ◌∷◌, length, take, drop}
+-- The words that a text's tokens are to the grammars: one for each token, but one for an address, a
+-- slash and a number, and one for `else` and a colon next after it.
+use Rattle.std.specs.Prelude.{ℕ, suc, zero, ◌+◌, ◌-◌, ◌%◌, ◌^◌, ◌≤◌, Bool, true, ◌&&◌, ◌==◌, nat_le}
+use Rattle.std.specs.Prelude.{if◌then◌else◌, ⊤, Option, Some, None, List, [], ◌∷◌, length, take}
+use Rattle.std.specs.Prelude.{drop}
 use Rattle.bits_ip.specs.Address.{number_of, width_of}
 use Rattle.bits_ip.specs.declared.address.Addr.{Addr}
 use Rattle.conf_lex.specs.Symbols.{symbol_of, is_placed, is_else, is_colon, is_slash}
@@ -18,7 +21,7 @@ slice_of text t = take t.len (drop t.at text)
 -- the symbol that a word or sign is; what stands between quotes is none
 abbrev pub kind_symbol : List ℕ → TokenKind → Option Symbol
 kind_symbol slice kinds.Name = symbol_of slice
-kind_symbol slice kinds.Sign = symbol_of slice
+kind_symbol slice kinds.Punctuation = symbol_of slice
 kind_symbol slice _ = None
 
 abbrev pub token_symbol : List ℕ → Token → Option Symbol
@@ -34,7 +37,7 @@ spelled_word t (Some symbol) = symbol_word t.at symbol
 
 -- the word that a token of this kind is alone
 abbrev pub kind_word : List ℕ → Token → TokenKind → Word
-kind_word text t kinds.Quoted = words.Name t.at (t.at + 1) (t.len - 2)
+kind_word text t kinds.QuotedName = words.Name t.at (t.at + 1) (t.len - 2)
 kind_word text t kinds.Text = words.Text t.at (t.at + 1) (t.len - 2)
 kind_word text t (kinds.Number n) = words.Number t.at n
 kind_word text t (kinds.Ip addr) = words.Ip t.at addr
@@ -49,7 +52,9 @@ is_prefix addr n = nat_le n (width_of addr) && (number_of addr % 2 ^ (width_of a
 
 abbrev pub prefix_word : ℕ → Addr → ℕ → Word
 prefix_word at addr n =
-    if is_prefix addr n then words.Prefix at (record { addr = addr; len = n }) else words.BadPrefix at
+    if is_prefix addr n
+    then words.Prefix at (record { addr = addr; len = n })
+    else words.BadPrefix at
 
 -- the word of an address, which begins at this byte, a slash and a number
 abbrev pub slashed : ℕ → TokenKind → Bool → TokenKind → Option Word
@@ -76,7 +81,8 @@ first_word text t (u ∷ v ∷ ts) =
 abbrev pub words_from : List ℕ → ℕ → ℕ → List Token → List (ℕ × Word)
 words_from text i skip [] = []
 words_from text i (suc skip) (t ∷ ts) = words_from text (i + 1) skip ts
-words_from text i zero (t ∷ ts) = (i, (first_word text t ts).0) ∷ words_from text (i + 1) ((first_word text t ts).1 - 1) ts
+words_from text i zero (t ∷ ts) =
+    (i, (first_word text t ts).0) ∷ words_from text (i + 1) ((first_word text t ts).1 - 1) ts
 
 -- the words of a text with these tokens, each with the number of its first token
 abbrev pub words_of : List ℕ → List Token → List (ℕ × Word)
@@ -84,7 +90,7 @@ words_of text tokens = words_from text 0 0 tokens
 
 -- The token stands within the text, and what is between quotes has two of them.
 abbrev pub quotes_of : TokenKind → ℕ
-quotes_of kinds.Quoted = 2
+quotes_of kinds.QuotedName = 2
 quotes_of kinds.Text = 2
 quotes_of _ = 0
 

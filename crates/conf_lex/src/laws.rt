@@ -19,12 +19,14 @@ pub fn texts_have_one_list_of_tokens()
 
 /// A text that has tokens is refused at no place.
 pub fn lexed_texts_are_not_refused()
-    ensures { (text : List ℕ) (ts us : List Token) (place : ℕ) → Lexes 0 text ts → Stops 0 text us place → ⊥ }
+    ensures { (text : List ℕ) (ts us : List Token) (place : ℕ) → Lexes 0 text ts
+        → Stops 0 text us place → ⊥ }
 {}
 
 /// A text is refused at one place at most.
 pub fn texts_are_refused_at_one_place()
-    ensures { (text : List ℕ) (ts us : List Token) (place stop : ℕ) → Stops 0 text ts place → Stops 0 text us stop → place ≡ stop }
+    ensures { (text : List ℕ) (ts us : List Token) (place stop : ℕ) → Stops 0 text ts place
+        → Stops 0 text us stop → place ≡ stop }
 {}
 
 /// Each text has tokens, or a place at which it is refused.
@@ -36,17 +38,21 @@ pub fn each_text_has_tokens_or_a_place()
 
 /// The place at which a text is refused is within it.
 pub fn texts_are_refused_within()
-    ensures { (text : List ℕ) (ts : List Token) (place : ℕ) → Stops 0 text ts place → place < length text }
+    ensures { (text : List ℕ) (ts : List Token) (place : ℕ) → Stops 0 text ts place
+        → place < length text }
 {}
 
-/// Each token is the slice of its text at its place: the longest token that begins there, and it says what the slice says.
+/// Each token is the slice of its text at its place: the longest token that begins there, and it
+/// says what the slice says.
 pub fn tokens_are_slices()
-    ensures { (text : List ℕ) (front back : List Token) (t : Token) → Lexes 0 text (front ++ t ∷ back) → IsSpan text t }
+    ensures { (text : List ℕ) (front back : List Token) (t : Token)
+        → Lexes 0 text (front ++ t ∷ back) → IsSpan text t }
 {}
 
 /// Tokens stand in order and apart, and what stands between two is a gap.
 pub fn tokens_rise()
-    ensures { (text : List ℕ) (front back : List Token) (t u : Token) → Lexes 0 text (front ++ t ∷ u ∷ back) → IsBetween text (t.at + t.len) u.at }
+    ensures { (text : List ℕ) (front back : List Token) (t u : Token)
+        → Lexes 0 text (front ++ t ∷ u ∷ back) → IsBetween text (t.at + t.len) u.at }
 {}
 
 /// The words of a text are made of all its tokens, one after another: a word is one token, or

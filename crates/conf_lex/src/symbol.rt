@@ -1,5 +1,6 @@
-/// The words and signs that the grammars of configurations and filters quote, the attributes and the constants: all that
-/// is no name, number, text or address. `ElseColon` is an `else` with a colon next after it, which begins the last part of
+/// The words and signs that the grammars of configurations and filters quote, the attributes and
+/// the constants: all that is no name, number, text or address. `ElseColon` is an `else` with a
+/// colon next after it, which begins the last part of
 /// a `case` (BIRD User's Guide, "Control structures").
 #[derive(Clone, Copy, Debug, PartialEq, Eq)]
 pub enum Symbol {

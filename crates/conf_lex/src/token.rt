@@ -11,13 +11,13 @@ pub enum TokenKind {
     /// A name or a word: a letter or `_`, then letters, digits and `_`.
     Name,
     /// A name between single quotes, which belong to the token.
-    Quoted,
+    QuotedName,
     /// Decimal digits, or `0x` and hexadecimal digits.
     Number(u32),
     Ip(Addr),
     /// A text between double quotes, which belong to the token.
     Text,
-    Sign,
+    Punctuation,
 }
 
 /// A token, which is a slice of its source.
@@ -43,7 +43,8 @@ impl Token {
 /// Why a text has no tokens.
 #[derive(Clone, Copy, Debug, PartialEq, Eq, Drop, Error)]
 pub enum LexFault {
-    /// At this byte no token begins, or one that isn't complete or is too large, or a comment without an end.
+    /// At this byte no token begins, or one that isn't complete or is too large, or a comment
+    /// without an end.
     #[error("no token at byte {at}")]
     Bad { at: usize },
     #[error("out of memory")]

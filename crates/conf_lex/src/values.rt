@@ -5,10 +5,10 @@ ghost use Rattle.bits_ip.specs.declared.address.Addr.{Addr};
 ghost use Rattle.std.specs.List.{list_all};
 ghost use Rattle.std.specs.Prelude.{IsTrue};
 ghost use Rattle.conf_lex.specs.Shapes.{IsShape, IsDigits, IsNumber, IsHexadecimal, IsValue};
-ghost use Rattle.conf_lex.specs.declared.shapes.Sort.TheVariants as sorts;
+ghost use Rattle.conf_lex.specs.declared.scan.Lexeme.TheVariants as lexemes;
 ghost use Rattle.conf_lex.specs.declared.token.TokenKind.{TokenKind};
 
-use crate::shapes::{Sort, tail};
+use crate::scan::{Lexeme, tail};
 use crate::token::TokenKind;
 use bits_ip::{Addr, read_addr};
 
@@ -16,7 +16,8 @@ fn number(digits: &[u8], radix: u32) -> Option<u32>
     requires least { 2 ≤ radix }
     requires most { radix ≤ 16 }
     requires digits { AllDigits radix digits.now }
-    ensures { MatchOption result ((n : ℕ) → IsNumber radix digits.now n → ⊥) (λ n. IsNumber radix digits.now n) }
+    ensures { MatchOption result ((n : ℕ) → IsNumber radix digits.now n → ⊥)
+        (λ n. IsNumber radix digits.now n) }
 {
     let text = str::from_utf8(digits).ok()?;
     u32::from_str_radix(text, radix).ok()
@@ -24,7 +25,8 @@ fn number(digits: &[u8], radix: u32) -> Option<u32>
 
 fn decimal(slice: &[u8]) -> Option<TokenKind>
     requires { IsDigits slice.now }
-    ensures { MatchOption result ((kind : TokenKind) → IsValue sorts.Decimal slice.now kind → ⊥) (λ kind. IsValue sorts.Decimal slice.now kind) }
+    ensures { MatchOption result ((kind : TokenKind) → IsValue lexemes.Decimal slice.now kind → ⊥)
+        (λ kind. IsValue lexemes.Decimal slice.now kind) }
 {
     let value = number(slice, 10)?;
     Some(TokenKind::Number(value))
@@ -32,7 +34,9 @@ fn decimal(slice: &[u8]) -> Option<TokenKind>
 
 fn hexadecimal(slice: &[u8]) -> Option<TokenKind>
     requires { IsHexadecimal slice.now }
-    ensures { MatchOption result ((kind : TokenKind) → IsValue sorts.Hexadecimal slice.now kind → ⊥) (λ kind. IsValue sorts.Hexadecimal slice.now kind) }
+    ensures { MatchOption result ((kind : TokenKind) → IsValue lexemes.Hexadecimal slice.now kind
+        → ⊥)
+        (λ kind. IsValue lexemes.Hexadecimal slice.now kind) }
 {
     let value = number(tail(slice, 2), 16)?;
     Some(TokenKind::Number(value))
@@ -40,7 +44,8 @@ fn hexadecimal(slice: &[u8]) -> Option<TokenKind>
 
 fn address(slice: &[u8]) -> Option<Addr>
     requires { IsTrue (list_all is_addr_byte slice.now) }
-    ensures { MatchOption result ((addr : Addr) → IsAddrText slice.now addr → ⊥) (λ addr. IsAddrText slice.now addr) }
+    ensures { MatchOption result ((addr : Addr) → IsAddrText slice.now addr → ⊥)
+        (λ addr. IsAddrText slice.now addr) }
 {
     match read_addr(slice) {
         Ok((addr, _)) => Some(addr),
@@ -50,7 +55,8 @@ fn address(slice: &[u8]) -> Option<Addr>
 
 fn dotted(slice: &[u8]) -> Option<TokenKind>
     requires { IsTrue (list_all is_addr_byte slice.now) }
-    ensures { MatchOption result ((kind : TokenKind) → IsValue sorts.Dotted slice.now kind → ⊥) (λ kind. IsValue sorts.Dotted slice.now kind) }
+    ensures { MatchOption result ((kind : TokenKind) → IsValue lexemes.Ipv4 slice.now kind → ⊥)
+        (λ kind. IsValue lexemes.Ipv4 slice.now kind) }
 {
     match address(slice) {
         Some(Addr::V4(number)) => Some(TokenKind::Ip(Addr::V4(number))),
@@ -61,7 +67,8 @@ fn dotted(slice: &[u8]) -> Option<TokenKind>
 
 fn colons(slice: &[u8]) -> Option<TokenKind>
     requires { IsTrue (list_all is_addr_byte slice.now) }
-    ensures { MatchOption result ((kind : TokenKind) → IsValue sorts.Colons slice.now kind → ⊥) (λ kind. IsValue sorts.Colons slice.now kind) }
+    ensures { MatchOption result ((kind : TokenKind) → IsValue lexemes.Ipv6 slice.now kind → ⊥)
+        (λ kind. IsValue lexemes.Ipv6 slice.now kind) }
 {
     match address(slice) {
         Some(Addr::V6(number)) => Some(TokenKind::Ip(Addr::V6(number))),
@@ -70,19 +77,21 @@ fn colons(slice: &[u8]) -> Option<TokenKind>
     }
 }
 
-/// What a token of this sort says. It says nothing where its number or its address isn't complete or is too large.
-pub fn kind_of(sort: Sort, slice: &[u8]) -> Option<TokenKind>
+/// What a token of this sort says. It says nothing where its number or its address isn't complete
+/// or is too large.
+pub fn kind_of(sort: Lexeme, slice: &[u8]) -> Option<TokenKind>
     requires { (rest : List ℕ) × IsShape sort slice.now rest }
-    ensures { MatchOption result ((kind : TokenKind) → IsValue sort slice.now kind → ⊥) (λ kind. IsValue sort slice.now kind) }
+    ensures { MatchOption result ((kind : TokenKind) → IsValue sort slice.now kind → ⊥)
+        (λ kind. IsValue sort slice.now kind) }
 {
     match sort {
-        Sort::Word => Some(TokenKind::Name),
-        Sort::Quote => Some(TokenKind::Quoted),
-        Sort::Decimal => decimal(slice),
-        Sort::Hexadecimal => hexadecimal(slice),
-        Sort::Dotted => dotted(slice),
-        Sort::Colons => colons(slice),
-        Sort::Text => Some(TokenKind::Text),
-        Sort::Mark => Some(TokenKind::Sign),
+        Lexeme::Word => Some(TokenKind::Name),
+        Lexeme::QuotedName => Some(TokenKind::QuotedName),
+        Lexeme::Decimal => decimal(slice),
+        Lexeme::Hexadecimal => hexadecimal(slice),
+        Lexeme::Ipv4 => dotted(slice),
+        Lexeme::Ipv6 => colons(slice),
+        Lexeme::Text => Some(TokenKind::Text),
+        Lexeme::Punctuation => Some(TokenKind::Punctuation),
     }
 }

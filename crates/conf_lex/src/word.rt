@@ -1,11 +1,12 @@
 ghost use Rattle.std.specs.Prelude.{◌≡◌, slice_index_or};
 
+use crate::packed_addr::PackedAddr;
 use crate::symbol::Symbol;
-use bits_ip::{Addr, Prefix};
+use bits_ip::Prefix;
 
 /// What the grammars read: a token, or several that are one word to them. `at` is the byte of the
 /// source at which the word begins.
-#[derive(Clone, Copy, Debug, PartialEq, Eq)]
+#[derive(Clone, Copy, Debug)]
 pub enum Word {
     /// A name that is no word of the grammars, or any name that is quoted. `start` and `len` tell
     /// its bytes in the source, which are those between the quotes.
@@ -14,13 +15,15 @@ pub enum Word {
     /// A text: `start` and `len` tell the bytes between its quotes.
     Text { at: usize, start: usize, len: usize },
     /// An address with no slash and number behind it.
-    Ip { at: usize, addr: Addr },
+    Ip { at: usize, addr: PackedAddr },
     /// An address, a slash and a number that make a prefix.
     Prefix { at: usize, net: Prefix },
-    /// An address, a slash and a number that make none: a host bit is set, or the length is too large.
+    /// An address, a slash and a number that make none: a host bit is set, or the length is too
+    /// large.
     BadPrefix { at: usize },
     Symbol(Symbol),
-    /// A symbol that can be a whole expression, begins one or a statement, or at which a later check may refuse.
+    /// A symbol that can be a whole expression, begins one or a statement, or at which a later
+    /// check may refuse.
     Placed { at: usize, symbol: Symbol },
 }
 
@@ -32,7 +35,8 @@ pub struct Words {
 }
 
 impl Words {
-    /// The token with which the word in this place begins; behind the last word `end`, which is the number of the tokens.
+    /// The token with which the word in this place begins; behind the last word `end`, which is the
+    /// number of the tokens.
     pub fn token_at(&self, place: usize, end: usize) -> usize
         ensures { result ≡ slice_index_or self.now.starts.items place end }
     {

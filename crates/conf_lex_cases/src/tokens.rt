@@ -13,11 +13,11 @@ pub fn addr_text(alloc: Global, addr: &Addr) -> io::Result<String> {
 fn kind_text(alloc: Global, kind: TokenKind) -> io::Result<String> {
     Ok(match kind {
         TokenKind::Name => String::from_str(alloc, "name")?,
-        TokenKind::Quoted => String::from_str(alloc, "quoted")?,
+        TokenKind::QuotedName => String::from_str(alloc, "quoted")?,
         TokenKind::Number(value) => format!(in alloc; "{value}")?,
         TokenKind::Ip(addr) => addr_text(alloc, &addr)?,
         TokenKind::Text => String::from_str(alloc, "text")?,
-        TokenKind::Sign => String::from_str(alloc, "sign")?,
+        TokenKind::Punctuation => String::from_str(alloc, "sign")?,
     })
 }
 

@@ -9,7 +9,7 @@ fn word_text(alloc: Global, word: Word) -> io::Result<String> {
         Word::Number { at, value } => format!(in alloc; "{value}@{at}")?,
         Word::Text { at, start, len } => format!(in alloc; "text@{at}[{start}+{len}]")?,
         Word::Ip { at, addr } => {
-            let addr = addr_text(alloc, &addr)?;
+            let addr = addr_text(alloc, &addr.addr())?;
             format!(in alloc; "{addr}@{at}")?
         }
         Word::Prefix { at, net } => {

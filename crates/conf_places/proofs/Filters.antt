@@ -3,29 +3,29 @@
 use Rattle.std.proofs.Common.{ℕ, Bool, true, false, not, ◌||◌, ◌==◌, if◌then◌else◌, List, [], ◌∷◌, ◌++◌, length, Option, Some, None, nat_lt}
 use Rattle.grammar.specs.declared.named.Name.{Name}
 use Rattle.grammar.specs.Names.{name_bytes}
-use Rattle.filt_syntax.specs.declared.tree.Attribute.TheVariants as attributes
-use Rattle.filt_syntax.specs.declared.tree.Item.{Item}
-use Rattle.filt_syntax.specs.declared.tree.Item.TheVariants as items
-use Rattle.filt_syntax.specs.declared.tree.Lengths.{Lengths}
-use Rattle.filt_syntax.specs.declared.tree.Lengths.TheVariants as lengths
-use Rattle.filt_syntax.specs.declared.tree.MaskAtom.{MaskAtom}
-use Rattle.filt_syntax.specs.declared.tree.MaskAtom.TheVariants as mask_atoms
-use Rattle.filt_syntax.specs.declared.tree.MaskItem.{MaskItem}
-use Rattle.filt_syntax.specs.declared.tree.Method.{Method}
-use Rattle.filt_syntax.specs.declared.tree.Num.{Num}
-use Rattle.filt_syntax.specs.declared.tree.Num.TheVariants as nums
-use Rattle.filt_syntax.specs.declared.tree.PairPart.{PairPart}
-use Rattle.filt_syntax.specs.declared.tree.PairPart.TheVariants as parts
-use Rattle.filt_syntax.specs.declared.tree.Parameter.{Parameter}
-use Rattle.filt_syntax.specs.declared.tree.Part.{Part}
-use Rattle.filt_syntax.specs.declared.tree.Simple.{Simple}
-use Rattle.filt_syntax.specs.declared.tree.Simple.TheVariants as simples
-use Rattle.filt_syntax.specs.declared.tree.Target.{Target}
-use Rattle.filt_syntax.specs.declared.tree.Target.TheVariants as targets
-use Rattle.filt_syntax.specs.declared.tree.VariableType.{VariableType}
+use Rattle.filt_syntax.specs.declared.ast.Attribute.TheVariants as attributes
+use Rattle.filt_syntax.specs.declared.ast.Item.{Item}
+use Rattle.filt_syntax.specs.declared.ast.Item.TheVariants as items
+use Rattle.filt_syntax.specs.declared.ast.Lengths.{Lengths}
+use Rattle.filt_syntax.specs.declared.ast.Lengths.TheVariants as lengths
+use Rattle.filt_syntax.specs.declared.ast.MaskAtom.{MaskAtom}
+use Rattle.filt_syntax.specs.declared.ast.MaskAtom.TheVariants as mask_atoms
+use Rattle.filt_syntax.specs.declared.ast.MaskItem.{MaskItem}
+use Rattle.filt_syntax.specs.declared.ast.Method.{Method}
+use Rattle.filt_syntax.specs.declared.ast.Num.{Num}
+use Rattle.filt_syntax.specs.declared.ast.Num.TheVariants as nums
+use Rattle.filt_syntax.specs.declared.ast.PairPart.{PairPart}
+use Rattle.filt_syntax.specs.declared.ast.PairPart.TheVariants as parts
+use Rattle.filt_syntax.specs.declared.ast.Parameter.{Parameter}
+use Rattle.filt_syntax.specs.declared.ast.NumRange.{NumRange}
+use Rattle.filt_syntax.specs.declared.ast.Atom.{Atom}
+use Rattle.filt_syntax.specs.declared.ast.Atom.TheVariants as atoms
+use Rattle.filt_syntax.specs.declared.ast.Target.{Target}
+use Rattle.filt_syntax.specs.declared.ast.Target.TheVariants as targets
+use Rattle.filt_syntax.specs.declared.ast.VariableType.{VariableType}
 use Rattle.bits_ip.specs.Prefix.{Net}
 use Rattle.conf_ast.specs.Configurations.{Routine}
-use Rattle.conf_ast.specs.Filters.{Expression, Plain, Named, Called, Grouped, Paired, SetOf, MaskOf, IsDefined, MethodOf, PropertyOf, Changed, Negated, Multiplied, Added, Compared, Joined, Expressions, NoExpressions, AndExpressions, Statement, Braced, Nothing, Declare, Assign, ChangeBy, Clear, Unset, If, IfElse, Case, CaseElse, For, Accept, Reject, Return, Print, PrintPart, Call, Statements, NoStatements, AndStatements, Arms, NoArms, AndArms}
+use Rattle.conf_ast.specs.Filters.{Expression, Plain, Named, Called, Grouped, Paired, SetOf, MaskOf, IsDefined, MethodOf, PropertyOf, Changed, Negated, Multiplied, Added, Compared, Joined, Expressions, NoExpressions, AndExpressions, Statement, Braced, Nothing, Declare, Assign, ChangeBy, Clear, Unset, If, IfElse, Case, CaseElse, For, Accept, Reject, Return, Print, Printn, Call, Statements, NoStatements, AndStatements, Arms, NoArms, AndArms}
 use Rattle.filt_values.specs.declared.value.Sort.{Sort}
 use Rattle.filt_values.specs.Sorts.{one_bool, one_list}
 use Rattle.filt_meaning.specs.Names.{sort_of_type}
@@ -77,13 +77,13 @@ module _ (P : ℕ → Type 0) where
   last_stands scene None p = tt
   last_stands scene (Some n) p = number_stands scene n p.0
 
-  numbers_stand : (scene : Scene) (p : Part) → Every P (of_part p) → Stand (numbers scene p)
+  numbers_stand : (scene : Scene) (p : NumRange) → Every P (of_part p) → Stand (numbers scene p)
   numbers_stand scene p h = both (number scene p.low) (last_number scene p.high) (number_stands scene p.low h.0) (last_stands scene p.high h.1)
 
-  backwards_stands : (scene : Scene) (p : Part) (at : ℕ) → P at → Stand (backwards scene p at)
+  backwards_stands : (scene : Scene) (p : NumRange) (at : ℕ) → P at → Stand (backwards scene p at)
   backwards_stands scene p at h = if_refused (is_backwards (value_of scene p.low) (last_of scene p.high)) at causes.Limit h
 
-  range_stands : (scene : Scene) (p : Part) → Every P (of_part p) → Stand (range scene p)
+  range_stands : (scene : Scene) (p : NumRange) → Every P (of_part p) → Stand (range scene p)
   range_stands scene p h = both (numbers scene p) (backwards scene p (place_of p.low)) (numbers_stand scene p h) (backwards_stands scene p (place_of p.low) (at_num p.low h.0))
 
   pub over_stands : (scene : Scene) (n : Num) → P (of_num n) → Stand (rules.over_16_bits scene n)
@@ -95,11 +95,11 @@ module _ (P : ℕ → Type 0) where
 
   part_names_stand : (scene : Scene) (p : PairPart) → Every P (of_pair_part p) → Stand (names_in_part scene p)
   part_names_stand scene parts.Any h = tt
-  part_names_stand scene (parts.Part p) h = numbers_stand scene p h
+  part_names_stand scene (parts.Range p) h = numbers_stand scene p h
 
   part_limits_stand : (scene : Scene) (at : ℕ) (p : PairPart) → P at → Every P (of_pair_part p) → Stand (limits_of_part scene at p)
   part_limits_stand scene at parts.Any here h = tt
-  part_limits_stand scene at (parts.Part p) here h =
+  part_limits_stand scene at (parts.Range p) here h =
       both (rules.over_16_bits scene p.low ++ last_over_16_bits scene p.high) (backwards scene p at)
       (both (rules.over_16_bits scene p.low) (last_over_16_bits scene p.high) (over_stands scene p.low h.0) (last_over_stands scene p.high h.1))
       (backwards_stands scene p at here)
@@ -117,7 +117,7 @@ module _ (P : ℕ → Type 0) where
   lengths_limits_stand scene at net (Some (lengths.Between lo hi)) p = if_refused (are_lengths_wrong net (value_of scene lo) (value_of scene hi)) at causes.Limit p
 
   item_stands : (scene : Scene) (i : Item) → Every P (of_item i) → Stand (item scene i)
-  item_stands scene (items.Part p) h = range_stands scene p h
+  item_stands scene (items.Range p) h = range_stands scene p h
   item_stands scene (items.Pair at a b) h =
       let first = front (of_pair_part a) (of_pair_part b) h.1 in
       let second = back (of_pair_part a) (of_pair_part b) h.1 in
@@ -135,7 +135,7 @@ module _ (P : ℕ → Type 0) where
   atom_stands : (scene : Scene) (a : MaskAtom) → Every P (of_atom a) → Stand (atom scene a)
   atom_stands scene mask_atoms.One h = tt
   atom_stands scene mask_atoms.Any h = tt
-  atom_stands scene (mask_atoms.Part p) h = range_stands scene p h
+  atom_stands scene (mask_atoms.Range p) h = range_stands scene p h
 
   atoms_stand : (scene : Scene) (is : List MaskItem) → Every P (of_mask is) → Stand (all_atoms scene is)
   atoms_stand scene [] h = tt
@@ -168,17 +168,17 @@ module _ (P : ℕ → Type 0) where
   between_good : (rule : RuleOfTwo) (a b : Judgement) → Good a → Good b → Good (between rule a b)
   between_good rule a b g h = two_good a.at rule a b g.0 g h
 
-  plain_good : (s : Simple) → P (of_simple s) → Good (plain s)
-  plain_good (simples.Number at n) p = (p, tt)
-  plain_good (simples.Text at start len) p = (p, tt)
-  plain_good (simples.Ip at addr) p = (p, tt)
-  plain_good (simples.Prefix at net) p = (p, tt)
-  plain_good (simples.True at) p = (p, tt)
-  plain_good (simples.False at) p = (p, tt)
-  plain_good (simples.EmptyPath at) p = (p, tt)
-  plain_good (simples.EmptyClist at) p = (p, tt)
-  plain_good (simples.Attribute at a) p = (p, tt)
-  plain_good (simples.Constant at c) p = (p, tt)
+  plain_good : (s : Atom) → P (of_simple s) → Good (plain s)
+  plain_good (atoms.Number at n) p = (p, tt)
+  plain_good (atoms.Text at start len) p = (p, tt)
+  plain_good (atoms.Ip at addr) p = (p, tt)
+  plain_good (atoms.Prefix at net) p = (p, tt)
+  plain_good (atoms.True at) p = (p, tt)
+  plain_good (atoms.False at) p = (p, tt)
+  plain_good (atoms.EmptyPath at) p = (p, tt)
+  plain_good (atoms.EmptyClist at) p = (p, tt)
+  plain_good (atoms.Attribute at a) p = (p, tt)
+  plain_good (atoms.Constant at c) p = (p, tt)
 
   known_good : (at : ℕ) (sort : Option Sort) → P at → Good (known_as at sort)
   known_good at (Some sort) p = (p, tt)
@@ -263,7 +263,7 @@ module _ (P : ℕ → Type 0) where
     expression_good scene vs (Compared a op b) h =
         between_good (comparing op) (judge scene vs a) (judge scene vs b)
         (expression_good scene vs a (front (of_expression a) (of_expression b) h)) (expression_good scene vs b (back (of_expression a) (of_expression b) h))
-    expression_good scene vs (Joined a joint b) h =
+    expression_good scene vs (Joined a logical_op b) h =
         between_good joining (judge scene vs a) (judge scene vs b)
         (expression_good scene vs a (front (of_expression a) (of_expression b) h)) (expression_good scene vs b (back (of_expression a) (of_expression b) h))
 
@@ -390,7 +390,7 @@ module _ (P : ℕ → Type 0) where
     statement_stands around vs Reject h = tt
     statement_stands around vs (Return at e) h = return_stands around vs at e h.0 h.1
     statement_stands around vs (Print es) h = all_stand (judge_all around.scene vs es) (expressions_good around.scene vs es h)
-    statement_stands around vs (PrintPart es) h = all_stand (judge_all around.scene vs es) (expressions_good around.scene vs es h)
+    statement_stands around vs (Printn es) h = all_stand (judge_all around.scene vs es) (expressions_good around.scene vs es h)
     statement_stands around vs (Call n place es) h = call_stands n (function_of around.scene n) (judge_all around.scene vs es) h.0 (expressions_good around.scene vs es h.1.1)
 
     pub statements_stand : (around : Around) (vs : Variables) (ss : Statements) → Every P (of_statements ss) → Stand (check_all around vs ss).refusals

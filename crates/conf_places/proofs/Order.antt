@@ -6,16 +6,16 @@ use Rattle.conf_lex.specs.Spans.{IsSpan, IsBetween}
 use Rattle.conf_lex.specs.Words.{first_word, words_from, words_of}
 use Rattle.conf_lex.specs.declared.token.Token.{Token}
 use Rattle.conf_lex.specs.declared.word.Word.{Word}
-use Rattle.grammar.specs.Grammar.{Tree, Blank, Start, More, Fits, yield}
+use Rattle.grammar.specs.Grammar.{ParseTree, NoWords, Single, Snoc, DerivesLongest, yield}
 use Rattle.filt_syntax.specs.Syntax.{rule}
 use Rattle.filt_syntax.specs.StatementView.{row_after}
 use Rattle.conf_tree.specs.Read.{IsConfigText}
-use Rattle.conf_tree.specs.Said.{said, says, behind}
+use Rattle.conf_tree.specs.Significant.{significant, is_significant, behind}
 use Rattle.conf_tree.specs.Syntax as forms
 use Rattle.conf_tree.specs.View.{statement_tree, statements_tree}
-use Rattle.conf_tree.specs.declared.said.Region.{Region}
-use Rattle.conf_tree.specs.declared.said.Region.TheVariants as regions
-use Rattle.conf_tree.specs.declared.tree.Statement.{Statement}
+use Rattle.conf_tree.specs.declared.significant.Region.{Region}
+use Rattle.conf_tree.specs.declared.significant.Region.TheVariants as regions
+use Rattle.conf_tree.specs.declared.ast.Statement.{Statement}
 use Rattle.conf_ast.specs.Configurations.{Declaration, configuration_of, declaration_of}
 use Rattle.conf_places.specs.Configurations.{IsBefore, places}
 use Rattle.conf_places.specs.Words.{of_word, of_words}
@@ -33,10 +33,6 @@ InOrder R (x ∷ xs) = Every (R x) xs × InOrder R xs
 order_right : {X : Type 0} (R : X → X → Type 0) (xs ys : List X) → InOrder R (xs ++ ys) → InOrder R ys
 order_right R [] ys h = h
 order_right R (x ∷ xs) ys h = order_right R xs ys h.1
-
-order_left : {X : Type 0} (R : X → X → Type 0) (xs ys : List X) → InOrder R (xs ++ ys) → InOrder R xs
-order_left R [] ys h = tt
-order_left R (x ∷ xs) ys h = (left (R x) xs ys h.0, order_left R xs ys h.1)
 
 order_apart : {X : Type 0} (R : X → X → Type 0) (xs ys : List X) → InOrder R (xs ++ ys) → Every (λ x. Every (R x) ys) xs
 order_apart R [] ys h = tt
@@ -72,17 +68,17 @@ kept_each : (Q : ℕ × Word → Type 0) (b : Bool) (p : ℕ × Word) (rest : Li
 kept_each Q true p rest q h = (q, h)
 kept_each Q false p rest q h = h
 
-said_each : (Q : ℕ × Word → Type 0) (region : Region) (ps : List (ℕ × Word)) → Every Q ps → Every Q (said region ps)
-said_each Q region [] h = tt
-said_each Q region (p ∷ ps) h = kept_each Q (says region p.1) p (said (behind region p.1) ps) h.0 (said_each Q (behind region p.1) ps h.1)
+significant_each : (Q : ℕ × Word → Type 0) (region : Region) (ps : List (ℕ × Word)) → Every Q ps → Every Q (significant region ps)
+significant_each Q region [] h = tt
+significant_each Q region (p ∷ ps) h = kept_each Q (is_significant region p.1) p (significant (behind region p.1) ps) h.0 (significant_each Q (behind region p.1) ps h.1)
 
 kept_in_order : (b : Bool) (p : ℕ × Word) (rest : List (ℕ × Word)) → Every (PairBefore p) rest → InOrder PairBefore rest → InOrder PairBefore (cond b (p ∷ rest) rest)
 kept_in_order true p rest q h = (q, h)
 kept_in_order false p rest q h = h
 
-said_in_order : (region : Region) (ps : List (ℕ × Word)) → InOrder PairBefore ps → InOrder PairBefore (said region ps)
-said_in_order region [] h = tt
-said_in_order region (p ∷ ps) h = kept_in_order (says region p.1) p (said (behind region p.1) ps) (said_each (PairBefore p) (behind region p.1) ps h.0) (said_in_order (behind region p.1) ps h.1)
+significant_in_order : (region : Region) (ps : List (ℕ × Word)) → InOrder PairBefore ps → InOrder PairBefore (significant region ps)
+significant_in_order region [] h = tt
+significant_in_order region (p ∷ ps) h = kept_in_order (is_significant region p.1) p (significant (behind region p.1) ps) (significant_each (PairBefore p) (behind region p.1) ps h.0) (significant_in_order (behind region p.1) ps h.1)
 
 words_each : (w : Word) (ps : List (ℕ × Word)) → Every (λ (q : ℕ × Word). WordBefore w q.1) ps → Every (WordBefore w) (map (λ (p : ℕ × Word). p.1) ps)
 words_each w [] h = tt
@@ -111,13 +107,13 @@ append_none : (xs : List Word) → xs ++ [] ≡ xs
 append_none [] = refl
 append_none (x ∷ xs) = ap (λ (ws : List Word). x ∷ ws) (append_none xs)
 
-row_words : (ss : List Statement) (t : Tree) → yield (row_after t (map statement_tree ss)) ≡ yield t ++ all_words ss
+row_words : (ss : List Statement) (t : ParseTree) → yield (row_after t (map statement_tree ss)) ≡ yield t ++ all_words ss
 row_words [] t = flip (append_none (yield t))
-row_words (s ∷ ss) t = row_words ss (More t (statement_tree s)) ∙ append_three (yield t) (yield (statement_tree s)) (all_words ss)
+row_words (s ∷ ss) t = row_words ss (Snoc t (statement_tree s)) ∙ append_three (yield t) (yield (statement_tree s)) (all_words ss)
 
-row_fits : (ss : List Statement) (t : Tree) → Fits rule (row_after t (map statement_tree ss)) forms.config → Fits rule t forms.config × Every (λ (s : Statement). Fits rule (statement_tree s) forms.statement) ss
+row_fits : (ss : List Statement) (t : ParseTree) → DerivesLongest rule (row_after t (map statement_tree ss)) forms.config → DerivesLongest rule t forms.config × Every (λ (s : Statement). DerivesLongest rule (statement_tree s) forms.statement) ss
 row_fits [] t h = (h, tt)
-row_fits (s ∷ ss) t h = let behind = row_fits ss (More t (statement_tree s)) h in (behind.0.0, (behind.0.1, behind.1))
+row_fits (s ∷ ss) t h = let behind = row_fits ss (Snoc t (statement_tree s)) h in (behind.0.0, (behind.0.1, behind.1))
 
 -- one place is before all words of each of some statements
 words_left : (x : ℕ) (vs ws : List Word) → Every (λ (y : ℕ). x < y) (of_words (vs ++ ws)) → Every (λ (y : ℕ). x < y) (of_words vs)
@@ -128,7 +124,7 @@ words_right : (x : ℕ) (vs ws : List Word) → Every (λ (y : ℕ). x < y) (of_
 words_right x [] ws h = h
 words_right x (v ∷ vs) ws h = words_right x vs ws (right (λ (y : ℕ). x < y) (of_word v) (of_words (vs ++ ws)) h)
 
-before_all : (x : ℕ) (ss : List Statement) → Every (λ (s : Statement). Fits rule (statement_tree s) forms.statement) ss → Every (λ (y : ℕ). x < y) (of_words (all_words ss)) → Every (λ (e : Declaration). Every (λ (y : ℕ). x < y) (places e)) (configuration_of ss)
+before_all : (x : ℕ) (ss : List Statement) → Every (λ (s : Statement). DerivesLongest rule (statement_tree s) forms.statement) ss → Every (λ (y : ℕ). x < y) (of_words (all_words ss)) → Every (λ (e : Declaration). Every (λ (y : ℕ). x < y) (places e)) (configuration_of ss)
 before_all x [] f h = tt
 before_all x (s ∷ ss) f h = (
   declaration_on (λ (y : ℕ). x < y) s f.0 (on_tree (λ (y : ℕ). x < y) (statement_tree s) (words_left x (yield (statement_tree s)) (all_words ss) h)),
@@ -159,7 +155,7 @@ turned xs (d ∷ ds) h = (
   turned xs ds (weaker (λ (x : ℕ). Every (λ (e : Declaration). Every (λ (y : ℕ). x < y) (places e)) (d ∷ ds)) (λ (x : ℕ). Every (λ (e : Declaration). Every (λ (y : ℕ). x < y) (places e)) ds) (λ x e. e.1) xs h),
 )
 
-statements_in_order : (ss : List Statement) → Every (λ (s : Statement). Fits rule (statement_tree s) forms.statement) ss → InOrder WordBefore (all_words ss) → InOrder PlacesBefore (configuration_of ss)
+statements_in_order : (ss : List Statement) → Every (λ (s : Statement). DerivesLongest rule (statement_tree s) forms.statement) ss → InOrder WordBefore (all_words ss) → InOrder PlacesBefore (configuration_of ss)
 statements_in_order [] f h = tt
 statements_in_order (s ∷ ss) f h =
     let here : List Word = yield (statement_tree s) in
@@ -201,6 +197,6 @@ module _ (slices : (text : List ℕ) (front back : List Token) (t : Token) → L
   -- the places of the statements of a text follow each other
   pub in_order : (text : List ℕ) (ss : List Statement) → IsConfigText text (statements_tree ss) → InOrder PlacesBefore (configuration_of ss)
   in_order text ss h =
-      let said_order = words_in_order (said regions.Statements (words_of text h.0)) (said_in_order regions.Statements (words_of text h.0) (from_in_order text 0 0 h.0 (tokens_in_order text [] h.0 h.1))) in
-      statements_in_order ss (row_fits ss (Start Blank) h.2.fits).1
-      (subst (λ (ws : List Word). InOrder WordBefore ws) (flip h.2.whole ∙ row_words ss (Start Blank)) said_order)
+      let significant_order = words_in_order (significant regions.Statements (words_of text h.0)) (significant_in_order regions.Statements (words_of text h.0) (from_in_order text 0 0 h.0 (tokens_in_order text [] h.0 h.1))) in
+      statements_in_order ss (row_fits ss (Single NoWords) h.2.fits).1
+      (subst (λ (ws : List Word). InOrder WordBefore ws) (flip h.2.whole ∙ row_words ss (Single NoWords)) significant_order)

@@ -4,36 +4,37 @@ use Rattle.std.specs.Global.{Global}
 use Rattle.conf_lex.specs.declared.symbol.Symbol.{Symbol}
 use Rattle.conf_lex.specs.declared.symbol.Symbol.TheVariants as sym
 use Rattle.grammar.specs.declared.named.Name.{Name}
-use Rattle.grammar.specs.Grammar.{Form, Seq, Tree, Blank, Start, Fits}
+use Rattle.grammar.specs.Grammar.{Seq, ParseTree, NoWords, Single, DerivesLongest}
 use Rattle.grammar.specs.Shapes.{name_leaf}
-use Rattle.filt_syntax.specs.declared.tree.Num.{Num}
-use Rattle.filt_syntax.specs.declared.tree.Parameter.{Parameter}
-use Rattle.filt_syntax.specs.declared.tree.Separator.{Separator}
+use Rattle.filt_syntax.specs.declared.ast.Num.{Num}
+use Rattle.filt_syntax.specs.declared.ast.Parameter.{Parameter}
+use Rattle.filt_syntax.specs.declared.ast.Separator.{Separator}
 use Rattle.filt_syntax.specs.ItemView.{num_tree}
 use Rattle.filt_syntax.specs.Syntax.{rule, optional, semicolon}
-use Rattle.conf_tree.specs.declared.tree.Address.{Address}
-use Rattle.conf_tree.specs.declared.tree.BgpOption.{BgpOption}
-use Rattle.conf_tree.specs.declared.tree.BgpOption.TheVariants as bgp_options
-use Rattle.conf_tree.specs.declared.tree.Channel.{Channel}
-use Rattle.conf_tree.specs.declared.tree.ChannelOption.{ChannelOption}
-use Rattle.conf_tree.specs.declared.tree.ChannelOption.TheVariants as channel_options
-use Rattle.conf_tree.specs.declared.tree.Limit.{Limit}
-use Rattle.conf_tree.specs.declared.tree.Limit.TheVariants as limits
-use Rattle.conf_tree.specs.declared.tree.Literal.{Literal}
-use Rattle.conf_tree.specs.declared.tree.Literal.TheVariants as literals
-use Rattle.conf_tree.specs.declared.tree.PipeOption.{PipeOption}
-use Rattle.conf_tree.specs.declared.tree.PipeOption.TheVariants as pipe_options
-use Rattle.conf_tree.specs.declared.tree.Policy.{Policy}
-use Rattle.conf_tree.specs.declared.tree.Policy.TheVariants as policies
-use Rattle.conf_tree.specs.declared.tree.Protocol.{Protocol}
-use Rattle.conf_tree.specs.declared.tree.RouteTarget.{RouteTarget}
-use Rattle.conf_tree.specs.declared.tree.RouteTarget.TheVariants as targets
-use Rattle.conf_tree.specs.declared.tree.Statement.{Statement}
-use Rattle.conf_tree.specs.declared.tree.Statement.TheVariants as config_statements
-use Rattle.conf_tree.specs.declared.tree.StaticOption.{StaticOption}
-use Rattle.conf_tree.specs.declared.tree.StaticOption.TheVariants as static_options
-use Rattle.conf_tree.specs.declared.tree.Transport.{Transport}
-use Rattle.conf_tree.specs.declared.tree.Transport.TheVariants as transports
+use Rattle.filt_syntax.specs.Levels.{Form}
+use Rattle.conf_tree.specs.declared.ast.Address.{Address}
+use Rattle.conf_tree.specs.declared.ast.BgpOption.{BgpOption}
+use Rattle.conf_tree.specs.declared.ast.BgpOption.TheVariants as bgp_options
+use Rattle.conf_tree.specs.declared.ast.Channel.{Channel}
+use Rattle.conf_tree.specs.declared.ast.ChannelOption.{ChannelOption}
+use Rattle.conf_tree.specs.declared.ast.ChannelOption.TheVariants as channel_options
+use Rattle.conf_tree.specs.declared.ast.Limit.{Limit}
+use Rattle.conf_tree.specs.declared.ast.Limit.TheVariants as limits
+use Rattle.conf_tree.specs.declared.ast.Literal.{Literal}
+use Rattle.conf_tree.specs.declared.ast.Literal.TheVariants as literals
+use Rattle.conf_tree.specs.declared.ast.PipeOption.{PipeOption}
+use Rattle.conf_tree.specs.declared.ast.PipeOption.TheVariants as pipe_options
+use Rattle.conf_tree.specs.declared.ast.Policy.{Policy}
+use Rattle.conf_tree.specs.declared.ast.Policy.TheVariants as policies
+use Rattle.conf_tree.specs.declared.ast.Protocol.{Protocol}
+use Rattle.conf_tree.specs.declared.ast.RouteTarget.{RouteTarget}
+use Rattle.conf_tree.specs.declared.ast.RouteTarget.TheVariants as targets
+use Rattle.conf_tree.specs.declared.ast.Statement.{Statement}
+use Rattle.conf_tree.specs.declared.ast.Statement.TheVariants as config_statements
+use Rattle.conf_tree.specs.declared.ast.StaticOption.{StaticOption}
+use Rattle.conf_tree.specs.declared.ast.StaticOption.TheVariants as static_options
+use Rattle.conf_tree.specs.declared.ast.Transport.{Transport}
+use Rattle.conf_tree.specs.declared.ast.Transport.TheVariants as transports
 use Rattle.conf_tree.specs.Syntax as forms
 use Rattle.conf_tree.specs.View.{maybe, address_leaf, policy_tree, limit_tree, channel_option_tree, ended_tree, ended_row, channel_options_tree, channel_tree, target_tree, static_option_tree, transport_tree, bgp_option_tree, pipe_option_tree, literal_tree, parameters_tree, parameters_after, next_parameter, first_parameter, protocol_tree, statement_tree, statements_tree}
 use Rattle.conf_ast.specs.Configurations.{value_of, passing_of, channel_setting_of, channel_settings_of, channel_of, static_setting_of, bgp_setting_of, pipe_setting_of, instance_of, declaration_of, configuration_of}
@@ -76,7 +77,7 @@ module _ (P : ℕ → Type 0) where
 
   -- ---- policies and channels
 
-  passing_on : (p : Policy) → Fits rule (policy_tree p) forms.policy → On P (policy_tree p) → Every P (of_passing (passing_of p))
+  passing_on : (p : Policy) → DerivesLongest rule (policy_tree p) forms.policy → On P (policy_tree p) → Every P (of_passing (passing_of p))
   passing_on policies.All f o = tt
   passing_on policies.None f o = tt
   passing_on (policies.Filter at n) f o = (o.0, (o.1, tt))
@@ -87,7 +88,7 @@ module _ (P : ℕ → Type 0) where
   limit_on limits.Off o = tt
   limit_on (limits.Count n a) o = (num_on P n o.0, tt)
 
-  setting_on : (s : ChannelOption) → Fits rule (channel_option_tree s) forms.channel_option → On P (channel_option_tree s) → Every P (of_channel_setting (channel_setting_of s))
+  setting_on : (s : ChannelOption) → DerivesLongest rule (channel_option_tree s) forms.channel_option → On P (channel_option_tree s) → Every P (of_channel_setting (channel_setting_of s))
   setting_on (channel_options.Table n) f o = (o.1, tt)
   setting_on (channel_options.Import p) f o = passing_on p f.1 o.1
   setting_on (channel_options.Export p) f o = passing_on p f.1 o.1
@@ -96,16 +97,16 @@ module _ (P : ℕ → Type 0) where
   setting_on (channel_options.NextHop h) f o = tt
 
   -- options, each with its semicolon
-  options_on : {X Y : Type 0} (view : X → Tree) (f : Form) (of_setting : Y → List ℕ) (value : X → Y) → ((x : X) → Fits rule (view x) f → On P (view x) → Every P (of_setting (value x))) → (xs : List X) → Fits rule (ended_row view xs) (forms.ended_options f) → On P (ended_row view xs) → Every P (of_each of_setting (map value xs))
+  options_on : {X Y : Type 0} (view : X → ParseTree) (f : Form) (of_setting : Y → List ℕ) (value : X → Y) → ((x : X) → DerivesLongest rule (view x) f → On P (view x) → Every P (of_setting (value x))) → (xs : List X) → DerivesLongest rule (ended_row view xs) (forms.ended_options f) → On P (ended_row view xs) → Every P (of_each of_setting (map value xs))
   options_on view f of_setting value told xs h o =
       each_placed P of_setting value xs
-      (row_on P (λ x. ended_tree (view x)) (Seq f semicolon) (λ x. Every P (of_setting (value x))) (λ x k p. told x k.0 p.0) xs (Start Blank) h o).rest
+      (row_on P (λ x. ended_tree (view x)) (Seq f semicolon) (λ x. Every P (of_setting (value x))) (λ x k p. told x k.0 p.0) xs (Single NoWords) h o).rest
 
-  settings_on : (v : Option (Vec ChannelOption Global)) → Fits rule (maybe channel_options_tree v) (optional forms.channel_options) → On P (maybe channel_options_tree v) → Every P (of_maybe (of_each of_channel_setting) (option_map channel_settings_of v))
+  settings_on : (v : Option (Vec ChannelOption Global)) → DerivesLongest rule (maybe channel_options_tree v) (optional forms.channel_options) → On P (maybe channel_options_tree v) → Every P (of_maybe (of_each of_channel_setting) (option_map channel_settings_of v))
   settings_on None f o = tt
   settings_on (Some v) f o = options_on channel_option_tree forms.channel_option of_channel_setting channel_setting_of setting_on v.items f.1.0 o.1.0
 
-  channel_on : (c : Channel) → Fits rule (channel_tree c) forms.channel → On P (channel_tree c) → Every P (of_channel (channel_of c))
+  channel_on : (c : Channel) → DerivesLongest rule (channel_tree c) forms.channel → On P (channel_tree c) → Every P (of_channel (channel_of c))
   channel_on c f o = (o.0, settings_on c.options f.1 o.1)
 
   -- ---- the options of protocols
@@ -116,7 +117,7 @@ module _ (P : ℕ → Type 0) where
   target_on targets.Unreachable o = tt
   target_on targets.Prohibit o = tt
 
-  static_setting_on : (s : StaticOption) → Fits rule (static_option_tree s) forms.static_option → On P (static_option_tree s) → Every P (of_static_setting (static_setting_of s))
+  static_setting_on : (s : StaticOption) → DerivesLongest rule (static_option_tree s) forms.static_option → On P (static_option_tree s) → Every P (of_static_setting (static_setting_of s))
   static_setting_on (static_options.Channel c) f o = channel_on c f o
   static_setting_on (static_options.Route r) f o = (o.1.0, target_on r.target o.1.1)
 
@@ -131,7 +132,7 @@ module _ (P : ℕ → Type 0) where
   transport_on transports.Direct o = tt
   transport_on (transports.Passive s) o = tt
 
-  bgp_setting_on : (s : BgpOption) → Fits rule (bgp_option_tree s) forms.bgp_option → On P (bgp_option_tree s) → Every P (of_bgp_setting (bgp_setting_of s))
+  bgp_setting_on : (s : BgpOption) → DerivesLongest rule (bgp_option_tree s) forms.bgp_option → On P (bgp_option_tree s) → Every P (of_bgp_setting (bgp_setting_of s))
   bgp_setting_on (bgp_options.Channel c) f o = channel_on c f o
   bgp_setting_on (bgp_options.Local a n) f o = join P (of_maybe of_address a) (of_num n ∷ []) (address_on a o.1.0) (num_on P n o.1.1.1, tt)
   bgp_setting_on (bgp_options.Neighbor a n) f o = (o.1.0, (num_on P n o.1.1.1, tt))
@@ -141,34 +142,34 @@ module _ (P : ℕ → Type 0) where
   bgp_setting_on (bgp_options.DefaultLocalPref at n) f o = (o.1.0, (num_on P n o.1.1, tt))
   bgp_setting_on (bgp_options.Transport t) f o = transport_on t o
 
-  pipe_setting_on : (s : PipeOption) → Fits rule (pipe_option_tree s) forms.pipe_option → On P (pipe_option_tree s) → Every P (of_pipe_setting (pipe_setting_of s))
+  pipe_setting_on : (s : PipeOption) → DerivesLongest rule (pipe_option_tree s) forms.pipe_option → On P (pipe_option_tree s) → Every P (of_pipe_setting (pipe_setting_of s))
   pipe_setting_on (pipe_options.Table n) f o = (o.1, tt)
   pipe_setting_on (pipe_options.PeerTable n) f o = (o.1.1, tt)
   pipe_setting_on (pipe_options.Import p) f o = passing_on p f.1 o.1
   pipe_setting_on (pipe_options.Export p) f o = passing_on p f.1 o.1
 
-  instance_on : {X Y : Type 0} (kind : Symbol) (view : X → Tree) (f : Form) (of_setting : Y → List ℕ) (value : X → Y) → ((x : X) → Fits rule (view x) f → On P (view x) → Every P (of_setting (value x))) → (p : Protocol X) → Fits rule (protocol_tree kind view p) (forms.protocol_of kind f) → On P (protocol_tree kind view p) → Every P (of_instance of_setting (instance_of value p))
+  instance_on : {X Y : Type 0} (kind : Symbol) (view : X → ParseTree) (f : Form) (of_setting : Y → List ℕ) (value : X → Y) → ((x : X) → DerivesLongest rule (view x) f → On P (view x) → Every P (of_setting (value x))) → (p : Protocol X) → DerivesLongest rule (protocol_tree kind view p) (forms.protocol_of kind f) → On P (protocol_tree kind view p) → Every P (of_instance of_setting (instance_of value p))
   instance_on kind view f of_setting value told p h o =
       (o.0, join P (of_maybe of_name p.name) (of_each of_setting (map value p.options.items)) (name_on p.name o.1.0) (options_on view f of_setting value told p.options.items h.1.1.1.0 o.1.1.1.0))
 
   -- ---- functions
 
-  next_on : (t : Tree) (s : Option Separator) (p : Parameter) → Fits rule (next_parameter t s p) forms.parameters → On P (next_parameter t s p) → Before P t forms.parameters (P p.name.at)
+  next_on : (t : ParseTree) (s : Option Separator) (p : Parameter) → DerivesLongest rule (next_parameter t s p) forms.parameters → On P (next_parameter t s p) → Before P t forms.parameters (P p.name.at)
   next_on t None p f o = absurd f
   next_on t (Some s) p f o = record { fits = f.0; on = o.0; rest = o.1.1.1 }
 
-  first_on : (s : Option Separator) (p : Parameter) → Fits rule (first_parameter s p) forms.parameters → On P (first_parameter s p) → P p.name.at
+  first_on : (s : Option Separator) (p : Parameter) → DerivesLongest rule (first_parameter s p) forms.parameters → On P (first_parameter s p) → P p.name.at
   first_on None p f o = o.1
   first_on (Some s) p f o = absurd f
 
-  parameters_after_on : (ps : List Parameter) (t : Tree) → Fits rule (parameters_after t ps) forms.parameters → On P (parameters_after t ps) → Before P t forms.parameters (Every P (of_parameters ps))
+  parameters_after_on : (ps : List Parameter) (t : ParseTree) → DerivesLongest rule (parameters_after t ps) forms.parameters → On P (parameters_after t ps) → Before P t forms.parameters (Every P (of_parameters ps))
   parameters_after_on [] t f o = record { fits = f; on = o; rest = tt }
   parameters_after_on (p ∷ ps) t f o =
       let later = parameters_after_on ps (next_parameter t p.separator p) f o in
       let next = next_on t p.separator p later.fits later.on in
       record { fits = next.fits; on = next.on; rest = (next.rest, later.rest) }
 
-  parameters_on : (ps : List Parameter) → Fits rule (parameters_tree ps) (optional forms.parameters) → On P (parameters_tree ps) → Every P (of_parameters ps)
+  parameters_on : (ps : List Parameter) → DerivesLongest rule (parameters_tree ps) (optional forms.parameters) → On P (parameters_tree ps) → Every P (of_parameters ps)
   parameters_on [] f o = tt
   parameters_on (p ∷ ps) f o =
       let later = parameters_after_on ps (first_parameter p.separator p) f o in
@@ -176,7 +177,7 @@ module _ (P : ℕ → Type 0) where
 
   -- ---- statements
 
-  pub declaration_on : (s : Statement) → Fits rule (statement_tree s) forms.statement → On P (statement_tree s) → Every P (places (declaration_of s))
+  pub declaration_on : (s : Statement) → DerivesLongest rule (statement_tree s) forms.statement → On P (statement_tree s) → Every P (places (declaration_of s))
   declaration_on (config_statements.RouterId a) f o = (o.1.1.0, tt)
   declaration_on config_statements.Log f o = tt
   declaration_on (config_statements.Define n l) f o = (o.1.0, value_on l o.1.1.1.0)
@@ -189,9 +190,9 @@ module _ (P : ℕ → Type 0) where
   declaration_on (config_statements.Bgp p) f o = instance_on sym.Bgp bgp_option_tree forms.bgp_option of_bgp_setting bgp_setting_of bgp_setting_on p f.1 o.1
   declaration_on (config_statements.Pipe p) f o = instance_on sym.Pipe pipe_option_tree forms.pipe_option of_pipe_setting pipe_setting_of pipe_setting_on p f.1 o.1
 
-  pub declarations_on : (ss : List Statement) → Fits rule (statements_tree ss) forms.config → On P (statements_tree ss) → Every (λ d. Every P (places d)) (configuration_of ss)
+  pub declarations_on : (ss : List Statement) → DerivesLongest rule (statements_tree ss) forms.config → On P (statements_tree ss) → Every (λ d. Every P (places d)) (configuration_of ss)
   declarations_on ss h o =
-      each_mapped ss (row_on P statement_tree forms.statement (λ s. Every P (places (declaration_of s))) declaration_on ss (Start Blank) h o).rest
+      each_mapped ss (row_on P statement_tree forms.statement (λ s. Every P (places (declaration_of s))) declaration_on ss (Single NoWords) h o).rest
     where
       each_mapped : (ss : List Statement) → Every (λ s. Every P (places (declaration_of s))) ss → Every (λ d. Every P (places d)) (configuration_of ss)
       each_mapped [] h = tt

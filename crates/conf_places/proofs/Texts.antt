@@ -12,12 +12,12 @@ use Rattle.conf_lex.specs.declared.token.TokenKind.{TokenKind}
 use Rattle.conf_lex.specs.declared.token.TokenKind.TheVariants as kinds
 use Rattle.conf_lex.specs.declared.word.Word.{Word}
 use Rattle.conf_lex.specs.declared.word.Word.TheVariants as words
-use Rattle.conf_tree.specs.Said.{said, says, behind, said_words}
-use Rattle.conf_tree.specs.declared.said.Region.{Region}
-use Rattle.conf_tree.specs.declared.said.Region.TheVariants as regions
+use Rattle.conf_tree.specs.Significant.{significant, is_significant, behind, significant_words}
+use Rattle.conf_tree.specs.declared.significant.Region.{Region}
+use Rattle.conf_tree.specs.declared.significant.Region.TheVariants as regions
 use Rattle.conf_tree.specs.Read.{IsConfigText}
 use Rattle.conf_tree.specs.View.{statements_tree}
-use Rattle.conf_tree.specs.declared.tree.Statement.{Statement}
+use Rattle.conf_tree.specs.declared.ast.Statement.{Statement}
 use Rattle.conf_ast.specs.Configurations.{configuration_of}
 use Rattle.conf_places.specs.Configurations.{places}
 use Rattle.conf_places.specs.Words.{IsTokenPlace, of_word, of_words}
@@ -38,7 +38,7 @@ module _ (P : ℕ → Type 0) where
   spelled_placed t (Some s) p = symbol_placed (is_placed s) t.at s p
 
   kind_placed : (text : List ℕ) (t : Token) (kind : TokenKind) → P t.at → Placed (kind_word text t kind)
-  kind_placed text t kinds.Quoted p = (p, tt)
+  kind_placed text t kinds.QuotedName p = (p, tt)
   kind_placed text t kinds.Text p = (p, tt)
   kind_placed text t (kinds.Number n) p = (p, tt)
   kind_placed text t (kinds.Ip addr) p = (p, tt)
@@ -72,16 +72,16 @@ module _ (P : ℕ → Type 0) where
   kept true p rest w h = (w, h)
   kept false p rest w h = h
 
-  said_placed : (region : Region) (ps : List (ℕ × Word)) → Every (λ (x : ℕ × Word). Placed x.1) ps → Every (λ (x : ℕ × Word). Placed x.1) (said region ps)
-  said_placed region [] h = tt
-  said_placed region (p ∷ ps) h = kept (says region p.1) p (said (behind region p.1) ps) h.0 (said_placed (behind region p.1) ps h.1)
+  significant_placed : (region : Region) (ps : List (ℕ × Word)) → Every (λ (x : ℕ × Word). Placed x.1) ps → Every (λ (x : ℕ × Word). Placed x.1) (significant region ps)
+  significant_placed region [] h = tt
+  significant_placed region (p ∷ ps) h = kept (is_significant region p.1) p (significant (behind region p.1) ps) h.0 (significant_placed (behind region p.1) ps h.1)
 
   all_words : (ps : List (ℕ × Word)) → Every (λ (x : ℕ × Word). Placed x.1) ps → Every P (of_words (map (λ (p : ℕ × Word). p.1) ps))
   all_words [] h = tt
   all_words (p ∷ ps) h = join P (of_word p.1) (of_words (map (λ (q : ℕ × Word). q.1) ps)) h.0 (all_words ps h.1)
 
-  pub words_placed : (text : List ℕ) (tokens : List Token) → Every (λ (t : Token). P t.at) tokens → Every P (of_words (said_words text tokens))
-  words_placed text tokens h = all_words (said regions.Statements (words_of text tokens)) (said_placed regions.Statements (words_of text tokens) (from_placed text 0 0 tokens h))
+  pub words_placed : (text : List ℕ) (tokens : List Token) → Every (λ (t : Token). P t.at) tokens → Every P (of_words (significant_words text tokens))
+  words_placed text tokens h = all_words (significant regions.Statements (words_of text tokens)) (significant_placed regions.Statements (words_of text tokens) (from_placed text 0 0 tokens h))
 
 -- ---- tokens
 

@@ -2,14 +2,14 @@
 -- carries, at which a word or a sign of it begins.
 use Rattle.std.specs.Prelude.{◌≡◌, ◌<◌, ℕ, All, Contains, List, [], ◌∷◌, ◌++◌, Option, Some, None}
 use Rattle.grammar.specs.declared.named.Name.{Name}
-use Rattle.conf_tree.specs.declared.tree.Address.{Address}
-use Rattle.conf_tree.specs.declared.tree.Limit.{Limit}
-use Rattle.conf_tree.specs.declared.tree.Limit.TheVariants as limits
-use Rattle.conf_tree.specs.declared.tree.Route.{Route}
-use Rattle.conf_tree.specs.declared.tree.RouteTarget.{RouteTarget}
-use Rattle.conf_tree.specs.declared.tree.RouteTarget.TheVariants as targets
-use Rattle.conf_tree.specs.declared.tree.Transport.{Transport}
-use Rattle.conf_tree.specs.declared.tree.Transport.TheVariants as transports
+use Rattle.conf_tree.specs.declared.ast.Address.{Address}
+use Rattle.conf_tree.specs.declared.ast.Limit.{Limit}
+use Rattle.conf_tree.specs.declared.ast.Limit.TheVariants as limits
+use Rattle.conf_tree.specs.declared.ast.Route.{Route}
+use Rattle.conf_tree.specs.declared.ast.RouteTarget.{RouteTarget}
+use Rattle.conf_tree.specs.declared.ast.RouteTarget.TheVariants as targets
+use Rattle.conf_tree.specs.declared.ast.Transport.{Transport}
+use Rattle.conf_tree.specs.declared.ast.Transport.TheVariants as transports
 use Rattle.conf_ast.specs.Configurations as conf
 use Rattle.conf_ast.specs.Configurations.{Value, NumberValue, TextValue, AddressValue, PrefixValue}
 use Rattle.conf_ast.specs.Configurations.{TrueValue, FalseValue, ValueOf, PairValue, SetValue}

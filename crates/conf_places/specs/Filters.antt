@@ -1,29 +1,29 @@
 -- The places that are written in filters: each byte that their abstract syntax carries, at which a
 -- word or a sign of them begins.
 use Rattle.std.specs.Prelude.{ℕ, List, [], ◌∷◌, ◌++◌, Option, Some, None}
-use Rattle.filt_syntax.specs.declared.tree.Item.{Item}
-use Rattle.filt_syntax.specs.declared.tree.Item.TheVariants as items
-use Rattle.filt_syntax.specs.declared.tree.Lengths.{Lengths}
-use Rattle.filt_syntax.specs.declared.tree.Lengths.TheVariants as lengths
-use Rattle.filt_syntax.specs.declared.tree.MaskAtom.{MaskAtom}
-use Rattle.filt_syntax.specs.declared.tree.MaskAtom.TheVariants as mask_atoms
-use Rattle.filt_syntax.specs.declared.tree.MaskItem.{MaskItem}
-use Rattle.filt_syntax.specs.declared.tree.Num.{Num}
-use Rattle.filt_syntax.specs.declared.tree.Num.TheVariants as nums
-use Rattle.filt_syntax.specs.declared.tree.PairPart.{PairPart}
-use Rattle.filt_syntax.specs.declared.tree.PairPart.TheVariants as parts
-use Rattle.filt_syntax.specs.declared.tree.Parameter.{Parameter}
-use Rattle.filt_syntax.specs.declared.tree.Part.{Part}
-use Rattle.filt_syntax.specs.declared.tree.Simple.{Simple}
-use Rattle.filt_syntax.specs.declared.tree.Simple.TheVariants as simples
-use Rattle.filt_syntax.specs.declared.tree.Target.{Target}
-use Rattle.filt_syntax.specs.declared.tree.Target.TheVariants as targets
+use Rattle.filt_syntax.specs.declared.ast.Item.{Item}
+use Rattle.filt_syntax.specs.declared.ast.Item.TheVariants as items
+use Rattle.filt_syntax.specs.declared.ast.Lengths.{Lengths}
+use Rattle.filt_syntax.specs.declared.ast.Lengths.TheVariants as lengths
+use Rattle.filt_syntax.specs.declared.ast.MaskAtom.{MaskAtom}
+use Rattle.filt_syntax.specs.declared.ast.MaskAtom.TheVariants as mask_atoms
+use Rattle.filt_syntax.specs.declared.ast.MaskItem.{MaskItem}
+use Rattle.filt_syntax.specs.declared.ast.Num.{Num}
+use Rattle.filt_syntax.specs.declared.ast.Num.TheVariants as nums
+use Rattle.filt_syntax.specs.declared.ast.PairPart.{PairPart}
+use Rattle.filt_syntax.specs.declared.ast.PairPart.TheVariants as parts
+use Rattle.filt_syntax.specs.declared.ast.Parameter.{Parameter}
+use Rattle.filt_syntax.specs.declared.ast.NumRange.{NumRange}
+use Rattle.filt_syntax.specs.declared.ast.Atom.{Atom}
+use Rattle.filt_syntax.specs.declared.ast.Atom.TheVariants as atoms
+use Rattle.filt_syntax.specs.declared.ast.Target.{Target}
+use Rattle.filt_syntax.specs.declared.ast.Target.TheVariants as targets
 use Rattle.conf_ast.specs.Filters.{Expression, Plain, Named, Called, Grouped, Paired, SetOf, MaskOf}
 use Rattle.conf_ast.specs.Filters.{IsDefined, MethodOf, PropertyOf, Changed, Negated, Multiplied}
 use Rattle.conf_ast.specs.Filters.{Added, Compared, Joined, Expressions, NoExpressions}
 use Rattle.conf_ast.specs.Filters.{AndExpressions, Statement, Braced, Nothing, Declare, Assign}
 use Rattle.conf_ast.specs.Filters.{ChangeBy, Clear, Unset, If, IfElse, Case, CaseElse, For, Accept}
-use Rattle.conf_ast.specs.Filters.{Reject, Return, Print, PrintPart, Call, Statements, NoStatements}
+use Rattle.conf_ast.specs.Filters.{Reject, Return, Print, Printn, Call, Statements, NoStatements}
 use Rattle.conf_ast.specs.Filters.{AndStatements, Arms, NoArms, AndArms}
 
 -- ---- items of sets, of labels and of masks
@@ -36,12 +36,12 @@ abbrev pub of_optional_num : Option Num → List ℕ
 of_optional_num None = []
 of_optional_num (Some n) = of_num n ∷ []
 
-abbrev pub of_part : Part → List ℕ
+abbrev pub of_part : NumRange → List ℕ
 of_part p = of_num p.low ∷ of_optional_num p.high
 
 abbrev pub of_pair_part : PairPart → List ℕ
 of_pair_part parts.Any = []
-of_pair_part (parts.Part p) = of_part p
+of_pair_part (parts.Range p) = of_part p
 
 abbrev pub of_lengths : Option Lengths → List ℕ
 of_lengths None = []
@@ -50,7 +50,7 @@ of_lengths (Some lengths.AndShorter) = []
 of_lengths (Some (lengths.Between low high)) = of_num low ∷ of_num high ∷ []
 
 abbrev pub of_item : Item → List ℕ
-of_item (items.Part p) = of_part p
+of_item (items.Range p) = of_part p
 of_item (items.Pair at a b) = at ∷ (of_pair_part a ++ of_pair_part b)
 of_item (items.Prefix at net l) = at ∷ of_lengths l
 
@@ -61,7 +61,7 @@ of_items (i ∷ more) = of_item i ++ of_items more
 abbrev pub of_atom : MaskAtom → List ℕ
 of_atom mask_atoms.One = []
 of_atom mask_atoms.Any = []
-of_atom (mask_atoms.Part p) = of_part p
+of_atom (mask_atoms.Range p) = of_part p
 
 abbrev pub of_mask : List MaskItem → List ℕ
 of_mask [] = []
@@ -69,17 +69,17 @@ of_mask (i ∷ more) = of_atom i.atom ++ of_mask more
 
 -- ---- expressions
 
-abbrev pub of_simple : Simple → ℕ
-of_simple (simples.Number at n) = at
-of_simple (simples.Text at start len) = at
-of_simple (simples.Ip at addr) = at
-of_simple (simples.Prefix at net) = at
-of_simple (simples.True at) = at
-of_simple (simples.False at) = at
-of_simple (simples.EmptyPath at) = at
-of_simple (simples.EmptyClist at) = at
-of_simple (simples.Attribute at a) = at
-of_simple (simples.Constant at c) = at
+abbrev pub of_simple : Atom → ℕ
+of_simple (atoms.Number at n) = at
+of_simple (atoms.Text at start len) = at
+of_simple (atoms.Ip at addr) = at
+of_simple (atoms.Prefix at net) = at
+of_simple (atoms.True at) = at
+of_simple (atoms.False at) = at
+of_simple (atoms.EmptyPath at) = at
+of_simple (atoms.EmptyClist at) = at
+of_simple (atoms.Attribute at a) = at
+of_simple (atoms.Constant at c) = at
 
 abbrev mutual
   pub of_expression : Expression → List ℕ
@@ -98,7 +98,7 @@ abbrev mutual
   of_expression (Multiplied a op b) = of_expression a ++ of_expression b
   of_expression (Added a op b) = of_expression a ++ of_expression b
   of_expression (Compared a op b) = of_expression a ++ of_expression b
-  of_expression (Joined a joint b) = of_expression a ++ of_expression b
+  of_expression (Joined a logical_op b) = of_expression a ++ of_expression b
 
   pub of_expressions : Expressions → List ℕ
   of_expressions NoExpressions = []
@@ -133,7 +133,7 @@ abbrev mutual
   of_statement Reject = []
   of_statement (Return at e) = at ∷ of_optional e
   of_statement (Print es) = of_expressions es
-  of_statement (PrintPart es) = of_expressions es
+  of_statement (Printn es) = of_expressions es
   of_statement (Call n place es) = n.at ∷ place ∷ of_expressions es
 
   pub of_statements : Statements → List ℕ

@@ -1,8 +1,8 @@
 ghost use Rattle.std.specs.Prelude.{◌≡◌, ◌<◌, ℕ, List, ◌∷◌, ◌++◌, length, None, Some, All};
 ghost use Rattle.std.specs.Prelude.{Contains};
-ghost use Rattle.grammar.specs.Grammar.{Fits, yield};
+ghost use Rattle.grammar.specs.Grammar.{DerivesLongest, yield};
 ghost use Rattle.filt_syntax.specs.Syntax.{rule};
-ghost use Rattle.conf_tree.specs.declared.tree.Statement.{Statement};
+ghost use Rattle.conf_tree.specs.declared.ast.Statement.{Statement};
 ghost use Rattle.conf_tree.specs.Read.{IsConfigText};
 ghost use Rattle.conf_tree.specs.Syntax.{statement};
 ghost use Rattle.conf_tree.specs.View.{statement_tree, statements_tree};
@@ -26,7 +26,7 @@ pub fn refusals_stand_in_their_statement()
         → All (λ (r : Refusal). Contains (places d) r.at) (refusals known d) }
     ensures counted { (known : Known) (d : Declaration) (r : Refusal)
         → first_in None (refusals known d) ≡ Some r → Contains (places d) r.at }
-    ensures words { (known : Known) (s : Statement) → Fits rule (statement_tree s) statement
+    ensures words { (known : Known) (s : Statement) → DerivesLongest rule (statement_tree s) statement
         → All (λ (r : Refusal). Contains (of_words (yield (statement_tree s))) r.at)
         (refusals known (declaration_of s)) }
 {
@@ -36,7 +36,7 @@ pub fn refusals_stand_in_their_statement()
 /// The places of a statement are those of its words, and where a text is a configuration a token of
 /// it begins at each of them, so each is a byte of it.
 pub fn places_are_of_words()
-    ensures words { (s : Statement) → Fits rule (statement_tree s) statement
+    ensures words { (s : Statement) → DerivesLongest rule (statement_tree s) statement
         → All (Contains (of_words (yield (statement_tree s)))) (places (declaration_of s)) }
     ensures tokens { (text : List ℕ) (ss : List Statement)
         → IsConfigText text (statements_tree ss)

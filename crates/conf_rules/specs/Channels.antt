@@ -5,8 +5,8 @@ use Rattle.bits_ip.specs.declared.address.Family.{Family}
 use Rattle.bits_ip.specs.declared.address.Family.TheVariants as families
 use Rattle.grammar.specs.declared.named.Name.{Name}
 use Rattle.conf_tree.specs.declared.kind.ConfKind.TheVariants as kinds
-use Rattle.conf_tree.specs.declared.tree.Limit.{Limit}
-use Rattle.conf_tree.specs.declared.tree.Limit.TheVariants as limits
+use Rattle.conf_tree.specs.declared.ast.Limit.{Limit}
+use Rattle.conf_tree.specs.declared.ast.Limit.TheVariants as limits
 use Rattle.conf_ast.specs.Configurations.{Passing, PassAll, PassNone, PassByFilter, PassByBlock, PassWhere, ChannelSetting, ChannelTable, ChannelImport, ChannelExport, ChannelPreference, ChannelLimit, ChannelNextHop, FamilyChannel}
 use Rattle.filt_meaning.specs.Configuration.{filter_where}
 use Rattle.filt_check.specs.Answers as filters

@@ -6,15 +6,15 @@ use Rattle.bits_ip.specs.Prefix.{Net, same_net}
 use Rattle.bits_ip.specs.declared.address.Family.{Family}
 use Rattle.grammar.specs.declared.named.Name.{Name}
 use Rattle.grammar.specs.Names.{name_bytes}
-use Rattle.filt_syntax.specs.declared.tree.Num.{Num}
+use Rattle.filt_syntax.specs.declared.ast.Num.{Num}
 use Rattle.conf_tree.specs.declared.kind.ConfKind.TheVariants as kinds
-use Rattle.conf_tree.specs.declared.tree.Route.{Route}
-use Rattle.conf_tree.specs.declared.tree.RouteTarget.{RouteTarget}
-use Rattle.conf_tree.specs.declared.tree.RouteTarget.TheVariants as targets
-use Rattle.conf_tree.specs.declared.tree.Switch.{Switch}
-use Rattle.conf_tree.specs.declared.tree.Switch.TheVariants as switches
-use Rattle.conf_tree.specs.declared.tree.Transport.{Transport}
-use Rattle.conf_tree.specs.declared.tree.Transport.TheVariants as transports
+use Rattle.conf_tree.specs.declared.ast.Route.{Route}
+use Rattle.conf_tree.specs.declared.ast.RouteTarget.{RouteTarget}
+use Rattle.conf_tree.specs.declared.ast.RouteTarget.TheVariants as targets
+use Rattle.conf_tree.specs.declared.ast.Switch.{Switch}
+use Rattle.conf_tree.specs.declared.ast.Switch.TheVariants as switches
+use Rattle.conf_tree.specs.declared.ast.Transport.{Transport}
+use Rattle.conf_tree.specs.declared.ast.Transport.TheVariants as transports
 use Rattle.conf_ast.specs.Configurations.{FamilyChannel, StaticSetting, StaticChannel, StaticRoute, BgpSetting, BgpChannel, BgpLocal, BgpNeighbor, BgpMedMetric, BgpInterpretCommunities, BgpDefaultMed, BgpDefaultLocalPref, BgpTransport, PipeSetting, PipeTable, PipePeerTable, PipeImport, PipeExport, Instance}
 use Rattle.filt_meaning.specs.Names.{named_in}
 use Rattle.conf_rules.specs.declared.refusal.Refusal.{Refusal}

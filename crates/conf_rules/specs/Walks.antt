@@ -4,7 +4,7 @@ use Rattle.std.specs.Prelude.{Bool, true, false, List, [], ◌∷◌, Option, So
 use Rattle.bits_ip.specs.Prefix.{Net}
 use Rattle.bits_ip.specs.declared.address.Family.{Family}
 use Rattle.conf_tree.specs.declared.kind.ConfKind.TheVariants as kinds
-use Rattle.conf_tree.specs.declared.tree.Route.{Route}
+use Rattle.conf_tree.specs.declared.ast.Route.{Route}
 use Rattle.conf_ast.specs.Configurations.{FamilyChannel}
 use Rattle.conf_rules.specs.declared.refusal.Refusal.{Refusal}
 

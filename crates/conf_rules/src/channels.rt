@@ -12,7 +12,8 @@ use crate::declared::{Declared, filter, table, table_of};
 use crate::filters::{block, condition, number};
 use crate::refusal::{Refusal, note_if};
 use bits_ip::{Family, OutOfMemory};
-use conf_tree::{Channel, ChannelOption, ConfKind, Limit, Policy};
+use conf_tree::ConfKind;
+use conf_tree::ast::{Channel, ChannelOption, Limit, Policy};
 use grammar::Name;
 use std::alloc::Global;
 

@@ -11,8 +11,9 @@ ghost use Rattle.conf_rules.specs.Seen.{known_of};
 use crate::declared::Declared;
 use crate::filters::{mask, number, over_16_bits, seen_in, set};
 use crate::refusal::{Refusal, note_if};
-use conf_tree::{ConfKind, Literal};
-use filt_syntax::Num;
+use conf_tree::ConfKind;
+use conf_tree::ast::Literal;
+use filt_syntax::ast::Num;
 use filt_types::constant_named;
 use grammar::Name;
 

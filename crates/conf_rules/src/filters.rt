@@ -15,7 +15,7 @@ use crate::declared::Declared;
 use crate::refusal::{Refusal, note_first};
 use bits_ip::OutOfMemory;
 use filt_rules::{first_in_block, first_in_condition};
-use filt_syntax::{Block, Expr, Item, MaskItem, Num};
+use filt_syntax::ast::{Block, Expr, Item, MaskItem, Num};
 use filt_types::Seen;
 use std::alloc::Global;
 

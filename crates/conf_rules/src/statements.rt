@@ -19,9 +19,10 @@ use crate::pipes::pipe;
 use crate::refusal::{Refusal, note_first, note_if};
 use crate::static_protocols::static_protocol;
 use bits_ip::{Family, OutOfMemory};
-use conf_tree::{ConfKind, Literal, Statement};
+use conf_tree::ConfKind;
+use conf_tree::ast::{Literal, Statement};
 use filt_rules::first_in_function;
-use filt_syntax::{Filter, Function};
+use filt_syntax::ast::{Filter, Function};
 use grammar::Name;
 use std::alloc::Global;
 

@@ -17,7 +17,8 @@ use crate::declared::Declared;
 use crate::names::{STATIC_STEM, declaring, place_of};
 use crate::refusal::{Refusal, note_if};
 use bits_ip::{Addr, Family, OutOfMemory, Prefix};
-use conf_tree::{ConfKind, Protocol, Route, RouteTarget, StaticOption};
+use conf_tree::ConfKind;
+use conf_tree::ast::{Protocol, Route, RouteTarget, StaticOption};
 use indexmap::IndexSet;
 use std::alloc::Global;
 

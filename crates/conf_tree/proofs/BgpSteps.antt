@@ -6,8 +6,8 @@ use Rattle.conf_lex.specs.declared.symbol.Symbol.TheVariants as sym
 use Rattle.conf_lex.specs.declared.word.Word.{Word}
 use Rattle.conf_lex.specs.declared.word.Word.TheVariants as words
 use Rattle.grammar.specs.Kind.{Kind, kind_of, name, address, symbol}
-use Rattle.grammar.specs.Grammar.{Tree, Leaf, Both, Second, Bad, begins, starts}
-use Rattle.grammar.specs.Reading.{Got, Fault, and_then, word, both}
+use Rattle.grammar.specs.Grammar.{ParseTree, Leaf, Pair, Right, Bad, begins, first_set}
+use Rattle.grammar.specs.Reading.{Parsed, Failed, and_then, word, both}
 use Rattle.grammar.specs.Shapes.{symbol_leaf}
 use Rattle.grammar.proofs.Shapes.{word_bad}
 use Rattle.filt_syntax.specs.Syntax.{is_num}
@@ -25,30 +25,30 @@ use Rattle.conf_tree.proofs.FirstWords.{behind_six}
 bgp_checked : is_checked bgp_option
 bgp_checked = refl
 
-channel_begins : (at : ℕ) (family : Family) (ws u : List Word) → ws ≡ words.Placed at (family_symbol family) ∷ u → begins (starts channel) ws ≡ true
+channel_begins : (at : ℕ) (family : Family) (ws u : List Word) → ws ≡ words.Placed at (family_symbol family) ∷ u → begins (first_set channel) ws ≡ true
 channel_begins at families.V4 ws u is = rw is refl
 channel_begins at families.V6 ws u is = rw is refl
 
-pub bgp_channel : (k at : ℕ) (family : Family) (ws u : List Word) → ws ≡ words.Placed at (family_symbol family) ∷ u → bgp_option_at k ws ≡ and_then (channel_at k ws) (λ t v. Got (nth 0 t) v)
+pub bgp_channel : (k at : ℕ) (family : Family) (ws u : List Word) → ws ≡ words.Placed at (family_symbol family) ∷ u → bgp_option_at k ws ≡ and_then (channel_at k ws) (λ t v. Parsed (nth 0 t) v)
 unfolding bgp_option_at channel_at
 bgp_channel k at family ws u is = first_read k channel _ ws (channel_begins at family ws u is)
 
-pub local_is : (k : ℕ) (ws u : List Word) → ws ≡ words.Symbol sym.Local ∷ u → bgp_option_at k ws ≡ and_then (both (optional_address_at 0) (as_at 0) u) (λ t v. Got (nth 1 (Both (symbol_leaf sym.Local) t)) v)
+pub local_is : (k : ℕ) (ws u : List Word) → ws ≡ words.Symbol sym.Local ∷ u → bgp_option_at k ws ≡ and_then (both (optional_address_at 0) (as_at 0) u) (λ t v. Parsed (nth 1 (Pair (symbol_leaf sym.Local) t)) v)
 unfolding bgp_option_at optional_address_at as_at
 local_is zero ws u is = headed 1 0 (symbol sym.Local) bgp_option _ _ bgp_checked refl refl ws (words.Symbol sym.Local) u is refl
 local_is (suc k) ws u is = headed 1 (suc k) (symbol sym.Local) bgp_option _ _ bgp_checked refl refl ws (words.Symbol sym.Local) u is refl
 
-pub neighbor_is : (k : ℕ) (ws u : List Word) → ws ≡ words.Symbol sym.Neighbor ∷ u → bgp_option_at k ws ≡ and_then (both (word address) (as_at 0) u) (λ t v. Got (nth 2 (Both (symbol_leaf sym.Neighbor) t)) v)
+pub neighbor_is : (k : ℕ) (ws u : List Word) → ws ≡ words.Symbol sym.Neighbor ∷ u → bgp_option_at k ws ≡ and_then (both (word address) (as_at 0) u) (λ t v. Parsed (nth 2 (Pair (symbol_leaf sym.Neighbor) t)) v)
 unfolding bgp_option_at as_at
 neighbor_is zero ws u is = headed 2 0 (symbol sym.Neighbor) bgp_option _ _ bgp_checked refl refl ws (words.Symbol sym.Neighbor) u is refl
 neighbor_is (suc k) ws u is = headed 2 (suc k) (symbol sym.Neighbor) bgp_option _ _ bgp_checked refl refl ws (words.Symbol sym.Neighbor) u is refl
 
-pub med_is : (k : ℕ) (ws u : List Word) → ws ≡ words.Symbol sym.Med ∷ u → bgp_option_at k ws ≡ and_then (both (word (symbol sym.Metric)) (word is_switch) u) (λ t v. Got (nth 3 (Both (symbol_leaf sym.Med) t)) v)
+pub med_is : (k : ℕ) (ws u : List Word) → ws ≡ words.Symbol sym.Med ∷ u → bgp_option_at k ws ≡ and_then (both (word (symbol sym.Metric)) (word is_switch) u) (λ t v. Parsed (nth 3 (Pair (symbol_leaf sym.Med) t)) v)
 unfolding bgp_option_at
 med_is zero ws u is = headed 3 0 (symbol sym.Med) bgp_option _ _ bgp_checked refl refl ws (words.Symbol sym.Med) u is refl
 med_is (suc k) ws u is = headed 3 (suc k) (symbol sym.Med) bgp_option _ _ bgp_checked refl refl ws (words.Symbol sym.Med) u is refl
 
-pub interpret_is : (k : ℕ) (ws u : List Word) → ws ≡ words.Symbol sym.Interpret ∷ u → bgp_option_at k ws ≡ and_then (both (word (symbol sym.Communities)) (word is_switch) u) (λ t v. Got (nth 4 (Both (symbol_leaf sym.Interpret) t)) v)
+pub interpret_is : (k : ℕ) (ws u : List Word) → ws ≡ words.Symbol sym.Interpret ∷ u → bgp_option_at k ws ≡ and_then (both (word (symbol sym.Communities)) (word is_switch) u) (λ t v. Parsed (nth 4 (Pair (symbol_leaf sym.Interpret) t)) v)
 unfolding bgp_option_at
 interpret_is zero ws u is = headed 4 0 (symbol sym.Interpret) bgp_option _ _ bgp_checked refl refl ws (words.Symbol sym.Interpret) u is refl
 interpret_is (suc k) ws u is = headed 4 (suc k) (symbol sym.Interpret) bgp_option _ _ bgp_checked refl refl ws (words.Symbol sym.Interpret) u is refl
@@ -56,28 +56,28 @@ interpret_is (suc k) ws u is = headed 4 (suc k) (symbol sym.Interpret) bgp_optio
 abbrev has_default : Kind → Bool
 has_default k = symbol sym.BgpMed k || symbol sym.BgpLocalPref k
 
-default_is : (k : ℕ) (ws u : List Word) → ws ≡ words.Symbol sym.Default ∷ u → bgp_option_at k ws ≡ and_then (both (word has_default) (word is_num) u) (λ t v. Got (nth 5 (Both (symbol_leaf sym.Default) t)) v)
+default_is : (k : ℕ) (ws u : List Word) → ws ≡ words.Symbol sym.Default ∷ u → bgp_option_at k ws ≡ and_then (both (word has_default) (word is_num) u) (λ t v. Parsed (nth 5 (Pair (symbol_leaf sym.Default) t)) v)
 unfolding bgp_option_at
 default_is zero ws u is = headed 5 0 (symbol sym.Default) bgp_option _ _ bgp_checked refl refl ws (words.Symbol sym.Default) u is refl
 default_is (suc k) ws u is = headed 5 (suc k) (symbol sym.Default) bgp_option _ _ bgp_checked refl refl ws (words.Symbol sym.Default) u is refl
 
-abbrev defaulted : Word → Tree → Tree
-defaulted w t = nth 5 (Both (symbol_leaf sym.Default) (Both (Leaf w) t))
+abbrev defaulted : Word → ParseTree → ParseTree
+defaulted w t = nth 5 (Pair (symbol_leaf sym.Default) (Pair (Leaf w) t))
 
-default_value : (k : ℕ) (ws u : List Word) (w : Word) (v : List Word) → ws ≡ words.Symbol sym.Default ∷ u → u ≡ w ∷ v → has_default (kind_of w) ≡ true → bgp_option_at k ws ≡ and_then (word is_num v) (λ t x. Got (defaulted w t) x)
-default_value k ws u w v is next passes = default_is k ws u is ∙ rw (next, passes) (maps2 (word is_num v) (λ t. Both (Leaf w) t) (λ t. nth 5 (Both (symbol_leaf sym.Default) t)))
+default_value : (k : ℕ) (ws u : List Word) (w : Word) (v : List Word) → ws ≡ words.Symbol sym.Default ∷ u → u ≡ w ∷ v → has_default (kind_of w) ≡ true → bgp_option_at k ws ≡ and_then (word is_num v) (λ t x. Parsed (defaulted w t) x)
+default_value k ws u w v is next passes = default_is k ws u is ∙ rw (next, passes) (maps2 (word is_num v) (λ t. Pair (Leaf w) t) (λ t. nth 5 (Pair (symbol_leaf sym.Default) t)))
 
-pub default_med : (k at : ℕ) (ws u v : List Word) → ws ≡ words.Symbol sym.Default ∷ u → u ≡ words.Placed at sym.BgpMed ∷ v → bgp_option_at k ws ≡ and_then (word is_num v) (λ t x. Got (defaulted (words.Placed at sym.BgpMed) t) x)
+pub default_med : (k at : ℕ) (ws u v : List Word) → ws ≡ words.Symbol sym.Default ∷ u → u ≡ words.Placed at sym.BgpMed ∷ v → bgp_option_at k ws ≡ and_then (word is_num v) (λ t x. Parsed (defaulted (words.Placed at sym.BgpMed) t) x)
 default_med k at ws u v is next = default_value k ws u (words.Placed at sym.BgpMed) v is next refl
 
-pub default_local_pref : (k at : ℕ) (ws u v : List Word) → ws ≡ words.Symbol sym.Default ∷ u → u ≡ words.Placed at sym.BgpLocalPref ∷ v → bgp_option_at k ws ≡ and_then (word is_num v) (λ t x. Got (defaulted (words.Placed at sym.BgpLocalPref) t) x)
+pub default_local_pref : (k at : ℕ) (ws u v : List Word) → ws ≡ words.Symbol sym.Default ∷ u → u ≡ words.Placed at sym.BgpLocalPref ∷ v → bgp_option_at k ws ≡ and_then (word is_num v) (λ t x. Parsed (defaulted (words.Placed at sym.BgpLocalPref) t) x)
 default_local_pref k at ws u v is next = default_value k ws u (words.Placed at sym.BgpLocalPref) v is next refl
 
 begins_none_of : (p q : Kind → Bool) (ws : List Word) → begins p ws ≡ false → begins q ws ≡ false → begins (λ k. p k || q k) ws ≡ false
 begins_none_of p q [] a b = refl
 begins_none_of p q (w ∷ ws) a b = rw (a, b) refl
 
-pub default_bad : (k : ℕ) (ws u : List Word) → ws ≡ words.Symbol sym.Default ∷ u → begins (symbol sym.BgpMed) u ≡ false → begins (symbol sym.BgpLocalPref) u ≡ false → bgp_option_at k ws ≡ Fault Bad u
+pub default_bad : (k : ℕ) (ws u : List Word) → ws ≡ words.Symbol sym.Default ∷ u → begins (symbol sym.BgpMed) u ≡ false → begins (symbol sym.BgpLocalPref) u ≡ false → bgp_option_at k ws ≡ Failed Bad u
 default_bad k ws u is med pref = default_is k ws u is ∙ rw (word_bad has_default u (begins_none_of (symbol sym.BgpMed) (symbol sym.BgpLocalPref) u med pref)) refl
 
 -- where no option comes next but of the transport
@@ -89,7 +89,7 @@ pub record IsTransport (ws : List Word) : Type 0 where
   pub interpret : begins (symbol sym.Interpret) ws ≡ false
   pub default : begins (symbol sym.Default) ws ≡ false
 
-pub bgp_transport : (k : ℕ) (ws : List Word) → IsTransport ws → bgp_option_at k ws ≡ and_then (transport_at 0 ws) (λ t u. Got (beyond 6 t) u)
+pub bgp_transport : (k : ℕ) (ws : List Word) → IsTransport ws → bgp_option_at k ws ≡ and_then (transport_at 0 ws) (λ t u. Parsed (beyond 6 t) u)
 unfolding bgp_option_at transport_at
 bgp_transport zero [] none = refl
 bgp_transport (suc k) [] none = refl
@@ -101,23 +101,23 @@ bgp_transport (suc k) (w ∷ ws) none = rw (none.family, none.local, none.neighb
 pipe_checked : is_checked pipe_option
 pipe_checked = refl
 
-pub pipe_table : (k : ℕ) (ws u : List Word) → ws ≡ words.Symbol sym.Table ∷ u → pipe_option_at k ws ≡ and_then (word name u) (λ t v. Got (nth 0 (Both (symbol_leaf sym.Table) t)) v)
+pub pipe_table : (k : ℕ) (ws u : List Word) → ws ≡ words.Symbol sym.Table ∷ u → pipe_option_at k ws ≡ and_then (word name u) (λ t v. Parsed (nth 0 (Pair (symbol_leaf sym.Table) t)) v)
 unfolding pipe_option_at
 pipe_table zero ws u is = headed 0 0 (symbol sym.Table) pipe_option _ _ pipe_checked refl refl ws (words.Symbol sym.Table) u is refl
 pipe_table (suc k) ws u is = headed 0 (suc k) (symbol sym.Table) pipe_option _ _ pipe_checked refl refl ws (words.Symbol sym.Table) u is refl
 
-pub peer_is : (k : ℕ) (ws u : List Word) → ws ≡ words.Symbol sym.Peer ∷ u → pipe_option_at k ws ≡ and_then (both (word (symbol sym.Table)) (word name) u) (λ t v. Got (nth 1 (Both (symbol_leaf sym.Peer) t)) v)
+pub peer_is : (k : ℕ) (ws u : List Word) → ws ≡ words.Symbol sym.Peer ∷ u → pipe_option_at k ws ≡ and_then (both (word (symbol sym.Table)) (word name) u) (λ t v. Parsed (nth 1 (Pair (symbol_leaf sym.Peer) t)) v)
 unfolding pipe_option_at
 peer_is zero ws u is = headed 1 0 (symbol sym.Peer) pipe_option _ _ pipe_checked refl refl ws (words.Symbol sym.Peer) u is refl
 peer_is (suc k) ws u is = headed 1 (suc k) (symbol sym.Peer) pipe_option _ _ pipe_checked refl refl ws (words.Symbol sym.Peer) u is refl
 
-pub import_is : (k : ℕ) (ws u : List Word) → ws ≡ words.Symbol sym.Import ∷ u → pipe_option_at k ws ≡ and_then (policy_at k u) (λ t v. Got (nth 2 (Both (symbol_leaf sym.Import) t)) v)
+pub import_is : (k : ℕ) (ws u : List Word) → ws ≡ words.Symbol sym.Import ∷ u → pipe_option_at k ws ≡ and_then (policy_at k u) (λ t v. Parsed (nth 2 (Pair (symbol_leaf sym.Import) t)) v)
 unfolding pipe_option_at policy_at
 import_is k ws u is = headed 2 k (symbol sym.Import) pipe_option _ _ pipe_checked refl refl ws (words.Symbol sym.Import) u is refl
 
-pub export_is : (k : ℕ) (ws : List Word) → begins (symbol sym.Table) ws ≡ false → begins (symbol sym.Peer) ws ≡ false → begins (symbol sym.Import) ws ≡ false → pipe_option_at k ws ≡ and_then (both (word (symbol sym.Export)) (policy_at k) ws) (λ t u. Got (beyond 3 t) u)
+pub export_is : (k : ℕ) (ws : List Word) → begins (symbol sym.Table) ws ≡ false → begins (symbol sym.Peer) ws ≡ false → begins (symbol sym.Import) ws ≡ false → pipe_option_at k ws ≡ and_then (both (word (symbol sym.Export)) (policy_at k) ws) (λ t u. Parsed (beyond 3 t) u)
 unfolding pipe_option_at policy_at
 export_is zero [] table peer import = refl
 export_is (suc k) [] table peer import = refl
-export_is zero (w ∷ ws) table peer import = rw (table, peer, import) (maps3 (both (word (symbol sym.Export)) (policy_at 0) (w ∷ ws)) (λ t. Second t) (λ t. Second t) (λ t. Second t))
-export_is (suc k) (w ∷ ws) table peer import = rw (table, peer, import) (maps3 (both (word (symbol sym.Export)) (policy_at (suc k)) (w ∷ ws)) (λ t. Second t) (λ t. Second t) (λ t. Second t))
+export_is zero (w ∷ ws) table peer import = rw (table, peer, import) (maps3 (both (word (symbol sym.Export)) (policy_at 0) (w ∷ ws)) (λ t. Right t) (λ t. Right t) (λ t. Right t))
+export_is (suc k) (w ∷ ws) table peer import = rw (table, peer, import) (maps3 (both (word (symbol sym.Export)) (policy_at (suc k)) (w ∷ ws)) (λ t. Right t) (λ t. Right t) (λ t. Right t))

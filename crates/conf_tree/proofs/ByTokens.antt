@@ -7,11 +7,12 @@ use Rattle.conf_lex.specs.Words.{kind_symbol, is_prefix}
 use Rattle.conf_lex.specs.declared.symbol.Symbol.{Symbol}
 use Rattle.conf_lex.specs.declared.symbol.Symbol.TheVariants as symbols
 use Rattle.conf_lex.specs.declared.token.TokenKind.{TokenKind}
-use Rattle.conf_lex.specs.declared.token.TokenKind.TheVariants as sorts
+use Rattle.conf_lex.specs.declared.token.TokenKind.TheVariants as token_kinds
 use Rattle.conf_lex.specs.declared.word.Word.{Word}
 use Rattle.conf_lex.specs.declared.word.Word.TheVariants as words
-use Rattle.grammar.specs.Kind.{Kind, IsNumber, IsName, IsText, IsAddress, IsPrefix, IsNoPrefix, IsSymbol, IsStray, keeps_place, kind_of, symbol}
-use Rattle.grammar.specs.Grammar.{Tree, yield, begins, Fits}
+use Rattle.conf_lex.specs.Symbols.{is_placed}
+use Rattle.grammar.specs.Kind.{Kind, IsNumber, IsName, IsText, IsAddress, IsPrefix, IsNoPrefix, IsSymbol, IsStray, kind_of, symbol}
+use Rattle.grammar.specs.Grammar.{ParseTree, yield, begins, DerivesLongest}
 use Rattle.grammar.specs.Sentences.{IsBegun}
 use Rattle.grammar.proofs.Symbols.{is_symbol_word}
 use Rattle.filt_syntax.specs.Syntax.{rule}
@@ -19,11 +20,11 @@ use Rattle.filt_syntax.specs.RefusedToken.{CanFollow, some_prefix, some_address,
 use Rattle.filt_syntax.specs.declared.refused_token.Torn.{Torn}
 use Rattle.filt_syntax.specs.declared.refused_token.Torn.TheVariants as torns
 use Rattle.conf_tree.specs.Syntax.{config}
-use Rattle.conf_tree.specs.declared.said.Region.{Region}
-use Rattle.conf_tree.specs.declared.said.Region.TheVariants as regions
+use Rattle.conf_tree.specs.declared.significant.Region.{Region}
+use Rattle.conf_tree.specs.declared.significant.Region.TheVariants as regions
 use Rattle.conf_tree.proofs.KindTrees.{kinds_of, begun_alike, never_bad_prefix}
 use Rattle.conf_tree.proofs.SlashTrees.{prefix_follows}
-use Rattle.conf_tree.proofs.Marks.{Mark, sym_of, spelled_kind, alone, prefix_kind, colon_first, slash_first, sort_first, behind_one, folded, or_kind, first_kind, no_second, no_slash, behind_kind, says_kind, heard, front_heard, state, heard_both, IsNext}
+use Rattle.conf_tree.proofs.Marks.{Mark, sym_of, spelled_kind, alone, prefix_kind, colon_first, slash_first, sort_first, behind_one, folded, or_kind, first_kind, no_second, no_slash, behind_kind, is_significant_kind, heard, front_heard, state, heard_both, IsNext}
 
 -- ---- marks
 
@@ -35,24 +36,24 @@ same_if true c d u v w f e = rw (f refl, e) refl
 same_if false c d u v w f e = e
 
 abbrev is_ip : TokenKind → Bool
-is_ip (sorts.Ip addr) = true
+is_ip (token_kinds.Ip addr) = true
 is_ip _ = false
 
 no_ip : (k : TokenKind) (b : Bool) (o : Option TokenKind) → is_ip k ≡ false → folded k b o ≡ None
-no_ip (sorts.Ip addr) b o e = absurd cc
-no_ip sorts.Name b o e = refl
-no_ip sorts.Quoted b o e = refl
-no_ip (sorts.Number n) b o e = refl
-no_ip sorts.Text b o e = refl
-no_ip sorts.Sign b o e = refl
+no_ip (token_kinds.Ip addr) b o e = absurd cc
+no_ip token_kinds.Name b o e = refl
+no_ip token_kinds.QuotedName b o e = refl
+no_ip (token_kinds.Number n) b o e = refl
+no_ip token_kinds.Text b o e = refl
+no_ip token_kinds.Punctuation b o e = refl
 
-ip_is : (k : TokenKind) → is_ip k ≡ true → (addr : Addr) × (k ≡ sorts.Ip addr)
-ip_is (sorts.Ip addr) e = (addr, refl)
-ip_is sorts.Name e = absurd cc
-ip_is sorts.Quoted e = absurd cc
-ip_is (sorts.Number n) e = absurd cc
-ip_is sorts.Text e = absurd cc
-ip_is sorts.Sign e = absurd cc
+ip_is : (k : TokenKind) → is_ip k ≡ true → (addr : Addr) × (k ≡ token_kinds.Ip addr)
+ip_is (token_kinds.Ip addr) e = (addr, refl)
+ip_is token_kinds.Name e = absurd cc
+ip_is token_kinds.QuotedName e = absurd cc
+ip_is (token_kinds.Number n) e = absurd cc
+ip_is token_kinds.Text e = absurd cc
+ip_is token_kinds.Punctuation e = absurd cc
 
 same_first : (m : Mark) (xs ys : List Mark) → (is_else (sym_of m) ≡ true → colon_first xs ≡ colon_first ys) → is_ip m.1 ≡ false → first_kind m xs ≡ first_kind m ys
 same_first m xs ys colons plain =
@@ -64,26 +65,26 @@ slash_is None e = absurd cc
 slash_is (Some symbols.Slash) e = refl
 slash_is (Some _) e = absurd cc
 
-abbrev slash_kind : Kind
+abbrev pub slash_kind : Kind
 slash_kind = IsSymbol symbols.Slash
 
 -- a slash is a word of its own
 slash_alone : (slice : List ℕ) (k : TokenKind) (ms : List Mark) → is_slash (kind_symbol slice k) ≡ true → first_kind (slice, k) ms ≡ (slash_kind, 1)
-slash_alone slice sorts.Name ms e = rw (slash_is (symbol_of slice) e) refl
-slash_alone slice sorts.Sign ms e = rw (slash_is (symbol_of slice) e) refl
-slash_alone slice sorts.Quoted ms e = absurd cc
-slash_alone slice (sorts.Number n) ms e = absurd cc
-slash_alone slice (sorts.Ip addr) ms e = absurd cc
-slash_alone slice sorts.Text ms e = absurd cc
+slash_alone slice token_kinds.Name ms e = rw (slash_is (symbol_of slice) e) refl
+slash_alone slice token_kinds.Punctuation ms e = rw (slash_is (symbol_of slice) e) refl
+slash_alone slice token_kinds.QuotedName ms e = absurd cc
+slash_alone slice (token_kinds.Number n) ms e = absurd cc
+slash_alone slice (token_kinds.Ip addr) ms e = absurd cc
+slash_alone slice token_kinds.Text ms e = absurd cc
 
 slash_first_kind : (m : Mark) (ms : List Mark) → is_slash (sym_of m) ≡ true → first_kind m ms ≡ (slash_kind, 1)
 slash_first_kind m ms e = slash_alone m.0 m.1 ms e
 
 -- an address makes a prefix or stands alone
-ip_first : (m : Mark) (ms : List Mark) (addr : Addr) → m.1 ≡ sorts.Ip addr → first_kind m ms ≡ or_kind (folded (sorts.Ip addr) (slash_first ms) (sort_first (behind_one ms))) IsAddress
+pub ip_first : (m : Mark) (ms : List Mark) (addr : Addr) → m.1 ≡ token_kinds.Ip addr → first_kind m ms ≡ or_kind (folded (token_kinds.Ip addr) (slash_first ms) (sort_first (behind_one ms))) IsAddress
 ip_first m ms addr e = rw e refl
 
-abbrev is_net : Kind → Bool
+abbrev pub is_net : Kind → Bool
 is_net IsAddress = true
 is_net IsPrefix = true
 is_net IsNoPrefix = true
@@ -96,32 +97,32 @@ spelled_no_net (Some s) = refl
 abbrev else_or : Bool → Kind → Kind × ℕ
 else_or b k = if b then (IsSymbol symbols.ElseColon, 2) else (k, 1)
 
-else_no_net : (b : Bool) (o : Option Symbol) → is_net (else_or b (spelled_kind o)).0 ≡ false
+pub else_no_net : (b : Bool) (o : Option Symbol) → is_net (else_or b (spelled_kind o)).0 ≡ false
 else_no_net true o = refl
 else_no_net false o = spelled_no_net o
 
-not_both : (b : Bool) → b ≡ true → b ≡ false → ⊥
+pub not_both : (b : Bool) → b ≡ true → b ≡ false → ⊥
 not_both b e h = let both : true ≡ false = sym e ∙ h in cc
 
 net_is_ip : (slice : List ℕ) (k : TokenKind) (ms : List Mark) → is_net (first_kind (slice, k) ms).0 ≡ true → is_ip k ≡ true
-net_is_ip slice (sorts.Ip addr) ms e = refl
-net_is_ip slice sorts.Name ms e = absurd (not_both _ e (else_no_net (is_else (symbol_of slice) && colon_first ms) (symbol_of slice)))
-net_is_ip slice sorts.Sign ms e = absurd (not_both _ e (else_no_net (is_else (symbol_of slice) && colon_first ms) (symbol_of slice)))
-net_is_ip slice sorts.Quoted ms e = absurd cc
-net_is_ip slice (sorts.Number n) ms e = absurd cc
-net_is_ip slice sorts.Text ms e = absurd cc
+net_is_ip slice (token_kinds.Ip addr) ms e = refl
+net_is_ip slice token_kinds.Name ms e = absurd (not_both _ e (else_no_net (is_else (symbol_of slice) && colon_first ms) (symbol_of slice)))
+net_is_ip slice token_kinds.Punctuation ms e = absurd (not_both _ e (else_no_net (is_else (symbol_of slice) && colon_first ms) (symbol_of slice)))
+net_is_ip slice token_kinds.QuotedName ms e = absurd cc
+net_is_ip slice (token_kinds.Number n) ms e = absurd cc
+net_is_ip slice token_kinds.Text ms e = absurd cc
 
 prefix_net : (addr : Addr) (n : ℕ) (b : Bool) → is_prefix addr n ≡ b → is_net (prefix_kind addr n) ≡ true
 prefix_net addr n true is = rw is refl
 prefix_net addr n false is = rw is refl
 
-fold_net : (addr : Addr) (b : Bool) (o : Option TokenKind) → is_net (or_kind (folded (sorts.Ip addr) b o) IsAddress).0 ≡ true
-fold_net addr true (Some (sorts.Number n)) = prefix_net addr n (is_prefix addr n) refl
-fold_net addr true (Some sorts.Name) = refl
-fold_net addr true (Some sorts.Quoted) = refl
-fold_net addr true (Some (sorts.Ip a)) = refl
-fold_net addr true (Some sorts.Text) = refl
-fold_net addr true (Some sorts.Sign) = refl
+fold_net : (addr : Addr) (b : Bool) (o : Option TokenKind) → is_net (or_kind (folded (token_kinds.Ip addr) b o) IsAddress).0 ≡ true
+fold_net addr true (Some (token_kinds.Number n)) = prefix_net addr n (is_prefix addr n) refl
+fold_net addr true (Some token_kinds.Name) = refl
+fold_net addr true (Some token_kinds.QuotedName) = refl
+fold_net addr true (Some (token_kinds.Ip a)) = refl
+fold_net addr true (Some token_kinds.Text) = refl
+fold_net addr true (Some token_kinds.Punctuation) = refl
 fold_net addr true None = refl
 fold_net addr false o = refl
 
@@ -133,12 +134,12 @@ ip_is_net m ms false e none = refl
 
 -- ---- regions
 
-abbrev is_open : Region → Bool
+abbrev pub is_open : Region → Bool
 is_open regions.Log = false
 is_open (regions.Inside n) = false
 is_open _ = true
 
-open_of : (q : Region) (k : Kind) → says_kind q k ≡ true → symbol symbols.Semicolon k ≡ false → symbol symbols.CloseBrace k ≡ false → is_open q ≡ true
+open_of : (q : Region) (k : Kind) → is_significant_kind q k ≡ true → symbol symbols.Semicolon k ≡ false → symbol symbols.CloseBrace k ≡ false → is_open q ≡ true
 open_of regions.Statements k e f g = refl
 open_of regions.Log k e f g = absurd (not_both _ e f)
 open_of regions.Protocol k e f g = refl
@@ -147,7 +148,7 @@ open_of regions.Named k e f g = refl
 open_of (regions.Inside zero) k e f g = absurd (not_both _ e g)
 open_of (regions.Inside (suc n)) k e f g = absurd cc
 
-open_says : (q : Region) (k : Kind) → is_open q ≡ true → says_kind q k ≡ true
+pub open_says : (q : Region) (k : Kind) → is_open q ≡ true → is_significant_kind q k ≡ true
 open_says regions.Statements k e = refl
 open_says regions.Log k e = absurd cc
 open_says regions.Protocol k e = refl
@@ -156,7 +157,7 @@ open_says regions.Named k e = refl
 open_says (regions.Inside zero) k e = absurd cc
 open_says (regions.Inside (suc n)) k e = absurd cc
 
-open_address : (q : Region) → is_open q ≡ true → is_open (behind_kind q IsAddress) ≡ true
+pub open_address : (q : Region) → is_open q ≡ true → is_open (behind_kind q IsAddress) ≡ true
 open_address regions.Statements e = refl
 open_address regions.Log e = absurd cc
 open_address regions.Protocol e = refl
@@ -174,7 +175,7 @@ open_back regions.Named e = refl
 open_back (regions.Inside zero) e = absurd cc
 open_back (regions.Inside (suc n)) e = absurd cc
 
-net_open : (q : Region) (k : Kind) → says_kind q k ≡ true → is_net k ≡ true → is_open q ≡ true
+net_open : (q : Region) (k : Kind) → is_significant_kind q k ≡ true → is_net k ≡ true → is_open q ≡ true
 net_open q IsAddress e h = open_of q IsAddress e refl refl
 net_open q IsPrefix e h = open_of q IsPrefix e refl refl
 net_open q IsNoPrefix e h = open_of q IsNoPrefix e refl refl
@@ -200,11 +201,6 @@ last_tail : (m : Mark) (ms : List Mark) (P : Mark → Type 0) → LastIs (m ∷ 
 last_tail m [] P last = tt
 last_tail m (n ∷ ms) P last = last
 
-last_end : (ms : List Mark) (m : Mark) (P : Mark → Type 0) → P m → LastIs (ms ++ m ∷ []) P
-last_end [] m P last = last
-last_end (n ∷ []) m P last = last
-last_end (n ∷ o ∷ ms) m P last = last_end (o ∷ ms) m P last
-
 -- the last mark of a front makes the same of either
 abbrev Folds : Mark → List Mark → List Mark → Mark → Type 0
 Folds p xs ys m = folded m.1 (is_slash (sym_of p)) (sort_first xs) ≡ folded m.1 (is_slash (sym_of p)) (sort_first ys)
@@ -219,8 +215,8 @@ front_alike r skip [] p xs ys last = refl
 front_alike r (suc skip) (m ∷ ms) p xs ys last = front_alike r skip ms p xs ys (last_tail m ms (Folds p xs ys) last)
 front_alike r zero (m ∷ ms) p xs ys last =
     let k = first_kind m (ms ++ p ∷ ys) in
-    ap (λ (j : Kind × ℕ). cond (says_kind r j.0) (j.0 ∷ front_heard (behind_kind r j.0) (j.1 - 1) ms (p ∷ xs)) (front_heard (behind_kind r j.0) (j.1 - 1) ms (p ∷ xs))) (front_first m ms p xs ys last)
-    ∙ ap (λ (l : List Kind). cond (says_kind r k.0) (k.0 ∷ l) l) (front_alike (behind_kind r k.0) (k.1 - 1) ms p xs ys (last_tail m ms (Folds p xs ys) last))
+    ap (λ (j : Kind × ℕ). cond (is_significant_kind r j.0) (j.0 ∷ front_heard (behind_kind r j.0) (j.1 - 1) ms (p ∷ xs)) (front_heard (behind_kind r j.0) (j.1 - 1) ms (p ∷ xs))) (front_first m ms p xs ys last)
+    ∙ ap (λ (l : List Kind). cond (is_significant_kind r k.0) (k.0 ∷ l) l) (front_alike (behind_kind r k.0) (k.1 - 1) ms p xs ys (last_tail m ms (Folds p xs ys) last))
 
 state_alike : (r : Region) (skip : ℕ) (ms : List Mark) (p : Mark) (xs ys : List Mark) → LastIs ms (Folds p xs ys) → state r skip ms (p ∷ xs) ≡ state r skip ms (p ∷ ys)
 state_alike r skip [] p xs ys last = refl
@@ -232,13 +228,13 @@ state_alike r zero (m ∷ ms) p xs ys last =
 
 -- ---- what other tokens begin
 
-record Cut (ws : List Word) (ks : List Kind) : Type 0 where
-  one : List Word
-  two : List Word
-  cut : ws ≡ one ++ two
-  are : kinds_of one ≡ ks
+pub record Cut (ws : List Word) (ks : List Kind) : Type 0 where
+  pub one : List Word
+  pub two : List Word
+  pub cut : ws ≡ one ++ two
+  pub are : kinds_of one ≡ ks
 
-cut_kinds : (ws : List Word) (ks js : List Kind) → kinds_of ws ≡ ks ++ js → Cut ws ks
+pub cut_kinds : (ws : List Word) (ks js : List Kind) → kinds_of ws ≡ ks ++ js → Cut ws ks
 cut_kinds ws [] js e = record { one = []; two = ws; cut = refl; are = refl }
 cut_kinds [] (k ∷ ks) js e = absurd cc
 cut_kinds (w ∷ ws) (k ∷ ks) js e =
@@ -247,21 +243,21 @@ cut_kinds (w ∷ ws) (k ∷ ks) js e =
     let c = cut_kinds ws ks js tail in
     record { one = w ∷ c.one; two = c.two; cut = ap (λ (l : List Word). w ∷ l) c.cut; are = rw (head, c.are) refl }
 
-begun_kinds : (tree : Tree) → Fits rule tree config → (ws : List Word) (js : List Kind) → kinds_of (yield tree) ≡ kinds_of ws ++ js → IsBegun rule config ws
+begun_kinds : (tree : ParseTree) → DerivesLongest rule tree config → (ws : List Word) (js : List Kind) → kinds_of (yield tree) ≡ kinds_of ws ++ js → IsBegun rule config ws
 begun_kinds tree fits ws js e =
     let c = cut_kinds (yield tree) (kinds_of ws) js e in
     begun_alike config c.one ws c.are (tree, c.two, fits, c.cut)
 
-kinds_both : (xs ys : List Word) → kinds_of (xs ++ ys) ≡ kinds_of xs ++ kinds_of ys
+pub kinds_both : (xs ys : List Word) → kinds_of (xs ++ ys) ≡ kinds_of xs ++ kinds_of ys
 kinds_both [] ys = refl
 kinds_both (x ∷ xs) ys = ap (λ (l : List Kind). kind_of x ∷ l) (kinds_both xs ys)
 
-heard_first : (q : Region) (p : Mark) (xs : List Mark) → says_kind q (first_kind p xs).0 ≡ true → heard q 0 (p ∷ xs) ≡ (first_kind p xs).0 ∷ heard (behind_kind q (first_kind p xs).0) ((first_kind p xs).1 - 1) xs
+pub heard_first : (q : Region) (p : Mark) (xs : List Mark) → is_significant_kind q (first_kind p xs).0 ≡ true → heard q 0 (p ∷ xs) ≡ (first_kind p xs).0 ∷ heard (behind_kind q (first_kind p xs).0) ((first_kind p xs).1 - 1) xs
 heard_first q p xs e = rw e refl
 
 -- The words of a front, and a tree whose words are those of other tokens with this front and the first token behind.
-record Other (front : List Mark) (p : Mark) (xs ys : List Mark) (before : List Word) (tree : Tree) : Type 0 where
-  fits : Fits rule tree config
+record Other (front : List Mark) (p : Mark) (xs ys : List Mark) (before : List Word) (tree : ParseTree) : Type 0 where
+  fits : DerivesLongest rule tree config
   are : kinds_of before ≡ front_heard regions.Statements 0 front (p ∷ xs)
   done : (state regions.Statements 0 front (p ∷ xs)).1 ≡ 0
   reads : kinds_of (yield tree) ≡ heard regions.Statements 0 (front ++ p ∷ ys)
@@ -270,32 +266,32 @@ record Other (front : List Mark) (p : Mark) (xs ys : List Mark) (before : List W
 abbrev region : List Mark → Mark → List Mark → Region
 region front p xs = (state regions.Statements 0 front (p ∷ xs)).0
 
-heard_here : (front : List Mark) (p : Mark) (xs ys : List Mark) (before : List Word) (tree : Tree) → Other front p xs ys before tree → kinds_of (yield tree) ≡ kinds_of before ++ heard (region front p xs) 0 (p ∷ ys)
+heard_here : (front : List Mark) (p : Mark) (xs ys : List Mark) (before : List Word) (tree : ParseTree) → Other front p xs ys before tree → kinds_of (yield tree) ≡ kinds_of before ++ heard (region front p xs) 0 (p ∷ ys)
 heard_here front p xs ys before tree o =
     o.reads ∙ heard_both regions.Statements 0 front (p ∷ ys)
     ∙ ap (λ (l : List Kind). l ++ heard (state regions.Statements 0 front (p ∷ ys)).0 (state regions.Statements 0 front (p ∷ ys)).1 (p ∷ ys)) (sym (front_alike regions.Statements 0 front p xs ys o.steady) ∙ sym o.are)
     ∙ ap (λ (s : Region × ℕ). kinds_of before ++ heard s.0 s.1 (p ∷ ys)) (sym (state_alike regions.Statements 0 front p xs ys o.steady))
     ∙ ap (λ (n : ℕ). kinds_of before ++ heard (region front p xs) n (p ∷ ys)) o.done
 
-follows : (front : List Mark) (p : Mark) (xs ys : List Mark) (before : List Word) (tree : Tree) → Other front p xs ys before tree → (v : Word) → (first_kind p ys).0 ≡ kind_of v → says_kind (region front p xs) (kind_of v) ≡ true → IsBegun rule config (before ++ v ∷ [])
-follows front p xs ys before tree o v is says =
+follows : (front : List Mark) (p : Mark) (xs ys : List Mark) (before : List Word) (tree : ParseTree) → Other front p xs ys before tree → (v : Word) → (first_kind p ys).0 ≡ kind_of v → is_significant_kind (region front p xs) (kind_of v) ≡ true → IsBegun rule config (before ++ v ∷ [])
+follows front p xs ys before tree o v is is_significant =
     let q = region front p xs in
     let tail = heard (behind_kind q (first_kind p ys).0) ((first_kind p ys).1 - 1) ys in
     begun_kinds tree o.fits (before ++ v ∷ []) tail
-    (heard_here front p xs ys before tree o ∙ ap (λ (l : List Kind). kinds_of before ++ l) (heard_first q p ys (ap (says_kind q) is ∙ says) ∙ ap (λ (k : Kind). k ∷ tail) is)
+    (heard_here front p xs ys before tree o ∙ ap (λ (l : List Kind). kinds_of before ++ l) (heard_first q p ys (ap (is_significant_kind q) is ∙ is_significant) ∙ ap (λ (k : Kind). k ∷ tail) is)
     ∙ sym (append_assoc (kinds_of before) (kind_of v ∷ []) tail) ∙ ap (λ (l : List Kind). l ++ tail) (sym (kinds_both before (v ∷ []))))
 
 -- an address alone, and the slash behind it
-follows_two : (front : List Mark) (p m : Mark) (xs ys : List Mark) (before : List Word) (tree : Tree) → Other front p xs (m ∷ ys) before tree → first_kind p (m ∷ ys) ≡ (IsAddress, 1) → is_slash (sym_of m) ≡ true → is_open (region front p xs) ≡ true → (v z : Word) → kind_of v ≡ IsAddress → kind_of z ≡ slash_kind → IsBegun rule config (before ++ v ∷ z ∷ [])
+follows_two : (front : List Mark) (p m : Mark) (xs ys : List Mark) (before : List Word) (tree : ParseTree) → Other front p xs (m ∷ ys) before tree → first_kind p (m ∷ ys) ≡ (IsAddress, 1) → is_slash (sym_of m) ≡ true → is_open (region front p xs) ≡ true → (v z : Word) → kind_of v ≡ IsAddress → kind_of z ≡ slash_kind → IsBegun rule config (before ++ v ∷ z ∷ [])
 follows_two front p m xs ys before tree o is slashed opened v z v-is z-is =
     let q = region front p xs in
     let r = behind_kind q IsAddress in
     let one : heard q 0 (p ∷ m ∷ ys) ≡ IsAddress ∷ heard (behind_kind q IsAddress) 0 (m ∷ ys) =
-    heard_first q p (m ∷ ys) (ap (λ (j : Kind × ℕ). says_kind q j.0) is ∙ open_says q IsAddress opened)
+    heard_first q p (m ∷ ys) (ap (λ (j : Kind × ℕ). is_significant_kind q j.0) is ∙ open_says q IsAddress opened)
     ∙ ap (λ (j : Kind × ℕ). j.0 ∷ heard (behind_kind q j.0) (j.1 - 1) (m ∷ ys)) is in
     let slash = slash_first_kind m ys slashed in
     let two : heard (behind_kind q IsAddress) 0 (m ∷ ys) ≡ slash_kind ∷ heard (behind_kind (behind_kind q IsAddress) slash_kind) 0 ys =
-    heard_first r m ys (ap (λ (j : Kind × ℕ). says_kind r j.0) slash ∙ open_says r slash_kind (open_address q opened))
+    heard_first r m ys (ap (λ (j : Kind × ℕ). is_significant_kind r j.0) slash ∙ open_says r slash_kind (open_address q opened))
     ∙ ap (λ (j : Kind × ℕ). j.0 ∷ heard (behind_kind r j.0) (j.1 - 1) ys) slash in
     let tail = heard (behind_kind (behind_kind q IsAddress) slash_kind) 0 ys in
     let kinds : kinds_of (v ∷ z ∷ []) ≡ IsAddress ∷ slash_kind ∷ [] = rw (v-is, z-is) refl in
@@ -309,21 +305,21 @@ follows_two front p m xs ys before tree o is slashed opened v z v-is z-is =
 record Refuses (front : List Mark) (p : Mark) (xs : List Mark) (before : List Word) (w : Word) (ws : List Word) : Type 0 where
   last : IsBegun rule config (before ++ w ∷ []) → ⊥
   kind : (first_kind p xs).0 ≡ kind_of w
-  says : says_kind (region front p xs) (kind_of w) ≡ true
+  is_significant : is_significant_kind (region front p xs) (kind_of w) ≡ true
   behind : kinds_of ws ≡ heard (behind_kind (region front p xs) (first_kind p xs).0) ((first_kind p xs).1 - 1) xs
 
 begun_as : (before : List Word) (v w : Word) → kind_of v ≡ kind_of w → IsBegun rule config (before ++ v ∷ []) → IsBegun rule config (before ++ w ∷ [])
 begun_as before v w e b =
     begun_alike config (before ++ v ∷ []) (before ++ w ∷ []) (kinds_both before (v ∷ []) ∙ ap (λ (k : Kind). kinds_of before ++ k ∷ []) e ∙ sym (kinds_both before (w ∷ []))) b
 
-same_case : (front : List Mark) (p : Mark) (xs ys : List Mark) (before : List Word) (tree : Tree) (w : Word) (ws : List Word) → Other front p xs ys before tree → Refuses front p xs before w ws → (first_kind p ys).0 ≡ kind_of w → ⊥
-same_case front p xs ys before tree w ws o r is = r.last (follows front p xs ys before tree o w is r.says)
+same_case : (front : List Mark) (p : Mark) (xs ys : List Mark) (before : List Word) (tree : ParseTree) (w : Word) (ws : List Word) → Other front p xs ys before tree → Refuses front p xs before w ws → (first_kind p ys).0 ≡ kind_of w → ⊥
+same_case front p xs ys before tree w ws o r is = r.last (follows front p xs ys before tree o w is r.is_significant)
 
 opened : (front : List Mark) (p : Mark) (xs : List Mark) (before : List Word) (w : Word) (ws : List Word) → Refuses front p xs before w ws → is_net (kind_of w) ≡ true → is_open (region front p xs) ≡ true
-opened front p xs before w ws r net = net_open (region front p xs) (kind_of w) r.says net
+opened front p xs before w ws r net = net_open (region front p xs) (kind_of w) r.is_significant net
 
 -- where neither an address nor a prefix can stand, no word that begins with an address can
-net_case : (front : List Mark) (p : Mark) (xs ys : List Mark) (before : List Word) (tree : Tree) → Other front p xs ys before tree → is_open (region front p xs) ≡ true → (k : Kind) → (first_kind p ys).0 ≡ k → is_net k ≡ true → (k ≡ IsPrefix → ⊥) → (k ≡ IsAddress → ⊥) → ⊥
+net_case : (front : List Mark) (p : Mark) (xs ys : List Mark) (before : List Word) (tree : ParseTree) → Other front p xs ys before tree → is_open (region front p xs) ≡ true → (k : Kind) → (first_kind p ys).0 ≡ k → is_net k ≡ true → (k ≡ IsPrefix → ⊥) → (k ≡ IsAddress → ⊥) → ⊥
 net_case front p xs ys before tree o free IsAddress is net no_prefix no_address = no_address refl
 net_case front p xs ys before tree o free IsPrefix is net no_prefix no_address = no_prefix refl
 net_case front p xs ys before tree o free IsNoPrefix is net no_prefix no_address = never_bad_prefix before (words.BadPrefix 0) refl (follows front p xs ys before tree o (words.BadPrefix 0) is (open_says (region front p xs) IsNoPrefix free))
@@ -333,10 +329,10 @@ net_case front p xs ys before tree o free IsText is net no_prefix no_address = c
 net_case front p xs ys before tree o free (IsSymbol s) is net no_prefix no_address = cc
 net_case front p xs ys before tree o free IsStray is net no_prefix no_address = cc
 
-prefix_stands : (front : List Mark) (p : Mark) (xs ys : List Mark) (before : List Word) (tree : Tree) → Other front p xs ys before tree → is_open (region front p xs) ≡ true → (first_kind p ys).0 ≡ IsPrefix → CanFollow config before some_prefix
+prefix_stands : (front : List Mark) (p : Mark) (xs ys : List Mark) (before : List Word) (tree : ParseTree) → Other front p xs ys before tree → is_open (region front p xs) ≡ true → (first_kind p ys).0 ≡ IsPrefix → CanFollow config before some_prefix
 prefix_stands front p xs ys before tree o free is = follows front p xs ys before tree o some_prefix is (open_says (region front p xs) IsPrefix free)
 
-address_stands : (front : List Mark) (p : Mark) (xs ys : List Mark) (before : List Word) (tree : Tree) → Other front p xs ys before tree → is_open (region front p xs) ≡ true → (first_kind p ys).0 ≡ IsAddress → CanFollow config before some_address
+address_stands : (front : List Mark) (p : Mark) (xs ys : List Mark) (before : List Word) (tree : ParseTree) → Other front p xs ys before tree → is_open (region front p xs) ≡ true → (first_kind p ys).0 ≡ IsAddress → CanFollow config before some_address
 address_stands front p xs ys before tree o free is = follows front p xs ys before tree o some_address is (open_says (region front p xs) IsAddress free)
 
 -- ---- an address and what it makes
@@ -345,13 +341,13 @@ prefix_no_address : (addr : Addr) (n : ℕ) (b : Bool) → is_prefix addr n ≡ 
 prefix_no_address addr n true is e = let same : IsPrefix ≡ IsAddress = rw is at e in cc
 prefix_no_address addr n false is e = let same : IsNoPrefix ≡ IsAddress = rw is at e in cc
 
-alone_by_kind : (addr : Addr) (b : Bool) (o : Option TokenKind) → (or_kind (folded (sorts.Ip addr) b o) IsAddress).0 ≡ IsAddress → or_kind (folded (sorts.Ip addr) b o) IsAddress ≡ (IsAddress, 1)
-alone_by_kind addr true (Some (sorts.Number n)) e = absurd (prefix_no_address addr n (is_prefix addr n) refl e)
-alone_by_kind addr true (Some sorts.Name) e = refl
-alone_by_kind addr true (Some sorts.Quoted) e = refl
-alone_by_kind addr true (Some (sorts.Ip a)) e = refl
-alone_by_kind addr true (Some sorts.Text) e = refl
-alone_by_kind addr true (Some sorts.Sign) e = refl
+pub alone_by_kind : (addr : Addr) (b : Bool) (o : Option TokenKind) → (or_kind (folded (token_kinds.Ip addr) b o) IsAddress).0 ≡ IsAddress → or_kind (folded (token_kinds.Ip addr) b o) IsAddress ≡ (IsAddress, 1)
+alone_by_kind addr true (Some (token_kinds.Number n)) e = absurd (prefix_no_address addr n (is_prefix addr n) refl e)
+alone_by_kind addr true (Some token_kinds.Name) e = refl
+alone_by_kind addr true (Some token_kinds.QuotedName) e = refl
+alone_by_kind addr true (Some (token_kinds.Ip a)) e = refl
+alone_by_kind addr true (Some token_kinds.Text) e = refl
+alone_by_kind addr true (Some token_kinds.Punctuation) e = refl
 alone_by_kind addr true None e = refl
 alone_by_kind addr false o e = refl
 
@@ -368,7 +364,7 @@ address_alone m ms ip e =
 no_slash_alone : (m : Mark) (ms : List Mark) → is_ip m.1 ≡ true → slash_first ms ≡ false → first_kind m ms ≡ (IsAddress, 1)
 no_slash_alone m ms ip none =
     let a = ip_is m.1 ip in
-    ip_first m ms a.0 a.1 ∙ ap (λ (b : Bool). or_kind (folded (sorts.Ip a.0) b (sort_first (behind_one ms))) IsAddress) none
+    ip_first m ms a.0 a.1 ∙ ap (λ (b : Bool). or_kind (folded (token_kinds.Ip a.0) b (sort_first (behind_one ms))) IsAddress) none
 
 slash_there : (m : Mark) (ms : List Mark) (b : Bool) → is_ip m.1 ≡ true → slash_first ms ≡ b → ((first_kind m ms).0 ≡ IsAddress → ⊥) → b ≡ true
 slash_there m ms true ip is other = refl
@@ -378,12 +374,12 @@ first_is_net : (m : Mark) (ms : List Mark) → is_ip m.1 ≡ true → is_net (fi
 first_is_net m ms ip = let a = ip_is m.1 ip in ap (λ (k : Kind × ℕ). is_net k.0) (ip_first m ms a.0 a.1) ∙ fold_net a.0 (slash_first ms) (sort_first (behind_one ms))
 
 ip_no_slash : (slice : List ℕ) (k : TokenKind) → is_ip k ≡ true → is_slash (kind_symbol slice k) ≡ false
-ip_no_slash slice (sorts.Ip addr) e = refl
-ip_no_slash slice sorts.Name e = absurd cc
-ip_no_slash slice sorts.Quoted e = absurd cc
-ip_no_slash slice (sorts.Number n) e = absurd cc
-ip_no_slash slice sorts.Text e = absurd cc
-ip_no_slash slice sorts.Sign e = absurd cc
+ip_no_slash slice (token_kinds.Ip addr) e = refl
+ip_no_slash slice token_kinds.Name e = absurd cc
+ip_no_slash slice token_kinds.QuotedName e = absurd cc
+ip_no_slash slice (token_kinds.Number n) e = absurd cc
+ip_no_slash slice token_kinds.Text e = absurd cc
+ip_no_slash slice token_kinds.Punctuation e = absurd cc
 
 -- ---- the kinds of a refused word
 
@@ -394,14 +390,14 @@ kind_other (words.Text at start len) e = refl
 kind_other (words.Ip at addr) e = absurd cc
 kind_other (words.Prefix at net) e = absurd cc
 kind_other (words.BadPrefix at) e = absurd cc
-kind_other (words.Symbol s) e = by (keeps_place s) refl
+kind_other (words.Symbol s) e = by (is_placed s) refl
   where
-    by : (b : Bool) → keeps_place s ≡ b → is_net (kind_of (words.Symbol s)) ≡ false
+    by : (b : Bool) → is_placed s ≡ b → is_net (kind_of (words.Symbol s)) ≡ false
     by true is = rw is refl
     by false is = rw is refl
-kind_other (words.Placed at s) e = by (keeps_place s) refl
+kind_other (words.Placed at s) e = by (is_placed s) refl
   where
-    by : (b : Bool) → keeps_place s ≡ b → is_net (kind_of (words.Placed at s)) ≡ false
+    by : (b : Bool) → is_placed s ≡ b → is_net (kind_of (words.Placed at s)) ≡ false
     by true is = rw is refl
     by false is = rw is refl
 
@@ -411,7 +407,7 @@ kind_no_slash w e is =
     let torn : torns.Slash ≡ torns.Other = ap torn_of (sym same) ∙ e in
     cc
 
-is_slash_word : (w : Word) → torn_of w ≡ torns.Slash → kind_of w ≡ slash_kind
+pub is_slash_word : (w : Word) → torn_of w ≡ torns.Slash → kind_of w ≡ slash_kind
 is_slash_word (words.Symbol s) e = ap (λ (v : Word). kind_of v) (ap (λ (r : Symbol). words.Symbol r) (by_slash s e))
   where
     torn_if : (b : Bool) → (if b then torns.Slash else torns.Other) ≡ torns.Slash → b ≡ true
@@ -428,11 +424,11 @@ is_slash_word (words.Prefix at net) e = absurd cc
 is_slash_word (words.BadPrefix at) e = absurd cc
 is_slash_word (words.Placed at s) e = absurd cc
 
-torn_cond : (s : Symbol) (b : Bool) → is_slash (Some s) ≡ b → (torn_of (words.Symbol s) ≡ torns.Address → ⊥) × (torn_of (words.Symbol s) ≡ torns.Prefix → ⊥)
+pub torn_cond : (s : Symbol) (b : Bool) → is_slash (Some s) ≡ b → (torn_of (words.Symbol s) ≡ torns.Address → ⊥) × (torn_of (words.Symbol s) ≡ torns.Prefix → ⊥)
 torn_cond s true is = (λ e. let same : torns.Slash ≡ torns.Address = rw is at e in cc, λ e. let same : torns.Slash ≡ torns.Prefix = rw is at e in cc)
 torn_cond s false is = (λ e. let same : torns.Other ≡ torns.Address = rw is at e in cc, λ e. let same : torns.Other ≡ torns.Prefix = rw is at e in cc)
 
-is_address : (w : Word) → torn_of w ≡ torns.Address → kind_of w ≡ IsAddress
+pub is_address : (w : Word) → torn_of w ≡ torns.Address → kind_of w ≡ IsAddress
 is_address (words.Ip at addr) e = refl
 is_address (words.Symbol s) e = absurd ((torn_cond s (is_slash (Some s)) refl).0 e)
 is_address (words.Name at start len) e = absurd cc
@@ -461,7 +457,7 @@ no_ip_here p xs w is net = ip_is_net p xs (is_ip p.1) refl (ap is_net is ∙ net
 -- ---- one token further on
 
 -- a prefix in an address's place, at its slash
-prefix_one : (front : List Mark) (p m : Mark) (xs ys : List Mark) (before : List Word) (tree : Tree) (w : Word) (ws : List Word) → Other front p (m ∷ xs) (m ∷ ys) before tree → Refuses front p (m ∷ xs) before w ws → torn_of w ≡ torns.Prefix → (CanFollow config before some_prefix → ⊥) → ⊥
+prefix_one : (front : List Mark) (p m : Mark) (xs ys : List Mark) (before : List Word) (tree : ParseTree) (w : Word) (ws : List Word) → Other front p (m ∷ xs) (m ∷ ys) before tree → Refuses front p (m ∷ xs) before w ws → torn_of w ≡ torns.Prefix → (CanFollow config before some_prefix → ⊥) → ⊥
 prefix_one front p m xs ys before tree w ws o r torn no_prefix =
     let net : is_net (kind_of w) ≡ true = elim (is_any_prefix w torn) [ inl e ↦ ap is_net e | inr e ↦ ap is_net e ] in
     let ip = ip_here p (m ∷ xs) w r.kind net in
@@ -473,7 +469,7 @@ prefix_one front p m xs ys before tree w ws o r torn no_prefix =
     (λ e. no_prefix (prefix_follows before some_address (words.Symbol symbols.Slash ∷ []) refl refl
     (follows_two front p m (m ∷ xs) ys before tree o (address_alone p (m ∷ ys) ip e) slashed free some_address (words.Symbol symbols.Slash) refl refl)))
 
-one_no_zero : ◌≡◌ {A = ℕ} 1 0 → ⊥
+pub one_no_zero : ◌≡◌ {A = ℕ} 1 0 → ⊥
 one_no_zero e = omega (arith, e)
 
 two_or_one : (b : Bool) → ◌≡◌ {A = ℕ} 1 (if b then 2 else 1) → b ≡ false
@@ -481,7 +477,7 @@ two_or_one true e = absurd (omega (arith, e))
 two_or_one false e = refl
 
 -- an address in a prefix's place, at what is no slash
-address_one : (front : List Mark) (p m : Mark) (xs ys : List Mark) (before : List Word) (tree : Tree) (w : Word) (ws : List Word) → Other front p (m ∷ xs) (m ∷ ys) before tree → Refuses front p (m ∷ xs) before w ws → torn_of w ≡ torns.Address → begins (symbol symbols.Slash) ws ≡ false → ⊥
+address_one : (front : List Mark) (p m : Mark) (xs ys : List Mark) (before : List Word) (tree : ParseTree) (w : Word) (ws : List Word) → Other front p (m ∷ xs) (m ∷ ys) before tree → Refuses front p (m ∷ xs) before w ws → torn_of w ≡ torns.Address → begins (symbol symbols.Slash) ws ≡ false → ⊥
 address_one front p m xs ys before tree w ws o r torn none =
     let is = is_address w torn in
     let ip = ip_here p (m ∷ xs) w r.kind (ap is_net is) in
@@ -501,12 +497,12 @@ address_one front p m xs ys before tree w ws o r torn none =
         let t = behind_kind (region front p (m ∷ xs)) IsAddress in
         let slash = slash_first_kind m xs is in
         let first : heard t 0 (m ∷ xs) ≡ slash_kind ∷ heard (behind_kind t slash_kind) 0 xs =
-        heard_first t m xs (ap (λ (j : Kind × ℕ). says_kind t j.0) slash ∙ open_says t slash_kind (open_address (region front p (m ∷ xs)) free))
+        heard_first t m xs (ap (λ (j : Kind × ℕ). is_significant_kind t j.0) slash ∙ open_says t slash_kind (open_address (region front p (m ∷ xs)) free))
         ∙ ap (λ (j : Kind × ℕ). j.0 ∷ heard (behind_kind t j.0) (j.1 - 1) xs) slash in
         not_both (begins (symbol symbols.Slash) ws) (begins_kind ws _ (behind ∙ first)) none
 
 -- where the next token is alike too
-past_one : (front : List Mark) (p m : Mark) (xs ys : List Mark) (before : List Word) (tree : Tree) (w : Word) (ws : List Word) (t : Torn) → Other front p (m ∷ xs) (m ∷ ys) before tree → Refuses front p (m ∷ xs) before w ws → torn_of w ≡ t → IsPast config before t (begins (symbol symbols.Slash) ws) 1 → ⊥
+past_one : (front : List Mark) (p m : Mark) (xs ys : List Mark) (before : List Word) (tree : ParseTree) (w : Word) (ws : List Word) (t : Torn) → Other front p (m ∷ xs) (m ∷ ys) before tree → Refuses front p (m ∷ xs) before w ws → torn_of w ≡ t → IsPast config before t (begins (symbol symbols.Slash) ws) 1 → ⊥
 past_one front p m xs ys before tree w ws torns.Prefix o r torn (inl h) = prefix_one front p m xs ys before tree w ws o r torn h.0.1
 past_one front p m xs ys before tree w ws torns.Prefix o r torn (inr h) = one_no_zero h.1
 past_one front p m xs ys before tree w ws torns.Address o r torn (inl h) = address_one front p m xs ys before tree w ws o r torn (two_or_one (begins (symbol symbols.Slash) ws) h.1)
@@ -518,7 +514,7 @@ past_one front p m xs ys before tree w ws torns.Slash o r torn h =
 past_one front p m xs ys before tree w ws torns.Other o r torn h = one_no_zero h
 
 -- where two more are
-past_two : (front : List Mark) (p n m : Mark) (xs ys : List Mark) (before : List Word) (tree : Tree) (w : Word) (ws : List Word) → Other front p (n ∷ m ∷ xs) (n ∷ m ∷ ys) before tree → Refuses front p (n ∷ m ∷ xs) before w ws → ⊥
+past_two : (front : List Mark) (p n m : Mark) (xs ys : List Mark) (before : List Word) (tree : ParseTree) (w : Word) (ws : List Word) → Other front p (n ∷ m ∷ xs) (n ∷ m ∷ ys) before tree → Refuses front p (n ∷ m ∷ xs) before w ws → ⊥
 past_two front p n m xs ys before tree w ws o r =
     same_case front p (n ∷ m ∷ xs) (n ∷ m ∷ ys) before tree w ws o r (ap (λ (j : Kind × ℕ). j.0) (sym (look_same p (n ∷ m ∷ xs) (n ∷ m ∷ ys) refl refl)) ∙ r.kind)
 
@@ -528,28 +524,28 @@ past_two front p n m xs ys before tree w ws o r =
 pub record IsBad (m : Mark) (ms : List Mark) : Type 0 where
   pub addr : Addr
   pub n : ℕ
-  pub first : m.1 ≡ sorts.Ip addr
+  pub first : m.1 ≡ token_kinds.Ip addr
   pub second : slash_first ms ≡ true
-  pub third : sort_first (behind_one ms) ≡ Some (sorts.Number n)
+  pub third : sort_first (behind_one ms) ≡ Some (token_kinds.Number n)
   pub none : is_prefix addr n ≡ false
 
 bad_first : (m : Mark) (ms : List Mark) → IsBad m ms → (first_kind m ms).0 ≡ IsNoPrefix
 bad_first m ms b = ap (λ (k : Kind × ℕ). k.0) (ip_first m ms b.addr b.first) ∙ rw (b.second, b.third, b.none) refl
 
 abbrev Told : Addr → Bool → Option TokenKind → Type 0
-Told addr b o = (n : ℕ) × (b ≡ true) × (o ≡ Some (sorts.Number n)) × (is_prefix addr n ≡ false)
+Told addr b o = (n : ℕ) × (b ≡ true) × (o ≡ Some (token_kinds.Number n)) × (is_prefix addr n ≡ false)
 
 prefix_told : (addr : Addr) (n : ℕ) (b : Bool) → is_prefix addr n ≡ b → prefix_kind addr n ≡ IsNoPrefix → b ≡ false
 prefix_told addr n true is e = let same : IsPrefix ≡ IsNoPrefix = rw is at e in absurd cc
 prefix_told addr n false is e = refl
 
-told_bad : (addr : Addr) (b : Bool) (o : Option TokenKind) → (or_kind (folded (sorts.Ip addr) b o) IsAddress).0 ≡ IsNoPrefix → Told addr b o
-told_bad addr true (Some (sorts.Number n)) e = (n, refl, refl, prefix_told addr n (is_prefix addr n) refl e)
-told_bad addr true (Some sorts.Name) e = absurd cc
-told_bad addr true (Some sorts.Quoted) e = absurd cc
-told_bad addr true (Some (sorts.Ip a)) e = absurd cc
-told_bad addr true (Some sorts.Text) e = absurd cc
-told_bad addr true (Some sorts.Sign) e = absurd cc
+told_bad : (addr : Addr) (b : Bool) (o : Option TokenKind) → (or_kind (folded (token_kinds.Ip addr) b o) IsAddress).0 ≡ IsNoPrefix → Told addr b o
+told_bad addr true (Some (token_kinds.Number n)) e = (n, refl, refl, prefix_told addr n (is_prefix addr n) refl e)
+told_bad addr true (Some token_kinds.Name) e = absurd cc
+told_bad addr true (Some token_kinds.QuotedName) e = absurd cc
+told_bad addr true (Some (token_kinds.Ip a)) e = absurd cc
+told_bad addr true (Some token_kinds.Text) e = absurd cc
+told_bad addr true (Some token_kinds.Punctuation) e = absurd cc
 told_bad addr true None e = absurd cc
 told_bad addr false o e = absurd cc
 
@@ -559,7 +555,7 @@ is_bad m ms ip e =
     let t = told_bad a.0 (slash_first ms) (sort_first (behind_one ms)) (ap (λ (k : Kind × ℕ). k.0) (sym (ip_first m ms a.0 a.1)) ∙ e) in
     record { addr = a.0; n = t.0; first = a.1; second = t.1; third = t.2; none = t.3 }
 
-prefix_zero : (front : List Mark) (p : Mark) (xs ys : List Mark) (before : List Word) (tree : Tree) (w : Word) (ws : List Word) → Other front p xs ys before tree → Refuses front p xs before w ws → torn_of w ≡ torns.Prefix → (CanFollow config before some_address × (CanFollow config before some_prefix → ⊥) → ⊥) → (IsBad p xs → CanFollow config before some_prefix → IsBad p ys) → ⊥
+prefix_zero : (front : List Mark) (p : Mark) (xs ys : List Mark) (before : List Word) (tree : ParseTree) (w : Word) (ws : List Word) → Other front p xs ys before tree → Refuses front p xs before w ws → torn_of w ≡ torns.Prefix → (CanFollow config before some_address × (CanFollow config before some_prefix → ⊥) → ⊥) → (IsBad p xs → CanFollow config before some_prefix → IsBad p ys) → ⊥
 prefix_zero front p xs ys before tree w ws o r torn none bad = elim (is_any_prefix w torn) [
   | inr is ↦
       let ip = ip_here p xs w r.kind (ap is_net is) in
@@ -577,7 +573,7 @@ prefix_zero front p xs ys before tree w ws o r torn none bad = elim (is_any_pref
       (λ e. none (address_stands front p xs ys before tree o free e, λ can. r.last (begun_as before some_prefix w (sym is) can)))
 ]
 
-address_zero : (front : List Mark) (p : Mark) (xs ys : List Mark) (before : List Word) (tree : Tree) (w : Word) (ws : List Word) → Other front p xs ys before tree → Refuses front p xs before w ws → torn_of w ≡ torns.Address → (CanFollow config before some_prefix × (CanFollow config before some_address → ⊥) → ⊥) → ⊥
+address_zero : (front : List Mark) (p : Mark) (xs ys : List Mark) (before : List Word) (tree : ParseTree) (w : Word) (ws : List Word) → Other front p xs ys before tree → Refuses front p xs before w ws → torn_of w ≡ torns.Address → (CanFollow config before some_prefix × (CanFollow config before some_address → ⊥) → ⊥) → ⊥
 address_zero front p xs ys before tree w ws o r torn none =
     let is = is_address w torn in
     let ip = ip_here p xs w r.kind (ap is_net is) in
@@ -620,20 +616,20 @@ Heads zero ms = Unit {0}
 Heads (suc n) [] = Unit {0}
 Heads (suc n) (m ∷ ms) = (is_ip m.1 ≡ false) × Heads n ms
 
-front_both : (r : Region) (skip : ℕ) (ms ns rest : List Mark) → front_heard r skip (ms ++ ns) rest ≡ front_heard r skip ms (ns ++ rest) ++ front_heard (state r skip ms (ns ++ rest)).0 (state r skip ms (ns ++ rest)).1 ns rest
+pub front_both : (r : Region) (skip : ℕ) (ms ns rest : List Mark) → front_heard r skip (ms ++ ns) rest ≡ front_heard r skip ms (ns ++ rest) ++ front_heard (state r skip ms (ns ++ rest)).0 (state r skip ms (ns ++ rest)).1 ns rest
 front_both r skip [] ns rest = refl
 front_both r (suc skip) (m ∷ ms) ns rest = front_both r skip ms ns rest
 front_both r zero (m ∷ ms) ns rest =
     let k = first_kind m (ms ++ (ns ++ rest)) in
-    ap (λ (j : Kind × ℕ). cond (says_kind r j.0) (j.0 ∷ front_heard (behind_kind r j.0) (j.1 - 1) (ms ++ ns) rest) (front_heard (behind_kind r j.0) (j.1 - 1) (ms ++ ns) rest)) (ap (first_kind m) (append_assoc ms ns rest))
-    ∙ ap (λ (l : List Kind). cond (says_kind r k.0) (k.0 ∷ l) l) (front_both (behind_kind r k.0) (k.1 - 1) ms ns rest)
-    ∙ cond_both (says_kind r k.0) k.0 (front_heard (behind_kind r k.0) (k.1 - 1) ms (ns ++ rest)) _
+    ap (λ (j : Kind × ℕ). cond (is_significant_kind r j.0) (j.0 ∷ front_heard (behind_kind r j.0) (j.1 - 1) (ms ++ ns) rest) (front_heard (behind_kind r j.0) (j.1 - 1) (ms ++ ns) rest)) (ap (first_kind m) (append_assoc ms ns rest))
+    ∙ ap (λ (l : List Kind). cond (is_significant_kind r k.0) (k.0 ∷ l) l) (front_both (behind_kind r k.0) (k.1 - 1) ms ns rest)
+    ∙ cond_both (is_significant_kind r k.0) k.0 (front_heard (behind_kind r k.0) (k.1 - 1) ms (ns ++ rest)) _
   where
     cond_both : (b : Bool) (k : Kind) (xs ys : List Kind) → cond b (k ∷ (xs ++ ys)) (xs ++ ys) ≡ cond b (k ∷ xs) xs ++ ys
     cond_both true k xs ys = refl
     cond_both false k xs ys = refl
 
-state_both : (r : Region) (skip : ℕ) (ms ns rest : List Mark) → state r skip (ms ++ ns) rest ≡ state (state r skip ms (ns ++ rest)).0 (state r skip ms (ns ++ rest)).1 ns rest
+pub state_both : (r : Region) (skip : ℕ) (ms ns rest : List Mark) → state r skip (ms ++ ns) rest ≡ state (state r skip ms (ns ++ rest)).0 (state r skip ms (ns ++ rest)).1 ns rest
 state_both r skip [] ns rest = refl
 state_both r (suc skip) (m ∷ ms) ns rest = state_both r skip ms ns rest
 state_both r zero (m ∷ ms) ns rest =
@@ -642,25 +638,25 @@ state_both r zero (m ∷ ms) ns rest =
     ∙ state_both (behind_kind r k.0) (k.1 - 1) ms ns rest
 
 sign_no_ip : (slice : List ℕ) (k : TokenKind) (b : Bool) → is_ip k ≡ b → (kind_symbol slice k ≡ None → ⊥) → b ≡ false
-sign_no_ip slice (sorts.Ip addr) b is some = absurd (some refl)
-sign_no_ip slice sorts.Name b is some = sym is
-sign_no_ip slice sorts.Quoted b is some = sym is
-sign_no_ip slice (sorts.Number n) b is some = sym is
-sign_no_ip slice sorts.Text b is some = sym is
-sign_no_ip slice sorts.Sign b is some = sym is
+sign_no_ip slice (token_kinds.Ip addr) b is some = absurd (some refl)
+sign_no_ip slice token_kinds.Name b is some = sym is
+sign_no_ip slice token_kinds.QuotedName b is some = sym is
+sign_no_ip slice (token_kinds.Number n) b is some = sym is
+sign_no_ip slice token_kinds.Text b is some = sym is
+sign_no_ip slice token_kinds.Punctuation b is some = sym is
 
 colon_heads : (ms : List Mark) → colon_first ms ≡ true → Heads 1 ms
 colon_heads [] e = absurd cc
 colon_heads (m ∷ ms) e = (sign_no_ip m.0 m.1 (is_ip m.1) refl (λ none. (let never : is_colon None ≡ true = ap is_colon (sym none) ∙ e in cc)), tt)
 
-ip_third : (k : TokenKind) (b : Bool) (a : Addr) → folded k b (Some (sorts.Ip a)) ≡ None
-ip_third (sorts.Ip addr) true a = refl
-ip_third (sorts.Ip addr) false a = refl
-ip_third sorts.Name b a = refl
-ip_third sorts.Quoted b a = refl
-ip_third (sorts.Number n) b a = refl
-ip_third sorts.Text b a = refl
-ip_third sorts.Sign b a = refl
+ip_third : (k : TokenKind) (b : Bool) (a : Addr) → folded k b (Some (token_kinds.Ip a)) ≡ None
+ip_third (token_kinds.Ip addr) true a = refl
+ip_third (token_kinds.Ip addr) false a = refl
+ip_third token_kinds.Name b a = refl
+ip_third token_kinds.QuotedName b a = refl
+ip_third (token_kinds.Number n) b a = refl
+ip_third token_kinds.Text b a = refl
+ip_third token_kinds.Punctuation b a = refl
 
 fold_heads : (k : TokenKind) (ms : List Mark) (l : Kind) → (o : Option Kind) → folded k (slash_first ms) (sort_first (behind_one ms)) ≡ o → Heads ((or_kind o l).1 - 1) ms
 fold_heads k ms l None e = tt
@@ -673,12 +669,12 @@ fold_heads k (m ∷ n ∷ ms) l (Some j) e = (slashed (is_slash (sym_of m)) refl
     slashed false is = absurd (let never = sym (no_slash k (Some n.1)) ∙ ap (λ (b : Bool). folded k b (Some n.1)) (sym is) ∙ e in cc)
 
     numbered : (s : TokenKind) (b : Bool) → folded k b (Some s) ≡ Some j → is_ip s ≡ false
-    numbered (sorts.Ip a) b h = absurd (let never = sym (ip_third k b a) ∙ h in cc)
-    numbered sorts.Name b h = refl
-    numbered sorts.Quoted b h = refl
-    numbered (sorts.Number i) b h = refl
-    numbered sorts.Text b h = refl
-    numbered sorts.Sign b h = refl
+    numbered (token_kinds.Ip a) b h = absurd (let never = sym (ip_third k b a) ∙ h in cc)
+    numbered token_kinds.Name b h = refl
+    numbered token_kinds.QuotedName b h = refl
+    numbered (token_kinds.Number i) b h = refl
+    numbered token_kinds.Text b h = refl
+    numbered token_kinds.Punctuation b h = refl
 
 first_heads : (m : Mark) (ms : List Mark) → Heads ((first_kind m ms).1 - 1) ms
 first_heads m ms = by (is_else (sym_of m)) (colon_first ms) refl
@@ -702,26 +698,26 @@ spelled_slash true o e = absurd (let never : symbol symbols.Slash (IsSymbol symb
 spelled_slash false None e = absurd cc
 spelled_slash false (Some s) e = let same : s ≡ symbols.Slash = cc in ap (λ (r : Symbol). is_slash (Some r)) same
 
-slash_of_kind : (slice : List ℕ) (k : TokenKind) (ms : List Mark) → (first_kind (slice, k) ms).0 ≡ slash_kind → is_slash (kind_symbol slice k) ≡ true
-slash_of_kind slice sorts.Name ms e = spelled_slash (is_else (symbol_of slice) && colon_first ms) (symbol_of slice) e
-slash_of_kind slice sorts.Sign ms e = spelled_slash (is_else (symbol_of slice) && colon_first ms) (symbol_of slice) e
-slash_of_kind slice sorts.Quoted ms e = absurd cc
-slash_of_kind slice (sorts.Number n) ms e = absurd cc
-slash_of_kind slice sorts.Text ms e = absurd cc
-slash_of_kind slice (sorts.Ip addr) ms e = absurd (not_both _ (fold_net addr (slash_first ms) (sort_first (behind_one ms))) (ap is_net e))
+pub slash_of_kind : (slice : List ℕ) (k : TokenKind) (ms : List Mark) → (first_kind (slice, k) ms).0 ≡ slash_kind → is_slash (kind_symbol slice k) ≡ true
+slash_of_kind slice token_kinds.Name ms e = spelled_slash (is_else (symbol_of slice) && colon_first ms) (symbol_of slice) e
+slash_of_kind slice token_kinds.Punctuation ms e = spelled_slash (is_else (symbol_of slice) && colon_first ms) (symbol_of slice) e
+slash_of_kind slice token_kinds.QuotedName ms e = absurd cc
+slash_of_kind slice (token_kinds.Number n) ms e = absurd cc
+slash_of_kind slice token_kinds.Text ms e = absurd cc
+slash_of_kind slice (token_kinds.Ip addr) ms e = absurd (not_both _ (fold_net addr (slash_first ms) (sort_first (behind_one ms))) (ap is_net e))
 
-record LastKind (ws : List Word) (ks : List Kind) (k : Kind) : Type 0 where
-  front : List Word
-  word : Word
-  cut : ws ≡ front ++ word ∷ []
-  are : kinds_of front ≡ ks
-  kind : kind_of word ≡ k
+pub record LastKind (ws : List Word) (ks : List Kind) (k : Kind) : Type 0 where
+  pub front : List Word
+  pub word : Word
+  pub cut : ws ≡ front ++ word ∷ []
+  pub are : kinds_of front ≡ ks
+  pub kind : kind_of word ≡ k
 
 no_more : (ws : List Word) → kinds_of ws ≡ [] → ws ≡ []
 no_more [] e = refl
 no_more (w ∷ ws) e = absurd cc
 
-last_kind : (ws : List Word) (ks : List Kind) (k : Kind) → kinds_of ws ≡ ks ++ k ∷ [] → LastKind ws ks k
+pub last_kind : (ws : List Word) (ks : List Kind) (k : Kind) → kinds_of ws ≡ ks ++ k ∷ [] → LastKind ws ks k
 last_kind [] [] k e = absurd cc
 last_kind [] (j ∷ ks) k e = absurd cc
 last_kind (w ∷ ws) [] k e =
@@ -734,10 +730,6 @@ last_kind (w ∷ ws) (j ∷ ks) k e =
     let l = last_kind ws ks k tail in
     record { front = w ∷ l.front; word = l.word; cut = ap (λ (u : List Word). w ∷ u) l.cut; are = rw (head, l.are) refl; kind = l.kind }
 
-cond_address : (b : Bool) (x : Kind) → cond b (IsSymbol symbols.Slash) x ≡ IsAddress → b ≡ false
-cond_address true x e = absurd cc
-cond_address false x e = refl
-
 ip_word : (w : Word) → kind_of w ≡ IsAddress → (at : ℕ) × (addr : Addr) × (w ≡ words.Ip at addr)
 ip_word (words.Ip at addr) e = (at, addr, refl)
 ip_word (words.Name at start len) e = absurd cc
@@ -745,22 +737,22 @@ ip_word (words.Number at value) e = absurd cc
 ip_word (words.Text at start len) e = absurd cc
 ip_word (words.Prefix at net) e = absurd cc
 ip_word (words.BadPrefix at) e = absurd cc
-ip_word (words.Symbol s) e = absurd (by (keeps_place s) refl)
+ip_word (words.Symbol s) e = absurd (by (is_placed s) refl)
   where
-    by : (b : Bool) → keeps_place s ≡ b → ⊥
+    by : (b : Bool) → is_placed s ≡ b → ⊥
     by true is = let never : IsStray ≡ IsAddress = rw is at e in cc
     by false is = let never : IsSymbol s ≡ IsAddress = rw is at e in cc
-ip_word (words.Placed at s) e = absurd (by (keeps_place s) refl)
+ip_word (words.Placed at s) e = absurd (by (is_placed s) refl)
   where
-    by : (b : Bool) → keeps_place s ≡ b → ⊥
+    by : (b : Bool) → is_placed s ≡ b → ⊥
     by true is = let never : IsSymbol s ≡ IsAddress = rw is at e in cc
     by false is = let never : IsStray ≡ IsAddress = rw is at e in cc
 
 -- a slash behind an address that can't be a prefix's
-slash_zero : (front : List Mark) (p : Mark) (xs ys : List Mark) (before : List Word) (tree : Tree) (w : Word) (ws : List Word) → Fits rule tree config → kinds_of before ≡ front_heard regions.Statements 0 front (p ∷ xs) → (state regions.Statements 0 front (p ∷ xs)).1 ≡ 0 → kinds_of (yield tree) ≡ heard regions.Statements 0 (front ++ p ∷ ys) → Refuses front p xs before w ws → kind_of w ≡ slash_kind → (EndInAddress config before → ⊥) → Ended front → ⊥
+slash_zero : (front : List Mark) (p : Mark) (xs ys : List Mark) (before : List Word) (tree : ParseTree) (w : Word) (ws : List Word) → DerivesLongest rule tree config → kinds_of before ≡ front_heard regions.Statements 0 front (p ∷ xs) → (state regions.Statements 0 front (p ∷ xs)).1 ≡ 0 → kinds_of (yield tree) ≡ heard regions.Statements 0 (front ++ p ∷ ys) → Refuses front p xs before w ws → kind_of w ≡ slash_kind → (EndInAddress config before → ⊥) → Ended front → ⊥
 slash_zero front p xs ys before tree w ws fits are done reads r kind none e =
     let start = state regions.Statements 0 e.front (e.mark ∷ p ∷ xs) in
-    let said = front_heard regions.Statements 0 e.front (e.mark ∷ p ∷ xs) in
+    let significant = front_heard regions.Statements 0 e.front (e.mark ∷ p ∷ xs) in
     let at : start.1 ≡ 0 = no_head start.1 e.mark (p ∷ xs) e.ip (state_heads regions.Statements 0 e.front (e.mark ∷ p ∷ xs) tt) in
     let made = first_kind e.mark (p ∷ xs) in
     let a = ip_is e.mark.1 e.ip in
@@ -768,16 +760,16 @@ slash_zero front p xs ys before tree w ws fits are done reads r kind none e =
     let behind : state regions.Statements 0 front (p ∷ xs) ≡ state start.0 0 (e.mark ∷ []) (p ∷ xs) =
     ap (λ (l : List Mark). state regions.Statements 0 l (p ∷ xs)) e.cut ∙ state_both regions.Statements 0 e.front (e.mark ∷ []) (p ∷ xs) ∙ ap (λ (n : ℕ). state start.0 n (e.mark ∷ []) (p ∷ xs)) at in
     let size : made.1 - 1 ≡ 0 = sym (ap (λ (s : Region × ℕ). s.1) behind) ∙ done in
-    let one : made ≡ (IsAddress, 1) = first ∙ alone_by_size (folded (sorts.Ip a.0) (slash_first (p ∷ xs)) (sort_first (behind_one (p ∷ xs)))) (ap (λ (k : Kind × ℕ). k.1 - 1) (sym first) ∙ size) in
+    let one : made ≡ (IsAddress, 1) = first ∙ alone_by_size (folded (token_kinds.Ip a.0) (slash_first (p ∷ xs)) (sort_first (behind_one (p ∷ xs)))) (ap (λ (k : Kind × ℕ). k.1 - 1) (sym first) ∙ size) in
     let here : region front p xs ≡ behind_kind start.0 IsAddress = ap (λ (s : Region × ℕ). s.0) behind ∙ ap (λ (k : Kind × ℕ). behind_kind start.0 k.0) one in
-    let free : is_open (region front p xs) ≡ true = open_of (region front p xs) slash_kind (ap (says_kind (region front p xs)) (sym kind) ∙ r.says) refl refl in
+    let free : is_open (region front p xs) ≡ true = open_of (region front p xs) slash_kind (ap (is_significant_kind (region front p xs)) (sym kind) ∙ r.is_significant) refl refl in
     let before_free : is_open start.0 ≡ true = open_back start.0 (ap is_open (sym here) ∙ free) in
     let heard_one : front_heard start.0 0 (e.mark ∷ []) (p ∷ xs) ≡ IsAddress ∷ [] =
-    ap (λ (k : Kind × ℕ). cond (says_kind start.0 k.0) (k.0 ∷ []) []) one ∙ ap (λ (b : Bool). cond b (IsAddress ∷ []) []) (open_says start.0 IsAddress before_free) in
-    let kinds : kinds_of before ≡ said ++ IsAddress ∷ [] =
+    ap (λ (k : Kind × ℕ). cond (is_significant_kind start.0 k.0) (k.0 ∷ []) []) one ∙ ap (λ (b : Bool). cond b (IsAddress ∷ []) []) (open_says start.0 IsAddress before_free) in
+    let kinds : kinds_of before ≡ significant ++ IsAddress ∷ [] =
     are ∙ ap (λ (l : List Mark). front_heard regions.Statements 0 l (p ∷ xs)) e.cut ∙ front_both regions.Statements 0 e.front (e.mark ∷ []) (p ∷ xs)
-    ∙ ap (λ (n : ℕ). said ++ front_heard start.0 n (e.mark ∷ []) (p ∷ xs)) at ∙ ap (λ (l : List Kind). said ++ l) heard_one in
-    let l = last_kind before said IsAddress kinds in
+    ∙ ap (λ (n : ℕ). significant ++ front_heard start.0 n (e.mark ∷ []) (p ∷ xs)) at ∙ ap (λ (l : List Kind). significant ++ l) heard_one in
+    let l = last_kind before significant IsAddress kinds in
     let ip = ip_word l.word l.kind in
     let no_prefix : CanFollow config l.front some_prefix → ⊥ = λ can. none (record { front = l.front; at = ip.0; addr = ip.1; cut = l.cut ∙ ap (λ (x : Word). l.front ++ x ∷ []) ip.2; prefix = can }) in
     let o : Other e.front e.mark (p ∷ xs) (p ∷ ys) l.front tree = record {
@@ -804,7 +796,7 @@ no_slash_here : (p : Mark) (xs : List Mark) (w : Word) (b : Bool) → (first_kin
 no_slash_here p xs w true is torn e = absurd (kind_no_slash w torn (sym is ∙ ap (λ (k : Kind × ℕ). k.0) (slash_first_kind p xs e)))
 no_slash_here p xs w false is torn e = refl
 
-past_zero : (front : List Mark) (p : Mark) (xs ys : List Mark) (before : List Word) (tree : Tree) (w : Word) (ws : List Word) (t : Torn) (slash : Bool) → Fits rule tree config → kinds_of before ≡ front_heard regions.Statements 0 front (p ∷ xs) → (state regions.Statements 0 front (p ∷ xs)).1 ≡ 0 → kinds_of (yield tree) ≡ heard regions.Statements 0 (front ++ p ∷ ys) → Refuses front p xs before w ws → torn_of w ≡ t → IsPast config before t slash 0 → (is_else (sym_of p) ≡ true → colon_first xs ≡ colon_first ys) → (IsBad p xs → CanFollow config before some_prefix → IsBad p ys) → ⊥
+past_zero : (front : List Mark) (p : Mark) (xs ys : List Mark) (before : List Word) (tree : ParseTree) (w : Word) (ws : List Word) (t : Torn) (slash : Bool) → DerivesLongest rule tree config → kinds_of before ≡ front_heard regions.Statements 0 front (p ∷ xs) → (state regions.Statements 0 front (p ∷ xs)).1 ≡ 0 → kinds_of (yield tree) ≡ heard regions.Statements 0 (front ++ p ∷ ys) → Refuses front p xs before w ws → torn_of w ≡ t → IsPast config before t slash 0 → (is_else (sym_of p) ≡ true → colon_first xs ≡ colon_first ys) → (IsBad p xs → CanFollow config before some_prefix → IsBad p ys) → ⊥
 past_zero front p xs ys before tree w ws torns.Prefix slash fits are done reads r torn (inl h) colons bad = zero_no_one h.1
 past_zero front p xs ys before tree w ws torns.Prefix slash fits are done reads r torn (inr h) colons bad =
     let net : is_net (kind_of w) ≡ true = elim (is_any_prefix w torn) [ inl e ↦ ap is_net e | inr e ↦ ap is_net e ] in
@@ -832,13 +824,13 @@ past_zero front p xs ys before tree w ws torns.Other slash fits are done reads r
 
 -- ---- all of them
 
-refuses : (front : List Mark) (p : Mark) (xs : List Mark) (before : List Word) (w : Word) (ws : List Word) → (state regions.Statements 0 front (p ∷ xs)).1 ≡ 0 → says_kind (region front p xs) (first_kind p xs).0 ≡ true → kinds_of (w ∷ ws) ≡ heard (region front p xs) (state regions.Statements 0 front (p ∷ xs)).1 (p ∷ xs) → (IsBegun rule config (before ++ w ∷ []) → ⊥) → Refuses front p xs before w ws
-refuses front p xs before w ws done says kinds last =
+refuses : (front : List Mark) (p : Mark) (xs : List Mark) (before : List Word) (w : Word) (ws : List Word) → (state regions.Statements 0 front (p ∷ xs)).1 ≡ 0 → is_significant_kind (region front p xs) (first_kind p xs).0 ≡ true → kinds_of (w ∷ ws) ≡ heard (region front p xs) (state regions.Statements 0 front (p ∷ xs)).1 (p ∷ xs) → (IsBegun rule config (before ++ w ∷ []) → ⊥) → Refuses front p xs before w ws
+refuses front p xs before w ws done is_significant kinds last =
     let all : kind_of w ∷ kinds_of ws ≡ (first_kind p xs).0 ∷ heard (behind_kind (region front p xs) (first_kind p xs).0) ((first_kind p xs).1 - 1) xs =
-    kinds ∙ ap (λ (n : ℕ). heard (region front p xs) n (p ∷ xs)) done ∙ heard_first (region front p xs) p xs says in
+    kinds ∙ ap (λ (n : ℕ). heard (region front p xs) n (p ∷ xs)) done ∙ heard_first (region front p xs) p xs is_significant in
     let head : kind_of w ≡ (first_kind p xs).0 = cc in
     let tail : kinds_of ws ≡ heard (behind_kind (region front p xs) (first_kind p xs).0) ((first_kind p xs).1 - 1) xs = cc in
-    record { last = last; kind = sym head; says = ap (says_kind (region front p xs)) head ∙ says; behind = tail }
+    record { last = last; kind = sym head; is_significant = ap (is_significant_kind (region front p xs)) head ∙ is_significant; behind = tail }
 
 few : (before : List Word) (t : Torn) (slash : Bool) (n : ℕ) → IsPast config before t slash n → n ≤ 2
 few before torns.Prefix slash n (inl h) = omega (arith, h.1)
@@ -850,7 +842,7 @@ few before torns.Slash slash n (inl h) = omega (arith, h.1)
 few before torns.Slash slash n (inr h) = omega (arith, h.1)
 few before torns.Other slash n h = omega (arith, h)
 
-pub refuted : (front gone : List Mark) (before : List Word) (w : Word) (ws : List Word) (m : Mark) (xs ys : List Mark) (tree : Tree) → Fits rule tree config
+pub refuted : (front gone : List Mark) (before : List Word) (w : Word) (ws : List Word) (m : Mark) (xs ys : List Mark) (tree : ParseTree) → DerivesLongest rule tree config
     → kinds_of before ≡ front_heard regions.Statements 0 front (gone ++ m ∷ xs)
     → IsNext (state regions.Statements 0 front (gone ++ m ∷ xs)) (gone ++ m ∷ xs)
     → kinds_of (w ∷ ws) ≡ heard (state regions.Statements 0 front (gone ++ m ∷ xs)).0 (state regions.Statements 0 front (gone ++ m ∷ xs)).1 (gone ++ m ∷ xs)

@@ -11,10 +11,11 @@ use Rattle.conf_lex.specs.declared.symbol.Symbol.TheVariants as symbols
 use Rattle.conf_lex.specs.declared.token.Token.{Token}
 use Rattle.conf_lex.specs.declared.word.Word.{Word}
 use Rattle.conf_lex.specs.declared.word.Word.TheVariants as words
-use Rattle.grammar.specs.Grammar.{Tree, Bad, TooDeep, Unsupported}
-use Rattle.grammar.specs.Reading.{Read, Got, Fault}
+use Rattle.grammar.specs.Grammar.{ParseTree, Bad, TooDeep}
+use Rattle.grammar.specs.Reading.{Read, Parsed, Failed}
 use Rattle.grammar.specs.Sentences.{IsBegunWithin, IsTooDeep}
-use Rattle.grammar.specs.Kind.{kind_of, keeps_place, symbol}
+use Rattle.conf_lex.specs.Symbols.{is_placed}
+use Rattle.grammar.specs.Kind.{kind_of, symbol}
 use Rattle.grammar.proofs.Symbols.{is_symbol_word, symbol_same}
 use Rattle.filt_syntax.specs.Syntax.{rule}
 use Rattle.filt_syntax.specs.declared.parse.SyntaxFault.TheVariants as faults
@@ -24,7 +25,7 @@ use Rattle.filt_syntax.specs.RefusedToken.{CanFollow, some_prefix, some_address,
 use Rattle.filt_syntax.proofs.RefusedTokens.{last_is}
 use Rattle.conf_tree.specs.Syntax.{config}
 use Rattle.conf_tree.specs.Readers.{whole_at}
-use Rattle.conf_tree.specs.Said.{said_words, said_starts, token_of}
+use Rattle.conf_tree.specs.Significant.{significant_words, significant_starts, token_of}
 use Rattle.conf_tree.specs.Sentence.{CanStand, EndsIn, is_one_of, statement_words, bgp_words, channel_words, import_words, IsUnsupported, a_kind, a_statement, a_bgp_option, a_channel_option, an_import, an_export, an_action, a_route, word_bytes, IsStop}
 use Rattle.conf_tree.specs.Position.{IsPlace}
 use Rattle.conf_tree.specs.Read.{byte_of, IsConfigText, IsRefusedText}
@@ -33,7 +34,7 @@ use Rattle.conf_tree.specs.declared.kind.ConfKind.TheVariants as kinds
 use Rattle.conf_tree.proofs.Known.{one_front}
 use Rattle.conf_tree.proofs.LastWord.{last_one}
 use Rattle.conf_tree.proofs.Refusals.{begun_before, stop_refused, deep_refused}
-use Rattle.conf_tree.proofs.Whole.{got_sentence, bad_is_stop, deep_is_deep, no_unsupported, got_stands, bad_stands, bad_stands_not, deep_stands, front_begun}
+use Rattle.conf_tree.proofs.Whole.{got_sentence, bad_is_stop, deep_is_deep, got_stands, bad_stands, bad_stands_not, deep_stands, front_begun}
 
 -- ---- whether something holds
 
@@ -68,11 +69,10 @@ told_some (Some bytes) P each = each bytes
 -- ---- words that are known and not supported
 
 can_by : (before : List Word) (w : Word) → IsBegunWithin rule 64 config before → (r : Read) → whole_at 64 (before ++ w ∷ []) ≡ r → Told (CanFollow config before w)
-can_by before w begun (Got t rest) is = inl (got_stands (before ++ w ∷ []) t rest is)
-can_by before w begun (Fault Bad []) is = inl (bad_stands (before ++ w ∷ []) [] is refl)
-can_by before w begun (Fault Bad (v ∷ rest)) is = inr (bad_stands_not (before ++ w ∷ []) (v ∷ rest) is (λ none. cc))
-can_by before w begun (Fault TooDeep rest) is = inl (deep_stands before w rest begun is)
-can_by before w begun (Fault Unsupported rest) is = absurd (no_unsupported (before ++ w ∷ []) rest is)
+can_by before w begun (Parsed t rest) is = inl (got_stands (before ++ w ∷ []) t rest is)
+can_by before w begun (Failed Bad []) is = inl (bad_stands (before ++ w ∷ []) [] is refl)
+can_by before w begun (Failed Bad (v ∷ rest)) is = inr (bad_stands_not (before ++ w ∷ []) (v ∷ rest) is (λ none. cc))
+can_by before w begun (Failed TooDeep rest) is = inl (deep_stands before w rest begun is)
 
 told_follow : (before : List Word) (w : Word) → IsBegunWithin rule 64 config before → Told (CanFollow config before w)
 told_follow before w begun = can_by before w begun (whole_at 64 (before ++ w ∷ [])) refl
@@ -93,7 +93,7 @@ last_of : (ws : List Word) → (ws ≡ []) ⊎ Last ws
 last_of [] = inl refl
 last_of (w ∷ ws) = inr (last_behind w ws (last_of ws))
 
-ends_by : (s : Symbol) (ws : List Word) (P : List Word → Type 0) (front : List Word) (w : Word) → keeps_place s ≡ false → ws ≡ front ++ w ∷ [] → (ws ≡ front ++ words.Symbol s ∷ [] → Told (P front)) → (b : Bool) → symbol s (kind_of w) ≡ b → Told (EndsIn s ws P)
+ends_by : (s : Symbol) (ws : List Word) (P : List Word → Type 0) (front : List Word) (w : Word) → is_placed s ≡ false → ws ≡ front ++ w ∷ [] → (ws ≡ front ++ words.Symbol s ∷ [] → Told (P front)) → (b : Bool) → symbol s (kind_of w) ≡ b → Told (EndsIn s ws P)
 ends_by s ws P front w plain cut told false is = inr (λ ends.
     let same : w ≡ words.Symbol s = last_one front ends.0 w (words.Symbol s) (sym cut ∙ ends.1) in
     false≢true (sym is ∙ ap (λ (x : Word). symbol s (kind_of x)) same ∙ symbol_same s plain))
@@ -107,7 +107,7 @@ ends_by s ws P front w plain cut told true is =
 none_ends : (s : Symbol) (P : List Word → Type 0) → EndsIn s [] P → ⊥
 none_ends s P ends = omega (arith, ap (λ (l : List Word). length l) ends.1, length-append ends.0 (words.Symbol s ∷ []))
 
-told_ends : (s : Symbol) (ws : List Word) (P : List Word → Type 0) → keeps_place s ≡ false → ((front : List Word) → ws ≡ front ++ words.Symbol s ∷ [] → Told (P front)) → Told (EndsIn s ws P)
+told_ends : (s : Symbol) (ws : List Word) (P : List Word → Type 0) → is_placed s ≡ false → ((front : List Word) → ws ≡ front ++ words.Symbol s ∷ [] → Told (P front)) → Told (EndsIn s ws P)
 told_ends s ws P plain told = elim (last_of ws) [
   | inl none ↦ inr (λ ends. none_ends s P (subst (λ (l : List Word). EndsIn s l P) none ends))
   | inr last ↦ ends_by s ws P last.front last.word plain last.cut (told last.front) (symbol s (kind_of last.word)) refl
@@ -197,44 +197,43 @@ some_past_first before (w ∷ ws) begun = some_past before _ _ begun
 abbrev Refused : List ℕ → Type 0
 Refused text = (at : ℕ) × (kind : ConfKind) × IsRefusedText text at kind
 
-stop_text : (text : List ℕ) (tokens : List Token) (rest : List Word) → Lexes 0 text tokens → IsStop (said_words text tokens) rest → Refused text
+stop_text : (text : List ℕ) (tokens : List Token) (rest : List Word) → Lexes 0 text tokens → IsStop (significant_words text tokens) rest → Refused text
 stop_text text tokens rest lexes s =
     let place = length s.before in
     let at = token_of text tokens (length s.before) in
-    let len : length s.before + length rest ≡ length (said_words text tokens) = omega (arith, ap (λ (u : List Word). length u) s.front, length-append s.before rest) in
-    let begun = begun_before (said_words text tokens) rest (length s.before) len s in
-    let bytes = word_bytes (drop place (said_words text tokens)) text (drop at tokens) in
-    elim (told_some bytes (IsUnsupported (take place (said_words text tokens))) (λ word. told_unsupported (take place (said_words text tokens)) word begun)) [
+    let len : length s.before + length rest ≡ length (significant_words text tokens) = omega (arith, ap (λ (u : List Word). length u) s.front, length-append s.before rest) in
+    let begun = begun_before (significant_words text tokens) rest (length s.before) len s in
+    let bytes = word_bytes (drop place (significant_words text tokens)) text (drop at tokens) in
+    elim (told_some bytes (IsUnsupported (take place (significant_words text tokens))) (λ word. told_unsupported (take place (significant_words text tokens)) word begun)) [
       | inl known ↦
-          let h = stop_refused text tokens (said_words text tokens) (said_starts text tokens) refl refl rest place at len refl s (faults.Unsupported at) (refl, known) in
+          let h = stop_refused text tokens (significant_words text tokens) (significant_starts text tokens) refl refl rest place at len refl s (faults.Unsupported at) (refl, known) in
           (byte_of text tokens at, kinds.Unsupported, (tokens, at, lexes, h, refl))
       | inr other ↦
-          let past = some_past_first (take place (said_words text tokens)) (drop place (said_words text tokens)) begun in
-          let h = stop_refused text tokens (said_words text tokens) (said_starts text tokens) refl refl rest place at len refl s (faults.Bad (at + past.0)) (other, past.0, past.1, refl) in
+          let past = some_past_first (take place (significant_words text tokens)) (drop place (significant_words text tokens)) begun in
+          let h = stop_refused text tokens (significant_words text tokens) (significant_starts text tokens) refl refl rest place at len refl s (faults.Bad (at + past.0)) (other, past.0, past.1, refl) in
           (byte_of text tokens (at + past.0), kinds.Syntax, (tokens, at + past.0, lexes, h, refl))
     ]
 
-deep_text : (text : List ℕ) (tokens : List Token) (rest : List Word) → Lexes 0 text tokens → IsTooDeep rule 64 config (said_words text tokens) rest → Refused text
+deep_text : (text : List ℕ) (tokens : List Token) (rest : List Word) → Lexes 0 text tokens → IsTooDeep rule 64 config (significant_words text tokens) rest → Refused text
 deep_text text tokens rest lexes h =
     let place = length h.before in
     let at = token_of text tokens (length h.before) in
-    let len : length h.before + length rest ≡ length (said_words text tokens) = omega (arith, ap (λ (u : List Word). length u) h.front, length-append h.before rest) in
-    let deep = deep_refused text tokens (said_words text tokens) (said_starts text tokens) refl refl rest place at len refl h in
+    let len : length h.before + length rest ≡ length (significant_words text tokens) = omega (arith, ap (λ (u : List Word). length u) h.front, length-append h.before rest) in
+    let deep = deep_refused text tokens (significant_words text tokens) (significant_starts text tokens) refl refl rest place at len refl h in
     (byte_of text tokens at, kinds.TooDeep, (tokens, at, lexes, deep, refl))
 
 abbrev Either : List ℕ → Type 0
-Either text = ((t : Tree) × IsConfigText text t) ⊎ Refused text
+Either text = ((t : ParseTree) × IsConfigText text t) ⊎ Refused text
 
-text_by_tokens : (text : List ℕ) (tokens : List Token) → Lexes 0 text tokens → (r : Read) → whole_at 64 (said_words text tokens) ≡ r → Either text
-text_by_tokens text tokens lexes (Got t rest) is = inl (t, (tokens, lexes, got_sentence (said_words text tokens) t rest is))
-text_by_tokens text tokens lexes (Fault Bad rest) is = inr (stop_text text tokens rest lexes (bad_is_stop (said_words text tokens) rest is))
-text_by_tokens text tokens lexes (Fault TooDeep rest) is = inr (deep_text text tokens rest lexes (deep_is_deep (said_words text tokens) rest is))
-text_by_tokens text tokens lexes (Fault Unsupported rest) is = absurd (no_unsupported (said_words text tokens) rest is)
+text_by_tokens : (text : List ℕ) (tokens : List Token) → Lexes 0 text tokens → (r : Read) → whole_at 64 (significant_words text tokens) ≡ r → Either text
+text_by_tokens text tokens lexes (Parsed t rest) is = inl (t, (tokens, lexes, got_sentence (significant_words text tokens) t rest is))
+text_by_tokens text tokens lexes (Failed Bad rest) is = inr (stop_text text tokens rest lexes (bad_is_stop (significant_words text tokens) rest is))
+text_by_tokens text tokens lexes (Failed TooDeep rest) is = inr (deep_text text tokens rest lexes (deep_is_deep (significant_words text tokens) rest is))
 
 pub one_or_other : ((text : List ℕ) → ((tokens : List Token) × Lexes 0 text tokens) ⊎ ((tokens : List Token) × (place : ℕ) × Stops 0 text tokens place))
-    → (text : List ℕ) → ((t : Tree) × IsConfigText text t) ⊎ ((at : ℕ) × (kind : ConfKind) × IsRefusedText text at kind)
+    → (text : List ℕ) → ((t : ParseTree) × IsConfigText text t) ⊎ ((at : ℕ) × (kind : ConfKind) × IsRefusedText text at kind)
 one_or_other tokens_or_stop text = elim (tokens_or_stop text) [
-  | inl is ↦ text_by_tokens text is.0 is.1 (whole_at 64 (said_words text is.0)) refl
+  | inl is ↦ text_by_tokens text is.0 is.1 (whole_at 64 (significant_words text is.0)) refl
   | inr stops ↦ inr (stops.1, kinds.Lex, (stops.0, stops.2))
 ]
 

@@ -2,31 +2,32 @@
 use Rattle.std.proofs.Common.{◌≡◌, ℕ, zero, suc, Bool, true, List, ◌∷◌, refl, ap, ◌∙◌}
 use Rattle.conf_lex.specs.declared.word.Word.{Word}
 use Rattle.grammar.specs.Kind.{Kind, kind_of}
-use Rattle.grammar.specs.Grammar.{Form, One, Seq, Either, Tree, Leaf, Both, begins, starts}
-use Rattle.grammar.specs.Reading.{Read, Got, Fault, and_then, read}
+use Rattle.grammar.specs.Grammar.{Terminal, Seq, Alt, ParseTree, Leaf, Pair, begins, first_set}
+use Rattle.grammar.specs.Reading.{Read, Parsed, Failed, and_then, read}
 use Rattle.filt_syntax.specs.Syntax.{rule}
+use Rattle.filt_syntax.specs.Levels.{Form}
 use Rattle.filt_syntax.specs.StatementView.{nth}
 use Rattle.filt_syntax.proofs.Tested.{is_checked}
 use Rattle.filt_syntax.proofs.Picks.{maps2, picked, reaches, rest_of}
 
-pub maps3 : (x : Read) (f g h : Tree → Tree) → and_then (and_then (and_then x (λ a u. Got (f a) u)) (λ a u. Got (g a) u)) (λ a u. Got (h a) u) ≡ and_then x (λ a u. Got (h (g (f a))) u)
-maps3 (Got a u) f g h = refl
-maps3 (Fault why u) f g h = refl
+pub maps3 : (x : Read) (f g h : ParseTree → ParseTree) → and_then (and_then (and_then x (λ a u. Parsed (f a) u)) (λ a u. Parsed (g a) u)) (λ a u. Parsed (h a) u) ≡ and_then x (λ a u. Parsed (h (g (f a))) u)
+maps3 (Parsed a u) f g h = refl
+maps3 (Failed why u) f g h = refl
 
-pub maps4 : (x : Read) (f g h i : Tree → Tree) → and_then (and_then (and_then (and_then x (λ a u. Got (f a) u)) (λ a u. Got (g a) u)) (λ a u. Got (h a) u)) (λ a u. Got (i a) u) ≡ and_then x (λ a u. Got (i (h (g (f a)))) u)
-maps4 (Got a u) f g h i = refl
-maps4 (Fault why u) f g h i = refl
+pub maps4 : (x : Read) (f g h i : ParseTree → ParseTree) → and_then (and_then (and_then (and_then x (λ a u. Parsed (f a) u)) (λ a u. Parsed (g a) u)) (λ a u. Parsed (h a) u)) (λ a u. Parsed (i a) u) ≡ and_then x (λ a u. Parsed (i (h (g (f a)))) u)
+maps4 (Parsed a u) f g h i = refl
+maps4 (Failed why u) f g h i = refl
 
-pub begins_head : (p : Kind → Bool) (g : Form) (ws : List Word) (w : Word) (u : List Word) → ws ≡ w ∷ u → p (kind_of w) ≡ true → begins (starts (Seq (One p) g)) ws ≡ true
+pub begins_head : (p : Kind → Bool) (g : Form) (ws : List Word) (w : Word) (u : List Word) → ws ≡ w ∷ u → p (kind_of w) ≡ true → begins (first_set (Seq (Terminal p) g)) ws ≡ true
 begins_head p g ws w u is passes = rw (is, passes) refl
 
-pub head_read : (k : ℕ) (p : Kind → Bool) (g : Form) (ws : List Word) (w : Word) (u : List Word) → ws ≡ w ∷ u → p (kind_of w) ≡ true → read rule k (Seq (One p) g) ws ≡ and_then (read rule k g u) (λ t v. Got (Both (Leaf w) t) v)
+pub head_read : (k : ℕ) (p : Kind → Bool) (g : Form) (ws : List Word) (w : Word) (u : List Word) → ws ≡ w ∷ u → p (kind_of w) ≡ true → read rule k (Seq (Terminal p) g) ws ≡ and_then (read rule k g u) (λ t v. Parsed (Pair (Leaf w) t) v)
 head_read zero p g ws w u is passes = rw (is, passes) refl
 head_read (suc k) p g ws w u is passes = rw (is, passes) refl
 
 -- the n-th of several forms, which one word begins
-pub headed : (n k : ℕ) (p : Kind → Bool) (f g h : Form) → is_checked f → reaches n f ≡ true → rest_of n f ≡ Either (Seq (One p) g) h → (ws : List Word) (w : Word) (u : List Word) → ws ≡ w ∷ u → p (kind_of w) ≡ true → read rule k f ws ≡ and_then (read rule k g u) (λ t v. Got (nth n (Both (Leaf w) t)) v)
+pub headed : (n k : ℕ) (p : Kind → Bool) (f g h : Form) → is_checked f → reaches n f ≡ true → rest_of n f ≡ Alt (Seq (Terminal p) g) h → (ws : List Word) (w : Word) (u : List Word) → ws ≡ w ∷ u → p (kind_of w) ≡ true → read rule k f ws ≡ and_then (read rule k g u) (λ t v. Parsed (nth n (Pair (Leaf w) t)) v)
 headed n k p f g h ok there shape ws w u is passes =
-    picked n k f (Seq (One p) g) h ok there shape ws (begins_head p g ws w u is passes)
-    ∙ ap (λ (x : Read). and_then x (λ t v. Got (nth n t) v)) (head_read k p g ws w u is passes)
-    ∙ maps2 (read rule k g u) (λ t. Both (Leaf w) t) (λ t. nth n t)
+    picked n k f (Seq (Terminal p) g) h ok there shape ws (begins_head p g ws w u is passes)
+    ∙ ap (λ (x : Read). and_then x (λ t v. Parsed (nth n t) v)) (head_read k p g ws w u is passes)
+    ∙ maps2 (read rule k g u) (λ t. Pair (Leaf w) t) (λ t. nth n t)

@@ -1,13 +1,14 @@
 -- A grammar looks at kinds alone: trees of words of the same kinds, of an address with a slash behind it in whose place
 -- a prefix stands, and of no prefix that is bad.
-use Rattle.std.proofs.Common.{◌≡◌, ℕ, zero, suc, Bool, true, false, ◌&&◌, ◌||◌, List, [], ◌∷◌, ◌++◌, map, refl, sym, ap, subst, ◌∙◌, append_assoc}
+use Rattle.std.proofs.Common.{◌≡◌, ℕ, zero, suc, ◌≤◌, Bool, true, false, ◌&&◌, ◌||◌, List, [], ◌∷◌, ◌++◌, length, Option, Some, None, map, refl, sym, ap, subst, ◌∙◌, append_assoc, arith}
+use Rattle.std.proofs.lemmas.List.{length-append}
 use Rattle.conf_lex.specs.declared.word.Word.{Word}
 use Rattle.grammar.specs.Kind.{Kind, IsNoPrefix, kind_of}
-use Rattle.grammar.specs.Grammar.{Form, One, Empty, Seq, Either, Chain, Nest, Unless, Tree, Leaf, Blank, Both, First, Second, Start, More, Inside, Shut, yield, begins, is_blank, goes_on, goes_in, Fits}
-use Rattle.grammar.specs.Sentences.{IsBegun}
-use Rattle.grammar.proofs.Checks.{and_true, more, not, not_true}
-use Rattle.grammar.proofs.Spelled.{}
+use Rattle.grammar.specs.Grammar.{Terminal, Epsilon, Seq, Alt, Repeat, Nested, ParseTree, Leaf, NoWords, Pair, Left, Right, Single, Snoc, Deeper, yield, begins, is_blank, or_later, too_deep, can_continue, can_continue_in, DerivesLongest}
+use Rattle.grammar.specs.Sentences.{IsBegun, IsBegunWithin}
+use Rattle.grammar.proofs.Checks.{and_true, not, not_true}
 use Rattle.filt_syntax.specs.Syntax.{rule}
+use Rattle.filt_syntax.specs.Levels.{Level, Form, group_level}
 use Rattle.conf_tree.specs.Syntax.{config}
 
 -- ---- words of the same kinds
@@ -55,125 +56,140 @@ none_left : (vs : List Word) → kinds_of [] ≡ kinds_of vs → vs ≡ []
 none_left [] e = refl
 none_left (v ∷ vs) e = absurd cc
 
--- a tree of the form, of these words, with which the same words go on
-record Alike (t : Tree) (f : Form) (vs : List Word) : Type 0 where
-  tree : Tree
-  fits : Fits rule tree f
-  reads : yield tree ≡ vs
-  on : (k : Kind) → goes_on rule tree f k ≡ goes_on rule t f k
-  inside : (k : Kind) → goes_in rule tree f k ≡ goes_in rule t f k
+-- the same number of words from the first on that opens a level too many
+abbrev SameDeep : Option (List Word) → Option (List Word) → Type 0
+SameDeep None None = Unit {0}
+SameDeep (Some xs) (Some ys) = length xs ≡ length ys
+SameDeep _ _ = ⊥
 
-both_same : (a b c d e f : Bool) → a ≡ b → c ≡ d → e ≡ f → (a || (c && e)) ≡ (b || (d && f))
+later_same : (d e g h : Option (List Word)) (xs ys : List Word) → SameDeep d e → length xs ≡ length ys → SameDeep g h → SameDeep (or_later d xs g) (or_later e ys h)
+later_same None None g h xs ys one len two = two
+later_same (Some us) (Some vs) g h xs ys one len two = omega (arith, one, len, length-append us xs, length-append vs ys)
+later_same _ _ g h xs ys one len two = absurd one
+
+len_same : (xs ys : List Word) → kinds_of xs ≡ kinds_of ys → length ys ≡ length xs
+len_same [] [] e = refl
+len_same [] (y ∷ ys) e = absurd cc
+len_same (x ∷ xs) [] e = absurd cc
+len_same (x ∷ xs) (y ∷ ys) e = let tail : kinds_of xs ≡ kinds_of ys = cc in ap (λ (n : ℕ). suc n) (len_same xs ys tail)
+
+-- a tree of the form, of these words, with which the same words go on
+record Alike (t : ParseTree) (f : Form) (vs : List Word) : Type 0 where
+  tree : ParseTree
+  fits : DerivesLongest rule tree f
+  reads : yield tree ≡ vs
+  on : (k : Kind) → can_continue rule tree f k ≡ can_continue rule t f k
+  inside : (k : Kind) → can_continue_in rule tree f k ≡ can_continue_in rule t f k
+  deep : (n : ℕ) → SameDeep (too_deep tree n) (too_deep t n)
+
+pub both_same : (a b c d e f : Bool) → a ≡ b → c ≡ d → e ≡ f → (a || (c && e)) ≡ (b || (d && f))
 both_same a b c d e f p q r = rw (p, q, r) refl
 
-or_same : (a b c : Bool) → a ≡ b → (a || c) ≡ (b || c)
+pub or_same : (a b c : Bool) → a ≡ b → (a || c) ≡ (b || c)
 or_same a b c e = rw e refl
 
 apart_same : (p q : Kind → Bool) → ((k : Kind) → p k ≡ q k) → (xs ys : List Word) → kinds_of xs ≡ kinds_of ys → begins q xs ≡ false → begins p ys ≡ false
 apart_same p q same xs ys e h = sym (begins_same q p (λ k. sym (same k)) xs ys e) ∙ h
 
-kinds_in : (u v : List Word) → u ≡ v → (ks : List Kind) → ks ≡ kinds_of v → kinds_of u ≡ ks
-kinds_in u v e ks is = ap kinds_of e ∙ sym is
-
-alike : (t : Tree) (f : Form) (vs : List Word) → Fits rule t f → kinds_of (yield t) ≡ kinds_of vs → Alike t f vs
-alike (Leaf w) (One p) vs h e =
+alike : (t : ParseTree) (f : Form) (vs : List Word) → DerivesLongest rule t f → kinds_of (yield t) ≡ kinds_of vs → Alike t f vs
+alike (Leaf w) (Terminal p) vs h e =
     let v = one_word w vs e in
-    record { tree = Leaf v.0; fits = ap p (sym v.2) ∙ h; reads = sym v.1; on = λ k. refl; inside = λ k. refl }
-alike Blank Empty vs h e = record { tree = Blank; fits = tt; reads = sym (none_left vs e); on = λ k. refl; inside = λ k. refl }
-alike (Both a b) (Seq f g) vs h e =
+    record { tree = Leaf v.0; fits = ap p (sym v.2) ∙ h; reads = sym v.1; on = λ k. refl; inside = λ k. refl; deep = λ n. tt }
+alike NoWords Epsilon vs h e = record { tree = NoWords; fits = tt; reads = sym (none_left vs e); on = λ k. refl; inside = λ k. refl; deep = λ n. tt }
+alike (Pair a b) (Seq f g) vs h e =
     let s = split (yield a) (yield b) vs e in
     let x = alike a f s.one h.0 s.first in
     let y = alike b g s.two h.1 s.second in
     let back : kinds_of (yield b) ≡ kinds_of (yield y.tree) = s.second ∙ ap kinds_of (sym y.reads) in
     record {
-      tree = Both x.tree y.tree;
-      fits = (x.fits, y.fits, apart_same (goes_on rule x.tree f) (goes_on rule a f) x.on (yield b) (yield y.tree) back h.2);
+      tree = Pair x.tree y.tree;
+      fits = (x.fits, y.fits, apart_same (can_continue rule x.tree f) (can_continue rule a f) x.on (yield b) (yield y.tree) back h.2);
       reads = ap (λ (l : List Word). l ++ yield y.tree) x.reads ∙ ap (λ (l : List Word). s.one ++ l) y.reads ∙ sym s.cut;
       on = λ k. both_same _ _ _ _ _ _ (y.on k) (sym (blank_same (yield b) (yield y.tree) back)) (x.on k);
       inside = λ k. refl;
+      deep = λ n. later_same (too_deep x.tree n) (too_deep a n) (too_deep y.tree n) (too_deep b n) (yield y.tree) (yield b) (x.deep n) (len_same (yield b) (yield y.tree) back) (y.deep n);
     }
-alike (First a) (Either f g) vs h e =
+alike (Left a) (Alt f g) vs h e =
     let x = alike a f vs h e in
-    record { tree = First x.tree; fits = x.fits; reads = x.reads; on = x.on; inside = λ k. refl }
-alike (Second b) (Either f g) vs h e =
+    record { tree = Left x.tree; fits = x.fits; reads = x.reads; on = x.on; inside = λ k. refl; deep = x.deep }
+alike (Right b) (Alt f g) vs h e =
     let y = alike b g vs h e in
     let back : kinds_of (yield b) ≡ kinds_of (yield y.tree) = e ∙ ap kinds_of (sym y.reads) in
-    record { tree = Second y.tree; fits = y.fits; reads = y.reads; on = λ k. both_same _ _ _ _ _ _ (y.on k) (sym (blank_same (yield b) (yield y.tree) back)) refl; inside = λ k. refl }
-alike (Start a) (Chain f g) vs h e =
+    record { tree = Right y.tree; fits = y.fits; reads = y.reads; on = λ k. both_same _ _ _ _ _ _ (y.on k) (sym (blank_same (yield b) (yield y.tree) back)) refl; inside = λ k. refl; deep = y.deep }
+alike (Single a) (Repeat f g) vs h e =
     let x = alike a f vs h e in
-    record { tree = Start x.tree; fits = x.fits; reads = x.reads; on = λ k. or_same _ _ _ (x.on k); inside = x.on }
-alike (More t b) (Chain f g) vs h e =
+    record { tree = Single x.tree; fits = x.fits; reads = x.reads; on = λ k. or_same _ _ _ (x.on k); inside = x.on; deep = x.deep }
+alike (Snoc t b) (Repeat f g) vs h e =
     let s = split (yield t) (yield b) vs e in
-    let x = alike t (Chain f g) s.one h.0 s.first in
+    let x = alike t (Repeat f g) s.one h.0 s.first in
     let y = alike b g s.two h.1 s.second in
     let back : kinds_of (yield b) ≡ kinds_of (yield y.tree) = s.second ∙ ap kinds_of (sym y.reads) in
     record {
-      tree = More x.tree y.tree;
-      fits = (x.fits, y.fits, apart_same (goes_in rule x.tree (Chain f g)) (goes_in rule t (Chain f g)) x.inside (yield b) (yield y.tree) back h.2);
+      tree = Snoc x.tree y.tree;
+      fits = (x.fits, y.fits, apart_same (can_continue_in rule x.tree (Repeat f g)) (can_continue_in rule t (Repeat f g)) x.inside (yield b) (yield y.tree) back h.2);
       reads = ap (λ (l : List Word). l ++ yield y.tree) x.reads ∙ ap (λ (l : List Word). s.one ++ l) y.reads ∙ sym s.cut;
       on = λ k. or_same _ _ _ (y.on k);
       inside = y.on;
+      deep = λ n. later_same (too_deep x.tree n) (too_deep t n) (too_deep y.tree n) (too_deep b n) (yield y.tree) (yield b) (x.deep n) (len_same (yield b) (yield y.tree) back) (y.deep n);
     }
-alike (Inside w t) (Nest p n) [] h e = absurd cc
-alike (Inside w t) (Nest p n) (v ∷ vs) h e =
+alike (Deeper w t) (Nested p n) [] h e = absurd cc
+alike (Deeper w t) (Nested p n) (v ∷ vs) h e =
     let head : kind_of w ≡ kind_of v = cc in
     let tail : kinds_of (yield t) ≡ kinds_of vs = cc in
     let x = alike t (rule n) vs h.1 tail in
-    record { tree = Inside v x.tree; fits = (ap p (sym head) ∙ h.0, x.fits); reads = ap (λ (l : List Word). v ∷ l) x.reads; on = x.on; inside = λ k. refl }
-alike (Second b) (Unless p f) vs h e =
-    let y = alike b f vs h e in
-    let back : kinds_of (yield b) ≡ kinds_of (yield y.tree) = e ∙ ap kinds_of (sym y.reads) in
-    record { tree = Second y.tree; fits = y.fits; reads = y.reads; on = λ k. both_same _ _ _ _ _ _ (y.on k) (sym (blank_same (yield b) (yield y.tree) back)) refl; inside = λ k. refl }
-alike (Shut w) (Unless p f) vs h e =
-    let v = one_word w vs e in
-    record { tree = Shut v.0; fits = ap p (sym v.2) ∙ h; reads = sym v.1; on = λ k. refl; inside = λ k. refl }
+    let len : length (yield x.tree) ≡ length (yield t) = ap (λ (l : List Word). length l) x.reads ∙ len_same (yield t) vs tail in
+    record { tree = Deeper v x.tree; fits = (ap p (sym head) ∙ h.0, x.fits); reads = ap (λ (l : List Word). v ∷ l) x.reads; on = x.on; inside = λ k. refl; deep = λ k. inner k x.tree len x.deep }
+  where
+    inner : (k : ℕ) (u : ParseTree) → length (yield u) ≡ length (yield t) → ((m : ℕ) → SameDeep (too_deep u m) (too_deep t m)) → SameDeep (too_deep (Deeper v u) k) (too_deep (Deeper w t) k)
+    inner zero u len same = ap (λ (m : ℕ). suc m) len
+    inner (suc k) u len same = same k
 alike _ _ vs h e = absurd h
 
 -- a tree of other words of the same kinds
-pub same_words : (t : Tree) (f : Form) (vs : List Word) → Fits rule t f → kinds_of (yield t) ≡ kinds_of vs → (u : Tree) × Fits rule u f × (yield u ≡ vs)
+pub same_words : (t : ParseTree) (f : Form) (vs : List Word) → DerivesLongest rule t f → kinds_of (yield t) ≡ kinds_of vs → (u : ParseTree) × DerivesLongest rule u f × (yield u ≡ vs)
 same_words t f vs h e = let x = alike t f vs h e in (x.tree, x.fits, x.reads)
+
+append_kinds : (xs ys more : List Word) → kinds_of xs ≡ kinds_of ys → kinds_of (xs ++ more) ≡ kinds_of (ys ++ more)
+append_kinds [] [] more e = refl
+append_kinds [] (y ∷ ys) more e = absurd cc
+append_kinds (x ∷ xs) [] more e = absurd cc
+append_kinds (x ∷ xs) (y ∷ ys) more e =
+    let head : kind_of x ≡ kind_of y = cc in
+    let tail : kinds_of xs ≡ kinds_of ys = cc in
+    let rest = append_kinds xs ys more tail in cc
 
 -- what is begun by words is begun by others of the same kinds
 pub begun_alike : (f : Form) (xs ys : List Word) → kinds_of xs ≡ kinds_of ys → IsBegun rule f xs → IsBegun rule f ys
 begun_alike f xs ys e b =
-    let same : kinds_of (yield b.0) ≡ kinds_of (ys ++ b.1) = ap kinds_of b.3 ∙ append_kinds xs ys b.1 e in
-    let x = alike b.0 f (ys ++ b.1) b.2 same in
+    let x = alike b.0 f (ys ++ b.1) b.2 (ap kinds_of b.3 ∙ append_kinds xs ys b.1 e) in
     (x.tree, b.1, x.fits, x.reads)
+
+-- what is begun within the levels is begun so by others of the same kinds
+pub within_alike : (f : Form) (k : ℕ) (xs ys : List Word) → kinds_of xs ≡ kinds_of ys → IsBegunWithin rule k f xs → IsBegunWithin rule k f ys
+within_alike f k xs ys e b =
+    let x = alike b.0 f (ys ++ b.1) b.2 (ap kinds_of b.3 ∙ append_kinds xs ys b.1 e) in
+    (x.tree, b.1, x.fits, x.reads, λ deep s. low (too_deep x.tree k) (too_deep b.0 k) (x.deep k) deep s b.4)
   where
-    append_kinds : (xs ys more : List Word) → kinds_of xs ≡ kinds_of ys → kinds_of (xs ++ more) ≡ kinds_of (ys ++ more)
-    append_kinds [] [] more e = refl
-    append_kinds [] (y ∷ ys) more e = absurd cc
-    append_kinds (x ∷ xs) [] more e = absurd cc
-    append_kinds (x ∷ xs) (y ∷ ys) more e =
-        let head : kind_of x ≡ kind_of y = cc in
-        let tail : kinds_of xs ≡ kinds_of ys = cc in
-        let rest = append_kinds xs ys more tail in cc
+    low : (d e : Option (List Word)) → SameDeep d e → (us : List Word) → d ≡ Some us → ((vs : List Word) → e ≡ Some vs → length vs ≤ length b.1) → length us ≤ length b.1
+    low (Some ds) (Some es) same us is most =
+        let one : ds ≡ us = cc in
+        omega (arith, same, most es refl, ap (λ (l : List Word). length l) one)
+    low None e same us is most = absurd cc
+    low _ _ same us is most = absurd same
 
 -- ---- no bad prefix
 
 abbrev takes_none : Form → Bool
-takes_none (One p) = not (p IsNoPrefix)
-takes_none Empty = true
+takes_none (Terminal p) = not (p IsNoPrefix)
+takes_none Epsilon = true
 takes_none (Seq f g) = takes_none f && takes_none g
-takes_none (Either f g) = takes_none f && takes_none g
-takes_none (Chain f g) = takes_none f && takes_none g
-takes_none (Nest p n) = not (p IsNoPrefix)
-takes_none (Unless p f) = not (p IsNoPrefix) && takes_none f
+takes_none (Alt f g) = takes_none f && takes_none g
+takes_none (Repeat f g) = takes_none f && takes_none g
+takes_none (Nested p n) = not (p IsNoPrefix)
 
-levels_take_none : (n : ℕ) → takes_none (rule n) ≡ true
-levels_take_none zero = refl
-levels_take_none (suc zero) = refl
-levels_take_none (suc (suc zero)) = refl
-levels_take_none (suc (suc (suc zero))) = refl
-levels_take_none (suc (suc (suc (suc zero)))) = refl
-levels_take_none (suc (suc (suc (suc (suc zero))))) = refl
-levels_take_none (suc (suc (suc (suc (suc (suc zero)))))) = refl
-levels_take_none (suc (suc (suc (suc (suc (suc (suc zero))))))) = refl
-levels_take_none (suc (suc (suc (suc (suc (suc (suc (suc zero)))))))) = refl
-levels_take_none (suc (suc (suc (suc (suc (suc (suc (suc (suc zero))))))))) = refl
-levels_take_none (suc (suc (suc (suc (suc (suc (suc (suc (suc (suc zero)))))))))) = refl
-levels_take_none (suc (suc (suc (suc (suc (suc (suc (suc (suc (suc (suc zero))))))))))) = refl
-levels_take_none (suc (suc (suc (suc (suc (suc (suc (suc (suc (suc (suc (suc n)))))))))))) = refl
+levels_take_none : (n : Level) → takes_none (rule n) ≡ true
+levels_take_none group_level = refl
+levels_take_none _ = refl
 
 -- none of the words is a bad prefix
 abbrev HasNone : List Word → Type 0
@@ -190,17 +206,15 @@ never_taken p w none takes is =
     let other : p IsNoPrefix ≡ true = ap p (sym is) ∙ takes in
     cc
 
-fits_none : (t : Tree) (f : Form) → takes_none f ≡ true → Fits rule t f → HasNone (yield t)
-fits_none (Leaf w) (One p) e h = (never_taken p w e h, tt)
-fits_none Blank Empty e h = tt
-fits_none (Both a b) (Seq f g) e h = let c = and_true (takes_none f) (takes_none g) e in has_none_both (yield a) (yield b) (fits_none a f c.0 h.0) (fits_none b g c.1 h.1)
-fits_none (First a) (Either f g) e h = fits_none a f (and_true (takes_none f) (takes_none g) e).0 h
-fits_none (Second b) (Either f g) e h = fits_none b g (and_true (takes_none f) (takes_none g) e).1 h
-fits_none (Start a) (Chain f g) e h = fits_none a f (and_true (takes_none f) (takes_none g) e).0 h
-fits_none (More t b) (Chain f g) e h = has_none_both (yield t) (yield b) (fits_none t (Chain f g) e h.0) (fits_none b g (and_true (takes_none f) (takes_none g) e).1 h.1)
-fits_none (Inside w t) (Nest p n) e h = (never_taken p w e h.0, fits_none t (rule n) (levels_take_none n) h.1)
-fits_none (Second b) (Unless p f) e h = fits_none b f (and_true (not (p IsNoPrefix)) (takes_none f) e).1 h
-fits_none (Shut w) (Unless p f) e h = (never_taken p w (and_true (not (p IsNoPrefix)) (takes_none f) e).0 h, tt)
+fits_none : (t : ParseTree) (f : Form) → takes_none f ≡ true → DerivesLongest rule t f → HasNone (yield t)
+fits_none (Leaf w) (Terminal p) e h = (never_taken p w e h, tt)
+fits_none NoWords Epsilon e h = tt
+fits_none (Pair a b) (Seq f g) e h = let c = and_true (takes_none f) (takes_none g) e in has_none_both (yield a) (yield b) (fits_none a f c.0 h.0) (fits_none b g c.1 h.1)
+fits_none (Left a) (Alt f g) e h = fits_none a f (and_true (takes_none f) (takes_none g) e).0 h
+fits_none (Right b) (Alt f g) e h = fits_none b g (and_true (takes_none f) (takes_none g) e).1 h
+fits_none (Single a) (Repeat f g) e h = fits_none a f (and_true (takes_none f) (takes_none g) e).0 h
+fits_none (Snoc t b) (Repeat f g) e h = has_none_both (yield t) (yield b) (fits_none t (Repeat f g) e h.0) (fits_none b g (and_true (takes_none f) (takes_none g) e).1 h.1)
+fits_none (Deeper w t) (Nested p n) e h = (never_taken p w e h.0, fits_none t (rule n) (levels_take_none n) h.1)
 fits_none _ _ e h = absurd h
 
 has_none_at : (before : List Word) (w : Word) (more : List Word) → HasNone (before ++ w ∷ more) → kind_of w ≡ IsNoPrefix → ⊥

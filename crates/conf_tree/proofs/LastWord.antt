@@ -6,7 +6,8 @@ use Rattle.std.proofs.lemmas.List.{length-append}
 use Rattle.conf_lex.specs.declared.symbol.Symbol.{Symbol}
 use Rattle.conf_lex.specs.declared.word.Word.{Word}
 use Rattle.conf_lex.specs.declared.word.Word.TheVariants as words
-use Rattle.grammar.specs.Kind.{kind_of, keeps_place, symbol}
+use Rattle.conf_lex.specs.Symbols.{is_placed}
+use Rattle.grammar.specs.Kind.{kind_of, symbol}
 use Rattle.grammar.proofs.Symbols.{is_symbol_word, symbol_same}
 use Rattle.conf_tree.specs.Sentence.{EndsIn}
 
@@ -25,7 +26,7 @@ last_one [] (y ∷ b) v w e = absurd (omega (arith, ap (λ (l : List Word). leng
 last_one (x ∷ a) [] v w e = absurd (omega (arith, ap (λ (l : List Word). length l) e, length-append a (v ∷ [])))
 last_one (x ∷ a) (y ∷ b) v w e = last_one a b v w (ap behind_first e)
 
-pub last_some : (ws : List Word) (front : Bor (List Word)) (w : Word) (s : Symbol) (b : Bool) → keeps_place s ≡ false → ws ≡ front.now ++ w ∷ [] → b ≡ symbol s (kind_of w)
+pub last_some : (ws : List Word) (front : Bor (List Word)) (w : Word) (s : Symbol) (b : Bool) → is_placed s ≡ false → ws ≡ front.now ++ w ∷ [] → b ≡ symbol s (kind_of w)
     → MatchOption (then_some b front) (EndsIn s ws (λ f. Unit {0}) → ⊥) (λ f. ws ≡ f.now ++ words.Symbol s ∷ [])
 last_some ws front w s true plain cut e = cut ∙ ap (λ (x : Word). front.now ++ x ∷ []) (is_symbol_word w s plain (sym e))
 last_some ws front w s false plain cut e =

@@ -18,10 +18,12 @@ pub mod OptionSteps
 pub mod PlaceSteps
 pub mod PolicySteps
 pub mod ProtocolSteps
+pub mod ReadAnswers
 pub mod Refusals
 pub mod RouteSteps
-pub mod SaidLaws
-pub mod SaidSteps
+pub mod SignificantLaws
+pub mod SignificantSteps
+pub mod SignificantWalks
 pub mod Tested
 pub mod SlashTrees
 pub mod TextRefusals

@@ -8,13 +8,13 @@ use Rattle.conf_lex.specs.declared.symbol.Symbol.{Symbol}
 use Rattle.conf_lex.specs.declared.symbol.Symbol.TheVariants as symbols
 use Rattle.conf_lex.specs.declared.token.Token.{Token}
 use Rattle.conf_lex.specs.declared.token.TokenKind.{TokenKind}
-use Rattle.conf_lex.specs.declared.token.TokenKind.TheVariants as sorts
+use Rattle.conf_lex.specs.declared.token.TokenKind.TheVariants as token_kinds
 use Rattle.conf_lex.specs.declared.word.Word.{Word}
 use Rattle.grammar.specs.Kind.{Kind, IsNumber, IsName, IsText, IsAddress, IsPrefix, IsNoPrefix, IsSymbol, kind_of, name, symbol}
-use Rattle.conf_tree.specs.Said.{behind, says, said}
+use Rattle.conf_tree.specs.Significant.{behind, is_significant, significant}
 use Rattle.conf_tree.specs.Alike.{IsAlike, AreAlike}
-use Rattle.conf_tree.specs.declared.said.Region.{Region}
-use Rattle.conf_tree.specs.declared.said.Region.TheVariants as regions
+use Rattle.conf_tree.specs.declared.significant.Region.{Region}
+use Rattle.conf_tree.specs.declared.significant.Region.TheVariants as regions
 use Rattle.conf_tree.proofs.KindTrees.{kinds_of}
 
 -- ---- marks
@@ -52,12 +52,12 @@ spelled_kind None = IsName
 spelled_kind (Some s) = IsSymbol s
 
 abbrev pub alone : List ℕ → TokenKind → Kind
-alone slice sorts.Quoted = IsName
-alone slice sorts.Text = IsText
-alone slice (sorts.Number n) = IsNumber
-alone slice (sorts.Ip addr) = IsAddress
-alone slice sorts.Name = spelled_kind (symbol_of slice)
-alone slice sorts.Sign = spelled_kind (symbol_of slice)
+alone slice token_kinds.QuotedName = IsName
+alone slice token_kinds.Text = IsText
+alone slice (token_kinds.Number n) = IsNumber
+alone slice (token_kinds.Ip addr) = IsAddress
+alone slice token_kinds.Name = spelled_kind (symbol_of slice)
+alone slice token_kinds.Punctuation = spelled_kind (symbol_of slice)
 
 abbrev pub prefix_kind : Addr → ℕ → Kind
 prefix_kind addr n = if is_prefix addr n then IsPrefix else IsNoPrefix
@@ -79,7 +79,7 @@ behind_one [] = []
 behind_one (m ∷ ms) = ms
 
 abbrev pub folded : TokenKind → Bool → Option TokenKind → Option Kind
-folded (sorts.Ip addr) true (Some (sorts.Number n)) = Some (prefix_kind addr n)
+folded (token_kinds.Ip addr) true (Some (token_kinds.Number n)) = Some (prefix_kind addr n)
 folded _ _ _ = None
 
 abbrev pub or_kind : Option Kind → Kind → Kind × ℕ
@@ -108,47 +108,47 @@ spelled_is t None = refl
 spelled_is t (Some s) = symbol_kind t.at s (is_placed s) refl
 
 alone_is : (text : List ℕ) (t : Token) (k : TokenKind) → kind_of (kind_word text t k) ≡ alone (slice_of text t) k
-alone_is text t sorts.Quoted = refl
-alone_is text t sorts.Text = refl
-alone_is text t (sorts.Number n) = refl
-alone_is text t (sorts.Ip addr) = refl
-alone_is text t sorts.Name = spelled_is t (symbol_of (slice_of text t))
-alone_is text t sorts.Sign = spelled_is t (symbol_of (slice_of text t))
+alone_is text t token_kinds.QuotedName = refl
+alone_is text t token_kinds.Text = refl
+alone_is text t (token_kinds.Number n) = refl
+alone_is text t (token_kinds.Ip addr) = refl
+alone_is text t token_kinds.Name = spelled_is t (symbol_of (slice_of text t))
+alone_is text t token_kinds.Punctuation = spelled_is t (symbol_of (slice_of text t))
 
 prefix_is : (i : ℕ) (addr : Addr) (n : ℕ) (b : Bool) → is_prefix addr n ≡ b → kind_of (prefix_word i addr n) ≡ prefix_kind addr n
 prefix_is i addr n true is = rw is refl
 prefix_is i addr n false is = rw is refl
 
 folded_is : (i : ℕ) (k : TokenKind) (b : Bool) (j : TokenKind) (w : Word) (l : Kind) → kind_of w ≡ l → Link (or_alone (slashed i k b j) w) (or_kind (folded k b (Some j)) l)
-folded_is i (sorts.Ip addr) true (sorts.Number n) w l e = (prefix_is i addr n (is_prefix addr n) refl, refl)
-folded_is i (sorts.Ip addr) true sorts.Name w l e = (e, refl)
-folded_is i (sorts.Ip addr) true sorts.Quoted w l e = (e, refl)
-folded_is i (sorts.Ip addr) true (sorts.Ip a) w l e = (e, refl)
-folded_is i (sorts.Ip addr) true sorts.Text w l e = (e, refl)
-folded_is i (sorts.Ip addr) true sorts.Sign w l e = (e, refl)
-folded_is i (sorts.Ip addr) false j w l e = (e, refl)
-folded_is i sorts.Name b j w l e = (e, refl)
-folded_is i sorts.Quoted b j w l e = (e, refl)
-folded_is i (sorts.Number n) b j w l e = (e, refl)
-folded_is i sorts.Text b j w l e = (e, refl)
-folded_is i sorts.Sign b j w l e = (e, refl)
+folded_is i (token_kinds.Ip addr) true (token_kinds.Number n) w l e = (prefix_is i addr n (is_prefix addr n) refl, refl)
+folded_is i (token_kinds.Ip addr) true token_kinds.Name w l e = (e, refl)
+folded_is i (token_kinds.Ip addr) true token_kinds.QuotedName w l e = (e, refl)
+folded_is i (token_kinds.Ip addr) true (token_kinds.Ip a) w l e = (e, refl)
+folded_is i (token_kinds.Ip addr) true token_kinds.Text w l e = (e, refl)
+folded_is i (token_kinds.Ip addr) true token_kinds.Punctuation w l e = (e, refl)
+folded_is i (token_kinds.Ip addr) false j w l e = (e, refl)
+folded_is i token_kinds.Name b j w l e = (e, refl)
+folded_is i token_kinds.QuotedName b j w l e = (e, refl)
+folded_is i (token_kinds.Number n) b j w l e = (e, refl)
+folded_is i token_kinds.Text b j w l e = (e, refl)
+folded_is i token_kinds.Punctuation b j w l e = (e, refl)
 
 pub no_second : (k : TokenKind) (b : Bool) → folded k b None ≡ None
-no_second (sorts.Ip addr) true = refl
-no_second (sorts.Ip addr) false = refl
-no_second sorts.Name b = refl
-no_second sorts.Quoted b = refl
-no_second (sorts.Number n) b = refl
-no_second sorts.Text b = refl
-no_second sorts.Sign b = refl
+no_second (token_kinds.Ip addr) true = refl
+no_second (token_kinds.Ip addr) false = refl
+no_second token_kinds.Name b = refl
+no_second token_kinds.QuotedName b = refl
+no_second (token_kinds.Number n) b = refl
+no_second token_kinds.Text b = refl
+no_second token_kinds.Punctuation b = refl
 
 pub no_slash : (k : TokenKind) (o : Option TokenKind) → folded k false o ≡ None
-no_slash (sorts.Ip addr) o = refl
-no_slash sorts.Name o = refl
-no_slash sorts.Quoted o = refl
-no_slash (sorts.Number n) o = refl
-no_slash sorts.Text o = refl
-no_slash sorts.Sign o = refl
+no_slash (token_kinds.Ip addr) o = refl
+no_slash token_kinds.Name o = refl
+no_slash token_kinds.QuotedName o = refl
+no_slash (token_kinds.Number n) o = refl
+no_slash token_kinds.Text o = refl
+no_slash token_kinds.Punctuation o = refl
 
 no_colon : (b : Bool) → (b && false) ≡ false
 no_colon true = refl
@@ -177,11 +177,11 @@ behind_kind regions.Named k = cond (symbol symbols.OpenBrace k) (regions.Inside 
 behind_kind (regions.Inside zero) k = cond (symbol symbols.CloseBrace k) regions.Statements (cond (symbol symbols.OpenBrace k) (regions.Inside 1) (regions.Inside 0))
 behind_kind (regions.Inside (suc n)) k = cond (symbol symbols.CloseBrace k) (regions.Inside n) (cond (symbol symbols.OpenBrace k) (regions.Inside (suc (suc n))) (regions.Inside (suc n)))
 
-abbrev pub says_kind : Region → Kind → Bool
-says_kind regions.Log k = symbol symbols.Semicolon k
-says_kind (regions.Inside zero) k = symbol symbols.CloseBrace k
-says_kind (regions.Inside (suc n)) k = false
-says_kind _ k = true
+abbrev pub is_significant_kind : Region → Kind → Bool
+is_significant_kind regions.Log k = symbol symbols.Semicolon k
+is_significant_kind (regions.Inside zero) k = symbol symbols.CloseBrace k
+is_significant_kind (regions.Inside (suc n)) k = false
+is_significant_kind _ k = true
 
 behind_is : (r : Region) (w : Word) → behind r w ≡ behind_kind r (kind_of w)
 behind_is regions.Statements w = refl
@@ -192,7 +192,7 @@ behind_is regions.Named w = refl
 behind_is (regions.Inside zero) w = refl
 behind_is (regions.Inside (suc n)) w = refl
 
-says_is : (r : Region) (w : Word) → says r w ≡ says_kind r (kind_of w)
+says_is : (r : Region) (w : Word) → is_significant r w ≡ is_significant_kind r (kind_of w)
 says_is regions.Statements w = refl
 says_is regions.Log w = refl
 says_is regions.Protocol w = refl
@@ -206,28 +206,28 @@ abbrev pub heard : Region → ℕ → List Mark → List Kind
 heard r skip [] = []
 heard r (suc skip) (m ∷ ms) = heard r skip ms
 heard r zero (m ∷ ms) =
-    cond (says_kind r (first_kind m ms).0) ((first_kind m ms).0 ∷ heard (behind_kind r (first_kind m ms).0) ((first_kind m ms).1 - 1) ms)
+    cond (is_significant_kind r (first_kind m ms).0) ((first_kind m ms).0 ∷ heard (behind_kind r (first_kind m ms).0) ((first_kind m ms).1 - 1) ms)
     (heard (behind_kind r (first_kind m ms).0) ((first_kind m ms).1 - 1) ms)
 
-abbrev said_kinds : List (ℕ × Word) → List Kind
-said_kinds ps = kinds_of (map (λ p. p.1) ps)
+abbrev significant_kinds : List (ℕ × Word) → List Kind
+significant_kinds ps = kinds_of (map (λ p. p.1) ps)
 
-heard_one : (b c : Bool) (p : ℕ × Word) (ps : List (ℕ × Word)) (k : Kind) (ks : List Kind) → b ≡ c → kind_of p.1 ≡ k → said_kinds ps ≡ ks → said_kinds (cond b (p ∷ ps) ps) ≡ cond c (k ∷ ks) ks
+heard_one : (b c : Bool) (p : ℕ × Word) (ps : List (ℕ × Word)) (k : Kind) (ks : List Kind) → b ≡ c → kind_of p.1 ≡ k → significant_kinds ps ≡ ks → significant_kinds (cond b (p ∷ ps) ps) ≡ cond c (k ∷ ks) ks
 heard_one true c p ps k ks e f g = rw (sym e) (rw (f, g) refl)
 heard_one false c p ps k ks e f g = rw (sym e) g
 
-pub heard_is : (text : List ℕ) (r : Region) (i skip : ℕ) (ts : List Token) → said_kinds (said r (words_from text i skip ts)) ≡ heard r skip (marks text ts)
+pub heard_is : (text : List ℕ) (r : Region) (i skip : ℕ) (ts : List Token) → significant_kinds (significant r (words_from text i skip ts)) ≡ heard r skip (marks text ts)
 heard_is text r i skip [] = refl
 heard_is text r i (suc skip) (t ∷ ts) = heard_is text r (i + 1) skip ts
 heard_is text r i zero (t ∷ ts) =
     let l = first_is text t ts in
     let w = (first_word text t ts).0 in
     let k = first_kind (mark text t) (marks text ts) in
-    let tail : said_kinds (said (behind r w) (words_from text (i + 1) ((first_word text t ts).1 - 1) ts)) ≡ heard (behind_kind r k.0) (k.1 - 1) (marks text ts) =
+    let tail : significant_kinds (significant (behind r w) (words_from text (i + 1) ((first_word text t ts).1 - 1) ts)) ≡ heard (behind_kind r k.0) (k.1 - 1) (marks text ts) =
     heard_is text (behind r w) (i + 1) ((first_word text t ts).1 - 1) ts
     ∙ ap (λ (q : Region). heard q ((first_word text t ts).1 - 1) (marks text ts)) (behind_is r w ∙ ap (behind_kind r) l.0)
     ∙ ap (λ (n : ℕ). heard (behind_kind r k.0) (n - 1) (marks text ts)) l.1 in
-    heard_one (says r w) (says_kind r k.0) (i, w) _ k.0 _ (says_is r w ∙ ap (says_kind r) l.0) l.0 tail
+    heard_one (is_significant r w) (is_significant_kind r k.0) (i, w) _ k.0 _ (says_is r w ∙ ap (is_significant_kind r) l.0) l.0 tail
 
 -- ---- a front
 
@@ -236,7 +236,7 @@ abbrev pub front_heard : Region → ℕ → List Mark → List Mark → List Kin
 front_heard r skip [] rest = []
 front_heard r (suc skip) (m ∷ ms) rest = front_heard r skip ms rest
 front_heard r zero (m ∷ ms) rest =
-    cond (says_kind r (first_kind m (ms ++ rest)).0)
+    cond (is_significant_kind r (first_kind m (ms ++ rest)).0)
     ((first_kind m (ms ++ rest)).0 ∷ front_heard (behind_kind r (first_kind m (ms ++ rest)).0) ((first_kind m (ms ++ rest)).1 - 1) ms rest)
     (front_heard (behind_kind r (first_kind m (ms ++ rest)).0) ((first_kind m (ms ++ rest)).1 - 1) ms rest)
 
@@ -255,15 +255,15 @@ heard_both r skip [] rest = refl
 heard_both r (suc skip) (m ∷ ms) rest = heard_both r skip ms rest
 heard_both r zero (m ∷ ms) rest =
     let k = first_kind m (ms ++ rest) in
-    ap (λ (l : List Kind). cond (says_kind r k.0) (k.0 ∷ l) l) (heard_both (behind_kind r k.0) (k.1 - 1) ms rest)
-    ∙ cond_both (says_kind r k.0) k.0 (front_heard (behind_kind r k.0) (k.1 - 1) ms rest) _
+    ap (λ (l : List Kind). cond (is_significant_kind r k.0) (k.0 ∷ l) l) (heard_both (behind_kind r k.0) (k.1 - 1) ms rest)
+    ∙ cond_both (is_significant_kind r k.0) k.0 (front_heard (behind_kind r k.0) (k.1 - 1) ms rest) _
 
 -- ---- a place
 
 -- a word that says something begins the marks, unless there are none
 abbrev pub IsNext : Region × ℕ → List Mark → Type 0
 IsNext at [] = Unit {0}
-IsNext at (m ∷ ms) = (at.1 ≡ 0) × (says_kind at.0 (first_kind m ms).0 ≡ true)
+IsNext at (m ∷ ms) = (at.1 ≡ 0) × (is_significant_kind at.0 (first_kind m ms).0 ≡ true)
 
 -- the front of the marks that ends before the word in this place
 pub record At (r : Region) (skip i : ℕ) (ms : List Mark) (place start : ℕ) : Type 0 where
@@ -274,8 +274,8 @@ pub record At (r : Region) (skip i : ℕ) (ms : List Mark) (place start : ℕ) :
   pub count : length (front_heard r skip front rest) ≡ place
   pub next : IsNext (state r skip front rest) rest
 
-at_more : (r : Region) (i : ℕ) (m : Mark) (ms : List Mark) (q : Region) (n place start : ℕ) → q ≡ behind_kind r (first_kind m ms).0 → n ≡ (first_kind m ms).1 → (b : Bool) → says_kind r (first_kind m ms).0 ≡ b → At q (n - 1) (i + 1) ms place start → At r zero i (m ∷ ms) (cond b (suc place) place) start
-at_more r i m ms q n place start region size b says a =
+at_more : (r : Region) (i : ℕ) (m : Mark) (ms : List Mark) (q : Region) (n place start : ℕ) → q ≡ behind_kind r (first_kind m ms).0 → n ≡ (first_kind m ms).1 → (b : Bool) → is_significant_kind r (first_kind m ms).0 ≡ b → At q (n - 1) (i + 1) ms place start → At r zero i (m ∷ ms) (cond b (suc place) place) start
+at_more r i m ms q n place start region size b is_significant a =
     let k = first_kind m ms in
     let same : first_kind m (a.front ++ a.rest) ≡ k = ap (first_kind m) (sym a.cut) in
     record {
@@ -283,12 +283,12 @@ at_more r i m ms q n place start region size b says a =
       rest = a.rest;
       cut = ap (λ (l : List Mark). m ∷ l) a.cut;
       at = omega (arith, a.at);
-      count = rw same (counted b says (rw (← region, ← size) a.count));
+      count = rw same (counted b is_significant (rw (← region, ← size) a.count));
       next = rw same (rw (← region, ← size) a.next);
     }
   where
-    counted : (b : Bool) → says_kind r (first_kind m ms).0 ≡ b → length (front_heard (behind_kind r (first_kind m ms).0) ((first_kind m ms).1 - 1) a.front a.rest) ≡ place
-        → length (cond (says_kind r (first_kind m ms).0) ((first_kind m ms).0 ∷ front_heard (behind_kind r (first_kind m ms).0) ((first_kind m ms).1 - 1) a.front a.rest) (front_heard (behind_kind r (first_kind m ms).0) ((first_kind m ms).1 - 1) a.front a.rest)) ≡ cond b (suc place) place
+    counted : (b : Bool) → is_significant_kind r (first_kind m ms).0 ≡ b → length (front_heard (behind_kind r (first_kind m ms).0) ((first_kind m ms).1 - 1) a.front a.rest) ≡ place
+        → length (cond (is_significant_kind r (first_kind m ms).0) ((first_kind m ms).0 ∷ front_heard (behind_kind r (first_kind m ms).0) ((first_kind m ms).1 - 1) a.front a.rest) (front_heard (behind_kind r (first_kind m ms).0) ((first_kind m ms).1 - 1) a.front a.rest)) ≡ cond b (suc place) place
     counted true is e = rw is (ap suc e)
     counted false is e = rw is e
 
@@ -299,28 +299,28 @@ at_none : (r : Region) (skip i end place : ℕ) → end ≡ i + 0 → place ≤ 
 at_none r skip i end zero is low = record { front = []; rest = []; cut = refl; at = is; count = refl; next = tt }
 at_none r skip i end (suc place) is low = absurd (omega (arith, low))
 
-at_word : (text : List ℕ) (r : Region) (i : ℕ) (t : Token) (ts : List Token) (end place : ℕ) (ps : List (ℕ × Word)) (b : Bool) → says r (first_word text t ts).0 ≡ b
+at_word : (text : List ℕ) (r : Region) (i : ℕ) (t : Token) (ts : List Token) (end place : ℕ) (ps : List (ℕ × Word)) (b : Bool) → is_significant r (first_word text t ts).0 ≡ b
     → ((n : ℕ) → n ≤ length ps → At (behind r (first_word text t ts).0) ((first_word text t ts).1 - 1) (i + 1) (marks text ts) n (slice_index_or (starts_of ps) n end))
     → place ≤ length (cond b ((i, (first_word text t ts).0) ∷ ps) ps)
     → At r zero i (marks text (t ∷ ts)) place (slice_index_or (starts_of (cond b ((i, (first_word text t ts).0) ∷ ps) ps)) place end)
-at_word text r i t ts end zero ps true says more low =
+at_word text r i t ts end zero ps true is_significant more low =
     let l = first_is text t ts in
-    record { front = []; rest = marks text (t ∷ ts); cut = refl; at = omega arith; count = refl; next = (refl, ap (says_kind r) (sym l.0) ∙ sym (says_is r (first_word text t ts).0) ∙ says) }
-at_word text r i t ts end (suc place) ps true says more low =
-    let l = first_is text t ts in
-    let w = (first_word text t ts).0 in
-    at_more r i (mark text t) (marks text ts) (behind r w) (first_word text t ts).1 place _ (behind_is r w ∙ ap (behind_kind r) l.0) l.1 true (ap (says_kind r) (sym l.0) ∙ sym (says_is r w) ∙ says) (more place (omega (arith, low)))
-at_word text r i t ts end place ps false says more low =
+    record { front = []; rest = marks text (t ∷ ts); cut = refl; at = omega arith; count = refl; next = (refl, ap (is_significant_kind r) (sym l.0) ∙ sym (says_is r (first_word text t ts).0) ∙ is_significant) }
+at_word text r i t ts end (suc place) ps true is_significant more low =
     let l = first_is text t ts in
     let w = (first_word text t ts).0 in
-    at_more r i (mark text t) (marks text ts) (behind r w) (first_word text t ts).1 place _ (behind_is r w ∙ ap (behind_kind r) l.0) l.1 false (ap (says_kind r) (sym l.0) ∙ sym (says_is r w) ∙ says) (more place low)
+    at_more r i (mark text t) (marks text ts) (behind r w) (first_word text t ts).1 place _ (behind_is r w ∙ ap (behind_kind r) l.0) l.1 true (ap (is_significant_kind r) (sym l.0) ∙ sym (says_is r w) ∙ is_significant) (more place (omega (arith, low)))
+at_word text r i t ts end place ps false is_significant more low =
+    let l = first_is text t ts in
+    let w = (first_word text t ts).0 in
+    at_more r i (mark text t) (marks text ts) (behind r w) (first_word text t ts).1 place _ (behind_is r w ∙ ap (behind_kind r) l.0) l.1 false (ap (is_significant_kind r) (sym l.0) ∙ sym (says_is r w) ∙ is_significant) (more place low)
 
-pub place_at : (text : List ℕ) (r : Region) (i skip : ℕ) (ts : List Token) (end place : ℕ) → end ≡ i + length ts → place ≤ length (said r (words_from text i skip ts)) → At r skip i (marks text ts) place (slice_index_or (starts_of (said r (words_from text i skip ts))) place end)
+pub place_at : (text : List ℕ) (r : Region) (i skip : ℕ) (ts : List Token) (end place : ℕ) → end ≡ i + length ts → place ≤ length (significant r (words_from text i skip ts)) → At r skip i (marks text ts) place (slice_index_or (starts_of (significant r (words_from text i skip ts))) place end)
 place_at text r i skip [] end place is low = at_none r skip i end place is low
 place_at text r i (suc skip) (t ∷ ts) end place is low =
     let a = place_at text r (i + 1) skip ts end place (omega (arith, is)) low in
     record { front = mark text t ∷ a.front; rest = a.rest; cut = ap (λ (l : List Mark). mark text t ∷ l) a.cut; at = omega (arith, a.at); count = a.count; next = a.next }
 place_at text r i zero (t ∷ ts) end place is low =
-    at_word text r i t ts end place (said (behind r (first_word text t ts).0) (words_from text (i + 1) ((first_word text t ts).1 - 1) ts)) (says r (first_word text t ts).0) refl
+    at_word text r i t ts end place (significant (behind r (first_word text t ts).0) (words_from text (i + 1) ((first_word text t ts).1 - 1) ts)) (is_significant r (first_word text t ts).0) refl
     (λ n few. place_at text (behind r (first_word text t ts).0) (i + 1) ((first_word text t ts).1 - 1) ts end n (omega (arith, is)) few)
     low

@@ -35,9 +35,6 @@ place_small text at l c within place =
     let len : length (take at text) ≡ length place.lines + length place.front = ap (λ (x : List ℕ). length x) place.before ∙ length-append place.lines place.front in
     omega (arith, len, length-take at text, within, place.line_is, place.column_is, few_newlines place.lines)
 
-pub first_place : (text : List ℕ) → IsPlace text 0 1 1
-first_place text = record { lines = []; front = []; before = refl; ended = inl refl; in_line = refl; line_is = refl; column_is = refl }
-
 -- one byte more of a front of the text
 byte_more : (text : List ℕ) (upto at : ℕ) → upto ≤ length text → at < length (take upto text) → take (at + 1) text ≡ take at text ++ get_or (take upto text) at 0 ∷ []
 byte_more text upto at within inside =

@@ -5,20 +5,20 @@ use Rattle.conf_lex.specs.declared.word.Word.{Word}
 use Rattle.conf_lex.specs.declared.word.Word.TheVariants as words
 use Rattle.bits_ip.specs.declared.address.Family.{Family}
 use Rattle.grammar.specs.Kind.{prefix, symbol}
-use Rattle.grammar.specs.Grammar.{First, Second, begins}
-use Rattle.grammar.specs.Reading.{Got, and_then, word, both}
+use Rattle.grammar.specs.Grammar.{Left, Right, begins}
+use Rattle.grammar.specs.Reading.{Parsed, and_then, word, both}
 use Rattle.conf_tree.specs.Syntax.{is_family}
 use Rattle.conf_tree.specs.View.{family_symbol}
 use Rattle.conf_tree.specs.Readers.{channel_at, route_target_at, static_option_at}
 use Rattle.conf_tree.proofs.ChannelSteps.{family_passes}
 
-pub static_channel : (k at : ℕ) (f : Family) (ws u : List Word) → ws ≡ words.Placed at (family_symbol f) ∷ u → static_option_at k ws ≡ and_then (channel_at k ws) (λ c v. Got (First c) v)
+pub static_channel : (k at : ℕ) (f : Family) (ws u : List Word) → ws ≡ words.Placed at (family_symbol f) ∷ u → static_option_at k ws ≡ and_then (channel_at k ws) (λ c v. Parsed (Left c) v)
 unfolding static_option_at channel_at
 static_channel zero at f ws u is = rw (is, family_passes at f) refl
 static_channel (suc k) at f ws u is = rw (is, family_passes at f) refl
 
 -- what begins no channel is a route, or none
-pub static_route : (k : ℕ) (ws : List Word) → begins is_family ws ≡ false → static_option_at k ws ≡ and_then (both (word (symbol sym.Route)) (both (word prefix) (route_target_at 0)) ws) (λ t u. Got (Second t) u)
+pub static_route : (k : ℕ) (ws : List Word) → begins is_family ws ≡ false → static_option_at k ws ≡ and_then (both (word (symbol sym.Route)) (both (word prefix) (route_target_at 0)) ws) (λ t u. Parsed (Right t) u)
 unfolding static_option_at route_target_at
 static_route zero [] none = refl
 static_route (suc k) [] none = refl

@@ -4,7 +4,7 @@ use Rattle.conf_lex.specs.Lex.{Lexes, Stops, IsBadAt, IsRefused as IsStuckAt}
 use Rattle.conf_lex.specs.declared.token.Token.{Token}
 use Rattle.conf_lex.specs.declared.token.LexFault.{LexFault}
 use Rattle.conf_lex.specs.declared.token.LexFault.TheVariants as lex_faults
-use Rattle.grammar.specs.Grammar.{Tree}
+use Rattle.grammar.specs.Grammar.{ParseTree}
 use Rattle.filt_syntax.specs.declared.parse.SyntaxFault.{SyntaxFault}
 use Rattle.filt_syntax.specs.declared.parse.SyntaxFault.TheVariants as faults
 use Rattle.conf_tree.specs.Sentence.{IsRefused, IsAnswered}
@@ -12,7 +12,7 @@ use Rattle.conf_tree.specs.Read.{byte_of, fault_of, IsConfigText, IsFault, IsTre
 use Rattle.conf_tree.specs.declared.kind.ConfFault.{ConfFault}
 use Rattle.conf_tree.specs.declared.kind.ConfFault.TheVariants as outcomes
 use Rattle.conf_tree.specs.declared.kind.ConfKind.TheVariants as kinds
-use Rattle.conf_tree.specs.declared.tree.Config.{Config}
+use Rattle.conf_tree.specs.declared.ast.Config.{Config}
 
 -- ---- a text without tokens
 
@@ -31,7 +31,7 @@ stuck_within text f at b is same within h =
     let stuck = subst (λ (e : LexFault). IsStuckAt text e) is h in
     omega (arith, same, within text stuck.0 at stuck.1)
 
-pub stuck_only : (text : List ℕ) (at : ℕ) → ((tokens : List Token) → Lexes 0 text tokens → ⊥) → (t : Tree) → IsConfigText text t → IsTreeOf (Err (outcomes.Refused at kinds.Lex)) t
+pub stuck_only : (text : List ℕ) (at : ℕ) → ((tokens : List Token) → Lexes 0 text tokens → ⊥) → (t : ParseTree) → IsConfigText text t → IsTreeOf (Err (outcomes.Refused at kinds.Lex)) t
 stuck_only text at never t h = absurd (never h.0 h.1)
 
 pub stuck_exact : (text : List ℕ) (at : ℕ) → ((tokens : List Token) → Lexes 0 text tokens → ⊥) → ((tokens : List Token) (place : ℕ) → Stops 0 text tokens place → at ≡ place) → (e : ConfFault) → IsFault text e → IsFaultOf (Err (outcomes.Refused at kinds.Lex)) e

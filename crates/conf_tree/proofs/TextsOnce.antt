@@ -2,10 +2,10 @@
 use Rattle.std.proofs.Common.{◌≡◌, ℕ, List, refl, sym, ap, subst, ◌∙◌, ◌⊎◌, inl, inr}
 use Rattle.conf_lex.specs.Lex.{Lexes, Stops}
 use Rattle.conf_lex.specs.declared.token.Token.{Token}
-use Rattle.grammar.specs.Grammar.{Tree}
+use Rattle.grammar.specs.Grammar.{ParseTree}
 use Rattle.filt_syntax.specs.declared.parse.SyntaxFault.{SyntaxFault}
 use Rattle.filt_syntax.specs.declared.parse.SyntaxFault.TheVariants as faults
-use Rattle.conf_tree.specs.Said.{said_words}
+use Rattle.conf_tree.specs.Significant.{significant_words}
 use Rattle.conf_tree.specs.Sentence.{IsSentence, IsRefused}
 use Rattle.conf_tree.specs.Read.{byte_of, IsConfigText, IsRefusedSo, IsRefusedText}
 use Rattle.conf_tree.specs.declared.kind.ConfKind.{ConfKind}
@@ -14,9 +14,9 @@ use Rattle.conf_tree.proofs.Refusals.{one_tree, one_fault, sentence_memory}
 
 module _ (lexed_once : (text : List ℕ) (ts us : List Token) → Lexes 0 text ts → Lexes 0 text us → ts ≡ us) where
   -- the tree of the one list of tokens
-  pub text_once : (text : List ℕ) (t u : Tree) → IsConfigText text t → IsConfigText text u → t ≡ u
+  pub text_once : (text : List ℕ) (t u : ParseTree) → IsConfigText text t → IsConfigText text u → t ≡ u
   text_once text t u one other =
-      one_tree (said_words text one.0) t u one.2 (subst (λ (ts : List Token). IsSentence (said_words text ts) u) (sym (lexed_once text one.0 other.0 one.1 other.1)) other.2)
+      one_tree (significant_words text one.0) t u one.2 (subst (λ (ts : List Token). IsSentence (significant_words text ts) u) (sym (lexed_once text one.0 other.0 one.1 other.1)) other.2)
 
   -- two refusals of the grammar are of one token, and of one kind
   same_fault : (text : List ℕ) (ts us : List Token) (d e : SyntaxFault) → Lexes 0 text ts → Lexes 0 text us → IsRefused text ts d → IsRefused text us e → IsRefused text ts e
@@ -63,7 +63,7 @@ module _ (lexed_once : (text : List ℕ) (ts us : List Token) → Lexes 0 text t
   shut_deep i j (inr e) = cc
 
   module _ (lexed_or_stuck : (text : List ℕ) (ts us : List Token) (place : ℕ) → Lexes 0 text ts → Stops 0 text us place → ⊥) where
-    pub never_both : (text : List ℕ) (t : Tree) (at : ℕ) (kind : ConfKind) → IsConfigText text t → IsRefusedText text at kind → ⊥
+    pub never_both : (text : List ℕ) (t : ParseTree) (at : ℕ) (kind : ConfKind) → IsConfigText text t → IsRefusedText text at kind → ⊥
     never_both text t at kinds.Lex one other = lexed_or_stuck text one.0 other.0 at one.1 other.1
     never_both text t at kinds.Syntax one other = let e = sentence_memory text one.0 t one.2 (faults.Bad other.1) (same_fault text one.0 other.0 faults.Memory (faults.Bad other.1) one.1 other.2 tt other.3) in cc
     never_both text t at kinds.TooDeep one other = let e = sentence_memory text one.0 t one.2 (faults.TooDeep other.1) (same_fault text one.0 other.0 faults.Memory (faults.TooDeep other.1) one.1 other.2 tt other.3) in cc

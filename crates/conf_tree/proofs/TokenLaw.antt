@@ -4,28 +4,28 @@ use Rattle.std.proofs.lemmas.List.{length-append, length-take, take-append-drop}
 use Rattle.conf_lex.specs.Symbols.{is_else}
 use Rattle.conf_lex.specs.declared.token.Token.{Token}
 use Rattle.conf_lex.specs.declared.token.TokenKind.{TokenKind}
-use Rattle.conf_lex.specs.declared.token.TokenKind.TheVariants as sorts
+use Rattle.conf_lex.specs.declared.token.TokenKind.TheVariants as token_kinds
 use Rattle.conf_lex.specs.declared.word.Word.{Word}
 use Rattle.grammar.specs.Kind.{Kind, kind_of}
-use Rattle.grammar.specs.Grammar.{Tree, yield, Fits}
+use Rattle.grammar.specs.Grammar.{ParseTree, yield, DerivesLongest}
 use Rattle.grammar.specs.Sentences.{IsLast}
 use Rattle.grammar.proofs.Unique.{fronts}
 use Rattle.filt_syntax.specs.Syntax.{rule}
 use Rattle.filt_syntax.specs.declared.parse.SyntaxFault.TheVariants as faults
 use Rattle.filt_syntax.specs.RefusedToken.{CanFollow, some_prefix, IsPastFirst}
 use Rattle.conf_tree.specs.Syntax.{config}
-use Rattle.conf_tree.specs.Said.{said, said_of, said_words}
+use Rattle.conf_tree.specs.Significant.{significant, significant_of, significant_words}
 use Rattle.conf_tree.specs.Sentence.{IsStop, IsRefused}
 use Rattle.conf_tree.specs.Alike.{IsAlike, AreAlike, colon_next, IsBadPrefix, DecideAlike, IsNoSentence}
-use Rattle.conf_tree.specs.declared.said.Region.{Region}
-use Rattle.conf_tree.specs.declared.said.Region.TheVariants as regions
+use Rattle.conf_tree.specs.declared.significant.Region.{Region}
+use Rattle.conf_tree.specs.declared.significant.Region.TheVariants as regions
 use Rattle.conf_tree.proofs.KindTrees.{kinds_of, same_words}
 use Rattle.conf_tree.proofs.Marks.{Mark, mark, marks, marks_both, one_mark, same_marks, sym_of, colon_first, behind_kind, first_kind, heard, heard_is, heard_both, front_heard, state, IsNext, place_at}
-use Rattle.conf_tree.proofs.ByTokens.{IsBad, refuted}
+use Rattle.conf_tree.proofs.ByTokens.{IsBad, kinds_both, refuted}
 
 -- ---- lists
 
-len_map : {A B : Type 0} (f : A → B) (xs : List A) → length (map f xs) ≡ length xs
+pub len_map : {A B : Type 0} (f : A → B) (xs : List A) → length (map f xs) ≡ length xs
 len_map f [] = refl
 len_map f (x ∷ xs) = ap (λ (n : ℕ). suc n) (len_map f xs)
 
@@ -42,12 +42,12 @@ halves (k ∷ a) b (j ∷ c) d e len =
     let h = halves a b c d tail (omega (arith, len)) in
     (rw (head, h.0) refl, h.1)
 
-record Gone (a r g t : List Mark) : Type 0 where
-  gone : List Mark
-  whole : g ≡ a ++ gone
-  rest : r ≡ gone ++ t
+pub record Gone (a r g t : List Mark) : Type 0 where
+  pub gone : List Mark
+  pub whole : g ≡ a ++ gone
+  pub rest : r ≡ gone ++ t
 
-gone_of : (a r g t : List Mark) → a ++ r ≡ g ++ t → length a ≤ length g → Gone a r g t
+pub gone_of : (a r g t : List Mark) → a ++ r ≡ g ++ t → length a ≤ length g → Gone a r g t
 gone_of [] r g t e low = record { gone = g; whole = refl; rest = e }
 gone_of (m ∷ a) r [] t e low = absurd (omega (arith, low))
 gone_of (m ∷ a) r (n ∷ g) t e low =
@@ -56,7 +56,7 @@ gone_of (m ∷ a) r (n ∷ g) t e low =
     let h = gone_of a r g t tail (omega (arith, low)) in
     record { gone = h.gone; whole = ap (λ (l : List Mark). n ∷ l) h.whole ∙ ap (λ (k : Mark). k ∷ (a ++ h.gone)) (sym head); rest = h.rest }
 
-same_front : (a b s : List Word) → a ++ s ≡ b ++ s → a ≡ b
+pub same_front : (a b s : List Word) → a ++ s ≡ b ++ s → a ≡ b
 same_front a b s e = elim (fronts a s b s e) [
   | inl h ↦ h.0
   | inr h ↦ elim h [
@@ -65,23 +65,19 @@ same_front a b s e = elim (fronts a s b s e) [
   ]
 ]
 
-kinds_both : (xs ys : List Word) → kinds_of (xs ++ ys) ≡ kinds_of xs ++ kinds_of ys
-kinds_both [] ys = refl
-kinds_both (x ∷ xs) ys = rw (kinds_both xs ys) refl
-
 -- ---- the end of the text
 
-stopped_never : (said rest : List Word) → IsStop said rest → (tree : Tree) → Fits rule tree config → yield tree ≡ said → ⊥
-stopped_never said [] s tree fits e = s.unfinished refl tree fits (e ∙ s.front ∙ append-nil s.before)
-stopped_never said (w ∷ ws) s tree fits e =
+stopped_never : (significant rest : List Word) → IsStop significant rest → (tree : ParseTree) → DerivesLongest rule tree config → yield tree ≡ significant → ⊥
+stopped_never significant [] s tree fits e = s.unfinished refl tree fits (e ∙ s.front ∙ append-nil s.before)
+stopped_never significant (w ∷ ws) s tree fits e =
     s.last (tree, ws, fits, e ∙ s.front ∙ sym (append_assoc s.before (w ∷ []) ws))
 
 pub by_end : (text other : List ℕ) (tokens seen : List Token) (token : ℕ) → IsRefused text tokens (faults.Bad token) → AreAlike text tokens other seen → IsNoSentence other seen
 by_end text other tokens seen token h are tree fits e =
-    let kinds : kinds_of (yield tree) ≡ kinds_of (said_words text tokens) =
+    let kinds : kinds_of (yield tree) ≡ kinds_of (significant_words text tokens) =
     ap kinds_of e ∙ heard_is other regions.Statements 0 0 seen ∙ ap (heard regions.Statements 0) (sym (same_marks text other tokens seen are)) ∙ sym (heard_is text regions.Statements 0 0 tokens) in
-    let x = same_words tree config (said_words text tokens) fits kinds in
-    stopped_never (said_words text tokens) (drop h.0 (said_words text tokens)) h.1.stops.stop x.0 x.1 x.2
+    let x = same_words tree config (significant_words text tokens) fits kinds in
+    stopped_never (significant_words text tokens) (drop h.0 (significant_words text tokens)) h.1.stops.stop x.0 x.1 x.2
 
 -- ---- a token
 
@@ -89,8 +85,8 @@ bad_is : (text : List ℕ) (t : Token) (back : List Token) → IsBad (mark text 
 bad_is text t [] b = absurd (let never = b.second in cc)
 bad_is text t (u ∷ []) b = absurd (let never = b.third in cc)
 bad_is text t (u ∷ v ∷ ts) b =
-    let third : Some v.kind ≡ Some (sorts.Number b.n) = b.third in
-    let number : v.kind ≡ sorts.Number b.n = cc in
+    let third : Some v.kind ≡ Some (token_kinds.Number b.n) = b.third in
+    let number : v.kind ≡ token_kinds.Number b.n = cc in
     (b.addr, b.n, b.first, b.second, number, b.none)
 
 is_bad : (text : List ℕ) (t : Token) (back : List Token) → IsBadPrefix text t back → IsBad (mark text t) (marks text back)
@@ -115,7 +111,7 @@ no_gone st [] m ms next e = none_heard st m ms next e
 no_gone st (g ∷ gone) m ms next e = none_heard st g (gone ++ m ∷ ms) next e
 
 -- by the words that are left
-by_words : (front gone : List Mark) (before rest : List Word) (m : Mark) (xs ys : List Mark) (tree : Tree) → Fits rule tree config
+by_words : (front gone : List Mark) (before rest : List Word) (m : Mark) (xs ys : List Mark) (tree : ParseTree) → DerivesLongest rule tree config
     → kinds_of before ≡ front_heard regions.Statements 0 front (gone ++ m ∷ xs)
     → IsNext (state regions.Statements 0 front (gone ++ m ∷ xs)) (gone ++ m ∷ xs)
     → kinds_of rest ≡ heard (state regions.Statements 0 front (gone ++ m ∷ xs)).0 (state regions.Statements 0 front (gone ++ m ∷ xs)).1 (gone ++ m ∷ xs)
@@ -130,8 +126,8 @@ pub by_tokens : (text other : List ℕ) (front back seen more : List Token) (t u
 by_tokens text other front back seen more t u h are is decide tree fits e =
     let tokens = front ++ t ∷ back in
     let b = h.1 in
-    let said_all = said_words text tokens in
-    let low : h.0 ≤ length (said_of text tokens) = omega (arith, b.stops.within, len_map (λ (p : ℕ × Word). p.1) (said_of text tokens)) in
+    let significant_all = significant_words text tokens in
+    let low : h.0 ≤ length (significant_of text tokens) = omega (arith, b.stops.within, len_map (λ (p : ℕ × Word). p.1) (significant_of text tokens)) in
     let a = place_at text regions.Statements 0 0 tokens (length tokens) h.0 (omega arith) low in
     let start : b.start ≡ 0 + length a.front = b.stops.token ∙ a.at in
     let xs = marks text back in
@@ -141,15 +137,15 @@ by_tokens text other front back seen more t u h are is decide tree fits e =
     let g = gone_of a.front a.rest (marks text front) (m ∷ xs) cut (omega (arith, start, b.token, len_map (mark text) front)) in
     let size : b.past ≡ length g.gone = omega (arith, start, b.token, len_map (mark text) front, ap (λ (l : List Mark). length l) g.whole, length-append a.front g.gone) in
     let st = state regions.Statements 0 a.front a.rest in
-    let all : kinds_of (take h.0 said_all) ++ kinds_of (drop h.0 said_all) ≡ front_heard regions.Statements 0 a.front a.rest ++ heard st.0 st.1 a.rest =
-    sym (kinds_both (take h.0 said_all) (drop h.0 said_all)) ∙ ap kinds_of (take-append-drop h.0 said_all) ∙ heard_is text regions.Statements 0 0 tokens
+    let all : kinds_of (take h.0 significant_all) ++ kinds_of (drop h.0 significant_all) ≡ front_heard regions.Statements 0 a.front a.rest ++ heard st.0 st.1 a.rest =
+    sym (kinds_both (take h.0 significant_all) (drop h.0 significant_all)) ∙ ap kinds_of (take-append-drop h.0 significant_all) ∙ heard_is text regions.Statements 0 0 tokens
     ∙ ap (heard regions.Statements 0) a.cut ∙ heard_both regions.Statements 0 a.front a.rest in
-    let two = halves (kinds_of (take h.0 said_all)) (kinds_of (drop h.0 said_all)) (front_heard regions.Statements 0 a.front a.rest) (heard st.0 st.1 a.rest) all
-    (omega (arith, len_map kind_of (take h.0 said_all), length-take h.0 said_all, b.stops.within, a.count)) in
+    let two = halves (kinds_of (take h.0 significant_all)) (kinds_of (drop h.0 significant_all)) (front_heard regions.Statements 0 a.front a.rest) (heard st.0 st.1 a.rest) all
+    (omega (arith, len_map kind_of (take h.0 significant_all), length-take h.0 significant_all, b.stops.within, a.count)) in
     let s = b.stops.stop in
-    let before : s.before ≡ take h.0 said_all = same_front s.before (take h.0 said_all) (drop h.0 said_all) (sym s.front ∙ sym (take-append-drop h.0 said_all)) in
-    let last : IsLast rule config (take h.0 said_all) (drop h.0 said_all) = subst (λ (v : List Word). IsLast rule config v (drop h.0 said_all)) before s.last in
-    let past : IsPastFirst config (take h.0 said_all) (drop h.0 said_all) (length g.gone) = subst (λ (n : ℕ). IsPastFirst config (take h.0 said_all) (drop h.0 said_all) n) size b.is_past in
+    let before : s.before ≡ take h.0 significant_all = same_front s.before (take h.0 significant_all) (drop h.0 significant_all) (sym s.front ∙ sym (take-append-drop h.0 significant_all)) in
+    let last : IsLast rule config (take h.0 significant_all) (drop h.0 significant_all) = subst (λ (v : List Word). IsLast rule config v (drop h.0 significant_all)) before s.last in
+    let past : IsPastFirst config (take h.0 significant_all) (drop h.0 significant_all) (length g.gone) = subst (λ (n : ℕ). IsPastFirst config (take h.0 significant_all) (drop h.0 significant_all) n) size b.is_past in
     let marked : marks other (seen ++ u ∷ more) ≡ a.front ++ (g.gone ++ m ∷ ys) =
     marks_both other seen (u ∷ more) ∙ ap (λ (l : List Mark). l ++ mark other u ∷ ys) (sym (same_marks text other front seen are))
     ∙ ap (λ (k : Mark). marks text front ++ k ∷ ys) (sym (one_mark text other t u is))
@@ -157,11 +153,11 @@ by_tokens text other front back seen more t u h are is decide tree fits e =
     let reads : kinds_of (yield tree) ≡ heard regions.Statements 0 (a.front ++ (g.gone ++ m ∷ ys)) =
     ap kinds_of e ∙ heard_is other regions.Statements 0 0 (seen ++ u ∷ more) ∙ ap (heard regions.Statements 0) marked in
     let colons : is_else (sym_of m) ≡ true → colon_first xs ≡ colon_first ys = λ el. colon_is text back ∙ decide.else_sign el ∙ sym (colon_is other more) in
-    let bad : length g.gone ≡ 0 → IsBad m xs → CanFollow config (take h.0 said_all) some_prefix → IsBad m ys =
+    let bad : length g.gone ≡ 0 → IsBad m xs → CanFollow config (take h.0 significant_all) some_prefix → IsBad m ys =
     λ none k can. subst (λ (n : Mark). IsBad n ys) (sym (one_mark text other t u is))
     (is_bad other u more (decide.bad_prefix (bad_is text t back k) (h.0, omega (arith, b.token, size, none, b.stops.token), can))) in
-    by_words a.front g.gone (take h.0 said_all) (drop h.0 said_all) m xs ys tree fits
-    (subst (λ (r : List Mark). kinds_of (take h.0 said_all) ≡ front_heard regions.Statements 0 a.front r) g.rest two.0)
+    by_words a.front g.gone (take h.0 significant_all) (drop h.0 significant_all) m xs ys tree fits
+    (subst (λ (r : List Mark). kinds_of (take h.0 significant_all) ≡ front_heard regions.Statements 0 a.front r) g.rest two.0)
     (subst (λ (r : List Mark). IsNext (state regions.Statements 0 a.front r) r) g.rest a.next)
-    (subst (λ (r : List Mark). kinds_of (drop h.0 said_all) ≡ heard (state regions.Statements 0 a.front r).0 (state regions.Statements 0 a.front r).1 r) g.rest two.1)
+    (subst (λ (r : List Mark). kinds_of (drop h.0 significant_all) ≡ heard (state regions.Statements 0 a.front r).0 (state regions.Statements 0 a.front r).1 r) g.rest two.1)
     last past reads colons bad

@@ -11,11 +11,11 @@ use Rattle.conf_tree.specs.declared.kind.ConfKind.TheVariants as kinds
 use Rattle.conf_tree.proofs.TokenLaw.{by_tokens, by_end}
 
 -- the bytes at which tokens begin rise from one place to the other
-abbrev Rise : ℕ → ℕ → List Token → Type 0
+abbrev pub Rise : ℕ → ℕ → List Token → Type 0
 Rise low end [] = low ≤ end
 Rise low end (t ∷ ts) = (low ≤ t.at) × Rise (t.at + 1) end ts
 
-abbrev starts : List Token → List ℕ
+abbrev pub starts : List Token → List ℕ
 starts ts = map (λ t. t.at) ts
 
 no_lower : (low end : ℕ) (ts : List Token) → Rise low end ts → (i : ℕ) → low ≤ slice_index_or (starts ts) i end
@@ -24,11 +24,11 @@ no_lower low end [] h (suc i) = h
 no_lower low end (t ∷ ts) h zero = h.0
 no_lower low end (t ∷ ts) h (suc i) = let less = no_lower (t.at + 1) end ts h.1 i in omega (arith, h.0, less)
 
-within : (low end : ℕ) (front : List Token) (t : Token) (back : List Token) → Rise low end (front ++ t ∷ back) → low ≤ t.at
+pub within : (low end : ℕ) (front : List Token) (t : Token) (back : List Token) → Rise low end (front ++ t ∷ back) → low ≤ t.at
 within low end [] t back h = h.0
 within low end (x ∷ front) t back h = let less = within (x.at + 1) end front t back h.1 in omega (arith, h.0, less)
 
-one_place : (low end : ℕ) (front : List Token) (t : Token) (back : List Token) → Rise low end (front ++ t ∷ back) → (i : ℕ) → slice_index_or (starts (front ++ t ∷ back)) i end ≡ t.at → i ≡ length front
+pub one_place : (low end : ℕ) (front : List Token) (t : Token) (back : List Token) → Rise low end (front ++ t ∷ back) → (i : ℕ) → slice_index_or (starts (front ++ t ∷ back)) i end ≡ t.at → i ≡ length front
 one_place low end [] t back h zero e = refl
 one_place low end [] t back h (suc i) e = absurd (omega (arith, no_lower (t.at + 1) end back h.1 i, e))
 one_place low end (x ∷ front) t back h zero e = absurd (omega (arith, within (x.at + 1) end front t back h.1, e))

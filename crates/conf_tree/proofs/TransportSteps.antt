@@ -4,8 +4,8 @@ use Rattle.conf_lex.specs.declared.symbol.Symbol.TheVariants as sym
 use Rattle.conf_lex.specs.declared.word.Word.{Word}
 use Rattle.conf_lex.specs.declared.word.Word.TheVariants as words
 use Rattle.grammar.specs.Kind.{Kind, text, address, symbol}
-use Rattle.grammar.specs.Grammar.{Both, begins}
-use Rattle.grammar.specs.Reading.{Got, and_then, word, both}
+use Rattle.grammar.specs.Grammar.{Pair, begins}
+use Rattle.grammar.specs.Reading.{Parsed, and_then, word, both}
 use Rattle.grammar.specs.Shapes.{symbol_leaf}
 use Rattle.filt_syntax.specs.StatementView.{nth, beyond}
 use Rattle.filt_syntax.proofs.Tested.{is_checked}
@@ -24,35 +24,35 @@ is_described k = symbol sym.Description k || symbol sym.Password k
 abbrev is_timed : Kind → Bool
 is_timed k = symbol sym.Hold k || symbol sym.Keepalive k
 
-pub description_is : (ws u : List Word) → ws ≡ words.Symbol sym.Description ∷ u → transport_at 0 ws ≡ and_then (word text u) (λ t v. Got (nth 0 (Both (symbol_leaf sym.Description) t)) v)
+pub description_is : (ws u : List Word) → ws ≡ words.Symbol sym.Description ∷ u → transport_at 0 ws ≡ and_then (word text u) (λ t v. Parsed (nth 0 (Pair (symbol_leaf sym.Description) t)) v)
 unfolding transport_at
 description_is ws u is = headed 0 0 is_described transport _ _ transport_checked refl refl ws (words.Symbol sym.Description) u is refl
 
-pub password_is : (ws u : List Word) → ws ≡ words.Symbol sym.Password ∷ u → transport_at 0 ws ≡ and_then (word text u) (λ t v. Got (nth 0 (Both (symbol_leaf sym.Password) t)) v)
+pub password_is : (ws u : List Word) → ws ≡ words.Symbol sym.Password ∷ u → transport_at 0 ws ≡ and_then (word text u) (λ t v. Parsed (nth 0 (Pair (symbol_leaf sym.Password) t)) v)
 unfolding transport_at
 password_is ws u is = headed 0 0 is_described transport _ _ transport_checked refl refl ws (words.Symbol sym.Password) u is refl
 
-pub source_is : (at : ℕ) (ws u : List Word) → ws ≡ words.Placed at sym.Source ∷ u → transport_at 0 ws ≡ and_then (both (word (symbol sym.Address)) (word address) u) (λ t v. Got (nth 1 (Both (placed_leaf at sym.Source) t)) v)
+pub source_is : (at : ℕ) (ws u : List Word) → ws ≡ words.Placed at sym.Source ∷ u → transport_at 0 ws ≡ and_then (both (word (symbol sym.Address)) (word address) u) (λ t v. Parsed (nth 1 (Pair (placed_leaf at sym.Source) t)) v)
 unfolding transport_at
 source_is at ws u is = headed 1 0 (symbol sym.Source) transport _ _ transport_checked refl refl ws (words.Placed at sym.Source) u is refl
 
-pub hold_is : (ws u : List Word) → ws ≡ words.Symbol sym.Hold ∷ u → transport_at 0 ws ≡ and_then (time_at 0 u) (λ t v. Got (nth 2 (Both (symbol_leaf sym.Hold) t)) v)
+pub hold_is : (ws u : List Word) → ws ≡ words.Symbol sym.Hold ∷ u → transport_at 0 ws ≡ and_then (time_at 0 u) (λ t v. Parsed (nth 2 (Pair (symbol_leaf sym.Hold) t)) v)
 unfolding transport_at time_at
 hold_is ws u is = headed 2 0 is_timed transport _ _ transport_checked refl refl ws (words.Symbol sym.Hold) u is refl
 
-pub keepalive_is : (ws u : List Word) → ws ≡ words.Symbol sym.Keepalive ∷ u → transport_at 0 ws ≡ and_then (time_at 0 u) (λ t v. Got (nth 2 (Both (symbol_leaf sym.Keepalive) t)) v)
+pub keepalive_is : (ws u : List Word) → ws ≡ words.Symbol sym.Keepalive ∷ u → transport_at 0 ws ≡ and_then (time_at 0 u) (λ t v. Parsed (nth 2 (Pair (symbol_leaf sym.Keepalive) t)) v)
 unfolding transport_at time_at
 keepalive_is ws u is = headed 2 0 is_timed transport _ _ transport_checked refl refl ws (words.Symbol sym.Keepalive) u is refl
 
-pub connect_is : (ws u : List Word) → ws ≡ words.Symbol sym.Connect ∷ u → transport_at 0 ws ≡ and_then (both (word (symbol sym.Retry)) (time_at 0) u) (λ t v. Got (nth 3 (Both (symbol_leaf sym.Connect) t)) v)
+pub connect_is : (ws u : List Word) → ws ≡ words.Symbol sym.Connect ∷ u → transport_at 0 ws ≡ and_then (both (word (symbol sym.Retry)) (time_at 0) u) (λ t v. Parsed (nth 3 (Pair (symbol_leaf sym.Connect) t)) v)
 unfolding transport_at time_at
 connect_is ws u is = headed 3 0 (symbol sym.Connect) transport _ _ transport_checked refl refl ws (words.Symbol sym.Connect) u is refl
 
-pub multihop_is : (ws u : List Word) → ws ≡ words.Symbol sym.Multihop ∷ u → transport_at 0 ws ≡ and_then (optional_number_at 0 u) (λ t v. Got (nth 4 (Both (symbol_leaf sym.Multihop) t)) v)
+pub multihop_is : (ws u : List Word) → ws ≡ words.Symbol sym.Multihop ∷ u → transport_at 0 ws ≡ and_then (optional_number_at 0 u) (λ t v. Parsed (nth 4 (Pair (symbol_leaf sym.Multihop) t)) v)
 unfolding transport_at optional_number_at
 multihop_is ws u is = headed 4 0 (symbol sym.Multihop) transport _ _ transport_checked refl refl ws (words.Symbol sym.Multihop) u is refl
 
-pub direct_is : (ws u : List Word) → ws ≡ words.Symbol sym.Direct ∷ u → transport_at 0 ws ≡ Got (nth 5 (symbol_leaf sym.Direct)) u
+pub direct_is : (ws u : List Word) → ws ≡ words.Symbol sym.Direct ∷ u → transport_at 0 ws ≡ Parsed (nth 5 (symbol_leaf sym.Direct)) u
 unfolding transport_at
 direct_is ws u is = rw is refl
 
@@ -67,7 +67,7 @@ pub record NoOther (ws : List Word) : Type 0 where
   pub multihop : begins (symbol sym.Multihop) ws ≡ false
   pub direct : begins (symbol sym.Direct) ws ≡ false
 
-pub passive_is : (ws : List Word) → NoOther ws → transport_at 0 ws ≡ and_then (both (word (symbol sym.Passive)) (optional_switch_at 0) ws) (λ t u. Got (beyond 6 t) u)
+pub passive_is : (ws : List Word) → NoOther ws → transport_at 0 ws ≡ and_then (both (word (symbol sym.Passive)) (optional_switch_at 0) ws) (λ t u. Parsed (beyond 6 t) u)
 unfolding transport_at optional_switch_at
 passive_is [] none = refl
 passive_is (w ∷ ws) none = rw (none.description, none.password, none.source, none.hold, none.keepalive, none.connect, none.multihop, none.direct) (behind_six (both (word (symbol sym.Passive)) (optional_switch_at 0) (w ∷ ws)))

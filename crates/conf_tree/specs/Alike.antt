@@ -6,11 +6,11 @@ use Rattle.conf_lex.specs.Symbols.{is_colon, is_else, is_slash}
 use Rattle.conf_lex.specs.Words.{slice_of, token_symbol, is_prefix}
 use Rattle.conf_lex.specs.declared.token.Token.{Token}
 use Rattle.conf_lex.specs.declared.token.TokenKind.TheVariants as kinds
-use Rattle.grammar.specs.Grammar.{Tree, yield, Fits}
+use Rattle.grammar.specs.Grammar.{ParseTree, yield, DerivesLongest}
 use Rattle.filt_syntax.specs.Syntax.{rule}
 use Rattle.filt_syntax.specs.RefusedToken.{CanFollow, some_prefix}
 use Rattle.conf_tree.specs.Syntax.{config}
-use Rattle.conf_tree.specs.Said.{said_words, token_of}
+use Rattle.conf_tree.specs.Significant.{significant_words, token_of}
 
 -- a token of one text and a token of another are of one kind and have the same bytes
 pub record IsAlike (text : List ℕ) (t : Token) (other : List ℕ) (u : Token) : Type 0 where
@@ -40,7 +40,7 @@ IsBadPrefix text t _ = ⊥
 abbrev pub CanBePrefix : List ℕ → List Token → ℕ → Type 0
 CanBePrefix text tokens token =
     (place : ℕ) × (token ≡ token_of text tokens place)
-    × CanFollow config (take place (said_words text tokens)) some_prefix
+    × CanFollow config (take place (significant_words text tokens)) some_prefix
 
 -- What comes behind two tokens that are alike decides alike: behind `else` whether a colon does,
 -- since it is one sign with it, and where a prefix can stand the other two tokens of a bad one.
@@ -54,4 +54,5 @@ pub record DecideAlike (text : List ℕ) (front : List Token) (t : Token) (back 
 -- a text with these tokens is no configuration, whatever its levels
 abbrev pub IsNoSentence : List ℕ → List Token → Type 0
 IsNoSentence text tokens =
-    (tree : Tree) → Fits rule tree config → yield tree ≡ said_words text tokens → ⊥
+    (tree : ParseTree) → DerivesLongest rule tree config → yield tree
+    ≡ significant_words text tokens → ⊥

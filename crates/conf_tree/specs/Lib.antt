@@ -2,7 +2,7 @@ pub mod Syntax
 pub mod Options
 pub mod View
 pub mod Readers
-pub mod Said
+pub mod Significant
 pub mod Sentence
 pub mod Alike
 pub mod Position

@@ -3,10 +3,12 @@ use Rattle.std.specs.Prelude.{◌≡◌, false, refl}
 use Rattle.conf_lex.specs.declared.symbol.Symbol.TheVariants as sym
 use Rattle.conf_lex.specs.declared.word.Word.TheVariants as words
 use Rattle.grammar.specs.Kind.{kind_of}
-use Rattle.grammar.specs.Grammar.{Form, Seq, starts, nullable}
+use Rattle.grammar.specs.Grammar.{Seq, first_set, nullable}
 use Rattle.filt_syntax.specs.Syntax.{semicolon}
+use Rattle.filt_syntax.specs.Levels.{Form}
 use Rattle.filt_syntax.proofs.Tested.{is_checked}
-use Rattle.conf_tree.specs.Syntax.{ended_options, channel_option, static_option, bgp_option, pipe_option}
+use Rattle.conf_tree.specs.Syntax.{ended_options, channel_option, static_option, bgp_option}
+use Rattle.conf_tree.specs.Syntax.{pipe_option}
 
 -- it passes the grammar's test, also in a row, and a closing brace begins none
 pub record IsOption (item : Form) : Type 0 where
@@ -14,7 +16,7 @@ pub record IsOption (item : Form) : Type 0 where
   pub ended : is_checked (Seq item semicolon)
   pub alone : is_checked item
   pub full : nullable item ≡ false
-  pub shut : starts item (kind_of (words.Symbol sym.CloseBrace)) ≡ false
+  pub shut : first_set item (kind_of (words.Symbol sym.CloseBrace)) ≡ false
 
 pub channel_option_is : IsOption channel_option
 channel_option_is = record { row = refl; ended = refl; alone = refl; full = refl; shut = refl }

@@ -1,9 +1,10 @@
 -- Lines and columns.
-use Rattle.std.specs.Prelude.{◌≡◌, ◌⊎◌, ℕ, ◌+◌, IsTrue, not, ◌==◌, List, [], ◌∷◌, ◌++◌, length, take, filter}
+use Rattle.std.specs.Prelude.{◌≡◌, ◌⊎◌, ℕ, ◌+◌, IsTrue, not, ◌==◌, List, [], ◌∷◌, ◌++◌, length}
+use Rattle.std.specs.Prelude.{take, filter}
 use Rattle.std.specs.List.{list_all}
 
--- The bytes before a place are lines, each with its newline, and the front of one more. Lines, and the bytes of a line, are
--- counted from 1.
+-- The bytes before a place are lines, each with its newline, and the front of one more. Lines, and
+-- the bytes of a line, are counted from 1.
 pub record IsPlace (text : List ℕ) (at line column : ℕ) : Type 0 where
   pub lines : List ℕ
   pub front : List ℕ

@@ -2,17 +2,17 @@
 use Rattle.std.specs.Prelude.{◌≡◌, ◌≤◌, ◌⊎◌, ℕ, List, length, map, slice_index_or, Result, Ok, Err}
 use Rattle.conf_lex.specs.Lex.{Lexes, Stops}
 use Rattle.conf_lex.specs.declared.token.Token.{Token}
-use Rattle.grammar.specs.Grammar.{Tree}
+use Rattle.grammar.specs.Grammar.{ParseTree}
 use Rattle.filt_syntax.specs.declared.parse.SyntaxFault.{SyntaxFault}
 use Rattle.filt_syntax.specs.declared.parse.SyntaxFault.TheVariants as faults
-use Rattle.conf_tree.specs.Said.{said_words}
+use Rattle.conf_tree.specs.Significant.{significant_words}
 use Rattle.conf_tree.specs.Sentence.{IsSentence, IsRefused}
 use Rattle.conf_tree.specs.View.{config_view}
 use Rattle.conf_tree.specs.declared.kind.ConfFault.{ConfFault}
 use Rattle.conf_tree.specs.declared.kind.ConfFault.TheVariants as outcomes
 use Rattle.conf_tree.specs.declared.kind.ConfKind.{ConfKind}
 use Rattle.conf_tree.specs.declared.kind.ConfKind.TheVariants as refusals
-use Rattle.conf_tree.specs.declared.tree.Config.{Config}
+use Rattle.conf_tree.specs.declared.ast.Config.{Config}
 
 -- where a token begins; behind the last one the end of the text
 abbrev pub byte_of : List ℕ → List Token → ℕ → ℕ
@@ -21,17 +21,21 @@ byte_of text tokens token = slice_index_or (map (λ t. t.at) tokens) token (leng
 -- what is told of tokens that are refused
 abbrev pub fault_of : List ℕ → List Token → SyntaxFault → ConfFault
 fault_of text tokens (faults.Bad at) = outcomes.Refused (byte_of text tokens at) refusals.Syntax
-fault_of text tokens (faults.TooDeep at) = outcomes.Refused (byte_of text tokens at) refusals.TooDeep
-fault_of text tokens (faults.Unsupported at) = outcomes.Refused (byte_of text tokens at) refusals.Unsupported
+fault_of text tokens (faults.TooDeep at) =
+    outcomes.Refused (byte_of text tokens at) refusals.TooDeep
+fault_of text tokens (faults.Unsupported at) =
+    outcomes.Refused (byte_of text tokens at) refusals.Unsupported
 fault_of text tokens faults.Memory = outcomes.Memory
 
 -- the text is a configuration of this tree
-abbrev pub IsConfigText : List ℕ → Tree → Type 0
-IsConfigText text t = (tokens : List Token) × Lexes 0 text tokens × IsSentence (said_words text tokens) t
+abbrev pub IsConfigText : List ℕ → ParseTree → Type 0
+IsConfigText text t =
+    (tokens : List Token) × Lexes 0 text tokens × IsSentence (significant_words text tokens) t
 
 -- it has tokens, which are refused so, and the refused one begins at this byte
 abbrev pub IsRefusedSo : (ℕ → SyntaxFault) → List ℕ → ℕ → Type 0
-IsRefusedSo fault text at = (tokens : List Token) × (token : ℕ) × Lexes 0 text tokens × IsRefused text tokens (fault token) × (at ≡ byte_of text tokens token)
+IsRefusedSo fault text at = (tokens : List Token) × (token : ℕ) × Lexes 0 text tokens
+    × IsRefused text tokens (fault token) × (at ≡ byte_of text tokens token)
 
 -- the text is refused at this byte, for want of a token or by the grammar
 abbrev pub IsRefusedText : List ℕ → ℕ → ConfKind → Type 0
@@ -51,7 +55,7 @@ IsWithin n (outcomes.Refused at kind) = at ≤ n
 IsWithin n outcomes.Memory = Unit {0}
 
 -- the answer is this tree, unless memory ran out
-abbrev pub IsTreeOf : Result Config ConfFault → Tree → Type 0
+abbrev pub IsTreeOf : Result Config ConfFault → ParseTree → Type 0
 IsTreeOf (Ok config) t = config_view config ≡ t
 IsTreeOf (Err e) t = e ≡ outcomes.Memory
 

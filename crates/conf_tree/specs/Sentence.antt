@@ -1,5 +1,7 @@
 -- Which words are a configuration, and the first word of others that is refused.
-use Rattle.std.specs.Prelude.{◌≡◌, ◌≢◌, ◌≤◌, ◌⊎◌, ◌+◌, cond, ℕ, Bool, List, [], ◌∷◌, ◌++◌, length, take, drop, codes, IsTrue, Option, Some, None, IsSomeAnd, Result, Ok, Err}
+use Rattle.std.specs.Prelude.{◌≡◌, ◌≢◌, ◌≤◌, ◌⊎◌, ◌+◌, cond, ℕ, Bool, List, [], ◌∷◌, ◌++◌, length}
+use Rattle.std.specs.Prelude.{take, drop, codes, IsTrue, Option, Some, None, IsSomeAnd, Result, Ok}
+use Rattle.std.specs.Prelude.{Err}
 use Rattle.std.specs.List.{list_any}
 use Rattle.std.specs.Bool.{nat_eq}
 use Rattle.std.specs.Cmp.Lexicographic.{pointwise}
@@ -11,7 +13,7 @@ use Rattle.conf_lex.specs.declared.token.TokenKind.{TokenKind}
 use Rattle.conf_lex.specs.declared.token.TokenKind.TheVariants as kinds
 use Rattle.conf_lex.specs.declared.word.Word.{Word}
 use Rattle.conf_lex.specs.declared.word.Word.TheVariants as words
-use Rattle.grammar.specs.Grammar.{Tree, yield, refused, Fits, begins}
+use Rattle.grammar.specs.Grammar.{ParseTree, yield, DerivesLongest, begins, too_deep}
 use Rattle.grammar.specs.Kind.{symbol}
 use Rattle.grammar.specs.Sentences.{IsBegun, IsBegunWithin, IsLast, IsTooDeep}
 use Rattle.filt_syntax.specs.Syntax.{rule}
@@ -19,24 +21,25 @@ use Rattle.filt_syntax.specs.RefusedToken.{IsPastAt}
 use Rattle.filt_syntax.specs.declared.parse.SyntaxFault.{SyntaxFault}
 use Rattle.filt_syntax.specs.declared.parse.SyntaxFault.TheVariants as faults
 use Rattle.conf_tree.specs.Syntax.{config}
-use Rattle.conf_tree.specs.Said.{said_words, token_of}
-use Rattle.conf_tree.specs.declared.tree.Config.{Config}
+use Rattle.conf_tree.specs.Significant.{significant_words, token_of}
+use Rattle.conf_tree.specs.declared.ast.Config.{Config}
 use Rattle.conf_tree.specs.View.{config_view}
 
--- the words are a configuration of this tree, with no more than 64 levels in a block or an expression
-pub record IsSentence (said : List Word) (t : Tree) : Type 0 where
-  pub fits : Fits rule t config
-  pub whole : yield t ≡ said
-  pub levels : refused t 64 ≡ None
+-- the words are a configuration of this tree, with no more than 64 levels in a block or an
+-- expression
+pub record IsSentence (significant : List Word) (t : ParseTree) : Type 0 where
+  pub fits : DerivesLongest rule t config
+  pub whole : yield t ≡ significant
+  pub levels : too_deep t 64 ≡ None
 
--- The words before the rest begin a configuration within 64 levels. With the first of the rest they begin none; where
--- there is no rest, they are none.
-pub record IsStop (said rest : List Word) : Type 0 where
+-- The words before the rest begin a configuration within 64 levels. With the first of the rest they
+-- begin none; where there is no rest, they are none.
+pub record IsStop (significant rest : List Word) : Type 0 where
   pub before : List Word
-  pub front : said ≡ before ++ rest
+  pub front : significant ≡ before ++ rest
   pub begun : IsBegunWithin rule 64 config before
   pub last : IsLast rule config before rest
-  pub unfinished : rest ≡ [] → (t : Tree) → Fits rule t config → yield t ≢ before
+  pub unfinished : rest ≡ [] → (t : ParseTree) → DerivesLongest rule t config → yield t ≢ before
 
 -- ---- words that are known and not supported
 
@@ -54,11 +57,13 @@ is_one_of several word = list_any (λ other. pointwise nat_eq other word) severa
 
 -- in place of a statement
 abbrev pub statement_words : List (List ℕ)
-statement_words = codes "template" ∷ codes "include" ∷ codes "roa4" ∷ codes "roa6" ∷ codes "vpn4" ∷ codes "vpn6" ∷ codes "mpls" ∷ codes "flow4" ∷ codes "flow6" ∷ []
+statement_words = codes "template" ∷ codes "include" ∷ codes "roa4" ∷ codes "roa6" ∷ codes "vpn4"
+    ∷ codes "vpn6" ∷ codes "mpls" ∷ codes "flow4" ∷ codes "flow6" ∷ []
 
 -- in place of an option of a bgp protocol
 abbrev pub bgp_words : List (List ℕ)
-bgp_words = codes "deterministic" ∷ codes "rr" ∷ codes "confederation" ∷ codes "path" ∷ codes "allow" ∷ codes "add" ∷ []
+bgp_words = codes "deterministic" ∷ codes "rr" ∷ codes "confederation" ∷ codes "path"
+    ∷ codes "allow" ∷ codes "add" ∷ []
 
 -- in place of an option of a channel
 abbrev pub channel_words : List (List ℕ)
@@ -68,17 +73,23 @@ channel_words = codes "receive" ∷ codes "keep" ∷ codes "add" ∷ []
 abbrev pub import_words : List (List ℕ)
 import_words = codes "table" ∷ codes "keep" ∷ []
 
--- The word, which can't stand behind these words, is known there and not supported: any word behind "protocol", and words
--- where others can stand. "define" can stand where a statement can, "neighbor" where an option of a bgp protocol can,
--- "next" where one of a channel can, "limit" behind a channel's "import", "warn" behind "action", and "blackhole" behind
--- the prefix of a route.
+-- The word, which can't stand behind these words, is known there and not supported: any word behind
+-- "protocol", and words where others can stand. "define" can stand where a statement can,
+-- "neighbor" where an option of a bgp protocol can, "next" where one of a channel can, "limit"
+-- behind a channel's "import", "warn" behind "action", and "blackhole" behind the prefix of a
+-- route.
 pub data IsUnsupported (before : List Word) (word : List ℕ) : Type 0 where
   a_kind : EndsIn sym.Protocol before (λ front. Unit {0}) → IsUnsupported before word
-  a_statement : IsTrue (is_one_of statement_words word) → CanStand sym.Define before → IsUnsupported before word
-  a_bgp_option : IsTrue (is_one_of bgp_words word) → CanStand sym.Neighbor before → IsUnsupported before word
-  a_channel_option : IsTrue (is_one_of channel_words word) → CanStand sym.Next before → IsUnsupported before word
-  an_import : IsTrue (is_one_of import_words word) → CanStand sym.Limit before → IsUnsupported before word
-  an_export : word ≡ codes "limit" → EndsIn sym.Export before (CanStand sym.Next) → IsUnsupported before word
+  a_statement : IsTrue (is_one_of statement_words word) → CanStand sym.Define before
+      → IsUnsupported before word
+  a_bgp_option : IsTrue (is_one_of bgp_words word) → CanStand sym.Neighbor before
+      → IsUnsupported before word
+  a_channel_option : IsTrue (is_one_of channel_words word) → CanStand sym.Next before
+      → IsUnsupported before word
+  an_import : IsTrue (is_one_of import_words word) → CanStand sym.Limit before
+      → IsUnsupported before word
+  an_export : word ≡ codes "limit" → EndsIn sym.Export before (CanStand sym.Next)
+      → IsUnsupported before word
   an_action : word ≡ codes "restart" → CanStand sym.Warn before → IsUnsupported before word
   a_route : word ≡ codes "recursive" → CanStand sym.Blackhole before → IsUnsupported before word
 
@@ -101,15 +112,15 @@ word_bytes rest text tokens =
 
 -- the word in this place is refused, and begins with this token
 pub record StopsAt (text : List ℕ) (tokens : List Token) (place at : ℕ) : Type 0 where
-  pub within : place ≤ length (said_words text tokens)
-  pub stop : IsStop (said_words text tokens) (drop place (said_words text tokens))
+  pub within : place ≤ length (significant_words text tokens)
+  pub stop : IsStop (significant_words text tokens) (drop place (significant_words text tokens))
   pub token : at ≡ token_of text tokens place
 
 -- it is known there
 abbrev pub IsKnown : List ℕ → List Token → ℕ → ℕ → Type 0
 IsKnown text tokens place at =
-    IsSomeAnd (word_bytes (drop place (said_words text tokens)) text (drop at tokens))
-    (IsUnsupported (take place (said_words text tokens)))
+    IsSomeAnd (word_bytes (drop place (significant_words text tokens)) text (drop at tokens))
+    (IsUnsupported (take place (significant_words text tokens)))
 
 -- The word in this place is refused and not known there. This is the first of its tokens that no
 -- sentence can have.
@@ -118,33 +129,35 @@ pub record IsBadAt (text : List ℕ) (tokens : List Token) (place at : ℕ) : Ty
   pub stops : StopsAt text tokens place start
   pub unknown : IsKnown text tokens place start → ⊥
   pub past : ℕ
-  pub is_past : IsPastAt config (said_words text tokens) place past
+  pub is_past : IsPastAt config (significant_words text tokens) place past
   pub token : at ≡ start + past
 
 -- the word in this place opens the 65th level
 pub record DeepensAt (text : List ℕ) (tokens : List Token) (place at : ℕ) : Type 0 where
-  pub within : place ≤ length (said_words text tokens)
-  pub deep : IsTooDeep rule 64 config (said_words text tokens) (drop place (said_words text tokens))
+  pub within : place ≤ length (significant_words text tokens)
+  pub deep : IsTooDeep rule 64 config (significant_words text tokens)
+      (drop place (significant_words text tokens))
   pub token : at ≡ token_of text tokens place
 
 -- The word in this place of these, which can't stand there and begins with this token, is refused
 -- so; whether it is known there.
 abbrev pub Refuses : Type 0 → List Word → ℕ → ℕ → SyntaxFault → Type 0
-Refuses known said place start (faults.Bad token) =
-    (known → ⊥) × (n : ℕ) × IsPastAt config said place n × (token ≡ start + n)
-Refuses known said place start (faults.Unsupported token) = (token ≡ start) × known
-Refuses known said place start (faults.TooDeep token) = ⊥
-Refuses known said place start faults.Memory = Unit {0}
+Refuses known significant place start (faults.Bad token) =
+    (known → ⊥) × (n : ℕ) × IsPastAt config significant place n × (token ≡ start + n)
+Refuses known significant place start (faults.Unsupported token) = (token ≡ start) × known
+Refuses known significant place start (faults.TooDeep token) = ⊥
+Refuses known significant place start faults.Memory = Unit {0}
 
 -- the tokens of a text are refused so
 abbrev pub IsRefused : List ℕ → List Token → SyntaxFault → Type 0
 IsRefused text tokens (faults.Bad at) = (place : ℕ) × IsBadAt text tokens place at
-IsRefused text tokens (faults.Unsupported at) = (place : ℕ) × StopsAt text tokens place at × IsKnown text tokens place at
+IsRefused text tokens (faults.Unsupported at) =
+    (place : ℕ) × StopsAt text tokens place at × IsKnown text tokens place at
 IsRefused text tokens (faults.TooDeep at) = (place : ℕ) × DeepensAt text tokens place at
 IsRefused text tokens faults.Memory = Unit {0}
 
 -- the answer is this tree, unless memory ran out
-abbrev pub IsTree : Result Config SyntaxFault → Tree → Type 0
+abbrev pub IsTree : Result Config SyntaxFault → ParseTree → Type 0
 IsTree (Ok tree) t = config_view tree ≡ t
 IsTree (Err e) t = e ≡ faults.Memory
 

@@ -1,12 +1,15 @@
--- The grammar of the configuration: a form for each production, with its line in the notation of the grammar above it.
--- A quoted word is the symbol of that spelling; `[ ]` may be left out, `{ }` is any number of times, `|` is a choice. What
--- a log's `{ token other than ";" }` and a device's balanced tokens are stands in Said: they are taken out before.
+-- The grammar of the configuration: a form for each production, with its line in the notation of
+-- the grammar above it. A quoted word is the symbol of that spelling; `[ ]` may be left out, `{ }`
+-- is any number of times, `|` is a choice. What a log's `{ token other than ";" }` and a device's
+-- balanced tokens are stands in Said: they are taken out before.
 use Rattle.std.specs.Prelude.{Bool, ◌||◌}
 use Rattle.conf_lex.specs.declared.symbol.Symbol.{Symbol}
 use Rattle.conf_lex.specs.declared.symbol.Symbol.TheVariants as sym
 use Rattle.grammar.specs.Kind.{Kind, number, name, text, address, prefix, symbol}
-use Rattle.grammar.specs.Grammar.{Form, One, Seq, Either, Chain}
-use Rattle.filt_syntax.specs.Syntax.{optional, many, is_num, set, mask, expr, vtype, block, semicolon}
+use Rattle.grammar.specs.Grammar.{Terminal, Seq, Alt, Repeat}
+use Rattle.filt_syntax.specs.Syntax.{optional, many, is_num, set, mask, expr, vtype, block}
+use Rattle.filt_syntax.specs.Syntax.{semicolon}
+use Rattle.filt_syntax.specs.Levels.{Form}
 
 -- bool = "on" | "off" | "yes" | "no"
 abbrev pub is_switch : Kind → Bool
@@ -20,27 +23,28 @@ is_family k = symbol sym.Ipv4 k || symbol sym.Ipv6 k
 
 -- "filter" NAME | "filter" block
 abbrev pub filter_policy : Form
-filter_policy = Seq (One (symbol sym.Filter)) (Either (One name) block)
+filter_policy = Seq (Terminal (symbol sym.Filter)) (Alt (Terminal name) block)
 
 -- "where" expr
 abbrev pub where_policy : Form
-where_policy = Seq (One (symbol sym.Where)) expr
+where_policy = Seq (Terminal (symbol sym.Where)) expr
 
 -- policy = "all" | "none" | "filter" NAME | "filter" block | "where" expr
 abbrev pub policy : Form
-policy = Either (One (λ k. symbol sym.All k || symbol sym.None k)) (Either filter_policy where_policy)
+policy =
+    Alt (Terminal (λ k. symbol sym.All k || symbol sym.None k)) (Alt filter_policy where_policy)
 
 -- "table" NAME
 abbrev pub table_option : Form
-table_option = Seq (One (symbol sym.Table)) (One name)
+table_option = Seq (Terminal (symbol sym.Table)) (Terminal name)
 
 -- "export" policy
 abbrev pub export_option : Form
-export_option = Seq (One (symbol sym.Export)) policy
+export_option = Seq (Terminal (symbol sym.Export)) policy
 
 -- "preference" num
 abbrev pub preference : Form
-preference = Seq (One (symbol sym.Preference)) (One is_num)
+preference = Seq (Terminal (symbol sym.Preference)) (Terminal is_num)
 
 -- "warn" | "block" | "disable"
 abbrev pub is_action : Kind → Bool
@@ -48,15 +52,16 @@ is_action k = symbol sym.Warn k || symbol sym.Block k || symbol sym.Disable k
 
 -- "action" ("warn" | "block" | "disable")
 abbrev pub action : Form
-action = Seq (One (symbol sym.Action)) (One is_action)
+action = Seq (Terminal (symbol sym.Action)) (Terminal is_action)
 
 -- "limit" ( num [ "action" ("warn" | "block" | "disable") ] | "off" )
 abbrev pub limit : Form
-limit = Seq (One (symbol sym.Limit)) (Either (One (symbol sym.Off)) (Seq (One is_num) (optional action)))
+limit = Seq (Terminal (symbol sym.Limit))
+    (Alt (Terminal (symbol sym.Off)) (Seq (Terminal is_num) (optional action)))
 
 -- "import" policy | "import" "limit" ( num [ "action" ("warn" | "block" | "disable") ] | "off" )
 abbrev pub import_option : Form
-import_option = Seq (One (symbol sym.Import)) (Either limit policy)
+import_option = Seq (Terminal (symbol sym.Import)) (Alt limit policy)
 
 -- "self" | "keep"
 abbrev pub is_hop : Kind → Bool
@@ -64,12 +69,14 @@ is_hop k = symbol sym.SelfWord k || symbol sym.Keep k
 
 -- "next" "hop" ("self" | "keep")
 abbrev pub next_hop : Form
-next_hop = Seq (One (symbol sym.Next)) (Seq (One (symbol sym.Hop)) (One is_hop))
+next_hop = Seq (Terminal (symbol sym.Next)) (Seq (Terminal (symbol sym.Hop)) (Terminal is_hop))
 
 -- citem = "table" NAME | "import" policy | "export" policy | "preference" num
---   | "import" "limit" ( num [ "action" ("warn" | "block" | "disable") ] | "off" ) | "next" "hop" ("self" | "keep")
+--   | "import" "limit" ( num [ "action" ("warn" | "block" | "disable") ] | "off" )
+--   | "next" "hop" ("self" | "keep")
 abbrev pub channel_option : Form
-channel_option = Either table_option (Either import_option (Either export_option (Either preference next_hop)))
+channel_option =
+    Alt table_option (Alt import_option (Alt export_option (Alt preference next_hop)))
 
 -- { item ";" }
 abbrev pub ended_options : Form → Form
@@ -77,128 +84,148 @@ ended_options item = many (Seq item semicolon)
 
 -- "{" { citem ";" } "}"
 abbrev pub channel_options : Form
-channel_options = Seq (One (symbol sym.OpenBrace)) (Seq (ended_options channel_option) (One (symbol sym.CloseBrace)))
+channel_options = Seq (Terminal (symbol sym.OpenBrace))
+    (Seq (ended_options channel_option) (Terminal (symbol sym.CloseBrace)))
 
 -- chan = ("ipv4" | "ipv6") [ "{" { citem ";" } "}" ]
 abbrev pub channel : Form
-channel = Seq (One is_family) (optional channel_options)
+channel = Seq (Terminal is_family) (optional channel_options)
 
 -- ---- the options of protocols
 
 -- "via" IP | "blackhole" | "unreachable" | "prohibit"
 abbrev pub route_target : Form
-route_target = Either (Seq (One (symbol sym.Via)) (One address)) (One (λ k. symbol sym.Blackhole k || symbol sym.Unreachable k || symbol sym.Prohibit k))
+route_target = Alt (Seq (Terminal (symbol sym.Via)) (Terminal address))
+    (Terminal (λ k. symbol sym.Blackhole k || symbol sym.Unreachable k || symbol sym.Prohibit k))
 
 -- "route" prefix ( "via" IP | "blackhole" | "unreachable" | "prohibit" )
 abbrev pub route : Form
-route = Seq (One (symbol sym.Route)) (Seq (One prefix) route_target)
+route = Seq (Terminal (symbol sym.Route)) (Seq (Terminal prefix) route_target)
 
 -- sitem = chan | "route" prefix ( "via" IP | "blackhole" | "unreachable" | "prohibit" )
 abbrev pub static_option : Form
-static_option = Either channel route
+static_option = Alt channel route
 
 -- "local" [ IP ] "as" num
 abbrev pub local : Form
-local = Seq (One (symbol sym.Local)) (Seq (optional (One address)) (Seq (One (symbol sym.As)) (One is_num)))
+local = Seq (Terminal (symbol sym.Local))
+    (Seq (optional (Terminal address)) (Seq (Terminal (symbol sym.As)) (Terminal is_num)))
 
 -- "neighbor" IP "as" num
 abbrev pub neighbor : Form
-neighbor = Seq (One (symbol sym.Neighbor)) (Seq (One address) (Seq (One (symbol sym.As)) (One is_num)))
+neighbor =
+    Seq (Terminal (symbol sym.Neighbor)) (Seq (Terminal address)
+    (Seq (Terminal (symbol sym.As)) (Terminal is_num)))
 
 -- "med" "metric" bool
 abbrev pub med_metric : Form
-med_metric = Seq (One (symbol sym.Med)) (Seq (One (symbol sym.Metric)) (One is_switch))
+med_metric =
+    Seq (Terminal (symbol sym.Med)) (Seq (Terminal (symbol sym.Metric)) (Terminal is_switch))
 
 -- "interpret" "communities" bool
 abbrev pub interpret : Form
-interpret = Seq (One (symbol sym.Interpret)) (Seq (One (symbol sym.Communities)) (One is_switch))
+interpret = Seq (Terminal (symbol sym.Interpret))
+    (Seq (Terminal (symbol sym.Communities)) (Terminal is_switch))
 
 -- "default" "bgp_med" num | "default" "bgp_local_pref" num
 abbrev pub default_value : Form
-default_value = Seq (One (symbol sym.Default)) (Seq (One (λ k. symbol sym.BgpMed k || symbol sym.BgpLocalPref k)) (One is_num))
+default_value = Seq (Terminal (symbol sym.Default))
+    (Seq (Terminal (λ k. symbol sym.BgpMed k || symbol sym.BgpLocalPref k)) (Terminal is_num))
 
 -- "description" STRING | "password" STRING
 abbrev pub described : Form
-described = Seq (One (λ k. symbol sym.Description k || symbol sym.Password k)) (One text)
+described = Seq (Terminal (λ k. symbol sym.Description k || symbol sym.Password k)) (Terminal text)
 
 -- "source" "address" IP
 abbrev pub source_address : Form
-source_address = Seq (One (symbol sym.Source)) (Seq (One (symbol sym.Address)) (One address))
+source_address =
+    Seq (Terminal (symbol sym.Source)) (Seq (Terminal (symbol sym.Address)) (Terminal address))
 
 -- "hold" "time" num | "keepalive" "time" num
 abbrev pub timed : Form
-timed = Seq (One (λ k. symbol sym.Hold k || symbol sym.Keepalive k)) (Seq (One (symbol sym.Time)) (One is_num))
+timed = Seq (Terminal (λ k. symbol sym.Hold k || symbol sym.Keepalive k))
+    (Seq (Terminal (symbol sym.Time)) (Terminal is_num))
 
 -- "connect" "retry" "time" num
 abbrev pub connect_retry : Form
-connect_retry = Seq (One (symbol sym.Connect)) (Seq (One (symbol sym.Retry)) (Seq (One (symbol sym.Time)) (One is_num)))
+connect_retry = Seq (Terminal (symbol sym.Connect)) (Seq (Terminal (symbol sym.Retry))
+    (Seq (Terminal (symbol sym.Time)) (Terminal is_num)))
 
 -- "multihop" [ num ]
 abbrev pub multihop : Form
-multihop = Seq (One (symbol sym.Multihop)) (optional (One is_num))
+multihop = Seq (Terminal (symbol sym.Multihop)) (optional (Terminal is_num))
 
 -- "passive" [ bool ]
 abbrev pub passive : Form
-passive = Seq (One (symbol sym.Passive)) (optional (One is_switch))
+passive = Seq (Terminal (symbol sym.Passive)) (optional (Terminal is_switch))
 
--- "description" STRING | "password" STRING | "source" "address" IP | "hold" "time" num | "keepalive" "time" num
---   | "connect" "retry" "time" num | "multihop" [ num ] | "direct" | "passive" [ bool ]
+-- "description" STRING | "password" STRING | "source" "address" IP | "hold" "time" num
+--   | "keepalive" "time" num | "connect" "retry" "time" num | "multihop" [ num ] | "direct"
+--   | "passive" [ bool ]
 abbrev pub transport : Form
-transport = Either described (Either source_address (Either timed (Either connect_retry (Either multihop (Either (One (symbol sym.Direct)) passive)))))
+transport = Alt described (Alt source_address (Alt timed (Alt connect_retry
+    (Alt multihop (Alt (Terminal (symbol sym.Direct)) passive)))))
 
--- bitem = chan | "local" [ IP ] "as" num | "neighbor" IP "as" num | "med" "metric" bool | "interpret" "communities" bool
---   | "default" "bgp_med" num | "default" "bgp_local_pref" num | "description" STRING | "password" STRING
---   | "source" "address" IP | "hold" "time" num | "keepalive" "time" num | "connect" "retry" "time" num
---   | "multihop" [ num ] | "direct" | "passive" [ bool ]
+-- bitem = chan | "local" [ IP ] "as" num | "neighbor" IP "as" num | "med" "metric" bool
+--   | "interpret" "communities" bool | "default" "bgp_med" num | "default" "bgp_local_pref" num
+--   | "description" STRING | "password" STRING | "source" "address" IP | "hold" "time" num
+--   | "keepalive" "time" num | "connect" "retry" "time" num | "multihop" [ num ] | "direct"
+--   | "passive" [ bool ]
 abbrev pub bgp_option : Form
-bgp_option = Either channel (Either local (Either neighbor (Either med_metric (Either interpret (Either default_value transport)))))
+bgp_option = Alt channel (Alt local (Alt neighbor (Alt med_metric (Alt interpret
+    (Alt default_value transport)))))
 
 -- "peer" "table" NAME
 abbrev pub peer_table : Form
-peer_table = Seq (One (symbol sym.Peer)) table_option
+peer_table = Seq (Terminal (symbol sym.Peer)) table_option
 
 -- "import" policy
 abbrev pub pipe_import : Form
-pipe_import = Seq (One (symbol sym.Import)) policy
+pipe_import = Seq (Terminal (symbol sym.Import)) policy
 
 -- pitem = "table" NAME | "peer" "table" NAME | "import" policy | "export" policy
 abbrev pub pipe_option : Form
-pipe_option = Either table_option (Either peer_table (Either pipe_import export_option))
+pipe_option = Alt table_option (Alt peer_table (Alt pipe_import export_option))
 
 -- ---- statements
 
 -- "router" "id" IP ";"
 abbrev pub router_id : Form
-router_id = Seq (One (symbol sym.Router)) (Seq (One (symbol sym.Id)) (Seq (One address) semicolon))
+router_id = Seq (Terminal (symbol sym.Router))
+    (Seq (Terminal (symbol sym.Id)) (Seq (Terminal address) semicolon))
 
 -- "log" { token other than ";" } ";", whose tokens are taken out
 abbrev pub log : Form
-log = Seq (One (symbol sym.Log)) semicolon
+log = Seq (Terminal (symbol sym.Log)) semicolon
 
 -- "(" num "," num ")"
 abbrev pub pair : Form
-pair = Seq (One (symbol sym.OpenParenthesis)) (Seq (One is_num) (Seq (One (symbol sym.Comma)) (Seq (One is_num) (One (symbol sym.CloseParenthesis)))))
+pair = Seq (Terminal (symbol sym.OpenParenthesis))
+    (Seq (Terminal is_num) (Seq (Terminal (symbol sym.Comma))
+    (Seq (Terminal is_num) (Terminal (symbol sym.CloseParenthesis)))))
 
 -- NUMBER | "true" | "false" | STRING | IP | prefix | NAME of a constant
 abbrev pub is_value : Kind → Bool
-is_value k = number k || symbol sym.True k || symbol sym.False k || text k || address k || prefix k || name k
+is_value k =
+    number k || symbol sym.True k || symbol sym.False k || text k || address k || prefix k || name k
 
 -- literal = NUMBER | "true" | "false" | STRING | IP | prefix | "(" num "," num ")"
 --   | "[" item { "," item } "]" | "[=" { mitem } "=]" | NAME of a constant
 abbrev pub literal : Form
-literal = Either (One is_value) (Either pair (Either set mask))
+literal = Alt (Terminal is_value) (Alt pair (Alt set mask))
 
 -- "define" NAME "=" literal ";"
 abbrev pub define : Form
-define = Seq (One (symbol sym.Define)) (Seq (One name) (Seq (One (symbol sym.Equal)) (Seq literal semicolon)))
+define = Seq (Terminal (symbol sym.Define))
+    (Seq (Terminal name) (Seq (Terminal (symbol sym.Equal)) (Seq literal semicolon)))
 
 -- ("ipv4" | "ipv6") "table" NAME ";"
 abbrev pub table : Form
-table = Seq (One is_family) (Seq (One (symbol sym.Table)) (Seq (One name) semicolon))
+table = Seq (Terminal is_family) (Seq (Terminal (symbol sym.Table)) (Seq (Terminal name) semicolon))
 
 -- param = vtype NAME
 abbrev pub parameter : Form
-parameter = Seq vtype (One name)
+parameter = Seq vtype (Terminal name)
 
 -- ";" | ","
 abbrev pub is_separator : Kind → Bool
@@ -206,45 +233,54 @@ is_separator k = symbol sym.Semicolon k || symbol sym.Comma k
 
 -- param { (";" | ",") param }
 abbrev pub parameters : Form
-parameters = Chain parameter (Seq (One is_separator) parameter)
+parameters = Repeat parameter (Seq (Terminal is_separator) parameter)
 
 -- "->" vtype
 abbrev pub gives : Form
-gives = Seq (One (symbol sym.Arrow)) vtype
+gives = Seq (Terminal (symbol sym.Arrow)) vtype
 
 -- "function" NAME "(" [ param { (";" | ",") param } ] ")" [ "->" vtype ] block
 abbrev pub function : Form
-function = Seq (One (symbol sym.Function)) (Seq (One name) (Seq (One (symbol sym.OpenParenthesis)) (Seq (optional parameters)
-    (Seq (One (symbol sym.CloseParenthesis)) (Seq (optional gives) block)))))
+function = Seq (Terminal (symbol sym.Function))
+    (Seq (Terminal name) (Seq (Terminal (symbol sym.OpenParenthesis))
+    (Seq (optional parameters)
+    (Seq (Terminal (symbol sym.CloseParenthesis)) (Seq (optional gives) block)))))
 
 -- "filter" NAME block
 abbrev pub filter : Form
-filter = Seq (One (symbol sym.Filter)) (Seq (One name) block)
+filter = Seq (Terminal (symbol sym.Filter)) (Seq (Terminal name) block)
 
 -- "}" [ ";" ]
 abbrev pub protocol_end : Form
-protocol_end = Seq (One (symbol sym.CloseBrace)) (optional semicolon)
+protocol_end = Seq (Terminal (symbol sym.CloseBrace)) (optional semicolon)
 
 -- KIND [ NAME ] "{" { item ";" } "}" [ ";" ]
 abbrev pub protocol_of : Symbol → Form → Form
-protocol_of kind item = Seq (One (symbol kind)) (Seq (optional (One name)) (Seq (One (symbol sym.OpenBrace)) (Seq (ended_options item) protocol_end)))
+protocol_of kind item = Seq (Terminal (symbol kind)) (Seq (optional (Terminal name))
+    (Seq (Terminal (symbol sym.OpenBrace)) (Seq (ended_options item) protocol_end)))
 
 -- "device" [ NAME ] "{" balanced tokens "}" [ ";" ], whose tokens are taken out
 abbrev pub device : Form
-device = Seq (One (symbol sym.Device)) (Seq (optional (One name)) (Seq (One (symbol sym.OpenBrace)) protocol_end))
+device = Seq (Terminal (symbol sym.Device)) (Seq (optional (Terminal name))
+    (Seq (Terminal (symbol sym.OpenBrace)) protocol_end))
 
--- "protocol" "device" [ NAME ] "{" balanced tokens "}" [ ";" ] | "protocol" "static" [ NAME ] "{" { sitem ";" } "}" [ ";" ]
---   | "protocol" "bgp" [ NAME ] "{" { bitem ";" } "}" [ ";" ] | "protocol" "pipe" [ NAME ] "{" { pitem ";" } "}" [ ";" ]
+-- "protocol" "device" [ NAME ] "{" balanced tokens "}" [ ";" ]
+--   | "protocol" "static" [ NAME ] "{" { sitem ";" } "}" [ ";" ]
+--   | "protocol" "bgp" [ NAME ] "{" { bitem ";" } "}" [ ";" ]
+--   | "protocol" "pipe" [ NAME ] "{" { pitem ";" } "}" [ ";" ]
 abbrev pub protocol : Form
-protocol = Seq (One (symbol sym.Protocol)) (Either device (Either (protocol_of sym.Static static_option)
-    (Either (protocol_of sym.Bgp bgp_option) (protocol_of sym.Pipe pipe_option))))
+protocol =
+    Seq (Terminal (symbol sym.Protocol)) (Alt device (Alt (protocol_of sym.Static static_option)
+    (Alt (protocol_of sym.Bgp bgp_option) (protocol_of sym.Pipe pipe_option))))
 
--- statement = "router" "id" IP ";" | "log" { token other than ";" } ";" | "define" NAME "=" literal ";"
---   | ("ipv4" | "ipv6") "table" NAME ";"
---   | "function" NAME "(" [ param { (";" | ",") param } ] ")" [ "->" vtype ] block | "filter" NAME block
---   | "protocol" "device" .. | "protocol" "static" .. | "protocol" "bgp" .. | "protocol" "pipe" ..
+-- statement = "router" "id" IP ";" | "log" { token other than ";" } ";"
+--   | "define" NAME "=" literal ";" | ("ipv4" | "ipv6") "table" NAME ";"
+--   | "function" NAME "(" [ param { (";" | ",") param } ] ")" [ "->" vtype ] block
+--   | "filter" NAME block | "protocol" "device" .. | "protocol" "static" .. | "protocol" "bgp" ..
+--   | "protocol" "pipe" ..
 abbrev pub statement : Form
-statement = Either router_id (Either log (Either define (Either table (Either function (Either filter protocol)))))
+statement = Alt router_id (Alt log (Alt define (Alt table (Alt function
+    (Alt filter protocol)))))
 
 -- config = { statement }
 abbrev pub config : Form

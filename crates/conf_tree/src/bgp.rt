@@ -1,25 +1,26 @@
-// The options of BGP protocols. `left` is how many more levels may be opened.
+// The options of BGP protocols. `depth_left` is how many more levels may be opened.
 
 ghost use Rattle.std.specs.Prelude.{◌≡◌, ◌∷◌, false};
 ghost use Rattle.conf_lex.specs.declared.symbol.Symbol.TheVariants as sym;
 ghost use Rattle.conf_lex.specs.declared.word.Word.{Word};
 ghost use Rattle.grammar.specs.Kind.{symbol, address};
-ghost use Rattle.grammar.specs.Grammar.{Both, begins};
+ghost use Rattle.grammar.specs.Grammar.{Pair, begins};
 ghost use Rattle.grammar.specs.Reading.{both, word};
 ghost use Rattle.grammar.specs.Shapes.{symbol_leaf};
-ghost use Rattle.grammar.specs.Gives.{Gives};
+ghost use Rattle.grammar.specs.Agrees.{Agrees};
 ghost use Rattle.filt_syntax.specs.Syntax.{is_num};
 ghost use Rattle.filt_syntax.specs.StatementView.{nth, beyond};
 ghost use Rattle.conf_tree.specs.Syntax.{is_family, is_switch, bgp_option};
 ghost use Rattle.conf_tree.specs.Options.{bgp_option_is};
 ghost use Rattle.conf_tree.specs.View.{placed_leaf, family_symbol, bgp_option_tree};
-ghost use Rattle.conf_tree.specs.Readers.{seen_as, optional_address_at, as_at, channel_at, transport_at, bgp_option_at};
+ghost use Rattle.conf_tree.specs.Readers.{seen_as, optional_address_at, as_at, channel_at};
+ghost use Rattle.conf_tree.specs.Readers.{transport_at, bgp_option_at};
 
+use crate::ast::BgpOption;
 use crate::channel::channel;
 use crate::options::ProtocolOption;
 use crate::simple::{as_number, expect_address, expect_switch, next_family, optional_address};
 use crate::transport::transport;
-use crate::tree::BgpOption;
 use bits_ip::Family;
 use conf_lex::{Symbol, Word};
 use filt_syntax::parts::num;
@@ -28,7 +29,9 @@ use std::alloc::Global;
 
 // By the words after `local`.
 fn local(words: &[Word]) -> Result<(BgpOption, &[Word]), Refusal>
-    ensures { Gives bgp_option_tree result (seen_as (both (optional_address_at 0) (as_at 0)) (λ t. nth 1 (Both (symbol_leaf sym.Local) t)) words.now) }
+    ensures { Agrees bgp_option_tree result
+        (seen_as (both (optional_address_at 0) (as_at 0))
+        (λ t. nth 1 (Pair (symbol_leaf sym.Local) t)) words.now) }
 {
     let (address, rest) = optional_address(words);
     let (number, rest) = as_number(rest)?;
@@ -37,7 +40,9 @@ fn local(words: &[Word]) -> Result<(BgpOption, &[Word]), Refusal>
 
 // By the words after `neighbor`.
 fn neighbor(words: &[Word]) -> Result<(BgpOption, &[Word]), Refusal>
-    ensures { Gives bgp_option_tree result (seen_as (both (word address) (as_at 0)) (λ t. nth 2 (Both (symbol_leaf sym.Neighbor) t)) words.now) }
+    ensures { Agrees bgp_option_tree result
+        (seen_as (both (word address) (as_at 0))
+        (λ t. nth 2 (Pair (symbol_leaf sym.Neighbor) t)) words.now) }
 {
     let (address, rest) = expect_address(words)?;
     let (number, rest) = as_number(rest)?;
@@ -46,7 +51,9 @@ fn neighbor(words: &[Word]) -> Result<(BgpOption, &[Word]), Refusal>
 
 // By the words after `default bgp_med`, of which the second's place is told.
 fn default_med(at: usize, words: &[Word]) -> Result<(BgpOption, &[Word]), Refusal>
-    ensures { Gives bgp_option_tree result (seen_as (word is_num) (λ t. nth 5 (Both (symbol_leaf sym.Default) (Both (placed_leaf at sym.BgpMed) t))) words.now) }
+    ensures { Agrees bgp_option_tree result
+        (seen_as (word is_num) (λ t. nth 5 (Pair (symbol_leaf sym.Default)
+        (Pair (placed_leaf at sym.BgpMed) t))) words.now) }
 {
     let (value, rest) = num(words)?;
     Ok((BgpOption::DefaultMed { at, value }, rest))
@@ -54,7 +61,9 @@ fn default_med(at: usize, words: &[Word]) -> Result<(BgpOption, &[Word]), Refusa
 
 // By the words after `default bgp_local_pref`, of which the second's place is told.
 fn default_local_pref(at: usize, words: &[Word]) -> Result<(BgpOption, &[Word]), Refusal>
-    ensures { Gives bgp_option_tree result (seen_as (word is_num) (λ t. nth 5 (Both (symbol_leaf sym.Default) (Both (placed_leaf at sym.BgpLocalPref) t))) words.now) }
+    ensures { Agrees bgp_option_tree result
+        (seen_as (word is_num) (λ t. nth 5 (Pair (symbol_leaf sym.Default)
+        (Pair (placed_leaf at sym.BgpLocalPref) t))) words.now) }
 {
     let (value, rest) = num(words)?;
     Ok((BgpOption::DefaultLocalPref { at, value }, rest))
@@ -64,10 +73,10 @@ fn default_local_pref(at: usize, words: &[Word]) -> Result<(BgpOption, &[Word]),
 fn default_value<'a>(
     words: &'a [Word],
     behind: &'a [Word],
-    left: u32,
+    depth_left: u32,
 ) -> Result<(BgpOption, &'a [Word]), Refusal<'a>>
     requires { words.now ≡ Word.Symbol sym.Default ∷ behind.now }
-    ensures { Gives bgp_option_tree result (bgp_option_at left words.now) }
+    ensures { Agrees bgp_option_tree result (bgp_option_at depth_left words.now) }
 {
     if let Some((at, rest)) = after_placed(behind, Symbol::BgpMed) {
         return default_med(at, rest);
@@ -80,7 +89,9 @@ fn default_value<'a>(
 
 // By the words after `med`.
 fn med_metric(words: &[Word]) -> Result<(BgpOption, &[Word]), Refusal>
-    ensures { Gives bgp_option_tree result (seen_as (both (word (symbol sym.Metric)) (word is_switch)) (λ t. nth 3 (Both (symbol_leaf sym.Med) t)) words.now) }
+    ensures { Agrees bgp_option_tree result
+        (seen_as (both (word (symbol sym.Metric)) (word is_switch))
+        (λ t. nth 3 (Pair (symbol_leaf sym.Med) t)) words.now) }
 {
     let rest = expect(words, Symbol::Metric)?;
     let (switch, rest) = expect_switch(rest)?;
@@ -89,7 +100,9 @@ fn med_metric(words: &[Word]) -> Result<(BgpOption, &[Word]), Refusal>
 
 // By the words after `interpret`.
 fn interpret(words: &[Word]) -> Result<(BgpOption, &[Word]), Refusal>
-    ensures { Gives bgp_option_tree result (seen_as (both (word (symbol sym.Communities)) (word is_switch)) (λ t. nth 4 (Both (symbol_leaf sym.Interpret) t)) words.now) }
+    ensures { Agrees bgp_option_tree result
+        (seen_as (both (word (symbol sym.Communities)) (word is_switch))
+        (λ t. nth 4 (Pair (symbol_leaf sym.Interpret) t)) words.now) }
 {
     let rest = expect(words, Symbol::Communities)?;
     let (switch, rest) = expect_switch(rest)?;
@@ -97,19 +110,19 @@ fn interpret(words: &[Word]) -> Result<(BgpOption, &[Word]), Refusal>
 }
 
 fn transport_option(words: &[Word]) -> Result<(BgpOption, &[Word]), Refusal>
-    ensures { Gives bgp_option_tree result (seen_as (transport_at 0) (λ t. beyond 6 t) words.now) }
+    ensures { Agrees bgp_option_tree result (seen_as (transport_at 0) (λ t. beyond 6 t) words.now) }
 {
     let (option, rest) = transport(words)?;
     Ok((BgpOption::Transport(option), rest))
 }
 
 // Where no option comes next that `read` tests for.
-fn switch_option(words: &[Word], left: u32) -> Result<(BgpOption, &[Word]), Refusal>
+fn switch_option(words: &[Word], depth_left: u32) -> Result<(BgpOption, &[Word]), Refusal>
     requires family { begins is_family words.now ≡ false }
     requires local { begins (symbol sym.Local) words.now ≡ false }
     requires neighbor { begins (symbol sym.Neighbor) words.now ≡ false }
     requires default { begins (symbol sym.Default) words.now ≡ false }
-    ensures { Gives bgp_option_tree result (bgp_option_at left words.now) }
+    ensures { Agrees bgp_option_tree result (bgp_option_at depth_left words.now) }
 {
     if let Some(rest) = after(words, Symbol::Med) {
         return med_metric(rest);
@@ -127,12 +140,13 @@ fn channel_option<'a>(
     at: usize,
     family: Family,
     behind: &'a [Word],
-    left: u32,
+    depth_left: u32,
 ) -> Result<(BgpOption, &'a [Word]), Refusal<'a>>
     requires { words.now ≡ Word.Placed at (family_symbol family) ∷ behind.now }
-    ensures { Gives bgp_option_tree result (seen_as (channel_at left) (λ t. nth 0 t) words.now) }
+    ensures { Agrees bgp_option_tree result (seen_as (channel_at depth_left)
+        (λ t. nth 0 t) words.now) }
 {
-    let (channel, rest) = channel(alloc, words, at, family, behind, left)?;
+    let (channel, rest) = channel(alloc, words, at, family, behind, depth_left)?;
     Ok((BgpOption::Channel(channel), rest))
 }
 
@@ -146,10 +160,10 @@ impl ProtocolOption for BgpOption {
     fn read<'a>(
         alloc: Global,
         words: &'a [Word],
-        left: u32,
+        depth_left: u32,
     ) -> Result<(BgpOption, &'a [Word]), Refusal<'a>> {
         if let Some(((at, family), behind)) = next_family(words) {
-            return channel_option(alloc, words, at, family, behind, left);
+            return channel_option(alloc, words, at, family, behind, depth_left);
         }
         if let Some(behind) = after(words, Symbol::Local) {
             return local(behind);
@@ -158,8 +172,8 @@ impl ProtocolOption for BgpOption {
             return neighbor(behind);
         }
         match after(words, Symbol::Default) {
-            Some(behind) => default_value(words, behind, left),
-            None => switch_option(words, left),
+            Some(behind) => default_value(words, behind, depth_left),
+            None => switch_option(words, depth_left),
         }
     }
 }

@@ -1,23 +1,26 @@
-// Channels. `left` is how many more levels may be opened.
+// Channels. `depth_left` is how many more levels may be opened.
 
 ghost use Rattle.std.specs.Prelude.{◌≡◌, ◌∷◌};
 ghost use Rattle.conf_lex.specs.declared.symbol.Symbol.TheVariants as sym;
 ghost use Rattle.conf_lex.specs.declared.word.Word.{Word};
 ghost use Rattle.grammar.specs.Kind.{symbol, name};
-ghost use Rattle.grammar.specs.Grammar.{Both, First, Second};
+ghost use Rattle.grammar.specs.Grammar.{Pair, Left, Right};
 ghost use Rattle.grammar.specs.Reading.{both, word};
 ghost use Rattle.grammar.specs.Shapes.{symbol_leaf};
-ghost use Rattle.grammar.specs.Gives.{Gives};
+ghost use Rattle.grammar.specs.Agrees.{Agrees};
 ghost use Rattle.filt_syntax.specs.StatementView.{nth, beyond};
 ghost use Rattle.filt_syntax.specs.Syntax.{is_num};
 ghost use Rattle.conf_tree.specs.Syntax.{is_action, is_hop, channel_option};
 ghost use Rattle.conf_tree.specs.Options.{channel_option_is};
-ghost use Rattle.conf_tree.specs.View.{placed_leaf, family_leaf, maybe, action_tree, action_symbol, limit_tree, hop_symbol, channel_option_tree, channel_tree, family_symbol};
-ghost use Rattle.conf_tree.specs.Readers.{seen_as, policy_at, action_at, limit_value_at, channel_option_at, closed_options, channel_at};
+ghost use Rattle.conf_tree.specs.View.{placed_leaf, family_leaf, maybe, action_tree, action_symbol};
+ghost use Rattle.conf_tree.specs.View.{limit_tree, hop_symbol, channel_option_tree, channel_tree};
+ghost use Rattle.conf_tree.specs.View.{family_symbol};
+ghost use Rattle.conf_tree.specs.Readers.{seen_as, policy_at, action_at, limit_value_at};
+ghost use Rattle.conf_tree.specs.Readers.{channel_option_at, closed_options, channel_at};
 
+use crate::ast::{Action, Channel, ChannelOption, Limit, NextHop};
 use crate::options::{ProtocolOption, options};
 use crate::policy::policy;
-use crate::tree::{Action, Channel, ChannelOption, Limit, NextHop};
 use bits_ip::Family;
 use conf_lex::{Symbol, Word};
 use filt_syntax::parts::num;
@@ -25,7 +28,7 @@ use grammar::{Refusal, after, after_placed, expect, expect_name};
 use std::alloc::Global;
 
 fn expect_action(words: &[Word]) -> Result<(Action, &[Word]), Refusal>
-    ensures { Gives (λ a. symbol_leaf (action_symbol a)) result (word is_action words.now) }
+    ensures { Agrees (λ a. symbol_leaf (action_symbol a)) result (word is_action words.now) }
 {
     match words {
         [Word::Symbol(Symbol::Warn), rest @ ..] => Ok((Action::Warn, rest)),
@@ -38,7 +41,7 @@ fn expect_action(words: &[Word]) -> Result<(Action, &[Word]), Refusal>
 // An action, if one comes next.
 #[tactic(auto, unfolding(crate::specs::Readers::action_at))]
 fn optional_action(words: &[Word]) -> Result<(Option<Action>, &[Word]), Refusal>
-    ensures { Gives (maybe action_tree) result (action_at 0 words.now) }
+    ensures { Agrees (maybe action_tree) result (action_at 0 words.now) }
 {
     match after(words, Symbol::Action) {
         Some(rest) => {
@@ -52,7 +55,7 @@ fn optional_action(words: &[Word]) -> Result<(Option<Action>, &[Word]), Refusal>
 // By the words after `limit`.
 #[tactic(auto, unfolding(crate::specs::Readers::limit_value_at, crate::specs::Readers::action_at))]
 fn limit_value(words: &[Word]) -> Result<(Limit, &[Word]), Refusal>
-    ensures { Gives limit_tree result (limit_value_at 0 words.now) }
+    ensures { Agrees limit_tree result (limit_value_at 0 words.now) }
 {
     match after(words, Symbol::Off) {
         Some(rest) => Ok((Limit::Off, rest)),
@@ -66,7 +69,9 @@ fn limit_value(words: &[Word]) -> Result<(Limit, &[Word]), Refusal>
 
 // By the words after `import limit`.
 fn import_limit(words: &[Word]) -> Result<(ChannelOption, &[Word]), Refusal>
-    ensures { Gives channel_option_tree result (seen_as (limit_value_at 0) (λ t. nth 1 (Both (symbol_leaf sym.Import) (First (Both (symbol_leaf sym.Limit) t)))) words.now) }
+    ensures { Agrees channel_option_tree result
+        (seen_as (limit_value_at 0) (λ t. nth 1 (Pair (symbol_leaf sym.Import)
+        (Left (Pair (symbol_leaf sym.Limit) t)))) words.now) }
 {
     let (limit, rest) = limit_value(words)?;
     Ok((ChannelOption::ImportLimit(limit), rest))
@@ -76,11 +81,13 @@ fn import_limit(words: &[Word]) -> Result<(ChannelOption, &[Word]), Refusal>
 fn import_policy<'a>(
     alloc: Global,
     words: &'a [Word],
-    left: u32,
+    depth_left: u32,
 ) -> Result<(ChannelOption, &'a [Word]), Refusal<'a>>
-    ensures { Gives channel_option_tree result (seen_as (policy_at left) (λ t. nth 1 (Both (symbol_leaf sym.Import) (Second t))) words.now) }
+    ensures { Agrees channel_option_tree result
+        (seen_as (policy_at depth_left)
+        (λ t. nth 1 (Pair (symbol_leaf sym.Import) (Right t))) words.now) }
 {
-    let (policy, rest) = policy(alloc, words, left)?;
+    let (policy, rest) = policy(alloc, words, depth_left)?;
     Ok((ChannelOption::Import(policy), rest))
 }
 
@@ -89,19 +96,19 @@ fn import_option<'a>(
     alloc: Global,
     words: &'a [Word],
     behind: &'a [Word],
-    left: u32,
+    depth_left: u32,
 ) -> Result<(ChannelOption, &'a [Word]), Refusal<'a>>
     requires { words.now ≡ Word.Symbol sym.Import ∷ behind.now }
-    ensures { Gives channel_option_tree result (channel_option_at left words.now) }
+    ensures { Agrees channel_option_tree result (channel_option_at depth_left words.now) }
 {
     match after(behind, Symbol::Limit) {
         Some(rest) => import_limit(rest),
-        None => import_policy(alloc, behind, left),
+        None => import_policy(alloc, behind, depth_left),
     }
 }
 
 fn expect_hop(words: &[Word]) -> Result<(NextHop, &[Word]), Refusal>
-    ensures { Gives (λ h. symbol_leaf (hop_symbol h)) result (word is_hop words.now) }
+    ensures { Agrees (λ h. symbol_leaf (hop_symbol h)) result (word is_hop words.now) }
 {
     match words {
         [Word::Symbol(Symbol::SelfWord), rest @ ..] => Ok((NextHop::Own, rest)),
@@ -111,7 +118,9 @@ fn expect_hop(words: &[Word]) -> Result<(NextHop, &[Word]), Refusal>
 }
 
 fn next_hop(words: &[Word]) -> Result<(ChannelOption, &[Word]), Refusal>
-    ensures { Gives channel_option_tree result (seen_as (both (word (symbol sym.Next)) (both (word (symbol sym.Hop)) (word is_hop))) (λ t. beyond 4 t) words.now) }
+    ensures { Agrees channel_option_tree result
+        (seen_as (both (word (symbol sym.Next)) (both (word (symbol sym.Hop)) (word is_hop)))
+        (λ t. beyond 4 t) words.now) }
 {
     let rest = expect(words, Symbol::Next)?;
     let rest = expect(rest, Symbol::Hop)?;
@@ -121,7 +130,8 @@ fn next_hop(words: &[Word]) -> Result<(ChannelOption, &[Word]), Refusal>
 
 // By the words after `table`.
 fn table_option(words: &[Word]) -> Result<(ChannelOption, &[Word]), Refusal>
-    ensures { Gives channel_option_tree result (seen_as (word name) (λ t. nth 0 (Both (symbol_leaf sym.Table) t)) words.now) }
+    ensures { Agrees channel_option_tree result
+        (seen_as (word name) (λ t. nth 0 (Pair (symbol_leaf sym.Table) t)) words.now) }
 {
     let (name, rest) = expect_name(words)?;
     Ok((ChannelOption::Table(name), rest))
@@ -131,17 +141,19 @@ fn table_option(words: &[Word]) -> Result<(ChannelOption, &[Word]), Refusal>
 fn export_option<'a>(
     alloc: Global,
     words: &'a [Word],
-    left: u32,
+    depth_left: u32,
 ) -> Result<(ChannelOption, &'a [Word]), Refusal<'a>>
-    ensures { Gives channel_option_tree result (seen_as (policy_at left) (λ t. nth 2 (Both (symbol_leaf sym.Export) t)) words.now) }
+    ensures { Agrees channel_option_tree result
+        (seen_as (policy_at depth_left) (λ t. nth 2 (Pair (symbol_leaf sym.Export) t)) words.now) }
 {
-    let (policy, rest) = policy(alloc, words, left)?;
+    let (policy, rest) = policy(alloc, words, depth_left)?;
     Ok((ChannelOption::Export(policy), rest))
 }
 
 // By the words after `preference`, whose place is told.
 fn preference(at: usize, words: &[Word]) -> Result<(ChannelOption, &[Word]), Refusal>
-    ensures { Gives channel_option_tree result (seen_as (word is_num) (λ t. nth 3 (Both (placed_leaf at sym.Preference) t)) words.now) }
+    ensures { Agrees channel_option_tree result
+        (seen_as (word is_num) (λ t. nth 3 (Pair (placed_leaf at sym.Preference) t)) words.now) }
 {
     let (value, rest) = num(words)?;
     Ok((ChannelOption::Preference { at, value }, rest))
@@ -157,16 +169,16 @@ impl ProtocolOption for ChannelOption {
     fn read<'a>(
         alloc: Global,
         words: &'a [Word],
-        left: u32,
+        depth_left: u32,
     ) -> Result<(ChannelOption, &'a [Word]), Refusal<'a>> {
         if let Some(rest) = after(words, Symbol::Table) {
             return table_option(rest);
         }
         if let Some(behind) = after(words, Symbol::Import) {
-            return import_option(alloc, words, behind, left);
+            return import_option(alloc, words, behind, depth_left);
         }
         if let Some(rest) = after(words, Symbol::Export) {
-            return export_option(alloc, rest, left);
+            return export_option(alloc, rest, depth_left);
         }
         match after_placed(words, Symbol::Preference) {
             Some((at, rest)) => preference(at, rest),
@@ -181,11 +193,13 @@ fn braced_channel<'a>(
     at: usize,
     family: Family,
     words: &'a [Word],
-    left: u32,
+    depth_left: u32,
 ) -> Result<(Channel, &'a [Word]), Refusal<'a>>
-    ensures { Gives channel_tree result (seen_as (closed_options channel_option left) (λ t. Both (family_leaf at family) (First (Both (symbol_leaf sym.OpenBrace) t))) words.now) }
+    ensures { Agrees channel_tree result
+        (seen_as (closed_options channel_option depth_left) (λ t. Pair (family_leaf at family)
+        (Left (Pair (symbol_leaf sym.OpenBrace) t))) words.now) }
 {
-    let (options, rest) = options(alloc, words, left)?;
+    let (options, rest) = options(alloc, words, depth_left)?;
     let channel = Channel {
         at,
         family,
@@ -201,13 +215,13 @@ pub fn channel<'a>(
     at: usize,
     family: Family,
     behind: &'a [Word],
-    left: u32,
+    depth_left: u32,
 ) -> Result<(Channel, &'a [Word]), Refusal<'a>>
     requires { words.now ≡ Word.Placed at (family_symbol family) ∷ behind.now }
-    ensures { Gives channel_tree result (channel_at left words.now) }
+    ensures { Agrees channel_tree result (channel_at depth_left words.now) }
 {
     match after(behind, Symbol::OpenBrace) {
-        Some(inside) => braced_channel(alloc, at, family, inside, left),
+        Some(inside) => braced_channel(alloc, at, family, inside, depth_left),
         None => {
             let options = None;
             Ok((

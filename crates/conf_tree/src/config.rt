@@ -1,27 +1,28 @@
 // The statements of a configuration.
 
-ghost use Rattle.grammar.specs.Gives.{Gives};
+ghost use Rattle.grammar.specs.Agrees.{Agrees};
 ghost use Rattle.conf_tree.specs.View.{statements_tree};
 ghost use Rattle.conf_tree.specs.Readers.{whole_at};
 
+use crate::ast::Statement;
 use crate::statement::statement;
-use crate::tree::Statement;
 use conf_lex::Word;
 use grammar::Refusal;
 use std::alloc::Global;
 
-/// The statements to the end of the words; `left` is how many levels may be opened in a block or an expression.
+/// The statements to the end of the words; `depth_left` is how many levels may be opened in a block
+/// or an expression.
 pub fn config<'a>(
     alloc: Global,
     words: &'a [Word],
-    left: u32,
+    depth_left: u32,
 ) -> Result<(Vec<Statement>, &'a [Word]), Refusal<'a>>
-    ensures { Gives (λ found. statements_tree found.items) result (whole_at left words.now) }
+    ensures { Agrees (λ found. statements_tree found.items) result (whole_at depth_left words.now) }
 {
     let mut statements = Vec::new(alloc);
     let mut rest = words;
     while !rest.is_empty() {
-        let (statement, end) = statement(alloc, rest, left)?;
+        let (statement, end) = statement(alloc, rest, depth_left)?;
         statements.push(statement)?;
         rest = end;
     }

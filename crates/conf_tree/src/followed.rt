@@ -21,7 +21,6 @@ impl Sentences for Configurations {
             Err(Refusal::Memory) => Err(OutOfMemory),
             Err(Refusal::Bad(rest)) => Ok(rest.is_empty()),
             Err(Refusal::TooDeep(_)) => Ok(true),
-            Err(Refusal::Unsupported(_)) => Ok(true),
         }
     }
 }

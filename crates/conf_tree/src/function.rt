@@ -1,22 +1,25 @@
-// Functions. `left` is how many more levels may be opened.
+// Functions. `depth_left` is how many more levels may be opened.
 
-ghost use Rattle.std.specs.Prelude.{◌≡◌, ◌∷◌, false, MatchOption, IfOk};
+ghost use Rattle.std.specs.Prelude.{◌≡◌, IfOk};
 ghost use Rattle.conf_lex.specs.declared.symbol.Symbol.TheVariants as sym;
 ghost use Rattle.conf_lex.specs.declared.word.Word.{Word};
-ghost use Rattle.grammar.specs.Grammar.{Both, begins};
+ghost use Rattle.grammar.specs.Grammar.{Pair};
 ghost use Rattle.grammar.specs.Reading.{both, word};
 ghost use Rattle.grammar.specs.Kind.{symbol, name};
 ghost use Rattle.grammar.specs.Shapes.{symbol_leaf};
-ghost use Rattle.grammar.specs.Gives.{Gives};
+ghost use Rattle.grammar.specs.Agrees.{Agrees};
+ghost use Rattle.filt_syntax.specs.Finds.{Finds};
 ghost use Rattle.filt_syntax.specs.StatementView.{nth};
 ghost use Rattle.conf_tree.specs.Syntax.{is_separator};
-ghost use Rattle.conf_tree.specs.View.{maybe, parameter_tree, parameters_tree, separator_symbol, gives_tree, statement_tree};
-ghost use Rattle.conf_tree.specs.Readers.{parameter_at, some_parameters_at, parameters_at, gives_at, signature_at, seen_as};
+ghost use Rattle.conf_tree.specs.View.{maybe, parameter_tree, parameters_tree, separator_symbol};
+ghost use Rattle.conf_tree.specs.View.{gives_tree, statement_tree};
+ghost use Rattle.conf_tree.specs.Readers.{parameter_at, some_parameters_at, parameters_at};
+ghost use Rattle.conf_tree.specs.Readers.{gives_at, signature_at, seen_as};
 
-use crate::tree::Statement;
+use crate::ast::Statement;
 use conf_lex::{Symbol, Word};
+use filt_syntax::ast::{Function, Parameter, Separator, VariableType};
 use filt_syntax::parts::{variable_type, whole_block};
-use filt_syntax::{Function, Parameter, Separator, VariableType};
 use grammar::{Refusal, after, expect, expect_name, expect_placed};
 use std::alloc::Global;
 
@@ -25,7 +28,7 @@ fn parameter<'a>(
     separator: Option<Separator>,
     words: &'a [Word],
 ) -> Result<(Parameter, &'a [Word]), Refusal<'a>>
-    ensures tree { Gives parameter_tree result (parameter_at 0 words.now) }
+    ensures tree { Agrees parameter_tree result (parameter_at 0 words.now) }
     ensures separator { IfOk result (λ found. found.0.separator ≡ separator) }
 {
     let (variable_type, rest) = variable_type(words)?;
@@ -39,7 +42,7 @@ fn parameter<'a>(
 }
 
 fn next_separator(words: &[Word]) -> Option<(Separator, &[Word])>
-    ensures { MatchOption result (begins is_separator words.now ≡ false) (λ found. words.now ≡ Word.Symbol (separator_symbol found.0) ∷ found.1.now) }
+    ensures { Finds is_separator (λ s. Word.Symbol (separator_symbol s)) result words.now }
 {
     if let Some(rest) = after(words, Symbol::Semicolon) {
         return Some((Separator::Semicolon, rest));
@@ -55,7 +58,7 @@ fn some_parameters<'a>(
     alloc: Global,
     words: &'a [Word],
 ) -> Result<(Vec<Parameter>, &'a [Word]), Refusal<'a>>
-    ensures { Gives (λ v. parameters_tree v.items) result (some_parameters_at 0 words.now) }
+    ensures { Agrees (λ v. parameters_tree v.items) result (some_parameters_at 0 words.now) }
 {
     let mut parameters = Vec::new(alloc);
     let (first, mut rest) = parameter(None, words)?;
@@ -73,7 +76,8 @@ fn parameters<'a>(
     alloc: Global,
     words: &'a [Word],
 ) -> Result<(Vec<Parameter>, &'a [Word]), Refusal<'a>>
-    ensures { Gives (λ v. Both (parameters_tree v.items) (symbol_leaf sym.CloseParenthesis)) result (both (parameters_at 0) (word (symbol sym.CloseParenthesis)) words.now) }
+    ensures { Agrees (λ v. Pair (parameters_tree v.items) (symbol_leaf sym.CloseParenthesis)) result
+        (both (parameters_at 0) (word (symbol sym.CloseParenthesis)) words.now) }
 {
     match after(words, Symbol::CloseParenthesis) {
         Some(rest) => Ok((Vec::new(alloc), rest)),
@@ -88,7 +92,7 @@ fn parameters<'a>(
 // The type of what a function gives, if one comes next.
 #[tactic(auto, unfolding(crate::specs::Readers::gives_at, filt_syntax::specs::StatementReaders::vtype_at))]
 fn optional_type(words: &[Word]) -> Result<(Option<VariableType>, &[Word]), Refusal>
-    ensures { Gives (maybe gives_tree) result (gives_at 0 words.now) }
+    ensures { Agrees (maybe gives_tree) result (gives_at 0 words.now) }
 {
     match after(words, Symbol::Arrow) {
         Some(rest) => {
@@ -103,15 +107,18 @@ fn optional_type(words: &[Word]) -> Result<(Option<VariableType>, &[Word]), Refu
 pub fn function<'a>(
     alloc: Global,
     words: &'a [Word],
-    left: u32,
+    depth_left: u32,
 ) -> Result<(Statement, &'a [Word]), Refusal<'a>>
-    ensures { Gives statement_tree result (seen_as (both (word name) (both (word (symbol sym.OpenParenthesis)) (signature_at left))) (λ t. nth 4 (Both (symbol_leaf sym.Function) t)) words.now) }
+    ensures { Agrees statement_tree result
+        (seen_as (both (word name) (both (word (symbol sym.OpenParenthesis))
+        (signature_at depth_left)))
+        (λ t. nth 4 (Pair (symbol_leaf sym.Function) t)) words.now) }
 {
     let (name, rest) = expect_name(words)?;
     let (open, rest) = expect_placed(rest, Symbol::OpenParenthesis)?;
     let (parameters, rest) = parameters(alloc, rest)?;
     let (gives, rest) = optional_type(rest)?;
-    let (block, rest) = whole_block(alloc, rest, left)?;
+    let (block, rest) = whole_block(alloc, rest, depth_left)?;
     let function = Function {
         name,
         open,

@@ -50,7 +50,8 @@ pub enum ConfKind {
 /// Why a text gives no configuration.
 #[derive(Clone, Copy, Debug, PartialEq, Eq, Drop, Error)]
 pub enum ConfFault {
-    /// `at` is the byte at which the refused token begins: the text's length, where its end is refused.
+    /// `at` is the byte at which the refused token begins: the text's length, where its end is
+    /// refused.
     #[error("refused at byte {at}: {kind}")]
     Refused { at: usize, kind: ConfKind },
     #[error("out of memory")]

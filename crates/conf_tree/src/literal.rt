@@ -1,12 +1,12 @@
-// Literals. `left` is how many more levels may be opened.
+// Literals. `depth_left` is how many more levels may be opened.
 
 ghost use Rattle.std.specs.Prelude.{◌≡◌, [], ◌∷◌, false, MatchOption};
 ghost use Rattle.conf_lex.specs.declared.symbol.Symbol.TheVariants as sym;
 ghost use Rattle.conf_lex.specs.declared.word.Word.{Word};
 ghost use Rattle.grammar.specs.Kind.{symbol};
-ghost use Rattle.grammar.specs.Grammar.{Both, begins};
-ghost use Rattle.grammar.specs.Reading.{Got, both, word};
-ghost use Rattle.grammar.specs.Gives.{Gives};
+ghost use Rattle.grammar.specs.Grammar.{Pair, begins};
+ghost use Rattle.grammar.specs.Reading.{Parsed, both, word};
+ghost use Rattle.grammar.specs.Agrees.{Agrees};
 ghost use Rattle.filt_syntax.specs.Syntax.{is_num};
 ghost use Rattle.filt_syntax.specs.ItemReaders.{mask_items_at};
 ghost use Rattle.filt_syntax.specs.StatementView.{nth, beyond};
@@ -14,7 +14,7 @@ ghost use Rattle.conf_tree.specs.Syntax.{is_value};
 ghost use Rattle.conf_tree.specs.View.{placed_leaf, literal_tree, value_tree};
 ghost use Rattle.conf_tree.specs.Readers.{seen_as, literal_at};
 
-use crate::tree::{Address, Literal, Quoted};
+use crate::ast::{Address, Literal, StringLiteral};
 use conf_lex::{Symbol, Word};
 use filt_syntax::parts::{items, mask_items, num};
 use grammar::{Name, Refusal, after_placed, expect, level_below, next};
@@ -22,12 +22,16 @@ use std::alloc::Global;
 
 // What a word is alone.
 fn value(word: Word) -> Option<Literal>
-    ensures { MatchOption result (begins is_value (word ∷ []) ≡ false) (λ v. literal_tree v ≡ value_tree word) }
+    ensures { MatchOption result (begins is_value (word ∷ []) ≡ false)
+        (λ v. literal_tree v ≡ value_tree word) }
 {
     match word {
         Word::Number { at, value } => Some(Literal::Number { at, value }),
-        Word::Text { at, start, len } => Some(Literal::Text(Quoted { at, start, len })),
-        Word::Ip { at, addr } => Some(Literal::Ip(Address { at, addr })),
+        Word::Text { at, start, len } => Some(Literal::Text(StringLiteral { at, start, len })),
+        Word::Ip { at, addr } => Some(Literal::Ip(Address {
+            at,
+            addr: addr.addr(),
+        })),
         Word::Prefix { at, net } => Some(Literal::Prefix { at, net }),
         Word::Name { at, start, len } => Some(Literal::Name(Name { at, start, len })),
         Word::Placed { at, symbol } => truth(at, symbol),
@@ -36,7 +40,8 @@ fn value(word: Word) -> Option<Literal>
 }
 
 fn truth(at: usize, symbol: Symbol) -> Option<Literal>
-    ensures { MatchOption result (begins is_value (Word.Placed at symbol ∷ []) ≡ false) (λ v. literal_tree v ≡ value_tree (Word.Placed at symbol)) }
+    ensures { MatchOption result (begins is_value (Word.Placed at symbol ∷ []) ≡ false)
+        (λ v. literal_tree v ≡ value_tree (Word.Placed at symbol)) }
 {
     match symbol {
         Symbol::True => Some(Literal::True { at }),
@@ -46,7 +51,8 @@ fn truth(at: usize, symbol: Symbol) -> Option<Literal>
 }
 
 fn next_value(words: &[Word]) -> Option<(Literal, &[Word])>
-    ensures { MatchOption result (begins is_value words.now ≡ false) (λ found. literal_at 0 words.now ≡ Got (literal_tree found.0) found.1.now) }
+    ensures { MatchOption result (begins is_value words.now ≡ false)
+        (λ found. literal_at 0 words.now ≡ Parsed (literal_tree found.0) found.1.now) }
 {
     match next(words) {
         Some((word, rest)) => match value(word) {
@@ -59,10 +65,10 @@ fn next_value(words: &[Word]) -> Option<(Literal, &[Word])>
 
 // By the words after `(`, whose place is told.
 fn pair(at: usize, words: &[Word]) -> Result<(Literal, &[Word]), Refusal>
-    ensures { Gives literal_tree result (seen_as
+    ensures { Agrees literal_tree result (seen_as
         (both (word is_num) (both (word (symbol sym.Comma))
         (both (word is_num) (word (symbol sym.CloseParenthesis)))))
-        (λ t. nth 1 (Both (placed_leaf at sym.OpenParenthesis) t)) words.now) }
+        (λ t. nth 1 (Pair (placed_leaf at sym.OpenParenthesis) t)) words.now) }
 {
     let (first, rest) = num(words)?;
     let rest = expect(rest, Symbol::Comma)?;
@@ -77,12 +83,12 @@ fn set<'a>(
     words: &'a [Word],
     at: usize,
     behind: &'a [Word],
-    left: u32,
+    depth_left: u32,
 ) -> Result<(Literal, &'a [Word]), Refusal<'a>>
     requires { words.now ≡ Word.Placed at sym.OpenBracket ∷ behind.now }
-    ensures { Gives literal_tree result (literal_at left words.now) }
+    ensures { Agrees literal_tree result (literal_at depth_left words.now) }
 {
-    let below = level_below(words, left)?;
+    let below = level_below(words, depth_left)?;
     let (items, rest) = items(alloc, behind, below)?;
     let rest = expect(rest, Symbol::CloseBracket)?;
     Ok((Literal::Set { at, items }, rest))
@@ -94,7 +100,9 @@ fn mask<'a>(
     at: usize,
     words: &'a [Word],
 ) -> Result<(Literal, &'a [Word]), Refusal<'a>>
-    ensures { Gives literal_tree result (seen_as (both (seen_as (mask_items_at 0) (λ t. Both (placed_leaf at sym.OpenMask) t)) (word (symbol sym.CloseMask))) (λ t. beyond 3 t) words.now) }
+    ensures { Agrees literal_tree result
+        (seen_as (both (seen_as (mask_items_at 0) (λ t. Pair (placed_leaf at sym.OpenMask) t))
+        (word (symbol sym.CloseMask))) (λ t. beyond 3 t) words.now) }
 {
     let (items, rest) = mask_items(alloc, words)?;
     let rest = expect(rest, Symbol::CloseMask)?;
@@ -105,9 +113,9 @@ fn mask<'a>(
 pub fn literal<'a>(
     alloc: Global,
     words: &'a [Word],
-    left: u32,
+    depth_left: u32,
 ) -> Result<(Literal, &'a [Word]), Refusal<'a>>
-    ensures { Gives literal_tree result (literal_at left words.now) }
+    ensures { Agrees literal_tree result (literal_at depth_left words.now) }
 {
     if let Some((value, rest)) = next_value(words) {
         return Ok((value, rest));
@@ -116,7 +124,7 @@ pub fn literal<'a>(
         return pair(at, behind);
     }
     if let Some((at, behind)) = after_placed(words, Symbol::OpenBracket) {
-        return set(alloc, words, at, behind, left);
+        return set(alloc, words, at, behind, depth_left);
     }
     match after_placed(words, Symbol::OpenMask) {
         Some((at, behind)) => mask(alloc, at, behind),

@@ -1,11 +1,12 @@
 // What stands between the braces of a protocol or a channel.
 
 ghost use Rattle.conf_lex.specs.declared.symbol.Symbol.TheVariants as sym;
-ghost use Rattle.grammar.specs.Grammar.{Form, Tree, Both};
+ghost use Rattle.grammar.specs.Grammar.{ParseTree, Pair};
 ghost use Rattle.grammar.specs.Reading.{read};
 ghost use Rattle.grammar.specs.Shapes.{symbol_leaf};
-ghost use Rattle.grammar.specs.Gives.{Gives};
+ghost use Rattle.grammar.specs.Agrees.{Agrees};
 ghost use Rattle.filt_syntax.specs.Syntax.{rule};
+ghost use Rattle.filt_syntax.specs.Levels.{Form};
 ghost use Rattle.conf_tree.specs.View.{ended_row};
 ghost use Rattle.conf_tree.specs.Readers.{closed_options};
 ghost use Rattle.conf_tree.specs.Options.{IsOption};
@@ -17,18 +18,19 @@ use std::alloc::Global;
 /// An option of a protocol or a channel.
 pub trait ProtocolOption: Drop {
     /// The tree of an option.
-    ghost tree: { Self → Tree };
+    ghost tree: { Self → ParseTree };
 
     /// The form of options in the grammar.
     ghost form: { Form };
 
-    /// The option that comes next, and the words after it; `left` is how many more levels may be opened.
+    /// The option that comes next, and the words after it; `depth_left` is how many more levels may
+    /// be opened.
     fn read<'a>(
         alloc: Global,
         words: &'a [Word],
-        left: u32,
+        depth_left: u32,
     ) -> Result<(Self, &'a [Word]), Refusal<'a>>
-        ensures { Gives tree result (read rule left form words.now) };
+        ensures { Agrees tree result (read rule depth_left form words.now) };
 
     /// A closing brace begins no option, and the form passes the grammar's test.
     ghost is_option: { IsOption form };
@@ -38,9 +40,10 @@ pub trait ProtocolOption: Drop {
 pub fn options<'a, O: ProtocolOption>(
     alloc: Global,
     words: &'a [Word],
-    left: u32,
+    depth_left: u32,
 ) -> Result<(Vec<O>, &'a [Word]), Refusal<'a>>
-    ensures { Gives (λ v. Both (ended_row O.tree v.items) (symbol_leaf sym.CloseBrace)) result (closed_options O.form left words.now) }
+    ensures { Agrees (λ v. Pair (ended_row O.tree v.items) (symbol_leaf sym.CloseBrace)) result
+        (closed_options O.form depth_left words.now) }
 {
     let mut options = Vec::new(alloc);
     let mut rest = words;
@@ -48,7 +51,7 @@ pub fn options<'a, O: ProtocolOption>(
         if let Some(end) = after(rest, Symbol::CloseBrace) {
             return Ok((options, end));
         }
-        let (option, end) = O::read(alloc, rest, left)?;
+        let (option, end) = O::read(alloc, rest, depth_left)?;
         options.push(option)?;
         rest = expect(end, Symbol::Semicolon)?;
     }

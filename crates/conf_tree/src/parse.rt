@@ -5,20 +5,21 @@ ghost use Rattle.std.specs.Prelude.{IsTrue, IsSomeAnd, MatchOption, IfOk, IfErr,
 ghost use Rattle.conf_lex.specs.declared.symbol.Symbol.TheVariants as sym;
 ghost use Rattle.conf_lex.specs.Lex.{Lexes};
 ghost use Rattle.conf_lex.specs.Words.{slice_of};
-ghost use Rattle.grammar.specs.Grammar.{Tree, begins};
+ghost use Rattle.grammar.specs.Grammar.{ParseTree, begins};
 ghost use Rattle.grammar.specs.Kind.{symbol};
 ghost use Rattle.grammar.specs.Sentences.{IsBegunWithin, IsTooDeep};
 ghost use Rattle.filt_syntax.specs.Syntax.{rule};
 ghost use Rattle.conf_tree.specs.Syntax.{config};
 ghost use Rattle.filt_syntax.specs.declared.parse.SyntaxFault.{SyntaxFault};
-ghost use Rattle.conf_tree.specs.Said.{said_words, said_starts};
-ghost use Rattle.conf_tree.specs.Sentence.{first_bytes, word_bytes, IsUnsupported, Refuses, IsSentence, IsStop, IsRefused, IsTree, IsAnswered};
+ghost use Rattle.conf_tree.specs.Significant.{significant_words, significant_starts};
+ghost use Rattle.conf_tree.specs.Sentence.{first_bytes, word_bytes, IsUnsupported, Refuses};
+ghost use Rattle.conf_tree.specs.Sentence.{IsSentence, IsStop, IsRefused, IsTree, IsAnswered};
 ghost use Rattle.conf_tree.specs.View.{config_view};
 
+use crate::ast::Config;
 use crate::config::config;
 use crate::followed::Configurations;
-use crate::said::said_words;
-use crate::tree::Config;
+use crate::significant::significant_words;
 use crate::unsupported::is_unsupported;
 use bits_ip::OutOfMemory;
 use conf_lex::laws::tokens_are_slices;
@@ -31,7 +32,8 @@ use std::alloc::Global;
 // The bytes of a token that is a word without quotes.
 fn bytes_of<'a>(text: &'a [u8], tokens: &[Token], at: usize) -> Option<&'a [u8]>
     requires { Lexes 0 text.now tokens.now }
-    ensures { MatchOption result (first_bytes text.now (drop at tokens.now) ≡ None) (λ word. first_bytes text.now (drop at tokens.now) ≡ Some word.now) }
+    ensures { MatchOption result (first_bytes text.now (drop at tokens.now) ≡ None)
+        (λ word. first_bytes text.now (drop at tokens.now) ≡ Some word.now) }
 {
     tokens_are_slices();
     match tokens.get(at) {
@@ -77,19 +79,19 @@ fn is_known(
     alloc: Global,
     text: &[u8],
     tokens: &[Token],
-    said: &[Word],
+    significant: &[Word],
     place: usize,
     at: usize,
 ) -> Result<bool, OutOfMemory>
     requires lexed { Lexes 0 text.now tokens.now }
-    requires within { place ≤ length said.now }
-    requires begun { IsBegunWithin rule 64 config (take place said.now) }
+    requires within { place ≤ length significant.now }
+    requires begun { IsBegunWithin rule 64 config (take place significant.now) }
     ensures { IfOk result (λ known. IsTrue known
-        ↔ IsSomeAnd (word_bytes (drop place said.now) text.now (drop at tokens.now))
-        (IsUnsupported (take place said.now))) }
+        ↔ IsSomeAnd (word_bytes (drop place significant.now) text.now (drop at tokens.now))
+        (IsUnsupported (take place significant.now))) }
 {
-    match word_bytes(text, tokens, words_from(said, place), at) {
-        Some(word) => is_unsupported(alloc, &said[..place], word),
+    match word_bytes(text, tokens, words_from(significant, place), at) {
+        Some(word) => is_unsupported(alloc, &significant[..place], word),
         None => Ok(false),
     }
 }
@@ -99,46 +101,53 @@ fn refusal(
     alloc: Global,
     text: &[u8],
     tokens: &[Token],
-    said: &[Word],
+    significant: &[Word],
     place: usize,
     at: usize,
 ) -> SyntaxFault
     requires lexed { Lexes 0 text.now tokens.now }
-    requires within { place ≤ length said.now }
-    requires begun { IsBegunWithin rule 64 config (take place said.now) }
+    requires within { place ≤ length significant.now }
+    requires begun { IsBegunWithin rule 64 config (take place significant.now) }
     requires start { at ≤ length tokens.now }
-    ensures { Refuses (IsSomeAnd (word_bytes (drop place said.now) text.now (drop at tokens.now))
-        (IsUnsupported (take place said.now))) said.now place at result }
+    ensures { Refuses (IsSomeAnd (word_bytes (drop place significant.now) text.now
+        (drop at tokens.now))
+        (IsUnsupported (take place significant.now))) significant.now place at result }
 {
-    match is_known(alloc, text, tokens, said, place, at) {
+    match is_known(alloc, text, tokens, significant, place, at) {
         Ok(true) => SyntaxFault::Unsupported { at },
-        Ok(false) => bad_from::<Configurations>(alloc, said, place, at),
+        Ok(false) => bad_from::<Configurations>(alloc, significant, place, at),
         Err(OutOfMemory) => SyntaxFault::Memory,
     }
 }
 
 // The refusal of words of which the rest begins with one that can't stand there.
-fn stopped(alloc: Global, text: &[u8], tokens: &[Token], said: &Words, rest: &[Word]) -> SyntaxFault
+fn stopped(
+    alloc: Global,
+    text: &[u8],
+    tokens: &[Token],
+    significant: &Words,
+    rest: &[Word],
+) -> SyntaxFault
     requires lexed { Lexes 0 text.now tokens.now }
-    requires words { said.now.words.items ≡ said_words text.now tokens.now }
-    requires starts { said.now.starts.items ≡ said_starts text.now tokens.now }
-    requires stops { IsStop said.now.words.items rest.now }
+    requires words { significant.now.words.items ≡ significant_words text.now tokens.now }
+    requires starts { significant.now.starts.items ≡ significant_starts text.now tokens.now }
+    requires stops { IsStop significant.now.words.items rest.now }
     ensures { IsRefused text.now tokens.now result }
 {
-    let place = place_in(&said.words, rest);
-    let at = said.token_at(place, tokens.len());
-    refusal(alloc, text, tokens, &said.words, place, at)
+    let place = place_in(&significant.words, rest);
+    let at = significant.token_at(place, tokens.len());
+    refusal(alloc, text, tokens, &significant.words, place, at)
 }
 
 // The refusal of words of which the rest begins with one that opens too many levels.
-fn deepened(text: &[u8], tokens: &[Token], said: &Words, rest: &[Word]) -> SyntaxFault
-    requires words { said.now.words.items ≡ said_words text.now tokens.now }
-    requires starts { said.now.starts.items ≡ said_starts text.now tokens.now }
-    requires deep { IsTooDeep rule 64 config said.now.words.items rest.now }
+fn deepened(text: &[u8], tokens: &[Token], significant: &Words, rest: &[Word]) -> SyntaxFault
+    requires words { significant.now.words.items ≡ significant_words text.now tokens.now }
+    requires starts { significant.now.starts.items ≡ significant_starts text.now tokens.now }
+    requires deep { IsTooDeep rule 64 config significant.now.words.items rest.now }
     ensures { IsRefused text.now tokens.now result }
 {
-    let place = place_in(&said.words, rest);
-    let at = said.token_at(place, tokens.len());
+    let place = place_in(&significant.words, rest);
+    let at = significant.token_at(place, tokens.len());
     SyntaxFault::TooDeep { at }
 }
 
@@ -147,26 +156,26 @@ fn answer<'a>(
     alloc: Global,
     text: &'a [u8],
     tokens: &[Token],
-    said: &Words,
+    significant: &Words,
 ) -> Result<Config<'a>, SyntaxFault>
     requires lexed { Lexes 0 text.now tokens.now }
-    requires words { said.now.words.items ≡ said_words text.now tokens.now }
-    requires starts { said.now.starts.items ≡ said_starts text.now tokens.now }
+    requires words { significant.now.words.items ≡ significant_words text.now tokens.now }
+    requires starts { significant.now.starts.items ≡ significant_starts text.now tokens.now }
     ensures text { IfOk result (λ config. config.text.now ≡ text.now) }
-    ensures tree { IfOk result (λ config. IsSentence (said_words text.now tokens.now) (config_view config)) }
+    ensures tree { IfOk result
+        (λ config. IsSentence (significant_words text.now tokens.now) (config_view config)) }
     ensures fault { IfErr result (IsRefused text.now tokens.now) }
 {
-    match config(alloc, &said.words, LEVELS) {
+    match config(alloc, &significant.words, LEVELS) {
         Ok((statements, _)) => Ok(Config { text, statements }),
         Err(Refusal::Memory) => Err(SyntaxFault::Memory),
-        Err(Refusal::Bad(rest)) => Err(stopped(alloc, text, tokens, said, rest)),
-        Err(Refusal::TooDeep(rest)) => Err(deepened(text, tokens, said, rest)),
-        // No form of the grammar has unsupported words of its own.
-        Err(Refusal::Unsupported(rest)) => Err(stopped(alloc, text, tokens, said, rest)),
+        Err(Refusal::Bad(rest)) => Err(stopped(alloc, text, tokens, significant, rest)),
+        Err(Refusal::TooDeep(rest)) => Err(deepened(text, tokens, significant, rest)),
     }
 }
 
-/// The configuration of a text (BIRD User's Guide, "Configuration"). `tokens` are those that `lex` gives for the text.
+/// The configuration of a text (BIRD User's Guide, "Configuration"). `tokens` are those that `lex`
+/// gives for the text.
 ///
 /// Places are those of tokens, and the number of the tokens where more of them would be wanted.
 /// Refused is the first token that no configuration can have there.
@@ -177,14 +186,16 @@ pub fn parse_config<'a>(
 ) -> Result<Config<'a>, SyntaxFault>
     requires { Lexes 0 text.now tokens.now }
     ensures text { IfOk result (λ config. config.text.now ≡ text.now) }
-    ensures tree { IfOk result (λ config. IsSentence (said_words text.now tokens.now) (config_view config)) }
+    ensures tree { IfOk result
+        (λ config. IsSentence (significant_words text.now tokens.now) (config_view config)) }
     ensures fault { IfErr result (IsRefused text.now tokens.now) }
-    ensures only { (t : Tree) → IsSentence (said_words text.now tokens.now) t → IsTree result t }
+    ensures only { (t : ParseTree) → IsSentence (significant_words text.now tokens.now) t
+        → IsTree result t }
     ensures exact { (e : SyntaxFault) → IsRefused text.now tokens.now e → IsAnswered result e }
 {
-    let said = match said_words(alloc, text, tokens) {
-        Ok(said) => said,
+    let significant = match significant_words(alloc, text, tokens) {
+        Ok(significant) => significant,
         Err(OutOfMemory) => return Err(SyntaxFault::Memory),
     };
-    answer(alloc, text, tokens, &said)
+    answer(alloc, text, tokens, &significant)
 }

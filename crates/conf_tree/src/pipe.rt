@@ -1,27 +1,28 @@
-// The options of pipes. `left` is how many more levels may be opened.
+// The options of pipes. `depth_left` is how many more levels may be opened.
 
 ghost use Rattle.conf_lex.specs.declared.symbol.Symbol.TheVariants as sym;
 ghost use Rattle.grammar.specs.Kind.{symbol, name};
-ghost use Rattle.grammar.specs.Grammar.{Both};
+ghost use Rattle.grammar.specs.Grammar.{Pair};
 ghost use Rattle.grammar.specs.Reading.{both, word};
 ghost use Rattle.grammar.specs.Shapes.{symbol_leaf};
-ghost use Rattle.grammar.specs.Gives.{Gives};
+ghost use Rattle.grammar.specs.Agrees.{Agrees};
 ghost use Rattle.filt_syntax.specs.StatementView.{nth, beyond};
 ghost use Rattle.conf_tree.specs.Syntax.{pipe_option};
 ghost use Rattle.conf_tree.specs.Options.{pipe_option_is};
 ghost use Rattle.conf_tree.specs.View.{pipe_option_tree};
 ghost use Rattle.conf_tree.specs.Readers.{seen_as, policy_at};
 
+use crate::ast::PipeOption;
 use crate::options::ProtocolOption;
 use crate::policy::policy;
-use crate::tree::PipeOption;
 use conf_lex::{Symbol, Word};
 use grammar::{Refusal, after, expect, expect_name};
 use std::alloc::Global;
 
 // By the words after `table`.
 fn table(words: &[Word]) -> Result<(PipeOption, &[Word]), Refusal>
-    ensures { Gives pipe_option_tree result (seen_as (word name) (λ t. nth 0 (Both (symbol_leaf sym.Table) t)) words.now) }
+    ensures { Agrees pipe_option_tree result
+        (seen_as (word name) (λ t. nth 0 (Pair (symbol_leaf sym.Table) t)) words.now) }
 {
     let (name, rest) = expect_name(words)?;
     Ok((PipeOption::Table(name), rest))
@@ -29,7 +30,9 @@ fn table(words: &[Word]) -> Result<(PipeOption, &[Word]), Refusal>
 
 // By the words after `peer`.
 fn peer_table(words: &[Word]) -> Result<(PipeOption, &[Word]), Refusal>
-    ensures { Gives pipe_option_tree result (seen_as (both (word (symbol sym.Table)) (word name)) (λ t. nth 1 (Both (symbol_leaf sym.Peer) t)) words.now) }
+    ensures { Agrees pipe_option_tree result
+        (seen_as (both (word (symbol sym.Table)) (word name))
+        (λ t. nth 1 (Pair (symbol_leaf sym.Peer) t)) words.now) }
 {
     let rest = expect(words, Symbol::Table)?;
     let (name, rest) = expect_name(rest)?;
@@ -40,23 +43,26 @@ fn peer_table(words: &[Word]) -> Result<(PipeOption, &[Word]), Refusal>
 fn import<'a>(
     alloc: Global,
     words: &'a [Word],
-    left: u32,
+    depth_left: u32,
 ) -> Result<(PipeOption, &'a [Word]), Refusal<'a>>
-    ensures { Gives pipe_option_tree result (seen_as (policy_at left) (λ t. nth 2 (Both (symbol_leaf sym.Import) t)) words.now) }
+    ensures { Agrees pipe_option_tree result
+        (seen_as (policy_at depth_left) (λ t. nth 2 (Pair (symbol_leaf sym.Import) t)) words.now) }
 {
-    let (policy, rest) = policy(alloc, words, left)?;
+    let (policy, rest) = policy(alloc, words, depth_left)?;
     Ok((PipeOption::Import(policy), rest))
 }
 
 fn export<'a>(
     alloc: Global,
     words: &'a [Word],
-    left: u32,
+    depth_left: u32,
 ) -> Result<(PipeOption, &'a [Word]), Refusal<'a>>
-    ensures { Gives pipe_option_tree result (seen_as (both (word (symbol sym.Export)) (policy_at left)) (λ t. beyond 3 t) words.now) }
+    ensures { Agrees pipe_option_tree result
+        (seen_as (both (word (symbol sym.Export)) (policy_at depth_left))
+        (λ t. beyond 3 t) words.now) }
 {
     let rest = expect(words, Symbol::Export)?;
-    let (policy, rest) = policy(alloc, rest, left)?;
+    let (policy, rest) = policy(alloc, rest, depth_left)?;
     Ok((PipeOption::Export(policy), rest))
 }
 
@@ -70,7 +76,7 @@ impl ProtocolOption for PipeOption {
     fn read<'a>(
         alloc: Global,
         words: &'a [Word],
-        left: u32,
+        depth_left: u32,
     ) -> Result<(PipeOption, &'a [Word]), Refusal<'a>> {
         if let Some(rest) = after(words, Symbol::Table) {
             return table(rest);
@@ -79,8 +85,8 @@ impl ProtocolOption for PipeOption {
             return peer_table(rest);
         }
         match after(words, Symbol::Import) {
-            Some(rest) => import(alloc, rest, left),
-            None => export(alloc, words, left),
+            Some(rest) => import(alloc, rest, depth_left),
+            None => export(alloc, words, depth_left),
         }
     }
 }

@@ -1,20 +1,20 @@
-// Policies. `left` is how many more levels may be opened.
+// Policies. `depth_left` is how many more levels may be opened.
 
 ghost use Rattle.std.specs.Prelude.{◌≡◌, ◌∷◌};
 ghost use Rattle.conf_lex.specs.declared.symbol.Symbol.TheVariants as sym;
 ghost use Rattle.conf_lex.specs.declared.word.Word.{Word};
 ghost use Rattle.grammar.specs.Kind.{symbol};
-ghost use Rattle.grammar.specs.Grammar.{Both, Second};
+ghost use Rattle.grammar.specs.Grammar.{Pair, Right};
 ghost use Rattle.grammar.specs.Reading.{both, word};
 ghost use Rattle.grammar.specs.Shapes.{symbol_leaf};
-ghost use Rattle.grammar.specs.Gives.{Gives};
+ghost use Rattle.grammar.specs.Agrees.{Agrees};
 ghost use Rattle.filt_syntax.specs.Readers.{expr_at};
 ghost use Rattle.filt_syntax.specs.StatementReaders.{block_at};
 ghost use Rattle.filt_syntax.specs.StatementView.{nth, beyond};
 ghost use Rattle.conf_tree.specs.View.{placed_leaf, policy_tree};
 ghost use Rattle.conf_tree.specs.Readers.{seen_as, policy_at};
 
-use crate::tree::Policy;
+use crate::ast::Policy;
 use conf_lex::{Symbol, Word};
 use filt_syntax::parts::{expression, whole_block};
 use grammar::{Refusal, after, after_placed, expect_placed, next_name};
@@ -25,11 +25,13 @@ fn block_policy<'a>(
     alloc: Global,
     at: usize,
     words: &'a [Word],
-    left: u32,
+    depth_left: u32,
 ) -> Result<(Policy, &'a [Word]), Refusal<'a>>
-    ensures { Gives policy_tree result (seen_as (block_at left) (λ t. nth 1 (Both (placed_leaf at sym.Filter) (Second t))) words.now) }
+    ensures { Agrees policy_tree result
+        (seen_as (block_at depth_left)
+        (λ t. nth 1 (Pair (placed_leaf at sym.Filter) (Right t))) words.now) }
 {
-    let (block, rest) = whole_block(alloc, words, left)?;
+    let (block, rest) = whole_block(alloc, words, depth_left)?;
     Ok((Policy::Block { at, block }, rest))
 }
 
@@ -39,27 +41,28 @@ fn filter_policy<'a>(
     words: &'a [Word],
     at: usize,
     behind: &'a [Word],
-    left: u32,
+    depth_left: u32,
 ) -> Result<(Policy, &'a [Word]), Refusal<'a>>
     requires { words.now ≡ Word.Placed at sym.Filter ∷ behind.now }
-    ensures { Gives policy_tree result (policy_at left words.now) }
+    ensures { Agrees policy_tree result (policy_at depth_left words.now) }
 {
     match next_name(behind) {
         Some((name, rest)) => Ok((Policy::Filter { at, name }, rest)),
-        None => block_policy(alloc, at, behind, left),
+        None => block_policy(alloc, at, behind, depth_left),
     }
 }
 
 fn where_policy<'a>(
     alloc: Global,
     words: &'a [Word],
-    left: u32,
+    depth_left: u32,
 ) -> Result<(Policy, &'a [Word]), Refusal<'a>>
-    ensures { Gives policy_tree result
-        (seen_as (both (word (symbol sym.Where)) (expr_at left)) (λ t. beyond 2 t) words.now) }
+    ensures { Agrees policy_tree result
+        (seen_as (both (word (symbol sym.Where)) (expr_at depth_left))
+        (λ t. beyond 2 t) words.now) }
 {
     let (at, rest) = expect_placed(words, Symbol::Where)?;
-    let (condition, rest) = expression(alloc, rest, left)?;
+    let (condition, rest) = expression(alloc, rest, depth_left)?;
     Ok((Policy::Where { at, condition }, rest))
 }
 
@@ -67,9 +70,9 @@ fn where_policy<'a>(
 pub fn policy<'a>(
     alloc: Global,
     words: &'a [Word],
-    left: u32,
+    depth_left: u32,
 ) -> Result<(Policy, &'a [Word]), Refusal<'a>>
-    ensures { Gives policy_tree result (policy_at left words.now) }
+    ensures { Agrees policy_tree result (policy_at depth_left words.now) }
 {
     if let Some(rest) = after(words, Symbol::All) {
         return Ok((Policy::All, rest));
@@ -78,7 +81,7 @@ pub fn policy<'a>(
         return Ok((Policy::None, rest));
     }
     match after_placed(words, Symbol::Filter) {
-        Some((at, behind)) => filter_policy(alloc, words, at, behind, left),
-        None => where_policy(alloc, words, left),
+        Some((at, behind)) => filter_policy(alloc, words, at, behind, depth_left),
+        None => where_policy(alloc, words, depth_left),
     }
 }

@@ -3,8 +3,8 @@
 ghost use Rattle.std.specs.Prelude.{◌≤◌, ◌<◌, ◌^◌, ◌-◌, length};
 ghost use Rattle.conf_tree.specs.Position.{IsPlace};
 
-/// The line and the column of a byte, both counted from 1, columns in bytes (BIRD User's Guide, "Configuration file
-/// format"). The place behind the last byte has one too.
+/// The line and the column of a byte, both counted from 1, columns in bytes (BIRD User's Guide,
+/// "Configuration file format"). The place behind the last byte has one too.
 pub fn place(text: &[u8], at: usize) -> (u32, u32)
     requires within { at ≤ length text.now }
     requires short { length text.now < 2 ^ 32 - 1 }

@@ -1,22 +1,24 @@
-// Protocols. `left` is how many more levels may be opened.
+// Protocols. `depth_left` is how many more levels may be opened.
 
 ghost use Rattle.std.specs.Prelude.{◌≡◌, ◌∷◌, true};
 ghost use Rattle.conf_lex.specs.declared.symbol.Symbol.{Symbol};
 ghost use Rattle.conf_lex.specs.declared.symbol.Symbol.TheVariants as sym;
 ghost use Rattle.conf_lex.specs.declared.word.Word.{Word};
-ghost use Rattle.grammar.specs.Kind.{keeps_place, symbol};
-ghost use Rattle.grammar.specs.Grammar.{Both};
+ghost use Rattle.conf_lex.specs.Symbols.{is_placed};
+ghost use Rattle.grammar.specs.Kind.{symbol};
+ghost use Rattle.grammar.specs.Grammar.{Pair};
 ghost use Rattle.grammar.specs.Reading.{both, word};
 ghost use Rattle.grammar.specs.Shapes.{symbol_leaf};
-ghost use Rattle.grammar.specs.Gives.{Gives};
+ghost use Rattle.grammar.specs.Agrees.{Agrees};
 ghost use Rattle.filt_syntax.specs.StatementView.{nth, beyond};
 ghost use Rattle.conf_tree.specs.Syntax.{static_option, bgp_option, pipe_option};
 ghost use Rattle.conf_tree.specs.View.{statement_tree, protocol_tree, of_protocol};
-ghost use Rattle.conf_tree.specs.Readers.{seen_as, optional_name_at, optional_semicolon_at, protocol_at, statement_at};
+ghost use Rattle.conf_tree.specs.Readers.{seen_as, optional_name_at, optional_semicolon_at};
+ghost use Rattle.conf_tree.specs.Readers.{protocol_at, statement_at};
 
+use crate::ast::{Protocol, Statement};
 use crate::options::{ProtocolOption, options};
 use crate::simple::{optional_name, optional_semicolon};
-use crate::tree::{Protocol, Statement};
 use conf_lex::{Symbol, Word};
 use grammar::{Refusal, after, after_placed, expect};
 use std::alloc::Global;
@@ -26,13 +28,15 @@ fn protocol_of<'a, O: ProtocolOption>(
     alloc: Global,
     at: usize,
     behind: &'a [Word],
-    left: u32,
+    depth_left: u32,
 ) -> Result<(Protocol<O>, &'a [Word]), Refusal<'a>>
-    ensures { (kind : Symbol) → keeps_place kind ≡ true → Gives (λ p. protocol_tree kind O.tree p) result (protocol_at kind O.form left (Word.Placed at kind ∷ behind.now)) }
+    ensures { (kind : Symbol) → is_placed kind ≡ true
+        → Agrees (λ p. protocol_tree kind O.tree p) result
+        (protocol_at kind O.form depth_left (Word.Placed at kind ∷ behind.now)) }
 {
     let (name, rest) = optional_name(behind);
     let rest = expect(rest, Symbol::OpenBrace)?;
-    let (options, rest) = options(alloc, rest, left)?;
+    let (options, rest) = options(alloc, rest, depth_left)?;
     let (semicolon, rest) = optional_semicolon(rest);
     let protocol = Protocol {
         at,
@@ -45,7 +49,10 @@ fn protocol_of<'a, O: ProtocolOption>(
 
 // By the words after `device`, whose own words are taken out.
 fn device(words: &[Word]) -> Result<(Statement, &[Word]), Refusal>
-    ensures { Gives statement_tree result (seen_as (both (optional_name_at 0) (both (word (symbol sym.OpenBrace)) (both (word (symbol sym.CloseBrace)) (optional_semicolon_at 0)))) (λ t. of_protocol (nth 0 (Both (symbol_leaf sym.Device) t))) words.now) }
+    ensures { Agrees statement_tree result
+        (seen_as (both (optional_name_at 0) (both (word (symbol sym.OpenBrace))
+        (both (word (symbol sym.CloseBrace)) (optional_semicolon_at 0))))
+        (λ t. of_protocol (nth 0 (Pair (symbol_leaf sym.Device) t))) words.now) }
 {
     let (name, rest) = optional_name(words);
     let rest = expect(rest, Symbol::OpenBrace)?;
@@ -59,11 +66,13 @@ fn static_protocol<'a>(
     alloc: Global,
     at: usize,
     words: &'a [Word],
-    left: u32,
+    depth_left: u32,
 ) -> Result<(Statement, &'a [Word]), Refusal<'a>>
-    ensures { Gives statement_tree result (seen_as (protocol_at sym.Static static_option left) (λ t. of_protocol (nth 1 t)) (Word.Placed at sym.Static ∷ words.now)) }
+    ensures { Agrees statement_tree result
+        (seen_as (protocol_at sym.Static static_option depth_left) (λ t. of_protocol (nth 1 t))
+        (Word.Placed at sym.Static ∷ words.now)) }
 {
-    let (protocol, rest) = protocol_of(alloc, at, words, left)?;
+    let (protocol, rest) = protocol_of(alloc, at, words, depth_left)?;
     Ok((Statement::Static(protocol), rest))
 }
 
@@ -72,11 +81,13 @@ fn bgp_protocol<'a>(
     alloc: Global,
     at: usize,
     words: &'a [Word],
-    left: u32,
+    depth_left: u32,
 ) -> Result<(Statement, &'a [Word]), Refusal<'a>>
-    ensures { Gives statement_tree result (seen_as (protocol_at sym.Bgp bgp_option left) (λ t. of_protocol (nth 2 t)) (Word.Placed at sym.Bgp ∷ words.now)) }
+    ensures { Agrees statement_tree result
+        (seen_as (protocol_at sym.Bgp bgp_option depth_left) (λ t. of_protocol (nth 2 t))
+        (Word.Placed at sym.Bgp ∷ words.now)) }
 {
-    let (protocol, rest) = protocol_of(alloc, at, words, left)?;
+    let (protocol, rest) = protocol_of(alloc, at, words, depth_left)?;
     Ok((Statement::Bgp(protocol), rest))
 }
 
@@ -85,11 +96,13 @@ fn pipe_protocol<'a>(
     alloc: Global,
     at: usize,
     words: &'a [Word],
-    left: u32,
+    depth_left: u32,
 ) -> Result<(Statement, &'a [Word]), Refusal<'a>>
-    ensures { Gives statement_tree result (seen_as (protocol_at sym.Pipe pipe_option left) (λ t. of_protocol (beyond 3 t)) (Word.Placed at sym.Pipe ∷ words.now)) }
+    ensures { Agrees statement_tree result
+        (seen_as (protocol_at sym.Pipe pipe_option depth_left) (λ t. of_protocol (beyond 3 t))
+        (Word.Placed at sym.Pipe ∷ words.now)) }
 {
-    let (protocol, rest) = protocol_of(alloc, at, words, left)?;
+    let (protocol, rest) = protocol_of(alloc, at, words, depth_left)?;
     Ok((Statement::Pipe(protocol), rest))
 }
 
@@ -98,22 +111,22 @@ pub fn protocol<'a>(
     alloc: Global,
     words: &'a [Word],
     kind: &'a [Word],
-    left: u32,
+    depth_left: u32,
 ) -> Result<(Statement, &'a [Word]), Refusal<'a>>
     requires { words.now ≡ Word.Symbol sym.Protocol ∷ kind.now }
-    ensures { Gives statement_tree result (statement_at left words.now) }
+    ensures { Agrees statement_tree result (statement_at depth_left words.now) }
 {
     if let Some(behind) = after(kind, Symbol::Device) {
         return device(behind);
     }
     if let Some((at, behind)) = after_placed(kind, Symbol::Static) {
-        return static_protocol(alloc, at, behind, left);
+        return static_protocol(alloc, at, behind, depth_left);
     }
     if let Some((at, behind)) = after_placed(kind, Symbol::Bgp) {
-        return bgp_protocol(alloc, at, behind, left);
+        return bgp_protocol(alloc, at, behind, depth_left);
     }
     match after_placed(kind, Symbol::Pipe) {
-        Some((at, behind)) => pipe_protocol(alloc, at, behind, left),
+        Some((at, behind)) => pipe_protocol(alloc, at, behind, depth_left),
         None => Err(Refusal::Bad(kind)),
     }
 }

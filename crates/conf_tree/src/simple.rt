@@ -1,33 +1,35 @@
 // Readers of a word or two. Each answers what the words give and the words after them.
 
-ghost use Rattle.std.specs.Prelude.{◌≡◌, ◌∷◌, false, MatchOption};
+ghost use Rattle.std.specs.Prelude.{◌≡◌, false};
 ghost use Rattle.conf_lex.specs.declared.word.Word.{Word};
-ghost use Rattle.grammar.specs.Kind.{address, text, prefix, name as is_name};
-ghost use Rattle.grammar.specs.Grammar.{begins};
-ghost use Rattle.grammar.specs.Reading.{Got, word};
+ghost use Rattle.grammar.specs.Kind.{address, text};
+ghost use Rattle.grammar.specs.Reading.{Parsed, word};
 ghost use Rattle.grammar.specs.Shapes.{name_leaf};
-ghost use Rattle.grammar.specs.Gives.{Gives};
-ghost use Rattle.filt_syntax.specs.ItemView.{num_tree, num_word};
-ghost use Rattle.filt_syntax.specs.Syntax.{is_num};
+ghost use Rattle.grammar.specs.Agrees.{Agrees};
+ghost use Rattle.filt_syntax.specs.Finds.{Finds};
+ghost use Rattle.filt_syntax.specs.ItemView.{num_tree};
 ghost use Rattle.conf_tree.specs.Syntax.{is_switch, is_family};
-ghost use Rattle.conf_tree.specs.View.{address_leaf, text_leaf, switch_leaf, switch_symbol, family_symbol, as_tree, time_tree, semicolon_tree, maybe};
-ghost use Rattle.conf_tree.specs.Readers.{optional_name_at, optional_address_at, optional_switch_at, optional_number_at, as_at, time_at, optional_semicolon_at};
+ghost use Rattle.conf_tree.specs.View.{address_leaf, text_leaf, switch_leaf, switch_symbol};
+ghost use Rattle.conf_tree.specs.View.{family_symbol, as_tree, time_tree, semicolon_tree, maybe};
+ghost use Rattle.conf_tree.specs.Readers.{optional_name_at, optional_address_at};
+ghost use Rattle.conf_tree.specs.Readers.{optional_switch_at, optional_number_at, as_at, time_at};
+ghost use Rattle.conf_tree.specs.Readers.{optional_semicolon_at};
 
-use crate::tree::{Address, Quoted, Switch};
+use crate::ast::{Address, StringLiteral, Switch};
 use bits_ip::{Family, Prefix};
 use conf_lex::{Symbol, Word};
-use filt_syntax::Num;
+use filt_syntax::ast::Num;
 use filt_syntax::parts::{next_num, num};
 use grammar::{Name, Refusal, after, after_placed, expect, next_name};
 
 pub fn next_address(words: &[Word]) -> Option<(Address, &[Word])>
-    ensures { MatchOption result (begins address words.now ≡ false) (λ found. words.now ≡ Word.Ip found.0.at found.0.addr ∷ found.1.now) }
+    ensures { Finds address (λ a. Word.Ip a.at a.addr) result words.now }
 {
     match words {
         [Word::Ip { at, addr }, rest @ ..] => {
             let address = Address {
                 at: *at,
-                addr: *addr,
+                addr: addr.addr(),
             };
             Some((address, rest))
         }
@@ -36,17 +38,17 @@ pub fn next_address(words: &[Word]) -> Option<(Address, &[Word])>
 }
 
 pub fn expect_address(words: &[Word]) -> Result<(Address, &[Word]), Refusal>
-    ensures { Gives address_leaf result (word address words.now) }
+    ensures { Agrees address_leaf result (word address words.now) }
 {
     next_address(words).ok_or(Refusal::Bad(words))
 }
 
-pub fn expect_text(words: &[Word]) -> Result<(Quoted, &[Word]), Refusal>
-    ensures { Gives text_leaf result (word text words.now) }
+pub fn expect_text(words: &[Word]) -> Result<(StringLiteral, &[Word]), Refusal>
+    ensures { Agrees text_leaf result (word text words.now) }
 {
     match words {
         [Word::Text { at, start, len }, rest @ ..] => {
-            let quoted = Quoted {
+            let quoted = StringLiteral {
                 at: *at,
                 start: *start,
                 len: *len,
@@ -58,7 +60,7 @@ pub fn expect_text(words: &[Word]) -> Result<(Quoted, &[Word]), Refusal>
 }
 
 pub fn next_switch(words: &[Word]) -> Option<(Switch, &[Word])>
-    ensures { MatchOption result (begins is_switch words.now ≡ false) (λ found. words.now ≡ Word.Symbol (switch_symbol found.0) ∷ found.1.now) }
+    ensures { Finds is_switch (λ s. Word.Symbol (switch_symbol s)) result words.now }
 {
     match words {
         [Word::Symbol(Symbol::On), rest @ ..] => Some((Switch::On, rest)),
@@ -70,14 +72,14 @@ pub fn next_switch(words: &[Word]) -> Option<(Switch, &[Word])>
 }
 
 pub fn expect_switch(words: &[Word]) -> Result<(Switch, &[Word]), Refusal>
-    ensures { Gives switch_leaf result (word is_switch words.now) }
+    ensures { Agrees switch_leaf result (word is_switch words.now) }
 {
     next_switch(words).ok_or(Refusal::Bad(words))
 }
 
 /// A family's word: its place and the family.
 pub fn next_family(words: &[Word]) -> Option<((usize, Family), &[Word])>
-    ensures { MatchOption result (begins is_family words.now ≡ false) (λ found. words.now ≡ Word.Placed found.0.0 (family_symbol found.0.1) ∷ found.1.now) }
+    ensures { Finds is_family (λ f. Word.Placed f.0 (family_symbol f.1)) result words.now }
 {
     if let Some((at, rest)) = after_placed(words, Symbol::Ipv4) {
         return Some(((at, Family::V4), rest));
@@ -91,7 +93,7 @@ pub fn next_family(words: &[Word]) -> Option<((usize, Family), &[Word])>
 /// A name, if one comes next.
 #[tactic(auto, unfolding(crate::specs::Readers::optional_name_at))]
 pub fn optional_name(words: &[Word]) -> (Option<Name>, &[Word])
-    ensures { optional_name_at 0 words.now ≡ Got (maybe name_leaf result.0) result.1.now }
+    ensures { optional_name_at 0 words.now ≡ Parsed (maybe name_leaf result.0) result.1.now }
 {
     match next_name(words) {
         Some((name, rest)) => (Some(name), rest),
@@ -102,7 +104,7 @@ pub fn optional_name(words: &[Word]) -> (Option<Name>, &[Word])
 /// An address, if one comes next.
 #[tactic(auto, unfolding(crate::specs::Readers::optional_address_at))]
 pub fn optional_address(words: &[Word]) -> (Option<Address>, &[Word])
-    ensures { optional_address_at 0 words.now ≡ Got (maybe address_leaf result.0) result.1.now }
+    ensures { optional_address_at 0 words.now ≡ Parsed (maybe address_leaf result.0) result.1.now }
 {
     match next_address(words) {
         Some((address, rest)) => (Some(address), rest),
@@ -113,7 +115,7 @@ pub fn optional_address(words: &[Word]) -> (Option<Address>, &[Word])
 /// A switch, if one comes next.
 #[tactic(auto, unfolding(crate::specs::Readers::optional_switch_at))]
 pub fn optional_switch(words: &[Word]) -> (Option<Switch>, &[Word])
-    ensures { optional_switch_at 0 words.now ≡ Got (maybe switch_leaf result.0) result.1.now }
+    ensures { optional_switch_at 0 words.now ≡ Parsed (maybe switch_leaf result.0) result.1.now }
 {
     match next_switch(words) {
         Some((switch, rest)) => (Some(switch), rest),
@@ -124,7 +126,7 @@ pub fn optional_switch(words: &[Word]) -> (Option<Switch>, &[Word])
 /// A number, if one comes next.
 #[tactic(auto, unfolding(crate::specs::Readers::optional_number_at))]
 pub fn optional_number(words: &[Word]) -> (Option<Num>, &[Word])
-    ensures { optional_number_at 0 words.now ≡ Got (maybe num_tree result.0) result.1.now }
+    ensures { optional_number_at 0 words.now ≡ Parsed (maybe num_tree result.0) result.1.now }
 {
     match next_num(words) {
         Some((number, rest)) => (Some(number), rest),
@@ -135,7 +137,7 @@ pub fn optional_number(words: &[Word]) -> (Option<Num>, &[Word])
 /// Whether a semicolon comes next.
 #[tactic(auto, unfolding(crate::specs::Readers::optional_semicolon_at))]
 pub fn optional_semicolon(words: &[Word]) -> (bool, &[Word])
-    ensures { optional_semicolon_at 0 words.now ≡ Got (semicolon_tree result.0) result.1.now }
+    ensures { optional_semicolon_at 0 words.now ≡ Parsed (semicolon_tree result.0) result.1.now }
 {
     match after(words, Symbol::Semicolon) {
         Some(rest) => (true, rest),
@@ -146,7 +148,7 @@ pub fn optional_semicolon(words: &[Word]) -> (bool, &[Word])
 /// `as` and a number.
 #[tactic(auto, unfolding(crate::specs::Readers::as_at))]
 pub fn as_number(words: &[Word]) -> Result<(Num, &[Word]), Refusal>
-    ensures { Gives as_tree result (as_at 0 words.now) }
+    ensures { Agrees as_tree result (as_at 0 words.now) }
 {
     let rest = expect(words, Symbol::As)?;
     num(rest)
@@ -155,7 +157,7 @@ pub fn as_number(words: &[Word]) -> Result<(Num, &[Word]), Refusal>
 /// `time` and a number.
 #[tactic(auto, unfolding(crate::specs::Readers::time_at))]
 pub fn time_number(words: &[Word]) -> Result<(Num, &[Word]), Refusal>
-    ensures { Gives time_tree result (time_at 0 words.now) }
+    ensures { Agrees time_tree result (time_at 0 words.now) }
 {
     let rest = expect(words, Symbol::Time)?;
     num(rest)

@@ -1,32 +1,35 @@
-// Statements. Each function answers a statement and the words after it; `left` is how many more levels may be opened.
+// Statements. Each function answers a statement and the words after it; `depth_left` is how many
+// more levels may be opened.
 
 ghost use Rattle.std.specs.Prelude.{◌≡◌, false};
 ghost use Rattle.conf_lex.specs.declared.symbol.Symbol.TheVariants as sym;
 ghost use Rattle.grammar.specs.Kind.{symbol, name, address};
-ghost use Rattle.grammar.specs.Grammar.{Both, begins};
+ghost use Rattle.grammar.specs.Grammar.{Pair, begins};
 ghost use Rattle.grammar.specs.Reading.{both, word};
 ghost use Rattle.grammar.specs.Shapes.{symbol_leaf};
-ghost use Rattle.grammar.specs.Gives.{Gives};
+ghost use Rattle.grammar.specs.Agrees.{Agrees};
 ghost use Rattle.filt_syntax.specs.StatementReaders.{block_at};
 ghost use Rattle.filt_syntax.specs.StatementView.{nth};
 ghost use Rattle.conf_tree.specs.View.{placed_leaf, family_leaf, statement_tree};
 ghost use Rattle.conf_tree.specs.Readers.{seen_as, literal_at, statement_at};
 
+use crate::ast::Statement;
 use crate::function::function;
 use crate::literal::literal;
 use crate::protocol::protocol;
 use crate::simple::{expect_address, next_family};
-use crate::tree::Statement;
 use bits_ip::Family;
 use conf_lex::{Symbol, Word};
-use filt_syntax::Filter;
+use filt_syntax::ast::Filter;
 use filt_syntax::parts::whole_block;
 use grammar::{Refusal, after, after_placed, expect, expect_name};
 use std::alloc::Global;
 
 // By the words after `router`.
 fn router_id(words: &[Word]) -> Result<(Statement, &[Word]), Refusal>
-    ensures { Gives statement_tree result (seen_as (both (word (symbol sym.Id)) (both (word address) (word (symbol sym.Semicolon)))) (λ t. nth 0 (Both (symbol_leaf sym.Router) t)) words.now) }
+    ensures { Agrees statement_tree result
+        (seen_as (both (word (symbol sym.Id)) (both (word address) (word (symbol sym.Semicolon))))
+        (λ t. nth 0 (Pair (symbol_leaf sym.Router) t)) words.now) }
 {
     let rest = expect(words, Symbol::Id)?;
     let (address, rest) = expect_address(rest)?;
@@ -36,7 +39,9 @@ fn router_id(words: &[Word]) -> Result<(Statement, &[Word]), Refusal>
 
 // By the words after `log`.
 fn log(words: &[Word]) -> Result<(Statement, &[Word]), Refusal>
-    ensures { Gives statement_tree result (seen_as (word (symbol sym.Semicolon)) (λ t. nth 1 (Both (symbol_leaf sym.Log) t)) words.now) }
+    ensures { Agrees statement_tree result
+        (seen_as (word (symbol sym.Semicolon))
+        (λ t. nth 1 (Pair (symbol_leaf sym.Log) t)) words.now) }
 {
     let rest = expect(words, Symbol::Semicolon)?;
     Ok((Statement::Log, rest))
@@ -46,13 +51,16 @@ fn log(words: &[Word]) -> Result<(Statement, &[Word]), Refusal>
 fn define<'a>(
     alloc: Global,
     words: &'a [Word],
-    left: u32,
+    depth_left: u32,
 ) -> Result<(Statement, &'a [Word]), Refusal<'a>>
-    ensures { Gives statement_tree result (seen_as (both (word name) (both (word (symbol sym.Equal)) (both (literal_at left) (word (symbol sym.Semicolon))))) (λ t. nth 2 (Both (symbol_leaf sym.Define) t)) words.now) }
+    ensures { Agrees statement_tree result
+        (seen_as (both (word name) (both (word (symbol sym.Equal))
+        (both (literal_at depth_left) (word (symbol sym.Semicolon)))))
+        (λ t. nth 2 (Pair (symbol_leaf sym.Define) t)) words.now) }
 {
     let (name, rest) = expect_name(words)?;
     let rest = expect(rest, Symbol::Equal)?;
-    let (value, rest) = literal(alloc, rest, left)?;
+    let (value, rest) = literal(alloc, rest, depth_left)?;
     let rest = expect(rest, Symbol::Semicolon)?;
     Ok((Statement::Define { name, value }, rest))
 }
@@ -62,19 +70,23 @@ fn filter<'a>(
     alloc: Global,
     at: usize,
     words: &'a [Word],
-    left: u32,
+    depth_left: u32,
 ) -> Result<(Statement, &'a [Word]), Refusal<'a>>
-    ensures { Gives statement_tree result (seen_as (both (word name) (block_at left)) (λ t. nth 5 (Both (placed_leaf at sym.Filter) t)) words.now) }
+    ensures { Agrees statement_tree result
+        (seen_as (both (word name) (block_at depth_left))
+        (λ t. nth 5 (Pair (placed_leaf at sym.Filter) t)) words.now) }
 {
     let (name, rest) = expect_name(words)?;
-    let (block, rest) = whole_block(alloc, rest, left)?;
+    let (block, rest) = whole_block(alloc, rest, depth_left)?;
     let filter = Filter { name, block };
     Ok((Statement::Filter { at, filter }, rest))
 }
 
 // By the words after a family's word.
 fn table_of(at: usize, family: Family, words: &[Word]) -> Result<(Statement, &[Word]), Refusal>
-    ensures { Gives statement_tree result (seen_as (both (word (symbol sym.Table)) (both (word name) (word (symbol sym.Semicolon)))) (λ t. nth 3 (Both (family_leaf at family) t)) words.now) }
+    ensures { Agrees statement_tree result
+        (seen_as (both (word (symbol sym.Table)) (both (word name) (word (symbol sym.Semicolon))))
+        (λ t. nth 3 (Pair (family_leaf at family) t)) words.now) }
 {
     let rest = expect(words, Symbol::Table)?;
     let (name, rest) = expect_name(rest)?;
@@ -83,14 +95,14 @@ fn table_of(at: usize, family: Family, words: &[Word]) -> Result<(Statement, &[W
 }
 
 // Where no statement comes next that `statement` tests for.
-fn table(words: &[Word], left: u32) -> Result<(Statement, &[Word]), Refusal>
+fn table(words: &[Word], depth_left: u32) -> Result<(Statement, &[Word]), Refusal>
     requires router { begins (symbol sym.Router) words.now ≡ false }
     requires log { begins (symbol sym.Log) words.now ≡ false }
     requires define { begins (symbol sym.Define) words.now ≡ false }
     requires function { begins (symbol sym.Function) words.now ≡ false }
     requires filter { begins (symbol sym.Filter) words.now ≡ false }
     requires protocol { begins (symbol sym.Protocol) words.now ≡ false }
-    ensures { Gives statement_tree result (statement_at left words.now) }
+    ensures { Agrees statement_tree result (statement_at depth_left words.now) }
 {
     match next_family(words) {
         Some(((at, family), rest)) => table_of(at, family, rest),
@@ -102,9 +114,9 @@ fn table(words: &[Word], left: u32) -> Result<(Statement, &[Word]), Refusal>
 pub fn statement<'a>(
     alloc: Global,
     words: &'a [Word],
-    left: u32,
+    depth_left: u32,
 ) -> Result<(Statement, &'a [Word]), Refusal<'a>>
-    ensures { Gives statement_tree result (statement_at left words.now) }
+    ensures { Agrees statement_tree result (statement_at depth_left words.now) }
 {
     if let Some(behind) = after(words, Symbol::Router) {
         return router_id(behind);
@@ -113,16 +125,16 @@ pub fn statement<'a>(
         return log(behind);
     }
     if let Some(behind) = after(words, Symbol::Define) {
-        return define(alloc, behind, left);
+        return define(alloc, behind, depth_left);
     }
     if let Some(behind) = after(words, Symbol::Function) {
-        return function(alloc, behind, left);
+        return function(alloc, behind, depth_left);
     }
     if let Some((at, behind)) = after_placed(words, Symbol::Filter) {
-        return filter(alloc, at, behind, left);
+        return filter(alloc, at, behind, depth_left);
     }
     match after(words, Symbol::Protocol) {
-        Some(behind) => protocol(alloc, words, behind, left),
-        None => table(words, left),
+        Some(behind) => protocol(alloc, words, behind, depth_left),
+        None => table(words, depth_left),
     }
 }

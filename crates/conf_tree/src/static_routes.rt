@@ -1,21 +1,21 @@
-// The options of static protocols. `left` is how many more levels may be opened.
+// The options of static protocols. `depth_left` is how many more levels may be opened.
 
 ghost use Rattle.std.specs.Prelude.{◌≡◌, ◌∷◌};
 ghost use Rattle.conf_lex.specs.declared.symbol.Symbol.TheVariants as sym;
 ghost use Rattle.conf_lex.specs.declared.word.Word.{Word};
 ghost use Rattle.grammar.specs.Kind.{symbol, prefix};
-ghost use Rattle.grammar.specs.Grammar.{First, Second};
+ghost use Rattle.grammar.specs.Grammar.{Left, Right};
 ghost use Rattle.grammar.specs.Reading.{both, word};
-ghost use Rattle.grammar.specs.Gives.{Gives};
+ghost use Rattle.grammar.specs.Agrees.{Agrees};
 ghost use Rattle.conf_tree.specs.Syntax.{static_option};
 ghost use Rattle.conf_tree.specs.Options.{static_option_is};
 ghost use Rattle.conf_tree.specs.View.{family_symbol, target_tree, static_option_tree};
 ghost use Rattle.conf_tree.specs.Readers.{seen_as, channel_at, route_target_at};
 
+use crate::ast::{Route, RouteTarget, StaticOption};
 use crate::channel::channel;
 use crate::options::ProtocolOption;
 use crate::simple::{expect_address, next_family};
-use crate::tree::{Route, RouteTarget, StaticOption};
 use bits_ip::Family;
 use conf_lex::{Symbol, Word};
 use grammar::{Refusal, after, expect, next_prefix};
@@ -23,7 +23,7 @@ use std::alloc::Global;
 
 #[tactic(auto, unfolding(crate::specs::Readers::route_target_at))]
 fn route_target(words: &[Word]) -> Result<(RouteTarget, &[Word]), Refusal>
-    ensures { Gives target_tree result (route_target_at 0 words.now) }
+    ensures { Agrees target_tree result (route_target_at 0 words.now) }
 {
     if let Some(rest) = after(words, Symbol::Via) {
         let (address, rest) = expect_address(rest)?;
@@ -42,7 +42,9 @@ fn route_target(words: &[Word]) -> Result<(RouteTarget, &[Word]), Refusal>
 }
 
 fn route(words: &[Word]) -> Result<(StaticOption, &[Word]), Refusal>
-    ensures { Gives static_option_tree result (seen_as (both (word (symbol sym.Route)) (both (word prefix) (route_target_at 0))) (λ t. Second t) words.now) }
+    ensures { Agrees static_option_tree result
+        (seen_as (both (word (symbol sym.Route)) (both (word prefix) (route_target_at 0)))
+        (λ t. Right t) words.now) }
 {
     let rest = expect(words, Symbol::Route)?;
     match next_prefix(rest) {
@@ -62,12 +64,13 @@ fn channel_option<'a>(
     at: usize,
     family: Family,
     behind: &'a [Word],
-    left: u32,
+    depth_left: u32,
 ) -> Result<(StaticOption, &'a [Word]), Refusal<'a>>
     requires { words.now ≡ Word.Placed at (family_symbol family) ∷ behind.now }
-    ensures { Gives static_option_tree result (seen_as (channel_at left) (λ t. First t) words.now) }
+    ensures { Agrees static_option_tree result
+        (seen_as (channel_at depth_left) (λ t. Left t) words.now) }
 {
-    let (channel, rest) = channel(alloc, words, at, family, behind, left)?;
+    let (channel, rest) = channel(alloc, words, at, family, behind, depth_left)?;
     Ok((StaticOption::Channel(channel), rest))
 }
 
@@ -81,11 +84,11 @@ impl ProtocolOption for StaticOption {
     fn read<'a>(
         alloc: Global,
         words: &'a [Word],
-        left: u32,
+        depth_left: u32,
     ) -> Result<(StaticOption, &'a [Word]), Refusal<'a>> {
         match next_family(words) {
             Some(((at, family), behind)) => {
-                channel_option(alloc, words, at, family, behind, left)
+                channel_option(alloc, words, at, family, behind, depth_left)
             }
             None => route(words),
         }

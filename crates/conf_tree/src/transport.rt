@@ -3,22 +3,24 @@
 ghost use Rattle.std.specs.Prelude.{◌≡◌, false};
 ghost use Rattle.conf_lex.specs.declared.symbol.Symbol.TheVariants as sym;
 ghost use Rattle.grammar.specs.Kind.{symbol, text, address};
-ghost use Rattle.grammar.specs.Grammar.{Both, begins};
+ghost use Rattle.grammar.specs.Grammar.{Pair, begins};
 ghost use Rattle.grammar.specs.Reading.{both, word};
 ghost use Rattle.grammar.specs.Shapes.{symbol_leaf};
-ghost use Rattle.grammar.specs.Gives.{Gives};
+ghost use Rattle.grammar.specs.Agrees.{Agrees};
 ghost use Rattle.filt_syntax.specs.StatementView.{nth, beyond};
 ghost use Rattle.conf_tree.specs.View.{placed_leaf, transport_tree};
 ghost use Rattle.conf_tree.specs.Readers.{seen_as, time_at, optional_switch_at, transport_at};
 
+use crate::ast::Transport;
 use crate::simple::{expect_address, expect_text, optional_number, optional_switch, time_number};
-use crate::tree::Transport;
 use conf_lex::{Symbol, Word};
 use grammar::{Refusal, after, after_placed, expect};
 
 // By the words after `connect`.
 fn connect_retry_time(words: &[Word]) -> Result<(Transport, &[Word]), Refusal>
-    ensures { Gives transport_tree result (seen_as (both (word (symbol sym.Retry)) (time_at 0)) (λ t. nth 3 (Both (symbol_leaf sym.Connect) t)) words.now) }
+    ensures { Agrees transport_tree result
+        (seen_as (both (word (symbol sym.Retry)) (time_at 0))
+        (λ t. nth 3 (Pair (symbol_leaf sym.Connect) t)) words.now) }
 {
     let rest = expect(words, Symbol::Retry)?;
     let (time, rest) = time_number(rest)?;
@@ -26,7 +28,9 @@ fn connect_retry_time(words: &[Word]) -> Result<(Transport, &[Word]), Refusal>
 }
 
 fn passive(words: &[Word]) -> Result<(Transport, &[Word]), Refusal>
-    ensures { Gives transport_tree result (seen_as (both (word (symbol sym.Passive)) (optional_switch_at 0)) (λ t. beyond 6 t) words.now) }
+    ensures { Agrees transport_tree result
+        (seen_as (both (word (symbol sym.Passive)) (optional_switch_at 0))
+        (λ t. beyond 6 t) words.now) }
 {
     let rest = expect(words, Symbol::Passive)?;
     let (switch, rest) = optional_switch(rest);
@@ -40,7 +44,7 @@ fn connection(words: &[Word]) -> Result<(Transport, &[Word]), Refusal>
     requires source { begins (symbol sym.Source) words.now ≡ false }
     requires hold { begins (symbol sym.Hold) words.now ≡ false }
     requires keepalive { begins (symbol sym.Keepalive) words.now ≡ false }
-    ensures { Gives transport_tree result (transport_at 0 words.now) }
+    ensures { Agrees transport_tree result (transport_at 0 words.now) }
 {
     if let Some(rest) = after(words, Symbol::Connect) {
         return connect_retry_time(rest);
@@ -57,7 +61,8 @@ fn connection(words: &[Word]) -> Result<(Transport, &[Word]), Refusal>
 
 // By the words after `description`.
 fn description(words: &[Word]) -> Result<(Transport, &[Word]), Refusal>
-    ensures { Gives transport_tree result (seen_as (word text) (λ t. nth 0 (Both (symbol_leaf sym.Description) t)) words.now) }
+    ensures { Agrees transport_tree result
+        (seen_as (word text) (λ t. nth 0 (Pair (symbol_leaf sym.Description) t)) words.now) }
 {
     let (text, rest) = expect_text(words)?;
     Ok((Transport::Description(text), rest))
@@ -65,7 +70,8 @@ fn description(words: &[Word]) -> Result<(Transport, &[Word]), Refusal>
 
 // By the words after `password`.
 fn password(words: &[Word]) -> Result<(Transport, &[Word]), Refusal>
-    ensures { Gives transport_tree result (seen_as (word text) (λ t. nth 0 (Both (symbol_leaf sym.Password) t)) words.now) }
+    ensures { Agrees transport_tree result
+        (seen_as (word text) (λ t. nth 0 (Pair (symbol_leaf sym.Password) t)) words.now) }
 {
     let (text, rest) = expect_text(words)?;
     Ok((Transport::Password(text), rest))
@@ -73,7 +79,9 @@ fn password(words: &[Word]) -> Result<(Transport, &[Word]), Refusal>
 
 // By the words after `source`, whose place is told.
 fn source_address(at: usize, words: &[Word]) -> Result<(Transport, &[Word]), Refusal>
-    ensures { Gives transport_tree result (seen_as (both (word (symbol sym.Address)) (word address)) (λ t. nth 1 (Both (placed_leaf at sym.Source) t)) words.now) }
+    ensures { Agrees transport_tree result
+        (seen_as (both (word (symbol sym.Address)) (word address))
+        (λ t. nth 1 (Pair (placed_leaf at sym.Source) t)) words.now) }
 {
     let rest = expect(words, Symbol::Address)?;
     let (address, rest) = expect_address(rest)?;
@@ -82,7 +90,8 @@ fn source_address(at: usize, words: &[Word]) -> Result<(Transport, &[Word]), Ref
 
 // By the words after `hold`.
 fn hold_time(words: &[Word]) -> Result<(Transport, &[Word]), Refusal>
-    ensures { Gives transport_tree result (seen_as (time_at 0) (λ t. nth 2 (Both (symbol_leaf sym.Hold) t)) words.now) }
+    ensures { Agrees transport_tree result
+        (seen_as (time_at 0) (λ t. nth 2 (Pair (symbol_leaf sym.Hold) t)) words.now) }
 {
     let (time, rest) = time_number(words)?;
     Ok((Transport::HoldTime(time), rest))
@@ -90,7 +99,8 @@ fn hold_time(words: &[Word]) -> Result<(Transport, &[Word]), Refusal>
 
 // By the words after `keepalive`.
 fn keepalive_time(words: &[Word]) -> Result<(Transport, &[Word]), Refusal>
-    ensures { Gives transport_tree result (seen_as (time_at 0) (λ t. nth 2 (Both (symbol_leaf sym.Keepalive) t)) words.now) }
+    ensures { Agrees transport_tree result
+        (seen_as (time_at 0) (λ t. nth 2 (Pair (symbol_leaf sym.Keepalive) t)) words.now) }
 {
     let (time, rest) = time_number(words)?;
     Ok((Transport::KeepaliveTime(time), rest))
@@ -98,7 +108,7 @@ fn keepalive_time(words: &[Word]) -> Result<(Transport, &[Word]), Refusal>
 
 /// The option that comes next.
 pub fn transport(words: &[Word]) -> Result<(Transport, &[Word]), Refusal>
-    ensures { Gives transport_tree result (transport_at 0 words.now) }
+    ensures { Agrees transport_tree result (transport_at 0 words.now) }
 {
     if let Some(rest) = after(words, Symbol::Description) {
         return description(rest);

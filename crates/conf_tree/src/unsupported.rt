@@ -1,12 +1,14 @@
 // Words that are known and not supported where they stand.
 
-ghost use Rattle.std.specs.Prelude.{◌≡◌, ◌↔◌, [], ◌∷◌, ◌++◌, IfOk, IsTrue, MatchOption, map, codes, false};
+ghost use Rattle.std.specs.Prelude.{◌≡◌, ◌↔◌, [], ◌∷◌, ◌++◌, IfOk, IsTrue, MatchOption, map, codes};
+ghost use Rattle.std.specs.Prelude.{false};
 ghost use Rattle.conf_lex.specs.declared.word.Word.{Word};
-ghost use Rattle.grammar.specs.Kind.{keeps_place};
+ghost use Rattle.conf_lex.specs.Symbols.{is_placed};
 ghost use Rattle.grammar.specs.Sentences.{IsBegunWithin};
 ghost use Rattle.filt_syntax.specs.Syntax.{rule};
 ghost use Rattle.conf_tree.specs.Syntax.{config};
-ghost use Rattle.conf_tree.specs.Sentence.{CanStand, EndsIn, is_one_of, statement_words, bgp_words, channel_words, import_words, IsUnsupported};
+ghost use Rattle.conf_tree.specs.Sentence.{CanStand, EndsIn, is_one_of, statement_words, bgp_words};
+ghost use Rattle.conf_tree.specs.Sentence.{channel_words, import_words, IsUnsupported};
 
 use crate::followed::Configurations;
 use bits_ip::OutOfMemory;
@@ -98,8 +100,9 @@ fn stands_for(
 
 // The words before the last, where that is this symbol.
 fn before_last(words: &[Word], symbol: Symbol) -> Option<&[Word]>
-    requires { keeps_place symbol ≡ false }
-    ensures { MatchOption result (EndsIn symbol words.now (λ front. Unit {0}) → ⊥) (λ front. words.now ≡ front.now ++ Word.Symbol symbol ∷ []) }
+    requires { is_placed symbol ≡ false }
+    ensures { MatchOption result (EndsIn symbol words.now (λ front. Unit {0}) → ⊥)
+        (λ front. words.now ≡ front.now ++ Word.Symbol symbol ∷ []) }
 {
     match words.split_last() {
         Some((last, front)) => is_symbol(last, symbol).then_some(front),
@@ -110,7 +113,8 @@ fn before_last(words: &[Word], symbol: Symbol) -> Option<&[Word]>
 // Whether the word is `limit` behind the `export` of a channel.
 fn is_export_limit(alloc: Global, before: &[Word], word: &[u8]) -> Result<bool, OutOfMemory>
     requires { IsBegunWithin rule 64 config before.now }
-    ensures { IfOk result (λ found. IsTrue found ↔ ((word.now ≡ codes "limit") × EndsIn Symbol.Export before.now (CanStand Symbol.Next))) }
+    ensures { IfOk result (λ found. IsTrue found
+        ↔ ((word.now ≡ codes "limit") × EndsIn Symbol.Export before.now (CanStand Symbol.Next))) }
 {
     match before_last(before, Symbol::Export) {
         Some(front) => stands_for(alloc, word == b"limit".as_slice(), front, Symbol::Next),
@@ -139,7 +143,8 @@ fn is_unsupported_option(alloc: Global, before: &[Word], word: &[u8]) -> Result<
     Ok(statement | bgp_option | channel_option | import | export | action | route)
 }
 
-/// Whether a word that can't stand behind these words is known there and not supported (BIRD User's Guide, "Protocols").
+/// Whether a word that can't stand behind these words is known there and not supported (BIRD User's
+/// Guide, "Protocols").
 pub fn is_unsupported(alloc: Global, before: &[Word], word: &[u8]) -> Result<bool, OutOfMemory>
     requires { IsBegunWithin rule 64 config before.now }
     ensures { IfOk result (λ found. IsTrue found ↔ IsUnsupported before.now word.now) }

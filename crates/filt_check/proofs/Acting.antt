@@ -6,16 +6,16 @@ use Rattle.std.proofs.lemmas.Result.{IfOk-weaker}
 use Rattle.bits_ip.specs.declared.memory.OutOfMemory.{OutOfMemory}
 use Rattle.grammar.specs.declared.named.Name.{Name}
 use Rattle.grammar.specs.Names.{name_bytes}
-use Rattle.filt_syntax.specs.declared.tree.Arm.{Arm}
-use Rattle.filt_syntax.specs.declared.tree.Change.{Change}
-use Rattle.filt_syntax.specs.declared.tree.Expr.{Expr}
-use Rattle.filt_syntax.specs.declared.tree.Item.{Item}
-use Rattle.filt_syntax.specs.declared.tree.MethodKind.{MethodKind}
-use Rattle.filt_syntax.specs.declared.tree.Stmt.{Stmt}
-use Rattle.filt_syntax.specs.declared.tree.Stmt.TheVariants as s
-use Rattle.filt_syntax.specs.declared.tree.Target.{Target}
-use Rattle.filt_syntax.specs.declared.tree.Target.TheVariants as targets
-use Rattle.filt_syntax.specs.declared.tree.VariableType.{VariableType}
+use Rattle.filt_syntax.specs.declared.ast.Arm.{Arm}
+use Rattle.filt_syntax.specs.declared.ast.Change.{Change}
+use Rattle.filt_syntax.specs.declared.ast.Expr.{Expr}
+use Rattle.filt_syntax.specs.declared.ast.Item.{Item}
+use Rattle.filt_syntax.specs.declared.ast.MethodKind.{MethodKind}
+use Rattle.filt_syntax.specs.declared.ast.Stmt.{Stmt}
+use Rattle.filt_syntax.specs.declared.ast.Stmt.TheVariants as s
+use Rattle.filt_syntax.specs.declared.ast.Target.{Target}
+use Rattle.filt_syntax.specs.declared.ast.Target.TheVariants as targets
+use Rattle.filt_syntax.specs.declared.ast.VariableType.{VariableType}
 use Rattle.conf_ast.specs.Filters.{Statement, Braced, Statements, expression_of, statement_of, statements_of, changed}
 use Rattle.filt_values.specs.declared.value.Failure.{Failure}
 use Rattle.filt_values.specs.declared.value.Failure.TheVariants as failures
@@ -161,8 +161,8 @@ module _ (r : Result TStmt OutOfMemory) (t : Around → Tables) (c : Around → 
   pub print_ok : (v : Vec Expr Global) (l : List Expr) → x ≡ s.Print v → l ≡ v.items → Known (λ around. evaluate (all_values (values_in (c around) l))) → Same
   print_ok v l is all h = by_form (s.Print v) _ is (o.as-Print v) (λ around. evaluate (all_values (values_in (c around) l))) (λ around. ap (λ (l : List Expr). evaluate (all_values (values_in (c around) l))) all ∙ ap (λ (a : Run Frame). evaluate a) (values_are (c around) v.items)) h
 
-  pub print_part_ok : (v : Vec Expr Global) (l : List Expr) → x ≡ s.PrintPart v → l ≡ v.items → Known (λ around. evaluate (all_values (values_in (c around) l))) → Same
-  print_part_ok v l is all h = by_form (s.PrintPart v) _ is (o.as-PrintPart v) (λ around. evaluate (all_values (values_in (c around) l))) (λ around. ap (λ (l : List Expr). evaluate (all_values (values_in (c around) l))) all ∙ ap (λ (a : Run Frame). evaluate a) (values_are (c around) v.items)) h
+  pub print_part_ok : (v : Vec Expr Global) (l : List Expr) → x ≡ s.Printn v → l ≡ v.items → Known (λ around. evaluate (all_values (values_in (c around) l))) → Same
+  print_part_ok v l is all h = by_form (s.Printn v) _ is (o.as-Printn v) (λ around. evaluate (all_values (values_in (c around) l))) (λ around. ap (λ (l : List Expr). evaluate (all_values (values_in (c around) l))) all ∙ ap (λ (a : Run Frame). evaluate a) (values_are (c around) v.items)) h
 
   pub call_ok : (n : Name) (place : ℕ) (v : Vec Expr Global) (l : List Expr) → x ≡ s.Call n place v → l ≡ v.items → Known (λ around. evaluate (call (function_of (c around) n) (all_values (values_in (c around) l)))) → Same
   call_ok n place v l is all h = by_form (s.Call n place v) _ is (o.as-Call n place v) (λ around. evaluate (call (function_of (c around) n) (all_values (values_in (c around) l))))

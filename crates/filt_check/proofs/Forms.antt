@@ -2,12 +2,12 @@
 -- parts.
 use Rattle.std.proofs.Common.{◌≡◌, ℕ, List, map, Option, Some, None, Ok, Err, refl, ap, ◌∙◌, rules, Box, Vec, slice_get}
 use Rattle.std.specs.Global.{Global}
-use Rattle.filt_syntax.specs.declared.tree.Attribute.{Attribute}
-use Rattle.filt_syntax.specs.declared.tree.Compare.{Compare}
-use Rattle.filt_syntax.specs.declared.tree.Factor.{Factor}
-use Rattle.filt_syntax.specs.declared.tree.Joint.{Joint}
-use Rattle.filt_syntax.specs.declared.tree.MethodKind.{MethodKind}
-use Rattle.filt_syntax.specs.declared.tree.Term.{Term}
+use Rattle.filt_syntax.specs.declared.ast.Attribute.{Attribute}
+use Rattle.filt_syntax.specs.declared.ast.CompareOp.{CompareOp}
+use Rattle.filt_syntax.specs.declared.ast.MulOp.{MulOp}
+use Rattle.filt_syntax.specs.declared.ast.LogicalOp.{LogicalOp}
+use Rattle.filt_syntax.specs.declared.ast.MethodKind.{MethodKind}
+use Rattle.filt_syntax.specs.declared.ast.AddOp.{AddOp}
 use Rattle.filt_values.specs.declared.fixed.Fixed.{Fixed}
 use Rattle.filt_values.specs.declared.value.Failure.TheVariants as failures
 use Rattle.filt_values.specs.declared.value.Sort.{Sort}
@@ -71,19 +71,19 @@ of-Access A step a v = search (rules, expr_lemmas)
 of-Not : (A : Type 0) (step : TExpr-F A → A) (a : Box TExpr Global) → fold-TExpr A step (te.Not a) ≡ step (map-TExpr TExpr A (fold-TExpr A step) (TExpr-F.Not a))
 of-Not A step a = search (rules, expr_lemmas)
 
-of-Product : (A : Type 0) (step : TExpr-F A → A) (a : Box TExpr Global) (v : Vec (Factor × TExpr) Global) → fold-TExpr A step (te.Product a v) ≡ step (map-TExpr TExpr A (fold-TExpr A step) (TExpr-F.Product a v))
+of-Product : (A : Type 0) (step : TExpr-F A → A) (a : Box TExpr Global) (v : Vec (MulOp × TExpr) Global) → fold-TExpr A step (te.Product a v) ≡ step (map-TExpr TExpr A (fold-TExpr A step) (TExpr-F.Product a v))
 of-Product A step a v = search (rules, expr_lemmas)
 
-of-Sum : (A : Type 0) (step : TExpr-F A → A) (a : Box TExpr Global) (v : Vec (Term × TExpr) Global) → fold-TExpr A step (te.Sum a v) ≡ step (map-TExpr TExpr A (fold-TExpr A step) (TExpr-F.Sum a v))
+of-Sum : (A : Type 0) (step : TExpr-F A → A) (a : Box TExpr Global) (v : Vec (AddOp × TExpr) Global) → fold-TExpr A step (te.Sum a v) ≡ step (map-TExpr TExpr A (fold-TExpr A step) (TExpr-F.Sum a v))
 of-Sum A step a v = search (rules, expr_lemmas)
 
-of-Compare : (A : Type 0) (step : TExpr-F A → A) (op : Compare) (a b : Box TExpr Global) → fold-TExpr A step (te.Compare op a b) ≡ step (map-TExpr TExpr A (fold-TExpr A step) (TExpr-F.Compare op a b))
+of-Compare : (A : Type 0) (step : TExpr-F A → A) (op : CompareOp) (a b : Box TExpr Global) → fold-TExpr A step (te.Compare op a b) ≡ step (map-TExpr TExpr A (fold-TExpr A step) (TExpr-F.Compare op a b))
 of-Compare A step op a b = search (rules, expr_lemmas)
 
 of-Test : (A : Type 0) (step : TExpr-F A → A) (what : TTest) → fold-TExpr A step (te.Test what) ≡ step (map-TExpr TExpr A (fold-TExpr A step) (TExpr-F.Test what))
 of-Test A step what = search (rules, expr_lemmas)
 
-of-Joint : (A : Type 0) (step : TExpr-F A → A) (a : Box TExpr Global) (v : Vec (Joint × TExpr) Global) → fold-TExpr A step (te.Joint a v) ≡ step (map-TExpr TExpr A (fold-TExpr A step) (TExpr-F.Joint a v))
+of-Joint : (A : Type 0) (step : TExpr-F A → A) (a : Box TExpr Global) (v : Vec (LogicalOp × TExpr) Global) → fold-TExpr A step (te.Joint a v) ≡ step (map-TExpr TExpr A (fold-TExpr A step) (TExpr-F.Joint a v))
 of-Joint A step a v = search (rules, expr_lemmas)
 
 of-Stuck : (A : Type 0) (step : TExpr-F A → A) → fold-TExpr A step te.Stuck ≡ step (map-TExpr TExpr A (fold-TExpr A step) TExpr-F.Stuck)
@@ -168,20 +168,20 @@ expr-Access a v t = ap (λ (f : Tables → Run Val). f t) (of-Access (Tables →
 pub expr-Not : (a : Box TExpr Global) (t : Tables) → expr (te.Not a) t ≡ on_value (expr a.value t) not_of
 expr-Not a t = ap (λ (f : Tables → Run Val). f t) (of-Not (Tables → Run Val) expr_step a)
 
-pub expr-Product : (a : Box TExpr Global) (v : Vec (Factor × TExpr) Global) (t : Tables) → expr (te.Product a v) t ≡ chain factor_of (expr a.value t) (parts t v.items)
-expr-Product a v t = ap (λ (f : Tables → Run Val). f t) (of-Product (Tables → Run Val) expr_step a v) ∙ ap (λ (rs : List (Factor × Run Val)). chain factor_of (expr a.value t) rs) (by_parts {B = Factor × (Tables → Run Val)} _ _ _ (λ a. refl) v.items)
+pub expr-Product : (a : Box TExpr Global) (v : Vec (MulOp × TExpr) Global) (t : Tables) → expr (te.Product a v) t ≡ chain factor_of (expr a.value t) (parts t v.items)
+expr-Product a v t = ap (λ (f : Tables → Run Val). f t) (of-Product (Tables → Run Val) expr_step a v) ∙ ap (λ (rs : List (MulOp × Run Val)). chain factor_of (expr a.value t) rs) (by_parts {B = MulOp × (Tables → Run Val)} _ _ _ (λ a. refl) v.items)
 
-pub expr-Sum : (a : Box TExpr Global) (v : Vec (Term × TExpr) Global) (t : Tables) → expr (te.Sum a v) t ≡ chain term_of (expr a.value t) (parts t v.items)
-expr-Sum a v t = ap (λ (f : Tables → Run Val). f t) (of-Sum (Tables → Run Val) expr_step a v) ∙ ap (λ (rs : List (Term × Run Val)). chain term_of (expr a.value t) rs) (by_parts {B = Term × (Tables → Run Val)} _ _ _ (λ a. refl) v.items)
+pub expr-Sum : (a : Box TExpr Global) (v : Vec (AddOp × TExpr) Global) (t : Tables) → expr (te.Sum a v) t ≡ chain term_of (expr a.value t) (parts t v.items)
+expr-Sum a v t = ap (λ (f : Tables → Run Val). f t) (of-Sum (Tables → Run Val) expr_step a v) ∙ ap (λ (rs : List (AddOp × Run Val)). chain term_of (expr a.value t) rs) (by_parts {B = AddOp × (Tables → Run Val)} _ _ _ (λ a. refl) v.items)
 
-pub expr-Compare : (op : Compare) (a b : Box TExpr Global) (t : Tables) → expr (te.Compare op a b) t ≡ on_two (expr a.value t) (expr b.value t) (compare_of op)
+pub expr-Compare : (op : CompareOp) (a b : Box TExpr Global) (t : Tables) → expr (te.Compare op a b) t ≡ on_two (expr a.value t) (expr b.value t) (compare_of op)
 expr-Compare op a b t = ap (λ (f : Tables → Run Val). f t) (of-Compare (Tables → Run Val) expr_step op a b)
 
 pub expr-Test : (what : TTest) (t : Tables) → expr (te.Test what) t ≡ test t.around what
 expr-Test what t = ap (λ (f : Tables → Run Val). f t) (of-Test (Tables → Run Val) expr_step what)
 
-pub expr-Joint : (a : Box TExpr Global) (v : Vec (Joint × TExpr) Global) (t : Tables) → expr (te.Joint a v) t ≡ joints (expr a.value t) (parts t v.items)
-expr-Joint a v t = ap (λ (f : Tables → Run Val). f t) (of-Joint (Tables → Run Val) expr_step a v) ∙ ap (λ (rs : List (Joint × Run Val)). joints (expr a.value t) rs) (by_parts {B = Joint × (Tables → Run Val)} _ _ _ (λ a. refl) v.items)
+pub expr-Joint : (a : Box TExpr Global) (v : Vec (LogicalOp × TExpr) Global) (t : Tables) → expr (te.Joint a v) t ≡ joints (expr a.value t) (parts t v.items)
+expr-Joint a v t = ap (λ (f : Tables → Run Val). f t) (of-Joint (Tables → Run Val) expr_step a v) ∙ ap (λ (rs : List (LogicalOp × Run Val)). joints (expr a.value t) rs) (by_parts {B = LogicalOp × (Tables → Run Val)} _ _ _ (λ a. refl) v.items)
 
 pub expr-Stuck : (t : Tables) → expr te.Stuck t ≡ given (Err failures.Stuck)
 expr-Stuck t = ap (λ (f : Tables → Run Val). f t) (of-Stuck (Tables → Run Val) expr_step)

@@ -5,20 +5,20 @@ use Rattle.std.proofs.lemmas.List.{map-append, drop_all}
 use Rattle.std.proofs.lemmas.Result.{IfOk-weaker}
 use Rattle.bits_ip.specs.declared.memory.OutOfMemory.{OutOfMemory}
 use Rattle.grammar.specs.declared.named.Name.{Name}
-use Rattle.filt_syntax.specs.declared.tree.Access.{Access}
-use Rattle.filt_syntax.specs.declared.tree.Access.TheVariants as accesses
-use Rattle.filt_syntax.specs.declared.tree.Attribute.{Attribute}
-use Rattle.filt_syntax.specs.declared.tree.Compare.{Compare}
-use Rattle.filt_syntax.specs.declared.tree.Expr.{Expr}
-use Rattle.filt_syntax.specs.declared.tree.Expr.TheVariants as e
-use Rattle.filt_syntax.specs.declared.tree.Factor.{Factor}
-use Rattle.filt_syntax.specs.declared.tree.Item.{Item}
-use Rattle.filt_syntax.specs.declared.tree.Joint.{Joint}
-use Rattle.filt_syntax.specs.declared.tree.MaskItem.{MaskItem}
-use Rattle.filt_syntax.specs.declared.tree.Method.{Method}
-use Rattle.filt_syntax.specs.declared.tree.MethodKind.{MethodKind}
-use Rattle.filt_syntax.specs.declared.tree.Simple.{Simple}
-use Rattle.filt_syntax.specs.declared.tree.Term.{Term}
+use Rattle.filt_syntax.specs.declared.ast.Postfix.{Postfix}
+use Rattle.filt_syntax.specs.declared.ast.Postfix.TheVariants as postfixes
+use Rattle.filt_syntax.specs.declared.ast.Attribute.{Attribute}
+use Rattle.filt_syntax.specs.declared.ast.CompareOp.{CompareOp}
+use Rattle.filt_syntax.specs.declared.ast.Expr.{Expr}
+use Rattle.filt_syntax.specs.declared.ast.Expr.TheVariants as e
+use Rattle.filt_syntax.specs.declared.ast.MulOp.{MulOp}
+use Rattle.filt_syntax.specs.declared.ast.Item.{Item}
+use Rattle.filt_syntax.specs.declared.ast.LogicalOp.{LogicalOp}
+use Rattle.filt_syntax.specs.declared.ast.MaskItem.{MaskItem}
+use Rattle.filt_syntax.specs.declared.ast.Method.{Method}
+use Rattle.filt_syntax.specs.declared.ast.MethodKind.{MethodKind}
+use Rattle.filt_syntax.specs.declared.ast.Atom.{Atom}
+use Rattle.filt_syntax.specs.declared.ast.AddOp.{AddOp}
 use Rattle.conf_ast.specs.Filters.{Expression, PropertyOf, Changed, Multiplied, Added, Joined, expression_of, expressions_of, accessed, multiplied, added, joined}
 use Rattle.filt_values.specs.declared.value.Failure.{Failure}
 use Rattle.filt_values.specs.declared.value.Failure.TheVariants as failures
@@ -47,20 +47,20 @@ pub values_are : (c : Context) (es : List Expr) → all_values (values_in c es) 
 values_are c [] = refl
 values_are c (x ∷ es) = ap (λ (a : Run Frame). one_more (value (expression_of x) c) a) (values_are c es)
 
-accessed_are : (c : Context) (a : Expression) (more : List (Access Expr)) → trees.accessed (value a c) (accesses_in c more) ≡ value (accessed a (accesses_of more)) c
+accessed_are : (c : Context) (a : Expression) (more : List (Postfix Expr)) → trees.accessed (value a c) (accesses_in c more) ≡ value (accessed a (accesses_of more)) c
 accessed_are c a [] = refl
-accessed_are c a (accesses.Property p ∷ more) = accessed_are c (PropertyOf a p) more
-accessed_are c a (accesses.Method m place x ∷ more) = accessed_are c (Changed a m place (expression_of x)) more
+accessed_are c a (postfixes.Property p ∷ more) = accessed_are c (PropertyOf a p) more
+accessed_are c a (postfixes.Method m place x ∷ more) = accessed_are c (Changed a m place (expression_of x)) more
 
-multiplied_are : (c : Context) (a : Expression) (more : List (Factor × Expr)) → trees.chain factor_of (value a c) (parts_in c more) ≡ value (multiplied a (operands_of more)) c
+multiplied_are : (c : Context) (a : Expression) (more : List (MulOp × Expr)) → trees.chain factor_of (value a c) (parts_in c more) ≡ value (multiplied a (operands_of more)) c
 multiplied_are c a [] = refl
 multiplied_are c a (x ∷ more) = multiplied_are c (Multiplied a x.0 (expression_of x.1)) more
 
-added_are : (c : Context) (a : Expression) (more : List (Term × Expr)) → trees.chain term_of (value a c) (parts_in c more) ≡ value (added a (operands_of more)) c
+added_are : (c : Context) (a : Expression) (more : List (AddOp × Expr)) → trees.chain term_of (value a c) (parts_in c more) ≡ value (added a (operands_of more)) c
 added_are c a [] = refl
 added_are c a (x ∷ more) = added_are c (Added a x.0 (expression_of x.1)) more
 
-joined_are : (c : Context) (a : Expression) (more : List (Joint × Expr)) → trees.joints (value a c) (parts_in c more) ≡ value (joined a (operands_of more)) c
+joined_are : (c : Context) (a : Expression) (more : List (LogicalOp × Expr)) → trees.joints (value a c) (parts_in c more) ≡ value (joined a (operands_of more)) c
 joined_are c a [] = refl
 joined_are c a (x ∷ more) = joined_are c (Joined a x.0 (expression_of x.1)) more
 
@@ -84,8 +84,8 @@ module _ (r : Result TExpr OutOfMemory) (t : Around → Tables) (c : Around → 
   abbrev Known : (Around → Run Val) → Type 0
   Known a = IfOk r (λ z. (around : Around) → expr z (t around) ≡ a around)
 
-  pub simple_ok : (w : Simple) → x ≡ e.Simple w → Known (λ around. plain w (c around)) → Known (λ around. value (expression_of x) (c around))
-  simple_ok w is h = weaker r t (λ around. plain w (c around)) (λ around. value (expression_of x) (c around)) (λ around. sym (ap (λ (y : Expr). value (expression_of y) (c around)) is ∙ ap (λ (y : Expression). value y (c around)) (o.is-Simple w))) h
+  pub simple_ok : (w : Atom) → x ≡ e.Atom w → Known (λ around. plain w (c around)) → Known (λ around. value (expression_of x) (c around))
+  simple_ok w is h = weaker r t (λ around. plain w (c around)) (λ around. value (expression_of x) (c around)) (λ around. sym (ap (λ (y : Expr). value (expression_of y) (c around)) is ∙ ap (λ (y : Expression). value y (c around)) (o.is-Atom w))) h
 
   pub group_ok : (at : ℕ) (b : Box Expr Global) (y : Expr) → x ≡ e.Group at b → y ≡ b.value → Known (λ around. value (expression_of y) (c around)) → Known (λ around. value (expression_of x) (c around))
   group_ok at b y is inner h = weaker r t (λ around. value (expression_of y) (c around)) (λ around. value (expression_of x) (c around)) (λ around. ap (λ (y : Expr). value (expression_of y) (c around)) inner ∙ sym (ap (λ (y : Expr). value (expression_of y) (c around)) is ∙ ap (λ (y : Expression). value y (c around)) (o.is-Group at b))) h
@@ -102,28 +102,28 @@ module _ (r : Result TExpr OutOfMemory) (t : Around → Tables) (c : Around → 
   pub method_ok : (m : Method) (place : ℕ) (a b : Box Expr Global) (y z : Expr) → x ≡ e.MethodCall m place a b → y ≡ a.value → z ≡ b.value → Known (two (method_of m.kind) y z) → Known (λ around. value (expression_of x) (c around))
   method_ok m place a b y z is left right h = weaker r t (two (method_of m.kind) y z) (λ around. value (expression_of x) (c around)) (λ around. two_same (method_of m.kind) y z a.value b.value left right around ∙ sym (ap (λ (y : Expr). value (expression_of y) (c around)) is ∙ ap (λ (y : Expression). value y (c around)) (o.is-MethodCall m place a b))) h
 
-  pub compare_ok : (op : Compare) (a b : Box Expr Global) (y z : Expr) → x ≡ e.Compare op a b → y ≡ a.value → z ≡ b.value → Known (two (compare_of op) y z) → Known (λ around. value (expression_of x) (c around))
+  pub compare_ok : (op : CompareOp) (a b : Box Expr Global) (y z : Expr) → x ≡ e.Compare op a b → y ≡ a.value → z ≡ b.value → Known (two (compare_of op) y z) → Known (λ around. value (expression_of x) (c around))
   compare_ok op a b y z is left right h = weaker r t (two (compare_of op) y z) (λ around. value (expression_of x) (c around)) (λ around. two_same (compare_of op) y z a.value b.value left right around ∙ sym (ap (λ (y : Expr). value (expression_of y) (c around)) is ∙ ap (λ (y : Expression). value y (c around)) (o.is-Compare op a b))) h
 
-  pub access_ok : (a : Box Expr Global) (v : Vec (Access Expr) Global) (y : Expr) (l : List (Access Expr)) → x ≡ e.Access a v → y ≡ a.value → l ≡ v.items → Known (λ around. trees.accessed (value (expression_of y) (c around)) (accesses_in (c around) l)) → Known (λ around. value (expression_of x) (c around))
+  pub access_ok : (a : Box Expr Global) (v : Vec (Postfix Expr) Global) (y : Expr) (l : List (Postfix Expr)) → x ≡ e.Postfix a v → y ≡ a.value → l ≡ v.items → Known (λ around. trees.accessed (value (expression_of y) (c around)) (accesses_in (c around) l)) → Known (λ around. value (expression_of x) (c around))
   access_ok a v y l is left all h = weaker r t (λ around. trees.accessed (value (expression_of y) (c around)) (accesses_in (c around) l)) (λ around. value (expression_of x) (c around)) (λ around.
-      ap (λ (y : Expr). trees.accessed (value (expression_of y) (c around)) (accesses_in (c around) l)) left ∙ ap (λ (l : List (Access Expr)). trees.accessed (value (expression_of a.value) (c around)) (accesses_in (c around) l)) all
-      ∙ accessed_are (c around) (expression_of a.value) v.items ∙ sym (ap (λ (y : Expr). value (expression_of y) (c around)) is ∙ ap (λ (y : Expression). value y (c around)) (o.is-Access a v))) h
+      ap (λ (y : Expr). trees.accessed (value (expression_of y) (c around)) (accesses_in (c around) l)) left ∙ ap (λ (l : List (Postfix Expr)). trees.accessed (value (expression_of a.value) (c around)) (accesses_in (c around) l)) all
+      ∙ accessed_are (c around) (expression_of a.value) v.items ∙ sym (ap (λ (y : Expr). value (expression_of y) (c around)) is ∙ ap (λ (y : Expression). value y (c around)) (o.is-Postfix a v))) h
 
-  pub product_ok : (a : Box Expr Global) (v : Vec (Factor × Expr) Global) (y : Expr) (l : List (Factor × Expr)) → x ≡ e.Product a v → y ≡ a.value → l ≡ v.items → Known (λ around. trees.chain factor_of (value (expression_of y) (c around)) (parts_in (c around) l)) → Known (λ around. value (expression_of x) (c around))
+  pub product_ok : (a : Box Expr Global) (v : Vec (MulOp × Expr) Global) (y : Expr) (l : List (MulOp × Expr)) → x ≡ e.Product a v → y ≡ a.value → l ≡ v.items → Known (λ around. trees.chain factor_of (value (expression_of y) (c around)) (parts_in (c around) l)) → Known (λ around. value (expression_of x) (c around))
   product_ok a v y l is left all h = weaker r t (λ around. trees.chain factor_of (value (expression_of y) (c around)) (parts_in (c around) l)) (λ around. value (expression_of x) (c around)) (λ around.
-      ap (λ (y : Expr). trees.chain factor_of (value (expression_of y) (c around)) (parts_in (c around) l)) left ∙ ap (λ (l : List (Factor × Expr)). trees.chain factor_of (value (expression_of a.value) (c around)) (parts_in (c around) l)) all
+      ap (λ (y : Expr). trees.chain factor_of (value (expression_of y) (c around)) (parts_in (c around) l)) left ∙ ap (λ (l : List (MulOp × Expr)). trees.chain factor_of (value (expression_of a.value) (c around)) (parts_in (c around) l)) all
       ∙ multiplied_are (c around) (expression_of a.value) v.items ∙ sym (ap (λ (y : Expr). value (expression_of y) (c around)) is ∙ ap (λ (y : Expression). value y (c around)) (o.is-Product a v))) h
 
-  pub sum_ok : (a : Box Expr Global) (v : Vec (Term × Expr) Global) (y : Expr) (l : List (Term × Expr)) → x ≡ e.Sum a v → y ≡ a.value → l ≡ v.items → Known (λ around. trees.chain term_of (value (expression_of y) (c around)) (parts_in (c around) l)) → Known (λ around. value (expression_of x) (c around))
+  pub sum_ok : (a : Box Expr Global) (v : Vec (AddOp × Expr) Global) (y : Expr) (l : List (AddOp × Expr)) → x ≡ e.Sum a v → y ≡ a.value → l ≡ v.items → Known (λ around. trees.chain term_of (value (expression_of y) (c around)) (parts_in (c around) l)) → Known (λ around. value (expression_of x) (c around))
   sum_ok a v y l is left all h = weaker r t (λ around. trees.chain term_of (value (expression_of y) (c around)) (parts_in (c around) l)) (λ around. value (expression_of x) (c around)) (λ around.
-      ap (λ (y : Expr). trees.chain term_of (value (expression_of y) (c around)) (parts_in (c around) l)) left ∙ ap (λ (l : List (Term × Expr)). trees.chain term_of (value (expression_of a.value) (c around)) (parts_in (c around) l)) all
+      ap (λ (y : Expr). trees.chain term_of (value (expression_of y) (c around)) (parts_in (c around) l)) left ∙ ap (λ (l : List (AddOp × Expr)). trees.chain term_of (value (expression_of a.value) (c around)) (parts_in (c around) l)) all
       ∙ added_are (c around) (expression_of a.value) v.items ∙ sym (ap (λ (y : Expr). value (expression_of y) (c around)) is ∙ ap (λ (y : Expression). value y (c around)) (o.is-Sum a v))) h
 
-  pub joint_ok : (a : Box Expr Global) (v : Vec (Joint × Expr) Global) (y : Expr) (l : List (Joint × Expr)) → x ≡ e.Joint a v → y ≡ a.value → l ≡ v.items → Known (λ around. trees.joints (value (expression_of y) (c around)) (parts_in (c around) l)) → Known (λ around. value (expression_of x) (c around))
+  pub joint_ok : (a : Box Expr Global) (v : Vec (LogicalOp × Expr) Global) (y : Expr) (l : List (LogicalOp × Expr)) → x ≡ e.Logical a v → y ≡ a.value → l ≡ v.items → Known (λ around. trees.joints (value (expression_of y) (c around)) (parts_in (c around) l)) → Known (λ around. value (expression_of x) (c around))
   joint_ok a v y l is left all h = weaker r t (λ around. trees.joints (value (expression_of y) (c around)) (parts_in (c around) l)) (λ around. value (expression_of x) (c around)) (λ around.
-      ap (λ (y : Expr). trees.joints (value (expression_of y) (c around)) (parts_in (c around) l)) left ∙ ap (λ (l : List (Joint × Expr)). trees.joints (value (expression_of a.value) (c around)) (parts_in (c around) l)) all
-      ∙ joined_are (c around) (expression_of a.value) v.items ∙ sym (ap (λ (y : Expr). value (expression_of y) (c around)) is ∙ ap (λ (y : Expression). value y (c around)) (o.is-Joint a v))) h
+      ap (λ (y : Expr). trees.joints (value (expression_of y) (c around)) (parts_in (c around) l)) left ∙ ap (λ (l : List (LogicalOp × Expr)). trees.joints (value (expression_of a.value) (c around)) (parts_in (c around) l)) all
+      ∙ joined_are (c around) (expression_of a.value) v.items ∙ sym (ap (λ (y : Expr). value (expression_of y) (c around)) is ∙ ap (λ (y : Expression). value y (c around)) (o.is-Logical a v))) h
 
 -- what is known over any variables
 module _ (r : Result TExpr OutOfMemory) (t : Around → Tables) (d : Around → List (List ℕ) → Context) (variables : List (List ℕ)) (x : Expr) where
@@ -164,20 +164,20 @@ pair_made t a b u v p q = f.expr-Pair a b t ∙ ap (λ (r : Run Val). on_two r (
 pub method_made : (t : Tables) (k : MethodKind) (a b : Box TExpr Global) (u v : Run Val) → expr a.value t ≡ u → expr b.value t ≡ v → expr (te.Method k a b) t ≡ on_two u v (method_of k)
 method_made t k a b u v p q = f.expr-Method k a b t ∙ ap (λ (r : Run Val). on_two r (expr b.value t) (method_of k)) p ∙ ap (λ (r : Run Val). on_two u r (method_of k)) q
 
-pub compare_made : (t : Tables) (op : Compare) (a b : Box TExpr Global) (u v : Run Val) → expr a.value t ≡ u → expr b.value t ≡ v → expr (te.Compare op a b) t ≡ on_two u v (compare_of op)
+pub compare_made : (t : Tables) (op : CompareOp) (a b : Box TExpr Global) (u v : Run Val) → expr a.value t ≡ u → expr b.value t ≡ v → expr (te.Compare op a b) t ≡ on_two u v (compare_of op)
 compare_made t op a b u v p q = f.expr-Compare op a b t ∙ ap (λ (r : Run Val). on_two r (expr b.value t) (compare_of op)) p ∙ ap (λ (r : Run Val). on_two u r (compare_of op)) q
 
 pub access_made : (t : Tables) (a : Box TExpr Global) (v : Vec (TAccess TExpr) Global) (u : Run Val) (rs : List (TAccess (Run Val))) → expr a.value t ≡ u → trees.accesses_of t v.items ≡ rs → expr (te.Access a v) t ≡ trees.accessed u rs
 access_made t a v u rs p q = f.expr-Access a v t ∙ ap (λ (r : Run Val). trees.accessed r (trees.accesses_of t v.items)) p ∙ ap (λ (l : List (TAccess (Run Val))). trees.accessed u l) q
 
-pub product_made : (t : Tables) (a : Box TExpr Global) (v : Vec (Factor × TExpr) Global) (u : Run Val) (rs : List (Factor × Run Val)) → expr a.value t ≡ u → trees.parts t v.items ≡ rs → expr (te.Product a v) t ≡ trees.chain factor_of u rs
-product_made t a v u rs p q = f.expr-Product a v t ∙ ap (λ (r : Run Val). trees.chain factor_of r (trees.parts t v.items)) p ∙ ap (λ (l : List (Factor × Run Val)). trees.chain factor_of u l) q
+pub product_made : (t : Tables) (a : Box TExpr Global) (v : Vec (MulOp × TExpr) Global) (u : Run Val) (rs : List (MulOp × Run Val)) → expr a.value t ≡ u → trees.parts t v.items ≡ rs → expr (te.Product a v) t ≡ trees.chain factor_of u rs
+product_made t a v u rs p q = f.expr-Product a v t ∙ ap (λ (r : Run Val). trees.chain factor_of r (trees.parts t v.items)) p ∙ ap (λ (l : List (MulOp × Run Val)). trees.chain factor_of u l) q
 
-pub sum_made : (t : Tables) (a : Box TExpr Global) (v : Vec (Term × TExpr) Global) (u : Run Val) (rs : List (Term × Run Val)) → expr a.value t ≡ u → trees.parts t v.items ≡ rs → expr (te.Sum a v) t ≡ trees.chain term_of u rs
-sum_made t a v u rs p q = f.expr-Sum a v t ∙ ap (λ (r : Run Val). trees.chain term_of r (trees.parts t v.items)) p ∙ ap (λ (l : List (Term × Run Val)). trees.chain term_of u l) q
+pub sum_made : (t : Tables) (a : Box TExpr Global) (v : Vec (AddOp × TExpr) Global) (u : Run Val) (rs : List (AddOp × Run Val)) → expr a.value t ≡ u → trees.parts t v.items ≡ rs → expr (te.Sum a v) t ≡ trees.chain term_of u rs
+sum_made t a v u rs p q = f.expr-Sum a v t ∙ ap (λ (r : Run Val). trees.chain term_of r (trees.parts t v.items)) p ∙ ap (λ (l : List (AddOp × Run Val)). trees.chain term_of u l) q
 
-pub joint_made : (t : Tables) (a : Box TExpr Global) (v : Vec (Joint × TExpr) Global) (u : Run Val) (rs : List (Joint × Run Val)) → expr a.value t ≡ u → trees.parts t v.items ≡ rs → expr (te.Joint a v) t ≡ trees.joints u rs
-joint_made t a v u rs p q = f.expr-Joint a v t ∙ ap (λ (r : Run Val). trees.joints r (trees.parts t v.items)) p ∙ ap (λ (l : List (Joint × Run Val)). trees.joints u l) q
+pub joint_made : (t : Tables) (a : Box TExpr Global) (v : Vec (LogicalOp × TExpr) Global) (u : Run Val) (rs : List (LogicalOp × Run Val)) → expr a.value t ≡ u → trees.parts t v.items ≡ rs → expr (te.Joint a v) t ≡ trees.joints u rs
+joint_made t a v u rs p q = f.expr-Joint a v t ∙ ap (λ (r : Run Val). trees.joints r (trees.parts t v.items)) p ∙ ap (λ (l : List (LogicalOp × Run Val)). trees.joints u l) q
 
 -- ---- words
 

@@ -6,16 +6,16 @@ use Rattle.std.proofs.lemmas.Option.{none-some}
 use Rattle.std.specs.Option.{unwrap_or}
 use Rattle.bits_ip.specs.Prefix.{Net}
 use Rattle.filt_sets.specs.declared.mask.MaskItem as set
-use Rattle.filt_syntax.specs.declared.tree.Item.{Item}
-use Rattle.filt_syntax.specs.declared.tree.Item.TheVariants as items
-use Rattle.filt_syntax.specs.declared.tree.Lengths.{Lengths}
-use Rattle.filt_syntax.specs.declared.tree.Lengths.TheVariants as lengths
-use Rattle.filt_syntax.specs.declared.tree.MaskItem.{MaskItem}
-use Rattle.filt_syntax.specs.declared.tree.Num.{Num}
-use Rattle.filt_syntax.specs.declared.tree.Num.TheVariants as nums
-use Rattle.filt_syntax.specs.declared.tree.PairPart.{PairPart}
-use Rattle.filt_syntax.specs.declared.tree.PairPart.TheVariants as parts
-use Rattle.filt_syntax.specs.declared.tree.Part.{Part}
+use Rattle.filt_syntax.specs.declared.ast.Item.{Item}
+use Rattle.filt_syntax.specs.declared.ast.Item.TheVariants as items
+use Rattle.filt_syntax.specs.declared.ast.Lengths.{Lengths}
+use Rattle.filt_syntax.specs.declared.ast.Lengths.TheVariants as lengths
+use Rattle.filt_syntax.specs.declared.ast.MaskItem.{MaskItem}
+use Rattle.filt_syntax.specs.declared.ast.Num.{Num}
+use Rattle.filt_syntax.specs.declared.ast.Num.TheVariants as nums
+use Rattle.filt_syntax.specs.declared.ast.PairPart.{PairPart}
+use Rattle.filt_syntax.specs.declared.ast.PairPart.TheVariants as parts
+use Rattle.filt_syntax.specs.declared.ast.NumRange.{NumRange}
 use Rattle.filt_values.specs.declared.value.Failure.{Failure}
 use Rattle.filt_values.specs.declared.value.Failure.TheVariants.{Stuck}
 use Rattle.filt_values.specs.Operators.{and_then, int_in}
@@ -86,12 +86,12 @@ last_plain : (c : Context) (lo : ℕ) (n : Option Num) → IsPlain (last_number 
 last_plain c lo None = tt
 last_plain c lo (Some n) = number_plain c n
 
-int_item_plain : (c : Context) (p : Part) → IsPlain (int_item c p)
+int_item_plain : (c : Context) (p : NumRange) → IsPlain (int_item c p)
 int_item_plain c p = then_plain (number c p.low) _ (number_plain c p.low) (λ lo. then_plain (last_number c lo p.high) _ (last_plain c lo p.high) (λ hi. tt))
 
 part_plain : (c : Context) (p : PairPart) → IsPlain (pair_part c p)
 part_plain c parts.Any = tt
-part_plain c (parts.Part p) = int_item_plain c p
+part_plain c (parts.Range p) = int_item_plain c p
 
 pair_plain : (c : Context) (a b : PairPart) → IsPlain (pair_item c a b)
 pair_plain c a b = then_plain (pair_part c a) _ (part_plain c a) (λ x. then_plain (pair_part c b) _ (part_plain c b) (λ y. tt))
@@ -110,17 +110,17 @@ prefix_plain c net (Some lengths.AndShorter) = tt
 prefix_plain c net (Some (lengths.Between lo hi)) = then_plain (prefix_length c lo) _ (length_plain c lo) (λ x. then_plain (prefix_length c hi) _ (length_plain c hi) (λ y. tt))
 
 int_of_plain : (c : Context) (i : Item) → IsPlain (int_of c i)
-int_of_plain c (items.Part p) = int_item_plain c p
+int_of_plain c (items.Range p) = int_item_plain c p
 int_of_plain c (items.Pair at a b) = refl
 int_of_plain c (items.Prefix at net l) = refl
 
 pair_of_plain : (c : Context) (i : Item) → IsPlain (pair_of c i)
-pair_of_plain c (items.Part p) = refl
+pair_of_plain c (items.Range p) = refl
 pair_of_plain c (items.Pair at a b) = pair_plain c a b
 pair_of_plain c (items.Prefix at net l) = refl
 
 prefix_of_plain : (c : Context) (i : Item) → IsPlain (prefix_of c i)
-prefix_of_plain c (items.Part p) = refl
+prefix_of_plain c (items.Range p) = refl
 prefix_of_plain c (items.Pair at a b) = refl
 prefix_of_plain c (items.Prefix at net l) = prefix_plain c net l
 
@@ -141,7 +141,7 @@ prefixes_of c l = and_then (each (prefix_of c) l) (λ more. Ok (VPrefixSet more)
 
 -- by the sort of the first item
 abbrev by_first : Context → Item → List Item → Result Val Failure
-by_first c (items.Part p) l = ints_of c l
+by_first c (items.Range p) l = ints_of c l
 by_first c (items.Pair at a b) l = pairs_of c l
 by_first c (items.Prefix at net l) more = prefixes_of c more
 
@@ -166,18 +166,18 @@ other_by w v with h (Err failure) (Ok more) p q = refl
 other_by w v with h (Err failure) (Err other) p q = ap Err (q ∙ sym p)
 
 before_by : (c : Context) (i j : Item) (more : List Item) → and_then (by_first c j (j ∷ more)) (λ set. before_set c i set) ≡ by_first c i (i ∷ j ∷ more)
-before_by c (items.Part p) (items.Part q) more = same_by VIntSet with_int_item (λ a xs. refl) (int_item c p) (each (int_of c) (items.Part q ∷ more)) (int_item_plain c p) (each_plain (int_of c) (int_of_plain c) (items.Part q ∷ more))
-before_by c (items.Part p) (items.Pair at a b) more = other_by VIntSet VPairSet with_int_item (λ a xs. refl) (int_item c p) (each (pair_of c) (items.Pair at a b ∷ more)) (int_item_plain c p) (each_plain (pair_of c) (pair_of_plain c) (items.Pair at a b ∷ more))
-before_by c (items.Part p) (items.Prefix at net l) more = other_by VIntSet VPrefixSet with_int_item (λ a xs. refl) (int_item c p) (each (prefix_of c) (items.Prefix at net l ∷ more)) (int_item_plain c p) (each_plain (prefix_of c) (prefix_of_plain c) (items.Prefix at net l ∷ more))
-before_by c (items.Pair at a b) (items.Part q) more = other_by VPairSet VIntSet with_pair_item (λ a xs. refl) (pair_item c a b) (each (int_of c) (items.Part q ∷ more)) (pair_plain c a b) (each_plain (int_of c) (int_of_plain c) (items.Part q ∷ more))
+before_by c (items.Range p) (items.Range q) more = same_by VIntSet with_int_item (λ a xs. refl) (int_item c p) (each (int_of c) (items.Range q ∷ more)) (int_item_plain c p) (each_plain (int_of c) (int_of_plain c) (items.Range q ∷ more))
+before_by c (items.Range p) (items.Pair at a b) more = other_by VIntSet VPairSet with_int_item (λ a xs. refl) (int_item c p) (each (pair_of c) (items.Pair at a b ∷ more)) (int_item_plain c p) (each_plain (pair_of c) (pair_of_plain c) (items.Pair at a b ∷ more))
+before_by c (items.Range p) (items.Prefix at net l) more = other_by VIntSet VPrefixSet with_int_item (λ a xs. refl) (int_item c p) (each (prefix_of c) (items.Prefix at net l ∷ more)) (int_item_plain c p) (each_plain (prefix_of c) (prefix_of_plain c) (items.Prefix at net l ∷ more))
+before_by c (items.Pair at a b) (items.Range q) more = other_by VPairSet VIntSet with_pair_item (λ a xs. refl) (pair_item c a b) (each (int_of c) (items.Range q ∷ more)) (pair_plain c a b) (each_plain (int_of c) (int_of_plain c) (items.Range q ∷ more))
 before_by c (items.Pair at a b) (items.Pair place x y) more = same_by VPairSet with_pair_item (λ a xs. refl) (pair_item c a b) (each (pair_of c) (items.Pair place x y ∷ more)) (pair_plain c a b) (each_plain (pair_of c) (pair_of_plain c) (items.Pair place x y ∷ more))
 before_by c (items.Pair at a b) (items.Prefix place net l) more = other_by VPairSet VPrefixSet with_pair_item (λ a xs. refl) (pair_item c a b) (each (prefix_of c) (items.Prefix place net l ∷ more)) (pair_plain c a b) (each_plain (prefix_of c) (prefix_of_plain c) (items.Prefix place net l ∷ more))
-before_by c (items.Prefix at net l) (items.Part q) more = other_by VPrefixSet VIntSet with_prefix_item (λ a xs. refl) (prefix_item c net l) (each (int_of c) (items.Part q ∷ more)) (prefix_plain c net l) (each_plain (int_of c) (int_of_plain c) (items.Part q ∷ more))
+before_by c (items.Prefix at net l) (items.Range q) more = other_by VPrefixSet VIntSet with_prefix_item (λ a xs. refl) (prefix_item c net l) (each (int_of c) (items.Range q ∷ more)) (prefix_plain c net l) (each_plain (int_of c) (int_of_plain c) (items.Range q ∷ more))
 before_by c (items.Prefix at net l) (items.Pair place x y) more = other_by VPrefixSet VPairSet with_prefix_item (λ a xs. refl) (prefix_item c net l) (each (pair_of c) (items.Pair place x y ∷ more)) (prefix_plain c net l) (each_plain (pair_of c) (pair_of_plain c) (items.Pair place x y ∷ more))
 before_by c (items.Prefix at net l) (items.Prefix place other m) more = same_by VPrefixSet with_prefix_item (λ a xs. refl) (prefix_item c net l) (each (prefix_of c) (items.Prefix place other m ∷ more)) (prefix_plain c net l) (each_plain (prefix_of c) (prefix_of_plain c) (items.Prefix place other m ∷ more))
 
 set_is : (c : Context) (i : Item) (more : List Item) → set_of c (i ∷ more) ≡ by_first c i (i ∷ more)
-set_is c (items.Part p) [] = one_by VIntSet (int_item c p)
+set_is c (items.Range p) [] = one_by VIntSet (int_item c p)
 set_is c (items.Pair at a b) [] = one_by VPairSet (pair_item c a b)
 set_is c (items.Prefix at net l) [] = one_by VPrefixSet (prefix_item c net l)
 set_is c i (j ∷ more) = ap (λ (r : Result Val Failure). and_then r (λ set. before_set c i set)) (set_is c j more) ∙ before_by c i j more
@@ -193,8 +193,8 @@ set_by : (c : Context) (l : List Item) (x y : Item) → Some x ≡ slice_get l 0
 set_by c l x y at is = let whole = opened l x y at is in rw whole.1 (sym (set_is c y whole.0))
 
 -- the items are of the first one's sort
-pub ints_are : (c : Context) (l : List Item) (x : Item) (p : Part) → Some x ≡ slice_get l 0 → x ≡ items.Part p → ints_of c l ≡ set_of c l
-ints_are c l x p at is = set_by c l x (items.Part p) at is
+pub ints_are : (c : Context) (l : List Item) (x : Item) (p : NumRange) → Some x ≡ slice_get l 0 → x ≡ items.Range p → ints_of c l ≡ set_of c l
+ints_are c l x p at is = set_by c l x (items.Range p) at is
 
 pub pairs_are : (c : Context) (l : List Item) (x : Item) (place : ℕ) (a b : PairPart) → Some x ≡ slice_get l 0 → x ≡ items.Pair place a b → pairs_of c l ≡ set_of c l
 pairs_are c l x place a b at is = set_by c l x (items.Pair place a b) at is

@@ -1,7 +1,7 @@
 -- Comparisons that are tests.
 use Rattle.std.proofs.Common.{◌≡◌, List, sym, ap, ◌∙◌, Box, Vec}
 use Rattle.std.specs.Global.{Global}
-use Rattle.filt_syntax.specs.declared.tree.Compare.{Compare}
+use Rattle.filt_syntax.specs.declared.ast.CompareOp.{CompareOp}
 use Rattle.filt_values.specs.Values.{Val}
 use Rattle.filt_meaning.specs.Flow.{Run}
 use Rattle.filt_meaning.specs.Meaning.{on_two, compare_of}
@@ -13,7 +13,7 @@ use Rattle.filt_tree.specs.Trees.{Tables, expr}
 use Rattle.filt_check.proofs.Forms as f
 
 -- both sides of a comparison by what they are
-pub on_both : (op : Compare) (a b u v : Run Val) → a ≡ u → b ≡ v → on_two a b (compare_of op) ≡ on_two u v (compare_of op)
+pub on_both : (op : CompareOp) (a b u v : Run Val) → a ≡ u → b ≡ v → on_two a b (compare_of op) ≡ on_two u v (compare_of op)
 on_both op a b u v p q = ap (λ (r : Run Val). on_two r b (compare_of op)) p ∙ ap (λ (r : Run Val). on_two u r (compare_of op)) q
 
 pub access_is : (t : Tables) (b : Box TExpr Global) (v : Vec (TAccess TExpr) Global) (x of : TExpr) (more : List (TAccess TExpr)) → x ≡ te.Access b v → of ≡ b.value → more ≡ v.items → expr x t ≡ trees.accessed (expr of t) (trees.accesses_of t more)

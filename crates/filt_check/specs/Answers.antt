@@ -1,7 +1,7 @@
 -- What is answered where filters and functions are checked: which is refused first, where nothing
 -- is accepted, and what a checked function takes, gives and weighs.
 use Rattle.std.specs.Prelude.{◌≡◌, ℕ, List, ◌++◌, map, Option, Some, ⊤}
-use Rattle.filt_syntax.specs.declared.tree.Parameter.{Parameter}
+use Rattle.filt_syntax.specs.declared.ast.Parameter.{Parameter}
 use Rattle.conf_ast.specs.Configurations.{Routine}
 use Rattle.conf_ast.specs.Filters.{Statements}
 use Rattle.filt_meaning.specs.Names.{sort_of_type}

@@ -6,14 +6,14 @@ use Rattle.std.specs.Borrow.{Bor}
 use Rattle.filt_sets.specs.declared.ints.IntItem.{IntItem}
 use Rattle.filt_sets.specs.declared.pairs.PairItem.{PairItem}
 use Rattle.filt_sets.specs.declared.prefixes.PrefixItem.{PrefixItem}
-use Rattle.filt_syntax.specs.declared.tree.Access.{Access}
-use Rattle.filt_syntax.specs.declared.tree.Access.TheVariants as accesses
-use Rattle.filt_syntax.specs.declared.tree.Arm.{Arm}
-use Rattle.filt_syntax.specs.declared.tree.Expr.{Expr}
-use Rattle.filt_syntax.specs.declared.tree.Item.{Item}
-use Rattle.filt_syntax.specs.declared.tree.Item.TheVariants as items
-use Rattle.filt_syntax.specs.declared.tree.Parameter.{Parameter}
-use Rattle.filt_syntax.specs.declared.tree.Stmt.{Stmt}
+use Rattle.filt_syntax.specs.declared.ast.Postfix.{Postfix}
+use Rattle.filt_syntax.specs.declared.ast.Postfix.TheVariants as postfixes
+use Rattle.filt_syntax.specs.declared.ast.Arm.{Arm}
+use Rattle.filt_syntax.specs.declared.ast.Expr.{Expr}
+use Rattle.filt_syntax.specs.declared.ast.Item.{Item}
+use Rattle.filt_syntax.specs.declared.ast.Item.TheVariants as items
+use Rattle.filt_syntax.specs.declared.ast.Parameter.{Parameter}
+use Rattle.filt_syntax.specs.declared.ast.Stmt.{Stmt}
 use Rattle.conf_ast.specs.Filters.{expression_of, statement_of, statements_of}
 use Rattle.filt_values.specs.declared.value.Failure.{Failure}
 use Rattle.filt_values.specs.declared.value.Failure.TheVariants.{Stuck}
@@ -46,11 +46,11 @@ at_place xs (Some n) = slice_get xs n
 abbrev pub values_in : Context → List Expr → List (Run Val)
 values_in c es = map (λ e. value (expression_of e) c) es
 
-abbrev pub access_in : Context → Access Expr → TAccess (Run Val)
-access_in c (accesses.Property p) = checked.Property p
-access_in c (accesses.Method m place e) = checked.Method m.kind (value (expression_of e) c)
+abbrev pub access_in : Context → Postfix Expr → TAccess (Run Val)
+access_in c (postfixes.Property p) = checked.Property p
+access_in c (postfixes.Method m place e) = checked.Method m.kind (value (expression_of e) c)
 
-abbrev pub accesses_in : Context → List (Access Expr) → List (TAccess (Run Val))
+abbrev pub accesses_in : Context → List (Postfix Expr) → List (TAccess (Run Val))
 accesses_in c more = map (access_in c) more
 
 -- operators, each with the expression behind it
@@ -65,17 +65,17 @@ each f [] = Ok []
 each f (x ∷ xs) = and_then (f x) (λ a. and_then (each f xs) (λ more. Ok (a ∷ more)))
 
 abbrev pub int_of : Context → Item → Result IntItem Failure
-int_of c (items.Part p) = int_item c p
+int_of c (items.Range p) = int_item c p
 int_of c (items.Pair at a b) = Err Stuck
 int_of c (items.Prefix at net l) = Err Stuck
 
 abbrev pub pair_of : Context → Item → Result PairItem Failure
-pair_of c (items.Part p) = Err Stuck
+pair_of c (items.Range p) = Err Stuck
 pair_of c (items.Pair at a b) = pair_item c a b
 pair_of c (items.Prefix at net l) = Err Stuck
 
 abbrev pub prefix_of : Context → Item → Result PrefixItem Failure
-prefix_of c (items.Part p) = Err Stuck
+prefix_of c (items.Range p) = Err Stuck
 prefix_of c (items.Pair at a b) = Err Stuck
 prefix_of c (items.Prefix at net l) = prefix_item c net l
 

@@ -16,7 +16,7 @@ use crate::items::set_of;
 use crate::resolve::resolve;
 use crate::simple::{assign, called, change, declare, print, returned};
 use bits_ip::OutOfMemory;
-use filt_syntax::{Arm, Expr, Stmt};
+use filt_syntax::ast::{Arm, Expr, Stmt};
 use filt_tree::{Scope, TArm, TStmt};
 use filt_values::Sort;
 use grammar::Name;
@@ -70,7 +70,7 @@ pub(crate) fn resolve_statement<'a>(
         Stmt::Reject => Ok(TStmt::Reject),
         Stmt::Return { value, .. } => returned(alloc, text, scope, names, value),
         Stmt::Print(given) => print(alloc, text, scope, names, given),
-        Stmt::PrintPart(given) => print(alloc, text, scope, names, given),
+        Stmt::Printn(given) => print(alloc, text, scope, names, given),
         Stmt::Call {
             name,
             arguments,

@@ -23,7 +23,7 @@ use bits_ip::OutOfMemory;
 use filt_rules::{
     first_in_block, first_in_condition, first_in_function, sort_given, weigh_block, weigh_condition,
 };
-use filt_syntax::{Block, Expr, Filter, Function, Stmt};
+use filt_syntax::ast::{Block, Expr, Filter, Function, Stmt};
 use filt_tree::{Scope, TExpr, TFilter, TFunction, TStmt};
 use std::alloc::Global;
 

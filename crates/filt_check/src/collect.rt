@@ -11,7 +11,7 @@ ghost use Rattle.filt_check.specs.Seen.{otherwise_declares, parameter_sorts};
 
 use bits_ip::OutOfMemory;
 use filt_rules::type_sort;
-use filt_syntax::{Arm, Parameter, Stmt, VariableType};
+use filt_syntax::ast::{Arm, Parameter, Stmt, VariableType};
 use filt_values::Sort;
 use grammar::Name;
 use std::alloc::Global;
@@ -81,7 +81,7 @@ fn collect<'a>(text: &'a [u8], s: &Stmt, out: &mut Vec<Declared<'a>>) -> Result<
         Stmt::Reject => Ok(()),
         Stmt::Return { .. } => Ok(()),
         Stmt::Print(_) => Ok(()),
-        Stmt::PrintPart(_) => Ok(()),
+        Stmt::Printn(_) => Ok(()),
         Stmt::Call { .. } => Ok(()),
     }
 }

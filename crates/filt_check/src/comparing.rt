@@ -8,12 +8,12 @@ ghost use Rattle.filt_tree.specs.Trees.{Tables};
 ghost use Rattle.filt_values.specs.Operators.{pair_of};
 ghost use Rattle.filt_values.specs.Values.{VInt, VPair};
 
-use filt_syntax::{Attribute, Compare, Property};
+use filt_syntax::ast::{Attribute, CompareOp, Property};
 use filt_tree::{TAccess, TExpr, TTest};
 use filt_values::Fixed;
 
 /// The comparison of two operands.
-pub(crate) fn comparison(op: Compare, left: Box<TExpr>, right: Box<TExpr>) -> TExpr
+pub(crate) fn comparison(op: CompareOp, left: Box<TExpr>, right: Box<TExpr>) -> TExpr
     ensures { (t : Tables) → trees.expr result t
         ≡ on_two (trees.expr left.value t) (trees.expr right.value t) (compare_of op) }
 {
@@ -24,7 +24,7 @@ pub(crate) fn comparison(op: Compare, left: Box<TExpr>, right: Box<TExpr>) -> TE
 }
 
 /// The test that a comparison is, if it is one.
-fn test(op: Compare, left: &TExpr, right: &TExpr) -> Option<TTest>
+fn test(op: CompareOp, left: &TExpr, right: &TExpr) -> Option<TTest>
     ensures { IfSome result (λ test. (t : Tables) → trees.test t.around test
         ≡ on_two (trees.expr left.now t) (trees.expr right.now t) (compare_of op)) }
 {
@@ -41,7 +41,7 @@ fn test(op: Compare, left: &TExpr, right: &TExpr) -> Option<TTest>
     }
 }
 
-fn number_test(op: Compare, left: &TExpr, number: u32) -> Option<TTest>
+fn number_test(op: CompareOp, left: &TExpr, number: u32) -> Option<TTest>
     ensures { IfSome result (λ test. (t : Tables) → trees.test t.around test
         ≡ on_two (trees.expr left.now t) (given (Ok (VInt number))) (compare_of op)) }
 {
@@ -55,7 +55,7 @@ fn number_test(op: Compare, left: &TExpr, number: u32) -> Option<TTest>
     }
 }
 
-fn property_test(op: Compare, of: &TExpr, more: &[TAccess<TExpr>], number: u32) -> Option<TTest>
+fn property_test(op: CompareOp, of: &TExpr, more: &[TAccess<TExpr>], number: u32) -> Option<TTest>
     ensures { IfSome result (λ test. (t : Tables) → trees.test t.around test
         ≡ on_two (trees.accessed (trees.expr of.now t) (trees.accesses_of t more.now))
         (given (Ok (VInt number))) (compare_of op)) }
@@ -80,7 +80,7 @@ fn lone_property(more: &[TAccess<TExpr>]) -> Option<Property>
     }
 }
 
-fn pair_test(op: Compare, left: &TExpr, a: Attribute) -> Option<TTest>
+fn pair_test(op: CompareOp, left: &TExpr, a: Attribute) -> Option<TTest>
     ensures { IfSome result (λ test. (t : Tables) → trees.test t.around test
         ≡ on_two (trees.expr left.now t) (attribute t.around a) (compare_of op)) }
 {

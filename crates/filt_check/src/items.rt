@@ -3,7 +3,7 @@
 ghost use Rattle.std.specs.Prelude.{◌≡◌, List, ℕ, Option, IfOk, Ok, option_map};
 ghost use Rattle.bits_ip.specs.Address.{width_of};
 ghost use Rattle.filt_meaning.specs.Items as written;
-ghost use Rattle.filt_syntax.specs.declared.tree.MaskAtom.TheVariants as mask_atoms;
+ghost use Rattle.filt_syntax.specs.declared.ast.MaskAtom.TheVariants as mask_atoms;
 ghost use Rattle.filt_meaning.specs.Names.{Around, constant_of, there};
 ghost use Rattle.filt_tree.specs.Scopes.{context_of};
 ghost use Rattle.filt_tree.specs.Trees.{set_of_labels};
@@ -14,8 +14,8 @@ ghost use Rattle.filt_check.specs.Seen.{each, int_of, pair_of, prefix_of};
 
 use bits_ip::{Addr, OutOfMemory, Prefix};
 use filt_sets::{Atom, IntItem, IntSet, Mask, MaskItem, PairItem, PairSet, PrefixItem, PrefixSet};
-use filt_syntax as syntax;
-use filt_syntax::{Item, Lengths, MaskAtom, Num, PairPart, Part};
+use filt_syntax::ast as syntax;
+use filt_syntax::ast::{Item, Lengths, MaskAtom, Num, NumRange, PairPart};
 use filt_tree::{Labels, Scope};
 use filt_values::Fixed;
 use grammar::Name;
@@ -72,7 +72,7 @@ fn last_number(text: &[u8], scope: &Scope, lo: u32, high: &Option<Num>) -> Optio
     }
 }
 
-fn int_item(text: &[u8], scope: &Scope, part: &Part) -> Option<IntItem>
+fn int_item(text: &[u8], scope: &Scope, part: &NumRange) -> Option<IntItem>
     ensures { (around : Around) (variables : List (List ℕ)) → there result
         ≡ written.int_item (context_of text.now around scope.now variables) part.now }
 {
@@ -87,7 +87,7 @@ fn pair_part(text: &[u8], scope: &Scope, part: &PairPart) -> Option<IntItem>
 {
     match part {
         PairPart::Any => Some(IntItem { lo: 0, hi: 65535 }),
-        PairPart::Part(range) => int_item(text, scope, range),
+        PairPart::Range(range) => int_item(text, scope, range),
     }
 }
 
@@ -173,7 +173,7 @@ fn int_of(text: &[u8], scope: &Scope, item: &Item) -> Option<IntItem>
         ≡ int_of (context_of text.now around scope.now variables) item.now }
 {
     match item {
-        Item::Part(part) => int_item(text, scope, part),
+        Item::Range(part) => int_item(text, scope, part),
         Item::Pair { .. } => None,
         Item::Prefix { .. } => None,
     }
@@ -184,7 +184,7 @@ fn pair_of(text: &[u8], scope: &Scope, item: &Item) -> Option<PairItem>
         ≡ pair_of (context_of text.now around scope.now variables) item.now }
 {
     match item {
-        Item::Part(_) => None,
+        Item::Range(_) => None,
         Item::Pair { first, second, .. } => pair_item(text, scope, first, second),
         Item::Prefix { .. } => None,
     }
@@ -195,7 +195,7 @@ fn prefix_of(text: &[u8], scope: &Scope, item: &Item) -> Option<PrefixItem>
         ≡ prefix_of (context_of text.now around scope.now variables) item.now }
 {
     match item {
-        Item::Part(_) => None,
+        Item::Range(_) => None,
         Item::Pair { .. } => None,
         Item::Prefix { net, lengths, .. } => prefix_item(text, scope, net, lengths),
     }
@@ -320,7 +320,7 @@ pub fn set_of(
 {
     match items.first() {
         None => Ok(Labels::Stuck),
-        Some(Item::Part(_)) => int_set(alloc, text, scope, items),
+        Some(Item::Range(_)) => int_set(alloc, text, scope, items),
         Some(Item::Pair { .. }) => pair_set(alloc, text, scope, items),
         Some(Item::Prefix { .. }) => prefix_set(alloc, text, scope, items),
     }
@@ -335,14 +335,14 @@ fn atom(text: &[u8], scope: &Scope, atom: &MaskAtom) -> Option<Atom>
     match atom {
         MaskAtom::One => Some(Atom::One),
         MaskAtom::Any => Some(Atom::Any),
-        MaskAtom::Part(part) => range(text, scope, part),
+        MaskAtom::Range(part) => range(text, scope, part),
     }
 }
 
-fn range(text: &[u8], scope: &Scope, part: &Part) -> Option<Atom>
+fn range(text: &[u8], scope: &Scope, part: &NumRange) -> Option<Atom>
     ensures { (around : Around) (variables : List (List ℕ)) → there result
         ≡ written.atom_of (context_of text.now around scope.now variables)
-        (mask_atoms.Part part.now) }
+        (mask_atoms.Range part.now) }
 {
     let item = int_item(text, scope, part)?;
     Some(Atom::Range(item.lo, item.hi))

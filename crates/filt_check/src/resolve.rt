@@ -23,8 +23,8 @@ use crate::items::{mask_of, set_of};
 use crate::names::{function, named};
 use attrs::{Dest, Kind, Origin};
 use bits_ip::OutOfMemory;
-use filt_syntax::{
-    Access, Compare, Constant, Expr, Factor, Item, Joint, MaskItem, MethodKind, Simple, Term,
+use filt_syntax::ast::{
+    AddOp, Atom, CompareOp, Constant, Expr, Item, LogicalOp, MaskItem, MethodKind, MulOp, Postfix,
 };
 use filt_tree::{Labels, Scope, TAccess, TExpr};
 use filt_values::Fixed;
@@ -58,22 +58,22 @@ fn text_value(alloc: Global, text: &[u8], start: usize, len: usize) -> Result<TE
     Ok(TExpr::Value(Fixed::String(bytes)))
 }
 
-fn simple(alloc: Global, text: &[u8], word: &Simple) -> Result<TExpr, OutOfMemory>
+fn simple(alloc: Global, text: &[u8], word: &Atom) -> Result<TExpr, OutOfMemory>
     ensures { IfOk result (λ x. (around : Around) (scope : Scope) (variables : List (List ℕ))
         → trees.expr x (tables_of around scope)
         ≡ plain word.now (context_of text.now around scope variables)) }
 {
     match word {
-        Simple::Number { value, .. } => Ok(TExpr::Value(Fixed::Int(*value))),
-        Simple::Text { start, len, .. } => text_value(alloc, text, *start, *len),
-        Simple::Ip { addr, .. } => Ok(TExpr::Value(Fixed::Ip(*addr))),
-        Simple::Prefix { net, .. } => Ok(TExpr::Value(Fixed::Prefix(*net))),
-        Simple::True { .. } => Ok(TExpr::Value(Fixed::Bool(true))),
-        Simple::False { .. } => Ok(TExpr::Value(Fixed::Bool(false))),
-        Simple::EmptyPath { .. } => Ok(TExpr::Value(Fixed::EmptyPath)),
-        Simple::EmptyClist { .. } => Ok(TExpr::Value(Fixed::EmptyClist)),
-        Simple::Attribute { attribute, .. } => Ok(TExpr::Attribute(*attribute)),
-        Simple::Constant { constant, .. } => Ok(TExpr::Value(constant_value(*constant))),
+        Atom::Number { value, .. } => Ok(TExpr::Value(Fixed::Int(*value))),
+        Atom::Text { start, len, .. } => text_value(alloc, text, *start, *len),
+        Atom::Ip { addr, .. } => Ok(TExpr::Value(Fixed::Ip(addr.addr()))),
+        Atom::Prefix { net, .. } => Ok(TExpr::Value(Fixed::Prefix(*net))),
+        Atom::True { .. } => Ok(TExpr::Value(Fixed::Bool(true))),
+        Atom::False { .. } => Ok(TExpr::Value(Fixed::Bool(false))),
+        Atom::EmptyPath { .. } => Ok(TExpr::Value(Fixed::EmptyPath)),
+        Atom::EmptyClist { .. } => Ok(TExpr::Value(Fixed::EmptyClist)),
+        Atom::Attribute { attribute, .. } => Ok(TExpr::Attribute(*attribute)),
+        Atom::Constant { constant, .. } => Ok(TExpr::Value(constant_value(*constant))),
     }
 }
 
@@ -140,7 +140,7 @@ pub(crate) fn resolve(
         (context_of text.now around scope.now (names_of names.now))) }
 {
     match e {
-        Expr::Simple(word) => simple(alloc, text, word),
+        Expr::Atom(word) => simple(alloc, text, word),
         Expr::Name(name) => Ok(named(text, scope, names, name)),
         Expr::Call {
             name,
@@ -161,7 +161,7 @@ pub(crate) fn resolve(
             argument,
             ..
         } => { method_of(alloc, text, scope, names, method.kind, list, argument) }
-        Expr::Access(operand, more) => access(alloc, text, scope, names, operand, more),
+        Expr::Postfix(operand, more) => access(alloc, text, scope, names, operand, more),
         Expr::Not { operand, .. } => {
             let x = boxed(alloc, text, scope, names, operand)?;
             Ok(TExpr::Not(x))
@@ -169,7 +169,7 @@ pub(crate) fn resolve(
         Expr::Product(operand, more) => product(alloc, text, scope, names, operand, more),
         Expr::Sum(operand, more) => sum(alloc, text, scope, names, operand, more),
         Expr::Compare(op, left, right) => compare(alloc, text, scope, names, *op, left, right),
-        Expr::Joint(operand, more) => joint(alloc, text, scope, names, operand, more),
+        Expr::Logical(operand, more) => joint(alloc, text, scope, names, operand, more),
     }
 }
 
@@ -238,7 +238,7 @@ fn compare(
     text: &[u8],
     scope: &Scope,
     names: &[&[u8]],
-    op: Compare,
+    op: CompareOp,
     left: &Expr,
     right: &Expr,
 ) -> Result<TExpr, OutOfMemory>
@@ -283,7 +283,7 @@ fn access(
     scope: &Scope,
     names: &[&[u8]],
     operand: &Expr,
-    more: &[Access<Expr>],
+    more: &[Postfix<Expr>],
 ) -> Result<TExpr, OutOfMemory>
     ensures { IfOk result (λ x. (around : Around) → trees.expr x (tables_of around scope.now)
         ≡ trees.accessed
@@ -302,15 +302,15 @@ fn resolve_access(
     text: &[u8],
     scope: &Scope,
     names: &[&[u8]],
-    access: &Access<Expr>,
+    access: &Postfix<Expr>,
 ) -> Result<TAccess<TExpr>, OutOfMemory>
     ensures { IfOk result (λ x. (around : Around)
         → trees.access (tables_of around scope.now) x
         ≡ access_in (context_of text.now around scope.now (names_of names.now)) access.now) }
 {
     match access {
-        Access::Property(property) => Ok(TAccess::Property(*property)),
-        Access::Method {
+        Postfix::Property(property) => Ok(TAccess::Property(*property)),
+        Postfix::Method {
             method,
             argument,
             ..
@@ -327,7 +327,7 @@ fn resolve_accesses(
     text: &[u8],
     scope: &Scope,
     names: &[&[u8]],
-    more: &[Access<Expr>],
+    more: &[Postfix<Expr>],
 ) -> Result<Vec<TAccess<TExpr>>, OutOfMemory>
     ensures { IfOk result (λ v. (around : Around)
         → trees.accesses_of (tables_of around scope.now) v.items
@@ -347,7 +347,7 @@ fn product(
     scope: &Scope,
     names: &[&[u8]],
     operand: &Expr,
-    more: &[(Factor, Expr)],
+    more: &[(MulOp, Expr)],
 ) -> Result<TExpr, OutOfMemory>
     ensures { IfOk result (λ x. (around : Around) → trees.expr x (tables_of around scope.now)
         ≡ trees.chain factor_of
@@ -366,8 +366,8 @@ fn resolve_factors(
     text: &[u8],
     scope: &Scope,
     names: &[&[u8]],
-    more: &[(Factor, Expr)],
-) -> Result<Vec<(Factor, TExpr)>, OutOfMemory>
+    more: &[(MulOp, Expr)],
+) -> Result<Vec<(MulOp, TExpr)>, OutOfMemory>
     ensures { IfOk result (λ v. (around : Around)
         → trees.parts (tables_of around scope.now) v.items
         ≡ parts_in (context_of text.now around scope.now (names_of names.now)) more.now) }
@@ -387,7 +387,7 @@ fn sum(
     scope: &Scope,
     names: &[&[u8]],
     operand: &Expr,
-    more: &[(Term, Expr)],
+    more: &[(AddOp, Expr)],
 ) -> Result<TExpr, OutOfMemory>
     ensures { IfOk result (λ x. (around : Around) → trees.expr x (tables_of around scope.now)
         ≡ trees.chain term_of
@@ -406,8 +406,8 @@ fn resolve_terms(
     text: &[u8],
     scope: &Scope,
     names: &[&[u8]],
-    more: &[(Term, Expr)],
-) -> Result<Vec<(Term, TExpr)>, OutOfMemory>
+    more: &[(AddOp, Expr)],
+) -> Result<Vec<(AddOp, TExpr)>, OutOfMemory>
     ensures { IfOk result (λ v. (around : Around)
         → trees.parts (tables_of around scope.now) v.items
         ≡ parts_in (context_of text.now around scope.now (names_of names.now)) more.now) }
@@ -427,7 +427,7 @@ fn joint(
     scope: &Scope,
     names: &[&[u8]],
     operand: &Expr,
-    more: &[(Joint, Expr)],
+    more: &[(LogicalOp, Expr)],
 ) -> Result<TExpr, OutOfMemory>
     ensures { IfOk result (λ x. (around : Around) → trees.expr x (tables_of around scope.now)
         ≡ trees.joints
@@ -446,8 +446,8 @@ fn resolve_joints(
     text: &[u8],
     scope: &Scope,
     names: &[&[u8]],
-    more: &[(Joint, Expr)],
-) -> Result<Vec<(Joint, TExpr)>, OutOfMemory>
+    more: &[(LogicalOp, Expr)],
+) -> Result<Vec<(LogicalOp, TExpr)>, OutOfMemory>
     ensures { IfOk result (λ v. (around : Around)
         → trees.parts (tables_of around scope.now) v.items
         ≡ parts_in (context_of text.now around scope.now (names_of names.now)) more.now) }

@@ -2,7 +2,7 @@
 
 ghost use Rattle.std.specs.Prelude.{◌≡◌, IfOk, Some, option_map};
 ghost use Rattle.conf_ast.specs.Filters.{expression_of, changed};
-ghost use Rattle.filt_syntax.specs.declared.tree.Target.TheVariants as targets;
+ghost use Rattle.filt_syntax.specs.declared.ast.Target.TheVariants as targets;
 ghost use Rattle.filt_meaning.specs.Meaning as meaning;
 ghost use Rattle.filt_meaning.specs.Meaning.{act, assign, call, evaluate, initial, on_two};
 ghost use Rattle.filt_meaning.specs.Meaning.{on_value, read, set_target, value};
@@ -17,7 +17,7 @@ use crate::names::{function, named, place};
 use crate::resolve::{boxed, resolve, resolve_all};
 use bits_ip::OutOfMemory;
 use filt_rules::type_sort;
-use filt_syntax::{Change, Expr, MethodKind, Target, VariableType};
+use filt_syntax::ast::{Change, Expr, MethodKind, Target, VariableType};
 use filt_tree::{Scope, TExpr, TStmt, TTarget};
 use grammar::Name;
 use std::alloc::Global;

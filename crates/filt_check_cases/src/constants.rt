@@ -1,8 +1,8 @@
 //! The values of constants.
 use crate::items::{mask, number, set};
 use crate::route::bad;
-use conf_tree::{Literal, Quoted};
-use filt_syntax::Num;
+use conf_tree::ast::{Literal, StringLiteral};
+use filt_syntax::ast::Num;
 use filt_tree::Scope;
 use filt_values::Fixed;
 use grammar::bytes_at;
@@ -17,7 +17,7 @@ fn pair(text: &[u8], scope: &Scope, first: &Num, second: &Num) -> io::Result<Fix
     Ok(Fixed::Pair(part(text, scope, first)?, part(text, scope, second)?))
 }
 
-fn string(alloc: Global, text: &[u8], quoted: &Quoted) -> io::Result<Fixed> {
+fn string(alloc: Global, text: &[u8], quoted: &StringLiteral) -> io::Result<Fixed> {
     let bytes = bytes_at(text, quoted.start, quoted.len);
     Ok(Fixed::String(bytes.to_vec(alloc)?))
 }

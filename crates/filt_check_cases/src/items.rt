@@ -2,7 +2,7 @@
 use crate::route::bad;
 use bits_ip::Addr;
 use filt_sets::{Atom, IntItem, IntSet, Mask, PairItem, PairSet, PrefixItem, PrefixSet};
-use filt_syntax::{Item, Lengths, MaskAtom, MaskItem, Num, PairPart, Part};
+use filt_syntax::ast::{Item, Lengths, MaskAtom, MaskItem, Num, NumRange, PairPart};
 use filt_tree::Scope;
 use filt_values::Fixed;
 use std::alloc::Global;
@@ -23,7 +23,7 @@ fn length(text: &[u8], scope: &Scope, num: &Num) -> io::Result<u8> {
     u8::try_from(number(text, scope, num)?).map_err(|_| bad())
 }
 
-fn range(text: &[u8], scope: &Scope, part: &Part) -> io::Result<IntItem> {
+fn range(text: &[u8], scope: &Scope, part: &NumRange) -> io::Result<IntItem> {
     let lo = number(text, scope, &part.low)?;
     let hi = match &part.high {
         Some(high) => number(text, scope, high)?,
@@ -35,13 +35,13 @@ fn range(text: &[u8], scope: &Scope, part: &Part) -> io::Result<IntItem> {
 fn pair_range(text: &[u8], scope: &Scope, part: &PairPart) -> io::Result<IntItem> {
     match part {
         PairPart::Any => Ok(IntItem { lo: 0, hi: 65535 }),
-        PairPart::Part(part) => range(text, scope, part),
+        PairPart::Range(part) => range(text, scope, part),
     }
 }
 
 fn int_item(text: &[u8], scope: &Scope, item: &Item) -> io::Result<IntItem> {
     match item {
-        Item::Part(part) => range(text, scope, part),
+        Item::Range(part) => range(text, scope, part),
         _ => Err(bad()),
     }
 }
@@ -104,7 +104,7 @@ fn prefix_set(alloc: Global, text: &[u8], scope: &Scope, items: &[Item]) -> io::
 /// The set of these items, which are of one sort.
 pub fn set(alloc: Global, text: &[u8], scope: &Scope, items: &[Item]) -> io::Result<Fixed> {
     match items.first() {
-        Some(Item::Part(_)) => int_set(alloc, text, scope, items),
+        Some(Item::Range(_)) => int_set(alloc, text, scope, items),
         Some(Item::Pair { .. }) => pair_set(alloc, text, scope, items),
         Some(Item::Prefix { .. }) => prefix_set(alloc, text, scope, items),
         None => Err(bad()),
@@ -115,7 +115,7 @@ fn atom(text: &[u8], scope: &Scope, atom: &MaskAtom) -> io::Result<Atom> {
     match atom {
         MaskAtom::One => Ok(Atom::One),
         MaskAtom::Any => Ok(Atom::Any),
-        MaskAtom::Part(part) => {
+        MaskAtom::Range(part) => {
             let IntItem { lo, hi } = range(text, scope, part)?;
             Ok(Atom::Range(lo, hi))
         }

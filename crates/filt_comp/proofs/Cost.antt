@@ -4,11 +4,11 @@ use Rattle.std.specs.Prelude.{slice_get}
 use Rattle.std.proofs.Math.ListN.{get_or}
 use Rattle.std.specs.Global.{Global}
 use Rattle.std.specs.Borrow.{Bor}
-use Rattle.filt_syntax.specs.declared.tree.Compare.{Compare}
-use Rattle.filt_syntax.specs.declared.tree.Factor.{Factor}
-use Rattle.filt_syntax.specs.declared.tree.Joint.{Joint}
-use Rattle.filt_syntax.specs.declared.tree.MethodKind.{MethodKind}
-use Rattle.filt_syntax.specs.declared.tree.Term.{Term}
+use Rattle.filt_syntax.specs.declared.ast.CompareOp.{CompareOp}
+use Rattle.filt_syntax.specs.declared.ast.MulOp.{MulOp}
+use Rattle.filt_syntax.specs.declared.ast.LogicalOp.{LogicalOp}
+use Rattle.filt_syntax.specs.declared.ast.MethodKind.{MethodKind}
+use Rattle.filt_syntax.specs.declared.ast.AddOp.{AddOp}
 use Rattle.filt_values.specs.declared.value.Sort.{Sort}
 use Rattle.filt_tree.specs.declared.scope.TFunction.{TFunction}
 use Rattle.filt_tree.specs.declared.tree.TAccess.{TAccess}
@@ -120,17 +120,17 @@ cost-Access a v = forms.of-Access ℕ expr_step a v ∙ ap (λ (ns : List ℕ). 
 pub cost-Not : (a : Box TExpr Global) → cost (e.Not a) ≡ 20 + cost a.value
 cost-Not a = forms.of-Not ℕ expr_step a
 
-pub cost-Product : (a : Box TExpr Global) (v : Vec (Factor × TExpr) Global) → cost (e.Product a v) ≡ 9 + cost a.value + parts_cost (map (λ x. Two (of_two.Factor x.0) x.1) v.items)
-cost-Product a v = forms.of-Product ℕ expr_step a v ∙ ap (λ (ns : List ℕ). 9 + cost a.value + all ns) (by_parts {B = Factor × ℕ} (λ x. x.1) (λ x. (x.0, cost x.1)) (λ x. cost x.1) (λ x. refl) v.items ∙ sym (by_parts part_cost (λ (x : Factor × TExpr). Two (of_two.Factor x.0) x.1) (λ x. cost x.1) (λ x. refl) v.items))
+pub cost-Product : (a : Box TExpr Global) (v : Vec (MulOp × TExpr) Global) → cost (e.Product a v) ≡ 9 + cost a.value + parts_cost (map (λ x. Two (of_two.Factor x.0) x.1) v.items)
+cost-Product a v = forms.of-Product ℕ expr_step a v ∙ ap (λ (ns : List ℕ). 9 + cost a.value + all ns) (by_parts {B = MulOp × ℕ} (λ x. x.1) (λ x. (x.0, cost x.1)) (λ x. cost x.1) (λ x. refl) v.items ∙ sym (by_parts part_cost (λ (x : MulOp × TExpr). Two (of_two.Factor x.0) x.1) (λ x. cost x.1) (λ x. refl) v.items))
 
-pub cost-Sum : (a : Box TExpr Global) (v : Vec (Term × TExpr) Global) → cost (e.Sum a v) ≡ 9 + cost a.value + parts_cost (map (λ x. Two (of_two.Term x.0) x.1) v.items)
-cost-Sum a v = forms.of-Sum ℕ expr_step a v ∙ ap (λ (ns : List ℕ). 9 + cost a.value + all ns) (by_parts {B = Term × ℕ} (λ x. x.1) (λ x. (x.0, cost x.1)) (λ x. cost x.1) (λ x. refl) v.items ∙ sym (by_parts part_cost (λ (x : Term × TExpr). Two (of_two.Term x.0) x.1) (λ x. cost x.1) (λ x. refl) v.items))
+pub cost-Sum : (a : Box TExpr Global) (v : Vec (AddOp × TExpr) Global) → cost (e.Sum a v) ≡ 9 + cost a.value + parts_cost (map (λ x. Two (of_two.Term x.0) x.1) v.items)
+cost-Sum a v = forms.of-Sum ℕ expr_step a v ∙ ap (λ (ns : List ℕ). 9 + cost a.value + all ns) (by_parts {B = AddOp × ℕ} (λ x. x.1) (λ x. (x.0, cost x.1)) (λ x. cost x.1) (λ x. refl) v.items ∙ sym (by_parts part_cost (λ (x : AddOp × TExpr). Two (of_two.Term x.0) x.1) (λ x. cost x.1) (λ x. refl) v.items))
 
-pub cost-Compare : (compare : Compare) (a : Box TExpr Global) (b : Box TExpr Global) → cost (e.Compare compare a b) ≡ 20 + cost a.value + cost b.value
+pub cost-Compare : (compare : CompareOp) (a : Box TExpr Global) (b : Box TExpr Global) → cost (e.Compare compare a b) ≡ 20 + cost a.value + cost b.value
 cost-Compare compare a b = forms.of-Compare ℕ expr_step compare a b
 
-pub cost-Joint : (a : Box TExpr Global) (v : Vec (Joint × TExpr) Global) → cost (e.Joint a v) ≡ 9 + cost a.value + parts_cost (map (λ x. Joined x.0 x.1) v.items)
-cost-Joint a v = forms.of-Joint ℕ expr_step a v ∙ ap (λ (ns : List ℕ). 9 + cost a.value + all ns) (by_parts {B = Joint × ℕ} (λ x. x.1) (λ x. (x.0, cost x.1)) (λ x. cost x.1) (λ x. refl) v.items ∙ sym (by_parts part_cost (λ (x : Joint × TExpr). Joined x.0 x.1) (λ x. cost x.1) (λ x. refl) v.items))
+pub cost-Joint : (a : Box TExpr Global) (v : Vec (LogicalOp × TExpr) Global) → cost (e.Joint a v) ≡ 9 + cost a.value + parts_cost (map (λ x. Joined x.0 x.1) v.items)
+cost-Joint a v = forms.of-Joint ℕ expr_step a v ∙ ap (λ (ns : List ℕ). 9 + cost a.value + all ns) (by_parts {B = LogicalOp × ℕ} (λ x. x.1) (λ x. (x.0, cost x.1)) (λ x. cost x.1) (λ x. refl) v.items ∙ sym (by_parts part_cost (λ (x : LogicalOp × TExpr). Joined x.0 x.1) (λ x. cost x.1) (λ x. refl) v.items))
 
 pub act-cost-Block : (sorts : Vec Sort Global) (v : Vec TStmt Global) → act_cost (s.Block sorts v) ≡ 9 + body_cost v.items
 act-cost-Block sorts v = forms.act-of-Block ℕ stmt_step sorts v

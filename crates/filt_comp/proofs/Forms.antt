@@ -1,12 +1,12 @@
 -- The equations of folds over checked trees, for any carrier and step: a line for each form with parts.
 use Rattle.std.proofs.Common.{◌≡◌, ℕ, List, [], ◌∷◌, map, Option, refl, rules, Box, Vec}
 use Rattle.std.specs.Global.{Global}
-use Rattle.filt_syntax.specs.declared.tree.Compare.{Compare}
-use Rattle.filt_syntax.specs.declared.tree.Factor.{Factor}
-use Rattle.filt_syntax.specs.declared.tree.Joint.{Joint}
-use Rattle.filt_syntax.specs.declared.tree.MethodKind.{MethodKind}
-use Rattle.filt_syntax.specs.declared.tree.Property.{Property}
-use Rattle.filt_syntax.specs.declared.tree.Term.{Term}
+use Rattle.filt_syntax.specs.declared.ast.CompareOp.{CompareOp}
+use Rattle.filt_syntax.specs.declared.ast.MulOp.{MulOp}
+use Rattle.filt_syntax.specs.declared.ast.LogicalOp.{LogicalOp}
+use Rattle.filt_syntax.specs.declared.ast.MethodKind.{MethodKind}
+use Rattle.filt_syntax.specs.declared.ast.Property.{Property}
+use Rattle.filt_syntax.specs.declared.ast.AddOp.{AddOp}
 use Rattle.filt_values.specs.declared.value.Sort.{Sort}
 use Rattle.filt_tree.specs.declared.tree.TAccess.{TAccess}
 use Rattle.filt_tree.specs.declared.tree.TAccess.TheVariants as accesses
@@ -52,19 +52,19 @@ of-Access A step a v = search (rules, expr_lemmas)
 pub of-Not : (A : Type 0) (step : TExpr-F A → A) (a : Box TExpr Global) → fold-TExpr A step (e.Not a) ≡ step (map-TExpr TExpr A (fold-TExpr A step) (TExpr-F.Not a))
 of-Not A step a = search (rules, expr_lemmas)
 
-pub of-Product : (A : Type 0) (step : TExpr-F A → A) (a : Box TExpr Global) (v : Vec (Factor × TExpr) Global) → fold-TExpr A step (e.Product a v) ≡ step (map-TExpr TExpr A (fold-TExpr A step) (TExpr-F.Product a v))
+pub of-Product : (A : Type 0) (step : TExpr-F A → A) (a : Box TExpr Global) (v : Vec (MulOp × TExpr) Global) → fold-TExpr A step (e.Product a v) ≡ step (map-TExpr TExpr A (fold-TExpr A step) (TExpr-F.Product a v))
 of-Product A step a v = search (rules, expr_lemmas)
 
-pub of-Sum : (A : Type 0) (step : TExpr-F A → A) (a : Box TExpr Global) (v : Vec (Term × TExpr) Global) → fold-TExpr A step (e.Sum a v) ≡ step (map-TExpr TExpr A (fold-TExpr A step) (TExpr-F.Sum a v))
+pub of-Sum : (A : Type 0) (step : TExpr-F A → A) (a : Box TExpr Global) (v : Vec (AddOp × TExpr) Global) → fold-TExpr A step (e.Sum a v) ≡ step (map-TExpr TExpr A (fold-TExpr A step) (TExpr-F.Sum a v))
 of-Sum A step a v = search (rules, expr_lemmas)
 
-pub of-Compare : (A : Type 0) (step : TExpr-F A → A) (compare : Compare) (a : Box TExpr Global) (b : Box TExpr Global) → fold-TExpr A step (e.Compare compare a b) ≡ step (map-TExpr TExpr A (fold-TExpr A step) (TExpr-F.Compare compare a b))
+pub of-Compare : (A : Type 0) (step : TExpr-F A → A) (compare : CompareOp) (a : Box TExpr Global) (b : Box TExpr Global) → fold-TExpr A step (e.Compare compare a b) ≡ step (map-TExpr TExpr A (fold-TExpr A step) (TExpr-F.Compare compare a b))
 of-Compare A step compare a b = search (rules, expr_lemmas)
 
 pub of-Test : (A : Type 0) (step : TExpr-F A → A) (what : TTest) → fold-TExpr A step (e.Test what) ≡ step (map-TExpr TExpr A (fold-TExpr A step) (TExpr-F.Test what))
 of-Test A step what = search (rules, expr_lemmas)
 
-pub of-Joint : (A : Type 0) (step : TExpr-F A → A) (a : Box TExpr Global) (v : Vec (Joint × TExpr) Global) → fold-TExpr A step (e.Joint a v) ≡ step (map-TExpr TExpr A (fold-TExpr A step) (TExpr-F.Joint a v))
+pub of-Joint : (A : Type 0) (step : TExpr-F A → A) (a : Box TExpr Global) (v : Vec (LogicalOp × TExpr) Global) → fold-TExpr A step (e.Joint a v) ≡ step (map-TExpr TExpr A (fold-TExpr A step) (TExpr-F.Joint a v))
 of-Joint A step a v = search (rules, expr_lemmas)
 
 pub act-of-Block : (A : Type 0) (step : TStmt-F A → A) (sorts : Vec Sort Global) (v : Vec TStmt Global) → fold-TStmt A step (s.Block sorts v) ≡ step (map-TStmt TStmt A (fold-TStmt A step) (TStmt-F.Block sorts v))

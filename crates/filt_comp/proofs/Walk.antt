@@ -7,12 +7,12 @@ use Rattle.std.specs.Prelude.{slice_get}
 use Rattle.std.proofs.Math.ListN.{get_or}
 use Rattle.std.specs.Global.{Global}
 use Rattle.attrs.specs.declared.attributes.Attrs.{Attrs}
-use Rattle.filt_syntax.specs.declared.tree.Compare.{Compare}
-use Rattle.filt_syntax.specs.declared.tree.Factor.{Factor}
-use Rattle.filt_syntax.specs.declared.tree.Joint.{Joint}
-use Rattle.filt_syntax.specs.declared.tree.Joint.TheVariants as joints
-use Rattle.filt_syntax.specs.declared.tree.MethodKind.{MethodKind}
-use Rattle.filt_syntax.specs.declared.tree.Term.{Term}
+use Rattle.filt_syntax.specs.declared.ast.CompareOp.{CompareOp}
+use Rattle.filt_syntax.specs.declared.ast.MulOp.{MulOp}
+use Rattle.filt_syntax.specs.declared.ast.LogicalOp.{LogicalOp}
+use Rattle.filt_syntax.specs.declared.ast.LogicalOp.TheVariants as logical_ops
+use Rattle.filt_syntax.specs.declared.ast.MethodKind.{MethodKind}
+use Rattle.filt_syntax.specs.declared.ast.AddOp.{AddOp}
 use Rattle.filt_values.specs.declared.fixed.Fixed.{Fixed}
 use Rattle.filt_values.specs.declared.value.Failure.{Failure}
 use Rattle.filt_values.specs.declared.value.Failure.TheVariants as failures
@@ -188,7 +188,7 @@ chain_parts t two a (x ∷ more) vals attrs =
     chain_parts t two (m.on_two a (trees.expr x.1 t) (two_of (two x.0))) more vals attrs
     ∙ and_then_assoc (a vals attrs) (λ v attrs. made_by t (Two (two x.0) x.1) v vals attrs) (λ w attrs. made_by_all t (map (λ x. Two (two x.0) x.1) more) w vals attrs)
 
-joint_parts : (t : Tables) (a : Run Val) (more : List (Joint × TExpr)) (vals : Frame) (attrs : Attrs) → trees.joints a (trees.parts t more) vals attrs ≡ and_then (a vals attrs) (λ v attrs. made_by_all t (map (λ x. Joined x.0 x.1) more) v vals attrs)
+joint_parts : (t : Tables) (a : Run Val) (more : List (LogicalOp × TExpr)) (vals : Frame) (attrs : Attrs) → trees.joints a (trees.parts t more) vals attrs ≡ and_then (a vals attrs) (λ v attrs. made_by_all t (map (λ x. Joined x.0 x.1) more) v vals attrs)
 joint_parts t a [] vals attrs = sym (and_then_done (a vals attrs))
 joint_parts t a (x ∷ more) vals attrs =
     joint_parts t (m.joined x.0 a (trees.expr x.1 t)) more vals attrs
@@ -204,27 +204,27 @@ access_parts t a (accesses.Method kind x ∷ more) vals attrs =
     ∙ and_then_assoc (a vals attrs) (λ v attrs. made_by t (Two (of_two.Method kind) x) v vals attrs) (λ w attrs. made_by_all t (map part_of_access more) w vals attrs)
 
 -- each form of an expression with operands is a chain
-expr-Product : (a : Box TExpr Global) (v : Vec (Factor × TExpr) Global) (t : Tables) → trees.expr (e.Product a v) t ≡ trees.chain m.factor_of (trees.expr a.value t) (trees.parts t v.items)
-expr-Product a v t = ap (λ (f : Tables → Run Val). f t) (forms.of-Product _ trees.expr_step a v) ∙ ap (λ (xs : List (Factor × Run Val)). trees.chain m.factor_of (trees.expr a.value t) xs) (by_parts {B = Factor × (Tables → Run Val)} _ _ _ (λ x. refl) v.items)
+expr-Product : (a : Box TExpr Global) (v : Vec (MulOp × TExpr) Global) (t : Tables) → trees.expr (e.Product a v) t ≡ trees.chain m.factor_of (trees.expr a.value t) (trees.parts t v.items)
+expr-Product a v t = ap (λ (f : Tables → Run Val). f t) (forms.of-Product _ trees.expr_step a v) ∙ ap (λ (xs : List (MulOp × Run Val)). trees.chain m.factor_of (trees.expr a.value t) xs) (by_parts {B = MulOp × (Tables → Run Val)} _ _ _ (λ x. refl) v.items)
 
-expr-Sum : (a : Box TExpr Global) (v : Vec (Term × TExpr) Global) (t : Tables) → trees.expr (e.Sum a v) t ≡ trees.chain m.term_of (trees.expr a.value t) (trees.parts t v.items)
-expr-Sum a v t = ap (λ (f : Tables → Run Val). f t) (forms.of-Sum _ trees.expr_step a v) ∙ ap (λ (xs : List (Term × Run Val)). trees.chain m.term_of (trees.expr a.value t) xs) (by_parts {B = Term × (Tables → Run Val)} _ _ _ (λ x. refl) v.items)
+expr-Sum : (a : Box TExpr Global) (v : Vec (AddOp × TExpr) Global) (t : Tables) → trees.expr (e.Sum a v) t ≡ trees.chain m.term_of (trees.expr a.value t) (trees.parts t v.items)
+expr-Sum a v t = ap (λ (f : Tables → Run Val). f t) (forms.of-Sum _ trees.expr_step a v) ∙ ap (λ (xs : List (AddOp × Run Val)). trees.chain m.term_of (trees.expr a.value t) xs) (by_parts {B = AddOp × (Tables → Run Val)} _ _ _ (λ x. refl) v.items)
 
-expr-Joint : (a : Box TExpr Global) (v : Vec (Joint × TExpr) Global) (t : Tables) → trees.expr (e.Joint a v) t ≡ trees.joints (trees.expr a.value t) (trees.parts t v.items)
-expr-Joint a v t = ap (λ (f : Tables → Run Val). f t) (forms.of-Joint _ trees.expr_step a v) ∙ ap (λ (xs : List (Joint × Run Val)). trees.joints (trees.expr a.value t) xs) (by_parts {B = Joint × (Tables → Run Val)} _ _ _ (λ x. refl) v.items)
+expr-Joint : (a : Box TExpr Global) (v : Vec (LogicalOp × TExpr) Global) (t : Tables) → trees.expr (e.Joint a v) t ≡ trees.joints (trees.expr a.value t) (trees.parts t v.items)
+expr-Joint a v t = ap (λ (f : Tables → Run Val). f t) (forms.of-Joint _ trees.expr_step a v) ∙ ap (λ (xs : List (LogicalOp × Run Val)). trees.joints (trees.expr a.value t) xs) (by_parts {B = LogicalOp × (Tables → Run Val)} _ _ _ (λ x. refl) v.items)
 
 expr-Access : (a : Box TExpr Global) (v : Vec (TAccess TExpr) Global) (t : Tables) → trees.expr (e.Access a v) t ≡ trees.accessed (trees.expr a.value t) (trees.accesses_of t v.items)
 expr-Access a v t = ap (λ (f : Tables → Run Val). f t) (forms.of-Access _ trees.expr_step a v) ∙ ap (λ (xs : List (TAccess (Run Val))). trees.accessed (trees.expr a.value t) xs) (by_accesses {B = Tables → Run Val} _ _ _ (λ p. refl) (λ kind x. refl) v.items)
 
-pub product_is : (t : Tables) (a : Box TExpr Global) (v : Vec (Factor × TExpr) Global) (x first : TExpr) (more : List (Factor × TExpr)) (vals : Frame) (attrs : Attrs) → x ≡ e.Product a v → first ≡ a.value → more ≡ v.items → trees.expr x t vals attrs ≡ chained t first (map (λ p. Two (of_two.Factor p.0) p.1) more) vals attrs
+pub product_is : (t : Tables) (a : Box TExpr Global) (v : Vec (MulOp × TExpr) Global) (x first : TExpr) (more : List (MulOp × TExpr)) (vals : Frame) (attrs : Attrs) → x ≡ e.Product a v → first ≡ a.value → more ≡ v.items → trees.expr x t vals attrs ≡ chained t first (map (λ p. Two (of_two.Factor p.0) p.1) more) vals attrs
 product_is t a v x first more vals attrs is f i =
     ap (λ (x : TExpr). trees.expr x t vals attrs) is ∙ ap (λ (f : Run Val). f vals attrs) (expr-Product a v t) ∙ chain_parts t of_two.Factor (trees.expr a.value t) v.items vals attrs ∙ rw (← f, ← i) refl
 
-pub sum_is : (t : Tables) (a : Box TExpr Global) (v : Vec (Term × TExpr) Global) (x first : TExpr) (more : List (Term × TExpr)) (vals : Frame) (attrs : Attrs) → x ≡ e.Sum a v → first ≡ a.value → more ≡ v.items → trees.expr x t vals attrs ≡ chained t first (map (λ p. Two (of_two.Term p.0) p.1) more) vals attrs
+pub sum_is : (t : Tables) (a : Box TExpr Global) (v : Vec (AddOp × TExpr) Global) (x first : TExpr) (more : List (AddOp × TExpr)) (vals : Frame) (attrs : Attrs) → x ≡ e.Sum a v → first ≡ a.value → more ≡ v.items → trees.expr x t vals attrs ≡ chained t first (map (λ p. Two (of_two.Term p.0) p.1) more) vals attrs
 sum_is t a v x first more vals attrs is f i =
     ap (λ (x : TExpr). trees.expr x t vals attrs) is ∙ ap (λ (f : Run Val). f vals attrs) (expr-Sum a v t) ∙ chain_parts t of_two.Term (trees.expr a.value t) v.items vals attrs ∙ rw (← f, ← i) refl
 
-pub joint_is : (t : Tables) (a : Box TExpr Global) (v : Vec (Joint × TExpr) Global) (x first : TExpr) (more : List (Joint × TExpr)) (vals : Frame) (attrs : Attrs) → x ≡ e.Joint a v → first ≡ a.value → more ≡ v.items → trees.expr x t vals attrs ≡ chained t first (map (λ p. Joined p.0 p.1) more) vals attrs
+pub joint_is : (t : Tables) (a : Box TExpr Global) (v : Vec (LogicalOp × TExpr) Global) (x first : TExpr) (more : List (LogicalOp × TExpr)) (vals : Frame) (attrs : Attrs) → x ≡ e.Joint a v → first ≡ a.value → more ≡ v.items → trees.expr x t vals attrs ≡ chained t first (map (λ p. Joined p.0 p.1) more) vals attrs
 joint_is t a v x first more vals attrs is f i =
     ap (λ (x : TExpr). trees.expr x t vals attrs) is ∙ ap (λ (f : Run Val). f vals attrs) (expr-Joint a v t) ∙ joint_parts t (trees.expr a.value t) v.items vals attrs ∙ rw (← f, ← i) refl
 
@@ -252,7 +252,7 @@ pair_is t a b x first second vals attrs is f g = two_is t of_two.Pair a b x firs
 pub method_is : (t : Tables) (kind : MethodKind) (a b : Box TExpr Global) (x first second : TExpr) (vals : Frame) (attrs : Attrs) → x ≡ e.Method kind a b → first ≡ a.value → second ≡ b.value → trees.expr x t vals attrs ≡ chained t first (Two (of_two.Method kind) second ∷ []) vals attrs
 method_is t kind a b x first second vals attrs is f g = two_is t (of_two.Method kind) a b x first second vals attrs (ap (λ (x : TExpr). trees.expr x t) is ∙ ap (λ (f : Tables → Run Val). f t) (forms.of-Method _ trees.expr_step kind a b)) f g
 
-pub compare_is : (t : Tables) (compare : Compare) (a b : Box TExpr Global) (x first second : TExpr) (vals : Frame) (attrs : Attrs) → x ≡ e.Compare compare a b → first ≡ a.value → second ≡ b.value → trees.expr x t vals attrs ≡ chained t first (Two (of_two.Compare compare) second ∷ []) vals attrs
+pub compare_is : (t : Tables) (compare : CompareOp) (a b : Box TExpr Global) (x first second : TExpr) (vals : Frame) (attrs : Attrs) → x ≡ e.Compare compare a b → first ≡ a.value → second ≡ b.value → trees.expr x t vals attrs ≡ chained t first (Two (of_two.Compare compare) second ∷ []) vals attrs
 compare_is t compare a b x first second vals attrs is f g = two_is t (of_two.Compare compare) a b x first second vals attrs (ap (λ (x : TExpr). trees.expr x t) is ∙ ap (λ (f : Tables → Run Val). f t) (forms.of-Compare _ trees.expr_step compare a b)) f g
 
 -- ---- tests
@@ -288,11 +288,11 @@ parts_end t parts i v vals attrs le = ap (λ (ps : List Part). made_by_all t ps 
 
 -- ---- `&&` and `||`
 
-pub decided : (joint : Joint) (left : Bool) (b : Run Val) (vals : Frame) (attrs : Attrs) → decides joint left ≡ true → m.right_side joint left b vals attrs ≡ Done (VBool left) attrs
-decided joints.And true b vals attrs is = absurd (cc)
-decided joints.And false b vals attrs is = refl
-decided joints.Or true b vals attrs is = refl
-decided joints.Or false b vals attrs is = absurd (cc)
+pub decided : (joint : LogicalOp) (left : Bool) (b : Run Val) (vals : Frame) (attrs : Attrs) → decides joint left ≡ true → m.right_side joint left b vals attrs ≡ Done (VBool left) attrs
+decided logical_ops.And true b vals attrs is = absurd (cc)
+decided logical_ops.And false b vals attrs is = refl
+decided logical_ops.Or true b vals attrs is = refl
+decided logical_ops.Or false b vals attrs is = absurd (cc)
 
 truth_flow : (r : Result Bool Failure) (attrs : Attrs) → plainly (operators.and_then r (λ b. operators.says b)) attrs ≡ and_then (plainly r attrs) (λ h attrs. Done (VBool h) attrs)
 truth_flow (Ok b) attrs = refl
@@ -302,11 +302,11 @@ truth_of_flow : (flow : Flow Val) → and_then flow (λ v attrs. plainly (operat
 truth_of_flow (Done v attrs) = truth_flow (bool_in v) attrs
 truth_of_flow (Stopped why attrs) = refl
 
-pub undecided : (joint : Joint) (left : Bool) (b : Run Val) (vals : Frame) (attrs : Attrs) → decides joint left ≡ false → m.right_side joint left b vals attrs ≡ and_then (condition b vals attrs) (λ h attrs. Done (VBool h) attrs)
-undecided joints.And true b vals attrs is = truth_of_flow (b vals attrs)
-undecided joints.And false b vals attrs is = absurd (cc)
-undecided joints.Or true b vals attrs is = absurd (cc)
-undecided joints.Or false b vals attrs is = truth_of_flow (b vals attrs)
+pub undecided : (joint : LogicalOp) (left : Bool) (b : Run Val) (vals : Frame) (attrs : Attrs) → decides joint left ≡ false → m.right_side joint left b vals attrs ≡ and_then (condition b vals attrs) (λ h attrs. Done (VBool h) attrs)
+undecided logical_ops.And true b vals attrs is = truth_of_flow (b vals attrs)
+undecided logical_ops.And false b vals attrs is = absurd (cc)
+undecided logical_ops.Or true b vals attrs is = absurd (cc)
+undecided logical_ops.Or false b vals attrs is = truth_of_flow (b vals attrs)
 
 -- ---- values
 

@@ -3,8 +3,8 @@ use Rattle.std.specs.Prelude.{◌≡◌, ℕ, Bool, not, List, [], ◌∷◌, ma
 use Rattle.std.specs.Borrow.{Bor}
 use Rattle.std.specs.Global.{Global}
 use Rattle.attrs.specs.declared.attributes.Attrs.{Attrs}
-use Rattle.filt_syntax.specs.declared.tree.Joint.{Joint}
-use Rattle.filt_syntax.specs.declared.tree.Joint.TheVariants as joints
+use Rattle.filt_syntax.specs.declared.ast.LogicalOp.{LogicalOp}
+use Rattle.filt_syntax.specs.declared.ast.LogicalOp.TheVariants as logical_ops
 use Rattle.filt_values.specs.declared.value.Failure.{Failure}
 use Rattle.filt_values.specs.declared.value.Failure.TheVariants as failures
 use Rattle.filt_values.specs.declared.value.ListFailure.{ListFailure}
@@ -125,7 +125,7 @@ two_of (of_two.Compare compare) = compare_of compare
 pub data Part : Type 0 where
   One : OfOne → Part
   Two : OfTwo → TExpr → Part
-  Joined : Joint → TExpr → Part
+  Joined : LogicalOp → TExpr → Part
 
 abbrev pub part_of : Step → Part
 part_of (steps.One op) = One op
@@ -162,9 +162,9 @@ made_by_all t (part ∷ more) v vals attrs =
     and_then (made_by t part v vals attrs) (λ w attrs. made_by_all t more w vals attrs)
 
 -- whether the left side's value is the whole's
-abbrev pub decides : Joint → Bool → Bool
-decides joints.And left = not left
-decides joints.Or left = left
+abbrev pub decides : LogicalOp → Bool → Bool
+decides logical_ops.And left = not left
+decides logical_ops.Or left = left
 
 -- ---- statements
 

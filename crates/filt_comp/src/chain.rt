@@ -6,7 +6,7 @@ ghost use Rattle.filt_values.specs.Seen.{val_of, Answers, Builds};
 ghost use Rattle.filt_comp.specs.declared.chain.OfTwo.TheVariants as of_two;
 ghost use Rattle.filt_comp.specs.Seen.{decides, one_of, part_of, part_of_access, parts_of, two_of, Joined, Two};
 
-use filt_syntax::{Compare, Factor, Joint, MethodKind, Property, Term};
+use filt_syntax::ast::{AddOp, CompareOp, LogicalOp, MethodKind, MulOp, Property};
 use filt_tree::{TAccess, TExpr};
 use filt_values::{
     Failure, ListFailure, Value, add, delete, empty, equal, filter, first, greater,
@@ -28,9 +28,9 @@ pub(crate) enum OfOne {
 pub(crate) enum OfTwo {
     Pair,
     Method(MethodKind),
-    Factor(Factor),
-    Term(Term),
-    Compare(Compare),
+    Factor(MulOp),
+    Term(AddOp),
+    Compare(CompareOp),
 }
 
 /// What makes another value of a value.
@@ -38,7 +38,7 @@ pub(crate) enum OfTwo {
 pub(crate) enum Step<'a> {
     One(OfOne),
     Two(OfTwo, &'a TExpr),
-    Joined(Joint, &'a TExpr),
+    Joined(LogicalOp, &'a TExpr),
 }
 
 /// What follows an operand.
@@ -48,11 +48,11 @@ pub(crate) enum Rest<'a> {
     Empty,
     Pair(&'a TExpr),
     Method(MethodKind, &'a TExpr),
-    Compare(Compare, &'a TExpr),
+    Compare(CompareOp, &'a TExpr),
     Accesses(&'a [TAccess<TExpr>]),
-    Factors(&'a [(Factor, TExpr)]),
-    Terms(&'a [(Term, TExpr)]),
-    Joints(&'a [(Joint, TExpr)]),
+    Factors(&'a [(MulOp, TExpr)]),
+    Terms(&'a [(AddOp, TExpr)]),
+    Joints(&'a [(LogicalOp, TExpr)]),
 }
 
 impl<'a> Rest<'a> {
@@ -100,7 +100,7 @@ fn access_step(more: &[TAccess<TExpr>], n: usize) -> Step<'_>
     }
 }
 
-fn factor_step(more: &[(Factor, TExpr)], n: usize) -> Step<'_>
+fn factor_step(more: &[(MulOp, TExpr)], n: usize) -> Step<'_>
     requires { n < length more.now }
     ensures { slice_get (map (λ x. Two (of_two.Factor x.0) x.1) more.now) n
         ≡ Some (part_of result) }
@@ -109,7 +109,7 @@ fn factor_step(more: &[(Factor, TExpr)], n: usize) -> Step<'_>
     Step::Two(OfTwo::Factor(part.0), &part.1)
 }
 
-fn term_step(more: &[(Term, TExpr)], n: usize) -> Step<'_>
+fn term_step(more: &[(AddOp, TExpr)], n: usize) -> Step<'_>
     requires { n < length more.now }
     ensures { slice_get (map (λ x. Two (of_two.Term x.0) x.1) more.now) n ≡ Some (part_of result) }
 {
@@ -117,7 +117,7 @@ fn term_step(more: &[(Term, TExpr)], n: usize) -> Step<'_>
     Step::Two(OfTwo::Term(part.0), &part.1)
 }
 
-fn joint_step(more: &[(Joint, TExpr)], n: usize) -> Step<'_>
+fn joint_step(more: &[(LogicalOp, TExpr)], n: usize) -> Step<'_>
     requires { n < length more.now }
     ensures { slice_get (map (λ x. Joined x.0 x.1) more.now) n ≡ Some (part_of result) }
 {
@@ -126,12 +126,12 @@ fn joint_step(more: &[(Joint, TExpr)], n: usize) -> Step<'_>
 }
 
 /// Whether the value of the left side of `&&` or `||` is the whole's, whatever the right one is.
-pub(crate) fn decides(joint: Joint, left: bool) -> bool
+pub(crate) fn decides(joint: LogicalOp, left: bool) -> bool
     ensures { result ≡ decides joint left }
 {
     match joint {
-        Joint::And => !left,
-        Joint::Or => left,
+        LogicalOp::And => !left,
+        LogicalOp::Or => left,
     }
 }
 
@@ -184,42 +184,42 @@ fn apply_method<'a>(
 }
 
 fn apply_factor<'a>(
-    factor: Factor,
+    factor: MulOp,
     left: &Value<'a>,
     right: &Value<'a>,
 ) -> Result<Value<'a>, Failure>
     ensures { Answers val_of result (factor_of factor (val_of left.now) (val_of right.now)) }
 {
     match factor {
-        Factor::Times => times(left, right),
-        Factor::Over => over(left, right),
+        MulOp::Times => times(left, right),
+        MulOp::Over => over(left, right),
     }
 }
 
-fn apply_term<'a>(term: Term, left: &Value<'a>, right: &Value<'a>) -> Result<Value<'a>, Failure>
+fn apply_term<'a>(term: AddOp, left: &Value<'a>, right: &Value<'a>) -> Result<Value<'a>, Failure>
     ensures { Answers val_of result (term_of term (val_of left.now) (val_of right.now)) }
 {
     match term {
-        Term::Plus => plus(left, right),
-        Term::Minus => minus(left, right),
+        AddOp::Plus => plus(left, right),
+        AddOp::Minus => minus(left, right),
     }
 }
 
 pub(crate) fn apply_compare<'a>(
-    compare: Compare,
+    compare: CompareOp,
     left: &Value<'a>,
     right: &Value<'a>,
 ) -> Result<Value<'a>, Failure>
     ensures { Answers val_of result (compare_of compare (val_of left.now) (val_of right.now)) }
 {
     match compare {
-        Compare::Equal => equal(left, right),
-        Compare::NotEqual => not_equal(left, right),
-        Compare::Less => less(left, right),
-        Compare::LessOrEqual => less_or_equal(left, right),
-        Compare::Greater => greater(left, right),
-        Compare::GreaterOrEqual => greater_or_equal(left, right),
-        Compare::Matches => matches(left, right),
-        Compare::MatchesNot => matches_not(left, right),
+        CompareOp::Equal => equal(left, right),
+        CompareOp::NotEqual => not_equal(left, right),
+        CompareOp::Less => less(left, right),
+        CompareOp::LessOrEqual => less_or_equal(left, right),
+        CompareOp::Greater => greater(left, right),
+        CompareOp::GreaterOrEqual => greater_or_equal(left, right),
+        CompareOp::Matches => matches(left, right),
+        CompareOp::MatchesNot => matches_not(left, right),
     }
 }

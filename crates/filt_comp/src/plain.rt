@@ -22,7 +22,7 @@ use crate::setting::Setting;
 use attrs::{Clist, Path};
 use bits_ip::Prefix;
 use filt_sets::PrefixSet;
-use filt_syntax::{Attribute, Compare, Property};
+use filt_syntax::ast::{Attribute, CompareOp, Property};
 use filt_tree::{TAccess, TExpr, TStmt, TTest};
 use filt_values::{Fixed, Value};
 
@@ -134,7 +134,7 @@ fn test_truth<'a>(
 fn pair_holds(
     first: u16,
     second: u16,
-    compare: Compare,
+    compare: CompareOp,
     a: Attribute,
     attrs: &Running<'_>,
 ) -> Option<bool>
@@ -147,8 +147,8 @@ fn pair_holds(
         Attribute::BgpCommunity => {
             let is = has_pair(attrs.list(), first, second);
             match compare {
-                Compare::Matches => Some(is),
-                Compare::MatchesNot => Some(!is),
+                CompareOp::Matches => Some(is),
+                CompareOp::MatchesNot => Some(!is),
                 _ => None,
             }
         }
@@ -183,7 +183,7 @@ pub(crate) fn truth<'a>(
 
 fn compared<'a>(
     setting: &Setting<'a>,
-    compare: Compare,
+    compare: CompareOp,
     left: &TExpr,
     right: &TExpr,
     frame: &[Value<'a>],
@@ -195,11 +195,11 @@ fn compared<'a>(
         ≡ Done (VBool b) attrs.now) }
 {
     match compare {
-        Compare::Matches => {
+        CompareOp::Matches => {
             let is = is_among(setting, left, right, frame, attrs)?;
             Some(is)
         }
-        Compare::MatchesNot => {
+        CompareOp::MatchesNot => {
             let is = is_among(setting, left, right, frame, attrs)?;
             Some(!is)
         }
@@ -213,18 +213,18 @@ fn compared<'a>(
 }
 
 #[inline(always)]
-fn compare_numbers(compare: Compare, a: u32, b: u32) -> Option<bool>
+fn compare_numbers(compare: CompareOp, a: u32, b: u32) -> Option<bool>
     ensures { IfSome result (λ holds. compare_of compare (VInt a) (VInt b) ≡ Ok (VBool holds)) }
 {
     match compare {
-        Compare::Equal => Some(a == b),
-        Compare::NotEqual => Some(!(a == b)),
-        Compare::Less => Some(a.cmp(&b).is_lt()),
-        Compare::LessOrEqual => Some(a.cmp(&b).is_le()),
-        Compare::Greater => Some(a.cmp(&b).is_gt()),
-        Compare::GreaterOrEqual => Some(a.cmp(&b).is_ge()),
-        Compare::Matches => None,
-        Compare::MatchesNot => None,
+        CompareOp::Equal => Some(a == b),
+        CompareOp::NotEqual => Some(!(a == b)),
+        CompareOp::Less => Some(a.cmp(&b).is_lt()),
+        CompareOp::LessOrEqual => Some(a.cmp(&b).is_le()),
+        CompareOp::Greater => Some(a.cmp(&b).is_gt()),
+        CompareOp::GreaterOrEqual => Some(a.cmp(&b).is_ge()),
+        CompareOp::Matches => None,
+        CompareOp::MatchesNot => None,
     }
 }
 

@@ -2,7 +2,7 @@
 
 ghost use Rattle.std.specs.Prelude.{◌≡◌, Ok, IfOk, IfSome, OnErr};
 ghost use Rattle.attrs.specs.declared.judge.FilterFault.TheVariants as faults;
-ghost use Rattle.filt_syntax.specs.declared.tree.Attribute.TheVariants as attributes;
+ghost use Rattle.filt_syntax.specs.declared.ast.Attribute.TheVariants as attributes;
 ghost use Rattle.filt_values.specs.declared.value.Failure.TheVariants.{Fault};
 ghost use Rattle.filt_values.specs.declared.value.ListFailure.TheVariants.{Failed};
 ghost use Rattle.filt_values.specs.Operators.{clist_in, path_in};
@@ -17,7 +17,7 @@ use crate::parts::{dest, int, ip, origin};
 use crate::setting::Setting;
 use attrs::{Attrs, Clist, Dest, FilterFault, Kind, Origin, Path, Shared};
 use bits_ip::{Addr, OutOfMemory};
-use filt_syntax::Attribute;
+use filt_syntax::ast::Attribute;
 use filt_values::{Failure, ListFailure, Value};
 use std::alloc::Global;
 use std::marker::Model;

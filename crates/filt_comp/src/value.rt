@@ -19,7 +19,7 @@ use crate::run::call;
 use crate::running::Running;
 use crate::setting::Setting;
 use crate::stop::Stop;
-use filt_syntax::{Attribute, Compare, Joint, Property};
+use filt_syntax::ast::{Attribute, CompareOp, LogicalOp, Property};
 use filt_tree::{TExpr, TTest};
 use filt_values::{ListFailure, Value, copy};
 
@@ -110,7 +110,7 @@ fn apply<'a>(
 fn join<'a>(
     setting: &Setting<'a>,
     found: Value<'a>,
-    joint: Joint,
+    joint: LogicalOp,
     right: &'a TExpr,
     frame: &[Value<'a>],
     attrs: &mut Running<'a>,
@@ -213,7 +213,7 @@ fn test<'a>(setting: &Setting<'a>, what: TTest, attrs: &Running<'a>) -> Result<V
 fn attribute_test<'a>(
     setting: &Setting<'a>,
     a: Attribute,
-    op: Compare,
+    op: CompareOp,
     number: u32,
     attrs: &Running<'a>,
 ) -> Result<Value<'a>, ListFailure>
@@ -229,7 +229,7 @@ fn property_test<'a>(
     setting: &Setting<'a>,
     a: Attribute,
     property: Property,
-    op: Compare,
+    op: CompareOp,
     number: u32,
     attrs: &Running<'a>,
 ) -> Result<Value<'a>, ListFailure>
@@ -246,7 +246,7 @@ fn pair_test<'a>(
     setting: &Setting<'a>,
     first: u16,
     second: u16,
-    op: Compare,
+    op: CompareOp,
     a: Attribute,
     attrs: &Running<'a>,
 ) -> Result<Value<'a>, ListFailure>

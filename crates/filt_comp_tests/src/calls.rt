@@ -2,7 +2,7 @@ use crate::samples::{filter, net, no_scope, one, route};
 use attrs::{Names, Verdict};
 use bits_ip::OutOfMemory;
 use filt_comp::run_tree;
-use filt_syntax::{Attribute, Term};
+use filt_syntax::ast::{AddOp, Attribute};
 use filt_tree::{Scope, TExpr, TFunction, TStmt, TTarget};
 use filt_values::{Fixed, Sort};
 use std::alloc::Global;
@@ -18,7 +18,7 @@ fn alone(alloc: Global, e: TExpr) -> Result<Vec<TExpr>, OutOfMemory> {
 /// `return n + 1;`, where n is the argument.
 fn adding_one(alloc: Global) -> Result<Vec<TStmt>, OutOfMemory> {
     let mut more = Vec::new(alloc);
-    more.push((Term::Plus, TExpr::Value(Fixed::Int(1))))?;
+    more.push((AddOp::Plus, TExpr::Value(Fixed::Int(1))))?;
     let sum = TExpr::Sum(Box::new(alloc, TExpr::Local(0))?, more);
     one(alloc, TStmt::Return(Some(sum)))
 }

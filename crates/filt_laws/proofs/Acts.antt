@@ -10,19 +10,19 @@ use Rattle.attrs.specs.declared.attributes.Origin.{Origin}
 use Rattle.bits_ip.specs.declared.address.Addr.{Addr}
 use Rattle.grammar.specs.declared.named.Name.{Name}
 use Rattle.grammar.specs.Names.{name_bytes}
-use Rattle.filt_syntax.specs.declared.tree.Attribute.{Attribute}
-use Rattle.filt_syntax.specs.declared.tree.Attribute.TheVariants as attributes
-use Rattle.filt_syntax.specs.declared.tree.Constant.{Constant}
-use Rattle.filt_syntax.specs.declared.tree.Constant.TheVariants as constants
-use Rattle.filt_syntax.specs.declared.tree.Item.{Item}
-use Rattle.filt_syntax.specs.declared.tree.Method.{Method}
-use Rattle.filt_syntax.specs.declared.tree.Simple.{Simple}
-use Rattle.filt_syntax.specs.declared.tree.Simple.TheVariants as simples
-use Rattle.filt_syntax.specs.declared.tree.Target.{Target}
-use Rattle.filt_syntax.specs.declared.tree.Target.TheVariants as targets
-use Rattle.filt_syntax.specs.declared.tree.VariableType.{VariableType}
-use Rattle.filt_syntax.specs.declared.tree.VariableType.TheVariants as types
-use Rattle.conf_ast.specs.Filters.{Expression, Plain, Grouped, Expressions, Statement, Braced, Nothing, Declare, Assign, ChangeBy, Clear, Unset, If, IfElse, Case, CaseElse, For, Accept, Reject, Return, Print, PrintPart, Call, Statements, NoStatements, AndStatements, Arms, NoArms, AndArms}
+use Rattle.filt_syntax.specs.declared.ast.Attribute.{Attribute}
+use Rattle.filt_syntax.specs.declared.ast.Attribute.TheVariants as attributes
+use Rattle.filt_syntax.specs.declared.ast.Constant.{Constant}
+use Rattle.filt_syntax.specs.declared.ast.Constant.TheVariants as constants
+use Rattle.filt_syntax.specs.declared.ast.Item.{Item}
+use Rattle.filt_syntax.specs.declared.ast.Method.{Method}
+use Rattle.filt_syntax.specs.declared.ast.Atom.{Atom}
+use Rattle.filt_syntax.specs.declared.ast.Atom.TheVariants as atoms
+use Rattle.filt_syntax.specs.declared.ast.Target.{Target}
+use Rattle.filt_syntax.specs.declared.ast.Target.TheVariants as targets
+use Rattle.filt_syntax.specs.declared.ast.VariableType.{VariableType}
+use Rattle.filt_syntax.specs.declared.ast.VariableType.TheVariants as types
+use Rattle.conf_ast.specs.Filters.{Expression, Plain, Grouped, Expressions, Statement, Braced, Nothing, Declare, Assign, ChangeBy, Clear, Unset, If, IfElse, Case, CaseElse, For, Accept, Reject, Return, Print, Printn, Call, Statements, NoStatements, AndStatements, Arms, NoArms, AndArms}
 use Rattle.filt_values.specs.declared.value.Failure.{Failure}
 use Rattle.filt_values.specs.declared.value.Sort.{Sort}
 use Rattle.filt_values.specs.declared.value.Sort.TheVariants as sorts
@@ -281,10 +281,10 @@ dest_constant constants.RtdUnreachable e = refl
 dest_constant constants.RtdProhibit e = refl
 dest_constant _ e = absurd (cc)
 
-dest_plain : (scene : Scene) (vs : Variables) (s : Simple)
+dest_plain : (scene : Scene) (vs : Variables) (s : Atom)
     → is_dest_word (constant_word (Plain s)) ≡ true
     → (judge scene vs (Plain s)).sort ≡ Some sorts.Dest
-dest_plain scene vs (simples.Constant at a) e =
+dest_plain scene vs (atoms.Constant at a) e =
     ap (λ (k : Sort). Some k) (dest_constant a e)
 dest_plain scene vs _ e = absurd (cc)
 
@@ -756,7 +756,7 @@ module _ (ops : AreTyped) (scene : Scene) (around : names.Around)
     act_sound (Return at a) vs slots sees h e = return_sound vs slots sees at a e
     act_sound (Print es) vs slots sees h e =
         print_sound gives slots (judge_all scene vs es) _ (arguments_at vs slots sees es e)
-    act_sound (PrintPart es) vs slots sees h e =
+    act_sound (Printn es) vs slots sees h e =
         print_sound gives slots (judge_all scene vs es) _ (arguments_at vs slots sees es e)
     act_sound (Call n place es) vs slots sees h e =
         call_act scene functions gives slots n _ (judge_all scene vs es) _ agree refl

@@ -4,8 +4,8 @@ use Rattle.std.proofs.Common.{◌≡◌, ℕ, true, false, nat_lt, List, [], ◌
 use Rattle.std.proofs.lemmas.List.{map-append}
 use Rattle.grammar.specs.declared.named.Name.{Name}
 use Rattle.grammar.specs.Names.{name_bytes}
-use Rattle.filt_syntax.specs.declared.tree.Parameter.{Parameter}
-use Rattle.conf_ast.specs.Filters.{Statement, Braced, Nothing, Declare, Assign, ChangeBy, Clear, Unset, If, IfElse, Case, CaseElse, For, Accept, Reject, Return, Print, PrintPart, Call, Statements, NoStatements, AndStatements, Arms, NoArms, AndArms}
+use Rattle.filt_syntax.specs.declared.ast.Parameter.{Parameter}
+use Rattle.conf_ast.specs.Filters.{Statement, Braced, Nothing, Declare, Assign, ChangeBy, Clear, Unset, If, IfElse, Case, CaseElse, For, Accept, Reject, Return, Print, Printn, Call, Statements, NoStatements, AndStatements, Arms, NoArms, AndArms}
 use Rattle.filt_meaning.specs.Meaning.{all_declared, arms_declare}
 use Rattle.filt_meaning.specs.Meaning as run
 use Rattle.filt_meaning.specs.Names.{sort_of_type}
@@ -56,7 +56,7 @@ mutual
   adds Reject around vs = sym (append-nil vs)
   adds (Return at e) around vs = sym (append-nil vs)
   adds (Print es) around vs = sym (append-nil vs)
-  adds (PrintPart es) around vs = sym (append-nil vs)
+  adds (Printn es) around vs = sym (append-nil vs)
   adds (Call n place es) around vs = sym (append-nil vs)
 
   pub all_add : (ss : Statements) (around : Around) (vs : Variables)
@@ -137,7 +137,7 @@ mutual
   fresh Reject around vs e = tt
   fresh (Return at a) around vs e = tt
   fresh (Print es) around vs e = tt
-  fresh (PrintPart es) around vs e = tt
+  fresh (Printn es) around vs e = tt
   fresh (Call n place es) around vs e = tt
 
   pub all_fresh : (ss : Statements) (around : Around) (vs : Variables)

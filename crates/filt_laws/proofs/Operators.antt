@@ -1,15 +1,15 @@
 -- The operators of the forms give values of the sorts that their rules say.
 use Rattle.std.proofs.Common.{◌≡◌, Bool, true, Result, Err, MatchBool, subst}
-use Rattle.filt_syntax.specs.declared.tree.Compare.{Compare}
-use Rattle.filt_syntax.specs.declared.tree.Compare.TheVariants as compares
-use Rattle.filt_syntax.specs.declared.tree.Factor.{Factor}
-use Rattle.filt_syntax.specs.declared.tree.Factor.TheVariants as factors
-use Rattle.filt_syntax.specs.declared.tree.MethodKind.{MethodKind}
-use Rattle.filt_syntax.specs.declared.tree.MethodKind.TheVariants as methods
-use Rattle.filt_syntax.specs.declared.tree.Property.{Property}
-use Rattle.filt_syntax.specs.declared.tree.Property.TheVariants as properties
-use Rattle.filt_syntax.specs.declared.tree.Term.{Term}
-use Rattle.filt_syntax.specs.declared.tree.Term.TheVariants as terms
+use Rattle.filt_syntax.specs.declared.ast.CompareOp.{CompareOp}
+use Rattle.filt_syntax.specs.declared.ast.CompareOp.TheVariants as compare_ops
+use Rattle.filt_syntax.specs.declared.ast.MulOp.{MulOp}
+use Rattle.filt_syntax.specs.declared.ast.MulOp.TheVariants as mul_ops
+use Rattle.filt_syntax.specs.declared.ast.MethodKind.{MethodKind}
+use Rattle.filt_syntax.specs.declared.ast.MethodKind.TheVariants as methods
+use Rattle.filt_syntax.specs.declared.ast.Property.{Property}
+use Rattle.filt_syntax.specs.declared.ast.Property.TheVariants as properties
+use Rattle.filt_syntax.specs.declared.ast.AddOp.{AddOp}
+use Rattle.filt_syntax.specs.declared.ast.AddOp.TheVariants as add_ops
 use Rattle.filt_values.specs.declared.value.Failure.{Failure}
 use Rattle.filt_values.specs.declared.value.Failure.TheVariants.{Stuck}
 use Rattle.filt_values.specs.declared.value.Sort.{Sort}
@@ -20,23 +20,23 @@ use Rattle.filt_types.specs.Rules.{compares_sorts, method_takes, property}
 use Rattle.filt_laws.specs.Operators.{AreTyped}
 use Rattle.filt_laws.proofs.Flows.{IsGood, OfSort, given_good}
 
-pub term_takes : AreTyped → (op : Term) → TakesTwo two_ints an_int (term_of op)
-term_takes t terms.Plus = t.plus
-term_takes t terms.Minus = t.minus
+pub term_takes : AreTyped → (op : AddOp) → TakesTwo two_ints an_int (term_of op)
+term_takes t add_ops.Plus = t.plus
+term_takes t add_ops.Minus = t.minus
 
-pub factor_takes : AreTyped → (op : Factor) → TakesTwo two_ints an_int (factor_of op)
-factor_takes t factors.Times = t.times
-factor_takes t factors.Over = t.over
+pub factor_takes : AreTyped → (op : MulOp) → TakesTwo two_ints an_int (factor_of op)
+factor_takes t mul_ops.Times = t.times
+factor_takes t mul_ops.Over = t.over
 
-pub compare_takes : AreTyped → (op : Compare) → TakesTwo (compares_sorts op) a_bool (compare_of op)
-compare_takes t compares.Equal = t.equal
-compare_takes t compares.NotEqual = t.not_equal
-compare_takes t compares.Less = t.less
-compare_takes t compares.LessOrEqual = t.less_or_equal
-compare_takes t compares.Greater = t.greater
-compare_takes t compares.GreaterOrEqual = t.greater_or_equal
-compare_takes t compares.Matches = t.matches
-compare_takes t compares.MatchesNot = t.matches_not
+pub compare_takes : AreTyped → (op : CompareOp) → TakesTwo (compares_sorts op) a_bool (compare_of op)
+compare_takes t compare_ops.Equal = t.equal
+compare_takes t compare_ops.NotEqual = t.not_equal
+compare_takes t compare_ops.Less = t.less
+compare_takes t compare_ops.LessOrEqual = t.less_or_equal
+compare_takes t compare_ops.Greater = t.greater
+compare_takes t compare_ops.GreaterOrEqual = t.greater_or_equal
+compare_takes t compare_ops.Matches = t.matches
+compare_takes t compare_ops.MatchesNot = t.matches_not
 
 pub property_takes : AreTyped → (p : Property)
     → TakesOne (property p).takes (property p).gives (property_of p)

@@ -13,18 +13,18 @@ use Rattle.filt_sets.specs.declared.mask.Atom.{Atom}
 use Rattle.filt_sets.specs.declared.mask.MaskItem as set
 use Rattle.filt_sets.specs.declared.pairs.PairItem.{PairItem}
 use Rattle.filt_sets.specs.declared.prefixes.PrefixItem.{PrefixItem}
-use Rattle.filt_syntax.specs.declared.tree.Item.{Item}
-use Rattle.filt_syntax.specs.declared.tree.Item.TheVariants as items
-use Rattle.filt_syntax.specs.declared.tree.Lengths.{Lengths}
-use Rattle.filt_syntax.specs.declared.tree.Lengths.TheVariants as lengths
-use Rattle.filt_syntax.specs.declared.tree.MaskAtom.{MaskAtom}
-use Rattle.filt_syntax.specs.declared.tree.MaskAtom.TheVariants as mask_atoms
-use Rattle.filt_syntax.specs.declared.tree.MaskItem.{MaskItem}
-use Rattle.filt_syntax.specs.declared.tree.Num.{Num}
-use Rattle.filt_syntax.specs.declared.tree.Num.TheVariants as nums
-use Rattle.filt_syntax.specs.declared.tree.PairPart.{PairPart}
-use Rattle.filt_syntax.specs.declared.tree.PairPart.TheVariants as parts
-use Rattle.filt_syntax.specs.declared.tree.Part.{Part}
+use Rattle.filt_syntax.specs.declared.ast.Item.{Item}
+use Rattle.filt_syntax.specs.declared.ast.Item.TheVariants as items
+use Rattle.filt_syntax.specs.declared.ast.Lengths.{Lengths}
+use Rattle.filt_syntax.specs.declared.ast.Lengths.TheVariants as lengths
+use Rattle.filt_syntax.specs.declared.ast.MaskAtom.{MaskAtom}
+use Rattle.filt_syntax.specs.declared.ast.MaskAtom.TheVariants as mask_atoms
+use Rattle.filt_syntax.specs.declared.ast.MaskItem.{MaskItem}
+use Rattle.filt_syntax.specs.declared.ast.Num.{Num}
+use Rattle.filt_syntax.specs.declared.ast.Num.TheVariants as nums
+use Rattle.filt_syntax.specs.declared.ast.PairPart.{PairPart}
+use Rattle.filt_syntax.specs.declared.ast.PairPart.TheVariants as parts
+use Rattle.filt_syntax.specs.declared.ast.NumRange.{NumRange}
 use Rattle.filt_values.specs.declared.value.Sort.{Sort}
 use Rattle.filt_values.specs.declared.value.Sort.TheVariants as sorts
 use Rattle.filt_values.specs.Operators.{and_then, int_in}
@@ -43,7 +43,7 @@ use Rattle.filt_laws.proofs.Refused.{left_nil, right_nil, not_refused, same_is}
 
 -- the set of such elements
 abbrev pub set_sort_of : Item → Sort
-set_sort_of (items.Part p) = sorts.IntSet
+set_sort_of (items.Range p) = sorts.IntSet
 set_sort_of (items.Pair at a b) = sorts.PairSet
 set_sort_of (items.Prefix at net l) = sorts.PrefixSet
 
@@ -203,18 +203,18 @@ among_nets (VPrefixSet s) _ e f = absurd (cc)
 among_nets _ v e f = absurd (cc)
 
 pub element_set : (i : Item) → set_of_sort (sort_of_elements i) ≡ Some (set_sort_of i)
-element_set (items.Part p) = refl
+element_set (items.Range p) = refl
 element_set (items.Pair at a b) = refl
 element_set (items.Prefix at net l) = refl
 
 same_set : (i j : Item) → sort_of_elements i ≡ sort_of_elements j → set_sort_of j ≡ set_sort_of i
-same_set (items.Part p) (items.Part q) e = refl
-same_set (items.Part p) (items.Pair at a b) e = absurd (cc)
-same_set (items.Part p) (items.Prefix at net l) e = absurd (cc)
-same_set (items.Pair at a b) (items.Part q) e = absurd (cc)
+same_set (items.Range p) (items.Range q) e = refl
+same_set (items.Range p) (items.Pair at a b) e = absurd (cc)
+same_set (items.Range p) (items.Prefix at net l) e = absurd (cc)
+same_set (items.Pair at a b) (items.Range q) e = absurd (cc)
 same_set (items.Pair at a b) (items.Pair bt x y) e = refl
 same_set (items.Pair at a b) (items.Prefix bt net l) e = absurd (cc)
-same_set (items.Prefix at net l) (items.Part q) e = absurd (cc)
+same_set (items.Prefix at net l) (items.Range q) e = absurd (cc)
 same_set (items.Prefix at net l) (items.Pair bt a b) e = absurd (cc)
 same_set (items.Prefix at net l) (items.Prefix bt other m) e = refl
 
@@ -235,7 +235,7 @@ module _ (scene : Scene) (around : Around) (functions : List (List ℕ × Doing)
   last_good lo None e = tt
   last_good lo (Some n) e = number_good n e
 
-  range_good : (p : Part) → seen.numbers scene p ≡ []
+  range_good : (p : NumRange) → seen.numbers scene p ≡ []
       → IsGood {A = IntItem} Anything (run.int_item c p)
   range_good p e =
       good_then Anything Anything (run.number c p.low) _
@@ -247,7 +247,7 @@ module _ (scene : Scene) (around : Around) (functions : List (List ℕ × Doing)
   part_good : (p : PairPart) → seen.names_in_part scene p ≡ []
       → IsGood {A = IntItem} Anything (run.pair_part c p)
   part_good parts.Any e = tt
-  part_good (parts.Part p) e = range_good p e
+  part_good (parts.Range p) e = range_good p e
 
   pair_good : (a b : PairPart) → seen.names_in_part scene a ++ seen.names_in_part scene b ≡ []
       → IsGood {A = PairItem} Anything (run.pair_item c a b)
@@ -297,8 +297,8 @@ module _ (scene : Scene) (around : Around) (functions : List (List ℕ × Doing)
 
   one_good : (i : Item) → seen.item scene i ≡ []
       → IsGood (OfSort (set_sort_of i)) (run.set_of_one c i)
-  one_good (items.Part p) e =
-      good_then Anything (OfSort sorts.IntSet) (run.int_item c p) _ (range_good p (names_known (items.Part p) e)) (λ x _. refl)
+  one_good (items.Range p) e =
+      good_then Anything (OfSort sorts.IntSet) (run.int_item c p) _ (range_good p (names_known (items.Range p) e)) (λ x _. refl)
   one_good (items.Pair at a b) e =
       good_then Anything (OfSort sorts.PairSet) (run.pair_item c a b) _ (pair_good a b (names_known (items.Pair at a b) e))
       (λ x _. refl)
@@ -308,8 +308,8 @@ module _ (scene : Scene) (around : Around) (functions : List (List ℕ × Doing)
 
   before_good : (i : Item) (set : Val) → seen.item scene i ≡ [] → sort_of set ≡ set_sort_of i
       → IsGood (OfSort (set_sort_of i)) (run.before_set c i set)
-  before_good (items.Part p) set e s =
-      good_then Anything (OfSort sorts.IntSet) (run.int_item c p) _ (range_good p (names_known (items.Part p) e))
+  before_good (items.Range p) set e s =
+      good_then Anything (OfSort sorts.IntSet) (run.int_item c p) _ (range_good p (names_known (items.Range p) e))
       (λ x _. set_good x set s)
   before_good (items.Pair at a b) set e s =
       good_then Anything (OfSort sorts.PairSet) (run.pair_item c a b) _ (pair_good a b (names_known (items.Pair at a b) e))
@@ -330,7 +330,7 @@ module _ (scene : Scene) (around : Around) (functions : List (List ℕ × Doing)
 
   among_good : (i : Item) (w v : Val) → sort_of w ≡ set_sort_of i
       → sort_of v ≡ sort_of_elements i → IsGood {A = Bool} Anything (among w v)
-  among_good (items.Part p) w v e f = among_ints w v e f
+  among_good (items.Range p) w v e f = among_ints w v e f
   among_good (items.Pair at a b) w v e f = among_pairs w v e f
   among_good (items.Prefix at net l) w v e f = among_nets w v e f
 
@@ -347,7 +347,7 @@ module _ (scene : Scene) (around : Around) (functions : List (List ℕ × Doing)
       → IsGood {A = Atom} Anything (run.atom_of c a)
   atom_good mask_atoms.One e = tt
   atom_good mask_atoms.Any e = tt
-  atom_good (mask_atoms.Part p) e =
+  atom_good (mask_atoms.Range p) e =
       good_then Anything Anything (run.int_item c p) _
       (range_good p (left_nil (seen.numbers scene p) (seen.backwards scene p (seen.place_of p.low)) e))
       (λ x _. tt)
@@ -372,7 +372,7 @@ atom_names : (scene : Scene) (a : MaskAtom) → seen.atom scene a ≡ []
     → seen.names_in_atom scene a ≡ []
 atom_names scene mask_atoms.One e = refl
 atom_names scene mask_atoms.Any e = refl
-atom_names scene (mask_atoms.Part p) e =
+atom_names scene (mask_atoms.Range p) e =
     left_nil (seen.numbers scene p) (seen.backwards scene p (seen.place_of p.low)) e
 
 pub mask_names : (scene : Scene) (more : List MaskItem) → all_atoms scene more ≡ []

@@ -4,16 +4,16 @@ use Rattle.std.specs.Bool.{⊤}
 use Rattle.attrs.specs.declared.attributes.Attrs.{Attrs}
 use Rattle.grammar.specs.declared.named.Name.{Name}
 use Rattle.grammar.specs.Names.{name_bytes}
-use Rattle.filt_syntax.specs.declared.tree.Attribute.{Attribute}
-use Rattle.filt_syntax.specs.declared.tree.Attribute.TheVariants as attributes
-use Rattle.filt_syntax.specs.declared.tree.Constant.{Constant}
-use Rattle.filt_syntax.specs.declared.tree.Constant.TheVariants as constants
-use Rattle.filt_syntax.specs.declared.tree.Item.{Item}
-use Rattle.filt_syntax.specs.declared.tree.Joint.{Joint}
-use Rattle.filt_syntax.specs.declared.tree.Joint.TheVariants as joints
-use Rattle.filt_syntax.specs.declared.tree.MaskItem.{MaskItem}
-use Rattle.filt_syntax.specs.declared.tree.Simple.{Simple}
-use Rattle.filt_syntax.specs.declared.tree.Simple.TheVariants as simples
+use Rattle.filt_syntax.specs.declared.ast.Attribute.{Attribute}
+use Rattle.filt_syntax.specs.declared.ast.Attribute.TheVariants as attributes
+use Rattle.filt_syntax.specs.declared.ast.Constant.{Constant}
+use Rattle.filt_syntax.specs.declared.ast.Constant.TheVariants as constants
+use Rattle.filt_syntax.specs.declared.ast.Item.{Item}
+use Rattle.filt_syntax.specs.declared.ast.LogicalOp.{LogicalOp}
+use Rattle.filt_syntax.specs.declared.ast.LogicalOp.TheVariants as logical_ops
+use Rattle.filt_syntax.specs.declared.ast.MaskItem.{MaskItem}
+use Rattle.filt_syntax.specs.declared.ast.Atom.{Atom}
+use Rattle.filt_syntax.specs.declared.ast.Atom.TheVariants as atoms
 use Rattle.conf_ast.specs.Filters.{Expression, Plain, Named, Called, Grouped, Paired, SetOf, MaskOf, IsDefined, MethodOf, PropertyOf, Changed, Negated, Multiplied, Added, Compared, Joined, Expressions, NoExpressions, AndExpressions}
 use Rattle.filt_values.specs.declared.value.Failure.{Failure}
 use Rattle.filt_values.specs.declared.value.Sort.{Sort}
@@ -148,14 +148,14 @@ truth_sound t l q vals attrs y m =
     (λ v after is. plainly_meets (OfSort sorts.Bool) (truth_of v) after
     (one_given one_bool a_bool truth_of t l v is y))
 
-right_sound : (t : TakesOne one_bool a_bool truth_of) (joint : Joint) (left : Bool) (l : Sort)
+right_sound : (t : TakesOne one_bool a_bool truth_of) (joint : LogicalOp) (left : Bool) (l : Sort)
     (q : Run Val) (vals : Frame) (attrs : Attrs) → one_bool l ≡ true
     → Meets EndsFilter (OfSort l) (q vals attrs)
     → Meets EndsFilter (OfSort sorts.Bool) (right_side joint left q vals attrs)
-right_sound t joints.And true l q vals attrs y m = truth_sound t l q vals attrs y m
-right_sound t joints.And false l q vals attrs y m = refl
-right_sound t joints.Or true l q vals attrs y m = refl
-right_sound t joints.Or false l q vals attrs y m = truth_sound t l q vals attrs y m
+right_sound t logical_ops.And true l q vals attrs y m = truth_sound t l q vals attrs y m
+right_sound t logical_ops.And false l q vals attrs y m = refl
+right_sound t logical_ops.Or true l q vals attrs y m = refl
+right_sound t logical_ops.Or false l q vals attrs y m = truth_sound t l q vals attrs y m
 
 and_left : (a b : Bool) → (a && b) ≡ true → a ≡ true
 and_left true b e = refl
@@ -165,7 +165,7 @@ and_right : (a b : Bool) → (a && b) ≡ true → b ≡ true
 and_right true b e = e
 and_right false b e = absurd (cc)
 
-joined_sound : (F : Frame → Type 0) (t : TakesOne one_bool a_bool truth_of) (joint : Joint)
+joined_sound : (F : Frame → Type 0) (t : TakesOne one_bool a_bool truth_of) (joint : LogicalOp)
     (at : ℕ) (a b : Judgement) (r q : Run Val) → (of_two at joining a b).refusals ≡ []
     → (a.refusals ≡ [] → SoundAt F a.sort r) → (b.refusals ≡ [] → SoundAt F b.sort q)
     → SoundAt F (of_two at joining a b).sort (joined joint r q)
@@ -214,20 +214,20 @@ constant_sort constants.RtsStatic = refl
 constant_sort _ = refl
 
 plain_sound : (F : Frame → Type 0) (scene : Scene) (around : Around)
-    (functions : List (List ℕ × Doing)) (variables : List (List ℕ)) (s : Simple)
+    (functions : List (List ℕ × Doing)) (variables : List (List ℕ)) (s : Atom)
     → SoundAt F (seen.plain s).sort (run.plain s (ctx scene around functions variables))
-plain_sound F scene around functions variables (simples.Number at n) = λ vals attrs f. refl
-plain_sound F scene around functions variables (simples.Text at start len) = λ vals attrs f. refl
-plain_sound F scene around functions variables (simples.Ip at addr) = λ vals attrs f. refl
-plain_sound F scene around functions variables (simples.Prefix at net) = λ vals attrs f. refl
-plain_sound F scene around functions variables (simples.True at) = λ vals attrs f. refl
-plain_sound F scene around functions variables (simples.False at) = λ vals attrs f. refl
-plain_sound F scene around functions variables (simples.EmptyPath at) = λ vals attrs f. refl
-plain_sound F scene around functions variables (simples.EmptyClist at) = λ vals attrs f. refl
-plain_sound F scene around functions variables (simples.Attribute at a) =
+plain_sound F scene around functions variables (atoms.Number at n) = λ vals attrs f. refl
+plain_sound F scene around functions variables (atoms.Text at start len) = λ vals attrs f. refl
+plain_sound F scene around functions variables (atoms.Ip at addr) = λ vals attrs f. refl
+plain_sound F scene around functions variables (atoms.Prefix at net) = λ vals attrs f. refl
+plain_sound F scene around functions variables (atoms.True at) = λ vals attrs f. refl
+plain_sound F scene around functions variables (atoms.False at) = λ vals attrs f. refl
+plain_sound F scene around functions variables (atoms.EmptyPath at) = λ vals attrs f. refl
+plain_sound F scene around functions variables (atoms.EmptyClist at) = λ vals attrs f. refl
+plain_sound F scene around functions variables (atoms.Attribute at a) =
     λ vals attrs f. plainly_meets (OfSort (sort_of_attribute a)) (attribute_of around a attrs) attrs
     (attribute_good around a attrs)
-plain_sound F scene around functions variables (simples.Constant at c) =
+plain_sound F scene around functions variables (atoms.Constant at c) =
     λ vals attrs f. constant_sort c
 
 -- a variable that is seen

@@ -2,9 +2,9 @@
 use Rattle.std.proofs.Common.{◌≡◌, ℕ, ◌+◌, Bool, true, false, List, [], ◌∷◌, ◌++◌, length, take, Option, Some, None, Result, Ok, Err, nat_lt, if◌then◌else◌, slice_set, refl, ap, ◌∙◌, subst, arith, length-take, length-append, rules}
 use Rattle.std.specs.Bool.{⊤}
 use Rattle.attrs.specs.declared.attributes.Attrs.{Attrs}
-use Rattle.filt_syntax.specs.declared.tree.Target.{Target}
-use Rattle.filt_syntax.specs.declared.tree.Target.TheVariants as targets
-use Rattle.conf_ast.specs.Filters.{Expression, Statement, Braced, Nothing, Declare, Assign, ChangeBy, Clear, Unset, If, IfElse, Case, CaseElse, For, Accept, Reject, Return, Print, PrintPart, Call, Statements, NoStatements, AndStatements, Arms, NoArms, AndArms}
+use Rattle.filt_syntax.specs.declared.ast.Target.{Target}
+use Rattle.filt_syntax.specs.declared.ast.Target.TheVariants as targets
+use Rattle.conf_ast.specs.Filters.{Expression, Statement, Braced, Nothing, Declare, Assign, ChangeBy, Clear, Unset, If, IfElse, Case, CaseElse, For, Accept, Reject, Return, Print, Printn, Call, Statements, NoStatements, AndStatements, Arms, NoArms, AndArms}
 use Rattle.grammar.specs.Names.{name_bytes}
 use Rattle.filt_values.specs.declared.value.Failure.{Failure}
 use Rattle.filt_values.specs.Values.{Val}
@@ -144,7 +144,7 @@ mutual
   act_kept Reject c = λ vals attrs. tt
   act_kept (Return at e) c = result_kept e c
   act_kept (Print es) c = evaluate_kept _
-  act_kept (PrintPart es) c = evaluate_kept _
+  act_kept (Printn es) c = evaluate_kept _
   act_kept (Call n place es) c = evaluate_kept _
 
   pub acts_kept : (ss : Statements) (c : Context) → KeepsAll (acts ss c)

@@ -8,18 +8,18 @@ use Rattle.filt_sets.specs.declared.prefixes.PrefixItem.{PrefixItem}
 use Rattle.filt_sets.specs.declared.mask.Atom.{Atom}
 use Rattle.filt_sets.specs.declared.mask.Atom.TheVariants as atoms
 use Rattle.filt_sets.specs.declared.mask.MaskItem as set
-use Rattle.filt_syntax.specs.declared.tree.Item.{Item}
-use Rattle.filt_syntax.specs.declared.tree.Item.TheVariants as items
-use Rattle.filt_syntax.specs.declared.tree.Lengths.{Lengths}
-use Rattle.filt_syntax.specs.declared.tree.Lengths.TheVariants as lengths
-use Rattle.filt_syntax.specs.declared.tree.MaskAtom.{MaskAtom}
-use Rattle.filt_syntax.specs.declared.tree.MaskAtom.TheVariants as mask_atoms
-use Rattle.filt_syntax.specs.declared.tree.MaskItem.{MaskItem}
-use Rattle.filt_syntax.specs.declared.tree.Num.{Num}
-use Rattle.filt_syntax.specs.declared.tree.Num.TheVariants as nums
-use Rattle.filt_syntax.specs.declared.tree.PairPart.{PairPart}
-use Rattle.filt_syntax.specs.declared.tree.PairPart.TheVariants as parts
-use Rattle.filt_syntax.specs.declared.tree.Part.{Part}
+use Rattle.filt_syntax.specs.declared.ast.Item.{Item}
+use Rattle.filt_syntax.specs.declared.ast.Item.TheVariants as items
+use Rattle.filt_syntax.specs.declared.ast.Lengths.{Lengths}
+use Rattle.filt_syntax.specs.declared.ast.Lengths.TheVariants as lengths
+use Rattle.filt_syntax.specs.declared.ast.MaskAtom.{MaskAtom}
+use Rattle.filt_syntax.specs.declared.ast.MaskAtom.TheVariants as mask_atoms
+use Rattle.filt_syntax.specs.declared.ast.MaskItem.{MaskItem}
+use Rattle.filt_syntax.specs.declared.ast.Num.{Num}
+use Rattle.filt_syntax.specs.declared.ast.Num.TheVariants as nums
+use Rattle.filt_syntax.specs.declared.ast.PairPart.{PairPart}
+use Rattle.filt_syntax.specs.declared.ast.PairPart.TheVariants as parts
+use Rattle.filt_syntax.specs.declared.ast.NumRange.{NumRange}
 use Rattle.filt_values.specs.declared.value.Failure.{Failure}
 use Rattle.filt_values.specs.declared.value.Failure.TheVariants.{Stuck}
 use Rattle.filt_values.specs.Members.{in_ints, in_pairs, in_nets}
@@ -38,7 +38,7 @@ last_number c lo None = Ok lo
 last_number c lo (Some n) = number c n
 
 -- `n`, `n..m`
-abbrev pub int_item : Context → Part → Result IntItem Failure
+abbrev pub int_item : Context → NumRange → Result IntItem Failure
 int_item c p =
     and_then (number c p.low) (λ lo. and_then (last_number c lo p.high)
     (λ hi. Ok (record { lo = lo; hi = hi })))
@@ -46,7 +46,7 @@ int_item c p =
 -- a part of a pair: `*` takes each number of 16 bits
 abbrev pub pair_part : Context → PairPart → Result IntItem Failure
 pair_part c parts.Any = Ok (record { lo = 0; hi = 2 ^ 16 - 1 })
-pair_part c (parts.Part p) = int_item c p
+pair_part c (parts.Range p) = int_item c p
 
 abbrev pub pair_item : Context → PairPart → PairPart → Result PairItem Failure
 pair_item c first second =
@@ -88,14 +88,14 @@ with_prefix_item item _ = Err Stuck
 
 -- the set of one item
 abbrev pub set_of_one : Context → Item → Result Val Failure
-set_of_one c (items.Part p) = and_then (int_item c p) (λ item. Ok (VIntSet (item ∷ [])))
+set_of_one c (items.Range p) = and_then (int_item c p) (λ item. Ok (VIntSet (item ∷ [])))
 set_of_one c (items.Pair at a b) = and_then (pair_item c a b) (λ item. Ok (VPairSet (item ∷ [])))
 set_of_one c (items.Prefix at net l) =
     and_then (prefix_item c net l) (λ item. Ok (VPrefixSet (item ∷ [])))
 
 -- that item before those of a set
 abbrev pub before_set : Context → Item → Val → Result Val Failure
-before_set c (items.Part p) more = and_then (int_item c p) (λ item. with_int_item item more)
+before_set c (items.Range p) more = and_then (int_item c p) (λ item. with_int_item item more)
 before_set c (items.Pair at a b) more =
     and_then (pair_item c a b) (λ item. with_pair_item item more)
 before_set c (items.Prefix at net l) more =
@@ -113,7 +113,7 @@ set_of c (item ∷ next ∷ more) =
 abbrev pub atom_of : Context → MaskAtom → Result Atom Failure
 atom_of c mask_atoms.One = Ok atoms.One
 atom_of c mask_atoms.Any = Ok atoms.Any
-atom_of c (mask_atoms.Part p) = and_then (int_item c p) (λ item. Ok (atoms.Range item.lo item.hi))
+atom_of c (mask_atoms.Range p) = and_then (int_item c p) (λ item. Ok (atoms.Range item.lo item.hi))
 
 abbrev pub mask_item : Context → MaskItem → Result set.MaskItem Failure
 mask_item c item =

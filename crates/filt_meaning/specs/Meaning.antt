@@ -4,25 +4,25 @@ use Rattle.std.specs.Prelude.{ℕ, Bool, true, false, nat_lt, if◌then◌else�
 use Rattle.attrs.specs.declared.attributes.Attrs.{Attrs}
 use Rattle.grammar.specs.declared.named.Name.{Name}
 use Rattle.grammar.specs.Names.{name_bytes}
-use Rattle.filt_syntax.specs.declared.tree.Attribute.{Attribute}
-use Rattle.filt_syntax.specs.declared.tree.Compare.{Compare}
-use Rattle.filt_syntax.specs.declared.tree.Compare.TheVariants as compares
-use Rattle.filt_syntax.specs.declared.tree.Factor.{Factor}
-use Rattle.filt_syntax.specs.declared.tree.Factor.TheVariants as factors
-use Rattle.filt_syntax.specs.declared.tree.Joint.{Joint}
-use Rattle.filt_syntax.specs.declared.tree.Joint.TheVariants as joints
-use Rattle.filt_syntax.specs.declared.tree.MethodKind.{MethodKind}
-use Rattle.filt_syntax.specs.declared.tree.MethodKind.TheVariants as methods
-use Rattle.filt_syntax.specs.declared.tree.Property.{Property}
-use Rattle.filt_syntax.specs.declared.tree.Property.TheVariants as properties
-use Rattle.filt_syntax.specs.declared.tree.Simple.{Simple}
-use Rattle.filt_syntax.specs.declared.tree.Simple.TheVariants as simples
-use Rattle.filt_syntax.specs.declared.tree.Target.{Target}
-use Rattle.filt_syntax.specs.declared.tree.Target.TheVariants as targets
-use Rattle.filt_syntax.specs.declared.tree.Term.{Term}
-use Rattle.filt_syntax.specs.declared.tree.Term.TheVariants as terms
-use Rattle.filt_syntax.specs.declared.tree.VariableType.{VariableType}
-use Rattle.conf_ast.specs.Filters.{Expression, Plain, Named, Called, Grouped, Paired, SetOf, MaskOf, IsDefined, MethodOf, PropertyOf, Changed, Negated, Multiplied, Added, Compared, Joined, Expressions, NoExpressions, AndExpressions, Statement, Braced, Nothing, Declare, Assign, ChangeBy, Clear, Unset, If, IfElse, Case, CaseElse, For, Accept, Reject, Return, Print, PrintPart, Call, Statements, NoStatements, AndStatements, Arms, NoArms, AndArms}
+use Rattle.filt_syntax.specs.declared.ast.Attribute.{Attribute}
+use Rattle.filt_syntax.specs.declared.ast.CompareOp.{CompareOp}
+use Rattle.filt_syntax.specs.declared.ast.CompareOp.TheVariants as compare_ops
+use Rattle.filt_syntax.specs.declared.ast.MulOp.{MulOp}
+use Rattle.filt_syntax.specs.declared.ast.MulOp.TheVariants as mul_ops
+use Rattle.filt_syntax.specs.declared.ast.LogicalOp.{LogicalOp}
+use Rattle.filt_syntax.specs.declared.ast.LogicalOp.TheVariants as logical_ops
+use Rattle.filt_syntax.specs.declared.ast.MethodKind.{MethodKind}
+use Rattle.filt_syntax.specs.declared.ast.MethodKind.TheVariants as methods
+use Rattle.filt_syntax.specs.declared.ast.Property.{Property}
+use Rattle.filt_syntax.specs.declared.ast.Property.TheVariants as properties
+use Rattle.filt_syntax.specs.declared.ast.Atom.{Atom}
+use Rattle.filt_syntax.specs.declared.ast.Atom.TheVariants as atoms
+use Rattle.filt_syntax.specs.declared.ast.Target.{Target}
+use Rattle.filt_syntax.specs.declared.ast.Target.TheVariants as targets
+use Rattle.filt_syntax.specs.declared.ast.AddOp.{AddOp}
+use Rattle.filt_syntax.specs.declared.ast.AddOp.TheVariants as add_ops
+use Rattle.filt_syntax.specs.declared.ast.VariableType.{VariableType}
+use Rattle.conf_ast.specs.Filters.{Expression, Plain, Named, Called, Grouped, Paired, SetOf, MaskOf, IsDefined, MethodOf, PropertyOf, Changed, Negated, Multiplied, Added, Compared, Joined, Expressions, NoExpressions, AndExpressions, Statement, Braced, Nothing, Declare, Assign, ChangeBy, Clear, Unset, If, IfElse, Case, CaseElse, For, Accept, Reject, Return, Print, Printn, Call, Statements, NoStatements, AndStatements, Arms, NoArms, AndArms}
 use Rattle.filt_values.specs.declared.value.Failure.{Failure}
 use Rattle.filt_values.specs.declared.value.Failure.TheVariants as failures
 use Rattle.filt_values.specs.Operators.{bool_in, plus_of, minus_of, times_of, over_of, truth_of, not_of, pair_of, equal_of, not_equal_of, less_of, less_or_equal_of, greater_of, greater_or_equal_of, matches_of, matches_not_of, len_of, first_of, last_of, ip_of, prepended_of, added_of, deleted_of, filtered_of, emptied_of}
@@ -53,13 +53,13 @@ variable_or None constant vals attrs = plainly (there constant) attrs
 
 -- the right side of `&&` or `||` behind a left one of this value: it is left out where the left one
 -- decides
-abbrev pub right_side : Joint → Bool → Run Val → Run Val
-right_side joints.And true b vals attrs = on_value b truth_of vals attrs
-right_side joints.And false b vals attrs = Done (VBool false) attrs
-right_side joints.Or true b vals attrs = Done (VBool true) attrs
-right_side joints.Or false b vals attrs = on_value b truth_of vals attrs
+abbrev pub right_side : LogicalOp → Bool → Run Val → Run Val
+right_side logical_ops.And true b vals attrs = on_value b truth_of vals attrs
+right_side logical_ops.And false b vals attrs = Done (VBool false) attrs
+right_side logical_ops.Or true b vals attrs = Done (VBool true) attrs
+right_side logical_ops.Or false b vals attrs = on_value b truth_of vals attrs
 
-abbrev pub joined : Joint → Run Val → Run Val → Run Val
+abbrev pub joined : LogicalOp → Run Val → Run Val → Run Val
 joined joint a b vals attrs =
     and_then (a vals attrs) (λ v attrs. and_then (plainly (bool_in v) attrs)
     (λ left attrs. right_side joint left b vals attrs))
@@ -85,23 +85,23 @@ called_value f arguments vals attrs =
 
 -- ---- operators
 
-abbrev pub term_of : Term → Val → Val → Result Val Failure
-term_of terms.Plus = plus_of
-term_of terms.Minus = minus_of
+abbrev pub term_of : AddOp → Val → Val → Result Val Failure
+term_of add_ops.Plus = plus_of
+term_of add_ops.Minus = minus_of
 
-abbrev pub factor_of : Factor → Val → Val → Result Val Failure
-factor_of factors.Times = times_of
-factor_of factors.Over = over_of
+abbrev pub factor_of : MulOp → Val → Val → Result Val Failure
+factor_of mul_ops.Times = times_of
+factor_of mul_ops.Over = over_of
 
-abbrev pub compare_of : Compare → Val → Val → Result Val Failure
-compare_of compares.Equal = equal_of
-compare_of compares.NotEqual = not_equal_of
-compare_of compares.Less = less_of
-compare_of compares.LessOrEqual = less_or_equal_of
-compare_of compares.Greater = greater_of
-compare_of compares.GreaterOrEqual = greater_or_equal_of
-compare_of compares.Matches = matches_of
-compare_of compares.MatchesNot = matches_not_of
+abbrev pub compare_of : CompareOp → Val → Val → Result Val Failure
+compare_of compare_ops.Equal = equal_of
+compare_of compare_ops.NotEqual = not_equal_of
+compare_of compare_ops.Less = less_of
+compare_of compare_ops.LessOrEqual = less_or_equal_of
+compare_of compare_ops.Greater = greater_of
+compare_of compare_ops.GreaterOrEqual = greater_or_equal_of
+compare_of compare_ops.Matches = matches_of
+compare_of compare_ops.MatchesNot = matches_not_of
 
 abbrev pub property_of : Property → Val → Result Val Failure
 property_of properties.Len = len_of
@@ -121,17 +121,17 @@ abbrev pub attribute : Around → Attribute → Run Val
 attribute around a vals attrs = plainly (attribute_of around a attrs) attrs
 
 -- values, attributes and constants, by their words
-abbrev pub plain : Simple → Context → Run Val
-plain (simples.Number at n) c = given (Ok (VInt n))
-plain (simples.Text at start len) c = given (Ok (VString (take len (drop start c.text))))
-plain (simples.Ip at addr) c = given (Ok (VIp addr))
-plain (simples.Prefix at net) c = given (Ok (VPrefix net))
-plain (simples.True at) c = given (Ok (VBool true))
-plain (simples.False at) c = given (Ok (VBool false))
-plain (simples.EmptyPath at) c = given (Ok (VPath []))
-plain (simples.EmptyClist at) c = given (Ok (VClist []))
-plain (simples.Attribute at a) c = attribute c.around a
-plain (simples.Constant at constant) c = given (Ok (value_of_constant constant))
+abbrev pub plain : Atom → Context → Run Val
+plain (atoms.Number at n) c = given (Ok (VInt n))
+plain (atoms.Text at start len) c = given (Ok (VString (take len (drop start c.text))))
+plain (atoms.Ip at addr) c = given (Ok (VIp addr))
+plain (atoms.Prefix at net) c = given (Ok (VPrefix net))
+plain (atoms.True at) c = given (Ok (VBool true))
+plain (atoms.False at) c = given (Ok (VBool false))
+plain (atoms.EmptyPath at) c = given (Ok (VPath []))
+plain (atoms.EmptyClist at) c = given (Ok (VClist []))
+plain (atoms.Attribute at a) c = attribute c.around a
+plain (atoms.Constant at constant) c = given (Ok (value_of_constant constant))
 
 -- `defined(attribute)`
 abbrev pub defined : Attribute → Run Val
@@ -185,7 +185,7 @@ abbrev mutual
   declared text Reject = []
   declared text (Return at e) = []
   declared text (Print es) = []
-  declared text (PrintPart es) = []
+  declared text (Printn es) = []
   declared text (Call n place es) = []
 
   pub all_declared : List ℕ → Statements → List Variable
@@ -251,7 +251,7 @@ assign c target a vals attrs =
 -- the target as an expression
 abbrev pub read : Target → Expression
 read (targets.Name n) = Named n
-read (targets.Attribute at a) = Plain (simples.Attribute at a)
+read (targets.Attribute at a) = Plain (atoms.Attribute at a)
 
 abbrev pub choose : Bool → Act → Act → Act
 choose true first second = first
@@ -332,7 +332,7 @@ abbrev mutual
   act Reject c = stop Rejected
   act (Return at e) c = result e c
   act (Print es) c = evaluate (values es c)
-  act (PrintPart es) c = evaluate (values es c)
+  act (Printn es) c = evaluate (values es c)
   act (Call n place es) c = evaluate (call (function_of c n) (values es c))
 
   pub acts : Statements → Context → Act

@@ -6,8 +6,8 @@ use Rattle.bits_ip.specs.Prefix.{Net}
 use Rattle.attrs.specs.declared.attributes.Attrs.{Attrs}
 use Rattle.grammar.specs.declared.named.Name.{Name}
 use Rattle.grammar.specs.Names.{name_bytes}
-use Rattle.filt_syntax.specs.declared.tree.VariableType.{VariableType}
-use Rattle.filt_syntax.specs.declared.tree.VariableType.TheVariants as types
+use Rattle.filt_syntax.specs.declared.ast.VariableType.{VariableType}
+use Rattle.filt_syntax.specs.declared.ast.VariableType.TheVariants as types
 use Rattle.filt_values.specs.declared.value.Failure.{Failure}
 use Rattle.filt_values.specs.declared.value.Failure.TheVariants as failures
 use Rattle.filt_values.specs.declared.value.Sort.{Sort}

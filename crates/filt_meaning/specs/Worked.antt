@@ -2,14 +2,14 @@
 -- is a name. The law `worked_filters` tells what they say.
 use Rattle.std.specs.Prelude.{ℕ, List, [], ◌∷◌, Some, None, codes}
 use Rattle.grammar.specs.declared.named.Name.{Name}
-use Rattle.filt_syntax.specs.declared.tree.Attribute.{Attribute}
-use Rattle.filt_syntax.specs.declared.tree.Attribute.TheVariants as attributes
-use Rattle.filt_syntax.specs.declared.tree.Compare.TheVariants as compares
-use Rattle.filt_syntax.specs.declared.tree.MethodKind.TheVariants as methods
-use Rattle.filt_syntax.specs.declared.tree.Simple.TheVariants as simples
-use Rattle.filt_syntax.specs.declared.tree.Target.TheVariants as targets
-use Rattle.filt_syntax.specs.declared.tree.Term.TheVariants as terms
-use Rattle.filt_syntax.specs.declared.tree.VariableType.TheVariants as types
+use Rattle.filt_syntax.specs.declared.ast.Attribute.{Attribute}
+use Rattle.filt_syntax.specs.declared.ast.Attribute.TheVariants as attributes
+use Rattle.filt_syntax.specs.declared.ast.CompareOp.TheVariants as compare_ops
+use Rattle.filt_syntax.specs.declared.ast.MethodKind.TheVariants as methods
+use Rattle.filt_syntax.specs.declared.ast.Atom.TheVariants as atoms
+use Rattle.filt_syntax.specs.declared.ast.Target.TheVariants as targets
+use Rattle.filt_syntax.specs.declared.ast.AddOp.TheVariants as add_ops
+use Rattle.filt_syntax.specs.declared.ast.VariableType.TheVariants as types
 use Rattle.conf_ast.specs.Configurations.{Declaration, DefineFunction}
 use Rattle.conf_ast.specs.Filters.{Expression, Plain, Named, Called, Added, Compared, NoExpressions, Statement, Braced, Declare, Assign, ChangeBy, If, For, Accept, Reject, Return, Statements, statements}
 
@@ -32,10 +32,10 @@ abbrev pub x : Name
 x = letter 3
 
 abbrev pub number : ℕ → Expression
-number k = Plain (simples.Number 0 k)
+number k = Plain (atoms.Number 0 k)
 
 abbrev pub attribute : Attribute → Expression
-attribute a = Plain (simples.Attribute 0 a)
+attribute a = Plain (atoms.Attribute 0 a)
 
 abbrev pub prepend : Expression → Statement
 prepend e =
@@ -65,13 +65,13 @@ counts =
     ∷ For 0 types.Int i (attribute attributes.BgpPath)
     (Braced (statements
     (Declare types.Int x None
-    ∷ Assign (targets.Name x) (Added (Named x) terms.Plus (number 1))
-    ∷ Assign (targets.Name n) (Added (Named n) terms.Plus (Named x)) ∷ [])))
+    ∷ Assign (targets.Name x) (Added (Named x) add_ops.Plus (number 1))
+    ∷ Assign (targets.Name n) (Added (Named n) add_ops.Plus (Named x)) ∷ [])))
     ∷ Assign (targets.Attribute 0 attributes.BgpMed) (Named n) ∷ Accept ∷ [])
 
 -- `if false then int x = 5; if x = 0 then accept; reject;`
 abbrev pub passes_over : Statements
 passes_over =
     statements
-    (If (Plain (simples.False 0)) (Declare types.Int x (Some (number 5)))
-    ∷ If (Compared (Named x) compares.Equal (number 0)) Accept ∷ Reject ∷ [])
+    (If (Plain (atoms.False 0)) (Declare types.Int x (Some (number 5)))
+    ∷ If (Compared (Named x) compare_ops.Equal (number 0)) Accept ∷ Reject ∷ [])

@@ -10,19 +10,19 @@ ghost use Rattle.bits_ip.specs.Prefix.{Net};
 ghost use Rattle.bits_ip.specs.declared.address.Addr.{Addr};
 ghost use Rattle.grammar.specs.declared.named.Name.{Name};
 ghost use Rattle.grammar.specs.Names.{name_bytes};
-ghost use Rattle.filt_syntax.specs.declared.tree.Attribute.{Attribute};
-ghost use Rattle.filt_syntax.specs.declared.tree.Attribute.TheVariants as attributes;
-ghost use Rattle.filt_syntax.specs.declared.tree.Compare.{Compare};
-ghost use Rattle.filt_syntax.specs.declared.tree.Factor.{Factor};
-ghost use Rattle.filt_syntax.specs.declared.tree.Item.{Item};
-ghost use Rattle.filt_syntax.specs.declared.tree.Joint.{Joint};
-ghost use Rattle.filt_syntax.specs.declared.tree.Joint.TheVariants as joints;
-ghost use Rattle.filt_syntax.specs.declared.tree.Simple.TheVariants as simples;
-ghost use Rattle.filt_syntax.specs.declared.tree.Method.{Method};
-ghost use Rattle.filt_syntax.specs.declared.tree.Target.{Target};
-ghost use Rattle.filt_syntax.specs.declared.tree.Target.TheVariants as targets;
-ghost use Rattle.filt_syntax.specs.declared.tree.Term.{Term};
-ghost use Rattle.filt_syntax.specs.declared.tree.VariableType.{VariableType};
+ghost use Rattle.filt_syntax.specs.declared.ast.Attribute.{Attribute};
+ghost use Rattle.filt_syntax.specs.declared.ast.Attribute.TheVariants as attributes;
+ghost use Rattle.filt_syntax.specs.declared.ast.CompareOp.{CompareOp};
+ghost use Rattle.filt_syntax.specs.declared.ast.MulOp.{MulOp};
+ghost use Rattle.filt_syntax.specs.declared.ast.Item.{Item};
+ghost use Rattle.filt_syntax.specs.declared.ast.LogicalOp.{LogicalOp};
+ghost use Rattle.filt_syntax.specs.declared.ast.LogicalOp.TheVariants as logical_ops;
+ghost use Rattle.filt_syntax.specs.declared.ast.Atom.TheVariants as atoms;
+ghost use Rattle.filt_syntax.specs.declared.ast.Method.{Method};
+ghost use Rattle.filt_syntax.specs.declared.ast.Target.{Target};
+ghost use Rattle.filt_syntax.specs.declared.ast.Target.TheVariants as targets;
+ghost use Rattle.filt_syntax.specs.declared.ast.AddOp.{AddOp};
+ghost use Rattle.filt_syntax.specs.declared.ast.VariableType.{VariableType};
 ghost use Rattle.conf_ast.specs.Configurations.{Routine};
 ghost use Rattle.conf_ast.specs.Filters.{Expression, Plain, Named, Called, Paired, MethodOf, Changed, Multiplied, Added, Compared, Joined, Expressions, AndExpressions, Statement, If, Unset, Declare, Assign, ChangeBy, Case, CaseElse, For, Call, Statements, AndStatements, Arms, NoArms, AndArms};
 ghost use Rattle.filt_values.specs.declared.value.Failure.TheVariants.{Fault};
@@ -42,21 +42,21 @@ ghost use Rattle.filt_meaning.specs.Worked.{counts, names, passes_over, prepends
 pub fn the_left_side_decides()
     ensures and { (a b : Expression) (c : Context) (vals : Frame) (attrs after : Attrs)
         → value a c vals attrs ≡ Done (VBool false) after
-        → value (Joined a joints.And b) c vals attrs ≡ Done (VBool false) after }
+        → value (Joined a logical_ops.And b) c vals attrs ≡ Done (VBool false) after }
     ensures or { (a b : Expression) (c : Context) (vals : Frame) (attrs after : Attrs)
         → value a c vals attrs ≡ Done (VBool true) after
-        → value (Joined a joints.Or b) c vals attrs ≡ Done (VBool true) after }
+        → value (Joined a logical_ops.Or b) c vals attrs ≡ Done (VBool true) after }
     ensures and_else { (a b : Expression) (c : Context) (vals : Frame)
         (attrs between after : Attrs) (right : Bool)
         → value a c vals attrs ≡ Done (VBool true) between
         → value b c vals between ≡ Done (VBool right) after
-        → value (Joined a joints.And b) c vals attrs ≡ Done (VBool right) after }
+        → value (Joined a logical_ops.And b) c vals attrs ≡ Done (VBool right) after }
     ensures or_else { (a b : Expression) (c : Context) (vals : Frame)
         (attrs between after : Attrs) (right : Bool)
         → value a c vals attrs ≡ Done (VBool false) between
         → value b c vals between ≡ Done (VBool right) after
-        → value (Joined a joints.Or b) c vals attrs ≡ Done (VBool right) after }
-    ensures left_stops { (a b : Expression) (joint : Joint) (c : Context) (vals : Frame)
+        → value (Joined a logical_ops.Or b) c vals attrs ≡ Done (VBool right) after }
+    ensures left_stops { (a b : Expression) (joint : LogicalOp) (c : Context) (vals : Frame)
         (attrs after : Attrs) (why : Why)
         → value a c vals attrs ≡ Stopped why after
         → value (Joined a joint b) c vals attrs ≡ Stopped why after }
@@ -64,20 +64,20 @@ pub fn the_left_side_decides()
         (attrs between after : Attrs) (why : Why)
         → value a c vals attrs ≡ Done (VBool true) between
         → value b c vals between ≡ Stopped why after
-        → value (Joined a joints.And b) c vals attrs ≡ Stopped why after }
+        → value (Joined a logical_ops.And b) c vals attrs ≡ Stopped why after }
     ensures or_stops { (a b : Expression) (c : Context) (vals : Frame)
         (attrs between after : Attrs) (why : Why)
         → value a c vals attrs ≡ Done (VBool false) between
         → value b c vals between ≡ Stopped why after
-        → value (Joined a joints.Or b) c vals attrs ≡ Stopped why after }
+        → value (Joined a logical_ops.Or b) c vals attrs ≡ Stopped why after }
 {}
 
 /// Operators, pairs and methods evaluate their operands from left to right, so the first fault
 /// counts.
 pub fn operands_go_from_left_to_right()
-    ensures factors { (op : Factor) → GoesFromLeft (λ a b. Multiplied a op b) }
-    ensures terms { (op : Term) → GoesFromLeft (λ a b. Added a op b) }
-    ensures comparisons { (op : Compare) → GoesFromLeft (λ a b. Compared a op b) }
+    ensures factors { (op : MulOp) → GoesFromLeft (λ a b. Multiplied a op b) }
+    ensures terms { (op : AddOp) → GoesFromLeft (λ a b. Added a op b) }
+    ensures comparisons { (op : CompareOp) → GoesFromLeft (λ a b. Compared a op b) }
     ensures pairs { (at : ℕ) → GoesFromLeft (λ a b. Paired at a b) }
     ensures methods { (m : Method) (place : ℕ) → GoesFromLeft (λ a b. Changed a m place b) }
     ensures calls { (m : Method) (place : ℕ) → GoesFromLeft (λ a b. MethodOf m place a b) }
@@ -283,7 +283,7 @@ pub fn what_is_assigned_is_read()
         (vals after : Frame) (attrs between same : Attrs) (v : Val)
         → value e c vals attrs ≡ Done v between
         → act (Assign (targets.Attribute at a) e) c vals attrs ≡ Done after same
-        → value (Plain (simples.Attribute at a)) c after same ≡ Done v same }
+        → value (Plain (atoms.Attribute at a)) c after same ≡ Done v same }
 {}
 
 /// Reading an attribute is a fault where it isn't defined, and gives a value where it is.
@@ -294,7 +294,7 @@ pub fn undefined_attributes_are_faults()
         → is_defined a attrs ≡ true → (v : Val) × (attribute_of around a attrs ≡ Ok v) }
     ensures read { (at : ℕ) (a : Attribute) (c : Context) (vals : Frame) (attrs : Attrs)
         → is_defined a attrs ≡ false
-        → value (Plain (simples.Attribute at a)) c vals attrs
+        → value (Plain (atoms.Attribute at a)) c vals attrs
         ≡ Stopped (Faulted faults.Undefined) attrs }
 {}
 

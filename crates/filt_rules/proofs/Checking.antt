@@ -4,18 +4,18 @@ use Rattle.std.specs.Global.{Global}
 use Rattle.std.specs.List.{list_any, remove}
 use Rattle.std.proofs.Math.Seq.{take-append_seam}
 use Rattle.grammar.specs.declared.named.Name.{Name}
-use Rattle.filt_syntax.specs.declared.tree.Arm.{Arm}
-use Rattle.filt_syntax.specs.declared.tree.Change.{Change}
-use Rattle.filt_syntax.specs.declared.tree.Change.TheVariants as changes
-use Rattle.filt_syntax.specs.declared.tree.Expr.{Expr}
-use Rattle.filt_syntax.specs.declared.tree.Item.{Item}
-use Rattle.filt_syntax.specs.declared.tree.Parameter.{Parameter}
-use Rattle.filt_syntax.specs.declared.tree.Stmt.{Stmt}
-use Rattle.filt_syntax.specs.declared.tree.Stmt.TheVariants as s
-use Rattle.filt_syntax.specs.declared.tree.Target.{Target}
-use Rattle.filt_syntax.specs.declared.tree.VariableType.{VariableType}
-use Rattle.filt_syntax.specs.declared.tree.VariableType.TheVariants as types
-use Rattle.conf_ast.specs.Filters.{Expression, expression_of, Statement, Braced, Nothing, Declare, Assign, ChangeBy, Clear, Unset, If, IfElse, Case, CaseElse, For, Accept, Reject, Return, Print, PrintPart, Call, Statements, NoStatements, AndStatements, statement_of, statements_of, Arms, NoArms, AndArms, changed}
+use Rattle.filt_syntax.specs.declared.ast.Arm.{Arm}
+use Rattle.filt_syntax.specs.declared.ast.Change.{Change}
+use Rattle.filt_syntax.specs.declared.ast.Change.TheVariants as changes
+use Rattle.filt_syntax.specs.declared.ast.Expr.{Expr}
+use Rattle.filt_syntax.specs.declared.ast.Item.{Item}
+use Rattle.filt_syntax.specs.declared.ast.Parameter.{Parameter}
+use Rattle.filt_syntax.specs.declared.ast.Stmt.{Stmt}
+use Rattle.filt_syntax.specs.declared.ast.Stmt.TheVariants as s
+use Rattle.filt_syntax.specs.declared.ast.Target.{Target}
+use Rattle.filt_syntax.specs.declared.ast.VariableType.{VariableType}
+use Rattle.filt_syntax.specs.declared.ast.VariableType.TheVariants as types
+use Rattle.conf_ast.specs.Filters.{Expression, expression_of, Statement, Braced, Nothing, Declare, Assign, ChangeBy, Clear, Unset, If, IfElse, Case, CaseElse, For, Accept, Reject, Return, Print, Printn, Call, Statements, NoStatements, AndStatements, statement_of, statements_of, Arms, NoArms, AndArms, changed}
 use Rattle.filt_values.specs.declared.value.Sort.{Sort}
 use Rattle.filt_values.specs.Sorts.{one_list}
 use Rattle.filt_meaning.specs.Names.{sort_of_type}
@@ -119,7 +119,7 @@ mutual
   grows a vs Reject = stays vs
   grows a vs (Return at e) = stays vs
   grows a vs (Print es) = stays vs
-  grows a vs (PrintPart es) = stays vs
+  grows a vs (Printn es) = stays vs
   grows a vs (Call n place es) = stays vs
 
   all_grow : (a : Around) (vs : Variables) (ss : Statements) → Grows vs (check_all a vs ss).variables
@@ -157,7 +157,7 @@ whole_seen a vs Accept = refl
 whole_seen a vs Reject = refl
 whole_seen a vs (Return at e) = refl
 whole_seen a vs (Print es) = refl
-whole_seen a vs (PrintPart es) = refl
+whole_seen a vs (Printn es) = refl
 whole_seen a vs (Call n place es) = refl
 
 whole_first : (a : Around) (vs : Variables) (st : Statement) (f : Option Refusal) → first_in f (check a vs st).refusals ≡ first_in (first_in f (own a vs st)) (inside a vs st).refusals
@@ -177,7 +177,7 @@ whole_first a vs Accept f = refl
 whole_first a vs Reject f = refl
 whole_first a vs (Return at e) f = refl
 whole_first a vs (Print es) f = refl
-whole_first a vs (PrintPart es) f = refl
+whole_first a vs (Printn es) f = refl
 whole_first a vs (Call n place es) f = refl
 
 -- what is seen is given by its two parts

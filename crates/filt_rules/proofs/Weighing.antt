@@ -1,15 +1,15 @@
 -- The weight of each form that has a list, and of the statements with parts.
 use Rattle.std.proofs.Common.{◌≡◌, ℕ, arith, ◌+◌, List, [], ◌∷◌, Option, Some, None, ap, Vec}
 use Rattle.std.specs.Global.{Global}
-use Rattle.filt_syntax.specs.declared.tree.Access.{Access}
-use Rattle.filt_syntax.specs.declared.tree.Access.TheVariants as accesses
-use Rattle.filt_syntax.specs.declared.tree.Arm.{Arm}
-use Rattle.filt_syntax.specs.declared.tree.Expr.{Expr}
-use Rattle.filt_syntax.specs.declared.tree.Factor.{Factor}
-use Rattle.filt_syntax.specs.declared.tree.Joint.{Joint}
-use Rattle.filt_syntax.specs.declared.tree.Stmt.{Stmt}
-use Rattle.filt_syntax.specs.declared.tree.Stmt.TheVariants as s
-use Rattle.filt_syntax.specs.declared.tree.Term.{Term}
+use Rattle.filt_syntax.specs.declared.ast.Postfix.{Postfix}
+use Rattle.filt_syntax.specs.declared.ast.Postfix.TheVariants as postfixes
+use Rattle.filt_syntax.specs.declared.ast.Arm.{Arm}
+use Rattle.filt_syntax.specs.declared.ast.Expr.{Expr}
+use Rattle.filt_syntax.specs.declared.ast.MulOp.{MulOp}
+use Rattle.filt_syntax.specs.declared.ast.LogicalOp.{LogicalOp}
+use Rattle.filt_syntax.specs.declared.ast.Stmt.{Stmt}
+use Rattle.filt_syntax.specs.declared.ast.Stmt.TheVariants as s
+use Rattle.filt_syntax.specs.declared.ast.AddOp.{AddOp}
 use Rattle.conf_ast.specs.Filters.{Expression, PropertyOf, Changed, Multiplied, Added, Joined, multiplied, added, joined, accessed, expression_of, statement_of, Statement}
 use Rattle.filt_rules.specs.Passes.{access_weight, else_of}
 use Rattle.filt_types.specs.Scenes.{Scene}
@@ -22,26 +22,26 @@ abbrev pub parts : {Op : Type 0} → Scene → List (Op × Expr) → ℕ
 parts scene [] = 0
 parts scene (x ∷ more) = 1 + weight scene (expression_of x.1) + parts scene more
 
-abbrev pub dots : Scene → List (Access Expr) → ℕ
+abbrev pub dots : Scene → List (Postfix Expr) → ℕ
 dots scene [] = 0
 dots scene (x ∷ more) = access_weight scene x + dots scene more
 
-pub of-multiplied : (scene : Scene) (a : Expression) (xs : List (Factor × Expr)) → weight scene (multiplied a (operands_of xs)) ≡ weight scene a + parts scene xs
+pub of-multiplied : (scene : Scene) (a : Expression) (xs : List (MulOp × Expr)) → weight scene (multiplied a (operands_of xs)) ≡ weight scene a + parts scene xs
 of-multiplied scene a [] = omega arith
 of-multiplied scene a (x ∷ xs) = let h = of-multiplied scene (Multiplied a x.0 (expression_of x.1)) xs in omega (arith, h)
 
-pub of-added : (scene : Scene) (a : Expression) (xs : List (Term × Expr)) → weight scene (added a (operands_of xs)) ≡ weight scene a + parts scene xs
+pub of-added : (scene : Scene) (a : Expression) (xs : List (AddOp × Expr)) → weight scene (added a (operands_of xs)) ≡ weight scene a + parts scene xs
 of-added scene a [] = omega arith
 of-added scene a (x ∷ xs) = let h = of-added scene (Added a x.0 (expression_of x.1)) xs in omega (arith, h)
 
-pub of-joined : (scene : Scene) (a : Expression) (xs : List (Joint × Expr)) → weight scene (joined a (operands_of xs)) ≡ weight scene a + parts scene xs
+pub of-joined : (scene : Scene) (a : Expression) (xs : List (LogicalOp × Expr)) → weight scene (joined a (operands_of xs)) ≡ weight scene a + parts scene xs
 of-joined scene a [] = omega arith
 of-joined scene a (x ∷ xs) = let h = of-joined scene (Joined a x.0 (expression_of x.1)) xs in omega (arith, h)
 
-pub of-accessed : (scene : Scene) (a : Expression) (xs : List (Access Expr)) → weight scene (accessed a (accesses_of xs)) ≡ weight scene a + dots scene xs
+pub of-accessed : (scene : Scene) (a : Expression) (xs : List (Postfix Expr)) → weight scene (accessed a (accesses_of xs)) ≡ weight scene a + dots scene xs
 of-accessed scene a [] = omega arith
-of-accessed scene a (accesses.Property p ∷ xs) = let h = of-accessed scene (PropertyOf a p) xs in omega (arith, h)
-of-accessed scene a (accesses.Method m place x ∷ xs) = let h = of-accessed scene (Changed a m place (expression_of x)) xs in omega (arith, h)
+of-accessed scene a (postfixes.Property p ∷ xs) = let h = of-accessed scene (PropertyOf a p) xs in omega (arith, h)
+of-accessed scene a (postfixes.Method m place x ∷ xs) = let h = of-accessed scene (Changed a m place (expression_of x)) xs in omega (arith, h)
 
 pub of-Case : (scene : Scene) (at : ℕ) (x : Expr) (v : Vec (Arm Stmt) Global) (other : Option (Vec Stmt Global)) → act_weight scene (statement_of (s.Case at x v other)) ≡ 1 + weight scene (expression_of x) + arms_weight scene (arms_of v.items) + acts_weight scene (else_of other)
 of-Case scene at x v None =

@@ -4,14 +4,14 @@ use Rattle.std.specs.Prelude.{ℕ, ◌+◌, true, not, List, [], ◌∷◌, ◌+
 use Rattle.std.specs.Prelude.{Vec}
 use Rattle.std.specs.Global.{Global}
 use Rattle.grammar.specs.declared.named.Name.{Name}
-use Rattle.filt_syntax.specs.declared.tree.Access.{Access}
-use Rattle.filt_syntax.specs.declared.tree.Access.TheVariants as accesses
-use Rattle.filt_syntax.specs.declared.tree.Expr.{Expr}
-use Rattle.filt_syntax.specs.declared.tree.Stmt.{Stmt}
-use Rattle.filt_syntax.specs.declared.tree.VariableType.{VariableType}
+use Rattle.filt_syntax.specs.declared.ast.Postfix.{Postfix}
+use Rattle.filt_syntax.specs.declared.ast.Postfix.TheVariants as postfixes
+use Rattle.filt_syntax.specs.declared.ast.Expr.{Expr}
+use Rattle.filt_syntax.specs.declared.ast.Stmt.{Stmt}
+use Rattle.filt_syntax.specs.declared.ast.VariableType.{VariableType}
 use Rattle.conf_ast.specs.Filters.{expression_of, Statement, Braced, Declare, Assign, ChangeBy}
 use Rattle.conf_ast.specs.Filters.{Clear, Unset, If, IfElse, Case, CaseElse, For, Return, Print}
-use Rattle.conf_ast.specs.Filters.{PrintPart, Call, Statements, NoStatements, statements_of}
+use Rattle.conf_ast.specs.Filters.{Printn, Call, Statements, NoStatements, statements_of}
 use Rattle.filt_values.specs.Sorts.{one_bool}
 use Rattle.filt_meaning.specs.Names.{sort_of_type}
 use Rattle.filt_types.specs.declared.refusal.Cause.TheVariants as causes
@@ -38,9 +38,9 @@ else_of None = NoStatements
 else_of (Some body) = statements_of body.items
 
 -- what a dot and what stands behind it weigh
-abbrev pub access_weight : Scene → Access Expr → ℕ
-access_weight scene (accesses.Property p) = 1
-access_weight scene (accesses.Method m place x) = 1 + weight scene (expression_of x)
+abbrev pub access_weight : Scene → Postfix Expr → ℕ
+access_weight scene (postfixes.Property p) = 1
+access_weight scene (postfixes.Method m place x) = 1 + weight scene (expression_of x)
 
 -- ---- the pass over statements
 
@@ -68,7 +68,7 @@ own around vs (For at t n e body) =
     over_list at t (judge around.scene vs e) ++ declaring around.scene vs n
 own around vs (Return at e) = return around vs at e
 own around vs (Print es) = all_refusals (judge_all around.scene vs es)
-own around vs (PrintPart es) = all_refusals (judge_all around.scene vs es)
+own around vs (Printn es) = all_refusals (judge_all around.scene vs es)
 own around vs (Call n place es) = call n (function_of around.scene n) (judge_all around.scene vs es)
 own around vs _ = []
 

@@ -19,7 +19,7 @@ ghost use Rattle.filt_types.specs.Walk.{all_judged, arms_of, common_seen, judged
 
 use crate::targets::{check_assign, check_change, check_unset, check_value, is_list};
 use bits_ip::OutOfMemory;
-use filt_syntax::{Arm, Expr, Item, Stmt, VariableType};
+use filt_syntax::ast::{Arm, Expr, Item, Stmt, VariableType};
 use filt_tree::Scope;
 use filt_types::{
     Cause, Common, Refusal, Seen, Variable, all_items, call, declaring, differ, has_other_sort, is,
@@ -395,7 +395,7 @@ fn check_own(seen: Seen<'_>, gives: Option<Sort>, s: &Stmt, first: &mut Option<R
         } => check_head(seen, *at, *variable_type, *name, list, first),
         Stmt::Return { at, value } => check_return(seen, gives, *at, value, first),
         Stmt::Print(values) => judge_each(seen, values, first),
-        Stmt::PrintPart(values) => judge_each(seen, values, first),
+        Stmt::Printn(values) => judge_each(seen, values, first),
         Stmt::Call {
             name,
             arguments,
@@ -482,7 +482,7 @@ fn check_inside<'a>(
         Stmt::Reject => Ok(()),
         Stmt::Return { .. } => Ok(()),
         Stmt::Print(_) => Ok(()),
-        Stmt::PrintPart(_) => Ok(()),
+        Stmt::Printn(_) => Ok(()),
         Stmt::Call { .. } => Ok(()),
     }
 }

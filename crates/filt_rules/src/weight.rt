@@ -1,7 +1,7 @@
 //! How much filters weigh. Sums stop at 2^127.
 
 ghost use Rattle.std.specs.Prelude.{◌≡◌, ◌+◌, ◌*◌, ◌≤◌, ◌^◌, min, option_map};
-ghost use Rattle.filt_syntax.specs.declared.tree.Target.{Target};
+ghost use Rattle.filt_syntax.specs.declared.ast.Target.{Target};
 ghost use Rattle.conf_ast.specs.Filters.{multiplied, added, joined, accessed, changed};
 ghost use Rattle.conf_ast.specs.Filters.{expression_of, expressions_of, statement_of};
 ghost use Rattle.conf_ast.specs.Filters.{statements_of, block_of};
@@ -13,7 +13,7 @@ ghost use Rattle.filt_types.specs.Walk.{accesses_of, arms_of, operands_of};
 ghost use Rattle.filt_types.specs.Weight.{weight, weights, optional, act_weight, acts_weight};
 ghost use Rattle.filt_types.specs.Weight.{arms_weight, block_weight, of_function, capped};
 
-use filt_syntax::{Access, Arm, Block, Change, Expr, Factor, Joint, Stmt, Term};
+use filt_syntax::ast::{AddOp, Arm, Block, Change, Expr, LogicalOp, MulOp, Postfix, Stmt};
 use filt_tree::Scope;
 use filt_types::{Seen, function_named};
 use grammar::Name;
@@ -73,7 +73,7 @@ pub fn weigh(text: &[u8], scope: &Scope, e: &Expr) -> u128
     ensures bound { result ≤ 2 ^ 127 }
 {
     match e {
-        Expr::Simple(_) => 1,
+        Expr::Atom(_) => 1,
         Expr::Name(_) => 1,
         Expr::Call {
             name,
@@ -86,12 +86,12 @@ pub fn weigh(text: &[u8], scope: &Scope, e: &Expr) -> u128
         Expr::Mask { .. } => 1,
         Expr::Defined { .. } => 1,
         Expr::MethodCall { list, argument, .. } => weigh_two(text, scope, list, argument),
-        Expr::Access(operand, more) => weigh_accesses(text, scope, operand, more),
+        Expr::Postfix(operand, more) => weigh_accesses(text, scope, operand, more),
         Expr::Not { operand, .. } => plus(1, weigh(text, scope, operand)),
         Expr::Product(operand, more) => weigh_factors(text, scope, operand, more),
         Expr::Sum(operand, more) => weigh_terms(text, scope, operand, more),
         Expr::Compare(_, left, right) => weigh_two(text, scope, left, right),
-        Expr::Joint(operand, more) => weigh_joints(text, scope, operand, more),
+        Expr::Logical(operand, more) => weigh_joints(text, scope, operand, more),
     }
 }
 
@@ -134,7 +134,7 @@ fn weigh_call(text: &[u8], scope: &Scope, name: Name, arguments: &[Expr]) -> u12
 }
 
 #[cycle(weight)]
-fn weigh_accesses(text: &[u8], scope: &Scope, operand: &Expr, more: &[Access<Expr>]) -> u128
+fn weigh_accesses(text: &[u8], scope: &Scope, operand: &Expr, more: &[Postfix<Expr>]) -> u128
     ensures value { result ≡ capped (weight (scene_of text.now scope.now)
         (accessed (expression_of operand.now) (accesses_of more.now))) }
     ensures bound { result ≤ 2 ^ 127 }
@@ -147,18 +147,18 @@ fn weigh_accesses(text: &[u8], scope: &Scope, operand: &Expr, more: &[Access<Exp
 }
 
 #[cycle(weight)]
-fn weigh_access(text: &[u8], scope: &Scope, access: &Access<Expr>) -> u128
+fn weigh_access(text: &[u8], scope: &Scope, access: &Postfix<Expr>) -> u128
     ensures value { result ≡ capped (access_weight (scene_of text.now scope.now) access.now) }
     ensures bound { result ≤ 2 ^ 127 }
 {
     match access {
-        Access::Property(_) => 1,
-        Access::Method { argument, .. } => plus(1, weigh(text, scope, argument)),
+        Postfix::Property(_) => 1,
+        Postfix::Method { argument, .. } => plus(1, weigh(text, scope, argument)),
     }
 }
 
 #[cycle(weight)]
-fn weigh_factors(text: &[u8], scope: &Scope, operand: &Expr, more: &[(Factor, Expr)]) -> u128
+fn weigh_factors(text: &[u8], scope: &Scope, operand: &Expr, more: &[(MulOp, Expr)]) -> u128
     ensures value { result ≡ capped (weight (scene_of text.now scope.now)
         (multiplied (expression_of operand.now) (operands_of more.now))) }
     ensures bound { result ≤ 2 ^ 127 }
@@ -171,7 +171,7 @@ fn weigh_factors(text: &[u8], scope: &Scope, operand: &Expr, more: &[(Factor, Ex
 }
 
 #[cycle(weight)]
-fn weigh_terms(text: &[u8], scope: &Scope, operand: &Expr, more: &[(Term, Expr)]) -> u128
+fn weigh_terms(text: &[u8], scope: &Scope, operand: &Expr, more: &[(AddOp, Expr)]) -> u128
     ensures value { result ≡ capped (weight (scene_of text.now scope.now)
         (added (expression_of operand.now) (operands_of more.now))) }
     ensures bound { result ≤ 2 ^ 127 }
@@ -184,7 +184,7 @@ fn weigh_terms(text: &[u8], scope: &Scope, operand: &Expr, more: &[(Term, Expr)]
 }
 
 #[cycle(weight)]
-fn weigh_joints(text: &[u8], scope: &Scope, operand: &Expr, more: &[(Joint, Expr)]) -> u128
+fn weigh_joints(text: &[u8], scope: &Scope, operand: &Expr, more: &[(LogicalOp, Expr)]) -> u128
     ensures value { result ≡ capped (weight (scene_of text.now scope.now)
         (joined (expression_of operand.now) (operands_of more.now))) }
     ensures bound { result ≤ 2 ^ 127 }
@@ -253,7 +253,7 @@ fn weigh_statement(text: &[u8], scope: &Scope, s: &Stmt) -> u128
         Stmt::Reject => 1,
         Stmt::Return { value, .. } => plus(1, weigh_optional(text, scope, value)),
         Stmt::Print(values) => plus(1, weigh_all(text, scope, values)),
-        Stmt::PrintPart(values) => plus(1, weigh_all(text, scope, values)),
+        Stmt::Printn(values) => plus(1, weigh_all(text, scope, values)),
         Stmt::Call {
             name,
             arguments,

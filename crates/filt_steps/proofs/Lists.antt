@@ -10,23 +10,23 @@ use Rattle.bits_ip.specs.Prefix.{Net}
 use Rattle.filt_sets.specs.declared.ints.IntItem.{IntItem}
 use Rattle.filt_sets.specs.declared.pairs.PairItem.{PairItem}
 use Rattle.filt_sets.specs.declared.prefixes.PrefixItem.{PrefixItem}
-use Rattle.filt_syntax.specs.declared.tree.Attribute.{Attribute}
-use Rattle.filt_syntax.specs.declared.tree.Attribute.TheVariants as attributes
-use Rattle.filt_syntax.specs.declared.tree.Compare.{Compare}
-use Rattle.filt_syntax.specs.declared.tree.Compare.TheVariants as compares
-use Rattle.filt_syntax.specs.declared.tree.Constant.{Constant}
-use Rattle.filt_syntax.specs.declared.tree.Constant.TheVariants as constants
-use Rattle.filt_syntax.specs.declared.tree.Factor.{Factor}
-use Rattle.filt_syntax.specs.declared.tree.Factor.TheVariants as factors
-use Rattle.filt_syntax.specs.declared.tree.Item.{Item}
-use Rattle.filt_syntax.specs.declared.tree.Item.TheVariants as items
-use Rattle.filt_syntax.specs.declared.tree.MaskItem.{MaskItem}
-use Rattle.filt_syntax.specs.declared.tree.MethodKind.{MethodKind}
-use Rattle.filt_syntax.specs.declared.tree.MethodKind.TheVariants as methods
-use Rattle.filt_syntax.specs.declared.tree.Property.{Property}
-use Rattle.filt_syntax.specs.declared.tree.Property.TheVariants as properties
-use Rattle.filt_syntax.specs.declared.tree.Term.{Term}
-use Rattle.filt_syntax.specs.declared.tree.Term.TheVariants as terms
+use Rattle.filt_syntax.specs.declared.ast.Attribute.{Attribute}
+use Rattle.filt_syntax.specs.declared.ast.Attribute.TheVariants as attributes
+use Rattle.filt_syntax.specs.declared.ast.CompareOp.{CompareOp}
+use Rattle.filt_syntax.specs.declared.ast.CompareOp.TheVariants as compare_ops
+use Rattle.filt_syntax.specs.declared.ast.Constant.{Constant}
+use Rattle.filt_syntax.specs.declared.ast.Constant.TheVariants as constants
+use Rattle.filt_syntax.specs.declared.ast.MulOp.{MulOp}
+use Rattle.filt_syntax.specs.declared.ast.MulOp.TheVariants as mul_ops
+use Rattle.filt_syntax.specs.declared.ast.Item.{Item}
+use Rattle.filt_syntax.specs.declared.ast.Item.TheVariants as items
+use Rattle.filt_syntax.specs.declared.ast.MaskItem.{MaskItem}
+use Rattle.filt_syntax.specs.declared.ast.MethodKind.{MethodKind}
+use Rattle.filt_syntax.specs.declared.ast.MethodKind.TheVariants as methods
+use Rattle.filt_syntax.specs.declared.ast.Property.{Property}
+use Rattle.filt_syntax.specs.declared.ast.Property.TheVariants as properties
+use Rattle.filt_syntax.specs.declared.ast.AddOp.{AddOp}
+use Rattle.filt_syntax.specs.declared.ast.AddOp.TheVariants as add_ops
 use Rattle.filt_values.specs.declared.value.Failure.{Failure}
 use Rattle.filt_values.specs.declared.value.Sort.{Sort}
 use Rattle.filt_values.specs.declared.value.Sort.TheVariants as sorts
@@ -149,23 +149,23 @@ matches_kept _ w = tt
 matches_not_kept : (v w : Val) → Gives (matches_not_of v w)
 matches_not_kept v w = any_then IsWithin (matches_of v w) _ not_kept
 
-pub term_kept : (op : Term) (v w : Val) → Gives (term_of op v w)
-term_kept terms.Plus = plus_kept
-term_kept terms.Minus = minus_kept
+pub term_kept : (op : AddOp) (v w : Val) → Gives (term_of op v w)
+term_kept add_ops.Plus = plus_kept
+term_kept add_ops.Minus = minus_kept
 
-pub factor_kept : (op : Factor) (v w : Val) → Gives (factor_of op v w)
-factor_kept factors.Times = times_kept
-factor_kept factors.Over = over_kept
+pub factor_kept : (op : MulOp) (v w : Val) → Gives (factor_of op v w)
+factor_kept mul_ops.Times = times_kept
+factor_kept mul_ops.Over = over_kept
 
-pub compare_kept : (op : Compare) (v w : Val) → Gives (compare_of op v w)
-compare_kept compares.Equal = equal_kept
-compare_kept compares.NotEqual = not_equal_kept
-compare_kept compares.Less = less_kept
-compare_kept compares.LessOrEqual = less_or_equal_kept
-compare_kept compares.Greater = greater_kept
-compare_kept compares.GreaterOrEqual = greater_or_equal_kept
-compare_kept compares.Matches = matches_kept
-compare_kept compares.MatchesNot = matches_not_kept
+pub compare_kept : (op : CompareOp) (v w : Val) → Gives (compare_of op v w)
+compare_kept compare_ops.Equal = equal_kept
+compare_kept compare_ops.NotEqual = not_equal_kept
+compare_kept compare_ops.Less = less_kept
+compare_kept compare_ops.LessOrEqual = less_or_equal_kept
+compare_kept compare_ops.Greater = greater_kept
+compare_kept compare_ops.GreaterOrEqual = greater_or_equal_kept
+compare_kept compare_ops.Matches = matches_kept
+compare_kept compare_ops.MatchesNot = matches_not_kept
 
 len_kept : (v : Val) → Gives (len_of v)
 len_kept (VPrefix net) = tt
@@ -399,12 +399,12 @@ prefix_item_kept item (VPrefixSet more) = tt
 prefix_item_kept item _ = tt
 
 one_kept : (c : Context) (item : Item) → Gives (set_of_one c item)
-one_kept c (items.Part p) = any_then IsWithin (int_item c p) _ (λ item. tt)
+one_kept c (items.Range p) = any_then IsWithin (int_item c p) _ (λ item. tt)
 one_kept c (items.Pair at a b) = any_then IsWithin (pair_item c a b) _ (λ item. tt)
 one_kept c (items.Prefix at net l) = any_then IsWithin (prefix_item c net l) _ (λ item. tt)
 
 before_kept : (c : Context) (item : Item) (more : Val) → Gives (before_set c item more)
-before_kept c (items.Part p) more =
+before_kept c (items.Range p) more =
     any_then IsWithin (int_item c p) _ (λ item. int_item_kept item more)
 before_kept c (items.Pair at a b) more =
     any_then IsWithin (pair_item c a b) _ (λ item. pair_item_kept item more)

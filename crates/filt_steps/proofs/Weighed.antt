@@ -5,10 +5,10 @@ use Rattle.std.proofs.lemmas.List.Elements.{All-nil, All-append, All-head, All-p
 use Rattle.std.proofs.Math.Nat.{mul-le-mul_right, suc-mul}
 use Rattle.attrs.specs.declared.attributes.Attrs.{Attrs}
 use Rattle.grammar.specs.Names.{name_bytes}
-use Rattle.filt_syntax.specs.declared.tree.Joint.{Joint}
-use Rattle.filt_syntax.specs.declared.tree.Joint.TheVariants as joints
+use Rattle.filt_syntax.specs.declared.ast.LogicalOp.{LogicalOp}
+use Rattle.filt_syntax.specs.declared.ast.LogicalOp.TheVariants as logical_ops
 use Rattle.conf_ast.specs.Configurations.{Routine}
-use Rattle.conf_ast.specs.Filters.{Expression, Plain, Named, Called, Grouped, Paired, SetOf, MaskOf, IsDefined, MethodOf, PropertyOf, Changed, Negated, Multiplied, Added, Compared, Joined, Expressions, NoExpressions, AndExpressions, Statement, Braced, Nothing, Declare, Assign, ChangeBy, Clear, Unset, If, IfElse, Case, CaseElse, For, Accept, Reject, Return, Print, PrintPart, Call, Statements, NoStatements, AndStatements, Arms, NoArms, AndArms}
+use Rattle.conf_ast.specs.Filters.{Expression, Plain, Named, Called, Grouped, Paired, SetOf, MaskOf, IsDefined, MethodOf, PropertyOf, Changed, Negated, Multiplied, Added, Compared, Joined, Expressions, NoExpressions, AndExpressions, Statement, Braced, Nothing, Declare, Assign, ChangeBy, Clear, Unset, If, IfElse, Case, CaseElse, For, Accept, Reject, Return, Print, Printn, Call, Statements, NoStatements, AndStatements, Arms, NoArms, AndArms}
 use Rattle.filt_values.specs.declared.value.Failure.{Failure}
 use Rattle.filt_values.specs.Operators.{bool_in}
 use Rattle.filt_values.specs.Values.{Val}
@@ -66,14 +66,14 @@ operands_take : (n m : ℕ) (a : Run Val) (left right : Count) → RunKeeps IsWi
 operands_take n m a left right k t u vals attrs v w =
     omega (arith, both_takes n m a left right k t u vals attrs v w)
 
-right_takes : (m : ℕ) (joint : Joint) (holds : Bool) (right : Count) → TakesAtMost m right
+right_takes : (m : ℕ) (joint : LogicalOp) (holds : Bool) (right : Count) → TakesAtMost m right
     → TakesAtMost m (right_side joint holds right)
-right_takes m joints.And true right t = t
-right_takes m joints.And false right t = none_takes m
-right_takes m joints.Or true right t = none_takes m
-right_takes m joints.Or false right t = t
+right_takes m logical_ops.And true right t = t
+right_takes m logical_ops.And false right t = none_takes m
+right_takes m logical_ops.Or true right t = none_takes m
+right_takes m logical_ops.Or false right t = t
 
-joined_takes : (n m : ℕ) (joint : Joint) (a : Run Val) (left right : Count)
+joined_takes : (n m : ℕ) (joint : LogicalOp) (a : Run Val) (left right : Count)
     → RunKeeps IsWithin a → TakesAtMost n left → TakesAtMost m right
     → TakesAtMost (1 + n + m) (joined joint a left right)
 joined_takes n m joint a left right k t u vals attrs v w =
@@ -319,7 +319,7 @@ mutual
       with_part_takes (optional_weight scene e) (optional e c fs) (optional_takes e scene c fs a)
   act_takes (Print es) scene c fs a =
       with_part_takes (weights scene es) (all_steps es c fs) (values_take es scene c fs a)
-  act_takes (PrintPart es) scene c fs a =
+  act_takes (Printn es) scene c fs a =
       with_part_takes (weights scene es) (all_steps es c fs) (values_take es scene c fs a)
   act_takes (Call n place es) scene c fs a =
       call_takes (weights scene es) (of_function (function_of scene n)) (count_of c fs n)

@@ -5,15 +5,15 @@ use Rattle.std.proofs.lemmas.List.Elements.{All-nil, All-cons, All-head, All-tai
 use Rattle.std.specs.Bool.{⊤}
 use Rattle.attrs.specs.declared.attributes.Attrs.{Attrs}
 use Rattle.grammar.specs.Names.{name_bytes}
-use Rattle.filt_syntax.specs.declared.tree.Joint.{Joint}
-use Rattle.filt_syntax.specs.declared.tree.Joint.TheVariants as joints
-use Rattle.filt_syntax.specs.declared.tree.Simple.{Simple}
-use Rattle.filt_syntax.specs.declared.tree.Simple.TheVariants as simples
-use Rattle.filt_syntax.specs.declared.tree.Target.{Target}
-use Rattle.filt_syntax.specs.declared.tree.Target.TheVariants as targets
-use Rattle.filt_syntax.specs.declared.tree.VariableType.{VariableType}
+use Rattle.filt_syntax.specs.declared.ast.LogicalOp.{LogicalOp}
+use Rattle.filt_syntax.specs.declared.ast.LogicalOp.TheVariants as logical_ops
+use Rattle.filt_syntax.specs.declared.ast.Atom.{Atom}
+use Rattle.filt_syntax.specs.declared.ast.Atom.TheVariants as atoms
+use Rattle.filt_syntax.specs.declared.ast.Target.{Target}
+use Rattle.filt_syntax.specs.declared.ast.Target.TheVariants as targets
+use Rattle.filt_syntax.specs.declared.ast.VariableType.{VariableType}
 use Rattle.conf_ast.specs.Configurations.{Routine}
-use Rattle.conf_ast.specs.Filters.{Expression, Plain, Named, Called, Grouped, Paired, SetOf, MaskOf, IsDefined, MethodOf, PropertyOf, Changed, Negated, Multiplied, Added, Compared, Joined, Expressions, NoExpressions, AndExpressions, Statement, Braced, Nothing, Declare, Assign, ChangeBy, Clear, Unset, If, IfElse, Case, CaseElse, For, Accept, Reject, Return, Print, PrintPart, Call, Statements, NoStatements, AndStatements, Arms, NoArms, AndArms}
+use Rattle.conf_ast.specs.Filters.{Expression, Plain, Named, Called, Grouped, Paired, SetOf, MaskOf, IsDefined, MethodOf, PropertyOf, Changed, Negated, Multiplied, Added, Compared, Joined, Expressions, NoExpressions, AndExpressions, Statement, Braced, Nothing, Declare, Assign, ChangeBy, Clear, Unset, If, IfElse, Case, CaseElse, For, Accept, Reject, Return, Print, Printn, Call, Statements, NoStatements, AndStatements, Arms, NoArms, AndArms}
 use Rattle.filt_values.specs.declared.value.Failure.{Failure}
 use Rattle.filt_values.specs.declared.value.Failure.TheVariants as failures
 use Rattle.filt_values.specs.Operators.{bool_in, pair_of, not_of, truth_of, emptied_of}
@@ -108,14 +108,14 @@ variable_kept (Some place) constant h vals attrs v w =
 variable_kept None constant h vals attrs v w =
     plainly_kept IsWithin (there constant) attrs (there_kept IsWithin constant h) w
 
-right_kept : (joint : Joint) (left : Bool) (b : Run Val) → RunKeeps IsWithin b
+right_kept : (joint : LogicalOp) (left : Bool) (b : Run Val) → RunKeeps IsWithin b
     → RunKeeps IsWithin (right_side joint left b)
-right_kept joints.And true b k = on_value_kept b truth_of k truth_kept
-right_kept joints.And false b k = λ vals attrs v w. (tt, w)
-right_kept joints.Or true b k = λ vals attrs v w. (tt, w)
-right_kept joints.Or false b k = on_value_kept b truth_of k truth_kept
+right_kept logical_ops.And true b k = on_value_kept b truth_of k truth_kept
+right_kept logical_ops.And false b k = λ vals attrs v w. (tt, w)
+right_kept logical_ops.Or true b k = λ vals attrs v w. (tt, w)
+right_kept logical_ops.Or false b k = on_value_kept b truth_of k truth_kept
 
-joined_kept : (joint : Joint) (a b : Run Val) → RunKeeps IsWithin a → RunKeeps IsWithin b
+joined_kept : (joint : LogicalOp) (a b : Run Val) → RunKeeps IsWithin a → RunKeeps IsWithin b
     → RunKeeps IsWithin (joined joint a b)
 joined_kept joint a b k l vals attrs v w =
     flow_then IsWithin IsWithin (a vals attrs) _ (k vals attrs v w)
@@ -150,19 +150,19 @@ called_kept f arguments h k vals attrs v w =
 
 -- ---- expressions
 
-plain_kept : (s : Simple) (c : Context) → RunKeeps IsWithin (plain s c)
-plain_kept (simples.Number at n) c = λ vals attrs v w. (tt, w)
-plain_kept (simples.Text at start len) c = λ vals attrs v w. (tt, w)
-plain_kept (simples.Ip at addr) c = λ vals attrs v w. (tt, w)
-plain_kept (simples.Prefix at net) c = λ vals attrs v w. (tt, w)
-plain_kept (simples.True at) c = λ vals attrs v w. (tt, w)
-plain_kept (simples.False at) c = λ vals attrs v w. (tt, w)
-plain_kept (simples.EmptyPath at) c = λ vals attrs v w. (omega arith, w)
-plain_kept (simples.EmptyClist at) c = λ vals attrs v w. (omega arith, w)
-plain_kept (simples.Attribute at a) c =
+plain_kept : (s : Atom) (c : Context) → RunKeeps IsWithin (plain s c)
+plain_kept (atoms.Number at n) c = λ vals attrs v w. (tt, w)
+plain_kept (atoms.Text at start len) c = λ vals attrs v w. (tt, w)
+plain_kept (atoms.Ip at addr) c = λ vals attrs v w. (tt, w)
+plain_kept (atoms.Prefix at net) c = λ vals attrs v w. (tt, w)
+plain_kept (atoms.True at) c = λ vals attrs v w. (tt, w)
+plain_kept (atoms.False at) c = λ vals attrs v w. (tt, w)
+plain_kept (atoms.EmptyPath at) c = λ vals attrs v w. (omega arith, w)
+plain_kept (atoms.EmptyClist at) c = λ vals attrs v w. (omega arith, w)
+plain_kept (atoms.Attribute at a) c =
     λ vals attrs v w. plainly_kept IsWithin (attribute_of c.around a attrs) attrs
     (attribute_kept c.around a attrs w) w
-plain_kept (simples.Constant at constant) c = λ vals attrs v w. (word_kept constant, w)
+plain_kept (atoms.Constant at constant) c = λ vals attrs v w. (word_kept constant, w)
 
 function_kept : (c : Context) → ContextIsWithin c → (n : _)
     → IfSome (function_of c n) KeepsLimits
@@ -322,7 +322,7 @@ initial_kept t (Some e) c k = value_kept e c k
 pub target_read : (target : Target) (c : Context) → ContextIsWithin c
     → RunKeeps IsWithin (value (read target) c)
 target_read (targets.Name n) c k = value_kept (Named n) c k
-target_read (targets.Attribute at a) c k = plain_kept (simples.Attribute at a) c
+target_read (targets.Attribute at a) c k = plain_kept (atoms.Attribute at a) c
 
 result_kept : (e : Option Expression) (c : Context) → ContextIsWithin c → KeepsAll (result e c)
 result_kept None c k = λ vals attrs v w. (tt, w)
@@ -370,7 +370,7 @@ mutual
   act_kept Reject c k = λ vals attrs v w. (tt, w)
   act_kept (Return at e) c k = result_kept e c k
   act_kept (Print es) c k = evaluate_kept AreWithin (values es c) (values_kept es c k)
-  act_kept (PrintPart es) c k = evaluate_kept AreWithin (values es c) (values_kept es c k)
+  act_kept (Printn es) c k = evaluate_kept AreWithin (values es c) (values_kept es c k)
   act_kept (Call n place es) c k =
       evaluate_kept Given (call (function_of c n) (values es c))
       (call_kept (function_of c n) (values es c) (function_kept c k n) (values_kept es c k))

@@ -2,7 +2,7 @@
 -- over what it sees.
 use Rattle.std.specs.Prelude.{ℕ, List, [], ◌∷◌, ◌++◌, map}
 use Rattle.grammar.specs.Names.{name_bytes}
-use Rattle.filt_syntax.specs.declared.tree.Parameter.{Parameter}
+use Rattle.filt_syntax.specs.declared.ast.Parameter.{Parameter}
 use Rattle.conf_ast.specs.Configurations.{Routine, Declaration, DefineFunction}
 use Rattle.filt_meaning.specs.Configuration.{behind_one}
 use Rattle.filt_meaning.specs.Names.{Context, sort_of_type}

@@ -9,15 +9,15 @@ use Rattle.std.specs.Prelude.{Some, None, Result}
 use Rattle.attrs.specs.declared.attributes.Attrs.{Attrs}
 use Rattle.grammar.specs.declared.named.Name.{Name}
 use Rattle.grammar.specs.Names.{name_bytes}
-use Rattle.filt_syntax.specs.declared.tree.Joint.{Joint}
-use Rattle.filt_syntax.specs.declared.tree.Joint.TheVariants as joints
+use Rattle.filt_syntax.specs.declared.ast.LogicalOp.{LogicalOp}
+use Rattle.filt_syntax.specs.declared.ast.LogicalOp.TheVariants as logical_ops
 use Rattle.conf_ast.specs.Configurations.{Routine}
 use Rattle.conf_ast.specs.Filters.{Expression, Plain, Named, Called, Grouped, Paired, SetOf, MaskOf}
 use Rattle.conf_ast.specs.Filters.{IsDefined, MethodOf, PropertyOf, Changed, Negated, Multiplied}
 use Rattle.conf_ast.specs.Filters.{Added, Compared, Joined, Expressions, NoExpressions}
 use Rattle.conf_ast.specs.Filters.{AndExpressions, Statement, Braced, Nothing, Declare, Assign}
 use Rattle.conf_ast.specs.Filters.{ChangeBy, Clear, Unset, If, IfElse, Case, CaseElse, For, Accept}
-use Rattle.conf_ast.specs.Filters.{Reject, Return, Print, PrintPart, Call, Statements, NoStatements}
+use Rattle.conf_ast.specs.Filters.{Reject, Return, Print, Printn, Call, Statements, NoStatements}
 use Rattle.conf_ast.specs.Filters.{AndStatements, Arms, NoArms, AndArms}
 use Rattle.filt_values.specs.declared.value.Failure.{Failure}
 use Rattle.filt_values.specs.Operators.{bool_in}
@@ -68,13 +68,13 @@ operands a left right = with_part (both a left right)
 
 -- the right side of `&&` or `||` behind a left one of this value: it is left out where the left one
 -- decides
-abbrev pub right_side : Joint → Bool → Count → Count
-right_side joints.And true right = right
-right_side joints.And false right = none
-right_side joints.Or true right = none
-right_side joints.Or false right = right
+abbrev pub right_side : LogicalOp → Bool → Count → Count
+right_side logical_ops.And true right = right
+right_side logical_ops.And false right = none
+right_side logical_ops.Or true right = none
+right_side logical_ops.Or false right = right
 
-abbrev pub joined : Joint → Run Val → (left right : Count) → Count
+abbrev pub joined : LogicalOp → Run Val → (left right : Count) → Count
 joined joint a left right vals attrs =
     1 + left vals attrs + behind (a vals attrs) (λ v attrs. behind (plainly (bool_in v) attrs)
     (λ holds attrs. right_side joint holds right vals attrs))
@@ -182,7 +182,7 @@ abbrev mutual
   act_steps Reject c fs = one
   act_steps (Return at e) c fs = with_part (optional e c fs)
   act_steps (Print es) c fs = with_part (all_steps es c fs)
-  act_steps (PrintPart es) c fs = with_part (all_steps es c fs)
+  act_steps (Printn es) c fs = with_part (all_steps es c fs)
   act_steps (Call n place es) c fs = call (count_of c fs n) (values es c) (all_steps es c fs)
 
   pub acts_steps : Statements → Context → Counts → Count

@@ -3,10 +3,10 @@ ghost use Rattle.std.specs.Prelude.{map, take, Some, Ok};
 ghost use Rattle.attrs.specs.declared.attributes.Attrs.{Attrs};
 ghost use Rattle.grammar.specs.declared.named.Name.{Name};
 ghost use Rattle.grammar.specs.Names.{name_bytes};
-ghost use Rattle.filt_syntax.specs.declared.tree.Item.{Item};
-ghost use Rattle.filt_syntax.specs.declared.tree.Joint.TheVariants as joints;
-ghost use Rattle.filt_syntax.specs.declared.tree.Term.{Term};
-ghost use Rattle.filt_syntax.specs.declared.tree.VariableType.{VariableType};
+ghost use Rattle.filt_syntax.specs.declared.ast.Item.{Item};
+ghost use Rattle.filt_syntax.specs.declared.ast.LogicalOp.TheVariants as logical_ops;
+ghost use Rattle.filt_syntax.specs.declared.ast.AddOp.{AddOp};
+ghost use Rattle.filt_syntax.specs.declared.ast.VariableType.{VariableType};
 ghost use Rattle.conf_ast.specs.Configurations.{Declaration, Routine};
 ghost use Rattle.conf_ast.specs.Filters.{Expression, Called, Added, Joined, Expressions, Statement};
 ghost use Rattle.conf_ast.specs.Filters.{IfElse, For, Statements, AndStatements, Arms, AndArms};
@@ -99,27 +99,27 @@ pub fn configured_filters_end_within_their_weight()
 /// the right side of `&&` and `||` where the left one doesn't decide, one branch, one arm, a call
 /// with its function, and each turn of a loop over what the turn before left.
 pub fn what_is_run_is_counted()
-    ensures operands { (a b : Expression) (op : Term) (c : Context) (fs : Counts) (vals : Frame)
+    ensures operands { (a b : Expression) (op : AddOp) (c : Context) (fs : Counts) (vals : Frame)
         (attrs between : Attrs) (v : Val) → value a c vals attrs ≡ Done v between
         → steps (Added a op b) c fs vals attrs
         ≡ 1 + steps a c fs vals attrs + steps b c fs vals between }
-    ensures stopped { (a b : Expression) (op : Term) (c : Context) (fs : Counts) (vals : Frame)
+    ensures stopped { (a b : Expression) (op : AddOp) (c : Context) (fs : Counts) (vals : Frame)
         (attrs after : Attrs) (why : Why) → value a c vals attrs ≡ Stopped why after
         → steps (Added a op b) c fs vals attrs ≡ 1 + steps a c fs vals attrs }
     ensures right { (a b : Expression) (c : Context) (fs : Counts) (vals : Frame)
         (attrs between : Attrs) → value a c vals attrs ≡ Done (VBool true) between
-        → steps (Joined a joints.And b) c fs vals attrs
+        → steps (Joined a logical_ops.And b) c fs vals attrs
         ≡ 1 + steps a c fs vals attrs + steps b c fs vals between }
     ensures left_decides { (a b : Expression) (c : Context) (fs : Counts) (vals : Frame)
         (attrs between : Attrs) → value a c vals attrs ≡ Done (VBool false) between
-        → steps (Joined a joints.And b) c fs vals attrs ≡ 1 + steps a c fs vals attrs }
+        → steps (Joined a logical_ops.And b) c fs vals attrs ≡ 1 + steps a c fs vals attrs }
     ensures right_of_or { (a b : Expression) (c : Context) (fs : Counts) (vals : Frame)
         (attrs between : Attrs) → value a c vals attrs ≡ Done (VBool false) between
-        → steps (Joined a joints.Or b) c fs vals attrs
+        → steps (Joined a logical_ops.Or b) c fs vals attrs
         ≡ 1 + steps a c fs vals attrs + steps b c fs vals between }
     ensures left_decides_or { (a b : Expression) (c : Context) (fs : Counts) (vals : Frame)
         (attrs between : Attrs) → value a c vals attrs ≡ Done (VBool true) between
-        → steps (Joined a joints.Or b) c fs vals attrs ≡ 1 + steps a c fs vals attrs }
+        → steps (Joined a logical_ops.Or b) c fs vals attrs ≡ 1 + steps a c fs vals attrs }
     ensures call { (n : Name) (place : ℕ) (es : Expressions) (c : Context) (fs : Counts)
         (count : Count) (vals arguments : Frame) (attrs between : Attrs)
         → count_of c fs n ≡ Some count → values es c vals attrs ≡ Done arguments between

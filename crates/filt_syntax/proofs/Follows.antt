@@ -1,71 +1,32 @@
 -- Whether a word can stand behind others, by what the parser answers to them all.
-use Rattle.std.proofs.Common.{◌≡◌, ◌↔◌, ℕ, zero, suc, ◌≤◌, ◌<◌, Bool, true, false, IsTrue, ◌&&◌, List, [], ◌∷◌, ◌++◌, length, drop, Option, Some, None, refl, sym, ap, subst, ◌∙◌, append_assoc, append-nil, arith, ◌==◌, inl, inr}
+use Rattle.std.proofs.Common.{◌≡◌, ◌↔◌, ℕ, ◌≤◌, ◌<◌, Bool, true, IsTrue, List, [], ◌∷◌, ◌++◌, length, drop, Option, Some, None, refl, sym, ap, subst, ◌∙◌, append_assoc, append-nil, arith, ◌==◌, inl, inr}
 use Rattle.std.proofs.lemmas.List.{length-append, length-drop}
 use Rattle.std.proofs.lemmas.Bool.{eqb-true}
 use Rattle.conf_lex.specs.declared.word.Word.{Word}
-use Rattle.grammar.specs.Grammar.{Why, TooDeep, Form, One, Empty, Seq, Either, Chain, Nest, Unless, Tree, Leaf, Blank, Both, First, Second, Start, More, Inside, Shut, plain, yield, refused, Fits}
-use Rattle.grammar.specs.Reading.{Fault}
+use Rattle.grammar.specs.Grammar.{TooDeep, ParseTree, yield, DerivesLongest, too_deep}
+use Rattle.grammar.specs.Reading.{Failed}
 use Rattle.grammar.specs.Sentences.{IsBegun, IsBegunWithin, IsLast, IsTooDeep}
 use Rattle.grammar.proofs.Good.{outcome}
-use Rattle.grammar.proofs.Checks.{check, and_true, and_both}
+use Rattle.grammar.proofs.Checks.{check}
 use Rattle.grammar.proofs.Exact.{whole}
 use Rattle.grammar.proofs.Unique.{fronts, too_deep_is_fault}
 use Rattle.filt_syntax.specs.Syntax.{rule}
+use Rattle.filt_syntax.specs.Levels.{Form}
 use Rattle.filt_syntax.specs.declared.parse.SyntaxFault.{SyntaxFault}
 use Rattle.filt_syntax.specs.declared.parse.SyntaxFault.TheVariants as faults
-use Rattle.filt_syntax.specs.Parse.{Stands, IsRefused}
+use Rattle.filt_syntax.specs.Parse.{ParsesAt, IsRefused}
 use Rattle.filt_syntax.specs.RefusedToken.{CanFollow, IsEndBy}
 use Rattle.filt_syntax.proofs.Tested.{model, after, checked}
 
--- ---- no word of this grammar is known and not supported
-
--- no part of a form has such words in its place
-abbrev pub no_unless : Form → Bool
-no_unless (One p) = true
-no_unless Empty = true
-no_unless (Seq f g) = no_unless f && no_unless g
-no_unless (Either f g) = no_unless f && no_unless g
-no_unless (Chain f g) = no_unless f && no_unless g
-no_unless (Nest p n) = true
-no_unless (Unless p f) = false
-
-levels_plain : (n : ℕ) → no_unless (rule n) ≡ true
-levels_plain zero = refl
-levels_plain (suc zero) = refl
-levels_plain (suc (suc zero)) = refl
-levels_plain (suc (suc (suc zero))) = refl
-levels_plain (suc (suc (suc (suc zero)))) = refl
-levels_plain (suc (suc (suc (suc (suc zero))))) = refl
-levels_plain (suc (suc (suc (suc (suc (suc zero)))))) = refl
-levels_plain (suc (suc (suc (suc (suc (suc (suc zero))))))) = refl
-levels_plain (suc (suc (suc (suc (suc (suc (suc (suc zero)))))))) = refl
-levels_plain (suc (suc (suc (suc (suc (suc (suc (suc (suc zero))))))))) = refl
-levels_plain (suc (suc (suc (suc (suc (suc (suc (suc (suc (suc zero)))))))))) = refl
-levels_plain (suc (suc (suc (suc (suc (suc (suc (suc (suc (suc (suc zero))))))))))) = refl
-levels_plain (suc (suc (suc (suc (suc (suc (suc (suc (suc (suc (suc (suc n)))))))))))) = refl
-
-pub fits_plain : (t : Tree) (f : Form) → no_unless f ≡ true → Fits rule t f → plain t ≡ true
-fits_plain (Leaf w) (One p) e h = refl
-fits_plain Blank Empty e h = refl
-fits_plain (Both a b) (Seq f g) e h = let parts = and_true (no_unless f) (no_unless g) e in and_both (plain a) (plain b) (fits_plain a f parts.0 h.0) (fits_plain b g parts.1 h.1)
-fits_plain (First a) (Either f g) e h = fits_plain a f (and_true (no_unless f) (no_unless g) e).0 h
-fits_plain (Second b) (Either f g) e h = fits_plain b g (and_true (no_unless f) (no_unless g) e).1 h
-fits_plain (Start a) (Chain f g) e h = fits_plain a f (and_true (no_unless f) (no_unless g) e).0 h
-fits_plain (More t b) (Chain f g) e h = and_both (plain t) (plain b) (fits_plain t (Chain f g) e h.0) (fits_plain b g (and_true (no_unless f) (no_unless g) e).1 h.1)
-fits_plain (Inside w t) (Nest p n) e h = fits_plain t (rule n) (levels_plain n) h.1
-fits_plain (Second b) (Unless p f) e h = absurd cc
-fits_plain (Shut w) (Unless p f) e h = absurd cc
-fits_plain _ _ e h = absurd h
-
 -- ---- fronts
 
-late_outcome : (why : Why) (d : Option (Why × List Word)) (t : Tree) (more ws : List Word) → ((r : Why × List Word) → d ≡ Some r → length r.1 ≤ length more) → outcome d t [] ≡ Fault why ws → length more < length ws → ⊥
-late_outcome why None t more ws late e longer = cc
-late_outcome why (Some r) t more ws late e longer =
-    let same : r.1 ++ [] ≡ ws = cc in
-    omega (arith, late r refl, ap (λ (u : List Word). length u) same, length-append r.1 [])
+late_outcome : (d : Option (List Word)) (t : ParseTree) (more ws : List Word) → ((deep : List Word) → d ≡ Some deep → length deep ≤ length more) → outcome d t [] ≡ Failed TooDeep ws → length more < length ws → ⊥
+late_outcome None t more ws late e longer = cc
+late_outcome (Some deep) t more ws late e longer =
+    let same : deep ++ [] ≡ ws = cc in
+    omega (arith, late deep refl, ap (λ (u : List Word). length u) same, length-append deep [])
 
-pub begun_next : (f : Form) (t : Tree) (before : List Word) (w : Word) (more : List Word) → Fits rule t f → yield t ≡ before ++ w ∷ more → IsBegun rule f (before ++ w ∷ [])
+pub begun_next : (f : Form) (t : ParseTree) (before : List Word) (w : Word) (more : List Word) → DerivesLongest rule t f → yield t ≡ before ++ w ∷ more → IsBegun rule f (before ++ w ∷ [])
 begun_next f t before w more fits e = (t, more, fits, e ∙ sym (append_assoc before (w ∷ []) more))
 
 -- the first word of the rest is none that goes on
@@ -78,18 +39,14 @@ begun_front : (f : Form) (ws front : List Word) (w : Word) (more : List Word) �
 begun_front f ws front w more e b =
     begun_next f b.0 front w (more ++ b.1) b.2 (b.3 ∙ ap (λ (u : List Word). u ++ b.1) e ∙ append_assoc front (w ∷ more) b.1)
 
--- and of what is begun within the levels so is a front
-pub front_within : (k : ℕ) (f : Form) (ws front : List Word) (w : Word) → ws ≡ front ++ w ∷ [] → IsBegunWithin rule k f ws → IsBegunWithin rule k f front
-front_within k f ws front w e b = (b.0, w ∷ b.1, b.2, b.3 ∙ ap (λ (u : List Word). u ++ b.1) e ∙ append_assoc front (w ∷ []) b.1, b.4, λ r s. omega (arith, b.5 r s))
-
 module _ (k : ℕ) (f : Form) (ok : check model after f ≡ true) where
   -- what begins within the levels has no word that opens one too many
-  pub no_deep_within : (before : List Word) → IsBegunWithin rule k f before → (front : List Word) (w : Word) (m : List Word) → before ≡ front ++ w ∷ m → (t : Tree) (more : List Word) → Fits rule t f → yield t ≡ front ++ w ∷ more → plain t ≡ true → refused t k ≡ Some (TooDeep, w ∷ more) → ⊥
-  no_deep_within before b front w m e t more fits reads sound levels =
+  pub no_deep_within : (before : List Word) → IsBegunWithin rule k f before → (front : List Word) (w : Word) (m : List Word) → before ≡ front ++ w ∷ m → (t : ParseTree) (more : List Word) → DerivesLongest rule t f → yield t ≡ front ++ w ∷ more → too_deep t k ≡ Some (w ∷ more) → ⊥
+  no_deep_within before b front w m e t more fits reads levels =
       let all : yield b.0 ≡ front ++ w ∷ (m ++ b.1) = b.3 ∙ ap (λ (u : List Word). u ++ b.1) e ∙ append_assoc front (w ∷ m) b.1 in
-      let deep : IsTooDeep rule k f (yield b.0) (w ∷ (m ++ b.1)) = record { before = front; opener = w; behind = m ++ b.1; tree = t; more = more; front = all; opens = refl; fits = fits; begun = reads; plain = sound; levels = levels } in
+      let deep : IsTooDeep rule k f (yield b.0) (w ∷ (m ++ b.1)) = record { before = front; opener = w; behind = m ++ b.1; tree = t; more = more; front = all; opens = refl; fits = fits; begun = reads; levels = levels } in
       let failed = too_deep_is_fault rule model after checked k f ok (yield b.0) (w ∷ (m ++ b.1)) deep in
-      late_outcome TooDeep (refused b.0 k) b.0 b.1 (w ∷ (m ++ b.1)) b.5 (sym (whole rule model after checked k f ok b.0 b.2) ∙ failed) (omega (arith, length-append m b.1))
+      late_outcome (too_deep b.0 k) b.0 b.1 (w ∷ (m ++ b.1)) b.4 (sym (whole rule model after checked k f ok b.0 b.2) ∙ failed) (omega (arith, length-append m b.1))
 
   -- a level too many is opened by the last word alone, where the words before it have none
   pub deep_follows : (before : List Word) (w : Word) (rest : List Word) → IsBegunWithin rule k f before → IsTooDeep rule k f (before ++ w ∷ []) rest → IsBegun rule f (before ++ w ∷ [])
@@ -103,7 +60,7 @@ module _ (k : ℕ) (f : Form) (ok : check model after f ≡ true) where
           | inl l ↦
               let word : g.opener ≡ l.word = let p = l.rest in cc in
               let front : before ≡ g.before ++ g.opener ∷ l.more = l.front ∙ ap (λ (v : Word). g.before ++ v ∷ l.more) (sym word) in
-              absurd (no_deep_within before b g.before g.opener l.more front g.tree g.more g.fits g.begun g.plain g.levels)
+              absurd (no_deep_within before b g.before g.opener l.more front g.tree g.more g.fits g.begun g.levels)
           | inr l ↦
               let tail : w ∷ [] ≡ l.word ∷ (l.more ++ g.opener ∷ g.behind) = l.rest in
               absurd (omega (arith, ap (λ (u : List Word). length u) tail, length-append l.more (g.opener ∷ g.behind)))
@@ -124,7 +81,7 @@ eq_true m n e b is = is ∙ rw e (grind arith)
 never_true : (m n : ℕ) → (m ≡ n → ⊥) → (b : Bool) → b ≡ (m == n) → IsTrue b → ⊥
 never_true m n apart b is holds = apart (eqb-true m n (sym is ∙ holds))
 
-module _ (f : Form) (ok : check model after f ≡ true) (supported : no_unless f ≡ true) (ws before : List Word) (w : Word) (is : ws ≡ before ++ w ∷ []) where
+module _ (f : Form) (ok : check model after f ≡ true) (ws before : List Word) (w : Word) (is : ws ≡ before ++ w ∷ []) where
   -- by a front of them that is begun, and behind which the next word can't stand
   by_rest : (end : ℕ) (front rest : List Word) → end ≤ length ws → drop end ws ≡ rest → ws ≡ front ++ rest → (rest ≡ [] → IsBegun rule f ws) → IsLast rule f front rest → (b : Bool) → b ≡ (end == length ws) → IsTrue b ↔ CanFollow f before w
   by_rest end front [] within cut whole begun last b same =
@@ -132,7 +89,7 @@ module _ (f : Form) (ok : check model after f ≡ true) (supported : no_unless f
   by_rest end front (v ∷ rest) within cut whole begun last b same =
       (λ t. absurd (never_true end (length ws) (not_end ws rest v rest end cut) b same t), λ can. absurd (last (begun_front f ws front v rest whole (subst (λ (u : List Word). IsBegun rule f u) (sym is) can))))
 
-  pub stands_follow : (t : Tree) (end : ℕ) → Stands f ws 0 t end → (b : Bool) → b ≡ (end == length ws) → IsTrue b ↔ CanFollow f before w
+  pub stands_follow : (t : ParseTree) (end : ℕ) → ParsesAt f ws 0 t end → (b : Bool) → b ≡ (end == length ws) → IsTrue b ↔ CanFollow f before w
   stands_follow t end h b same =
       by_rest end (yield t) (drop end ws) h.0 refl h.1.front
       (λ none. (t, [], h.1.fits, sym (append-nil (yield t)) ∙ ap (λ (u : List Word). yield t ++ u) (sym none) ∙ sym h.1.front ∙ sym (append-nil ws)))
@@ -148,6 +105,5 @@ module _ (f : Form) (ok : check model after f ≡ true) (supported : no_unless f
       h.1.last b same
   fault_follow (faults.TooDeep at) begun h b same =
       (λ t. deep_follows 64 f ok before w (drop at ws) begun (subst (λ (u : List Word). IsTooDeep rule 64 f u (drop at ws)) is h.1), λ can. same)
-  fault_follow (faults.Unsupported at) begun h b same =
-      absurd (h.1.last (h.1.tree, h.1.more, h.1.fits, h.1.reads ∙ sym (append_assoc h.1.before (h.1.word ∷ []) h.1.more), fits_plain h.1.tree f supported h.1.fits))
+  fault_follow (faults.Unsupported at) begun h b same = absurd h
   fault_follow faults.Memory begun h b same = absurd same

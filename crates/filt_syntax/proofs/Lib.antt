@@ -2,7 +2,7 @@ pub mod Tested
 pub mod Signs
 pub mod ItemSteps
 pub mod Steps
-pub mod Sights
+pub mod Derived
 pub mod Places
 pub mod Follows
 pub mod RefusedTokens

@@ -1,5 +1,6 @@
 -- How far behind its first token a refused word is refused.
-use Rattle.std.proofs.Common.{◌≡◌, ◌↔◌, ℕ, zero, suc, ◌+◌, ◌-◌, ◌≤◌, Bool, true, false, cond, if◌then◌else◌, IsTrue, List, [], ◌∷◌, ◌++◌, length, map, drop, slice_index_or, Ok, Err, Bor, MatchOption, refl, sym, ap, subst, ◌∙◌, arith, inl, inr, ◌⊎◌}
+use Rattle.std.proofs.Common.{◌≡◌, ◌↔◌, ℕ, zero, suc, ◌+◌, ◌-◌, ◌≤◌, Bool, true, false, cond, if◌then◌else◌, IsTrue, List, [], ◌∷◌, ◌++◌, length, map, drop, slice_index_or, Err, Bor, MatchOption, refl, sym, ap, subst, ◌∙◌, arith, inl, inr, ◌⊎◌}
+use Rattle.filt_syntax.specs.Levels.{Form}
 use Rattle.std.specs.Bool.{then_some}
 use Rattle.std.proofs.lemmas.Bool.{false≢true}
 use Rattle.std.proofs.lemmas.List.{length-append}
@@ -8,7 +9,6 @@ use Rattle.conf_lex.specs.Words.{first_word, words_from}
 use Rattle.conf_lex.specs.declared.token.Token.{Token}
 use Rattle.conf_lex.specs.declared.word.Word.{Word}
 use Rattle.conf_lex.specs.declared.word.Word.TheVariants as words
-use Rattle.grammar.specs.Grammar.{Form}
 use Rattle.grammar.proofs.Unique.{fronts}
 use Rattle.filt_syntax.specs.declared.parse.SyntaxFault.{SyntaxFault}
 use Rattle.filt_syntax.specs.declared.parse.SyntaxFault.TheVariants as faults
@@ -16,7 +16,7 @@ use Rattle.filt_syntax.specs.declared.refused_token.Torn.{Torn}
 use Rattle.filt_syntax.specs.declared.refused_token.Torn.TheVariants as torns
 use Rattle.filt_syntax.specs.Parse.{IsRefused, IsFault}
 use Rattle.filt_syntax.specs.RefusedToken.{CanFollow, some_prefix, some_address, is_address_word, EndInAddress, IsCount, IsPast, IsPastFirst, IsPastAt, IsBadFrom}
-use Rattle.filt_syntax.specs.Tokens.{words_behind, starts_behind, token_place, moved, place_of, IsPastOf, IsRefusedIn, IsToldAs}
+use Rattle.filt_syntax.specs.Tokens.{words_behind, starts_behind, moved, place_of, IsPastOf, IsRefusedIn, IsToldAs}
 
 -- ---- the last word
 
@@ -54,9 +54,6 @@ ends_is f before front at addr asked b cut is told = (
   λ t. record { front = front; at = at; addr = addr; cut = cut; prefix = subst (λ (w : Word). CanFollow f front w) is (told.0 t) },
   λ e. told.1 (subst (λ (w : Word). CanFollow f front w) (sym is) (subst (λ (u : List Word). CanFollow f u some_prefix) (last_is e.front front (words.Ip e.at e.addr) (words.Ip at addr) (sym e.cut ∙ cut)).0 e.prefix)),
 )
-
-pub ends_not : (f : Form) (before : List Word) → ((front : List Word) (at : ℕ) (addr : Addr) → before ≡ front ++ words.Ip at addr ∷ [] → ⊥) → IsTrue false ↔ EndInAddress f before
-ends_not f before none = (λ t. absurd (false≢true t), λ e. absurd (none e.front e.at e.addr e.cut))
 
 -- ---- counts
 
@@ -147,36 +144,9 @@ pub deep_told : (f : Form) (ws : List Word) (starts : List ℕ) (end place at : 
 deep_told f ws starts end place at fault is same =
     subst (λ (e : SyntaxFault). IsToldAs f ws starts end e (faults.TooDeep at)) (sym is) (inr (0, refl, ap (λ (n : ℕ). faults.TooDeep n) (same ∙ plus_none _)))
 
-pub shut_told : (f : Form) (ws : List Word) (starts : List ℕ) (end place at : ℕ) (fault : SyntaxFault) → fault ≡ faults.Unsupported place → at ≡ slice_index_or starts place end → IsToldAs f ws starts end fault (faults.Unsupported at)
-shut_told f ws starts end place at fault is same =
-    subst (λ (e : SyntaxFault). IsToldAs f ws starts end e (faults.Unsupported at)) (sym is) (inr (0, refl, ap (λ (n : ℕ). faults.Unsupported n) (same ∙ plus_none _)))
-
 module _ (f : Form) (text : List ℕ) (tokens : List Token) (from : ℕ) (ws : List Word) (starts : List ℕ) (words-are : ws ≡ words_behind text tokens from) (starts-are : starts ≡ starts_behind text tokens from) where
-  pub told_refused : (fault told : SyntaxFault) → IsRefused f ws 0 fault → IsToldAs f ws starts (length tokens) fault told → IsRefusedIn f text tokens from told
-  told_refused fault told refused (inl memory) = record { word_fault = faults.Memory; refused = tt; past = 0; is_past = refl; is = memory }
-  told_refused fault told refused (inr h) = record {
-    word_fault = fault;
-    refused = subst (λ (u : List Word). IsRefused f u 0 fault) words-are refused;
-    past = h.0;
-    is_past = subst (λ (u : List Word). IsPastOf f u fault h.0) words-are h.1;
-    is = h.2 ∙ ap (λ (u : List ℕ). moved (slice_index_or u (place_of fault) (length tokens) + h.0) fault) starts-are;
-  }
-
-  pub told_only : (fault told : SyntaxFault) → IsToldAs f ws starts (length tokens) fault told → fault ≡ faults.Memory → told ≡ faults.Memory
-  told_only fault told (inl memory) e = memory
-  told_only fault told (inr h) e = h.2 ∙ ap (λ (d : SyntaxFault). moved (slice_index_or starts (place_of fault) (length tokens) + h.0) d) e
-
-  by_fault : (X : Type 0) (found read : X × ℕ) (d : SyntaxFault) (n : ℕ) → IsFault {X = X} (Ok found) d → (e : SyntaxFault) → e ≡ moved n d → IsFault {X = X} (Ok read) e
-  by_fault X found read faults.Memory n h e is = subst (λ (x : SyntaxFault). IsFault {X = X} (Ok read) x) (sym is) tt
-  by_fault X found read (faults.Bad at) n h e is = absurd h
-  by_fault X found read (faults.TooDeep at) n h e is = absurd h
-  by_fault X found read (faults.Unsupported at) n h e is = absurd h
-
   same_words : (d : SyntaxFault) → IsRefused f (words_behind text tokens from) 0 d → IsRefused f ws 0 d
   same_words d r = subst (λ (u : List Word). IsRefused f u 0 d) (sym words-are) r
-
-  pub read_exact : (X : Type 0) (found read : X × ℕ) → ((e : SyntaxFault) → IsRefused f ws 0 e → IsFault {X = X} (Ok found) e) → (e : SyntaxFault) → IsRefusedIn f text tokens from e → IsFault {X = X} (Ok read) e
-  read_exact X found read exact e h = by_fault X found read h.word_fault _ (exact h.word_fault (same_words h.word_fault h.refused)) e h.is
 
   memory_any : (X : Type 0) (told : SyntaxFault) → told ≡ faults.Memory → (e : SyntaxFault) → IsFault {X = X} (Err told) e
   memory_any X told is (faults.Bad at) = inl is
@@ -208,12 +178,3 @@ module _ (f : Form) (text : List ℕ) (tokens : List Token) (from : ℕ) (ws : L
       (subst (λ (u : List Word). IsPastOf f u h.word_fault h.past) (sym words-are) h.is_past)
       g.2
       (h.is ∙ ap (λ (u : List ℕ). moved (slice_index_or u (place_of h.word_fault) (length tokens) + h.past) h.word_fault) (sym starts-are)))
-
-  pub told_exact : (X : Type 0) (fault told : SyntaxFault) → ((d : SyntaxFault) → IsRefused f ws 0 d → IsFault {X = X} (Err fault) d) → IsToldAs f ws starts (length tokens) fault told → (e : SyntaxFault) → IsRefusedIn f text tokens from e → IsFault {X = X} (Err told) e
-  told_exact X fault told exact is e h = elim (three X fault h.word_fault (exact h.word_fault (same_words h.word_fault h.refused))) [
-    | inl memory ↦ subst (λ (x : SyntaxFault). IsFault {X = X} (Err told) x) (sym (h.is ∙ ap (λ (d : SyntaxFault). moved (token_place text tokens from (place_of h.word_fault) + h.past) d) memory)) tt
-    | inr other ↦ elim other [
-      | inl memory ↦ memory_any X told (told_only fault told is memory) e
-      | inr same ↦ same_case X fault told e h is same
-    ]
-  ]

@@ -1,15 +1,16 @@
 -- Which words the symbols of expressions are.
-use Rattle.std.proofs.Common.{◌≡◌, ℕ, Bool, true, false, List, [], ◌∷◌, refl}
+use Rattle.std.proofs.Common.{◌≡◌, ℕ, false, List, [], ◌∷◌, refl}
 use Rattle.conf_lex.specs.declared.symbol.Symbol.{Symbol}
 use Rattle.conf_lex.specs.declared.symbol.Symbol.TheVariants as sym
 use Rattle.conf_lex.specs.declared.word.Word.{Word}
 use Rattle.conf_lex.specs.declared.word.Word.TheVariants as words
 use Rattle.bits_ip.specs.declared.address.Addr.{Addr}
 use Rattle.bits_ip.specs.declared.prefix.Prefix.{Prefix}
-use Rattle.grammar.specs.Kind.{kind_of, keeps_place, symbol, names_attribute, names_constant, is_attribute}
+use Rattle.conf_lex.specs.Symbols.{is_placed}
+use Rattle.grammar.specs.Kind.{kind_of, symbol, names_attribute, names_constant}
 use Rattle.grammar.specs.Grammar.{begins}
-use Rattle.grammar.proofs.Symbols.{other_symbol, other_plain, other_placed}
-use Rattle.filt_syntax.specs.Syntax.{is_simple, is_method, is_property, is_factor, is_term, is_compare, is_joint}
+use Rattle.grammar.proofs.Symbols.{other_plain, other_placed}
+use Rattle.filt_syntax.specs.Syntax.{is_atom, is_method, is_property, is_mul_op, is_add_op, is_compare_op, is_logical_op}
 
 -- no word is this symbol
 abbrev Isnt : Symbol → Symbol → Type 0
@@ -17,35 +18,35 @@ Isnt s wanted = s ≡ wanted → ⊥
 
 -- no symbol without a place comes next
 abbrev NoPlain : List Word → Type 0
-NoPlain ws = (s : Symbol) → keeps_place s ≡ false → begins (symbol s) ws ≡ false
+NoPlain ws = (s : Symbol) → is_placed s ≡ false → begins (symbol s) ws ≡ false
 
-pub no_joint : (ws : List Word) → NoPlain ws → begins is_joint ws ≡ false
-no_joint [] h = refl
-no_joint (w ∷ ws) h = rw (h sym.And refl, h sym.Or refl) refl
+pub no_logical_op : (ws : List Word) → NoPlain ws → begins is_logical_op ws ≡ false
+no_logical_op [] h = refl
+no_logical_op (w ∷ ws) h = rw (h sym.And refl, h sym.Or refl) refl
 
-pub other_joint : (s : Symbol) → Isnt s sym.And → Isnt s sym.Or → is_joint (kind_of (words.Symbol s)) ≡ false
-other_joint s h0 h1 = rw (other_plain s sym.And h0, other_plain s sym.Or h1) refl
+pub other_logical_op : (s : Symbol) → Isnt s sym.And → Isnt s sym.Or → is_logical_op (kind_of (words.Symbol s)) ≡ false
+other_logical_op s h0 h1 = rw (other_plain s sym.And h0, other_plain s sym.Or h1) refl
 
-pub no_compare : (ws : List Word) → NoPlain ws → begins is_compare ws ≡ false
-no_compare [] h = refl
-no_compare (w ∷ ws) h = rw (h sym.Equal refl, h sym.NotEqual refl, h sym.Less refl, h sym.LessOrEqual refl, h sym.Greater refl, h sym.GreaterOrEqual refl, h sym.Matches refl, h sym.MatchesNot refl) refl
+pub no_compare_op : (ws : List Word) → NoPlain ws → begins is_compare_op ws ≡ false
+no_compare_op [] h = refl
+no_compare_op (w ∷ ws) h = rw (h sym.Equal refl, h sym.NotEqual refl, h sym.Less refl, h sym.LessOrEqual refl, h sym.Greater refl, h sym.GreaterOrEqual refl, h sym.Matches refl, h sym.MatchesNot refl) refl
 
-pub other_compare : (s : Symbol) → Isnt s sym.Equal → Isnt s sym.NotEqual → Isnt s sym.Less → Isnt s sym.LessOrEqual → Isnt s sym.Greater → Isnt s sym.GreaterOrEqual → Isnt s sym.Matches → Isnt s sym.MatchesNot → is_compare (kind_of (words.Symbol s)) ≡ false
-other_compare s h0 h1 h2 h3 h4 h5 h6 h7 = rw (other_plain s sym.Equal h0, other_plain s sym.NotEqual h1, other_plain s sym.Less h2, other_plain s sym.LessOrEqual h3, other_plain s sym.Greater h4, other_plain s sym.GreaterOrEqual h5, other_plain s sym.Matches h6, other_plain s sym.MatchesNot h7) refl
+pub other_compare_op : (s : Symbol) → Isnt s sym.Equal → Isnt s sym.NotEqual → Isnt s sym.Less → Isnt s sym.LessOrEqual → Isnt s sym.Greater → Isnt s sym.GreaterOrEqual → Isnt s sym.Matches → Isnt s sym.MatchesNot → is_compare_op (kind_of (words.Symbol s)) ≡ false
+other_compare_op s h0 h1 h2 h3 h4 h5 h6 h7 = rw (other_plain s sym.Equal h0, other_plain s sym.NotEqual h1, other_plain s sym.Less h2, other_plain s sym.LessOrEqual h3, other_plain s sym.Greater h4, other_plain s sym.GreaterOrEqual h5, other_plain s sym.Matches h6, other_plain s sym.MatchesNot h7) refl
 
-pub no_term : (ws : List Word) → NoPlain ws → begins is_term ws ≡ false
-no_term [] h = refl
-no_term (w ∷ ws) h = rw (h sym.Plus refl, h sym.Minus refl) refl
+pub no_add_op : (ws : List Word) → NoPlain ws → begins is_add_op ws ≡ false
+no_add_op [] h = refl
+no_add_op (w ∷ ws) h = rw (h sym.Plus refl, h sym.Minus refl) refl
 
-pub other_term : (s : Symbol) → Isnt s sym.Plus → Isnt s sym.Minus → is_term (kind_of (words.Symbol s)) ≡ false
-other_term s h0 h1 = rw (other_plain s sym.Plus h0, other_plain s sym.Minus h1) refl
+pub other_add_op : (s : Symbol) → Isnt s sym.Plus → Isnt s sym.Minus → is_add_op (kind_of (words.Symbol s)) ≡ false
+other_add_op s h0 h1 = rw (other_plain s sym.Plus h0, other_plain s sym.Minus h1) refl
 
-pub no_factor : (ws : List Word) → NoPlain ws → begins is_factor ws ≡ false
-no_factor [] h = refl
-no_factor (w ∷ ws) h = rw (h sym.Star refl, h sym.Slash refl) refl
+pub no_mul_op : (ws : List Word) → NoPlain ws → begins is_mul_op ws ≡ false
+no_mul_op [] h = refl
+no_mul_op (w ∷ ws) h = rw (h sym.Star refl, h sym.Slash refl) refl
 
-pub other_factor : (s : Symbol) → Isnt s sym.Star → Isnt s sym.Slash → is_factor (kind_of (words.Symbol s)) ≡ false
-other_factor s h0 h1 = rw (other_plain s sym.Star h0, other_plain s sym.Slash h1) refl
+pub other_mul_op : (s : Symbol) → Isnt s sym.Star → Isnt s sym.Slash → is_mul_op (kind_of (words.Symbol s)) ≡ false
+other_mul_op s h0 h1 = rw (other_plain s sym.Star h0, other_plain s sym.Slash h1) refl
 
 pub no_property : (ws : List Word) → NoPlain ws → begins is_property ws ≡ false
 no_property [] h = refl
@@ -57,53 +58,21 @@ other_property s h0 h1 h2 h3 = rw (other_plain s sym.Len h0, other_plain s sym.F
 pub other_method : (s : Symbol) → Isnt s sym.Prepend → Isnt s sym.Add → Isnt s sym.Delete → Isnt s sym.Filter → (at : ℕ) → is_method (kind_of (words.Placed at s)) ≡ false
 other_method s h0 h1 h2 h3 at = rw (other_placed at s sym.Prepend h0, other_placed at s sym.Add h1, other_placed at s sym.Delete h2, other_placed at s sym.Filter h3) refl
 
-plain_method : (s : Symbol) → is_method (kind_of (words.Symbol s)) ≡ false
-plain_method sym.Router = refl
-plain_method _ = refl
-
-pub not_method : (w : Word) → ((at : ℕ) (s : Symbol) → w ≡ words.Placed at s → ⊥) → is_method (kind_of w) ≡ false
-not_method (words.Placed at s) h = absurd (h at s refl)
-not_method (words.Symbol s) h = plain_method s
-not_method _ h = refl
-
-plain_attribute : (s : Symbol) → is_attribute (kind_of (words.Symbol s)) ≡ false
-plain_attribute sym.Router = refl
-plain_attribute _ = refl
-
-pub not_attribute : (w : Word) → ((at : ℕ) (s : Symbol) → w ≡ words.Placed at s → ⊥) → is_attribute (kind_of w) ≡ false
-not_attribute (words.Placed at s) h = absurd (h at s refl)
-not_attribute (words.Symbol s) h = plain_attribute s
-not_attribute _ h = refl
-
-pub placed_attribute : (w : Word) (at : ℕ) (s : Symbol) → w ≡ words.Placed at s → names_attribute s ≡ false → is_attribute (kind_of w) ≡ false
-placed_attribute w at s is none = rw is (by_place (keeps_place s) refl)
-  where
-    by_place : (b : Bool) → keeps_place s ≡ b → is_attribute (kind_of (words.Placed at s)) ≡ false
-    by_place true here = rw here none
-    by_place false here = rw here refl
-
 pub placed_method : (w : Word) (at : ℕ) (s : Symbol) → w ≡ words.Placed at s → ((a : ℕ) → is_method (kind_of (words.Placed a s)) ≡ false) → is_method (kind_of w) ≡ false
 placed_method w at s is none = rw is (none at)
 
-plain_simple : (s : Symbol) → is_simple (kind_of (words.Symbol s)) ≡ false
-plain_simple sym.Router = refl
-plain_simple _ = refl
+plain_atom : (s : Symbol) → is_atom (kind_of (words.Symbol s)) ≡ false
+plain_atom sym.Router = refl
+plain_atom _ = refl
 
-pub not_simple : (w : Word) → ((at value : ℕ) → w ≡ words.Number at value → ⊥) → ((at start len : ℕ) → w ≡ words.Text at start len → ⊥) → ((at : ℕ) (addr : Addr) → w ≡ words.Ip at addr → ⊥) → ((at : ℕ) (net : Prefix) → w ≡ words.Prefix at net → ⊥) → ((at : ℕ) (s : Symbol) → w ≡ words.Placed at s → ⊥) → is_simple (kind_of w) ≡ false
-not_simple (words.Number at value) a b c d e = absurd (a at value refl)
-not_simple (words.Text at start len) a b c d e = absurd (b at start len refl)
-not_simple (words.Ip at addr) a b c d e = absurd (c at addr refl)
-not_simple (words.Prefix at net) a b c d e = absurd (d at net refl)
-not_simple (words.Placed at s) a b c d e = absurd (e at s refl)
-not_simple (words.Symbol s) a b c d e = plain_simple s
-not_simple _ a b c d e = refl
-
-pub other_simple : (at : ℕ) (s : Symbol) → names_attribute s ≡ false → names_constant s ≡ false → Isnt s sym.True → Isnt s sym.False → Isnt s sym.EmptyPath → Isnt s sym.EmptyClist → is_simple (kind_of (words.Placed at s)) ≡ false
-other_simple at s na nc a b c d = by_place (keeps_place s) refl
-  where
-    by_place : (x : Bool) → keeps_place s ≡ x → is_simple (kind_of (words.Placed at s)) ≡ false
-    by_place true here = rw (here, other_symbol s sym.True a, other_symbol s sym.False b, other_symbol s sym.EmptyPath c, other_symbol s sym.EmptyClist d, na, nc) refl
-    by_place false here = rw here refl
+pub not_atom : (w : Word) → ((at value : ℕ) → w ≡ words.Number at value → ⊥) → ((at start len : ℕ) → w ≡ words.Text at start len → ⊥) → ((at : ℕ) (addr : Addr) → w ≡ words.Ip at addr → ⊥) → ((at : ℕ) (net : Prefix) → w ≡ words.Prefix at net → ⊥) → ((at : ℕ) (s : Symbol) → w ≡ words.Placed at s → ⊥) → is_atom (kind_of w) ≡ false
+not_atom (words.Number at value) a b c d e = absurd (a at value refl)
+not_atom (words.Text at start len) a b c d e = absurd (b at start len refl)
+not_atom (words.Ip at addr) a b c d e = absurd (c at addr refl)
+not_atom (words.Prefix at net) a b c d e = absurd (d at net refl)
+not_atom (words.Placed at s) a b c d e = absurd (e at s refl)
+not_atom (words.Symbol s) a b c d e = plain_atom s
+not_atom _ a b c d e = refl
 
 pub unnamed_attribute : (s : Symbol) → Isnt s sym.Net → Isnt s sym.Preference → Isnt s sym.Gw → Isnt s sym.From → Isnt s sym.BgpNextHop → Isnt s sym.Proto → Isnt s sym.Source → Isnt s sym.Dest → Isnt s sym.BgpPath → Isnt s sym.BgpOrigin → Isnt s sym.BgpMed → Isnt s sym.BgpLocalPref → Isnt s sym.IgpMetric → Isnt s sym.BgpCommunity → names_attribute s ≡ false
 unnamed_attribute sym.Net h0 h1 h2 h3 h4 h5 h6 h7 h8 h9 h10 h11 h12 h13 = absurd (h0 refl)

@@ -4,19 +4,19 @@ use Rattle.std.specs.Global.{Global}
 use Rattle.conf_lex.specs.declared.symbol.Symbol.TheVariants as sym
 use Rattle.conf_lex.specs.declared.word.Word.TheVariants as words
 use Rattle.grammar.specs.declared.named.Name.{Name}
-use Rattle.grammar.specs.Grammar.{Tree, Blank, Both, Second, Start, More, Inside}
-use Rattle.filt_syntax.specs.declared.tree.Attribute.{Attribute}
-use Rattle.filt_syntax.specs.declared.tree.VariableType.{VariableType}
-use Rattle.filt_syntax.specs.declared.tree.Target.{Target}
-use Rattle.filt_syntax.specs.declared.tree.Change.{Change}
-use Rattle.filt_syntax.specs.declared.tree.Expr.{Expr}
-use Rattle.filt_syntax.specs.declared.tree.Arm.{Arm}
+use Rattle.grammar.specs.Grammar.{ParseTree, NoWords, Pair, Right, Single, Snoc, Deeper}
+use Rattle.filt_syntax.specs.declared.ast.Attribute.{Attribute}
+use Rattle.filt_syntax.specs.declared.ast.VariableType.{VariableType}
+use Rattle.filt_syntax.specs.declared.ast.Target.{Target}
+use Rattle.filt_syntax.specs.declared.ast.Change.{Change}
+use Rattle.filt_syntax.specs.declared.ast.Expr.{Expr}
+use Rattle.filt_syntax.specs.declared.ast.Arm.{Arm}
 use Rattle.filt_syntax.specs.declared.statement.Branches.{Branches}
-use Rattle.filt_syntax.specs.declared.tree.Stmt.{Stmt, the_lemmas, fold-Stmt}
-use Rattle.filt_syntax.specs.declared.tree.Stmt.TheVariants as stmts
-use Rattle.filt_syntax.specs.declared.tree.Stmt.TheFolds.{fold_out-Stmt, map-Stmt}
-use Rattle.filt_syntax.specs.declared.tree.Stmt.TheOpen.{Stmt-F}
-use Rattle.filt_syntax.specs.StatementView.{ArmParts, seen_arm, arm_of, stmt_step, stmt_tree, stmts_tree, block_tree, empty_tree, declare_tree, assign_tree, change_stmt_tree, call_tree, unset_tree, choice_tree, chosen_tree, branches_tree, second_tree, else_tree, case_tree, for_tree, verdict_tree, return_tree, print_tree, row_after, arms_row, arms_of, otherwise_tree, otherwise_of}
+use Rattle.filt_syntax.specs.declared.ast.Stmt.{Stmt, the_lemmas, fold-Stmt}
+use Rattle.filt_syntax.specs.declared.ast.Stmt.TheVariants as stmts
+use Rattle.filt_syntax.specs.declared.ast.Stmt.TheFolds.{map-Stmt}
+use Rattle.filt_syntax.specs.declared.ast.Stmt.TheOpen.{Stmt-F}
+use Rattle.filt_syntax.specs.StatementView.{ArmParts, seen_arm, arm_of, stmt_step, stmt_tree, stmts_tree, block_tree, empty_tree, declare_tree, assign_tree, change_stmt_tree, call_tree, unset_tree, if_tree, chosen_tree, branches_tree, second_tree, else_tree, case_tree, for_tree, verdict_tree, return_tree, print_tree, row_after, arms_row, arms_of, otherwise_tree, otherwise_of}
 
 pub tree-Block : (v : Vec Stmt Global) → stmt_tree (stmts.Block v) ≡ block_tree (stmts_tree v.items)
 tree-Block v = search (rules, the_lemmas)
@@ -36,27 +36,27 @@ tree-Change target c = search (rules, the_lemmas)
 pub tree-Unset : (place at : ℕ) (a : Attribute) → stmt_tree (stmts.Unset place at a) ≡ unset_tree place at a
 tree-Unset place at a = search (rules, the_lemmas)
 
-tree-If : (e : Expr) (s : Box Stmt Global) (x : Stmt) → s.value ≡ x → stmt_tree (stmts.If e s) ≡ choice_tree e (stmt_tree x) (Second Blank)
+tree-If : (e : Expr) (s : Box Stmt Global) (x : Stmt) → s.value ≡ x → stmt_tree (stmts.If e s) ≡ if_tree e (stmt_tree x) (Right NoWords)
 tree-If e s x p = rw (← p) (search (rules, the_lemmas))
 
-tree-IfElse : (e : Expr) (s t : Box Stmt Global) (x y : Stmt) → s.value ≡ x → t.value ≡ y → stmt_tree (stmts.IfElse e s t) ≡ choice_tree e (stmt_tree x) (else_tree (stmt_tree y))
+tree-IfElse : (e : Expr) (s t : Box Stmt Global) (x y : Stmt) → s.value ≡ x → t.value ≡ y → stmt_tree (stmts.IfElse e s t) ≡ if_tree e (stmt_tree x) (else_tree (stmt_tree y))
 tree-IfElse e s t x y p q = rw (← p, ← q) (search (rules, the_lemmas))
 
 pub tree-one_branch : (e : Expr) (b : Branches) → b.second ≡ None → stmt_tree (stmts.If e b.first) ≡ chosen_tree e (branches_tree b)
-tree-one_branch e b is = tree-If e b.first b.first.value refl ∙ ap (λ (s : Option (Box Stmt Global)). chosen_tree e (Both (Inside (words.Symbol sym.Then) (stmt_tree b.first.value)) (second_tree s))) (flip is)
+tree-one_branch e b is = tree-If e b.first b.first.value refl ∙ ap (λ (s : Option (Box Stmt Global)). chosen_tree e (Pair (Deeper (words.Symbol sym.Then) (stmt_tree b.first.value)) (second_tree s))) (flip is)
 
 pub tree-two_branches : (e : Expr) (b : Branches) (t : Box Stmt Global) → b.second ≡ Some t → stmt_tree (stmts.IfElse e b.first t) ≡ chosen_tree e (branches_tree b)
-tree-two_branches e b t is = tree-IfElse e b.first t b.first.value t.value refl refl ∙ ap (λ (s : Option (Box Stmt Global)). chosen_tree e (Both (Inside (words.Symbol sym.Then) (stmt_tree b.first.value)) (second_tree s))) (flip is)
+tree-two_branches e b t is = tree-IfElse e b.first t b.first.value t.value refl refl ∙ ap (λ (s : Option (Box Stmt Global)). chosen_tree e (Pair (Deeper (words.Symbol sym.Then) (stmt_tree b.first.value)) (second_tree s))) (flip is)
 
-arms_by : (g : Arm Stmt → Arm Tree) → ((a : Arm Stmt) → seen_arm (g a) ≡ arm_of a) → (arms : List (Arm Stmt)) → map seen_arm (map g arms) ≡ arms_of arms
+arms_by : (g : Arm Stmt → Arm ParseTree) → ((a : Arm Stmt) → seen_arm (g a) ≡ arm_of a) → (arms : List (Arm Stmt)) → map seen_arm (map g arms) ≡ arms_of arms
 arms_by g same [] = refl
 arms_by g same (a ∷ arms) = rw (same a, arms_by g same arms) refl
 
-case_step : (at : ℕ) (e : Expr) (arms : Vec (Arm Stmt) Global) (o : Option (Vec Stmt Global)) → stmt_step (map-Stmt Stmt Tree (fold-Stmt Tree stmt_step) (Stmt-F.Case at e arms o)) ≡ case_tree at e (Both (arms_row (arms_of arms.items)) (otherwise_tree (otherwise_of o)))
-case_step at e arms None = ap (λ (r : List ArmParts). case_tree at e (Both (arms_row r) (Second Blank))) (arms_by _ (λ a. refl) arms.items)
-case_step at e arms (Some v) = ap (λ (r : List ArmParts). case_tree at e (Both (arms_row r) (otherwise_tree (Some (map stmt_tree v.items))))) (arms_by _ (λ a. refl) arms.items)
+case_step : (at : ℕ) (e : Expr) (arms : Vec (Arm Stmt) Global) (o : Option (Vec Stmt Global)) → stmt_step (map-Stmt Stmt ParseTree (fold-Stmt ParseTree stmt_step) (Stmt-F.Case at e arms o)) ≡ case_tree at e (Pair (arms_row (arms_of arms.items)) (otherwise_tree (otherwise_of o)))
+case_step at e arms None = ap (λ (r : List ArmParts). case_tree at e (Pair (arms_row r) (Right NoWords))) (arms_by _ (λ a. refl) arms.items)
+case_step at e arms (Some v) = ap (λ (r : List ArmParts). case_tree at e (Pair (arms_row r) (otherwise_tree (Some (map stmt_tree v.items))))) (arms_by _ (λ a. refl) arms.items)
 
-pub tree-Case : (at : ℕ) (e : Expr) (arms : Vec (Arm Stmt) Global) (o : Option (Vec Stmt Global)) → stmt_tree (stmts.Case at e arms o) ≡ case_tree at e (Both (arms_row (arms_of arms.items)) (otherwise_tree (otherwise_of o)))
+pub tree-Case : (at : ℕ) (e : Expr) (arms : Vec (Arm Stmt) Global) (o : Option (Vec Stmt Global)) → stmt_tree (stmts.Case at e arms o) ≡ case_tree at e (Pair (arms_row (arms_of arms.items)) (otherwise_tree (otherwise_of o)))
 tree-Case at e arms o = search (rules, the_lemmas, case_step)
 
 pub tree-For : (at : ℕ) (v : VariableType) (n : Name) (e : Expr) (s : Box Stmt Global) (x : Stmt) → s.value ≡ x → stmt_tree (stmts.For at v n e s) ≡ for_tree at v n e (stmt_tree x)
@@ -74,15 +74,15 @@ tree-Return at e = search (rules, the_lemmas)
 pub tree-Print : (v : Vec Expr Global) → stmt_tree (stmts.Print v) ≡ print_tree sym.Print v.items
 tree-Print v = search (rules, the_lemmas)
 
-pub tree-PrintPart : (v : Vec Expr Global) → stmt_tree (stmts.PrintPart v) ≡ print_tree sym.Printn v.items
-tree-PrintPart v = search (rules, the_lemmas)
+pub tree-Printn : (v : Vec Expr Global) → stmt_tree (stmts.Printn v) ≡ print_tree sym.Printn v.items
+tree-Printn v = search (rules, the_lemmas)
 
 pub tree-Call : (n : Name) (at : ℕ) (v : Vec Expr Global) → stmt_tree (stmts.Call n at v) ≡ call_tree n at v.items
 tree-Call n at v = search (rules, the_lemmas)
 
-row_more : (t : Tree) (ss : List Stmt) (s : Stmt) → row_after t (map stmt_tree (ss ++ s ∷ [])) ≡ More (row_after t (map stmt_tree ss)) (stmt_tree s)
+row_more : (t : ParseTree) (ss : List Stmt) (s : Stmt) → row_after t (map stmt_tree (ss ++ s ∷ [])) ≡ Snoc (row_after t (map stmt_tree ss)) (stmt_tree s)
 row_more t [] s = refl
-row_more t (r ∷ ss) s = row_more (More t (stmt_tree r)) ss s
+row_more t (r ∷ ss) s = row_more (Snoc t (stmt_tree r)) ss s
 
-pub one_more_stmt : (ss : List Stmt) (s : Stmt) → stmts_tree (ss ++ s ∷ []) ≡ More (stmts_tree ss) (stmt_tree s)
-one_more_stmt ss s = row_more (Start Blank) ss s
+pub one_more_stmt : (ss : List Stmt) (s : Stmt) → stmts_tree (ss ++ s ∷ []) ≡ Snoc (stmts_tree ss) (stmt_tree s)
+one_more_stmt ss s = row_more (Single NoWords) ss s

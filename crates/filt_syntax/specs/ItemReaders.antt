@@ -1,8 +1,10 @@
 -- Reading each form of an item, where k more levels may be opened.
 use Rattle.std.specs.Prelude.{ℕ}
-use Rattle.grammar.specs.Grammar.{Tree, starts}
+use Rattle.grammar.specs.Grammar.{ParseTree, first_set}
 use Rattle.grammar.specs.Reading.{Reader, all_turns, read}
-use Rattle.filt_syntax.specs.Syntax.{optional, many, part, pair_part, lengths, item, mask_atom, mask_item, label_end, label, set_level, pair_level, lengths_level, rule}
+use Rattle.filt_syntax.specs.Syntax.{optional, many, part, pair_part, lengths, item, mask_atom}
+use Rattle.filt_syntax.specs.Syntax.{mask_item, label_end, label, rule}
+use Rattle.filt_syntax.specs.Levels.{set_level, pair_level, lengths_level}
 
 unfoldable pub part_at : ℕ → Reader
 part_at k = read rule k part
@@ -47,5 +49,5 @@ unfoldable pub label_at : ℕ → Reader
 label_at k = read rule k label
 
 -- elements of a mask after a tree
-unfoldable pub mask_row_at : Tree → Reader
-mask_row_at = all_turns (starts mask_item) (mask_item_at 0)
+unfoldable pub mask_row_at : ParseTree → Reader
+mask_row_at = all_turns (first_set mask_item) (mask_item_at 0)

@@ -1,3 +1,5 @@
+pub mod Finds
+pub mod Levels
 pub mod Syntax
 pub mod ItemView
 pub mod ItemReaders

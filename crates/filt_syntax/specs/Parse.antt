@@ -1,26 +1,31 @@
 -- What stands at a place of the words, within 64 levels, or which word can't stand there.
 use Rattle.std.specs.Prelude.{◌≡◌, ℕ, ◌-◌, ◌≤◌, ◌⊎◌, List, [], length, drop, Result, Ok, Err}
 use Rattle.conf_lex.specs.declared.word.Word.{Word}
-use Rattle.grammar.specs.Grammar.{Form, Tree}
+use Rattle.grammar.specs.Grammar.{ParseTree}
 use Rattle.grammar.specs.declared.refusal.Refusal.{Refusal}
 use Rattle.grammar.specs.declared.refusal.Refusal.TheVariants as refusals
-use Rattle.grammar.specs.Sentences.{IsRead, IsBad, IsTooDeep, IsUnsupported}
+use Rattle.grammar.specs.Sentences.{IsRead, IsBad, IsTooDeep}
 use Rattle.filt_syntax.specs.declared.parse.SyntaxFault.{SyntaxFault}
 use Rattle.filt_syntax.specs.declared.parse.SyntaxFault.TheVariants as faults
 use Rattle.filt_syntax.specs.Syntax.{rule}
+use Rattle.filt_syntax.specs.Levels.{Form}
 
 -- the longest sentence of the form from one place on has this tree, and ends before the other place
-abbrev pub Stands : Form → List Word → ℕ → Tree → ℕ → Type 0
-Stands f words from t end = (end ≤ length words) × IsRead rule 64 f (drop from words) t (drop end words)
+abbrev pub ParsesAt : Form → List Word → ℕ → ParseTree → ℕ → Type 0
+ParsesAt f words from t end =
+    (end ≤ length words) × IsRead rule 64 f (drop from words) t (drop end words)
 
 abbrev pub IsRefused : Form → List Word → ℕ → SyntaxFault → Type 0
-IsRefused f words from (faults.Bad at) = (at ≤ length words) × IsBad rule 64 f (drop from words) (drop at words)
-IsRefused f words from (faults.TooDeep at) = (at ≤ length words) × IsTooDeep rule 64 f (drop from words) (drop at words)
-IsRefused f words from (faults.Unsupported at) = (at ≤ length words) × IsUnsupported rule 64 f (drop from words) (drop at words)
+IsRefused f words from (faults.Bad at) =
+    (at ≤ length words) × IsBad rule 64 f (drop from words) (drop at words)
+IsRefused f words from (faults.TooDeep at) =
+    (at ≤ length words) × IsTooDeep rule 64 f (drop from words) (drop at words)
+IsRefused f words from (faults.Unsupported at) = ⊥
 IsRefused f words from faults.Memory = Unit {0}
 
 -- the answer is this tree and this place, unless memory ran out
-abbrev pub IsAnswer : {X : Type 0} → (X → Tree) → Result (X × ℕ) SyntaxFault → Tree → ℕ → Type 0
+abbrev pub IsAnswer : {X : Type 0} → (X → ParseTree) → Result (X × ℕ) SyntaxFault → ParseTree → ℕ
+    → Type 0
 IsAnswer view (Ok found) t end = (view found.0 ≡ t) × (found.1 ≡ end)
 IsAnswer view (Err e) t end = e ≡ faults.Memory
 
@@ -35,11 +40,9 @@ abbrev pub refused_words : Refusal → List Word
 refused_words refusals.Memory = []
 refused_words (refusals.Bad rest) = rest.now
 refused_words (refusals.TooDeep rest) = rest.now
-refused_words (refusals.Unsupported rest) = rest.now
 
 -- the same refusal among so many words, by the place of the refused one
 abbrev pub fault_of : ℕ → Refusal → SyntaxFault
 fault_of n refusals.Memory = faults.Memory
 fault_of n (refusals.Bad rest) = faults.Bad (n - length rest.now)
 fault_of n (refusals.TooDeep rest) = faults.TooDeep (n - length rest.now)
-fault_of n (refusals.Unsupported rest) = faults.Unsupported (n - length rest.now)

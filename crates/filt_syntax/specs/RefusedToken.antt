@@ -9,9 +9,10 @@ use Rattle.conf_lex.specs.declared.symbol.Symbol.TheVariants as sym
 use Rattle.conf_lex.specs.declared.word.Word.{Word}
 use Rattle.conf_lex.specs.declared.word.Word.TheVariants as words
 use Rattle.grammar.specs.Kind.{symbol}
-use Rattle.grammar.specs.Grammar.{Form, begins}
+use Rattle.grammar.specs.Grammar.{begins}
 use Rattle.grammar.specs.Sentences.{IsBegun}
 use Rattle.filt_syntax.specs.Syntax.{rule}
+use Rattle.filt_syntax.specs.Levels.{Form}
 use Rattle.filt_syntax.specs.declared.parse.SyntaxFault.{SyntaxFault}
 use Rattle.filt_syntax.specs.declared.parse.SyntaxFault.TheVariants as faults
 use Rattle.filt_syntax.specs.declared.refused_token.Torn.{Torn}

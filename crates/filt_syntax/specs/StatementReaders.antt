@@ -1,5 +1,6 @@
 -- Reading each form of a statement, where k more levels may be opened.
-use Rattle.std.specs.Prelude.{◌≡◌, ℕ, Bool, true, false, ◌||◌, ◌<◌, ◌≤◌, List, [], ◌∷◌, length, map, Option, Result, Ok, Err, Vec}
+use Rattle.std.specs.Prelude.{◌≡◌, ℕ, Bool, true, ◌||◌, ◌<◌, ◌≤◌, List, ◌∷◌, length, map, Option}
+use Rattle.std.specs.Prelude.{Result, Ok, Err, Vec}
 use Rattle.std.specs.Global.{Global}
 use Rattle.std.specs.Borrow.{Bor}
 use Rattle.conf_lex.specs.declared.symbol.Symbol.TheVariants as sym
@@ -7,17 +8,21 @@ use Rattle.conf_lex.specs.declared.word.Word.{Word}
 use Rattle.conf_lex.specs.declared.word.Word.TheVariants as words
 use Rattle.grammar.specs.declared.named.Name.{Name}
 use Rattle.grammar.specs.Kind.{Kind, kind_of, number, prefix, symbol}
-use Rattle.grammar.specs.Grammar.{Form, One, Seq, Either, Nest, Tree, Leaf, Both, First, Second, Inside, starts, begins}
-use Rattle.grammar.specs.Shapes.{name_leaf, between}
-use Rattle.grammar.specs.Gives.{Fails, Gives}
+use Rattle.grammar.specs.Grammar.{Terminal, Seq, Alt, Nested, ParseTree, Pair, Left, Right, Deeper}
+use Rattle.grammar.specs.Grammar.{first_set}
+use Rattle.grammar.specs.Grammar.{begins}
+use Rattle.grammar.specs.Shapes.{name_leaf}
+use Rattle.grammar.specs.Agrees.{AgreesOnError, Agrees}
 use Rattle.grammar.specs.declared.refusal.Refusal.{Refusal}
-use Rattle.filt_syntax.specs.declared.tree.Arm.{Arm}
-use Rattle.filt_syntax.specs.declared.tree.Stmt.{Stmt}
+use Rattle.filt_syntax.specs.declared.ast.Arm.{Arm}
+use Rattle.filt_syntax.specs.declared.ast.Stmt.{Stmt}
 use Rattle.filt_syntax.specs.ItemView.{label_tree}
-use Rattle.filt_syntax.specs.StatementView.{nth, stmt_tree, body_after, otherwise_tree, otherwise_of}
-use Rattle.grammar.specs.Reading.{Reader, Got, and_then, word, both, all_turns, read}
-use Rattle.filt_syntax.specs.Syntax.{optional, listed, many, expr, block, vtype, method, semicolon, declaration, stmt, unnamed_stmt, done_to_name, arm_part, arms, body_level, arms_level, rule}
-use Rattle.filt_syntax.specs.Readers.{expr_at}
+use Rattle.filt_syntax.specs.StatementView.{nth, case_arms, stmt_tree, body_after, otherwise_of}
+use Rattle.grammar.specs.Reading.{Reader, Parsed, and_then, word, both, all_turns, read}
+use Rattle.filt_syntax.specs.Syntax.{braces, optional, listed, many, expr, block, vtype, method}
+use Rattle.filt_syntax.specs.Syntax.{semicolon, declaration, stmt, unnamed_stmt, done_to_name}
+use Rattle.filt_syntax.specs.Syntax.{arm_part, arms, rule}
+use Rattle.filt_syntax.specs.Levels.{body_level, arms_level}
 use Rattle.filt_syntax.specs.ItemReaders.{label_at}
 
 unfoldable pub stmt_at : ℕ → Reader
@@ -32,26 +37,24 @@ done_at k = read rule k done_to_name
 
 -- a statement that this name begins, by the words after it
 unfoldable pub of_name_at : ℕ → Name → Reader
-of_name_at k n ws = and_then (done_at k ws) (λ d rest. Got (First (Both (name_leaf n) d)) rest)
+of_name_at k n ws = and_then (done_at k ws) (λ d rest. Parsed (Left (Pair (name_leaf n) d)) rest)
 
 unfoldable pub vtype_at : ℕ → Reader
 vtype_at k = read rule k vtype
 
 -- "set", or nothing
-unfoldable pub set_at : ℕ → Reader
-set_at k = read rule k (optional (One (symbol sym.Set)))
-
 -- what stands behind the dot of a statement
 unfoldable pub change_at : ℕ → Reader
-change_at k = read rule k (Seq (Either (One (symbol sym.Empty)) method) semicolon)
+change_at k = read rule k (Seq (Alt (Terminal (symbol sym.Empty)) method) semicolon)
 
 -- a declaration, as a statement
 unfoldable pub declaration_at : ℕ → Reader
-declaration_at k ws = and_then (read rule k declaration ws) (λ t rest. Got (Second (nth 2 t)) rest)
+declaration_at k ws =
+    and_then (read rule k declaration ws) (λ t rest. Parsed (Right (nth 2 t)) rest)
 
 -- "=" and an expression, or nothing
 unfoldable pub initial_at : ℕ → Reader
-initial_at k = read rule k (optional (Seq (One (symbol sym.Equal)) expr))
+initial_at k = read rule k (optional (Seq (Terminal (symbol sym.Equal)) expr))
 
 -- an expression, or nothing
 unfoldable pub result_at : ℕ → Reader
@@ -68,23 +71,23 @@ unfoldable pub stmts_at : ℕ → Reader
 stmts_at k = read rule k (many stmt)
 
 -- statements after a tree
-unfoldable pub row_at : ℕ → Tree → Reader
-row_at k = all_turns (starts stmt) (stmt_at k)
+unfoldable pub row_at : ℕ → ParseTree → Reader
+row_at k = all_turns (first_set stmt) (stmt_at k)
 
 unfoldable pub else_at : ℕ → Reader
-else_at k = read rule k (optional (Nest (symbol sym.Else) body_level))
+else_at k = read rule k (optional (Nested (symbol sym.Else) body_level))
 
 -- what stands behind the condition of an `if`
 unfoldable pub branches_at : ℕ → Reader
-branches_at k = both (read rule k (Nest (symbol sym.Then) body_level)) (else_at k)
+branches_at k = both (read rule k (Nested (symbol sym.Then) body_level)) (else_at k)
 
 -- what stands behind the list of a `for`
 unfoldable pub run_at : ℕ → Reader
-run_at k = read rule k (Nest (symbol sym.Do) body_level)
+run_at k = read rule k (Nested (symbol sym.Do) body_level)
 
 -- what stands behind the value of a `case`
 unfoldable pub braced_at : ℕ → Reader
-braced_at k = read rule k (Seq (Nest (symbol sym.OpenBrace) arms_level) (One (symbol sym.CloseBrace)))
+braced_at k = read rule k (braces arms_level)
 
 -- ---- the arms of a `case`
 
@@ -94,22 +97,24 @@ arm_part_at k = read rule k arm_part
 unfoldable pub arms_at : ℕ → Reader
 arms_at k = read rule k arms
 
-unfoldable pub arm_row_at : ℕ → Tree → Reader
-arm_row_at k = all_turns (starts arm_part) (arm_part_at k)
+unfoldable pub arm_row_at : ℕ → ParseTree → Reader
+arm_row_at k = all_turns (first_set arm_part) (arm_part_at k)
 
 unfoldable pub otherwise_at : ℕ → Reader
-otherwise_at k = read rule k (optional (Seq (One (symbol sym.ElseColon)) (many stmt)))
+otherwise_at k = read rule k (optional (Seq (Terminal (symbol sym.ElseColon)) (many stmt)))
 
 -- behind the arms: the statements of "else:", and the closing brace
-unfoldable pub arms_end_at : ℕ → Tree → Reader
-arms_end_at k row ws = and_then (otherwise_at k ws) (λ o rest. and_then (word (symbol sym.CloseBrace) rest) (λ c end. Got (Both (Inside (words.Symbol sym.OpenBrace) (Both row o)) c) end))
+unfoldable pub arms_end_at : ℕ → ParseTree → Reader
+arms_end_at k row ws = and_then (otherwise_at k ws) (λ o rest.
+    and_then (word (symbol sym.CloseBrace) rest) (λ c end.
+    Parsed (Pair (Deeper (words.Symbol sym.OpenBrace) (Pair row o)) c) end))
 
 -- behind some of the arms: the rest of them and what follows them
-unfoldable pub more_arms_at : ℕ → Tree → Reader
-more_arms_at k t ws = and_then (arm_row_at k t ws) (λ row rest. arms_end_at k (First row) rest)
+unfoldable pub more_arms_at : ℕ → ParseTree → Reader
+more_arms_at k t ws = and_then (arm_row_at k t ws) (λ row rest. arms_end_at k (Left row) rest)
 
 -- the same, where a label comes next: what it makes of the row so far
-unfoldable pub labelled_at : ℕ → (Tree → Tree) → Reader
+unfoldable pub labelled_at : ℕ → (ParseTree → ParseTree) → Reader
 labelled_at k row_with ws = and_then (label_at k ws) (λ l rest. more_arms_at k (row_with l) rest)
 
 -- what goes on with a name as a label
@@ -135,14 +140,24 @@ arm_ends ws = label_next ws || arms_over ws
 
 -- an arm was read, which has a word, and behind whatever arms
 abbrev pub ArmGives : Result (Arm Stmt × Bor (List Word)) Refusal → ℕ → List Word → Type 0
-ArmGives (Ok found) k ws = (arm_ends found.1.now ≡ true) × (length found.1.now < length ws) × ((row_with : Tree → Tree) → labelled_at k row_with ws ≡ more_arms_at k (body_after (row_with (label_tree found.0.labels.items)) (map stmt_tree found.0.body.items)) found.1.now)
-ArmGives (Err e) k ws = (row_with : Tree → Tree) → Fails e (labelled_at k row_with ws)
+ArmGives (Ok found) k ws =
+    (arm_ends found.1.now ≡ true) × (length found.1.now < length ws)
+    × ((row_with : ParseTree → ParseTree) → labelled_at k row_with ws ≡
+    more_arms_at k (body_after (row_with (label_tree found.0.labels.items))
+    (map stmt_tree found.0.body.items)) found.1.now)
+ArmGives (Err e) k ws =
+    (row_with : ParseTree → ParseTree) → AgreesOnError e (labelled_at k row_with ws)
 
 -- the statements of an arm were read, behind whatever row
 abbrev pub BodyGives : Result (Vec Stmt Global × Bor (List Word)) Refusal → ℕ → List Word → Type 0
-BodyGives (Ok found) k ws = (arm_ends found.1.now ≡ true) × (length found.1.now ≤ length ws) × ((t : Tree) → more_arms_at k t ws ≡ more_arms_at k (body_after t (map stmt_tree found.0.items)) found.1.now)
-BodyGives (Err e) k ws = (t : Tree) → Fails e (more_arms_at k t ws)
+BodyGives (Ok found) k ws =
+    (arm_ends found.1.now ≡ true) × (length found.1.now ≤ length ws)
+    × ((t : ParseTree) → more_arms_at k t ws ≡
+    more_arms_at k (body_after t (map stmt_tree found.0.items)) found.1.now)
+BodyGives (Err e) k ws = (t : ParseTree) → AgreesOnError e (more_arms_at k t ws)
 
 -- what stands behind the arms was read, behind whatever arms
-abbrev pub OtherwiseGives : Result (Option (Vec Stmt Global) × Bor (List Word)) Refusal → ℕ → List Word → Type 0
-OtherwiseGives result k ws = (row : Tree) → Gives (λ o. between (words.Symbol sym.OpenBrace) (Both row (otherwise_tree (otherwise_of o))) sym.CloseBrace) result (arms_end_at k row ws)
+abbrev pub OtherwiseGives : Result (Option (Vec Stmt Global) × Bor (List Word)) Refusal → ℕ
+    → List Word → Type 0
+OtherwiseGives result k ws =
+    (row : ParseTree) → Agrees (λ o. case_arms row (otherwise_of o)) result (arms_end_at k row ws)

@@ -4,46 +4,46 @@ use Rattle.std.specs.Global.{Global}
 use Rattle.std.proofs.Common.{zero, suc}
 use Rattle.conf_lex.specs.declared.symbol.Symbol.{Symbol}
 use Rattle.conf_lex.specs.declared.symbol.Symbol.TheVariants as sym
-use Rattle.conf_lex.specs.declared.word.Word.{Word}
 use Rattle.conf_lex.specs.declared.word.Word.TheVariants as words
 use Rattle.grammar.specs.declared.named.Name.{Name}
-use Rattle.grammar.specs.Grammar.{Tree, Leaf, Blank, Both, First, Second, Start, More, Inside}
+use Rattle.grammar.specs.Grammar.{ParseTree, Leaf, NoWords, Pair, Left, Right, Single, Snoc, Deeper}
 use Rattle.grammar.specs.Shapes.{symbol_leaf, name_leaf, between}
-use Rattle.filt_syntax.specs.declared.tree.Attribute.{Attribute}
-use Rattle.filt_syntax.specs.declared.tree.Expr.{Expr}
-use Rattle.filt_syntax.specs.declared.tree.VariableType.{VariableType}
-use Rattle.filt_syntax.specs.declared.tree.VariableType.TheVariants as types
-use Rattle.filt_syntax.specs.declared.tree.Target.{Target}
-use Rattle.filt_syntax.specs.declared.tree.Target.TheVariants as targets
-use Rattle.filt_syntax.specs.declared.tree.Change.{Change}
-use Rattle.filt_syntax.specs.declared.tree.Change.TheVariants as changes
-use Rattle.filt_syntax.specs.declared.tree.Arm.{Arm}
-use Rattle.filt_syntax.specs.declared.tree.Block.{Block}
-use Rattle.filt_syntax.specs.declared.tree.Item.{Item}
+use Rattle.filt_syntax.specs.declared.ast.Attribute.{Attribute}
+use Rattle.filt_syntax.specs.declared.ast.Expr.{Expr}
+use Rattle.filt_syntax.specs.declared.ast.VariableType.{VariableType}
+use Rattle.filt_syntax.specs.declared.ast.VariableType.TheVariants as types
+use Rattle.filt_syntax.specs.declared.ast.Target.{Target}
+use Rattle.filt_syntax.specs.declared.ast.Target.TheVariants as targets
+use Rattle.filt_syntax.specs.declared.ast.Change.{Change}
+use Rattle.filt_syntax.specs.declared.ast.Change.TheVariants as changes
+use Rattle.filt_syntax.specs.declared.ast.Arm.{Arm}
+use Rattle.filt_syntax.specs.declared.ast.Block.{Block}
+use Rattle.filt_syntax.specs.declared.ast.Item.{Item}
 use Rattle.filt_syntax.specs.declared.variable_type.Member.{Member}
 use Rattle.filt_syntax.specs.declared.variable_type.Member.TheVariants as members
 use Rattle.filt_syntax.specs.declared.statement.Branches.{Branches}
-use Rattle.filt_syntax.specs.declared.tree.Stmt.{Stmt, fold-Stmt}
-use Rattle.filt_syntax.specs.declared.tree.Stmt.TheOpen.{Stmt-F}
+use Rattle.filt_syntax.specs.declared.ast.Stmt.{Stmt, fold-Stmt}
+use Rattle.filt_syntax.specs.declared.ast.Stmt.TheOpen.{Stmt-F}
 use Rattle.filt_syntax.specs.ItemView.{label_tree}
-use Rattle.filt_syntax.specs.View.{sight, attribute_word, in_parentheses, method_tree, arguments_tree, listed_tree, expr_trees}
+use Rattle.filt_syntax.specs.View.{derivations, attribute_word, in_parentheses, method_tree}
+use Rattle.filt_syntax.specs.View.{arguments_tree, listed_tree, expr_trees}
 
-abbrev pub semicolon_leaf : Tree
+abbrev pub semicolon_leaf : ParseTree
 semicolon_leaf = symbol_leaf sym.Semicolon
 
 -- ---- types
 
-abbrev pub plain_type : Symbol → Tree
-plain_type s = First (symbol_leaf s)
+abbrev pub plain_type : Symbol → ParseTree
+plain_type s = Left (symbol_leaf s)
 
 -- a type of which there are sets, and the type of its sets
-abbrev pub member_type : Symbol → Tree
-member_type s = Second (Both (symbol_leaf s) (Second Blank))
+abbrev pub member_type : Symbol → ParseTree
+member_type s = Right (Pair (symbol_leaf s) (Right NoWords))
 
-abbrev pub set_type : Symbol → Tree
-set_type s = Second (Both (symbol_leaf s) (First (symbol_leaf sym.Set)))
+abbrev pub set_type : Symbol → ParseTree
+set_type s = Right (Pair (symbol_leaf s) (Left (symbol_leaf sym.Set)))
 
-abbrev pub type_tree : VariableType → Tree
+abbrev pub type_tree : VariableType → ParseTree
 type_tree types.Int = member_type sym.Int
 type_tree types.Bool = plain_type sym.Bool
 type_tree types.Ip = plain_type sym.Ip
@@ -65,151 +65,160 @@ member_symbol members.Prefix = sym.Prefix
 -- ---- parts of statements
 
 -- an expression and a semicolon
-abbrev pub ended : Expr → Tree
-ended e = Both (sight e).expr semicolon_leaf
+abbrev pub ended : Expr → ParseTree
+ended e = Pair (derivations e).expr semicolon_leaf
 
-abbrev pub assigned_tree : Expr → Tree
-assigned_tree e = Both (symbol_leaf sym.Equal) (ended e)
+abbrev pub assigned_tree : Expr → ParseTree
+assigned_tree e = Pair (symbol_leaf sym.Equal) (ended e)
 
-abbrev pub change_tree : Change → Tree
-change_tree changes.Empty = First (symbol_leaf sym.Empty)
-change_tree (changes.Method m place e) = Second (method_tree m place (sight e).expr)
+abbrev pub change_tree : Change → ParseTree
+change_tree changes.Empty = Left (symbol_leaf sym.Empty)
+change_tree (changes.Method m place e) = Right (method_tree m place (derivations e).expr)
 
-abbrev pub changed_tree : Change → Tree
-changed_tree c = Both (symbol_leaf sym.Dot) (Both (change_tree c) semicolon_leaf)
+abbrev pub changed_tree : Change → ParseTree
+changed_tree c = Pair (symbol_leaf sym.Dot) (Pair (change_tree c) semicolon_leaf)
 
 -- "=" and an expression, or neither
-abbrev pub initial_tree : Option Expr → Tree
-initial_tree None = Second Blank
-initial_tree (Some e) = First (Both (symbol_leaf sym.Equal) (sight e).expr)
+abbrev pub initial_tree : Option Expr → ParseTree
+initial_tree None = Right NoWords
+initial_tree (Some e) = Left (Pair (symbol_leaf sym.Equal) (derivations e).expr)
 
-abbrev pub result_tree : Option Expr → Tree
-result_tree None = Second Blank
-result_tree (Some e) = First (sight e).expr
+abbrev pub result_tree : Option Expr → ParseTree
+result_tree None = Right NoWords
+result_tree (Some e) = Left (derivations e).expr
 
 -- a choice of several, one after another: the first, or one of those behind it
-abbrev pub nth : ℕ → Tree → Tree
-nth zero t = First t
-nth (suc n) t = Second (nth n t)
+abbrev pub nth : ℕ → ParseTree → ParseTree
+nth zero t = Left t
+nth (suc n) t = Right (nth n t)
 
 -- the last of them
-abbrev pub beyond : ℕ → Tree → Tree
+abbrev pub beyond : ℕ → ParseTree → ParseTree
 beyond zero t = t
-beyond (suc n) t = Second (beyond n t)
+beyond (suc n) t = Right (beyond n t)
 
 -- ---- the kinds of statements, in the order of the grammar's line
 
-abbrev pub of_name : Name → Tree → Tree
-of_name n done = First (Both (name_leaf n) done)
+abbrev pub of_name : Name → ParseTree → ParseTree
+of_name n done = Left (Pair (name_leaf n) done)
 
-abbrev pub block_tree : Tree → Tree
-block_tree body = Second (nth 0 (between (words.Symbol sym.OpenBrace) body sym.CloseBrace))
+abbrev pub block_tree : ParseTree → ParseTree
+block_tree body = Right (nth 0 (between (words.Symbol sym.OpenBrace) body sym.CloseBrace))
 
-abbrev pub empty_tree : Tree
-empty_tree = Second (nth 1 semicolon_leaf)
+abbrev pub empty_tree : ParseTree
+empty_tree = Right (nth 1 semicolon_leaf)
 
-abbrev pub declare_tree : VariableType → Name → Option Expr → Tree
-declare_tree v n e = Second (nth 2 (Both (type_tree v) (Both (name_leaf n) (Both (initial_tree e) semicolon_leaf))))
+abbrev pub declare_tree : VariableType → Name → Option Expr → ParseTree
+declare_tree v n e =
+    Right (nth 2 (Pair (type_tree v) (Pair (name_leaf n) (Pair (initial_tree e) semicolon_leaf))))
 
-abbrev pub of_attribute_tree : ℕ → Attribute → Tree → Tree
-of_attribute_tree at a done = Second (nth 3 (Both (Leaf (attribute_word at a)) done))
+abbrev pub of_attribute_tree : ℕ → Attribute → ParseTree → ParseTree
+of_attribute_tree at a done = Right (nth 3 (Pair (Leaf (attribute_word at a)) done))
 
-abbrev pub assign_tree : Target → Expr → Tree
-assign_tree (targets.Name n) e = of_name n (First (assigned_tree e))
-assign_tree (targets.Attribute at a) e = of_attribute_tree at a (First (assigned_tree e))
+abbrev pub assign_tree : Target → Expr → ParseTree
+assign_tree (targets.Name n) e = of_name n (Left (assigned_tree e))
+assign_tree (targets.Attribute at a) e = of_attribute_tree at a (Left (assigned_tree e))
 
-abbrev pub change_stmt_tree : Target → Change → Tree
-change_stmt_tree (targets.Name n) c = of_name n (Second (First (changed_tree c)))
-change_stmt_tree (targets.Attribute at a) c = of_attribute_tree at a (Second (changed_tree c))
+abbrev pub change_stmt_tree : Target → Change → ParseTree
+change_stmt_tree (targets.Name n) c = of_name n (Right (Left (changed_tree c)))
+change_stmt_tree (targets.Attribute at a) c = of_attribute_tree at a (Right (changed_tree c))
 
-abbrev pub call_tree : Name → ℕ → List Expr → Tree
+abbrev pub call_tree : Name → ℕ → List Expr → ParseTree
 call_tree n place es =
-    of_name n (Second (Second (Both (in_parentheses place (arguments_tree (expr_trees es))) semicolon_leaf)))
+    of_name n (Right (Right (Pair (in_parentheses place (arguments_tree (expr_trees es)))
+    semicolon_leaf)))
 
-abbrev pub unset_tree : ℕ → ℕ → Attribute → Tree
-unset_tree place at a = Second (nth 4 (Both (symbol_leaf sym.Unset)
-    (Both (in_parentheses place (Leaf (attribute_word at a))) semicolon_leaf)))
+abbrev pub unset_tree : ℕ → ℕ → Attribute → ParseTree
+unset_tree place at a = Right (nth 4 (Pair (symbol_leaf sym.Unset)
+    (Pair (in_parentheses place (Leaf (attribute_word at a))) semicolon_leaf)))
 
 -- the condition, and the branches
-abbrev pub chosen_tree : Expr → Tree → Tree
-chosen_tree e both = Second (nth 5 (Both (Both (symbol_leaf sym.If) (sight e).expr) both))
+abbrev pub chosen_tree : Expr → ParseTree → ParseTree
+chosen_tree e both = Right (nth 5 (Pair (Pair (symbol_leaf sym.If) (derivations e).expr) both))
 
 -- the condition, the first branch, and what stands in the place of the second
-abbrev pub choice_tree : Expr → Tree → Tree → Tree
-choice_tree e first second = chosen_tree e (Both (Inside (words.Symbol sym.Then) first) second)
+abbrev pub if_tree : Expr → ParseTree → ParseTree → ParseTree
+if_tree e first second = chosen_tree e (Pair (Deeper (words.Symbol sym.Then) first) second)
 
-abbrev pub else_tree : Tree → Tree
-else_tree s = First (Inside (words.Symbol sym.Else) s)
+abbrev pub else_tree : ParseTree → ParseTree
+else_tree s = Left (Deeper (words.Symbol sym.Else) s)
 
-abbrev pub case_tree : ℕ → Expr → Tree → Tree
-case_tree at e arms = Second (nth 6 (Both (Both (Leaf (words.Placed at sym.Case)) (sight e).expr) (between (words.Symbol sym.OpenBrace) arms sym.CloseBrace)))
+abbrev pub case_tree : ℕ → Expr → ParseTree → ParseTree
+case_tree at e arms =
+    Right (nth 6 (Pair (Pair (Leaf (words.Placed at sym.Case)) (derivations e).expr)
+    (between (words.Symbol sym.OpenBrace) arms sym.CloseBrace)))
 
-abbrev pub for_tree : ℕ → VariableType → Name → Expr → Tree → Tree
-for_tree at v n e body = Second (nth 7 (Both (Leaf (words.Placed at sym.For)) (Both (type_tree v) (Both (name_leaf n) (Both (Both (symbol_leaf sym.In) (sight e).expr) (Inside (words.Symbol sym.Do) body))))))
+abbrev pub for_tree : ℕ → VariableType → Name → Expr → ParseTree → ParseTree
+for_tree at v n e body =
+    Right (nth 7 (Pair (Leaf (words.Placed at sym.For)) (Pair (type_tree v) (Pair (name_leaf n)
+    (Pair (Pair (symbol_leaf sym.In) (derivations e).expr) (Deeper (words.Symbol sym.Do) body))))))
 
-abbrev pub verdict_tree : Symbol → Tree
-verdict_tree s = Second (nth 8 (Both (symbol_leaf s) semicolon_leaf))
+abbrev pub verdict_tree : Symbol → ParseTree
+verdict_tree s = Right (nth 8 (Pair (symbol_leaf s) semicolon_leaf))
 
-abbrev pub return_tree : ℕ → Option Expr → Tree
-return_tree at e = Second (nth 9 (Both (Leaf (words.Placed at sym.Return)) (Both (result_tree e) semicolon_leaf)))
+abbrev pub return_tree : ℕ → Option Expr → ParseTree
+return_tree at e =
+    Right (nth 9 (Pair (Leaf (words.Placed at sym.Return)) (Pair (result_tree e) semicolon_leaf)))
 
-abbrev pub print_tree : Symbol → List Expr → Tree
-print_tree s es = Second (beyond 10 (Both (symbol_leaf s) (Both (listed_tree (expr_trees es)) semicolon_leaf)))
+abbrev pub print_tree : Symbol → List Expr → ParseTree
+print_tree s es =
+    Right (beyond 10 (Pair (symbol_leaf s) (Pair (listed_tree (expr_trees es)) semicolon_leaf)))
 
 -- ---- rows of statements
 
 -- statements after statements
-abbrev pub row_after : Tree → List Tree → Tree
+abbrev pub row_after : ParseTree → List ParseTree → ParseTree
 row_after t [] = t
-row_after t (s ∷ ss) = row_after (More t s) ss
+row_after t (s ∷ ss) = row_after (Snoc t s) ss
 
-abbrev pub row_tree : List Tree → Tree
-row_tree ss = row_after (Start Blank) ss
+abbrev pub row_tree : List ParseTree → ParseTree
+row_tree ss = row_after (Single NoWords) ss
 
 -- ---- the arms of a `case`, which are one row of labels and statements
 
 -- a statement in that row
-abbrev pub as_part : Tree → Tree
-as_part (First (Both n done)) = First (Both n (First done))
-as_part (Second t) = Second (Second t)
+abbrev pub as_part : ParseTree → ParseTree
+as_part (Left (Pair n done)) = Left (Pair n (Left done))
+as_part (Right t) = Right (Right t)
 as_part t = t
 
 -- a label in that row, behind an arm
-abbrev pub as_label : Tree → Tree
-as_label (Both (First (Both (Leaf (words.Name at start len)) high)) end) = First (Both (Leaf (words.Name at start len)) (Second (Both high end)))
-as_label (Both item end) = Second (First (Both item end))
+abbrev pub as_label : ParseTree → ParseTree
+as_label (Pair (Left (Pair (Leaf (words.Name at start len)) high)) end) =
+    Left (Pair (Leaf (words.Name at start len)) (Right (Pair high end)))
+as_label (Pair item end) = Right (Left (Pair item end))
 as_label t = t
 
 -- the statements of an arm after a row
-abbrev pub body_after : Tree → List Tree → Tree
+abbrev pub body_after : ParseTree → List ParseTree → ParseTree
 body_after t [] = t
-body_after t (s ∷ ss) = body_after (More t (as_part s)) ss
+body_after t (s ∷ ss) = body_after (Snoc t (as_part s)) ss
 
 -- an arm: the items of its label, and its statements
 abbrev pub ArmParts : Type 0
-ArmParts = List Item × List Tree
+ArmParts = List Item × List ParseTree
 
 -- more arms after a row
-abbrev pub arms_after : Tree → List ArmParts → Tree
+abbrev pub arms_after : ParseTree → List ArmParts → ParseTree
 arms_after t [] = t
-arms_after t (a ∷ more) = arms_after (body_after (More t (as_label (label_tree a.0))) a.1) more
+arms_after t (a ∷ more) = arms_after (body_after (Snoc t (as_label (label_tree a.0))) a.1) more
 
 -- one or more arms
-abbrev pub arms_chain : ArmParts → List ArmParts → Tree
-arms_chain a more = arms_after (body_after (Start (label_tree a.0)) a.1) more
+abbrev pub arms_chain : ArmParts → List ArmParts → ParseTree
+arms_chain a more = arms_after (body_after (Single (label_tree a.0)) a.1) more
 
 -- any number of arms
-abbrev pub arms_row : List ArmParts → Tree
-arms_row [] = Second Blank
-arms_row (a ∷ more) = First (arms_chain a more)
+abbrev pub arms_row : List ArmParts → ParseTree
+arms_row [] = Right NoWords
+arms_row (a ∷ more) = Left (arms_chain a more)
 
-abbrev pub seen_arm : Arm Tree → ArmParts
+abbrev pub seen_arm : Arm ParseTree → ArmParts
 seen_arm a = (a.labels.items, a.body.items)
 
 -- "else:" and statements, or neither
-abbrev pub otherwise_tree : Option (List Tree) → Tree
-otherwise_tree None = Second Blank
-otherwise_tree (Some ss) = First (Both (symbol_leaf sym.ElseColon) (row_tree ss))
+abbrev pub otherwise_tree : Option (List ParseTree) → ParseTree
+otherwise_tree None = Right NoWords
+otherwise_tree (Some ss) = Left (Pair (symbol_leaf sym.ElseColon) (row_tree ss))
 
 abbrev pub some_items : {A : Type 0} → Option (Vec A Global) → Option (List A)
 some_items None = None
@@ -218,32 +227,34 @@ some_items (Some v) = Some v.items
 -- ---- statements
 
 -- one level, with each statement inside already seen
-abbrev pub stmt_step : Stmt-F Tree → Tree
+abbrev pub stmt_step : Stmt-F ParseTree → ParseTree
 stmt_step (Stmt-F.Block body) = block_tree (row_tree body.items)
 stmt_step Stmt-F.Empty = empty_tree
 stmt_step (Stmt-F.Declare v n e) = declare_tree v n e
 stmt_step (Stmt-F.Assign target e) = assign_tree target e
 stmt_step (Stmt-F.Change target c) = change_stmt_tree target c
 stmt_step (Stmt-F.Unset place at a) = unset_tree place at a
-stmt_step (Stmt-F.If e s) = choice_tree e s.value (Second Blank)
-stmt_step (Stmt-F.IfElse e s t) = choice_tree e s.value (else_tree t.value)
-stmt_step (Stmt-F.Case at e arms otherwise) = case_tree at e (Both (arms_row (map seen_arm arms.items)) (otherwise_tree (some_items otherwise)))
+stmt_step (Stmt-F.If e s) = if_tree e s.value (Right NoWords)
+stmt_step (Stmt-F.IfElse e s t) = if_tree e s.value (else_tree t.value)
+stmt_step (Stmt-F.Case at e arms otherwise) =
+    case_tree at e (Pair (arms_row (map seen_arm arms.items))
+    (otherwise_tree (some_items otherwise)))
 stmt_step (Stmt-F.For at v n e body) = for_tree at v n e body.value
 stmt_step Stmt-F.Accept = verdict_tree sym.Accept
 stmt_step Stmt-F.Reject = verdict_tree sym.Reject
 stmt_step (Stmt-F.Return at e) = return_tree at e
 stmt_step (Stmt-F.Print es) = print_tree sym.Print es.items
-stmt_step (Stmt-F.PrintPart es) = print_tree sym.Printn es.items
+stmt_step (Stmt-F.Printn es) = print_tree sym.Printn es.items
 stmt_step (Stmt-F.Call n place es) = call_tree n place es.items
 
-abbrev pub stmt_tree : Stmt → Tree
-stmt_tree = fold-Stmt Tree stmt_step
+abbrev pub stmt_tree : Stmt → ParseTree
+stmt_tree = fold-Stmt ParseTree stmt_step
 
 -- a statement in a box
-abbrev pub boxed_tree : Box Stmt Global → Tree
+abbrev pub boxed_tree : Box Stmt Global → ParseTree
 boxed_tree s = stmt_tree s.value
 
-abbrev pub stmts_tree : List Stmt → Tree
+abbrev pub stmts_tree : List Stmt → ParseTree
 stmts_tree ss = row_tree (map stmt_tree ss)
 
 abbrev pub arm_of : Arm Stmt → ArmParts
@@ -252,18 +263,27 @@ arm_of a = (a.labels.items, map stmt_tree a.body.items)
 abbrev pub arms_of : List (Arm Stmt) → List ArmParts
 arms_of arms = map arm_of arms
 
-abbrev pub otherwise_of : Option (Vec Stmt Global) → Option (List Tree)
+abbrev pub otherwise_of : Option (Vec Stmt Global) → Option (List ParseTree)
 otherwise_of None = None
 otherwise_of (Some v) = Some (map stmt_tree v.items)
 
+-- the arms of a `case`, as a tree, and the statements of "else:", between braces
+abbrev pub case_arms : ParseTree → Option (List ParseTree) → ParseTree
+case_arms row otherwise =
+    between (words.Symbol sym.OpenBrace) (Pair row (otherwise_tree otherwise)) sym.CloseBrace
+
+abbrev pub arms_view : List (Arm Stmt) → Option (Vec Stmt Global) → ParseTree
+arms_view arms otherwise = case_arms (arms_row (arms_of arms)) (otherwise_of otherwise)
+
 -- the second branch of an `if`, or nothing
-abbrev pub second_tree : Option (Box Stmt Global) → Tree
-second_tree None = Second Blank
+abbrev pub second_tree : Option (Box Stmt Global) → ParseTree
+second_tree None = Right NoWords
 second_tree (Some s) = else_tree (stmt_tree s.value)
 
-abbrev pub branches_tree : Branches → Tree
-branches_tree b = Both (Inside (words.Symbol sym.Then) (stmt_tree b.first.value)) (second_tree b.second)
+abbrev pub branches_tree : Branches → ParseTree
+branches_tree b =
+    Pair (Deeper (words.Symbol sym.Then) (stmt_tree b.first.value)) (second_tree b.second)
 
 -- the block of a filter, a function or a policy
-abbrev pub block_view : Block → Tree
+abbrev pub block_view : Block → ParseTree
 block_view b = between (words.Symbol sym.OpenBrace) (stmts_tree b.statements.items) sym.CloseBrace

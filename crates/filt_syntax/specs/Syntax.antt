@@ -1,72 +1,33 @@
--- The grammar of filters: a form for each production, with its line in the notation of the grammar above it.
--- A quoted word is the symbol of that spelling; `[ ]` may be left out, `{ }` is any number of times, `|` is a choice.
-use Rattle.std.specs.Prelude.{ℕ, Bool, ◌||◌}
-use Rattle.std.proofs.Common.{zero, suc}
+-- The grammar of filters: a form for each production, with its line in the notation of the grammar
+-- above it. A quoted word is the symbol of that spelling; `[ ]` may be left out, `{ }` is any
+-- number of times, `|` is a choice.
+use Rattle.std.specs.Prelude.{Bool, ◌||◌}
 use Rattle.conf_lex.specs.declared.symbol.Symbol.TheVariants as sym
-use Rattle.grammar.specs.Kind.{Kind, number, name, text, address, prefix, symbol, is_attribute, is_constant}
-use Rattle.grammar.specs.Grammar.{Form, One, Empty, Seq, Either, Chain, Nest}
+use Rattle.grammar.specs.Kind.{Kind, number, name, text, address, prefix, symbol, is_attribute}
+use Rattle.grammar.specs.Kind.{is_constant}
+use Rattle.grammar.specs.Grammar.{Terminal, Epsilon, Seq, Alt, Repeat, Nested}
+use Rattle.filt_syntax.specs.Levels.{Level, Form, group_level, operand_level, arguments_level}
+use Rattle.filt_syntax.specs.Levels.{set_level, block_level, body_level, argument_level, two_level}
+use Rattle.filt_syntax.specs.Levels.{attribute_level, pair_level, lengths_level, arms_level}
 
 -- what may be left out
 abbrev pub optional : Form → Form
-optional f = Either f Empty
+optional f = Alt f Epsilon
 
 -- one or more, between commas
 abbrev pub listed : Form → Form
-listed f = Chain f (Seq (One (symbol sym.Comma)) f)
+listed f = Repeat f (Seq (Terminal (symbol sym.Comma)) f)
 
 -- any number of them
 abbrev pub many : Form → Form
-many f = Chain Empty f
+many f = Repeat Epsilon f
 
--- ---- the levels of nesting, by what stands inside
+-- what stands inside a level, between its signs
+abbrev pub parentheses : Level → Form
+parentheses n = Seq (Nested (symbol sym.OpenParenthesis) n) (Terminal (symbol sym.CloseParenthesis))
 
--- "(" here ")" in an expression
-abbrev pub group_level : ℕ
-group_level = 0
-
--- "!" here
-abbrev pub operand_level : ℕ
-operand_level = 1
-
--- NAME "(" here ")"
-abbrev pub arguments_level : ℕ
-arguments_level = 2
-
--- "[" here "]"
-abbrev pub set_level : ℕ
-set_level = 3
-
--- "{" here "}" of statements
-abbrev pub block_level : ℕ
-block_level = 4
-
--- "then" here, "else" here, "do" here
-abbrev pub body_level : ℕ
-body_level = 5
-
--- "." METHOD "(" here ")"
-abbrev pub argument_level : ℕ
-argument_level = 6
-
--- METHOD "(" here ")"
-abbrev pub two_level : ℕ
-two_level = 7
-
--- "defined" "(" here ")", "unset" "(" here ")"
-abbrev pub attribute_level : ℕ
-attribute_level = 8
-
--- "(" here ")" of an item
-abbrev pub pair_level : ℕ
-pair_level = 9
-
--- "{" here "}" behind a prefix
-abbrev pub lengths_level : ℕ
-lengths_level = 10
-
--- "{" here "}" of a `case`
-abbrev pub arms_level : ℕ
-arms_level = 11
+abbrev pub braces : Level → Form
+braces n = Seq (Nested (symbol sym.OpenBrace) n) (Terminal (symbol sym.CloseBrace))
 
 -- ---- sets and masks
 
@@ -76,43 +37,43 @@ is_num k = number k || name k
 
 -- part = num [ ".." num ]
 abbrev pub part : Form
-part = Seq (One is_num) (optional (Seq (One (symbol sym.Range)) (One is_num)))
+part = Seq (Terminal is_num) (optional (Seq (Terminal (symbol sym.Range)) (Terminal is_num)))
 
 -- part | "*"
 abbrev pub pair_part : Form
-pair_part = Either (One (symbol sym.Star)) part
+pair_part = Alt (Terminal (symbol sym.Star)) part
 
 -- "(" (part | "*") "," (part | "*") ")"
 abbrev pub pair_item : Form
-pair_item = Seq (Nest (symbol sym.OpenParenthesis) pair_level) (One (symbol sym.CloseParenthesis))
+pair_item = parentheses pair_level
 
 -- "+" | "-" | "{" num "," num "}"
 abbrev pub lengths : Form
-lengths = Either (One (λ k. symbol sym.Plus k || symbol sym.Minus k)) (Seq (Nest (symbol sym.OpenBrace) lengths_level) (One (symbol sym.CloseBrace)))
+lengths = Alt (Terminal (λ k. symbol sym.Plus k || symbol sym.Minus k)) (braces lengths_level)
 
 -- prefix [ "+" | "-" | "{" num "," num "}" ]
 abbrev pub prefix_item : Form
-prefix_item = Seq (One prefix) (optional lengths)
+prefix_item = Seq (Terminal prefix) (optional lengths)
 
 -- item = part | "(" (part | "*") "," (part | "*") ")" | prefix [ "+" | "-" | "{" num "," num "}" ]
 abbrev pub item : Form
-item = Either part (Either pair_item prefix_item)
+item = Alt part (Alt pair_item prefix_item)
 
 -- "[" item { "," item } "]"
 abbrev pub set : Form
-set = Seq (Nest (symbol sym.OpenBracket) set_level) (One (symbol sym.CloseBracket))
+set = Seq (Nested (symbol sym.OpenBracket) set_level) (Terminal (symbol sym.CloseBracket))
 
 -- part | "?" | "*"
 abbrev pub mask_atom : Form
-mask_atom = Either (One (λ k. symbol sym.Question k || symbol sym.Star k)) part
+mask_atom = Alt (Terminal (λ k. symbol sym.Question k || symbol sym.Star k)) part
 
 -- mitem = ( part | "?" | "*" ) [ "+" ]
 abbrev pub mask_item : Form
-mask_item = Seq mask_atom (optional (One (symbol sym.Plus)))
+mask_item = Seq mask_atom (optional (Terminal (symbol sym.Plus)))
 
 -- "[=" { mitem } "=]"
 abbrev pub mask : Form
-mask = Seq (Seq (One (symbol sym.OpenMask)) (many mask_item)) (One (symbol sym.CloseMask))
+mask = Seq (Seq (Terminal (symbol sym.OpenMask)) (many mask_item)) (Terminal (symbol sym.CloseMask))
 
 -- ---- expressions
 
@@ -125,85 +86,88 @@ abbrev pub is_property : Kind → Bool
 is_property k = symbol sym.Len k || symbol sym.First k || symbol sym.Last k || symbol sym.Ip k
 
 -- NUMBER | "true" | "false" | STRING | IP | prefix | ATTR | CONSTANT | "+empty+" | "-empty-"
-abbrev pub is_simple : Kind → Bool
-is_simple k = number k || text k || address k || prefix k || symbol sym.True k || symbol sym.False k
+abbrev pub is_atom : Kind → Bool
+is_atom k = number k || text k || address k || prefix k || symbol sym.True k || symbol sym.False k
     || symbol sym.EmptyPath k || symbol sym.EmptyClist k || is_attribute k || is_constant k
 
 -- "(" [ expr { "," expr } ] ")"
 abbrev pub call : Form
-call = Seq (Nest (symbol sym.OpenParenthesis) arguments_level) (One (symbol sym.CloseParenthesis))
+call = parentheses arguments_level
 
 -- NAME [ "(" [ expr { "," expr } ] ")" ]; a NAME alone may be a constant
 abbrev pub named : Form
-named = Seq (One name) (optional call)
+named = Seq (Terminal name) (optional call)
 
 -- "(" expr ")" | "(" expr "," expr ")"; a pair of two numbers is one of two expressions
 abbrev pub group : Form
-group = Seq (Nest (symbol sym.OpenParenthesis) group_level) (One (symbol sym.CloseParenthesis))
+group = parentheses group_level
 
 -- "(" ATTR ")"
 abbrev pub of_attribute : Form
-of_attribute = Seq (Nest (symbol sym.OpenParenthesis) attribute_level) (One (symbol sym.CloseParenthesis))
+of_attribute = parentheses attribute_level
 
 -- "defined" "(" ATTR ")"
 abbrev pub defined : Form
-defined = Seq (One (symbol sym.Defined)) of_attribute
+defined = Seq (Terminal (symbol sym.Defined)) of_attribute
 
 -- ("prepend" | "add" | "delete" | "filter") "(" expr "," expr ")"
 abbrev pub method_call : Form
-method_call = Seq (One is_method) (Seq (Nest (symbol sym.OpenParenthesis) two_level) (One (symbol sym.CloseParenthesis)))
+method_call = Seq (Terminal is_method) (parentheses two_level)
 
--- prim = literal | ATTR | CONSTANT | NAME [ "(" [ expr { "," expr } ] ")" ] | "(" expr ")" | "(" expr "," expr ")"
---   | "defined" "(" ATTR ")" | ("prepend" | "add" | "delete" | "filter") "(" expr "," expr ")" | "+empty+" | "-empty-"
-abbrev pub prim : Form
-prim = Either (One is_simple) (Either named (Either group (Either set (Either mask (Either defined method_call)))))
+-- prim = literal | ATTR | CONSTANT | NAME [ "(" [ expr { "," expr } ] ")" ] | "(" expr ")"
+--   | "(" expr "," expr ")" | "defined" "(" ATTR ")"
+--   | ("prepend" | "add" | "delete" | "filter") "(" expr "," expr ")" | "+empty+" | "-empty-"
+abbrev pub primary : Form
+primary = Alt (Terminal is_atom) (Alt named (Alt group (Alt set (Alt mask
+    (Alt defined method_call)))))
 
 -- ("prepend" | "add" | "delete" | "filter") "(" expr ")"
 abbrev pub method : Form
-method = Seq (One is_method) (Seq (Nest (symbol sym.OpenParenthesis) argument_level) (One (symbol sym.CloseParenthesis)))
+method = Seq (Terminal is_method) (parentheses argument_level)
 
 -- "." ( "len" | "first" | "last" | "ip" | ("prepend" | "add" | "delete" | "filter") "(" expr ")" )
 abbrev pub access : Form
-access = Seq (One (symbol sym.Dot)) (Either (One is_property) method)
+access = Seq (Terminal (symbol sym.Dot)) (Alt (Terminal is_property) method)
 
 -- post = prim { access }
-abbrev pub post : Form
-post = Chain prim access
+abbrev pub postfix : Form
+postfix = Repeat primary access
 
 -- unary = "!" unary | post
 abbrev pub unary : Form
-unary = Either (Nest (symbol sym.Not) operand_level) post
+unary = Alt (Nested (symbol sym.Not) operand_level) postfix
 
-abbrev pub is_factor : Kind → Bool
-is_factor k = symbol sym.Star k || symbol sym.Slash k
+abbrev pub is_mul_op : Kind → Bool
+is_mul_op k = symbol sym.Star k || symbol sym.Slash k
 
 -- prod = unary { ("*" | "/") unary }
-abbrev pub prod : Form
-prod = Chain unary (Seq (One is_factor) unary)
+abbrev pub product : Form
+product = Repeat unary (Seq (Terminal is_mul_op) unary)
 
-abbrev pub is_term : Kind → Bool
-is_term k = symbol sym.Plus k || symbol sym.Minus k
+abbrev pub is_add_op : Kind → Bool
+is_add_op k = symbol sym.Plus k || symbol sym.Minus k
 
 -- sum = prod { ("+" | "-") prod }
 abbrev pub sum : Form
-sum = Chain prod (Seq (One is_term) prod)
+sum = Repeat product (Seq (Terminal is_add_op) product)
 
 -- "=" | "!=" | "<" | "<=" | ">" | ">=" | "~" | "!~"
-abbrev pub is_compare : Kind → Bool
-is_compare k = symbol sym.Equal k || symbol sym.NotEqual k || symbol sym.Less k || symbol sym.LessOrEqual k
-    || symbol sym.Greater k || symbol sym.GreaterOrEqual k || symbol sym.Matches k || symbol sym.MatchesNot k
+abbrev pub is_compare_op : Kind → Bool
+is_compare_op k = symbol sym.Equal k || symbol sym.NotEqual k || symbol sym.Less k
+    || symbol sym.LessOrEqual k || symbol sym.Greater k || symbol sym.GreaterOrEqual k
+    || symbol sym.Matches k || symbol sym.MatchesNot k
 
 -- cmp = sum [ compare sum ]
-abbrev pub cmp : Form
-cmp = Seq sum (optional (Seq (One is_compare) sum))
+abbrev pub comparison : Form
+comparison = Seq sum (optional (Seq (Terminal is_compare_op) sum))
 
 -- "&&" | "||"
-abbrev pub is_joint : Kind → Bool
-is_joint k = symbol sym.And k || symbol sym.Or k
+abbrev pub is_logical_op : Kind → Bool
+is_logical_op k = symbol sym.And k || symbol sym.Or k
 
 -- expr = cmp { ("&&" | "||") cmp }
 abbrev pub expr : Form
-expr = Chain cmp (Seq (One is_joint) cmp)
+expr = Repeat comparison (Seq (Terminal is_logical_op) comparison)
 
 -- ---- statements
 
@@ -212,71 +176,79 @@ abbrev pub has_sets : Kind → Bool
 has_sets k = symbol sym.Int k || symbol sym.Pair k || symbol sym.Prefix k
 
 abbrev pub has_no_sets : Kind → Bool
-has_no_sets k = symbol sym.Bool k || symbol sym.Ip k || symbol sym.String k || symbol sym.PathType k || symbol sym.MaskType k || symbol sym.Clist k
+has_no_sets k = symbol sym.Bool k || symbol sym.Ip k || symbol sym.String k
+    || symbol sym.PathType k || symbol sym.MaskType k || symbol sym.Clist k
 
 -- vtype = "int" | "bool" | "ip" | "prefix" | "pair" | "string" | "bgppath" | "bgpmask" | "clist"
 --   | "int" "set" | "pair" "set" | "prefix" "set"
 abbrev pub vtype : Form
-vtype = Either (One has_no_sets) (Seq (One has_sets) (optional (One (symbol sym.Set))))
+vtype = Alt (Terminal has_no_sets) (Seq (Terminal has_sets) (optional (Terminal (symbol sym.Set))))
 
 abbrev pub semicolon : Form
-semicolon = One (symbol sym.Semicolon)
+semicolon = Terminal (symbol sym.Semicolon)
 
 -- "{" { stmt } "}"
 abbrev pub block : Form
-block = Seq (Nest (symbol sym.OpenBrace) block_level) (One (symbol sym.CloseBrace))
+block = braces block_level
 
 -- vtype NAME [ "=" expr ] ";"
 abbrev pub declaration : Form
-declaration = Seq vtype (Seq (One name) (Seq (optional (Seq (One (symbol sym.Equal)) expr)) semicolon))
+declaration =
+    Seq vtype (Seq (Terminal name)
+    (Seq (optional (Seq (Terminal (symbol sym.Equal)) expr)) semicolon))
 
 -- "=" expr ";"
 abbrev pub assigned : Form
-assigned = Seq (One (symbol sym.Equal)) (Seq expr semicolon)
+assigned = Seq (Terminal (symbol sym.Equal)) (Seq expr semicolon)
 
 -- "." ( ("prepend" | "add" | "delete" | "filter") "(" expr ")" | "empty" ) ";"
 abbrev pub changed : Form
-changed = Seq (One (symbol sym.Dot)) (Seq (Either (One (symbol sym.Empty)) method) semicolon)
+changed = Seq (Terminal (symbol sym.Dot)) (Seq (Alt (Terminal (symbol sym.Empty)) method) semicolon)
 
 -- NAME "=" expr ";" | NAME "." .. ";" | NAME "(" [ expr { "," expr } ] ")" ";", behind the NAME
 abbrev pub done_to_name : Form
-done_to_name = Either assigned (Either changed (Seq call semicolon))
+done_to_name = Alt assigned (Alt changed (Seq call semicolon))
 
 -- ATTR "=" expr ";" | ATTR "." .. ";"
 abbrev pub done_to_attribute : Form
-done_to_attribute = Seq (One is_attribute) (Either assigned changed)
+done_to_attribute = Seq (Terminal is_attribute) (Alt assigned changed)
 
 -- "unset" "(" ATTR ")" ";"
 abbrev pub unset : Form
-unset = Seq (One (symbol sym.Unset)) (Seq of_attribute semicolon)
+unset = Seq (Terminal (symbol sym.Unset)) (Seq of_attribute semicolon)
 
 -- "if" expr "then" stmt [ "else" stmt ]
-abbrev pub choice : Form
-choice = Seq (Seq (One (symbol sym.If)) expr) (Seq (Nest (symbol sym.Then) body_level) (optional (Nest (symbol sym.Else) body_level)))
+abbrev pub if_stmt : Form
+if_stmt = Seq (Seq (Terminal (symbol sym.If)) expr)
+    (Seq (Nested (symbol sym.Then) body_level) (optional (Nested (symbol sym.Else) body_level)))
 
 -- "case" expr "{" { item { "," item } ":" { stmt } } [ "else" ":" { stmt } ] "}"
-abbrev pub selection : Form
-selection = Seq (Seq (One (symbol sym.Case)) expr) (Seq (Nest (symbol sym.OpenBrace) arms_level) (One (symbol sym.CloseBrace)))
+abbrev pub case_stmt : Form
+case_stmt = Seq (Seq (Terminal (symbol sym.Case)) expr) (braces arms_level)
 
 -- "for" vtype NAME "in" expr "do" stmt
-abbrev pub loop : Form
-loop = Seq (One (symbol sym.For)) (Seq vtype (Seq (One name) (Seq (Seq (One (symbol sym.In)) expr) (Nest (symbol sym.Do) body_level))))
+abbrev pub for_stmt : Form
+for_stmt = Seq (Terminal (symbol sym.For)) (Seq vtype (Seq (Terminal name)
+    (Seq (Seq (Terminal (symbol sym.In)) expr) (Nested (symbol sym.Do) body_level))))
 
 -- ("accept" | "reject") ";"
-abbrev pub verdict : Form
-verdict = Seq (One (λ k. symbol sym.Accept k || symbol sym.Reject k)) semicolon
+abbrev pub verdict_stmt : Form
+verdict_stmt = Seq (Terminal (λ k. symbol sym.Accept k || symbol sym.Reject k)) semicolon
 
 -- "return" [ expr ] ";"
-abbrev pub return_ : Form
-return_ = Seq (One (symbol sym.Return)) (Seq (optional expr) semicolon)
+abbrev pub return_stmt : Form
+return_stmt = Seq (Terminal (symbol sym.Return)) (Seq (optional expr) semicolon)
 
 -- ("print" | "printn") expr { "," expr } ";"
-abbrev pub printing : Form
-printing = Seq (One (λ k. symbol sym.Print k || symbol sym.Printn k)) (Seq (listed expr) semicolon)
+abbrev pub print_stmt : Form
+print_stmt =
+    Seq (Terminal (λ k. symbol sym.Print k || symbol sym.Printn k)) (Seq (listed expr) semicolon)
 
 -- a statement that no NAME begins
 abbrev pub unnamed_stmt : Form
-unnamed_stmt = Either block (Either semicolon (Either declaration (Either done_to_attribute (Either unset (Either choice (Either selection (Either loop (Either verdict (Either return_ printing)))))))))
+unnamed_stmt = Alt block (Alt semicolon (Alt declaration (Alt done_to_attribute
+    (Alt unset (Alt if_stmt (Alt case_stmt (Alt for_stmt
+    (Alt verdict_stmt (Alt return_stmt print_stmt)))))))))
 
 -- stmt = block | ";" | vtype NAME [ "=" expr ] ";" | (NAME | ATTR) "=" expr ";"
 --   | (NAME | ATTR) "." ( ("prepend" | "add" | "delete" | "filter") "(" expr ")" | "empty" ) ";"
@@ -285,13 +257,13 @@ unnamed_stmt = Either block (Either semicolon (Either declaration (Either done_t
 --   | "for" vtype NAME "in" expr "do" stmt | "accept" ";" | "reject" ";" | "return" [ expr ] ";"
 --   | ("print" | "printn") expr { "," expr } ";" | NAME "(" [ expr { "," expr } ] ")" ";"
 abbrev pub stmt : Form
-stmt = Either (Seq (One name) done_to_name) unnamed_stmt
+stmt = Alt (Seq (Terminal name) done_to_name) unnamed_stmt
 
 -- ---- the arms of a `case`, in a row: the labels and the statements behind them
 
 -- { "," item } ":"
 abbrev pub label_end : Form
-label_end = Seq (many (Seq (One (symbol sym.Comma)) item)) (One (symbol sym.Colon))
+label_end = Seq (many (Seq (Terminal (symbol sym.Comma)) item)) (Terminal (symbol sym.Colon))
 
 -- item { "," item } ":"
 abbrev pub label : Form
@@ -299,32 +271,36 @@ label = Seq item label_end
 
 -- NUMBER [ ".." num ] | "(" .. ")" | prefix ..: an item that no NAME begins
 abbrev pub unnamed_item : Form
-unnamed_item = Either (Seq (One number) (optional (Seq (One (symbol sym.Range)) (One is_num)))) (Either pair_item prefix_item)
+unnamed_item =
+    Alt (Seq (Terminal number) (optional (Seq (Terminal (symbol sym.Range)) (Terminal is_num))))
+    (Alt pair_item prefix_item)
 
 -- a NAME begins a statement or a label: [ ".." num ] { "," item } ":" behind the NAME
 abbrev pub label_of_name : Form
-label_of_name = Seq (optional (Seq (One (symbol sym.Range)) (One is_num))) label_end
+label_of_name = Seq (optional (Seq (Terminal (symbol sym.Range)) (Terminal is_num))) label_end
 
 -- a statement or a label
 abbrev pub arm_part : Form
-arm_part = Either (Seq (One name) (Either done_to_name label_of_name)) (Either (Seq unnamed_item label_end) unnamed_stmt)
+arm_part = Alt (Seq (Terminal name) (Alt done_to_name label_of_name))
+    (Alt (Seq unnamed_item label_end) unnamed_stmt)
 
--- { item { "," item } ":" { stmt } } [ "else" ":" { stmt } ]: a label begins the row, and the rest is statements and labels
+-- { item { "," item } ":" { stmt } } [ "else" ":" { stmt } ]: a label begins the row, and the rest
+-- is statements and labels
 abbrev pub arms : Form
-arms = Seq (optional (Chain label arm_part)) (optional (Seq (One (symbol sym.ElseColon)) (many stmt)))
+arms = Seq (optional (Repeat label arm_part))
+    (optional (Seq (Terminal (symbol sym.ElseColon)) (many stmt)))
 
 -- what stands inside each level
-abbrev pub rule : ℕ → Form
-rule zero = Seq expr (optional (Seq (One (symbol sym.Comma)) expr))
-rule (suc zero) = unary
-rule (suc (suc zero)) = optional (listed expr)
-rule (suc (suc (suc zero))) = listed item
-rule (suc (suc (suc (suc zero)))) = many stmt
-rule (suc (suc (suc (suc (suc zero))))) = stmt
-rule (suc (suc (suc (suc (suc (suc zero)))))) = expr
-rule (suc (suc (suc (suc (suc (suc (suc zero))))))) = Seq expr (Seq (One (symbol sym.Comma)) expr)
-rule (suc (suc (suc (suc (suc (suc (suc (suc zero)))))))) = One is_attribute
-rule (suc (suc (suc (suc (suc (suc (suc (suc (suc zero))))))))) = Seq pair_part (Seq (One (symbol sym.Comma)) pair_part)
-rule (suc (suc (suc (suc (suc (suc (suc (suc (suc (suc zero)))))))))) = Seq (One is_num) (Seq (One (symbol sym.Comma)) (One is_num))
-rule (suc (suc (suc (suc (suc (suc (suc (suc (suc (suc (suc zero))))))))))) = arms
-rule (suc (suc (suc (suc (suc (suc (suc (suc (suc (suc (suc (suc n)))))))))))) = Empty
+abbrev pub rule : Level → Form
+rule group_level = Seq expr (optional (Seq (Terminal (symbol sym.Comma)) expr))
+rule operand_level = unary
+rule arguments_level = optional (listed expr)
+rule set_level = listed item
+rule block_level = many stmt
+rule body_level = stmt
+rule argument_level = expr
+rule two_level = Seq expr (Seq (Terminal (symbol sym.Comma)) expr)
+rule attribute_level = Terminal is_attribute
+rule pair_level = Seq pair_part (Seq (Terminal (symbol sym.Comma)) pair_part)
+rule lengths_level = Seq (Terminal is_num) (Seq (Terminal (symbol sym.Comma)) (Terminal is_num))
+rule arms_level = arms

@@ -3,10 +3,11 @@ use Rattle.std.specs.Prelude.{◌≡◌, ◌⊎◌, ℕ, ◌+◌, List, length, 
 use Rattle.conf_lex.specs.Words.{words_from}
 use Rattle.conf_lex.specs.declared.token.Token.{Token}
 use Rattle.conf_lex.specs.declared.word.Word.{Word}
-use Rattle.grammar.specs.Grammar.{Form, Tree}
+use Rattle.grammar.specs.Grammar.{ParseTree}
+use Rattle.filt_syntax.specs.Levels.{Form}
 use Rattle.filt_syntax.specs.declared.parse.SyntaxFault.{SyntaxFault}
 use Rattle.filt_syntax.specs.declared.parse.SyntaxFault.TheVariants as faults
-use Rattle.filt_syntax.specs.Parse.{Stands, IsRefused}
+use Rattle.filt_syntax.specs.Parse.{ParsesAt, IsRefused}
 use Rattle.filt_syntax.specs.RefusedToken.{IsPastAt}
 
 -- the words of a text from a token on
@@ -17,14 +18,18 @@ words_behind text tokens from = map (λ word. word.1) (words_from text from 0 (d
 abbrev pub starts_behind : List ℕ → List Token → ℕ → List ℕ
 starts_behind text tokens from = map (λ word. word.0) (words_from text from 0 (drop from tokens))
 
--- the place of the token with which the word in this place begins; behind the last word the end of the tokens
+-- the place of the token with which the word in this place begins; behind the last word the end of
+-- the tokens
 abbrev pub token_place : List ℕ → List Token → ℕ → ℕ → ℕ
-token_place text tokens from place = slice_index_or (starts_behind text tokens from) place (length tokens)
+token_place text tokens from place =
+    slice_index_or (starts_behind text tokens from) place (length tokens)
 
--- The longest sentence of the form from one token on has this tree, and ends before the other token.
-pub record StandsIn (f : Form) (text : List ℕ) (tokens : List Token) (from : ℕ) (t : Tree) (end : ℕ) : Type 0 where
+-- The longest sentence of the form from one token on has this tree, and ends before the other
+-- token.
+pub record ParsesAtToken (f : Form) (text : List ℕ) (tokens : List Token) (from : ℕ)
+    (t : ParseTree) (end : ℕ) : Type 0 where
   pub place : ℕ
-  pub stands : Stands f (words_behind text tokens from) 0 t place
+  pub stands : ParsesAt f (words_behind text tokens from) 0 t place
   pub ends : end ≡ token_place text tokens from place
 
 -- the same refusal, at this place

@@ -1,32 +1,32 @@
 // Operands in brackets that hold no expression.
 
-ghost use Rattle.std.specs.Prelude.{◌≡◌, ◌∷◌, ◌+◌, ◌≤◌, ℕ, IfOk, MatchResult};
+ghost use Rattle.std.specs.Prelude.{◌≡◌, ◌∷◌, ◌+◌, ◌≤◌, IfOk, MatchResult};
 ghost use Rattle.conf_lex.specs.declared.symbol.Symbol.TheVariants as sym;
 ghost use Rattle.conf_lex.specs.declared.word.Word.{Word};
 ghost use Rattle.grammar.specs.Grammar.{Leaf};
-ghost use Rattle.grammar.specs.Gives.{Fails, Gives};
-ghost use Rattle.filt_syntax.specs.Syntax.{attribute_level};
-ghost use Rattle.filt_syntax.specs.View.{sight, attribute_word, in_parentheses};
-ghost use Rattle.filt_syntax.specs.Readers.{prim_at, level_at, opened_at};
+ghost use Rattle.grammar.specs.Agrees.{AgreesOnError, Agrees};
+ghost use Rattle.filt_syntax.specs.Levels.{Level, attribute_level};
+ghost use Rattle.filt_syntax.specs.View.{derivations, attribute_word, in_parentheses};
+ghost use Rattle.filt_syntax.specs.Readers.{primary_at, level_at, opened_at};
 
+use crate::ast::{Attribute, Expr};
 use crate::items::{items, mask_items};
 use crate::operators::next_attribute;
-use crate::tree::{Attribute, Expr};
 use conf_lex::{Symbol, Word};
 use grammar::{Refusal, after_placed, expect, level_below};
 use std::alloc::Global;
 
 /// How many levels are left behind the parenthesis that has to come next, its place, and the words
 /// after it.
-pub fn open(words: &[Word], left: u32) -> Result<(u32, usize, &[Word]), Refusal>
+pub fn open(words: &[Word], depth_left: u32) -> Result<(u32, usize, &[Word]), Refusal>
     ensures { MatchResult result
         (λ found. (words.now ≡ Word.Placed found.1 sym.OpenParenthesis ∷ found.2.now)
-        × (found.0 + 1 ≡ left))
-        (λ e. (n : ℕ) → Fails e (opened_at n left words.now)) }
+        × (found.0 + 1 ≡ depth_left))
+        (λ e. (n : Level) → AgreesOnError e (opened_at n depth_left words.now)) }
 {
     match after_placed(words, Symbol::OpenParenthesis) {
         Some((at, inside)) => {
-            let below = level_below(words, left)?;
+            let below = level_below(words, depth_left)?;
             Ok((below, at, inside))
         }
         None => Err(Refusal::Bad(words)),
@@ -39,13 +39,13 @@ pub fn set<'a>(
     words: &'a [Word],
     at: usize,
     inside: &'a [Word],
-    left: u32,
+    depth_left: u32,
 ) -> Result<(Expr, &'a [Word]), Refusal<'a>>
     requires { words.now ≡ Word.Placed at sym.OpenBracket ∷ inside.now }
-    ensures tree { Gives (λ e. (sight e).prim) result (prim_at left words.now) }
-    ensures rank { IfOk result (λ found. (sight found.0).rank ≤ 0) }
+    ensures tree { Agrees (λ e. (derivations e).primary) result (primary_at depth_left words.now) }
+    ensures precedence { IfOk result (λ found. (derivations found.0).precedence ≤ 0) }
 {
-    let below = level_below(words, left)?;
+    let below = level_below(words, depth_left)?;
     let (items, end) = items(alloc, inside, below)?;
     let rest = expect(end, Symbol::CloseBracket)?;
     Ok((Expr::Set { at, items }, rest))
@@ -57,11 +57,11 @@ pub fn mask<'a>(
     words: &'a [Word],
     at: usize,
     inside: &'a [Word],
-    left: u32,
+    depth_left: u32,
 ) -> Result<(Expr, &'a [Word]), Refusal<'a>>
     requires { words.now ≡ Word.Placed at sym.OpenMask ∷ inside.now }
-    ensures tree { Gives (λ e. (sight e).prim) result (prim_at left words.now) }
-    ensures rank { IfOk result (λ found. (sight found.0).rank ≤ 0) }
+    ensures tree { Agrees (λ e. (derivations e).primary) result (primary_at depth_left words.now) }
+    ensures precedence { IfOk result (λ found. (derivations found.0).precedence ≤ 0) }
 {
     let (items, end) = mask_items(alloc, inside)?;
     let rest = expect(end, Symbol::CloseMask)?;
@@ -73,13 +73,13 @@ pub fn defined<'a>(
     words: &'a [Word],
     at: usize,
     next: &'a [Word],
-    left: u32,
+    depth_left: u32,
 ) -> Result<(Expr, &'a [Word]), Refusal<'a>>
     requires { words.now ≡ Word.Placed at sym.Defined ∷ next.now }
-    ensures tree { Gives (λ e. (sight e).prim) result (prim_at left words.now) }
-    ensures rank { IfOk result (λ found. (sight found.0).rank ≤ 0) }
+    ensures tree { Agrees (λ e. (derivations e).primary) result (primary_at depth_left words.now) }
+    ensures precedence { IfOk result (λ found. (derivations found.0).precedence ≤ 0) }
 {
-    let ((attribute_at, attribute, open), rest) = of_attribute(next, left)?;
+    let ((attribute_at, attribute, open), rest) = of_attribute(next, depth_left)?;
     let defined = Expr::Defined {
         at,
         open,
@@ -92,12 +92,12 @@ pub fn defined<'a>(
 /// The place of an attribute in parentheses, the attribute, and the place of the first of these.
 pub fn of_attribute(
     words: &[Word],
-    left: u32,
+    depth_left: u32,
 ) -> Result<((usize, Attribute, usize), &[Word]), Refusal>
-    ensures { Gives (λ found. in_parentheses found.2 (Leaf (attribute_word found.0 found.1)))
-        result (level_at attribute_level left words.now) }
+    ensures { Agrees (λ found. in_parentheses found.2 (Leaf (attribute_word found.0 found.1)))
+        result (level_at attribute_level depth_left words.now) }
 {
-    let (_below, open, inside) = open(words, left)?;
+    let (_below, open, inside) = open(words, depth_left)?;
     let Some(((at, attribute), end)) = next_attribute(inside) else {
         return Err(Refusal::Bad(inside));
     };

@@ -1,19 +1,24 @@
-// Expressions. Each function answers a tree and the words after it; `left` is how many more levels may be opened.
+// Expressions. Each function answers a tree and the words after it; `depth_left` is how many more
+// levels may be opened.
 
-ghost use Rattle.std.specs.Prelude.{◌≡◌, ◌∷◌, ◌≤◌, ℕ, IfOk};
+ghost use Rattle.std.specs.Prelude.{◌≡◌, ◌∷◌, ◌≤◌, IfOk};
 ghost use Rattle.conf_lex.specs.declared.symbol.Symbol.TheVariants as sym;
 ghost use Rattle.conf_lex.specs.declared.word.Word.{Word};
-ghost use Rattle.grammar.specs.Gives.{Gives};
-ghost use Rattle.filt_syntax.specs.Syntax.{arguments_level};
-ghost use Rattle.filt_syntax.specs.View.{sight, access_of, method_tree, method_word, in_parentheses, arguments_tree, expr_trees};
-ghost use Rattle.filt_syntax.specs.Readers.{expr_at, cmp_at, sum_at, prod_at, unary_at, post_at, prim_at, behind_dot_at, method_at, named_at, level_at};
+ghost use Rattle.grammar.specs.Agrees.{Agrees};
+ghost use Rattle.filt_syntax.specs.Levels.{arguments_level};
+ghost use Rattle.filt_syntax.specs.View.{derivations, access_of, method_tree, method_word};
+ghost use Rattle.filt_syntax.specs.View.{in_parentheses, arguments_tree, expr_trees};
+ghost use Rattle.filt_syntax.specs.Readers.{expr_at, comparison_at, sum_at, product_at, unary_at};
+ghost use Rattle.filt_syntax.specs.Readers.{postfix_at};
+ghost use Rattle.filt_syntax.specs.Readers.{primary_at, behind_dot_at, method_at, named_at};
+ghost use Rattle.filt_syntax.specs.Readers.{level_at};
 
+use crate::ast::{Expr, Method, Postfix};
 use crate::bracket::{defined, mask, open, set};
 use crate::operators::{
-    next_compare, next_factor, next_joint, next_method, next_name, next_property, next_simple,
-    next_term,
+    next_add_op, next_atom, next_compare_op, next_logical_op, next_method, next_mul_op, next_name,
+    next_property,
 };
-use crate::tree::{Access, Expr, Method};
 use conf_lex::{Symbol, Word};
 use grammar::{Name, Refusal, after, after_placed, expect, level_below};
 use std::alloc::Global;
@@ -23,22 +28,22 @@ use std::alloc::Global;
 pub fn expression<'a>(
     alloc: Global,
     words: &'a [Word],
-    left: u32,
+    depth_left: u32,
 ) -> Result<(Expr, &'a [Word]), Refusal<'a>>
-    ensures { Gives (λ e. (sight e).expr) result (expr_at left words.now) }
+    ensures { Agrees (λ e. (derivations e).expr) result (expr_at depth_left words.now) }
 {
-    let (value, mut rest) = comparison(alloc, words, left)?;
-    let Some(_) = next_joint(rest) else {
+    let (value, mut rest) = comparison(alloc, words, depth_left)?;
+    let Some(_) = next_logical_op(rest) else {
         return Ok((value, rest));
     };
     let first = Box::new(alloc, value)?;
     let mut more = Vec::new(alloc);
-    while let Some((joint, next)) = next_joint(rest) {
-        let (operand, end) = comparison(alloc, next, left)?;
-        more.push((joint, operand))?;
+    while let Some((logical_op, next)) = next_logical_op(rest) {
+        let (operand, end) = comparison(alloc, next, depth_left)?;
+        more.push((logical_op, operand))?;
         rest = end;
     }
-    Ok((Expr::Joint(first, more), rest))
+    Ok((Expr::Logical(first, more), rest))
 }
 
 // An expression, in a box.
@@ -46,11 +51,11 @@ pub fn expression<'a>(
 fn boxed<'a>(
     alloc: Global,
     words: &'a [Word],
-    left: u32,
+    depth_left: u32,
 ) -> Result<(Box<Expr>, &'a [Word]), Refusal<'a>>
-    ensures { Gives (λ e. (sight e.value).expr) result (expr_at left words.now) }
+    ensures { Agrees (λ e. (derivations e.value).expr) result (expr_at depth_left words.now) }
 {
-    let (value, rest) = expression(alloc, words, left)?;
+    let (value, rest) = expression(alloc, words, depth_left)?;
     let boxed = Box::new(alloc, value)?;
     Ok((boxed, rest))
 }
@@ -59,37 +64,42 @@ fn boxed<'a>(
 fn comparison<'a>(
     alloc: Global,
     words: &'a [Word],
-    left: u32,
+    depth_left: u32,
 ) -> Result<(Expr, &'a [Word]), Refusal<'a>>
-    ensures tree { Gives (λ e. (sight e).cmp) result (cmp_at left words.now) }
-    ensures rank { IfOk result (λ found. (sight found.0).rank ≤ 5) }
+    ensures tree { Agrees (λ e. (derivations e).comparison) result
+        (comparison_at depth_left words.now) }
+    ensures precedence { IfOk result (λ found. (derivations found.0).precedence ≤ 5) }
 {
-    let (value, rest) = sum(alloc, words, left)?;
-    match next_compare(rest) {
-        Some((compare, rest)) => {
+    let (value, rest) = sum(alloc, words, depth_left)?;
+    match next_compare_op(rest) {
+        Some((compare_op, rest)) => {
             let first = Box::new(alloc, value)?;
-            let (operand, rest) = sum(alloc, rest, left)?;
+            let (operand, rest) = sum(alloc, rest, depth_left)?;
             let second = Box::new(alloc, operand)?;
-            Ok((Expr::Compare(compare, first, second), rest))
+            Ok((Expr::Compare(compare_op, first, second), rest))
         }
         None => Ok((value, rest)),
     }
 }
 
 #[cycle(expression)]
-fn sum<'a>(alloc: Global, words: &'a [Word], left: u32) -> Result<(Expr, &'a [Word]), Refusal<'a>>
-    ensures tree { Gives (λ e. (sight e).sum) result (sum_at left words.now) }
-    ensures rank { IfOk result (λ found. (sight found.0).rank ≤ 4) }
+fn sum<'a>(
+    alloc: Global,
+    words: &'a [Word],
+    depth_left: u32,
+) -> Result<(Expr, &'a [Word]), Refusal<'a>>
+    ensures tree { Agrees (λ e. (derivations e).sum) result (sum_at depth_left words.now) }
+    ensures precedence { IfOk result (λ found. (derivations found.0).precedence ≤ 4) }
 {
-    let (value, mut rest) = product(alloc, words, left)?;
-    let Some(_) = next_term(rest) else {
+    let (value, mut rest) = product(alloc, words, depth_left)?;
+    let Some(_) = next_add_op(rest) else {
         return Ok((value, rest));
     };
     let first = Box::new(alloc, value)?;
     let mut more = Vec::new(alloc);
-    while let Some((term, next)) = next_term(rest) {
-        let (operand, end) = product(alloc, next, left)?;
-        more.push((term, operand))?;
+    while let Some((add_op, next)) = next_add_op(rest) {
+        let (operand, end) = product(alloc, next, depth_left)?;
+        more.push((add_op, operand))?;
         rest = end;
     }
     Ok((Expr::Sum(first, more), rest))
@@ -99,67 +109,67 @@ fn sum<'a>(alloc: Global, words: &'a [Word], left: u32) -> Result<(Expr, &'a [Wo
 fn product<'a>(
     alloc: Global,
     words: &'a [Word],
-    left: u32,
+    depth_left: u32,
 ) -> Result<(Expr, &'a [Word]), Refusal<'a>>
-    ensures tree { Gives (λ e. (sight e).prod) result (prod_at left words.now) }
-    ensures rank { IfOk result (λ found. (sight found.0).rank ≤ 3) }
+    ensures tree { Agrees (λ e. (derivations e).product) result (product_at depth_left words.now) }
+    ensures precedence { IfOk result (λ found. (derivations found.0).precedence ≤ 3) }
 {
-    let (value, mut rest) = operand(alloc, words, left)?;
-    let Some(_) = next_factor(rest) else {
+    let (value, mut rest) = unary(alloc, words, depth_left)?;
+    let Some(_) = next_mul_op(rest) else {
         return Ok((value, rest));
     };
     let first = Box::new(alloc, value)?;
     let mut more = Vec::new(alloc);
-    while let Some((factor, next)) = next_factor(rest) {
-        let (second, end) = operand(alloc, next, left)?;
-        more.push((factor, second))?;
+    while let Some((mul_op, next)) = next_mul_op(rest) {
+        let (second, end) = unary(alloc, next, depth_left)?;
+        more.push((mul_op, second))?;
         rest = end;
     }
     Ok((Expr::Product(first, more), rest))
 }
 
 #[cycle(expression)]
-fn operand<'a>(
+fn unary<'a>(
     alloc: Global,
     words: &'a [Word],
-    left: u32,
+    depth_left: u32,
 ) -> Result<(Expr, &'a [Word]), Refusal<'a>>
-    ensures tree { Gives (λ e. (sight e).unary) result (unary_at left words.now) }
-    ensures rank { IfOk result (λ found. (sight found.0).rank ≤ 2) }
+    ensures tree { Agrees (λ e. (derivations e).unary) result (unary_at depth_left words.now) }
+    ensures precedence { IfOk result (λ found. (derivations found.0).precedence ≤ 2) }
 {
     match after_placed(words, Symbol::Not) {
         Some((at, inside)) => {
-            let below = level_below(words, left)?;
-            let (inner, rest) = operand(alloc, inside, below)?;
+            let below = level_below(words, depth_left)?;
+            let (inner, rest) = unary(alloc, inside, below)?;
             let operand = Box::new(alloc, inner)?;
             Ok((Expr::Not { at, operand }, rest))
         }
-        None => accessed(alloc, words, left),
+        None => postfix(alloc, words, depth_left),
     }
 }
 
 // An operand, and what stands behind its dots.
 #[cycle(expression)]
-fn accessed<'a>(
+fn postfix<'a>(
     alloc: Global,
     words: &'a [Word],
-    left: u32,
+    depth_left: u32,
 ) -> Result<(Expr, &'a [Word]), Refusal<'a>>
-    ensures tree { Gives (λ e. (sight e).post) result (post_at left words.now) }
-    ensures rank { IfOk result (λ found. (sight found.0).rank ≤ 1) }
+    ensures tree { Agrees (λ e. (derivations e).postfix) result (postfix_at depth_left words.now) }
+    ensures precedence { IfOk result (λ found. (derivations found.0).precedence ≤ 1) }
 {
-    let (value, mut rest) = primary(alloc, words, left)?;
+    let (value, mut rest) = primary(alloc, words, depth_left)?;
     let Some(_) = after(rest, Symbol::Dot) else {
         return Ok((value, rest));
     };
     let first = Box::new(alloc, value)?;
     let mut more = Vec::new(alloc);
     while let Some(next) = after(rest, Symbol::Dot) {
-        let (accessed, end) = access(alloc, next, left)?;
-        more.push(accessed)?;
+        let (postfix, end) = access(alloc, next, depth_left)?;
+        more.push(postfix)?;
         rest = end;
     }
-    Ok((Expr::Access(first, more), rest))
+    Ok((Expr::Postfix(first, more), rest))
 }
 
 // What stands behind a dot.
@@ -167,15 +177,15 @@ fn accessed<'a>(
 fn access<'a>(
     alloc: Global,
     words: &'a [Word],
-    left: u32,
-) -> Result<(Access<Expr>, &'a [Word]), Refusal<'a>>
-    ensures { Gives (λ a. (access_of a).1) result (behind_dot_at left words.now) }
+    depth_left: u32,
+) -> Result<(Postfix<Expr>, &'a [Word]), Refusal<'a>>
+    ensures { Agrees (λ a. (access_of a).1) result (behind_dot_at depth_left words.now) }
 {
     match next_property(words) {
-        Some((property, rest)) => Ok((Access::Property(property), rest)),
+        Some((property, rest)) => Ok((Postfix::Property(property), rest)),
         None => {
-            let ((method, argument, open), rest) = method(alloc, words, left)?;
-            let method = Access::Method {
+            let ((method, argument, open), rest) = method(alloc, words, depth_left)?;
+            let method = Postfix::Method {
                 method,
                 open,
                 argument,
@@ -190,15 +200,15 @@ fn access<'a>(
 pub fn method<'a>(
     alloc: Global,
     words: &'a [Word],
-    left: u32,
+    depth_left: u32,
 ) -> Result<((Method, Expr, usize), &'a [Word]), Refusal<'a>>
-    ensures { Gives (λ found. method_tree found.0 found.2 (sight found.1).expr)
-        result (method_at left words.now) }
+    ensures { Agrees (λ found. method_tree found.0 found.2 (derivations found.1).expr)
+        result (method_at depth_left words.now) }
 {
     let Some((method, next)) = next_method(words) else {
         return Err(Refusal::Bad(words));
     };
-    let (below, open, inside) = open(next, left)?;
+    let (below, open, inside) = open(next, depth_left)?;
     let (argument, end) = expression(alloc, inside, below)?;
     let rest = expect(end, Symbol::CloseParenthesis)?;
     Ok(((method, argument, open), rest))
@@ -208,31 +218,31 @@ pub fn method<'a>(
 fn primary<'a>(
     alloc: Global,
     words: &'a [Word],
-    left: u32,
+    depth_left: u32,
 ) -> Result<(Expr, &'a [Word]), Refusal<'a>>
-    ensures tree { Gives (λ e. (sight e).prim) result (prim_at left words.now) }
-    ensures rank { IfOk result (λ found. (sight found.0).rank ≤ 0) }
+    ensures tree { Agrees (λ e. (derivations e).primary) result (primary_at depth_left words.now) }
+    ensures precedence { IfOk result (λ found. (derivations found.0).precedence ≤ 0) }
 {
-    if let Some((simple, rest)) = next_simple(words) {
-        return Ok((Expr::Simple(simple), rest));
+    if let Some((atom, rest)) = next_atom(words) {
+        return Ok((Expr::Atom(atom), rest));
     }
     if let Some((name, rest)) = next_name(words) {
-        return call(alloc, name, rest, left);
+        return call(alloc, name, rest, depth_left);
     }
     if let Some((at, inside)) = after_placed(words, Symbol::OpenParenthesis) {
-        return group(alloc, words, at, inside, left);
+        return group(alloc, words, at, inside, depth_left);
     }
     if let Some((at, inside)) = after_placed(words, Symbol::OpenBracket) {
-        return set(alloc, words, at, inside, left);
+        return set(alloc, words, at, inside, depth_left);
     }
     if let Some((at, inside)) = after_placed(words, Symbol::OpenMask) {
-        return mask(alloc, words, at, inside, left);
+        return mask(alloc, words, at, inside, depth_left);
     }
     if let Some((at, next)) = after_placed(words, Symbol::Defined) {
-        return defined(words, at, next, left);
+        return defined(words, at, next, depth_left);
     }
     match next_method(words) {
-        Some((method, next)) => method_call(alloc, words, method, next, left),
+        Some((method, next)) => method_call(alloc, words, method, next, depth_left),
         None => Err(Refusal::Bad(words)),
     }
 }
@@ -244,13 +254,13 @@ fn group<'a>(
     words: &'a [Word],
     at: usize,
     inside: &'a [Word],
-    left: u32,
+    depth_left: u32,
 ) -> Result<(Expr, &'a [Word]), Refusal<'a>>
     requires { words.now ≡ Word.Placed at sym.OpenParenthesis ∷ inside.now }
-    ensures tree { Gives (λ e. (sight e).prim) result (prim_at left words.now) }
-    ensures rank { IfOk result (λ found. (sight found.0).rank ≤ 0) }
+    ensures tree { Agrees (λ e. (derivations e).primary) result (primary_at depth_left words.now) }
+    ensures precedence { IfOk result (λ found. (derivations found.0).precedence ≤ 0) }
 {
-    let below = level_below(words, left)?;
+    let below = level_below(words, depth_left)?;
     let (first, end) = boxed(alloc, inside, below)?;
     match after(end, Symbol::Comma) {
         None => {
@@ -272,13 +282,13 @@ fn method_call<'a>(
     words: &'a [Word],
     method: Method,
     next: &'a [Word],
-    left: u32,
+    depth_left: u32,
 ) -> Result<(Expr, &'a [Word]), Refusal<'a>>
     requires { words.now ≡ method_word method ∷ next.now }
-    ensures tree { Gives (λ e. (sight e).prim) result (prim_at left words.now) }
-    ensures rank { IfOk result (λ found. (sight found.0).rank ≤ 0) }
+    ensures tree { Agrees (λ e. (derivations e).primary) result (primary_at depth_left words.now) }
+    ensures precedence { IfOk result (λ found. (derivations found.0).precedence ≤ 0) }
 {
-    let (below, open, inside) = open(next, left)?;
+    let (below, open, inside) = open(next, depth_left)?;
     let (list, end) = boxed(alloc, inside, below)?;
     let second = expect(end, Symbol::Comma)?;
     let (argument, end) = boxed(alloc, second, below)?;
@@ -298,15 +308,16 @@ fn call<'a>(
     alloc: Global,
     name: Name,
     words: &'a [Word],
-    left: u32,
+    depth_left: u32,
 ) -> Result<(Expr, &'a [Word]), Refusal<'a>>
-    ensures tree { Gives (λ e. (sight e).prim) result (named_at left name words.now) }
-    ensures rank { IfOk result (λ found. (sight found.0).rank ≤ 0) }
+    ensures tree { Agrees (λ e. (derivations e).primary) result
+        (named_at depth_left name words.now) }
+    ensures precedence { IfOk result (λ found. (derivations found.0).precedence ≤ 0) }
 {
     match after_placed(words, Symbol::OpenParenthesis) {
         None => Ok((Expr::Name(name), words)),
         Some(_) => {
-            let ((arguments, open), rest) = arguments(alloc, words, left)?;
+            let ((arguments, open), rest) = arguments(alloc, words, depth_left)?;
             let called = Expr::Call {
                 name,
                 open,
@@ -322,12 +333,12 @@ fn call<'a>(
 pub fn arguments<'a>(
     alloc: Global,
     words: &'a [Word],
-    left: u32,
+    depth_left: u32,
 ) -> Result<((Vec<Expr>, usize), &'a [Word]), Refusal<'a>>
-    ensures { Gives (λ found. in_parentheses found.1 (arguments_tree (expr_trees found.0.items)))
-        result (level_at arguments_level left words.now) }
+    ensures { Agrees (λ found. in_parentheses found.1 (arguments_tree (expr_trees found.0.items)))
+        result (level_at arguments_level depth_left words.now) }
 {
-    let (below, open, inside) = open(words, left)?;
+    let (below, open, inside) = open(words, depth_left)?;
     let mut found = Vec::new(alloc);
     if let Some(rest) = after(inside, Symbol::CloseParenthesis) {
         return Ok(((found, open), rest));

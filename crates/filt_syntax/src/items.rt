@@ -1,17 +1,23 @@
-// Items of sets, of labels and of masks. Each function answers a value and the words after it; `left` is how many more levels
-// may be opened.
+// Items of sets, of labels and of masks. Each function answers a value and the words after it;
+// `depth_left` is how many more levels may be opened.
 
-ghost use Rattle.std.specs.Prelude.{◌≡◌, ◌∷◌, ◌<◌, false, length, MatchOption, IfOk};
+ghost use Rattle.std.specs.Prelude.{◌≡◌, ◌∷◌, ◌<◌, false, length, IfOk};
 ghost use Rattle.conf_lex.specs.declared.symbol.Symbol.TheVariants.{OpenParenthesis, OpenBrace};
 ghost use Rattle.conf_lex.specs.declared.word.Word.{Word};
-ghost use Rattle.grammar.specs.Grammar.{begins, starts};
+ghost use Rattle.grammar.specs.Grammar.{begins, first_set};
 ghost use Rattle.grammar.specs.Reading.{word};
-ghost use Rattle.grammar.specs.Gives.{Gives};
+ghost use Rattle.grammar.specs.Agrees.{Agrees, NeverMemory};
+ghost use Rattle.filt_syntax.specs.Finds.{Finds};
 ghost use Rattle.filt_syntax.specs.Syntax.{is_num, mask_item};
-ghost use Rattle.filt_syntax.specs.ItemView.{num_tree, num_word, part_tree, pair_part_tree, with_comma, lengths_part, item_tree, items_tree, mask_atom_tree, mask_item_tree, mask_items_tree, label_tree};
-ghost use Rattle.filt_syntax.specs.ItemReaders.{part_at, pair_part_at, pair_at, bounds_at, lengths_at, item_at, items_at, mask_atom_at, mask_item_at, mask_items_at, label_at};
+ghost use Rattle.filt_syntax.specs.ItemView.{num_tree, num_word, part_tree, pair_part_tree};
+ghost use Rattle.filt_syntax.specs.ItemView.{with_comma, lengths_part, item_tree, items_tree};
+ghost use Rattle.filt_syntax.specs.ItemView.{mask_atom_tree, mask_item_tree, mask_items_tree};
+ghost use Rattle.filt_syntax.specs.ItemView.{label_tree};
+ghost use Rattle.filt_syntax.specs.ItemReaders.{part_at, pair_part_at, pair_at, bounds_at};
+ghost use Rattle.filt_syntax.specs.ItemReaders.{lengths_at, item_at, items_at, mask_atom_at};
+ghost use Rattle.filt_syntax.specs.ItemReaders.{mask_item_at, mask_items_at, label_at};
 
-use crate::tree::{Item, Lengths, MaskAtom, MaskItem, Num, PairPart, Part};
+use crate::ast::{Item, Lengths, MaskAtom, MaskItem, Num, NumRange, PairPart};
 use bits_ip::Prefix;
 use conf_lex::{Symbol, Word};
 use grammar::{Name, Refusal, after, after_placed, expect, level_below, next_prefix};
@@ -19,7 +25,7 @@ use std::alloc::Global;
 
 /// A written number or the name of a constant that is one, where either comes next.
 pub fn next_num(words: &[Word]) -> Option<(Num, &[Word])>
-    ensures { MatchOption result (begins is_num words.now ≡ false) (λ found. words.now ≡ num_word found.0 ∷ found.1.now) }
+    ensures { Finds is_num num_word result words.now }
 {
     match words {
         [Word::Number { at, value }, rest @ ..] => {
@@ -43,20 +49,21 @@ pub fn next_num(words: &[Word]) -> Option<(Num, &[Word])>
 
 /// The number, or the name of one, that has to come next.
 pub fn num(words: &[Word]) -> Result<(Num, &[Word]), Refusal>
-    ensures { Gives num_tree result (word is_num words.now) }
+    ensures gives { Agrees num_tree result (word is_num words.now) }
+    ensures takes_none { NeverMemory result }
 {
     next_num(words).ok_or(Refusal::Bad(words))
 }
 
-fn part(words: &[Word]) -> Result<(Part, &[Word]), Refusal>
-    ensures { Gives part_tree result (part_at 0 words.now) }
+fn part(words: &[Word]) -> Result<(NumRange, &[Word]), Refusal>
+    ensures { Agrees part_tree result (part_at 0 words.now) }
 {
     let (low, rest) = num(words)?;
     match after(rest, Symbol::Range) {
-        None => Ok((Part { low, high: None }, rest)),
+        None => Ok((NumRange { low, high: None }, rest)),
         Some(rest) => {
             let (high, rest) = num(rest)?;
-            let part = Part {
+            let part = NumRange {
                 low,
                 high: Some(high),
             };
@@ -66,20 +73,21 @@ fn part(words: &[Word]) -> Result<(Part, &[Word]), Refusal>
 }
 
 fn pair_part(words: &[Word]) -> Result<(PairPart, &[Word]), Refusal>
-    ensures { Gives pair_part_tree result (pair_part_at 0 words.now) }
+    ensures { Agrees pair_part_tree result (pair_part_at 0 words.now) }
 {
     match after(words, Symbol::Star) {
         Some(rest) => Ok((PairPart::Any, rest)),
         None => {
             let (part, rest) = part(words)?;
-            Ok((PairPart::Part(part), rest))
+            Ok((PairPart::Range(part), rest))
         }
     }
 }
 
 // What stands between the brackets of a pair.
 fn pair(words: &[Word]) -> Result<((PairPart, PairPart), &[Word]), Refusal>
-    ensures { Gives (λ both. with_comma (pair_part_tree both.0) (pair_part_tree both.1)) result (pair_at 0 words.now) }
+    ensures { Agrees (λ both. with_comma (pair_part_tree both.0) (pair_part_tree both.1)) result
+        (pair_at 0 words.now) }
 {
     let (first, rest) = pair_part(words)?;
     let rest = expect(rest, Symbol::Comma)?;
@@ -89,7 +97,8 @@ fn pair(words: &[Word]) -> Result<((PairPart, PairPart), &[Word]), Refusal>
 
 // What stands between the braces behind a prefix.
 fn bounds(words: &[Word]) -> Result<((Num, Num), &[Word]), Refusal>
-    ensures { Gives (λ both. with_comma (num_tree both.0) (num_tree both.1)) result (bounds_at 0 words.now) }
+    ensures { Agrees (λ both. with_comma (num_tree both.0) (num_tree both.1)) result
+        (bounds_at 0 words.now) }
 {
     let (low, rest) = num(words)?;
     let rest = expect(rest, Symbol::Comma)?;
@@ -101,20 +110,20 @@ fn bounds(words: &[Word]) -> Result<((Num, Num), &[Word]), Refusal>
 fn braced<'a>(
     words: &'a [Word],
     inside: &'a [Word],
-    left: u32,
+    depth_left: u32,
 ) -> Result<(Option<Lengths>, &'a [Word]), Refusal<'a>>
     requires { words.now ≡ Word.Symbol OpenBrace ∷ inside.now }
-    ensures { Gives lengths_part result (lengths_at left words.now) }
+    ensures { Agrees lengths_part result (lengths_at depth_left words.now) }
 {
-    let _below = level_below(words, left)?;
+    let _below = level_below(words, depth_left)?;
     let ((low, high), rest) = bounds(inside)?;
     let rest = expect(rest, Symbol::CloseBrace)?;
     Ok((Some(Lengths::Between(low, high)), rest))
 }
 
 // The lengths behind a prefix, if any.
-fn lengths(words: &[Word], left: u32) -> Result<(Option<Lengths>, &[Word]), Refusal>
-    ensures { Gives lengths_part result (lengths_at left words.now) }
+fn lengths(words: &[Word], depth_left: u32) -> Result<(Option<Lengths>, &[Word]), Refusal>
+    ensures { Agrees lengths_part result (lengths_at depth_left words.now) }
 {
     if let Some(rest) = after(words, Symbol::Plus) {
         return Ok((Some(Lengths::AndLonger), rest));
@@ -123,7 +132,7 @@ fn lengths(words: &[Word], left: u32) -> Result<(Option<Lengths>, &[Word]), Refu
         return Ok((Some(Lengths::AndShorter), rest));
     }
     match after(words, Symbol::OpenBrace) {
-        Some(inside) => braced(words, inside, left),
+        Some(inside) => braced(words, inside, depth_left),
         None => Ok((None, words)),
     }
 }
@@ -133,12 +142,12 @@ fn pair_item<'a>(
     words: &'a [Word],
     at: usize,
     inside: &'a [Word],
-    left: u32,
+    depth_left: u32,
 ) -> Result<(Item, &'a [Word]), Refusal<'a>>
     requires { words.now ≡ Word.Placed at OpenParenthesis ∷ inside.now }
-    ensures { Gives item_tree result (item_at left words.now) }
+    ensures { Agrees item_tree result (item_at depth_left words.now) }
 {
-    let _below = level_below(words, left)?;
+    let _below = level_below(words, depth_left)?;
     let ((first, second), rest) = pair(inside)?;
     let rest = expect(rest, Symbol::CloseParenthesis)?;
     Ok((Item::Pair { at, first, second }, rest))
@@ -150,26 +159,26 @@ fn prefix_item<'a>(
     at: usize,
     net: Prefix,
     behind: &'a [Word],
-    left: u32,
+    depth_left: u32,
 ) -> Result<(Item, &'a [Word]), Refusal<'a>>
     requires { words.now ≡ Word.Prefix at net ∷ behind.now }
-    ensures { Gives item_tree result (item_at left words.now) }
+    ensures { Agrees item_tree result (item_at depth_left words.now) }
 {
-    let (lengths, rest) = lengths(behind, left)?;
+    let (lengths, rest) = lengths(behind, depth_left)?;
     Ok((Item::Prefix { at, net, lengths }, rest))
 }
 
-pub fn item(words: &[Word], left: u32) -> Result<(Item, &[Word]), Refusal>
-    ensures { Gives item_tree result (item_at left words.now) }
+pub fn item(words: &[Word], depth_left: u32) -> Result<(Item, &[Word]), Refusal>
+    ensures { Agrees item_tree result (item_at depth_left words.now) }
 {
     if let Some((at, inside)) = after_placed(words, Symbol::OpenParenthesis) {
-        return pair_item(words, at, inside, left);
+        return pair_item(words, at, inside, depth_left);
     }
     match next_prefix(words) {
-        Some(((at, net), rest)) => prefix_item(words, at, net, rest, left),
+        Some(((at, net), rest)) => prefix_item(words, at, net, rest, depth_left),
         None => {
             let (part, rest) = part(words)?;
-            Ok((Item::Part(part), rest))
+            Ok((Item::Range(part), rest))
         }
     }
 }
@@ -178,25 +187,27 @@ pub fn item(words: &[Word], left: u32) -> Result<(Item, &[Word]), Refusal>
 pub fn items<'a>(
     alloc: Global,
     words: &'a [Word],
-    left: u32,
+    depth_left: u32,
 ) -> Result<(Vec<Item>, &'a [Word]), Refusal<'a>>
-    ensures tree { Gives (λ v. items_tree v.items) result (items_at left words.now) }
+    ensures tree { Agrees (λ v. items_tree v.items) result (items_at depth_left words.now) }
     ensures some { IfOk result (λ found. 0 < length found.0.items) }
 {
     let mut found = Vec::new(alloc);
-    let (first, mut rest) = match item(words, left) {
+    let (first, mut rest) = match item(words, depth_left) {
         Ok(found) => found,
         Err(refusal) => return Err(refusal),
     };
     found.push(first)?;
     while let Some(next) = after(rest, Symbol::Comma) {
-        let (more, end) = match item(next, left) {
+        let (more, end) = match item(next, depth_left) {
             Ok(found) => found,
             Err(refusal) => return Err(refusal),
         };
         found.push(more)?;
         rest = end;
     }
+    // Most lists are short, and a tree is kept: the room that a list grew by isn't.
+    found.shrink_to_fit();
     Ok((found, rest))
 }
 
@@ -204,17 +215,17 @@ pub fn items<'a>(
 pub fn label<'a>(
     alloc: Global,
     words: &'a [Word],
-    left: u32,
+    depth_left: u32,
 ) -> Result<(Vec<Item>, &'a [Word]), Refusal<'a>>
-    ensures { Gives (λ v. label_tree v.items) result (label_at left words.now) }
+    ensures { Agrees (λ v. label_tree v.items) result (label_at depth_left words.now) }
 {
-    let (items, rest) = items(alloc, words, left)?;
+    let (items, rest) = items(alloc, words, depth_left)?;
     let rest = expect(rest, Symbol::Colon)?;
     Ok((items, rest))
 }
 
 fn mask_atom(words: &[Word]) -> Result<(MaskAtom, &[Word]), Refusal>
-    ensures { Gives mask_atom_tree result (mask_atom_at 0 words.now) }
+    ensures { Agrees mask_atom_tree result (mask_atom_at 0 words.now) }
 {
     if let Some(rest) = after(words, Symbol::Question) {
         return Ok((MaskAtom::One, rest));
@@ -223,13 +234,13 @@ fn mask_atom(words: &[Word]) -> Result<(MaskAtom, &[Word]), Refusal>
         Some(rest) => Ok((MaskAtom::Any, rest)),
         None => {
             let (part, rest) = part(words)?;
-            Ok((MaskAtom::Part(part), rest))
+            Ok((MaskAtom::Range(part), rest))
         }
     }
 }
 
 fn mask_item(words: &[Word]) -> Result<(MaskItem, &[Word]), Refusal>
-    ensures { Gives mask_item_tree result (mask_item_at 0 words.now) }
+    ensures { Agrees mask_item_tree result (mask_item_at 0 words.now) }
 {
     let (atom, rest) = mask_atom(words)?;
     match after(rest, Symbol::Plus) {
@@ -240,7 +251,7 @@ fn mask_item(words: &[Word]) -> Result<(MaskItem, &[Word]), Refusal>
 
 // Whether an element of a mask comes next.
 fn begins_mask_item(words: &[Word]) -> bool
-    ensures { result ≡ begins (starts mask_item) words.now }
+    ensures { result ≡ begins (first_set mask_item) words.now }
 {
     matches!(
         words,
@@ -256,7 +267,7 @@ pub fn mask_items<'a>(
     alloc: Global,
     words: &'a [Word],
 ) -> Result<(Vec<MaskItem>, &'a [Word]), Refusal<'a>>
-    ensures { Gives (λ v. mask_items_tree v.items) result (mask_items_at 0 words.now) }
+    ensures { Agrees (λ v. mask_items_tree v.items) result (mask_items_at 0 words.now) }
 {
     let mut found = Vec::new(alloc);
     let mut rest = words;

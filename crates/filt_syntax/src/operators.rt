@@ -1,62 +1,69 @@
 // The symbols of expressions, where they come next.
 
-ghost use Rattle.std.specs.Prelude.{◌≡◌, [], ◌∷◌, ℕ, true, false, MatchOption};
+ghost use Rattle.std.specs.Prelude.{◌≡◌, ◌∷◌, ℕ, false, MatchOption};
 ghost use Rattle.conf_lex.specs.declared.word.Word.{Word};
 ghost use Rattle.conf_lex.specs.declared.symbol.Symbol.{Symbol};
-ghost use Rattle.grammar.specs.Kind.{kind_of, keeps_place, symbol as is_the_symbol, name, names_attribute, names_constant, is_attribute};
+ghost use Rattle.conf_lex.specs.Symbols.{is_placed};
+ghost use Rattle.grammar.specs.Kind.{kind_of, symbol as is_the_symbol, name};
+ghost use Rattle.grammar.specs.Kind.{names_attribute, names_constant, is_attribute};
 ghost use Rattle.grammar.specs.Grammar.{begins};
-ghost use Rattle.filt_syntax.specs.Syntax.{is_simple, is_method, is_property, is_factor, is_term, is_compare, is_joint};
-ghost use Rattle.filt_syntax.specs.View.{simple_word, method_word, method_symbol, attribute_symbol, constant_symbol, attribute_word, property_symbol, factor_symbol, term_symbol, compare_symbol, joint_symbol};
+ghost use Rattle.filt_syntax.specs.Finds.{Finds};
+ghost use Rattle.filt_syntax.specs.Syntax.{is_atom, is_method, is_property, is_mul_op, is_add_op};
+ghost use Rattle.filt_syntax.specs.Syntax.{is_compare_op, is_logical_op};
+ghost use Rattle.filt_syntax.specs.View.{atom_word, method_word, method_symbol, attribute_symbol};
+ghost use Rattle.filt_syntax.specs.View.{constant_symbol, attribute_word, property_symbol};
+ghost use Rattle.filt_syntax.specs.View.{mul_op_symbol, add_op_symbol, compare_op_symbol};
+ghost use Rattle.filt_syntax.specs.View.{logical_op_symbol};
 
-use crate::tree::{
-    Attribute, Compare, Constant, Factor, Joint, Method, MethodKind, Property, Simple, Term,
+use crate::ast::{
+    AddOp, Atom, Attribute, CompareOp, Constant, LogicalOp, Method, MethodKind, MulOp, Property,
 };
 use conf_lex::{Symbol, Word};
 use grammar::{Name, next};
 
 /// What joins two comparisons, and the words after it.
-pub fn next_joint(words: &[Word]) -> Option<(Joint, &[Word])>
-    ensures { MatchOption result (begins is_joint words.now ≡ false) (λ found. words.now ≡ Word.Symbol (joint_symbol found.0) ∷ found.1.now) }
+pub fn next_logical_op(words: &[Word]) -> Option<(LogicalOp, &[Word])>
+    ensures { Finds is_logical_op (λ j. Word.Symbol (logical_op_symbol j)) result words.now }
 {
     match next_plain(words) {
-        Some((symbol, rest)) => joint_of(symbol).map(|joint| (joint, rest)),
+        Some((symbol, rest)) => logical_op_of(symbol).map(|logical_op| (logical_op, rest)),
         None => None,
     }
 }
 
 /// What compares two sums, and the words after it.
-pub fn next_compare(words: &[Word]) -> Option<(Compare, &[Word])>
-    ensures { MatchOption result (begins is_compare words.now ≡ false) (λ found. words.now ≡ Word.Symbol (compare_symbol found.0) ∷ found.1.now) }
+pub fn next_compare_op(words: &[Word]) -> Option<(CompareOp, &[Word])>
+    ensures { Finds is_compare_op (λ c. Word.Symbol (compare_op_symbol c)) result words.now }
 {
     match next_plain(words) {
-        Some((symbol, rest)) => compare_of(symbol).map(|compare| (compare, rest)),
+        Some((symbol, rest)) => compare_op_of(symbol).map(|compare_op| (compare_op, rest)),
         None => None,
     }
 }
 
 /// What joins two products, and the words after it.
-pub fn next_term(words: &[Word]) -> Option<(Term, &[Word])>
-    ensures { MatchOption result (begins is_term words.now ≡ false) (λ found. words.now ≡ Word.Symbol (term_symbol found.0) ∷ found.1.now) }
+pub fn next_add_op(words: &[Word]) -> Option<(AddOp, &[Word])>
+    ensures { Finds is_add_op (λ t. Word.Symbol (add_op_symbol t)) result words.now }
 {
     match next_plain(words) {
-        Some((symbol, rest)) => term_of(symbol).map(|term| (term, rest)),
+        Some((symbol, rest)) => add_op_of(symbol).map(|add_op| (add_op, rest)),
         None => None,
     }
 }
 
 /// What joins two operands, and the words after it.
-pub fn next_factor(words: &[Word]) -> Option<(Factor, &[Word])>
-    ensures { MatchOption result (begins is_factor words.now ≡ false) (λ found. words.now ≡ Word.Symbol (factor_symbol found.0) ∷ found.1.now) }
+pub fn next_mul_op(words: &[Word]) -> Option<(MulOp, &[Word])>
+    ensures { Finds is_mul_op (λ f. Word.Symbol (mul_op_symbol f)) result words.now }
 {
     match next_plain(words) {
-        Some((symbol, rest)) => factor_of(symbol).map(|factor| (factor, rest)),
+        Some((symbol, rest)) => mul_op_of(symbol).map(|mul_op| (mul_op, rest)),
         None => None,
     }
 }
 
 /// A property, and the words after it.
 pub fn next_property(words: &[Word]) -> Option<(Property, &[Word])>
-    ensures { MatchOption result (begins is_property words.now ≡ false) (λ found. words.now ≡ Word.Symbol (property_symbol found.0) ∷ found.1.now) }
+    ensures { Finds is_property (λ p. Word.Symbol (property_symbol p)) result words.now }
 {
     match next_plain(words) {
         Some((symbol, rest)) => property_of(symbol).map(|property| (property, rest)),
@@ -66,7 +73,7 @@ pub fn next_property(words: &[Word]) -> Option<(Property, &[Word])>
 
 /// A method, and the words after it.
 pub fn next_method(words: &[Word]) -> Option<(Method, &[Word])>
-    ensures { MatchOption result (begins is_method words.now ≡ false) (λ found. words.now ≡ method_word found.0 ∷ found.1.now) }
+    ensures { Finds is_method method_word result words.now }
 {
     match next(words) {
         Some((word, rest)) => method_of(word).map(|method| (method, rest)),
@@ -75,18 +82,18 @@ pub fn next_method(words: &[Word]) -> Option<(Method, &[Word])>
 }
 
 /// A word that is an expression, and the words after it.
-pub fn next_simple(words: &[Word]) -> Option<(Simple, &[Word])>
-    ensures { MatchOption result (begins is_simple words.now ≡ false) (λ found. words.now ≡ simple_word found.0 ∷ found.1.now) }
+pub fn next_atom(words: &[Word]) -> Option<(Atom, &[Word])>
+    ensures { Finds is_atom atom_word result words.now }
 {
     match next(words) {
-        Some((word, rest)) => simple_of(word).map(|simple| (simple, rest)),
+        Some((word, rest)) => atom_of(word).map(|atom| (atom, rest)),
         None => None,
     }
 }
 
 /// The place of an attribute and the attribute, and the words after it.
 pub fn next_attribute(words: &[Word]) -> Option<((usize, Attribute), &[Word])>
-    ensures { MatchOption result (begins is_attribute words.now ≡ false) (λ found. words.now ≡ attribute_word found.0.0 found.0.1 ∷ found.1.now) }
+    ensures { Finds is_attribute (λ found. attribute_word found.0 found.1) result words.now }
 {
     match next(words) {
         Some((word, rest)) => attribute_of(word).map(|attribute| (attribute, rest)),
@@ -96,7 +103,7 @@ pub fn next_attribute(words: &[Word]) -> Option<((usize, Attribute), &[Word])>
 
 /// A name, and the words after it.
 pub fn next_name(words: &[Word]) -> Option<(Name, &[Word])>
-    ensures { MatchOption result (begins name words.now ≡ false) (λ found. words.now ≡ Word.Name found.0.at found.0.start found.0.len ∷ found.1.now) }
+    ensures { Finds name (λ n. Word.Name n.at n.start n.len) result words.now }
 {
     match words {
         [Word::Name { at, start, len }, rest @ ..] => {
@@ -113,7 +120,9 @@ pub fn next_name(words: &[Word]) -> Option<(Name, &[Word])>
 
 // A symbol that carries no place, and the words after it.
 fn next_plain(words: &[Word]) -> Option<(Symbol, &[Word])>
-    ensures { MatchOption result ((s : Symbol) → keeps_place s ≡ false → begins (is_the_symbol s) words.now ≡ false) (λ found. words.now ≡ Word.Symbol found.0 ∷ found.1.now) }
+    ensures { MatchOption result
+        ((s : Symbol) → is_placed s ≡ false → begins (is_the_symbol s) words.now ≡ false)
+        (λ found. words.now ≡ Word.Symbol found.0 ∷ found.1.now) }
 {
     match next(words) {
         Some((word, rest)) => plain_symbol(word).map(|symbol| (symbol, rest)),
@@ -121,54 +130,59 @@ fn next_plain(words: &[Word]) -> Option<(Symbol, &[Word])>
     }
 }
 
-fn joint_of(symbol: Symbol) -> Option<Joint>
-    ensures { MatchOption result (is_joint (kind_of (Word.Symbol symbol)) ≡ false) (λ j. symbol ≡ joint_symbol j) }
+fn logical_op_of(symbol: Symbol) -> Option<LogicalOp>
+    ensures { MatchOption result (is_logical_op (kind_of (Word.Symbol symbol)) ≡ false)
+        (λ j. symbol ≡ logical_op_symbol j) }
 {
     match symbol {
-        Symbol::And => Some(Joint::And),
-        Symbol::Or => Some(Joint::Or),
+        Symbol::And => Some(LogicalOp::And),
+        Symbol::Or => Some(LogicalOp::Or),
         _ => None,
     }
 }
 
-fn compare_of(symbol: Symbol) -> Option<Compare>
-    ensures { MatchOption result (is_compare (kind_of (Word.Symbol symbol)) ≡ false) (λ c. symbol ≡ compare_symbol c) }
+fn compare_op_of(symbol: Symbol) -> Option<CompareOp>
+    ensures { MatchOption result (is_compare_op (kind_of (Word.Symbol symbol)) ≡ false)
+        (λ c. symbol ≡ compare_op_symbol c) }
 {
     match symbol {
-        Symbol::Equal => Some(Compare::Equal),
-        Symbol::NotEqual => Some(Compare::NotEqual),
-        Symbol::Less => Some(Compare::Less),
-        Symbol::LessOrEqual => Some(Compare::LessOrEqual),
-        Symbol::Greater => Some(Compare::Greater),
-        Symbol::GreaterOrEqual => Some(Compare::GreaterOrEqual),
-        Symbol::Matches => Some(Compare::Matches),
-        Symbol::MatchesNot => Some(Compare::MatchesNot),
+        Symbol::Equal => Some(CompareOp::Equal),
+        Symbol::NotEqual => Some(CompareOp::NotEqual),
+        Symbol::Less => Some(CompareOp::Less),
+        Symbol::LessOrEqual => Some(CompareOp::LessOrEqual),
+        Symbol::Greater => Some(CompareOp::Greater),
+        Symbol::GreaterOrEqual => Some(CompareOp::GreaterOrEqual),
+        Symbol::Matches => Some(CompareOp::Matches),
+        Symbol::MatchesNot => Some(CompareOp::MatchesNot),
         _ => None,
     }
 }
 
-fn term_of(symbol: Symbol) -> Option<Term>
-    ensures { MatchOption result (is_term (kind_of (Word.Symbol symbol)) ≡ false) (λ t. symbol ≡ term_symbol t) }
+fn add_op_of(symbol: Symbol) -> Option<AddOp>
+    ensures { MatchOption result (is_add_op (kind_of (Word.Symbol symbol)) ≡ false)
+        (λ t. symbol ≡ add_op_symbol t) }
 {
     match symbol {
-        Symbol::Plus => Some(Term::Plus),
-        Symbol::Minus => Some(Term::Minus),
+        Symbol::Plus => Some(AddOp::Plus),
+        Symbol::Minus => Some(AddOp::Minus),
         _ => None,
     }
 }
 
-fn factor_of(symbol: Symbol) -> Option<Factor>
-    ensures { MatchOption result (is_factor (kind_of (Word.Symbol symbol)) ≡ false) (λ f. symbol ≡ factor_symbol f) }
+fn mul_op_of(symbol: Symbol) -> Option<MulOp>
+    ensures { MatchOption result (is_mul_op (kind_of (Word.Symbol symbol)) ≡ false)
+        (λ f. symbol ≡ mul_op_symbol f) }
 {
     match symbol {
-        Symbol::Star => Some(Factor::Times),
-        Symbol::Slash => Some(Factor::Over),
+        Symbol::Star => Some(MulOp::Times),
+        Symbol::Slash => Some(MulOp::Over),
         _ => None,
     }
 }
 
 fn property_of(symbol: Symbol) -> Option<Property>
-    ensures { MatchOption result (is_property (kind_of (Word.Symbol symbol)) ≡ false) (λ p. symbol ≡ property_symbol p) }
+    ensures { MatchOption result (is_property (kind_of (Word.Symbol symbol)) ≡ false)
+        (λ p. symbol ≡ property_symbol p) }
 {
     match symbol {
         Symbol::Len => Some(Property::Len),
@@ -192,7 +206,8 @@ fn method_of(word: Word) -> Option<Method>
 }
 
 fn method_kind(symbol: Symbol) -> Option<MethodKind>
-    ensures { MatchOption result ((at : ℕ) → is_method (kind_of (Word.Placed at symbol)) ≡ false) (λ m. symbol ≡ method_symbol m) }
+    ensures { MatchOption result ((at : ℕ) → is_method (kind_of (Word.Placed at symbol)) ≡ false)
+        (λ m. symbol ≡ method_symbol m) }
 {
     match symbol {
         Symbol::Prepend => Some(MethodKind::Prepend),
@@ -203,39 +218,41 @@ fn method_kind(symbol: Symbol) -> Option<MethodKind>
     }
 }
 
-fn simple_of(word: Word) -> Option<Simple>
-    ensures { MatchOption result (is_simple (kind_of word) ≡ false) (λ s. word ≡ simple_word s) }
+fn atom_of(word: Word) -> Option<Atom>
+    ensures { MatchOption result (is_atom (kind_of word) ≡ false) (λ s. word ≡ atom_word s) }
 {
     match word {
-        Word::Number { at, value } => Some(Simple::Number { at, value }),
-        Word::Text { at, start, len } => Some(Simple::Text { at, start, len }),
-        Word::Ip { at, addr } => Some(Simple::Ip { at, addr }),
-        Word::Prefix { at, net } => Some(Simple::Prefix { at, net }),
-        Word::Placed { at, symbol } => simple_symbol(at, symbol),
+        Word::Number { at, value } => Some(Atom::Number { at, value }),
+        Word::Text { at, start, len } => Some(Atom::Text { at, start, len }),
+        Word::Ip { at, addr } => Some(Atom::Ip { at, addr }),
+        Word::Prefix { at, net } => Some(Atom::Prefix { at, net }),
+        Word::Placed { at, symbol } => atom_symbol(at, symbol),
         _ => None,
     }
 }
 
-fn simple_symbol(at: usize, symbol: Symbol) -> Option<Simple>
-    ensures { MatchOption result (is_simple (kind_of (Word.Placed at symbol)) ≡ false) (λ s. Word.Placed at symbol ≡ simple_word s) }
+fn atom_symbol(at: usize, symbol: Symbol) -> Option<Atom>
+    ensures { MatchOption result (is_atom (kind_of (Word.Placed at symbol)) ≡ false)
+        (λ s. Word.Placed at symbol ≡ atom_word s) }
 {
     if let Some(attribute) = named_attribute(symbol) {
-        return Some(Simple::Attribute { at, attribute });
+        return Some(Atom::Attribute { at, attribute });
     }
     if let Some(constant) = named_constant(symbol) {
-        return Some(Simple::Constant { at, constant });
+        return Some(Atom::Constant { at, constant });
     }
     match symbol {
-        Symbol::True => Some(Simple::True { at }),
-        Symbol::False => Some(Simple::False { at }),
-        Symbol::EmptyPath => Some(Simple::EmptyPath { at }),
-        Symbol::EmptyClist => Some(Simple::EmptyClist { at }),
+        Symbol::True => Some(Atom::True { at }),
+        Symbol::False => Some(Atom::False { at }),
+        Symbol::EmptyPath => Some(Atom::EmptyPath { at }),
+        Symbol::EmptyClist => Some(Atom::EmptyClist { at }),
         _ => None,
     }
 }
 
 fn attribute_of(word: Word) -> Option<(usize, Attribute)>
-    ensures { MatchOption result (is_attribute (kind_of word) ≡ false) (λ found. word ≡ attribute_word found.0 found.1) }
+    ensures { MatchOption result (is_attribute (kind_of word) ≡ false)
+        (λ found. word ≡ attribute_word found.0 found.1) }
 {
     match word {
         Word::Placed { at, symbol } => match named_attribute(symbol) {
@@ -247,7 +264,8 @@ fn attribute_of(word: Word) -> Option<(usize, Attribute)>
 }
 
 fn named_attribute(symbol: Symbol) -> Option<Attribute>
-    ensures { MatchOption result (names_attribute symbol ≡ false) (λ a. symbol ≡ attribute_symbol a) }
+    ensures { MatchOption result (names_attribute symbol ≡ false)
+        (λ a. symbol ≡ attribute_symbol a) }
 {
     match symbol {
         Symbol::Net => Some(Attribute::Net),
@@ -287,7 +305,9 @@ fn named_constant(symbol: Symbol) -> Option<Constant>
 }
 
 fn plain_symbol(word: Word) -> Option<Symbol>
-    ensures { MatchOption result ((s : Symbol) → keeps_place s ≡ false → is_the_symbol s (kind_of word) ≡ false) (λ s. word ≡ Word.Symbol s) }
+    ensures { MatchOption result
+        ((s : Symbol) → is_placed s ≡ false → is_the_symbol s (kind_of word) ≡ false)
+        (λ s. word ≡ Word.Symbol s) }
 {
     match word {
         Word::Symbol(symbol) => Some(symbol),

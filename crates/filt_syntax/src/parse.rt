@@ -1,24 +1,26 @@
 // What stands at a place of the words.
 
 ghost use Rattle.std.specs.Prelude.{◌≡◌, ℕ, ◌≤◌, length, drop, IfOk, IfErr};
-ghost use Rattle.grammar.specs.Grammar.{Tree, Fits, Spells};
+ghost use Rattle.grammar.specs.Grammar.{ParseTree, DerivesLongest, Derives};
 ghost use Rattle.filt_syntax.specs.declared.parse.SyntaxFault.{SyntaxFault};
 ghost use Rattle.filt_syntax.specs.Syntax.{expr, rule};
-ghost use Rattle.filt_syntax.specs.View.{sight};
-ghost use Rattle.filt_syntax.specs.Parse.{Stands, IsRefused, IsAnswer, IsFault, refused_words, fault_of};
+ghost use Rattle.filt_syntax.specs.View.{derivations};
+ghost use Rattle.filt_syntax.specs.Parse.{ParsesAt, IsRefused, IsAnswer, IsFault, refused_words};
+ghost use Rattle.filt_syntax.specs.Parse.{fault_of};
 
+use crate::ast::Expr;
 use crate::expression::expression;
-use crate::tree::Expr;
 use conf_lex::Word;
 use grammar::{Refusal, place_in};
 use std::alloc::Global;
 use thiserror::Error;
 
-/// How many levels may be open: brackets, `!`, and the bodies of statements. A tree within them is no deeper than the
-/// program's stack.
+/// How many levels may be open: brackets, `!`, and the bodies of statements. A tree within them is
+/// no deeper than the program's stack.
 pub const LEVELS: u32 = 64;
 
-/// Why words have no tree, and the place of the refused one: the number of the words where more of them would be wanted.
+/// Why words have no tree, and the place of the refused one: the number of the words where more of
+/// them would be wanted.
 #[derive(Clone, Copy, Debug, PartialEq, Eq, Error)]
 pub enum SyntaxFault {
     /// Nothing that begins with the words before it goes on with this one.
@@ -27,7 +29,8 @@ pub enum SyntaxFault {
     /// It opens one level more than 64.
     #[error("more than 64 levels at {at}")]
     TooDeep { at: usize },
-    /// It is known here and not supported.
+    /// It is known here and not supported: of a configuration alone, never of an expression or a
+    /// block.
     #[error("not supported at {at}")]
     Unsupported { at: usize },
     #[error("out of memory")]
@@ -41,9 +44,11 @@ pub fn parse_expr_words(
     from: usize,
 ) -> Result<(Expr, usize), SyntaxFault>
     requires { from ≤ length words.now }
-    ensures tree { IfOk result (λ found. Stands expr words.now from (sight found.0).expr found.1) }
+    ensures tree { IfOk result (λ found. ParsesAt expr words.now from
+        (derivations found.0).expr found.1) }
     ensures fault { IfErr result (λ e. IsRefused expr words.now from e) }
-    ensures only { (t : Tree) (end : ℕ) → Stands expr words.now from t end → IsAnswer (λ e. (sight e).expr) result t end }
+    ensures only { (t : ParseTree) (end : ℕ) → ParsesAt expr words.now from t end
+        → IsAnswer (λ e. (derivations e).expr) result t end }
     ensures exact { (e : SyntaxFault) → IsRefused expr words.now from e → IsFault result e }
 {
     match expression(alloc, tail(words, from), LEVELS) {
@@ -52,9 +57,10 @@ pub fn parse_expr_words(
     }
 }
 
-/// In an expression the next word always decides: a tree by the grammar alone has no part that stops too soon.
+/// In an expression the next word always decides: a tree by the grammar alone has no part that
+/// stops too soon.
 pub fn expressions_decide()
-    ensures { (t : Tree) → Spells rule t expr → Fits rule t expr }
+    ensures { (t : ParseTree) → Derives rule t expr → DerivesLongest rule t expr }
 {}
 
 /// The words from a place on.
@@ -75,9 +81,6 @@ pub fn placed(words: &[Word], refusal: Refusal) -> SyntaxFault
             at: place_in(words, rest),
         },
         Refusal::TooDeep(rest) => SyntaxFault::TooDeep {
-            at: place_in(words, rest),
-        },
-        Refusal::Unsupported(rest) => SyntaxFault::Unsupported {
             at: place_in(words, rest),
         },
         Refusal::Memory => SyntaxFault::Memory,

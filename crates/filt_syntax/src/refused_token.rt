@@ -1,22 +1,23 @@
 // At which of its tokens a refused word is refused.
 
 ghost use Rattle.std.specs.Prelude.{◌≡◌, ◌↔◌, ◌≤◌, ◌+◌, ◌∷◌, [], ◌++◌, cond, ◌<◌, ◌^◌};
-ghost use Rattle.std.specs.Prelude.{List, ℕ, if◌then◌else◌, length, take, drop, IsTrue, IfOk};
+ghost use Rattle.std.specs.Prelude.{List, ℕ, if◌then◌else◌, length, take, IsTrue, IfOk};
 ghost use Rattle.std.specs.Prelude.{MatchOption};
 ghost use Rattle.bits_ip.specs.declared.address.Addr.{Addr};
 ghost use Rattle.conf_lex.specs.declared.symbol.Symbol.TheVariants as sym;
 ghost use Rattle.conf_lex.specs.declared.word.Word.{Word};
 ghost use Rattle.grammar.specs.Kind.{symbol};
-ghost use Rattle.grammar.specs.Grammar.{Form, begins};
+ghost use Rattle.grammar.specs.Grammar.{begins};
 ghost use Rattle.grammar.specs.Sentences.{IsBegunWithin};
 ghost use Rattle.filt_syntax.specs.Syntax.{rule};
+ghost use Rattle.filt_syntax.specs.Levels.{Form};
 ghost use Rattle.filt_syntax.specs.RefusedToken.{CanFollow, some_prefix, some_address, torn_of};
 ghost use Rattle.filt_syntax.specs.RefusedToken.{is_address_word, EndInAddress, IsPast};
-ghost use Rattle.filt_syntax.specs.RefusedToken.{IsPastFirst, IsPastAt, IsBadFrom};
+ghost use Rattle.filt_syntax.specs.RefusedToken.{IsPastFirst, IsBadFrom};
 
 use crate::parse::SyntaxFault;
 use bits_ip::{Addr, OutOfMemory, Prefix};
-use conf_lex::{Symbol, Word};
+use conf_lex::{PackedAddr, Symbol, Word};
 use grammar::is_symbol;
 use std::alloc::Global;
 
@@ -85,7 +86,7 @@ fn some_address() -> Word
 {
     Word::Ip {
         at: 0,
-        addr: Addr::V4(0),
+        addr: PackedAddr::of(Addr::V4(0)),
     }
 }
 

@@ -1,23 +1,24 @@
-// Statements that hold no other statement. Each function answers a statement and the words after it; `left` is how many
-// more levels may be opened.
+// Statements that hold no other statement. Each function answers a statement and the words after
+// it; `depth_left` is how many more levels may be opened.
 
-ghost use Rattle.std.specs.Prelude.{◌≡◌, ◌∷◌, ◌<◌, false, length, IfOk};
+ghost use Rattle.std.specs.Prelude.{◌≡◌, ◌∷◌, false};
 ghost use Rattle.conf_lex.specs.declared.symbol.Symbol.TheVariants as sym;
 ghost use Rattle.conf_lex.specs.declared.word.Word.{Word};
 ghost use Rattle.grammar.specs.Kind.{symbol, name as is_name};
-ghost use Rattle.grammar.specs.Grammar.{Both, Second, begins};
-ghost use Rattle.grammar.specs.Reading.{Read, Got, and_then, word, both};
-ghost use Rattle.grammar.specs.Shapes.{symbol_leaf};
-ghost use Rattle.grammar.specs.Gives.{Gives};
-ghost use Rattle.filt_syntax.specs.View.{sight, attribute_word, expr_trees, listed_tree};
+ghost use Rattle.grammar.specs.Grammar.{Pair, begins};
+ghost use Rattle.grammar.specs.Reading.{Read, Parsed, word, both};
+ghost use Rattle.grammar.specs.Agrees.{Agrees};
+ghost use Rattle.filt_syntax.specs.View.{attribute_word, expr_trees, listed_tree};
 ghost use Rattle.filt_syntax.specs.Readers.{expr_at};
-ghost use Rattle.filt_syntax.specs.StatementView.{stmt_tree, boxed_tree, ended, change_tree, semicolon_leaf, initial_tree, result_tree};
-ghost use Rattle.filt_syntax.specs.StatementReaders.{stmt_at, of_name_at, change_at, declaration_at, initial_at, result_at, exprs_at};
+ghost use Rattle.filt_syntax.specs.StatementView.{stmt_tree, boxed_tree, ended, change_tree};
+ghost use Rattle.filt_syntax.specs.StatementView.{semicolon_leaf, initial_tree};
+ghost use Rattle.filt_syntax.specs.StatementReaders.{stmt_at, of_name_at, change_at};
+ghost use Rattle.filt_syntax.specs.StatementReaders.{declaration_at, initial_at, exprs_at};
 
+use crate::ast::{Attribute, Change, Expr, Stmt, Target};
 use crate::bracket::of_attribute;
 use crate::expression::{arguments, expression, method};
 use crate::operators::next_attribute;
-use crate::tree::{Attribute, Change, Expr, Stmt, Target};
 use crate::variable_type::variable_type;
 use conf_lex::{Symbol, Word};
 use grammar::{Name, Refusal, after, after_placed, expect, expect_name};
@@ -29,7 +30,8 @@ pub fn made<'a>(
     stmt: Stmt,
     rest: &'a [Word],
 ) -> Result<(Box<Stmt>, &'a [Word]), Refusal<'a>>
-    ensures { (read : Read) → read ≡ Got (stmt_tree stmt) rest.now → Gives boxed_tree result read }
+    ensures { (read : Read) → read ≡ Parsed (stmt_tree stmt) rest.now
+        → Agrees boxed_tree result read }
 {
     let boxed = Box::new(alloc, stmt)?;
     Ok((boxed, rest))
@@ -39,11 +41,12 @@ pub fn made<'a>(
 fn value_end<'a>(
     alloc: Global,
     words: &'a [Word],
-    left: u32,
+    depth_left: u32,
 ) -> Result<(Expr, &'a [Word]), Refusal<'a>>
-    ensures { Gives ended result (both (expr_at left) (word (symbol sym.Semicolon)) words.now) }
+    ensures { Agrees ended result (both (expr_at depth_left)
+        (word (symbol sym.Semicolon)) words.now) }
 {
-    let (value, rest) = expression(alloc, words, left)?;
+    let (value, rest) = expression(alloc, words, depth_left)?;
     let rest = expect(rest, Symbol::Semicolon)?;
     Ok((value, rest))
 }
@@ -52,15 +55,16 @@ fn value_end<'a>(
 fn change<'a>(
     alloc: Global,
     words: &'a [Word],
-    left: u32,
+    depth_left: u32,
 ) -> Result<(Change, &'a [Word]), Refusal<'a>>
-    ensures { Gives (λ c. Both (change_tree c) semicolon_leaf) result (change_at left words.now) }
+    ensures { Agrees (λ c. Pair (change_tree c) semicolon_leaf) result
+        (change_at depth_left words.now) }
 {
     if let Some(end) = after(words, Symbol::Empty) {
         let rest = expect(end, Symbol::Semicolon)?;
         return Ok((Change::Empty, rest));
     }
-    let ((method, argument, open), end) = method(alloc, words, left)?;
+    let ((method, argument, open), end) = method(alloc, words, depth_left)?;
     let rest = expect(end, Symbol::Semicolon)?;
     let change = Change::Method {
         method,
@@ -75,20 +79,20 @@ pub fn done_to_name<'a>(
     alloc: Global,
     name: Name,
     words: &'a [Word],
-    left: u32,
+    depth_left: u32,
 ) -> Result<(Box<Stmt>, &'a [Word]), Refusal<'a>>
-    ensures { Gives boxed_tree result (of_name_at left name words.now) }
+    ensures { Agrees boxed_tree result (of_name_at depth_left name words.now) }
 {
     if let Some(next) = after(words, Symbol::Equal) {
-        let (value, rest) = value_end(alloc, next, left)?;
+        let (value, rest) = value_end(alloc, next, depth_left)?;
         return made(alloc, Stmt::Assign(Target::Name(name), value), rest);
     }
     match after(words, Symbol::Dot) {
         Some(next) => {
-            let (change, rest) = change(alloc, next, left)?;
+            let (change, rest) = change(alloc, next, depth_left)?;
             made(alloc, Stmt::Change(Target::Name(name), change), rest)
         }
-        None => call(alloc, name, words, left),
+        None => call(alloc, name, words, depth_left),
     }
 }
 
@@ -97,13 +101,13 @@ fn call<'a>(
     alloc: Global,
     name: Name,
     words: &'a [Word],
-    left: u32,
+    depth_left: u32,
 ) -> Result<(Box<Stmt>, &'a [Word]), Refusal<'a>>
     requires equal { begins (symbol sym.Equal) words.now ≡ false }
     requires dot { begins (symbol sym.Dot) words.now ≡ false }
-    ensures { Gives boxed_tree result (of_name_at left name words.now) }
+    ensures { Agrees boxed_tree result (of_name_at depth_left name words.now) }
 {
-    let ((arguments, open), end) = arguments(alloc, words, left)?;
+    let ((arguments, open), end) = arguments(alloc, words, depth_left)?;
     let rest = expect(end, Symbol::Semicolon)?;
     let called = Stmt::Call {
         name,
@@ -120,18 +124,18 @@ fn done_to_attribute<'a>(
     at: usize,
     attribute: Attribute,
     behind: &'a [Word],
-    left: u32,
+    depth_left: u32,
 ) -> Result<(Box<Stmt>, &'a [Word]), Refusal<'a>>
     requires { words.now ≡ attribute_word at attribute ∷ behind.now }
-    ensures { Gives boxed_tree result (stmt_at left words.now) }
+    ensures { Agrees boxed_tree result (stmt_at depth_left words.now) }
 {
     let target = Target::Attribute { at, attribute };
     if let Some(next) = after(behind, Symbol::Equal) {
-        let (value, rest) = value_end(alloc, next, left)?;
+        let (value, rest) = value_end(alloc, next, depth_left)?;
         return made(alloc, Stmt::Assign(target, value), rest);
     }
     let next = expect(behind, Symbol::Dot)?;
-    let (change, rest) = change(alloc, next, left)?;
+    let (change, rest) = change(alloc, next, depth_left)?;
     made(alloc, Stmt::Change(target, change), rest)
 }
 
@@ -139,14 +143,14 @@ fn done_to_attribute<'a>(
 fn initial<'a>(
     alloc: Global,
     words: &'a [Word],
-    left: u32,
+    depth_left: u32,
 ) -> Result<(Option<Expr>, &'a [Word]), Refusal<'a>>
-    ensures { Gives initial_tree result (initial_at left words.now) }
+    ensures { Agrees initial_tree result (initial_at depth_left words.now) }
 {
     match after(words, Symbol::Equal) {
         None => Ok((None, words)),
         Some(next) => {
-            let (value, rest) = expression(alloc, next, left)?;
+            let (value, rest) = expression(alloc, next, depth_left)?;
             Ok((Some(value), rest))
         }
     }
@@ -156,11 +160,12 @@ fn initial<'a>(
 fn initial_end<'a>(
     alloc: Global,
     words: &'a [Word],
-    left: u32,
+    depth_left: u32,
 ) -> Result<(Option<Expr>, &'a [Word]), Refusal<'a>>
-    ensures { Gives (λ v. Both (initial_tree v) semicolon_leaf) result (both (initial_at left) (word (symbol sym.Semicolon)) words.now) }
+    ensures { Agrees (λ v. Pair (initial_tree v) semicolon_leaf) result
+        (both (initial_at depth_left) (word (symbol sym.Semicolon)) words.now) }
 {
-    let (value, rest) = initial(alloc, words, left)?;
+    let (value, rest) = initial(alloc, words, depth_left)?;
     let rest = expect(rest, Symbol::Semicolon)?;
     Ok((value, rest))
 }
@@ -168,13 +173,13 @@ fn initial_end<'a>(
 fn declaration<'a>(
     alloc: Global,
     words: &'a [Word],
-    left: u32,
+    depth_left: u32,
 ) -> Result<(Box<Stmt>, &'a [Word]), Refusal<'a>>
-    ensures { Gives boxed_tree result (declaration_at left words.now) }
+    ensures { Agrees boxed_tree result (declaration_at depth_left words.now) }
 {
     let (variable_type, rest) = variable_type(words)?;
     let (name, rest) = expect_name(rest)?;
-    let (value, rest) = initial_end(alloc, rest, left)?;
+    let (value, rest) = initial_end(alloc, rest, depth_left)?;
     let declared = Stmt::Declare {
         variable_type,
         name,
@@ -188,12 +193,12 @@ fn unset<'a>(
     alloc: Global,
     words: &'a [Word],
     next: &'a [Word],
-    left: u32,
+    depth_left: u32,
 ) -> Result<(Box<Stmt>, &'a [Word]), Refusal<'a>>
     requires { words.now ≡ Word.Symbol sym.Unset ∷ next.now }
-    ensures { Gives boxed_tree result (stmt_at left words.now) }
+    ensures { Agrees boxed_tree result (stmt_at depth_left words.now) }
 {
-    let ((attribute_at, attribute, open), end) = of_attribute(next, left)?;
+    let ((attribute_at, attribute, open), end) = of_attribute(next, depth_left)?;
     let rest = expect(end, Symbol::Semicolon)?;
     let unset = Stmt::Unset {
         open,
@@ -204,40 +209,41 @@ fn unset<'a>(
 }
 
 // By the words after `return`. A semicolon begins no expression.
-fn returned<'a>(
+fn return_stmt<'a>(
     alloc: Global,
     words: &'a [Word],
     at: usize,
     next: &'a [Word],
-    left: u32,
+    depth_left: u32,
 ) -> Result<(Box<Stmt>, &'a [Word]), Refusal<'a>>
     requires { words.now ≡ Word.Placed at sym.Return ∷ next.now }
-    ensures { Gives boxed_tree result (stmt_at left words.now) }
+    ensures { Agrees boxed_tree result (stmt_at depth_left words.now) }
 {
     if let Some(rest) = after(next, Symbol::Semicolon) {
         return made(alloc, Stmt::Return { at, value: None }, rest);
     }
-    let (value, rest) = value_end(alloc, next, left)?;
-    let returned = Stmt::Return {
+    let (value, rest) = value_end(alloc, next, depth_left)?;
+    let return_stmt = Stmt::Return {
         at,
         value: Some(value),
     };
-    made(alloc, returned, rest)
+    made(alloc, return_stmt, rest)
 }
 
 // One or more expressions, between commas.
 fn expressions<'a>(
     alloc: Global,
     words: &'a [Word],
-    left: u32,
+    depth_left: u32,
 ) -> Result<(Vec<Expr>, &'a [Word]), Refusal<'a>>
-    ensures { Gives (λ v. listed_tree (expr_trees v.items)) result (exprs_at left words.now) }
+    ensures { Agrees (λ v. listed_tree (expr_trees v.items)) result
+        (exprs_at depth_left words.now) }
 {
     let mut found = Vec::new(alloc);
-    let (first, mut rest) = expression(alloc, words, left)?;
+    let (first, mut rest) = expression(alloc, words, depth_left)?;
     found.push(first)?;
     while let Some(next) = after(rest, Symbol::Comma) {
-        let (more, end) = expression(alloc, next, left)?;
+        let (more, end) = expression(alloc, next, depth_left)?;
         found.push(more)?;
         rest = end;
     }
@@ -245,14 +251,15 @@ fn expressions<'a>(
 }
 
 // What is printed, and a semicolon.
-fn printed<'a>(
+fn print_stmt<'a>(
     alloc: Global,
     words: &'a [Word],
-    left: u32,
+    depth_left: u32,
 ) -> Result<(Vec<Expr>, &'a [Word]), Refusal<'a>>
-    ensures { Gives (λ v. Both (listed_tree (expr_trees v.items)) semicolon_leaf) result (both (exprs_at left) (word (symbol sym.Semicolon)) words.now) }
+    ensures { Agrees (λ v. Pair (listed_tree (expr_trees v.items)) semicolon_leaf) result
+        (both (exprs_at depth_left) (word (symbol sym.Semicolon)) words.now) }
 {
-    let (values, end) = expressions(alloc, words, left)?;
+    let (values, end) = expressions(alloc, words, depth_left)?;
     let rest = expect(end, Symbol::Semicolon)?;
     Ok((values, rest))
 }
@@ -262,27 +269,27 @@ fn print<'a>(
     alloc: Global,
     words: &'a [Word],
     next: &'a [Word],
-    left: u32,
+    depth_left: u32,
 ) -> Result<(Box<Stmt>, &'a [Word]), Refusal<'a>>
     requires { words.now ≡ Word.Symbol sym.Print ∷ next.now }
-    ensures { Gives boxed_tree result (stmt_at left words.now) }
+    ensures { Agrees boxed_tree result (stmt_at depth_left words.now) }
 {
-    let (values, rest) = printed(alloc, next, left)?;
+    let (values, rest) = print_stmt(alloc, next, depth_left)?;
     made(alloc, Stmt::Print(values), rest)
 }
 
 // By the words after `printn`.
-fn print_part<'a>(
+fn printn<'a>(
     alloc: Global,
     words: &'a [Word],
     next: &'a [Word],
-    left: u32,
+    depth_left: u32,
 ) -> Result<(Box<Stmt>, &'a [Word]), Refusal<'a>>
     requires { words.now ≡ Word.Symbol sym.Printn ∷ next.now }
-    ensures { Gives boxed_tree result (stmt_at left words.now) }
+    ensures { Agrees boxed_tree result (stmt_at depth_left words.now) }
 {
-    let (values, rest) = printed(alloc, next, left)?;
-    made(alloc, Stmt::PrintPart(values), rest)
+    let (values, rest) = print_stmt(alloc, next, depth_left)?;
+    made(alloc, Stmt::Printn(values), rest)
 }
 
 // By the words after `accept`.
@@ -290,10 +297,10 @@ fn accept<'a>(
     alloc: Global,
     words: &'a [Word],
     next: &'a [Word],
-    left: u32,
+    depth_left: u32,
 ) -> Result<(Box<Stmt>, &'a [Word]), Refusal<'a>>
     requires { words.now ≡ Word.Symbol sym.Accept ∷ next.now }
-    ensures { Gives boxed_tree result (stmt_at left words.now) }
+    ensures { Agrees boxed_tree result (stmt_at depth_left words.now) }
 {
     let rest = expect(next, Symbol::Semicolon)?;
     made(alloc, Stmt::Accept, rest)
@@ -304,10 +311,10 @@ fn reject<'a>(
     alloc: Global,
     words: &'a [Word],
     next: &'a [Word],
-    left: u32,
+    depth_left: u32,
 ) -> Result<(Box<Stmt>, &'a [Word]), Refusal<'a>>
     requires { words.now ≡ Word.Symbol sym.Reject ∷ next.now }
-    ensures { Gives boxed_tree result (stmt_at left words.now) }
+    ensures { Agrees boxed_tree result (stmt_at depth_left words.now) }
 {
     let rest = expect(next, Symbol::Semicolon)?;
     made(alloc, Stmt::Reject, rest)
@@ -317,38 +324,38 @@ fn reject<'a>(
 pub fn simple_statement<'a>(
     alloc: Global,
     words: &'a [Word],
-    left: u32,
+    depth_left: u32,
 ) -> Result<(Box<Stmt>, &'a [Word]), Refusal<'a>>
     requires name { begins is_name words.now ≡ false }
     requires block { begins (symbol sym.OpenBrace) words.now ≡ false }
-    requires choice { begins (symbol sym.If) words.now ≡ false }
-    requires selection { begins (symbol sym.Case) words.now ≡ false }
+    requires if_stmt { begins (symbol sym.If) words.now ≡ false }
+    requires case_stmt { begins (symbol sym.Case) words.now ≡ false }
     requires loop_ { begins (symbol sym.For) words.now ≡ false }
-    ensures { Gives boxed_tree result (stmt_at left words.now) }
+    ensures { Agrees boxed_tree result (stmt_at depth_left words.now) }
 {
     if let Some(((at, attribute), next)) = next_attribute(words) {
-        return done_to_attribute(alloc, words, at, attribute, next, left);
+        return done_to_attribute(alloc, words, at, attribute, next, depth_left);
     }
     if let Some(rest) = after(words, Symbol::Semicolon) {
         return made(alloc, Stmt::Empty, rest);
     }
     if let Some(next) = after(words, Symbol::Unset) {
-        return unset(alloc, words, next, left);
+        return unset(alloc, words, next, depth_left);
     }
     if let Some((at, next)) = after_placed(words, Symbol::Return) {
-        return returned(alloc, words, at, next, left);
+        return return_stmt(alloc, words, at, next, depth_left);
     }
     if let Some(next) = after(words, Symbol::Print) {
-        return print(alloc, words, next, left);
+        return print(alloc, words, next, depth_left);
     }
     if let Some(next) = after(words, Symbol::Printn) {
-        return print_part(alloc, words, next, left);
+        return printn(alloc, words, next, depth_left);
     }
     if let Some(next) = after(words, Symbol::Accept) {
-        return accept(alloc, words, next, left);
+        return accept(alloc, words, next, depth_left);
     }
     match after(words, Symbol::Reject) {
-        Some(next) => reject(alloc, words, next, left),
-        None => declaration(alloc, words, left),
+        Some(next) => reject(alloc, words, next, depth_left),
+        None => declaration(alloc, words, depth_left),
     }
 }

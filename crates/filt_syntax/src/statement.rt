@@ -1,23 +1,30 @@
-// Statements. Each function answers a statement and the words after it; `left` is how many more levels may be opened.
+// Statements. Each function answers a statement and the words after it; `depth_left` is how many
+// more levels may be opened.
 
-ghost use Rattle.std.specs.Prelude.{◌≡◌, [], ◌∷◌, ◌++◌, ◌+◌, map, OnOk};
+ghost use Rattle.std.specs.Prelude.{◌≡◌, [], ◌∷◌, ◌++◌, ◌+◌, OnOk};
 ghost use Rattle.conf_lex.specs.declared.symbol.Symbol.TheVariants as sym;
 ghost use Rattle.conf_lex.specs.declared.word.Word.{Word};
 ghost use Rattle.grammar.specs.Kind.{symbol};
-ghost use Rattle.grammar.specs.Grammar.{Both, Inside, begins};
+ghost use Rattle.grammar.specs.Grammar.{Pair, Deeper, begins};
 ghost use Rattle.grammar.specs.Reading.{word, both};
 ghost use Rattle.grammar.specs.Shapes.{symbol_leaf, closed, between};
-ghost use Rattle.grammar.specs.Gives.{Gives};
-ghost use Rattle.filt_syntax.specs.StatementView.{block_view, stmt_tree, boxed_tree, stmts_tree, arms_row, arms_of, otherwise_tree, otherwise_of, chosen_tree, branches_tree, second_tree};
-ghost use Rattle.filt_syntax.specs.StatementReaders.{block_at, stmt_at, stmts_at, else_at, branches_at, run_at, braced_at, arms_at, arm_ends, arms_over, label_next, is_behind_name, is_item, ArmGives, BodyGives, OtherwiseGives};
-ghost use Rattle.filt_syntax.specs.View.{sight};
+ghost use Rattle.grammar.specs.Agrees.{Agrees};
+ghost use Rattle.filt_syntax.specs.StatementView.{arms_view, block_view, stmt_tree, boxed_tree};
+ghost use Rattle.filt_syntax.specs.StatementView.{stmts_tree, chosen_tree, branches_tree};
+ghost use Rattle.filt_syntax.specs.StatementView.{second_tree};
+ghost use Rattle.filt_syntax.specs.StatementReaders.{block_at, stmt_at, stmts_at, else_at};
+ghost use Rattle.filt_syntax.specs.StatementReaders.{branches_at, run_at, braced_at, arms_at};
+ghost use Rattle.filt_syntax.specs.StatementReaders.{arm_ends, arms_over, label_next};
+ghost use Rattle.filt_syntax.specs.StatementReaders.{is_behind_name, is_item, ArmGives, BodyGives};
+ghost use Rattle.filt_syntax.specs.StatementReaders.{OtherwiseGives};
+ghost use Rattle.filt_syntax.specs.View.{derivations};
 ghost use Rattle.filt_syntax.specs.Readers.{expr_at};
 
+use crate::ast::{Arm, Block, Expr, Stmt};
 use crate::expression::expression;
 use crate::items::label;
 use crate::operators::next_name;
 use crate::simple_statement::{done_to_name, made, simple_statement};
-use crate::tree::{Arm, Block, Expr, Stmt};
 use crate::variable_type::variable_type;
 use conf_lex::{Symbol, Word};
 use grammar::{Refusal, after, after_placed, expect, expect_name, level_below, next};
@@ -35,25 +42,25 @@ struct Branches {
 pub fn statement<'a>(
     alloc: Global,
     words: &'a [Word],
-    left: u32,
+    depth_left: u32,
 ) -> Result<(Box<Stmt>, &'a [Word]), Refusal<'a>>
-    ensures { Gives boxed_tree result (stmt_at left words.now) }
+    ensures { Agrees boxed_tree result (stmt_at depth_left words.now) }
 {
     if let Some((name, next)) = next_name(words) {
-        return done_to_name(alloc, name, next, left);
+        return done_to_name(alloc, name, next, depth_left);
     }
     if let Some(next) = after(words, Symbol::OpenBrace) {
-        return block(alloc, words, next, left);
+        return block(alloc, words, next, depth_left);
     }
     if let Some(next) = after(words, Symbol::If) {
-        return choice(alloc, words, next, left);
+        return if_stmt(alloc, words, next, depth_left);
     }
     if let Some((at, next)) = after_placed(words, Symbol::Case) {
-        return selection(alloc, words, at, next, left);
+        return case_stmt(alloc, words, at, next, depth_left);
     }
     match after_placed(words, Symbol::For) {
-        Some((at, next)) => for_each(alloc, words, at, next, left),
-        None => simple_statement(alloc, words, left),
+        Some((at, next)) => for_stmt(alloc, words, at, next, depth_left),
+        None => simple_statement(alloc, words, depth_left),
     }
 }
 
@@ -63,12 +70,12 @@ fn block<'a>(
     alloc: Global,
     words: &'a [Word],
     next: &'a [Word],
-    left: u32,
+    depth_left: u32,
 ) -> Result<(Box<Stmt>, &'a [Word]), Refusal<'a>>
     requires { words.now ≡ Word.Symbol sym.OpenBrace ∷ next.now }
-    ensures { Gives boxed_tree result (stmt_at left words.now) }
+    ensures { Agrees boxed_tree result (stmt_at depth_left words.now) }
 {
-    let below = level_below(words, left)?;
+    let below = level_below(words, depth_left)?;
     let (body, rest) = statements(alloc, next, below)?;
     made(alloc, Stmt::Block(body), rest)
 }
@@ -85,9 +92,10 @@ fn put(found: &mut Vec<Stmt>, stmt: Box<Stmt>) -> Result<(), AllocError>
 pub fn statements<'a>(
     alloc: Global,
     words: &'a [Word],
-    left: u32,
+    depth_left: u32,
 ) -> Result<(Vec<Stmt>, &'a [Word]), Refusal<'a>>
-    ensures { Gives (λ v. Both (stmts_tree v.items) (symbol_leaf sym.CloseBrace)) result (both (stmts_at left) (word (symbol sym.CloseBrace)) words.now) }
+    ensures { Agrees (λ v. Pair (stmts_tree v.items) (symbol_leaf sym.CloseBrace)) result
+        (both (stmts_at depth_left) (word (symbol sym.CloseBrace)) words.now) }
 {
     let mut found = Vec::new(alloc);
     let mut rest = words;
@@ -95,7 +103,7 @@ pub fn statements<'a>(
         if let Some(end) = after(rest, Symbol::CloseBrace) {
             return Ok((found, end));
         }
-        let (stmt, next) = statement(alloc, rest, left)?;
+        let (stmt, next) = statement(alloc, rest, depth_left)?;
         put(&mut found, stmt)?;
         rest = next;
     }
@@ -103,17 +111,17 @@ pub fn statements<'a>(
 
 // By the words after `if`.
 #[cycle(statement)]
-fn choice<'a>(
+fn if_stmt<'a>(
     alloc: Global,
     words: &'a [Word],
     next: &'a [Word],
-    left: u32,
+    depth_left: u32,
 ) -> Result<(Box<Stmt>, &'a [Word]), Refusal<'a>>
     requires { words.now ≡ Word.Symbol sym.If ∷ next.now }
-    ensures { Gives boxed_tree result (stmt_at left words.now) }
+    ensures { Agrees boxed_tree result (stmt_at depth_left words.now) }
 {
-    let (condition, rest) = expression(alloc, next, left)?;
-    let (branches, rest) = read_branches(alloc, rest, left)?;
+    let (condition, rest) = expression(alloc, next, depth_left)?;
+    let (branches, rest) = read_branches(alloc, rest, depth_left)?;
     made(alloc, chosen(condition, branches), rest)
 }
 
@@ -122,12 +130,12 @@ fn choice<'a>(
 fn read_branches<'a>(
     alloc: Global,
     words: &'a [Word],
-    left: u32,
+    depth_left: u32,
 ) -> Result<(Branches, &'a [Word]), Refusal<'a>>
-    ensures { Gives branches_tree result (branches_at left words.now) }
+    ensures { Agrees branches_tree result (branches_at depth_left words.now) }
 {
     let inside = expect(words, Symbol::Then)?;
-    let below = level_below(words, left)?;
+    let below = level_below(words, depth_left)?;
     let (first, rest) = statement(alloc, inside, below)?;
     let (second, rest) = second_branch(alloc, rest, below)?;
     Ok((Branches { first, second }, rest))
@@ -140,7 +148,7 @@ fn second_branch<'a>(
     words: &'a [Word],
     below: u32,
 ) -> Result<(Option<Box<Stmt>>, &'a [Word]), Refusal<'a>>
-    ensures { Gives second_tree result (else_at (below + 1) words.now) }
+    ensures { Agrees second_tree result (else_at (below + 1) words.now) }
 {
     match after(words, Symbol::Else) {
         None => Ok((None, words)),
@@ -163,40 +171,41 @@ fn chosen(condition: Expr, branches: Branches) -> Stmt
 
 // By the words after `for`.
 #[cycle(statement)]
-fn for_each<'a>(
+fn for_stmt<'a>(
     alloc: Global,
     words: &'a [Word],
     at: usize,
     next: &'a [Word],
-    left: u32,
+    depth_left: u32,
 ) -> Result<(Box<Stmt>, &'a [Word]), Refusal<'a>>
     requires { words.now ≡ Word.Placed at sym.For ∷ next.now }
-    ensures { Gives boxed_tree result (stmt_at left words.now) }
+    ensures { Agrees boxed_tree result (stmt_at depth_left words.now) }
 {
     let (variable_type, rest) = variable_type(next)?;
     let (name, rest) = expect_name(rest)?;
-    let (list, rest) = walked(alloc, rest, left)?;
-    let (body, rest) = repeated(alloc, rest, left)?;
-    let for_each = Stmt::For {
+    let (list, rest) = walked(alloc, rest, depth_left)?;
+    let (body, rest) = repeated(alloc, rest, depth_left)?;
+    let for_stmt = Stmt::For {
         at,
         variable_type,
         name,
         list,
         body,
     };
-    made(alloc, for_each, rest)
+    made(alloc, for_stmt, rest)
 }
 
 // The word `in`, and the list that a `for` walks.
 fn walked<'a>(
     alloc: Global,
     words: &'a [Word],
-    left: u32,
+    depth_left: u32,
 ) -> Result<(Expr, &'a [Word]), Refusal<'a>>
-    ensures { Gives (λ e. Both (symbol_leaf sym.In) (sight e).expr) result (both (word (symbol sym.In)) (expr_at left) words.now) }
+    ensures { Agrees (λ e. Pair (symbol_leaf sym.In) (derivations e).expr) result
+        (both (word (symbol sym.In)) (expr_at depth_left) words.now) }
 {
     let inside = expect(words, Symbol::In)?;
-    expression(alloc, inside, left)
+    expression(alloc, inside, depth_left)
 }
 
 // The word `do`, and what is done for each element.
@@ -204,36 +213,37 @@ fn walked<'a>(
 fn repeated<'a>(
     alloc: Global,
     words: &'a [Word],
-    left: u32,
+    depth_left: u32,
 ) -> Result<(Box<Stmt>, &'a [Word]), Refusal<'a>>
-    ensures { Gives (λ s. Inside (Word.Symbol sym.Do) (boxed_tree s)) result (run_at left words.now) }
+    ensures { Agrees (λ s. Deeper (Word.Symbol sym.Do) (boxed_tree s)) result
+        (run_at depth_left words.now) }
 {
     let inside = expect(words, Symbol::Do)?;
-    let below = level_below(words, left)?;
+    let below = level_below(words, depth_left)?;
     statement(alloc, inside, below)
 }
 
 // By the words after `case`.
 #[cycle(statement)]
-fn selection<'a>(
+fn case_stmt<'a>(
     alloc: Global,
     words: &'a [Word],
     at: usize,
     next: &'a [Word],
-    left: u32,
+    depth_left: u32,
 ) -> Result<(Box<Stmt>, &'a [Word]), Refusal<'a>>
     requires { words.now ≡ Word.Placed at sym.Case ∷ next.now }
-    ensures { Gives boxed_tree result (stmt_at left words.now) }
+    ensures { Agrees boxed_tree result (stmt_at depth_left words.now) }
 {
-    let (value, rest) = expression(alloc, next, left)?;
-    let ((arms, otherwise), rest) = braced(alloc, rest, left)?;
-    let selection = Stmt::Case {
+    let (value, rest) = expression(alloc, next, depth_left)?;
+    let ((arms, otherwise), rest) = braced(alloc, rest, depth_left)?;
+    let case_stmt = Stmt::Case {
         at,
         value,
         arms,
         otherwise,
     };
-    made(alloc, selection, rest)
+    made(alloc, case_stmt, rest)
 }
 
 // The braces of a `case`, and what stands between them.
@@ -241,13 +251,13 @@ fn selection<'a>(
 fn braced<'a>(
     alloc: Global,
     words: &'a [Word],
-    left: u32,
+    depth_left: u32,
 ) -> Result<((Vec<Arm<Stmt>>, Option<Vec<Stmt>>), &'a [Word]), Refusal<'a>>
-    ensures { Gives (λ found. between (Word.Symbol sym.OpenBrace) (Both (arms_row (arms_of found.0.items)) (otherwise_tree (otherwise_of found.1))) sym.CloseBrace) result
-        (braced_at left words.now) }
+    ensures { Agrees (λ found. arms_view found.0.items found.1) result
+        (braced_at depth_left words.now) }
 {
     let inside = expect(words, Symbol::OpenBrace)?;
-    let below = level_below(words, left)?;
+    let below = level_below(words, depth_left)?;
     arms(alloc, inside, below)
 }
 
@@ -256,19 +266,19 @@ fn braced<'a>(
 fn arms<'a>(
     alloc: Global,
     words: &'a [Word],
-    left: u32,
+    depth_left: u32,
 ) -> Result<((Vec<Arm<Stmt>>, Option<Vec<Stmt>>), &'a [Word]), Refusal<'a>>
-    ensures { Gives (λ found. between (Word.Symbol sym.OpenBrace) (Both (arms_row (arms_of found.0.items)) (otherwise_tree (otherwise_of found.1))) sym.CloseBrace) result
-        (closed (Word.Symbol sym.OpenBrace) (arms_at left) sym.CloseBrace words.now) }
+    ensures { Agrees (λ found. arms_view found.0.items found.1) result
+        (closed (Word.Symbol sym.OpenBrace) (arms_at depth_left) sym.CloseBrace words.now) }
 {
     let mut found = Vec::new(alloc);
     let mut rest = words;
     while !is_behind_arms(rest) {
-        let (arm, next) = arm(alloc, rest, left)?;
+        let (arm, next) = arm(alloc, rest, depth_left)?;
         found.push(arm)?;
         rest = next;
     }
-    let (otherwise, rest) = otherwise(alloc, rest, left)?;
+    let (otherwise, rest) = otherwise(alloc, rest, depth_left)?;
     Ok(((found, otherwise), rest))
 }
 
@@ -277,12 +287,12 @@ fn arms<'a>(
 fn arm<'a>(
     alloc: Global,
     words: &'a [Word],
-    left: u32,
+    depth_left: u32,
 ) -> Result<(Arm<Stmt>, &'a [Word]), Refusal<'a>>
-    ensures { ArmGives result left words.now }
+    ensures { ArmGives result depth_left words.now }
 {
-    let (labels, rest) = label(alloc, words, left)?;
-    let (body, rest) = arm_body(alloc, rest, left)?;
+    let (labels, rest) = label(alloc, words, depth_left)?;
+    let (body, rest) = arm_body(alloc, rest, depth_left)?;
     Ok((Arm { labels, body }, rest))
 }
 
@@ -291,14 +301,14 @@ fn arm<'a>(
 fn arm_body<'a>(
     alloc: Global,
     words: &'a [Word],
-    left: u32,
+    depth_left: u32,
 ) -> Result<(Vec<Stmt>, &'a [Word]), Refusal<'a>>
-    ensures { BodyGives result left words.now }
+    ensures { BodyGives result depth_left words.now }
 {
     let mut body = Vec::new(alloc);
     let mut rest = words;
     while !is_behind_arm(rest) {
-        let (stmt, next) = statement(alloc, rest, left)?;
+        let (stmt, next) = statement(alloc, rest, depth_left)?;
         put(&mut body, stmt)?;
         rest = next;
     }
@@ -310,13 +320,13 @@ fn arm_body<'a>(
 fn otherwise<'a>(
     alloc: Global,
     words: &'a [Word],
-    left: u32,
+    depth_left: u32,
 ) -> Result<(Option<Vec<Stmt>>, &'a [Word]), Refusal<'a>>
-    ensures { OtherwiseGives result left words.now }
+    ensures { OtherwiseGives result depth_left words.now }
 {
     match after(words, Symbol::ElseColon) {
         Some(inside) => {
-            let (statements, rest) = statements(alloc, inside, left)?;
+            let (statements, rest) = statements(alloc, inside, depth_left)?;
             Ok((Some(statements), rest))
         }
         None => {
@@ -330,12 +340,12 @@ fn otherwise<'a>(
 pub fn whole_block<'a>(
     alloc: Global,
     words: &'a [Word],
-    left: u32,
+    depth_left: u32,
 ) -> Result<(Block, &'a [Word]), Refusal<'a>>
-    ensures { Gives block_view result (block_at left words.now) }
+    ensures { Agrees block_view result (block_at depth_left words.now) }
 {
     let inside = expect(words, Symbol::OpenBrace)?;
-    let below = level_below(words, left)?;
+    let below = level_below(words, depth_left)?;
     let (statements, rest) = statements(alloc, inside, below)?;
     Ok((Block { statements }, rest))
 }

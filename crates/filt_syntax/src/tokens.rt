@@ -1,28 +1,29 @@
 // What stands at a token of a text.
 
-ghost use Rattle.std.specs.Prelude.{◌≡◌, ℕ, ◌+◌, ◌^◌, ◌<◌, ◌≤◌, length, slice_index_or};
+ghost use Rattle.std.specs.Prelude.{ℕ, ◌+◌, ◌^◌, ◌<◌, ◌≤◌, length, slice_index_or};
 ghost use Rattle.std.specs.Prelude.{IfOk, IfErr};
 ghost use Rattle.conf_lex.specs.Lex.{Lexes};
-ghost use Rattle.grammar.specs.Grammar.{Tree};
+ghost use Rattle.grammar.specs.Grammar.{ParseTree};
 ghost use Rattle.filt_syntax.specs.declared.parse.SyntaxFault.{SyntaxFault};
 ghost use Rattle.filt_syntax.specs.Syntax.{block, expr};
-ghost use Rattle.filt_syntax.specs.View.{sight};
+ghost use Rattle.filt_syntax.specs.View.{derivations};
 ghost use Rattle.filt_syntax.specs.StatementView.{block_view};
 ghost use Rattle.filt_syntax.specs.Parse.{IsAnswer, IsFault, IsRefused};
-ghost use Rattle.filt_syntax.specs.Tokens.{StandsIn, IsRefusedIn, IsToldAs};
+ghost use Rattle.filt_syntax.specs.Tokens.{ParsesAtToken, IsRefusedIn, IsToldAs};
 
+use crate::ast::{Block, Expr};
 use crate::block_words::parse_block_words;
 use crate::followed::{Blocks, Expressions};
 use crate::parse::{SyntaxFault, parse_expr_words};
 use crate::refused_token::{Sentences, bad_from};
-use crate::tree::{Block, Expr};
 use bits_ip::OutOfMemory;
 use conf_lex::{Token, Words, words_from};
 use std::alloc::Global;
 
-/// The longest expression from a token on, and the place of the token behind it (BIRD User's Guide, "Filters"). The tokens
-/// are those that `lex` gives for the text; places are theirs, their number where more of them would be wanted.
-/// Refused is the first token that no expression can have there.
+/// The longest expression from a token on, and the place of the token behind it (BIRD User's Guide,
+/// "Filters"). The tokens are those that `lex` gives for the text; places are theirs, their number
+/// where more of them would be wanted. Refused is the first token that no expression can have
+/// there.
 pub fn parse_expr(
     alloc: Global,
     tokens: &[Token],
@@ -31,10 +32,13 @@ pub fn parse_expr(
 ) -> Result<(Expr, usize), SyntaxFault>
     requires lexed { Lexes 0 text.now tokens.now }
     requires within { from ≤ length tokens.now }
-    ensures tree { IfOk result (λ found. StandsIn expr text.now tokens.now from (sight found.0).expr found.1) }
+    ensures tree { IfOk result (λ found.
+        ParsesAtToken expr text.now tokens.now from (derivations found.0).expr found.1) }
     ensures fault { IfErr result (λ e. IsRefusedIn expr text.now tokens.now from e) }
-    ensures only { (t : Tree) (end : ℕ) → StandsIn expr text.now tokens.now from t end → IsAnswer (λ e. (sight e).expr) result t end }
-    ensures exact { (e : SyntaxFault) → IsRefusedIn expr text.now tokens.now from e → IsFault result e }
+    ensures only { (t : ParseTree) (end : ℕ) → ParsesAtToken expr text.now tokens.now from t end
+        → IsAnswer (λ e. (derivations e).expr) result t end }
+    ensures exact { (e : SyntaxFault) → IsRefusedIn expr text.now tokens.now from e
+        → IsFault result e }
 {
     let found = match words_from(alloc, text, tokens, from) {
         Ok(found) => found,
@@ -46,8 +50,8 @@ pub fn parse_expr(
     }
 }
 
-/// The longest block from a token on, its statements between braces, and the place of the token behind it (BIRD User's
-/// Guide, "Control structures"). Tokens and places are as for `parse_expr`.
+/// The longest block from a token on, its statements between braces, and the place of the token
+/// behind it (BIRD User's Guide, "Control structures"). Tokens and places are as for `parse_expr`.
 pub fn parse_block(
     alloc: Global,
     tokens: &[Token],
@@ -56,10 +60,13 @@ pub fn parse_block(
 ) -> Result<(Block, usize), SyntaxFault>
     requires lexed { Lexes 0 text.now tokens.now }
     requires within { from ≤ length tokens.now }
-    ensures tree { IfOk result (λ found. StandsIn block text.now tokens.now from (block_view found.0) found.1) }
+    ensures tree { IfOk result (λ found.
+        ParsesAtToken block text.now tokens.now from (block_view found.0) found.1) }
     ensures fault { IfErr result (λ e. IsRefusedIn block text.now tokens.now from e) }
-    ensures only { (t : Tree) (end : ℕ) → StandsIn block text.now tokens.now from t end → IsAnswer block_view result t end }
-    ensures exact { (e : SyntaxFault) → IsRefusedIn block text.now tokens.now from e → IsFault result e }
+    ensures only { (t : ParseTree) (end : ℕ) → ParsesAtToken block text.now tokens.now from t end
+        → IsAnswer block_view result t end }
+    ensures exact { (e : SyntaxFault) → IsRefusedIn block text.now tokens.now from e
+        → IsFault result e }
 {
     let found = match words_from(alloc, text, tokens, from) {
         Ok(found) => found,
@@ -85,9 +92,7 @@ fn told<S: Sentences>(alloc: Global, words: &Words, end: usize, fault: SyntaxFau
         SyntaxFault::TooDeep { at } => SyntaxFault::TooDeep {
             at: words.token_at(at, end),
         },
-        SyntaxFault::Unsupported { at } => SyntaxFault::Unsupported {
-            at: words.token_at(at, end),
-        },
+        SyntaxFault::Unsupported { at } => SyntaxFault::Unsupported { at },
         SyntaxFault::Memory => SyntaxFault::Memory,
     }
 }

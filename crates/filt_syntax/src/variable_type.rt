@@ -1,15 +1,16 @@
 // Types of variables.
 
-ghost use Rattle.std.specs.Prelude.{◌≡◌, ◌∷◌, false, MatchOption};
+ghost use Rattle.std.specs.Prelude.{◌≡◌};
 ghost use Rattle.conf_lex.specs.declared.word.Word.{Word};
-ghost use Rattle.grammar.specs.Grammar.{begins, First};
-ghost use Rattle.grammar.specs.Reading.{Got, and_then, word};
-ghost use Rattle.grammar.specs.Gives.{Gives};
+ghost use Rattle.grammar.specs.Grammar.{Left};
+ghost use Rattle.grammar.specs.Reading.{Parsed, and_then, word};
+ghost use Rattle.grammar.specs.Agrees.{Agrees, NeverMemory};
+ghost use Rattle.filt_syntax.specs.Finds.{Finds};
 ghost use Rattle.filt_syntax.specs.Syntax.{has_sets, has_no_sets};
 ghost use Rattle.filt_syntax.specs.StatementView.{type_tree, member_symbol, member_type, set_type};
 ghost use Rattle.filt_syntax.specs.StatementReaders.{vtype_at};
 
-use crate::tree::VariableType;
+use crate::ast::VariableType;
 use conf_lex::{Symbol, Word};
 use grammar::{Refusal, after};
 
@@ -23,7 +24,8 @@ pub enum Member {
 
 /// A type of variables.
 pub fn variable_type(words: &[Word]) -> Result<(VariableType, &[Word]), Refusal>
-    ensures { Gives type_tree result (vtype_at 0 words.now) }
+    ensures gives { Agrees type_tree result (vtype_at 0 words.now) }
+    ensures takes_none { NeverMemory result }
 {
     match next_member(words) {
         Some((member, rest)) => match after(rest, Symbol::Set) {
@@ -35,7 +37,7 @@ pub fn variable_type(words: &[Word]) -> Result<(VariableType, &[Word]), Refusal>
 }
 
 fn next_member(words: &[Word]) -> Option<(Member, &[Word])>
-    ensures { MatchOption result (begins has_sets words.now ≡ false) (λ found. words.now ≡ Word.Symbol (member_symbol found.0) ∷ found.1.now) }
+    ensures { Finds has_sets (λ m. Word.Symbol (member_symbol m)) result words.now }
 {
     if let Some(rest) = after(words, Symbol::Int) {
         return Some((Member::Int, rest));
@@ -71,7 +73,9 @@ fn type_of(member: Member) -> VariableType
 
 // A type of which there are no sets.
 fn other_type(words: &[Word]) -> Result<(VariableType, &[Word]), Refusal>
-    ensures { Gives type_tree result (and_then (word has_no_sets words.now) (λ t rest. Got (First t) rest)) }
+    ensures gives { Agrees type_tree result
+        (and_then (word has_no_sets words.now) (λ t rest. Parsed (Left t) rest)) }
+    ensures takes_none { NeverMemory result }
 {
     match words {
         [Word::Symbol(Symbol::Bool), rest @ ..] => Ok((VariableType::Bool, rest)),

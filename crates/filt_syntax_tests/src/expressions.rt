@@ -1,5 +1,6 @@
 use conf_lex::lex;
-use filt_syntax::{Access, Compare, Expr, Joint, MethodKind, Property, Term, parse_expr};
+use filt_syntax::ast::{AddOp, CompareOp, Expr, LogicalOp, MethodKind, Postfix, Property};
+use filt_syntax::parse_expr;
 use std::alloc::Global;
 use std::test::Fail;
 
@@ -15,7 +16,7 @@ fn tree(alloc: Global, text: &[u8], len: usize) -> Result<Option<Expr>, Fail> {
 fn adds_a_product(found: &Option<Expr>) -> bool {
     match found {
         Some(Expr::Sum(_, more)) => {
-            matches!(more.first(), Some((Term::Plus, Expr::Product(_, _))))
+            matches!(more.first(), Some((AddOp::Plus, Expr::Product(_, _))))
         }
         _ => false,
     }
@@ -30,9 +31,9 @@ fn has_two_differences(found: &Option<Expr>) -> bool {
 
 fn joins_a_comparison_and_a_name(found: &Option<Expr>) -> bool {
     match found {
-        Some(Expr::Joint(first, more)) => {
-            matches!(&**first, Expr::Compare(Compare::Equal, _, _))
-                && matches!(more.first(), Some((Joint::And, Expr::Name(_))))
+        Some(Expr::Logical(first, more)) => {
+            matches!(&**first, Expr::Compare(CompareOp::Equal, _, _))
+                && matches!(more.first(), Some((LogicalOp::And, Expr::Name(_))))
         }
         _ => false,
     }
@@ -40,8 +41,8 @@ fn joins_a_comparison_and_a_name(found: &Option<Expr>) -> bool {
 
 fn prepends_and_counts(found: &Option<Expr>) -> bool {
     match found {
-        Some(Expr::Access(_, more)) => match (more.first(), more.last()) {
-            (Some(Access::Method { method, .. }), Some(Access::Property(property))) => {
+        Some(Expr::Postfix(_, more)) => match (more.first(), more.last()) {
+            (Some(Postfix::Method { method, .. }), Some(Postfix::Property(property))) => {
                 method.kind == MethodKind::Prepend && *property == Property::Len
             }
             _ => false,
@@ -93,7 +94,7 @@ fn pairs_attributes_and_the_end(rt: HostRuntime) -> Result<(), Fail> {
     let asked = tree(alloc, b"defined(bgp_med)", 4)?;
     assert!(rt; matches!(&asked, Some(Expr::Defined { .. })));
     let one = tree(alloc, b"1 2", 1)?;
-    assert!(rt; matches!(&one, Some(Expr::Simple(_))));
+    assert!(rt; matches!(&one, Some(Expr::Atom(_))));
     Ok(())
 }
 

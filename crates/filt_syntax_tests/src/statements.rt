@@ -1,5 +1,6 @@
 use conf_lex::lex;
-use filt_syntax::{Arm, Block, Change, Item, PairPart, Stmt, Target, VariableType, parse_block};
+use filt_syntax::ast::{Arm, Block, Change, Item, PairPart, Stmt, Target, VariableType};
+use filt_syntax::parse_block;
 use std::alloc::Global;
 use std::test::Fail;
 
@@ -78,7 +79,7 @@ fn has_a_pair_in_its_label(found: Option<&Stmt>) -> bool {
                 matches!(
                     arm.labels.first(),
                     Some(Item::Pair {
-                        first: PairPart::Part(_),
+                        first: PairPart::Range(_),
                         second: PairPart::Any,
                         ..
                     })

@@ -3,9 +3,9 @@
 use Rattle.std.specs.Prelude.{ℕ, Bool, List, [], ◌∷◌, ◌++◌, map, take, Option, Some, None, Result, Ok, Err, slice_get}
 use Rattle.attrs.specs.declared.attributes.Attrs.{Attrs}
 use Rattle.attrs.specs.declared.judge.Verdict.{Verdict}
-use Rattle.filt_syntax.specs.declared.tree.Factor.{Factor}
-use Rattle.filt_syntax.specs.declared.tree.Joint.{Joint}
-use Rattle.filt_syntax.specs.declared.tree.Term.{Term}
+use Rattle.filt_syntax.specs.declared.ast.MulOp.{MulOp}
+use Rattle.filt_syntax.specs.declared.ast.LogicalOp.{LogicalOp}
+use Rattle.filt_syntax.specs.declared.ast.AddOp.{AddOp}
 use Rattle.filt_values.specs.declared.fixed.Fixed.{Fixed}
 use Rattle.filt_values.specs.declared.value.Failure.{Failure}
 use Rattle.filt_values.specs.declared.value.Failure.TheVariants as failures
@@ -53,7 +53,7 @@ abbrev pub chain : {Op : Type 0} → (Op → Val → Val → Result Val Failure)
 chain f a [] = a
 chain f a (x ∷ more) = chain f (on_two a x.1 (f x.0)) more
 
-abbrev pub joints : Run Val → List (Joint × Run Val) → Run Val
+abbrev pub joints : Run Val → List (LogicalOp × Run Val) → Run Val
 joints a [] = a
 joints a (x ∷ more) = joints (joined x.0 a x.1) more
 

@@ -2,7 +2,7 @@
 // number in the scope.
 
 use filt_sets::{IntSet, PairSet, PrefixSet};
-use filt_syntax::{Attribute, Compare, Factor, Joint, MethodKind, Property, Term};
+use filt_syntax::ast::{AddOp, Attribute, CompareOp, LogicalOp, MethodKind, MulOp, Property};
 use filt_values::{Fixed, Sort};
 
 /// What stands behind a dot. `E` is `TExpr`.
@@ -12,16 +12,16 @@ pub enum TAccess<E> {
     Method(MethodKind, E),
 }
 
-/// A comparison of what the route holds with what the filter says, in place of `Compare` over these
+/// A comparison of what the route holds with what the filter says, in place of `CompareOp` over these
 /// two: it has no boxes, so that a filter of many conditions reads little memory.
 #[derive(Clone, Copy, Debug, PartialEq, Eq)]
 pub enum TTest {
     /// An attribute, and a number.
-    Attribute(Attribute, Compare, u32),
+    Attribute(Attribute, CompareOp, u32),
     /// A property of an attribute, and a number.
-    Property(Attribute, Property, Compare, u32),
+    Property(Attribute, Property, CompareOp, u32),
     /// A pair, and an attribute.
-    Pair(u16, u16, Compare, Attribute),
+    Pair(u16, u16, CompareOp, Attribute),
 }
 
 /// An expression.
@@ -42,11 +42,11 @@ pub enum TExpr {
     Empty(Box<TExpr>),
     Access(Box<TExpr>, Vec<TAccess<TExpr>>),
     Not(Box<TExpr>),
-    Product(Box<TExpr>, Vec<(Factor, TExpr)>),
-    Sum(Box<TExpr>, Vec<(Term, TExpr)>),
-    Compare(Compare, Box<TExpr>, Box<TExpr>),
+    Product(Box<TExpr>, Vec<(MulOp, TExpr)>),
+    Sum(Box<TExpr>, Vec<(AddOp, TExpr)>),
+    Compare(CompareOp, Box<TExpr>, Box<TExpr>),
     Test(TTest),
-    Joint(Box<TExpr>, Vec<(Joint, TExpr)>),
+    Joint(Box<TExpr>, Vec<(LogicalOp, TExpr)>),
     /// What stands for nothing; in no checked filter.
     Stuck,
 }

@@ -2,22 +2,22 @@
 use Rattle.std.proofs.Common.{◌≡◌, ℕ, zero, suc, arith, ◌+◌, ◌<◌, List, [], ◌∷◌, map, length, get_or, Option, Some, None, refl, ap, ◌∙◌, Box, Vec}
 use Rattle.std.specs.Global.{Global}
 use Rattle.grammar.specs.declared.named.Name.{Name}
-use Rattle.filt_syntax.specs.declared.tree.Access.{Access}
-use Rattle.filt_syntax.specs.declared.tree.Access.TheVariants as accesses
-use Rattle.filt_syntax.specs.declared.tree.Arm.{Arm}
-use Rattle.filt_syntax.specs.declared.tree.Compare.{Compare}
-use Rattle.filt_syntax.specs.declared.tree.Expr.{Expr, fold-Expr}
-use Rattle.filt_syntax.specs.declared.tree.Expr.TheVariants as e
-use Rattle.filt_syntax.specs.declared.tree.Expr.TheOpen.{Expr-F}
-use Rattle.filt_syntax.specs.declared.tree.Expr.TheShapes.{former-Expr-Access-1-at-4}
-use Rattle.filt_syntax.specs.declared.tree.Factor.{Factor}
-use Rattle.filt_syntax.specs.declared.tree.Joint.{Joint}
-use Rattle.filt_syntax.specs.declared.tree.Method.{Method}
-use Rattle.filt_syntax.specs.declared.tree.Stmt.{Stmt, fold-Stmt}
-use Rattle.filt_syntax.specs.declared.tree.Stmt.TheVariants as s
-use Rattle.filt_syntax.specs.declared.tree.Stmt.TheOpen.{Stmt-F}
-use Rattle.filt_syntax.specs.declared.tree.Term.{Term}
-use Rattle.filt_syntax.specs.declared.tree.VariableType.{VariableType}
+use Rattle.filt_syntax.specs.declared.ast.Postfix.{Postfix}
+use Rattle.filt_syntax.specs.declared.ast.Postfix.TheVariants as postfixes
+use Rattle.filt_syntax.specs.declared.ast.Arm.{Arm}
+use Rattle.filt_syntax.specs.declared.ast.CompareOp.{CompareOp}
+use Rattle.filt_syntax.specs.declared.ast.Expr.{Expr, fold-Expr}
+use Rattle.filt_syntax.specs.declared.ast.Expr.TheVariants as e
+use Rattle.filt_syntax.specs.declared.ast.Expr.TheOpen.{Expr-F}
+use Rattle.filt_syntax.specs.declared.ast.Expr.TheShapes.{former-Expr-Postfix-1-at-4}
+use Rattle.filt_syntax.specs.declared.ast.MulOp.{MulOp}
+use Rattle.filt_syntax.specs.declared.ast.LogicalOp.{LogicalOp}
+use Rattle.filt_syntax.specs.declared.ast.Method.{Method}
+use Rattle.filt_syntax.specs.declared.ast.Stmt.{Stmt, fold-Stmt}
+use Rattle.filt_syntax.specs.declared.ast.Stmt.TheVariants as s
+use Rattle.filt_syntax.specs.declared.ast.Stmt.TheOpen.{Stmt-F}
+use Rattle.filt_syntax.specs.declared.ast.AddOp.{AddOp}
+use Rattle.filt_syntax.specs.declared.ast.VariableType.{VariableType}
 use Rattle.filt_types.proofs.Trees as o
 
 -- the parts of a list, with room for the steps of a walk over it
@@ -32,9 +32,9 @@ item_below f (y ∷ ys) (suc i) x lt is = let h : f x + 2 < all (map f ys) = ite
 
 -- ---- expressions
 
-abbrev access_step : Access ℕ → ℕ
-access_step (accesses.Property p) = 0
-access_step (accesses.Method m place n) = n
+abbrev access_step : Postfix ℕ → ℕ
+access_step (postfixes.Property p) = 0
+access_step (postfixes.Method m place n) = n
 
 abbrev operand_step : {Op : Type 0} → Op × ℕ → ℕ
 operand_step x = x.1
@@ -44,12 +44,12 @@ step (Expr-F.Call n place args) = 6 + all args.items
 step (Expr-F.Group at a) = 6 + a.value
 step (Expr-F.Pair at a b) = 6 + a.value + b.value
 step (Expr-F.MethodCall m place a b) = 6 + a.value + b.value
-step (Expr-F.Access a more) = 6 + a.value + all (map access_step more.items)
+step (Expr-F.Postfix a more) = 6 + a.value + all (map access_step more.items)
 step (Expr-F.Not at a) = 6 + a.value
 step (Expr-F.Product a more) = 6 + a.value + all (map operand_step more.items)
 step (Expr-F.Sum a more) = 6 + a.value + all (map operand_step more.items)
 step (Expr-F.Compare op a b) = 6 + a.value + b.value
-step (Expr-F.Joint a more) = 6 + a.value + all (map operand_step more.items)
+step (Expr-F.Logical a more) = 6 + a.value + all (map operand_step more.items)
 step _ = 6
 
 abbrev pub cost : Expr → ℕ
@@ -58,11 +58,11 @@ cost = fold-Expr ℕ step
 abbrev pub costs : List Expr → ℕ
 costs xs = all (map cost xs)
 
-abbrev pub access_cost : Access Expr → ℕ
-access_cost (accesses.Property p) = 0
-access_cost (accesses.Method m place x) = cost x
+abbrev pub access_cost : Postfix Expr → ℕ
+access_cost (postfixes.Property p) = 0
+access_cost (postfixes.Method m place x) = cost x
 
-abbrev pub accesses_cost : List (Access Expr) → ℕ
+abbrev pub accesses_cost : List (Postfix Expr) → ℕ
 accesses_cost xs = all (map access_cost xs)
 
 abbrev pub operand_cost : {Op : Type 0} → Op × Expr → ℕ
@@ -83,27 +83,27 @@ cost-Pair at a b = o.of-Pair ℕ step at a b
 pub cost-MethodCall : (m : Method) (place : ℕ) (a b : Box Expr Global) → cost (e.MethodCall m place a b) ≡ 6 + cost a.value + cost b.value
 cost-MethodCall m place a b = o.of-MethodCall ℕ step m place a b
 
-one_access : (a : Access Expr) → access_step ((former-Expr-Access-1-at-4).map Expr ℕ cost a) ≡ access_cost a
-one_access (accesses.Property p) = refl
-one_access (accesses.Method m place x) = refl
+one_access : (a : Postfix Expr) → access_step ((former-Expr-Postfix-1-at-4).map Expr ℕ cost a) ≡ access_cost a
+one_access (postfixes.Property p) = refl
+one_access (postfixes.Method m place x) = refl
 
-pub cost-Access : (a : Box Expr Global) (v : Vec (Access Expr) Global) → cost (e.Access a v) ≡ 6 + cost a.value + accesses_cost v.items
-cost-Access a v = o.of-Access ℕ step a v ∙ ap (λ (ns : List ℕ). 6 + cost a.value + all ns) (o.by_parts {B = Access ℕ} access_step _ access_cost one_access v.items)
+pub cost-Postfix : (a : Box Expr Global) (v : Vec (Postfix Expr) Global) → cost (e.Postfix a v) ≡ 6 + cost a.value + accesses_cost v.items
+cost-Postfix a v = o.of-Postfix ℕ step a v ∙ ap (λ (ns : List ℕ). 6 + cost a.value + all ns) (o.by_parts {B = Postfix ℕ} access_step _ access_cost one_access v.items)
 
 pub cost-Not : (at : ℕ) (a : Box Expr Global) → cost (e.Not at a) ≡ 6 + cost a.value
 cost-Not at a = o.of-Not ℕ step at a
 
-pub cost-Product : (a : Box Expr Global) (v : Vec (Factor × Expr) Global) → cost (e.Product a v) ≡ 6 + cost a.value + operands_cost v.items
-cost-Product a v = o.of-Product ℕ step a v ∙ ap (λ (ns : List ℕ). 6 + cost a.value + all ns) (o.by_parts {B = Factor × ℕ} _ _ _ (λ x. refl) v.items)
+pub cost-Product : (a : Box Expr Global) (v : Vec (MulOp × Expr) Global) → cost (e.Product a v) ≡ 6 + cost a.value + operands_cost v.items
+cost-Product a v = o.of-Product ℕ step a v ∙ ap (λ (ns : List ℕ). 6 + cost a.value + all ns) (o.by_parts {B = MulOp × ℕ} _ _ _ (λ x. refl) v.items)
 
-pub cost-Sum : (a : Box Expr Global) (v : Vec (Term × Expr) Global) → cost (e.Sum a v) ≡ 6 + cost a.value + operands_cost v.items
-cost-Sum a v = o.of-Sum ℕ step a v ∙ ap (λ (ns : List ℕ). 6 + cost a.value + all ns) (o.by_parts {B = Term × ℕ} _ _ _ (λ x. refl) v.items)
+pub cost-Sum : (a : Box Expr Global) (v : Vec (AddOp × Expr) Global) → cost (e.Sum a v) ≡ 6 + cost a.value + operands_cost v.items
+cost-Sum a v = o.of-Sum ℕ step a v ∙ ap (λ (ns : List ℕ). 6 + cost a.value + all ns) (o.by_parts {B = AddOp × ℕ} _ _ _ (λ x. refl) v.items)
 
-pub cost-Compare : (op : Compare) (a b : Box Expr Global) → cost (e.Compare op a b) ≡ 6 + cost a.value + cost b.value
+pub cost-Compare : (op : CompareOp) (a b : Box Expr Global) → cost (e.Compare op a b) ≡ 6 + cost a.value + cost b.value
 cost-Compare op a b = o.of-Compare ℕ step op a b
 
-pub cost-Joint : (a : Box Expr Global) (v : Vec (Joint × Expr) Global) → cost (e.Joint a v) ≡ 6 + cost a.value + operands_cost v.items
-cost-Joint a v = o.of-Joint ℕ step a v ∙ ap (λ (ns : List ℕ). 6 + cost a.value + all ns) (o.by_parts {B = Joint × ℕ} _ _ _ (λ x. refl) v.items)
+pub cost-Logical : (a : Box Expr Global) (v : Vec (LogicalOp × Expr) Global) → cost (e.Logical a v) ≡ 6 + cost a.value + operands_cost v.items
+cost-Logical a v = o.of-Logical ℕ step a v ∙ ap (λ (ns : List ℕ). 6 + cost a.value + all ns) (o.by_parts {B = LogicalOp × ℕ} _ _ _ (λ x. refl) v.items)
 
 -- ---- statements
 

@@ -3,15 +3,15 @@ use Rattle.std.proofs.Common.{◌≡◌, ℕ, suc, Bool, true, false, ◌&&◌, 
 use Rattle.std.proofs.Math.Dec.{eqb-suc-zero}
 use Rattle.std.specs.Global.{Global}
 use Rattle.grammar.specs.declared.named.Name.{Name}
-use Rattle.filt_syntax.specs.declared.tree.Access.{Access}
-use Rattle.filt_syntax.specs.declared.tree.Access.TheVariants as parts
-use Rattle.filt_syntax.specs.declared.tree.Compare.{Compare}
-use Rattle.filt_syntax.specs.declared.tree.Expr.{Expr}
-use Rattle.filt_syntax.specs.declared.tree.Expr.TheVariants as e
-use Rattle.filt_syntax.specs.declared.tree.Factor.{Factor}
-use Rattle.filt_syntax.specs.declared.tree.Joint.{Joint}
-use Rattle.filt_syntax.specs.declared.tree.Method.{Method}
-use Rattle.filt_syntax.specs.declared.tree.Term.{Term}
+use Rattle.filt_syntax.specs.declared.ast.Postfix.{Postfix}
+use Rattle.filt_syntax.specs.declared.ast.Postfix.TheVariants as parts
+use Rattle.filt_syntax.specs.declared.ast.CompareOp.{CompareOp}
+use Rattle.filt_syntax.specs.declared.ast.Expr.{Expr}
+use Rattle.filt_syntax.specs.declared.ast.Expr.TheVariants as e
+use Rattle.filt_syntax.specs.declared.ast.MulOp.{MulOp}
+use Rattle.filt_syntax.specs.declared.ast.LogicalOp.{LogicalOp}
+use Rattle.filt_syntax.specs.declared.ast.Method.{Method}
+use Rattle.filt_syntax.specs.declared.ast.AddOp.{AddOp}
 use Rattle.filt_values.specs.declared.value.Sort.{Sort}
 use Rattle.conf_ast.specs.Filters.{Expression, Multiplied, Added, Joined, PropertyOf, Changed, multiplied, added, joined, accessed, expression_of, expressions_of}
 use Rattle.filt_types.specs.declared.judged.Judged.{Judged}
@@ -45,7 +45,7 @@ of-MethodCall seen m place a b = ap (judge (scene_in seen) (variables_in seen)) 
 pub of-Not : (seen : Seen) (at : ℕ) (a : Box Expr Global) → of_expr seen (e.Not at a) ≡ of_one at negating (of_expr seen a.value)
 of-Not seen at a = ap (judge (scene_in seen) (variables_in seen)) (tree.is-Not at a)
 
-pub of-Compare : (seen : Seen) (op : Compare) (a b : Box Expr Global) → of_expr seen (e.Compare op a b) ≡ between (comparing op) (of_expr seen a.value) (of_expr seen b.value)
+pub of-Compare : (seen : Seen) (op : CompareOp) (a b : Box Expr Global) → of_expr seen (e.Compare op a b) ≡ between (comparing op) (of_expr seen a.value) (of_expr seen b.value)
 of-Compare seen op a b = ap (judge (scene_in seen) (variables_in seen)) (tree.is-Compare op a b)
 
 -- ---- wholes and parts
@@ -128,33 +128,33 @@ link_adds seen rule = record {
   first = λ f j x. two_first f j.at rule j (of_expr seen x.1);
 }
 
-abbrev pub reach : Seen → Judgement → Access Expr → Judgement
+abbrev pub reach : Seen → Judgement → Postfix Expr → Judgement
 reach seen j a = with_access (scene_in seen) (variables_in seen) j (access_of a)
 
-reach_said : (seen : Seen) (j : Judgement) (a : Access Expr) → said_of (reach seen j a) ≡ said_of (reach seen (bare (said_of j)) a)
+reach_said : (seen : Seen) (j : Judgement) (a : Postfix Expr) → said_of (reach seen j a) ≡ said_of (reach seen (bare (said_of j)) a)
 reach_said seen j (parts.Property p) = refl
 reach_said seen j (parts.Method m place x) = refl
 
-reach_first : (seen : Seen) (f : Option Refusal) (j : Judgement) (a : Access Expr) → first_in f (reach seen j a).refusals ≡ first_in (first_in f j.refusals) (reach seen (bare (said_of j)) a).refusals
+reach_first : (seen : Seen) (f : Option Refusal) (j : Judgement) (a : Postfix Expr) → first_in f (reach seen j a).refusals ≡ first_in (first_in f j.refusals) (reach seen (bare (said_of j)) a).refusals
 reach_first seen f j (parts.Property p) = one_first f j.at (property p) j
 reach_first seen f j (parts.Method m place x) = two_first f j.at (method m.kind) j (of_expr seen x)
 
-pub reach_adds : (seen : Seen) → Adds {X = Access Expr} (reach seen)
+pub reach_adds : (seen : Seen) → Adds {X = Postfix Expr} (reach seen)
 reach_adds seen = record { said = reach_said seen; first = reach_first seen }
 
-pub product_is : (seen : Seen) (a : Expression) (xs : List (Factor × Expr)) → judge (scene_in seen) (variables_in seen) (multiplied a (operands_of xs)) ≡ walk (link seen arithmetic) (judge (scene_in seen) (variables_in seen) a) xs
+pub product_is : (seen : Seen) (a : Expression) (xs : List (MulOp × Expr)) → judge (scene_in seen) (variables_in seen) (multiplied a (operands_of xs)) ≡ walk (link seen arithmetic) (judge (scene_in seen) (variables_in seen) a) xs
 product_is seen a [] = refl
 product_is seen a (x ∷ xs) = product_is seen (Multiplied a x.0 (expression_of x.1)) xs
 
-pub sum_is : (seen : Seen) (a : Expression) (xs : List (Term × Expr)) → judge (scene_in seen) (variables_in seen) (added a (operands_of xs)) ≡ walk (link seen arithmetic) (judge (scene_in seen) (variables_in seen) a) xs
+pub sum_is : (seen : Seen) (a : Expression) (xs : List (AddOp × Expr)) → judge (scene_in seen) (variables_in seen) (added a (operands_of xs)) ≡ walk (link seen arithmetic) (judge (scene_in seen) (variables_in seen) a) xs
 sum_is seen a [] = refl
 sum_is seen a (x ∷ xs) = sum_is seen (Added a x.0 (expression_of x.1)) xs
 
-pub joint_is : (seen : Seen) (a : Expression) (xs : List (Joint × Expr)) → judge (scene_in seen) (variables_in seen) (joined a (operands_of xs)) ≡ walk (link seen joining) (judge (scene_in seen) (variables_in seen) a) xs
+pub joint_is : (seen : Seen) (a : Expression) (xs : List (LogicalOp × Expr)) → judge (scene_in seen) (variables_in seen) (joined a (operands_of xs)) ≡ walk (link seen joining) (judge (scene_in seen) (variables_in seen) a) xs
 joint_is seen a [] = refl
 joint_is seen a (x ∷ xs) = joint_is seen (Joined a x.0 (expression_of x.1)) xs
 
-pub access_is : (seen : Seen) (a : Expression) (xs : List (Access Expr)) → judge (scene_in seen) (variables_in seen) (accessed a (accesses_of xs)) ≡ walk (reach seen) (judge (scene_in seen) (variables_in seen) a) xs
+pub access_is : (seen : Seen) (a : Expression) (xs : List (Postfix Expr)) → judge (scene_in seen) (variables_in seen) (accessed a (accesses_of xs)) ≡ walk (reach seen) (judge (scene_in seen) (variables_in seen) a) xs
 access_is seen a [] = refl
 access_is seen a (parts.Property p ∷ xs) = access_is seen (PropertyOf a p) xs
 access_is seen a (parts.Method m place x ∷ xs) = access_is seen (Changed a m place (expression_of x)) xs

@@ -3,32 +3,32 @@
 use Rattle.std.proofs.Common.{◌≡◌, ℕ, List, [], ◌∷◌, map, Option, Some, None, option_map, refl, ap, ◌∙◌, rules, Box, Vec}
 use Rattle.std.specs.Global.{Global}
 use Rattle.grammar.specs.declared.named.Name.{Name}
-use Rattle.filt_syntax.specs.declared.tree.Access.{Access}
-use Rattle.filt_syntax.specs.declared.tree.Access.TheVariants as accesses
-use Rattle.filt_syntax.specs.declared.tree.Arm.{Arm}
-use Rattle.filt_syntax.specs.declared.tree.Attribute.{Attribute}
-use Rattle.filt_syntax.specs.declared.tree.Change.{Change}
-use Rattle.filt_syntax.specs.declared.tree.Compare.{Compare}
-use Rattle.filt_syntax.specs.declared.tree.Expr.{Expr, fold-Expr, the_lemmas as expr_lemmas}
-use Rattle.filt_syntax.specs.declared.tree.Expr.TheVariants as e
-use Rattle.filt_syntax.specs.declared.tree.Expr.TheOpen.{Expr-F}
-use Rattle.filt_syntax.specs.declared.tree.Expr.TheFolds.{map-Expr}
-use Rattle.filt_syntax.specs.declared.tree.Expr.TheShapes.{former-Expr-Access-1-at-4}
-use Rattle.filt_syntax.specs.declared.tree.Factor.{Factor}
-use Rattle.filt_syntax.specs.declared.tree.Item.{Item}
-use Rattle.filt_syntax.specs.declared.tree.Joint.{Joint}
-use Rattle.filt_syntax.specs.declared.tree.MaskItem.{MaskItem}
-use Rattle.filt_syntax.specs.declared.tree.Method.{Method}
-use Rattle.filt_syntax.specs.declared.tree.Simple.{Simple}
-use Rattle.filt_syntax.specs.declared.tree.Stmt.{Stmt, fold-Stmt, the_lemmas as stmt_lemmas}
-use Rattle.filt_syntax.specs.declared.tree.Stmt.TheVariants as s
-use Rattle.filt_syntax.specs.declared.tree.Stmt.TheOpen.{Stmt-F}
-use Rattle.filt_syntax.specs.declared.tree.Stmt.TheFolds.{map-Stmt}
-use Rattle.filt_syntax.specs.declared.tree.Target.{Target}
-use Rattle.filt_syntax.specs.declared.tree.Term.{Term}
-use Rattle.filt_syntax.specs.declared.tree.VariableType.{VariableType}
+use Rattle.filt_syntax.specs.declared.ast.Postfix.{Postfix}
+use Rattle.filt_syntax.specs.declared.ast.Postfix.TheVariants as postfixes
+use Rattle.filt_syntax.specs.declared.ast.Arm.{Arm}
+use Rattle.filt_syntax.specs.declared.ast.Attribute.{Attribute}
+use Rattle.filt_syntax.specs.declared.ast.Change.{Change}
+use Rattle.filt_syntax.specs.declared.ast.CompareOp.{CompareOp}
+use Rattle.filt_syntax.specs.declared.ast.Expr.{Expr, fold-Expr, the_lemmas as expr_lemmas}
+use Rattle.filt_syntax.specs.declared.ast.Expr.TheVariants as e
+use Rattle.filt_syntax.specs.declared.ast.Expr.TheOpen.{Expr-F}
+use Rattle.filt_syntax.specs.declared.ast.Expr.TheFolds.{map-Expr}
+use Rattle.filt_syntax.specs.declared.ast.Expr.TheShapes.{former-Expr-Postfix-1-at-4}
+use Rattle.filt_syntax.specs.declared.ast.MulOp.{MulOp}
+use Rattle.filt_syntax.specs.declared.ast.Item.{Item}
+use Rattle.filt_syntax.specs.declared.ast.LogicalOp.{LogicalOp}
+use Rattle.filt_syntax.specs.declared.ast.MaskItem.{MaskItem}
+use Rattle.filt_syntax.specs.declared.ast.Method.{Method}
+use Rattle.filt_syntax.specs.declared.ast.Atom.{Atom}
+use Rattle.filt_syntax.specs.declared.ast.Stmt.{Stmt, fold-Stmt, the_lemmas as stmt_lemmas}
+use Rattle.filt_syntax.specs.declared.ast.Stmt.TheVariants as s
+use Rattle.filt_syntax.specs.declared.ast.Stmt.TheOpen.{Stmt-F}
+use Rattle.filt_syntax.specs.declared.ast.Stmt.TheFolds.{map-Stmt}
+use Rattle.filt_syntax.specs.declared.ast.Target.{Target}
+use Rattle.filt_syntax.specs.declared.ast.AddOp.{AddOp}
+use Rattle.filt_syntax.specs.declared.ast.VariableType.{VariableType}
 use Rattle.filt_types.specs.Walk.{access_of, accesses_of, arms_of, operands_of}
-use Rattle.conf_ast.specs.Filters.{Expression, Plain, Named, Called, Grouped, Paired, SetOf, MaskOf, IsDefined, MethodOf, Negated, Compared, Expressions, AndExpressions, expressions, expressions_of, expression_of, expression_step, accessed, multiplied, added, joined, Statement, Braced, Nothing, Declare, Assign, Unset, If, IfElse, Case, CaseElse, For, Accept, Reject, Return, Print, PrintPart, Call, Statements, AndStatements, statements, statements_of, statement_of, statement_step, Arms, AndArms, arms, changed}
+use Rattle.conf_ast.specs.Filters.{Expression, Plain, Named, Called, Grouped, Paired, SetOf, MaskOf, IsDefined, MethodOf, Negated, Compared, Expressions, AndExpressions, expressions, expressions_of, expression_of, expression_step, accessed, multiplied, added, joined, Statement, Braced, Nothing, Declare, Assign, Unset, If, IfElse, Case, CaseElse, For, Accept, Reject, Return, Print, Printn, Call, Statements, AndStatements, statements, statements_of, statement_of, statement_step, Arms, AndArms, arms, changed}
 
 -- ---- folds, whatever they give
 
@@ -36,8 +36,8 @@ pub by_parts : {A B C : Type 0} (f : B → C) (g : A → B) (h : A → C) → ((
 by_parts f g h same [] = refl
 by_parts f g h same (x ∷ xs) = rw (same x, by_parts f g h same xs) refl
 
-pub of-Simple : (A : Type 0) (step : Expr-F A → A) (x : Simple) → fold-Expr A step (e.Simple x) ≡ step (map-Expr Expr A (fold-Expr A step) (Expr-F.Simple x))
-of-Simple A step x = search (rules, expr_lemmas)
+pub of-Atom : (A : Type 0) (step : Expr-F A → A) (x : Atom) → fold-Expr A step (e.Atom x) ≡ step (map-Expr Expr A (fold-Expr A step) (Expr-F.Atom x))
+of-Atom A step x = search (rules, expr_lemmas)
 
 pub of-Name : (A : Type 0) (step : Expr-F A → A) (n : Name) → fold-Expr A step (e.Name n) ≡ step (map-Expr Expr A (fold-Expr A step) (Expr-F.Name n))
 of-Name A step n = search (rules, expr_lemmas)
@@ -63,23 +63,23 @@ of-Defined A step at place attribute_at a = search (rules, expr_lemmas)
 pub of-MethodCall : (A : Type 0) (step : Expr-F A → A) (m : Method) (place : ℕ) (a b : Box Expr Global) → fold-Expr A step (e.MethodCall m place a b) ≡ step (map-Expr Expr A (fold-Expr A step) (Expr-F.MethodCall m place a b))
 of-MethodCall A step m place a b = search (rules, expr_lemmas)
 
-pub of-Access : (A : Type 0) (step : Expr-F A → A) (a : Box Expr Global) (v : Vec (Access Expr) Global) → fold-Expr A step (e.Access a v) ≡ step (map-Expr Expr A (fold-Expr A step) (Expr-F.Access a v))
-of-Access A step a v = search (rules, expr_lemmas)
+pub of-Postfix : (A : Type 0) (step : Expr-F A → A) (a : Box Expr Global) (v : Vec (Postfix Expr) Global) → fold-Expr A step (e.Postfix a v) ≡ step (map-Expr Expr A (fold-Expr A step) (Expr-F.Postfix a v))
+of-Postfix A step a v = search (rules, expr_lemmas)
 
 pub of-Not : (A : Type 0) (step : Expr-F A → A) (at : ℕ) (a : Box Expr Global) → fold-Expr A step (e.Not at a) ≡ step (map-Expr Expr A (fold-Expr A step) (Expr-F.Not at a))
 of-Not A step at a = search (rules, expr_lemmas)
 
-pub of-Product : (A : Type 0) (step : Expr-F A → A) (a : Box Expr Global) (v : Vec (Factor × Expr) Global) → fold-Expr A step (e.Product a v) ≡ step (map-Expr Expr A (fold-Expr A step) (Expr-F.Product a v))
+pub of-Product : (A : Type 0) (step : Expr-F A → A) (a : Box Expr Global) (v : Vec (MulOp × Expr) Global) → fold-Expr A step (e.Product a v) ≡ step (map-Expr Expr A (fold-Expr A step) (Expr-F.Product a v))
 of-Product A step a v = search (rules, expr_lemmas)
 
-pub of-Sum : (A : Type 0) (step : Expr-F A → A) (a : Box Expr Global) (v : Vec (Term × Expr) Global) → fold-Expr A step (e.Sum a v) ≡ step (map-Expr Expr A (fold-Expr A step) (Expr-F.Sum a v))
+pub of-Sum : (A : Type 0) (step : Expr-F A → A) (a : Box Expr Global) (v : Vec (AddOp × Expr) Global) → fold-Expr A step (e.Sum a v) ≡ step (map-Expr Expr A (fold-Expr A step) (Expr-F.Sum a v))
 of-Sum A step a v = search (rules, expr_lemmas)
 
-pub of-Compare : (A : Type 0) (step : Expr-F A → A) (op : Compare) (a b : Box Expr Global) → fold-Expr A step (e.Compare op a b) ≡ step (map-Expr Expr A (fold-Expr A step) (Expr-F.Compare op a b))
+pub of-Compare : (A : Type 0) (step : Expr-F A → A) (op : CompareOp) (a b : Box Expr Global) → fold-Expr A step (e.Compare op a b) ≡ step (map-Expr Expr A (fold-Expr A step) (Expr-F.Compare op a b))
 of-Compare A step op a b = search (rules, expr_lemmas)
 
-pub of-Joint : (A : Type 0) (step : Expr-F A → A) (a : Box Expr Global) (v : Vec (Joint × Expr) Global) → fold-Expr A step (e.Joint a v) ≡ step (map-Expr Expr A (fold-Expr A step) (Expr-F.Joint a v))
-of-Joint A step a v = search (rules, expr_lemmas)
+pub of-Logical : (A : Type 0) (step : Expr-F A → A) (a : Box Expr Global) (v : Vec (LogicalOp × Expr) Global) → fold-Expr A step (e.Logical a v) ≡ step (map-Expr Expr A (fold-Expr A step) (Expr-F.Logical a v))
+of-Logical A step a v = search (rules, expr_lemmas)
 
 pub do-Block : (A : Type 0) (step : Stmt-F A → A) (v : Vec Stmt Global) → fold-Stmt A step (s.Block v) ≡ step (map-Stmt Stmt A (fold-Stmt A step) (Stmt-F.Block v))
 do-Block A step v = search (rules, stmt_lemmas)
@@ -123,8 +123,8 @@ do-Return A step at x = search (rules, stmt_lemmas)
 pub do-Print : (A : Type 0) (step : Stmt-F A → A) (v : Vec Expr Global) → fold-Stmt A step (s.Print v) ≡ step (map-Stmt Stmt A (fold-Stmt A step) (Stmt-F.Print v))
 do-Print A step v = search (rules, stmt_lemmas)
 
-pub do-PrintPart : (A : Type 0) (step : Stmt-F A → A) (v : Vec Expr Global) → fold-Stmt A step (s.PrintPart v) ≡ step (map-Stmt Stmt A (fold-Stmt A step) (Stmt-F.PrintPart v))
-do-PrintPart A step v = search (rules, stmt_lemmas)
+pub do-Printn : (A : Type 0) (step : Stmt-F A → A) (v : Vec Expr Global) → fold-Stmt A step (s.Printn v) ≡ step (map-Stmt Stmt A (fold-Stmt A step) (Stmt-F.Printn v))
+do-Printn A step v = search (rules, stmt_lemmas)
 
 pub do-Call : (A : Type 0) (step : Stmt-F A → A) (n : Name) (place : ℕ) (v : Vec Expr Global) → fold-Stmt A step (s.Call n place v) ≡ step (map-Stmt Stmt A (fold-Stmt A step) (Stmt-F.Call n place v))
 do-Call A step n place v = search (rules, stmt_lemmas)
@@ -139,11 +139,11 @@ pub all_statements : (xs : List Stmt) → statements (map statement_of xs) ≡ s
 all_statements [] = refl
 all_statements (x ∷ xs) = ap (λ (ss : Statements). AndStatements (statement_of x) ss) (all_statements xs)
 
-access_made : (a : Access Expr) → (former-Expr-Access-1-at-4).map Expr Expression expression_of a ≡ access_of a
-access_made (accesses.Property p) = refl
-access_made (accesses.Method m place x) = refl
+access_made : (a : Postfix Expr) → (former-Expr-Postfix-1-at-4).map Expr Expression expression_of a ≡ access_of a
+access_made (postfixes.Property p) = refl
+access_made (postfixes.Method m place x) = refl
 
-all_accesses : (xs : List (Access Expr)) → map ((former-Expr-Access-1-at-4).map Expr Expression expression_of) xs ≡ accesses_of xs
+all_accesses : (xs : List (Postfix Expr)) → map ((former-Expr-Postfix-1-at-4).map Expr Expression expression_of) xs ≡ accesses_of xs
 all_accesses [] = refl
 all_accesses (x ∷ xs) = rw (access_made x, all_accesses xs) refl
 
@@ -153,8 +153,8 @@ all_arms g same (x ∷ xs) = same x (arms (map g xs)) ∙ ap (λ (more : Arms). 
 
 -- ---- expressions
 
-pub is-Simple : (x : Simple) → expression_of (e.Simple x) ≡ Plain x
-is-Simple x = of-Simple Expression expression_step x
+pub is-Atom : (x : Atom) → expression_of (e.Atom x) ≡ Plain x
+is-Atom x = of-Atom Expression expression_step x
 
 pub is-Name : (n : Name) → expression_of (e.Name n) ≡ Named n
 is-Name n = of-Name Expression expression_step n
@@ -180,23 +180,23 @@ is-Defined at place attribute_at a = of-Defined Expression expression_step at pl
 pub is-MethodCall : (m : Method) (place : ℕ) (a b : Box Expr Global) → expression_of (e.MethodCall m place a b) ≡ MethodOf m place (expression_of a.value) (expression_of b.value)
 is-MethodCall m place a b = of-MethodCall Expression expression_step m place a b
 
-pub is-Access : (a : Box Expr Global) (v : Vec (Access Expr) Global) → expression_of (e.Access a v) ≡ accessed (expression_of a.value) (accesses_of v.items)
-is-Access a v = of-Access Expression expression_step a v ∙ ap (λ (more : List (Access Expression)). accessed (expression_of a.value) more) (all_accesses v.items)
+pub is-Postfix : (a : Box Expr Global) (v : Vec (Postfix Expr) Global) → expression_of (e.Postfix a v) ≡ accessed (expression_of a.value) (accesses_of v.items)
+is-Postfix a v = of-Postfix Expression expression_step a v ∙ ap (λ (more : List (Postfix Expression)). accessed (expression_of a.value) more) (all_accesses v.items)
 
 pub is-Not : (at : ℕ) (a : Box Expr Global) → expression_of (e.Not at a) ≡ Negated at (expression_of a.value)
 is-Not at a = of-Not Expression expression_step at a
 
-pub is-Product : (a : Box Expr Global) (v : Vec (Factor × Expr) Global) → expression_of (e.Product a v) ≡ multiplied (expression_of a.value) (operands_of v.items)
+pub is-Product : (a : Box Expr Global) (v : Vec (MulOp × Expr) Global) → expression_of (e.Product a v) ≡ multiplied (expression_of a.value) (operands_of v.items)
 is-Product a v = of-Product Expression expression_step a v
 
-pub is-Sum : (a : Box Expr Global) (v : Vec (Term × Expr) Global) → expression_of (e.Sum a v) ≡ added (expression_of a.value) (operands_of v.items)
+pub is-Sum : (a : Box Expr Global) (v : Vec (AddOp × Expr) Global) → expression_of (e.Sum a v) ≡ added (expression_of a.value) (operands_of v.items)
 is-Sum a v = of-Sum Expression expression_step a v
 
-pub is-Compare : (op : Compare) (a b : Box Expr Global) → expression_of (e.Compare op a b) ≡ Compared (expression_of a.value) op (expression_of b.value)
+pub is-Compare : (op : CompareOp) (a b : Box Expr Global) → expression_of (e.Compare op a b) ≡ Compared (expression_of a.value) op (expression_of b.value)
 is-Compare op a b = of-Compare Expression expression_step op a b
 
-pub is-Joint : (a : Box Expr Global) (v : Vec (Joint × Expr) Global) → expression_of (e.Joint a v) ≡ joined (expression_of a.value) (operands_of v.items)
-is-Joint a v = of-Joint Expression expression_step a v
+pub is-Logical : (a : Box Expr Global) (v : Vec (LogicalOp × Expr) Global) → expression_of (e.Logical a v) ≡ joined (expression_of a.value) (operands_of v.items)
+is-Logical a v = of-Logical Expression expression_step a v
 
 -- ---- statements
 
@@ -245,8 +245,8 @@ as-Return at x = do-Return Statement statement_step at x
 pub as-Print : (v : Vec Expr Global) → statement_of (s.Print v) ≡ Print (expressions_of v.items)
 as-Print v = do-Print Statement statement_step v
 
-pub as-PrintPart : (v : Vec Expr Global) → statement_of (s.PrintPart v) ≡ PrintPart (expressions_of v.items)
-as-PrintPart v = do-PrintPart Statement statement_step v
+pub as-Printn : (v : Vec Expr Global) → statement_of (s.Printn v) ≡ Printn (expressions_of v.items)
+as-Printn v = do-Printn Statement statement_step v
 
 pub as-Call : (n : Name) (place : ℕ) (v : Vec Expr Global) → statement_of (s.Call n place v) ≡ Call n place (expressions_of v.items)
 as-Call n place v = do-Call Statement statement_step n place v

@@ -4,11 +4,11 @@
 use Rattle.std.specs.Prelude.{ℕ, Bool, true, false, not, ◌&&◌, ◌||◌, ◌==◌, if◌then◌else◌, List, []}
 use Rattle.std.specs.Prelude.{◌∷◌, ◌++◌, length, Option, Some, None}
 use Rattle.grammar.specs.declared.named.Name.{Name}
-use Rattle.filt_syntax.specs.declared.tree.Constant.{Constant}
-use Rattle.filt_syntax.specs.declared.tree.Item.{Item}
-use Rattle.filt_syntax.specs.declared.tree.MaskItem.{MaskItem}
-use Rattle.filt_syntax.specs.declared.tree.Simple.{Simple}
-use Rattle.filt_syntax.specs.declared.tree.Simple.TheVariants as simples
+use Rattle.filt_syntax.specs.declared.ast.Constant.{Constant}
+use Rattle.filt_syntax.specs.declared.ast.Item.{Item}
+use Rattle.filt_syntax.specs.declared.ast.MaskItem.{MaskItem}
+use Rattle.filt_syntax.specs.declared.ast.Atom.{Atom}
+use Rattle.filt_syntax.specs.declared.ast.Atom.TheVariants as atoms
 use Rattle.conf_ast.specs.Filters.{Expression, Plain, Named, Called, Grouped, Paired, SetOf, MaskOf}
 use Rattle.conf_ast.specs.Filters.{IsDefined, MethodOf, PropertyOf, Changed, Negated, Multiplied}
 use Rattle.conf_ast.specs.Filters.{Added, Compared, Joined, Expressions, NoExpressions}
@@ -98,17 +98,17 @@ between rule a b = of_two a.at rule a b
 abbrev pub sound : (at : ℕ) → Sort → Judgement
 sound at sort = record { at = at; sort = Some sort; refusals = [] }
 
-abbrev pub plain : Simple → Judgement
-plain (simples.Number at n) = sound at sorts.Int
-plain (simples.Text at start len) = sound at sorts.String
-plain (simples.Ip at addr) = sound at sorts.Ip
-plain (simples.Prefix at net) = sound at sorts.Prefix
-plain (simples.True at) = sound at sorts.Bool
-plain (simples.False at) = sound at sorts.Bool
-plain (simples.EmptyPath at) = sound at sorts.Path
-plain (simples.EmptyClist at) = sound at sorts.Clist
-plain (simples.Attribute at a) = sound at (sort_of_attribute a)
-plain (simples.Constant at c) = sound at (sort_of_constant c)
+abbrev pub plain : Atom → Judgement
+plain (atoms.Number at n) = sound at sorts.Int
+plain (atoms.Text at start len) = sound at sorts.String
+plain (atoms.Ip at addr) = sound at sorts.Ip
+plain (atoms.Prefix at net) = sound at sorts.Prefix
+plain (atoms.True at) = sound at sorts.Bool
+plain (atoms.False at) = sound at sorts.Bool
+plain (atoms.EmptyPath at) = sound at sorts.Path
+plain (atoms.EmptyClist at) = sound at sorts.Clist
+plain (atoms.Attribute at a) = sound at (sort_of_attribute a)
+plain (atoms.Constant at c) = sound at (sort_of_constant c)
 
 -- the sort of a variable, and of a constant where there is none
 abbrev pub sort_of_named : Option Variable → Option Val → Option Sort
@@ -167,7 +167,7 @@ number_where (Some v) constant = None
 number_where None constant = items.number_in constant
 
 abbrev pub written : Scene → Variables → Expression → Option ℕ
-written scene vs (Plain (simples.Number at n)) = Some n
+written scene vs (Plain (atoms.Number at n)) = Some n
 written scene vs (Named n) = number_where (variable_of scene vs n) (constant_of scene n)
 written scene vs _ = None
 
@@ -263,6 +263,6 @@ abbrev mutual
 
 -- the constant that the expression is, in parentheses or not
 abbrev pub constant_word : Expression → Option Constant
-constant_word (Plain (simples.Constant at c)) = Some c
+constant_word (Plain (atoms.Constant at c)) = Some c
 constant_word (Grouped at e) = constant_word e
 constant_word _ = None

@@ -4,18 +4,18 @@ use Rattle.std.specs.Prelude.{ℕ, Bool, true, false, ◌||◌, nat_lt, if◌the
 use Rattle.std.specs.Prelude.{◌++◌, Option, Some, None}
 use Rattle.bits_ip.specs.Address.{width_of}
 use Rattle.bits_ip.specs.Prefix.{Net}
-use Rattle.filt_syntax.specs.declared.tree.Item.{Item}
-use Rattle.filt_syntax.specs.declared.tree.Item.TheVariants as items
-use Rattle.filt_syntax.specs.declared.tree.Lengths.{Lengths}
-use Rattle.filt_syntax.specs.declared.tree.Lengths.TheVariants as lengths
-use Rattle.filt_syntax.specs.declared.tree.MaskAtom.{MaskAtom}
-use Rattle.filt_syntax.specs.declared.tree.MaskAtom.TheVariants as mask_atoms
-use Rattle.filt_syntax.specs.declared.tree.MaskItem.{MaskItem}
-use Rattle.filt_syntax.specs.declared.tree.Num.{Num}
-use Rattle.filt_syntax.specs.declared.tree.Num.TheVariants as nums
-use Rattle.filt_syntax.specs.declared.tree.PairPart.{PairPart}
-use Rattle.filt_syntax.specs.declared.tree.PairPart.TheVariants as parts
-use Rattle.filt_syntax.specs.declared.tree.Part.{Part}
+use Rattle.filt_syntax.specs.declared.ast.Item.{Item}
+use Rattle.filt_syntax.specs.declared.ast.Item.TheVariants as items
+use Rattle.filt_syntax.specs.declared.ast.Lengths.{Lengths}
+use Rattle.filt_syntax.specs.declared.ast.Lengths.TheVariants as lengths
+use Rattle.filt_syntax.specs.declared.ast.MaskAtom.{MaskAtom}
+use Rattle.filt_syntax.specs.declared.ast.MaskAtom.TheVariants as mask_atoms
+use Rattle.filt_syntax.specs.declared.ast.MaskItem.{MaskItem}
+use Rattle.filt_syntax.specs.declared.ast.Num.{Num}
+use Rattle.filt_syntax.specs.declared.ast.Num.TheVariants as nums
+use Rattle.filt_syntax.specs.declared.ast.PairPart.{PairPart}
+use Rattle.filt_syntax.specs.declared.ast.PairPart.TheVariants as parts
+use Rattle.filt_syntax.specs.declared.ast.NumRange.{NumRange}
 use Rattle.filt_values.specs.declared.value.Sort.{Sort}
 use Rattle.filt_values.specs.declared.value.Sort.TheVariants as sorts
 use Rattle.filt_values.specs.Values.{Val, VInt}
@@ -69,15 +69,15 @@ last_number scene None = []
 last_number scene (Some n) = number scene n
 
 -- the numbers of a range
-abbrev pub numbers : Scene → Part → List Refusal
+abbrev pub numbers : Scene → NumRange → List Refusal
 numbers scene p = number scene p.low ++ last_number scene p.high
 
 -- a range whose first number is over its last, refused at this place
-abbrev pub backwards : Scene → Part → (at : ℕ) → List Refusal
+abbrev pub backwards : Scene → NumRange → (at : ℕ) → List Refusal
 backwards scene p at =
     refused_if (is_backwards (value_of scene p.low) (last_of scene p.high)) at causes.Limit
 
-abbrev pub range : Scene → Part → List Refusal
+abbrev pub range : Scene → NumRange → List Refusal
 range scene p = numbers scene p ++ backwards scene p (place_of p.low)
 
 -- its numbers are known
@@ -96,12 +96,12 @@ last_over_16_bits scene (Some n) = over_16_bits scene n
 
 abbrev pub names_in_part : Scene → PairPart → List Refusal
 names_in_part scene parts.Any = []
-names_in_part scene (parts.Part p) = numbers scene p
+names_in_part scene (parts.Range p) = numbers scene p
 
 -- the limits of a part of a pair whose parenthesis stands at this place
 abbrev pub limits_of_part : Scene → (at : ℕ) → PairPart → List Refusal
 limits_of_part scene at parts.Any = []
-limits_of_part scene at (parts.Part p) =
+limits_of_part scene at (parts.Range p) =
     over_16_bits scene p.low ++ last_over_16_bits scene p.high ++ backwards scene p at
 
 -- ---- prefixes
@@ -124,12 +124,12 @@ limits_of_lengths scene at net _ = []
 
 -- what is refused of the names in an item, and of its limits
 abbrev pub names_in_item : Scene → Item → List Refusal
-names_in_item scene (items.Part p) = numbers scene p
+names_in_item scene (items.Range p) = numbers scene p
 names_in_item scene (items.Pair at a b) = names_in_part scene a ++ names_in_part scene b
 names_in_item scene (items.Prefix at net l) = names_in_lengths scene l
 
 abbrev pub limits_of_item : Scene → Item → List Refusal
-limits_of_item scene (items.Part p) = backwards scene p (place_of p.low)
+limits_of_item scene (items.Range p) = backwards scene p (place_of p.low)
 limits_of_item scene (items.Pair at a b) =
     limits_of_part scene at a ++ limits_of_part scene at b
 limits_of_item scene (items.Prefix at net l) = limits_of_lengths scene at net l
@@ -138,7 +138,7 @@ abbrev pub item : Scene → Item → List Refusal
 item scene i = names_in_item scene i ++ limits_of_item scene i
 
 abbrev pub sort_of_elements : Item → Sort
-sort_of_elements (items.Part p) = sorts.Int
+sort_of_elements (items.Range p) = sorts.Int
 sort_of_elements (items.Pair at a b) = sorts.Pair
 sort_of_elements (items.Prefix at net l) = sorts.Prefix
 
@@ -202,12 +202,12 @@ set_of_sort _ = None
 abbrev pub atom : Scene → MaskAtom → List Refusal
 atom scene mask_atoms.One = []
 atom scene mask_atoms.Any = []
-atom scene (mask_atoms.Part p) = range scene p
+atom scene (mask_atoms.Range p) = range scene p
 
 abbrev pub names_in_atom : Scene → MaskAtom → List Refusal
 names_in_atom scene mask_atoms.One = []
 names_in_atom scene mask_atoms.Any = []
-names_in_atom scene (mask_atoms.Part p) = numbers scene p
+names_in_atom scene (mask_atoms.Range p) = numbers scene p
 
 abbrev pub all_atoms : Scene → List MaskItem → List Refusal
 all_atoms scene [] = []

@@ -1,16 +1,16 @@
 -- Which sorts the places of a form take, by the sorts that its operator takes.
 use Rattle.std.specs.Prelude.{Bool, true, false, ◌&&◌, List, [], ◌∷◌}
 use Rattle.std.specs.List.{list_any}
-use Rattle.filt_syntax.specs.declared.tree.Attribute.{Attribute}
-use Rattle.filt_syntax.specs.declared.tree.Attribute.TheVariants as attributes
-use Rattle.filt_syntax.specs.declared.tree.Compare.{Compare}
-use Rattle.filt_syntax.specs.declared.tree.Compare.TheVariants as compares
-use Rattle.filt_syntax.specs.declared.tree.Constant.{Constant}
-use Rattle.filt_syntax.specs.declared.tree.Constant.TheVariants as constants
-use Rattle.filt_syntax.specs.declared.tree.MethodKind.{MethodKind}
-use Rattle.filt_syntax.specs.declared.tree.MethodKind.TheVariants as methods
-use Rattle.filt_syntax.specs.declared.tree.Property.{Property}
-use Rattle.filt_syntax.specs.declared.tree.Property.TheVariants as properties
+use Rattle.filt_syntax.specs.declared.ast.Attribute.{Attribute}
+use Rattle.filt_syntax.specs.declared.ast.Attribute.TheVariants as attributes
+use Rattle.filt_syntax.specs.declared.ast.CompareOp.{CompareOp}
+use Rattle.filt_syntax.specs.declared.ast.CompareOp.TheVariants as compare_ops
+use Rattle.filt_syntax.specs.declared.ast.Constant.{Constant}
+use Rattle.filt_syntax.specs.declared.ast.Constant.TheVariants as constants
+use Rattle.filt_syntax.specs.declared.ast.MethodKind.{MethodKind}
+use Rattle.filt_syntax.specs.declared.ast.MethodKind.TheVariants as methods
+use Rattle.filt_syntax.specs.declared.ast.Property.{Property}
+use Rattle.filt_syntax.specs.declared.ast.Property.TheVariants as properties
 use Rattle.filt_values.specs.declared.value.Sort.{Sort}
 use Rattle.filt_values.specs.declared.value.Sort.TheVariants as sorts
 use Rattle.filt_values.specs.Sorts.{an_int, a_bool, an_ip, a_pair, the_same, two_ints, one_bool}
@@ -55,17 +55,17 @@ two_bools left right = one_bool left && one_bool right
 abbrev pub joining : RuleOfTwo
 joining = record { takes = two_bools; gives = a_bool }
 
-abbrev pub compares_sorts : Compare → Sort → Sort → Bool
-compares_sorts compares.Equal = compared
-compares_sorts compares.NotEqual = compared
-compares_sorts compares.Less = ordered
-compares_sorts compares.LessOrEqual = ordered
-compares_sorts compares.Greater = ordered
-compares_sorts compares.GreaterOrEqual = ordered
-compares_sorts compares.Matches = matched
-compares_sorts compares.MatchesNot = matched
+abbrev pub compares_sorts : CompareOp → Sort → Sort → Bool
+compares_sorts compare_ops.Equal = compared
+compares_sorts compare_ops.NotEqual = compared
+compares_sorts compare_ops.Less = ordered
+compares_sorts compare_ops.LessOrEqual = ordered
+compares_sorts compare_ops.Greater = ordered
+compares_sorts compare_ops.GreaterOrEqual = ordered
+compares_sorts compare_ops.Matches = matched
+compares_sorts compare_ops.MatchesNot = matched
 
-abbrev pub comparing : Compare → RuleOfTwo
+abbrev pub comparing : CompareOp → RuleOfTwo
 comparing op = record { takes = compares_sorts op; gives = a_bool }
 
 abbrev pub method_takes : MethodKind → Sort → Sort → Bool

@@ -2,19 +2,19 @@
 use Rattle.std.specs.Prelude.{ℕ, Bool, true, false, not, ◌&&◌, ◌||◌, if◌then◌else◌, List, [], ◌∷◌}
 use Rattle.std.specs.Prelude.{◌++◌, length, remove, Option, Some, None}
 use Rattle.grammar.specs.declared.named.Name.{Name}
-use Rattle.filt_syntax.specs.declared.tree.Attribute.TheVariants as attributes
-use Rattle.filt_syntax.specs.declared.tree.Constant.{Constant}
-use Rattle.filt_syntax.specs.declared.tree.Item.{Item}
-use Rattle.filt_syntax.specs.declared.tree.Method.{Method}
-use Rattle.filt_syntax.specs.declared.tree.Parameter.{Parameter}
-use Rattle.filt_syntax.specs.declared.tree.Target.{Target}
-use Rattle.filt_syntax.specs.declared.tree.Target.TheVariants as targets
-use Rattle.filt_syntax.specs.declared.tree.VariableType.{VariableType}
-use Rattle.filt_syntax.specs.declared.tree.VariableType.TheVariants as types
+use Rattle.filt_syntax.specs.declared.ast.Attribute.TheVariants as attributes
+use Rattle.filt_syntax.specs.declared.ast.Constant.{Constant}
+use Rattle.filt_syntax.specs.declared.ast.Item.{Item}
+use Rattle.filt_syntax.specs.declared.ast.Method.{Method}
+use Rattle.filt_syntax.specs.declared.ast.Parameter.{Parameter}
+use Rattle.filt_syntax.specs.declared.ast.Target.{Target}
+use Rattle.filt_syntax.specs.declared.ast.Target.TheVariants as targets
+use Rattle.filt_syntax.specs.declared.ast.VariableType.{VariableType}
+use Rattle.filt_syntax.specs.declared.ast.VariableType.TheVariants as types
 use Rattle.conf_ast.specs.Configurations.{Routine}
 use Rattle.conf_ast.specs.Filters.{Expression, Statement, Braced, Nothing, Declare, Assign}
 use Rattle.conf_ast.specs.Filters.{ChangeBy, Clear, Unset, If, IfElse, Case, CaseElse, For, Accept}
-use Rattle.conf_ast.specs.Filters.{Reject, Return, Print, PrintPart, Call, Statements, NoStatements}
+use Rattle.conf_ast.specs.Filters.{Reject, Return, Print, Printn, Call, Statements, NoStatements}
 use Rattle.conf_ast.specs.Filters.{AndStatements, Arms, NoArms, AndArms}
 use Rattle.filt_values.specs.declared.value.Sort.{Sort}
 use Rattle.filt_values.specs.declared.value.Sort.TheVariants as sorts
@@ -237,7 +237,7 @@ abbrev mutual
   check around vs Reject = plainly vs []
   check around vs (Return at e) = plainly vs (return around vs at e)
   check around vs (Print es) = plainly vs (all_refusals (judge_all around.scene vs es))
-  check around vs (PrintPart es) = plainly vs (all_refusals (judge_all around.scene vs es))
+  check around vs (Printn es) = plainly vs (all_refusals (judge_all around.scene vs es))
   check around vs (Call n place es) =
       plainly vs (call n (function_of around.scene n) (judge_all around.scene vs es))
 

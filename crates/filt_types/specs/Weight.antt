@@ -6,7 +6,7 @@ use Rattle.conf_ast.specs.Filters.{IsDefined, MethodOf, PropertyOf, Changed, Neg
 use Rattle.conf_ast.specs.Filters.{Added, Compared, Joined, Expressions, NoExpressions}
 use Rattle.conf_ast.specs.Filters.{AndExpressions, Statement, Braced, Nothing, Declare, Assign}
 use Rattle.conf_ast.specs.Filters.{ChangeBy, Clear, Unset, If, IfElse, Case, CaseElse, For, Accept}
-use Rattle.conf_ast.specs.Filters.{Reject, Return, Print, PrintPart, Call, Statements, NoStatements}
+use Rattle.conf_ast.specs.Filters.{Reject, Return, Print, Printn, Call, Statements, NoStatements}
 use Rattle.conf_ast.specs.Filters.{AndStatements, Arms, NoArms, AndArms}
 use Rattle.filt_types.specs.declared.refusal.Cause.TheVariants as causes
 use Rattle.filt_types.specs.declared.refusal.Refusal.{Refusal}
@@ -65,7 +65,7 @@ abbrev mutual
   act_weight scene Reject = 1
   act_weight scene (Return at e) = 1 + optional scene e
   act_weight scene (Print es) = 1 + weights scene es
-  act_weight scene (PrintPart es) = 1 + weights scene es
+  act_weight scene (Printn es) = 1 + weights scene es
   act_weight scene (Call n place es) = 1 + weights scene es + of_function (function_of scene n)
 
   pub acts_weight : Scene → Statements → ℕ

@@ -22,7 +22,7 @@ use crate::refusal::{Cause, Refusal, note, note_if};
 use crate::rules::{Operator, Single, is, of_one, of_two, want_left, want_right};
 use crate::scene::{Seen, constant_named, function_named, variable_named};
 use crate::words::{and_known, mask, named, plain, set, sound};
-use filt_syntax::{Access, Constant, Expr, Factor, Joint, Method, Simple, Term};
+use filt_syntax::ast::{AddOp, Atom, Constant, Expr, LogicalOp, Method, MulOp, Postfix};
 use filt_tree::TFunction;
 use filt_values::Sort;
 use grammar::Name;
@@ -34,7 +34,7 @@ pub fn judge(seen: Seen<'_>, e: &Expr, first: &mut Option<Refusal>) -> Judged
     ensures first { first.new ≡ first_in first.old (judged_of seen.entry e.now).refusals }
 {
     match e {
-        Expr::Simple(word) => plain(*word),
+        Expr::Atom(word) => plain(*word),
         Expr::Name(name) => named(seen, *name, first),
         Expr::Call {
             name,
@@ -56,7 +56,7 @@ pub fn judge(seen: Seen<'_>, e: &Expr, first: &mut Option<Refusal>) -> Judged
             argument,
             ..
         } => method_call(seen, *method, list, argument, first),
-        Expr::Access(operand, more) => accesses(seen, operand, more, first),
+        Expr::Postfix(operand, more) => accesses(seen, operand, more, first),
         Expr::Not { at, operand } => {
             let operand = judge(seen, operand, first);
             of_one(*at, Single::Negating, operand, first)
@@ -68,7 +68,7 @@ pub fn judge(seen: Seen<'_>, e: &Expr, first: &mut Option<Refusal>) -> Judged
             let operator = Operator::Comparing(*compare);
             with_right(seen, left.at, operator, left, right, first)
         }
-        Expr::Joint(operand, more) => joints(seen, operand, more, first),
+        Expr::Logical(operand, more) => joints(seen, operand, more, first),
     }
 }
 
@@ -131,7 +131,7 @@ pub fn with_right(
 fn factors(
     seen: Seen<'_>,
     operand: &Expr,
-    more: &[(Factor, Expr)],
+    more: &[(MulOp, Expr)],
     first: &mut Option<Refusal>,
 ) -> Judged
     ensures judged { result
@@ -152,7 +152,7 @@ fn factors(
 fn terms(
     seen: Seen<'_>,
     operand: &Expr,
-    more: &[(Term, Expr)],
+    more: &[(AddOp, Expr)],
     first: &mut Option<Refusal>,
 ) -> Judged
     ensures judged { result
@@ -172,7 +172,7 @@ fn terms(
 fn joints(
     seen: Seen<'_>,
     operand: &Expr,
-    more: &[(Joint, Expr)],
+    more: &[(LogicalOp, Expr)],
     first: &mut Option<Refusal>,
 ) -> Judged
     ensures judged { result
@@ -193,7 +193,7 @@ fn joints(
 fn accesses(
     seen: Seen<'_>,
     operand: &Expr,
-    more: &[Access<Expr>],
+    more: &[Postfix<Expr>],
     first: &mut Option<Refusal>,
 ) -> Judged
     ensures judged { result
@@ -214,7 +214,7 @@ fn accesses(
 fn access(
     seen: Seen<'_>,
     operand: Judged,
-    part: &Access<Expr>,
+    part: &Postfix<Expr>,
     first: &mut Option<Refusal>,
 ) -> Judged
     ensures judged { result
@@ -225,10 +225,10 @@ fn access(
         (bare operand) (access_of part.now)).refusals }
 {
     match part {
-        Access::Property(property) => {
+        Postfix::Property(property) => {
             of_one(operand.at, Single::Property(*property), operand, first)
         }
-        Access::Method {
+        Postfix::Method {
             method,
             argument,
             ..
@@ -276,7 +276,7 @@ fn written(seen: Seen<'_>, e: &Expr) -> Option<u32>
         (expression_of e.now) }
 {
     match e {
-        Expr::Simple(word) => written_word(*word),
+        Expr::Atom(word) => written_word(*word),
         Expr::Name(name) => written_name(seen, *name),
         Expr::Call { .. } => None,
         Expr::Group { .. } => None,
@@ -285,12 +285,12 @@ fn written(seen: Seen<'_>, e: &Expr) -> Option<u32>
         Expr::Mask { .. } => None,
         Expr::Defined { .. } => None,
         Expr::MethodCall { .. } => None,
-        Expr::Access(operand, more) => written_alone(seen, operand, more.is_empty()),
+        Expr::Postfix(operand, more) => written_alone(seen, operand, more.is_empty()),
         Expr::Not { .. } => None,
         Expr::Product(operand, more) => written_alone(seen, operand, more.is_empty()),
         Expr::Sum(operand, more) => written_alone(seen, operand, more.is_empty()),
         Expr::Compare(_, _, _) => None,
-        Expr::Joint(operand, more) => written_alone(seen, operand, more.is_empty()),
+        Expr::Logical(operand, more) => written_alone(seen, operand, more.is_empty()),
     }
 }
 
@@ -306,12 +306,12 @@ fn written_alone(seen: Seen<'_>, e: &Expr, is_alone: bool) -> Option<u32>
     None
 }
 
-fn written_word(word: Simple) -> Option<u32>
+fn written_word(word: Atom) -> Option<u32>
     ensures { (scene : Scene) (vs : Variables) → result
         ≡ expressions.written scene vs (Plain word) }
 {
     match word {
-        Simple::Number { value, .. } => Some(value),
+        Atom::Number { value, .. } => Some(value),
         _ => None,
     }
 }
@@ -501,7 +501,7 @@ pub fn constant_word(e: &Expr) -> Option<Constant>
     ensures { result ≡ expressions.constant_word (expression_of e.now) }
 {
     match e {
-        Expr::Simple(word) => word_constant(*word),
+        Expr::Atom(word) => word_constant(*word),
         Expr::Name(_) => None,
         Expr::Call { .. } => None,
         Expr::Group { inner, .. } => constant_word(inner),
@@ -510,12 +510,12 @@ pub fn constant_word(e: &Expr) -> Option<Constant>
         Expr::Mask { .. } => None,
         Expr::Defined { .. } => None,
         Expr::MethodCall { .. } => None,
-        Expr::Access(operand, more) => constant_alone(operand, more.is_empty()),
+        Expr::Postfix(operand, more) => constant_alone(operand, more.is_empty()),
         Expr::Not { .. } => None,
         Expr::Product(operand, more) => constant_alone(operand, more.is_empty()),
         Expr::Sum(operand, more) => constant_alone(operand, more.is_empty()),
         Expr::Compare(_, _, _) => None,
-        Expr::Joint(operand, more) => constant_alone(operand, more.is_empty()),
+        Expr::Logical(operand, more) => constant_alone(operand, more.is_empty()),
     }
 }
 
@@ -529,11 +529,11 @@ fn constant_alone(e: &Expr, is_alone: bool) -> Option<Constant>
     None
 }
 
-fn word_constant(word: Simple) -> Option<Constant>
+fn word_constant(word: Atom) -> Option<Constant>
     ensures { result ≡ expressions.constant_word (Plain word) }
 {
     match word {
-        Simple::Constant { constant, .. } => Some(constant),
+        Atom::Constant { constant, .. } => Some(constant),
         _ => None,
     }
 }

@@ -2,7 +2,7 @@
 
 ghost use Rattle.std.specs.Prelude.{◌≡◌, Some};
 ghost use Rattle.bits_ip.specs.Address.{width_of};
-ghost use Rattle.filt_syntax.specs.declared.tree.PairPart.TheVariants as pair_parts;
+ghost use Rattle.filt_syntax.specs.declared.ast.PairPart.TheVariants as pair_parts;
 ghost use Rattle.filt_values.specs.Seen.{val_of_fixed};
 ghost use Rattle.filt_types.specs.Items as of;
 ghost use Rattle.filt_types.specs.Items.{is_known, sorts_of_items};
@@ -14,7 +14,7 @@ use crate::refusal::{Cause, Refusal, note_if};
 use crate::rules::{is, sort_if};
 use crate::scene::{Seen, constant_named};
 use bits_ip::{Addr, Prefix};
-use filt_syntax::{Item, Lengths, MaskAtom, MaskItem, Num, PairPart, Part};
+use filt_syntax::ast::{Item, Lengths, MaskAtom, MaskItem, Num, NumRange, PairPart};
 use filt_values::{Fixed, Sort};
 
 /// The sorts of some parts so far.
@@ -128,7 +128,7 @@ fn last_number(seen: Seen<'_>, last: Option<Num>, first: &mut Option<Refusal>) -
 }
 
 /// Whether both numbers of a range are known.
-fn numbers(seen: Seen<'_>, part: Part, first: &mut Option<Refusal>) -> bool
+fn numbers(seen: Seen<'_>, part: NumRange, first: &mut Option<Refusal>) -> bool
     ensures known { result ≡ is_known (of.numbers (scene_in seen.entry) part) }
     ensures first { first.new ≡ first_in first.old (of.numbers (scene_in seen.entry) part) }
 {
@@ -138,7 +138,7 @@ fn numbers(seen: Seen<'_>, part: Part, first: &mut Option<Refusal>) -> bool
 }
 
 /// A range may not end before it begins.
-fn backwards(seen: Seen<'_>, part: Part, at: usize, first: &mut Option<Refusal>)
+fn backwards(seen: Seen<'_>, part: NumRange, at: usize, first: &mut Option<Refusal>)
     ensures { first.new ≡ first_in first.old (of.backwards (scene_in seen.entry) part at) }
 {
     let is_refused = is_backwards(value_of(seen, part.low), last_of(seen, part.high));
@@ -170,7 +170,7 @@ fn names_in_part(seen: Seen<'_>, part: PairPart, first: &mut Option<Refusal>) ->
 {
     match part {
         PairPart::Any => true,
-        PairPart::Part(part) => numbers(seen, part, first),
+        PairPart::Range(part) => numbers(seen, part, first),
     }
 }
 
@@ -179,13 +179,13 @@ fn limits_of_part(seen: Seen<'_>, at: usize, part: PairPart, first: &mut Option<
 {
     match part {
         PairPart::Any => (),
-        PairPart::Part(part) => limits_of_range(seen, at, part, first),
+        PairPart::Range(part) => limits_of_range(seen, at, part, first),
     }
 }
 
-fn limits_of_range(seen: Seen<'_>, at: usize, part: Part, first: &mut Option<Refusal>)
+fn limits_of_range(seen: Seen<'_>, at: usize, part: NumRange, first: &mut Option<Refusal>)
     ensures { first.new
-        ≡ first_in first.old (of.limits_of_part (scene_in seen.entry) at (pair_parts.Part part)) }
+        ≡ first_in first.old (of.limits_of_part (scene_in seen.entry) at (pair_parts.Range part)) }
 {
     over_16_bits(seen, part.low, first);
     last_over_16_bits(seen, part.high, first);
@@ -261,7 +261,7 @@ fn names_in_item(seen: Seen<'_>, item: &Item, first: &mut Option<Refusal>) -> bo
         ≡ first_in first.old (of.names_in_item (scene_in seen.entry) item.now) }
 {
     match item {
-        Item::Part(part) => numbers(seen, *part, first),
+        Item::Range(part) => numbers(seen, *part, first),
         Item::Pair {
             first: left,
             second: right,
@@ -279,7 +279,7 @@ fn limits_of_item(seen: Seen<'_>, item: &Item, first: &mut Option<Refusal>)
     ensures { first.new ≡ first_in first.old (of.limits_of_item (scene_in seen.entry) item.now) }
 {
     match item {
-        Item::Part(part) => backwards(seen, *part, place_of(part.low), first),
+        Item::Range(part) => backwards(seen, *part, place_of(part.low), first),
         Item::Pair {
             at,
             first: left,
@@ -296,7 +296,7 @@ fn sort_of_elements(item: &Item) -> Sort
     ensures { result ≡ of.sort_of_elements item.now }
 {
     match item {
-        Item::Part(_) => Sort::Int,
+        Item::Range(_) => Sort::Int,
         Item::Pair { .. } => Sort::Pair,
         Item::Prefix { .. } => Sort::Prefix,
     }
@@ -374,12 +374,12 @@ fn mask_item(seen: Seen<'_>, element: &MaskItem, first: &mut Option<Refusal>) ->
     match element.atom {
         MaskAtom::One => true,
         MaskAtom::Any => true,
-        MaskAtom::Part(part) => range(seen, part, first),
+        MaskAtom::Range(part) => range(seen, part, first),
     }
 }
 
 /// Whether both numbers of a range are known; it may not end before it begins.
-fn range(seen: Seen<'_>, part: Part, first: &mut Option<Refusal>) -> bool
+fn range(seen: Seen<'_>, part: NumRange, first: &mut Option<Refusal>) -> bool
     ensures known { result ≡ is_known (of.numbers (scene_in seen.entry) part) }
     ensures first { first.new ≡ first_in first.old (of.range (scene_in seen.entry) part) }
 {

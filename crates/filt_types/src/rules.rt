@@ -14,7 +14,7 @@ ghost use Rattle.filt_types.specs.Walk.{bare, rule_of, rule_of_one, said_of};
 
 use crate::judged::Judged;
 use crate::refusal::{Cause, Refusal, note_if};
-use filt_syntax::{Compare, MethodKind, Property};
+use filt_syntax::ast::{CompareOp, MethodKind, Property};
 use filt_values::Sort;
 
 /// An operator of two operands.
@@ -26,7 +26,7 @@ pub enum Operator {
     Pairing,
     /// `&&` and `||`
     Joining,
-    Comparing(Compare),
+    Comparing(CompareOp),
     Method(MethodKind),
 }
 
@@ -83,18 +83,18 @@ fn two_ints(left: Sort, right: Sort) -> bool
     is(left, Sort::Int) & is(right, Sort::Int)
 }
 
-fn compares(compare: Compare, left: Sort, right: Sort) -> bool
+fn compares(compare: CompareOp, left: Sort, right: Sort) -> bool
     ensures { result ≡ rules.compares_sorts compare left right }
 {
     match compare {
-        Compare::Equal => compared(left, right),
-        Compare::NotEqual => compared(left, right),
-        Compare::Less => ordered(left, right),
-        Compare::LessOrEqual => ordered(left, right),
-        Compare::Greater => ordered(left, right),
-        Compare::GreaterOrEqual => ordered(left, right),
-        Compare::Matches => matched(left, right),
-        Compare::MatchesNot => matched(left, right),
+        CompareOp::Equal => compared(left, right),
+        CompareOp::NotEqual => compared(left, right),
+        CompareOp::Less => ordered(left, right),
+        CompareOp::LessOrEqual => ordered(left, right),
+        CompareOp::Greater => ordered(left, right),
+        CompareOp::GreaterOrEqual => ordered(left, right),
+        CompareOp::Matches => matched(left, right),
+        CompareOp::MatchesNot => matched(left, right),
     }
 }
 

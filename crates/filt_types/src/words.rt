@@ -15,7 +15,7 @@ use crate::judged::Judged;
 use crate::refusal::{Cause, Refusal, note, note_if};
 use crate::rules::sort_if;
 use crate::scene::{Seen, constant_named, variable_named};
-use filt_syntax::{Attribute, Constant, Item, MaskItem, Simple};
+use filt_syntax::ast::{Atom, Attribute, Constant, Item, MaskItem};
 use filt_values::Sort;
 use grammar::Name;
 
@@ -67,21 +67,21 @@ fn constant_sort(constant: Constant) -> Sort
     }
 }
 
-pub(crate) fn plain(word: Simple) -> Judged
+pub(crate) fn plain(word: Atom) -> Judged
     ensures judged { result ≡ said_of (expressions.plain word) }
     ensures sound { (expressions.plain word).refusals ≡ [] }
 {
     match word {
-        Simple::Number { at, .. } => sound(at, Sort::Int),
-        Simple::Text { at, .. } => sound(at, Sort::String),
-        Simple::Ip { at, .. } => sound(at, Sort::Ip),
-        Simple::Prefix { at, .. } => sound(at, Sort::Prefix),
-        Simple::True { at } => sound(at, Sort::Bool),
-        Simple::False { at } => sound(at, Sort::Bool),
-        Simple::EmptyPath { at } => sound(at, Sort::Path),
-        Simple::EmptyClist { at } => sound(at, Sort::Clist),
-        Simple::Attribute { at, attribute } => sound(at, attribute_sort(attribute)),
-        Simple::Constant { at, constant } => sound(at, constant_sort(constant)),
+        Atom::Number { at, .. } => sound(at, Sort::Int),
+        Atom::Text { at, .. } => sound(at, Sort::String),
+        Atom::Ip { at, .. } => sound(at, Sort::Ip),
+        Atom::Prefix { at, .. } => sound(at, Sort::Prefix),
+        Atom::True { at } => sound(at, Sort::Bool),
+        Atom::False { at } => sound(at, Sort::Bool),
+        Atom::EmptyPath { at } => sound(at, Sort::Path),
+        Atom::EmptyClist { at } => sound(at, Sort::Clist),
+        Atom::Attribute { at, attribute } => sound(at, attribute_sort(attribute)),
+        Atom::Constant { at, constant } => sound(at, constant_sort(constant)),
     }
 }
 

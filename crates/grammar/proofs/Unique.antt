@@ -3,12 +3,12 @@ use Rattle.std.proofs.Common.{◌≡◌, ℕ, ◌≤◌, ◌<◌, Bool, true, Li
 use Rattle.std.proofs.lemmas.List.{length-append}
 use Rattle.grammar.specs.Kind.{Kind}
 use Rattle.conf_lex.specs.declared.word.Word.{Word}
-use Rattle.grammar.specs.Grammar.{Why, Bad, TooDeep, Unsupported, Form, Tree, yield, refused, Fits}
-use Rattle.grammar.specs.Reading.{Read, Got, Fault, read}
-use Rattle.grammar.specs.Sentences.{IsBegun, IsLast, IsBad, IsTooDeep, IsUnsupported}
+use Rattle.grammar.specs.Grammar.{Bad, TooDeep, Form, ParseTree, yield, DerivesLongest, too_deep}
+use Rattle.grammar.specs.Reading.{Read, Parsed, Failed, read}
+use Rattle.grammar.specs.Sentences.{IsBegun, IsLast, IsBad, IsTooDeep}
 use Rattle.grammar.proofs.Good.{first_word, outcome}
 use Rattle.grammar.proofs.Checks.{check, Checked, good}
-use Rattle.grammar.proofs.Exact.{got_is_read, fault_is_bad, fault_is_too_deep, fault_is_unsupported, whole}
+use Rattle.grammar.proofs.Exact.{got_is_read, fault_is_bad, fault_is_too_deep, whole}
 
 -- ---- two fronts of the same words
 
@@ -43,28 +43,25 @@ same_front a b s e = elim (fronts a s b s e) [
   ]
 ]
 
-late_outcome : (why : Why) (d : Option (Why × List Word)) (t : Tree) (more ws : List Word) → ((r : Why × List Word) → d ≡ Some r → length r.1 ≤ length more) → outcome d t [] ≡ Fault why ws → length more < length ws → ⊥
-late_outcome why None t more ws late e longer = cc
-late_outcome why (Some r) t more ws late e longer =
-    let same : r.1 ++ [] ≡ ws = cc in
-    omega (arith, late r refl, ap (λ (u : List Word). length u) same, length-append r.1 [])
+late_outcome : (d : Option (List Word)) (t : ParseTree) (more ws : List Word) → ((deep : List Word) → d ≡ Some deep → length deep ≤ length more) → outcome d t [] ≡ Failed TooDeep ws → length more < length ws → ⊥
+late_outcome None t more ws late e longer = cc
+late_outcome (Some deep) t more ws late e longer =
+    let same : deep ++ [] ≡ ws = cc in
+    omega (arith, late deep refl, ap (λ (u : List Word). length u) same, length-append deep [])
 
-module _ (rule : ℕ → Form) (model : ℕ → Tree) (after : ℕ → Kind → Bool) (checked : Checked rule model after) (k : ℕ) (f : Form) (ok : check model after f ≡ true) where
-  -- a word that is refused in a sentence is refused wherever the words before it and it come
-  stopped : (t : Tree) (why : Why) (before : List Word) (w : Word) (more : List Word) → Fits rule t f → yield t ≡ before ++ w ∷ more → refused t k ≡ Some (why, w ∷ more) → (rest : List Word) → read rule k f (before ++ w ∷ rest) ≡ Fault why (w ∷ rest)
+module _ {L : Type 0} (rule : L → Form L) (model : L → ParseTree) (after : L → Kind → Bool) (checked : Checked rule model after) (k : ℕ) (f : Form L) (ok : check model after f ≡ true) where
+  -- a word that opens a level too many in a sentence is refused wherever the words before it and it come
+  stopped : (t : ParseTree) (before : List Word) (w : Word) (more : List Word) → DerivesLongest rule t f → yield t ≡ before ++ w ∷ more → too_deep t k ≡ Some (w ∷ more) → (rest : List Word) → read rule k f (before ++ w ∷ rest) ≡ Failed TooDeep (w ∷ rest)
   unfolding first_word
-  stopped t why before w more fits reads stops rest =
-      let sentence : read rule k f (yield t) ≡ Fault why ((w ∷ more) ++ []) = whole rule model after checked k f ok t fits ∙ ap (λ (d : Option (Why × List Word)). outcome d t []) stops in
-      let fault : read rule k f (yield t) ≡ Fault why (w ∷ more) = sentence ∙ ap (λ (u : List Word). Fault why u) (append-nil (w ∷ more)) in
-      let r = (good rule model after checked k f ok).fault (yield t) why (w ∷ more) fault in
+  stopped t before w more fits reads stops rest =
+      let sentence : read rule k f (yield t) ≡ Failed TooDeep ((w ∷ more) ++ []) = whole rule model after checked k f ok t fits ∙ ap (λ (d : Option (List Word)). outcome d t []) stops in
+      let fault : read rule k f (yield t) ≡ Failed TooDeep (w ∷ more) = sentence ∙ ap (λ (u : List Word). Failed TooDeep u) (append-nil (w ∷ more)) in
+      let r = (good rule model after checked k f ok).fault (yield t) TooDeep (w ∷ more) fault in
       let same : r.before ≡ before = same_front r.before before (w ∷ more) (sym r.front ∙ reads) in
-      subst (λ (b : List Word). read rule k f (b ++ w ∷ rest) ≡ Fault why (w ∷ rest)) same (r.local (w ∷ rest) refl)
+      subst (λ (b : List Word). read rule k f (b ++ w ∷ rest) ≡ Failed TooDeep (w ∷ rest)) same (r.local (w ∷ rest) refl)
 
-  pub too_deep_is_fault : (words rest : List Word) → IsTooDeep rule k f words rest → read rule k f words ≡ Fault TooDeep rest
-  too_deep_is_fault words rest h = rw (h.front, h.opens) (stopped h.tree TooDeep h.before h.opener h.more h.fits h.begun h.levels h.behind)
-
-  pub unsupported_is_fault : (words rest : List Word) → IsUnsupported rule k f words rest → read rule k f words ≡ Fault Unsupported rest
-  unsupported_is_fault words rest h = rw (h.front, h.next) (stopped h.tree Unsupported h.before h.word h.more h.fits h.reads h.stops h.behind)
+  pub too_deep_is_fault : (words rest : List Word) → IsTooDeep rule k f words rest → read rule k f words ≡ Failed TooDeep rest
+  too_deep_is_fault words rest h = rw (h.front, h.opens) (stopped h.tree h.before h.opener h.more h.fits h.begun h.levels h.behind)
 
   -- nothing is begun by more than the last front
   past_last : (a r b s : List Word) → IsLast rule f b s → Longer a r b s → IsBegun rule f a → ⊥
@@ -74,9 +71,9 @@ module _ (rule : ℕ → Form) (model : ℕ → Tree) (after : ℕ → Kind → 
       let front : a ≡ (b ++ v ∷ []) ++ l.more = l.front ∙ ap (λ (x : Word). b ++ x ∷ l.more) (sym same) ∙ sym (append_assoc b (v ∷ []) l.more) in
       last (begun.0, l.more ++ begun.1, begun.2, begun.3 ∙ ap (λ (u : List Word). u ++ begun.1) front ∙ append_assoc (b ++ v ∷ []) l.more begun.1)
 
-  -- a word that is refused in a sentence comes no sooner than a bad one
-  no_stop_before : (why : Why) (words rest : List Word) (h : IsBad rule k f words rest) (t : Tree) (before : List Word) (w : Word) (behind more : List Word) → words ≡ before ++ w ∷ behind → Fits rule t f → yield t ≡ before ++ w ∷ more → refused t k ≡ Some (why, w ∷ more) → ⊥
-  no_stop_before why words rest h t before w behind more front fits reads stops = elim (fronts h.before rest before (w ∷ behind) (sym h.front ∙ front)) [
+  -- a word that opens a level too many in a sentence comes no sooner than a bad one
+  no_stop_before : (words rest : List Word) (h : IsBad rule k f words rest) (t : ParseTree) (before : List Word) (w : Word) (behind more : List Word) → words ≡ before ++ w ∷ behind → DerivesLongest rule t f → yield t ≡ before ++ w ∷ more → too_deep t k ≡ Some (w ∷ more) → ⊥
+  no_stop_before words rest h t before w behind more front fits reads stops = elim (fronts h.before rest before (w ∷ behind) (sym h.front ∙ front)) [
     | inl same ↦ bad_last (IsLast rule f) h.before rest h.last w behind same.1 (t, more, fits, reads ∙ ap (λ (b : List Word). b ++ w ∷ more) (sym same.0) ∙ sym (append_assoc h.before (w ∷ []) more))
     | inr x ↦ elim x [
       | inl l ↦ later l
@@ -94,11 +91,11 @@ module _ (rule : ℕ → Form) (model : ℕ → Tree) (after : ℕ → Kind → 
           let same : w ≡ l.word = let e = l.rest in cc in
           let words-are : yield b.0 ≡ before ++ w ∷ (l.more ++ b.1) =
           b.3 ∙ ap (λ (u : List Word). u ++ b.1) l.front ∙ append_assoc before (l.word ∷ l.more) b.1 ∙ ap (λ (x : Word). before ++ x ∷ (l.more ++ b.1)) (sym same) in
-          let failed : read rule k f (yield b.0) ≡ Fault why (w ∷ (l.more ++ b.1)) = rw words-are (stopped t why before w more fits reads stops (l.more ++ b.1)) in
-          late_outcome why (refused b.0 k) b.0 b.1 (w ∷ (l.more ++ b.1)) b.5 (sym (whole rule model after checked k f ok b.0 b.2) ∙ failed) (omega (arith, length-append l.more b.1))
+          let failed : read rule k f (yield b.0) ≡ Failed TooDeep (w ∷ (l.more ++ b.1)) = rw words-are (stopped t before w more fits reads stops (l.more ++ b.1)) in
+          late_outcome (too_deep b.0 k) b.0 b.1 (w ∷ (l.more ++ b.1)) b.4 (sym (whole rule model after checked k f ok b.0 b.2) ∙ failed) (omega (arith, length-append l.more b.1))
 
-  bad_is : (words rest : List Word) → IsBad rule k f words rest → (x : Read) → read rule k f words ≡ x → x ≡ Fault Bad rest
-  bad_is words rest h (Got t end) e =
+  bad_is : (words rest : List Word) → IsBad rule k f words rest → (x : Read) → read rule k f words ≡ x → x ≡ Failed Bad rest
+  bad_is words rest h (Parsed t end) e =
       let g = got_is_read rule model after checked k f ok words t end e in
       elim (fronts h.before rest (yield t) end (sym h.front ∙ g.front)) [
         | inl same ↦ absurd (h.unfinished t g.fits (sym same.0))
@@ -107,21 +104,18 @@ module _ (rule : ℕ → Form) (model : ℕ → Tree) (after : ℕ → Kind → 
           | inr l ↦ absurd (past_last (yield t) end h.before rest h.last l (t, [], g.fits, sym (append-nil (yield t))))
         ]
       ]
-  bad_is words rest h (Fault Bad end) e =
+  bad_is words rest h (Failed Bad end) e =
       let g = fault_is_bad rule model after checked k f ok words end e in
       elim (fronts h.before rest g.before end (sym h.front ∙ g.front)) [
-        | inl same ↦ ap (λ (u : List Word). Fault Bad u) (sym same.1)
+        | inl same ↦ ap (λ (u : List Word). Failed Bad u) (sym same.1)
         | inr x ↦ elim x [
           | inl l ↦ absurd (past_last h.before rest g.before end g.last l (h.begun.0, h.begun.1, h.begun.2, h.begun.3))
           | inr l ↦ absurd (past_last g.before end h.before rest h.last l (g.begun.0, g.begun.1, g.begun.2, g.begun.3))
         ]
       ]
-  bad_is words rest h (Fault TooDeep end) e =
+  bad_is words rest h (Failed TooDeep end) e =
       let g = fault_is_too_deep rule model after checked k f ok words end e in
-      absurd (no_stop_before TooDeep words rest h g.tree g.before g.opener g.behind g.more (g.front ∙ ap (λ (u : List Word). g.before ++ u) g.opens) g.fits g.begun g.levels)
-  bad_is words rest h (Fault Unsupported end) e =
-      let g = fault_is_unsupported rule model after checked k f ok words end e in
-      absurd (no_stop_before Unsupported words rest h g.tree g.before g.word g.behind g.more (g.front ∙ ap (λ (u : List Word). g.before ++ u) g.next) g.fits g.reads g.stops)
+      absurd (no_stop_before words rest h g.tree g.before g.opener g.behind g.more (g.front ∙ ap (λ (u : List Word). g.before ++ u) g.opens) g.fits g.begun g.levels)
 
-  pub bad_is_fault : (words rest : List Word) → IsBad rule k f words rest → read rule k f words ≡ Fault Bad rest
+  pub bad_is_fault : (words rest : List Word) → IsBad rule k f words rest → read rule k f words ≡ Failed Bad rest
   bad_is_fault words rest h = bad_is words rest h (read rule k f words) refl

@@ -1,5 +1,7 @@
--- Grammars whose next word decides: forms, the trees of a form, and what stands at the front of some words.
-use Rattle.std.specs.Prelude.{◌≡◌, ℕ, Bool, true, false, ◌&&◌, ◌||◌, List, [], ◌∷◌, ◌++◌, Option, Some, None}
+-- Grammars whose next word decides: forms, the trees of a form, and what stands at the front of
+-- some words.
+use Rattle.std.specs.Prelude.{◌≡◌, ℕ, Bool, true, false, ◌&&◌, ◌||◌, List, [], ◌∷◌, ◌++◌, Option}
+use Rattle.std.specs.Prelude.{Some, None}
 use Rattle.std.proofs.Common.{zero, suc}
 use Rattle.grammar.specs.Kind.{Kind, kind_of}
 use Rattle.conf_lex.specs.declared.word.Word.{Word}
@@ -8,142 +10,123 @@ use Rattle.conf_lex.specs.declared.word.Word.{Word}
 pub data Why : Type 0 where
   Bad : Why
   TooDeep : Why
-  Unsupported : Why
 
--- A form of words: one word of some kinds, nothing, one form after another, a choice, a form and any number of
--- another, a word that opens a level and what the rule of that number gives inside, or a form in whose place words of
--- some kinds are known and not supported.
-pub data Form : Type 0 where
-  One : (Kind → Bool) → Form
-  Empty : Form
-  Seq : Form → Form → Form
-  Either : Form → Form → Form
-  Chain : Form → Form → Form
-  Nest : (Kind → Bool) → ℕ → Form
-  Unless : (Kind → Bool) → Form → Form
+-- A form of words, in a grammar whose levels are L: one word of some kinds, nothing, one form after
+-- another, a choice, a form and any number of another, or a word that opens a level and what the
+-- rule of this level gives inside.
+pub data Form (L : Type 0) : Type 0 where
+  Terminal : (Kind → Bool) → Form L
+  Epsilon : Form L
+  Seq : Form L → Form L → Form L
+  Alt : Form L → Form L → Form L
+  Repeat : Form L → Form L → Form L
+  Nested : (Kind → Bool) → L → Form L
 
-pub data Tree : Type 0 where
-  Leaf : Word → Tree
-  Blank : Tree
-  Both : Tree → Tree → Tree
-  First : Tree → Tree
-  Second : Tree → Tree
-  Start : Tree → Tree
-  More : Tree → Tree → Tree
-  Inside : Word → Tree → Tree
-  Shut : Word → Tree
+pub data ParseTree : Type 0 where
+  Leaf : Word → ParseTree
+  NoWords : ParseTree
+  Pair : ParseTree → ParseTree → ParseTree
+  Left : ParseTree → ParseTree
+  Right : ParseTree → ParseTree
+  Single : ParseTree → ParseTree
+  Snoc : ParseTree → ParseTree → ParseTree
+  Deeper : Word → ParseTree → ParseTree
 
 -- the words of a tree
-abbrev pub yield : Tree → List Word
+abbrev pub yield : ParseTree → List Word
 yield (Leaf w) = w ∷ []
-yield Blank = []
-yield (Both a b) = yield a ++ yield b
-yield (First a) = yield a
-yield (Second b) = yield b
-yield (Start a) = yield a
-yield (More t b) = yield t ++ yield b
-yield (Inside w t) = w ∷ yield t
-yield (Shut w) = w ∷ []
+yield NoWords = []
+yield (Pair a b) = yield a ++ yield b
+yield (Left a) = yield a
+yield (Right b) = yield b
+yield (Single a) = yield a
+yield (Snoc t b) = yield t ++ yield b
+yield (Deeper w t) = w ∷ yield t
 
 -- whether the next word is of these kinds
 abbrev pub begins : (Kind → Bool) → List Word → Bool
 begins p [] = false
 begins p (w ∷ ws) = p (kind_of w)
 
-abbrev pub nullable : Form → Bool
-nullable (One p) = false
-nullable Empty = true
+abbrev pub nullable : {L : Type 0} → Form L → Bool
+nullable (Terminal p) = false
+nullable Epsilon = true
 nullable (Seq a b) = nullable a && nullable b
-nullable (Either a b) = nullable a || nullable b
-nullable (Chain a b) = nullable a
-nullable (Nest p n) = false
-nullable (Unless p f) = nullable f
+nullable (Alt a b) = nullable a || nullable b
+nullable (Repeat a b) = nullable a
+nullable (Nested p n) = false
 
 -- the kinds that a form can begin with
-abbrev pub starts : Form → Kind → Bool
-starts (One p) k = p k
-starts Empty k = false
-starts (Seq a b) k = starts a k || (nullable a && starts b k)
-starts (Either a b) k = starts a k || starts b k
-starts (Chain a b) k = starts a k || (nullable a && starts b k)
-starts (Nest p n) k = p k
-starts (Unless p f) k = p k || starts f k
+abbrev pub first_set : {L : Type 0} → Form L → Kind → Bool
+first_set (Terminal p) k = p k
+first_set Epsilon k = false
+first_set (Seq a b) k = first_set a k || (nullable a && first_set b k)
+first_set (Alt a b) k = first_set a k || first_set b k
+first_set (Repeat a b) k = first_set a k || (nullable a && first_set b k)
+first_set (Nested p n) k = p k
 
 abbrev pub is_blank : List Word → Bool
 is_blank [] = true
 is_blank (w ∷ ws) = false
 
--- The first word that is refused, when no more than k levels may be open, why, and the words from there on.
-abbrev pub late : Option (Why × List Word) → List Word → Option (Why × List Word) → Option (Why × List Word)
-late None more other = other
-late (Some r) more other = Some (r.0, r.1 ++ more)
+-- one list, with more behind it, or else another
+abbrev pub or_later : Option (List Word) → List Word → Option (List Word) → Option (List Word)
+or_later None more later = later
+or_later (Some ws) more later = Some (ws ++ more)
 
-abbrev pub refused : Tree → ℕ → Option (Why × List Word)
-refused (Leaf w) k = None
-refused Blank k = None
-refused (Both a b) k = late (refused a k) (yield b) (refused b k)
-refused (First a) k = refused a k
-refused (Second b) k = refused b k
-refused (Start a) k = refused a k
-refused (More t b) k = late (refused t k) (yield b) (refused b k)
-refused (Inside w t) zero = Some (TooDeep, w ∷ yield t)
-refused (Inside w t) (suc k) = refused t k
-refused (Shut w) k = Some (Unsupported, w ∷ [])
+-- the words of a tree from the first on that opens a level, when no more than k may be open
+abbrev pub too_deep : ParseTree → ℕ → Option (List Word)
+too_deep (Leaf w) k = None
+too_deep NoWords k = None
+too_deep (Pair a b) k = or_later (too_deep a k) (yield b) (too_deep b k)
+too_deep (Left a) k = too_deep a k
+too_deep (Right b) k = too_deep b k
+too_deep (Single a) k = too_deep a k
+too_deep (Snoc t b) k = or_later (too_deep t k) (yield b) (too_deep b k)
+too_deep (Deeper w t) zero = Some (w ∷ yield t)
+too_deep (Deeper w t) (suc k) = too_deep t k
 
--- whether no word of a tree is unsupported
-abbrev pub plain : Tree → Bool
-plain (Leaf w) = true
-plain Blank = true
-plain (Both a b) = plain a && plain b
-plain (First a) = plain a
-plain (Second b) = plain b
-plain (Start a) = plain a
-plain (More t b) = plain t && plain b
-plain (Inside w t) = plain t
-plain (Shut w) = false
-
-module _ (rule : ℕ → Form) where
+module _ {L : Type 0} (rule : L → Form L) where
   -- whether a word of kind k could go on with the tree
-  abbrev pub goes_on : Tree → Form → Kind → Bool
-  goes_on (Both a b) (Seq f g) k = goes_on b g k || (is_blank (yield b) && goes_on a f k)
-  goes_on (First a) (Either f g) k = goes_on a f k
-  goes_on (Second b) (Either f g) k = goes_on b g k || (is_blank (yield b) && starts f k)
-  goes_on (Start a) (Chain f g) k = goes_on a f k || starts g k
-  goes_on (More t b) (Chain f g) k = goes_on b g k || starts g k
-  goes_on (Inside w t) (Nest p n) k = goes_on t (rule n) k
-  goes_on (Second b) (Unless p f) k = goes_on b f k || (is_blank (yield b) && p k)
-  goes_on _ _ k = false
+  abbrev pub can_continue : ParseTree → Form L → Kind → Bool
+  can_continue (Pair a b) (Seq f g) k =
+      can_continue b g k || (is_blank (yield b) && can_continue a f k)
+  can_continue (Left a) (Alt f g) k = can_continue a f k
+  can_continue (Right b) (Alt f g) k = can_continue b g k || (is_blank (yield b) && first_set f k)
+  can_continue (Single a) (Repeat f g) k = can_continue a f k || first_set g k
+  can_continue (Snoc t b) (Repeat f g) k = can_continue b g k || first_set g k
+  can_continue (Deeper w t) (Nested p n) k = can_continue t (rule n) k
+  can_continue _ _ k = false
 
   -- whether it could go on with the last part of a chain
-  abbrev pub goes_in : Tree → Form → Kind → Bool
-  goes_in (Start a) (Chain f g) k = goes_on a f k
-  goes_in (More t b) (Chain f g) k = goes_on b g k
-  goes_in _ _ k = false
+  abbrev pub can_continue_in : ParseTree → Form L → Kind → Bool
+  can_continue_in (Single a) (Repeat f g) k = can_continue a f k
+  can_continue_in (Snoc t b) (Repeat f g) k = can_continue b g k
+  can_continue_in _ _ k = false
 
   -- The tree is one of the form, and no part of it stops where the next word could go on with it.
-  abbrev pub Fits : Tree → Form → Type 0
-  Fits (Leaf w) (One p) = p (kind_of w) ≡ true
-  Fits Blank Empty = Unit {0}
-  Fits (Both a b) (Seq f g) = Fits a f × Fits b g × (begins (goes_on a f) (yield b) ≡ false)
-  Fits (First a) (Either f g) = Fits a f
-  Fits (Second b) (Either f g) = Fits b g
-  Fits (Start a) (Chain f g) = Fits a f
-  Fits (More t b) (Chain f g) = Fits t (Chain f g) × Fits b g × (begins (goes_in t (Chain f g)) (yield b) ≡ false)
-  Fits (Inside w t) (Nest p n) = (p (kind_of w) ≡ true) × Fits t (rule n)
-  Fits (Second b) (Unless p f) = Fits b f
-  Fits (Shut w) (Unless p f) = p (kind_of w) ≡ true
-  Fits _ _ = ⊥
+  abbrev pub DerivesLongest : ParseTree → Form L → Type 0
+  DerivesLongest (Leaf w) (Terminal p) = p (kind_of w) ≡ true
+  DerivesLongest NoWords Epsilon = Unit {0}
+  DerivesLongest (Pair a b) (Seq f g) =
+      DerivesLongest a f × DerivesLongest b g × (begins (can_continue a f) (yield b) ≡ false)
+  DerivesLongest (Left a) (Alt f g) = DerivesLongest a f
+  DerivesLongest (Right b) (Alt f g) = DerivesLongest b g
+  DerivesLongest (Single a) (Repeat f g) = DerivesLongest a f
+  DerivesLongest (Snoc t b) (Repeat f g) =
+      DerivesLongest t (Repeat f g) × DerivesLongest b g
+      × (begins (can_continue_in t (Repeat f g)) (yield b) ≡ false)
+  DerivesLongest (Deeper w t) (Nested p n) = (p (kind_of w) ≡ true) × DerivesLongest t (rule n)
+  DerivesLongest _ _ = ⊥
 
   -- The tree is one of the form, by the grammar alone.
-  abbrev pub Spells : Tree → Form → Type 0
-  Spells (Leaf w) (One p) = p (kind_of w) ≡ true
-  Spells Blank Empty = Unit {0}
-  Spells (Both a b) (Seq f g) = Spells a f × Spells b g
-  Spells (First a) (Either f g) = Spells a f
-  Spells (Second b) (Either f g) = Spells b g
-  Spells (Start a) (Chain f g) = Spells a f
-  Spells (More t b) (Chain f g) = Spells t (Chain f g) × Spells b g
-  Spells (Inside w t) (Nest p n) = (p (kind_of w) ≡ true) × Spells t (rule n)
-  Spells (Second b) (Unless p f) = Spells b f
-  Spells (Shut w) (Unless p f) = p (kind_of w) ≡ true
-  Spells _ _ = ⊥
+  abbrev pub Derives : ParseTree → Form L → Type 0
+  Derives (Leaf w) (Terminal p) = p (kind_of w) ≡ true
+  Derives NoWords Epsilon = Unit {0}
+  Derives (Pair a b) (Seq f g) = Derives a f × Derives b g
+  Derives (Left a) (Alt f g) = Derives a f
+  Derives (Right b) (Alt f g) = Derives b g
+  Derives (Single a) (Repeat f g) = Derives a f
+  Derives (Snoc t b) (Repeat f g) = Derives t (Repeat f g) × Derives b g
+  Derives (Deeper w t) (Nested p n) = (p (kind_of w) ≡ true) × Derives t (rule n)
+  Derives _ _ = ⊥

@@ -12,8 +12,6 @@ pub enum Refusal<'a> {
     Bad(&'a [Word]),
     /// This word opens more levels than may be open.
     TooDeep(&'a [Word]),
-    /// The word is known here and not supported.
-    Unsupported(&'a [Word]),
 }
 
 impl From<AllocError> for Refusal<'_> {

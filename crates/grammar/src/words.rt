@@ -1,11 +1,13 @@
 // The next word.
 
-ghost use Rattle.std.specs.Prelude.{◌≡◌, [], ◌∷◌, ◌+◌, ◌≤◌, true, false, length, MatchOption, MatchResult};
+ghost use Rattle.std.specs.Prelude.{◌≡◌, [], ◌∷◌, ◌+◌, ◌≤◌, true, false, length, MatchOption};
+ghost use Rattle.std.specs.Prelude.{MatchResult};
 ghost use Rattle.conf_lex.specs.declared.word.Word.{Word};
-ghost use Rattle.grammar.specs.Kind.{symbol, number, name, prefix, keeps_place, kind_of};
+ghost use Rattle.conf_lex.specs.Symbols.{is_placed};
+ghost use Rattle.grammar.specs.Kind.{symbol, number, name, prefix, kind_of};
 ghost use Rattle.grammar.specs.Grammar.{TooDeep, begins};
-ghost use Rattle.grammar.specs.Reading.{word, Fault};
-ghost use Rattle.grammar.specs.Gives.{Fails, Gives};
+ghost use Rattle.grammar.specs.Reading.{word, Failed};
+ghost use Rattle.grammar.specs.Agrees.{AgreesOnError, Agrees, NeverMemory};
 ghost use Rattle.grammar.specs.Shapes.{number_leaf, name_leaf};
 
 use crate::named::Name;
@@ -25,8 +27,9 @@ pub fn next(words: &[Word]) -> Option<(Word, &[Word])>
 
 /// The words after this symbol, where it comes next.
 pub fn after(words: &[Word], wanted: Symbol) -> Option<&[Word]>
-    requires { keeps_place wanted ≡ false }
-    ensures { MatchOption result (begins (symbol wanted) words.now ≡ false) (λ rest. words.now ≡ Word.Symbol wanted ∷ rest.now) }
+    requires { is_placed wanted ≡ false }
+    ensures { MatchOption result (begins (symbol wanted) words.now ≡ false)
+        (λ rest. words.now ≡ Word.Symbol wanted ∷ rest.now) }
 {
     match next(words) {
         Some((word, rest)) => is_symbol(&word, wanted).then_some(rest),
@@ -36,8 +39,9 @@ pub fn after(words: &[Word], wanted: Symbol) -> Option<&[Word]>
 
 /// The place of this symbol, where it comes next, and the words after it.
 pub fn after_placed(words: &[Word], wanted: Symbol) -> Option<(usize, &[Word])>
-    requires { keeps_place wanted ≡ true }
-    ensures { MatchOption result (begins (symbol wanted) words.now ≡ false) (λ found. words.now ≡ Word.Placed found.0 wanted ∷ found.1.now) }
+    requires { is_placed wanted ≡ true }
+    ensures { MatchOption result (begins (symbol wanted) words.now ≡ false)
+        (λ found. words.now ≡ Word.Placed found.0 wanted ∷ found.1.now) }
 {
     match next(words) {
         Some((word, rest)) => place_of(word, wanted).map(|at| (at, rest)),
@@ -47,23 +51,29 @@ pub fn after_placed(words: &[Word], wanted: Symbol) -> Option<(usize, &[Word])>
 
 /// The words after this symbol, which has to come next.
 pub fn expect(words: &[Word], wanted: Symbol) -> Result<&[Word], Refusal>
-    requires { keeps_place wanted ≡ false }
-    ensures { MatchResult result (λ rest. words.now ≡ Word.Symbol wanted ∷ rest.now) (λ e. Fails e (word (symbol wanted) words.now)) }
+    requires { is_placed wanted ≡ false }
+    ensures gives { MatchResult result (λ rest. words.now ≡ Word.Symbol wanted ∷ rest.now)
+        (λ e. AgreesOnError e (word (symbol wanted) words.now)) }
+    ensures takes_none { NeverMemory result }
 {
     after(words, wanted).ok_or(Refusal::Bad(words))
 }
 
 /// The place of this symbol, which has to come next, and the words after it.
 pub fn expect_placed(words: &[Word], wanted: Symbol) -> Result<(usize, &[Word]), Refusal>
-    requires { keeps_place wanted ≡ true }
-    ensures { MatchResult result (λ found. words.now ≡ Word.Placed found.0 wanted ∷ found.1.now) (λ e. Fails e (word (symbol wanted) words.now)) }
+    requires { is_placed wanted ≡ true }
+    ensures gives { MatchResult result (λ found. words.now
+        ≡ Word.Placed found.0 wanted ∷ found.1.now)
+        (λ e. AgreesOnError e (word (symbol wanted) words.now)) }
+    ensures takes_none { NeverMemory result }
 {
     after_placed(words, wanted).ok_or(Refusal::Bad(words))
 }
 
 /// The place and the value of the number that has to come next, and the words after it.
 pub fn expect_number(words: &[Word]) -> Result<((usize, u32), &[Word]), Refusal>
-    ensures { Gives (λ found. number_leaf found.0 found.1) result (word number words.now) }
+    ensures gives { Agrees (λ found. number_leaf found.0 found.1) result (word number words.now) }
+    ensures takes_none { NeverMemory result }
 {
     match words {
         [Word::Number { at, value }, rest @ ..] => Ok(((*at, *value), rest)),
@@ -73,7 +83,8 @@ pub fn expect_number(words: &[Word]) -> Result<((usize, u32), &[Word]), Refusal>
 
 /// The name, where one comes next, and the words after it.
 pub fn next_name(words: &[Word]) -> Option<(Name, &[Word])>
-    ensures { MatchOption result (begins name words.now ≡ false) (λ found. words.now ≡ Word.Name found.0.at found.0.start found.0.len ∷ found.1.now) }
+    ensures { MatchOption result (begins name words.now ≡ false)
+        (λ found. words.now ≡ Word.Name found.0.at found.0.start found.0.len ∷ found.1.now) }
 {
     match words {
         [Word::Name { at, start, len }, rest @ ..] => {
@@ -90,14 +101,16 @@ pub fn next_name(words: &[Word]) -> Option<(Name, &[Word])>
 
 /// The name that has to come next, and the words after it.
 pub fn expect_name(words: &[Word]) -> Result<(Name, &[Word]), Refusal>
-    ensures { Gives name_leaf result (word name words.now) }
+    ensures gives { Agrees name_leaf result (word name words.now) }
+    ensures takes_none { NeverMemory result }
 {
     next_name(words).ok_or(Refusal::Bad(words))
 }
 
 /// The place of the prefix, where one comes next, its net, and the words after it.
 pub fn next_prefix(words: &[Word]) -> Option<((usize, Prefix), &[Word])>
-    ensures { MatchOption result (begins prefix words.now ≡ false) (λ found. words.now ≡ Word.Prefix found.0.0 found.0.1 ∷ found.1.now) }
+    ensures { MatchOption result (begins prefix words.now ≡ false)
+        (λ found. words.now ≡ Word.Prefix found.0.0 found.0.1 ∷ found.1.now) }
 {
     match words {
         [Word::Prefix { at, net }, rest @ ..] => Some(((*at, *net), rest)),
@@ -114,15 +127,17 @@ pub fn place_in(words: &[Word], rest: &[Word]) -> usize
 }
 
 /// How many levels are left below the one that the next word opens.
-pub fn level_below(words: &[Word], left: u32) -> Result<u32, Refusal>
-    ensures { MatchResult result (λ below. below + 1 ≡ left) (λ e. (left ≡ 0) × Fails e (Fault TooDeep words.now)) }
+pub fn level_below(words: &[Word], depth_left: u32) -> Result<u32, Refusal>
+    ensures gives { MatchResult result (λ below. below + 1 ≡ depth_left)
+        (λ e. (depth_left ≡ 0) × AgreesOnError e (Failed TooDeep words.now)) }
+    ensures takes_none { NeverMemory result }
 {
-    left.checked_sub(1).ok_or(Refusal::TooDeep(words))
+    depth_left.checked_sub(1).ok_or(Refusal::TooDeep(words))
 }
 
 /// Whether a word is this symbol.
 pub fn is_symbol(word: &Word, wanted: Symbol) -> bool
-    requires { keeps_place wanted ≡ false }
+    requires { is_placed wanted ≡ false }
     ensures { result ≡ symbol wanted (kind_of word.now) }
 {
     match word {
@@ -132,8 +147,9 @@ pub fn is_symbol(word: &Word, wanted: Symbol) -> bool
 }
 
 fn place_of(word: Word, wanted: Symbol) -> Option<usize>
-    requires { keeps_place wanted ≡ true }
-    ensures { MatchOption result (symbol wanted (kind_of word) ≡ false) (λ at. word ≡ Word.Placed at wanted) }
+    requires { is_placed wanted ≡ true }
+    ensures { MatchOption result (symbol wanted (kind_of word) ≡ false)
+        (λ at. word ≡ Word.Placed at wanted) }
 {
     match word {
         Word::Placed { at, symbol } => (symbol == wanted).then_some(at),

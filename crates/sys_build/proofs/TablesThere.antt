@@ -7,7 +7,7 @@ use Rattle.bits_ip.specs.declared.address.Family.TheVariants as families
 use Rattle.grammar.specs.declared.named.Name.{Name}
 use Rattle.grammar.specs.Names.{name_bytes}
 use Rattle.conf_tree.specs.declared.kind.ConfKind.{ConfKind}
-use Rattle.conf_tree.specs.declared.tree.Limit.TheVariants as limits
+use Rattle.conf_tree.specs.declared.ast.Limit.TheVariants as limits
 use Rattle.conf_ast.specs.Configurations as conf
 use Rattle.conf_ast.specs.Configurations.{Passing, ChannelSetting, ChannelTable, ChannelImport, ChannelExport, ChannelPreference, ChannelLimit, ChannelNextHop, FamilyChannel, StaticSetting, StaticChannel, StaticRoute, BgpSetting, BgpChannel, BgpLocal, BgpNeighbor, BgpMedMetric, BgpInterpretCommunities, BgpDefaultMed, BgpDefaultLocalPref, BgpTransport, PipeSetting, Instance}
 use Rattle.filt_meaning.specs.Names.{named_in, same_name}

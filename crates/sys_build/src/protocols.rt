@@ -11,7 +11,7 @@ use bits_ip::{Addr, OutOfMemory};
 use conf_check::{
     BgpDef, ImportLimit, PolicyDef, ProtocolBody, ProtocolDef, StaticDef, StaticRoute, StaticTarget,
 };
-use conf_tree::Action as Written;
+use conf_tree::ast::Action as Written;
 use export_core::ExportSpec;
 use import_core::{Action, Fixed, ImportSpec, Limit};
 use protos::{bgp_spec, static_spec};

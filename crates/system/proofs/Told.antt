@@ -7,7 +7,7 @@ use Rattle.conf_tree.specs.View.{statements_tree}
 use Rattle.conf_tree.specs.declared.kind.ConfFault.{ConfFault}
 use Rattle.conf_tree.specs.declared.kind.ConfFault.TheVariants as conf_faults
 use Rattle.conf_tree.specs.declared.kind.ConfKind.{ConfKind}
-use Rattle.conf_tree.specs.declared.tree.Statement.{Statement}
+use Rattle.conf_tree.specs.declared.ast.Statement.{Statement}
 use Rattle.conf_ast.specs.Configurations.{configuration_of}
 use Rattle.conf_check.specs.Behind.{at_start}
 use Rattle.conf_check.specs.Refused as check

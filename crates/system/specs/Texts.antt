@@ -5,7 +5,7 @@ use Rattle.conf_tree.specs.Position.{IsPlace}
 use Rattle.conf_tree.specs.Read.{IsConfigText, IsRefusedText}
 use Rattle.conf_tree.specs.View.{statements_tree}
 use Rattle.conf_tree.specs.declared.kind.ConfKind.{ConfKind}
-use Rattle.conf_tree.specs.declared.tree.Statement.{Statement}
+use Rattle.conf_tree.specs.declared.ast.Statement.{Statement}
 use Rattle.conf_ast.specs.Configurations as conf
 use Rattle.conf_ast.specs.Configurations.{configuration_of}
 use Rattle.conf_rules.specs.declared.refusal.Refusal.{Refusal}

@@ -1,9 +1,9 @@
 use Rattle.std.proofs.Common.{ℕ, ◌+◌, ◌<◌, ◌≤◌, ◌++◌, List, [], ◌∷◌, length, map, take, drop, get_or, slice_get, Option, Result, sym, ap, ◌∙◌, arith}
 use Rattle.std.proofs.lemmas.Result.{err_from_is_err_and}
 use Rattle.std.proofs.lemmas.List.{length-map, take-map}
-use Rattle.filt_syntax.specs.declared.tree.Factor.{Factor}
-use Rattle.filt_syntax.specs.declared.tree.Joint.{Joint}
-use Rattle.filt_syntax.specs.declared.tree.Term.{Term}
+use Rattle.filt_syntax.specs.declared.ast.MulOp.{MulOp}
+use Rattle.filt_syntax.specs.declared.ast.LogicalOp.{LogicalOp}
+use Rattle.filt_syntax.specs.declared.ast.AddOp.{AddOp}
 use Rattle.filt_values.specs.declared.value.Failure.{Failure}
 use Rattle.filt_values.specs.declared.value.Value.{Value}
 use Rattle.filt_values.specs.Seen.{val_of}
@@ -166,7 +166,7 @@ value::value-returns-in-Access t c =
 
 pub value::value-chain-requires-in-Product : goal.value::value-chain-requires-in-Product
 value::value-chain-requires-in-Product t c =
-    (omega (arith, ap k.cost c.in-Product.is, k.cost-Product c.in-Product.a c.in-Product.more, ap k.cost c.deref-in-Product.ensures, ap (λ (xs : List (Factor × TExpr)). k.parts_cost (map (λ x. Two (of_two.Factor x.0) x.1) xs)) c.deref-in-Product-2.ensures.value), tt)
+    (omega (arith, ap k.cost c.in-Product.is, k.cost-Product c.in-Product.a c.in-Product.more, ap k.cost c.deref-in-Product.ensures, ap (λ (xs : List (MulOp × TExpr)). k.parts_cost (map (λ x. Two (of_two.Factor x.0) x.1) xs)) c.deref-in-Product-2.ensures.value), tt)
 
 pub value::value-returns-in-Product : goal.value::value-returns-in-Product
 value::value-returns-in-Product t c =
@@ -174,7 +174,7 @@ value::value-returns-in-Product t c =
 
 pub value::value-chain-requires-in-Sum : goal.value::value-chain-requires-in-Sum
 value::value-chain-requires-in-Sum t c =
-    (omega (arith, ap k.cost c.in-Sum.is, k.cost-Sum c.in-Sum.a c.in-Sum.more, ap k.cost c.deref-in-Sum.ensures, ap (λ (xs : List (Term × TExpr)). k.parts_cost (map (λ x. Two (of_two.Term x.0) x.1) xs)) c.deref-in-Sum-2.ensures.value), tt)
+    (omega (arith, ap k.cost c.in-Sum.is, k.cost-Sum c.in-Sum.a c.in-Sum.more, ap k.cost c.deref-in-Sum.ensures, ap (λ (xs : List (AddOp × TExpr)). k.parts_cost (map (λ x. Two (of_two.Term x.0) x.1) xs)) c.deref-in-Sum-2.ensures.value), tt)
 
 pub value::value-returns-in-Sum : goal.value::value-returns-in-Sum
 value::value-returns-in-Sum t c =
@@ -182,7 +182,7 @@ value::value-returns-in-Sum t c =
 
 pub value::value-chain-requires-in-Joint : goal.value::value-chain-requires-in-Joint
 value::value-chain-requires-in-Joint t c =
-    (omega (arith, ap k.cost c.in-Joint.is, k.cost-Joint c.in-Joint.a c.in-Joint.more, ap k.cost c.deref-in-Joint.ensures, ap (λ (xs : List (Joint × TExpr)). k.parts_cost (map (λ x. Joined x.0 x.1) xs)) c.deref-in-Joint-2.ensures.value), tt)
+    (omega (arith, ap k.cost c.in-Joint.is, k.cost-Joint c.in-Joint.a c.in-Joint.more, ap k.cost c.deref-in-Joint.ensures, ap (λ (xs : List (LogicalOp × TExpr)). k.parts_cost (map (λ x. Joined x.0 x.1) xs)) c.deref-in-Joint-2.ensures.value), tt)
 
 pub value::value-returns-in-Joint : goal.value::value-returns-in-Joint
 value::value-returns-in-Joint t c =

@@ -5,12 +5,12 @@ use Rattle.conf_tree.proofs.bgp.default_value.Goals as goal
 
 pub returns-in-Some : goal.returns-in-Some
 returns-in-Some c =
-    gives_along bgp_option_tree _ _ _ (default_med c.args.left c.in-Some.at c.args.words.now c.args.behind.now c.in-Some.rest.now c.requires c.in-Some.ensures) c.default_med.ensures
+    gives_along bgp_option_tree _ _ _ (default_med c.args.depth_left c.in-Some.at c.args.words.now c.args.behind.now c.in-Some.rest.now c.requires c.in-Some.ensures) c.default_med.ensures
 
 pub returns-in-Some-after_placed : goal.returns-in-Some-after_placed
 returns-in-Some-after_placed c =
-    gives_along bgp_option_tree _ _ _ (default_local_pref c.args.left c.in-Some-after_placed.at c.args.words.now c.args.behind.now c.in-Some-after_placed.rest.now c.requires c.in-Some-after_placed.ensures) c.default_local_pref.ensures
+    gives_along bgp_option_tree _ _ _ (default_local_pref c.args.depth_left c.in-Some-after_placed.at c.args.words.now c.args.behind.now c.in-Some-after_placed.rest.now c.requires c.in-Some-after_placed.ensures) c.default_local_pref.ensures
 
 pub returns-in-None : goal.returns-in-None
 returns-in-None c =
-    default_bad c.args.left c.args.words.now c.args.behind.now c.requires c.in_default.ensures c.in-None.ensures
+    default_bad c.args.depth_left c.args.words.now c.args.behind.now c.requires c.in_default.ensures c.in-None.ensures

@@ -5,15 +5,15 @@ use Rattle.conf_tree.proofs.bgp.switch_option.Goals as goal
 
 pub returns-in-Some : goal.returns-in-Some
 returns-in-Some c =
-    gives_along bgp_option_tree _ _ _ (med_is c.args.left c.args.words.now c.in-Some.rest.now c.in-Some.ensures) c.med_metric.ensures
+    gives_along bgp_option_tree _ _ _ (med_is c.args.depth_left c.args.words.now c.in-Some.rest.now c.in-Some.ensures) c.med_metric.ensures
 
 pub returns-in-Some-after : goal.returns-in-Some-after
 returns-in-Some-after c =
-    gives_along bgp_option_tree _ _ _ (interpret_is c.args.left c.args.words.now c.in-Some-after.rest.now c.in-Some-after.ensures) c.interpret.ensures
+    gives_along bgp_option_tree _ _ _ (interpret_is c.args.depth_left c.args.words.now c.in-Some-after.rest.now c.in-Some-after.ensures) c.interpret.ensures
 
 pub returns-in-None : goal.returns-in-None
 returns-in-None c =
-    gives_along bgp_option_tree _ _ _ (bgp_transport c.args.left c.args.words.now (record {
+    gives_along bgp_option_tree _ _ _ (bgp_transport c.args.depth_left c.args.words.now (record {
       family = c.requires.family;
       local = c.requires.local;
       neighbor = c.requires.neighbor;

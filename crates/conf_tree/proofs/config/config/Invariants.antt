@@ -7,7 +7,7 @@ use Rattle.conf_tree.proofs.ConfigSteps.{ended_at}
 use Rattle.conf_tree.proofs.config.config.Given as goal
 
 abbrev pub invariant-loop-alloc : goal.invariant-loop-alloc
-invariant-loop-alloc l = whole_at l.left l.words ≡ ended_at l.left (row_tree (map statement_tree l.statements.items)) l.rest
+invariant-loop-alloc l = whole_at l.depth_left l.words ≡ ended_at l.depth_left (row_tree (map statement_tree l.statements.items)) l.rest
 
 abbrev pub decreases-loop-alloc : goal.decreases-loop-alloc
 decreases-loop-alloc l = length l.rest

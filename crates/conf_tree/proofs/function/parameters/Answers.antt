@@ -17,8 +17,8 @@ returns-in_err-parameters-in-None c =
 pub returns-in_err-rest-in-None : goal.returns-in_err-rest-in-None
 returns-in_err-rest-in-None c =
     let p = err_from_is_err_and c.from_residual-in_err-rest-in-None.result c.from_residual-in_err-rest-in-None.ensures.1 in
-    rw (p.1, p.2, parameters_some c.args.words.now _ c.in_ok-parameters-in-None.rest.now c.in_ok-parameters-in-None.ensures) (fails_then _ _ _ c.in_err-rest-in-None.ensures)
+    rw (p.1, p.2, parameters_some c.args.words.now _ c.in_ok-parameters-in-None.rest.now c.in_ok-parameters-in-None.ensures) (fails_then _ _ _ c.in_err-rest-in-None.ensures.gives)
 
 pub returns-in_ok-rest-in-None : goal.returns-in_ok-rest-in-None
 returns-in_ok-rest-in-None c =
-    rw (parameters_some c.args.words.now _ c.in_ok-parameters-in-None.rest.now c.in_ok-parameters-in-None.ensures, c.in_ok-rest-in-None.ensures) refl
+    rw (parameters_some c.args.words.now _ c.in_ok-parameters-in-None.rest.now c.in_ok-parameters-in-None.ensures, c.in_ok-rest-in-None.ensures.gives) refl

@@ -2,7 +2,7 @@ use Rattle.std.proofs.Common.{◌≡◌, List, [], ◌∷◌, ◌++◌, length, 
 use Rattle.std.proofs.lemmas.Result.{err_from_is_err_and}
 use Rattle.std.proofs.lemmas.List.{length-append}
 use Rattle.conf_lex.specs.declared.word.Word.{Word}
-use Rattle.grammar.specs.Grammar.{Tree}
+use Rattle.grammar.specs.Grammar.{ParseTree}
 use Rattle.conf_tree.specs.View.{parameter_tree}
 use Rattle.conf_tree.proofs.FunctionSteps.{some_first, some_first_fails, parameter_shorter, parameter_row_at, row_more, row_fails, row_end, row_of, row_one, row_tree_is, one_more_parameter}
 use Rattle.conf_tree.proofs.function.some_parameters.Goals as goal
@@ -18,7 +18,7 @@ loop-separator-init c =
     let pushed : c.push.new.self.items ≡ p ∷ [] = search rules in
     record {
       some = rw pushed (omega arith);
-      reading = rw pushed (some_first c.args.words.now (parameter_tree p) c.in_ok-first.rest.now c.in_ok-first.ensures.tree ∙ ap (λ (t : Tree). parameter_row_at t c.in_ok-first.rest.now) (flip (row_one p c.in_ok-first.ensures.separator)));
+      reading = rw pushed (some_first c.args.words.now (parameter_tree p) c.in_ok-first.rest.now c.in_ok-first.ensures.tree ∙ ap (λ (t : ParseTree). parameter_row_at t c.in_ok-first.rest.now) (flip (row_one p c.in_ok-first.ensures.separator)));
     }
 
 pub returns-in_err-more : goal.returns-in_err-more
@@ -40,7 +40,7 @@ loop-separator-preserved c =
     let turn = row_more (row_of ps) c.loop-separator.rest.now c.in-Some.next.now s p end c.in-Some.ensures c.in_ok-more.ensures.tree in
     record {
       some = rw pushed (omega (arith, length-append ps (p ∷ [])));
-      reading = rw pushed (c.loop-separator.invariant.reading ∙ turn ∙ ap (λ (t : Tree). parameter_row_at t end) (flip (one_more_parameter ps p s c.loop-separator.invariant.some c.in_ok-more.ensures.separator)));
+      reading = rw pushed (c.loop-separator.invariant.reading ∙ turn ∙ ap (λ (t : ParseTree). parameter_row_at t end) (flip (one_more_parameter ps p s c.loop-separator.invariant.some c.in_ok-more.ensures.separator)));
     }
 
 pub returns : goal.returns

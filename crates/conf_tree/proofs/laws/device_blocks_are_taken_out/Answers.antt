@@ -1,4 +1,4 @@
-use Rattle.conf_tree.proofs.SaidLaws.{device_taken_out, named_device_taken_out}
+use Rattle.conf_tree.proofs.SignificantLaws.{device_taken_out, named_device_taken_out}
 use Rattle.conf_tree.proofs.laws.device_blocks_are_taken_out.Goals as goal
 
 pub returns-clause-unnamed : goal.returns-clause-unnamed

@@ -1,4 +1,4 @@
-use Rattle.conf_tree.proofs.SaidLaws.{device_begins, named_device_begins}
+use Rattle.conf_tree.proofs.SignificantLaws.{device_begins, named_device_begins}
 use Rattle.conf_tree.proofs.laws.device_blocks_begin_at_a_brace.Goals as goal
 
 pub returns-clause-unnamed : goal.returns-clause-unnamed

@@ -1,4 +1,4 @@
-use Rattle.conf_tree.proofs.SaidLaws.{whole_log_taken_out}
+use Rattle.conf_tree.proofs.SignificantLaws.{whole_log_taken_out}
 use Rattle.conf_tree.proofs.laws.logs_are_taken_out.Goals as goal
 
 pub returns : goal.returns

@@ -1,4 +1,4 @@
-use Rattle.conf_tree.proofs.SaidLaws.{block_closes}
+use Rattle.conf_tree.proofs.SignificantLaws.{block_closes}
 use Rattle.conf_tree.proofs.laws.only_closed_blocks_end.Goals as goal
 
 pub returns : goal.returns

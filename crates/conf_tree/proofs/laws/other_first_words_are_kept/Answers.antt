@@ -1,5 +1,5 @@
 use Rattle.std.proofs.Common.{refl}
-use Rattle.conf_tree.proofs.SaidLaws.{other_first}
+use Rattle.conf_tree.proofs.SignificantLaws.{other_first}
 use Rattle.conf_tree.proofs.laws.other_first_words_are_kept.Goals as goal
 
 pub returns-clause-nothing : goal.returns-clause-nothing

@@ -1,4 +1,4 @@
-use Rattle.conf_tree.proofs.SaidLaws.{other_kind, device_without_block, named_without_block}
+use Rattle.conf_tree.proofs.SignificantLaws.{other_kind, device_without_block, named_without_block}
 use Rattle.conf_tree.proofs.laws.other_protocols_are_kept.Goals as goal
 
 pub returns-clause-kind : goal.returns-clause-kind

@@ -1,4 +1,4 @@
-use Rattle.conf_tree.proofs.SaidLaws.{protocol_alone, device_alone, named_alone}
+use Rattle.conf_tree.proofs.SignificantLaws.{protocol_alone, device_alone, named_alone}
 use Rattle.conf_tree.proofs.laws.unfinished_protocols_are_kept.Goals as goal
 
 pub returns-clause-alone : goal.returns-clause-alone

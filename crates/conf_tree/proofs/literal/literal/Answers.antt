@@ -5,16 +5,16 @@ use Rattle.conf_tree.proofs.literal.literal.Goals as goal
 
 pub returns-in-Some : goal.returns-in-Some
 returns-in-Some c =
-    more_levels c.args.left c.args.words.now _ c.in-Some.rest.now c.in-Some.ensures
+    more_levels c.args.depth_left c.args.words.now _ c.in-Some.rest.now c.in-Some.ensures
 
 pub returns-in-Some-after_placed : goal.returns-in-Some-after_placed
 returns-in-Some-after_placed c =
-    gives_along literal_tree _ _ _ (pair_is c.args.left c.in-Some-after_placed.at c.args.words.now c.in-Some-after_placed.behind.now c.in-Some-after_placed.ensures) c.pair.ensures
+    gives_along literal_tree _ _ _ (pair_is c.args.depth_left c.in-Some-after_placed.at c.args.words.now c.in-Some-after_placed.behind.now c.in-Some-after_placed.ensures) c.pair.ensures
 
 pub returns-in-Some-after_placed-3 : goal.returns-in-Some-after_placed-3
 returns-in-Some-after_placed-3 c =
-    gives_along literal_tree _ _ _ (mask_is c.args.left c.in-Some-after_placed-3.at c.args.words.now c.in-Some-after_placed-3.behind.now c.in-Some-after_placed-3.ensures) c.mask.ensures
+    gives_along literal_tree _ _ _ (mask_is c.args.depth_left c.in-Some-after_placed-3.at c.args.words.now c.in-Some-after_placed-3.behind.now c.in-Some-after_placed-3.ensures) c.mask.ensures
 
 pub returns-in-None : goal.returns-in-None
 returns-in-None c =
-    literal_bad c.args.left c.args.words.now c.in_default.ensures c.in_default-after_placed.ensures c.in_default-after_placed-2.ensures c.in-None.ensures
+    literal_bad c.args.depth_left c.args.words.now c.in_default.ensures c.in_default-after_placed.ensures c.in_default-after_placed-2.ensures c.in-None.ensures

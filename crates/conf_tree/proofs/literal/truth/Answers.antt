@@ -2,16 +2,16 @@ use Rattle.std.proofs.Common.{◌≡◌, ℕ, Bool, true, false, [], ◌∷◌, 
 use Rattle.conf_lex.specs.declared.symbol.Symbol.{Symbol}
 use Rattle.conf_lex.specs.declared.symbol.Symbol.TheVariants as sym
 use Rattle.conf_lex.specs.declared.word.Word.TheVariants as words
-use Rattle.grammar.specs.Kind.{keeps_place}
+use Rattle.conf_lex.specs.Symbols.{is_placed}
 use Rattle.grammar.specs.Grammar.{begins}
 use Rattle.grammar.proofs.Symbols.{other_symbol}
 use Rattle.conf_tree.specs.Syntax.{is_value}
 use Rattle.conf_tree.proofs.literal.truth.Goals as goal
 
 no_truth : (at : ℕ) (s : Symbol) → (s ≡ sym.True → ⊥) → (s ≡ sym.False → ⊥) → begins is_value (words.Placed at s ∷ []) ≡ false
-no_truth at s h0 h1 = by_place (keeps_place s) refl
+no_truth at s h0 h1 = by_place (is_placed s) refl
   where
-    by_place : (b : Bool) → keeps_place s ≡ b → begins is_value (words.Placed at s ∷ []) ≡ false
+    by_place : (b : Bool) → is_placed s ≡ b → begins is_value (words.Placed at s ∷ []) ≡ false
     by_place true here = rw (here, other_symbol s sym.True h0, other_symbol s sym.False h1) refl
     by_place false here = rw here refl
 

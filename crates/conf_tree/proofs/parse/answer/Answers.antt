@@ -1,15 +1,11 @@
-use Rattle.conf_tree.proofs.Whole.{shut_never}
 use Rattle.conf_tree.proofs.Refusals.{answer_stop, answer_deep, answer_tree}
 use Rattle.conf_tree.proofs.parse.answer.Goals as goal
 
 pub stopped-requires-clause-stops : goal.stopped-requires-clause-stops
-stopped-requires-clause-stops c = answer_stop c.deref.result.now c.args.said.now.words.items c.in-Err-Bad.field-0 c.in-Err-Bad.rest c.deref.ensures.value c.in-Err-Bad.field-0-is c.in-Err-Bad.ensures
-
-pub stopped-requires-in-Err-Unsupported-clause-stops : goal.stopped-requires-in-Err-Unsupported-clause-stops
-stopped-requires-in-Err-Unsupported-clause-stops c = absurd (shut_never c.deref.result.now c.in-Err-Unsupported.field-0 c.in-Err-Unsupported.rest c.in-Err-Unsupported.field-0-is c.in-Err-Unsupported.ensures)
+stopped-requires-clause-stops c = answer_stop c.deref.result.now c.args.significant.now.words.items c.in-Err-Bad.field-0 c.in-Err-Bad.rest c.deref.ensures.value c.in-Err-Bad.field-0-is c.in-Err-Bad.ensures
 
 pub deepened-requires-clause-deep : goal.deepened-requires-clause-deep
-deepened-requires-clause-deep c = answer_deep c.deref.result.now c.args.said.now.words.items c.in-Err-TooDeep.field-0 c.in-Err-TooDeep.rest c.deref.ensures.value c.in-Err-TooDeep.field-0-is c.in-Err-TooDeep.ensures
+deepened-requires-clause-deep c = answer_deep c.deref.result.now c.args.significant.now.words.items c.in-Err-TooDeep.field-0 c.in-Err-TooDeep.rest c.deref.ensures.value c.in-Err-TooDeep.field-0-is c.in-Err-TooDeep.ensures
 
 pub returns-in-Ok-clause-tree : goal.returns-in-Ok-clause-tree
-returns-in-Ok-clause-tree c = answer_tree c.deref.result.now c.args.said.now.words.items _ _ _ c.deref.ensures.value c.requires.words c.in-Ok.ensures
+returns-in-Ok-clause-tree c = answer_tree c.deref.result.now c.args.significant.now.words.items _ _ _ c.deref.ensures.value c.requires.words c.in-Ok.ensures

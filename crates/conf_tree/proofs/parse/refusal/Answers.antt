@@ -7,4 +7,4 @@ pub returns-in-Ok-true : goal.returns-in-Ok-true
 returns-in-Ok-true c = (refl, c.in-Ok-true.ensures.0 c.in-Ok-true.field-0-test)
 
 pub returns-in-Ok-false : goal.returns-in-Ok-false
-returns-in-Ok-false c = bad_refuses _ c.args.said.now c.args.place c.args.at c.bad_from.result (λ known. not_both c.in-Ok-false.field-0 (c.in-Ok-false.ensures.1 known) c.in-Ok-false.field-0-test) c.bad_from.ensures
+returns-in-Ok-false c = bad_refuses _ c.args.significant.now c.args.place c.args.at c.bad_from.result (λ known. not_both c.in-Ok-false.field-0 (c.in-Ok-false.ensures.1 known) c.in-Ok-false.field-0-test) c.bad_from.ensures

@@ -2,9 +2,9 @@ use Rattle.std.proofs.Common.{◌≡◌, ℕ, ◌+◌, ◌++◌, [], ◌∷◌, 
 use Rattle.std.specs.Global.{Global}
 use Rattle.std.proofs.lemmas.Result.{IfOk-weaker}
 use Rattle.grammar.specs.Names.{name_bytes}
-use Rattle.filt_syntax.specs.declared.tree.Arm.{Arm}
-use Rattle.filt_syntax.specs.declared.tree.Stmt.{Stmt}
-use Rattle.filt_syntax.specs.declared.tree.Stmt.TheVariants as s
+use Rattle.filt_syntax.specs.declared.ast.Arm.{Arm}
+use Rattle.filt_syntax.specs.declared.ast.Stmt.{Stmt}
+use Rattle.filt_syntax.specs.declared.ast.Stmt.TheVariants as s
 use Rattle.conf_ast.specs.Filters.{expression_of, statement_of, statements_of, Nothing, Unset, Accept, Reject}
 use Rattle.filt_meaning.specs.Flow as flow
 use Rattle.filt_meaning.specs.Meaning.{act, acts, all_declared, nothing, stop, unset, value}
@@ -78,8 +78,8 @@ resolve_statement-returns-in-Return t c = a.return_ok c.returned.result (λ arou
 pub resolve_statement-returns-in-Print : goal.resolve_statement-returns-in-Print
 resolve_statement-returns-in-Print t c = a.print_ok c.print.result (λ around. tables_of around c.args.scope.now) (λ around. context_of c.args.text.now around c.args.scope.now (names_of c.args.names.now)) c.args.s.now c.in-Print.given c.deref-in-Print.result.now c.in-Print.is c.deref-in-Print.ensures.value c.print.ensures
 
-pub resolve_statement-returns-in-PrintPart : goal.resolve_statement-returns-in-PrintPart
-resolve_statement-returns-in-PrintPart t c = a.print_part_ok c.print-in-PrintPart.result (λ around. tables_of around c.args.scope.now) (λ around. context_of c.args.text.now around c.args.scope.now (names_of c.args.names.now)) c.args.s.now c.in-PrintPart.given c.deref-in-PrintPart.result.now c.in-PrintPart.is c.deref-in-PrintPart.ensures.value c.print-in-PrintPart.ensures
+pub resolve_statement-returns-in-Printn : goal.resolve_statement-returns-in-Printn
+resolve_statement-returns-in-Printn t c = a.print_part_ok c.print-in-Printn.result (λ around. tables_of around c.args.scope.now) (λ around. context_of c.args.text.now around c.args.scope.now (names_of c.args.names.now)) c.args.s.now c.in-Printn.given c.deref-in-Printn.result.now c.in-Printn.is c.deref-in-Printn.ensures.value c.print-in-Printn.ensures
 
 pub resolve_statement-returns-in-Call : goal.resolve_statement-returns-in-Call
 resolve_statement-returns-in-Call t c = a.call_ok c.called.result (λ around. tables_of around c.args.scope.now) (λ around. context_of c.args.text.now around c.args.scope.now (names_of c.args.names.now)) c.args.s.now c.in-Call.name c.in-Call.open c.in-Call.arguments c.deref-in-Call.result.now c.in-Call.is c.deref-in-Call.ensures.value c.called.ensures

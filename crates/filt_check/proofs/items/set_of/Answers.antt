@@ -7,12 +7,12 @@ use Rattle.filt_tree.specs.Trees.{set_of_labels}
 use Rattle.filt_check.proofs.Sets.{ints_of, ints_are, pairs_of, pairs_are, prefixes_of, prefixes_are}
 use Rattle.filt_check.proofs.items.set_of.Goals as goal
 
-pub returns-in-Some-Part : goal.returns-in-Some-Part
-returns-in-Some-Part c =
+pub returns-in-Some-Range : goal.returns-in-Some-Range
+returns-in-Some-Range c =
     IfOk-weaker c.int_set.result
     (λ set. (around : Around) (variables : List (List ℕ)) → set_of_labels set ≡ ints_of (context_of c.args.text.now around c.args.scope.now variables) c.args.items.now)
     (λ set. (around : Around) (variables : List (List ℕ)) → set_of_labels set ≡ written.set_of (context_of c.args.text.now around c.args.scope.now variables) c.args.items.now)
-    (λ set h around variables. h around variables ∙ ints_are (context_of c.args.text.now around c.args.scope.now variables) c.args.items.now c.in-Some-Part.field-0.now c.in-Some-Part.field-0-0 c.in-Some-Part.ensures.value c.in-Some-Part.field-0-is)
+    (λ set h around variables. h around variables ∙ ints_are (context_of c.args.text.now around c.args.scope.now variables) c.args.items.now c.in-Some-Range.field-0.now c.in-Some-Range.field-0-0 c.in-Some-Range.ensures.value c.in-Some-Range.field-0-is)
     c.int_set.ensures
 
 pub returns-in-Some-Pair : goal.returns-in-Some-Pair

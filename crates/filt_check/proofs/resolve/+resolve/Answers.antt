@@ -1,9 +1,9 @@
 use Rattle.std.proofs.Common.{◌+◌, ◌∙◌, arith, List, drop, ap}
-use Rattle.filt_syntax.specs.declared.tree.Access.{Access}
-use Rattle.filt_syntax.specs.declared.tree.Expr.{Expr}
-use Rattle.filt_syntax.specs.declared.tree.Factor.{Factor}
-use Rattle.filt_syntax.specs.declared.tree.Joint.{Joint}
-use Rattle.filt_syntax.specs.declared.tree.Term.{Term}
+use Rattle.filt_syntax.specs.declared.ast.Postfix.{Postfix}
+use Rattle.filt_syntax.specs.declared.ast.Expr.{Expr}
+use Rattle.filt_syntax.specs.declared.ast.MulOp.{MulOp}
+use Rattle.filt_syntax.specs.declared.ast.LogicalOp.{LogicalOp}
+use Rattle.filt_syntax.specs.declared.ast.AddOp.{AddOp}
 use Rattle.conf_ast.specs.Filters.{expression_of}
 use Rattle.filt_values.specs.Values.{Val}
 use Rattle.filt_meaning.specs.Flow.{Run}
@@ -42,8 +42,8 @@ resolve-returns-in-Set t c = r.set_ok c.set.result (λ around. tables_of around 
 pub resolve-returns-in-Mask : goal.resolve-returns-in-Mask
 resolve-returns-in-Mask t c = r.mask_ok c.mask.result (λ around. tables_of around c.args.scope.now) (λ around variables. context_of c.args.text.now around c.args.scope.now variables) (names_of c.args.names.now) c.args.e.now c.in-Mask.at c.in-Mask.items c.deref-in-Mask.result.now c.in-Mask.is c.deref-in-Mask.ensures.value c.mask.ensures
 
-pub resolve-returns-in-Access : goal.resolve-returns-in-Access
-resolve-returns-in-Access t c = r.access_ok c.access.result (λ around. tables_of around c.args.scope.now) (λ around. context_of c.args.text.now around c.args.scope.now (names_of c.args.names.now)) c.args.e.now c.in-Access.operand c.in-Access.more c.deref-in-Access.result.now c.deref-in-Access-2.result.now c.in-Access.is c.deref-in-Access.ensures c.deref-in-Access-2.ensures.value c.access.ensures
+pub resolve-returns-in-Postfix : goal.resolve-returns-in-Postfix
+resolve-returns-in-Postfix t c = r.access_ok c.access.result (λ around. tables_of around c.args.scope.now) (λ around. context_of c.args.text.now around c.args.scope.now (names_of c.args.names.now)) c.args.e.now c.in-Postfix.operand c.in-Postfix.more c.deref-in-Postfix.result.now c.deref-in-Postfix-2.result.now c.in-Postfix.is c.deref-in-Postfix.ensures c.deref-in-Postfix-2.ensures.value c.access.ensures
 
 pub resolve-returns-in-Product : goal.resolve-returns-in-Product
 resolve-returns-in-Product t c = r.product_ok c.product.result (λ around. tables_of around c.args.scope.now) (λ around. context_of c.args.text.now around c.args.scope.now (names_of c.args.names.now)) c.args.e.now c.in-Product.operand c.in-Product.more c.deref-in-Product.result.now c.deref-in-Product-2.result.now c.in-Product.is c.deref-in-Product.ensures c.deref-in-Product-2.ensures.value c.product.ensures
@@ -51,8 +51,8 @@ resolve-returns-in-Product t c = r.product_ok c.product.result (λ around. table
 pub resolve-returns-in-Sum : goal.resolve-returns-in-Sum
 resolve-returns-in-Sum t c = r.sum_ok c.sum.result (λ around. tables_of around c.args.scope.now) (λ around. context_of c.args.text.now around c.args.scope.now (names_of c.args.names.now)) c.args.e.now c.in-Sum.operand c.in-Sum.more c.deref-in-Sum.result.now c.deref-in-Sum-2.result.now c.in-Sum.is c.deref-in-Sum.ensures c.deref-in-Sum-2.ensures.value c.sum.ensures
 
-pub resolve-returns-in-Joint : goal.resolve-returns-in-Joint
-resolve-returns-in-Joint t c = r.joint_ok c.joint.result (λ around. tables_of around c.args.scope.now) (λ around. context_of c.args.text.now around c.args.scope.now (names_of c.args.names.now)) c.args.e.now c.in-Joint.operand c.in-Joint.more c.deref-in-Joint.result.now c.deref-in-Joint-2.result.now c.in-Joint.is c.deref-in-Joint.ensures c.deref-in-Joint-2.ensures.value c.joint.ensures
+pub resolve-returns-in-Logical : goal.resolve-returns-in-Logical
+resolve-returns-in-Logical t c = r.joint_ok c.joint.result (λ around. tables_of around c.args.scope.now) (λ around. context_of c.args.text.now around c.args.scope.now (names_of c.args.names.now)) c.args.e.now c.in-Logical.operand c.in-Logical.more c.deref-in-Logical.result.now c.deref-in-Logical-2.result.now c.in-Logical.is c.deref-in-Logical.ensures c.deref-in-Logical-2.ensures.value c.joint.ensures
 
 pub resolve_all-loop-e-preserved : goal.resolve_all-loop-e-preserved
 resolve_all-loop-e-preserved t c = λ around. r.moved (λ (x : TExpr). trees.expr x (tables_of around c.args.scope.now)) (λ (y : Expr). value (expression_of y) (context_of c.args.text.now around c.args.scope.now (names_of c.args.names.now))) c.loop-e.all.items c.push.new.self.items c.in_ok-resolve.field-0 c.e-item.result (drop (c.loop-e.e-index + 1) c.args.given.now) (drop c.loop-e.e-index c.args.given.now) (values_in (context_of c.args.text.now around c.args.scope.now (names_of c.args.names.now)) c.args.given.now) c.in_ok-push.ensures.items (next_item c.args.given.now c.loop-e.e-index c.e-item.result c.loop-e-test.true c.e-item.is) (c.in_ok-resolve.ensures around) (c.loop-e.invariant around)
@@ -61,13 +61,13 @@ pub resolve_accesses-loop-access-preserved : goal.resolve_accesses-loop-access-p
 resolve_accesses-loop-access-preserved t c = λ around. r.moved (trees.access (tables_of around c.args.scope.now)) (access_in (context_of c.args.text.now around c.args.scope.now (names_of c.args.names.now))) c.loop-access.all.items c.push.new.self.items c.in_ok-resolve_access.field-0 c.access-item.result (drop (c.loop-access.access-index + 1) c.args.more.now) (drop c.loop-access.access-index c.args.more.now) (accesses_in (context_of c.args.text.now around c.args.scope.now (names_of c.args.names.now)) c.args.more.now) c.in_ok-push.ensures.items (next_item c.args.more.now c.loop-access.access-index c.access-item.result c.loop-access-test.true c.access-item.is) (c.in_ok-resolve_access.ensures around) (c.loop-access.invariant around)
 
 pub resolve_factors-loop-x-preserved : goal.resolve_factors-loop-x-preserved
-resolve_factors-loop-x-preserved t c = λ around. r.moved (λ (x : Factor × TExpr). (x.0, trees.expr x.1 (tables_of around c.args.scope.now))) (λ (y : Factor × Expr). (y.0, value (expression_of y.1) (context_of c.args.text.now around c.args.scope.now (names_of c.args.names.now)))) c.loop-x.all.items c.push.new.self.items (c.x-item.result.0, c.in_ok-operand.operand) c.x-item.result (drop (c.loop-x.x-index + 1) c.args.more.now) (drop c.loop-x.x-index c.args.more.now) (parts_in (context_of c.args.text.now around c.args.scope.now (names_of c.args.names.now)) c.args.more.now) c.in_ok-push.ensures.items (next_item c.args.more.now c.loop-x.x-index c.x-item.result c.loop-x-test.true c.x-item.is) (ap (λ (f : Run Val). (c.x-item.result.0, f)) (c.in_ok-operand.ensures around)) (c.loop-x.invariant around)
+resolve_factors-loop-x-preserved t c = λ around. r.moved (λ (x : MulOp × TExpr). (x.0, trees.expr x.1 (tables_of around c.args.scope.now))) (λ (y : MulOp × Expr). (y.0, value (expression_of y.1) (context_of c.args.text.now around c.args.scope.now (names_of c.args.names.now)))) c.loop-x.all.items c.push.new.self.items (c.x-item.result.0, c.in_ok-operand.operand) c.x-item.result (drop (c.loop-x.x-index + 1) c.args.more.now) (drop c.loop-x.x-index c.args.more.now) (parts_in (context_of c.args.text.now around c.args.scope.now (names_of c.args.names.now)) c.args.more.now) c.in_ok-push.ensures.items (next_item c.args.more.now c.loop-x.x-index c.x-item.result c.loop-x-test.true c.x-item.is) (ap (λ (f : Run Val). (c.x-item.result.0, f)) (c.in_ok-operand.ensures around)) (c.loop-x.invariant around)
 
 pub resolve_terms-loop-x-preserved : goal.resolve_terms-loop-x-preserved
-resolve_terms-loop-x-preserved t c = λ around. r.moved (λ (x : Term × TExpr). (x.0, trees.expr x.1 (tables_of around c.args.scope.now))) (λ (y : Term × Expr). (y.0, value (expression_of y.1) (context_of c.args.text.now around c.args.scope.now (names_of c.args.names.now)))) c.loop-x.all.items c.push.new.self.items (c.x-item.result.0, c.in_ok-operand.operand) c.x-item.result (drop (c.loop-x.x-index + 1) c.args.more.now) (drop c.loop-x.x-index c.args.more.now) (parts_in (context_of c.args.text.now around c.args.scope.now (names_of c.args.names.now)) c.args.more.now) c.in_ok-push.ensures.items (next_item c.args.more.now c.loop-x.x-index c.x-item.result c.loop-x-test.true c.x-item.is) (ap (λ (f : Run Val). (c.x-item.result.0, f)) (c.in_ok-operand.ensures around)) (c.loop-x.invariant around)
+resolve_terms-loop-x-preserved t c = λ around. r.moved (λ (x : AddOp × TExpr). (x.0, trees.expr x.1 (tables_of around c.args.scope.now))) (λ (y : AddOp × Expr). (y.0, value (expression_of y.1) (context_of c.args.text.now around c.args.scope.now (names_of c.args.names.now)))) c.loop-x.all.items c.push.new.self.items (c.x-item.result.0, c.in_ok-operand.operand) c.x-item.result (drop (c.loop-x.x-index + 1) c.args.more.now) (drop c.loop-x.x-index c.args.more.now) (parts_in (context_of c.args.text.now around c.args.scope.now (names_of c.args.names.now)) c.args.more.now) c.in_ok-push.ensures.items (next_item c.args.more.now c.loop-x.x-index c.x-item.result c.loop-x-test.true c.x-item.is) (ap (λ (f : Run Val). (c.x-item.result.0, f)) (c.in_ok-operand.ensures around)) (c.loop-x.invariant around)
 
 pub resolve_joints-loop-x-preserved : goal.resolve_joints-loop-x-preserved
-resolve_joints-loop-x-preserved t c = λ around. r.moved (λ (x : Joint × TExpr). (x.0, trees.expr x.1 (tables_of around c.args.scope.now))) (λ (y : Joint × Expr). (y.0, value (expression_of y.1) (context_of c.args.text.now around c.args.scope.now (names_of c.args.names.now)))) c.loop-x.all.items c.push.new.self.items (c.x-item.result.0, c.in_ok-operand.operand) c.x-item.result (drop (c.loop-x.x-index + 1) c.args.more.now) (drop c.loop-x.x-index c.args.more.now) (parts_in (context_of c.args.text.now around c.args.scope.now (names_of c.args.names.now)) c.args.more.now) c.in_ok-push.ensures.items (next_item c.args.more.now c.loop-x.x-index c.x-item.result c.loop-x-test.true c.x-item.is) (ap (λ (f : Run Val). (c.x-item.result.0, f)) (c.in_ok-operand.ensures around)) (c.loop-x.invariant around)
+resolve_joints-loop-x-preserved t c = λ around. r.moved (λ (x : LogicalOp × TExpr). (x.0, trees.expr x.1 (tables_of around c.args.scope.now))) (λ (y : LogicalOp × Expr). (y.0, value (expression_of y.1) (context_of c.args.text.now around c.args.scope.now (names_of c.args.names.now)))) c.loop-x.all.items c.push.new.self.items (c.x-item.result.0, c.in_ok-operand.operand) c.x-item.result (drop (c.loop-x.x-index + 1) c.args.more.now) (drop c.loop-x.x-index c.args.more.now) (parts_in (context_of c.args.text.now around c.args.scope.now (names_of c.args.names.now)) c.args.more.now) c.in_ok-push.ensures.items (next_item c.args.more.now c.loop-x.x-index c.x-item.result c.loop-x-test.true c.x-item.is) (ap (λ (f : Run Val). (c.x-item.result.0, f)) (c.in_ok-operand.ensures around)) (c.loop-x.invariant around)
 
 pub resolve-resolve_all-requires : goal.resolve-resolve_all-requires
 resolve-resolve_all-requires t c = (omega (arith, ap (λ (x : Expr). k.cost x) c.in-Call.is, k.cost-Call c.in-Call.name c.in-Call.open c.in-Call.arguments, ap (λ (xs : List Expr). k.costs xs) c.deref.ensures.value), tt)
@@ -88,16 +88,16 @@ pub resolve-boxed-requires : goal.resolve-boxed-requires
 resolve-boxed-requires t c = (omega (arith, ap (λ (x : Expr). k.cost x) c.in-Not.is, k.cost-Not c.in-Not.at c.in-Not.operand, ap (λ (x : Expr). k.cost x) c.deref-in-Not.ensures), tt)
 
 pub resolve-access-requires : goal.resolve-access-requires
-resolve-access-requires t c = (omega (arith, ap (λ (x : Expr). k.cost x) c.in-Access.is, k.cost-Access c.in-Access.operand c.in-Access.more, ap (λ (x : Expr). k.cost x) c.deref-in-Access.ensures, ap (λ (xs : List (Access Expr)). k.accesses_cost xs) c.deref-in-Access-2.ensures.value), tt)
+resolve-access-requires t c = (omega (arith, ap (λ (x : Expr). k.cost x) c.in-Postfix.is, k.cost-Postfix c.in-Postfix.operand c.in-Postfix.more, ap (λ (x : Expr). k.cost x) c.deref-in-Postfix.ensures, ap (λ (xs : List (Postfix Expr)). k.accesses_cost xs) c.deref-in-Postfix-2.ensures.value), tt)
 
 pub resolve-product-requires : goal.resolve-product-requires
-resolve-product-requires t c = (omega (arith, ap (λ (x : Expr). k.cost x) c.in-Product.is, k.cost-Product c.in-Product.operand c.in-Product.more, ap (λ (x : Expr). k.cost x) c.deref-in-Product.ensures, ap (λ (xs : List (Factor × Expr)). k.operands_cost xs) c.deref-in-Product-2.ensures.value), tt)
+resolve-product-requires t c = (omega (arith, ap (λ (x : Expr). k.cost x) c.in-Product.is, k.cost-Product c.in-Product.operand c.in-Product.more, ap (λ (x : Expr). k.cost x) c.deref-in-Product.ensures, ap (λ (xs : List (MulOp × Expr)). k.operands_cost xs) c.deref-in-Product-2.ensures.value), tt)
 
 pub resolve-sum-requires : goal.resolve-sum-requires
-resolve-sum-requires t c = (omega (arith, ap (λ (x : Expr). k.cost x) c.in-Sum.is, k.cost-Sum c.in-Sum.operand c.in-Sum.more, ap (λ (x : Expr). k.cost x) c.deref-in-Sum.ensures, ap (λ (xs : List (Term × Expr)). k.operands_cost xs) c.deref-in-Sum-2.ensures.value), tt)
+resolve-sum-requires t c = (omega (arith, ap (λ (x : Expr). k.cost x) c.in-Sum.is, k.cost-Sum c.in-Sum.operand c.in-Sum.more, ap (λ (x : Expr). k.cost x) c.deref-in-Sum.ensures, ap (λ (xs : List (AddOp × Expr)). k.operands_cost xs) c.deref-in-Sum-2.ensures.value), tt)
 
 pub resolve-joint-requires : goal.resolve-joint-requires
-resolve-joint-requires t c = (omega (arith, ap (λ (x : Expr). k.cost x) c.in-Joint.is, k.cost-Joint c.in-Joint.operand c.in-Joint.more, ap (λ (x : Expr). k.cost x) c.deref-in-Joint.ensures, ap (λ (xs : List (Joint × Expr)). k.operands_cost xs) c.deref-in-Joint-2.ensures.value), tt)
+resolve-joint-requires t c = (omega (arith, ap (λ (x : Expr). k.cost x) c.in-Logical.is, k.cost-Logical c.in-Logical.operand c.in-Logical.more, ap (λ (x : Expr). k.cost x) c.deref-in-Logical.ensures, ap (λ (xs : List (LogicalOp × Expr)). k.operands_cost xs) c.deref-in-Logical-2.ensures.value), tt)
 
 pub resolve_all-resolve-requires : goal.resolve_all-resolve-requires
 resolve_all-resolve-requires t c = (omega (arith, k.item_below k.cost c.args.given.now c.loop-e.e-index c.e-item.result c.loop-e-test.true c.e-item.is), tt)
@@ -106,13 +106,13 @@ pub resolve_accesses-resolve_access-requires : goal.resolve_accesses-resolve_acc
 resolve_accesses-resolve_access-requires t c = (omega (arith, k.item_below k.access_cost c.args.more.now c.loop-access.access-index c.access-item.result c.loop-access-test.true c.access-item.is), tt)
 
 pub resolve_factors-resolve-requires : goal.resolve_factors-resolve-requires
-resolve_factors-resolve-requires t c = (omega (arith, k.item_below (λ (x : Factor × Expr). k.cost x.1) c.args.more.now c.loop-x.x-index c.x-item.result c.loop-x-test.true c.x-item.is), tt)
+resolve_factors-resolve-requires t c = (omega (arith, k.item_below (λ (x : MulOp × Expr). k.cost x.1) c.args.more.now c.loop-x.x-index c.x-item.result c.loop-x-test.true c.x-item.is), tt)
 
 pub resolve_terms-resolve-requires : goal.resolve_terms-resolve-requires
-resolve_terms-resolve-requires t c = (omega (arith, k.item_below (λ (x : Term × Expr). k.cost x.1) c.args.more.now c.loop-x.x-index c.x-item.result c.loop-x-test.true c.x-item.is), tt)
+resolve_terms-resolve-requires t c = (omega (arith, k.item_below (λ (x : AddOp × Expr). k.cost x.1) c.args.more.now c.loop-x.x-index c.x-item.result c.loop-x-test.true c.x-item.is), tt)
 
 pub resolve_joints-resolve-requires : goal.resolve_joints-resolve-requires
-resolve_joints-resolve-requires t c = (omega (arith, k.item_below (λ (x : Joint × Expr). k.cost x.1) c.args.more.now c.loop-x.x-index c.x-item.result c.loop-x-test.true c.x-item.is), tt)
+resolve_joints-resolve-requires t c = (omega (arith, k.item_below (λ (x : LogicalOp × Expr). k.cost x.1) c.args.more.now c.loop-x.x-index c.x-item.result c.loop-x-test.true c.x-item.is), tt)
 
 pub resolve_all-returns : goal.resolve_all-returns
 resolve_all-returns t c = λ around. r.finished (trees.exprs (tables_of around c.args.scope.now) c.loop-e.all.items) (λ (y : Expr). value (expression_of y) (context_of c.args.text.now around c.args.scope.now (names_of c.args.names.now))) c.args.given.now c.loop-e.e-index (values_in (context_of c.args.text.now around c.args.scope.now (names_of c.args.names.now)) c.args.given.now) c.loop-e-test.false (c.loop-e.invariant around)
@@ -121,10 +121,10 @@ pub resolve_accesses-returns : goal.resolve_accesses-returns
 resolve_accesses-returns t c = λ around. r.finished (trees.accesses_of (tables_of around c.args.scope.now) c.loop-access.all.items) (access_in (context_of c.args.text.now around c.args.scope.now (names_of c.args.names.now))) c.args.more.now c.loop-access.access-index (accesses_in (context_of c.args.text.now around c.args.scope.now (names_of c.args.names.now)) c.args.more.now) c.loop-access-test.false (c.loop-access.invariant around)
 
 pub resolve_factors-returns : goal.resolve_factors-returns
-resolve_factors-returns t c = λ around. r.finished (trees.parts (tables_of around c.args.scope.now) c.loop-x.all.items) (λ (y : Factor × Expr). (y.0, value (expression_of y.1) (context_of c.args.text.now around c.args.scope.now (names_of c.args.names.now)))) c.args.more.now c.loop-x.x-index (parts_in (context_of c.args.text.now around c.args.scope.now (names_of c.args.names.now)) c.args.more.now) c.loop-x-test.false (c.loop-x.invariant around)
+resolve_factors-returns t c = λ around. r.finished (trees.parts (tables_of around c.args.scope.now) c.loop-x.all.items) (λ (y : MulOp × Expr). (y.0, value (expression_of y.1) (context_of c.args.text.now around c.args.scope.now (names_of c.args.names.now)))) c.args.more.now c.loop-x.x-index (parts_in (context_of c.args.text.now around c.args.scope.now (names_of c.args.names.now)) c.args.more.now) c.loop-x-test.false (c.loop-x.invariant around)
 
 pub resolve_terms-returns : goal.resolve_terms-returns
-resolve_terms-returns t c = λ around. r.finished (trees.parts (tables_of around c.args.scope.now) c.loop-x.all.items) (λ (y : Term × Expr). (y.0, value (expression_of y.1) (context_of c.args.text.now around c.args.scope.now (names_of c.args.names.now)))) c.args.more.now c.loop-x.x-index (parts_in (context_of c.args.text.now around c.args.scope.now (names_of c.args.names.now)) c.args.more.now) c.loop-x-test.false (c.loop-x.invariant around)
+resolve_terms-returns t c = λ around. r.finished (trees.parts (tables_of around c.args.scope.now) c.loop-x.all.items) (λ (y : AddOp × Expr). (y.0, value (expression_of y.1) (context_of c.args.text.now around c.args.scope.now (names_of c.args.names.now)))) c.args.more.now c.loop-x.x-index (parts_in (context_of c.args.text.now around c.args.scope.now (names_of c.args.names.now)) c.args.more.now) c.loop-x-test.false (c.loop-x.invariant around)
 
 pub resolve_joints-returns : goal.resolve_joints-returns
-resolve_joints-returns t c = λ around. r.finished (trees.parts (tables_of around c.args.scope.now) c.loop-x.all.items) (λ (y : Joint × Expr). (y.0, value (expression_of y.1) (context_of c.args.text.now around c.args.scope.now (names_of c.args.names.now)))) c.args.more.now c.loop-x.x-index (parts_in (context_of c.args.text.now around c.args.scope.now (names_of c.args.names.now)) c.args.more.now) c.loop-x-test.false (c.loop-x.invariant around)
+resolve_joints-returns t c = λ around. r.finished (trees.parts (tables_of around c.args.scope.now) c.loop-x.all.items) (λ (y : LogicalOp × Expr). (y.0, value (expression_of y.1) (context_of c.args.text.now around c.args.scope.now (names_of c.args.names.now)))) c.args.more.now c.loop-x.x-index (parts_in (context_of c.args.text.now around c.args.scope.now (names_of c.args.names.now)) c.args.more.now) c.loop-x-test.false (c.loop-x.invariant around)

@@ -1,9 +1,9 @@
 use Rattle.std.proofs.Common.{ap, sym, ◌∙◌}
-use Rattle.filt_syntax.specs.declared.tree.Simple.{Simple}
+use Rattle.filt_syntax.specs.declared.ast.Atom.{Atom}
 use Rattle.filt_meaning.specs.Meaning.{plain}
 use Rattle.filt_tree.specs.Scopes.{context_of}
 use Rattle.filt_check.proofs.Resolving.{attribute_same}
 use Rattle.filt_check.proofs.resolve.simple.Goals as goal
 
 pub returns-in-Attribute : goal.returns-in-Attribute
-returns-in-Attribute c = λ around scope variables. attribute_same around scope c.in-Attribute.attribute ∙ sym (ap (λ (w : Simple). plain w (context_of c.args.text.now around scope variables)) c.in-Attribute.is)
+returns-in-Attribute c = λ around scope variables. attribute_same around scope c.in-Attribute.attribute ∙ sym (ap (λ (w : Atom). plain w (context_of c.args.text.now around scope variables)) c.in-Attribute.is)

@@ -1,7 +1,7 @@
 use Rattle.std.proofs.Common.{◌+◌, drop, List, ap, ◌∙◌}
-use Rattle.filt_syntax.specs.declared.tree.Arm.{Arm}
-use Rattle.filt_syntax.specs.declared.tree.Item.{Item}
-use Rattle.filt_syntax.specs.declared.tree.Stmt.{Stmt}
+use Rattle.filt_syntax.specs.declared.ast.Arm.{Arm}
+use Rattle.filt_syntax.specs.declared.ast.Item.{Item}
+use Rattle.filt_syntax.specs.declared.ast.Stmt.{Stmt}
 use Rattle.filt_types.specs.Items.{all_items, common, sorts_of_items}
 use Rattle.filt_types.specs.Refusals.{first_in}
 use Rattle.filt_types.specs.Seen.{scene_in}

@@ -1,9 +1,9 @@
 use Rattle.std.proofs.Common.{arith, List, ap, ◌∙◌}
-use Rattle.filt_syntax.specs.declared.tree.Access.{Access}
-use Rattle.filt_syntax.specs.declared.tree.Expr.{Expr}
-use Rattle.filt_syntax.specs.declared.tree.Factor.{Factor}
-use Rattle.filt_syntax.specs.declared.tree.Joint.{Joint}
-use Rattle.filt_syntax.specs.declared.tree.Term.{Term}
+use Rattle.filt_syntax.specs.declared.ast.Postfix.{Postfix}
+use Rattle.filt_syntax.specs.declared.ast.Expr.{Expr}
+use Rattle.filt_syntax.specs.declared.ast.MulOp.{MulOp}
+use Rattle.filt_syntax.specs.declared.ast.LogicalOp.{LogicalOp}
+use Rattle.filt_syntax.specs.declared.ast.AddOp.{AddOp}
 use Rattle.conf_ast.specs.Filters.{Expression, expression_of, expressions_of}
 use Rattle.filt_types.specs.Seen.{scene_of}
 use Rattle.filt_types.specs.Weight.{weight, weights}
@@ -13,16 +13,16 @@ use Rattle.filt_rules.proofs.Weighing as g
 use Rattle.filt_rules.proofs.weight.+weight.Goals as goal
 
 pub weigh-weigh_accesses-requires : goal.weigh-weigh_accesses-requires
-weigh-weigh_accesses-requires t c = (omega (arith, ap k.cost c.in-Access.is, k.cost-Access c.in-Access.operand c.in-Access.more, ap k.cost c.deref-in-Access.ensures, ap (λ (xs : List (Access Expr)). k.accesses_cost xs) c.deref-in-Access-2.ensures.value), tt)
+weigh-weigh_accesses-requires t c = (omega (arith, ap k.cost c.in-Postfix.is, k.cost-Postfix c.in-Postfix.operand c.in-Postfix.more, ap k.cost c.deref-in-Postfix.ensures, ap (λ (xs : List (Postfix Expr)). k.accesses_cost xs) c.deref-in-Postfix-2.ensures.value), tt)
 
 pub weigh-weigh_factors-requires : goal.weigh-weigh_factors-requires
-weigh-weigh_factors-requires t c = (omega (arith, ap k.cost c.in-Product.is, k.cost-Product c.in-Product.operand c.in-Product.more, ap k.cost c.deref-in-Product.ensures, ap (λ (xs : List (Factor × Expr)). k.operands_cost xs) c.deref-in-Product-2.ensures.value), tt)
+weigh-weigh_factors-requires t c = (omega (arith, ap k.cost c.in-Product.is, k.cost-Product c.in-Product.operand c.in-Product.more, ap k.cost c.deref-in-Product.ensures, ap (λ (xs : List (MulOp × Expr)). k.operands_cost xs) c.deref-in-Product-2.ensures.value), tt)
 
 pub weigh-weigh_terms-requires : goal.weigh-weigh_terms-requires
-weigh-weigh_terms-requires t c = (omega (arith, ap k.cost c.in-Sum.is, k.cost-Sum c.in-Sum.operand c.in-Sum.more, ap k.cost c.deref-in-Sum.ensures, ap (λ (xs : List (Term × Expr)). k.operands_cost xs) c.deref-in-Sum-2.ensures.value), tt)
+weigh-weigh_terms-requires t c = (omega (arith, ap k.cost c.in-Sum.is, k.cost-Sum c.in-Sum.operand c.in-Sum.more, ap k.cost c.deref-in-Sum.ensures, ap (λ (xs : List (AddOp × Expr)). k.operands_cost xs) c.deref-in-Sum-2.ensures.value), tt)
 
 pub weigh-weigh_joints-requires : goal.weigh-weigh_joints-requires
-weigh-weigh_joints-requires t c = (omega (arith, ap k.cost c.in-Joint.is, k.cost-Joint c.in-Joint.operand c.in-Joint.more, ap k.cost c.deref-in-Joint.ensures, ap (λ (xs : List (Joint × Expr)). k.operands_cost xs) c.deref-in-Joint-2.ensures.value), tt)
+weigh-weigh_joints-requires t c = (omega (arith, ap k.cost c.in-Logical.is, k.cost-Logical c.in-Logical.operand c.in-Logical.more, ap k.cost c.deref-in-Logical.ensures, ap (λ (xs : List (LogicalOp × Expr)). k.operands_cost xs) c.deref-in-Logical-2.ensures.value), tt)
 
 pub weigh_accesses-weigh_access-requires : goal.weigh_accesses-weigh_access-requires
 weigh_accesses-weigh_access-requires t c = (omega (arith, k.item_below k.access_cost c.args.more.now c.loop-access.access-index c.access-item.result c.loop-access-test.true c.access-item.is), tt)
@@ -31,13 +31,13 @@ pub weigh_all-weigh-requires : goal.weigh_all-weigh-requires
 weigh_all-weigh-requires t c = (omega (arith, k.item_below k.cost c.args.expressions.now c.loop-e.e-index c.e-item.result c.loop-e-test.true c.e-item.is), tt)
 
 pub weigh_factors-weigh-requires : goal.weigh_factors-weigh-requires
-weigh_factors-weigh-requires t c = (omega (arith, k.item_below (λ (x : Factor × Expr). k.operand_cost x) c.args.more.now c.loop-part.part-index c.part-item.result c.loop-part-test.true c.part-item.is), tt)
+weigh_factors-weigh-requires t c = (omega (arith, k.item_below (λ (x : MulOp × Expr). k.operand_cost x) c.args.more.now c.loop-part.part-index c.part-item.result c.loop-part-test.true c.part-item.is), tt)
 
 pub weigh_terms-weigh-requires : goal.weigh_terms-weigh-requires
-weigh_terms-weigh-requires t c = (omega (arith, k.item_below (λ (x : Term × Expr). k.operand_cost x) c.args.more.now c.loop-part.part-index c.part-item.result c.loop-part-test.true c.part-item.is), tt)
+weigh_terms-weigh-requires t c = (omega (arith, k.item_below (λ (x : AddOp × Expr). k.operand_cost x) c.args.more.now c.loop-part.part-index c.part-item.result c.loop-part-test.true c.part-item.is), tt)
 
 pub weigh_joints-weigh-requires : goal.weigh_joints-weigh-requires
-weigh_joints-weigh-requires t c = (omega (arith, k.item_below (λ (x : Joint × Expr). k.operand_cost x) c.args.more.now c.loop-part.part-index c.part-item.result c.loop-part-test.true c.part-item.is), tt)
+weigh_joints-weigh-requires t c = (omega (arith, k.item_below (λ (x : LogicalOp × Expr). k.operand_cost x) c.args.more.now c.loop-part.part-index c.part-item.result c.loop-part-test.true c.part-item.is), tt)
 
 pub weigh_accesses-loop-access-init : goal.weigh_accesses-loop-access-init
 weigh_accesses-loop-access-init t c =

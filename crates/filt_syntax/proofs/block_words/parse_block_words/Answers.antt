@@ -1,10 +1,10 @@
-use Rattle.std.proofs.Common.{◌≡◌, List, refl, sym, ap, subst, ◌∙◌, Err}
+use Rattle.std.proofs.Common.{List, refl, sym, ap, subst, ◌∙◌, Err}
 use Rattle.conf_lex.specs.declared.word.Word.{Word}
-use Rattle.grammar.specs.Gives.{Fails}
+use Rattle.grammar.specs.Agrees.{AgreesOnError}
 use Rattle.filt_syntax.specs.Syntax.{block}
 use Rattle.filt_syntax.specs.StatementReaders.{block_at}
 use Rattle.filt_syntax.specs.declared.parse.SyntaxFault.{SyntaxFault}
-use Rattle.filt_syntax.specs.declared.tree.Block.{Block}
+use Rattle.filt_syntax.specs.declared.ast.Block.{Block}
 use Rattle.filt_syntax.specs.Parse.{IsRefused, IsFault}
 use Rattle.filt_syntax.proofs.CycleSteps.{block_same}
 use Rattle.filt_syntax.proofs.Places.{got_fewer, got_stands, got_only, got_exact, fault_fewer, fault_refused, fault_only, fault_exact}
@@ -14,7 +14,7 @@ pub place_in-requires : goal.place_in-requires
 place_in-requires c = got_fewer block refl (block_at 64) (block_same 64) c.args.words.now c.args.from c.requires _ c.in-Ok.rest.now (ap (λ (ws : List Word). block_at 64 ws) (sym c.tail.ensures) ∙ c.in-Ok.ensures)
 
 pub placed-requires : goal.placed-requires
-placed-requires c = fault_fewer block refl (block_at 64) (block_same 64) c.args.words.now c.args.from c.requires c.in-Err.refusal (subst (λ (ws : List Word). Fails c.in-Err.refusal (block_at 64 ws)) c.tail.ensures c.in-Err.ensures)
+placed-requires c = fault_fewer block refl (block_at 64) (block_same 64) c.args.words.now c.args.from c.requires c.in-Err.refusal (subst (λ (ws : List Word). AgreesOnError c.in-Err.refusal (block_at 64 ws)) c.tail.ensures c.in-Err.ensures)
 
 pub returns-in-Ok-clause-tree : goal.returns-in-Ok-clause-tree
 returns-in-Ok-clause-tree c = got_stands block refl (block_at 64) (block_same 64) c.args.words.now c.args.from c.requires _ c.in-Ok.rest.now c.place_in.result c.place_in.ensures (ap (λ (ws : List Word). block_at 64 ws) (sym c.tail.ensures) ∙ c.in-Ok.ensures)
@@ -27,15 +27,15 @@ returns-in-Ok-clause-exact c e h = got_exact block refl (block_at 64) (block_sam
 
 pub returns-in-Err-clause-fault : goal.returns-in-Err-clause-fault
 returns-in-Err-clause-fault c =
-    let failed = subst (λ (ws : List Word). Fails c.in-Err.refusal (block_at 64 ws)) c.tail.ensures c.in-Err.ensures in
+    let failed = subst (λ (ws : List Word). AgreesOnError c.in-Err.refusal (block_at 64 ws)) c.tail.ensures c.in-Err.ensures in
     subst (λ (d : SyntaxFault). IsRefused block c.args.words.now c.args.from d) (sym c.placed.ensures) (fault_refused block refl (block_at 64) (block_same 64) c.args.words.now c.args.from c.requires c.in-Err.refusal failed)
 
 pub returns-in-Err-clause-only : goal.returns-in-Err-clause-only
 returns-in-Err-clause-only c t end h =
-    let failed = subst (λ (ws : List Word). Fails c.in-Err.refusal (block_at 64 ws)) c.tail.ensures c.in-Err.ensures in
+    let failed = subst (λ (ws : List Word). AgreesOnError c.in-Err.refusal (block_at 64 ws)) c.tail.ensures c.in-Err.ensures in
     c.placed.ensures ∙ fault_only block refl (block_at 64) (block_same 64) c.args.words.now c.args.from c.requires c.in-Err.refusal failed t end h
 
 pub returns-in-Err-clause-exact : goal.returns-in-Err-clause-exact
 returns-in-Err-clause-exact c e h =
-    let failed = subst (λ (ws : List Word). Fails c.in-Err.refusal (block_at 64 ws)) c.tail.ensures c.in-Err.ensures in
+    let failed = subst (λ (ws : List Word). AgreesOnError c.in-Err.refusal (block_at 64 ws)) c.tail.ensures c.in-Err.ensures in
     subst (λ (d : SyntaxFault). IsFault {X = Block} (Err d) e) (sym c.placed.ensures) (fault_exact block refl (block_at 64) (block_same 64) c.args.words.now c.args.from c.requires Block c.in-Err.refusal failed e h)

@@ -1,4 +1,4 @@
-use Rattle.std.proofs.Common.{◌≡◌, ◌<◌, ◌+◌, ◌*◌, length}
+use Rattle.std.proofs.Common.{◌≡◌, ◌<◌, length}
 use Rattle.conf_lex.specs.declared.symbol.Symbol.TheVariants as sym
 use Rattle.grammar.specs.Kind.{symbol}
 use Rattle.grammar.specs.Shapes.{links}
@@ -9,7 +9,7 @@ use Rattle.filt_syntax.proofs.items.items.Given as goal
 abbrev pub invariant-loop-next : goal.invariant-loop-next
 invariant-loop-next l = record {
   some : 0 < length l.found.items;
-  reading : items_at l.left l.words ≡ links (symbol sym.Comma) (item_at l.left) (items_tree l.found.items) l.rest;
+  reading : items_at l.depth_left l.words ≡ links (symbol sym.Comma) (item_at l.depth_left) (items_tree l.found.items) l.rest;
 }
 
 abbrev pub decreases-loop-next : goal.decreases-loop-next

@@ -1,4 +1,4 @@
-use Rattle.std.proofs.Common.{◌≡◌, ◌<◌, ◌+◌, ◌*◌, length}
+use Rattle.std.proofs.Common.{◌≡◌, length}
 use Rattle.filt_syntax.specs.ItemView.{mask_items_tree}
 use Rattle.filt_syntax.specs.ItemReaders.{mask_items_at, mask_row_at}
 use Rattle.filt_syntax.proofs.items.mask_items.Given as goal

@@ -1,35 +1,23 @@
-use Rattle.std.proofs.Common.{◌≡◌, ℕ, ◌+◌, ◌<◌, ◌≤◌, Bool, true, false, List, [], ◌∷◌, ◌++◌, length, refl, sym as flip, ap, subst, ◌∙◌, arith, rules, ◌⊎◌, inl, inr, Option, Some, None}
+use Rattle.std.proofs.Common.{◌∙◌}
 use Rattle.std.proofs.lemmas.Result.{err_from_is_err_and}
-use Rattle.std.proofs.lemmas.List.{length-append}
-use Rattle.conf_lex.specs.declared.symbol.Symbol.TheVariants as sym
-use Rattle.conf_lex.specs.declared.word.Word.{Word}
-use Rattle.conf_lex.specs.declared.word.Word.TheVariants as words
-use Rattle.grammar.specs.Kind.{symbol}
-use Rattle.grammar.specs.Grammar.{Tree, Leaf, Blank, Both, First, Second, Start, More, Inside}
-use Rattle.grammar.specs.Reading.{Read, Got, Fault, and_then, word, both}
-use Rattle.grammar.specs.Shapes.{symbol_leaf, links, closed, between}
-use Rattle.grammar.specs.Gives.{Fails}
-use Rattle.grammar.proofs.Shapes.{fails_then, fails_along, gives_along, optional_alone, optional_pair, optional_first_fails, optional_second_fails, links_more, links_fail, links_end, closed_got, closed_inside_fails, closed_end_fails}
-use Rattle.filt_syntax.specs.declared.tree.Item.{Item}
-use Rattle.filt_syntax.specs.ItemView.{part_tree, pair_part_tree, with_comma, item_tree, items_tree, mask_atom_tree, mask_item_tree, mask_items_tree, label_tree}
-use Rattle.filt_syntax.specs.ItemReaders.{part_at, pair_part_at, pair_at, bounds_at, lengths_at, item_at, items_at, mask_atom_at, mask_item_at, mask_items_at, mask_row_at, label_at}
-use Rattle.filt_syntax.proofs.ItemSteps.{part_is, pair_part_any, pair_part_some, pair_is, bounds_is, lengths_longer, lengths_shorter, lengths_none, braced_deep, braced_is, pair_deep, pair_item_is, prefix_item_is, item_part, item_turns, items_is, item_shorter, one_more_item, label_items_fail, label_colon_fails, label_got, mask_atom_one, mask_atom_any, mask_atom_part, mask_item_fails, mask_item_many, mask_item_once, mask_is, mask_row_end, mask_row_more, mask_row_fails, mask_item_shorter, one_more_mask_item}
+use Rattle.grammar.proofs.Shapes.{optional_alone, optional_pair, optional_first_fails, optional_second_fails}
+use Rattle.filt_syntax.proofs.ItemSteps.{part_is}
 use Rattle.filt_syntax.proofs.items.part.Goals as goal
 
 pub returns-in_err-low : goal.returns-in_err-low
 returns-in_err-low c =
     let p = err_from_is_err_and c.from_residual.result c.from_residual.ensures.1 in
-    rw (p.1, p.2, part_is 0 c.args.words.now) (search (optional_first_fails, c.in_err-low.ensures))
+    rw (p.1, p.2, part_is 0 c.args.words.now) (search (optional_first_fails, c.in_err-low.ensures.gives))
 
 pub returns-in_err-high-in-Some : goal.returns-in_err-high-in-Some
 returns-in_err-high-in-Some c =
     let p = err_from_is_err_and c.from_residual-in_err-high-in-Some.result c.from_residual-in_err-high-in-Some.ensures.1 in
-    rw (p.1, p.2, part_is 0 c.args.words.now) (search (optional_second_fails, c.in_ok-low.ensures, c.in-Some.ensures, c.in_err-high-in-Some.ensures))
+    rw (p.1, p.2, part_is 0 c.args.words.now) (search (optional_second_fails, c.in_ok-low.ensures.gives, c.in-Some.ensures, c.in_err-high-in-Some.ensures.gives))
 
 pub returns-in-None : goal.returns-in-None
 returns-in-None c =
-    part_is 0 c.args.words.now ∙ search (optional_alone, c.in_ok-low.ensures, c.in-None.ensures)
+    part_is 0 c.args.words.now ∙ search (optional_alone, c.in_ok-low.ensures.gives, c.in-None.ensures)
 
 pub returns-in_ok-high-in-Some : goal.returns-in_ok-high-in-Some
 returns-in_ok-high-in-Some c =
-    part_is 0 c.args.words.now ∙ search (optional_pair, c.in_ok-low.ensures, c.in-Some.ensures, c.in_ok-high-in-Some.ensures)
+    part_is 0 c.args.words.now ∙ search (optional_pair, c.in_ok-low.ensures.gives, c.in-Some.ensures, c.in_ok-high-in-Some.ensures.gives)

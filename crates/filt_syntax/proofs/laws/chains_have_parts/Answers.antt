@@ -1,8 +1,8 @@
-use Rattle.filt_syntax.proofs.ChainParts.{joint_parts, sum_parts, product_parts, access_parts}
+use Rattle.filt_syntax.proofs.ChainParts.{logical_op_parts, sum_parts, product_parts, access_parts}
 use Rattle.filt_syntax.proofs.laws.chains_have_parts.Goals as goal
 
-pub returns-clause-joint : goal.returns-clause-joint
-returns-clause-joint c = joint_parts
+pub returns-clause-logical_op : goal.returns-clause-logical_op
+returns-clause-logical_op c = logical_op_parts
 
 pub returns-clause-sum : goal.returns-clause-sum
 returns-clause-sum c = sum_parts

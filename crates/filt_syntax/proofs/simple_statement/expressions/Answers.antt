@@ -1,37 +1,30 @@
-use Rattle.std.proofs.Common.{◌≡◌, ℕ, ◌+◌, ◌<◌, ◌≤◌, Bool, true, false, List, [], ◌∷◌, ◌++◌, length, refl, sym as flip, ap, subst, ◌∙◌, arith, rules, ◌⊎◌, inl, inr, Option, Some, None}
+use Rattle.std.proofs.Common.{◌≡◌, List, [], ◌∷◌, ◌++◌, length, refl, sym as flip, ap, ◌∙◌, arith, rules}
 use Rattle.std.proofs.lemmas.Result.{err_from_is_err_and}
 use Rattle.std.proofs.lemmas.List.{length-append}
 use Rattle.conf_lex.specs.declared.symbol.Symbol.TheVariants as sym
 use Rattle.conf_lex.specs.declared.word.Word.{Word}
 use Rattle.conf_lex.specs.declared.word.Word.TheVariants as words
 use Rattle.grammar.specs.Kind.{symbol}
-use Rattle.grammar.specs.Grammar.{Tree, Leaf, Blank, Both, First, Second, Start, More, Inside}
-use Rattle.grammar.specs.Reading.{Read, Got, Fault, and_then, word, both}
-use Rattle.grammar.specs.Shapes.{symbol_leaf, links, closed, between}
-use Rattle.grammar.specs.Gives.{Fails}
-use Rattle.grammar.proofs.Shapes.{fails_then, fails_along, gives_along, optional_alone, optional_pair, optional_first_fails, optional_second_fails, links_more, links_fail, links_end, closed_got, closed_inside_fails, closed_end_fails}
-use Rattle.grammar.specs.Kind.{name}
-use Rattle.filt_syntax.specs.declared.tree.Expr.{Expr}
-use Rattle.filt_syntax.specs.declared.tree.Target.TheVariants as targets
-use Rattle.filt_syntax.specs.View.{sight, expr_trees, listed_tree, with_next}
-use Rattle.filt_syntax.specs.Readers.{expr_at, method_at, level_at}
-use Rattle.filt_syntax.specs.StatementView.{nth, semicolon_leaf, stmt_tree}
-use Rattle.filt_syntax.specs.StatementReaders.{stmt_at, of_name_at, vtype_at, change_at, declaration_at, initial_at, result_at, exprs_at}
-use Rattle.filt_syntax.proofs.StatementSteps.{type_set, type_alone, type_other, name_assigned, name_changed, name_called, change_empty, change_method, attribute_assigned, attribute_changed, initial_none, initial_some, declaration_is, empty_is, unset_is, accept_is, reject_is, return_none, return_some, printed_turns, exprs_is, printed_shorter, one_more_printed, print_is, print_part_is, stmt_declared, Others}
-use Rattle.filt_syntax.proofs.StatementTrees.{tree-Empty, tree-Declare, tree-Assign, tree-Change, tree-Unset, tree-Accept, tree-Reject, tree-Return, tree-Print, tree-PrintPart, tree-Call}
+use Rattle.grammar.specs.Grammar.{ParseTree}
+use Rattle.grammar.specs.Shapes.{links}
+use Rattle.grammar.proofs.Shapes.{fails_then, links_more, links_fail, links_end}
+use Rattle.filt_syntax.specs.View.{derivations, expr_trees, listed_tree}
+use Rattle.filt_syntax.specs.Readers.{expr_at}
+use Rattle.filt_syntax.proofs.StatementSteps.{printed_turns, exprs_is, one_more_printed}
+use Rattle.filt_syntax.proofs.Steps.{expr_shorter}
 use Rattle.filt_syntax.proofs.simple_statement.expressions.Goals as goal
 
 pub returns-in_err-first : goal.returns-in_err-first
 returns-in_err-first c =
     let p = err_from_is_err_and c.from_residual.result c.from_residual.ensures.1 in
-    rw (p.1, p.2, exprs_is c.args.left c.args.words.now) (fails_then _ _ _ c.in_err-first.ensures)
+    rw (p.1, p.2, exprs_is c.args.depth_left c.args.words.now) (fails_then _ _ _ c.in_err-first.ensures)
 
 pub loop-next-init : goal.loop-next-init
 loop-next-init c =
     let pushed : c.push.new.self.items ≡ c.in_ok-first.first ∷ [] = search rules in
     record {
       some = rw pushed (omega arith);
-      reading = rw pushed (exprs_is c.args.left c.args.words.now ∙ rw c.in_ok-first.ensures refl);
+      reading = rw pushed (exprs_is c.args.depth_left c.args.words.now ∙ rw c.in_ok-first.ensures refl);
     }
 
 pub returns-in_err-more : goal.returns-in_err-more
@@ -41,7 +34,7 @@ returns-in_err-more c =
 
 pub loop-next-smaller : goal.loop-next-smaller
 loop-next-smaller c =
-    omega (arith, printed_shorter c.args.left c.in-Some.next.now _ c.in_ok-more.end.now c.in_ok-more.ensures, ap (λ (ws : List Word). length ws) c.in-Some.ensures)
+    omega (arith, expr_shorter c.args.depth_left c.in-Some.next.now _ c.in_ok-more.end.now c.in_ok-more.ensures, ap (λ (ws : List Word). length ws) c.in-Some.ensures)
 
 pub loop-next-preserved : goal.loop-next-preserved
 loop-next-preserved c =
@@ -49,10 +42,10 @@ loop-next-preserved c =
     let e = c.in_ok-more.more in
     let end = c.in_ok-more.end.now in
     let pushed : c.push-in-Some.new.self.items ≡ es ++ e ∷ [] = search rules in
-    let turn = links_more (symbol sym.Comma) (expr_at c.args.left) (printed_turns c.args.left) (listed_tree (expr_trees es)) c.loop-next.rest.now (words.Symbol sym.Comma) c.in-Some.next.now (sight e).expr end c.in-Some.ensures refl c.in_ok-more.ensures in
+    let turn = links_more (symbol sym.Comma) (expr_at c.args.depth_left) (printed_turns c.args.depth_left) (listed_tree (expr_trees es)) c.loop-next.rest.now (words.Symbol sym.Comma) c.in-Some.next.now (derivations e).expr end c.in-Some.ensures refl c.in_ok-more.ensures in
     record {
       some = rw pushed (omega (arith, length-append es (e ∷ [])));
-      reading = rw pushed (c.loop-next.invariant.reading ∙ turn ∙ ap (λ (t : Tree). links (symbol sym.Comma) (expr_at c.args.left) t end) (flip (one_more_printed es e c.loop-next.invariant.some)));
+      reading = rw pushed (c.loop-next.invariant.reading ∙ turn ∙ ap (λ (t : ParseTree). links (symbol sym.Comma) (expr_at c.args.depth_left) t end) (flip (one_more_printed es e c.loop-next.invariant.some)));
     }
 
 pub returns : goal.returns

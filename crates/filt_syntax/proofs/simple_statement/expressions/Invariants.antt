@@ -1,4 +1,4 @@
-use Rattle.std.proofs.Common.{◌≡◌, ◌<◌, ◌+◌, ◌*◌, length}
+use Rattle.std.proofs.Common.{◌≡◌, ◌<◌, length}
 use Rattle.conf_lex.specs.declared.symbol.Symbol.TheVariants as sym
 use Rattle.grammar.specs.Kind.{symbol}
 use Rattle.grammar.specs.Shapes.{links}
@@ -10,7 +10,7 @@ use Rattle.filt_syntax.proofs.simple_statement.expressions.Given as goal
 abbrev pub invariant-loop-next : goal.invariant-loop-next
 invariant-loop-next l = record {
   some : 0 < length l.found.items;
-  reading : exprs_at l.left l.words ≡ links (symbol sym.Comma) (expr_at l.left) (listed_tree (expr_trees l.found.items)) l.rest;
+  reading : exprs_at l.depth_left l.words ≡ links (symbol sym.Comma) (expr_at l.depth_left) (listed_tree (expr_trees l.found.items)) l.rest;
 }
 
 abbrev pub decreases-loop-next : goal.decreases-loop-next

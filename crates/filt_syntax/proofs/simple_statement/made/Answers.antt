@@ -1,10 +1,10 @@
 use Rattle.std.proofs.Common.{◌≡◌, ap, sym as flip, ◌∙◌, rules}
-use Rattle.grammar.specs.Reading.{Got}
-use Rattle.filt_syntax.specs.declared.tree.Stmt.{Stmt}
+use Rattle.grammar.specs.Reading.{Parsed}
+use Rattle.filt_syntax.specs.declared.ast.Stmt.{Stmt}
 use Rattle.filt_syntax.specs.StatementView.{stmt_tree}
 use Rattle.filt_syntax.proofs.simple_statement.made.Goals as goal
 
 pub returns : goal.returns
 returns c =
     let same : c.in_ok-boxed.boxed.value ≡ c.args.stmt = search rules in
-    λ read is. is ∙ ap (λ (s : Stmt). Got (stmt_tree s) c.args.rest.now) (flip same)
+    λ read is. is ∙ ap (λ (s : Stmt). Parsed (stmt_tree s) c.args.rest.now) (flip same)

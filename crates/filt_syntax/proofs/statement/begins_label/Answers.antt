@@ -1,15 +1,4 @@
-use Rattle.std.proofs.Common.{◌≡◌, ℕ, ◌+◌, ◌<◌, ◌≤◌, Bool, true, false, List, [], ◌∷◌, ◌++◌, length, refl, sym as flip, ap, subst, ◌∙◌, arith, rules, ◌⊎◌, inl, inr, Option, Some, None}
-use Rattle.std.proofs.lemmas.Result.{err_from_is_err_and}
-use Rattle.std.proofs.lemmas.List.{length-append}
-use Rattle.conf_lex.specs.declared.symbol.Symbol.TheVariants as sym
-use Rattle.conf_lex.specs.declared.word.Word.{Word}
-use Rattle.conf_lex.specs.declared.word.Word.TheVariants as words
-use Rattle.grammar.specs.Kind.{symbol}
-use Rattle.grammar.specs.Grammar.{Tree, Leaf, Blank, Both, First, Second, Start, More, Inside}
-use Rattle.grammar.specs.Reading.{Read, Got, Fault, and_then, word, both}
-use Rattle.grammar.specs.Shapes.{symbol_leaf, links, closed, between}
-use Rattle.grammar.specs.Gives.{Fails}
-use Rattle.grammar.proofs.Shapes.{fails_then, fails_along, gives_along, optional_alone, optional_pair, optional_first_fails, optional_second_fails, links_more, links_fail, links_end, closed_got, closed_inside_fails, closed_end_fails}
+use Rattle.std.proofs.Common.{sym as flip, ◌∙◌}
 use Rattle.grammar.proofs.Shapes.{next_word}
 use Rattle.filt_syntax.proofs.ArmSteps.{label_named, label_unnamed}
 use Rattle.filt_syntax.proofs.statement.begins_label.Goals as goal

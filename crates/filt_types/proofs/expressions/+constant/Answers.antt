@@ -1,16 +1,16 @@
 use Rattle.std.proofs.Common.{Bool, ◌==◌, refl, ap, ◌∙◌, sym}
-use Rattle.filt_syntax.specs.declared.tree.Expr.{Expr}
+use Rattle.filt_syntax.specs.declared.ast.Expr.{Expr}
 use Rattle.conf_ast.specs.Filters.{expression_of}
 use Rattle.filt_types.specs.Expressions as ex
 use Rattle.filt_types.specs.Walk.{where_alone}
-use Rattle.filt_types.proofs.Alone.{alone-Product, alone-Sum, alone-Joint, alone-Access}
+use Rattle.filt_types.proofs.Alone.{alone-Product, alone-Sum, alone-Logical, alone-Postfix}
 use Rattle.filt_types.proofs.expressions.+constant.Goals as goal
 
-pub constant_word-returns-in-Access : goal.constant_word-returns-in-Access
-constant_word-returns-in-Access t c =
-    c.constant_alone.ensures ∙ ap (λ (b : Bool). where_alone b (ex.constant_word (expression_of c.deref-in-Access.result.now))) c.is_empty.ensures
-    ∙ ap (λ (x : Expr). where_alone (c.in-Access.more.len == 0) (ex.constant_word (expression_of x))) c.deref-in-Access.ensures
-    ∙ sym (ap (λ (x : Expr). ex.constant_word (expression_of x)) c.in-Access.is ∙ alone-Access (ex.constant_word) (λ a p. refl) (λ a b m place. refl) c.in-Access.operand c.in-Access.more)
+pub constant_word-returns-in-Postfix : goal.constant_word-returns-in-Postfix
+constant_word-returns-in-Postfix t c =
+    c.constant_alone.ensures ∙ ap (λ (b : Bool). where_alone b (ex.constant_word (expression_of c.deref-in-Postfix.result.now))) c.is_empty.ensures
+    ∙ ap (λ (x : Expr). where_alone (c.in-Postfix.more.len == 0) (ex.constant_word (expression_of x))) c.deref-in-Postfix.ensures
+    ∙ sym (ap (λ (x : Expr). ex.constant_word (expression_of x)) c.in-Postfix.is ∙ alone-Postfix (ex.constant_word) (λ a p. refl) (λ a b m place. refl) c.in-Postfix.operand c.in-Postfix.more)
 
 pub constant_word-returns-in-Product : goal.constant_word-returns-in-Product
 constant_word-returns-in-Product t c =
@@ -24,8 +24,8 @@ constant_word-returns-in-Sum t c =
     ∙ ap (λ (x : Expr). where_alone (c.in-Sum.more.len == 0) (ex.constant_word (expression_of x))) c.deref-in-Sum.ensures
     ∙ sym (ap (λ (x : Expr). ex.constant_word (expression_of x)) c.in-Sum.is ∙ alone-Sum (ex.constant_word) (λ a b op. refl) c.in-Sum.operand c.in-Sum.more)
 
-pub constant_word-returns-in-Joint : goal.constant_word-returns-in-Joint
-constant_word-returns-in-Joint t c =
-    c.constant_alone-in-Joint.ensures ∙ ap (λ (b : Bool). where_alone b (ex.constant_word (expression_of c.deref-in-Joint.result.now))) c.is_empty-in-Joint.ensures
-    ∙ ap (λ (x : Expr). where_alone (c.in-Joint.more.len == 0) (ex.constant_word (expression_of x))) c.deref-in-Joint.ensures
-    ∙ sym (ap (λ (x : Expr). ex.constant_word (expression_of x)) c.in-Joint.is ∙ alone-Joint (ex.constant_word) (λ a b op. refl) c.in-Joint.operand c.in-Joint.more)
+pub constant_word-returns-in-Logical : goal.constant_word-returns-in-Logical
+constant_word-returns-in-Logical t c =
+    c.constant_alone-in-Logical.ensures ∙ ap (λ (b : Bool). where_alone b (ex.constant_word (expression_of c.deref-in-Logical.result.now))) c.is_empty-in-Logical.ensures
+    ∙ ap (λ (x : Expr). where_alone (c.in-Logical.more.len == 0) (ex.constant_word (expression_of x))) c.deref-in-Logical.ensures
+    ∙ sym (ap (λ (x : Expr). ex.constant_word (expression_of x)) c.in-Logical.is ∙ alone-Logical (ex.constant_word) (λ a b op. refl) c.in-Logical.operand c.in-Logical.more)

@@ -1,10 +1,10 @@
 use Rattle.std.proofs.Common.{◌≡◌, ℕ, ◌+◌, ◌&&◌, ◌++◌, Bool, List, length, drop, Option, ap, ◌∙◌, sym, arith}
 use Rattle.std.proofs.lemmas.Bool.{eq-eqb}
-use Rattle.filt_syntax.specs.declared.tree.Access.{Access}
-use Rattle.filt_syntax.specs.declared.tree.Expr.{Expr}
-use Rattle.filt_syntax.specs.declared.tree.Factor.{Factor}
-use Rattle.filt_syntax.specs.declared.tree.Joint.{Joint}
-use Rattle.filt_syntax.specs.declared.tree.Term.{Term}
+use Rattle.filt_syntax.specs.declared.ast.Postfix.{Postfix}
+use Rattle.filt_syntax.specs.declared.ast.Expr.{Expr}
+use Rattle.filt_syntax.specs.declared.ast.MulOp.{MulOp}
+use Rattle.filt_syntax.specs.declared.ast.LogicalOp.{LogicalOp}
+use Rattle.filt_syntax.specs.declared.ast.AddOp.{AddOp}
 use Rattle.filt_values.specs.declared.value.Sort.{Sort}
 use Rattle.conf_ast.specs.Filters.{expression_of}
 use Rattle.filt_types.specs.declared.judged.Judged.{Judged}
@@ -16,92 +16,92 @@ use Rattle.filt_types.specs.Rules.{arithmetic, joining, comparing, method, negat
 use Rattle.filt_types.specs.Scenes.{function_of}
 use Rattle.filt_types.specs.Seen.{scene_in, variables_in, signature_of}
 use Rattle.filt_types.specs.Walk.{bare, front_of, is_of_parameter, rule_of, said_of, wants_parameter}
-use Rattle.filt_types.proofs.Cost.{item_below, cost, operand_cost, operands_cost, access_cost, accesses_cost, cost-Access, cost-Product, cost-Sum, cost-Joint}
+use Rattle.filt_types.proofs.Cost.{item_below, cost, operand_cost, operands_cost, access_cost, accesses_cost, cost-Postfix, cost-Product, cost-Sum, cost-Logical}
 use Rattle.filt_types.proofs.Firsts.{first_rest, and_apart}
 use Rattle.filt_types.proofs.Judging.{of_expr, of_exprs, of-Call, of-MethodCall, of-Not, of-Compare, whole_first, after_first, between_first, alone_first, walk, more_said, more_first, end_said, end_first, link, link_adds, reach, reach_adds, product_is, sum_is, joint_is, access_is, each_wanted, each_first, fit_more, fit_end, fit_not, as_many, call_fits, call_differs, wants_bare, pair_first}
 use Rattle.filt_types.proofs.Lookups.{next_item, nothing_left, vec_length, eqb-not}
 use Rattle.filt_types.proofs.expressions.+expressions.Goals as goal
 
 pub factors-with_right-left-requires : goal.factors-with_right-left-requires
-factors-with_right-left-requires t c = (omega (arith, item_below (operand_cost {Op = Factor}) c.args.more.now c.loop-x.x-index c.x-item.result c.loop-x-test.true c.x-item.is), tt)
+factors-with_right-left-requires t c = (omega (arith, item_below (operand_cost {Op = MulOp}) c.args.more.now c.loop-x.x-index c.x-item.result c.loop-x-test.true c.x-item.is), tt)
 
 pub factors-loop-x-preserved : goal.factors-loop-x-preserved
 factors-loop-x-preserved t c =
     let e = next_item c.args.more.now c.loop-x.x-index c.x-item.result c.loop-x-test.true c.x-item.is in
     let rest = drop (c.loop-x.x-index + 1) c.args.more.now in
     record {
-      judged = more_said (link {Op = Factor} c.args.seen arithmetic) (link_adds c.args.seen arithmetic) c.judge-left.result c.loop-x.left c.with_right-left.result c.x-item.result c.args.more.now rest
-          (c.loop-x.invariant.judged ∙ ap (λ (xs : List (Factor × Expr)). said_of (walk (link {Op = Factor} c.args.seen arithmetic) (bare c.loop-x.left) xs)) e) c.with_right-left.ensures.judged;
-      first = more_first (link {Op = Factor} c.args.seen arithmetic) (link_adds c.args.seen arithmetic) c.judge-left.result c.loop-x.left c.with_right-left.result c.x-item.result c.args.more.now rest c.judge-left.new.first c.loop-x.first c.with_right-left.new.first
-          (c.loop-x.invariant.first ∙ ap (λ (xs : List (Factor × Expr)). first_in c.loop-x.first (walk (link {Op = Factor} c.args.seen arithmetic) (bare c.loop-x.left) xs).refusals) e) c.with_right-left.ensures.judged c.with_right-left.ensures.first;
+      judged = more_said (link {Op = MulOp} c.args.seen arithmetic) (link_adds c.args.seen arithmetic) c.judge-left.result c.loop-x.left c.with_right-left.result c.x-item.result c.args.more.now rest
+          (c.loop-x.invariant.judged ∙ ap (λ (xs : List (MulOp × Expr)). said_of (walk (link {Op = MulOp} c.args.seen arithmetic) (bare c.loop-x.left) xs)) e) c.with_right-left.ensures.judged;
+      first = more_first (link {Op = MulOp} c.args.seen arithmetic) (link_adds c.args.seen arithmetic) c.judge-left.result c.loop-x.left c.with_right-left.result c.x-item.result c.args.more.now rest c.judge-left.new.first c.loop-x.first c.with_right-left.new.first
+          (c.loop-x.invariant.first ∙ ap (λ (xs : List (MulOp × Expr)). first_in c.loop-x.first (walk (link {Op = MulOp} c.args.seen arithmetic) (bare c.loop-x.left) xs).refusals) e) c.with_right-left.ensures.judged c.with_right-left.ensures.first;
     }
 
 pub factors-returns-clause-judged : goal.factors-returns-clause-judged
 factors-returns-clause-judged t c =
-    end_said (link {Op = Factor} c.args.seen arithmetic) (link_adds c.args.seen arithmetic) (of_expr c.args.seen c.args.operand.now) c.judge-left.result c.loop-x.left c.args.more.now (drop c.loop-x.x-index c.args.more.now) c.judge-left.ensures.judged c.loop-x.invariant.judged (nothing_left c.args.more.now c.loop-x.x-index c.loop-x-test.false)
+    end_said (link {Op = MulOp} c.args.seen arithmetic) (link_adds c.args.seen arithmetic) (of_expr c.args.seen c.args.operand.now) c.judge-left.result c.loop-x.left c.args.more.now (drop c.loop-x.x-index c.args.more.now) c.judge-left.ensures.judged c.loop-x.invariant.judged (nothing_left c.args.more.now c.loop-x.x-index c.loop-x-test.false)
     ∙ ap (λ (j : Judgement). said_of j) (sym (product_is c.args.seen (expression_of c.args.operand.now) c.args.more.now))
 
 pub factors-returns-clause-first : goal.factors-returns-clause-first
 factors-returns-clause-first t c =
-    end_first (link {Op = Factor} c.args.seen arithmetic) (link_adds c.args.seen arithmetic) (of_expr c.args.seen c.args.operand.now) c.judge-left.result c.loop-x.left c.args.more.now (drop c.loop-x.x-index c.args.more.now) c.args.first.now c.judge-left.new.first c.loop-x.first c.judge-left.ensures.judged c.judge-left.ensures.first c.loop-x.invariant.first (nothing_left c.args.more.now c.loop-x.x-index c.loop-x-test.false)
+    end_first (link {Op = MulOp} c.args.seen arithmetic) (link_adds c.args.seen arithmetic) (of_expr c.args.seen c.args.operand.now) c.judge-left.result c.loop-x.left c.args.more.now (drop c.loop-x.x-index c.args.more.now) c.args.first.now c.judge-left.new.first c.loop-x.first c.judge-left.ensures.judged c.judge-left.ensures.first c.loop-x.invariant.first (nothing_left c.args.more.now c.loop-x.x-index c.loop-x-test.false)
     ∙ ap (λ (j : Judgement). first_in c.args.first.now j.refusals) (sym (product_is c.args.seen (expression_of c.args.operand.now) c.args.more.now))
 
 pub judge-factors-requires : goal.judge-factors-requires
-judge-factors-requires t c = (omega (arith, ap (λ (x : Expr). cost x) c.in-Product.is, cost-Product c.in-Product.operand c.in-Product.more, ap (λ (x : Expr). cost x) c.deref-in-Product.ensures, ap (λ (xs : List (Factor × Expr)). operands_cost xs) c.deref-in-Product-2.ensures.value), tt)
+judge-factors-requires t c = (omega (arith, ap (λ (x : Expr). cost x) c.in-Product.is, cost-Product c.in-Product.operand c.in-Product.more, ap (λ (x : Expr). cost x) c.deref-in-Product.ensures, ap (λ (xs : List (MulOp × Expr)). operands_cost xs) c.deref-in-Product-2.ensures.value), tt)
 
 pub terms-with_right-left-requires : goal.terms-with_right-left-requires
-terms-with_right-left-requires t c = (omega (arith, item_below (operand_cost {Op = Term}) c.args.more.now c.loop-x.x-index c.x-item.result c.loop-x-test.true c.x-item.is), tt)
+terms-with_right-left-requires t c = (omega (arith, item_below (operand_cost {Op = AddOp}) c.args.more.now c.loop-x.x-index c.x-item.result c.loop-x-test.true c.x-item.is), tt)
 
 pub terms-loop-x-preserved : goal.terms-loop-x-preserved
 terms-loop-x-preserved t c =
     let e = next_item c.args.more.now c.loop-x.x-index c.x-item.result c.loop-x-test.true c.x-item.is in
     let rest = drop (c.loop-x.x-index + 1) c.args.more.now in
     record {
-      judged = more_said (link {Op = Term} c.args.seen arithmetic) (link_adds c.args.seen arithmetic) c.judge-left.result c.loop-x.left c.with_right-left.result c.x-item.result c.args.more.now rest
-          (c.loop-x.invariant.judged ∙ ap (λ (xs : List (Term × Expr)). said_of (walk (link {Op = Term} c.args.seen arithmetic) (bare c.loop-x.left) xs)) e) c.with_right-left.ensures.judged;
-      first = more_first (link {Op = Term} c.args.seen arithmetic) (link_adds c.args.seen arithmetic) c.judge-left.result c.loop-x.left c.with_right-left.result c.x-item.result c.args.more.now rest c.judge-left.new.first c.loop-x.first c.with_right-left.new.first
-          (c.loop-x.invariant.first ∙ ap (λ (xs : List (Term × Expr)). first_in c.loop-x.first (walk (link {Op = Term} c.args.seen arithmetic) (bare c.loop-x.left) xs).refusals) e) c.with_right-left.ensures.judged c.with_right-left.ensures.first;
+      judged = more_said (link {Op = AddOp} c.args.seen arithmetic) (link_adds c.args.seen arithmetic) c.judge-left.result c.loop-x.left c.with_right-left.result c.x-item.result c.args.more.now rest
+          (c.loop-x.invariant.judged ∙ ap (λ (xs : List (AddOp × Expr)). said_of (walk (link {Op = AddOp} c.args.seen arithmetic) (bare c.loop-x.left) xs)) e) c.with_right-left.ensures.judged;
+      first = more_first (link {Op = AddOp} c.args.seen arithmetic) (link_adds c.args.seen arithmetic) c.judge-left.result c.loop-x.left c.with_right-left.result c.x-item.result c.args.more.now rest c.judge-left.new.first c.loop-x.first c.with_right-left.new.first
+          (c.loop-x.invariant.first ∙ ap (λ (xs : List (AddOp × Expr)). first_in c.loop-x.first (walk (link {Op = AddOp} c.args.seen arithmetic) (bare c.loop-x.left) xs).refusals) e) c.with_right-left.ensures.judged c.with_right-left.ensures.first;
     }
 
 pub terms-returns-clause-judged : goal.terms-returns-clause-judged
 terms-returns-clause-judged t c =
-    end_said (link {Op = Term} c.args.seen arithmetic) (link_adds c.args.seen arithmetic) (of_expr c.args.seen c.args.operand.now) c.judge-left.result c.loop-x.left c.args.more.now (drop c.loop-x.x-index c.args.more.now) c.judge-left.ensures.judged c.loop-x.invariant.judged (nothing_left c.args.more.now c.loop-x.x-index c.loop-x-test.false)
+    end_said (link {Op = AddOp} c.args.seen arithmetic) (link_adds c.args.seen arithmetic) (of_expr c.args.seen c.args.operand.now) c.judge-left.result c.loop-x.left c.args.more.now (drop c.loop-x.x-index c.args.more.now) c.judge-left.ensures.judged c.loop-x.invariant.judged (nothing_left c.args.more.now c.loop-x.x-index c.loop-x-test.false)
     ∙ ap (λ (j : Judgement). said_of j) (sym (sum_is c.args.seen (expression_of c.args.operand.now) c.args.more.now))
 
 pub terms-returns-clause-first : goal.terms-returns-clause-first
 terms-returns-clause-first t c =
-    end_first (link {Op = Term} c.args.seen arithmetic) (link_adds c.args.seen arithmetic) (of_expr c.args.seen c.args.operand.now) c.judge-left.result c.loop-x.left c.args.more.now (drop c.loop-x.x-index c.args.more.now) c.args.first.now c.judge-left.new.first c.loop-x.first c.judge-left.ensures.judged c.judge-left.ensures.first c.loop-x.invariant.first (nothing_left c.args.more.now c.loop-x.x-index c.loop-x-test.false)
+    end_first (link {Op = AddOp} c.args.seen arithmetic) (link_adds c.args.seen arithmetic) (of_expr c.args.seen c.args.operand.now) c.judge-left.result c.loop-x.left c.args.more.now (drop c.loop-x.x-index c.args.more.now) c.args.first.now c.judge-left.new.first c.loop-x.first c.judge-left.ensures.judged c.judge-left.ensures.first c.loop-x.invariant.first (nothing_left c.args.more.now c.loop-x.x-index c.loop-x-test.false)
     ∙ ap (λ (j : Judgement). first_in c.args.first.now j.refusals) (sym (sum_is c.args.seen (expression_of c.args.operand.now) c.args.more.now))
 
 pub judge-terms-requires : goal.judge-terms-requires
-judge-terms-requires t c = (omega (arith, ap (λ (x : Expr). cost x) c.in-Sum.is, cost-Sum c.in-Sum.operand c.in-Sum.more, ap (λ (x : Expr). cost x) c.deref-in-Sum.ensures, ap (λ (xs : List (Term × Expr)). operands_cost xs) c.deref-in-Sum-2.ensures.value), tt)
+judge-terms-requires t c = (omega (arith, ap (λ (x : Expr). cost x) c.in-Sum.is, cost-Sum c.in-Sum.operand c.in-Sum.more, ap (λ (x : Expr). cost x) c.deref-in-Sum.ensures, ap (λ (xs : List (AddOp × Expr)). operands_cost xs) c.deref-in-Sum-2.ensures.value), tt)
 
 pub joints-with_right-left-requires : goal.joints-with_right-left-requires
-joints-with_right-left-requires t c = (omega (arith, item_below (operand_cost {Op = Joint}) c.args.more.now c.loop-x.x-index c.x-item.result c.loop-x-test.true c.x-item.is), tt)
+joints-with_right-left-requires t c = (omega (arith, item_below (operand_cost {Op = LogicalOp}) c.args.more.now c.loop-x.x-index c.x-item.result c.loop-x-test.true c.x-item.is), tt)
 
 pub joints-loop-x-preserved : goal.joints-loop-x-preserved
 joints-loop-x-preserved t c =
     let e = next_item c.args.more.now c.loop-x.x-index c.x-item.result c.loop-x-test.true c.x-item.is in
     let rest = drop (c.loop-x.x-index + 1) c.args.more.now in
     record {
-      judged = more_said (link {Op = Joint} c.args.seen joining) (link_adds c.args.seen joining) c.judge-left.result c.loop-x.left c.with_right-left.result c.x-item.result c.args.more.now rest
-          (c.loop-x.invariant.judged ∙ ap (λ (xs : List (Joint × Expr)). said_of (walk (link {Op = Joint} c.args.seen joining) (bare c.loop-x.left) xs)) e) c.with_right-left.ensures.judged;
-      first = more_first (link {Op = Joint} c.args.seen joining) (link_adds c.args.seen joining) c.judge-left.result c.loop-x.left c.with_right-left.result c.x-item.result c.args.more.now rest c.judge-left.new.first c.loop-x.first c.with_right-left.new.first
-          (c.loop-x.invariant.first ∙ ap (λ (xs : List (Joint × Expr)). first_in c.loop-x.first (walk (link {Op = Joint} c.args.seen joining) (bare c.loop-x.left) xs).refusals) e) c.with_right-left.ensures.judged c.with_right-left.ensures.first;
+      judged = more_said (link {Op = LogicalOp} c.args.seen joining) (link_adds c.args.seen joining) c.judge-left.result c.loop-x.left c.with_right-left.result c.x-item.result c.args.more.now rest
+          (c.loop-x.invariant.judged ∙ ap (λ (xs : List (LogicalOp × Expr)). said_of (walk (link {Op = LogicalOp} c.args.seen joining) (bare c.loop-x.left) xs)) e) c.with_right-left.ensures.judged;
+      first = more_first (link {Op = LogicalOp} c.args.seen joining) (link_adds c.args.seen joining) c.judge-left.result c.loop-x.left c.with_right-left.result c.x-item.result c.args.more.now rest c.judge-left.new.first c.loop-x.first c.with_right-left.new.first
+          (c.loop-x.invariant.first ∙ ap (λ (xs : List (LogicalOp × Expr)). first_in c.loop-x.first (walk (link {Op = LogicalOp} c.args.seen joining) (bare c.loop-x.left) xs).refusals) e) c.with_right-left.ensures.judged c.with_right-left.ensures.first;
     }
 
 pub joints-returns-clause-judged : goal.joints-returns-clause-judged
 joints-returns-clause-judged t c =
-    end_said (link {Op = Joint} c.args.seen joining) (link_adds c.args.seen joining) (of_expr c.args.seen c.args.operand.now) c.judge-left.result c.loop-x.left c.args.more.now (drop c.loop-x.x-index c.args.more.now) c.judge-left.ensures.judged c.loop-x.invariant.judged (nothing_left c.args.more.now c.loop-x.x-index c.loop-x-test.false)
+    end_said (link {Op = LogicalOp} c.args.seen joining) (link_adds c.args.seen joining) (of_expr c.args.seen c.args.operand.now) c.judge-left.result c.loop-x.left c.args.more.now (drop c.loop-x.x-index c.args.more.now) c.judge-left.ensures.judged c.loop-x.invariant.judged (nothing_left c.args.more.now c.loop-x.x-index c.loop-x-test.false)
     ∙ ap (λ (j : Judgement). said_of j) (sym (joint_is c.args.seen (expression_of c.args.operand.now) c.args.more.now))
 
 pub joints-returns-clause-first : goal.joints-returns-clause-first
 joints-returns-clause-first t c =
-    end_first (link {Op = Joint} c.args.seen joining) (link_adds c.args.seen joining) (of_expr c.args.seen c.args.operand.now) c.judge-left.result c.loop-x.left c.args.more.now (drop c.loop-x.x-index c.args.more.now) c.args.first.now c.judge-left.new.first c.loop-x.first c.judge-left.ensures.judged c.judge-left.ensures.first c.loop-x.invariant.first (nothing_left c.args.more.now c.loop-x.x-index c.loop-x-test.false)
+    end_first (link {Op = LogicalOp} c.args.seen joining) (link_adds c.args.seen joining) (of_expr c.args.seen c.args.operand.now) c.judge-left.result c.loop-x.left c.args.more.now (drop c.loop-x.x-index c.args.more.now) c.args.first.now c.judge-left.new.first c.loop-x.first c.judge-left.ensures.judged c.judge-left.ensures.first c.loop-x.invariant.first (nothing_left c.args.more.now c.loop-x.x-index c.loop-x-test.false)
     ∙ ap (λ (j : Judgement). first_in c.args.first.now j.refusals) (sym (joint_is c.args.seen (expression_of c.args.operand.now) c.args.more.now))
 
 pub judge-joints-requires : goal.judge-joints-requires
-judge-joints-requires t c = (omega (arith, ap (λ (x : Expr). cost x) c.in-Joint.is, cost-Joint c.in-Joint.operand c.in-Joint.more, ap (λ (x : Expr). cost x) c.deref-in-Joint.ensures, ap (λ (xs : List (Joint × Expr)). operands_cost xs) c.deref-in-Joint-2.ensures.value), tt)
+judge-joints-requires t c = (omega (arith, ap (λ (x : Expr). cost x) c.in-Logical.is, cost-Logical c.in-Logical.operand c.in-Logical.more, ap (λ (x : Expr). cost x) c.deref-in-Logical.ensures, ap (λ (xs : List (LogicalOp × Expr)). operands_cost xs) c.deref-in-Logical-2.ensures.value), tt)
 
 pub accesses-access-left-requires : goal.accesses-access-left-requires
 accesses-access-left-requires t c = (omega (arith, item_below access_cost c.args.more.now c.loop-x.x-index c.x-item.result c.loop-x-test.true c.x-item.is), tt)
@@ -112,9 +112,9 @@ accesses-loop-x-preserved t c =
     let rest = drop (c.loop-x.x-index + 1) c.args.more.now in
     record {
       judged = more_said (reach c.args.seen) (reach_adds c.args.seen) c.judge-left.result c.loop-x.left c.access-left.result c.x-item.result c.args.more.now rest
-          (c.loop-x.invariant.judged ∙ ap (λ (xs : List (Access Expr)). said_of (walk (reach c.args.seen) (bare c.loop-x.left) xs)) e) c.access-left.ensures.judged;
+          (c.loop-x.invariant.judged ∙ ap (λ (xs : List (Postfix Expr)). said_of (walk (reach c.args.seen) (bare c.loop-x.left) xs)) e) c.access-left.ensures.judged;
       first = more_first (reach c.args.seen) (reach_adds c.args.seen) c.judge-left.result c.loop-x.left c.access-left.result c.x-item.result c.args.more.now rest c.judge-left.new.first c.loop-x.first c.access-left.new.first
-          (c.loop-x.invariant.first ∙ ap (λ (xs : List (Access Expr)). first_in c.loop-x.first (walk (reach c.args.seen) (bare c.loop-x.left) xs).refusals) e) c.access-left.ensures.judged c.access-left.ensures.first;
+          (c.loop-x.invariant.first ∙ ap (λ (xs : List (Postfix Expr)). first_in c.loop-x.first (walk (reach c.args.seen) (bare c.loop-x.left) xs).refusals) e) c.access-left.ensures.judged c.access-left.ensures.first;
     }
 
 pub accesses-returns-clause-judged : goal.accesses-returns-clause-judged
@@ -128,7 +128,7 @@ accesses-returns-clause-first t c =
     ∙ ap (λ (j : Judgement). first_in c.args.first.now j.refusals) (sym (access_is c.args.seen (expression_of c.args.operand.now) c.args.more.now))
 
 pub judge-accesses-requires : goal.judge-accesses-requires
-judge-accesses-requires t c = (omega (arith, ap (λ (x : Expr). cost x) c.in-Access.is, cost-Access c.in-Access.operand c.in-Access.more, ap (λ (x : Expr). cost x) c.deref-in-Access.ensures, ap (λ (xs : List (Access Expr)). accesses_cost xs) c.deref-in-Access-2.ensures.value), tt)
+judge-accesses-requires t c = (omega (arith, ap (λ (x : Expr). cost x) c.in-Postfix.is, cost-Postfix c.in-Postfix.operand c.in-Postfix.more, ap (λ (x : Expr). cost x) c.deref-in-Postfix.ensures, ap (λ (xs : List (Postfix Expr)). accesses_cost xs) c.deref-in-Postfix-2.ensures.value), tt)
 
 pub with_right-returns-clause-first : goal.with_right-returns-clause-first
 with_right-returns-clause-first t c =

@@ -1,18 +1,18 @@
 use Rattle.std.proofs.Common.{Bool, ◌==◌, refl, ap, ◌∙◌, sym}
-use Rattle.filt_syntax.specs.declared.tree.Expr.{Expr}
+use Rattle.filt_syntax.specs.declared.ast.Expr.{Expr}
 use Rattle.conf_ast.specs.Filters.{expression_of}
 use Rattle.filt_types.specs.Expressions as ex
 use Rattle.filt_types.specs.Seen.{scene_in, variables_in}
 use Rattle.filt_types.specs.Walk.{where_alone}
-use Rattle.filt_types.proofs.Alone.{alone-Product, alone-Sum, alone-Joint, alone-Access}
-use Rattle.filt_types.proofs.Trees.{is-Simple}
+use Rattle.filt_types.proofs.Alone.{alone-Product, alone-Sum, alone-Logical, alone-Postfix}
+use Rattle.filt_types.proofs.Trees.{is-Atom}
 use Rattle.filt_types.proofs.expressions.+written.Goals as goal
 
-pub written-returns-in-Access : goal.written-returns-in-Access
-written-returns-in-Access t c =
+pub written-returns-in-Postfix : goal.written-returns-in-Postfix
+written-returns-in-Postfix t c =
     c.written_alone.ensures ∙ ap (λ (b : Bool). where_alone b (ex.written (scene_in c.args.seen) (variables_in c.args.seen) (expression_of c.deref.result.now))) c.is_empty.ensures
-    ∙ ap (λ (x : Expr). where_alone (c.in-Access.more.len == 0) (ex.written (scene_in c.args.seen) (variables_in c.args.seen) (expression_of x))) c.deref.ensures
-    ∙ sym (ap (λ (x : Expr). ex.written (scene_in c.args.seen) (variables_in c.args.seen) (expression_of x)) c.in-Access.is ∙ alone-Access (ex.written (scene_in c.args.seen) (variables_in c.args.seen)) (λ a p. refl) (λ a b m place. refl) c.in-Access.operand c.in-Access.more)
+    ∙ ap (λ (x : Expr). where_alone (c.in-Postfix.more.len == 0) (ex.written (scene_in c.args.seen) (variables_in c.args.seen) (expression_of x))) c.deref.ensures
+    ∙ sym (ap (λ (x : Expr). ex.written (scene_in c.args.seen) (variables_in c.args.seen) (expression_of x)) c.in-Postfix.is ∙ alone-Postfix (ex.written (scene_in c.args.seen) (variables_in c.args.seen)) (λ a p. refl) (λ a b m place. refl) c.in-Postfix.operand c.in-Postfix.more)
 
 pub written-returns-in-Product : goal.written-returns-in-Product
 written-returns-in-Product t c =
@@ -26,12 +26,12 @@ written-returns-in-Sum t c =
     ∙ ap (λ (x : Expr). where_alone (c.in-Sum.more.len == 0) (ex.written (scene_in c.args.seen) (variables_in c.args.seen) (expression_of x))) c.deref-in-Sum.ensures
     ∙ sym (ap (λ (x : Expr). ex.written (scene_in c.args.seen) (variables_in c.args.seen) (expression_of x)) c.in-Sum.is ∙ alone-Sum (ex.written (scene_in c.args.seen) (variables_in c.args.seen)) (λ a b op. refl) c.in-Sum.operand c.in-Sum.more)
 
-pub written-returns-in-Joint : goal.written-returns-in-Joint
-written-returns-in-Joint t c =
-    c.written_alone-in-Joint.ensures ∙ ap (λ (b : Bool). where_alone b (ex.written (scene_in c.args.seen) (variables_in c.args.seen) (expression_of c.deref-in-Joint.result.now))) c.is_empty-in-Joint.ensures
-    ∙ ap (λ (x : Expr). where_alone (c.in-Joint.more.len == 0) (ex.written (scene_in c.args.seen) (variables_in c.args.seen) (expression_of x))) c.deref-in-Joint.ensures
-    ∙ sym (ap (λ (x : Expr). ex.written (scene_in c.args.seen) (variables_in c.args.seen) (expression_of x)) c.in-Joint.is ∙ alone-Joint (ex.written (scene_in c.args.seen) (variables_in c.args.seen)) (λ a b op. refl) c.in-Joint.operand c.in-Joint.more)
+pub written-returns-in-Logical : goal.written-returns-in-Logical
+written-returns-in-Logical t c =
+    c.written_alone-in-Logical.ensures ∙ ap (λ (b : Bool). where_alone b (ex.written (scene_in c.args.seen) (variables_in c.args.seen) (expression_of c.deref-in-Logical.result.now))) c.is_empty-in-Logical.ensures
+    ∙ ap (λ (x : Expr). where_alone (c.in-Logical.more.len == 0) (ex.written (scene_in c.args.seen) (variables_in c.args.seen) (expression_of x))) c.deref-in-Logical.ensures
+    ∙ sym (ap (λ (x : Expr). ex.written (scene_in c.args.seen) (variables_in c.args.seen) (expression_of x)) c.in-Logical.is ∙ alone-Logical (ex.written (scene_in c.args.seen) (variables_in c.args.seen)) (λ a b op. refl) c.in-Logical.operand c.in-Logical.more)
 
-pub written-returns-in-Simple : goal.written-returns-in-Simple
-written-returns-in-Simple t c =
-    c.written_word.ensures (scene_in c.args.seen) (variables_in c.args.seen) ∙ sym (ap (λ (x : Expr). ex.written (scene_in c.args.seen) (variables_in c.args.seen) (expression_of x)) c.in-Simple.is ∙ ap (ex.written (scene_in c.args.seen) (variables_in c.args.seen)) (is-Simple c.in-Simple.word))
+pub written-returns-in-Atom : goal.written-returns-in-Atom
+written-returns-in-Atom t c =
+    c.written_word.ensures (scene_in c.args.seen) (variables_in c.args.seen) ∙ sym (ap (λ (x : Expr). ex.written (scene_in c.args.seen) (variables_in c.args.seen) (expression_of x)) c.in-Atom.is ∙ ap (ex.written (scene_in c.args.seen) (variables_in c.args.seen)) (is-Atom c.in-Atom.word))

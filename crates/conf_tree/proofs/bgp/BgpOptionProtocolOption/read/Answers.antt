@@ -7,17 +7,17 @@ use Rattle.conf_tree.proofs.bgp.BgpOptionProtocolOption.read.Goals as goal
 pub returns-in-Some : goal.returns-in-Some
 unfolding bgp_option_at
 returns-in-Some c =
-    gives_along bgp_option_tree _ _ _ (bgp_channel c.args.left c.in-Some.at c.in-Some.family c.args.words.now c.in-Some.behind.now c.in-Some.ensures) c.channel_option.ensures
+    gives_along bgp_option_tree _ _ _ (bgp_channel c.args.depth_left c.in-Some.at c.in-Some.family c.args.words.now c.in-Some.behind.now c.in-Some.ensures) c.channel_option.ensures
 
 pub returns-in-Some-after : goal.returns-in-Some-after
 unfolding bgp_option_at
 returns-in-Some-after c =
-    gives_along bgp_option_tree _ _ _ (local_is c.args.left c.args.words.now c.in-Some-after.behind.now c.in-Some-after.ensures) c.local.ensures
+    gives_along bgp_option_tree _ _ _ (local_is c.args.depth_left c.args.words.now c.in-Some-after.behind.now c.in-Some-after.ensures) c.local.ensures
 
 pub returns-in-Some-after-2 : goal.returns-in-Some-after-2
 unfolding bgp_option_at
 returns-in-Some-after-2 c =
-    gives_along bgp_option_tree _ _ _ (neighbor_is c.args.left c.args.words.now c.in-Some-after-2.behind.now c.in-Some-after-2.ensures) c.neighbor.ensures
+    gives_along bgp_option_tree _ _ _ (neighbor_is c.args.depth_left c.args.words.now c.in-Some-after-2.behind.now c.in-Some-after-2.ensures) c.neighbor.ensures
 
 pub returns-in-Some-after-3 : goal.returns-in-Some-after-3
 unfolding bgp_option_at

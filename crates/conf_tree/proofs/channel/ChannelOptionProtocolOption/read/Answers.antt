@@ -7,7 +7,7 @@ use Rattle.conf_tree.proofs.channel.ChannelOptionProtocolOption.read.Goals as go
 pub returns-in-Some : goal.returns-in-Some
 unfolding channel_option_at
 returns-in-Some c =
-    gives_along channel_option_tree _ _ _ (option_table c.args.left c.args.words.now c.in-Some.rest.now c.in-Some.ensures) c.table_option.ensures
+    gives_along channel_option_tree _ _ _ (option_table c.args.depth_left c.args.words.now c.in-Some.rest.now c.in-Some.ensures) c.table_option.ensures
 
 pub returns-in-Some-after : goal.returns-in-Some-after
 unfolding channel_option_at
@@ -17,14 +17,14 @@ returns-in-Some-after c =
 pub returns-in-Some-after-2 : goal.returns-in-Some-after-2
 unfolding channel_option_at
 returns-in-Some-after-2 c =
-    gives_along channel_option_tree _ _ _ (option_export c.args.left c.args.words.now c.in-Some-after-2.rest.now c.in-Some-after-2.ensures) c.export_option.ensures
+    gives_along channel_option_tree _ _ _ (option_export c.args.depth_left c.args.words.now c.in-Some-after-2.rest.now c.in-Some-after-2.ensures) c.export_option.ensures
 
 pub returns-in-Some-after_placed : goal.returns-in-Some-after_placed
 unfolding channel_option_at
 returns-in-Some-after_placed c =
-    gives_along channel_option_tree _ _ _ (option_preference c.args.left c.in-Some-after_placed.at c.args.words.now c.in-Some-after_placed.rest.now c.in-Some-after_placed.ensures) c.preference.ensures
+    gives_along channel_option_tree _ _ _ (option_preference c.args.depth_left c.in-Some-after_placed.at c.args.words.now c.in-Some-after_placed.rest.now c.in-Some-after_placed.ensures) c.preference.ensures
 
 pub returns-in-None : goal.returns-in-None
 unfolding channel_option_at
 returns-in-None c =
-    gives_along channel_option_tree _ _ _ (option_hop c.args.left c.args.words.now c.in_default.ensures c.in_default-after.ensures c.in_default-after-2.ensures c.in-None.ensures) c.next_hop.ensures
+    gives_along channel_option_tree _ _ _ (option_hop c.args.depth_left c.args.words.now c.in_default.ensures c.in_default-after.ensures c.in_default-after-2.ensures c.in-None.ensures) c.next_hop.ensures

@@ -7,9 +7,9 @@ use Rattle.conf_tree.proofs.static_routes.StaticOptionProtocolOption.read.Goals 
 pub returns-in-Some : goal.returns-in-Some
 unfolding static_option_at
 returns-in-Some c =
-    gives_along static_option_tree _ _ _ (static_channel c.args.left c.in-Some.at c.in-Some.family c.args.words.now c.in-Some.behind.now c.in-Some.ensures) c.channel_option.ensures
+    gives_along static_option_tree _ _ _ (static_channel c.args.depth_left c.in-Some.at c.in-Some.family c.args.words.now c.in-Some.behind.now c.in-Some.ensures) c.channel_option.ensures
 
 pub returns-in-None : goal.returns-in-None
 unfolding static_option_at
 returns-in-None c =
-    gives_along static_option_tree _ _ _ (static_route c.args.left c.args.words.now c.in-None.ensures) c.route.ensures
+    gives_along static_option_tree _ _ _ (static_route c.args.depth_left c.args.words.now c.in-None.ensures) c.route.ensures

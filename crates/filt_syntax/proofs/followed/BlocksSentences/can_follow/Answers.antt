@@ -7,8 +7,8 @@ use Rattle.filt_syntax.proofs.followed.BlocksSentences.can_follow.Goals as goal
 
 pub returns-in-Ok : goal.returns-in-Ok
 returns-in-Ok c =
-    stands_follow block refl refl c.deref.result.now c.args.before.now c.args.word (c.deref.ensures.value ∙ c.in_ok-words.ensures) _ c.in-Ok.end c.in-Ok.ensures.tree _ (ap (λ (n : ℕ). nat_eq c.in-Ok.end n) (c.len.ensures ∙ sym c.deref.ensures.len))
+    stands_follow block refl c.deref.result.now c.args.before.now c.args.word (c.deref.ensures.value ∙ c.in_ok-words.ensures) _ c.in-Ok.end c.in-Ok.ensures.tree _ (ap (λ (n : ℕ). nat_eq c.in-Ok.end n) (c.len.ensures ∙ sym c.deref.ensures.len))
 
 pub returns : goal.returns
 returns c =
-    IfOk-weaker c.ends_by.result _ _ (λ can h. fault_follow block refl refl c.deref.result.now c.args.before.now c.args.word (c.deref.ensures.value ∙ c.in_ok-words.ensures) c.in-Err.fault c.requires c.in-Err.ensures.fault can (subst (λ (n : ℕ). IsEndBy c.in-Err.fault n can) (c.len-in-Err.ensures ∙ sym c.deref.ensures.len) h)) c.ends_by.ensures
+    IfOk-weaker c.ends_by.result _ _ (λ can h. fault_follow block refl c.deref.result.now c.args.before.now c.args.word (c.deref.ensures.value ∙ c.in_ok-words.ensures) c.in-Err.fault c.requires c.in-Err.ensures.fault can (subst (λ (n : ℕ). IsEndBy c.in-Err.fault n can) (c.len-in-Err.ensures ∙ sym c.deref.ensures.len) h)) c.ends_by.ensures

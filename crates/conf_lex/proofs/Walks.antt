@@ -1,0 +1,388 @@
+-- A text read token by token and word by word.
+use Rattle.std.proofs.Common.{◌≡◌, ℕ, ◌+◌, ◌-◌, ◌<◌, ◌≤◌, Bool, true, false, cond, ◌&&◌, List, [], ◌∷◌, ◌++◌, length, take, drop, Option, Some, None, refl, sym, ap, subst, ◌∙◌, arith, append_assoc, append-nil}
+use Rattle.std.specs.Bool.{then_some}
+use Rattle.std.specs.Prelude.{MatchOption, MatchResult, IfErr, IsErrAnd, Result, Ok, Err}
+use Rattle.std.proofs.lemmas.Bool.{false≢true}
+use Rattle.std.proofs.lemmas.List.{length-append, length-drop, drop-drop}
+use Rattle.bits_ip.specs.declared.address.Addr.{Addr}
+use Rattle.conf_lex.specs.declared.lexer.Spot.{Spot}
+use Rattle.conf_lex.specs.declared.symbol.Symbol.{Symbol}
+use Rattle.conf_lex.specs.declared.symbol.Symbol.TheVariants as symbols
+use Rattle.conf_lex.specs.declared.token.LexFault.{LexFault}
+use Rattle.conf_lex.specs.declared.token.LexFault.TheVariants as faults
+use Rattle.conf_lex.specs.declared.token.Token.{Token}
+use Rattle.conf_lex.specs.declared.token.TokenKind.{TokenKind}
+use Rattle.conf_lex.specs.declared.token.TokenKind.TheVariants as kinds
+use Rattle.conf_lex.specs.declared.word.Word.{Word}
+use Rattle.conf_lex.specs.declared.word.Word.TheVariants as words
+use Rattle.conf_lex.specs.Fronts.{begins_colons, Tells}
+use Rattle.conf_lex.specs.Shapes.{IsGap}
+use Rattle.conf_lex.specs.Lex.{IsNext, Lexes, Stops, HasNoSeparator, HasNoToken, IsBadAt, IsRefused}
+use Rattle.conf_lex.specs.Symbols.{symbol_of, is_placed, is_else, is_colon, is_slash}
+use Rattle.conf_lex.specs.Words.{slice_of, kind_symbol, token_symbol, spelled_word, kind_word, word_of, prefix_word, or_alone, slashed, first_word, words_from}
+use Rattle.conf_lex.specs.Walks.{IsSpot, IsStep, IsStuckFrom, IsWordStep, LexesFrom, begins_colon, number_of, first_number, first_length, IsColonStep, IsNumberStep, IsLengthStep}
+use Rattle.conf_lex.proofs.Tokens.{shape_some}
+use Rattle.conf_lex.proofs.Readings.{next_once, next_is, gap_no_next, gap_ends, gap_stops, lexes_once, lexes_or_stops, stops_once}
+use Rattle.conf_lex.proofs.Folded.{quotes_len, words_behind, drop_one}
+
+-- ---- tokens read so far
+
+-- whatever the rest of the text is completes them
+pub record IsRead (text : List ℕ) (found : List Token) (to : Spot) : Type 0 where
+  pub spot : IsSpot text to
+  pub tokens : (more : List Token) → LexesFrom text to more → Lexes 0 text (found ++ more)
+  pub stops : (more : List Token) (place : ℕ) → Stops to.at (drop to.at text) more place → Stops 0 text (found ++ more) place
+
+pub step_lexes : (text : List ℕ) (from to : Spot) (t : Token) (more : List Token) → IsStep text from t to → LexesFrom text to more → LexesFrom text from (t ∷ more)
+step_lexes text from to t more step rest = let P : ℕ → Type 0 = λ n. Lexes n (drop to.at text) more in (drop to.at text, step.next, subst P step.ends rest)
+
+pub step_stops : (text : List ℕ) (from to : Spot) (t : Token) (more : List Token) (place : ℕ) → IsStep text from t to → Stops to.at (drop to.at text) more place → Stops from.at (drop from.at text) (t ∷ more) place
+step_stops text from to t more place step rest = let P : ℕ → Type 0 = λ n. Stops n (drop to.at text) more place in (drop to.at text, step.next, subst P step.ends rest)
+
+pub read_more : (text : List ℕ) (found : List Token) (from to : Spot) (t : Token) → IsStep text from t to → IsRead text found from → IsRead text (found ++ t ∷ []) to
+read_more text found from to t step read =
+    record {
+      spot = step.spot;
+      tokens = λ more rest. rw append_assoc (read.tokens (t ∷ more) (step_lexes text from to t more step rest));
+      stops = λ more place rest. rw append_assoc (read.stops (t ∷ more) place (step_stops text from to t more place step rest));
+    }
+
+-- what the tokens are, that stand behind a place where one does
+pub step_back : (text : List ℕ) (from to : Spot) (t : Token) (ts : List Token) → IsStep text from t to → LexesFrom text from ts → (us : List Token) × (ts ≡ t ∷ us) × LexesFrom text to us
+step_back text from to t [] step lexes = gap_no_next from.at (drop from.at text) t (drop to.at text) lexes step.next
+step_back text from to t (u ∷ us) step lexes =
+    let same = next_once from.at (drop from.at text) t u (drop to.at text) lexes.0 step.next lexes.1 in
+    let P : List ℕ → Type 0 = λ l. Lexes (u.at + u.len) l us in
+    let Q : Token → Type 0 = λ v. Lexes (v.at + v.len) (drop to.at text) us in
+    let R : ℕ → Type 0 = λ n. Lexes n (drop to.at text) us in
+    (us, ap (λ (v : Token). v ∷ us) (sym same.0), subst R (sym step.ends) (subst Q (sym same.0) (subst P (sym same.1) lexes.2)))
+
+-- ---- one token
+
+next_len : (text : List ℕ) (from to : Spot) (t : Token) (next : IsNext from.at (drop from.at text) t (drop to.at text)) → length (drop from.at text) ≡ length next.gap + (length next.slice + length (drop to.at text))
+next_len text from to t next = ap (λ (l : List ℕ). length l) next.whole ∙ length-append next.gap (next.slice ++ drop to.at text) ∙ ap (λ (n : ℕ). length next.gap + n) (length-append next.slice (drop to.at text))
+
+pub step_made : (text : List ℕ) (from to : Spot) (t : Token) → from.at ≤ length text → to.at ≡ t.at + t.len → IsNext from.at (drop from.at text) t (drop to.at text)
+    → ((k : ℕ) → to.at + k < to.plain → begins_colons (drop (to.at + k) text) ≡ false) → IsStep text from t to
+step_made text from to t within ends next plain =
+    let len = next_len text from to t next in
+    let some = shape_some next.sort next.slice (drop to.at text) next.token.shape in
+    let far = length-drop from.at text in
+    record {
+      next = next;
+      ends = ends;
+      inside = record {
+        ends = omega (arith, within, len, far, next.at, next.len);
+        quotes = omega (arith, next.len, quotes_len next.sort next.slice (drop to.at text) t.kind next.token.shape next.value);
+      };
+      spot = record { within = omega (arith, within, len, far, ends, next.at, next.len); plain = plain };
+      rises = omega (arith, some, ends, next.at, next.len);
+    }
+
+-- what the gap says, of the text from a place on
+gap_along : (text here : List ℕ) (at g : ℕ) → here ≡ drop at text → IsGap (take g here) (drop g here) → IsGap (take g (drop at text)) (drop g (drop at text))
+gap_along text here at g is gap = let P : List ℕ → Type 0 = λ l. IsGap (take g l) (drop g l) in subst P is gap
+
+end_along : (text here : List ℕ) (at g : ℕ) → here ≡ drop at text → HasNoSeparator (drop g here) → HasNoSeparator (drop g (drop at text))
+end_along text here at g is bare = let P : List ℕ → Type 0 = λ l. HasNoSeparator (drop g l) in subst P is bare
+
+-- how far the gap reaches
+reach : (text here : List ℕ) (at g : ℕ) → at ≤ length text → here ≡ drop at text → g ≤ length here → at + g ≤ length text
+reach text here at g within is gap = omega (arith, gap, ap (λ (l : List ℕ). length l) is, length-drop at text)
+
+plain_along : (text rest : List ℕ) (from m k n : ℕ) → rest ≡ drop from text → m ≡ from + n → begins_colons (drop (n + k) rest) ≡ false → begins_colons (drop (m + k) text) ≡ false
+plain_along text rest from m k n is to plain =
+    let same : from + (n + k) ≡ m + k = omega (arith, to) in
+    ap begins_colons (ap (λ (i : ℕ). drop i text) (sym same) ∙ sym (drop-drop (n + k) from text) ∙ ap (λ (l : List ℕ). drop (n + k) l) (sym is)) ∙ plain
+
+module _ (text here rest : List ℕ) (at g : ℕ) (within : at ≤ length text) (here-is : here ≡ drop at text) (far : g ≤ length here) (gap : IsGap (take g here) (drop g here)) (rest-is : rest ≡ drop (at + g) text) where
+  -- all of the text is read
+  pub ended : length rest ≡ 0 → Lexes at (drop at text) []
+  ended none = gap_ends text at g within (gap_along text here at g here-is gap) (ap (λ (l : List ℕ). length l) (sym rest-is) ∙ none)
+
+  -- no token begins
+  pub stuck : HasNoSeparator (drop g here) → 0 < length rest → HasNoToken rest → Stops at (drop at text) [] (at + g)
+  stuck bare some none =
+      let P : List ℕ → Type 0 = λ l. HasNoToken l in
+      gap_stops text at g (reach text here at g within here-is far) (gap_along text here at g here-is gap) (end_along text here at g here-is bare)
+      (omega (arith, some, ap (λ (l : List ℕ). length l) rest-is)) (subst P rest-is none)
+
+  -- a token begins
+  pub stepped : (from to : Spot) (kind : TokenKind) (n : ℕ) → from.at ≡ at → to.at ≡ at + g + n → Tells rest kind n
+      → ((k : ℕ) → at + g + k < to.plain → begins_colons (drop k rest) ≡ false)
+      → IsStep text from (record { kind = kind; at = at + g; len = n }) to
+  stepped from to kind n from-is to-is tells plain =
+      let P : List ℕ → Type 0 = λ l. Tells l kind n in
+      let A : ℕ → Type 0 = λ m. IsNext m (drop m text) (record { kind = kind; at = at + g; len = n }) (drop to.at text) in
+      let B : ℕ → Type 0 = λ m. IsNext at (drop at text) (record { kind = kind; at = at + g; len = n }) (drop m text) in
+      let next = next_is text at g kind n (reach text here at g within here-is far) (gap_along text here at g here-is gap) (subst P rest-is tells) in
+      step_made text from to (record { kind = kind; at = at + g; len = n }) (omega (arith, within, from-is)) to-is (subst A (sym from-is) (subst B (sym to-is) next))
+      (λ k below. plain_along text rest (at + g) to.at k n rest-is to-is (plain (n + k) (omega (arith, below, to-is))))
+
+-- ---- one word
+
+-- the words of tokens of which the first begins a word of so many
+pub first_words : (text : List ℕ) (i : ℕ) (t : Token) (ts : List Token) (word : Word) (n : ℕ) → first_word text t ts ≡ (word, n) → 1 ≤ n → words_from text i 0 (t ∷ ts) ≡ (i, word) ∷ words_from text (i + n) 0 (drop n (t ∷ ts))
+first_words text i t ts word n is some =
+    let P : Word × ℕ → List (ℕ × Word) = λ w. (i, w.0) ∷ words_from text (i + 1) (w.1 - 1) ts in
+    let place : i + 1 + (n - 1) ≡ i + n = omega (arith, some) in
+    ap P is ∙ ap (λ (ws : List (ℕ × Word)). (i, word) ∷ ws)
+    (words_behind text (i + 1) (n - 1) ts ∙ ap (λ (m : ℕ). words_from text m 0 (drop (n - 1) ts)) place ∙ ap (λ (l : List Token). words_from text (i + n) 0 l) (drop_one n t ts some))
+
+-- a token alone
+pub word_alone : (text : List ℕ) (from to : Spot) (t : Token) → IsStep text from t to → ((more : List Token) → LexesFrom text to more → first_word text t more ≡ (word_of text t, 1)) → IsWordStep text from (word_of text t) to
+word_alone text from to t step alone =
+    record {
+      made = t ∷ [];
+      lexes = λ more rest. step_lexes text from to t more step rest;
+      words = λ i more rest. first_words text i t more (word_of text t) 1 (alone more rest) (omega arith);
+      spot = step.spot;
+      rises = step.rises;
+    }
+
+colon_first : (text : List ℕ) (t u : Token) (more : List Token) → is_else (token_symbol text t) ≡ true → is_colon (token_symbol text u) ≡ true → first_word text t (u ∷ more) ≡ (words.Symbol symbols.ElseColon, 2)
+colon_first text t u [] e c = rw (e, c) refl
+colon_first text t u (v ∷ more) e c = rw (e, c) refl
+
+-- `else` and a colon
+pub word_colon : (text : List ℕ) (from middle to : Spot) (t : Token) → is_else (token_symbol text t) ≡ true → IsStep text from t middle → IsColonStep text middle to → IsWordStep text from (words.Symbol symbols.ElseColon) to
+word_colon text from middle to t e step colon =
+    let u = colon.token in
+    record {
+      made = t ∷ u ∷ [];
+      lexes = λ more rest. step_lexes text from middle t (u ∷ more) step (step_lexes text middle to u more colon.step rest);
+      words = λ i more rest. first_words text i t (u ∷ more) (words.Symbol symbols.ElseColon) 2 (colon_first text t u more e colon.colon) (omega arith);
+      spot = colon.step.spot;
+      rises = omega (arith, step.rises, colon.step.rises);
+    }
+
+slashed_of : (text : List ℕ) (t u v : Token) (addr : Addr) (n : ℕ) → t.kind ≡ kinds.Ip addr → is_slash (token_symbol text u) ≡ true → v.kind ≡ kinds.Number n → slashed t.at t.kind (is_slash (token_symbol text u)) v.kind ≡ Some (prefix_word t.at addr n)
+slashed_of text t u v addr n kind slash number = rw (kind, slash, number) refl
+
+no_else : (text : List ℕ) (t : Token) (addr : Addr) → t.kind ≡ kinds.Ip addr → is_else (token_symbol text t) ≡ false
+no_else text t addr kind = ap (λ (k : TokenKind). is_else (kind_symbol (slice_of text t) k)) kind
+
+slash_first : (text : List ℕ) (t u v : Token) (more : List Token) (addr : Addr) (n : ℕ) → t.kind ≡ kinds.Ip addr → is_slash (token_symbol text u) ≡ true → v.kind ≡ kinds.Number n → first_word text t (u ∷ v ∷ more) ≡ (prefix_word t.at addr n, 3)
+slash_first text t u v more addr n kind slash number =
+    ap (λ (b : Bool). cond (b && is_colon (token_symbol text u)) (words.Symbol symbols.ElseColon, 2) (or_alone (slashed t.at t.kind (is_slash (token_symbol text u)) v.kind) (word_of text t))) (no_else text t addr kind)
+    ∙ ap (λ (o : Option Word). or_alone o (word_of text t)) (slashed_of text t u v addr n kind slash number)
+
+-- an address, a slash and a number
+pub word_slashed : (text : List ℕ) (from middle to : Spot) (t : Token) (addr : Addr) (n : ℕ) → t.kind ≡ kinds.Ip addr → IsStep text from t middle → IsLengthStep text middle n to → IsWordStep text from (prefix_word t.at addr n) to
+word_slashed text from middle to t addr n kind step behind =
+    let u = behind.token in let v = behind.number.token in
+    record {
+      made = t ∷ u ∷ v ∷ [];
+      lexes = λ more rest. step_lexes text from middle t (u ∷ v ∷ more) step (step_lexes text middle behind.middle u (v ∷ more) behind.step (step_lexes text behind.middle to v more behind.number.step rest));
+      words = λ i more rest. first_words text i t (u ∷ v ∷ more) (prefix_word t.at addr n) 3 (slash_first text t u v more addr n kind behind.slash behind.number.number) (omega arith);
+      spot = behind.number.step.spot;
+      rises = omega (arith, step.rises, behind.step.rises, behind.number.step.rises);
+    }
+
+-- ---- what a token's word says of it
+
+spelled_else : (t : Token) (o : Option Symbol) → is_else o ≡ true → spelled_word t o ≡ words.Symbol symbols.Else
+spelled_else t (Some symbols.Else) is = refl
+spelled_else t (Some _) is = absurd (false≢true is)
+spelled_else t None is = absurd (false≢true is)
+
+else_kind : (text : List ℕ) (t : Token) (kind : TokenKind) → is_else (kind_symbol (slice_of text t) kind) ≡ true → kind_word text t kind ≡ words.Symbol symbols.Else
+else_kind text t kinds.Name is = spelled_else t (symbol_of (slice_of text t)) is
+else_kind text t kinds.Punctuation is = spelled_else t (symbol_of (slice_of text t)) is
+else_kind text t _ is = absurd (false≢true is)
+
+placed_else : (at : ℕ) (symbol other : Symbol) (b : Bool) → cond b (words.Placed at symbol) (words.Symbol symbol) ≡ words.Symbol other → symbol ≡ other
+placed_else at symbol other true is = absurd (cc)
+placed_else at symbol other false is = cc
+
+placed_never : (at place : ℕ) (symbol : Symbol) (addr : Addr) (b : Bool) → cond b (words.Placed at symbol) (words.Symbol symbol) ≡ words.Ip place addr → ⊥
+placed_never at place symbol addr true is = cc
+placed_never at place symbol addr false is = cc
+
+spelled_back : (t : Token) (o : Option Symbol) → spelled_word t o ≡ words.Symbol symbols.Else → is_else o ≡ true
+spelled_back t None is = absurd (cc)
+spelled_back t (Some symbol) is = ap (λ (s : Symbol). is_else (Some s)) (placed_else t.at symbol symbols.Else (is_placed symbol) is)
+
+spelled_never : (t : Token) (o : Option Symbol) (at : ℕ) (addr : Addr) → spelled_word t o ≡ words.Ip at addr → ⊥
+spelled_never t None at addr is = cc
+spelled_never t (Some symbol) at addr is = placed_never t.at at symbol addr (is_placed symbol) is
+
+kind_else : (text : List ℕ) (t : Token) (kind : TokenKind) → kind_word text t kind ≡ words.Symbol symbols.Else → is_else (kind_symbol (slice_of text t) kind) ≡ true
+kind_else text t kinds.Name is = spelled_back t (symbol_of (slice_of text t)) is
+kind_else text t kinds.Punctuation is = spelled_back t (symbol_of (slice_of text t)) is
+kind_else text t kinds.QuotedName is = absurd (cc)
+kind_else text t kinds.Text is = absurd (cc)
+kind_else text t (kinds.Number n) is = absurd (cc)
+kind_else text t (kinds.Ip addr) is = absurd (cc)
+
+kind_ip : (text : List ℕ) (t : Token) (kind : TokenKind) (at : ℕ) (addr : Addr) → kind_word text t kind ≡ words.Ip at addr → (kind ≡ kinds.Ip addr) × (t.at ≡ at)
+kind_ip text t kinds.Name at addr is = absurd (spelled_never t (symbol_of (slice_of text t)) at addr is)
+kind_ip text t kinds.Punctuation at addr is = absurd (spelled_never t (symbol_of (slice_of text t)) at addr is)
+kind_ip text t kinds.QuotedName at addr is = absurd (cc)
+kind_ip text t kinds.Text at addr is = absurd (cc)
+kind_ip text t (kinds.Number n) at addr is = absurd (cc)
+kind_ip text t (kinds.Ip other) at addr is = (cc, cc)
+
+slashed_none : (text : List ℕ) (t : Token) (kind : TokenKind) → ((at : ℕ) (addr : Addr) → kind_word text t kind ≡ words.Ip at addr → ⊥) → (b : Bool) (k : TokenKind) → slashed t.at kind b k ≡ None
+slashed_none text t (kinds.Ip addr) never b k = absurd (never t.at addr refl)
+slashed_none text t _ never b k = refl
+
+-- ---- a token that is a word alone
+
+none_alone : (o : Option Word) (alone : Word) → o ≡ None → or_alone o alone ≡ (alone, 1)
+none_alone o alone none = ap (λ (p : Option Word). or_alone p alone) none
+
+not_both : (a b : Bool) (x y : Word × ℕ) → (a && b) ≡ false → cond (a && b) x y ≡ y
+not_both a b x y none = ap (λ (c : Bool). cond c x y) none
+
+alone_first : (text : List ℕ) (t : Token) (ts : List Token) → (is_else (token_symbol text t) && begins_colon text ts) ≡ false → ((b : Bool) (k : TokenKind) → slashed t.at t.kind b k ≡ None) → first_word text t ts ≡ (word_of text t, 1)
+alone_first text t [] other none = refl
+alone_first text t (u ∷ []) other none = not_both (is_else (token_symbol text t)) (is_colon (token_symbol text u)) _ _ other
+alone_first text t (u ∷ v ∷ ts) other none =
+    not_both (is_else (token_symbol text t)) (is_colon (token_symbol text u)) _ _ other
+    ∙ none_alone (slashed t.at t.kind (is_slash (token_symbol text u)) v.kind) (word_of text t) (none (is_slash (token_symbol text u)) v.kind)
+
+and_no : (a b : Bool) → a ≡ false → (a && b) ≡ false
+and_no a b is = ap (λ (c : Bool). c && b) is
+
+and_nor : (a b : Bool) → b ≡ false → (a && b) ≡ false
+and_nor true b is = is
+and_nor false b is = refl
+
+not_else : (text : List ℕ) (t : Token) (b : Bool) → is_else (token_symbol text t) ≡ b → (word_of text t ≡ words.Symbol symbols.Else → ⊥) → is_else (token_symbol text t) ≡ false
+not_else text t true is never = absurd (never (else_kind text t t.kind is))
+not_else text t false is never = is
+
+-- neither an address nor `else`
+pub word_plain : (text : List ℕ) (from to : Spot) (t : Token) (word : Word) → IsStep text from t to → word ≡ word_of text t → ((at : ℕ) (addr : Addr) → word ≡ words.Ip at addr → ⊥) → (word ≡ words.Symbol symbols.Else → ⊥) → IsWordStep text from word to
+word_plain text from to t word step is address other =
+    let P : Word → Type 0 = λ w. IsWordStep text from w to in
+    let plain = not_else text t (is_else (token_symbol text t)) refl (λ same. other (is ∙ same)) in
+    subst P (sym is) (word_alone text from to t step
+    (λ more rest. alone_first text t more (and_no (is_else (token_symbol text t)) (begins_colon text more) plain) (slashed_none text t t.kind (λ at addr same. address at addr (is ∙ same)))))
+
+symbol_ip : (symbol : Symbol) (at : ℕ) (addr : Addr) → words.Symbol symbol ≡ words.Ip at addr → ⊥
+symbol_ip symbol at addr same = cc
+
+symbol_inner : (symbol other : Symbol) → words.Symbol symbol ≡ words.Symbol other → symbol ≡ other
+symbol_inner symbol other same = cc
+
+-- a symbol that isn't `else`
+pub word_sign : (text : List ℕ) (from to : Spot) (t : Token) (symbol : Symbol) → IsStep text from t to → word_of text t ≡ words.Symbol symbol → (symbol ≡ symbols.Else → ⊥) → IsWordStep text from (words.Symbol symbol) to
+word_sign text from to t symbol step is other = word_plain text from to t (words.Symbol symbol) step (sym is) (λ at addr same. symbol_ip symbol at addr same) (λ same. other (symbol_inner symbol symbols.Else same))
+
+-- `else` without a colon
+pub word_else : (text : List ℕ) (from to : Spot) (t : Token) → IsStep text from t to → word_of text t ≡ words.Symbol symbols.Else → ((ts : List Token) → LexesFrom text to ts → begins_colon text ts ≡ false) → IsWordStep text from (words.Symbol symbols.Else) to
+word_else text from to t step is none =
+    let P : Word → Type 0 = λ w. IsWordStep text from w to in
+    subst P is (word_alone text from to t step
+    (λ more rest. alone_first text t more (and_nor (is_else (token_symbol text t)) (begins_colon text more) (none more rest)) (slashed_none text t t.kind (λ at addr same. symbol_ip symbols.Else at addr (sym is ∙ same)))))
+
+-- and with one
+pub word_else_colon : (text : List ℕ) (from middle to : Spot) (t : Token) → IsStep text from t middle → word_of text t ≡ words.Symbol symbols.Else → IsColonStep text middle to → IsWordStep text from (words.Symbol symbols.ElseColon) to
+word_else_colon text from middle to t step is colon = word_colon text from middle to t (kind_else text t t.kind is) step colon
+
+bare_kind : (text : List ℕ) (at : ℕ) (addr : Addr) (b : Bool) (k : TokenKind) → cond b (number_of k) None ≡ None → slashed at (kinds.Ip addr) b k ≡ None
+bare_kind text at addr false k none = refl
+bare_kind text at addr true (kinds.Number n) none = absurd (cc)
+bare_kind text at addr true _ none = refl
+
+bare_first : (text : List ℕ) (t : Token) (addr : Addr) (ts : List Token) → t.kind ≡ kinds.Ip addr → first_length text ts ≡ None → first_word text t ts ≡ (word_of text t, 1)
+bare_first text t addr [] kind none = refl
+bare_first text t addr (u ∷ []) kind none = not_both (is_else (token_symbol text t)) (is_colon (token_symbol text u)) _ _ (and_no (is_else (token_symbol text t)) (is_colon (token_symbol text u)) (no_else text t addr kind))
+bare_first text t addr (u ∷ v ∷ ts) kind none =
+    not_both (is_else (token_symbol text t)) (is_colon (token_symbol text u)) _ _ (and_no (is_else (token_symbol text t)) (is_colon (token_symbol text u)) (no_else text t addr kind))
+    ∙ none_alone (slashed t.at t.kind (is_slash (token_symbol text u)) v.kind) (word_of text t)
+    (ap (λ (k : TokenKind). slashed t.at k (is_slash (token_symbol text u)) v.kind) kind ∙ bare_kind text t.at addr (is_slash (token_symbol text u)) v.kind none)
+
+-- an address without a slash and a number
+pub word_bare : (text : List ℕ) (from to : Spot) (t : Token) (at : ℕ) (addr : Addr) → IsStep text from t to → word_of text t ≡ words.Ip at addr → ((ts : List Token) → LexesFrom text to ts → first_length text ts ≡ None) → IsWordStep text from (words.Ip at addr) to
+word_bare text from to t at addr step is none =
+    let P : Word → Type 0 = λ w. IsWordStep text from w to in
+    subst P is (word_alone text from to t step (λ more rest. bare_first text t addr more (kind_ip text t t.kind at addr is).0 (none more rest)))
+
+-- and with them
+pub word_prefix : (text : List ℕ) (from middle to : Spot) (t : Token) (at : ℕ) (addr : Addr) (n : ℕ) → IsStep text from t middle → word_of text t ≡ words.Ip at addr → IsLengthStep text middle n to → IsWordStep text from (prefix_word at addr n) to
+word_prefix text from middle to t at addr n step is behind =
+    let parts = kind_ip text t t.kind at addr is in
+    let P : ℕ → Type 0 = λ m. IsWordStep text from (prefix_word m addr n) to in
+    subst P parts.1 (word_slashed text from middle to t addr n parts.0 step behind)
+
+-- ---- what stands next
+
+pub none_stuck : (text : List ℕ) (spot : Spot) (fault : LexFault) → IsStuckFrom text spot fault → (ts : List Token) → LexesFrom text spot ts → ts ≡ []
+none_stuck text spot (faults.Bad place) stuck ts lexes = lexes_or_stops spot.at (drop spot.at text) ts [] place lexes stuck
+none_stuck text spot faults.Memory stuck ts lexes = absurd stuck
+
+pub no_more : (text : List ℕ) (spot : Spot) (found : Option (Token × Spot)) → MatchOption found (LexesFrom text spot []) (λ next. IsStep text spot next.0 next.1)
+    → MatchOption found ((ts : List Token) → LexesFrom text spot ts → ts ≡ []) (λ next. IsStep text spot next.0 next.1)
+no_more text spot None none = λ ts lexes. lexes_once spot.at (drop spot.at text) ts [] lexes none
+no_more text spot (Some next) step = step
+
+pub no_colon : (text : List ℕ) (from to : Spot) (t : Token) → IsStep text from t to → is_colon (token_symbol text t) ≡ false → (ts : List Token) → LexesFrom text from ts → begins_colon text ts ≡ false
+no_colon text from to t step none ts lexes = let back = step_back text from to t ts step lexes in ap (λ (l : List Token). begins_colon text l) back.1 ∙ none
+
+pub no_number : (text : List ℕ) (from to : Spot) (t : Token) → IsStep text from t to → number_of t.kind ≡ None → (ts : List Token) → LexesFrom text from ts → first_number ts ≡ None
+no_number text from to t step none ts lexes = let back = step_back text from to t ts step lexes in ap (λ (l : List Token). first_number l) back.1 ∙ none
+
+pub number_kind : (kind : TokenKind) (n : ℕ) → number_of kind ≡ Some n → kind ≡ kinds.Number n
+number_kind (kinds.Number m) n is = cc
+number_kind _ n is = absurd (cc)
+
+pub no_slash : (text : List ℕ) (from to : Spot) (t : Token) → IsStep text from t to → is_slash (token_symbol text t) ≡ false → (ts : List Token) → LexesFrom text from ts → first_length text ts ≡ None
+no_slash text from to t step none ts lexes =
+    let back = step_back text from to t ts step lexes in
+    ap (λ (l : List Token). first_length text l) back.1 ∙ ap (λ (b : Bool). cond b (first_number back.0) None) none
+
+none_both : (b : Bool) → ◌≡◌ {A = Option ℕ} (cond b None None) None
+none_both true = refl
+none_both false = refl
+
+pub no_length : (text : List ℕ) (from to : Spot) (t : Token) → IsStep text from t to → ((us : List Token) → LexesFrom text to us → first_number us ≡ None) → (ts : List Token) → LexesFrom text from ts → first_length text ts ≡ None
+no_length text from to t step none ts lexes =
+    let back = step_back text from to t ts step lexes in
+    ap (λ (l : List Token). first_length text l) back.1 ∙ ap (λ (o : Option ℕ). cond (is_slash (token_symbol text t)) o None) (none back.0 back.2) ∙ none_both (is_slash (token_symbol text t))
+
+pub if_slash : (text : List ℕ) (from middle : Spot) (t : Token) (found : Option (ℕ × Spot)) → IsStep text from t middle → is_slash (token_symbol text t) ≡ true
+    → MatchOption found ((ts : List Token) → LexesFrom text middle ts → first_number ts ≡ None) (λ next. IsNumberStep text middle next.0 next.1)
+    → MatchOption found ((ts : List Token) → LexesFrom text from ts → first_length text ts ≡ None) (λ next. IsLengthStep text from next.0 next.1)
+if_slash text from middle t None step slash none = no_length text from middle t step none
+if_slash text from middle t (Some next) step slash number = record { token = t; middle = middle; step = step; slash = slash; number = number }
+
+pub if_colon : (text : List ℕ) (from to : Spot) (t : Token) (b : Bool) → IsStep text from t to → is_colon (token_symbol text t) ≡ b
+    → MatchOption (then_some b to) ((ts : List Token) → LexesFrom text from ts → begins_colon text ts ≡ false) (λ end. IsColonStep text from end)
+if_colon text from to t true step colon = record { token = t; step = step; colon = colon }
+if_colon text from to t false step colon = no_colon text from to t step colon
+
+-- ---- the ends of the tokens
+
+pub stepped_on : (text : List ℕ) (from to : Spot) (t : Token) (found : Option (Token × Spot)) → found ≡ Some (t, to) → MatchOption found (LexesFrom text from []) (λ next. IsStep text from next.0 next.1) → IsStep text from t to
+stepped_on text from to t found is step = let P : Option (Token × Spot) → Type 0 = λ o. MatchOption o (LexesFrom text from []) (λ next. IsStep text from next.0 next.1) in subst P is step
+
+pub read_all : (text : List ℕ) (found : List Token) (to : Spot) → IsRead text found to → LexesFrom text to [] → Lexes 0 text found
+read_all text found to read none = rw append-nil at (read.tokens [] none)
+
+pub read_stuck : (text : List ℕ) (found : List Token) (to : Spot) (fault : LexFault) → IsRead text found to → IsStuckFrom text to fault → (place : ℕ) × (fault ≡ faults.Bad place) × Stops 0 text found place
+read_stuck text found to (faults.Bad place) read stuck = (place, refl, rw append-nil at (read.stops [] place stuck))
+read_stuck text found to faults.Memory read stuck = absurd stuck
+
+pub stuck_bad : (text : List ℕ) (found : List Token) (to : Spot) (fault : LexFault) → IsRead text found to → IsStuckFrom text to fault → IsRefused text fault
+stuck_bad text found to (faults.Bad place) read stuck = (found, rw append-nil at (read.stops [] place stuck))
+stuck_bad text found to faults.Memory read stuck = tt
+
+pub stuck_only : {A : Type 0} (text : List ℕ) (found : List Token) (to : Spot) (fault : LexFault) → IsRead text found to → IsStuckFrom text to fault → (tokens : List Token) → Lexes 0 text tokens → A
+stuck_only text found to fault read stuck tokens lexes = let stops = read_stuck text found to fault read stuck in lexes_or_stops 0 text tokens found stops.0 lexes stops.2
+
+pub stuck_exact : (text : List ℕ) (found : List Token) (to : Spot) (fault : LexFault) → IsRead text found to → IsStuckFrom text to fault → (tokens : List Token) (place : ℕ) → Stops 0 text tokens place → IsBadAt fault place
+stuck_exact text found to (faults.Bad place) read stuck tokens other stops = stops_once 0 text found tokens place other (rw append-nil at (read.stops [] place stuck)) stops
+stuck_exact text found to faults.Memory read stuck tokens other stops = absurd stuck
+
+-- a fault that is handed on
+
+pub handed : {A : Type 0} (answer : Result A LexFault) (fault : LexFault) (P : LexFault → Type 0) → IsErrAnd answer (λ e. e ≡ fault) → P fault → IfErr answer P
+handed (Ok x) fault P same is = absurd same
+handed (Err e) fault P same is = subst P (sym same) is
+
+pub handed_on : {A : Type 0} (answer : Result A LexFault) (fault : LexFault) (Q : A → Type 0) (P : LexFault → Type 0) → IsErrAnd answer (λ e. e ≡ fault) → P fault → MatchResult answer Q P
+handed_on (Ok x) fault Q P same is = absurd same
+handed_on (Err e) fault Q P same is = subst P (sym same) is

@@ -1,0 +1,307 @@
+ghost use Rattle.std.specs.Prelude.{◌≡◌, List, map, length};
+ghost use Rattle.conf_lex.specs.Symbols.{lookup, symbol_of, spellings_of, long_spellings};
+ghost use Rattle.conf_lex.specs.Symbols.{is_placed};
+
+use crate::symbol::Symbol;
+
+/// The symbol of the first entry with this spelling.
+fn find(table: &[(&[u8], Symbol)], bytes: &[u8]) -> Option<Symbol>
+    ensures { result ≡ lookup bytes.now (map (λ entry. (entry.0.now, entry.1)) table.now) }
+{
+    for entry in table {
+        if entry.0 == bytes {
+            return Some(entry.1);
+        }
+    }
+    None
+}
+
+fn of_one(bytes: &[u8]) -> Option<Symbol>
+    ensures { result ≡ lookup bytes.now (spellings_of 1) }
+{
+    const TABLE: [(&[u8], Symbol); 20] = [
+        (b";", Symbol::Semicolon),
+        (b"{", Symbol::OpenBrace),
+        (b"}", Symbol::CloseBrace),
+        (b"(", Symbol::OpenParenthesis),
+        (b")", Symbol::CloseParenthesis),
+        (b",", Symbol::Comma),
+        (b"/", Symbol::Slash),
+        (b"=", Symbol::Equal),
+        (b".", Symbol::Dot),
+        (b"!", Symbol::Not),
+        (b"<", Symbol::Less),
+        (b">", Symbol::Greater),
+        (b"~", Symbol::Matches),
+        (b"+", Symbol::Plus),
+        (b"-", Symbol::Minus),
+        (b"*", Symbol::Star),
+        (b"[", Symbol::OpenBracket),
+        (b"]", Symbol::CloseBracket),
+        (b":", Symbol::Colon),
+        (b"?", Symbol::Question),
+    ];
+    find(&TABLE, bytes)
+}
+
+fn of_two(bytes: &[u8]) -> Option<Symbol>
+    ensures { result ≡ lookup bytes.now (spellings_of 2) }
+{
+    const TABLE: [(&[u8], Symbol); 19] = [
+        (b"id", Symbol::Id),
+        (b"as", Symbol::As),
+        (b"on", Symbol::On),
+        (b"no", Symbol::No),
+        (b"if", Symbol::If),
+        (b"in", Symbol::In),
+        (b"do", Symbol::Do),
+        (b"ip", Symbol::Ip),
+        (b"gw", Symbol::Gw),
+        (b"->", Symbol::Arrow),
+        (b"&&", Symbol::And),
+        (b"||", Symbol::Or),
+        (b"!=", Symbol::NotEqual),
+        (b"<=", Symbol::LessOrEqual),
+        (b">=", Symbol::GreaterOrEqual),
+        (b"!~", Symbol::MatchesNot),
+        (b"[=", Symbol::OpenMask),
+        (b"=]", Symbol::CloseMask),
+        (b"..", Symbol::Range),
+    ];
+    find(&TABLE, bytes)
+}
+
+fn of_three(bytes: &[u8]) -> Option<Symbol>
+    ensures { result ≡ lookup bytes.now (spellings_of 3) }
+{
+    const TABLE: [(&[u8], Symbol); 14] = [
+        (b"log", Symbol::Log),
+        (b"bgp", Symbol::Bgp),
+        (b"via", Symbol::Via),
+        (b"med", Symbol::Med),
+        (b"off", Symbol::Off),
+        (b"hop", Symbol::Hop),
+        (b"all", Symbol::All),
+        (b"yes", Symbol::Yes),
+        (b"add", Symbol::Add),
+        (b"for", Symbol::For),
+        (b"len", Symbol::Len),
+        (b"int", Symbol::Int),
+        (b"set", Symbol::Set),
+        (b"net", Symbol::Net),
+    ];
+    find(&TABLE, bytes)
+}
+
+fn of_four(bytes: &[u8]) -> Option<Symbol>
+    ensures { result ≡ lookup bytes.now (spellings_of 4) }
+{
+    const TABLE: [(&[u8], Symbol); 20] = [
+        (b"ipv4", Symbol::Ipv4),
+        (b"ipv6", Symbol::Ipv6),
+        (b"pipe", Symbol::Pipe),
+        (b"hold", Symbol::Hold),
+        (b"time", Symbol::Time),
+        (b"peer", Symbol::Peer),
+        (b"warn", Symbol::Warn),
+        (b"next", Symbol::Next),
+        (b"self", Symbol::SelfWord),
+        (b"keep", Symbol::Keep),
+        (b"none", Symbol::None),
+        (b"then", Symbol::Then),
+        (b"else", Symbol::Else),
+        (b"case", Symbol::Case),
+        (b"last", Symbol::Last),
+        (b"true", Symbol::True),
+        (b"bool", Symbol::Bool),
+        (b"pair", Symbol::Pair),
+        (b"from", Symbol::From),
+        (b"dest", Symbol::Dest),
+    ];
+    find(&TABLE, bytes)
+}
+
+fn of_five(bytes: &[u8]) -> Option<Symbol>
+    ensures { result ≡ lookup bytes.now (spellings_of 5) }
+{
+    const TABLE: [(&[u8], Symbol); 14] = [
+        (b"table", Symbol::Table),
+        (b"route", Symbol::Route),
+        (b"local", Symbol::Local),
+        (b"retry", Symbol::Retry),
+        (b"limit", Symbol::Limit),
+        (b"block", Symbol::Block),
+        (b"where", Symbol::Where),
+        (b"empty", Symbol::Empty),
+        (b"unset", Symbol::Unset),
+        (b"print", Symbol::Print),
+        (b"first", Symbol::First),
+        (b"false", Symbol::False),
+        (b"clist", Symbol::Clist),
+        (b"proto", Symbol::Proto),
+    ];
+    find(&TABLE, bytes)
+}
+
+fn of_six(bytes: &[u8]) -> Option<Symbol>
+    ensures { result ≡ lookup bytes.now (spellings_of 6) }
+{
+    const TABLE: [(&[u8], Symbol); 18] = [
+        (b"router", Symbol::Router),
+        (b"define", Symbol::Define),
+        (b"filter", Symbol::Filter),
+        (b"device", Symbol::Device),
+        (b"static", Symbol::Static),
+        (b"metric", Symbol::Metric),
+        (b"direct", Symbol::Direct),
+        (b"import", Symbol::Import),
+        (b"export", Symbol::Export),
+        (b"action", Symbol::Action),
+        (b"delete", Symbol::Delete),
+        (b"accept", Symbol::Accept),
+        (b"reject", Symbol::Reject),
+        (b"return", Symbol::Return),
+        (b"printn", Symbol::Printn),
+        (b"prefix", Symbol::Prefix),
+        (b"string", Symbol::String),
+        (b"source", Symbol::Source),
+    ];
+    find(&TABLE, bytes)
+}
+
+fn of_seven(bytes: &[u8]) -> Option<Symbol>
+    ensures { result ≡ lookup bytes.now (spellings_of 7) }
+{
+    const TABLE: [(&[u8], Symbol); 13] = [
+        (b"default", Symbol::Default),
+        (b"address", Symbol::Address),
+        (b"connect", Symbol::Connect),
+        (b"passive", Symbol::Passive),
+        (b"disable", Symbol::Disable),
+        (b"prepend", Symbol::Prepend),
+        (b"defined", Symbol::Defined),
+        (b"bgppath", Symbol::PathType),
+        (b"bgpmask", Symbol::MaskType),
+        (b"bgp_med", Symbol::BgpMed),
+        (b"RTS_BGP", Symbol::RtsBgp),
+        (b"+empty+", Symbol::EmptyPath),
+        (b"-empty-", Symbol::EmptyClist),
+    ];
+    find(&TABLE, bytes)
+}
+
+fn of_eight(bytes: &[u8]) -> Option<Symbol>
+    ensures { result ≡ lookup bytes.now (spellings_of 8) }
+{
+    const TABLE: [(&[u8], Symbol); 7] = [
+        (b"function", Symbol::Function),
+        (b"protocol", Symbol::Protocol),
+        (b"prohibit", Symbol::Prohibit),
+        (b"neighbor", Symbol::Neighbor),
+        (b"password", Symbol::Password),
+        (b"multihop", Symbol::Multihop),
+        (b"bgp_path", Symbol::BgpPath),
+    ];
+    find(&TABLE, bytes)
+}
+
+fn of_more(bytes: &[u8]) -> Option<Symbol>
+    ensures { result ≡ lookup bytes.now long_spellings }
+{
+    const TABLE: [(&[u8], Symbol); 21] = [
+        (b"blackhole", Symbol::Blackhole),
+        (b"unreachable", Symbol::Unreachable),
+        (b"interpret", Symbol::Interpret),
+        (b"communities", Symbol::Communities),
+        (b"description", Symbol::Description),
+        (b"keepalive", Symbol::Keepalive),
+        (b"preference", Symbol::Preference),
+        (b"bgp_next_hop", Symbol::BgpNextHop),
+        (b"bgp_origin", Symbol::BgpOrigin),
+        (b"bgp_local_pref", Symbol::BgpLocalPref),
+        (b"igp_metric", Symbol::IgpMetric),
+        (b"bgp_community", Symbol::BgpCommunity),
+        (b"RTS_STATIC", Symbol::RtsStatic),
+        (b"RTD_UNICAST", Symbol::RtdUnicast),
+        (b"RTD_ROUTER", Symbol::RtdRouter),
+        (b"RTD_BLACKHOLE", Symbol::RtdBlackhole),
+        (b"RTD_UNREACHABLE", Symbol::RtdUnreachable),
+        (b"RTD_PROHIBIT", Symbol::RtdProhibit),
+        (b"ORIGIN_IGP", Symbol::OriginIgp),
+        (b"ORIGIN_EGP", Symbol::OriginEgp),
+        (b"ORIGIN_INCOMPLETE", Symbol::OriginIncomplete),
+    ];
+    find(&TABLE, bytes)
+}
+
+/// The symbol that is spelled so, found among the spellings of this length.
+pub fn symbol_of(bytes: &[u8]) -> Option<Symbol>
+    ensures { result ≡ symbol_of bytes.now }
+{
+    match bytes.len() {
+        1 => of_one(bytes),
+        2 => of_two(bytes),
+        3 => of_three(bytes),
+        4 => of_four(bytes),
+        5 => of_five(bytes),
+        6 => of_six(bytes),
+        7 => of_seven(bytes),
+        8 => of_eight(bytes),
+        _ => of_more(bytes),
+    }
+}
+
+/// Whether a word for the symbol carries its place.
+pub fn is_placed(symbol: Symbol) -> bool
+    ensures { result ≡ is_placed symbol }
+{
+    match symbol {
+        Symbol::Ipv4 => true,
+        Symbol::Ipv6 => true,
+        Symbol::Filter => true,
+        Symbol::Static => true,
+        Symbol::Bgp => true,
+        Symbol::Pipe => true,
+        Symbol::True => true,
+        Symbol::False => true,
+        Symbol::Net => true,
+        Symbol::Preference => true,
+        Symbol::Gw => true,
+        Symbol::From => true,
+        Symbol::BgpNextHop => true,
+        Symbol::Proto => true,
+        Symbol::Source => true,
+        Symbol::Dest => true,
+        Symbol::BgpPath => true,
+        Symbol::BgpOrigin => true,
+        Symbol::BgpMed => true,
+        Symbol::BgpLocalPref => true,
+        Symbol::IgpMetric => true,
+        Symbol::BgpCommunity => true,
+        Symbol::RtsStatic => true,
+        Symbol::RtsBgp => true,
+        Symbol::RtdUnicast => true,
+        Symbol::RtdRouter => true,
+        Symbol::RtdBlackhole => true,
+        Symbol::RtdUnreachable => true,
+        Symbol::RtdProhibit => true,
+        Symbol::OriginIgp => true,
+        Symbol::OriginEgp => true,
+        Symbol::OriginIncomplete => true,
+        Symbol::EmptyPath => true,
+        Symbol::EmptyClist => true,
+        Symbol::OpenMask => true,
+        Symbol::Prepend => true,
+        Symbol::Add => true,
+        Symbol::Delete => true,
+        Symbol::Defined => true,
+        Symbol::Case => true,
+        Symbol::For => true,
+        Symbol::Return => true,
+        Symbol::Not => true,
+        Symbol::OpenBracket => true,
+        Symbol::OpenParenthesis => true,
+        Symbol::Where => true,
+        _ => false,
+    }
+}

@@ -1,0 +1,20 @@
+-- The levels of nesting of the grammar of filters, and forms in a grammar with these levels.
+use Rattle.grammar.specs.Grammar as grammars
+
+-- by what stands inside
+pub data Level : Type 0 where
+  group_level : Level  -- "(" here ")" in an expression
+  operand_level : Level  -- "!" here
+  arguments_level : Level  -- NAME "(" here ")"
+  set_level : Level  -- "[" here "]"
+  block_level : Level  -- "{" here "}" of statements
+  body_level : Level  -- "then" here, "else" here, "do" here
+  argument_level : Level  -- "." METHOD "(" here ")"
+  two_level : Level  -- METHOD "(" here ")"
+  attribute_level : Level  -- "defined" "(" here ")", "unset" "(" here ")"
+  pair_level : Level  -- "(" here ")" of an item
+  lengths_level : Level  -- "{" here "}" behind a prefix
+  arms_level : Level  -- "{" here "}" of a `case`
+
+abbrev pub Form : Type 0
+Form = grammars.Form Level
