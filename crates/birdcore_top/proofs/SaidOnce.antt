@@ -2,7 +2,7 @@
 use Rattle.std.proofs.Common.{◌≡◌, ◌∙◌, sym, ap, subst, ℕ, List, Option, Some, None, inl, inr}
 use Rattle.std.specs.Prelude.{◌⊎◌}
 use Rattle.std.proofs.lemmas.Bool.{true≢false}
-use Rattle.grammar.specs.Grammar.{ParseTree}
+use Rattle.conf_lex.specs.Grammar.{ParseTree}
 use Rattle.conf_tree.specs.Position.{IsPlace}
 use Rattle.conf_tree.specs.Read.{IsConfigText, IsRefusedText}
 use Rattle.conf_tree.specs.View.{statements_tree}

@@ -5,7 +5,7 @@ use Rattle.std.proofs.lemmas.Bool.{cases_Bool}
 use Rattle.conf_lex.specs.Lex.{Lexes}
 use Rattle.conf_lex.specs.declared.token.Token.{Token}
 use Rattle.conf_lex.specs.declared.word.Word.{Word}
-use Rattle.grammar.specs.Grammar.{ParseTree, DerivesLongest, yield}
+use Rattle.conf_lex.specs.Grammar.{ParseTree, DerivesLongest, yield}
 use Rattle.filt_syntax.specs.Syntax.{rule}
 use Rattle.conf_tree.specs.Position.{IsPlace}
 use Rattle.conf_tree.specs.Read.{IsConfigText, IsRefusedText}

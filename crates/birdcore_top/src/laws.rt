@@ -19,12 +19,13 @@ ghost use Rattle.birdcore_top.specs.Written.{ArePlayed};
 use crate::status::Status;
 use crate::top::top;
 use conf_ast::laws::a_text_is_one_syntax;
-use conf_lex::laws::{tokens_are_slices, tokens_rise};
-use conf_tree::laws::{
-    a_text_has_one_refusal, configurations_are_not_refused, each_place_has_a_line_and_a_column,
+use conf_laws::readings::{
+    a_text_has_one_refusal, each_place_has_a_line_and_a_column,
     each_text_is_a_configuration_or_is_refused, each_tree_is_of_a_configuration,
     places_have_one_line_and_column,
 };
+use conf_lex::laws::{tokens_are_slices, tokens_rise};
+use conf_tree::laws::configurations_are_not_refused;
 use core_setup::laws::{plays_are_legal, reports_are_determined};
 use outside_io::{OpenGate, Shelf, SureShelf, SureSink};
 use script_lines::laws::{a_text_has_one_answer, each_text_has_an_answer};

@@ -1,12 +1,13 @@
 -- Configurations, and the trees that they are of.
 use Rattle.std.proofs.Common.{◌≡◌, ℕ, List, [], ◌∷◌, Option, Some, None, option_map, map, refl, sym as flip, ap, ◌∙◌, Vec}
 use Rattle.std.specs.Global.{Global}
+use Rattle.conf_lex.specs.declared.attribute.Attribute.TheVariants as attributes
 use Rattle.conf_lex.specs.declared.symbol.Symbol.{Symbol}
 use Rattle.conf_lex.specs.declared.symbol.Symbol.TheVariants as sym
 use Rattle.conf_lex.specs.declared.word.Word.TheVariants as words
-use Rattle.grammar.specs.declared.named.Name.{Name}
-use Rattle.grammar.specs.Grammar.{Epsilon, Seq, Repeat, ParseTree, NoWords, Pair, Left, Right, Single, Snoc, DerivesLongest}
-use Rattle.grammar.specs.Shapes.{symbol_leaf, name_leaf, between}
+use Rattle.conf_lex.specs.declared.named.Name.{Name}
+use Rattle.conf_lex.specs.Grammar.{Epsilon, Seq, Repeat, ParseTree, NoWords, Pair, Left, Right, Single, Snoc, DerivesLongest}
+use Rattle.conf_lex.specs.Leaves.{symbol_leaf, name_leaf, between}
 use Rattle.filt_syntax.specs.declared.ast.Parameter.{Parameter}
 use Rattle.filt_syntax.specs.declared.ast.VariableType.{VariableType}
 use Rattle.filt_syntax.specs.Syntax.{rule, optional, semicolon}
@@ -30,7 +31,7 @@ use Rattle.conf_tree.specs.declared.ast.Statement.TheVariants as config_statemen
 use Rattle.conf_tree.specs.declared.ast.StaticOption.{StaticOption}
 use Rattle.conf_tree.specs.declared.ast.StaticOption.TheVariants as static_options
 use Rattle.conf_tree.specs.Syntax as forms
-use Rattle.conf_tree.specs.View.{placed_leaf, switch_leaf, family_leaf, maybe, address_leaf, policy_tree, limit_tree, hop_symbol, table_tree, channel_option_tree, ended_tree, ended_row, channel_options_tree, channel_tree, route_tree, static_option_tree, as_tree, transport_tree, default_tree, bgp_option_tree, pipe_option_tree, value_tree, pair_tree, literal_tree, parameters_tree, gives_tree, protocol_end_tree, protocol_tree, device_tree, of_protocol, statement_tree, statements_tree}
+use Rattle.conf_tree.specs.View.{placed_leaf, attribute_leaf, switch_leaf, family_leaf, maybe, address_leaf, policy_tree, limit_tree, hop_symbol, table_tree, channel_option_tree, ended_tree, ended_row, channel_options_tree, channel_tree, route_tree, static_option_tree, as_tree, transport_tree, default_tree, bgp_option_tree, pipe_option_tree, value_tree, pair_tree, literal_tree, parameters_tree, gives_tree, protocol_end_tree, protocol_tree, device_tree, of_protocol, statement_tree, statements_tree}
 use Rattle.conf_ast.specs.Configurations.{Value, NumberValue, TextValue, AddressValue, PrefixValue, TrueValue, FalseValue, ValueOf, PairValue, SetValue, MaskValue, value_of, Passing, PassAll, PassNone, PassByFilter, PassByBlock, PassWhere, passing_of, ChannelSetting, ChannelTable, ChannelImport, ChannelExport, ChannelPreference, ChannelLimit, ChannelNextHop, channel_setting_of, FamilyChannel, channel_of, channel_settings_of, StaticSetting, StaticChannel, StaticRoute, static_setting_of, BgpSetting, BgpChannel, BgpLocal, BgpNeighbor, BgpMedMetric, BgpInterpretCommunities, BgpDefaultMed, BgpDefaultLocalPref, BgpTransport, bgp_setting_of, PipeSetting, PipeTable, PipePeerTable, PipeImport, PipeExport, pipe_setting_of, Instance, instance_of, Declaration, RouterId, Log, Define, Table, DefineFunction, DefineFilter, Device, Static, Bgp, Pipe, declaration_of, configuration_of}
 use Rattle.conf_ast.proofs.Equations.{two, two_maps}
 use Rattle.conf_ast.proofs.ExpressionsBack.{seen, expression_again}
@@ -71,7 +72,7 @@ abbrev channel_setting_tree : ChannelSetting → ParseTree
 channel_setting_tree (ChannelTable n) = nth 0 (table_tree n)
 channel_setting_tree (ChannelImport p) = nth 1 (Pair (symbol_leaf sym.Import) (Right (passing_tree p)))
 channel_setting_tree (ChannelExport p) = nth 2 (Pair (symbol_leaf sym.Export) (passing_tree p))
-channel_setting_tree (ChannelPreference at n) = nth 3 (Pair (placed_leaf at sym.Preference) (num_tree n))
+channel_setting_tree (ChannelPreference at n) = nth 3 (Pair (attribute_leaf at attributes.Preference) (num_tree n))
 channel_setting_tree (ChannelLimit l) = nth 1 (Pair (symbol_leaf sym.Import) (Left (Pair (symbol_leaf sym.Limit) (limit_tree l))))
 channel_setting_tree (ChannelNextHop h) = beyond 4 (Pair (symbol_leaf sym.Next) (Pair (symbol_leaf sym.Hop) (symbol_leaf (hop_symbol h))))
 
@@ -112,8 +113,8 @@ bgp_setting_tree (BgpLocal a n) = nth 1 (Pair (symbol_leaf sym.Local) (Pair (may
 bgp_setting_tree (BgpNeighbor a n) = nth 2 (Pair (symbol_leaf sym.Neighbor) (Pair (address_leaf a) (as_tree n)))
 bgp_setting_tree (BgpMedMetric s) = nth 3 (Pair (symbol_leaf sym.Med) (Pair (symbol_leaf sym.Metric) (switch_leaf s)))
 bgp_setting_tree (BgpInterpretCommunities s) = nth 4 (Pair (symbol_leaf sym.Interpret) (Pair (symbol_leaf sym.Communities) (switch_leaf s)))
-bgp_setting_tree (BgpDefaultMed at n) = nth 5 (default_tree at sym.BgpMed n)
-bgp_setting_tree (BgpDefaultLocalPref at n) = nth 5 (default_tree at sym.BgpLocalPref n)
+bgp_setting_tree (BgpDefaultMed at n) = nth 5 (default_tree at attributes.BgpMed n)
+bgp_setting_tree (BgpDefaultLocalPref at n) = nth 5 (default_tree at attributes.BgpLocalPref n)
 bgp_setting_tree (BgpTransport t) = beyond 6 (transport_tree t)
 
 bgp_setting_again : (o : BgpOption) → DerivesLongest rule (bgp_option_tree o) forms.bgp_option → bgp_setting_tree (bgp_setting_of o) ≡ bgp_option_tree o

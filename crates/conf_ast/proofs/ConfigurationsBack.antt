@@ -3,13 +3,14 @@ use Rattle.std.proofs.Common.{◌≡◌, ℕ, Bool, true, false, List, [], ◌�
 use Rattle.std.specs.Global.{Global}
 use Rattle.bits_ip.specs.declared.address.Family.{Family}
 use Rattle.bits_ip.specs.declared.address.Family.TheVariants as families
+use Rattle.conf_lex.specs.declared.attribute.Attribute.TheVariants as attributes
 use Rattle.conf_lex.specs.declared.symbol.Symbol.{Symbol}
 use Rattle.conf_lex.specs.declared.symbol.Symbol.TheVariants as sym
 use Rattle.conf_lex.specs.declared.word.Word.{Word}
 use Rattle.conf_lex.specs.declared.word.Word.TheVariants as words
-use Rattle.grammar.specs.declared.named.Name.{Name}
-use Rattle.grammar.specs.Grammar.{Epsilon, Seq, Repeat, ParseTree, Leaf, NoWords, Pair, Left, Right, Single, Snoc, Deeper, DerivesLongest}
-use Rattle.grammar.specs.Shapes.{name_leaf}
+use Rattle.conf_lex.specs.declared.named.Name.{Name}
+use Rattle.conf_lex.specs.Grammar.{Epsilon, Seq, Repeat, ParseTree, Leaf, NoWords, Pair, Left, Right, Single, Snoc, Deeper, DerivesLongest}
+use Rattle.conf_lex.specs.Leaves.{name_leaf}
 use Rattle.filt_syntax.specs.declared.ast.Function.{Function}
 use Rattle.filt_syntax.specs.declared.ast.Item.{Item}
 use Rattle.filt_syntax.specs.declared.ast.MaskItem.{MaskItem}
@@ -287,8 +288,8 @@ bgp_option_from (Right (Left (Pair w (Pair a (Pair v (Leaf n)))))) = BgpLocal (a
 bgp_option_from (Right (Right (Left (Pair w (Pair (Leaf (words.Ip at addr)) (Pair v (Leaf n))))))) = BgpNeighbor (record { at = at; addr = addr }) (num_from n)
 bgp_option_from (Right (Right (Right (Left (Pair w (Pair v (Leaf s))))))) = BgpMedMetric (switch_from s)
 bgp_option_from (Right (Right (Right (Right (Left (Pair w (Pair v (Leaf s)))))))) = BgpInterpretCommunities (switch_from s)
-bgp_option_from (Right (Right (Right (Right (Right (Left (Pair w (Pair (Leaf (words.Placed at sym.BgpMed)) (Leaf n))))))))) = BgpDefaultMed at (num_from n)
-bgp_option_from (Right (Right (Right (Right (Right (Left (Pair w (Pair (Leaf (words.Placed at sym.BgpLocalPref)) (Leaf n))))))))) = BgpDefaultLocalPref at (num_from n)
+bgp_option_from (Right (Right (Right (Right (Right (Left (Pair w (Pair (Leaf (words.Attribute at attributes.BgpMed)) (Leaf n))))))))) = BgpDefaultMed at (num_from n)
+bgp_option_from (Right (Right (Right (Right (Right (Left (Pair w (Pair (Leaf (words.Attribute at attributes.BgpLocalPref)) (Leaf n))))))))) = BgpDefaultLocalPref at (num_from n)
 bgp_option_from (Right (Right (Right (Right (Right (Right t)))))) = BgpTransport (transport_from t)
 bgp_option_from _ = BgpTransport transports.Direct
 

@@ -3,11 +3,11 @@ use Rattle.std.proofs.Common.{◌≡◌, List, [], ◌∷◌, map, refl, sym as 
 use Rattle.conf_lex.specs.declared.word.Word.{Word}
 use Rattle.conf_lex.specs.declared.word.Word.TheVariants as words
 use Rattle.conf_lex.specs.declared.symbol.Symbol.TheVariants as sym
-use Rattle.grammar.specs.Grammar.{Terminal, Seq, Repeat, ParseTree, Leaf, NoWords, Pair, Left, Right, Single, Snoc, Deeper, DerivesLongest}
-use Rattle.grammar.specs.Shapes.{symbol_leaf}
-use Rattle.filt_syntax.specs.declared.ast.Postfix.{Postfix}
-use Rattle.filt_syntax.specs.declared.ast.Postfix.TheVariants as postfixes
-use Rattle.filt_syntax.specs.declared.ast.Attribute.{Attribute}
+use Rattle.conf_lex.specs.Grammar.{Terminal, Seq, Repeat, ParseTree, Leaf, NoWords, Pair, Left, Right, Single, Snoc, Deeper, DerivesLongest}
+use Rattle.conf_lex.specs.Leaves.{symbol_leaf}
+use Rattle.filt_syntax.specs.declared.ast.Access.{Access}
+use Rattle.filt_syntax.specs.declared.ast.Access.TheVariants as accesses
+use Rattle.conf_lex.specs.declared.attribute.Attribute.{Attribute}
 use Rattle.filt_syntax.specs.declared.ast.CompareOp.{CompareOp}
 use Rattle.filt_syntax.specs.declared.ast.Item.{Item}
 use Rattle.filt_syntax.specs.declared.ast.MaskItem.{MaskItem}
@@ -25,7 +25,7 @@ use Rattle.filt_syntax.specs.declared.ast.Expr.TheShapes.{former-Expr-Postfix-1-
 use Rattle.filt_syntax.specs.Syntax.{rule, primary, postfix, unary, product, sum, comparison, expr, listed, optional}
 use Rattle.filt_syntax.specs.Levels.{Form}
 use Rattle.filt_syntax.specs.Syntax as forms
-use Rattle.filt_syntax.specs.View.{Derivations, derivations, derivations_step, as_primary, as_postfix, as_unary, as_product, as_sum, as_comparison, as_expr, chain_of, parts_after, listed_after, arguments_tree, listed_tree, access_part, mul_op_part, add_op_part, logical_op_part, property_tree, method_tree, mul_op_symbol, add_op_symbol, logical_op_symbol, alone, atom_tree, atom_word, named_tree, group_tree, set_tree, mask_tree, defined_tree, method_call_tree, attribute_word, in_parentheses, second_part, compare_op_symbol}
+use Rattle.filt_syntax.specs.View.{Derivations, derivations, derivations_step, as_primary, as_postfix, as_unary, as_product, as_sum, as_comparison, as_expr, chain_of, parts_after, listed_after, arguments_tree, listed_tree, access_part, mul_op_part, add_op_part, logical_op_part, property_tree, method_tree, mul_op_symbol, add_op_symbol, logical_op_symbol, alone, atom_tree, atom_word, named_tree, group_tree, set_tree, mask_tree, defined_tree, method_call_tree, in_parentheses, second_part, compare_op_symbol}
 use Rattle.conf_ast.specs.Filters.{Expression, Plain, Named, Called, Grouped, Paired, SetOf, MaskOf, IsDefined, MethodOf, PropertyOf, Changed, Negated, Multiplied, Added, Compared, Joined, Expressions, NoExpressions, AndExpressions, expressions, accessed, multiplied, added, joined, expression_step, expression_of}
 use Rattle.conf_ast.proofs.Equations.{two, two_maps, three_maps}
 use Rattle.conf_ast.proofs.WordsBack.{place_of, name_from, attribute_from, simple_from, property_from, method_from, mul_op_from, add_op_from, compare_op_from, logical_op_from, attribute_back, simple_back, property_back, method_back, mul_op_back, add_op_back, compare_op_back, logical_op_back}
@@ -102,7 +102,7 @@ abbrev mutual
   seen (Paired at a b) = as_primary (group_tree at (Pair (seen a).expr (Left (second_part (seen b).expr))))
   seen (SetOf at items) = as_primary (set_tree at (items_tree items))
   seen (MaskOf at items) = as_primary (mask_tree at (mask_items_tree items))
-  seen (IsDefined at place attribute_at a) = as_primary (defined_tree at place (attribute_word attribute_at a))
+  seen (IsDefined at place attribute_at a) = as_primary (defined_tree at place (words.Attribute attribute_at a))
   seen (MethodOf m place a b) = as_primary (method_call_tree m place (seen a).expr (seen b).expr)
   seen (PropertyOf a p) = as_postfix (Snoc (seen a).postfix (Pair (symbol_leaf sym.Dot) (property_tree p)))
   seen (Changed a m place e) = as_postfix (Snoc (seen a).postfix (Pair (symbol_leaf sym.Dot) (Right (method_tree m place (seen e).expr))))
@@ -268,46 +268,46 @@ logical_op_chain e xs parts values p q = rw (p, q) (logical_op_by e xs)
 
 -- ---- what stands behind dots
 
-abbrev access_known : Postfix Known → Word × ParseTree
-access_known (postfixes.Property p) = (words.Symbol sym.Dot, property_tree p)
-access_known (postfixes.Method m place e) = (words.Symbol sym.Dot, Right (method_tree m place (derivations e.0).expr))
+abbrev access_known : Access Known → Word × ParseTree
+access_known (accesses.Property p) = (words.Symbol sym.Dot, property_tree p)
+access_known (accesses.Method m place e) = (words.Symbol sym.Dot, Right (method_tree m place (derivations e.0).expr))
 
-abbrev access_value : Postfix Known → Postfix Expression
-access_value (postfixes.Property p) = postfixes.Property p
-access_value (postfixes.Method m place e) = postfixes.Method m place (expression_of e.0)
+abbrev access_value : Access Known → Access Expression
+access_value (accesses.Property p) = accesses.Property p
+access_value (accesses.Method m place e) = accesses.Method m place (expression_of e.0)
 
-abbrev access_join : Expression → Postfix Known → Expression
-access_join a (postfixes.Property p) = PropertyOf a p
-access_join a (postfixes.Method m place e) = Changed a m place (expression_of e.0)
+abbrev access_join : Expression → Access Known → Expression
+access_join a (accesses.Property p) = PropertyOf a p
+access_join a (accesses.Method m place e) = Changed a m place (expression_of e.0)
 
-access_turn : (t : ParseTree) (x : Postfix Known) → DerivesLongest rule (Pair (Leaf (access_known x).0) (access_known x).1) forms.access → postfix_from (Snoc t (Pair (Leaf (access_known x).0) (access_known x).1)) ≡ access_join (postfix_from t) x
-access_turn t (postfixes.Property p) h = ap (λ (q : Property). PropertyOf (postfix_from t) q) (property_back p)
-access_turn t (postfixes.Method m place e) h = ap (λ (n : Method). Changed (postfix_from t) n place (expr_from (derivations e.0).expr)) (method_back m) ∙ ap (λ (x : Expression). Changed (postfix_from t) m place x) (e.1.expr_back h.1.1.0.1)
+access_turn : (t : ParseTree) (x : Access Known) → DerivesLongest rule (Pair (Leaf (access_known x).0) (access_known x).1) forms.access → postfix_from (Snoc t (Pair (Leaf (access_known x).0) (access_known x).1)) ≡ access_join (postfix_from t) x
+access_turn t (accesses.Property p) h = ap (λ (q : Property). PropertyOf (postfix_from t) q) (property_back p)
+access_turn t (accesses.Method m place e) h = ap (λ (n : Method). Changed (postfix_from t) n place (expr_from (derivations e.0).expr)) (method_back m) ∙ ap (λ (x : Expression). Changed (postfix_from t) m place x) (e.1.expr_back h.1.1.0.1)
 
-access_all : (a : Expression) (xs : List (Postfix Known)) → join_all access_join a xs ≡ accessed a (map access_value xs)
+access_all : (a : Expression) (xs : List (Access Known)) → join_all access_join a xs ≡ accessed a (map access_value xs)
 access_all a [] = refl
-access_all a (postfixes.Property p ∷ xs) = access_all (PropertyOf a p) xs
-access_all a (postfixes.Method m place e ∷ xs) = access_all (Changed a m place (expression_of e.0)) xs
+access_all a (accesses.Property p ∷ xs) = access_all (PropertyOf a p) xs
+access_all a (accesses.Method m place e ∷ xs) = access_all (Changed a m place (expression_of e.0)) xs
 
-access_turn_again : (a : Expression) (t : ParseTree) (x : Postfix Known) → (seen a).postfix ≡ t → DerivesLongest rule (Pair (Leaf (access_known x).0) (access_known x).1) forms.access → seen (access_join a x) ≡ as_postfix (Snoc t (Pair (Leaf (access_known x).0) (access_known x).1))
-access_turn_again a t (postfixes.Property p) is h = ap (λ (u : ParseTree). as_postfix (Snoc u (Pair (symbol_leaf sym.Dot) (property_tree p)))) is
-access_turn_again a t (postfixes.Method m place e) is h = two (λ (u : ParseTree) (s : Derivations). as_postfix (Snoc u (Pair (symbol_leaf sym.Dot) (Right (method_tree m place s.expr))))) _ _ _ _ is (e.1.expr_again h.1.1.0.1)
+access_turn_again : (a : Expression) (t : ParseTree) (x : Access Known) → (seen a).postfix ≡ t → DerivesLongest rule (Pair (Leaf (access_known x).0) (access_known x).1) forms.access → seen (access_join a x) ≡ as_postfix (Snoc t (Pair (Leaf (access_known x).0) (access_known x).1))
+access_turn_again a t (accesses.Property p) is h = ap (λ (u : ParseTree). as_postfix (Snoc u (Pair (symbol_leaf sym.Dot) (property_tree p)))) is
+access_turn_again a t (accesses.Method m place e) is h = two (λ (u : ParseTree) (s : Derivations). as_postfix (Snoc u (Pair (symbol_leaf sym.Dot) (Right (method_tree m place s.expr))))) _ _ _ _ is (e.1.expr_again h.1.1.0.1)
 
-access_by : (e : Known) (xs : List (Postfix Known)) → Back (as_postfix (chain_of (Single (derivations e.0).primary) (map access_known xs))) (accessed (expression_of e.0) (map access_value xs))
+access_by : (e : Known) (xs : List (Access Known)) → Back (as_postfix (chain_of (Single (derivations e.0).primary) (map access_known xs))) (accessed (expression_of e.0) (map access_value xs))
 access_by e [] = back_postfix NoWords _ (λ f. absurd f) (λ f. absurd f)
 access_by e (x ∷ xs) = back_postfix _ _ (λ f. chain_back access_known primary forms.access postfix_from access_join access_turn (x ∷ xs) (Single (derivations e.0).primary) (expression_of e.0) (λ h. e.1.primary_back h) f ∙ access_all (expression_of e.0) (x ∷ xs))
     (λ f. ap (λ (v : Expression). seen v) (flip (access_all (expression_of e.0) (x ∷ xs))) ∙ chain_again access_known primary forms.access (λ t. as_postfix t) (λ s. s.postfix) (λ t. refl) access_join access_turn_again x xs (Single (derivations e.0).primary) (expression_of e.0) (λ h. ap (λ (s : Derivations). s.postfix) (e.1.primary_again h) ∙ e.1.primary_lift h) f)
 
-access_chain : (e : Known) (xs : List (Postfix Known)) (parts : List (Word × ParseTree)) (values : List (Postfix Expression)) → parts ≡ map access_known xs → values ≡ map access_value xs → Back (as_postfix (chain_of (Single (derivations e.0).primary) parts)) (accessed (expression_of e.0) values)
+access_chain : (e : Known) (xs : List (Access Known)) (parts : List (Word × ParseTree)) (values : List (Access Expression)) → parts ≡ map access_known xs → values ≡ map access_value xs → Back (as_postfix (chain_of (Single (derivations e.0).primary) parts)) (accessed (expression_of e.0) values)
 access_chain e xs parts values p q = rw (p, q) (access_by e xs)
 
-access_seen : (a : Postfix Known) → access_part ((former-Expr-Postfix-1-at-4).map Expr Derivations (fold-Expr Derivations derivations_step) ((former-Expr-Postfix-1-at-4).map Known Expr (λ p. p.0) a)) ≡ access_known a
-access_seen (postfixes.Property p) = refl
-access_seen (postfixes.Method m place e) = refl
+access_seen : (a : Access Known) → access_part ((former-Expr-Postfix-1-at-4).map Expr Derivations (fold-Expr Derivations derivations_step) ((former-Expr-Postfix-1-at-4).map Known Expr (λ p. p.0) a)) ≡ access_known a
+access_seen (accesses.Property p) = refl
+access_seen (accesses.Method m place e) = refl
 
-access_made : (a : Postfix Known) → (former-Expr-Postfix-1-at-4).map Expr Expression (fold-Expr Expression expression_step) ((former-Expr-Postfix-1-at-4).map Known Expr (λ p. p.0) a) ≡ access_value a
-access_made (postfixes.Property p) = refl
-access_made (postfixes.Method m place e) = refl
+access_made : (a : Access Known) → (former-Expr-Postfix-1-at-4).map Expr Expression (fold-Expr Expression expression_step) ((former-Expr-Postfix-1-at-4).map Known Expr (λ p. p.0) a) ≡ access_value a
+access_made (accesses.Property p) = refl
+access_made (accesses.Method m place e) = refl
 
 -- ---- expressions between commas
 

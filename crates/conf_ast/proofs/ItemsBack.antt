@@ -3,7 +3,7 @@ use Rattle.std.proofs.Common.{◌≡◌, Bool, true, false, List, [], ◌∷◌,
 use Rattle.conf_lex.specs.declared.symbol.Symbol.TheVariants as sym
 use Rattle.conf_lex.specs.declared.word.Word.{Word}
 use Rattle.conf_lex.specs.declared.word.Word.TheVariants as words
-use Rattle.grammar.specs.Grammar.{ParseTree, Leaf, NoWords, Pair, Left, Right, Single, Snoc, Deeper}
+use Rattle.conf_lex.specs.Grammar.{ParseTree, Leaf, NoWords, Pair, Left, Right, Single, Snoc, Deeper}
 use Rattle.filt_syntax.specs.declared.ast.Num.{Num}
 use Rattle.filt_syntax.specs.declared.ast.Num.TheVariants as nums
 use Rattle.filt_syntax.specs.declared.ast.NumRange.{NumRange}
@@ -16,7 +16,7 @@ use Rattle.filt_syntax.specs.declared.ast.Item.TheVariants as items
 use Rattle.filt_syntax.specs.declared.ast.MaskAtom.{MaskAtom}
 use Rattle.filt_syntax.specs.declared.ast.MaskAtom.TheVariants as mask_atoms
 use Rattle.filt_syntax.specs.declared.ast.MaskItem.{MaskItem}
-use Rattle.filt_syntax.specs.ItemView.{num_word, high_tree, part_tree, pair_part_tree, lengths_part, item_tree, items_after, items_tree, mask_atom_tree, many_tree, mask_item_tree, mask_after, mask_items_tree}
+use Rattle.filt_syntax.specs.ItemView.{num_word, high_tree, num_range_tree, pair_part_tree, lengths_part, item_tree, items_after, items_tree, mask_atom_tree, many_tree, mask_item_tree, mask_after, mask_items_tree}
 use Rattle.conf_ast.proofs.Equations.{append_nil}
 use Rattle.conf_ast.proofs.WordsBack.{place_of, name_from}
 
@@ -90,7 +90,7 @@ the_part low high = record { low = low; high = high }
 part_by : (low : Num) (high : Option Num) (m : Num) (h : Option Num) → low ≡ m → high ≡ h → the_part low high ≡ the_part m h
 part_by low high m h p q = ap (λ (x : Num). the_part x high) p ∙ ap (λ (x : Option Num). the_part m x) q
 
-pub part_back : (p : NumRange) → part_from (part_tree p) ≡ p
+pub part_back : (p : NumRange) → part_from (num_range_tree p) ≡ p
 part_back p = part_by _ _ p.low p.high (num_back p.low) (high_back p.high)
 
 pair_part_back : (p : PairPart) → pair_part_from (pair_part_tree p) ≡ p

@@ -3,10 +3,9 @@ use Rattle.std.proofs.Common.{◌≡◌, ℕ, refl, ap}
 use Rattle.conf_lex.specs.declared.symbol.Symbol.TheVariants as sym
 use Rattle.conf_lex.specs.declared.word.Word.{Word}
 use Rattle.conf_lex.specs.declared.word.Word.TheVariants as words
-use Rattle.grammar.specs.declared.named.Name.{Name}
-use Rattle.filt_syntax.specs.declared.ast.Attribute.{Attribute}
-use Rattle.filt_syntax.specs.declared.ast.Attribute.TheVariants as attributes
-use Rattle.filt_syntax.specs.declared.ast.Constant.TheVariants as constants
+use Rattle.conf_lex.specs.declared.named.Name.{Name}
+use Rattle.conf_lex.specs.declared.attribute.Attribute.{Attribute}
+use Rattle.conf_lex.specs.declared.attribute.Attribute.TheVariants as attributes
 use Rattle.filt_syntax.specs.declared.ast.Atom.{Atom}
 use Rattle.filt_syntax.specs.declared.ast.Atom.TheVariants as atoms
 use Rattle.filt_syntax.specs.declared.ast.Property.{Property}
@@ -22,10 +21,11 @@ use Rattle.filt_syntax.specs.declared.ast.CompareOp.{CompareOp}
 use Rattle.filt_syntax.specs.declared.ast.CompareOp.TheVariants as compare_op_ops
 use Rattle.filt_syntax.specs.declared.ast.LogicalOp.{LogicalOp}
 use Rattle.filt_syntax.specs.declared.ast.LogicalOp.TheVariants as logical_ops
-use Rattle.filt_syntax.specs.View.{attribute_word, atom_word, property_symbol, method_word, mul_op_symbol, add_op_symbol, compare_op_symbol, logical_op_symbol}
+use Rattle.filt_syntax.specs.View.{atom_word, property_symbol, method_word, mul_op_symbol, add_op_symbol, compare_op_symbol, logical_op_symbol}
 
 abbrev pub place_of : Word → ℕ
 place_of (words.Placed at s) = at
+place_of (words.Attribute at a) = at
 place_of _ = 0
 
 abbrev pub name_from : Word → Name
@@ -33,19 +33,7 @@ name_from (words.Name at start len) = record { at = at; start = start; len = len
 name_from _ = record { at = 0; start = 0; len = 0 }
 
 abbrev pub attribute_from : Word → Attribute
-attribute_from (words.Placed at sym.Preference) = attributes.Preference
-attribute_from (words.Placed at sym.Gw) = attributes.Gw
-attribute_from (words.Placed at sym.From) = attributes.From
-attribute_from (words.Placed at sym.BgpNextHop) = attributes.BgpNextHop
-attribute_from (words.Placed at sym.Proto) = attributes.Proto
-attribute_from (words.Placed at sym.Source) = attributes.Source
-attribute_from (words.Placed at sym.Dest) = attributes.Dest
-attribute_from (words.Placed at sym.BgpPath) = attributes.BgpPath
-attribute_from (words.Placed at sym.BgpOrigin) = attributes.BgpOrigin
-attribute_from (words.Placed at sym.BgpMed) = attributes.BgpMed
-attribute_from (words.Placed at sym.BgpLocalPref) = attributes.BgpLocalPref
-attribute_from (words.Placed at sym.IgpMetric) = attributes.IgpMetric
-attribute_from (words.Placed at sym.BgpCommunity) = attributes.BgpCommunity
+attribute_from (words.Attribute at a) = a
 attribute_from _ = attributes.Net
 
 abbrev pub simple_from : Word → Atom
@@ -57,30 +45,8 @@ simple_from (words.Placed at sym.True) = atoms.True at
 simple_from (words.Placed at sym.False) = atoms.False at
 simple_from (words.Placed at sym.EmptyPath) = atoms.EmptyPath at
 simple_from (words.Placed at sym.EmptyClist) = atoms.EmptyClist at
-simple_from (words.Placed at sym.Net) = atoms.Attribute at attributes.Net
-simple_from (words.Placed at sym.Preference) = atoms.Attribute at attributes.Preference
-simple_from (words.Placed at sym.Gw) = atoms.Attribute at attributes.Gw
-simple_from (words.Placed at sym.From) = atoms.Attribute at attributes.From
-simple_from (words.Placed at sym.BgpNextHop) = atoms.Attribute at attributes.BgpNextHop
-simple_from (words.Placed at sym.Proto) = atoms.Attribute at attributes.Proto
-simple_from (words.Placed at sym.Source) = atoms.Attribute at attributes.Source
-simple_from (words.Placed at sym.Dest) = atoms.Attribute at attributes.Dest
-simple_from (words.Placed at sym.BgpPath) = atoms.Attribute at attributes.BgpPath
-simple_from (words.Placed at sym.BgpOrigin) = atoms.Attribute at attributes.BgpOrigin
-simple_from (words.Placed at sym.BgpMed) = atoms.Attribute at attributes.BgpMed
-simple_from (words.Placed at sym.BgpLocalPref) = atoms.Attribute at attributes.BgpLocalPref
-simple_from (words.Placed at sym.IgpMetric) = atoms.Attribute at attributes.IgpMetric
-simple_from (words.Placed at sym.BgpCommunity) = atoms.Attribute at attributes.BgpCommunity
-simple_from (words.Placed at sym.RtsStatic) = atoms.Constant at constants.RtsStatic
-simple_from (words.Placed at sym.RtsBgp) = atoms.Constant at constants.RtsBgp
-simple_from (words.Placed at sym.RtdUnicast) = atoms.Constant at constants.RtdUnicast
-simple_from (words.Placed at sym.RtdRouter) = atoms.Constant at constants.RtdRouter
-simple_from (words.Placed at sym.RtdBlackhole) = atoms.Constant at constants.RtdBlackhole
-simple_from (words.Placed at sym.RtdUnreachable) = atoms.Constant at constants.RtdUnreachable
-simple_from (words.Placed at sym.RtdProhibit) = atoms.Constant at constants.RtdProhibit
-simple_from (words.Placed at sym.OriginIgp) = atoms.Constant at constants.OriginIgp
-simple_from (words.Placed at sym.OriginEgp) = atoms.Constant at constants.OriginEgp
-simple_from (words.Placed at sym.OriginIncomplete) = atoms.Constant at constants.OriginIncomplete
+simple_from (words.Attribute at a) = atoms.Attribute at a
+simple_from (words.Constant at c) = atoms.Constant at c
 simple_from _ = atoms.True 0
 
 abbrev pub property_from : Word → Property
@@ -122,21 +88,8 @@ logical_op_from _ = logical_ops.And
 
 -- ---- each word is of what it was made of
 
-pub attribute_back : (at : ℕ) (a : Attribute) → attribute_from (attribute_word at a) ≡ a
-attribute_back at attributes.Net = refl
-attribute_back at attributes.Preference = refl
-attribute_back at attributes.Gw = refl
-attribute_back at attributes.From = refl
-attribute_back at attributes.BgpNextHop = refl
-attribute_back at attributes.Proto = refl
-attribute_back at attributes.Source = refl
-attribute_back at attributes.Dest = refl
-attribute_back at attributes.BgpPath = refl
-attribute_back at attributes.BgpOrigin = refl
-attribute_back at attributes.BgpMed = refl
-attribute_back at attributes.BgpLocalPref = refl
-attribute_back at attributes.IgpMetric = refl
-attribute_back at attributes.BgpCommunity = refl
+pub attribute_back : (at : ℕ) (a : Attribute) → attribute_from (words.Attribute at a) ≡ a
+attribute_back at a = refl
 
 pub simple_back : (s : Atom) → simple_from (atom_word s) ≡ s
 simple_back (atoms.Number at value) = refl
@@ -147,30 +100,8 @@ simple_back (atoms.True at) = refl
 simple_back (atoms.False at) = refl
 simple_back (atoms.EmptyPath at) = refl
 simple_back (atoms.EmptyClist at) = refl
-simple_back (atoms.Attribute at attributes.Net) = refl
-simple_back (atoms.Attribute at attributes.Preference) = refl
-simple_back (atoms.Attribute at attributes.Gw) = refl
-simple_back (atoms.Attribute at attributes.From) = refl
-simple_back (atoms.Attribute at attributes.BgpNextHop) = refl
-simple_back (atoms.Attribute at attributes.Proto) = refl
-simple_back (atoms.Attribute at attributes.Source) = refl
-simple_back (atoms.Attribute at attributes.Dest) = refl
-simple_back (atoms.Attribute at attributes.BgpPath) = refl
-simple_back (atoms.Attribute at attributes.BgpOrigin) = refl
-simple_back (atoms.Attribute at attributes.BgpMed) = refl
-simple_back (atoms.Attribute at attributes.BgpLocalPref) = refl
-simple_back (atoms.Attribute at attributes.IgpMetric) = refl
-simple_back (atoms.Attribute at attributes.BgpCommunity) = refl
-simple_back (atoms.Constant at constants.RtsStatic) = refl
-simple_back (atoms.Constant at constants.RtsBgp) = refl
-simple_back (atoms.Constant at constants.RtdUnicast) = refl
-simple_back (atoms.Constant at constants.RtdRouter) = refl
-simple_back (atoms.Constant at constants.RtdBlackhole) = refl
-simple_back (atoms.Constant at constants.RtdUnreachable) = refl
-simple_back (atoms.Constant at constants.RtdProhibit) = refl
-simple_back (atoms.Constant at constants.OriginIgp) = refl
-simple_back (atoms.Constant at constants.OriginEgp) = refl
-simple_back (atoms.Constant at constants.OriginIncomplete) = refl
+simple_back (atoms.Attribute at a) = refl
+simple_back (atoms.Constant at c) = refl
 
 pub property_back : (x : Property) → property_from (words.Symbol (property_symbol x)) ≡ x
 property_back properties.Len = refl

@@ -3,11 +3,11 @@
 -- begins, and `place` the byte of a parenthesis.
 use Rattle.std.specs.Prelude.{ℕ, List, [], ◌∷◌, Option, Some, None, option_map, Vec}
 use Rattle.std.specs.Global.{Global}
-use Rattle.grammar.specs.declared.named.Name.{Name}
-use Rattle.filt_syntax.specs.declared.ast.Postfix.{Postfix}
-use Rattle.filt_syntax.specs.declared.ast.Postfix.TheVariants as postfixes
+use Rattle.conf_lex.specs.declared.named.Name.{Name}
+use Rattle.filt_syntax.specs.declared.ast.Access.{Access}
+use Rattle.filt_syntax.specs.declared.ast.Access.TheVariants as accesses
 use Rattle.filt_syntax.specs.declared.ast.Arm.{Arm}
-use Rattle.filt_syntax.specs.declared.ast.Attribute.{Attribute}
+use Rattle.conf_lex.specs.declared.attribute.Attribute.{Attribute}
 use Rattle.filt_syntax.specs.declared.ast.Block.{Block}
 use Rattle.filt_syntax.specs.declared.ast.Change.{Change}
 use Rattle.filt_syntax.specs.declared.ast.Change.TheVariants as changes
@@ -68,10 +68,10 @@ expressions [] = NoExpressions
 expressions (e ∷ es) = AndExpressions e (expressions es)
 
 -- what stands behind an operand's dots, one after another
-abbrev pub accessed : Expression → List (Postfix Expression) → Expression
+abbrev pub accessed : Expression → List (Access Expression) → Expression
 accessed a [] = a
-accessed a (postfixes.Property p ∷ more) = accessed (PropertyOf a p) more
-accessed a (postfixes.Method m place e ∷ more) = accessed (Changed a m place e) more
+accessed a (accesses.Property p ∷ more) = accessed (PropertyOf a p) more
+accessed a (accesses.Method m place e ∷ more) = accessed (Changed a m place e) more
 
 -- the operators of a chain, one after another
 abbrev pub multiplied : Expression → List (MulOp × Expression) → Expression

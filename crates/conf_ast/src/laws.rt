@@ -1,6 +1,6 @@
 //! A tree of the grammar is of one abstract syntax and that of one tree, and a text is one at most.
 ghost use Rattle.std.specs.Prelude.{◌≡◌, ℕ, List};
-ghost use Rattle.grammar.specs.Grammar.{DerivesLongest};
+ghost use Rattle.conf_lex.specs.Grammar.{DerivesLongest};
 ghost use Rattle.filt_syntax.specs.declared.ast.Block.{Block};
 ghost use Rattle.filt_syntax.specs.declared.ast.Expr.{Expr};
 ghost use Rattle.filt_syntax.specs.Syntax.{block, expr, rule};

@@ -5,8 +5,8 @@ use Rattle.std.specs.Result.{result_ok}
 use Rattle.std.proofs.lemmas.List.{map-append}
 use Rattle.std.proofs.lemmas.List.Elements.{All-push}
 use Rattle.bits_ip.specs.declared.address.Family.{Family}
-use Rattle.grammar.specs.declared.named.Name.{Name}
-use Rattle.grammar.specs.Names.{name_bytes}
+use Rattle.conf_lex.specs.declared.named.Name.{Name}
+use Rattle.conf_lex.specs.Names.{name_bytes}
 use Rattle.conf_ast.specs.Configurations as conf
 use Rattle.conf_ast.specs.Configurations.{Routine}
 use Rattle.filt_values.specs.declared.fixed.Fixed.{Fixed}

@@ -14,10 +14,10 @@ ghost use Rattle.conf_check.specs.Seen.{Means, passing_or};
 use crate::checked::{ChannelDef, ImportLimit};
 use crate::policy::{export_policy, import_policy, table_number};
 use bits_ip::{Family, OutOfMemory};
+use conf_lex::Name;
 use conf_rules::{Declared, last_table, number_of};
 use conf_tree::ast::{Action, Channel, ChannelOption, Limit, Policy};
 use filt_syntax::ast::Num;
-use grammar::Name;
 use std::alloc::Global;
 
 /// What stands between the braces; nothing where there are none.

@@ -25,12 +25,12 @@ use crate::policy::block_filter;
 use crate::static_protocol::static_protocol;
 use attrs::Seq;
 use bits_ip::{Family, OutOfMemory};
+use conf_lex::Name;
 use conf_rules::{BGP_STEM, Declared, PIPE_STEM, STATIC_STEM, first_in_statement, own_name};
 use conf_tree::ConfFault;
 use conf_tree::ast::{BgpOption, Literal, PipeOption, Protocol, Statement, StaticOption};
 use filt_check::resolve_function;
 use filt_syntax::ast::{Filter, Function};
-use grammar::Name;
 use std::alloc::Global;
 
 // ---- declarations

@@ -9,21 +9,21 @@ use Rattle.conf_lex.specs.Words.{slice_of}
 use Rattle.conf_lex.specs.declared.symbol.Symbol.TheVariants as symbols
 use Rattle.conf_lex.specs.declared.token.Token.{Token}
 use Rattle.conf_lex.specs.declared.word.Word.{Word}
-use Rattle.grammar.specs.Kind.{Kind, IsSymbol, kind_of}
-use Rattle.grammar.specs.Grammar.{ParseTree, yield, DerivesLongest, Derives, too_deep}
-use Rattle.grammar.specs.Sentences.{IsBegunWithin, IsTooDeep}
+use Rattle.conf_lex.specs.Kind.{Kind, IsSymbol, kind_of}
+use Rattle.conf_lex.specs.Grammar.{ParseTree, yield, DerivesLongest, Derives, too_deep}
+use Rattle.conf_lex.specs.Sentences.{IsBegunWithin, IsTooDeep}
 use Rattle.filt_syntax.specs.Syntax.{rule}
 use Rattle.conf_tree.specs.Syntax.{config}
 use Rattle.conf_tree.specs.Significant.{significant_of, significant_words, token_of}
 use Rattle.conf_tree.specs.Sentence.{StopsAt}
-use Rattle.conf_tree.specs.Alike.{AreAlike}
+use Rattle.conf_laws.specs.Alike.{AreAlike}
 use Rattle.conf_tree.specs.declared.significant.Region.{Region}
 use Rattle.conf_tree.specs.declared.significant.Region.TheVariants as regions
-use Rattle.conf_tree.proofs.Decided.{sentences}
-use Rattle.conf_tree.proofs.KindTrees.{kinds_of, same_words, within_alike}
-use Rattle.conf_tree.proofs.Marks.{Mark, mark, marks, marks_both, sym_of, alone, colon_first, slash_first, sort_first, behind_one, folded, no_second, or_kind, first_kind, behind_kind, is_significant_kind, heard, heard_is, heard_both, front_heard, state, IsNext, place_at}
-use Rattle.conf_tree.proofs.ByTokens.{cut_kinds, front_both, kinds_both, last_kind}
-use Rattle.conf_tree.proofs.TokenLaw.{gone_of, len_map, same_front}
+use Rattle.conf_laws.proofs.Decided.{sentences}
+use Rattle.conf_laws.proofs.KindTrees.{kinds_of, same_words, within_alike}
+use Rattle.conf_laws.proofs.Marks.{Mark, mark, marks, marks_both, sym_of, alone, colon_first, slash_first, sort_first, behind_one, folded, no_second, or_kind, first_kind, behind_kind, is_significant_kind, heard, heard_is, heard_both, front_heard, state, IsNext, place_at}
+use Rattle.conf_laws.proofs.ByTokens.{cut_kinds, front_both, kinds_both, last_kind}
+use Rattle.conf_laws.proofs.TokenLaw.{gone_of, len_map, same_front}
 use Rattle.conf_laws.proofs.Levels.{Opens, config_opens, never_within}
 use Rattle.conf_laws.specs.Spaced.{AreSpellings, spaced}
 use Rattle.conf_laws.specs.Begun.{BeginSome, IsConfigOrDeeper}

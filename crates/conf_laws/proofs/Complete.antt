@@ -2,10 +2,10 @@
 use Rattle.std.proofs.Common.{◌≡◌, ◌<◌, Bool, true, false, cond, ◌&&◌, ◌||◌, List, [], ◌∷◌, ◌++◌, length, map, refl, sym, ap, ◌∙◌, arith, append_assoc, append-nil, inl, inr}
 use Rattle.std.proofs.lemmas.Bool.{cases_Bool}
 use Rattle.conf_lex.specs.declared.word.Word.{Word}
-use Rattle.grammar.specs.Kind.{Kind, kind_of}
-use Rattle.grammar.specs.Grammar.{Terminal, Epsilon, Seq, Alt, Repeat, Nested, ParseTree, Leaf, NoWords, Pair, Left, Right, Single, Snoc, Deeper, yield, DerivesLongest, Derives}
-use Rattle.grammar.proofs.Checks.{and_true}
-use Rattle.grammar.proofs.Unique.{fronts}
+use Rattle.conf_lex.specs.Kind.{Kind, kind_of}
+use Rattle.conf_lex.specs.Grammar.{Terminal, Epsilon, Seq, Alt, Repeat, Nested, ParseTree, Leaf, NoWords, Pair, Left, Right, Single, Snoc, Deeper, yield, DerivesLongest, Derives}
+use Rattle.conf_lex.proofs.Checks.{and_true}
+use Rattle.conf_lex.proofs.Unique.{fronts}
 use Rattle.filt_syntax.specs.Syntax.{rule}
 use Rattle.filt_syntax.specs.Levels.{Level, Form, group_level}
 use Rattle.conf_tree.specs.Syntax.{config}

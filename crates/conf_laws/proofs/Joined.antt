@@ -8,12 +8,12 @@ use Rattle.conf_lex.specs.declared.symbol.Symbol.TheVariants as symbols
 use Rattle.conf_lex.specs.declared.token.TokenKind.{TokenKind}
 use Rattle.conf_lex.specs.declared.token.TokenKind.TheVariants as token_kinds
 use Rattle.conf_lex.specs.declared.word.Word.TheVariants as words
-use Rattle.grammar.specs.Kind.{Kind, IsSymbol, kind_of, symbol, name}
+use Rattle.conf_lex.specs.Kind.{Kind, IsSymbol, kind_of, symbol, name}
 use Rattle.conf_tree.specs.declared.significant.Region.{Region}
 use Rattle.conf_tree.specs.declared.significant.Region.TheVariants as regions
-use Rattle.conf_tree.proofs.KindTrees.{kinds_of}
-use Rattle.conf_tree.proofs.Marks.{Mark, sym_of, alone, spelled_kind, colon_first, slash_first, sort_first, behind_one, folded, or_kind, first_kind, no_slash, behind_kind, is_significant_kind, heard, front_heard, state}
-use Rattle.conf_tree.proofs.ByTokens.{is_open}
+use Rattle.conf_laws.proofs.KindTrees.{kinds_of}
+use Rattle.conf_laws.proofs.Marks.{Mark, sym_of, alone, unquoted, spelled_kind, colon_first, slash_first, sort_first, behind_one, folded, or_kind, first_kind, no_slash, behind_kind, is_significant_kind, heard, front_heard, state}
+use Rattle.conf_laws.proofs.ByTokens.{is_open}
 use Rattle.conf_laws.specs.Spaced.{AreSpellings}
 use Rattle.conf_laws.proofs.Pieces.{Good, sign_piece, sign_closebrace, is_number}
 use Rattle.conf_laws.proofs.Complete.{words_of}
@@ -237,18 +237,18 @@ size_two None k e = refl
 size_two (Some j) k e = absurd (omega (arith, e))
 
 else_is : (slice : List ℕ) (k : TokenKind) → is_else (kind_symbol slice k) ≡ true → alone slice k ≡ IsSymbol symbols.Else
-else_is slice token_kinds.Name e = spelled (symbol_of slice) e
+else_is slice token_kinds.Name e = spelled (unquoted slice) (symbol_of slice) e
   where
-    spelled : (o : Option Symbol) → is_else o ≡ true → spelled_kind o ≡ IsSymbol symbols.Else
-    spelled (Some symbols.Else) e = refl
-    spelled (Some _) e = absurd cc
-    spelled None e = absurd cc
-else_is slice token_kinds.Punctuation e = spelled (symbol_of slice) e
+    spelled : (k : Kind) (o : Option Symbol) → is_else o ≡ true → spelled_kind k o ≡ IsSymbol symbols.Else
+    spelled k (Some symbols.Else) e = refl
+    spelled k (Some _) e = absurd cc
+    spelled k None e = absurd cc
+else_is slice token_kinds.Punctuation e = spelled (unquoted slice) (symbol_of slice) e
   where
-    spelled : (o : Option Symbol) → is_else o ≡ true → spelled_kind o ≡ IsSymbol symbols.Else
-    spelled (Some symbols.Else) e = refl
-    spelled (Some _) e = absurd cc
-    spelled None e = absurd cc
+    spelled : (k : Kind) (o : Option Symbol) → is_else o ≡ true → spelled_kind k o ≡ IsSymbol symbols.Else
+    spelled k (Some symbols.Else) e = refl
+    spelled k (Some _) e = absurd cc
+    spelled k None e = absurd cc
 else_is slice token_kinds.QuotedName e = absurd cc
 else_is slice (token_kinds.Number n) e = absurd cc
 else_is slice (token_kinds.Ip addr) e = absurd cc

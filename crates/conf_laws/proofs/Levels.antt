@@ -1,16 +1,16 @@
 -- The word that opens one level too many: no address and no prefix does.
 use Rattle.std.proofs.Common.{◌≡◌, ℕ, zero, suc, Bool, true, false, ◌&&◌, List, [], ◌∷◌, ◌++◌, Option, Some, None, refl, sym, ap, ◌∙◌, append_assoc, inl, inr, ◌⊎◌}
 use Rattle.conf_lex.specs.declared.word.Word.{Word}
-use Rattle.grammar.specs.Kind.{Kind, IsAddress, IsPrefix, IsNoPrefix, kind_of}
-use Rattle.grammar.specs.Grammar.{Terminal, Epsilon, Seq, Alt, Repeat, Nested, ParseTree, Leaf, NoWords, Pair, Left, Right, Single, Snoc, Deeper, yield, or_later, too_deep, DerivesLongest}
-use Rattle.grammar.specs.Sentences.{IsBegunWithin}
-use Rattle.grammar.proofs.Checks.{and_true, not, not_true}
+use Rattle.conf_lex.specs.Kind.{Kind, IsAddress, IsPrefix, IsNoPrefix, kind_of}
+use Rattle.conf_lex.specs.Grammar.{Terminal, Epsilon, Seq, Alt, Repeat, Nested, ParseTree, Leaf, NoWords, Pair, Left, Right, Single, Snoc, Deeper, yield, or_later, too_deep, DerivesLongest}
+use Rattle.conf_lex.specs.Sentences.{IsBegunWithin}
+use Rattle.conf_lex.proofs.Checks.{and_true, not, not_true}
 use Rattle.filt_syntax.specs.Syntax.{rule}
 use Rattle.filt_syntax.specs.Levels.{Level, Form, group_level}
 use Rattle.filt_syntax.proofs.Follows.{no_deep_within}
 use Rattle.conf_tree.specs.Syntax.{config}
 use Rattle.conf_tree.proofs.Tested.{config_checked}
-use Rattle.conf_tree.proofs.ByTokens.{is_net}
+use Rattle.conf_laws.proofs.ByTokens.{is_net}
 
 -- no address and no prefix opens a level
 abbrev nests : Form → Bool

@@ -5,19 +5,22 @@ use Rattle.std.specs.Prelude.{decimal}
 use Rattle.std.proofs.lemmas.Fmt.{decimal_digit}
 use Rattle.bits_ip.specs.Text.{v4_text}
 use Rattle.bits_ip.specs.declared.address.Addr.TheVariants.{V4}
+use Rattle.conf_lex.specs.Attributes.{attribute_of, constant_of}
 use Rattle.conf_lex.specs.Symbols.{symbol_of, is_placed, is_else, is_colon, is_slash}
 use Rattle.conf_lex.specs.Words.{symbol_word}
 use Rattle.conf_lex.specs.Shapes.{IsShape, IsDigits}
 use Rattle.conf_lex.specs.declared.scan.Lexeme.TheVariants as lexemes
+use Rattle.conf_lex.specs.declared.attribute.Attribute.{Attribute}
+use Rattle.conf_lex.specs.declared.attribute.Attribute.TheVariants as attributes
 use Rattle.conf_lex.specs.declared.symbol.Symbol.{Symbol}
 use Rattle.conf_lex.specs.declared.symbol.Symbol.TheVariants as symbols
 use Rattle.conf_lex.specs.declared.token.TokenKind.{TokenKind}
 use Rattle.conf_lex.specs.declared.token.TokenKind.TheVariants as kinds
 use Rattle.conf_lex.specs.declared.word.Word.{Word}
 use Rattle.conf_lex.specs.declared.word.Word.TheVariants as words
-use Rattle.grammar.specs.Kind.{Kind, IsAddress, IsSymbol, kind_of}
+use Rattle.conf_lex.specs.Kind.{Kind, IsAddress, IsAttribute, IsSymbol, kind_of}
 use Rattle.conf_tree.specs.declared.significant.Region.{Region}
-use Rattle.conf_tree.proofs.Marks.{Mark, sym_of, alone, spelled_kind, colon_first, slash_first, sort_first, behind_one, folded, first_kind, behind_kind, is_significant_kind, heard}
+use Rattle.conf_laws.proofs.Marks.{Mark, sym_of, alone, constant_kind, named_kind, unquoted, spelled_kind, colon_first, slash_first, sort_first, behind_one, folded, first_kind, behind_kind, is_significant_kind, heard}
 use Rattle.conf_laws.specs.Spaced.{IsSpelling, AreSpellings}
 
 abbrev pub is_ip : TokenKind → Bool
@@ -72,7 +75,7 @@ colon_is _ e = absurd cc
 pub word_piece : (s : Symbol) (slice : List ℕ) → symbol_of slice ≡ Some s → IsShape lexemes.Word slice (32 ∷ []) → is_else (Some s) ≡ false → is_slash (Some s) ≡ false → IsPiece (symbol_word 0 s, (slice, kinds.Name) ∷ [])
 word_piece s slice is shape no_else slash = record {
   spelled = (record { sort = lexemes.Word; shape = shape; value = tt }, tt);
-  heard = λ r rest calm. one_heard r (slice, kinds.Name) rest (kind_of (symbol_word 0 s)) (plain_first (slice, kinds.Name) rest (ap is_else is ∙ no_else) refl ∙ ap (λ (k : Kind). (k, 1)) (ap spelled_kind is ∙ sym (symbol_kind s (is_placed s) refl)));
+  heard = λ r rest calm. one_heard r (slice, kinds.Name) rest (kind_of (symbol_word 0 s)) (plain_first (slice, kinds.Name) rest (ap is_else is ∙ no_else) refl ∙ ap (λ (k : Kind). (k, 1)) (ap (spelled_kind (unquoted slice)) is ∙ sym (symbol_kind s (is_placed s) refl)));
   no_slash = λ rest. ap is_slash is ∙ slash;
   no_number = λ rest. refl;
   colon = λ rest e. symbol_kind s (is_placed s) refl ∙ ap IsSymbol (colon_is s (ap is_colon (sym is) ∙ e));
@@ -81,10 +84,20 @@ word_piece s slice is shape no_else slash = record {
 pub sign_piece : (s : Symbol) (slice : List ℕ) → symbol_of slice ≡ Some s → IsShape lexemes.Punctuation slice (32 ∷ []) → is_else (Some s) ≡ false → is_slash (Some s) ≡ false → IsPiece (symbol_word 0 s, (slice, kinds.Punctuation) ∷ [])
 sign_piece s slice is shape no_else slash = record {
   spelled = (record { sort = lexemes.Punctuation; shape = shape; value = tt }, tt);
-  heard = λ r rest calm. one_heard r (slice, kinds.Punctuation) rest (kind_of (symbol_word 0 s)) (plain_first (slice, kinds.Punctuation) rest (ap is_else is ∙ no_else) refl ∙ ap (λ (k : Kind). (k, 1)) (ap spelled_kind is ∙ sym (symbol_kind s (is_placed s) refl)));
+  heard = λ r rest calm. one_heard r (slice, kinds.Punctuation) rest (kind_of (symbol_word 0 s)) (plain_first (slice, kinds.Punctuation) rest (ap is_else is ∙ no_else) refl ∙ ap (λ (k : Kind). (k, 1)) (ap (spelled_kind (unquoted slice)) is ∙ sym (symbol_kind s (is_placed s) refl)));
   no_slash = λ rest. ap is_slash is ∙ slash;
   no_number = λ rest. refl;
   colon = λ rest e. symbol_kind s (is_placed s) refl ∙ ap IsSymbol (colon_is s (ap is_colon (sym is) ∙ e));
+}
+
+-- an attribute, spelled so
+pub attribute_piece : (a : Attribute) (slice : List ℕ) → symbol_of slice ≡ None → attribute_of slice ≡ Some a → IsShape lexemes.Word slice (32 ∷ []) → IsPiece (words.Attribute 0 a, (slice, kinds.Name) ∷ [])
+attribute_piece a slice none is shape = record {
+  spelled = (record { sort = lexemes.Word; shape = shape; value = tt }, tt);
+  heard = λ r rest calm. one_heard r (slice, kinds.Name) rest (IsAttribute a) (plain_first (slice, kinds.Name) rest (ap is_else none) refl ∙ ap (λ (k : Kind). (k, 1)) (ap (spelled_kind (unquoted slice)) none ∙ ap (named_kind (constant_kind (constant_of slice))) is));
+  no_slash = λ rest. ap is_slash none;
+  no_number = λ rest. refl;
+  colon = λ rest e. absurd (let never : is_colon None ≡ true = ap is_colon (sym none) ∙ e in cc);
 }
 
 -- ---- the pieces
@@ -158,8 +171,12 @@ pub spelled_communities : symbol_of (codes "communities") ≡ Some symbols.Commu
 unfolding symbol_of
 spelled_communities = refl
 
-pub spelled_bgp_med : symbol_of (codes "bgp_med") ≡ Some symbols.BgpMed
+pub no_symbol_bgp_med : symbol_of (codes "bgp_med") ≡ None
 unfolding symbol_of
+no_symbol_bgp_med = refl
+
+pub spelled_bgp_med : attribute_of (codes "bgp_med") ≡ Some attributes.BgpMed
+unfolding attribute_of
 spelled_bgp_med = refl
 
 pub spelled_address : symbol_of (codes "address") ≡ Some symbols.Address
@@ -226,8 +243,12 @@ pub spelled_true : symbol_of (codes "true") ≡ Some symbols.True
 unfolding symbol_of
 spelled_true = refl
 
-pub spelled_net : symbol_of (codes "net") ≡ Some symbols.Net
+pub no_symbol_net : symbol_of (codes "net") ≡ None
 unfolding symbol_of
+no_symbol_net = refl
+
+pub spelled_net : attribute_of (codes "net") ≡ Some attributes.Net
+unfolding attribute_of
 spelled_net = refl
 
 pub spelled_empty : symbol_of (codes "empty") ≡ Some symbols.Empty
@@ -291,7 +312,7 @@ pieces =
     ∷ (_, word_piece symbols.Table (codes "table") (spelled_table) (refl, refl) refl refl)
     ∷ (_, word_piece symbols.Metric (codes "metric") (spelled_metric) (refl, refl) refl refl)
     ∷ (_, word_piece symbols.Communities (codes "communities") (spelled_communities) (refl, refl) refl refl)
-    ∷ (_, word_piece symbols.BgpMed (codes "bgp_med") (spelled_bgp_med) (refl, refl) refl refl)
+    ∷ (_, attribute_piece attributes.BgpMed (codes "bgp_med") no_symbol_bgp_med spelled_bgp_med (refl, refl))
     ∷ (_, word_piece symbols.Address (codes "address") (spelled_address) (refl, refl) refl refl)
     ∷ (_, word_piece symbols.Time (codes "time") (spelled_time) (refl, refl) refl refl)
     ∷ (_, word_piece symbols.Retry (codes "retry") (spelled_retry) (refl, refl) refl refl)
@@ -308,7 +329,7 @@ pieces =
     ∷ (_, word_piece symbols.Warn (codes "warn") (spelled_warn) (refl, refl) refl refl)
     ∷ (_, word_piece symbols.Len (codes "len") (spelled_len) (refl, refl) refl refl)
     ∷ (_, word_piece symbols.True (codes "true") (spelled_true) (refl, refl) refl refl)
-    ∷ (_, word_piece symbols.Net (codes "net") (spelled_net) (refl, refl) refl refl)
+    ∷ (_, attribute_piece attributes.Net (codes "net") no_symbol_net spelled_net (refl, refl))
     ∷ (_, word_piece symbols.Empty (codes "empty") (spelled_empty) (refl, refl) refl refl)
     ∷ (_, word_piece symbols.Ipv4 (codes "ipv4") (spelled_ipv4) (refl, refl) refl refl)
     ∷ (_, sign_piece symbols.Semicolon (codes ";") (sign_semicolon) (refl, λ e. refl) refl refl)

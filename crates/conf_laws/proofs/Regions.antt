@@ -3,18 +3,18 @@ use Rattle.std.proofs.Common.{◌≡◌, Bool, true, false, ◌&&◌, List, [], 
 use Rattle.conf_lex.specs.declared.symbol.Symbol.{Symbol}
 use Rattle.conf_lex.specs.declared.symbol.Symbol.TheVariants as symbols
 use Rattle.conf_lex.specs.declared.word.Word.{Word}
-use Rattle.grammar.specs.Kind.{Kind, IsSymbol, IsName, kind_of, symbol, name}
-use Rattle.grammar.specs.Grammar.{Terminal, Epsilon, Seq, Alt, Repeat, Nested, ParseTree, Leaf, NoWords, Pair, Left, Right, Single, Snoc, Deeper, yield, Derives}
-use Rattle.grammar.proofs.Checks.{and_true, not, not_true}
-use Rattle.grammar.proofs.Symbols.{same_symbol}
+use Rattle.conf_lex.specs.Kind.{Kind, IsSymbol, IsName, kind_of, symbol, name}
+use Rattle.conf_lex.specs.Grammar.{Terminal, Epsilon, Seq, Alt, Repeat, Nested, ParseTree, Leaf, NoWords, Pair, Left, Right, Single, Snoc, Deeper, yield, Derives}
+use Rattle.conf_lex.proofs.Checks.{and_true, not, not_true}
+use Rattle.conf_lex.proofs.Symbols.{same_symbol}
 use Rattle.filt_syntax.specs.Syntax.{rule, optional, semicolon}
 use Rattle.filt_syntax.specs.Levels.{Level, Form, group_level}
 use Rattle.conf_tree.specs.Syntax.{config, statement, router_id, log, define, table, function, filter, protocol, device, protocol_of, protocol_end, ended_options, static_option, bgp_option, pipe_option}
 use Rattle.conf_tree.specs.declared.significant.Region.{Region}
 use Rattle.conf_tree.specs.declared.significant.Region.TheVariants as regions
-use Rattle.conf_tree.proofs.KindTrees.{kinds_of}
-use Rattle.conf_tree.proofs.Marks.{behind_kind, is_significant_kind}
-use Rattle.conf_tree.proofs.ByTokens.{kinds_both}
+use Rattle.conf_laws.proofs.KindTrees.{kinds_of}
+use Rattle.conf_laws.proofs.Marks.{behind_kind, is_significant_kind}
+use Rattle.conf_laws.proofs.ByTokens.{kinds_both}
 
 -- each of the words says something, and they lead from one region to the other
 abbrev pub Run : Region → List Kind → Region → Type 0

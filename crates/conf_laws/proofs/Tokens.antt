@@ -10,9 +10,9 @@ use Rattle.conf_lex.specs.declared.token.Token.{Token}
 use Rattle.conf_lex.specs.declared.token.TokenKind.TheVariants as token_kinds
 use Rattle.conf_lex.specs.declared.word.Word.{Word}
 use Rattle.conf_lex.specs.declared.word.Word.TheVariants as words
-use Rattle.grammar.specs.Kind.{Kind, IsAddress, kind_of, symbol}
-use Rattle.grammar.specs.Grammar.{ParseTree, yield, begins}
-use Rattle.grammar.specs.Sentences.{IsBegun, IsBegunWithin}
+use Rattle.conf_lex.specs.Kind.{Kind, IsAddress, kind_of, symbol}
+use Rattle.conf_lex.specs.Grammar.{ParseTree, yield, begins}
+use Rattle.conf_lex.specs.Sentences.{IsBegun, IsBegunWithin}
 use Rattle.filt_syntax.specs.Syntax.{rule}
 use Rattle.filt_syntax.specs.RefusedToken.{some_prefix, some_address, torn_of, IsPast, IsPastFirst}
 use Rattle.filt_syntax.specs.declared.parse.SyntaxFault.TheVariants as faults
@@ -25,13 +25,13 @@ use Rattle.conf_tree.specs.Read.{byte_of, IsRefusedText}
 use Rattle.conf_tree.specs.declared.kind.ConfKind.TheVariants as kinds
 use Rattle.conf_tree.specs.declared.significant.Region.{Region}
 use Rattle.conf_tree.specs.declared.significant.Region.TheVariants as regions
-use Rattle.conf_tree.proofs.KindTrees.{kinds_of}
-use Rattle.conf_tree.proofs.Marks.{Mark, mark, marks, marks_both, sym_of, first_kind, behind_kind, is_significant_kind, heard, front_heard, state, IsNext}
-use Rattle.conf_tree.proofs.Whole.{front_begun}
+use Rattle.conf_laws.proofs.KindTrees.{kinds_of}
+use Rattle.conf_laws.proofs.Marks.{Mark, mark, marks, marks_both, sym_of, first_kind, behind_kind, is_significant_kind, heard, front_heard, state, IsNext}
+use Rattle.conf_laws.proofs.WordsBefore.{front_begun}
 use Rattle.bits_ip.specs.declared.address.Addr.{Addr}
-use Rattle.conf_tree.proofs.TokenPlaces.{Rise, one_place, starts, within}
-use Rattle.conf_tree.proofs.ByTokens.{heard_first, is_address, is_net, is_slash_word, kinds_both, one_no_zero, open_address, open_says, state_both}
-use Rattle.conf_tree.proofs.TokenLaw.{gone_of, len_map}
+use Rattle.conf_laws.proofs.TokenPlaces.{Rise, one_place, starts, within}
+use Rattle.conf_laws.proofs.ByTokens.{heard_first, is_address, is_net, is_slash_word, kinds_both, one_no_zero, open_address, open_says, state_both}
+use Rattle.conf_laws.proofs.TokenLaw.{gone_of, len_map}
 use Rattle.conf_laws.proofs.Levels.{Opens}
 use Rattle.conf_laws.specs.Spaced.{AreSpellings, IsSpelling}
 use Rattle.conf_laws.specs.Begun.{BeginSome}

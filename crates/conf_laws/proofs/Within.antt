@@ -11,13 +11,13 @@ use Rattle.conf_lex.specs.declared.token.TokenKind.{TokenKind}
 use Rattle.conf_lex.specs.declared.token.TokenKind.TheVariants as token_kinds
 use Rattle.conf_lex.specs.declared.word.Word.{Word}
 use Rattle.conf_lex.specs.declared.word.Word.TheVariants as words
-use Rattle.grammar.specs.Kind.{Kind, IsAddress, IsPrefix, IsNoPrefix, kind_of}
+use Rattle.conf_lex.specs.Kind.{Kind, IsAddress, IsPrefix, IsNoPrefix, kind_of}
 use Rattle.filt_syntax.specs.RefusedToken.{torn_of, some_prefix, some_address}
 use Rattle.filt_syntax.specs.declared.refused_token.Torn.TheVariants as torns
 use Rattle.conf_tree.specs.declared.significant.Region.{Region}
 use Rattle.conf_tree.specs.declared.significant.Region.TheVariants as regions
-use Rattle.conf_tree.proofs.Marks.{Mark, sym_of, colon_first, slash_first, sort_first, behind_one, folded, or_kind, first_kind, behind_kind, is_significant_kind, heard, front_heard, state}
-use Rattle.conf_tree.proofs.ByTokens.{alone_by_kind, else_no_net, ip_first, is_net, is_open, not_both, open_address, open_says, slash_kind, slash_of_kind, torn_cond}
+use Rattle.conf_laws.proofs.Marks.{Mark, sym_of, colon_first, slash_first, sort_first, behind_one, folded, or_kind, first_kind, behind_kind, is_significant_kind, heard, front_heard, state}
+use Rattle.conf_laws.proofs.ByTokens.{alone_by_kind, else_no_net, ip_first, is_net, is_open, not_both, open_address, open_says, slash_kind, slash_of_kind, torn_cond}
 use Rattle.conf_laws.specs.Spaced.{IsSpelling}
 use Rattle.conf_laws.proofs.Pieces.{IsPiece, is_number, heard_then}
 
@@ -25,8 +25,8 @@ use Rattle.conf_laws.proofs.Pieces.{IsPiece, is_number, heard_then}
 
 net_by : (slice : List ℕ) (k : TokenKind) (ms : List Mark) → is_net (first_kind (slice, k) ms).0 ≡ true → (addr : Addr) × (k ≡ token_kinds.Ip addr)
 net_by slice (token_kinds.Ip addr) ms e = (addr, refl)
-net_by slice token_kinds.Name ms e = absurd (not_both _ e (else_no_net (is_else (symbol_of slice) && colon_first ms) (symbol_of slice)))
-net_by slice token_kinds.Punctuation ms e = absurd (not_both _ e (else_no_net (is_else (symbol_of slice) && colon_first ms) (symbol_of slice)))
+net_by slice token_kinds.Name ms e = absurd (not_both _ e (else_no_net (is_else (symbol_of slice) && colon_first ms) slice (symbol_of slice)))
+net_by slice token_kinds.Punctuation ms e = absurd (not_both _ e (else_no_net (is_else (symbol_of slice) && colon_first ms) slice (symbol_of slice)))
 net_by slice token_kinds.QuotedName ms e = absurd cc
 net_by slice (token_kinds.Number n) ms e = absurd cc
 net_by slice token_kinds.Text ms e = absurd cc
@@ -205,4 +205,6 @@ prefix_word (words.Ip at addr) e = absurd cc
 prefix_word (words.Name at start len) e = absurd cc
 prefix_word (words.Number at value) e = absurd cc
 prefix_word (words.Text at start len) e = absurd cc
+prefix_word (words.Attribute at a) e = absurd cc
+prefix_word (words.Constant at c) e = absurd cc
 prefix_word (words.Placed at s) e = absurd cc

@@ -1,9 +1,9 @@
 -- The words before a refused one begin a sentence.
-use Rattle.std.proofs.Common.{◌≡◌, ℕ, List, ◌++◌, take, drop, sym, subst, ◌∙◌}
+use Rattle.std.proofs.Common.{◌≡◌, ℕ, List, [], ◌∷◌, ◌++◌, take, drop, sym, ap, subst, ◌∙◌, arith, append_assoc}
 use Rattle.std.proofs.lemmas.List.{take-append-drop}
 use Rattle.conf_lex.specs.declared.token.Token.{Token}
 use Rattle.conf_lex.specs.declared.word.Word.{Word}
-use Rattle.grammar.specs.Sentences.{IsBegunWithin}
+use Rattle.conf_lex.specs.Sentences.{IsBegunWithin}
 use Rattle.filt_syntax.specs.Syntax.{rule}
 use Rattle.filt_syntax.specs.Levels.{Form}
 use Rattle.filt_syntax.specs.Parse.{IsRefused}
@@ -11,7 +11,12 @@ use Rattle.filt_syntax.specs.declared.parse.SyntaxFault.TheVariants as faults
 use Rattle.conf_tree.specs.Syntax.{config}
 use Rattle.conf_tree.specs.Significant.{significant_words}
 use Rattle.conf_tree.specs.Sentence.{StopsAt}
-use Rattle.conf_tree.proofs.TokenLaw.{same_front}
+use Rattle.conf_laws.proofs.TokenLaw.{same_front}
+
+-- a front of what begins within the levels does so
+pub front_begun : (ws front : List Word) (w : Word) → ws ≡ front ++ w ∷ [] → IsBegunWithin rule 64 config ws → IsBegunWithin rule 64 config front
+front_begun ws front w e b =
+    (b.0, w ∷ b.1, b.2, b.3 ∙ ap (λ (u : List Word). u ++ b.1) e ∙ append_assoc front (w ∷ []) b.1, λ deep s. omega (arith, b.4 deep s))
 
 front_is : (words before : List Word) (at : ℕ) → words ≡ before ++ drop at words → before ≡ take at words
 front_is words before at e = same_front before (take at words) (drop at words) (sym e ∙ sym (take-append-drop at words))

@@ -1,15 +1,15 @@
--- That some configuration begins with tokens of a text.
+-- For the laws of refusals: that some configuration begins with tokens of a text. From: own.
 use Rattle.std.specs.Prelude.{◌≡◌, ◌≤◌, ◌⊎◌, ℕ, List, ◌++◌, length}
 use Rattle.conf_lex.specs.Lex.{Lexes}
 use Rattle.conf_lex.specs.declared.token.Token.{Token}
-use Rattle.grammar.specs.Grammar.{ParseTree, yield, DerivesLongest}
+use Rattle.conf_lex.specs.Grammar.{ParseTree, yield, DerivesLongest}
 use Rattle.filt_syntax.specs.Syntax.{rule}
 use Rattle.filt_syntax.specs.declared.parse.SyntaxFault.TheVariants as faults
 use Rattle.conf_tree.specs.Syntax.{config}
 use Rattle.conf_tree.specs.Significant.{significant_words}
 use Rattle.conf_tree.specs.Sentence.{IsRefused}
 use Rattle.conf_tree.specs.Read.{IsConfigText}
-use Rattle.conf_tree.specs.Alike.{AreAlike}
+use Rattle.conf_laws.specs.Alike.{AreAlike}
 
 -- The text is a configuration; or it is refused for its levels alone, at a token behind so many.
 abbrev pub IsConfigOrDeeper : List ℕ → List Token → ℕ → ParseTree → Type 0

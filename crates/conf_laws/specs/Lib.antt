@@ -1,2 +1,4 @@
+pub mod Alike
+pub mod Balanced
 pub mod Spaced
 pub mod Begun

@@ -1,4 +1,5 @@
--- Texts that are written of tokens, with a space between each two.
+-- For the laws of texts: those that are written of tokens, with a space between each two. Not
+-- modelled: other gaps and comments. From: own.
 use Rattle.std.specs.Prelude.{ℕ, ⊤, List, [], ◌∷◌, ◌++◌, map}
 use Rattle.conf_lex.specs.Shapes.{IsShape, IsValue}
 use Rattle.conf_lex.specs.Words.{slice_of}

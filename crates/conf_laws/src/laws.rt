@@ -3,7 +3,7 @@ ghost use Rattle.std.specs.Prelude.{◌≡◌, ℕ, List, ◌∷◌, ◌++◌, l
 ghost use Rattle.conf_lex.specs.Lex.{Lexes};
 ghost use Rattle.conf_lex.specs.declared.token.Token.{Token};
 ghost use Rattle.conf_lex.specs.declared.word.Word.{Word};
-ghost use Rattle.grammar.specs.Sentences.{IsBegunWithin};
+ghost use Rattle.conf_lex.specs.Sentences.{IsBegunWithin};
 ghost use Rattle.filt_syntax.specs.Parse.{IsRefused};
 ghost use Rattle.filt_syntax.specs.Syntax.{block, expr, rule};
 ghost use Rattle.conf_tree.specs.Read.{IsRefusedText};
@@ -56,8 +56,8 @@ pub fn refused_words_stand_behind_a_beginning()
 
 /// Where a text is refused at a token, some configuration begins with the tokens before it, and
 /// where it is refused at its end, with all of its tokens. So a refusal stands at the first token
-/// that can't stand there (`refusals_are_by_tokens` of conf_tree), and at no earlier one: this
-/// holds for the slash and the length of a prefix too, which are tokens of one word.
+/// that can't stand there (`refusals_are_by_tokens`), and at no earlier one: this holds for the
+/// slash and the length of a prefix too, which are tokens of one word.
 pub fn refused_tokens_stand_behind_a_beginning()
     ensures token { (text : List ℕ) (front back : List Token) (t : Token)
         → Lexes 0 text (front ++ t ∷ back) → IsRefusedText text t.at ConfKind.Syntax

@@ -1,14 +1,18 @@
 mod Runs
 mod Found
-mod Reached
-mod Tokens
-mod Between
-mod Readings
-mod Numbers
+pub mod Reached
+pub mod Tokens
+pub mod Between
+pub mod Readings
+pub mod Numbers
 mod Spelled
-mod Folded
+pub mod Folded
 mod Places
-mod Told
-mod Each
-mod Made
 mod Walks
+pub mod Good
+pub mod Chains
+pub mod Checks
+pub mod Exact
+pub mod Unique
+pub mod Symbols
+pub mod PartShapes

@@ -358,3 +358,14 @@ pub tells : (text : List ℕ) (sort : Lexeme) (n : ℕ) (kind : TokenKind) → f
 tells text sort n kind is value =
     let token = front_token text sort n is in
     record { sort = sort; some = token.0; within = token.1; token = token.2; value = value }
+
+-- by the sort of a token, where its constructors aren't at hand
+pub by_sort : (P : Lexeme → Type 0) → P lexemes.Word → P lexemes.QuotedName → P lexemes.Decimal → P lexemes.Hexadecimal → P lexemes.Ipv4 → P lexemes.Ipv6 → P lexemes.Text → P lexemes.Punctuation → (sort : Lexeme) → P sort
+by_sort P word quoted decimal hexadecimal dotted colons text sign lexemes.Word = word
+by_sort P word quoted decimal hexadecimal dotted colons text sign lexemes.QuotedName = quoted
+by_sort P word quoted decimal hexadecimal dotted colons text sign lexemes.Decimal = decimal
+by_sort P word quoted decimal hexadecimal dotted colons text sign lexemes.Hexadecimal = hexadecimal
+by_sort P word quoted decimal hexadecimal dotted colons text sign lexemes.Ipv4 = dotted
+by_sort P word quoted decimal hexadecimal dotted colons text sign lexemes.Ipv6 = colons
+by_sort P word quoted decimal hexadecimal dotted colons text sign lexemes.Text = text
+by_sort P word quoted decimal hexadecimal dotted colons text sign lexemes.Punctuation = sign

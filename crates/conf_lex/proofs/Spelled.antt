@@ -8,32 +8,30 @@ use Rattle.std.specs.Prelude.{filter, ◌==◌, ◌&&◌, not, nat_le}
 use Rattle.std.proofs.lemmas.Bool.{cases_Bool, eq-eqb, false≢true}
 use Rattle.conf_lex.specs.Symbols.{lookup, spellings, symbol_of, spellings_of, long_spellings}
 
-abbrev Row : Type 0
-Row = Bor (List ℕ) × Symbol
-
-abbrev pub listed : List (Bor (List ℕ) × Symbol) → List (List ℕ × Symbol)
+abbrev pub listed : {X : Type 0} → List (Bor (List ℕ) × X) → List (List ℕ × X)
 listed table = map (λ entry. (entry.0.now, entry.1)) table
 
-row_cut : (table : List (Bor (List ℕ) × Symbol)) (i : ℕ) (d : Bor (List ℕ) × Symbol) → i < length table → listed (drop i table) ≡ ((get_or table i d).0.now, (get_or table i d).1) ∷ listed (drop (i + 1) table)
-row_cut table i d within =
+row_cut : {X : Type 0} → (table : List (Bor (List ℕ) × X)) (i : ℕ) (e : Bor (List ℕ) × X) → e ≡ get_or table i e → i < length table → listed (drop i table) ≡ (e.0.now, e.1) ∷ listed (drop (i + 1) table)
+row_cut {X = X} table i e is within =
     let next : suc i ≡ i + 1 = omega arith in
-    ap listed (drop-cons table i d within ∙ ap (λ (n : ℕ). get_or table i d ∷ drop n table) next)
+    ap listed (drop-cons table i e within ∙ ap (λ (n : ℕ). get_or table i e ∷ drop n table) next)
+    ∙ ap (λ (r : Bor (List ℕ) × X). (r.0.now, r.1) ∷ listed (drop (i + 1) table)) (sym is)
 
-pub find_here : (table : List (Bor (List ℕ) × Symbol)) (i : ℕ) (d : Bor (List ℕ) × Symbol) (bytes : List ℕ) → i < length table → true ≡ pointwise nat_eq (get_or table i d).0.now bytes
-    → lookup bytes (listed table) ≡ lookup bytes (listed (drop i table)) → Some (get_or table i d).1 ≡ lookup bytes (listed table)
-find_here table i d bytes within same before =
-    sym (before ∙ ap (lookup bytes) (row_cut table i d within) ∙ ap (λ (t : Bool). cond t (Some (get_or table i d).1) (lookup bytes (listed (drop (i + 1) table)))) (sym same))
+pub find_here : {X : Type 0} → (table : List (Bor (List ℕ) × X)) (i : ℕ) (e : Bor (List ℕ) × X) (bytes : List ℕ) → e ≡ get_or table i e → i < length table → true ≡ pointwise nat_eq e.0.now bytes
+    → lookup bytes (listed table) ≡ lookup bytes (listed (drop i table)) → Some e.1 ≡ lookup bytes (listed table)
+find_here table i e bytes is within same before =
+    sym (before ∙ ap (lookup bytes) (row_cut table i e is within) ∙ ap (λ (t : Bool). cond t (Some e.1) (lookup bytes (listed (drop (i + 1) table)))) (sym same))
 
-pub find_next : (table : List (Bor (List ℕ) × Symbol)) (i : ℕ) (d : Bor (List ℕ) × Symbol) (bytes : List ℕ) → i < length table → false ≡ pointwise nat_eq (get_or table i d).0.now bytes
+pub find_next : {X : Type 0} → (table : List (Bor (List ℕ) × X)) (i : ℕ) (e : Bor (List ℕ) × X) (bytes : List ℕ) → e ≡ get_or table i e → i < length table → false ≡ pointwise nat_eq e.0.now bytes
     → lookup bytes (listed table) ≡ lookup bytes (listed (drop i table)) → lookup bytes (listed table) ≡ lookup bytes (listed (drop (i + 1) table))
-find_next table i d bytes within other before =
-    before ∙ ap (lookup bytes) (row_cut table i d within) ∙ ap (λ (t : Bool). cond t (Some (get_or table i d).1) (lookup bytes (listed (drop (i + 1) table)))) (sym other)
+find_next table i e bytes is within other before =
+    before ∙ ap (lookup bytes) (row_cut table i e is within) ∙ ap (λ (t : Bool). cond t (Some e.1) (lookup bytes (listed (drop (i + 1) table)))) (sym other)
 
-nothing_left : (table : List (Bor (List ℕ) × Symbol)) (i : ℕ) → length table ≤ i → drop i table ≡ []
+nothing_left : {X : Type 0} → (table : List (Bor (List ℕ) × X)) (i : ℕ) → length table ≤ i → drop i table ≡ []
 nothing_left table i done = drop_all i table done
 
-pub find_none : (table : List (Bor (List ℕ) × Symbol)) (i : ℕ) (bytes : List ℕ) → length table ≤ i → lookup bytes (listed table) ≡ lookup bytes (listed (drop i table)) → None ≡ lookup bytes (listed table)
-find_none table i bytes done before = sym (before ∙ ap (λ (rows : List (Bor (List ℕ) × Symbol)). lookup bytes (listed rows)) (nothing_left table i done))
+pub find_none : {X : Type 0} → (table : List (Bor (List ℕ) × X)) (i : ℕ) (bytes : List ℕ) → length table ≤ i → lookup bytes (listed table) ≡ lookup bytes (listed (drop i table)) → None ≡ lookup bytes (listed table)
+find_none {X = X} table i bytes done before = sym (before ∙ ap (λ (rows : List (Bor (List ℕ) × X)). lookup bytes (listed rows)) (nothing_left table i done))
 
 filter_yes : (p : List ℕ × Symbol → Bool) (e : List ℕ × Symbol) (es : List (List ℕ × Symbol)) → p e ≡ true → filter p (e ∷ es) ≡ e ∷ filter p es
 filter_yes p e es is = ap (λ (t : Bool). cond t (e ∷ filter p es) (filter p es)) is

@@ -5,6 +5,8 @@ use Rattle.std.specs.Prelude.{MatchOption, MatchResult, IfErr, IsErrAnd, Result,
 use Rattle.std.proofs.lemmas.Bool.{false≢true}
 use Rattle.std.proofs.lemmas.List.{length-append, length-drop, drop-drop}
 use Rattle.bits_ip.specs.declared.address.Addr.{Addr}
+use Rattle.conf_lex.specs.declared.attribute.Attribute.{Attribute}
+use Rattle.conf_lex.specs.declared.attribute.Constant.{Constant}
 use Rattle.conf_lex.specs.declared.lexer.Spot.{Spot}
 use Rattle.conf_lex.specs.declared.symbol.Symbol.{Symbol}
 use Rattle.conf_lex.specs.declared.symbol.Symbol.TheVariants as symbols
@@ -18,9 +20,11 @@ use Rattle.conf_lex.specs.declared.word.Word.TheVariants as words
 use Rattle.conf_lex.specs.Fronts.{begins_colons, Tells}
 use Rattle.conf_lex.specs.Shapes.{IsGap}
 use Rattle.conf_lex.specs.Lex.{IsNext, Lexes, Stops, HasNoSeparator, HasNoToken, IsBadAt, IsRefused}
+use Rattle.conf_lex.specs.Attributes.{attribute_of, constant_of}
 use Rattle.conf_lex.specs.Symbols.{symbol_of, is_placed, is_else, is_colon, is_slash}
-use Rattle.conf_lex.specs.Words.{slice_of, kind_symbol, token_symbol, spelled_word, kind_word, word_of, prefix_word, or_alone, slashed, first_word, words_from}
-use Rattle.conf_lex.specs.Walks.{IsSpot, IsStep, IsStuckFrom, IsWordStep, LexesFrom, begins_colon, number_of, first_number, first_length, IsColonStep, IsNumberStep, IsLengthStep}
+use Rattle.conf_lex.specs.Words.{slice_of, kind_symbol, token_symbol, constant_or_name, named_word, spelled_word, kind_word, word_of, prefix_word, or_alone, slashed, first_word, words_from}
+use Rattle.conf_lex.specs.Walks.{IsSpot, IsStep, IsStuckFrom, IsWordStep, LexesFrom}
+use Rattle.conf_lex.specs.Inside.{begins_colon, number_of, first_number, first_length, IsColonStep, IsNumberStep, IsLengthStep}
 use Rattle.conf_lex.proofs.Tokens.{shape_some}
 use Rattle.conf_lex.proofs.Readings.{next_once, next_is, gap_no_next, gap_ends, gap_stops, lexes_once, lexes_or_stops, stops_once}
 use Rattle.conf_lex.proofs.Folded.{quotes_len, words_behind, drop_one}
@@ -181,14 +185,14 @@ word_slashed text from middle to t addr n kind step behind =
 
 -- ---- what a token's word says of it
 
-spelled_else : (t : Token) (o : Option Symbol) → is_else o ≡ true → spelled_word t o ≡ words.Symbol symbols.Else
-spelled_else t (Some symbols.Else) is = refl
-spelled_else t (Some _) is = absurd (false≢true is)
-spelled_else t None is = absurd (false≢true is)
+spelled_else : (t : Token) (slice : List ℕ) (o : Option Symbol) → is_else o ≡ true → spelled_word t slice o ≡ words.Symbol symbols.Else
+spelled_else t slice (Some symbols.Else) is = refl
+spelled_else t slice (Some _) is = absurd (false≢true is)
+spelled_else t slice None is = absurd (false≢true is)
 
 else_kind : (text : List ℕ) (t : Token) (kind : TokenKind) → is_else (kind_symbol (slice_of text t) kind) ≡ true → kind_word text t kind ≡ words.Symbol symbols.Else
-else_kind text t kinds.Name is = spelled_else t (symbol_of (slice_of text t)) is
-else_kind text t kinds.Punctuation is = spelled_else t (symbol_of (slice_of text t)) is
+else_kind text t kinds.Name is = spelled_else t (slice_of text t) (symbol_of (slice_of text t)) is
+else_kind text t kinds.Punctuation is = spelled_else t (slice_of text t) (symbol_of (slice_of text t)) is
 else_kind text t _ is = absurd (false≢true is)
 
 placed_else : (at : ℕ) (symbol other : Symbol) (b : Bool) → cond b (words.Placed at symbol) (words.Symbol symbol) ≡ words.Symbol other → symbol ≡ other
@@ -199,25 +203,42 @@ placed_never : (at place : ℕ) (symbol : Symbol) (addr : Addr) (b : Bool) → c
 placed_never at place symbol addr true is = cc
 placed_never at place symbol addr false is = cc
 
-spelled_back : (t : Token) (o : Option Symbol) → spelled_word t o ≡ words.Symbol symbols.Else → is_else o ≡ true
-spelled_back t None is = absurd (cc)
-spelled_back t (Some symbol) is = ap (λ (s : Symbol). is_else (Some s)) (placed_else t.at symbol symbols.Else (is_placed symbol) is)
+-- a name, an attribute or a constant is no symbol and no address
+constant_no_symbol : (t : Token) (o : Option Constant) (s : Symbol) → constant_or_name t o ≡ words.Symbol s → ⊥
+constant_no_symbol t None s is = cc
+constant_no_symbol t (Some c) s is = cc
 
-spelled_never : (t : Token) (o : Option Symbol) (at : ℕ) (addr : Addr) → spelled_word t o ≡ words.Ip at addr → ⊥
-spelled_never t None at addr is = cc
-spelled_never t (Some symbol) at addr is = placed_never t.at at symbol addr (is_placed symbol) is
+named_no_symbol : (t : Token) (slice : List ℕ) (o : Option Attribute) (s : Symbol) → named_word t slice o ≡ words.Symbol s → ⊥
+named_no_symbol t slice None s is = constant_no_symbol t (constant_of slice) s is
+named_no_symbol t slice (Some a) s is = cc
+
+constant_no_address : (t : Token) (o : Option Constant) (at : ℕ) (addr : Addr) → constant_or_name t o ≡ words.Ip at addr → ⊥
+constant_no_address t None at addr is = cc
+constant_no_address t (Some c) at addr is = cc
+
+named_no_address : (t : Token) (slice : List ℕ) (o : Option Attribute) (at : ℕ) (addr : Addr) → named_word t slice o ≡ words.Ip at addr → ⊥
+named_no_address t slice None at addr is = constant_no_address t (constant_of slice) at addr is
+named_no_address t slice (Some a) at addr is = cc
+
+spelled_back : (t : Token) (slice : List ℕ) (o : Option Symbol) → spelled_word t slice o ≡ words.Symbol symbols.Else → is_else o ≡ true
+spelled_back t slice None is = absurd (named_no_symbol t slice (attribute_of slice) symbols.Else is)
+spelled_back t slice (Some symbol) is = ap (λ (s : Symbol). is_else (Some s)) (placed_else t.at symbol symbols.Else (is_placed symbol) is)
+
+spelled_never : (t : Token) (slice : List ℕ) (o : Option Symbol) (at : ℕ) (addr : Addr) → spelled_word t slice o ≡ words.Ip at addr → ⊥
+spelled_never t slice None at addr is = named_no_address t slice (attribute_of slice) at addr is
+spelled_never t slice (Some symbol) at addr is = placed_never t.at at symbol addr (is_placed symbol) is
 
 kind_else : (text : List ℕ) (t : Token) (kind : TokenKind) → kind_word text t kind ≡ words.Symbol symbols.Else → is_else (kind_symbol (slice_of text t) kind) ≡ true
-kind_else text t kinds.Name is = spelled_back t (symbol_of (slice_of text t)) is
-kind_else text t kinds.Punctuation is = spelled_back t (symbol_of (slice_of text t)) is
+kind_else text t kinds.Name is = spelled_back t (slice_of text t) (symbol_of (slice_of text t)) is
+kind_else text t kinds.Punctuation is = spelled_back t (slice_of text t) (symbol_of (slice_of text t)) is
 kind_else text t kinds.QuotedName is = absurd (cc)
 kind_else text t kinds.Text is = absurd (cc)
 kind_else text t (kinds.Number n) is = absurd (cc)
 kind_else text t (kinds.Ip addr) is = absurd (cc)
 
 kind_ip : (text : List ℕ) (t : Token) (kind : TokenKind) (at : ℕ) (addr : Addr) → kind_word text t kind ≡ words.Ip at addr → (kind ≡ kinds.Ip addr) × (t.at ≡ at)
-kind_ip text t kinds.Name at addr is = absurd (spelled_never t (symbol_of (slice_of text t)) at addr is)
-kind_ip text t kinds.Punctuation at addr is = absurd (spelled_never t (symbol_of (slice_of text t)) at addr is)
+kind_ip text t kinds.Name at addr is = absurd (spelled_never t (slice_of text t) (symbol_of (slice_of text t)) at addr is)
+kind_ip text t kinds.Punctuation at addr is = absurd (spelled_never t (slice_of text t) (symbol_of (slice_of text t)) at addr is)
 kind_ip text t kinds.QuotedName at addr is = absurd (cc)
 kind_ip text t kinds.Text at addr is = absurd (cc)
 kind_ip text t (kinds.Number n) at addr is = absurd (cc)

@@ -3,7 +3,16 @@ pub mod Shapes
 pub mod Lex
 pub mod Fronts
 pub mod Symbols
+pub mod Attributes
 pub mod Words
 pub mod Spans
-pub mod Made
 pub mod Walks
+pub mod Kind
+pub mod Grammar
+pub mod Reading
+pub mod Sentences
+pub mod Agrees
+pub mod Leaves
+pub mod PartShapes
+pub mod Names
+pub mod Inside

@@ -1,4 +1,4 @@
--- An address as the prefix that holds it alone.
+-- For private contracts alone: an address as the prefix that holds it alone.
 use Rattle.std.specs.Prelude.{◌≡◌}
 use Rattle.std.proofs.Common.{sym}
 use Rattle.bits_ip.specs.Address.{width_of}

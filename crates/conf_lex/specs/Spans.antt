@@ -1,4 +1,4 @@
--- Where tokens stand in their text.
+-- Where tokens stand in their text. Not modelled: lines and columns (conf_tree). From: own.
 use Rattle.std.specs.Prelude.{ℕ, ◌+◌, ◌-◌, ◌<◌, ◌≤◌, List, length, take, drop}
 use Rattle.conf_lex.specs.declared.scan.Lexeme.{Lexeme}
 use Rattle.conf_lex.specs.declared.token.Token.{Token}

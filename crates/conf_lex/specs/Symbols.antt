@@ -1,5 +1,6 @@
--- The words and signs of the grammars and how they are spelled (BIRD User's Guide, "Configuration",
--- "Protocols", "Filters"). A spelling stands here once, in the order of the symbols.
+-- The words and signs of the grammars, but for attributes and constants, and how they are spelled,
+-- each once, in the order of the enum. From: BIRD User's Guide, "Configuration", "Protocols",
+-- "Filters".
 use Rattle.std.specs.Prelude.{ℕ, Bool, true, false, ◌==◌, ◌&&◌, not, nat_le, if◌then◌else◌, Option}
 use Rattle.std.specs.Prelude.{Some, None, List, [], ◌∷◌, length, codes, filter}
 use Rattle.std.specs.Bool.{nat_eq}
@@ -7,8 +8,7 @@ use Rattle.std.specs.Cmp.Lexicographic.{pointwise}
 use Rattle.conf_lex.specs.declared.symbol.Symbol.{Symbol}
 use Rattle.conf_lex.specs.declared.symbol.Symbol.TheVariants as symbols
 
--- each spelling and its symbol: words, attributes, constants and signs. ElseColon is made of two
--- tokens and isn't here.
+-- each spelling and its symbol: words and signs. ElseColon is made of two tokens and isn't here.
 abbrev pub spellings : List (List ℕ × Symbol)
 spellings =
     (codes "router", symbols.Router) ∷ (codes "id", symbols.Id) ∷ (codes "log", symbols.Log)
@@ -49,26 +49,13 @@ spellings =
     ∷ (codes "prefix", symbols.Prefix) ∷ (codes "pair", symbols.Pair)
     ∷ (codes "string", symbols.String) ∷ (codes "bgppath", symbols.PathType)
     ∷ (codes "bgpmask", symbols.MaskType) ∷ (codes "clist", symbols.Clist)
-    ∷ (codes "set", symbols.Set) ∷ (codes "net", symbols.Net)
-    ∷ (codes "preference", symbols.Preference) ∷ (codes "gw", symbols.Gw)
-    ∷ (codes "from", symbols.From) ∷ (codes "bgp_next_hop", symbols.BgpNextHop)
-    ∷ (codes "proto", symbols.Proto) ∷ (codes "source", symbols.Source)
-    ∷ (codes "dest", symbols.Dest) ∷ (codes "bgp_path", symbols.BgpPath)
-    ∷ (codes "bgp_origin", symbols.BgpOrigin) ∷ (codes "bgp_med", symbols.BgpMed)
-    ∷ (codes "bgp_local_pref", symbols.BgpLocalPref) ∷ (codes "igp_metric", symbols.IgpMetric)
-    ∷ (codes "bgp_community", symbols.BgpCommunity) ∷ (codes "RTS_STATIC", symbols.RtsStatic)
-    ∷ (codes "RTS_BGP", symbols.RtsBgp) ∷ (codes "RTD_UNICAST", symbols.RtdUnicast)
-    ∷ (codes "RTD_ROUTER", symbols.RtdRouter) ∷ (codes "RTD_BLACKHOLE", symbols.RtdBlackhole)
-    ∷ (codes "RTD_UNREACHABLE", symbols.RtdUnreachable)
-    ∷ (codes "RTD_PROHIBIT", symbols.RtdProhibit) ∷ (codes "ORIGIN_IGP", symbols.OriginIgp)
-    ∷ (codes "ORIGIN_EGP", symbols.OriginEgp)
-    ∷ (codes "ORIGIN_INCOMPLETE", symbols.OriginIncomplete) ∷ (codes ";", symbols.Semicolon)
-    ∷ (codes "{", symbols.OpenBrace) ∷ (codes "}", symbols.CloseBrace)
-    ∷ (codes "(", symbols.OpenParenthesis) ∷ (codes ")", symbols.CloseParenthesis)
-    ∷ (codes ",", symbols.Comma) ∷ (codes "/", symbols.Slash) ∷ (codes "->", symbols.Arrow)
-    ∷ (codes "=", symbols.Equal) ∷ (codes ".", symbols.Dot) ∷ (codes "&&", symbols.And)
-    ∷ (codes "||", symbols.Or) ∷ (codes "!", symbols.Not) ∷ (codes "!=", symbols.NotEqual)
-    ∷ (codes "<", symbols.Less) ∷ (codes "<=", symbols.LessOrEqual) ∷ (codes ">", symbols.Greater)
+    ∷ (codes "set", symbols.Set) ∷ (codes ";", symbols.Semicolon) ∷ (codes "{", symbols.OpenBrace)
+    ∷ (codes "}", symbols.CloseBrace) ∷ (codes "(", symbols.OpenParenthesis)
+    ∷ (codes ")", symbols.CloseParenthesis) ∷ (codes ",", symbols.Comma)
+    ∷ (codes "/", symbols.Slash) ∷ (codes "->", symbols.Arrow) ∷ (codes "=", symbols.Equal)
+    ∷ (codes ".", symbols.Dot) ∷ (codes "&&", symbols.And) ∷ (codes "||", symbols.Or)
+    ∷ (codes "!", symbols.Not) ∷ (codes "!=", symbols.NotEqual) ∷ (codes "<", symbols.Less)
+    ∷ (codes "<=", symbols.LessOrEqual) ∷ (codes ">", symbols.Greater)
     ∷ (codes ">=", symbols.GreaterOrEqual) ∷ (codes "~", symbols.Matches)
     ∷ (codes "!~", symbols.MatchesNot) ∷ (codes "+", symbols.Plus) ∷ (codes "-", symbols.Minus)
     ∷ (codes "*", symbols.Star) ∷ (codes "+empty+", symbols.EmptyPath)
@@ -78,7 +65,8 @@ spellings =
     ∷ (codes "?", symbols.Question)
     ∷ []
 
-abbrev pub lookup : List ℕ → List (List ℕ × Symbol) → Option Symbol
+-- what is spelled so, in a list of spellings
+abbrev pub lookup : {X : Type 0} → List ℕ → List (List ℕ × X) → Option X
 lookup text [] = None
 lookup text (entry ∷ entries) =
     if pointwise nat_eq entry.0 text then Some entry.1 else lookup text entries
@@ -106,30 +94,6 @@ is_placed symbols.Bgp = true
 is_placed symbols.Pipe = true
 is_placed symbols.True = true
 is_placed symbols.False = true
-is_placed symbols.Net = true
-is_placed symbols.Preference = true
-is_placed symbols.Gw = true
-is_placed symbols.From = true
-is_placed symbols.BgpNextHop = true
-is_placed symbols.Proto = true
-is_placed symbols.Source = true
-is_placed symbols.Dest = true
-is_placed symbols.BgpPath = true
-is_placed symbols.BgpOrigin = true
-is_placed symbols.BgpMed = true
-is_placed symbols.BgpLocalPref = true
-is_placed symbols.IgpMetric = true
-is_placed symbols.BgpCommunity = true
-is_placed symbols.RtsStatic = true
-is_placed symbols.RtsBgp = true
-is_placed symbols.RtdUnicast = true
-is_placed symbols.RtdRouter = true
-is_placed symbols.RtdBlackhole = true
-is_placed symbols.RtdUnreachable = true
-is_placed symbols.RtdProhibit = true
-is_placed symbols.OriginIgp = true
-is_placed symbols.OriginEgp = true
-is_placed symbols.OriginIncomplete = true
 is_placed symbols.EmptyPath = true
 is_placed symbols.EmptyClist = true
 is_placed symbols.OpenMask = true

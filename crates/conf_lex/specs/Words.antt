@@ -1,11 +1,16 @@
 -- The words that a text's tokens are to the grammars: one for each token, but one for an address, a
--- slash and a number, and one for `else` and a colon next after it.
+-- slash and a number, and one for `else` and a colon next after it. Not modelled: which words can
+-- follow each other. From: own; an `else` with a colon is of BIRD User's Guide, "Filters" (section
+-- "Control structures").
 use Rattle.std.specs.Prelude.{ℕ, suc, zero, ◌+◌, ◌-◌, ◌%◌, ◌^◌, ◌≤◌, Bool, true, ◌&&◌, ◌==◌, nat_le}
 use Rattle.std.specs.Prelude.{if◌then◌else◌, ⊤, Option, Some, None, List, [], ◌∷◌, length, take}
 use Rattle.std.specs.Prelude.{drop}
 use Rattle.bits_ip.specs.Address.{number_of, width_of}
 use Rattle.bits_ip.specs.declared.address.Addr.{Addr}
+use Rattle.conf_lex.specs.Attributes.{attribute_of, constant_of}
 use Rattle.conf_lex.specs.Symbols.{symbol_of, is_placed, is_else, is_colon, is_slash}
+use Rattle.conf_lex.specs.declared.attribute.Attribute.{Attribute}
+use Rattle.conf_lex.specs.declared.attribute.Constant.{Constant}
 use Rattle.conf_lex.specs.declared.symbol.Symbol.{Symbol}
 use Rattle.conf_lex.specs.declared.symbol.Symbol.TheVariants as symbols
 use Rattle.conf_lex.specs.declared.token.Token.{Token}
@@ -31,9 +36,18 @@ token_symbol text t = kind_symbol (slice_of text t) t.kind
 abbrev pub symbol_word : ℕ → Symbol → Word
 symbol_word at symbol = if is_placed symbol then words.Placed at symbol else words.Symbol symbol
 
-abbrev pub spelled_word : Token → Option Symbol → Word
-spelled_word t None = words.Name t.at t.at t.len
-spelled_word t (Some symbol) = symbol_word t.at symbol
+-- the word of a token that no grammar quotes, by the attribute or the constant that it is
+abbrev pub constant_or_name : Token → Option Constant → Word
+constant_or_name t None = words.Name t.at t.at t.len
+constant_or_name t (Some constant) = words.Constant t.at constant
+
+abbrev pub named_word : Token → List ℕ → Option Attribute → Word
+named_word t slice None = constant_or_name t (constant_of slice)
+named_word t slice (Some attribute) = words.Attribute t.at attribute
+
+abbrev pub spelled_word : Token → List ℕ → Option Symbol → Word
+spelled_word t slice None = named_word t slice (attribute_of slice)
+spelled_word t slice (Some symbol) = symbol_word t.at symbol
 
 -- the word that a token of this kind is alone
 abbrev pub kind_word : List ℕ → Token → TokenKind → Word
@@ -41,7 +55,7 @@ kind_word text t kinds.QuotedName = words.Name t.at (t.at + 1) (t.len - 2)
 kind_word text t kinds.Text = words.Text t.at (t.at + 1) (t.len - 2)
 kind_word text t (kinds.Number n) = words.Number t.at n
 kind_word text t (kinds.Ip addr) = words.Ip t.at addr
-kind_word text t _ = spelled_word t (symbol_of (slice_of text t))
+kind_word text t _ = spelled_word t (slice_of text t) (symbol_of (slice_of text t))
 
 abbrev pub word_of : List ℕ → Token → Word
 word_of text t = kind_word text t t.kind

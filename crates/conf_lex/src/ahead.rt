@@ -4,8 +4,8 @@ ghost use Rattle.std.specs.Prelude.{◌≡◌, true, false, List, [], None, IfOk
 ghost use Rattle.conf_lex.specs.Symbols.{is_else};
 ghost use Rattle.conf_lex.specs.Words.{token_symbol, word_of, IsWithin};
 ghost use Rattle.conf_lex.specs.Walks.{IsSpot, IsStep, IsStuckFrom, IsWordStep, LexesFrom};
-ghost use Rattle.conf_lex.specs.Walks.{begins_colon, number_of, first_number, first_length};
-ghost use Rattle.conf_lex.specs.Walks.{IsColonStep, IsNumberStep, IsLengthStep};
+ghost use Rattle.conf_lex.specs.Inside.{begins_colon, number_of, first_number, first_length};
+ghost use Rattle.conf_lex.specs.Inside.{IsColonStep, IsNumberStep, IsLengthStep};
 ghost use Rattle.conf_lex.specs.declared.lexer.Spot.{Spot};
 ghost use Rattle.conf_lex.specs.declared.symbol.Symbol.TheVariants as symbols;
 ghost use Rattle.conf_lex.specs.declared.token.Token.{Token};

@@ -4,8 +4,8 @@ ghost use Rattle.conf_lex.specs.Symbols.{is_placed};
 
 use crate::symbol::Symbol;
 
-/// The symbol of the first entry with this spelling.
-fn find(table: &[(&[u8], Symbol)], bytes: &[u8]) -> Option<Symbol>
+/// What the first entry with this spelling stands for.
+pub fn find<T: Copy>(table: &[(&[u8], T)], bytes: &[u8]) -> Option<T>
     ensures { result ≡ lookup bytes.now (map (λ entry. (entry.0.now, entry.1)) table.now) }
 {
     for entry in table {
@@ -47,7 +47,7 @@ fn of_one(bytes: &[u8]) -> Option<Symbol>
 fn of_two(bytes: &[u8]) -> Option<Symbol>
     ensures { result ≡ lookup bytes.now (spellings_of 2) }
 {
-    const TABLE: [(&[u8], Symbol); 19] = [
+    const TABLE: [(&[u8], Symbol); 18] = [
         (b"id", Symbol::Id),
         (b"as", Symbol::As),
         (b"on", Symbol::On),
@@ -56,7 +56,6 @@ fn of_two(bytes: &[u8]) -> Option<Symbol>
         (b"in", Symbol::In),
         (b"do", Symbol::Do),
         (b"ip", Symbol::Ip),
-        (b"gw", Symbol::Gw),
         (b"->", Symbol::Arrow),
         (b"&&", Symbol::And),
         (b"||", Symbol::Or),
@@ -74,7 +73,7 @@ fn of_two(bytes: &[u8]) -> Option<Symbol>
 fn of_three(bytes: &[u8]) -> Option<Symbol>
     ensures { result ≡ lookup bytes.now (spellings_of 3) }
 {
-    const TABLE: [(&[u8], Symbol); 14] = [
+    const TABLE: [(&[u8], Symbol); 13] = [
         (b"log", Symbol::Log),
         (b"bgp", Symbol::Bgp),
         (b"via", Symbol::Via),
@@ -88,7 +87,6 @@ fn of_three(bytes: &[u8]) -> Option<Symbol>
         (b"len", Symbol::Len),
         (b"int", Symbol::Int),
         (b"set", Symbol::Set),
-        (b"net", Symbol::Net),
     ];
     find(&TABLE, bytes)
 }
@@ -96,7 +94,7 @@ fn of_three(bytes: &[u8]) -> Option<Symbol>
 fn of_four(bytes: &[u8]) -> Option<Symbol>
     ensures { result ≡ lookup bytes.now (spellings_of 4) }
 {
-    const TABLE: [(&[u8], Symbol); 20] = [
+    const TABLE: [(&[u8], Symbol); 18] = [
         (b"ipv4", Symbol::Ipv4),
         (b"ipv6", Symbol::Ipv6),
         (b"pipe", Symbol::Pipe),
@@ -115,8 +113,6 @@ fn of_four(bytes: &[u8]) -> Option<Symbol>
         (b"true", Symbol::True),
         (b"bool", Symbol::Bool),
         (b"pair", Symbol::Pair),
-        (b"from", Symbol::From),
-        (b"dest", Symbol::Dest),
     ];
     find(&TABLE, bytes)
 }
@@ -124,7 +120,7 @@ fn of_four(bytes: &[u8]) -> Option<Symbol>
 fn of_five(bytes: &[u8]) -> Option<Symbol>
     ensures { result ≡ lookup bytes.now (spellings_of 5) }
 {
-    const TABLE: [(&[u8], Symbol); 14] = [
+    const TABLE: [(&[u8], Symbol); 13] = [
         (b"table", Symbol::Table),
         (b"route", Symbol::Route),
         (b"local", Symbol::Local),
@@ -138,7 +134,6 @@ fn of_five(bytes: &[u8]) -> Option<Symbol>
         (b"first", Symbol::First),
         (b"false", Symbol::False),
         (b"clist", Symbol::Clist),
-        (b"proto", Symbol::Proto),
     ];
     find(&TABLE, bytes)
 }
@@ -146,7 +141,7 @@ fn of_five(bytes: &[u8]) -> Option<Symbol>
 fn of_six(bytes: &[u8]) -> Option<Symbol>
     ensures { result ≡ lookup bytes.now (spellings_of 6) }
 {
-    const TABLE: [(&[u8], Symbol); 18] = [
+    const TABLE: [(&[u8], Symbol); 17] = [
         (b"router", Symbol::Router),
         (b"define", Symbol::Define),
         (b"filter", Symbol::Filter),
@@ -164,7 +159,6 @@ fn of_six(bytes: &[u8]) -> Option<Symbol>
         (b"printn", Symbol::Printn),
         (b"prefix", Symbol::Prefix),
         (b"string", Symbol::String),
-        (b"source", Symbol::Source),
     ];
     find(&TABLE, bytes)
 }
@@ -172,7 +166,7 @@ fn of_six(bytes: &[u8]) -> Option<Symbol>
 fn of_seven(bytes: &[u8]) -> Option<Symbol>
     ensures { result ≡ lookup bytes.now (spellings_of 7) }
 {
-    const TABLE: [(&[u8], Symbol); 13] = [
+    const TABLE: [(&[u8], Symbol); 11] = [
         (b"default", Symbol::Default),
         (b"address", Symbol::Address),
         (b"connect", Symbol::Connect),
@@ -182,8 +176,6 @@ fn of_seven(bytes: &[u8]) -> Option<Symbol>
         (b"defined", Symbol::Defined),
         (b"bgppath", Symbol::PathType),
         (b"bgpmask", Symbol::MaskType),
-        (b"bgp_med", Symbol::BgpMed),
-        (b"RTS_BGP", Symbol::RtsBgp),
         (b"+empty+", Symbol::EmptyPath),
         (b"-empty-", Symbol::EmptyClist),
     ];
@@ -193,14 +185,13 @@ fn of_seven(bytes: &[u8]) -> Option<Symbol>
 fn of_eight(bytes: &[u8]) -> Option<Symbol>
     ensures { result ≡ lookup bytes.now (spellings_of 8) }
 {
-    const TABLE: [(&[u8], Symbol); 7] = [
+    const TABLE: [(&[u8], Symbol); 6] = [
         (b"function", Symbol::Function),
         (b"protocol", Symbol::Protocol),
         (b"prohibit", Symbol::Prohibit),
         (b"neighbor", Symbol::Neighbor),
         (b"password", Symbol::Password),
         (b"multihop", Symbol::Multihop),
-        (b"bgp_path", Symbol::BgpPath),
     ];
     find(&TABLE, bytes)
 }
@@ -208,28 +199,13 @@ fn of_eight(bytes: &[u8]) -> Option<Symbol>
 fn of_more(bytes: &[u8]) -> Option<Symbol>
     ensures { result ≡ lookup bytes.now long_spellings }
 {
-    const TABLE: [(&[u8], Symbol); 21] = [
+    const TABLE: [(&[u8], Symbol); 6] = [
         (b"blackhole", Symbol::Blackhole),
         (b"unreachable", Symbol::Unreachable),
         (b"interpret", Symbol::Interpret),
         (b"communities", Symbol::Communities),
         (b"description", Symbol::Description),
         (b"keepalive", Symbol::Keepalive),
-        (b"preference", Symbol::Preference),
-        (b"bgp_next_hop", Symbol::BgpNextHop),
-        (b"bgp_origin", Symbol::BgpOrigin),
-        (b"bgp_local_pref", Symbol::BgpLocalPref),
-        (b"igp_metric", Symbol::IgpMetric),
-        (b"bgp_community", Symbol::BgpCommunity),
-        (b"RTS_STATIC", Symbol::RtsStatic),
-        (b"RTD_UNICAST", Symbol::RtdUnicast),
-        (b"RTD_ROUTER", Symbol::RtdRouter),
-        (b"RTD_BLACKHOLE", Symbol::RtdBlackhole),
-        (b"RTD_UNREACHABLE", Symbol::RtdUnreachable),
-        (b"RTD_PROHIBIT", Symbol::RtdProhibit),
-        (b"ORIGIN_IGP", Symbol::OriginIgp),
-        (b"ORIGIN_EGP", Symbol::OriginEgp),
-        (b"ORIGIN_INCOMPLETE", Symbol::OriginIncomplete),
     ];
     find(&TABLE, bytes)
 }
@@ -264,30 +240,6 @@ pub fn is_placed(symbol: Symbol) -> bool
         Symbol::Pipe => true,
         Symbol::True => true,
         Symbol::False => true,
-        Symbol::Net => true,
-        Symbol::Preference => true,
-        Symbol::Gw => true,
-        Symbol::From => true,
-        Symbol::BgpNextHop => true,
-        Symbol::Proto => true,
-        Symbol::Source => true,
-        Symbol::Dest => true,
-        Symbol::BgpPath => true,
-        Symbol::BgpOrigin => true,
-        Symbol::BgpMed => true,
-        Symbol::BgpLocalPref => true,
-        Symbol::IgpMetric => true,
-        Symbol::BgpCommunity => true,
-        Symbol::RtsStatic => true,
-        Symbol::RtsBgp => true,
-        Symbol::RtdUnicast => true,
-        Symbol::RtdRouter => true,
-        Symbol::RtdBlackhole => true,
-        Symbol::RtdUnreachable => true,
-        Symbol::RtdProhibit => true,
-        Symbol::OriginIgp => true,
-        Symbol::OriginEgp => true,
-        Symbol::OriginIncomplete => true,
         Symbol::EmptyPath => true,
         Symbol::EmptyClist => true,
         Symbol::OpenMask => true,

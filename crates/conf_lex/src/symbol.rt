@@ -1,7 +1,6 @@
-/// The words and signs that the grammars of configurations and filters quote, the attributes and
-/// the constants: all that is no name, number, text or address. `ElseColon` is an `else` with a
-/// colon next after it, which begins the last part of
-/// a `case` (BIRD User's Guide, "Control structures").
+/// The words and signs that the grammars of configurations and filters quote: all that is no name,
+/// number, text, address, attribute or constant. `ElseColon` is an `else` with a colon next after
+/// it, which begins the last part of a `case` (BIRD User's Guide, "Control structures").
 #[derive(Clone, Copy, Debug, PartialEq, Eq)]
 pub enum Symbol {
     /// `router`
@@ -184,54 +183,6 @@ pub enum Symbol {
     Clist,
     /// `set`
     Set,
-    /// `net`
-    Net,
-    /// `preference`
-    Preference,
-    /// `gw`
-    Gw,
-    /// `from`
-    From,
-    /// `bgp_next_hop`
-    BgpNextHop,
-    /// `proto`
-    Proto,
-    /// `source`
-    Source,
-    /// `dest`
-    Dest,
-    /// `bgp_path`
-    BgpPath,
-    /// `bgp_origin`
-    BgpOrigin,
-    /// `bgp_med`
-    BgpMed,
-    /// `bgp_local_pref`
-    BgpLocalPref,
-    /// `igp_metric`
-    IgpMetric,
-    /// `bgp_community`
-    BgpCommunity,
-    /// `RTS_STATIC`
-    RtsStatic,
-    /// `RTS_BGP`
-    RtsBgp,
-    /// `RTD_UNICAST`
-    RtdUnicast,
-    /// `RTD_ROUTER`
-    RtdRouter,
-    /// `RTD_BLACKHOLE`
-    RtdBlackhole,
-    /// `RTD_UNREACHABLE`
-    RtdUnreachable,
-    /// `RTD_PROHIBIT`
-    RtdProhibit,
-    /// `ORIGIN_IGP`
-    OriginIgp,
-    /// `ORIGIN_EGP`
-    OriginEgp,
-    /// `ORIGIN_INCOMPLETE`
-    OriginIncomplete,
     /// `;`
     Semicolon,
     /// `{`

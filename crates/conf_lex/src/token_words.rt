@@ -2,10 +2,13 @@ ghost use Rattle.std.specs.Prelude.{◌≡◌, ◌≤◌, ◌<◌, ◌+◌, ℕ,
 ghost use Rattle.std.specs.Prelude.{IfOk, IfSome, MatchOption};
 ghost use Rattle.conf_lex.specs.Lex.{Lexes};
 ghost use Rattle.conf_lex.specs.Symbols.{symbol_of, is_else, is_colon, is_slash};
+ghost use Rattle.conf_lex.specs.Attributes.{attribute_of, constant_of};
 ghost use Rattle.conf_lex.specs.Words.{slice_of, token_symbol, word_of, symbol_word, spelled_word};
+ghost use Rattle.conf_lex.specs.Words.{named_word, constant_or_name};
 ghost use Rattle.conf_lex.specs.Words.{prefix_word, slashed, first_word, words_from, words_of};
 ghost use Rattle.conf_lex.specs.Words.{IsWithin, AreWithin};
 
+use crate::attribute::{attribute_of, constant_of};
 use crate::keywords::{is_placed, symbol_of};
 use crate::packed_addr::PackedAddr;
 use crate::symbol::Symbol;
@@ -48,17 +51,41 @@ pub fn token_symbol(text: &[u8], token: Token) -> Option<Symbol>
     }
 }
 
-fn spelled_word(text: &[u8], token: Token) -> Word
-    requires { IsWithin text.now token }
-    ensures { result ≡ spelled_word token (symbol_of (slice_of text.now token)) }
+fn constant_or_name(token: Token, bytes: &[u8]) -> Word
+    ensures { result ≡ constant_or_name token (constant_of bytes.now) }
 {
-    match symbol_of(token.bytes(text)) {
-        Some(symbol) => symbol_word(token.at, symbol),
+    let at = token.at;
+    match constant_of(bytes) {
+        Some(constant) => Word::Constant { at, constant },
         None => Word::Name {
-            at: token.at,
-            start: token.at,
+            at,
+            start: at,
             len: token.len,
         },
+    }
+}
+
+fn named_word(token: Token, bytes: &[u8]) -> Word
+    ensures { result ≡ named_word token bytes.now (attribute_of bytes.now) }
+{
+    match attribute_of(bytes) {
+        Some(attribute) => Word::Attribute {
+            at: token.at,
+            attribute,
+        },
+        None => constant_or_name(token, bytes),
+    }
+}
+
+fn spelled_word(text: &[u8], token: Token) -> Word
+    requires { IsWithin text.now token }
+    ensures { result ≡ spelled_word token (slice_of text.now token)
+        (symbol_of (slice_of text.now token)) }
+{
+    let bytes = token.bytes(text);
+    match symbol_of(bytes) {
+        Some(symbol) => symbol_word(token.at, symbol),
+        None => named_word(token, bytes),
     }
 }
 
@@ -168,19 +195,9 @@ pub fn word_at(text: &[u8], tokens: &[Token], at: usize) -> Option<(Word, usize)
     }
 }
 
-/// The words of a text whose tokens `lex` gave: a name or a symbol for each token, but one word for
-/// an address, a slash and a number, and one for `else` with a colon next after it.
-pub fn words(alloc: Global, text: &[u8], tokens: &[Token]) -> Result<Words, OutOfMemory>
-    requires { Lexes 0 text.now tokens.now }
-    ensures words { IfOk result (λ found. found.words.items
-        ≡ map (λ word. word.1) (words_of text.now tokens.now)) }
-    ensures starts { IfOk result (λ found. found.starts.items
-        ≡ map (λ word. word.0) (words_of text.now tokens.now)) }
-{
-    words_from(alloc, text, tokens, 0)
-}
-
-/// The words from a token on, as `words` gives them for all tokens.
+/// The words of a text whose tokens `lex` gave, from the token of this number on: a word for each
+/// token, but one word for an address, a slash and a number, and one for `else` with a colon next
+/// after it.
 pub fn words_from(
     alloc: Global,
     text: &[u8],

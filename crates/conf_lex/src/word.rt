@@ -1,5 +1,6 @@
 ghost use Rattle.std.specs.Prelude.{◌≡◌, slice_index_or};
 
+use crate::attribute::{Attribute, Constant};
 use crate::packed_addr::PackedAddr;
 use crate::symbol::Symbol;
 use bits_ip::Prefix;
@@ -21,6 +22,8 @@ pub enum Word {
     /// An address, a slash and a number that make none: a host bit is set, or the length is too
     /// large.
     BadPrefix { at: usize },
+    Attribute { at: usize, attribute: Attribute },
+    Constant { at: usize, constant: Constant },
     Symbol(Symbol),
     /// A symbol that can be a whole expression, begins one or a statement, or at which a later
     /// check may refuse.

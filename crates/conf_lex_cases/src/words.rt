@@ -1,5 +1,5 @@
 use crate::tokens::addr_text;
-use conf_lex::{LexFault, Word, lex, words};
+use conf_lex::{LexFault, Word, lex, words_from};
 use std::alloc::Global;
 use std::io;
 
@@ -18,6 +18,8 @@ fn word_text(alloc: Global, word: Word) -> io::Result<String> {
             format!(in alloc; "{addr}/{len}@{at}")?
         }
         Word::BadPrefix { at } => format!(in alloc; "bad@{at}")?,
+        Word::Attribute { at, attribute } => format!(in alloc; "{attribute:?}@{at}")?,
+        Word::Constant { at, constant } => format!(in alloc; "{constant:?}@{at}")?,
         Word::Symbol(symbol) => format!(in alloc; "{symbol:?}")?,
         Word::Placed { at, symbol } => format!(in alloc; "{symbol:?}@{at}")?,
     })
@@ -39,7 +41,7 @@ fn words_text(alloc: Global, words: &[Word], starts: &[usize]) -> io::Result<Str
 pub fn answer(alloc: Global, text: &[u8]) -> io::Result<String> {
     let out_of_memory = io::Error::from(io::ErrorKind::OutOfMemory);
     match lex(alloc, text) {
-        Ok(tokens) => match words(alloc, text, tokens.as_slice()) {
+        Ok(tokens) => match words_from(alloc, text, tokens.as_slice(), 0) {
             Ok(found) => words_text(alloc, found.words.as_slice(), found.starts.as_slice()),
             Err(_) => Err(out_of_memory),
         },

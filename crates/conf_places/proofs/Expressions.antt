@@ -3,10 +3,10 @@ use Rattle.std.proofs.Common.{◌≡◌, ℕ, List, [], ◌∷◌, map, refl, sy
 use Rattle.conf_lex.specs.declared.word.Word.{Word}
 use Rattle.conf_lex.specs.declared.word.Word.TheVariants as words
 use Rattle.conf_lex.specs.declared.symbol.Symbol.TheVariants as sym
-use Rattle.grammar.specs.Grammar.{Terminal, Seq, Repeat, ParseTree, Leaf, NoWords, Pair, Right, Single, Snoc, DerivesLongest}
-use Rattle.grammar.specs.Shapes.{symbol_leaf}
-use Rattle.filt_syntax.specs.declared.ast.Postfix.{Postfix}
-use Rattle.filt_syntax.specs.declared.ast.Postfix.TheVariants as postfixes
+use Rattle.conf_lex.specs.Grammar.{Terminal, Seq, Repeat, ParseTree, Leaf, NoWords, Pair, Right, Single, Snoc, DerivesLongest}
+use Rattle.conf_lex.specs.Leaves.{symbol_leaf}
+use Rattle.filt_syntax.specs.declared.ast.Access.{Access}
+use Rattle.filt_syntax.specs.declared.ast.Access.TheVariants as accesses
 use Rattle.filt_syntax.specs.declared.ast.MulOp.{MulOp}
 use Rattle.filt_syntax.specs.declared.ast.AddOp.{AddOp}
 use Rattle.filt_syntax.specs.declared.ast.LogicalOp.{LogicalOp}
@@ -149,43 +149,43 @@ module _ (P : ℕ → Type 0) where
 
   -- ---- what stands behind dots
 
-  abbrev access_known : Postfix Known → Word × ParseTree
-  access_known (postfixes.Property p) = (words.Symbol sym.Dot, property_tree p)
-  access_known (postfixes.Method m place e) = (words.Symbol sym.Dot, Right (method_tree m place (derivations e.0).expr))
+  abbrev access_known : Access Known → Word × ParseTree
+  access_known (accesses.Property p) = (words.Symbol sym.Dot, property_tree p)
+  access_known (accesses.Method m place e) = (words.Symbol sym.Dot, Right (method_tree m place (derivations e.0).expr))
 
-  abbrev access_value : Postfix Known → Postfix Expression
-  access_value (postfixes.Property p) = postfixes.Property p
-  access_value (postfixes.Method m place e) = postfixes.Method m place (expression_of e.0)
+  abbrev access_value : Access Known → Access Expression
+  access_value (accesses.Property p) = accesses.Property p
+  access_value (accesses.Method m place e) = accesses.Method m place (expression_of e.0)
 
-  abbrev access_join : Expression → Postfix Known → Expression
-  access_join a (postfixes.Property p) = PropertyOf a p
-  access_join a (postfixes.Method m place e) = Changed a m place (expression_of e.0)
+  abbrev access_join : Expression → Access Known → Expression
+  access_join a (accesses.Property p) = PropertyOf a p
+  access_join a (accesses.Method m place e) = Changed a m place (expression_of e.0)
 
-  access_turn : (a : Expression) (x : Postfix Known) → DerivesLongest rule (Pair (Leaf (access_known x).0) (access_known x).1) forms.access → On P (access_known x).1 → Every P (of_expression a) → Every P (of_expression (access_join a x))
-  access_turn a (postfixes.Property p) k o q = q
-  access_turn a (postfixes.Method m place e) k o q =
+  access_turn : (a : Expression) (x : Access Known) → DerivesLongest rule (Pair (Leaf (access_known x).0) (access_known x).1) forms.access → On P (access_known x).1 → Every P (of_expression a) → Every P (of_expression (access_join a x))
+  access_turn a (accesses.Property p) k o q = q
+  access_turn a (accesses.Method m place e) k o q =
       join P (of_expression a) (m.at ∷ place ∷ of_expression (expression_of e.0)) q (o.0, (o.1.0.0, e.1.expr_on k.1.1.0.1 o.1.0.1))
 
-  access_all : (a : Expression) (xs : List (Postfix Known)) → join_all access_join a xs ≡ accessed a (map access_value xs)
+  access_all : (a : Expression) (xs : List (Access Known)) → join_all access_join a xs ≡ accessed a (map access_value xs)
   access_all a [] = refl
-  access_all a (postfixes.Property p ∷ xs) = access_all (PropertyOf a p) xs
-  access_all a (postfixes.Method m place e ∷ xs) = access_all (Changed a m place (expression_of e.0)) xs
+  access_all a (accesses.Property p ∷ xs) = access_all (PropertyOf a p) xs
+  access_all a (accesses.Method m place e ∷ xs) = access_all (Changed a m place (expression_of e.0)) xs
 
-  access_by : (e : Known) (xs : List (Postfix Known)) → Held P (as_postfix (chain_of (Single (derivations e.0).primary) (map access_known xs))) (accessed (expression_of e.0) (map access_value xs))
+  access_by : (e : Known) (xs : List (Access Known)) → Held P (as_postfix (chain_of (Single (derivations e.0).primary) (map access_known xs))) (accessed (expression_of e.0) (map access_value xs))
   access_by e [] = held_postfix NoWords _ (λ f o. absurd f)
   access_by e (x ∷ xs) = held_postfix _ _ (λ f o. subst (λ (v : Expression). Every P (of_expression v)) (access_all (expression_of e.0) (x ∷ xs))
       (chain_on access_known primary forms.access access_join access_turn (x ∷ xs) (Single (derivations e.0).primary) (expression_of e.0) (λ k p. e.1.primary_on k p) f o))
 
-  access_chain : (e : Known) (xs : List (Postfix Known)) (parts : List (Word × ParseTree)) (values : List (Postfix Expression)) → parts ≡ map access_known xs → values ≡ map access_value xs → Held P (as_postfix (chain_of (Single (derivations e.0).primary) parts)) (accessed (expression_of e.0) values)
+  access_chain : (e : Known) (xs : List (Access Known)) (parts : List (Word × ParseTree)) (values : List (Access Expression)) → parts ≡ map access_known xs → values ≡ map access_value xs → Held P (as_postfix (chain_of (Single (derivations e.0).primary) parts)) (accessed (expression_of e.0) values)
   access_chain e xs parts values p q = rw (p, q) (access_by e xs)
 
-  access_seen : (a : Postfix Known) → access_part ((former-Expr-Postfix-1-at-4).map Expr Derivations (fold-Expr Derivations derivations_step) ((former-Expr-Postfix-1-at-4).map Known Expr (λ p. p.0) a)) ≡ access_known a
-  access_seen (postfixes.Property p) = refl
-  access_seen (postfixes.Method m place e) = refl
+  access_seen : (a : Access Known) → access_part ((former-Expr-Postfix-1-at-4).map Expr Derivations (fold-Expr Derivations derivations_step) ((former-Expr-Postfix-1-at-4).map Known Expr (λ p. p.0) a)) ≡ access_known a
+  access_seen (accesses.Property p) = refl
+  access_seen (accesses.Method m place e) = refl
 
-  access_made : (a : Postfix Known) → (former-Expr-Postfix-1-at-4).map Expr Expression (fold-Expr Expression expression_step) ((former-Expr-Postfix-1-at-4).map Known Expr (λ p. p.0) a) ≡ access_value a
-  access_made (postfixes.Property p) = refl
-  access_made (postfixes.Method m place e) = refl
+  access_made : (a : Access Known) → (former-Expr-Postfix-1-at-4).map Expr Expression (fold-Expr Expression expression_step) ((former-Expr-Postfix-1-at-4).map Known Expr (λ p. p.0) a) ≡ access_value a
+  access_made (accesses.Property p) = refl
+  access_made (accesses.Method m place e) = refl
 
   -- ---- expressions between commas
 

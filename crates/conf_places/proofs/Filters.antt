@@ -1,9 +1,9 @@
 -- What is refused in a filter stands where it is written: what holds of each place of a filter
 -- holds of the places of its refusals.
 use Rattle.std.proofs.Common.{ℕ, Bool, true, false, not, ◌||◌, ◌==◌, if◌then◌else◌, List, [], ◌∷◌, ◌++◌, length, Option, Some, None, nat_lt}
-use Rattle.grammar.specs.declared.named.Name.{Name}
-use Rattle.grammar.specs.Names.{name_bytes}
-use Rattle.filt_syntax.specs.declared.ast.Attribute.TheVariants as attributes
+use Rattle.conf_lex.specs.declared.named.Name.{Name}
+use Rattle.conf_lex.specs.Names.{name_bytes}
+use Rattle.conf_lex.specs.declared.attribute.Attribute.TheVariants as attributes
 use Rattle.filt_syntax.specs.declared.ast.Item.{Item}
 use Rattle.filt_syntax.specs.declared.ast.Item.TheVariants as items
 use Rattle.filt_syntax.specs.declared.ast.Lengths.{Lengths}

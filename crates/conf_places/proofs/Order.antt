@@ -6,7 +6,7 @@ use Rattle.conf_lex.specs.Spans.{IsSpan, IsBetween}
 use Rattle.conf_lex.specs.Words.{first_word, words_from, words_of}
 use Rattle.conf_lex.specs.declared.token.Token.{Token}
 use Rattle.conf_lex.specs.declared.word.Word.{Word}
-use Rattle.grammar.specs.Grammar.{ParseTree, NoWords, Single, Snoc, DerivesLongest, yield}
+use Rattle.conf_lex.specs.Grammar.{ParseTree, NoWords, Single, Snoc, DerivesLongest, yield}
 use Rattle.filt_syntax.specs.Syntax.{rule}
 use Rattle.filt_syntax.specs.StatementView.{row_after}
 use Rattle.conf_tree.specs.Read.{IsConfigText}

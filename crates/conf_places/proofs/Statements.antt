@@ -3,9 +3,9 @@ use Rattle.std.proofs.Common.{ℕ, List, [], ◌∷◌, Option, Some, None, opti
 use Rattle.std.specs.Global.{Global}
 use Rattle.conf_lex.specs.declared.symbol.Symbol.{Symbol}
 use Rattle.conf_lex.specs.declared.symbol.Symbol.TheVariants as sym
-use Rattle.grammar.specs.declared.named.Name.{Name}
-use Rattle.grammar.specs.Grammar.{Seq, ParseTree, NoWords, Single, DerivesLongest}
-use Rattle.grammar.specs.Shapes.{name_leaf}
+use Rattle.conf_lex.specs.declared.named.Name.{Name}
+use Rattle.conf_lex.specs.Grammar.{Seq, ParseTree, NoWords, Single, DerivesLongest}
+use Rattle.conf_lex.specs.Leaves.{name_leaf}
 use Rattle.filt_syntax.specs.declared.ast.Num.{Num}
 use Rattle.filt_syntax.specs.declared.ast.Parameter.{Parameter}
 use Rattle.filt_syntax.specs.declared.ast.Separator.{Separator}

@@ -3,8 +3,11 @@ use Rattle.std.proofs.Common.{◌≡◌, ℕ, zero, suc, ◌+◌, ◌-◌, ◌<�
 use Rattle.bits_ip.specs.declared.address.Addr.{Addr}
 use Rattle.conf_lex.specs.Lex.{Lexes}
 use Rattle.conf_lex.specs.Spans.{IsSpan}
+use Rattle.conf_lex.specs.Attributes.{attribute_of, constant_of}
 use Rattle.conf_lex.specs.Symbols.{symbol_of, is_placed, is_else, is_colon, is_slash}
-use Rattle.conf_lex.specs.Words.{word_of, kind_word, spelled_word, is_prefix, first_word, slashed, or_alone, token_symbol, slice_of, words_from, words_of}
+use Rattle.conf_lex.specs.Words.{word_of, kind_word, constant_or_name, named_word, spelled_word, is_prefix, first_word, slashed, or_alone, token_symbol, slice_of, words_from, words_of}
+use Rattle.conf_lex.specs.declared.attribute.Attribute.{Attribute}
+use Rattle.conf_lex.specs.declared.attribute.Constant.{Constant}
 use Rattle.conf_lex.specs.declared.symbol.Symbol.{Symbol}
 use Rattle.conf_lex.specs.declared.symbol.Symbol.TheVariants as symbols
 use Rattle.conf_lex.specs.declared.token.Token.{Token}
@@ -33,16 +36,24 @@ module _ (P : ℕ → Type 0) where
   symbol_placed true at s p = (p, tt)
   symbol_placed false at s p = tt
 
-  spelled_placed : (t : Token) (s : Option Symbol) → P t.at → Placed (spelled_word t s)
-  spelled_placed t None p = (p, tt)
-  spelled_placed t (Some s) p = symbol_placed (is_placed s) t.at s p
+  constant_placed : (t : Token) (c : Option Constant) → P t.at → Placed (constant_or_name t c)
+  constant_placed t None p = (p, tt)
+  constant_placed t (Some c) p = (p, tt)
+
+  named_placed : (t : Token) (slice : List ℕ) (a : Option Attribute) → P t.at → Placed (named_word t slice a)
+  named_placed t slice None p = constant_placed t (constant_of slice) p
+  named_placed t slice (Some a) p = (p, tt)
+
+  spelled_placed : (t : Token) (slice : List ℕ) (s : Option Symbol) → P t.at → Placed (spelled_word t slice s)
+  spelled_placed t slice None p = named_placed t slice (attribute_of slice) p
+  spelled_placed t slice (Some s) p = symbol_placed (is_placed s) t.at s p
 
   kind_placed : (text : List ℕ) (t : Token) (kind : TokenKind) → P t.at → Placed (kind_word text t kind)
   kind_placed text t kinds.QuotedName p = (p, tt)
   kind_placed text t kinds.Text p = (p, tt)
   kind_placed text t (kinds.Number n) p = (p, tt)
   kind_placed text t (kinds.Ip addr) p = (p, tt)
-  kind_placed text t _ p = spelled_placed t (symbol_of (slice_of text t)) p
+  kind_placed text t _ p = spelled_placed t (slice_of text t) (symbol_of (slice_of text t)) p
 
   prefix_placed : (b : Bool) (at n : ℕ) (addr : Addr) → P at → Placed (if b then words.Prefix at (record { addr = addr; len = n }) else words.BadPrefix at)
   prefix_placed true at n addr p = (p, tt)

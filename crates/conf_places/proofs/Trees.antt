@@ -4,8 +4,8 @@ use Rattle.std.specs.Bool.{⊤}
 use Rattle.conf_lex.specs.declared.symbol.Symbol.TheVariants as sym
 use Rattle.conf_lex.specs.declared.word.Word.{Word}
 use Rattle.conf_lex.specs.declared.word.Word.TheVariants as words
-use Rattle.grammar.specs.Grammar.{Epsilon, Repeat, ParseTree, Leaf, NoWords, Pair, Left, Right, Single, Snoc, Deeper, DerivesLongest, yield}
-use Rattle.grammar.specs.Shapes.{symbol_leaf}
+use Rattle.conf_lex.specs.Grammar.{Epsilon, Repeat, ParseTree, Leaf, NoWords, Pair, Left, Right, Single, Snoc, Deeper, DerivesLongest, yield}
+use Rattle.conf_lex.specs.Leaves.{symbol_leaf}
 use Rattle.filt_syntax.specs.declared.ast.Item.{Item}
 use Rattle.filt_syntax.specs.declared.ast.Item.TheVariants as items
 use Rattle.filt_syntax.specs.declared.ast.Lengths.{Lengths}
@@ -22,7 +22,7 @@ use Rattle.filt_syntax.specs.declared.ast.Atom.{Atom}
 use Rattle.filt_syntax.specs.declared.ast.Atom.TheVariants as atoms
 use Rattle.filt_syntax.specs.Syntax.{rule}
 use Rattle.filt_syntax.specs.Levels.{Form}
-use Rattle.filt_syntax.specs.ItemView.{num_tree, high_tree, part_tree, pair_part_tree, lengths_part, item_tree, items_after, items_tree, mask_atom_tree, mask_item_tree, mask_after, mask_items_tree}
+use Rattle.filt_syntax.specs.ItemView.{num_tree, high_tree, num_range_tree, pair_part_tree, lengths_part, item_tree, items_after, items_tree, mask_atom_tree, mask_item_tree, mask_after, mask_items_tree}
 use Rattle.filt_syntax.specs.StatementView.{row_after}
 use Rattle.filt_syntax.specs.View.{atom_word}
 use Rattle.conf_places.specs.Filters.{of_num, of_optional_num, of_part, of_pair_part, of_lengths, of_item, of_items, of_atom, of_mask, of_simple}
@@ -38,6 +38,8 @@ At P (words.Text at start len) = P at
 At P (words.Ip at addr) = P at
 At P (words.Prefix at net) = P at
 At P (words.BadPrefix at) = P at
+At P (words.Attribute at a) = P at
+At P (words.Constant at c) = P at
 At P (words.Symbol s) = ⊤
 At P (words.Placed at s) = P at
 
@@ -68,6 +70,8 @@ module _ (P : ℕ → Type 0) where
   word_at (words.Ip at addr) h = h.0
   word_at (words.Prefix at net) h = h.0
   word_at (words.BadPrefix at) h = h.0
+  word_at (words.Attribute at a) h = h.0
+  word_at (words.Constant at c) h = h.0
   word_at (words.Symbol s) h = tt
   word_at (words.Placed at s) h = h.0
 
@@ -99,7 +103,7 @@ module _ (P : ℕ → Type 0) where
   high_on None o = tt
   high_on (Some n) o = (num_on n o.1, tt)
 
-  pub part_on : (p : NumRange) → On P (part_tree p) → Every P (of_part p)
+  pub part_on : (p : NumRange) → On P (num_range_tree p) → Every P (of_part p)
   part_on p o = (num_on p.low o.0, high_on p.high o.1)
 
   pair_part_on : (p : PairPart) → On P (pair_part_tree p) → Every P (of_pair_part p)

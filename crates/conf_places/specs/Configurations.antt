@@ -1,7 +1,7 @@
 -- The places that are written in a statement of a configuration: each byte that its abstract syntax
 -- carries, at which a word or a sign of it begins.
 use Rattle.std.specs.Prelude.{◌≡◌, ◌<◌, ℕ, All, Contains, List, [], ◌∷◌, ◌++◌, Option, Some, None}
-use Rattle.grammar.specs.declared.named.Name.{Name}
+use Rattle.conf_lex.specs.declared.named.Name.{Name}
 use Rattle.conf_tree.specs.declared.ast.Address.{Address}
 use Rattle.conf_tree.specs.declared.ast.Limit.{Limit}
 use Rattle.conf_tree.specs.declared.ast.Limit.TheVariants as limits

@@ -13,6 +13,8 @@ of_word (words.Text at start len) = at ∷ []
 of_word (words.Ip at addr) = at ∷ []
 of_word (words.Prefix at net) = at ∷ []
 of_word (words.BadPrefix at) = at ∷ []
+of_word (words.Attribute at a) = at ∷ []
+of_word (words.Constant at c) = at ∷ []
 of_word (words.Symbol s) = []
 of_word (words.Placed at s) = at ∷ []
 

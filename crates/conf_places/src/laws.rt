@@ -1,6 +1,6 @@
 ghost use Rattle.std.specs.Prelude.{◌≡◌, ◌<◌, ℕ, List, ◌∷◌, ◌++◌, length, None, Some, All};
 ghost use Rattle.std.specs.Prelude.{Contains};
-ghost use Rattle.grammar.specs.Grammar.{DerivesLongest, yield};
+ghost use Rattle.conf_lex.specs.Grammar.{DerivesLongest, yield};
 ghost use Rattle.filt_syntax.specs.Syntax.{rule};
 ghost use Rattle.conf_tree.specs.declared.ast.Statement.{Statement};
 ghost use Rattle.conf_tree.specs.Read.{IsConfigText};

@@ -3,7 +3,7 @@ use Rattle.std.specs.Prelude.{ℕ, Bool, true, false, not, ◌||◌, List, [], �
 use Rattle.std.specs.List.{list_any}
 use Rattle.bits_ip.specs.declared.address.Family.{Family}
 use Rattle.bits_ip.specs.declared.address.Family.TheVariants as families
-use Rattle.grammar.specs.declared.named.Name.{Name}
+use Rattle.conf_lex.specs.declared.named.Name.{Name}
 use Rattle.conf_tree.specs.declared.kind.ConfKind.TheVariants as kinds
 use Rattle.conf_tree.specs.declared.ast.Limit.{Limit}
 use Rattle.conf_tree.specs.declared.ast.Limit.TheVariants as limits

@@ -1,6 +1,6 @@
 -- What is refused of the value of a constant.
 use Rattle.std.specs.Prelude.{List, [], ◌++◌}
-use Rattle.grammar.specs.declared.named.Name.{Name}
+use Rattle.conf_lex.specs.declared.named.Name.{Name}
 use Rattle.filt_syntax.specs.declared.ast.Num.{Num}
 use Rattle.conf_tree.specs.declared.kind.ConfKind.TheVariants as kinds
 use Rattle.conf_ast.specs.Configurations.{Value, NumberValue, TextValue, AddressValue, PrefixValue, TrueValue, FalseValue, ValueOf, PairValue, SetValue, MaskValue}

@@ -11,11 +11,11 @@ ghost use Rattle.conf_rules.specs.Seen.{known_of};
 use crate::declared::Declared;
 use crate::filters::{mask, number, over_16_bits, seen_in, set};
 use crate::refusal::{Refusal, note_if};
+use conf_lex::Name;
 use conf_tree::ConfKind;
 use conf_tree::ast::Literal;
 use filt_syntax::ast::Num;
 use filt_types::constant_named;
-use grammar::Name;
 
 /// A part of a pair is a number of at most 16 bits.
 fn part(text: &[u8], declared: &Declared, part: Num, first: &mut Option<Refusal>)

@@ -8,9 +8,9 @@ ghost use Rattle.conf_rules.specs.Seen.{known_of};
 
 use crate::refusal::{Refusal, note_if};
 use bits_ip::Family;
+use conf_lex::Name;
 use conf_tree::ConfKind;
 use filt_tree::Scope;
-use grammar::Name;
 use indexmap::{IndexMap, IndexSet};
 
 /// What a configuration declares before one of its statements: what filters can name and all other

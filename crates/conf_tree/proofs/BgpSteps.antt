@@ -2,19 +2,20 @@
 use Rattle.std.proofs.Common.{◌≡◌, ℕ, zero, suc, Bool, true, false, ◌||◌, List, [], ◌∷◌, refl, ◌∙◌}
 use Rattle.bits_ip.specs.declared.address.Family.{Family}
 use Rattle.bits_ip.specs.declared.address.Family.TheVariants as families
+use Rattle.conf_lex.specs.declared.attribute.Attribute.TheVariants as attributes
 use Rattle.conf_lex.specs.declared.symbol.Symbol.TheVariants as sym
 use Rattle.conf_lex.specs.declared.word.Word.{Word}
 use Rattle.conf_lex.specs.declared.word.Word.TheVariants as words
-use Rattle.grammar.specs.Kind.{Kind, kind_of, name, address, symbol}
-use Rattle.grammar.specs.Grammar.{ParseTree, Leaf, Pair, Right, Bad, begins, first_set}
-use Rattle.grammar.specs.Reading.{Parsed, Failed, and_then, word, both}
-use Rattle.grammar.specs.Shapes.{symbol_leaf}
-use Rattle.grammar.proofs.Shapes.{word_bad}
+use Rattle.conf_lex.specs.Kind.{Kind, attribute, kind_of, name, address, symbol}
+use Rattle.conf_lex.specs.Grammar.{ParseTree, Leaf, Pair, Right, Bad, begins, first_set}
+use Rattle.conf_lex.specs.Reading.{Parsed, Failed, and_then, word, both}
+use Rattle.conf_lex.specs.Leaves.{symbol_leaf}
+use Rattle.conf_lex.proofs.PartShapes.{word_bad}
 use Rattle.filt_syntax.specs.Syntax.{is_num}
 use Rattle.filt_syntax.specs.StatementView.{nth, beyond}
 use Rattle.filt_syntax.proofs.Tested.{is_checked}
 use Rattle.filt_syntax.proofs.Picks.{maps2, first_read}
-use Rattle.conf_tree.specs.Syntax.{is_switch, is_family, channel, bgp_option, pipe_option}
+use Rattle.conf_tree.specs.Syntax.{is_default, is_switch, is_family, channel, bgp_option, pipe_option}
 use Rattle.conf_tree.specs.View.{family_symbol}
 use Rattle.conf_tree.specs.Readers.{optional_address_at, as_at, policy_at, channel_at, transport_at, bgp_option_at, pipe_option_at}
 use Rattle.conf_tree.proofs.Heads.{headed, maps3}
@@ -53,10 +54,7 @@ unfolding bgp_option_at
 interpret_is zero ws u is = headed 4 0 (symbol sym.Interpret) bgp_option _ _ bgp_checked refl refl ws (words.Symbol sym.Interpret) u is refl
 interpret_is (suc k) ws u is = headed 4 (suc k) (symbol sym.Interpret) bgp_option _ _ bgp_checked refl refl ws (words.Symbol sym.Interpret) u is refl
 
-abbrev has_default : Kind → Bool
-has_default k = symbol sym.BgpMed k || symbol sym.BgpLocalPref k
-
-default_is : (k : ℕ) (ws u : List Word) → ws ≡ words.Symbol sym.Default ∷ u → bgp_option_at k ws ≡ and_then (both (word has_default) (word is_num) u) (λ t v. Parsed (nth 5 (Pair (symbol_leaf sym.Default) t)) v)
+default_is : (k : ℕ) (ws u : List Word) → ws ≡ words.Symbol sym.Default ∷ u → bgp_option_at k ws ≡ and_then (both (word is_default) (word is_num) u) (λ t v. Parsed (nth 5 (Pair (symbol_leaf sym.Default) t)) v)
 unfolding bgp_option_at
 default_is zero ws u is = headed 5 0 (symbol sym.Default) bgp_option _ _ bgp_checked refl refl ws (words.Symbol sym.Default) u is refl
 default_is (suc k) ws u is = headed 5 (suc k) (symbol sym.Default) bgp_option _ _ bgp_checked refl refl ws (words.Symbol sym.Default) u is refl
@@ -64,21 +62,21 @@ default_is (suc k) ws u is = headed 5 (suc k) (symbol sym.Default) bgp_option _ 
 abbrev defaulted : Word → ParseTree → ParseTree
 defaulted w t = nth 5 (Pair (symbol_leaf sym.Default) (Pair (Leaf w) t))
 
-default_value : (k : ℕ) (ws u : List Word) (w : Word) (v : List Word) → ws ≡ words.Symbol sym.Default ∷ u → u ≡ w ∷ v → has_default (kind_of w) ≡ true → bgp_option_at k ws ≡ and_then (word is_num v) (λ t x. Parsed (defaulted w t) x)
+default_value : (k : ℕ) (ws u : List Word) (w : Word) (v : List Word) → ws ≡ words.Symbol sym.Default ∷ u → u ≡ w ∷ v → is_default (kind_of w) ≡ true → bgp_option_at k ws ≡ and_then (word is_num v) (λ t x. Parsed (defaulted w t) x)
 default_value k ws u w v is next passes = default_is k ws u is ∙ rw (next, passes) (maps2 (word is_num v) (λ t. Pair (Leaf w) t) (λ t. nth 5 (Pair (symbol_leaf sym.Default) t)))
 
-pub default_med : (k at : ℕ) (ws u v : List Word) → ws ≡ words.Symbol sym.Default ∷ u → u ≡ words.Placed at sym.BgpMed ∷ v → bgp_option_at k ws ≡ and_then (word is_num v) (λ t x. Parsed (defaulted (words.Placed at sym.BgpMed) t) x)
-default_med k at ws u v is next = default_value k ws u (words.Placed at sym.BgpMed) v is next refl
+pub default_med : (k at : ℕ) (ws u v : List Word) → ws ≡ words.Symbol sym.Default ∷ u → u ≡ words.Attribute at attributes.BgpMed ∷ v → bgp_option_at k ws ≡ and_then (word is_num v) (λ t x. Parsed (defaulted (words.Attribute at attributes.BgpMed) t) x)
+default_med k at ws u v is next = default_value k ws u (words.Attribute at attributes.BgpMed) v is next refl
 
-pub default_local_pref : (k at : ℕ) (ws u v : List Word) → ws ≡ words.Symbol sym.Default ∷ u → u ≡ words.Placed at sym.BgpLocalPref ∷ v → bgp_option_at k ws ≡ and_then (word is_num v) (λ t x. Parsed (defaulted (words.Placed at sym.BgpLocalPref) t) x)
-default_local_pref k at ws u v is next = default_value k ws u (words.Placed at sym.BgpLocalPref) v is next refl
+pub default_local_pref : (k at : ℕ) (ws u v : List Word) → ws ≡ words.Symbol sym.Default ∷ u → u ≡ words.Attribute at attributes.BgpLocalPref ∷ v → bgp_option_at k ws ≡ and_then (word is_num v) (λ t x. Parsed (defaulted (words.Attribute at attributes.BgpLocalPref) t) x)
+default_local_pref k at ws u v is next = default_value k ws u (words.Attribute at attributes.BgpLocalPref) v is next refl
 
 begins_none_of : (p q : Kind → Bool) (ws : List Word) → begins p ws ≡ false → begins q ws ≡ false → begins (λ k. p k || q k) ws ≡ false
 begins_none_of p q [] a b = refl
 begins_none_of p q (w ∷ ws) a b = rw (a, b) refl
 
-pub default_bad : (k : ℕ) (ws u : List Word) → ws ≡ words.Symbol sym.Default ∷ u → begins (symbol sym.BgpMed) u ≡ false → begins (symbol sym.BgpLocalPref) u ≡ false → bgp_option_at k ws ≡ Failed Bad u
-default_bad k ws u is med pref = default_is k ws u is ∙ rw (word_bad has_default u (begins_none_of (symbol sym.BgpMed) (symbol sym.BgpLocalPref) u med pref)) refl
+pub default_bad : (k : ℕ) (ws u : List Word) → ws ≡ words.Symbol sym.Default ∷ u → begins (attribute attributes.BgpMed) u ≡ false → begins (attribute attributes.BgpLocalPref) u ≡ false → bgp_option_at k ws ≡ Failed Bad u
+default_bad k ws u is med pref = default_is k ws u is ∙ rw (word_bad is_default u (begins_none_of (attribute attributes.BgpMed) (attribute attributes.BgpLocalPref) u med pref)) refl
 
 -- where no option comes next but of the transport
 pub record IsTransport (ws : List Word) : Type 0 where

@@ -1,20 +1,21 @@
 -- Reading channels and their options, one step of the parser after another.
 use Rattle.std.proofs.Common.{◌≡◌, ℕ, zero, suc, true, false, List, [], ◌∷◌, refl, ap, ◌∙◌}
+use Rattle.conf_lex.specs.declared.attribute.Attribute.TheVariants as attributes
 use Rattle.conf_lex.specs.declared.symbol.Symbol.TheVariants as sym
 use Rattle.conf_lex.specs.declared.word.Word.{Word}
 use Rattle.conf_lex.specs.declared.word.Word.TheVariants as words
 use Rattle.bits_ip.specs.declared.address.Family.{Family}
 use Rattle.bits_ip.specs.declared.address.Family.TheVariants as families
-use Rattle.grammar.specs.Kind.{kind_of, name, symbol}
-use Rattle.grammar.specs.Grammar.{Terminal, Alt, ParseTree, NoWords, Pair, Left, Right, begins}
-use Rattle.grammar.specs.Reading.{Read, Parsed, Reader, and_then, word, both, read}
-use Rattle.grammar.specs.Shapes.{symbol_leaf}
+use Rattle.conf_lex.specs.Kind.{attribute, kind_of, name, symbol}
+use Rattle.conf_lex.specs.Grammar.{Terminal, Alt, ParseTree, NoWords, Pair, Left, Right, begins}
+use Rattle.conf_lex.specs.Reading.{Read, Parsed, Reader, and_then, word, both, read}
+use Rattle.conf_lex.specs.Leaves.{symbol_leaf}
 use Rattle.filt_syntax.specs.Syntax.{optional, is_num, rule}
 use Rattle.filt_syntax.specs.StatementView.{nth, beyond}
 use Rattle.filt_syntax.proofs.Tested.{is_checked}
 use Rattle.filt_syntax.proofs.Picks.{maps2}
 use Rattle.conf_tree.specs.Syntax.{is_family, is_hop, policy, limit, channel_option, channel_options}
-use Rattle.conf_tree.specs.View.{placed_leaf, family_symbol, family_leaf}
+use Rattle.conf_tree.specs.View.{attribute_leaf, family_symbol, family_leaf}
 use Rattle.conf_tree.specs.Readers.{policy_at, limit_value_at, channel_option_at, closed_options, channel_at}
 use Rattle.conf_tree.proofs.Heads.{maps4, headed}
 
@@ -65,16 +66,16 @@ pub option_export : (k : ℕ) (ws u : List Word) → ws ≡ words.Symbol sym.Exp
 unfolding channel_option_at policy_at
 option_export k ws u is = headed 2 k (symbol sym.Export) channel_option policy _ channel_option_checked refl refl ws (words.Symbol sym.Export) u is refl
 
-pub option_preference : (k at : ℕ) (ws u : List Word) → ws ≡ words.Placed at sym.Preference ∷ u → channel_option_at k ws ≡ and_then (word is_num u) (λ t v. Parsed (nth 3 (Pair (placed_leaf at sym.Preference) t)) v)
+pub option_preference : (k at : ℕ) (ws u : List Word) → ws ≡ words.Attribute at attributes.Preference ∷ u → channel_option_at k ws ≡ and_then (word is_num u) (λ t v. Parsed (nth 3 (Pair (attribute_leaf at attributes.Preference) t)) v)
 unfolding channel_option_at
-option_preference zero at ws u is = headed 3 0 (symbol sym.Preference) channel_option (Terminal is_num) _ channel_option_checked refl refl ws (words.Placed at sym.Preference) u is refl
-option_preference (suc k) at ws u is = headed 3 (suc k) (symbol sym.Preference) channel_option (Terminal is_num) _ channel_option_checked refl refl ws (words.Placed at sym.Preference) u is refl
+option_preference zero at ws u is = headed 3 0 (attribute attributes.Preference) channel_option (Terminal is_num) _ channel_option_checked refl refl ws (words.Attribute at attributes.Preference) u is refl
+option_preference (suc k) at ws u is = headed 3 (suc k) (attribute attributes.Preference) channel_option (Terminal is_num) _ channel_option_checked refl refl ws (words.Attribute at attributes.Preference) u is refl
 
 abbrev hop_words : Reader
 hop_words = both (word (symbol sym.Next)) (both (word (symbol sym.Hop)) (word is_hop))
 
 -- what begins no other option is a next hop, or none
-pub option_hop : (k : ℕ) (ws : List Word) → begins (symbol sym.Table) ws ≡ false → begins (symbol sym.Import) ws ≡ false → begins (symbol sym.Export) ws ≡ false → begins (symbol sym.Preference) ws ≡ false → channel_option_at k ws ≡ and_then (both (word (symbol sym.Next)) (both (word (symbol sym.Hop)) (word is_hop)) ws) (λ t u. Parsed (beyond 4 t) u)
+pub option_hop : (k : ℕ) (ws : List Word) → begins (symbol sym.Table) ws ≡ false → begins (symbol sym.Import) ws ≡ false → begins (symbol sym.Export) ws ≡ false → begins (attribute attributes.Preference) ws ≡ false → channel_option_at k ws ≡ and_then (both (word (symbol sym.Next)) (both (word (symbol sym.Hop)) (word is_hop)) ws) (λ t u. Parsed (beyond 4 t) u)
 unfolding channel_option_at
 option_hop zero [] a b c d = refl
 option_hop (suc k) [] a b c d = refl

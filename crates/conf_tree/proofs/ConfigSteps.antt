@@ -8,15 +8,15 @@ use Rattle.bits_ip.specs.declared.address.Family.TheVariants as families
 use Rattle.conf_lex.specs.declared.symbol.Symbol.TheVariants as sym
 use Rattle.conf_lex.specs.declared.word.Word.{Word}
 use Rattle.conf_lex.specs.declared.word.Word.TheVariants as words
-use Rattle.grammar.specs.Kind.{kind_of, name, address, symbol}
-use Rattle.grammar.specs.Grammar.{Epsilon, ParseTree, NoWords, Pair, Single, Snoc, begins, first_set, yield, Bad}
-use Rattle.grammar.specs.Reading.{Read, Parsed, Failed, Reader, and_then, word, both, read}
-use Rattle.grammar.specs.Shapes.{symbol_leaf}
-use Rattle.grammar.specs.Agrees.{AgreesOnError}
-use Rattle.grammar.specs.declared.refusal.Refusal.{Refusal}
-use Rattle.grammar.proofs.Good.{fits_front}
-use Rattle.grammar.proofs.Chains.{turn, full_words}
-use Rattle.grammar.proofs.Shapes.{fails_then, fails_along, bool_cases, begun, refuses}
+use Rattle.conf_lex.specs.Kind.{kind_of, name, address, symbol}
+use Rattle.conf_lex.specs.Grammar.{Epsilon, ParseTree, NoWords, Pair, Single, Snoc, begins, first_set, yield, Bad}
+use Rattle.conf_lex.specs.Reading.{Read, Parsed, Failed, Reader, and_then, word, both, read}
+use Rattle.conf_lex.specs.Leaves.{symbol_leaf}
+use Rattle.conf_lex.specs.Agrees.{AgreesOnError}
+use Rattle.conf_lex.specs.declared.refusal.Refusal.{Refusal}
+use Rattle.conf_lex.proofs.Good.{fits_front}
+use Rattle.conf_lex.proofs.Chains.{turn, full_words}
+use Rattle.conf_lex.proofs.PartShapes.{fails_then, fails_along, bool_cases, begun, refuses}
 use Rattle.filt_syntax.specs.Syntax.{rule}
 use Rattle.filt_syntax.specs.StatementReaders.{block_at}
 use Rattle.filt_syntax.specs.StatementView.{nth, row_after, row_tree}

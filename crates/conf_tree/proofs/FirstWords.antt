@@ -1,9 +1,9 @@
 -- Reading the last of several forms by the word that begins it, and a part by another reader.
 use Rattle.std.proofs.Common.{◌≡◌, ℕ, Bool, true, List, ◌∷◌, refl, ap, ◌∙◌}
 use Rattle.conf_lex.specs.declared.word.Word.{Word}
-use Rattle.grammar.specs.Kind.{Kind, kind_of}
-use Rattle.grammar.specs.Grammar.{Terminal, Seq, Leaf, Pair, Right}
-use Rattle.grammar.specs.Reading.{Read, Parsed, Failed, Reader, and_then, both, read}
+use Rattle.conf_lex.specs.Kind.{Kind, kind_of}
+use Rattle.conf_lex.specs.Grammar.{Terminal, Seq, Leaf, Pair, Right}
+use Rattle.conf_lex.specs.Reading.{Read, Parsed, Failed, Reader, and_then, both, read}
 use Rattle.filt_syntax.specs.Syntax.{rule}
 use Rattle.filt_syntax.specs.Levels.{Form}
 use Rattle.filt_syntax.specs.StatementView.{beyond}

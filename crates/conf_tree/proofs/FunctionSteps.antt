@@ -3,13 +3,14 @@ use Rattle.std.proofs.Common.{◌≡◌, ◌<◌, ◌≤◌, true, false, List, 
 use Rattle.conf_lex.specs.declared.symbol.Symbol.TheVariants as sym
 use Rattle.conf_lex.specs.declared.word.Word.{Word}
 use Rattle.conf_lex.specs.declared.word.Word.TheVariants as words
-use Rattle.grammar.specs.Kind.{kind_of, symbol}
-use Rattle.grammar.specs.Grammar.{ParseTree, NoWords, Pair, Left, Right, Single, Snoc, begins, first_set, Bad}
-use Rattle.grammar.specs.Reading.{Parsed, Failed, Reader, and_then, word, both}
-use Rattle.grammar.specs.Shapes.{symbol_leaf, links}
-use Rattle.grammar.specs.Agrees.{AgreesOnError}
-use Rattle.grammar.specs.declared.refusal.Refusal.{Refusal}
-use Rattle.grammar.proofs.Shapes.{fails_then, fails_along, word_bad, bool_cases, begins_none, Turns, links_more, links_fail, links_end, refuses, shorter, chain_turns}
+use Rattle.conf_lex.specs.Kind.{kind_of, symbol}
+use Rattle.conf_lex.specs.Grammar.{ParseTree, NoWords, Pair, Left, Right, Single, Snoc, begins, first_set, Bad}
+use Rattle.conf_lex.specs.Reading.{Parsed, Failed, Reader, and_then, word, both}
+use Rattle.conf_lex.specs.PartShapes.{links}
+use Rattle.conf_lex.specs.Leaves.{symbol_leaf}
+use Rattle.conf_lex.specs.Agrees.{AgreesOnError}
+use Rattle.conf_lex.specs.declared.refusal.Refusal.{Refusal}
+use Rattle.conf_lex.proofs.PartShapes.{fails_then, fails_along, word_bad, bool_cases, begins_none, Turns, links_more, links_fail, links_end, refuses, shorter, chain_turns}
 use Rattle.filt_syntax.specs.Syntax.{rule}
 use Rattle.filt_syntax.specs.declared.ast.Parameter.{Parameter}
 use Rattle.filt_syntax.specs.declared.ast.Separator.{Separator}

@@ -1,9 +1,9 @@
 -- Reading one of several forms by the word that begins it.
 use Rattle.std.proofs.Common.{◌≡◌, ℕ, zero, suc, Bool, true, List, ◌∷◌, refl, ap, ◌∙◌}
 use Rattle.conf_lex.specs.declared.word.Word.{Word}
-use Rattle.grammar.specs.Kind.{Kind, kind_of}
-use Rattle.grammar.specs.Grammar.{Terminal, Seq, Alt, ParseTree, Leaf, Pair, begins, first_set}
-use Rattle.grammar.specs.Reading.{Read, Parsed, Failed, and_then, read}
+use Rattle.conf_lex.specs.Kind.{Kind, kind_of}
+use Rattle.conf_lex.specs.Grammar.{Terminal, Seq, Alt, ParseTree, Leaf, Pair, begins, first_set}
+use Rattle.conf_lex.specs.Reading.{Read, Parsed, Failed, and_then, read}
 use Rattle.filt_syntax.specs.Syntax.{rule}
 use Rattle.filt_syntax.specs.Levels.{Form}
 use Rattle.filt_syntax.specs.StatementView.{nth}

@@ -5,8 +5,8 @@ use Rattle.std.specs.Cmp.Lexicographic.{pointwise, same_text, other_text}
 use Rattle.conf_lex.specs.declared.symbol.Symbol.TheVariants as symbols
 use Rattle.conf_lex.specs.declared.word.Word.{Word}
 use Rattle.conf_lex.specs.declared.word.Word.TheVariants as words
-use Rattle.grammar.proofs.Checks.{or_cases, or_left, or_right}
-use Rattle.grammar.proofs.Unique.{fronts}
+use Rattle.conf_lex.proofs.Checks.{or_cases, or_left, or_right}
+use Rattle.conf_lex.proofs.Unique.{fronts}
 use Rattle.conf_tree.specs.Sentence.{CanStand, EndsIn, is_one_of, statement_words, bgp_words, channel_words, import_words, IsUnsupported, a_kind, a_statement, a_bgp_option, a_channel_option, an_import, an_export, an_action, a_route}
 
 pub not_both : (b : Bool) → b ≡ true → b ≡ false → ⊥

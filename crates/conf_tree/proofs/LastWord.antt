@@ -7,8 +7,8 @@ use Rattle.conf_lex.specs.declared.symbol.Symbol.{Symbol}
 use Rattle.conf_lex.specs.declared.word.Word.{Word}
 use Rattle.conf_lex.specs.declared.word.Word.TheVariants as words
 use Rattle.conf_lex.specs.Symbols.{is_placed}
-use Rattle.grammar.specs.Kind.{kind_of, symbol}
-use Rattle.grammar.proofs.Symbols.{is_symbol_word, symbol_same}
+use Rattle.conf_lex.specs.Kind.{kind_of, symbol}
+use Rattle.conf_lex.proofs.Symbols.{is_symbol_word, symbol_same}
 use Rattle.conf_tree.specs.Sentence.{EndsIn}
 
 first_of : Word → List Word → Word

@@ -3,11 +3,11 @@ use Rattle.std.proofs.Common.{◌≡◌, ℕ, zero, suc, ◌+◌, true, false, L
 use Rattle.conf_lex.specs.declared.symbol.Symbol.TheVariants as sym
 use Rattle.conf_lex.specs.declared.word.Word.{Word}
 use Rattle.conf_lex.specs.declared.word.Word.TheVariants as words
-use Rattle.grammar.specs.Kind.{kind_of, symbol}
-use Rattle.grammar.specs.Grammar.{ParseTree, Leaf, Pair, Left, begins, first_set, Bad, TooDeep}
-use Rattle.grammar.specs.Reading.{Read, Parsed, Failed, Reader, and_then, word, both, read}
-use Rattle.grammar.specs.Shapes.{closed}
-use Rattle.grammar.proofs.Shapes.{bool_cases, closed_is}
+use Rattle.conf_lex.specs.Kind.{kind_of, symbol}
+use Rattle.conf_lex.specs.Grammar.{ParseTree, Leaf, Pair, Left, begins, first_set, Bad, TooDeep}
+use Rattle.conf_lex.specs.Reading.{Read, Parsed, Failed, Reader, and_then, word, both, read}
+use Rattle.conf_lex.specs.PartShapes.{closed}
+use Rattle.conf_lex.proofs.PartShapes.{bool_cases, closed_is}
 use Rattle.filt_syntax.specs.Syntax.{rule, is_num, set, mask}
 use Rattle.filt_syntax.specs.Levels.{set_level}
 use Rattle.filt_syntax.specs.StatementView.{nth, beyond}

@@ -3,14 +3,14 @@ use Rattle.std.proofs.Common.{◌≡◌, ℕ, zero, suc, ◌+◌, ◌<◌, ◌�
 use Rattle.conf_lex.specs.declared.symbol.Symbol.TheVariants as sym
 use Rattle.conf_lex.specs.declared.word.Word.{Word}
 use Rattle.conf_lex.specs.declared.word.Word.TheVariants as words
-use Rattle.grammar.specs.Kind.{kind_of, symbol}
-use Rattle.grammar.specs.Grammar.{Epsilon, Seq, ParseTree, NoWords, Pair, Single, Snoc, begins, first_set, Bad}
-use Rattle.grammar.specs.Reading.{Parsed, Failed, Reader, and_then, word, both, all_turns, read}
-use Rattle.grammar.specs.Shapes.{symbol_leaf}
-use Rattle.grammar.specs.Agrees.{AgreesOnError}
-use Rattle.grammar.specs.declared.refusal.Refusal.{Refusal}
-use Rattle.grammar.proofs.Chains.{turn}
-use Rattle.grammar.proofs.Shapes.{fails_then, fails_along, word_bad, bool_cases, begun, refuses, shorter}
+use Rattle.conf_lex.specs.Kind.{kind_of, symbol}
+use Rattle.conf_lex.specs.Grammar.{Epsilon, Seq, ParseTree, NoWords, Pair, Single, Snoc, begins, first_set, Bad}
+use Rattle.conf_lex.specs.Reading.{Parsed, Failed, Reader, and_then, word, both, all_turns, read}
+use Rattle.conf_lex.specs.Leaves.{symbol_leaf}
+use Rattle.conf_lex.specs.Agrees.{AgreesOnError}
+use Rattle.conf_lex.specs.declared.refusal.Refusal.{Refusal}
+use Rattle.conf_lex.proofs.Chains.{turn}
+use Rattle.conf_lex.proofs.PartShapes.{fails_then, fails_along, word_bad, bool_cases, begun, refuses, shorter}
 use Rattle.filt_syntax.specs.Syntax.{semicolon, rule}
 use Rattle.filt_syntax.specs.Levels.{Form}
 use Rattle.filt_syntax.specs.StatementView.{row_after}

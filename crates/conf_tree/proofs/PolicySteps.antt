@@ -3,11 +3,11 @@ use Rattle.std.proofs.Common.{◌≡◌, ℕ, zero, suc, false, List, [], ◌∷
 use Rattle.conf_lex.specs.declared.symbol.Symbol.TheVariants as sym
 use Rattle.conf_lex.specs.declared.word.Word.{Word}
 use Rattle.conf_lex.specs.declared.word.Word.TheVariants as words
-use Rattle.grammar.specs.declared.named.Name.{Name}
-use Rattle.grammar.specs.Kind.{name, symbol}
-use Rattle.grammar.specs.Grammar.{Pair, Left, Right, begins}
-use Rattle.grammar.specs.Reading.{Parsed, and_then, word, both}
-use Rattle.grammar.specs.Shapes.{symbol_leaf, name_leaf}
+use Rattle.conf_lex.specs.declared.named.Name.{Name}
+use Rattle.conf_lex.specs.Kind.{name, symbol}
+use Rattle.conf_lex.specs.Grammar.{Pair, Left, Right, begins}
+use Rattle.conf_lex.specs.Reading.{Parsed, and_then, word, both}
+use Rattle.conf_lex.specs.Leaves.{symbol_leaf, name_leaf}
 use Rattle.filt_syntax.specs.Readers.{expr_at}
 use Rattle.filt_syntax.specs.StatementReaders.{block_at}
 use Rattle.filt_syntax.specs.StatementView.{nth, beyond}

@@ -5,14 +5,14 @@ use Rattle.conf_lex.specs.declared.symbol.Symbol.TheVariants as sym
 use Rattle.conf_lex.specs.declared.word.Word.{Word}
 use Rattle.conf_lex.specs.declared.word.Word.TheVariants as words
 use Rattle.conf_lex.specs.Symbols.{is_placed}
-use Rattle.grammar.specs.Kind.{symbol}
-use Rattle.grammar.specs.Grammar.{Alt, ParseTree, Pair, Bad, begins}
-use Rattle.grammar.specs.Reading.{Read, Parsed, Failed, Reader, and_then, word, both, read}
-use Rattle.grammar.specs.Shapes.{symbol_leaf}
-use Rattle.grammar.specs.Agrees.{AgreesOnError}
-use Rattle.grammar.specs.declared.refusal.Refusal.{Refusal}
-use Rattle.grammar.proofs.Shapes.{fails_then}
-use Rattle.grammar.proofs.Symbols.{placed_same}
+use Rattle.conf_lex.specs.Kind.{symbol}
+use Rattle.conf_lex.specs.Grammar.{Alt, ParseTree, Pair, Bad, begins}
+use Rattle.conf_lex.specs.Reading.{Read, Parsed, Failed, Reader, and_then, word, both, read}
+use Rattle.conf_lex.specs.Leaves.{symbol_leaf}
+use Rattle.conf_lex.specs.Agrees.{AgreesOnError}
+use Rattle.conf_lex.specs.declared.refusal.Refusal.{Refusal}
+use Rattle.conf_lex.proofs.PartShapes.{fails_then}
+use Rattle.conf_lex.proofs.Symbols.{placed_same}
 use Rattle.filt_syntax.specs.Syntax.{rule}
 use Rattle.filt_syntax.specs.Levels.{Form}
 use Rattle.filt_syntax.specs.StatementView.{nth, beyond}

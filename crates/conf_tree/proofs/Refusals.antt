@@ -4,18 +4,18 @@ use Rattle.std.proofs.lemmas.List.{length-append, length-drop, drop_at, take_at}
 use Rattle.std.specs.Borrow.{Bor}
 use Rattle.conf_lex.specs.declared.token.Token.{Token}
 use Rattle.conf_lex.specs.declared.word.Word.{Word}
-use Rattle.grammar.specs.Grammar.{Bad, TooDeep, ParseTree}
-use Rattle.grammar.specs.Reading.{Parsed, Failed}
-use Rattle.grammar.specs.Agrees.{AgreesOnError}
-use Rattle.grammar.specs.declared.refusal.Refusal.{Refusal}
-use Rattle.grammar.specs.declared.refusal.Refusal.TheVariants as refusals
-use Rattle.grammar.specs.Sentences.{IsBegunWithin, IsTooDeep}
+use Rattle.conf_lex.specs.Grammar.{Bad, TooDeep, ParseTree}
+use Rattle.conf_lex.specs.Reading.{Parsed, Failed}
+use Rattle.conf_lex.specs.Agrees.{AgreesOnError}
+use Rattle.conf_lex.specs.declared.refusal.Refusal.{Refusal}
+use Rattle.conf_lex.specs.declared.refusal.Refusal.TheVariants as refusals
+use Rattle.conf_lex.specs.Sentences.{IsBegunWithin, IsTooDeep}
 use Rattle.filt_syntax.specs.Syntax.{rule}
 use Rattle.filt_syntax.specs.declared.parse.SyntaxFault.{SyntaxFault}
 use Rattle.filt_syntax.specs.declared.parse.SyntaxFault.TheVariants as faults
 use Rattle.filt_syntax.specs.RefusedToken.{IsPastAt, IsBadFrom}
 use Rattle.filt_syntax.proofs.RefusedTokens.{one_past_at, below_words}
-use Rattle.grammar.proofs.Shapes.{bad_from, deep_from}
+use Rattle.conf_lex.proofs.PartShapes.{bad_from, deep_from}
 use Rattle.conf_tree.specs.Syntax.{config}
 use Rattle.conf_tree.specs.Readers.{whole_at}
 use Rattle.conf_lex.specs.Words.{words_of}

@@ -4,9 +4,9 @@ use Rattle.conf_lex.specs.declared.symbol.Symbol.TheVariants as sym
 use Rattle.conf_lex.specs.declared.word.Word.{Word}
 use Rattle.conf_lex.specs.declared.word.Word.TheVariants as words
 use Rattle.bits_ip.specs.declared.address.Family.{Family}
-use Rattle.grammar.specs.Kind.{prefix, symbol}
-use Rattle.grammar.specs.Grammar.{Left, Right, begins}
-use Rattle.grammar.specs.Reading.{Parsed, and_then, word, both}
+use Rattle.conf_lex.specs.Kind.{prefix, symbol}
+use Rattle.conf_lex.specs.Grammar.{Left, Right, begins}
+use Rattle.conf_lex.specs.Reading.{Parsed, and_then, word, both}
 use Rattle.conf_tree.specs.Syntax.{is_family}
 use Rattle.conf_tree.specs.View.{family_symbol}
 use Rattle.conf_tree.specs.Readers.{channel_at, route_target_at, static_option_at}

@@ -1,9 +1,8 @@
 -- The words that say something, one after another.
 use Rattle.std.proofs.Common.{◌≡◌, ℕ, suc, zero, ◌+◌, ◌≤◌, Bool, true, false, cond, List, [], ◌∷◌, ◌++◌, map, refl, sym, ◌∙◌, ap, arith, append_assoc}
-use Rattle.std.proofs.lemmas.List.{append-nil}
 use Rattle.conf_lex.specs.declared.symbol.Symbol.TheVariants as sy
 use Rattle.conf_lex.specs.declared.word.Word.{Word}
-use Rattle.grammar.specs.Kind.{kind_of, name}
+use Rattle.conf_lex.specs.Kind.{kind_of, name}
 use Rattle.conf_tree.specs.Significant.{is, behind, depth_of, is_significant, significant}
 use Rattle.conf_tree.specs.declared.significant.Region.{Region}
 use Rattle.conf_tree.specs.declared.significant.Region.TheVariants as regions
@@ -38,6 +37,3 @@ significant_more {A} part pairs rest next r all found cut before =
     before ∙ ap (λ (l : List (ℕ × Word)). found ++ map part (significant r l)) cut
     ∙ ap (λ (l : List A). found ++ l) (one_turn part (is_significant r next.1) next (significant (behind r next.1) rest))
     ∙ sym (append_assoc found (cond (is_significant r next.1) (part next ∷ []) []) (map part (significant (behind r next.1) rest)))
-
-pub significant_end : {A : Type 0} (part : ℕ × Word → A) (pairs : List (ℕ × Word)) (r : Region) (all found : List A) → pairs ≡ [] → all ≡ found ++ map part (significant r pairs) → found ≡ all
-significant_end {A} part pairs r all found none before = sym (before ∙ ap (λ (l : List (ℕ × Word)). found ++ map part (significant r l)) none ∙ append-nil found)

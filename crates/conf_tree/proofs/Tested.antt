@@ -1,6 +1,6 @@
 -- The grammar passes the test.
 use Rattle.std.proofs.Common.{◌≡◌, true, refl}
-use Rattle.grammar.proofs.Checks.{check}
+use Rattle.conf_lex.proofs.Checks.{check}
 use Rattle.filt_syntax.proofs.Tested.{model, after}
 use Rattle.conf_tree.specs.Syntax.{config}
 

@@ -4,7 +4,7 @@ use Rattle.conf_lex.specs.Lex.{Lexes, Stops, IsBadAt, IsRefused as IsStuckAt}
 use Rattle.conf_lex.specs.declared.token.Token.{Token}
 use Rattle.conf_lex.specs.declared.token.LexFault.{LexFault}
 use Rattle.conf_lex.specs.declared.token.LexFault.TheVariants as lex_faults
-use Rattle.grammar.specs.Grammar.{ParseTree}
+use Rattle.conf_lex.specs.Grammar.{ParseTree}
 use Rattle.filt_syntax.specs.declared.parse.SyntaxFault.{SyntaxFault}
 use Rattle.filt_syntax.specs.declared.parse.SyntaxFault.TheVariants as faults
 use Rattle.conf_tree.specs.Sentence.{IsRefused, IsAnswered}

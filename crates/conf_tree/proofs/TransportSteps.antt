@@ -1,16 +1,17 @@
 -- Reading the options of a session's transport, one step of the parser after another.
 use Rattle.std.proofs.Common.{◌≡◌, ℕ, Bool, false, ◌||◌, List, [], ◌∷◌, refl}
+use Rattle.conf_lex.specs.declared.attribute.Attribute.TheVariants as attributes
 use Rattle.conf_lex.specs.declared.symbol.Symbol.TheVariants as sym
 use Rattle.conf_lex.specs.declared.word.Word.{Word}
 use Rattle.conf_lex.specs.declared.word.Word.TheVariants as words
-use Rattle.grammar.specs.Kind.{Kind, text, address, symbol}
-use Rattle.grammar.specs.Grammar.{Pair, begins}
-use Rattle.grammar.specs.Reading.{Parsed, and_then, word, both}
-use Rattle.grammar.specs.Shapes.{symbol_leaf}
+use Rattle.conf_lex.specs.Kind.{Kind, attribute, text, address, symbol}
+use Rattle.conf_lex.specs.Grammar.{Pair, begins}
+use Rattle.conf_lex.specs.Reading.{Parsed, and_then, word, both}
+use Rattle.conf_lex.specs.Leaves.{symbol_leaf}
 use Rattle.filt_syntax.specs.StatementView.{nth, beyond}
 use Rattle.filt_syntax.proofs.Tested.{is_checked}
 use Rattle.conf_tree.specs.Syntax.{transport}
-use Rattle.conf_tree.specs.View.{placed_leaf}
+use Rattle.conf_tree.specs.View.{attribute_leaf}
 use Rattle.conf_tree.specs.Readers.{transport_at, time_at, optional_number_at, optional_switch_at}
 use Rattle.conf_tree.proofs.Heads.{headed}
 use Rattle.conf_tree.proofs.FirstWords.{behind_six}
@@ -32,9 +33,9 @@ pub password_is : (ws u : List Word) → ws ≡ words.Symbol sym.Password ∷ u 
 unfolding transport_at
 password_is ws u is = headed 0 0 is_described transport _ _ transport_checked refl refl ws (words.Symbol sym.Password) u is refl
 
-pub source_is : (at : ℕ) (ws u : List Word) → ws ≡ words.Placed at sym.Source ∷ u → transport_at 0 ws ≡ and_then (both (word (symbol sym.Address)) (word address) u) (λ t v. Parsed (nth 1 (Pair (placed_leaf at sym.Source) t)) v)
+pub source_is : (at : ℕ) (ws u : List Word) → ws ≡ words.Attribute at attributes.Source ∷ u → transport_at 0 ws ≡ and_then (both (word (symbol sym.Address)) (word address) u) (λ t v. Parsed (nth 1 (Pair (attribute_leaf at attributes.Source) t)) v)
 unfolding transport_at
-source_is at ws u is = headed 1 0 (symbol sym.Source) transport _ _ transport_checked refl refl ws (words.Placed at sym.Source) u is refl
+source_is at ws u is = headed 1 0 (attribute attributes.Source) transport _ _ transport_checked refl refl ws (words.Attribute at attributes.Source) u is refl
 
 pub hold_is : (ws u : List Word) → ws ≡ words.Symbol sym.Hold ∷ u → transport_at 0 ws ≡ and_then (time_at 0 u) (λ t v. Parsed (nth 2 (Pair (symbol_leaf sym.Hold) t)) v)
 unfolding transport_at time_at
@@ -60,7 +61,7 @@ direct_is ws u is = rw is refl
 pub record NoOther (ws : List Word) : Type 0 where
   pub description : begins (symbol sym.Description) ws ≡ false
   pub password : begins (symbol sym.Password) ws ≡ false
-  pub source : begins (symbol sym.Source) ws ≡ false
+  pub source : begins (attribute attributes.Source) ws ≡ false
   pub hold : begins (symbol sym.Hold) ws ≡ false
   pub keepalive : begins (symbol sym.Keepalive) ws ≡ false
   pub connect : begins (symbol sym.Connect) ws ≡ false

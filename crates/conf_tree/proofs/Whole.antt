@@ -3,19 +3,19 @@ use Rattle.std.proofs.Common.{◌≡◌, ◌≢◌, ◌↔◌, ℕ, Bool, true, 
 use Rattle.std.proofs.lemmas.Bool.{eqb-true}
 use Rattle.std.specs.Borrow.{Bor}
 use Rattle.conf_lex.specs.declared.word.Word.{Word}
-use Rattle.grammar.specs.Grammar.{Why, Bad, TooDeep, ParseTree, yield, DerivesLongest, too_deep}
-use Rattle.grammar.specs.Reading.{Read, Parsed, Failed, Reader, and_then, read}
-use Rattle.grammar.specs.Sentences.{IsBegun, IsBegunWithin, IsLast, IsRead, IsBad, IsTooDeep}
-use Rattle.grammar.specs.Agrees.{AgreesOnError}
-use Rattle.grammar.specs.declared.refusal.Refusal.{Refusal}
-use Rattle.grammar.specs.declared.refusal.Refusal.TheVariants as refusals
-use Rattle.grammar.proofs.Good.{outcome, and_then_got, and_then_fault}
-use Rattle.grammar.proofs.Checks.{check}
-use Rattle.grammar.proofs.Exact.{got_is_read, fault_is_bad, fault_is_too_deep, whole}
-use Rattle.grammar.proofs.Unique.{Longer, fronts, too_deep_is_fault}
+use Rattle.conf_lex.specs.Grammar.{Why, Bad, TooDeep, ParseTree, yield, DerivesLongest, too_deep}
+use Rattle.conf_lex.specs.Reading.{Read, Parsed, Failed, Reader, and_then, read}
+use Rattle.conf_lex.specs.Sentences.{IsBegun, IsBegunWithin, IsLast, IsRead, IsBad, IsTooDeep}
+use Rattle.conf_lex.specs.Agrees.{AgreesOnError}
+use Rattle.conf_lex.specs.declared.refusal.Refusal.{Refusal}
+use Rattle.conf_lex.specs.declared.refusal.Refusal.TheVariants as refusals
+use Rattle.conf_lex.proofs.Good.{outcome, and_then_got, and_then_fault}
+use Rattle.conf_lex.proofs.Checks.{check}
+use Rattle.conf_lex.proofs.Exact.{got_is_read, fault_is_bad, fault_is_too_deep, whole}
+use Rattle.conf_lex.proofs.Unique.{Longer, fronts, too_deep_is_fault}
 use Rattle.filt_syntax.specs.Syntax.{rule}
 use Rattle.filt_syntax.specs.Levels.{Form}
-use Rattle.grammar.proofs.Shapes.{bad_from, deep_from}
+use Rattle.conf_lex.proofs.PartShapes.{bad_from, deep_from}
 use Rattle.filt_syntax.proofs.Follows.{begun_next, not_next, no_deep_within, deep_follows}
 use Rattle.filt_syntax.proofs.Tested.{model, after, checked}
 use Rattle.conf_tree.specs.Syntax.{config}
@@ -199,11 +199,6 @@ bad_stands_not ws (w ∷ rest) e some b = bad_not_begun 64 config config_checked
 
 pub deep_stands : (before : List Word) (w : Word) (rest : List Word) → IsBegunWithin rule 64 config before → whole_at 64 (before ++ w ∷ []) ≡ Failed TooDeep rest → IsBegun rule config (before ++ w ∷ [])
 deep_stands before w rest b e = deep_follows 64 config config_checked before w rest b (deep_is_deep (before ++ w ∷ []) rest e)
-
--- a front of what begins within the levels does so
-pub front_begun : (ws front : List Word) (w : Word) → ws ≡ front ++ w ∷ [] → IsBegunWithin rule 64 config ws → IsBegunWithin rule 64 config front
-front_begun ws front w e b =
-    (b.0, w ∷ b.1, b.2, b.3 ∙ ap (λ (u : List Word). u ++ b.1) e ∙ append_assoc front (w ∷ []) b.1, λ deep s. omega (arith, b.4 deep s))
 
 -- ---- what the parser answers to them
 

@@ -4,6 +4,5 @@ pub mod View
 pub mod Readers
 pub mod Significant
 pub mod Sentence
-pub mod Alike
 pub mod Position
 pub mod Read

@@ -1,9 +1,10 @@
--- What the form of an option owes.
+-- For private contracts alone: what the form of an option owes to the loop that reads options.
+-- From: own.
 use Rattle.std.specs.Prelude.{◌≡◌, false, refl}
 use Rattle.conf_lex.specs.declared.symbol.Symbol.TheVariants as sym
 use Rattle.conf_lex.specs.declared.word.Word.TheVariants as words
-use Rattle.grammar.specs.Kind.{kind_of}
-use Rattle.grammar.specs.Grammar.{Seq, first_set, nullable}
+use Rattle.conf_lex.specs.Kind.{kind_of}
+use Rattle.conf_lex.specs.Grammar.{Seq, first_set, nullable}
 use Rattle.filt_syntax.specs.Syntax.{semicolon}
 use Rattle.filt_syntax.specs.Levels.{Form}
 use Rattle.filt_syntax.proofs.Tested.{is_checked}

@@ -1,4 +1,6 @@
--- Lines and columns.
+-- Lines and columns. Modelled: a place as a number of bytes before it; a line ends at a newline,
+-- and a column counts bytes. Not modelled: characters of more than one byte, and the width of a
+-- tab. From: own.
 use Rattle.std.specs.Prelude.{◌≡◌, ◌⊎◌, ℕ, ◌+◌, IsTrue, not, ◌==◌, List, [], ◌∷◌, ◌++◌, length}
 use Rattle.std.specs.Prelude.{take, filter}
 use Rattle.std.specs.List.{list_all}

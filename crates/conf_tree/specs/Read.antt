@@ -1,8 +1,11 @@
--- Which texts are a configuration, and the first place of others that is refused.
+-- Which texts are a configuration, and the first place of others that is refused. Modelled: tokens,
+-- the words that say something and the grammar, one behind the other; a text without tokens is
+-- refused before the grammar sees it. Not modelled: what a configuration means, and what is refused
+-- of its names and values (conf_rules). From: own; the grammar is that of Syntax.
 use Rattle.std.specs.Prelude.{◌≡◌, ◌≤◌, ◌⊎◌, ℕ, List, length, map, slice_index_or, Result, Ok, Err}
 use Rattle.conf_lex.specs.Lex.{Lexes, Stops}
 use Rattle.conf_lex.specs.declared.token.Token.{Token}
-use Rattle.grammar.specs.Grammar.{ParseTree}
+use Rattle.conf_lex.specs.Grammar.{ParseTree}
 use Rattle.filt_syntax.specs.declared.parse.SyntaxFault.{SyntaxFault}
 use Rattle.filt_syntax.specs.declared.parse.SyntaxFault.TheVariants as faults
 use Rattle.conf_tree.specs.Significant.{significant_words}

@@ -1,12 +1,13 @@
--- Reading each form of the configuration, where k more levels may be opened.
+-- For private contracts alone: reading each form of the configuration, where k more levels may be
+-- opened. From: own; the forms are those of Syntax.
 use Rattle.std.specs.Prelude.{ℕ, List, [], ◌∷◌}
 use Rattle.conf_lex.specs.declared.symbol.Symbol.{Symbol}
 use Rattle.conf_lex.specs.declared.symbol.Symbol.TheVariants as sym
 use Rattle.conf_lex.specs.declared.word.Word.{Word}
-use Rattle.grammar.specs.Kind.{name, address, symbol}
-use Rattle.grammar.specs.Grammar.{Terminal, Seq, Alt, Bad, ParseTree, Pair, Left, first_set}
-use Rattle.grammar.specs.Reading.{Read, Reader, Parsed, Failed, and_then, word, both, all_turns}
-use Rattle.grammar.specs.Reading.{read}
+use Rattle.conf_lex.specs.Kind.{name, address, symbol}
+use Rattle.conf_lex.specs.Grammar.{Terminal, Seq, Alt, Bad, ParseTree, Pair, Left, first_set}
+use Rattle.conf_lex.specs.Reading.{Read, Reader, Parsed, Failed, and_then, word, both, all_turns}
+use Rattle.conf_lex.specs.Reading.{read}
 use Rattle.filt_syntax.specs.Syntax.{optional, is_num, semicolon, rule}
 use Rattle.filt_syntax.specs.Levels.{Form}
 use Rattle.filt_syntax.specs.StatementReaders.{block_at}

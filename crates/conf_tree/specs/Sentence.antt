@@ -1,4 +1,9 @@
--- Which words are a configuration, and the first word of others that is refused.
+-- Which words are a configuration, and the first word of others that is refused. Modelled: the
+-- place and the token of the first refusal, and three reasons for it: no configuration has the word
+-- there, the 65th level opens, or the word is known there and not supported. Not modelled: refusals
+-- behind the first, and words of BIRD's that are not in the lists below. From: own; the words that
+-- are known are of BIRD User's Guide, "Configuration" (sections "Global options", "Protocol
+-- options", "Channel options") and "Protocols" (sections "BGP", "Static").
 use Rattle.std.specs.Prelude.{◌≡◌, ◌≢◌, ◌≤◌, ◌⊎◌, ◌+◌, cond, ℕ, Bool, List, [], ◌∷◌, ◌++◌, length}
 use Rattle.std.specs.Prelude.{take, drop, codes, IsTrue, Option, Some, None, IsSomeAnd, Result, Ok}
 use Rattle.std.specs.Prelude.{Err}
@@ -13,9 +18,9 @@ use Rattle.conf_lex.specs.declared.token.TokenKind.{TokenKind}
 use Rattle.conf_lex.specs.declared.token.TokenKind.TheVariants as kinds
 use Rattle.conf_lex.specs.declared.word.Word.{Word}
 use Rattle.conf_lex.specs.declared.word.Word.TheVariants as words
-use Rattle.grammar.specs.Grammar.{ParseTree, yield, DerivesLongest, begins, too_deep}
-use Rattle.grammar.specs.Kind.{symbol}
-use Rattle.grammar.specs.Sentences.{IsBegun, IsBegunWithin, IsLast, IsTooDeep}
+use Rattle.conf_lex.specs.Grammar.{ParseTree, yield, DerivesLongest, begins, too_deep}
+use Rattle.conf_lex.specs.Kind.{symbol}
+use Rattle.conf_lex.specs.Sentences.{IsBegun, IsBegunWithin, IsLast, IsTooDeep}
 use Rattle.filt_syntax.specs.Syntax.{rule}
 use Rattle.filt_syntax.specs.RefusedToken.{IsPastAt}
 use Rattle.filt_syntax.specs.declared.parse.SyntaxFault.{SyntaxFault}

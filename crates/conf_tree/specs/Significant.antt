@@ -1,5 +1,9 @@
 -- What a log and a device block hold says nothing: the grammar reads the words without it.
-use Rattle.std.specs.Prelude.{◌≡◌, ℕ, Bool, true, false, cond, List, [], ◌∷◌, ◌++◌, map}
+-- Modelled: a log to its semicolon, and a device's braces with those within them. Not modelled:
+-- what logs and devices are told (nothing here writes a log or asks for interfaces), and brackets
+-- and parentheses within a device. From: BIRD User's Guide, "Configuration" (section "Global
+-- options", `log`) and "Protocols" (section "Device").
+use Rattle.std.specs.Prelude.{ℕ, Bool, true, false, cond, List, [], ◌∷◌, map}
 use Rattle.std.specs.Prelude.{slice_index_or, length}
 use Rattle.std.proofs.Common.{zero, suc}
 use Rattle.conf_lex.specs.Words.{words_of}
@@ -7,7 +11,7 @@ use Rattle.conf_lex.specs.declared.symbol.Symbol.{Symbol}
 use Rattle.conf_lex.specs.declared.symbol.Symbol.TheVariants as sym
 use Rattle.conf_lex.specs.declared.token.Token.{Token}
 use Rattle.conf_lex.specs.declared.word.Word.{Word}
-use Rattle.grammar.specs.Kind.{kind_of, name, symbol}
+use Rattle.conf_lex.specs.Kind.{kind_of, name, symbol}
 use Rattle.conf_tree.specs.declared.significant.Region.{Region}
 use Rattle.conf_tree.specs.declared.significant.Region.TheVariants as regions
 
@@ -63,27 +67,3 @@ significant_starts text tokens = map (λ p. p.0) (significant_of text tokens)
 -- the token with which the word in this place begins; behind the last word the end of the tokens
 abbrev pub token_of : List ℕ → List Token → ℕ → ℕ
 token_of text tokens place = slice_index_or (significant_starts text tokens) place (length tokens)
-
--- ---- balanced words
-
--- words with braces in them, each closed
-pub data Braces : Type 0 where
-  Nothing : Braces
-  Plain : Word → Braces → Braces
-  Braced : Word → Braces → Word → Braces → Braces
-
-abbrev pub words_in : Braces → List Word
-words_in Nothing = []
-words_in (Plain w more) = w ∷ words_in more
-words_in (Braced first inside last more) = first ∷ (words_in inside ++ (last ∷ words_in more))
-
--- the plain words are no braces, and the others are
-abbrev pub AreBraces : Braces → Type 0
-AreBraces Nothing = Unit {0}
-AreBraces (Plain w more) =
-    (is sym.OpenBrace w ≡ false) × (is sym.CloseBrace w ≡ false) × AreBraces more
-AreBraces (Braced first inside last more) = (is sym.OpenBrace first ≡ true) × AreBraces inside
-    × (is sym.CloseBrace last ≡ true) × AreBraces more
-
-abbrev pub IsBalanced : List Word → Type 0
-IsBalanced ws = (b : Braces) × AreBraces b × (words_in b ≡ ws)

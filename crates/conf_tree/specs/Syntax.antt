@@ -1,12 +1,17 @@
 -- The grammar of the configuration: a form for each production, with its line in the notation of
--- the grammar above it. A quoted word is the symbol of that spelling; `[ ]` may be left out, `{ }`
--- is any number of times, `|` is a choice. What a log's `{ token other than ";" }` and a device's
--- balanced tokens are stands in Said: they are taken out before.
+-- the grammar above it. A quoted word is the symbol or the attribute of that spelling; `[ ]` may be
+-- left out, `{ }` is any number of times, `|` is a choice. What a log's `{ token other than ";" }`
+-- and a device's balanced tokens are stands in Significant: they are taken out before. Not
+-- modelled: templates and included files, tables of other nets than IPv4 and IPv6, other protocols
+-- and other options than those below. From: BIRD User's Guide, "Configuration" (sections "Global
+-- options", "Protocol options", "Channel options"), "Protocols" (sections "BGP", "Device", "Pipe",
+-- "Static") and, for functions and filters, "Filters".
 use Rattle.std.specs.Prelude.{Bool, ◌||◌}
+use Rattle.conf_lex.specs.declared.attribute.Attribute.TheVariants as attributes
 use Rattle.conf_lex.specs.declared.symbol.Symbol.{Symbol}
 use Rattle.conf_lex.specs.declared.symbol.Symbol.TheVariants as sym
-use Rattle.grammar.specs.Kind.{Kind, number, name, text, address, prefix, symbol}
-use Rattle.grammar.specs.Grammar.{Terminal, Seq, Alt, Repeat}
+use Rattle.conf_lex.specs.Kind.{Kind, number, name, text, address, prefix, symbol, attribute}
+use Rattle.conf_lex.specs.Grammar.{Terminal, Seq, Alt, Repeat}
 use Rattle.filt_syntax.specs.Syntax.{optional, many, is_num, set, mask, expr, vtype, block}
 use Rattle.filt_syntax.specs.Syntax.{semicolon}
 use Rattle.filt_syntax.specs.Levels.{Form}
@@ -44,7 +49,7 @@ export_option = Seq (Terminal (symbol sym.Export)) policy
 
 -- "preference" num
 abbrev pub preference : Form
-preference = Seq (Terminal (symbol sym.Preference)) (Terminal is_num)
+preference = Seq (Terminal (attribute attributes.Preference)) (Terminal is_num)
 
 -- "warn" | "block" | "disable"
 abbrev pub is_action : Kind → Bool
@@ -127,10 +132,14 @@ abbrev pub interpret : Form
 interpret = Seq (Terminal (symbol sym.Interpret))
     (Seq (Terminal (symbol sym.Communities)) (Terminal is_switch))
 
+-- "bgp_med" | "bgp_local_pref"
+abbrev pub is_default : Kind → Bool
+is_default k = attribute attributes.BgpMed k || attribute attributes.BgpLocalPref k
+
 -- "default" "bgp_med" num | "default" "bgp_local_pref" num
 abbrev pub default_value : Form
 default_value = Seq (Terminal (symbol sym.Default))
-    (Seq (Terminal (λ k. symbol sym.BgpMed k || symbol sym.BgpLocalPref k)) (Terminal is_num))
+    (Seq (Terminal is_default) (Terminal is_num))
 
 -- "description" STRING | "password" STRING
 abbrev pub described : Form
@@ -139,7 +148,8 @@ described = Seq (Terminal (λ k. symbol sym.Description k || symbol sym.Password
 -- "source" "address" IP
 abbrev pub source_address : Form
 source_address =
-    Seq (Terminal (symbol sym.Source)) (Seq (Terminal (symbol sym.Address)) (Terminal address))
+    Seq (Terminal (attribute attributes.Source))
+    (Seq (Terminal (symbol sym.Address)) (Terminal address))
 
 -- "hold" "time" num | "keepalive" "time" num
 abbrev pub timed : Form

@@ -1,15 +1,19 @@
--- The tree of the grammar that a configuration stands for.
+-- The tree of the grammar that a configuration in memory stands for: a line for each variant, which
+-- names its alternative of the grammar's line. Not modelled: what a configuration means (conf_ast
+-- has it as plain data). From: own; the forms are those of Syntax.
 use Rattle.std.specs.Prelude.{ℕ, Bool, true, false, List, [], ◌∷◌, Option, Some, None, map, Vec}
 use Rattle.std.specs.Global.{Global}
 use Rattle.bits_ip.specs.declared.address.Family.{Family}
 use Rattle.bits_ip.specs.declared.address.Family.TheVariants as families
+use Rattle.conf_lex.specs.declared.attribute.Attribute.{Attribute}
+use Rattle.conf_lex.specs.declared.attribute.Attribute.TheVariants as attributes
 use Rattle.conf_lex.specs.declared.symbol.Symbol.{Symbol}
 use Rattle.conf_lex.specs.declared.symbol.Symbol.TheVariants as sym
 use Rattle.conf_lex.specs.declared.word.Word.{Word}
 use Rattle.conf_lex.specs.declared.word.Word.TheVariants as words
-use Rattle.grammar.specs.declared.named.Name.{Name}
-use Rattle.grammar.specs.Grammar.{ParseTree, Leaf, NoWords, Pair, Left, Right, Single, Snoc}
-use Rattle.grammar.specs.Shapes.{symbol_leaf, name_leaf, between}
+use Rattle.conf_lex.specs.declared.named.Name.{Name}
+use Rattle.conf_lex.specs.Grammar.{ParseTree, Leaf, NoWords, Pair, Left, Right, Single, Snoc}
+use Rattle.conf_lex.specs.Leaves.{symbol_leaf, name_leaf, between}
 use Rattle.filt_syntax.specs.declared.ast.Filter.{Filter}
 use Rattle.filt_syntax.specs.declared.ast.Function.{Function}
 use Rattle.filt_syntax.specs.declared.ast.Num.{Num}
@@ -58,6 +62,9 @@ use Rattle.conf_tree.specs.declared.ast.Transport.TheVariants as transports
 
 abbrev pub placed_leaf : ℕ → Symbol → ParseTree
 placed_leaf at s = Leaf (words.Placed at s)
+
+abbrev pub attribute_leaf : ℕ → Attribute → ParseTree
+attribute_leaf at a = Leaf (words.Attribute at a)
 
 abbrev pub address_leaf : Address → ParseTree
 address_leaf a = Leaf (words.Ip a.at a.addr)
@@ -124,7 +131,7 @@ channel_option_tree (channel_options.Import policy) =
 channel_option_tree (channel_options.Export policy) =
     nth 2 (Pair (symbol_leaf sym.Export) (policy_tree policy))
 channel_option_tree (channel_options.Preference at n) =
-    nth 3 (Pair (placed_leaf at sym.Preference) (num_tree n))
+    nth 3 (Pair (attribute_leaf at attributes.Preference) (num_tree n))
 channel_option_tree (channel_options.ImportLimit l) =
     nth 1 (Pair (symbol_leaf sym.Import) (Left (Pair (symbol_leaf sym.Limit) (limit_tree l))))
 channel_option_tree (channel_options.NextHop hop) = beyond 4 (Pair (symbol_leaf sym.Next)
@@ -173,7 +180,8 @@ abbrev pub transport_tree : Transport → ParseTree
 transport_tree (transports.Description q) = nth 0 (Pair (symbol_leaf sym.Description) (text_leaf q))
 transport_tree (transports.Password q) = nth 0 (Pair (symbol_leaf sym.Password) (text_leaf q))
 transport_tree (transports.SourceAddress at a) =
-    nth 1 (Pair (placed_leaf at sym.Source) (Pair (symbol_leaf sym.Address) (address_leaf a)))
+    nth 1 (Pair (attribute_leaf at attributes.Source)
+    (Pair (symbol_leaf sym.Address) (address_leaf a)))
 transport_tree (transports.HoldTime n) = nth 2 (Pair (symbol_leaf sym.Hold) (time_tree n))
 transport_tree (transports.KeepaliveTime n) = nth 2 (Pair (symbol_leaf sym.Keepalive) (time_tree n))
 transport_tree (transports.ConnectRetryTime n) =
@@ -183,9 +191,9 @@ transport_tree transports.Direct = nth 5 (symbol_leaf sym.Direct)
 transport_tree (transports.Passive s) =
     beyond 6 (Pair (symbol_leaf sym.Passive) (maybe switch_leaf s))
 
-abbrev pub default_tree : ℕ → Symbol → Num → ParseTree
+abbrev pub default_tree : ℕ → Attribute → Num → ParseTree
 default_tree at attribute n =
-    Pair (symbol_leaf sym.Default) (Pair (placed_leaf at attribute) (num_tree n))
+    Pair (symbol_leaf sym.Default) (Pair (attribute_leaf at attribute) (num_tree n))
 
 abbrev pub bgp_option_tree : BgpOption → ParseTree
 bgp_option_tree (bgp_options.Channel c) = nth 0 (channel_tree c)
@@ -197,8 +205,9 @@ bgp_option_tree (bgp_options.MedMetric s) =
     nth 3 (Pair (symbol_leaf sym.Med) (Pair (symbol_leaf sym.Metric) (switch_leaf s)))
 bgp_option_tree (bgp_options.InterpretCommunities s) =
     nth 4 (Pair (symbol_leaf sym.Interpret) (Pair (symbol_leaf sym.Communities) (switch_leaf s)))
-bgp_option_tree (bgp_options.DefaultMed at n) = nth 5 (default_tree at sym.BgpMed n)
-bgp_option_tree (bgp_options.DefaultLocalPref at n) = nth 5 (default_tree at sym.BgpLocalPref n)
+bgp_option_tree (bgp_options.DefaultMed at n) = nth 5 (default_tree at attributes.BgpMed n)
+bgp_option_tree (bgp_options.DefaultLocalPref at n) =
+    nth 5 (default_tree at attributes.BgpLocalPref n)
 bgp_option_tree (bgp_options.Transport t) = beyond 6 (transport_tree t)
 
 abbrev pub pipe_option_tree : PipeOption → ParseTree

@@ -1,18 +1,19 @@
 // The options of BGP protocols. `depth_left` is how many more levels may be opened.
 
 ghost use Rattle.std.specs.Prelude.{◌≡◌, ◌∷◌, false};
+ghost use Rattle.conf_lex.specs.declared.attribute.Attribute.TheVariants as attributes;
 ghost use Rattle.conf_lex.specs.declared.symbol.Symbol.TheVariants as sym;
 ghost use Rattle.conf_lex.specs.declared.word.Word.{Word};
-ghost use Rattle.grammar.specs.Kind.{symbol, address};
-ghost use Rattle.grammar.specs.Grammar.{Pair, begins};
-ghost use Rattle.grammar.specs.Reading.{both, word};
-ghost use Rattle.grammar.specs.Shapes.{symbol_leaf};
-ghost use Rattle.grammar.specs.Agrees.{Agrees};
+ghost use Rattle.conf_lex.specs.Kind.{symbol, address};
+ghost use Rattle.conf_lex.specs.Grammar.{Pair, begins};
+ghost use Rattle.conf_lex.specs.Reading.{both, word};
+ghost use Rattle.conf_lex.specs.Leaves.{symbol_leaf};
+ghost use Rattle.conf_lex.specs.Agrees.{Agrees};
 ghost use Rattle.filt_syntax.specs.Syntax.{is_num};
 ghost use Rattle.filt_syntax.specs.StatementView.{nth, beyond};
 ghost use Rattle.conf_tree.specs.Syntax.{is_family, is_switch, bgp_option};
 ghost use Rattle.conf_tree.specs.Options.{bgp_option_is};
-ghost use Rattle.conf_tree.specs.View.{placed_leaf, family_symbol, bgp_option_tree};
+ghost use Rattle.conf_tree.specs.View.{attribute_leaf, family_symbol, bgp_option_tree};
 ghost use Rattle.conf_tree.specs.Readers.{seen_as, optional_address_at, as_at, channel_at};
 ghost use Rattle.conf_tree.specs.Readers.{transport_at, bgp_option_at};
 
@@ -22,9 +23,9 @@ use crate::options::ProtocolOption;
 use crate::simple::{as_number, expect_address, expect_switch, next_family, optional_address};
 use crate::transport::transport;
 use bits_ip::Family;
-use conf_lex::{Symbol, Word};
+use conf_lex::parsing::{after, after_attribute, expect};
+use conf_lex::{Attribute, Refusal, Symbol, Word};
 use filt_syntax::parts::num;
-use grammar::{Refusal, after, after_placed, expect};
 use std::alloc::Global;
 
 // By the words after `local`.
@@ -53,7 +54,7 @@ fn neighbor(words: &[Word]) -> Result<(BgpOption, &[Word]), Refusal>
 fn default_med(at: usize, words: &[Word]) -> Result<(BgpOption, &[Word]), Refusal>
     ensures { Agrees bgp_option_tree result
         (seen_as (word is_num) (λ t. nth 5 (Pair (symbol_leaf sym.Default)
-        (Pair (placed_leaf at sym.BgpMed) t))) words.now) }
+        (Pair (attribute_leaf at attributes.BgpMed) t))) words.now) }
 {
     let (value, rest) = num(words)?;
     Ok((BgpOption::DefaultMed { at, value }, rest))
@@ -63,7 +64,7 @@ fn default_med(at: usize, words: &[Word]) -> Result<(BgpOption, &[Word]), Refusa
 fn default_local_pref(at: usize, words: &[Word]) -> Result<(BgpOption, &[Word]), Refusal>
     ensures { Agrees bgp_option_tree result
         (seen_as (word is_num) (λ t. nth 5 (Pair (symbol_leaf sym.Default)
-        (Pair (placed_leaf at sym.BgpLocalPref) t))) words.now) }
+        (Pair (attribute_leaf at attributes.BgpLocalPref) t))) words.now) }
 {
     let (value, rest) = num(words)?;
     Ok((BgpOption::DefaultLocalPref { at, value }, rest))
@@ -78,10 +79,10 @@ fn default_value<'a>(
     requires { words.now ≡ Word.Symbol sym.Default ∷ behind.now }
     ensures { Agrees bgp_option_tree result (bgp_option_at depth_left words.now) }
 {
-    if let Some((at, rest)) = after_placed(behind, Symbol::BgpMed) {
+    if let Some((at, rest)) = after_attribute(behind, Attribute::BgpMed) {
         return default_med(at, rest);
     }
-    match after_placed(behind, Symbol::BgpLocalPref) {
+    match after_attribute(behind, Attribute::BgpLocalPref) {
         Some((at, rest)) => default_local_pref(at, rest),
         None => Err(Refusal::Bad(behind)),
     }

@@ -1,20 +1,21 @@
 // Channels. `depth_left` is how many more levels may be opened.
 
 ghost use Rattle.std.specs.Prelude.{◌≡◌, ◌∷◌};
+ghost use Rattle.conf_lex.specs.declared.attribute.Attribute.TheVariants as attributes;
 ghost use Rattle.conf_lex.specs.declared.symbol.Symbol.TheVariants as sym;
 ghost use Rattle.conf_lex.specs.declared.word.Word.{Word};
-ghost use Rattle.grammar.specs.Kind.{symbol, name};
-ghost use Rattle.grammar.specs.Grammar.{Pair, Left, Right};
-ghost use Rattle.grammar.specs.Reading.{both, word};
-ghost use Rattle.grammar.specs.Shapes.{symbol_leaf};
-ghost use Rattle.grammar.specs.Agrees.{Agrees};
+ghost use Rattle.conf_lex.specs.Kind.{symbol, name};
+ghost use Rattle.conf_lex.specs.Grammar.{Pair, Left, Right};
+ghost use Rattle.conf_lex.specs.Reading.{both, word};
+ghost use Rattle.conf_lex.specs.Leaves.{symbol_leaf};
+ghost use Rattle.conf_lex.specs.Agrees.{Agrees};
 ghost use Rattle.filt_syntax.specs.StatementView.{nth, beyond};
 ghost use Rattle.filt_syntax.specs.Syntax.{is_num};
 ghost use Rattle.conf_tree.specs.Syntax.{is_action, is_hop, channel_option};
 ghost use Rattle.conf_tree.specs.Options.{channel_option_is};
-ghost use Rattle.conf_tree.specs.View.{placed_leaf, family_leaf, maybe, action_tree, action_symbol};
+ghost use Rattle.conf_tree.specs.View.{attribute_leaf, family_leaf, maybe, action_tree};
 ghost use Rattle.conf_tree.specs.View.{limit_tree, hop_symbol, channel_option_tree, channel_tree};
-ghost use Rattle.conf_tree.specs.View.{family_symbol};
+ghost use Rattle.conf_tree.specs.View.{action_symbol, family_symbol};
 ghost use Rattle.conf_tree.specs.Readers.{seen_as, policy_at, action_at, limit_value_at};
 ghost use Rattle.conf_tree.specs.Readers.{channel_option_at, closed_options, channel_at};
 
@@ -22,9 +23,9 @@ use crate::ast::{Action, Channel, ChannelOption, Limit, NextHop};
 use crate::options::{ProtocolOption, options};
 use crate::policy::policy;
 use bits_ip::Family;
-use conf_lex::{Symbol, Word};
+use conf_lex::parsing::{after, after_attribute, expect, expect_name};
+use conf_lex::{Attribute, Refusal, Symbol, Word};
 use filt_syntax::parts::num;
-use grammar::{Refusal, after, after_placed, expect, expect_name};
 use std::alloc::Global;
 
 fn expect_action(words: &[Word]) -> Result<(Action, &[Word]), Refusal>
@@ -153,7 +154,8 @@ fn export_option<'a>(
 // By the words after `preference`, whose place is told.
 fn preference(at: usize, words: &[Word]) -> Result<(ChannelOption, &[Word]), Refusal>
     ensures { Agrees channel_option_tree result
-        (seen_as (word is_num) (λ t. nth 3 (Pair (placed_leaf at sym.Preference) t)) words.now) }
+        (seen_as (word is_num)
+        (λ t. nth 3 (Pair (attribute_leaf at attributes.Preference) t)) words.now) }
 {
     let (value, rest) = num(words)?;
     Ok((ChannelOption::Preference { at, value }, rest))
@@ -180,7 +182,7 @@ impl ProtocolOption for ChannelOption {
         if let Some(rest) = after(words, Symbol::Export) {
             return export_option(alloc, rest, depth_left);
         }
-        match after_placed(words, Symbol::Preference) {
+        match after_attribute(words, Attribute::Preference) {
             Some((at, rest)) => preference(at, rest),
             None => next_hop(words),
         }

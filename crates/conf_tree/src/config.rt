@@ -1,13 +1,12 @@
 // The statements of a configuration.
 
-ghost use Rattle.grammar.specs.Agrees.{Agrees};
+ghost use Rattle.conf_lex.specs.Agrees.{Agrees};
 ghost use Rattle.conf_tree.specs.View.{statements_tree};
 ghost use Rattle.conf_tree.specs.Readers.{whole_at};
 
 use crate::ast::Statement;
 use crate::statement::statement;
-use conf_lex::Word;
-use grammar::Refusal;
+use conf_lex::{Refusal, Word};
 use std::alloc::Global;
 
 /// The statements to the end of the words; `depth_left` is how many levels may be opened in a block

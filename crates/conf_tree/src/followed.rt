@@ -4,9 +4,8 @@ ghost use Rattle.conf_tree.specs.Syntax.{config};
 
 use crate::config::config;
 use bits_ip::OutOfMemory;
-use conf_lex::Word;
+use conf_lex::{Refusal, Word};
 use filt_syntax::parts::{LEVELS, Sentences, followed_by};
-use grammar::Refusal;
 use std::alloc::Global;
 
 pub struct Configurations;

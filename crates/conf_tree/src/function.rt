@@ -3,11 +3,11 @@
 ghost use Rattle.std.specs.Prelude.{◌≡◌, IfOk};
 ghost use Rattle.conf_lex.specs.declared.symbol.Symbol.TheVariants as sym;
 ghost use Rattle.conf_lex.specs.declared.word.Word.{Word};
-ghost use Rattle.grammar.specs.Grammar.{Pair};
-ghost use Rattle.grammar.specs.Reading.{both, word};
-ghost use Rattle.grammar.specs.Kind.{symbol, name};
-ghost use Rattle.grammar.specs.Shapes.{symbol_leaf};
-ghost use Rattle.grammar.specs.Agrees.{Agrees};
+ghost use Rattle.conf_lex.specs.Grammar.{Pair};
+ghost use Rattle.conf_lex.specs.Reading.{both, word};
+ghost use Rattle.conf_lex.specs.Kind.{symbol, name};
+ghost use Rattle.conf_lex.specs.Leaves.{symbol_leaf};
+ghost use Rattle.conf_lex.specs.Agrees.{Agrees};
 ghost use Rattle.filt_syntax.specs.Finds.{Finds};
 ghost use Rattle.filt_syntax.specs.StatementView.{nth};
 ghost use Rattle.conf_tree.specs.Syntax.{is_separator};
@@ -17,10 +17,10 @@ ghost use Rattle.conf_tree.specs.Readers.{parameter_at, some_parameters_at, para
 ghost use Rattle.conf_tree.specs.Readers.{gives_at, signature_at, seen_as};
 
 use crate::ast::Statement;
-use conf_lex::{Symbol, Word};
+use conf_lex::parsing::{after, expect, expect_name, expect_placed};
+use conf_lex::{Refusal, Symbol, Word};
 use filt_syntax::ast::{Function, Parameter, Separator, VariableType};
 use filt_syntax::parts::{variable_type, whole_block};
-use grammar::{Refusal, after, expect, expect_name, expect_placed};
 use std::alloc::Global;
 
 #[tactic(auto, unfolding(crate::specs::Readers::parameter_at, filt_syntax::specs::StatementReaders::vtype_at))]

@@ -3,10 +3,10 @@
 ghost use Rattle.std.specs.Prelude.{◌≡◌, [], ◌∷◌, false, MatchOption};
 ghost use Rattle.conf_lex.specs.declared.symbol.Symbol.TheVariants as sym;
 ghost use Rattle.conf_lex.specs.declared.word.Word.{Word};
-ghost use Rattle.grammar.specs.Kind.{symbol};
-ghost use Rattle.grammar.specs.Grammar.{Pair, begins};
-ghost use Rattle.grammar.specs.Reading.{Parsed, both, word};
-ghost use Rattle.grammar.specs.Agrees.{Agrees};
+ghost use Rattle.conf_lex.specs.Kind.{symbol};
+ghost use Rattle.conf_lex.specs.Grammar.{Pair, begins};
+ghost use Rattle.conf_lex.specs.Reading.{Parsed, both, word};
+ghost use Rattle.conf_lex.specs.Agrees.{Agrees};
 ghost use Rattle.filt_syntax.specs.Syntax.{is_num};
 ghost use Rattle.filt_syntax.specs.ItemReaders.{mask_items_at};
 ghost use Rattle.filt_syntax.specs.StatementView.{nth, beyond};
@@ -15,9 +15,9 @@ ghost use Rattle.conf_tree.specs.View.{placed_leaf, literal_tree, value_tree};
 ghost use Rattle.conf_tree.specs.Readers.{seen_as, literal_at};
 
 use crate::ast::{Address, Literal, StringLiteral};
-use conf_lex::{Symbol, Word};
+use conf_lex::parsing::{after_placed, expect, level_below, next};
+use conf_lex::{Name, Refusal, Symbol, Word};
 use filt_syntax::parts::{items, mask_items, num};
-use grammar::{Name, Refusal, after_placed, expect, level_below, next};
 use std::alloc::Global;
 
 // What a word is alone.

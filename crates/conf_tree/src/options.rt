@@ -1,18 +1,18 @@
 // What stands between the braces of a protocol or a channel.
 
 ghost use Rattle.conf_lex.specs.declared.symbol.Symbol.TheVariants as sym;
-ghost use Rattle.grammar.specs.Grammar.{ParseTree, Pair};
-ghost use Rattle.grammar.specs.Reading.{read};
-ghost use Rattle.grammar.specs.Shapes.{symbol_leaf};
-ghost use Rattle.grammar.specs.Agrees.{Agrees};
+ghost use Rattle.conf_lex.specs.Grammar.{ParseTree, Pair};
+ghost use Rattle.conf_lex.specs.Reading.{read};
+ghost use Rattle.conf_lex.specs.Leaves.{symbol_leaf};
+ghost use Rattle.conf_lex.specs.Agrees.{Agrees};
 ghost use Rattle.filt_syntax.specs.Syntax.{rule};
 ghost use Rattle.filt_syntax.specs.Levels.{Form};
 ghost use Rattle.conf_tree.specs.View.{ended_row};
 ghost use Rattle.conf_tree.specs.Readers.{closed_options};
 ghost use Rattle.conf_tree.specs.Options.{IsOption};
 
-use conf_lex::{Symbol, Word};
-use grammar::{Refusal, after, expect};
+use conf_lex::parsing::{after, expect};
+use conf_lex::{Refusal, Symbol, Word};
 use std::alloc::Global;
 
 /// An option of a protocol or a channel.

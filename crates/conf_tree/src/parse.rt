@@ -5,9 +5,9 @@ ghost use Rattle.std.specs.Prelude.{IsTrue, IsSomeAnd, MatchOption, IfOk, IfErr,
 ghost use Rattle.conf_lex.specs.declared.symbol.Symbol.TheVariants as sym;
 ghost use Rattle.conf_lex.specs.Lex.{Lexes};
 ghost use Rattle.conf_lex.specs.Words.{slice_of};
-ghost use Rattle.grammar.specs.Grammar.{ParseTree, begins};
-ghost use Rattle.grammar.specs.Kind.{symbol};
-ghost use Rattle.grammar.specs.Sentences.{IsBegunWithin, IsTooDeep};
+ghost use Rattle.conf_lex.specs.Grammar.{ParseTree, begins};
+ghost use Rattle.conf_lex.specs.Kind.{symbol};
+ghost use Rattle.conf_lex.specs.Sentences.{IsBegunWithin, IsTooDeep};
 ghost use Rattle.filt_syntax.specs.Syntax.{rule};
 ghost use Rattle.conf_tree.specs.Syntax.{config};
 ghost use Rattle.filt_syntax.specs.declared.parse.SyntaxFault.{SyntaxFault};
@@ -23,10 +23,10 @@ use crate::significant::significant_words;
 use crate::unsupported::is_unsupported;
 use bits_ip::OutOfMemory;
 use conf_lex::laws::tokens_are_slices;
-use conf_lex::{Symbol, Token, TokenKind, Word, Words};
+use conf_lex::parsing::{is_symbol, place_in};
+use conf_lex::{Refusal, Symbol, Token, TokenKind, Word, Words};
 use filt_syntax::SyntaxFault;
 use filt_syntax::parts::{LEVELS, bad_from};
-use grammar::{Refusal, is_symbol, place_in};
 use std::alloc::Global;
 
 // The bytes of a token that is a word without quotes.

@@ -1,11 +1,11 @@
 // The options of pipes. `depth_left` is how many more levels may be opened.
 
 ghost use Rattle.conf_lex.specs.declared.symbol.Symbol.TheVariants as sym;
-ghost use Rattle.grammar.specs.Kind.{symbol, name};
-ghost use Rattle.grammar.specs.Grammar.{Pair};
-ghost use Rattle.grammar.specs.Reading.{both, word};
-ghost use Rattle.grammar.specs.Shapes.{symbol_leaf};
-ghost use Rattle.grammar.specs.Agrees.{Agrees};
+ghost use Rattle.conf_lex.specs.Kind.{symbol, name};
+ghost use Rattle.conf_lex.specs.Grammar.{Pair};
+ghost use Rattle.conf_lex.specs.Reading.{both, word};
+ghost use Rattle.conf_lex.specs.Leaves.{symbol_leaf};
+ghost use Rattle.conf_lex.specs.Agrees.{Agrees};
 ghost use Rattle.filt_syntax.specs.StatementView.{nth, beyond};
 ghost use Rattle.conf_tree.specs.Syntax.{pipe_option};
 ghost use Rattle.conf_tree.specs.Options.{pipe_option_is};
@@ -15,8 +15,8 @@ ghost use Rattle.conf_tree.specs.Readers.{seen_as, policy_at};
 use crate::ast::PipeOption;
 use crate::options::ProtocolOption;
 use crate::policy::policy;
-use conf_lex::{Symbol, Word};
-use grammar::{Refusal, after, expect, expect_name};
+use conf_lex::parsing::{after, expect, expect_name};
+use conf_lex::{Refusal, Symbol, Word};
 use std::alloc::Global;
 
 // By the words after `table`.

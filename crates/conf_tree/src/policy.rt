@@ -3,11 +3,11 @@
 ghost use Rattle.std.specs.Prelude.{◌≡◌, ◌∷◌};
 ghost use Rattle.conf_lex.specs.declared.symbol.Symbol.TheVariants as sym;
 ghost use Rattle.conf_lex.specs.declared.word.Word.{Word};
-ghost use Rattle.grammar.specs.Kind.{symbol};
-ghost use Rattle.grammar.specs.Grammar.{Pair, Right};
-ghost use Rattle.grammar.specs.Reading.{both, word};
-ghost use Rattle.grammar.specs.Shapes.{symbol_leaf};
-ghost use Rattle.grammar.specs.Agrees.{Agrees};
+ghost use Rattle.conf_lex.specs.Kind.{symbol};
+ghost use Rattle.conf_lex.specs.Grammar.{Pair, Right};
+ghost use Rattle.conf_lex.specs.Reading.{both, word};
+ghost use Rattle.conf_lex.specs.Leaves.{symbol_leaf};
+ghost use Rattle.conf_lex.specs.Agrees.{Agrees};
 ghost use Rattle.filt_syntax.specs.Readers.{expr_at};
 ghost use Rattle.filt_syntax.specs.StatementReaders.{block_at};
 ghost use Rattle.filt_syntax.specs.StatementView.{nth, beyond};
@@ -15,9 +15,9 @@ ghost use Rattle.conf_tree.specs.View.{placed_leaf, policy_tree};
 ghost use Rattle.conf_tree.specs.Readers.{seen_as, policy_at};
 
 use crate::ast::Policy;
-use conf_lex::{Symbol, Word};
+use conf_lex::parsing::{after, after_placed, expect_placed, next_name};
+use conf_lex::{Refusal, Symbol, Word};
 use filt_syntax::parts::{expression, whole_block};
-use grammar::{Refusal, after, after_placed, expect_placed, next_name};
 use std::alloc::Global;
 
 // By the words after `filter`, whose place is told.

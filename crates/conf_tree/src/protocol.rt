@@ -5,11 +5,11 @@ ghost use Rattle.conf_lex.specs.declared.symbol.Symbol.{Symbol};
 ghost use Rattle.conf_lex.specs.declared.symbol.Symbol.TheVariants as sym;
 ghost use Rattle.conf_lex.specs.declared.word.Word.{Word};
 ghost use Rattle.conf_lex.specs.Symbols.{is_placed};
-ghost use Rattle.grammar.specs.Kind.{symbol};
-ghost use Rattle.grammar.specs.Grammar.{Pair};
-ghost use Rattle.grammar.specs.Reading.{both, word};
-ghost use Rattle.grammar.specs.Shapes.{symbol_leaf};
-ghost use Rattle.grammar.specs.Agrees.{Agrees};
+ghost use Rattle.conf_lex.specs.Kind.{symbol};
+ghost use Rattle.conf_lex.specs.Grammar.{Pair};
+ghost use Rattle.conf_lex.specs.Reading.{both, word};
+ghost use Rattle.conf_lex.specs.Leaves.{symbol_leaf};
+ghost use Rattle.conf_lex.specs.Agrees.{Agrees};
 ghost use Rattle.filt_syntax.specs.StatementView.{nth, beyond};
 ghost use Rattle.conf_tree.specs.Syntax.{static_option, bgp_option, pipe_option};
 ghost use Rattle.conf_tree.specs.View.{statement_tree, protocol_tree, of_protocol};
@@ -19,8 +19,8 @@ ghost use Rattle.conf_tree.specs.Readers.{protocol_at, statement_at};
 use crate::ast::{Protocol, Statement};
 use crate::options::{ProtocolOption, options};
 use crate::simple::{optional_name, optional_semicolon};
-use conf_lex::{Symbol, Word};
-use grammar::{Refusal, after, after_placed, expect};
+use conf_lex::parsing::{after, after_placed, expect};
+use conf_lex::{Refusal, Symbol, Word};
 use std::alloc::Global;
 
 // A protocol of this place, by the words after its kind's word, whichever that is.

@@ -2,7 +2,7 @@
 
 ghost use Rattle.std.specs.Prelude.{◌≡◌, ◌≤◌, length, IfOk, IfErr};
 ghost use Rattle.conf_lex.specs.Lex.{Lexes};
-ghost use Rattle.grammar.specs.Grammar.{ParseTree};
+ghost use Rattle.conf_lex.specs.Grammar.{ParseTree};
 ghost use Rattle.conf_tree.specs.View.{config_view};
 ghost use Rattle.conf_tree.specs.Read.{byte_of, fault_of, IsConfigText, IsFault, IsWithin};
 ghost use Rattle.conf_tree.specs.Read.{IsTreeOf, IsFaultOf};
@@ -15,10 +15,9 @@ use crate::laws::{a_text_is_one_configuration, configurations_are_not_refused};
 use crate::parse::parse_config;
 use crate::significant::walked_words;
 use conf_lex::laws::{texts_are_refused_within, tokens_are_slices};
-use conf_lex::{LexFault, Token, lex};
+use conf_lex::{LexFault, Refusal, Token, lex};
 use filt_syntax::SyntaxFault;
 use filt_syntax::parts::LEVELS;
-use grammar::Refusal;
 use std::alloc::Global;
 
 // Where a token begins; behind the last one the end of the text.

@@ -2,10 +2,10 @@
 
 ghost use Rattle.std.specs.Prelude.{◌≡◌, false};
 ghost use Rattle.conf_lex.specs.declared.word.Word.{Word};
-ghost use Rattle.grammar.specs.Kind.{address, text};
-ghost use Rattle.grammar.specs.Reading.{Parsed, word};
-ghost use Rattle.grammar.specs.Shapes.{name_leaf};
-ghost use Rattle.grammar.specs.Agrees.{Agrees};
+ghost use Rattle.conf_lex.specs.Kind.{address, text};
+ghost use Rattle.conf_lex.specs.Reading.{Parsed, word};
+ghost use Rattle.conf_lex.specs.Leaves.{name_leaf};
+ghost use Rattle.conf_lex.specs.Agrees.{Agrees};
 ghost use Rattle.filt_syntax.specs.Finds.{Finds};
 ghost use Rattle.filt_syntax.specs.ItemView.{num_tree};
 ghost use Rattle.conf_tree.specs.Syntax.{is_switch, is_family};
@@ -17,10 +17,10 @@ ghost use Rattle.conf_tree.specs.Readers.{optional_semicolon_at};
 
 use crate::ast::{Address, StringLiteral, Switch};
 use bits_ip::{Family, Prefix};
-use conf_lex::{Symbol, Word};
+use conf_lex::parsing::{after, after_placed, expect, next_name};
+use conf_lex::{Name, Refusal, Symbol, Word};
 use filt_syntax::ast::Num;
 use filt_syntax::parts::{next_num, num};
-use grammar::{Name, Refusal, after, after_placed, expect, next_name};
 
 pub fn next_address(words: &[Word]) -> Option<(Address, &[Word])>
     ensures { Finds address (λ a. Word.Ip a.at a.addr) result words.now }

@@ -3,11 +3,11 @@
 
 ghost use Rattle.std.specs.Prelude.{◌≡◌, false};
 ghost use Rattle.conf_lex.specs.declared.symbol.Symbol.TheVariants as sym;
-ghost use Rattle.grammar.specs.Kind.{symbol, name, address};
-ghost use Rattle.grammar.specs.Grammar.{Pair, begins};
-ghost use Rattle.grammar.specs.Reading.{both, word};
-ghost use Rattle.grammar.specs.Shapes.{symbol_leaf};
-ghost use Rattle.grammar.specs.Agrees.{Agrees};
+ghost use Rattle.conf_lex.specs.Kind.{symbol, name, address};
+ghost use Rattle.conf_lex.specs.Grammar.{Pair, begins};
+ghost use Rattle.conf_lex.specs.Reading.{both, word};
+ghost use Rattle.conf_lex.specs.Leaves.{symbol_leaf};
+ghost use Rattle.conf_lex.specs.Agrees.{Agrees};
 ghost use Rattle.filt_syntax.specs.StatementReaders.{block_at};
 ghost use Rattle.filt_syntax.specs.StatementView.{nth};
 ghost use Rattle.conf_tree.specs.View.{placed_leaf, family_leaf, statement_tree};
@@ -19,10 +19,10 @@ use crate::literal::literal;
 use crate::protocol::protocol;
 use crate::simple::{expect_address, next_family};
 use bits_ip::Family;
-use conf_lex::{Symbol, Word};
+use conf_lex::parsing::{after, after_placed, expect, expect_name};
+use conf_lex::{Refusal, Symbol, Word};
 use filt_syntax::ast::Filter;
 use filt_syntax::parts::whole_block;
-use grammar::{Refusal, after, after_placed, expect, expect_name};
 use std::alloc::Global;
 
 // By the words after `router`.

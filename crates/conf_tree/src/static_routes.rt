@@ -3,10 +3,10 @@
 ghost use Rattle.std.specs.Prelude.{◌≡◌, ◌∷◌};
 ghost use Rattle.conf_lex.specs.declared.symbol.Symbol.TheVariants as sym;
 ghost use Rattle.conf_lex.specs.declared.word.Word.{Word};
-ghost use Rattle.grammar.specs.Kind.{symbol, prefix};
-ghost use Rattle.grammar.specs.Grammar.{Left, Right};
-ghost use Rattle.grammar.specs.Reading.{both, word};
-ghost use Rattle.grammar.specs.Agrees.{Agrees};
+ghost use Rattle.conf_lex.specs.Kind.{symbol, prefix};
+ghost use Rattle.conf_lex.specs.Grammar.{Left, Right};
+ghost use Rattle.conf_lex.specs.Reading.{both, word};
+ghost use Rattle.conf_lex.specs.Agrees.{Agrees};
 ghost use Rattle.conf_tree.specs.Syntax.{static_option};
 ghost use Rattle.conf_tree.specs.Options.{static_option_is};
 ghost use Rattle.conf_tree.specs.View.{family_symbol, target_tree, static_option_tree};
@@ -17,8 +17,8 @@ use crate::channel::channel;
 use crate::options::ProtocolOption;
 use crate::simple::{expect_address, next_family};
 use bits_ip::Family;
-use conf_lex::{Symbol, Word};
-use grammar::{Refusal, after, expect, next_prefix};
+use conf_lex::parsing::{after, expect, next_prefix};
+use conf_lex::{Refusal, Symbol, Word};
 use std::alloc::Global;
 
 #[tactic(auto, unfolding(crate::specs::Readers::route_target_at))]

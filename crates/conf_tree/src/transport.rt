@@ -1,20 +1,21 @@
 // The options of a BGP session's transport.
 
 ghost use Rattle.std.specs.Prelude.{◌≡◌, false};
+ghost use Rattle.conf_lex.specs.declared.attribute.Attribute.TheVariants as attributes;
 ghost use Rattle.conf_lex.specs.declared.symbol.Symbol.TheVariants as sym;
-ghost use Rattle.grammar.specs.Kind.{symbol, text, address};
-ghost use Rattle.grammar.specs.Grammar.{Pair, begins};
-ghost use Rattle.grammar.specs.Reading.{both, word};
-ghost use Rattle.grammar.specs.Shapes.{symbol_leaf};
-ghost use Rattle.grammar.specs.Agrees.{Agrees};
+ghost use Rattle.conf_lex.specs.Kind.{attribute, symbol, text, address};
+ghost use Rattle.conf_lex.specs.Grammar.{Pair, begins};
+ghost use Rattle.conf_lex.specs.Reading.{both, word};
+ghost use Rattle.conf_lex.specs.Leaves.{symbol_leaf};
+ghost use Rattle.conf_lex.specs.Agrees.{Agrees};
 ghost use Rattle.filt_syntax.specs.StatementView.{nth, beyond};
-ghost use Rattle.conf_tree.specs.View.{placed_leaf, transport_tree};
+ghost use Rattle.conf_tree.specs.View.{attribute_leaf, transport_tree};
 ghost use Rattle.conf_tree.specs.Readers.{seen_as, time_at, optional_switch_at, transport_at};
 
 use crate::ast::Transport;
 use crate::simple::{expect_address, expect_text, optional_number, optional_switch, time_number};
-use conf_lex::{Symbol, Word};
-use grammar::{Refusal, after, after_placed, expect};
+use conf_lex::parsing::{after, after_attribute, expect};
+use conf_lex::{Attribute, Refusal, Symbol, Word};
 
 // By the words after `connect`.
 fn connect_retry_time(words: &[Word]) -> Result<(Transport, &[Word]), Refusal>
@@ -41,7 +42,7 @@ fn passive(words: &[Word]) -> Result<(Transport, &[Word]), Refusal>
 fn connection(words: &[Word]) -> Result<(Transport, &[Word]), Refusal>
     requires description { begins (symbol sym.Description) words.now ≡ false }
     requires password { begins (symbol sym.Password) words.now ≡ false }
-    requires source { begins (symbol sym.Source) words.now ≡ false }
+    requires source { begins (attribute attributes.Source) words.now ≡ false }
     requires hold { begins (symbol sym.Hold) words.now ≡ false }
     requires keepalive { begins (symbol sym.Keepalive) words.now ≡ false }
     ensures { Agrees transport_tree result (transport_at 0 words.now) }
@@ -81,7 +82,7 @@ fn password(words: &[Word]) -> Result<(Transport, &[Word]), Refusal>
 fn source_address(at: usize, words: &[Word]) -> Result<(Transport, &[Word]), Refusal>
     ensures { Agrees transport_tree result
         (seen_as (both (word (symbol sym.Address)) (word address))
-        (λ t. nth 1 (Pair (placed_leaf at sym.Source) t)) words.now) }
+        (λ t. nth 1 (Pair (attribute_leaf at attributes.Source) t)) words.now) }
 {
     let rest = expect(words, Symbol::Address)?;
     let (address, rest) = expect_address(rest)?;
@@ -116,7 +117,7 @@ pub fn transport(words: &[Word]) -> Result<(Transport, &[Word]), Refusal>
     if let Some(rest) = after(words, Symbol::Password) {
         return password(rest);
     }
-    if let Some((at, rest)) = after_placed(words, Symbol::Source) {
+    if let Some((at, rest)) = after_attribute(words, Attribute::Source) {
         return source_address(at, rest);
     }
     if let Some(rest) = after(words, Symbol::Hold) {

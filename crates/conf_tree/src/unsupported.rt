@@ -4,7 +4,7 @@ ghost use Rattle.std.specs.Prelude.{◌≡◌, ◌↔◌, [], ◌∷◌, ◌++�
 ghost use Rattle.std.specs.Prelude.{false};
 ghost use Rattle.conf_lex.specs.declared.word.Word.{Word};
 ghost use Rattle.conf_lex.specs.Symbols.{is_placed};
-ghost use Rattle.grammar.specs.Sentences.{IsBegunWithin};
+ghost use Rattle.conf_lex.specs.Sentences.{IsBegunWithin};
 ghost use Rattle.filt_syntax.specs.Syntax.{rule};
 ghost use Rattle.conf_tree.specs.Syntax.{config};
 ghost use Rattle.conf_tree.specs.Sentence.{CanStand, EndsIn, is_one_of, statement_words, bgp_words};
@@ -12,9 +12,9 @@ ghost use Rattle.conf_tree.specs.Sentence.{channel_words, import_words, IsUnsupp
 
 use crate::followed::Configurations;
 use bits_ip::OutOfMemory;
+use conf_lex::parsing::is_symbol;
 use conf_lex::{Symbol, Word};
 use filt_syntax::parts::Sentences;
-use grammar::is_symbol;
 use std::alloc::Global;
 
 fn is_one_of(words: &[&[u8]], word: &[u8]) -> bool

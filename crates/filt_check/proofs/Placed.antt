@@ -1,8 +1,8 @@
 -- Names that have become places.
 use Rattle.std.proofs.Common.{◌≡◌, ℕ, List, Option, Some, None, slice_get, refl, sym, ap, ◌∙◌}
 use Rattle.std.proofs.Math.Path.{fun_ext}
-use Rattle.grammar.specs.declared.named.Name.{Name}
-use Rattle.grammar.specs.Names.{name_bytes}
+use Rattle.conf_lex.specs.declared.named.Name.{Name}
+use Rattle.conf_lex.specs.Names.{name_bytes}
 use Rattle.filt_values.specs.Values.{Val}
 use Rattle.filt_meaning.specs.Meaning.{given, variable_or, named}
 use Rattle.filt_meaning.specs.Names.{Context, place_in, constant_of, there}

@@ -4,10 +4,10 @@ use Rattle.std.specs.Global.{Global}
 use Rattle.std.proofs.lemmas.List.{map-append, drop_all}
 use Rattle.std.proofs.lemmas.Result.{IfOk-weaker}
 use Rattle.bits_ip.specs.declared.memory.OutOfMemory.{OutOfMemory}
-use Rattle.grammar.specs.declared.named.Name.{Name}
-use Rattle.filt_syntax.specs.declared.ast.Postfix.{Postfix}
-use Rattle.filt_syntax.specs.declared.ast.Postfix.TheVariants as postfixes
-use Rattle.filt_syntax.specs.declared.ast.Attribute.{Attribute}
+use Rattle.conf_lex.specs.declared.named.Name.{Name}
+use Rattle.filt_syntax.specs.declared.ast.Access.{Access}
+use Rattle.filt_syntax.specs.declared.ast.Access.TheVariants as accesses
+use Rattle.conf_lex.specs.declared.attribute.Attribute.{Attribute}
 use Rattle.filt_syntax.specs.declared.ast.CompareOp.{CompareOp}
 use Rattle.filt_syntax.specs.declared.ast.Expr.{Expr}
 use Rattle.filt_syntax.specs.declared.ast.Expr.TheVariants as e
@@ -47,10 +47,10 @@ pub values_are : (c : Context) (es : List Expr) → all_values (values_in c es) 
 values_are c [] = refl
 values_are c (x ∷ es) = ap (λ (a : Run Frame). one_more (value (expression_of x) c) a) (values_are c es)
 
-accessed_are : (c : Context) (a : Expression) (more : List (Postfix Expr)) → trees.accessed (value a c) (accesses_in c more) ≡ value (accessed a (accesses_of more)) c
+accessed_are : (c : Context) (a : Expression) (more : List (Access Expr)) → trees.accessed (value a c) (accesses_in c more) ≡ value (accessed a (accesses_of more)) c
 accessed_are c a [] = refl
-accessed_are c a (postfixes.Property p ∷ more) = accessed_are c (PropertyOf a p) more
-accessed_are c a (postfixes.Method m place x ∷ more) = accessed_are c (Changed a m place (expression_of x)) more
+accessed_are c a (accesses.Property p ∷ more) = accessed_are c (PropertyOf a p) more
+accessed_are c a (accesses.Method m place x ∷ more) = accessed_are c (Changed a m place (expression_of x)) more
 
 multiplied_are : (c : Context) (a : Expression) (more : List (MulOp × Expr)) → trees.chain factor_of (value a c) (parts_in c more) ≡ value (multiplied a (operands_of more)) c
 multiplied_are c a [] = refl
@@ -105,9 +105,9 @@ module _ (r : Result TExpr OutOfMemory) (t : Around → Tables) (c : Around → 
   pub compare_ok : (op : CompareOp) (a b : Box Expr Global) (y z : Expr) → x ≡ e.Compare op a b → y ≡ a.value → z ≡ b.value → Known (two (compare_of op) y z) → Known (λ around. value (expression_of x) (c around))
   compare_ok op a b y z is left right h = weaker r t (two (compare_of op) y z) (λ around. value (expression_of x) (c around)) (λ around. two_same (compare_of op) y z a.value b.value left right around ∙ sym (ap (λ (y : Expr). value (expression_of y) (c around)) is ∙ ap (λ (y : Expression). value y (c around)) (o.is-Compare op a b))) h
 
-  pub access_ok : (a : Box Expr Global) (v : Vec (Postfix Expr) Global) (y : Expr) (l : List (Postfix Expr)) → x ≡ e.Postfix a v → y ≡ a.value → l ≡ v.items → Known (λ around. trees.accessed (value (expression_of y) (c around)) (accesses_in (c around) l)) → Known (λ around. value (expression_of x) (c around))
+  pub access_ok : (a : Box Expr Global) (v : Vec (Access Expr) Global) (y : Expr) (l : List (Access Expr)) → x ≡ e.Postfix a v → y ≡ a.value → l ≡ v.items → Known (λ around. trees.accessed (value (expression_of y) (c around)) (accesses_in (c around) l)) → Known (λ around. value (expression_of x) (c around))
   access_ok a v y l is left all h = weaker r t (λ around. trees.accessed (value (expression_of y) (c around)) (accesses_in (c around) l)) (λ around. value (expression_of x) (c around)) (λ around.
-      ap (λ (y : Expr). trees.accessed (value (expression_of y) (c around)) (accesses_in (c around) l)) left ∙ ap (λ (l : List (Postfix Expr)). trees.accessed (value (expression_of a.value) (c around)) (accesses_in (c around) l)) all
+      ap (λ (y : Expr). trees.accessed (value (expression_of y) (c around)) (accesses_in (c around) l)) left ∙ ap (λ (l : List (Access Expr)). trees.accessed (value (expression_of a.value) (c around)) (accesses_in (c around) l)) all
       ∙ accessed_are (c around) (expression_of a.value) v.items ∙ sym (ap (λ (y : Expr). value (expression_of y) (c around)) is ∙ ap (λ (y : Expression). value y (c around)) (o.is-Postfix a v))) h
 
   pub product_ok : (a : Box Expr Global) (v : Vec (MulOp × Expr) Global) (y : Expr) (l : List (MulOp × Expr)) → x ≡ e.Product a v → y ≡ a.value → l ≡ v.items → Known (λ around. trees.chain factor_of (value (expression_of y) (c around)) (parts_in (c around) l)) → Known (λ around. value (expression_of x) (c around))

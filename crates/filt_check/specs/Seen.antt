@@ -6,8 +6,8 @@ use Rattle.std.specs.Borrow.{Bor}
 use Rattle.filt_sets.specs.declared.ints.IntItem.{IntItem}
 use Rattle.filt_sets.specs.declared.pairs.PairItem.{PairItem}
 use Rattle.filt_sets.specs.declared.prefixes.PrefixItem.{PrefixItem}
-use Rattle.filt_syntax.specs.declared.ast.Postfix.{Postfix}
-use Rattle.filt_syntax.specs.declared.ast.Postfix.TheVariants as postfixes
+use Rattle.filt_syntax.specs.declared.ast.Access.{Access}
+use Rattle.filt_syntax.specs.declared.ast.Access.TheVariants as accesses
 use Rattle.filt_syntax.specs.declared.ast.Arm.{Arm}
 use Rattle.filt_syntax.specs.declared.ast.Expr.{Expr}
 use Rattle.filt_syntax.specs.declared.ast.Item.{Item}
@@ -46,11 +46,11 @@ at_place xs (Some n) = slice_get xs n
 abbrev pub values_in : Context → List Expr → List (Run Val)
 values_in c es = map (λ e. value (expression_of e) c) es
 
-abbrev pub access_in : Context → Postfix Expr → TAccess (Run Val)
-access_in c (postfixes.Property p) = checked.Property p
-access_in c (postfixes.Method m place e) = checked.Method m.kind (value (expression_of e) c)
+abbrev pub access_in : Context → Access Expr → TAccess (Run Val)
+access_in c (accesses.Property p) = checked.Property p
+access_in c (accesses.Method m place e) = checked.Method m.kind (value (expression_of e) c)
 
-abbrev pub accesses_in : Context → List (Postfix Expr) → List (TAccess (Run Val))
+abbrev pub accesses_in : Context → List (Access Expr) → List (TAccess (Run Val))
 accesses_in c more = map (access_in c) more
 
 -- operators, each with the expression behind it

@@ -1,7 +1,7 @@
 // Statements from names to places.
 
 ghost use Rattle.std.specs.Prelude.{◌≡◌, [], ◌∷◌, IfOk};
-ghost use Rattle.grammar.specs.Names.{name_bytes};
+ghost use Rattle.conf_lex.specs.Names.{name_bytes};
 ghost use Rattle.conf_ast.specs.Filters.{Braced, expression_of, statement_of, statements_of};
 ghost use Rattle.filt_meaning.specs.Meaning.{act, acts, all_declared, cases, choice, loop, nothing};
 ghost use Rattle.filt_meaning.specs.Meaning.{value, within};
@@ -16,10 +16,10 @@ use crate::items::set_of;
 use crate::resolve::resolve;
 use crate::simple::{assign, called, change, declare, print, returned};
 use bits_ip::OutOfMemory;
+use conf_lex::Name;
 use filt_syntax::ast::{Arm, Expr, Stmt};
 use filt_tree::{Scope, TArm, TStmt};
 use filt_values::Sort;
-use grammar::Name;
 use std::alloc::Global;
 
 /// A block: the sorts of its own variables, and its statements.

@@ -13,12 +13,12 @@ ghost use Rattle.filt_values.specs.Values.{VMask, VIntSet, VPairSet, VPrefixSet}
 ghost use Rattle.filt_check.specs.Seen.{each, int_of, pair_of, prefix_of};
 
 use bits_ip::{Addr, OutOfMemory, Prefix};
+use conf_lex::Name;
 use filt_sets::{Atom, IntItem, IntSet, Mask, MaskItem, PairItem, PairSet, PrefixItem, PrefixSet};
 use filt_syntax::ast as syntax;
 use filt_syntax::ast::{Item, Lengths, MaskAtom, Num, NumRange, PairPart};
 use filt_tree::{Labels, Scope};
 use filt_values::Fixed;
-use grammar::Name;
 use std::alloc::Global;
 
 // ---- numbers

@@ -7,8 +7,8 @@ ghost use Rattle.filt_tree.specs.Scopes.{context_of, tables_of};
 ghost use Rattle.filt_tree.specs.Trees as trees;
 ghost use Rattle.filt_check.specs.Seen.{names_of, at_place};
 
+use conf_lex::Name;
 use filt_tree::{Scope, TExpr, TTarget};
-use grammar::Name;
 
 /// The last place of a name.
 pub(crate) fn place(names: &[&[u8]], name: &[u8]) -> Option<usize>

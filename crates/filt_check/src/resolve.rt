@@ -23,12 +23,12 @@ use crate::items::{mask_of, set_of};
 use crate::names::{function, named};
 use attrs::{Dest, Kind, Origin};
 use bits_ip::OutOfMemory;
+use conf_lex::{Name, bytes_at};
 use filt_syntax::ast::{
-    AddOp, Atom, CompareOp, Constant, Expr, Item, LogicalOp, MaskItem, MethodKind, MulOp, Postfix,
+    Access, AddOp, Atom, CompareOp, Constant, Expr, Item, LogicalOp, MaskItem, MethodKind, MulOp,
 };
 use filt_tree::{Labels, Scope, TAccess, TExpr};
 use filt_values::Fixed;
-use grammar::{Name, bytes_at};
 use std::alloc::Global;
 
 // ---- words
@@ -283,7 +283,7 @@ fn access(
     scope: &Scope,
     names: &[&[u8]],
     operand: &Expr,
-    more: &[Postfix<Expr>],
+    more: &[Access<Expr>],
 ) -> Result<TExpr, OutOfMemory>
     ensures { IfOk result (λ x. (around : Around) → trees.expr x (tables_of around scope.now)
         ≡ trees.accessed
@@ -302,15 +302,15 @@ fn resolve_access(
     text: &[u8],
     scope: &Scope,
     names: &[&[u8]],
-    access: &Postfix<Expr>,
+    access: &Access<Expr>,
 ) -> Result<TAccess<TExpr>, OutOfMemory>
     ensures { IfOk result (λ x. (around : Around)
         → trees.access (tables_of around scope.now) x
         ≡ access_in (context_of text.now around scope.now (names_of names.now)) access.now) }
 {
     match access {
-        Postfix::Property(property) => Ok(TAccess::Property(*property)),
-        Postfix::Method {
+        Access::Property(property) => Ok(TAccess::Property(*property)),
+        Access::Method {
             method,
             argument,
             ..
@@ -327,7 +327,7 @@ fn resolve_accesses(
     text: &[u8],
     scope: &Scope,
     names: &[&[u8]],
-    more: &[Postfix<Expr>],
+    more: &[Access<Expr>],
 ) -> Result<Vec<TAccess<TExpr>>, OutOfMemory>
     ensures { IfOk result (λ v. (around : Around)
         → trees.accesses_of (tables_of around scope.now) v.items

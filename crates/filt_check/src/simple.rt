@@ -16,10 +16,10 @@ ghost use Rattle.filt_check.specs.Seen.{names_of, values_in};
 use crate::names::{function, named, place};
 use crate::resolve::{boxed, resolve, resolve_all};
 use bits_ip::OutOfMemory;
+use conf_lex::Name;
 use filt_rules::type_sort;
 use filt_syntax::ast::{Change, Expr, MethodKind, Target, VariableType};
 use filt_tree::{Scope, TExpr, TStmt, TTarget};
-use grammar::Name;
 use std::alloc::Global;
 
 // ---- targets

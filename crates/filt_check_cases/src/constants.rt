@@ -1,11 +1,11 @@
 //! The values of constants.
 use crate::items::{mask, number, set};
 use crate::route::bad;
+use conf_lex::bytes_at;
 use conf_tree::ast::{Literal, StringLiteral};
 use filt_syntax::ast::Num;
 use filt_tree::Scope;
 use filt_values::Fixed;
-use grammar::bytes_at;
 use std::alloc::Global;
 use std::io;
 

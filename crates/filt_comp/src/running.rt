@@ -2,7 +2,7 @@
 
 ghost use Rattle.std.specs.Prelude.{◌≡◌, Ok, IfOk, IfSome, OnErr};
 ghost use Rattle.attrs.specs.declared.judge.FilterFault.TheVariants as faults;
-ghost use Rattle.filt_syntax.specs.declared.ast.Attribute.TheVariants as attributes;
+ghost use Rattle.conf_lex.specs.declared.attribute.Attribute.TheVariants as attributes;
 ghost use Rattle.filt_values.specs.declared.value.Failure.TheVariants.{Fault};
 ghost use Rattle.filt_values.specs.declared.value.ListFailure.TheVariants.{Failed};
 ghost use Rattle.filt_values.specs.Operators.{clist_in, path_in};

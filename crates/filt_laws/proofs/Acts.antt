@@ -8,12 +8,12 @@ use Rattle.attrs.specs.declared.attributes.Attrs.{Attrs}
 use Rattle.attrs.specs.declared.attributes.Dest.{Dest}
 use Rattle.attrs.specs.declared.attributes.Origin.{Origin}
 use Rattle.bits_ip.specs.declared.address.Addr.{Addr}
-use Rattle.grammar.specs.declared.named.Name.{Name}
-use Rattle.grammar.specs.Names.{name_bytes}
-use Rattle.filt_syntax.specs.declared.ast.Attribute.{Attribute}
-use Rattle.filt_syntax.specs.declared.ast.Attribute.TheVariants as attributes
-use Rattle.filt_syntax.specs.declared.ast.Constant.{Constant}
-use Rattle.filt_syntax.specs.declared.ast.Constant.TheVariants as constants
+use Rattle.conf_lex.specs.declared.named.Name.{Name}
+use Rattle.conf_lex.specs.Names.{name_bytes}
+use Rattle.conf_lex.specs.declared.attribute.Attribute.{Attribute}
+use Rattle.conf_lex.specs.declared.attribute.Attribute.TheVariants as attributes
+use Rattle.conf_lex.specs.declared.attribute.Constant.{Constant}
+use Rattle.conf_lex.specs.declared.attribute.Constant.TheVariants as constants
 use Rattle.filt_syntax.specs.declared.ast.Item.{Item}
 use Rattle.filt_syntax.specs.declared.ast.Method.{Method}
 use Rattle.filt_syntax.specs.declared.ast.Atom.{Atom}

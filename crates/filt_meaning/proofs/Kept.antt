@@ -5,7 +5,7 @@ use Rattle.attrs.specs.declared.attributes.Attrs.{Attrs}
 use Rattle.filt_syntax.specs.declared.ast.Target.{Target}
 use Rattle.filt_syntax.specs.declared.ast.Target.TheVariants as targets
 use Rattle.conf_ast.specs.Filters.{Expression, Statement, Braced, Nothing, Declare, Assign, ChangeBy, Clear, Unset, If, IfElse, Case, CaseElse, For, Accept, Reject, Return, Print, Printn, Call, Statements, NoStatements, AndStatements, Arms, NoArms, AndArms}
-use Rattle.grammar.specs.Names.{name_bytes}
+use Rattle.conf_lex.specs.Names.{name_bytes}
 use Rattle.filt_values.specs.declared.value.Failure.{Failure}
 use Rattle.filt_values.specs.Values.{Val}
 use Rattle.filt_meaning.specs.Attributes.{with_attribute, without_attribute}

@@ -5,10 +5,10 @@ use Rattle.attrs.specs.declared.attributes.Kind.TheVariants as kinds
 use Rattle.attrs.specs.declared.attributes.Dest.TheVariants as dests
 use Rattle.attrs.specs.declared.attributes.Origin.TheVariants as origins
 use Rattle.attrs.specs.declared.judge.FilterFault.TheVariants as faults
-use Rattle.filt_syntax.specs.declared.ast.Attribute.{Attribute}
-use Rattle.filt_syntax.specs.declared.ast.Attribute.TheVariants as attributes
-use Rattle.filt_syntax.specs.declared.ast.Constant.{Constant}
-use Rattle.filt_syntax.specs.declared.ast.Constant.TheVariants as constants
+use Rattle.conf_lex.specs.declared.attribute.Attribute.{Attribute}
+use Rattle.conf_lex.specs.declared.attribute.Attribute.TheVariants as attributes
+use Rattle.conf_lex.specs.declared.attribute.Constant.{Constant}
+use Rattle.conf_lex.specs.declared.attribute.Constant.TheVariants as constants
 use Rattle.filt_values.specs.declared.value.Failure.{Failure}
 use Rattle.filt_values.specs.declared.value.Failure.TheVariants.{Fault, Stuck}
 use Rattle.filt_values.specs.Operators.{and_then, int_in, ip_in, path_in, clist_in, dest_in, origin_in}

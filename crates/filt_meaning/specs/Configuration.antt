@@ -6,7 +6,7 @@ use Rattle.attrs.specs.declared.judge.FilterFault.TheVariants as faults
 use Rattle.attrs.specs.declared.judge.Verdict.{Verdict}
 use Rattle.attrs.specs.declared.judge.Verdict.TheVariants as verdicts
 use Rattle.attrs.specs.declared.route.Route.{Route}
-use Rattle.grammar.specs.Names.{name_bytes}
+use Rattle.conf_lex.specs.Names.{name_bytes}
 use Rattle.filt_syntax.specs.declared.ast.Parameter.{Parameter}
 use Rattle.conf_ast.specs.Configurations as conf
 use Rattle.conf_ast.specs.Filters.{Expression, If, Accept, Reject, Statements, NoStatements, AndStatements}

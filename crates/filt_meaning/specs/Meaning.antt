@@ -2,9 +2,9 @@
 -- functions on the abstract syntax, a line for each of its forms.
 use Rattle.std.specs.Prelude.{ℕ, Bool, true, false, nat_lt, if◌then◌else◌, List, [], ◌∷◌, ◌++◌, length, map, take, Option, Some, None, Result, Ok, Err, slice_get, slice_set, drop}
 use Rattle.attrs.specs.declared.attributes.Attrs.{Attrs}
-use Rattle.grammar.specs.declared.named.Name.{Name}
-use Rattle.grammar.specs.Names.{name_bytes}
-use Rattle.filt_syntax.specs.declared.ast.Attribute.{Attribute}
+use Rattle.conf_lex.specs.declared.named.Name.{Name}
+use Rattle.conf_lex.specs.Names.{name_bytes}
+use Rattle.conf_lex.specs.declared.attribute.Attribute.{Attribute}
 use Rattle.filt_syntax.specs.declared.ast.CompareOp.{CompareOp}
 use Rattle.filt_syntax.specs.declared.ast.CompareOp.TheVariants as compare_ops
 use Rattle.filt_syntax.specs.declared.ast.MulOp.{MulOp}

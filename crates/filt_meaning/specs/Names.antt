@@ -4,8 +4,8 @@ use Rattle.std.specs.Prelude.{ℕ, suc, ◌==◌, Bool, if◌then◌else◌, Lis
 use Rattle.std.specs.Cmp.Lexicographic.{pointwise}
 use Rattle.bits_ip.specs.Prefix.{Net}
 use Rattle.attrs.specs.declared.attributes.Attrs.{Attrs}
-use Rattle.grammar.specs.declared.named.Name.{Name}
-use Rattle.grammar.specs.Names.{name_bytes}
+use Rattle.conf_lex.specs.declared.named.Name.{Name}
+use Rattle.conf_lex.specs.Names.{name_bytes}
 use Rattle.filt_syntax.specs.declared.ast.VariableType.{VariableType}
 use Rattle.filt_syntax.specs.declared.ast.VariableType.TheVariants as types
 use Rattle.filt_values.specs.declared.value.Failure.{Failure}

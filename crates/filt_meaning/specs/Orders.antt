@@ -2,8 +2,8 @@
 -- attribute is that was unset.
 use Rattle.std.specs.Prelude.{◌≡◌, false, []}
 use Rattle.attrs.specs.declared.attributes.Attrs.{Attrs}
-use Rattle.filt_syntax.specs.declared.ast.Attribute.{Attribute}
-use Rattle.filt_syntax.specs.declared.ast.Attribute.TheVariants as attributes
+use Rattle.conf_lex.specs.declared.attribute.Attribute.{Attribute}
+use Rattle.conf_lex.specs.declared.attribute.Attribute.TheVariants as attributes
 use Rattle.conf_ast.specs.Filters.{Expression}
 use Rattle.filt_values.specs.Values.{Val}
 use Rattle.filt_meaning.specs.Attributes.{is_defined}

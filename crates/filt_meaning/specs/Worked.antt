@@ -1,9 +1,9 @@
 -- Filters that are worked by hand, as abstract syntax over the text `ginx`, of which each letter
 -- is a name. The law `worked_filters` tells what they say.
 use Rattle.std.specs.Prelude.{ℕ, List, [], ◌∷◌, Some, None, codes}
-use Rattle.grammar.specs.declared.named.Name.{Name}
-use Rattle.filt_syntax.specs.declared.ast.Attribute.{Attribute}
-use Rattle.filt_syntax.specs.declared.ast.Attribute.TheVariants as attributes
+use Rattle.conf_lex.specs.declared.named.Name.{Name}
+use Rattle.conf_lex.specs.declared.attribute.Attribute.{Attribute}
+use Rattle.conf_lex.specs.declared.attribute.Attribute.TheVariants as attributes
 use Rattle.filt_syntax.specs.declared.ast.CompareOp.TheVariants as compare_ops
 use Rattle.filt_syntax.specs.declared.ast.MethodKind.TheVariants as methods
 use Rattle.filt_syntax.specs.declared.ast.Atom.TheVariants as atoms

@@ -3,7 +3,7 @@ use Rattle.std.proofs.Common.{◌≡◌, OnOk, Result, Ok, Err, Bool, true, fals
 use Rattle.std.specs.Global.{Global}
 use Rattle.std.specs.List.{list_any, remove}
 use Rattle.std.proofs.Math.Seq.{take-append_seam}
-use Rattle.grammar.specs.declared.named.Name.{Name}
+use Rattle.conf_lex.specs.declared.named.Name.{Name}
 use Rattle.filt_syntax.specs.declared.ast.Arm.{Arm}
 use Rattle.filt_syntax.specs.declared.ast.Change.{Change}
 use Rattle.filt_syntax.specs.declared.ast.Change.TheVariants as changes

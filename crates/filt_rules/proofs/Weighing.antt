@@ -1,8 +1,8 @@
 -- The weight of each form that has a list, and of the statements with parts.
 use Rattle.std.proofs.Common.{◌≡◌, ℕ, arith, ◌+◌, List, [], ◌∷◌, Option, Some, None, ap, Vec}
 use Rattle.std.specs.Global.{Global}
-use Rattle.filt_syntax.specs.declared.ast.Postfix.{Postfix}
-use Rattle.filt_syntax.specs.declared.ast.Postfix.TheVariants as postfixes
+use Rattle.filt_syntax.specs.declared.ast.Access.{Access}
+use Rattle.filt_syntax.specs.declared.ast.Access.TheVariants as accesses
 use Rattle.filt_syntax.specs.declared.ast.Arm.{Arm}
 use Rattle.filt_syntax.specs.declared.ast.Expr.{Expr}
 use Rattle.filt_syntax.specs.declared.ast.MulOp.{MulOp}
@@ -22,7 +22,7 @@ abbrev pub parts : {Op : Type 0} → Scene → List (Op × Expr) → ℕ
 parts scene [] = 0
 parts scene (x ∷ more) = 1 + weight scene (expression_of x.1) + parts scene more
 
-abbrev pub dots : Scene → List (Postfix Expr) → ℕ
+abbrev pub dots : Scene → List (Access Expr) → ℕ
 dots scene [] = 0
 dots scene (x ∷ more) = access_weight scene x + dots scene more
 
@@ -38,10 +38,10 @@ pub of-joined : (scene : Scene) (a : Expression) (xs : List (LogicalOp × Expr))
 of-joined scene a [] = omega arith
 of-joined scene a (x ∷ xs) = let h = of-joined scene (Joined a x.0 (expression_of x.1)) xs in omega (arith, h)
 
-pub of-accessed : (scene : Scene) (a : Expression) (xs : List (Postfix Expr)) → weight scene (accessed a (accesses_of xs)) ≡ weight scene a + dots scene xs
+pub of-accessed : (scene : Scene) (a : Expression) (xs : List (Access Expr)) → weight scene (accessed a (accesses_of xs)) ≡ weight scene a + dots scene xs
 of-accessed scene a [] = omega arith
-of-accessed scene a (postfixes.Property p ∷ xs) = let h = of-accessed scene (PropertyOf a p) xs in omega (arith, h)
-of-accessed scene a (postfixes.Method m place x ∷ xs) = let h = of-accessed scene (Changed a m place (expression_of x)) xs in omega (arith, h)
+of-accessed scene a (accesses.Property p ∷ xs) = let h = of-accessed scene (PropertyOf a p) xs in omega (arith, h)
+of-accessed scene a (accesses.Method m place x ∷ xs) = let h = of-accessed scene (Changed a m place (expression_of x)) xs in omega (arith, h)
 
 pub of-Case : (scene : Scene) (at : ℕ) (x : Expr) (v : Vec (Arm Stmt) Global) (other : Option (Vec Stmt Global)) → act_weight scene (statement_of (s.Case at x v other)) ≡ 1 + weight scene (expression_of x) + arms_weight scene (arms_of v.items) + acts_weight scene (else_of other)
 of-Case scene at x v None =

@@ -3,9 +3,9 @@
 use Rattle.std.specs.Prelude.{ℕ, ◌+◌, true, not, List, [], ◌∷◌, ◌++◌, length, Option, Some, None}
 use Rattle.std.specs.Prelude.{Vec}
 use Rattle.std.specs.Global.{Global}
-use Rattle.grammar.specs.declared.named.Name.{Name}
-use Rattle.filt_syntax.specs.declared.ast.Postfix.{Postfix}
-use Rattle.filt_syntax.specs.declared.ast.Postfix.TheVariants as postfixes
+use Rattle.conf_lex.specs.declared.named.Name.{Name}
+use Rattle.filt_syntax.specs.declared.ast.Access.{Access}
+use Rattle.filt_syntax.specs.declared.ast.Access.TheVariants as accesses
 use Rattle.filt_syntax.specs.declared.ast.Expr.{Expr}
 use Rattle.filt_syntax.specs.declared.ast.Stmt.{Stmt}
 use Rattle.filt_syntax.specs.declared.ast.VariableType.{VariableType}
@@ -38,9 +38,9 @@ else_of None = NoStatements
 else_of (Some body) = statements_of body.items
 
 -- what a dot and what stands behind it weigh
-abbrev pub access_weight : Scene → Postfix Expr → ℕ
-access_weight scene (postfixes.Property p) = 1
-access_weight scene (postfixes.Method m place x) = 1 + weight scene (expression_of x)
+abbrev pub access_weight : Scene → Access Expr → ℕ
+access_weight scene (accesses.Property p) = 1
+access_weight scene (accesses.Method m place x) = 1 + weight scene (expression_of x)
 
 -- ---- the pass over statements
 

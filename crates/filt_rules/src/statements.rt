@@ -19,6 +19,7 @@ ghost use Rattle.filt_types.specs.Walk.{all_judged, arms_of, common_seen, judged
 
 use crate::targets::{check_assign, check_change, check_unset, check_value, is_list};
 use bits_ip::OutOfMemory;
+use conf_lex::Name;
 use filt_syntax::ast::{Arm, Expr, Item, Stmt, VariableType};
 use filt_tree::Scope;
 use filt_types::{
@@ -26,7 +27,6 @@ use filt_types::{
     judge, judge_each, note, note_if,
 };
 use filt_values::Sort;
-use grammar::Name;
 
 /// Where statements stand: the source, what the configuration declares before them, and the sort of
 /// what the function gives that they are of, if it gives something. A filter gives nothing.

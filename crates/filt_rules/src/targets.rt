@@ -15,13 +15,13 @@ ghost use Rattle.filt_types.specs.Seen.{scene_in, variable_seen, variables_in};
 ghost use Rattle.filt_types.specs.Statements as statements;
 ghost use Rattle.filt_types.specs.Walk.{judged_of};
 
+use conf_lex::Name;
 use filt_syntax::ast::{Attribute, Change, Constant, Expr, Method, Target};
 use filt_types::{
     Cause, Judged, Operator, Refusal, Seen, Variable, attribute_sort, constant_named,
     constant_word, is, judge, note, note_if, variable_named, want_sort, with_right,
 };
 use filt_values::Sort;
-use grammar::Name;
 
 /// What stands as a target.
 #[derive(Clone, Copy)]

@@ -13,10 +13,10 @@ ghost use Rattle.filt_types.specs.Walk.{accesses_of, arms_of, operands_of};
 ghost use Rattle.filt_types.specs.Weight.{weight, weights, optional, act_weight, acts_weight};
 ghost use Rattle.filt_types.specs.Weight.{arms_weight, block_weight, of_function, capped};
 
-use filt_syntax::ast::{AddOp, Arm, Block, Change, Expr, LogicalOp, MulOp, Postfix, Stmt};
+use conf_lex::Name;
+use filt_syntax::ast::{Access, AddOp, Arm, Block, Change, Expr, LogicalOp, MulOp, Stmt};
 use filt_tree::Scope;
 use filt_types::{Seen, function_named};
-use grammar::Name;
 
 /// Where sums of weights stop.
 const CAP: u128 = 170141183460469231731687303715884105728;
@@ -134,7 +134,7 @@ fn weigh_call(text: &[u8], scope: &Scope, name: Name, arguments: &[Expr]) -> u12
 }
 
 #[cycle(weight)]
-fn weigh_accesses(text: &[u8], scope: &Scope, operand: &Expr, more: &[Postfix<Expr>]) -> u128
+fn weigh_accesses(text: &[u8], scope: &Scope, operand: &Expr, more: &[Access<Expr>]) -> u128
     ensures value { result ≡ capped (weight (scene_of text.now scope.now)
         (accessed (expression_of operand.now) (accesses_of more.now))) }
     ensures bound { result ≤ 2 ^ 127 }
@@ -147,13 +147,13 @@ fn weigh_accesses(text: &[u8], scope: &Scope, operand: &Expr, more: &[Postfix<Ex
 }
 
 #[cycle(weight)]
-fn weigh_access(text: &[u8], scope: &Scope, access: &Postfix<Expr>) -> u128
+fn weigh_access(text: &[u8], scope: &Scope, access: &Access<Expr>) -> u128
     ensures value { result ≡ capped (access_weight (scene_of text.now scope.now) access.now) }
     ensures bound { result ≤ 2 ^ 127 }
 {
     match access {
-        Postfix::Property(_) => 1,
-        Postfix::Method { argument, .. } => plus(1, weigh(text, scope, argument)),
+        Access::Property(_) => 1,
+        Access::Method { argument, .. } => plus(1, weigh(text, scope, argument)),
     }
 }
 

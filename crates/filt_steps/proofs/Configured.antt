@@ -3,7 +3,7 @@ use Rattle.std.proofs.Common.{◌≡◌, ℕ, ◌≤◌, Bool, true, false, List
 use Rattle.std.proofs.lemmas.Bool.{ltb-false}
 use Rattle.std.proofs.lemmas.List.Elements.{All-nil, All-push}
 use Rattle.attrs.specs.declared.attributes.Attrs.{Attrs}
-use Rattle.grammar.specs.Names.{name_bytes}
+use Rattle.conf_lex.specs.Names.{name_bytes}
 use Rattle.conf_ast.specs.Configurations.{Routine, Declaration, RouterId, Log, Define, Table, DefineFunction, DefineFilter, Device, Static, Bgp, Pipe}
 use Rattle.conf_ast.specs.Configurations as conf
 use Rattle.conf_ast.specs.Filters.{Statements}

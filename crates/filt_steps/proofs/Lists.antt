@@ -10,12 +10,12 @@ use Rattle.bits_ip.specs.Prefix.{Net}
 use Rattle.filt_sets.specs.declared.ints.IntItem.{IntItem}
 use Rattle.filt_sets.specs.declared.pairs.PairItem.{PairItem}
 use Rattle.filt_sets.specs.declared.prefixes.PrefixItem.{PrefixItem}
-use Rattle.filt_syntax.specs.declared.ast.Attribute.{Attribute}
-use Rattle.filt_syntax.specs.declared.ast.Attribute.TheVariants as attributes
+use Rattle.conf_lex.specs.declared.attribute.Attribute.{Attribute}
+use Rattle.conf_lex.specs.declared.attribute.Attribute.TheVariants as attributes
 use Rattle.filt_syntax.specs.declared.ast.CompareOp.{CompareOp}
 use Rattle.filt_syntax.specs.declared.ast.CompareOp.TheVariants as compare_ops
-use Rattle.filt_syntax.specs.declared.ast.Constant.{Constant}
-use Rattle.filt_syntax.specs.declared.ast.Constant.TheVariants as constants
+use Rattle.conf_lex.specs.declared.attribute.Constant.{Constant}
+use Rattle.conf_lex.specs.declared.attribute.Constant.TheVariants as constants
 use Rattle.filt_syntax.specs.declared.ast.MulOp.{MulOp}
 use Rattle.filt_syntax.specs.declared.ast.MulOp.TheVariants as mul_ops
 use Rattle.filt_syntax.specs.declared.ast.Item.{Item}

@@ -4,7 +4,7 @@ use Rattle.std.proofs.Common.{ℕ, zero, suc, Bool, true, false, List, [], ◌�
 use Rattle.std.proofs.lemmas.List.Elements.{All-nil, All-cons, All-head, All-tail, All-append, All-push, All-set, All-take, All-map}
 use Rattle.std.specs.Bool.{⊤}
 use Rattle.attrs.specs.declared.attributes.Attrs.{Attrs}
-use Rattle.grammar.specs.Names.{name_bytes}
+use Rattle.conf_lex.specs.Names.{name_bytes}
 use Rattle.filt_syntax.specs.declared.ast.LogicalOp.{LogicalOp}
 use Rattle.filt_syntax.specs.declared.ast.LogicalOp.TheVariants as logical_ops
 use Rattle.filt_syntax.specs.declared.ast.Atom.{Atom}

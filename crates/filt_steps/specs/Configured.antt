@@ -1,7 +1,7 @@
 -- The functions of a configuration, as they are counted and weighed: each behind those before it,
 -- over what it sees.
 use Rattle.std.specs.Prelude.{ℕ, List, [], ◌∷◌, ◌++◌, map}
-use Rattle.grammar.specs.Names.{name_bytes}
+use Rattle.conf_lex.specs.Names.{name_bytes}
 use Rattle.filt_syntax.specs.declared.ast.Parameter.{Parameter}
 use Rattle.conf_ast.specs.Configurations.{Routine, Declaration, DefineFunction}
 use Rattle.filt_meaning.specs.Configuration.{behind_one}

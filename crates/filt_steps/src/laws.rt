@@ -1,8 +1,8 @@
 ghost use Rattle.std.specs.Prelude.{◌≡◌, ◌≤◌, ◌+◌, ℕ, true, false, List, [], ◌∷◌, ◌++◌, length};
 ghost use Rattle.std.specs.Prelude.{map, take, Some, Ok};
 ghost use Rattle.attrs.specs.declared.attributes.Attrs.{Attrs};
-ghost use Rattle.grammar.specs.declared.named.Name.{Name};
-ghost use Rattle.grammar.specs.Names.{name_bytes};
+ghost use Rattle.conf_lex.specs.declared.named.Name.{Name};
+ghost use Rattle.conf_lex.specs.Names.{name_bytes};
 ghost use Rattle.filt_syntax.specs.declared.ast.Item.{Item};
 ghost use Rattle.filt_syntax.specs.declared.ast.LogicalOp.TheVariants as logical_ops;
 ghost use Rattle.filt_syntax.specs.declared.ast.AddOp.{AddOp};

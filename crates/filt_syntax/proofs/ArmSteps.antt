@@ -6,20 +6,21 @@ use Rattle.conf_lex.specs.declared.symbol.Symbol.TheVariants as sym
 use Rattle.conf_lex.specs.declared.word.Word.{Word}
 use Rattle.conf_lex.specs.declared.word.Word.TheVariants as words
 use Rattle.conf_lex.specs.Symbols.{is_placed}
-use Rattle.grammar.specs.Kind.{Kind, kind_of, IsSymbol, number, name, prefix, symbol}
-use Rattle.grammar.specs.Grammar.{Terminal, Seq, Alt, ParseTree, Leaf, NoWords, Pair, Left, Right, Single, Snoc, Deeper, begins, first_set, yield, Bad}
-use Rattle.grammar.specs.Reading.{Read, Parsed, Failed, Reader, and_then, word, both, read}
-use Rattle.grammar.specs.Shapes.{symbol_leaf, between, closed}
-use Rattle.grammar.specs.Agrees.{AgreesOnError}
-use Rattle.grammar.specs.declared.refusal.Refusal.{Refusal}
-use Rattle.grammar.proofs.Good.{or_false}
-use Rattle.grammar.proofs.Good.{fits_front}
-use Rattle.grammar.proofs.Chains.{turn, full_words}
+use Rattle.conf_lex.specs.Kind.{Kind, kind_of, IsSymbol, number, name, prefix, symbol}
+use Rattle.conf_lex.specs.Grammar.{Terminal, Seq, Alt, ParseTree, Leaf, NoWords, Pair, Left, Right, Single, Snoc, Deeper, begins, first_set, yield, Bad}
+use Rattle.conf_lex.specs.Reading.{Read, Parsed, Failed, Reader, and_then, word, both, read}
+use Rattle.conf_lex.specs.PartShapes.{closed}
+use Rattle.conf_lex.specs.Leaves.{symbol_leaf, between}
+use Rattle.conf_lex.specs.Agrees.{AgreesOnError}
+use Rattle.conf_lex.specs.declared.refusal.Refusal.{Refusal}
+use Rattle.conf_lex.proofs.Good.{or_false}
+use Rattle.conf_lex.proofs.Good.{fits_front}
+use Rattle.conf_lex.proofs.Chains.{turn, full_words}
 use Rattle.std.proofs.lemmas.List.{length-append}
 use Rattle.filt_syntax.specs.declared.ast.Arm.{Arm}
 use Rattle.filt_syntax.specs.declared.ast.Stmt.{Stmt}
 use Rattle.filt_syntax.specs.ItemView.{label_tree}
-use Rattle.grammar.proofs.Shapes.{fails_then, fails_along, then_then, word_bad, bool_cases, refuses}
+use Rattle.conf_lex.proofs.PartShapes.{fails_then, fails_along, then_then, word_bad, bool_cases, refuses}
 use Rattle.filt_syntax.specs.Syntax.{optional, is_num, pair_item, prefix_item, item, unnamed_item, label_end, label_of_name, label, done_to_name, unnamed_stmt, arm_part, stmt, rule}
 use Rattle.filt_syntax.specs.ItemReaders.{label_at, label_end_at}
 use Rattle.filt_syntax.specs.StatementView.{nth, as_part, as_label, stmt_tree, body_after, ArmParts, arms_after, arms_chain, arms_row, arms_of}
@@ -136,6 +137,8 @@ part_stmt k (words.Text at start len ∷ ws) none = other_part k (words.Text at 
 part_stmt k (words.Ip at addr ∷ ws) none = other_part k (words.Ip at addr) ws refl none
 part_stmt k (words.Prefix at net ∷ ws) none = absurd cc
 part_stmt k (words.BadPrefix at ∷ ws) none = other_part k (words.BadPrefix at) ws refl none
+part_stmt k (words.Attribute at a ∷ ws) none = other_part k (words.Attribute at a) ws refl none
+part_stmt k (words.Constant at c ∷ ws) none = other_part k (words.Constant at c) ws refl none
 part_stmt k (words.Symbol s ∷ ws) none = other_part k (words.Symbol s) ws (symbol_no_name s) none
 part_stmt k (words.Placed at s ∷ ws) none = other_part k (words.Placed at s) ws (placed_no_name at s) none
 
@@ -306,6 +309,8 @@ label_part k (words.Text at start len ∷ ws) some = absurd cc
 label_part k (words.Ip at addr ∷ ws) some = absurd cc
 label_part k (words.Prefix at net ∷ ws) some = same_item k (words.Prefix at net ∷ ws) (read rule k prefix_item (words.Prefix at net ∷ ws)) (λ t. Right (Right t)) (λ t e. refl) refl (rest_read 2 k unnamed_item refl refl (words.Prefix at net ∷ ws) refl) (rest_read 2 k item refl refl (words.Prefix at net ∷ ws) refl)
 label_part k (words.BadPrefix at ∷ ws) some = absurd cc
+label_part k (words.Attribute at a ∷ ws) some = absurd cc
+label_part k (words.Constant at c ∷ ws) some = absurd cc
 label_part k (words.Symbol s ∷ ws) some = pair_label k (words.Symbol s) ws (opens_symbol s some)
 label_part k (words.Placed at s ∷ ws) some = pair_label k (words.Placed at s) ws (opens_placed at s some)
 
@@ -324,6 +329,8 @@ starts_label (words.Text at start len ∷ ws) some = absurd cc
 starts_label (words.Ip at addr ∷ ws) some = absurd cc
 starts_label (words.Prefix at net ∷ ws) some = refl
 starts_label (words.BadPrefix at ∷ ws) some = absurd cc
+starts_label (words.Attribute at a ∷ ws) some = absurd cc
+starts_label (words.Constant at c ∷ ws) some = absurd cc
 starts_label (words.Symbol s ∷ ws) some = opened_starts (words.Symbol s) ws (symbol_no_name s) (opens_symbol s some)
 starts_label (words.Placed at s ∷ ws) some = opened_starts (words.Placed at s) ws (placed_no_name at s) (opens_placed at s some)
 
@@ -526,5 +533,7 @@ label_unnamed ws (words.Text at start len) u is none = rw is refl
 label_unnamed ws (words.Ip at addr) u is none = rw is refl
 label_unnamed ws (words.Prefix at net) u is none = rw is refl
 label_unnamed ws (words.BadPrefix at) u is none = rw is refl
+label_unnamed ws (words.Attribute at a) u is none = rw is refl
+label_unnamed ws (words.Constant at c) u is none = rw is refl
 label_unnamed ws (words.Symbol s) u is none = rw is refl
 label_unnamed ws (words.Placed at s) u is none = rw is refl

@@ -5,15 +5,16 @@ use Rattle.std.proofs.lemmas.List.{length-append}
 use Rattle.conf_lex.specs.declared.symbol.Symbol.TheVariants as sym
 use Rattle.conf_lex.specs.declared.word.Word.{Word}
 use Rattle.conf_lex.specs.declared.word.Word.TheVariants as words
-use Rattle.grammar.specs.Kind.{Kind, kind_of, name, symbol}
-use Rattle.grammar.specs.Grammar.{Terminal, Epsilon, Nested, ParseTree, Leaf, NoWords, Pair, Left, Right, Single, Snoc, Deeper, begins, first_set, yield, TooDeep}
-use Rattle.grammar.specs.Reading.{Read, Parsed, Failed, Reader, and_then, word, both, read}
-use Rattle.grammar.specs.Shapes.{symbol_leaf, closed}
-use Rattle.grammar.specs.Agrees.{AgreesOnError, Agrees}
-use Rattle.grammar.specs.declared.refusal.Refusal.{Refusal}
-use Rattle.grammar.proofs.Good.{fits_front}
-use Rattle.grammar.proofs.Chains.{turn, full_words}
-use Rattle.grammar.proofs.Shapes.{fails_then, fails_along, then_then, word_bad, bool_cases}
+use Rattle.conf_lex.specs.Kind.{Kind, kind_of, name, symbol}
+use Rattle.conf_lex.specs.Grammar.{Terminal, Epsilon, Nested, ParseTree, Leaf, NoWords, Pair, Left, Right, Single, Snoc, Deeper, begins, first_set, yield, TooDeep}
+use Rattle.conf_lex.specs.Reading.{Read, Parsed, Failed, Reader, and_then, word, both, read}
+use Rattle.conf_lex.specs.PartShapes.{closed}
+use Rattle.conf_lex.specs.Leaves.{symbol_leaf}
+use Rattle.conf_lex.specs.Agrees.{AgreesOnError, Agrees}
+use Rattle.conf_lex.specs.declared.refusal.Refusal.{Refusal}
+use Rattle.conf_lex.proofs.Good.{fits_front}
+use Rattle.conf_lex.proofs.Chains.{turn, full_words}
+use Rattle.conf_lex.proofs.PartShapes.{fails_then, fails_along, then_then, word_bad, bool_cases}
 use Rattle.filt_syntax.specs.Syntax.{block, if_stmt, case_stmt, stmt, rule}
 use Rattle.filt_syntax.specs.Levels.{block_level, body_level, arms_level}
 use Rattle.filt_syntax.specs.Readers.{expr_at}

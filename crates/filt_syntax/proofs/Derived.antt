@@ -5,20 +5,20 @@ use Rattle.std.specs.Borrow.{Bor}
 use Rattle.conf_lex.specs.declared.symbol.Symbol.TheVariants as symbols
 use Rattle.conf_lex.specs.declared.word.Word.{Word}
 use Rattle.conf_lex.specs.declared.word.Word.TheVariants as words
-use Rattle.grammar.specs.declared.named.Name.{Name}
-use Rattle.grammar.specs.declared.refusal.Refusal.{Refusal}
-use Rattle.grammar.specs.Grammar.{ParseTree, Leaf, NoWords, Pair, Left, Right, Single, Snoc, Deeper}
-use Rattle.grammar.specs.Reading.{Read, Parsed, and_then}
-use Rattle.grammar.specs.Shapes.{symbol_leaf}
-use Rattle.grammar.specs.Agrees.{Agrees}
-use Rattle.grammar.proofs.Shapes.{fails_then, fails_along}
+use Rattle.conf_lex.specs.declared.named.Name.{Name}
+use Rattle.conf_lex.specs.declared.refusal.Refusal.{Refusal}
+use Rattle.conf_lex.specs.Grammar.{ParseTree, Leaf, NoWords, Pair, Left, Right, Single, Snoc, Deeper}
+use Rattle.conf_lex.specs.Reading.{Read, Parsed, and_then}
+use Rattle.conf_lex.specs.Leaves.{symbol_leaf}
+use Rattle.conf_lex.specs.Agrees.{Agrees}
+use Rattle.conf_lex.proofs.PartShapes.{fails_then, fails_along}
 use Rattle.filt_syntax.specs.declared.ast.Atom.{Atom}
-use Rattle.filt_syntax.specs.declared.ast.Attribute.{Attribute}
+use Rattle.conf_lex.specs.declared.attribute.Attribute.{Attribute}
 use Rattle.filt_syntax.specs.declared.ast.Item.{Item}
 use Rattle.filt_syntax.specs.declared.ast.MaskItem.{MaskItem}
 use Rattle.filt_syntax.specs.declared.ast.Method.{Method}
-use Rattle.filt_syntax.specs.declared.ast.Postfix.{Postfix}
-use Rattle.filt_syntax.specs.declared.ast.Postfix.TheVariants as postfixes
+use Rattle.filt_syntax.specs.declared.ast.Access.{Access}
+use Rattle.filt_syntax.specs.declared.ast.Access.TheVariants as accesses
 use Rattle.filt_syntax.specs.declared.ast.MulOp.{MulOp}
 use Rattle.filt_syntax.specs.declared.ast.AddOp.{AddOp}
 use Rattle.filt_syntax.specs.declared.ast.CompareOp.{CompareOp}
@@ -29,7 +29,8 @@ use Rattle.filt_syntax.specs.declared.ast.Expr.TheFolds.{fold_out-Expr}
 use Rattle.filt_syntax.specs.declared.ast.Expr.TheShapes.{former-Expr-Postfix-1-at-4}
 use Rattle.filt_syntax.specs.declared.ast.Expr.TheOpen.{Expr-F}
 use Rattle.filt_syntax.specs.ItemView.{items_tree, mask_items_tree}
-use Rattle.filt_syntax.specs.View.{Derivations, derivations, derivations_step, as_primary, as_postfix, as_unary, as_product, as_sum, as_comparison, as_expr, alone, attribute_word, atom_word, atom_tree, named_tree, group_tree, set_tree, mask_tree, defined_tree, method_call_tree, in_parentheses, arguments_tree, listed_after, listed_tree, with_next, second_part, parts_after, chain_of, access_part, access_of, mul_op_part, mul_op_of, add_op_part, add_op_of, logical_op_part, logical_op_of, compare_op_symbol, expr_tree, expr_trees}
+use Rattle.filt_syntax.specs.View.{Derivations, derivations, derivations_step, as_primary, as_postfix, as_unary, as_product, as_sum, as_comparison, as_expr, alone, atom_word, atom_tree, named_tree, group_tree, set_tree, mask_tree, defined_tree, method_call_tree, in_parentheses, arguments_tree, listed_after, listed_tree, with_next, second_part, parts_after, chain_of, access_part, mul_op_part, add_op_part, logical_op_part, compare_op_symbol, expr_tree, expr_trees}
+use Rattle.filt_syntax.specs.Inside.{access_of, mul_op_of, add_op_of, logical_op_of}
 
 pub exprs-map : (es : List Expr) → map (λ (s : Derivations). s.expr) (map derivations es) ≡ expr_trees es
 exprs-map [] = refl
@@ -47,11 +48,11 @@ pub logical_ops-map : (xs : List (LogicalOp × Expr)) → map logical_op_part (m
 logical_ops-map [] = refl
 logical_ops-map (x ∷ xs) = ap (λ (ts : List (Word × ParseTree)). logical_op_of x ∷ ts) (logical_ops-map xs)
 
-access_one : (a : Postfix Expr) → access_part ((former-Expr-Postfix-1-at-4).map Expr Derivations (fold-Expr Derivations derivations_step) a) ≡ access_of a
-access_one (postfixes.Property p) = refl
-access_one (postfixes.Method m place e) = refl
+access_one : (a : Access Expr) → access_part ((former-Expr-Postfix-1-at-4).map Expr Derivations (fold-Expr Derivations derivations_step) a) ≡ access_of a
+access_one (accesses.Property p) = refl
+access_one (accesses.Method m place e) = refl
 
-pub accesses-map : (xs : List (Postfix Expr)) → map access_part (map ((former-Expr-Postfix-1-at-4).map Expr Derivations (fold-Expr Derivations derivations_step)) xs) ≡ map access_of xs
+pub accesses-map : (xs : List (Access Expr)) → map access_part (map ((former-Expr-Postfix-1-at-4).map Expr Derivations (fold-Expr Derivations derivations_step)) xs) ≡ map access_of xs
 accesses-map [] = refl
 accesses-map (x ∷ xs) = rw (access_one x, accesses-map xs) refl
 
@@ -76,7 +77,7 @@ derivations-Set at v = search (rules, the_lemmas)
 pub derivations-Mask : (at : ℕ) (v : Vec MaskItem Global) → derivations (exprs.Mask at v) ≡ as_primary (mask_tree at (mask_items_tree v.items))
 derivations-Mask at v = search (rules, the_lemmas)
 
-pub derivations-Defined : (at place attribute_at : ℕ) (a : Attribute) → derivations (exprs.Defined at place attribute_at a) ≡ as_primary (defined_tree at place (attribute_word attribute_at a))
+pub derivations-Defined : (at place attribute_at : ℕ) (a : Attribute) → derivations (exprs.Defined at place attribute_at a) ≡ as_primary (defined_tree at place (words.Attribute attribute_at a))
 derivations-Defined at place attribute_at a = search (rules, the_lemmas)
 
 pub derivations-MethodCall : (m : Method) (place : ℕ) (a b : Box Expr Global) → derivations (exprs.MethodCall m place a b) ≡ as_primary (method_call_tree m place (derivations a.value).expr (derivations b.value).expr)
@@ -97,7 +98,7 @@ derivations-Compare op a b = search (rules, the_lemmas)
 pub derivations-Logical : (a : Box Expr Global) (v : Vec (LogicalOp × Expr) Global) → derivations (exprs.Logical a v) ≡ as_expr (chain_of (Single (derivations a.value).comparison) (map logical_op_of v.items))
 derivations-Logical a v = search (rules, the_lemmas, logical_ops-map)
 
-pub derivations-Postfix : (a : Box Expr Global) (v : Vec (Postfix Expr) Global) → derivations (exprs.Postfix a v) ≡ as_postfix (chain_of (Single (derivations a.value).primary) (map access_of v.items))
+pub derivations-Postfix : (a : Box Expr Global) (v : Vec (Access Expr) Global) → derivations (exprs.Postfix a v) ≡ as_postfix (chain_of (Single (derivations a.value).primary) (map access_of v.items))
 derivations-Postfix a v = search (rules, the_lemmas, accesses-map)
 
 -- ---- a form is also each greater form
@@ -177,11 +178,11 @@ pub chain_some : {X : Type 0} (f : X → Word × ParseTree) (t : ParseTree) (xs 
 chain_some f t [] some = absurd (some refl)
 chain_some f t (x ∷ xs) some = refl
 
-dot_word : (a : Postfix Expr) → (access_of a).0 ≡ words.Symbol symbols.Dot
-dot_word (postfixes.Property p) = refl
-dot_word (postfixes.Method m place e) = refl
+dot_word : (a : Access Expr) → (access_of a).0 ≡ words.Symbol symbols.Dot
+dot_word (accesses.Property p) = refl
+dot_word (accesses.Method m place e) = refl
 
-pub one_more_access : (t : ParseTree) (xs : List (Postfix Expr)) (x : Postfix Expr) → parts_after t (map access_of (xs ++ x ∷ [])) ≡ Snoc (parts_after t (map access_of xs)) (Pair (Leaf (words.Symbol symbols.Dot)) (access_of x).1)
+pub one_more_access : (t : ParseTree) (xs : List (Access Expr)) (x : Access Expr) → parts_after t (map access_of (xs ++ x ∷ [])) ≡ Snoc (parts_after t (map access_of xs)) (Pair (Leaf (words.Symbol symbols.Dot)) (access_of x).1)
 one_more_access t xs x = one_more access_of t xs x ∙ rw (dot_word x) refl
 
 listed_more : (t : ParseTree) (xs : List ParseTree) (x : ParseTree) → listed_after t (xs ++ x ∷ []) ≡ with_next (listed_after t xs) x

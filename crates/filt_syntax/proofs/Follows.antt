@@ -1,30 +1,23 @@
 -- Whether a word can stand behind others, by what the parser answers to them all.
-use Rattle.std.proofs.Common.{◌≡◌, ◌↔◌, ℕ, ◌≤◌, ◌<◌, Bool, true, IsTrue, List, [], ◌∷◌, ◌++◌, length, drop, Option, Some, None, refl, sym, ap, subst, ◌∙◌, append_assoc, append-nil, arith, ◌==◌, inl, inr}
+use Rattle.std.proofs.Common.{◌≡◌, ◌↔◌, ℕ, ◌≤◌, Bool, true, IsTrue, List, [], ◌∷◌, ◌++◌, length, drop, Some, refl, sym, ap, subst, ◌∙◌, append_assoc, append-nil, arith, ◌==◌, inl, inr}
 use Rattle.std.proofs.lemmas.List.{length-append, length-drop}
 use Rattle.std.proofs.lemmas.Bool.{eqb-true}
 use Rattle.conf_lex.specs.declared.word.Word.{Word}
-use Rattle.grammar.specs.Grammar.{TooDeep, ParseTree, yield, DerivesLongest, too_deep}
-use Rattle.grammar.specs.Reading.{Failed}
-use Rattle.grammar.specs.Sentences.{IsBegun, IsBegunWithin, IsLast, IsTooDeep}
-use Rattle.grammar.proofs.Good.{outcome}
-use Rattle.grammar.proofs.Checks.{check}
-use Rattle.grammar.proofs.Exact.{whole}
-use Rattle.grammar.proofs.Unique.{fronts, too_deep_is_fault}
+use Rattle.conf_lex.specs.Grammar.{TooDeep, ParseTree, yield, DerivesLongest, too_deep}
+use Rattle.conf_lex.specs.Sentences.{IsBegun, IsBegunWithin, IsLast, IsTooDeep}
+use Rattle.conf_lex.proofs.Checks.{check}
+use Rattle.conf_lex.proofs.Exact.{whole}
+use Rattle.conf_lex.proofs.Unique.{fronts, late_outcome, too_deep_is_fault}
 use Rattle.filt_syntax.specs.Syntax.{rule}
 use Rattle.filt_syntax.specs.Levels.{Form}
 use Rattle.filt_syntax.specs.declared.parse.SyntaxFault.{SyntaxFault}
 use Rattle.filt_syntax.specs.declared.parse.SyntaxFault.TheVariants as faults
 use Rattle.filt_syntax.specs.Parse.{ParsesAt, IsRefused}
-use Rattle.filt_syntax.specs.RefusedToken.{CanFollow, IsEndBy}
+use Rattle.filt_syntax.specs.RefusedToken.{CanFollow}
+use Rattle.filt_syntax.specs.Inside.{IsEndBy}
 use Rattle.filt_syntax.proofs.Tested.{model, after, checked}
 
 -- ---- fronts
-
-late_outcome : (d : Option (List Word)) (t : ParseTree) (more ws : List Word) → ((deep : List Word) → d ≡ Some deep → length deep ≤ length more) → outcome d t [] ≡ Failed TooDeep ws → length more < length ws → ⊥
-late_outcome None t more ws late e longer = cc
-late_outcome (Some deep) t more ws late e longer =
-    let same : deep ++ [] ≡ ws = cc in
-    omega (arith, late deep refl, ap (λ (u : List Word). length u) same, length-append deep [])
 
 pub begun_next : (f : Form) (t : ParseTree) (before : List Word) (w : Word) (more : List Word) → DerivesLongest rule t f → yield t ≡ before ++ w ∷ more → IsBegun rule f (before ++ w ∷ [])
 begun_next f t before w more fits e = (t, more, fits, e ∙ sym (append_assoc before (w ∷ []) more))

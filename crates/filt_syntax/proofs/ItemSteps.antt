@@ -4,27 +4,28 @@ use Rattle.std.proofs.lemmas.List.{length-append}
 use Rattle.conf_lex.specs.declared.symbol.Symbol.TheVariants as sym
 use Rattle.conf_lex.specs.declared.word.Word.{Word}
 use Rattle.conf_lex.specs.declared.word.Word.TheVariants as words
-use Rattle.grammar.specs.Kind.{Kind, kind_of, prefix, symbol}
-use Rattle.grammar.specs.Grammar.{Terminal, Epsilon, Seq, ParseTree, Leaf, NoWords, Pair, Left, Right, Single, Snoc, begins, first_set, yield, TooDeep}
-use Rattle.grammar.specs.Reading.{Read, Parsed, Failed, Reader, and_then, word, both, turns, read}
-use Rattle.grammar.specs.Shapes.{symbol_leaf, links, with_optional, closed}
-use Rattle.grammar.specs.Agrees.{AgreesOnError}
-use Rattle.grammar.specs.declared.refusal.Refusal.{Refusal}
-use Rattle.grammar.proofs.Good.{fits_front}
-use Rattle.grammar.proofs.Chains.{turn, full_words}
-use Rattle.grammar.proofs.Shapes.{fails_then, fails_along, then_then, bool_cases, Turns, closed_is, shorter}
+use Rattle.conf_lex.specs.Kind.{Kind, kind_of, prefix, symbol}
+use Rattle.conf_lex.specs.Grammar.{Terminal, Epsilon, Seq, ParseTree, Leaf, NoWords, Pair, Left, Right, Single, Snoc, begins, first_set, yield, TooDeep}
+use Rattle.conf_lex.specs.Reading.{Read, Parsed, Failed, Reader, and_then, word, both, turns, read}
+use Rattle.conf_lex.specs.PartShapes.{links, with_optional, closed}
+use Rattle.conf_lex.specs.Leaves.{symbol_leaf}
+use Rattle.conf_lex.specs.Agrees.{AgreesOnError}
+use Rattle.conf_lex.specs.declared.refusal.Refusal.{Refusal}
+use Rattle.conf_lex.proofs.Good.{fits_front}
+use Rattle.conf_lex.proofs.Chains.{turn, full_words}
+use Rattle.conf_lex.proofs.PartShapes.{fails_then, fails_along, then_then, bool_cases, Turns, closed_is, shorter}
 use Rattle.filt_syntax.specs.Syntax.{is_num, item, mask_item, rule}
 use Rattle.filt_syntax.specs.declared.ast.Item.{Item}
 use Rattle.filt_syntax.specs.declared.ast.MaskItem.{MaskItem}
 use Rattle.filt_syntax.specs.ItemView.{item_tree, items_after, items_tree, mask_item_tree, mask_after, mask_items_tree, label_tree}
-use Rattle.filt_syntax.specs.ItemReaders.{part_at, pair_part_at, pair_at, bounds_at, lengths_at, item_at, items_at, mask_atom_at, mask_item_at, mask_items_at, mask_row_at, label_at}
+use Rattle.filt_syntax.specs.ItemReaders.{num_range_at, pair_part_at, pair_at, bounds_at, lengths_at, item_at, items_at, mask_atom_at, mask_item_at, mask_items_at, mask_row_at, label_at}
 use Rattle.filt_syntax.proofs.Picks.{maps2}
 use Rattle.filt_syntax.proofs.Tested.{model, after, checked, good_at, next_at, solid_at}
 
 -- ---- parts
 
-pub part_is : (k : ℕ) (ws : List Word) → part_at k ws ≡ with_optional (symbol sym.Range) (word is_num) (word is_num) ws
-unfolding part_at with_optional
+pub part_is : (k : ℕ) (ws : List Word) → num_range_at k ws ≡ with_optional (symbol sym.Range) (word is_num) (word is_num) ws
+unfolding num_range_at with_optional
 part_is zero ws = refl
 part_is (suc k) ws = refl
 
@@ -33,8 +34,8 @@ unfolding pair_part_at
 pair_part_any zero ws u is = rw is refl
 pair_part_any (suc k) ws u is = rw is refl
 
-pub pair_part_some : (k : ℕ) (ws : List Word) → begins (symbol sym.Star) ws ≡ false → pair_part_at k ws ≡ and_then (part_at 0 ws) (λ b u. Parsed (Right b) u)
-unfolding pair_part_at part_at
+pub pair_part_some : (k : ℕ) (ws : List Word) → begins (symbol sym.Star) ws ≡ false → pair_part_at k ws ≡ and_then (num_range_at 0 ws) (λ b u. Parsed (Right b) u)
+unfolding pair_part_at num_range_at
 pair_part_some zero ws none = rw none refl
 pair_part_some (suc k) ws none = rw none refl
 
@@ -101,8 +102,8 @@ prefix_item_is zero at net ws u is = rw is (prefix_map (lengths_at 0 u) (words.P
 prefix_item_is (suc k) at net ws u is = rw is (prefix_map (lengths_at (suc k) u) (words.Prefix at net))
 
 -- what no bracket and no prefix begins is a part, or nothing
-pub item_part : (k : ℕ) (ws : List Word) → begins (symbol sym.OpenParenthesis) ws ≡ false → begins prefix ws ≡ false → item_at k ws ≡ and_then (part_at 0 ws) (λ t u. Parsed (Left t) u)
-unfolding item_at part_at
+pub item_part : (k : ℕ) (ws : List Word) → begins (symbol sym.OpenParenthesis) ws ≡ false → begins prefix ws ≡ false → item_at k ws ≡ and_then (num_range_at 0 ws) (λ t u. Parsed (Left t) u)
+unfolding item_at num_range_at
 item_part zero [] a b = refl
 item_part (suc k) [] a b = refl
 item_part zero (w ∷ ws) a b = elim (bool_cases (is_num (kind_of w))) [
@@ -212,8 +213,8 @@ unfolding mask_atom_at
 mask_atom_any zero ws u is = rw is refl
 mask_atom_any (suc k) ws u is = rw is refl
 
-pub mask_atom_part : (k : ℕ) (ws : List Word) → begins (symbol sym.Question) ws ≡ false → begins (symbol sym.Star) ws ≡ false → mask_atom_at k ws ≡ and_then (part_at 0 ws) (λ t u. Parsed (Right t) u)
-unfolding mask_atom_at part_at
+pub mask_atom_part : (k : ℕ) (ws : List Word) → begins (symbol sym.Question) ws ≡ false → begins (symbol sym.Star) ws ≡ false → mask_atom_at k ws ≡ and_then (num_range_at 0 ws) (λ t u. Parsed (Right t) u)
+unfolding mask_atom_at num_range_at
 mask_atom_part zero [] a b = refl
 mask_atom_part (suc k) [] a b = refl
 mask_atom_part zero (w ∷ ws) a b = rw (a, b) refl

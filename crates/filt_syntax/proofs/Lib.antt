@@ -11,10 +11,3 @@ pub mod StatementSteps
 pub mod StatementTrees
 pub mod CycleSteps
 pub mod ArmSteps
-pub mod Decided
-pub mod ChainParts
-pub mod SortsOfWords
-pub mod ItemsTold
-pub mod ExprTold
-pub mod ArmsTold
-pub mod StatementsTold

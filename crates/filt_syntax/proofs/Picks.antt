@@ -1,13 +1,13 @@
 -- Reading a choice of several forms where the next word begins one of them, and a level by its opening word.
 use Rattle.std.proofs.Common.{◌≡◌, ℕ, zero, suc, ◌+◌, Bool, true, false, cond, ◌&&◌, List, [], ◌∷◌, refl, ap, ◌∙◌, arith}
 use Rattle.conf_lex.specs.declared.word.Word.{Word}
-use Rattle.grammar.specs.Kind.{Kind, kind_of}
-use Rattle.grammar.specs.Grammar.{Terminal, Epsilon, Seq, Alt, Repeat, Nested, ParseTree, Leaf, Left, Right, Deeper, begins, first_set, Bad, TooDeep}
-use Rattle.grammar.specs.Reading.{Read, Parsed, Failed, and_then, word, both, read}
-use Rattle.grammar.specs.Agrees.{AgreesOnError}
-use Rattle.grammar.specs.declared.refusal.Refusal.{Refusal}
-use Rattle.grammar.specs.declared.refusal.Refusal.TheVariants as refusals
-use Rattle.grammar.proofs.Checks.{all_in, is_kind, kinds, not, and_true, not_true, or_left, or_right}
+use Rattle.conf_lex.specs.Kind.{Kind, kind_of}
+use Rattle.conf_lex.specs.Grammar.{Terminal, Epsilon, Seq, Alt, Repeat, Nested, ParseTree, Leaf, Left, Right, Deeper, begins, first_set, Bad, TooDeep}
+use Rattle.conf_lex.specs.Reading.{Read, Parsed, Failed, and_then, word, both, read}
+use Rattle.conf_lex.specs.Agrees.{AgreesOnError}
+use Rattle.conf_lex.specs.declared.refusal.Refusal.{Refusal}
+use Rattle.conf_lex.specs.declared.refusal.Refusal.TheVariants as refusals
+use Rattle.conf_lex.proofs.Checks.{all_in, is_kind, kinds, not, and_true, not_true, or_left, or_right}
 use Rattle.filt_syntax.specs.Syntax.{rule}
 use Rattle.filt_syntax.specs.Levels.{Level, Form}
 use Rattle.filt_syntax.specs.StatementView.{nth, beyond}

@@ -2,20 +2,21 @@
 use Rattle.std.proofs.Common.{◌≡◌, ℕ, ◌+◌, ◌-◌, ◌≤◌, List, ◌++◌, length, take, drop, refl, sym, ap, subst, ◌∙◌, arith, append_assoc, Ok, Err, inl, inr}
 use Rattle.std.proofs.lemmas.List.{length-append, length-drop, take-append-drop, drop_at}
 use Rattle.conf_lex.specs.declared.word.Word.{Word}
-use Rattle.grammar.specs.Grammar.{ParseTree, yield}
-use Rattle.grammar.specs.Reading.{Parsed, Failed, Reader, read}
-use Rattle.grammar.specs.Grammar.{Why, Bad, TooDeep}
-use Rattle.grammar.specs.Sentences.{IsBad, IsTooDeep}
-use Rattle.grammar.proofs.Exact.{got_is_read, read_is_got, fault_is_bad, fault_is_too_deep}
-use Rattle.grammar.proofs.Unique.{bad_is_fault, too_deep_is_fault}
+use Rattle.conf_lex.specs.Grammar.{ParseTree, yield}
+use Rattle.conf_lex.specs.Reading.{Parsed, Failed, Reader, read}
+use Rattle.conf_lex.specs.Grammar.{Why, Bad, TooDeep}
+use Rattle.conf_lex.specs.Sentences.{IsBad, IsTooDeep}
+use Rattle.conf_lex.proofs.Exact.{got_is_read, read_is_got, fault_is_bad, fault_is_too_deep}
+use Rattle.conf_lex.proofs.Unique.{bad_is_fault, too_deep_is_fault}
 use Rattle.filt_syntax.specs.declared.parse.SyntaxFault.{SyntaxFault}
 use Rattle.filt_syntax.specs.declared.parse.SyntaxFault.TheVariants as faults
-use Rattle.grammar.specs.declared.refusal.Refusal.{Refusal}
-use Rattle.grammar.specs.declared.refusal.Refusal.TheVariants as refusals
-use Rattle.grammar.specs.Agrees.{AgreesOnError}
+use Rattle.conf_lex.specs.declared.refusal.Refusal.{Refusal}
+use Rattle.conf_lex.specs.declared.refusal.Refusal.TheVariants as refusals
+use Rattle.conf_lex.specs.Agrees.{AgreesOnError}
 use Rattle.filt_syntax.specs.Syntax.{rule}
 use Rattle.filt_syntax.specs.Levels.{Form}
-use Rattle.filt_syntax.specs.Parse.{ParsesAt, IsRefused, IsFault, refused_words, fault_of}
+use Rattle.filt_syntax.specs.Parse.{ParsesAt, IsRefused, IsFault}
+use Rattle.filt_syntax.specs.Inside.{refused_words, fault_of}
 use Rattle.filt_syntax.proofs.Tested.{is_checked, model, after, checked}
 
 -- the rest of what stands from a place on

@@ -1,5 +1,5 @@
 -- How far behind its first token a refused word is refused.
-use Rattle.std.proofs.Common.{◌≡◌, ◌↔◌, ℕ, zero, suc, ◌+◌, ◌-◌, ◌≤◌, Bool, true, false, cond, if◌then◌else◌, IsTrue, List, [], ◌∷◌, ◌++◌, length, map, drop, slice_index_or, Err, Bor, MatchOption, refl, sym, ap, subst, ◌∙◌, arith, inl, inr, ◌⊎◌}
+use Rattle.std.proofs.Common.{◌≡◌, ◌↔◌, ℕ, zero, suc, ◌+◌, ◌-◌, ◌≤◌, Bool, true, false, cond, if◌then◌else◌, IsTrue, List, [], ◌∷◌, ◌++◌, length, map, drop, slice_index_or, Bor, MatchOption, refl, sym, ap, subst, ◌∙◌, arith, inl, inr}
 use Rattle.filt_syntax.specs.Levels.{Form}
 use Rattle.std.specs.Bool.{then_some}
 use Rattle.std.proofs.lemmas.Bool.{false≢true}
@@ -9,14 +9,14 @@ use Rattle.conf_lex.specs.Words.{first_word, words_from}
 use Rattle.conf_lex.specs.declared.token.Token.{Token}
 use Rattle.conf_lex.specs.declared.word.Word.{Word}
 use Rattle.conf_lex.specs.declared.word.Word.TheVariants as words
-use Rattle.grammar.proofs.Unique.{fronts}
+use Rattle.conf_lex.proofs.Unique.{fronts}
 use Rattle.filt_syntax.specs.declared.parse.SyntaxFault.{SyntaxFault}
 use Rattle.filt_syntax.specs.declared.parse.SyntaxFault.TheVariants as faults
 use Rattle.filt_syntax.specs.declared.refused_token.Torn.{Torn}
 use Rattle.filt_syntax.specs.declared.refused_token.Torn.TheVariants as torns
-use Rattle.filt_syntax.specs.Parse.{IsRefused, IsFault}
-use Rattle.filt_syntax.specs.RefusedToken.{CanFollow, some_prefix, some_address, is_address_word, EndInAddress, IsCount, IsPast, IsPastFirst, IsPastAt, IsBadFrom}
-use Rattle.filt_syntax.specs.Tokens.{words_behind, starts_behind, moved, place_of, IsPastOf, IsRefusedIn, IsToldAs}
+use Rattle.filt_syntax.specs.RefusedToken.{CanFollow, some_prefix, some_address, EndInAddress, IsCount, IsPast, IsPastFirst, IsPastAt, IsBadFrom}
+use Rattle.filt_syntax.specs.Inside.{is_address_word}
+use Rattle.filt_syntax.specs.Inside.{IsToldAs}
 
 -- ---- the last word
 
@@ -36,6 +36,8 @@ address_word (words.Number at value) e = absurd cc
 address_word (words.Text at start len) e = absurd cc
 address_word (words.Prefix at net) e = absurd cc
 address_word (words.BadPrefix at) e = absurd cc
+address_word (words.Attribute at a) e = absurd cc
+address_word (words.Constant at c) e = absurd cc
 address_word (words.Symbol s) e = absurd cc
 address_word (words.Placed at s) e = absurd cc
 
@@ -45,9 +47,6 @@ last_address ws front w true cut e = let p = address_word w (sym e) in (p.0, p.1
 last_address ws front w false cut e =
     λ f at addr h. let same = last_is front.now f w (words.Ip at addr) (sym cut ∙ h) in
     false≢true (e ∙ ap is_address_word same.1)
-
-pub no_address : (ws : List Word) → (at : ℕ) (addr : Addr) (f : List Word) → ws ≡ [] → ws ≡ f ++ words.Ip at addr ∷ [] → ⊥
-no_address ws at addr f none e = omega (arith, ap (λ (l : List Word). length l) none, ap (λ (l : List Word). length l) e, length-append f (words.Ip at addr ∷ []))
 
 pub ends_is : (f : Form) (before front : List Word) (at : ℕ) (addr : Addr) (asked : Word) (b : Bool) → before ≡ front ++ words.Ip at addr ∷ [] → asked ≡ some_prefix → IsTrue b ↔ CanFollow f front asked → IsTrue b ↔ EndInAddress f before
 ends_is f before front at addr asked b cut is told = (
@@ -76,11 +75,6 @@ pub address_past : (f : Form) (before : List Word) (torn : Torn) (slash : Bool) 
 address_past f before torn slash a b found most n is one other told size c =
     subst (λ (t : Torn). IsPast f before t slash n) (sym is) (counted (Alone f before some_prefix some_address) found (if slash then 2 else 1) n (alone_is f before a b some_prefix some_address found one other told) (c ∙ ap (λ (m : ℕ). cond found m 0) size))
 
-pub at_most_two : (b slash : Bool) (most n : ℕ) → most ≡ (if slash then 2 else 1) → n ≡ cond b most 0 → n ≤ 2
-at_most_two true true most n size is = omega (arith, size, is)
-at_most_two true false most n size is = omega (arith, size, is)
-at_most_two false slash most n size is = omega (arith, is)
-
 -- ---- one count
 
 one_count : (P : Type 0) (most m n : ℕ) → IsCount P most m → IsCount P most n → m ≡ n
@@ -101,12 +95,6 @@ one_past_first f before (w ∷ ws) m n h g = one_past f before _ _ m n h g
 
 pub one_past_at : (f : Form) (ws : List Word) (place m n : ℕ) → IsPastAt f ws place m → IsPastAt f ws place n → m ≡ n
 one_past_at f ws place m n h g = one_past_first f _ (drop place ws) m n h g
-
-one_past_of : (f : Form) (ws : List Word) (e : SyntaxFault) (m n : ℕ) → IsPastOf f ws e m → IsPastOf f ws e n → m ≡ n
-one_past_of f ws (faults.Bad place) m n h g = one_past_at f ws place m n h g
-one_past_of f ws (faults.TooDeep place) m n h g = h ∙ sym g
-one_past_of f ws (faults.Unsupported place) m n h g = h ∙ sym g
-one_past_of f ws faults.Memory m n h g = h ∙ sym g
 
 -- ---- first tokens are no further than the end
 
@@ -136,45 +124,3 @@ bad_told f ws starts end place start fault (faults.Bad at) is same h =
 bad_told f ws starts end place start fault (faults.TooDeep at) is same h = absurd h
 bad_told f ws starts end place start fault (faults.Unsupported at) is same h = absurd h
 bad_told f ws starts end place start fault faults.Memory is same h = inl refl
-
-plus_none : (n : ℕ) → n ≡ n + 0
-plus_none n = omega arith
-
-pub deep_told : (f : Form) (ws : List Word) (starts : List ℕ) (end place at : ℕ) (fault : SyntaxFault) → fault ≡ faults.TooDeep place → at ≡ slice_index_or starts place end → IsToldAs f ws starts end fault (faults.TooDeep at)
-deep_told f ws starts end place at fault is same =
-    subst (λ (e : SyntaxFault). IsToldAs f ws starts end e (faults.TooDeep at)) (sym is) (inr (0, refl, ap (λ (n : ℕ). faults.TooDeep n) (same ∙ plus_none _)))
-
-module _ (f : Form) (text : List ℕ) (tokens : List Token) (from : ℕ) (ws : List Word) (starts : List ℕ) (words-are : ws ≡ words_behind text tokens from) (starts-are : starts ≡ starts_behind text tokens from) where
-  same_words : (d : SyntaxFault) → IsRefused f (words_behind text tokens from) 0 d → IsRefused f ws 0 d
-  same_words d r = subst (λ (u : List Word). IsRefused f u 0 d) (sym words-are) r
-
-  memory_any : (X : Type 0) (told : SyntaxFault) → told ≡ faults.Memory → (e : SyntaxFault) → IsFault {X = X} (Err told) e
-  memory_any X told is (faults.Bad at) = inl is
-  memory_any X told is (faults.TooDeep at) = inl is
-  memory_any X told is (faults.Unsupported at) = inl is
-  memory_any X told is faults.Memory = tt
-
-  same_any : (X : Type 0) (told e : SyntaxFault) → told ≡ e → IsFault {X = X} (Err told) e
-  same_any X told (faults.Bad at) is = inr is
-  same_any X told (faults.TooDeep at) is = inr is
-  same_any X told (faults.Unsupported at) is = inr is
-  same_any X told faults.Memory is = tt
-
-  three : (X : Type 0) (fault d : SyntaxFault) → IsFault {X = X} (Err fault) d → (d ≡ faults.Memory) ⊎ ((fault ≡ faults.Memory) ⊎ (fault ≡ d))
-  three X fault (faults.Bad at) h = inr h
-  three X fault (faults.TooDeep at) h = inr h
-  three X fault (faults.Unsupported at) h = inr h
-  three X fault faults.Memory h = inl refl
-
-  same_told : (fault told d e : SyntaxFault) (m n : ℕ) → fault ≡ d → IsPastOf f ws fault m → IsPastOf f ws d n → told ≡ moved (slice_index_or starts (place_of fault) (length tokens) + m) fault → e ≡ moved (slice_index_or starts (place_of d) (length tokens) + n) d → told ≡ e
-  same_told fault told d e m n is h g one other =
-      let count : m ≡ n = one_past_of f ws d m n (subst (λ (x : SyntaxFault). IsPastOf f ws x m) is h) g in
-      one ∙ ap (λ (x : SyntaxFault). moved (slice_index_or starts (place_of x) (length tokens) + m) x) is ∙ ap (λ (k : ℕ). moved (slice_index_or starts (place_of d) (length tokens) + k) d) count ∙ sym other
-
-  same_case : (X : Type 0) (fault told e : SyntaxFault) (h : IsRefusedIn f text tokens from e) → IsToldAs f ws starts (length tokens) fault told → fault ≡ h.word_fault → IsFault {X = X} (Err told) e
-  same_case X fault told e h (inl memory) is = memory_any X told memory e
-  same_case X fault told e h (inr g) is =
-      same_any X told e (same_told fault told h.word_fault e g.0 h.past is g.1
-      (subst (λ (u : List Word). IsPastOf f u h.word_fault h.past) (sym words-are) h.is_past)
-      g.2
-      (h.is ∙ ap (λ (u : List ℕ). moved (slice_index_or u (place_of h.word_fault) (length tokens) + h.past) h.word_fault) (sym starts-are)))

@@ -1,5 +1,7 @@
 -- Which words the symbols of expressions are.
 use Rattle.std.proofs.Common.{◌≡◌, ℕ, false, List, [], ◌∷◌, refl}
+use Rattle.conf_lex.specs.declared.attribute.Attribute.{Attribute}
+use Rattle.conf_lex.specs.declared.attribute.Constant.{Constant}
 use Rattle.conf_lex.specs.declared.symbol.Symbol.{Symbol}
 use Rattle.conf_lex.specs.declared.symbol.Symbol.TheVariants as sym
 use Rattle.conf_lex.specs.declared.word.Word.{Word}
@@ -7,9 +9,9 @@ use Rattle.conf_lex.specs.declared.word.Word.TheVariants as words
 use Rattle.bits_ip.specs.declared.address.Addr.{Addr}
 use Rattle.bits_ip.specs.declared.prefix.Prefix.{Prefix}
 use Rattle.conf_lex.specs.Symbols.{is_placed}
-use Rattle.grammar.specs.Kind.{kind_of, symbol, names_attribute, names_constant}
-use Rattle.grammar.specs.Grammar.{begins}
-use Rattle.grammar.proofs.Symbols.{other_plain, other_placed}
+use Rattle.conf_lex.specs.Kind.{kind_of, symbol}
+use Rattle.conf_lex.specs.Grammar.{begins}
+use Rattle.conf_lex.proofs.Symbols.{other_plain, other_placed}
 use Rattle.filt_syntax.specs.Syntax.{is_atom, is_method, is_property, is_mul_op, is_add_op, is_compare_op, is_logical_op}
 
 -- no word is this symbol
@@ -65,41 +67,13 @@ plain_atom : (s : Symbol) → is_atom (kind_of (words.Symbol s)) ≡ false
 plain_atom sym.Router = refl
 plain_atom _ = refl
 
-pub not_atom : (w : Word) → ((at value : ℕ) → w ≡ words.Number at value → ⊥) → ((at start len : ℕ) → w ≡ words.Text at start len → ⊥) → ((at : ℕ) (addr : Addr) → w ≡ words.Ip at addr → ⊥) → ((at : ℕ) (net : Prefix) → w ≡ words.Prefix at net → ⊥) → ((at : ℕ) (s : Symbol) → w ≡ words.Placed at s → ⊥) → is_atom (kind_of w) ≡ false
-not_atom (words.Number at value) a b c d e = absurd (a at value refl)
-not_atom (words.Text at start len) a b c d e = absurd (b at start len refl)
-not_atom (words.Ip at addr) a b c d e = absurd (c at addr refl)
-not_atom (words.Prefix at net) a b c d e = absurd (d at net refl)
-not_atom (words.Placed at s) a b c d e = absurd (e at s refl)
-not_atom (words.Symbol s) a b c d e = plain_atom s
-not_atom _ a b c d e = refl
-
-pub unnamed_attribute : (s : Symbol) → Isnt s sym.Net → Isnt s sym.Preference → Isnt s sym.Gw → Isnt s sym.From → Isnt s sym.BgpNextHop → Isnt s sym.Proto → Isnt s sym.Source → Isnt s sym.Dest → Isnt s sym.BgpPath → Isnt s sym.BgpOrigin → Isnt s sym.BgpMed → Isnt s sym.BgpLocalPref → Isnt s sym.IgpMetric → Isnt s sym.BgpCommunity → names_attribute s ≡ false
-unnamed_attribute sym.Net h0 h1 h2 h3 h4 h5 h6 h7 h8 h9 h10 h11 h12 h13 = absurd (h0 refl)
-unnamed_attribute sym.Preference h0 h1 h2 h3 h4 h5 h6 h7 h8 h9 h10 h11 h12 h13 = absurd (h1 refl)
-unnamed_attribute sym.Gw h0 h1 h2 h3 h4 h5 h6 h7 h8 h9 h10 h11 h12 h13 = absurd (h2 refl)
-unnamed_attribute sym.From h0 h1 h2 h3 h4 h5 h6 h7 h8 h9 h10 h11 h12 h13 = absurd (h3 refl)
-unnamed_attribute sym.BgpNextHop h0 h1 h2 h3 h4 h5 h6 h7 h8 h9 h10 h11 h12 h13 = absurd (h4 refl)
-unnamed_attribute sym.Proto h0 h1 h2 h3 h4 h5 h6 h7 h8 h9 h10 h11 h12 h13 = absurd (h5 refl)
-unnamed_attribute sym.Source h0 h1 h2 h3 h4 h5 h6 h7 h8 h9 h10 h11 h12 h13 = absurd (h6 refl)
-unnamed_attribute sym.Dest h0 h1 h2 h3 h4 h5 h6 h7 h8 h9 h10 h11 h12 h13 = absurd (h7 refl)
-unnamed_attribute sym.BgpPath h0 h1 h2 h3 h4 h5 h6 h7 h8 h9 h10 h11 h12 h13 = absurd (h8 refl)
-unnamed_attribute sym.BgpOrigin h0 h1 h2 h3 h4 h5 h6 h7 h8 h9 h10 h11 h12 h13 = absurd (h9 refl)
-unnamed_attribute sym.BgpMed h0 h1 h2 h3 h4 h5 h6 h7 h8 h9 h10 h11 h12 h13 = absurd (h10 refl)
-unnamed_attribute sym.BgpLocalPref h0 h1 h2 h3 h4 h5 h6 h7 h8 h9 h10 h11 h12 h13 = absurd (h11 refl)
-unnamed_attribute sym.IgpMetric h0 h1 h2 h3 h4 h5 h6 h7 h8 h9 h10 h11 h12 h13 = absurd (h12 refl)
-unnamed_attribute sym.BgpCommunity h0 h1 h2 h3 h4 h5 h6 h7 h8 h9 h10 h11 h12 h13 = absurd (h13 refl)
-unnamed_attribute _ h0 h1 h2 h3 h4 h5 h6 h7 h8 h9 h10 h11 h12 h13 = refl
-
-pub unnamed_constant : (s : Symbol) → Isnt s sym.RtsStatic → Isnt s sym.RtsBgp → Isnt s sym.RtdUnicast → Isnt s sym.RtdRouter → Isnt s sym.RtdBlackhole → Isnt s sym.RtdUnreachable → Isnt s sym.RtdProhibit → Isnt s sym.OriginIgp → Isnt s sym.OriginEgp → Isnt s sym.OriginIncomplete → names_constant s ≡ false
-unnamed_constant sym.RtsStatic h0 h1 h2 h3 h4 h5 h6 h7 h8 h9 = absurd (h0 refl)
-unnamed_constant sym.RtsBgp h0 h1 h2 h3 h4 h5 h6 h7 h8 h9 = absurd (h1 refl)
-unnamed_constant sym.RtdUnicast h0 h1 h2 h3 h4 h5 h6 h7 h8 h9 = absurd (h2 refl)
-unnamed_constant sym.RtdRouter h0 h1 h2 h3 h4 h5 h6 h7 h8 h9 = absurd (h3 refl)
-unnamed_constant sym.RtdBlackhole h0 h1 h2 h3 h4 h5 h6 h7 h8 h9 = absurd (h4 refl)
-unnamed_constant sym.RtdUnreachable h0 h1 h2 h3 h4 h5 h6 h7 h8 h9 = absurd (h5 refl)
-unnamed_constant sym.RtdProhibit h0 h1 h2 h3 h4 h5 h6 h7 h8 h9 = absurd (h6 refl)
-unnamed_constant sym.OriginIgp h0 h1 h2 h3 h4 h5 h6 h7 h8 h9 = absurd (h7 refl)
-unnamed_constant sym.OriginEgp h0 h1 h2 h3 h4 h5 h6 h7 h8 h9 = absurd (h8 refl)
-unnamed_constant sym.OriginIncomplete h0 h1 h2 h3 h4 h5 h6 h7 h8 h9 = absurd (h9 refl)
-unnamed_constant _ h0 h1 h2 h3 h4 h5 h6 h7 h8 h9 = refl
+pub not_atom : (w : Word) → ((at value : ℕ) → w ≡ words.Number at value → ⊥) → ((at start len : ℕ) → w ≡ words.Text at start len → ⊥) → ((at : ℕ) (addr : Addr) → w ≡ words.Ip at addr → ⊥) → ((at : ℕ) (net : Prefix) → w ≡ words.Prefix at net → ⊥) → ((at : ℕ) (attribute : Attribute) → w ≡ words.Attribute at attribute → ⊥) → ((at : ℕ) (constant : Constant) → w ≡ words.Constant at constant → ⊥) → ((at : ℕ) (s : Symbol) → w ≡ words.Placed at s → ⊥) → is_atom (kind_of w) ≡ false
+not_atom (words.Number at value) a b c d e f g = absurd (a at value refl)
+not_atom (words.Text at start len) a b c d e f g = absurd (b at start len refl)
+not_atom (words.Ip at addr) a b c d e f g = absurd (c at addr refl)
+not_atom (words.Prefix at net) a b c d e f g = absurd (d at net refl)
+not_atom (words.Attribute at attribute) a b c d e f g = absurd (e at attribute refl)
+not_atom (words.Constant at constant) a b c d e f g = absurd (f at constant refl)
+not_atom (words.Placed at s) a b c d e f g = absurd (g at s refl)
+not_atom (words.Symbol s) a b c d e f g = plain_atom s
+not_atom _ a b c d e f g = refl

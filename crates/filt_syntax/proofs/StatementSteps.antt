@@ -3,20 +3,21 @@ use Rattle.std.proofs.Common.{◌≡◌, ℕ, zero, suc, ◌<◌, Bool, true, fa
 use Rattle.conf_lex.specs.declared.symbol.Symbol.TheVariants as sym
 use Rattle.conf_lex.specs.declared.word.Word.{Word}
 use Rattle.conf_lex.specs.declared.word.Word.TheVariants as words
-use Rattle.grammar.specs.declared.named.Name.{Name}
-use Rattle.grammar.specs.Kind.{Kind, kind_of, name, symbol, is_attribute}
-use Rattle.grammar.specs.Grammar.{Terminal, Seq, Alt, ParseTree, Leaf, NoWords, Pair, Left, Right, Single, begins, first_set, Bad}
-use Rattle.grammar.specs.Reading.{Read, Parsed, Failed, Reader, and_then, word, both, read}
-use Rattle.grammar.specs.Shapes.{symbol_leaf, name_leaf, links}
-use Rattle.grammar.proofs.Chains.{turn}
-use Rattle.grammar.proofs.Shapes.{then_then, word_bad, bool_cases, Turns, begun, refuses}
+use Rattle.conf_lex.specs.declared.named.Name.{Name}
+use Rattle.conf_lex.specs.Kind.{Kind, kind_of, name, symbol, is_attribute}
+use Rattle.conf_lex.specs.Grammar.{Terminal, Seq, Alt, ParseTree, Leaf, NoWords, Pair, Left, Right, Single, begins, first_set, Bad}
+use Rattle.conf_lex.specs.Reading.{Read, Parsed, Failed, Reader, and_then, word, both, read}
+use Rattle.conf_lex.specs.PartShapes.{links}
+use Rattle.conf_lex.specs.Leaves.{symbol_leaf, name_leaf}
+use Rattle.conf_lex.proofs.Chains.{turn}
+use Rattle.conf_lex.proofs.PartShapes.{then_then, word_bad, bool_cases, Turns, begun, refuses}
 use Rattle.filt_syntax.specs.Syntax.{has_sets, has_no_sets, expr, semicolon, declaration, assigned, changed, print_stmt, stmt, rule}
 use Rattle.filt_syntax.specs.Levels.{Form, arguments_level, attribute_level}
-use Rattle.filt_syntax.specs.declared.ast.Attribute.{Attribute}
+use Rattle.conf_lex.specs.declared.attribute.Attribute.{Attribute}
 use Rattle.filt_syntax.specs.declared.ast.Expr.{Expr}
 use Rattle.filt_syntax.specs.declared.variable_type.Member.{Member}
 use Rattle.filt_syntax.specs.declared.variable_type.Member.TheVariants as members
-use Rattle.filt_syntax.specs.View.{derivations, attribute_word, with_next, listed_after, listed_tree, expr_tree, expr_trees}
+use Rattle.filt_syntax.specs.View.{derivations, with_next, listed_after, listed_tree, expr_tree, expr_trees}
 use Rattle.filt_syntax.specs.Readers.{expr_at, method_at, level_at}
 use Rattle.filt_syntax.specs.StatementView.{nth, beyond, semicolon_leaf, member_symbol, member_type, set_type}
 use Rattle.filt_syntax.specs.StatementReaders.{stmt_at, done_at, of_name_at, vtype_at, change_at, declaration_at, initial_at, result_at, exprs_at}
@@ -124,11 +125,11 @@ unfoldable pub done_to_at : ℕ → Reader
 done_to_at k = read rule k (Alt assigned changed)
 
 abbrev seen_attribute : ℕ → Attribute → ParseTree → ParseTree
-seen_attribute at a t = nth 4 (Pair (Leaf (attribute_word at a)) t)
+seen_attribute at a t = nth 4 (Pair (Leaf (words.Attribute at a)) t)
 
-attribute_is : (k at : ℕ) (a : Attribute) (ws u : List Word) → ws ≡ attribute_word at a ∷ u → stmt_at k ws ≡ and_then (done_to_at k u) (λ d v. Parsed (seen_attribute at a d) v)
+attribute_is : (k at : ℕ) (a : Attribute) (ws u : List Word) → ws ≡ words.Attribute at a ∷ u → stmt_at k ws ≡ and_then (done_to_at k u) (λ d v. Parsed (seen_attribute at a d) v)
 unfolding done_to_at
-attribute_is k at a ws u is = headed 4 k is_attribute (Alt assigned changed) _ refl refl ws (attribute_word at a) u is (attribute_passes at a)
+attribute_is k at a ws u is = headed 4 k is_attribute (Alt assigned changed) _ refl refl ws (words.Attribute at a) u is (attribute_passes at a)
 
 done_assigned : (k : ℕ) (ws u : List Word) → ws ≡ words.Symbol sym.Equal ∷ u → done_to_at k ws ≡ and_then (both (expr_at k) (word (symbol sym.Semicolon)) u) (λ e v. Parsed (Left (Pair (symbol_leaf sym.Equal) e)) v)
 unfolding done_to_at expr_at
@@ -142,12 +143,12 @@ done_changed (suc k) [] none = refl
 done_changed zero (w ∷ ws) none = rw none refl
 done_changed (suc k) (w ∷ ws) none = rw none refl
 
-pub attribute_assigned : (k at : ℕ) (a : Attribute) (ws u v : List Word) → ws ≡ attribute_word at a ∷ u → u ≡ words.Symbol sym.Equal ∷ v → stmt_at k ws ≡ and_then (both (expr_at k) (word (symbol sym.Semicolon)) v) (λ e x. Parsed (seen_attribute at a (Left (Pair (symbol_leaf sym.Equal) e))) x)
+pub attribute_assigned : (k at : ℕ) (a : Attribute) (ws u v : List Word) → ws ≡ words.Attribute at a ∷ u → u ≡ words.Symbol sym.Equal ∷ v → stmt_at k ws ≡ and_then (both (expr_at k) (word (symbol sym.Semicolon)) v) (λ e x. Parsed (seen_attribute at a (Left (Pair (symbol_leaf sym.Equal) e))) x)
 attribute_assigned k at a ws u v is equal =
     attribute_is k at a ws u is ∙ ap (λ (x : Read). and_then x (λ d y. Parsed (seen_attribute at a d) y)) (done_assigned k u v equal)
     ∙ maps2 (both (expr_at k) (word (symbol sym.Semicolon)) v) (λ e. Left (Pair (symbol_leaf sym.Equal) e)) (λ d. seen_attribute at a d)
 
-pub attribute_changed : (k at : ℕ) (a : Attribute) (ws u : List Word) → ws ≡ attribute_word at a ∷ u → begins (symbol sym.Equal) u ≡ false → stmt_at k ws ≡ and_then (both (word (symbol sym.Dot)) (change_at k) u) (λ t v. Parsed (seen_attribute at a (Right t)) v)
+pub attribute_changed : (k at : ℕ) (a : Attribute) (ws u : List Word) → ws ≡ words.Attribute at a ∷ u → begins (symbol sym.Equal) u ≡ false → stmt_at k ws ≡ and_then (both (word (symbol sym.Dot)) (change_at k) u) (λ t v. Parsed (seen_attribute at a (Right t)) v)
 attribute_changed k at a ws u is none =
     attribute_is k at a ws u is ∙ ap (λ (x : Read). and_then x (λ d y. Parsed (seen_attribute at a d) y)) (done_changed k u none)
     ∙ maps2 (both (word (symbol sym.Dot)) (change_at k) u) (λ t. Right t) (λ d. seen_attribute at a d)

@@ -3,9 +3,9 @@ use Rattle.std.proofs.Common.{◌≡◌, ℕ, List, [], ◌∷◌, ◌++◌, map
 use Rattle.std.specs.Global.{Global}
 use Rattle.conf_lex.specs.declared.symbol.Symbol.TheVariants as sym
 use Rattle.conf_lex.specs.declared.word.Word.TheVariants as words
-use Rattle.grammar.specs.declared.named.Name.{Name}
-use Rattle.grammar.specs.Grammar.{ParseTree, NoWords, Pair, Right, Single, Snoc, Deeper}
-use Rattle.filt_syntax.specs.declared.ast.Attribute.{Attribute}
+use Rattle.conf_lex.specs.declared.named.Name.{Name}
+use Rattle.conf_lex.specs.Grammar.{ParseTree, NoWords, Pair, Right, Single, Snoc, Deeper}
+use Rattle.conf_lex.specs.declared.attribute.Attribute.{Attribute}
 use Rattle.filt_syntax.specs.declared.ast.VariableType.{VariableType}
 use Rattle.filt_syntax.specs.declared.ast.Target.{Target}
 use Rattle.filt_syntax.specs.declared.ast.Change.{Change}
@@ -16,7 +16,8 @@ use Rattle.filt_syntax.specs.declared.ast.Stmt.{Stmt, the_lemmas, fold-Stmt}
 use Rattle.filt_syntax.specs.declared.ast.Stmt.TheVariants as stmts
 use Rattle.filt_syntax.specs.declared.ast.Stmt.TheFolds.{map-Stmt}
 use Rattle.filt_syntax.specs.declared.ast.Stmt.TheOpen.{Stmt-F}
-use Rattle.filt_syntax.specs.StatementView.{ArmParts, seen_arm, arm_of, stmt_step, stmt_tree, stmts_tree, block_tree, empty_tree, declare_tree, assign_tree, change_stmt_tree, call_tree, unset_tree, if_tree, chosen_tree, branches_tree, second_tree, else_tree, case_tree, for_tree, verdict_tree, return_tree, print_tree, row_after, arms_row, arms_of, otherwise_tree, otherwise_of}
+use Rattle.filt_syntax.specs.StatementView.{ArmParts, seen_arm, arm_of, stmt_step, stmt_tree, stmts_tree, block_tree, empty_tree, declare_tree, assign_tree, change_stmt_tree, call_tree, unset_tree, if_tree, chosen_tree, else_tree, case_tree, for_tree, verdict_tree, return_tree, print_tree, row_after, arms_row, arms_of, otherwise_tree, otherwise_of}
+use Rattle.filt_syntax.specs.Inside.{branches_tree, second_tree}
 
 pub tree-Block : (v : Vec Stmt Global) → stmt_tree (stmts.Block v) ≡ block_tree (stmts_tree v.items)
 tree-Block v = search (rules, the_lemmas)
@@ -36,10 +37,10 @@ tree-Change target c = search (rules, the_lemmas)
 pub tree-Unset : (place at : ℕ) (a : Attribute) → stmt_tree (stmts.Unset place at a) ≡ unset_tree place at a
 tree-Unset place at a = search (rules, the_lemmas)
 
-tree-If : (e : Expr) (s : Box Stmt Global) (x : Stmt) → s.value ≡ x → stmt_tree (stmts.If e s) ≡ if_tree e (stmt_tree x) (Right NoWords)
+pub tree-If : (e : Expr) (s : Box Stmt Global) (x : Stmt) → s.value ≡ x → stmt_tree (stmts.If e s) ≡ if_tree e (stmt_tree x) (Right NoWords)
 tree-If e s x p = rw (← p) (search (rules, the_lemmas))
 
-tree-IfElse : (e : Expr) (s t : Box Stmt Global) (x y : Stmt) → s.value ≡ x → t.value ≡ y → stmt_tree (stmts.IfElse e s t) ≡ if_tree e (stmt_tree x) (else_tree (stmt_tree y))
+pub tree-IfElse : (e : Expr) (s t : Box Stmt Global) (x y : Stmt) → s.value ≡ x → t.value ≡ y → stmt_tree (stmts.IfElse e s t) ≡ if_tree e (stmt_tree x) (else_tree (stmt_tree y))
 tree-IfElse e s t x y p q = rw (← p, ← q) (search (rules, the_lemmas))
 
 pub tree-one_branch : (e : Expr) (b : Branches) → b.second ≡ None → stmt_tree (stmts.If e b.first) ≡ chosen_tree e (branches_tree b)

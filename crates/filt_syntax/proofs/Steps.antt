@@ -4,21 +4,19 @@ use Rattle.conf_lex.specs.declared.symbol.Symbol.{Symbol}
 use Rattle.conf_lex.specs.declared.symbol.Symbol.TheVariants as symbols
 use Rattle.conf_lex.specs.declared.word.Word.{Word}
 use Rattle.conf_lex.specs.declared.word.Word.TheVariants as words
-use Rattle.grammar.specs.declared.named.Name.{Name}
-use Rattle.grammar.specs.declared.refusal.Refusal.{Refusal}
-use Rattle.grammar.specs.Kind.{kind_of, symbol, name, is_attribute}
-use Rattle.grammar.specs.Grammar.{ParseTree, Leaf, NoWords, Pair, Left, Right, Single, Deeper, begins, first_set, Bad, TooDeep}
-use Rattle.grammar.specs.Reading.{Read, Parsed, Failed, Reader, and_then, word, both, read}
-use Rattle.grammar.specs.Shapes.{links, with_optional, closed, name_leaf, symbol_leaf}
-use Rattle.grammar.specs.Agrees.{AgreesOnError}
-use Rattle.grammar.proofs.Shapes as shapes
-use Rattle.grammar.proofs.Shapes.{fails_then, fails_along, then_then, Turns, begins_none, closed_is, closed_got, closed_inside_fails, closed_end_fails, word_bad, less_one, bool_cases}
+use Rattle.conf_lex.specs.declared.named.Name.{Name}
+use Rattle.conf_lex.specs.declared.refusal.Refusal.{Refusal}
+use Rattle.conf_lex.specs.Kind.{kind_of, symbol, name, is_attribute}
+use Rattle.conf_lex.specs.Grammar.{ParseTree, Leaf, NoWords, Pair, Left, Right, Single, Deeper, begins, first_set, Bad, TooDeep}
+use Rattle.conf_lex.specs.Reading.{Read, Parsed, Failed, Reader, and_then, word, both, read}
+use Rattle.conf_lex.specs.PartShapes.{links, with_optional, closed}
+use Rattle.conf_lex.specs.Leaves.{name_leaf, symbol_leaf}
+use Rattle.conf_lex.specs.Agrees.{AgreesOnError}
+use Rattle.conf_lex.proofs.PartShapes as shapes
+use Rattle.conf_lex.proofs.PartShapes.{fails_then, fails_along, then_then, Turns, begins_none, closed_is, closed_got, closed_inside_fails, closed_end_fails, word_bad, less_one, bool_cases}
 use Rattle.filt_syntax.specs.declared.ast.Atom.{Atom}
 use Rattle.filt_syntax.specs.declared.ast.Atom.TheVariants as atoms
-use Rattle.filt_syntax.specs.declared.ast.Attribute.{Attribute}
-use Rattle.filt_syntax.specs.declared.ast.Attribute.TheVariants as attributes
-use Rattle.filt_syntax.specs.declared.ast.Constant.{Constant}
-use Rattle.filt_syntax.specs.declared.ast.Constant.TheVariants as constants
+use Rattle.conf_lex.specs.declared.attribute.Attribute.{Attribute}
 use Rattle.filt_syntax.specs.declared.ast.Method.{Method}
 use Rattle.filt_syntax.specs.declared.ast.MethodKind.{MethodKind}
 use Rattle.filt_syntax.specs.declared.ast.MethodKind.TheVariants as methods
@@ -34,7 +32,7 @@ use Rattle.filt_syntax.specs.declared.ast.LogicalOp.{LogicalOp}
 use Rattle.filt_syntax.specs.declared.ast.LogicalOp.TheVariants as logical_ops
 use Rattle.filt_syntax.specs.Syntax.{parentheses, is_atom, is_method, is_property, is_mul_op, is_add_op, is_compare_op, is_logical_op, optional, listed, expr, comparison, sum, product, unary, postfix, primary, call, set, mask, rule}
 use Rattle.filt_syntax.specs.Levels.{Level, group_level, arguments_level, set_level, argument_level, two_level, attribute_level}
-use Rattle.filt_syntax.specs.View.{constant_symbol, property_symbol, method_symbol, mul_op_symbol, add_op_symbol, compare_op_symbol, logical_op_symbol, attribute_word, method_word, atom_word, atom_tree, named_tree, group_tree, set_tree, mask_tree, defined_tree, method_call_tree, property_tree, method_tree, second_part, in_parentheses}
+use Rattle.filt_syntax.specs.View.{property_symbol, method_symbol, mul_op_symbol, add_op_symbol, compare_op_symbol, logical_op_symbol, method_word, atom_word, atom_tree, named_tree, group_tree, set_tree, mask_tree, defined_tree, method_call_tree, property_tree, method_tree, second_part, in_parentheses}
 use Rattle.filt_syntax.specs.Readers.{expr_at, comparison_at, sum_at, product_at, unary_at, postfix_at, primary_at, method_at, behind_dot, behind_dot_at, level_at, opened_at, inside_at, call_at, named_at}
 use Rattle.filt_syntax.specs.ItemReaders.{items_at, mask_items_at}
 use Rattle.filt_syntax.proofs.Tested.{is_checked, model, after, checked}
@@ -151,21 +149,10 @@ pub mul_op_passes : (op : MulOp) → is_mul_op (kind_of (words.Symbol (mul_op_sy
 mul_op_passes mul_ops.Times = refl
 mul_op_passes mul_ops.Over = refl
 
-pub attribute_passes : (at : ℕ) (a : Attribute) → is_attribute (kind_of (attribute_word at a)) ≡ true
-attribute_passes at attributes.Net = refl
-attribute_passes at _ = refl
-
-atom_attribute : (at : ℕ) (a : Attribute) → is_atom (kind_of (attribute_word at a)) ≡ true
-atom_attribute at attributes.Net = refl
-atom_attribute at _ = refl
-
-atom_constant : (at : ℕ) (c : Constant) → is_atom (kind_of (words.Placed at (constant_symbol c))) ≡ true
-atom_constant at constants.RtsStatic = refl
-atom_constant at _ = refl
+pub attribute_passes : (at : ℕ) (a : Attribute) → is_attribute (kind_of (words.Attribute at a)) ≡ true
+attribute_passes at a = refl
 
 pub atom_passes : (s : Atom) → is_atom (kind_of (atom_word s)) ≡ true
-atom_passes (atoms.Attribute at a) = atom_attribute at a
-atom_passes (atoms.Constant at c) = atom_constant at c
 atom_passes (atoms.Number at value) = refl
 atom_passes _ = refl
 

@@ -1,16 +1,16 @@
 -- The grammar passes the test.
 use Rattle.std.proofs.Common.{◌≡◌, ℕ, Bool, true, false, ◌||◌, refl}
+use Rattle.conf_lex.specs.declared.attribute.Attribute.TheVariants as attributes
 use Rattle.conf_lex.specs.declared.symbol.Symbol.{Symbol}
 use Rattle.conf_lex.specs.declared.symbol.Symbol.TheVariants as symbols
 use Rattle.conf_lex.specs.declared.word.Word.TheVariants as words
-use Rattle.grammar.specs.Kind.{Kind, symbol}
-use Rattle.grammar.specs.Grammar.{Repeat, ParseTree, Leaf, NoWords, Pair, Left, Right, Single, DerivesLongest, Derives}
-use Rattle.grammar.proofs.Checks.{check, more, Checked, not, all_of, kinds, is_kind, all_in, good, next_of, solid_of}
-use Rattle.grammar.proofs.Good.{Good, Solid}
-use Rattle.grammar.proofs.Chains.{Next}
-use Rattle.grammar.proofs.Spelled.{strict, spelled_fits}
-use Rattle.grammar.specs.Reading.{read}
-use Rattle.filt_syntax.specs.Syntax.{expr, rule}
+use Rattle.conf_lex.specs.Kind.{Kind, symbol}
+use Rattle.conf_lex.specs.Grammar.{Repeat, ParseTree, Leaf, NoWords, Pair, Left, Right, Single, DerivesLongest}
+use Rattle.conf_lex.proofs.Checks.{check, more, Checked, not, all_of, kinds, is_kind, all_in, good, next_of, solid_of}
+use Rattle.conf_lex.proofs.Good.{Good, Solid}
+use Rattle.conf_lex.proofs.Chains.{Next}
+use Rattle.conf_lex.specs.Reading.{read}
+use Rattle.filt_syntax.specs.Syntax.{rule}
 use Rattle.filt_syntax.specs.Levels.{Level, Form, group_level, operand_level, arguments_level, set_level, block_level, body_level, argument_level, two_level, attribute_level, pair_level, lengths_level, arms_level}
 
 -- what may go on with the trees of each level: nothing but what a closing sign ends, a method or arguments behind an
@@ -47,7 +47,7 @@ model block_level = Single NoWords
 model body_level = Right (Right (Left (sign_leaf symbols.Semicolon)))
 model argument_level = expr_model
 model two_level = Pair expr_model (Pair (sign_leaf symbols.Comma) expr_model)
-model attribute_level = Leaf (words.Placed 0 symbols.Net)
+model attribute_level = Leaf (words.Attribute 0 attributes.Net)
 model pair_level = Pair (Left (sign_leaf symbols.Star)) (Pair (sign_leaf symbols.Comma) (Left (sign_leaf symbols.Star)))
 model lengths_level = Pair number_leaf (Pair (sign_leaf symbols.Comma) number_leaf)
 model arms_level = Pair (Right NoWords) (Right NoWords)
@@ -104,19 +104,3 @@ next_at = next_of rule model after checked
 
 pub solid_at : (f : Form) → check model after f ≡ true → Solid f
 solid_at = solid_of rule model after
-
--- the levels within expressions
-abbrev asked : Level → Bool
-asked block_level = false
-asked body_level = false
-asked arms_level = false
-asked _ = true
-
-strict_rules : (n : Level) → asked n ≡ true → strict asked after (rule n) ≡ true
-strict_rules block_level h = absurd cc
-strict_rules body_level h = absurd cc
-strict_rules arms_level h = absurd cc
-strict_rules _ h = refl
-
-pub expressions_fit : (t : ParseTree) → Derives rule t expr → DerivesLongest rule t expr
-expressions_fit t h = spelled_fits rule model after checked asked strict_rules t expr refl refl h

@@ -1,9 +1,11 @@
--- What a function that takes one word finds at the front of some words.
+-- What a function that takes one word finds at the front of some words: a definition of our own,
+-- for the functions of `parts` and of the grammars above, and for private ones. Not modelled: what
+-- the value means.
 use Rattle.std.specs.Prelude.{◌≡◌, Bool, false, List, ◌∷◌, Option, MatchOption}
 use Rattle.std.specs.Borrow.{Bor}
 use Rattle.conf_lex.specs.declared.word.Word.{Word}
-use Rattle.grammar.specs.Kind.{Kind}
-use Rattle.grammar.specs.Grammar.{begins}
+use Rattle.conf_lex.specs.Kind.{Kind}
+use Rattle.conf_lex.specs.Grammar.{begins}
 
 -- a value whose word comes next, and the words after it, or else no word of these kinds
 abbrev pub Finds : {X : Type 0} → (Kind → Bool) → (X → Word) → Option (X × Bor (List Word))

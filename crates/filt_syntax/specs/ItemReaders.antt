@@ -1,13 +1,16 @@
--- Reading each form of an item, where k more levels may be opened.
+-- Reading each form of an item, where k more levels may be opened: the forms are those of `Syntax`
+-- (BIRD User's Guide, "Filters": "Data types", "Control structures"), reading is `read` of
+-- conf_lex. Not modelled: memory. For private contracts alone: all but `items_at` and
+-- `mask_items_at`, which `parts` and the grammars above name.
 use Rattle.std.specs.Prelude.{ℕ}
-use Rattle.grammar.specs.Grammar.{ParseTree, first_set}
-use Rattle.grammar.specs.Reading.{Reader, all_turns, read}
-use Rattle.filt_syntax.specs.Syntax.{optional, many, part, pair_part, lengths, item, mask_atom}
+use Rattle.conf_lex.specs.Grammar.{ParseTree, first_set}
+use Rattle.conf_lex.specs.Reading.{Reader, all_turns, read}
+use Rattle.filt_syntax.specs.Syntax.{optional, many, num_range, pair_part, lengths, item, mask_atom}
 use Rattle.filt_syntax.specs.Syntax.{mask_item, label_end, label, rule}
 use Rattle.filt_syntax.specs.Levels.{set_level, pair_level, lengths_level}
 
-unfoldable pub part_at : ℕ → Reader
-part_at k = read rule k part
+unfoldable pub num_range_at : ℕ → Reader
+num_range_at k = read rule k num_range
 
 unfoldable pub pair_part_at : ℕ → Reader
 pair_part_at k = read rule k pair_part

@@ -1,10 +1,12 @@
--- The trees of the grammar that the items of sets, of labels and of masks stand for.
+-- The trees of the grammar that the items of sets, of labels and of masks stand for (BIRD User's
+-- Guide, "Filters": "Data types", and "Control structures" for labels). Not modelled: which values
+-- an item takes in.
 use Rattle.std.specs.Prelude.{Bool, true, false, List, [], ◌∷◌, Option, Some, None}
 use Rattle.conf_lex.specs.declared.symbol.Symbol.TheVariants as sym
 use Rattle.conf_lex.specs.declared.word.Word.{Word}
 use Rattle.conf_lex.specs.declared.word.Word.TheVariants as words
-use Rattle.grammar.specs.Grammar.{ParseTree, Leaf, NoWords, Pair, Left, Right, Single, Snoc}
-use Rattle.grammar.specs.Shapes.{symbol_leaf, between}
+use Rattle.conf_lex.specs.Grammar.{ParseTree, Leaf, NoWords, Pair, Left, Right, Single, Snoc}
+use Rattle.conf_lex.specs.Leaves.{symbol_leaf, between}
 use Rattle.filt_syntax.specs.declared.ast.Num.{Num}
 use Rattle.filt_syntax.specs.declared.ast.Num.TheVariants as nums
 use Rattle.filt_syntax.specs.declared.ast.NumRange.{NumRange}
@@ -30,12 +32,12 @@ abbrev pub high_tree : Option Num → ParseTree
 high_tree None = Right NoWords
 high_tree (Some n) = Left (Pair (symbol_leaf sym.Range) (num_tree n))
 
-abbrev pub part_tree : NumRange → ParseTree
-part_tree p = Pair (num_tree p.low) (high_tree p.high)
+abbrev pub num_range_tree : NumRange → ParseTree
+num_range_tree p = Pair (num_tree p.low) (high_tree p.high)
 
 abbrev pub pair_part_tree : PairPart → ParseTree
 pair_part_tree pair_parts.Any = Left (symbol_leaf sym.Star)
-pair_part_tree (pair_parts.Range p) = Right (part_tree p)
+pair_part_tree (pair_parts.Range p) = Right (num_range_tree p)
 
 -- two trees, and a comma between them
 abbrev pub with_comma : ParseTree → ParseTree → ParseTree
@@ -53,7 +55,7 @@ lengths_part None = Right NoWords
 lengths_part (Some l) = Left (lengths_tree l)
 
 abbrev pub item_tree : Item → ParseTree
-item_tree (items.Range p) = Left (part_tree p)
+item_tree (items.Range p) = Left (num_range_tree p)
 item_tree (items.Pair at a b) = Right (Left (between (words.Placed at sym.OpenParenthesis)
     (with_comma (pair_part_tree a) (pair_part_tree b)) sym.CloseParenthesis))
 item_tree (items.Prefix at net l) =
@@ -72,7 +74,7 @@ items_tree (i ∷ is) = items_after (Single (item_tree i)) is
 abbrev pub mask_atom_tree : MaskAtom → ParseTree
 mask_atom_tree mask_atoms.One = Left (symbol_leaf sym.Question)
 mask_atom_tree mask_atoms.Any = Left (symbol_leaf sym.Star)
-mask_atom_tree (mask_atoms.Range p) = Right (part_tree p)
+mask_atom_tree (mask_atoms.Range p) = Right (num_range_tree p)
 
 -- a "+", or nothing
 abbrev pub many_tree : Bool → ParseTree

@@ -1,5 +1,8 @@
--- The levels of nesting of the grammar of filters, and forms in a grammar with these levels.
-use Rattle.grammar.specs.Grammar as grammars
+-- The levels of nesting of the grammar of filters, and forms in a grammar with these levels: the
+-- brackets and bodies of BIRD User's Guide, "Filters": "Introduction", "Data types", "Operators",
+-- "Control structures". Not modelled here: what stands inside each (`Syntax`), and how many may be
+-- open (`Parse`).
+use Rattle.conf_lex.specs.Grammar as grammars
 
 -- by what stands inside
 pub data Level : Type 0 where

@@ -10,3 +10,4 @@ pub mod RefusedToken
 pub mod Tokens
 pub mod StatementView
 pub mod StatementReaders
+pub mod Inside

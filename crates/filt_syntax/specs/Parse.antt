@@ -1,10 +1,10 @@
--- What stands at a place of the words, within 64 levels, or which word can't stand there.
-use Rattle.std.specs.Prelude.{◌≡◌, ℕ, ◌-◌, ◌≤◌, ◌⊎◌, List, [], length, drop, Result, Ok, Err}
+-- What stands at a place of the words, within 64 levels, or which word can't stand there. The forms
+-- are those of `Syntax` (BIRD User's Guide, "Filters"); the bound and the place of a refusal are
+-- our own. Not modelled: tokens (`Tokens`), and when memory runs out.
+use Rattle.std.specs.Prelude.{◌≡◌, ℕ, ◌≤◌, ◌⊎◌, List, length, drop, Result, Ok, Err}
 use Rattle.conf_lex.specs.declared.word.Word.{Word}
-use Rattle.grammar.specs.Grammar.{ParseTree}
-use Rattle.grammar.specs.declared.refusal.Refusal.{Refusal}
-use Rattle.grammar.specs.declared.refusal.Refusal.TheVariants as refusals
-use Rattle.grammar.specs.Sentences.{IsRead, IsBad, IsTooDeep}
+use Rattle.conf_lex.specs.Grammar.{ParseTree}
+use Rattle.conf_lex.specs.Sentences.{IsRead, IsBad, IsTooDeep}
 use Rattle.filt_syntax.specs.declared.parse.SyntaxFault.{SyntaxFault}
 use Rattle.filt_syntax.specs.declared.parse.SyntaxFault.TheVariants as faults
 use Rattle.filt_syntax.specs.Syntax.{rule}
@@ -34,15 +34,3 @@ abbrev pub IsFault : {X : Type 0} → Result (X × ℕ) SyntaxFault → SyntaxFa
 IsFault r faults.Memory = Unit {0}
 IsFault (Ok found) e = ⊥
 IsFault (Err d) e = (d ≡ faults.Memory) ⊎ (d ≡ e)
-
--- the words from the refused one on
-abbrev pub refused_words : Refusal → List Word
-refused_words refusals.Memory = []
-refused_words (refusals.Bad rest) = rest.now
-refused_words (refusals.TooDeep rest) = rest.now
-
--- the same refusal among so many words, by the place of the refused one
-abbrev pub fault_of : ℕ → Refusal → SyntaxFault
-fault_of n refusals.Memory = faults.Memory
-fault_of n (refusals.Bad rest) = faults.Bad (n - length rest.now)
-fault_of n (refusals.TooDeep rest) = faults.TooDeep (n - length rest.now)

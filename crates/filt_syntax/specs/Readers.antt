@@ -1,11 +1,14 @@
--- Reading each form of an expression, where k more levels may be opened.
+-- Reading each form of an expression, where k more levels may be opened: the forms are those of
+-- `Syntax` (BIRD User's Guide, "Filters": "Data types", "Operators", "Route attributes"), reading
+-- is `read` of conf_lex. Not modelled: memory. For private contracts alone: all but `expr_at`,
+-- which `parts` and the grammars above name.
 use Rattle.std.specs.Prelude.{ℕ}
 use Rattle.conf_lex.specs.declared.symbol.Symbol.TheVariants as sym
-use Rattle.grammar.specs.declared.named.Name.{Name}
-use Rattle.grammar.specs.Kind.{symbol}
-use Rattle.grammar.specs.Grammar.{Terminal, Alt, Nested, Left, Right, Pair}
-use Rattle.grammar.specs.Shapes.{name_leaf}
-use Rattle.grammar.specs.Reading.{Reader, Parsed, and_then, read}
+use Rattle.conf_lex.specs.declared.named.Name.{Name}
+use Rattle.conf_lex.specs.Kind.{symbol}
+use Rattle.conf_lex.specs.Grammar.{Terminal, Alt, Nested, Left, Right, Pair}
+use Rattle.conf_lex.specs.Leaves.{name_leaf}
+use Rattle.conf_lex.specs.Reading.{Reader, Parsed, and_then, read}
 use Rattle.filt_syntax.specs.Syntax.{parentheses, optional, expr, comparison, sum, product, unary}
 use Rattle.filt_syntax.specs.Syntax.{postfix, primary}
 use Rattle.filt_syntax.specs.Syntax.{method, is_property, call, rule}

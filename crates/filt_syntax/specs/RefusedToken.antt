@@ -1,16 +1,17 @@
 -- At which of its tokens a refused word is refused: the first that no sentence can have there. A
--- grammar looks at words, and a prefix is one word of three tokens.
-use Rattle.std.specs.Prelude.{◌≡◌, ◌⊎◌, ℕ, ◌+◌, Bool, true, false, if◌then◌else◌, List, [], ◌∷◌}
-use Rattle.std.specs.Prelude.{◌++◌, ◌==◌, take, drop, Some}
+-- grammar looks at words, and a prefix is one word of three tokens. The rule is our own: BIRD
+-- User's Guide, "Filters", says nothing of it. Not modelled: bytes and lines.
+use Rattle.std.specs.Prelude.{◌≡◌, ◌⊎◌, ℕ, ◌+◌, Bool, if◌then◌else◌, List, [], ◌∷◌}
+use Rattle.std.specs.Prelude.{◌++◌, take, drop, Some}
 use Rattle.bits_ip.specs.declared.address.Addr.{Addr}
 use Rattle.bits_ip.specs.declared.address.Addr.TheVariants.{V4}
 use Rattle.conf_lex.specs.Symbols.{is_slash}
 use Rattle.conf_lex.specs.declared.symbol.Symbol.TheVariants as sym
 use Rattle.conf_lex.specs.declared.word.Word.{Word}
 use Rattle.conf_lex.specs.declared.word.Word.TheVariants as words
-use Rattle.grammar.specs.Kind.{symbol}
-use Rattle.grammar.specs.Grammar.{begins}
-use Rattle.grammar.specs.Sentences.{IsBegun}
+use Rattle.conf_lex.specs.Kind.{symbol}
+use Rattle.conf_lex.specs.Grammar.{begins}
+use Rattle.conf_lex.specs.Sentences.{IsBegun}
 use Rattle.filt_syntax.specs.Syntax.{rule}
 use Rattle.filt_syntax.specs.Levels.{Form}
 use Rattle.filt_syntax.specs.declared.parse.SyntaxFault.{SyntaxFault}
@@ -36,10 +37,6 @@ torn_of (words.BadPrefix at) = torns.Prefix
 torn_of (words.Ip at addr) = torns.Address
 torn_of (words.Symbol s) = if is_slash (Some s) then torns.Slash else torns.Other
 torn_of _ = torns.Other
-
-abbrev pub is_address_word : Word → Bool
-is_address_word (words.Ip at addr) = true
-is_address_word _ = false
 
 -- the words end in an address, in whose place a prefix can stand
 pub record EndInAddress (f : Form) (before : List Word) : Type 0 where
@@ -81,10 +78,3 @@ IsBadFrom f words place start (faults.Bad at) =
     (n : ℕ) × IsPastAt f words place n × (at ≡ start + n)
 IsBadFrom f words place start faults.Memory = Unit {0}
 IsBadFrom f words place start _ = ⊥
-
--- whether the parser refuses no word before the end, or one for its levels alone
-abbrev pub IsEndBy : SyntaxFault → ℕ → Bool → Type 0
-IsEndBy (faults.Bad at) end can = can ≡ (at == end)
-IsEndBy (faults.TooDeep at) end can = can ≡ true
-IsEndBy (faults.Unsupported at) end can = can ≡ true
-IsEndBy faults.Memory end can = ⊥

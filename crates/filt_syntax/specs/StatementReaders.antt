@@ -1,4 +1,8 @@
--- Reading each form of a statement, where k more levels may be opened.
+-- Reading each form of a statement, where k more levels may be opened: the forms are those of
+-- `Syntax` (BIRD User's Guide, "Filters": "Data types", "Control structures", "Route attributes",
+-- "Other statements"), reading is `read` of conf_lex. Not modelled: memory, but for the lists that
+-- an arm is read into. For private contracts alone: all but `block_at` and `vtype_at`, which
+-- `parts` and the grammars above name.
 use Rattle.std.specs.Prelude.{◌≡◌, ℕ, Bool, true, ◌||◌, ◌<◌, ◌≤◌, List, ◌∷◌, length, map, Option}
 use Rattle.std.specs.Prelude.{Result, Ok, Err, Vec}
 use Rattle.std.specs.Global.{Global}
@@ -6,19 +10,20 @@ use Rattle.std.specs.Borrow.{Bor}
 use Rattle.conf_lex.specs.declared.symbol.Symbol.TheVariants as sym
 use Rattle.conf_lex.specs.declared.word.Word.{Word}
 use Rattle.conf_lex.specs.declared.word.Word.TheVariants as words
-use Rattle.grammar.specs.declared.named.Name.{Name}
-use Rattle.grammar.specs.Kind.{Kind, kind_of, number, prefix, symbol}
-use Rattle.grammar.specs.Grammar.{Terminal, Seq, Alt, Nested, ParseTree, Pair, Left, Right, Deeper}
-use Rattle.grammar.specs.Grammar.{first_set}
-use Rattle.grammar.specs.Grammar.{begins}
-use Rattle.grammar.specs.Shapes.{name_leaf}
-use Rattle.grammar.specs.Agrees.{AgreesOnError, Agrees}
-use Rattle.grammar.specs.declared.refusal.Refusal.{Refusal}
+use Rattle.conf_lex.specs.declared.named.Name.{Name}
+use Rattle.conf_lex.specs.Kind.{Kind, kind_of, number, prefix, symbol}
+use Rattle.conf_lex.specs.Grammar.{Terminal, Seq, Alt, Nested, ParseTree, Pair, Left, Right, Deeper}
+use Rattle.conf_lex.specs.Grammar.{first_set}
+use Rattle.conf_lex.specs.Grammar.{begins}
+use Rattle.conf_lex.specs.Leaves.{name_leaf}
+use Rattle.conf_lex.specs.Agrees.{AgreesOnError, Agrees}
+use Rattle.conf_lex.specs.declared.refusal.Refusal.{Refusal}
 use Rattle.filt_syntax.specs.declared.ast.Arm.{Arm}
 use Rattle.filt_syntax.specs.declared.ast.Stmt.{Stmt}
 use Rattle.filt_syntax.specs.ItemView.{label_tree}
-use Rattle.filt_syntax.specs.StatementView.{nth, case_arms, stmt_tree, body_after, otherwise_of}
-use Rattle.grammar.specs.Reading.{Reader, Parsed, and_then, word, both, all_turns, read}
+use Rattle.filt_syntax.specs.StatementView.{nth, stmt_tree, body_after, otherwise_of}
+use Rattle.filt_syntax.specs.Inside.{case_arms}
+use Rattle.conf_lex.specs.Reading.{Reader, Parsed, and_then, word, both, all_turns, read}
 use Rattle.filt_syntax.specs.Syntax.{braces, optional, listed, many, expr, block, vtype, method}
 use Rattle.filt_syntax.specs.Syntax.{semicolon, declaration, stmt, unnamed_stmt, done_to_name}
 use Rattle.filt_syntax.specs.Syntax.{arm_part, arms, rule}
@@ -42,7 +47,6 @@ of_name_at k n ws = and_then (done_at k ws) (λ d rest. Parsed (Left (Pair (name
 unfoldable pub vtype_at : ℕ → Reader
 vtype_at k = read rule k vtype
 
--- "set", or nothing
 -- what stands behind the dot of a statement
 unfoldable pub change_at : ℕ → Reader
 change_at k = read rule k (Seq (Alt (Terminal (symbol sym.Empty)) method) semicolon)

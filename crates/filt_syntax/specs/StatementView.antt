@@ -1,14 +1,17 @@
--- The tree of the grammar that a statement stands for.
-use Rattle.std.specs.Prelude.{ℕ, List, [], ◌∷◌, Option, Some, None, map, Vec, Box}
+-- The tree of the grammar that a statement stands for (BIRD User's Guide, "Filters":
+-- "Introduction", "Data types", "Control structures", "Route attributes", "Other statements"). Not
+-- modelled: what a statement does, and where it lies in memory.
+use Rattle.std.specs.Prelude.{ℕ, List, [], ◌∷◌, Option, Some, None, map, Vec}
 use Rattle.std.specs.Global.{Global}
 use Rattle.std.proofs.Common.{zero, suc}
 use Rattle.conf_lex.specs.declared.symbol.Symbol.{Symbol}
 use Rattle.conf_lex.specs.declared.symbol.Symbol.TheVariants as sym
 use Rattle.conf_lex.specs.declared.word.Word.TheVariants as words
-use Rattle.grammar.specs.declared.named.Name.{Name}
-use Rattle.grammar.specs.Grammar.{ParseTree, Leaf, NoWords, Pair, Left, Right, Single, Snoc, Deeper}
-use Rattle.grammar.specs.Shapes.{symbol_leaf, name_leaf, between}
-use Rattle.filt_syntax.specs.declared.ast.Attribute.{Attribute}
+use Rattle.conf_lex.specs.declared.named.Name.{Name}
+use Rattle.conf_lex.specs.Grammar.{ParseTree, Leaf, NoWords, Pair, Left, Right, Single, Snoc}
+use Rattle.conf_lex.specs.Grammar.{Deeper}
+use Rattle.conf_lex.specs.Leaves.{symbol_leaf, name_leaf, between}
+use Rattle.conf_lex.specs.declared.attribute.Attribute.{Attribute}
 use Rattle.filt_syntax.specs.declared.ast.Expr.{Expr}
 use Rattle.filt_syntax.specs.declared.ast.VariableType.{VariableType}
 use Rattle.filt_syntax.specs.declared.ast.VariableType.TheVariants as types
@@ -21,11 +24,10 @@ use Rattle.filt_syntax.specs.declared.ast.Block.{Block}
 use Rattle.filt_syntax.specs.declared.ast.Item.{Item}
 use Rattle.filt_syntax.specs.declared.variable_type.Member.{Member}
 use Rattle.filt_syntax.specs.declared.variable_type.Member.TheVariants as members
-use Rattle.filt_syntax.specs.declared.statement.Branches.{Branches}
 use Rattle.filt_syntax.specs.declared.ast.Stmt.{Stmt, fold-Stmt}
 use Rattle.filt_syntax.specs.declared.ast.Stmt.TheOpen.{Stmt-F}
 use Rattle.filt_syntax.specs.ItemView.{label_tree}
-use Rattle.filt_syntax.specs.View.{derivations, attribute_word, in_parentheses, method_tree}
+use Rattle.filt_syntax.specs.View.{derivations, in_parentheses, method_tree}
 use Rattle.filt_syntax.specs.View.{arguments_tree, listed_tree, expr_trees}
 
 abbrev pub semicolon_leaf : ParseTree
@@ -113,7 +115,7 @@ declare_tree v n e =
     Right (nth 2 (Pair (type_tree v) (Pair (name_leaf n) (Pair (initial_tree e) semicolon_leaf))))
 
 abbrev pub of_attribute_tree : ℕ → Attribute → ParseTree → ParseTree
-of_attribute_tree at a done = Right (nth 3 (Pair (Leaf (attribute_word at a)) done))
+of_attribute_tree at a done = Right (nth 3 (Pair (Leaf (words.Attribute at a)) done))
 
 abbrev pub assign_tree : Target → Expr → ParseTree
 assign_tree (targets.Name n) e = of_name n (Left (assigned_tree e))
@@ -130,7 +132,7 @@ call_tree n place es =
 
 abbrev pub unset_tree : ℕ → ℕ → Attribute → ParseTree
 unset_tree place at a = Right (nth 4 (Pair (symbol_leaf sym.Unset)
-    (Pair (in_parentheses place (Leaf (attribute_word at a))) semicolon_leaf)))
+    (Pair (in_parentheses place (Leaf (words.Attribute at a))) semicolon_leaf)))
 
 -- the condition, and the branches
 abbrev pub chosen_tree : Expr → ParseTree → ParseTree
@@ -250,10 +252,6 @@ stmt_step (Stmt-F.Call n place es) = call_tree n place es.items
 abbrev pub stmt_tree : Stmt → ParseTree
 stmt_tree = fold-Stmt ParseTree stmt_step
 
--- a statement in a box
-abbrev pub boxed_tree : Box Stmt Global → ParseTree
-boxed_tree s = stmt_tree s.value
-
 abbrev pub stmts_tree : List Stmt → ParseTree
 stmts_tree ss = row_tree (map stmt_tree ss)
 
@@ -266,23 +264,6 @@ arms_of arms = map arm_of arms
 abbrev pub otherwise_of : Option (Vec Stmt Global) → Option (List ParseTree)
 otherwise_of None = None
 otherwise_of (Some v) = Some (map stmt_tree v.items)
-
--- the arms of a `case`, as a tree, and the statements of "else:", between braces
-abbrev pub case_arms : ParseTree → Option (List ParseTree) → ParseTree
-case_arms row otherwise =
-    between (words.Symbol sym.OpenBrace) (Pair row (otherwise_tree otherwise)) sym.CloseBrace
-
-abbrev pub arms_view : List (Arm Stmt) → Option (Vec Stmt Global) → ParseTree
-arms_view arms otherwise = case_arms (arms_row (arms_of arms)) (otherwise_of otherwise)
-
--- the second branch of an `if`, or nothing
-abbrev pub second_tree : Option (Box Stmt Global) → ParseTree
-second_tree None = Right NoWords
-second_tree (Some s) = else_tree (stmt_tree s.value)
-
-abbrev pub branches_tree : Branches → ParseTree
-branches_tree b =
-    Pair (Deeper (words.Symbol sym.Then) (stmt_tree b.first.value)) (second_tree b.second)
 
 -- the block of a filter, a function or a policy
 abbrev pub block_view : Block → ParseTree

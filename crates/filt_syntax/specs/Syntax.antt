@@ -1,11 +1,14 @@
--- The grammar of filters: a form for each production, with its line in the notation of the grammar
--- above it. A quoted word is the symbol of that spelling; `[ ]` may be left out, `{ }` is any
--- number of times, `|` is a choice.
+-- The grammar of filters (BIRD User's Guide, "Filters": "Introduction", "Data types", "Operators",
+-- "Control structures", "Route attributes", "Other statements"): a form for each production, with
+-- its line in the notation of the grammar above it. A quoted word is the symbol of that spelling;
+-- `[ ]` may be left out, `{ }` is any number of times, `|` is a choice. Not modelled: which bytes
+-- are words (conf_lex), declarations of filters and functions (conf_tree), what names stand for,
+-- types, and what expressions and statements do.
 use Rattle.std.specs.Prelude.{Bool, ◌||◌}
 use Rattle.conf_lex.specs.declared.symbol.Symbol.TheVariants as sym
-use Rattle.grammar.specs.Kind.{Kind, number, name, text, address, prefix, symbol, is_attribute}
-use Rattle.grammar.specs.Kind.{is_constant}
-use Rattle.grammar.specs.Grammar.{Terminal, Epsilon, Seq, Alt, Repeat, Nested}
+use Rattle.conf_lex.specs.Kind.{Kind, number, name, text, address, prefix, symbol, is_attribute}
+use Rattle.conf_lex.specs.Kind.{is_constant}
+use Rattle.conf_lex.specs.Grammar.{Terminal, Epsilon, Seq, Alt, Repeat, Nested}
 use Rattle.filt_syntax.specs.Levels.{Level, Form, group_level, operand_level, arguments_level}
 use Rattle.filt_syntax.specs.Levels.{set_level, block_level, body_level, argument_level, two_level}
 use Rattle.filt_syntax.specs.Levels.{attribute_level, pair_level, lengths_level, arms_level}
@@ -35,15 +38,15 @@ braces n = Seq (Nested (symbol sym.OpenBrace) n) (Terminal (symbol sym.CloseBrac
 abbrev pub is_num : Kind → Bool
 is_num k = number k || name k
 
--- part = num [ ".." num ]
-abbrev pub part : Form
-part = Seq (Terminal is_num) (optional (Seq (Terminal (symbol sym.Range)) (Terminal is_num)))
+-- num_range = num [ ".." num ]
+abbrev pub num_range : Form
+num_range = Seq (Terminal is_num) (optional (Seq (Terminal (symbol sym.Range)) (Terminal is_num)))
 
--- part | "*"
+-- num_range | "*"
 abbrev pub pair_part : Form
-pair_part = Alt (Terminal (symbol sym.Star)) part
+pair_part = Alt (Terminal (symbol sym.Star)) num_range
 
--- "(" (part | "*") "," (part | "*") ")"
+-- "(" (num_range | "*") "," (num_range | "*") ")"
 abbrev pub pair_item : Form
 pair_item = parentheses pair_level
 
@@ -55,19 +58,20 @@ lengths = Alt (Terminal (λ k. symbol sym.Plus k || symbol sym.Minus k)) (braces
 abbrev pub prefix_item : Form
 prefix_item = Seq (Terminal prefix) (optional lengths)
 
--- item = part | "(" (part | "*") "," (part | "*") ")" | prefix [ "+" | "-" | "{" num "," num "}" ]
+-- item = num_range | "(" (num_range | "*") "," (num_range | "*") ")" | prefix [ "+" | "-" | "{" num
+-- "," num "}" ]
 abbrev pub item : Form
-item = Alt part (Alt pair_item prefix_item)
+item = Alt num_range (Alt pair_item prefix_item)
 
 -- "[" item { "," item } "]"
 abbrev pub set : Form
 set = Seq (Nested (symbol sym.OpenBracket) set_level) (Terminal (symbol sym.CloseBracket))
 
--- part | "?" | "*"
+-- num_range | "?" | "*"
 abbrev pub mask_atom : Form
-mask_atom = Alt (Terminal (λ k. symbol sym.Question k || symbol sym.Star k)) part
+mask_atom = Alt (Terminal (λ k. symbol sym.Question k || symbol sym.Star k)) num_range
 
--- mitem = ( part | "?" | "*" ) [ "+" ]
+-- mitem = ( num_range | "?" | "*" ) [ "+" ]
 abbrev pub mask_item : Form
 mask_item = Seq mask_atom (optional (Terminal (symbol sym.Plus)))
 
@@ -114,7 +118,7 @@ defined = Seq (Terminal (symbol sym.Defined)) of_attribute
 abbrev pub method_call : Form
 method_call = Seq (Terminal is_method) (parentheses two_level)
 
--- prim = literal | ATTR | CONSTANT | NAME [ "(" [ expr { "," expr } ] ")" ] | "(" expr ")"
+-- primary = literal | ATTR | CONSTANT | NAME [ "(" [ expr { "," expr } ] ")" ] | "(" expr ")"
 --   | "(" expr "," expr ")" | "defined" "(" ATTR ")"
 --   | ("prepend" | "add" | "delete" | "filter") "(" expr "," expr ")" | "+empty+" | "-empty-"
 abbrev pub primary : Form
@@ -129,25 +133,25 @@ method = Seq (Terminal is_method) (parentheses argument_level)
 abbrev pub access : Form
 access = Seq (Terminal (symbol sym.Dot)) (Alt (Terminal is_property) method)
 
--- post = prim { access }
+-- postfix = primary { access }
 abbrev pub postfix : Form
 postfix = Repeat primary access
 
--- unary = "!" unary | post
+-- unary = "!" unary | postfix
 abbrev pub unary : Form
 unary = Alt (Nested (symbol sym.Not) operand_level) postfix
 
 abbrev pub is_mul_op : Kind → Bool
 is_mul_op k = symbol sym.Star k || symbol sym.Slash k
 
--- prod = unary { ("*" | "/") unary }
+-- product = unary { ("*" | "/") unary }
 abbrev pub product : Form
 product = Repeat unary (Seq (Terminal is_mul_op) unary)
 
 abbrev pub is_add_op : Kind → Bool
 is_add_op k = symbol sym.Plus k || symbol sym.Minus k
 
--- sum = prod { ("+" | "-") prod }
+-- sum = product { ("+" | "-") product }
 abbrev pub sum : Form
 sum = Repeat product (Seq (Terminal is_add_op) product)
 
@@ -157,7 +161,7 @@ is_compare_op k = symbol sym.Equal k || symbol sym.NotEqual k || symbol sym.Less
     || symbol sym.LessOrEqual k || symbol sym.Greater k || symbol sym.GreaterOrEqual k
     || symbol sym.Matches k || symbol sym.MatchesNot k
 
--- cmp = sum [ compare sum ]
+-- comparison = sum [ compare sum ]
 abbrev pub comparison : Form
 comparison = Seq sum (optional (Seq (Terminal is_compare_op) sum))
 
@@ -165,7 +169,7 @@ comparison = Seq sum (optional (Seq (Terminal is_compare_op) sum))
 abbrev pub is_logical_op : Kind → Bool
 is_logical_op k = symbol sym.And k || symbol sym.Or k
 
--- expr = cmp { ("&&" | "||") cmp }
+-- expr = comparison { ("&&" | "||") comparison }
 abbrev pub expr : Form
 expr = Repeat comparison (Seq (Terminal is_logical_op) comparison)
 

@@ -1,9 +1,11 @@
--- What stands at a token of a text, or at which token it is refused.
-use Rattle.std.specs.Prelude.{◌≡◌, ◌⊎◌, ℕ, ◌+◌, List, length, map, drop, slice_index_or}
+-- What stands at a token of a text, or at which token it is refused: `Parse` and `RefusedToken` by
+-- the tokens of conf_lex. The forms are those of `Syntax` (BIRD User's Guide, "Filters"), the
+-- places our own. Not modelled: the bytes of tokens, and when memory runs out.
+use Rattle.std.specs.Prelude.{◌≡◌, ℕ, ◌+◌, List, length, map, drop, slice_index_or}
 use Rattle.conf_lex.specs.Words.{words_from}
 use Rattle.conf_lex.specs.declared.token.Token.{Token}
 use Rattle.conf_lex.specs.declared.word.Word.{Word}
-use Rattle.grammar.specs.Grammar.{ParseTree}
+use Rattle.conf_lex.specs.Grammar.{ParseTree}
 use Rattle.filt_syntax.specs.Levels.{Form}
 use Rattle.filt_syntax.specs.declared.parse.SyntaxFault.{SyntaxFault}
 use Rattle.filt_syntax.specs.declared.parse.SyntaxFault.TheVariants as faults
@@ -59,9 +61,3 @@ pub record IsRefusedIn (f : Form) (text : List ℕ) (tokens : List Token) (from 
   pub past : ℕ
   pub is_past : IsPastOf f (words_behind text tokens from) word_fault past
   pub is : e ≡ moved (token_place text tokens from (place_of word_fault) + past) word_fault
-
--- the refusal of these words is told so by their tokens, unless memory ran out
-abbrev pub IsToldAs : Form → List Word → List ℕ → ℕ → SyntaxFault → SyntaxFault → Type 0
-IsToldAs f words starts end fault told =
-    (told ≡ faults.Memory) ⊎ ((past : ℕ) × IsPastOf f words fault past
-    × (told ≡ moved (slice_index_or starts (place_of fault) end + past) fault))

@@ -1,16 +1,15 @@
--- The tree of the grammar that an expression stands for.
+-- The tree of the grammar that an expression stands for (BIRD User's Guide, "Filters": "Data
+-- types", "Operators", "Route attributes"). Not modelled: types and values, and where an expression
+-- lies in memory.
 use Rattle.std.specs.Prelude.{ℕ, List, [], ◌∷◌, map}
 use Rattle.conf_lex.specs.declared.symbol.Symbol.{Symbol}
 use Rattle.conf_lex.specs.declared.symbol.Symbol.TheVariants as sym
 use Rattle.conf_lex.specs.declared.word.Word.{Word}
 use Rattle.conf_lex.specs.declared.word.Word.TheVariants as words
-use Rattle.grammar.specs.declared.named.Name.{Name}
-use Rattle.grammar.specs.Grammar.{ParseTree, Leaf, NoWords, Pair, Left, Right, Single, Snoc, Deeper}
-use Rattle.grammar.specs.Shapes.{symbol_leaf, name_leaf, between}
-use Rattle.filt_syntax.specs.declared.ast.Attribute.{Attribute}
-use Rattle.filt_syntax.specs.declared.ast.Attribute.TheVariants as attributes
-use Rattle.filt_syntax.specs.declared.ast.Constant.{Constant}
-use Rattle.filt_syntax.specs.declared.ast.Constant.TheVariants as constants
+use Rattle.conf_lex.specs.declared.named.Name.{Name}
+use Rattle.conf_lex.specs.Grammar.{ParseTree, Leaf, NoWords, Pair, Left, Right, Single, Snoc}
+use Rattle.conf_lex.specs.Grammar.{Deeper}
+use Rattle.conf_lex.specs.Leaves.{symbol_leaf, name_leaf, between}
 use Rattle.filt_syntax.specs.declared.ast.Atom.{Atom}
 use Rattle.filt_syntax.specs.declared.ast.Atom.TheVariants as atoms
 use Rattle.filt_syntax.specs.declared.ast.Property.{Property}
@@ -18,8 +17,8 @@ use Rattle.filt_syntax.specs.declared.ast.Property.TheVariants as properties
 use Rattle.filt_syntax.specs.declared.ast.MethodKind.{MethodKind}
 use Rattle.filt_syntax.specs.declared.ast.MethodKind.TheVariants as methods
 use Rattle.filt_syntax.specs.declared.ast.Method.{Method}
-use Rattle.filt_syntax.specs.declared.ast.Postfix.{Postfix}
-use Rattle.filt_syntax.specs.declared.ast.Postfix.TheVariants as postfixes
+use Rattle.filt_syntax.specs.declared.ast.Access.{Access}
+use Rattle.filt_syntax.specs.declared.ast.Access.TheVariants as accesses
 use Rattle.filt_syntax.specs.declared.ast.MulOp.{MulOp}
 use Rattle.filt_syntax.specs.declared.ast.MulOp.TheVariants as mul_ops
 use Rattle.filt_syntax.specs.declared.ast.AddOp.{AddOp}
@@ -33,34 +32,6 @@ use Rattle.filt_syntax.specs.declared.ast.Expr.TheOpen.{Expr-F}
 use Rattle.filt_syntax.specs.ItemView.{items_tree, mask_items_tree}
 
 -- ---- the words
-
-abbrev pub attribute_symbol : Attribute → Symbol
-attribute_symbol attributes.Net = sym.Net
-attribute_symbol attributes.Preference = sym.Preference
-attribute_symbol attributes.Gw = sym.Gw
-attribute_symbol attributes.From = sym.From
-attribute_symbol attributes.BgpNextHop = sym.BgpNextHop
-attribute_symbol attributes.Proto = sym.Proto
-attribute_symbol attributes.Source = sym.Source
-attribute_symbol attributes.Dest = sym.Dest
-attribute_symbol attributes.BgpPath = sym.BgpPath
-attribute_symbol attributes.BgpOrigin = sym.BgpOrigin
-attribute_symbol attributes.BgpMed = sym.BgpMed
-attribute_symbol attributes.BgpLocalPref = sym.BgpLocalPref
-attribute_symbol attributes.IgpMetric = sym.IgpMetric
-attribute_symbol attributes.BgpCommunity = sym.BgpCommunity
-
-abbrev pub constant_symbol : Constant → Symbol
-constant_symbol constants.RtsStatic = sym.RtsStatic
-constant_symbol constants.RtsBgp = sym.RtsBgp
-constant_symbol constants.RtdUnicast = sym.RtdUnicast
-constant_symbol constants.RtdRouter = sym.RtdRouter
-constant_symbol constants.RtdBlackhole = sym.RtdBlackhole
-constant_symbol constants.RtdUnreachable = sym.RtdUnreachable
-constant_symbol constants.RtdProhibit = sym.RtdProhibit
-constant_symbol constants.OriginIgp = sym.OriginIgp
-constant_symbol constants.OriginEgp = sym.OriginEgp
-constant_symbol constants.OriginIncomplete = sym.OriginIncomplete
 
 abbrev pub property_symbol : Property → Symbol
 property_symbol properties.Len = sym.Len
@@ -96,9 +67,6 @@ abbrev pub logical_op_symbol : LogicalOp → Symbol
 logical_op_symbol logical_ops.And = sym.And
 logical_op_symbol logical_ops.Or = sym.Or
 
-abbrev pub attribute_word : ℕ → Attribute → Word
-attribute_word at a = words.Placed at (attribute_symbol a)
-
 abbrev pub method_word : Method → Word
 method_word m = words.Placed m.at (method_symbol m.kind)
 
@@ -111,8 +79,8 @@ atom_word (atoms.True at) = words.Placed at sym.True
 atom_word (atoms.False at) = words.Placed at sym.False
 atom_word (atoms.EmptyPath at) = words.Placed at sym.EmptyPath
 atom_word (atoms.EmptyClist at) = words.Placed at sym.EmptyClist
-atom_word (atoms.Attribute at attribute) = attribute_word at attribute
-atom_word (atoms.Constant at constant) = words.Placed at (constant_symbol constant)
+atom_word (atoms.Attribute at attribute) = words.Attribute at attribute
+atom_word (atoms.Constant at constant) = words.Constant at constant
 
 -- ---- the trees
 
@@ -286,9 +254,9 @@ property_tree p = Left (symbol_leaf (property_symbol p))
 abbrev pub method_tree : Method → ℕ → ParseTree → ParseTree
 method_tree m place argument = Pair (Leaf (method_word m)) (in_parentheses place argument)
 
-abbrev pub access_part : Postfix Derivations → Word × ParseTree
-access_part (postfixes.Property p) = (words.Symbol sym.Dot, property_tree p)
-access_part (postfixes.Method m place e) =
+abbrev pub access_part : Access Derivations → Word × ParseTree
+access_part (accesses.Property p) = (words.Symbol sym.Dot, property_tree p)
+access_part (accesses.Method m place e) =
     (words.Symbol sym.Dot, Right (method_tree m place e.expr))
 
 abbrev pub mul_op_part : MulOp × Derivations → Word × ParseTree
@@ -313,7 +281,7 @@ derivations_step (Expr-F.Pair at a b) =
 derivations_step (Expr-F.Set at items) = as_primary (set_tree at (items_tree items.items))
 derivations_step (Expr-F.Mask at items) = as_primary (mask_tree at (mask_items_tree items.items))
 derivations_step (Expr-F.Defined at place attribute_at attribute) =
-    as_primary (defined_tree at place (attribute_word attribute_at attribute))
+    as_primary (defined_tree at place (words.Attribute attribute_at attribute))
 derivations_step (Expr-F.MethodCall m place a b) =
     as_primary (method_call_tree m place a.value.expr b.value.expr)
 derivations_step (Expr-F.Postfix e more) =
@@ -339,17 +307,3 @@ expr_tree e = (derivations e).expr
 
 abbrev pub expr_trees : List Expr → List ParseTree
 expr_trees es = map expr_tree es
-
-abbrev pub access_of : Postfix Expr → Word × ParseTree
-access_of (postfixes.Property p) = (words.Symbol sym.Dot, property_tree p)
-access_of (postfixes.Method m place e) =
-    (words.Symbol sym.Dot, Right (method_tree m place (derivations e).expr))
-
-abbrev pub mul_op_of : MulOp × Expr → Word × ParseTree
-mul_op_of x = (words.Symbol (mul_op_symbol x.0), (derivations x.1).unary)
-
-abbrev pub add_op_of : AddOp × Expr → Word × ParseTree
-add_op_of x = (words.Symbol (add_op_symbol x.0), (derivations x.1).product)
-
-abbrev pub logical_op_of : LogicalOp × Expr → Word × ParseTree
-logical_op_of x = (words.Symbol (logical_op_symbol x.0), (derivations x.1).comparison)

@@ -2,42 +2,8 @@
 // `open` the byte of a parenthesis.
 
 use bits_ip::Prefix;
-use conf_lex::PackedAddr;
-use grammar::Name;
-
-/// An attribute of routes (BIRD User's Guide, "Route attributes").
-#[derive(Clone, Copy, Debug, PartialEq, Eq)]
-pub enum Attribute {
-    Net,
-    Preference,
-    Gw,
-    From,
-    BgpNextHop,
-    Proto,
-    Source,
-    Dest,
-    BgpPath,
-    BgpOrigin,
-    BgpMed,
-    BgpLocalPref,
-    IgpMetric,
-    BgpCommunity,
-}
-
-/// A constant of an attribute's values.
-#[derive(Clone, Copy, Debug, PartialEq, Eq)]
-pub enum Constant {
-    RtsStatic,
-    RtsBgp,
-    RtdUnicast,
-    RtdRouter,
-    RtdBlackhole,
-    RtdUnreachable,
-    RtdProhibit,
-    OriginIgp,
-    OriginEgp,
-    OriginIncomplete,
-}
+pub use conf_lex::{Attribute, Constant};
+use conf_lex::{Name, PackedAddr};
 
 /// A written number, or the name of a constant that is one.
 #[derive(Clone, Copy, Debug)]
@@ -151,7 +117,7 @@ pub struct Method {
 
 /// What stands behind a dot. `E` is `Expr`.
 #[derive(Drop)]
-pub enum Postfix<E> {
+pub enum Access<E> {
     Property(Property),
     /// A method and its argument; `open` is the place of the parenthesis before it.
     Method {
@@ -238,7 +204,7 @@ pub enum Expr {
         argument: Box<Expr>,
     },
     /// An operand and, one after another, what stands behind its dots.
-    Postfix(Box<Expr>, Vec<Postfix<Expr>>),
+    Postfix(Box<Expr>, Vec<Access<Expr>>),
     Not {
         at: usize,
         operand: Box<Expr>,

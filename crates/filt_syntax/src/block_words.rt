@@ -1,7 +1,7 @@
 // The block at a place of the words.
 
 ghost use Rattle.std.specs.Prelude.{ℕ, ◌≤◌, length, IfOk, IfErr};
-ghost use Rattle.grammar.specs.Grammar.{ParseTree};
+ghost use Rattle.conf_lex.specs.Grammar.{ParseTree};
 ghost use Rattle.filt_syntax.specs.declared.parse.SyntaxFault.{SyntaxFault};
 ghost use Rattle.filt_syntax.specs.Syntax.{block};
 ghost use Rattle.filt_syntax.specs.StatementView.{block_view};
@@ -11,7 +11,7 @@ use crate::ast::Block;
 use crate::parse::{LEVELS, SyntaxFault, placed, tail};
 use crate::statement::whole_block;
 use conf_lex::Word;
-use grammar::place_in;
+use conf_lex::parsing::place_in;
 use std::alloc::Global;
 
 /// The longest block from a place on, its statements between braces, and the place after it (BIRD

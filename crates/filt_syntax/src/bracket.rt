@@ -3,17 +3,17 @@
 ghost use Rattle.std.specs.Prelude.{◌≡◌, ◌∷◌, ◌+◌, ◌≤◌, IfOk, MatchResult};
 ghost use Rattle.conf_lex.specs.declared.symbol.Symbol.TheVariants as sym;
 ghost use Rattle.conf_lex.specs.declared.word.Word.{Word};
-ghost use Rattle.grammar.specs.Grammar.{Leaf};
-ghost use Rattle.grammar.specs.Agrees.{AgreesOnError, Agrees};
+ghost use Rattle.conf_lex.specs.Grammar.{Leaf};
+ghost use Rattle.conf_lex.specs.Agrees.{AgreesOnError, Agrees};
 ghost use Rattle.filt_syntax.specs.Levels.{Level, attribute_level};
-ghost use Rattle.filt_syntax.specs.View.{derivations, attribute_word, in_parentheses};
+ghost use Rattle.filt_syntax.specs.View.{derivations, in_parentheses};
 ghost use Rattle.filt_syntax.specs.Readers.{primary_at, level_at, opened_at};
 
 use crate::ast::{Attribute, Expr};
 use crate::items::{items, mask_items};
 use crate::operators::next_attribute;
-use conf_lex::{Symbol, Word};
-use grammar::{Refusal, after_placed, expect, level_below};
+use conf_lex::parsing::{after_placed, expect, level_below};
+use conf_lex::{Refusal, Symbol, Word};
 use std::alloc::Global;
 
 /// How many levels are left behind the parenthesis that has to come next, its place, and the words
@@ -94,7 +94,7 @@ pub fn of_attribute(
     words: &[Word],
     depth_left: u32,
 ) -> Result<((usize, Attribute, usize), &[Word]), Refusal>
-    ensures { Agrees (λ found. in_parentheses found.2 (Leaf (attribute_word found.0 found.1)))
+    ensures { Agrees (λ found. in_parentheses found.2 (Leaf (Word.Attribute found.0 found.1)))
         result (level_at attribute_level depth_left words.now) }
 {
     let (_below, open, inside) = open(words, depth_left)?;

@@ -4,23 +4,24 @@
 ghost use Rattle.std.specs.Prelude.{◌≡◌, ◌∷◌, ◌≤◌, IfOk};
 ghost use Rattle.conf_lex.specs.declared.symbol.Symbol.TheVariants as sym;
 ghost use Rattle.conf_lex.specs.declared.word.Word.{Word};
-ghost use Rattle.grammar.specs.Agrees.{Agrees};
+ghost use Rattle.conf_lex.specs.Agrees.{Agrees};
 ghost use Rattle.filt_syntax.specs.Levels.{arguments_level};
-ghost use Rattle.filt_syntax.specs.View.{derivations, access_of, method_tree, method_word};
+ghost use Rattle.filt_syntax.specs.View.{derivations, method_tree, method_word};
+ghost use Rattle.filt_syntax.specs.Inside.{access_of};
 ghost use Rattle.filt_syntax.specs.View.{in_parentheses, arguments_tree, expr_trees};
 ghost use Rattle.filt_syntax.specs.Readers.{expr_at, comparison_at, sum_at, product_at, unary_at};
 ghost use Rattle.filt_syntax.specs.Readers.{postfix_at};
 ghost use Rattle.filt_syntax.specs.Readers.{primary_at, behind_dot_at, method_at, named_at};
 ghost use Rattle.filt_syntax.specs.Readers.{level_at};
 
-use crate::ast::{Expr, Method, Postfix};
+use crate::ast::{Access, Expr, Method};
 use crate::bracket::{defined, mask, open, set};
 use crate::operators::{
-    next_add_op, next_atom, next_compare_op, next_logical_op, next_method, next_mul_op, next_name,
+    next_add_op, next_atom, next_compare_op, next_logical_op, next_method, next_mul_op,
     next_property,
 };
-use conf_lex::{Symbol, Word};
-use grammar::{Name, Refusal, after, after_placed, expect, level_below};
+use conf_lex::parsing::{after, after_placed, expect, level_below, next_name};
+use conf_lex::{Name, Refusal, Symbol, Word};
 use std::alloc::Global;
 
 /// The longest expression.
@@ -178,14 +179,14 @@ fn access<'a>(
     alloc: Global,
     words: &'a [Word],
     depth_left: u32,
-) -> Result<(Postfix<Expr>, &'a [Word]), Refusal<'a>>
+) -> Result<(Access<Expr>, &'a [Word]), Refusal<'a>>
     ensures { Agrees (λ a. (access_of a).1) result (behind_dot_at depth_left words.now) }
 {
     match next_property(words) {
-        Some((property, rest)) => Ok((Postfix::Property(property), rest)),
+        Some((property, rest)) => Ok((Access::Property(property), rest)),
         None => {
             let ((method, argument, open), rest) = method(alloc, words, depth_left)?;
-            let method = Postfix::Method {
+            let method = Access::Method {
                 method,
                 open,
                 argument,

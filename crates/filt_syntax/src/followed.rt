@@ -2,7 +2,7 @@
 
 ghost use Rattle.std.specs.Prelude.{IfOk};
 ghost use Rattle.filt_syntax.specs.Syntax.{expr, block};
-ghost use Rattle.filt_syntax.specs.RefusedToken.{IsEndBy};
+ghost use Rattle.filt_syntax.specs.Inside.{IsEndBy};
 
 use crate::block_words::parse_block_words;
 use crate::parse::{SyntaxFault, parse_expr_words};

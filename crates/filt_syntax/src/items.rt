@@ -4,23 +4,23 @@
 ghost use Rattle.std.specs.Prelude.{◌≡◌, ◌∷◌, ◌<◌, false, length, IfOk};
 ghost use Rattle.conf_lex.specs.declared.symbol.Symbol.TheVariants.{OpenParenthesis, OpenBrace};
 ghost use Rattle.conf_lex.specs.declared.word.Word.{Word};
-ghost use Rattle.grammar.specs.Grammar.{begins, first_set};
-ghost use Rattle.grammar.specs.Reading.{word};
-ghost use Rattle.grammar.specs.Agrees.{Agrees, NeverMemory};
+ghost use Rattle.conf_lex.specs.Grammar.{begins, first_set};
+ghost use Rattle.conf_lex.specs.Reading.{word};
+ghost use Rattle.conf_lex.specs.Agrees.{Agrees, NeverMemory};
 ghost use Rattle.filt_syntax.specs.Finds.{Finds};
 ghost use Rattle.filt_syntax.specs.Syntax.{is_num, mask_item};
-ghost use Rattle.filt_syntax.specs.ItemView.{num_tree, num_word, part_tree, pair_part_tree};
+ghost use Rattle.filt_syntax.specs.ItemView.{num_tree, num_word, num_range_tree, pair_part_tree};
 ghost use Rattle.filt_syntax.specs.ItemView.{with_comma, lengths_part, item_tree, items_tree};
 ghost use Rattle.filt_syntax.specs.ItemView.{mask_atom_tree, mask_item_tree, mask_items_tree};
 ghost use Rattle.filt_syntax.specs.ItemView.{label_tree};
-ghost use Rattle.filt_syntax.specs.ItemReaders.{part_at, pair_part_at, pair_at, bounds_at};
+ghost use Rattle.filt_syntax.specs.ItemReaders.{num_range_at, pair_part_at, pair_at, bounds_at};
 ghost use Rattle.filt_syntax.specs.ItemReaders.{lengths_at, item_at, items_at, mask_atom_at};
 ghost use Rattle.filt_syntax.specs.ItemReaders.{mask_item_at, mask_items_at, label_at};
 
 use crate::ast::{Item, Lengths, MaskAtom, MaskItem, Num, NumRange, PairPart};
 use bits_ip::Prefix;
-use conf_lex::{Symbol, Word};
-use grammar::{Name, Refusal, after, after_placed, expect, level_below, next_prefix};
+use conf_lex::parsing::{after, after_placed, expect, level_below, next_prefix};
+use conf_lex::{Name, Refusal, Symbol, Word};
 use std::alloc::Global;
 
 /// A written number or the name of a constant that is one, where either comes next.
@@ -55,8 +55,8 @@ pub fn num(words: &[Word]) -> Result<(Num, &[Word]), Refusal>
     next_num(words).ok_or(Refusal::Bad(words))
 }
 
-fn part(words: &[Word]) -> Result<(NumRange, &[Word]), Refusal>
-    ensures { Agrees part_tree result (part_at 0 words.now) }
+fn num_range(words: &[Word]) -> Result<(NumRange, &[Word]), Refusal>
+    ensures { Agrees num_range_tree result (num_range_at 0 words.now) }
 {
     let (low, rest) = num(words)?;
     match after(rest, Symbol::Range) {
@@ -78,7 +78,7 @@ fn pair_part(words: &[Word]) -> Result<(PairPart, &[Word]), Refusal>
     match after(words, Symbol::Star) {
         Some(rest) => Ok((PairPart::Any, rest)),
         None => {
-            let (part, rest) = part(words)?;
+            let (part, rest) = num_range(words)?;
             Ok((PairPart::Range(part), rest))
         }
     }
@@ -177,7 +177,7 @@ pub fn item(words: &[Word], depth_left: u32) -> Result<(Item, &[Word]), Refusal>
     match next_prefix(words) {
         Some(((at, net), rest)) => prefix_item(words, at, net, rest, depth_left),
         None => {
-            let (part, rest) = part(words)?;
+            let (part, rest) = num_range(words)?;
             Ok((Item::Range(part), rest))
         }
     }
@@ -233,7 +233,7 @@ fn mask_atom(words: &[Word]) -> Result<(MaskAtom, &[Word]), Refusal>
     match after(words, Symbol::Star) {
         Some(rest) => Ok((MaskAtom::Any, rest)),
         None => {
-            let (part, rest) = part(words)?;
+            let (part, rest) = num_range(words)?;
             Ok((MaskAtom::Range(part), rest))
         }
     }

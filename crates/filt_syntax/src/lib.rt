@@ -1,4 +1,13 @@
-//! The grammar of BIRD's filters, its syntax trees and its parser.
+//! The grammar of BIRD's filters (BIRD User's Guide, "Filters"), its syntax trees and its parser:
+//! which words or tokens of a text are an expression or a block, the tree of each, and which word
+//! or token is refused and why.
+//!
+//! The grammar stands in `specs/Syntax`, what its trees are of in `specs/View` and
+//! `specs/StatementView`, refusals in `specs/Parse` and `specs/Tokens`. `parts` gives the parsers
+//! of some forms to the grammars that hold them. Not here: the declarations of filters and
+//! functions and all other statements of a configuration (`conf_tree`), names, types and what
+//! filters do (`filt_types`, `filt_meaning`), and the laws of the grammar and its trees, which
+//! nothing that runs needs (`syntax_laws`).
 #![tactic(auto)]
 
 pub mod ast;
@@ -7,7 +16,6 @@ mod bracket;
 mod expression;
 mod followed;
 mod items;
-pub mod laws;
 mod operators;
 mod parse;
 pub mod parts;
@@ -18,5 +26,5 @@ mod tokens;
 mod variable_type;
 
 pub use block_words::parse_block_words;
-pub use parse::{SyntaxFault, expressions_decide, parse_expr_words};
+pub use parse::{SyntaxFault, parse_expr_words};
 pub use tokens::{parse_block, parse_expr};

@@ -4,22 +4,20 @@ ghost use Rattle.std.specs.Prelude.{◌≡◌, ◌∷◌, ℕ, false, MatchOptio
 ghost use Rattle.conf_lex.specs.declared.word.Word.{Word};
 ghost use Rattle.conf_lex.specs.declared.symbol.Symbol.{Symbol};
 ghost use Rattle.conf_lex.specs.Symbols.{is_placed};
-ghost use Rattle.grammar.specs.Kind.{kind_of, symbol as is_the_symbol, name};
-ghost use Rattle.grammar.specs.Kind.{names_attribute, names_constant, is_attribute};
-ghost use Rattle.grammar.specs.Grammar.{begins};
+ghost use Rattle.conf_lex.specs.Kind.{kind_of, symbol as is_the_symbol, is_attribute};
+ghost use Rattle.conf_lex.specs.Grammar.{begins};
 ghost use Rattle.filt_syntax.specs.Finds.{Finds};
 ghost use Rattle.filt_syntax.specs.Syntax.{is_atom, is_method, is_property, is_mul_op, is_add_op};
 ghost use Rattle.filt_syntax.specs.Syntax.{is_compare_op, is_logical_op};
-ghost use Rattle.filt_syntax.specs.View.{atom_word, method_word, method_symbol, attribute_symbol};
-ghost use Rattle.filt_syntax.specs.View.{constant_symbol, attribute_word, property_symbol};
+ghost use Rattle.filt_syntax.specs.View.{atom_word, method_word, method_symbol, property_symbol};
 ghost use Rattle.filt_syntax.specs.View.{mul_op_symbol, add_op_symbol, compare_op_symbol};
 ghost use Rattle.filt_syntax.specs.View.{logical_op_symbol};
 
 use crate::ast::{
-    AddOp, Atom, Attribute, CompareOp, Constant, LogicalOp, Method, MethodKind, MulOp, Property,
+    AddOp, Atom, Attribute, CompareOp, LogicalOp, Method, MethodKind, MulOp, Property,
 };
+use conf_lex::parsing::next;
 use conf_lex::{Symbol, Word};
-use grammar::{Name, next};
 
 /// What joins two comparisons, and the words after it.
 pub fn next_logical_op(words: &[Word]) -> Option<(LogicalOp, &[Word])>
@@ -93,27 +91,10 @@ pub fn next_atom(words: &[Word]) -> Option<(Atom, &[Word])>
 
 /// The place of an attribute and the attribute, and the words after it.
 pub fn next_attribute(words: &[Word]) -> Option<((usize, Attribute), &[Word])>
-    ensures { Finds is_attribute (λ found. attribute_word found.0 found.1) result words.now }
-{
-    match next(words) {
-        Some((word, rest)) => attribute_of(word).map(|attribute| (attribute, rest)),
-        None => None,
-    }
-}
-
-/// A name, and the words after it.
-pub fn next_name(words: &[Word]) -> Option<(Name, &[Word])>
-    ensures { Finds name (λ n. Word.Name n.at n.start n.len) result words.now }
+    ensures { Finds is_attribute (λ found. Word.Attribute found.0 found.1) result words.now }
 {
     match words {
-        [Word::Name { at, start, len }, rest @ ..] => {
-            let name = Name {
-                at: *at,
-                start: *start,
-                len: *len,
-            };
-            Some((name, rest))
-        }
+        [Word::Attribute { at, attribute }, rest @ ..] => Some(((*at, *attribute), rest)),
         _ => None,
     }
 }
@@ -226,6 +207,8 @@ fn atom_of(word: Word) -> Option<Atom>
         Word::Text { at, start, len } => Some(Atom::Text { at, start, len }),
         Word::Ip { at, addr } => Some(Atom::Ip { at, addr }),
         Word::Prefix { at, net } => Some(Atom::Prefix { at, net }),
+        Word::Attribute { at, attribute } => Some(Atom::Attribute { at, attribute }),
+        Word::Constant { at, constant } => Some(Atom::Constant { at, constant }),
         Word::Placed { at, symbol } => atom_symbol(at, symbol),
         _ => None,
     }
@@ -235,71 +218,11 @@ fn atom_symbol(at: usize, symbol: Symbol) -> Option<Atom>
     ensures { MatchOption result (is_atom (kind_of (Word.Placed at symbol)) ≡ false)
         (λ s. Word.Placed at symbol ≡ atom_word s) }
 {
-    if let Some(attribute) = named_attribute(symbol) {
-        return Some(Atom::Attribute { at, attribute });
-    }
-    if let Some(constant) = named_constant(symbol) {
-        return Some(Atom::Constant { at, constant });
-    }
     match symbol {
         Symbol::True => Some(Atom::True { at }),
         Symbol::False => Some(Atom::False { at }),
         Symbol::EmptyPath => Some(Atom::EmptyPath { at }),
         Symbol::EmptyClist => Some(Atom::EmptyClist { at }),
-        _ => None,
-    }
-}
-
-fn attribute_of(word: Word) -> Option<(usize, Attribute)>
-    ensures { MatchOption result (is_attribute (kind_of word) ≡ false)
-        (λ found. word ≡ attribute_word found.0 found.1) }
-{
-    match word {
-        Word::Placed { at, symbol } => match named_attribute(symbol) {
-            Some(attribute) => Some((at, attribute)),
-            None => None,
-        },
-        _ => None,
-    }
-}
-
-fn named_attribute(symbol: Symbol) -> Option<Attribute>
-    ensures { MatchOption result (names_attribute symbol ≡ false)
-        (λ a. symbol ≡ attribute_symbol a) }
-{
-    match symbol {
-        Symbol::Net => Some(Attribute::Net),
-        Symbol::Preference => Some(Attribute::Preference),
-        Symbol::Gw => Some(Attribute::Gw),
-        Symbol::From => Some(Attribute::From),
-        Symbol::BgpNextHop => Some(Attribute::BgpNextHop),
-        Symbol::Proto => Some(Attribute::Proto),
-        Symbol::Source => Some(Attribute::Source),
-        Symbol::Dest => Some(Attribute::Dest),
-        Symbol::BgpPath => Some(Attribute::BgpPath),
-        Symbol::BgpOrigin => Some(Attribute::BgpOrigin),
-        Symbol::BgpMed => Some(Attribute::BgpMed),
-        Symbol::BgpLocalPref => Some(Attribute::BgpLocalPref),
-        Symbol::IgpMetric => Some(Attribute::IgpMetric),
-        Symbol::BgpCommunity => Some(Attribute::BgpCommunity),
-        _ => None,
-    }
-}
-
-fn named_constant(symbol: Symbol) -> Option<Constant>
-    ensures { MatchOption result (names_constant symbol ≡ false) (λ c. symbol ≡ constant_symbol c) }
-{
-    match symbol {
-        Symbol::RtsStatic => Some(Constant::RtsStatic),
-        Symbol::RtsBgp => Some(Constant::RtsBgp),
-        Symbol::RtdUnicast => Some(Constant::RtdUnicast),
-        Symbol::RtdRouter => Some(Constant::RtdRouter),
-        Symbol::RtdBlackhole => Some(Constant::RtdBlackhole),
-        Symbol::RtdUnreachable => Some(Constant::RtdUnreachable),
-        Symbol::RtdProhibit => Some(Constant::RtdProhibit),
-        Symbol::OriginIgp => Some(Constant::OriginIgp),
-        Symbol::OriginEgp => Some(Constant::OriginEgp),
-        Symbol::OriginIncomplete => Some(Constant::OriginIncomplete),
         _ => None,
     }
 }

@@ -1,17 +1,18 @@
 // What stands at a place of the words.
 
 ghost use Rattle.std.specs.Prelude.{◌≡◌, ℕ, ◌≤◌, length, drop, IfOk, IfErr};
-ghost use Rattle.grammar.specs.Grammar.{ParseTree, DerivesLongest, Derives};
+ghost use Rattle.conf_lex.specs.Grammar.{ParseTree};
 ghost use Rattle.filt_syntax.specs.declared.parse.SyntaxFault.{SyntaxFault};
-ghost use Rattle.filt_syntax.specs.Syntax.{expr, rule};
+ghost use Rattle.filt_syntax.specs.Syntax.{expr};
 ghost use Rattle.filt_syntax.specs.View.{derivations};
-ghost use Rattle.filt_syntax.specs.Parse.{ParsesAt, IsRefused, IsAnswer, IsFault, refused_words};
-ghost use Rattle.filt_syntax.specs.Parse.{fault_of};
+ghost use Rattle.filt_syntax.specs.Parse.{ParsesAt, IsRefused, IsAnswer, IsFault};
+ghost use Rattle.filt_syntax.specs.Inside.{refused_words};
+ghost use Rattle.filt_syntax.specs.Inside.{fault_of};
 
 use crate::ast::Expr;
 use crate::expression::expression;
-use conf_lex::Word;
-use grammar::{Refusal, place_in};
+use conf_lex::parsing::place_in;
+use conf_lex::{Refusal, Word};
 use std::alloc::Global;
 use thiserror::Error;
 
@@ -56,12 +57,6 @@ pub fn parse_expr_words(
         Err(refusal) => Err(placed(words, refusal)),
     }
 }
-
-/// In an expression the next word always decides: a tree by the grammar alone has no part that
-/// stops too soon.
-pub fn expressions_decide()
-    ensures { (t : ParseTree) → Derives rule t expr → DerivesLongest rule t expr }
-{}
 
 /// The words from a place on.
 pub fn tail(words: &[Word], from: usize) -> &[Word]

@@ -6,19 +6,20 @@ ghost use Rattle.std.specs.Prelude.{MatchOption};
 ghost use Rattle.bits_ip.specs.declared.address.Addr.{Addr};
 ghost use Rattle.conf_lex.specs.declared.symbol.Symbol.TheVariants as sym;
 ghost use Rattle.conf_lex.specs.declared.word.Word.{Word};
-ghost use Rattle.grammar.specs.Kind.{symbol};
-ghost use Rattle.grammar.specs.Grammar.{begins};
-ghost use Rattle.grammar.specs.Sentences.{IsBegunWithin};
+ghost use Rattle.conf_lex.specs.Kind.{symbol};
+ghost use Rattle.conf_lex.specs.Grammar.{begins};
+ghost use Rattle.conf_lex.specs.Sentences.{IsBegunWithin};
 ghost use Rattle.filt_syntax.specs.Syntax.{rule};
 ghost use Rattle.filt_syntax.specs.Levels.{Form};
 ghost use Rattle.filt_syntax.specs.RefusedToken.{CanFollow, some_prefix, some_address, torn_of};
-ghost use Rattle.filt_syntax.specs.RefusedToken.{is_address_word, EndInAddress, IsPast};
+ghost use Rattle.filt_syntax.specs.RefusedToken.{EndInAddress, IsPast};
+ghost use Rattle.filt_syntax.specs.Inside.{is_address_word};
 ghost use Rattle.filt_syntax.specs.RefusedToken.{IsPastFirst, IsBadFrom};
 
 use crate::parse::SyntaxFault;
 use bits_ip::{Addr, OutOfMemory, Prefix};
+use conf_lex::parsing::is_symbol;
 use conf_lex::{PackedAddr, Symbol, Word};
-use grammar::is_symbol;
 use std::alloc::Global;
 
 /// Sentences of one form, as far as a word can go on with the beginning of one.

@@ -4,13 +4,14 @@
 ghost use Rattle.std.specs.Prelude.{◌≡◌, ◌∷◌, false};
 ghost use Rattle.conf_lex.specs.declared.symbol.Symbol.TheVariants as sym;
 ghost use Rattle.conf_lex.specs.declared.word.Word.{Word};
-ghost use Rattle.grammar.specs.Kind.{symbol, name as is_name};
-ghost use Rattle.grammar.specs.Grammar.{Pair, begins};
-ghost use Rattle.grammar.specs.Reading.{Read, Parsed, word, both};
-ghost use Rattle.grammar.specs.Agrees.{Agrees};
-ghost use Rattle.filt_syntax.specs.View.{attribute_word, expr_trees, listed_tree};
+ghost use Rattle.conf_lex.specs.Kind.{symbol, name as is_name};
+ghost use Rattle.conf_lex.specs.Grammar.{Pair, begins};
+ghost use Rattle.conf_lex.specs.Reading.{Read, Parsed, word, both};
+ghost use Rattle.conf_lex.specs.Agrees.{Agrees};
+ghost use Rattle.filt_syntax.specs.View.{expr_trees, listed_tree};
 ghost use Rattle.filt_syntax.specs.Readers.{expr_at};
-ghost use Rattle.filt_syntax.specs.StatementView.{stmt_tree, boxed_tree, ended, change_tree};
+ghost use Rattle.filt_syntax.specs.StatementView.{stmt_tree, ended, change_tree};
+ghost use Rattle.filt_syntax.specs.Inside.{boxed_tree};
 ghost use Rattle.filt_syntax.specs.StatementView.{semicolon_leaf, initial_tree};
 ghost use Rattle.filt_syntax.specs.StatementReaders.{stmt_at, of_name_at, change_at};
 ghost use Rattle.filt_syntax.specs.StatementReaders.{declaration_at, initial_at, exprs_at};
@@ -20,8 +21,8 @@ use crate::bracket::of_attribute;
 use crate::expression::{arguments, expression, method};
 use crate::operators::next_attribute;
 use crate::variable_type::variable_type;
-use conf_lex::{Symbol, Word};
-use grammar::{Name, Refusal, after, after_placed, expect, expect_name};
+use conf_lex::parsing::{after, after_placed, expect, expect_name};
+use conf_lex::{Name, Refusal, Symbol, Word};
 use std::alloc::Global;
 
 /// A statement in a box, and the words after it.
@@ -126,7 +127,7 @@ fn done_to_attribute<'a>(
     behind: &'a [Word],
     depth_left: u32,
 ) -> Result<(Box<Stmt>, &'a [Word]), Refusal<'a>>
-    requires { words.now ≡ attribute_word at attribute ∷ behind.now }
+    requires { words.now ≡ Word.Attribute at attribute ∷ behind.now }
     ensures { Agrees boxed_tree result (stmt_at depth_left words.now) }
 {
     let target = Target::Attribute { at, attribute };

@@ -3,13 +3,14 @@
 ghost use Rattle.std.specs.Prelude.{ℕ, ◌+◌, ◌^◌, ◌<◌, ◌≤◌, length, slice_index_or};
 ghost use Rattle.std.specs.Prelude.{IfOk, IfErr};
 ghost use Rattle.conf_lex.specs.Lex.{Lexes};
-ghost use Rattle.grammar.specs.Grammar.{ParseTree};
+ghost use Rattle.conf_lex.specs.Grammar.{ParseTree};
 ghost use Rattle.filt_syntax.specs.declared.parse.SyntaxFault.{SyntaxFault};
 ghost use Rattle.filt_syntax.specs.Syntax.{block, expr};
 ghost use Rattle.filt_syntax.specs.View.{derivations};
 ghost use Rattle.filt_syntax.specs.StatementView.{block_view};
 ghost use Rattle.filt_syntax.specs.Parse.{IsAnswer, IsFault, IsRefused};
-ghost use Rattle.filt_syntax.specs.Tokens.{ParsesAtToken, IsRefusedIn, IsToldAs};
+ghost use Rattle.filt_syntax.specs.Tokens.{ParsesAtToken, IsRefusedIn};
+ghost use Rattle.filt_syntax.specs.Inside.{IsToldAs};
 
 use crate::ast::{Block, Expr};
 use crate::block_words::parse_block_words;

@@ -2,17 +2,17 @@
 
 ghost use Rattle.std.specs.Prelude.{◌≡◌};
 ghost use Rattle.conf_lex.specs.declared.word.Word.{Word};
-ghost use Rattle.grammar.specs.Grammar.{Left};
-ghost use Rattle.grammar.specs.Reading.{Parsed, and_then, word};
-ghost use Rattle.grammar.specs.Agrees.{Agrees, NeverMemory};
+ghost use Rattle.conf_lex.specs.Grammar.{Left};
+ghost use Rattle.conf_lex.specs.Reading.{Parsed, and_then, word};
+ghost use Rattle.conf_lex.specs.Agrees.{Agrees, NeverMemory};
 ghost use Rattle.filt_syntax.specs.Finds.{Finds};
 ghost use Rattle.filt_syntax.specs.Syntax.{has_sets, has_no_sets};
 ghost use Rattle.filt_syntax.specs.StatementView.{type_tree, member_symbol, member_type, set_type};
 ghost use Rattle.filt_syntax.specs.StatementReaders.{vtype_at};
 
 use crate::ast::VariableType;
-use conf_lex::{Symbol, Word};
-use grammar::{Refusal, after};
+use conf_lex::parsing::after;
+use conf_lex::{Refusal, Symbol, Word};
 
 /// A type of which there are sets.
 #[derive(Clone, Copy)]

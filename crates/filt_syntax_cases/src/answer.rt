@@ -1,7 +1,7 @@
 //! What is answered to a text.
 ghost use Rattle.conf_lex.specs.Lex.{Lexes};
 
-use conf_lex::{Token, Words, lex, words};
+use conf_lex::{Token, Words, lex, words_from};
 use filt_syntax::{SyntaxFault, parse_block, parse_block_words, parse_expr, parse_expr_words};
 use std::alloc::Global;
 use std::io;
@@ -51,11 +51,11 @@ fn end_of(alloc: Global, reader: Reader, text: &[u8]) -> io::Result<Result<usize
         Reader::Expression => Ok(expression(alloc, text, &tokens)),
         Reader::Block => Ok(block(alloc, text, &tokens)),
         Reader::WordExpression => {
-            let words = words(alloc, text, &tokens).map_err(bad)?;
+            let words = words_from(alloc, text, &tokens, 0).map_err(bad)?;
             Ok(word_expression(alloc, &words))
         }
         Reader::WordBlock => {
-            let words = words(alloc, text, &tokens).map_err(bad)?;
+            let words = words_from(alloc, text, &tokens, 0).map_err(bad)?;
             Ok(word_block(alloc, &words))
         }
     }

@@ -1,5 +1,5 @@
 use conf_lex::lex;
-use filt_syntax::ast::{AddOp, CompareOp, Expr, LogicalOp, MethodKind, Postfix, Property};
+use filt_syntax::ast::{Access, AddOp, CompareOp, Expr, LogicalOp, MethodKind, Property};
 use filt_syntax::parse_expr;
 use std::alloc::Global;
 use std::test::Fail;
@@ -42,7 +42,7 @@ fn joins_a_comparison_and_a_name(found: &Option<Expr>) -> bool {
 fn prepends_and_counts(found: &Option<Expr>) -> bool {
     match found {
         Some(Expr::Postfix(_, more)) => match (more.first(), more.last()) {
-            (Some(Postfix::Method { method, .. }), Some(Postfix::Property(property))) => {
+            (Some(Access::Method { method, .. }), Some(Access::Property(property))) => {
                 method.kind == MethodKind::Prepend && *property == Property::Len
             }
             _ => false,

@@ -2,8 +2,8 @@
 use Rattle.std.proofs.Common.{◌≡◌, ℕ, Bool, ◌==◌, List, [], ◌∷◌, length, Option, None, refl, ap, ◌∙◌, sym, Box, Vec}
 use Rattle.std.proofs.Math.Dec.{eqb-suc-zero}
 use Rattle.std.specs.Global.{Global}
-use Rattle.filt_syntax.specs.declared.ast.Postfix.{Postfix}
-use Rattle.filt_syntax.specs.declared.ast.Postfix.TheVariants as parts
+use Rattle.filt_syntax.specs.declared.ast.Access.{Access}
+use Rattle.filt_syntax.specs.declared.ast.Access.TheVariants as parts
 use Rattle.filt_syntax.specs.declared.ast.Expr.{Expr}
 use Rattle.filt_syntax.specs.declared.ast.Expr.TheVariants as e
 use Rattle.filt_syntax.specs.declared.ast.MulOp.{MulOp}
@@ -30,7 +30,7 @@ module _ {A : Type 0} (w : Expression → Option A) where
   joins none a [] is = is
   joins none a (x ∷ xs) is = joins none (Joined a x.0 (expression_of x.1)) xs (none a (expression_of x.1) x.0)
 
-  dots : ((a : Expression) (p : Property) → w (PropertyOf a p) ≡ None) → ((a b : Expression) (m : Method) (place : ℕ) → w (Changed a m place b) ≡ None) → (a : Expression) (xs : List (Postfix Expr)) → w a ≡ None → w (accessed a (accesses_of xs)) ≡ None
+  dots : ((a : Expression) (p : Property) → w (PropertyOf a p) ≡ None) → ((a b : Expression) (m : Method) (place : ℕ) → w (Changed a m place b) ≡ None) → (a : Expression) (xs : List (Access Expr)) → w a ≡ None → w (accessed a (accesses_of xs)) ≡ None
   dots none other a [] is = is
   dots none other a (parts.Property p ∷ xs) is = dots none other (PropertyOf a p) xs (none a p)
   dots none other a (parts.Method m place x ∷ xs) is = dots none other (Changed a m place (expression_of x)) xs (other a (expression_of x) m place)
@@ -47,7 +47,7 @@ module _ {A : Type 0} (w : Expression → Option A) where
   one_join none a [] = refl
   one_join none a (x ∷ xs) = joins none (Joined a x.0 (expression_of x.1)) xs (none a (expression_of x.1) x.0) ∙ sym (ap (λ (b : Bool). where_alone b (w a)) (eqb-suc-zero (length xs)))
 
-  no_dot : ((a : Expression) (p : Property) → w (PropertyOf a p) ≡ None) → ((a b : Expression) (m : Method) (place : ℕ) → w (Changed a m place b) ≡ None) → (a : Expression) (xs : List (Postfix Expr)) → w (accessed a (accesses_of xs)) ≡ where_alone (length xs == 0) (w a)
+  no_dot : ((a : Expression) (p : Property) → w (PropertyOf a p) ≡ None) → ((a b : Expression) (m : Method) (place : ℕ) → w (Changed a m place b) ≡ None) → (a : Expression) (xs : List (Access Expr)) → w (accessed a (accesses_of xs)) ≡ where_alone (length xs == 0) (w a)
   no_dot none other a [] = refl
   no_dot none other a (parts.Property p ∷ xs) = dots none other (PropertyOf a p) xs (none a p) ∙ sym (ap (λ (b : Bool). where_alone b (w a)) (eqb-suc-zero (length xs)))
   no_dot none other a (parts.Method m place x ∷ xs) = dots none other (Changed a m place (expression_of x)) xs (other a (expression_of x) m place) ∙ sym (ap (λ (b : Bool). where_alone b (w a)) (eqb-suc-zero (length xs)))
@@ -61,5 +61,5 @@ module _ {A : Type 0} (w : Expression → Option A) where
   pub alone-Logical : ((a b : Expression) (op : LogicalOp) → w (Joined a op b) ≡ None) → (a : Box Expr Global) (v : Vec (LogicalOp × Expr) Global) → w (expression_of (e.Logical a v)) ≡ where_alone (v.len == 0) (w (expression_of a.value))
   alone-Logical none a v = ap w (tree.is-Logical a v) ∙ one_join none (expression_of a.value) v.items ∙ ap (λ (n : ℕ). where_alone (n == 0) (w (expression_of a.value))) (vec_length v)
 
-  pub alone-Postfix : ((a : Expression) (p : Property) → w (PropertyOf a p) ≡ None) → ((a b : Expression) (m : Method) (place : ℕ) → w (Changed a m place b) ≡ None) → (a : Box Expr Global) (v : Vec (Postfix Expr) Global) → w (expression_of (e.Postfix a v)) ≡ where_alone (v.len == 0) (w (expression_of a.value))
+  pub alone-Postfix : ((a : Expression) (p : Property) → w (PropertyOf a p) ≡ None) → ((a b : Expression) (m : Method) (place : ℕ) → w (Changed a m place b) ≡ None) → (a : Box Expr Global) (v : Vec (Access Expr) Global) → w (expression_of (e.Postfix a v)) ≡ where_alone (v.len == 0) (w (expression_of a.value))
   alone-Postfix none other a v = ap w (tree.is-Postfix a v) ∙ no_dot none other (expression_of a.value) v.items ∙ ap (λ (n : ℕ). where_alone (n == 0) (w (expression_of a.value))) (vec_length v)

@@ -1,9 +1,9 @@
 -- A number for each expression and each statement that is greater than those of its parts.
 use Rattle.std.proofs.Common.{◌≡◌, ℕ, zero, suc, arith, ◌+◌, ◌<◌, List, [], ◌∷◌, map, length, get_or, Option, Some, None, refl, ap, ◌∙◌, Box, Vec}
 use Rattle.std.specs.Global.{Global}
-use Rattle.grammar.specs.declared.named.Name.{Name}
-use Rattle.filt_syntax.specs.declared.ast.Postfix.{Postfix}
-use Rattle.filt_syntax.specs.declared.ast.Postfix.TheVariants as postfixes
+use Rattle.conf_lex.specs.declared.named.Name.{Name}
+use Rattle.filt_syntax.specs.declared.ast.Access.{Access}
+use Rattle.filt_syntax.specs.declared.ast.Access.TheVariants as accesses
 use Rattle.filt_syntax.specs.declared.ast.Arm.{Arm}
 use Rattle.filt_syntax.specs.declared.ast.CompareOp.{CompareOp}
 use Rattle.filt_syntax.specs.declared.ast.Expr.{Expr, fold-Expr}
@@ -32,9 +32,9 @@ item_below f (y ∷ ys) (suc i) x lt is = let h : f x + 2 < all (map f ys) = ite
 
 -- ---- expressions
 
-abbrev access_step : Postfix ℕ → ℕ
-access_step (postfixes.Property p) = 0
-access_step (postfixes.Method m place n) = n
+abbrev access_step : Access ℕ → ℕ
+access_step (accesses.Property p) = 0
+access_step (accesses.Method m place n) = n
 
 abbrev operand_step : {Op : Type 0} → Op × ℕ → ℕ
 operand_step x = x.1
@@ -58,11 +58,11 @@ cost = fold-Expr ℕ step
 abbrev pub costs : List Expr → ℕ
 costs xs = all (map cost xs)
 
-abbrev pub access_cost : Postfix Expr → ℕ
-access_cost (postfixes.Property p) = 0
-access_cost (postfixes.Method m place x) = cost x
+abbrev pub access_cost : Access Expr → ℕ
+access_cost (accesses.Property p) = 0
+access_cost (accesses.Method m place x) = cost x
 
-abbrev pub accesses_cost : List (Postfix Expr) → ℕ
+abbrev pub accesses_cost : List (Access Expr) → ℕ
 accesses_cost xs = all (map access_cost xs)
 
 abbrev pub operand_cost : {Op : Type 0} → Op × Expr → ℕ
@@ -83,12 +83,12 @@ cost-Pair at a b = o.of-Pair ℕ step at a b
 pub cost-MethodCall : (m : Method) (place : ℕ) (a b : Box Expr Global) → cost (e.MethodCall m place a b) ≡ 6 + cost a.value + cost b.value
 cost-MethodCall m place a b = o.of-MethodCall ℕ step m place a b
 
-one_access : (a : Postfix Expr) → access_step ((former-Expr-Postfix-1-at-4).map Expr ℕ cost a) ≡ access_cost a
-one_access (postfixes.Property p) = refl
-one_access (postfixes.Method m place x) = refl
+one_access : (a : Access Expr) → access_step ((former-Expr-Postfix-1-at-4).map Expr ℕ cost a) ≡ access_cost a
+one_access (accesses.Property p) = refl
+one_access (accesses.Method m place x) = refl
 
-pub cost-Postfix : (a : Box Expr Global) (v : Vec (Postfix Expr) Global) → cost (e.Postfix a v) ≡ 6 + cost a.value + accesses_cost v.items
-cost-Postfix a v = o.of-Postfix ℕ step a v ∙ ap (λ (ns : List ℕ). 6 + cost a.value + all ns) (o.by_parts {B = Postfix ℕ} access_step _ access_cost one_access v.items)
+pub cost-Postfix : (a : Box Expr Global) (v : Vec (Access Expr) Global) → cost (e.Postfix a v) ≡ 6 + cost a.value + accesses_cost v.items
+cost-Postfix a v = o.of-Postfix ℕ step a v ∙ ap (λ (ns : List ℕ). 6 + cost a.value + all ns) (o.by_parts {B = Access ℕ} access_step _ access_cost one_access v.items)
 
 pub cost-Not : (at : ℕ) (a : Box Expr Global) → cost (e.Not at a) ≡ 6 + cost a.value
 cost-Not at a = o.of-Not ℕ step at a

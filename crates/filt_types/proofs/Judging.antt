@@ -2,9 +2,9 @@
 use Rattle.std.proofs.Common.{◌≡◌, ℕ, suc, Bool, true, false, ◌&&◌, ◌==◌, not, if◌then◌else◌, List, [], ◌∷◌, ◌++◌, length, drop, Option, Some, None, refl, ap, ◌∙◌, sym, Box, Vec}
 use Rattle.std.proofs.Math.Dec.{eqb-suc-zero}
 use Rattle.std.specs.Global.{Global}
-use Rattle.grammar.specs.declared.named.Name.{Name}
-use Rattle.filt_syntax.specs.declared.ast.Postfix.{Postfix}
-use Rattle.filt_syntax.specs.declared.ast.Postfix.TheVariants as parts
+use Rattle.conf_lex.specs.declared.named.Name.{Name}
+use Rattle.filt_syntax.specs.declared.ast.Access.{Access}
+use Rattle.filt_syntax.specs.declared.ast.Access.TheVariants as parts
 use Rattle.filt_syntax.specs.declared.ast.CompareOp.{CompareOp}
 use Rattle.filt_syntax.specs.declared.ast.Expr.{Expr}
 use Rattle.filt_syntax.specs.declared.ast.Expr.TheVariants as e
@@ -128,18 +128,18 @@ link_adds seen rule = record {
   first = λ f j x. two_first f j.at rule j (of_expr seen x.1);
 }
 
-abbrev pub reach : Seen → Judgement → Postfix Expr → Judgement
+abbrev pub reach : Seen → Judgement → Access Expr → Judgement
 reach seen j a = with_access (scene_in seen) (variables_in seen) j (access_of a)
 
-reach_said : (seen : Seen) (j : Judgement) (a : Postfix Expr) → said_of (reach seen j a) ≡ said_of (reach seen (bare (said_of j)) a)
+reach_said : (seen : Seen) (j : Judgement) (a : Access Expr) → said_of (reach seen j a) ≡ said_of (reach seen (bare (said_of j)) a)
 reach_said seen j (parts.Property p) = refl
 reach_said seen j (parts.Method m place x) = refl
 
-reach_first : (seen : Seen) (f : Option Refusal) (j : Judgement) (a : Postfix Expr) → first_in f (reach seen j a).refusals ≡ first_in (first_in f j.refusals) (reach seen (bare (said_of j)) a).refusals
+reach_first : (seen : Seen) (f : Option Refusal) (j : Judgement) (a : Access Expr) → first_in f (reach seen j a).refusals ≡ first_in (first_in f j.refusals) (reach seen (bare (said_of j)) a).refusals
 reach_first seen f j (parts.Property p) = one_first f j.at (property p) j
 reach_first seen f j (parts.Method m place x) = two_first f j.at (method m.kind) j (of_expr seen x)
 
-pub reach_adds : (seen : Seen) → Adds {X = Postfix Expr} (reach seen)
+pub reach_adds : (seen : Seen) → Adds {X = Access Expr} (reach seen)
 reach_adds seen = record { said = reach_said seen; first = reach_first seen }
 
 pub product_is : (seen : Seen) (a : Expression) (xs : List (MulOp × Expr)) → judge (scene_in seen) (variables_in seen) (multiplied a (operands_of xs)) ≡ walk (link seen arithmetic) (judge (scene_in seen) (variables_in seen) a) xs
@@ -154,7 +154,7 @@ pub joint_is : (seen : Seen) (a : Expression) (xs : List (LogicalOp × Expr)) �
 joint_is seen a [] = refl
 joint_is seen a (x ∷ xs) = joint_is seen (Joined a x.0 (expression_of x.1)) xs
 
-pub access_is : (seen : Seen) (a : Expression) (xs : List (Postfix Expr)) → judge (scene_in seen) (variables_in seen) (accessed a (accesses_of xs)) ≡ walk (reach seen) (judge (scene_in seen) (variables_in seen) a) xs
+pub access_is : (seen : Seen) (a : Expression) (xs : List (Access Expr)) → judge (scene_in seen) (variables_in seen) (accessed a (accesses_of xs)) ≡ walk (reach seen) (judge (scene_in seen) (variables_in seen) a) xs
 access_is seen a [] = refl
 access_is seen a (parts.Property p ∷ xs) = access_is seen (PropertyOf a p) xs
 access_is seen a (parts.Method m place x ∷ xs) = access_is seen (Changed a m place (expression_of x)) xs

@@ -2,11 +2,11 @@
 -- statement that each variant is.
 use Rattle.std.proofs.Common.{◌≡◌, ℕ, List, [], ◌∷◌, map, Option, Some, None, option_map, refl, ap, ◌∙◌, rules, Box, Vec}
 use Rattle.std.specs.Global.{Global}
-use Rattle.grammar.specs.declared.named.Name.{Name}
-use Rattle.filt_syntax.specs.declared.ast.Postfix.{Postfix}
-use Rattle.filt_syntax.specs.declared.ast.Postfix.TheVariants as postfixes
+use Rattle.conf_lex.specs.declared.named.Name.{Name}
+use Rattle.filt_syntax.specs.declared.ast.Access.{Access}
+use Rattle.filt_syntax.specs.declared.ast.Access.TheVariants as accesses
 use Rattle.filt_syntax.specs.declared.ast.Arm.{Arm}
-use Rattle.filt_syntax.specs.declared.ast.Attribute.{Attribute}
+use Rattle.conf_lex.specs.declared.attribute.Attribute.{Attribute}
 use Rattle.filt_syntax.specs.declared.ast.Change.{Change}
 use Rattle.filt_syntax.specs.declared.ast.CompareOp.{CompareOp}
 use Rattle.filt_syntax.specs.declared.ast.Expr.{Expr, fold-Expr, the_lemmas as expr_lemmas}
@@ -63,7 +63,7 @@ of-Defined A step at place attribute_at a = search (rules, expr_lemmas)
 pub of-MethodCall : (A : Type 0) (step : Expr-F A → A) (m : Method) (place : ℕ) (a b : Box Expr Global) → fold-Expr A step (e.MethodCall m place a b) ≡ step (map-Expr Expr A (fold-Expr A step) (Expr-F.MethodCall m place a b))
 of-MethodCall A step m place a b = search (rules, expr_lemmas)
 
-pub of-Postfix : (A : Type 0) (step : Expr-F A → A) (a : Box Expr Global) (v : Vec (Postfix Expr) Global) → fold-Expr A step (e.Postfix a v) ≡ step (map-Expr Expr A (fold-Expr A step) (Expr-F.Postfix a v))
+pub of-Postfix : (A : Type 0) (step : Expr-F A → A) (a : Box Expr Global) (v : Vec (Access Expr) Global) → fold-Expr A step (e.Postfix a v) ≡ step (map-Expr Expr A (fold-Expr A step) (Expr-F.Postfix a v))
 of-Postfix A step a v = search (rules, expr_lemmas)
 
 pub of-Not : (A : Type 0) (step : Expr-F A → A) (at : ℕ) (a : Box Expr Global) → fold-Expr A step (e.Not at a) ≡ step (map-Expr Expr A (fold-Expr A step) (Expr-F.Not at a))
@@ -139,11 +139,11 @@ pub all_statements : (xs : List Stmt) → statements (map statement_of xs) ≡ s
 all_statements [] = refl
 all_statements (x ∷ xs) = ap (λ (ss : Statements). AndStatements (statement_of x) ss) (all_statements xs)
 
-access_made : (a : Postfix Expr) → (former-Expr-Postfix-1-at-4).map Expr Expression expression_of a ≡ access_of a
-access_made (postfixes.Property p) = refl
-access_made (postfixes.Method m place x) = refl
+access_made : (a : Access Expr) → (former-Expr-Postfix-1-at-4).map Expr Expression expression_of a ≡ access_of a
+access_made (accesses.Property p) = refl
+access_made (accesses.Method m place x) = refl
 
-all_accesses : (xs : List (Postfix Expr)) → map ((former-Expr-Postfix-1-at-4).map Expr Expression expression_of) xs ≡ accesses_of xs
+all_accesses : (xs : List (Access Expr)) → map ((former-Expr-Postfix-1-at-4).map Expr Expression expression_of) xs ≡ accesses_of xs
 all_accesses [] = refl
 all_accesses (x ∷ xs) = rw (access_made x, all_accesses xs) refl
 
@@ -180,8 +180,8 @@ is-Defined at place attribute_at a = of-Defined Expression expression_step at pl
 pub is-MethodCall : (m : Method) (place : ℕ) (a b : Box Expr Global) → expression_of (e.MethodCall m place a b) ≡ MethodOf m place (expression_of a.value) (expression_of b.value)
 is-MethodCall m place a b = of-MethodCall Expression expression_step m place a b
 
-pub is-Postfix : (a : Box Expr Global) (v : Vec (Postfix Expr) Global) → expression_of (e.Postfix a v) ≡ accessed (expression_of a.value) (accesses_of v.items)
-is-Postfix a v = of-Postfix Expression expression_step a v ∙ ap (λ (more : List (Postfix Expression)). accessed (expression_of a.value) more) (all_accesses v.items)
+pub is-Postfix : (a : Box Expr Global) (v : Vec (Access Expr) Global) → expression_of (e.Postfix a v) ≡ accessed (expression_of a.value) (accesses_of v.items)
+is-Postfix a v = of-Postfix Expression expression_step a v ∙ ap (λ (more : List (Access Expression)). accessed (expression_of a.value) more) (all_accesses v.items)
 
 pub is-Not : (at : ℕ) (a : Box Expr Global) → expression_of (e.Not at a) ≡ Negated at (expression_of a.value)
 is-Not at a = of-Not Expression expression_step at a

@@ -1,12 +1,12 @@
 -- Which sorts the places of a form take, by the sorts that its operator takes.
 use Rattle.std.specs.Prelude.{Bool, true, false, ◌&&◌, List, [], ◌∷◌}
 use Rattle.std.specs.List.{list_any}
-use Rattle.filt_syntax.specs.declared.ast.Attribute.{Attribute}
-use Rattle.filt_syntax.specs.declared.ast.Attribute.TheVariants as attributes
+use Rattle.conf_lex.specs.declared.attribute.Attribute.{Attribute}
+use Rattle.conf_lex.specs.declared.attribute.Attribute.TheVariants as attributes
 use Rattle.filt_syntax.specs.declared.ast.CompareOp.{CompareOp}
 use Rattle.filt_syntax.specs.declared.ast.CompareOp.TheVariants as compare_ops
-use Rattle.filt_syntax.specs.declared.ast.Constant.{Constant}
-use Rattle.filt_syntax.specs.declared.ast.Constant.TheVariants as constants
+use Rattle.conf_lex.specs.declared.attribute.Constant.{Constant}
+use Rattle.conf_lex.specs.declared.attribute.Constant.TheVariants as constants
 use Rattle.filt_syntax.specs.declared.ast.MethodKind.{MethodKind}
 use Rattle.filt_syntax.specs.declared.ast.MethodKind.TheVariants as methods
 use Rattle.filt_syntax.specs.declared.ast.Property.{Property}

@@ -3,8 +3,8 @@
 use Rattle.std.specs.Prelude.{ℕ, Bool, false, not, ◌==◌, List, [], ◌∷◌, ◌++◌, map, length}
 use Rattle.std.specs.Prelude.{if◌then◌else◌, option_map, Option, Some, None}
 use Rattle.std.specs.Borrow.{Bor}
-use Rattle.filt_syntax.specs.declared.ast.Postfix.{Postfix}
-use Rattle.filt_syntax.specs.declared.ast.Postfix.TheVariants as postfixes
+use Rattle.filt_syntax.specs.declared.ast.Access.{Access}
+use Rattle.filt_syntax.specs.declared.ast.Access.TheVariants as accesses
 use Rattle.filt_syntax.specs.declared.ast.Arm.{Arm}
 use Rattle.filt_syntax.specs.declared.ast.Expr.{Expr}
 use Rattle.filt_syntax.specs.declared.ast.Stmt.{Stmt}
@@ -75,11 +75,11 @@ rule_of_one (singles.Property p) = property p
 
 -- ---- parts of chains and cases
 
-abbrev pub access_of : Postfix Expr → Postfix Expression
-access_of (postfixes.Property p) = postfixes.Property p
-access_of (postfixes.Method m place e) = postfixes.Method m place (expression_of e)
+abbrev pub access_of : Access Expr → Access Expression
+access_of (accesses.Property p) = accesses.Property p
+access_of (accesses.Method m place e) = accesses.Method m place (expression_of e)
 
-abbrev pub accesses_of : List (Postfix Expr) → List (Postfix Expression)
+abbrev pub accesses_of : List (Access Expr) → List (Access Expression)
 accesses_of = map access_of
 
 -- an operator and the expression behind it
@@ -95,9 +95,9 @@ arms_of [] = NoArms
 arms_of (a ∷ more) = AndArms a.labels.items (statements_of a.body.items) (arms_of more)
 
 -- an operand with one thing more behind a dot
-abbrev pub with_access : Scene → Variables → Judgement → Postfix Expression → Judgement
-with_access scene vs j (postfixes.Property p) = of_one j.at (property p) j
-with_access scene vs j (postfixes.Method m place e) = between (method m.kind) j (judge scene vs e)
+abbrev pub with_access : Scene → Variables → Judgement → Access Expression → Judgement
+with_access scene vs j (accesses.Property p) = of_one j.at (property p) j
+with_access scene vs j (accesses.Method m place e) = between (method m.kind) j (judge scene vs e)
 
 -- what a chain with one part is, where there is one alone
 abbrev pub where_alone : {A : Type 0} → Bool → Option A → Option A

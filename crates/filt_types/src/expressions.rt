@@ -22,10 +22,10 @@ use crate::refusal::{Cause, Refusal, note, note_if};
 use crate::rules::{Operator, Single, is, of_one, of_two, want_left, want_right};
 use crate::scene::{Seen, constant_named, function_named, variable_named};
 use crate::words::{and_known, mask, named, plain, set, sound};
-use filt_syntax::ast::{AddOp, Atom, Constant, Expr, LogicalOp, Method, MulOp, Postfix};
+use conf_lex::Name;
+use filt_syntax::ast::{Access, AddOp, Atom, Constant, Expr, LogicalOp, Method, MulOp};
 use filt_tree::TFunction;
 use filt_values::Sort;
-use grammar::Name;
 
 /// The judgement of an expression. It keeps the first of what is refused in it.
 #[cycle(expressions)]
@@ -193,7 +193,7 @@ fn joints(
 fn accesses(
     seen: Seen<'_>,
     operand: &Expr,
-    more: &[Postfix<Expr>],
+    more: &[Access<Expr>],
     first: &mut Option<Refusal>,
 ) -> Judged
     ensures judged { result
@@ -214,7 +214,7 @@ fn accesses(
 fn access(
     seen: Seen<'_>,
     operand: Judged,
-    part: &Postfix<Expr>,
+    part: &Access<Expr>,
     first: &mut Option<Refusal>,
 ) -> Judged
     ensures judged { result
@@ -225,10 +225,10 @@ fn access(
         (bare operand) (access_of part.now)).refusals }
 {
     match part {
-        Postfix::Property(property) => {
+        Access::Property(property) => {
             of_one(operand.at, Single::Property(*property), operand, first)
         }
-        Postfix::Method {
+        Access::Method {
             method,
             argument,
             ..

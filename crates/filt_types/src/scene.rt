@@ -6,9 +6,9 @@ ghost use Rattle.filt_types.specs.Refusals.{first_in};
 ghost use Rattle.filt_types.specs.Seen.{variable_seen, signature_of, scene_in, variables_in};
 
 use crate::refusal::{Cause, Refusal, note_if};
+use conf_lex::Name;
 use filt_tree::{Scope, TFunction};
 use filt_values::{Fixed, Sort};
-use grammar::Name;
 
 /// A variable: its name, the sort of its values, and whether it is a loop's, which can't be
 /// assigned to.

@@ -15,9 +15,9 @@ use crate::judged::Judged;
 use crate::refusal::{Cause, Refusal, note, note_if};
 use crate::rules::sort_if;
 use crate::scene::{Seen, constant_named, variable_named};
+use conf_lex::Name;
 use filt_syntax::ast::{Atom, Attribute, Constant, Item, MaskItem};
 use filt_values::Sort;
-use grammar::Name;
 
 pub(crate) fn sound(at: usize, sort: Sort) -> Judged
     ensures { result ≡ said_of (expressions.sound at sort) }

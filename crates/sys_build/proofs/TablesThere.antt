@@ -4,8 +4,8 @@ use Rattle.std.specs.Prelude.{⊤, slice_get, if◌then◌else◌, not}
 use Rattle.std.proofs.lemmas.Option.{none-some, same_Some}
 use Rattle.bits_ip.specs.declared.address.Family.{Family}
 use Rattle.bits_ip.specs.declared.address.Family.TheVariants as families
-use Rattle.grammar.specs.declared.named.Name.{Name}
-use Rattle.grammar.specs.Names.{name_bytes}
+use Rattle.conf_lex.specs.declared.named.Name.{Name}
+use Rattle.conf_lex.specs.Names.{name_bytes}
 use Rattle.conf_tree.specs.declared.kind.ConfKind.{ConfKind}
 use Rattle.conf_tree.specs.declared.ast.Limit.TheVariants as limits
 use Rattle.conf_ast.specs.Configurations as conf

@@ -7,7 +7,7 @@ use Rattle.bits_ip.specs.Prefix.{Net}
 use Rattle.bits_ip.specs.declared.address.Addr.{Addr}
 use Rattle.bits_ip.specs.declared.address.Addr.TheVariants as addrs
 use Rattle.bits_ip.specs.declared.address.Family.{Family}
-use Rattle.grammar.specs.declared.named.Name.{Name}
+use Rattle.conf_lex.specs.declared.named.Name.{Name}
 use Rattle.conf_ast.specs.Configurations as conf
 use Rattle.conf_ast.specs.Configurations.{BgpSetting, FamilyChannel, Instance, Passing, PassAll, PassNone, PassByFilter, PassByBlock, PassWhere, PipeSetting, StaticSetting}
 use Rattle.conf_ast.specs.Filters.{Statements}

@@ -1,5 +1,5 @@
 use Rattle.std.proofs.Common.{List, ℕ, Option, ap, subst, sym, ◌∙◌}
-use Rattle.grammar.specs.declared.named.Name.{Name}
+use Rattle.conf_lex.specs.declared.named.Name.{Name}
 use Rattle.conf_rules.specs.Seen.{known_of}
 use Rattle.conf_check.specs.Checked.{IsPeer, table_number}
 use Rattle.conf_check.proofs.pipe.peer.Goals as goal

@@ -6,7 +6,7 @@ use Rattle.filt_tree.specs.Scopes.{constants_in}
 use Rattle.filt_values.specs.declared.fixed.Fixed.{Fixed}
 use Rattle.filt_values.specs.Seen.{val_of_fixed}
 use Rattle.conf_rules.specs.Seen.{known_of}
-use Rattle.grammar.specs.Names.{name_bytes}
+use Rattle.conf_lex.specs.Names.{name_bytes}
 use Rattle.conf_check.proofs.Allowed.{define_free, is_free}
 use Rattle.conf_check.proofs.Growing.{constant_declares, nothing_defined}
 use Rattle.conf_check.proofs.statements.define.Goals as goal

@@ -2,10 +2,10 @@ use Rattle.conf_lex.proofs.Spelled.{find_here, find_next, find_none}
 use Rattle.conf_lex.proofs.keywords.find.Goals as goal
 
 pub returns-then-eq : goal.returns-then-eq
-returns-then-eq c = find_here c.args.table.now c.loop-entry.entry-index _ c.args.bytes.now c.loop-entry-test.true c.if-eq.ensures c.loop-entry.invariant
+returns-then-eq g c = find_here c.args.table.now c.loop-entry.entry-index c.entry-item.result c.args.bytes.now c.entry-item.is c.loop-entry-test.true c.if-eq.ensures c.loop-entry.invariant
 
 pub loop-entry-preserved : goal.loop-entry-preserved
-loop-entry-preserved c = find_next c.args.table.now c.loop-entry.entry-index _ c.args.bytes.now c.loop-entry-test.true c.if-eq.ensures c.loop-entry.invariant
+loop-entry-preserved g c = find_next c.args.table.now c.loop-entry.entry-index c.entry-item.result c.args.bytes.now c.entry-item.is c.loop-entry-test.true c.if-eq.ensures c.loop-entry.invariant
 
 pub returns : goal.returns
-returns c = find_none c.args.table.now c.loop-entry.entry-index c.args.bytes.now c.loop-entry-test.false c.loop-entry.invariant
+returns g c = find_none c.args.table.now c.loop-entry.entry-index c.args.bytes.now c.loop-entry-test.false c.loop-entry.invariant

@@ -1,5 +1,5 @@
 use Rattle.std.proofs.Common.{◌<◌, ℕ, length, Contains}
-use Rattle.grammar.specs.Grammar.{yield}
+use Rattle.conf_lex.specs.Grammar.{yield}
 use Rattle.conf_tree.specs.View.{statement_tree}
 use Rattle.conf_ast.specs.Configurations.{Declaration, configuration_of, declaration_of}
 use Rattle.conf_places.specs.Configurations.{places}

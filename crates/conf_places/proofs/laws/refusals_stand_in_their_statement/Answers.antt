@@ -2,7 +2,7 @@ use Rattle.conf_rules.specs.Statements.{refusals}
 use Rattle.conf_rules.specs.declared.refusal.Refusal.{Refusal}
 use Rattle.std.proofs.Common.{Contains}
 use Rattle.conf_places.specs.Configurations.{places}
-use Rattle.grammar.specs.Grammar.{yield}
+use Rattle.conf_lex.specs.Grammar.{yield}
 use Rattle.conf_tree.specs.View.{statement_tree}
 use Rattle.conf_ast.specs.Configurations.{declaration_of}
 use Rattle.conf_places.specs.Words.{of_words}

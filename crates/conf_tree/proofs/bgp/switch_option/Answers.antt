@@ -1,4 +1,4 @@
-use Rattle.grammar.proofs.Shapes.{gives_along}
+use Rattle.conf_lex.proofs.PartShapes.{gives_along}
 use Rattle.conf_tree.specs.View.{bgp_option_tree}
 use Rattle.conf_tree.proofs.BgpSteps.{med_is, interpret_is, bgp_transport}
 use Rattle.conf_tree.proofs.bgp.switch_option.Goals as goal

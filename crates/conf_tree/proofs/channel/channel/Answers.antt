@@ -1,4 +1,4 @@
-use Rattle.grammar.proofs.Shapes.{gives_along}
+use Rattle.conf_lex.proofs.PartShapes.{gives_along}
 use Rattle.conf_tree.specs.View.{channel_tree}
 use Rattle.conf_tree.proofs.ChannelSteps.{channel_braces, channel_alone}
 use Rattle.conf_tree.proofs.channel.channel.Goals as goal

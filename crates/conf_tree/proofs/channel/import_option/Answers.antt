@@ -1,4 +1,4 @@
-use Rattle.grammar.proofs.Shapes.{gives_along}
+use Rattle.conf_lex.proofs.PartShapes.{gives_along}
 use Rattle.conf_tree.specs.View.{channel_option_tree}
 use Rattle.conf_tree.proofs.ChannelSteps.{import_limit, import_policy}
 use Rattle.conf_tree.proofs.channel.import_option.Goals as goal

@@ -1,6 +1,6 @@
 use Rattle.std.proofs.Common.{◌≡◌, [], refl, rules}
 use Rattle.std.proofs.lemmas.Result.{err_from_is_err_and}
-use Rattle.grammar.proofs.Shapes.{fails_then}
+use Rattle.conf_lex.proofs.PartShapes.{fails_then}
 use Rattle.conf_tree.proofs.FunctionSteps.{parameters_none, parameters_some, parameters_fail}
 use Rattle.conf_tree.proofs.function.parameters.Goals as goal
 

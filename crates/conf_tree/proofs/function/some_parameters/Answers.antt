@@ -2,7 +2,7 @@ use Rattle.std.proofs.Common.{◌≡◌, List, [], ◌∷◌, ◌++◌, length, 
 use Rattle.std.proofs.lemmas.Result.{err_from_is_err_and}
 use Rattle.std.proofs.lemmas.List.{length-append}
 use Rattle.conf_lex.specs.declared.word.Word.{Word}
-use Rattle.grammar.specs.Grammar.{ParseTree}
+use Rattle.conf_lex.specs.Grammar.{ParseTree}
 use Rattle.conf_tree.specs.View.{parameter_tree}
 use Rattle.conf_tree.proofs.FunctionSteps.{some_first, some_first_fails, parameter_shorter, parameter_row_at, row_more, row_fails, row_end, row_of, row_one, row_tree_is, one_more_parameter}
 use Rattle.conf_tree.proofs.function.some_parameters.Goals as goal

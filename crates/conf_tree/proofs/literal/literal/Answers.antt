@@ -1,4 +1,4 @@
-use Rattle.grammar.proofs.Shapes.{gives_along}
+use Rattle.conf_lex.proofs.PartShapes.{gives_along}
 use Rattle.conf_tree.specs.View.{literal_tree}
 use Rattle.conf_tree.proofs.LiteralSteps.{more_levels, pair_is, mask_is, literal_bad}
 use Rattle.conf_tree.proofs.literal.literal.Goals as goal

@@ -1,6 +1,6 @@
 use Rattle.std.proofs.Common.{sym as flip, ap, ◌∙◌}
-use Rattle.grammar.specs.Grammar.{ParseTree}
-use Rattle.grammar.specs.Reading.{Parsed}
+use Rattle.conf_lex.specs.Grammar.{ParseTree}
+use Rattle.conf_lex.specs.Reading.{Parsed}
 use Rattle.conf_tree.proofs.LiteralSteps.{value_passes, value_read}
 use Rattle.conf_tree.proofs.literal.next_value.Goals as goal
 

@@ -2,7 +2,7 @@ use Rattle.std.proofs.Common.{refl, ◌∙◌}
 use Rattle.conf_lex.specs.declared.symbol.Symbol.TheVariants as sym
 use Rattle.conf_lex.specs.declared.word.Word.TheVariants as words
 use Rattle.std.proofs.lemmas.Result.{err_from_is_err_and}
-use Rattle.grammar.proofs.Shapes.{fails_then, closed_got, closed_inside_fails, closed_end_fails}
+use Rattle.conf_lex.proofs.PartShapes.{fails_then, closed_got, closed_inside_fails, closed_end_fails}
 use Rattle.filt_syntax.specs.ItemReaders.{items_at}
 use Rattle.conf_tree.proofs.LiteralSteps.{set_deep, set_is}
 use Rattle.conf_tree.proofs.literal.set.Goals as goal

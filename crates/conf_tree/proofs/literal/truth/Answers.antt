@@ -3,8 +3,8 @@ use Rattle.conf_lex.specs.declared.symbol.Symbol.{Symbol}
 use Rattle.conf_lex.specs.declared.symbol.Symbol.TheVariants as sym
 use Rattle.conf_lex.specs.declared.word.Word.TheVariants as words
 use Rattle.conf_lex.specs.Symbols.{is_placed}
-use Rattle.grammar.specs.Grammar.{begins}
-use Rattle.grammar.proofs.Symbols.{other_symbol}
+use Rattle.conf_lex.specs.Grammar.{begins}
+use Rattle.conf_lex.proofs.Symbols.{other_symbol}
 use Rattle.conf_tree.specs.Syntax.{is_value}
 use Rattle.conf_tree.proofs.literal.truth.Goals as goal
 

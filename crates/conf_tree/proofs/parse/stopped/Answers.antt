@@ -1,6 +1,6 @@
 use Rattle.std.proofs.Common.{◌≤◌, List, length, take, drop, IsSomeAnd, arith, sym, ap, subst, ◌∙◌}
 use Rattle.conf_lex.specs.declared.word.Word.{Word}
-use Rattle.grammar.specs.Sentences.{IsBegunWithin}
+use Rattle.conf_lex.specs.Sentences.{IsBegunWithin}
 use Rattle.filt_syntax.specs.Syntax.{rule}
 use Rattle.conf_tree.specs.Syntax.{config}
 use Rattle.conf_tree.specs.Sentence.{word_bytes, IsUnsupported, Refuses}

@@ -1,4 +1,4 @@
-use Rattle.grammar.proofs.Shapes.{gives_along}
+use Rattle.conf_lex.proofs.PartShapes.{gives_along}
 use Rattle.conf_tree.specs.View.{policy_tree}
 use Rattle.conf_tree.proofs.PolicySteps.{policy_named, policy_block}
 use Rattle.conf_tree.proofs.policy.filter_policy.Goals as goal

@@ -1,4 +1,4 @@
-use Rattle.grammar.proofs.Shapes.{gives_along}
+use Rattle.conf_lex.proofs.PartShapes.{gives_along}
 use Rattle.conf_tree.specs.View.{policy_tree}
 use Rattle.conf_tree.proofs.PolicySteps.{policy_all, policy_none, policy_where}
 use Rattle.conf_tree.proofs.policy.policy.Goals as goal

@@ -1,6 +1,6 @@
 use Rattle.std.proofs.Common.{refl}
 use Rattle.std.proofs.lemmas.Result.{err_from_is_err_and}
-use Rattle.grammar.proofs.Shapes.{fails_then}
+use Rattle.conf_lex.proofs.PartShapes.{fails_then}
 use Rattle.conf_tree.proofs.policy.where_policy.Goals as goal
 
 pub returns-in_err-at : goal.returns-in_err-at

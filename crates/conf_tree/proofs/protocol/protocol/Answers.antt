@@ -1,4 +1,4 @@
-use Rattle.grammar.proofs.Shapes.{gives_along}
+use Rattle.conf_lex.proofs.PartShapes.{gives_along}
 use Rattle.conf_tree.specs.View.{statement_tree}
 use Rattle.conf_tree.proofs.ProtocolSteps.{device_is, statement_static, statement_bgp, statement_pipe, protocol_bad}
 use Rattle.conf_tree.proofs.protocol.protocol.Goals as goal

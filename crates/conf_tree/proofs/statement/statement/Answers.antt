@@ -1,4 +1,4 @@
-use Rattle.grammar.proofs.Shapes.{gives_along}
+use Rattle.conf_lex.proofs.PartShapes.{gives_along}
 use Rattle.conf_tree.specs.View.{statement_tree}
 use Rattle.conf_tree.proofs.ConfigSteps.{router_is, log_is, define_is, function_is, filter_is}
 use Rattle.conf_tree.proofs.statement.statement.Goals as goal

@@ -1,4 +1,4 @@
-use Rattle.grammar.proofs.Shapes.{gives_along}
+use Rattle.conf_lex.proofs.PartShapes.{gives_along}
 use Rattle.conf_tree.specs.View.{statement_tree}
 use Rattle.conf_tree.proofs.ConfigSteps.{table_is, statement_bad}
 use Rattle.conf_tree.proofs.statement.table.Goals as goal

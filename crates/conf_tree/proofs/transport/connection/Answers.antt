@@ -1,4 +1,4 @@
-use Rattle.grammar.proofs.Shapes.{gives_along}
+use Rattle.conf_lex.proofs.PartShapes.{gives_along}
 use Rattle.std.proofs.Common.{refl, ◌∙◌}
 use Rattle.conf_tree.specs.View.{transport_tree}
 use Rattle.conf_tree.proofs.TransportSteps.{connect_is, multihop_is, direct_is, passive_is}

@@ -1,4 +1,4 @@
-use Rattle.grammar.proofs.Shapes.{gives_along}
+use Rattle.conf_lex.proofs.PartShapes.{gives_along}
 use Rattle.conf_tree.specs.View.{transport_tree}
 use Rattle.conf_tree.proofs.TransportSteps.{description_is, password_is, source_is, hold_is, keepalive_is}
 use Rattle.conf_tree.proofs.transport.transport.Goals as goal
@@ -11,9 +11,9 @@ pub returns-in-Some-after : goal.returns-in-Some-after
 returns-in-Some-after c =
     gives_along transport_tree _ _ _ (password_is c.args.words.now c.in-Some-after.rest.now c.in-Some-after.ensures) c.password.ensures
 
-pub returns-in-Some-after_placed : goal.returns-in-Some-after_placed
-returns-in-Some-after_placed c =
-    gives_along transport_tree _ _ _ (source_is c.in-Some-after_placed.at c.args.words.now c.in-Some-after_placed.rest.now c.in-Some-after_placed.ensures) c.source_address.ensures
+pub returns-in-Some-after_attribute : goal.returns-in-Some-after_attribute
+returns-in-Some-after_attribute c =
+    gives_along transport_tree _ _ _ (source_is c.in-Some-after_attribute.at c.args.words.now c.in-Some-after_attribute.rest.now c.in-Some-after_attribute.ensures) c.source_address.ensures
 
 pub returns-in-Some-after-2 : goal.returns-in-Some-after-2
 returns-in-Some-after-2 c =

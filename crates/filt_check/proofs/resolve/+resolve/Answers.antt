@@ -1,5 +1,5 @@
 use Rattle.std.proofs.Common.{◌+◌, ◌∙◌, arith, List, drop, ap}
-use Rattle.filt_syntax.specs.declared.ast.Postfix.{Postfix}
+use Rattle.filt_syntax.specs.declared.ast.Access.{Access}
 use Rattle.filt_syntax.specs.declared.ast.Expr.{Expr}
 use Rattle.filt_syntax.specs.declared.ast.MulOp.{MulOp}
 use Rattle.filt_syntax.specs.declared.ast.LogicalOp.{LogicalOp}
@@ -88,7 +88,7 @@ pub resolve-boxed-requires : goal.resolve-boxed-requires
 resolve-boxed-requires t c = (omega (arith, ap (λ (x : Expr). k.cost x) c.in-Not.is, k.cost-Not c.in-Not.at c.in-Not.operand, ap (λ (x : Expr). k.cost x) c.deref-in-Not.ensures), tt)
 
 pub resolve-access-requires : goal.resolve-access-requires
-resolve-access-requires t c = (omega (arith, ap (λ (x : Expr). k.cost x) c.in-Postfix.is, k.cost-Postfix c.in-Postfix.operand c.in-Postfix.more, ap (λ (x : Expr). k.cost x) c.deref-in-Postfix.ensures, ap (λ (xs : List (Postfix Expr)). k.accesses_cost xs) c.deref-in-Postfix-2.ensures.value), tt)
+resolve-access-requires t c = (omega (arith, ap (λ (x : Expr). k.cost x) c.in-Postfix.is, k.cost-Postfix c.in-Postfix.operand c.in-Postfix.more, ap (λ (x : Expr). k.cost x) c.deref-in-Postfix.ensures, ap (λ (xs : List (Access Expr)). k.accesses_cost xs) c.deref-in-Postfix-2.ensures.value), tt)
 
 pub resolve-product-requires : goal.resolve-product-requires
 resolve-product-requires t c = (omega (arith, ap (λ (x : Expr). k.cost x) c.in-Product.is, k.cost-Product c.in-Product.operand c.in-Product.more, ap (λ (x : Expr). k.cost x) c.deref-in-Product.ensures, ap (λ (xs : List (MulOp × Expr)). k.operands_cost xs) c.deref-in-Product-2.ensures.value), tt)

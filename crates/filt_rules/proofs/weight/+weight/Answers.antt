@@ -1,5 +1,5 @@
 use Rattle.std.proofs.Common.{arith, List, ap, ◌∙◌}
-use Rattle.filt_syntax.specs.declared.ast.Postfix.{Postfix}
+use Rattle.filt_syntax.specs.declared.ast.Access.{Access}
 use Rattle.filt_syntax.specs.declared.ast.Expr.{Expr}
 use Rattle.filt_syntax.specs.declared.ast.MulOp.{MulOp}
 use Rattle.filt_syntax.specs.declared.ast.LogicalOp.{LogicalOp}
@@ -13,7 +13,7 @@ use Rattle.filt_rules.proofs.Weighing as g
 use Rattle.filt_rules.proofs.weight.+weight.Goals as goal
 
 pub weigh-weigh_accesses-requires : goal.weigh-weigh_accesses-requires
-weigh-weigh_accesses-requires t c = (omega (arith, ap k.cost c.in-Postfix.is, k.cost-Postfix c.in-Postfix.operand c.in-Postfix.more, ap k.cost c.deref-in-Postfix.ensures, ap (λ (xs : List (Postfix Expr)). k.accesses_cost xs) c.deref-in-Postfix-2.ensures.value), tt)
+weigh-weigh_accesses-requires t c = (omega (arith, ap k.cost c.in-Postfix.is, k.cost-Postfix c.in-Postfix.operand c.in-Postfix.more, ap k.cost c.deref-in-Postfix.ensures, ap (λ (xs : List (Access Expr)). k.accesses_cost xs) c.deref-in-Postfix-2.ensures.value), tt)
 
 pub weigh-weigh_factors-requires : goal.weigh-weigh_factors-requires
 weigh-weigh_factors-requires t c = (omega (arith, ap k.cost c.in-Product.is, k.cost-Product c.in-Product.operand c.in-Product.more, ap k.cost c.deref-in-Product.ensures, ap (λ (xs : List (MulOp × Expr)). k.operands_cost xs) c.deref-in-Product-2.ensures.value), tt)

@@ -1,7 +1,7 @@
 use Rattle.std.proofs.lemmas.Result.{err_from_is_err_and}
-use Rattle.grammar.specs.Grammar.{TooDeep}
-use Rattle.grammar.specs.Reading.{Failed}
-use Rattle.grammar.proofs.Shapes.{fails_along}
+use Rattle.conf_lex.specs.Grammar.{TooDeep}
+use Rattle.conf_lex.specs.Reading.{Failed}
+use Rattle.conf_lex.proofs.PartShapes.{fails_along}
 use Rattle.filt_syntax.specs.Readers.{opened_at}
 use Rattle.filt_syntax.proofs.Steps.{opened_bad, opened_deep}
 use Rattle.filt_syntax.proofs.bracket.open.Goals as goal

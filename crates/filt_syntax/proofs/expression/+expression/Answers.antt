@@ -4,19 +4,20 @@ use Rattle.std.proofs.lemmas.List.{length-append}
 use Rattle.conf_lex.specs.declared.symbol.Symbol.TheVariants as symbols
 use Rattle.conf_lex.specs.declared.word.Word.{Word}
 use Rattle.conf_lex.specs.declared.word.Word.TheVariants as words
-use Rattle.grammar.specs.Grammar.{ParseTree, Left, Single, begins}
-use Rattle.grammar.specs.Kind.{Kind, kind_of, symbol}
-use Rattle.grammar.specs.Reading.{Read, Parsed, and_then}
-use Rattle.grammar.specs.Shapes.{links}
-use Rattle.grammar.proofs.Shapes.{fails_along, fails_then, gives_along, links_more, links_fail, links_end, optional_alone, optional_pair, optional_first_fails, optional_second_fails}
+use Rattle.conf_lex.specs.Grammar.{ParseTree, Left, Single, begins}
+use Rattle.conf_lex.specs.Kind.{Kind, kind_of, symbol}
+use Rattle.conf_lex.specs.Reading.{Read, Parsed, and_then}
+use Rattle.conf_lex.specs.PartShapes.{links}
+use Rattle.conf_lex.proofs.PartShapes.{fails_along, fails_then, gives_along, links_more, links_fail, links_end, optional_alone, optional_pair, optional_first_fails, optional_second_fails}
 use Rattle.filt_syntax.specs.declared.ast.Expr.{Expr}
-use Rattle.filt_syntax.specs.declared.ast.Postfix.{Postfix}
+use Rattle.filt_syntax.specs.declared.ast.Access.{Access}
 use Rattle.filt_syntax.specs.declared.ast.MulOp.{MulOp}
 use Rattle.filt_syntax.specs.declared.ast.AddOp.{AddOp}
 use Rattle.filt_syntax.specs.declared.ast.LogicalOp.{LogicalOp}
 use Rattle.filt_syntax.specs.Syntax.{is_compare_op, is_add_op, is_mul_op, is_logical_op}
 use Rattle.filt_syntax.specs.Levels.{group_level, arguments_level, argument_level, two_level}
-use Rattle.filt_syntax.specs.View.{derivations, parts_after, access_of, mul_op_of, add_op_of, logical_op_of, listed_tree, expr_trees, compare_op_symbol, add_op_symbol, mul_op_symbol, logical_op_symbol}
+use Rattle.filt_syntax.specs.View.{derivations, parts_after, listed_tree, expr_trees, compare_op_symbol, add_op_symbol, mul_op_symbol, logical_op_symbol}
+use Rattle.filt_syntax.specs.Inside.{access_of, mul_op_of, add_op_of, logical_op_of}
 use Rattle.filt_syntax.specs.Readers.{expr_at, comparison_at, sum_at, product_at, unary_at, postfix_at, primary_at, behind_dot_at, named_at, inside_at}
 use Rattle.filt_syntax.proofs.Steps.{logical_op_turns, expr_is, add_op_turns, sum_is, mul_op_turns, product_is, dot_turns, postfix_is, comma_turns, comparison_is, group_is, expr_shorter, comparison_shorter, product_shorter, unary_shorter, behind_shorter, logical_op_passes, compare_op_passes, add_op_passes, mul_op_passes, level_unopened, level_deep, level_inside_fails, level_end_fails, level_got, argument_inside, two_first_fails, two_comma_fails, two_second_fails, two_got, primary_atom, primary_named, group_fails, group_got, method_call_fails, method_call_got, primary_bad, not_too_deep, not_fails, not_got, unary_postfix, behind_property, behind_fails, behind_got, method_bad, method_fails, method_got, named_none, named_fails, named_got, arguments_empty, arguments_some, arguments_fail}
 use Rattle.filt_syntax.proofs.Derived.{lifts, derivations-Atom, derivations-Name, derivations-Call, derivations-Product, derivations-Sum, derivations-Logical, derivations-Postfix, derivations-Group, derivations-Pair, derivations-MethodCall, compare_op_of, not_of, one_more, chain_some, one_more_access, one_more_expr, arguments_listed, gives_unary}
@@ -213,7 +214,7 @@ postfix-loop-next-smaller t c = omega (arith, behind_shorter c.args.depth_left c
 pub postfix-loop-next-preserved : goal.postfix-loop-next-preserved
 postfix-loop-next-preserved t c =
     let k = c.args.depth_left in
-    let x : Postfix Expr = c.in_ok-postfix.postfix in
+    let x : Access Expr = c.in_ok-postfix.postfix in
     let xs = c.loop-next.more.items in
     let first = Single (derivations c.in_ok-first.first.value).primary in
     let pushed : c.push.new.self.items ≡ xs ++ x ∷ [] = search rules in

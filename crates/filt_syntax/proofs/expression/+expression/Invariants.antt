@@ -2,13 +2,14 @@ use Rattle.std.proofs.Common.{◌≡◌, ℕ, true, ◌≤◌, ◌+◌, ◌*◌,
 use Rattle.conf_lex.specs.declared.word.Word.{Word}
 use Rattle.conf_lex.specs.declared.word.Word.TheVariants as words
 use Rattle.conf_lex.specs.declared.symbol.Symbol.TheVariants as symbols
-use Rattle.grammar.specs.Kind.{symbol}
-use Rattle.grammar.specs.Grammar.{Left, Single, begins}
-use Rattle.grammar.specs.Reading.{Parsed, and_then}
-use Rattle.grammar.specs.Shapes.{links}
+use Rattle.conf_lex.specs.Kind.{symbol}
+use Rattle.conf_lex.specs.Grammar.{Left, Single, begins}
+use Rattle.conf_lex.specs.Reading.{Parsed, and_then}
+use Rattle.conf_lex.specs.PartShapes.{links}
 use Rattle.filt_syntax.specs.Syntax.{is_add_op, is_mul_op, is_logical_op}
 use Rattle.filt_syntax.specs.Levels.{arguments_level}
-use Rattle.filt_syntax.specs.View.{derivations, parts_after, access_of, mul_op_of, add_op_of, logical_op_of, listed_tree, expr_trees}
+use Rattle.filt_syntax.specs.View.{derivations, parts_after, listed_tree, expr_trees}
+use Rattle.filt_syntax.specs.Inside.{access_of, mul_op_of, add_op_of, logical_op_of}
 use Rattle.filt_syntax.specs.Readers.{expr_at, comparison_at, sum_at, product_at, unary_at, postfix_at, behind_dot_at, inside_at}
 use Rattle.filt_syntax.proofs.expression.+expression.Given as goal
 

@@ -2,7 +2,7 @@ use Rattle.std.proofs.Common.{refl, ◌∙◌}
 use Rattle.std.proofs.lemmas.Result.{err_from_is_err_and}
 use Rattle.conf_lex.specs.declared.symbol.Symbol.TheVariants as sym
 use Rattle.conf_lex.specs.declared.word.Word.TheVariants as words
-use Rattle.grammar.proofs.Shapes.{fails_then, closed_got, closed_inside_fails, closed_end_fails}
+use Rattle.conf_lex.proofs.PartShapes.{fails_then, closed_got, closed_inside_fails, closed_end_fails}
 use Rattle.filt_syntax.specs.ItemReaders.{bounds_at}
 use Rattle.filt_syntax.proofs.ItemSteps.{braced_deep, braced_is}
 use Rattle.filt_syntax.proofs.items.braced.Goals as goal

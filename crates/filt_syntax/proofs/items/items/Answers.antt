@@ -3,10 +3,10 @@ use Rattle.std.proofs.lemmas.List.{length-append}
 use Rattle.conf_lex.specs.declared.symbol.Symbol.TheVariants as sym
 use Rattle.conf_lex.specs.declared.word.Word.{Word}
 use Rattle.conf_lex.specs.declared.word.Word.TheVariants as words
-use Rattle.grammar.specs.Kind.{symbol}
-use Rattle.grammar.specs.Grammar.{ParseTree}
-use Rattle.grammar.specs.Shapes.{links}
-use Rattle.grammar.proofs.Shapes.{fails_then, fails_along, links_more, links_fail, links_end}
+use Rattle.conf_lex.specs.Kind.{symbol}
+use Rattle.conf_lex.specs.Grammar.{ParseTree}
+use Rattle.conf_lex.specs.PartShapes.{links}
+use Rattle.conf_lex.proofs.PartShapes.{fails_then, fails_along, links_more, links_fail, links_end}
 use Rattle.filt_syntax.specs.ItemView.{item_tree, items_tree}
 use Rattle.filt_syntax.specs.ItemReaders.{item_at}
 use Rattle.filt_syntax.proofs.ItemSteps.{item_turns, items_is, item_shorter, one_more_item}

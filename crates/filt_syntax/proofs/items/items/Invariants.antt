@@ -1,7 +1,7 @@
 use Rattle.std.proofs.Common.{◌≡◌, ◌<◌, length}
 use Rattle.conf_lex.specs.declared.symbol.Symbol.TheVariants as sym
-use Rattle.grammar.specs.Kind.{symbol}
-use Rattle.grammar.specs.Shapes.{links}
+use Rattle.conf_lex.specs.Kind.{symbol}
+use Rattle.conf_lex.specs.PartShapes.{links}
 use Rattle.filt_syntax.specs.ItemView.{items_tree}
 use Rattle.filt_syntax.specs.ItemReaders.{item_at, items_at}
 use Rattle.filt_syntax.proofs.items.items.Given as goal

@@ -1,6 +1,6 @@
 use Rattle.std.proofs.Common.{◌≡◌, [], ◌∷◌, ◌++◌, sym as flip, ap, ◌∙◌, arith, rules}
 use Rattle.std.proofs.lemmas.Result.{err_from_is_err_and}
-use Rattle.grammar.specs.Grammar.{ParseTree}
+use Rattle.conf_lex.specs.Grammar.{ParseTree}
 use Rattle.filt_syntax.specs.ItemView.{mask_item_tree, mask_items_tree}
 use Rattle.filt_syntax.specs.ItemReaders.{mask_row_at}
 use Rattle.filt_syntax.proofs.ItemSteps.{mask_is, mask_row_end, mask_row_more, mask_row_fails, mask_item_shorter, one_more_mask_item}

@@ -1,4 +1,4 @@
-use Rattle.grammar.proofs.Symbols.{plain_alone}
+use Rattle.conf_lex.proofs.Symbols.{plain_alone}
 use Rattle.filt_syntax.proofs.operators.plain_symbol.Goals as goal
 
 pub returns-in_default : goal.returns-in_default

@@ -1,6 +1,6 @@
 use Rattle.std.proofs.Common.{List, refl, sym, ap, subst, ◌∙◌, Err}
 use Rattle.conf_lex.specs.declared.word.Word.{Word}
-use Rattle.grammar.specs.Agrees.{AgreesOnError}
+use Rattle.conf_lex.specs.Agrees.{AgreesOnError}
 use Rattle.filt_syntax.specs.Syntax.{expr}
 use Rattle.filt_syntax.specs.Readers.{expr_at}
 use Rattle.filt_syntax.specs.declared.parse.SyntaxFault.{SyntaxFault}

@@ -1,6 +1,6 @@
 use Rattle.std.proofs.Common.{refl, ◌∙◌}
 use Rattle.std.proofs.lemmas.Result.{err_from_is_err_and}
-use Rattle.grammar.proofs.Shapes.{fails_then}
+use Rattle.conf_lex.proofs.PartShapes.{fails_then}
 use Rattle.filt_syntax.specs.declared.ast.Target.TheVariants as targets
 use Rattle.filt_syntax.specs.StatementReaders.{of_name_at}
 use Rattle.filt_syntax.proofs.StatementSteps.{name_assigned, name_changed}

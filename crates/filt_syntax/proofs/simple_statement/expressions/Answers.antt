@@ -4,10 +4,10 @@ use Rattle.std.proofs.lemmas.List.{length-append}
 use Rattle.conf_lex.specs.declared.symbol.Symbol.TheVariants as sym
 use Rattle.conf_lex.specs.declared.word.Word.{Word}
 use Rattle.conf_lex.specs.declared.word.Word.TheVariants as words
-use Rattle.grammar.specs.Kind.{symbol}
-use Rattle.grammar.specs.Grammar.{ParseTree}
-use Rattle.grammar.specs.Shapes.{links}
-use Rattle.grammar.proofs.Shapes.{fails_then, links_more, links_fail, links_end}
+use Rattle.conf_lex.specs.Kind.{symbol}
+use Rattle.conf_lex.specs.Grammar.{ParseTree}
+use Rattle.conf_lex.specs.PartShapes.{links}
+use Rattle.conf_lex.proofs.PartShapes.{fails_then, links_more, links_fail, links_end}
 use Rattle.filt_syntax.specs.View.{derivations, expr_trees, listed_tree}
 use Rattle.filt_syntax.specs.Readers.{expr_at}
 use Rattle.filt_syntax.proofs.StatementSteps.{printed_turns, exprs_is, one_more_printed}

@@ -1,7 +1,7 @@
 use Rattle.std.proofs.Common.{◌≡◌, ◌<◌, length}
 use Rattle.conf_lex.specs.declared.symbol.Symbol.TheVariants as sym
-use Rattle.grammar.specs.Kind.{symbol}
-use Rattle.grammar.specs.Shapes.{links}
+use Rattle.conf_lex.specs.Kind.{symbol}
+use Rattle.conf_lex.specs.PartShapes.{links}
 use Rattle.filt_syntax.specs.View.{listed_tree, expr_trees}
 use Rattle.filt_syntax.specs.Readers.{expr_at}
 use Rattle.filt_syntax.specs.StatementReaders.{exprs_at}

@@ -1,6 +1,6 @@
 use Rattle.std.proofs.Common.{refl, ◌∙◌}
 use Rattle.std.proofs.lemmas.Result.{err_from_is_err_and}
-use Rattle.grammar.proofs.Shapes.{fails_then}
+use Rattle.conf_lex.proofs.PartShapes.{fails_then}
 use Rattle.filt_syntax.specs.StatementReaders.{stmt_at}
 use Rattle.filt_syntax.proofs.StatementSteps.{reject_is}
 use Rattle.filt_syntax.proofs.StatementTrees.{tree-Reject}

@@ -1,5 +1,5 @@
-use Rattle.grammar.proofs.Shapes.{gives_along}
-use Rattle.filt_syntax.specs.StatementView.{boxed_tree}
+use Rattle.conf_lex.proofs.PartShapes.{gives_along}
+use Rattle.filt_syntax.specs.Inside.{boxed_tree}
 use Rattle.filt_syntax.specs.StatementReaders.{stmt_at}
 use Rattle.filt_syntax.proofs.StatementSteps.{empty_is, stmt_declared}
 use Rattle.filt_syntax.proofs.StatementTrees.{tree-Empty}

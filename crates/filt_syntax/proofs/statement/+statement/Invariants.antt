@@ -2,8 +2,8 @@ use Rattle.std.proofs.Common.{◌≡◌, ◌≤◌, ◌+◌, ◌*◌, length}
 use Rattle.std.specs.Prelude.{map}
 use Rattle.conf_lex.specs.declared.symbol.Symbol.TheVariants as sym
 use Rattle.conf_lex.specs.declared.word.Word.TheVariants as words
-use Rattle.grammar.specs.Grammar.{ParseTree}
-use Rattle.grammar.specs.Shapes.{closed}
+use Rattle.conf_lex.specs.Grammar.{ParseTree}
+use Rattle.conf_lex.specs.PartShapes.{closed}
 use Rattle.filt_syntax.specs.StatementView.{stmt_tree, stmts_tree, arms_of, body_after}
 use Rattle.filt_syntax.specs.StatementReaders.{stmts_at, row_at, arms_at, more_arms_at}
 use Rattle.filt_syntax.proofs.ArmSteps.{read_arms, IsBehind}

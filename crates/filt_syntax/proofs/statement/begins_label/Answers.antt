@@ -1,5 +1,5 @@
 use Rattle.std.proofs.Common.{sym as flip, ◌∙◌}
-use Rattle.grammar.proofs.Shapes.{next_word}
+use Rattle.conf_lex.proofs.PartShapes.{next_word}
 use Rattle.filt_syntax.proofs.ArmSteps.{label_named, label_unnamed}
 use Rattle.filt_syntax.proofs.statement.begins_label.Goals as goal
 

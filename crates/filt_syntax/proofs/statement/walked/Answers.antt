@@ -1,11 +1,11 @@
 use Rattle.std.proofs.Common.{refl}
 use Rattle.std.proofs.lemmas.Result.{err_from_is_err_and}
 use Rattle.conf_lex.specs.declared.symbol.Symbol.TheVariants as sym
-use Rattle.grammar.specs.Grammar.{Pair}
-use Rattle.grammar.specs.Reading.{word, both}
-use Rattle.grammar.specs.Kind.{symbol}
-use Rattle.grammar.specs.Shapes.{symbol_leaf}
-use Rattle.grammar.proofs.Shapes.{fails_then}
+use Rattle.conf_lex.specs.Grammar.{Pair}
+use Rattle.conf_lex.specs.Reading.{word, both}
+use Rattle.conf_lex.specs.Kind.{symbol}
+use Rattle.conf_lex.specs.Leaves.{symbol_leaf}
+use Rattle.conf_lex.proofs.PartShapes.{fails_then}
 use Rattle.filt_syntax.specs.View.{derivations}
 use Rattle.filt_syntax.specs.Readers.{expr_at}
 use Rattle.filt_syntax.proofs.CycleSteps.{gives_mapped}

@@ -1,4 +1,4 @@
-use Rattle.grammar.proofs.Shapes.{gives_along}
+use Rattle.conf_lex.proofs.PartShapes.{gives_along}
 use Rattle.filt_syntax.proofs.StatementSteps.{type_set, type_alone, type_other}
 use Rattle.filt_syntax.proofs.variable_type.variable_type.Goals as goal
 

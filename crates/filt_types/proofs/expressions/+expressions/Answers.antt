@@ -1,6 +1,6 @@
 use Rattle.std.proofs.Common.{◌≡◌, ℕ, ◌+◌, ◌&&◌, ◌++◌, Bool, List, length, drop, Option, ap, ◌∙◌, sym, arith}
 use Rattle.std.proofs.lemmas.Bool.{eq-eqb}
-use Rattle.filt_syntax.specs.declared.ast.Postfix.{Postfix}
+use Rattle.filt_syntax.specs.declared.ast.Access.{Access}
 use Rattle.filt_syntax.specs.declared.ast.Expr.{Expr}
 use Rattle.filt_syntax.specs.declared.ast.MulOp.{MulOp}
 use Rattle.filt_syntax.specs.declared.ast.LogicalOp.{LogicalOp}
@@ -112,9 +112,9 @@ accesses-loop-x-preserved t c =
     let rest = drop (c.loop-x.x-index + 1) c.args.more.now in
     record {
       judged = more_said (reach c.args.seen) (reach_adds c.args.seen) c.judge-left.result c.loop-x.left c.access-left.result c.x-item.result c.args.more.now rest
-          (c.loop-x.invariant.judged ∙ ap (λ (xs : List (Postfix Expr)). said_of (walk (reach c.args.seen) (bare c.loop-x.left) xs)) e) c.access-left.ensures.judged;
+          (c.loop-x.invariant.judged ∙ ap (λ (xs : List (Access Expr)). said_of (walk (reach c.args.seen) (bare c.loop-x.left) xs)) e) c.access-left.ensures.judged;
       first = more_first (reach c.args.seen) (reach_adds c.args.seen) c.judge-left.result c.loop-x.left c.access-left.result c.x-item.result c.args.more.now rest c.judge-left.new.first c.loop-x.first c.access-left.new.first
-          (c.loop-x.invariant.first ∙ ap (λ (xs : List (Postfix Expr)). first_in c.loop-x.first (walk (reach c.args.seen) (bare c.loop-x.left) xs).refusals) e) c.access-left.ensures.judged c.access-left.ensures.first;
+          (c.loop-x.invariant.first ∙ ap (λ (xs : List (Access Expr)). first_in c.loop-x.first (walk (reach c.args.seen) (bare c.loop-x.left) xs).refusals) e) c.access-left.ensures.judged c.access-left.ensures.first;
     }
 
 pub accesses-returns-clause-judged : goal.accesses-returns-clause-judged
@@ -128,7 +128,7 @@ accesses-returns-clause-first t c =
     ∙ ap (λ (j : Judgement). first_in c.args.first.now j.refusals) (sym (access_is c.args.seen (expression_of c.args.operand.now) c.args.more.now))
 
 pub judge-accesses-requires : goal.judge-accesses-requires
-judge-accesses-requires t c = (omega (arith, ap (λ (x : Expr). cost x) c.in-Postfix.is, cost-Postfix c.in-Postfix.operand c.in-Postfix.more, ap (λ (x : Expr). cost x) c.deref-in-Postfix.ensures, ap (λ (xs : List (Postfix Expr)). accesses_cost xs) c.deref-in-Postfix-2.ensures.value), tt)
+judge-accesses-requires t c = (omega (arith, ap (λ (x : Expr). cost x) c.in-Postfix.is, cost-Postfix c.in-Postfix.operand c.in-Postfix.more, ap (λ (x : Expr). cost x) c.deref-in-Postfix.ensures, ap (λ (xs : List (Access Expr)). accesses_cost xs) c.deref-in-Postfix-2.ensures.value), tt)
 
 pub with_right-returns-clause-first : goal.with_right-returns-clause-first
 with_right-returns-clause-first t c =

@@ -1,4 +1,4 @@
-use Rattle.grammar.proofs.Shapes.{gives_along}
+use Rattle.conf_lex.proofs.PartShapes.{gives_along}
 use Rattle.conf_tree.specs.View.{bgp_option_tree}
 use Rattle.conf_tree.specs.Readers.{bgp_option_at}
 use Rattle.conf_tree.proofs.BgpSteps.{bgp_channel, local_is, neighbor_is}

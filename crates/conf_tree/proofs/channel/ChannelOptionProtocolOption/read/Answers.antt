@@ -1,4 +1,4 @@
-use Rattle.grammar.proofs.Shapes.{gives_along}
+use Rattle.conf_lex.proofs.PartShapes.{gives_along}
 use Rattle.conf_tree.specs.View.{channel_option_tree}
 use Rattle.conf_tree.specs.Readers.{channel_option_at}
 use Rattle.conf_tree.proofs.ChannelSteps.{option_table, option_export, option_preference, option_hop}
@@ -19,10 +19,10 @@ unfolding channel_option_at
 returns-in-Some-after-2 c =
     gives_along channel_option_tree _ _ _ (option_export c.args.depth_left c.args.words.now c.in-Some-after-2.rest.now c.in-Some-after-2.ensures) c.export_option.ensures
 
-pub returns-in-Some-after_placed : goal.returns-in-Some-after_placed
+pub returns-in-Some-after_attribute : goal.returns-in-Some-after_attribute
 unfolding channel_option_at
-returns-in-Some-after_placed c =
-    gives_along channel_option_tree _ _ _ (option_preference c.args.depth_left c.in-Some-after_placed.at c.args.words.now c.in-Some-after_placed.rest.now c.in-Some-after_placed.ensures) c.preference.ensures
+returns-in-Some-after_attribute c =
+    gives_along channel_option_tree _ _ _ (option_preference c.args.depth_left c.in-Some-after_attribute.at c.args.words.now c.in-Some-after_attribute.rest.now c.in-Some-after_attribute.ensures) c.preference.ensures
 
 pub returns-in-None : goal.returns-in-None
 unfolding channel_option_at

@@ -1,4 +1,4 @@
-use Rattle.grammar.proofs.Shapes.{gives_along}
+use Rattle.conf_lex.proofs.PartShapes.{gives_along}
 use Rattle.conf_tree.specs.View.{pipe_option_tree}
 use Rattle.conf_tree.specs.Readers.{pipe_option_at}
 use Rattle.conf_tree.proofs.BgpSteps.{pipe_table, peer_is, import_is, export_is}

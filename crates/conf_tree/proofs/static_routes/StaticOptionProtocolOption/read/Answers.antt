@@ -1,4 +1,4 @@
-use Rattle.grammar.proofs.Shapes.{gives_along}
+use Rattle.conf_lex.proofs.PartShapes.{gives_along}
 use Rattle.conf_tree.specs.View.{static_option_tree}
 use Rattle.conf_tree.specs.Readers.{static_option_at}
 use Rattle.conf_tree.proofs.RouteSteps.{static_channel, static_route}

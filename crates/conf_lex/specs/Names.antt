@@ -1,0 +1,8 @@
+-- The bytes of names. Not modelled: what a name stands for. From: own; names are of BIRD User's
+-- Guide, "Configuration".
+use Rattle.std.specs.Prelude.{ℕ, List, take, drop}
+use Rattle.conf_lex.specs.declared.named.Name.{Name}
+
+-- those of the source from the name's start on
+abbrev pub name_bytes : List ℕ → Name → List ℕ
+name_bytes text n = take n.len (drop n.start text)
