@@ -1,4 +1,7 @@
--- What the program answers to an outcome, and when it answers something else.
+-- What the program answers to an outcome (`Answers`), and when it answers something else
+-- (`HasCause`, `MissesInTurn`, `NoneFailed`, `SinkTakes`, `FindsLacked`).
+-- From: own.
+-- Example: the table of statuses in the README.
 use Rattle.std.specs.Prelude.{◌≡◌, ℕ, ◌⊎◌, Bool, true, false, List, ⊤, Option, Some, None, IfSome, IsSomeAnd, IsTrue, Result, IsErrAnd}
 use Rattle.std.specs.List.{All}
 use Rattle.std.specs.String.{string_bytes}

@@ -1,5 +1,10 @@
--- The abstract syntax of configurations as plain data, without memory, and the one that statements
--- in memory are. Each `at` is the byte of the source at which what it is of begins.
+-- The abstract syntax of configurations as plain data, without memory (`Declaration`), and the one
+-- that statements in memory are (`configuration_of`). Each `at` is the byte of the source at which
+-- what it is of begins.
+-- Not modelled: what is refused of it (conf_rules), what it comes to (conf_check).
+-- From: own; the forms are those of conf_tree.
+-- Example: `ipv4;` in a protocol is a channel without settings, `ipv4 { };` one with a list of
+-- none.
 use Rattle.std.specs.Prelude.{ℕ, Bool, List, Option, option_map, map, Vec}
 use Rattle.std.specs.Global.{Global}
 use Rattle.bits_ip.specs.Prefix.{Net}

@@ -1,6 +1,10 @@
--- The abstract syntax of filters: expressions and statements as plain data, without memory, and the
--- ones that values in memory are. Each `at` is the byte of the source at which what it is of
--- begins, and `place` the byte of a parenthesis.
+-- The abstract syntax of filters: expressions and statements as plain data, without memory
+-- (`Expression`, `Statement`, `Statements`), and the ones that values in memory are
+-- (`expression_of`, `statement_of`, `block_of`). Each `at` is the byte of the source at which what
+-- it is of begins, and `place` the byte of a parenthesis.
+-- Not modelled: what they do (filt_meaning), where they lie in memory.
+-- From: own; the forms are those of filt_syntax.
+-- Example: `a + b - c` is `Added (Added a Plus b) Minus c`; `(a)` isn't `a`.
 use Rattle.std.specs.Prelude.{ℕ, List, [], ◌∷◌, Option, Some, None, option_map, Vec}
 use Rattle.std.specs.Global.{Global}
 use Rattle.conf_lex.specs.declared.named.Name.{Name}

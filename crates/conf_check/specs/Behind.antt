@@ -1,4 +1,7 @@
--- What a configuration declares behind its statements, one after another.
+-- What a configuration declares behind its statements, one after another (`at_start`, `behind`).
+-- From: BIRD User's Guide, "Configuration".
+-- Example: a constant is seen behind its own statement; a pipe `p` declares `p`, `p.export` and
+-- `p.import`.
 use Rattle.std.specs.Prelude.{ℕ, ◌+◌, if◌then◌else◌, List, [], ◌∷◌, ◌++◌, Result, Ok, Err}
 use Rattle.bits_ip.specs.declared.address.Addr.TheVariants as addrs
 use Rattle.bits_ip.specs.declared.address.Family.{Family}

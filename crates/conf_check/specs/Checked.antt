@@ -1,5 +1,9 @@
--- What a configuration comes to that is accepted: its protocols with each option or its default, by
--- the options that count, and its filters by what they do.
+-- What a configuration comes to that is accepted (`IsChecked`): its filters by what they do
+-- (`Does`), its protocols with each option or its default, by the options that count: policies,
+-- channels (`IsChannel`), static protocols, BGP, pipes (`IsStatic`, `IsBgp`, `IsPipe`).
+-- From: BIRD User's Guide, "Channel options", "BGP", "Static", "Pipe"; some defaults are own.
+-- Example: where nothing is written: `import all`, `export none`, `master4` or `master6`,
+-- preference 200 and 100, limits that disable, MED 0, local preference 100.
 use Rattle.std.specs.Prelude.{◌≡◌, ℕ, suc, Bool, true, false, if◌then◌else◌, List, [], ◌∷◌, ◌++◌, map, Option, Some, None, ⊤, codes}
 use Rattle.attrs.specs.declared.attributes.Attrs.{Attrs}
 use Rattle.bits_ip.specs.declared.address.Addr.{Addr}

@@ -1,5 +1,5 @@
--- For the contracts of private functions: what is made of a statement, and what has been made of
--- the statements so far.
+-- For private contracts alone: what is made of a statement, and what has been made of the
+-- statements so far.
 use Rattle.std.specs.Prelude.{◌≡◌, ℕ, ◌+◌, ◌≤◌, Bool, true, false, List, [], ◌∷◌, ◌++◌, length, map, Option, Some, None, Vec}
 use Rattle.std.specs.Global.{Global}
 use Rattle.std.specs.List.{All, list_any}

@@ -1,5 +1,8 @@
--- The places that are written in a statement of a configuration: each byte that its abstract syntax
--- carries, at which a word or a sign of it begins.
+-- For the laws: the places that are written in a statement of a configuration (`places`): each byte
+-- that its abstract syntax carries, at which a word or a sign of it begins; whether a place is of
+-- some statements (`IsPlaceIn`), and whether a statement's are all before another's (`IsBefore`).
+-- From: own.
+-- Example: of `filter f { x = 1; }` the bytes of `filter`, `f`, `x` and `1`.
 use Rattle.std.specs.Prelude.{◌≡◌, ◌<◌, ℕ, All, Contains, List, [], ◌∷◌, ◌++◌, Option, Some, None}
 use Rattle.conf_lex.specs.declared.named.Name.{Name}
 use Rattle.conf_tree.specs.declared.ast.Address.{Address}

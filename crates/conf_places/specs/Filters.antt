@@ -1,5 +1,7 @@
--- The places that are written in filters: each byte that their abstract syntax carries, at which a
--- word or a sign of them begins.
+-- For the laws: the places that are written in filters: each byte that their abstract syntax
+-- carries, at which a word or a sign of them begins.
+-- From: own.
+-- Example: of `filter f { x = 1; }` the bytes of `f`, `x` and `1`.
 use Rattle.std.specs.Prelude.{ℕ, List, [], ◌∷◌, ◌++◌, Option, Some, None}
 use Rattle.filt_syntax.specs.declared.ast.Item.{Item}
 use Rattle.filt_syntax.specs.declared.ast.Item.TheVariants as items

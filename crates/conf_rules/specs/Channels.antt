@@ -1,4 +1,8 @@
--- What is refused in channels and their policies (BIRD User's Guide, "Channel options").
+-- What is refused in channels and their policies (`passing`, `channel`), of how many channels there
+-- are (`one_channel`) and of policies that are missing (`lacks_policy`).
+-- From: BIRD User's Guide, "Configuration", "Channel options".
+-- Example: `table t6; table master4;` in an IPv4 channel is accepted, the other way round it is C9
+-- at `t6`.
 use Rattle.std.specs.Prelude.{ℕ, Bool, true, false, not, ◌||◌, List, [], ◌∷◌, ◌++◌, Option, Some, None}
 use Rattle.std.specs.List.{list_any}
 use Rattle.bits_ip.specs.declared.address.Family.{Family}

@@ -1,4 +1,7 @@
--- What a configuration declares before one of its statements, as the rules see it.
+-- What a configuration declares before one of its statements, as the rules see it (`Known`): names
+-- that are taken, tables with their families, filters, how many protocols.
+-- From: BIRD User's Guide, "Configuration"; one space for all names is own.
+-- Example: `ipv4 table t; filter t { accept; }` is refused at 1:22 as C5.
 use Rattle.std.specs.Prelude.{ℕ, Bool, not, nat_lt, List, [], ◌++◌, length, Option}
 use Rattle.std.specs.List.{list_any}
 use Rattle.bits_ip.specs.declared.address.Family.{Family}

@@ -1,4 +1,9 @@
--- What is refused in protocols (BIRD User's Guide, "Protocol options", "BGP", "Static", "Pipe").
+-- What is refused of static protocols, of BGP and of pipes (`static`, `bgp`, `pipe`), and the name
+-- of a protocol without one (`own_name`, by `free_number`).
+-- From: BIRD User's Guide, "Protocol options", "BGP", "Static", "Pipe"; that policies and the
+-- comparison of MEDs must be told (C10, C11) and limits are own.
+-- Example: `med metric off; med metric on;` is accepted; two routes of one net are C13 at the
+-- second; an external session whose channel has no `export` is C10 at the protocol's name.
 use Rattle.std.specs.Prelude.{ℕ, zero, suc, ◌+◌, ◌==◌, Bool, true, false, not, ◌&&◌, nat_lt, if◌then◌else◌, List, [], ◌∷◌, ◌++◌, length, Option, Some, None, codes, decimal}
 use Rattle.std.specs.List.{list_any}
 use Rattle.bits_ip.specs.Address.{family_of}

@@ -1,5 +1,7 @@
--- What is refused in a statement of a configuration, over what is declared before it. All refusals
--- are gathered, whichever of them counts.
+-- What is refused of a statement of a configuration (`refusals`), over what is declared before it.
+-- All refusals are gathered, whichever of them counts.
+-- From: BIRD User's Guide, "Configuration", "Global options".
+-- Example: `ipv6 table master4;` is C5; `ipv4 table master4;` declares nothing.
 use Rattle.std.specs.Prelude.{ℕ, Bool, not, nat_lt, if◌then◌else◌, List, [], ◌++◌, length, codes}
 use Rattle.bits_ip.specs.declared.address.Family.{Family}
 use Rattle.bits_ip.specs.declared.address.Family.TheVariants as families

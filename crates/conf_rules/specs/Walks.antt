@@ -1,5 +1,5 @@
--- What the walks over statements keep while they go, as the definitions see it. What is refused
--- rests on nothing here.
+-- For private contracts alone: what the walks over statements keep while they go, as the
+-- definitions see it. What is refused rests on nothing here.
 use Rattle.std.specs.Prelude.{Bool, true, false, List, [], ◌∷◌, Option, Some, None}
 use Rattle.bits_ip.specs.Prefix.{Net}
 use Rattle.bits_ip.specs.declared.address.Family.{Family}

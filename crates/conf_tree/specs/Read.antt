@@ -1,7 +1,10 @@
--- Which texts are a configuration, and the first place of others that is refused. Modelled: tokens,
--- the words that say something and the grammar, one behind the other; a text without tokens is
--- refused before the grammar sees it. Not modelled: what a configuration means, and what is refused
--- of its names and values (conf_rules). From: own; the grammar is that of Syntax.
+-- Which texts are a configuration (`IsConfigText`), and the first place of others that is refused
+-- (`IsRefusedText`): tokens, the words that say something and the grammar, one behind the other; a
+-- text without tokens is refused before the grammar sees it.
+-- Not modelled: what a configuration means, and what is refused of its names and values
+-- (conf_rules).
+-- From: own; the grammar is that of Syntax.
+-- Example: `template bgp t { } @` is refused at `@`.
 use Rattle.std.specs.Prelude.{◌≡◌, ◌≤◌, ◌⊎◌, ℕ, List, length, map, slice_index_or, Result, Ok, Err}
 use Rattle.conf_lex.specs.Lex.{Lexes, Stops}
 use Rattle.conf_lex.specs.declared.token.Token.{Token}

@@ -1,6 +1,8 @@
--- The tree of the grammar that a configuration in memory stands for: a line for each variant, which
--- names its alternative of the grammar's line. Not modelled: what a configuration means (conf_ast
--- has it as plain data). From: own; the forms are those of Syntax.
+-- The tree of the grammar that a configuration in memory stands for (`config_view`): a line for
+-- each variant, which names its alternative of the grammar's line.
+-- Not modelled: what a configuration means (conf_ast has it as plain data).
+-- From: own; the forms are those of Syntax.
+-- Example: `router id 1.2.3.4;` is the first alternative of `statement`.
 use Rattle.std.specs.Prelude.{ℕ, Bool, true, false, List, [], ◌∷◌, Option, Some, None, map, Vec}
 use Rattle.std.specs.Global.{Global}
 use Rattle.bits_ip.specs.declared.address.Family.{Family}

@@ -1,5 +1,7 @@
 -- What is answered where filters and functions are checked: which is refused first, where nothing
--- is accepted, and what a checked function takes, gives and weighs.
+-- is accepted (`IsFault`), and what a checked function takes, gives and weighs (`signature_in`).
+-- From: own.
+-- Example: of two refusals the first by place.
 use Rattle.std.specs.Prelude.{◌≡◌, ℕ, List, ◌++◌, map, Option, Some, ⊤}
 use Rattle.filt_syntax.specs.declared.ast.Parameter.{Parameter}
 use Rattle.conf_ast.specs.Configurations.{Routine}

@@ -1,4 +1,4 @@
--- For the contracts of private functions: parts of checked trees beside what they stand for.
+-- For private contracts alone: parts of checked trees beside what they stand for.
 use Rattle.std.specs.Prelude.{ℕ, List, [], ◌∷◌, ◌++◌, map, Option, Some, None, Result, Ok, Err}
 use Rattle.std.specs.Prelude.{slice_get, Vec}
 use Rattle.std.specs.Global.{Global}

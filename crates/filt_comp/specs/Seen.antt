@@ -1,4 +1,4 @@
--- What the private functions of this crate owe. No clause of a public one speaks of this file.
+-- For private contracts alone: what the functions of this crate owe.
 use Rattle.std.specs.Prelude.{◌≡◌, ℕ, Bool, not, List, [], ◌∷◌, map, take, Option, Some, None, Result, Ok, Err, Vec, ⊤}
 use Rattle.std.specs.Borrow.{Bor}
 use Rattle.std.specs.Global.{Global}

@@ -1,4 +1,8 @@
--- What written sets, masks and labels are, whose numbers may be the names of constants.
+-- What written sets, masks and labels are (`set_of`, `mask_of`, `has_label`), whose numbers may be
+-- the names of constants.
+-- From: BIRD User's Guide, "Filters", "Data types"; where the guide is silent, own.
+-- Example: `10.0.0.0/8+` has the lengths 8 to 32, `10.0.0.0/8-` 0 to 8; `(1,*)` the second parts 0
+-- to 65535.
 use Rattle.std.specs.Prelude.{ℕ, ◌-◌, ◌^◌, nat_lt, if◌then◌else◌, List, [], ◌∷◌, Bool, Option, Some, None, Result, Ok, Err}
 use Rattle.bits_ip.specs.Address.{width_of}
 use Rattle.bits_ip.specs.Prefix.{Net}

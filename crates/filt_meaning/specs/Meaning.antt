@@ -1,5 +1,9 @@
--- What expressions and statements do. First what each form does, of what its parts do; then the
--- functions on the abstract syntax, a line for each of its forms.
+-- What expressions and statements do (`value`, `act`), and which variables they declare
+-- (`declared`). First what each form does, of what its parts do; then the functions on the abstract
+-- syntax, a line for each of its forms. How to read it: docs/DEFINITIONS.md.
+-- Not modelled: memory; what `print` prints.
+-- From: BIRD User's Guide, "Filters"; where the guide is silent, own.
+-- Example: the three filters of Worked.
 use Rattle.std.specs.Prelude.{ℕ, Bool, true, false, nat_lt, if◌then◌else◌, List, [], ◌∷◌, ◌++◌, length, map, take, Option, Some, None, Result, Ok, Err, slice_get, slice_set, drop}
 use Rattle.attrs.specs.declared.attributes.Attrs.{Attrs}
 use Rattle.conf_lex.specs.declared.named.Name.{Name}

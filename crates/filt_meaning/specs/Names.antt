@@ -1,5 +1,7 @@
--- What names stand for. Names are the bytes of the source; a name is looked up among those of the
--- variables first, then among those of the constants.
+-- What names stand for: the last variable of the name, else a constant (`place_of`, `constant_of`,
+-- `function_of`); what is given around a route (`Around`). Names are the bytes of the source.
+-- From: BIRD User's Guide, "Filters"; where the guide is silent, own.
+-- Example: a loop's variable comes before one of its name that is declared further down.
 use Rattle.std.specs.Prelude.{ℕ, suc, ◌==◌, Bool, if◌then◌else◌, List, [], ◌∷◌, ◌++◌, Option, Some, None, Result, Ok, Err}
 use Rattle.std.specs.Cmp.Lexicographic.{pointwise}
 use Rattle.bits_ip.specs.Prefix.{Net}

@@ -1,5 +1,6 @@
--- Filters that are worked by hand, as abstract syntax over the text `ginx`, of which each letter
--- is a name. The law `worked_filters` tells what they say.
+-- Filters that are worked by hand, as abstract syntax over the text `ginx`, of which each letter is
+-- a name. The law `worked_filters` tells what they say.
+-- From: own.
 use Rattle.std.specs.Prelude.{ℕ, List, [], ◌∷◌, Some, None, codes}
 use Rattle.conf_lex.specs.declared.named.Name.{Name}
 use Rattle.conf_lex.specs.declared.attribute.Attribute.{Attribute}

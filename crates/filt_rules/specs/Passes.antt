@@ -1,5 +1,5 @@
--- What the passes over statements keep while they go, and parts of trees, as the definitions see
--- them. What is refused and what filters weigh rests on nothing here.
+-- For private contracts alone: what the passes over statements keep while they go, and parts of
+-- trees, as the definitions see them. What is refused and what filters weigh rests on nothing here.
 use Rattle.std.specs.Prelude.{ℕ, ◌+◌, true, not, List, [], ◌∷◌, ◌++◌, length, Option, Some, None}
 use Rattle.std.specs.Prelude.{Vec}
 use Rattle.std.specs.Global.{Global}

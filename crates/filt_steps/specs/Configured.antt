@@ -1,5 +1,7 @@
--- The functions of a configuration, as they are counted and weighed: each behind those before it,
--- over what it sees.
+-- For the laws: the functions of a configuration, as they are counted and weighed (`counts_behind`,
+-- `weighed_behind`): each behind those before it, over what it sees.
+-- From: own.
+-- Example: a function that calls one before it weighs what that one weighs too.
 use Rattle.std.specs.Prelude.{ℕ, List, [], ◌∷◌, ◌++◌, map}
 use Rattle.conf_lex.specs.Names.{name_bytes}
 use Rattle.filt_syntax.specs.declared.ast.Parameter.{Parameter}

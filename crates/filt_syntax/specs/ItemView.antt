@@ -1,6 +1,8 @@
--- The trees of the grammar that the items of sets, of labels and of masks stand for (BIRD User's
--- Guide, "Filters": "Data types", and "Control structures" for labels). Not modelled: which values
--- an item takes in.
+-- The trees of the grammar that the items of sets, of labels and of masks stand for.
+-- Not modelled: which values an item takes in (filt_sets).
+-- From: own; the forms are of BIRD User's Guide, "Filters": "Data types", and "Control structures"
+-- for labels.
+-- Example: `1..2` is a number with two dots and a number behind it.
 use Rattle.std.specs.Prelude.{Bool, true, false, List, [], ◌∷◌, Option, Some, None}
 use Rattle.conf_lex.specs.declared.symbol.Symbol.TheVariants as sym
 use Rattle.conf_lex.specs.declared.word.Word.{Word}

@@ -1,6 +1,9 @@
--- The tree of the grammar that a statement stands for (BIRD User's Guide, "Filters":
--- "Introduction", "Data types", "Control structures", "Route attributes", "Other statements"). Not
--- modelled: what a statement does, and where it lies in memory.
+-- The tree of the grammar that a statement stands for; the arms of a `case` are one row of labels
+-- and statements (`arms_row`).
+-- Not modelled: what a statement does, and where it lies in memory.
+-- From: own; the forms are of BIRD User's Guide, "Filters": "Introduction", "Data types", "Control
+-- structures", "Route attributes", "Other statements".
+-- Example: each variant of `Stmt` names its alternative of the line `stmt`.
 use Rattle.std.specs.Prelude.{ℕ, List, [], ◌∷◌, Option, Some, None, map, Vec}
 use Rattle.std.specs.Global.{Global}
 use Rattle.std.proofs.Common.{zero, suc}

@@ -1,6 +1,9 @@
--- The tree of the grammar that an expression stands for (BIRD User's Guide, "Filters": "Data
--- types", "Operators", "Route attributes"). Not modelled: types and values, and where an expression
--- lies in memory.
+-- The tree of the grammar that an expression stands for (`derivations`, a line for each variant of
+-- `Expr`).
+-- Not modelled: types and values, and where an expression lies in memory.
+-- From: own; the forms are of BIRD User's Guide, "Filters": "Data types", "Operators", "Route
+-- attributes".
+-- Example: `1 + 2 * 3` is a sum whose second part is a product.
 use Rattle.std.specs.Prelude.{ℕ, List, [], ◌∷◌, map}
 use Rattle.conf_lex.specs.declared.symbol.Symbol.{Symbol}
 use Rattle.conf_lex.specs.declared.symbol.Symbol.TheVariants as sym

@@ -1,5 +1,6 @@
 -- What checked filters do: a line for each form of a tree. The forms are those of the meaning of
--- filters; here they are joined by places where there they are by names.
+-- filters; here they are joined by places where there they are by names. Nothing is to be believed
+-- of it: filt_check ties what checked trees do to the meaning of their sources.
 use Rattle.std.specs.Prelude.{ℕ, Bool, List, [], ◌∷◌, ◌++◌, map, take, Option, Some, None, Result, Ok, Err, slice_get}
 use Rattle.attrs.specs.declared.attributes.Attrs.{Attrs}
 use Rattle.attrs.specs.declared.judge.Verdict.{Verdict}

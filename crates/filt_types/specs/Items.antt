@@ -1,5 +1,8 @@
--- Sets, masks and labels as they are written: the sort of each item, and what is refused of it. An
--- item that names no constant that is a number is refused there, and has no sort.
+-- Sets, masks and labels as they are written: the sort of each item, and what is refused of it
+-- (`item`, `common`). An item that names no constant that is a number is refused there, and has no
+-- sort.
+-- From: BIRD User's Guide, "Filters", "Data types"; where the guide is silent, own.
+-- Example: `[1, (2,3)]` is of two sorts, `5..2` backwards, `10.0.0.0/8{8,40}` past the family.
 use Rattle.std.specs.Prelude.{ℕ, Bool, true, false, ◌||◌, nat_lt, if◌then◌else◌, List, [], ◌∷◌}
 use Rattle.std.specs.Prelude.{◌++◌, Option, Some, None}
 use Rattle.bits_ip.specs.Address.{width_of}

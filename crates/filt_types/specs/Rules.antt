@@ -1,4 +1,9 @@
--- Which sorts the places of a form take, by the sorts that its operator takes.
+-- Which sorts the places of a form take, by the sorts that its operator takes (`RuleOfOne`,
+-- `RuleOfTwo`; the tables are those of filt_values/specs/Sorts); the sorts of attributes and
+-- constants; what can be assigned and unset.
+-- From: BIRD User's Guide, "Filters", "Operators" and "Route attributes"; where the guide is
+-- silent, own.
+-- Example: `delete` has on its left paths and lists of communities, on its right five sorts.
 use Rattle.std.specs.Prelude.{Bool, true, false, ◌&&◌, List, [], ◌∷◌}
 use Rattle.std.specs.List.{list_any}
 use Rattle.conf_lex.specs.declared.attribute.Attribute.{Attribute}

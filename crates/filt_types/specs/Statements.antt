@@ -1,4 +1,8 @@
--- What is refused in statements, and which variables are seen behind them.
+-- What is refused in statements, and which variables are seen behind them (`check`, a line for each
+-- form); what is refused in filters and functions (`in_filter`, `in_function`). How to read it:
+-- docs/DEFINITIONS.md.
+-- From: BIRD User's Guide, "Filters"; where the guide is silent, own.
+-- Example: `if 1 then accept;` is refused at the 1, `net = 10.0.0.0/8;` at `net`.
 use Rattle.std.specs.Prelude.{ℕ, Bool, true, false, not, ◌&&◌, ◌||◌, if◌then◌else◌, List, [], ◌∷◌}
 use Rattle.std.specs.Prelude.{◌++◌, length, remove, Option, Some, None}
 use Rattle.conf_lex.specs.declared.named.Name.{Name}

@@ -1,5 +1,5 @@
--- What the walks over filters keep while they go, as the definitions see it. What is refused rests
--- on nothing here.
+-- For the contracts of the walks here and in filt_rules: what they keep while they go, as the
+-- definitions see it. What is refused rests on nothing here.
 use Rattle.std.specs.Prelude.{ℕ, Bool, false, not, ◌==◌, List, [], ◌∷◌, ◌++◌, map, length}
 use Rattle.std.specs.Prelude.{if◌then◌else◌, option_map, Option, Some, None}
 use Rattle.std.specs.Borrow.{Bor}

@@ -1,6 +1,8 @@
--- What a configuration gives to play: its tables, and its protocols but for pipes, with what holds
--- for their routes and what their filters say. From: BIRD User's Guide, "Static", "BGP" and
--- "Channel options".
+-- What a configuration gives to play (`setup_of`): its tables, and its protocols but for pipes,
+-- with what holds for their routes and what their filters say; whether it has a pipe (`has_pipe`).
+-- Not modelled: pipes.
+-- From: BIRD User's Guide, "Static", "BGP" and "Channel options".
+-- Example: static routes have preference 200; a neighbour in another AS is external.
 use Rattle.std.specs.Prelude.{◌≡◌, ℕ, ◌+◌, Bool, true, false, not, ◌==◌, if◌then◌else◌, List, [], ◌∷◌, map, Option, Some, None, option_map}
 use Rattle.bits_ip.specs.declared.address.Addr.{Addr}
 use Rattle.bits_ip.specs.declared.address.Family.{Family}

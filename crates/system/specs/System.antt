@@ -1,7 +1,8 @@
--- What a configuration comes to: its tables and its protocols, each in the order of their numbers,
--- and what each protocol's policies say of routes. Of options written twice the last counts, and
--- what isn't written has its default. From: BIRD User's Guide, "Channel options", "Static", "BGP"
--- and "Pipe".
+-- What a configuration comes to (`system_in`): its tables and its protocols, each in the order of
+-- their numbers, and what each protocol's policies say of routes. Of options written twice the last
+-- counts, and what isn't written has its default.
+-- From: BIRD User's Guide, "Channel options", "Static", "BGP" and "Pipe".
+-- Example: `preference 7; preference 9;` is a preference of 9.
 use Rattle.std.specs.Prelude.{ℕ, Bool, List, [], ◌∷◌, ◌++◌, map, Option, Some, None}
 use Rattle.bits_ip.specs.declared.address.Addr.{Addr}
 use Rattle.bits_ip.specs.declared.address.Addr.TheVariants as addrs

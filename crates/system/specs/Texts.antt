@@ -1,5 +1,7 @@
--- Which texts are accepted, and where and why others are refused: for want of a token, by the
--- grammar, or when they are checked.
+-- Which texts are accepted (`IsSystem`), and where and why others are refused (`IsRefusedAt`): for
+-- want of a token, by the grammar, or when they are checked.
+-- From: own.
+-- Example: a text with a bad token is refused there, whatever its statements before say.
 use Rattle.std.specs.Prelude.{◌≡◌, ◌⊎◌, ℕ, List, Option, Some, None, ⊤}
 use Rattle.conf_tree.specs.Position.{IsPlace}
 use Rattle.conf_tree.specs.Read.{IsConfigText, IsRefusedText}
