@@ -13,7 +13,7 @@ use Rattle.conf_ast.specs.Filters.{Statements}
 use Rattle.filt_meaning.specs.Names.{same_name}
 use Rattle.filt_types.specs.Items.{is_none}
 use Rattle.filt_types.specs.Scenes as scenes
-use Rattle.filt_check.specs.Answers as filters
+use Rattle.filt_rules.specs.Refused as filters
 use Rattle.conf_rules.specs.declared.refusal.Refusal.{Refusal}
 use Rattle.conf_rules.specs.Channels.{one_channel}
 use Rattle.conf_rules.specs.Constants.{value}

@@ -13,7 +13,7 @@ use Rattle.filt_values.specs.Values.{Val}
 use Rattle.filt_meaning.specs.Configuration.{constant}
 use Rattle.filt_meaning.specs.Names.{Around, Context}
 use Rattle.filt_types.specs.Scenes.{Scene, Signature}
-use Rattle.filt_check.specs.Answers.{signature_in}
+use Rattle.filt_rules.specs.Refused.{signature_in}
 use Rattle.conf_rules.specs.Known.{Known}
 use Rattle.conf_rules.specs.Protocols.{bgp_stem, own_name, pipe_names, pipe_stem, static_stem}
 use Rattle.conf_rules.specs.Statements.{is_master, master}

@@ -27,7 +27,7 @@ use Rattle.filt_types.specs.Expressions.{judge}
 use Rattle.filt_types.specs.Items as items
 use Rattle.filt_types.specs.Items.{is_none}
 use Rattle.filt_types.specs.Scenes.{constant_of}
-use Rattle.filt_check.specs.Answers as filters
+use Rattle.filt_rules.specs.Refused as filters
 use Rattle.conf_rules.specs.declared.refusal.Refusal.{Refusal}
 use Rattle.conf_rules.specs.Channels as channels
 use Rattle.conf_rules.specs.Channels.{passing, limit, settings_of, is_other_family, family_of_table, channel, second_channels, one_channel, lacks_policy, same_family}

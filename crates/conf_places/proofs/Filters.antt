@@ -42,7 +42,7 @@ use Rattle.filt_types.specs.Statements as acts
 use Rattle.filt_types.specs.Statements.{Around, Checked, Aim, Holds, IsFixed, Unknown, aim, refused_target, assigned, assigned_dest, is_dest_word, no_sort, assign, changed, operand, cleared, initial, declare, labels, lacks_labels, of_value, cases, lists_of, is_other_list, over_list, returned, return, check, check_all, check_arms, in_filter, parameters, sort_given, in_function}
 use Rattle.filt_types.specs.Expressions.{constant_word}
 use Rattle.filt_types.specs.Weight.{block_weight, too_heavy}
-use Rattle.filt_check.specs.Answers.{of_filter, of_function}
+use Rattle.filt_rules.specs.Refused.{of_filter, of_function}
 use Rattle.conf_places.specs.Filters.{of_num, of_optional_num, of_part, of_pair_part, of_lengths, of_item, of_items, of_atom, of_mask, of_simple, of_expression, of_expressions, of_optional, of_target, of_statement, of_statements, of_arms, of_parameters}
 use Rattle.conf_places.proofs.Every.{Every, join, left, right}
 

@@ -13,7 +13,7 @@ use Rattle.conf_tree.specs.declared.ast.Limit.{Limit}
 use Rattle.conf_tree.specs.declared.ast.Limit.TheVariants as limits
 use Rattle.conf_ast.specs.Configurations.{Passing, PassAll, PassNone, PassByFilter, PassByBlock, PassWhere, ChannelSetting, ChannelTable, ChannelImport, ChannelExport, ChannelPreference, ChannelLimit, ChannelNextHop, FamilyChannel}
 use Rattle.filt_meaning.specs.Configuration.{filter_where}
-use Rattle.filt_check.specs.Answers as filters
+use Rattle.filt_rules.specs.Refused as filters
 use Rattle.conf_rules.specs.declared.refusal.Refusal.{Refusal}
 use Rattle.conf_rules.specs.Known.{Known, filter, number, table, table_of}
 use Rattle.conf_rules.specs.Refusals.{of_filters, refused_if}

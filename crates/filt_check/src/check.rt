@@ -12,7 +12,8 @@ ghost use Rattle.filt_tree.specs.Trees as trees;
 ghost use Rattle.filt_types.specs.Refusals.{first_in};
 ghost use Rattle.filt_types.specs.Seen.{scene_of, signature_of};
 ghost use Rattle.filt_types.specs.Weight.{block_weight};
-ghost use Rattle.filt_check.specs.Answers.{IsFault, of_filter, of_function, signature_in};
+ghost use Rattle.filt_check.specs.Answers.{IsFault};
+ghost use Rattle.filt_rules.specs.Refused.{of_filter, of_function, signature_in};
 ghost use Rattle.filt_check.specs.Seen.{where_act};
 
 use crate::blocks::resolve_block;
