@@ -5,7 +5,7 @@
 use Rattle.std.specs.Prelude.{◌≡◌, ℕ, ◌⊎◌, Bool, true, false, List, ⊤, Option, Some, None, IfSome, IsSomeAnd, IsTrue, Result, IsErrAnd}
 use Rattle.std.specs.List.{All}
 use Rattle.std.specs.String.{string_bytes}
-use Rattle.conf_tree.specs.declared.kind.ConfKind.{ConfKind}
+use Rattle.conf_ast.specs.declared.kind.ConfKind.{ConfKind}
 use Rattle.outside_io.specs.Faults.{Rose}
 use Rattle.outside_io.specs.declared.whole.ReadError.{ReadError}
 use Rattle.outside_io.specs.declared.whole.ReadError.TheVariants as errors

@@ -7,7 +7,7 @@
 -- From: own.
 -- Example: a refused configuration decides alone, whatever the script is; a pipe isn't built.
 use Rattle.std.specs.Prelude.{◌≡◌, ℕ, ◌≤◌, ◌⊎◌, false, true, List, [], ◌∷◌, length, Option, Some, None, IfSome, IsSomeAnd}
-use Rattle.conf_tree.specs.declared.kind.ConfKind.{ConfKind}
+use Rattle.conf_ast.specs.declared.kind.ConfKind.{ConfKind}
 use Rattle.outside_io.specs.Whole.{limit, IsLong}
 use Rattle.core_setup.specs.Setup.{Setup}
 use Rattle.script_lines.specs.declared.faults.ScriptKind.{ScriptKind}

@@ -8,28 +8,28 @@
 use Rattle.std.specs.Prelude.{ℕ, List, [], ◌∷◌, Option, Some, None, option_map, Vec}
 use Rattle.std.specs.Global.{Global}
 use Rattle.conf_lex.specs.declared.named.Name.{Name}
-use Rattle.filt_syntax.specs.declared.ast.Access.{Access}
-use Rattle.filt_syntax.specs.declared.ast.Access.TheVariants as accesses
-use Rattle.filt_syntax.specs.declared.ast.Arm.{Arm}
+use Rattle.conf_ast.specs.declared.filters.Access.{Access}
+use Rattle.conf_ast.specs.declared.filters.Access.TheVariants as accesses
+use Rattle.conf_ast.specs.declared.filters.Arm.{Arm}
 use Rattle.conf_lex.specs.declared.attribute.Attribute.{Attribute}
-use Rattle.filt_syntax.specs.declared.ast.Block.{Block}
-use Rattle.filt_syntax.specs.declared.ast.Change.{Change}
-use Rattle.filt_syntax.specs.declared.ast.Change.TheVariants as changes
-use Rattle.filt_syntax.specs.declared.ast.CompareOp.{CompareOp}
-use Rattle.filt_syntax.specs.declared.ast.Expr.{Expr, fold-Expr}
-use Rattle.filt_syntax.specs.declared.ast.Expr.TheOpen.{Expr-F}
-use Rattle.filt_syntax.specs.declared.ast.MulOp.{MulOp}
-use Rattle.filt_syntax.specs.declared.ast.Item.{Item}
-use Rattle.filt_syntax.specs.declared.ast.LogicalOp.{LogicalOp}
-use Rattle.filt_syntax.specs.declared.ast.MaskItem.{MaskItem}
-use Rattle.filt_syntax.specs.declared.ast.Method.{Method}
-use Rattle.filt_syntax.specs.declared.ast.Property.{Property}
-use Rattle.filt_syntax.specs.declared.ast.Atom.{Atom}
-use Rattle.filt_syntax.specs.declared.ast.Stmt.{Stmt, fold-Stmt}
-use Rattle.filt_syntax.specs.declared.ast.Stmt.TheOpen.{Stmt-F}
-use Rattle.filt_syntax.specs.declared.ast.Target.{Target}
-use Rattle.filt_syntax.specs.declared.ast.AddOp.{AddOp}
-use Rattle.filt_syntax.specs.declared.ast.VariableType.{VariableType}
+use Rattle.conf_ast.specs.declared.filters.Block.{Block}
+use Rattle.conf_ast.specs.declared.filters.Change.{Change}
+use Rattle.conf_ast.specs.declared.filters.Change.TheVariants as changes
+use Rattle.conf_ast.specs.declared.filters.CompareOp.{CompareOp}
+use Rattle.conf_ast.specs.declared.filters.Expr.{Expr, fold-Expr}
+use Rattle.conf_ast.specs.declared.filters.Expr.TheOpen.{Expr-F}
+use Rattle.conf_ast.specs.declared.filters.MulOp.{MulOp}
+use Rattle.conf_ast.specs.declared.filters.Item.{Item}
+use Rattle.conf_ast.specs.declared.filters.LogicalOp.{LogicalOp}
+use Rattle.conf_ast.specs.declared.filters.MaskItem.{MaskItem}
+use Rattle.conf_ast.specs.declared.filters.Method.{Method}
+use Rattle.conf_ast.specs.declared.filters.Property.{Property}
+use Rattle.conf_ast.specs.declared.filters.Atom.{Atom}
+use Rattle.conf_ast.specs.declared.filters.Stmt.{Stmt, fold-Stmt}
+use Rattle.conf_ast.specs.declared.filters.Stmt.TheOpen.{Stmt-F}
+use Rattle.conf_ast.specs.declared.filters.Target.{Target}
+use Rattle.conf_ast.specs.declared.filters.AddOp.{AddOp}
+use Rattle.conf_ast.specs.declared.filters.VariableType.{VariableType}
 
 -- ---- expressions
 

@@ -6,7 +6,7 @@ use Rattle.std.specs.List.{list_any}
 use Rattle.bits_ip.specs.declared.address.Family.{Family}
 use Rattle.conf_lex.specs.declared.named.Name.{Name}
 use Rattle.conf_lex.specs.Names.{name_bytes}
-use Rattle.conf_tree.specs.declared.kind.ConfKind.{ConfKind}
+use Rattle.conf_ast.specs.declared.kind.ConfKind.{ConfKind}
 use Rattle.conf_ast.specs.Configurations as conf
 use Rattle.conf_ast.specs.Configurations.{FamilyChannel, Instance, StaticSetting, BgpSetting, PipeSetting, Routine, Value}
 use Rattle.conf_ast.specs.Filters.{Statements}

@@ -5,7 +5,7 @@ use Rattle.std.specs.Global.{Global}
 use Rattle.std.specs.List.{All, list_any}
 use Rattle.attrs.specs.declared.attributes.Attrs.{Attrs}
 use Rattle.conf_lex.specs.declared.named.Name.{Name}
-use Rattle.conf_tree.specs.declared.ast.Policy.{Policy}
+use Rattle.conf_ast.specs.declared.configurations.Policy.{Policy}
 use Rattle.conf_ast.specs.Configurations as conf
 use Rattle.conf_ast.specs.Configurations.{FamilyChannel, Passing, passing_of}
 use Rattle.conf_ast.specs.Filters.{Statements}

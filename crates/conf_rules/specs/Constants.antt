@@ -4,8 +4,8 @@
 -- C4.
 use Rattle.std.specs.Prelude.{List, [], ◌++◌}
 use Rattle.conf_lex.specs.declared.named.Name.{Name}
-use Rattle.filt_syntax.specs.declared.ast.Num.{Num}
-use Rattle.conf_tree.specs.declared.kind.ConfKind.TheVariants as kinds
+use Rattle.conf_ast.specs.declared.filters.Num.{Num}
+use Rattle.conf_ast.specs.declared.kind.ConfKind.TheVariants as kinds
 use Rattle.conf_ast.specs.Configurations.{Value, NumberValue, TextValue, AddressValue, PrefixValue, TrueValue, FalseValue, ValueOf, PairValue, SetValue, MaskValue}
 use Rattle.conf_ast.specs.Filters.{SetOf, MaskOf}
 use Rattle.filt_types.specs.Expressions.{judge}

@@ -5,8 +5,8 @@
 -- Example: `ipv4 table t; ipv4 table t;` is refused at 1:26 as C5; a name over 64 bytes that is
 -- declared twice as C5.
 use Rattle.std.specs.Prelude.{ℕ, ◌==◌, Bool, true, false, ◌&&◌, ◌||◌, nat_lt, if◌then◌else◌, List, [], ◌∷◌, map, Option, Some, None}
-use Rattle.conf_tree.specs.declared.kind.ConfKind.{ConfKind}
-use Rattle.conf_tree.specs.declared.kind.ConfKind.TheVariants as kinds
+use Rattle.conf_ast.specs.declared.kind.ConfKind.{ConfKind}
+use Rattle.conf_ast.specs.declared.kind.ConfKind.TheVariants as kinds
 use Rattle.filt_types.specs.declared.refusal.Cause.{Cause}
 use Rattle.filt_types.specs.declared.refusal.Cause.TheVariants as causes
 use Rattle.filt_types.specs.declared.refusal.Refusal.{Refusal as FilterRefusal}

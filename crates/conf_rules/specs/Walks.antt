@@ -3,8 +3,8 @@
 use Rattle.std.specs.Prelude.{Bool, true, false, List, [], ◌∷◌, Option, Some, None}
 use Rattle.bits_ip.specs.Prefix.{Net}
 use Rattle.bits_ip.specs.declared.address.Family.{Family}
-use Rattle.conf_tree.specs.declared.kind.ConfKind.TheVariants as kinds
-use Rattle.conf_tree.specs.declared.ast.Route.{Route}
+use Rattle.conf_ast.specs.declared.kind.ConfKind.TheVariants as kinds
+use Rattle.conf_ast.specs.declared.configurations.Route.{Route}
 use Rattle.conf_ast.specs.Configurations.{FamilyChannel}
 use Rattle.conf_rules.specs.declared.refusal.Refusal.{Refusal}
 

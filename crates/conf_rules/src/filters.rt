@@ -14,8 +14,8 @@ ghost use Rattle.conf_rules.specs.Seen.{known_of};
 use crate::declared::Declared;
 use crate::refusal::{Refusal, note_first};
 use bits_ip::OutOfMemory;
+use conf_ast::filters::{Block, Expr, Item, MaskItem, Num};
 use filt_rules::{first_in_block, first_in_condition};
-use filt_syntax::ast::{Block, Expr, Item, MaskItem, Num};
 use filt_types::Seen;
 use std::alloc::Global;
 

@@ -19,11 +19,11 @@ use crate::pipes::pipe;
 use crate::refusal::{Refusal, note_first, note_if};
 use crate::static_protocols::static_protocol;
 use bits_ip::{Family, OutOfMemory};
+use conf_ast::ConfKind;
+use conf_ast::configurations::{Literal, Statement};
+use conf_ast::filters::{Filter, Function};
 use conf_lex::Name;
-use conf_tree::ConfKind;
-use conf_tree::ast::{Literal, Statement};
 use filt_rules::first_in_function;
-use filt_syntax::ast::{Filter, Function};
 use std::alloc::Global;
 
 /// How many tables there may be, master4 and master6 among them.

@@ -31,7 +31,7 @@ use Rattle.filt_syntax.specs.declared.parse.SyntaxFault.{SyntaxFault}
 use Rattle.filt_syntax.specs.declared.parse.SyntaxFault.TheVariants as faults
 use Rattle.conf_tree.specs.Syntax.{config}
 use Rattle.conf_tree.specs.Significant.{significant_words, token_of}
-use Rattle.conf_tree.specs.declared.ast.Config.{Config}
+use Rattle.conf_ast.specs.declared.configurations.Config.{Config}
 use Rattle.conf_tree.specs.View.{config_view}
 
 -- the words are a configuration of this tree, with no more than 64 levels in a block or an

@@ -21,10 +21,10 @@ use crate::collect::{parameter_names, parameter_sorts};
 use crate::fault::{TypeFault, fault};
 use crate::resolve::resolve;
 use bits_ip::OutOfMemory;
+use conf_ast::filters::{Block, Expr, Filter, Function, Stmt};
 use filt_rules::{
     first_in_block, first_in_condition, first_in_function, sort_given, weigh_block, weigh_condition,
 };
-use filt_syntax::ast::{Block, Expr, Filter, Function, Stmt};
 use filt_tree::{Scope, TExpr, TFilter, TFunction, TStmt};
 use std::alloc::Global;
 

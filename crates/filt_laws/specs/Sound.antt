@@ -4,7 +4,7 @@
 -- Example: a function with `-> int` gives a number, or ends the filter.
 use Rattle.std.specs.Prelude.{◌≡◌, ℕ, List, [], ◌∷◌, map, Option, Some, None, ⊤}
 use Rattle.attrs.specs.declared.attributes.Attrs.{Attrs}
-use Rattle.filt_syntax.specs.declared.ast.Parameter.{Parameter}
+use Rattle.conf_ast.specs.declared.filters.Parameter.{Parameter}
 use Rattle.conf_ast.specs.Configurations.{Routine}
 use Rattle.filt_values.specs.declared.value.Sort.{Sort}
 use Rattle.filt_values.specs.Values.{Val, sort_of}

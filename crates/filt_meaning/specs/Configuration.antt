@@ -10,7 +10,7 @@ use Rattle.attrs.specs.declared.judge.Verdict.{Verdict}
 use Rattle.attrs.specs.declared.judge.Verdict.TheVariants as verdicts
 use Rattle.attrs.specs.declared.route.Route.{Route}
 use Rattle.conf_lex.specs.Names.{name_bytes}
-use Rattle.filt_syntax.specs.declared.ast.Parameter.{Parameter}
+use Rattle.conf_ast.specs.declared.filters.Parameter.{Parameter}
 use Rattle.conf_ast.specs.Configurations as conf
 use Rattle.conf_ast.specs.Filters.{Expression, If, Accept, Reject, Statements, NoStatements, AndStatements}
 use Rattle.filt_values.specs.declared.value.Failure.{Failure}

@@ -3,7 +3,7 @@
 -- From: BIRD User's Guide, "Filters"; the limit of weight: own.
 -- Example: a function that weighs over 10,000,000 is refused at its name.
 use Rattle.std.specs.Prelude.{ℕ, List, ◌++◌, map}
-use Rattle.filt_syntax.specs.declared.ast.Parameter.{Parameter}
+use Rattle.conf_ast.specs.declared.filters.Parameter.{Parameter}
 use Rattle.conf_ast.specs.Configurations.{Routine}
 use Rattle.conf_ast.specs.Filters.{Statements}
 use Rattle.filt_meaning.specs.Names.{sort_of_type}

@@ -18,8 +18,8 @@ use Rattle.conf_lex.specs.Grammar.{begins}
 use Rattle.conf_lex.specs.Leaves.{name_leaf}
 use Rattle.conf_lex.specs.Agrees.{AgreesOnError, Agrees}
 use Rattle.conf_lex.specs.declared.refusal.Refusal.{Refusal}
-use Rattle.filt_syntax.specs.declared.ast.Arm.{Arm}
-use Rattle.filt_syntax.specs.declared.ast.Stmt.{Stmt}
+use Rattle.conf_ast.specs.declared.filters.Arm.{Arm}
+use Rattle.conf_ast.specs.declared.filters.Stmt.{Stmt}
 use Rattle.filt_syntax.specs.ItemView.{label_tree}
 use Rattle.filt_syntax.specs.StatementView.{nth, stmt_tree, body_after, otherwise_of}
 use Rattle.filt_syntax.specs.Inside.{case_arms}

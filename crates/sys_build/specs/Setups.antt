@@ -13,8 +13,8 @@ use Rattle.conf_check.specs.declared.checked.ImportLimit.{ImportLimit}
 use Rattle.conf_check.specs.declared.checked.StaticRoute.{StaticRoute}
 use Rattle.conf_check.specs.declared.checked.StaticTarget.{StaticTarget}
 use Rattle.conf_check.specs.declared.checked.StaticTarget.TheVariants as targets
-use Rattle.conf_tree.specs.declared.ast.Action.{Action as Written}
-use Rattle.conf_tree.specs.declared.ast.Action.TheVariants as written
+use Rattle.conf_ast.specs.declared.configurations.Action.{Action as Written}
+use Rattle.conf_ast.specs.declared.configurations.Action.TheVariants as written
 use Rattle.import_core.specs.declared.import_spec.Action.{Action}
 use Rattle.import_core.specs.declared.import_spec.Action.TheVariants as actions
 use Rattle.export_core.specs.declared.passing.ExportSpec.{ExportSpec}

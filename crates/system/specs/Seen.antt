@@ -4,8 +4,8 @@
 use Rattle.std.specs.Prelude.{◌≡◌, ⊤, ℕ, List, map, Option, Some, None, slice_get}
 use Rattle.attrs.specs.declared.judge.Verdict.TheVariants as verdicts
 use Rattle.conf_tree.specs.Position.{IsPlace}
-use Rattle.conf_tree.specs.declared.kind.ConfFault.{ConfFault}
-use Rattle.conf_tree.specs.declared.kind.ConfFault.TheVariants as conf_faults
+use Rattle.conf_ast.specs.declared.kind.ConfFault.{ConfFault}
+use Rattle.conf_ast.specs.declared.kind.ConfFault.TheVariants as conf_faults
 use Rattle.conf_check.specs.declared.checked.BgpDef.{BgpDef}
 use Rattle.conf_check.specs.declared.checked.ChannelDef.{ChannelDef}
 use Rattle.conf_check.specs.declared.checked.PipeDef.{PipeDef}

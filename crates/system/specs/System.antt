@@ -9,7 +9,7 @@ use Rattle.bits_ip.specs.declared.address.Addr.TheVariants as addrs
 use Rattle.bits_ip.specs.declared.address.Family.{Family}
 use Rattle.conf_lex.specs.declared.named.Name.{Name}
 use Rattle.conf_lex.specs.Names.{name_bytes}
-use Rattle.conf_tree.specs.declared.ast.Limit.TheVariants as limits
+use Rattle.conf_ast.specs.declared.configurations.Limit.TheVariants as limits
 use Rattle.conf_ast.specs.Configurations as conf
 use Rattle.conf_ast.specs.Configurations.{BgpSetting, FamilyChannel, Instance, Passing, PassAll, PassNone, PipeSetting, StaticSetting}
 use Rattle.conf_rules.specs.Channels.{settings_of}
