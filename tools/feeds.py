@@ -325,7 +325,8 @@ def announced(fields, told):
 def read_bgpdump_line(line, feed, told):
     fields = line.split("|")
     if fields[0] not in ("TABLE_DUMP", "TABLE_DUMP2", "BGP4MP", "BGP4MP_ET"):
-        raise NotCarried(f"line of kind {fields[0][:20]}")
+        known = re.fullmatch("[A-Z0-9_]{1,20}", fields[0])
+        raise NotCarried(f"line of kind {fields[0]}" if known else "line of another form")
     if len(fields) < 6:
         raise NotCarried("line with too few fields")
     kind, peer = fields[2], fields[3]

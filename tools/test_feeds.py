@@ -116,7 +116,7 @@ class Bgpdump(unittest.TestCase):
                 "line of kind TABLE_DUMP2_AP",
             ),
             ("BGP4MP|1|A|192.0.2.1|65001|198.51.100.0/24|65001\n", "line with too few fields"),
-            ("nonsense\n", "line of kind nonsense"),
+            ("nonsense\n", "line of another form"),
         ]
         for feed, reason in cases:
             with self.subTest(reason=reason):
