@@ -53,9 +53,6 @@ class Told:
         else:
             self.counts[key] = [1, self.line]
 
-    def total(self, group):
-        return sum(n for (g, _), (n, _) in self.counts.items() if g == group)
-
     def lines(self, group):
         for (g, what), (n, first) in sorted(self.counts.items(), key=lambda item: -item[1][0]):
             if g == group:
@@ -93,7 +90,7 @@ def prefix(text):
 
 
 def is_number(text):
-    return text.isascii() and text.isdigit()
+    return len(text) <= 20 and text.isascii() and text.isdigit()
 
 
 def number(text, what):
