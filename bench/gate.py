@@ -1,23 +1,27 @@
 #!/usr/bin/env python3
-"""Measures where the gate's time goes: runs `rt ci` with the words given (as --anew) and prints, for each crate, the minutes
-of a processor that its proof, its tests' proof, the check before its edits and its edits took, and the minutes by the clock.
+"""Measures where the gate's time goes: runs `rt ci` from nothing and prints, for each crate, the minutes of a processor that
+its proof, its tests, its edits, and the builds and runs of its program took, and at which minute its proof had ended.
 
-    python3 bench/gate.py --anew
+    python3 bench/gate.py --anew > table.md
 
-It samples the processes that the run starts each second, so what ends within a second is not seen. It is no part of the gate.
+--anew is handed on to an `rt ci` that keeps what it proved; one that keeps nothing begins anew at each run. What rt ci says
+goes to standard error. Processes are sampled each second, so what ends within a second is not seen and a second of each is
+lost; the sum that the system counted is told behind the table. It is no part of the gate.
 """
 import os
 import re
+import resource
 import subprocess
 import sys
 import time
 
-KINDS = ("proof", "tests", "before edits", "edits", "run")
+KINDS = ("proof", "tests", "edits", "builds and runs")
 TICKS = os.sysconf("SC_CLK_TCK")
 
 
 def processes():
-    """Yields each process with its parent, its seconds of a processor and its words."""
+    """Returns each process by its number: its parent, when it began, its seconds of a processor, its words, its folder."""
+    found = {}
     for name in os.listdir("/proc"):
         if not name.isdigit():
             continue
@@ -29,45 +33,75 @@ def processes():
             folder = os.readlink(f"/proc/{name}/cwd")
         except OSError:
             continue
-        yield int(name), int(fields[1]), (int(fields[11]) + int(fields[12])) / TICKS, words, folder
+        used = (int(fields[11]) + int(fields[12])) / TICKS
+        found[int(name)] = int(fields[1]), int(fields[19]), used, words, folder
+    return found
+
+
+def is_below(pid, top, parents):
+    """Returns whether a process was started by the other, or by one that it started."""
+    while pid in parents and pid != top:
+        pid = parents[pid]
+    return pid == top
 
 
 def kind_of(words, folder):
-    """Returns the crate and the kind of work of a process, by its words."""
+    """Returns the crate and the kind of work of a process, or None where it is neither a check nor a program's run."""
     text = " ".join(words)
+    ran = re.search(r"/rt-run-[^/]*/bin/(\w+?)(_tests)?$", next((it for it in words if "/rt-run-" in it), ""))
+    if ran and "-llvm" not in words[0]:
+        return ran[1], "builds and runs"
     crate = re.search(r"--crate-name (\w+)", text)
-    name = crate[1] if crate else next(iter(re.findall(r"crates/(\w+)", f"{folder} {text}")), "")
-    if "rt-edits-" in text or "rt-edits-" in folder:
-        return name, "before edits" if re.search(r"rt-edits-[^ /]*/seed\b", f"{text} {folder}") else "edits"
-    if " --test" in text:
-        return name, "tests"
-    return name, "proof" if crate else "run"
+    if not crate or os.path.basename(words[0]) != "rattle":
+        return None
+    if "rt-edit-" in folder or "rt-edits-" in text:
+        return crate[1], "edits"
+    if "--crate-checked" in words:
+        return crate[1], "builds and runs"
+    return crate[1], "tests" if "--test" in words else "proof"
+
+
+def sampled(run, begun):
+    """Returns what each process of the run used, with its crate and kind, and when each proof was last seen."""
+    used, ends = {}, {}
+    while run.poll() is None:
+        seen = processes()
+        parents = {pid: it[0] for pid, it in seen.items()}
+        for pid, (_, start, seconds, words, folder) in seen.items():
+            key = pid, start
+            kind = kind_of(words, folder) if key in used or is_below(pid, run.pid, parents) else None
+            if kind:
+                used[key] = seconds, kind
+                if kind[1] == "proof":
+                    ends[kind[0]] = (time.time() - begun) / 60
+        time.sleep(1)
+    return used, ends
+
+
+def row_of(name, minutes, end):
+    """Returns a line of the table. What is under a twentieth of a minute is left out."""
+    told = [f"{it:.1f}" if it >= 0.05 else "" for it in [*minutes, sum(minutes)]]
+    return "|".join([name, *told, end])
 
 
 def main():
+    told = subprocess.run(["rt", "help"], stdout=subprocess.PIPE, stderr=subprocess.STDOUT, text=True, check=False)
+    words = [it for it in sys.argv[1:] if it != "--anew" or "--anew" in told.stdout]
     begun = time.time()
-    run = subprocess.Popen(["rt", "ci", *sys.argv[1:]], stdout=sys.stderr)
-    ours, seconds, kinds = {run.pid}, {}, {}
-    while run.poll() is None:
-        seen = list(processes())
-        for _ in range(3):
-            ours |= {pid for pid, parent, *_ in seen if parent in ours}
-        for pid, _, used, words, folder in seen:
-            if pid in ours and pid != run.pid and "rattle" in words[0]:
-                seconds[pid], kinds[pid] = used, kind_of(words, folder)
-        time.sleep(1)
+    run = subprocess.Popen(["rt", "ci", *words], stdout=sys.stderr)
+    used, ends = sampled(run, begun)
     table = {}
-    for pid, used in seconds.items():
-        name, kind = kinds[pid]
-        row = table.setdefault(name, dict.fromkeys(KINDS, 0.0))
-        row[kind] += used / 60
-    print("| Crate | " + " | ".join(KINDS) + " | all |")
-    print("|---|" + "---|" * (len(KINDS) + 1))
+    for seconds, (name, kind) in used.values():
+        table.setdefault(name, dict.fromkeys(KINDS, 0.0))[kind] += seconds / 60
+    print("|".join(["Crate", *KINDS, "all", "proved by minute"]))
+    print("|".join(["---"] * (len(KINDS) + 3)))
     for name, row in sorted(table.items(), key=lambda it: -sum(it[1].values())):
-        print(f"| {name} | " + " | ".join(f"{row[it]:.1f}" for it in KINDS) + f" | {sum(row.values()):.1f} |")
+        print(row_of(name, row.values(), f"{ends[name]:.0f}" if name in ends else ""))
     sums = [sum(row[it] for row in table.values()) for it in KINDS]
-    print("| all | " + " | ".join(f"{it:.1f}" for it in sums) + f" | {sum(sums):.1f} |")
-    print(f"{(time.time() - begun) / 60:.1f} minutes by the clock, status {run.returncode}")
+    print(row_of("all", sums, f"{max(ends.values(), default=0):.0f}"))
+    whole = resource.getrusage(resource.RUSAGE_CHILDREN)
+    print(f"\n{(whole.ru_utime + whole.ru_stime) / 60:.1f} minutes of a processor by the system's count,", end=" ")
+    print(f"{(time.time() - begun) / 60:.1f} by the clock, status {run.returncode}")
     sys.exit(run.returncode)
 
 
