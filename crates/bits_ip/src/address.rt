@@ -1,5 +1,5 @@
 ghost use Rattle.std.specs.Prelude.{◌≡◌, ◌-◌, ◌/◌, ◌%◌, ◌^◌, ◌≤◌, ◌↔◌, IsTrue};
-ghost use Rattle.bits_ip.specs.Address.{family_of, family_rank, number_of, width_of};
+ghost use Rattle.bits_ip.specs.Address.{family_of, number_of, width_of};
 ghost use Rattle.bits_ip.specs.Prefix.{front_bits};
 
 /// The two families of internet addresses.
@@ -23,16 +23,6 @@ impl Addr {
         match self {
             Addr::V4(_) => Family::V4,
             Addr::V6(_) => Family::V6,
-        }
-    }
-
-    /// IPv4 comes before IPv6.
-    pub(crate) fn family_rank(&self) -> u8
-        ensures { result ≡ family_rank self.now }
-    {
-        match self {
-            Addr::V4(_) => 0,
-            Addr::V6(_) => 1,
         }
     }
 

@@ -1,5 +1,5 @@
 ghost use Rattle.std.specs.Prelude.{◌≡◌, ◌↔◌, ◌≤◌, ◌<◌, ◌-◌, ◌/◌, ◌%◌, ◌^◌, IsTrue, IfOk, OnErr};
-ghost use Rattle.bits_ip.specs.Address.{family_of};
+ghost use Rattle.bits_ip.specs.Address.{family_of, family_rank, number_of};
 ghost use Rattle.bits_ip.specs.Prefix.{bit_at, Covers, IsPrefix, precedes, net_cmp};
 
 use crate::{Addr, Family};
@@ -116,6 +116,30 @@ impl Prefix {
             && self.addr().front_bits(self.len) == other.addr().front_bits(self.len)
     }
 
+    /// IPv4 comes before IPv6.
+    fn family_rank(&self) -> u8
+        ensures { result ≡ family_rank self.now.addr }
+    {
+        match self.family {
+            Family::V4 => 0,
+            Family::V6 => 1,
+        }
+    }
+
+    /// The first half of the address's number.
+    fn upper_half(&self) -> u64
+        ensures { result ≡ number_of self.now.addr / 2 ^ 64 }
+    {
+        u64::from(self.first) * 0x1_0000_0000 + u64::from(self.second)
+    }
+
+    /// The second half of the address's number.
+    fn lower_half(&self) -> u64
+        ensures { result ≡ number_of self.now.addr % 2 ^ 64 }
+    {
+        u64::from(self.third) * 0x1_0000_0000 + u64::from(self.fourth)
+    }
+
     /// The order of nets: IPv4 first, then by address, then by length.
     pub fn precedes(&self, other: &Prefix) -> bool
         ensures { result ≡ precedes self.now other.now }
@@ -136,7 +160,10 @@ impl PartialEq for Prefix {
     ghost laws = { Prim.search (comparing, rules) };
 
     fn eq(&self, other: &Prefix) -> bool {
-        self.addr() == other.addr() && self.len == other.len
+        self.lower_half() == other.lower_half()
+            && self.len == other.len
+            && self.upper_half() == other.upper_half()
+            && self.family == other.family
     }
 }
 
@@ -185,9 +212,11 @@ impl Ord for Prefix {
     ghost matches_eq = { Prim.search (comparing, rules) };
 
     fn cmp(&self, other: &Prefix) -> Ordering {
-        let family = self.addr().family_rank().cmp(&other.addr().family_rank());
-        let address = self.addr().number().cmp(&other.addr().number());
-        family.then(address).then(self.len.cmp(&other.len))
+        let family = self.family_rank().cmp(&other.family_rank());
+        let upper = self.upper_half().cmp(&other.upper_half());
+        let lower = self.lower_half().cmp(&other.lower_half());
+        let length = self.len.cmp(&other.len);
+        family.then(upper).then(lower).then(length)
     }
 }
 
