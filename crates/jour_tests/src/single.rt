@@ -1,0 +1,81 @@
+//! A journal with one maker and one cursor.
+ghost use Rattle.std.specs.Prelude.{◌≡◌, ◌<◌, ◌≤◌};
+ghost use Rattle.jour.specs.Seats.{journal};
+
+use crate::bench::{Bench, Reader, Refused, last_of};
+use jour_rule::buf::Buf;
+use std::alloc::{AllocError, Global};
+
+/// A journal with one maker and one cursor.
+#[derive(Drop)]
+pub struct Single {
+    pub bench: Bench,
+    pub cursor: Reader,
+    started: bool,
+    ghost here: { journal cursor.0 ≡ journal bench.writer },
+    ghost started_is: { cursor.1 ≡ started },
+}
+
+impl Single {
+    /// One that starts at 0, whose cursor is closed.
+    pub fn open(alloc: Global, cells: u32) -> Result<Option<Single>, AllocError>
+        requires { (0 < cells) × (cells ≤ 4096) }
+    {
+        let Some((bench, mut cursors)) = Bench::open(alloc, cells, 1)? else {
+            return Ok(None);
+        };
+        let Some(cursor) = last_of(&bench.writer, &mut cursors) else {
+            return Ok(None);
+        };
+        Ok(Some(Single {
+            bench,
+            cursor,
+            started: false,
+        }))
+    }
+
+    /// Appends an entry with these words, and answers its position.
+    pub fn put(&mut self, words: &[u64]) -> Result<u64, Refused> {
+        self.bench.put(words)
+    }
+
+    /// Starts the cursor, and answers where it stands. None if it is started already.
+    pub fn start(&mut self) -> Option<u64> {
+        if self.started {
+            return None;
+        }
+        let at = self.bench.writer.start_cursor(&mut self.cursor);
+        self.started = true;
+        Some(at)
+    }
+
+    /// Closes the cursor if it is started.
+    pub fn close(&mut self) {
+        if self.started {
+            self.cursor.close();
+            self.started = false;
+        }
+    }
+
+    /// The cursor skips what the maker has seen. Answers where it stands, and none if it is started.
+    pub fn skip(&mut self) -> Result<Option<u64>, AllocError> {
+        if self.started {
+            return Ok(None);
+        }
+        let pass = self.bench.maker.split()?;
+        Ok(Some(self.cursor.skip(pass)))
+    }
+
+    /// The cursor meets the journal's pass. Answers the head that it knows then.
+    pub fn meet(&mut self) -> u64 {
+        self.cursor.meet(&mut self.bench.pass);
+        self.cursor.known()
+    }
+
+    /// Takes the next entry, and answers its position. Its words are then in `buf`.
+    pub fn take(&mut self, buf: &mut Buf) -> Option<u64> {
+        let at = self.cursor.next(buf)?;
+        self.cursor.advance();
+        Some(at)
+    }
+}
