@@ -7,10 +7,11 @@ use crate::cursor::Cursor;
 use crate::maker::Maker;
 use crate::pass::Pass;
 use crate::writer::Writer;
+use bits_ip::OutOfMemory;
 use jour_rule::law::Law;
 use jour_rule::steps::{copy, give_cursor, give_maker, open};
 use jour_rule::views::Terms;
-use std::alloc::{AllocError, Global};
+use std::alloc::Global;
 use std::sync::Arc;
 
 impl<O, L: Law<O>> Writer<O, L> {
@@ -22,7 +23,7 @@ impl<O, L: Law<O>> Writer<O, L> {
         makers: u32,
         start: u64,
         opening: O,
-    ) -> Result<Writer<O, L>, AllocError>
+    ) -> Result<Writer<O, L>, OutOfMemory>
     where
         O: Drop,
         requires { (0 < cells) × (cells ≤ 4096) × (cursors ≤ 512) }
@@ -51,7 +52,7 @@ impl<O, L: Law<O>> Writer<O, L> {
     }
 
     /// The next maker.
-    pub(crate) fn give_maker(&mut self) -> Result<Maker<O, L>, AllocError>
+    pub(crate) fn give_maker(&mut self) -> Result<Maker<O, L>, OutOfMemory>
         requires count { (makers_of self.old.1.role < self.old.1.seen.terms.makers)
             × (self.old.1.seen.terms.makers < 2 ^ 32) }
         ensures same { (journal self.new ≡ journal self.old)
@@ -76,7 +77,7 @@ impl<O, L: Law<O>> Writer<O, L> {
     }
 
     /// The next cursor, closed.
-    pub(crate) fn give_cursor(&mut self, number: u32) -> Result<Cursor<O, L>, AllocError>
+    pub(crate) fn give_cursor(&mut self, number: u32) -> Result<Cursor<O, L>, OutOfMemory>
         requires count { (cursors_of self.old.1.role ≡ number)
             × (number < self.old.1.seen.terms.cursors) }
         requires fresh { (front self.old.1 ≡ [])
@@ -107,7 +108,7 @@ impl<O, L: Law<O>> Writer<O, L> {
     }
 
     /// A pass that has seen the whole list. It refuses for want of memory alone.
-    pub fn split(&mut self) -> Result<Pass<O, L>, AllocError>
+    pub fn split(&mut self) -> Result<Pass<O, L>, OutOfMemory>
         ensures same { self.new ≡ self.old }
         ensures new { IfOk result (λ p. (journal p ≡ journal self.old)
             × (front p.1 ≡ front self.old.1) × (known p.1 ≡ known self.old.1)) }

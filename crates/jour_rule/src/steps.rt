@@ -18,7 +18,8 @@ use crate::plays::{
 use crate::rule::Kept;
 use crate::views::{Terms, View};
 use atomic_table::{Seat, Shared, Table};
-use std::alloc::{AllocError, Global};
+use bits_ip::OutOfMemory;
+use std::alloc::Global;
 use std::marker::Brand;
 
 /// The words of a journal, which its seats share.
@@ -212,7 +213,7 @@ pub fn give_cursor<O, L: Law<O>>(line: &Line<O, L>, place: &mut Place<O>) -> Pla
 pub fn open<O, L: Law<O>>(
     alloc: Global,
     terms: &Terms<O>,
-) -> Result<(Table<(), View<O>, Terms<O>, Kept<L>, Global>, Place<O>), AllocError>
+) -> Result<(Table<(), View<O>, Terms<O>, Kept<L>, Global>, Place<O>), OutOfMemory>
     requires { (terms.now.cursors ≤ 512) × (terms.now.cells ≤ 4096) }
     ensures { IfOk result (λ r.
         (r.0.shared.table_id.words ≡ terms.now.cursors + 1 + terms.now.cells * 256)
@@ -221,11 +222,11 @@ pub fn open<O, L: Law<O>>(
 {
     let count = terms.cursors as usize + 1 + terms.cells as usize * 256;
     let words = starts(alloc, terms.start, count)?;
-    Table::of_words(alloc, words.as_slice(), terms)
+    Ok(Table::of_words(alloc, words.as_slice(), terms)?)
 }
 
-fn starts(alloc: Global, start: u64, count: usize) -> Result<Vec<u64>, AllocError>
+fn starts(alloc: Global, start: u64, count: usize) -> Result<Vec<u64>, OutOfMemory>
     ensures { IfOk result (λ v. v.items ≡ replicate count start) }
 {
-    Vec::from_elem(alloc, start, count)
+    Ok(Vec::from_elem(alloc, start, count)?)
 }

@@ -4,6 +4,7 @@ ghost use Rattle.jour_rule.specs.Cells.{IsWhole};
 ghost use Rattle.jour.specs.Seats.{journal};
 ghost use Rattle.jour_tests.specs.Cursors.{AreClosed};
 
+use bits_ip::OutOfMemory;
 use jour::cursor::Cursor;
 use jour::make::make;
 use jour::maker::Maker;
@@ -12,7 +13,7 @@ use jour::room::Lag;
 use jour::writer::Writer;
 use jour_rule::buf::Buf;
 use jour_rule::law::OfMakers;
-use std::alloc::{AllocError, Global};
+use std::alloc::Global;
 
 /// A cursor of the journals of these tests.
 pub type Reader = Cursor<u64, OfMakers>;
@@ -65,13 +66,14 @@ impl Bench {
         alloc: Global,
         cells: u32,
         cursors: u32,
-    ) -> Result<Option<(Bench, Vec<Reader>)>, AllocError>
+    ) -> Result<Option<(Bench, Vec<Reader>)>, OutOfMemory>
         requires { (0 < cells) × (cells ≤ 4096) × (cursors ≤ 512) }
         ensures { IfOk result (λ made.
             IfSome made (λ m. AreClosed (journal m.0.writer) m.1.items)) }
     {
-        let (writer, cursors, mut makers, pass) =
-            make::<u64, OfMakers>(alloc, cells, cursors, 1, 0, 1)?;
+        let (writer, cursors, mut makers, pass) = make::<u64, OfMakers>(
+            alloc, cells, cursors, 1, 0, 1,
+        )?;
         let Some(maker) = makers.pop() else {
             return Ok(None);
         };
@@ -110,14 +112,14 @@ impl Bench {
     }
 
     /// The pass takes in what the maker has seen. Answers what it has seen then.
-    pub fn share(&mut self) -> Result<u64, AllocError> {
+    pub fn share(&mut self) -> Result<u64, OutOfMemory> {
         let other = self.maker.split()?;
         self.pass.join(other);
         Ok(self.pass.seen())
     }
 
     /// The maker takes in what the pass has seen. Answers what it has seen then.
-    pub fn share_back(&mut self) -> Result<u64, AllocError> {
+    pub fn share_back(&mut self) -> Result<u64, OutOfMemory> {
         let other = self.pass.split()?;
         self.maker.join(other);
         Ok(self.maker.seen())

@@ -22,10 +22,10 @@ fn a_cursor_takes_the_entries_in_order(rt: HostRuntime) -> Result<(), Fail> {
     for position in 1..4u64 {
         assert!(rt; journal.take(&mut words) == Some(position));
         assert!(rt; words.words() == words_of(position).words());
-        assert!(rt; journal.cursor.position() == position);
+        assert!(rt; journal.place() == (position, 3));
     }
     assert!(rt; journal.take(&mut words).is_none());
-    assert!(rt; journal.cursor.known() == 3);
+    assert!(rt; journal.place() == (3, 3));
     Ok(())
 }
 
@@ -36,8 +36,8 @@ fn the_next_entry_stays_until_the_cursor_moves(rt: HostRuntime) -> Result<(), Fa
     assert!(rt; journal.put(words_of(1).words()) == Ok(1));
     assert!(rt; journal.put(words_of(2).words()) == Ok(2));
     let mut words = Buf::new();
-    assert!(rt; journal.cursor.next(&mut words) == Some(1));
-    assert!(rt; journal.cursor.next(&mut words) == Some(1));
+    assert!(rt; journal.next(&mut words) == Some(1));
+    assert!(rt; journal.next(&mut words) == Some(1));
     assert!(rt; words.words() == words_of(1).words());
     assert!(rt; journal.take(&mut words) == Some(1));
     assert!(rt; journal.take(&mut words) == Some(2));

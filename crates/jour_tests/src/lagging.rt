@@ -27,7 +27,7 @@ fn a_closed_cursor_leaves_no_room_until_it_skips(rt: HostRuntime) -> Result<(), 
     assert!(rt; journal.put(words_of(2).words()) == Ok(2));
     assert!(rt; journal.start() == Some(2));
     let mut words = Buf::new();
-    assert!(rt; journal.cursor.next(&mut words).is_none());
+    assert!(rt; journal.next(&mut words).is_none());
     assert!(rt; journal.put(words_of(3).words()) == Ok(3));
     let second = Lag {
         cursor: 0,
@@ -50,7 +50,7 @@ fn a_take_makes_room(rt: HostRuntime) -> Result<(), Fail> {
         assert!(rt; journal.take(&mut words) == Some(position));
         assert!(rt; words.words() == words_of(position).words());
     }
-    assert!(rt; journal.cursor.next(&mut words).is_none());
+    assert!(rt; journal.next(&mut words).is_none());
     Ok(())
 }
 
@@ -63,7 +63,7 @@ fn a_cursor_started_again_stands_at_the_head(rt: HostRuntime) -> Result<(), Fail
     for position in 1..6u64 {
         assert!(rt; journal.put(words_of(position).words()) == Ok(position));
     }
-    assert!(rt; journal.cursor.position() == 0);
+    assert!(rt; journal.place() == (0, 0));
     assert!(rt; journal.start() == Some(5));
     let mut words = Buf::new();
     assert!(rt; journal.take(&mut words).is_none());

@@ -3,14 +3,15 @@ ghost use Rattle.std.specs.Prelude.{◌≡◌, ◌<◌, ◌≤◌};
 ghost use Rattle.jour.specs.Seats.{journal};
 
 use crate::bench::{Bench, Reader, Refused, last_of};
+use bits_ip::OutOfMemory;
 use jour_rule::buf::Buf;
-use std::alloc::{AllocError, Global};
+use std::alloc::Global;
 
 /// A journal with one maker and one cursor.
 #[derive(Drop)]
 pub struct Single {
-    pub bench: Bench,
-    pub cursor: Reader,
+    bench: Bench,
+    cursor: Reader,
     started: bool,
     ghost here: { journal cursor.0 ≡ journal bench.writer },
     ghost started_is: { cursor.1 ≡ started },
@@ -18,7 +19,7 @@ pub struct Single {
 
 impl Single {
     /// One that starts at 0, whose cursor is closed.
-    pub fn open(alloc: Global, cells: u32) -> Result<Option<Single>, AllocError>
+    pub fn open(alloc: Global, cells: u32) -> Result<Option<Single>, OutOfMemory>
         requires { (0 < cells) × (cells ≤ 4096) }
     {
         let Some((bench, mut cursors)) = Bench::open(alloc, cells, 1)? else {
@@ -58,7 +59,7 @@ impl Single {
     }
 
     /// The cursor skips what the maker has seen. Answers where it stands, and none if it is started.
-    pub fn skip(&mut self) -> Result<Option<u64>, AllocError> {
+    pub fn skip(&mut self) -> Result<Option<u64>, OutOfMemory> {
         if self.started {
             return Ok(None);
         }
@@ -72,10 +73,45 @@ impl Single {
         self.cursor.known()
     }
 
+    /// What passes have seen that the writer, the maker, the journal's pass and the cursor give.
+    pub fn given(&mut self) -> Result<[u64; 4], OutOfMemory> {
+        let writer = self.bench.writer.split()?.seen();
+        let maker = self.bench.maker.split()?.seen();
+        let pass = self.bench.pass.split()?.seen();
+        let cursor = self.cursor.pass()?.seen();
+        Ok([writer, maker, pass, cursor])
+    }
+
+    /// The journal's pass loads the head. Answers that, and what the pass has seen.
+    pub fn learn(&mut self) -> (u64, u64) {
+        let head = self.bench.pass.learn();
+        (head, self.bench.pass.seen())
+    }
+
+    /// The pass takes in what the maker has seen. Answers what it has seen then.
+    pub fn share(&mut self) -> Result<u64, OutOfMemory> {
+        self.bench.share()
+    }
+
+    /// The maker takes in what the pass has seen. Answers what it has seen then.
+    pub fn share_back(&mut self) -> Result<u64, OutOfMemory> {
+        self.bench.share_back()
+    }
+
+    /// The next entry, and the cursor stays.
+    pub fn next(&mut self, buf: &mut Buf) -> Option<u64> {
+        self.cursor.next(buf)
+    }
+
     /// Takes the next entry, and answers its position. Its words are then in `buf`.
     pub fn take(&mut self, buf: &mut Buf) -> Option<u64> {
         let at = self.cursor.next(buf)?;
         self.cursor.advance();
         Some(at)
+    }
+
+    /// The cursor's position and the head that it knows.
+    pub fn place(&self) -> (u64, u64) {
+        (self.cursor.position(), self.cursor.known())
     }
 }

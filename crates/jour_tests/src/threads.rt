@@ -47,9 +47,10 @@ fn two_cursors_read_what_one_thread_appends(rt: HostRuntime) -> Result<(), Fail>
     let Some((mut bench, mut cursors)) = Bench::open(rt.alloc(), 64, 2)? else {
         panic!(rt; "a journal without a maker")
     };
-    let (Some(mut first), Some(mut second)) =
-        (bench.start_one(&mut cursors), bench.start_one(&mut cursors))
-    else {
+    let (Some(mut first), Some(mut second)) = (
+        bench.start_one(&mut cursors),
+        bench.start_one(&mut cursors),
+    ) else {
         panic!(rt; "a journal without two cursors")
     };
     let (head, read) = thread::join(
