@@ -1,7 +1,7 @@
 //! A writer with its only maker.
-ghost use Rattle.std.specs.Prelude.{◌≡◌, ◌<◌, ◌≤◌, ◌^◌, true, false, IfOk, IfSome};
+ghost use Rattle.std.specs.Prelude.{◌≡◌, ◌+◌, ◌<◌, ◌≤◌, ◌^◌, true, false, IfOk, IfSome};
 ghost use Rattle.jour_rule.specs.Cells.{IsWhole};
-ghost use Rattle.jour.specs.Seats.{journal};
+ghost use Rattle.jour.specs.Seats.{journal, head_of, HasRoom};
 ghost use Rattle.jour_tests.specs.Cursors.{AreClosed};
 
 use bits_ip::OutOfMemory;
@@ -60,6 +60,25 @@ pub fn words_of(position: u64) -> Buf {
     words
 }
 
+/// Appends an entry to a journal whose law is that each entry is of one of its makers.
+fn append(
+    writer: &mut Writer<u64, OfMakers>,
+    maker: &mut Maker<u64, OfMakers>,
+    words: &[u64],
+) -> u64
+    requires here { journal maker.old ≡ journal writer.old }
+    requires makers { writer.old.1.seen.terms.opening ≡ writer.old.1.seen.terms.makers }
+    requires room { HasRoom writer.old.1 }
+    requires words { IsWhole words.now }
+    requires end { head_of writer.old.1 + 1 < 2 ^ 63 }
+    ensures here { (journal writer.new ≡ journal writer.old)
+        × (journal maker.new ≡ journal maker.old) }
+{
+    maker.number();
+    writer.lawful();
+    writer.append(maker, words)
+}
+
 impl Bench {
     /// A journal that starts at 0, with its cursors.
     pub fn open(
@@ -95,9 +114,7 @@ impl Bench {
         if let Err(lag) = self.writer.room(&mut self.maker) {
             return Err(Refused::Full(lag));
         }
-        self.maker.number();
-        self.writer.lawful();
-        Ok(self.writer.append(&mut self.maker, words))
+        Ok(append(&mut self.writer, &mut self.maker, words))
     }
 
     /// The last of some cursors, started at the head.
@@ -112,14 +129,18 @@ impl Bench {
     }
 
     /// The pass takes in what the maker has seen. Answers what it has seen then.
-    pub fn share(&mut self) -> Result<u64, OutOfMemory> {
+    pub fn share(&mut self) -> Result<u64, OutOfMemory>
+        ensures { journal self.new.writer ≡ journal self.old.writer }
+    {
         let other = self.maker.split()?;
         self.pass.join(other);
         Ok(self.pass.seen())
     }
 
     /// The maker takes in what the pass has seen. Answers what it has seen then.
-    pub fn share_back(&mut self) -> Result<u64, OutOfMemory> {
+    pub fn share_back(&mut self) -> Result<u64, OutOfMemory>
+        ensures { journal self.new.writer ≡ journal self.old.writer }
+    {
         let other = self.pass.split()?;
         self.maker.join(other);
         Ok(self.maker.seen())
