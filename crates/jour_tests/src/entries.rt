@@ -1,19 +1,11 @@
 use crate::{Single, words_of};
 use jour_rule::buf::Buf;
-use std::process::Abort;
 use std::test::Fail;
-
-fn single(rt: &impl Abort, made: Option<Single>) -> Single {
-    let Some(single) = made else {
-        panic!(rt; "a journal without a maker or a cursor")
-    };
-    single
-}
 
 /// A started cursor takes each entry once, in order and with its words, and then none.
 #[test]
 fn a_cursor_takes_the_entries_in_order(rt: HostRuntime) -> Result<(), Fail> {
-    let mut journal = single(&rt, Single::open(rt.alloc(), 4)?);
+    let mut journal = Single::open(&rt, rt.alloc(), 4)?;
     assert!(rt; journal.start() == Some(0));
     for position in 1..4u64 {
         assert!(rt; journal.put(words_of(position).words()) == Ok(position));
@@ -32,7 +24,7 @@ fn a_cursor_takes_the_entries_in_order(rt: HostRuntime) -> Result<(), Fail> {
 /// The next entry is the same one until the cursor moves.
 #[test]
 fn the_next_entry_stays_until_the_cursor_moves(rt: HostRuntime) -> Result<(), Fail> {
-    let mut journal = single(&rt, Single::open(rt.alloc(), 4)?);
+    let mut journal = Single::open(&rt, rt.alloc(), 4)?;
     assert!(rt; journal.put(words_of(1).words()) == Ok(1));
     assert!(rt; journal.put(words_of(2).words()) == Ok(2));
     let mut words = Buf::new();
@@ -47,7 +39,7 @@ fn the_next_entry_stays_until_the_cursor_moves(rt: HostRuntime) -> Result<(), Fa
 /// Entries of one word and of 256.
 #[test]
 fn the_shortest_and_the_longest_entry(rt: HostRuntime) -> Result<(), Fail> {
-    let mut journal = single(&rt, Single::open(rt.alloc(), 2)?);
+    let mut journal = Single::open(&rt, rt.alloc(), 2)?;
     let mut long = [7u64; 256];
     long[0] = 65536 + 256;
     assert!(rt; journal.put([1].as_slice()) == Ok(1));

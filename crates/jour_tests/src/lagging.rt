@@ -1,21 +1,13 @@
 use crate::{Refused, Single, words_of};
 use jour::room::Lag;
 use jour_rule::buf::Buf;
-use std::process::Abort;
 use std::test::Fail;
-
-fn single(rt: &impl Abort, made: Option<Single>) -> Single {
-    let Some(single) = made else {
-        panic!(rt; "a journal without a maker or a cursor")
-    };
-    single
-}
 
 /// A closed cursor of a journal of one cell lags at once. It skips what the maker has seen, and
 /// once it is started at the head it lags again by the entry after that.
 #[test]
 fn a_closed_cursor_leaves_no_room_until_it_skips(rt: HostRuntime) -> Result<(), Fail> {
-    let mut journal = single(&rt, Single::open(rt.alloc(), 1)?);
+    let mut journal = Single::open(&rt, rt.alloc(), 1)?;
     let first = Lag {
         cursor: 0,
         at: 0,
@@ -41,7 +33,7 @@ fn a_closed_cursor_leaves_no_room_until_it_skips(rt: HostRuntime) -> Result<(), 
 /// A cursor that takes an entry makes room for one.
 #[test]
 fn a_take_makes_room(rt: HostRuntime) -> Result<(), Fail> {
-    let mut journal = single(&rt, Single::open(rt.alloc(), 1)?);
+    let mut journal = Single::open(&rt, rt.alloc(), 1)?;
     assert!(rt; journal.start() == Some(0));
     let mut words = Buf::new();
     for position in 1..50u64 {
@@ -57,7 +49,7 @@ fn a_take_makes_room(rt: HostRuntime) -> Result<(), Fail> {
 /// A cursor that is closed and started again goes on at the head, and skips what is between.
 #[test]
 fn a_cursor_started_again_stands_at_the_head(rt: HostRuntime) -> Result<(), Fail> {
-    let mut journal = single(&rt, Single::open(rt.alloc(), 8)?);
+    let mut journal = Single::open(&rt, rt.alloc(), 8)?;
     assert!(rt; journal.start() == Some(0));
     journal.close();
     for position in 1..6u64 {

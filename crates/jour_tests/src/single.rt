@@ -6,6 +6,7 @@ use crate::bench::{Bench, Reader, Refused, last_of};
 use bits_ip::OutOfMemory;
 use jour_rule::buf::Buf;
 use std::alloc::Global;
+use std::process::Abort;
 
 /// A journal with one maker and one cursor.
 #[derive(Drop)]
@@ -19,20 +20,20 @@ pub struct Single {
 
 impl Single {
     /// One that starts at 0, whose cursor is closed.
-    pub fn open(alloc: Global, cells: u32) -> Result<Option<Single>, OutOfMemory>
+    pub fn open(rt: &impl Abort, alloc: Global, cells: u32) -> Result<Single, OutOfMemory>
         requires { (0 < cells) × (cells ≤ 4096) }
     {
         let Some((bench, mut cursors)) = Bench::open(alloc, cells, 1)? else {
-            return Ok(None);
+            panic!(rt; "a journal without a maker")
         };
         let Some(cursor) = last_of(&bench.writer, &mut cursors) else {
-            return Ok(None);
+            panic!(rt; "a journal without a cursor")
         };
-        Ok(Some(Single {
+        Ok(Single {
             bench,
             cursor,
             started: false,
-        }))
+        })
     }
 
     /// Appends an entry with these words, and answers its position.

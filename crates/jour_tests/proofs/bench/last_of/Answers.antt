@@ -1,7 +1,3 @@
-use Rattle.std.proofs.Common.{◌≡◌, Bool, false}
-use Rattle.atomic_table.specs.Seated.{TableId}
-use Rattle.jour_rule.specs.declared.views.View.{View}
-use Rattle.jour.specs.Seats.{journal}
 use Rattle.jour_tests.proofs.Last.{last_some}
 use Rattle.jour_tests.proofs.bench.last_of.Goals as goal
 

@@ -1,7 +1,5 @@
-use mathlib.Core.List.{IsPrefix}
-use Rattle.std.proofs.Common.{max, ◌≤◌, ◌∙◌, ap, sym, subst, arith}
-use Rattle.jour_rule.specs.Moves.{longest}
-use Rattle.jour.specs.Seats.{IsSure, IsCursor, journal, head_of, known, heads, front}
+use Rattle.std.proofs.Common.{◌∙◌, ap, sym, subst}
+use Rattle.jour.specs.Seats.{IsSure, IsCursor}
 use Rattle.jour.proofs.Told.{seated, pass_reads}
 use Rattle.jour.proofs.Standings.{met}
 use Rattle.jour.proofs.cursor.Cursor.meet.Goals as goal
