@@ -1,0 +1,4 @@
+pub mod Cells
+pub mod Journal
+pub mod Laws
+pub mod Moves
