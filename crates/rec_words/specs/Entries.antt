@@ -38,21 +38,26 @@ pub record IsSource (src : Src) : Type 0 where
   pub def_med : IsNumber src.def_med
   pub def_lp : IsNumber src.def_lp
 
-pub record AreAttributes (a : Attrs) : Type 0 where
-  pub pref : IsNumber a.pref
+-- the numbers that stand before the addresses
+pub record AreHeadNumbers (r : Route) : Type 0 where
+  pub src : IsSource r.src
+  pub pref : IsNumber r.attrs.pref
+  pub peer_id : IsNumber r.attrs.peer_id
+  pub med : IfSome r.attrs.med IsNumber
+  pub lp : IfSome r.attrs.lp IsNumber
+  pub igp : IfSome r.attrs.igp IsNumber
+
+-- the addresses and the lists
+pub record AreWaysAndLists (a : Attrs) : Type 0 where
   pub gw : IfSome a.gw IsAddr
   pub sender : IfSome a.sender IsAddr
-  pub peer_id : IsNumber a.peer_id
-  pub path : IsPath a.path
   pub next_hop : IfSome a.next_hop IsAddr
-  pub med : IfSome a.med IsNumber
-  pub lp : IfSome a.lp IsNumber
-  pub igp : IfSome a.igp IsNumber
+  pub path : IsPath a.path
   pub coms : AreCommunities a.coms
 
 pub record IsRoute (r : Route) : Type 0 where
-  pub src : IsSource r.src
-  pub attrs : AreAttributes r.attrs
+  pub numbers : AreHeadNumbers r
+  pub others : AreWaysAndLists r.attrs
 
 pub record IsEntry (e : JEntry) : Type 0 where
   pub net : IsNet e.net

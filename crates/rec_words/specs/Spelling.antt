@@ -81,15 +81,20 @@ shape_word a =
     kind_number a.kind + at_bit 4 (dest_number a.dest) + at_bit 8 (flag a.ebgp) + at_bit 12 (origin_number a.origin) + at_bit 16 (flag (is_there a.med))
     + at_bit 17 (flag (is_there a.lp)) + at_bit 18 (flag (is_there a.igp)) + at_bit 24 (length a.path) + at_bit 32 (length a.coms)
 
--- a missing MED, local preference or distance is 0, which its bit in the shape tells from a value
-unfoldable pub route_words : Route → List ℕ
-route_words r =
+-- where the route is from, its preference, its shape, and its numbers: a missing MED, local preference or distance is 0, which the shape tells from a value
+abbrev pub head_words : Route → List ℕ
+head_words r =
     joined r.src.num r.src.def_med
     ∷ joined r.src.def_lp r.attrs.pref
     ∷ shape_word r.attrs
     ∷ joined r.attrs.peer_id (or_zero r.attrs.med)
     ∷ joined (or_zero r.attrs.lp) (or_zero r.attrs.igp)
-    ∷ (addr_words r.attrs.gw ++ addr_words r.attrs.sender ++ addr_words r.attrs.next_hop ++ number_words r.attrs.path ++ number_words (map pair_number r.attrs.coms))
+    ∷ []
+
+unfoldable pub route_words : Route → List ℕ
+route_words r =
+    head_words r ++ addr_words r.attrs.gw ++ addr_words r.attrs.sender ++ addr_words r.attrs.next_hop ++ number_words r.attrs.path
+    ++ number_words (map pair_number r.attrs.coms)
 
 abbrev pub optional_route_words : Option Route → List ℕ
 optional_route_words None = []
@@ -101,7 +106,7 @@ first_word count has_new has_best = count + at_bit 16 (flag has_new) + at_bit 17
 
 -- the words behind the first
 abbrev pub body_words : JEntry → List ℕ
-body_words e = net_words e.net ++ e.num ∷ (optional_route_words e.new ++ optional_route_words e.best)
+body_words e = net_words e.net ++ e.num ∷ [] ++ optional_route_words e.new ++ optional_route_words e.best
 
 unfoldable pub entry_words : JEntry → List ℕ
 entry_words e = first_word (suc (length (body_words e))) (is_there e.new) (is_there e.best) ∷ body_words e

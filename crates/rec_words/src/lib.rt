@@ -5,9 +5,14 @@
 //! isn't the spelling of an entry is refused (`Spells` of specs/Entries, `laws`).
 #![tactic(auto)]
 
+mod build;
+mod counts;
 mod fault;
 pub mod laws;
+mod parts;
 mod read;
+mod shape;
+mod word;
 mod write;
 
 pub use fault::WordsFault;
