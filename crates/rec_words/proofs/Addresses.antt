@@ -10,7 +10,7 @@ use Rattle.bits_ip.specs.declared.address.Addr.TheVariants.{V4, V6}
 use Rattle.rec_words.specs.Spelling.{addr_words, at_bit, family_number, net_words}
 use Rattle.rec_words.specs.Entries.{IsAddr, IsNet, IsNumber}
 use Rattle.rec_words.specs.Reading.{◌>>=◌, addr_at, family_addr_at, is_prefix, net_at, number_at, v4_at, v6_at}
-use Rattle.rec_words.proofs.Takes.{IsWords, IsWords-rest, bind_some, guard_some, some_is, Takes}
+use Rattle.rec_words.proofs.Takes.{IsWords, IsWords-rest, bind_some, guard_some, map_some, some_is, Takes}
 use Rattle.rec_words.proofs.Halves.{number_again, number_takes}
 
 pub addr_again : (addr : Option Addr) (rest : List ℕ) → IfSome addr IsAddr → addr_at (addr_words addr ++ rest) ≡ Some (addr, rest)
@@ -53,7 +53,7 @@ unfolding addr_at
 by_family family ws addr rest fits e true b4 b6 e0 e4 e6 =
     let zero_is : family ≡ 0 = eqb-true family 0 e0 in
     let e' = rw e0 at e in
-    let start = record { parts = ap (λ (f : ℕ). f ∷ ws) zero_is; rest_fits = IsWords-rest family ws fits } in
+    let start : Takes (family ∷ ws) (0 ∷ []) ws = record { parts = ap (λ (f : ℕ). f ∷ ws) zero_is; rest_fits = IsWords-rest family ws fits } in
     subst (λ (x : Option Addr × List ℕ). Takes (family ∷ ws) (addr_words x.0) x.1 × IfSome x.0 IsAddr) (some_is (None, ws) (addr, rest) e') (start, tt)
 by_family family ws addr rest fits e false true b6 e0 e4 e6 =
     let four : family ≡ 4 = eqb-true family 4 e4 in
@@ -94,11 +94,11 @@ by_version family high low addr small other e true b6 true e4 e6 eh =
     let four : family ≡ 4 = eqb-true family 4 e4 in
     let none : high ≡ 0 = eqb-true high 0 eh in
     let e' = rw (e4, eh) at e in
-    let b = bind_some (number_at low) (λ n. Some (V4 n)) addr e' in
+    let b = map_some (number_at low) (λ n. V4 n) addr e' in
     let n = number_takes low b.0 b.1 in
     subst
     (λ (a : Addr). IsFamilyAddr family high low a)
-    (some_is (V4 b.0) addr b.2)
+    b.2
     (record { family_is = sym four; high_is = omega (arith, n.1, none); low_is = omega (arith, n.0, n.1); is = n.1 })
 by_version family high low addr small other e true b6 false e4 e6 eh = let e' = rw (e4, eh) at e in absurd cc
 by_version family high low addr small other e false true bh e4 e6 eh =

@@ -97,7 +97,7 @@ unfolding coms_at
 coms_again pairs rest are =
     let few : ltb 64 (length pairs) ≡ false = le-ltb _ _ are.list.short in
     let read : numbers_at (length pairs) (number_words (map pair_number pairs) ++ rest) ≡ Some (map pair_number pairs, rest) =
-    subst (λ (n : ℕ). numbers_at n (number_words (map pair_number pairs) ++ rest) ≡ Some (map pair_number pairs, rest)) (length-map pair_number pairs) (numbers_again (map pair_number pairs) rest (numbers_small pairs are.pairs)) in
+    subst (λ (n : ℕ). numbers_at n (number_words (map pair_number pairs) ++ rest) ≡ Some (map pair_number pairs, rest)) (length-map pairs pair_number) (numbers_again (map pair_number pairs) rest (numbers_small pairs are.pairs)) in
     rw (few, read, distinct_again pairs are.pairs are.list.distinct) refl
 
 pub record AreTaken (count : ℕ) (ns : List ℕ) : Type 0 where
@@ -114,6 +114,6 @@ coms_takes count ws ns rest fits e =
     let read : numbers_at count ws ≡ Some (ns, rest) = b.1 ∙ ap (λ (x : List ℕ × List ℕ). Some x) same in
     let t = numbers_takes count ws ns rest fits read in
     let distinct : all_distinct ns ≡ true = ap (λ (x : List ℕ × List ℕ). all_distinct x.0) (sym same) ∙ d.0 in
-    let many : length (map pair_of ns) ≡ count = length-map pair_of ns ∙ t.1.many in
+    let many : length (map pair_of ns) ≡ count = length-map ns pair_of ∙ t.1.many in
     let short : length (map pair_of ns) ≤ 64 = omega (arith, many, ltb-false _ _ g.0) in
     (rw (numbers_back ns) t.0, record { many = many; are = record { list = record { short = short; distinct = distinct_takes ns distinct }; pairs = are_pairs ns t.1.fit } })

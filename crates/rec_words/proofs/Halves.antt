@@ -6,7 +6,7 @@ use Rattle.std.proofs.lemmas.Bool.{ltb-true, ltb-false, lt-ltb, le-ltb}
 use Rattle.std.proofs.lemmas.List.{take_at, drop_at, take-append-drop, length-append, length-take}
 use Rattle.rec_words.specs.Spelling.{joined, is_there, number_words}
 use Rattle.rec_words.specs.Entries.{IsNumber}
-use Rattle.rec_words.specs.Reading.{low_half, high_half, number_at, last_at, listed, split_word, numbers_at}
+use Rattle.rec_words.specs.Reading.{◌>>=◌, low_half, high_half, number_at, last_at, listed, split_word, numbers_at}
 use Rattle.rec_words.proofs.Takes.{IsWords, IsWords-drop, IsWords-take, IsWords-rest, bind_some, guard_some, unless_some, some_is, Takes}
 
 pub low_back : (low high : ℕ) → low < 2 ^ 32 → low_half (joined low high) ≡ low
@@ -99,7 +99,7 @@ numbers_many (p ∷ pairs) last = omega (arith, numbers_many pairs last)
 numbers_fit : (pairs : List ℕ) (last : Option ℕ) → IsWords pairs → IfSome last IsNumber → AllByRecursion IsNumber (flat_map split_word pairs ++ listed last)
 numbers_fit [] None words fits = tt
 numbers_fit [] (Some n) words fits = (fits, tt)
-numbers_fit (p ∷ pairs) last words fits = (low_small p, high_small p (words 0), numbers_fit pairs last (IsWords-rest p pairs words) fits)
+numbers_fit (p ∷ pairs) last words fits = (low_small p, (high_small p (words 0), numbers_fit pairs last (IsWords-rest p pairs words) fits))
 
 odd_many : (count : ℕ) (last : Option ℕ) → is_there last ≡ (count % 2 == 1) → 2 * (count / 2) + length (listed last) ≡ count
 odd_many count None odd = grind (arith, odd)

@@ -15,7 +15,7 @@ numbers_len (n ∷ []) = refl
 numbers_len (a ∷ b ∷ xs) = omega (arith, numbers_len xs)
 
 pub coms_len : (pairs : List (ℕ × ℕ)) → length (number_words (map pair_number pairs)) ≡ (length pairs + 1) / 2
-coms_len pairs = omega (arith, numbers_len (map pair_number pairs), length-map pair_number pairs)
+coms_len pairs = omega (arith, numbers_len (map pair_number pairs), length-map pairs pair_number)
 
 pub addr_few : (addr : Option Addr) → length (addr_words addr) ≤ 3
 addr_few None = omega arith

@@ -4,5 +4,6 @@ mod Communities
 mod Addresses
 mod Shapes
 mod Lengths
+mod Ranges
 mod Routes
 mod Whole

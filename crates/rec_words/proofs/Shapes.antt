@@ -12,7 +12,7 @@ use Rattle.attrs.specs.declared.attributes.Origin.TheVariants.{Igp, Egp, Incompl
 use Rattle.rec_words.specs.declared.shape.Shape.{Shape}
 use Rattle.rec_words.specs.Spelling.{dest_number, flag, is_there, kind_number, origin_number, shape_word}
 use Rattle.rec_words.specs.Reading.{bit_at, dest_of, kind_of, origin_of, shape_at, shape_in, shape_of, word_of}
-use Rattle.rec_words.proofs.Takes.{guard_some, some_is}
+use Rattle.rec_words.proofs.Takes.{found, guard_some, some_is}
 
 kind_small : (kind : Kind) → kind_number kind ≤ 1
 kind_small Static = omega arith
@@ -110,7 +110,11 @@ eqb_same n = grind (arith, nat_tests)
 
 pub shape_again : (s : Shape) → s.path_len < 256 → s.com_len < 256 → shape_at (word_of s) ≡ Some s
 unfolding shape_at
-shape_again s path coms = rw (shape_back s path coms, eqb_same (word_of s)) refl
+shape_again s path coms =
+    subst
+    (λ (x : Shape). cond (word_of x == word_of s) (found x) None ≡ found s)
+    (sym (shape_back s path coms))
+    (ap (λ (b : Bool). cond b (found s) None) (eqb_same (word_of s)))
 
 pub shape_takes : (word : ℕ) (s : Shape) → shape_at word ≡ Some s → word ≡ word_of s
 unfolding shape_at

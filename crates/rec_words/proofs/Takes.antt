@@ -2,6 +2,7 @@
 use Rattle.std.proofs.Common.{◌≡◌, ℕ, suc, ◌+◌, ◌<◌, ◌^◌, Bool, true, false, cond, List, [], ◌∷◌, ◌++◌, length, get_or, take, drop, Option, Some, None, refl, sym, ap, ◌∙◌, append_assoc, arith, inl, inr}
 use Rattle.std.proofs.lemmas.Bool.{cases_lt}
 use Rattle.std.proofs.lemmas.List.{length-take, get_or-drop, get_or-take, get_or_past}
+use Rattle.std.specs.Prelude.{option_map}
 use Rattle.rec_words.specs.Reading.{◌>>=◌}
 
 abbrev pub IsWords : List ℕ → Type 0
@@ -33,11 +34,15 @@ pub unless_some : {A : Type 0} (b : Bool) (r : Option A) (y : A) → cond b None
 unless_some true r y e = absurd cc
 unless_some false r y e = (refl, e)
 
-abbrev found : {A : Type 0} → A → Option A
+abbrev pub found : {A : Type 0} → A → Option A
 found x = Some x
 
 pub some_is : {A : Type 0} (x y : A) → found x ≡ found y → x ≡ y
 some_is x y e = cc
+
+pub map_some : {A B : Type 0} (r : Option A) (f : A → B) (y : B) → option_map f r ≡ Some y → (x : A) × (r ≡ Some x) × (f x ≡ y)
+map_some (Some x) f y e = (x, refl, some_is (f x) y e)
+map_some None f y e = absurd cc
 
 -- what a reader took from the front
 pub record Takes (ws front rest : List ℕ) : Type 0 where

@@ -11,6 +11,8 @@ use Rattle.attrs.specs.declared.journal.JEntry.{JEntry}
 use Rattle.jour_rule.specs.Cells.{IsWhole}
 use Rattle.rec_words.specs.declared.parts.Front.{Front}
 use Rattle.rec_words.specs.Spelling.{addr_words, at_bit, body_words, entry_words, family_number, first_word, flag, head_words, is_there, net_words, number_words, optional_route_words, pair_number, route_words}
+use Rattle.std.specs.List.{IsDistinct}
+use Rattle.rec_words.specs.Worked.{black_hole, worked, worked_words}
 use Rattle.rec_words.specs.Entries.{IsEntry, IsEntryWords, IsNet, IsNumber, IsRoute, Spells}
 use Rattle.rec_words.specs.Reading.{◌>>=◌, bit_at, entry_at, front_in, net_at, number_at, optional_route_at}
 use Rattle.rec_words.proofs.Takes.{IsWords, IsWords-drop, IsWords-take, bind_some, guard_some, unless_some, some_is, Takes, Takes-then}
@@ -125,3 +127,23 @@ no_front (w ∷ ws) rest a b first second =
     let one = whole_words (w ∷ ws) a first in
     let two = whole_words (w ∷ ws ++ rest) b second in
     nil_from_length rest (omega (arith, one.0.told, two.0.told, length-append (w ∷ ws) rest))
+
+hole_is : IsRoute black_hole
+unfolding IsDistinct
+hole_is = record {
+  numbers = record { src = record { num = omega arith; def_med = omega arith; def_lp = omega arith }; pref = omega arith; peer_id = omega arith; med = tt; lp = tt; igp = tt };
+  others = record {
+    gw = tt;
+    sender = tt;
+    next_hop = tt;
+    path = record { short = omega arith; numbers = tt };
+    coms = record { list = record { short = omega arith; distinct = tt }; pairs = tt };
+  };
+}
+
+pub worked_spelled : Spells worked worked_words
+unfolding entry_words route_words IsDistinct
+worked_spelled = record {
+  entry = record { net = record { addr = omega arith; prefix = record { within = omega arith; host_bits = refl } }; num = omega arith; new = hole_is; best = hole_is };
+  words = refl;
+}

@@ -1,6 +1,6 @@
 -- Reading an entry from words: what is read at the front, with the words behind it, or nothing where the front isn't spelled so. `entry_in` and the like are what the parts
 -- that were read come to, before memory is taken for them. Not modelled: memory. From: this project's own format.
-use Rattle.std.specs.Prelude.{◌≡◌, ℕ, ◌+◌, ◌*◌, ◌/◌, ◌%◌, ◌^◌, Bool, true, false, not, ◌&&◌, ◌==◌, nat_lt, nat_le, if◌then◌else◌, List, [], ◌∷◌, ◌++◌, length, map, take, drop, slice_index, Option, Some, None, Result, Ok, Err, option_map}
+use Rattle.std.specs.Prelude.{◌≡◌, ℕ, ◌+◌, ◌-◌, ◌*◌, ◌/◌, ◌%◌, ◌^◌, Bool, true, false, not, ◌&&◌, ◌==◌, nat_lt, nat_le, if◌then◌else◌, List, [], ◌∷◌, ◌++◌, length, map, take, drop, slice_index, Option, Some, None, Result, Ok, Err, option_map}
 use Rattle.std.specs.List.{flat_map, list_any}
 use Rattle.bits_ip.specs.Address.{number_of, width_of}
 use Rattle.bits_ip.specs.Prefix.{Net}
@@ -231,15 +231,11 @@ optional_route_at true ws = do
   Some (Some route.0, route.1)
 
 -- the address of a family, in two words
+abbrev pub v4_in : ℕ → ℕ → Option Addr
+v4_in high low = if high == 0 then option_map (λ n. V4 n) (number_at low) else None
+
 unfoldable pub family_addr_at : ℕ → ℕ → ℕ → Option Addr
-family_addr_at family high low =
-    if family == 4 then
-      if high == 0 then do
-        n ← number_at low
-        Some (V4 n)
-      else None
-    else if family == 6 then Some (V6 (high * 2 ^ 64 + low))
-    else None
+family_addr_at family high low = if family == 4 then v4_in high low else if family == 6 then Some (V6 (high * 2 ^ 64 + low)) else None
 
 abbrev pub is_prefix : Addr → ℕ → Bool
 is_prefix addr len = nat_le len (width_of addr) && (number_of addr % 2 ^ (width_of addr - len) == 0)
@@ -250,12 +246,15 @@ net_at form high low = do
   if is_prefix addr (form % 256) then Some (record { addr = addr; len = form % 256 }) else None
 
 -- the five words before the routes, of so many words
+abbrev pub front_with : Bool → Bool → List ℕ → Option Front
+front_with has_new has_best ws = do
+  net ← net_at (slice_index ws 1) (slice_index ws 2) (slice_index ws 3)
+  num ← number_at (slice_index ws 4)
+  Some record { has_new = has_new; has_best = has_best; net = net; num = num }
+
 unfoldable pub front_in : ℕ → List ℕ → Option Front
 front_in count ws =
-    if first_word count (bit_at 16 (slice_index ws 0)) (bit_at 17 (slice_index ws 0)) == slice_index ws 0 then do
-      net ← net_at (slice_index ws 1) (slice_index ws 2) (slice_index ws 3)
-      num ← number_at (slice_index ws 4)
-      Some record { has_new = bit_at 16 (slice_index ws 0); has_best = bit_at 17 (slice_index ws 0); net = net; num = num }
+    if first_word count (bit_at 16 (slice_index ws 0)) (bit_at 17 (slice_index ws 0)) == slice_index ws 0 then front_with (bit_at 16 (slice_index ws 0)) (bit_at 17 (slice_index ws 0)) ws
     else None
 
 unfoldable pub entry_at : List ℕ → Option JEntry

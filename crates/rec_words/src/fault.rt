@@ -25,7 +25,7 @@ impl From<OutOfMemory> for WordsFault {
 
 /// Words aren't what they are read as.
 #[derive(Clone, Copy, Debug, Drop)]
-pub struct Misspelt;
+pub(crate) struct Misspelt;
 
 impl From<Misspelt> for WordsFault {
     ghost from_gives = { λ _ fault. fault ≡ BadWords };

@@ -19,9 +19,10 @@ pub fn get_words(alloc: Global, words: &[u64]) -> Result<JEntry, WordsFault>
     ensures found { IfOk result (λ entry. Spells entry words.now) }
     ensures refused { (result ≡ Err WordsFault.BadWords) ↔ (IsEntryWords words.now → ⊥) }
 {
-    let parts = read_entry(words)?;
-    let entry = build_entry(alloc, &parts)?;
-    Ok(entry)
+    match read_entry(words) {
+        Ok(parts) => Ok(build_entry(alloc, &parts)?),
+        Err(Misspelt) => Err(WordsFault::BadWords),
+    }
 }
 
 /// Takes no memory.
@@ -45,8 +46,8 @@ fn read_entry(words: &[u64]) -> Result<EntryParts<'_>, Misspelt>
 /// The front of an entry of so many words.
 #[tactic(auto, unfolding(crate::specs::Reading::front_in))]
 fn read_front(count: usize, words: &[u64]) -> Result<Front, Misspelt>
-    requires { count < 2 ^ 63 }
-    requires { length words.now ≡ 5 }
+    requires count { count < 2 ^ 63 }
+    requires five { length words.now ≡ 5 }
     ensures { Gives (λ front. front) result (front_in count words.now) }
 {
     let has_new = words[0] / 0x1_0000 % 2 == 1;
