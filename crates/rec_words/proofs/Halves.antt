@@ -4,7 +4,8 @@ use Rattle.std.specs.Prelude.{IfSome}
 use Rattle.std.specs.List.{flat_map, AllByRecursion}
 use Rattle.std.proofs.lemmas.Bool.{ltb-true, ltb-false, lt-ltb, le-ltb}
 use Rattle.std.proofs.lemmas.List.{take_at, drop_at, take-append-drop, length-append, length-take}
-use Rattle.rec_words.specs.Spelling.{joined, is_there, number_words}
+use Rattle.std.specs.Option.{is_some}
+use Rattle.rec_words.specs.Spelling.{joined, number_words}
 use Rattle.rec_words.specs.Entries.{IsNumber}
 use Rattle.rec_words.specs.Reading.{◌>>=◌, low_half, high_half, number_at, last_at, listed, split_word, numbers_at}
 use Rattle.rec_words.proofs.Takes.{IsWords, IsWords-drop, IsWords-take, IsWords-rest, bind_some, guard_some, unless_some, some_is, Takes}
@@ -33,21 +34,21 @@ number_takes word n e =
     let same : word ≡ n = some_is word n g.1 in
     (same, subst (λ (m : ℕ). m < 2 ^ 32) same (ltb-true _ _ g.0))
 
-pub last_again : (last : Option ℕ) (rest : List ℕ) → IfSome last IsNumber → last_at (is_there last) (listed last ++ rest) ≡ Some (last, rest)
+pub last_again : (last : Option ℕ) (rest : List ℕ) → IfSome last IsNumber → last_at (is_some last) (listed last ++ rest) ≡ Some (last, rest)
 unfolding last_at
 last_again None rest fits = refl
 last_again (Some n) rest fits = rw (number_again n fits) refl
 
-pub last_takes : (there : Bool) (ws : List ℕ) (last : Option ℕ) (rest : List ℕ) → IsWords ws → last_at there ws ≡ Some (last, rest) → Takes ws (listed last) rest × (is_there last ≡ there) × IfSome last IsNumber
+pub last_takes : (there : Bool) (ws : List ℕ) (last : Option ℕ) (rest : List ℕ) → IsWords ws → last_at there ws ≡ Some (last, rest) → Takes ws (listed last) rest × (is_some last ≡ there) × IfSome last IsNumber
 unfolding last_at
 last_takes false ws last rest fits e =
-    subst (λ (x : Option ℕ × List ℕ). Takes ws (listed x.0) x.1 × (is_there x.0 ≡ false) × IfSome x.0 IsNumber) (some_is (None, ws) (last, rest) e) (record { parts = refl; rest_fits = fits }, refl, tt)
+    subst (λ (x : Option ℕ × List ℕ). Takes ws (listed x.0) x.1 × (is_some x.0 ≡ false) × IfSome x.0 IsNumber) (some_is (None, ws) (last, rest) e) (record { parts = refl; rest_fits = fits }, refl, tt)
 last_takes true [] last rest fits e = absurd cc
 last_takes true (word ∷ ws) last rest fits e =
     let b = bind_some (number_at word) (λ n. Some (Some n, ws)) (last, rest) e in
     let n = number_takes word b.0 b.1 in
     subst
-    (λ (x : Option ℕ × List ℕ). Takes (word ∷ ws) (listed x.0) x.1 × (is_there x.0 ≡ true) × IfSome x.0 IsNumber)
+    (λ (x : Option ℕ × List ℕ). Takes (word ∷ ws) (listed x.0) x.1 × (is_some x.0 ≡ true) × IfSome x.0 IsNumber)
     (some_is (Some b.0, ws) (last, rest) b.2)
     (record { parts = ap (λ (m : ℕ). m ∷ ws) n.0; rest_fits = IsWords-rest word ws fits }, refl, n.1)
 
@@ -58,7 +59,7 @@ record Cut (xs : List ℕ) : Type 0 where
   pub words : number_words xs ≡ pairs ++ listed last
   pub many : length pairs ≡ length xs / 2
   pub back : flat_map split_word pairs ++ listed last ≡ xs
-  pub odd : (length xs % 2 == 1) ≡ is_there last
+  pub odd : (length xs % 2 == 1) ≡ is_some last
   pub fits : IfSome last IsNumber
 
 cut : (xs : List ℕ) → AllByRecursion IsNumber xs → Cut xs
@@ -101,7 +102,7 @@ numbers_fit [] None words fits = tt
 numbers_fit [] (Some n) words fits = (fits, tt)
 numbers_fit (p ∷ pairs) last words fits = (low_small p, (high_small p (words 0), numbers_fit pairs last (IsWords-rest p pairs words) fits))
 
-odd_many : (count : ℕ) (last : Option ℕ) → is_there last ≡ (count % 2 == 1) → 2 * (count / 2) + length (listed last) ≡ count
+odd_many : (count : ℕ) (last : Option ℕ) → is_some last ≡ (count % 2 == 1) → 2 * (count / 2) + length (listed last) ≡ count
 odd_many count None odd = grind (arith, odd)
 odd_many count (Some n) odd = grind (arith, odd)
 

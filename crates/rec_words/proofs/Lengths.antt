@@ -4,6 +4,7 @@ use Rattle.std.specs.Prelude.{IfSome}
 use Rattle.std.proofs.lemmas.List.{length-append, length-map}
 use Rattle.bits_ip.specs.declared.address.Addr.{Addr}
 use Rattle.bits_ip.specs.declared.address.Addr.TheVariants.{V4, V6}
+use Rattle.attrs.specs.declared.attributes.Attrs.{Attrs}
 use Rattle.attrs.specs.declared.route.Route.{Route}
 use Rattle.attrs.specs.declared.journal.JEntry.{JEntry}
 use Rattle.rec_words.specs.Spelling.{addr_words, body_words, head_words, net_words, number_words, optional_route_words, pair_number, route_words}
@@ -50,3 +51,14 @@ body_len e =
 
 pub body_few : (e : JEntry) → IsEntry e → suc (length (body_words e)) ≤ 217
 body_few e is = omega (arith, body_len e, optional_few e.new is.new, optional_few e.best is.best)
+
+-- what is counted of a route's parts is the length of its words
+pub route_len_is :
+    (r : Route) (a : Attrs) (path : List ℕ) (coms : List (ℕ × ℕ)) (g s n p c : ℕ) → a ≡ r.attrs → path ≡ a.path → coms ≡ a.coms → g ≡ length (addr_words a.gw) → s ≡ length (addr_words a.sender) → n ≡ length (addr_words a.next_hop) → p ≡ (length path + 1) / 2 → c ≡ (length coms + 1) / 2 → 5 + (g + s + n) + p + c ≡ length (route_words r)
+route_len_is r a path coms g s n p c same path_is coms_is gw sender next_hop path_len com_len =
+    let gw' : length (addr_words a.gw) ≡ length (addr_words r.attrs.gw) = ap (λ (x : Attrs). length (addr_words x.gw)) same in
+    let sender' : length (addr_words a.sender) ≡ length (addr_words r.attrs.sender) = ap (λ (x : Attrs). length (addr_words x.sender)) same in
+    let hop' : length (addr_words a.next_hop) ≡ length (addr_words r.attrs.next_hop) = ap (λ (x : Attrs). length (addr_words x.next_hop)) same in
+    let path' : length path ≡ length r.attrs.path = ap length path_is ∙ ap (λ (x : Attrs). length x.path) same in
+    let coms' : length coms ≡ length r.attrs.coms = ap length coms_is ∙ ap (λ (x : Attrs). length x.coms) same in
+    omega (arith, route_len r, gw, sender, next_hop, path_len, com_len, gw', sender', hop', path', coms')

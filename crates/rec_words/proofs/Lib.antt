@@ -7,3 +7,4 @@ mod Lengths
 mod Ranges
 mod Routes
 mod Whole
+mod Written

@@ -3,12 +3,13 @@ use Rattle.std.proofs.Common.{◌≡◌, ℕ, suc, ◌+◌, ◌*◌, ◌/◌, �
 use Rattle.std.specs.Prelude.{IfSome, slice_index, nat_lt}
 use Rattle.std.proofs.lemmas.Bool.{eqb-true, ltb-true, lt-ltb, ltb-false, le-ltb}
 use Rattle.std.proofs.lemmas.List.{take-append-drop}
+use Rattle.std.specs.Option.{is_some}
 use Rattle.attrs.specs.declared.attributes.Attrs.{Attrs}
 use Rattle.attrs.specs.declared.route.Route.{Route}
 use Rattle.rec_words.specs.declared.shape.Shape.{Shape}
 use Rattle.rec_words.specs.declared.parts.Head.{Head}
 use Rattle.rec_words.specs.declared.parts.Ways.{Ways}
-use Rattle.rec_words.specs.Spelling.{addr_words, head_words, is_there, joined, number_words, optional_route_words, or_zero, pair_number, route_words, shape_word}
+use Rattle.rec_words.specs.Spelling.{addr_words, head_words, joined, number_words, optional_route_words, or_zero, pair_number, route_words, shape_word}
 use Rattle.rec_words.specs.Entries.{AreCommunities, AreHeadNumbers, IsAddr, IsNumber, IsPath, IsRoute}
 use Rattle.rec_words.specs.Reading.{◌>>=◌, addr_at, coms_at, head_at, head_in, high_half, low_half, numbers_at, optional_at, optional_route_at, pair_of, path_at, route_at, route_of, shape_at, shape_of, ways_at, word_of}
 use Rattle.rec_words.proofs.Takes.{IsWords, IsWords-drop, IsWords-rest, IsWords-take, bind_some, guard_some, unless_some, some_is, Takes, Takes-then}
@@ -17,12 +18,12 @@ use Rattle.rec_words.proofs.Communities.{AreTaken, coms_again, coms_takes, pairs
 use Rattle.rec_words.proofs.Shapes.{shape_again, shape_takes}
 use Rattle.rec_words.proofs.Addresses.{addr_again, addr_takes}
 
-optional_again : (number : Option ℕ) → optional_at (is_there number) (or_zero number) ≡ Some number
+optional_again : (number : Option ℕ) → optional_at (is_some number) (or_zero number) ≡ Some number
 optional_again None = refl
 optional_again (Some n) = refl
 
 record IsOptional (there : Bool) (n : ℕ) (number : Option ℕ) : Type 0 where
-  pub there_is : is_there number ≡ there
+  pub there_is : is_some number ≡ there
   pub zero_or : or_zero number ≡ n
   pub small : IfSome number IsNumber
 
@@ -76,9 +77,9 @@ record IsHead (h : Head) : Type 0 where
   pub def_lp : IsNumber h.src.def_lp
   pub pref_small : IsNumber h.pref
   pub peer_small : IsNumber h.peer_id
-  pub med_is : is_there h.med ≡ h.shape.has_med
-  pub lp_is : is_there h.lp ≡ h.shape.has_lp
-  pub igp_is : is_there h.igp ≡ h.shape.has_igp
+  pub med_is : is_some h.med ≡ h.shape.has_med
+  pub lp_is : is_some h.lp ≡ h.shape.has_lp
+  pub igp_is : is_some h.igp ≡ h.shape.has_igp
   pub med_small : IfSome h.med IsNumber
   pub lp_small : IfSome h.lp IsNumber
   pub igp_small : IfSome h.igp IsNumber
@@ -241,19 +242,19 @@ route_takes ws r rest fits read =
     (some_is (made, c.0.1) (r, rest) c.2)
     (subst (λ (t : List ℕ). Takes ws t c.0.1) spelled third, is)
 
-pub optional_route_again : (r : Option Route) (rest : List ℕ) → IfSome r IsRoute → optional_route_at (is_there r) (optional_route_words r ++ rest) ≡ Some (r, rest)
+pub optional_route_again : (r : Option Route) (rest : List ℕ) → IfSome r IsRoute → optional_route_at (is_some r) (optional_route_words r ++ rest) ≡ Some (r, rest)
 unfolding optional_route_at
 optional_route_again None rest is = refl
 optional_route_again (Some r) rest is = rw (route_again r rest is) refl
 
-pub optional_route_takes : (there : Bool) (ws : List ℕ) (r : Option Route) (rest : List ℕ) → IsWords ws → optional_route_at there ws ≡ Some (r, rest) → Takes ws (optional_route_words r) rest × (is_there r ≡ there) × IfSome r IsRoute
+pub optional_route_takes : (there : Bool) (ws : List ℕ) (r : Option Route) (rest : List ℕ) → IsWords ws → optional_route_at there ws ≡ Some (r, rest) → Takes ws (optional_route_words r) rest × (is_some r ≡ there) × IfSome r IsRoute
 unfolding optional_route_at
 optional_route_takes false ws r rest fits read =
-    subst (λ (x : Option Route × List ℕ). Takes ws (optional_route_words x.0) x.1 × (is_there x.0 ≡ false) × IfSome x.0 IsRoute) (some_is (None, ws) (r, rest) read) (record { parts = refl; rest_fits = fits }, refl, tt)
+    subst (λ (x : Option Route × List ℕ). Takes ws (optional_route_words x.0) x.1 × (is_some x.0 ≡ false) × IfSome x.0 IsRoute) (some_is (None, ws) (r, rest) read) (record { parts = refl; rest_fits = fits }, refl, tt)
 optional_route_takes true ws r rest fits read =
     let b = bind_some (route_at ws) (λ route. Some (Some route.0, route.1)) (r, rest) read in
     let t = route_takes ws b.0.0 b.0.1 fits b.1 in
     subst
-    (λ (x : Option Route × List ℕ). Takes ws (optional_route_words x.0) x.1 × (is_there x.0 ≡ true) × IfSome x.0 IsRoute)
+    (λ (x : Option Route × List ℕ). Takes ws (optional_route_words x.0) x.1 × (is_some x.0 ≡ true) × IfSome x.0 IsRoute)
     (some_is (Some b.0.0, b.0.1) (r, rest) b.2)
     (t.0, refl, t.1)

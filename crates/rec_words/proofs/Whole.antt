@@ -1,6 +1,8 @@
 -- Entries in words: what is read is spelled so, and what is spelled so is read.
 use Rattle.std.proofs.Common.{◌≡◌, ℕ, suc, ◌+◌, ◌*◌, ◌/◌, ◌%◌, ◌<◌, ◌≤◌, ◌^◌, Bool, true, false, ◌==◌, eqb, cond, ltb, List, [], ◌∷◌, ◌++◌, length, map, take, drop, get_or, Option, Some, None, refl, sym, ap, subst, ◌∙◌, append_assoc, arith}
-use Rattle.std.specs.Prelude.{IfSome, slice_index}
+use Rattle.std.specs.Prelude.{IfSome, IsErrAnd, Result, Ok, Err, slice_index}
+use Rattle.rec_words.specs.declared.fault.WordsFault.{WordsFault}
+use Rattle.rec_words.specs.declared.fault.WordsFault.TheVariants.{BadWords, Memory}
 use Rattle.std.proofs.lemmas.Bool.{eqb-true, ltb-true, lt-ltb, ltb-false, le-ltb}
 use Rattle.std.proofs.lemmas.Bool.Decides.{nat_tests}
 use Rattle.std.proofs.lemmas.List.{append-nil, length-append, nil_from_length, take-append-drop}
@@ -10,8 +12,9 @@ use Rattle.attrs.specs.declared.route.Route.{Route}
 use Rattle.attrs.specs.declared.journal.JEntry.{JEntry}
 use Rattle.jour_rule.specs.Cells.{IsWhole}
 use Rattle.rec_words.specs.declared.parts.Front.{Front}
-use Rattle.rec_words.specs.Spelling.{addr_words, at_bit, body_words, entry_words, family_number, first_word, flag, head_words, is_there, net_words, number_words, optional_route_words, pair_number, route_words}
+use Rattle.rec_words.specs.Spelling.{addr_words, at_bit, body_words, entry_words, family_number, first_word, flag, head_words, net_words, number_words, optional_route_words, pair_number, route_words}
 use Rattle.std.specs.List.{IsDistinct}
+use Rattle.std.specs.Option.{is_some}
 use Rattle.rec_words.specs.Worked.{black_hole, worked, worked_words}
 use Rattle.rec_words.specs.Entries.{IsEntry, IsEntryWords, IsNet, IsNumber, IsRoute, Spells}
 use Rattle.rec_words.specs.Reading.{◌>>=◌, bit_at, entry_at, front_in, net_at, number_at, optional_route_at}
@@ -33,17 +36,17 @@ first_is count has_new has_best small =
     record { new_is = ap (λ (n : ℕ). n == 1) new ∙ flag_back has_new; best_is = ap (λ (n : ℕ). n == 1) best ∙ flag_back has_best }
 
 abbrev front_of : JEntry → Front
-front_of e = record { has_new = is_there e.new; has_best = is_there e.best; net = e.net; num = e.num }
+front_of e = record { has_new = is_some e.new; has_best = is_some e.best; net = e.net; num = e.num }
 
 abbrev first_of : JEntry → ℕ
-first_of e = first_word (suc (length (body_words e))) (is_there e.new) (is_there e.best)
+first_of e = first_word (suc (length (body_words e))) (is_some e.new) (is_some e.best)
 
 front_again : (e : JEntry) → IsEntry e → front_in (suc (length (body_words e))) (first_of e ∷ (net_words e.net ++ e.num ∷ [])) ≡ Some (front_of e)
 unfolding front_in
 front_again e is =
     let count = suc (length (body_words e)) in
     let few : count < 65536 = omega (arith, body_few e is) in
-    let f = first_is count (is_there e.new) (is_there e.best) few in
+    let f = first_is count (is_some e.new) (is_some e.best) few in
     rw (f.new_is, f.best_is, eqb_same (first_of e), net_again e.net is.net, number_again e.num is.num) refl
 
 pub entry_again : (e : JEntry) → IsEntry e → entry_at (entry_words e) ≡ Some e
@@ -54,7 +57,7 @@ entry_again e is =
     let front = first_of e ∷ (net_words e.net ++ e.num ∷ []) in
     let long : ltb (length (first_of e ∷ body_words e)) 5 ≡ false = le-ltb _ _ (omega (arith, length-append (net_words e.net ++ e.num ∷ [] ++ new) best, length-append (net_words e.net ++ e.num ∷ []) new)) in
     let tail : best ++ [] ≡ best = append-nil best in
-    let last : optional_route_at (is_there e.best) best ≡ Some (e.best, []) = subst (λ (ws : List ℕ). optional_route_at (is_there e.best) ws ≡ Some (e.best, [])) tail (optional_route_again e.best [] is.best) in
+    let last : optional_route_at (is_some e.best) best ≡ Some (e.best, []) = subst (λ (ws : List ℕ). optional_route_at (is_some e.best) ws ≡ Some (e.best, [])) tail (optional_route_again e.best [] is.best) in
     rw (long, front_again e is, optional_route_again e.new best is.new, last) refl
 
 record IsFront (count : ℕ) (ws : List ℕ) (f : Front) : Type 0 where
@@ -102,7 +105,7 @@ entry_takes ws e fits read =
     let count : length ws ≡ suc (length (fw ++ nw ++ bw)) = ap length whole in
     let spelled : ws ≡ entry_words made =
     whole ∙ ap (λ (k : ℕ). first_word k f.0.has_new f.0.has_best ∷ (fw ++ nw ++ bw)) count ∙ ap (λ (b : Bool). first_word (suc (length (fw ++ nw ++ bw))) b f.0.has_best ∷ (fw ++ nw ++ bw)) (sym new.1)
-    ∙ ap (λ (b : Bool). first_word (suc (length (fw ++ nw ++ bw))) (is_there n.0.0) b ∷ (fw ++ nw ++ bw)) (sym best.1) in
+    ∙ ap (λ (b : Bool). first_word (suc (length (fw ++ nw ++ bw))) (is_some n.0.0) b ∷ (fw ++ nw ++ bw)) (sym best.1) in
     subst (λ (x : JEntry). Spells x ws) (some_is made e done.1) (record { entry = record { net = front.net_is; num = front.num_is; new = new.2; best = best.2 }; words = spelled })
 
 -- laws
@@ -147,3 +150,16 @@ worked_spelled = record {
   entry = record { net = record { addr = omega arith; prefix = record { within = omega arith; host_bits = refl } }; num = omega arith; new = hole_is; best = hole_is };
   words = refl;
 }
+
+-- words of which reading makes nothing are no entry's
+pub not_entry : (ws : List ℕ) → entry_at ws ≡ None → IsEntryWords ws → ⊥
+not_entry ws none is = let read = sym none ∙ ap entry_at is.1.words ∙ entry_again is.0 is.1.entry in absurd cc
+
+bad_is : (fault : WordsFault) → fault ≡ Memory → ◌≡◌ {A = Result JEntry WordsFault} (Err fault) (Err BadWords) → ⊥
+bad_is BadWords memory same = absurd cc
+bad_is Memory memory same = absurd cc
+
+-- want of memory is told of words of an entry alone
+pub memory_refused : (ws : List ℕ) (result : Result JEntry WordsFault) → IsErrAnd result (λ fault. fault ≡ Memory) → IsEntryWords ws → (result ≡ Err BadWords → IsEntryWords ws → ⊥) × ((IsEntryWords ws → ⊥) → result ≡ Err BadWords)
+memory_refused ws (Ok e) memory is = absurd memory
+memory_refused ws (Err fault) memory is = (λ same words. absurd (bad_is fault memory same), λ none. absurd (none is))

@@ -2,6 +2,7 @@
 -- that were read come to, before memory is taken for them. Not modelled: memory. From: this project's own format.
 use Rattle.std.specs.Prelude.{◌≡◌, ℕ, ◌+◌, ◌-◌, ◌*◌, ◌/◌, ◌%◌, ◌^◌, Bool, true, false, not, ◌&&◌, ◌==◌, nat_lt, nat_le, if◌then◌else◌, List, [], ◌∷◌, ◌++◌, length, map, take, drop, slice_index, Option, Some, None, Result, Ok, Err, option_map}
 use Rattle.std.specs.List.{flat_map, list_any}
+use Rattle.std.specs.Option.{is_some}
 use Rattle.bits_ip.specs.Address.{number_of, width_of}
 use Rattle.bits_ip.specs.Prefix.{Net}
 use Rattle.bits_ip.specs.declared.address.Addr.{Addr}
@@ -23,7 +24,7 @@ use Rattle.rec_words.specs.declared.parts.Ways.{Ways}
 use Rattle.rec_words.specs.declared.parts.RouteParts.{RouteParts}
 use Rattle.rec_words.specs.declared.parts.Front.{Front}
 use Rattle.rec_words.specs.declared.parts.EntryParts.{EntryParts}
-use Rattle.rec_words.specs.Spelling.{at_bit, dest_number, first_word, flag, is_there, kind_number, origin_number}
+use Rattle.rec_words.specs.Spelling.{at_bit, dest_number, first_word, flag, kind_number, origin_number}
 
 infixl 10 ◌>>=◌
 abbrev pub ◌>>=◌ : {A B : Type 0} → Option A → (A → Option B) → Option B
@@ -63,9 +64,9 @@ shape_of a = record {
   dest = a.dest;
   ebgp = a.ebgp;
   origin = a.origin;
-  has_med = is_there a.med;
-  has_lp = is_there a.lp;
-  has_igp = is_there a.igp;
+  has_med = is_some a.med;
+  has_lp = is_some a.lp;
+  has_igp = is_some a.igp;
   path_len = length a.path;
   com_len = length a.coms;
 }

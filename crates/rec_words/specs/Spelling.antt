@@ -1,6 +1,7 @@
 -- The words of an entry of a table's journal: the net, the change's source, and the new route and the best one where they are. Each number stands at a bit of a word; bits
 -- without a number are 0. Not modelled: where the words stand in the journal. From: this project's own format.
 use Rattle.std.specs.Prelude.{ℕ, suc, ◌+◌, ◌*◌, ◌/◌, ◌%◌, ◌^◌, Bool, true, false, List, [], ◌∷◌, ◌++◌, length, map, Option, Some, None, unwrap_or}
+use Rattle.std.specs.Option.{is_some}
 use Rattle.bits_ip.specs.Address.{number_of}
 use Rattle.bits_ip.specs.Prefix.{Net}
 use Rattle.bits_ip.specs.declared.address.Addr.{Addr}
@@ -26,10 +27,6 @@ joined low high = low + at_bit 32 high
 abbrev pub flag : Bool → ℕ
 flag false = 0
 flag true = 1
-
-abbrev pub is_there : {A : Type 0} → Option A → Bool
-is_there None = false
-is_there (Some x) = true
 
 abbrev pub or_zero : Option ℕ → ℕ
 or_zero number = unwrap_or number 0
@@ -78,8 +75,8 @@ pair_number pair = pair.0 * 65536 + pair.1
 -- what sort of route it is, which values it has, and how long its lists are
 abbrev pub shape_word : Attrs → ℕ
 shape_word a =
-    kind_number a.kind + at_bit 4 (dest_number a.dest) + at_bit 8 (flag a.ebgp) + at_bit 12 (origin_number a.origin) + at_bit 16 (flag (is_there a.med))
-    + at_bit 17 (flag (is_there a.lp)) + at_bit 18 (flag (is_there a.igp)) + at_bit 24 (length a.path) + at_bit 32 (length a.coms)
+    kind_number a.kind + at_bit 4 (dest_number a.dest) + at_bit 8 (flag a.ebgp) + at_bit 12 (origin_number a.origin) + at_bit 16 (flag (is_some a.med))
+    + at_bit 17 (flag (is_some a.lp)) + at_bit 18 (flag (is_some a.igp)) + at_bit 24 (length a.path) + at_bit 32 (length a.coms)
 
 -- where the route is from, its preference, its shape, and its numbers: a missing MED, local preference or distance is 0, which the shape tells from a value
 abbrev pub head_words : Route → List ℕ
@@ -109,4 +106,4 @@ abbrev pub body_words : JEntry → List ℕ
 body_words e = net_words e.net ++ e.num ∷ [] ++ optional_route_words e.new ++ optional_route_words e.best
 
 unfoldable pub entry_words : JEntry → List ℕ
-entry_words e = first_word (suc (length (body_words e))) (is_there e.new) (is_there e.best) ∷ body_words e
+entry_words e = first_word (suc (length (body_words e))) (is_some e.new) (is_some e.best) ∷ body_words e

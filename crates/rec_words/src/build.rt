@@ -29,7 +29,7 @@ fn build_optional_route(
     parts: Option<&RouteParts>,
 ) -> Result<Option<Route>, OutOfMemory>
     requires { IfSome parts (λ parts. IsRoute (route_in parts.now)) }
-    ensures { IfOk result (λ route. route ≡ option_map (λ parts. route_in parts.now) parts) }
+    ensures { IfOk result (λ route. route ≡ option_map (λ parts. route_in parts.now) parts.entry) }
 {
     match parts {
         None => Ok(None),

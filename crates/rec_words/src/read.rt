@@ -1,4 +1,4 @@
-ghost use Rattle.std.specs.Prelude.{◌≡◌, ◌<◌, ◌≤◌, ◌↔◌, ◌+◌, ◌*◌, ◌^◌, length, Err, IfOk, option_map};
+ghost use Rattle.std.specs.Prelude.{◌≡◌, ◌<◌, ◌≤◌, ◌↔◌, ◌+◌, ◌*◌, ◌/◌, ◌^◌, length, Err, IfOk, option_map};
 ghost use Rattle.rec_words.specs.Entries.{Spells, IsEntryWords};
 ghost use Rattle.rec_words.specs.Reading.{addr_at, all_distinct, coms_at, entry_at, entry_in, family_addr_at, front_in, Gives, head_at, head_in, last_at, net_at, numbers_at, numbers_in, optional_at, optional_route_at, path_at, route_at, route_in, v4_at, v6_at, ways_at};
 ghost use Rattle.rec_words.specs.declared.fault.WordsFault.TheVariants.{BadWords};
@@ -260,7 +260,8 @@ fn read_coms(count: u8, words: &[u64]) -> Result<(Numbers<'_>, &[u64]), Misspelt
 /// As many numbers.
 #[tactic(auto, unfolding(crate::specs::Reading::numbers_at))]
 fn read_numbers(count: u8, words: &[u64]) -> Result<(Numbers<'_>, &[u64]), Misspelt>
-    ensures { Gives (λ x. (numbers_in x.0, x.1.now)) result (numbers_at count words.now) }
+    ensures read { Gives (λ x. (numbers_in x.0, x.1.now)) result (numbers_at count words.now) }
+    ensures few { IfOk result (λ x. length x.0.pairs.now ≤ count / 2) }
 {
     let pairs = usize::from(count / 2);
     if words.len() < pairs {

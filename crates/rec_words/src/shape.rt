@@ -47,6 +47,7 @@ impl Shape {
     }
 
     /// The shape that the word spells.
+    #[tactic(auto, unfolding(crate::specs::Reading::shape_at))]
     pub fn of_word(word: u64) -> Result<Shape, Misspelt>
         ensures { Gives (λ shape. shape) result (shape_at word) }
     {

@@ -2,6 +2,7 @@
 ghost use Rattle.std.specs.Prelude.{◌≡◌, ◌<◌, ◌≤◌, ◌/◌, ◌%◌, ◌^◌};
 ghost use Rattle.bits_ip.specs.Address.{number_of};
 ghost use Rattle.rec_words.specs.Spelling.{family_number, first_word, joined, pair_number};
+ghost use Rattle.rec_words.specs.Entries.{IsPair};
 ghost use Rattle.rec_words.specs.Reading.{Gives, high_half, low_half, number_at, pair_of};
 
 use crate::fault::Misspelt;
@@ -35,7 +36,8 @@ pub(crate) fn number_at(word: u64) -> Result<u32, Misspelt>
 
 /// A community as a number.
 pub(crate) fn pair_number(pair: (u16, u16)) -> u32
-    ensures { result ≡ pair_number pair }
+    ensures number { result ≡ pair_number pair }
+    ensures is { IsPair pair }
 {
     u32::from(pair.0) * 0x1_0000 + u32::from(pair.1)
 }

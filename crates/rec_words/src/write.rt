@@ -98,7 +98,7 @@ fn put_addr(addr: Option<Addr>, buf: &mut Buf)
 
 /// Two numbers in each word.
 fn put_numbers(numbers: &[u32], buf: &mut Buf)
-    requires { 2 * length buf.old + length numbers.now ≤ 511 }
+    requires { 2 * length buf.old + length numbers.now ≤ 512 }
     ensures written { buf.new ≡ buf.old ++ number_words numbers.now }
     ensures few { 2 * length buf.new ≤ 2 * length buf.old + length numbers.now + 1 }
     ensures are { AllByRecursion IsNumber numbers.now }
@@ -115,7 +115,7 @@ fn put_numbers(numbers: &[u32], buf: &mut Buf)
 
 /// Two communities in each word.
 fn put_pairs(pairs: &[(u16, u16)], buf: &mut Buf)
-    requires { 2 * length buf.old + length pairs.now ≤ 511 }
+    requires { 2 * length buf.old + length pairs.now ≤ 512 }
     ensures written { buf.new ≡ buf.old ++ number_words (map pair_number pairs.now) }
     ensures few { 2 * length buf.new ≤ 2 * length buf.old + length pairs.now + 1 }
     ensures are { AllByRecursion IsPair pairs.now }
