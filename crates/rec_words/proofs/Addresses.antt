@@ -1,15 +1,15 @@
 -- Addresses and nets in words.
-use Rattle.std.proofs.Common.{◌≡◌, ℕ, suc, ◌+◌, ◌*◌, ◌/◌, ◌%◌, ◌-◌, ◌<◌, ◌≤◌, ◌^◌, Bool, true, false, ◌&&◌, ◌==◌, cond, ltb, eqb, List, [], ◌∷◌, ◌++◌, length, get_or, Option, Some, None, refl, sym, ap, subst, ◌∙◌, ⊎_elim, arith}
-use Rattle.std.specs.Prelude.{IfSome, nat_le}
-use Rattle.std.proofs.lemmas.Bool.{cases_Bool, eqb-true, ltb-true, lt-ltb, ltb-false, le-ltb}
+use Rattle.std.proofs.Common.{◌≡◌, ℕ, ◌+◌, ◌*◌, ◌/◌, ◌%◌, ◌<◌, ◌≤◌, ◌^◌, Bool, true, false, ◌==◌, cond, List, [], ◌∷◌, ◌++◌, Option, Some, None, refl, sym, ap, subst, ◌∙◌, arith}
+use Rattle.std.specs.Prelude.{IfSome}
+use Rattle.std.proofs.lemmas.Bool.{eqb-true}
 use Rattle.std.proofs.lemmas.Bool.Decides.{nat_tests}
 use Rattle.bits_ip.specs.Address.{number_of, width_of}
 use Rattle.bits_ip.specs.Prefix.{Net, IsPrefix}
 use Rattle.bits_ip.specs.declared.address.Addr.{Addr}
 use Rattle.bits_ip.specs.declared.address.Addr.TheVariants.{V4, V6}
 use Rattle.rec_words.specs.Spelling.{addr_words, at_bit, family_number, net_words}
-use Rattle.rec_words.specs.Entries.{IsAddr, IsNet, IsNumber}
-use Rattle.rec_words.specs.Reading.{◌>>=◌, addr_at, family_addr_at, is_prefix, net_at, number_at, v4_at, v6_at}
+use Rattle.rec_words.specs.Entries.{IsAddr, IsNet}
+use Rattle.rec_words.specs.Reading.{addr_at, family_addr_at, is_prefix, net_at, number_at, v4_at, v6_at}
 use Rattle.rec_words.proofs.Takes.{IsWords, IsWords-rest, bind_some, guard_some, map_some, some_is, Takes}
 use Rattle.rec_words.proofs.Halves.{number_again, number_takes}
 

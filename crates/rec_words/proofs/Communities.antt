@@ -1,15 +1,15 @@
 -- Communities as numbers: none is there twice on one side exactly where none is on the other.
-use Rattle.std.proofs.Common.{◌≡◌, ℕ, ◌+◌, ◌*◌, ◌/◌, ◌%◌, ◌<◌, ◌≤◌, ◌^◌, Bool, true, false, not, ◌&&◌, ◌==◌, cond, ltb, eqb, List, [], ◌∷◌, ◌++◌, length, map, Option, Some, None, refl, sym, ap, subst, ◌∙◌, ⊎_elim, arith}
+use Rattle.std.proofs.Common.{◌≡◌, ℕ, ◌/◌, ◌%◌, ◌<◌, ◌≤◌, ◌^◌, true, false, ◌==◌, cond, ltb, List, [], ◌∷◌, ◌++◌, length, map, Some, None, refl, sym, ap, subst, ◌∙◌, ⊎_elim, arith}
 use Rattle.std.specs.List.{AllByRecursion, IsDistinct, list_any}
 use Rattle.std.proofs.lemmas.Bool.{cases_Bool, eqb-true, ltb-false, le-ltb}
 use Rattle.std.proofs.lemmas.Bool.Decides.{nat_tests}
 use Rattle.std.proofs.lemmas.List.{length-map}
-use Rattle.attrs.specs.Clist.{same_pair, IsClist}
+use Rattle.attrs.specs.Clist.{same_pair}
 use Rattle.rec_words.specs.Spelling.{number_words, pair_number}
 use Rattle.rec_words.specs.Entries.{AreCommunities, IsNumber, IsPair}
 use Rattle.rec_words.specs.Reading.{◌>>=◌, all_distinct, coms_at, numbers_at, pair_of}
 use Rattle.rec_words.proofs.Takes.{IsWords, bind_some, guard_some, unless_some, some_is, Takes}
-use Rattle.rec_words.proofs.Halves.{AreNumbers, numbers_again, numbers_takes}
+use Rattle.rec_words.proofs.Halves.{numbers_again, numbers_takes}
 
 pair_small : (pair : ℕ × ℕ) → IsPair pair → IsNumber (pair_number pair)
 pair_small pair is = omega (arith, is.0, is.1)

@@ -1,20 +1,18 @@
 -- Routes in words.
-use Rattle.std.proofs.Common.{◌≡◌, ℕ, suc, ◌+◌, ◌*◌, ◌/◌, ◌%◌, ◌<◌, ◌≤◌, ◌^◌, Bool, true, false, ◌==◌, eqb, cond, ltb, List, [], ◌∷◌, ◌++◌, length, map, take, drop, get_or, Option, Some, None, refl, sym, ap, subst, ◌∙◌, append_assoc, arith}
-use Rattle.std.specs.Prelude.{IfSome, slice_index, nat_lt}
-use Rattle.std.proofs.lemmas.Bool.{eqb-true, ltb-true, lt-ltb, ltb-false, le-ltb}
+use Rattle.std.proofs.Common.{◌≡◌, ℕ, ◌<◌, ◌≤◌, ◌^◌, Bool, true, false, ◌==◌, ltb, List, [], ◌∷◌, ◌++◌, length, map, take, drop, Option, Some, None, refl, sym, ap, subst, ◌∙◌, append_assoc, arith}
+use Rattle.std.specs.Prelude.{IfSome, slice_index}
+use Rattle.std.proofs.lemmas.Bool.{eqb-true, ltb-false, le-ltb}
 use Rattle.std.proofs.lemmas.List.{take-append-drop}
 use Rattle.std.specs.Option.{is_some}
-use Rattle.attrs.specs.declared.attributes.Attrs.{Attrs}
 use Rattle.attrs.specs.declared.route.Route.{Route}
-use Rattle.rec_words.specs.declared.shape.Shape.{Shape}
 use Rattle.rec_words.specs.declared.parts.Head.{Head}
 use Rattle.rec_words.specs.declared.parts.Ways.{Ways}
 use Rattle.rec_words.specs.Spelling.{addr_words, head_words, joined, number_words, optional_route_words, or_zero, pair_number, route_words, shape_word}
-use Rattle.rec_words.specs.Entries.{AreCommunities, AreHeadNumbers, IsAddr, IsNumber, IsPath, IsRoute}
+use Rattle.rec_words.specs.Entries.{IsAddr, IsNumber, IsPath, IsRoute}
 use Rattle.rec_words.specs.Reading.{◌>>=◌, addr_at, coms_at, head_at, head_in, high_half, low_half, numbers_at, optional_at, optional_route_at, pair_of, path_at, route_at, route_of, shape_at, shape_of, ways_at, word_of}
-use Rattle.rec_words.proofs.Takes.{IsWords, IsWords-drop, IsWords-rest, IsWords-take, bind_some, guard_some, unless_some, some_is, Takes, Takes-then}
-use Rattle.rec_words.proofs.Halves.{AreNumbers, high_back, high_small, joined_back, low_back, low_small, numbers_again, numbers_takes}
-use Rattle.rec_words.proofs.Communities.{AreTaken, coms_again, coms_takes, pairs_back}
+use Rattle.rec_words.proofs.Takes.{IsWords, IsWords-drop, IsWords-take, bind_some, guard_some, unless_some, some_is, Takes, Takes-then}
+use Rattle.rec_words.proofs.Halves.{high_back, high_small, joined_back, low_back, low_small, numbers_again, numbers_takes}
+use Rattle.rec_words.proofs.Communities.{coms_again, coms_takes, pairs_back}
 use Rattle.rec_words.proofs.Shapes.{shape_again, shape_takes}
 use Rattle.rec_words.proofs.Addresses.{addr_again, addr_takes}
 

@@ -1,9 +1,7 @@
 -- The word of a route's shape.
-use Rattle.std.proofs.Common.{◌≡◌, ℕ, ◌+◌, ◌*◌, ◌/◌, ◌%◌, ◌<◌, ◌≤◌, ◌^◌, Bool, true, false, ◌==◌, eqb, cond, List, length, Option, Some, None, refl, sym, ap, subst, ◌∙◌, arith}
+use Rattle.std.proofs.Common.{◌≡◌, ℕ, ◌+◌, ◌*◌, ◌/◌, ◌%◌, ◌<◌, ◌≤◌, ◌^◌, Bool, true, false, ◌==◌, cond, Option, Some, None, refl, sym, ap, subst, ◌∙◌, arith}
 use Rattle.std.proofs.lemmas.Bool.{eqb-true}
 use Rattle.std.proofs.lemmas.Bool.Decides.{nat_tests}
-use Rattle.std.specs.Option.{is_some}
-use Rattle.attrs.specs.declared.attributes.Attrs.{Attrs}
 use Rattle.attrs.specs.declared.attributes.Kind.{Kind}
 use Rattle.attrs.specs.declared.attributes.Kind.TheVariants.{Static, Bgp}
 use Rattle.attrs.specs.declared.attributes.Dest.{Dest}
@@ -11,8 +9,8 @@ use Rattle.attrs.specs.declared.attributes.Dest.TheVariants.{Unicast, Blackhole,
 use Rattle.attrs.specs.declared.attributes.Origin.{Origin}
 use Rattle.attrs.specs.declared.attributes.Origin.TheVariants.{Igp, Egp, Incomplete}
 use Rattle.rec_words.specs.declared.shape.Shape.{Shape}
-use Rattle.rec_words.specs.Spelling.{dest_number, flag, kind_number, origin_number, shape_word}
-use Rattle.rec_words.specs.Reading.{bit_at, dest_of, kind_of, origin_of, shape_at, shape_in, shape_of, word_of}
+use Rattle.rec_words.specs.Spelling.{dest_number, flag, kind_number, origin_number}
+use Rattle.rec_words.specs.Reading.{bit_at, dest_of, kind_of, origin_of, shape_at, shape_in, word_of}
 use Rattle.rec_words.proofs.Takes.{found, guard_some, some_is}
 
 kind_small : (kind : Kind) → kind_number kind ≤ 1

@@ -1,26 +1,22 @@
 -- Entries in words: what is read is spelled so, and what is spelled so is read.
-use Rattle.std.proofs.Common.{◌≡◌, ℕ, suc, ◌+◌, ◌*◌, ◌/◌, ◌%◌, ◌<◌, ◌≤◌, ◌^◌, Bool, true, false, ◌==◌, eqb, cond, ltb, List, [], ◌∷◌, ◌++◌, length, map, take, drop, get_or, Option, Some, None, refl, sym, ap, subst, ◌∙◌, append_assoc, arith}
-use Rattle.std.specs.Prelude.{IfSome, IsErrAnd, Result, Ok, Err, slice_index}
+use Rattle.std.proofs.Common.{◌≡◌, ℕ, suc, ◌/◌, ◌%◌, ◌<◌, ◌≤◌, ◌^◌, Bool, false, ◌==◌, cond, ltb, List, [], ◌∷◌, ◌++◌, length, take, drop, Some, None, refl, sym, ap, subst, ◌∙◌, append_assoc, arith}
+use Rattle.std.specs.Prelude.{IsErrAnd, Result, Ok, Err, slice_index}
 use Rattle.rec_words.specs.declared.fault.WordsFault.{WordsFault}
 use Rattle.rec_words.specs.declared.fault.WordsFault.TheVariants.{BadWords, Memory}
-use Rattle.std.proofs.lemmas.Bool.{eqb-true, ltb-true, lt-ltb, ltb-false, le-ltb}
-use Rattle.std.proofs.lemmas.Bool.Decides.{nat_tests}
+use Rattle.std.proofs.lemmas.Bool.{eqb-true, ltb-false, le-ltb}
 use Rattle.std.proofs.lemmas.List.{append-nil, length-append, nil_from_length, take-append-drop}
-use Rattle.bits_ip.specs.Address.{number_of}
-use Rattle.bits_ip.specs.Prefix.{Net}
-use Rattle.attrs.specs.declared.route.Route.{Route}
 use Rattle.attrs.specs.declared.journal.JEntry.{JEntry}
 use Rattle.jour_rule.specs.Cells.{IsWhole}
 use Rattle.rec_words.specs.declared.parts.Front.{Front}
-use Rattle.rec_words.specs.Spelling.{addr_words, at_bit, body_words, entry_words, family_number, first_word, flag, head_words, net_words, number_words, optional_route_words, pair_number, route_words}
+use Rattle.rec_words.specs.Spelling.{body_words, entry_words, first_word, flag, net_words, optional_route_words, route_words}
 use Rattle.std.specs.List.{IsDistinct}
 use Rattle.std.specs.Option.{is_some}
 use Rattle.rec_words.specs.Worked.{black_hole, worked, worked_words}
 use Rattle.rec_words.specs.Entries.{IsEntry, IsEntryWords, IsNet, IsNumber, IsRoute, Spells}
 use Rattle.rec_words.specs.Reading.{◌>>=◌, bit_at, entry_at, front_in, net_at, number_at, optional_route_at}
-use Rattle.rec_words.proofs.Takes.{IsWords, IsWords-drop, IsWords-take, bind_some, guard_some, unless_some, some_is, Takes, Takes-then}
+use Rattle.rec_words.proofs.Takes.{IsWords, IsWords-drop, IsWords-take, bind_some, guard_some, unless_some, some_is}
 use Rattle.rec_words.proofs.Halves.{number_again, number_takes}
-use Rattle.rec_words.proofs.Addresses.{IsFormOf, net_again, net_takes}
+use Rattle.rec_words.proofs.Addresses.{net_again, net_takes}
 use Rattle.rec_words.proofs.Routes.{five, five_words, optional_route_again, optional_route_takes}
 use Rattle.rec_words.proofs.Shapes.{eqb_same, flag_back, flag_small}
 use Rattle.rec_words.proofs.Lengths.{body_few}

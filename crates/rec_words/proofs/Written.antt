@@ -1,5 +1,5 @@
 -- A route's words, written one part after another.
-use Rattle.std.proofs.Common.{◌≡◌, ℕ, suc, Bool, List, Option, [], ◌∷◌, ◌++◌, length, map, refl, sym, ap, ◌∙◌, append_assoc}
+use Rattle.std.proofs.Common.{◌≡◌, ℕ, suc, Bool, List, Option, [], ◌∷◌, ◌++◌, length, map, ap, ◌∙◌, append_assoc}
 use Rattle.std.specs.Option.{is_some}
 use Rattle.attrs.specs.declared.attributes.Attrs.{Attrs}
 use Rattle.attrs.specs.declared.route.Route.{Route}

@@ -1,7 +1,6 @@
-use Rattle.std.proofs.Common.{◌∙◌, ap, refl, sym, subst, arith}
+use Rattle.std.proofs.Common.{refl, sym, subst, arith}
 use Rattle.attrs.specs.declared.journal.JEntry.{JEntry}
 use Rattle.rec_words.specs.Entries.{Spells}
-use Rattle.rec_words.specs.Reading.{entry_at}
 use Rattle.rec_words.proofs.Whole.{entry_takes, memory_refused, not_entry}
 use Rattle.rec_words.proofs.read.get_words.Goals as goal
 

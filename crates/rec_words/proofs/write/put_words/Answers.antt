@@ -1,4 +1,4 @@
-use Rattle.std.proofs.Common.{rules, subst, Option, arith}
+use Rattle.std.proofs.Common.{rules, subst, Option}
 use Rattle.std.specs.Prelude.{IfSome}
 use Rattle.attrs.specs.declared.route.Route.{Route}
 use Rattle.rec_words.specs.Entries.{IsNumber, IsRoute}
