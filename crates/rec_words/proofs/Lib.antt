@@ -1,0 +1,10 @@
+mod Takes
+mod Halves
+mod Communities
+mod Addresses
+mod Shapes
+mod Lengths
+mod Ranges
+mod Routes
+mod Whole
+mod Written
