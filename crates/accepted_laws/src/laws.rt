@@ -138,9 +138,9 @@ pub fn filters_by_name_are_written()
         → IsWritten ds s.0 s.1 }
 {}
 
-/// A text that comes to a system is of statements in which nothing is refused. So of each protocol of
-/// the system both policies run no filter, or run one that is written there, is never stuck and
-/// ends within 10,000,000 steps.
+/// A text that comes to a system is of statements in which nothing is refused. So each policy of a
+/// protocol of the system runs no filter, or one that is written there, is never stuck and ends
+/// within 10,000,000 steps.
 pub fn policies_of_systems_are_safe()
     ensures { (text : List ℕ) (system : System) → IsSystem text system
         → (ds : List Declaration) × IsAcceptedText text ds × (system ≡ system_in text ds)
