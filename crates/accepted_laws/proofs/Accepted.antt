@@ -80,7 +80,8 @@ module _
         arith,
         (fine text ds before ss e w).1,
         law (scene_behind text before) (context_behind text around before)
-            (counts_behind text around before) (weights text ds before (w.0 ∷ w.1) e w.2 around) ss attrs k,
+            (counts_behind text around before) (weights text ds before (w.0 ∷ w.1) e w.2 around) ss
+            attrs k,
       )
 
   pub function_takes : ((scene : Scene) (c : Context) (fs : Counts) → Agree scene c fs
@@ -96,7 +97,8 @@ module _
             (refused text ds before more (conf.DefineFunction f) e is)).1,
         law (scene_behind text before) (context_behind text around before)
             (counts_behind text around before)
-            (weights text ds before (conf.DefineFunction f ∷ more) e is around) f arguments attrs a k,
+            (weights text ds before (conf.DefineFunction f ∷ more) e is around) f arguments attrs a
+            k,
       )
 
   -- ---- conditions with a text of their own, behind all statements

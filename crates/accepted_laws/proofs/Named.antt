@@ -14,7 +14,8 @@ IsWrittenBehind before ds s =
 one_written : (before : List conf.Declaration) (d : conf.Declaration) (ds : List conf.Declaration)
     → Every (IsWrittenBehind before (d ∷ ds)) (filter_source before d)
 one_written before (conf.DefineFilter at name ss) ds =
-    (([], sym (append-nil before), (conf.DefineFilter at name ss, ds, refl, (0, omega arith, refl))), tt)
+    let d = conf.DefineFilter at name ss in
+    (([], sym (append-nil before), (d, ds, refl, (0, omega arith, refl))), tt)
 one_written before (conf.RouterId a) ds = tt
 one_written before conf.Log ds = tt
 one_written before (conf.Define name v) ds = tt

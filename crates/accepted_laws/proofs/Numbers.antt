@@ -30,7 +30,8 @@ one_counted (conf.Table at family name) known others =
     omega (
       arith,
       ap (λ (names : List (List ℕ)). length names)
-          (table_filters (is_master known family name) known (name_bytes known.scene.text name) family),
+          (table_filters (is_master known family name) known (name_bytes known.scene.text name)
+          family),
     )
 one_counted (conf.DefineFunction f) known others = omega arith
 one_counted (conf.DefineFilter at name ss) known others =

@@ -172,7 +172,8 @@ module _ (text : List ℕ) (ds : List conf.Declaration)
   said_behind before p = says text (names_in text ds) (filter_sources [] ds) before p
 
   named_safe : (before : List conf.Declaration) (n : ℕ) → n < length (filter_sources [] ds)
-      → IsSafePolicy text ds (by_source text (names_in text ds) (slice_get (filter_sources [] ds) n))
+      → IsSafePolicy text ds
+      (by_source text (names_in text ds) (slice_get (filter_sources [] ds) n))
   named_safe before n less =
       let h = at_number (filter_sources [] ds) n less in
       let w = named_written ds h.0 h.2 in
