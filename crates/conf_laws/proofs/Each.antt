@@ -1,6 +1,6 @@
 -- Each text is a configuration or is refused, and each place has a line and a column.
 use Rattle.std.proofs.Common.{◌≡◌, ℕ, ◌+◌, Bool, true, false, IsTrue, not, ◌==◌, nat_eq, List, [], ◌∷◌, ◌++◌, length, take, drop, codes, Option, Some, None, IsSomeAnd, refl, sym, ap, subst, ◌∙◌, arith, inl, inr, ◌⊎◌}
-use Rattle.std.specs.Prelude.{filter, if◌then◌else◌}
+use Rattle.std.specs.Prelude.{filter}
 use Rattle.std.specs.List.{list_all}
 use Rattle.std.specs.Cmp.Lexicographic.{pointwise, same_text, other_text}
 use Rattle.std.proofs.lemmas.Bool.{eqb-true, and_from, not_from_false, false≢true}
@@ -19,10 +19,7 @@ use Rattle.conf_lex.specs.Kind.{kind_of, symbol}
 use Rattle.conf_lex.proofs.Symbols.{is_symbol_word, symbol_same}
 use Rattle.filt_syntax.specs.Syntax.{rule}
 use Rattle.filt_syntax.specs.declared.parse.SyntaxFault.TheVariants as faults
-use Rattle.filt_syntax.specs.declared.refused_token.Torn.{Torn}
-use Rattle.filt_syntax.specs.declared.refused_token.Torn.TheVariants as torns
-use Rattle.filt_syntax.specs.RefusedToken.{CanFollow, some_prefix, some_address, EndInAddress, IsCount, IsPast, IsPastFirst}
-use Rattle.filt_syntax.proofs.RefusedTokens.{last_is}
+use Rattle.filt_syntax.specs.RefusedToken.{CanFollow}
 use Rattle.conf_tree.specs.Syntax.{config}
 use Rattle.conf_tree.specs.Readers.{whole_at}
 use Rattle.conf_tree.specs.Significant.{significant_words, significant_starts, token_of}
@@ -35,18 +32,10 @@ use Rattle.conf_tree.proofs.Known.{one_front}
 use Rattle.conf_tree.proofs.LastWord.{last_one}
 use Rattle.conf_tree.proofs.Refusals.{begun_before, stop_refused, deep_refused}
 use Rattle.conf_tree.proofs.Whole.{got_sentence, bad_is_stop, deep_is_deep, got_stands, bad_stands, bad_stands_not, deep_stands}
-use Rattle.conf_laws.proofs.WordsBefore.{front_begun}
+use Rattle.syntax_laws.proofs.Pasts.{last_of, front_begun, some_past_first}
+use Rattle.syntax_laws.proofs.Told.{Told, told_both}
 
 -- ---- whether something holds
-
--- it holds or it doesn't
-abbrev Told : Type 0 → Type 0
-Told P = P ⊎ (P → ⊥)
-
-told_both : {P Q : Type 0} → Told P → Told Q → Told (P × Q)
-told_both (inl p) (inl q) = inl (p, q)
-told_both (inl p) (inr none) = inr (λ both. none both.1)
-told_both (inr none) q = inr (λ both. none both.0)
 
 or_else : {P Q : Type 0} → (P → Q) → Told P → ((P → ⊥) → Told Q) → Told Q
 or_else to (inl p) other = inl (to p)
@@ -81,19 +70,6 @@ told_follow before w begun = can_by before w begun (whole_at 64 (before ++ w ∷
 told_can : (before : List Word) (s : Symbol) → IsBegunWithin rule 64 config before → Told (CanStand s before)
 told_can before s begun = told_follow before (words.Symbol s) begun
 
-record Last (ws : List Word) : Type 0 where
-  front : List Word
-  word : Word
-  cut : ws ≡ front ++ word ∷ []
-
-last_behind : (w : Word) (ws : List Word) → (ws ≡ []) ⊎ Last ws → Last (w ∷ ws)
-last_behind w ws (inl none) = record { front = []; word = w; cut = ap (λ (l : List Word). w ∷ l) none }
-last_behind w ws (inr last) = record { front = w ∷ last.front; word = last.word; cut = ap (λ (l : List Word). w ∷ l) last.cut }
-
-last_of : (ws : List Word) → (ws ≡ []) ⊎ Last ws
-last_of [] = inl refl
-last_of (w ∷ ws) = inr (last_behind w ws (last_of ws))
-
 ends_by : (s : Symbol) (ws : List Word) (P : List Word → Type 0) (front : List Word) (w : Word) → is_placed s ≡ false → ws ≡ front ++ w ∷ [] → (ws ≡ front ++ words.Symbol s ∷ [] → Told (P front)) → (b : Bool) → symbol s (kind_of w) ≡ b → Told (EndsIn s ws P)
 ends_by s ws P front w plain cut told false is = inr (λ ends.
     let same : w ≡ words.Symbol s = last_one front ends.0 w (words.Symbol s) (sym cut ∙ ends.1) in
@@ -115,7 +91,7 @@ told_ends s ws P plain told = elim (last_of ws) [
 ]
 
 told_export : (before : List Word) → IsBegunWithin rule 64 config before → Told (EndsIn symbols.Export before (CanStand symbols.Next))
-told_export before begun = told_ends symbols.Export before (CanStand symbols.Next) refl (λ front cut. told_can front symbols.Next (front_begun before front (words.Symbol symbols.Export) cut begun))
+told_export before begun = told_ends symbols.Export before (CanStand symbols.Next) refl (λ front cut. told_can front symbols.Next (front_begun config before front (words.Symbol symbols.Export) cut begun))
 
 known_none : (before : List Word) (word : List ℕ)
     → (EndsIn symbols.Protocol before (λ front. Unit {0}) → ⊥)
@@ -148,53 +124,6 @@ told_unsupported before word begun =
     or_else (λ h. a_route h.0 h.1) (told_both (told_text word (codes "recursive")) (told_can before symbols.Blackhole begun)) (λ g.
     inr (known_none before word k a b c d e f g)))))))))
 
--- ---- how far behind its first token a word is refused
-
-counts : (P : Type 0) (most : ℕ) → Told P → (n : ℕ) × IsCount P most n
-counts P most (inl p) = (most, inl (p, refl))
-counts P most (inr none) = (0, inr (none, refl))
-
-told_alone : (before : List Word) (v w : Word) → IsBegunWithin rule 64 config before → Told (CanFollow config before v × (CanFollow config before w → ⊥))
-told_alone before v w begun = alone (told_follow before v begun) (told_follow before w begun)
-  where
-    alone : {P Q : Type 0} → Told P → Told Q → Told (P × (Q → ⊥))
-    alone (inl p) (inl q) = inr (λ both. both.1 q)
-    alone (inl p) (inr none) = inl (p, none)
-    alone (inr none) q = inr (λ both. none both.0)
-
-ends_with : (before front : List Word) (w : Word) → before ≡ front ++ w ∷ [] → IsBegunWithin rule 64 config before → Told (EndInAddress config before)
-ends_with before front (words.Ip at addr) cut begun =
-    let told = told_follow front some_prefix (front_begun before front (words.Ip at addr) cut begun) in
-    elim told [
-      | inl can ↦ inl (record { front = front; at = at; addr = addr; cut = cut; prefix = can })
-      | inr none ↦ inr (λ e. none (subst (λ (u : List Word). CanFollow config u some_prefix) (last_is e.front front (words.Ip e.at e.addr) (words.Ip at addr) (sym e.cut ∙ cut)).0 e.prefix))
-    ]
-ends_with before front (words.Name at start len) cut begun = inr (λ e. let same = (last_is front e.front (words.Name at start len) (words.Ip e.at e.addr) (sym cut ∙ e.cut)).1 in cc)
-ends_with before front (words.Number at value) cut begun = inr (λ e. let same = (last_is front e.front (words.Number at value) (words.Ip e.at e.addr) (sym cut ∙ e.cut)).1 in cc)
-ends_with before front (words.Text at start len) cut begun = inr (λ e. let same = (last_is front e.front (words.Text at start len) (words.Ip e.at e.addr) (sym cut ∙ e.cut)).1 in cc)
-ends_with before front (words.Prefix at net) cut begun = inr (λ e. let same = (last_is front e.front (words.Prefix at net) (words.Ip e.at e.addr) (sym cut ∙ e.cut)).1 in cc)
-ends_with before front (words.BadPrefix at) cut begun = inr (λ e. let same = (last_is front e.front (words.BadPrefix at) (words.Ip e.at e.addr) (sym cut ∙ e.cut)).1 in cc)
-ends_with before front (words.Attribute at a) cut begun = inr (λ e. let same = (last_is front e.front (words.Attribute at a) (words.Ip e.at e.addr) (sym cut ∙ e.cut)).1 in cc)
-ends_with before front (words.Constant at c) cut begun = inr (λ e. let same = (last_is front e.front (words.Constant at c) (words.Ip e.at e.addr) (sym cut ∙ e.cut)).1 in cc)
-ends_with before front (words.Symbol s) cut begun = inr (λ e. let same = (last_is front e.front (words.Symbol s) (words.Ip e.at e.addr) (sym cut ∙ e.cut)).1 in cc)
-ends_with before front (words.Placed at s) cut begun = inr (λ e. let same = (last_is front e.front (words.Placed at s) (words.Ip e.at e.addr) (sym cut ∙ e.cut)).1 in cc)
-
-told_address : (before : List Word) → IsBegunWithin rule 64 config before → Told (EndInAddress config before)
-told_address before begun = elim (last_of before) [
-  | inl none ↦ inr (λ e. omega (arith, ap (λ (l : List Word). length l) none, ap (λ (l : List Word). length l) e.cut, length-append e.front (words.Ip e.at e.addr ∷ [])))
-  | inr last ↦ ends_with before last.front last.word last.cut begun
-]
-
-some_past : (before : List Word) (torn : Torn) (slash : Bool) → IsBegunWithin rule 64 config before → (n : ℕ) × IsPast config before torn slash n
-some_past before torns.Prefix slash begun = counts _ 1 (told_alone before some_address some_prefix begun)
-some_past before torns.Address slash begun = counts _ (if slash then 2 else 1) (told_alone before some_prefix some_address begun)
-some_past before torns.Slash slash begun = counts _ 1 (told_address before begun)
-some_past before torns.Other slash begun = (0, refl)
-
-some_past_first : (before rest : List Word) → IsBegunWithin rule 64 config before → (n : ℕ) × IsPastFirst config before rest n
-some_past_first before [] begun = (0, refl)
-some_past_first before (w ∷ ws) begun = some_past before _ _ begun
-
 -- ---- a text
 
 abbrev Refused : List ℕ → Type 0
@@ -212,7 +141,7 @@ stop_text text tokens rest lexes s =
           let h = stop_refused text tokens (significant_words text tokens) (significant_starts text tokens) refl refl rest place at len refl s (faults.Unsupported at) (refl, known) in
           (byte_of text tokens at, kinds.Unsupported, (tokens, at, lexes, h, refl))
       | inr other ↦
-          let past = some_past_first (take place (significant_words text tokens)) (drop place (significant_words text tokens)) begun in
+          let past = some_past_first config told_follow (take place (significant_words text tokens)) (drop place (significant_words text tokens)) begun in
           let h = stop_refused text tokens (significant_words text tokens) (significant_starts text tokens) refl refl rest place at len refl s (faults.Bad (at + past.0)) (other, past.0, past.1, refl) in
           (byte_of text tokens (at + past.0), kinds.Syntax, (tokens, at + past.0, lexes, h, refl))
     ]

@@ -27,7 +27,7 @@ use Rattle.conf_tree.specs.declared.significant.Region.{Region}
 use Rattle.conf_tree.specs.declared.significant.Region.TheVariants as regions
 use Rattle.conf_laws.proofs.KindTrees.{kinds_of}
 use Rattle.conf_laws.proofs.Marks.{Mark, mark, marks, marks_both, sym_of, first_kind, behind_kind, is_significant_kind, heard, front_heard, state, IsNext}
-use Rattle.conf_laws.proofs.WordsBefore.{front_begun}
+use Rattle.syntax_laws.proofs.Pasts.{front_begun}
 use Rattle.bits_ip.specs.declared.address.Addr.{Addr}
 use Rattle.conf_laws.proofs.TokenPlaces.{Rise, one_place, starts, within}
 use Rattle.conf_laws.proofs.ByTokens.{heard_first, is_address, is_net, is_slash_word, kinds_both, one_no_zero, open_address, open_says, state_both}
@@ -224,7 +224,7 @@ one_mark c x behind ms W w ws torns.Slash cut are h torn (inl p) =
     let spellings = subst AreSpellings all are in
     let other = subst AreSpellings (all ∙ sym (append_assoc z.front (z.mark ∷ []) (x ∷ []))) are in
     let piece = prefix_piece z.mark x z.addr z.ip slash (spelled_at z.front z.mark (x ∷ []) spellings) (spelled_at (z.front ++ z.mark ∷ []) x [] other) in
-    subst Ends (sym all) (pieced z.front (z.mark ∷ x ∷ []) (whole_mark z.addr ∷ []) p.0.front some_prefix piece refl (omega arith) (two_go_on z.mark x z.addr z.ip slash) (z.mark ∷ x ∷ behind) refl piece.spelled.1.1 (sym z.heard) z.done (front_begun W p.0.front (words.Ip p.0.at p.0.addr) p.0.cut h.begun) p.0.prefix)
+    subst Ends (sym all) (pieced z.front (z.mark ∷ x ∷ []) (whole_mark z.addr ∷ []) p.0.front some_prefix piece refl (omega arith) (two_go_on z.mark x z.addr z.ip slash) (z.mark ∷ x ∷ behind) refl piece.spelled.1.1 (sym z.heard) z.done (front_begun config W p.0.front (words.Ip p.0.at p.0.addr) p.0.cut h.begun) p.0.prefix)
 one_mark c x behind ms W w ws torns.Slash cut are h torn (inr p) = absurd (one_no_zero p.1)
 one_mark c x behind ms W w ws torns.Other cut are h torn p = absurd (one_no_zero p)
 

@@ -1,4 +1,4 @@
-mod Told
+pub mod Told
 mod Each
 mod Made
 mod Spelled
@@ -14,3 +14,5 @@ pub mod ExprTold
 pub mod ArmsTold
 pub mod StatementsTold
 mod Apart
+pub mod Pasts
+mod Texts

@@ -18,7 +18,7 @@ Told P = P ⊎ (P → ⊥)
 abbrev pub Found : {X : Type 0} → (X → Type 0) → Type 0
 Found P = ((x : _) × P x) ⊎ ((x : _) → P x → ⊥)
 
-told_both : {P Q : Type 0} → Told P → Told Q → Told (P × Q)
+pub told_both : {P Q : Type 0} → Told P → Told Q → Told (P × Q)
 told_both (inl p) (inl q) = inl (p, q)
 told_both (inl p) (inr none) = inr (λ both. none both.1)
 told_both (inr none) q = inr (λ both. none both.0)
