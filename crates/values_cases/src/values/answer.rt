@@ -1,15 +1,15 @@
 //! What is answered to a case.
-use crate::asked::{Asked, Method, OfTwo, Single, read_asked};
-use crate::literal::{Literal, Way, read_literal, value};
 use crate::notation::bad;
-use crate::operators::{of_method, of_one, of_two};
-use crate::shown::write_value;
-use crate::words::{fault_text, name_of};
+use crate::values::asked::{Asked, Method, OfTwo, Single, read_asked};
+use crate::values::literal::{Literal, Way, read_literal, value};
+use crate::values::operators::{of_method, of_one, of_two};
+use crate::values::shown::write_value;
+use crate::values::words::{fault_text, name_of};
 use bits_ip::OutOfMemory;
 use filt_values::{Defaults, Failure, ListFailure, Value, copy};
 use std::alloc::Global;
-use std::io;
 use std::io::{Error, ErrorKind};
+use std::{io, str};
 
 // ---- values and failures
 
@@ -209,7 +209,8 @@ fn answer_in_bytes(alloc: Global, asked: Asked<'_>) -> io::Result<Vec<u8>> {
 }
 
 /// What is answered to a case.
-pub fn answer(alloc: Global, text: &str) -> io::Result<String> {
+pub fn answer(alloc: Global, case: &[u8]) -> io::Result<String> {
+    let text = str::from_utf8(case).map_err(|_| bad())?;
     let asked = read_asked(text).ok_or(bad())?;
     String::from_utf8(answer_in_bytes(alloc, asked)?).map_err(|_| bad())
 }

@@ -2,11 +2,12 @@
 //!
 //! `(1 2)` is a path and `{(1,2) (3,4)}` a list of communities, `(1,2)` a pair, `default SORT` what
 //! a variable of this sort holds without a value. The rest is as in BIRD.
-use crate::items::{ints, mask, pairs, prefixes};
+use crate::items::{ints, mask, net, pairs, path, prefixes};
 use crate::notation::{bad, inside, number, pair};
-use crate::words::{Word, sort_named, word_of};
+use crate::values::words::{Word, sort_named, word_of};
 use attrs::{Clist, Path};
-use bits_ip::{OutOfMemory, parse_addr, parse_prefix};
+use bits_ip::{OutOfMemory, parse_addr};
+use filt_sets::{IntSet, Mask, PairSet, PrefixSet};
 use filt_values::{Defaults, Fixed, Sort, Value, copy};
 use std::alloc::Global;
 use std::io;
@@ -43,33 +44,25 @@ fn word(word: Word) -> Fixed {
 /// What stands between brackets.
 fn items(alloc: Global, text: &str) -> io::Result<Fixed> {
     if let Some(items) = inside(text, "=", "=") {
-        return Ok(Fixed::Mask(mask(alloc, items)?));
+        return Ok(Fixed::Mask(Mask::make(mask(alloc, items)?)));
     }
     if text.contains("/") {
-        return Ok(Fixed::PrefixSet(prefixes(alloc, text)?));
+        return Ok(Fixed::PrefixSet(PrefixSet::make(prefixes(alloc, text)?)));
     }
     if text.contains("(") {
-        return Ok(Fixed::PairSet(pairs(alloc, text)?));
+        return Ok(Fixed::PairSet(PairSet::make(pairs(alloc, text)?)));
     }
-    Ok(Fixed::IntSet(ints(alloc, text)?))
+    Ok(Fixed::IntSet(IntSet::make(ints(alloc, text)?)))
 }
 
 fn plain(text: &str) -> io::Result<Fixed> {
     if text.contains("/") {
-        return Ok(Fixed::Prefix(parse_prefix(text.as_bytes()).ok_or(bad())?));
+        return Ok(Fixed::Prefix(net(text)?));
     }
     match parse_addr(text.as_bytes()) {
         Some(addr) => Ok(Fixed::Ip(addr)),
         None => Ok(Fixed::Int(number(text)?)),
     }
-}
-
-fn path(alloc: Global, text: &str) -> io::Result<Path> {
-    let mut numbers = Vec::new(alloc);
-    for asn in text.split_whitespace() {
-        numbers.push(number(asn)?)?;
-    }
-    Path::try_from_vec(numbers).ok_or(bad())
 }
 
 fn clist(alloc: Global, text: &str) -> io::Result<Clist> {
@@ -87,7 +80,7 @@ fn in_parentheses(alloc: Global, text: &str) -> io::Result<Box<Literal>> {
         let (first, second) = pair(text)?;
         return boxed(alloc, Fixed::Pair(first, second));
     }
-    let path = path(alloc, text)?;
+    let path = Path::try_from_vec(path(alloc, text)?).ok_or(bad())?;
     Ok(Box::new(alloc, Literal::Path(path))?)
 }
 

@@ -1,28 +1,24 @@
+use crate::notation::{bad, sides};
 use bits_ip::{NotPrefix, Prefix, parse_addr, parse_decimal, parse_prefix};
 use std::alloc::Global;
-use std::io::{Error, ErrorKind};
 use std::{io, str};
-
-fn bad_line() -> Error {
-    Error::from(ErrorKind::InvalidData)
-}
 
 /// What stands before a space, and what stands behind it.
 fn two_words(text: &[u8]) -> io::Result<(&str, &str)> {
-    let text = str::from_utf8(text).map_err(|_| bad_line())?;
-    text.split_once(' ').ok_or(bad_line())
+    let text = str::from_utf8(text).map_err(|_| bad())?;
+    sides(text, " ")
 }
 
 fn net(text: &[u8]) -> io::Result<Prefix> {
-    parse_prefix(text).ok_or(bad_line())
+    parse_prefix(text).ok_or(bad())
 }
 
 /// Whether an address and a length make a prefix, with this address and this length.
 pub fn made(alloc: Global, text: &[u8]) -> io::Result<String> {
     let (addr, len) = two_words(text)?;
-    let addr = parse_addr(addr.as_bytes()).ok_or(bad_line())?;
-    let len = parse_decimal(len.as_bytes()).ok_or(bad_line())?;
-    let len = u8::try_from(len).map_err(|_| bad_line())?;
+    let addr = parse_addr(addr.as_bytes()).ok_or(bad())?;
+    let len = parse_decimal(len.as_bytes()).ok_or(bad())?;
+    let len = u8::try_from(len).map_err(|_| bad())?;
     let answer = match Prefix::make(addr, len) {
         Ok(net) if net.addr() == addr && net.len() == len => "made",
         Ok(_) => "another prefix",

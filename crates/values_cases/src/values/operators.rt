@@ -1,5 +1,5 @@
 //! The operators that cases ask for.
-use crate::asked::{Method, OfOne, OfTwo};
+use crate::values::asked::{Method, OfOne, OfTwo};
 use filt_values::{
     Failure, ListFailure, Value, add, delete, empty, equal, filter, first, greater,
     greater_or_equal, ip, last, len, less, less_or_equal, matches, matches_not, minus, not,

@@ -1,5 +1,5 @@
 //! Values as answers show them.
-use crate::words::{Word, name_of, text_of};
+use crate::values::words::{Word, name_of, text_of};
 use bits_ip::{OutOfMemory, append_addr, append_prefix, write_number};
 use filt_values::Value;
 
