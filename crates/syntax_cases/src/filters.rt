@@ -1,4 +1,5 @@
-//! What is answered to a text.
+//! Expressions and blocks: at which token the longest one in front of a text ends, or which token
+//! is refused. Of words it is their places that are told.
 ghost use Rattle.conf_lex.specs.Lex.{Lexes};
 
 use conf_lex::{Token, Words, lex, words_from};
