@@ -1,11 +1,11 @@
 //! What is answered to an input.
 ghost use Rattle.std.specs.Prelude.{◌<◌, ◌^◌, ◌-◌, length};
 
-use crate::changes::write_changes;
-use crate::judging::{Seen, see};
-use crate::route::{bad, read_route};
-use attrs::{Attrs, FilterFault, Names, Verdict};
-use bits_ip::OutOfMemory;
+use crate::faults::{bad, no_memory};
+use crate::filters::changes::write_changes;
+use crate::filters::judging::{Seen, see};
+use crate::routes::read_route;
+use attrs::{Attrs, Names, Verdict};
 use conf_tree::{ConfFault, place, read_config};
 use filt_check::TypeFault;
 use filt_comp::run_tree;
@@ -18,10 +18,6 @@ const LONGEST: usize = 1_000_000;
 
 /// What stands between a route and a configuration.
 const MARK: u8 = b'@';
-
-fn no_memory(_: OutOfMemory) -> Error {
-    Error::from(ErrorKind::OutOfMemory)
-}
 
 /// The route's words and the configuration.
 fn parts(input: &[u8]) -> (&[u8], &[u8]) {
@@ -39,13 +35,6 @@ fn refused(alloc: Global, text: &[u8], at: usize, kind: &str) -> Result<String, 
     format!(in alloc; "{line}:{column} {kind}")
 }
 
-fn too_heavy(alloc: Global, text: &[u8], at: usize, weight: u128) -> Result<String, AllocError>
-    requires { length text.now < 2 ^ 32 - 1 }
-{
-    let (line, column) = place(text, at.min(text.len()));
-    format!(in alloc; "{line}:{column} C8 TooHeavy {weight}")
-}
-
 fn refusal(alloc: Global, text: &[u8], fault: TypeFault) -> io::Result<String>
     requires { length text.now < 2 ^ 32 - 1 }
 {
@@ -54,21 +43,12 @@ fn refusal(alloc: Global, text: &[u8], fault: TypeFault) -> io::Result<String>
         TypeFault::DuplicateName { at } => Ok(refused(alloc, text, at, "C5 DuplicateName")?),
         TypeFault::Mismatch { at } => Ok(refused(alloc, text, at, "C6 TypeMismatch")?),
         TypeFault::NotAssignable { at } => Ok(refused(alloc, text, at, "C7 NotAssignable")?),
-        TypeFault::TooHeavy { at, weight } => Ok(too_heavy(alloc, text, at, weight)?),
+        TypeFault::TooHeavy { at, weight } => {
+            let kind = format!(in alloc; "C8 TooHeavy {weight}")?;
+            Ok(refused(alloc, text, at, &kind)?)
+        }
         TypeFault::Limit { at } => Ok(refused(alloc, text, at, "C14 Limit")?),
         TypeFault::Memory => Err(Error::from(ErrorKind::OutOfMemory)),
-    }
-}
-
-fn fault_word(fault: FilterFault) -> &'static str {
-    match fault {
-        FilterFault::NoVerdict => "fault NoVerdict",
-        FilterFault::ZeroDivisor => "fault ZeroDivisor",
-        FilterFault::Undefined => "fault Undefined",
-        FilterFault::PairPart => "fault PairPart",
-        FilterFault::PathLong => "fault PathLong",
-        FilterFault::ClistLong => "fault ClistLong",
-        FilterFault::NoValue => "fault NoValue",
     }
 }
 
@@ -87,7 +67,7 @@ fn judged(alloc: Global, seen: &Seen, words: &[u8]) -> io::Result<String> {
     match run_tree(alloc, &seen.scope, filter, &names, &net, &route).map_err(no_memory)? {
         Verdict::Accept(after) => accepted(alloc, &route.attrs, &after),
         Verdict::Reject(None) => Ok(String::from_str(alloc, "reject")?),
-        Verdict::Reject(Some(fault)) => Ok(String::from_str(alloc, fault_word(fault))?),
+        Verdict::Reject(Some(fault)) => Ok(format!(in alloc; "fault {fault:?}")?),
     }
 }
 

@@ -2,8 +2,8 @@
 //!
 //! Constants, functions and filters are checked in their order, and so are the policies of static
 //! protocols. What is run is the last filter or policy of all.
-use crate::constants::constant;
-use crate::route::bad;
+use crate::faults::bad;
+use crate::filters::constants::constant;
 use conf_lex::Name;
 use conf_tree::ast::{
     Channel, ChannelOption, Config, Literal, Policy, Protocol, Statement, StaticOption,

@@ -1,16 +1,17 @@
 //! The values of constants.
-use crate::items::{mask, number, set};
-use crate::route::bad;
+use crate::faults::{bad, no_memory};
 use conf_lex::bytes_at;
 use conf_tree::ast::{Literal, StringLiteral};
-use filt_syntax::ast::Num;
-use filt_tree::Scope;
+use filt_check::{mask_of, number, set_of};
+use filt_syntax::ast::{Item, MaskItem, Num};
+use filt_tree::{Labels, Scope};
 use filt_values::Fixed;
 use std::alloc::Global;
 use std::io;
 
 fn part(text: &[u8], scope: &Scope, num: &Num) -> io::Result<u16> {
-    u16::try_from(number(text, scope, num)?).map_err(|_| bad())
+    let number = number(text, scope, num).ok_or(bad())?;
+    u16::try_from(number).map_err(|_| bad())
 }
 
 fn pair(text: &[u8], scope: &Scope, first: &Num, second: &Num) -> io::Result<Fixed> {
@@ -20,6 +21,20 @@ fn pair(text: &[u8], scope: &Scope, first: &Num, second: &Num) -> io::Result<Fix
 fn string(alloc: Global, text: &[u8], quoted: &StringLiteral) -> io::Result<Fixed> {
     let bytes = bytes_at(text, quoted.start, quoted.len);
     Ok(Fixed::String(bytes.to_vec(alloc)?))
+}
+
+fn set(alloc: Global, text: &[u8], scope: &Scope, items: &[Item]) -> io::Result<Fixed> {
+    match set_of(alloc, text, scope, items).map_err(no_memory)? {
+        Labels::Ints(set) => Ok(Fixed::IntSet(set)),
+        Labels::Pairs(set) => Ok(Fixed::PairSet(set)),
+        Labels::Prefixes(set) => Ok(Fixed::PrefixSet(set)),
+        Labels::Stuck => Err(bad()),
+    }
+}
+
+fn mask(alloc: Global, text: &[u8], scope: &Scope, items: &[MaskItem]) -> io::Result<Fixed> {
+    let mask = mask_of(alloc, text, scope, items).map_err(no_memory)?;
+    Ok(Fixed::Mask(mask.ok_or(bad())?))
 }
 
 /// The value of a constant behind `define`. The name of another constant is no value here.

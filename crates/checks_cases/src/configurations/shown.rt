@@ -78,10 +78,10 @@ fn write_limit(limit: Option<ImportLimit>, out: &mut Vec<u8>) -> Result<(), OutO
     Ok(())
 }
 
-fn family_word(family: Family) -> &'static [u8] {
+pub fn family_word(family: Family) -> &'static str {
     match family {
-        Family::V4 => b"ipv4",
-        Family::V6 => b"ipv6",
+        Family::V4 => "ipv4",
+        Family::V6 => "ipv6",
     }
 }
 
@@ -90,7 +90,7 @@ fn write_channel(
     channel: &ChannelDef,
     out: &mut Vec<u8>,
 ) -> Result<(), OutOfMemory> {
-    out.extend_from_slice(family_word(channel.family))?;
+    out.extend_from_slice(family_word(channel.family).as_bytes())?;
     write_table(checked, channel.table, out)?;
     write_policies(&channel.import, &channel.export, out)?;
     write_labelled(b" pref ", channel.preference, out)?;

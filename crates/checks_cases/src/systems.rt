@@ -1,5 +1,6 @@
 //! What a configuration comes to.
-use bits_ip::{Addr, Family, write_addr};
+use crate::configurations::family_word;
+use bits_ip::{Addr, write_addr};
 use conf_check::{ChannelDef, ImportLimit, PolicyDef, ProtocolBody, ProtocolDef};
 use std::alloc::Global;
 use std::fmt::Write;
@@ -19,13 +20,6 @@ fn policy_text(policy: &PolicyDef) -> &'static str {
         PolicyDef::None => "none",
         PolicyDef::Filter(_) => "filter",
         PolicyDef::Own(_) => "own",
-    }
-}
-
-fn family_text(family: Family) -> &'static str {
-    match family {
-        Family::V4 => "ipv4",
-        Family::V6 => "ipv6",
     }
 }
 
@@ -52,7 +46,7 @@ fn limit_text(alloc: Global, limit: Option<ImportLimit>) -> io::Result<String> {
 
 /// The family, the table's number, the preference, the limit and the sorts of the policies.
 fn channel_text(alloc: Global, channel: &ChannelDef) -> io::Result<String> {
-    let family = family_text(channel.family);
+    let family = family_word(channel.family);
     let (table, preference) = (channel.table, channel.preference);
     let import = policy_text(&channel.import);
     let export = policy_text(&channel.export);
@@ -88,7 +82,7 @@ fn system_text(alloc: Global, system: &System) -> io::Result<String> {
     let mut text = String::new(alloc);
     for (name, family) in system.checked.declared.tables.iter() {
         let name = name_text(name);
-        let family = family_text(*family);
+        let family = family_word(*family);
         text.push_str(format!(in alloc; "{name} {family};")?.as_str())?;
     }
     for protocol in &system.checked.protocols {

@@ -1,9 +1,9 @@
 //! What is answered to an input.
 ghost use Rattle.std.specs.Prelude.{◌<◌, ◌^◌, ◌-◌, length};
 
-use crate::numbered::numbered;
-use crate::shown::write_checked;
-use bits_ip::OutOfMemory;
+use crate::configurations::numbered::numbered;
+use crate::configurations::shown::write_checked;
+use crate::faults::{bad, no_memory};
 use conf_check::{Checked, check_config};
 use conf_tree::{ConfFault, place, read_config};
 use std::alloc::Global;
@@ -13,10 +13,6 @@ use std::io::{Error, ErrorKind};
 /// The longest configuration of a case, in bytes.
 const LONGEST: usize = 1_000_000;
 
-fn no_memory(_: OutOfMemory) -> Error {
-    Error::from(ErrorKind::OutOfMemory)
-}
-
 fn checked(alloc: Global, text: &[u8]) -> Result<Checked, ConfFault> {
     let config = read_config(alloc, text)?;
     check_config(alloc, &config)
@@ -25,7 +21,7 @@ fn checked(alloc: Global, text: &[u8]) -> Result<Checked, ConfFault> {
 fn accepted(alloc: Global, checked: &Checked) -> io::Result<String> {
     let mut out = Vec::new(alloc);
     write_checked(checked, &mut out).map_err(no_memory)?;
-    String::from_utf8(out).map_err(|_| Error::from(ErrorKind::InvalidData))
+    String::from_utf8(out).map_err(|_| bad())
 }
 
 fn answer_text(alloc: Global, text: &[u8]) -> io::Result<String>
