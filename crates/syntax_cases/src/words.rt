@@ -1,5 +1,5 @@
-//! Words, or at which byte a text is refused. A word is written `FIRST:WHAT`, by its first token, with
-//! `@PLACE` where it carries a place, and `[START+LEN]` where it tells bytes of the text.
+//! Words, or at which byte a text is refused. A word is written `FIRST:WHAT`, by its first token,
+//! with `@PLACE` where it carries a place, and `[START+LEN]` where it tells bytes of the text.
 use crate::tokens::addr_text;
 use conf_lex::{LexFault, Word, lex, words_from};
 use std::alloc::Global;

@@ -1,3 +1,5 @@
+//! The small functions of a parser (`conf_lex::parsing`), each called once on what it takes and
+//! once on what it refuses.
 use conf_lex::parsing::{
     after, after_attribute, after_placed, expect, expect_name, level_below, next,
 };
