@@ -15,7 +15,7 @@ use Rattle.conf_rules.specs.Protocols.{bgp_channels, bgp_settings, bgp_stem, dec
 use Rattle.conf_rules.specs.Refusals.{first_in, refused_if}
 use Rattle.conf_rules.specs.Statements.{is_master, refusals}
 use Rattle.conf_rules.specs.declared.refusal.Refusal.{Refusal}
-use Rattle.conf_tree.specs.declared.kind.ConfKind.{ConfKind}
+use Rattle.conf_ast.specs.declared.kind.ConfKind.{ConfKind}
 use Rattle.conf_lex.specs.declared.named.Name.{Name}
 use Rattle.script_lines.specs.Kinds.{AreFew}
 use Rattle.sys_build.specs.Names.{all_channels, channels_of, named_of, named_protocol}

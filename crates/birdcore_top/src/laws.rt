@@ -1,7 +1,7 @@
 //! What follows from the definitions and from the contract of `top`.
 ghost use Rattle.std.specs.Prelude.{◌≡◌, ◌≢◌, ◌⊎◌, ◌≤◌, ℕ, length, List, Option, Some, IfSome, IsSomeAnd, map};
 ghost use Rattle.outside_io.specs.Whole.{limit};
-ghost use Rattle.conf_tree.specs.declared.kind.ConfKind.{ConfKind};
+ghost use Rattle.conf_ast.specs.declared.kind.ConfKind.{ConfKind};
 ghost use Rattle.core_setup.specs.Plays.{IsLegalPlay};
 ghost use Rattle.core_setup.specs.Setup.{Setup};
 ghost use Rattle.report.specs.declared.phase.PhaseReport.{PhaseReport};
@@ -18,7 +18,7 @@ ghost use Rattle.birdcore_top.specs.Written.{ArePlayed};
 
 use crate::status::Status;
 use crate::top::top;
-use conf_ast::laws::a_text_is_one_syntax;
+use ast_laws::laws::a_text_is_one_syntax;
 use conf_laws::readings::{
     a_text_has_one_refusal, each_place_has_a_line_and_a_column,
     each_text_is_a_configuration_or_is_refused, each_tree_is_of_a_configuration,

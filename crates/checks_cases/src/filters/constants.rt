@@ -1,9 +1,9 @@
 //! The values of constants.
 use crate::faults::{bad, no_memory};
+use conf_ast::configurations::{Literal, StringLiteral};
+use conf_ast::filters::{Item, MaskItem, Num};
 use conf_lex::bytes_at;
-use conf_tree::ast::{Literal, StringLiteral};
 use filt_check::{mask_of, number, set_of};
-use filt_syntax::ast::{Item, MaskItem, Num};
 use filt_tree::{Labels, Scope};
 use filt_values::Fixed;
 use std::alloc::Global;
