@@ -74,13 +74,15 @@ fn try_tables(rt: &HostRuntime) -> io::Result<ExitCode> {
 
 fn main(rt: HostRuntime) -> io::Result<ExitCode> {
     let mut words = env::args(&rt)?.skip(1);
-    match (words.next(), words.next(), words.next()) {
-        (None, _, _) => try_tables(&rt),
-        (Some(word), Some(config), Some(rounds)) if word.as_str() == "rounds" => {
-            let accepted = rounds::accepted(&rt, &config, &rounds)?;
-            println!(&rt; "{accepted}")?;
-            Ok(ExitCode::SUCCESS)
-        }
-        _ => Err(bad()),
+    let Some(word) = words.next() else {
+        return try_tables(&rt);
+    };
+    if word.as_str() != "rounds" {
+        return Err(bad());
     }
+    let config = words.next().ok_or(bad())?;
+    let number = words.next().ok_or(bad())?;
+    let accepted = rounds::accepted(&rt, &config, &number)?;
+    println!(&rt; "{accepted}")?;
+    Ok(ExitCode::SUCCESS)
 }
