@@ -1,9 +1,9 @@
 #!/usr/bin/env python3
-"""Times verdicts of filters: `PROGRAM CONFIG ROUNDS`, beside the same conditions in plain Rust (plain_filters.rs).
+"""Times verdicts of filters: `PROGRAM rounds CONFIG NUMBER`, beside the same conditions in plain Rust (plain_filters.rs).
 
     bench/filters.py PROGRAM
 
-PROGRAM is the one of the crate `filt_rounds`. A filter has so many conditions, none of which holds, in turn of five
+PROGRAM is the one of the crate `checks_cases`. A filter has so many conditions, none of which holds, in turn of five
 kinds: the net's length, the MED, a community, the path's length, the first number of the path. Another has a set of
 100,000 prefixes, in their order, and one more such a set whose items have ranges and are spread over all addresses; no
 route is taken by either. A verdict's time is what a run of many rounds takes more than one of one round, a round
@@ -84,7 +84,7 @@ def verdict_time(command):
 def row(name, text, plain, kind, count, folder, program):
     config = folder / "filter.conf"
     config.write_text(text)
-    ours, printed, rounds = verdict_time([str(program), str(config)])
+    ours, printed, rounds = verdict_time([str(program), "rounds", str(config)])
     theirs, _, _ = verdict_time([str(plain), kind, str(count)])
     same = subprocess.run([plain, kind, str(count), str(rounds)], check=True, capture_output=True, text=True)
     if same.stdout.strip() != printed:

@@ -1,4 +1,4 @@
-//! The worked run: its files, its report, and its words.
+//! The worked run: its files, its report, and its words; and a run of two phases.
 use outside_io::MemFile;
 use std::alloc::Global;
 use std::test::Fail;
@@ -27,6 +27,36 @@ state
 \t\t203.0.113.0/24 p1 pref 100 bgp unicast gw 192.0.2.1 from 192.0.2.1 id 10.0.0.1 ebgp path 65001 65002 origin igp nh 192.0.2.1 lp 100
 \ttable master6 0 0
 \tprotocol p1 up 1
+\texport p1 0
+end
+";
+
+/// Over the same configuration.
+pub const TWO_PHASES: &str = "@p1 open 10.0.0.1\nsync\n@p1 show route\n";
+
+pub const REPORT_OF_TWO_PHASES: &str = "phase 1
+protocol p1
+\topen 10.0.0.1
+journal master4 0 0
+journal master6 0 0
+channel p1
+\tup 0
+state
+\ttable master4 0 0
+\ttable master6 0 0
+\tprotocol p1 up 0
+\texport p1 0
+phase 2
+protocol p1
+journal master4 0 0
+journal master6 0 0
+channel p1
+reply p1 master4 0
+\tTable master4:
+state
+\ttable master4 0 0
+\ttable master6 0 0
+\tprotocol p1 up 0
 \texport p1 0
 end
 ";

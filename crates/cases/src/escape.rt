@@ -108,9 +108,9 @@ fn step(place: Place, byte: u8, piece: &mut Vec<u8>, out: &mut Vec<u8>) -> io::R
 
 /// The bytes that an input of a table stands for.
 ///
-/// `\n`, `\r`, `\t`, `\\`, `\{` and `\}` are one byte each, `\xHH` is the byte of two hexadecimal digits in small
-/// letters, and `\N{TEXT}` is TEXT N times, N in decimal. Another backslash, or an escape that isn't finished, is
-/// `InvalidData`.
+/// `\n`, `\r`, `\t`, `\\`, `\{` and `\}` are one byte each, `\xHH` is the byte of two hexadecimal
+/// digits in small letters, and `\N{TEXT}` is TEXT N times, N in decimal. Another backslash, or an
+/// escape that isn't finished, is `InvalidData`.
 pub fn unescape(alloc: Global, text: &[u8]) -> io::Result<Vec<u8>> {
     let mut out = Vec::new(alloc);
     let mut piece = Vec::new(alloc);

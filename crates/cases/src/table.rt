@@ -31,7 +31,8 @@ fn case_of(alloc: Global, number: usize, line: &str) -> io::Result<Case> {
 /// The cases of the table in a file, in the order of its lines.
 ///
 /// # Errors
-/// `InvalidData` where a line has no ` | ` or an escape that isn't one, and what reading the file gives.
+/// `InvalidData` where a line has no ` | ` or an escape that isn't one, and what reading the file
+/// gives.
 pub fn read(rt: &HostRuntime, name: &str) -> io::Result<Vec<Case>> {
     let alloc = rt.alloc();
     let text = fs::read_to_string(rt, name)?;

@@ -95,12 +95,6 @@ fn med_behind(alloc: Global, before: usize) -> Result<Left, Fail> {
 }
 
 #[test]
-fn a_function_gives_a_value(rt: HostRuntime) -> Result<(), Fail> {
-    assert_eq!(rt; med_behind(rt.alloc(), 0)??, Some(42));
-    Ok(())
-}
-
-#[test]
 fn calls_stand_within_one_another_64_times(rt: HostRuntime) -> Result<(), Fail> {
     assert_eq!(rt; med_behind(rt.alloc(), 63)??, Some(42));
     assert!(rt; med_behind(rt.alloc(), 64)?.is_err());

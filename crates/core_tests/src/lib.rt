@@ -1,0 +1,16 @@
+//! Tests of imports, exports, reports and replies where no script of a play leads: operations that
+//! the other kind of protocol has, an outlet that refuses, pipes, a source without a name.
+//!
+//! What a script reaches is tried by the reports of `birdcore_top_cases`.
+#![tactic(auto)]
+
+#[cfg(test)]
+mod exports;
+#[cfg(test)]
+mod imports;
+#[cfg(test)]
+mod pipes;
+#[cfg(test)]
+mod replies;
+#[cfg(test)]
+mod samples;
