@@ -51,12 +51,6 @@ Configures system = Within (λ file. IsBuilt file system)
 abbrev pub IsAccepted : List ℕ → Type 0
 IsAccepted file = (system : System) × Configures system file
 
--- The file is a configuration that is built, or one that isn't, or it is refused.
-abbrev pub SaysSomething : List ℕ → Type 0
-SaysSomething file = ((system : System) × IsBuilt file system)
-    ⊎ IsNotBuilt file
-    ⊎ ((line : ℕ) × (column : ℕ) × (kind : ConfKind) × IsRefusedAt file line column kind)
-
 -- ---- outcomes
 
 -- what the configuration of this name gives without the script
