@@ -1,4 +1,7 @@
--- Lists of communities.
+-- Lists of communities (`IsClist`): at most 64 pairs, no two the same; that a pair is in a list
+-- (`has_pair`).
+-- From: RFC 1997; the limit is own.
+-- Example: (65000, 2), (65000, 1), then (65000, 2) again: a list of two pairs.
 use Rattle.std.specs.Prelude.{◌≤◌, ◌==◌, ◌&&◌, ℕ, Bool, List, length}
 use Rattle.std.specs.List.{IsDistinct, list_any}
 

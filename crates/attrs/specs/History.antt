@@ -1,4 +1,7 @@
--- What a list of changes leaves.
+-- What a list of changes leaves of a table (`last_of`, `after`, `content_at`), and that each change
+-- is a real one (`IsReal`).
+-- From: own.
+-- Example: an `add` given twice is one change.
 use Rattle.std.specs.Prelude.{◌≢◌, ℕ, Bool, ◌&&◌, ◌==◌, if◌then◌else◌, List, [], ◌∷◌, Option, Some, None, unwrap_or, take, ⊤}
 use Rattle.bits_ip.specs.Prefix.{Net, same_net}
 use Rattle.attrs.specs.declared.route.Route.{Route}

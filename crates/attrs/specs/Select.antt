@@ -1,4 +1,7 @@
--- Which rows of a table are asked for.
+-- Which rows of a table are asked for (`selected`): all, those of one net, of the longest net that
+-- covers a prefix, or of the nets that a prefix covers.
+-- From: BIRD User's Guide, "Remote control", `show route`.
+-- Example: for 10.1.2.3/32 the longest of 10.0.0.0/8, 10.1.0.0/16 and 10.1.2.0/24 is the last.
 use Rattle.std.specs.Prelude.{ℕ, Bool, ◌&&◌, ◌==◌, not, nat_le, nat_lt, List, Option, Some, None}
 use Rattle.std.specs.List.{filter, list_any}
 use Rattle.bits_ip.specs.Address.{family_rank}

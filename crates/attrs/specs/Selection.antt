@@ -1,4 +1,12 @@
--- Which of two routes of a net is preferred: the first rule that tells them apart decides.
+-- Which of two routes of a net is preferred (`before`): the first rule that tells them apart
+-- decides (`selection_rules`); and the best of a set (`IsBest`).
+-- Not modelled: MEDs compared only within one neighbour AS, the age of routes, and reachability of
+-- next hops.
+-- From: BIRD User's Guide, "Route selection"; RFC 4271, sections 9.1.1 and 9.1.2.2; a rule that is
+-- own says so in its line.
+-- Example: the higher preference; static before BGP; then of BGP the higher local preference, the
+-- shorter path, the lower origin, the lower MED, external before internal, the lower distance, the
+-- lower router id, the lower neighbour's address; last the lower source number.
 use Rattle.std.specs.Prelude.{◌≡◌, ◌+◌, ◌^◌, ℕ, Bool, true, false, ◌&&◌, ◌||◌, ◌==◌, nat_lt, List, [], ◌∷◌, length, Option, Some, None, unwrap_or, IsTrue, Contains}
 use Rattle.bits_ip.specs.declared.address.Addr.{Addr}
 use Rattle.bits_ip.specs.declared.address.Addr.TheVariants.{V4, V6}

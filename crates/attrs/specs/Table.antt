@@ -1,4 +1,9 @@
--- A content as rows: what a table shows.
+-- A content as rows, which is what a table shows (`AreRows`, `Shows`): nets in order; of each net
+-- the best route first and the others behind it in theirs (`IsInOrder`). What rows say of a key
+-- (`route_in`); the routes of a net in a content, in any order (`AreRoutesOf`), and the best of
+-- them (`IsBestOf`).
+-- From: own; the order is that of Selection.
+-- Example: a content of one route has one row of one route.
 use Rattle.std.specs.Prelude.{◌≡◌, ◌≢◌, ℕ, ◌==◌, List, [], ◌∷◌, length, Option, Some, find, if◌then◌else◌, sum_by, IsTrue, ⊤}
 use Rattle.bits_ip.specs.Prefix.{Net, same_net, precedes}
 use Rattle.attrs.specs.declared.route.Route.{Route}

@@ -1,4 +1,7 @@
--- How attributes are written.
+-- How attributes are written (`attrs_text`).
+-- From: own.
+-- Example: `pref 100 bgp unicast gw 192.0.2.1 from 192.0.2.1 id 10.0.0.1 ebgp path 65001 65002
+-- origin igp nh 192.0.2.1 lp 100`; `pref 200 static blackhole`.
 use Rattle.std.specs.Prelude.{ℕ, Bool, true, false, List, [], ◌∷◌, ◌++◌, Option, Some, None, codes, decimal}
 use Rattle.std.specs.List.{flat_map}
 use Rattle.bits_ip.specs.Text.{addr_text, v4_text}

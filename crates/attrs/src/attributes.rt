@@ -1,3 +1,7 @@
+//! The attributes of a route: all that a table keeps of it beside its net and its source.
+//!
+//! From: BIRD User's Guide, "Filters", "Route attributes"; RFC 4271, sections 4.3 and 5. Example:
+//! the attributes of 203.0.113.0/24 in the worked run of docs/DEFINITIONS.md.
 ghost use Rattle.std.specs.Prelude.{◌≡◌, ◌↔◌, IfOk, IsTrue};
 ghost use Rattle.attrs.specs.Text.{dest_text, kind_text, origin_text};
 

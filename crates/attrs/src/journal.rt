@@ -1,3 +1,7 @@
+//! What a table tells those who read it: the entries of its journal, one for each change, and
+//! chunks of its rows, by which a reader is fed.
+//!
+//! From: own. Example: the entry at position 1 of the worked run in docs/DEFINITIONS.md.
 use crate::{Route, Row, Seq};
 use bits_ip::Prefix;
 

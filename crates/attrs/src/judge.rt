@@ -1,3 +1,8 @@
+//! Filters, as those who ask them see them: a `Judge` says of a net and a route whether the route
+//! passes, and with which attributes. Contracts know a filter by `verdict` alone.
+//!
+//! Not modelled: its language (filt_meaning). From: BIRD User's Guide, "Filters". Example: a filter
+//! that accepts all leaves each route's attributes as they are.
 ghost use Rattle.std.specs.Prelude.{◌≡◌, IfOk};
 
 use crate::{Attrs, Route, Shared};

@@ -1,3 +1,8 @@
+//! Routes, what a table holds of a net, and changes, of which a table's history is made.
+//!
+//! From: BIRD User's Guide, "Routing tables"; RFC 4271, section 9. Example: in the worked run of
+//! docs/DEFINITIONS.md an `add` is one change, with the route of the net 203.0.113.0/24 and source
+//! 0.
 ghost use Rattle.std.specs.Prelude.{◌≡◌, ◌↔◌, IfOk, IsTrue};
 
 use crate::{Attrs, Seq, Shared};

@@ -1,7 +1,7 @@
 -- A text is built, or it isn't, or it is refused.
 use Rattle.std.proofs.Common.{◌≡◌, ◌∙◌, sym, ap, ℕ, List}
 use Rattle.std.proofs.lemmas.Bool.{true≢false}
-use Rattle.conf_tree.specs.declared.kind.ConfKind.{ConfKind}
+use Rattle.conf_ast.specs.declared.kind.ConfKind.{ConfKind}
 use Rattle.sys_build.specs.Setups.{has_pipe}
 use Rattle.system.specs.System.{System}
 use Rattle.system.specs.Texts.{IsRefusedAt, IsSystem}

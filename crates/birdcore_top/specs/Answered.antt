@@ -1,8 +1,9 @@
--- What the program owes, whatever its words, its files and its output are: eleven promises.
--- Modelled: what a shelf tells before it is read and how often reads have failed, under each name
--- and in all; what a sink tells that it holds and how often it failed. Not modelled: what a shelf or
--- a sink doesn't tell, and when memory is refused, which may come in place of any answer.
--- From: the table of statuses in README.
+-- What the program owes (`Answered`), whatever its words, its files and its output are: eleven
+-- promises over what a shelf and a sink tell before and after (`ShelfSeen`, `SinkSeen`).
+-- Not modelled: what a shelf or a sink doesn't tell; when memory is refused, which may come in place
+-- of any answer.
+-- From: own.
+-- Example: the table of statuses in the README.
 use Rattle.std.specs.Prelude.{◌≡◌, ◌⊎◌, ◌↔◌, ℕ, Bool, false, List, Option, None, IsSomeAnd}
 use Rattle.std.specs.Io.KnownBytes.{Appends, Keeps}
 use Rattle.std.specs.List.{flat_map}

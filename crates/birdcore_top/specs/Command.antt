@@ -1,4 +1,8 @@
--- The words of the command line, as a command.
+-- The words of the command line, as a command (`command_of`), and how many changes a journal is to
+-- hold (`cells_in`).
+-- From: own; numbers as Rust's `u64` reads them.
+-- Example: `play a b` and `play a b --journal +5` are commands; three other words, `--journal 0`
+-- and `--journal 4097` are none.
 use Rattle.std.specs.Prelude.{◌&&◌, ◌==◌, not, nat_le, ℕ, Bool, List, [], ◌∷◌, length, map, String, Option, Some, None, codes, if◌then◌else◌}
 use Rattle.std.specs.Str.{all_ascii_digits, bytes_eq}
 use Rattle.std.specs.Str.Parse.{digits_value, without_leading_plus}

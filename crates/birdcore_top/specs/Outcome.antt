@@ -1,6 +1,13 @@
--- What a command and its files come to: the one thing that the program has to answer.
+-- What a command and its files come to (`Outcome`, by `IsPossible` and `IsRequired`): the one thing
+-- that the program has to answer; which files decide it (`files_read`), and that a configuration is
+-- built or not (`IsBuilt`, `IsNotBuilt`).
+-- Not modelled: what files hold that isn't told: `IsPossible` asks nothing of them, and
+-- `IsRequired` is false of all that rests on them. Over a shelf that tells its files both say the
+-- same (the law `files_have_one_outcome`).
+-- From: own.
+-- Example: a refused configuration decides alone, whatever the script is; a pipe isn't built.
 use Rattle.std.specs.Prelude.{◌≡◌, ℕ, ◌≤◌, ◌⊎◌, false, true, List, [], ◌∷◌, length, Option, Some, None, IfSome, IsSomeAnd}
-use Rattle.conf_tree.specs.declared.kind.ConfKind.{ConfKind}
+use Rattle.conf_ast.specs.declared.kind.ConfKind.{ConfKind}
 use Rattle.outside_io.specs.Whole.{limit, IsLong}
 use Rattle.core_setup.specs.Setup.{Setup}
 use Rattle.script_lines.specs.declared.faults.ScriptKind.{ScriptKind}

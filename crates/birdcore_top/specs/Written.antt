@@ -1,4 +1,8 @@
--- What is written: the report of a play, or of its first phases.
+-- What is written: the report of the phases played (`ArePlayed`, `IfPlayed`), or of the first of
+-- them (`IfBegun`), whose text has no last line as long as phases are left (`text_so_far`).
+-- Not modelled: what stands at a sink that tells nothing.
+-- From: own.
+-- Example: the worked run of docs/DEFINITIONS.md.
 use Rattle.std.specs.Prelude.{◌≡◌, ℕ, List, [], ◌∷◌, ◌++◌, map, Option}
 use Rattle.std.specs.Io.KnownBytes.{Appends}
 use Rattle.std.specs.List.{flat_map}

@@ -1,7 +1,7 @@
 //! What the files say, on which the contract of `top` rests: a text says one thing, and files that
 //! are told come to one outcome at most. The other laws of `top` stand in the crate `top_laws`.
 ghost use Rattle.std.specs.Prelude.{◌≡◌, ℕ, List, Option, IfSome, IsSomeAnd};
-ghost use Rattle.conf_tree.specs.declared.kind.ConfKind.{ConfKind};
+ghost use Rattle.conf_ast.specs.declared.kind.ConfKind.{ConfKind};
 ghost use Rattle.system.specs.System.{System};
 ghost use Rattle.system.specs.Texts.{IsRefusedAt};
 ghost use Rattle.birdcore_top.specs.Command.{Command};

@@ -4,7 +4,7 @@ ghost use Rattle.birdcore_top.specs.Answer.{number_of};
 ghost use Rattle.birdcore_top.specs.declared.status.Status.TheVariants.{OutOfMemory};
 
 use bits_ip::OutOfMemory;
-use conf_tree::ConfKind;
+use conf_ast::ConfKind;
 use script_lines::ScriptKind;
 use std::alloc::AllocError;
 use system::SystemFault;

@@ -1,5 +1,5 @@
 use birdcore_top::Status;
-use conf_tree::ConfKind;
+use conf_ast::ConfKind;
 use script_lines::ScriptKind;
 use std::test::Fail;
 

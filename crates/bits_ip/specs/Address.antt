@@ -1,4 +1,6 @@
--- Addresses as numbers with a family.
+-- Addresses as numbers with a family, of 32 or of 128 bits (`family_of`, `number_of`, `width_of`).
+-- From: RFC 791; RFC 4291, section 2.
+-- Example: 10.0.0.0 is V4 with 167772160.
 use Rattle.std.specs.Prelude.{ℕ}
 use Rattle.bits_ip.specs.declared.address.Addr.{Addr}
 use Rattle.bits_ip.specs.declared.address.Addr.TheVariants.{V4, V6}

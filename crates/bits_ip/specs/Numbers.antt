@@ -1,4 +1,6 @@
--- Numbers in decimal.
+-- Numbers of 32 bits in decimal digits (`IsNumber`).
+-- From: own.
+-- Example: `00065000` is 65000; `+1` and `4294967296` are none.
 use Rattle.std.specs.Prelude.{◌≡◌, ℕ, ◌^◌, ◌<◌, List}
 use Rattle.std.specs.Str.Parse.{digits_value, IsNumeral}
 

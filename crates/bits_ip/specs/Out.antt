@@ -1,4 +1,6 @@
--- What appending text keeps.
+-- What appending text keeps (`Kept`): what followed a first state of a sink still does behind
+-- another piece. For the writers' contracts.
+-- From: own.
 
 -- what follows a first state still does
 abbrev pub Kept : {S : Type 0} → (S → S → Type 0) → S → S → Type 0

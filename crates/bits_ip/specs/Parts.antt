@@ -1,4 +1,4 @@
--- The parts that the readers take a text apart into.
+-- For private contracts alone: the parts that the readers take a text apart into.
 use Rattle.std.specs.Prelude.{◌≡◌, ◌≢◌, length, slice_index, ℕ, ◌+◌, ◌<◌, ◌==◌, Option, option_map, List, ◌∷◌, ◌++◌, take, drop, position, decimal, false, ◌≤◌, [], map, replicate}
 use Rattle.std.specs.Fmt.{digits}
 use Rattle.std.specs.Int.Digits.{number_from_digits}

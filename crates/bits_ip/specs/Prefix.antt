@@ -1,4 +1,9 @@
--- Prefixes: which there are, which covers which, and their order.
+-- Prefixes: which there are (`IsPrefix`: a length within the family's, host bits zero), which
+-- covers which (`Covers`), their order (`net_cmp`: by family, address, length), and a bit of an
+-- address (`bit_at`, the first at 0).
+-- From: RFC 4632, section 3.1; RFC 4291, section 2.3; the order and the numbers of bits are own.
+-- Example: 10.0.0.1/8 and 0.0.0.0/33 are none; 10.0.0.0/8 comes before 10.0.0.0/16, that before
+-- 10.1.0.0/16; bit 0 of 128.0.0.0/1 is 1.
 use Rattle.std.specs.Prelude.{◌≡◌, ℕ, ◌-◌, ◌/◌, ◌%◌, ◌^◌, ◌≤◌, Bool, false, ◌&&◌, ◌==◌}
 use Rattle.std.specs.Ordering.{is_lt, nat_cmp, on, then_cmp}
 use Rattle.std.specs.declared.cmp.Ordering.{Ordering}

@@ -1,4 +1,4 @@
--- A number of 128 bits in four parts, as it stands in a prefix.
+-- For private contracts alone: a number of 128 bits in four parts, as it stands in a prefix.
 use Rattle.std.specs.Prelude.{◌≡◌, ℕ, ◌+◌, ◌*◌, ◌/◌, ◌%◌, ◌^◌, ◌<◌}
 use Rattle.std.proofs.Common.{ap, ◌∙◌, arith, refl}
 use Rattle.bits_ip.specs.Address.{family_of, number_of}

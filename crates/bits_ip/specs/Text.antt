@@ -1,4 +1,15 @@
--- How addresses and prefixes are written and read.
+-- How addresses and prefixes are written (`v4_text`, `v6_text`, `net_text`), which bytes spell them
+-- (`IsAddrText`, `IsNetText`, `IsV6Text`), and the run of bytes that is read (`addr_run`,
+-- `net_run`). IPv4: four decimals, one spelling for each address. IPv6: eight groups, or two colons
+-- once in place of one or more groups of zeros; a group (`IsGroup`) has one to four hexadecimal
+-- digits.
+-- Not modelled: IPv6 addresses that end in an IPv4 address (`::ffff:1.2.3.4`).
+-- From: dotted decimals, in one spelling: own; RFC 4291, section 2.2, forms 1 and 2; RFC 5952,
+-- section 4, for the one IPv6 text that is written.
+-- Example: 203.0.113.0/24, 2001:db8::1 and 2001:0:0:1::1 are written so. `10.0.0/8`, `010.0.0.0/8`,
+-- `10.0.0.0/08`, `256.0.0.0/8` spell nothing. `2001:DB8:0:0:8:800:200C:417A`, `FF01::101`, `::`,
+-- `1:2:3:4:5:6:7::` are spellings; `1:2:3:4:5:6:7:8::`, `1::2::3`, `12345::`, `:1`,
+-- `::ffff:1.2.3.4`, `2001:db8::1/32` and `::/032` spell nothing.
 use Rattle.std.specs.Prelude.{◌≡◌, ℕ, ◌+◌, ◌*◌, ◌-◌, ◌/◌, ◌%◌, ◌^◌, ◌<◌, Bool, ◌&&◌, ◌||◌, ◌==◌, nat_le, if◌then◌else◌, max, List, [], ◌∷◌, ◌++◌, map, take, drop, take_while, decimal, false, length, ◌≤◌, ◌⊎◌, ⊤, replicate}
 use Rattle.std.specs.Fmt.{digits}
 use Rattle.std.specs.Char.{is_ascii_digit}

@@ -1,39 +1,44 @@
--- The abstract syntax of configurations as plain data, without memory, and the one that statements
--- in memory are. Each `at` is the byte of the source at which what it is of begins.
+-- The abstract syntax of configurations as plain data, without memory (`Declaration`), and the one
+-- that statements in memory are (`configuration_of`). Each `at` is the byte of the source at which
+-- what it is of begins.
+-- Not modelled: what is refused of it (conf_rules), what it comes to (conf_check).
+-- From: own; the forms are those of conf_tree.
+-- Example: `ipv4;` in a protocol is a channel without settings, `ipv4 { };` one with a list of
+-- none.
 use Rattle.std.specs.Prelude.{ℕ, Bool, List, Option, option_map, map, Vec}
 use Rattle.std.specs.Global.{Global}
 use Rattle.bits_ip.specs.Prefix.{Net}
 use Rattle.bits_ip.specs.declared.address.Family.{Family}
 use Rattle.conf_lex.specs.declared.named.Name.{Name}
-use Rattle.filt_syntax.specs.declared.ast.Function.{Function}
-use Rattle.filt_syntax.specs.declared.ast.Item.{Item}
-use Rattle.filt_syntax.specs.declared.ast.MaskItem.{MaskItem}
-use Rattle.filt_syntax.specs.declared.ast.Num.{Num}
-use Rattle.filt_syntax.specs.declared.ast.Parameter.{Parameter}
-use Rattle.filt_syntax.specs.declared.ast.VariableType.{VariableType}
-use Rattle.conf_tree.specs.declared.ast.Address.{Address}
-use Rattle.conf_tree.specs.declared.ast.BgpOption.{BgpOption}
-use Rattle.conf_tree.specs.declared.ast.BgpOption.TheVariants as bgp_options
-use Rattle.conf_tree.specs.declared.ast.Channel.{Channel}
-use Rattle.conf_tree.specs.declared.ast.ChannelOption.{ChannelOption}
-use Rattle.conf_tree.specs.declared.ast.ChannelOption.TheVariants as channel_options
-use Rattle.conf_tree.specs.declared.ast.Limit.{Limit}
-use Rattle.conf_tree.specs.declared.ast.Literal.{Literal}
-use Rattle.conf_tree.specs.declared.ast.Literal.TheVariants as literals
-use Rattle.conf_tree.specs.declared.ast.NextHop.{NextHop}
-use Rattle.conf_tree.specs.declared.ast.PipeOption.{PipeOption}
-use Rattle.conf_tree.specs.declared.ast.PipeOption.TheVariants as pipe_options
-use Rattle.conf_tree.specs.declared.ast.Policy.{Policy}
-use Rattle.conf_tree.specs.declared.ast.Policy.TheVariants as policies
-use Rattle.conf_tree.specs.declared.ast.Protocol.{Protocol}
-use Rattle.conf_tree.specs.declared.ast.StringLiteral.{StringLiteral}
-use Rattle.conf_tree.specs.declared.ast.Route.{Route}
-use Rattle.conf_tree.specs.declared.ast.Statement.{Statement}
-use Rattle.conf_tree.specs.declared.ast.Statement.TheVariants as statements
-use Rattle.conf_tree.specs.declared.ast.StaticOption.{StaticOption}
-use Rattle.conf_tree.specs.declared.ast.StaticOption.TheVariants as static_options
-use Rattle.conf_tree.specs.declared.ast.Switch.{Switch}
-use Rattle.conf_tree.specs.declared.ast.Transport.{Transport}
+use Rattle.conf_ast.specs.declared.filters.Function.{Function}
+use Rattle.conf_ast.specs.declared.filters.Item.{Item}
+use Rattle.conf_ast.specs.declared.filters.MaskItem.{MaskItem}
+use Rattle.conf_ast.specs.declared.filters.Num.{Num}
+use Rattle.conf_ast.specs.declared.filters.Parameter.{Parameter}
+use Rattle.conf_ast.specs.declared.filters.VariableType.{VariableType}
+use Rattle.conf_ast.specs.declared.configurations.Address.{Address}
+use Rattle.conf_ast.specs.declared.configurations.BgpOption.{BgpOption}
+use Rattle.conf_ast.specs.declared.configurations.BgpOption.TheVariants as bgp_options
+use Rattle.conf_ast.specs.declared.configurations.Channel.{Channel}
+use Rattle.conf_ast.specs.declared.configurations.ChannelOption.{ChannelOption}
+use Rattle.conf_ast.specs.declared.configurations.ChannelOption.TheVariants as channel_options
+use Rattle.conf_ast.specs.declared.configurations.Limit.{Limit}
+use Rattle.conf_ast.specs.declared.configurations.Literal.{Literal}
+use Rattle.conf_ast.specs.declared.configurations.Literal.TheVariants as literals
+use Rattle.conf_ast.specs.declared.configurations.NextHop.{NextHop}
+use Rattle.conf_ast.specs.declared.configurations.PipeOption.{PipeOption}
+use Rattle.conf_ast.specs.declared.configurations.PipeOption.TheVariants as pipe_options
+use Rattle.conf_ast.specs.declared.configurations.Policy.{Policy}
+use Rattle.conf_ast.specs.declared.configurations.Policy.TheVariants as policies
+use Rattle.conf_ast.specs.declared.configurations.Protocol.{Protocol}
+use Rattle.conf_ast.specs.declared.configurations.StringLiteral.{StringLiteral}
+use Rattle.conf_ast.specs.declared.configurations.Route.{Route}
+use Rattle.conf_ast.specs.declared.configurations.Statement.{Statement}
+use Rattle.conf_ast.specs.declared.configurations.Statement.TheVariants as statements
+use Rattle.conf_ast.specs.declared.configurations.StaticOption.{StaticOption}
+use Rattle.conf_ast.specs.declared.configurations.StaticOption.TheVariants as static_options
+use Rattle.conf_ast.specs.declared.configurations.Switch.{Switch}
+use Rattle.conf_ast.specs.declared.configurations.Transport.{Transport}
 use Rattle.conf_ast.specs.Filters.{Expression, Statements, block_of, expression_of}
 
 -- ---- values of constants

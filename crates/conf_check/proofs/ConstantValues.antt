@@ -9,18 +9,18 @@ use Rattle.filt_sets.specs.declared.mask.Atom.TheVariants as atoms
 use Rattle.filt_sets.specs.declared.mask.MaskItem as set
 use Rattle.filt_sets.specs.declared.pairs.PairItem.{PairItem}
 use Rattle.filt_sets.specs.declared.prefixes.PrefixItem.{PrefixItem}
-use Rattle.filt_syntax.specs.declared.ast.Item.{Item}
-use Rattle.filt_syntax.specs.declared.ast.Item.TheVariants as items
-use Rattle.filt_syntax.specs.declared.ast.Lengths.{Lengths}
-use Rattle.filt_syntax.specs.declared.ast.Lengths.TheVariants as lengths
-use Rattle.filt_syntax.specs.declared.ast.MaskAtom.{MaskAtom}
-use Rattle.filt_syntax.specs.declared.ast.MaskAtom.TheVariants as mask_atoms
-use Rattle.filt_syntax.specs.declared.ast.MaskItem.{MaskItem}
-use Rattle.filt_syntax.specs.declared.ast.Num.{Num}
-use Rattle.filt_syntax.specs.declared.ast.Num.TheVariants as nums
-use Rattle.filt_syntax.specs.declared.ast.PairPart.{PairPart}
-use Rattle.filt_syntax.specs.declared.ast.PairPart.TheVariants as parts
-use Rattle.filt_syntax.specs.declared.ast.NumRange.{NumRange}
+use Rattle.conf_ast.specs.declared.filters.Item.{Item}
+use Rattle.conf_ast.specs.declared.filters.Item.TheVariants as items
+use Rattle.conf_ast.specs.declared.filters.Lengths.{Lengths}
+use Rattle.conf_ast.specs.declared.filters.Lengths.TheVariants as lengths
+use Rattle.conf_ast.specs.declared.filters.MaskAtom.{MaskAtom}
+use Rattle.conf_ast.specs.declared.filters.MaskAtom.TheVariants as mask_atoms
+use Rattle.conf_ast.specs.declared.filters.MaskItem.{MaskItem}
+use Rattle.conf_ast.specs.declared.filters.Num.{Num}
+use Rattle.conf_ast.specs.declared.filters.Num.TheVariants as nums
+use Rattle.conf_ast.specs.declared.filters.PairPart.{PairPart}
+use Rattle.conf_ast.specs.declared.filters.PairPart.TheVariants as parts
+use Rattle.conf_ast.specs.declared.filters.NumRange.{NumRange}
 use Rattle.conf_ast.specs.Configurations as conf
 use Rattle.filt_values.specs.declared.value.Failure.{Failure}
 use Rattle.filt_values.specs.Operators.{and_then, pair_of}

@@ -22,7 +22,7 @@ use Rattle.filt_tree.specs.Scopes.{constant_values, constants_in, context_of, fu
 use Rattle.filt_tree.specs.Trees.{function, tables}
 use Rattle.filt_types.specs.Scenes.{Signature}
 use Rattle.filt_types.specs.Seen.{functions_in, scene_of, signature_of}
-use Rattle.filt_check.specs.Answers.{signature_in}
+use Rattle.filt_rules.specs.Refused.{signature_in}
 use Rattle.filt_check.proofs.Growing.{constant_declared, function_declared}
 use Rattle.conf_rules.specs.declared.declared.Declared.{Declared}
 use Rattle.conf_rules.specs.Known.{Known}

@@ -2,7 +2,7 @@
 use Rattle.std.proofs.Common.{◌≡◌, ℕ, Bool, List, [], ◌∷◌, ◌++◌, map, refl, ap, ◌∙◌}
 use Rattle.std.proofs.lemmas.List.{map-append}
 use Rattle.bits_ip.specs.declared.address.Addr.{Addr}
-use Rattle.conf_tree.specs.declared.ast.Limit.{Limit}
+use Rattle.conf_ast.specs.declared.configurations.Limit.{Limit}
 use Rattle.conf_ast.specs.Configurations.{Passing, ChannelSetting, ChannelTable, ChannelImport, ChannelExport, ChannelPreference, ChannelLimit, ChannelNextHop, BgpSetting, BgpChannel, BgpLocal, BgpNeighbor, BgpMedMetric, BgpInterpretCommunities, BgpDefaultMed, BgpDefaultLocalPref, BgpTransport, PipeSetting, PipeTable, PipePeerTable, PipeImport, PipeExport, StaticSetting, StaticChannel, StaticRoute}
 use Rattle.conf_rules.specs.Known.{Known}
 use Rattle.conf_rules.specs.Protocols.{static_routes}

@@ -3,9 +3,9 @@ use Rattle.std.proofs.Common.{◌≡◌, ℕ, ◌+◌, ◌<◌, ◌≤◌, All, 
 use Rattle.std.proofs.lemmas.List.{map-append, take_more}
 use Rattle.std.proofs.lemmas.Option.{same_Some}
 use Rattle.std.specs.Result.{IfOk, IsErrAnd, MatchResult, result_ok}
-use Rattle.conf_tree.specs.declared.kind.ConfFault.{ConfFault}
-use Rattle.conf_tree.specs.declared.kind.ConfFault.TheVariants as faults
-use Rattle.conf_tree.specs.declared.ast.Statement.{Statement}
+use Rattle.conf_ast.specs.declared.kind.ConfFault.{ConfFault}
+use Rattle.conf_ast.specs.declared.kind.ConfFault.TheVariants as faults
+use Rattle.conf_ast.specs.declared.configurations.Statement.{Statement}
 use Rattle.conf_ast.specs.Configurations as conf
 use Rattle.conf_ast.specs.Configurations.{configuration_of, declaration_of, Passing, PassAll, PassNone, PassByFilter, PassByBlock, PassWhere, FamilyChannel, Instance, StaticSetting, BgpSetting, PipeSetting}
 use Rattle.conf_ast.specs.Filters.{Statements}

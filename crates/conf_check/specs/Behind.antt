@@ -1,4 +1,7 @@
--- What a configuration declares behind its statements, one after another.
+-- What a configuration declares behind its statements, one after another (`at_start`, `behind`).
+-- From: BIRD User's Guide, "Configuration".
+-- Example: a constant is seen behind its own statement; a pipe `p` declares `p`, `p.export` and
+-- `p.import`.
 use Rattle.std.specs.Prelude.{ℕ, ◌+◌, if◌then◌else◌, List, [], ◌∷◌, ◌++◌, Result, Ok, Err}
 use Rattle.bits_ip.specs.declared.address.Addr.TheVariants as addrs
 use Rattle.bits_ip.specs.declared.address.Family.{Family}
@@ -10,7 +13,7 @@ use Rattle.filt_values.specs.Values.{Val}
 use Rattle.filt_meaning.specs.Configuration.{constant}
 use Rattle.filt_meaning.specs.Names.{Around, Context}
 use Rattle.filt_types.specs.Scenes.{Scene, Signature}
-use Rattle.filt_check.specs.Answers.{signature_in}
+use Rattle.filt_rules.specs.Refused.{signature_in}
 use Rattle.conf_rules.specs.Known.{Known}
 use Rattle.conf_rules.specs.Protocols.{bgp_stem, own_name, pipe_names, pipe_stem, static_stem}
 use Rattle.conf_rules.specs.Statements.{is_master, master}

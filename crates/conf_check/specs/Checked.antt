@@ -1,5 +1,9 @@
--- What a configuration comes to that is accepted: its protocols with each option or its default, by
--- the options that count, and its filters by what they do.
+-- What a configuration comes to that is accepted (`IsChecked`): its filters by what they do
+-- (`Does`), its protocols with each option or its default, by the options that count: policies,
+-- channels (`IsChannel`), static protocols, BGP, pipes (`IsStatic`, `IsBgp`, `IsPipe`).
+-- From: BIRD User's Guide, "Channel options", "BGP", "Static", "Pipe"; some defaults are own.
+-- Example: where nothing is written: `import all`, `export none`, `master4` or `master6`,
+-- preference 200 and 100, limits that disable, MED 0, local preference 100.
 use Rattle.std.specs.Prelude.{◌≡◌, ℕ, suc, Bool, true, false, if◌then◌else◌, List, [], ◌∷◌, ◌++◌, map, Option, Some, None, ⊤, codes}
 use Rattle.attrs.specs.declared.attributes.Attrs.{Attrs}
 use Rattle.bits_ip.specs.declared.address.Addr.{Addr}
@@ -7,13 +11,13 @@ use Rattle.bits_ip.specs.declared.address.Addr.TheVariants as addrs
 use Rattle.bits_ip.specs.declared.address.Family.{Family}
 use Rattle.conf_lex.specs.declared.named.Name.{Name}
 use Rattle.conf_lex.specs.Names.{name_bytes}
-use Rattle.conf_tree.specs.declared.ast.Action.{Action}
-use Rattle.conf_tree.specs.declared.ast.Action.TheVariants as actions
-use Rattle.conf_tree.specs.declared.ast.Limit.{Limit}
-use Rattle.conf_tree.specs.declared.ast.Limit.TheVariants as limits
-use Rattle.conf_tree.specs.declared.ast.Route.{Route}
-use Rattle.conf_tree.specs.declared.ast.RouteTarget.{RouteTarget}
-use Rattle.conf_tree.specs.declared.ast.RouteTarget.TheVariants as targets
+use Rattle.conf_ast.specs.declared.configurations.Action.{Action}
+use Rattle.conf_ast.specs.declared.configurations.Action.TheVariants as actions
+use Rattle.conf_ast.specs.declared.configurations.Limit.{Limit}
+use Rattle.conf_ast.specs.declared.configurations.Limit.TheVariants as limits
+use Rattle.conf_ast.specs.declared.configurations.Route.{Route}
+use Rattle.conf_ast.specs.declared.configurations.RouteTarget.{RouteTarget}
+use Rattle.conf_ast.specs.declared.configurations.RouteTarget.TheVariants as targets
 use Rattle.conf_ast.specs.Configurations as conf
 use Rattle.conf_ast.specs.Configurations.{Passing, PassAll, PassNone, PassByFilter, PassByBlock, PassWhere, ChannelSetting, ChannelTable, ChannelImport, ChannelExport, ChannelPreference, ChannelLimit, ChannelNextHop, FamilyChannel, StaticSetting, BgpSetting, BgpChannel, BgpLocal, BgpNeighbor, BgpMedMetric, BgpInterpretCommunities, BgpDefaultMed, BgpDefaultLocalPref, BgpTransport, PipeSetting, PipeTable, PipePeerTable, PipeImport, PipeExport, Instance}
 use Rattle.conf_ast.specs.Filters.{Statements}

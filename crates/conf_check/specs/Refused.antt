@@ -1,8 +1,11 @@
--- Which refusal of a configuration counts: the first of the first statement that is refused. The
--- bytes of statements follow each other, so it is the first by place of all that there are.
+-- Which refusal of a configuration counts (`refusal_of`): the first of the first statement that is
+-- refused. The bytes of statements follow each other, so it is the first by place of all that there
+-- are.
+-- From: own.
+-- Example: a later statement's refusal is never told where an earlier one has one.
 use Rattle.std.specs.Prelude.{◌≡◌, List, [], ◌∷◌, Option, Some, None, ⊤}
-use Rattle.conf_tree.specs.declared.kind.ConfFault.{ConfFault}
-use Rattle.conf_tree.specs.declared.kind.ConfFault.TheVariants as faults
+use Rattle.conf_ast.specs.declared.kind.ConfFault.{ConfFault}
+use Rattle.conf_ast.specs.declared.kind.ConfFault.TheVariants as faults
 use Rattle.conf_ast.specs.Configurations as conf
 use Rattle.conf_rules.specs.declared.refusal.Refusal.{Refusal}
 use Rattle.conf_rules.specs.Known.{Known}

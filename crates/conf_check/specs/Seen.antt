@@ -1,11 +1,11 @@
--- For the contracts of private functions: what is made of a statement, and what has been made of
--- the statements so far.
+-- For private contracts alone: what is made of a statement, and what has been made of the
+-- statements so far.
 use Rattle.std.specs.Prelude.{◌≡◌, ℕ, ◌+◌, ◌≤◌, Bool, true, false, List, [], ◌∷◌, ◌++◌, length, map, Option, Some, None, Vec}
 use Rattle.std.specs.Global.{Global}
 use Rattle.std.specs.List.{All, list_any}
 use Rattle.attrs.specs.declared.attributes.Attrs.{Attrs}
 use Rattle.conf_lex.specs.declared.named.Name.{Name}
-use Rattle.conf_tree.specs.declared.ast.Policy.{Policy}
+use Rattle.conf_ast.specs.declared.configurations.Policy.{Policy}
 use Rattle.conf_ast.specs.Configurations as conf
 use Rattle.conf_ast.specs.Configurations.{FamilyChannel, Passing, passing_of}
 use Rattle.conf_ast.specs.Filters.{Statements}

@@ -13,9 +13,9 @@ ghost use Rattle.conf_check.specs.Seen.{HasOne, Means};
 use crate::channel::{channel, known_number};
 use crate::checked::BgpDef;
 use bits_ip::{Addr, OutOfMemory};
+use conf_ast::configurations::{BgpOption, Channel, Protocol};
+use conf_ast::filters::Num;
 use conf_rules::{Declared, as_number, is_on, last_local, last_neighbor};
-use conf_tree::ast::{BgpOption, Channel, Protocol};
-use filt_syntax::ast::Num;
 use std::alloc::Global;
 
 /// The preference of BGP's routes.

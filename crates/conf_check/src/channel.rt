@@ -2,7 +2,7 @@
 
 ghost use Rattle.std.specs.Prelude.{◌≡◌, ◌∷◌, [], IfOk, map, option_copied};
 ghost use Rattle.conf_ast.specs.Configurations.{PassAll, PassNone, channel_of, channel_setting_of};
-ghost use Rattle.conf_tree.specs.declared.ast.Limit.TheVariants as limits;
+ghost use Rattle.conf_ast.specs.declared.configurations.Limit.TheVariants as limits;
 ghost use Rattle.conf_rules.specs.Channels.{settings_of};
 ghost use Rattle.conf_rules.specs.Known as rules;
 ghost use Rattle.conf_rules.specs.Statements as statements;
@@ -14,10 +14,10 @@ ghost use Rattle.conf_check.specs.Seen.{Means, passing_or};
 use crate::checked::{ChannelDef, ImportLimit};
 use crate::policy::{export_policy, import_policy, table_number};
 use bits_ip::{Family, OutOfMemory};
+use conf_ast::configurations::{Action, Channel, ChannelOption, Limit, Policy};
+use conf_ast::filters::Num;
 use conf_lex::Name;
 use conf_rules::{Declared, last_table, number_of};
-use conf_tree::ast::{Action, Channel, ChannelOption, Limit, Policy};
-use filt_syntax::ast::Num;
 use std::alloc::Global;
 
 /// What stands between the braces; nothing where there are none.

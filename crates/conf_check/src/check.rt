@@ -5,9 +5,9 @@ ghost use Rattle.conf_check.specs.Checked.{IsChecked};
 ghost use Rattle.conf_check.specs.Refused.{IsFault, refusal_of};
 
 use crate::checked::Checked;
+use conf_ast::ConfFault;
+use conf_ast::configurations::{Config, Statement};
 use conf_rules::first_in_statement;
-use conf_tree::ConfFault;
-use conf_tree::ast::{Config, Statement};
 use std::alloc::Global;
 
 /// What a configuration comes to, or the first by place of what is refused in it, at one place the

@@ -2,8 +2,8 @@
 //! their order; the tables master4 and master6 are the first two.
 use attrs::Seq;
 use bits_ip::{Addr, Family, Prefix};
+use conf_ast::configurations::Action;
 use conf_rules::Declared;
-use conf_tree::ast::Action;
 use filt_tree::TFilter;
 
 /// What of the routes passes (BIRD User's Guide, "Channel options", `import` and `export`).

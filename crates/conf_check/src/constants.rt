@@ -13,11 +13,11 @@ ghost use Rattle.filt_values.specs.Seen.{val_of_fixed};
 ghost use Rattle.filt_values.specs.Values.{VInt, VIntSet, VMask, VPairSet, VPrefixSet, VString};
 
 use bits_ip::OutOfMemory;
+use conf_ast::configurations::{Literal, StringLiteral};
+use conf_ast::filters::{Item, MaskItem, Num};
 use conf_lex::{Name, bytes_at};
-use conf_tree::ast::{Literal, StringLiteral};
 use filt_check::{mask_of, number, set_of};
 use filt_sets::{IntSet, Mask, PairSet, PrefixSet};
-use filt_syntax::ast::{Item, MaskItem, Num};
 use filt_tree::{Labels, Scope};
 use filt_types::{Seen, constant_named};
 use filt_values::Fixed;

@@ -11,9 +11,9 @@ ghost use Rattle.conf_check.specs.Seen.{HasPeer, Means, passing_or};
 use crate::checked::PipeDef;
 use crate::policy::{export_policy, import_policy, table_number};
 use bits_ip::OutOfMemory;
+use conf_ast::configurations::{PipeOption, Policy, Protocol};
 use conf_lex::Name;
 use conf_rules::{Declared, last_peer, last_pipe_table};
-use conf_tree::ast::{PipeOption, Policy, Protocol};
 use std::alloc::Global;
 
 fn import_in<'a>(found: Option<&'a Policy>, option: &'a PipeOption) -> Option<&'a Policy>

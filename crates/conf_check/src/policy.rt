@@ -11,11 +11,11 @@ ghost use Rattle.conf_check.specs.Seen.{Means, passing_or};
 
 use crate::checked::PolicyDef;
 use bits_ip::OutOfMemory;
+use conf_ast::configurations::Policy;
+use conf_ast::filters::{Block, Expr};
 use conf_lex::Name;
 use conf_rules::Declared;
-use conf_tree::ast::Policy;
 use filt_check::{resolve_condition, resolve_filter};
-use filt_syntax::ast::{Block, Expr};
 use filt_tree::{Scope, TFilter};
 use std::alloc::Global;
 

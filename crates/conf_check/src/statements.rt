@@ -2,7 +2,7 @@
 
 ghost use Rattle.std.specs.Prelude.{◌≡◌, ℕ, ◌+◌, ◌++◌, ◌∷◌, ◌<◌, [], IfErr, IfOk, List, MatchResult, None, OnOk, Vec};
 ghost use Rattle.std.specs.Global.{Global};
-ghost use Rattle.conf_tree.specs.declared.kind.ConfFault.TheVariants as faults;
+ghost use Rattle.conf_ast.specs.declared.kind.ConfFault.TheVariants as faults;
 ghost use Rattle.conf_ast.specs.Configurations as conf;
 ghost use Rattle.conf_ast.specs.Configurations.{Declaration, bgp_setting_of, declaration_of, instance_of, pipe_setting_of, routine_of, static_setting_of, value_of};
 ghost use Rattle.conf_ast.specs.Filters.{block_of};
@@ -25,12 +25,12 @@ use crate::policy::block_filter;
 use crate::static_protocol::static_protocol;
 use attrs::Seq;
 use bits_ip::{Family, OutOfMemory};
+use conf_ast::ConfFault;
+use conf_ast::configurations::{BgpOption, Literal, PipeOption, Protocol, Statement, StaticOption};
+use conf_ast::filters::{Filter, Function};
 use conf_lex::Name;
 use conf_rules::{BGP_STEM, Declared, PIPE_STEM, STATIC_STEM, first_in_statement, own_name};
-use conf_tree::ConfFault;
-use conf_tree::ast::{BgpOption, Literal, PipeOption, Protocol, Statement, StaticOption};
 use filt_check::resolve_function;
-use filt_syntax::ast::{Filter, Function};
 use std::alloc::Global;
 
 // ---- declarations

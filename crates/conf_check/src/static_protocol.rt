@@ -12,8 +12,8 @@ use crate::channel::channel;
 use crate::checked::{StaticDef, StaticRoute, StaticTarget};
 use attrs::Seq;
 use bits_ip::OutOfMemory;
+use conf_ast::configurations::{Channel, Protocol, Route, RouteTarget, StaticOption};
 use conf_rules::Declared;
-use conf_tree::ast::{Channel, Protocol, Route, RouteTarget, StaticOption};
 use std::alloc::Global;
 
 /// The preference of static routes.

@@ -9,11 +9,11 @@
 //! CHANNEL is `FAMILY TABLE import POLICY export POLICY pref NUMBER limit COUNT ACTION`, or `limit
 //! off`. A POLICY is `all`, `none`, `filter` and its number, or `own`.
 use bits_ip::{Family, OutOfMemory, append_addr, append_prefix, write_number};
+use conf_ast::configurations::Action;
 use conf_check::{
     BgpDef, ChannelDef, Checked, ImportLimit, PipeDef, PolicyDef, ProtocolBody, ProtocolDef,
     StaticDef, StaticRoute, StaticTarget,
 };
-use conf_tree::ast::Action;
 
 /// How many protocols are shown.
 const SHOWN: usize = 8;

@@ -12,39 +12,39 @@ use Rattle.conf_lex.specs.declared.symbol.Symbol.TheVariants as sym
 use Rattle.conf_lex.specs.declared.word.Word.{Word}
 use Rattle.conf_lex.specs.declared.word.Word.TheVariants as words
 use Rattle.conf_lex.specs.declared.named.Name.{Name}
-use Rattle.filt_syntax.specs.declared.ast.Num.{Num}
-use Rattle.filt_syntax.specs.declared.ast.Parameter.{Parameter}
-use Rattle.filt_syntax.specs.declared.ast.Separator.{Separator}
-use Rattle.filt_syntax.specs.declared.ast.Separator.TheVariants as separators
-use Rattle.conf_tree.specs.declared.ast.Action.{Action}
-use Rattle.conf_tree.specs.declared.ast.Action.TheVariants as actions
-use Rattle.conf_tree.specs.declared.ast.Address.{Address}
-use Rattle.conf_tree.specs.declared.ast.BgpOption.{BgpOption}
-use Rattle.conf_tree.specs.declared.ast.BgpOption.TheVariants as bgp_options
-use Rattle.conf_tree.specs.declared.ast.ChannelOption.{ChannelOption}
-use Rattle.conf_tree.specs.declared.ast.ChannelOption.TheVariants as channel_options
-use Rattle.conf_tree.specs.declared.ast.Limit.{Limit}
-use Rattle.conf_tree.specs.declared.ast.Limit.TheVariants as limits
-use Rattle.conf_tree.specs.declared.ast.Literal.{Literal}
-use Rattle.conf_tree.specs.declared.ast.Literal.TheVariants as literals
-use Rattle.conf_tree.specs.declared.ast.NextHop.{NextHop}
-use Rattle.conf_tree.specs.declared.ast.NextHop.TheVariants as hops
-use Rattle.conf_tree.specs.declared.ast.PipeOption.TheVariants as pipe_options
-use Rattle.conf_tree.specs.declared.ast.Policy.{Policy}
-use Rattle.conf_tree.specs.declared.ast.Policy.TheVariants as policies
-use Rattle.conf_tree.specs.declared.ast.Protocol.{Protocol}
-use Rattle.conf_tree.specs.declared.ast.StringLiteral.{StringLiteral}
-use Rattle.conf_tree.specs.declared.ast.RouteTarget.{RouteTarget}
-use Rattle.conf_tree.specs.declared.ast.RouteTarget.TheVariants as targets
-use Rattle.conf_tree.specs.declared.ast.Statement.TheVariants as statements
-use Rattle.conf_tree.specs.declared.ast.StaticOption.TheVariants as static_options
-use Rattle.conf_tree.specs.declared.ast.Switch.{Switch}
-use Rattle.conf_tree.specs.declared.ast.Switch.TheVariants as switches
-use Rattle.conf_tree.specs.declared.ast.Transport.{Transport}
-use Rattle.conf_tree.specs.declared.ast.Transport.TheVariants as transports
-use Rattle.filt_syntax.specs.declared.ast.Block.{Block}
-use Rattle.filt_syntax.specs.declared.ast.Item.{Item}
-use Rattle.filt_syntax.specs.declared.ast.MaskItem.{MaskItem}
+use Rattle.conf_ast.specs.declared.filters.Num.{Num}
+use Rattle.conf_ast.specs.declared.filters.Parameter.{Parameter}
+use Rattle.conf_ast.specs.declared.filters.Separator.{Separator}
+use Rattle.conf_ast.specs.declared.filters.Separator.TheVariants as separators
+use Rattle.conf_ast.specs.declared.configurations.Action.{Action}
+use Rattle.conf_ast.specs.declared.configurations.Action.TheVariants as actions
+use Rattle.conf_ast.specs.declared.configurations.Address.{Address}
+use Rattle.conf_ast.specs.declared.configurations.BgpOption.{BgpOption}
+use Rattle.conf_ast.specs.declared.configurations.BgpOption.TheVariants as bgp_options
+use Rattle.conf_ast.specs.declared.configurations.ChannelOption.{ChannelOption}
+use Rattle.conf_ast.specs.declared.configurations.ChannelOption.TheVariants as channel_options
+use Rattle.conf_ast.specs.declared.configurations.Limit.{Limit}
+use Rattle.conf_ast.specs.declared.configurations.Limit.TheVariants as limits
+use Rattle.conf_ast.specs.declared.configurations.Literal.{Literal}
+use Rattle.conf_ast.specs.declared.configurations.Literal.TheVariants as literals
+use Rattle.conf_ast.specs.declared.configurations.NextHop.{NextHop}
+use Rattle.conf_ast.specs.declared.configurations.NextHop.TheVariants as hops
+use Rattle.conf_ast.specs.declared.configurations.PipeOption.TheVariants as pipe_options
+use Rattle.conf_ast.specs.declared.configurations.Policy.{Policy}
+use Rattle.conf_ast.specs.declared.configurations.Policy.TheVariants as policies
+use Rattle.conf_ast.specs.declared.configurations.Protocol.{Protocol}
+use Rattle.conf_ast.specs.declared.configurations.StringLiteral.{StringLiteral}
+use Rattle.conf_ast.specs.declared.configurations.RouteTarget.{RouteTarget}
+use Rattle.conf_ast.specs.declared.configurations.RouteTarget.TheVariants as targets
+use Rattle.conf_ast.specs.declared.configurations.Statement.TheVariants as statements
+use Rattle.conf_ast.specs.declared.configurations.StaticOption.TheVariants as static_options
+use Rattle.conf_ast.specs.declared.configurations.Switch.{Switch}
+use Rattle.conf_ast.specs.declared.configurations.Switch.TheVariants as switches
+use Rattle.conf_ast.specs.declared.configurations.Transport.{Transport}
+use Rattle.conf_ast.specs.declared.configurations.Transport.TheVariants as transports
+use Rattle.conf_ast.specs.declared.filters.Block.{Block}
+use Rattle.conf_ast.specs.declared.filters.Item.{Item}
+use Rattle.conf_ast.specs.declared.filters.MaskItem.{MaskItem}
 use Rattle.conf_lex.specs.Symbols.{is_placed}
 use Rattle.conf_lex.specs.Kind.{Kind, attribute, kind_of, symbol, name, text, address, prefix}
 use Rattle.conf_lex.specs.Grammar.{Terminal, Seq, Alt, ParseTree, Leaf, NoWords, Pair, Left, Right, Single, Snoc, yield, nullable, DerivesLongest}

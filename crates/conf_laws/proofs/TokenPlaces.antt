@@ -7,7 +7,7 @@ use Rattle.filt_syntax.specs.declared.parse.SyntaxFault.TheVariants as faults
 use Rattle.conf_tree.specs.Sentence.{IsRefused}
 use Rattle.conf_tree.specs.Read.{byte_of, IsRefusedText}
 use Rattle.conf_laws.specs.Alike.{IsAlike, AreAlike, DecideAlike, IsNoSentence}
-use Rattle.conf_tree.specs.declared.kind.ConfKind.TheVariants as kinds
+use Rattle.conf_ast.specs.declared.kind.ConfKind.TheVariants as kinds
 use Rattle.conf_laws.proofs.TokenLaw.{by_tokens, by_end}
 
 -- the bytes at which tokens begin rise from one place to the other

@@ -22,7 +22,7 @@ use Rattle.conf_tree.specs.Syntax.{config}
 use Rattle.conf_tree.specs.Significant.{significant_words}
 use Rattle.conf_tree.specs.Sentence.{IsRefused}
 use Rattle.conf_tree.specs.Read.{byte_of, IsRefusedText}
-use Rattle.conf_tree.specs.declared.kind.ConfKind.TheVariants as kinds
+use Rattle.conf_ast.specs.declared.kind.ConfKind.TheVariants as kinds
 use Rattle.conf_tree.specs.declared.significant.Region.{Region}
 use Rattle.conf_tree.specs.declared.significant.Region.TheVariants as regions
 use Rattle.conf_laws.proofs.KindTrees.{kinds_of}

@@ -1,5 +1,8 @@
--- For the laws of refusals: tokens of two texts that say the same, and what beside a token decides
--- whether it can stand. From: own.
+-- For the laws of refusals: tokens of two texts that say the same (`IsAlike`, `AreAlike`), what
+-- beside a token decides whether it can stand (`DecideAlike`, `CanBePrefix`), and tokens that no
+-- configuration has (`IsNoSentence`).
+-- From: own.
+-- Example: no configuration begins with `router id 10.0.0.0 /`.
 use Rattle.std.specs.Prelude.{◌≡◌, ℕ, Bool, true, false, List, [], ◌∷◌, ◌++◌, length, take}
 use Rattle.bits_ip.specs.declared.address.Addr.{Addr}
 use Rattle.conf_lex.specs.Symbols.{is_colon, is_else, is_slash}

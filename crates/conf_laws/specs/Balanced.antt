@@ -1,6 +1,7 @@
--- For the laws of device blocks: words in which each brace is closed, as they stand within the
--- braces of a device. Brackets and parentheses count for nothing there. From: BIRD User's Guide,
--- "Protocols", section "Device".
+-- For the laws of device blocks: words in which each brace is closed (`IsBalanced`), as they stand
+-- within the braces of a device. Brackets and parentheses count for nothing there.
+-- From: BIRD User's Guide, "Protocols", section "Device".
+-- Example: `{ x } ( ;` is balanced, `} {` isn't.
 use Rattle.std.specs.Prelude.{◌≡◌, true, false, List, [], ◌∷◌, ◌++◌}
 use Rattle.conf_lex.specs.declared.symbol.Symbol.TheVariants as sym
 use Rattle.conf_lex.specs.declared.word.Word.{Word}

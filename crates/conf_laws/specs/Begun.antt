@@ -1,4 +1,7 @@
--- For the laws of refusals: that some configuration begins with tokens of a text. From: own.
+-- For the laws of refusals: that some configuration begins with tokens of a text (`BeginSome`),
+-- within 64 levels or with the 65th behind them (`IsConfigOrDeeper`).
+-- From: own.
+-- Example: behind `route 10.0.0.0` a slash and a length can come.
 use Rattle.std.specs.Prelude.{◌≡◌, ◌≤◌, ◌⊎◌, ℕ, List, ◌++◌, length}
 use Rattle.conf_lex.specs.Lex.{Lexes}
 use Rattle.conf_lex.specs.declared.token.Token.{Token}

@@ -1,5 +1,8 @@
--- For the laws of texts: those that are written of tokens, with a space between each two. Not
--- modelled: other gaps and comments. From: own.
+-- For the laws of texts: bytes that are a token (`IsSpelling`), and a text written of tokens, with
+-- a space before each (`spaced`).
+-- Not modelled: other gaps and comments.
+-- From: own.
+-- Example: `router` and `id` are written ` router id `.
 use Rattle.std.specs.Prelude.{ℕ, ⊤, List, [], ◌∷◌, ◌++◌, map}
 use Rattle.conf_lex.specs.Shapes.{IsShape, IsValue}
 use Rattle.conf_lex.specs.Words.{slice_of}

@@ -10,13 +10,13 @@ ghost use Rattle.conf_tree.specs.Read.{IsRefusedText};
 ghost use Rattle.conf_tree.specs.Significant.{significant_words};
 ghost use Rattle.conf_tree.specs.Sentence.{StopsAt};
 ghost use Rattle.conf_tree.specs.Syntax.{config};
-ghost use Rattle.conf_tree.specs.declared.kind.ConfKind.{ConfKind};
+ghost use Rattle.conf_ast.specs.declared.kind.ConfKind.{ConfKind};
 ghost use Rattle.conf_laws.specs.Begun.{BeginSome};
 ghost use Rattle.conf_laws.specs.Spaced.{Spelling, AreSpellings, spaced, spellings_of};
 
+use conf_ast::ConfKind;
 use conf_lex::Word;
 use conf_lex::laws::{texts_have_one_list_of_tokens, tokens_are_slices, tokens_rise};
-use conf_tree::ConfKind;
 use filt_syntax::SyntaxFault;
 
 /// The words before one that can't stand there begin a sentence, and open no level over 64: in a

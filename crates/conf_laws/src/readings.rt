@@ -10,12 +10,12 @@ ghost use Rattle.conf_tree.specs.Position.{IsPlace};
 ghost use Rattle.conf_tree.specs.Read.{IsConfigText, IsRefusedText};
 ghost use Rattle.conf_tree.specs.Syntax.{config};
 ghost use Rattle.conf_tree.specs.View.{statements_tree};
-ghost use Rattle.conf_tree.specs.declared.ast.Statement.{Statement};
-ghost use Rattle.conf_tree.specs.declared.kind.ConfKind.{ConfKind};
+ghost use Rattle.conf_ast.specs.declared.configurations.Statement.{Statement};
+ghost use Rattle.conf_ast.specs.declared.kind.ConfKind.{ConfKind};
 ghost use Rattle.conf_laws.specs.Alike.{IsAlike, AreAlike, DecideAlike, IsNoSentence};
 
+use conf_ast::ConfKind;
 use conf_lex::laws::{texts_have_one_list_of_tokens, tokens_are_slices, tokens_rise};
-use conf_tree::ConfKind;
 use syntax_laws::words::each_text_has_tokens_or_a_place;
 
 /// Each place of a text has a line and a column.

@@ -1,5 +1,7 @@
--- What a function of a parser returned is what reading gives, unless memory ran out. Not modelled:
--- when it does. From: own.
+-- What a function of a parser returned is what reading gives, unless memory ran out (`Agrees`). For
+-- the parsers' contracts.
+-- Not modelled: when memory runs out.
+-- From: own.
 use Rattle.std.specs.Prelude.{◌≡◌, ◌≢◌, List, Result, Ok, Err}
 use Rattle.std.specs.Borrow.{Bor}
 use Rattle.conf_lex.specs.declared.word.Word.{Word}

@@ -1,6 +1,8 @@
--- The attributes of routes and the constants of their values, and how they are spelled, each once,
--- in the order of the enum. Not modelled: what they mean (filt_meaning). From: BIRD User's Guide,
--- "Filters" (section "Route attributes").
+-- The attributes of routes and the constants of their values, and how they are spelled
+-- (`attribute_of`, `constant_of`), each once, in the order of the enum.
+-- Not modelled: what they mean (filt_meaning).
+-- From: BIRD User's Guide, "Filters" (section "Route attributes").
+-- Example: `bgp_path` is an attribute, `RTS_BGP` a constant.
 use Rattle.std.specs.Prelude.{ℕ, Option, List, [], ◌∷◌, codes}
 use Rattle.conf_lex.specs.Symbols.{lookup}
 use Rattle.conf_lex.specs.declared.attribute.Attribute.{Attribute}

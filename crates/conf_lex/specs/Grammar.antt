@@ -1,6 +1,10 @@
--- Grammars whose next word decides: forms, the trees of a form, and what stands at the front of
--- some words. Not modelled: which forms BIRD's languages have (filt_syntax, conf_tree), and
--- grammars that want more than one word. From: own.
+-- Grammars whose next word decides: forms (`Form`, over a type of levels), the trees of a form
+-- (`ParseTree`), and what stands at the front of some words (`Derives`, and `DerivesLongest`, where
+-- no part stops while the next word could go on with it).
+-- Not modelled: which forms BIRD's languages have (filt_syntax, conf_tree), and grammars that want
+-- more than one word.
+-- From: own.
+-- Example: of the form `{ NAME }` the words `a b 1` have a tree at their front, of two names.
 use Rattle.std.specs.Prelude.{◌≡◌, ℕ, Bool, true, false, ◌&&◌, ◌||◌, List, [], ◌∷◌, ◌++◌, Option}
 use Rattle.std.specs.Prelude.{Some, None}
 use Rattle.std.proofs.Common.{zero, suc}

@@ -1,5 +1,7 @@
--- The sort of a word, which is all that a grammar looks at. Not modelled: places, values, and the
--- bytes of names and texts. From: own.
+-- The sort of a word (`Kind`), which is all that a grammar looks at.
+-- Not modelled: places, values, and the bytes of names and texts.
+-- From: own.
+-- Example: `7` and `8` are of one sort, `if` and `else` of two.
 use Rattle.std.specs.Prelude.{Bool, true, false, cond}
 use Rattle.conf_lex.specs.Symbols.{is_placed}
 use denote.Enum.Bare.{sameb}

@@ -1,4 +1,7 @@
--- The trees of a name, of a symbol, and of what stands between two words. From: own.
+-- The trees of a name, of a symbol, and of what stands between two words (`name_leaf`,
+-- `symbol_leaf`, `between`).
+-- From: own.
+-- Example: a name's tree has one word, of the sort name.
 use Rattle.conf_lex.specs.declared.symbol.Symbol.{Symbol}
 use Rattle.conf_lex.specs.declared.word.Word.{Word}
 use Rattle.conf_lex.specs.declared.word.Word.TheVariants as words

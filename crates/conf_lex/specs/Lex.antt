@@ -1,6 +1,8 @@
--- The tokens of a text: each is the longest that begins at its place, and a gap stands before,
--- between and behind them; or the one place where a text has none (BIRD User's Guide,
--- "Configuration").
+-- The tokens of a text (`Lexes`): each is the longest that begins at its place, and a gap stands
+-- before, between and behind them; or the one place where a text has none (`Stops`).
+-- Not modelled: what tokens say together.
+-- From: BIRD User's Guide, "Configuration"; the longest token and the place are own.
+-- Example: `filter f { @ }` stops at byte 11.
 use Rattle.std.specs.Prelude.{◌≡◌, ℕ, ◌+◌, ◌<◌, List, [], ◌∷◌, ◌++◌, length, ⊤}
 use Rattle.conf_lex.specs.Shapes.{IsToken, IsValue, IsSeparator, IsGap}
 use Rattle.conf_lex.specs.declared.scan.Lexeme.{Lexeme}

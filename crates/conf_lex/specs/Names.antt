@@ -1,5 +1,7 @@
--- The bytes of names. Not modelled: what a name stands for. From: own; names are of BIRD User's
--- Guide, "Configuration".
+-- The bytes of a name in its source (`name_bytes`).
+-- Not modelled: what a name stands for.
+-- From: own; names are of BIRD User's Guide, "Configuration".
+-- Example: of `'a-b'` those between the quotes.
 use Rattle.std.specs.Prelude.{ℕ, List, take, drop}
 use Rattle.conf_lex.specs.declared.named.Name.{Name}
 

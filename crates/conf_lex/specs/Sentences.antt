@@ -1,5 +1,8 @@
--- What stands at the front of some words, and the first word that can't stand there. Not modelled:
--- tokens, of which a word may be made, and how words are read. From: own.
+-- What stands at the front of some words (`IsRead`), and the first word that can't stand there
+-- (`IsBad`), or opens a level too many (`IsTooDeep`).
+-- Not modelled: tokens, of which a word may be made, and how words are read.
+-- From: own.
+-- Example: `1 + )` is refused at `)`; of 65 times `!` the 65th is too deep.
 use Rattle.std.specs.Prelude.{◌≡◌, ◌≢◌, ℕ, ◌≤◌, List, [], ◌∷◌, ◌++◌, length, Some, None}
 use Rattle.conf_lex.specs.declared.word.Word.{Word}
 use Rattle.conf_lex.specs.Grammar.{Form, ParseTree, yield, too_deep, DerivesLongest}

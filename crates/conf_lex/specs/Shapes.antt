@@ -1,6 +1,9 @@
--- Which bytes are a token, what a token says, and which bytes separate tokens (BIRD User's Guide,
--- "Configuration"). Which text an address has is said in bits_ip/specs/Text (RFC 4291, section
--- 2.2).
+-- Which bytes are a token of which sort (`IsShape`), that no longer front is one (`IsToken`), what
+-- a token says (`IsValue`), and which bytes separate tokens (`IsSeparator`, `IsGap`).
+-- Not modelled: which text an address has (bits_ip/specs/Text).
+-- From: BIRD User's Guide, "Configuration"; RFC 4291, section 2.2; where the guide is silent, own.
+-- Example: `12ab` is a number and a name; `1.2.3.4.5` an address, a dot and a number; `fe80::1x` a
+-- name, two colons, a number and a name; `0x`, `256.0.0.1`, `1:2:3`, `''`, `/*/` are none.
 use Rattle.std.specs.Prelude.{◌≡◌, ℕ, suc, zero, ◌^◌, ◌<◌, ◌≤◌, Bool, true, false, ◌&&◌, ◌||◌, not}
 use Rattle.std.specs.Prelude.{◌==◌, IsTrue, ⊤, List, [], ◌∷◌, ◌++◌, length, codes, count_by}
 use Rattle.std.specs.Char.{is_ascii_alphabetic, is_ascii_alphanumeric, is_ascii_digit}

@@ -1,4 +1,7 @@
--- Where tokens stand in their text. Not modelled: lines and columns (conf_tree). From: own.
+-- Where tokens stand in their text (`IsSpan`, `IsBetween`).
+-- Not modelled: lines and columns (conf_tree).
+-- From: own.
+-- Example: in `a /* c */ b` the tokens stand at 0 to 1 and 10 to 11, and a gap between.
 use Rattle.std.specs.Prelude.{ℕ, ◌+◌, ◌-◌, ◌<◌, ◌≤◌, List, length, take, drop}
 use Rattle.conf_lex.specs.declared.scan.Lexeme.{Lexeme}
 use Rattle.conf_lex.specs.declared.token.Token.{Token}

@@ -1,6 +1,8 @@
--- The words and signs of the grammars, but for attributes and constants, and how they are spelled,
--- each once, in the order of the enum. From: BIRD User's Guide, "Configuration", "Protocols",
--- "Filters".
+-- The words and signs of the grammars, but for attributes and constants, and how they are spelled
+-- (`spellings`, `symbol_of`), each once, in the order of the enum.
+-- Not modelled: where they can stand (filt_syntax, conf_tree).
+-- From: BIRD User's Guide, "Configuration", "Protocols", "Filters".
+-- Example: `next`, `hop` and `self` are three words.
 use Rattle.std.specs.Prelude.{ℕ, Bool, true, false, ◌==◌, ◌&&◌, not, nat_le, if◌then◌else◌, Option}
 use Rattle.std.specs.Prelude.{Some, None, List, [], ◌∷◌, length, codes, filter}
 use Rattle.std.specs.Bool.{nat_eq}

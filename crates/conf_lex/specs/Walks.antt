@@ -1,5 +1,8 @@
--- What is read of a text token by token and word by word, from a place on. Not modelled: lists of
--- tokens and words (`Lex`, `Words`). From: own.
+-- What is read of a text token by token and word by word, from a place on (`IsStep`, `IsWordStep`,
+-- `IsStuckFrom`), for `next_token` and `next_word`.
+-- Not modelled: lists of tokens and words (`Lex`, `Words`).
+-- From: own.
+-- Example: in `10.0.0.0 / 8` the word that begins at 0 ends behind the 8.
 use Rattle.std.specs.Prelude.{◌≡◌, ℕ, ◌+◌, ◌<◌, ◌≤◌, false}
 use Rattle.std.specs.Prelude.{List, [], ◌∷◌, ◌++◌, length, drop}
 use Rattle.conf_lex.specs.Fronts.{begins_colons}

@@ -1,7 +1,10 @@
--- The words that a text's tokens are to the grammars: one for each token, but one for an address, a
--- slash and a number, and one for `else` and a colon next after it. Not modelled: which words can
--- follow each other. From: own; an `else` with a colon is of BIRD User's Guide, "Filters" (section
--- "Control structures").
+-- The words that a text's tokens are to the grammars (`words_of`, by `first_word`): one for each
+-- token, but one for an address, a slash and a number, and one for `else` and a colon next after
+-- it.
+-- Not modelled: which words can follow each other.
+-- From: own; an `else` with a colon is of BIRD User's Guide, "Filters" (section "Control
+-- structures").
+-- Example: `10.0.0.0 / 8` is one word, `10.0.0.1 / x` three; `else /* c */ :` is one.
 use Rattle.std.specs.Prelude.{ℕ, suc, zero, ◌+◌, ◌-◌, ◌%◌, ◌^◌, ◌≤◌, Bool, true, ◌&&◌, ◌==◌, nat_le}
 use Rattle.std.specs.Prelude.{if◌then◌else◌, ⊤, Option, Some, None, List, [], ◌∷◌, length, take}
 use Rattle.std.specs.Prelude.{drop}

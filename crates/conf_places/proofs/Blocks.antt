@@ -4,21 +4,21 @@ use Rattle.conf_lex.specs.declared.symbol.Symbol.TheVariants as sym
 use Rattle.conf_lex.specs.Kind.{symbol}
 use Rattle.conf_lex.specs.Leaves.{symbol_leaf}
 use Rattle.conf_lex.specs.Grammar.{Terminal, Seq, Repeat, ParseTree, Leaf, NoWords, Pair, Left, Right, Single, Snoc, DerivesLongest}
-use Rattle.filt_syntax.specs.declared.ast.Arm.{Arm}
-use Rattle.filt_syntax.specs.declared.ast.Block.{Block}
-use Rattle.filt_syntax.specs.declared.ast.Change.{Change}
-use Rattle.filt_syntax.specs.declared.ast.Change.TheVariants as changes
-use Rattle.filt_syntax.specs.declared.ast.Expr.{Expr}
-use Rattle.filt_syntax.specs.declared.ast.Item.{Item}
-use Rattle.filt_syntax.specs.declared.ast.Item.TheVariants as items
-use Rattle.filt_syntax.specs.declared.ast.Num.{Num}
-use Rattle.filt_syntax.specs.declared.ast.Num.TheVariants as nums
-use Rattle.filt_syntax.specs.declared.ast.Stmt.{Stmt, fold-Stmt}
-use Rattle.filt_syntax.specs.declared.ast.Stmt.TheOpen.{Stmt-F}
-use Rattle.filt_syntax.specs.declared.ast.Stmt.TheViews.{roll-Stmt}
-use Rattle.filt_syntax.specs.declared.ast.Stmt.TheFolds.{map-Stmt, fold-roll-Stmt, ind-Stmt}
-use Rattle.filt_syntax.specs.declared.ast.Target.{Target}
-use Rattle.filt_syntax.specs.declared.ast.Target.TheVariants as targets
+use Rattle.conf_ast.specs.declared.filters.Arm.{Arm}
+use Rattle.conf_ast.specs.declared.filters.Block.{Block}
+use Rattle.conf_ast.specs.declared.filters.Change.{Change}
+use Rattle.conf_ast.specs.declared.filters.Change.TheVariants as changes
+use Rattle.conf_ast.specs.declared.filters.Expr.{Expr}
+use Rattle.conf_ast.specs.declared.filters.Item.{Item}
+use Rattle.conf_ast.specs.declared.filters.Item.TheVariants as items
+use Rattle.conf_ast.specs.declared.filters.Num.{Num}
+use Rattle.conf_ast.specs.declared.filters.Num.TheVariants as nums
+use Rattle.conf_ast.specs.declared.filters.Stmt.{Stmt, fold-Stmt}
+use Rattle.conf_ast.specs.declared.filters.Stmt.TheOpen.{Stmt-F}
+use Rattle.conf_ast.specs.declared.filters.Stmt.TheViews.{roll-Stmt}
+use Rattle.conf_ast.specs.declared.filters.Stmt.TheFolds.{map-Stmt, fold-roll-Stmt, ind-Stmt}
+use Rattle.conf_ast.specs.declared.filters.Target.{Target}
+use Rattle.conf_ast.specs.declared.filters.Target.TheVariants as targets
 use Rattle.filt_syntax.specs.Syntax.{rule, expr, stmt, label, arm_part, listed, optional, many, block}
 use Rattle.filt_syntax.specs.ItemView.{label_tree}
 use Rattle.filt_syntax.specs.View.{expr_tree, listed_tree, arguments_tree}

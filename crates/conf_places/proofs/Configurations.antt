@@ -7,17 +7,17 @@ use Rattle.bits_ip.specs.Prefix.{Net, same_net}
 use Rattle.bits_ip.specs.declared.address.Family.{Family}
 use Rattle.conf_lex.specs.declared.named.Name.{Name}
 use Rattle.conf_lex.specs.Names.{name_bytes}
-use Rattle.filt_syntax.specs.declared.ast.Num.{Num}
-use Rattle.conf_tree.specs.declared.kind.ConfKind.{ConfKind}
-use Rattle.conf_tree.specs.declared.kind.ConfKind.TheVariants as kinds
-use Rattle.conf_tree.specs.declared.ast.Limit.{Limit}
-use Rattle.conf_tree.specs.declared.ast.Limit.TheVariants as limits
-use Rattle.conf_tree.specs.declared.ast.Route.{Route}
-use Rattle.conf_tree.specs.declared.ast.RouteTarget.{RouteTarget}
-use Rattle.conf_tree.specs.declared.ast.RouteTarget.TheVariants as targets
-use Rattle.conf_tree.specs.declared.ast.Switch.{Switch}
-use Rattle.conf_tree.specs.declared.ast.Transport.{Transport}
-use Rattle.conf_tree.specs.declared.ast.Transport.TheVariants as transports
+use Rattle.conf_ast.specs.declared.filters.Num.{Num}
+use Rattle.conf_ast.specs.declared.kind.ConfKind.{ConfKind}
+use Rattle.conf_ast.specs.declared.kind.ConfKind.TheVariants as kinds
+use Rattle.conf_ast.specs.declared.configurations.Limit.{Limit}
+use Rattle.conf_ast.specs.declared.configurations.Limit.TheVariants as limits
+use Rattle.conf_ast.specs.declared.configurations.Route.{Route}
+use Rattle.conf_ast.specs.declared.configurations.RouteTarget.{RouteTarget}
+use Rattle.conf_ast.specs.declared.configurations.RouteTarget.TheVariants as targets
+use Rattle.conf_ast.specs.declared.configurations.Switch.{Switch}
+use Rattle.conf_ast.specs.declared.configurations.Transport.{Transport}
+use Rattle.conf_ast.specs.declared.configurations.Transport.TheVariants as transports
 use Rattle.conf_ast.specs.Configurations as conf
 use Rattle.conf_ast.specs.Configurations.{Value, NumberValue, TextValue, AddressValue, PrefixValue, TrueValue, FalseValue, ValueOf, PairValue, SetValue, MaskValue, Passing, PassAll, PassNone, PassByFilter, PassByBlock, PassWhere, ChannelSetting, ChannelTable, ChannelImport, ChannelExport, ChannelPreference, ChannelLimit, ChannelNextHop, FamilyChannel, StaticSetting, StaticChannel, StaticRoute, BgpSetting, BgpChannel, BgpLocal, BgpNeighbor, BgpMedMetric, BgpInterpretCommunities, BgpDefaultMed, BgpDefaultLocalPref, BgpTransport, PipeSetting, PipeTable, PipePeerTable, PipeImport, PipeExport, Instance}
 use Rattle.conf_ast.specs.Filters.{SetOf, MaskOf, Expression}
@@ -27,7 +27,7 @@ use Rattle.filt_types.specs.Expressions.{judge}
 use Rattle.filt_types.specs.Items as items
 use Rattle.filt_types.specs.Items.{is_none}
 use Rattle.filt_types.specs.Scenes.{constant_of}
-use Rattle.filt_check.specs.Answers as filters
+use Rattle.filt_rules.specs.Refused as filters
 use Rattle.conf_rules.specs.declared.refusal.Refusal.{Refusal}
 use Rattle.conf_rules.specs.Channels as channels
 use Rattle.conf_rules.specs.Channels.{passing, limit, settings_of, is_other_family, family_of_table, channel, second_channels, one_channel, lacks_policy, same_family}

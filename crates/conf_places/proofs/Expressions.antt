@@ -5,16 +5,16 @@ use Rattle.conf_lex.specs.declared.word.Word.TheVariants as words
 use Rattle.conf_lex.specs.declared.symbol.Symbol.TheVariants as sym
 use Rattle.conf_lex.specs.Grammar.{Terminal, Seq, Repeat, ParseTree, Leaf, NoWords, Pair, Right, Single, Snoc, DerivesLongest}
 use Rattle.conf_lex.specs.Leaves.{symbol_leaf}
-use Rattle.filt_syntax.specs.declared.ast.Access.{Access}
-use Rattle.filt_syntax.specs.declared.ast.Access.TheVariants as accesses
-use Rattle.filt_syntax.specs.declared.ast.MulOp.{MulOp}
-use Rattle.filt_syntax.specs.declared.ast.AddOp.{AddOp}
-use Rattle.filt_syntax.specs.declared.ast.LogicalOp.{LogicalOp}
-use Rattle.filt_syntax.specs.declared.ast.Expr.{Expr, fold-Expr}
-use Rattle.filt_syntax.specs.declared.ast.Expr.TheOpen.{Expr-F}
-use Rattle.filt_syntax.specs.declared.ast.Expr.TheViews.{roll-Expr}
-use Rattle.filt_syntax.specs.declared.ast.Expr.TheFolds.{map-Expr, fold-roll-Expr, ind-Expr}
-use Rattle.filt_syntax.specs.declared.ast.Expr.TheShapes.{former-Expr-Postfix-1-at-4}
+use Rattle.conf_ast.specs.declared.filters.Access.{Access}
+use Rattle.conf_ast.specs.declared.filters.Access.TheVariants as accesses
+use Rattle.conf_ast.specs.declared.filters.MulOp.{MulOp}
+use Rattle.conf_ast.specs.declared.filters.AddOp.{AddOp}
+use Rattle.conf_ast.specs.declared.filters.LogicalOp.{LogicalOp}
+use Rattle.conf_ast.specs.declared.filters.Expr.{Expr, fold-Expr}
+use Rattle.conf_ast.specs.declared.filters.Expr.TheOpen.{Expr-F}
+use Rattle.conf_ast.specs.declared.filters.Expr.TheViews.{roll-Expr}
+use Rattle.conf_ast.specs.declared.filters.Expr.TheFolds.{map-Expr, fold-roll-Expr, ind-Expr}
+use Rattle.conf_ast.specs.declared.filters.Expr.TheShapes.{former-Expr-Postfix-1-at-4}
 use Rattle.filt_syntax.specs.Syntax.{rule, primary, postfix, unary, product, sum, comparison, expr, listed, optional}
 use Rattle.filt_syntax.specs.Levels.{Form}
 use Rattle.filt_syntax.specs.Syntax as forms

@@ -15,7 +15,7 @@ use Rattle.conf_tree.specs.Syntax as forms
 use Rattle.conf_tree.specs.View.{statement_tree, statements_tree}
 use Rattle.conf_tree.specs.declared.significant.Region.{Region}
 use Rattle.conf_tree.specs.declared.significant.Region.TheVariants as regions
-use Rattle.conf_tree.specs.declared.ast.Statement.{Statement}
+use Rattle.conf_ast.specs.declared.configurations.Statement.{Statement}
 use Rattle.conf_ast.specs.Configurations.{Declaration, configuration_of, declaration_of}
 use Rattle.conf_places.specs.Configurations.{IsBefore, places}
 use Rattle.conf_places.specs.Words.{of_word, of_words}

@@ -6,35 +6,35 @@ use Rattle.conf_lex.specs.declared.symbol.Symbol.TheVariants as sym
 use Rattle.conf_lex.specs.declared.named.Name.{Name}
 use Rattle.conf_lex.specs.Grammar.{Seq, ParseTree, NoWords, Single, DerivesLongest}
 use Rattle.conf_lex.specs.Leaves.{name_leaf}
-use Rattle.filt_syntax.specs.declared.ast.Num.{Num}
-use Rattle.filt_syntax.specs.declared.ast.Parameter.{Parameter}
-use Rattle.filt_syntax.specs.declared.ast.Separator.{Separator}
+use Rattle.conf_ast.specs.declared.filters.Num.{Num}
+use Rattle.conf_ast.specs.declared.filters.Parameter.{Parameter}
+use Rattle.conf_ast.specs.declared.filters.Separator.{Separator}
 use Rattle.filt_syntax.specs.ItemView.{num_tree}
 use Rattle.filt_syntax.specs.Syntax.{rule, optional, semicolon}
 use Rattle.filt_syntax.specs.Levels.{Form}
-use Rattle.conf_tree.specs.declared.ast.Address.{Address}
-use Rattle.conf_tree.specs.declared.ast.BgpOption.{BgpOption}
-use Rattle.conf_tree.specs.declared.ast.BgpOption.TheVariants as bgp_options
-use Rattle.conf_tree.specs.declared.ast.Channel.{Channel}
-use Rattle.conf_tree.specs.declared.ast.ChannelOption.{ChannelOption}
-use Rattle.conf_tree.specs.declared.ast.ChannelOption.TheVariants as channel_options
-use Rattle.conf_tree.specs.declared.ast.Limit.{Limit}
-use Rattle.conf_tree.specs.declared.ast.Limit.TheVariants as limits
-use Rattle.conf_tree.specs.declared.ast.Literal.{Literal}
-use Rattle.conf_tree.specs.declared.ast.Literal.TheVariants as literals
-use Rattle.conf_tree.specs.declared.ast.PipeOption.{PipeOption}
-use Rattle.conf_tree.specs.declared.ast.PipeOption.TheVariants as pipe_options
-use Rattle.conf_tree.specs.declared.ast.Policy.{Policy}
-use Rattle.conf_tree.specs.declared.ast.Policy.TheVariants as policies
-use Rattle.conf_tree.specs.declared.ast.Protocol.{Protocol}
-use Rattle.conf_tree.specs.declared.ast.RouteTarget.{RouteTarget}
-use Rattle.conf_tree.specs.declared.ast.RouteTarget.TheVariants as targets
-use Rattle.conf_tree.specs.declared.ast.Statement.{Statement}
-use Rattle.conf_tree.specs.declared.ast.Statement.TheVariants as config_statements
-use Rattle.conf_tree.specs.declared.ast.StaticOption.{StaticOption}
-use Rattle.conf_tree.specs.declared.ast.StaticOption.TheVariants as static_options
-use Rattle.conf_tree.specs.declared.ast.Transport.{Transport}
-use Rattle.conf_tree.specs.declared.ast.Transport.TheVariants as transports
+use Rattle.conf_ast.specs.declared.configurations.Address.{Address}
+use Rattle.conf_ast.specs.declared.configurations.BgpOption.{BgpOption}
+use Rattle.conf_ast.specs.declared.configurations.BgpOption.TheVariants as bgp_options
+use Rattle.conf_ast.specs.declared.configurations.Channel.{Channel}
+use Rattle.conf_ast.specs.declared.configurations.ChannelOption.{ChannelOption}
+use Rattle.conf_ast.specs.declared.configurations.ChannelOption.TheVariants as channel_options
+use Rattle.conf_ast.specs.declared.configurations.Limit.{Limit}
+use Rattle.conf_ast.specs.declared.configurations.Limit.TheVariants as limits
+use Rattle.conf_ast.specs.declared.configurations.Literal.{Literal}
+use Rattle.conf_ast.specs.declared.configurations.Literal.TheVariants as literals
+use Rattle.conf_ast.specs.declared.configurations.PipeOption.{PipeOption}
+use Rattle.conf_ast.specs.declared.configurations.PipeOption.TheVariants as pipe_options
+use Rattle.conf_ast.specs.declared.configurations.Policy.{Policy}
+use Rattle.conf_ast.specs.declared.configurations.Policy.TheVariants as policies
+use Rattle.conf_ast.specs.declared.configurations.Protocol.{Protocol}
+use Rattle.conf_ast.specs.declared.configurations.RouteTarget.{RouteTarget}
+use Rattle.conf_ast.specs.declared.configurations.RouteTarget.TheVariants as targets
+use Rattle.conf_ast.specs.declared.configurations.Statement.{Statement}
+use Rattle.conf_ast.specs.declared.configurations.Statement.TheVariants as config_statements
+use Rattle.conf_ast.specs.declared.configurations.StaticOption.{StaticOption}
+use Rattle.conf_ast.specs.declared.configurations.StaticOption.TheVariants as static_options
+use Rattle.conf_ast.specs.declared.configurations.Transport.{Transport}
+use Rattle.conf_ast.specs.declared.configurations.Transport.TheVariants as transports
 use Rattle.conf_tree.specs.Syntax as forms
 use Rattle.conf_tree.specs.View.{maybe, address_leaf, policy_tree, limit_tree, channel_option_tree, ended_tree, ended_row, channel_options_tree, channel_tree, target_tree, static_option_tree, transport_tree, bgp_option_tree, pipe_option_tree, literal_tree, parameters_tree, parameters_after, next_parameter, first_parameter, protocol_tree, statement_tree, statements_tree}
 use Rattle.conf_ast.specs.Configurations.{value_of, passing_of, channel_setting_of, channel_settings_of, channel_of, static_setting_of, bgp_setting_of, pipe_setting_of, instance_of, declaration_of, configuration_of}

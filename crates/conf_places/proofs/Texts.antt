@@ -20,7 +20,7 @@ use Rattle.conf_tree.specs.declared.significant.Region.{Region}
 use Rattle.conf_tree.specs.declared.significant.Region.TheVariants as regions
 use Rattle.conf_tree.specs.Read.{IsConfigText}
 use Rattle.conf_tree.specs.View.{statements_tree}
-use Rattle.conf_tree.specs.declared.ast.Statement.{Statement}
+use Rattle.conf_ast.specs.declared.configurations.Statement.{Statement}
 use Rattle.conf_ast.specs.Configurations.{configuration_of}
 use Rattle.conf_places.specs.Configurations.{places}
 use Rattle.conf_places.specs.Words.{IsTokenPlace, of_word, of_words}

@@ -1,15 +1,18 @@
--- The places that are written in a statement of a configuration: each byte that its abstract syntax
--- carries, at which a word or a sign of it begins.
+-- For the laws: the places that are written in a statement of a configuration (`places`): each byte
+-- that its abstract syntax carries, at which a word or a sign of it begins; whether a place is of
+-- some statements (`IsPlaceIn`), and whether a statement's are all before another's (`IsBefore`).
+-- From: own.
+-- Example: of `filter f { x = 1; }` the bytes of `filter`, `f`, `x` and `1`.
 use Rattle.std.specs.Prelude.{◌≡◌, ◌<◌, ℕ, All, Contains, List, [], ◌∷◌, ◌++◌, Option, Some, None}
 use Rattle.conf_lex.specs.declared.named.Name.{Name}
-use Rattle.conf_tree.specs.declared.ast.Address.{Address}
-use Rattle.conf_tree.specs.declared.ast.Limit.{Limit}
-use Rattle.conf_tree.specs.declared.ast.Limit.TheVariants as limits
-use Rattle.conf_tree.specs.declared.ast.Route.{Route}
-use Rattle.conf_tree.specs.declared.ast.RouteTarget.{RouteTarget}
-use Rattle.conf_tree.specs.declared.ast.RouteTarget.TheVariants as targets
-use Rattle.conf_tree.specs.declared.ast.Transport.{Transport}
-use Rattle.conf_tree.specs.declared.ast.Transport.TheVariants as transports
+use Rattle.conf_ast.specs.declared.configurations.Address.{Address}
+use Rattle.conf_ast.specs.declared.configurations.Limit.{Limit}
+use Rattle.conf_ast.specs.declared.configurations.Limit.TheVariants as limits
+use Rattle.conf_ast.specs.declared.configurations.Route.{Route}
+use Rattle.conf_ast.specs.declared.configurations.RouteTarget.{RouteTarget}
+use Rattle.conf_ast.specs.declared.configurations.RouteTarget.TheVariants as targets
+use Rattle.conf_ast.specs.declared.configurations.Transport.{Transport}
+use Rattle.conf_ast.specs.declared.configurations.Transport.TheVariants as transports
 use Rattle.conf_ast.specs.Configurations as conf
 use Rattle.conf_ast.specs.Configurations.{Value, NumberValue, TextValue, AddressValue, PrefixValue}
 use Rattle.conf_ast.specs.Configurations.{TrueValue, FalseValue, ValueOf, PairValue, SetValue}

@@ -1,4 +1,7 @@
--- All that is refused of a configuration.
+-- For the laws: all that is refused of a configuration (`gathered`), each statement over what is
+-- declared before it.
+-- From: own.
+-- Example: two statements of one unknown name are two refusals.
 use Rattle.std.specs.Prelude.{List, [], ◌∷◌, ◌++◌}
 use Rattle.conf_ast.specs.Configurations as conf
 use Rattle.conf_rules.specs.declared.refusal.Refusal.{Refusal}

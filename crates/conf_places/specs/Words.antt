@@ -1,4 +1,7 @@
--- The places of words and of tokens: the byte at which each of them begins, where it carries that.
+-- For the laws: where words begin (`of_word`) and whether a token of a text begins at a byte
+-- (`IsTokenPlace`).
+-- From: own.
+-- Example: in ` log;` at 1 and 4.
 use Rattle.std.specs.Prelude.{◌≡◌, ℕ, List, [], ◌∷◌, ◌++◌}
 use Rattle.conf_lex.specs.Lex.{Lexes}
 use Rattle.conf_lex.specs.declared.token.Token.{Token}

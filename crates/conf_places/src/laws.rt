@@ -2,7 +2,7 @@ ghost use Rattle.std.specs.Prelude.{◌≡◌, ◌<◌, ℕ, List, ◌∷◌, �
 ghost use Rattle.std.specs.Prelude.{Contains};
 ghost use Rattle.conf_lex.specs.Grammar.{DerivesLongest, yield};
 ghost use Rattle.filt_syntax.specs.Syntax.{rule};
-ghost use Rattle.conf_tree.specs.declared.ast.Statement.{Statement};
+ghost use Rattle.conf_ast.specs.declared.configurations.Statement.{Statement};
 ghost use Rattle.conf_tree.specs.Read.{IsConfigText};
 ghost use Rattle.conf_tree.specs.Syntax.{statement};
 ghost use Rattle.conf_tree.specs.View.{statement_tree, statements_tree};

@@ -1,8 +1,8 @@
 -- The first of several lists of refusals.
 use Rattle.std.proofs.Common.{◌≡◌, Bool, true, false, ◌&&◌, ◌||◌, ◌==◌, ℕ, zero, suc, arith, ◌+◌, ◌*◌, ◌<◌, ◌≤◌, min, nat_lt, All, Contains, length, get_or, subst, if◌then◌else◌, List, [], ◌∷◌, ◌++◌, Option, Some, None, option_map, refl, ap, ◌∙◌, sym, true≢false}
 use Rattle.std.proofs.lemmas.Bool.{eq-eqb, eqb-true, ltb-true, ltb-false, lt-ltb}
-use Rattle.conf_tree.specs.declared.kind.ConfKind.{ConfKind}
-use Rattle.conf_tree.specs.declared.kind.ConfKind.TheVariants as kinds
+use Rattle.conf_ast.specs.declared.kind.ConfKind.{ConfKind}
+use Rattle.conf_ast.specs.declared.kind.ConfKind.TheVariants as kinds
 use Rattle.filt_types.specs.declared.refusal.Cause.{Cause}
 use Rattle.filt_types.specs.declared.refusal.Cause.TheVariants as causes
 use Rattle.filt_types.specs.declared.refusal.Refusal.{Refusal as FilterRefusal}

@@ -4,10 +4,10 @@ use Rattle.std.specs.List.{list_any}
 use Rattle.bits_ip.specs.Prefix.{Net, same_net}
 use Rattle.bits_ip.specs.declared.address.Family.{Family}
 use Rattle.conf_lex.specs.declared.named.Name.{Name}
-use Rattle.filt_syntax.specs.declared.ast.Num.{Num}
-use Rattle.conf_tree.specs.declared.kind.ConfKind.TheVariants as kinds
-use Rattle.conf_tree.specs.declared.ast.Route.{Route}
-use Rattle.conf_tree.specs.declared.ast.Switch.{Switch}
+use Rattle.conf_ast.specs.declared.filters.Num.{Num}
+use Rattle.conf_ast.specs.declared.kind.ConfKind.TheVariants as kinds
+use Rattle.conf_ast.specs.declared.configurations.Route.{Route}
+use Rattle.conf_ast.specs.declared.configurations.Switch.{Switch}
 use Rattle.conf_ast.specs.Configurations.{ChannelSetting, ChannelTable, ChannelImport, ChannelExport, ChannelPreference, ChannelLimit, ChannelNextHop, FamilyChannel, StaticSetting, StaticChannel, StaticRoute, BgpSetting, BgpChannel, BgpLocal, BgpNeighbor, BgpMedMetric, BgpInterpretCommunities, BgpDefaultMed, BgpDefaultLocalPref, BgpTransport, PipeSetting, PipeTable, PipePeerTable, PipeImport, PipeExport}
 use Rattle.conf_rules.specs.declared.refusal.Refusal.{Refusal}
 use Rattle.conf_rules.specs.Channels as channels

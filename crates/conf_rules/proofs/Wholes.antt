@@ -2,8 +2,8 @@
 use Rattle.std.proofs.Common.{◌≡◌, ℕ, Bool, true, false, not, ◌||◌, nat_lt, List, [], ◌∷◌, ◌++◌, map, Option, Some, None, option_map, refl, ap, ◌∙◌, sym}
 use Rattle.std.specs.List.{list_any}
 use Rattle.conf_lex.specs.declared.named.Name.{Name}
-use Rattle.conf_tree.specs.declared.kind.ConfKind.TheVariants as kinds
-use Rattle.conf_tree.specs.declared.ast.BgpOption.{BgpOption}
+use Rattle.conf_ast.specs.declared.kind.ConfKind.TheVariants as kinds
+use Rattle.conf_ast.specs.declared.configurations.BgpOption.{BgpOption}
 use Rattle.conf_ast.specs.Configurations.{FamilyChannel, Instance, StaticSetting, BgpSetting, PipeSetting, bgp_setting_of}
 use Rattle.conf_rules.specs.declared.refusal.Refusal.{Refusal}
 use Rattle.conf_rules.specs.Channels.{lacks_policy, one_channel}

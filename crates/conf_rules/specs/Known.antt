@@ -1,11 +1,14 @@
--- What a configuration declares before one of its statements, as the rules see it.
+-- What a configuration declares before one of its statements, as the rules see it (`Known`): names
+-- that are taken, tables with their families, filters, how many protocols.
+-- From: BIRD User's Guide, "Configuration"; one space for all names is own.
+-- Example: `ipv4 table t; filter t { accept; }` is refused at 1:22 as C5.
 use Rattle.std.specs.Prelude.{ℕ, Bool, not, nat_lt, List, [], ◌++◌, length, Option}
 use Rattle.std.specs.List.{list_any}
 use Rattle.bits_ip.specs.declared.address.Family.{Family}
 use Rattle.conf_lex.specs.declared.named.Name.{Name}
 use Rattle.conf_lex.specs.Names.{name_bytes}
-use Rattle.filt_syntax.specs.declared.ast.Num.{Num}
-use Rattle.conf_tree.specs.declared.kind.ConfKind.TheVariants as kinds
+use Rattle.conf_ast.specs.declared.filters.Num.{Num}
+use Rattle.conf_ast.specs.declared.kind.ConfKind.TheVariants as kinds
 use Rattle.filt_meaning.specs.Names.{named_in, same_name}
 use Rattle.filt_types.specs.Items as items
 use Rattle.filt_types.specs.Items.{is_none}

@@ -1,4 +1,9 @@
--- What is refused in protocols (BIRD User's Guide, "Protocol options", "BGP", "Static", "Pipe").
+-- What is refused of static protocols, of BGP and of pipes (`static`, `bgp`, `pipe`), and the name
+-- of a protocol without one (`own_name`, by `free_number`).
+-- From: BIRD User's Guide, "Protocol options", "BGP", "Static", "Pipe"; that policies and the
+-- comparison of MEDs must be told (C10, C11) and limits are own.
+-- Example: `med metric off; med metric on;` is accepted; two routes of one net are C13 at the
+-- second; an external session whose channel has no `export` is C10 at the protocol's name.
 use Rattle.std.specs.Prelude.{ℕ, zero, suc, ◌+◌, ◌==◌, Bool, true, false, not, ◌&&◌, nat_lt, if◌then◌else◌, List, [], ◌∷◌, ◌++◌, length, Option, Some, None, codes, decimal}
 use Rattle.std.specs.List.{list_any}
 use Rattle.bits_ip.specs.Address.{family_of}
@@ -6,15 +11,15 @@ use Rattle.bits_ip.specs.Prefix.{Net, same_net}
 use Rattle.bits_ip.specs.declared.address.Family.{Family}
 use Rattle.conf_lex.specs.declared.named.Name.{Name}
 use Rattle.conf_lex.specs.Names.{name_bytes}
-use Rattle.filt_syntax.specs.declared.ast.Num.{Num}
-use Rattle.conf_tree.specs.declared.kind.ConfKind.TheVariants as kinds
-use Rattle.conf_tree.specs.declared.ast.Route.{Route}
-use Rattle.conf_tree.specs.declared.ast.RouteTarget.{RouteTarget}
-use Rattle.conf_tree.specs.declared.ast.RouteTarget.TheVariants as targets
-use Rattle.conf_tree.specs.declared.ast.Switch.{Switch}
-use Rattle.conf_tree.specs.declared.ast.Switch.TheVariants as switches
-use Rattle.conf_tree.specs.declared.ast.Transport.{Transport}
-use Rattle.conf_tree.specs.declared.ast.Transport.TheVariants as transports
+use Rattle.conf_ast.specs.declared.filters.Num.{Num}
+use Rattle.conf_ast.specs.declared.kind.ConfKind.TheVariants as kinds
+use Rattle.conf_ast.specs.declared.configurations.Route.{Route}
+use Rattle.conf_ast.specs.declared.configurations.RouteTarget.{RouteTarget}
+use Rattle.conf_ast.specs.declared.configurations.RouteTarget.TheVariants as targets
+use Rattle.conf_ast.specs.declared.configurations.Switch.{Switch}
+use Rattle.conf_ast.specs.declared.configurations.Switch.TheVariants as switches
+use Rattle.conf_ast.specs.declared.configurations.Transport.{Transport}
+use Rattle.conf_ast.specs.declared.configurations.Transport.TheVariants as transports
 use Rattle.conf_ast.specs.Configurations.{FamilyChannel, StaticSetting, StaticChannel, StaticRoute, BgpSetting, BgpChannel, BgpLocal, BgpNeighbor, BgpMedMetric, BgpInterpretCommunities, BgpDefaultMed, BgpDefaultLocalPref, BgpTransport, PipeSetting, PipeTable, PipePeerTable, PipeImport, PipeExport, Instance}
 use Rattle.filt_meaning.specs.Names.{named_in}
 use Rattle.conf_rules.specs.declared.refusal.Refusal.{Refusal}

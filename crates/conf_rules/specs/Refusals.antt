@@ -1,8 +1,12 @@
--- The first refusal of all that there are: the one at the least place, at one place the one with
--- the least number. (The numbers are those of the kinds of refusals of a configuration, C1 to C15.)
+-- The first refusal of all that there are (`first_in`): the one at the least place, at one place
+-- the one with the least number (`number_of`: C1 to C15, as the README has them); what a filter's
+-- refusals are as kinds (`kind_of`).
+-- From: own; the kinds are of BIRD User's Guide, "Configuration".
+-- Example: `ipv4 table t; ipv4 table t;` is refused at 1:26 as C5; a name over 64 bytes that is
+-- declared twice as C5.
 use Rattle.std.specs.Prelude.{ℕ, ◌==◌, Bool, true, false, ◌&&◌, ◌||◌, nat_lt, if◌then◌else◌, List, [], ◌∷◌, map, Option, Some, None}
-use Rattle.conf_tree.specs.declared.kind.ConfKind.{ConfKind}
-use Rattle.conf_tree.specs.declared.kind.ConfKind.TheVariants as kinds
+use Rattle.conf_ast.specs.declared.kind.ConfKind.{ConfKind}
+use Rattle.conf_ast.specs.declared.kind.ConfKind.TheVariants as kinds
 use Rattle.filt_types.specs.declared.refusal.Cause.{Cause}
 use Rattle.filt_types.specs.declared.refusal.Cause.TheVariants as causes
 use Rattle.filt_types.specs.declared.refusal.Refusal.{Refusal as FilterRefusal}

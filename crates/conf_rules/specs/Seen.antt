@@ -1,4 +1,5 @@
--- What is declared, in memory, as the definitions see it.
+-- What is declared, in memory, as the definitions see it (`known_of`).
+-- From: own.
 use Rattle.std.specs.Prelude.{ℕ, List, map}
 use Rattle.filt_types.specs.Seen.{scene_of}
 use Rattle.conf_rules.specs.declared.declared.Declared.{Declared}

@@ -1,14 +1,16 @@
--- What is refused in a statement of a configuration, over what is declared before it. All refusals
--- are gathered, whichever of them counts.
+-- What is refused of a statement of a configuration (`refusals`), over what is declared before it.
+-- All refusals are gathered, whichever of them counts.
+-- From: BIRD User's Guide, "Configuration", "Global options".
+-- Example: `ipv6 table master4;` is C5; `ipv4 table master4;` declares nothing.
 use Rattle.std.specs.Prelude.{ℕ, Bool, not, nat_lt, if◌then◌else◌, List, [], ◌++◌, length, codes}
 use Rattle.bits_ip.specs.declared.address.Family.{Family}
 use Rattle.bits_ip.specs.declared.address.Family.TheVariants as families
 use Rattle.conf_lex.specs.declared.named.Name.{Name}
 use Rattle.conf_lex.specs.Names.{name_bytes}
-use Rattle.conf_tree.specs.declared.kind.ConfKind.TheVariants as kinds
+use Rattle.conf_ast.specs.declared.kind.ConfKind.TheVariants as kinds
 use Rattle.conf_ast.specs.Configurations as conf
 use Rattle.filt_meaning.specs.Names.{same_name}
-use Rattle.filt_check.specs.Answers as filters
+use Rattle.filt_rules.specs.Refused as filters
 use Rattle.conf_rules.specs.declared.refusal.Refusal.{Refusal}
 use Rattle.conf_rules.specs.Constants.{value}
 use Rattle.conf_rules.specs.Known.{Known, declaring}

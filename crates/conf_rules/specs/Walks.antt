@@ -1,10 +1,10 @@
--- What the walks over statements keep while they go, as the definitions see it. What is refused
--- rests on nothing here.
+-- For private contracts alone: what the walks over statements keep while they go, as the
+-- definitions see it. What is refused rests on nothing here.
 use Rattle.std.specs.Prelude.{Bool, true, false, List, [], ◌∷◌, Option, Some, None}
 use Rattle.bits_ip.specs.Prefix.{Net}
 use Rattle.bits_ip.specs.declared.address.Family.{Family}
-use Rattle.conf_tree.specs.declared.kind.ConfKind.TheVariants as kinds
-use Rattle.conf_tree.specs.declared.ast.Route.{Route}
+use Rattle.conf_ast.specs.declared.kind.ConfKind.TheVariants as kinds
+use Rattle.conf_ast.specs.declared.configurations.Route.{Route}
 use Rattle.conf_ast.specs.Configurations.{FamilyChannel}
 use Rattle.conf_rules.specs.declared.refusal.Refusal.{Refusal}
 

@@ -16,9 +16,9 @@ use crate::filters::{number, number_of};
 use crate::names::{BGP_STEM, declaring, place_of};
 use crate::refusal::{Refusal, note_if};
 use bits_ip::OutOfMemory;
-use conf_tree::ConfKind;
-use conf_tree::ast::{BgpOption, Protocol, Switch, Transport};
-use filt_syntax::ast::Num;
+use conf_ast::ConfKind;
+use conf_ast::configurations::{BgpOption, Protocol, Switch, Transport};
+use conf_ast::filters::Num;
 use std::alloc::Global;
 
 // ---- what is written

@@ -12,9 +12,9 @@ use crate::declared::{Declared, filter, table, table_of};
 use crate::filters::{block, condition, number};
 use crate::refusal::{Refusal, note_if};
 use bits_ip::{Family, OutOfMemory};
+use conf_ast::ConfKind;
+use conf_ast::configurations::{Channel, ChannelOption, Limit, Policy};
 use conf_lex::Name;
-use conf_tree::ConfKind;
-use conf_tree::ast::{Channel, ChannelOption, Limit, Policy};
 use std::alloc::Global;
 
 // ---- policies

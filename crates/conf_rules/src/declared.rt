@@ -8,8 +8,8 @@ ghost use Rattle.conf_rules.specs.Seen.{known_of};
 
 use crate::refusal::{Refusal, note_if};
 use bits_ip::Family;
+use conf_ast::ConfKind;
 use conf_lex::Name;
-use conf_tree::ConfKind;
 use filt_tree::Scope;
 use indexmap::{IndexMap, IndexSet};
 

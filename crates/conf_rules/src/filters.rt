@@ -2,7 +2,7 @@
 
 ghost use Rattle.std.specs.Prelude.{◌≡◌, ℕ, List, [], OnOk};
 ghost use Rattle.conf_ast.specs.Filters.{SetOf, MaskOf, block_of, expression_of};
-ghost use Rattle.filt_check.specs.Answers as answers;
+ghost use Rattle.filt_rules.specs.Refused as refused;
 ghost use Rattle.filt_meaning.specs.Configuration.{filter_where};
 ghost use Rattle.filt_types.specs.Expressions.{judge};
 ghost use Rattle.filt_types.specs.Items as items;
@@ -14,8 +14,8 @@ ghost use Rattle.conf_rules.specs.Seen.{known_of};
 use crate::declared::Declared;
 use crate::refusal::{Refusal, note_first};
 use bits_ip::OutOfMemory;
+use conf_ast::filters::{Block, Expr, Item, MaskItem, Num};
 use filt_rules::{first_in_block, first_in_condition};
-use filt_syntax::ast::{Block, Expr, Item, MaskItem, Num};
 use filt_types::Seen;
 use std::alloc::Global;
 
@@ -109,7 +109,7 @@ pub(crate) fn block(
     first: &mut Option<Refusal>,
 ) -> Result<(), OutOfMemory>
     ensures { OnOk result (first.new
-        ≡ first_in first.old (of_filters (answers.of_filter
+        ≡ first_in first.old (of_filters (refused.of_filter
         (known_of text.now declared.now).scene at (block_of block.now)))) }
 {
     let found = first_in_block(alloc, text, &declared.scope, at, block)?;
@@ -126,7 +126,7 @@ pub(crate) fn condition(
     first: &mut Option<Refusal>,
 )
     ensures { first.new
-        ≡ first_in first.old (of_filters (answers.of_filter (known_of text.now declared.now).scene
+        ≡ first_in first.old (of_filters (refused.of_filter (known_of text.now declared.now).scene
         at (filter_where (expression_of condition.now)))) }
 {
     let found = first_in_condition(text, &declared.scope, at, condition);

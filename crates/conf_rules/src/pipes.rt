@@ -11,9 +11,9 @@ use crate::declared::{Declared, family_of, table, table_of};
 use crate::names::{declaring_pipe, place_of};
 use crate::refusal::{Refusal, note_if};
 use bits_ip::{Family, OutOfMemory};
+use conf_ast::ConfKind;
+use conf_ast::configurations::{PipeOption, Protocol};
 use conf_lex::Name;
-use conf_tree::ConfKind;
-use conf_tree::ast::{PipeOption, Protocol};
 use std::alloc::Global;
 
 fn setting(

@@ -3,7 +3,7 @@ ghost use Rattle.filt_types.specs.declared.refusal.Refusal.{Refusal as FilterRef
 ghost use Rattle.filt_types.specs.Refusals as filters;
 ghost use Rattle.conf_rules.specs.Refusals.{number_of, precedes, first_of, first_in, refused_if, kind_of, of_filter, of_filters};
 
-use conf_tree::ConfKind;
+use conf_ast::ConfKind;
 use filt_types::Cause;
 
 /// A refusal: the byte of its place, and its kind.

@@ -3,7 +3,7 @@
 ghost use Rattle.std.specs.Prelude.{◌≡◌, ◌++◌, [], if◌then◌else◌, None, IfOk, OnOk};
 ghost use Rattle.conf_ast.specs.Configurations.{declaration_of, routine_of, value_of};
 ghost use Rattle.conf_ast.specs.Filters.{block_of};
-ghost use Rattle.filt_check.specs.Answers as answers;
+ghost use Rattle.filt_rules.specs.Refused as refused;
 ghost use Rattle.conf_rules.specs.Constants as constants;
 ghost use Rattle.conf_rules.specs.Known as known;
 ghost use Rattle.conf_rules.specs.Refusals.{first_in, of_filters};
@@ -19,11 +19,11 @@ use crate::pipes::pipe;
 use crate::refusal::{Refusal, note_first, note_if};
 use crate::static_protocols::static_protocol;
 use bits_ip::{Family, OutOfMemory};
+use conf_ast::ConfKind;
+use conf_ast::configurations::{Literal, Statement};
+use conf_ast::filters::{Filter, Function};
 use conf_lex::Name;
-use conf_tree::ConfKind;
-use conf_tree::ast::{Literal, Statement};
 use filt_rules::first_in_function;
-use filt_syntax::ast::{Filter, Function};
 use std::alloc::Global;
 
 /// How many tables there may be, master4 and master6 among them.
@@ -55,7 +55,7 @@ fn function(
 ) -> Result<(), OutOfMemory>
     ensures { OnOk result (first.new
         ≡ first_in first.old (known.declaring (known_of text.now declared.now) function.now.name
-        ++ of_filters (answers.of_function (known_of text.now declared.now).scene
+        ++ of_filters (refused.of_function (known_of text.now declared.now).scene
         (routine_of function.now)))) }
 {
     declaring(text, declared, function.name, first);
@@ -73,7 +73,7 @@ fn filter(
 ) -> Result<(), OutOfMemory>
     ensures { OnOk result (first.new
         ≡ first_in first.old (known.declaring (known_of text.now declared.now) filter.now.name
-        ++ of_filters (answers.of_filter (known_of text.now declared.now).scene filter.now.name.at
+        ++ of_filters (refused.of_filter (known_of text.now declared.now).scene filter.now.name.at
         (block_of filter.now.block)))) }
 {
     declaring(text, declared, filter.name, first);

@@ -4,7 +4,7 @@ ghost use Rattle.std.specs.Prelude.{◌≡◌, ◌++◌, ◌∷◌, [], ◌||◌
 ghost use Rattle.std.specs.List.{list_any};
 ghost use Rattle.bits_ip.specs.Address.{family_of};
 ghost use Rattle.bits_ip.specs.Prefix.{Net, same_net};
-ghost use Rattle.conf_tree.specs.declared.kind.ConfKind.TheVariants as kinds;
+ghost use Rattle.conf_ast.specs.declared.kind.ConfKind.TheVariants as kinds;
 ghost use Rattle.conf_ast.specs.Configurations.{instance_of, static_setting_of};
 ghost use Rattle.conf_rules.specs.Channels.{one_channel};
 ghost use Rattle.conf_rules.specs.Protocols as of;
@@ -17,8 +17,8 @@ use crate::declared::Declared;
 use crate::names::{STATIC_STEM, declaring, place_of};
 use crate::refusal::{Refusal, note_if};
 use bits_ip::{Addr, Family, OutOfMemory, Prefix};
-use conf_tree::ConfKind;
-use conf_tree::ast::{Protocol, Route, RouteTarget, StaticOption};
+use conf_ast::ConfKind;
+use conf_ast::configurations::{Protocol, Route, RouteTarget, StaticOption};
 use indexmap::IndexSet;
 use std::alloc::Global;
 

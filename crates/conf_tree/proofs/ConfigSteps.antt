@@ -22,7 +22,7 @@ use Rattle.filt_syntax.specs.StatementReaders.{block_at}
 use Rattle.filt_syntax.specs.StatementView.{nth, row_after, row_tree}
 use Rattle.filt_syntax.proofs.Tested.{model, after, checked, is_checked, good_at, next_at, solid_at}
 use Rattle.conf_tree.specs.Syntax.{is_family, statement}
-use Rattle.conf_tree.specs.declared.ast.Statement.{Statement}
+use Rattle.conf_ast.specs.declared.configurations.Statement.{Statement}
 use Rattle.conf_tree.specs.View.{placed_leaf, family_symbol, family_leaf, statement_tree}
 use Rattle.conf_tree.specs.Readers.{regroup, literal_at, parameters_at, gives_at, statement_at, statement_row_at, config_at, to_the_end, whole_at}
 use Rattle.conf_tree.proofs.FirstWords.{both_same}

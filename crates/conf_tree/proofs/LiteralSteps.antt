@@ -16,8 +16,8 @@ use Rattle.filt_syntax.proofs.Tested.{is_checked}
 use Rattle.filt_syntax.proofs.Picks.{picked, rest_read}
 use Rattle.conf_tree.specs.Syntax.{literal, is_value}
 use Rattle.conf_tree.specs.Readers.{literal_at}
-use Rattle.conf_tree.specs.declared.ast.Literal.{Literal}
-use Rattle.conf_tree.specs.declared.ast.Literal.TheVariants as literals
+use Rattle.conf_ast.specs.declared.configurations.Literal.{Literal}
+use Rattle.conf_ast.specs.declared.configurations.Literal.TheVariants as literals
 use Rattle.conf_tree.specs.View.{placed_leaf, literal_tree, value_tree}
 use Rattle.conf_tree.proofs.Heads.{headed}
 

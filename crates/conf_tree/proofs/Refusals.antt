@@ -24,7 +24,7 @@ use Rattle.conf_tree.specs.declared.significant.Region.{Region}
 use Rattle.conf_tree.specs.declared.significant.Region.TheVariants as regions
 use Rattle.conf_tree.specs.Sentence.{word_bytes, IsUnsupported, IsKnown, Refuses, IsBadAt, IsSentence, IsStop, StopsAt, DeepensAt, IsRefused, IsTree, IsAnswered}
 use Rattle.conf_tree.specs.View.{config_view}
-use Rattle.conf_tree.specs.declared.ast.Config.{Config}
+use Rattle.conf_ast.specs.declared.configurations.Config.{Config}
 use Rattle.conf_tree.proofs.Whole.{got_sentence, sentence_is, bad_is_stop, stop_is_bad, deep_is_deep, deep_is_fault}
 
 -- ---- places

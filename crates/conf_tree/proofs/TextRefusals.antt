@@ -9,10 +9,10 @@ use Rattle.filt_syntax.specs.declared.parse.SyntaxFault.{SyntaxFault}
 use Rattle.filt_syntax.specs.declared.parse.SyntaxFault.TheVariants as faults
 use Rattle.conf_tree.specs.Sentence.{IsRefused, IsAnswered}
 use Rattle.conf_tree.specs.Read.{byte_of, fault_of, IsConfigText, IsFault, IsTreeOf, IsFaultOf}
-use Rattle.conf_tree.specs.declared.kind.ConfFault.{ConfFault}
-use Rattle.conf_tree.specs.declared.kind.ConfFault.TheVariants as outcomes
-use Rattle.conf_tree.specs.declared.kind.ConfKind.TheVariants as kinds
-use Rattle.conf_tree.specs.declared.ast.Config.{Config}
+use Rattle.conf_ast.specs.declared.kind.ConfFault.{ConfFault}
+use Rattle.conf_ast.specs.declared.kind.ConfFault.TheVariants as outcomes
+use Rattle.conf_ast.specs.declared.kind.ConfKind.TheVariants as kinds
+use Rattle.conf_ast.specs.declared.configurations.Config.{Config}
 
 -- ---- a text without tokens
 

@@ -8,8 +8,8 @@ use Rattle.filt_syntax.specs.declared.parse.SyntaxFault.TheVariants as faults
 use Rattle.conf_tree.specs.Significant.{significant_words}
 use Rattle.conf_tree.specs.Sentence.{IsSentence, IsRefused}
 use Rattle.conf_tree.specs.Read.{IsConfigText, IsRefusedText}
-use Rattle.conf_tree.specs.declared.kind.ConfKind.{ConfKind}
-use Rattle.conf_tree.specs.declared.kind.ConfKind.TheVariants as kinds
+use Rattle.conf_ast.specs.declared.kind.ConfKind.{ConfKind}
+use Rattle.conf_ast.specs.declared.kind.ConfKind.TheVariants as kinds
 use Rattle.conf_tree.proofs.Refusals.{one_tree, sentence_memory}
 
 module _ (lexed_once : (text : List ℕ) (ts us : List Token) → Lexes 0 text ts → Lexes 0 text us → ts ≡ us) where

@@ -1,5 +1,4 @@
 -- For private contracts alone: what the form of an option owes to the loop that reads options.
--- From: own.
 use Rattle.std.specs.Prelude.{◌≡◌, false, refl}
 use Rattle.conf_lex.specs.declared.symbol.Symbol.TheVariants as sym
 use Rattle.conf_lex.specs.declared.word.Word.TheVariants as words

@@ -1,6 +1,8 @@
--- Lines and columns. Modelled: a place as a number of bytes before it; a line ends at a newline,
--- and a column counts bytes. Not modelled: characters of more than one byte, and the width of a
--- tab. From: own.
+-- The line and the column of a byte (`IsPlace`): a place is a number of bytes before it; a line
+-- ends at a newline, and a column counts bytes.
+-- Not modelled: characters of more than one byte, and the width of a tab.
+-- From: own.
+-- Example: the end of `filter f {` and a newline is 2:1; behind an `é` a column is two further.
 use Rattle.std.specs.Prelude.{◌≡◌, ◌⊎◌, ℕ, ◌+◌, IsTrue, not, ◌==◌, List, [], ◌∷◌, ◌++◌, length}
 use Rattle.std.specs.Prelude.{take, filter}
 use Rattle.std.specs.List.{list_all}

@@ -1,7 +1,10 @@
--- Which texts are a configuration, and the first place of others that is refused. Modelled: tokens,
--- the words that say something and the grammar, one behind the other; a text without tokens is
--- refused before the grammar sees it. Not modelled: what a configuration means, and what is refused
--- of its names and values (conf_rules). From: own; the grammar is that of Syntax.
+-- Which texts are a configuration (`IsConfigText`), and the first place of others that is refused
+-- (`IsRefusedText`): tokens, the words that say something and the grammar, one behind the other; a
+-- text without tokens is refused before the grammar sees it.
+-- Not modelled: what a configuration means, and what is refused of its names and values
+-- (conf_rules).
+-- From: own; the grammar is that of Syntax.
+-- Example: `template bgp t { } @` is refused at `@`.
 use Rattle.std.specs.Prelude.{◌≡◌, ◌≤◌, ◌⊎◌, ℕ, List, length, map, slice_index_or, Result, Ok, Err}
 use Rattle.conf_lex.specs.Lex.{Lexes, Stops}
 use Rattle.conf_lex.specs.declared.token.Token.{Token}
@@ -11,11 +14,11 @@ use Rattle.filt_syntax.specs.declared.parse.SyntaxFault.TheVariants as faults
 use Rattle.conf_tree.specs.Significant.{significant_words}
 use Rattle.conf_tree.specs.Sentence.{IsSentence, IsRefused}
 use Rattle.conf_tree.specs.View.{config_view}
-use Rattle.conf_tree.specs.declared.kind.ConfFault.{ConfFault}
-use Rattle.conf_tree.specs.declared.kind.ConfFault.TheVariants as outcomes
-use Rattle.conf_tree.specs.declared.kind.ConfKind.{ConfKind}
-use Rattle.conf_tree.specs.declared.kind.ConfKind.TheVariants as refusals
-use Rattle.conf_tree.specs.declared.ast.Config.{Config}
+use Rattle.conf_ast.specs.declared.kind.ConfFault.{ConfFault}
+use Rattle.conf_ast.specs.declared.kind.ConfFault.TheVariants as outcomes
+use Rattle.conf_ast.specs.declared.kind.ConfKind.{ConfKind}
+use Rattle.conf_ast.specs.declared.kind.ConfKind.TheVariants as refusals
+use Rattle.conf_ast.specs.declared.configurations.Config.{Config}
 
 -- where a token begins; behind the last one the end of the text
 abbrev pub byte_of : List ℕ → List Token → ℕ → ℕ

@@ -1,5 +1,5 @@
 -- For private contracts alone: reading each form of the configuration, where k more levels may be
--- opened. From: own; the forms are those of Syntax.
+-- opened; the forms are those of Syntax.
 use Rattle.std.specs.Prelude.{ℕ, List, [], ◌∷◌}
 use Rattle.conf_lex.specs.declared.symbol.Symbol.{Symbol}
 use Rattle.conf_lex.specs.declared.symbol.Symbol.TheVariants as sym

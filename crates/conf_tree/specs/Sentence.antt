@@ -1,9 +1,13 @@
--- Which words are a configuration, and the first word of others that is refused. Modelled: the
--- place and the token of the first refusal, and three reasons for it: no configuration has the word
--- there, the 65th level opens, or the word is known there and not supported. Not modelled: refusals
--- behind the first, and words of BIRD's that are not in the lists below. From: own; the words that
--- are known are of BIRD User's Guide, "Configuration" (sections "Global options", "Protocol
--- options", "Channel options") and "Protocols" (sections "BGP", "Static").
+-- Which words are a configuration (`IsSentence`), and the first word of others that is refused
+-- (`IsStop`): the place and the token of the first refusal, and three reasons for it: no
+-- configuration has the word there, the 65th level opens, or the word is known there and not
+-- supported (`IsUnsupported`).
+-- Not modelled: refusals behind the first, and words of BIRD's that are not in the lists below.
+-- From: own; the words that are known are of BIRD User's Guide, "Configuration" (sections "Global
+-- options", "Protocol options", "Channel options") and "Protocols" (sections "BGP", "Static").
+-- Example: `filter f {` and a newline is refused at 2:1; `protocol ospf o { }` at 1:10, as
+-- unsupported; `local path;` in a bgp protocol at `path`, as no sentence; `protocol else: x` at
+-- 1:10, as no sentence, since `else:` is a sign.
 use Rattle.std.specs.Prelude.{◌≡◌, ◌≢◌, ◌≤◌, ◌⊎◌, ◌+◌, cond, ℕ, Bool, List, [], ◌∷◌, ◌++◌, length}
 use Rattle.std.specs.Prelude.{take, drop, codes, IsTrue, Option, Some, None, IsSomeAnd, Result, Ok}
 use Rattle.std.specs.Prelude.{Err}
@@ -27,7 +31,7 @@ use Rattle.filt_syntax.specs.declared.parse.SyntaxFault.{SyntaxFault}
 use Rattle.filt_syntax.specs.declared.parse.SyntaxFault.TheVariants as faults
 use Rattle.conf_tree.specs.Syntax.{config}
 use Rattle.conf_tree.specs.Significant.{significant_words, token_of}
-use Rattle.conf_tree.specs.declared.ast.Config.{Config}
+use Rattle.conf_ast.specs.declared.configurations.Config.{Config}
 use Rattle.conf_tree.specs.View.{config_view}
 
 -- the words are a configuration of this tree, with no more than 64 levels in a block or an

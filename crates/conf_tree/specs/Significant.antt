@@ -1,8 +1,12 @@
--- What a log and a device block hold says nothing: the grammar reads the words without it.
--- Modelled: a log to its semicolon, and a device's braces with those within them. Not modelled:
--- what logs and devices are told (nothing here writes a log or asks for interfaces), and brackets
--- and parentheses within a device. From: BIRD User's Guide, "Configuration" (section "Global
--- options", `log`) and "Protocols" (section "Device").
+-- What a log and a device block hold says nothing: the grammar reads the words without it
+-- (`significant`): without a log to its semicolon, and without what stands within a device's
+-- braces.
+-- Not modelled: what logs and devices are told (nothing here writes a log or asks for interfaces),
+-- and brackets and parentheses within a device.
+-- From: BIRD User's Guide, "Configuration" (section "Global options", `log`) and "Protocols"
+-- (section "Device").
+-- Example: `log protocol device { ; router id 1.2.3.4;` has two statements, and so has `protocol
+-- device { { x } ( ; } filter d { }`.
 use Rattle.std.specs.Prelude.{ℕ, Bool, true, false, cond, List, [], ◌∷◌, map}
 use Rattle.std.specs.Prelude.{slice_index_or, length}
 use Rattle.std.proofs.Common.{zero, suc}

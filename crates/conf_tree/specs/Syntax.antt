@@ -1,11 +1,14 @@
--- The grammar of the configuration: a form for each production, with its line in the notation of
--- the grammar above it. A quoted word is the symbol or the attribute of that spelling; `[ ]` may be
--- left out, `{ }` is any number of times, `|` is a choice. What a log's `{ token other than ";" }`
--- and a device's balanced tokens are stands in Significant: they are taken out before. Not
--- modelled: templates and included files, tables of other nets than IPv4 and IPv6, other protocols
--- and other options than those below. From: BIRD User's Guide, "Configuration" (sections "Global
--- options", "Protocol options", "Channel options"), "Protocols" (sections "BGP", "Device", "Pipe",
--- "Static") and, for functions and filters, "Filters".
+-- The grammar of the configuration (`config`): a form for each production, with its line in the
+-- notation of the grammar above it. A quoted word is the symbol or the attribute of that spelling;
+-- `[ ]` may be left out, `{ }` is any number of times, `|` is a choice. What a log's `{ token other
+-- than ";" }` and a device's balanced tokens are stands in Significant: they are taken out before.
+-- Not modelled: templates and included files, tables of other nets than IPv4 and IPv6, other
+-- protocols and other options than those below.
+-- From: BIRD User's Guide, "Configuration" (sections "Global options", "Protocol options", "Channel
+-- options"), "Protocols" (sections "BGP", "Device", "Pipe", "Static") and, for functions and
+-- filters, "Filters".
+-- Example: `protocol static { ipv4; route 10.0.0.0/8 blackhole; }` is a statement: a name may be
+-- left out.
 use Rattle.std.specs.Prelude.{Bool, ◌||◌}
 use Rattle.conf_lex.specs.declared.attribute.Attribute.TheVariants as attributes
 use Rattle.conf_lex.specs.declared.symbol.Symbol.{Symbol}

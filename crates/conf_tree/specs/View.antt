@@ -1,6 +1,8 @@
--- The tree of the grammar that a configuration in memory stands for: a line for each variant, which
--- names its alternative of the grammar's line. Not modelled: what a configuration means (conf_ast
--- has it as plain data). From: own; the forms are those of Syntax.
+-- The tree of the grammar that a configuration in memory stands for (`config_view`): a line for
+-- each variant, which names its alternative of the grammar's line.
+-- Not modelled: what a configuration means (conf_ast has it as plain data).
+-- From: own; the forms are those of Syntax.
+-- Example: `router id 1.2.3.4;` is the first alternative of `statement`.
 use Rattle.std.specs.Prelude.{ℕ, Bool, true, false, List, [], ◌∷◌, Option, Some, None, map, Vec}
 use Rattle.std.specs.Global.{Global}
 use Rattle.bits_ip.specs.declared.address.Family.{Family}
@@ -14,49 +16,49 @@ use Rattle.conf_lex.specs.declared.word.Word.TheVariants as words
 use Rattle.conf_lex.specs.declared.named.Name.{Name}
 use Rattle.conf_lex.specs.Grammar.{ParseTree, Leaf, NoWords, Pair, Left, Right, Single, Snoc}
 use Rattle.conf_lex.specs.Leaves.{symbol_leaf, name_leaf, between}
-use Rattle.filt_syntax.specs.declared.ast.Filter.{Filter}
-use Rattle.filt_syntax.specs.declared.ast.Function.{Function}
-use Rattle.filt_syntax.specs.declared.ast.Num.{Num}
-use Rattle.filt_syntax.specs.declared.ast.Parameter.{Parameter}
-use Rattle.filt_syntax.specs.declared.ast.Separator.{Separator}
-use Rattle.filt_syntax.specs.declared.ast.Separator.TheVariants as separators
-use Rattle.filt_syntax.specs.declared.ast.VariableType.{VariableType}
+use Rattle.conf_ast.specs.declared.filters.Filter.{Filter}
+use Rattle.conf_ast.specs.declared.filters.Function.{Function}
+use Rattle.conf_ast.specs.declared.filters.Num.{Num}
+use Rattle.conf_ast.specs.declared.filters.Parameter.{Parameter}
+use Rattle.conf_ast.specs.declared.filters.Separator.{Separator}
+use Rattle.conf_ast.specs.declared.filters.Separator.TheVariants as separators
+use Rattle.conf_ast.specs.declared.filters.VariableType.{VariableType}
 use Rattle.filt_syntax.specs.ItemView.{num_tree, items_tree, mask_items_tree}
 use Rattle.filt_syntax.specs.View.{derivations}
 use Rattle.filt_syntax.specs.StatementView.{semicolon_leaf, type_tree, nth, beyond, row_tree}
 use Rattle.filt_syntax.specs.StatementView.{block_view}
-use Rattle.conf_tree.specs.declared.ast.Action.{Action}
-use Rattle.conf_tree.specs.declared.ast.Action.TheVariants as actions
-use Rattle.conf_tree.specs.declared.ast.Address.{Address}
-use Rattle.conf_tree.specs.declared.ast.BgpOption.{BgpOption}
-use Rattle.conf_tree.specs.declared.ast.BgpOption.TheVariants as bgp_options
-use Rattle.conf_tree.specs.declared.ast.Channel.{Channel}
-use Rattle.conf_tree.specs.declared.ast.ChannelOption.{ChannelOption}
-use Rattle.conf_tree.specs.declared.ast.ChannelOption.TheVariants as channel_options
-use Rattle.conf_tree.specs.declared.ast.Config.{Config}
-use Rattle.conf_tree.specs.declared.ast.Limit.{Limit}
-use Rattle.conf_tree.specs.declared.ast.Limit.TheVariants as limits
-use Rattle.conf_tree.specs.declared.ast.Literal.{Literal}
-use Rattle.conf_tree.specs.declared.ast.Literal.TheVariants as literals
-use Rattle.conf_tree.specs.declared.ast.NextHop.{NextHop}
-use Rattle.conf_tree.specs.declared.ast.NextHop.TheVariants as hops
-use Rattle.conf_tree.specs.declared.ast.PipeOption.{PipeOption}
-use Rattle.conf_tree.specs.declared.ast.PipeOption.TheVariants as pipe_options
-use Rattle.conf_tree.specs.declared.ast.Policy.{Policy}
-use Rattle.conf_tree.specs.declared.ast.Policy.TheVariants as policies
-use Rattle.conf_tree.specs.declared.ast.Protocol.{Protocol}
-use Rattle.conf_tree.specs.declared.ast.StringLiteral.{StringLiteral}
-use Rattle.conf_tree.specs.declared.ast.Route.{Route}
-use Rattle.conf_tree.specs.declared.ast.RouteTarget.{RouteTarget}
-use Rattle.conf_tree.specs.declared.ast.RouteTarget.TheVariants as targets
-use Rattle.conf_tree.specs.declared.ast.Statement.{Statement}
-use Rattle.conf_tree.specs.declared.ast.Statement.TheVariants as statements
-use Rattle.conf_tree.specs.declared.ast.StaticOption.{StaticOption}
-use Rattle.conf_tree.specs.declared.ast.StaticOption.TheVariants as static_options
-use Rattle.conf_tree.specs.declared.ast.Switch.{Switch}
-use Rattle.conf_tree.specs.declared.ast.Switch.TheVariants as switches
-use Rattle.conf_tree.specs.declared.ast.Transport.{Transport}
-use Rattle.conf_tree.specs.declared.ast.Transport.TheVariants as transports
+use Rattle.conf_ast.specs.declared.configurations.Action.{Action}
+use Rattle.conf_ast.specs.declared.configurations.Action.TheVariants as actions
+use Rattle.conf_ast.specs.declared.configurations.Address.{Address}
+use Rattle.conf_ast.specs.declared.configurations.BgpOption.{BgpOption}
+use Rattle.conf_ast.specs.declared.configurations.BgpOption.TheVariants as bgp_options
+use Rattle.conf_ast.specs.declared.configurations.Channel.{Channel}
+use Rattle.conf_ast.specs.declared.configurations.ChannelOption.{ChannelOption}
+use Rattle.conf_ast.specs.declared.configurations.ChannelOption.TheVariants as channel_options
+use Rattle.conf_ast.specs.declared.configurations.Config.{Config}
+use Rattle.conf_ast.specs.declared.configurations.Limit.{Limit}
+use Rattle.conf_ast.specs.declared.configurations.Limit.TheVariants as limits
+use Rattle.conf_ast.specs.declared.configurations.Literal.{Literal}
+use Rattle.conf_ast.specs.declared.configurations.Literal.TheVariants as literals
+use Rattle.conf_ast.specs.declared.configurations.NextHop.{NextHop}
+use Rattle.conf_ast.specs.declared.configurations.NextHop.TheVariants as hops
+use Rattle.conf_ast.specs.declared.configurations.PipeOption.{PipeOption}
+use Rattle.conf_ast.specs.declared.configurations.PipeOption.TheVariants as pipe_options
+use Rattle.conf_ast.specs.declared.configurations.Policy.{Policy}
+use Rattle.conf_ast.specs.declared.configurations.Policy.TheVariants as policies
+use Rattle.conf_ast.specs.declared.configurations.Protocol.{Protocol}
+use Rattle.conf_ast.specs.declared.configurations.StringLiteral.{StringLiteral}
+use Rattle.conf_ast.specs.declared.configurations.Route.{Route}
+use Rattle.conf_ast.specs.declared.configurations.RouteTarget.{RouteTarget}
+use Rattle.conf_ast.specs.declared.configurations.RouteTarget.TheVariants as targets
+use Rattle.conf_ast.specs.declared.configurations.Statement.{Statement}
+use Rattle.conf_ast.specs.declared.configurations.Statement.TheVariants as statements
+use Rattle.conf_ast.specs.declared.configurations.StaticOption.{StaticOption}
+use Rattle.conf_ast.specs.declared.configurations.StaticOption.TheVariants as static_options
+use Rattle.conf_ast.specs.declared.configurations.Switch.{Switch}
+use Rattle.conf_ast.specs.declared.configurations.Switch.TheVariants as switches
+use Rattle.conf_ast.specs.declared.configurations.Transport.{Transport}
+use Rattle.conf_ast.specs.declared.configurations.Transport.TheVariants as transports
 
 -- ---- words
 

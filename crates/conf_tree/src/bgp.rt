@@ -17,12 +17,12 @@ ghost use Rattle.conf_tree.specs.View.{attribute_leaf, family_symbol, bgp_option
 ghost use Rattle.conf_tree.specs.Readers.{seen_as, optional_address_at, as_at, channel_at};
 ghost use Rattle.conf_tree.specs.Readers.{transport_at, bgp_option_at};
 
-use crate::ast::BgpOption;
 use crate::channel::channel;
 use crate::options::ProtocolOption;
 use crate::simple::{as_number, expect_address, expect_switch, next_family, optional_address};
 use crate::transport::transport;
 use bits_ip::Family;
+use conf_ast::configurations::BgpOption;
 use conf_lex::parsing::{after, after_attribute, expect};
 use conf_lex::{Attribute, Refusal, Symbol, Word};
 use filt_syntax::parts::num;

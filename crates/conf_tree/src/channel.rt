@@ -19,10 +19,10 @@ ghost use Rattle.conf_tree.specs.View.{action_symbol, family_symbol};
 ghost use Rattle.conf_tree.specs.Readers.{seen_as, policy_at, action_at, limit_value_at};
 ghost use Rattle.conf_tree.specs.Readers.{channel_option_at, closed_options, channel_at};
 
-use crate::ast::{Action, Channel, ChannelOption, Limit, NextHop};
 use crate::options::{ProtocolOption, options};
 use crate::policy::policy;
 use bits_ip::Family;
+use conf_ast::configurations::{Action, Channel, ChannelOption, Limit, NextHop};
 use conf_lex::parsing::{after, after_attribute, expect, expect_name};
 use conf_lex::{Attribute, Refusal, Symbol, Word};
 use filt_syntax::parts::num;

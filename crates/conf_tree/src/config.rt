@@ -4,8 +4,8 @@ ghost use Rattle.conf_lex.specs.Agrees.{Agrees};
 ghost use Rattle.conf_tree.specs.View.{statements_tree};
 ghost use Rattle.conf_tree.specs.Readers.{whole_at};
 
-use crate::ast::Statement;
 use crate::statement::statement;
+use conf_ast::configurations::Statement;
 use conf_lex::{Refusal, Word};
 use std::alloc::Global;
 

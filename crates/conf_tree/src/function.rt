@@ -16,10 +16,10 @@ ghost use Rattle.conf_tree.specs.View.{gives_tree, statement_tree};
 ghost use Rattle.conf_tree.specs.Readers.{parameter_at, some_parameters_at, parameters_at};
 ghost use Rattle.conf_tree.specs.Readers.{gives_at, signature_at, seen_as};
 
-use crate::ast::Statement;
+use conf_ast::configurations::Statement;
+use conf_ast::filters::{Function, Parameter, Separator, VariableType};
 use conf_lex::parsing::{after, expect, expect_name, expect_placed};
 use conf_lex::{Refusal, Symbol, Word};
-use filt_syntax::ast::{Function, Parameter, Separator, VariableType};
 use filt_syntax::parts::{variable_type, whole_block};
 use std::alloc::Global;
 

@@ -5,9 +5,9 @@ ghost use Rattle.std.specs.Prelude.{◌≡◌, ℕ, List};
 ghost use Rattle.conf_lex.specs.Grammar.{ParseTree};
 ghost use Rattle.conf_tree.specs.Position.{IsPlace};
 ghost use Rattle.conf_tree.specs.Read.{IsConfigText, IsRefusedText};
-ghost use Rattle.conf_tree.specs.declared.kind.ConfKind.{ConfKind};
+ghost use Rattle.conf_ast.specs.declared.kind.ConfKind.{ConfKind};
 
-use crate::kind::ConfKind;
+use conf_ast::ConfKind;
 use conf_lex::laws::{
     lexed_texts_are_not_refused, texts_are_refused_at_one_place, texts_have_one_list_of_tokens,
 };

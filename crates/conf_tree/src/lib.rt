@@ -7,13 +7,11 @@
 //! (conf_ast), and what is refused of names and values (conf_rules).
 #![tactic(auto)]
 
-pub mod ast;
 mod bgp;
 mod channel;
 mod config;
 mod followed;
 mod function;
-mod kind;
 pub mod laws;
 mod literal;
 mod options;
@@ -30,7 +28,7 @@ mod static_routes;
 mod transport;
 mod unsupported;
 
-pub use kind::{ConfFault, ConfKind};
+pub use conf_ast::{ConfFault, ConfKind};
 pub use parse::parse_config;
 pub use position::place;
 pub use read::read_config;

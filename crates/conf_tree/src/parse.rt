@@ -16,12 +16,12 @@ ghost use Rattle.conf_tree.specs.Sentence.{first_bytes, word_bytes, IsUnsupporte
 ghost use Rattle.conf_tree.specs.Sentence.{IsSentence, IsStop, IsRefused, IsTree, IsAnswered};
 ghost use Rattle.conf_tree.specs.View.{config_view};
 
-use crate::ast::Config;
 use crate::config::config;
 use crate::followed::Configurations;
 use crate::significant::significant_words;
 use crate::unsupported::is_unsupported;
 use bits_ip::OutOfMemory;
+use conf_ast::configurations::Config;
 use conf_lex::laws::tokens_are_slices;
 use conf_lex::parsing::{is_symbol, place_in};
 use conf_lex::{Refusal, Symbol, Token, TokenKind, Word, Words};

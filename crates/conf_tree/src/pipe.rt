@@ -12,9 +12,9 @@ ghost use Rattle.conf_tree.specs.Options.{pipe_option_is};
 ghost use Rattle.conf_tree.specs.View.{pipe_option_tree};
 ghost use Rattle.conf_tree.specs.Readers.{seen_as, policy_at};
 
-use crate::ast::PipeOption;
 use crate::options::ProtocolOption;
 use crate::policy::policy;
+use conf_ast::configurations::PipeOption;
 use conf_lex::parsing::{after, expect, expect_name};
 use conf_lex::{Refusal, Symbol, Word};
 use std::alloc::Global;

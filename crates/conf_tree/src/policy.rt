@@ -14,7 +14,7 @@ ghost use Rattle.filt_syntax.specs.StatementView.{nth, beyond};
 ghost use Rattle.conf_tree.specs.View.{placed_leaf, policy_tree};
 ghost use Rattle.conf_tree.specs.Readers.{seen_as, policy_at};
 
-use crate::ast::Policy;
+use conf_ast::configurations::Policy;
 use conf_lex::parsing::{after, after_placed, expect_placed, next_name};
 use conf_lex::{Refusal, Symbol, Word};
 use filt_syntax::parts::{expression, whole_block};

@@ -16,9 +16,9 @@ ghost use Rattle.conf_tree.specs.View.{statement_tree, protocol_tree, of_protoco
 ghost use Rattle.conf_tree.specs.Readers.{seen_as, optional_name_at, optional_semicolon_at};
 ghost use Rattle.conf_tree.specs.Readers.{protocol_at, statement_at};
 
-use crate::ast::{Protocol, Statement};
 use crate::options::{ProtocolOption, options};
 use crate::simple::{optional_name, optional_semicolon};
+use conf_ast::configurations::{Protocol, Statement};
 use conf_lex::parsing::{after, after_placed, expect};
 use conf_lex::{Refusal, Symbol, Word};
 use std::alloc::Global;

@@ -6,14 +6,14 @@ ghost use Rattle.conf_lex.specs.Grammar.{ParseTree};
 ghost use Rattle.conf_tree.specs.View.{config_view};
 ghost use Rattle.conf_tree.specs.Read.{byte_of, fault_of, IsConfigText, IsFault, IsWithin};
 ghost use Rattle.conf_tree.specs.Read.{IsTreeOf, IsFaultOf};
-ghost use Rattle.conf_tree.specs.declared.kind.ConfFault.{ConfFault};
+ghost use Rattle.conf_ast.specs.declared.kind.ConfFault.{ConfFault};
 
-use crate::ast::Config;
 use crate::config::config;
-use crate::kind::{ConfFault, ConfKind};
 use crate::laws::{a_text_is_one_configuration, configurations_are_not_refused};
 use crate::parse::parse_config;
 use crate::significant::walked_words;
+use conf_ast::configurations::Config;
+use conf_ast::{ConfFault, ConfKind};
 use conf_lex::laws::{texts_are_refused_within, tokens_are_slices};
 use conf_lex::{LexFault, Refusal, Token, lex};
 use filt_syntax::SyntaxFault;

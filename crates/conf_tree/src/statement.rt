@@ -13,15 +13,15 @@ ghost use Rattle.filt_syntax.specs.StatementView.{nth};
 ghost use Rattle.conf_tree.specs.View.{placed_leaf, family_leaf, statement_tree};
 ghost use Rattle.conf_tree.specs.Readers.{seen_as, literal_at, statement_at};
 
-use crate::ast::Statement;
 use crate::function::function;
 use crate::literal::literal;
 use crate::protocol::protocol;
 use crate::simple::{expect_address, next_family};
 use bits_ip::Family;
+use conf_ast::configurations::Statement;
+use conf_ast::filters::Filter;
 use conf_lex::parsing::{after, after_placed, expect, expect_name};
 use conf_lex::{Refusal, Symbol, Word};
-use filt_syntax::ast::Filter;
 use filt_syntax::parts::whole_block;
 use std::alloc::Global;
 

@@ -12,11 +12,11 @@ ghost use Rattle.conf_tree.specs.Options.{static_option_is};
 ghost use Rattle.conf_tree.specs.View.{family_symbol, target_tree, static_option_tree};
 ghost use Rattle.conf_tree.specs.Readers.{seen_as, channel_at, route_target_at};
 
-use crate::ast::{Route, RouteTarget, StaticOption};
 use crate::channel::channel;
 use crate::options::ProtocolOption;
 use crate::simple::{expect_address, next_family};
 use bits_ip::Family;
+use conf_ast::configurations::{Route, RouteTarget, StaticOption};
 use conf_lex::parsing::{after, expect, next_prefix};
 use conf_lex::{Refusal, Symbol, Word};
 use std::alloc::Global;

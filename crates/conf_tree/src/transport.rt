@@ -12,8 +12,8 @@ ghost use Rattle.filt_syntax.specs.StatementView.{nth, beyond};
 ghost use Rattle.conf_tree.specs.View.{attribute_leaf, transport_tree};
 ghost use Rattle.conf_tree.specs.Readers.{seen_as, time_at, optional_switch_at, transport_at};
 
-use crate::ast::Transport;
 use crate::simple::{expect_address, expect_text, optional_number, optional_switch, time_number};
+use conf_ast::configurations::Transport;
 use conf_lex::parsing::{after, after_attribute, expect};
 use conf_lex::{Attribute, Refusal, Symbol, Word};
 

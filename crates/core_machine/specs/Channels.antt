@@ -1,8 +1,12 @@
--- A channel of the machine, and what each step does to it. Modelled: up to where it has read its
--- table, what of it is marked, and its log. Values that stand as sent, and whether the channel is
--- up, are what the log says (specs/Logs of export_core). Not modelled: a feed in parts; here it
--- comes as a whole. Pipes aren't there yet. From: BIRD User's Guide, "Channel options";
--- RFC 4271, section 9.2; RFC 2918. The order of marks and `due` are the project's own.
+-- A channel of the machine (`Channel`), and what each step does to it (`take_one`, `push_one`,
+-- `fed`, `IsFeed`, `Obeys`): up to where it has read its table, what of it is marked, and its log.
+-- Values that stand as sent, and whether the channel is up, are what the log says (specs/Logs of
+-- export_core).
+-- Not modelled: a feed in parts, here it comes as a whole; pipes.
+-- From: BIRD User's Guide, "Channel options"; RFC 4271, section 9.2; RFC 2918; the order of marks
+-- and `due` are own.
+-- Example: a refresh sends again what stands; three changes of a net that are taken before a push
+-- are sent as one.
 use Rattle.std.specs.Prelude.{◌≡◌, ◌&&◌, ◌||◌, ℕ, zero, suc, ◌+◌, nat_lt, Bool, true, false, List, [], ◌∷◌, length, Option, Some, None, is_some, if◌then◌else◌}
 use Rattle.std.specs.Option.{option_eq}
 use Rattle.std.specs.List.Sorted.{IsStrictlySortedBy}

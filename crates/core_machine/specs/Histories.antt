@@ -1,6 +1,9 @@
--- A table's history, read backwards: the newest change stands first. Modelled: which changes there
--- were, in their order, and the content that they leave (`after` and `IsReal` of attrs). Not
--- modelled: how a table keeps either. The form is the project's own.
+-- A table's history, read backwards, the newest change first (`content_of`, `front`, `entry`,
+-- `own`): which changes there were, in their order, and the content that they leave (`after` and
+-- `IsReal` of attrs).
+-- Not modelled: how a table keeps either.
+-- From: own.
+-- Example: the front at the head is the history.
 use Rattle.std.specs.Prelude.{◌≡◌, ◌==◌, ℕ, nat_lt, List, [], ◌∷◌, length, reverse, Option, Some, None, if◌then◌else◌, ⊤}
 use Rattle.attrs.specs.declared.route.Change.{Change}
 use Rattle.attrs.specs.History.{Content, after, empty, IsReal}

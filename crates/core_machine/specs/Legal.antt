@@ -1,8 +1,10 @@
--- When a list of printed phases is legal. It speaks of what is printed alone, and not of how it
--- came to be: operations, changes, logs, replies and the state. Modelled: all that a report prints
--- but for names, headings and the order of its blocks. Not modelled: pipes, and phases that were
--- cut off. Lists are read backwards. Form: the project's own; what may be sent is from RFC 4271,
--- section 9.2, and RFC 2918.
+-- When a list of printed phases is legal (`IsLegal`, `AreLegal`). It speaks of what is printed
+-- alone, and not of how it came to be: operations, changes, logs, replies and the state; all that a
+-- report prints but for names, headings and the order of its blocks. Lists are read backwards.
+-- Not modelled: pipes, and phases that were cut off.
+-- From: own; RFC 4271, section 9.2, and RFC 2918, for what may be sent.
+-- Example: the worked run of docs/DEFINITIONS.md is legal, and isn't without its entry at position
+-- 1.
 use Rattle.std.specs.Prelude.{◌≡◌, ◌==◌, ℕ, List, [], ◌∷◌, ◌++◌, length, IsSome, if◌then◌else◌, ⊤}
 use Rattle.attrs.specs.declared.route.Change.{Change}
 use Rattle.import_core.specs.declared.operation.Op.{Op}

@@ -1,6 +1,9 @@
--- The lines of a script, read. Modelled: who applies which operation to which protocol, how far a
--- channel is driven by hand, and what is asked of a table. Not modelled: names and texts; actors,
--- protocols and tables have numbers, and a channel has its protocol's. Form: the project's own.
+-- The lines of a script, read (`Line`): who applies which operation to which protocol, how far a
+-- channel is driven by hand, and what is asked of a table.
+-- Not modelled: names and texts; actors, protocols and tables have numbers, and a channel has its
+-- protocol's.
+-- From: own.
+-- Example: `@p1 open 10.0.0.1` is an `Act` of actor 0 on protocol 0, where p1 is the first of both.
 use Rattle.std.specs.Prelude.{ℕ, List}
 use Rattle.import_core.specs.declared.operation.Op.{Op}
 

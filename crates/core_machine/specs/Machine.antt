@@ -1,8 +1,10 @@
--- The machine: what the lines of a script do, in their order, to tables, protocols and channels.
--- Modelled: a history for each table, the operations of each protocol, a channel for each protocol
--- (one that has none is always down), and the replies. Not modelled: memory, threads, a largest
--- position, and pipes: a push changes no table, so one round makes a sync. From: BIRD User's Guide,
--- "Remote control"; RFC 4271, section 9. Scripts and phases are the project's own.
+-- The machine: what the lines of a script do, in their order, to tables, protocols and channels
+-- (`Applies`, `Steps`, `Plays`). A history for each table, the operations of each protocol, a
+-- channel for each protocol (one that has none is always down), and the replies.
+-- Not modelled: memory, threads, a largest position, and pipes: a push changes no table, so one
+-- round makes a sync.
+-- From: BIRD User's Guide, "Remote control"; RFC 4271, section 9; scripts and phases are own.
+-- Example: with a journal of one change each channel takes one before the next change comes.
 use Rattle.std.specs.Prelude.{◌≡◌, ◌==◌, ℕ, ◌-◌, List, [], ◌∷◌, length, if◌then◌else◌}
 use Rattle.import_core.specs.declared.operation.Op.{Op}
 use Rattle.attrs.specs.declared.route.Change.{Change}

@@ -1,6 +1,8 @@
--- The marked nets of a channel, in the order of first marking. A mark says at which position of the
--- table the net's best route stands that is to be sent, and whether a refresh is due of it. The
--- route itself isn't kept: it is the net's best at that position. Form: the project's own.
+-- The marked nets of a channel, in the order of first marking. A mark (`Marked`) says at which
+-- position of the table the net's best route stands that is to be sent, and whether a refresh is
+-- due of it. The route itself isn't kept: it is the net's best at that position.
+-- From: own.
+-- Example: a net of which two changes are taken before a push has one mark, of the later position.
 use Rattle.std.specs.Prelude.{◌≡◌, ℕ, Bool, ◌||◌, List, [], ◌∷◌, Option, Some, None, is_some, if◌then◌else◌, ⊤}
 use Rattle.bits_ip.specs.Prefix.{Net, same_net}
 

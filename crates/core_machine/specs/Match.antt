@@ -1,7 +1,10 @@
--- An exporter of export_core beside the machine's channel. The exporter keeps its marks as an order
+-- An exporter of export_core beside the machine's channel, at rest (`Matches`) and in the midst of
+-- a feed (`MatchesFed`), which an exporter takes in parts. The exporter keeps its marks as an order
 -- with a candidate for each net, its log in the order written, and ranges of feeds that tell up to
--- where each net has been read; the channel keeps none of these. Modelled: when the two are the
--- same, at rest and in the midst of a feed, which an exporter takes in parts. Not modelled: memory.
+-- where each net has been read; the channel keeps none of these.
+-- Not modelled: memory.
+-- From: own.
+-- Example: a new exporter is the channel that the machine begins with.
 use Rattle.std.specs.Prelude.{◌≡◌, ◌&&◌, ◌||◌, ◌+◌, ◌≤◌, ℕ, max, not, Bool, true, false, List, [], Some, is_some, option_map, reverse, length, if◌then◌else◌}
 use Rattle.std.specs.List.Sorted.{IsStrictlySortedBy}
 use Rattle.bits_ip.specs.Prefix.{Net, net_cmp}

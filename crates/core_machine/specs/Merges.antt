@@ -1,6 +1,9 @@
--- Which order a protocol's operations had. Several actors may name one protocol; each one's
--- operations stand in the order of its lines, and otherwise any order may be. Lists are read
--- backwards. Form: the project's own.
+-- Which order a protocol's operations had (`IsMerge`). Several actors may name one protocol; each
+-- one's operations stand in the order of its lines, and otherwise any order may be. Lists are read
+-- backwards.
+-- From: own.
+-- Example: of an actor's `disable`, `enable` and another's `reload` the three orders in which
+-- `enable` stands behind `disable`.
 use Rattle.std.specs.Prelude.{◌≡◌, ◌==◌, ◌&&◌, ℕ, List, [], ◌∷◌, ◌++◌, map, if◌then◌else◌}
 use Rattle.import_core.specs.declared.operation.Op.{Op}
 use Rattle.core_machine.specs.Lines.{Line, Apply, Take, Push, Show}

@@ -1,4 +1,8 @@
--- What is printed of the machine's phases.
+-- A phase with its sync, and what is printed of it (`Prints`, `IsShown`).
+-- Not modelled: texts.
+-- From: own.
+-- Example: of a second phase the changes, operations and items of logs are printed that came behind
+-- the first.
 use Rattle.std.specs.Prelude.{◌≡◌, ℕ, List, [], ◌∷◌, ◌++◌, ⊤}
 use Rattle.bits_ip.specs.Prefix.{Net}
 use Rattle.export_core.specs.Logs.{account, value_of}

@@ -1,8 +1,10 @@
--- What actors may be shown of tables. A reply tells a table as it stood at one position: not before
--- what the actor was shown of it earlier, and not before what the actor itself has done there.
--- Lists are read backwards. Modelled: which positions may be shown. Not modelled: the texts, which
--- are functions of the table's content at that position. From: BIRD User's Guide, "Remote control" (`show route`); the positions
--- are the project's own.
+-- What actors may be shown of tables (`Answers`, `needed`). A reply tells a table as it stood at
+-- one position: not before what the actor was shown of it earlier, and not before what the actor
+-- itself has done there. Lists are read backwards.
+-- Not modelled: the texts, which are functions of the table's content at that position.
+-- From: BIRD User's Guide, "Remote control" (`show route`); the positions are own.
+-- Example: `@p1 show route` behind p1's `add`, which made the change at position 1, is answered at
+-- position 1 or later.
 use Rattle.std.specs.Prelude.{◌≡◌, ◌==◌, ◌&&◌, ℕ, ◌≤◌, nat_lt, not, Bool, true, false, List, [], ◌∷◌, ◌++◌, length, if◌then◌else◌, ⊤}
 use Rattle.import_core.specs.declared.operation.Op.{Op}
 use Rattle.attrs.specs.declared.route.Change.{Change}

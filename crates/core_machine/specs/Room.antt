@@ -1,7 +1,9 @@
--- Room for a change. A table's journal holds so many changes for those who are still to read them.
--- A channel that is up and has as many still to take lags by the whole journal, and takes one
--- before a further change comes; so no reader loses one. Modelled: which channels take. Not
--- modelled: the journal's cells. Form: the project's own.
+-- Room for a change (`in_room`; step by step `Makes`). A table's journal holds so many changes for
+-- those who are still to read them. A channel that is up and has as many still to take lags by the
+-- whole journal, and takes one before a further change comes; so no reader loses one.
+-- Not modelled: the journal's cells.
+-- From: own.
+-- Example: with a journal of one change each channel that has one to take takes it before the next.
 use Rattle.std.specs.Prelude.{◌≡◌, ◌==◌, ◌&&◌, ℕ, zero, suc, ◌-◌, ◌<◌, Bool, true, false, List, length, if◌then◌else◌}
 use Rattle.attrs.specs.declared.route.Change.{Change}
 use Rattle.core_machine.specs.Channels.{Channel, is_open, take_one}

@@ -1,6 +1,8 @@
--- The rounds of a sync. Modelled: when a channel that is up is settled, and how many rounds there
--- are. Not modelled: pipes, with which a round changes tables, so that more than one may be needed.
--- From: the project's own.
+-- The rounds of a sync: when a channel that is up is settled (`AreSettled`), and how many rounds
+-- there are (`HasRounds`).
+-- Not modelled: pipes, with which a round changes tables, so that more than one may be needed.
+-- From: own.
+-- Example: where all channels are settled there is no round, else one.
 use Rattle.std.specs.Prelude.{◌≡◌, ◌<◌, ℕ, true, List, [], length}
 use Rattle.attrs.specs.declared.route.Change.{Change}
 use Rattle.core_machine.specs.Channels.{Channel, is_open, times}

@@ -1,9 +1,12 @@
--- What a configuration says, as far as the machine and the legality of a report want it: functions
--- of a protocol's number, and what they owe. Modelled: what imports give operation by operation,
--- the best route of a net, the values that a channel sends. Not modelled here: how a configuration
--- says it. What a protocol has come to is a function of its operations, so nothing else of it is
--- kept. Lists of operations and of changes are read backwards, the newest first. From: BIRD User's Guide, "Remote control", "Protocol options" and "BGP"; RFC 4271,
--- section 9.
+-- What a configuration says, as far as the machine and the legality of a report want it (`Rules`):
+-- functions of a protocol's number, and what they owe (`IsRules`): what imports give operation by
+-- operation (the changes and the signal, and whether a route was over the limit), the best route of
+-- a net, the values that a channel sends. What a protocol has come to is a function of its
+-- operations, so nothing else of it is kept. Lists of operations and of changes are read backwards,
+-- the newest first.
+-- Not modelled: how a configuration says it.
+-- From: BIRD User's Guide, "Remote control", "Protocol options" and "BGP"; RFC 4271, section 9.
+-- Example: one protocol that comes up and imports a route.
 use Rattle.std.specs.Prelude.{◌≡◌, ◌≤◌, ◌==◌, ℕ, Bool, true, false, List, [], ◌∷◌, ◌++◌, length, Option, None, if◌then◌else◌, ⊤}
 use Rattle.bits_ip.specs.Prefix.{Net}
 use Rattle.attrs.specs.declared.attributes.Attrs.{Attrs}

@@ -1,5 +1,7 @@
 -- The ups, downs and refreshes of a channel's log are those that its protocol's operations signal,
--- in their order. Lists are read backwards. Form: the project's own.
+-- in their order (`AreSignals`). Lists are read backwards.
+-- From: own.
+-- Example: behind `open` and `reload out` a log has `Up` and `Reload`.
 use Rattle.std.specs.Prelude.{◌≡◌, ℕ, List, [], ◌∷◌, ⊤}
 use Rattle.import_core.specs.declared.operation.Op.{Op}
 use Rattle.attrs.specs.declared.route.Change.{Change}

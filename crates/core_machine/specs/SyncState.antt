@@ -1,7 +1,9 @@
--- The state at the end of a phase, from the operations alone: which routes stand in the tables,
--- what the protocols have come to, and what stands as sent. It doesn't depend on the order in which
--- changes of different protocols came. Not modelled: pipes, which carry routes from table to table.
--- Form: the project's own.
+-- The state at the end of a phase (`IsSyncState`), from the operations alone: which routes stand in
+-- the tables, what the protocols have come to, and what stands as sent. It doesn't depend on the
+-- order in which changes of different protocols came.
+-- Not modelled: pipes, which carry routes from table to table.
+-- From: own.
+-- Example: an `add` of p1 and one of p2 leave the same state in either order.
 use Rattle.std.specs.Prelude.{◌≡◌, ℕ, Bool, true, List, Option}
 use Rattle.bits_ip.specs.Prefix.{Net}
 use Rattle.attrs.specs.declared.attributes.Attrs.{Attrs}

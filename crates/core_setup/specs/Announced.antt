@@ -1,5 +1,7 @@
--- What changes tell of their protocol, and the families of what it is told: of its configured
--- routes, and of what operations announce. Form: the project's own.
+-- For the laws: what changes tell of their protocol (`IsFrom`), and the families of what it is
+-- told: of its configured routes, and of what operations announce (`IsOfFamily`).
+-- From: own.
+-- Example: a protocol with an IPv4 channel announces nets of IPv4.
 use Rattle.std.specs.Prelude.{◌≡◌, ℕ, List, [], Option, Some, None, IfSome, ⊤}
 use Rattle.bits_ip.specs.Address.{family_of}
 use Rattle.bits_ip.specs.declared.address.Family.{Family}

@@ -1,5 +1,7 @@
--- The best of the routes that the protocols have of a net. From: BIRD User's Guide, "Routing
--- tables"; which of two routes is preferred say the rules of selection (specs/Selection of attrs).
+-- The best of the routes that the protocols have of a net (`best_below`).
+-- From: BIRD User's Guide, "Routing tables"; which of two routes is preferred say the rules of
+-- selection (specs/Selection of attrs).
+-- Example: of a static route and one of BGP with the same preference the static one.
 use Rattle.std.specs.Prelude.{ℕ, zero, suc, Option, Some, None, if◌then◌else◌}
 use Rattle.attrs.specs.declared.route.Route.{Route}
 use Rattle.attrs.specs.Selection.{before}

@@ -1,5 +1,8 @@
--- The changes between two states of a protocol's accepted routes. Modelled: which they are and in
--- which order. Not modelled: how they are found. Form: the project's own.
+-- The changes between two states of a protocol's accepted routes (`differences`): which they are
+-- and in which order.
+-- Not modelled: how they are found.
+-- From: own.
+-- Example: a net whose route is the same gives no change.
 use Rattle.std.specs.Prelude.{ℕ, Bool, List, [], ◌∷◌, Option, if◌then◌else◌}
 use Rattle.std.specs.List.{flat_map}
 use Rattle.std.specs.Map.{keys_of}

@@ -1,4 +1,6 @@
--- Two lists, item by item.
+-- Two lists, item by item, with the number of each (`Pairs`).
+-- From: own.
+-- Example: lists of different lengths are no pairs.
 use Rattle.std.specs.Prelude.{ℕ, ◌+◌, List, [], ◌∷◌, ⊤}
 
 -- The lists are of one length, and this holds of each two items at one place, counted from a number

@@ -1,4 +1,7 @@
--- What scripts come to: the reports of the machine's phases, and what makes reports legal.
+-- What scripts come to (`IsPlay`): the reports of the machine's phases; and what makes reports
+-- legal (`IsLegalPlay`).
+-- From: own.
+-- Example: the worked run of docs/DEFINITIONS.md has one phase and one report.
 use Rattle.std.specs.Prelude.{ℕ, List}
 use Rattle.core_machine.specs.Legal.{AreLegal, Printed, nothing}
 use Rattle.core_machine.specs.Lines.{Line}

@@ -1,7 +1,10 @@
--- What tables and protocols say to the machine: its rules. Modelled: what an operation of a
--- protocol does after its earlier ones, what its channel sends of a route, and the best of a net's
--- routes. Lists of operations and of changes are read backwards. From: the definitions of imports
--- (specs/Operations of import_core), of exports (specs/Passing of export_core) and of selection.
+-- What tables and protocols say to the machine, its rules (`rules_of`): what an operation of a
+-- protocol does behind its earlier ones (`effect_after`), what its channel sends of a route
+-- (`sent_by`), the best of a net's routes, and the starts of static protocols (`starts`). Lists of
+-- operations and of changes are read backwards.
+-- From: the definitions of imports (specs/Operations of import_core), of exports (specs/Passing of
+-- export_core) and of selection.
+-- Example: the worked run of docs/DEFINITIONS.md.
 use Rattle.std.specs.Prelude.{ℕ, ◌+◌, false, List, [], ◌∷◌, length, reverse, Option, Some, None, option_and_then, slice_get}
 use Rattle.bits_ip.specs.Prefix.{Net}
 use Rattle.attrs.specs.declared.attributes.Attrs.{Attrs}

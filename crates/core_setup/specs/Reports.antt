@@ -1,6 +1,8 @@
--- What is reported of a printed phase: its parts in the order of tables, protocols and channels,
--- each under its name. Modelled: every field of a report. Not modelled: its text (specs/Report of
--- report), pipes. Form: the project's own.
+-- What is reported of a printed phase (`IsReport`, `AreReports`): its parts in the order of tables,
+-- protocols and channels, each under its name; every field of a report.
+-- Not modelled: its text (specs/Report of report), pipes.
+-- From: own.
+-- Example: the worked run of docs/DEFINITIONS.md.
 use Rattle.std.specs.Prelude.{◌≡◌, ◌+◌, ℕ, Bool, true, false, List, [], ◌∷◌, ◌++◌, length, map, reverse, Option, Some, None, slice_get, ⊤}
 use Rattle.std.specs.List.Sorted.{IsStrictlySortedBy}
 use Rattle.std.specs.Map.{keys_of}

@@ -1,6 +1,9 @@
--- What is played: tables, and protocols with their filters. Modelled: names, families, what holds
--- for all routes of a protocol, filters as functions. Not modelled: where all this comes from.
+-- What is played (`Setup`): tables, and protocols with their filters and channels; that numbers,
+-- tables and families fit (`IsSetup`). Names, families, what holds for all routes of a protocol,
+-- filters as functions.
+-- Not modelled: where all this comes from; pipes.
 -- From: BIRD User's Guide, "Routing tables", "Protocol options" and "Channel options".
+-- Example: a protocol of BGP has a channel, a static one none.
 use Rattle.std.specs.Prelude.{◌≡◌, ◌<◌, ◌+◌, ℕ, List, [], ◌∷◌, length, Option, Some, None, option_map, slice_get, ⊤}
 use Rattle.attrs.specs.declared.attributes.Kind.{Kind}
 use Rattle.attrs.specs.declared.attributes.Kind.TheVariants.{Static, Bgp}

@@ -1,4 +1,8 @@
--- What each call of an exporter does, exactly.
+-- What each call of an exporter does, exactly (`Takes`, `Feeds`, `Pushes`, `begun`, `refreshed`,
+-- `ended`, `IsAtRest`).
+-- From: RFC 4271, section 9.2; RFC 2918 for a refresh; the calls are own.
+-- Example: a push of a mark whose value stands as sent, and of which no refresh is due, writes
+-- nothing.
 use Rattle.std.specs.Prelude.{◌≡◌, ◌≢◌, ℕ, Bool, true, false, nat_lt, ◌&&◌, ◌||◌, not, List, [], ◌∷◌, ◌++◌, Option, Some, None, is_some, IsSome, slice_get, drop, option_map, if◌then◌else◌}
 use Rattle.std.specs.List.Sorted.{IsStrictlySortedBy}
 use Rattle.bits_ip.specs.Prefix.{Net, net_cmp, same_net}

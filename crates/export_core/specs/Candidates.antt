@@ -1,4 +1,7 @@
--- The nets that a chunk marks.
+-- The nets that a chunk of a table marks in a feed (`IsChunk`).
+-- From: own.
+-- Example: a chunk from 10.0.0.0/8 to before 11.0.0.0/8 is over 10.1.0.0/16 and not over
+-- 11.0.0.0/8.
 use Rattle.std.specs.Prelude.{◌≡◌, Bool, true, false, not, ◌&&◌, List, Option, Some, None, is_some, slice_get, if◌then◌else◌}
 use Rattle.std.specs.declared.ops.Bound.{Bound}
 use Rattle.std.specs.declared.ops.Bound.TheVariants.{Included, Excluded, Unbounded}

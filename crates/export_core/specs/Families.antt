@@ -1,4 +1,4 @@
--- The nets of an exporter are of one family.
+-- For private contracts alone: the nets of an exporter are of one family.
 use Rattle.std.specs.Prelude.{◌≡◌, ℕ, List, Option, IsSome}
 use Rattle.bits_ip.specs.declared.address.Family.{Family}
 use Rattle.bits_ip.specs.Address.{family_of}

@@ -1,4 +1,7 @@
--- A table's history as a course.
+-- A table's history as a course (`course_of`): the best of each net at each position; that a course
+-- goes on (`IsLonger`), that entries tell the best (`TellsBest`).
+-- From: own.
+-- Example: behind a withdrawal the best of the net is none.
 use Rattle.std.specs.Prelude.{◌≡◌, ℕ, ◌≤◌, List, [], ◌∷◌, ◌++◌, Option, None, fold, map, take, length, if◌then◌else◌}
 use Rattle.bits_ip.specs.Prefix.{Net, same_net}
 use Rattle.attrs.specs.declared.journal.JEntry.{JEntry}

@@ -1,4 +1,6 @@
--- What an exporter keeps for one net, and what it stands for.
+-- What an exporter keeps for one net, and what it stands for (`IsLane`).
+-- From: own.
+-- Example: what has been read of a net that isn't marked stands as sent.
 use Rattle.std.specs.Prelude.{◌≡◌, ℕ, ◌+◌, ◌≤◌, Bool, true, false, Option, Some, None, IsSome, if◌then◌else◌}
 use Rattle.bits_ip.specs.Prefix.{Net}
 use Rattle.attrs.specs.declared.attributes.Attrs.{Attrs}

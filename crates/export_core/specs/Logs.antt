@@ -1,4 +1,9 @@
--- The log of a channel, read backwards: the newest item stands first.
+-- The log of a channel, read backwards, the newest item first: which logs it may have over a
+-- table's history (`Follows`, by `IsSend`), and when it is settled (`Settled`). What it needs to
+-- know of a history: how many changes, and the best route of each net at each position (`Course`).
+-- Not modelled: when the channel sends, and in which order it takes nets.
+-- From: RFC 4271, section 9.2, and RFC 2918, for what may be sent; the log is own.
+-- Example: a value is sent once, and once more in a refresh.
 use Rattle.std.specs.Prelude.{◌≡◌, ◌≢◌, ℕ, ◌+◌, ◌<◌, ◌≤◌, max, Bool, true, false, List, [], ◌∷◌, Option, Some, None, IsSome, option_and_then, if◌then◌else◌, ⊤}
 use Rattle.bits_ip.specs.Prefix.{Net, same_net}
 use Rattle.attrs.specs.declared.attributes.Attrs.{Attrs}

@@ -1,4 +1,6 @@
--- Marks: their nets in the order of first marking, and a mark at each.
+-- Marks (`Listed`): their nets in the order of first marking, and a mark at each.
+-- From: own.
+-- Example: a mark keeps its place when its net changes again.
 use Rattle.std.specs.Prelude.{if◌then◌else◌, ◌≡◌, ℕ, Bool, false, ◌||◌, List, [], ◌∷◌, Option, Some, None, is_some, IsSome, option_and_then, ⊤, not, ◌++◌, ◌+◌, ◌≤◌, length}
 use Rattle.std.specs.List.{filter}
 use Rattle.std.specs.Map.{lookup, keys_of}

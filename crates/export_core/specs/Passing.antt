@@ -1,4 +1,10 @@
--- What a channel makes of a route: the gate of its protocol, then its filter.
+-- What a channel makes of a route: the gate of its protocol (`is_kept`), then its filter
+-- (`value_by`, `passed`).
+-- Not modelled: what is changed for a neighbour on the way out (the path's own AS number, the next
+-- hop).
+-- From: BIRD User's Guide, "BGP"; RFC 4271, section 9.2; RFC 1997.
+-- Example: a route of the neighbour itself is kept back; one with NO_EXPORT is kept from an
+-- external neighbour.
 use Rattle.std.specs.Prelude.{◌==◌, ℕ, Bool, true, false, not, ◌&&◌, ◌||◌, if◌then◌else◌, Option, Some, None, option_and_then}
 use Rattle.bits_ip.specs.Prefix.{Net}
 use Rattle.attrs.specs.Clist.{has_pair}

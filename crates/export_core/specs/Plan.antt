@@ -1,4 +1,6 @@
--- What the next push of an exporter will do.
+-- What the next push of an exporter will do (`IsNext`): nothing, a quiet step, or a sending.
+-- From: own.
+-- Example: where no net is marked the next push does nothing.
 use Rattle.std.specs.Prelude.{◌≡◌, [], Some, slice_get}
 use Rattle.bits_ip.specs.Prefix.{Net}
 use Rattle.attrs.specs.declared.judge.Verdict.{Verdict}

@@ -1,4 +1,9 @@
--- What a channel sent of one net, and what stands as sent.
+-- For the laws: what a channel sent of one net in the last stretch of its log (`sends`,
+-- `last_value`), that this is right and rises (`AreRight`, `AreRising`); and the values that stand
+-- as sent, in the order of nets (`IsStanding`).
+-- From: own.
+-- Example: the values of a net stand at rising positions; only one sent again may stand where the
+-- one before it does.
 use Rattle.std.specs.Prelude.{◌≡◌, ℕ, ◌≤◌, List, [], ◌∷◌, Option, map, option_map, option_and_then, slice_get, if◌then◌else◌, ⊤}
 use Rattle.std.specs.List.{filter_map}
 use Rattle.std.specs.List.Sorted.{IsStrictlySortedBy}

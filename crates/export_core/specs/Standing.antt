@@ -1,4 +1,7 @@
--- The values that stand as sent, each by the number of the log's item that has it.
+-- The values that stand as sent (`IsKept`), each by the number of the log's item that has it; what
+-- the last stretch of a log sent last of a net (`standing_at`).
+-- From: own.
+-- Example: behind a withdrawal nothing stands of the net, and nothing at all behind a `Down`.
 use Rattle.std.specs.Prelude.{◌≡◌, ℕ, Bool, List, Option, Some, None, IsSome, option_and_then, slice_get, reverse, is_some}
 use Rattle.bits_ip.specs.Prefix.{Net}
 use Rattle.attrs.specs.declared.attributes.Attrs.{Attrs}

@@ -1,4 +1,6 @@
--- An exporter as its callers see it, and what it stands for.
+-- An exporter as its callers see it (`State`), and what it stands for (`StandsFor`).
+-- From: own.
+-- Example: a new exporter has no marks and stands at position 0 with an empty log.
 use Rattle.std.specs.Prelude.{◌≡◌, ◌≢◌, ℕ, ◌-◌, ◌≤◌, max, Bool, true, false, ◌&&◌, List, Option, Some, None, reverse, fold, if◌then◌else◌}
 use Rattle.bits_ip.specs.Prefix.{Net}
 use Rattle.attrs.specs.declared.attributes.Attrs.{Attrs}

@@ -6,16 +6,16 @@ use Rattle.std.proofs.lemmas.Result.{IfOk-weaker}
 use Rattle.bits_ip.specs.declared.memory.OutOfMemory.{OutOfMemory}
 use Rattle.conf_lex.specs.declared.named.Name.{Name}
 use Rattle.conf_lex.specs.Names.{name_bytes}
-use Rattle.filt_syntax.specs.declared.ast.Arm.{Arm}
-use Rattle.filt_syntax.specs.declared.ast.Change.{Change}
-use Rattle.filt_syntax.specs.declared.ast.Expr.{Expr}
-use Rattle.filt_syntax.specs.declared.ast.Item.{Item}
-use Rattle.filt_syntax.specs.declared.ast.MethodKind.{MethodKind}
-use Rattle.filt_syntax.specs.declared.ast.Stmt.{Stmt}
-use Rattle.filt_syntax.specs.declared.ast.Stmt.TheVariants as s
-use Rattle.filt_syntax.specs.declared.ast.Target.{Target}
-use Rattle.filt_syntax.specs.declared.ast.Target.TheVariants as targets
-use Rattle.filt_syntax.specs.declared.ast.VariableType.{VariableType}
+use Rattle.conf_ast.specs.declared.filters.Arm.{Arm}
+use Rattle.conf_ast.specs.declared.filters.Change.{Change}
+use Rattle.conf_ast.specs.declared.filters.Expr.{Expr}
+use Rattle.conf_ast.specs.declared.filters.Item.{Item}
+use Rattle.conf_ast.specs.declared.filters.MethodKind.{MethodKind}
+use Rattle.conf_ast.specs.declared.filters.Stmt.{Stmt}
+use Rattle.conf_ast.specs.declared.filters.Stmt.TheVariants as s
+use Rattle.conf_ast.specs.declared.filters.Target.{Target}
+use Rattle.conf_ast.specs.declared.filters.Target.TheVariants as targets
+use Rattle.conf_ast.specs.declared.filters.VariableType.{VariableType}
 use Rattle.conf_ast.specs.Filters.{Statement, Braced, Statements, expression_of, statement_of, statements_of, changed}
 use Rattle.filt_values.specs.declared.value.Failure.{Failure}
 use Rattle.filt_values.specs.declared.value.Failure.TheVariants as failures

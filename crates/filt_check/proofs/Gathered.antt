@@ -3,11 +3,11 @@ use Rattle.std.proofs.Common.{◌≡◌, ℕ, ◌+◌, ◌≤◌, List, [], ◌�
 use Rattle.std.specs.Global.{Global}
 use Rattle.std.proofs.lemmas.List.{drop_all, map-append}
 use Rattle.conf_lex.specs.declared.named.Name.{Name}
-use Rattle.filt_syntax.specs.declared.ast.Arm.{Arm}
-use Rattle.filt_syntax.specs.declared.ast.Expr.{Expr}
-use Rattle.filt_syntax.specs.declared.ast.Stmt.{Stmt}
-use Rattle.filt_syntax.specs.declared.ast.Stmt.TheVariants as s
-use Rattle.filt_syntax.specs.declared.ast.VariableType.{VariableType}
+use Rattle.conf_ast.specs.declared.filters.Arm.{Arm}
+use Rattle.conf_ast.specs.declared.filters.Expr.{Expr}
+use Rattle.conf_ast.specs.declared.filters.Stmt.{Stmt}
+use Rattle.conf_ast.specs.declared.filters.Stmt.TheVariants as s
+use Rattle.conf_ast.specs.declared.filters.VariableType.{VariableType}
 use Rattle.conf_ast.specs.Filters.{Statement, statement_of, statements_of}
 use Rattle.filt_values.specs.declared.value.Sort.{Sort}
 use Rattle.filt_values.specs.Values.{Val, default_of}

@@ -1,7 +1,7 @@
 -- Comparisons that are tests.
 use Rattle.std.proofs.Common.{◌≡◌, List, sym, ap, ◌∙◌, Box, Vec}
 use Rattle.std.specs.Global.{Global}
-use Rattle.filt_syntax.specs.declared.ast.CompareOp.{CompareOp}
+use Rattle.conf_ast.specs.declared.filters.CompareOp.{CompareOp}
 use Rattle.filt_values.specs.Values.{Val}
 use Rattle.filt_meaning.specs.Flow.{Run}
 use Rattle.filt_meaning.specs.Meaning.{on_two, compare_of}

@@ -4,7 +4,7 @@ use Rattle.std.specs.Global.{Global}
 use Rattle.std.proofs.Math.Path.{fun_ext}
 use Rattle.std.proofs.lemmas.List.{take_all}
 use Rattle.attrs.specs.declared.attributes.Attrs.{Attrs}
-use Rattle.filt_syntax.specs.declared.ast.VariableType.{VariableType}
+use Rattle.conf_ast.specs.declared.filters.VariableType.{VariableType}
 use Rattle.conf_ast.specs.Configurations.{Routine}
 use Rattle.conf_ast.specs.Filters.{Statements}
 use Rattle.filt_values.specs.declared.fixed.Fixed.{Fixed}

@@ -12,7 +12,8 @@ ghost use Rattle.filt_tree.specs.Trees as trees;
 ghost use Rattle.filt_types.specs.Refusals.{first_in};
 ghost use Rattle.filt_types.specs.Seen.{scene_of, signature_of};
 ghost use Rattle.filt_types.specs.Weight.{block_weight};
-ghost use Rattle.filt_check.specs.Answers.{IsFault, of_filter, of_function, signature_in};
+ghost use Rattle.filt_check.specs.Answers.{IsFault};
+ghost use Rattle.filt_rules.specs.Refused.{of_filter, of_function, signature_in};
 ghost use Rattle.filt_check.specs.Seen.{where_act};
 
 use crate::blocks::resolve_block;
@@ -20,10 +21,10 @@ use crate::collect::{parameter_names, parameter_sorts};
 use crate::fault::{TypeFault, fault};
 use crate::resolve::resolve;
 use bits_ip::OutOfMemory;
+use conf_ast::filters::{Block, Expr, Filter, Function, Stmt};
 use filt_rules::{
     first_in_block, first_in_condition, first_in_function, sort_given, weigh_block, weigh_condition,
 };
-use filt_syntax::ast::{Block, Expr, Filter, Function, Stmt};
 use filt_tree::{Scope, TExpr, TFilter, TFunction, TStmt};
 use std::alloc::Global;
 

@@ -10,9 +10,9 @@ ghost use Rattle.filt_check.specs.Seen.{names_of, variables_of, name_of, sort_of
 ghost use Rattle.filt_check.specs.Seen.{otherwise_declares, parameter_sorts};
 
 use bits_ip::OutOfMemory;
+use conf_ast::filters::{Arm, Parameter, Stmt, VariableType};
 use conf_lex::Name;
 use filt_rules::type_sort;
-use filt_syntax::ast::{Arm, Parameter, Stmt, VariableType};
 use filt_values::Sort;
 use std::alloc::Global;
 

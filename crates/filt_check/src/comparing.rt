@@ -8,7 +8,7 @@ ghost use Rattle.filt_tree.specs.Trees.{Tables};
 ghost use Rattle.filt_values.specs.Operators.{pair_of};
 ghost use Rattle.filt_values.specs.Values.{VInt, VPair};
 
-use filt_syntax::ast::{Attribute, CompareOp, Property};
+use conf_ast::filters::{Attribute, CompareOp, Property};
 use filt_tree::{TAccess, TExpr, TTest};
 use filt_values::Fixed;
 

@@ -23,10 +23,10 @@ use crate::items::{mask_of, set_of};
 use crate::names::{function, named};
 use attrs::{Dest, Kind, Origin};
 use bits_ip::OutOfMemory;
-use conf_lex::{Name, bytes_at};
-use filt_syntax::ast::{
+use conf_ast::filters::{
     Access, AddOp, Atom, CompareOp, Constant, Expr, Item, LogicalOp, MaskItem, MethodKind, MulOp,
 };
+use conf_lex::{Name, bytes_at};
 use filt_tree::{Labels, Scope, TAccess, TExpr};
 use filt_values::Fixed;
 use std::alloc::Global;

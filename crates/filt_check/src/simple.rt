@@ -2,7 +2,7 @@
 
 ghost use Rattle.std.specs.Prelude.{◌≡◌, IfOk, Some, option_map};
 ghost use Rattle.conf_ast.specs.Filters.{expression_of, changed};
-ghost use Rattle.filt_syntax.specs.declared.ast.Target.TheVariants as targets;
+ghost use Rattle.conf_ast.specs.declared.filters.Target.TheVariants as targets;
 ghost use Rattle.filt_meaning.specs.Meaning as meaning;
 ghost use Rattle.filt_meaning.specs.Meaning.{act, assign, call, evaluate, initial, on_two};
 ghost use Rattle.filt_meaning.specs.Meaning.{on_value, read, set_target, value};
@@ -16,9 +16,9 @@ ghost use Rattle.filt_check.specs.Seen.{names_of, values_in};
 use crate::names::{function, named, place};
 use crate::resolve::{boxed, resolve, resolve_all};
 use bits_ip::OutOfMemory;
+use conf_ast::filters::{Change, Expr, MethodKind, Target, VariableType};
 use conf_lex::Name;
 use filt_rules::type_sort;
-use filt_syntax::ast::{Change, Expr, MethodKind, Target, VariableType};
 use filt_tree::{Scope, TExpr, TStmt, TTarget};
 use std::alloc::Global;
 

@@ -1,9 +1,9 @@
 //! The values of constants.
 use crate::items::{mask, number, set};
 use crate::route::bad;
+use conf_ast::configurations::{Literal, StringLiteral};
+use conf_ast::filters::Num;
 use conf_lex::bytes_at;
-use conf_tree::ast::{Literal, StringLiteral};
-use filt_syntax::ast::Num;
 use filt_tree::Scope;
 use filt_values::Fixed;
 use std::alloc::Global;

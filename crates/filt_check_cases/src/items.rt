@@ -1,8 +1,8 @@
 //! The sets and masks of constants.
 use crate::route::bad;
 use bits_ip::Addr;
+use conf_ast::filters::{Item, Lengths, MaskAtom, MaskItem, Num, NumRange, PairPart};
 use filt_sets::{Atom, IntItem, IntSet, Mask, PairItem, PairSet, PrefixItem, PrefixSet};
-use filt_syntax::ast::{Item, Lengths, MaskAtom, MaskItem, Num, NumRange, PairPart};
 use filt_tree::Scope;
 use filt_values::Fixed;
 use std::alloc::Global;

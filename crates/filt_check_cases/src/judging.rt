@@ -4,12 +4,12 @@
 //! protocols. What is run is the last filter or policy of all.
 use crate::constants::constant;
 use crate::route::bad;
-use conf_lex::Name;
-use conf_tree::ast::{
+use conf_ast::configurations::{
     Channel, ChannelOption, Config, Literal, Policy, Protocol, Statement, StaticOption,
 };
+use conf_ast::filters::{Filter, Function};
+use conf_lex::Name;
 use filt_check::{TypeFault, check_block, check_expr, check_filter, check_function};
-use filt_syntax::ast::{Filter, Function};
 use filt_tree::{Scope, TFilter};
 use indexmap::{IndexMap, IndexSet};
 use std::alloc::Global;

@@ -1,4 +1,5 @@
--- The lists of a route while a filter runs, as the definitions see them.
+-- For private contracts alone: the lists of a route while a filter runs, as the definitions see
+-- them.
 use Rattle.std.specs.Prelude.{ℕ, List}
 use Rattle.filt_comp.specs.declared.running.Numbers.{Numbers}
 use Rattle.filt_comp.specs.declared.running.Numbers.TheVariants as numbers

@@ -6,7 +6,7 @@ ghost use Rattle.filt_values.specs.Seen.{val_of, Answers, Builds};
 ghost use Rattle.filt_comp.specs.declared.chain.OfTwo.TheVariants as of_two;
 ghost use Rattle.filt_comp.specs.Seen.{decides, one_of, part_of, part_of_access, parts_of, two_of, Joined, Two};
 
-use filt_syntax::ast::{AddOp, CompareOp, LogicalOp, MethodKind, MulOp, Property};
+use conf_ast::filters::{AddOp, CompareOp, LogicalOp, MethodKind, MulOp, Property};
 use filt_tree::{TAccess, TExpr};
 use filt_values::{
     Failure, ListFailure, Value, add, delete, empty, equal, filter, first, greater,

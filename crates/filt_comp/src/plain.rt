@@ -21,8 +21,8 @@ use crate::running::Running;
 use crate::setting::Setting;
 use attrs::{Clist, Path};
 use bits_ip::Prefix;
+use conf_ast::filters::{Attribute, CompareOp, Property};
 use filt_sets::PrefixSet;
-use filt_syntax::ast::{Attribute, CompareOp, Property};
 use filt_tree::{TAccess, TExpr, TStmt, TTest};
 use filt_values::{Fixed, Value};
 

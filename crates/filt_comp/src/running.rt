@@ -17,7 +17,7 @@ use crate::parts::{dest, int, ip, origin};
 use crate::setting::Setting;
 use attrs::{Attrs, Clist, Dest, FilterFault, Kind, Origin, Path, Shared};
 use bits_ip::{Addr, OutOfMemory};
-use filt_syntax::ast::Attribute;
+use conf_ast::filters::Attribute;
 use filt_values::{Failure, ListFailure, Value};
 use std::alloc::Global;
 use std::marker::Model;

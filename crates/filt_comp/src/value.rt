@@ -19,7 +19,7 @@ use crate::run::call;
 use crate::running::Running;
 use crate::setting::Setting;
 use crate::stop::Stop;
-use filt_syntax::ast::{Attribute, CompareOp, LogicalOp, Property};
+use conf_ast::filters::{Attribute, CompareOp, LogicalOp, Property};
 use filt_tree::{TExpr, TTest};
 use filt_values::{ListFailure, Value, copy};
 

@@ -1,8 +1,8 @@
 use crate::samples::{filter, net, no_scope, one, route};
 use attrs::{Names, Verdict};
 use bits_ip::OutOfMemory;
+use conf_ast::filters::{AddOp, Attribute};
 use filt_comp::run_tree;
-use filt_syntax::ast::{AddOp, Attribute};
 use filt_tree::{Scope, TExpr, TFunction, TStmt, TTarget};
 use filt_values::{Fixed, Sort};
 use std::alloc::Global;

@@ -14,14 +14,14 @@ use Rattle.conf_lex.specs.declared.attribute.Attribute.{Attribute}
 use Rattle.conf_lex.specs.declared.attribute.Attribute.TheVariants as attributes
 use Rattle.conf_lex.specs.declared.attribute.Constant.{Constant}
 use Rattle.conf_lex.specs.declared.attribute.Constant.TheVariants as constants
-use Rattle.filt_syntax.specs.declared.ast.Item.{Item}
-use Rattle.filt_syntax.specs.declared.ast.Method.{Method}
-use Rattle.filt_syntax.specs.declared.ast.Atom.{Atom}
-use Rattle.filt_syntax.specs.declared.ast.Atom.TheVariants as atoms
-use Rattle.filt_syntax.specs.declared.ast.Target.{Target}
-use Rattle.filt_syntax.specs.declared.ast.Target.TheVariants as targets
-use Rattle.filt_syntax.specs.declared.ast.VariableType.{VariableType}
-use Rattle.filt_syntax.specs.declared.ast.VariableType.TheVariants as types
+use Rattle.conf_ast.specs.declared.filters.Item.{Item}
+use Rattle.conf_ast.specs.declared.filters.Method.{Method}
+use Rattle.conf_ast.specs.declared.filters.Atom.{Atom}
+use Rattle.conf_ast.specs.declared.filters.Atom.TheVariants as atoms
+use Rattle.conf_ast.specs.declared.filters.Target.{Target}
+use Rattle.conf_ast.specs.declared.filters.Target.TheVariants as targets
+use Rattle.conf_ast.specs.declared.filters.VariableType.{VariableType}
+use Rattle.conf_ast.specs.declared.filters.VariableType.TheVariants as types
 use Rattle.conf_ast.specs.Filters.{Expression, Plain, Grouped, Expressions, Statement, Braced, Nothing, Declare, Assign, ChangeBy, Clear, Unset, If, IfElse, Case, CaseElse, For, Accept, Reject, Return, Print, Printn, Call, Statements, NoStatements, AndStatements, Arms, NoArms, AndArms}
 use Rattle.filt_values.specs.declared.value.Failure.{Failure}
 use Rattle.filt_values.specs.declared.value.Sort.{Sort}

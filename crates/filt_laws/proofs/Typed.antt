@@ -8,12 +8,12 @@ use Rattle.conf_lex.specs.declared.attribute.Attribute.{Attribute}
 use Rattle.conf_lex.specs.declared.attribute.Attribute.TheVariants as attributes
 use Rattle.conf_lex.specs.declared.attribute.Constant.{Constant}
 use Rattle.conf_lex.specs.declared.attribute.Constant.TheVariants as constants
-use Rattle.filt_syntax.specs.declared.ast.Item.{Item}
-use Rattle.filt_syntax.specs.declared.ast.LogicalOp.{LogicalOp}
-use Rattle.filt_syntax.specs.declared.ast.LogicalOp.TheVariants as logical_ops
-use Rattle.filt_syntax.specs.declared.ast.MaskItem.{MaskItem}
-use Rattle.filt_syntax.specs.declared.ast.Atom.{Atom}
-use Rattle.filt_syntax.specs.declared.ast.Atom.TheVariants as atoms
+use Rattle.conf_ast.specs.declared.filters.Item.{Item}
+use Rattle.conf_ast.specs.declared.filters.LogicalOp.{LogicalOp}
+use Rattle.conf_ast.specs.declared.filters.LogicalOp.TheVariants as logical_ops
+use Rattle.conf_ast.specs.declared.filters.MaskItem.{MaskItem}
+use Rattle.conf_ast.specs.declared.filters.Atom.{Atom}
+use Rattle.conf_ast.specs.declared.filters.Atom.TheVariants as atoms
 use Rattle.conf_ast.specs.Filters.{Expression, Plain, Named, Called, Grouped, Paired, SetOf, MaskOf, IsDefined, MethodOf, PropertyOf, Changed, Negated, Multiplied, Added, Compared, Joined, Expressions, NoExpressions, AndExpressions}
 use Rattle.filt_values.specs.declared.value.Failure.{Failure}
 use Rattle.filt_values.specs.declared.value.Sort.{Sort}

@@ -1,5 +1,9 @@
--- What the rules of types have seen behind statements of a configuration, beside what runs there:
--- a constant has the value that it has there, a function is seen by its signature.
+-- For the laws: what the rules of types have seen behind statements of a configuration
+-- (`seen_behind`), beside what runs there: a constant has the value that it has there, a function
+-- is seen by its signature.
+-- From: own.
+-- Example: behind `function f() -> int { return 1; }` a function without parameters that gives a
+-- number.
 use Rattle.std.specs.Prelude.{ℕ, List, [], ◌∷◌, ◌++◌, Option, Some, None, Result, Ok, Err}
 use Rattle.conf_lex.specs.declared.named.Name.{Name}
 use Rattle.conf_lex.specs.Names.{name_bytes}

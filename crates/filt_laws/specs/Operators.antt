@@ -1,5 +1,5 @@
--- What the laws of values say of each operator, for the laws of filters: which sorts it takes, and
--- of which sort its value is.
+-- For private contracts alone: what the laws of values say of each operator, for the laws of
+-- filters: which sorts it takes, and of which sort its value is.
 use Rattle.filt_values.specs.Operators.{added_of, deleted_of, emptied_of, equal_of, filtered_of}
 use Rattle.filt_values.specs.Operators.{first_of, greater_of, greater_or_equal_of, ip_of, last_of}
 use Rattle.filt_values.specs.Operators.{len_of, less_of, less_or_equal_of, matches_not_of}

@@ -1,8 +1,10 @@
--- What the types of filters promise: which reasons a run stops for, what a function gives, and when
--- what runs is what the rules of types have seen.
+-- For the laws: what the types of filters promise: which reasons a run stops for, what a function
+-- gives (`IsOfSignature`), and when what runs is what the rules of types have seen (`Agrees`).
+-- From: own.
+-- Example: a function with `-> int` gives a number, or ends the filter.
 use Rattle.std.specs.Prelude.{◌≡◌, ℕ, List, [], ◌∷◌, map, Option, Some, None, ⊤}
 use Rattle.attrs.specs.declared.attributes.Attrs.{Attrs}
-use Rattle.filt_syntax.specs.declared.ast.Parameter.{Parameter}
+use Rattle.conf_ast.specs.declared.filters.Parameter.{Parameter}
 use Rattle.conf_ast.specs.Configurations.{Routine}
 use Rattle.filt_values.specs.declared.value.Sort.{Sort}
 use Rattle.filt_values.specs.Values.{Val, sort_of}

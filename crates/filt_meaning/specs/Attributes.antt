@@ -1,4 +1,7 @@
--- Reading and changing the attributes of a route, and the constants of their values.
+-- Reading, assigning and unsetting each attribute of a route (`attribute_of`, `is_defined`,
+-- `with_attribute`, `without_attribute`), and the constants of their values.
+-- From: BIRD User's Guide, "Filters", "Route attributes"; where the guide is silent, own.
+-- Example: `dest = RTD_BLACKHOLE` takes the gateway away, `unset(bgp_path)` leaves an empty path.
 use Rattle.std.specs.Prelude.{Bool, true, false, [], Option, Some, None, Result, Ok, Err, get_or}
 use Rattle.attrs.specs.declared.attributes.Attrs.{Attrs}
 use Rattle.attrs.specs.declared.attributes.Kind.TheVariants as kinds

@@ -1,4 +1,7 @@
--- What functions and filters of a configuration do, and what a filter says of a route.
+-- What constants, functions and filters of a configuration come to (`constant`, `doing`, `behind`),
+-- and what a filter says of a route (`verdict`, `verdict_where`).
+-- From: BIRD User's Guide, "Filters"; where the guide is silent, own.
+-- Example: the three filters of Worked, by the law `worked_filters`.
 use Rattle.std.specs.Prelude.{ℕ, true, false, List, [], ◌∷◌, ◌++◌, map, Option, Some, None, Result, Ok, Err, take, drop}
 use Rattle.bits_ip.specs.Prefix.{Net}
 use Rattle.attrs.specs.declared.attributes.Attrs.{Attrs}
@@ -7,7 +10,7 @@ use Rattle.attrs.specs.declared.judge.Verdict.{Verdict}
 use Rattle.attrs.specs.declared.judge.Verdict.TheVariants as verdicts
 use Rattle.attrs.specs.declared.route.Route.{Route}
 use Rattle.conf_lex.specs.Names.{name_bytes}
-use Rattle.filt_syntax.specs.declared.ast.Parameter.{Parameter}
+use Rattle.conf_ast.specs.declared.filters.Parameter.{Parameter}
 use Rattle.conf_ast.specs.Configurations as conf
 use Rattle.conf_ast.specs.Filters.{Expression, If, Accept, Reject, Statements, NoStatements, AndStatements}
 use Rattle.filt_values.specs.declared.value.Failure.{Failure}

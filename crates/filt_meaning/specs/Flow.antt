@@ -1,6 +1,9 @@
--- How the run of a filter goes on. That operands are evaluated from left to right, that the first
--- fault counts, and that `accept` ends a filter from within a function are all `and_then`: what
--- stopped stays stopped.
+-- How the run of a filter goes on (`Flow`): done with something, or stopped for a reason, with the
+-- attributes as they then are. That operands are evaluated from left to right, that the first fault
+-- counts, and that `accept` ends a filter from within a function are all `and_then`: what stopped
+-- stays stopped.
+-- From: own.
+-- Example: behind `1 / 0` no `accept` is reached.
 use Rattle.std.specs.Prelude.{List, Result, Ok, Err}
 use Rattle.attrs.specs.declared.attributes.Attrs.{Attrs}
 use Rattle.attrs.specs.declared.judge.FilterFault.{FilterFault}

@@ -1,5 +1,7 @@
--- For the laws: that a form of two operands evaluates them from left to right, and what an
--- attribute is that was unset.
+-- For the laws: that a form of two operands evaluates them from left to right (`GoesFromLeft`), and
+-- what an attribute is that was unset (`IsGone`).
+-- From: own.
+-- Example: `1 / 0 + f()` doesn't call `f`.
 use Rattle.std.specs.Prelude.{◌≡◌, false, []}
 use Rattle.attrs.specs.declared.attributes.Attrs.{Attrs}
 use Rattle.conf_lex.specs.declared.attribute.Attribute.{Attribute}

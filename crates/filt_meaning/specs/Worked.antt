@@ -1,15 +1,16 @@
--- Filters that are worked by hand, as abstract syntax over the text `ginx`, of which each letter
--- is a name. The law `worked_filters` tells what they say.
+-- Filters that are worked by hand, as abstract syntax over the text `ginx`, of which each letter is
+-- a name. The law `worked_filters` tells what they say.
+-- From: own.
 use Rattle.std.specs.Prelude.{ℕ, List, [], ◌∷◌, Some, None, codes}
 use Rattle.conf_lex.specs.declared.named.Name.{Name}
 use Rattle.conf_lex.specs.declared.attribute.Attribute.{Attribute}
 use Rattle.conf_lex.specs.declared.attribute.Attribute.TheVariants as attributes
-use Rattle.filt_syntax.specs.declared.ast.CompareOp.TheVariants as compare_ops
-use Rattle.filt_syntax.specs.declared.ast.MethodKind.TheVariants as methods
-use Rattle.filt_syntax.specs.declared.ast.Atom.TheVariants as atoms
-use Rattle.filt_syntax.specs.declared.ast.Target.TheVariants as targets
-use Rattle.filt_syntax.specs.declared.ast.AddOp.TheVariants as add_ops
-use Rattle.filt_syntax.specs.declared.ast.VariableType.TheVariants as types
+use Rattle.conf_ast.specs.declared.filters.CompareOp.TheVariants as compare_ops
+use Rattle.conf_ast.specs.declared.filters.MethodKind.TheVariants as methods
+use Rattle.conf_ast.specs.declared.filters.Atom.TheVariants as atoms
+use Rattle.conf_ast.specs.declared.filters.Target.TheVariants as targets
+use Rattle.conf_ast.specs.declared.filters.AddOp.TheVariants as add_ops
+use Rattle.conf_ast.specs.declared.filters.VariableType.TheVariants as types
 use Rattle.conf_ast.specs.Configurations.{Declaration, DefineFunction}
 use Rattle.conf_ast.specs.Filters.{Expression, Plain, Named, Called, Added, Compared, NoExpressions, Statement, Braced, Declare, Assign, ChangeBy, If, For, Accept, Reject, Return, Statements, statements}
 

@@ -10,7 +10,7 @@ mod routes;
 use crate::routes::{bad, routes};
 use attrs::{Names, Route, Verdict};
 use bits_ip::{OutOfMemory, Prefix, parse_decimal};
-use conf_tree::ast::{Config, Statement};
+use conf_ast::configurations::{Config, Statement};
 use conf_tree::read_config;
 use filt_check::check_filter;
 use filt_comp::run_tree;

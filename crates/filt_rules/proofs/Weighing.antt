@@ -1,15 +1,15 @@
 -- The weight of each form that has a list, and of the statements with parts.
 use Rattle.std.proofs.Common.{◌≡◌, ℕ, arith, ◌+◌, List, [], ◌∷◌, Option, Some, None, ap, Vec}
 use Rattle.std.specs.Global.{Global}
-use Rattle.filt_syntax.specs.declared.ast.Access.{Access}
-use Rattle.filt_syntax.specs.declared.ast.Access.TheVariants as accesses
-use Rattle.filt_syntax.specs.declared.ast.Arm.{Arm}
-use Rattle.filt_syntax.specs.declared.ast.Expr.{Expr}
-use Rattle.filt_syntax.specs.declared.ast.MulOp.{MulOp}
-use Rattle.filt_syntax.specs.declared.ast.LogicalOp.{LogicalOp}
-use Rattle.filt_syntax.specs.declared.ast.Stmt.{Stmt}
-use Rattle.filt_syntax.specs.declared.ast.Stmt.TheVariants as s
-use Rattle.filt_syntax.specs.declared.ast.AddOp.{AddOp}
+use Rattle.conf_ast.specs.declared.filters.Access.{Access}
+use Rattle.conf_ast.specs.declared.filters.Access.TheVariants as accesses
+use Rattle.conf_ast.specs.declared.filters.Arm.{Arm}
+use Rattle.conf_ast.specs.declared.filters.Expr.{Expr}
+use Rattle.conf_ast.specs.declared.filters.MulOp.{MulOp}
+use Rattle.conf_ast.specs.declared.filters.LogicalOp.{LogicalOp}
+use Rattle.conf_ast.specs.declared.filters.Stmt.{Stmt}
+use Rattle.conf_ast.specs.declared.filters.Stmt.TheVariants as s
+use Rattle.conf_ast.specs.declared.filters.AddOp.{AddOp}
 use Rattle.conf_ast.specs.Filters.{Expression, PropertyOf, Changed, Multiplied, Added, Joined, multiplied, added, joined, accessed, expression_of, statement_of, Statement}
 use Rattle.filt_rules.specs.Passes.{access_weight, else_of}
 use Rattle.filt_types.specs.Scenes.{Scene}

@@ -1,14 +1,14 @@
--- What the passes over statements keep while they go, and parts of trees, as the definitions see
--- them. What is refused and what filters weigh rests on nothing here.
+-- For private contracts alone: what the passes over statements keep while they go, and parts of
+-- trees, as the definitions see them. What is refused and what filters weigh rests on nothing here.
 use Rattle.std.specs.Prelude.{ℕ, ◌+◌, true, not, List, [], ◌∷◌, ◌++◌, length, Option, Some, None}
 use Rattle.std.specs.Prelude.{Vec}
 use Rattle.std.specs.Global.{Global}
 use Rattle.conf_lex.specs.declared.named.Name.{Name}
-use Rattle.filt_syntax.specs.declared.ast.Access.{Access}
-use Rattle.filt_syntax.specs.declared.ast.Access.TheVariants as accesses
-use Rattle.filt_syntax.specs.declared.ast.Expr.{Expr}
-use Rattle.filt_syntax.specs.declared.ast.Stmt.{Stmt}
-use Rattle.filt_syntax.specs.declared.ast.VariableType.{VariableType}
+use Rattle.conf_ast.specs.declared.filters.Access.{Access}
+use Rattle.conf_ast.specs.declared.filters.Access.TheVariants as accesses
+use Rattle.conf_ast.specs.declared.filters.Expr.{Expr}
+use Rattle.conf_ast.specs.declared.filters.Stmt.{Stmt}
+use Rattle.conf_ast.specs.declared.filters.VariableType.{VariableType}
 use Rattle.conf_ast.specs.Filters.{expression_of, Statement, Braced, Declare, Assign, ChangeBy}
 use Rattle.conf_ast.specs.Filters.{Clear, Unset, If, IfElse, Case, CaseElse, For, Return, Print}
 use Rattle.conf_ast.specs.Filters.{Printn, Call, Statements, NoStatements, statements_of}

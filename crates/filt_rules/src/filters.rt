@@ -14,7 +14,7 @@ ghost use Rattle.filt_types.specs.Weight.{block_weight, capped, too_heavy};
 use crate::statements::{Around, check_all, declare, seen_at, type_sort, want_bool};
 use crate::weight::{weigh_block, weigh_condition};
 use bits_ip::OutOfMemory;
-use filt_syntax::ast::{Block, Expr, Function, Parameter, VariableType};
+use conf_ast::filters::{Block, Expr, Function, Parameter, VariableType};
 use filt_tree::Scope;
 use filt_types::{Cause, Refusal, Seen, Variable, declaring, note_if};
 use filt_values::Sort;

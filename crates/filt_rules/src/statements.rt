@@ -19,8 +19,8 @@ ghost use Rattle.filt_types.specs.Walk.{all_judged, arms_of, common_seen, judged
 
 use crate::targets::{check_assign, check_change, check_unset, check_value, is_list};
 use bits_ip::OutOfMemory;
+use conf_ast::filters::{Arm, Expr, Item, Stmt, VariableType};
 use conf_lex::Name;
-use filt_syntax::ast::{Arm, Expr, Item, Stmt, VariableType};
 use filt_tree::Scope;
 use filt_types::{
     Cause, Common, Refusal, Seen, Variable, all_items, call, declaring, differ, has_other_sort, is,

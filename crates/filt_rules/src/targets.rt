@@ -2,8 +2,8 @@
 
 ghost use Rattle.std.specs.Prelude.{◌≡◌, ◌++◌, not, if◌then◌else◌, Option};
 ghost use Rattle.conf_ast.specs.Filters.{expression_of, changed as change_of};
-ghost use Rattle.filt_syntax.specs.declared.ast.Target.{Target};
-ghost use Rattle.filt_syntax.specs.declared.ast.Target.TheVariants as targets;
+ghost use Rattle.conf_ast.specs.declared.filters.Target.{Target};
+ghost use Rattle.conf_ast.specs.declared.filters.Target.TheVariants as targets;
 ghost use Rattle.filt_values.specs.declared.value.Sort.{Sort};
 ghost use Rattle.filt_values.specs.Sorts.{one_list};
 ghost use Rattle.filt_types.specs.declared.refusal.Cause.TheVariants as causes;
@@ -15,8 +15,8 @@ ghost use Rattle.filt_types.specs.Seen.{scene_in, variable_seen, variables_in};
 ghost use Rattle.filt_types.specs.Statements as statements;
 ghost use Rattle.filt_types.specs.Walk.{judged_of};
 
+use conf_ast::filters::{Attribute, Change, Constant, Expr, Method, Target};
 use conf_lex::Name;
-use filt_syntax::ast::{Attribute, Change, Constant, Expr, Method, Target};
 use filt_types::{
     Cause, Judged, Operator, Refusal, Seen, Variable, attribute_sort, constant_named,
     constant_word, is, judge, note, note_if, variable_named, want_sort, with_right,

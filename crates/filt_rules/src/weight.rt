@@ -1,7 +1,7 @@
 //! How much filters weigh. Sums stop at 2^127.
 
 ghost use Rattle.std.specs.Prelude.{◌≡◌, ◌+◌, ◌*◌, ◌≤◌, ◌^◌, min, option_map};
-ghost use Rattle.filt_syntax.specs.declared.ast.Target.{Target};
+ghost use Rattle.conf_ast.specs.declared.filters.Target.{Target};
 ghost use Rattle.conf_ast.specs.Filters.{multiplied, added, joined, accessed, changed};
 ghost use Rattle.conf_ast.specs.Filters.{expression_of, expressions_of, statement_of};
 ghost use Rattle.conf_ast.specs.Filters.{statements_of, block_of};
@@ -13,8 +13,8 @@ ghost use Rattle.filt_types.specs.Walk.{accesses_of, arms_of, operands_of};
 ghost use Rattle.filt_types.specs.Weight.{weight, weights, optional, act_weight, acts_weight};
 ghost use Rattle.filt_types.specs.Weight.{arms_weight, block_weight, of_function, capped};
 
+use conf_ast::filters::{Access, AddOp, Arm, Block, Change, Expr, LogicalOp, MulOp, Stmt};
 use conf_lex::Name;
-use filt_syntax::ast::{Access, AddOp, Arm, Block, Change, Expr, LogicalOp, MulOp, Stmt};
 use filt_tree::Scope;
 use filt_types::{Seen, function_named};
 

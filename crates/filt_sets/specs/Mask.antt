@@ -1,4 +1,8 @@
--- Which paths a mask matches.
+-- Which paths a mask matches (`IsCut`): those that can be cut into runs of AS numbers, one for each
+-- item, that the items take (`IsElement`, `AreElements`, `IsPiece`).
+-- From: BIRD User's Guide, "Filters", "Data types", `bgpmask`.
+-- Example: `[= * 4 3 * =]` matches 4 3 2 1; `[= 1 2+ 3 =]` matches 1 2 2 2 3, not 1 3; `[= * =]`
+-- matches each path.
 use Rattle.std.specs.Prelude.{◌≡◌, ℕ, ◌<◌, ◌≤◌, Bool, true, false, ⊤}
 use Rattle.std.specs.Prelude.{List, [], ◌∷◌, ◌++◌, length, All}
 use Rattle.std.specs.List.{concat}

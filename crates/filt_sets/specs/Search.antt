@@ -1,4 +1,5 @@
--- How the code searches sets and masks: nothing that is promised.
+-- How the code searches sets and masks: nothing that is promised. Of `cuts`, which filt_values
+-- names, a law says that it is `IsCut` of Mask.
 use Rattle.std.specs.Prelude.{◌≡◌, ℕ, ◌<◌, ◌≤◌, ◌==◌, nat_le, nat_lt, if◌then◌else◌, ⊤}
 use Rattle.std.specs.Prelude.{Bool, true, false, ◌&&◌, ◌||◌}
 use Rattle.std.specs.Prelude.{List, [], ◌∷◌, length, take, drop, slice_index_or, All}

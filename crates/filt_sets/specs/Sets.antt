@@ -1,4 +1,8 @@
--- Which numbers, pairs and prefixes an item of a set takes.
+-- Which numbers, pairs and prefixes an item of a set takes (`TakesInt`, `TakesPair`, `TakesNet`); a
+-- set has what some item takes (std's `Any`).
+-- From: BIRD User's Guide, "Filters", "Data types", `prefix set`.
+-- Example: `[0.0.0.0/0{20,24}]` has 198.18.32.0/20 and 198.18.48.0/24, not 198.18.0.0/19 and
+-- 198.18.49.0/25; `[1.0.0.0/8-]` hasn't 1.0.0.0/16.
 use Rattle.std.specs.Prelude.{◌≡◌, ℕ, ◌≤◌, min}
 use Rattle.bits_ip.specs.Address.{family_of}
 use Rattle.bits_ip.specs.Prefix.{Net, front_bits}

@@ -12,21 +12,21 @@ use Rattle.filt_sets.specs.declared.pairs.PairItem.{PairItem}
 use Rattle.filt_sets.specs.declared.prefixes.PrefixItem.{PrefixItem}
 use Rattle.conf_lex.specs.declared.attribute.Attribute.{Attribute}
 use Rattle.conf_lex.specs.declared.attribute.Attribute.TheVariants as attributes
-use Rattle.filt_syntax.specs.declared.ast.CompareOp.{CompareOp}
-use Rattle.filt_syntax.specs.declared.ast.CompareOp.TheVariants as compare_ops
+use Rattle.conf_ast.specs.declared.filters.CompareOp.{CompareOp}
+use Rattle.conf_ast.specs.declared.filters.CompareOp.TheVariants as compare_ops
 use Rattle.conf_lex.specs.declared.attribute.Constant.{Constant}
 use Rattle.conf_lex.specs.declared.attribute.Constant.TheVariants as constants
-use Rattle.filt_syntax.specs.declared.ast.MulOp.{MulOp}
-use Rattle.filt_syntax.specs.declared.ast.MulOp.TheVariants as mul_ops
-use Rattle.filt_syntax.specs.declared.ast.Item.{Item}
-use Rattle.filt_syntax.specs.declared.ast.Item.TheVariants as items
-use Rattle.filt_syntax.specs.declared.ast.MaskItem.{MaskItem}
-use Rattle.filt_syntax.specs.declared.ast.MethodKind.{MethodKind}
-use Rattle.filt_syntax.specs.declared.ast.MethodKind.TheVariants as methods
-use Rattle.filt_syntax.specs.declared.ast.Property.{Property}
-use Rattle.filt_syntax.specs.declared.ast.Property.TheVariants as properties
-use Rattle.filt_syntax.specs.declared.ast.AddOp.{AddOp}
-use Rattle.filt_syntax.specs.declared.ast.AddOp.TheVariants as add_ops
+use Rattle.conf_ast.specs.declared.filters.MulOp.{MulOp}
+use Rattle.conf_ast.specs.declared.filters.MulOp.TheVariants as mul_ops
+use Rattle.conf_ast.specs.declared.filters.Item.{Item}
+use Rattle.conf_ast.specs.declared.filters.Item.TheVariants as items
+use Rattle.conf_ast.specs.declared.filters.MaskItem.{MaskItem}
+use Rattle.conf_ast.specs.declared.filters.MethodKind.{MethodKind}
+use Rattle.conf_ast.specs.declared.filters.MethodKind.TheVariants as methods
+use Rattle.conf_ast.specs.declared.filters.Property.{Property}
+use Rattle.conf_ast.specs.declared.filters.Property.TheVariants as properties
+use Rattle.conf_ast.specs.declared.filters.AddOp.{AddOp}
+use Rattle.conf_ast.specs.declared.filters.AddOp.TheVariants as add_ops
 use Rattle.filt_values.specs.declared.value.Failure.{Failure}
 use Rattle.filt_values.specs.declared.value.Sort.{Sort}
 use Rattle.filt_values.specs.declared.value.Sort.TheVariants as sorts

@@ -5,8 +5,8 @@ use Rattle.std.proofs.lemmas.List.Elements.{All-nil, All-append, All-head, All-p
 use Rattle.std.proofs.Math.Nat.{mul-le-mul_right, suc-mul}
 use Rattle.attrs.specs.declared.attributes.Attrs.{Attrs}
 use Rattle.conf_lex.specs.Names.{name_bytes}
-use Rattle.filt_syntax.specs.declared.ast.LogicalOp.{LogicalOp}
-use Rattle.filt_syntax.specs.declared.ast.LogicalOp.TheVariants as logical_ops
+use Rattle.conf_ast.specs.declared.filters.LogicalOp.{LogicalOp}
+use Rattle.conf_ast.specs.declared.filters.LogicalOp.TheVariants as logical_ops
 use Rattle.conf_ast.specs.Configurations.{Routine}
 use Rattle.conf_ast.specs.Filters.{Expression, Plain, Named, Called, Grouped, Paired, SetOf, MaskOf, IsDefined, MethodOf, PropertyOf, Changed, Negated, Multiplied, Added, Compared, Joined, Expressions, NoExpressions, AndExpressions, Statement, Braced, Nothing, Declare, Assign, ChangeBy, Clear, Unset, If, IfElse, Case, CaseElse, For, Accept, Reject, Return, Print, Printn, Call, Statements, NoStatements, AndStatements, Arms, NoArms, AndArms}
 use Rattle.filt_values.specs.declared.value.Failure.{Failure}

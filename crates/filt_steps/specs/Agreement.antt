@@ -1,4 +1,7 @@
--- A scene, by which filters are weighed, and a context, over which they are run, that agree.
+-- For the laws: a scene, by which filters are weighed, and a context, over which they are run, that
+-- agree (`Agree`).
+-- From: own.
+-- Example: a function that is run is one that is weighed, with at least as much as its steps.
 use Rattle.std.specs.Prelude.{◌≡◌, ℕ, ◌≤◌, List, [], ◌∷◌, ◌++◌, ⊤}
 use Rattle.attrs.specs.declared.attributes.Attrs.{Attrs}
 use Rattle.filt_meaning.specs.Flow.{Frame}

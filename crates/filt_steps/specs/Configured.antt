@@ -1,8 +1,10 @@
--- The functions of a configuration, as they are counted and weighed: each behind those before it,
--- over what it sees.
+-- For the laws: the functions of a configuration, as they are counted and weighed (`counts_behind`,
+-- `weighed_behind`): each behind those before it, over what it sees.
+-- From: own.
+-- Example: a function that calls one before it weighs what that one weighs too.
 use Rattle.std.specs.Prelude.{ℕ, List, [], ◌∷◌, ◌++◌, map}
 use Rattle.conf_lex.specs.Names.{name_bytes}
-use Rattle.filt_syntax.specs.declared.ast.Parameter.{Parameter}
+use Rattle.conf_ast.specs.declared.filters.Parameter.{Parameter}
 use Rattle.conf_ast.specs.Configurations.{Routine, Declaration, DefineFunction}
 use Rattle.filt_meaning.specs.Configuration.{behind_one}
 use Rattle.filt_meaning.specs.Names.{Context, sort_of_type}

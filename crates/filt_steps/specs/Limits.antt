@@ -1,5 +1,8 @@
--- Values within their limits: a path has at most 120 numbers, and a list of communities at most 64
--- pairs, as the paths and lists of each route in memory have (`Path` and `Clist` of attrs).
+-- For the laws: values within their limits (`IsWithin`): a path has at most 120 numbers, and a list
+-- of communities at most 64 pairs, as the paths and lists of each route in memory have (`Path` and
+-- `Clist` of attrs).
+-- From: own.
+-- Example: a path of 121 numbers isn't within them.
 use Rattle.std.specs.Prelude.{◌≤◌, length, All, IfSome, ⊤}
 use Rattle.attrs.specs.declared.attributes.Attrs.{Attrs}
 use Rattle.filt_values.specs.Values.{Val, VPath, VClist}

@@ -1,16 +1,17 @@
--- How many steps the run of a filter takes: each expression and each statement that is run is one
--- step. What is behind a stop isn't run. First what each form counts, of what its parts count; then
--- the functions on the abstract syntax, a line for each of its forms, beside those of
--- filt_meaning/specs/Meaning.
--- A target, the items of a set or a mask and the labels of an arm are no expressions: they are read
--- in the step of what they stand in.
+-- For the laws: how many steps the run of a filter takes (`steps`, `act_steps`, a line for each
+-- form): each expression and each statement that is run is one step. What is behind a stop isn't
+-- run. First what each form counts, of what its parts count; then the functions on the abstract
+-- syntax, beside those of filt_meaning/specs/Meaning. A target, the items of a set or a mask and
+-- the labels of an arm are no expressions: they are read in the step of what they stand in.
+-- From: own.
+-- Example: `a && b` takes one step and those of `a`, and those of `b` where `a` holds.
 use Rattle.std.specs.Prelude.{ℕ, ◌+◌, Bool, true, false, List, [], ◌∷◌, ◌++◌, length, take, Option}
 use Rattle.std.specs.Prelude.{Some, None, Result}
 use Rattle.attrs.specs.declared.attributes.Attrs.{Attrs}
 use Rattle.conf_lex.specs.declared.named.Name.{Name}
 use Rattle.conf_lex.specs.Names.{name_bytes}
-use Rattle.filt_syntax.specs.declared.ast.LogicalOp.{LogicalOp}
-use Rattle.filt_syntax.specs.declared.ast.LogicalOp.TheVariants as logical_ops
+use Rattle.conf_ast.specs.declared.filters.LogicalOp.{LogicalOp}
+use Rattle.conf_ast.specs.declared.filters.LogicalOp.TheVariants as logical_ops
 use Rattle.conf_ast.specs.Configurations.{Routine}
 use Rattle.conf_ast.specs.Filters.{Expression, Plain, Named, Called, Grouped, Paired, SetOf, MaskOf}
 use Rattle.conf_ast.specs.Filters.{IsDefined, MethodOf, PropertyOf, Changed, Negated, Multiplied}

@@ -17,8 +17,8 @@ use Rattle.conf_lex.proofs.Good.{or_false}
 use Rattle.conf_lex.proofs.Good.{fits_front}
 use Rattle.conf_lex.proofs.Chains.{turn, full_words}
 use Rattle.std.proofs.lemmas.List.{length-append}
-use Rattle.filt_syntax.specs.declared.ast.Arm.{Arm}
-use Rattle.filt_syntax.specs.declared.ast.Stmt.{Stmt}
+use Rattle.conf_ast.specs.declared.filters.Arm.{Arm}
+use Rattle.conf_ast.specs.declared.filters.Stmt.{Stmt}
 use Rattle.filt_syntax.specs.ItemView.{label_tree}
 use Rattle.conf_lex.proofs.PartShapes.{fails_then, fails_along, then_then, word_bad, bool_cases, refuses}
 use Rattle.filt_syntax.specs.Syntax.{optional, is_num, pair_item, prefix_item, item, unnamed_item, label_end, label_of_name, label, done_to_name, unnamed_stmt, arm_part, stmt, rule}

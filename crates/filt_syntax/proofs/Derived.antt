@@ -12,22 +12,22 @@ use Rattle.conf_lex.specs.Reading.{Read, Parsed, and_then}
 use Rattle.conf_lex.specs.Leaves.{symbol_leaf}
 use Rattle.conf_lex.specs.Agrees.{Agrees}
 use Rattle.conf_lex.proofs.PartShapes.{fails_then, fails_along}
-use Rattle.filt_syntax.specs.declared.ast.Atom.{Atom}
+use Rattle.conf_ast.specs.declared.filters.Atom.{Atom}
 use Rattle.conf_lex.specs.declared.attribute.Attribute.{Attribute}
-use Rattle.filt_syntax.specs.declared.ast.Item.{Item}
-use Rattle.filt_syntax.specs.declared.ast.MaskItem.{MaskItem}
-use Rattle.filt_syntax.specs.declared.ast.Method.{Method}
-use Rattle.filt_syntax.specs.declared.ast.Access.{Access}
-use Rattle.filt_syntax.specs.declared.ast.Access.TheVariants as accesses
-use Rattle.filt_syntax.specs.declared.ast.MulOp.{MulOp}
-use Rattle.filt_syntax.specs.declared.ast.AddOp.{AddOp}
-use Rattle.filt_syntax.specs.declared.ast.CompareOp.{CompareOp}
-use Rattle.filt_syntax.specs.declared.ast.LogicalOp.{LogicalOp}
-use Rattle.filt_syntax.specs.declared.ast.Expr.{Expr, the_lemmas, fold-Expr}
-use Rattle.filt_syntax.specs.declared.ast.Expr.TheVariants as exprs
-use Rattle.filt_syntax.specs.declared.ast.Expr.TheFolds.{fold_out-Expr}
-use Rattle.filt_syntax.specs.declared.ast.Expr.TheShapes.{former-Expr-Postfix-1-at-4}
-use Rattle.filt_syntax.specs.declared.ast.Expr.TheOpen.{Expr-F}
+use Rattle.conf_ast.specs.declared.filters.Item.{Item}
+use Rattle.conf_ast.specs.declared.filters.MaskItem.{MaskItem}
+use Rattle.conf_ast.specs.declared.filters.Method.{Method}
+use Rattle.conf_ast.specs.declared.filters.Access.{Access}
+use Rattle.conf_ast.specs.declared.filters.Access.TheVariants as accesses
+use Rattle.conf_ast.specs.declared.filters.MulOp.{MulOp}
+use Rattle.conf_ast.specs.declared.filters.AddOp.{AddOp}
+use Rattle.conf_ast.specs.declared.filters.CompareOp.{CompareOp}
+use Rattle.conf_ast.specs.declared.filters.LogicalOp.{LogicalOp}
+use Rattle.conf_ast.specs.declared.filters.Expr.{Expr, the_lemmas, fold-Expr}
+use Rattle.conf_ast.specs.declared.filters.Expr.TheVariants as exprs
+use Rattle.conf_ast.specs.declared.filters.Expr.TheFolds.{fold_out-Expr}
+use Rattle.conf_ast.specs.declared.filters.Expr.TheShapes.{former-Expr-Postfix-1-at-4}
+use Rattle.conf_ast.specs.declared.filters.Expr.TheOpen.{Expr-F}
 use Rattle.filt_syntax.specs.ItemView.{items_tree, mask_items_tree}
 use Rattle.filt_syntax.specs.View.{Derivations, derivations, derivations_step, as_primary, as_postfix, as_unary, as_product, as_sum, as_comparison, as_expr, alone, atom_word, atom_tree, named_tree, group_tree, set_tree, mask_tree, defined_tree, method_call_tree, in_parentheses, arguments_tree, listed_after, listed_tree, with_next, second_part, parts_after, chain_of, access_part, mul_op_part, add_op_part, logical_op_part, compare_op_symbol, expr_tree, expr_trees}
 use Rattle.filt_syntax.specs.Inside.{access_of, mul_op_of, add_op_of, logical_op_of}

@@ -15,8 +15,8 @@ use Rattle.conf_lex.proofs.Good.{fits_front}
 use Rattle.conf_lex.proofs.Chains.{turn, full_words}
 use Rattle.conf_lex.proofs.PartShapes.{fails_then, fails_along, then_then, bool_cases, Turns, closed_is, shorter}
 use Rattle.filt_syntax.specs.Syntax.{is_num, item, mask_item, rule}
-use Rattle.filt_syntax.specs.declared.ast.Item.{Item}
-use Rattle.filt_syntax.specs.declared.ast.MaskItem.{MaskItem}
+use Rattle.conf_ast.specs.declared.filters.Item.{Item}
+use Rattle.conf_ast.specs.declared.filters.MaskItem.{MaskItem}
 use Rattle.filt_syntax.specs.ItemView.{item_tree, items_after, items_tree, mask_item_tree, mask_after, mask_items_tree, label_tree}
 use Rattle.filt_syntax.specs.ItemReaders.{num_range_at, pair_part_at, pair_at, bounds_at, lengths_at, item_at, items_at, mask_atom_at, mask_item_at, mask_items_at, mask_row_at, label_at}
 use Rattle.filt_syntax.proofs.Picks.{maps2}

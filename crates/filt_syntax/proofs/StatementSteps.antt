@@ -14,7 +14,7 @@ use Rattle.conf_lex.proofs.PartShapes.{then_then, word_bad, bool_cases, Turns, b
 use Rattle.filt_syntax.specs.Syntax.{has_sets, has_no_sets, expr, semicolon, declaration, assigned, changed, print_stmt, stmt, rule}
 use Rattle.filt_syntax.specs.Levels.{Form, arguments_level, attribute_level}
 use Rattle.conf_lex.specs.declared.attribute.Attribute.{Attribute}
-use Rattle.filt_syntax.specs.declared.ast.Expr.{Expr}
+use Rattle.conf_ast.specs.declared.filters.Expr.{Expr}
 use Rattle.filt_syntax.specs.declared.variable_type.Member.{Member}
 use Rattle.filt_syntax.specs.declared.variable_type.Member.TheVariants as members
 use Rattle.filt_syntax.specs.View.{derivations, with_next, listed_after, listed_tree, expr_tree, expr_trees}

@@ -6,16 +6,16 @@ use Rattle.conf_lex.specs.declared.word.Word.TheVariants as words
 use Rattle.conf_lex.specs.declared.named.Name.{Name}
 use Rattle.conf_lex.specs.Grammar.{ParseTree, NoWords, Pair, Right, Single, Snoc, Deeper}
 use Rattle.conf_lex.specs.declared.attribute.Attribute.{Attribute}
-use Rattle.filt_syntax.specs.declared.ast.VariableType.{VariableType}
-use Rattle.filt_syntax.specs.declared.ast.Target.{Target}
-use Rattle.filt_syntax.specs.declared.ast.Change.{Change}
-use Rattle.filt_syntax.specs.declared.ast.Expr.{Expr}
-use Rattle.filt_syntax.specs.declared.ast.Arm.{Arm}
+use Rattle.conf_ast.specs.declared.filters.VariableType.{VariableType}
+use Rattle.conf_ast.specs.declared.filters.Target.{Target}
+use Rattle.conf_ast.specs.declared.filters.Change.{Change}
+use Rattle.conf_ast.specs.declared.filters.Expr.{Expr}
+use Rattle.conf_ast.specs.declared.filters.Arm.{Arm}
 use Rattle.filt_syntax.specs.declared.statement.Branches.{Branches}
-use Rattle.filt_syntax.specs.declared.ast.Stmt.{Stmt, the_lemmas, fold-Stmt}
-use Rattle.filt_syntax.specs.declared.ast.Stmt.TheVariants as stmts
-use Rattle.filt_syntax.specs.declared.ast.Stmt.TheFolds.{map-Stmt}
-use Rattle.filt_syntax.specs.declared.ast.Stmt.TheOpen.{Stmt-F}
+use Rattle.conf_ast.specs.declared.filters.Stmt.{Stmt, the_lemmas, fold-Stmt}
+use Rattle.conf_ast.specs.declared.filters.Stmt.TheVariants as stmts
+use Rattle.conf_ast.specs.declared.filters.Stmt.TheFolds.{map-Stmt}
+use Rattle.conf_ast.specs.declared.filters.Stmt.TheOpen.{Stmt-F}
 use Rattle.filt_syntax.specs.StatementView.{ArmParts, seen_arm, arm_of, stmt_step, stmt_tree, stmts_tree, block_tree, empty_tree, declare_tree, assign_tree, change_stmt_tree, call_tree, unset_tree, if_tree, chosen_tree, else_tree, case_tree, for_tree, verdict_tree, return_tree, print_tree, row_after, arms_row, arms_of, otherwise_tree, otherwise_of}
 use Rattle.filt_syntax.specs.Inside.{branches_tree, second_tree}
 

@@ -14,22 +14,22 @@ use Rattle.conf_lex.specs.Leaves.{name_leaf, symbol_leaf}
 use Rattle.conf_lex.specs.Agrees.{AgreesOnError}
 use Rattle.conf_lex.proofs.PartShapes as shapes
 use Rattle.conf_lex.proofs.PartShapes.{fails_then, fails_along, then_then, Turns, begins_none, closed_is, closed_got, closed_inside_fails, closed_end_fails, word_bad, less_one, bool_cases}
-use Rattle.filt_syntax.specs.declared.ast.Atom.{Atom}
-use Rattle.filt_syntax.specs.declared.ast.Atom.TheVariants as atoms
+use Rattle.conf_ast.specs.declared.filters.Atom.{Atom}
+use Rattle.conf_ast.specs.declared.filters.Atom.TheVariants as atoms
 use Rattle.conf_lex.specs.declared.attribute.Attribute.{Attribute}
-use Rattle.filt_syntax.specs.declared.ast.Method.{Method}
-use Rattle.filt_syntax.specs.declared.ast.MethodKind.{MethodKind}
-use Rattle.filt_syntax.specs.declared.ast.MethodKind.TheVariants as methods
-use Rattle.filt_syntax.specs.declared.ast.Property.{Property}
-use Rattle.filt_syntax.specs.declared.ast.Property.TheVariants as properties
-use Rattle.filt_syntax.specs.declared.ast.MulOp.{MulOp}
-use Rattle.filt_syntax.specs.declared.ast.MulOp.TheVariants as mul_ops
-use Rattle.filt_syntax.specs.declared.ast.AddOp.{AddOp}
-use Rattle.filt_syntax.specs.declared.ast.AddOp.TheVariants as add_ops
-use Rattle.filt_syntax.specs.declared.ast.CompareOp.{CompareOp}
-use Rattle.filt_syntax.specs.declared.ast.CompareOp.TheVariants as compare_op_ops
-use Rattle.filt_syntax.specs.declared.ast.LogicalOp.{LogicalOp}
-use Rattle.filt_syntax.specs.declared.ast.LogicalOp.TheVariants as logical_ops
+use Rattle.conf_ast.specs.declared.filters.Method.{Method}
+use Rattle.conf_ast.specs.declared.filters.MethodKind.{MethodKind}
+use Rattle.conf_ast.specs.declared.filters.MethodKind.TheVariants as methods
+use Rattle.conf_ast.specs.declared.filters.Property.{Property}
+use Rattle.conf_ast.specs.declared.filters.Property.TheVariants as properties
+use Rattle.conf_ast.specs.declared.filters.MulOp.{MulOp}
+use Rattle.conf_ast.specs.declared.filters.MulOp.TheVariants as mul_ops
+use Rattle.conf_ast.specs.declared.filters.AddOp.{AddOp}
+use Rattle.conf_ast.specs.declared.filters.AddOp.TheVariants as add_ops
+use Rattle.conf_ast.specs.declared.filters.CompareOp.{CompareOp}
+use Rattle.conf_ast.specs.declared.filters.CompareOp.TheVariants as compare_op_ops
+use Rattle.conf_ast.specs.declared.filters.LogicalOp.{LogicalOp}
+use Rattle.conf_ast.specs.declared.filters.LogicalOp.TheVariants as logical_ops
 use Rattle.filt_syntax.specs.Syntax.{parentheses, is_atom, is_method, is_property, is_mul_op, is_add_op, is_compare_op, is_logical_op, optional, listed, expr, comparison, sum, product, unary, postfix, primary, call, set, mask, rule}
 use Rattle.filt_syntax.specs.Levels.{Level, group_level, arguments_level, set_level, argument_level, two_level, attribute_level}
 use Rattle.filt_syntax.specs.View.{property_symbol, method_symbol, mul_op_symbol, add_op_symbol, compare_op_symbol, logical_op_symbol, method_word, atom_word, atom_tree, named_tree, group_tree, set_tree, mask_tree, defined_tree, method_call_tree, property_tree, method_tree, second_part, in_parentheses}

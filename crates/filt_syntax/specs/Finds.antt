@@ -1,6 +1,7 @@
--- What a function that takes one word finds at the front of some words: a definition of our own,
--- for the functions of `parts` and of the grammars above, and for private ones. Not modelled: what
--- the value means.
+-- What a function that takes one word finds at the front of some words (`Finds`): for the contracts
+-- of `parts` and of the grammars above.
+-- Not modelled: what the value means.
+-- From: own.
 use Rattle.std.specs.Prelude.{◌≡◌, Bool, false, List, ◌∷◌, Option, MatchOption}
 use Rattle.std.specs.Borrow.{Bor}
 use Rattle.conf_lex.specs.declared.word.Word.{Word}

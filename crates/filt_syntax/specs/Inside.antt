@@ -13,21 +13,21 @@ use Rattle.conf_lex.specs.declared.symbol.Symbol.{Symbol}
 use Rattle.conf_lex.specs.declared.symbol.Symbol.TheVariants as sym
 use Rattle.conf_lex.specs.Grammar.{ParseTree, NoWords, Pair, Right, Deeper}
 use Rattle.conf_lex.specs.Leaves.{between}
-use Rattle.filt_syntax.specs.declared.ast.Arm.{Arm}
+use Rattle.conf_ast.specs.declared.filters.Arm.{Arm}
 use Rattle.filt_syntax.specs.declared.statement.Branches.{Branches}
-use Rattle.filt_syntax.specs.declared.ast.Stmt.{Stmt}
+use Rattle.conf_ast.specs.declared.filters.Stmt.{Stmt}
 use Rattle.filt_syntax.specs.StatementView.{else_tree, arms_row, otherwise_tree, stmt_tree, arms_of}
 use Rattle.filt_syntax.specs.StatementView.{otherwise_of}
 use Rattle.filt_syntax.specs.Levels.{Form}
 use Rattle.filt_syntax.specs.Tokens.{moved, place_of, IsPastOf}
-use Rattle.filt_syntax.specs.declared.ast.Property.{Property}
-use Rattle.filt_syntax.specs.declared.ast.Method.{Method}
-use Rattle.filt_syntax.specs.declared.ast.Access.{Access}
-use Rattle.filt_syntax.specs.declared.ast.Access.TheVariants as accesses
-use Rattle.filt_syntax.specs.declared.ast.MulOp.{MulOp}
-use Rattle.filt_syntax.specs.declared.ast.AddOp.{AddOp}
-use Rattle.filt_syntax.specs.declared.ast.LogicalOp.{LogicalOp}
-use Rattle.filt_syntax.specs.declared.ast.Expr.{Expr}
+use Rattle.conf_ast.specs.declared.filters.Property.{Property}
+use Rattle.conf_ast.specs.declared.filters.Method.{Method}
+use Rattle.conf_ast.specs.declared.filters.Access.{Access}
+use Rattle.conf_ast.specs.declared.filters.Access.TheVariants as accesses
+use Rattle.conf_ast.specs.declared.filters.MulOp.{MulOp}
+use Rattle.conf_ast.specs.declared.filters.AddOp.{AddOp}
+use Rattle.conf_ast.specs.declared.filters.LogicalOp.{LogicalOp}
+use Rattle.conf_ast.specs.declared.filters.Expr.{Expr}
 use Rattle.filt_syntax.specs.View.{mul_op_symbol, add_op_symbol, logical_op_symbol, property_tree}
 use Rattle.filt_syntax.specs.View.{method_tree, derivations}
 

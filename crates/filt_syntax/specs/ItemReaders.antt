@@ -1,7 +1,8 @@
--- Reading each form of an item, where k more levels may be opened: the forms are those of `Syntax`
--- (BIRD User's Guide, "Filters": "Data types", "Control structures"), reading is `read` of
--- conf_lex. Not modelled: memory. For private contracts alone: all but `items_at` and
--- `mask_items_at`, which `parts` and the grammars above name.
+-- For private contracts alone, all but `items_at` and `mask_items_at`, which `parts` and the
+-- grammars above name: reading each form of an item, where k more levels may be opened. The forms
+-- are those of `Syntax`, reading is `read` of conf_lex.
+-- Not modelled: memory.
+-- From: own.
 use Rattle.std.specs.Prelude.{ℕ}
 use Rattle.conf_lex.specs.Grammar.{ParseTree, first_set}
 use Rattle.conf_lex.specs.Reading.{Reader, all_turns, read}

@@ -1,24 +1,26 @@
--- The trees of the grammar that the items of sets, of labels and of masks stand for (BIRD User's
--- Guide, "Filters": "Data types", and "Control structures" for labels). Not modelled: which values
--- an item takes in.
+-- The trees of the grammar that the items of sets, of labels and of masks stand for.
+-- Not modelled: which values an item takes in (filt_sets).
+-- From: own; the forms are of BIRD User's Guide, "Filters": "Data types", and "Control structures"
+-- for labels.
+-- Example: `1..2` is a number with two dots and a number behind it.
 use Rattle.std.specs.Prelude.{Bool, true, false, List, [], ◌∷◌, Option, Some, None}
 use Rattle.conf_lex.specs.declared.symbol.Symbol.TheVariants as sym
 use Rattle.conf_lex.specs.declared.word.Word.{Word}
 use Rattle.conf_lex.specs.declared.word.Word.TheVariants as words
 use Rattle.conf_lex.specs.Grammar.{ParseTree, Leaf, NoWords, Pair, Left, Right, Single, Snoc}
 use Rattle.conf_lex.specs.Leaves.{symbol_leaf, between}
-use Rattle.filt_syntax.specs.declared.ast.Num.{Num}
-use Rattle.filt_syntax.specs.declared.ast.Num.TheVariants as nums
-use Rattle.filt_syntax.specs.declared.ast.NumRange.{NumRange}
-use Rattle.filt_syntax.specs.declared.ast.PairPart.{PairPart}
-use Rattle.filt_syntax.specs.declared.ast.PairPart.TheVariants as pair_parts
-use Rattle.filt_syntax.specs.declared.ast.Lengths.{Lengths}
-use Rattle.filt_syntax.specs.declared.ast.Lengths.TheVariants as lengths
-use Rattle.filt_syntax.specs.declared.ast.Item.{Item}
-use Rattle.filt_syntax.specs.declared.ast.Item.TheVariants as items
-use Rattle.filt_syntax.specs.declared.ast.MaskAtom.{MaskAtom}
-use Rattle.filt_syntax.specs.declared.ast.MaskAtom.TheVariants as mask_atoms
-use Rattle.filt_syntax.specs.declared.ast.MaskItem.{MaskItem}
+use Rattle.conf_ast.specs.declared.filters.Num.{Num}
+use Rattle.conf_ast.specs.declared.filters.Num.TheVariants as nums
+use Rattle.conf_ast.specs.declared.filters.NumRange.{NumRange}
+use Rattle.conf_ast.specs.declared.filters.PairPart.{PairPart}
+use Rattle.conf_ast.specs.declared.filters.PairPart.TheVariants as pair_parts
+use Rattle.conf_ast.specs.declared.filters.Lengths.{Lengths}
+use Rattle.conf_ast.specs.declared.filters.Lengths.TheVariants as lengths
+use Rattle.conf_ast.specs.declared.filters.Item.{Item}
+use Rattle.conf_ast.specs.declared.filters.Item.TheVariants as items
+use Rattle.conf_ast.specs.declared.filters.MaskAtom.{MaskAtom}
+use Rattle.conf_ast.specs.declared.filters.MaskAtom.TheVariants as mask_atoms
+use Rattle.conf_ast.specs.declared.filters.MaskItem.{MaskItem}
 
 abbrev pub num_word : Num → Word
 num_word (nums.Number at value) = words.Number at value

@@ -1,7 +1,9 @@
--- The levels of nesting of the grammar of filters, and forms in a grammar with these levels: the
--- brackets and bodies of BIRD User's Guide, "Filters": "Introduction", "Data types", "Operators",
--- "Control structures". Not modelled here: what stands inside each (`Syntax`), and how many may be
--- open (`Parse`).
+-- The levels of nesting of the grammar of filters (`Level`), and forms in a grammar with these
+-- levels: brackets, `!`, arguments and bodies.
+-- Not modelled here: what stands inside each (`Syntax`), and how many may be open (`Parse`).
+-- From: BIRD User's Guide, "Filters": "Introduction", "Data types", "Operators", "Control
+-- structures".
+-- Example: `(a)` opens one level, `((a))` two, one within the other.
 use Rattle.conf_lex.specs.Grammar as grammars
 
 -- by what stands inside

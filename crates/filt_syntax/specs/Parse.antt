@@ -1,6 +1,9 @@
--- What stands at a place of the words, within 64 levels, or which word can't stand there. The forms
--- are those of `Syntax` (BIRD User's Guide, "Filters"); the bound and the place of a refusal are
--- our own. Not modelled: tokens (`Tokens`), and when memory runs out.
+-- What stands at a place of the words, within 64 levels (`ParsesAt`), or which word can't stand
+-- there (`IsRefused`).
+-- Not modelled: tokens (`Tokens`), and when memory runs out.
+-- From: BIRD User's Guide, "Filters", for the forms, which are those of `Syntax`; the bound and the
+-- place of a refusal are own.
+-- Example: in `1 2` an expression stands at 0 and ends at 1.
 use Rattle.std.specs.Prelude.{◌≡◌, ℕ, ◌≤◌, ◌⊎◌, List, length, drop, Result, Ok, Err}
 use Rattle.conf_lex.specs.declared.word.Word.{Word}
 use Rattle.conf_lex.specs.Grammar.{ParseTree}

@@ -1,7 +1,8 @@
--- Reading each form of an expression, where k more levels may be opened: the forms are those of
--- `Syntax` (BIRD User's Guide, "Filters": "Data types", "Operators", "Route attributes"), reading
--- is `read` of conf_lex. Not modelled: memory. For private contracts alone: all but `expr_at`,
--- which `parts` and the grammars above name.
+-- For private contracts alone, all but `expr_at`, which `parts` and the grammars above name:
+-- reading each form of an expression, where k more levels may be opened. The forms are those of
+-- `Syntax`, reading is `read` of conf_lex.
+-- Not modelled: memory.
+-- From: own.
 use Rattle.std.specs.Prelude.{ℕ}
 use Rattle.conf_lex.specs.declared.symbol.Symbol.TheVariants as sym
 use Rattle.conf_lex.specs.declared.named.Name.{Name}

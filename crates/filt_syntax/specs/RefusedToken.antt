@@ -1,6 +1,11 @@
--- At which of its tokens a refused word is refused: the first that no sentence can have there. A
--- grammar looks at words, and a prefix is one word of three tokens. The rule is our own: BIRD
--- User's Guide, "Filters", says nothing of it. Not modelled: bytes and lines.
+-- At which of its tokens a refused word is refused: the first that no sentence can have there
+-- (`IsPast`, for the words before it and what it is, by `torn_of`; `CanFollow`). A grammar looks at
+-- words, and a prefix is one word of three tokens.
+-- Not modelled: bytes and lines.
+-- From: own; BIRD User's Guide, "Filters", says nothing of it.
+-- Example: `router id 10.0.0.0/8;` is refused at the slash; `route 10.0.0.0 via` at `via`;
+-- `[10.0.0.0]` at the bracket that closes; `define A = 10.0.0.0/;` at the semicolon; `[10.0.0.1/8]`
+-- at the address.
 use Rattle.std.specs.Prelude.{◌≡◌, ◌⊎◌, ℕ, ◌+◌, Bool, if◌then◌else◌, List, [], ◌∷◌}
 use Rattle.std.specs.Prelude.{◌++◌, take, drop, Some}
 use Rattle.bits_ip.specs.declared.address.Addr.{Addr}

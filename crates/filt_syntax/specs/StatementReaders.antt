@@ -1,8 +1,8 @@
--- Reading each form of a statement, where k more levels may be opened: the forms are those of
--- `Syntax` (BIRD User's Guide, "Filters": "Data types", "Control structures", "Route attributes",
--- "Other statements"), reading is `read` of conf_lex. Not modelled: memory, but for the lists that
--- an arm is read into. For private contracts alone: all but `block_at` and `vtype_at`, which
--- `parts` and the grammars above name.
+-- For private contracts alone, all but `block_at` and `vtype_at`, which `parts` and the grammars
+-- above name: reading each form of a statement, where k more levels may be opened. The forms are
+-- those of `Syntax`, reading is `read` of conf_lex.
+-- Not modelled: memory, but for the lists that an arm is read into.
+-- From: own.
 use Rattle.std.specs.Prelude.{◌≡◌, ℕ, Bool, true, ◌||◌, ◌<◌, ◌≤◌, List, ◌∷◌, length, map, Option}
 use Rattle.std.specs.Prelude.{Result, Ok, Err, Vec}
 use Rattle.std.specs.Global.{Global}
@@ -18,8 +18,8 @@ use Rattle.conf_lex.specs.Grammar.{begins}
 use Rattle.conf_lex.specs.Leaves.{name_leaf}
 use Rattle.conf_lex.specs.Agrees.{AgreesOnError, Agrees}
 use Rattle.conf_lex.specs.declared.refusal.Refusal.{Refusal}
-use Rattle.filt_syntax.specs.declared.ast.Arm.{Arm}
-use Rattle.filt_syntax.specs.declared.ast.Stmt.{Stmt}
+use Rattle.conf_ast.specs.declared.filters.Arm.{Arm}
+use Rattle.conf_ast.specs.declared.filters.Stmt.{Stmt}
 use Rattle.filt_syntax.specs.ItemView.{label_tree}
 use Rattle.filt_syntax.specs.StatementView.{nth, stmt_tree, body_after, otherwise_of}
 use Rattle.filt_syntax.specs.Inside.{case_arms}

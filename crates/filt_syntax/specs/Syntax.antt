@@ -1,9 +1,12 @@
--- The grammar of filters (BIRD User's Guide, "Filters": "Introduction", "Data types", "Operators",
--- "Control structures", "Route attributes", "Other statements"): a form for each production, with
--- its line in the notation of the grammar above it. A quoted word is the symbol of that spelling;
--- `[ ]` may be left out, `{ }` is any number of times, `|` is a choice. Not modelled: which bytes
--- are words (conf_lex), declarations of filters and functions (conf_tree), what names stand for,
--- types, and what expressions and statements do.
+-- The grammar of filters (`rule`): a form for each production, with its line in the notation of the
+-- grammar above it. A quoted word is the symbol of that spelling; `[ ]` may be left out, `{ }` is
+-- any number of times, `|` is a choice. docs/DEFINITIONS.md compares it with BIRD's.
+-- Not modelled: which bytes are words (conf_lex), declarations of filters and functions
+-- (conf_tree), what names stand for, types, and what expressions and statements do.
+-- From: BIRD User's Guide, "Filters": "Introduction", "Data types", "Operators", "Control
+-- structures", "Route attributes", "Other statements".
+-- Example: `a < b < c` is no expression, since a comparison has one sign; `1 + 2 * 3` is a sum of 1
+-- and a product.
 use Rattle.std.specs.Prelude.{Bool, ◌||◌}
 use Rattle.conf_lex.specs.declared.symbol.Symbol.TheVariants as sym
 use Rattle.conf_lex.specs.Kind.{Kind, number, name, text, address, prefix, symbol, is_attribute}

@@ -1,6 +1,8 @@
--- What stands at a token of a text, or at which token it is refused: `Parse` and `RefusedToken` by
--- the tokens of conf_lex. The forms are those of `Syntax` (BIRD User's Guide, "Filters"), the
--- places our own. Not modelled: the bytes of tokens, and when memory runs out.
+-- What stands at a token of a text (`ParsesAtToken`), or at which token it is refused
+-- (`IsRefusedIn`): `Parse` and `RefusedToken` by the tokens of conf_lex.
+-- Not modelled: the bytes of tokens, and when memory runs out.
+-- From: BIRD User's Guide, "Filters", for the forms; the places are own.
+-- Example: `[10.0.0.0]` is refused at its third token.
 use Rattle.std.specs.Prelude.{◌≡◌, ℕ, ◌+◌, List, length, map, drop, slice_index_or}
 use Rattle.conf_lex.specs.Words.{words_from}
 use Rattle.conf_lex.specs.declared.token.Token.{Token}

@@ -1,6 +1,9 @@
--- The tree of the grammar that an expression stands for (BIRD User's Guide, "Filters": "Data
--- types", "Operators", "Route attributes"). Not modelled: types and values, and where an expression
--- lies in memory.
+-- The tree of the grammar that an expression stands for (`derivations`, a line for each variant of
+-- `Expr`).
+-- Not modelled: types and values, and where an expression lies in memory.
+-- From: own; the forms are of BIRD User's Guide, "Filters": "Data types", "Operators", "Route
+-- attributes".
+-- Example: `1 + 2 * 3` is a sum whose second part is a product.
 use Rattle.std.specs.Prelude.{ℕ, List, [], ◌∷◌, map}
 use Rattle.conf_lex.specs.declared.symbol.Symbol.{Symbol}
 use Rattle.conf_lex.specs.declared.symbol.Symbol.TheVariants as sym
@@ -10,25 +13,25 @@ use Rattle.conf_lex.specs.declared.named.Name.{Name}
 use Rattle.conf_lex.specs.Grammar.{ParseTree, Leaf, NoWords, Pair, Left, Right, Single, Snoc}
 use Rattle.conf_lex.specs.Grammar.{Deeper}
 use Rattle.conf_lex.specs.Leaves.{symbol_leaf, name_leaf, between}
-use Rattle.filt_syntax.specs.declared.ast.Atom.{Atom}
-use Rattle.filt_syntax.specs.declared.ast.Atom.TheVariants as atoms
-use Rattle.filt_syntax.specs.declared.ast.Property.{Property}
-use Rattle.filt_syntax.specs.declared.ast.Property.TheVariants as properties
-use Rattle.filt_syntax.specs.declared.ast.MethodKind.{MethodKind}
-use Rattle.filt_syntax.specs.declared.ast.MethodKind.TheVariants as methods
-use Rattle.filt_syntax.specs.declared.ast.Method.{Method}
-use Rattle.filt_syntax.specs.declared.ast.Access.{Access}
-use Rattle.filt_syntax.specs.declared.ast.Access.TheVariants as accesses
-use Rattle.filt_syntax.specs.declared.ast.MulOp.{MulOp}
-use Rattle.filt_syntax.specs.declared.ast.MulOp.TheVariants as mul_ops
-use Rattle.filt_syntax.specs.declared.ast.AddOp.{AddOp}
-use Rattle.filt_syntax.specs.declared.ast.AddOp.TheVariants as add_ops
-use Rattle.filt_syntax.specs.declared.ast.CompareOp.{CompareOp}
-use Rattle.filt_syntax.specs.declared.ast.CompareOp.TheVariants as compare_op_ops
-use Rattle.filt_syntax.specs.declared.ast.LogicalOp.{LogicalOp}
-use Rattle.filt_syntax.specs.declared.ast.LogicalOp.TheVariants as logical_ops
-use Rattle.filt_syntax.specs.declared.ast.Expr.{Expr, fold-Expr}
-use Rattle.filt_syntax.specs.declared.ast.Expr.TheOpen.{Expr-F}
+use Rattle.conf_ast.specs.declared.filters.Atom.{Atom}
+use Rattle.conf_ast.specs.declared.filters.Atom.TheVariants as atoms
+use Rattle.conf_ast.specs.declared.filters.Property.{Property}
+use Rattle.conf_ast.specs.declared.filters.Property.TheVariants as properties
+use Rattle.conf_ast.specs.declared.filters.MethodKind.{MethodKind}
+use Rattle.conf_ast.specs.declared.filters.MethodKind.TheVariants as methods
+use Rattle.conf_ast.specs.declared.filters.Method.{Method}
+use Rattle.conf_ast.specs.declared.filters.Access.{Access}
+use Rattle.conf_ast.specs.declared.filters.Access.TheVariants as accesses
+use Rattle.conf_ast.specs.declared.filters.MulOp.{MulOp}
+use Rattle.conf_ast.specs.declared.filters.MulOp.TheVariants as mul_ops
+use Rattle.conf_ast.specs.declared.filters.AddOp.{AddOp}
+use Rattle.conf_ast.specs.declared.filters.AddOp.TheVariants as add_ops
+use Rattle.conf_ast.specs.declared.filters.CompareOp.{CompareOp}
+use Rattle.conf_ast.specs.declared.filters.CompareOp.TheVariants as compare_op_ops
+use Rattle.conf_ast.specs.declared.filters.LogicalOp.{LogicalOp}
+use Rattle.conf_ast.specs.declared.filters.LogicalOp.TheVariants as logical_ops
+use Rattle.conf_ast.specs.declared.filters.Expr.{Expr, fold-Expr}
+use Rattle.conf_ast.specs.declared.filters.Expr.TheOpen.{Expr-F}
 use Rattle.filt_syntax.specs.ItemView.{items_tree, mask_items_tree}
 
 -- ---- the words

@@ -7,9 +7,9 @@ ghost use Rattle.filt_syntax.specs.Syntax.{block};
 ghost use Rattle.filt_syntax.specs.StatementView.{block_view};
 ghost use Rattle.filt_syntax.specs.Parse.{ParsesAt, IsRefused, IsAnswer, IsFault};
 
-use crate::ast::Block;
 use crate::parse::{LEVELS, SyntaxFault, placed, tail};
 use crate::statement::whole_block;
+use conf_ast::filters::Block;
 use conf_lex::Word;
 use conf_lex::parsing::place_in;
 use std::alloc::Global;

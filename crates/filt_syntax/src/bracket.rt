@@ -9,9 +9,9 @@ ghost use Rattle.filt_syntax.specs.Levels.{Level, attribute_level};
 ghost use Rattle.filt_syntax.specs.View.{derivations, in_parentheses};
 ghost use Rattle.filt_syntax.specs.Readers.{primary_at, level_at, opened_at};
 
-use crate::ast::{Attribute, Expr};
 use crate::items::{items, mask_items};
 use crate::operators::next_attribute;
+use conf_ast::filters::{Attribute, Expr};
 use conf_lex::parsing::{after_placed, expect, level_below};
 use conf_lex::{Refusal, Symbol, Word};
 use std::alloc::Global;

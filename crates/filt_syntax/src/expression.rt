@@ -14,12 +14,12 @@ ghost use Rattle.filt_syntax.specs.Readers.{postfix_at};
 ghost use Rattle.filt_syntax.specs.Readers.{primary_at, behind_dot_at, method_at, named_at};
 ghost use Rattle.filt_syntax.specs.Readers.{level_at};
 
-use crate::ast::{Access, Expr, Method};
 use crate::bracket::{defined, mask, open, set};
 use crate::operators::{
     next_add_op, next_atom, next_compare_op, next_logical_op, next_method, next_mul_op,
     next_property,
 };
+use conf_ast::filters::{Access, Expr, Method};
 use conf_lex::parsing::{after, after_placed, expect, level_below, next_name};
 use conf_lex::{Name, Refusal, Symbol, Word};
 use std::alloc::Global;

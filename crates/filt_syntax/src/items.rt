@@ -17,8 +17,8 @@ ghost use Rattle.filt_syntax.specs.ItemReaders.{num_range_at, pair_part_at, pair
 ghost use Rattle.filt_syntax.specs.ItemReaders.{lengths_at, item_at, items_at, mask_atom_at};
 ghost use Rattle.filt_syntax.specs.ItemReaders.{mask_item_at, mask_items_at, label_at};
 
-use crate::ast::{Item, Lengths, MaskAtom, MaskItem, Num, NumRange, PairPart};
 use bits_ip::Prefix;
+use conf_ast::filters::{Item, Lengths, MaskAtom, MaskItem, Num, NumRange, PairPart};
 use conf_lex::parsing::{after, after_placed, expect, level_below, next_prefix};
 use conf_lex::{Name, Refusal, Symbol, Word};
 use std::alloc::Global;

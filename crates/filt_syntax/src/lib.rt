@@ -10,7 +10,6 @@
 //! nothing that runs needs (`syntax_laws`).
 #![tactic(auto)]
 
-pub mod ast;
 mod block_words;
 mod bracket;
 mod expression;

@@ -13,7 +13,7 @@ ghost use Rattle.filt_syntax.specs.View.{atom_word, method_word, method_symbol, 
 ghost use Rattle.filt_syntax.specs.View.{mul_op_symbol, add_op_symbol, compare_op_symbol};
 ghost use Rattle.filt_syntax.specs.View.{logical_op_symbol};
 
-use crate::ast::{
+use conf_ast::filters::{
     AddOp, Atom, Attribute, CompareOp, LogicalOp, Method, MethodKind, MulOp, Property,
 };
 use conf_lex::parsing::next;

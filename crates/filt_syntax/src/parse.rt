@@ -9,8 +9,8 @@ ghost use Rattle.filt_syntax.specs.Parse.{ParsesAt, IsRefused, IsAnswer, IsFault
 ghost use Rattle.filt_syntax.specs.Inside.{refused_words};
 ghost use Rattle.filt_syntax.specs.Inside.{fault_of};
 
-use crate::ast::Expr;
 use crate::expression::expression;
+use conf_ast::filters::Expr;
 use conf_lex::parsing::place_in;
 use conf_lex::{Refusal, Word};
 use std::alloc::Global;

@@ -16,11 +16,11 @@ ghost use Rattle.filt_syntax.specs.StatementView.{semicolon_leaf, initial_tree};
 ghost use Rattle.filt_syntax.specs.StatementReaders.{stmt_at, of_name_at, change_at};
 ghost use Rattle.filt_syntax.specs.StatementReaders.{declaration_at, initial_at, exprs_at};
 
-use crate::ast::{Attribute, Change, Expr, Stmt, Target};
 use crate::bracket::of_attribute;
 use crate::expression::{arguments, expression, method};
 use crate::operators::next_attribute;
 use crate::variable_type::variable_type;
+use conf_ast::filters::{Attribute, Change, Expr, Stmt, Target};
 use conf_lex::parsing::{after, after_placed, expect, expect_name};
 use conf_lex::{Name, Refusal, Symbol, Word};
 use std::alloc::Global;

@@ -23,11 +23,11 @@ ghost use Rattle.filt_syntax.specs.StatementReaders.{OtherwiseGives};
 ghost use Rattle.filt_syntax.specs.View.{derivations};
 ghost use Rattle.filt_syntax.specs.Readers.{expr_at};
 
-use crate::ast::{Arm, Block, Expr, Stmt};
 use crate::expression::expression;
 use crate::items::label;
 use crate::simple_statement::{done_to_name, made, simple_statement};
 use crate::variable_type::variable_type;
+use conf_ast::filters::{Arm, Block, Expr, Stmt};
 use conf_lex::parsing::{after, after_placed, expect, expect_name, level_below, next, next_name};
 use conf_lex::{Refusal, Symbol, Word};
 use std::alloc::{AllocError, Global};

@@ -12,12 +12,12 @@ ghost use Rattle.filt_syntax.specs.Parse.{IsAnswer, IsFault, IsRefused};
 ghost use Rattle.filt_syntax.specs.Tokens.{ParsesAtToken, IsRefusedIn};
 ghost use Rattle.filt_syntax.specs.Inside.{IsToldAs};
 
-use crate::ast::{Block, Expr};
 use crate::block_words::parse_block_words;
 use crate::followed::{Blocks, Expressions};
 use crate::parse::{SyntaxFault, parse_expr_words};
 use crate::refused_token::{Sentences, bad_from};
 use bits_ip::OutOfMemory;
+use conf_ast::filters::{Block, Expr};
 use conf_lex::{Token, Words, words_from};
 use std::alloc::Global;
 

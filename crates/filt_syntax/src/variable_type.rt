@@ -10,7 +10,7 @@ ghost use Rattle.filt_syntax.specs.Syntax.{has_sets, has_no_sets};
 ghost use Rattle.filt_syntax.specs.StatementView.{type_tree, member_symbol, member_type, set_type};
 ghost use Rattle.filt_syntax.specs.StatementReaders.{vtype_at};
 
-use crate::ast::VariableType;
+use conf_ast::filters::VariableType;
 use conf_lex::parsing::after;
 use conf_lex::{Refusal, Symbol, Word};
 

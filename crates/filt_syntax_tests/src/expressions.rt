@@ -1,5 +1,5 @@
+use conf_ast::filters::{Access, AddOp, CompareOp, Expr, LogicalOp, MethodKind, Property};
 use conf_lex::lex;
-use filt_syntax::ast::{Access, AddOp, CompareOp, Expr, LogicalOp, MethodKind, Property};
 use filt_syntax::parse_expr;
 use std::alloc::Global;
 use std::test::Fail;

@@ -1,4 +1,7 @@
--- What a scope declares, as the rules of types and the meaning of filters see it.
+-- What a scope declares, as the rules of types and the meaning of filters see it (`context_of`):
+-- constants with their values, functions with what their checked trees do.
+-- From: own.
+-- Example: behind `define A = 5;` the constant `A` is 5.
 use Rattle.std.specs.Prelude.{ℕ, List, [], ◌∷◌, ◌++◌, map, Vec}
 use Rattle.std.specs.Global.{Global}
 use Rattle.std.specs.HashMap.{values}

@@ -1,11 +1,12 @@
 -- What checked filters do: a line for each form of a tree. The forms are those of the meaning of
--- filters; here they are joined by places where there they are by names.
+-- filters; here they are joined by places where there they are by names. Nothing is to be believed
+-- of it: filt_check ties what checked trees do to the meaning of their sources.
 use Rattle.std.specs.Prelude.{ℕ, Bool, List, [], ◌∷◌, ◌++◌, map, take, Option, Some, None, Result, Ok, Err, slice_get}
 use Rattle.attrs.specs.declared.attributes.Attrs.{Attrs}
 use Rattle.attrs.specs.declared.judge.Verdict.{Verdict}
-use Rattle.filt_syntax.specs.declared.ast.MulOp.{MulOp}
-use Rattle.filt_syntax.specs.declared.ast.LogicalOp.{LogicalOp}
-use Rattle.filt_syntax.specs.declared.ast.AddOp.{AddOp}
+use Rattle.conf_ast.specs.declared.filters.MulOp.{MulOp}
+use Rattle.conf_ast.specs.declared.filters.LogicalOp.{LogicalOp}
+use Rattle.conf_ast.specs.declared.filters.AddOp.{AddOp}
 use Rattle.filt_values.specs.declared.fixed.Fixed.{Fixed}
 use Rattle.filt_values.specs.declared.value.Failure.{Failure}
 use Rattle.filt_values.specs.declared.value.Failure.TheVariants as failures

@@ -2,22 +2,22 @@
 use Rattle.std.proofs.Common.{◌≡◌, ℕ, zero, suc, arith, ◌+◌, ◌<◌, List, [], ◌∷◌, map, length, get_or, Option, Some, None, refl, ap, ◌∙◌, Box, Vec}
 use Rattle.std.specs.Global.{Global}
 use Rattle.conf_lex.specs.declared.named.Name.{Name}
-use Rattle.filt_syntax.specs.declared.ast.Access.{Access}
-use Rattle.filt_syntax.specs.declared.ast.Access.TheVariants as accesses
-use Rattle.filt_syntax.specs.declared.ast.Arm.{Arm}
-use Rattle.filt_syntax.specs.declared.ast.CompareOp.{CompareOp}
-use Rattle.filt_syntax.specs.declared.ast.Expr.{Expr, fold-Expr}
-use Rattle.filt_syntax.specs.declared.ast.Expr.TheVariants as e
-use Rattle.filt_syntax.specs.declared.ast.Expr.TheOpen.{Expr-F}
-use Rattle.filt_syntax.specs.declared.ast.Expr.TheShapes.{former-Expr-Postfix-1-at-4}
-use Rattle.filt_syntax.specs.declared.ast.MulOp.{MulOp}
-use Rattle.filt_syntax.specs.declared.ast.LogicalOp.{LogicalOp}
-use Rattle.filt_syntax.specs.declared.ast.Method.{Method}
-use Rattle.filt_syntax.specs.declared.ast.Stmt.{Stmt, fold-Stmt}
-use Rattle.filt_syntax.specs.declared.ast.Stmt.TheVariants as s
-use Rattle.filt_syntax.specs.declared.ast.Stmt.TheOpen.{Stmt-F}
-use Rattle.filt_syntax.specs.declared.ast.AddOp.{AddOp}
-use Rattle.filt_syntax.specs.declared.ast.VariableType.{VariableType}
+use Rattle.conf_ast.specs.declared.filters.Access.{Access}
+use Rattle.conf_ast.specs.declared.filters.Access.TheVariants as accesses
+use Rattle.conf_ast.specs.declared.filters.Arm.{Arm}
+use Rattle.conf_ast.specs.declared.filters.CompareOp.{CompareOp}
+use Rattle.conf_ast.specs.declared.filters.Expr.{Expr, fold-Expr}
+use Rattle.conf_ast.specs.declared.filters.Expr.TheVariants as e
+use Rattle.conf_ast.specs.declared.filters.Expr.TheOpen.{Expr-F}
+use Rattle.conf_ast.specs.declared.filters.Expr.TheShapes.{former-Expr-Postfix-1-at-4}
+use Rattle.conf_ast.specs.declared.filters.MulOp.{MulOp}
+use Rattle.conf_ast.specs.declared.filters.LogicalOp.{LogicalOp}
+use Rattle.conf_ast.specs.declared.filters.Method.{Method}
+use Rattle.conf_ast.specs.declared.filters.Stmt.{Stmt, fold-Stmt}
+use Rattle.conf_ast.specs.declared.filters.Stmt.TheVariants as s
+use Rattle.conf_ast.specs.declared.filters.Stmt.TheOpen.{Stmt-F}
+use Rattle.conf_ast.specs.declared.filters.AddOp.{AddOp}
+use Rattle.conf_ast.specs.declared.filters.VariableType.{VariableType}
 use Rattle.filt_types.proofs.Trees as o
 
 -- the parts of a list, with room for the steps of a walk over it

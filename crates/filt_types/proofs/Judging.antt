@@ -3,15 +3,15 @@ use Rattle.std.proofs.Common.{◌≡◌, ℕ, suc, Bool, true, false, ◌&&◌, 
 use Rattle.std.proofs.Math.Dec.{eqb-suc-zero}
 use Rattle.std.specs.Global.{Global}
 use Rattle.conf_lex.specs.declared.named.Name.{Name}
-use Rattle.filt_syntax.specs.declared.ast.Access.{Access}
-use Rattle.filt_syntax.specs.declared.ast.Access.TheVariants as parts
-use Rattle.filt_syntax.specs.declared.ast.CompareOp.{CompareOp}
-use Rattle.filt_syntax.specs.declared.ast.Expr.{Expr}
-use Rattle.filt_syntax.specs.declared.ast.Expr.TheVariants as e
-use Rattle.filt_syntax.specs.declared.ast.MulOp.{MulOp}
-use Rattle.filt_syntax.specs.declared.ast.LogicalOp.{LogicalOp}
-use Rattle.filt_syntax.specs.declared.ast.Method.{Method}
-use Rattle.filt_syntax.specs.declared.ast.AddOp.{AddOp}
+use Rattle.conf_ast.specs.declared.filters.Access.{Access}
+use Rattle.conf_ast.specs.declared.filters.Access.TheVariants as parts
+use Rattle.conf_ast.specs.declared.filters.CompareOp.{CompareOp}
+use Rattle.conf_ast.specs.declared.filters.Expr.{Expr}
+use Rattle.conf_ast.specs.declared.filters.Expr.TheVariants as e
+use Rattle.conf_ast.specs.declared.filters.MulOp.{MulOp}
+use Rattle.conf_ast.specs.declared.filters.LogicalOp.{LogicalOp}
+use Rattle.conf_ast.specs.declared.filters.Method.{Method}
+use Rattle.conf_ast.specs.declared.filters.AddOp.{AddOp}
 use Rattle.filt_values.specs.declared.value.Sort.{Sort}
 use Rattle.conf_ast.specs.Filters.{Expression, Multiplied, Added, Joined, PropertyOf, Changed, multiplied, added, joined, accessed, expression_of, expressions_of}
 use Rattle.filt_types.specs.declared.judged.Judged.{Judged}

@@ -3,30 +3,30 @@
 use Rattle.std.proofs.Common.{◌≡◌, ℕ, List, [], ◌∷◌, map, Option, Some, None, option_map, refl, ap, ◌∙◌, rules, Box, Vec}
 use Rattle.std.specs.Global.{Global}
 use Rattle.conf_lex.specs.declared.named.Name.{Name}
-use Rattle.filt_syntax.specs.declared.ast.Access.{Access}
-use Rattle.filt_syntax.specs.declared.ast.Access.TheVariants as accesses
-use Rattle.filt_syntax.specs.declared.ast.Arm.{Arm}
+use Rattle.conf_ast.specs.declared.filters.Access.{Access}
+use Rattle.conf_ast.specs.declared.filters.Access.TheVariants as accesses
+use Rattle.conf_ast.specs.declared.filters.Arm.{Arm}
 use Rattle.conf_lex.specs.declared.attribute.Attribute.{Attribute}
-use Rattle.filt_syntax.specs.declared.ast.Change.{Change}
-use Rattle.filt_syntax.specs.declared.ast.CompareOp.{CompareOp}
-use Rattle.filt_syntax.specs.declared.ast.Expr.{Expr, fold-Expr, the_lemmas as expr_lemmas}
-use Rattle.filt_syntax.specs.declared.ast.Expr.TheVariants as e
-use Rattle.filt_syntax.specs.declared.ast.Expr.TheOpen.{Expr-F}
-use Rattle.filt_syntax.specs.declared.ast.Expr.TheFolds.{map-Expr}
-use Rattle.filt_syntax.specs.declared.ast.Expr.TheShapes.{former-Expr-Postfix-1-at-4}
-use Rattle.filt_syntax.specs.declared.ast.MulOp.{MulOp}
-use Rattle.filt_syntax.specs.declared.ast.Item.{Item}
-use Rattle.filt_syntax.specs.declared.ast.LogicalOp.{LogicalOp}
-use Rattle.filt_syntax.specs.declared.ast.MaskItem.{MaskItem}
-use Rattle.filt_syntax.specs.declared.ast.Method.{Method}
-use Rattle.filt_syntax.specs.declared.ast.Atom.{Atom}
-use Rattle.filt_syntax.specs.declared.ast.Stmt.{Stmt, fold-Stmt, the_lemmas as stmt_lemmas}
-use Rattle.filt_syntax.specs.declared.ast.Stmt.TheVariants as s
-use Rattle.filt_syntax.specs.declared.ast.Stmt.TheOpen.{Stmt-F}
-use Rattle.filt_syntax.specs.declared.ast.Stmt.TheFolds.{map-Stmt}
-use Rattle.filt_syntax.specs.declared.ast.Target.{Target}
-use Rattle.filt_syntax.specs.declared.ast.AddOp.{AddOp}
-use Rattle.filt_syntax.specs.declared.ast.VariableType.{VariableType}
+use Rattle.conf_ast.specs.declared.filters.Change.{Change}
+use Rattle.conf_ast.specs.declared.filters.CompareOp.{CompareOp}
+use Rattle.conf_ast.specs.declared.filters.Expr.{Expr, fold-Expr, the_lemmas as expr_lemmas}
+use Rattle.conf_ast.specs.declared.filters.Expr.TheVariants as e
+use Rattle.conf_ast.specs.declared.filters.Expr.TheOpen.{Expr-F}
+use Rattle.conf_ast.specs.declared.filters.Expr.TheFolds.{map-Expr}
+use Rattle.conf_ast.specs.declared.filters.Expr.TheShapes.{former-Expr-Postfix-1-at-4}
+use Rattle.conf_ast.specs.declared.filters.MulOp.{MulOp}
+use Rattle.conf_ast.specs.declared.filters.Item.{Item}
+use Rattle.conf_ast.specs.declared.filters.LogicalOp.{LogicalOp}
+use Rattle.conf_ast.specs.declared.filters.MaskItem.{MaskItem}
+use Rattle.conf_ast.specs.declared.filters.Method.{Method}
+use Rattle.conf_ast.specs.declared.filters.Atom.{Atom}
+use Rattle.conf_ast.specs.declared.filters.Stmt.{Stmt, fold-Stmt, the_lemmas as stmt_lemmas}
+use Rattle.conf_ast.specs.declared.filters.Stmt.TheVariants as s
+use Rattle.conf_ast.specs.declared.filters.Stmt.TheOpen.{Stmt-F}
+use Rattle.conf_ast.specs.declared.filters.Stmt.TheFolds.{map-Stmt}
+use Rattle.conf_ast.specs.declared.filters.Target.{Target}
+use Rattle.conf_ast.specs.declared.filters.AddOp.{AddOp}
+use Rattle.conf_ast.specs.declared.filters.VariableType.{VariableType}
 use Rattle.filt_types.specs.Walk.{access_of, accesses_of, arms_of, operands_of}
 use Rattle.conf_ast.specs.Filters.{Expression, Plain, Named, Called, Grouped, Paired, SetOf, MaskOf, IsDefined, MethodOf, Negated, Compared, Expressions, AndExpressions, expressions, expressions_of, expression_of, expression_step, accessed, multiplied, added, joined, Statement, Braced, Nothing, Declare, Assign, Unset, If, IfElse, Case, CaseElse, For, Accept, Reject, Return, Print, Printn, Call, Statements, AndStatements, statements, statements_of, statement_of, statement_step, Arms, AndArms, arms, changed}
 

@@ -1,14 +1,17 @@
--- The sorts of expressions, and what is refused of them. Each part that is refused is gathered;
--- which counts is another definition. What was refused for its sort or its names has no sort, so
--- what stands round it isn't refused for it.
+-- The sorts of expressions, and what is refused of them (`judge`, a line for each form). Each part
+-- that is refused is gathered; which counts is another definition. What was refused for its sort or
+-- its names has no sort, so what stands round it isn't refused for it. How to read it:
+-- docs/DEFINITIONS.md.
+-- From: BIRD User's Guide, "Filters"; where the guide is silent, own.
+-- Example: in `1 + x`, with `x` unknown, `x` alone is refused; in `1 + true` the `true`.
 use Rattle.std.specs.Prelude.{ℕ, Bool, true, false, not, ◌&&◌, ◌||◌, ◌==◌, if◌then◌else◌, List, []}
 use Rattle.std.specs.Prelude.{◌∷◌, ◌++◌, length, Option, Some, None}
 use Rattle.conf_lex.specs.declared.named.Name.{Name}
 use Rattle.conf_lex.specs.declared.attribute.Constant.{Constant}
-use Rattle.filt_syntax.specs.declared.ast.Item.{Item}
-use Rattle.filt_syntax.specs.declared.ast.MaskItem.{MaskItem}
-use Rattle.filt_syntax.specs.declared.ast.Atom.{Atom}
-use Rattle.filt_syntax.specs.declared.ast.Atom.TheVariants as atoms
+use Rattle.conf_ast.specs.declared.filters.Item.{Item}
+use Rattle.conf_ast.specs.declared.filters.MaskItem.{MaskItem}
+use Rattle.conf_ast.specs.declared.filters.Atom.{Atom}
+use Rattle.conf_ast.specs.declared.filters.Atom.TheVariants as atoms
 use Rattle.conf_ast.specs.Filters.{Expression, Plain, Named, Called, Grouped, Paired, SetOf, MaskOf}
 use Rattle.conf_ast.specs.Filters.{IsDefined, MethodOf, PropertyOf, Changed, Negated, Multiplied}
 use Rattle.conf_ast.specs.Filters.{Added, Compared, Joined, Expressions, NoExpressions}

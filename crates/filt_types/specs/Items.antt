@@ -1,21 +1,24 @@
--- Sets, masks and labels as they are written: the sort of each item, and what is refused of it. An
--- item that names no constant that is a number is refused there, and has no sort.
+-- Sets, masks and labels as they are written: the sort of each item, and what is refused of it
+-- (`item`, `common`). An item that names no constant that is a number is refused there, and has no
+-- sort.
+-- From: BIRD User's Guide, "Filters", "Data types"; where the guide is silent, own.
+-- Example: `[1, (2,3)]` is of two sorts, `5..2` backwards, `10.0.0.0/8{8,40}` past the family.
 use Rattle.std.specs.Prelude.{ℕ, Bool, true, false, ◌||◌, nat_lt, if◌then◌else◌, List, [], ◌∷◌}
 use Rattle.std.specs.Prelude.{◌++◌, Option, Some, None}
 use Rattle.bits_ip.specs.Address.{width_of}
 use Rattle.bits_ip.specs.Prefix.{Net}
-use Rattle.filt_syntax.specs.declared.ast.Item.{Item}
-use Rattle.filt_syntax.specs.declared.ast.Item.TheVariants as items
-use Rattle.filt_syntax.specs.declared.ast.Lengths.{Lengths}
-use Rattle.filt_syntax.specs.declared.ast.Lengths.TheVariants as lengths
-use Rattle.filt_syntax.specs.declared.ast.MaskAtom.{MaskAtom}
-use Rattle.filt_syntax.specs.declared.ast.MaskAtom.TheVariants as mask_atoms
-use Rattle.filt_syntax.specs.declared.ast.MaskItem.{MaskItem}
-use Rattle.filt_syntax.specs.declared.ast.Num.{Num}
-use Rattle.filt_syntax.specs.declared.ast.Num.TheVariants as nums
-use Rattle.filt_syntax.specs.declared.ast.PairPart.{PairPart}
-use Rattle.filt_syntax.specs.declared.ast.PairPart.TheVariants as parts
-use Rattle.filt_syntax.specs.declared.ast.NumRange.{NumRange}
+use Rattle.conf_ast.specs.declared.filters.Item.{Item}
+use Rattle.conf_ast.specs.declared.filters.Item.TheVariants as items
+use Rattle.conf_ast.specs.declared.filters.Lengths.{Lengths}
+use Rattle.conf_ast.specs.declared.filters.Lengths.TheVariants as lengths
+use Rattle.conf_ast.specs.declared.filters.MaskAtom.{MaskAtom}
+use Rattle.conf_ast.specs.declared.filters.MaskAtom.TheVariants as mask_atoms
+use Rattle.conf_ast.specs.declared.filters.MaskItem.{MaskItem}
+use Rattle.conf_ast.specs.declared.filters.Num.{Num}
+use Rattle.conf_ast.specs.declared.filters.Num.TheVariants as nums
+use Rattle.conf_ast.specs.declared.filters.PairPart.{PairPart}
+use Rattle.conf_ast.specs.declared.filters.PairPart.TheVariants as parts
+use Rattle.conf_ast.specs.declared.filters.NumRange.{NumRange}
 use Rattle.filt_values.specs.declared.value.Sort.{Sort}
 use Rattle.filt_values.specs.declared.value.Sort.TheVariants as sorts
 use Rattle.filt_values.specs.Values.{Val, VInt}

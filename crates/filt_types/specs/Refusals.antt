@@ -1,5 +1,7 @@
--- The first refusal of all that there are: the one at the least place, at one place the one with
--- the least number (C4 to C8 and C14 of the kinds of refusals of a configuration).
+-- The first refusal of all that there are (`first_in`): the one at the least place, at one place
+-- the one with the least number (C4 to C8 and C14 of the kinds of refusals of a configuration).
+-- From: own.
+-- Example: of an unknown name and a name over 64 bytes at one place the first.
 use Rattle.std.specs.Prelude.{ℕ, ◌==◌, Bool, true, false, ◌&&◌, ◌||◌, nat_lt, if◌then◌else◌, List}
 use Rattle.std.specs.Prelude.{[], ◌∷◌, Option, Some, None}
 use Rattle.filt_types.specs.declared.refusal.Cause.{Cause}

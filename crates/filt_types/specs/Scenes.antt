@@ -1,4 +1,7 @@
--- What is seen at a place of a filter, for the rules of types and names.
+-- What is seen at a place of a filter, for the rules of types and names (`Scene`, `Variable`);
+-- names have one space (`is_seen`, `declaring`).
+-- From: BIRD User's Guide, "Filters"; where the guide is silent, own.
+-- Example: a function's name can't be a local's.
 use Rattle.std.specs.Prelude.{ℕ, Bool, ◌||◌, nat_lt, if◌then◌else◌, List, [], ◌∷◌, ◌++◌, length}
 use Rattle.std.specs.Prelude.{Option, Some, None}
 use Rattle.std.specs.List.{list_any}

@@ -1,4 +1,6 @@
--- Scopes and variables in memory, as the definitions see them.
+-- Scopes and variables in memory, as the definitions see them (`scene_of`, `variables_of`).
+-- From: own.
+-- Example: behind `define A = 5;` the scene has the constant `A`, a number.
 use Rattle.std.specs.Prelude.{ℕ, List, map}
 use Rattle.filt_tree.specs.declared.scope.Scope.{Scope}
 use Rattle.filt_tree.specs.declared.scope.TFunction.{TFunction}

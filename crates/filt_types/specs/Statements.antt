@@ -1,16 +1,20 @@
--- What is refused in statements, and which variables are seen behind them.
+-- What is refused in statements, and which variables are seen behind them (`check`, a line for each
+-- form); what is refused in filters and functions (`in_filter`, `in_function`). How to read it:
+-- docs/DEFINITIONS.md.
+-- From: BIRD User's Guide, "Filters"; where the guide is silent, own.
+-- Example: `if 1 then accept;` is refused at the 1, `net = 10.0.0.0/8;` at `net`.
 use Rattle.std.specs.Prelude.{ℕ, Bool, true, false, not, ◌&&◌, ◌||◌, if◌then◌else◌, List, [], ◌∷◌}
 use Rattle.std.specs.Prelude.{◌++◌, length, remove, Option, Some, None}
 use Rattle.conf_lex.specs.declared.named.Name.{Name}
 use Rattle.conf_lex.specs.declared.attribute.Attribute.TheVariants as attributes
 use Rattle.conf_lex.specs.declared.attribute.Constant.{Constant}
-use Rattle.filt_syntax.specs.declared.ast.Item.{Item}
-use Rattle.filt_syntax.specs.declared.ast.Method.{Method}
-use Rattle.filt_syntax.specs.declared.ast.Parameter.{Parameter}
-use Rattle.filt_syntax.specs.declared.ast.Target.{Target}
-use Rattle.filt_syntax.specs.declared.ast.Target.TheVariants as targets
-use Rattle.filt_syntax.specs.declared.ast.VariableType.{VariableType}
-use Rattle.filt_syntax.specs.declared.ast.VariableType.TheVariants as types
+use Rattle.conf_ast.specs.declared.filters.Item.{Item}
+use Rattle.conf_ast.specs.declared.filters.Method.{Method}
+use Rattle.conf_ast.specs.declared.filters.Parameter.{Parameter}
+use Rattle.conf_ast.specs.declared.filters.Target.{Target}
+use Rattle.conf_ast.specs.declared.filters.Target.TheVariants as targets
+use Rattle.conf_ast.specs.declared.filters.VariableType.{VariableType}
+use Rattle.conf_ast.specs.declared.filters.VariableType.TheVariants as types
 use Rattle.conf_ast.specs.Configurations.{Routine}
 use Rattle.conf_ast.specs.Filters.{Expression, Statement, Braced, Nothing, Declare, Assign}
 use Rattle.conf_ast.specs.Filters.{ChangeBy, Clear, Unset, If, IfElse, Case, CaseElse, For, Accept}

@@ -1,13 +1,13 @@
--- What the walks over filters keep while they go, as the definitions see it. What is refused rests
--- on nothing here.
+-- For the contracts of the walks here and in filt_rules: what they keep while they go, as the
+-- definitions see it. What is refused rests on nothing here.
 use Rattle.std.specs.Prelude.{ℕ, Bool, false, not, ◌==◌, List, [], ◌∷◌, ◌++◌, map, length}
 use Rattle.std.specs.Prelude.{if◌then◌else◌, option_map, Option, Some, None}
 use Rattle.std.specs.Borrow.{Bor}
-use Rattle.filt_syntax.specs.declared.ast.Access.{Access}
-use Rattle.filt_syntax.specs.declared.ast.Access.TheVariants as accesses
-use Rattle.filt_syntax.specs.declared.ast.Arm.{Arm}
-use Rattle.filt_syntax.specs.declared.ast.Expr.{Expr}
-use Rattle.filt_syntax.specs.declared.ast.Stmt.{Stmt}
+use Rattle.conf_ast.specs.declared.filters.Access.{Access}
+use Rattle.conf_ast.specs.declared.filters.Access.TheVariants as accesses
+use Rattle.conf_ast.specs.declared.filters.Arm.{Arm}
+use Rattle.conf_ast.specs.declared.filters.Expr.{Expr}
+use Rattle.conf_ast.specs.declared.filters.Stmt.{Stmt}
 use Rattle.conf_ast.specs.Filters.{Expression, expression_of, expressions_of, statements_of}
 use Rattle.conf_ast.specs.Filters.{Arms, NoArms, AndArms}
 use Rattle.filt_values.specs.declared.fixed.Fixed.{Fixed}

@@ -1,5 +1,8 @@
--- How much filters weigh: each statement and each expression 1 and its parts; the body of a `for`
--- counts 120 times, as often as a path is long; a call adds what its function weighs.
+-- How much filters weigh (`weight`, `act_weight`, a line for each form): each statement and each
+-- expression 1 and its parts; the body of a `for` counts 120 times, as often as a path is long; a
+-- call adds what its function weighs.
+-- From: own.
+-- Example: `1 + 2 + 3` weighs 5.
 use Rattle.std.specs.Prelude.{ℕ, ◌+◌, ◌*◌, ◌^◌, min, nat_lt, List, Option, Some, None}
 use Rattle.conf_ast.specs.Filters.{Expression, Plain, Named, Called, Grouped, Paired, SetOf, MaskOf}
 use Rattle.conf_ast.specs.Filters.{IsDefined, MethodOf, PropertyOf, Changed, Negated, Multiplied}

@@ -22,8 +22,8 @@ use crate::refusal::{Cause, Refusal, note, note_if};
 use crate::rules::{Operator, Single, is, of_one, of_two, want_left, want_right};
 use crate::scene::{Seen, constant_named, function_named, variable_named};
 use crate::words::{and_known, mask, named, plain, set, sound};
+use conf_ast::filters::{Access, AddOp, Atom, Constant, Expr, LogicalOp, Method, MulOp};
 use conf_lex::Name;
-use filt_syntax::ast::{Access, AddOp, Atom, Constant, Expr, LogicalOp, Method, MulOp};
 use filt_tree::TFunction;
 use filt_values::Sort;
 

@@ -2,7 +2,7 @@
 
 ghost use Rattle.std.specs.Prelude.{◌≡◌, Some};
 ghost use Rattle.bits_ip.specs.Address.{width_of};
-ghost use Rattle.filt_syntax.specs.declared.ast.PairPart.TheVariants as pair_parts;
+ghost use Rattle.conf_ast.specs.declared.filters.PairPart.TheVariants as pair_parts;
 ghost use Rattle.filt_values.specs.Seen.{val_of_fixed};
 ghost use Rattle.filt_types.specs.Items as of;
 ghost use Rattle.filt_types.specs.Items.{is_known, sorts_of_items};
@@ -14,7 +14,7 @@ use crate::refusal::{Cause, Refusal, note_if};
 use crate::rules::{is, sort_if};
 use crate::scene::{Seen, constant_named};
 use bits_ip::{Addr, Prefix};
-use filt_syntax::ast::{Item, Lengths, MaskAtom, MaskItem, Num, NumRange, PairPart};
+use conf_ast::filters::{Item, Lengths, MaskAtom, MaskItem, Num, NumRange, PairPart};
 use filt_values::{Fixed, Sort};
 
 /// The sorts of some parts so far.

@@ -14,7 +14,7 @@ ghost use Rattle.filt_types.specs.Walk.{bare, rule_of, rule_of_one, said_of};
 
 use crate::judged::Judged;
 use crate::refusal::{Cause, Refusal, note_if};
-use filt_syntax::ast::{CompareOp, MethodKind, Property};
+use conf_ast::filters::{CompareOp, MethodKind, Property};
 use filt_values::Sort;
 
 /// An operator of two operands.

@@ -15,8 +15,8 @@ use crate::judged::Judged;
 use crate::refusal::{Cause, Refusal, note, note_if};
 use crate::rules::sort_if;
 use crate::scene::{Seen, constant_named, variable_named};
+use conf_ast::filters::{Atom, Attribute, Constant, Item, MaskItem};
 use conf_lex::Name;
-use filt_syntax::ast::{Atom, Attribute, Constant, Item, MaskItem};
 use filt_values::Sort;
 
 pub(crate) fn sound(at: usize, sort: Sort) -> Judged

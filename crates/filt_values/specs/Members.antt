@@ -1,5 +1,9 @@
--- Tests of plain values: which elements a set has, which net is within which, what is equal, and
--- which comes first.
+-- Tests of plain values: which elements sets, paths and lists have (`in_ints`, `in_pairs`,
+-- `in_nets`, `in_path`), which net is within which (`covers`), the order of pairs and of addresses
+-- (`pair_cmp`, `addr_cmp`), and the numbers of attributes' words.
+-- From: as of filt_sets, bits_ip and attrs, to whose relations laws join them; the order of
+-- addresses is own.
+-- Example: (1, 9) before (2, 0); 255.255.255.255 before `::`.
 use Rattle.std.specs.Prelude.{ℕ, ◌==◌, Bool, true, false, ◌&&◌, not, nat_le, min, List}
 use Rattle.std.specs.List.{list_any}
 use Rattle.std.specs.Ordering.{nat_cmp, on, then_cmp}

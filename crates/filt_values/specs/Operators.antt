@@ -1,6 +1,12 @@
--- What each operator gives at values: a value, a fault, or `Stuck` where the values are of other
--- sorts than it takes. No typed filter comes to `Stuck`.
--- Of a mask `cuts` tests what `IsCut` says, by the law `lists_are_matched`.
+-- What each operator, property and method gives at values (`plus_of`, `equal_of`, `matches_of`,
+-- `deleted_of`, .., one for each sign or word): a value, a fault, or `Stuck` where the values are
+-- of other sorts than it takes. No typed filter comes to `Stuck`. Of a mask `cuts` tests what
+-- `IsCut` says, by the law `lists_are_matched`.
+-- From: BIRD User's Guide, "Filters", "Operators" and "Data types"; faults, wrapping and limits are
+-- own.
+-- Example: `4294967295 + 1` is 0, `0 - 1` is 4294967295, `7 / 0` is ZeroDivisor, `(x, 1)` with x =
+-- 70000 is PairPart; `-empty-.add((1,2)).add((3,4))` isn't `-empty-.add((3,4)).add((1,2))`; the
+-- path 2 1 2 3 without 2 is 1 3, filtered by `[2..3]` 2 2 3.
 use Rattle.std.specs.Prelude.{ℕ, ◌+◌, ◌-◌, ◌*◌, ◌/◌, ◌%◌, ◌^◌, ◌==◌, Bool, ◌&&◌, not, nat_lt, if◌then◌else◌, List, [], ◌∷◌, ◌++◌, length, get_or, Result, Ok, Err}
 use Rattle.std.specs.List.{filter, list_any}
 use Rattle.std.specs.Cmp.Lexicographic.{pointwise}

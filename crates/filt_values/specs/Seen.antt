@@ -1,4 +1,9 @@
--- Running values and answers, as the definitions see them.
+-- For the crate's callers: a value while a filter runs, and one known before, as plain data
+-- (`val_of`, `val_of_fixed`); what an operator answers (`Answers`, `Builds`).
+-- Not modelled: which memory a value owns.
+-- From: own.
+-- Example: each variant of `Value` is its own of `Val`, but a list that stands elsewhere is what an
+-- owned one is.
 use Rattle.std.specs.Prelude.{◌≡◌, [], Result, Ok, Err, ⊤}
 use Rattle.filt_values.specs.declared.value.Value.{Value}
 use Rattle.filt_values.specs.declared.value.Value.TheVariants as values

@@ -1,4 +1,8 @@
--- Which sorts each operator takes, and of which sort its value is.
+-- For the rules of types and the laws: which sorts each operator takes, and of which sort its value
+-- is (`TakesOne`, `TakesTwo`, with a table for each).
+-- From: BIRD User's Guide, "Filters", "Operators" and "Data types"; where the guide is silent, own.
+-- Example: `1 ~ [1]` and `10.0.0.1 ~ 10.0.0.0/8` are taken, `1 ~ 1` and `10.0.0.1 ~ [10.0.0.0/8]`
+-- aren't.
 use Rattle.std.specs.Prelude.{◌≡◌, Bool, true, false, MatchBool, Result, Ok, Err, ⊤}
 use Rattle.attrs.specs.declared.judge.FilterFault.{FilterFault}
 use Rattle.filt_values.specs.declared.value.Failure.{Failure}

@@ -1,4 +1,9 @@
--- The values of the filter language, and their sorts.
+-- The values of the filter language as plain data (`Val`), their sorts (`sort_of`), and what a
+-- variable without a value holds (`default_of`).
+-- Not modelled: where values lie in memory.
+-- From: BIRD User's Guide, "Filters", "Data types"; the defaults are own.
+-- Example: 0, false, 0.0.0.0, 0.0.0.0/0, (0,0), and what is empty: a `bgpmask` without a value
+-- matches the empty path alone.
 use Rattle.std.specs.Prelude.{ℕ, Bool, false, List, []}
 use Rattle.bits_ip.specs.declared.address.Addr.{Addr}
 use Rattle.bits_ip.specs.declared.address.Addr.TheVariants.{V4}

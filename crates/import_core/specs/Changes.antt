@@ -1,4 +1,9 @@
--- The changes of an operation: the difference between the routes accepted before and after.
+-- The changes of an operation (`IsDifference`): the difference between the routes accepted before
+-- and after, each net once, in the order of nets. That a step is what an operation comes to
+-- (`IsStep`).
+-- Not modelled: how the difference is found.
+-- From: own.
+-- Example: a net whose accepted route is the same before and after is in no change.
 use Rattle.std.specs.Prelude.{◌≡◌, ◌≢◌, ℕ, ◌==◌, List, [], ◌∷◌, ◌++◌, Option, Some, None, map, if◌then◌else◌}
 use Rattle.std.specs.BTreeMap.{is_at}
 use Rattle.std.specs.List.{AllByRecursion}

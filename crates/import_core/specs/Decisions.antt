@@ -1,6 +1,9 @@
--- Which received routes are accepted: those that the filter lets pass, within the limit.
--- Modelled: a filter as its verdicts, a function of net and route. Not modelled: its language.
+-- Which received routes are accepted: those that the filter lets pass, within the limit (`decided`,
+-- `is_over`, `rebuilt`). A filter is its verdicts, a function of net and route.
+-- Not modelled: the language of filters.
 -- From: BIRD User's Guide, "Channel options", `import` and `import limit`.
+-- Example: with a limit of two and `block` the third net is refused, and accepted in a rebuild once
+-- the first is withdrawn.
 use Rattle.std.specs.Prelude.{Bool, true, false, not, ◌&&◌, ◌||◌, nat_le, [], Option, Some, None, option_and_then, length, fold, if◌then◌else◌}
 use Rattle.bits_ip.specs.Prefix.{Net}
 use Rattle.attrs.specs.declared.attributes.Kind.{Kind}

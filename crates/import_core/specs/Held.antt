@@ -1,4 +1,5 @@
--- How a protocol's routes are kept: an entry for each received net, with what of it is accepted.
+-- For private contracts alone: how a protocol's routes are kept, an entry for each received net,
+-- with what of it is accepted.
 use Rattle.std.specs.Prelude.{◌≡◌, ◌≢◌, ◌⊎◌, ℕ, ◌+◌, Bool, true, false, not, ◌&&◌, ◌||◌, nat_le, List, [], ◌∷◌, ◌++◌, fold, is_some, Option, Some, None, option_map, map, filter_map, length, if◌then◌else◌}
 use Rattle.std.specs.BTreeMap.{is_at}
 use Rattle.std.specs.Map.{keys_of}

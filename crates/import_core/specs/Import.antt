@@ -1,6 +1,8 @@
--- What an announcement is for a table. Modelled: the attributes of an imported route, before any
--- filter. Not modelled: filters, limits, and what the table does with the route.
--- From: RFC 4271, sections 5.1 and 5.1.5, and BIRD User's Guide, "Route attributes".
+-- What an announcement is for a table (`imported_route`): the attributes of an imported route
+-- before any filter, with its local preference (`local_preference`).
+-- Not modelled: filters, limits, and what the table does with the route.
+-- From: RFC 4271, sections 5.1 and 5.1.5; BIRD User's Guide, "Route attributes" and "BGP".
+-- Example: an external neighbour's route has local preference 100, whatever is given.
 use Rattle.std.specs.Prelude.{ℕ, Option, Some, unwrap_or, if◌then◌else◌}
 use Rattle.attrs.specs.declared.attributes.Attrs.{Attrs}
 use Rattle.attrs.specs.declared.attributes.Dest.TheVariants.{Unicast}

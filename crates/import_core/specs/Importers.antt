@@ -1,4 +1,8 @@
--- What contracts see of an importer.
+-- What contracts see of an importer (`Importing`: a protocol, its filter, its state); that a step
+-- leads to the next state (`IsNext`), and that protocol and filter stay (`KeepsSpec`).
+-- Not modelled: how the routes are kept.
+-- From: own.
+-- Example: the state after two operations is that of `after_operations` of both.
 use Rattle.std.specs.Prelude.{◌≡◌, Bool, true, false}
 use Rattle.bits_ip.specs.Prefix.{Net}
 use Rattle.attrs.specs.declared.attributes.Kind.{Kind}

@@ -1,6 +1,8 @@
--- The state of a protocol's imports. Modelled: its mode, the router id of its neighbour, the routes
--- that it received and those of them that were accepted. Not modelled: how they are kept.
+-- The state of a protocol's imports (`Imports`): its mode, the router id of its neighbour, the
+-- routes that it received and those of them that were accepted.
+-- Not modelled: how they are kept.
 -- From: BIRD User's Guide, "Routing tables", "Protocol options" and "Channel options".
+-- Example: before its session opens a protocol of BGP is idle and has no routes.
 use Rattle.std.specs.Prelude.{ℕ, Bool, true, false, not, List, [], Option, is_some, filter}
 use Rattle.std.specs.BTreeMap.{insert_entry, is_at}
 use Rattle.std.specs.List.Sorted.{IsStrictlySortedBy}

@@ -1,6 +1,9 @@
--- What each operation does, by the mode in which it comes.
--- From: BIRD User's Guide, "Remote control" (`disable`, `enable`, `reload`), and RFC 4271, sections
--- 3.2 and 9, for what a neighbour tells.
+-- What each operation does, by the mode in which it comes (`done_in`, a line for each pair that
+-- does something), and what a list of them leaves (`after_operations`).
+-- Not modelled: the tables that the changes go to.
+-- From: BIRD User's Guide, "Remote control" (`disable`, `enable`, `reload`); RFC 4271, sections 3.2
+-- and 9, for what a neighbour tells.
+-- Example: `add` and `del` before the session opens change nothing, nor does a second `open`.
 use Rattle.std.specs.Prelude.{ℕ, false, List, [], ◌∷◌, None, fold, if◌then◌else◌}
 use Rattle.bits_ip.specs.Prefix.{Net}
 use Rattle.attrs.specs.declared.attributes.Attrs.{Attrs}

@@ -1,4 +1,4 @@
--- How much of a text has reached a sink.
+-- For private contracts alone: how much of a text has reached a sink.
 use Rattle.std.specs.Prelude.{ℕ, ◌^◌, List, Option, Bool, true, false}
 use Rattle.std.specs.Io.KnownBytes.{Appends}
 use Rattle.outside_io.specs.Faults.{Rose}

@@ -1,4 +1,4 @@
--- Text on its way to a sink.
+-- For private contracts alone: text on its way to a sink.
 use Rattle.std.specs.Prelude.{◌≡◌, ◌≤◌, ℕ, List, [], ◌++◌, Option, false, Result, is_err}
 use Rattle.std.specs.List.{flat_map}
 use Rattle.outside_io.specs.Reached.{Reached}

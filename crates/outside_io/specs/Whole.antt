@@ -1,4 +1,7 @@
--- Whole files and whole texts.
+-- Whole files within the limit and those over it (`limit`, `IsWhole`, `IsLong`), a front of a text
+-- that was written (`WritesFront`), and a name under which nothing is held (`IsMissing`).
+-- From: own.
+-- Example: a file of 2^24 bytes is within the limit, one of a byte more isn't.
 use Rattle.std.specs.Prelude.{◌≡◌, ℕ, ◌^◌, ◌<◌, ◌≤◌, List, length, take, ⊤, Option, IfSome}
 use Rattle.std.specs.Io.KnownBytes.{Appends}
 use Rattle.outside_io.specs.declared.whole.ReadError.{ReadError}

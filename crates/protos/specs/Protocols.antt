@@ -1,6 +1,8 @@
--- Protocols, as their imports see them. Modelled: all that a protocol's routes have in common, its
--- limit and its configured routes. Not modelled: what of it a configuration says and what stands by
--- default. From: BIRD User's Guide, "Static" and "BGP".
+-- Protocols, as their imports see them (`static_spec`, `bgp_spec`): all that a protocol's routes
+-- have in common, its limit and its configured routes.
+-- Not modelled: what of it a configuration says and what stands by default (conf_check).
+-- From: BIRD User's Guide, "Static", "BGP", and "Channel options" for `preference`.
+-- Example: preference 200 for a static protocol and 100 for BGP.
 use Rattle.std.specs.Prelude.{ℕ, Bool, false, List, [], Option, Some, None}
 use Rattle.attrs.specs.declared.attributes.Kind.TheVariants.{Bgp, Static}
 use Rattle.attrs.specs.declared.route.Src.{Src}

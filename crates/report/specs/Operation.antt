@@ -1,6 +1,8 @@
--- How an operation is written: the command, without who gave it.
--- Modelled: the spelling of scripts. Not modelled: that it is read back as the same operation.
--- From: the own format of scripts, which this program reads.
+-- How an operation is written (`op_text`): the command, without who gave it, in the spelling of
+-- scripts.
+-- Not modelled: that it is read back as the same operation.
+-- From: own, the format of scripts, which this program reads.
+-- Example: `add 203.0.113.0/24 via 192.0.2.1 path 65001 65002 origin igp`.
 use Rattle.std.specs.Prelude.{ℕ, Bool, List, [], ◌∷◌, ◌++◌, codes, decimal, if◌then◌else◌}
 use Rattle.std.specs.List.{flat_map}
 use Rattle.bits_ip.specs.Text.{addr_text, net_text, v4_text}

@@ -1,7 +1,9 @@
--- The report's text: a function of what each phase reports. Modelled: every byte of it. A part has
--- a line or more; indentation is tabs, fields are separated by one space, each line ends with a
--- newline. Not modelled: where what is reported comes from. From: this program's own format;
--- attributes are written as specs/Text of attrs says.
+-- The report's text (`report_text`): a function of what each phase reports; every byte of it. A
+-- part has a line or more; indentation is tabs, fields are separated by one space, each line ends
+-- with a newline.
+-- Not modelled: where what is reported comes from.
+-- From: own; attributes are written as specs/Text of attrs says.
+-- Example: crates/birdcore/stdout is the text of the worked run of docs/DEFINITIONS.md.
 use Rattle.std.specs.Prelude.{ℕ, ◌+◌, Bool, true, false, if◌then◌else◌, List, [], ◌∷◌, ◌++◌, length, map, Option, Some, None, codes, decimal}
 use Rattle.std.specs.List.{flat_map}
 use Rattle.bits_ip.specs.Text.{net_text}

@@ -1,5 +1,4 @@
--- Parts of the report's text, for the private functions that write them; no public clause speaks of
--- these.
+-- For private contracts alone: parts of the report's text, for the functions that write them.
 use Rattle.std.specs.Prelude.{ℕ, List, [], ◌∷◌, ◌++◌, map}
 use Rattle.bits_ip.specs.Prefix.{Net}
 use Rattle.bits_ip.specs.Text.{net_text}

@@ -1,4 +1,4 @@
--- Nets with their routes, as they are kept.
+-- For private contracts alone: nets with their routes, as they are kept.
 use Rattle.std.specs.Prelude.{◌≡◌, ◌≢◌, ◌<◌, ℕ, IsSomeAnd, List, [], ◌∷◌, ◌++◌, length, Option, Some, None, sum_by}
 use Rattle.std.specs.BTreeMap.{is_at}
 use Rattle.std.specs.List.Sorted.{IsStrictlySortedBy}

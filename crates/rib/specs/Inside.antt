@@ -1,4 +1,4 @@
--- How a table is kept.
+-- For private contracts alone: how a table is kept.
 use Rattle.std.specs.Prelude.{◌≡◌, ◌<◌, ◌+◌, ◌^◌, IfSome, IsSomeAnd}
 use Rattle.bits_ip.specs.Prefix.{Net}
 use Rattle.rib.specs.declared.rib.Rib.TheInside.{Inside}

@@ -1,4 +1,5 @@
--- The order of selection as one comparison: the preferred route is the lesser.
+-- For private contracts alone: the order of selection as one comparison: the preferred route is the
+-- lesser.
 use Rattle.std.specs.Prelude.{ℕ, List, [], ◌∷◌, Option, Some, None}
 use Rattle.std.specs.Ordering.{nat_cmp, ordering_then}
 use Rattle.std.specs.declared.cmp.Ordering.{Ordering}

@@ -1,4 +1,6 @@
--- What a change answers.
+-- What a change of a table answers (`IfChanged`).
+-- From: own.
+-- Example: the same route put once more is `Same`.
 use Rattle.std.specs.Prelude.{Bool, ⊤}
 use Rattle.rib.specs.declared.rib.Outcome.{Outcome}
 use Rattle.rib.specs.declared.rib.Outcome.TheVariants.{Same, Changed}

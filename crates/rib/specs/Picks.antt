@@ -1,4 +1,5 @@
--- How rows are picked, and what the best of a net is with another route.
+-- For private contracts alone: how rows are picked, and what the best of a net is with another
+-- route.
 use Rattle.std.specs.Prelude.{ℕ, Bool, true, false, ◌&&◌, not, nat_lt, if◌then◌else◌, fold, List, [], Option, Some, None}
 use Rattle.std.specs.declared.ops.Bound.{Bound}
 use Rattle.std.specs.declared.ops.Bound.TheVariants.{Included, Unbounded}

@@ -1,4 +1,7 @@
--- A table: what contracts see of it.
+-- A table, as contracts see it (`Table`): its rows, family and content, and the best of a net
+-- (`best_of`).
+-- From: own; BIRD User's Guide, "Routing tables".
+-- Example: an empty table has no rows.
 use Rattle.std.specs.Prelude.{◌≡◌, ℕ, List, [], ◌∷◌, Option, Some, None, ⊤}
 use Rattle.bits_ip.specs.declared.address.Family.{Family}
 use Rattle.bits_ip.specs.Address.{family_of}

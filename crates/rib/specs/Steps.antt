@@ -1,4 +1,4 @@
--- What a change does to the routes of its net, and to the rows.
+-- For private contracts alone: what a change does to the routes of its net, and to the rows.
 use Rattle.std.specs.Prelude.{◌≡◌, ◌≤◌, ◌+◌, ℕ, Bool, true, false, ◌==◌, if◌then◌else◌, List, [], ◌∷◌, length, Option}
 use Rattle.bits_ip.specs.Prefix.{Net, same_net}
 use Rattle.attrs.specs.declared.route.Change.{Change}

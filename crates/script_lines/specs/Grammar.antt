@@ -1,10 +1,13 @@
--- What the words of a line say by the grammar alone, with numbers of any size.
--- Modelled: `sync`, `!take`, `!push`, and by whom a command is given: `open`, `close`, `add`,
--- `del`, `disable`, `enable`, `reload` with its two kinds, and `show route` with or without further
--- words. Not modelled: what those further words say, which names there are, limits of numbers.
--- From: this program's own format of scripts; `show route`, `disable`, `enable` and `reload` are
--- those of BIRD's client (BIRD User's Guide, "Remote control"), paths and origins are those of
--- RFC 4271, communities those of RFC 1997.
+-- What the words of a line say by the grammar alone, with numbers of any size (`HasForm`,
+-- `IsCommand`, `IsAdd`, `IsDel`, `IsStep`, `IsSpoken`, `IsActor`): `sync`, `!take`, `!push`, and by
+-- whom a command is given: `open`, `close`, `add`, `del`, `disable`, `enable`, `reload` with its
+-- two kinds, and `show route` with or without further words.
+-- Not modelled: what those further words say, which names there are, limits of numbers.
+-- From: own, this program's format of scripts; `show route`, `disable`, `enable` and `reload` are
+-- those of BIRD's client (BIRD User's Guide, "Remote control"), paths and origins those of RFC
+-- 4271, communities those of RFC 1997.
+-- Example: `!take p1 007` says 7; `!take p$ 1`, `@ show route`, `sync # x` say nothing; `@x reload
+-- in` is of a protocol called in.
 use Rattle.std.specs.Prelude.{◌≡◌, ℕ, ◌^◌, ◌<◌, ◌≤◌, ◌⊎◌, Bool, not, ◌&&◌, ◌||◌, ◌==◌, IsTrue}
 use Rattle.std.specs.Prelude.{List, [], ◌∷◌, ◌++◌, length, filter, codes, Option, None, Some, ⊤}
 use Rattle.std.specs.Char.{is_ascii_alphanumeric}

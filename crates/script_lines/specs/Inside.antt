@@ -1,8 +1,7 @@
--- The parts of a line as they are read one after the other, and what the lines so far come to.
--- These definitions are for the private functions and the proofs; no public clause speaks of them.
--- Modelled: what a front of the words says, where no longer front says it; what is kept
--- of numbers that may be too large. Not modelled: where in the line a word stands.
--- From: specs/Grammar, specs/Kinds and specs/Script, whose parts these are.
+-- For private contracts alone: the parts of a line as they are read one after the other, and what
+-- the lines so far come to; what a front of the words says, where no longer front says it; what is
+-- kept of numbers that may be too large.
+-- Not modelled: where in the line a word stands.
 use Rattle.std.specs.Prelude.{◌≡◌, ℕ, Bool, true, false, not, ◌&&◌, ◌==◌, ◌⊎◌}
 use Rattle.std.specs.Prelude.{nat_le, is_none, if◌then◌else◌, IsTrue, List, [], ◌∷◌, ◌++◌}
 use Rattle.std.specs.Prelude.{length, map, codes, Option, None, Some, unwrap_or, Result, Ok, Err, ⊤}

@@ -1,9 +1,12 @@
--- Why a line that is of the grammar is refused: each kind by itself, and the least of those that
--- apply. Modelled: what a configuration declares as far as scripts can name it, by names, kinds of
--- protocols and families; who has spoken before. Not modelled: the configuration itself.
--- From: this program's own format of scripts. A path has at most 120 numbers and a list at most 64
+-- Why a line that is of the grammar is refused: each kind by itself (`has_wrong_actor`,
+-- `has_unknown_name`, `has_other_family`, `is_over_limit`, `is_actor_too_many`), and the least of
+-- those that apply (`least_kind`). What scripts can name (`channel_of`, `protocol_of`,
+-- `session_of`, `is_of_family`), by names, kinds of protocols and families; who has spoken before.
+-- Not modelled: the configuration itself.
+-- From: own, this program's format of scripts. A path has at most 120 numbers and a list at most 64
 -- communities, which are limits of this program; numbers have 32 bits and the parts of a community
 -- sixteen (RFC 6793, RFC 4271, RFC 1997).
+-- Example: `!take nope 4294967296` is S3; an `add` by no bgp protocol has no S4.
 use Rattle.std.specs.Prelude.{ℕ, ◌<◌, ◌^◌, Bool, true, false, not, ◌&&◌, nat_le, is_some, is_none}
 use Rattle.std.specs.Prelude.{List, [], ◌∷◌, length, Option, None, Some}
 use Rattle.std.specs.List.{list_all, position, find}

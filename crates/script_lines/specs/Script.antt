@@ -1,7 +1,10 @@
--- What a text says as a script, or at which line it is refused or not built yet.
--- Modelled: its lines numbered from 1, what each says (Grammar) and why one is refused (Kinds), who
--- speaks, and phases cut at `sync`. Not modelled: what a line does.
--- From: this program's own format of scripts.
+-- What a text says as a script, or at which line it is refused or not built yet (`Answers`:
+-- `IsScript`, `IsRefused`, `IsNotBuilt`): its lines numbered from 1, what each says (`AreForms`, by
+-- Grammar) and why one is refused (Kinds), who has spoken (`actors_of`), and phases cut at `sync`
+-- (`phases_of`).
+-- Not modelled: what a line does.
+-- From: own, this program's format of scripts.
+-- Example: `sync` alone makes two phases.
 use Rattle.std.specs.Prelude.{◌≡◌, ℕ, ◌+◌, Bool, true, false, not, is_some, if◌then◌else◌, List}
 use Rattle.std.specs.Prelude.{[], ◌∷◌, ◌++◌, length, map, filter, Option, None, Some, unwrap_or, ⊤}
 use Rattle.std.specs.Prelude.{◌<◌, ◌^◌}

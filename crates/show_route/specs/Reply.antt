@@ -1,7 +1,9 @@
--- What `show route` answers for rows of a table. Modelled: the whole reply over all rows. Not
--- modelled: its options (a choice of nets, of protocols, of attributes shown), times and metrics of
--- protocols. From: BIRD User's Guide, section 4 ("Remote control"), `show route`; the form of a
--- line is this program's own.
+-- What `show route` answers for rows of a table (`reply_text`): the whole reply over all rows.
+-- Not modelled: its options (a choice of nets, of protocols, of attributes shown), times and
+-- metrics of protocols.
+-- From: BIRD User's Guide, "Remote control", `show route`; the form of a line is own.
+-- Example: `203.0.113.0/24 unicast [p1] * (100) [AS65002i]`, and `via 192.0.2.1` in a line of its
+-- own behind a tab.
 use Rattle.std.specs.Prelude.{ℕ, Bool, true, false, if◌then◌else◌, List, [], ◌∷◌, ◌++◌, Option, Some, None, codes, decimal}
 use Rattle.std.specs.List.{flat_map}
 use Rattle.bits_ip.specs.Prefix.{Net}

@@ -9,11 +9,11 @@ use Rattle.conf_lex.specs.Grammar.{Terminal, Seq, Alt, Repeat, ParseTree, Leaf, 
 use Rattle.conf_lex.specs.Leaves.{symbol_leaf, name_leaf}
 use Rattle.syntax_laws.proofs.Parts.{Small, more_room, chain_small, part_small, start_small, one_is, seq_is, either_is, symbol_is, name_is, some_words}
 use Rattle.syntax_laws.proofs.Rows.{Seen, both_of, more_of, many_told}
-use Rattle.filt_syntax.specs.declared.ast.Num.TheVariants as nums
-use Rattle.filt_syntax.specs.declared.ast.Item.{Item}
-use Rattle.filt_syntax.specs.declared.ast.Item.TheVariants as items
-use Rattle.filt_syntax.specs.declared.ast.Arm.{Arm}
-use Rattle.filt_syntax.specs.declared.ast.Stmt.{Stmt}
+use Rattle.conf_ast.specs.declared.filters.Num.TheVariants as nums
+use Rattle.conf_ast.specs.declared.filters.Item.{Item}
+use Rattle.conf_ast.specs.declared.filters.Item.TheVariants as items
+use Rattle.conf_ast.specs.declared.filters.Arm.{Arm}
+use Rattle.conf_ast.specs.declared.filters.Stmt.{Stmt}
 use Rattle.filt_syntax.specs.Syntax.{rule, optional, many, is_num, pair_item, prefix_item, item, stmt, label, label_end, unnamed_item, label_of_name, arm_part}
 use Rattle.filt_syntax.specs.ItemView.{high_tree, item_tree, items_after, label_tree, label_end_tree}
 use Rattle.filt_syntax.specs.StatementView.{stmt_tree, as_part, as_label, body_after, ArmParts, arms_after, arms_of}

@@ -11,14 +11,14 @@ use Rattle.conf_lex.specs.Grammar.{Terminal, Seq, Alt, Repeat, Nested, ParseTree
 use Rattle.conf_lex.specs.Leaves.{symbol_leaf, name_leaf, between}
 use Rattle.syntax_laws.proofs.Parts.{size, Small, more_room, chain_small, part_small, start_small, some_size, placed_word, one_is, seq_is, either_is, nest_is, symbol_is, placed_is, name_is, optional_is}
 use Rattle.syntax_laws.proofs.Rows.{Seen, Some as Some_row, both_of, more_of, inside_of, listed_told}
-use Rattle.filt_syntax.specs.declared.ast.Access.{Access}
-use Rattle.filt_syntax.specs.declared.ast.Access.TheVariants as accesses
-use Rattle.filt_syntax.specs.declared.ast.MulOp.{MulOp}
-use Rattle.filt_syntax.specs.declared.ast.AddOp.{AddOp}
-use Rattle.filt_syntax.specs.declared.ast.LogicalOp.{LogicalOp}
-use Rattle.filt_syntax.specs.declared.ast.Method.{Method}
-use Rattle.filt_syntax.specs.declared.ast.Expr.{Expr}
-use Rattle.filt_syntax.specs.declared.ast.Expr.TheVariants as exprs
+use Rattle.conf_ast.specs.declared.filters.Access.{Access}
+use Rattle.conf_ast.specs.declared.filters.Access.TheVariants as accesses
+use Rattle.conf_ast.specs.declared.filters.MulOp.{MulOp}
+use Rattle.conf_ast.specs.declared.filters.AddOp.{AddOp}
+use Rattle.conf_ast.specs.declared.filters.LogicalOp.{LogicalOp}
+use Rattle.conf_ast.specs.declared.filters.Method.{Method}
+use Rattle.conf_ast.specs.declared.filters.Expr.{Expr}
+use Rattle.conf_ast.specs.declared.filters.Expr.TheVariants as exprs
 use Rattle.filt_syntax.specs.Syntax.{rule, optional, listed, many, mask_item, is_atom, is_method, is_property, is_mul_op, is_add_op, is_compare_op, is_logical_op, call, named, group, set, mask, of_attribute, defined, method_call, method, access}
 use Rattle.filt_syntax.specs.Levels.{Form, group_level, operand_level, arguments_level, set_level, argument_level, two_level, attribute_level}
 use Rattle.filt_syntax.specs.Syntax.{primary, postfix, unary, product, sum, comparison, expr}

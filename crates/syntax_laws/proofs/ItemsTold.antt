@@ -13,10 +13,10 @@ use Rattle.conf_lex.proofs.Checks.{or_cases}
 use Rattle.conf_lex.proofs.Symbols.{is_symbol_word}
 use Rattle.syntax_laws.proofs.Parts.{Small, more_room, placed_word, one_is, seq_is, either_is, nest_is, symbol_is, optional_is}
 use Rattle.syntax_laws.proofs.Rows.{Seen, Row, Some as Some_row, both_of, many_told, listed_told}
-use Rattle.filt_syntax.specs.declared.ast.PairPart.TheVariants as pair_parts
-use Rattle.filt_syntax.specs.declared.ast.Lengths.TheVariants as lengths_variants
-use Rattle.filt_syntax.specs.declared.ast.Item.TheVariants as items
-use Rattle.filt_syntax.specs.declared.ast.MaskAtom.TheVariants as mask_atoms
+use Rattle.conf_ast.specs.declared.filters.PairPart.TheVariants as pair_parts
+use Rattle.conf_ast.specs.declared.filters.Lengths.TheVariants as lengths_variants
+use Rattle.conf_ast.specs.declared.filters.Item.TheVariants as items
+use Rattle.conf_ast.specs.declared.filters.MaskAtom.TheVariants as mask_atoms
 use Rattle.filt_syntax.specs.Syntax.{rule, optional, is_num, num_range, pair_part, pair_item, lengths, prefix_item, item, mask_atom, mask_item}
 use Rattle.filt_syntax.specs.Levels.{Level, Form, set_level, pair_level, lengths_level}
 use Rattle.filt_syntax.specs.ItemView.{num_tree, high_tree, num_range_tree, pair_part_tree, with_comma, lengths_tree, lengths_part, item_tree, items_tree, mask_atom_tree, many_tree, mask_item_tree, mask_items_tree}

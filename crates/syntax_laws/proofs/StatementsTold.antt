@@ -13,13 +13,13 @@ use Rattle.conf_lex.specs.Leaves.{symbol_leaf, name_leaf, between}
 use Rattle.conf_lex.proofs.Symbols.{is_symbol_word}
 use Rattle.syntax_laws.proofs.Parts.{size, Small, more_room, some_size, one_is, seq_is, either_is, nest_is, symbol_is, placed_is, name_is, optional_is}
 use Rattle.syntax_laws.proofs.Rows.{Seen, Row, both_of, inside_of, many_told}
-use Rattle.filt_syntax.specs.declared.ast.VariableType.{VariableType}
-use Rattle.filt_syntax.specs.declared.ast.VariableType.TheVariants as types
-use Rattle.filt_syntax.specs.declared.ast.Target.TheVariants as targets
-use Rattle.filt_syntax.specs.declared.ast.Change.TheVariants as changes
-use Rattle.filt_syntax.specs.declared.ast.Arm.{Arm}
-use Rattle.filt_syntax.specs.declared.ast.Stmt.{Stmt}
-use Rattle.filt_syntax.specs.declared.ast.Stmt.TheVariants as stmts
+use Rattle.conf_ast.specs.declared.filters.VariableType.{VariableType}
+use Rattle.conf_ast.specs.declared.filters.VariableType.TheVariants as types
+use Rattle.conf_ast.specs.declared.filters.Target.TheVariants as targets
+use Rattle.conf_ast.specs.declared.filters.Change.TheVariants as changes
+use Rattle.conf_ast.specs.declared.filters.Arm.{Arm}
+use Rattle.conf_ast.specs.declared.filters.Stmt.{Stmt}
+use Rattle.conf_ast.specs.declared.filters.Stmt.TheVariants as stmts
 use Rattle.filt_syntax.specs.Syntax.{rule, optional, listed, many, expr, has_sets, has_no_sets, vtype, semicolon, block, declaration, assigned, changed, done_to_name, done_to_attribute, unset, if_stmt, case_stmt, for_stmt, verdict_stmt, return_stmt, print_stmt, unnamed_stmt, stmt, call, method, of_attribute, label, arm_part}
 use Rattle.filt_syntax.specs.Levels.{Form, block_level, body_level, arms_level}
 use Rattle.filt_syntax.specs.View.{derivations, in_parentheses, arguments_tree, listed_tree, expr_tree, expr_trees}

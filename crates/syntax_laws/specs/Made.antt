@@ -1,4 +1,7 @@
--- For the laws of words: of which tokens words are made. Not modelled: bytes. From: own.
+-- For the laws of words: of which tokens words are made (`IsMadeOf`, `MakeUp`).
+-- Not modelled: bytes.
+-- From: own.
+-- Example: the word `10.0.0.0/8` is made of an address, a slash and a number.
 use Rattle.std.specs.Prelude.{◌≡◌, ℕ, ◌+◌, Some, List, [], ◌∷◌, ◌++◌, length}
 use Rattle.bits_ip.specs.declared.address.Addr.{Addr}
 use Rattle.conf_lex.specs.Words.{token_symbol, word_of, prefix_word}

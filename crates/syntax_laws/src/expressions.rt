@@ -2,12 +2,12 @@
 ghost use Rattle.std.specs.Global.{Box, Vec};
 ghost use Rattle.std.specs.Prelude.{◌≡◌, ◌<◌, ◌≤◌, ◌^◌, length};
 ghost use Rattle.conf_lex.specs.Grammar.{ParseTree, yield, DerivesLongest, Derives};
-ghost use Rattle.filt_syntax.specs.declared.ast.Access.{Access};
-ghost use Rattle.filt_syntax.specs.declared.ast.Expr.{Expr};
-ghost use Rattle.filt_syntax.specs.declared.ast.Expr.TheVariants as exprs;
-ghost use Rattle.filt_syntax.specs.declared.ast.MulOp.{MulOp};
-ghost use Rattle.filt_syntax.specs.declared.ast.LogicalOp.{LogicalOp};
-ghost use Rattle.filt_syntax.specs.declared.ast.AddOp.{AddOp};
+ghost use Rattle.conf_ast.specs.declared.filters.Access.{Access};
+ghost use Rattle.conf_ast.specs.declared.filters.Expr.{Expr};
+ghost use Rattle.conf_ast.specs.declared.filters.Expr.TheVariants as exprs;
+ghost use Rattle.conf_ast.specs.declared.filters.MulOp.{MulOp};
+ghost use Rattle.conf_ast.specs.declared.filters.LogicalOp.{LogicalOp};
+ghost use Rattle.conf_ast.specs.declared.filters.AddOp.{AddOp};
 ghost use Rattle.filt_syntax.specs.Syntax.{expr, rule};
 ghost use Rattle.filt_syntax.specs.View.{derivations};
 

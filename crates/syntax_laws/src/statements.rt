@@ -2,7 +2,7 @@
 //! fits, and each is the view of one.
 ghost use Rattle.std.specs.Prelude.{◌≡◌, ◌<◌, ◌^◌, length};
 ghost use Rattle.conf_lex.specs.Grammar.{ParseTree, yield, DerivesLongest, Derives};
-ghost use Rattle.filt_syntax.specs.declared.ast.Block.{Block};
+ghost use Rattle.conf_ast.specs.declared.filters.Block.{Block};
 ghost use Rattle.filt_syntax.specs.Syntax.{block, rule, stmt};
 ghost use Rattle.filt_syntax.specs.StatementView.{block_view};
 

@@ -1,4 +1,7 @@
--- What scripts can name of a configuration: its protocols with their kinds, and its channels.
+-- What scripts can name of a configuration (`named_of`): its protocols with their kinds, and its
+-- channels.
+-- From: own.
+-- Example: a protocol of BGP is a protocol and a channel of one name.
 use Rattle.std.specs.Prelude.{ℕ, List, [], ◌∷◌, ◌++◌, map, codes}
 use Rattle.script_lines.specs.declared.named.Named.{Named}
 use Rattle.script_lines.specs.declared.named.NamedProtocol.{NamedProtocol}

@@ -1,6 +1,8 @@
--- What a configuration gives to play: its tables, and its protocols but for pipes, with what holds
--- for their routes and what their filters say. From: BIRD User's Guide, "Static", "BGP" and
--- "Channel options".
+-- What a configuration gives to play (`setup_of`): its tables, and its protocols but for pipes,
+-- with what holds for their routes and what their filters say; whether it has a pipe (`has_pipe`).
+-- Not modelled: pipes.
+-- From: BIRD User's Guide, "Static", "BGP" and "Channel options".
+-- Example: static routes have preference 200; a neighbour in another AS is external.
 use Rattle.std.specs.Prelude.{◌≡◌, ℕ, ◌+◌, Bool, true, false, not, ◌==◌, if◌then◌else◌, List, [], ◌∷◌, map, Option, Some, None, option_map}
 use Rattle.bits_ip.specs.declared.address.Addr.{Addr}
 use Rattle.bits_ip.specs.declared.address.Family.{Family}
@@ -11,8 +13,8 @@ use Rattle.conf_check.specs.declared.checked.ImportLimit.{ImportLimit}
 use Rattle.conf_check.specs.declared.checked.StaticRoute.{StaticRoute}
 use Rattle.conf_check.specs.declared.checked.StaticTarget.{StaticTarget}
 use Rattle.conf_check.specs.declared.checked.StaticTarget.TheVariants as targets
-use Rattle.conf_tree.specs.declared.ast.Action.{Action as Written}
-use Rattle.conf_tree.specs.declared.ast.Action.TheVariants as written
+use Rattle.conf_ast.specs.declared.configurations.Action.{Action as Written}
+use Rattle.conf_ast.specs.declared.configurations.Action.TheVariants as written
 use Rattle.import_core.specs.declared.import_spec.Action.{Action}
 use Rattle.import_core.specs.declared.import_spec.Action.TheVariants as actions
 use Rattle.export_core.specs.declared.passing.ExportSpec.{ExportSpec}

@@ -8,10 +8,10 @@ ghost use Rattle.system.specs.Seen.{bgp_seen, body_seen, policy_says, static_see
 use crate::tables::copied;
 use attrs::{Dest, Judge, Src};
 use bits_ip::{Addr, OutOfMemory};
+use conf_ast::configurations::Action as Written;
 use conf_check::{
     BgpDef, ImportLimit, PolicyDef, ProtocolBody, ProtocolDef, StaticDef, StaticRoute, StaticTarget,
 };
-use conf_tree::ast::Action as Written;
 use export_core::ExportSpec;
 use import_core::{Action, Fixed, ImportSpec, Limit};
 use protos::{bgp_spec, static_spec};

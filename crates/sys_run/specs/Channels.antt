@@ -1,4 +1,5 @@
--- For the contracts of private functions: a channel, and the machine's channel that it is.
+-- For private contracts, and for what `HasPlayed` keeps of a core from phase to phase; nothing
+-- promised rests on it: a channel, and the machine's channel that it is.
 use Rattle.std.specs.Prelude.{◌≡◌, ◌-◌, ◌≤◌, ℕ, min, Bool, true, false, List, [], length, map, Option, Some, None, if◌then◌else◌}
 use Rattle.std.specs.List.Sorted.{IsStrictlySortedBy}
 use Rattle.std.specs.Map.{keys_of}

@@ -1,4 +1,5 @@
--- For the contracts of private functions: a core in the midst of a phase, and the machine's state.
+-- For private contracts, and for what `HasPlayed` keeps of a core from phase to phase; nothing
+-- promised rests on it: a core in the midst of a phase, and the machine's state.
 use Rattle.std.specs.Prelude.{◌≡◌, ◌≤◌, ◌++◌, ℕ, List, [], length, map, reverse, Some, slice_get}
 use Rattle.std.specs.declared.alloc.Global.{Global}
 use Rattle.std.specs.declared.vec.Vec.{Vec}

@@ -1,4 +1,4 @@
--- For the contracts of private functions: what is made of the parts of tables and protocols.
+-- For private contracts alone: what is made of the parts of tables and protocols.
 use Rattle.std.specs.Prelude.{◌≡◌, ◌+◌, ◌++◌, ℕ, false, List, [], ◌∷◌, map, None, is_some, option_map, if◌then◌else◌}
 use Rattle.export_core.specs.declared.floors.FeedState.TheVariants.{Done}
 use Rattle.export_core.specs.Calls.{no_marks}

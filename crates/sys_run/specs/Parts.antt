@@ -1,4 +1,6 @@
--- What a core is made of, as what is played.
+-- What a core is made of, as what is played (`setup_seen`).
+-- From: own.
+-- Example: a core without protocols is a setup without protocols.
 use Rattle.std.specs.Prelude.{ℕ, List, map, option_map}
 use Rattle.bits_ip.specs.Prefix.{Net}
 use Rattle.bits_ip.specs.declared.address.Family.{Family}

@@ -1,5 +1,5 @@
--- For the contracts of private functions: where a phase began, and what is reported at its end of
--- the single parts of a core.
+-- For private contracts alone: where a phase began, and what is reported at its end of the single
+-- parts of a core.
 use Rattle.std.specs.Prelude.{◌≡◌, ◌++◌, ℕ, false, List, [], ◌∷◌, drop, length, map, reverse, Option, Some, None, option_map, slice_get}
 use Rattle.std.specs.declared.alloc.Global.{Global}
 use Rattle.std.specs.declared.vec.Vec.{Vec}

@@ -1,4 +1,7 @@
--- A core between two phases: what has been played so far, and how it is reported.
+-- A core between two phases (`HasPlayed`, by `PlaysTo`): what has been played so far, and how it is
+-- reported.
+-- From: own.
+-- Example: a new core has played nothing.
 use Rattle.std.specs.Prelude.{◌≡◌, ℕ, zero, suc, List, [], ◌∷◌, length}
 use Rattle.bits_ip.specs.Prefix.{Net}
 use Rattle.attrs.specs.declared.judge.Verdict.{Verdict}

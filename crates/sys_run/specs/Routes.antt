@@ -1,4 +1,5 @@
--- For the contracts of private functions: all tables and channels, and the machine's state of them.
+-- For private contracts, and for what `HasPlayed` keeps of a core from phase to phase; nothing
+-- promised rests on it: all tables and channels, and the machine's state of them.
 use Rattle.std.specs.Prelude.{◌≡◌, ◌≤◌, ℕ, false, ◌∷◌, length}
 use Rattle.bits_ip.specs.Prefix.{Net}
 use Rattle.attrs.specs.declared.judge.Verdict.{Verdict}

@@ -1,6 +1,9 @@
--- Scripts as the machine reads them: lines with the numbers of protocols, backwards. Modelled:
--- which protocol a channel's number means. Not modelled: texts and names (specs/Script of
--- script_lines).
+-- Scripts as the machine reads them (`line_of`, `phase_of`): lines with the numbers of protocols,
+-- backwards; which protocol a channel's number means.
+-- Not modelled: texts and names (specs/Script of script_lines); of tables `show route` means the
+-- first.
+-- From: own.
+-- Example: `!take p2 1`, where p1 is static and has no channel, is of protocol 1.
 use Rattle.std.specs.Prelude.{ℕ, List, [], length, map, reverse, Option, Some, None, slice_get}
 use Rattle.core_machine.specs.Lines as machine
 use Rattle.core_setup.specs.Reports.{channels}

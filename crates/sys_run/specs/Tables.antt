@@ -1,5 +1,5 @@
--- For the contracts of private functions: a table with its journal, and the machine's history of
--- it.
+-- For private contracts, and for what `HasPlayed` keeps of a core from phase to phase; nothing
+-- promised rests on it: a table with its journal, and the machine's history of it.
 use Rattle.std.specs.Prelude.{◌≡◌, ◌+◌, ◌≤◌, ℕ, true, List, [], ◌∷◌, ◌++◌, length, Option, Some, None, IsSome, map, reverse, slice_get, ⊤}
 use Rattle.bits_ip.specs.Address.{family_of}
 use Rattle.bits_ip.specs.Prefix.{Net}

@@ -4,10 +4,10 @@ use Rattle.conf_tree.specs.Position.{IsPlace}
 use Rattle.conf_tree.specs.Read as tree
 use Rattle.conf_tree.specs.Read.{IsConfigText, IsRefusedText}
 use Rattle.conf_tree.specs.View.{statements_tree}
-use Rattle.conf_tree.specs.declared.kind.ConfFault.{ConfFault}
-use Rattle.conf_tree.specs.declared.kind.ConfFault.TheVariants as conf_faults
-use Rattle.conf_tree.specs.declared.kind.ConfKind.{ConfKind}
-use Rattle.conf_tree.specs.declared.ast.Statement.{Statement}
+use Rattle.conf_ast.specs.declared.kind.ConfFault.{ConfFault}
+use Rattle.conf_ast.specs.declared.kind.ConfFault.TheVariants as conf_faults
+use Rattle.conf_ast.specs.declared.kind.ConfKind.{ConfKind}
+use Rattle.conf_ast.specs.declared.configurations.Statement.{Statement}
 use Rattle.conf_ast.specs.Configurations.{configuration_of}
 use Rattle.conf_check.specs.Behind.{at_start}
 use Rattle.conf_check.specs.Refused as check

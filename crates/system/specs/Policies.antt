@@ -1,5 +1,6 @@
--- What a policy says of the routes of nets: a filter, seen as a function. From: BIRD User's Guide,
--- "Channel options", `import` and `export`, and "Filters".
+-- What a policy says of the routes of nets: a filter, seen as a function (`says`).
+-- From: BIRD User's Guide, "Channel options", `import` and `export`, and "Filters".
+-- Example: `all` accepts each route as it is, `none` rejects each.
 use Rattle.std.specs.Prelude.{ℕ, List, Option, Some, None, slice_get}
 use Rattle.bits_ip.specs.Prefix.{Net}
 use Rattle.attrs.specs.declared.judge.Verdict.{Verdict}

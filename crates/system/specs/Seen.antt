@@ -1,9 +1,11 @@
--- For the contracts of private functions: what is configured, in memory, as the definitions see it.
+-- What is configured, in memory, as the definitions see it (`system_of`, which is to be believed);
+-- the rest is for private contracts.
+-- From: own.
 use Rattle.std.specs.Prelude.{◌≡◌, ⊤, ℕ, List, map, Option, Some, None, slice_get}
 use Rattle.attrs.specs.declared.judge.Verdict.TheVariants as verdicts
 use Rattle.conf_tree.specs.Position.{IsPlace}
-use Rattle.conf_tree.specs.declared.kind.ConfFault.{ConfFault}
-use Rattle.conf_tree.specs.declared.kind.ConfFault.TheVariants as conf_faults
+use Rattle.conf_ast.specs.declared.kind.ConfFault.{ConfFault}
+use Rattle.conf_ast.specs.declared.kind.ConfFault.TheVariants as conf_faults
 use Rattle.conf_check.specs.declared.checked.BgpDef.{BgpDef}
 use Rattle.conf_check.specs.declared.checked.ChannelDef.{ChannelDef}
 use Rattle.conf_check.specs.declared.checked.PipeDef.{PipeDef}

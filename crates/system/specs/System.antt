@@ -1,14 +1,15 @@
--- What a configuration comes to: its tables and its protocols, each in the order of their numbers,
--- and what each protocol's policies say of routes. Of options written twice the last counts, and
--- what isn't written has its default. From: BIRD User's Guide, "Channel options", "Static", "BGP"
--- and "Pipe".
+-- What a configuration comes to (`system_in`): its tables and its protocols, each in the order of
+-- their numbers, and what each protocol's policies say of routes. Of options written twice the last
+-- counts, and what isn't written has its default.
+-- From: BIRD User's Guide, "Channel options", "Static", "BGP" and "Pipe".
+-- Example: `preference 7; preference 9;` is a preference of 9.
 use Rattle.std.specs.Prelude.{ℕ, Bool, List, [], ◌∷◌, ◌++◌, map, Option, Some, None}
 use Rattle.bits_ip.specs.declared.address.Addr.{Addr}
 use Rattle.bits_ip.specs.declared.address.Addr.TheVariants as addrs
 use Rattle.bits_ip.specs.declared.address.Family.{Family}
 use Rattle.conf_lex.specs.declared.named.Name.{Name}
 use Rattle.conf_lex.specs.Names.{name_bytes}
-use Rattle.conf_tree.specs.declared.ast.Limit.TheVariants as limits
+use Rattle.conf_ast.specs.declared.configurations.Limit.TheVariants as limits
 use Rattle.conf_ast.specs.Configurations as conf
 use Rattle.conf_ast.specs.Configurations.{BgpSetting, FamilyChannel, Instance, Passing, PassAll, PassNone, PipeSetting, StaticSetting}
 use Rattle.conf_rules.specs.Channels.{settings_of}

@@ -1,6 +1,8 @@
--- Whether the tables that channels name are there. Modelled: each channel's table is one of the
--- configuration's, by its number, and of the channel's family. Not modelled: the two tables of a
--- pipe, which isn't played. From: BIRD User's Guide, "Channel options", `table`.
+-- Whether the tables that channels name are there (`AllFit`): each is one of the configuration's, by
+-- its number, and of the channel's family.
+-- Not modelled: the two tables of a pipe, which isn't played.
+-- From: BIRD User's Guide, "Channel options", `table`.
+-- Example: a channel `ipv6 { table master6; }` has the table of number 1, which is of IPv6.
 use Rattle.std.specs.Prelude.{◌≡◌, ⊤, ℕ, List, [], ◌∷◌, Some, slice_get}
 use Rattle.bits_ip.specs.declared.address.Family.{Family}
 use Rattle.system.specs.System.{Body, Channel, IsBgp, IsPipe, IsStatic, Protocol}

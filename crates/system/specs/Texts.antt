@@ -1,11 +1,13 @@
--- Which texts are accepted, and where and why others are refused: for want of a token, by the
--- grammar, or when they are checked.
+-- Which texts are accepted (`IsSystem`), and where and why others are refused (`IsRefusedAt`): for
+-- want of a token, by the grammar, or when they are checked.
+-- From: own.
+-- Example: a text with a bad token is refused there, whatever its statements before say.
 use Rattle.std.specs.Prelude.{◌≡◌, ◌⊎◌, ℕ, List, Option, Some, None, ⊤}
 use Rattle.conf_tree.specs.Position.{IsPlace}
 use Rattle.conf_tree.specs.Read.{IsConfigText, IsRefusedText}
 use Rattle.conf_tree.specs.View.{statements_tree}
-use Rattle.conf_tree.specs.declared.kind.ConfKind.{ConfKind}
-use Rattle.conf_tree.specs.declared.ast.Statement.{Statement}
+use Rattle.conf_ast.specs.declared.kind.ConfKind.{ConfKind}
+use Rattle.conf_ast.specs.declared.configurations.Statement.{Statement}
 use Rattle.conf_ast.specs.Configurations as conf
 use Rattle.conf_ast.specs.Configurations.{configuration_of}
 use Rattle.conf_rules.specs.declared.refusal.Refusal.{Refusal}

@@ -1,11 +1,11 @@
 //! What a text says of a system: one thing at most. And what holds of each that is accepted.
 ghost use Rattle.std.specs.Prelude.{◌≡◌, ◌≤◌, ℕ, length, List};
-ghost use Rattle.conf_tree.specs.declared.kind.ConfKind.{ConfKind};
+ghost use Rattle.conf_ast.specs.declared.kind.ConfKind.{ConfKind};
 ghost use Rattle.system.specs.System.{System};
 ghost use Rattle.system.specs.Tables.{AllFit};
 ghost use Rattle.system.specs.Texts.{IsRefusedAt, IsSystem};
 
-use conf_ast::laws::a_text_is_one_syntax;
+use ast_laws::laws::a_text_is_one_syntax;
 use conf_tree::laws::{
     a_text_has_one_refusal, configurations_are_not_refused, places_have_one_line_and_column,
 };

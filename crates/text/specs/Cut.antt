@@ -1,5 +1,5 @@
--- How a text is cut into lines, and a line into words: the steps of `cut_line` and `next_word`.
--- These definitions are for the private functions and the proofs; no public clause speaks of them.
+-- For private contracts alone: how a text is cut into lines, and a line into words, by the steps of
+-- `cut_line` and `next_word`.
 use Rattle.std.specs.Prelude.{ℕ, Bool, false, not, ◌==◌, if◌then◌else◌, List, [], ◌∷◌, drop}
 use Rattle.std.specs.List.{prefix_len}
 use Rattle.text.specs.Lines.{is_blank}

@@ -1,7 +1,9 @@
--- The lines of a text, and the words of a line. Modelled: texts as lists of bytes, all of them,
--- with the marks of ASCII. Not modelled: any encoding, and characters. From: this program's own
--- formats of scripts and reports (a newline ends a line, a return directly before it is dropped;
--- spaces and tabs separate words).
+-- The lines of a text (`lines_of`), and the words of a line (`words_of`). A newline ends a line, a
+-- return directly before it is dropped; spaces and tabs separate words. Texts are lists of bytes,
+-- all of them, with the marks of ASCII.
+-- Not modelled: any encoding, and characters.
+-- From: own, this program's formats of scripts and reports.
+-- Example: `a\r\nb` has two lines; ` a\tb ` has two words.
 use Rattle.std.specs.Prelude.{ℕ, Bool, false, ◌&&◌, ◌||◌, not, ◌==◌, if◌then◌else◌, List, [], ◌∷◌}
 
 -- a byte more at the front of the first of these pieces

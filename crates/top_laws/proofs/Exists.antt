@@ -2,7 +2,7 @@
 use Rattle.std.proofs.Common.{◌≡◌, ℕ, ◌<◌, ◌≤◌, List, length, Option, Some, None, refl, sym, subst, inl, inr}
 use Rattle.std.specs.Prelude.{◌⊎◌, IsSomeAnd}
 use Rattle.std.proofs.lemmas.Bool.{cases_lt}
-use Rattle.conf_tree.specs.declared.kind.ConfKind.{ConfKind}
+use Rattle.conf_ast.specs.declared.kind.ConfKind.{ConfKind}
 use Rattle.outside_io.specs.Whole.{limit, IsLong}
 use Rattle.script_lines.specs.Script as script_answers
 use Rattle.script_lines.specs.Script.{Answer, Answers}

@@ -1,7 +1,10 @@
--- What a text says of configurations. Modelled: whether it is one, whether all of it is built, and
--- where and why it is refused. Not modelled: what it configures. From: this program's own refusals.
+-- What a text says of configurations (`SaysSomething`): whether it is one, whether all of it is
+-- built, and where and why it is refused.
+-- Not modelled: what it configures.
+-- From: own.
+-- Example: `router id 10.0.0.0/8;` is refused, in line 1 and column 19.
 use Rattle.std.specs.Prelude.{◌⊎◌, ℕ, List}
-use Rattle.conf_tree.specs.declared.kind.ConfKind.{ConfKind}
+use Rattle.conf_ast.specs.declared.kind.ConfKind.{ConfKind}
 use Rattle.system.specs.System.{System}
 use Rattle.system.specs.Texts.{IsRefusedAt}
 use Rattle.birdcore_top.specs.Outcome.{IsBuilt, IsNotBuilt}

@@ -1,7 +1,7 @@
 use Rattle.std.proofs.Common.{List, map, refl}
 use Rattle.bits_ip.specs.declared.address.Addr.{Addr}
 use Rattle.bits_ip.specs.declared.address.Addr.TheVariants as addrs
-use Rattle.conf_tree.specs.declared.ast.BgpOption.{BgpOption}
+use Rattle.conf_ast.specs.declared.configurations.BgpOption.{BgpOption}
 use Rattle.conf_ast.specs.Configurations.{bgp_setting_of}
 use Rattle.conf_rules.proofs.Turns.{found_turn, found_ends}
 use Rattle.conf_check.specs.Checked as of

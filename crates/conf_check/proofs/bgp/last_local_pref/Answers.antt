@@ -1,6 +1,6 @@
 use Rattle.std.proofs.Common.{List, map, refl}
 use Rattle.std.proofs.Common.{ℕ}
-use Rattle.conf_tree.specs.declared.ast.BgpOption.{BgpOption}
+use Rattle.conf_ast.specs.declared.configurations.BgpOption.{BgpOption}
 use Rattle.conf_ast.specs.Configurations.{bgp_setting_of}
 use Rattle.conf_rules.proofs.Turns.{found_turn, found_ends}
 use Rattle.conf_check.specs.Checked as of

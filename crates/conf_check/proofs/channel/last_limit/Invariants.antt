@@ -1,5 +1,5 @@
 use Rattle.std.proofs.Common.{◌≡◌, map, drop}
-use Rattle.conf_tree.specs.declared.ast.Limit.TheVariants as limits
+use Rattle.conf_ast.specs.declared.configurations.Limit.TheVariants as limits
 use Rattle.conf_ast.specs.Configurations.{channel_setting_of}
 use Rattle.conf_check.specs.Checked as of
 use Rattle.conf_check.proofs.channel.last_limit.Given as goal

@@ -1,7 +1,7 @@
 use Rattle.std.proofs.Common.{◌+◌, List, take, drop, sym, ap, subst, ◌∙◌}
 use Rattle.std.proofs.lemmas.List.{take_all}
 use Rattle.std.proofs.lemmas.Result.{err_from_is_err_and}
-use Rattle.conf_tree.specs.declared.ast.Statement.{Statement}
+use Rattle.conf_ast.specs.declared.configurations.Statement.{Statement}
 use Rattle.conf_ast.specs.Configurations as conf
 use Rattle.conf_ast.specs.Configurations.{configuration_of, declaration_of}
 use Rattle.filt_types.proofs.Lookups.{next_item, nothing_left}

@@ -1,7 +1,7 @@
 use Rattle.std.proofs.Common.{List, map, refl}
 use Rattle.conf_ast.specs.Configurations as conf
 use Rattle.conf_ast.specs.Configurations.{PassNone}
-use Rattle.conf_tree.specs.declared.ast.PipeOption.{PipeOption}
+use Rattle.conf_ast.specs.declared.configurations.PipeOption.{PipeOption}
 use Rattle.conf_ast.specs.Configurations.{pipe_setting_of}
 use Rattle.conf_rules.proofs.Turns.{found_turn, found_ends}
 use Rattle.conf_check.specs.Checked as of

@@ -1,5 +1,5 @@
 use Rattle.std.proofs.Common.{◌+◌, ◌++◌, ◌∷◌, [], List, map, drop, sym, ap, ◌∙◌, append_assoc, append-nil}
-use Rattle.conf_tree.specs.declared.ast.StaticOption.{StaticOption}
+use Rattle.conf_ast.specs.declared.configurations.StaticOption.{StaticOption}
 use Rattle.conf_ast.specs.Configurations.{static_setting_of}
 use Rattle.filt_types.proofs.Lookups.{next_item, nothing_left}
 use Rattle.conf_rules.specs.Protocols.{static_routes}

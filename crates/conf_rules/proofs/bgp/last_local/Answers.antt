@@ -1,6 +1,6 @@
 use Rattle.std.proofs.Common.{List, Option, None, map, refl}
-use Rattle.filt_syntax.specs.declared.ast.Num.{Num}
-use Rattle.conf_tree.specs.declared.ast.BgpOption.{BgpOption}
+use Rattle.conf_ast.specs.declared.filters.Num.{Num}
+use Rattle.conf_ast.specs.declared.configurations.BgpOption.{BgpOption}
 use Rattle.conf_ast.specs.Configurations.{bgp_setting_of}
 use Rattle.conf_rules.specs.Protocols.{last_local}
 use Rattle.conf_rules.proofs.Settings.{next_local}

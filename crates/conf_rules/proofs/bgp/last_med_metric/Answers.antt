@@ -1,6 +1,6 @@
 use Rattle.std.proofs.Common.{List, Option, None, map, refl}
-use Rattle.conf_tree.specs.declared.ast.Switch.{Switch}
-use Rattle.conf_tree.specs.declared.ast.BgpOption.{BgpOption}
+use Rattle.conf_ast.specs.declared.configurations.Switch.{Switch}
+use Rattle.conf_ast.specs.declared.configurations.BgpOption.{BgpOption}
 use Rattle.conf_ast.specs.Configurations.{bgp_setting_of}
 use Rattle.conf_rules.specs.Protocols.{last_med_metric}
 use Rattle.conf_rules.proofs.Settings.{next_med_metric}

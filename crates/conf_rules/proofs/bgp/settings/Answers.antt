@@ -1,5 +1,5 @@
 use Rattle.std.proofs.Common.{List, map, refl}
-use Rattle.conf_tree.specs.declared.ast.BgpOption.{BgpOption}
+use Rattle.conf_ast.specs.declared.configurations.BgpOption.{BgpOption}
 use Rattle.conf_ast.specs.Configurations.{bgp_setting_of}
 use Rattle.conf_rules.specs.Protocols.{bgp_settings, bgp_setting}
 use Rattle.conf_rules.specs.Seen.{known_of}

@@ -1,7 +1,7 @@
 use Rattle.std.proofs.Common.{rules, ◌∙◌}
 use Rattle.std.proofs.lemmas.Iterator.{YieldsList-from_slice}
 use Rattle.std.proofs.lemmas.Iterator.Search.{any_from_yields_List}
-use Rattle.conf_tree.specs.declared.ast.ChannelOption.{ChannelOption}
+use Rattle.conf_ast.specs.declared.configurations.ChannelOption.{ChannelOption}
 use Rattle.conf_ast.specs.Configurations.{channel_setting_of}
 use Rattle.conf_rules.specs.Channels.{is_export}
 use Rattle.conf_rules.proofs.Wholes.{any_viewed}

@@ -1,5 +1,5 @@
 use Rattle.std.proofs.Common.{List, map, refl}
-use Rattle.conf_tree.specs.declared.ast.ChannelOption.{ChannelOption}
+use Rattle.conf_ast.specs.declared.configurations.ChannelOption.{ChannelOption}
 use Rattle.conf_ast.specs.Configurations.{channel_setting_of}
 use Rattle.conf_rules.specs.Channels.{settings, setting}
 use Rattle.conf_rules.specs.Seen.{known_of}

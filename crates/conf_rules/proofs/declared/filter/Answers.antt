@@ -1,6 +1,6 @@
 use Rattle.std.proofs.Common.{Bool, not, List, ℕ, ap, ◌∙◌}
 use Rattle.std.specs.List.{list_any}
-use Rattle.conf_tree.specs.declared.kind.ConfKind.TheVariants as kinds
+use Rattle.conf_ast.specs.declared.kind.ConfKind.TheVariants as kinds
 use Rattle.filt_meaning.specs.Names.{same_name}
 use Rattle.conf_rules.specs.Refusals.{first_in, refused_if}
 use Rattle.conf_rules.specs.Seen.{known_of}

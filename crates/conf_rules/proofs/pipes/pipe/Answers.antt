@@ -1,5 +1,5 @@
 use Rattle.std.proofs.Common.{List, map, ap}
-use Rattle.conf_tree.specs.declared.ast.PipeOption.{PipeOption}
+use Rattle.conf_ast.specs.declared.configurations.PipeOption.{PipeOption}
 use Rattle.conf_ast.specs.Configurations.{pipe_setting_of, instance_of}
 use Rattle.conf_rules.specs.Seen.{known_of}
 use Rattle.conf_rules.proofs.Wholes.{pipe_first}

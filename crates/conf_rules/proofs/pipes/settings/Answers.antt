@@ -1,5 +1,5 @@
 use Rattle.std.proofs.Common.{List, map, refl}
-use Rattle.conf_tree.specs.declared.ast.PipeOption.{PipeOption}
+use Rattle.conf_ast.specs.declared.configurations.PipeOption.{PipeOption}
 use Rattle.conf_ast.specs.Configurations.{pipe_setting_of}
 use Rattle.conf_rules.specs.Protocols.{pipe_settings, pipe_setting}
 use Rattle.conf_rules.specs.Seen.{known_of}

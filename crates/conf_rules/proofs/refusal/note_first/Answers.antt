@@ -1,5 +1,5 @@
 use Rattle.std.proofs.Common.{sym, ap, ◌∙◌}
-use Rattle.conf_tree.specs.declared.kind.ConfKind.{ConfKind}
+use Rattle.conf_ast.specs.declared.kind.ConfKind.{ConfKind}
 use Rattle.conf_rules.specs.Refusals.{first_of}
 use Rattle.conf_rules.proofs.Firsts.{found_none, found_some, refusal}
 use Rattle.conf_rules.proofs.refusal.note_first.Goals as goal

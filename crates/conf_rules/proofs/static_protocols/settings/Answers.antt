@@ -1,5 +1,5 @@
 use Rattle.std.proofs.Common.{List, map, refl}
-use Rattle.conf_tree.specs.declared.ast.StaticOption.{StaticOption}
+use Rattle.conf_ast.specs.declared.configurations.StaticOption.{StaticOption}
 use Rattle.conf_ast.specs.Configurations.{static_setting_of}
 use Rattle.conf_rules.specs.Protocols.{static_settings, static_setting}
 use Rattle.conf_rules.specs.Seen.{known_of}

@@ -1,6 +1,6 @@
 use Rattle.std.proofs.Common.{List, map, ap}
 use Rattle.std.proofs.lemmas.Result.{on_ok_weaker}
-use Rattle.conf_tree.specs.declared.ast.StaticOption.{StaticOption}
+use Rattle.conf_ast.specs.declared.configurations.StaticOption.{StaticOption}
 use Rattle.conf_ast.specs.Configurations.{static_setting_of, instance_of}
 use Rattle.conf_rules.specs.Seen.{known_of}
 use Rattle.conf_rules.proofs.Wholes.{static_first}

@@ -2,9 +2,9 @@ use Rattle.std.proofs.Common.{◌≡◌, ℕ, ◌+◌, ◌++◌, [], ◌∷◌, 
 use Rattle.std.specs.Global.{Global}
 use Rattle.std.proofs.lemmas.Result.{IfOk-weaker}
 use Rattle.conf_lex.specs.Names.{name_bytes}
-use Rattle.filt_syntax.specs.declared.ast.Arm.{Arm}
-use Rattle.filt_syntax.specs.declared.ast.Stmt.{Stmt}
-use Rattle.filt_syntax.specs.declared.ast.Stmt.TheVariants as s
+use Rattle.conf_ast.specs.declared.filters.Arm.{Arm}
+use Rattle.conf_ast.specs.declared.filters.Stmt.{Stmt}
+use Rattle.conf_ast.specs.declared.filters.Stmt.TheVariants as s
 use Rattle.conf_ast.specs.Filters.{expression_of, statement_of, statements_of, Nothing, Unset, Accept, Reject}
 use Rattle.filt_meaning.specs.Flow as flow
 use Rattle.filt_meaning.specs.Meaning.{act, acts, all_declared, nothing, stop, unset, value}

@@ -1,8 +1,8 @@
 use Rattle.std.proofs.Common.{ℕ, List, ap, sym, ◌∙◌, Vec, Bor}
 use Rattle.std.specs.Global.{Global}
 use Rattle.filt_values.specs.declared.fixed.Fixed.{Fixed}
-use Rattle.filt_syntax.specs.declared.ast.Parameter.{Parameter}
-use Rattle.filt_syntax.specs.declared.ast.Stmt.{Stmt}
+use Rattle.conf_ast.specs.declared.filters.Parameter.{Parameter}
+use Rattle.conf_ast.specs.declared.filters.Stmt.{Stmt}
 use Rattle.conf_ast.specs.Configurations.{routine_of}
 use Rattle.conf_ast.specs.Filters.{statements_of}
 use Rattle.filt_meaning.specs.Configuration.{parameter_names}

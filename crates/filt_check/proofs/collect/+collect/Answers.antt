@@ -1,6 +1,6 @@
 use Rattle.std.proofs.Common.{◌+◌, ◌++◌, arith, List, ap, ◌∙◌}
-use Rattle.filt_syntax.specs.declared.ast.Arm.{Arm}
-use Rattle.filt_syntax.specs.declared.ast.Stmt.{Stmt}
+use Rattle.conf_ast.specs.declared.filters.Arm.{Arm}
+use Rattle.conf_ast.specs.declared.filters.Stmt.{Stmt}
 use Rattle.conf_ast.specs.Filters.{statement_of}
 use Rattle.filt_meaning.specs.Meaning.{declared}
 use Rattle.filt_meaning.specs.Names.{Variable}

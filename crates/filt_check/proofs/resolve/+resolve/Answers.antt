@@ -1,9 +1,9 @@
 use Rattle.std.proofs.Common.{◌+◌, ◌∙◌, arith, List, drop, ap}
-use Rattle.filt_syntax.specs.declared.ast.Access.{Access}
-use Rattle.filt_syntax.specs.declared.ast.Expr.{Expr}
-use Rattle.filt_syntax.specs.declared.ast.MulOp.{MulOp}
-use Rattle.filt_syntax.specs.declared.ast.LogicalOp.{LogicalOp}
-use Rattle.filt_syntax.specs.declared.ast.AddOp.{AddOp}
+use Rattle.conf_ast.specs.declared.filters.Access.{Access}
+use Rattle.conf_ast.specs.declared.filters.Expr.{Expr}
+use Rattle.conf_ast.specs.declared.filters.MulOp.{MulOp}
+use Rattle.conf_ast.specs.declared.filters.LogicalOp.{LogicalOp}
+use Rattle.conf_ast.specs.declared.filters.AddOp.{AddOp}
 use Rattle.conf_ast.specs.Filters.{expression_of}
 use Rattle.filt_values.specs.Values.{Val}
 use Rattle.filt_meaning.specs.Flow.{Run}

@@ -1,5 +1,5 @@
 use Rattle.std.proofs.Common.{ap, sym, ◌∙◌}
-use Rattle.filt_syntax.specs.declared.ast.Atom.{Atom}
+use Rattle.conf_ast.specs.declared.filters.Atom.{Atom}
 use Rattle.filt_meaning.specs.Meaning.{plain}
 use Rattle.filt_tree.specs.Scopes.{context_of}
 use Rattle.filt_check.proofs.Resolving.{attribute_same}

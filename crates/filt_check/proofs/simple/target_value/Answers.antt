@@ -1,5 +1,5 @@
 use Rattle.std.proofs.Common.{ap, sym, ◌∙◌}
-use Rattle.filt_syntax.specs.declared.ast.Target.{Target}
+use Rattle.conf_ast.specs.declared.filters.Target.{Target}
 use Rattle.filt_meaning.specs.Meaning.{read, value}
 use Rattle.filt_tree.specs.Scopes.{context_of}
 use Rattle.filt_check.specs.Seen.{names_of}

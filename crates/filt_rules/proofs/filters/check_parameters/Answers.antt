@@ -1,5 +1,5 @@
 use Rattle.std.proofs.Common.{false, ◌+◌, ◌∷◌, [], ◌++◌, drop, get_or, List, ap, ◌∙◌, sym}
-use Rattle.filt_syntax.specs.declared.ast.Parameter.{Parameter}
+use Rattle.conf_ast.specs.declared.filters.Parameter.{Parameter}
 use Rattle.filt_values.specs.declared.value.Sort.{Sort}
 use Rattle.filt_rules.specs.Passes.{around_in}
 use Rattle.filt_types.specs.Refusals.{first_in}

@@ -1,6 +1,6 @@
 use Rattle.std.proofs.Common.{true, false, ◌∷◌, [], ◌++◌, ◌+◌, arith, drop, List, Option, ap, ◌∙◌, sym}
-use Rattle.filt_syntax.specs.declared.ast.Arm.{Arm}
-use Rattle.filt_syntax.specs.declared.ast.Stmt.{Stmt}
+use Rattle.conf_ast.specs.declared.filters.Arm.{Arm}
+use Rattle.conf_ast.specs.declared.filters.Stmt.{Stmt}
 use Rattle.conf_ast.specs.Filters.{statement_of, statements_of}
 use Rattle.filt_values.specs.declared.value.Sort.{Sort}
 use Rattle.filt_meaning.specs.Names.{sort_of_type}

@@ -1,7 +1,7 @@
 use Rattle.std.proofs.Common.{◌+◌, drop, List, ap, ◌∙◌}
-use Rattle.filt_syntax.specs.declared.ast.Arm.{Arm}
-use Rattle.filt_syntax.specs.declared.ast.Item.{Item}
-use Rattle.filt_syntax.specs.declared.ast.Stmt.{Stmt}
+use Rattle.conf_ast.specs.declared.filters.Arm.{Arm}
+use Rattle.conf_ast.specs.declared.filters.Item.{Item}
+use Rattle.conf_ast.specs.declared.filters.Stmt.{Stmt}
 use Rattle.filt_types.specs.Items.{all_items, common, sorts_of_items}
 use Rattle.filt_types.specs.Refusals.{first_in}
 use Rattle.filt_types.specs.Seen.{scene_in}

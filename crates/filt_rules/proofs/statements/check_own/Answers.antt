@@ -1,6 +1,6 @@
 use Rattle.std.proofs.Common.{List, ap, ◌∙◌, sym}
-use Rattle.filt_syntax.specs.declared.ast.Arm.{Arm}
-use Rattle.filt_syntax.specs.declared.ast.Stmt.{Stmt}
+use Rattle.conf_ast.specs.declared.filters.Arm.{Arm}
+use Rattle.conf_ast.specs.declared.filters.Stmt.{Stmt}
 use Rattle.filt_types.specs.declared.refusal.Refusal.{Refusal}
 use Rattle.conf_ast.specs.Filters.{expression_of, statement_of}
 use Rattle.filt_types.specs.Expressions.{judge}

@@ -9,11 +9,11 @@ use Rattle.conf_lex.specs.Kind.{Kind, kind_of, symbol}
 use Rattle.conf_lex.specs.Reading.{Read, Parsed, and_then}
 use Rattle.conf_lex.specs.PartShapes.{links}
 use Rattle.conf_lex.proofs.PartShapes.{fails_along, fails_then, gives_along, links_more, links_fail, links_end, optional_alone, optional_pair, optional_first_fails, optional_second_fails}
-use Rattle.filt_syntax.specs.declared.ast.Expr.{Expr}
-use Rattle.filt_syntax.specs.declared.ast.Access.{Access}
-use Rattle.filt_syntax.specs.declared.ast.MulOp.{MulOp}
-use Rattle.filt_syntax.specs.declared.ast.AddOp.{AddOp}
-use Rattle.filt_syntax.specs.declared.ast.LogicalOp.{LogicalOp}
+use Rattle.conf_ast.specs.declared.filters.Expr.{Expr}
+use Rattle.conf_ast.specs.declared.filters.Access.{Access}
+use Rattle.conf_ast.specs.declared.filters.MulOp.{MulOp}
+use Rattle.conf_ast.specs.declared.filters.AddOp.{AddOp}
+use Rattle.conf_ast.specs.declared.filters.LogicalOp.{LogicalOp}
 use Rattle.filt_syntax.specs.Syntax.{is_compare_op, is_add_op, is_mul_op, is_logical_op}
 use Rattle.filt_syntax.specs.Levels.{group_level, arguments_level, argument_level, two_level}
 use Rattle.filt_syntax.specs.View.{derivations, parts_after, listed_tree, expr_trees, compare_op_symbol, add_op_symbol, mul_op_symbol, logical_op_symbol}

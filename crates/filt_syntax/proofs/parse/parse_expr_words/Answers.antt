@@ -4,7 +4,7 @@ use Rattle.conf_lex.specs.Agrees.{AgreesOnError}
 use Rattle.filt_syntax.specs.Syntax.{expr}
 use Rattle.filt_syntax.specs.Readers.{expr_at}
 use Rattle.filt_syntax.specs.declared.parse.SyntaxFault.{SyntaxFault}
-use Rattle.filt_syntax.specs.declared.ast.Expr.{Expr}
+use Rattle.conf_ast.specs.declared.filters.Expr.{Expr}
 use Rattle.filt_syntax.specs.Parse.{IsRefused, IsFault}
 use Rattle.filt_syntax.proofs.Steps.{expr_same}
 use Rattle.filt_syntax.proofs.Places.{got_fewer, got_stands, got_only, got_exact, fault_fewer, fault_refused, fault_only, fault_exact}

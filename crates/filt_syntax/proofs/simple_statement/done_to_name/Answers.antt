@@ -1,7 +1,7 @@
 use Rattle.std.proofs.Common.{refl, ◌∙◌}
 use Rattle.std.proofs.lemmas.Result.{err_from_is_err_and}
 use Rattle.conf_lex.proofs.PartShapes.{fails_then}
-use Rattle.filt_syntax.specs.declared.ast.Target.TheVariants as targets
+use Rattle.conf_ast.specs.declared.filters.Target.TheVariants as targets
 use Rattle.filt_syntax.specs.StatementReaders.{of_name_at}
 use Rattle.filt_syntax.proofs.StatementSteps.{name_assigned, name_changed}
 use Rattle.filt_syntax.proofs.StatementTrees.{tree-Assign, tree-Change}

@@ -1,6 +1,6 @@
 use Rattle.std.proofs.Common.{◌≡◌, ap, sym as flip, ◌∙◌, rules}
 use Rattle.conf_lex.specs.Reading.{Parsed}
-use Rattle.filt_syntax.specs.declared.ast.Stmt.{Stmt}
+use Rattle.conf_ast.specs.declared.filters.Stmt.{Stmt}
 use Rattle.filt_syntax.specs.StatementView.{stmt_tree}
 use Rattle.filt_syntax.proofs.simple_statement.made.Goals as goal
 

@@ -1,5 +1,5 @@
 use Rattle.std.proofs.Common.{Bool, ◌==◌, refl, ap, ◌∙◌, sym}
-use Rattle.filt_syntax.specs.declared.ast.Expr.{Expr}
+use Rattle.conf_ast.specs.declared.filters.Expr.{Expr}
 use Rattle.conf_ast.specs.Filters.{expression_of}
 use Rattle.filt_types.specs.Expressions as ex
 use Rattle.filt_types.specs.Walk.{where_alone}

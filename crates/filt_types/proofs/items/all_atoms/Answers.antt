@@ -1,6 +1,6 @@
 use Rattle.std.proofs.Common.{◌+◌, ◌&&◌, false, List, drop, get_or, ap, ◌∙◌}
-use Rattle.filt_syntax.specs.declared.ast.MaskAtom.TheVariants as mask_atoms
-use Rattle.filt_syntax.specs.declared.ast.MaskItem.{MaskItem}
+use Rattle.conf_ast.specs.declared.filters.MaskAtom.TheVariants as mask_atoms
+use Rattle.conf_ast.specs.declared.filters.MaskItem.{MaskItem}
 use Rattle.filt_types.specs.Items as of
 use Rattle.filt_types.specs.Items.{is_known}
 use Rattle.filt_types.specs.Refusals.{first_in}

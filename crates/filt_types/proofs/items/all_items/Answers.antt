@@ -1,5 +1,5 @@
 use Rattle.std.proofs.Common.{◌+◌, ◌&&◌, List, drop, ap, ◌∙◌}
-use Rattle.filt_syntax.specs.declared.ast.Item.{Item}
+use Rattle.conf_ast.specs.declared.filters.Item.{Item}
 use Rattle.filt_types.specs.Items as of
 use Rattle.filt_types.specs.Items.{sorts_of_items}
 use Rattle.filt_types.specs.Refusals.{first_in}

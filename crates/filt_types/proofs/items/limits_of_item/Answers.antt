@@ -1,5 +1,5 @@
 use Rattle.std.proofs.Common.{ap, sym, ◌∙◌}
-use Rattle.filt_syntax.specs.declared.ast.Item.{Item}
+use Rattle.conf_ast.specs.declared.filters.Item.{Item}
 use Rattle.filt_types.proofs.Firsts.{first_two}
 use Rattle.filt_types.specs.Items as of
 use Rattle.filt_types.specs.Refusals.{first_in}

@@ -4,21 +4,21 @@ use Rattle.conf_lex.specs.declared.symbol.Symbol.TheVariants as sym
 use Rattle.conf_lex.specs.declared.word.Word.{Word}
 use Rattle.conf_lex.specs.declared.word.Word.TheVariants as words
 use Rattle.conf_lex.specs.Grammar.{ParseTree, Leaf, NoWords, Pair, Left, Right, Single, Snoc, Deeper}
-use Rattle.filt_syntax.specs.declared.ast.Num.{Num}
-use Rattle.filt_syntax.specs.declared.ast.Num.TheVariants as nums
-use Rattle.filt_syntax.specs.declared.ast.NumRange.{NumRange}
-use Rattle.filt_syntax.specs.declared.ast.PairPart.{PairPart}
-use Rattle.filt_syntax.specs.declared.ast.PairPart.TheVariants as pair_parts
-use Rattle.filt_syntax.specs.declared.ast.Lengths.{Lengths}
-use Rattle.filt_syntax.specs.declared.ast.Lengths.TheVariants as lengths
-use Rattle.filt_syntax.specs.declared.ast.Item.{Item}
-use Rattle.filt_syntax.specs.declared.ast.Item.TheVariants as items
-use Rattle.filt_syntax.specs.declared.ast.MaskAtom.{MaskAtom}
-use Rattle.filt_syntax.specs.declared.ast.MaskAtom.TheVariants as mask_atoms
-use Rattle.filt_syntax.specs.declared.ast.MaskItem.{MaskItem}
+use Rattle.conf_ast.specs.declared.filters.Num.{Num}
+use Rattle.conf_ast.specs.declared.filters.Num.TheVariants as nums
+use Rattle.conf_ast.specs.declared.filters.NumRange.{NumRange}
+use Rattle.conf_ast.specs.declared.filters.PairPart.{PairPart}
+use Rattle.conf_ast.specs.declared.filters.PairPart.TheVariants as pair_parts
+use Rattle.conf_ast.specs.declared.filters.Lengths.{Lengths}
+use Rattle.conf_ast.specs.declared.filters.Lengths.TheVariants as lengths
+use Rattle.conf_ast.specs.declared.filters.Item.{Item}
+use Rattle.conf_ast.specs.declared.filters.Item.TheVariants as items
+use Rattle.conf_ast.specs.declared.filters.MaskAtom.{MaskAtom}
+use Rattle.conf_ast.specs.declared.filters.MaskAtom.TheVariants as mask_atoms
+use Rattle.conf_ast.specs.declared.filters.MaskItem.{MaskItem}
 use Rattle.filt_syntax.specs.ItemView.{num_word, high_tree, num_range_tree, pair_part_tree, lengths_part, item_tree, items_after, items_tree, mask_atom_tree, many_tree, mask_item_tree, mask_after, mask_items_tree}
-use Rattle.conf_ast.proofs.Equations.{append_nil}
-use Rattle.conf_ast.proofs.WordsBack.{place_of, name_from}
+use Rattle.ast_laws.proofs.Equations.{append_nil}
+use Rattle.ast_laws.proofs.WordsBack.{place_of, name_from}
 
 -- ---- back from trees
 

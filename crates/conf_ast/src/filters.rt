@@ -1,5 +1,5 @@
-// The trees of filters. Each `at` is the byte of the source at which what it is of begins, and
-// `open` the byte of a parenthesis.
+//! The trees of filters: expressions, statements, functions. Each `at` is the byte of the source at
+//! which what it is of begins, and `open` the byte of a parenthesis.
 
 use bits_ip::Prefix;
 pub use conf_lex::{Attribute, Constant};

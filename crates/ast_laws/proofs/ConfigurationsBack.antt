@@ -11,58 +11,58 @@ use Rattle.conf_lex.specs.declared.word.Word.TheVariants as words
 use Rattle.conf_lex.specs.declared.named.Name.{Name}
 use Rattle.conf_lex.specs.Grammar.{Epsilon, Seq, Repeat, ParseTree, Leaf, NoWords, Pair, Left, Right, Single, Snoc, Deeper, DerivesLongest}
 use Rattle.conf_lex.specs.Leaves.{name_leaf}
-use Rattle.filt_syntax.specs.declared.ast.Function.{Function}
-use Rattle.filt_syntax.specs.declared.ast.Item.{Item}
-use Rattle.filt_syntax.specs.declared.ast.MaskItem.{MaskItem}
-use Rattle.filt_syntax.specs.declared.ast.Num.{Num}
-use Rattle.filt_syntax.specs.declared.ast.Parameter.{Parameter}
-use Rattle.filt_syntax.specs.declared.ast.Separator.{Separator}
-use Rattle.filt_syntax.specs.declared.ast.Separator.TheVariants as separators
-use Rattle.filt_syntax.specs.declared.ast.VariableType.{VariableType}
+use Rattle.conf_ast.specs.declared.filters.Function.{Function}
+use Rattle.conf_ast.specs.declared.filters.Item.{Item}
+use Rattle.conf_ast.specs.declared.filters.MaskItem.{MaskItem}
+use Rattle.conf_ast.specs.declared.filters.Num.{Num}
+use Rattle.conf_ast.specs.declared.filters.Parameter.{Parameter}
+use Rattle.conf_ast.specs.declared.filters.Separator.{Separator}
+use Rattle.conf_ast.specs.declared.filters.Separator.TheVariants as separators
+use Rattle.conf_ast.specs.declared.filters.VariableType.{VariableType}
 use Rattle.filt_syntax.specs.Syntax.{rule, optional, semicolon}
 use Rattle.filt_syntax.specs.Levels.{Form}
 use Rattle.filt_syntax.specs.ItemView.{num_tree}
 use Rattle.filt_syntax.specs.StatementView.{row_after, row_tree}
-use Rattle.conf_tree.specs.declared.ast.Action.{Action}
-use Rattle.conf_tree.specs.declared.ast.Action.TheVariants as actions
-use Rattle.conf_tree.specs.declared.ast.Address.{Address}
-use Rattle.conf_tree.specs.declared.ast.BgpOption.{BgpOption}
-use Rattle.conf_tree.specs.declared.ast.BgpOption.TheVariants as bgp_options
-use Rattle.conf_tree.specs.declared.ast.Channel.{Channel}
-use Rattle.conf_tree.specs.declared.ast.ChannelOption.{ChannelOption}
-use Rattle.conf_tree.specs.declared.ast.ChannelOption.TheVariants as channel_options
-use Rattle.conf_tree.specs.declared.ast.Limit.{Limit}
-use Rattle.conf_tree.specs.declared.ast.Limit.TheVariants as limits
-use Rattle.conf_tree.specs.declared.ast.Literal.{Literal}
-use Rattle.conf_tree.specs.declared.ast.Literal.TheVariants as literals
-use Rattle.conf_tree.specs.declared.ast.NextHop.{NextHop}
-use Rattle.conf_tree.specs.declared.ast.NextHop.TheVariants as hops
-use Rattle.conf_tree.specs.declared.ast.PipeOption.{PipeOption}
-use Rattle.conf_tree.specs.declared.ast.PipeOption.TheVariants as pipe_options
-use Rattle.conf_tree.specs.declared.ast.Policy.{Policy}
-use Rattle.conf_tree.specs.declared.ast.Policy.TheVariants as policies
-use Rattle.conf_tree.specs.declared.ast.Protocol.{Protocol}
-use Rattle.conf_tree.specs.declared.ast.RouteTarget.{RouteTarget}
-use Rattle.conf_tree.specs.declared.ast.RouteTarget.TheVariants as route_targets
-use Rattle.conf_tree.specs.declared.ast.Statement.{Statement}
-use Rattle.conf_tree.specs.declared.ast.Statement.TheVariants as config_statements
-use Rattle.conf_tree.specs.declared.ast.StaticOption.{StaticOption}
-use Rattle.conf_tree.specs.declared.ast.StaticOption.TheVariants as static_options
-use Rattle.conf_tree.specs.declared.ast.Switch.{Switch}
-use Rattle.conf_tree.specs.declared.ast.Switch.TheVariants as switches
-use Rattle.conf_tree.specs.declared.ast.Transport.{Transport}
-use Rattle.conf_tree.specs.declared.ast.Transport.TheVariants as transports
+use Rattle.conf_ast.specs.declared.configurations.Action.{Action}
+use Rattle.conf_ast.specs.declared.configurations.Action.TheVariants as actions
+use Rattle.conf_ast.specs.declared.configurations.Address.{Address}
+use Rattle.conf_ast.specs.declared.configurations.BgpOption.{BgpOption}
+use Rattle.conf_ast.specs.declared.configurations.BgpOption.TheVariants as bgp_options
+use Rattle.conf_ast.specs.declared.configurations.Channel.{Channel}
+use Rattle.conf_ast.specs.declared.configurations.ChannelOption.{ChannelOption}
+use Rattle.conf_ast.specs.declared.configurations.ChannelOption.TheVariants as channel_options
+use Rattle.conf_ast.specs.declared.configurations.Limit.{Limit}
+use Rattle.conf_ast.specs.declared.configurations.Limit.TheVariants as limits
+use Rattle.conf_ast.specs.declared.configurations.Literal.{Literal}
+use Rattle.conf_ast.specs.declared.configurations.Literal.TheVariants as literals
+use Rattle.conf_ast.specs.declared.configurations.NextHop.{NextHop}
+use Rattle.conf_ast.specs.declared.configurations.NextHop.TheVariants as hops
+use Rattle.conf_ast.specs.declared.configurations.PipeOption.{PipeOption}
+use Rattle.conf_ast.specs.declared.configurations.PipeOption.TheVariants as pipe_options
+use Rattle.conf_ast.specs.declared.configurations.Policy.{Policy}
+use Rattle.conf_ast.specs.declared.configurations.Policy.TheVariants as policies
+use Rattle.conf_ast.specs.declared.configurations.Protocol.{Protocol}
+use Rattle.conf_ast.specs.declared.configurations.RouteTarget.{RouteTarget}
+use Rattle.conf_ast.specs.declared.configurations.RouteTarget.TheVariants as route_targets
+use Rattle.conf_ast.specs.declared.configurations.Statement.{Statement}
+use Rattle.conf_ast.specs.declared.configurations.Statement.TheVariants as config_statements
+use Rattle.conf_ast.specs.declared.configurations.StaticOption.{StaticOption}
+use Rattle.conf_ast.specs.declared.configurations.StaticOption.TheVariants as static_options
+use Rattle.conf_ast.specs.declared.configurations.Switch.{Switch}
+use Rattle.conf_ast.specs.declared.configurations.Switch.TheVariants as switches
+use Rattle.conf_ast.specs.declared.configurations.Transport.{Transport}
+use Rattle.conf_ast.specs.declared.configurations.Transport.TheVariants as transports
 use Rattle.conf_tree.specs.Read.{IsConfigText}
 use Rattle.conf_tree.specs.Syntax as forms
 use Rattle.conf_tree.specs.View.{switch_symbol, family_symbol, maybe, address_leaf, switch_leaf, policy_tree, action_symbol, action_tree, limit_tree, hop_symbol, channel_option_tree, ended_tree, ended_row, channel_options_tree, channel_tree, target_tree, static_option_tree, transport_tree, bgp_option_tree, pipe_option_tree, literal_tree, separator_symbol, next_parameter, parameters_after, first_parameter, parameters_tree, gives_tree, function_tree, semicolon_tree, protocol_tree, statement_tree, statements_tree}
 use Rattle.conf_ast.specs.Filters.{Expression, Statements}
 use Rattle.conf_ast.specs.Configurations.{Value, NumberValue, TextValue, AddressValue, PrefixValue, TrueValue, FalseValue, ValueOf, PairValue, SetValue, MaskValue, value_of, Passing, PassAll, PassNone, PassByFilter, PassByBlock, PassWhere, passing_of, ChannelSetting, ChannelTable, ChannelImport, ChannelExport, ChannelPreference, ChannelLimit, ChannelNextHop, channel_setting_of, FamilyChannel, channel_of, channel_settings_of, StaticSetting, StaticChannel, StaticRoute, static_setting_of, BgpSetting, BgpChannel, BgpLocal, BgpNeighbor, BgpMedMetric, BgpInterpretCommunities, BgpDefaultMed, BgpDefaultLocalPref, BgpTransport, bgp_setting_of, PipeSetting, PipeTable, PipePeerTable, PipeImport, PipeExport, pipe_setting_of, Instance, instance_of, Routine, routine_of, Declaration, RouterId, Log, Define, Table, DefineFunction, DefineFilter, Device, Static, Bgp, Pipe, declaration_of, configuration_of}
-use Rattle.conf_ast.proofs.Equations.{two, three, append_nil}
-use Rattle.conf_ast.proofs.WordsBack.{place_of, name_from}
-use Rattle.conf_ast.proofs.ItemsBack.{num_from, items_from, mask_from, num_back, items_back, mask_back}
-use Rattle.conf_ast.proofs.TypesBack.{type_from, type_back}
-use Rattle.conf_ast.proofs.ExpressionsBack.{expr_from, expression_back}
-use Rattle.conf_ast.proofs.StatementsBack.{block_from, block_back}
+use Rattle.ast_laws.proofs.Equations.{two, three, append_nil}
+use Rattle.ast_laws.proofs.WordsBack.{place_of, name_from}
+use Rattle.ast_laws.proofs.ItemsBack.{num_from, items_from, mask_from, num_back, items_back, mask_back}
+use Rattle.ast_laws.proofs.TypesBack.{type_from, type_back}
+use Rattle.ast_laws.proofs.ExpressionsBack.{expr_from, expression_back}
+use Rattle.ast_laws.proofs.StatementsBack.{block_from, block_back}
 
 -- ---- words
 

@@ -6,21 +6,21 @@ use Rattle.conf_lex.specs.declared.word.Word.TheVariants as words
 use Rattle.conf_lex.specs.declared.named.Name.{Name}
 use Rattle.conf_lex.specs.declared.attribute.Attribute.{Attribute}
 use Rattle.conf_lex.specs.declared.attribute.Attribute.TheVariants as attributes
-use Rattle.filt_syntax.specs.declared.ast.Atom.{Atom}
-use Rattle.filt_syntax.specs.declared.ast.Atom.TheVariants as atoms
-use Rattle.filt_syntax.specs.declared.ast.Property.{Property}
-use Rattle.filt_syntax.specs.declared.ast.Property.TheVariants as properties
-use Rattle.filt_syntax.specs.declared.ast.MethodKind.{MethodKind}
-use Rattle.filt_syntax.specs.declared.ast.MethodKind.TheVariants as methods
-use Rattle.filt_syntax.specs.declared.ast.Method.{Method}
-use Rattle.filt_syntax.specs.declared.ast.MulOp.{MulOp}
-use Rattle.filt_syntax.specs.declared.ast.MulOp.TheVariants as mul_ops
-use Rattle.filt_syntax.specs.declared.ast.AddOp.{AddOp}
-use Rattle.filt_syntax.specs.declared.ast.AddOp.TheVariants as add_ops
-use Rattle.filt_syntax.specs.declared.ast.CompareOp.{CompareOp}
-use Rattle.filt_syntax.specs.declared.ast.CompareOp.TheVariants as compare_op_ops
-use Rattle.filt_syntax.specs.declared.ast.LogicalOp.{LogicalOp}
-use Rattle.filt_syntax.specs.declared.ast.LogicalOp.TheVariants as logical_ops
+use Rattle.conf_ast.specs.declared.filters.Atom.{Atom}
+use Rattle.conf_ast.specs.declared.filters.Atom.TheVariants as atoms
+use Rattle.conf_ast.specs.declared.filters.Property.{Property}
+use Rattle.conf_ast.specs.declared.filters.Property.TheVariants as properties
+use Rattle.conf_ast.specs.declared.filters.MethodKind.{MethodKind}
+use Rattle.conf_ast.specs.declared.filters.MethodKind.TheVariants as methods
+use Rattle.conf_ast.specs.declared.filters.Method.{Method}
+use Rattle.conf_ast.specs.declared.filters.MulOp.{MulOp}
+use Rattle.conf_ast.specs.declared.filters.MulOp.TheVariants as mul_ops
+use Rattle.conf_ast.specs.declared.filters.AddOp.{AddOp}
+use Rattle.conf_ast.specs.declared.filters.AddOp.TheVariants as add_ops
+use Rattle.conf_ast.specs.declared.filters.CompareOp.{CompareOp}
+use Rattle.conf_ast.specs.declared.filters.CompareOp.TheVariants as compare_op_ops
+use Rattle.conf_ast.specs.declared.filters.LogicalOp.{LogicalOp}
+use Rattle.conf_ast.specs.declared.filters.LogicalOp.TheVariants as logical_ops
 use Rattle.filt_syntax.specs.View.{atom_word, property_symbol, method_word, mul_op_symbol, add_op_symbol, compare_op_symbol, logical_op_symbol}
 
 abbrev pub place_of : Word → ℕ

@@ -3,8 +3,8 @@ use Rattle.std.proofs.Common.{◌≡◌, refl}
 use Rattle.conf_lex.specs.declared.symbol.Symbol.TheVariants as sym
 use Rattle.conf_lex.specs.declared.word.Word.TheVariants as words
 use Rattle.conf_lex.specs.Grammar.{ParseTree, Leaf, Pair, Left, Right}
-use Rattle.filt_syntax.specs.declared.ast.VariableType.{VariableType}
-use Rattle.filt_syntax.specs.declared.ast.VariableType.TheVariants as types
+use Rattle.conf_ast.specs.declared.filters.VariableType.{VariableType}
+use Rattle.conf_ast.specs.declared.filters.VariableType.TheVariants as types
 use Rattle.filt_syntax.specs.StatementView.{type_tree}
 
 abbrev pub type_from : ParseTree → VariableType

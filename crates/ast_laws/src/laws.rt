@@ -1,12 +1,12 @@
-//! A tree of the grammar is of one abstract syntax and that of one tree, and a text is one at most.
+//! What follows from the views of syntax trees and their abstract syntax.
 ghost use Rattle.std.specs.Prelude.{◌≡◌, ℕ, List};
 ghost use Rattle.conf_lex.specs.Grammar.{DerivesLongest};
-ghost use Rattle.filt_syntax.specs.declared.ast.Block.{Block};
-ghost use Rattle.filt_syntax.specs.declared.ast.Expr.{Expr};
+ghost use Rattle.conf_ast.specs.declared.filters.Block.{Block};
+ghost use Rattle.conf_ast.specs.declared.filters.Expr.{Expr};
 ghost use Rattle.filt_syntax.specs.Syntax.{block, expr, rule};
 ghost use Rattle.filt_syntax.specs.StatementView.{block_view};
 ghost use Rattle.filt_syntax.specs.View.{derivations};
-ghost use Rattle.conf_tree.specs.declared.ast.Statement.{Statement};
+ghost use Rattle.conf_ast.specs.declared.configurations.Statement.{Statement};
 ghost use Rattle.conf_tree.specs.Read.{IsConfigText};
 ghost use Rattle.conf_tree.specs.Syntax.{config};
 ghost use Rattle.conf_tree.specs.View.{statements_tree};

@@ -1,3 +1,4 @@
+//! The kinds of refusals of a configuration, and how reading one fails.
 use thiserror::Error;
 
 /// Why a configuration is refused: for want of a token, by the grammar, or when it is checked.

@@ -8,34 +8,34 @@ use Rattle.conf_lex.specs.declared.named.Name.{Name}
 use Rattle.conf_lex.specs.Kind.{symbol}
 use Rattle.conf_lex.specs.Leaves.{symbol_leaf, name_leaf}
 use Rattle.conf_lex.specs.Grammar.{Terminal, Seq, Repeat, ParseTree, Leaf, NoWords, Pair, Left, Right, Single, Snoc, Deeper, DerivesLongest}
-use Rattle.filt_syntax.specs.declared.ast.Arm.{Arm}
+use Rattle.conf_ast.specs.declared.filters.Arm.{Arm}
 use Rattle.conf_lex.specs.declared.attribute.Attribute.{Attribute}
-use Rattle.filt_syntax.specs.declared.ast.Block.{Block}
-use Rattle.filt_syntax.specs.declared.ast.Change.{Change}
-use Rattle.filt_syntax.specs.declared.ast.Change.TheVariants as changes
-use Rattle.filt_syntax.specs.declared.ast.Expr.{Expr}
-use Rattle.filt_syntax.specs.declared.ast.Item.{Item}
-use Rattle.filt_syntax.specs.declared.ast.Item.TheVariants as items
-use Rattle.filt_syntax.specs.declared.ast.Num.{Num}
-use Rattle.filt_syntax.specs.declared.ast.Num.TheVariants as nums
-use Rattle.filt_syntax.specs.declared.ast.Stmt.{Stmt, fold-Stmt}
-use Rattle.filt_syntax.specs.declared.ast.Stmt.TheOpen.{Stmt-F}
-use Rattle.filt_syntax.specs.declared.ast.Stmt.TheViews.{roll-Stmt}
-use Rattle.filt_syntax.specs.declared.ast.Stmt.TheFolds.{map-Stmt, fold-roll-Stmt, ind-Stmt}
-use Rattle.filt_syntax.specs.declared.ast.Target.{Target}
-use Rattle.filt_syntax.specs.declared.ast.Target.TheVariants as targets
-use Rattle.filt_syntax.specs.declared.ast.VariableType.{VariableType}
+use Rattle.conf_ast.specs.declared.filters.Block.{Block}
+use Rattle.conf_ast.specs.declared.filters.Change.{Change}
+use Rattle.conf_ast.specs.declared.filters.Change.TheVariants as changes
+use Rattle.conf_ast.specs.declared.filters.Expr.{Expr}
+use Rattle.conf_ast.specs.declared.filters.Item.{Item}
+use Rattle.conf_ast.specs.declared.filters.Item.TheVariants as items
+use Rattle.conf_ast.specs.declared.filters.Num.{Num}
+use Rattle.conf_ast.specs.declared.filters.Num.TheVariants as nums
+use Rattle.conf_ast.specs.declared.filters.Stmt.{Stmt, fold-Stmt}
+use Rattle.conf_ast.specs.declared.filters.Stmt.TheOpen.{Stmt-F}
+use Rattle.conf_ast.specs.declared.filters.Stmt.TheViews.{roll-Stmt}
+use Rattle.conf_ast.specs.declared.filters.Stmt.TheFolds.{map-Stmt, fold-roll-Stmt, ind-Stmt}
+use Rattle.conf_ast.specs.declared.filters.Target.{Target}
+use Rattle.conf_ast.specs.declared.filters.Target.TheVariants as targets
+use Rattle.conf_ast.specs.declared.filters.VariableType.{VariableType}
 use Rattle.filt_syntax.specs.Syntax.{rule, expr, stmt, label, arm_part, listed, optional, many, block}
 use Rattle.filt_syntax.specs.Levels.{Form}
 use Rattle.filt_syntax.specs.ItemView.{label_tree}
 use Rattle.filt_syntax.specs.View.{derivations, method_word, expr_tree, listed_tree, arguments_tree, method_tree, in_parentheses}
 use Rattle.filt_syntax.specs.StatementView.{stmt_step, stmt_tree, row_after, row_tree, as_part, as_label, body_after, ArmParts, arms_after, arms_row, seen_arm, initial_tree, result_tree, assign_tree, change_stmt_tree, block_view, semicolon_leaf, type_tree, nth, beyond, of_name, of_attribute_tree, block_tree, empty_tree, unset_tree, else_tree, verdict_tree}
 use Rattle.conf_ast.specs.Filters.{Expression, Expressions, NoExpressions, AndExpressions, expression_of, expressions_of, Statement, Braced, Nothing, Declare, Assign, ChangeBy, Clear, Unset, If, IfElse, Case, CaseElse, For, Accept, Reject, Return, Print, Printn, Call, Statements, NoStatements, AndStatements, Arms, NoArms, AndArms, statements, arms, statement_step, statement_of, statements_of, block_of, changed}
-use Rattle.conf_ast.proofs.Equations.{two, three, three_maps}
-use Rattle.conf_ast.proofs.WordsBack.{place_of, name_from, attribute_from, method_from, attribute_back, method_back}
-use Rattle.conf_ast.proofs.ItemsBack.{part_from, item_from, items_from, item_back, rest_back}
-use Rattle.conf_ast.proofs.TypesBack.{type_from, type_back}
-use Rattle.conf_ast.proofs.ExpressionsBack.{expr_from, arguments_from, listed_from, seen, all_seen, ahead, listed_back, arguments_back, expression_back, made_of, listed_again, arguments_again, expression_again}
+use Rattle.ast_laws.proofs.Equations.{two, three, three_maps}
+use Rattle.ast_laws.proofs.WordsBack.{place_of, name_from, attribute_from, method_from, attribute_back, method_back}
+use Rattle.ast_laws.proofs.ItemsBack.{part_from, item_from, items_from, item_back, rest_back}
+use Rattle.ast_laws.proofs.TypesBack.{type_from, type_back}
+use Rattle.ast_laws.proofs.ExpressionsBack.{expr_from, arguments_from, listed_from, seen, all_seen, ahead, listed_back, arguments_back, expression_back, made_of, listed_again, arguments_again, expression_again}
 
 -- ---- back from trees
 

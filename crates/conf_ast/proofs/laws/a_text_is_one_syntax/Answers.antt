@@ -1,5 +1,0 @@
-use Rattle.conf_ast.proofs.ConfigurationsBack.{one_syntax}
-use Rattle.conf_ast.proofs.laws.a_text_is_one_syntax.Goals as goal
-
-pub returns : goal.returns
-returns c = one_syntax c.a_text_is_one_configuration.ensures

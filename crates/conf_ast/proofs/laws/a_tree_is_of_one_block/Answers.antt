@@ -1,5 +1,0 @@
-use Rattle.conf_ast.proofs.StatementsBack.{one_block}
-use Rattle.conf_ast.proofs.laws.a_tree_is_of_one_block.Goals as goal
-
-pub returns : goal.returns
-returns c = one_block

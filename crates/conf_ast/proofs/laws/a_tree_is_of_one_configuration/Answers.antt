@@ -1,5 +1,0 @@
-use Rattle.conf_ast.proofs.ConfigurationsBack.{one_configuration}
-use Rattle.conf_ast.proofs.laws.a_tree_is_of_one_configuration.Goals as goal
-
-pub returns : goal.returns
-returns c = one_configuration

@@ -1,5 +1,0 @@
-use Rattle.conf_ast.proofs.ExpressionsBack.{one_expression}
-use Rattle.conf_ast.proofs.laws.a_tree_is_of_one_expression.Goals as goal
-
-pub returns : goal.returns
-returns c = one_expression
