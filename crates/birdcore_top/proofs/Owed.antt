@@ -1,6 +1,6 @@
 -- What each way out of the program owes.
-use Rattle.std.proofs.Common.{◌≡◌, ℕ, true, false, List, Option, Some, None, Ok, Err, refl, sym, ◌∙◌, ap, subst, inl, inr}
-use Rattle.std.specs.Prelude.{Bool}
+use Rattle.std.proofs.Common.{◌≡◌, ℕ, true, false, List, Option, Some, None, refl, sym, ◌∙◌, ap, subst, inl, inr}
+use Rattle.std.specs.Prelude.{◌⊎◌, Bool, IsTrue}
 use Rattle.std.specs.Io.KnownBytes.{Appends, Keeps}
 use Rattle.std.specs.List.{flat_map}
 use Rattle.std.proofs.KnownBytes.{Keeps-refl}
@@ -12,7 +12,7 @@ use Rattle.outside_io.specs.Whole.{WritesFront}
 use Rattle.report.specs.Report.{phase_text, report_text}
 use Rattle.report.specs.declared.phase.PhaseReport.{PhaseReport}
 use Rattle.script_lines.specs.declared.script.Line.{Line}
-use Rattle.birdcore_top.specs.Answer.{Answers, FindsLacked, FindsLackedBy, HasCause, IsEnd, MissesInTurn, Stops, is_early, writes}
+use Rattle.birdcore_top.specs.Answer.{Answers, AnswersConf, FindsLacked, HasCause, IsEnd, IsMissed, MissesInTurn, Stops, is_early, writes}
 use Rattle.birdcore_top.specs.Answered.{Answered, ShelfSeen, SinkSeen}
 use Rattle.birdcore_top.specs.Command.{Command, Play}
 use Rattle.birdcore_top.specs.Outcome.{Held, Outcome, Misused, OverLimit, Refused, Unbuilt, BadLine, UnbuiltLine, Played, IsPossible}
@@ -64,12 +64,20 @@ not_usage command held status cause is =
 no_command : (command : Command) → ◌≡◌ {A = Option Command} (Some command) None → ⊥
 no_command command is = none-some command (sym is)
 
--- where a file isn't held
-lacked_ok : (T : Type 0) (command : Command) (lacks : List ℕ → Bool) (held : Held) (x : T) (status : Status) → FindsLackedBy {T = T} command lacks held (Ok x) → FindsLacked (Some command) lacks held status
-lacked_ok T (Play conf script cells) lacks held x status is = record { conf_lacked = λ lacking. absurd (is.0 lacking); script_lacked = λ lacking. absurd (is.1 lacking) }
+-- both files are held, as far as that is told
+abbrev AreHeld : Command → (List ℕ → Bool) → Type 0
+AreHeld (Play conf script cells) lacks = (IsTrue (lacks conf) → ⊥) × (IsTrue (lacks script) → ⊥)
 
-lacked_err : (T : Type 0) (command : Command) (lacks : List ℕ → Bool) (held : Held) (status : Status) → FindsLackedBy {T = T} command lacks held (Err status) → FindsLacked (Some command) lacks held status
-lacked_err T (Play conf script cells) lacks held status is = record { conf_lacked = is.0; script_lacked = is.1 }
+held_both : (command : Command) (lacks : List ℕ → Bool) (held : Held) (status : Status) → AreHeld command lacks → FindsLacked (Some command) lacks held status
+held_both (Play conf script cells) lacks held status are = record { conf_lacked = λ lacking. absurd (are.0 lacking); script_lacked = λ lacking. absurd (are.1 lacking) }
+
+-- what is answered where one isn't
+abbrev AreMissed : Command → (List ℕ → Bool) → Held → Status → Type 0
+AreMissed (Play conf script cells) lacks held status =
+    (IsTrue (lacks conf) → IsMissed status) × (IsTrue (lacks script) → IsMissed status ⊎ AnswersConf (Play conf script cells) held status)
+
+missed_one : (command : Command) (lacks : List ℕ → Bool) (held : Held) (status : Status) → AreMissed command lacks held status → FindsLacked (Some command) lacks held status
+missed_one (Play conf script cells) lacks held status are = record { conf_lacked = are.0; script_lacked = are.1 }
 
 -- nothing was written
 not_early : (status other : Status) → is_early status ≡ true → is_early other ≡ false → status ≡ other → ⊥
@@ -93,10 +101,10 @@ module _ (law : HasOneOutcome) (command : Command) (shelf shelf_after : ShelfSee
   Front more reports = WritesFront sink.contents sink_after.contents (text_so_far more reports)
 
   -- A file stops the program before anything is written.
-  pub stopped : (T : Type 0) (status : Status) → Stops (IsPossible (Some command) shelf.held) status → (status ≡ ReadFault → Rose shelf.faults shelf_after.faults)
-      → (status ≡ ReadFault → MissesInTurn command shelf.held shelf.missed shelf_after.missed) → FindsLackedBy {T = T} command shelf.lacks shelf.held (Err status)
+  pub stopped : (status : Status) → Stops (IsPossible (Some command) shelf.held) status → (status ≡ ReadFault → Rose shelf.faults shelf_after.faults)
+      → (status ≡ ReadFault → MissesInTurn command shelf.held shelf.missed shelf_after.missed) → AreMissed command shelf.lacks shelf.held status
       → Keeps sink.contents sink_after.contents → Answered (Some command) shelf shelf_after sink sink_after status
-  stopped T status is read in_turn absent kept =
+  stopped status is read in_turn absent kept =
       let failed : status ≡ WriteFault → ⊥ = not_early status WriteFault is.early refl in
       record {
         usage = (λ used. absurd (not_usage command shelf.held status is.cause used), λ none. absurd (no_command command none));
@@ -109,7 +117,7 @@ module _ (law : HasOneOutcome) (command : Command) (shelf shelf_after : ShelfSee
         begun = λ wanting. inl kept;
         nothing_else = λ silent. kept;
         exact = exact law (Some command) shelf.held shelf.missed shelf_after.missed sink.faults sink_after.faults Front status is.cause in_turn (λ fault. absurd (failed fault)) (λ fault. absurd (failed fault));
-        absent = lacked_err T command shelf.lacks shelf.held status absent;
+        absent = missed_one command shelf.lacks shelf.held status absent;
       }
 
   module _ (setup : Setup) (actors : List (List ℕ)) (phases : List (List Line)) (possible : IsPossible (Some command) shelf.held (Played setup actors phases)) where
@@ -125,12 +133,12 @@ module _ (law : HasOneOutcome) (command : Command) (shelf shelf_after : ShelfSee
     }
 
     -- The files are played, to the report's end or until the sink fails or memory is refused.
-    pub ended : (T : Type 0) (files : T) → FindsLackedBy {T = T} command shelf.lacks shelf.held (Ok files) → (status : Status) → IsEnd status
+    pub ended : AreHeld command shelf.lacks → (status : Status) → IsEnd status
         → (status ≡ variants.Ok → HasPlayed setup actors phases (λ reports. Appends sink.contents sink_after.contents (report_text reports)))
         → (status ≡ WriteFault → HasBegun setup actors phases (λ more reports. WritesFront sink.contents sink_after.contents (text_so_far more reports)))
         → (status ≡ OutOfMemory → HasBegun setup actors phases (λ more reports. Appends sink.contents sink_after.contents (flat_map phase_text reports)))
         → (status ≡ WriteFault → Rose sink.faults sink_after.faults) → Answered (Some command) shelf shelf_after sink sink_after status
-    ended T files absent status end report front begun write =
+    ended absent status end report front begun write =
         let cause = end_has_cause (Some command) shelf.held setup actors phases possible status end in
         let no_read : status ≡ ReadFault → ⊥ = λ is. subst (λ (s : Status). IsEnd s) is end in
         let begun_so : status ≡ WriteFault → IfBegun (Some command) shelf.held Front = λ is. begun_of (Some command) shelf.held setup actors phases Front possible (front is) in
@@ -145,5 +153,5 @@ module _ (law : HasOneOutcome) (command : Command) (shelf shelf_after : ShelfSee
           begun = λ is. inr (begun_of (Some command) shelf.held setup actors phases (λ more reports. Appends sink.contents sink_after.contents (flat_map phase_text reports)) possible (begun is));
           nothing_else = λ silent. absurd (end_writes status end silent);
           exact = exact law (Some command) shelf.held shelf.missed shelf_after.missed sink.faults sink_after.faults Front status cause (λ is. absurd (no_read is)) write begun_so;
-          absent = lacked_ok T command shelf.lacks shelf.held files status absent;
+          absent = held_both command shelf.lacks shelf.held status absent;
         }
