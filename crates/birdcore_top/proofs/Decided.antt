@@ -1,9 +1,8 @@
 -- What is required is answered: an answer has a cause, and files that are told have one outcome.
-use Rattle.std.proofs.Common.{◌≡◌, ℕ, ◌≤◌, true, false, List, [], ◌∷◌, ◌++◌, Option, Some, None, refl, sym, ◌∙◌, ap, subst, arith, inl, inr}
-use Rattle.std.specs.Prelude.{◌⊎◌, IfSome, IsSomeAnd, slice_index_or}
+use Rattle.std.proofs.Common.{◌≡◌, ℕ, List, ◌++◌, Option, Some, None, refl, sym, subst, arith, inl, inr}
+use Rattle.std.specs.Prelude.{◌⊎◌, IfSome, IsSomeAnd}
 use Rattle.std.specs.List.{All}
 use Rattle.outside_io.specs.Faults.{Rose}
-use Rattle.core_setup.specs.Setup.{Setup}
 use Rattle.report.specs.declared.phase.PhaseReport.{PhaseReport}
 use Rattle.script_lines.specs.declared.script.Line.{Line}
 use Rattle.system.specs.System.{System}
@@ -11,7 +10,7 @@ use Rattle.birdcore_top.specs.declared.status.Status.{Status}
 use Rattle.birdcore_top.specs.declared.status.Status.TheVariants.{Usage, ConfigRefused, ScriptRefused, NotBuilt, ReadFault, WriteFault, OutOfMemory, TooLong}
 use Rattle.birdcore_top.specs.declared.status.Status.TheVariants as variants
 use Rattle.birdcore_top.specs.Command.{Command, Play}
-use Rattle.birdcore_top.specs.Outcome.{Outcome, Misused, OverLimit, Refused, Unbuilt, BadLine, UnbuiltLine, Played, Held, Configures, IsAccepted, ConfGives, ScriptGives, IsPossible, IsRequired, files_read}
+use Rattle.birdcore_top.specs.Outcome.{Outcome, Misused, OverLimit, Refused, Unbuilt, BadLine, UnbuiltLine, Played, Held, IsAccepted, ConfGives, ScriptGives, IsPossible, IsRequired, files_read}
 use Rattle.birdcore_top.specs.Written.{IfBegun}
 use Rattle.birdcore_top.specs.Answer.{Answers, HasCause, MissesInTurn, NoneFailed, SinkTakes}
 

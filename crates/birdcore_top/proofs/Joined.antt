@@ -1,6 +1,6 @@
 -- What the script comes to, over a configuration that is accepted.
-use Rattle.std.proofs.Common.{◌≡◌, ℕ, ◌+◌, ◌-◌, ◌^◌, ◌≤◌, List, ◌++◌, Option, Some, None, refl, sym, ◌∙◌, subst, arith, inl, inr}
-use Rattle.std.specs.Prelude.{◌⊎◌, Bool, min, Result, Ok, Err, IfErr, IfSome, IsErrAnd, IsTrue}
+use Rattle.std.proofs.Common.{◌≡◌, ℕ, ◌-◌, ◌≤◌, List, Option, Some, None, sym, ◌∙◌, subst, arith, inl, inr}
+use Rattle.std.specs.Prelude.{Bool, Result, Ok, Err, IfErr, IfSome, IsErrAnd, IsTrue}
 use Rattle.core_setup.specs.Setup.{Setup}
 use Rattle.outside_io.specs.Faults.{NoneFell, Rose}
 use Rattle.report.specs.declared.phase.PhaseReport.{PhaseReport}
@@ -9,7 +9,7 @@ use Rattle.sys_build.specs.Setups.{IsPlayable}
 use Rattle.system.specs.System.{System}
 use Rattle.birdcore_top.specs.Answer.{FindsLackedBy, HasCause, IsEnd, IsMissed, MissesInTurn, Stops}
 use Rattle.birdcore_top.specs.Command.{Command, Play}
-use Rattle.birdcore_top.specs.Outcome.{Configures, Held, Misused, Outcome, IsAccepted, IsPossible, Played, ScriptGives}
+use Rattle.birdcore_top.specs.Outcome.{Configures, Held, Outcome, IsAccepted, IsPossible, Played, ScriptGives}
 use Rattle.birdcore_top.specs.Written.{HasBegun, IfBegun}
 use Rattle.birdcore_top.specs.declared.status.Status.{Status}
 use Rattle.birdcore_top.specs.declared.status.Status.TheVariants.{Usage, ConfigRefused, ScriptRefused, NotBuilt, ReadFault, WriteFault, OutOfMemory, TooLong}

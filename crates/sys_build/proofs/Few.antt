@@ -1,5 +1,5 @@
 -- A configuration of few protocols names few protocols and few channels.
-use Rattle.std.proofs.Common.{◌*◌, ◌≤◌, ◌^◌, ℕ, List, [], ◌∷◌, length, arith}
+use Rattle.std.proofs.Common.{◌*◌, ◌≤◌, ℕ, List, [], ◌∷◌, length, arith}
 use Rattle.std.proofs.lemmas.List.{length-append, length-map}
 use Rattle.script_lines.specs.Kinds.{AreFew}
 use Rattle.system.specs.System.{Body, IsBgp, IsPipe, IsStatic, Protocol, System}

@@ -1,8 +1,7 @@
 -- Files that are told have an outcome.
-use Rattle.std.proofs.Common.{◌≡◌, ℕ, ◌<◌, ◌≤◌, List, length, Option, Some, None, refl, sym, subst, inl, inr}
+use Rattle.std.proofs.Common.{◌≡◌, ℕ, ◌≤◌, List, length, Option, Some, refl, sym, subst, inl, inr}
 use Rattle.std.specs.Prelude.{◌⊎◌, IsSomeAnd}
 use Rattle.std.proofs.lemmas.Bool.{cases_lt}
-use Rattle.conf_ast.specs.declared.kind.ConfKind.{ConfKind}
 use Rattle.outside_io.specs.Whole.{limit, IsLong}
 use Rattle.script_lines.specs.Script as script_answers
 use Rattle.script_lines.specs.Script.{Answer, Answers}
@@ -10,7 +9,7 @@ use Rattle.script_lines.specs.declared.named.Named.{Named}
 use Rattle.sys_build.specs.Names.{named_of}
 use Rattle.sys_build.specs.Setups.{IsPlayable, setup_of}
 use Rattle.system.specs.System.{System}
-use Rattle.birdcore_top.specs.Command.{Command, Play}
+use Rattle.birdcore_top.specs.Command.{Play}
 use Rattle.birdcore_top.specs.Outcome.{Held, Outcome, OverLimit, Refused, Unbuilt, BadLine, UnbuiltLine, Played, Configures, ConfGives, ScriptGives, IsRequired}
 use Rattle.top_laws.specs.Says.{SaysSomething}
 

@@ -1,13 +1,13 @@
 -- What is played can be played.
 use Rattle.std.proofs.Common.{◌≡◌, ℕ, false, List, Option, Some, None, sym, subst, inl, inr}
-use Rattle.std.specs.Prelude.{◌⊎◌, IfSome}
+use Rattle.std.specs.Prelude.{IfSome}
 use Rattle.core_setup.specs.Setup.{IsSetup, Setup}
 use Rattle.script_lines.specs.declared.script.Line.{Line}
 use Rattle.sys_build.specs.Setups.{IsPlayable, has_pipe, setup_of}
 use Rattle.system.specs.System.{System}
 use Rattle.system.specs.Texts.{IsSystem}
 use Rattle.birdcore_top.specs.Command.{Command, Play}
-use Rattle.birdcore_top.specs.Outcome.{Held, Outcome, Misused, IsPossible, Played, ScriptGives}
+use Rattle.birdcore_top.specs.Outcome.{Held, Misused, IsPossible, Played, ScriptGives}
 
 not_misused : (setup : Setup) (actors : List (List ℕ)) (phases : List (List Line)) → Played setup actors phases ≡ Misused → ⊥
 not_misused setup actors phases same = cc

@@ -18,7 +18,7 @@ use Rattle.conf_ast.specs.Configurations.{Declaration, configuration_of}
 use Rattle.conf_rules.specs.declared.refusal.Refusal.{Refusal}
 use Rattle.outside_io.specs.Whole.{limit}
 use Rattle.sys_build.specs.Setups.{has_pipe}
-use Rattle.system.specs.System.{System, system_in}
+use Rattle.system.specs.System.{system_in}
 use Rattle.system.specs.Texts.{IsAcceptedText, refused_in}
 use Rattle.top_laws.specs.Says.{SaysSomething}
 
