@@ -1,9 +1,8 @@
 -- What is required is answered: an answer has a cause, and files that are told have one outcome.
-use Rattle.std.proofs.Common.{◌≡◌, ℕ, ◌≤◌, true, false, List, [], ◌∷◌, ◌++◌, Option, Some, None, refl, sym, ◌∙◌, ap, subst, arith, inl, inr}
-use Rattle.std.specs.Prelude.{◌⊎◌, IfSome, IsSomeAnd, slice_index_or}
+use Rattle.std.proofs.Common.{◌≡◌, ℕ, List, ◌++◌, Option, Some, None, refl, sym, subst, arith, inl, inr}
+use Rattle.std.specs.Prelude.{◌⊎◌, IfSome, IsSomeAnd}
 use Rattle.std.specs.List.{All}
 use Rattle.outside_io.specs.Faults.{Rose}
-use Rattle.core_setup.specs.Setup.{Setup}
 use Rattle.report.specs.declared.phase.PhaseReport.{PhaseReport}
 use Rattle.script_lines.specs.declared.script.Line.{Line}
 use Rattle.system.specs.System.{System}
@@ -11,7 +10,7 @@ use Rattle.birdcore_top.specs.declared.status.Status.{Status}
 use Rattle.birdcore_top.specs.declared.status.Status.TheVariants.{Usage, ConfigRefused, ScriptRefused, NotBuilt, ReadFault, WriteFault, OutOfMemory, TooLong}
 use Rattle.birdcore_top.specs.declared.status.Status.TheVariants as variants
 use Rattle.birdcore_top.specs.Command.{Command, Play}
-use Rattle.birdcore_top.specs.Outcome.{Outcome, Misused, OverLimit, Refused, Unbuilt, BadLine, UnbuiltLine, Played, Held, Configures, IsAccepted, ConfGives, ScriptGives, IsPossible, IsRequired, files_read}
+use Rattle.birdcore_top.specs.Outcome.{Outcome, Misused, OverLimit, Refused, Unbuilt, BadLine, UnbuiltLine, Played, Held, IsAccepted, ConfGives, ScriptGives, IsPossible, IsRequired, files_read}
 use Rattle.birdcore_top.specs.Written.{IfBegun}
 use Rattle.birdcore_top.specs.Answer.{Answers, HasCause, MissesInTurn, NoneFailed, SinkTakes}
 
@@ -25,7 +24,7 @@ module _ (law : HasOneOutcome) (command : Option Command) (held : Held) (o : Out
   from_cause status p may answers = subst (λ (q : Outcome). Answers q status) (law.one command held o p required may) answers
 
   -- a report is written only where the outcome is a play
-  written : (P : List PhaseReport → Type 0) (before now : ℕ) → IfBegun command held P → SinkTakes o before now → Rose before now → ⊥
+  written : (P : List (List Line) → List PhaseReport → Type 0) (before now : ℕ) → IfBegun command held P → SinkTakes o before now → Rose before now → ⊥
   written P before now begun takes =
       subst (λ (q : Outcome). SinkTakes q before now) (sym (law.one command held o (Played begun.setup begun.actors (begun.first ++ begun.more)) required begun.possible)) takes
 
@@ -74,7 +73,7 @@ calm law None held before now o required none missed = missed
 calm law (Some (Play conf script cells)) held before now o required none missed = not_in_turn law conf script cells held before now o required none missed
 
 -- the answer is the one that is required, or want of memory
-pub exact : (law : HasOneOutcome) (command : Option Command) (held : Held) (before now : List ℕ → ℕ) (old new : ℕ) (P : List PhaseReport → Type 0) (status : Status) → HasCause (IsPossible command held) status
+pub exact : (law : HasOneOutcome) (command : Option Command) (held : Held) (before now : List ℕ → ℕ) (old new : ℕ) (P : List (List Line) → List PhaseReport → Type 0) (status : Status) → HasCause (IsPossible command held) status
     → (status ≡ ReadFault → IsSomeAnd command (λ c. MissesInTurn c held before now)) → (status ≡ WriteFault → Rose old new) → (status ≡ WriteFault → IfBegun command held P)
     → (o : Outcome) → IsRequired command held o → NoneFailed command o before now → SinkTakes o old new → Answers o status ⊎ (status ≡ OutOfMemory)
 exact law command held before now old new P variants.Ok cause read write front o required none takes = let found = cause refl in inl (from_cause law command held o required variants.Ok found.0 found.1 found.2)
@@ -90,22 +89,3 @@ exact law command held before now old new P (NotBuilt file line) cause read writ
 exact law command held before now old new P ReadFault cause read write front o required none takes = absurd (calm law command held before now o required none (read refl))
 exact law command held before now old new P WriteFault cause read write front o required none takes = absurd (written law command held o required P old new (front refl) takes (write refl))
 exact law command held before now old new P OutOfMemory cause read write front o required none takes = inr refl
-
--- ---- where nothing fails
-
--- a counter that counts nothing hasn't risen
-pub none_rose : Rose 0 0 → ⊥
-none_rose rose = omega (arith, rose)
-
-pub sink_takes : (o : Outcome) (before now : ℕ) → (Rose before now → ⊥) → SinkTakes o before now
-sink_takes Misused before now none = tt
-sink_takes (OverLimit word) before now none = tt
-sink_takes (Refused l c k) before now none = tt
-sink_takes Unbuilt before now none = tt
-sink_takes (BadLine n k) before now none = tt
-sink_takes (UnbuiltLine n) before now none = tt
-sink_takes (Played setup actors phases) before now none = none
-
-pub none_failed : (command : Option Command) (o : Outcome) (before now : List ℕ → ℕ) → ((name : List ℕ) → Rose (before name) (now name) → ⊥) → NoneFailed command o before now
-none_failed None o before now none = tt
-none_failed (Some c) o before now none = λ i d within. none (slice_index_or (files_read c o) i d)

@@ -1,6 +1,6 @@
 -- What the script comes to, over a configuration that is accepted.
-use Rattle.std.proofs.Common.{◌≡◌, ℕ, ◌+◌, ◌-◌, ◌^◌, ◌≤◌, List, ◌++◌, Option, Some, None, refl, sym, ◌∙◌, subst, arith, inl, inr}
-use Rattle.std.specs.Prelude.{◌⊎◌, Bool, min, Result, Ok, Err, IfErr, IfSome, IsErrAnd, IsTrue}
+use Rattle.std.proofs.Common.{◌≡◌, ℕ, ◌-◌, ◌≤◌, List, Option, Some, None, sym, ◌∙◌, subst, arith, inl, inr}
+use Rattle.std.specs.Prelude.{Bool, Result, Ok, Err, IfErr, IfSome, IsErrAnd, IsTrue}
 use Rattle.core_setup.specs.Setup.{Setup}
 use Rattle.outside_io.specs.Faults.{NoneFell, Rose}
 use Rattle.report.specs.declared.phase.PhaseReport.{PhaseReport}
@@ -9,7 +9,7 @@ use Rattle.sys_build.specs.Setups.{IsPlayable}
 use Rattle.system.specs.System.{System}
 use Rattle.birdcore_top.specs.Answer.{FindsLackedBy, HasCause, IsEnd, IsMissed, MissesInTurn, Stops}
 use Rattle.birdcore_top.specs.Command.{Command, Play}
-use Rattle.birdcore_top.specs.Outcome.{Configures, Held, Misused, Outcome, IsAccepted, IsPossible, Played, ScriptGives}
+use Rattle.birdcore_top.specs.Outcome.{Configures, Held, Outcome, IsAccepted, IsPossible, Played, ScriptGives}
 use Rattle.birdcore_top.specs.Written.{HasBegun, IfBegun}
 use Rattle.birdcore_top.specs.declared.status.Status.{Status}
 use Rattle.birdcore_top.specs.declared.status.Status.TheVariants.{Usage, ConfigRefused, ScriptRefused, NotBuilt, ReadFault, WriteFault, OutOfMemory, TooLong}
@@ -43,11 +43,6 @@ module _ (conf script : List ℕ) (cells : ℕ) (held : Held) (system : System) 
   pub in_turn : (before between now : List ℕ → ℕ) → NoneFell before between → Rose (between script) (now script) → MissesInTurn (Play conf script cells) held before now
   in_turn before between now none_fell rose = inr (accepted_of (held conf) system accepted, rose_since (before script) (between script) (now script) (none_fell script) rose)
 
--- words that are no command
-pub misused : (command : Option Command) (held : Held) → command ≡ None → IsPossible command held Misused
-misused None held is = refl
-misused (Some c) held is = absurd (cc)
-
 -- where the script isn't held
 pub lacked_script : {T : Type 0} (conf script : List ℕ) (cells : ℕ) (held : Held) (lacks : List ℕ → Bool) (result : Result T Status) (made : Status) → IsErrAnd result (λ e. e ≡ made)
     → (IsTrue (lacks conf) → ⊥) → (IsTrue (lacks script) → IsMissed made) → FindsLackedBy (Play conf script cells) lacks held result
@@ -55,7 +50,7 @@ lacked_script conf script cells held lacks (Ok x) made is held_conf missed = abs
 lacked_script conf script cells held lacks (Err e) made is held_conf missed = (λ lacks_it. absurd (held_conf lacks_it), λ lacks_it. inl (subst (λ (s : Status). IsMissed s) (sym is) (missed lacks_it)))
 
 -- what is begun of a play that may be due
-pub begun_of : (command : Option Command) (held : Held) (setup : Setup) (actors : List (List ℕ)) (phases : List (List Line)) (P : List PhaseReport → Type 0)
+pub begun_of : (command : Option Command) (held : Held) (setup : Setup) (actors : List (List ℕ)) (phases : List (List Line)) (P : List (List Line) → List PhaseReport → Type 0)
     → IsPossible command held (Played setup actors phases) → HasBegun setup actors phases P → IfBegun command held P
 begun_of command held setup actors phases P possible is = record {
   setup = setup;

@@ -1,10 +1,8 @@
 -- What a file that was read whole tells of the outcome.
 use Rattle.std.proofs.Common.{◌≡◌, ℕ, ◌≤◌, true, List, length, Option, Some, None, refl, sym, subst}
 use Rattle.std.specs.Prelude.{IfSome}
-use Rattle.conf_ast.specs.declared.kind.ConfKind.{ConfKind}
 use Rattle.outside_io.specs.Whole.{limit, IsLong, IsWhole}
 use Rattle.script_lines.specs.Script as script
-use Rattle.script_lines.specs.Script.{Tells}
 use Rattle.script_lines.specs.declared.faults.ScriptKind.{ScriptKind}
 use Rattle.sys_build.specs.Names.{named_of}
 use Rattle.sys_build.specs.Setups.{has_pipe}

@@ -4,9 +4,5 @@ pub mod Judged
 pub mod Joined
 pub mod Outcomes
 pub mod Decided
-pub mod Exists
+pub mod Owed
 pub mod SaidOnce
-pub mod Counted
-pub mod Says
-pub mod Legal
-pub mod Few

@@ -26,7 +26,7 @@ use Rattle.sys_run.specs.Playing as core
 use Rattle.sys_run.specs.Playing.{PlaysTo}
 use Rattle.sys_run.specs.Scripts.{phase_of}
 use Rattle.sys_run.specs.declared.player.Core.{Core}
-use Rattle.birdcore_top.specs.Written.{ArePlayed, HasBegun, HasPlayed, HasWritten}
+use Rattle.birdcore_top.specs.Written.{ArePlayed, HasBegun, HasPlayed, HasWritten, text_so_far}
 
 -- ---- texts
 
@@ -54,6 +54,14 @@ front_last a b c xs ys whole front = subst (λ (l : List ℕ). WritesFront a c l
 more_text : (reports : List PhaseReport) (report : PhaseReport) → flat_map phase_text (reports ++ report ∷ []) ≡ flat_map phase_text reports ++ phase_text report
 more_text reports report =
     flat_map-append phase_text reports (report ∷ []) ∙ ap (λ (l : List ℕ). flat_map phase_text reports ++ l) (append-nil (phase_text report))
+
+-- the texts of what is written, and a front of the text of a phase more
+so_far : (a b c : Option (List ℕ)) (reports : List PhaseReport) (report : PhaseReport) (more : List (List Line)) → Appends a b (flat_map phase_text reports) → WritesFront b c (phase_text report)
+    → WritesFront a c (text_so_far more (reports ++ report ∷ []))
+so_far a b c reports report [] before text =
+    subst (λ (l : List ℕ). WritesFront a c (l ++ codes "end\n")) (sym (more_text reports report)) (front_more a b c (flat_map phase_text reports) (phase_text report) (codes "end\n") before text)
+so_far a b c reports report (phase ∷ more) before text =
+    subst (λ (l : List ℕ). WritesFront a c l) (sym (more_text reports report)) (front_last a b c (flat_map phase_text reports) (phase_text report) before text)
 
 -- ---- phases
 
@@ -86,65 +94,64 @@ module _ {J : Type 0} (verdict : J → Net → Route → Verdict) (setup : Setup
   pub nothing_yet : (now : Core J) (a : Option (List ℕ)) → core.HasPlayed verdict setup actors [] [] now → HasWritten verdict setup actors [] now a a
   nothing_yet now a is = record { reports = []; played = is; written = Appends-nil a }
 
-  module _ (phases : List (List Line)) (lines : List Line) (now next : Core J) (report : PhaseReport) (a b c : Option (List ℕ)) (so_far : HasWritten verdict setup actors phases now a b)
-      (played : core.HasPlayed verdict setup actors (map (phase_of setup) phases ++ phase_of setup lines ∷ []) (so_far.reports ++ report ∷ []) next) where
-    one_more : core.HasPlayed verdict setup actors (map (phase_of setup) (phases ++ lines ∷ [])) (so_far.reports ++ report ∷ []) next
-    one_more = subst (λ (l : List (List MachineLine)). core.HasPlayed verdict setup actors l (so_far.reports ++ report ∷ []) next) (sym (map-append (phase_of setup) phases (lines ∷ []))) played
+  module _ (phases : List (List Line)) (lines : List Line) (now next : Core J) (report : PhaseReport) (a b c : Option (List ℕ)) (written : HasWritten verdict setup actors phases now a b)
+      (played : core.HasPlayed verdict setup actors (map (phase_of setup) phases ++ phase_of setup lines ∷ []) (written.reports ++ report ∷ []) next) where
+    one_more : core.HasPlayed verdict setup actors (map (phase_of setup) (phases ++ lines ∷ [])) (written.reports ++ report ∷ []) next
+    one_more = subst (λ (l : List (List MachineLine)). core.HasPlayed verdict setup actors l (written.reports ++ report ∷ []) next) (sym (map-append (phase_of setup) phases (lines ∷ []))) played
 
     -- a phase more is done
     pub phase_more : Appends b c (phase_text report) → HasWritten verdict setup actors (phases ++ lines ∷ []) next a c
     phase_more text = record {
-      reports = so_far.reports ++ report ∷ [];
+      reports = written.reports ++ report ∷ [];
       played = one_more;
-      written = subst (λ (l : List ℕ). Appends a c l) (sym (more_text so_far.reports report)) (appends_more a b c (flat_map phase_text so_far.reports) (phase_text report) so_far.written text);
+      written = subst (λ (l : List ℕ). Appends a c l) (sym (more_text written.reports report)) (appends_more a b c (flat_map phase_text written.reports) (phase_text report) written.written text);
     }
 
     -- the sink failed in the report of a phase
     pub cut_in_phase : (all more : List (List Line)) → all ≡ (phases ++ lines ∷ []) ++ more → WritesFront b c (phase_text report)
-        → HasBegun setup actors all (λ reports. WritesFront a c (report_text reports))
+        → HasBegun setup actors all (λ left reports. WritesFront a c (text_so_far left reports))
     cut_in_phase all more whole text = record {
       first = phases ++ lines ∷ [];
       more = more;
-      reports = so_far.reports ++ report ∷ [];
+      reports = written.reports ++ report ∷ [];
       whole = whole;
-      played = is_play (phases ++ lines ∷ []) (so_far.reports ++ report ∷ []) next one_more;
-      said = subst (λ (l : List ℕ). WritesFront a c (l ++ codes "end\n")) (sym (more_text so_far.reports report))
-          (front_more a b c (flat_map phase_text so_far.reports) (phase_text report) (codes "end\n") so_far.written text);
+      played = is_play (phases ++ lines ∷ []) (written.reports ++ report ∷ []) next one_more;
+      said = so_far a b c written.reports report more written.written text;
     }
 
-  module _ (phases : List (List Line)) (now : Core J) (a b c : Option (List ℕ)) (so_far : HasWritten verdict setup actors phases now a b) where
+  module _ (phases : List (List Line)) (now : Core J) (a b c : Option (List ℕ)) (written : HasWritten verdict setup actors phases now a b) where
     -- nothing more is written
-    pub cut_between : (all more : List (List Line)) → all ≡ phases ++ more → Keeps b c → HasBegun setup actors all (λ reports. Appends a c (flat_map phase_text reports))
+    pub cut_between : (all more : List (List Line)) → all ≡ phases ++ more → Keeps b c → HasBegun setup actors all (λ left reports. Appends a c (flat_map phase_text reports))
     cut_between all more whole kept = record {
       first = phases;
       more = more;
-      reports = so_far.reports;
+      reports = written.reports;
       whole = whole;
-      played = is_play phases so_far.reports now so_far.played;
-      said = appends_kept a b c (flat_map phase_text so_far.reports) so_far.written kept;
+      played = is_play phases written.reports now written.played;
+      said = appends_kept a b c (flat_map phase_text written.reports) written.written kept;
     }
 
     -- all is written
     pub all_written : Appends b c (codes "end\n") → HasPlayed setup actors phases (λ reports. Appends a c (report_text reports))
     all_written text = record {
-      reports = so_far.reports;
-      played = is_play phases so_far.reports now so_far.played;
-      said = appends_more a b c (flat_map phase_text so_far.reports) (codes "end\n") so_far.written text;
+      reports = written.reports;
+      played = is_play phases written.reports now written.played;
+      said = appends_more a b c (flat_map phase_text written.reports) (codes "end\n") written.written text;
     }
 
     -- the sink failed in the last line
-    pub cut_at_end : WritesFront b c (codes "end\n") → HasBegun setup actors phases (λ reports. WritesFront a c (report_text reports))
+    pub cut_at_end : WritesFront b c (codes "end\n") → HasBegun setup actors phases (λ left reports. WritesFront a c (text_so_far left reports))
     cut_at_end text = record {
       first = phases;
       more = [];
-      reports = so_far.reports;
+      reports = written.reports;
       whole = sym (append-nil phases);
-      played = is_play phases so_far.reports now so_far.played;
-      said = front_last a b c (flat_map phase_text so_far.reports) (codes "end\n") so_far.written text;
+      played = is_play phases written.reports now written.played;
+      said = front_last a b c (flat_map phase_text written.reports) (codes "end\n") written.written text;
     }
 
 -- nothing is played, nothing is written
-pub not_begun : (setup : Setup) (actors : List (List ℕ)) (phases : List (List Line)) (a : Option (List ℕ)) → HasBegun setup actors phases (λ reports. Appends a a (flat_map phase_text reports))
+pub not_begun : (setup : Setup) (actors : List (List ℕ)) (phases : List (List Line)) (a : Option (List ℕ)) → HasBegun setup actors phases (λ left reports. Appends a a (flat_map phase_text reports))
 not_begun setup actors phases a = record {
   first = [];
   more = phases;

@@ -2,10 +2,9 @@
 -- (`HasCause`, `MissesInTurn`, `NoneFailed`, `SinkTakes`, `FindsLacked`).
 -- From: own.
 -- Example: the table of statuses in the README.
-use Rattle.std.specs.Prelude.{◌≡◌, ℕ, ◌⊎◌, Bool, true, false, List, ⊤, Option, Some, None, IfSome, IsSomeAnd, IsTrue, Result, IsErrAnd}
+use Rattle.std.specs.Prelude.{◌≡◌, ℕ, ◌⊎◌, Bool, true, false, List, ⊤, Option, Some, None, IfSome, IsTrue, Result, IsErrAnd}
 use Rattle.std.specs.List.{All}
 use Rattle.std.specs.String.{string_bytes}
-use Rattle.conf_ast.specs.declared.kind.ConfKind.{ConfKind}
 use Rattle.outside_io.specs.Faults.{Rose}
 use Rattle.outside_io.specs.declared.whole.ReadError.{ReadError}
 use Rattle.outside_io.specs.declared.whole.ReadError.TheVariants as errors

@@ -1,6 +1,6 @@
 -- What a command and its files come to (`Outcome`, by `IsPossible` and `IsRequired`): the one thing
--- that the program has to answer; which files decide it (`files_read`), that a configuration says
--- something (`SaysSomething`), and is built or not (`IsBuilt`, `IsNotBuilt`).
+-- that the program has to answer; which files decide it (`files_read`), and that a configuration is
+-- built or not (`IsBuilt`, `IsNotBuilt`).
 -- Not modelled: what files hold that isn't told: `IsPossible` asks nothing of them, and
 -- `IsRequired` is false of all that rests on them. Over a shelf that tells its files both say the
 -- same (the law `files_have_one_outcome`).
@@ -57,12 +57,6 @@ Configures system = Within (λ file. IsBuilt file system)
 
 abbrev pub IsAccepted : List ℕ → Type 0
 IsAccepted file = (system : System) × Configures system file
-
--- The file is a configuration that is built, or one that isn't, or it is refused.
-abbrev pub SaysSomething : List ℕ → Type 0
-SaysSomething file = ((system : System) × IsBuilt file system)
-    ⊎ IsNotBuilt file
-    ⊎ ((line : ℕ) × (column : ℕ) × (kind : ConfKind) × IsRefusedAt file line column kind)
 
 -- ---- outcomes
 

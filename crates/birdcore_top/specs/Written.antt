@@ -1,9 +1,9 @@
 -- What is written: the report of the phases played (`ArePlayed`, `IfPlayed`), or of the first of
--- them (`IfBegun`).
+-- them (`IfBegun`), whose text has no last line as long as phases are left (`text_so_far`).
 -- Not modelled: what stands at a sink that tells nothing.
 -- From: own.
 -- Example: the worked run of docs/DEFINITIONS.md.
-use Rattle.std.specs.Prelude.{◌≡◌, ℕ, List, ◌++◌, map, Option}
+use Rattle.std.specs.Prelude.{◌≡◌, ℕ, List, [], ◌∷◌, ◌++◌, map, Option}
 use Rattle.std.specs.Io.KnownBytes.{Appends}
 use Rattle.std.specs.List.{flat_map}
 use Rattle.attrs.specs.declared.judge.Verdict.{Verdict}
@@ -11,7 +11,7 @@ use Rattle.attrs.specs.declared.route.Route.{Route}
 use Rattle.bits_ip.specs.Prefix.{Net}
 use Rattle.core_setup.specs.Plays.{IsPlay}
 use Rattle.core_setup.specs.Setup.{Setup}
-use Rattle.report.specs.Report.{phase_text}
+use Rattle.report.specs.Report.{phase_text, report_text}
 use Rattle.report.specs.declared.phase.PhaseReport.{PhaseReport}
 use Rattle.script_lines.specs.declared.script.Line.{Line}
 use Rattle.sys_run.specs.Playing as core
@@ -35,9 +35,17 @@ pub record IfPlayed
   pub played : ArePlayed setup actors phases reports
   pub said : P reports
 
--- A play of the files may be due, and this is said of the reports of some of its first phases.
+-- The text of the reports of the first phases: the last line, `end`, stands behind them only where
+-- no more phases are left.
+abbrev pub text_so_far : (more : List (List Line)) → List PhaseReport → List ℕ
+text_so_far [] reports = report_text reports
+text_so_far (phase ∷ more) reports = flat_map phase_text reports
+
+-- A play of the files may be due, and this is said of the phases that are left behind some first
+-- ones, and of the reports of these.
 pub record IfBegun
-    (command : Option Command) (held : Held) (P : List PhaseReport → Type 0) : Type 0 where
+    (command : Option Command) (held : Held)
+    (P : (more : List (List Line)) → List PhaseReport → Type 0) : Type 0 where
   pub setup : Setup
   pub actors : List (List ℕ)
   pub first : List (List Line)
@@ -45,7 +53,7 @@ pub record IfBegun
   pub reports : List PhaseReport
   pub possible : IsPossible command held (Played setup actors (first ++ more))
   pub played : ArePlayed setup actors first reports
-  pub said : P reports
+  pub said : P more reports
 
 -- ---- the same of a given play, for the contracts of private functions
 
@@ -58,13 +66,13 @@ pub record HasPlayed
 
 pub record HasBegun
     (setup : Setup) (actors : List (List ℕ)) (phases : List (List Line))
-    (P : List PhaseReport → Type 0) : Type 0 where
+    (P : (more : List (List Line)) → List PhaseReport → Type 0) : Type 0 where
   pub first : List (List Line)
   pub more : List (List Line)
   pub reports : List PhaseReport
   pub whole : phases ≡ first ++ more
   pub played : ArePlayed setup actors first reports
-  pub said : P reports
+  pub said : P more reports
 
 -- The core has played these phases, and the texts of their reports are written.
 pub record HasWritten

@@ -1,14 +1,14 @@
 //! What the program does: it plays a script over a configuration, and reports what came about.
 //!
-//! `top` does all of it. What its words and its files come to is an `Outcome` (specs/Outcome):
-//! files that are told come to one at most, which the laws say, and `top` answers it, or want of
-//! memory, unless a file that decides it, or the sink, fails. Of a play the outcome is the phases of
-//! the script over what the configuration gives to play (specs/Setups of `sys_build`), and what is
-//! written are the reports of the phases to which the machine of `core_machine` comes on them
-//! (specs/Written), each as soon as it has ended.
+//! `top` does all of it, and owes one record of eleven promises (specs/Answered). What its words
+//! and its files come to is an `Outcome` (specs/Outcome): files that are told come to one at most,
+//! which the laws say, and `top` answers it, or want of memory, unless a file that decides it, or
+//! the sink, fails. Of a play the outcome is the phases of the script over what the configuration
+//! gives to play (specs/Setups of `sys_build`), and what is written are the reports of the phases to
+//! which the machine of `core_machine` comes on them (specs/Written), each as soon as it has ended.
 //!
 //! `words` reads the command line, `write` plays and writes, `status` is how the program ends, `laws`
-//! what follows from the definitions.
+//! what files say. Other laws of `top` stand in the crate `top_laws`.
 #![tactic(auto)]
 
 pub mod laws;

@@ -1,20 +1,17 @@
 //! The one call that does all that the program does.
-ghost use Rattle.std.specs.Prelude.{◌≡◌, ◌≢◌, ◌≤◌, ◌⊎◌, ℕ, Err, Some, None, false, map, IsTrue, IfOk, IfErr, IfSome, IsSomeAnd, IsErrAnd, ◌↔◌};
-ghost use Rattle.std.specs.Io.KnownBytes.{Appends, Keeps};
-ghost use Rattle.std.specs.List.{flat_map};
+ghost use Rattle.std.specs.Prelude.{◌≡◌, ◌≤◌, ℕ, Err, Some, map, IsTrue, IfOk, IfErr, IfSome, IsErrAnd};
 ghost use Rattle.outside_io.specs.Faults.{Rose, NoneFell};
-ghost use Rattle.outside_io.specs.Whole.{IsLong, IsWhole, WritesFront};
-ghost use Rattle.report.specs.Report.{phase_text, report_text};
+ghost use Rattle.outside_io.specs.Whole.{IsLong, IsWhole};
 ghost use Rattle.script_lines.specs.Kinds.{AreFew};
 ghost use Rattle.sys_build.specs.Names.{named_of};
 ghost use Rattle.sys_build.specs.Setups.{IsPlayable, setup_of};
 ghost use Rattle.system.specs.Seen.{system_of};
 ghost use Rattle.birdcore_top.specs.Command.{command_asked, command_of};
-ghost use Rattle.birdcore_top.specs.Outcome.{Outcome, OverLimit, Played, Configures, ConfGives, ScriptGives, IsPossible, IsRequired};
-ghost use Rattle.birdcore_top.specs.Answer.{Answers, HasCause, MissesInTurn, NoneFailed, SinkTakes, IsMissed, FindsLacked, FindsLackedBy, IsReadStatus, Stops, writes};
-ghost use Rattle.birdcore_top.specs.Written.{IfBegun, IfPlayed};
+ghost use Rattle.birdcore_top.specs.Outcome.{OverLimit, Played, Configures, ConfGives, ScriptGives, IsPossible};
+ghost use Rattle.birdcore_top.specs.Answer.{MissesInTurn, IsMissed, FindsLackedBy, IsReadStatus, Stops};
+ghost use Rattle.birdcore_top.specs.Answered.{Answered, shelf_of, sink_of};
 
-use crate::laws::{accepted_configurations_are_few, files_have_one_outcome};
+use crate::laws::files_have_one_outcome;
 use crate::status::Status;
 use crate::words::{Asked, asked_by};
 use crate::write::write_play;
@@ -22,13 +19,14 @@ use outside_io::{Gate, ReadError, Shelf, Sink, read_whole};
 use script_lines::{Script, ScriptFault, read_script};
 use std::alloc::Global;
 use sys_build::has_pipe;
+use sys_build::laws::accepted_configurations_are_few;
 use system::{System, read_system};
 
 /// Does all that the program does: plays the script over the configuration that the words name, and
 /// writes the report, phase by phase.
 ///
-/// Want of memory may come in place of any answer. What then stands written are the reports of the
-/// first phases, or nothing.
+/// What it answers and what stands written are one record of eleven promises (`specs/Answered`).
+/// Want of memory may come in place of any answer.
 pub fn top<R, F: Shelf, K: Sink, G: Gate + Sync>(
     _rt: &R,
     alloc: Global,
@@ -37,71 +35,23 @@ pub fn top<R, F: Shelf, K: Sink, G: Gate + Sync>(
     out: &mut K,
     _gate: &G,
 ) -> Status
-    ensures usage { (result ≡ Status.Usage) ↔ (command_of words.now ≡ None) }
-
-    // Each answer but a fault answers what may be due, as far as the shelf tells the files.
-    ensures cause { HasCause (IsPossible (command_of words.now) (F.held shelf.old)) result }
-
-    // A read failed that was made in its turn; the sink failed.
-    ensures read { result ≡ Status.ReadFault → Rose (F.faults shelf.old) (F.faults shelf.new) }
-    ensures in_turn { result ≡ Status.ReadFault
-        → IsSomeAnd (command_of words.now)
-        (λ c. MissesInTurn c (F.held shelf.old) (F.missed shelf.old) (F.missed shelf.new)) }
-    ensures write { result ≡ Status.WriteFault → Rose (K.faults out.old) (K.faults out.new) }
-
-    // What is written: the report of the machine's phases on these files, a front of the report of
-    // the first phases, the reports of the first phases, each whole, or nothing.
-    ensures report { result ≡ Status.Ok
-        → IfPlayed (command_of words.now) (F.held shelf.old)
-        (λ reports. Appends (K.contents out.old) (K.contents out.new) (report_text reports)) }
-    ensures front { result ≡ Status.WriteFault
-        → IfBegun (command_of words.now) (F.held shelf.old)
-        (λ reports. WritesFront (K.contents out.old) (K.contents out.new) (report_text reports)) }
-    ensures begun { result ≡ Status.OutOfMemory
-        → Keeps (K.contents out.old) (K.contents out.new)
-        ⊎ IfBegun (command_of words.now) (F.held shelf.old)
-        (λ reports.
-        Appends (K.contents out.old) (K.contents out.new) (flat_map phase_text reports)) }
-    ensures nothing_else { writes result ≡ false → Keeps (K.contents out.old) (K.contents out.new) }
-
-    // What the told files require is answered, or want of memory, unless one of the files that
-    // decide it failed, or the sink where there is a report.
-    ensures exact { (o : Outcome) → IsRequired (command_of words.now) (F.held shelf.old) o
-        → NoneFailed (command_of words.now) o (F.missed shelf.old) (F.missed shelf.new)
-        → SinkTakes o (K.faults out.old) (K.faults out.new)
-        → Answers o result ⊎ (result ≡ Status.OutOfMemory) }
-
-    // A file that the shelf tells it doesn't hold is never taken for an empty one.
-    ensures absent { FindsLacked (command_of words.now)
-        (F.lacks shelf.old) (F.held shelf.old)
+    ensures { Answered (command_of words.now)
+        (shelf_of (F.held shelf.old) (F.lacks shelf.old) (F.missed shelf.old) (F.faults shelf.old))
+        (shelf_of (F.held shelf.new) (F.lacks shelf.new) (F.missed shelf.new) (F.faults shelf.new))
+        (sink_of (K.contents out.old) (K.faults out.old))
+        (sink_of (K.contents out.new) (K.faults out.new))
         result }
 {
-    files_have_one_outcome();
     run(alloc, words, shelf, out)
 }
 
+/// Does what the words ask for.
 fn run<F: Shelf, K: Sink>(alloc: Global, words: &[String], shelf: &mut F, out: &mut K) -> Status
-    ensures usage { (result ≡ Status.Usage) ↔ (command_of words.now ≡ None) }
-    ensures cause { HasCause (IsPossible (command_of words.now) (F.held shelf.old)) result }
-    ensures read { result ≡ Status.ReadFault → Rose (F.faults shelf.old) (F.faults shelf.new) }
-    ensures in_turn { result ≡ Status.ReadFault
-        → IsSomeAnd (command_of words.now)
-        (λ c. MissesInTurn c (F.held shelf.old) (F.missed shelf.old) (F.missed shelf.new)) }
-    ensures write { result ≡ Status.WriteFault → Rose (K.faults out.old) (K.faults out.new) }
-    ensures report { result ≡ Status.Ok
-        → IfPlayed (command_of words.now) (F.held shelf.old)
-        (λ reports. Appends (K.contents out.old) (K.contents out.new) (report_text reports)) }
-    ensures front { result ≡ Status.WriteFault
-        → IfBegun (command_of words.now) (F.held shelf.old)
-        (λ reports. WritesFront (K.contents out.old) (K.contents out.new) (report_text reports)) }
-    ensures begun { result ≡ Status.OutOfMemory
-        → Keeps (K.contents out.old) (K.contents out.new)
-        ⊎ IfBegun (command_of words.now) (F.held shelf.old)
-        (λ reports.
-        Appends (K.contents out.old) (K.contents out.new) (flat_map phase_text reports)) }
-    ensures nothing_else { writes result ≡ false → Keeps (K.contents out.old) (K.contents out.new) }
-    ensures absent { FindsLacked (command_of words.now)
-        (F.lacks shelf.old) (F.held shelf.old)
+    ensures { Answered (command_of words.now)
+        (shelf_of (F.held shelf.old) (F.lacks shelf.old) (F.missed shelf.old) (F.faults shelf.old))
+        (shelf_of (F.held shelf.new) (F.lacks shelf.new) (F.missed shelf.new) (F.faults shelf.new))
+        (sink_of (K.contents out.old) (K.faults out.old))
+        (sink_of (K.contents out.new) (K.faults out.new))
         result }
 {
     match asked_by(words) {
@@ -117,29 +67,14 @@ fn play_files<F: Shelf, K: Sink>(
     shelf: &mut F,
     out: &mut K,
 ) -> Status
-    ensures usage { result ≢ Status.Usage }
-    ensures cause { HasCause (IsPossible (Some (command_asked asked.now)) (F.held shelf.old)) result }
-    ensures read { result ≡ Status.ReadFault → Rose (F.faults shelf.old) (F.faults shelf.new) }
-    ensures in_turn { result ≡ Status.ReadFault
-        → MissesInTurn (command_asked asked.now) (F.held shelf.old)
-        (F.missed shelf.old) (F.missed shelf.new) }
-    ensures write { result ≡ Status.WriteFault → Rose (K.faults out.old) (K.faults out.new) }
-    ensures report { result ≡ Status.Ok
-        → IfPlayed (Some (command_asked asked.now)) (F.held shelf.old)
-        (λ reports. Appends (K.contents out.old) (K.contents out.new) (report_text reports)) }
-    ensures front { result ≡ Status.WriteFault
-        → IfBegun (Some (command_asked asked.now)) (F.held shelf.old)
-        (λ reports. WritesFront (K.contents out.old) (K.contents out.new) (report_text reports)) }
-    ensures begun { result ≡ Status.OutOfMemory
-        → Keeps (K.contents out.old) (K.contents out.new)
-        ⊎ IfBegun (Some (command_asked asked.now)) (F.held shelf.old)
-        (λ reports.
-        Appends (K.contents out.old) (K.contents out.new) (flat_map phase_text reports)) }
-    ensures nothing_else { writes result ≡ false → Keeps (K.contents out.old) (K.contents out.new) }
-    ensures absent { FindsLacked (Some (command_asked asked.now))
-        (F.lacks shelf.old) (F.held shelf.old)
+    ensures { Answered (Some (command_asked asked.now))
+        (shelf_of (F.held shelf.old) (F.lacks shelf.old) (F.missed shelf.old) (F.faults shelf.old))
+        (shelf_of (F.held shelf.new) (F.lacks shelf.new) (F.missed shelf.new) (F.faults shelf.new))
+        (sink_of (K.contents out.old) (K.faults out.old))
+        (sink_of (K.contents out.new) (K.faults out.new))
         result }
 {
+    files_have_one_outcome();
     match read_files(alloc, asked, shelf) {
         Ok(Files { system, script }) => write_play(alloc, &system, asked.cells, script, out),
         Err(status) => status,

@@ -1,5 +1,5 @@
 //! Plays a script over a configuration, and writes the report of each phase when it has ended.
-ghost use Rattle.std.specs.Prelude.{◌≡◌, ◌⊎◌, ◌≤◌, ◌++◌, ℕ, List, [], Err, codes, map, IfErr, OnOk};
+ghost use Rattle.std.specs.Prelude.{◌≡◌, ◌⊎◌, ◌≤◌, [], Err, codes, map, IfErr, OnOk};
 ghost use Rattle.std.specs.Io.KnownBytes.{Appends, Keeps};
 ghost use Rattle.std.specs.List.{flat_map};
 ghost use Rattle.core_setup.specs.Setup.{Setup};
@@ -10,7 +10,7 @@ ghost use Rattle.sys_build.specs.Setups.{IsPlayable, setup_of};
 ghost use Rattle.sys_run.specs.Playing as played;
 ghost use Rattle.system.specs.Seen.{system_of};
 ghost use Rattle.birdcore_top.specs.Answer.{CutsOff, IsEnd};
-ghost use Rattle.birdcore_top.specs.Written.{HasBegun, HasPlayed, HasWritten};
+ghost use Rattle.birdcore_top.specs.Written.{HasBegun, HasPlayed, HasWritten, text_so_far};
 
 use crate::status::Status;
 use attrs::Judge;
@@ -42,11 +42,12 @@ pub(crate) fn write_play<K: Sink>(
     ensures front { result ≡ Status.WriteFault
         → HasBegun (setup_of (system_of system.now) cells) script.actors.items
         (map (λ phase. phase.items) script.phases.items)
-        (λ reports. WritesFront (K.contents out.old) (K.contents out.new) (report_text reports)) }
+        (λ more reports.
+        WritesFront (K.contents out.old) (K.contents out.new) (text_so_far more reports)) }
     ensures begun { result ≡ Status.OutOfMemory
         → HasBegun (setup_of (system_of system.now) cells) script.actors.items
         (map (λ phase. phase.items) script.phases.items)
-        (λ reports.
+        (λ more reports.
         Appends (K.contents out.old) (K.contents out.new) (flat_map phase_text reports)) }
     ensures write { result ≡ Status.WriteFault → Rose (K.faults out.old) (K.faults out.new) }
 {
@@ -78,11 +79,12 @@ fn write_phases<J: Judge, K: Sink>(
     ensures front { result ≡ Err Status.WriteFault → (setup : Setup)
         → played.HasPlayed J.verdict setup actors.now [] [] core.old
         → HasBegun setup actors.now (map (λ phase. phase.items) phases.items)
-        (λ reports. WritesFront (K.contents out.old) (K.contents out.new) (report_text reports)) }
+        (λ more reports.
+        WritesFront (K.contents out.old) (K.contents out.new) (text_so_far more reports)) }
     ensures begun { result ≡ Err Status.OutOfMemory → (setup : Setup)
         → played.HasPlayed J.verdict setup actors.now [] [] core.old
         → HasBegun setup actors.now (map (λ phase. phase.items) phases.items)
-        (λ reports.
+        (λ more reports.
         Appends (K.contents out.old) (K.contents out.new) (flat_map phase_text reports)) }
     ensures write { result ≡ Err Status.WriteFault → Rose (K.faults out.old) (K.faults out.new) }
     ensures later { K.faults out.old ≤ K.faults out.new }

@@ -2,10 +2,10 @@ ghost use Rattle.std.specs.Prelude.{[], Some};
 
 use crate::worked::{CONF, REPORT, REPORT_OF_TWO_PHASES, SCRIPT, TWO_PHASES, files, words};
 use birdcore_top::Status;
-use birdcore_top::laws::play_surely;
 use birdcore_top::top::top;
 use outside_io::{Failed, MemShelf, MemSink, OpenGate, Sink, SureShelf};
 use std::test::Fail;
+use top_laws::surely::play_surely;
 
 /// The status of the worked run over a shelf whose call of this number fails, what it wrote, and
 /// how often the shelf was called.

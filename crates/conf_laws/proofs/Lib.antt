@@ -10,8 +10,6 @@ mod KindTrees
 mod Levels
 mod Marks
 mod Pieces
-mod PlacesOnce
-mod RefusalsOnce
 mod Regions
 mod SignificantLaws
 mod SlashTrees

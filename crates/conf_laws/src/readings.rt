@@ -1,6 +1,6 @@
-//! How texts are read: each is a configuration or is refused, at one place and for one reason; the
-//! token that is refused is the first that no configuration has there; each tree is of a
-//! configuration; and a place has one line and one column.
+//! How texts are read: each is a configuration or is refused; the token that is refused is the
+//! first that no configuration has there; each tree is of a configuration; and each place has a
+//! line and a column.
 ghost use Rattle.std.specs.Prelude.{◌≡◌, ◌⊎◌, ℕ, ◌<◌, ◌^◌, List, ◌∷◌, ◌++◌, length};
 ghost use Rattle.conf_lex.specs.Lex.{Lexes};
 ghost use Rattle.conf_lex.specs.declared.token.Token.{Token};
@@ -15,17 +15,8 @@ ghost use Rattle.conf_ast.specs.declared.kind.ConfKind.{ConfKind};
 ghost use Rattle.conf_laws.specs.Alike.{IsAlike, AreAlike, DecideAlike, IsNoSentence};
 
 use conf_ast::ConfKind;
-use conf_lex::laws::{
-    lexed_texts_are_not_refused, texts_are_refused_at_one_place, texts_have_one_list_of_tokens,
-    tokens_are_slices, tokens_rise,
-};
+use conf_lex::laws::{texts_have_one_list_of_tokens, tokens_are_slices, tokens_rise};
 use syntax_laws::words::each_text_has_tokens_or_a_place;
-
-/// A place of a text has one line and one column.
-pub fn places_have_one_line_and_column()
-    ensures { (text : List ℕ) (at l m c d : ℕ)
-        → IsPlace text at l c → IsPlace text at m d → (l ≡ m) × (c ≡ d) }
-{}
 
 /// Each place of a text has a line and a column.
 pub fn each_place_has_a_line_and_a_column()
@@ -39,16 +30,6 @@ pub fn each_text_is_a_configuration_or_is_refused()
         ⊎ ((at : ℕ) × (kind : ConfKind) × IsRefusedText text at kind) }
 {
     each_text_has_tokens_or_a_place();
-}
-
-/// A text is refused at one byte at most, for one reason.
-pub fn a_text_has_one_refusal()
-    ensures { (text : List ℕ) (at b : ℕ) (kind other : ConfKind)
-        → IsRefusedText text at kind → IsRefusedText text b other → (at ≡ b) × (kind ≡ other) }
-{
-    texts_have_one_list_of_tokens();
-    lexed_texts_are_not_refused();
-    texts_are_refused_at_one_place();
 }
 
 /// Each configuration of the grammar alone is one: its words have a tree in which an `else` goes to

@@ -10,10 +10,12 @@ pub mod LiteralSteps
 pub mod OneOf
 pub mod OptionSteps
 pub mod PlaceSteps
+mod PlacesOnce
 pub mod PolicySteps
 pub mod ProtocolSteps
 pub mod ReadAnswers
 pub mod Refusals
+mod RefusalsOnce
 pub mod RouteSteps
 pub mod SignificantSteps
 pub mod SignificantWalks

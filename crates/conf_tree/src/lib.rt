@@ -1,6 +1,6 @@
 //! The grammar of BIRD's configuration, its syntax trees and its parser: a text's tree or the first
 //! place that is refused (`read_config`, `parse_config`), and the line and column of a place
-//! (`place`). Two laws stand here, on which crates on the way to the program rest.
+//! (`place`). Four laws stand here, on which crates on the way to the program rest.
 //!
 //! Not in it: tokens and words (conf_lex), expressions, statements and blocks of filters
 //! (filt_syntax), the other laws of what is defined here (conf_laws), configurations as plain data

@@ -1,4 +1,4 @@
+pub mod Few
 pub mod Handed
 pub mod Playable
-pub mod TablesThere
 pub mod Turns

@@ -1,2 +1,6 @@
+pub mod Accepted
 pub mod Agrees
+pub mod Few
+pub mod SaidOnce
+pub mod TablesThere
 pub mod Told

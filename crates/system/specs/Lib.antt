@@ -1,4 +1,5 @@
 pub mod Policies
 pub mod System
+pub mod Tables
 pub mod Texts
 pub mod Seen

@@ -2,9 +2,11 @@
 //! policies say of routes (`specs/System`, `specs/Policies`).
 //!
 //! `read_system` reads a text: the system, or where it is refused and why (`specs/Texts`). A policy
-//! is a `Judge` (`Passes`): `System::passes` gives the one of a channel or a pipe.
+//! is a `Judge` (`Passes`): `System::passes` gives the one of a channel or a pipe. What holds of
+//! each text and of each accepted configuration are the `laws`.
 #![tactic(auto)]
 
+pub mod laws;
 mod passes;
 mod read;
 mod system;

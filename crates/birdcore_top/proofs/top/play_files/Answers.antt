@@ -1,12 +1,18 @@
-use Rattle.std.proofs.Common.{Some, inr}
+use Rattle.std.proofs.Common.{Err, ap}
+use Rattle.std.proofs.KnownBytes.{Keeps-refl}
 use Rattle.birdcore_top.specs.Command.{command_asked}
-use Rattle.birdcore_top.proofs.Joined.{begun_of, end_has_cause}
+use Rattle.birdcore_top.specs.declared.status.Status.{Status}
+use Rattle.birdcore_top.proofs.Owed.{ended, stopped}
 use Rattle.birdcore_top.proofs.top.play_files.Goals as goal
 
-pub returns-in-Ok-clause-cause : goal.returns-in-Ok-clause-cause
-returns-in-Ok-clause-cause g c =
-    end_has_cause (Some (command_asked c.args.asked.now)) (g.F.Shelf.held c.args.shelf.now) _ _ _ c.in-Ok.ensures.files c.write_play.result c.write_play.ensures.end
+pub returns-in-Ok : goal.returns-in-Ok
+returns-in-Ok g c =
+    ended (record { accepted = c.files_have_one_outcome.ensures.accepted; one = c.files_have_one_outcome.ensures.one })
+    (command_asked c.args.asked.now) _ _ _ _ _ _ _ c.in-Ok.ensures.files c.in-Ok.ensures.absent c.write_play.result c.write_play.ensures.end
+    c.write_play.ensures.report c.write_play.ensures.front c.write_play.ensures.begun c.write_play.ensures.write
 
-pub returns-in-Ok-clause-begun : goal.returns-in-Ok-clause-begun
-returns-in-Ok-clause-begun g c = λ is.
-    inr (begun_of (Some (command_asked c.args.asked.now)) (g.F.Shelf.held c.args.shelf.now) _ _ _ _ c.in-Ok.ensures.files (c.write_play.ensures.begun is))
+pub returns-in-Err : goal.returns-in-Err
+returns-in-Err g c =
+    stopped (record { accepted = c.files_have_one_outcome.ensures.accepted; one = c.files_have_one_outcome.ensures.one })
+    (command_asked c.args.asked.now) _ _ _ _ c.in-Err.status c.in-Err.ensures.stopped
+    (λ is. c.in-Err.ensures.read (ap (λ (s : Status). Err s) is)) (λ is. c.in-Err.ensures.in_turn (ap (λ (s : Status). Err s) is)) c.in-Err.ensures.absent (Keeps-refl _)

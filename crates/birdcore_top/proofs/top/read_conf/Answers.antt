@@ -1,7 +1,7 @@
 use Rattle.std.proofs.Common.{sym, ◌∙◌}
 use Rattle.std.proofs.lemmas.Result.{err_from_is_err_and}
 use Rattle.system.specs.Seen.{system_of}
-use Rattle.birdcore_top.proofs.Judged.{conf_stops, judged, pipe_stops}
+use Rattle.birdcore_top.proofs.Judged.{conf_stops, pipe_stops}
 use Rattle.birdcore_top.proofs.top.read_conf.Goals as goal
 
 pub returns-in_err-system-clause-stopped : goal.returns-in_err-system-clause-stopped

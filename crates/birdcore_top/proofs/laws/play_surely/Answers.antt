@@ -1,7 +1,0 @@
-use Rattle.birdcore_top.specs.Command.{command_of}
-use Rattle.birdcore_top.proofs.Decided.{none_failed, none_rose, sink_takes}
-use Rattle.birdcore_top.proofs.laws.play_surely.Goals as goal
-
-pub returns-clause-complete : goal.returns-clause-complete
-returns-clause-complete c = λ o required.
-    c.top.ensures.exact o required (none_failed (command_of c.args.words.now) o (λ name. 0) (λ name. 0) (λ name. none_rose)) (sink_takes o 0 0 none_rose)

@@ -1,8 +1,0 @@
-use Rattle.std.proofs.Common.{map}
-use Rattle.sys_run.specs.Scripts.{phase_of}
-use Rattle.birdcore_top.proofs.Legal.{is_setup}
-use Rattle.birdcore_top.proofs.laws.reports_are_legal.Goals as goal
-
-pub returns : goal.returns
-returns c = λ command held setup actors phases reports possible played.
-    c.plays_are_legal.ensures setup actors (map (phase_of setup) phases) reports (is_setup c.accepted_configurations_are_setups.ensures command held setup actors phases possible) played

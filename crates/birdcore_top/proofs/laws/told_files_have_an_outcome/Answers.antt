@@ -1,5 +1,0 @@
-use Rattle.birdcore_top.proofs.Exists.{outcome_exists}
-use Rattle.birdcore_top.proofs.laws.told_files_have_an_outcome.Goals as goal
-
-pub returns : goal.returns
-returns c = outcome_exists c.each_text_says_something.ensures c.each_text_has_an_answer.ensures

@@ -1,5 +1,0 @@
-use Rattle.conf_laws.proofs.PlacesOnce.{one_place}
-use Rattle.conf_laws.proofs.readings.places_have_one_line_and_column.Goals as goal
-
-pub returns : goal.returns
-returns c = one_place

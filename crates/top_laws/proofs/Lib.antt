@@ -1,0 +1,5 @@
+mod Counted
+mod Exists
+mod Legal
+mod Says
+mod Sure

@@ -1,0 +1,35 @@
+//! Each text says something, and files that are told come to an outcome.
+ghost use Rattle.std.specs.Prelude.{◌≡◌, ◌≤◌, ℕ, length, List, Some};
+ghost use Rattle.outside_io.specs.Whole.{limit};
+ghost use Rattle.birdcore_top.specs.Command.{Play};
+ghost use Rattle.birdcore_top.specs.Outcome.{Held, Outcome, IsRequired};
+ghost use Rattle.top_laws.specs.Says.{SaysSomething};
+
+use conf_laws::readings::{
+    each_place_has_a_line_and_a_column, each_text_is_a_configuration_or_is_refused,
+    each_tree_is_of_a_configuration,
+};
+use conf_lex::laws::{tokens_are_slices, tokens_rise};
+use script_lines::laws::each_text_has_an_answer;
+
+/// Each text within the limit says something: it is a configuration that is built, or one that
+/// isn't, or it is refused.
+pub fn each_text_says_something()
+    ensures { (text : List ℕ) → length text ≤ limit → SaysSomething text }
+{
+    tokens_are_slices();
+    tokens_rise();
+    each_tree_is_of_a_configuration();
+    each_text_is_a_configuration_or_is_refused();
+    each_place_has_a_line_and_a_column();
+}
+
+/// Files that are told come to an outcome.
+pub fn told_files_have_an_outcome()
+    ensures { (conf script : List ℕ) (cells : ℕ) (held : Held) (file text : List ℕ)
+        → held conf ≡ Some file → held script ≡ Some text
+        → (o : Outcome) × IsRequired (Some (Play conf script cells)) held o }
+{
+    each_text_says_something();
+    each_text_has_an_answer();
+}
