@@ -1,7 +1,6 @@
 -- A number for each checked tree that is greater than those of its parts, so that a walk ends.
-use Rattle.std.proofs.Common.{◌≡◌, ℕ, suc, zero, ◌+◌, ◌<◌, List, [], ◌∷◌, map, length, take, Option, Some, None, refl, sym, ap, ◌∙◌, arith, Box, Vec}
+use Rattle.std.proofs.Common.{◌≡◌, ℕ, suc, zero, ◌+◌, ◌<◌, List, [], ◌∷◌, map, take, Option, Some, None, refl, sym, ap, ◌∙◌, arith, Box, Vec}
 use Rattle.std.specs.Prelude.{slice_get}
-use Rattle.std.proofs.Math.ListN.{get_or}
 use Rattle.std.specs.Global.{Global}
 use Rattle.std.specs.Borrow.{Bor}
 use Rattle.conf_ast.specs.declared.filters.CompareOp.{CompareOp}
@@ -23,12 +22,9 @@ use Rattle.filt_tree.specs.declared.tree.TStmt.TheVariants as s
 use Rattle.filt_tree.specs.declared.tree.TStmt.TheOpen.{TStmt-F}
 use Rattle.filt_comp.specs.declared.chain.OfTwo.TheVariants as of_two
 use Rattle.filt_comp.specs.Seen.{Part, One, Two, Joined, part_of_access}
-use Rattle.filt_comp.proofs.Forms.{by_parts}
-use Rattle.filt_comp.proofs.Forms as forms
-
-abbrev pub all : List ℕ → ℕ
-all [] = 0
-all (n ∷ ns) = 9 + n + all ns
+use Rattle.filt_tree.proofs.Forms.{by_parts}
+use Rattle.filt_tree.proofs.Forms as forms
+use Rattle.filt_tree.proofs.Size.{all}
 
 abbrev access_step : TAccess ℕ → ℕ
 access_step (accesses.Property p) = 0
@@ -158,12 +154,6 @@ act-cost-Print v = forms.act-of-Print ℕ stmt_step v
 
 pub act-cost-Call : (n : ℕ) (v : Vec TExpr Global) → act_cost (s.Call n v) ≡ 9 + costs v.items
 act-cost-Call n v = forms.act-of-Call ℕ stmt_step n v
-
--- an item costs less than its list
-pub item_below : {A : Type 0} (f : A → ℕ) (xs : List A) (i : ℕ) (x : A) → i < length xs → x ≡ get_or xs i x → f x + 8 < all (map f xs)
-item_below f [] i x lt is = absurd (omega arith)
-item_below f (y ∷ ys) zero x lt is = rw is (omega arith)
-item_below f (y ∷ ys) (suc i) x lt is = let h : f x + 8 < all (map f ys) = item_below f ys i x (omega arith) is in omega arith
 
 pub got_below : {A : Type 0} (f : A → ℕ) (xs : List A) (i : ℕ) (x : A) → slice_get xs i ≡ Some x → f x + 8 < all (map f xs)
 got_below f [] i x is = absurd (cc)

@@ -51,8 +51,8 @@ use Rattle.filt_comp.specs.declared.setting.Setting.{Setting}
 use Rattle.filt_comp.specs.declared.stop.Stop.{Stop}
 use Rattle.filt_comp.specs.declared.stop.Stop.TheVariants as stops
 use Rattle.filt_comp.specs.Seen.{Halts, Gives, stop_of, Part, One, Two, Joined, part_of_access, made_by, made_by_all, condition, decides, elements_in, one_of, two_of, around_in, tables_in, test_in, IsOfCall}
-use Rattle.filt_comp.proofs.Forms as forms
-use Rattle.filt_comp.proofs.Forms.{by_parts, by_accesses}
+use Rattle.filt_tree.proofs.Forms as forms
+use Rattle.filt_tree.proofs.Forms.{by_parts, by_accesses}
 
 -- ---- what stops
 

@@ -13,7 +13,7 @@ ghost use Rattle.filt_comp.specs.Seen.{around_in, given_of, tables_in, vals_of, 
 
 use crate::act::block;
 use crate::running::Running;
-use crate::setting::{MAX_CALLS, Setting, first};
+use crate::setting::{MAX_NODES, Setting, first, left_beside};
 use crate::stop::Stop;
 use crate::value::values;
 use attrs::{FilterFault, Judge, Names, Route, Verdict};
@@ -62,7 +62,7 @@ fn run_function<'a>(
         (take number setting.now.functions.now)) function.now
         (vals_of arguments.entry) attrs.old) }
 {
-    let inner = setting.of_call(number, function.constants)?;
+    let inner = setting.of_call(number, function)?;
     let mut frame = arguments;
     let outcome = block(&inner, &function.sorts, &function.body, &mut frame, attrs);
     given(function.gives, outcome)
@@ -114,8 +114,8 @@ fn stopped<'a>(gives: Option<Sort>, stop: Stop<'a>) -> Result<Option<Value<'a>>,
 /// Guide, "Filters"). A tree that no check made may be stuck; then it rejects.
 ///
 /// No set, no constant and no list that the filter doesn't change is copied. The `Err` says that
-/// memory was wanted, and comes too where over 64 calls stand within one another, so that the stack
-/// of the machine has a bound. Within one function the walk is as deep as the function's tree is.
+/// memory was wanted, and comes too where over 700 nodes of the filter and of the functions within
+/// its calls would be open at once, so that the walk never overflows the stack of the machine.
 pub fn run_tree(
     alloc: Global,
     scope: &Scope,
@@ -143,6 +143,7 @@ fn run_over<'a>(
     ensures { IfOk result (λ v. v ≡ judged (around_route names.now net.now route.now)
         (constant_values scope.now) (function_trees scope.now) filter.now route.now.attrs) }
 {
+    let left = left_beside(MAX_NODES, filter.depth)?;
     let constants = first(scope.constants.values().as_slice(), filter.constants);
     let functions = first(scope.functions.values().as_slice(), filter.functions);
     let setting = Setting {
@@ -154,7 +155,7 @@ fn run_over<'a>(
         constants,
         seen: constants,
         functions,
-        calls: MAX_CALLS,
+        left,
     };
     let mut frame = Vec::new(alloc);
     let mut attrs = Running::of(&route.attrs);

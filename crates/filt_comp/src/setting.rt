@@ -1,6 +1,6 @@
 //! What trees are run over, and no statement changes.
 
-ghost use Rattle.std.specs.Prelude.{◌≡◌, take, get_or, [], IfOk};
+ghost use Rattle.std.specs.Prelude.{◌≡◌, ◌+◌, take, get_or, [], IfOk};
 ghost use Rattle.filt_values.specs.Seen.{val_of};
 ghost use Rattle.filt_values.specs.Values.{default_of, VString};
 ghost use Rattle.filt_comp.specs.Seen.{around_in, IsOfCall};
@@ -11,8 +11,11 @@ use filt_tree::TFunction;
 use filt_values::{Defaults, Fixed, Sort, Value};
 use std::alloc::Global;
 
-/// How many calls may stand within one another.
-pub(crate) const MAX_CALLS: usize = 64;
+/// How many nodes of the trees of a filter and of the functions that it calls may be open at once,
+/// so that the walk over them never overflows the machine's stack: a node takes up to 2.2 kB of it,
+/// all of them a quarter less than the 2 MiB that a thread has, and functions have depths of some 5
+/// to 10.
+pub(crate) const MAX_NODES: u32 = 700;
 
 /// A place at which trees are run.
 #[derive(Clone, Copy)]
@@ -29,8 +32,8 @@ pub(crate) struct Setting<'a> {
     pub seen: &'a [Fixed],
     /// The functions that can be called here.
     pub functions: &'a [TFunction],
-    /// How many calls may stand within one another here.
-    pub calls: usize,
+    /// How many nodes may still be opened, beside those of the tree that is run.
+    pub left: u32,
 }
 
 impl<'a> Setting<'a> {
@@ -52,17 +55,15 @@ impl<'a> Setting<'a> {
     }
 
     /// What the statements of a function are run over: the functions before it, and as many
-    /// constants as it sees. Where no call may stand here, memory is wanted.
+    /// constants as it sees. Where too few nodes are left for it, memory is wanted.
     pub(crate) fn of_call(
         &self,
         number: usize,
-        constants: usize,
+        function: &TFunction,
     ) -> Result<Setting<'a>, OutOfMemory>
-        ensures { IfOk result (λ inner. IsOfCall self.now number constants inner) }
+        ensures { IfOk result (λ inner. IsOfCall self.now number function.now.constants inner) }
     {
-        if self.calls == 0 {
-            return Err(OutOfMemory);
-        }
+        let left = left_beside(self.left, function.depth)?;
         Ok(Setting {
             alloc: self.alloc,
             names: self.names,
@@ -70,11 +71,22 @@ impl<'a> Setting<'a> {
             number: self.number,
             defaults: self.defaults,
             constants: self.constants,
-            seen: first(self.constants, constants),
+            seen: first(self.constants, function.constants),
             functions: first(self.functions, number),
-            calls: self.calls - 1,
+            left,
         })
     }
+}
+
+/// How many nodes are left beside a tree of that depth, and one for what runs it. Where there are
+/// too few, memory is wanted.
+pub(crate) fn left_beside(left: u32, depth: u32) -> Result<u32, OutOfMemory>
+    ensures { IfOk result (λ rest. rest + depth + 1 ≡ left) }
+{
+    if depth >= left {
+        return Err(OutOfMemory);
+    }
+    Ok(left - depth - 1)
 }
 
 /// The first items, or all where there are fewer.

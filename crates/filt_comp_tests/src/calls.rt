@@ -3,7 +3,7 @@ use attrs::{Names, Verdict};
 use bits_ip::OutOfMemory;
 use conf_ast::filters::{AddOp, Attribute};
 use filt_comp::run_tree;
-use filt_tree::{Scope, TExpr, TFunction, TStmt, TTarget};
+use filt_tree::{Scope, TExpr, TFunction, TStmt, TTarget, depth};
 use filt_values::{Fixed, Sort};
 use std::alloc::Global;
 use std::process::Abort;
@@ -48,6 +48,7 @@ fn function(alloc: Global, body: Vec<TStmt>) -> Result<TFunction, OutOfMemory> {
         weight: 1,
         constants: 0,
         sorts: Vec::new(alloc),
+        depth: depth(&body),
         body,
     })
 }
@@ -94,9 +95,10 @@ fn med_behind(alloc: Global, before: usize) -> Result<Left, Fail> {
     med_left(alloc, &scope, setting_the_med(alloc, before)?)
 }
 
+/// The filter and each of its calls are three nodes deep, and take four of the 700.
 #[test]
-fn calls_stand_within_one_another_64_times(rt: HostRuntime) -> Result<(), Fail> {
-    assert_eq!(rt; med_behind(rt.alloc(), 63)??, Some(42));
-    assert!(rt; med_behind(rt.alloc(), 64)?.is_err());
+fn nodes_are_open_within_a_limit(rt: HostRuntime) -> Result<(), Fail> {
+    assert_eq!(rt; med_behind(rt.alloc(), 173)??, Some(42));
+    assert!(rt; med_behind(rt.alloc(), 174)?.is_err());
     Ok(())
 }

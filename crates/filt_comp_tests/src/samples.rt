@@ -1,6 +1,6 @@
 use attrs::{Attrs, Clist, Dest, Kind, Path, Route, Src};
 use bits_ip::{Addr, OutOfMemory, Prefix};
-use filt_tree::{Scope, TFilter, TStmt};
+use filt_tree::{Scope, TFilter, TStmt, depth};
 use filt_values::Sort;
 use indexmap::{IndexMap, IndexSet};
 use std::alloc::Global;
@@ -61,6 +61,7 @@ pub fn filter(alloc: Global, scope: &Scope, body: Vec<TStmt>) -> Result<TFilter,
         constants: scope.constants.len(),
         functions: scope.functions.len(),
         sorts,
+        depth: depth(&body),
         body,
     })
 }

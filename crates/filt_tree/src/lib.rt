@@ -5,8 +5,10 @@
 //! No filter that was checked comes there.
 #![tactic(auto)]
 
+mod nesting;
 mod scope;
 mod tree;
 
+pub use nesting::depth;
 pub use scope::{Scope, TFunction};
 pub use tree::{Labels, TAccess, TArm, TExpr, TFilter, TStmt, TTarget, TTest};

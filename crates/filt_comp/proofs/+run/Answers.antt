@@ -18,6 +18,7 @@ use Rattle.filt_tree.specs.declared.tree.TStmt.{TStmt}
 use Rattle.filt_tree.specs.Trees as trees
 use Rattle.filt_comp.specs.declared.chain.OfTwo.TheVariants as of_two
 use Rattle.filt_comp.specs.Seen.{around_in, elements_in, made_by, made_by_all, part_of, part_of_access, parts_of, tables_in, vals_of, Joined, Two}
+use Rattle.filt_tree.proofs.Size as size
 use Rattle.filt_comp.proofs.Cost as k
 use Rattle.filt_comp.proofs.Walk as w
 use Rattle.filt_comp.proofs.+run.Goals as goal
@@ -43,7 +44,7 @@ act::act-returns-in-Case t c =
 
 pub act::body-act-requires : goal.act::body-act-requires
 act::body-act-requires t c =
-    (omega (arith, k.item_below k.act_cost c.args.statements.now c.loop-s.s-index c.s-item.result c.loop-s-test.true c.s-item.is), tt)
+    (omega (arith, size.item_below k.act_cost c.args.statements.now c.loop-s.s-index c.s-item.result c.loop-s-test.true c.s-item.is), tt)
 
 pub act::case-returns-in_err-has : goal.act::case-returns-in_err-has
 act::case-returns-in_err-has t c =
@@ -56,7 +57,7 @@ act::case-returns-in_err-has t c =
 
 pub act::case-body-requires : goal.act::case-body-requires
 act::case-body-requires t c =
-    (omega (arith, k.item_below (λ (a : TArm TStmt). k.body_cost a.body.items) c.args.arms.now c.loop-arm.arm-index c.arm-item.result c.loop-arm-test.true c.arm-item.is, ap (λ (ss : List TStmt). k.body_cost ss) c.deref-then-branch.ensures.value), tt)
+    (omega (arith, size.item_below (λ (a : TArm TStmt). k.body_cost a.body.items) c.args.arms.now c.loop-arm.arm-index c.arm-item.result c.loop-arm-test.true c.arm-item.is, ap (λ (ss : List TStmt). k.body_cost ss) c.deref-then-branch.ensures.value), tt)
 
 pub act::case-returns-then-branch : goal.act::case-returns-then-branch
 act::case-returns-then-branch t c =
@@ -202,7 +203,7 @@ value::value-returns-in-Compare t c =
 
 pub value::values-value-requires : goal.value::values-value-requires
 value::values-value-requires t c =
-    (omega (arith, k.item_below k.cost c.args.es.now c.loop-e.e-index c.e-item.result c.loop-e-test.true c.e-item.is), tt)
+    (omega (arith, size.item_below k.cost c.args.es.now c.loop-e.e-index c.e-item.result c.loop-e-test.true c.e-item.is), tt)
 
 pub value::value-returns-in-Test : goal.value::value-returns-in-Test
 value::value-returns-in-Test t c =
