@@ -17,13 +17,13 @@ use std::alloc::Global;
 use std::{fs, io, str};
 
 /// How many routes there are.
-const ROUTES: u32 = 256;
+const ROUTES: u16 = 256;
 
 /// The longest configuration, in bytes.
 const LONGEST: usize = 1 << 24;
 
-fn route(alloc: Global, index: u32) -> io::Result<(Prefix, Route)> {
-    let last = 65100 + index;
+fn route(alloc: Global, index: u16) -> io::Result<(Prefix, Route)> {
+    let last = 65100 + u32::from(index);
     let words = format!(in alloc;
         "10.0.{index}.0/24 path 65001 65002 65003 {last} med {index} com 65000:{index} 65001:1"
     )?;
