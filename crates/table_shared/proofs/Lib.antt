@@ -1,0 +1,4 @@
+pub mod Records
+pub mod Keeping
+pub mod RowParts
+pub mod Appending
