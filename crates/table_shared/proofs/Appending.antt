@@ -17,7 +17,7 @@ use Rattle.jour.specs.Seats.{front, head_of, journal}
 use Rattle.rec_words.specs.Entries.{Spells}
 use Rattle.table_shared.specs.declared.desk.Desk.{Desk}
 use Rattle.table_shared.specs.Opening.{TableOpening, sources_of}
-use Rattle.table_shared.specs.Records.{AreRecords, IsLawful, IsRecord, at_first, content_after}
+use Rattle.table_shared.specs.Records.{AreRecords, InContent, IsLawful, IsRecord, at_first, content_after}
 use Rattle.table_shared.specs.Answers.{Differs, with_best}
 use Rattle.table_shared.specs.Kept.{IsKept}
 use Rattle.table_shared.proofs.Records.{content_more, records_more}
@@ -71,3 +71,7 @@ module _ (here : TableId × Terms TableOpening) (old : Desk) (k : ℕ) (words : 
         family = family ∙ kept.family;
         end = end;
       }
+
+  -- where the change was real, and what is best behind it
+  pub content_at : MayJoin → InContent opening (front old.writer.1) (λ content. Differs change content × IsBestOf (after content (change ∷ [])) change.net best)
+  content_at may = let said = is_record may in (old.records.items, kept.records, (said.real, said.best))

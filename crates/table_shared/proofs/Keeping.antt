@@ -1,5 +1,5 @@
 -- What a desk keeps, from call to call, and what a seat has seen that was told.
-use Rattle.std.proofs.Common.{◌≡◌, ◌<◌, ◌^◌, ℕ, List, [], ◌∷◌, ◌++◌, map, length, ◌+◌, refl, sym, ap, ◌∙◌, subst}
+use Rattle.std.proofs.Common.{◌≡◌, ◌<◌, ◌^◌, ℕ, List, [], ◌∷◌, ◌++◌, map, length, ◌+◌, sym, ap, ◌∙◌, subst, arith}
 use Rattle.std.proofs.lemmas.List.{map-append}
 use Rattle.atomic_table.specs.Seated.{TableId}
 use Rattle.bits_ip.specs.Prefix.{Net}
@@ -17,8 +17,11 @@ use Rattle.table_shared.specs.declared.desk.Desk.{Desk}
 use Rattle.table_shared.specs.Opening.{TableOpening}
 use Rattle.table_shared.specs.Records.{AreRecords, InContent, IsRecord, at_first, change_of, content_after}
 use Rattle.table_shared.specs.Answers.{InSeen}
+use Rattle.rib.specs.Rib.{Table}
+use Rattle.table_shared.specs.declared.close.Phase.{Phase}
 use Rattle.table_shared.specs.Kept.{IsKept}
-use Rattle.table_shared.proofs.Records.{content_more, records_more, shown}
+use Rattle.table_shared.specs.Phases.{IsPhase}
+use Rattle.table_shared.proofs.Records.{as_many, shown}
 
 -- the same desk still, with a writer of the same list
 pub still :
@@ -51,3 +54,22 @@ pub in_rows :
     (here : TableId × Terms TableOpening) (desk : Desk) (seat : Seat TableOpening) (P : Content → Type 0) → IsKept here desk → seat.seen.terms ≡ here.1
     → front seat ≡ front desk.writer.1 → P (route_in desk.rib.rows) → InSeen seat P
 in_rows here desk seat P kept terms list p = in_seen here desk seat P kept terms list (subst P (rows_are here desk kept) p)
+
+-- what the desk keeps is the phase
+pub phase_is :
+    (desk : Desk) (made : Phase) → IsKept (journal desk.writer) desk → made.from ≡ desk.start → made.entries ≡ desk.records.items → made.ports ≡ desk.ports.items → made.rib ≡ desk.rib
+    → IsPhase desk.writer.1.seen.terms (front desk.writer.1) made
+phase_is desk made kept from entries ports rib =
+    let opening = desk.writer.1.seen.terms.opening in
+    let start : made.from ≡ desk.writer.1.seen.terms.start = from ∙ kept.start in
+    let many : length (front desk.writer.1) ≡ length desk.records.items = as_many opening (at_first opening) (front desk.writer.1) desk.records.items kept.records in
+    let said : length made.entries ≡ length desk.records.items = ap length entries in
+    let end = kept.end in
+    record {
+      start = start;
+      records = subst (λ (l : List JEntry). AreRecords opening (at_first opening) (front desk.writer.1) l) (sym entries) kept.records;
+      makers = ports ∙ kept.ports;
+      shows = subst (λ (z : Table × List JEntry). Shows z.0.rows (content_after opening z.1)) (λ i. (sym rib i, sym entries i)) kept.rows;
+      family = ap (λ (r : Table). r.family) rib ∙ kept.family;
+      end = omega arith;
+    }

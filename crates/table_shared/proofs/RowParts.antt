@@ -1,9 +1,8 @@
 -- The rows from a net on, and the net behind the first of them.
-use Rattle.std.proofs.Common.{◌≡◌, ◌⊎◌, ⊎_elim, ℕ, zero, suc, true, false, List, [], ◌∷◌, ◌++◌, take, drop, length, slice_get, Option, Some, None, refl, sym, ap, ◌∙◌, subst, arith, append_assoc}
-use Rattle.std.specs.Prelude.{not, filter}
+use Rattle.std.proofs.Common.{◌≡◌, ◌⊎◌, ⊎_elim, ℕ, zero, suc, true, false, List, [], ◌∷◌, ◌++◌, take, drop, length, ◌<◌, ◌≤◌, ◌-◌, Option, Some, None, refl, sym, ap, ◌∙◌, subst, arith, append_assoc}
+use Rattle.std.specs.Prelude.{not, slice_index_or}
 use Rattle.std.proofs.lemmas.Bool.{cond-true, cond-false, cases_Bool}
 use Rattle.std.proofs.lemmas.Bool.Decides.{nat_tests}
-use Rattle.std.proofs.lemmas.Option.{same_Some}
 use Rattle.bits_ip.specs.Prefix.{Net, precedes}
 use Rattle.attrs.specs.declared.route.Row.{Row}
 use Rattle.attrs.specs.Select.{rows_from}
@@ -43,7 +42,7 @@ before_later : (net : Net) (front : List Row) (row : Row) (back : List Row) → 
 before_later net [] row back below are = below
 before_later net (f ∷ front) row back below are = precedes_chain net f.net row.net below (before_later f.net front row back are.1 are.2)
 
-pub from_place : (front : List Row) (row : Row) (back : List Row) → AreRows (front ++ row ∷ back) → rows_from (Some row.net) (front ++ row ∷ back) ≡ row ∷ back
+from_place : (front : List Row) (row : Row) (back : List Row) → AreRows (front ++ row ∷ back) → rows_from (Some row.net) (front ++ row ∷ back) ≡ row ∷ back
 from_place [] row back are = from_own row back are
 from_place (f ∷ front) row back are =
     goes row.net f (front ++ row ∷ back) (before_later f.net front row back are.1 are.2) ∙ from_place front row back are.2
@@ -69,25 +68,39 @@ cut (Some net) (row ∷ rows) are = ⊎_elim
 
 -- ---- the place behind the first of a list
 
-pub place_is : {A : Type 0} (k : ℕ) (xs : List A) (x : A) → slice_get (take (suc k) xs) k ≡ Some x → xs ≡ take k xs ++ x ∷ drop (suc k) xs
-place_is k [] x e = absurd (cc (e))
-place_is zero (y ∷ ys) x e = ap (λ z. z ∷ ys) (same_Some y x e)
-place_is (suc k) (y ∷ ys) x e = ap (λ l. y ∷ l) (place_is k ys x e)
+place_is : {A : Type 0} (k : ℕ) (xs : List A) (x : A) → k < length (take (suc k) xs) → x ≡ slice_index_or (take (suc k) xs) k x → xs ≡ take k xs ++ x ∷ drop (suc k) xs
+place_is k [] x inside e = absurd (omega arith)
+place_is zero (y ∷ ys) x inside e = ap (λ z. z ∷ ys) (sym e)
+place_is (suc k) (y ∷ ys) x inside e = ap (λ l. y ∷ l) (place_is k ys x (omega arith) e)
 
-pub nothing_is : {A : Type 0} (k : ℕ) (xs : List A) → slice_get (take (suc k) xs) k ≡ None → drop (suc k) xs ≡ []
-nothing_is k [] e = refl
-nothing_is zero (y ∷ ys) e = absurd (cc (e))
-nothing_is (suc k) (y ∷ ys) e = nothing_is k ys e
+nothing_is : {A : Type 0} (k : ℕ) (xs : List A) → length (take (suc k) xs) ≤ k → drop (suc k) xs ≡ []
+nothing_is k [] few = refl
+nothing_is zero (y ∷ ys) few = absurd (omega arith)
+nothing_is (suc k) (y ∷ ys) few = nothing_is k ys (omega arith)
 
 -- ---- the net behind the first rows from a net on
 
-pub net_behind :
-    (from : Option Net) (rows : List Row) (k : ℕ) (row : Row) → AreRows rows → slice_get (take (suc k) (rows_from from rows)) k ≡ Some row
+at_place :
+    (from : Option Net) (rows : List Row) (k : ℕ) (row : Row) → AreRows rows → k < length (take (suc k) (rows_from from rows)) → row ≡ slice_index_or (take (suc k) (rows_from from rows)) k row
     → first_net (drop 1 (rows_from (Some row.net) rows)) ≡ first_net (drop (suc k) (rows_from from rows))
-net_behind from rows k row are here =
+at_place from rows k row are inside here =
     let part = cut from rows are in
     let own = rows_from from rows in
-    let whole : (part.0 ++ take k own) ++ row ∷ drop (suc k) own ≡ rows = append_assoc part.0 (take k own) (row ∷ drop (suc k) own) ∙ ap (λ (l : List Row). part.0 ++ l) (sym (place_is k own row here)) ∙ part.1 in
+    let whole : (part.0 ++ take k own) ++ row ∷ drop (suc k) own ≡ rows = append_assoc part.0 (take k own) (row ∷ drop (suc k) own) ∙ ap (λ (l : List Row). part.0 ++ l) (sym (place_is k own row inside here)) ∙ part.1 in
     let behind : rows_from (Some row.net) rows ≡ row ∷ drop (suc k) own =
     ap (rows_from (Some row.net)) (sym whole) ∙ from_place (part.0 ++ take k own) row (drop (suc k) own) (subst AreRows (sym whole) are) in
     ap (λ (l : List Row). first_net (drop 1 l)) behind
+
+pub net_behind :
+    (from : Option Net) (rows : List Row) (max : ℕ) (some : List Row) (row : Row) → 1 ≤ max → AreRows rows → some ≡ take max (rows_from from rows) → max - 1 < length some → row ≡ slice_index_or some (max - 1) row
+    → first_net (drop 1 (rows_from (Some row.net) rows)) ≡ first_net (drop max (rows_from from rows))
+net_behind from rows zero some row least are is inside here = absurd (omega arith)
+net_behind from rows (suc k) some row least are is inside here =
+    let place : suc k - 1 ≡ k = omega arith in
+    at_place from rows k row are (subst (λ (l : List Row). k < length l) is (omega arith)) (subst (λ (l : List Row). row ≡ slice_index_or l k row) is (subst (λ (n : ℕ). row ≡ slice_index_or some n row) place here))
+
+pub nothing_behind :
+    (from : Option Net) (rows : List Row) (max : ℕ) (some : List Row) → 1 ≤ max → some ≡ take max (rows_from from rows) → length some ≤ max - 1
+    → None ≡ first_net (drop max (rows_from from rows))
+nothing_behind from rows zero some least is few = absurd (omega arith)
+nothing_behind from rows (suc k) some least is few = sym (ap first_net (nothing_is k (rows_from from rows) (subst (λ (l : List Row). length l ≤ k) is (omega arith))))

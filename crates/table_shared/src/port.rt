@@ -1,5 +1,6 @@
 //! The token of one entering channel.
 ghost use Rattle.std.specs.Prelude.{◌≡◌, max, IfOk, OnErr, OnOk};
+ghost use Rattle.jour_rule.specs.Moves.{longest};
 ghost use Rattle.jour.specs.Seats.{journal, front, head_of, known, heads, last_look, looks_of, number_of};
 
 use crate::law::{TableMaker, TablePass};
@@ -57,7 +58,8 @@ impl Port {
         ensures here { (journal self.new ≡ journal self.old)
             × (number_of self.new.1.role ≡ number_of self.old.1.role) }
         ensures seen { OnOk result
-            ((head_of self.new.1 ≡ max (head_of self.old.1) (head_of pass.old.1))
+            ((front self.new.1 ≡ longest (front self.old.1) (front pass.old.1))
+            × (head_of self.new.1 ≡ max (head_of self.old.1) (head_of pass.old.1))
             × (known self.new.1 ≡ max (known self.old.1) (known pass.old.1))) }
         ensures loads { (heads self.new.1 ≡ heads self.old.1)
             × (looks_of self.new.1.role ≡ looks_of self.old.1.role)

@@ -120,7 +120,7 @@ fn net_behind(
     max: u32,
 ) -> Result<Option<Prefix>, OutOfMemory>
     requires some { 1 ≤ max }
-    requires rows { rows.now ≡ take max (rows_from (option_copied from.entry) rib.now.rows) }
+    requires rows { rows.now ≡ take max (rows_from (option_copied from) rib.now.rows) }
     requires are_rows { AreRows rib.now.rows }
     ensures { IfOk result
         (λ net. net ≡ first_net (drop max (rows_from (option_copied from.entry) rib.now.rows))) }

@@ -4,7 +4,7 @@ ghost use Rattle.std.specs.List.{AllByRecursion};
 ghost use mathlib.Core.List.{IsPrefix};
 ghost use Rattle.attrs.specs.Table.{AreRows};
 ghost use Rattle.jour_rule.specs.Moves.{position_of};
-ghost use Rattle.jour.specs.Seats.{AreCursors, AreMakers, front, head_of, heads, journal, known, number_of, own};
+ghost use Rattle.jour.specs.Seats.{AreCursors, AreMakers, AreUnread, front, head_of, heads, journal, known, number_of, own};
 ghost use Rattle.table_shared.specs.Opening.{lists_of};
 ghost use Rattle.table_shared.specs.Answers.{IsAboveAll, IsDone, IsFault, MayMake};
 ghost use Rattle.table_shared.specs.Phases.{IsClosed};
@@ -84,6 +84,7 @@ impl Table {
             (λ made. (vec_len made.1 ≡ vec_len ports) × AreMakers made.0 made.1.items) }
         ensures cursors { IfOk result
             (λ made. (vec_len made.2 ≡ cursors) × AreCursors made.0 start made.2.items) }
+        ensures unread { IfOk result (λ made. AreUnread made.2.items) }
         ensures pass { IfOk result
             (λ made. (journal made.3 ≡ made.0) × (front made.3.1 ≡ [])) }
     {

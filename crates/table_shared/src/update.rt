@@ -5,7 +5,7 @@ ghost use Rattle.attrs.specs.Table.{route_in};
 ghost use Rattle.jour.specs.Seats.{HasRoom, front, head_of, journal, number_of, own};
 ghost use Rattle.table_shared.specs.Answers.{Differs, IsAboveAll, IsDone, IsEntered, IsFault, MayMake};
 ghost use Rattle.table_shared.specs.Kept.{IsKept};
-ghost use Rattle.table_shared.specs.Prepared.{IsPrepared};
+ghost use Rattle.table_shared.specs.Prepared.{AreCopies, HasMemory};
 
 use crate::answers::{Done, UpdateFault};
 use crate::desk::{Desk, Prepared};
@@ -73,7 +73,8 @@ impl Desk {
     fn append(&mut self, maker: &mut TableMaker, prepared: Prepared) -> u64
         requires kept { IsKept (journal maker.old) self.old }
         requires change { MayMake maker.old.1 prepared.change }
-        requires prepared { IsPrepared self.old prepared.change prepared }
+        requires copies { AreCopies self.old.rib.rows prepared.change prepared }
+        requires memory { HasMemory self.old prepared.change }
         requires room { HasRoom self.old.writer.1 }
         requires told { front maker.old.1 ≡ front self.old.writer.1 }
         requires below { head_of maker.old.1 + 1 < 2 ^ 63 }
