@@ -1,6 +1,6 @@
 -- The rows from a net on, and the net behind the first of them.
 use Rattle.std.proofs.Common.{◌≡◌, ◌⊎◌, ⊎_elim, ℕ, zero, suc, true, false, List, [], ◌∷◌, ◌++◌, take, drop, length, ◌<◌, ◌≤◌, ◌-◌, Option, Some, None, refl, sym, ap, ◌∙◌, subst, arith, append_assoc}
-use Rattle.std.specs.Prelude.{not, slice_index_or}
+use Rattle.std.specs.Prelude.{◌↔◌, Bool, IsTrue, is_some, not, slice_index_or}
 use Rattle.std.proofs.lemmas.Bool.{cond-true, cond-false, cases_Bool}
 use Rattle.std.proofs.lemmas.Bool.Decides.{nat_tests}
 use Rattle.bits_ip.specs.Prefix.{Net, precedes}
@@ -104,3 +104,22 @@ pub nothing_behind :
     → None ≡ first_net (drop max (rows_from from rows))
 nothing_behind from rows zero some least is few = absurd (omega arith)
 nothing_behind from rows (suc k) some least is few = sym (ap first_net (nothing_is k (rows_from from rows) (subst (λ (l : List Row). length l ≤ k) is (omega arith))))
+
+-- ---- whether there is one
+
+goes_on : (max : ℕ) (rows : List Row) → is_some (first_net (drop max rows)) ≡ true → max < length rows
+goes_on zero [] h = absurd (cc (h))
+goes_on zero (row ∷ rows) h = omega arith
+goes_on (suc max) [] h = absurd (cc (h))
+goes_on (suc max) (row ∷ rows) h = let rest = goes_on max rows h in omega arith
+
+is_there : (max : ℕ) (rows : List Row) → max < length rows → is_some (first_net (drop max rows)) ≡ true
+is_there zero [] h = absurd (omega arith)
+is_there zero (row ∷ rows) h = refl
+is_there (suc max) [] h = absurd (omega arith)
+is_there (suc max) (row ∷ rows) h = is_there max rows (omega arith)
+
+pub more_is : (max : ℕ) (rows : List Row) (upto : Option Net) (more : Bool) → more ≡ is_some upto → upto ≡ first_net (drop max rows) → IsTrue more ↔ (max < length rows)
+more_is max rows upto more is net =
+    let same : more ≡ is_some (first_net (drop max rows)) = is ∙ ap is_some net in
+    (λ h. goes_on max rows (sym same ∙ h), λ h. same ∙ is_there max rows h)
