@@ -1,6 +1,6 @@
 -- What the answers of an update say of its port: what it had seen before and what it has seen now.
 -- Modelled: receipts, the loads that an answer rests on, and what stands in the table. Not
--- modelled: want of memory, which has no cause here. Form: the project's own.
+-- modelled: a cause for want of memory, at which nothing has changed. Form: the project's own.
 use Rattle.std.specs.Prelude.{◌≡◌, ◌≢◌, ℕ, ◌+◌, ◌<◌, ◌≤◌, ◌^◌, List, [], ◌∷◌, ◌++◌, Contains, IfSome, Option}
 use Rattle.bits_ip.specs.Address.{family_of}
 use Rattle.attrs.specs.History.{Content, after}
@@ -93,7 +93,7 @@ IsDone change old new (At position) = IsEntered change old new position
 abbrev pub IsFault : Change → Seat TableOpening → Seat TableOpening → UpdateFault → Type 0
 IsFault change old new (Full cursor at head) = IsFull change old new cursor at head
 IsFault change old new (Ended head) = IsEnded change old new head
-IsFault change old new Memory = own new ≡ own old
+IsFault change old new Memory = new ≡ old
 
 -- a change that was entered stands above all that the port had seen
 abbrev pub IsAboveAll : Seat TableOpening → Done → Type 0

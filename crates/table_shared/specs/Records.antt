@@ -2,7 +2,7 @@
 -- net behind it. Modelled: which lists of entries are lawful, and what stands in the table behind
 -- them. Not modelled: positions, which are places in the list, and the cells that entries stand in
 -- (jour_rule). Form: the project's own; the words of a record are those of rec_words.
-use Rattle.std.specs.Prelude.{◌≡◌, ◌≢◌, List, [], ◌∷◌, ◌++◌, length, map, take, Contains, IfSome, ⊤}
+use Rattle.std.specs.Prelude.{◌≡◌, ◌≢◌, ℕ, List, [], ◌∷◌, ◌++◌, length, map, take, Contains, IfSome, ⊤}
 use Rattle.bits_ip.specs.Address.{family_of}
 use Rattle.attrs.specs.History.{Content, after}
 use Rattle.attrs.specs.Table.{IsBestOf, route_in}
@@ -39,6 +39,13 @@ AreRecords opening before (entry ∷ entries) [] = ⊥
 AreRecords opening before (entry ∷ entries) (said ∷ rest) =
     IsRecord opening before entry said
     × AreRecords opening (after before (change_of said ∷ [])) entries rest
+
+-- the receipts are these records, in order
+abbrev pub AreSaid : List (ℕ × List ℕ) → List JEntry → Type 0
+AreSaid [] [] = ⊤
+AreSaid [] (said ∷ rest) = ⊥
+AreSaid (receipt ∷ receipts) [] = ⊥
+AreSaid (receipt ∷ receipts) (said ∷ rest) = Spells said receipt.1 × AreSaid receipts rest
 
 -- The law of a table's journal.
 abbrev pub IsLawful : TableOpening → List Entry → Type 0

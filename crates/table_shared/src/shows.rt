@@ -1,5 +1,5 @@
 //! What is shown of a table at its head.
-ghost use Rattle.std.specs.Prelude.{◌≡◌, ◌≤◌, false, IfOk, drop, take, option_copied, true, Some};
+ghost use Rattle.std.specs.Prelude.{◌≡◌, ◌≤◌, false, IfOk, OnErr, drop, take, option_copied, true, Some};
 ghost use mathlib.Core.List.{IsPrefix};
 ghost use Rattle.bits_ip.specs.Prefix.{Net};
 ghost use Rattle.attrs.specs.Select.{rows_from};
@@ -27,6 +27,7 @@ impl Desk {
         ensures kept { IsKept (journal pass.old) self.new }
         ensures here { journal pass.new ≡ journal pass.old }
         ensures view { IfOk result (IsView pick.now pass.old.1 pass.new.1) }
+        ensures refused { OnErr result (pass.new ≡ pass.old) }
         ensures least { head_of pass.old.1 ≤ head_of pass.new.1 }
         ensures prefix { IsPrefix (front pass.old.1) (front pass.new.1) }
     {
@@ -55,6 +56,7 @@ impl Desk {
             × (cursor.new.1 ≡ cursor.old.1) }
         ensures chunk { IfOk result
             (IsChunk (option_copied from.entry) max cursor.old.0.1 cursor.new.0.1) }
+        ensures refused { OnErr result (cursor.new ≡ cursor.old) }
         ensures least { known cursor.old.0.1 ≤ known cursor.new.0.1 }
         ensures prefix { IsPrefix (front cursor.old.0.1) (front cursor.new.0.1) }
     {

@@ -1,5 +1,5 @@
 //! The table: a lock round its desk.
-ghost use Rattle.std.specs.Prelude.{◌≡◌, ◌≤◌, ◌<◌, ◌+◌, ◌^◌, [], false, length, option_copied, true, vec_len, IfErr, IfOk};
+ghost use Rattle.std.specs.Prelude.{◌≡◌, ◌≤◌, ◌<◌, ◌+◌, ◌^◌, [], false, length, option_copied, true, vec_len, IfErr, IfOk, OnErr};
 ghost use Rattle.std.specs.List.{AllByRecursion};
 ghost use mathlib.Core.List.{IsPrefix};
 ghost use Rattle.attrs.specs.Table.{AreRows};
@@ -106,8 +106,10 @@ impl Table {
         Ok((Table { lock }, ports, cursors, pass))
     }
 
-    /// Makes a change of the port's, where it differs from what stands for its key. Behind an entry
-    /// the gate is passed at place 1, under the lock. `Memory` comes before anything was changed.
+    /// Makes a change of the port's, where it differs from what stands for its key: `Same` comes
+    /// where it doesn't. Of a real change `Memory` may come, at which nothing has changed; `Ended`
+    /// where no position is left; else `Full`, where a cursor has yet to read the oldest entry that
+    /// there is a cell for. Behind an entry the gate is passed at place 1, under the lock.
     pub fn update<R: Wait, G: Gate>(
         &self,
         rt: &R,
@@ -141,6 +143,7 @@ impl Table {
         requires here { journal pass.old ≡ self.now }
         ensures here { journal pass.new ≡ journal pass.old }
         ensures view { IfOk result (IsView pick.now pass.old.1 pass.new.1) }
+        ensures refused { OnErr result (pass.new ≡ pass.old) }
         ensures least { head_of pass.old.1 ≤ head_of pass.new.1 }
         ensures prefix { IsPrefix (front pass.old.1) (front pass.new.1) }
     {
@@ -167,6 +170,7 @@ impl Table {
             × (cursor.new.1 ≡ true) }
         ensures chunk { IfOk result
             (IsChunk (option_copied from.entry) max cursor.old.0.1 cursor.new.0.1) }
+        ensures refused { OnErr result (cursor.new ≡ cursor.old) }
         ensures least { known cursor.old.0.1 ≤ known cursor.new.0.1 }
         ensures prefix { IsPrefix (front cursor.old.0.1) (front cursor.new.0.1) }
     {

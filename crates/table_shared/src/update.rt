@@ -1,5 +1,5 @@
 //! How a change becomes an entry.
-ghost use Rattle.std.specs.Prelude.{◌≡◌, ◌≢◌, ◌+◌, ◌<◌, ◌^◌, IfErr, IfOk};
+ghost use Rattle.std.specs.Prelude.{◌≡◌, ◌+◌, ◌<◌, ◌^◌, IfErr, IfOk};
 ghost use mathlib.Core.List.{IsPrefix};
 ghost use Rattle.attrs.specs.Table.{route_in};
 ghost use Rattle.jour.specs.Seats.{HasRoom, front, head_of, journal, number_of, own};
@@ -15,7 +15,8 @@ use jour_rule::buf::Buf;
 use rec_words::put_words;
 
 impl Desk {
-    /// Makes the change, where it is real. All memory is taken before the first word is stored.
+    /// Makes the change, where it is real. All memory is taken before the first word is stored, and
+    /// before the maker is told anything.
     pub(crate) fn update(
         &mut self,
         maker: &mut TableMaker,
@@ -31,34 +32,35 @@ impl Desk {
         ensures above { IfOk result (IsAboveAll maker.old.1) }
         ensures prefix { IsPrefix (front maker.old.1) (front maker.new.1) }
     {
-        let at = self.writer.tell_maker(maker);
         if self.rib.stands(change) {
+            let at = self.writer.tell_maker(maker);
             return Ok(Done::Same { at });
         }
-        if at >= (1 << 63) - 1 {
-            return Err(UpdateFault::Ended { head: at });
-        }
-        self.enter(maker, change)
-    }
-
-    /// Makes a real change below the last position.
-    fn enter(&mut self, maker: &mut TableMaker, change: &Change) -> Result<Done, UpdateFault>
-        requires kept { IsKept (journal maker.old) self.old }
-        requires change { MayMake maker.old.1 change.now }
-        requires told { front maker.old.1 ≡ front self.old.writer.1 }
-        requires below { head_of maker.old.1 + 1 < 2 ^ 63 }
-        requires real { Differs change.now (route_in self.old.rib.rows) }
-        ensures kept { IsKept (journal maker.old) self.new }
-        ensures here { (journal maker.new ≡ journal maker.old)
-            × (number_of maker.new.1.role ≡ number_of maker.old.1.role) }
-        ensures done { IfOk result (IsDone change.now maker.old.1 maker.new.1) }
-        ensures fault { IfErr result (IsFault change.now maker.old.1 maker.new.1) }
-        ensures above { IfOk result (IsAboveAll maker.old.1) }
-        ensures prefix { IsPrefix (front maker.old.1) (front maker.new.1) }
-    {
         let Ok(prepared) = self.prepare(change) else {
             return Err(UpdateFault::Memory);
         };
+        self.enter(maker, prepared)
+    }
+
+    /// Makes a real change for which there is memory.
+    fn enter(&mut self, maker: &mut TableMaker, prepared: Prepared) -> Result<Done, UpdateFault>
+        requires kept { IsKept (journal maker.old) self.old }
+        requires change { MayMake maker.old.1 prepared.change }
+        requires copies { AreCopies self.old.rib.rows prepared.change prepared }
+        requires memory { HasMemory self.old prepared.change }
+        requires real { Differs prepared.change (route_in self.old.rib.rows) }
+        ensures kept { IsKept (journal maker.old) self.new }
+        ensures here { (journal maker.new ≡ journal maker.old)
+            × (number_of maker.new.1.role ≡ number_of maker.old.1.role) }
+        ensures done { IfOk result (IsDone prepared.change maker.old.1 maker.new.1) }
+        ensures fault { IfErr result (IsFault prepared.change maker.old.1 maker.new.1) }
+        ensures above { IfOk result (IsAboveAll maker.old.1) }
+        ensures prefix { IsPrefix (front maker.old.1) (front maker.new.1) }
+    {
+        let head = self.writer.tell_maker(maker);
+        if head >= (1 << 63) - 1 {
+            return Err(UpdateFault::Ended { head });
+        }
         if let Err(lag) = self.writer.room(maker) {
             return Err(UpdateFault::Full {
                 cursor: lag.cursor,
