@@ -1,12 +1,12 @@
 -- One entry more: what the desk keeps, and what the port is told.
-use Rattle.std.proofs.Common.{◌≡◌, ◌≢◌, ◌<◌, ◌+◌, ◌^◌, ℕ, List, [], ◌∷◌, ◌++◌, map, length, Option, refl, sym, ap, ◌∙◌, subst}
+use Rattle.std.proofs.Common.{◌≡◌, ◌<◌, ◌^◌, ℕ, List, [], ◌∷◌, ◌++◌, map, Option, sym, ap, ◌∙◌, subst}
 use Rattle.std.specs.Prelude.{Contains, IfSome}
 use Rattle.std.proofs.lemmas.List.{map-append}
 use Rattle.atomic_table.specs.Seated.{TableId}
 use Rattle.bits_ip.specs.Address.{family_of}
 use Rattle.bits_ip.specs.Prefix.{Net}
 use Rattle.attrs.specs.History.{Content, after}
-use Rattle.attrs.specs.Table.{AreRows, IsBestOf, Shows, route_in}
+use Rattle.attrs.specs.Table.{AreRows, IsBestOf, route_in}
 use Rattle.attrs.specs.declared.journal.JEntry.{JEntry}
 use Rattle.attrs.specs.declared.route.Change.{Change}
 use Rattle.attrs.specs.declared.route.Route.{Route}

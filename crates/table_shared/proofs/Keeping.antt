@@ -1,21 +1,17 @@
 -- What a desk keeps, from call to call, and what a seat has seen that was told.
-use Rattle.std.proofs.Common.{◌≡◌, ◌<◌, ◌^◌, ℕ, List, [], ◌∷◌, ◌++◌, map, length, ◌+◌, sym, ap, ◌∙◌, subst, arith}
-use Rattle.std.proofs.lemmas.List.{map-append}
+use Rattle.std.proofs.Common.{◌≡◌, ◌<◌, ◌^◌, ℕ, List, map, length, ◌+◌, sym, ap, ◌∙◌, subst, arith}
 use Rattle.atomic_table.specs.Seated.{TableId}
-use Rattle.bits_ip.specs.Prefix.{Net}
-use Rattle.attrs.specs.History.{Content, after}
-use Rattle.attrs.specs.Table.{AreRows, IsBestOf, Shows, route_in}
+use Rattle.attrs.specs.History.{Content}
+use Rattle.attrs.specs.Table.{Shows, route_in}
 use Rattle.attrs.specs.declared.journal.JEntry.{JEntry}
-use Rattle.attrs.specs.declared.route.Change.{Change}
 use Rattle.attrs.specs.declared.route.Row.{Row}
 use Rattle.jour_rule.specs.declared.views.Entry.{Entry}
 use Rattle.jour_rule.specs.declared.views.Terms.{Terms}
 use Rattle.jour_rule.specs.declared.views.View.{View as Seat}
-use Rattle.jour_rule.specs.Moves.{entry}
-use Rattle.jour.specs.Seats.{front, head_of, journal}
+use Rattle.jour.specs.Seats.{front, journal}
 use Rattle.table_shared.specs.declared.desk.Desk.{Desk}
 use Rattle.table_shared.specs.Opening.{TableOpening}
-use Rattle.table_shared.specs.Records.{AreRecords, InContent, IsRecord, at_first, change_of, content_after}
+use Rattle.table_shared.specs.Records.{AreRecords, InContent, at_first, content_after}
 use Rattle.table_shared.specs.Answers.{InSeen}
 use Rattle.rib.specs.Rib.{Table}
 use Rattle.table_shared.specs.declared.close.Phase.{Phase}

@@ -1,5 +1,5 @@
 -- Lists of records, one longer.
-use Rattle.std.proofs.Common.{◌≡◌, ℕ, suc, List, [], ◌∷◌, ◌++◌, length, map, refl, sym, ap, ◌∙◌, subst}
+use Rattle.std.proofs.Common.{◌≡◌, suc, List, [], ◌∷◌, ◌++◌, length, map, refl, ap, ◌∙◌, subst}
 use Rattle.std.proofs.lemmas.List.{map-append}
 use Rattle.attrs.specs.History.{Content, after}
 use Rattle.attrs.specs.Table.{Shows, route_in}
@@ -27,9 +27,11 @@ pub records_more :
 records_more opening before [] [] entry next are is = (is, tt)
 records_more opening before [] (s ∷ ss) entry next are is = absurd are
 records_more opening before (e ∷ es) [] entry next are is = absurd are
-records_more opening before (e ∷ es) (s ∷ ss) entry next are is =
-    (are.0, records_more opening (after before (change_of s ∷ [])) es ss entry next are.1
-      (subst (λ (content : Content). IsRecord opening content entry next) (after_both before (change_of s ∷ []) (map change_of ss)) is))
+records_more opening before (e ∷ es) (s ∷ ss) entry next are is = (
+  are.0,
+  records_more opening (after before (change_of s ∷ [])) es ss entry next are.1
+      (subst (λ (content : Content). IsRecord opening content entry next) (after_both before (change_of s ∷ []) (map change_of ss)) is),
+)
 
 -- rows that show a content are it
 pub shown : (rows : List Row) (content : Content) → Shows rows content → route_in rows ≡ content

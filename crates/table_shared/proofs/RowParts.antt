@@ -1,12 +1,12 @@
 -- The rows from a net on, and the net behind the first of them.
-use Rattle.std.proofs.Common.{◌≡◌, ◌⊎◌, ⊎_elim, ℕ, zero, suc, true, false, List, [], ◌∷◌, ◌++◌, take, drop, length, ◌<◌, ◌≤◌, ◌-◌, Option, Some, None, refl, sym, ap, ◌∙◌, subst, arith, append_assoc}
+use Rattle.std.proofs.Common.{◌≡◌, ⊎_elim, ℕ, zero, suc, true, false, List, [], ◌∷◌, ◌++◌, take, drop, length, ◌<◌, ◌≤◌, ◌-◌, Option, Some, None, refl, sym, ap, ◌∙◌, subst, arith, append_assoc}
 use Rattle.std.specs.Prelude.{◌↔◌, Bool, IsTrue, is_some, not, slice_index_or}
 use Rattle.std.proofs.lemmas.Bool.{cond-true, cond-false, cases_Bool}
 use Rattle.std.proofs.lemmas.Bool.Decides.{nat_tests}
 use Rattle.bits_ip.specs.Prefix.{Net, precedes}
 use Rattle.attrs.specs.declared.route.Row.{Row}
 use Rattle.attrs.specs.Select.{rows_from}
-use Rattle.attrs.specs.Table.{AreRows, IsBelow, IsRow}
+use Rattle.attrs.specs.Table.{AreRows, IsBelow}
 use Rattle.attrs.proofs.Nets.{precedes_chain}
 use Rattle.table_shared.specs.Views.{first_net}
 
@@ -54,8 +54,8 @@ none_behind net row (next ∷ rows) e below are = ⊎_elim
     (λ h. absurd (apart (sym (precedes_chain row.net next.net net below h) ∙ e)))
     (λ h. stays net next rows h ∙ ap (λ (l : List Row). next ∷ l) (none_behind net next rows h are.1 are.2))
     (cases_Bool (precedes next.net net)) where
-  apart : true ≡ false → ⊥
-  apart h = cc (h)
+      apart : true ≡ false → ⊥
+      apart h = cc (h)
 
 -- the rows from a net on are the back of all
 pub cut : (from : Option Net) (rows : List Row) → AreRows rows → (front : List Row) × (front ++ rows_from from rows ≡ rows)

@@ -59,7 +59,9 @@ pub record IsEntered (change : Change) (old new : Seat TableOpening) (position :
   pub last : front new ≡ before ++ entry (number_of new.role) words ∷ []
   pub head : position ≡ head_of new
   pub end : position < 2 ^ 63
-  pub content : InContent new.seen.terms.opening before (λ content. Differs change content × IsBestOf (after content (change ∷ [])) change.net best)
+  pub content : InContent new.seen.terms.opening before
+      (λ content. Differs change content
+      × IsBestOf (after content (change ∷ [])) change.net best)
 
 -- the key has the given route already, at the head that was loaded
 pub record IsSame (change : Change) (old new : Seat TableOpening) (at : ℕ) : Type 0 where
@@ -76,7 +78,8 @@ pub record IsEnded (change : Change) (old new : Seat TableOpening) (head : ℕ) 
 
 -- The change is real, and the port's last load of a cursor's word, in this call, found the cursor
 -- the whole journal behind the head that the port loaded in this call.
-pub record IsFull (change : Change) (old new : Seat TableOpening) (cursor at head : ℕ) : Type 0 where
+pub record IsFull (change : Change) (old new : Seat TableOpening) (cursor at head : ℕ)
+    : Type 0 where
   pub look : last_look new.role ≡ (cursor, at)
   pub looks : looks_of old.role < looks_of new.role
   pub known : head ≡ known new

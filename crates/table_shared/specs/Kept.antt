@@ -13,7 +13,8 @@ use Rattle.table_shared.specs.Records.{AreRecords, at_first, content_after}
 pub record IsKept (here : TableId × Terms TableOpening) (desk : Desk) : Type 0 where
   pub journal : journal desk.writer ≡ here
   pub start : desk.start ≡ here.1.start
-  pub records : AreRecords here.1.opening (at_first here.1.opening) (front desk.writer.1) desk.records.items
+  pub records :
+      AreRecords here.1.opening (at_first here.1.opening) (front desk.writer.1) desk.records.items
   pub ports : desk.ports.items ≡ map (λ entry. entry.maker) (front desk.writer.1)
   pub rows : Shows desk.rib.rows (content_after here.1.opening desk.records.items)
   pub family : desk.rib.family ≡ here.1.opening.family

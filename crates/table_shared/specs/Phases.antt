@@ -33,9 +33,10 @@ pub record IsRetired (terms : Terms TableOpening) (list : List Entry) (port : Se
   pub receipts : receipts terms.start (number_of port.1.role) list ≡ own port.1
   pub seen : IsPrefix (front port.1) list
 
--- The table's phase has ended: its one list of entries is what the phase has, the ports are retired,
--- and what each pass and cursor has seen begins the list.
-pub record IsClosed (terms : Terms TableOpening) (ports passes : List Seated) (cursors : List (Seated × Bool)) (made : Phase) : Type 0 where
+-- The table's phase has ended: its one list of entries is what the phase has, the ports are
+-- retired, and what each pass and cursor has seen begins the list.
+pub record IsClosed (terms : Terms TableOpening) (ports passes : List Seated)
+    (cursors : List (Seated × Bool)) (made : Phase) : Type 0 where
   pub list : List Entry
   pub phase : IsPhase terms list made
   pub retired : AllByRecursion (IsRetired terms list) ports

@@ -23,7 +23,8 @@ at_first opening = route_in opening.rows
 -- The entry's words spell the record. Its change is real where `before` stands, of the table's
 -- family, and of a source of the port that made the entry, which so is one of the table's; the best
 -- is the net's behind the change.
-pub record IsRecord (opening : TableOpening) (before : Content) (entry : Entry) (said : JEntry) : Type 0 where
+pub record IsRecord (opening : TableOpening) (before : Content) (entry : Entry) (said : JEntry)
+    : Type 0 where
   pub words : Spells said entry.words
   pub source : Contains (sources_of opening entry.maker) said.num
   pub family : family_of said.net.addr ≡ opening.family
@@ -49,7 +50,8 @@ AreSaid (receipt ∷ receipts) (said ∷ rest) = Spells said receipt.1 × AreSai
 
 -- The law of a table's journal.
 abbrev pub IsLawful : TableOpening → List Entry → Type 0
-IsLawful opening entries = (said : List JEntry) × AreRecords opening (at_first opening) entries said
+IsLawful opening entries =
+    (said : List JEntry) × AreRecords opening (at_first opening) entries said
 
 -- what stands in the table behind these records
 abbrev pub content_after : TableOpening → List JEntry → Content
@@ -58,13 +60,24 @@ content_after opening said = after (at_first opening) (map change_of said)
 -- P holds of what stands in the table behind these entries
 abbrev pub InContent : TableOpening → List Entry → (Content → Type 0) → Type 0
 InContent opening entries P =
-    (said : List JEntry) × AreRecords opening (at_first opening) entries said × P (content_after opening said)
+    (said : List JEntry)
+    × AreRecords opening (at_first opening) entries said
+    × P (content_after opening said)
 
 -- the entries at the front of lawful ones are
 pub records_front :
-    (opening : TableOpening) (before : Content) (entries more : List Entry) (said : List JEntry) → AreRecords opening before (entries ++ more) said
+    (opening : TableOpening) (before : Content) (entries more : List Entry) (said : List JEntry)
+    → AreRecords opening before (entries ++ more) said
     → AreRecords opening before entries (take (length entries) said)
 records_front opening before [] more said are = tt
 records_front opening before (entry ∷ entries) more [] are = are
 records_front opening before (entry ∷ entries) more (first ∷ rest) are =
     (are.0, records_front opening (after before (change_of first ∷ [])) entries more rest are.1)
+
+pub front_lawful :
+    (opening : TableOpening) (entries more : List Entry)
+    → IsLawful opening (entries ++ more) → IsLawful opening entries
+front_lawful opening entries more lawful = (
+  take (length entries) lawful.0,
+  records_front opening (at_first opening) entries more lawful.0 lawful.1,
+)

@@ -1,7 +1,7 @@
 -- What is shown of a table: a view of its rows, and a part of them. Modelled: at which position, of
 -- which content, and where a part begins and ends. Not modelled: the order in which routes came.
 -- Form: the project's own; rows and selection are those of attrs.
-use Rattle.std.specs.Prelude.{◌≡◌, ◌↔◌, ℕ, ◌+◌, ◌<◌, ◌≤◌, List, [], ◌∷◌, length, take, drop, Option, Some, None, IsTrue}
+use Rattle.std.specs.Prelude.{◌≡◌, ◌↔◌, ℕ, ◌+◌, ◌<◌, List, [], ◌∷◌, length, take, drop, Option, Some, None, IsTrue}
 use Rattle.bits_ip.specs.Prefix.{Net}
 use Rattle.attrs.specs.Select.{rows_from, selected}
 use Rattle.attrs.specs.Table.{Shows, count_routes}
@@ -34,7 +34,8 @@ first_net [] = None
 first_net (row ∷ rows) = Some row.net
 
 -- the first rows from a net on of the content at the head, at most so many, and the net behind them
-pub record IsChunk (from : Option Net) (max : ℕ) (old new : Seat TableOpening) (chunk : Chunk) : Type 0 where
+pub record IsChunk (from : Option Net) (max : ℕ) (old new : Seat TableOpening) (chunk : Chunk)
+    : Type 0 where
   pub all : List Row
   pub told : IsTold chunk.at old new
   pub shows : InSeen new (Shows all)

@@ -26,8 +26,8 @@ pub struct Phase {
     pub rib: Rib,
 }
 
-/// A table that nobody else uses any more, so that nothing joins its journal. What its ports, passes
-/// and cursors know is joined here to the one list of entries.
+/// A table that nobody else uses any more, so that nothing joins its journal. What its ports,
+/// passes and cursors know is joined here to the one list of entries.
 #[derive(Drop)]
 pub struct Closing {
     desk: Desk,
@@ -113,7 +113,9 @@ pub(crate) fn retire_all(closing: &mut Closing, ports: Vec<Port>)
     requires here { AllByRecursion (λ port. journal port ≡ journal closing.old) ports.items }
     ensures same { (journal closing.new ≡ journal closing.old)
         × (front closing.new.1 ≡ front closing.old.1) }
-    ensures retired { AllByRecursion (IsRetired closing.old.1.seen.terms (front closing.old.1)) ports.items }
+    ensures retired { AllByRecursion
+        (IsRetired closing.old.1.seen.terms (front closing.old.1))
+        ports.items }
 {
     for port in ports {
         closing.retire(port);
@@ -125,7 +127,9 @@ pub(crate) fn hear_passes(closing: &mut Closing, passes: Vec<TablePass>)
     requires here { AllByRecursion (λ pass. journal pass ≡ journal closing.old) passes.items }
     ensures same { (journal closing.new ≡ journal closing.old)
         × (front closing.new.1 ≡ front closing.old.1) }
-    ensures heard { AllByRecursion (λ pass. IsPrefix (front pass.1) (front closing.old.1)) passes.items }
+    ensures heard { AllByRecursion
+        (λ pass. IsPrefix (front pass.1) (front closing.old.1))
+        passes.items }
 {
     for mut pass in passes {
         closing.hear_pass(&mut pass);
@@ -134,10 +138,14 @@ pub(crate) fn hear_passes(closing: &mut Closing, passes: Vec<TablePass>)
 
 /// What each of the cursors has seen begins the list of entries.
 pub(crate) fn hear_cursors(closing: &mut Closing, cursors: Vec<TableCursor>)
-    requires here { AllByRecursion (λ cursor. journal cursor.0 ≡ journal closing.old) cursors.items }
+    requires here { AllByRecursion
+        (λ cursor. journal cursor.0 ≡ journal closing.old)
+        cursors.items }
     ensures same { (journal closing.new ≡ journal closing.old)
         × (front closing.new.1 ≡ front closing.old.1) }
-    ensures heard { AllByRecursion (λ cursor. IsPrefix (front cursor.0.1) (front closing.old.1)) cursors.items }
+    ensures heard { AllByRecursion
+        (λ cursor. IsPrefix (front cursor.0.1) (front closing.old.1))
+        cursors.items }
 {
     for mut cursor in cursors {
         closing.hear_cursor(&mut cursor);

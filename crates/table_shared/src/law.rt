@@ -27,12 +27,20 @@ impl Model for Opening {
 
     ghost Value = { TableOpening };
 
-    ghost view = { λ o. record { family = o.family; rows = o.rows.value.rows; ports = lists_of o.ports.value.items } };
+    ghost view = { λ o. record {
+      family = o.family;
+      rows = o.rows.value.rows;
+      ports = lists_of o.ports.value.items;
+    } };
 }
 
 impl Opening {
     pub(crate) fn of(family: Family, rows: &Rib, ports: &Vec<Vec<u32>>) -> Opening
-        ensures { result ≡ record { family = family; rows = rows.now.rows; ports = lists_of ports.now.items } }
+        ensures { result ≡ record {
+          family = family;
+          rows = rows.now.rows;
+          ports = lists_of ports.now.items;
+        } }
     {
         Opening {
             family,
@@ -47,9 +55,9 @@ impl Opening {
 pub struct RecordLaw;
 
 impl Law<Opening> for RecordLaw {
-    ghost use Rattle.std.specs.Prelude.{[], take, length};
+    ghost use Rattle.std.specs.Prelude.{[]};
     ghost use Rattle.bits_ip.specs.declared.address.Family.TheVariants.{V4};
-    ghost use Rattle.table_shared.specs.Records.{IsLawful, at_first, records_front};
+    ghost use Rattle.table_shared.specs.Records.{IsLawful, front_lawful};
 
     ghost meets = { IsLawful };
 
@@ -57,7 +65,7 @@ impl Law<Opening> for RecordLaw {
 
     ghost empty_meets = { λ opening. ([], tt) };
 
-    ghost front_meets = { λ opening entries more lawful. (take (length entries) lawful.0, records_front opening (at_first opening) entries more lawful.0 lawful.1) };
+    ghost front_meets = { front_lawful };
 }
 
 /// The one seat of a table's journal that appends.

@@ -16,6 +16,7 @@ mod answers;
 mod close;
 mod desk;
 mod law;
+pub mod laws;
 mod port;
 mod shows;
 mod table;

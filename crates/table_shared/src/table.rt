@@ -37,8 +37,8 @@ impl Keeps<Desk, Snapshot<TableWriter>> for OfJournal {
     ghost keeps = { λ key desk. IsKept (journal key.value) desk };
 }
 
-/// A table that threads share. Contracts see it as the name of its journal: the journal's words, and
-/// its terms, which have what the table began with.
+/// A table that threads share. Contracts see it as the name of its journal: the journal's words,
+/// and its terms, which have what the table began with.
 #[derive(Drop)]
 pub struct Table {
     lock: Lock<Desk, Snapshot<TableWriter>, OfJournal>,
@@ -57,8 +57,8 @@ impl Model for Table {
 
 impl Table {
     /// A table with these rows, and a journal without entries that begins at `start`. It has a port
-    /// for each list of sources, and as many cursors, all closed. Ports and cursors are numbered from
-    /// 0 on.
+    /// for each list of sources, and its cursors are closed; both are numbered from 0 on. The pass
+    /// has seen no entry.
     pub fn make(
         alloc: Global,
         family: Family,
@@ -74,11 +74,11 @@ impl Table {
         requires start { start < 2 ^ 63 }
         requires rows { (rows.family ≡ family) × AreRows rows.rows }
         ensures terms { IfOk result (λ made. made.0.1 ≡ record {
-            start = start;
-            cells = cells;
-            cursors = cursors;
-            makers = vec_len ports;
-            opening = record { family = family; rows = rows.rows; ports = lists_of ports.items };
+          start = start;
+          cells = cells;
+          cursors = cursors;
+          makers = vec_len ports;
+          opening = record { family = family; rows = rows.rows; ports = lists_of ports.items };
         }) }
         ensures ports { IfOk result
             (λ made. (vec_len made.1 ≡ vec_len ports) × AreMakers made.0 made.1.items) }
@@ -208,7 +208,8 @@ impl Table {
             × (number_of port.new.1.role ≡ number_of port.old.1.role) }
         ensures told { IsTold result cursor.old.0.1 cursor.new.0.1 }
         ensures started { (position_of cursor.new.0.1.role ≡ result) × (cursor.new.1 ≡ true) }
-        ensures both { (front port.new.1 ≡ front cursor.new.0.1) × (result ≡ head_of port.new.1) }
+        ensures both { (front port.new.1 ≡ front cursor.new.0.1)
+            × (result ≡ head_of port.new.1) }
         ensures receipts { own port.new.1 ≡ own port.old.1 }
         ensures least { (known cursor.old.0.1 ≤ result) × (head_of port.old.1 ≤ result) }
         ensures prefix { IsPrefix (front cursor.old.0.1) (front cursor.new.0.1)

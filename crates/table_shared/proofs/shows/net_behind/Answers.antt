@@ -1,9 +1,7 @@
-use Rattle.std.proofs.Common.{◌≡◌, ◌-◌, List, Option, Some, None, drop, ap, ◌∙◌, sym, subst}
+use Rattle.std.proofs.Common.{◌-◌, ◌∙◌, subst}
 use Rattle.std.specs.Prelude.{option_copied}
 use Rattle.std.specs.Slice.{IsItemAt}
 use Rattle.std.proofs.lemmas.Result.{IfOk-weaker}
-use Rattle.attrs.specs.Select.{rows_from}
-use Rattle.table_shared.specs.Views.{first_net}
 use Rattle.table_shared.proofs.RowParts.{net_behind, nothing_behind}
 use Rattle.table_shared.proofs.shows.net_behind.Goals as goal
 

@@ -1,11 +1,10 @@
-use Rattle.std.proofs.Common.{◌≡◌, ◌<◌, ◌+◌, ◌^◌, ℕ, List, [], ◌∷◌, ◌++◌, length, length-append, refl, sym, ap, ◌∙◌, subst, arith}
+use Rattle.std.proofs.Common.{◌≡◌, ℕ, List, [], ◌∷◌, ◌++◌, length, length-append, refl, sym, ap, ◌∙◌, subst, arith}
 use Rattle.attrs.specs.History.{after}
 use Rattle.attrs.specs.Table.{IsBestOf}
 use Rattle.attrs.specs.declared.journal.JEntry.{JEntry}
-use Rattle.attrs.specs.declared.route.Change.{Change}
 use Rattle.jour_rule.specs.declared.views.Terms.{Terms}
 use Rattle.jour_rule.specs.Moves.{entry}
-use Rattle.jour.specs.Seats.{front, head_of, journal, number_of}
+use Rattle.jour.specs.Seats.{front, journal, number_of}
 use Rattle.rec_words.specs.Entries.{Spells}
 use Rattle.table_shared.specs.Opening.{TableOpening}
 use Rattle.table_shared.specs.Records.{InContent, IsLawful}
@@ -64,10 +63,10 @@ returns-clause-entered c =
       head = omega arith;
       end = omega arith;
       content = subst
-      (λ (t : Terms TableOpening). InContent t.opening (front c.args.self.now.writer.1)
-      (λ content. Differs c.args.prepared.change content × IsBestOf (after content (c.args.prepared.change ∷ [])) c.args.prepared.change.net c.args.prepared.said.best))
-      (sym (ap (λ j. j.1) a.here.1))
-      (content_at (journal c.args.maker.now) c.args.self.now (number_of c.args.maker.now.1.role) c.words.result.now c.args.prepared.said.best c.args.prepared.change q.kept may);
+          (λ (t : Terms TableOpening). InContent t.opening (front c.args.self.now.writer.1)
+          (λ content. Differs c.args.prepared.change content × IsBestOf (after content (c.args.prepared.change ∷ [])) c.args.prepared.change.net c.args.prepared.said.best))
+          (sym (ap (λ j. j.1) a.here.1))
+          (content_at (journal c.args.maker.now) c.args.self.now (number_of c.args.maker.now.1.role) c.words.result.now c.args.prepared.said.best c.args.prepared.change q.kept may);
     }
 
 pub returns-clause-above : goal.returns-clause-above

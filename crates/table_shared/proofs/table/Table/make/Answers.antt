@@ -1,4 +1,4 @@
-use Rattle.std.proofs.Common.{◌≡◌, List, length, slice_get, sym, ap, ◌∙◌, arith}
+use Rattle.std.proofs.Common.{List, length, slice_get, sym, ap, ◌∙◌, arith}
 use Rattle.jour.specs.Seats.{journal}
 use Rattle.table_shared.specs.Phases.{Seated}
 use Rattle.table_shared.proofs.table.Table.make.Goals as goal
