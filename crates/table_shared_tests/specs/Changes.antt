@@ -6,7 +6,7 @@ use Rattle.bits_ip.specs.declared.address.Family.TheVariants.{V4}
 use Rattle.attrs.specs.declared.route.Change.{Change}
 use Rattle.jour_rule.specs.declared.views.Terms.{Terms}
 use Rattle.jour_rule.specs.declared.views.View.{View as Seat}
-use Rattle.jour.specs.Seats.{journal, number_of}
+use Rattle.jour.specs.Seats.{journal}
 use Rattle.table_shared.specs.Opening.{TableOpening}
 
 -- a change of an IPv4 net and of this source

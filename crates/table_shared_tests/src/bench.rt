@@ -74,7 +74,8 @@ fn last_port(table: &Table, ports: &mut Vec<Port>) -> Option<Port>
 /// The last of some closed cursors.
 fn last_cursor(table: &Table, cursors: &mut Vec<TableCursor>) -> Option<TableCursor>
     requires { AreClosed table.now cursors.old.items }
-    ensures { IfSome result (λ cursor. (journal cursor.0 ≡ table.now) × (cursor.1 ≡ false)) }
+    ensures here { IfSome result (λ cursor. journal cursor.0 ≡ table.now) }
+    ensures closed { IfSome result (λ cursor. cursor.1 ≡ false) }
 {
     let _ = table;
     cursors.pop()
