@@ -76,10 +76,11 @@ pub record IsEnded (change : Change) (old new : Seat TableOpening) (head : ℕ) 
   pub end : head + 1 ≡ 2 ^ 63
   pub differs : InSeen new (Differs change)
 
--- The change is real, and the port's last load of a cursor's word, in this call, found the cursor
--- the whole journal behind the head that the port loaded in this call.
+-- The change is real, and the port's last load of a cursor's word, in this call, found that cursor
+-- of the table's the whole journal behind the head that the port loaded in this call.
 pub record IsFull (change : Change) (old new : Seat TableOpening) (cursor at head : ℕ)
     : Type 0 where
+  pub inside : cursor < new.seen.terms.cursors
   pub look : last_look new.role ≡ (cursor, at)
   pub looks : looks_of old.role < looks_of new.role
   pub known : head ≡ known new

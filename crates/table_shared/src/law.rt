@@ -1,7 +1,4 @@
 //! What a table begins with, and what its journal's entries owe.
-ghost use Rattle.std.specs.Prelude.{◌≡◌};
-ghost use Rattle.table_shared.specs.Opening.{lists_of};
-
 use bits_ip::Family;
 use jour::cursor::Cursor;
 use jour::maker::Maker;
@@ -17,9 +14,9 @@ use std::snapshot::Snapshot;
 /// sources, which take no room here.
 #[derive(Drop)]
 pub struct Opening {
-    family: Family,
-    rows: Snapshot<Rib>,
-    ports: Snapshot<Vec<Vec<u32>>>,
+    pub(crate) family: Family,
+    pub(crate) rows: Snapshot<Rib>,
+    pub(crate) ports: Snapshot<Vec<Vec<u32>>>,
 }
 
 impl Model for Opening {
@@ -32,22 +29,6 @@ impl Model for Opening {
       rows = o.rows.value.rows;
       ports = lists_of o.ports.value.items;
     } };
-}
-
-impl Opening {
-    pub(crate) fn of(family: Family, rows: &Rib, ports: &Vec<Vec<u32>>) -> Opening
-        ensures { result ≡ record {
-          family = family;
-          rows = rows.now.rows;
-          ports = lists_of ports.now.items;
-        } }
-    {
-        Opening {
-            family,
-            rows: Snapshot::of(rows),
-            ports: Snapshot::of(ports),
-        }
-    }
 }
 
 /// The law of a table's journal: each entry is the words of a record, which says a real change of a

@@ -88,7 +88,11 @@ impl Table {
         ensures pass { IfOk result
             (λ made. (journal made.3 ≡ made.0) × (front made.3.1 ≡ [])) }
     {
-        let opening = Opening::of(family, &rows, &ports);
+        let opening = Opening {
+            family,
+            rows: Snapshot::of(&rows),
+            ports: Snapshot::of(&ports),
+        };
         let makers = ports.len() as u32;
         let (writer, cursors, makers, pass) = make::<Opening, RecordLaw>(
             alloc, cells, cursors, makers, start, opening,
