@@ -6,6 +6,7 @@ ghost use Rattle.table_shared.specs.Opening.{lists_of};
 ghost use Rattle.table_shared_tests.specs.Changes.{AreOf, AreClosed, IsOfSource, IsOfTwo, two_sources};
 
 use crate::routes::change_of;
+use crate::threads::{Source, enter_all, take_all};
 use attrs::{Change, Chunk, Select};
 use bits_ip::{Family, OutOfMemory, Prefix};
 use jour_rule::buf::Buf;
@@ -13,7 +14,8 @@ use outside_io::OpenGate;
 use rib::Rib;
 use std::alloc::Global;
 use std::process::Abort;
-use std::sync::Wait;
+use std::sync::{Arc, Wait};
+use std::thread::{self, Threads};
 use table_shared::{Done, Phase, Port, Table, TableCursor, TablePass, UpdateFault, View};
 
 /// A table of IPv4 nets with a port for the source 0 and one for the source 1, and one cursor.
@@ -82,7 +84,7 @@ fn last_cursor(table: &Table, cursors: &mut Vec<TableCursor>) -> Option<TableCur
 }
 
 /// Enters a change of the port's source.
-fn enter<R: Wait>(
+pub(crate) fn enter<R: Wait>(
     rt: &R,
     table: &Table,
     port: &mut Port,
@@ -262,5 +264,50 @@ impl Bench {
         closing.hear_pass(&mut pass);
         closing.hear_cursor(&mut cursor);
         closing.phase()
+    }
+
+    /// Two threads enter changes of one net, so many each, while a third takes the entries. Answers
+    /// how many it took, in order, and how many were entered.
+    pub fn race<R: Threads + Wait + Sync>(
+        self,
+        rt: &R,
+        alloc: Global,
+        net: Prefix,
+        count: u32,
+    ) -> Result<(u64, u32, u32), OutOfMemory>
+        requires { family_of net.addr ≡ Family.V4 }
+    {
+        let Bench {
+            table,
+            first,
+            second,
+            mut cursor,
+            ..
+        } = self;
+        let table = Arc::new(alloc, table)?;
+        let mut left = Source {
+            table: Arc::try_clone(&table)?,
+            port: first,
+            num: 0,
+            net,
+        };
+        let mut right = Source {
+            table,
+            port: second,
+            num: 1,
+            net,
+        };
+        let (taken, made) = thread::join(
+            rt,
+            || take_all(rt, &mut cursor, 2 * u64::from(count)),
+            || {
+                thread::join(
+                    rt,
+                    || enter_all(rt, alloc, &mut left, count),
+                    || enter_all(rt, alloc, &mut right, count),
+                )
+            },
+        );
+        Ok((taken, made.0, made.1))
     }
 }

@@ -6,6 +6,7 @@ mod bench;
 #[cfg(test)]
 mod phases;
 mod routes;
+mod threads;
 #[cfg(test)]
 mod updates;
 

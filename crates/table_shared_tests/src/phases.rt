@@ -70,3 +70,16 @@ fn a_table_is_fed_in_parts(rt: HostRuntime) -> Result<(), Fail> {
     assert_eq!(rt; bench.start(&rt), Some(3));
     parts(&rt, &mut bench)
 }
+
+/// Two threads enter 10,000 changes each over 64 cells, and a third takes all 20,000 in order.
+#[test]
+fn a_cursor_takes_what_two_threads_enter(rt: HostRuntime) -> Result<(), Fail> {
+    let mut bench = Bench::open(&rt, rt.alloc(), 64, 0)?;
+    assert_eq!(rt; bench.start(&rt), Some(0));
+    let ten = net(10)?;
+    assert_eq!(rt;
+        bench.race(&rt, rt.alloc(), ten, 10000)?,
+        (20000, 10000, 10000)
+    );
+    Ok(())
+}
