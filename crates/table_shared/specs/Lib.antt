@@ -1,0 +1,7 @@
+pub mod Opening
+pub mod Records
+pub mod Answers
+pub mod Views
+pub mod Kept
+pub mod Prepared
+pub mod Phases

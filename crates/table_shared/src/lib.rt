@@ -1,0 +1,31 @@
+//! Tables that threads share: a lock round a table's rows and the one seat that appends to its
+//! journal.
+//!
+//! A change is an entry of the journal, which cursors read without the lock. A `Port` is the token
+//! of one entering channel; its receipts are the entries that it made. `Table::update` enters a
+//! change, `snapshot` and `feed` show rows at the head, `start_cursor`, `start` and `share` tell a
+//! cursor, a port or a pass what the table knows, and `close_phase` ends the phase: then the
+//! entries of each port's number are its receipts, and what each pass and cursor has seen begins
+//! the list.
+//!
+//! `law` has what entries owe, `desk` what lies under the lock, `update` and `shows` its calls,
+//! `close` the end of a phase.
+#![tactic(auto)]
+
+mod answers;
+mod close;
+mod desk;
+mod law;
+pub mod laws;
+mod port;
+mod shows;
+mod table;
+mod update;
+mod view;
+
+pub use answers::{Done, UpdateFault};
+pub use close::{Closing, Phase};
+pub use law::{Opening, RecordLaw, TableCursor, TablePass};
+pub use port::Port;
+pub use table::Table;
+pub use view::View;

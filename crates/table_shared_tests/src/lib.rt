@@ -1,0 +1,14 @@
+//! Tests of tables that threads share: what updates answer, what is shown, what cursors take, and
+//! what a phase has made.
+#![tactic(auto)]
+
+mod bench;
+#[cfg(test)]
+mod phases;
+mod routes;
+mod threads;
+#[cfg(test)]
+mod updates;
+
+pub use bench::{Bench, Refused};
+pub use routes::{change_of, net};

@@ -1,0 +1,85 @@
+use crate::{Bench, net};
+use attrs::Select;
+use std::alloc::Global;
+use std::process::Abort;
+use std::sync::Wait;
+use std::test::Fail;
+use table_shared::Done;
+
+/// Two sources announce one net, and one of them twice the same.
+fn two_routes<R: Wait + Abort>(rt: &R, bench: &mut Bench, alloc: Global) -> Result<(), Fail> {
+    let ten = net(10)?;
+    assert_eq!(rt; bench.start_with_port(rt), Some((0, 0)));
+    assert_eq!(rt; bench.first(rt, alloc, &ten, 100), Ok(Done::At(1)));
+    assert_eq!(rt; bench.second(rt, alloc, &ten, 100), Ok(Done::At(2)));
+    assert_eq!(rt;
+        bench.second(rt, alloc, &ten, 100),
+        Ok(Done::Same { at: 2 })
+    );
+    assert_eq!(rt; bench.share(rt), 2);
+    assert_eq!(rt; bench.meet()?, 2);
+    Ok(())
+}
+
+/// What the table shows of them: a row of two routes.
+fn shown<R: Wait + Abort>(rt: &R, bench: &mut Bench) -> Result<(), Fail> {
+    let view = bench.snapshot(rt, &Select::All)?;
+    assert_eq!(rt; (view.at, view.total, view.rows.len()), (2, 2, 1));
+    let Some(chunk) = bench.feed(rt, None, 1)? else {
+        panic!(rt; "a closed cursor")
+    };
+    assert_eq!(rt; (chunk.at, chunk.rows.len(), chunk.more), (2, 1, false));
+    assert!(rt; chunk.upto.is_none());
+    Ok(())
+}
+
+#[test]
+fn a_phase_has_each_change_once(rt: HostRuntime) -> Result<(), Fail> {
+    let mut bench = Bench::open(&rt, rt.alloc(), 4, 0)?;
+    two_routes(&rt, &mut bench, rt.alloc())?;
+    shown(&rt, &mut bench)?;
+    assert_eq!(rt; bench.take(), Some(1));
+    let phase = bench.close(&rt);
+    assert_eq!(rt; (phase.from, phase.entries.len()), (0, 2));
+    assert_eq!(rt; phase.ports.as_slice(), [0, 1].as_slice());
+    Ok(())
+}
+
+/// Three nets in parts of two rows.
+fn parts<R: Wait + Abort>(rt: &R, bench: &mut Bench) -> Result<(), Fail> {
+    let third = net(3)?;
+    let Some(chunk) = bench.feed(rt, None, 2)? else {
+        panic!(rt; "a closed cursor")
+    };
+    assert_eq!(rt; (chunk.at, chunk.rows.len(), chunk.more), (3, 2, true));
+    assert!(rt; chunk.upto == Some(third));
+    let Some(rest) = bench.feed(rt, Some(&third), 2)? else {
+        panic!(rt; "a closed cursor")
+    };
+    assert_eq!(rt; (rest.at, rest.rows.len(), rest.more), (3, 1, false));
+    Ok(())
+}
+
+#[test]
+fn a_table_is_fed_in_parts(rt: HostRuntime) -> Result<(), Fail> {
+    let mut bench = Bench::open(&rt, rt.alloc(), 4, 0)?;
+    for place in 1..4 {
+        let net = net(place)?;
+        assert!(rt; bench.first(&rt, rt.alloc(), &net, 100).is_ok());
+    }
+    assert_eq!(rt; bench.start(&rt), Some(3));
+    parts(&rt, &mut bench)
+}
+
+/// Two threads enter 10,000 changes each over 64 cells, and a third takes all 20,000 in order.
+#[test]
+fn a_cursor_takes_what_two_threads_enter(rt: HostRuntime) -> Result<(), Fail> {
+    let mut bench = Bench::open(&rt, rt.alloc(), 64, 0)?;
+    assert_eq!(rt; bench.start(&rt), Some(0));
+    let ten = net(10)?;
+    assert_eq!(rt;
+        bench.race(&rt, rt.alloc(), ten, 10000)?,
+        (20000, 10000, 10000)
+    );
+    Ok(())
+}

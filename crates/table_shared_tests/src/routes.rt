@@ -1,0 +1,56 @@
+//! The changes that the tests enter.
+ghost use Rattle.std.specs.Prelude.{◌≡◌, IfOk, IfSome};
+ghost use Rattle.bits_ip.specs.Address.{family_of};
+ghost use Rattle.table_shared_tests.specs.Changes.{IsOfSource};
+
+use attrs::{Attrs, Change, Clist, Dest, Kind, Path, Route, Src};
+use bits_ip::{Addr, Family, NotPrefix, OutOfMemory, Prefix};
+use std::alloc::Global;
+
+/// The net 10.0.0.0/8 and those behind it of the same length.
+pub fn net(place: u8) -> Result<Prefix, NotPrefix>
+    ensures { IfOk result (λ net. family_of net.addr ≡ Family.V4) }
+{
+    Prefix::make(Addr::V4(u32::from(place) * 0x0100_0000), 8)
+}
+
+/// A black hole by a static protocol.
+fn route(alloc: Global, num: u32, pref: u32) -> Result<Route, OutOfMemory>
+    ensures { IfOk result (λ route. route.src.num ≡ num) }
+{
+    let attrs = Attrs {
+        pref,
+        kind: Kind::Static,
+        dest: Dest::Blackhole,
+        gw: None,
+        sender: None,
+        peer_id: 0,
+        ebgp: false,
+        path: Path::new(alloc),
+        origin: None,
+        next_hop: None,
+        med: None,
+        lp: None,
+        igp: None,
+        coms: Clist::new(alloc),
+    };
+    let src = Src {
+        num,
+        def_med: 0,
+        def_lp: 0,
+    };
+    Route::make(alloc, src, attrs)
+}
+
+/// The change that puts a source's route of this preference to a net.
+pub fn change_of(alloc: Global, net: &Prefix, num: u32, pref: u32) -> Result<Change, OutOfMemory>
+    requires { family_of net.now.addr ≡ Family.V4 }
+    ensures { IfOk result (IsOfSource num) }
+{
+    let new = Some(route(alloc, num, pref)?);
+    Ok(Change {
+        net: *net,
+        num,
+        new,
+    })
+}
