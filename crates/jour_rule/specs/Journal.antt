@@ -23,7 +23,7 @@ receipts n k [] = []
 receipts n k (e ∷ es) =
     cond (e.maker == k) ((suc n, e.words) ∷ receipts (suc n) k es) (receipts (suc n) k es)
 
--- What there is in truth
+-- What there is beyond what any one seat knows
 pub record Whole : Type 0 where
   -- all entries
   pub list : List Entry
@@ -125,7 +125,7 @@ abbrev pub Each : {O : Type 0} → Terms O → List ℕ → Whole → List (View
 Each {O} key words x views =
     (j : ℕ) (v : View O) → get_elem? views j ≡ some v → Fits key words x j v.seen v.role
 
--- the rule: there is one truth, to which the words and each seat's view are tied
+-- the rule: there is one such whole, to which the words and each seat's view are tied
 pub record IsJournal {S O : Type 0} (meets : O → List Entry → Type 0) (key : Terms O)
     (s : State S (View O)) : Type 0 where
   pub whole : Whole

@@ -2,8 +2,8 @@
 use crate::views::Entry;
 
 /// A test on an opening and a list of entries. It holds of the empty list, and of every front of a
-/// list of which it holds, so that what any seat has seen is lawful. The opening is data that the
-/// maker of a journal picks and that every view holds.
+/// list of which it holds, so that what any seat has seen is lawful. The opening is data that is
+/// picked when a journal is made and that every view holds.
 pub trait Law<O> {
     ghost use Rattle.std.specs.Prelude.{List, [], ◌++◌};
     ghost use Rattle.jour_rule.specs.declared.views.Entry.{Entry};

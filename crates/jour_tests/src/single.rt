@@ -59,7 +59,8 @@ impl Single {
         }
     }
 
-    /// The cursor skips what the maker has seen. Answers where it stands, and none if it is started.
+    /// The cursor skips what the maker has seen. Answers where it stands, and none if it is
+    /// started.
     pub fn skip(&mut self) -> Result<Option<u64>, OutOfMemory> {
         if self.started {
             return Ok(None);
