@@ -124,7 +124,6 @@ short : (addr : Addr) (len : ℕ) → len ≤ width_of addr → len < 256
 short (V4 n) len within = omega (arith, within)
 short (V6 n) len within = omega (arith, within)
 
-
 pub net_again : (net : Net) → IsNet net → net_at (net.len + at_bit 8 (family_number net.addr)) (number_of net.addr / 2 ^ 64) (number_of net.addr % 2 ^ 64) ≡ Some net
 unfolding net_at
 net_again net is =

@@ -36,7 +36,7 @@ route_len r =
 
 pub route_few : (r : Route) → IsRoute r → length (route_words r) ≤ 106
 route_few r is =
-    omega (arith, route_len r, addr_few r.attrs.gw, addr_few r.attrs.sender, addr_few r.attrs.next_hop, is.others.path.short, is.others.coms.list.short)
+    omega (arith, route_len r, addr_few r.attrs.gw, addr_few r.attrs.sender, addr_few r.attrs.next_hop, is.path.short, is.coms.list.short)
 
 pub optional_few : (r : Option Route) → IfSome r IsRoute → length (optional_route_words r) ≤ 106
 optional_few None is = omega arith

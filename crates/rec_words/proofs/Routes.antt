@@ -52,11 +52,21 @@ unfolding head_in
 head_in_again r is =
     let med = zero_small r.attrs.med is.numbers.med in
     let lp = zero_small r.attrs.lp is.numbers.lp in
-    let shape : shape_at (shape_word r.attrs) ≡ Some (shape_of r.attrs) = shape_again (shape_of r.attrs) (omega (arith, is.others.path.short)) (omega (arith, is.others.coms.list.short)) in
-    rw
-    (shape, low_back r.src.num r.src.def_med is.numbers.src.num, high_back r.src.num r.src.def_med is.numbers.src.num, low_back r.src.def_lp r.attrs.pref is.numbers.src.def_lp,
-    high_back r.src.def_lp r.attrs.pref is.numbers.src.def_lp, low_back r.attrs.peer_id (or_zero r.attrs.med) is.numbers.peer_id, high_back r.attrs.peer_id (or_zero r.attrs.med) is.numbers.peer_id,
-    low_back (or_zero r.attrs.lp) (or_zero r.attrs.igp) lp, high_back (or_zero r.attrs.lp) (or_zero r.attrs.igp) lp, optional_again r.attrs.med, optional_again r.attrs.lp, optional_again r.attrs.igp)
+    let shape : shape_at (shape_word r.attrs) ≡ Some (shape_of r.attrs) = shape_again (shape_of r.attrs) (omega (arith, is.path.short)) (omega (arith, is.coms.list.short)) in
+    rw (
+      shape,
+      low_back r.src.num r.src.def_med is.numbers.src.num,
+      high_back r.src.num r.src.def_med is.numbers.src.num,
+      low_back r.src.def_lp r.attrs.pref is.numbers.src.def_lp,
+      high_back r.src.def_lp r.attrs.pref is.numbers.src.def_lp,
+      low_back r.attrs.peer_id (or_zero r.attrs.med) is.numbers.peer_id,
+      high_back r.attrs.peer_id (or_zero r.attrs.med) is.numbers.peer_id,
+      low_back (or_zero r.attrs.lp) (or_zero r.attrs.igp) lp,
+      high_back (or_zero r.attrs.lp) (or_zero r.attrs.igp) lp,
+      optional_again r.attrs.med,
+      optional_again r.attrs.lp,
+      optional_again r.attrs.igp,
+    )
     refl
 
 head_again : (r : Route) (rest : List ℕ) → IsRoute r → head_at (head_words r ++ rest) ≡ Some (head_of r, rest)
@@ -113,20 +123,22 @@ head_in_takes a b c d e h fits read =
     let words : five a b c d e ≡ words_of made = λ i. five (sym one i) (sym two i) (sym three i) (sym four i) (sym last i) in
     subst
     (λ (x : Head). (five a b c d e ≡ words_of x) × IsHead x)
-    (some_is made h g.2)
-    (words, record {
-      num = low_small a;
-      def_med = high_small a (fits 0);
-      def_lp = low_small b;
-      pref_small = high_small b (fits 1);
-      peer_small = low_small d;
-      med_is = med.there_is;
-      lp_is = lp.there_is;
-      igp_is = igp.there_is;
-      med_small = med.small;
-      lp_small = lp.small;
-      igp_small = igp.small;
-    })
+    (some_is made h g.2) (
+      words,
+      record {
+        num = low_small a;
+        def_med = high_small a (fits 0);
+        def_lp = low_small b;
+        pref_small = high_small b (fits 1);
+        peer_small = low_small d;
+        med_is = med.there_is;
+        lp_is = lp.there_is;
+        igp_is = igp.there_is;
+        med_small = med.small;
+        lp_small = lp.small;
+        igp_small = igp.small;
+      },
+    )
 
 head_takes : (ws : List ℕ) (h : Head) (rest : List ℕ) → IsWords ws → head_at ws ≡ Some (h, rest) → Takes ws (words_of h) rest × IsHead h
 unfolding head_at
@@ -144,17 +156,17 @@ head_takes ws h rest fits read =
 abbrev ways_words : Ways → List ℕ
 ways_words ways = addr_words ways.gw ++ addr_words ways.sender ++ addr_words ways.next_hop
 
-record AreAddrs (ways : Ways) : Type 0 where
+record AreWays (ways : Ways) : Type 0 where
   pub first : IfSome ways.gw IsAddr
   pub second : IfSome ways.sender IsAddr
   pub third : IfSome ways.next_hop IsAddr
 
-ways_again : (ways : Ways) (rest : List ℕ) → AreAddrs ways → ways_at (addr_words ways.gw ++ (addr_words ways.sender ++ (addr_words ways.next_hop ++ rest))) ≡ Some (ways, rest)
+ways_again : (ways : Ways) (rest : List ℕ) → AreWays ways → ways_at (addr_words ways.gw ++ (addr_words ways.sender ++ (addr_words ways.next_hop ++ rest))) ≡ Some (ways, rest)
 unfolding ways_at
 ways_again ways rest are =
     rw (addr_again ways.gw (addr_words ways.sender ++ (addr_words ways.next_hop ++ rest)) are.first, addr_again ways.sender (addr_words ways.next_hop ++ rest) are.second, addr_again ways.next_hop rest are.third) refl
 
-ways_takes : (ws : List ℕ) (ways : Ways) (rest : List ℕ) → IsWords ws → ways_at ws ≡ Some (ways, rest) → Takes ws (ways_words ways) rest × AreAddrs ways
+ways_takes : (ws : List ℕ) (ways : Ways) (rest : List ℕ) → IsWords ws → ways_at ws ≡ Some (ways, rest) → Takes ws (ways_words ways) rest × AreWays ways
 unfolding ways_at
 ways_takes ws ways rest fits read =
     let g = bind_some (addr_at ws) (λ gw. addr_at gw.1 >>= λ sender. addr_at sender.1 >>= λ next_hop. Some (record { gw = gw.0; sender = sender.0; next_hop = next_hop.0 }, next_hop.1)) (ways, rest) read in
@@ -165,7 +177,7 @@ ways_takes ws ways rest fits read =
     let three = addr_takes s.0.1 n.0.0 n.0.1 two.0.rest_fits n.1 in
     let made : Ways = record { gw = g.0.0; sender = s.0.0; next_hop = n.0.0 } in
     subst
-    (λ (x : Ways × List ℕ). Takes ws (ways_words x.0) x.1 × AreAddrs x.0)
+    (λ (x : Ways × List ℕ). Takes ws (ways_words x.0) x.1 × AreWays x.0)
     (some_is (made, n.0.1) (ways, rest) n.2)
     (Takes-then ws (addr_words g.0.0 ++ addr_words s.0.0) s.0.1 (addr_words n.0.0) n.0.1 (Takes-then ws (addr_words g.0.0) g.0.1 (addr_words s.0.0) s.0.1 one.0 two.0) three.0, record { first = one.1; second = two.1; third = three.1 })
 
@@ -199,10 +211,10 @@ route_again r rest is =
     let ways : Ways = record { gw = r.attrs.gw; sender = r.attrs.sender; next_hop = r.attrs.next_hop } in
     let after_ways = number_words path ++ (number_words coms ++ rest) in
     let after_head = addr_words r.attrs.gw ++ (addr_words r.attrs.sender ++ (addr_words r.attrs.next_hop ++ after_ways)) in
-    let are : AreAddrs ways = record { first = is.others.gw; second = is.others.sender; third = is.others.next_hop } in
+    let are : AreWays ways = record { first = is.addrs.gw; second = is.addrs.sender; third = is.addrs.next_hop } in
     let whole = regroup (head_words r) (addr_words r.attrs.gw) (addr_words r.attrs.sender) (addr_words r.attrs.next_hop) (number_words path) (number_words coms) rest in
-    let made : Some (route_of (head_of r) ways path coms, rest) ≡ Some (r, rest) = ap (λ (cs : List (ℕ × ℕ)). Some (record r { attrs = record r.attrs { coms = cs } }, rest)) (pairs_back r.attrs.coms is.others.coms.pairs) in
-    ap route_at whole ∙ rw (head_again r after_head is, ways_again ways after_ways are, path_again path (number_words coms ++ rest) is.others.path, coms_again r.attrs.coms rest is.others.coms) made
+    let made : Some (route_of (head_of r) ways path coms, rest) ≡ Some (r, rest) = ap (λ (cs : List (ℕ × ℕ)). Some (record r { attrs = record r.attrs { coms = cs } }, rest)) (pairs_back r.attrs.coms is.coms.pairs) in
+    ap route_at whole ∙ rw (head_again r after_head is, ways_again ways after_ways are, path_again path (number_words coms ++ rest) is.path, coms_again r.attrs.coms rest is.coms) made
 
 shape_is : (h : Head) (ways : Ways) (path ns : List ℕ) → IsHead h → length path ≡ h.shape.path_len → length (map pair_of ns) ≡ h.shape.com_len → shape_word (route_of h ways path ns).attrs ≡ word_of h.shape
 shape_is h ways path ns is long many = rw (is.med_is, is.lp_is, is.igp_is, long, many) refl
@@ -233,7 +245,9 @@ route_takes ws r rest fits read =
     let spelled : hw ++ (g ++ s ++ n) ++ pw ++ cw ≡ route_words made = ap (λ (t : List ℕ). t ++ pw ++ cw) flat ∙ ap (λ (c : ℕ). five (joined h.0.0.src.num h.0.0.src.def_med) (joined h.0.0.src.def_lp h.0.0.pref) c (joined h.0.0.peer_id (or_zero h.0.0.med)) (joined (or_zero h.0.0.lp) (or_zero h.0.0.igp)) ++ g ++ s ++ n ++ pw ++ cw) (sym shape) in
     let is : IsRoute made = record {
       numbers = record { src = record { num = head.1.num; def_med = head.1.def_med; def_lp = head.1.def_lp }; pref = head.1.pref_small; peer_id = head.1.peer_small; med = head.1.med_small; lp = head.1.lp_small; igp = head.1.igp_small };
-      others = record { gw = ways.1.first; sender = ways.1.second; next_hop = ways.1.third; path = path.2; coms = coms.1.are };
+      addrs = record { gw = ways.1.first; sender = ways.1.second; next_hop = ways.1.third };
+      path = path.2;
+      coms = coms.1.are;
     } in
     subst
     (λ (x : Route × List ℕ). Takes ws (route_words x.0) x.1 × IsRoute x.0)

@@ -106,7 +106,6 @@ entry_takes ws e fits read =
 
 -- laws
 
-
 pub one_entry : (ws : List ℕ) (a b : JEntry) → Spells a ws → Spells b ws → a ≡ b
 one_entry ws a b first second =
     some_is a b (sym (entry_again a first.entry) ∙ ap entry_at (sym first.words ∙ second.words) ∙ entry_again b second.entry)
@@ -131,13 +130,9 @@ hole_is : IsRoute black_hole
 unfolding IsDistinct
 hole_is = record {
   numbers = record { src = record { num = omega arith; def_med = omega arith; def_lp = omega arith }; pref = omega arith; peer_id = omega arith; med = tt; lp = tt; igp = tt };
-  others = record {
-    gw = tt;
-    sender = tt;
-    next_hop = tt;
-    path = record { short = omega arith; numbers = tt };
-    coms = record { list = record { short = omega arith; distinct = tt }; pairs = tt };
-  };
+  addrs = record { gw = tt; sender = tt; next_hop = tt };
+  path = record { short = omega arith; numbers = tt };
+  coms = record { list = record { short = omega arith; distinct = tt }; pairs = tt };
 }
 
 pub worked_spelled : Spells worked worked_words

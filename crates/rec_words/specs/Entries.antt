@@ -47,17 +47,16 @@ pub record AreHeadNumbers (r : Route) : Type 0 where
   pub lp : IfSome r.attrs.lp IsNumber
   pub igp : IfSome r.attrs.igp IsNumber
 
--- the addresses and the lists
-pub record AreWaysAndLists (a : Attrs) : Type 0 where
+pub record AreAddrs (a : Attrs) : Type 0 where
   pub gw : IfSome a.gw IsAddr
   pub sender : IfSome a.sender IsAddr
   pub next_hop : IfSome a.next_hop IsAddr
-  pub path : IsPath a.path
-  pub coms : AreCommunities a.coms
 
 pub record IsRoute (r : Route) : Type 0 where
   pub numbers : AreHeadNumbers r
-  pub others : AreWaysAndLists r.attrs
+  pub addrs : AreAddrs r.attrs
+  pub path : IsPath r.attrs.path
+  pub coms : AreCommunities r.attrs.coms
 
 pub record IsEntry (e : JEntry) : Type 0 where
   pub net : IsNet e.net

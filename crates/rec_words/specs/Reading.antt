@@ -107,15 +107,15 @@ head_in ws = do
   lp ← optional_at shape.has_lp (low_half (slice_index ws 4))
   igp ← optional_at shape.has_igp (high_half (slice_index ws 4))
   Some
-    record {
-      src = record { num = low_half (slice_index ws 0); def_med = high_half (slice_index ws 0); def_lp = low_half (slice_index ws 1) };
-      pref = high_half (slice_index ws 1);
-      shape = shape;
-      peer_id = low_half (slice_index ws 3);
-      med = med;
-      lp = lp;
-      igp = igp;
-    }
+      record {
+        src = record { num = low_half (slice_index ws 0); def_med = high_half (slice_index ws 0); def_lp = low_half (slice_index ws 1) };
+        pref = high_half (slice_index ws 1);
+        shape = shape;
+        peer_id = low_half (slice_index ws 3);
+        med = med;
+        lp = lp;
+        igp = igp;
+      }
 
 unfoldable pub head_at : List ℕ → Option (Head × List ℕ)
 head_at ws =

@@ -1,5 +1,5 @@
 ghost use Rattle.std.specs.Prelude.{◌≡◌};
-ghost use Rattle.rec_words.specs.declared.fault.WordsFault.TheVariants.{BadWords, Memory};
+ghost use Rattle.rec_words.specs.declared.fault.WordsFault.TheVariants.{Memory};
 
 use bits_ip::OutOfMemory;
 use thiserror::Error;
@@ -26,11 +26,3 @@ impl From<OutOfMemory> for WordsFault {
 /// Words aren't what they are read as.
 #[derive(Clone, Copy, Debug, Drop)]
 pub(crate) struct Misspelt;
-
-impl From<Misspelt> for WordsFault {
-    ghost from_gives = { λ _ fault. fault ≡ BadWords };
-
-    fn from(_: Misspelt) -> Self {
-        WordsFault::BadWords
-    }
-}

@@ -7,7 +7,9 @@ use crate::build::build_entry;
 use crate::fault::{Misspelt, WordsFault};
 use crate::parts::{EntryParts, Front, Head, Numbers, RouteParts, Ways};
 use crate::shape::Shape;
-use crate::word::{first_word, high_half, low_half, number_at};
+use crate::word::{
+    first_word, form_family, form_len, has_best, has_new, high_half, low_half, number_at,
+};
 use attrs::{JEntry, Src};
 use bits_ip::{Addr, Prefix};
 use jour_rule::buf::Buf;
@@ -25,7 +27,7 @@ pub fn get_words(alloc: Global, words: &[u64]) -> Result<JEntry, WordsFault>
     }
 }
 
-/// Takes no memory.
+/// What the words come to, without memory.
 #[tactic(auto, unfolding(crate::specs::Reading::entry_at))]
 fn read_entry(words: &[u64]) -> Result<EntryParts<'_>, Misspelt>
     ensures { Gives entry_in result (entry_at words.now) }
@@ -50,8 +52,8 @@ fn read_front(count: usize, words: &[u64]) -> Result<Front, Misspelt>
     requires five { length words.now ≡ 5 }
     ensures { Gives (λ front. front) result (front_in count words.now) }
 {
-    let has_new = words[0] / 0x1_0000 % 2 == 1;
-    let has_best = words[0] / 0x2_0000 % 2 == 1;
+    let has_new = has_new(words[0]);
+    let has_best = has_best(words[0]);
     if first_word(count, has_new, has_best) != words[0] {
         return Err(Misspelt);
     }
@@ -70,8 +72,8 @@ fn read_front(count: usize, words: &[u64]) -> Result<Front, Misspelt>
 fn read_net(form: u64, high: u64, low: u64) -> Result<Prefix, Misspelt>
     ensures { Gives (λ net. net) result (net_at form high low) }
 {
-    let addr = read_family_addr(form / 256, high, low)?;
-    Prefix::make(addr, (form % 256) as u8).map_err(|_| Misspelt)
+    let addr = read_family_addr(form_family(form), high, low)?;
+    Prefix::make(addr, form_len(form)).map_err(|_| Misspelt)
 }
 
 #[tactic(auto, unfolding(crate::specs::Reading::family_addr_at))]

@@ -21,12 +21,19 @@ pub(crate) struct Shape {
 
 /// The unit of each value of the word but the first.
 const DEST: u64 = 0x10;
+
 const EBGP: u64 = 0x100;
+
 const ORIGIN: u64 = 0x1000;
+
 const HAS_MED: u64 = 0x1_0000;
+
 const HAS_LP: u64 = 0x2_0000;
+
 const HAS_IGP: u64 = 0x4_0000;
+
 const PATH_LEN: u64 = 0x100_0000;
+
 const COM_LEN: u64 = 0x1_0000_0000;
 
 impl Shape {

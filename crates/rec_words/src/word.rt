@@ -1,9 +1,9 @@
 //! The numbers that share a word.
-ghost use Rattle.std.specs.Prelude.{◌≡◌, ◌<◌, ◌≤◌, ◌/◌, ◌%◌, ◌^◌};
+ghost use Rattle.std.specs.Prelude.{◌≡◌, ◌<◌, ◌≤◌, ◌+◌, ◌/◌, ◌%◌, ◌^◌};
 ghost use Rattle.bits_ip.specs.Address.{number_of};
-ghost use Rattle.rec_words.specs.Spelling.{family_number, first_word, joined, pair_number};
+ghost use Rattle.rec_words.specs.Spelling.{at_bit, family_number, first_word, joined, pair_number};
 ghost use Rattle.rec_words.specs.Entries.{IsPair};
-ghost use Rattle.rec_words.specs.Reading.{Gives, high_half, low_half, number_at, pair_of};
+ghost use Rattle.rec_words.specs.Reading.{bit_at, Gives, high_half, low_half, number_at, pair_of};
 
 use crate::fault::Misspelt;
 use bits_ip::Addr;
@@ -83,4 +83,38 @@ pub(crate) fn low_word(addr: Addr) -> u64
         Addr::V4(number) => u64::from(number),
         Addr::V6(number) => (number % 0x1_0000_0000_0000_0000) as u64,
     }
+}
+
+/// Whether an entry that begins with this word has a new route.
+pub(crate) fn has_new(first: u64) -> bool
+    ensures { result ≡ bit_at 16 first }
+{
+    first / 0x1_0000 % 2 == 1
+}
+
+/// Whether an entry that begins with this word has a best route.
+pub(crate) fn has_best(first: u64) -> bool
+    ensures { result ≡ bit_at 17 first }
+{
+    first / 0x2_0000 % 2 == 1
+}
+
+/// A net's length and the version of IP in one word.
+pub(crate) fn form_word(len: u8, family: u64) -> u64
+    requires { family ≤ 6 }
+    ensures { result ≡ len + at_bit 8 family }
+{
+    u64::from(len) + family * 0x100
+}
+
+pub(crate) fn form_len(form: u64) -> u8
+    ensures { result ≡ form % 256 }
+{
+    (form % 0x100) as u8
+}
+
+pub(crate) fn form_family(form: u64) -> u64
+    ensures { result ≡ form / 256 }
+{
+    form / 0x100
 }

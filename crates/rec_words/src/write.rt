@@ -6,7 +6,7 @@ ghost use Rattle.rec_words.specs.Entries.{AreHeadNumbers, IsAddr, IsNet, IsNumbe
 
 use crate::counts::entry_len;
 use crate::shape::Shape;
-use crate::word::{family_number, first_word, high_word, joined, low_word, pair_number};
+use crate::word::{family_number, first_word, form_word, high_word, joined, low_word, pair_number};
 use attrs::{JEntry, Route};
 use bits_ip::{Addr, Prefix};
 use jour_rule::buf::Buf;
@@ -32,7 +32,7 @@ fn put_net(net: &Prefix, buf: &mut Buf)
     ensures is { IsNet net.now }
 {
     let addr = net.addr();
-    buf.push(u64::from(net.len()) + family_number(addr) * 0x100);
+    buf.push(form_word(net.len(), family_number(addr)));
     buf.push(high_word(addr));
     buf.push(low_word(addr));
 }
