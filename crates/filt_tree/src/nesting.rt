@@ -24,7 +24,9 @@ fn of_statement(s: &TStmt) -> u32 {
         TStmt::Unset(_) => 0,
         TStmt::If(e, first) => of_expression(e).max(of_statement(first)),
         TStmt::IfElse(e, first, second) => {
-            of_expression(e).max(of_statement(first)).max(of_statement(second))
+            of_expression(e)
+                .max(of_statement(first))
+                .max(of_statement(second))
         }
         TStmt::Case(e, arms, otherwise) => {
             of_expression(e).max(of_arms(arms)).max(depth(otherwise))

@@ -1,5 +1,5 @@
 -- An entry in words, worked by hand: 10.0.0.0/8 is a black hole by the static protocol of number 0, and this is the best route. Its shape is 16, a static route with the
--- destination 1, and its preference 200 stands in the high half.
+-- destination 1, and its preference 200 stands in the high half. Not modelled: nothing. From: worked by hand from this project's own format.
 use Rattle.std.specs.Prelude.{ℕ, false, List, [], ◌∷◌, Some, None}
 use Rattle.bits_ip.specs.declared.address.Addr.TheVariants.{V4}
 use Rattle.attrs.specs.declared.attributes.Kind.TheVariants.{Static}
