@@ -332,7 +332,7 @@ def count_unsaid(behind, told):
     """Counts what stands behind the communities, which a script doesn't say."""
     marks = ("AG", "NAG")
     large = "" if behind[0] in marks else behind.pop(0)  # by its option -l
-    if behind[0] not in marks:
+    if len(behind) < 2 or behind[0] not in marks:
         raise NotCarried("line of another form")
     mark, aggregator, *others = behind  # others by its option -u
     unsaid = {

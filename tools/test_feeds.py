@@ -1,8 +1,8 @@
 #!/usr/bin/env python3
 """Tests of feeds.py, over small made-up feeds; run by `python3 tools/test_feeds.py`.
 
-The lines that are wanted were worked out by hand from the formats: bgpdump 1.6.2 (-m, -m -l), BIRD
-2.17 and 3.4 (show route all), and birdcore's scripts.
+The lines that are wanted were worked out by hand from the formats: bgpdump 1.6.2 (-m, with -l and
+-u), BIRD 2.17 and 3.4 (show route all), and birdcore's scripts.
 """
 
 import io
@@ -120,6 +120,10 @@ class Bgpdump(unittest.TestCase):
             ("TABLE_DUMP2|1700000000\n", "line of another form"),
             (
                 table("192.0.2.1", "198.51.100.0/24", "65001", "IGP|192.0.2.1|0|0||odd|odd||"),
+                "line of another form",
+            ),
+            (
+                table("192.0.2.1", "198.51.100.0/24", "65001", "IGP|192.0.2.1|0|0||1:2:3|NAG"),
                 "line of another form",
             ),
         ]
