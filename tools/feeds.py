@@ -54,39 +54,48 @@ class Told:
             self.counts[key] = [1, self.line]
 
     def lines(self, group):
-        for (g, what), (n, first) in sorted(self.counts.items(), key=lambda item: -item[1][0]):
-            if g == group:
-                yield f"{what}: {n} (first in line {first})"
+        found = [(what, *seen) for (kind, what), seen in self.counts.items() if kind == group]
+        for what, times, first in sorted(found, key=lambda one: -one[1]):
+            yield f"{what}: {times} (first in line {first})"
 
 
 # ---- what stands in a route
 
 
 def address(text):
-    """The family of an address, 4 or 6, and its spelling in a script."""
+    """The family of an address, 4 or 6, and its octets."""
+    family, kind = (6, socket.AF_INET6) if ":" in text else (4, socket.AF_INET)
     try:
-        if ":" in text:
-            octets = socket.inet_pton(socket.AF_INET6, text)
-            if "." in text:  # an IPv4 address at its end, which birdcore doesn't read
-                text = ":".join(octets[i : i + 2].hex() for i in range(0, 16, 2))
-            return 6, text
-        socket.inet_pton(socket.AF_INET, text)
-        return 4, text
+        return family, socket.inet_pton(kind, text)
     except (OSError, ValueError):
         raise NotCarried("address that isn't one") from None
 
 
-def prefix(text):
-    """The family of a prefix and its spelling."""
+def spelled(octets):
+    """An address in its one spelling, so that a net has one too."""
+    if len(octets) == 4:
+        return socket.inet_ntop(socket.AF_INET, octets)
+    text = socket.inet_ntop(socket.AF_INET6, octets)
+    if "." in text:  # an IPv4 address at its end, which birdcore doesn't read
+        text = ":".join(octets[place : place + 2].hex() for place in range(0, 16, 2))
+    return text
+
+
+def prefix(text, told):
+    """The family of a prefix and its spelling.
+
+    Bits behind its length say nothing (RFC 4271, section 4.3). bgpdump prints those that came.
+    """
     host, _, length = text.partition("/")
-    family, spelled = address(host)
-    bits = 32 if family == 4 else 128
-    if not is_number(length) or int(length) > bits:
+    family, octets = address(host)
+    if not is_number(length) or int(length) > 8 * len(octets):
         raise NotCarried("prefix that isn't one")
-    octets = socket.inet_pton(socket.AF_INET if family == 4 else socket.AF_INET6, spelled)
-    if int.from_bytes(octets, "big") & ((1 << (bits - int(length))) - 1):
-        raise NotCarried("prefix with bits behind its length")
-    return family, f"{spelled}/{int(length)}"
+    bits = int.from_bytes(octets, "big")
+    behind = bits & ((1 << (8 * len(octets) - int(length))) - 1)
+    if behind:
+        told.count("read so", "prefix with bits behind its length, as zeros")
+        octets = (bits - behind).to_bytes(len(octets), "big")
+    return family, f"{spelled(octets)}/{int(length)}"
 
 
 def is_number(text):
@@ -129,12 +138,12 @@ def communities(words):
 
 def route_words(family, hop, numbers, origin, med=None, lp=None, igp=None, com=()):
     """What stands behind the net in an `add`."""
-    hop_family, hop = address(hop)
+    hop_family, octets = address(hop)
     if hop_family != family:
         raise NotCarried("next hop of the other family")
     if origin not in ORIGINS:
         raise NotCarried("route without an origin")
-    words = ["via", hop, "path", *numbers, "origin", ORIGINS[origin]]
+    words = ["via", spelled(octets), "path", *numbers, "origin", ORIGINS[origin]]
     for name, value in (("med", med), ("lp", lp), ("igp", igp)):
         if value is not None:
             words += [name, number(value, name)]
@@ -165,16 +174,16 @@ class Scripts:
     group_size: int = 0
 
     def head(self):
-        return "".join(f"@{n.name} open {n.router_id}\n" for n in self.up.values())
+        return "".join(f"@{up.name} open {up.router_id}\n" for up in self.up.values())
 
     def begin(self):
         self.end()
+        head = self.head()
+        if len(head) + max(self.group_size, self.limit // 4) > self.limit:
+            raise SystemExit("feeds: the limit is too small for the lines that stand together")
         name = f"{self.stem}.{len(self.files) + 1:03}.script"
         self.out = open(name, "w", encoding="ascii", newline="\n")
         self.files.append(name)
-        head = self.head()
-        if len(head) + self.limit // 4 > self.limit:
-            raise SystemExit("feeds: the limit is too small for the lines that open sessions")
         self.out.write(head)
         self.size = len(head)
 
@@ -231,6 +240,9 @@ class Feed:
         self.parts = parts
         self.told = told
         self.met = set()
+        self.down = set()  # those whose session ended
+        self.net = ""
+        self.of_net = set()  # those that had a route of this net in a table
 
     def neighbour(self, key, family):
         found = self.neighbours.get((key, family))
@@ -243,51 +255,95 @@ class Feed:
     def part_of(self, net):
         return self.parts[zlib.crc32(net.encode()) % len(self.parts)]
 
-    def add(self, key, net, words_of, replaces):
+    def add(self, key, net, words_of, is_update):
         """Writes an announcement, whose words `words_of` gives for its family.
 
-        What can't be said and may replace a route is a withdrawal.
+        In an update it may replace a route, so one that can't be said is a withdrawal.
         """
-        family, net = prefix(net)
+        family, net = prefix(net, self.told)
         neighbour = self.neighbour(key, family)
         if neighbour is None:
             return
         try:
             words = words_of(family)
         except NotCarried:
-            if replaces:
+            if is_update:
                 self.told.count("written", "del in place of an add")
                 self.part_of(net).put(f"@{neighbour.name} del {net}\n", net)
             raise
+        if not is_update:
+            self.count_further(neighbour, net)
+        if neighbour in self.down:
+            self.told.count("read so", "route behind the end of its session, as up again")
+            self.turn(neighbour, True)
         self.told.count("written", "add")
         self.part_of(net).put(f"@{neighbour.name} add {net} {words}\n", net)
 
+    def count_further(self, neighbour, net):
+        """Counts a neighbour's further routes of one net in a table: a script keeps the last."""
+        if net != self.net:
+            self.net, self.of_net = net, set()
+        if neighbour in self.of_net:
+            self.told.count("read so", "further route of a neighbour's net, in place of the first")
+        self.of_net.add(neighbour)
+
     def withdraw(self, key, net):
-        family, net = prefix(net)
+        family, net = prefix(net, self.told)
         neighbour = self.neighbour(key, family)
         if neighbour is not None:
             self.told.count("written", "del")
             self.part_of(net).put(f"@{neighbour.name} del {net}\n", net)
 
     def session(self, key, is_up):
+        """A session comes up, without what it had before, or ends."""
         if key not in self.keys:
             self.told.count("unnamed", f"{key} (its session)")
         for family in (4, 6):
             neighbour = self.neighbours.get((key, family))
-            if neighbour is not None:
-                self.told.count("written", "open" if is_up else "close")
-                for part in self.parts:
-                    part.session(neighbour, is_up)
+            if neighbour is None:
+                continue
+            if is_up and neighbour not in self.down:
+                self.told.count("read so", "session that comes up while it is up, as ended first")
+                self.turn(neighbour, False)
+            self.turn(neighbour, is_up)
+
+    def turn(self, neighbour, is_up):
+        self.told.count("written", "open" if is_up else "close")
+        for part in self.parts:
+            part.session(neighbour, is_up)
+        if is_up:
+            self.down.discard(neighbour)
+        else:
+            self.down.add(neighbour)
 
 
 # ---- bgpdump -m
 
 ESTABLISHED = "6"
+FIELDS = {"STATE": 7, "W": 6, "A": 14, "B": 14}  # at least, by the kind of line
 
 
 def or_none(text):
     """bgpdump writes 0 for a MED or a local preference that isn't there."""
     return None if text == "0" else text
+
+
+def count_unsaid(behind, told):
+    """Counts what stands behind the communities, which a script doesn't say."""
+    marks = ("AG", "NAG")
+    large = "" if behind[0] in marks else behind.pop(0)  # by its option -l
+    if len(behind) < 2 or behind[0] not in marks:
+        raise NotCarried("line of another form")
+    mark, aggregator, *others = behind  # others by its option -u
+    unsaid = {
+        "large communities": large,
+        "atomic aggregate": mark == "AG",
+        "aggregator": aggregator,
+        "unassigned attributes": any(others),
+    }
+    for what, is_there in unsaid.items():
+        if is_there:
+            told.count("without", what)
 
 
 def announced(fields, told):
@@ -305,15 +361,9 @@ def announced(fields, told):
             None,
             communities(com.split()),
         )
+        count_unsaid(fields[6:], told)
         if med == "0":
             told.count("read so", "MED 0, as none")
-        if len(fields) > 9 and fields[6]:  # by its option -l
-            told.count("without", "large communities")
-        aggregate, aggregator = fields[-3:-1]
-        if aggregate == "AG":
-            told.count("without", "atomic aggregate")
-        if aggregator:
-            told.count("without", "aggregator")
         return words
 
     return words_of
@@ -324,21 +374,25 @@ def read_bgpdump_line(line, feed, told):
     if fields[0] not in ("TABLE_DUMP", "TABLE_DUMP2", "BGP4MP", "BGP4MP_ET"):
         known = re.fullmatch("[A-Z0-9_]{1,20}", fields[0])
         raise NotCarried(f"line of kind {fields[0]}" if known else "line of another form")
-    if len(fields) < 6:
+    kind = fields[2] if len(fields) > 2 else ""
+    if kind not in FIELDS:
+        raise NotCarried("line of another form")
+    if len(fields) < FIELDS[kind]:
         raise NotCarried("line with too few fields")
-    kind, peer = fields[2], fields[3]
-    if kind == "STATE" and len(fields) >= 7:
-        old, new = fields[5], fields[6]
-        if (old == ESTABLISHED) != (new == ESTABLISHED):
-            feed.session(peer, new == ESTABLISHED)
-        else:
-            told.count("read so", "change of state between others than up, as nothing")
+    peer = fields[3]
+    if kind == "STATE":
+        change_state(peer, fields[5], fields[6], feed, told)
     elif kind == "W":
         feed.withdraw(peer, fields[5])
-    elif kind in ("A", "B") and len(fields) >= 14:
-        feed.add(peer, fields[5], announced(fields[6:], told), kind == "A")
     else:
-        raise NotCarried("line with too few fields")
+        feed.add(peer, fields[5], announced(fields[6:], told), kind == "A")
+
+
+def change_state(peer, old, new, feed, told):
+    if (old == ESTABLISHED) != (new == ESTABLISHED):
+        feed.session(peer, new == ESTABLISHED)
+    else:
+        told.count("read so", "change of state between others than up, as nothing")
 
 
 def read_bgpdump(lines, feed, told):
@@ -353,11 +407,12 @@ def read_bgpdump(lines, feed, told):
 # ---- BIRD's show route all
 
 HEADER = re.compile(
-    r"(?P<net>\S*)\s+[a-z]+ "  # the kind of destination: unicast, unreachable, recursive, ..
-    r"\[(?P<protocol>[^\s\]]+)[^\]]*\](?: \*)? "
-    r"\((?P<preference>\d+)[a-z]*(?:/(?P<igp>\d+|\?|-))?\)"
+    r"(?P<net>\S*)\s+(?:(?P<kind>[a-z]+) )?"  # unicast, unreachable, recursive, ..
+    r"\[(?P<protocol>[^\s\]]+)(?: [^\]]*)?\](?: [*!])? "  # ! is a best that the kernel lacks
+    r"\((?P<preference>\d+)[-a-z]*(?:/(?P<igp>\d+|\?|-))?\)"
 )
 PAIR = re.compile(r"\((\d+),\s*(\d+)\)")
+UNKNOWN_METRIC = str(1 << 31)  # what BIRD compares where it shows `?`
 # what 2.x and 3.x call an attribute
 NAMES = {
     "BGP.origin": "origin",
@@ -399,20 +454,35 @@ class Shown:
         elif name in NAMES:
             self.last = NAMES[name]
             self.values[self.last] = value.strip()
-        elif name.startswith("via "):
+        elif name.startswith(("via ", "dev ")):
             self.last = ""
         else:
             self.last = ""
             if name not in PASSED:
                 self.others.append(name)
 
+    def pairs(self):
+        text = self.values.get("com", "")
+        if PAIR.sub("", text).strip():
+            raise NotCarried("community that isn't two numbers of 16 bits")
+        return communities(f"{high}:{low}" for high, low in PAIR.findall(text))
+
+    def metric(self):
+        """The IGP metric: an attribute in 3.x, else what the header shows."""
+        if "igp" in self.values:
+            return self.values["igp"]
+        shown = self.header["igp"]
+        if shown == "?":
+            return UNKNOWN_METRIC
+        if shown == "-" or {"BGP.aigp", "bgp_aigp"} & set(self.others):
+            return None  # no way to the next hop, or the AIGP metric is shown
+        return shown
+
     def words(self, family, told):
         values = self.values
         hops = values.get("hop", "").split()
         if not hops:
             raise NotCarried("route without a next hop")
-        com = [f"{a}:{b}" for a, b in PAIR.findall(values.get("com", ""))]
-        igp = self.header["igp"]
         words = route_words(
             family,
             hops[0],
@@ -420,16 +490,21 @@ class Shown:
             values.get("origin", "").upper(),
             values.get("med"),
             values.get("lp"),
-            values.get("igp") or (igp if igp and is_number(igp) else None),
-            communities(com),
+            self.metric(),
+            self.pairs(),
         )
+        self.count_unsaid(hops, told)
+        return words
+
+    def count_unsaid(self, hops, told):
         for name in self.others:
             told.count("without", name)
         if len(hops) > 1:
             told.count("without", "second next hop")
+        if self.header["kind"] not in ("unicast", "recursive", None):
+            told.count("without", f"destination {self.header['kind']}")
         if self.header["preference"] != "100":
             told.count("without", "preference other than 100")
-        return words
 
 
 def put_shown(shown, feed, told):
@@ -462,8 +537,10 @@ def read_bird(lines, feed, told):
             net = header["net"] or net
             shown = Shown(told.line, net, header)
         elif line.startswith("Table "):
+            net = ""
             told.count("tables", line[6:].rstrip(":"))
         elif line.strip() and not line.startswith("BIRD "):
+            net = ""  # what comes next may be a further route of a net that wasn't read
             told.count("not carried", "line of another form")
     put_shown(shown, feed, told)
 
@@ -499,7 +576,7 @@ def scripts_of(options, neighbours):
     up = {neighbour.name: neighbour for neighbour in neighbours.values()}
     if options.parts == 1:
         return [Scripts(options.to, options.limit, up)]
-    stems = [f"{options.to}.{k}of{options.parts}" for k in range(1, options.parts + 1)]
+    stems = [f"{options.to}.{part}of{options.parts}" for part in range(1, options.parts + 1)]
     return [Scripts(stem, options.limit, dict(up)) for stem in stems]
 
 
@@ -519,7 +596,7 @@ def tell(told, parts, feed, err):
             print(f"feeds: {words}: {text}", file=err)
     for neighbour in feed.neighbours.values():
         if neighbour not in feed.met:
-            print(f"feeds: no line of {neighbour.name}", file=err)
+            print(f"feeds: no net of {neighbour.name}", file=err)
 
 
 def options_of(words):
@@ -553,8 +630,7 @@ def options_of(words):
     return options
 
 
-def main(words, stdin, err):
-    options = options_of(words)
+def convert(options, stdin, err):
     told = Told()
     neighbours = neighbours_of(options)
     parts = scripts_of(options, neighbours)
@@ -568,6 +644,14 @@ def main(words, stdin, err):
     for part in parts:
         part.close()
     tell(told, parts, feed, err)
+
+
+def main(words, stdin, err):
+    options = options_of(words)
+    try:
+        convert(options, stdin, err)
+    except OSError as error:
+        raise SystemExit(f"feeds: {error.filename or 'a file'}: {error.strerror}") from None
 
 
 if __name__ == "__main__":

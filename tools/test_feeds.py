@@ -1,8 +1,8 @@
 #!/usr/bin/env python3
 """Tests of feeds.py, over small made-up feeds; run by `python3 tools/test_feeds.py`.
 
-The lines that are wanted were worked out by hand from the formats: bgpdump 1.6.2 (-m, -m -l), BIRD
-2.17 and 3.4 (show route all), and birdcore's scripts.
+The lines that are wanted were worked out by hand from the formats: bgpdump 1.6.2 (-m, with -l and
+-u), BIRD 2.17 and 3.4 (show route all), and birdcore's scripts.
 """
 
 import io
@@ -96,7 +96,6 @@ class Bgpdump(unittest.TestCase):
             (table("192.0.2.1", "198.51.100.0/24", "65001 [65011]"), "confederation segment"),
             (table("192.0.2.1", "198.51.100.0/24", "65001 " * 121), "path over 120 numbers"),
             (table("192.0.2.1", "198.51.100.0/24", "65001 ..."), "path with a word"),
-            (table("192.0.2.1", "198.51.100.1/24", "65001"), "prefix with bits"),
             (table("192.0.2.1", "198.51.100.0/33", "65001"), "prefix that isn't one"),
             (table("192.0.2.1", "198.51.100/24", "65001"), "address that isn't one"),
             (
@@ -117,6 +116,16 @@ class Bgpdump(unittest.TestCase):
             ),
             ("BGP4MP|1|A|192.0.2.1|65001|198.51.100.0/24|65001\n", "line with too few fields"),
             ("nonsense\n", "line of another form"),
+            ("TABLE_DUMP2|17|1700000000|B|192.0.2.1|65001\n", "line of another form"),  # by -p
+            ("TABLE_DUMP2|1700000000\n", "line of another form"),
+            (
+                table("192.0.2.1", "198.51.100.0/24", "65001", "IGP|192.0.2.1|0|0||odd|odd||"),
+                "line of another form",
+            ),
+            (
+                table("192.0.2.1", "198.51.100.0/24", "65001", "IGP|192.0.2.1|0|0||1:2:3|NAG"),
+                "line of another form",
+            ),
         ]
         for feed, reason in cases:
             with self.subTest(reason=reason):
@@ -136,6 +145,87 @@ class Bgpdump(unittest.TestCase):
         self.assertEqual(lines, [*OPENS, add])
         for name in ("large communities", "atomic aggregate", "aggregator"):
             self.assertIn(f"feeds: carried without: {name}: 1 (first in line 1)\n", told)
+
+    def test_fields_behind_the_communities(self):
+        net = "198.51.100.0/24"
+        cases = [
+            ("IGP|192.0.2.1|0|5||AG||", ["atomic aggregate"]),
+            ("IGP|192.0.2.1|0|5|||NAG||", []),  # by -l
+            ("IGP|192.0.2.1|0|5||AG|65011 192.0.2.7||", ["atomic aggregate", "aggregator"]),  # -u
+            ("IGP|192.0.2.1|0|5||NAG||63:e0:616263|", ["unassigned attributes"]),
+            ("IGP|192.0.2.1|0|5||1:2:3|AG|||", ["large communities", "atomic aggregate"]),  # both
+        ]
+        for rest, names in cases:
+            with self.subTest(rest=rest):
+                lines, told = lines_of(["bgpdump", *PEERS], table("192.0.2.1", net, "65001", rest))
+                self.assertIn(f"@up1 add {net} via 192.0.2.1 path 65001 origin igp med 5", lines)
+                without = [line for line in told.splitlines() if "carried without" in line]
+                self.assertEqual([line.split(": ")[2] for line in without], names)
+
+    def test_bits_behind_a_length(self):
+        feed = (
+            table("192.0.2.1", "198.51.103.0/23", "65001", "IGP|192.0.2.1|0|5||NAG||")
+            + "BGP4MP|1|W|192.0.2.1|65001|198.51.103.0/23\n"
+            + table("2001:db8::1", "2001:db8:f::/45", "65001", "IGP|2001:db8::1|0|5||NAG||")
+        )
+        lines, told = lines_of(["bgpdump", *PEERS, *PEERS6], feed)
+        wanted = [
+            "@up1 add 198.51.102.0/23 via 192.0.2.1 path 65001 origin igp med 5",
+            "@up1 del 198.51.102.0/23",
+            "@up6 add 2001:db8:8::/45 via 2001:db8::1 path 65001 origin igp med 5",
+        ]
+        self.assertEqual(lines[3:], wanted)
+        self.assertIn("feeds: read: prefix with bits behind its length, as zeros: 3 (first", told)
+
+    def test_a_net_in_two_spellings(self):
+        rest = "IGP|2001:DB8:0::1|0|5||NAG||"
+        feed = table("2001:db8::1", "2001:DB8:0::/032", "65001", rest)
+        lines, _ = lines_of(["bgpdump", *PEERS6], feed)
+        self.assertEqual(
+            lines[1], "@up6 add 2001:db8::/32 via 2001:db8::1 path 65001 origin igp med 5"
+        )
+
+    def test_a_session_that_comes_up_while_it_is_up(self):
+        feed = table("192.0.2.1", "198.51.100.0/24", "65001") + (
+            "BGP4MP|1|STATE|192.0.2.1|65001|5|6\n"
+        )
+        lines, told = lines_of(["bgpdump", *PEERS], feed)
+        self.assertEqual(lines[3:], ["@up1 close", "@up1 open 192.0.2.1"])
+        self.assertIn("read: session that comes up while it is up, as ended first: 1 (", told)
+
+    def test_routes_behind_the_end_of_a_session(self):
+        feed = (
+            "BGP4MP|1|STATE|192.0.2.1|65001|6|1\n"
+            "BGP4MP|2|W|192.0.2.1|65001|203.0.113.0/24\n"
+            "BGP4MP|3|A|192.0.2.1|65001|198.51.100.0/24|65001|IGP|192.0.2.1|0|0||NAG||\n"
+            "BGP4MP|4|A|192.0.2.1|65001|203.0.113.0/24|65001|IGP|192.0.2.1|0|0||NAG||\n"
+        )
+        lines, told = lines_of(["bgpdump", *PEERS], feed)
+        wanted = [
+            *OPENS,
+            "@up1 close",
+            "@up1 del 203.0.113.0/24",
+            "@up1 open 192.0.2.1",
+            "@up1 add 198.51.100.0/24 via 192.0.2.1 path 65001 origin igp",
+            "@up1 add 203.0.113.0/24 via 192.0.2.1 path 65001 origin igp",
+        ]
+        self.assertEqual(lines, wanted)
+        self.assertIn("read: route behind the end of its session, as up again: 1 (first in", told)
+
+    def test_further_routes_of_a_net(self):
+        net = "198.51.100.0/24"
+        feed = (
+            table("192.0.2.1", net, "65001")
+            + table("192.0.2.2", net, "65002")
+            + table("192.0.2.1", net, "65003")
+            + table("192.0.2.1", "203.0.113.0/24", "65001")
+        )
+        lines, told = lines_of(["bgpdump", *PEERS], feed)
+        self.assertEqual(len(lines), 6)
+        further = "feeds: read: further route of a neighbour's net, in place of the first: "
+        self.assertIn(further + "1 (first in line 3)\n", told)
+        update = feed.replace("TABLE_DUMP2", "BGP4MP").replace("|B|", "|A|")
+        self.assertNotIn("further", lines_of(["bgpdump", *PEERS], update)[1])
 
     def test_the_most_that_is_carried(self):
         com = " ".join(f"65001:{n}" for n in range(64))
@@ -165,7 +255,7 @@ class Bgpdump(unittest.TestCase):
         self.assertIn(unnamed + "192.0.2.3 IPv4: 2 (first in line 1)\n", told)
         self.assertIn(unnamed + "192.0.2.1 IPv6: 1 (first in line 3)\n", told)
         self.assertIn(unnamed + "192.0.2.3 (its session): 1 (first in line 4)\n", told)
-        self.assertIn("feeds: no line of up1\n", told)
+        self.assertIn("feeds: no net of up1\n", told)
 
 
 BIRD_2 = """\
@@ -259,9 +349,78 @@ class Bird(unittest.TestCase):
         self.assertIn("carried without: preference other than 100: 1 (first in line 16)\n", told)
 
     def test_lines_of_another_form(self):
-        lines, told = lines_of(["bird", *self.peers], "Network not found\n")
+        lines, told = lines_of(["bird", *self.peers], "Network not found\n\tvia 192.0.2.1\n")
         self.assertEqual(lines, ["@up1 open 10.0.0.1", "@up2 open 10.0.0.2"])
-        self.assertIn("feeds: not carried: line of another form: 1 (first in line 1)\n", told)
+        self.assertIn("feeds: not carried: line of another form: 2 (first in line 1)\n", told)
+
+    def route(self, header, *attributes):
+        lines = [header, "\tType: BGP univ", "\tBGP.origin: IGP", "\tBGP.as_path: 65001"]
+        rest = [f"\t{line}" for line in ("BGP.next_hop: 192.0.2.1", *attributes)]
+        return "".join(f"{line}\n" for line in lines + rest)
+
+    def test_headers(self):
+        from_us = "[transit1 12:14:12.885 from 127.0.0.1]"
+        cases = [
+            (f"unicast {from_us} ! (100) [AS65001i]", "", None),  # the kernel lacks it
+            (f"unicast {from_us} (100-) [AS65001i]", "", None),  # by deterministic med
+            (f"unicast {from_us} * (100s/7) [i]", " igp 7", None),
+            (f"unicast {from_us} * (100/?) [AS65001i]", " igp 2147483648", None),
+            (f"blackhole {from_us} * (100) [AS65001i]", "", "destination blackhole"),
+            (f"unreachable {from_us} (100/-) [AS65001i]", "", "destination unreachable"),
+            (f" {from_us} (100) [AS65001i]", "", None),
+            ("unicast [transit1 2026-11-29] * (90) [i]", "", "preference other than 100"),
+        ]
+        for header, metric, without in cases:
+            with self.subTest(header=header):
+                feed = self.route(f"198.51.100.0/24      {header}")
+                lines, told = lines_of(["bird", *self.peers], feed)
+                add = f"@up1 add 198.51.100.0/24 via 192.0.2.1 path 65001 origin igp{metric}"
+                self.assertEqual(lines[2:], [add])
+                counted = f"without: {without}: 1" in told if without else "without" not in told
+                self.assertTrue(counted, told)
+
+    def test_metrics(self):
+        header = "198.51.100.0/24      unicast [transit1 12:14:12.885] * (100/25) [AS65001i]"
+        cases = [
+            ([], " igp 25"),
+            (["BGP.aigp: 20"], ""),  # 25 is the AIGP metric and the way to the next hop
+            (["igp_metric: 5", "bgp_aigp: 20"], " igp 5"),
+        ]
+        for attributes, metric in cases:
+            with self.subTest(attributes=attributes):
+                lines, _ = lines_of(["bird", *self.peers], self.route(header, *attributes))
+                add = f"@up1 add 198.51.100.0/24 via 192.0.2.1 path 65001 origin igp{metric}"
+                self.assertEqual(lines[2:], [add])
+
+    def test_a_way_by_a_device(self):
+        feed = self.route("198.51.100.0/24      unicast [transit1 12:14:12] * (100) [i]", "dev lo")
+        lines, told = lines_of(["bird", *self.peers], feed)
+        self.assertEqual(len(lines), 3)
+        self.assertNotIn("without", told)
+
+    def test_a_further_route_behind_a_line_of_another_form(self):
+        good = "unicast [transit1 12:14:12] * (100) [i]"
+        further = " " * 21 + "unicast [transit2 12:14:12] (100) [i]"
+        for line in ("flow4 { dst 10.0.0.0/8; } [transit1 12:14:12] * (100)", "Table master6:"):
+            with self.subTest(line=line):
+                feed = self.route(f"198.51.100.0/24      {good}") + line + "\n"
+                lines, told = lines_of(["bird", *self.peers], feed + self.route(further))
+                self.assertEqual([line for line in lines if line.startswith("@up2 add")], [])
+                self.assertIn("feeds: not carried: address that isn't one: 1 (", told)
+
+    def test_a_list_that_is_no_list(self):
+        header = "198.51.100.0/24      unicast [transit1 12:14:12] * (100) [i]"
+        for text in ("(65001,7) odd", "(65001,7) (65001,", "(65001,70000)"):
+            with self.subTest(text=text):
+                feed = self.route(header, f"BGP.community: {text}")
+                lines, told = lines_of(["bird", *self.peers], feed)
+                self.assertEqual(len(lines), 2)
+                self.assertIn("not carried: community that isn't two numbers of 16 bits", told)
+
+    def test_a_path_that_is_cut(self):
+        header = "198.51.100.0/24      unicast [transit1 12:14:12] * (100) [i]"
+        feed = self.route(header, "BGP.as_path: 65001 65002...")
+        self.assertEqual(len(lines_of(["bird", *self.peers], feed)[0]), 2)
 
 
 class Files(unittest.TestCase):
@@ -286,10 +445,12 @@ class Files(unittest.TestCase):
         self.assertEqual(adds, lines_of(["bgpdump", *PEERS], self.feed(20))[0][2:])
 
     def test_a_file_behind_a_close(self):
-        feed = "BGP4MP|1|STATE|192.0.2.2|65002|6|1\n" + self.feed(20)
+        lines = self.feed(40).splitlines(keepends=True)
+        feed = "BGP4MP|1|STATE|192.0.2.2|65002|6|1\n" + "".join(lines[::2])
         files, _ = run(["bgpdump", *PEERS, "--limit", "600"], feed)
         first, *others = files.values()
         self.assertEqual(first.splitlines()[:3], [*OPENS, "@up2 close"])
+        self.assertTrue(others)
         for text in others:
             self.assertNotIn("@up2 open", text)
 
@@ -302,6 +463,24 @@ class Files(unittest.TestCase):
         self.assertEqual(sum(len(found) for found in nets), 40)
         self.assertEqual(len(set().union(*nets)), 40)
         self.assertTrue(all(nets))
+
+    def test_a_limit_that_is_too_small(self):
+        feed = table("192.0.2.1", "198.51.100.0/30", "65001")
+        for limit in ("1", "40", "99"):
+            with self.subTest(limit=limit), self.assertRaises(SystemExit):
+                run(["bgpdump", *PEERS, "--limit", limit], feed)
+        files, _ = run(["bgpdump", *PEERS, "--limit", "100"], feed)
+        self.assertEqual([len(text) for text in files.values()], [100])
+
+    def test_sessions_in_parts(self):
+        feed = "BGP4MP|1|STATE|192.0.2.2|65002|6|1\n" + self.feed(40)
+        files, _ = run(["bgpdump", *PEERS, "--parts", "3"], feed)
+        for text in files.values():
+            lines = text.splitlines()
+            self.assertEqual(lines[:3], [*OPENS, "@up2 close"])
+            opened = lines.index("@up2 open 10.0.0.2", 3)
+            self.assertEqual([line for line in lines[3:opened] if line.startswith("@up2")], [])
+            self.assertTrue(any(line.startswith("@up2 add") for line in lines[opened:]))
 
     def test_no_line(self):
         self.assertEqual(run(["bgpdump", *PEERS], "")[0], {"x.001.script": "\n".join(OPENS) + "\n"})
@@ -333,6 +512,15 @@ class Words(unittest.TestCase):
         for words in cases:
             with self.subTest(words=words[:4]), self.assertRaises(SystemExit):
                 run(["bgpdump", *words], "")
+
+    def test_files_that_cannot_be_opened(self):
+        with tempfile.TemporaryDirectory() as folder:
+            lacking = os.path.join(folder, "lacking")
+            for words in ([lacking], ["--to", os.path.join(lacking, "x")]):
+                with self.subTest(words=words), self.assertRaises(SystemExit) as ended:
+                    feeds.main(["bgpdump", *words], io.StringIO(""), io.StringIO())
+                self.assertIn("lacking", str(ended.exception.code))
+                self.assertIn("No such file", str(ended.exception.code))
 
 
 if __name__ == "__main__":
