@@ -1,4 +1,5 @@
-use crate::{Single, words_of};
+use crate::single::Single;
+use crate::words_of;
 use jour_rule::buf::Buf;
 use std::test::Fail;
 

@@ -1,4 +1,5 @@
-use crate::{Refused, Single, words_of};
+use crate::single::Single;
+use crate::{Refused, words_of};
 use jour::room::Lag;
 use jour_rule::buf::Buf;
 use std::test::Fail;

@@ -11,9 +11,9 @@ mod lagging;
 mod locks;
 #[cfg(test)]
 mod passes;
+#[cfg(test)]
 mod single;
 #[cfg(test)]
 mod threads;
 
 pub use bench::{Bench, Refused, is_whole, words_of};
-pub use single::Single;

@@ -1,4 +1,5 @@
-use crate::{Single, words_of};
+use crate::single::Single;
+use crate::words_of;
 use std::test::Fail;
 
 /// What passes have seen: they learn a head alone, and the list from who has seen it.

@@ -13,7 +13,6 @@ use jour_rule::buf::Buf;
 use outside_io::OpenGate;
 use rib::Rib;
 use std::alloc::Global;
-use std::process::Abort;
 use std::sync::{Arc, Wait};
 use std::thread::{self, Threads};
 use table_shared::{Done, Phase, Port, Table, TableCursor, TablePass, UpdateFault, View};
@@ -105,13 +104,8 @@ pub(crate) fn enter<R: Wait>(
 }
 
 impl Bench {
-    /// A table without routes, whose cursor is closed.
-    pub fn open(
-        rt: &impl Abort,
-        alloc: Global,
-        cells: u32,
-        start: u64,
-    ) -> Result<Bench, OutOfMemory>
+    /// A table without routes, whose cursor is closed; none if a port or the cursor isn't there.
+    pub fn open(alloc: Global, cells: u32, start: u64) -> Result<Option<Bench>, OutOfMemory>
         requires { (0 < cells) × (cells ≤ 4096) × (start < 2 ^ 63) }
     {
         let sources = two_sources(alloc)?;
@@ -126,25 +120,25 @@ impl Bench {
             rows,
         )?;
         let Some(second) = last_port(&table, &mut ports) else {
-            panic!(rt; "a table without ports")
+            return Ok(None);
         };
         let Some(first) = last_port(&table, &mut ports) else {
-            panic!(rt; "a table with one port")
+            return Ok(None);
         };
         let Some(cursor) = last_cursor(&table, &mut cursors) else {
-            panic!(rt; "a table without cursors")
+            return Ok(None);
         };
         if first.number() != 0 || second.number() != 1 {
-            panic!(rt; "ports out of order")
+            return Ok(None);
         }
-        Ok(Bench {
+        Ok(Some(Bench {
             table,
             first,
             second,
             cursor,
             pass,
             started: false,
-        })
+        }))
     }
 
     /// The source 0 announces the net.

@@ -4,6 +4,8 @@
 
 mod bench;
 #[cfg(test)]
+mod opened;
+#[cfg(test)]
 mod phases;
 mod routes;
 mod threads;

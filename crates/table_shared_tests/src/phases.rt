@@ -1,3 +1,4 @@
+use crate::opened::opened;
 use crate::{Bench, net};
 use attrs::Select;
 use std::alloc::Global;
@@ -35,7 +36,7 @@ fn shown<R: Wait + Abort>(rt: &R, bench: &mut Bench) -> Result<(), Fail> {
 
 #[test]
 fn a_phase_has_each_change_once(rt: HostRuntime) -> Result<(), Fail> {
-    let mut bench = Bench::open(&rt, rt.alloc(), 4, 0)?;
+    let mut bench = opened(&rt, rt.alloc(), 4, 0)?;
     two_routes(&rt, &mut bench, rt.alloc())?;
     shown(&rt, &mut bench)?;
     assert_eq!(rt; bench.take(), Some(1));
@@ -62,7 +63,7 @@ fn parts<R: Wait + Abort>(rt: &R, bench: &mut Bench) -> Result<(), Fail> {
 
 #[test]
 fn a_table_is_fed_in_parts(rt: HostRuntime) -> Result<(), Fail> {
-    let mut bench = Bench::open(&rt, rt.alloc(), 4, 0)?;
+    let mut bench = opened(&rt, rt.alloc(), 4, 0)?;
     for place in 1..4 {
         let net = net(place)?;
         assert!(rt; bench.first(&rt, rt.alloc(), &net, 100).is_ok());
@@ -74,7 +75,7 @@ fn a_table_is_fed_in_parts(rt: HostRuntime) -> Result<(), Fail> {
 /// Two threads enter 10,000 changes each over 64 cells, and a third takes all 20,000 in order.
 #[test]
 fn a_cursor_takes_what_two_threads_enter(rt: HostRuntime) -> Result<(), Fail> {
-    let mut bench = Bench::open(&rt, rt.alloc(), 64, 0)?;
+    let mut bench = opened(&rt, rt.alloc(), 64, 0)?;
     assert_eq!(rt; bench.start(&rt), Some(0));
     let ten = net(10)?;
     assert_eq!(rt;

@@ -1,3 +1,4 @@
+use crate::opened::opened;
 use crate::{Bench, Refused, net};
 use std::alloc::Global;
 use std::process::Abort;
@@ -26,7 +27,7 @@ fn one_cell<R: Wait + Abort>(rt: &R, bench: &mut Bench, alloc: Global) -> Result
 
 #[test]
 fn a_cursor_that_lags_leaves_no_room(rt: HostRuntime) -> Result<(), Fail> {
-    let mut bench = Bench::open(&rt, rt.alloc(), 1, 0)?;
+    let mut bench = opened(&rt, rt.alloc(), 1, 0)?;
     one_cell(&rt, &mut bench, rt.alloc())
 }
 
@@ -54,7 +55,7 @@ fn closed<R: Wait + Abort>(rt: &R, bench: &mut Bench, alloc: Global) -> Result<(
 
 #[test]
 fn a_closed_cursor_skips_what_a_port_has_seen(rt: HostRuntime) -> Result<(), Fail> {
-    let mut bench = Bench::open(&rt, rt.alloc(), 1, 0)?;
+    let mut bench = opened(&rt, rt.alloc(), 1, 0)?;
     closed(&rt, &mut bench, rt.alloc())
 }
 
@@ -62,7 +63,7 @@ fn a_closed_cursor_skips_what_a_port_has_seen(rt: HostRuntime) -> Result<(), Fai
 #[test]
 fn the_last_position_ends_a_table(rt: HostRuntime) -> Result<(), Fail> {
     let last = (1 << 63) - 1;
-    let mut bench = Bench::open(&rt, rt.alloc(), 4, last)?;
+    let mut bench = opened(&rt, rt.alloc(), 4, last)?;
     let ten = net(10)?;
     let ended = UpdateFault::Ended { head: last };
     assert_eq!(rt;
