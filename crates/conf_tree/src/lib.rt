@@ -1,4 +1,4 @@
-//! The grammar of BIRD's configuration, its syntax trees and its parser: a text's tree or the first
+//! The grammar of BIRD's configuration and its parser: the tree of a text (conf_ast) or the first
 //! place that is refused (`read_config`, `parse_config`), and the line and column of a place
 //! (`place`). Four laws stand here, on which crates on the way to the program rest.
 //!

@@ -5,7 +5,7 @@
 //! The attributes of the route are lent until the filter changes them, and sets and constants stay
 //! where the scope has them, so that a filter which only looks copies nothing. A step of a run that
 //! goes no further answers `Stop` as its `Err`, so `?` is what `and_then` is in the definitions.
-//! Memory that is wanted and not given ends the run, as too many calls within one another do.
+//! Memory that is wanted and not given ends the run, as calls that nest too deep do.
 #![tactic(auto)]
 
 mod act;
