@@ -210,6 +210,8 @@ module _ {J : Type 0} where
   pub record Flushes (x : Sending) (e e' : State J) : Type 0 where
     pub left : e.left ≡ x.key ∷ e'.left
     pub value : x.value ≡ None
+    pub at : x.at ≡ e.position
+    pub again : x.again ≡ false
     pub flushing : e'.flushing ≡ true
     pub spec : e'.spec ≡ e.spec
     pub judge : e'.judge ≡ e.judge

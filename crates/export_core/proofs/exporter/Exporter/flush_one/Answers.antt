@@ -21,6 +21,8 @@ returns-clause-flushes g c =
       flushes_from x _ _ _ c.self.view_is (record {
         left = sym c.skip_places.ensures.held ∙ head_drop _ _ (sym c.in-Some.ensures.first) ∙ ap (λ l. c.in-Some.key ∷ l) (sym c.pop.ensures.held);
         value = refl;
+        at = refl;
+        again = refl;
         flushing = refl;
         spec = refl;
         judge = refl;
