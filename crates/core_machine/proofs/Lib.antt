@@ -10,3 +10,5 @@ pub mod Growing
 pub mod WholeState
 pub mod Replying
 pub mod PhaseEnds
+pub mod Bound
+pub mod Rounds
