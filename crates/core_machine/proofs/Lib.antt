@@ -12,3 +12,4 @@ pub mod Replying
 pub mod PhaseEnds
 pub mod Bound
 pub mod Rounds
+pub mod OneState
