@@ -40,17 +40,17 @@ take_position g c h ch lt = elim (entry ch.position h) as (λ o. entry ch.positi
   | Some x ↦ λ e. refl
 ] refl
 
-takes_position : (g : Rules) (c : ℕ) (h : List Change) (n : ℕ) (ch : Channel) → ch.position + n ≤ length h → (times n (take_one g c h) ch).position ≡ ch.position + n
+pub takes_position : (g : Rules) (c : ℕ) (h : List Change) (n : ℕ) (ch : Channel) → ch.position + n ≤ length h → (times n (take_one g c h) ch).position ≡ ch.position + n
 takes_position g c h zero ch le = omega arith
 takes_position g c h (suc n) ch le =
     let p = takes_position g c h n ch (omega arith) in
     take_position g c h (times n (take_one g c h) ch) (omega (arith, p)) ∙ omega (arith, p)
 
-push_position : (g : Rules) (c : ℕ) (h : List Change) (ms : List Marked) (ch : Channel) → (pushed g c h ms ch).position ≡ ch.position
+pub push_position : (g : Rules) (c : ℕ) (h : List Change) (ms : List Marked) (ch : Channel) → (pushed g c h ms ch).position ≡ ch.position
 push_position g c h [] ch = refl
 push_position g c h (m ∷ ms) ch = refl
 
-pushes_position : (g : Rules) (c : ℕ) (h : List Change) (n : ℕ) (ch : Channel) → (times n (push_one g c h) ch).position ≡ ch.position
+pub pushes_position : (g : Rules) (c : ℕ) (h : List Change) (n : ℕ) (ch : Channel) → (times n (push_one g c h) ch).position ≡ ch.position
 pushes_position g c h zero ch = refl
 pushes_position g c h (suc n) ch = let x = times n (push_one g c h) ch in push_position g c h x.marks x ∙ pushes_position g c h n ch
 
@@ -58,11 +58,11 @@ push_marks : (g : Rules) (c : ℕ) (h : List Change) (n : ℕ) (ms : List Marked
 push_marks g c h n [] ch e le = omega (arith, ap length e)
 push_marks g c h n (m ∷ ms) ch e le = omega arith
 
-pushes_marks : (g : Rules) (c : ℕ) (h : List Change) (n k : ℕ) (ch : Channel) → length ch.marks ≤ k + n → length (times n (push_one g c h) ch).marks ≤ k
+pub pushes_marks : (g : Rules) (c : ℕ) (h : List Change) (n k : ℕ) (ch : Channel) → length ch.marks ≤ k + n → length (times n (push_one g c h) ch).marks ≤ k
 pushes_marks g c h zero k ch le = omega arith
 pushes_marks g c h (suc n) k ch le = let x = times n (push_one g c h) ch in push_marks g c h k x.marks x refl (pushes_marks g c h n (suc k) ch (omega arith))
 
-no_marks : (ms : List Marked) → length ms ≤ 0 → ms ≡ []
+pub no_marks : (ms : List Marked) → length ms ≤ 0 → ms ≡ []
 no_marks [] le = refl
 no_marks (m ∷ ms) le = absurd (let bad : 1 ≤ 0 = omega arith in omega (arith, bad))
 

@@ -13,3 +13,6 @@ pub mod PhaseEnds
 pub mod Bound
 pub mod Rounds
 pub mod OneState
+pub mod MarkOrder
+pub mod Making
+pub mod Lagging
