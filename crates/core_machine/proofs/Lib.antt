@@ -16,3 +16,4 @@ pub mod OneState
 pub mod MarkOrder
 pub mod Making
 pub mod Lagging
+pub mod Matching
