@@ -17,3 +17,4 @@ pub mod MarkOrder
 pub mod Making
 pub mod Lagging
 pub mod Matching
+pub mod Fed
