@@ -22,3 +22,4 @@ pub mod Levels
 pub mod ToldRows
 pub mod Beginnings
 pub mod SomeRules
+pub mod WorkedRows
