@@ -23,3 +23,5 @@ pub mod ToldRows
 pub mod Beginnings
 pub mod SomeRules
 pub mod WorkedRows
+pub mod Courses
+pub mod Listing

@@ -6,7 +6,7 @@
 -- Not modelled: memory.
 -- From: own.
 -- Example: a new exporter of a channel that isn't up is the channel that the machine begins with.
-use Rattle.std.specs.Prelude.{◌≡◌, ◌&&◌, ◌||◌, ◌+◌, ◌≤◌, ℕ, max, not, Bool, true, false, List, [], ◌∷◌, Option, Some, None, is_some, option_map, reverse, length, if◌then◌else◌}
+use Rattle.std.specs.Prelude.{◌≡◌, ◌&&◌, ◌||◌, ◌+◌, ◌≤◌, ℕ, max, not, Bool, true, false, List, [], ◌∷◌, ◌++◌, map, Option, Some, None, is_some, option_map, reverse, length, if◌then◌else◌}
 use Rattle.std.specs.List.Sorted.{IsStrictlySortedBy}
 use Rattle.std.specs.Map.{keys_of}
 use Rattle.bits_ip.specs.Prefix.{Net}
@@ -67,6 +67,13 @@ pub record IsNextEntry (rules : Rules) (history : List Change) (ch : Channel) (r
     : Type 0 where
   pub change : entry ch.position history ≡ Some (change_of read)
   pub best : read.best ≡ best_of rules read.net (front (ch.position + 1) history)
+
+-- each entry of a history tells the route that is chosen of its net behind it
+abbrev pub TellChosen : Rules → List JEntry → Type 0
+TellChosen rules entries =
+    (earlier : List JEntry) (read : JEntry) (later : List JEntry)
+    → entries ≡ earlier ++ read ∷ later
+    → read.best ≡ best_of rules read.net (change_of read ∷ reverse (map change_of earlier))
 
 -- the chunk is of the table's head, and its rows tell the candidates of its range
 pub record IsHeadChunk

@@ -17,7 +17,7 @@ ghost use Rattle.export_core.specs.declared.marks.Mark.{Mark};
 ghost use Rattle.export_core.specs.declared.passing.ExportSpec.{ExportSpec};
 ghost use Rattle.export_core.specs.Calls.{AreStanding, Feeds, Flushes, FlushesBy, Pushes, PushesOut, PushesQuietly, Takes, begun, ended, refreshed};
 ghost use Rattle.export_core.specs.Candidates.{best_in};
-ghost use Rattle.export_core.specs.Histories.{AreRoutesOf};
+ghost use Rattle.export_core.specs.Histories.{AreRoutesOf, change_of, course_of as told_course};
 ghost use Rattle.export_core.specs.Logs.{Settled};
 ghost use Rattle.export_core.specs.States.{State as Exporter, value_for};
 ghost use Rattle.core_machine.specs.Channels.{Channel, IsFed, closed, fed, is_open, new_channel, opened, push_one, renewed, take_one, times};
@@ -26,7 +26,7 @@ ghost use Rattle.core_machine.specs.Histories.{AreReal, content_of, front, own};
 ghost use Rattle.core_machine.specs.Legal.{AreLegal, Printed, nothing};
 ghost use Rattle.core_machine.specs.Lines.{Act, Line};
 ghost use Rattle.core_machine.specs.Machine.{Begins, Plays, State, gained, if_open, push_at, start};
-ghost use Rattle.core_machine.specs.Match.{IsHeadChunk, IsNextEntry, IsSpecOf, Matches, MatchesFed, MatchesFlushed, change_of_sending};
+ghost use Rattle.core_machine.specs.Match.{IsHeadChunk, IsNextEntry, IsSpecOf, Matches, MatchesFed, MatchesFlushed, TellChosen, change_of_sending};
 ghost use Rattle.core_machine.specs.Phases.{Comes, IsPhase, PlaysAll};
 ghost use Rattle.core_machine.specs.Pipes.{candidate_in, course_of};
 ghost use Rattle.core_machine.specs.Room.{Makes, in_room};
@@ -175,6 +175,17 @@ pub fn takes_match<J: Judge>()
         → Matches J.verdict rules c history new (take_one rules c history ch) }
 {}
 
+/// The course that entries tell an exporter is the history's, as its channel reads it.
+pub fn courses_agree()
+    ensures { (rules : Rules) (c : ℕ) (spec : ExportSpec) (entries : List JEntry) → IsRules rules
+        → IsSpecOf rules c spec → TellChosen rules entries
+        → ((told_course spec entries).len
+        ≡ (course_of rules c (reverse (map change_of entries))).len)
+        × ((k : Key) (position : ℕ)
+        → (told_course spec entries).best k position
+        ≡ (course_of rules c (reverse (map change_of entries))).best k position) }
+{}
+
 /// A push is the machine's, and so is what comes of it in the table that a direction of a pipe
 /// writes.
 pub fn pushes_match<J: Judge>()
@@ -282,6 +293,17 @@ pub fn only_protocols_have_routes()
         → Begins rules starts (record s { replies = [] }) b → Plays rules lines b u
         → content_of (front position (u.history table)) net num ≡ Some route
         → route.src.num ≡ num }
+{}
+
+/// In the machine's tables the routes of a net can be listed at each position, so that what is said
+/// of each list of them is said of something.
+pub fn routes_are_listed()
+    ensures { (rules : Rules) (phases : List (List Act × List Line)) (starts : List Act)
+        (lines : List Line) (s b u : State) (table position : ℕ) (net : Net) → IsRules rules
+        → Comes rules phases s → Begins rules starts (record s { replies = [] }) b
+        → Plays rules lines b u
+        → (routes : List Route)
+        × AreRoutesOf (content_of (front position (u.history table))) net routes }
 {}
 
 /// Rows that show a content tell the candidate of each key, so that an entry or a chunk may be made
