@@ -1,5 +1,5 @@
 -- How many rounds a sync has: by the distance that a source's changes still have to go.
-use Rattle.std.proofs.Common.{◌≡◌, ◌≢◌, ◌⊎◌, ℕ, zero, suc, ◌+◌, ◌-◌, ◌<◌, ◌≤◌, inl, inr, Bool, true, false, List, [], ◌∷◌, ◌++◌, Option, Some, None, refl, sym, ◌∙◌, ap, subst, arith, length, is_some}
+use Rattle.std.proofs.Common.{◌≡◌, ◌≢◌, ℕ, zero, suc, ◌+◌, ◌-◌, ◌<◌, ◌≤◌, inl, inr, Bool, true, false, List, [], ◌∷◌, Option, Some, None, refl, sym, ◌∙◌, ap, subst, arith, length, is_some}
 use Rattle.std.specs.Prelude.{◌==◌, ◌&&◌, nat_lt, if◌then◌else◌}
 use Rattle.std.proofs.Math.Nat.{le_refl}
 use Rattle.std.proofs.lemmas.Bool.{cases_lt}
@@ -14,20 +14,20 @@ use Rattle.export_core.proofs.Pushing.{open_at}
 use Rattle.core_machine.specs.Channels.{Channel, answer, is_open, push_one, pushed, take_one, taken, times, value_at}
 use Rattle.core_machine.specs.Histories.{entry, own}
 use Rattle.core_machine.specs.Lines.{Act, Line}
-use Rattle.core_machine.specs.Machine.{Begins, Plays, State, added, arrived, gain, gained, if_open, push_at, set, takes, with_channel}
+use Rattle.core_machine.specs.Machine.{Begins, Plays, State, added, arrived, gain, gained, push_at, set, with_channel}
 use Rattle.core_machine.specs.Marks.{Marked, find, put}
 use Rattle.core_machine.specs.Phases.{Comes}
 use Rattle.core_machine.specs.Pipes.{heeds, is_pipe, key_of, passes}
-use Rattle.core_machine.specs.Room.{in_room, lags, roomed}
-use Rattle.core_machine.specs.Rounds.{AreSettled, HasRounds, IsSettled, pushed_out, round, taken_up, turned, turns_to}
+use Rattle.core_machine.specs.Room.{lags, roomed}
+use Rattle.core_machine.specs.Rounds.{AreSettled, HasRounds, pushed_out, round, taken_up, turned, turns_to}
 use Rattle.core_machine.specs.Rules.{IsRules, Rules}
 use Rattle.core_machine.proofs.Contents.{AllOf, none_some, some_same, if_true, if_false, entry_lt, entry_none, those_in, those_out, eqb_yes}
-use Rattle.core_machine.proofs.Growing.{IsMore, more_added, more_arrived, set_here, set_there, some_list}
+use Rattle.core_machine.proofs.Growing.{more_added, more_arrived, set_here, set_there, some_list}
 use Rattle.core_machine.proofs.MarkSteps.{find_here, find_put_other}
-use Rattle.core_machine.proofs.OneChannel.{IsKept, push_keeps, some_key, take_log, times_keeps}
+use Rattle.core_machine.proofs.OneChannel.{push_keeps, some_key, times_keeps}
 use Rattle.core_machine.proofs.PhaseEnds.{comes_keeps}
 use Rattle.core_machine.proofs.Tables.{passed_way}
-use Rattle.core_machine.proofs.WholeState.{IsRight, IsState, begins_keeps, gained_fits, given, is_target, owned, plays_keeps, push_open, pushes_step, rounds_keep, rounds_step, takes_open, takes_step, turn_step, turns_step}
+use Rattle.core_machine.proofs.WholeState.{IsRight, IsState, begins_keeps, gained_fits, given, is_target, owned, plays_keeps, pushes_step, rounds_keep, takes_open, takes_step, turns_step}
 
 no : {A : Type 0} → true ≡ false → A
 no e = absurd (let bad : true ≡ false = e in cc)

@@ -1,9 +1,8 @@
 -- The course that entries tell an exporter is the history's, as its channel reads it.
-use Rattle.std.proofs.Common.{◌≡◌, ◌≢◌, ℕ, inl, inr, Bool, true, false, List, [], ◌∷◌, ◌++◌, Option, Some, None, reverse, map, refl, sym, ◌∙◌, ap, subst, length}
+use Rattle.std.proofs.Common.{◌≡◌, ℕ, inl, inr, true, false, List, [], ◌∷◌, ◌++◌, Option, reverse, map, refl, sym, ◌∙◌, ap}
 use Rattle.std.specs.Prelude.{◌&&◌, drop, fold, take, if◌then◌else◌}
 use Rattle.std.proofs.lemmas.List.{append-nil, append_assoc, length-map, length-reverse, map-append, reverse-append, reverse-reverse, take-append-drop, take-map}
 use Rattle.attrs.specs.declared.journal.JEntry.{JEntry}
-use Rattle.attrs.specs.declared.route.Change.{Change}
 use Rattle.attrs.specs.declared.route.Route.{Route}
 use Rattle.export_core.specs.declared.log.Key.{Key}
 use Rattle.export_core.specs.declared.passing.ExportSpec.{ExportSpec}

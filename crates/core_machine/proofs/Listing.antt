@@ -1,6 +1,6 @@
 -- The routes of a net, by the numbers of sources.
-use Rattle.std.proofs.Common.{◌≡◌, ◌≢◌, ℕ, zero, suc, ◌<◌, ◌≤◌, inl, inr, Bool, true, false, List, [], ◌∷◌, Option, Some, None, refl, sym, ◌∙◌, ap, subst, arith}
-use Rattle.std.specs.Prelude.{◌==◌, if◌then◌else◌}
+use Rattle.std.proofs.Common.{◌≡◌, ◌≢◌, ℕ, zero, suc, ◌<◌, ◌≤◌, inl, inr, List, [], ◌∷◌, Option, Some, None, refl, sym, ◌∙◌, ap, subst, arith}
+use Rattle.std.specs.Prelude.{◌==◌}
 use Rattle.std.proofs.lemmas.Bool.{cases_lt}
 use Rattle.std.proofs.lemmas.Bool.Decides.{eqb_tells}
 use Rattle.bits_ip.specs.Prefix.{Net}
@@ -13,7 +13,7 @@ use Rattle.core_machine.specs.Machine.{Begins, Plays, State}
 use Rattle.core_machine.specs.Phases.{Comes}
 use Rattle.core_machine.specs.Rules.{IsRules, Rules}
 use Rattle.core_machine.proofs.Beginnings.{only_protocols, own_sources}
-use Rattle.core_machine.proofs.Contents.{if_false, if_true, none_some, some_same}
+use Rattle.core_machine.proofs.Contents.{if_false, if_true}
 
 module _ (at : ℕ → Option Route) (sourced : (num : ℕ) (r : Route) → at num ≡ Some r → r.src.num ≡ num) where
   -- those of the sources below a number

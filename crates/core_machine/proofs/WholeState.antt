@@ -8,7 +8,6 @@ use Rattle.attrs.specs.declared.route.Change.{Change}
 use Rattle.import_core.specs.declared.operation.Op.{Op}
 use Rattle.export_core.specs.declared.log.Key.{Key}
 use Rattle.export_core.specs.declared.log.LogItem.{LogItem}
-use Rattle.export_core.specs.declared.log.LogItem.TheVariants.{Sent}
 use Rattle.export_core.specs.declared.log.Sending.{Sending}
 use Rattle.export_core.specs.Candidates.{among}
 use Rattle.export_core.specs.Logs.{stretch, account, value_of, Follows}
@@ -17,14 +16,14 @@ use Rattle.core_machine.specs.Channels.{Channel, answer, closed, fed, is_open, l
 use Rattle.core_machine.specs.Enters.{change_to, enters, standing_keys, withdrawn}
 use Rattle.core_machine.specs.Histories.{AreFrom, AreReal, content_of, of_those, own}
 use Rattle.core_machine.specs.Lines.{Act, Line, Apply, Take, Push, Show, Turn, ops_of, turn_of}
-use Rattle.core_machine.specs.Machine.{AllObey, Applies, Begins, Feeds, Obeys, Plays, State, Steps, appended, arrived, flushed, gain, gained, if_open, left_by, push_at, set, takes, with_channel, with_turn}
+use Rattle.core_machine.specs.Machine.{AllObey, Applies, Begins, Obeys, Plays, State, Steps, appended, arrived, flushed, gain, gained, if_open, left_by, push_at, set, takes, with_channel, with_turn}
 use Rattle.core_machine.specs.Marks.{Marked}
 use Rattle.core_machine.specs.Pipes.{course_of, is_pipe, passes}
 use Rattle.core_machine.specs.Rounds.{pushed_out, round, taken_up, turned, turns_to}
 use Rattle.core_machine.specs.Rules.{AreApart, Fits, IsRules, Rules, Signal, Stay, Rise, Fall, Renew, changes, is_up, signalled}
 use Rattle.core_machine.proofs.Contents.{AllOf, content_those, if_true, if_false, none_some, real_more, some_same}
 use Rattle.core_machine.proofs.Entering.{all_withdrawn, once_standing, real_withdrawn, sent_passes, standing_passes, standing_told, stands_entered, withdrawn_is}
-use Rattle.core_machine.proofs.Growing.{IsMore, IsOn, Keeps, more_appended, more_arrived, more_flushed, more_none, more_on, on_same, on_then, set_here, set_there, some_list}
+use Rattle.core_machine.proofs.Growing.{IsMore, IsOn, Keeps, more_appended, more_arrived, more_flushed, more_on, on_same, on_then, set_here, set_there, some_list}
 use Rattle.core_machine.proofs.OneChannel.{IsDone, IsKept, fall_keeps, open_pushed, push_keeps, renew_keeps, rise_keeps, take_keeps, take_log, times_keeps}
 use Rattle.core_machine.proofs.Tables.{IsExact, exact_by, exact_logs, exact_own}
 
