@@ -1,11 +1,11 @@
 -- An exporter of export_core beside the machine's channel: at rest (`Matches`), in the midst of a
 -- feed (`MatchesFed`), which an exporter takes in parts, and in the midst of the withdrawals of a
--- direction of a pipe that goes down (`MatchesFlushed`). The exporter keeps its marks with
--- their candidates, its log in the order written, ranges of feeds that tell up to where
--- each net has been read, and the sources that it passes as a list; the channel keeps none of these.
+-- direction of a pipe that goes down (`MatchesFlushed`). The exporter keeps its marks with their
+-- candidates, its log in the order written, ranges of feeds that tell up to where each net has been
+-- read, and the sources that it passes as a list; the channel keeps none of these.
 -- Not modelled: memory.
 -- From: own.
--- Example: a new exporter of a channel that isn't up is the channel that the machine begins with.
+-- Example: a new exporter is a channel that never was up.
 use Rattle.std.specs.Prelude.{◌≡◌, ◌&&◌, ◌||◌, ◌+◌, ◌≤◌, ℕ, max, not, Bool, true, false, List, [], ◌∷◌, ◌++◌, map, Option, Some, None, is_some, option_map, reverse, length, if◌then◌else◌}
 use Rattle.std.specs.List.Sorted.{IsStrictlySortedBy}
 use Rattle.std.specs.Map.{keys_of}

@@ -151,8 +151,8 @@ pub fn new_exporters_match<J: Judge>()
         → e.flushing ≡ false → Matches J.verdict rules c [] e new_channel }
 {}
 
-/// Where a direction of a pipe has come up at the beginning and was fed of an empty table, it is the
-/// channel that the machine begins with.
+/// Where a direction of a pipe has come up at the beginning and was fed of an empty table, it is
+/// the channel that the machine begins with.
 pub fn pipes_open_at_the_beginning()
     ensures { (rules : Rules) (c : ℕ) (ch : Channel) → IsRules rules
         → rules.first (rules.owner c) ≡ true → IsFed rules c [] false (opened 0 new_channel) ch
@@ -236,9 +236,9 @@ pub fn feeds_match<J: Judge>()
         × Matches J.verdict rules c history e (fed keys due (length history) ch) }
 {}
 
-/// The withdrawals of a direction of a pipe that goes down are the machine's: at the beginning those
-/// of all keys that stand, each flush makes the first of those that are left, and when it answers
-/// that there is nothing none is left. Then the stretch ends as the machine's.
+/// The withdrawals of a direction of a pipe that goes down are the machine's: those of all keys
+/// that stand are left at the beginning, each flush makes the first of those that are left, and
+/// where it answers that there is nothing none is left. Then the stretch ends as the machine's.
 pub fn flushes_match<J: Judge>()
     ensures begin { (rules : Rules) (c : ℕ) (history : List Change) (e : Exporter J)
         (ch : Channel) → AreStanding e.log e.left → Matches J.verdict rules c history e ch
