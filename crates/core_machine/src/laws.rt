@@ -1,4 +1,4 @@
-ghost use Rattle.std.specs.Prelude.{◌≡◌, ◌≤◌, ◌+◌, ◌-◌, ◌++◌, ℕ, Bool, true, false, List, [], ◌∷◌, length, map, Option, Some, None, reverse, slice_get, take};
+ghost use Rattle.std.specs.Prelude.{◌≡◌, ◌<◌, ◌≤◌, ◌+◌, ◌-◌, ◌++◌, ℕ, Bool, true, false, List, [], ◌∷◌, length, map, Option, Some, None, reverse, slice_get, take};
 ghost use Rattle.bits_ip.specs.Prefix.{Net};
 ghost use Rattle.attrs.specs.declared.journal.Chunk.{Chunk};
 ghost use Rattle.attrs.specs.declared.journal.JEntry.{JEntry};
@@ -69,6 +69,16 @@ pub fn rounds_are_few()
         (lines : List Line) (s b u : State) (rounds : ℕ) → IsRules rules → Comes rules phases s
         → Begins rules starts (record s { replies = [] }) b → Plays rules lines b u
         → HasRounds rules u rounds → rounds ≤ rules.tables }
+{}
+
+/// Nor has it more rounds than a number that each way has fewer directions than: without pipes it
+/// has one at most.
+pub fn rounds_go_by_ways()
+    ensures { (rules : Rules) (most : ℕ) (phases : List (List Act × List Line))
+        (starts : List Act) (lines : List Line) (s b u : State) (rounds : ℕ) → IsRules rules
+        → ((table i : ℕ) (ds : List ℕ) → rules.hops table i ≡ Some ds → length ds < most)
+        → Comes rules phases s → Begins rules starts (record s { replies = [] }) b
+        → Plays rules lines b u → HasRounds rules u rounds → rounds ≤ most }
 {}
 
 /// Each list of scripts comes to phases, so that the first law speaks of something.
