@@ -1,4 +1,6 @@
+mod Covering
 pub mod Laws
+mod Longest
 pub mod NetRows
 pub mod NetSteps
 pub mod OneNet
