@@ -1,4 +1,4 @@
-mod Covering
+pub mod Covering
 pub mod Laws
 mod Longest
 pub mod NetRows
