@@ -11,7 +11,7 @@ use Rattle.attrs.specs.Select.{covers, has_longer_cover, selected}
 use Rattle.attrs.specs.declared.route.Select.{Select}
 use Rattle.attrs.specs.declared.route.Select.TheVariants.{All, Exact, For, Within}
 use Rattle.attrs.specs.Selection.{before}
-use Rattle.attrs.specs.Table.{AreRows, HasNone, IsBeforeAll, IsOfSources, IsRow, IsSorted, Shows, count_routes}
+use Rattle.attrs.specs.Table.{AreRows, HasNone, IsBeforeAll, IsOfSources, IsRow, IsSorted, Shows, count_routes, route_in}
 use Rattle.attrs.specs.declared.attributes.Attrs.{Attrs}
 use Rattle.attrs.specs.declared.judge.Verdict.{Verdict}
 use Rattle.attrs.specs.declared.judge.Verdict.TheVariants.{Accept, Reject}
@@ -441,3 +441,18 @@ selected-count (Within asked) rows = passed-count (λ (r : Row). covers asked r.
 
 pub view-count : (pick : Select) (rows : List Row) (total : ℕ) (content : Content) → IsView pick rows total content → count_routes rows ≤ total
 view-count pick rows total content view = omega (arith, ap count_routes view.rows_are, selected-count pick view.all, view.total_is)
+
+-- ---- a table
+
+pub view-of : (pick : Select) (all rows : List Row) (total : ℕ) (content : Content) → Shows all content → rows ≡ selected pick all → total ≡ count_routes all → IsView pick rows total content
+view-of pick all rows total content shown is count = record { all = all; shown = shown; rows_are = is; total_is = count }
+
+pub view-some : (pick : Select) (all rows : List Row) (total : ℕ) → AreRows all → rows ≡ selected pick all → total ≡ count_routes all → (content : Content) × IsView pick rows total content
+view-some pick all rows total are is count = (route_in all, view-of pick all rows total (route_in all) (record { rows_are = are; routes_are = λ net num. refl }) is count)
+
+pub table-ok : {Y : Type 0} (r : Result (Vec ℕ Global) Y) (names : List (List ℕ)) (table : List ℕ) (query : Query) (choice : Option Choice) (sends : Option Sender) (all rows : List Row) (total : ℕ)
+    → rows ≡ selected query.pick all → total ≡ count_routes all
+    → IfOk r (λ text. (content : Content) → IsView query.pick rows total content → IsReply names table query choice sends content text.items)
+    → IfOk r (λ text. (content : Content) → Shows all content → IsReply names table query choice sends content text.items)
+table-ok (Ok text) names table query choice sends all rows total is count told = λ content shown. told content (view-of query.pick all rows total content shown is count)
+table-ok (Err e) names table query choice sends all rows total is count told = tt

@@ -3,7 +3,7 @@
 //! A `Query` says what is asked: of which nets, of one protocol, as one protocol exports them, the
 //! best of each net, those that a filter accepts; and whether attributes are told too, or only how
 //! many there are. `answer_query` answers it over the rows that it asks for, with the filter and
-//! the channel that it names. `answer` answers the query without options, over all rows. Rows may
+//! the channel that it names, `answer_table` over a table. `answer` answers the query without options, over all rows. Rows may
 //! be lent by a table (`LentRow`), so no route is copied.
 //!
 //! Contracts say which routes of the table's content are shown, in which order, and how
@@ -22,4 +22,4 @@ mod whole;
 
 pub use query::Query;
 pub use reply::{answer, begin, write_routes};
-pub use whole::answer_query;
+pub use whole::{answer_query, answer_table};

@@ -1,7 +1,7 @@
 //! The reply to a query.
 ghost use Rattle.std.specs.Prelude.{◌≡◌, ◌≤◌, ◌++◌, ◌∷◌, List, ℕ, map, codes, decimal, is_some, length, option_copied, option_map, IfOk, OnOk};
 ghost use Rattle.attrs.specs.History.{Content};
-ghost use Rattle.attrs.specs.Table.{count_routes};
+ghost use Rattle.attrs.specs.Table.{Shows, count_routes};
 ghost use Rattle.show_route.specs.Senders.{sender_of};
 ghost use Rattle.show_route.specs.Shown.{IsReply, count_text};
 ghost use Rattle.show_route.specs.Steps.{rows_reply, reply_begin};
@@ -13,7 +13,7 @@ use crate::show::{Tally, show_rows};
 use attrs::Judge;
 use bits_ip::{OutOfMemory, write_number};
 use export_core::Through;
-use rib::LentRow;
+use rib::{LentRow, Rib};
 use std::alloc::Global;
 
 /// The reply to a query: over the rows that it asks for, of a table that has so many routes in all
@@ -43,6 +43,38 @@ pub fn answer_query<J: Judge, E: Judge>(
         (option_copied export.entry)) content text.items) }
 {
     reply_rows(alloc, query, rows, total, table, names, choice, export)
+}
+
+/// The reply to a query over a table, whose rows aren't copied for it.
+pub fn answer_table<J: Judge, E: Judge>(
+    alloc: Global,
+    query: &Query,
+    rib: &Rib,
+    table: &[u8],
+    names: &[&[u8]],
+    choice: Option<&J>,
+    export: Option<&Through<E>>,
+) -> Result<Vec<u8>, OutOfMemory>
+    requires choice { is_some query.now.choice ≡ is_some choice }
+    requires export { is_some query.now.export ≡ is_some export }
+    ensures { IfOk result (λ text. (content : Content) → Shows rib.now.rows content
+        → IsReply (map (λ name. name.now) names.now) table.now query.now
+        (option_map J.verdict (option_copied choice.entry))
+        (option_map (λ through. sender_of through.spec (E.verdict through.judge))
+        (option_copied export.entry)) content text.items) }
+{
+    let rows = rib.lend(&query.pick)?;
+    let total = rib.total();
+    answer_query(
+        alloc,
+        query,
+        rows.as_slice(),
+        total,
+        table,
+        names,
+        choice,
+        export,
+    )
 }
 
 /// The same, as the rows are gone through.
