@@ -1,4 +1,6 @@
+pub mod Covering
 pub mod Laws
+mod Longest
 pub mod NetRows
 pub mod NetSteps
 pub mod OneNet

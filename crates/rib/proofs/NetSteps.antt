@@ -12,7 +12,6 @@ use Rattle.std.specs.declared.alloc.Global.{Global}
 use Rattle.std.specs.declared.vec.Vec.{Vec}
 use Rattle.std.proofs.lemmas.Bool.{cond-true, cond-false, cases_Bool, false≢true}
 use Rattle.std.proofs.lemmas.Map.Entries.{sum_by-insert_entry, sum_by-remove_entry}
-use Rattle.std.proofs.lemmas.Grind.{fold-append}
 use Rattle.std.proofs.lemmas.Bool.Decides.{nat_tests}
 use Rattle.std.proofs.lemmas.List.{length-append, take_at}
 use Rattle.std.proofs.lemmas.List.Sums.{length-filter}
@@ -21,16 +20,16 @@ use Rattle.bits_ip.specs.Address.{family_of}
 use Rattle.bits_ip.specs.declared.address.Addr.{Addr}
 use Rattle.bits_ip.specs.declared.address.Addr.TheVariants.{V4, V6}
 use Rattle.bits_ip.specs.declared.address.Family.{Family}
-use Rattle.bits_ip.specs.Prefix.{Net, net_cmp, precedes, same_net}
+use Rattle.bits_ip.specs.Prefix.{IsPrefix, Net, net_cmp, precedes, same_net}
 use Rattle.attrs.specs.declared.route.Change.{Change}
 use Rattle.attrs.specs.declared.route.Route.{Route}
 use Rattle.attrs.specs.declared.route.Row.{Row}
-use Rattle.attrs.specs.Select.{covers, rows_from}
+use Rattle.attrs.specs.Select.{rows_from}
 use Rattle.attrs.specs.Table.{route_of}
 use Rattle.attrs.proofs.Nets.{same_net_itself}
 use Rattle.attrs.proofs.Shown.{same_rows}
 use Rattle.rib.specs.Entries.{AreKeys, AreNets, Entries, IsEmptyAt, count_of, entry_at, items_of, row_of, routes_at, rows_of}
-use Rattle.rib.specs.Picks.{first_bound, longer_of, longest_from, picked_row}
+use Rattle.rib.specs.Picks.{first_bound, picked_row}
 use Rattle.rib.specs.Steps.{AreRoutes, Changes, Replaces}
 use Rattle.rib.proofs.NetRows.{at_itself, at_same, net_of, net_total, rows-are, rows-routes_at}
 
@@ -170,11 +169,6 @@ no-more (x ∷ xs) = ap (λ (l : List Row). x ∷ l) (no-more xs)
 pub rows-more : (es : Entries) (e : Net × Routes) → rows_of (es ++ e ∷ []) ≡ rows_of es ++ row_of e.0 e.1.items
 rows-more es e = rows-append es (e ∷ []) ∙ ap (λ (l : List Row). rows_of es ++ l) (no-more (row_of e.0 e.1.items))
 
-pub longest-more : (asked : Net) (start : ℕ) (es : Entries) (e : Net × Routes)
-    → longest_from asked (longest_from asked start (rows_of es)) (row_of e.0 e.1.items) ≡ longest_from asked start (rows_of (es ++ e ∷ []))
-longest-more asked start es e =
-    sym (ap (longest_from asked start) (rows-more es e) ∙ fold-append (λ (longest : ℕ) (row : Row). longer_of (covers row.net asked) row.net.len longest) start (rows_of es) (row_of e.0 e.1.items))
-
 pub picked-entry : (test : Net → Bool) (es : Entries) (e : Net × Routes)
     → filter (λ (row : Row). test row.net) (rows_of (es ++ e ∷ [])) ≡ filter (λ (row : Row). test row.net) (rows_of es) ++ picked_row (test e.0) e.0 e.1.items
 picked-entry test es e =
@@ -187,16 +181,6 @@ picked-entry test es e =
     on [] false is = refl
     on (r ∷ items) true is = cond-true _ _ _ is
     on (r ∷ items) false is = cond-false _ _ _ is
-
-pub longest-next : (asked : Net) (es : Entries) (net : Net) (routes : Routes) (items : List Route) (so longest : ℕ) (all : Entries)
-    → longest ≡ longest_from asked so (row_of net items) → items ≡ routes.items → so ≡ longest_from asked 0 (rows_of es) → all ≡ es ++ (net, routes) ∷ []
-    → longest ≡ longest_from asked 0 (rows_of all)
-longest-next asked es net routes items so longest all is same before whole =
-    is
-    ∙ ap (λ (l : List Route). longest_from asked so (row_of net l)) same
-    ∙ ap (λ (n : ℕ). longest_from asked n (row_of net routes.items)) before
-    ∙ longest-more asked 0 es (net, routes)
-    ∙ ap (λ (l : Entries). longest_from asked 0 (rows_of l)) (sym whole)
 
 pub picked-next : (test : Net → Bool) (es : Entries) (net : Net) (routes : Routes) (items : List Route) (b : Bool) (so rows : List Row) (all : Entries)
     → rows ≡ so ++ picked_row b net items → b ≡ test net → items ≡ routes.items → so ≡ filter (λ (row : Row). test row.net) (rows_of es) → all ≡ es ++ (net, routes) ∷ []
@@ -211,10 +195,10 @@ picked-next test es net routes items b so rows all is tested same before whole =
 
 -- ---- a change
 
-pub change-nets : (fam : Family) (net : Net) (old mid new : Entries) (count now : ℕ) → AreNets fam old count → family_of net.addr ≡ fam
+pub change-nets : (fam : Family) (net : Net) (old mid new : Entries) (count now : ℕ) → AreNets fam old count → family_of net.addr ≡ fam → IsPrefix net.addr net.len
     → ((q : Net) → is_at (net_cmp net) q ≡ false → entry_at q mid ≡ entry_at q old) → AreRoutes (routes_at net mid) → SameRoutes mid new → AreKeys new
     → now + count_of old ≡ count + count_of mid → count_of new ≡ count_of mid → AreNets fam new now
-change-nets fam net old mid new count now nets fits others are same keys total counted = record {
+change-nets fam net old mid new count now nets fits prefix others are same keys total counted = record {
   keys = keys;
   routes = λ q. elim (cases_Bool (is_at (net_cmp net) q)) [
     | inl at ↦ subst AreRoutes (sym (same q)) (subst (λ (n : Net). AreRoutes (routes_at n mid)) (at_same net q at) are)
@@ -223,6 +207,10 @@ change-nets fam net old mid new count now nets fits others are same keys total c
   family = λ q filled. elim (cases_Bool (is_at (net_cmp net) q)) [
     | inl at ↦ subst (λ (n : Net). family_of n.addr ≡ fam) (at_same net q at) fits
     | inr past ↦ nets.family q (λ none. filled (same q ∙ ap items_of (others q past) ∙ none))
+  ];
+  prefixes = λ q filled. elim (cases_Bool (is_at (net_cmp net) q)) [
+    | inl at ↦ subst (λ (n : Net). IsPrefix n.addr n.len) (at_same net q at) prefix
+    | inr past ↦ nets.prefixes q (λ none. filled (same q ∙ ap items_of (others q past) ∙ none))
   ];
   total = omega (arith, total, counted, nets.total);
 }
@@ -269,7 +257,7 @@ and-true : (b : Bool) → (b && true) ≡ b
 and-true true = refl
 and-true false = refl
 
-rows-filter : (test other : Net → Bool) → ((n : Net) → test n ≡ other n) → (es : Entries)
+pub rows-filter : (test other : Net → Bool) → ((n : Net) → test n ≡ other n) → (es : Entries)
     → rows_of (filter (λ (e : Net × Routes). test e.0) es) ≡ filter (λ (row : Row). other row.net) (rows_of es)
 rows-filter test other same [] = refl
 rows-filter test other same (e ∷ es) =

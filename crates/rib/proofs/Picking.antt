@@ -1,23 +1,18 @@
--- Rows that are picked, and the best of a net with another route.
-use Rattle.std.proofs.Common.{◌≡◌, ℕ, Bool, true, false, not, cond, ◌&&◌, ◌||◌, ◌==◌, nat_lt, List, [], ◌∷◌, Option, Some, None, find, refl, sym, ap, ◌∙◌, subst, arith}
-use Rattle.std.specs.Prelude.{fold, unwrap_or, IfSome}
-use Rattle.std.specs.List.{filter}
+-- The best of a net with another route.
+use Rattle.std.proofs.Common.{◌≡◌, ℕ, Bool, true, false, not, cond, ◌&&◌, ◌==◌, List, [], ◌∷◌, Option, Some, None, find, refl, sym, ap, ◌∙◌, subst}
+use Rattle.std.specs.Prelude.{unwrap_or, IfSome}
 use Rattle.std.proofs.lemmas.Bool.{eqb-true, ne_eqb, cond-true}
-use Rattle.std.proofs.lemmas.Bool.Decides.{nat_tests}
 use Rattle.bits_ip.specs.Prefix.{Net, same_net}
 use Rattle.attrs.specs.declared.route.Change.{Change}
 use Rattle.attrs.specs.declared.route.Route.{Route}
 use Rattle.attrs.specs.declared.route.Row.{Row}
-use Rattle.attrs.specs.declared.route.Select.{Select}
-use Rattle.attrs.specs.declared.route.Select.TheVariants.{All, Exact, For, Within}
 use Rattle.attrs.specs.History.{after, or_else}
-use Rattle.attrs.specs.Select.{covers, has_longer_cover, selected}
 use Rattle.attrs.specs.Selection.{before}
 use Rattle.attrs.specs.Table.{AreRows, HasNone, IsBestOf, IsOfSources, route_in, routes_of}
 use Rattle.attrs.proofs.Bests.{best_of_first, best_of_none}
 use Rattle.attrs.proofs.Nets.{same_net_itself}
 use Rattle.attrs.proofs.Rows.{in_order-from_sorted, sorted-from_in_order}
-use Rattle.rib.specs.Picks.{better_of, is_picked, longer_of, longest_for, longest_from, routes_with}
+use Rattle.rib.specs.Picks.{better_of, routes_with}
 use Rattle.rib.specs.Rib.{first_of}
 use Rattle.rib.specs.Steps.{AreRoutes, Replaces, placed, without}
 use Rattle.rib.proofs.OneNet.{Replaces-announced, Replaces-withdrawn}
@@ -45,49 +40,6 @@ better-first num (Some r) xs = on (without num xs) where
     by_test : (b : Bool) → cond b (Some r) (Some y) ≡ first_of (cond b (r ∷ y ∷ ys) (y ∷ placed r ys))
     by_test true = refl
     by_test false = refl
-
--- ---- the longest cover
-
-longer_than : (k len longest : ℕ) (b : Bool) → nat_lt k (longer_of b len longest) ≡ (nat_lt k longest || (b && nat_lt k len))
-longer_than k len longest true = grind (arith, nat_tests)
-longer_than k len longest false = grind (arith, nat_tests)
-
-or_chain : (a b c : Bool) → ((a || b) || c) ≡ (a || (b || c))
-or_chain true b c = refl
-or_chain false b c = refl
-
-longest-from : (asked : Net) (k start : ℕ) (rows : List Row)
-    → nat_lt k (fold (λ (longest : ℕ) (row : Row). longer_of (covers row.net asked) row.net.len longest) start rows) ≡ (nat_lt k start || has_longer_cover asked k rows)
-longest-from asked k start [] = grind (arith, nat_tests)
-longest-from asked k start (row ∷ rows) =
-    longest-from asked k (longer_of (covers row.net asked) row.net.len start) rows
-    ∙ ap (λ (b : Bool). b || has_longer_cover asked k rows) (longer_than k row.net.len start (covers row.net asked))
-    ∙ or_chain (nat_lt k start) (covers row.net asked && nat_lt k row.net.len) (has_longer_cover asked k rows)
-
-none_below : (k : ℕ) → nat_lt k 0 ≡ false
-none_below k = grind (arith, nat_tests)
-
-longest-tells : (asked : Net) (k : ℕ) (rows : List Row) → nat_lt k (longest_from asked 0 rows) ≡ has_longer_cover asked k rows
-longest-tells asked k rows = longest-from asked k 0 rows ∙ ap (λ (b : Bool). b || has_longer_cover asked k rows) (none_below k)
-
-filter-same : (test other : Row → Bool) (rows : List Row) → ((row : Row) → test row ≡ other row) → filter test rows ≡ filter other rows
-filter-same test other [] same = refl
-filter-same test other (row ∷ rows) same =
-    ap (λ (b : Bool). cond b (row ∷ filter test rows) (filter test rows)) (same row)
-    ∙ ap (λ (l : List Row). cond (other row) (row ∷ l) l) (filter-same test other rows same)
-
-filter-all : (rows : List Row) → filter (λ (row : Row). true) rows ≡ rows
-filter-all [] = refl
-filter-all (row ∷ rows) = ap (λ (l : List Row). row ∷ l) (filter-all rows)
-
-pub picked-selected : (pick : Select) (rows : List Row) (longest : ℕ) → longest ≡ longest_for pick rows
-    → filter (λ (row : Row). is_picked pick longest row.net) rows ≡ selected pick rows
-picked-selected All rows longest is = filter-all rows
-picked-selected (Exact asked) rows longest is = refl
-picked-selected (Within asked) rows longest is = refl
-picked-selected (For asked) rows longest is =
-    filter-same (λ (row : Row). covers row.net asked && not (nat_lt row.net.len longest)) (λ (row : Row). covers row.net asked && not (has_longer_cover asked row.net.len rows)) rows
-    (λ row. ap (λ (b : Bool). covers row.net asked && not b) (ap (λ (k : ℕ). nat_lt row.net.len k) is ∙ longest-tells asked row.net.len rows))
 
 -- ---- the best after a change
 

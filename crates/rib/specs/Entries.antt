@@ -7,7 +7,7 @@ use Rattle.std.specs.Vec.{vec_len, vec_capacity}
 use Rattle.std.specs.declared.alloc.Global.{Global}
 use Rattle.std.specs.declared.vec.Vec.{Vec}
 use Rattle.bits_ip.specs.Address.{family_of}
-use Rattle.bits_ip.specs.Prefix.{Net, net_cmp}
+use Rattle.bits_ip.specs.Prefix.{IsPrefix, Net, net_cmp}
 use Rattle.bits_ip.specs.declared.address.Family.{Family}
 use Rattle.attrs.specs.declared.route.Route.{Route}
 use Rattle.attrs.specs.declared.route.Row.{Row}
@@ -45,11 +45,16 @@ count_of entries = sum_by (λ routes. length routes.items) (values_of entries)
 abbrev pub AreKeys : Entries → Type 0
 AreKeys entries = IsStrictlySortedBy net_cmp (keys_of entries)
 
--- nets in their order, those with routes of one family, with so many routes
+-- each net with routes is a prefix
+abbrev pub ArePrefixes : Entries → Type 0
+ArePrefixes entries = (net : Net) → routes_at net entries ≢ [] → IsPrefix net.addr net.len
+
+-- nets in their order, those with routes prefixes of one family, with so many routes
 pub record AreNets (fam : Family) (entries : Entries) (count : ℕ) : Type 0 where
   pub keys : AreKeys entries
   pub routes : (net : Net) → AreRoutes (routes_at net entries)
   pub family : (net : Net) → routes_at net entries ≢ [] → family_of net.addr ≡ fam
+  pub prefixes : ArePrefixes entries
   pub total : count ≡ count_of entries
 
 -- one more element takes no memory

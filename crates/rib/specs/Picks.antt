@@ -1,40 +1,47 @@
 -- For private contracts alone: how rows are picked, and what the best of a net is with another
 -- route.
-use Rattle.std.specs.Prelude.{ℕ, Bool, true, false, ◌&&◌, not, nat_lt, if◌then◌else◌, fold, List, [], Option, Some, None}
+use Rattle.std.specs.Prelude.{◌≡◌, ◌≢◌, ℕ, ◌+◌, ◌-◌, ◌%◌, ◌^◌, ◌<◌, ◌≤◌, Bool, true, false, if◌then◌else◌, List, [], Option, Some, None}
 use Rattle.std.specs.declared.ops.Bound.{Bound}
 use Rattle.std.specs.declared.ops.Bound.TheVariants.{Included, Unbounded}
-use Rattle.bits_ip.specs.Prefix.{Net, same_net}
+use Rattle.bits_ip.specs.declared.address.Addr.{Addr}
+use Rattle.bits_ip.specs.declared.address.Addr.TheVariants.{V4, V6}
+use Rattle.bits_ip.specs.Address.{width_of}
+use Rattle.bits_ip.specs.Prefix.{Net}
 use Rattle.attrs.specs.declared.route.Route.{Route}
 use Rattle.attrs.specs.declared.route.Row.{Row}
-use Rattle.attrs.specs.declared.route.Select.{Select}
-use Rattle.attrs.specs.declared.route.Select.TheVariants.{All, Exact, For, Within}
-use Rattle.attrs.specs.Select.{covers}
 use Rattle.attrs.specs.Selection.{before}
+use Rattle.attrs.specs.Table.{routes_of}
 use Rattle.rib.specs.Entries.{row_of}
 use Rattle.rib.specs.Steps.{placed, without}
 
--- the greater length, where the net counts
-abbrev pub longer_of : Bool → ℕ → ℕ → ℕ
-longer_of true len longest = if nat_lt longest len then len else longest
-longer_of false len longest = longest
+-- the address with the bits behind this length cleared, and with them set where they are clear
+abbrev pub front_addr : Addr → ℕ → Addr
+front_addr (V4 n) len = V4 (n - n % 2 ^ (32 - len))
+front_addr (V6 n) len = V6 (n - n % 2 ^ (128 - len))
 
--- the greatest of a length and of those of the nets that cover the asked one
-abbrev pub longest_from : Net → ℕ → List Row → ℕ
-longest_from asked start rows =
-    fold (λ longest row. longer_of (covers row.net asked) row.net.len longest) start rows
+abbrev pub last_addr : Addr → ℕ → Addr
+last_addr (V4 n) len = V4 (n + (2 ^ (32 - len) - 1))
+last_addr (V6 n) len = V6 (n + (2 ^ (128 - len) - 1))
 
-abbrev pub longest_for : Select → List Row → ℕ
-longest_for (For asked) rows = longest_from asked 0 rows
-longest_for All rows = 0
-longest_for (Exact asked) rows = 0
-longest_for (Within asked) rows = 0
+-- the prefix of this length that covers a net
+abbrev pub front : Net → ℕ → Net
+front net len = record { addr = front_addr net.addr len; len = len }
 
--- the net is asked for, where the longest cover has this length
-abbrev pub is_picked : Select → ℕ → Net → Bool
-is_picked All longest net = true
-is_picked (Exact asked) longest net = same_net asked net
-is_picked (For asked) longest net = covers net asked && not (nat_lt net.len longest)
-is_picked (Within asked) longest net = covers asked net
+-- the longest prefix of the last address that a net covers
+abbrev pub last_within : Net → Net
+last_within net = record { addr = last_addr net.addr net.len; len = width_of net.addr }
+
+-- the longest prefix that covers the asked one and has routes
+abbrev pub IsLongest : Net → List Row → Option Net → Type 0
+IsLongest asked rows None = (len : ℕ) → len ≤ asked.len → routes_of (front asked len) rows ≡ []
+IsLongest asked rows (Some best) =
+    (best ≡ front asked best.len) × (best.len ≤ asked.len) × (routes_of best rows ≢ [])
+    × ((len : ℕ) → best.len < len → len ≤ asked.len → routes_of (front asked len) rows ≡ [])
+
+-- its row
+abbrev pub row_of_best : Option Net → List Row → List Row
+row_of_best None rows = []
+row_of_best (Some best) rows = row_of best (routes_of best rows)
 
 -- the net's row, where it has routes and is asked for
 abbrev pub picked_row : Bool → Net → List Route → List Row

@@ -10,14 +10,16 @@
 //! `attrs` defines (`after`), and one content is shown by one list of rows.
 //!
 //! `nets` finds, puts in and takes out nets, `routes` a net's routes; `picks` tells which nets are
-//! asked for, `selection` which route is preferred.
+//! asked for, `lent` is a row without copies, `selection` tells which route is preferred.
 #![tactic(auto)]
 
+mod lent;
 mod nets;
 mod picks;
 mod rib;
 mod routes;
 mod selection;
 
+pub use lent::LentRow;
 pub use rib::{Outcome, Rib};
 pub use selection::before;

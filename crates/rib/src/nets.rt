@@ -5,15 +5,17 @@ ghost use Rattle.std.specs.Map.{values_of};
 ghost use Rattle.attrs.specs.declared.route.Row.{Row};
 ghost use Rattle.bits_ip.specs.Address.{family_of};
 ghost use Rattle.bits_ip.specs.Prefix.{Net, net_cmp};
-ghost use Rattle.attrs.specs.Select.{rows_from, selected};
-ghost use Rattle.attrs.specs.Table.{route_in, route_of, routes_of};
+ghost use Rattle.attrs.specs.Select.{covers, rows_from, selected};
+ghost use Rattle.attrs.specs.declared.route.Select.TheVariants.{For, Within};
+ghost use Rattle.attrs.specs.Table.{AreRows, route_in, route_of, routes_of};
 ghost use Rattle.rib.specs.Rib.{best_of, first_of};
 ghost use Rattle.rib.specs.Outcome.{IfChanged};
-ghost use Rattle.rib.specs.Entries.{AreKeys, AreNets, HasRoom, HasRoomAt, IsEmptyAt, count_of, entry_at, row_of, routes_at, rows_of};
-ghost use Rattle.rib.specs.Picks.{first_bound, longest_for, longest_from, picked_row};
+ghost use Rattle.rib.specs.Entries.{AreKeys, AreNets, ArePrefixes, HasRoom, HasRoomAt, IsEmptyAt, count_of, entry_at, row_of, routes_at, rows_of};
+ghost use Rattle.rib.specs.Picks.{IsLongest, first_bound, picked_row};
 ghost use Rattle.rib.specs.Steps.{AreRoutes, Changes, Replaces};
 
-use crate::picks::{is_picked, longer_cover};
+use crate::lent::LentRow;
+use crate::picks::{covers, front, last_within};
 use crate::rib::Outcome;
 use crate::routes::{change_routes, copy_routes};
 use attrs::{Change, Route, Row, Select, Seq};
@@ -194,6 +196,7 @@ impl Nets {
             ↔ (best_of change.net (rows_of self.new) ≢ best_of change.net (rows_of self.old))) }
     {
         let Change { net, num, new } = change;
+        let _addr = net.addr();
         let outcome = self.change_at(alloc, total, net, num, new);
         self.drop_empty(&net);
         outcome
@@ -234,36 +237,101 @@ impl Nets {
         }
     }
 
-    fn longest_cover(&self, asked: &Prefix) -> u8
-        ensures { result ≡ longest_from asked.now 0 (rows_of self.now) }
+    /// The longest net with routes that covers the prefix, by a look-up for each length from the
+    /// prefix's own down.
+    fn longest_cover(&self, asked: &Prefix) -> Option<Prefix>
+        requires { AreKeys self.now }
+        ensures { IsLongest asked.now (rows_of self.now) result }
     {
-        let mut longest = 0;
-        for (net, routes) in &self.map {
-            longest = longest_with(asked, net, routes.as_slice(), longest);
+        let _addr = asked.addr();
+        for gone in 0..asked.len() + 1 {
+            let net = front(asked, asked.len() - gone);
+            if !self.routes(&net).is_empty() {
+                return Some(net);
+            }
         }
-        longest
+        None
     }
 
-    fn longest_for(&self, pick: &Select) -> u8
-        ensures { result ≡ longest_for pick.now (rows_of self.now) }
+    /// The row of a net, where it has routes.
+    fn lend_one(&self, alloc: Global, net: &Prefix) -> Result<Vec<LentRow<'_>>, OutOfMemory>
+        requires { AreKeys self.now }
+        ensures { IfOk result
+            (λ rows. rows.items ≡ row_of net.now (routes_of net.now (rows_of self.now))) }
     {
-        match pick {
-            Select::For(asked) => self.longest_cover(asked),
-            _ => 0,
+        let mut rows = Vec::new(alloc);
+        push_lent(*net, self.routes(net), &mut rows)?;
+        Ok(rows)
+    }
+
+    /// The row of the longest net that covers the prefix.
+    fn lend_longest(&self, alloc: Global, asked: &Prefix) -> Result<Vec<LentRow<'_>>, OutOfMemory>
+        requires keys { AreKeys self.now }
+        requires prefixes { ArePrefixes self.now }
+        requires rows { AreRows (rows_of self.now) }
+        ensures { IfOk result (λ rows. rows.items ≡ selected (For asked.now) (rows_of self.now)) }
+    {
+        match self.longest_cover(asked) {
+            Some(net) => self.lend_one(alloc, &net),
+            None => Ok(Vec::new(alloc)),
         }
+    }
+
+    /// The rows of the nets that the prefix covers. They stand from the prefix itself to the
+    /// longest prefix of its last address.
+    fn lend_within(&self, alloc: Global, asked: &Prefix) -> Result<Vec<LentRow<'_>>, OutOfMemory>
+        requires keys { AreKeys self.now }
+        requires prefixes { ArePrefixes self.now }
+        requires rows { AreRows (rows_of self.now) }
+        ensures { IfOk result (λ rows. rows.items
+            ≡ selected (Within asked.now) (rows_of self.now)) }
+    {
+        let _addr = asked.addr();
+        let mut rows = Vec::new(alloc);
+        let last = last_within(asked);
+        for (net, routes) in self
+            .map
+            .range((Bound::Included(*asked), Bound::Included(last)))
+        {
+            push_covered(asked, net, routes.as_slice(), &mut rows)?;
+        }
+        Ok(rows)
+    }
+
+    fn lend_all(&self, alloc: Global) -> Result<Vec<LentRow<'_>>, OutOfMemory>
+        ensures { IfOk result (λ rows. rows.items ≡ rows_of self.now) }
+    {
+        let mut rows = Vec::new(alloc);
+        for (net, routes) in &self.map {
+            push_lent(*net, routes.as_slice(), &mut rows)?;
+        }
+        Ok(rows)
     }
 
     /// Copies of the rows that are asked for.
-    pub(crate) fn copy_rows(&self, alloc: Global, pick: &Select) -> Result<Vec<Row>, OutOfMemory>
+    pub(crate) fn copy(&self, alloc: Global, pick: &Select) -> Result<Vec<Row>, OutOfMemory>
+        requires keys { AreKeys self.now }
+        requires prefixes { ArePrefixes self.now }
+        requires rows { AreRows (rows_of self.now) }
         ensures { IfOk result (λ rows. rows.items ≡ selected pick.now (rows_of self.now)) }
     {
-        let longest = self.longest_for(pick);
-        let mut rows = Vec::new(alloc);
-        for (net, routes) in &self.map {
-            let is_picked = is_picked(pick, longest, net);
-            copy_picked(alloc, net, routes.as_slice(), is_picked, &mut rows)?;
+        let rows = self.lend(alloc, pick)?;
+        copy_rows(alloc, rows.as_slice())
+    }
+
+    /// The rows that are asked for.
+    pub(crate) fn lend(&self, alloc: Global, pick: &Select) -> Result<Vec<LentRow<'_>>, OutOfMemory>
+        requires keys { AreKeys self.now }
+        requires prefixes { ArePrefixes self.now }
+        requires rows { AreRows (rows_of self.now) }
+        ensures { IfOk result (λ rows. rows.items ≡ selected pick.now (rows_of self.now)) }
+    {
+        match pick {
+            Select::All => self.lend_all(alloc),
+            Select::Exact(net) => self.lend_one(alloc, net),
+            Select::For(asked) => self.lend_longest(alloc, asked),
+            Select::Within(asked) => self.lend_within(alloc, asked),
         }
-        Ok(rows)
     }
 
     /// Copies of the first rows from a net on, itself included; at most so many.
@@ -281,7 +349,7 @@ impl Nets {
             if rows.len() >= max {
                 break;
             }
-            copy_picked(alloc, net, routes.as_slice(), true, &mut rows)?;
+            copy_row(alloc, net, routes.as_slice(), &mut rows)?;
         }
         Ok(rows)
     }
@@ -372,31 +440,60 @@ fn grow_routes(routes: &mut Vec<Route>) -> Result<(), OutOfMemory>
     Ok(())
 }
 
-/// The greater of the length so far and the net's, where it has routes and covers the asked one.
-fn longest_with(asked: &Prefix, net: &Prefix, routes: &[Route], longest: u8) -> u8
-    ensures { result ≡ longest_from asked.now longest (row_of net.now routes.now) }
-{
-    if routes.is_empty() {
-        longest
-    } else {
-        longer_cover(asked, net, longest)
-    }
-}
-
-/// Puts a copy of the row behind the others, where the net has routes and is asked for.
-fn copy_picked(
+/// Puts a copy of the row behind the others, where the net has routes.
+fn copy_row(
     alloc: Global,
     net: &Prefix,
     routes: &[Route],
-    is_picked: bool,
     rows: &mut Vec<Row>,
 ) -> Result<(), OutOfMemory>
-    ensures { OnOk result (rows.new.items
-        ≡ rows.old.items ++ picked_row is_picked net.now routes.now) }
+    ensures { OnOk result (rows.new.items ≡ rows.old.items ++ row_of net.now routes.now) }
 {
-    if is_picked {
-        let copies = copy_routes(alloc, routes)?;
-        push_row(*net, copies, rows)?;
+    let copies = copy_routes(alloc, routes)?;
+    push_row(*net, copies, rows)
+}
+
+/// Copies of rows.
+fn copy_rows(alloc: Global, lent: &[LentRow]) -> Result<Vec<Row>, OutOfMemory>
+    ensures { IfOk result (λ rows. rows.items ≡ lent.now) }
+{
+    let mut rows = Vec::with_capacity(alloc, lent.len())?;
+    for row in lent {
+        let routes = Seq::from_vec(copy_routes(alloc, row.routes)?);
+        rows.push(Row {
+            net: row.net,
+            routes,
+        })?;
+    }
+    Ok(rows)
+}
+
+/// Puts the row behind the others, where the net has routes and is covered.
+fn push_covered<'a>(
+    asked: &Prefix,
+    net: &Prefix,
+    routes: &'a [Route],
+    rows: &mut Vec<LentRow<'a>>,
+) -> Result<(), OutOfMemory>
+    ensures { OnOk result (rows.new.items
+        ≡ rows.old.items ++ picked_row (covers asked.now net.now) net.now routes.now) }
+{
+    if covers(asked, net) {
+        push_lent(*net, routes, rows)?;
+    }
+    Ok(())
+}
+
+/// Puts the row behind the others, where the net has routes.
+fn push_lent<'a>(
+    net: Prefix,
+    routes: &'a [Route],
+    rows: &mut Vec<LentRow<'a>>,
+) -> Result<(), OutOfMemory>
+    ensures { OnOk result (rows.new.items ≡ rows.old.items ++ row_of net routes.now) }
+{
+    if !routes.is_empty() {
+        rows.push(LentRow { net, routes })?;
     }
     Ok(())
 }

@@ -8,6 +8,7 @@ ghost use Rattle.attrs.specs.Table.{AreRows, IsBestOf, count_routes, route_in, r
 ghost use Rattle.rib.specs.Rib.{best_of, AreOfFamily};
 ghost use Rattle.rib.specs.Outcome.{IfChanged};
 
+use crate::lent::LentRow;
 use crate::nets::Nets;
 use crate::routes::{best_with, copy_option, copy_routes, find_route, same_routes};
 use attrs::{Change, Route, Row, Select};
@@ -156,21 +157,34 @@ impl Rib {
         copy_option(best_with(routes, change.num, change.new.as_ref()))
     }
 
-    /// Copies of the rows that are asked for, in the order of nets.
+    /// Copies of the rows that are asked for, in the order of nets. One net costs a look-up, the
+    /// longest that covers a prefix one for each length, and what a prefix covers no more than
+    /// what there is of it.
     pub fn select(&self, pick: &Select) -> Result<Vec<Row>, OutOfMemory>
         ensures rows { IfOk result (λ rows. rows.items ≡ selected pick.now self.now.rows) }
         ensures are_rows { AreRows self.now.rows }
         ensures family { AreOfFamily self.now.family self.now.rows }
     {
-        self.nets.copy_rows(self.alloc, pick)
+        self.nets.copy(self.alloc, pick)
+    }
+
+    /// The rows that `select` copies, as they stand. Memory is taken for the list of them alone.
+    pub fn lend(&self, pick: &Select) -> Result<Vec<LentRow<'_>>, OutOfMemory>
+        ensures rows { IfOk result (λ rows. rows.items ≡ selected pick.now self.now.rows) }
+        ensures are_rows { AreRows self.now.rows }
+        ensures family { AreOfFamily self.now.family self.now.rows }
+    {
+        self.nets.lend(self.alloc, pick)
     }
 
     /// Copies of the first rows from a net on, itself included, or from the first net; at most so
     /// many.
     pub fn next_nets(&self, from: Option<&Prefix>, max: u32) -> Result<Vec<Row>, OutOfMemory>
         requires { 1 ≤ max }
-        ensures { IfOk result (λ rows. rows.items
+        ensures rows { IfOk result (λ rows. rows.items
             ≡ take max (rows_from (option_copied from.entry) self.now.rows)) }
+        ensures are_rows { AreRows self.now.rows }
+        ensures family { AreOfFamily self.now.family self.now.rows }
     {
         self.nets.copy_next(self.alloc, from, max as usize)
     }
@@ -188,7 +202,9 @@ impl Rib {
 
     /// How many routes there are.
     pub fn total(&self) -> u64
-        ensures { result ≡ count_routes self.now.rows }
+        ensures count { result ≡ count_routes self.now.rows }
+        ensures are_rows { AreRows self.now.rows }
+        ensures family { AreOfFamily self.now.family self.now.rows }
     {
         self.total
     }

@@ -1,1 +1,6 @@
+mod Answering
+mod Expected
+mod Members
 mod ReplyPieces
+mod Tables
+mod Tallies

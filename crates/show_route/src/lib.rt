@@ -1,14 +1,25 @@
 //! Replies to `show route`: which routes stand in a table, in the words of BIRD's remote control.
 //!
-//! `answer` makes the reply over the rows of a table, with the names of protocols by number: a
-//! heading with the table's name, then for each net its routes, the best of which comes first and
-//! has a star. Over a table that isn't copied, `begin` and `write_routes` make the same text.
+//! A `Query` says what is asked: of which nets, of one protocol, as one protocol exports them, the
+//! best of each net, those that a filter accepts; and whether attributes are told too, or only how
+//! many there are. `answer_query` answers it over the rows that it asks for, with the filter and
+//! the channel that it names, `answer_table` over a table. `answer` answers the query without options, over all rows. Rows may
+//! be lent by a table (`LentRow`), so no route is copied.
 //!
-//! Contracts see the rows as lists and the reply by one function, `reply_text` of specs/Reply. All
-//! rests on one fact of tables, which attrs states: a row's routes stand in selection order, so
-//! that the first is the net's best and no other is.
+//! Contracts say which routes of the table's content are shown, in which order, and how
+//! (`IsReply` of specs/Shown): they speak of what a filter and a channel make of a route, and not
+//! of rows. `laws` has what an operator expects of it.
+//!
+//! `show` goes through rows and tells what is to be shown of each, `reply` writes a route, `query`
+//! is what is asked, `whole` the whole reply.
 #![tactic(auto)]
 
+pub mod laws;
+mod query;
 mod reply;
+mod show;
+mod whole;
 
+pub use query::Query;
 pub use reply::{answer, begin, write_routes};
+pub use whole::{answer_query, answer_table};

@@ -86,7 +86,7 @@ fn write_others(
     Ok(())
 }
 
-fn write_route(
+pub(crate) fn write_route(
     names: &[&[u8]],
     net: &Prefix,
     is_best: bool,

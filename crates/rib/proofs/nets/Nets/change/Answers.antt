@@ -18,7 +18,7 @@ returns-clause-nets c =
     let done = c.change_at-outcome.ensures in
     let dropped = c.drop_empty.ensures in
     change-nets (family_of c.args.change.net.addr) c.args.change.net c.args.self.now c.change_at-outcome.new.self c.drop_empty.new.self _ _
-    c.requires.nets refl done.others done.routes.are dropped.routes dropped.keys done.total dropped.count
+    c.requires.nets refl c.addr-addr.ensures.prefix done.others done.routes.are dropped.routes dropped.keys done.total dropped.count
 
 pub returns-clause-empty : goal.returns-clause-empty
 returns-clause-empty c =

@@ -17,9 +17,9 @@ range-net-items-requires c = rw c.first_bound.ensures (forward _)
 
 pub loop-net-preserved : goal.loop-net-preserved
 loop-net-preserved c = (
-  rows-next (map deref_pair c.loop-net.yielded) c.in-Some.net.now c.in-Some.routes.now _ _ _ _ c.in_ok-copy_picked.ensures c.as_slice.ensures.value c.loop-net.invariant.0
+  rows-next (map deref_pair c.loop-net.yielded) c.in-Some.net.now c.in-Some.routes.now _ _ _ _ c.in_ok-copy_row.ensures c.as_slice.ensures.value c.loop-net.invariant.0
       (map-append deref_pair c.loop-net.yielded ((c.in-Some.net, c.in-Some.routes) ∷ [])),
-  rows-bound c.in-Some.net.now c.as_slice.result.now c.loop-net.rows.items _ c.args.max c.in_ok-copy_picked.ensures (omega (arith, c.if-len-max.false, c.len.ensures, c.loop-net.rows.ok)),
+  rows-bound c.in-Some.net.now c.as_slice.result.now c.loop-net.rows.items _ c.args.max c.in_ok-copy_row.ensures (omega (arith, c.if-len-max.false, c.len.ensures, c.loop-net.rows.ok)),
 )
 
 pub returns : goal.returns

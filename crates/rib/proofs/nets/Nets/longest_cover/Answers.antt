@@ -1,10 +1,23 @@
-use Rattle.std.proofs.Common.{◌∷◌, [], map}
-use Rattle.std.specs.Map.Iter.{deref_pair}
-use Rattle.std.proofs.lemmas.List.{map-append}
-use Rattle.rib.proofs.NetSteps.{longest-next}
+use Rattle.std.proofs.Common.{◌∙◌, ℕ, ◌-◌, ap, arith}
+use Rattle.rib.specs.Entries.{rows_of}
+use Rattle.rib.specs.Picks.{front}
+use Rattle.rib.proofs.Longest.{bare-all, bare-first, bare-found, bare-next}
 use Rattle.rib.proofs.nets.Nets.longest_cover.Goals as goal
 
-pub loop-net-preserved : goal.loop-net-preserved
-loop-net-preserved c =
-    longest-next c.args.asked.now (map deref_pair c.loop-net.yielded) c.in-Some.net.now c.in-Some.routes.now _ _ _ _
-    c.longest_with-longest.ensures c.as_slice.ensures.value c.loop-net.invariant (map-append deref_pair c.loop-net.yielded ((c.in-Some.net, c.in-Some.routes) ∷ []))
+pub loop-gone-init : goal.loop-gone-init
+loop-gone-init c = bare-first c.args.asked.now (rows_of c.args.self.now)
+
+pub returns-then-not-is_empty : goal.returns-then-not-is_empty
+returns-then-not-is_empty c =
+    bare-found c.args.asked.now c.front-net.result (rows_of c.args.self.now) c.loop-gone.gone c.routes.result.now c.is_empty.result c.loop-gone.invariant
+    (omega (arith, c.loop-gone-test.true, c.len-gone-end.ensures)) (c.front-net.ensures ∙ ap (λ (k : ℕ). front c.args.asked.now (k - c.loop-gone.gone)) c.len.ensures)
+    c.routes.ensures c.is_empty.ensures c.if-not-is_empty.true
+
+pub loop-gone-preserved : goal.loop-gone-preserved
+loop-gone-preserved c =
+    bare-next c.args.asked.now c.front-net.result (rows_of c.args.self.now) c.loop-gone.gone c.routes.result.now c.is_empty.result c.loop-gone.invariant
+    (omega (arith, c.loop-gone-test.true, c.len-gone-end.ensures)) (c.front-net.ensures ∙ ap (λ (k : ℕ). front c.args.asked.now (k - c.loop-gone.gone)) c.len.ensures)
+    c.routes.ensures c.is_empty.ensures c.if-not-is_empty.false
+
+pub returns : goal.returns
+returns c = bare-all c.args.asked.now (rows_of c.args.self.now) c.loop-gone.gone c.loop-gone.invariant (omega (arith, c.loop-gone-test.false, c.len-gone-end.ensures))

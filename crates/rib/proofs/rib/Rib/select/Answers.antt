@@ -9,3 +9,6 @@ returns-clause-are_rows c = subst (λ (t : Table). AreRows t.rows) c.self.view_i
 
 pub returns-clause-family : goal.returns-clause-family
 returns-clause-family c = subst (λ (t : Table). AreOfFamily t.family t.rows) c.self.view_is (nets-family _ _ _ c.self.invariant.nets)
+
+pub copy-requires-clause-rows : goal.copy-requires-clause-rows
+copy-requires-clause-rows c = nets-rows _ _ _ c.self.invariant.nets

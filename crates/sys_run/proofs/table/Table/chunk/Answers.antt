@@ -10,6 +10,6 @@ use Rattle.sys_run.proofs.table.Table.chunk.Goals as goal
 pub returns-clause-head : goal.returns-clause-head
 returns-clause-head c rules family history ok is =
     chunk_is rules family history c.args.self.now ok is c.args.from _ _
-    (c.in_ok-rows.ensures ∙ ap (λ (from : Option Net). take 257 (rows_from from c.args.self.now.rib.rows)) c.as_ref.ensures.value)
+    (c.in_ok-rows.ensures.rows ∙ ap (λ (from : Option Net). take 257 (rows_from from c.args.self.now.rib.rows)) c.as_ref.ensures.value)
     (subst (λ (rows : List Row). IsCut c.in_ok-rows.rows.items rows c.end_of-upto.result) (sym c.from_vec.ensures) c.end_of-upto.ensures) refl
     (c.head.ensures ∙ head_is rules family history c.args.self.now is)

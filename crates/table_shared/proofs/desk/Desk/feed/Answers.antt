@@ -22,7 +22,7 @@ returns-clause-chunk c =
       };
       shows = in_seen (journal c.args.cursor.now.0) c.args.self.now c.tell_cursor-at.new.cursor.0.1 (Shows c.args.self.now.rib.rows) kept cursor (t.cursor.0 ∙ t.list) kept.rows;
       begins = c.copy_net.ensures;
-      rows = c.from_vec.ensures ∙ c.in_ok-rows.ensures;
+      rows = c.from_vec.ensures ∙ c.in_ok-rows.ensures.rows;
       ends = c.in_ok-upto.ensures;
       more = more_is c.args.max own c.in_ok-upto.upto c.is_some.result c.is_some.ensures c.in_ok-upto.ensures;
     }
