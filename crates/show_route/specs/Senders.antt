@@ -6,8 +6,9 @@ use Rattle.attrs.specs.declared.judge.Verdict.{Verdict}
 use Rattle.attrs.specs.declared.route.Route.{Route}
 use Rattle.bits_ip.specs.Prefix.{Net}
 use Rattle.export_core.specs.declared.passing.ExportSpec.{ExportSpec}
+use Rattle.export_core.specs.Keys.{key_of}
 use Rattle.export_core.specs.Passing.{value_by}
 use Rattle.show_route.specs.Shown.{Sender}
 
 abbrev pub sender_of : ExportSpec → (Net → Route → Verdict) → Sender
-sender_of spec verdict net route = value_by spec verdict net route
+sender_of spec verdict net route = value_by spec verdict (key_of net) route

@@ -1,7 +1,7 @@
 //! The queries of a file: options with commas between them, and `-` for none.
 use crate::judges::Least;
 use crate::routes::{bad, prefix};
-use attrs::Select;
+use attrs::{Select, Seq};
 use bits_ip::{Addr, Family, Prefix, parse_addr};
 use export_core::{ExportSpec, Through};
 use rib::Rib;
@@ -54,6 +54,8 @@ fn channel(alloc: Global, name: &str) -> io::Result<Through<Least>> {
         own: protocol(name)?,
         to_ebgp: name != "ib",
         interpret: true,
+        every: false,
+        sources: Seq::from_vec(Vec::new(alloc)),
     };
     Ok(Through::make(spec, judge))
 }
