@@ -1,33 +1,26 @@
 -- What holds of a history's course, and of a longer one.
-use Rattle.std.proofs.Common.{◌≡◌, ◌≢◌, ℕ, ◌+◌, ◌-◌, zero, suc, inl, inr, Bool, true, false, List, [], ◌∷◌, ◌++◌, reverse, Option, Some, None, refl, sym, ◌∙◌, ap, subst, arith, take, length, map, cond}
-use Rattle.std.specs.Prelude.{◌&&◌, ◌==◌, if◌then◌else◌, unwrap_or, slice_get}
+use Rattle.std.proofs.Common.{◌≡◌, ◌≢◌, ℕ, ◌+◌, ◌-◌, inl, inr, true, false, List, [], ◌∷◌, ◌++◌, reverse, Option, None, refl, sym, ◌∙◌, ap, arith, take, length}
+use Rattle.std.specs.Prelude.{◌&&◌, if◌then◌else◌}
 use Rattle.std.proofs.lemmas.Grind.{fold-append}
-use Rattle.std.proofs.lemmas.List.{take_at, map-append, append_assoc, length-append}
+use Rattle.std.proofs.lemmas.List.{take_at, append_assoc, length-append}
 use Rattle.bits_ip.specs.Prefix.{Net}
 use Rattle.export_core.specs.Keys.{same_key}
 use Rattle.export_core.specs.declared.log.Key.{Key}
 use Rattle.attrs.specs.declared.attributes.Attrs.{Attrs}
 use Rattle.attrs.specs.declared.journal.JEntry.{JEntry}
 use Rattle.attrs.specs.declared.judge.Verdict.{Verdict}
-use Rattle.attrs.specs.declared.route.Change.{Change}
 use Rattle.attrs.specs.declared.route.Route.{Route}
-use Rattle.attrs.specs.declared.route.Row.{Row}
-use Rattle.attrs.specs.History.{Content, after, empty, content_at, last_of}
-use Rattle.attrs.specs.Selection.{IsBest}
-use Rattle.attrs.specs.Table.{AreRows, IsInOrder, IsOfSources, Shows, route_of, routes_of}
-use Rattle.attrs.proofs.Histories.{last_of-push}
-use Rattle.attrs.proofs.Rows.{IsBest-one}
 use Rattle.export_core.proofs.Keys.{same_key_itself}
-use Rattle.export_core.specs.Candidates.{best_in, heeds, key_of_entry, told_of}
+use Rattle.export_core.specs.Candidates.{heeds, key_of_entry, told_of}
 use Rattle.export_core.specs.declared.passing.ExportSpec.{ExportSpec}
 use Rattle.export_core.specs.declared.log.LogItem.{LogItem}
 use Rattle.export_core.specs.declared.log.LogItem.TheVariants.{Up, Down, Reload, Sent}
-use Rattle.export_core.specs.Histories.{IsBestOf, IsLonger, TellsBest, best_after, change_of, course_of}
+use Rattle.export_core.specs.Histories.{IsLonger, best_after, course_of}
 use Rattle.export_core.specs.Lanes.{IsLane, Lane}
 use Rattle.export_core.specs.Logs.{Course, Follows, reloads}
 use Rattle.export_core.specs.Passing.{passed}
 use Rattle.export_core.specs.States.{IsEntryAt, StandsFor, State, lane_of, value_for}
-use Rattle.export_core.proofs.Keys.{key_tells, same_key_flip, skip_if, take_if}
+use Rattle.export_core.proofs.Keys.{key_tells, skip_if, take_if}
 
 pub best_next : (spec : ExportSpec) (k : Key) (entries : List JEntry) (e : JEntry) → best_after spec k (entries ++ e ∷ []) ≡ (if heeds spec e.num && same_key (key_of_entry spec e) k then told_of spec e else best_after spec k entries)
 best_next spec k entries e = fold-append (λ (found : Option Route) (e : JEntry). if heeds spec e.num && same_key (key_of_entry spec e) k then told_of spec e else found) None entries (e ∷ [])
