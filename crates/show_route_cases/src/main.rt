@@ -1,4 +1,4 @@
-//! Tries queries that a file holds over a table of routes that another holds.
+//! Tries queries that files hold over tables of routes that others hold.
 #![tactic(auto)]
 
 mod judges;
@@ -32,14 +32,22 @@ fn answer(alloc: Global, rib: &Rib, case: &Case) -> io::Result<String> {
     escaped(alloc, reply.as_slice())
 }
 
-fn main(rt: HostRuntime) -> io::Result<ExitCode> {
-    let rib = table(rt.alloc(), read(&rt, "routes.txt")?.as_slice())?;
-    let name = "queries.txt";
-    let mut tally = Tally::new(name);
-    for case in read(&rt, name)?.iter() {
-        tally.note(&rt, case, answer(rt.alloc(), &rib, case)?.as_str())?;
+/// Whether the queries of a file are answered as it says, over the routes of another.
+fn are_answered(rt: &HostRuntime, routes: &str, queries: &str) -> io::Result<bool> {
+    let rib = table(rt.alloc(), read(rt, routes)?.as_slice())?;
+    let mut tally = Tally::new(queries);
+    for case in read(rt, queries)?.iter() {
+        tally.note(rt, case, answer(rt.alloc(), &rib, case)?.as_str())?;
     }
-    Ok(if tally.finish(&rt)? {
+    tally.finish(rt)
+}
+
+fn main(rt: HostRuntime) -> io::Result<ExitCode> {
+    let many = are_answered(&rt, "routes.txt", "queries.txt")?;
+    let two = are_answered(&rt, "two.txt", "of_two.txt")?;
+    let three = are_answered(&rt, "three.txt", "of_three.txt")?;
+    let alike = are_answered(&rt, "alike.txt", "of_alike.txt")?;
+    Ok(if many && two && three && alike {
         ExitCode::SUCCESS
     } else {
         ExitCode::FAILURE
