@@ -1,6 +1,6 @@
--- Reading an entry from words: what is read at the front, with the words behind it, or nothing where
--- the front isn't spelled so. `entry_in` and the like are what the parts that were read come to,
--- before memory is taken for them. Not modelled: memory. From: this project's own format.
+-- Reading an entry from words: what is read at the front, with the words behind it, or nothing
+-- where the front isn't spelled so. `entry_in` and the like are what the parts that were read come
+-- to, before memory is taken for them. Not modelled: memory. From: this project's own format.
 use Rattle.std.specs.Prelude.{◌≡◌, ℕ, ◌+◌, ◌-◌, ◌*◌, ◌/◌, ◌%◌, ◌^◌, Bool, true, false, not, ◌&&◌, ◌==◌, nat_lt, nat_le, if◌then◌else◌, List, [], ◌∷◌, ◌++◌, length, map, take, drop, slice_index, Option, Some, None, Result, Ok, Err, option_map}
 use Rattle.std.specs.List.{flat_map, list_any}
 use Rattle.std.specs.Option.{is_some}

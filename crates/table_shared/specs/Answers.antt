@@ -78,8 +78,8 @@ pub record IsEnded (change : Change) (old new : Seat TableOpening) (head : ℕ) 
 
 -- The change is real, and the port's last load of a cursor's word, in this call, found that cursor
 -- of the table's the whole journal behind the head that the port loaded in this call. No lower
--- cursor is, as the port knows. So a port that is full has seen the list to the head, and that isn't
--- the last position.
+-- cursor is, as the port knows. So a port that is full has seen the list to the head, and that
+-- isn't the last position.
 pub record IsFull (change : Change) (old new : Seat TableOpening) (cursor at head : ℕ)
     : Type 0 where
   pub inside : cursor < new.seen.terms.cursors
