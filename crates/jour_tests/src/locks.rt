@@ -22,17 +22,6 @@ fn add_often<R: Wait>(rt: &R, lock: &Lock<u64, (), Any>) {
 fn two_threads_add(rt: HostRuntime) -> Result<(), Fail> {
     let lock = Lock::<u64, (), Any>::new(rt.alloc(), 0, &())?;
     thread::join(&rt, || add_often(&rt, &lock), || add_often(&rt, &lock));
-    assert!(rt; lock.into_inner() == Some(20000));
-    Ok(())
-}
-
-/// A value whose right was dropped doesn't come back.
-#[test]
-fn a_dropped_right_keeps_the_value(rt: HostRuntime) -> Result<(), Fail> {
-    let lock = Lock::<u64, (), Any>::new(rt.alloc(), 7, &())?;
-    let (held, value) = lock.lock(&rt);
-    drop(held);
-    assert!(rt; value == 7);
-    assert!(rt; lock.into_inner().is_none());
+    assert!(rt; lock.into_value(&rt) == 20000);
     Ok(())
 }

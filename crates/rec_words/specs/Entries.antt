@@ -1,4 +1,5 @@
--- Which entries there are, and when words spell one. An entry's numbers are in their ranges, as its types keep them. Not modelled: what memory an entry takes.
+-- Which entries there are, and when words spell one. An entry's numbers are in their ranges, as its
+-- types keep them. Not modelled: what memory an entry takes.
 -- From: this project's own format.
 use Rattle.std.specs.Prelude.{◌≡◌, ℕ, ◌<◌, ◌≤◌, ◌^◌, List, length, IfSome}
 use Rattle.std.specs.List.{AllByRecursion}

@@ -1,5 +1,6 @@
--- Reading an entry from words: what is read at the front, with the words behind it, or nothing where the front isn't spelled so. `entry_in` and the like are what the parts
--- that were read come to, before memory is taken for them. Not modelled: memory. From: this project's own format.
+-- Reading an entry from words: what is read at the front, with the words behind it, or nothing
+-- where the front isn't spelled so. `entry_in` and the like are what the parts that were read come
+-- to, before memory is taken for them. Not modelled: memory. From: this project's own format.
 use Rattle.std.specs.Prelude.{◌≡◌, ℕ, ◌+◌, ◌-◌, ◌*◌, ◌/◌, ◌%◌, ◌^◌, Bool, true, false, not, ◌&&◌, ◌==◌, nat_lt, nat_le, if◌then◌else◌, List, [], ◌∷◌, ◌++◌, length, map, take, drop, slice_index, Option, Some, None, Result, Ok, Err, option_map}
 use Rattle.std.specs.List.{flat_map, list_any}
 use Rattle.std.specs.Option.{is_some}
@@ -53,10 +54,18 @@ abbrev pub kind_of : ℕ → Kind
 kind_of digit = if digit == 0 then Static else Bgp
 
 abbrev pub dest_of : ℕ → Dest
-dest_of digit = if digit == 0 then Unicast else if digit == 1 then Blackhole else if digit == 2 then Unreachable else Prohibit
+dest_of digit =
+    if digit == 0 then Unicast
+    else if digit == 1 then Blackhole
+    else if digit == 2 then Unreachable
+    else Prohibit
 
 abbrev pub origin_of : ℕ → Option Origin
-origin_of digit = if digit == 0 then None else if digit == 1 then Some Igp else if digit == 2 then Some Egp else Some Incomplete
+origin_of digit =
+    if digit == 0 then None
+    else if digit == 1 then Some Igp
+    else if digit == 2 then Some Egp
+    else Some Incomplete
 
 abbrev pub shape_of : Attrs → Shape
 shape_of a = record {
@@ -74,7 +83,8 @@ shape_of a = record {
 -- the word that spells the shape
 abbrev pub word_of : Shape → ℕ
 word_of s =
-    kind_number s.kind + at_bit 4 (dest_number s.dest) + at_bit 8 (flag s.ebgp) + at_bit 12 (origin_number s.origin) + at_bit 16 (flag s.has_med) + at_bit 17 (flag s.has_lp)
+    kind_number s.kind + at_bit 4 (dest_number s.dest) + at_bit 8 (flag s.ebgp)
+    + at_bit 12 (origin_number s.origin) + at_bit 16 (flag s.has_med) + at_bit 17 (flag s.has_lp)
     + at_bit 18 (flag s.has_igp) + at_bit 24 s.path_len + at_bit 32 s.com_len
 
 -- the shape that a word spells, if it spells one
@@ -108,7 +118,11 @@ head_in ws = do
   igp ← optional_at shape.has_igp (high_half (slice_index ws 4))
   Some
       record {
-        src = record { num = low_half (slice_index ws 0); def_med = high_half (slice_index ws 0); def_lp = low_half (slice_index ws 1) };
+        src = record {
+          num = low_half (slice_index ws 0);
+          def_med = high_half (slice_index ws 0);
+          def_lp = low_half (slice_index ws 1);
+        };
         pref = high_half (slice_index ws 1);
         shape = shape;
         peer_id = low_half (slice_index ws 3);
@@ -138,7 +152,11 @@ v6_at (high ∷ low ∷ rest) = Some (Some (V6 (high * 2 ^ 64 + low)), rest)
 
 unfoldable pub addr_at : List ℕ → Option (Option Addr × List ℕ)
 addr_at [] = None
-addr_at (family ∷ rest) = if family == 0 then Some (None, rest) else if family == 4 then v4_at rest else if family == 6 then v6_at rest else None
+addr_at (family ∷ rest) =
+    if family == 0 then Some (None, rest)
+    else if family == 4 then v4_at rest
+    else if family == 6 then v6_at rest
+    else None
 
 unfoldable pub ways_at : List ℕ → Option (Ways × List ℕ)
 ways_at ws = do
@@ -236,7 +254,10 @@ abbrev pub v4_in : ℕ → ℕ → Option Addr
 v4_in high low = if high == 0 then option_map (λ n. V4 n) (number_at low) else None
 
 unfoldable pub family_addr_at : ℕ → ℕ → ℕ → Option Addr
-family_addr_at family high low = if family == 4 then v4_in high low else if family == 6 then Some (V6 (high * 2 ^ 64 + low)) else None
+family_addr_at family high low =
+    if family == 4 then v4_in high low
+    else if family == 6 then Some (V6 (high * 2 ^ 64 + low))
+    else None
 
 abbrev pub is_prefix : Addr → ℕ → Bool
 is_prefix addr len = nat_le len (width_of addr) && (number_of addr % 2 ^ (width_of addr - len) == 0)
@@ -255,7 +276,9 @@ front_with has_new has_best ws = do
 
 unfoldable pub front_in : ℕ → List ℕ → Option Front
 front_in count ws =
-    if first_word count (bit_at 16 (slice_index ws 0)) (bit_at 17 (slice_index ws 0)) == slice_index ws 0 then front_with (bit_at 16 (slice_index ws 0)) (bit_at 17 (slice_index ws 0)) ws
+    if first_word count (bit_at 16 (slice_index ws 0)) (bit_at 17 (slice_index ws 0))
+    == slice_index ws 0
+    then front_with (bit_at 16 (slice_index ws 0)) (bit_at 17 (slice_index ws 0)) ws
     else None
 
 unfoldable pub entry_at : List ℕ → Option JEntry
@@ -265,7 +288,14 @@ entry_at ws =
       front ← front_in (length ws) (take 5 ws)
       new ← optional_route_at front.has_new (drop 5 ws)
       best ← optional_route_at front.has_best new.1
-      if length best.1 == 0 then Some (record { net = front.net; num = front.num; new = new.0; best = best.0 }) else None
+      if length best.1 == 0
+          then Some (record { net = front.net; num = front.num; new = new.0; best = best.0 })
+          else None
 
 abbrev pub entry_in : EntryParts → JEntry
-entry_in parts = record { net = parts.front.net; num = parts.front.num; new = option_map route_in parts.new; best = option_map route_in parts.best }
+entry_in parts = record {
+  net = parts.front.net;
+  num = parts.front.num;
+  new = option_map route_in parts.new;
+  best = option_map route_in parts.best;
+}

@@ -1,5 +1,6 @@
--- The words of an entry of a table's journal: the net, the change's source, and the new route and the best one where they are. Each number stands at a bit of a word; bits
--- without a number are 0. Not modelled: where the words stand in the journal. From: this project's own format.
+-- The words of an entry of a table's journal: the net, the change's source, and the new route and
+-- the best one where they are. Each number stands at a bit of a word; bits without a number are 0.
+-- Not modelled: where the words stand in the journal. From: this project's own format.
 use Rattle.std.specs.Prelude.{ℕ, suc, ◌+◌, ◌*◌, ◌/◌, ◌%◌, ◌^◌, Bool, true, false, List, [], ◌∷◌, ◌++◌, length, map, Option, Some, None, unwrap_or}
 use Rattle.std.specs.Option.{is_some}
 use Rattle.bits_ip.specs.Address.{number_of}
@@ -54,7 +55,8 @@ origin_number (Some Incomplete) = 3
 -- the length and the family; the address in two words
 abbrev pub net_words : Net → List ℕ
 net_words net =
-    (net.len + at_bit 8 (family_number net.addr)) ∷ (number_of net.addr / 2 ^ 64) ∷ (number_of net.addr % 2 ^ 64) ∷ []
+    (net.len + at_bit 8 (family_number net.addr))
+    ∷ (number_of net.addr / 2 ^ 64) ∷ (number_of net.addr % 2 ^ 64) ∷ []
 
 -- the family, 0 for none; the address in one word or two
 abbrev pub addr_words : Option Addr → List ℕ
@@ -75,10 +77,13 @@ pair_number pair = pair.0 * 65536 + pair.1
 -- what sort of route it is, which values it has, and how long its lists are
 abbrev pub shape_word : Attrs → ℕ
 shape_word a =
-    kind_number a.kind + at_bit 4 (dest_number a.dest) + at_bit 8 (flag a.ebgp) + at_bit 12 (origin_number a.origin) + at_bit 16 (flag (is_some a.med))
-    + at_bit 17 (flag (is_some a.lp)) + at_bit 18 (flag (is_some a.igp)) + at_bit 24 (length a.path) + at_bit 32 (length a.coms)
+    kind_number a.kind + at_bit 4 (dest_number a.dest) + at_bit 8 (flag a.ebgp)
+    + at_bit 12 (origin_number a.origin) + at_bit 16 (flag (is_some a.med))
+    + at_bit 17 (flag (is_some a.lp)) + at_bit 18 (flag (is_some a.igp))
+    + at_bit 24 (length a.path) + at_bit 32 (length a.coms)
 
--- where the route is from, its preference, its shape, and its numbers: a missing MED, local preference or distance is 0, which the shape tells from a value
+-- where the route is from, its preference, its shape, and its numbers: a missing MED, local
+-- preference or distance is 0, which the shape tells from a value
 abbrev pub head_words : Route → List ℕ
 head_words r =
     joined r.src.num r.src.def_med
@@ -90,7 +95,8 @@ head_words r =
 
 unfoldable pub route_words : Route → List ℕ
 route_words r =
-    head_words r ++ addr_words r.attrs.gw ++ addr_words r.attrs.sender ++ addr_words r.attrs.next_hop ++ number_words r.attrs.path
+    head_words r ++ addr_words r.attrs.gw ++ addr_words r.attrs.sender
+    ++ addr_words r.attrs.next_hop ++ number_words r.attrs.path
     ++ number_words (map pair_number r.attrs.coms)
 
 abbrev pub optional_route_words : Option Route → List ℕ
@@ -103,7 +109,9 @@ first_word count has_new has_best = count + at_bit 16 (flag has_new) + at_bit 17
 
 -- the words behind the first
 abbrev pub body_words : JEntry → List ℕ
-body_words e = net_words e.net ++ e.num ∷ [] ++ optional_route_words e.new ++ optional_route_words e.best
+body_words e =
+    net_words e.net ++ e.num ∷ [] ++ optional_route_words e.new ++ optional_route_words e.best
 
 unfoldable pub entry_words : JEntry → List ℕ
-entry_words e = first_word (suc (length (body_words e))) (is_some e.new) (is_some e.best) ∷ body_words e
+entry_words e =
+    first_word (suc (length (body_words e))) (is_some e.new) (is_some e.best) ∷ body_words e

@@ -1,5 +1,7 @@
--- An entry in words, worked by hand: 10.0.0.0/8 is a black hole by the static protocol of number 0, and this is the best route. Its shape is 16, a static route with the
--- destination 1, and its preference 200 stands in the high half. Not modelled: nothing. From: worked by hand from this project's own format.
+-- An entry in words, worked by hand: 10.0.0.0/8 is a black hole by the static protocol of number 0,
+-- and this is the best route. Its shape is 16, a static route with the destination 1, and its
+-- preference 200 stands in the high half. Not modelled: nothing. From: worked by hand from this
+-- project's own format.
 use Rattle.std.specs.Prelude.{ℕ, false, List, [], ◌∷◌, Some, None}
 use Rattle.bits_ip.specs.declared.address.Addr.TheVariants.{V4}
 use Rattle.attrs.specs.declared.attributes.Kind.TheVariants.{Static}
@@ -29,7 +31,12 @@ black_hole = record {
 }
 
 abbrev pub worked : JEntry
-worked = record { net = record { addr = V4 167772160; len = 8 }; num = 0; new = Some black_hole; best = Some black_hole }
+worked = record {
+  net = record { addr = V4 167772160; len = 8 };
+  num = 0;
+  new = Some black_hole;
+  best = Some black_hole;
+}
 
 abbrev pub worked_words : List ℕ
 worked_words =

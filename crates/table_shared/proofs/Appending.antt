@@ -20,6 +20,7 @@ use Rattle.table_shared.specs.Opening.{TableOpening, sources_of}
 use Rattle.table_shared.specs.Records.{AreRecords, InContent, IsLawful, IsRecord, at_first, content_after}
 use Rattle.table_shared.specs.Answers.{Differs, with_best}
 use Rattle.table_shared.specs.Kept.{IsKept}
+use Rattle.table_shared.proofs.Families.{family_after}
 use Rattle.table_shared.proofs.Records.{content_more, records_more}
 use Rattle.table_shared.proofs.Keeping.{rows_are}
 
@@ -69,6 +70,7 @@ module _ (here : TableId × Terms TableOpening) (old : Desk) (k : ℕ) (words : 
         ports = ports ∙ ap (λ l. l ++ k ∷ []) kept.ports ∙ sym (map-append (λ (e : Entry). e.maker) (front old.writer.1) (entry k words ∷ [])) ∙ ap (map (λ (e : Entry). e.maker)) (sym list);
         rows = record { rows_are = are; routes_are = λ net num. routes net num ∙ (λ i. content i net num) };
         family = family ∙ kept.family;
+        nets = family_after opening.family old.rib.rows new.rib.rows change kept.nets are may.family routes;
         end = end;
       }
 

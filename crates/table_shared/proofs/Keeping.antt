@@ -13,7 +13,7 @@ use Rattle.table_shared.specs.declared.desk.Desk.{Desk}
 use Rattle.table_shared.specs.Opening.{TableOpening}
 use Rattle.table_shared.specs.Records.{AreRecords, InContent, at_first, content_after}
 use Rattle.table_shared.specs.Answers.{InSeen}
-use Rattle.rib.specs.Rib.{Table}
+use Rattle.rib.specs.Rib.{AreOfFamily, Table}
 use Rattle.table_shared.specs.declared.close.Phase.{Phase}
 use Rattle.table_shared.specs.Kept.{IsKept}
 use Rattle.table_shared.specs.Phases.{IsPhase}
@@ -31,6 +31,7 @@ still here old new kept named list rows family start records ports = record {
   ports = ports ∙ kept.ports ∙ ap (map (λ entry. entry.maker)) (sym list);
   rows = subst (λ (z : List Row × List JEntry). Shows z.0 (content_after here.1.opening z.1)) (λ i. (sym rows i, sym records i)) kept.rows;
   family = family ∙ kept.family;
+  nets = subst (AreOfFamily here.1.opening.family) (sym rows) kept.nets;
   end = subst (λ (n : ℕ). n < 2 ^ 63) (λ i. (sym named i).1.start + length (sym list i)) kept.end;
 }
 
@@ -67,5 +68,6 @@ phase_is desk made kept from entries ports rib =
       makers = ports ∙ kept.ports;
       shows = subst (λ (z : Table × List JEntry). Shows z.0.rows (content_after opening z.1)) (λ i. (sym rib i, sym entries i)) kept.rows;
       family = ap (λ (r : Table). r.family) rib ∙ kept.family;
+      nets = subst (λ (r : Table). AreOfFamily opening.family r.rows) (sym rib) kept.nets;
       end = omega arith;
     }

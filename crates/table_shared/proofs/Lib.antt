@@ -1,5 +1,7 @@
 pub mod Records
+pub mod Families
 pub mod Keeping
 pub mod RowParts
 pub mod Appending
 pub mod Histories
+pub mod Receipts

@@ -11,7 +11,7 @@ use Rattle.attrs.specs.declared.route.Route.{Route}
 use Rattle.jour_rule.specs.declared.views.Entry.{Entry}
 use Rattle.jour_rule.specs.declared.views.View.{View as Seat}
 use Rattle.jour_rule.specs.Moves.{entry}
-use Rattle.jour.specs.Seats.{front, own, head_of, known, heads, number_of, looks_of, last_look}
+use Rattle.jour.specs.Seats.{LeavesRoom, front, own, head_of, known, heads, number_of, looks_of, last_look}
 use Rattle.rec_words.specs.Entries.{Spells}
 use Rattle.table_shared.specs.declared.answers.Done.{Done}
 use Rattle.table_shared.specs.declared.answers.Done.TheVariants.{Same, At}
@@ -77,16 +77,18 @@ pub record IsEnded (change : Change) (old new : Seat TableOpening) (head : ℕ) 
   pub differs : InSeen new (Differs change)
 
 -- The change is real, and the port's last load of a cursor's word, in this call, found that cursor
--- of the table's the whole journal behind the head that the port loaded in this call.
+-- of the table's the whole journal behind the head that the port loaded in this call. No lower
+-- cursor is, as the port knows. So a port that is full has seen the list to the head, and that
+-- isn't the last position.
 pub record IsFull (change : Change) (old new : Seat TableOpening) (cursor at head : ℕ)
     : Type 0 where
   pub inside : cursor < new.seen.terms.cursors
   pub look : last_look new.role ≡ (cursor, at)
   pub looks : looks_of old.role < looks_of new.role
-  pub known : head ≡ known new
-  pub loads : heads old < heads new
+  pub loaded : IsLoaded head old new
   pub lag : head ≡ at + new.seen.terms.cells
-  pub below : head_of new + 1 < 2 ^ 63
+  pub lowest : (c : ℕ) → c < cursor → LeavesRoom c new
+  pub below : head + 1 < 2 ^ 63
   pub receipts : own new ≡ own old
   pub differs : InSeen new (Differs change)
 

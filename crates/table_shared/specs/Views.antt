@@ -10,6 +10,7 @@ use Rattle.attrs.specs.declared.route.Row.{Row}
 use Rattle.attrs.specs.declared.route.Select.{Select}
 use Rattle.jour_rule.specs.declared.views.View.{View as Seat}
 use Rattle.jour.specs.Seats.{head_of, known, heads}
+use Rattle.rib.specs.Rib.{AreOfFamily}
 use Rattle.table_shared.specs.declared.view.View.{View}
 use Rattle.table_shared.specs.Opening.{TableOpening}
 use Rattle.table_shared.specs.Answers.{InSeen}
@@ -20,20 +21,23 @@ pub record IsTold (at : ℕ) (old new : Seat TableOpening) : Type 0 where
   pub seen : at ≡ head_of new
   pub loads : heads new ≡ heads old + 1
 
--- the selected rows of the content at the head, and how many routes that has
+-- the selected rows of the content at the head, of nets of the table's family, and how many routes
+-- that content has
 pub record IsView (pick : Select) (old new : Seat TableOpening) (view : View) : Type 0 where
   pub all : List Row
   pub told : IsTold view.at old new
   pub shows : InSeen new (Shows all)
   pub rows : view.rows ≡ selected pick all
   pub total : view.total ≡ count_routes all
+  pub family : AreOfFamily new.seen.terms.opening.family view.rows
 
 -- the net of the first row
 abbrev pub first_net : List Row → Option Net
 first_net [] = None
 first_net (row ∷ rows) = Some row.net
 
--- the first rows from a net on of the content at the head, at most so many, and the net behind them
+-- the first rows from a net on of the content at the head, at most so many, of nets of the table's
+-- family, and the net behind them
 pub record IsChunk (from : Option Net) (max : ℕ) (old new : Seat TableOpening) (chunk : Chunk)
     : Type 0 where
   pub all : List Row
@@ -43,3 +47,4 @@ pub record IsChunk (from : Option Net) (max : ℕ) (old new : Seat TableOpening)
   pub rows : chunk.rows ≡ take max (rows_from from all)
   pub ends : chunk.upto ≡ first_net (drop max (rows_from from all))
   pub more : IsTrue chunk.more ↔ (max < length (rows_from from all))
+  pub family : AreOfFamily new.seen.terms.opening.family chunk.rows

@@ -1,10 +1,9 @@
 //! The end of a table's phase.
 ghost use Rattle.std.specs.Prelude.{◌≡◌};
 ghost use Rattle.std.specs.List.{AllByRecursion};
-ghost use mathlib.Core.List.{IsPrefix};
 ghost use Rattle.jour.specs.Seats.{front, journal};
 ghost use Rattle.table_shared.specs.Kept.{IsKept};
-ghost use Rattle.table_shared.specs.Phases.{IsPhase, IsRetired};
+ghost use Rattle.table_shared.specs.Phases.{IsHeard, IsPhase, IsRetired};
 
 use crate::desk::Desk;
 use crate::law::{TableCursor, TablePass};
@@ -55,7 +54,8 @@ impl Closing {
         Closing { desk }
     }
 
-    /// Ends a port: the entries of its number are its receipts.
+    /// Ends a port: the entries of its number are its receipts. What it has seen begins the list of
+    /// entries, and the head that it knows is at most the list's.
     pub fn retire(&mut self, port: Port)
         requires { journal port ≡ journal self.old }
         ensures same { (journal self.new ≡ journal self.old)
@@ -65,24 +65,26 @@ impl Closing {
         self.desk.writer.retire(port.maker);
     }
 
-    /// What the pass has seen begins the list of entries.
+    /// What the pass has seen begins the list of entries, and the head that it knows is at most the
+    /// list's.
     pub fn hear_pass(&mut self, pass: &mut TablePass)
         requires { journal pass.old ≡ journal self.old }
         ensures same { (journal self.new ≡ journal self.old)
             × (front self.new.1 ≡ front self.old.1)
             × (pass.new ≡ pass.old) }
-        ensures heard { IsPrefix (front pass.old.1) (front self.old.1) }
+        ensures heard { IsHeard self.old.1.seen.terms (front self.old.1) pass.old.1 }
     {
         self.desk.writer.hear_pass(pass);
     }
 
-    /// What the cursor has seen begins the list of entries.
+    /// What the cursor has seen begins the list of entries, and the head that it knows is at most
+    /// the list's.
     pub fn hear_cursor(&mut self, cursor: &mut TableCursor)
         requires { journal cursor.old.0 ≡ journal self.old }
         ensures same { (journal self.new ≡ journal self.old)
             × (front self.new.1 ≡ front self.old.1)
             × (cursor.new ≡ cursor.old) }
-        ensures heard { IsPrefix (front cursor.old.0.1) (front self.old.1) }
+        ensures heard { IsHeard self.old.1.seen.terms (front self.old.1) cursor.old.0.1 }
     {
         self.desk.writer.hear_cursor(cursor);
     }
@@ -128,7 +130,7 @@ pub(crate) fn hear_passes(closing: &mut Closing, passes: Vec<TablePass>)
     ensures same { (journal closing.new ≡ journal closing.old)
         × (front closing.new.1 ≡ front closing.old.1) }
     ensures heard { AllByRecursion
-        (λ pass. IsPrefix (front pass.1) (front closing.old.1))
+        (λ pass. IsHeard closing.old.1.seen.terms (front closing.old.1) pass.1)
         passes.items }
 {
     for mut pass in passes {
@@ -144,7 +146,7 @@ pub(crate) fn hear_cursors(closing: &mut Closing, cursors: Vec<TableCursor>)
     ensures same { (journal closing.new ≡ journal closing.old)
         × (front closing.new.1 ≡ front closing.old.1) }
     ensures heard { AllByRecursion
-        (λ cursor. IsPrefix (front cursor.0.1) (front closing.old.1))
+        (λ cursor. IsHeard closing.old.1.seen.terms (front closing.old.1) cursor.0.1)
         cursors.items }
 {
     for mut cursor in cursors {

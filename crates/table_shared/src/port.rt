@@ -1,7 +1,9 @@
 //! The token of one entering channel.
-ghost use Rattle.std.specs.Prelude.{◌≡◌, max, IfOk, OnErr, OnOk};
+ghost use Rattle.std.specs.Prelude.{◌≡◌, ◌+◌, ◌≤◌, max, IfOk};
+ghost use mathlib.Core.List.{IsPrefix};
 ghost use Rattle.jour_rule.specs.Moves.{longest};
-ghost use Rattle.jour.specs.Seats.{journal, front, head_of, known, heads, last_look, looks_of, number_of};
+ghost use Rattle.jour.specs.Seats.{journal, front, head_of, known, heads, last_look, looks_of, number_of, own};
+ghost use Rattle.table_shared.specs.Records.{IsLawful};
 
 use crate::law::{TableMaker, TablePass};
 use bits_ip::OutOfMemory;
@@ -33,9 +35,12 @@ impl Port {
         self.maker.number()
     }
 
-    /// The position up to which it has seen the table's journal.
+    /// The position up to which it has seen the table's journal. What it has seen is lawful, and no
+    /// more than the head that it knows.
     pub fn seen(&self) -> u64
-        ensures { result ≡ head_of self.now.1 }
+        ensures seen { result ≡ head_of self.now.1 }
+        ensures above { result ≤ known self.now.1 }
+        ensures lawful { IsLawful self.now.1.seen.terms.opening (front self.now.1) }
     {
         self.maker.seen()
     }
@@ -50,24 +55,24 @@ impl Port {
         Ok(self.maker.split()?)
     }
 
-    /// Takes in a copy of what the pass has seen. Which of the entries that are new to it are its
-    /// own isn't told: a call under the table's lock (`Table::start`) keeps the receipts.
-    pub fn meet(&mut self, pass: &mut TablePass) -> Result<(), OutOfMemory>
+    /// Takes in a copy of what the pass has seen, and loads the head. What it had seen begins what
+    /// it has seen then, so its receipts begin its new ones. Which of the entries that are new to
+    /// it are its own isn't told: a call under the table's lock (`Table::start`) keeps the receipts.
+    pub fn meet(&mut self, pass: &mut TablePass)
         requires { journal pass.old ≡ journal self.old }
         ensures pass { pass.new ≡ pass.old }
         ensures here { (journal self.new ≡ journal self.old)
             × (number_of self.new.1.role ≡ number_of self.old.1.role) }
-        ensures seen { OnOk result
-            ((front self.new.1 ≡ longest (front self.old.1) (front pass.old.1))
-            × (head_of self.new.1 ≡ max (head_of self.old.1) (head_of pass.old.1))
-            × (known self.new.1 ≡ max (known self.old.1) (known pass.old.1))) }
-        ensures loads { (heads self.new.1 ≡ heads self.old.1)
-            × (looks_of self.new.1.role ≡ looks_of self.old.1.role)
+        ensures seen { (front self.new.1 ≡ longest (front self.old.1) (front pass.old.1))
+            × (head_of self.new.1 ≡ max (head_of self.old.1) (head_of pass.old.1)) }
+        ensures known { (heads self.new.1 ≡ heads self.old.1 + 1)
+            × (known self.old.1 ≤ known self.new.1)
+            × (known pass.old.1 ≤ known self.new.1) }
+        ensures looks { (looks_of self.new.1.role ≡ looks_of self.old.1.role)
             × (last_look self.new.1.role ≡ last_look self.old.1.role) }
-        ensures refused { OnErr result (self.new ≡ self.old) }
+        ensures prefix { IsPrefix (front self.old.1) (front self.new.1) }
+        ensures receipts { IsPrefix (own self.old.1) (own self.new.1) }
     {
-        let copy = pass.split()?;
-        self.maker.join(copy);
-        Ok(())
+        self.maker.meet(pass);
     }
 }

@@ -28,7 +28,8 @@ impl Desk {
         ensures here { journal pass.new ≡ journal pass.old }
         ensures view { IfOk result (IsView pick.now pass.old.1 pass.new.1) }
         ensures refused { OnErr result (pass.new ≡ pass.old) }
-        ensures least { head_of pass.old.1 ≤ head_of pass.new.1 }
+        ensures least { (known pass.old.1 ≤ known pass.new.1)
+            × (head_of pass.old.1 ≤ head_of pass.new.1) }
         ensures prefix { IsPrefix (front pass.old.1) (front pass.new.1) }
     {
         let rows = self.rib.select(pick)?;
@@ -89,7 +90,8 @@ impl Desk {
         ensures both { (front maker.new.1 ≡ front cursor.new.0.1)
             × (result ≡ head_of maker.new.1) }
         ensures receipts { own maker.new.1 ≡ own maker.old.1 }
-        ensures least { (known cursor.old.0.1 ≤ result) × (head_of maker.old.1 ≤ result) }
+        ensures least { (known cursor.old.0.1 ≤ result) × (known maker.old.1 ≤ result)
+            × (head_of maker.old.1 ≤ result) }
         ensures prefix { IsPrefix (front cursor.old.0.1) (front cursor.new.0.1)
             × IsPrefix (front maker.old.1) (front maker.new.1) }
     {
@@ -105,7 +107,7 @@ impl Desk {
         ensures kept { IsKept (journal pass.old) self.new }
         ensures here { (journal pass.new ≡ journal pass.old) × (maker.new ≡ maker.old) }
         ensures told { IsTold result pass.old.1 pass.new.1 }
-        ensures least { head_of pass.old.1 ≤ result }
+        ensures least { (known pass.old.1 ≤ result) × (head_of pass.old.1 ≤ result) }
         ensures shared { IsPrefix (front maker.old.1) (front pass.new.1) }
         ensures prefix { IsPrefix (front pass.old.1) (front pass.new.1) }
     {

@@ -3,6 +3,7 @@ ghost use Rattle.std.specs.Prelude.{◌≡◌, ◌≤◌, ◌<◌, ◌+◌, ◌^
 ghost use Rattle.std.specs.List.{AllByRecursion};
 ghost use mathlib.Core.List.{IsPrefix};
 ghost use Rattle.attrs.specs.Table.{AreRows};
+ghost use Rattle.rib.specs.Rib.{AreOfFamily};
 ghost use Rattle.jour_rule.specs.Moves.{position_of};
 ghost use Rattle.jour.specs.Seats.{AreCursors, AreMakers, AreUnread, front, head_of, heads, journal, known, number_of, own};
 ghost use Rattle.table_shared.specs.Opening.{lists_of};
@@ -72,7 +73,8 @@ impl Table {
         requires cursors { cursors ≤ 512 }
         requires ports { vec_len ports ≤ 1024 }
         requires start { start < 2 ^ 63 }
-        requires rows { (rows.family ≡ family) × AreRows rows.rows }
+        requires rows { (rows.family ≡ family) × AreRows rows.rows
+            × AreOfFamily family rows.rows }
         ensures terms { IfOk result (λ made. made.0.1 ≡ record {
           start = start;
           cells = cells;
@@ -113,7 +115,8 @@ impl Table {
     /// Makes a change of the port's, where it differs from what stands for its key: `Same` comes
     /// where it doesn't. Of a real change `Memory` may come, at which nothing has changed; `Ended`
     /// where no position is left; else `Full`, where a cursor has yet to read the oldest entry that
-    /// there is a cell for. Behind an entry the gate is passed at place 1, under the lock.
+    /// there is a cell for: it is the lowest such, and the port has seen the list to the head, as
+    /// behind `Same` and `Ended`. Behind an entry the gate is passed at place 1, under the lock.
     pub fn update<R: Wait, G: Gate>(
         &self,
         rt: &R,
@@ -148,7 +151,8 @@ impl Table {
         ensures here { journal pass.new ≡ journal pass.old }
         ensures view { IfOk result (IsView pick.now pass.old.1 pass.new.1) }
         ensures refused { OnErr result (pass.new ≡ pass.old) }
-        ensures least { head_of pass.old.1 ≤ head_of pass.new.1 }
+        ensures least { (known pass.old.1 ≤ known pass.new.1)
+            × (head_of pass.old.1 ≤ head_of pass.new.1) }
         ensures prefix { IsPrefix (front pass.old.1) (front pass.new.1) }
     {
         let (held, mut desk) = self.lock.lock(rt);
@@ -215,7 +219,8 @@ impl Table {
         ensures both { (front port.new.1 ≡ front cursor.new.0.1)
             × (result ≡ head_of port.new.1) }
         ensures receipts { own port.new.1 ≡ own port.old.1 }
-        ensures least { (known cursor.old.0.1 ≤ result) × (head_of port.old.1 ≤ result) }
+        ensures least { (known cursor.old.0.1 ≤ result) × (known port.old.1 ≤ result)
+            × (head_of port.old.1 ≤ result) }
         ensures prefix { IsPrefix (front cursor.old.0.1) (front cursor.new.0.1)
             × IsPrefix (front port.old.1) (front port.new.1) }
     {
@@ -231,7 +236,7 @@ impl Table {
         requires here { (journal port.old ≡ self.now) × (journal pass.old ≡ self.now) }
         ensures here { (journal pass.new ≡ journal pass.old) × (port.new ≡ port.old) }
         ensures told { IsTold result pass.old.1 pass.new.1 }
-        ensures least { head_of pass.old.1 ≤ result }
+        ensures least { (known pass.old.1 ≤ result) × (head_of pass.old.1 ≤ result) }
         ensures shared { IsPrefix (front port.old.1) (front pass.new.1) }
         ensures prefix { IsPrefix (front pass.old.1) (front pass.new.1) }
     {

@@ -5,16 +5,14 @@ ghost use Rattle.jour.specs.Seats.{journal, number_of};
 ghost use Rattle.table_shared.specs.Opening.{lists_of};
 ghost use Rattle.table_shared_tests.specs.Changes.{AreOf, AreClosed, IsOfSource, IsOfTwo, two_sources};
 
-use crate::routes::change_of;
-use crate::threads::{Source, enter_all, take_all};
+use crate::routes::{change_of, learnt_change};
 use attrs::{Change, Chunk, Select};
 use bits_ip::{Family, OutOfMemory, Prefix};
 use jour_rule::buf::Buf;
 use outside_io::OpenGate;
 use rib::Rib;
 use std::alloc::Global;
-use std::sync::{Arc, Wait};
-use std::thread::{self, Threads};
+use std::sync::Wait;
 use table_shared::{Done, Phase, Port, Table, TableCursor, TablePass, UpdateFault, View};
 
 /// A table of IPv4 nets with a port for the source 0 and one for the source 1, and one cursor.
@@ -50,7 +48,7 @@ fn one_source(alloc: Global, num: u32) -> Result<Vec<u32>, OutOfMemory>
     Ok(sources)
 }
 
-fn two_sources(alloc: Global) -> Result<Vec<Vec<u32>>, OutOfMemory>
+pub(crate) fn two_sources(alloc: Global) -> Result<Vec<Vec<u32>>, OutOfMemory>
     ensures all { IfOk result (λ ports. lists_of ports.items ≡ two_sources) }
     ensures two { IfOk result (λ ports. vec_len ports ≡ 2) }
 {
@@ -63,7 +61,7 @@ fn two_sources(alloc: Global) -> Result<Vec<Vec<u32>>, OutOfMemory>
 }
 
 /// The last of some ports.
-fn last_port(table: &Table, ports: &mut Vec<Port>) -> Option<Port>
+pub(crate) fn last_port(table: &Table, ports: &mut Vec<Port>) -> Option<Port>
     requires { AreOf table.now ports.old.items }
     ensures ports { AreOf table.now ports.new.items }
     ensures last { IfSome result (λ port. journal port ≡ table.now) }
@@ -73,8 +71,9 @@ fn last_port(table: &Table, ports: &mut Vec<Port>) -> Option<Port>
 }
 
 /// The last of some closed cursors.
-fn last_cursor(table: &Table, cursors: &mut Vec<TableCursor>) -> Option<TableCursor>
+pub(crate) fn last_cursor(table: &Table, cursors: &mut Vec<TableCursor>) -> Option<TableCursor>
     requires { AreClosed table.now cursors.old.items }
+    ensures cursors { AreClosed table.now cursors.new.items }
     ensures here { IfSome result (λ cursor. journal cursor.0 ≡ table.now) }
     ensures closed { IfSome result (λ cursor. cursor.1 ≡ false) }
 {
@@ -173,6 +172,22 @@ impl Bench {
         enter(rt, &self.table, &mut self.second, 1, &change)
     }
 
+    /// The source 0 announces the net as a BGP neighbour does.
+    pub fn learn<R: Wait>(
+        &mut self,
+        rt: &R,
+        alloc: Global,
+        net: &Prefix,
+        med: u32,
+    ) -> Result<Done, Refused>
+        requires { family_of net.now.addr ≡ Family.V4 }
+    {
+        let Ok(change) = learnt_change(alloc, net, 0, med) else {
+            return Err(Refused::Memory);
+        };
+        enter(rt, &self.table, &mut self.first, 0, &change)
+    }
+
     /// Starts the cursor, and answers where it stands. None if it is started already.
     pub fn start<R: Wait>(&mut self, rt: &R) -> Option<u64> {
         if self.started {
@@ -217,9 +232,9 @@ impl Bench {
     }
 
     /// The second port meets the pass. Answers what it has seen then.
-    pub fn meet(&mut self) -> Result<u64, OutOfMemory> {
-        self.second.meet(&mut self.pass)?;
-        Ok(self.second.seen())
+    pub fn meet(&mut self) -> u64 {
+        self.second.meet(&mut self.pass);
+        self.second.seen()
     }
 
     pub fn snapshot<R: Wait>(&mut self, rt: &R, pick: &Select) -> Result<View, OutOfMemory> {
@@ -258,50 +273,5 @@ impl Bench {
         closing.hear_pass(&mut pass);
         closing.hear_cursor(&mut cursor);
         closing.phase()
-    }
-
-    /// Two threads enter changes of one net, so many each, while a third takes the entries. Answers
-    /// how many it took, in order, and how many were entered.
-    pub fn race<R: Threads + Wait + Sync>(
-        self,
-        rt: &R,
-        alloc: Global,
-        net: Prefix,
-        count: u32,
-    ) -> Result<(u64, u32, u32), OutOfMemory>
-        requires { family_of net.addr ≡ Family.V4 }
-    {
-        let Bench {
-            table,
-            first,
-            second,
-            mut cursor,
-            ..
-        } = self;
-        let table = Arc::new(alloc, table)?;
-        let mut left = Source {
-            table: Arc::try_clone(&table)?,
-            port: first,
-            num: 0,
-            net,
-        };
-        let mut right = Source {
-            table,
-            port: second,
-            num: 1,
-            net,
-        };
-        let (taken, made) = thread::join(
-            rt,
-            || take_all(rt, &mut cursor, 2 * u64::from(count)),
-            || {
-                thread::join(
-                    rt,
-                    || enter_all(rt, alloc, &mut left, count),
-                    || enter_all(rt, alloc, &mut right, count),
-                )
-            },
-        );
-        Ok((taken, made.0, made.1))
     }
 }

@@ -7,10 +7,13 @@ mod bench;
 mod opened;
 #[cfg(test)]
 mod phases;
+mod race;
 mod routes;
 mod threads;
 #[cfg(test)]
 mod updates;
 
 pub use bench::{Bench, Refused};
-pub use routes::{change_of, net};
+pub use race::{Race, Raced};
+pub use routes::{change_of, learnt_change, net, numbered_net};
+pub use threads::Reading;

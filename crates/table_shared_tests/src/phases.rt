@@ -1,5 +1,5 @@
 use crate::opened::opened;
-use crate::{Bench, net};
+use crate::{Bench, Race, net};
 use attrs::Select;
 use std::alloc::Global;
 use std::process::Abort;
@@ -18,7 +18,7 @@ fn two_routes<R: Wait + Abort>(rt: &R, bench: &mut Bench, alloc: Global) -> Resu
         Ok(Done::Same { at: 2 })
     );
     assert_eq!(rt; bench.share(rt), 2);
-    assert_eq!(rt; bench.meet()?, 2);
+    assert_eq!(rt; bench.meet(), 2);
     Ok(())
 }
 
@@ -72,15 +72,18 @@ fn a_table_is_fed_in_parts(rt: HostRuntime) -> Result<(), Fail> {
     parts(&rt, &mut bench)
 }
 
-/// Two threads enter 10,000 changes each over 64 cells, and a third takes all 20,000 in order.
+/// Two threads enter 100,000 changes each over 4,096 cells, and two cursors take all 200,000, as
+/// the history has them.
 #[test]
-fn a_cursor_takes_what_two_threads_enter(rt: HostRuntime) -> Result<(), Fail> {
-    let mut bench = opened(&rt, rt.alloc(), 64, 0)?;
-    assert_eq!(rt; bench.start(&rt), Some(0));
-    let ten = net(10)?;
-    assert_eq!(rt;
-        bench.race(&rt, rt.alloc(), ten, 10000)?,
-        (20000, 10000, 10000)
-    );
+fn cursors_take_what_two_threads_enter(rt: HostRuntime) -> Result<(), Fail> {
+    let Some(race) = Race::open(rt.alloc(), 4096)? else {
+        panic!(rt; "a table without its ports or its cursors")
+    };
+    let Some(raced) = race.run(&rt, rt.alloc(), 100_000)? else {
+        panic!(rt; "a table that somebody else has")
+    };
+    assert!(rt; raced.entered == (100_000, 100_000));
+    assert!(rt; raced.history.count == 200_000);
+    assert!(rt; raced.left == raced.history && raced.right == raced.history);
     Ok(())
 }

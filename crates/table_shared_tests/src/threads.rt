@@ -1,37 +1,35 @@
-//! Two threads that enter changes, and one that takes the entries.
+//! Threads that enter changes, and threads that take the entries.
 ghost use Rattle.std.specs.Prelude.{◌≡◌, ◌<◌};
 ghost use Rattle.std.specs.Arc.{arc_value};
-ghost use Rattle.bits_ip.specs.Address.{family_of};
-ghost use Rattle.bits_ip.specs.declared.address.Family.TheVariants.{V4};
 ghost use Rattle.jour.specs.Seats.{journal, number_of};
 ghost use Rattle.table_shared_tests.specs.Changes.{IsOfTwo};
 
 use crate::bench::{Refused, enter};
-use crate::routes::change_of;
-use bits_ip::Prefix;
+use crate::routes::{change_of, numbered_net};
 use jour_rule::buf::Buf;
 use std::alloc::Global;
 use std::sync::{Arc, Wait};
 use std::thread;
 use table_shared::{Done, Port, Table, TableCursor};
 
-/// A port of a table, its source, and the net that it announces.
+/// A port of a table, and its source.
 #[derive(Drop)]
 pub struct Source {
     pub table: Arc<Table, Global>,
     pub port: Port,
     pub num: u32,
-    pub net: Prefix,
     ghost here: { journal port ≡ arc_value table },
     ghost source: { (number_of port.1.role ≡ num) × (num < 2) },
     ghost opening: { IsOfTwo (arc_value table).1.opening },
-    ghost family: { family_of net.addr ≡ V4 },
 }
 
 impl Source {
-    /// Announces the net with this preference.
+    /// Announces one of 1,024 nets with this preference.
     fn announce<R: Wait>(&mut self, rt: &R, alloc: Global, pref: u32) -> Result<Done, Refused> {
-        let Ok(change) = change_of(alloc, &self.net, self.num, pref) else {
+        let Ok(net) = numbered_net(pref % 1024) else {
+            return Err(Refused::Memory);
+        };
+        let Ok(change) = change_of(alloc, &net, self.num, pref) else {
             return Err(Refused::Memory);
         };
         enter(rt, &self.table, &mut self.port, self.num, &change)
@@ -55,12 +53,33 @@ pub fn enter_all<R: Wait>(rt: &R, alloc: Global, source: &mut Source, count: u32
     made
 }
 
-/// Takes so many entries. Answers how many stood at the next position each.
-pub fn take_all<R: Wait>(rt: &R, cursor: &mut TableCursor, count: u64) -> u64 {
+/// What somebody has read: how many entries, and a number that their words come to in this order.
+#[derive(Clone, Copy, Debug, PartialEq, Eq, Drop)]
+pub struct Reading {
+    pub count: u64,
+    pub sum: u64,
+}
+
+impl Reading {
+    pub fn new() -> Reading {
+        Reading { count: 0, sum: 0 }
+    }
+
+    /// Goes on with the words of an entry.
+    pub fn read(&mut self, words: &[u64]) {
+        self.count = self.count.wrapping_add(1);
+        for word in words {
+            self.sum = (self.sum ^ *word).wrapping_mul(0x0000_0100_0000_01b3);
+        }
+    }
+}
+
+/// Takes so many entries, each at the next position.
+pub fn take_all<R: Wait>(rt: &R, cursor: &mut TableCursor, count: u64) -> Reading {
     let mut words = Buf::new();
-    let mut right = 0u64;
+    let mut reading = Reading::new();
     for _ in rt.forever() {
-        if right >= count {
+        if reading.count >= count {
             break;
         }
         let Some(at) = cursor.next(&mut words) else {
@@ -68,9 +87,9 @@ pub fn take_all<R: Wait>(rt: &R, cursor: &mut TableCursor, count: u64) -> u64 {
             continue;
         };
         cursor.advance();
-        if at == right.wrapping_add(1) {
-            right = at;
+        if at == reading.count.wrapping_add(1) {
+            reading.read(words.words());
         }
     }
-    right
+    reading
 }

@@ -1,10 +1,11 @@
 use Rattle.std.proofs.Common.{◌≡◌, List, [], refl, sym, ◌∙◌, subst, arith}
 use Rattle.std.specs.List.{AllByRecursion}
 use Rattle.std.proofs.lemmas.List.{nil_from_length}
-use mathlib.Core.List.{IsPrefix}
 use Rattle.jour_rule.specs.declared.views.Entry.{Entry}
 use Rattle.jour.specs.Seats.{front, journal}
-use Rattle.table_shared.specs.Phases.{Seated}
+use Rattle.jour_rule.specs.declared.views.Terms.{Terms}
+use Rattle.table_shared.specs.Opening.{TableOpening}
+use Rattle.table_shared.specs.Phases.{IsHeard, Seated}
 use Rattle.table_shared.proofs.close.hear_passes.Goals as goal
 
 pub loop-pass-init : goal.loop-pass-init
@@ -13,7 +14,7 @@ loop-pass-init c =
     record {
       same = (refl, refl);
       left = subst (AllByRecursion (λ (x : Seated). journal x ≡ journal c.args.closing.now)) (sym whole) c.requires.here;
-      done = λ h. subst (AllByRecursion (λ (x : Seated). IsPrefix (front x.1) (front c.args.closing.now.1))) whole h;
+      done = λ h. subst (AllByRecursion (λ (x : Seated). IsHeard c.args.closing.now.1.seen.terms (front c.args.closing.now.1) x.1)) whole h;
     }
 
 pub hear_pass-requires : goal.hear_pass-requires
@@ -25,16 +26,16 @@ pub loop-pass-preserved : goal.loop-pass-preserved
 loop-pass-preserved c =
     let i = c.loop-pass.invariant in let r = c.hear_pass.ensures in
     let steps = c.in-Some.ensures.steps.0 in
-    let heard : IsPrefix (front c.in-Some.pass.1) (front c.args.closing.now.1) =
-    subst (λ (l : List Entry). IsPrefix (front c.in-Some.pass.1) l) i.same.1 r.heard in
+    let heard : IsHeard c.args.closing.now.1.seen.terms (front c.args.closing.now.1) c.in-Some.pass.1 =
+    subst (λ (z : Terms TableOpening × List Entry). IsHeard z.0 z.1 c.in-Some.pass.1) (λ k. ((i.same.0 k).1, i.same.1 k)) r.heard in
     record {
       same = (r.same.0 ∙ i.same.0, r.same.1 ∙ i.same.1);
       left = (subst (AllByRecursion (λ (x : Seated). journal x ≡ journal c.args.closing.now)) steps i.left).1;
-      done = λ h. i.done (subst (AllByRecursion (λ (x : Seated). IsPrefix (front x.1) (front c.args.closing.now.1))) (sym steps) (heard, h));
+      done = λ h. i.done (subst (AllByRecursion (λ (x : Seated). IsHeard c.args.closing.now.1.seen.terms (front c.args.closing.now.1) x.1)) (sym steps) (heard, h));
     }
 
 pub returns-clause-heard : goal.returns-clause-heard
 returns-clause-heard c =
     let rest = c.loop-pass.pass-iterator.rest in
     let none : rest.items ≡ [] = nil_from_length rest.items (omega (arith, c.in-None.ensures.steps, rest.ok.0)) in
-    c.loop-pass.invariant.done (subst (AllByRecursion (λ (x : Seated). IsPrefix (front x.1) (front c.args.closing.now.1))) (sym none) tt)
+    c.loop-pass.invariant.done (subst (AllByRecursion (λ (x : Seated). IsHeard c.args.closing.now.1.seen.terms (front c.args.closing.now.1) x.1)) (sym none) tt)

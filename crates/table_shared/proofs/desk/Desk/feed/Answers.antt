@@ -1,8 +1,12 @@
-use Rattle.std.proofs.Common.{◌≡◌, ◌+◌, length, sym, ap, ◌∙◌}
+use Rattle.std.proofs.Common.{◌≡◌, ◌+◌, length, sym, ap, ◌∙◌, subst}
 use Rattle.std.specs.Prelude.{option_copied}
 use Rattle.attrs.specs.Select.{rows_from}
 use Rattle.attrs.specs.Table.{Shows}
+use Rattle.jour_rule.specs.declared.views.Terms.{Terms}
 use Rattle.jour.specs.Seats.{journal}
+use Rattle.rib.specs.Rib.{AreOfFamily}
+use Rattle.table_shared.specs.Opening.{TableOpening}
+use Rattle.table_shared.proofs.Families.{family_part}
 use Rattle.table_shared.proofs.Keeping.{in_seen}
 use Rattle.table_shared.proofs.RowParts.{more_is}
 use Rattle.table_shared.proofs.desk.Desk.feed.Goals as goal
@@ -25,4 +29,6 @@ returns-clause-chunk c =
       rows = c.from_vec.ensures ∙ c.in_ok-rows.ensures.rows;
       ends = c.in_ok-upto.ensures;
       more = more_is c.args.max own c.in_ok-upto.upto c.is_some.result c.is_some.ensures c.in_ok-upto.ensures;
+      family = subst (λ (t : Terms TableOpening). AreOfFamily t.opening.family c.from_vec.result) (sym cursor)
+          (family_part c.args.cursor.now.0.1.seen.terms.opening.family (option_copied c.args.from) c.args.max c.args.self.now.rib.rows c.from_vec.result kept.nets (c.from_vec.ensures ∙ c.in_ok-rows.ensures));
     }
