@@ -37,6 +37,9 @@ pub enum ConfKind {
     /// A BGP protocol doesn't say how MEDs are compared.
     #[error("C11 MedRule")]
     MedRule,
+    /// A pipe joins a table to itself, or two tables that the pipes before it join already.
+    #[error("C12 PipeCycle")]
+    PipeCycle,
     /// A static protocol has two routes of one net.
     #[error("C13 DuplicateStatic")]
     DuplicateStatic,
