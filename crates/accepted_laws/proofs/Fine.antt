@@ -155,4 +155,4 @@ module _ (known : Known) where
       statics_fine p.settings (nil_right _ _ (nil_left _ _ (nil_left _ _ (nil_left _ _ e))))
   written_fine (conf.Bgp p) e = bgps_fine p.settings (nil_right _ _ (nil_left _ _ (nil_left _ _ e)))
   written_fine (conf.Pipe p) e =
-      pipes_fine p.settings (nil_right _ _ (nil_left _ _ (nil_left _ _ e)))
+      pipes_fine p.settings (nil_right _ _ (nil_left _ _ (nil_left _ _ (nil_left _ _ e))))

@@ -151,7 +151,7 @@ module _ (known : Known) (W : Statements → Type 0) (said : Passing → Filter)
       (bgp_said p.settings (nil_right _ _ (nil_left _ _ (nil_left _ _ e))) w)
   body_said (conf.Pipe p) e w =
       pipe_body (last_peer None p.settings) p.settings
-      (pipe_all p.settings (nil_right _ _ (nil_left _ _ (nil_left _ _ e))) w PassAll PassNone
+      (pipe_all p.settings (nil_right _ _ (nil_left _ _ (nil_left _ _ (nil_left _ _ e)))) w PassAll PassNone
       (each PassAll refl tt) (each PassNone refl tt))
   body_said (conf.RouterId a) e w = tt
   body_said conf.Log e w = tt

@@ -111,7 +111,7 @@ pub bgp_declaring : (known : Known) (x : Instance BgpSetting) → rules.refusals
 bgp_declaring known x h = nil_left _ _ (nil_left _ _ (nil_left _ _ h))
 
 pub pipe_declaring : (known : Known) (x : Instance PipeSetting) → rules.refusals known (conf.Pipe x) ≡ [] → p.declaring known x.at x.name (p.pipe_names (p.own_name known p.pipe_stem x.name)) ≡ []
-pipe_declaring known x h = nil_left _ _ (nil_left _ _ (nil_left _ _ h))
+pipe_declaring known x h = nil_left _ _ (nil_left _ _ (nil_left _ _ (nil_left _ _ h)))
 
 has_one : (at : ℕ) (cs : List FamilyChannel) → one_channel at cs ≡ [] → HasOne cs
 has_one at [] h = absurd (omega (arith, ap (λ (l : List Refusal). length l) h))
@@ -129,7 +129,7 @@ lacks_none at None h = absurd (omega (arith, ap (λ (l : List Refusal). length l
 lacks_none at (Some n) h = refl
 
 pub pipe_has_peer : (known : Known) (x : Instance PipeSetting) → rules.refusals known (conf.Pipe x) ≡ [] → HasPeer (p.last_peer None x.settings)
-pipe_has_peer known x h = lacks_none (p.place_of x.at x.name) (p.last_peer None x.settings) (nil_right _ _ (nil_left _ _ h))
+pipe_has_peer known x h = lacks_none (p.place_of x.at x.name) (p.last_peer None x.settings) (nil_right _ _ (nil_left _ _ (nil_left _ _ h)))
 
 -- ---- names and numbers of protocols
 

@@ -1,5 +1,5 @@
 -- Scopes that declare one thing more, or none.
-use Rattle.std.proofs.Common.{◌≡◌, ℕ, ◌≤◌, All, List, [], ◌∷◌, ◌++◌, length, map, Some, None, Result, Ok, Err, refl, sym, ap, subst, ◌∙◌, arith, append-nil, length-append, Vec}
+use Rattle.std.proofs.Common.{◌≡◌, ℕ, ◌≤◌, All, List, [], ◌∷◌, ◌++◌, length, map, Option, Some, None, Result, Ok, Err, refl, sym, ap, subst, ◌∙◌, arith, append-nil, length-append, Vec}
 use Rattle.std.specs.Global.{Global}
 use Rattle.std.specs.Result.{result_ok}
 use Rattle.std.proofs.lemmas.List.{map-append}
@@ -8,7 +8,7 @@ use Rattle.bits_ip.specs.declared.address.Family.{Family}
 use Rattle.conf_lex.specs.declared.named.Name.{Name}
 use Rattle.conf_lex.specs.Names.{name_bytes}
 use Rattle.conf_ast.specs.Configurations as conf
-use Rattle.conf_ast.specs.Configurations.{Routine}
+use Rattle.conf_ast.specs.Configurations.{Instance, PipeSetting, Routine}
 use Rattle.filt_values.specs.declared.fixed.Fixed.{Fixed}
 use Rattle.filt_values.specs.declared.value.Failure.{Failure}
 use Rattle.filt_values.specs.Seen.{val_of_fixed}
@@ -25,9 +25,11 @@ use Rattle.filt_types.specs.Seen.{functions_in, scene_of, signature_of}
 use Rattle.filt_rules.specs.Refused.{signature_in}
 use Rattle.filt_check.proofs.Growing.{constant_declared, function_declared}
 use Rattle.conf_rules.specs.declared.declared.Declared.{Declared}
+use Rattle.conf_rules.specs.declared.joints.Joint.{Joint}
 use Rattle.conf_rules.specs.Known.{Known}
+use Rattle.conf_rules.specs.Protocols.{joint_of, own_name, pipe_names, pipe_stem}
 use Rattle.conf_rules.specs.Seen.{known_of}
-use Rattle.conf_check.specs.Behind.{behind_one, context_in, no_route, with_filter, with_others, with_protocol, with_scene, with_table, with_value}
+use Rattle.conf_check.specs.Behind.{behind_one, context_in, no_route, with_filter, with_others, with_pipe, with_protocol, with_scene, with_table, with_value}
 use Rattle.conf_check.specs.Seen.{AreWithin, Declares, Grows, Joins, Stays, counted, other_names}
 use Rattle.conf_check.proofs.Names.{nothing}
 use Rattle.conf_check.proofs.ConstantValues.{constant_same, given_none, given_some}
@@ -77,15 +79,15 @@ stays_declares text d old new known same s = record {
 
 -- ---- known things
 
-pub known_by : (text : List ℕ) (cs ks : List (List ℕ × Val)) (fs gs : List (List ℕ × Signature)) (os ps : List (List ℕ)) (ts us : List (List ℕ × Family)) (ns ms : List (List ℕ)) (n m : ℕ)
-    → cs ≡ ks → fs ≡ gs → os ≡ ps → ts ≡ us → ns ≡ ms → n ≡ m
-    → ◌≡◌ {A = Known} (record { scene = record { text = text; constants = cs; functions = fs; others = os }; tables = ts; filters = ns; protocols = n }) (record { scene = record { text = text; constants = ks; functions = gs; others = ps }; tables = us; filters = ms; protocols = m })
-known_by text cs ks fs gs os ps ts us ns ms n m a b c d e f = rw (a, b, c, d, e, f) refl
+pub known_by : (text : List ℕ) (cs ks : List (List ℕ × Val)) (fs gs : List (List ℕ × Signature)) (os ps : List (List ℕ)) (ts us : List (List ℕ × Family)) (ns ms : List (List ℕ)) (n m : ℕ) (js is : List Joint)
+    → cs ≡ ks → fs ≡ gs → os ≡ ps → ts ≡ us → ns ≡ ms → n ≡ m → js ≡ is
+    → ◌≡◌ {A = Known} (record { scene = record { text = text; constants = cs; functions = fs; others = os }; tables = ts; filters = ns; protocols = n; pipes = js }) (record { scene = record { text = text; constants = ks; functions = gs; others = ps }; tables = us; filters = ms; protocols = m; pipes = is })
+known_by text cs ks fs gs os ps ts us ns ms n m js is a b c d e f g = rw (a, b, c, d, e, f, g) refl
 
-pub empty_known : (text : List ℕ) (d : Declared) → d.scope.constants.entries ≡ [] → d.scope.functions.entries ≡ [] → d.scope.others.keys ≡ [] → d.tables.entries ≡ [] → d.filters.keys ≡ [] → d.protocols ≡ 0 → known_of text d ≡ nothing text
-empty_known text d a b c e f g = known_by text (constants_in d.scope) [] (functions_in d.scope) [] (other_names d.scope) [] (known_of text d).tables [] (known_of text d).filters [] d.protocols 0
+pub empty_known : (text : List ℕ) (d : Declared) → d.scope.constants.entries ≡ [] → d.scope.functions.entries ≡ [] → d.scope.others.keys ≡ [] → d.tables.entries ≡ [] → d.filters.keys ≡ [] → d.protocols ≡ 0 → d.pipes.items ≡ [] → known_of text d ≡ nothing text
+empty_known text d a b c e f g h = known_by text (constants_in d.scope) [] (functions_in d.scope) [] (other_names d.scope) [] (known_of text d).tables [] (known_of text d).filters [] d.protocols 0 d.pipes.items []
     (ap (λ (l : Constants). map (λ (x : Vec ℕ Global × Fixed). (x.0.items, val_of_fixed x.1)) l) a) (ap (λ (l : Functions). map (λ (x : Vec ℕ Global × TFunction). (x.0.items, signature_of x.1)) l) b) (ap (λ (l : List (Vec ℕ Global)). map (λ (k : Vec ℕ Global). k.items) l) c)
-    (ap (λ (l : List (Vec ℕ Global × Family)). map (λ (x : Vec ℕ Global × Family). (x.0.items, x.1)) l) e) (ap (λ (l : List (Vec ℕ Global)). map (λ (k : Vec ℕ Global). k.items) l) f) g
+    (ap (λ (l : List (Vec ℕ Global × Family)). map (λ (x : Vec ℕ Global × Family). (x.0.items, x.1)) l) e) (ap (λ (l : List (Vec ℕ Global)). map (λ (k : Vec ℕ Global). k.items) l) f) g h
 
 -- ---- one constant more
 
@@ -97,7 +99,7 @@ within_more n m fs le h = λ k d below. omega (arith, le, h k d below)
 
 -- the same declared things over another scope
 abbrev pub over_scope : Declared → Scope → Declared
-over_scope declared after = record { scope = after; tables = declared.tables; filters = declared.filters; protocols = declared.protocols }
+over_scope declared after = record { scope = after; tables = declared.tables; filters = declared.filters; protocols = declared.protocols; pipes = declared.pipes }
 
 module _ (text name : List ℕ) (old : Declared) (after : Scope) (v : Fixed) (joins : Joins name v old.scope.constants.entries after.constants.entries) (same : after.functions.entries ≡ old.scope.functions.entries) where
   constants_more : constant_values after ≡ constant_values old.scope ++ v ∷ []
@@ -123,8 +125,8 @@ module _ (text name : List ℕ) (old : Declared) (after : Scope) (v : Fixed) (jo
       ∙ ap (λ (n : List ℕ). meaning.with_constant (context_of text around old.scope []) n (Ok (val_of_fixed v))) joins.1
 
   constant_known : other_names after ≡ other_names old.scope → known_of text (over_scope old after) ≡ with_scene (known_of text old) (with_value (scene_of text old.scope) name (Ok (val_of_fixed v)))
-  constant_known others = known_by text (constants_in after) (constants_in old.scope ++ (name, val_of_fixed v) ∷ []) (functions_in after) (functions_in old.scope) (other_names after) (other_names old.scope) (known_of text old).tables (known_of text old).tables (known_of text old).filters (known_of text old).filters old.protocols old.protocols
-      shown_more (functions_same (λ (e : Vec ℕ Global × TFunction). (e.0.items, signature_of e.1))) others refl refl refl
+  constant_known others = known_by text (constants_in after) (constants_in old.scope ++ (name, val_of_fixed v) ∷ []) (functions_in after) (functions_in old.scope) (other_names after) (other_names old.scope) (known_of text old).tables (known_of text old).tables (known_of text old).filters (known_of text old).filters old.protocols old.protocols old.pipes.items old.pipes.items
+      shown_more (functions_same (λ (e : Vec ℕ Global × TFunction). (e.0.items, signature_of e.1))) others refl refl refl refl
 
 -- the value of a constant, as the rules see the constants before it
 value_seen : (text : List ℕ) (scope : Scope) (v : conf.Value) (around : Around) → constant (context_of text around scope []) v ≡ constant (context_in (scene_of text scope)) v
@@ -168,8 +170,8 @@ function_declares text old after r f joins same others signature does sees =
     joined_map (λ (e : Vec ℕ Global × TFunction). (e.0.items, signature_of e.1)) bytes f old.scope.functions.entries after.functions.entries joins
     ∙ ap (λ (n : List ℕ). functions_in old.scope ++ (n, signature_of f) ∷ []) joins.1 ∙ ap (λ (x : Signature). functions_in old.scope ++ (bytes, x) ∷ []) signature in
     record {
-      known = known_by text (constants_in after) (constants_in old.scope) (functions_in after) (functions_in old.scope ++ (bytes, signature_in (scene_of text old.scope) r) ∷ []) (other_names after) (other_names old.scope) (known_of text old).tables (known_of text old).tables (known_of text old).filters (known_of text old).filters old.protocols old.protocols
-          (ap (λ (l : Constants). map (λ (e : Vec ℕ Global × Fixed). (e.0.items, val_of_fixed e.1)) l) same) shown others refl refl refl;
+      known = known_by text (constants_in after) (constants_in old.scope) (functions_in after) (functions_in old.scope ++ (bytes, signature_in (scene_of text old.scope) r) ∷ []) (other_names after) (other_names old.scope) (known_of text old).tables (known_of text old).tables (known_of text old).filters (known_of text old).filters old.protocols old.protocols old.pipes.items old.pipes.items
+          (ap (λ (l : Constants). map (λ (e : Vec ℕ Global × Fixed). (e.0.items, val_of_fixed e.1)) l) same) shown others refl refl refl refl;
       grows = record { constants = ([], values ∙ sym (append-nil (constant_values old.scope))); functions = (f ∷ [], trees) };
       sees = λ within around. function_declared text around old.scope after joins.0 f [] same joins.2
           ∙ ap (λ (n : List ℕ). meaning.with_function (context_of text around old.scope []) n (function (tables_of around old.scope) f)) joins.1
@@ -182,24 +184,35 @@ function_declares text old after r f joins same others signature does sees =
 -- ---- tables, filters and protocols
 
 pub scope_known : (text : List ℕ) (old : Declared) (after : Scope) (names : List (List ℕ)) → Stays old.scope after → other_names after ≡ other_names old.scope ++ names → known_of text (over_scope old after) ≡ with_scene (known_of text old) (with_others (scene_of text old.scope) names)
-scope_known text old after names s others = known_by text (constants_in after) (constants_in old.scope) (functions_in after) (functions_in old.scope) (other_names after) (other_names old.scope ++ names) (known_of text old).tables (known_of text old).tables (known_of text old).filters (known_of text old).filters old.protocols old.protocols
-    (ap (λ (l : Constants). map (λ (e : Vec ℕ Global × Fixed). (e.0.items, val_of_fixed e.1)) l) s.constants) (ap (λ (l : Functions). map (λ (e : Vec ℕ Global × TFunction). (e.0.items, signature_of e.1)) l) s.functions) others refl refl refl
+scope_known text old after names s others = known_by text (constants_in after) (constants_in old.scope) (functions_in after) (functions_in old.scope) (other_names after) (other_names old.scope ++ names) (known_of text old).tables (known_of text old).tables (known_of text old).filters (known_of text old).filters old.protocols old.protocols old.pipes.items old.pipes.items
+    (ap (λ (l : Constants). map (λ (e : Vec ℕ Global × Fixed). (e.0.items, val_of_fixed e.1)) l) s.constants) (ap (λ (l : Functions). map (λ (e : Vec ℕ Global × TFunction). (e.0.items, signature_of e.1)) l) s.functions) others refl refl refl refl
 
 pub protocol_declares : (text : List ℕ) (d : conf.Declaration) (old new : Declared) (after : Scope) (names : List (List ℕ)) → behind_one (known_of text old) d ≡ with_protocol (known_of text old) names → ((c : Context) → meaning.behind_one c d ≡ c)
     → Stays old.scope after → other_names after ≡ other_names old.scope ++ names → new.scope ≡ after → known_of text new ≡ counted (known_of text (over_scope old after)) → Declares text d old new
 protocol_declares text d old new after names is same s others scope known =
     stays_declares text d old new (known ∙ ap counted (scope_known text old after names s others) ∙ sym is) same (subst (λ (x : Scope). Stays old.scope x) (sym scope) s)
 
+pub no_joint_known : (text : List ℕ) (declared : Declared) → known_of text declared ≡ with_pipe (known_of text declared) None
+no_joint_known text declared = known_by text _ _ _ _ _ _ _ _ _ _ _ _ declared.pipes.items (declared.pipes.items ++ []) refl refl refl refl refl refl (sym (append-nil declared.pipes.items))
+
+pub pipe_declares : (text : List ℕ) (p : Instance PipeSetting) (old mid new : Declared) (after : Scope) (joint : Option Joint) → joint ≡ joint_of (known_of text old) p.settings
+    → Stays old.scope after → other_names after ≡ other_names old.scope ++ pipe_names (own_name (known_of text old) pipe_stem p.name) → mid.scope ≡ after → known_of text mid ≡ counted (known_of text (over_scope old after)) → new.scope ≡ mid.scope → known_of text new ≡ with_pipe (known_of text mid) joint → Declares text (conf.Pipe p) old new
+pipe_declares text p old mid new after joint is s others scope known scopes knowns =
+    let names = pipe_names (own_name (known_of text old) pipe_stem p.name) in
+    stays_declares text (conf.Pipe p) old new
+    (knowns ∙ ap (λ (k : Known). with_pipe k joint) (known ∙ ap counted (scope_known text old after names s others)) ∙ ap (λ (j : Option Joint). with_pipe (with_protocol (known_of text old) names) j) is)
+    (λ x. refl) (subst (λ (x : Scope). Stays old.scope x) (sym (scopes ∙ scope)) s)
+
 pub table_known : (text : List ℕ) (old : Declared) (after : Scope) (name : List ℕ) (family : Family) (news : List (Vec ℕ Global × Family)) → Stays old.scope after → other_names after ≡ other_names old.scope ++ name ∷ [] → Joins name family old.tables.entries news
-    → ◌≡◌ {A = Known} (record { scene = scene_of text after; tables = map (λ (e : Vec ℕ Global × Family). (e.0.items, e.1)) news; filters = (known_of text old).filters; protocols = old.protocols }) (with_table (known_of text old) name family)
-table_known text old after name family news s others joins = known_by text (constants_in after) (constants_in old.scope) (functions_in after) (functions_in old.scope) (other_names after) (other_names old.scope ++ name ∷ []) (map (λ (e : Vec ℕ Global × Family). (e.0.items, e.1)) news) ((known_of text old).tables ++ (name, family) ∷ []) (known_of text old).filters (known_of text old).filters old.protocols old.protocols
+    → ◌≡◌ {A = Known} (record { scene = scene_of text after; tables = map (λ (e : Vec ℕ Global × Family). (e.0.items, e.1)) news; filters = (known_of text old).filters; protocols = old.protocols; pipes = old.pipes.items }) (with_table (known_of text old) name family)
+table_known text old after name family news s others joins = known_by text (constants_in after) (constants_in old.scope) (functions_in after) (functions_in old.scope) (other_names after) (other_names old.scope ++ name ∷ []) (map (λ (e : Vec ℕ Global × Family). (e.0.items, e.1)) news) ((known_of text old).tables ++ (name, family) ∷ []) (known_of text old).filters (known_of text old).filters old.protocols old.protocols old.pipes.items old.pipes.items
     (ap (λ (l : Constants). map (λ (e : Vec ℕ Global × Fixed). (e.0.items, val_of_fixed e.1)) l) s.constants) (ap (λ (l : Functions). map (λ (e : Vec ℕ Global × TFunction). (e.0.items, signature_of e.1)) l) s.functions) others
-    (joined_map (λ (e : Vec ℕ Global × Family). (e.0.items, e.1)) name family old.tables.entries news joins ∙ ap (λ (n : List ℕ). (known_of text old).tables ++ (n, family) ∷ []) joins.1) refl refl
+    (joined_map (λ (e : Vec ℕ Global × Family). (e.0.items, e.1)) name family old.tables.entries news joins ∙ ap (λ (n : List ℕ). (known_of text old).tables ++ (n, family) ∷ []) joins.1) refl refl refl
 
 pub filter_known : (text : List ℕ) (old : Declared) (after : Scope) (name : List ℕ) (news : List (Vec ℕ Global)) → Stays old.scope after → other_names after ≡ other_names old.scope ++ name ∷ [] → map (λ (k : Vec ℕ Global). k.items) news ≡ (known_of text old).filters ++ name ∷ []
-    → ◌≡◌ {A = Known} (record { scene = scene_of text after; tables = (known_of text old).tables; filters = map (λ (k : Vec ℕ Global). k.items) news; protocols = old.protocols }) (with_filter (known_of text old) name)
-filter_known text old after name news s others filters = known_by text (constants_in after) (constants_in old.scope) (functions_in after) (functions_in old.scope) (other_names after) (other_names old.scope ++ name ∷ []) (known_of text old).tables (known_of text old).tables (map (λ (k : Vec ℕ Global). k.items) news) ((known_of text old).filters ++ name ∷ []) old.protocols old.protocols
-    (ap (λ (l : Constants). map (λ (e : Vec ℕ Global × Fixed). (e.0.items, val_of_fixed e.1)) l) s.constants) (ap (λ (l : Functions). map (λ (e : Vec ℕ Global × TFunction). (e.0.items, signature_of e.1)) l) s.functions) others refl filters refl
+    → ◌≡◌ {A = Known} (record { scene = scene_of text after; tables = (known_of text old).tables; filters = map (λ (k : Vec ℕ Global). k.items) news; protocols = old.protocols; pipes = old.pipes.items }) (with_filter (known_of text old) name)
+filter_known text old after name news s others filters = known_by text (constants_in after) (constants_in old.scope) (functions_in after) (functions_in old.scope) (other_names after) (other_names old.scope ++ name ∷ []) (known_of text old).tables (known_of text old).tables (map (λ (k : Vec ℕ Global). k.items) news) ((known_of text old).filters ++ name ∷ []) old.protocols old.protocols old.pipes.items old.pipes.items
+    (ap (λ (l : Constants). map (λ (e : Vec ℕ Global × Fixed). (e.0.items, val_of_fixed e.1)) l) s.constants) (ap (λ (l : Functions). map (λ (e : Vec ℕ Global × TFunction). (e.0.items, signature_of e.1)) l) s.functions) others refl filters refl refl
 
 pub stays_twice : (scope between after : Scope) → Stays scope between → Stays between after → Stays scope after
 stays_twice scope between after a b = record { constants = b.constants ∙ a.constants; functions = b.functions ∙ a.functions }

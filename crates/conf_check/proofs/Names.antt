@@ -1,10 +1,11 @@
 -- Names that are declared, and one more.
-use Rattle.std.proofs.Common.{◌≡◌, ℕ, suc, ◌+◌, ◌≤◌, Bool, true, false, cond, ◌||◌, ◌&&◌, not, nat_eq, nat_lt, if◌then◌else◌, List, [], ◌∷◌, ◌++◌, length, map, Option, Some, None, option_map, is_some, position, refl, sym, ap, ◌∙◌, arith, true≢false, Result, Ok, Err, Vec, codes}
+use Rattle.std.proofs.Common.{◌≡◌, ℕ, suc, ◌+◌, ◌≤◌, Bool, true, false, cond, ◌||◌, ◌&&◌, not, nat_eq, nat_lt, if◌then◌else◌, List, [], ◌∷◌, ◌++◌, length, map, append-nil, subst, All, Option, Some, None, option_map, is_some, position, refl, sym, ap, ◌∙◌, arith, true≢false, Result, Ok, Err, Vec, codes}
 use Rattle.std.specs.Cmp.Lexicographic.{pointwise}
 use Rattle.std.specs.Global.{Global}
 use Rattle.std.specs.List.{list_any, position_or_len}
 use Rattle.std.specs.Map.{keys_of, lookup}
-use Rattle.std.proofs.lemmas.List.{map-append}
+use Rattle.std.proofs.lemmas.List.{length-append, map-append}
+use Rattle.std.proofs.lemmas.List.Elements.{All-push}
 use Rattle.std.proofs.lemmas.Option.{none-some, same_Some}
 use Rattle.std.proofs.lemmas.Bool.{ltb-false}
 use Rattle.indexmap.specs.IndexMap.{insert_entry}
@@ -18,13 +19,14 @@ use Rattle.filt_values.specs.Values.{Val}
 use Rattle.filt_meaning.specs.Configuration.{constant}
 use Rattle.filt_meaning.specs.Names.{named_in, same_name}
 use Rattle.filt_types.specs.Scenes.{is_declared}
-use Rattle.filt_check.proofs.Lookups.{mapped_length}
 use Rattle.filt_types.proofs.Lookups.{is_among, is_looked_up, looked_up, same_flip}
-use Rattle.conf_rules.specs.Known.{Known}
-use Rattle.conf_rules.specs.Protocols.{bgp_stem, own_name, pipe_names, pipe_stem, static_stem}
+use Rattle.conf_rules.specs.declared.joints.Joint.{Joint}
+use Rattle.conf_rules.specs.Joints.{IsWithin}
+use Rattle.conf_rules.specs.Known.{ArePipesThere, Known}
+use Rattle.conf_rules.specs.Protocols.{bgp_stem, joint_of, own_name, pipe_names, pipe_stem, static_stem}
 use Rattle.conf_rules.specs.Statements.{is_master, master}
-use Rattle.conf_check.specs.Behind.{at_start, behind, behind_one, context_in, with_filter, with_protocol, with_scene, with_table, with_value}
-use Rattle.conf_check.specs.Checked.{place_in}
+use Rattle.conf_rules.proofs.Places.{Key, is_key, joint_within}
+use Rattle.conf_check.specs.Behind.{at_start, behind, behind_one, context_in, with_filter, with_pipe, with_protocol, with_scene, with_table, with_value}
 use Rattle.conf_check.specs.Seen.{AreNamed, Joins}
 
 -- ---- truth
@@ -97,12 +99,54 @@ named_from : (known : Known) (ds : List conf.Declaration) → AreNamed known →
 named_from known [] h = h
 named_from known (d ∷ ds) h = named_from (behind_one known d) ds (named_one known d h)
 
+-- ---- the tables of pipes are there
+
+there_if : (b : Bool) (x y : Known) → ArePipesThere x → ArePipesThere y → ArePipesThere (if b then x else y)
+there_if true x y h k = h
+there_if false x y h k = k
+
+there_value : (known : Known) (name : List ℕ) (r : Result Val Failure) → ArePipesThere known → ArePipesThere (with_scene known (with_value known.scene name r))
+there_value known name (Ok v) h = h
+there_value known name (Err failure) h = h
+
+there_table : (known : Known) (n : List ℕ) (f : Family) → ArePipesThere known → ArePipesThere (with_table known n f)
+there_table known n f h k d lt =
+    let within = h k d lt in
+    let more = length-append known.tables ((n, f) ∷ []) in
+    (omega (arith, within.0, more), omega (arith, within.1, more))
+
+there_pipe : (known : Known) (names : List (List ℕ)) (o : Option Joint) → ((j : Joint) → o ≡ Some j → IsWithin (length known.tables) j) → ArePipesThere known → ArePipesThere (with_pipe (with_protocol known names) o)
+there_pipe known names None within h = subst (λ (l : List Joint). All (IsWithin (length known.tables)) l) (sym (append-nil known.pipes)) h
+there_pipe known names (Some j) within h = All-push (IsWithin (length known.tables)) known.pipes j h (within j refl)
+
+there_one : (known : Known) (d : conf.Declaration) → ArePipesThere known → ArePipesThere (behind_one known d)
+there_one known (conf.RouterId a) h = h
+there_one known conf.Log h = h
+there_one known (conf.Define name v) h = there_value known (name_bytes known.scene.text name) (constant (context_in known.scene) v) h
+there_one known (conf.Table at family name) h = there_if (is_master known family name) known (with_table known (name_bytes known.scene.text name) family) h (there_table known (name_bytes known.scene.text name) family h)
+there_one known (conf.DefineFunction f) h = h
+there_one known (conf.DefineFilter at name ss) h = h
+there_one known (conf.Device name semicolon) h = h
+there_one known (conf.Static p) h = h
+there_one known (conf.Bgp p) h = h
+there_one known (conf.Pipe p) h = there_pipe known (pipe_names (own_name known pipe_stem p.name)) (joint_of known p.settings) (λ j is. joint_within known p.settings j is) h
+
+there_from : (known : Known) (ds : List conf.Declaration) → ArePipesThere known → ArePipesThere (behind known ds)
+there_from known [] h = h
+there_from known (d ∷ ds) h = there_from (behind_one known d) ds (there_one known d h)
+
+pub there_behind : (text : List ℕ) (ds : List conf.Declaration) → ArePipesThere (behind (at_start text) ds)
+there_behind text ds = there_from (at_start text) ds (λ k d lt. absurd (omega (arith, lt)))
+
+-- ---- the beginning
+
 abbrev pub nothing : List ℕ → Known
 nothing text = record {
   scene = record { text = text; constants = []; functions = []; others = [] };
   tables = [];
   filters = [];
   protocols = 0;
+  pipes = [];
 }
 
 pub named_nothing : (known : Known) → known.tables ≡ [] → known.filters ≡ [] → AreNamed known
@@ -113,67 +157,6 @@ named_start text = named_table (with_table (nothing text) (master families.V4) f
 
 pub named_behind : (text : List ℕ) (ds : List conf.Declaration) → AreNamed (behind (at_start text) ds)
 named_behind text ds = named_from (at_start text) ds (named_start text)
-
--- ---- numbers of names
-
-abbrev pub Key : Type 0
-Key = Vec ℕ Global
-
-abbrev pub is_key : List ℕ → Key → Bool
-is_key name k = pointwise nat_eq name k.items
-
-next_place : (b : Bool) (n m : ℕ) → n ≡ m → (if b then 0 else suc n) ≡ cond (not b) (1 + m) 0
-next_place true n m is = refl
-next_place false n m is = omega (arith, is)
-
-place_found : (name : List ℕ) (ks : List Key) → place_in (map (λ (k : Key). k.items) ks) name ≡ position_or_len (is_key name) ks
-place_found name [] = refl
-place_found name (k ∷ ks) = ap (λ (b : Bool). if b then 0 else suc (place_in (map (λ (k : Key). k.items) ks) name)) (same_flip k.items name)
-    ∙ next_place (same_name name k.items) (place_in (map (λ (k : Key). k.items) ks) name) (position_or_len (is_key name) ks) (place_found name ks)
-
-at_most : (b : Bool) (n m : ℕ) → n ≤ m → (if b then 0 else suc n) ≤ suc m
-at_most true n m le = omega arith
-at_most false n m le = omega (arith, le)
-
-place_within : (name : List ℕ) (ns : List (List ℕ)) → place_in ns name ≤ length ns
-place_within name [] = omega arith
-place_within name (n ∷ ns) = at_most (same_name n name) (place_in ns name) (length ns) (place_within name ns)
-
-taken : (p n m : ℕ) → Some n ≡ cond (nat_lt p m) (Some p) None → n ≡ p
-taken p n m is = by (nat_lt p m) is
-  where
-    by : (b : Bool) → Some n ≡ cond b (Some p) None → n ≡ p
-    by true h = same_Some n p h
-    by false h = absurd (none-some n (sym h))
-
-not_taken : (p m : ℕ) → None ≡ cond (nat_lt p m) (Some p) None → p ≤ m → m ≡ p
-not_taken p m is le = by (nat_lt p m) refl is
-  where
-    by : (b : Bool) → nat_lt p m ≡ b → None ≡ cond b (Some p) None → m ≡ p
-    by true lt h = absurd (none-some p h)
-    by false lt h = omega (arith, le, ltb-false p m lt)
-
-pub place_is : (name : List ℕ) (ks : List Key) (n : ℕ) → Some n ≡ position (is_key name) ks → n ≡ place_in (map (λ (k : Key). k.items) ks) name
-place_is name ks n is = taken (position_or_len (is_key name) ks) n (length ks) is ∙ sym (place_found name ks)
-
-pub place_none : (name : List ℕ) (ks : List Key) → None ≡ position (is_key name) ks → length ks ≡ place_in (map (λ (k : Key). k.items) ks) name
-place_none name ks is =
-    not_taken (position_or_len (is_key name) ks) (length ks) is (omega (arith, place_found name ks, place_within name (map (λ (k : Key). k.items) ks), mapped_length (λ (k : Key). k.items) ks))
-    ∙ sym (place_found name ks)
-
-fst_mapped : {X : Type 0} (es : List (Key × X)) → map (λ (t : List ℕ × X). t.0) (map (λ (e : Key × X). (e.0.items, e.1)) es) ≡ map (λ (k : Key). k.items) (keys_of es)
-fst_mapped [] = refl
-fst_mapped (e ∷ es) = ap (λ (l : List (List ℕ)). e.0.items ∷ l) (fst_mapped es)
-
-pub entry_is : {X : Type 0} (name : List ℕ) (es : List (Key × X)) (n : ℕ) → Some n ≡ position (is_key name) (keys_of es) → n ≡ place_in (map (λ (t : List ℕ × X). t.0) (map (λ (e : Key × X). (e.0.items, e.1)) es)) name
-entry_is name es n is = place_is name (keys_of es) n is ∙ ap (λ (ns : List (List ℕ)). place_in ns name) (sym (fst_mapped es))
-
-keys_length : {X : Type 0} (es : List (Key × X)) → length (keys_of es) ≡ length es
-keys_length [] = refl
-keys_length (e ∷ es) = ap suc (keys_length es)
-
-pub entry_none : {X : Type 0} (name : List ℕ) (es : List (Key × X)) (n : ℕ) → None ≡ position (is_key name) (keys_of es) → n ≡ length es → n ≡ place_in (map (λ (t : List ℕ × X). t.0) (map (λ (e : Key × X). (e.0.items, e.1)) es)) name
-entry_none name es n is all = all ∙ sym (keys_length es) ∙ place_none name (keys_of es) is ∙ ap (λ (ns : List (List ℕ)). place_in ns name) (sym (fst_mapped es))
 
 -- ---- what isn't there
 

@@ -1,8 +1,8 @@
 -- What a configuration declares behind its statements, one after another (`at_start`, `behind`).
 -- From: BIRD User's Guide, "Configuration".
 -- Example: a constant is seen behind its own statement; a pipe `p` declares `p`, `p.export` and
--- `p.import`.
-use Rattle.std.specs.Prelude.{ℕ, ◌+◌, if◌then◌else◌, List, [], ◌∷◌, ◌++◌, Result, Ok, Err}
+-- `p.import`, and its tables are joined from there on.
+use Rattle.std.specs.Prelude.{ℕ, ◌+◌, if◌then◌else◌, List, [], ◌∷◌, ◌++◌, Option, option_to_list, Result, Ok, Err}
 use Rattle.bits_ip.specs.declared.address.Addr.TheVariants as addrs
 use Rattle.bits_ip.specs.declared.address.Family.{Family}
 use Rattle.bits_ip.specs.declared.address.Family.TheVariants as families
@@ -14,8 +14,9 @@ use Rattle.filt_meaning.specs.Configuration.{constant}
 use Rattle.filt_meaning.specs.Names.{Around, Context}
 use Rattle.filt_types.specs.Scenes.{Scene, Signature}
 use Rattle.filt_rules.specs.Refused.{signature_in}
+use Rattle.conf_rules.specs.declared.joints.Joint.{Joint}
 use Rattle.conf_rules.specs.Known.{Known}
-use Rattle.conf_rules.specs.Protocols.{bgp_stem, own_name, pipe_names, pipe_stem, static_stem}
+use Rattle.conf_rules.specs.Protocols.{bgp_stem, joint_of, own_name, pipe_names, pipe_stem, static_stem}
 use Rattle.conf_rules.specs.Statements.{is_master, master}
 
 -- ---- what is there from the start
@@ -31,6 +32,7 @@ at_start text = record {
   tables = (master families.V4, families.V4) ∷ (master families.V6, families.V6) ∷ [];
   filters = [];
   protocols = 0;
+  pipes = [];
 }
 
 -- ---- one thing more
@@ -41,6 +43,7 @@ with_scene known scene = record {
   tables = known.tables;
   filters = known.filters;
   protocols = known.protocols;
+  pipes = known.pipes;
 }
 
 -- The value of a constant rests on the source and the constants before it alone: it is the one that
@@ -93,6 +96,7 @@ with_table known name family = record {
   tables = known.tables ++ (name, family) ∷ [];
   filters = known.filters;
   protocols = known.protocols;
+  pipes = known.pipes;
 }
 
 abbrev pub with_filter : Known → List ℕ → Known
@@ -101,6 +105,7 @@ with_filter known name = record {
   tables = known.tables;
   filters = known.filters ++ name ∷ [];
   protocols = known.protocols;
+  pipes = known.pipes;
 }
 
 -- a protocol that declares these names
@@ -110,6 +115,17 @@ with_protocol known names = record {
   tables = known.tables;
   filters = known.filters;
   protocols = known.protocols + 1;
+  pipes = known.pipes;
+}
+
+-- a pipe that joins these tables, where both are there
+abbrev pub with_pipe : Known → Option Joint → Known
+with_pipe known joint = record {
+  scene = known.scene;
+  tables = known.tables;
+  filters = known.filters;
+  protocols = known.protocols;
+  pipes = known.pipes ++ option_to_list joint;
 }
 
 -- ---- statements
@@ -133,7 +149,8 @@ behind_one known (conf.Device name semicolon) = known
 behind_one known (conf.Static p) = with_protocol known (own_name known static_stem p.name ∷ [])
 behind_one known (conf.Bgp p) = with_protocol known (own_name known bgp_stem p.name ∷ [])
 behind_one known (conf.Pipe p) =
-    with_protocol known (pipe_names (own_name known pipe_stem p.name))
+    with_pipe (with_protocol known (pipe_names (own_name known pipe_stem p.name)))
+    (joint_of known p.settings)
 
 -- what is declared behind these statements
 abbrev pub behind : Known → List conf.Declaration → Known

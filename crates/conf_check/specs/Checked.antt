@@ -4,11 +4,12 @@
 -- From: BIRD User's Guide, "Channel options", "BGP", "Static", "Pipe"; some defaults are own.
 -- Example: where nothing is written: `import all`, `export none`, `master4` or `master6`,
 -- preference 200 and 100, limits that disable, MED 0, local preference 100.
-use Rattle.std.specs.Prelude.{◌≡◌, ℕ, suc, Bool, true, false, if◌then◌else◌, List, [], ◌∷◌, ◌++◌, map, Option, Some, None, ⊤, codes}
+use Rattle.std.specs.Prelude.{◌≡◌, ℕ, Bool, true, false, List, [], ◌∷◌, ◌++◌, map, Option, Some, None, ⊤}
 use Rattle.attrs.specs.declared.attributes.Attrs.{Attrs}
 use Rattle.bits_ip.specs.declared.address.Addr.{Addr}
 use Rattle.bits_ip.specs.declared.address.Addr.TheVariants as addrs
 use Rattle.bits_ip.specs.declared.address.Family.{Family}
+use Rattle.bits_ip.specs.declared.address.Family.TheVariants as families
 use Rattle.conf_lex.specs.declared.named.Name.{Name}
 use Rattle.conf_lex.specs.Names.{name_bytes}
 use Rattle.conf_ast.specs.declared.configurations.Action.{Action}
@@ -23,15 +24,15 @@ use Rattle.conf_ast.specs.Configurations.{Passing, PassAll, PassNone, PassByFilt
 use Rattle.conf_ast.specs.Filters.{Statements}
 use Rattle.filt_meaning.specs.Configuration as meaning
 use Rattle.filt_meaning.specs.Configuration.{filter_where}
-use Rattle.filt_meaning.specs.Names.{Around, same_name}
+use Rattle.filt_meaning.specs.Names.{Around}
 use Rattle.filt_tree.specs.declared.scope.Scope.{Scope}
 use Rattle.filt_tree.specs.declared.tree.TFilter.{TFilter}
 use Rattle.filt_tree.specs.Scopes.{constant_values, context_of, function_trees}
 use Rattle.filt_tree.specs.Trees as trees
 use Rattle.conf_rules.specs.Channels.{last_table, settings_of}
-use Rattle.conf_rules.specs.Known.{Known, number_of}
+use Rattle.conf_rules.specs.Known.{Known, number_of, place_in, table_number, table_of}
 use Rattle.conf_rules.specs.Protocols as rules
-use Rattle.conf_rules.specs.Protocols.{as_number, bgp_channels, bgp_stem, is_on, last_local, own_name, pipe_stem, static_channels, static_routes, static_stem}
+use Rattle.conf_rules.specs.Protocols.{as_number, bgp_channels, bgp_stem, is_on, last_local, own_name, pipe_stem, primary_name, static_channels, static_routes, static_stem}
 use Rattle.conf_rules.specs.Statements.{master}
 use Rattle.conf_rules.specs.Seen.{known_of}
 use Rattle.conf_check.specs.declared.checked.BgpDef.{BgpDef}
@@ -50,16 +51,7 @@ use Rattle.conf_check.specs.declared.checked.StaticTarget.{StaticTarget}
 use Rattle.conf_check.specs.declared.checked.StaticTarget.TheVariants as static_targets
 use Rattle.conf_check.specs.Behind.{at_start, behind}
 
--- ---- numbers of names
-
--- the place of a name in a list, behind the last one where it isn't there
-abbrev pub place_in : List (List ℕ) → List ℕ → ℕ
-place_in [] name = 0
-place_in (n ∷ ns) name = if same_name n name then 0 else suc (place_in ns name)
-
--- the number of the table of that name
-abbrev pub table_number : Known → List ℕ → ℕ
-table_number known name = place_in (map (λ t. t.0) known.tables) name
+-- ---- what is written
 
 -- the number of the filter of that name
 abbrev pub filter_number : Known → Name → ℕ
@@ -69,6 +61,11 @@ filter_number known n = place_in known.filters (name_bytes known.scene.text n)
 abbrev pub or_zero : Option ℕ → ℕ
 or_zero None = 0
 or_zero (Some n) = n
+
+-- a family that is known, else that of IPv4; in what is accepted it is known
+abbrev pub or_v4 : Option Family → Family
+or_v4 None = families.V4
+or_v4 (Some family) = family
 
 -- ---- filters
 
@@ -245,20 +242,18 @@ last_pipe_export found [] = found
 last_pipe_export found (PipeExport p ∷ more) = last_pipe_export p more
 last_pipe_export found (s ∷ more) = last_pipe_export found more
 
--- The primary table is master4 where none is named.
-abbrev pub primary_name : List ℕ → Option Name → List ℕ
-primary_name text None = codes "master4"
-primary_name text (Some n) = name_bytes text n
-
-abbrev pub IsPeer : Known → Option Name → ℕ → Type 0
-IsPeer known None n = ⊥
-IsPeer known (Some name) n = n ≡ table_number known (name_bytes known.scene.text name)
+-- A pipe's peer table and its family, which both of its tables have.
+abbrev pub IsPeer : Known → Option Name → PipeDef → Type 0
+IsPeer known None def = ⊥
+IsPeer known (Some name) def =
+    (def.peer ≡ table_number known (name_bytes known.scene.text name))
+    × (def.family ≡ or_v4 (table_of known name))
 
 pub record IsPipe (known : Known) (does : Statements → TFilter → Type 0)
     (p : Instance PipeSetting) (def : PipeDef) : Type 0 where
   pub table : def.table
       ≡ table_number known (primary_name known.scene.text (rules.last_table None p.settings))
-  pub peer : IsPeer known (rules.last_peer None p.settings) def.peer
+  pub peer : IsPeer known (rules.last_peer None p.settings) def
   pub imports : IsPolicy known does (last_pipe_import PassAll p.settings) def.import
   pub exports : IsPolicy known does (last_pipe_export PassNone p.settings) def.export
 

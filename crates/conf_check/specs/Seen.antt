@@ -93,6 +93,7 @@ counted known = record {
   tables = known.tables;
   filters = known.filters;
   protocols = known.protocols + 1;
+  pipes = known.pipes;
 }
 
 -- what a statement declares

@@ -12,12 +12,12 @@ ghost use Rattle.conf_check.specs.Checked.{IsChannel};
 ghost use Rattle.conf_check.specs.Seen.{Means, passing_or};
 
 use crate::checked::{ChannelDef, ImportLimit};
-use crate::policy::{export_policy, import_policy, table_number};
+use crate::policy::{export_policy, import_policy};
 use bits_ip::{Family, OutOfMemory};
 use conf_ast::configurations::{Action, Channel, ChannelOption, Limit, Policy};
 use conf_ast::filters::Num;
 use conf_lex::Name;
-use conf_rules::{Declared, last_table, number_of};
+use conf_rules::{Declared, last_table, number_of, table_number};
 use std::alloc::Global;
 
 /// What stands between the braces; nothing where there are none.
@@ -183,7 +183,7 @@ pub(crate) fn master(family: Family) -> &'static [u8]
 }
 
 fn table_of(text: &[u8], declared: &Declared, family: Family, name: Option<Name>) -> usize
-    ensures { result ≡ of.table_number (known_of text.now declared.now)
+    ensures { result ≡ rules.table_number (known_of text.now declared.now)
         (of.table_name text.now family name) }
 {
     match name {

@@ -11,7 +11,7 @@ use conf_rules::first_in_statement;
 use std::alloc::Global;
 
 /// What a configuration comes to, or the first by place of what is refused in it, at one place the
-/// first by its number. Pipes may form a cycle. BIRD User's Guide, "Configuration".
+/// first by its number. BIRD User's Guide, "Configuration".
 pub fn check_config(alloc: Global, config: &Config<'_>) -> Result<Checked, ConfFault>
     ensures answer { MatchResult result
         (λ _. refusal_of (at_start config.now.text.now)

@@ -79,6 +79,8 @@ pub struct StaticDef {
 /// A pipe: the numbers of its primary table and of its peer table (BIRD User's Guide, "Pipe").
 #[derive(Drop)]
 pub struct PipeDef {
+    /// That of both tables.
+    pub family: Family,
     pub table: usize,
     pub peer: usize,
     pub import: PolicyDef,

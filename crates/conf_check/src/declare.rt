@@ -10,11 +10,11 @@ ghost use Rattle.filt_types.specs.Seen.{functions_in};
 ghost use Rattle.conf_rules.specs.Known.{is_declared};
 ghost use Rattle.conf_rules.specs.Protocols.{pipe_names};
 ghost use Rattle.conf_rules.specs.Seen.{known_of};
-ghost use Rattle.conf_check.specs.Behind.{at_start, with_filter, with_table};
+ghost use Rattle.conf_check.specs.Behind.{at_start, with_filter, with_pipe, with_table};
 ghost use Rattle.conf_check.specs.Seen.{AreNamed, Joins, Stays, other_names};
 
 use bits_ip::{Family, OutOfMemory};
-use conf_rules::Declared;
+use conf_rules::{Declared, Joint};
 use filt_tree::{Scope, TFunction};
 use filt_values::Fixed;
 use indexmap::{IndexMap, IndexSet};
@@ -135,6 +135,24 @@ pub(crate) fn declare_pipe(alloc: Global, scope: &mut Scope, name: &[u8]) -> Res
     declare(alloc, scope, &import)
 }
 
+/// A pipe that joins these tables, where both are declared.
+pub(crate) fn declare_joint(
+    declared: &mut Declared,
+    joint: Option<Joint>,
+) -> Result<(), OutOfMemory>
+    ensures known { OnOk result ((text : List ℕ) → known_of text declared.new
+        ≡ with_pipe (known_of text declared.old) joint) }
+    ensures scope { OnOk result (declared.new.scope ≡ declared.old.scope) }
+{
+    match joint {
+        None => Ok(()),
+        Some(joint) => {
+            declared.pipes.push(joint)?;
+            Ok(())
+        }
+    }
+}
+
 // ---- the beginning
 
 fn nothing(alloc: Global) -> Declared
@@ -144,6 +162,7 @@ fn nothing(alloc: Global) -> Declared
     ensures tables { result.tables.entries ≡ [] }
     ensures filters { result.filters.keys ≡ [] }
     ensures protocols { result.protocols ≡ 0 }
+    ensures pipes { result.pipes.items ≡ [] }
 {
     let scope = Scope {
         constants: IndexMap::new(alloc),
@@ -155,6 +174,7 @@ fn nothing(alloc: Global) -> Declared
         tables: IndexMap::new(alloc),
         filters: IndexSet::new(alloc),
         protocols: 0,
+        pipes: Vec::new(alloc),
     }
 }
 

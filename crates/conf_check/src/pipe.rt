@@ -1,19 +1,20 @@
 //! Pipes. Of options written twice the last counts.
 
-ghost use Rattle.std.specs.Prelude.{◌≡◌, ℕ, ◌∷◌, [], IfOk, List, None, map, option_copied};
+ghost use Rattle.std.specs.Prelude.{◌≡◌, ◌∷◌, [], IfOk, None, Some, map, option_copied};
 ghost use Rattle.conf_ast.specs.Configurations.{PassAll, PassNone, instance_of, pipe_setting_of};
+ghost use Rattle.conf_rules.specs.Known as known;
 ghost use Rattle.conf_rules.specs.Protocols as rules;
 ghost use Rattle.conf_rules.specs.Seen.{known_of};
 ghost use Rattle.conf_check.specs.Checked as of;
-ghost use Rattle.conf_check.specs.Checked.{IsPeer, IsPipe};
+ghost use Rattle.conf_check.specs.Checked.{IsPipe};
 ghost use Rattle.conf_check.specs.Seen.{HasPeer, Means, passing_or};
 
 use crate::checked::PipeDef;
-use crate::policy::{export_policy, import_policy, table_number};
-use bits_ip::OutOfMemory;
+use crate::policy::{export_policy, import_policy};
+use bits_ip::{Family, OutOfMemory};
 use conf_ast::configurations::{PipeOption, Policy, Protocol};
 use conf_lex::Name;
-use conf_rules::{Declared, last_peer, last_pipe_table};
+use conf_rules::{Declared, last_peer, last_pipe_table, table_number, table_of};
 use std::alloc::Global;
 
 fn import_in<'a>(found: Option<&'a Policy>, option: &'a PipeOption) -> Option<&'a Policy>
@@ -66,8 +67,8 @@ fn last_export(options: &[PipeOption]) -> Option<&Policy>
 
 /// The number of the primary table.
 fn primary(text: &[u8], declared: &Declared, name: Option<Name>) -> usize
-    ensures { result ≡ of.table_number (known_of text.now declared.now)
-        (of.primary_name text.now name) }
+    ensures { result ≡ known.table_number (known_of text.now declared.now)
+        (rules.primary_name text.now name) }
 {
     match name {
         None => table_number(declared, b"master4"),
@@ -75,14 +76,24 @@ fn primary(text: &[u8], declared: &Declared, name: Option<Name>) -> usize
     }
 }
 
-/// The number of the peer table.
-fn peer(text: &[u8], declared: &Declared, name: Option<Name>) -> usize
+/// The peer table's name.
+fn peer_name(name: Option<Name>) -> Name
     requires { HasPeer name }
-    ensures { IsPeer (known_of text.now declared.now) name result }
+    ensures { name ≡ Some result }
 {
     match name {
         None => unreachable!(),
-        Some(name) => table_number(declared, name.bytes(text)),
+        Some(name) => name,
+    }
+}
+
+/// A family that is known. In what is accepted it is.
+fn known_family(family: Option<Family>) -> Family
+    ensures { result ≡ of.or_v4 family }
+{
+    match family {
+        None => Family::V4,
+        Some(family) => family,
     }
 }
 
@@ -99,9 +110,11 @@ pub(crate) fn pipe(
     let options = protocol.options.as_slice();
     let import = import_policy(alloc, text, declared, last_import(options))?;
     let export = export_policy(alloc, text, declared, last_export(options))?;
+    let peer = peer_name(last_peer(options));
     Ok(PipeDef {
+        family: known_family(table_of(text, declared, peer)),
         table: primary(text, declared, last_pipe_table(options)),
-        peer: peer(text, declared, last_peer(options)),
+        peer: table_number(declared, peer.bytes(text)),
         import,
         export,
     })

@@ -19,16 +19,6 @@ use filt_check::{resolve_condition, resolve_filter};
 use filt_tree::{Scope, TFilter};
 use std::alloc::Global;
 
-/// The number of the table of that name; behind the last one where there is none.
-pub(crate) fn table_number(declared: &Declared, name: &[u8]) -> usize
-    ensures { (text : List ℕ) → result ≡ of.table_number (known_of text declared.now) name.now }
-{
-    match declared.tables.get_index_of(name) {
-        Some(number) => number,
-        None => declared.tables.len(),
-    }
-}
-
 /// The number of the filter of that name; behind the last one where there is none.
 fn filter_number(text: &[u8], declared: &Declared, name: Name) -> usize
     ensures { result ≡ of.filter_number (known_of text.now declared.now) name }

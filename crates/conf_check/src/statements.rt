@@ -6,6 +6,7 @@ ghost use Rattle.conf_ast.specs.declared.kind.ConfFault.TheVariants as faults;
 ghost use Rattle.conf_ast.specs.Configurations as conf;
 ghost use Rattle.conf_ast.specs.Configurations.{Declaration, bgp_setting_of, declaration_of, instance_of, pipe_setting_of, routine_of, static_setting_of, value_of};
 ghost use Rattle.conf_ast.specs.Filters.{block_of};
+ghost use Rattle.conf_rules.specs.Known.{ArePipesThere};
 ghost use Rattle.conf_rules.specs.Refusals.{first_in};
 ghost use Rattle.conf_rules.specs.Statements.{refusals};
 ghost use Rattle.conf_rules.specs.Seen.{known_of};
@@ -17,8 +18,8 @@ use crate::channel::master;
 use crate::checked::{Checked, ProtocolBody, ProtocolDef};
 use crate::constants::constant;
 use crate::declare::{
-    declare, declare_constant, declare_filter, declare_function, declare_pipe, declare_table,
-    declared_at_start,
+    declare, declare_constant, declare_filter, declare_function, declare_joint, declare_pipe,
+    declare_table, declared_at_start,
 };
 use crate::pipe::pipe;
 use crate::policy::block_filter;
@@ -29,7 +30,9 @@ use conf_ast::ConfFault;
 use conf_ast::configurations::{BgpOption, Literal, PipeOption, Protocol, Statement, StaticOption};
 use conf_ast::filters::{Filter, Function};
 use conf_lex::Name;
-use conf_rules::{BGP_STEM, Declared, PIPE_STEM, STATIC_STEM, first_in_statement, own_name};
+use conf_rules::{
+    BGP_STEM, Declared, PIPE_STEM, STATIC_STEM, first_in_statement, joint_of, own_name,
+};
 use filt_check::resolve_function;
 use std::alloc::Global;
 
@@ -181,10 +184,12 @@ fn add_pipe(
     ensures { OnOk result (Adds text.now (conf.Pipe (instance_of pipe_setting_of protocol.now))
         checked.old checked.new) }
 {
+    let joint = joint_of(text, &checked.declared, protocol.options.as_slice());
     let name = own_name(alloc, text, &checked.declared, PIPE_STEM, protocol.name)?;
     let def = pipe(alloc, text, &checked.declared, protocol)?;
     declare_pipe(alloc, &mut checked.declared.scope, &name)?;
     push_protocol(checked, name, ProtocolBody::Pipe(def))?;
+    declare_joint(&mut checked.declared, joint)?;
     Ok(())
 }
 
@@ -225,6 +230,7 @@ fn refuse(
     declared: &Declared,
     statement: &Statement,
 ) -> Result<(), ConfFault>
+    requires { ArePipesThere (known_of text.now declared.now) }
     ensures { MatchResult result
         (λ _. first_in None (refusals (known_of text.now declared.now)
         (declaration_of statement.now)) ≡ None)
@@ -262,7 +268,8 @@ impl Checked {
         text: &[u8],
         statement: &Statement,
     ) -> Result<(), ConfFault>
-        requires { AreNamed (known_of text.now self.old.declared) }
+        requires named { AreNamed (known_of text.now self.old.declared) }
+        requires pipes { ArePipesThere (known_of text.now self.old.declared) }
         ensures answer { MatchResult result
             (λ _. first_in None (refusals (known_of text.now self.old.declared)
             (declaration_of statement.now)) ≡ None)

@@ -34,7 +34,9 @@ use Rattle.conf_rules.specs.Channels.{passing, limit, settings_of, is_other_fami
 use Rattle.conf_rules.specs.Constants.{value}
 use Rattle.conf_rules.specs.Known.{Known, is_declared, longest_name, too_long, table_of, is_filter, filter, number, number_of}
 use Rattle.conf_rules.specs.Known as known_names
-use Rattle.conf_rules.specs.Protocols.{own_name, static_stem, bgp_stem, pipe_stem, pipe_names, place_of, name_too_long, most_protocols, declaring, static_setting, static_settings, static_channels, static_routes, family_of_target, family_of_route, families_of_routes, nettypes, repeated, static, optional_number, transport, bgp_setting, bgp_settings, bgp_channels, last_local, last_neighbor, last_med_metric, lacks, as_number, is_external, policies, is_on, med_metric, session, bgp, pipe_setting, pipe_settings, last_table, last_peer, primary_family, differ, peer_family, pipe}
+use Rattle.conf_rules.specs.declared.joints.Joint.{Joint}
+use Rattle.conf_rules.specs.Joints.{joined}
+use Rattle.conf_rules.specs.Protocols.{cycle, joint_of, own_name, static_stem, bgp_stem, pipe_stem, pipe_names, place_of, name_too_long, most_protocols, declaring, static_setting, static_settings, static_channels, static_routes, family_of_target, family_of_route, families_of_routes, nettypes, repeated, static, optional_number, transport, bgp_setting, bgp_settings, bgp_channels, last_local, last_neighbor, last_med_metric, lacks, as_number, is_external, policies, is_on, med_metric, session, bgp, pipe_setting, pipe_settings, last_table, last_peer, primary_family, differ, peer_family, pipe}
 use Rattle.conf_rules.specs.Refusals.{of_filters, refused_if}
 use Rattle.conf_rules.specs.Statements.{most_tables, is_master, one_more_table, refusals}
 use Rattle.conf_places.specs.Configurations.{of_value, of_passing, of_limit, of_channel_setting, of_each, of_maybe, of_channel, of_name, of_address, of_target, of_route, of_static_setting, of_transport, of_bgp_setting, of_pipe_setting, of_instance, places}
@@ -372,6 +374,10 @@ module _ (P : ℕ → Type 0) where
   peer_stands known primary None p = tt
   peer_stands known primary (Some n) p = if_refused (differ (primary_family known primary) (table_of known n)) n.at kinds.Nettype p
 
+  cycle_stands : (known : Known) (at : ℕ) (o : Option Joint) → P at → Stand (cycle known at o)
+  cycle_stands known at None p = tt
+  cycle_stands known at (Some j) p = if_refused (joined known.pipes j.table j.peer) at kinds.PipeCycle p
+
   pipe_stands : (known : Known) (p : Instance PipeSetting) → Every P (of_instance of_pipe_setting p) → Stand (pipe known p)
   pipe_stands known p h =
       let name = front (of_maybe of_name p.name) (of_each of_pipe_setting p.settings) h.1 in
@@ -380,11 +386,15 @@ module _ (P : ℕ → Type 0) where
       let named : List Refusal = declaring known p.at p.name (pipe_names (own_name known pipe_stem p.name)) in
       let written : List Refusal = pipe_settings known p.settings in
       let no_peer : List Refusal = lacks (place_of p.at p.name) peer in
-      both (named ++ written ++ no_peer) (peer_family known (last_table None p.settings) peer)
+      let family : List Refusal = peer_family known (last_table None p.settings) peer in
+      let here : P (place_of p.at p.name) = at_name p.at p.name h.0 name in
+      both (named ++ written ++ no_peer ++ family) (cycle known (place_of p.at p.name) (joint_of known p.settings))
+      (both (named ++ written ++ no_peer) family
       (both (named ++ written) no_peer
       (both named written (protocol_stands known p.at p.name (pipe_names (own_name known pipe_stem p.name)) h.0 name) (pipe_settings_stand known p.settings settings))
-      (lacks_stands (place_of p.at p.name) peer (at_name p.at p.name h.0 name)))
-      (peer_stands known (last_table None p.settings) peer (peer_named None p.settings tt settings))
+      (lacks_stands (place_of p.at p.name) peer here))
+      (peer_stands known (last_table None p.settings) peer (peer_named None p.settings tt settings)))
+      (cycle_stands known (place_of p.at p.name) (joint_of known p.settings) here)
 
   -- ---- statements
 

@@ -41,6 +41,7 @@ at_most kinds.TooHeavy = omega arith
 at_most kinds.Nettype = omega arith
 at_most kinds.PolicyMissing = omega arith
 at_most kinds.MedRule = omega arith
+at_most kinds.PipeCycle = omega arith
 at_most kinds.DuplicateStatic = omega arith
 at_most kinds.Limit = omega arith
 at_most kinds.Unsupported = omega arith
@@ -52,7 +53,8 @@ kind_from n =
     else if n == 6 then kinds.TypeMismatch else if n == 7 then kinds.NotAssignable
     else if n == 8 then kinds.TooHeavy else if n == 9 then kinds.Nettype
     else if n == 10 then kinds.PolicyMissing else if n == 11 then kinds.MedRule
-    else if n == 13 then kinds.DuplicateStatic else if n == 14 then kinds.Limit
+    else if n == 12 then kinds.PipeCycle else if n == 13 then kinds.DuplicateStatic
+    else if n == 14 then kinds.Limit
     else kinds.Unsupported
 
 kind_back : (k : ConfKind) → kind_from (number_of k) ≡ k
@@ -67,6 +69,7 @@ kind_back kinds.TooHeavy = refl
 kind_back kinds.Nettype = refl
 kind_back kinds.PolicyMissing = refl
 kind_back kinds.MedRule = refl
+kind_back kinds.PipeCycle = refl
 kind_back kinds.DuplicateStatic = refl
 kind_back kinds.Limit = refl
 kind_back kinds.Unsupported = refl

@@ -8,7 +8,7 @@ use Rattle.conf_ast.specs.Configurations.{FamilyChannel, Instance, StaticSetting
 use Rattle.conf_rules.specs.declared.refusal.Refusal.{Refusal}
 use Rattle.conf_rules.specs.Channels.{lacks_policy, one_channel}
 use Rattle.conf_rules.specs.Known.{Known, is_declared}
-use Rattle.conf_rules.specs.Protocols.{bgp, bgp_channels, bgp_settings, bgp_stem, declaring, lacks, last_peer, last_table, most_protocols, name_too_long, nettypes, own_name, peer_family, pipe, pipe_names, pipe_settings, pipe_stem, place_of, repeated, session, static, static_channels, static_routes, static_settings, static_stem}
+use Rattle.conf_rules.specs.Protocols.{bgp, bgp_channels, bgp_settings, bgp_stem, cycle, declaring, joint_of, lacks, last_peer, last_table, most_protocols, name_too_long, nettypes, own_name, peer_family, pipe, pipe_names, pipe_settings, pipe_stem, place_of, repeated, session, static, static_channels, static_routes, static_settings, static_stem}
 use Rattle.conf_rules.specs.Refusals.{first_in, refused_if}
 use Rattle.conf_rules.proofs.Firsts.{first_two}
 use Rattle.conf_rules.proofs.Settings.{more_bgp_channels}
@@ -78,12 +78,13 @@ bgp_first known p place ss f g h i j here are a b d e =
     (d ∙ ap (λ (n : ℕ). first_in h (one_channel n (bgp_channels ss))) here ∙ ap (λ (x : List BgpSetting). first_in h (one_channel (place_of p.at p.name) (bgp_channels x))) are)
     (e ∙ ap (λ (n : ℕ). first_in i (session known n ss)) here ∙ ap (λ (x : List BgpSetting). first_in i (session known (place_of p.at p.name) x)) are)
 
-pub pipe_first : (known : Known) (p : Instance PipeSetting) (place : ℕ) (ss : List PipeSetting) (primary peer : Option Name) (f g h i j : Option Refusal) → place ≡ place_of p.at p.name → ss ≡ p.settings → primary ≡ last_table None ss → peer ≡ last_peer None ss → g ≡ first_in f (declaring known p.at p.name (pipe_names (own_name known pipe_stem p.name))) → h ≡ first_in g (pipe_settings known ss) → i ≡ first_in h (lacks place peer) → j ≡ first_in i (peer_family known primary peer) → j ≡ first_in f (pipe known p)
-pipe_first known p place ss primary peer f g h i j here are one other a b d e =
+pub pipe_first : (known : Known) (p : Instance PipeSetting) (place : ℕ) (ss : List PipeSetting) (primary peer : Option Name) (f g h i j k : Option Refusal) → place ≡ place_of p.at p.name → ss ≡ p.settings → primary ≡ last_table None ss → peer ≡ last_peer None ss → g ≡ first_in f (declaring known p.at p.name (pipe_names (own_name known pipe_stem p.name))) → h ≡ first_in g (pipe_settings known ss) → i ≡ first_in h (lacks place peer) → j ≡ first_in i (peer_family known primary peer) → k ≡ first_in j (cycle known place (joint_of known ss)) → k ≡ first_in f (pipe known p)
+pipe_first known p place ss primary peer f g h i j k here are one other a b d e l =
     let first = one ∙ ap (λ (x : List PipeSetting). last_table None x) are in
     let second = other ∙ ap (λ (x : List PipeSetting). last_peer None x) are in
-    first_four (declaring known p.at p.name (pipe_names (own_name known pipe_stem p.name))) (pipe_settings known p.settings) (lacks (place_of p.at p.name) (last_peer None p.settings)) (peer_family known (last_table None p.settings) (last_peer None p.settings)) f g h i j
+    first_five (declaring known p.at p.name (pipe_names (own_name known pipe_stem p.name))) (pipe_settings known p.settings) (lacks (place_of p.at p.name) (last_peer None p.settings)) (peer_family known (last_table None p.settings) (last_peer None p.settings)) (cycle known (place_of p.at p.name) (joint_of known p.settings)) f g h i j k
     a
     (b ∙ ap (λ (x : List PipeSetting). first_in g (pipe_settings known x)) are)
     (d ∙ ap (λ (n : ℕ). first_in h (lacks n peer)) here ∙ ap (λ (x : Option Name). first_in h (lacks (place_of p.at p.name) x)) second)
     (e ∙ ap (λ (x : Option Name). first_in i (peer_family known x peer)) first ∙ ap (λ (x : Option Name). first_in i (peer_family known (last_table None p.settings) x)) second)
+    (l ∙ ap (λ (n : ℕ). first_in j (cycle known n (joint_of known ss))) here ∙ ap (λ (x : List PipeSetting). first_in j (cycle known (place_of p.at p.name) (joint_of known x))) are)

@@ -1,4 +1,5 @@
 pub mod Refusals
+pub mod Joints
 pub mod Known
 pub mod Constants
 pub mod Channels

@@ -1,9 +1,11 @@
 -- What is refused of static protocols, of BGP and of pipes (`static`, `bgp`, `pipe`), and the name
 -- of a protocol without one (`own_name`, by `free_number`).
 -- From: BIRD User's Guide, "Protocol options", "BGP", "Static", "Pipe"; that policies and the
--- comparison of MEDs must be told (C10, C11) and limits are own.
+-- comparison of MEDs must be told (C10, C11), that a pipe which closes a cycle is refused (C12) and
+-- limits are own.
 -- Example: `med metric off; med metric on;` is accepted; two routes of one net are C13 at the
--- second; an external session whose channel has no `export` is C10 at the protocol's name.
+-- second; an external session whose channel has no `export` is C10 at the protocol's name; so is C12
+-- of a second pipe between the same two tables.
 use Rattle.std.specs.Prelude.{ℕ, zero, suc, ◌+◌, ◌==◌, Bool, true, false, not, ◌&&◌, nat_lt, if◌then◌else◌, List, [], ◌∷◌, ◌++◌, length, Option, Some, None, codes, decimal}
 use Rattle.std.specs.List.{list_any}
 use Rattle.bits_ip.specs.Address.{family_of}
@@ -22,9 +24,11 @@ use Rattle.conf_ast.specs.declared.configurations.Transport.{Transport}
 use Rattle.conf_ast.specs.declared.configurations.Transport.TheVariants as transports
 use Rattle.conf_ast.specs.Configurations.{FamilyChannel, StaticSetting, StaticChannel, StaticRoute, BgpSetting, BgpChannel, BgpLocal, BgpNeighbor, BgpMedMetric, BgpInterpretCommunities, BgpDefaultMed, BgpDefaultLocalPref, BgpTransport, PipeSetting, PipeTable, PipePeerTable, PipeImport, PipeExport, Instance}
 use Rattle.filt_meaning.specs.Names.{named_in}
+use Rattle.conf_rules.specs.declared.joints.Joint.{Joint}
 use Rattle.conf_rules.specs.declared.refusal.Refusal.{Refusal}
 use Rattle.conf_rules.specs.Channels.{channel, is_other_family, lacks_policy, one_channel, passing, same_family}
-use Rattle.conf_rules.specs.Known.{Known, is_declared, number, number_of, table, table_of, too_long}
+use Rattle.conf_rules.specs.Joints.{joined}
+use Rattle.conf_rules.specs.Known.{Known, is_declared, known_number, number, number_of, table, table_of, too_long}
 use Rattle.conf_rules.specs.Refusals.{refused_if}
 
 -- ---- names
@@ -261,9 +265,12 @@ last_peer found (PipePeerTable name ∷ more) = last_peer (Some name) more
 last_peer found (s ∷ more) = last_peer found more
 
 -- The primary table is master4 where none is named.
+abbrev pub primary_name : (text : List ℕ) → Option Name → List ℕ
+primary_name text None = codes "master4"
+primary_name text (Some n) = name_bytes text n
+
 abbrev pub primary_family : Known → Option Name → Option Family
-primary_family known None = named_in known.tables (codes "master4")
-primary_family known (Some name) = table_of known name
+primary_family known n = named_in known.tables (primary_name known.scene.text n)
 
 abbrev pub differ : Option Family → Option Family → Bool
 differ (Some family) other = is_other_family family other
@@ -275,6 +282,27 @@ peer_family known primary None = []
 peer_family known primary (Some name) =
     refused_if (differ (primary_family known primary) (table_of known name)) name.at kinds.Nettype
 
+abbrev pub primary_number : Known → Option Name → Option ℕ
+primary_number known n = known_number known (primary_name known.scene.text n)
+
+abbrev pub peer_number : Known → Option Name → Option ℕ
+peer_number known None = None
+peer_number known (Some n) = known_number known (name_bytes known.scene.text n)
+
+abbrev pub joint : (table peer : Option ℕ) → Option Joint
+joint (Some table) (Some peer) = Some (record { table = table; peer = peer })
+joint _ _ = None
+
+-- the two tables that a pipe joins, by the options that count, where both are known
+abbrev pub joint_of : Known → List PipeSetting → Option Joint
+joint_of known ss =
+    joint (primary_number known (last_table None ss)) (peer_number known (last_peer None ss))
+
+-- The pipes before don't join these two tables, which are two.
+abbrev pub cycle : Known → (at : ℕ) → Option Joint → List Refusal
+cycle known at None = []
+cycle known at (Some j) = refused_if (joined known.pipes j.table j.peer) at kinds.PipeCycle
+
 abbrev pub pipe : Known → Instance PipeSetting → List Refusal
 pipe known p =
     let peer = last_peer None p.settings in
@@ -282,3 +310,4 @@ pipe known p =
     ++ pipe_settings known p.settings
     ++ lacks (place_of p.at p.name) peer
     ++ peer_family known (last_table None p.settings) peer
+    ++ cycle known (place_of p.at p.name) (joint_of known p.settings)

@@ -24,6 +24,7 @@ number_of kinds.TooHeavy = 8
 number_of kinds.Nettype = 9
 number_of kinds.PolicyMissing = 10
 number_of kinds.MedRule = 11
+number_of kinds.PipeCycle = 12
 number_of kinds.DuplicateStatic = 13
 number_of kinds.Limit = 14
 number_of kinds.Unsupported = 15

@@ -11,4 +11,5 @@ known_of text declared = record {
   tables = map (λ e. (e.0.items, e.1)) declared.tables.entries;
   filters = map (λ name. name.items) declared.filters.keys;
   protocols = declared.protocols;
+  pipes = declared.pipes.items;
 }

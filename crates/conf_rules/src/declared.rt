@@ -6,6 +6,7 @@ ghost use Rattle.conf_rules.specs.Known as of;
 ghost use Rattle.conf_rules.specs.Refusals.{first_in};
 ghost use Rattle.conf_rules.specs.Seen.{known_of};
 
+use crate::joints::Joint;
 use crate::refusal::{Refusal, note_if};
 use bits_ip::Family;
 use conf_ast::ConfKind;
@@ -14,7 +15,8 @@ use filt_tree::Scope;
 use indexmap::{IndexMap, IndexSet};
 
 /// What a configuration declares before one of its statements: what filters can name and all other
-/// names, the tables and the filters by their numbers, and how many protocols there are.
+/// names, the tables and the filters by their numbers, how many protocols there are, and the pipes among
+/// them.
 #[derive(Drop)]
 pub struct Declared {
     pub scope: Scope,
@@ -22,6 +24,7 @@ pub struct Declared {
     pub tables: IndexMap<Vec<u8>, Family>,
     pub filters: IndexSet<Vec<u8>>,
     pub protocols: usize,
+    pub pipes: Vec<Joint>,
 }
 
 /// The most bytes of a name.
@@ -63,10 +66,30 @@ pub(crate) fn family_of(declared: &Declared, name: &[u8]) -> Option<Family>
 }
 
 /// The family of the table of that name.
-pub(crate) fn table_of(text: &[u8], declared: &Declared, name: Name) -> Option<Family>
+pub fn table_of(text: &[u8], declared: &Declared, name: Name) -> Option<Family>
     ensures { result ≡ of.table_of (known_of text.now declared.now) name }
 {
     family_of(declared, name.bytes(text))
+}
+
+/// The number of the table of that name; behind the last one where there is none.
+pub fn table_number(declared: &Declared, name: &[u8]) -> usize
+    ensures { (text : List ℕ) → result ≡ of.table_number (known_of text declared.now) name.now }
+{
+    match declared.tables.get_index_of(name) {
+        Some(number) => number,
+        None => declared.tables.len(),
+    }
+}
+
+/// The number of the table of that name, where there is one.
+pub(crate) fn known_number(declared: &Declared, name: &[u8]) -> Option<usize>
+    ensures { (text : List ℕ) → result ≡ of.known_number (known_of text declared.now) name.now }
+{
+    match family_of(declared, name) {
+        None => None,
+        Some(_) => Some(table_number(declared, name)),
+    }
 }
 
 /// The name of a table.

@@ -1,6 +1,8 @@
 //! What follows from the definitions alone. The functions are empty: their clauses are the laws.
 
-ghost use Rattle.std.specs.Prelude.{◌≡◌, ℕ, ◌+◌, ◌<◌, ◌≤◌, ◌^◌, true, false, All, Contains, List, [], ◌++◌, None, Some, decimal};
+ghost use Rattle.std.specs.Prelude.{◌≡◌, ℕ, ◌+◌, ◌<◌, ◌≤◌, ◌^◌, true, false, All, Contains, List, [], ◌∷◌, ◌++◌, None, Some, decimal};
+ghost use Rattle.conf_rules.specs.declared.joints.Joint.{Joint};
+ghost use Rattle.conf_rules.specs.Joints.{IsBridge, IsForest, joined};
 ghost use Rattle.conf_rules.specs.Known.{Known, is_declared};
 ghost use Rattle.conf_rules.specs.Protocols.{free_number, names};
 ghost use Rattle.conf_rules.specs.Refusals.{first_in, precedes};
@@ -32,4 +34,25 @@ pub fn first_refusals_are_the_first()
 pub fn order_does_not_matter()
     ensures { (rs others : List Refusal) → first_in None (rs ++ others)
         ≡ first_in None (others ++ rs) }
+{}
+
+/// Being joined by pipes is the least equivalence of tables that has the two tables of each pipe: a
+/// table is joined to itself, to whichever is joined to it, and to what these are joined to. Where
+/// each pipe's tables have one colour, so have all that are joined.
+pub fn joined_tables_are_those_that_pipes_lead_between()
+    ensures itself { (pipes : List Joint) (a : ℕ) → joined pipes a a ≡ true }
+    ensures back { (pipes : List Joint) (a b : ℕ) → joined pipes a b ≡ joined pipes b a }
+    ensures onward { (pipes : List Joint) (a b c : ℕ) → joined pipes a b ≡ true
+        → joined pipes b c ≡ true → joined pipes a c ≡ true }
+    ensures each { (front back : List Joint) (p : Joint)
+        → joined (front ++ p ∷ back) p.table p.peer ≡ true }
+    ensures no_more { (pipes : List Joint) (colour : ℕ → ℕ)
+        → All (λ (p : Joint). colour p.table ≡ colour p.peer) pipes
+        → (a b : ℕ) → joined pipes a b ≡ true → colour a ≡ colour b }
+{}
+
+/// Each pipe of those that close no cycle is the only one between two sides of the tables.
+pub fn pipes_of_a_forest_are_bridges()
+    ensures { (front back : List Joint) (p : Joint) → IsForest (front ++ p ∷ back)
+        → IsBridge p (front ++ back) }
 {}

@@ -2,12 +2,14 @@
 
 ghost use Rattle.std.specs.Prelude.{◌≡◌, ◌++◌, ◌∷◌, [], map, None, OnOk};
 ghost use Rattle.conf_ast.specs.Configurations.{instance_of, pipe_setting_of};
+ghost use Rattle.conf_rules.specs.Known.{ArePipesThere};
 ghost use Rattle.conf_rules.specs.Protocols as of;
 ghost use Rattle.conf_rules.specs.Refusals.{first_in};
 ghost use Rattle.conf_rules.specs.Seen.{known_of};
 
 use crate::channels::{is_other_family, passing};
-use crate::declared::{Declared, family_of, table, table_of};
+use crate::declared::{Declared, family_of, known_number, table, table_of};
+use crate::joints::{Joint, is_joined};
 use crate::names::{declaring_pipe, place_of};
 use crate::refusal::{Refusal, note_if};
 use bits_ip::{Family, OutOfMemory};
@@ -151,6 +153,75 @@ fn peer_family(
     }
 }
 
+// ---- cycles
+
+fn primary_number(text: &[u8], declared: &Declared, primary: Option<Name>) -> Option<usize>
+    ensures { result ≡ of.primary_number (known_of text.now declared.now) primary }
+{
+    match primary {
+        None => known_number(declared, b"master4"),
+        Some(name) => known_number(declared, name.bytes(text)),
+    }
+}
+
+fn peer_number(text: &[u8], declared: &Declared, peer: Option<Name>) -> Option<usize>
+    ensures { result ≡ of.peer_number (known_of text.now declared.now) peer }
+{
+    match peer {
+        None => None,
+        Some(name) => known_number(declared, name.bytes(text)),
+    }
+}
+
+fn joint(table: Option<usize>, peer: Option<usize>) -> Option<Joint>
+    ensures { result ≡ of.joint table peer }
+{
+    match table {
+        None => None,
+        Some(table) => match peer {
+            None => None,
+            Some(peer) => Some(Joint { table, peer }),
+        },
+    }
+}
+
+/// The two tables that a pipe joins, by the options that count, where both are declared.
+pub fn joint_of(text: &[u8], declared: &Declared, options: &[PipeOption]) -> Option<Joint>
+    ensures { result
+        ≡ of.joint_of (known_of text.now declared.now) (map pipe_setting_of options.now) }
+{
+    let table = primary_number(text, declared, last_table(options));
+    let peer = peer_number(text, declared, last_peer(options));
+    joint(table, peer)
+}
+
+/// The pipes before don't join these two tables, which are two.
+fn cycle(
+    alloc: Global,
+    text: &[u8],
+    declared: &Declared,
+    at: usize,
+    options: &[PipeOption],
+    first: &mut Option<Refusal>,
+) -> Result<(), OutOfMemory>
+    requires { ArePipesThere (known_of text.now declared.now) }
+    ensures { OnOk result (first.new
+        ≡ first_in first.old (of.cycle (known_of text.now declared.now) at
+        (of.joint_of (known_of text.now declared.now) (map pipe_setting_of options.now)))) }
+{
+    match joint_of(text, declared, options) {
+        None => Ok(()),
+        Some(joint) => {
+            let pipes = declared.pipes.as_slice();
+            let is_cycle = is_joined(alloc, declared.tables.len(), pipes, joint)?;
+            note_if(first, is_cycle, at, ConfKind::PipeCycle);
+            Ok(())
+        }
+    }
+}
+
+// ---- the protocol
+
 pub(crate) fn pipe(
     alloc: Global,
     text: &[u8],
@@ -158,6 +229,7 @@ pub(crate) fn pipe(
     protocol: &Protocol<PipeOption>,
     first: &mut Option<Refusal>,
 ) -> Result<(), OutOfMemory>
+    requires { ArePipesThere (known_of text.now declared.now) }
     ensures { OnOk result (first.new
         ≡ first_in first.old (of.pipe (known_of text.now declared.now)
         (instance_of pipe_setting_of protocol.now))) }
@@ -165,8 +237,10 @@ pub(crate) fn pipe(
     let options = protocol.options.as_slice();
     declaring_pipe(alloc, text, declared, protocol.at, protocol.name, first)?;
     settings(alloc, text, declared, options, first)?;
+    let at = place_of(protocol.at, protocol.name);
     let peer = last_peer(options);
-    want_peer(place_of(protocol.at, protocol.name), peer, first);
+    want_peer(at, peer, first);
     peer_family(text, declared, last_table(options), peer, first);
+    cycle(alloc, text, declared, at, options, first)?;
     Ok(())
 }

@@ -90,6 +90,7 @@ fn number(kind: ConfKind) -> u32
         ConfKind::Nettype => 9,
         ConfKind::PolicyMissing => 10,
         ConfKind::MedRule => 11,
+        ConfKind::PipeCycle => 12,
         ConfKind::DuplicateStatic => 13,
         ConfKind::Limit => 14,
         ConfKind::Unsupported => 15,

@@ -6,6 +6,7 @@ ghost use Rattle.conf_ast.specs.Filters.{block_of};
 ghost use Rattle.filt_rules.specs.Refused as refused;
 ghost use Rattle.conf_rules.specs.Constants as constants;
 ghost use Rattle.conf_rules.specs.Known as known;
+ghost use Rattle.conf_rules.specs.Known.{ArePipesThere};
 ghost use Rattle.conf_rules.specs.Refusals.{first_in, of_filters};
 ghost use Rattle.conf_rules.specs.Seen.{known_of};
 ghost use Rattle.conf_rules.specs.Statements as of;
@@ -134,6 +135,7 @@ fn in_statement(
     statement: &Statement,
     first: &mut Option<Refusal>,
 ) -> Result<(), OutOfMemory>
+    requires { ArePipesThere (known_of text.now declared.now) }
     ensures { OnOk result (first.new
         ≡ first_in first.old (of.refusals (known_of text.now declared.now)
         (declaration_of statement.now))) }
@@ -162,13 +164,14 @@ fn in_statement(
 }
 
 /// The first of what is refused in a statement, over what is declared before it. An error is want
-/// of memory.
+/// of memory. The tables of the pipes before are among those that are declared.
 pub fn first_in_statement(
     alloc: Global,
     text: &[u8],
     declared: &Declared,
     statement: &Statement,
 ) -> Result<Option<Refusal>, OutOfMemory>
+    requires { ArePipesThere (known_of text.now declared.now) }
     ensures { IfOk result (λ r. r
         ≡ first_in None (of.refusals (known_of text.now declared.now)
         (declaration_of statement.now))) }

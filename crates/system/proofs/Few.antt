@@ -10,7 +10,7 @@ use Rattle.conf_check.specs.Checked.{Source, filter_sources, protocol_name}
 use Rattle.conf_check.specs.Refused.{refusal_of}
 use Rattle.conf_rules.specs.Channels.{one_channel}
 use Rattle.conf_rules.specs.Known.{Known}
-use Rattle.conf_rules.specs.Protocols.{bgp_channels, bgp_settings, bgp_stem, declaring, lacks, last_peer, last_table, most_protocols, nettypes, own_name, peer_family, pipe_names, pipe_settings, pipe_stem, place_of, repeated, session, static_channels, static_routes, static_settings, static_stem}
+use Rattle.conf_rules.specs.Protocols.{bgp_channels, bgp_settings, bgp_stem, cycle, declaring, joint_of, lacks, last_peer, last_table, most_protocols, nettypes, own_name, peer_family, pipe_names, pipe_settings, pipe_stem, place_of, repeated, session, static_channels, static_routes, static_settings, static_stem}
 use Rattle.conf_rules.specs.Refusals.{first_in}
 use Rattle.conf_rules.specs.Statements.{is_master, refusals}
 use Rattle.conf_rules.specs.declared.refusal.Refusal.{Refusal}
@@ -19,7 +19,7 @@ use Rattle.system.specs.Policies.{Filter, says}
 use Rattle.system.specs.System.{Body, Protocol, System, body_of, names_in, protocols_behind, system_in, with_body}
 use Rattle.system.specs.Texts.{IsSystem, refused_in}
 use Rattle.system.proofs.Accepted.{neither}
-use Rattle.system.proofs.TablesThere.{not_refused}
+use Rattle.system.proofs.TablesThere.{not_refused, pipe_front}
 
 -- There is room for one protocol more.
 room : (known : Known) (at : ℕ) (name : Option Name) (declared : List (List ℕ)) → declaring known at name declared ≡ [] → known.protocols < most_protocols
@@ -67,7 +67,8 @@ bounded known (conf.Pipe p) is few =
     omega (
       arith,
       room_behind known p.at p.name (pipe_names (own_name known pipe_stem p.name)) (pipe_settings known p.settings) (lacks (place_of p.at p.name) (last_peer None p.settings))
-          (peer_family known (last_table None p.settings) (last_peer None p.settings)) is,
+          (peer_family known (last_table None p.settings) (last_peer None p.settings))
+          (nil_left (pipe_front known p) (cycle known (place_of p.at p.name) (joint_of known p.settings)) is),
     )
 
 one_more : (name : List ℕ) (body : Option Body) (rest : List Protocol) → length (with_body name body rest) ≤ length rest + 1

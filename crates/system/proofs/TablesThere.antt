@@ -1,5 +1,5 @@
 -- The tables of channels: each is there, and is of its channel's family, where nothing is refused.
-use Rattle.std.proofs.Common.{◌≡◌, ◌∙◌, sym, ap, subst, refl, ℕ, zero, suc, Bool, true, false, List, [], ◌∷◌, ◌++◌, length, map, Option, Some, None, arith, true≢false, append-nil, append_assoc}
+use Rattle.std.proofs.Common.{◌≡◌, ◌∙◌, sym, ap, subst, refl, ℕ, zero, suc, Bool, true, false, List, [], ◌∷◌, ◌++◌, length, map, Option, Some, None, codes, arith, true≢false, append-nil, append_assoc}
 use Rattle.std.specs.Prelude.{⊤, slice_get, if◌then◌else◌}
 use Rattle.std.proofs.lemmas.Option.{none-some, same_Some}
 use Rattle.bits_ip.specs.declared.address.Family.{Family}
@@ -8,20 +8,20 @@ use Rattle.conf_lex.specs.declared.named.Name.{Name}
 use Rattle.conf_lex.specs.Names.{name_bytes}
 use Rattle.conf_ast.specs.declared.kind.ConfKind.{ConfKind}
 use Rattle.conf_ast.specs.Configurations as conf
-use Rattle.conf_ast.specs.Configurations.{Passing, ChannelSetting, ChannelTable, ChannelImport, ChannelExport, ChannelPreference, ChannelLimit, ChannelNextHop, FamilyChannel, StaticSetting, StaticChannel, StaticRoute, BgpSetting, BgpChannel, BgpLocal, BgpNeighbor, BgpMedMetric, BgpInterpretCommunities, BgpDefaultMed, BgpDefaultLocalPref, BgpTransport, PipeSetting}
+use Rattle.conf_ast.specs.Configurations.{Passing, ChannelSetting, ChannelTable, ChannelImport, ChannelExport, ChannelPreference, ChannelLimit, ChannelNextHop, FamilyChannel, Instance, StaticSetting, StaticChannel, StaticRoute, BgpSetting, BgpChannel, BgpLocal, BgpNeighbor, BgpMedMetric, BgpInterpretCommunities, BgpDefaultMed, BgpDefaultLocalPref, BgpTransport, PipeSetting, PipeTable, PipePeerTable, PipeImport, PipeExport}
 use Rattle.filt_meaning.specs.Names.{named_in, same_name}
 use Rattle.filt_types.specs.Items.{is_none}
 use Rattle.conf_rules.specs.declared.refusal.Refusal.{Refusal}
 use Rattle.conf_rules.specs.Channels as channels
 use Rattle.conf_rules.specs.Channels.{channel, family_of_table, is_other_family, last_table, one_channel, settings, settings_of}
 use Rattle.conf_rules.specs.Known as known_rules
-use Rattle.conf_rules.specs.Known.{Known, table_of}
+use Rattle.conf_rules.specs.Known.{Known, place_in, table_number, table_of}
 use Rattle.conf_rules.specs.Protocols as rules
 use Rattle.conf_rules.specs.Protocols.{bgp_channels, bgp_settings, bgp_stem, last_peer, own_name, static_channels, static_routes, static_settings, static_stem}
 use Rattle.conf_rules.specs.Refusals.{refused_if}
 use Rattle.conf_rules.specs.Statements.{is_master, master, refusals}
 use Rattle.conf_check.specs.Behind.{at_start, behind, behind_one, with_table}
-use Rattle.conf_check.specs.Checked.{bgp_preference, place_in, route_of, static_preference, table_name, table_number}
+use Rattle.conf_check.specs.Checked.{bgp_preference, or_v4, route_of, static_preference, table_name}
 use Rattle.conf_check.specs.declared.checked.StaticRoute.{StaticRoute as Routed}
 use Rattle.conf_check.proofs.Allowed.{nil_left, nil_right}
 use Rattle.system.specs.Policies.{Filter}
@@ -106,6 +106,85 @@ module _ (said : Passing → Filter) (known : Known) (more : Tables) (masters : 
       (last_known known None (settings_of c) tt (nil_left (settings known (settings_of c)) (family_of_table known c.family named) h))
       (nil_right (settings known (settings_of c)) (family_of_table known c.family named) h)
 
+-- ---- pipes in which nothing is refused
+
+pipe_table_known : (known : Known) (found : Option Name) (ss : List PipeSetting) → IsKnown known found → rules.pipe_settings known ss ≡ [] → IsKnown known (rules.last_table found ss)
+pipe_table_known known found [] is h = is
+pipe_table_known known found (PipeTable n ∷ ss) is h =
+    pipe_table_known known (Some n) ss (named_known known n (nil_left (known_rules.table known n) (rules.pipe_settings known ss) h)) (nil_right (known_rules.table known n) (rules.pipe_settings known ss) h)
+pipe_table_known known found (PipePeerTable n ∷ ss) is h = pipe_table_known known found ss is (nil_right (known_rules.table known n) (rules.pipe_settings known ss) h)
+pipe_table_known known found (PipeImport p ∷ ss) is h = pipe_table_known known found ss is (nil_right (channels.passing known p) (rules.pipe_settings known ss) h)
+pipe_table_known known found (PipeExport p ∷ ss) is h = pipe_table_known known found ss is (nil_right (channels.passing known p) (rules.pipe_settings known ss) h)
+
+pipe_peer_known : (known : Known) (found : Option Name) (ss : List PipeSetting) → IsKnown known found → rules.pipe_settings known ss ≡ [] → IsKnown known (last_peer found ss)
+pipe_peer_known known found [] is h = is
+pipe_peer_known known found (PipeTable n ∷ ss) is h = pipe_peer_known known found ss is (nil_right (known_rules.table known n) (rules.pipe_settings known ss) h)
+pipe_peer_known known found (PipePeerTable n ∷ ss) is h =
+    pipe_peer_known known (Some n) ss (named_known known n (nil_left (known_rules.table known n) (rules.pipe_settings known ss) h)) (nil_right (known_rules.table known n) (rules.pipe_settings known ss) h)
+pipe_peer_known known found (PipeImport p ∷ ss) is h = pipe_peer_known known found ss is (nil_right (channels.passing known p) (rules.pipe_settings known ss) h)
+pipe_peer_known known found (PipeExport p ∷ ss) is h = pipe_peer_known known found ss is (nil_right (channels.passing known p) (rules.pipe_settings known ss) h)
+
+primary_known : (known : Known) (n : Option Name) (more : Tables) → known.tables ≡ Masters more → IsKnown known n → is_none (rules.primary_family known n) ≡ false
+primary_known known None more masters is = subst (λ (ts : Tables). is_none (named_in ts (codes "master4")) ≡ false) (sym masters) refl
+primary_known known (Some n) more masters is = is
+
+or_v4_is : (o : Option Family) → is_none o ≡ false → o ≡ Some (or_v4 o)
+or_v4_is None h = absurd (true≢false h)
+or_v4_is (Some f) h = refl
+
+one_family : (o p : Option Family) → is_none o ≡ false → is_none p ≡ false → rules.differ o p ≡ false → o ≡ Some (or_v4 p)
+one_family None p h k same = absurd (true≢false h)
+one_family (Some f) None h k same = absurd (true≢false k)
+one_family (Some families.V4) (Some families.V4) h k same = refl
+one_family (Some families.V6) (Some families.V6) h k same = refl
+one_family (Some families.V4) (Some families.V6) h k same = absurd (true≢false same)
+one_family (Some families.V6) (Some families.V4) h k same = absurd (true≢false same)
+
+-- The two tables of a pipe by their names, where nothing is refused of it and it has this peer.
+pub record AreTwo (known : Known) (ss : List PipeSetting) (peer : Name) : Type 0 where
+  pub primary : rules.primary_family known (rules.last_table None ss) ≡ Some (or_v4 (table_of known peer))
+  pub other : table_of known peer ≡ Some (or_v4 (table_of known peer))
+
+two_known : (known : Known) (ss : List PipeSetting) (peer : Name) (more : Tables) → known.tables ≡ Masters more → rules.pipe_settings known ss ≡ [] → IsKnown known (Some peer)
+    → rules.peer_family known (rules.last_table None ss) (Some peer) ≡ [] → AreTwo known ss peer
+two_known known ss peer more masters written is h =
+    let primary = rules.primary_family known (rules.last_table None ss) in
+    record {
+      primary = one_family primary (table_of known peer) (primary_known known (rules.last_table None ss) more masters (pipe_table_known known None ss tt written)) is
+          (not_refused (rules.differ primary (table_of known peer)) peer.at _ h);
+      other = or_v4_is (table_of known peer) is;
+    }
+
+-- what is refused of a pipe but for a cycle
+abbrev pub pipe_front : Known → Instance PipeSetting → List Refusal
+pipe_front known p =
+    rules.declaring known p.at p.name (rules.pipe_names (own_name known rules.pipe_stem p.name)) ++ rules.pipe_settings known p.settings ++ rules.lacks (rules.place_of p.at p.name) (last_peer None p.settings)
+    ++ rules.peer_family known (rules.last_table None p.settings) (last_peer None p.settings)
+
+pub are_two : (known : Known) (p : Instance PipeSetting) (peer : Name) (more : Tables) → known.tables ≡ Masters more → last_peer None p.settings ≡ Some peer → rules.pipe known p ≡ [] → AreTwo known p.settings peer
+are_two known p peer more masters is h =
+    let a = rules.declaring known p.at p.name (rules.pipe_names (own_name known rules.pipe_stem p.name)) in
+    let b = rules.pipe_settings known p.settings in
+    let d = rules.lacks (rules.place_of p.at p.name) (last_peer None p.settings) in
+    let e = rules.peer_family known (rules.last_table None p.settings) (last_peer None p.settings) in
+    let front = nil_left (pipe_front known p) (rules.cycle known (rules.place_of p.at p.name) (rules.joint_of known p.settings)) h in
+    let written = nil_right a b (nil_left (a ++ b) d (nil_left (a ++ b ++ d) e front)) in
+    two_known known p.settings peer more masters written
+    (subst (λ (o : Option Name). IsKnown known o) is (pipe_peer_known known None p.settings tt written))
+    (subst (λ (o : Option Name). rules.peer_family known (rules.last_table None p.settings) o ≡ []) is (nil_right (a ++ b ++ d) e front))
+
+pub no_cycle : (known : Known) (p : Instance PipeSetting) → rules.pipe known p ≡ [] → rules.cycle known (rules.place_of p.at p.name) (rules.joint_of known p.settings) ≡ []
+no_cycle known p h = nil_right (pipe_front known p) _ h
+
+pub has_peer : (known : Known) (p : Instance PipeSetting) → rules.pipe known p ≡ [] → last_peer None p.settings ≡ None → ⊥
+has_peer known p h none =
+    let a = rules.declaring known p.at p.name (rules.pipe_names (own_name known rules.pipe_stem p.name)) in
+    let b = rules.pipe_settings known p.settings in
+    let d = rules.lacks (rules.place_of p.at p.name) (last_peer None p.settings) in
+    let e = rules.peer_family known (rules.last_table None p.settings) (last_peer None p.settings) in
+    let lacking = nil_right (a ++ b) d (nil_left (a ++ b ++ d) e (nil_left (pipe_front known p) (rules.cycle known (rules.place_of p.at p.name) (rules.joint_of known p.settings)) h)) in
+    absurd (omega (arith, ap (λ (l : List Refusal). length l) (sym (ap (λ (o : Option Name). rules.lacks (rules.place_of p.at p.name) o) none) ∙ lacking)))
+
 -- ---- protocols in which nothing is refused
 
 -- what a statement says of a protocol, where it does
@@ -151,9 +230,11 @@ module _ (said : Passing → Filter) (known : Known) (more : Tables) (masters : 
   bgp_fits (c ∷ []) ss fine = channel_fits said known more masters bgp_preference c fine.0
   bgp_fits (c ∷ d ∷ cs) ss fine = tt
 
-  pipe_fits : (peer : Option Name) (ss : List PipeSetting) → StatementFits known.tables (of.pipe_with said known peer ss)
-  pipe_fits None ss = tt
-  pipe_fits (Some n) ss = tt
+  pipe_fits : (p : Instance PipeSetting) (peer : Option Name) → last_peer None p.settings ≡ peer → rules.pipe known p ≡ [] → StatementFits known.tables (of.pipe_with said known peer p.settings)
+  pipe_fits p None is h = tt
+  pipe_fits p (Some n) is h =
+      let two = are_two known p n more masters is h in
+      (placed known.tables (rules.primary_name known.scene.text (rules.last_table None p.settings)) (or_v4 (table_of known n)) two.primary, placed known.tables (name_bytes known.scene.text n) (or_v4 (table_of known n)) two.other)
 
   pub body_fits : (d : conf.Declaration) → refusals known d ≡ [] → StatementFits known.tables (of.body_of said known d)
   body_fits (conf.Static p) h =
@@ -166,7 +247,7 @@ module _ (said : Passing → Filter) (known : Known) (more : Tables) (masters : 
       (bgp_fine known p.settings
       (second_of_four (rules.declaring known p.at p.name (own_name known bgp_stem p.name ∷ [])) (bgp_settings known p.settings) (one_channel (rules.place_of p.at p.name) (bgp_channels p.settings))
       (rules.session known (rules.place_of p.at p.name) p.settings) h))
-  body_fits (conf.Pipe p) h = pipe_fits (last_peer None p.settings) p.settings
+  body_fits (conf.Pipe p) h = pipe_fits p (last_peer None p.settings) refl h
   body_fits (conf.RouterId a) h = tt
   body_fits conf.Log h = tt
   body_fits (conf.Define name v) h = tt
@@ -180,7 +261,7 @@ pub fits_more : (before after more : Tables) (body : Option Body) → after ≡ 
 fits_more before after more None is fits = tt
 fits_more before after more (Some (IsStatic p)) is fits = has_more before after more p.channel.table p.channel.family is fits
 fits_more before after more (Some (IsBgp p)) is fits = has_more before after more p.channel.table p.channel.family is fits
-fits_more before after more (Some (IsPipe p)) is fits = tt
+fits_more before after more (Some (IsPipe p)) is fits = (has_more before after more p.table p.family is fits.0, has_more before after more p.peer p.family is fits.1)
 
 -- ---- tables only grow
 

@@ -14,7 +14,6 @@ use Rattle.conf_check.specs.Refused as check
 use Rattle.conf_check.specs.Refused.{refusal_of}
 use Rattle.conf_check.specs.Checked.{IsChecked}
 use Rattle.conf_check.specs.declared.checked.Checked.{Checked}
-use Rattle.conf_rules.specs.Known.{Known}
 use Rattle.system.proofs.Agrees.{system_agrees}
 use Rattle.system.specs.Seen.{IsTold, system_of}
 use Rattle.system.specs.System.{System, system_in}
@@ -58,5 +57,5 @@ pub held_told : (text : List ℕ) (all : List Statement) (held : Held) → IsCon
 held_told text all held is none checked names = (
   configuration_of all,
   accepted text all is none,
-  system_agrees text (configuration_of all) held.checked held.names checked names _ (ap (λ (k : Known). k.tables) checked.declared),
+  system_agrees text (configuration_of all) held checked names,
 )

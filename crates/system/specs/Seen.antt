@@ -1,7 +1,7 @@
 -- What is configured, in memory, as the definitions see it (`system_of`, which is to be believed);
 -- the rest is for private contracts.
 -- From: own.
-use Rattle.std.specs.Prelude.{◌≡◌, ⊤, ℕ, List, map, Option, Some, None, slice_get}
+use Rattle.std.specs.Prelude.{◌≡◌, ⊤, ℕ, List, [], map, Option, Some, None, slice_get}
 use Rattle.attrs.specs.declared.judge.Verdict.TheVariants as verdicts
 use Rattle.conf_tree.specs.Position.{IsPlace}
 use Rattle.conf_ast.specs.declared.kind.ConfFault.{ConfFault}
@@ -15,11 +15,16 @@ use Rattle.conf_check.specs.declared.checked.ProtocolBody.{ProtocolBody}
 use Rattle.conf_check.specs.declared.checked.ProtocolBody.TheVariants as bodies
 use Rattle.conf_check.specs.declared.checked.ProtocolDef.{ProtocolDef}
 use Rattle.conf_check.specs.declared.checked.StaticDef.{StaticDef}
-use Rattle.filt_meaning.specs.Configuration.{around_route}
-use Rattle.filt_tree.specs.Scopes.{constant_values, function_trees}
+use Rattle.conf_ast.specs.Filters.{Expression}
+use Rattle.filt_meaning.specs.Configuration as meaning
+use Rattle.filt_meaning.specs.Configuration.{around_route, filter_where}
+use Rattle.filt_rules.specs.Refused.{of_filter}
+use Rattle.filt_types.specs.Seen.{scene_of}
+use Rattle.filt_tree.specs.Scopes.{constant_values, context_of, function_trees, named}
 use Rattle.filt_tree.specs.Trees.{judged}
 use Rattle.filt_tree.specs.declared.scope.Scope.{Scope}
 use Rattle.filt_tree.specs.declared.tree.TFilter.{TFilter}
+use Rattle.system.specs.Asked.{Asked, unless_refused}
 use Rattle.system.specs.Policies.{Filter}
 use Rattle.system.specs.System.{Bgp, Body, Channel, IsBgp, IsPipe, IsStatic, Pipe, Protocol, Static, System}
 use Rattle.system.specs.declared.system.System.{System as Held}
@@ -70,6 +75,7 @@ module _ (scope : Scope) (filters : List TFilter) (names : List (List ℕ)) wher
 
   abbrev pub pipe_seen : PipeDef → Pipe
   pipe_seen def = record {
+    family = def.family;
     table = def.table;
     peer = def.peer;
     import = policy_says def.import;
@@ -84,10 +90,21 @@ module _ (scope : Scope) (filters : List TFilter) (names : List (List ℕ)) wher
   abbrev pub protocol_seen : ProtocolDef → Protocol
   protocol_seen def = record { name = def.name; body = body_seen def.body }
 
+-- what a condition of this text asks for over a scope, where protocols have these names
+abbrev pub asked_over : Scope → (names : List (List ℕ)) → (text : List ℕ) → Expression → Asked
+asked_over scope names text e =
+    unless_refused (of_filter (scene_of text scope) 0 (filter_where e))
+    (λ net route. meaning.judged (context_of text (around_route names net route) scope [])
+    (filter_where e) route.attrs)
+
 -- what is configured, where it is held so
 abbrev pub system_of : Held → System
 system_of held = record {
   tables = map (λ e. (e.0.items, e.1)) held.checked.declared.tables.entries;
+  filters = named (map (λ name. name.items) held.checked.declared.filters.keys)
+      (map (tree_says held.checked.declared.scope held.checked.filters.items held.names)
+      held.checked.filters.items);
+  asked = asked_over held.checked.declared.scope held.names;
   protocols = map
       (protocol_seen held.checked.declared.scope held.checked.filters.items held.names)
       held.checked.protocols.items;

@@ -1,6 +1,7 @@
--- What a configuration comes to (`system_in`): its tables and its protocols, each in the order of
--- their numbers, and what each protocol's policies say of routes. Of options written twice the last
--- counts, and what isn't written has its default.
+-- What a configuration comes to (`system_in`): its tables, its filters and its protocols, each in
+-- the order of their numbers, what each filter and each protocol's policies say of routes, and what
+-- conditions ask for that are written elsewhere. Of options written twice the last counts, and what
+-- isn't written has its default.
 -- From: BIRD User's Guide, "Channel options", "Static", "BGP" and "Pipe".
 -- Example: `preference 7; preference 9;` is a preference of 9.
 use Rattle.std.specs.Prelude.{ℕ, Bool, List, [], ◌∷◌, ◌++◌, map, Option, Some, None}
@@ -12,14 +13,17 @@ use Rattle.conf_lex.specs.Names.{name_bytes}
 use Rattle.conf_ast.specs.declared.configurations.Limit.TheVariants as limits
 use Rattle.conf_ast.specs.Configurations as conf
 use Rattle.conf_ast.specs.Configurations.{BgpSetting, FamilyChannel, Instance, Passing, PassAll, PassNone, PipeSetting, StaticSetting}
+use Rattle.conf_ast.specs.Filters.{Expression}
 use Rattle.conf_rules.specs.Channels.{settings_of}
-use Rattle.conf_rules.specs.Known.{Known}
+use Rattle.conf_rules.specs.Known.{Known, table_number, table_of}
 use Rattle.conf_rules.specs.Protocols as rules
-use Rattle.conf_rules.specs.Protocols.{as_number, bgp_channels, last_local, last_peer, last_table, static_channels, static_routes}
+use Rattle.conf_rules.specs.Protocols.{as_number, bgp_channels, last_local, last_peer, last_table, primary_name, static_channels, static_routes}
 use Rattle.conf_check.specs.Behind.{at_start, behind, behind_one}
-use Rattle.conf_check.specs.Checked.{Source, bgp_preference, channel_table, filter_sources, last_default_local_pref, last_default_med, last_export, last_import, last_interpret, last_limit, last_neighbor, last_pipe_export, last_pipe_import, last_preference, limit_of, or_zero, primary_name, protocol_name, route_of, static_preference, table_number}
+use Rattle.conf_check.specs.Checked.{Source, bgp_preference, channel_table, filter_sources, last_default_local_pref, last_default_med, last_export, last_import, last_interpret, last_limit, last_neighbor, last_pipe_export, last_pipe_import, last_preference, limit_of, or_v4, or_zero, protocol_name, route_of, static_preference}
 use Rattle.conf_check.specs.declared.checked.ImportLimit.{ImportLimit}
 use Rattle.conf_check.specs.declared.checked.StaticRoute.{StaticRoute}
+use Rattle.filt_meaning.specs.Configuration.{verdict}
+use Rattle.system.specs.Asked.{Asked, asked_behind}
 use Rattle.system.specs.Policies.{Filter, says}
 
 -- ---- what there is
@@ -46,8 +50,10 @@ pub record Bgp : Type 0 where
   pub default_local_pref : ℕ
   pub channel : Channel
 
--- from the primary table to the peer table by the exports, and back by the imports
+-- between two tables of one family: from the primary table to the peer table by the exports, and
+-- back by the imports
 pub record Pipe : Type 0 where
+  pub family : Family
   pub table : ℕ
   pub peer : ℕ
   pub import : Filter
@@ -62,8 +68,11 @@ pub record Protocol : Type 0 where
   pub name : List ℕ
   pub body : Body
 
+-- A condition is told by its own text, in which its names stand.
 pub record System : Type 0 where
   pub tables : List (List ℕ × Family)
+  pub filters : List (List ℕ × Filter)
+  pub asked : (text : List ℕ) → Expression → Asked
   pub protocols : List Protocol
 
 -- ---- one protocol
@@ -100,6 +109,7 @@ module _ (said : Passing → Filter) (known : Known) where
   abbrev pub pipe_with : Option Name → List PipeSetting → Option Body
   pipe_with None settings = None
   pipe_with (Some peer) settings = Some (IsPipe (record {
+    family = or_v4 (table_of known peer);
     table = table_number known (primary_name known.scene.text (last_table None settings));
     peer = table_number known (name_bytes known.scene.text peer);
     import = said (last_pipe_import PassAll settings);
@@ -137,9 +147,24 @@ names_of protocols = map (λ p. p.name) protocols
 abbrev pub names_in : (text : List ℕ) → List conf.Declaration → List (List ℕ)
 names_in text ds = names_of (protocols_behind text [] (filter_sources [] ds) [] ds)
 
+-- the filters by name, each by what its statements do behind those before it
+abbrev pub filter_in : (text : List ℕ) → (names : List (List ℕ))
+    → (before : List conf.Declaration) → conf.Declaration → List (List ℕ × Filter)
+filter_in text names before (conf.DefineFilter at name ss) =
+    (name_bytes text name, verdict text before names ss) ∷ []
+filter_in text names before _ = []
+
+abbrev pub filters_behind : (text : List ℕ) → (names : List (List ℕ))
+    → (before : List conf.Declaration) → List conf.Declaration → List (List ℕ × Filter)
+filters_behind text names before [] = []
+filters_behind text names before (d ∷ ds) =
+    filter_in text names before d ++ filters_behind text names (before ++ d ∷ []) ds
+
 -- what a configuration comes to
 unfoldable pub system_in : (text : List ℕ) → List conf.Declaration → System
 system_in text ds = record {
   tables = (behind (at_start text) ds).tables;
+  filters = filters_behind text (names_in text ds) [] ds;
+  asked = asked_behind text (names_in text ds) ds;
   protocols = protocols_behind text (names_in text ds) (filter_sources [] ds) [] ds;
 }

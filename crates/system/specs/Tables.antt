@@ -1,7 +1,6 @@
--- Whether the tables that channels name are there (`AllFit`): each is one of the configuration's, by
--- its number, and of the channel's family.
--- Not modelled: the two tables of a pipe, which isn't played.
--- From: BIRD User's Guide, "Channel options", `table`.
+-- Whether the tables that channels and pipes name are there (`AllFit`): each is one of the
+-- configuration's, by its number, and of the channel's family, both of a pipe's of one family.
+-- From: BIRD User's Guide, "Channel options", `table`, and "Pipe".
 -- Example: a channel `ipv6 { table master6; }` has the table of number 1, which is of IPv6.
 use Rattle.std.specs.Prelude.{◌≡◌, ⊤, ℕ, List, [], ◌∷◌, Some, slice_get}
 use Rattle.bits_ip.specs.declared.address.Family.{Family}
@@ -23,7 +22,7 @@ Fits tables c = Has tables c.table c.family
 abbrev pub BodyFits : Tables → Body → Type 0
 BodyFits tables (IsStatic p) = Fits tables p.channel
 BodyFits tables (IsBgp p) = Fits tables p.channel
-BodyFits tables (IsPipe p) = ⊤
+BodyFits tables (IsPipe p) = Has tables p.table p.family × Has tables p.peer p.family
 
 -- so is each protocol's
 abbrev pub AllFit : Tables → List Protocol → Type 0

@@ -1,6 +1,8 @@
 //! What a text says of a system: one thing at most. And what holds of each that is accepted.
 ghost use Rattle.std.specs.Prelude.{◌≡◌, ◌≤◌, ℕ, length, List};
 ghost use Rattle.conf_ast.specs.declared.kind.ConfKind.{ConfKind};
+ghost use Rattle.conf_rules.specs.Joints.{IsForest};
+ghost use Rattle.system.specs.Pipes.{pipes_of};
 ghost use Rattle.system.specs.System.{System};
 ghost use Rattle.system.specs.Tables.{AllFit};
 ghost use Rattle.system.specs.Texts.{IsRefusedAt, IsSystem};
@@ -31,8 +33,16 @@ pub fn configurations_have_few_protocols()
         → length system.protocols ≤ 256 }
 {}
 
-/// In an accepted configuration the table of each channel is there, and is of the channel's family.
+/// In an accepted configuration the table of each channel is there, and is of the channel's family;
+/// so are both tables of each pipe, which are of one family.
 pub fn channels_have_their_tables()
     ensures { (text : List ℕ) (system : System) → IsSystem text system
         → AllFit system.tables system.protocols }
+{}
+
+/// The pipes of an accepted configuration close no cycle: each joins two tables that the pipes
+/// before it don't join.
+pub fn pipes_form_a_forest()
+    ensures { (text : List ℕ) (system : System) → IsSystem text system
+        → IsForest (pipes_of system.protocols) }
 {}

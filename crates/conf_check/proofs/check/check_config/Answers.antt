@@ -5,12 +5,12 @@ use Rattle.conf_ast.specs.declared.configurations.Statement.{Statement}
 use Rattle.conf_ast.specs.Configurations as conf
 use Rattle.conf_ast.specs.Configurations.{configuration_of, declaration_of}
 use Rattle.filt_types.proofs.Lookups.{next_item, nothing_left}
-use Rattle.conf_rules.specs.Known.{Known}
+use Rattle.conf_rules.specs.Known.{ArePipesThere, Known}
 use Rattle.conf_rules.specs.Seen.{known_of}
 use Rattle.conf_check.specs.Behind.{at_start}
 use Rattle.conf_check.specs.Refused.{refusal_of}
 use Rattle.conf_check.specs.Seen.{AreNamed, Stands}
-use Rattle.conf_check.proofs.Names.{named_behind}
+use Rattle.conf_check.proofs.Names.{named_behind, there_behind}
 use Rattle.conf_check.proofs.Standing.{fault_whole, one_taken, refusal_turn, stands_checked, stands_more}
 use Rattle.conf_check.proofs.check.check_config.Goals as goal
 
@@ -20,9 +20,13 @@ loop-statement-init c = record {
   refusal = ap (λ (k : Known). refusal_of k (configuration_of c.deref-statement-items.result.now)) (c.in_ok-checked.ensures.stands c.args.config.now.text.now).declared;
 }
 
-pub check-requires : goal.check-requires
-check-requires c = subst (λ (k : Known). AreNamed k) (sym c.loop-statement.invariant.stands.declared)
+pub check-requires-clause-named : goal.check-requires-clause-named
+check-requires-clause-named c = subst (λ (k : Known). AreNamed k) (sym c.loop-statement.invariant.stands.declared)
     (named_behind c.args.config.now.text.now (configuration_of (take c.loop-statement.statement-index c.deref-statement-items.result.now)))
+
+pub check-requires-clause-pipes : goal.check-requires-clause-pipes
+check-requires-clause-pipes c = subst (λ (k : Known). ArePipesThere k) (sym c.loop-statement.invariant.stands.declared)
+    (there_behind c.args.config.now.text.now (configuration_of (take c.loop-statement.statement-index c.deref-statement-items.result.now)))
 
 pub loop-statement-preserved : goal.loop-statement-preserved
 loop-statement-preserved c =

@@ -16,19 +16,19 @@ first text empty one none is = is ∙ ap (λ (k : Known). with_table k (master f
 pub declare_table-requires-2-clause-free : goal.declare_table-requires-2-clause-free
 declare_table-requires-2-clause-free c =
     let n = c.nothing-declared in
-    let none = empty_known [] n.result n.ensures.constants n.ensures.functions n.ensures.others n.ensures.tables n.ensures.filters n.ensures.protocols in
+    let none = empty_known [] n.result n.ensures.constants n.ensures.functions n.ensures.others n.ensures.tables n.ensures.filters n.ensures.protocols n.ensures.pipes in
     ap (λ (k : Known). is_declared k (master families.V6)) (first [] n.result c.declare_table.new.declared none (c.in_ok-declare_table.ensures.known []))
 
 pub declare_table-requires-2-clause-named : goal.declare_table-requires-2-clause-named
 declare_table-requires-2-clause-named c =
     let n = c.nothing-declared in
-    let none = empty_known [] n.result n.ensures.constants n.ensures.functions n.ensures.others n.ensures.tables n.ensures.filters n.ensures.protocols in
+    let none = empty_known [] n.result n.ensures.constants n.ensures.functions n.ensures.others n.ensures.tables n.ensures.filters n.ensures.protocols n.ensures.pipes in
     subst (λ (k : Known). AreNamed k) (sym (first [] n.result c.declare_table.new.declared none (c.in_ok-declare_table.ensures.known [])))
     (named_table (nothing []) (master families.V4) families.V4 (named_nothing (nothing []) refl refl))
 
 pub returns-clause-known : goal.returns-clause-known
 returns-clause-known c = λ text.
     let n = c.nothing-declared in
-    let none = empty_known text n.result n.ensures.constants n.ensures.functions n.ensures.others n.ensures.tables n.ensures.filters n.ensures.protocols in
+    let none = empty_known text n.result n.ensures.constants n.ensures.functions n.ensures.others n.ensures.tables n.ensures.filters n.ensures.protocols n.ensures.pipes in
     c.in_ok-declare_table-2.ensures.known text
     ∙ ap (λ (k : Known). with_table k (master families.V6) families.V6) (first text n.result c.declare_table.new.declared none (c.in_ok-declare_table.ensures.known text))

@@ -1,13 +1,14 @@
 use Rattle.std.proofs.Common.{List, ℕ, Option, ap, sym, ◌∙◌}
 use Rattle.conf_lex.specs.declared.named.Name.{Name}
 use Rattle.conf_rules.specs.Seen.{known_of}
-use Rattle.conf_check.specs.Checked as of
+use Rattle.conf_rules.specs.Known.{table_number}
+use Rattle.conf_rules.specs.Protocols.{primary_name}
 use Rattle.conf_check.proofs.pipe.primary.Goals as goal
 
 pub returns-in-None : goal.returns-in-None
-returns-in-None c = c.table_number.ensures c.args.text.now ∙ ap (λ (n : List ℕ). of.table_number (known_of c.args.text.now c.args.declared.now) n)
-    (sym (ap (λ (o : Option Name). of.primary_name c.args.text.now o) c.in-None.is))
+returns-in-None c = c.table_number.ensures c.args.text.now ∙ ap (λ (n : List ℕ). table_number (known_of c.args.text.now c.args.declared.now) n)
+    (sym (ap (λ (o : Option Name). primary_name c.args.text.now o) c.in-None.is))
 
 pub returns-in-Some : goal.returns-in-Some
-returns-in-Some c = c.table_number-in-Some.ensures c.args.text.now ∙ ap (λ (n : List ℕ). of.table_number (known_of c.args.text.now c.args.declared.now) n)
-    (c.bytes.ensures ∙ sym (ap (λ (o : Option Name). of.primary_name c.args.text.now o) c.in-Some.is))
+returns-in-Some c = c.table_number-in-Some.ensures c.args.text.now ∙ ap (λ (n : List ℕ). table_number (known_of c.args.text.now c.args.declared.now) n)
+    (c.bytes.ensures ∙ sym (ap (λ (o : Option Name). primary_name c.args.text.now o) c.in-Some.is))

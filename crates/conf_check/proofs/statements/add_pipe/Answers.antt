@@ -1,13 +1,13 @@
-use Rattle.std.proofs.Common.{List, ℕ, ◌++◌, ap, ◌∙◌, refl}
+use Rattle.std.proofs.Common.{List, ℕ, ◌++◌, map, ap, ◌∙◌}
 use Rattle.std.specs.List.{list_any}
-use Rattle.conf_ast.specs.Configurations as conf
+use Rattle.conf_ast.specs.declared.configurations.PipeOption.{PipeOption}
 use Rattle.conf_ast.specs.Configurations.{instance_of, pipe_setting_of}
-use Rattle.conf_rules.specs.Protocols.{own_name, pipe_names, pipe_stem}
+use Rattle.conf_rules.specs.Protocols.{joint_of, own_name, pipe_names, pipe_stem}
 use Rattle.conf_rules.specs.Seen.{known_of}
 use Rattle.conf_check.specs.declared.checked.ProtocolBody.TheVariants as bodies
 use Rattle.conf_check.specs.Seen.{other_names}
 use Rattle.conf_check.proofs.Allowed.{pipe_few, pipe_free, pipe_has_peer}
-use Rattle.conf_check.proofs.Growing.{protocol_declares}
+use Rattle.conf_check.proofs.Growing.{pipe_declares}
 use Rattle.conf_check.proofs.Names.{among}
 use Rattle.conf_check.proofs.statements.add_pipe.Goals as goal
 
@@ -28,9 +28,10 @@ returns c =
     let known = known_of c.args.text.now c.args.checked.now.declared in
     let p = instance_of pipe_setting_of c.args.protocol.now in
     record {
-      declares = protocol_declares c.args.text.now (conf.Pipe p) c.args.checked.now.declared c.push_protocol.new.checked.declared c.declare_pipe.new.scope (pipe_names (own_name known pipe_stem p.name)) refl (λ x. refl)
+      declares = pipe_declares c.args.text.now p c.args.checked.now.declared c.push_protocol.new.checked.declared c.declare_joint.new.declared c.declare_pipe.new.scope c.joint_of-joint.result (c.joint_of-joint.ensures ∙ ap (λ (xs : List PipeOption). joint_of known (map pipe_setting_of xs)) c.as_slice.ensures.value)
           c.in_ok-declare_pipe.ensures.stays (c.in_ok-declare_pipe.ensures.others ∙ ap (λ (n : List ℕ). other_names c.args.checked.now.declared.scope ++ pipe_names n) (c.deref.ensures.value ∙ c.in_ok-name.ensures))
-          c.in_ok-push_protocol.ensures.scope (c.in_ok-push_protocol.ensures.known c.args.text.now);
+          c.in_ok-push_protocol.ensures.scope (c.in_ok-push_protocol.ensures.known c.args.text.now)
+          c.in_ok-declare_joint.ensures.scope (c.in_ok-declare_joint.ensures.known c.args.text.now);
       filters = c.in_ok-push_protocol.ensures.filters;
       protocols = (record { name = c.in_ok-name.name.items; body = bodies.Pipe c.in_ok-def.def }, c.in_ok-push_protocol.ensures.protocols, record { name = c.in_ok-name.ensures; body = c.in_ok-def.ensures });
     }
