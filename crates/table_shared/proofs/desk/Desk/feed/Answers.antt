@@ -30,5 +30,5 @@ returns-clause-chunk c =
       ends = c.in_ok-upto.ensures;
       more = more_is c.args.max own c.in_ok-upto.upto c.is_some.result c.is_some.ensures c.in_ok-upto.ensures;
       family = subst (λ (t : Terms TableOpening). AreOfFamily t.opening.family c.from_vec.result) (sym cursor)
-          (family_part c.args.cursor.now.0.1.seen.terms.opening.family (option_copied c.args.from) c.args.max c.args.self.now.rib.rows c.from_vec.result kept.nets (c.from_vec.ensures ∙ c.in_ok-rows.ensures));
+          (family_part c.args.cursor.now.0.1.seen.terms.opening.family (option_copied c.args.from) c.args.max c.args.self.now.rib.rows c.from_vec.result kept.nets (c.from_vec.ensures ∙ c.in_ok-rows.ensures.rows));
     }
