@@ -16,4 +16,4 @@ mod single;
 #[cfg(test)]
 mod threads;
 
-pub use bench::{Bench, Refused, is_whole, words_of};
+pub use bench::{Bench, Reader, Refused, is_whole, words_of};

@@ -1,0 +1,346 @@
+#!/usr/bin/env python3
+"""Times journals and shared tables, beside plain Rust (plain_journal.rs) and the plain table of today.
+
+    bench/journal.py [COUNT]
+
+It builds a program over copies of the repository's crates, with what `rt check` kept in crates/table_shared_tests and
+crates/jour_tests and below, and wants rustc and valgrind. Each figure is the work of COUNT entries (by
+default 200,000), found as the difference between two runs: instructions as callgrind counts them, and the shortest of
+five runs in seconds of a processor.
+
+take    an entry of 13 words is taken by `Cursor::next` and `advance`, in turns of a thousand, beside an unproved ring
+        of atomic words and a queue under a lock. The bar is twice the ring.
+update  a table of 100,000 nets has one of their routes changed (a BGP route with a path of four numbers), by
+        `Table::update`, beside the same change of the table that a core plays on. The bar is 1.5 times that.
+race    two threads enter COUNT changes each into a table of 4,096 cells, and two cursors take all; what each read is
+        compared with the history. Beside it a ring and a queue with a thread at each end. Seconds by the clock.
+"""
+
+import pathlib
+import resource
+import shutil
+import subprocess
+import sys
+import tempfile
+import time
+
+TOP = pathlib.Path(__file__).resolve().parent.parent
+COUNT = 200_000
+NETS = 100_000
+RUNS = 5
+
+CRATES = "table_shared_tests jour_tests table_shared rec_words rib attrs bits_ip jour jour_rule keyed_lock outside_io atomic_table"
+
+PROGRAM = """
+//! What bench/journal.py measures: journals, shared tables, and the plain table beside them.
+#![tactic(auto)]
+ghost use Rattle.std.specs.Prelude.{◌≡◌, ◌<◌, ◌≤◌, ◌^◌, IfOk, option_copied};
+ghost use Rattle.bits_ip.specs.declared.address.Family.TheVariants.{V4};
+ghost use Rattle.table_shared_tests.specs.Changes.{IsOfSource};
+
+use attrs::{Change, JEntry, Route};
+use bits_ip::{Family, OutOfMemory};
+use jour_rule::buf::Buf;
+use rib::Rib;
+use std::alloc::Global;
+use std::env;
+use std::process::ExitCode;
+use std::sync::Wait;
+use std::thread::Threads;
+use jour_tests::{Bench as Journal, Reader};
+use table_shared_tests::{Bench, Race, learnt_change, numbered_net};
+
+/// The table that a core plays on: its rows, and the records of its changes.
+#[derive(Drop)]
+struct Plain {
+    rib: Rib,
+    entries: Vec<JEntry>,
+    ghost family: { rib.family ≡ V4 },
+}
+
+impl Plain {
+    fn append(&mut self, change: Change) -> Result<(), OutOfMemory>
+        requires { IsOfSource 0 change }
+    {
+        self.rib.reserve(&change)?;
+        let copy = copy_option(change.new.as_ref())?;
+        let Change { net, num, new } = change;
+        let _ = self.rib.change(Change {
+            net,
+            num,
+            new: copy,
+        });
+        let best = self.rib.copy_best(&net)?;
+        self.entries.push(JEntry {
+            net,
+            num,
+            new,
+            best,
+        })?;
+        Ok(())
+    }
+}
+
+fn copy_option(route: Option<&Route>) -> Result<Option<Route>, OutOfMemory>
+    ensures { IfOk result (λ copy. copy ≡ option_copied route.entry) }
+{
+    match route {
+        Some(route) => Ok(Some(route.copy()?)),
+        None => Ok(None),
+    }
+}
+
+/// An entry of 13 words.
+fn entry(number: u64) -> Buf {
+    let mut words = Buf::new();
+    words.push(13);
+    for _ in 0..12u32 {
+        if words.len() < 256 {
+            words.push(number);
+        }
+    }
+    words
+}
+
+fn take(cursor: &mut Reader, words: &mut Buf) {
+    let Some(_) = cursor.next(words) else {
+        return;
+    };
+    cursor.advance();
+}
+
+fn take_turn(cursor: &mut Option<Reader>) {
+    let mut words = Buf::new();
+    if let Some(cursor) = cursor.as_mut() {
+        for _ in 0..1000u32 {
+            take(cursor, &mut words);
+        }
+    }
+}
+
+/// Appends so many entries over 1,024 cells, and takes them in turns of a thousand.
+fn append_and_take(alloc: Global, count: u32, cursors: u32) -> Result<u32, OutOfMemory>
+    requires { cursors ≤ 512 }
+{
+    let Some((mut journal, mut closed)) = Journal::open(alloc, 1024, cursors)? else {
+        return Ok(0);
+    };
+    let mut cursor = journal.start_one(&mut closed);
+    let mut done = 0u32;
+    for number in 0..count {
+        if journal.put(entry(u64::from(number)).words()).is_ok() {
+            done = done.wrapping_add(1);
+        }
+        if number % 1000 == 999 {
+            take_turn(&mut cursor);
+        }
+    }
+    Ok(done)
+}
+
+/// Which of 100,000 nets is changed next: all of them, in a scattered order.
+fn place(number: u32) -> u32
+    ensures { result < 2 ^ 24 }
+{
+    (u64::from(number) * 7919 % 100_000) as u32
+}
+
+fn make(alloc: Global, count: u32) -> Result<u32, OutOfMemory> {
+    let mut done = 0u32;
+    for number in 0..count {
+        let Ok(net) = numbered_net(place(number)) else {
+            break;
+        };
+        let change = learnt_change(alloc, &net, 0, number)?;
+        if change.new.is_some() {
+            done = done.wrapping_add(1);
+        }
+    }
+    Ok(done)
+}
+
+fn change_plain(alloc: Global, count: u32) -> Result<u32, OutOfMemory> {
+    let mut table = Plain {
+        rib: Rib::make(alloc, Family::V4),
+        entries: Vec::new(alloc),
+    };
+    let mut done = 0u32;
+    for number in 0..count {
+        let Ok(net) = numbered_net(place(number)) else {
+            break;
+        };
+        let change = learnt_change(alloc, &net, 0, number)?;
+        table.append(change)?;
+        done = done.wrapping_add(1);
+    }
+    Ok(done)
+}
+
+fn update<R: Wait>(rt: &R, alloc: Global, count: u32) -> Result<u32, OutOfMemory> {
+    let Some(mut bench) = Bench::open(alloc, 4096, 0)? else {
+        return Ok(0);
+    };
+    let mut done = 0u32;
+    for number in 0..count {
+        let Ok(net) = numbered_net(place(number)) else {
+            break;
+        };
+        if bench.learn(rt, alloc, &net, number).is_ok() {
+            done = done.wrapping_add(1);
+        }
+        if number % 1000 == 999 {
+            let _at = bench.skip()?;
+        }
+    }
+    Ok(done)
+}
+
+fn run_race<R: Threads + Wait + Sync>(rt: &R, alloc: Global, count: u32) -> Result<u32, OutOfMemory> {
+    let Some(race) = Race::open(alloc, 4096)? else {
+        return Ok(0);
+    };
+    let Some(raced) = race.run(rt, alloc, count)? else {
+        return Ok(0);
+    };
+    if raced.history.count == 2 * u64::from(count)
+        && raced.left == raced.history
+        && raced.right == raced.history
+    {
+        Ok(count)
+    } else {
+        Ok(0)
+    }
+}
+
+fn work<R: Threads + Wait + Sync>(
+    rt: &R,
+    alloc: Global,
+    mode: &str,
+    count: u32,
+) -> Result<u32, OutOfMemory> {
+    if mode == "append" {
+        return append_and_take(alloc, count, 0);
+    }
+    if mode == "take" {
+        return append_and_take(alloc, count, 1);
+    }
+    if mode == "make" {
+        return make(alloc, count);
+    }
+    if mode == "plain" {
+        return change_plain(alloc, count);
+    }
+    if mode == "update" {
+        return update(rt, alloc, count);
+    }
+    run_race(rt, alloc, count)
+}
+
+fn main(rt: HostRuntime) -> ExitCode {
+    let alloc = rt.alloc();
+    let Ok(mut words) = env::args(&rt) else {
+        return ExitCode::from(1);
+    };
+    let _program = words.next();
+    let Some(mode) = words.next() else {
+        return ExitCode::from(1);
+    };
+    let Some(count) = words.next() else {
+        return ExitCode::from(1);
+    };
+    let Ok(count) = count.parse::<u32>() else {
+        return ExitCode::from(1);
+    };
+    match work(&rt, alloc, &mode, count) {
+        Ok(done) => {
+            let _ = println!(rt; "{done}");
+            ExitCode::from(0)
+        }
+        Err(OutOfMemory) => ExitCode::from(1),
+    }
+}
+"""
+
+
+def build(folder):
+    """The proved program, and the plain one."""
+    crate = folder / "crates" / "journal_bench"
+    (crate / "src").mkdir(parents=True)
+    (crate / "src" / "main.rt").write_text(PROGRAM.lstrip())
+    names = CRATES.split()
+    lines = [line for line in (TOP / "crates.txt").read_text().splitlines() if line.split(":")[0] in names]
+    for line in lines:
+        name = line.split(":")[0]
+        shutil.copytree(TOP / "crates" / name, folder / "crates" / name, symlinks=True)
+    (folder / "crates.txt").write_text("\n".join([*lines, f"journal_bench: {CRATES}"]) + "\n")
+    (folder / "HANDLES").write_text((TOP / "HANDLES").read_text())
+    subprocess.run(["rt", "run", "--", "make", "0"], cwd=crate, stdout=subprocess.DEVNULL, check=True)
+    plain = folder / "plain"
+    source = pathlib.Path(__file__).with_name("plain_journal.rs")
+    subprocess.run(["rustc", "-O", "--edition", "2021", "-o", plain, source], check=True)
+    return crate / "out" / "journal_bench", plain
+
+
+def instructions(program, work, count):
+    command = ["valgrind", "--tool=callgrind", "--callgrind-out-file=/dev/null", program, work, str(count)]
+    told = subprocess.run(command, stdout=subprocess.DEVNULL, stderr=subprocess.PIPE, text=True, check=True).stderr
+    return int(told.rpartition("Collected :")[2].split()[0])
+
+
+def seconds(program, work, count):
+    before = resource.getrusage(resource.RUSAGE_CHILDREN)
+    subprocess.run([program, work, str(count)], stdout=subprocess.DEVNULL, check=True)
+    after = resource.getrusage(resource.RUSAGE_CHILDREN)
+    return after.ru_utime + after.ru_stime - before.ru_utime - before.ru_stime
+
+
+def each(program, work, start, count):
+    """The instructions and the nanoseconds of one entry."""
+    counted = instructions(program, work, start + count) - instructions(program, work, start)
+    few = min(seconds(program, work, start) for _ in range(RUNS))
+    many = min(seconds(program, work, start + count) for _ in range(RUNS))
+    return counted / count, (many - few) * 1e9 / count
+
+
+def row(name, figures, bar=None):
+    told = f"{name:34} {figures[0]:12.0f} {figures[1]:10.0f}"
+    if bar:
+        told += f" {figures[0] / bar[0]:12.2f} {figures[1] / bar[1]:10.2f}"
+    print(told, flush=True)
+
+
+def less(more, fewer):
+    return more[0] - fewer[0], more[1] - fewer[1]
+
+
+def clock(program, work, count):
+    begun = time.monotonic()
+    told = subprocess.run([program, work, str(count)], stdout=subprocess.PIPE, text=True, check=True).stdout
+    return time.monotonic() - begun, told.strip()
+
+
+def main():
+    if len(sys.argv) > 2:
+        sys.exit("usage: bench/journal.py [COUNT]")
+    count = int(sys.argv[1]) if len(sys.argv) > 1 else COUNT
+    with tempfile.TemporaryDirectory() as name:
+        program, plain = build(pathlib.Path(name))
+        print(f"{'each':34} {'instructions':>12} {'ns':>10} {'of the bar':>12} {'':>10}")
+        ring = less(each(plain, "take", 0, count), each(plain, "append", 0, count))
+        queue = less(each(plain, "mutex-take", 0, count), each(plain, "mutex-append", 0, count))
+        ours = less(each(program, "take", 0, count), each(program, "append", 0, count))
+        row("take, unproved ring", ring)
+        row("take, queue under a lock", queue)
+        row("take, cursor", ours, ring)
+        made = each(program, "make", NETS, count)
+        today = less(each(program, "plain", NETS, count), made)
+        shared = less(each(program, "update", NETS, count), made)
+        row("change, plain table", today)
+        row("update, shared table", shared, today)
+        for label, which, work in [("ring", plain, "two"), ("queue", plain, "mutex-two"), ("race", program, "race")]:
+            taken, told = clock(which, work, count)
+            print(f"{label:34} {taken:12.2f} s {told}", flush=True)
+
+
+if __name__ == "__main__":
+    main()
