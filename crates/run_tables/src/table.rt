@@ -1,31 +1,28 @@
 //! A table with its journal.
-ghost use Rattle.std.specs.Prelude.{◌≡◌, ◌<◌, ℕ, [], ◌∷◌, length, List, IfOk, IsTrue, OnOk, ◌↔◌, Option, Some, None, option_copied, slice_get};
+ghost use Rattle.std.specs.Prelude.{◌≡◌, ◌<◌, ◌≤◌, ℕ, [], ◌∷◌, drop, length, List, IfOk, IsSome, IsTrue, OnOk, ◌↔◌, Option, Some, None, option_copied, slice_get};
 ghost use Rattle.attrs.specs.declared.route.Change.{Change};
 ghost use Rattle.bits_ip.specs.declared.address.Family.{Family};
 ghost use Rattle.core_machine.specs.Rules.{IsRules, Rules};
 ghost use Rattle.attrs.specs.Table.{Shows};
 ghost use Rattle.core_machine.specs.Histories.{content_of};
-ghost use Rattle.sys_run.specs.Tables.{Admits, IsChunkOf, IsCut, IsTable};
+ghost use Rattle.run_tables.specs.Tables.{Admits, IsTable, IsWhole};
 
 use attrs::{Change, Chunk, JEntry, Route, Row, Select, Seq};
-use bits_ip::{Family, OutOfMemory, Prefix};
+use bits_ip::{Family, OutOfMemory};
 use rib::Rib;
 use std::alloc::Global;
 
-/// How many nets a chunk of a feed has at most.
-const CHUNK: u32 = 256;
-
 /// A table of routes, and all its changes so far.
 #[derive(Debug, Drop)]
-pub(crate) struct Table {
+pub struct Table {
     family: Family,
-    pub(crate) rib: Rib,
-    pub(crate) entries: Vec<JEntry>,
+    rib: Rib,
+    entries: Vec<JEntry>,
 }
 
 impl Table {
     /// A table without routes.
-    pub(crate) fn make(alloc: Global, family: Family) -> Table
+    pub fn make(alloc: Global, family: Family) -> Table
         ensures { (rules : Rules) → IsTable rules family [] result }
     {
         Table {
@@ -36,7 +33,7 @@ impl Table {
     }
 
     /// How many changes there were.
-    pub(crate) fn head(&self) -> u64
+    pub fn head(&self) -> u64
         ensures { result ≡ length self.now.entries.items }
     {
         self.entries.len() as u64
@@ -49,10 +46,18 @@ impl Table {
         self.entries.get(position as usize)
     }
 
+    /// The changes from a position on.
+    pub fn since(&self, position: u64) -> &[JEntry]
+        requires { position ≤ length self.now.entries.items }
+        ensures { result.now ≡ drop position self.now.entries.items }
+    {
+        &self.entries[position as usize..]
+    }
+
     /// Whether the change is one of this table: of its family, and of a route that tells its
-    /// source. Imports of a protocol over the table give no other.
+    /// source.
     fn admits(&self, change: &Change) -> bool
-        ensures { IsTrue result → Admits self.now.family change.now }
+        ensures { IsTrue result ↔ Admits self.now.family change.now }
     {
         let family = is_same_family(change.net.family(), self.family);
         match &change.new {
@@ -61,11 +66,12 @@ impl Table {
         }
     }
 
-    /// Changes the table, and goes on with the journal.
+    /// Changes the table, and goes on with the journal. Imports of a protocol and pipes over the
+    /// table give no change that it doesn't admit.
     pub(crate) fn append(&mut self, change: Change) -> Result<(), OutOfMemory>
         requires { self.old.family ≡ self.old.rib.family }
         ensures { OnOk result ((rules : Rules) (family : Family) (history : List Change)
-            → IsRules rules → change.num < rules.protocols
+            → IsRules rules → (IsSome change.new → change.num < rules.protocols)
             → IsTable rules family history self.old
             → IsTable rules family (change ∷ history) self.new) }
     {
@@ -90,26 +96,24 @@ impl Table {
         Ok(())
     }
 
-    /// The rows from a net on, or from the first one: a part of a feed at the table's head.
-    pub(crate) fn chunk(&self, from: Option<Prefix>) -> Result<Chunk, OutOfMemory>
-        ensures from { IfOk result (λ chunk. chunk.from ≡ from) }
-        ensures head { IfOk result (λ chunk. (rules : Rules) (family : Family)
-            (history : List Change) → IsRules rules → IsTable rules family history self.now
-            → IsChunkOf rules family history chunk) }
+    /// All rows, as a feed at the table's head reads them.
+    pub(crate) fn whole(&self) -> Result<Chunk, OutOfMemory>
+        ensures { IfOk result (λ chunk. (rules : Rules) (family : Family)
+            (history : List Change) → IsTable rules family history self.now
+            → IsWhole history chunk) }
     {
-        let mut rows = self.rib.next_nets(from.as_ref(), CHUNK + 1)?;
-        let upto = end_of(&mut rows);
+        let rows = self.rows()?;
         Ok(Chunk {
             at: self.head(),
-            from,
-            upto,
+            from: None,
+            upto: None,
             rows: Seq::from_vec(rows),
-            more: upto.is_some(),
+            more: false,
         })
     }
 
     /// All rows.
-    pub(crate) fn rows(&self) -> Result<Vec<Row>, OutOfMemory>
+    pub fn rows(&self) -> Result<Vec<Row>, OutOfMemory>
         ensures { IfOk result (λ rows. (rules : Rules) (family : Family) (history : List Change)
             → IsTable rules family history self.now → Shows rows.items (content_of history)) }
     {
@@ -123,19 +127,6 @@ fn copy_option(route: Option<&Route>) -> Result<Option<Route>, OutOfMemory>
     match route {
         Some(route) => Ok(Some(route.copy()?)),
         None => Ok(None),
-    }
-}
-
-/// Takes the net behind a chunk off its rows, where there is one.
-fn end_of(rows: &mut Vec<Row>) -> Option<Prefix>
-    ensures { IsCut rows.old.items rows.new.items result }
-{
-    if rows.len() <= CHUNK as usize {
-        return None;
-    }
-    match rows.pop() {
-        Some(row) => Some(row.net),
-        None => None,
     }
 }
 
