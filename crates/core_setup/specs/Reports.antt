@@ -1,37 +1,43 @@
 -- What is reported of a printed phase (`IsReport`, `AreReports`): its parts in the order of tables,
 -- protocols and channels, each under its name; every field of a report.
--- Not modelled: its text (specs/Report of report), pipes.
+-- Not modelled: its text (specs/Report of report).
 -- From: own.
 -- Example: the worked run of docs/DEFINITIONS.md.
-use Rattle.std.specs.Prelude.{◌≡◌, ◌+◌, ℕ, Bool, true, false, List, [], ◌∷◌, ◌++◌, length, map, reverse, Option, Some, None, slice_get, ⊤}
+use Rattle.std.specs.Prelude.{◌≡◌, ◌+◌, ℕ, Bool, true, false, List, [], ◌∷◌, ◌++◌, length, map, reverse, Option, Some, None, is_some, slice_get, ⊤}
 use Rattle.std.specs.List.Sorted.{IsStrictlySortedBy}
 use Rattle.std.specs.Map.{keys_of}
-use Rattle.bits_ip.specs.Prefix.{Net, net_cmp}
 use Rattle.bits_ip.specs.declared.address.Family.{Family}
 use Rattle.attrs.specs.declared.attributes.Attrs.{Attrs}
 use Rattle.attrs.specs.Table.{Shows}
 use Rattle.attrs.specs.declared.route.Row.{Row}
+use Rattle.import_core.specs.Imports.{is_up}
 use Rattle.import_core.specs.declared.operation.Op.{Op}
 use Rattle.import_core.specs.declared.step.Done.{Done}
+use Rattle.export_core.specs.Keys.{key_cmp}
 use Rattle.export_core.specs.Marks.{at}
-use Rattle.export_core.specs.Sends.{key_of}
+use Rattle.export_core.specs.declared.log.Key.{Key}
 use Rattle.report.specs.declared.phase.ChannelReport.{ChannelReport}
 use Rattle.report.specs.declared.phase.ExportReport.{ExportReport}
 use Rattle.report.specs.declared.phase.JournalReport.{JournalReport}
+use Rattle.report.specs.declared.phase.ModeReport.{ModeReport}
 use Rattle.report.specs.declared.phase.PhaseReport.{PhaseReport}
 use Rattle.report.specs.declared.phase.ProtocolReport.{ProtocolReport}
+use Rattle.report.specs.declared.phase.ProtocolState.{ProtocolState}
+use Rattle.report.specs.declared.phase.ProtocolState.TheVariants.{Imports, Pipe}
 use Rattle.report.specs.declared.phase.ReplyReport.{ReplyReport}
 use Rattle.report.specs.declared.phase.Standing.{Standing}
 use Rattle.report.specs.declared.phase.TableReport.{TableReport}
 use Rattle.show_route.specs.Reply.{reply_text}
 use Rattle.core_machine.specs.Histories.{content_of, front}
 use Rattle.core_machine.specs.Legal.{Joined, Printed, join}
-use Rattle.core_machine.specs.Lines.{Reply}
+use Rattle.core_machine.specs.Lines.{Reply, ops_of}
 use Rattle.core_machine.specs.Replies.{replies_to}
 use Rattle.core_machine.specs.Rules.{Rules}
+use Rattle.core_machine.specs.SyncState.{Shown}
+use Rattle.core_setup.specs.Channels.{Channel, channels}
 use Rattle.core_setup.specs.Pairs.{Pairs}
 use Rattle.core_setup.specs.Protocols.{rules_of}
-use Rattle.core_setup.specs.Setup.{Exports, Protocol, Setup}
+use Rattle.core_setup.specs.Setup.{Body, IsPipe, IsSource, Protocol, Setup}
 
 -- ---- operations
 
@@ -45,7 +51,7 @@ dones rules i earlier (op ∷ ops) =
 abbrev pub protocol_report : Rules → Joined → Printed → ℕ → Protocol → ProtocolReport
 protocol_report rules past p i protocol = record {
   name = protocol.name;
-  ops = reverse (dones rules i (past.ops i) (p.ops i));
+  ops = reverse (dones rules i (ops_of (past.ops i)) (ops_of (p.ops i)));
 }
 
 -- ---- tables
@@ -62,48 +68,50 @@ pub record IsTableReport
   pub name : report.name ≡ table.0
   pub rows : Shows report.rows (p.shown.rows number)
 
--- ---- channels: those of the protocols that have one, by the protocols' numbers
+-- ---- protocols at the end of a phase
 
-abbrev pub with_channel : ℕ → List ℕ → Option Exports → List (ℕ × List ℕ) → List (ℕ × List ℕ)
-with_channel number name None more = more
-with_channel number name (Some exports) more = (number, name) ∷ more
+-- of a pipe whether it is up, and else the mode and how many nets have an accepted route
+abbrev pub state_in : Body → Shown → ℕ → ProtocolState
+state_in (IsSource p) shown i = Imports (shown.modes i) (length (shown.accepted i))
+state_in (IsPipe p) shown i = Pipe (is_up (shown.modes i))
 
-abbrev pub channels_from : ℕ → List Protocol → List (ℕ × List ℕ)
-channels_from number [] = []
-channels_from number (p ∷ more) =
-    with_channel number p.name p.exports (channels_from (number + 1) more)
+abbrev pub mode_report : Printed → ℕ → Protocol → ModeReport
+mode_report p i protocol =
+    record { name = protocol.name; state = state_in protocol.body p.shown i }
 
-abbrev pub channels : Setup → List (ℕ × List ℕ)
-channels setup = channels_from 0 setup.protocols
+-- ---- channels
 
-abbrev pub channel_report : Printed → ℕ × List ℕ → ChannelReport
-channel_report p channel = record {
-  name = channel.1;
-  pipe = false;
-  items = reverse (p.items channel.0);
+-- a direction of a pipe writes a table; its routes are told apart by their sources
+abbrev pub is_direction : Channel → Bool
+is_direction channel = is_some channel.target
+
+abbrev pub channel_report : Printed → ℕ → Channel → ChannelReport
+channel_report p c channel = record {
+  name = channel.name;
+  pipe = is_direction channel;
+  items = reverse (p.items c);
 }
 
-abbrev pub standing_of : Net × Attrs → Standing
-standing_of entry = record { key = key_of entry.0; attrs = entry.1 }
+abbrev pub standing_of : Key × Attrs → Standing
+standing_of entry = record { key = entry.0; attrs = entry.1 }
 
--- These values stand, in the order of nets, and no other.
-pub record AreStanding (standing : Net → Option Attrs) (items : List Standing) : Type 0 where
-  pub entries : List (Net × Attrs)
+-- These values stand, in the order of keys, and no other.
+pub record AreStanding (standing : Key → Option Attrs) (items : List Standing) : Type 0 where
+  pub entries : List (Key × Attrs)
   pub items_are : items ≡ map standing_of entries
-  pub ascend : IsStrictlySortedBy net_cmp (keys_of entries)
-  pub values : (net : Net) → at net entries ≡ standing net
+  pub ascend : IsStrictlySortedBy key_cmp (keys_of entries)
+  pub values : (key : Key) → at key entries ≡ standing key
 
-abbrev pub IsStandingReport : Bool → (Net → Option Attrs) → Option (List Standing) → Type 0
+abbrev pub IsStandingReport : Bool → (Key → Option Attrs) → Option (List Standing) → Type 0
 IsStandingReport false standing reported = reported ≡ None
 IsStandingReport true standing None = ⊥
 IsStandingReport true standing (Some items) = AreStanding standing items
 
-pub record IsExportReport (p : Printed) (channel : ℕ × List ℕ) (report : ExportReport)
+pub record IsExportReport (p : Printed) (c : ℕ) (channel : Channel) (report : ExportReport)
     : Type 0 where
-  pub name : report.name ≡ channel.1
-  pub pipe : report.pipe ≡ false
-  pub standing :
-      IsStandingReport (p.shown.up channel.0) (p.shown.standing channel.0) report.standing
+  pub name : report.name ≡ channel.name
+  pub pipe : report.pipe ≡ is_direction channel
+  pub standing : IsStandingReport (p.shown.up c) (p.shown.standing c) report.standing
 
 -- ---- replies
 
@@ -149,19 +157,15 @@ pub record IsReport
   pub journals :
       Pairs (λ n table r. r ≡ journal_report past p n table) 0 setup.tables report.journals
   pub channel_logs :
-      Pairs (λ n channel r. r ≡ channel_report p channel) 0 (channels setup) report.channels
+      Pairs (λ c channel r. r ≡ channel_report p c channel) 0 (channels setup) report.channels
   pub replies :
       Pairs (λ n reply r. IsReplyReport setup (join past p) reply r)
       0 (replies_from 0 actors p.replies) report.replies
   pub tables : Pairs (IsTableReport p) 0 setup.tables report.tables
   pub modes :
-      Pairs (λ i protocol r. r ≡ record {
-        name = protocol.name;
-        mode = p.shown.modes i;
-        accepted = Some (p.shown.accepted i);
-      }) 0 setup.protocols report.modes
+      Pairs (λ i protocol r. r ≡ mode_report p i protocol) 0 setup.protocols report.modes
   pub exports :
-      Pairs (λ n channel r. IsExportReport p channel r) 0 (channels setup) report.exports
+      Pairs (λ c channel r. IsExportReport p c channel r) 0 (channels setup) report.exports
 
 -- the reports of phases, numbered from a number on
 abbrev pub AreReports :

@@ -1,10 +1,11 @@
--- What is played (`Setup`): tables, and protocols with their filters and channels; that numbers,
--- tables and families fit (`IsSetup`). Names, families, what holds for all routes of a protocol,
--- filters as functions.
--- Not modelled: where all this comes from; pipes.
--- From: BIRD User's Guide, "Routing tables", "Protocol options" and "Channel options".
--- Example: a protocol of BGP has a channel, a static one none.
-use Rattle.std.specs.Prelude.{◌≡◌, ◌<◌, ◌+◌, ℕ, List, [], ◌∷◌, length, Option, Some, None, option_map, slice_get, ⊤}
+-- What is played (`Setup`): tables, and protocols. A protocol has routes of its own to import and
+-- perhaps a channel to a neighbour (`Source`), or it is a pipe between two tables (`Pipe`). That
+-- numbers, tables and families fit (`IsSetup`). Names, families, what holds for all routes of a
+-- protocol, filters as functions.
+-- Not modelled: where all this comes from.
+-- From: BIRD User's Guide, "Routing tables", "Protocol options", "Channel options" and "Pipe".
+-- Example: a protocol of BGP has a channel, a static one none, a pipe one each way.
+use Rattle.std.specs.Prelude.{◌≡◌, ◌≢◌, ◌<◌, ◌≤◌, ◌+◌, ℕ, false, List, [], ◌∷◌, length, Option, Some, None, option_map, slice_get, ⊤}
 use Rattle.attrs.specs.declared.attributes.Kind.{Kind}
 use Rattle.attrs.specs.declared.attributes.Kind.TheVariants.{Static, Bgp}
 use Rattle.bits_ip.specs.declared.address.Family.{Family}
@@ -12,13 +13,13 @@ use Rattle.export_core.specs.declared.passing.ExportSpec.{ExportSpec}
 use Rattle.import_core.specs.declared.import_spec.ImportSpec.{ImportSpec}
 use Rattle.import_core.specs.Decisions.{Filter}
 
--- what a channel sends a neighbour: what its gate and its filter let pass
+-- what a channel sends: what its gate and its filter let pass
 pub record Exports : Type 0 where
   pub spec : ExportSpec
   pub filter : Filter
 
-pub record Protocol : Type 0 where
-  pub name : List ℕ
+-- a protocol with routes of its own: a static one, or one of BGP
+pub record Source : Type 0 where
   -- the number of the table that it imports to, and that its channel reads
   pub table : ℕ
   -- what holds for all its routes
@@ -28,6 +29,22 @@ pub record Protocol : Type 0 where
   -- its channel to the neighbour, which a static protocol has not
   pub exports : Option Exports
 
+-- A pipe: the routes of its primary table go to its peer table, which is its export, and those of
+-- the peer table to the primary one, its import.
+pub record Pipe : Type 0 where
+  pub primary : ℕ
+  pub peer : ℕ
+  pub export : Filter
+  pub import : Filter
+
+pub data Body : Type 0 where
+  IsSource : Source → Body
+  IsPipe : Pipe → Body
+
+pub record Protocol : Type 0 where
+  pub name : List ℕ
+  pub body : Body
+
 -- Tables and protocols have numbers, from 0 in their order.
 pub record Setup : Type 0 where
   pub tables : List (List ℕ × Family)
@@ -35,34 +52,47 @@ pub record Setup : Type 0 where
   -- how many changes the journal of each table holds
   pub cells : ℕ
 
--- a protocol of BGP has a channel, and a static one has none
-abbrev pub HasChannel : Kind → Option Exports → Type 0
-HasChannel Static None = ⊤
-HasChannel Static (Some exports) = ⊥
-HasChannel Bgp None = ⊥
-HasChannel Bgp (Some exports) = ⊤
-
 -- the family of the table of a number
 abbrev pub family_at : List (List ℕ × Family) → ℕ → Option Family
 family_at tables number = option_map (λ table. table.1) (slice_get tables number)
 
--- a channel is of this family
-abbrev pub ReadsFamily : Option Family → Option Exports → Type 0
-ReadsFamily family None = ⊤
-ReadsFamily family (Some exports) = family ≡ Some exports.spec.family
+-- The channel to the neighbour, over a table of this family: a static protocol has none, and one of
+-- BGP has one of that family, which sends the best route of a net and keeps the neighbour's own.
+pub record IsSession (family : Option Family) (number : ℕ) (exports : Exports) : Type 0 where
+  pub family : family ≡ Some exports.spec.family
+  pub own : exports.spec.own ≡ number
+  pub every : exports.spec.every ≡ false
 
--- A protocol of this number: its routes tell it, its table is there, and its channel is of the
--- table's family.
-pub record IsProtocol (tables : List (List ℕ × Family)) (number : ℕ) (p : Protocol) : Type 0 where
+abbrev pub HasSession : Kind → Option Family → ℕ → Option Exports → Type 0
+HasSession Static family number None = ⊤
+HasSession Static family number (Some exports) = ⊥
+HasSession Bgp family number None = ⊥
+HasSession Bgp family number (Some exports) = IsSession family number exports
+
+-- the routes of a protocol of this number tell it, and its table is there
+pub record FitsSource (tables : List (List ℕ × Family)) (number : ℕ) (p : Source) : Type 0 where
   pub source : p.spec.src.num ≡ number
   pub table : p.table < length tables
-  pub channel : HasChannel p.spec.kind p.exports
-  pub family : ReadsFamily (family_at tables p.table) p.exports
+  pub session : HasSession p.spec.kind (family_at tables p.table) number p.exports
 
+-- the two tables of a pipe are there, they aren't one, and they are of one family
+pub record FitsPipe (tables : List (List ℕ × Family)) (p : Pipe) : Type 0 where
+  pub primary : p.primary < length tables
+  pub peer : p.peer < length tables
+  pub apart : p.primary ≢ p.peer
+  pub family : family_at tables p.primary ≡ family_at tables p.peer
+
+abbrev pub FitsBody : List (List ℕ × Family) → ℕ → Body → Type 0
+FitsBody tables number (IsSource p) = FitsSource tables number p
+FitsBody tables number (IsPipe p) = FitsPipe tables p
+
+-- each protocol, with their numbers from this one on
 abbrev pub AreProtocols : List (List ℕ × Family) → ℕ → List Protocol → Type 0
 AreProtocols tables number [] = ⊤
 AreProtocols tables number (p ∷ more) =
-    IsProtocol tables number p × AreProtocols tables (number + 1) more
+    FitsBody tables number p.body × AreProtocols tables (number + 1) more
 
-abbrev pub IsSetup : Setup → Type 0
-IsSetup setup = AreProtocols setup.tables 0 setup.protocols
+pub record IsSetup (setup : Setup) : Type 0 where
+  -- there is a table
+  pub tables : 1 ≤ length setup.tables
+  pub protocols : AreProtocols setup.tables 0 setup.protocols

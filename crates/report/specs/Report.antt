@@ -7,7 +7,7 @@
 use Rattle.std.specs.Prelude.{ℕ, ◌+◌, Bool, true, false, if◌then◌else◌, List, [], ◌∷◌, ◌++◌, length, map, Option, Some, None, codes, decimal}
 use Rattle.std.specs.List.{flat_map}
 use Rattle.bits_ip.specs.Text.{net_text}
-use Rattle.attrs.specs.Text.{attrs_text, optional_text}
+use Rattle.attrs.specs.Text.{attrs_text}
 use Rattle.attrs.specs.Table.{count_routes}
 use Rattle.attrs.specs.declared.attributes.Attrs.{Attrs}
 use Rattle.attrs.specs.declared.route.Route.{Route}
@@ -28,6 +28,8 @@ use Rattle.report.specs.declared.phase.ChannelReport.{ChannelReport}
 use Rattle.report.specs.declared.phase.ReplyReport.{ReplyReport}
 use Rattle.report.specs.declared.phase.TableReport.{TableReport}
 use Rattle.report.specs.declared.phase.ModeReport.{ModeReport}
+use Rattle.report.specs.declared.phase.ProtocolState.{ProtocolState}
+use Rattle.report.specs.declared.phase.ProtocolState.TheVariants.{Imports, Pipe}
 use Rattle.report.specs.declared.phase.ExportReport.{ExportReport}
 use Rattle.report.specs.declared.phase.Standing.{Standing}
 use Rattle.report.specs.declared.phase.PhaseReport.{PhaseReport}
@@ -128,12 +130,15 @@ mode_text IsUp = codes "up"
 mode_text Disabled = codes "disabled"
 mode_text Limited = codes "limited"
 
--- protocol NAME MODE ACCEPTED, and of a pipe protocol NAME MODE
+-- MODE ACCEPTED, and of a pipe up or down
+abbrev pub state_text : ProtocolState → List ℕ
+state_text (Imports mode accepted) = mode_text mode ++ 32 ∷ decimal accepted
+state_text (Pipe true) = codes "up"
+state_text (Pipe false) = codes "down"
+
+-- protocol NAME, and what it has come to
 abbrev pub mode_line : ModeReport → List ℕ
-mode_line m =
-    line1
-    (codes "protocol " ++ m.name ++ 32 ∷ mode_text m.mode
-    ++ optional_text (codes " ") decimal m.accepted)
+mode_line m = line1 (codes "protocol " ++ m.name ++ 32 ∷ state_text m.state)
 
 -- NET ATTRS, and of a pipe NET SOURCE ATTRS
 abbrev pub standing_line : List (List ℕ) → Bool → Standing → List ℕ

@@ -29,6 +29,6 @@ mod whole;
 
 pub use phase::{
     ChannelReport, ExportReport, JournalReport, ModeReport, PhaseReport, ProtocolReport,
-    ReplyReport, Standing, TableReport,
+    ProtocolState, ReplyReport, Standing, TableReport,
 };
 pub use whole::phase_text;

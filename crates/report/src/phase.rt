@@ -64,9 +64,16 @@ pub struct TableReport {
 #[derive(Debug, Drop)]
 pub struct ModeReport {
     pub name: Seq<u8>,
-    pub mode: Mode,
-    /// How many nets it has an accepted route of, and none of a pipe, which accepts nothing itself.
-    pub accepted: Option<u64>,
+    pub state: ProtocolState,
+}
+
+/// What a protocol has come to.
+#[derive(Clone, Copy, Debug, PartialEq, Eq)]
+pub enum ProtocolState {
+    /// It imports routes: its mode, and how many nets it has an accepted route of.
+    Imports(Mode, u64),
+    /// It is a pipe, which accepts nothing itself: whether it is up.
+    Pipe(bool),
 }
 
 /// A channel at the end of a phase: what stands as sent, in the order of keys, and none where it is
