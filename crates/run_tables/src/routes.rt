@@ -21,7 +21,7 @@ pub struct Routes<J: Judge> {
     pub sources: Vec<Src>,
 }
 
-impl<J: Judge> Routes<J> {
+impl<J: Judge + Drop> Routes<J> {
     /// Tables without routes, and channels that have sent nothing. The directions of pipes come up.
     pub fn make(
         alloc: Global,
@@ -42,7 +42,9 @@ impl<J: Judge> Routes<J> {
         routes.open_pipes()?;
         Ok(routes)
     }
+}
 
+impl<J: Judge> Routes<J> {
     /// Each direction of a pipe comes up.
     fn open_pipes(&mut self) -> Result<(), OutOfMemory> {
         for number in 0..self.channels.len() {

@@ -150,12 +150,12 @@ impl<J: Judge + Drop> Made<J> {
         protocol: ProtocolParts<J>,
     ) -> Result<(), OutOfMemory> {
         let ProtocolParts { name, body } = protocol;
-        let from = self.channels.len();
         match body {
             BodyParts::Source(source) => self.add_source(alloc, &name, source)?,
             BodyParts::Pipe(pipe) => self.add_pipe(alloc, tables, passed, &name, pipe)?,
         }
-        self.names.push(name)
+        self.names.push(name)?;
+        Ok(())
     }
 
     fn add_source(
