@@ -1,5 +1,0 @@
-use Rattle.export_core.proofs.Courses.{course_best}
-use Rattle.export_core.proofs.laws.course_tells_best.Goals as goal
-
-pub returns : goal.returns
-returns c = course_best
