@@ -1,33 +1,38 @@
--- For private contracts, and for what `HasPlayed` keeps of a core from phase to phase; nothing
--- promised rests on it: all tables and channels, and the machine's state of them.
-use Rattle.std.specs.Prelude.{◌≡◌, ◌≤◌, ℕ, false, ◌∷◌, length}
+-- For private contracts, and for what `HasPlayed` of sys_run keeps of a core from phase to phase;
+-- nothing promised rests on it: all tables and channels, and the machine's state of them.
+use Rattle.std.specs.Prelude.{◌≡◌, ◌==◌, ◌&&◌, ◌<◌, ◌≤◌, ℕ, nat_lt, Bool, true, false, List, ◌∷◌, length, Some, slice_get, take}
+use Rattle.std.specs.declared.alloc.Global.{Global}
+use Rattle.std.specs.declared.vec.Vec.{Vec}
 use Rattle.bits_ip.specs.Prefix.{Net}
 use Rattle.attrs.specs.declared.judge.Verdict.{Verdict}
-use Rattle.attrs.specs.declared.route.Change.{Change}
 use Rattle.attrs.specs.declared.route.Route.{Route}
-use Rattle.core_machine.specs.Channels.{Channel, is_open}
-use Rattle.core_machine.specs.Machine.{State, set}
+use Rattle.export_core.specs.Candidates.{among}
+use Rattle.export_core.specs.declared.log.LogItem.{LogItem}
+use Rattle.export_core.specs.declared.log.LogItem.TheVariants.{Sent}
+use Rattle.export_core.specs.declared.log.Sending.{Sending}
+use Rattle.core_machine.specs.Channels.{is_open}
+use Rattle.core_machine.specs.Machine.{State}
 use Rattle.core_machine.specs.Room.{in_room}
-use Rattle.core_machine.specs.Rules.{IsRules}
+use Rattle.core_machine.specs.Rounds.{HasRounds}
+use Rattle.core_machine.specs.Rules.{IsRules, Rules}
+use Rattle.core_setup.specs.Channels.{channels}
 use Rattle.core_setup.specs.Pairs.{Pairs}
 use Rattle.core_setup.specs.Protocols.{rules_of}
 use Rattle.core_setup.specs.Setup.{IsSetup, Setup, family_at}
-use Rattle.sys_run.specs.Channels.{IsChannel}
-use Rattle.sys_run.specs.Tables.{IsTable}
-use Rattle.sys_run.specs.declared.routes.Routes.{Routes}
+use Rattle.run_tables.specs.Channels.{AreSources, IsChannel, IsOfProtocol}
+use Rattle.run_tables.specs.Tables.{IsTable}
+use Rattle.run_tables.specs.declared.routes.Routes.{Routes}
 
 -- room is made in a table
-abbrev pub with_room : Setup → ℕ → State → State
-with_room setup table s =
-    record s { channels = in_room (rules_of setup) table (s.history table) s.channels }
+abbrev pub with_room : Rules → ℕ → State → State
+with_room rules table s =
+    record s { channels = in_room rules table (s.history table) s.channels }
 
--- a change comes to a table in which there is room
-abbrev pub with_change : ℕ → Change → State → State
-with_change table c s = record s { history = set table (c ∷ s.history table) s.history }
-
--- a channel is another one
-abbrev pub with_channel : ℕ → Channel → State → State
-with_channel i new s = record s { channels = set i new s.channels }
+-- These are the channels below a number that read a table, each once.
+pub record AreReaders (rules : Rules) (count table : ℕ) (numbers : List ℕ) : Type 0 where
+  pub are : (c : ℕ) → among c numbers ≡ (nat_lt c count && (rules.reads c == table))
+  pub once :
+      (place c : ℕ) → slice_get numbers place ≡ Some c → among c (take place numbers) ≡ false
 
 module _ {J : Type 0} (verdict : J → Net → Route → Verdict) where
   pub record AreRoutes (setup : Setup) (s : State) (routes : Routes J) : Type 0 where
@@ -37,13 +42,37 @@ module _ {J : Type 0} (verdict : J → Net → Route → Verdict) where
     pub tables :
         Pairs (λ n seen table. IsTable (rules_of setup) seen.1 (s.history n) table)
         0 setup.tables routes.tables.items
+    pub readers :
+        Pairs (λ n seen (numbers : Vec ℕ Global).
+        AreReaders (rules_of setup) (length (channels setup)) n numbers.items)
+        0 setup.tables routes.readers.items
     pub channels :
-        Pairs (λ i p held.
-        IsChannel verdict (rules_of setup) i (family_at setup.tables p.table)
-        (s.history p.table) held (s.channels i))
-        0 setup.protocols routes.channels.items
-    pub beyond : (i : ℕ) → length setup.protocols ≤ i → is_open (s.channels i) ≡ false
+        Pairs (λ c seen held.
+        IsChannel verdict (rules_of setup) c (family_at setup.tables seen.reads)
+        (s.history seen.reads) held (s.channels c))
+        0 (channels setup) routes.channels.items
+    pub beyond : (c : ℕ) → length (channels setup) ≤ c → is_open (s.channels c) ≡ false
+    pub sources : AreSources (rules_of setup) routes.sources.items
 
-  -- the same of some state, as a condition
+  -- the same of some state, as conditions
   abbrev pub Holds : Routes J → Type 0
   Holds routes = (setup : Setup) × (s : State) × AreRoutes setup s routes
+
+  -- and the channel of a number is up
+  abbrev pub HoldsUp : ℕ → Routes J → Type 0
+  HoldsUp c routes =
+      (setup : Setup) × (s : State) × AreRoutes setup s routes × (is_open (s.channels c) ≡ true)
+
+  -- and the channel's last item is a value, of a protocol where it writes a table
+  abbrev pub HasSent : ℕ → Routes J → Type 0
+  HasSent c routes =
+      (setup : Setup) × (s : State) × AreRoutes setup s routes × (x : Sending)
+      × (earlier : List LogItem) × ((s.channels c).log ≡ Sent x ∷ earlier)
+      × IsOfProtocol (rules_of setup) c x
+
+  -- and a sync has few rounds
+  abbrev pub Ends : Routes J → Type 0
+  Ends routes =
+      (setup : Setup) × (s : State) × AreRoutes setup s routes
+      × (rounds : ℕ) × HasRounds (rules_of setup) s rounds
+      × (rounds ≤ length setup.tables)

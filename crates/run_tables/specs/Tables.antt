@@ -1,20 +1,22 @@
--- For private contracts, and for what `HasPlayed` keeps of a core from phase to phase; nothing
--- promised rests on it: a table with its journal, and the machine's history of it.
-use Rattle.std.specs.Prelude.{◌≡◌, ◌+◌, ◌≤◌, ℕ, true, List, [], ◌∷◌, ◌++◌, length, Option, Some, None, IsSome, map, reverse, slice_get, ⊤}
+-- For private contracts, and for what `HasPlayed` of sys_run keeps of a core from phase to phase;
+-- nothing promised rests on it: a table with its journal, and the machine's history of it.
+use Rattle.std.specs.Prelude.{◌≡◌, ◌+◌, ◌<◌, ℕ, List, [], length, Option, Some, None, IsSome, map, reverse, slice_get, ⊤}
+use Rattle.std.specs.List.{AllByRecursion}
 use Rattle.bits_ip.specs.Address.{family_of}
-use Rattle.bits_ip.specs.Prefix.{Net}
 use Rattle.bits_ip.specs.declared.address.Family.{Family}
 use Rattle.attrs.specs.declared.journal.Chunk.{Chunk}
 use Rattle.attrs.specs.declared.journal.JEntry.{JEntry}
 use Rattle.attrs.specs.declared.route.Change.{Change}
 use Rattle.attrs.specs.declared.route.Route.{Route}
-use Rattle.attrs.specs.declared.route.Row.{Row}
 use Rattle.attrs.specs.Table.{Shows}
-use Rattle.export_core.specs.Candidates.{IsChunk, best_in, covers, floor_of}
 use Rattle.export_core.specs.Histories.{change_of}
 use Rattle.core_machine.specs.Histories.{content_of, front}
 use Rattle.core_machine.specs.Rules.{Rules, best_of}
-use Rattle.sys_run.specs.declared.table.Table.{Table}
+use Rattle.run_tables.specs.declared.table.Table.{Table}
+
+-- only protocols have routes
+abbrev pub IsSourced : Rules → Change → Type 0
+IsSourced rules c = IsSome c.new → c.num < rules.protocols
 
 -- The table of this family has this history: it shows the content, and its journal has each change
 -- with the best route of its net behind it.
@@ -30,9 +32,7 @@ pub record IsTable (rules : Rules) (family : Family) (history : List Change) (ta
   pub families :
       (p : ℕ) (entry : JEntry) → slice_get table.entries.items p ≡ Some entry
       → family_of entry.net.addr ≡ family
-  -- only protocols have routes
-  pub sources :
-      (net : Net) (num : ℕ) → rules.protocols ≤ num → content_of history net num ≡ None
+  pub sources : AllByRecursion (IsSourced rules) history
 
 -- a change of a table of this family, whose route tells its source
 abbrev pub TellsSource : ℕ → Option Route → Type 0
@@ -43,19 +43,9 @@ pub record Admits (family : Family) (c : Change) : Type 0 where
   pub family_is : family_of c.net.addr ≡ family
   pub source : TellsSource c.num c.new
 
--- The chunk is of the table's head: it has the best route of each net of its range.
-pub record IsChunkOf
-    (rules : Rules) (family : Family) (history : List Change) (chunk : Chunk) : Type 0 where
+-- the chunk is the whole table at its head
+pub record IsWhole (history : List Change) (chunk : Chunk) : Type 0 where
   pub at : chunk.at ≡ length history
-  pub range : IsChunk chunk
-  pub best :
-      (net : Net) → covers (floor_of chunk) net ≡ true
-      → best_in net chunk.rows ≡ best_of rules net history
-  pub families :
-      (net : Net) → IsSome (best_in net chunk.rows) → family_of net.addr ≡ family
-
--- all rows, or all but one that stood behind the others, of which the net is told
-abbrev pub IsCut : List Row → List Row → Option Net → Type 0
-IsCut rows cut None = (cut ≡ rows) × (length rows ≤ 256)
-IsCut rows cut (Some net) =
-    (row : Row) × (rows ≡ cut ++ row ∷ []) × (row.net ≡ net) × (1 ≤ length cut)
+  pub from : chunk.from ≡ None
+  pub upto : chunk.upto ≡ None
+  pub shows : Shows chunk.rows (content_of history)

@@ -1,17 +1,23 @@
 //! A channel: to a neighbour, or a direction of a pipe.
-ghost use Rattle.std.specs.Prelude.{◌≡◌, ◌↔◌, ◌<◌, ℕ, Bool, true, false, [], ◌∷◌, List, length, map, reverse, slice_get, IfOk, IsSome, IsTrue, OnOk, Option, Some, None, option_copied};
+ghost use Rattle.std.specs.Prelude.{◌≡◌, ◌↔◌, ◌<◌, ◌∷◌, ℕ, Bool, true, false, [], List, length, reverse, slice_get, IfOk, IsSome, IsTrue, OnOk, is_some, Option, Some, None, option_copied, option_map};
+ghost use Rattle.std.specs.Map.{keys_of};
 ghost use Rattle.attrs.specs.declared.route.Change.{Change as HeldChange};
 ghost use Rattle.bits_ip.specs.declared.address.Family.{Family};
 ghost use Rattle.core_machine.specs.Channels as machine;
 ghost use Rattle.core_machine.specs.Channels.{IsFed, closed, is_open, opened, push_one, renewed, take_one, times};
 ghost use Rattle.core_machine.specs.Enters.{standing_keys};
+ghost use Rattle.core_machine.specs.Match.{Matches, MatchesFed, change_of_sending};
 ghost use Rattle.core_machine.specs.Room.{lags, roomed};
 ghost use Rattle.core_machine.specs.Rounds.{IsSettled};
 ghost use Rattle.core_machine.specs.Rules.{IsRules, Rules};
 ghost use Rattle.export_core.specs.declared.log.LogItem.TheVariants.{Sent};
+ghost use Rattle.export_core.specs.declared.log.LogItem.{LogItem as HeldItem};
 ghost use Rattle.export_core.specs.declared.log.Sending.{Sending as HeldSending};
-ghost use Rattle.run_tables.specs.Channels.{IsChannel, IsSomeChannel, Reads, TellsStanding, change_by, cursor_of, if_up, left_of};
+ghost use Rattle.export_core.specs.Calls.{ended};
+ghost use Rattle.export_core.specs.Standing.{is_open as is_log_open};
+ghost use Rattle.run_tables.specs.Channels.{AreSources, HasBegun, IsChannel, IsSomeChannel, Reads, ReadsUp, Tells, TellsPush, TellsStanding, Withdraws, if_up, left_of};
 ghost use Rattle.run_tables.specs.Tables.{IsTable};
+ghost use Rattle.run_tables.specs.declared.table.Table.{Table as HeldTable};
 
 use crate::table::Table;
 use attrs::{Attrs, Change, Judge, Route, Shared, Src};
@@ -40,12 +46,18 @@ impl<J: Judge> Channel<J> {
     }
 
     /// Whether it is a direction of a pipe.
-    pub fn is_pipe(&self) -> bool {
+    pub fn is_pipe(&self) -> bool
+        ensures { result ≡ is_some self.now.target }
+    {
         self.target.is_some()
     }
 
     /// The values that stand as sent, in the order of keys, where the channel is up.
-    pub fn standing(&self) -> Result<Option<Vec<(Key, Shared<Attrs>)>>, OutOfMemory> {
+    pub fn standing(&self) -> Result<Option<Vec<(Key, Shared<Attrs>)>>, OutOfMemory>
+        ensures { IfOk result (λ standing. (rules : Rules) (c : ℕ) (family : Option Family)
+            (history : List HeldChange) (ch : machine.Channel)
+            → IsChannel J.verdict rules c family history self.now ch → TellsStanding ch standing) }
+    {
         if self.cursor.is_none() {
             return Ok(None);
         }
@@ -53,7 +65,15 @@ impl<J: Judge> Channel<J> {
     }
 
     /// Takes the next change of its table, where the channel is up and there is one.
-    pub(crate) fn take(&mut self, table: &Table) -> Result<(), OutOfMemory> {
+    pub(crate) fn take(&mut self, table: &Table) -> Result<(), OutOfMemory>
+        requires { Reads J.verdict self.old table.now }
+        ensures { OnOk result ((rules : Rules) (c : ℕ) (family : Family)
+            (history : List HeldChange) (ch : machine.Channel)
+            → IsTable rules family history table.now
+            → IsChannel J.verdict rules c (Some family) history self.old ch
+            → IsChannel J.verdict rules c (Some family) history self.new
+            (if_up (take_one rules c history) ch)) }
+    {
         let Some(position) = self.cursor else {
             return Ok(());
         };
@@ -68,7 +88,12 @@ impl<J: Judge> Channel<J> {
     }
 
     /// Whether the channel is up and has as many changes still to take as the journal holds.
-    pub(crate) fn lags(&self, head: u64, cells: u64) -> bool {
+    pub(crate) fn lags(&self, head: u64, cells: u64) -> bool
+        ensures { (rules : Rules) (c : ℕ) (family : Family) (history : List HeldChange)
+            (ch : machine.Channel) → head ≡ length history → cells ≡ rules.cells
+            → IsChannel J.verdict rules c (Some family) history self.now ch
+            → result ≡ lags rules history ch }
+    {
         match self.cursor {
             Some(position) => head.saturating_sub(position) == cells,
             None => false,
@@ -76,7 +101,15 @@ impl<J: Judge> Channel<J> {
     }
 
     /// Takes one change where it lags so.
-    pub(crate) fn make_room(&mut self, table: &Table, cells: u64) -> Result<(), OutOfMemory> {
+    pub(crate) fn make_room(&mut self, table: &Table, cells: u64) -> Result<(), OutOfMemory>
+        requires { Reads J.verdict self.old table.now }
+        ensures { OnOk result ((rules : Rules) (c : ℕ) (family : Family)
+            (history : List HeldChange) (ch : machine.Channel) → cells ≡ rules.cells
+            → IsTable rules family history table.now
+            → IsChannel J.verdict rules c (Some family) history self.old ch
+            → IsChannel J.verdict rules c (Some family) history self.new
+            (roomed rules c history ch)) }
+    {
         if self.lags(table.head(), cells) {
             self.take(table)?;
         }
@@ -94,7 +127,15 @@ impl<J: Judge> Channel<J> {
     }
 
     /// Takes so many changes, or all that there are.
-    pub(crate) fn take_many(&mut self, table: &Table, count: u64) -> Result<(), OutOfMemory> {
+    pub(crate) fn take_many(&mut self, table: &Table, count: u64) -> Result<(), OutOfMemory>
+        requires { Reads J.verdict self.old table.now }
+        ensures { OnOk result ((rules : Rules) (c : ℕ) (family : Family)
+            (history : List HeldChange) (ch : machine.Channel)
+            → IsTable rules family history table.now
+            → IsChannel J.verdict rules c (Some family) history self.old ch
+            → IsChannel J.verdict rules c (Some family) history self.new
+            (if_up (times count (take_one rules c history)) ch)) }
+    {
         let left = self.left(table.head(), count);
         for _ in 0..left {
             self.take(table)?;
@@ -103,7 +144,19 @@ impl<J: Judge> Channel<J> {
     }
 
     /// Pushes the first mark.
-    pub(crate) fn push(&mut self) -> Result<Pushed, OutOfMemory> {
+    pub(crate) fn push(&mut self) -> Result<Pushed, OutOfMemory>
+        requires { IsSomeChannel J.verdict self.old true }
+        ensures pushes { OnOk result ((rules : Rules) (c : ℕ) (family : Family)
+            (history : List HeldChange) (ch : machine.Channel)
+            → IsChannel J.verdict rules c (Some family) history self.old ch
+            → IsChannel J.verdict rules c (Some family) history self.new
+            (push_one rules c history ch)) }
+        ensures tells { IfOk result (λ pushed. (rules : Rules) (c : ℕ) (family : Family)
+            (history : List HeldChange) (ch : machine.Channel) (table : HeldTable)
+            → IsTable rules family history table
+            → IsChannel J.verdict rules c (Some family) history self.old ch
+            → TellsPush rules c history self.old.exporter.log self.new.exporter.log ch pushed) }
+    {
         match self.exporter.push_one(&mut LogOnly) {
             Ok(pushed) => Ok(pushed),
             Err(_) => Err(OutOfMemory),
@@ -112,7 +165,13 @@ impl<J: Judge> Channel<J> {
 
     /// The change that the last item of the log makes in the table that is written: none where it
     /// is no value, or one that stood already. `sources` are those of the protocols' routes.
-    pub(crate) fn entered(&self, sources: &[Src]) -> Result<Option<Change>, OutOfMemory> {
+    pub(crate) fn entered(&self, sources: &[Src]) -> Result<Option<Change>, OutOfMemory>
+        requires { Tells self.now.exporter.log sources.now }
+        ensures { IfOk result (λ change. (rules : Rules) (x : HeldSending)
+            (earlier : List HeldItem) → AreSources rules sources.now
+            → reverse self.now.exporter.log ≡ Sent x ∷ earlier
+            → change ≡ change_of_sending rules x) }
+    {
         match self.exporter.items().last() {
             Some(LogItem::Sent(sending)) => entering(sources, sending),
             _ => Ok(None),
@@ -120,27 +179,46 @@ impl<J: Judge> Channel<J> {
     }
 
     /// Comes up at the table's head, and is fed.
-    pub(crate) fn rise(&mut self, table: &Table) -> Result<(), OutOfMemory> {
+    pub(crate) fn rise(&mut self, table: &Table) -> Result<(), OutOfMemory>
+        requires { ReadsUp J.verdict self.old table.now false }
+        ensures { OnOk result ((rules : Rules) (c : ℕ) (family : Family)
+            (history : List HeldChange) (ch : machine.Channel) → IsRules rules
+            → IsTable rules family history table.now → is_open ch ≡ false
+            → IsChannel J.verdict rules c (Some family) history self.old ch
+            → (new : machine.Channel)
+            × IsFed rules c history false (opened (length history) ch) new
+            × IsChannel J.verdict rules c (Some family) history self.new new) }
+    {
         self.exporter.up(table.head())?;
-        self.feed(table)?;
+        feed(&mut self.exporter, table)?;
         self.cursor = Some(table.head());
         Ok(())
     }
 
     /// Is fed anew.
-    pub(crate) fn renew(&mut self, table: &Table) -> Result<(), OutOfMemory> {
+    pub(crate) fn renew(&mut self, table: &Table) -> Result<(), OutOfMemory>
+        requires { ReadsUp J.verdict self.old table.now true }
+        ensures { OnOk result ((rules : Rules) (c : ℕ) (family : Family)
+            (history : List HeldChange) (ch : machine.Channel) → IsRules rules
+            → IsTable rules family history table.now → is_open ch ≡ true
+            → IsChannel J.verdict rules c (Some family) history self.old ch
+            → (new : machine.Channel) × IsFed rules c history true (renewed ch) new
+            × IsChannel J.verdict rules c (Some family) history self.new new) }
+    {
         self.exporter.refresh()?;
-        self.feed(table)
-    }
-
-    /// Is fed with the whole table, where a feed has begun.
-    fn feed(&mut self, table: &Table) -> Result<(), OutOfMemory> {
-        let chunk = table.whole()?;
-        self.exporter.fed(&chunk)
+        feed(&mut self.exporter, table)?;
+        Ok(())
     }
 
     /// Goes down, as a channel to a neighbour.
-    pub(crate) fn fall(&mut self) -> Result<(), OutOfMemory> {
+    pub(crate) fn fall(&mut self) -> Result<(), OutOfMemory>
+        requires up { is_log_open self.old.exporter.log ≡ true }
+        requires withdrawn { self.old.exporter.spec.every ≡ true → self.old.exporter.left ≡ [] }
+        ensures ends { OnOk result (self.new.exporter ≡ ended self.old.exporter) }
+        ensures cursor { OnOk result (self.new.cursor ≡ None) }
+        ensures table { self.new.table ≡ self.old.table }
+        ensures target { self.new.target ≡ self.old.target }
+    {
         self.exporter.down()?;
         self.cursor = None;
         Ok(())
@@ -148,7 +226,15 @@ impl<J: Judge> Channel<J> {
 
     /// Goes down, as a direction of a pipe. Answers the keys of what stood, in their order: it is
     /// withdrawn from the table that is written.
-    pub(crate) fn flush(&mut self, alloc: Global) -> Result<Vec<Key>, OutOfMemory> {
+    pub(crate) fn flush(&mut self, alloc: Global) -> Result<Vec<Key>, OutOfMemory>
+        requires up { IsSomeChannel J.verdict self.old true }
+        requires every { self.old.exporter.spec.every ≡ true }
+        ensures { IfOk result (λ keys. (rules : Rules) (c : ℕ) (family : Family)
+            (history : List HeldChange) (ch : machine.Channel)
+            → IsChannel J.verdict rules c (Some family) history self.old ch
+            → (keys.items ≡ standing_keys ch.log)
+            × IsChannel J.verdict rules c (Some family) history self.new (closed ch)) }
+    {
         let keys = keys_of(alloc, self.exporter.standing()?)?;
         withdraw_all(&mut self.exporter)?;
         self.fall()?;
@@ -156,7 +242,12 @@ impl<J: Judge> Channel<J> {
     }
 
     /// Whether the channel, where it is up, has taken all that there is, and nothing is marked.
-    pub(crate) fn is_settled(&self, head: u64) -> bool {
+    pub(crate) fn is_settled(&self, head: u64) -> bool
+        ensures { (rules : Rules) (c : ℕ) (family : Option Family) (history : List HeldChange)
+            (ch : machine.Channel) → head ≡ length history
+            → IsChannel J.verdict rules c family history self.now ch
+            → IsTrue result ↔ (is_open ch ≡ true → IsSettled history ch) }
+    {
         match self.cursor {
             Some(_) => self.exporter.is_settled(head),
             None => true,
@@ -164,8 +255,28 @@ impl<J: Judge> Channel<J> {
     }
 }
 
+/// Feeds an exporter, whose feed has begun, with the whole table.
+fn feed<J: Judge>(exporter: &mut Exporter<J>, table: &Table) -> Result<(), OutOfMemory>
+    requires { HasBegun J.verdict exporter.old table.now }
+    ensures family { OnOk result (exporter.new.spec ≡ exporter.old.spec) }
+    ensures fed { OnOk result ((rules : Rules) (c : ℕ) (family : Family)
+        (history : List HeldChange) (due : Bool) (ch : machine.Channel) → IsRules rules
+        → IsTable rules family history table.now
+        → MatchesFed J.verdict rules c history due [] exporter.old ch
+        → (new : machine.Channel) × IsFed rules c history due ch new
+        × Matches J.verdict rules c history exporter.new new) }
+{
+    let chunk = table.whole()?;
+    exporter.fed(&chunk)?;
+    Ok(())
+}
+
 /// The change that a value makes which a pipe sends.
-fn entering(sources: &[Src], sending: &Sending) -> Result<Option<Change>, OutOfMemory> {
+fn entering(sources: &[Src], sending: &Sending) -> Result<Option<Change>, OutOfMemory>
+    requires { IsSome sending.now.value → sending.now.key.num < length sources.now }
+    ensures { IfOk result (λ change. (rules : Rules) → AreSources rules sources.now
+        → change ≡ change_of_sending rules sending.now) }
+{
     if sending.again {
         return Ok(None);
     }
@@ -182,7 +293,11 @@ fn route_of(
     sources: &[Src],
     num: u32,
     value: Option<&Shared<Attrs>>,
-) -> Result<Option<Route>, OutOfMemory> {
+) -> Result<Option<Route>, OutOfMemory>
+    requires { IsSome (option_copied value) → num < length sources.now }
+    ensures { IfOk result (λ route. (rules : Rules) → AreSources rules sources.now
+        → route ≡ option_map (rules.route num) (option_copied value.entry)) }
+{
     match value {
         Some(attrs) => Ok(Some(Route {
             src: sources[num as usize],
@@ -193,7 +308,9 @@ fn route_of(
 }
 
 /// The keys of values.
-fn keys_of(alloc: Global, values: Vec<(Key, Shared<Attrs>)>) -> Result<Vec<Key>, OutOfMemory> {
+fn keys_of(alloc: Global, values: Vec<(Key, Shared<Attrs>)>) -> Result<Vec<Key>, OutOfMemory>
+    ensures { IfOk result (λ keys. keys.items ≡ keys_of values.items) }
+{
     let mut keys = Vec::new(alloc);
     for (key, _) in values {
         keys.push(key)?;
@@ -202,13 +319,23 @@ fn keys_of(alloc: Global, values: Vec<(Key, Shared<Attrs>)>) -> Result<Vec<Key>,
 }
 
 /// Withdraws all that stands.
-fn withdraw_all<J: Judge>(exporter: &mut Exporter<J>) -> Result<(), OutOfMemory> {
+fn withdraw_all<J: Judge>(exporter: &mut Exporter<J>) -> Result<(), OutOfMemory>
+    requires every { exporter.old.spec.every ≡ true }
+    requires up { is_log_open exporter.old.log ≡ true }
+    ensures left { OnOk result (exporter.new.left ≡ []) }
+    ensures same { OnOk result (ended exporter.new ≡ ended exporter.old) }
+    ensures log { OnOk result (exporter.new.log ≡ exporter.old.log) }
+{
     while withdraw_next(exporter)? {}
     Ok(())
 }
 
 /// Withdraws the first of what stands, and tells whether there was anything.
-fn withdraw_next<J: Judge>(exporter: &mut Exporter<J>) -> Result<bool, OutOfMemory> {
+fn withdraw_next<J: Judge>(exporter: &mut Exporter<J>) -> Result<bool, OutOfMemory>
+    requires every { exporter.old.spec.every ≡ true }
+    requires up { is_log_open exporter.old.log ≡ true }
+    ensures { IfOk result (λ more. Withdraws exporter.old exporter.new more) }
+{
     match exporter.flush_one(&mut LogOnly) {
         Ok(pushed) => Ok(pushed == Pushed::Sent),
         Err(_) => Err(OutOfMemory),
