@@ -1,0 +1,12 @@
+pub mod Contents
+pub mod MarkSteps
+pub mod ChannelSteps
+pub mod FeedSteps
+pub mod OneChannel
+pub mod KeyLists
+pub mod Entering
+pub mod Tables
+pub mod Growing
+pub mod WholeState
+pub mod Replying
+pub mod PhaseEnds
