@@ -13,12 +13,13 @@ use Rattle.core_setup.specs.Reports.{AreReports}
 use Rattle.core_setup.specs.Setup.{Setup}
 
 -- The reports are those of the machine's phases on these scripts, whose lines are read backwards.
--- Static protocols start before the first line.
+-- Pipes are up from the beginning, and static protocols start before the first line.
 pub record IsPlay
     (setup : Setup) (actors : List (List ℕ)) (scripts : List (List Line))
     (reports : List PhaseReport) : Type 0 where
   pub printed : List Printed
-  pub plays : PlaysAll (rules_of setup) (starts setup) start scripts printed
+  pub plays :
+      PlaysAll (rules_of setup) (starts setup) nothing (start (rules_of setup)) scripts printed
   pub are : AreReports setup actors 1 nothing printed reports
 
 -- The reports are those of legal phases. That speaks of what is printed alone.

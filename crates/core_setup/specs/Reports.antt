@@ -72,7 +72,7 @@ pub record IsTableReport
 
 -- of a pipe whether it is up, and else the mode and how many nets have an accepted route
 abbrev pub state_in : Body → Shown → ℕ → ProtocolState
-state_in (IsSource p) shown i = Imports (shown.modes i) (length (shown.accepted i))
+state_in (IsSource p) shown i = Imports (shown.modes i) (shown.accepted i)
 state_in (IsPipe p) shown i = Pipe (is_up (shown.modes i))
 
 abbrev pub mode_report : Printed → ℕ → Protocol → ModeReport

@@ -56,18 +56,19 @@ pub record Setup : Type 0 where
 abbrev pub family_at : List (List ℕ × Family) → ℕ → Option Family
 family_at tables number = option_map (λ table. table.1) (slice_get tables number)
 
--- The channel to the neighbour, over a table of this family: a static protocol has none, and one of
--- BGP has one of that family, which sends the best route of a net and keeps the neighbour's own.
-pub record IsSession (family : Option Family) (number : ℕ) (exports : Exports) : Type 0 where
-  pub family : family ≡ Some exports.spec.family
+-- The channel to the neighbour reads a table of its own family, sends the best route of a net, and
+-- keeps back the routes of its own protocol, which has this number.
+pub record IsSession (table : Option Family) (number : ℕ) (exports : Exports) : Type 0 where
+  pub family : table ≡ Some exports.spec.family
   pub own : exports.spec.own ≡ number
   pub every : exports.spec.every ≡ false
 
+-- a static protocol has no channel, and one of BGP has one
 abbrev pub HasSession : Kind → Option Family → ℕ → Option Exports → Type 0
-HasSession Static family number None = ⊤
-HasSession Static family number (Some exports) = ⊥
-HasSession Bgp family number None = ⊥
-HasSession Bgp family number (Some exports) = IsSession family number exports
+HasSession Static table number None = ⊤
+HasSession Static table number (Some exports) = ⊥
+HasSession Bgp table number None = ⊥
+HasSession Bgp table number (Some exports) = IsSession table number exports
 
 -- the routes of a protocol of this number tell it, and its table is there
 pub record FitsSource (tables : List (List ℕ × Family)) (number : ℕ) (p : Source) : Type 0 where
