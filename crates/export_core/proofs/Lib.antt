@@ -11,4 +11,5 @@ pub mod Kept
 pub mod Families
 pub mod SendLists
 pub mod Courses
+pub mod Contents
 pub mod Left

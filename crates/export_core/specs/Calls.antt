@@ -198,7 +198,7 @@ module _ {J : Type 0} where
       (J → Net → Route → Verdict) → State J → State J → Option (List Sending)
       → Option (List Sending) → Pushed → Type 0
   Pushes verdict e e' told told' pushed.Nothing =
-      (keys_of e.marks ≡ []) × (e' ≡ e) × (told' ≡ told)
+      (e.marks ≡ []) × (e' ≡ e) × (told' ≡ told)
   Pushes verdict e e' told told' pushed.Quiet =
       (k : Key) × (m : Mark) × PushesQuietly verdict k m e e' × (told' ≡ told)
   Pushes verdict e e' told told' pushed.Sent =
@@ -234,4 +234,4 @@ module _ {J : Type 0} where
     pub stays : e.flushing ≡ false
     pub position : e.position ≡ head
     pub fed : e.feed ≡ Done
-    pub unmarked : keys_of e.marks ≡ []
+    pub unmarked : e.marks ≡ []

@@ -95,6 +95,11 @@ abbrev pub MarksAll :
 MarksAll candidates pos due old new =
     (q : Key) → mark_at q new ≡ with_candidate pos due (at q candidates) (mark_at q old)
 
+-- the same of marks as a list
+abbrev pub MarksEach : List (Key × Option Route) → ℕ → Bool → Listed → Listed → Type 0
+MarksEach candidates pos due old new =
+    (q : Key) → find q new ≡ with_candidate pos due (at q candidates) (find q old)
+
 -- the keys that have no mark
 abbrev pub unmarked : List (Key × Option Mark) → List Key → List Key
 unmarked bodies keys = filter (λ k. not (is_some (mark_at k bodies))) keys

@@ -37,6 +37,6 @@ module _ {J : Type 0} where
     pub news : IsNews m.due x.value (standing_at x.key e.log) x.again
 
   abbrev pub IsNext : (J → Net → Route → Verdict) → State J → Next → Type 0
-  IsNext verdict e next.Nothing = keys_of e.marks ≡ []
+  IsNext verdict e next.Nothing = e.marks ≡ []
   IsNext verdict e next.Quiet = (k : Key) × (m : Mark) × WillBeQuiet verdict k m e
   IsNext verdict e (next.Send x) = (m : Mark) × WillSend verdict m x e

@@ -8,7 +8,7 @@ ghost use Rattle.export_core.specs.declared.log.Key.{Key};
 ghost use Rattle.export_core.specs.Keys.{key_cmp, same_key};
 ghost use Rattle.export_core.specs.Candidates.{AddsNone, covers, is_from};
 ghost use Rattle.export_core.specs.Calls.{order_with};
-ghost use Rattle.export_core.specs.Marks.{at, find, mark_at, joined, unmarked, unmarked_of, with_candidate, Fills, HasPlace, Joins, KeepsPlaces, IsListed, MarksAll, SameMarks};
+ghost use Rattle.export_core.specs.Marks.{at, find, mark_at, joined, unmarked, unmarked_of, Fills, HasPlace, Joins, KeepsPlaces, IsListed, MarksAll, MarksEach, SameMarks};
 
 use crate::candidates::{add_none, bounds_of};
 use crate::floors::Floor;
@@ -350,8 +350,7 @@ impl Marks {
         at: u64,
         due: bool,
     ) -> Result<(), OutOfMemory>
-        ensures marks { OnOk result ((q : Key) → find q self.new
-            ≡ with_candidate at due (at q candidates.entries) (find q self.old)) }
+        ensures marks { OnOk result (MarksEach candidates.entries at due self.old self.new) }
         ensures order { OnOk result (keys_of self.new
             ≡ keys_of self.old ++ unmarked_of self.old (keys_of candidates.entries)) }
         ensures ascend { IsStrictlySortedBy key_cmp (keys_of candidates.entries) }
