@@ -35,7 +35,7 @@ nat_cases a b = elim (eqb_tells a b) [ inl w ↦ inl w.1 | inr w ↦ inr (by_tes
   by_test true e other = inl e
   by_test false e other = inr (grind (arith, nat_tests, e, other))
 
-by_net : (a b : Key) → precedes a.net b.net ≡ true → comes_before a b ≡ true
+pub by_net : (a b : Key) → precedes a.net b.net ≡ true → comes_before a b ≡ true
 by_net a b e = before_is a b ∙ ap (λ t. t || (same_net a.net b.net && nat_lt a.num b.num)) e
 
 by_num : (a b : Key) → a.net ≡ b.net → nat_lt a.num b.num ≡ true → comes_before a b ≡ true
@@ -67,7 +67,7 @@ before_parts a b e = by_test (precedes a.net b.net) refl (sym (before_is a b) �
   by_test true e w = inl e
   by_test false e w = let z = and_both (same_net a.net b.net) (nat_lt a.num b.num) w in elim (net_tells a.net b.net) [ inl y ↦ inr (y.1, z.1) | inr y ↦ absurd (let bad : true ≡ false = sym z.0 ∙ y.0 in cc) ]
 
-before_chain : (a b c : Key) → comes_before a b ≡ true → comes_before b c ≡ true → comes_before a c ≡ true
+pub before_chain : (a b c : Key) → comes_before a b ≡ true → comes_before b c ≡ true → comes_before a c ≡ true
 before_chain a b c e f = elim (before_parts a b e) [
   | inl w ↦ elim (before_parts b c f) [
     | inl z ↦ by_net a c (precedes_chain a.net b.net c.net w z)
@@ -81,7 +81,7 @@ before_chain a b c e f = elim (before_parts a b e) [
   lt_chain : (x y z : ℕ) → nat_lt x y ≡ true → nat_lt y z ≡ true → nat_lt x z ≡ true
   lt_chain x y z e f = grind (arith, nat_tests, e, f)
 
-before_not : (a : Key) → comes_before a a ≡ true → ⊥
+pub before_not : (a : Key) → comes_before a a ≡ true → ⊥
 before_not a e = elim (before_parts a a e) [
   | inl w ↦ let other = precedes_other a.net a.net w in let bad : false ≡ true = sym other ∙ same_net_itself a.net in cc
   | inr w ↦ lt_not a.num w.1

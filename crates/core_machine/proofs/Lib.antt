@@ -10,3 +10,11 @@ pub mod Growing
 pub mod WholeState
 pub mod Replying
 pub mod PhaseEnds
+pub mod Bound
+pub mod Rounds
+pub mod OneState
+pub mod MarkOrder
+pub mod Making
+pub mod Lagging
+pub mod Matching
+pub mod Fed
