@@ -8,6 +8,7 @@ pub mod Signalled
 pub mod Admitted
 pub mod SetupRules
 pub mod Passed
+pub mod WorkedPipes
 pub mod Standings
 pub mod Playing
 pub mod Determined
