@@ -1,4 +1,6 @@
 pub mod Nets
+pub mod Keys
+pub mod Listed
 pub mod LaneSteps
 pub mod MarkLists
 pub mod Taking
@@ -9,3 +11,5 @@ pub mod Kept
 pub mod Families
 pub mod SendLists
 pub mod Courses
+pub mod Contents
+pub mod Left

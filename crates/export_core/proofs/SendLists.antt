@@ -8,7 +8,7 @@ use Rattle.std.proofs.lemmas.List.Elements.{filter_map-append}
 use Rattle.std.specs.List.Sorted.{IsStrictlySortedBy}
 use Rattle.std.specs.Map.{keys_of}
 use Rattle.std.proofs.lemmas.List.Kept.{IsStrictlySortedBy-filter}
-use Rattle.bits_ip.specs.Prefix.{Net, net_cmp, same_net}
+use Rattle.export_core.specs.Keys.{key_cmp, same_key}
 use Rattle.attrs.specs.declared.attributes.Attrs.{Attrs}
 use Rattle.attrs.specs.declared.route.Route.{Route}
 use Rattle.export_core.specs.declared.log.Key.{Key}
@@ -16,13 +16,14 @@ use Rattle.export_core.specs.declared.log.LogItem.{LogItem}
 use Rattle.export_core.specs.declared.log.LogItem.TheVariants.{Up, Down, Reload, Sent}
 use Rattle.export_core.specs.declared.log.Sending.{Sending}
 use Rattle.export_core.specs.Logs.{Account, Course, Follows, Rises, account, entered, highest, stretch, value_of}
-use Rattle.export_core.specs.Marks.{at, holds}
+use Rattle.export_core.specs.Marks.{at, entries_by, holds}
 use Rattle.export_core.specs.Passing.{passed}
-use Rattle.export_core.specs.Sends.{AreRight, AreRising, IsStanding, entries_by, key_of, keyed, last_value, sends}
+use Rattle.export_core.specs.Sends.{AreRight, AreRising, IsStanding, last_value, sends}
 use Rattle.export_core.specs.Standing.{index_at, standing_at, value_at}
-use Rattle.export_core.proofs.Nets.{holds-keys_of, is_at_is, net_tells, same_net_flip}
+use Rattle.export_core.proofs.Listed.{at_by, keys_by}
+use Rattle.export_core.proofs.Keys.{holds-keys_of, is_at_is, key_tells, same_key_flip}
 
-pub follows_front : (value : Net → Route → Option Attrs) (c : Course) (later earlier : List LogItem) → Follows value c (later ++ earlier) → Follows value c earlier
+pub follows_front : (value : Key → Route → Option Attrs) (c : Course) (later earlier : List LogItem) → Follows value c (later ++ earlier) → Follows value c earlier
 follows_front value c [] earlier f = f
 follows_front value c (item ∷ later) earlier f = follows_front value c later earlier f.0
 
@@ -35,33 +36,33 @@ first_if true x xs = refl
 first_if false x xs = refl
 
 -- the last item of a net is the newest that was sent of it
-pub last_is : (k : Net) (log : List LogItem) → (account k log).last ≡ slice_get (sends k log) 0
+pub last_is : (k : Key) (log : List LogItem) → (account k log).last ≡ slice_get (sends k log) 0
 last_is k [] = refl
 last_is k (Up h ∷ log) = refl
 last_is k (Down ∷ log) = refl
 last_is k (Reload ∷ log) = last_is k log
 last_is k (Sent x ∷ log) =
-    last_if (same_net x.key.net k) x (account k log) ∙ ap (λ o. if same_net x.key.net k then Some x else o) (last_is k log)
-    ∙ sym (first_if (same_net x.key.net k) x (sends k log))
+    last_if (same_key x.key k) x (account k log) ∙ ap (λ o. if same_key x.key k then Some x else o) (last_is k log)
+    ∙ sym (first_if (same_key x.key k) x (sends k log))
 
-pub value_is : (k : Net) (log : List LogItem) → value_of (account k log) ≡ last_value (sends k log)
+pub value_is : (k : Key) (log : List LogItem) → value_of (account k log) ≡ last_value (sends k log)
 value_is k log = ap (λ o. option_and_then (λ (x : Sending). x.value) o) (last_is k log)
 
 some_same : {A : Type 0} {x y : A} → Some x ≡ Some y → x ≡ y
 some_same e = cc
 
-sends_named : (k : Net) (x : Sending) (log : List LogItem) → same_net x.key.net k ≡ true → sends k (Sent x ∷ log) ≡ x ∷ sends k log
+sends_named : (k : Key) (x : Sending) (log : List LogItem) → same_key x.key k ≡ true → sends k (Sent x ∷ log) ≡ x ∷ sends k log
 sends_named k x log e = ap (λ b. if b then x ∷ sends k log else sends k log) e
 
-sends_other : (k : Net) (x : Sending) (log : List LogItem) → same_net x.key.net k ≡ false → sends k (Sent x ∷ log) ≡ sends k log
+sends_other : (k : Key) (x : Sending) (log : List LogItem) → same_key x.key k ≡ false → sends k (Sent x ∷ log) ≡ sends k log
 sends_other k x log e = ap (λ b. if b then x ∷ sends k log else sends k log) e
 
-pub sends_right : (value : Net → Route → Option Attrs) (c : Course) (k : Net) (h : ℕ) (log : List LogItem) → Follows value c log → stretch log ≡ Some h → AreRight value c k h (sends k log)
+pub sends_right : (value : Key → Route → Option Attrs) (c : Course) (k : Key) (h : ℕ) (log : List LogItem) → Follows value c log → stretch log ≡ Some h → AreRight value c k h (sends k log)
 sends_right value c k h [] f e = tt
 sends_right value c k h (Up g ∷ log) f e = tt
 sends_right value c k h (Down ∷ log) f e = tt
 sends_right value c k h (Reload ∷ log) f e = sends_right value c k h log f.0 e
-sends_right value c k h (Sent x ∷ log) f e = elim (net_tells x.key.net k) [
+sends_right value c k h (Sent x ∷ log) f e = elim (key_tells x.key k) [
   | inl w ↦
       let s = f.1 in
       let at : s.in_stretch.0 ≡ h = some_same (sym s.in_stretch.1 ∙ e) in
@@ -70,76 +71,39 @@ sends_right value c k h (Sent x ∷ log) f e = elim (net_tells x.key.net k) [
   | inr w ↦ subst (AreRight value c k h) (sym (sends_other k x log w.0)) (sends_right value c k h log f.0 e)
 ]
 
-pub sends_rise : (value : Net → Route → Option Attrs) (c : Course) (k : Net) (log : List LogItem) → Follows value c log → AreRising (sends k log)
+pub sends_rise : (value : Key → Route → Option Attrs) (c : Course) (k : Key) (log : List LogItem) → Follows value c log → AreRising (sends k log)
 sends_rise value c k [] f = tt
 sends_rise value c k (Up g ∷ log) f = tt
 sends_rise value c k (Down ∷ log) f = tt
 sends_rise value c k (Reload ∷ log) f = sends_rise value c k log f.0
-sends_rise value c k (Sent x ∷ log) f = elim (net_tells x.key.net k) [
+sends_rise value c k (Sent x ∷ log) f = elim (key_tells x.key k) [
   | inl w ↦ subst AreRising (sym (sends_named k x log w.0)) (subst (λ o. Rises o x) (subst (λ n. (account n log).last ≡ slice_get (sends k log) 0) (sym w.1) (last_is k log)) f.1.rises, sends_rise value c k log f.0)
   | inr w ↦ subst AreRising (sym (sends_other k x log w.0)) (sends_rise value c k log f.0)
 ]
 
 -- the values that stand, net by net
 
-keys_by : (f : Net → Option Attrs) (nets : List Net) → keys_of (entries_by f nets) ≡ filter (λ k. is_some (f k)) nets
-keys_by f [] = refl
-keys_by f (k ∷ nets) = by_value (f k) (keys_by f nets) where
-  by_value : (o : Option Attrs) → keys_of (entries_by f nets) ≡ filter (λ k. is_some (f k)) nets → keys_of (cons_option (option_map (λ v. (k, v)) o) (entries_by f nets)) ≡ cond (is_some o) (k ∷ filter (λ k. is_some (f k)) nets) (filter (λ k. is_some (f k)) nets)
-  by_value None e = e
-  by_value (Some v) e = ap (λ ks. k ∷ ks) e
-
--- what the entries have at a net that stands in the list
-pub at_by : (f : Net → Option Attrs) (k : Net) (nets : List Net) → at k (entries_by f nets) ≡ cond (holds k nets) (f k) None
-at_by f k [] = refl
-at_by f k (x ∷ nets) = elim (net_tells x k) [
-  | inl w ↦ named (f x) (ap f w.1) w.0 (at_by f k nets) ∙ sym (ap (λ b. cond (b || holds k nets) (f k) None) w.0)
-  | inr w ↦ other (f x) w.0 (at_by f k nets) ∙ sym (ap (λ b. cond (b || holds k nets) (f k) None) w.0)
-] where
-  here : (b : Bool) → same_net x k ≡ b → is_at (net_cmp k) x ≡ b
-  here b e = is_at_is k x ∙ same_net_flip k x ∙ e
-
-  none_held : (b : Bool) (o : Option Attrs) → o ≡ None → cond b o None ≡ None
-  none_held true o e = e
-  none_held false o e = refl
-
-  named : (o : Option Attrs) → o ≡ f k → same_net x k ≡ true → at k (entries_by f nets) ≡ cond (holds k nets) (f k) None → at k (cons_option (option_map (λ v. (x, v)) o) (entries_by f nets)) ≡ f k
-  named None e s r = r ∙ none_held (holds k nets) (f k) (sym e) ∙ e
-  named (Some v) e s r = ap (λ b. cond b (Some v) (at k (entries_by f nets))) (here true s) ∙ e
-
-  other : (o : Option Attrs) → same_net x k ≡ false → at k (entries_by f nets) ≡ cond (holds k nets) (f k) None → at k (cons_option (option_map (λ v. (x, v)) o) (entries_by f nets)) ≡ cond (holds k nets) (f k) None
-  other None s r = r
-  other (Some v) s r = ap (λ b. cond b (Some v) (at k (entries_by f nets))) (here false s) ∙ r
-
 -- all of them, where each net that has a value is in the list
-pub standing_of : (log : List LogItem) (f : Net → Option Attrs) (nets : List Net) (items : List (Key × Attrs)) → ((k : Net) → f k ≡ standing_at k log) → IsStrictlySortedBy net_cmp nets → ((k : Net) → holds k nets ≡ false → f k ≡ None)
-    → items ≡ map keyed (entries_by f nets) → IsStanding log items
+pub standing_of : (log : List LogItem) (f : Key → Option Attrs) (nets : List Key) (items : List (Key × Attrs)) → ((k : Key) → f k ≡ standing_at k log) → IsStrictlySortedBy key_cmp nets → ((k : Key) → holds k nets ≡ false → f k ≡ None)
+    → items ≡ entries_by f nets → IsStanding log items
 standing_of log f nets items same ascend rest e = record {
-  entries = entries_by f nets;
-  items_are = e;
-  ascend = subst (IsStrictlySortedBy net_cmp) (sym (keys_by f nets)) (IsStrictlySortedBy-filter net_cmp (λ k. is_some (f k)) nets ascend);
-  values = λ k. at_by f k nets ∙ all_held (holds k nets) (f k) (rest k) ∙ same k;
+  ascend = subst (λ items. IsStrictlySortedBy key_cmp (keys_of items)) (sym e) (subst (IsStrictlySortedBy key_cmp) (sym (keys_by f nets)) (IsStrictlySortedBy-filter key_cmp (λ k. is_some (f k)) nets ascend));
+  values = λ k. ap (at k) e ∙ at_by f k nets ∙ all_held (holds k nets) (f k) (rest k) ∙ same k;
 } where
   all_held : (b : Bool) (o : Option Attrs) → (b ≡ false → o ≡ None) → cond b o None ≡ o
   all_held true o n = refl
   all_held false o n = sym (n refl)
 
-map_cons : (k : Net) (o : Option Attrs) → map keyed (cons_option (option_map (λ v. (k, v)) o) []) ≡ cons_option (option_map (λ v. (key_of k, v)) o) []
-map_cons k None = refl
-map_cons k (Some v) = refl
-
--- with one more net
-pub items_more : (f : Net → Option Attrs) (nets nets' : List Net) (k : Net) (items items' : List (Key × Attrs)) → items ≡ map keyed (entries_by f nets) → nets' ≡ nets ++ k ∷ [] → items' ≡ items ++ cons_option (option_map (λ v. (key_of k, v)) (f k)) []
-    → items' ≡ map keyed (entries_by f nets')
-items_more f nets nets' k items items' was e more =
-    more ∙ ap (λ xs. xs ++ cons_option (option_map (λ v. (key_of k, v)) (f k)) []) was
-    ∙ ap (λ ys. map keyed (entries_by f nets) ++ ys) (sym (map_cons k (f k)))
-    ∙ sym (map-append keyed (entries_by f nets) (entries_by f (k ∷ [])))
-    ∙ ap (λ es. map keyed es) (sym (filter_map-append (λ k. option_map (λ v. (k, v)) (f k)) nets (k ∷ [])))
-    ∙ ap (λ ns. map keyed (entries_by f ns)) (sym e)
+-- with one more key
+pub items_more : (f : Key → Option Attrs) (keys keys' : List Key) (k : Key) (items items' : List (Key × Attrs)) → items ≡ entries_by f keys → keys' ≡ keys ++ k ∷ [] → items' ≡ items ++ cons_option (option_map (λ v. (k, v)) (f k)) []
+    → items' ≡ entries_by f keys'
+items_more f keys keys' k items items' was e more =
+    more ∙ ap (λ xs. xs ++ cons_option (option_map (λ v. (k, v)) (f k)) []) was
+    ∙ sym (filter_map-append (λ k. option_map (λ v. (k, v)) (f k)) keys (k ∷ []))
+    ∙ ap (λ ns. entries_by f ns) (sym e)
 
 -- positions in a log that follows a course
-pub highest_told : (value : Net → Route → Option Attrs) (c : Course) (log : List LogItem) → Follows value c log → highest log ≤ c.len
+pub highest_told : (value : Key → Route → Option Attrs) (c : Course) (log : List LogItem) → Follows value c log → highest log ≤ c.len
 highest_told value c [] f = omega arith
 highest_told value c (Up h ∷ log) f = omega (arith, f.1.2, highest_told value c log f.0)
 highest_told value c (Down ∷ log) f = highest_told value c log f.0
@@ -147,7 +111,7 @@ highest_told value c (Reload ∷ log) f = highest_told value c log f.0
 highest_told value c (Sent x ∷ log) f = omega (arith, f.1.told, highest_told value c log f.0)
 
 -- a net without a number has no value
-pub unheld : (log : List LogItem) (places : List (Net × Option ℕ)) (k : Net) → holds k (keys_of places) ≡ false → value_at log (index_at k places) ≡ None
+pub unheld : (log : List LogItem) (places : List (Key × Option ℕ)) (k : Key) → holds k (keys_of places) ≡ false → value_at log (index_at k places) ≡ None
 unheld log places k e = by_place (at k places) (sym (holds-keys_of k places) ∙ e) where
   by_place : (o : Option (Option ℕ)) → is_some o ≡ false → value_at log (option_and_then (λ n. n) o) ≡ None
   by_place None f = refl

@@ -1,8 +1,8 @@
--- What an exporter keeps for one net, and what it stands for (`IsLane`).
+-- What an exporter keeps for one key, and what it stands for (`IsLane`).
 -- From: own.
--- Example: what has been read of a net that isn't marked stands as sent.
+-- Example: what has been read of a key that isn't marked stands as sent.
 use Rattle.std.specs.Prelude.{◌≡◌, ℕ, ◌+◌, ◌≤◌, Bool, true, false, Option, Some, None, IsSome, if◌then◌else◌}
-use Rattle.bits_ip.specs.Prefix.{Net}
+use Rattle.export_core.specs.declared.log.Key.{Key}
 use Rattle.attrs.specs.declared.attributes.Attrs.{Attrs}
 use Rattle.attrs.specs.declared.route.Route.{Route}
 use Rattle.export_core.specs.declared.log.Sending.{Sending}
@@ -11,11 +11,11 @@ use Rattle.export_core.specs.Logs.{Course, Account, value_of}
 use Rattle.export_core.specs.Marks.{is_due}
 use Rattle.export_core.specs.Passing.{passed}
 
--- one net's share of an exporter
+-- one key's share of an exporter
 pub record Lane : Type 0 where
-  -- up to where the net has been read
+  -- up to where the key's net has been read
   pub reach : ℕ
-  -- a feed goes on that hasn't reached the net, and it is a refresh's
+  -- a feed goes on that hasn't reached its net, and it is a refresh's
   pub ahead : Bool
   pub coming : Bool
   pub mark : Option Mark
@@ -24,18 +24,18 @@ pub record Lane : Type 0 where
 abbrev pub tally : Bool → ℕ
 tally b = if b then 1 else 0
 
--- The mark stands in the stretch, not before the net's last item and not behind where the net has
--- been read; its candidate is the net's best route from its position on to there.
+-- The mark stands in the stretch, not before the key's last item and not behind where its net has
+-- been read; its candidate is the key's from its position on to there.
 pub record IsMark
-    (c : Course) (k : Net) (h reach : ℕ) (last : Option Sending) (m : Mark) : Type 0 where
+    (c : Course) (k : Key) (h reach : ℕ) (last : Option Sending) (m : Mark) : Type 0 where
   pub begun : h ≤ m.at
   pub after : (x : Sending) → last ≡ Some x → x.at ≤ m.at
   pub within : m.at ≤ reach
   pub same : (p : ℕ) → m.at ≤ p → p ≤ reach → c.best k p ≡ m.candidate
 
--- What holds of one net in a stretch that began at `h` and had so many refreshes.
+-- What holds of one key in a stretch that began at `h` and had so many refreshes.
 pub record IsLane
-    (value : Net → Route → Option Attrs) (c : Course) (k : Net) (h reloaded : ℕ) (l : Lane)
+    (value : Key → Route → Option Attrs) (c : Course) (k : Key) (h reloaded : ℕ) (l : Lane)
     : Type 0 where
   pub begun : h ≤ l.reach
   pub within : l.reach ≤ c.len
@@ -44,7 +44,7 @@ pub record IsLane
   -- what has been read and isn't marked stands as sent
   pub still :
       l.mark ≡ None → l.ahead ≡ false → value_of l.account ≡ passed value k (c.best k l.reach)
-  -- each refresh sends the net again at most once: those that did, the one that is due, and the one
+  -- each refresh sends the key again at most once: those that did, the one that is due, and the one
   -- whose feed is still to come are at most all
   pub count : l.account.agains + (tally (is_due l.mark) + tally l.coming) ≤ reloaded
   -- and the last one did, where it is not due and not to come

@@ -1,3 +1,4 @@
+pub mod Keys
 pub mod Passing
 pub mod Logs
 pub mod Marks
@@ -10,3 +11,4 @@ pub mod Calls
 pub mod Plan
 pub mod Sends
 pub mod Histories
+pub mod Refusals

@@ -1,5 +1,5 @@
--- What a channel makes of a route: the gate of its protocol (`is_kept`), then its filter
--- (`value_by`, `passed`).
+-- What a channel makes of a route: the gate of its protocol (`is_kept`), which a pipe hasn't, then
+-- its filter (`value_by`, `passed`).
 -- Not modelled: what is changed for a neighbour on the way out (the path's own AS number, the next
 -- hop).
 -- From: BIRD User's Guide, "BGP"; RFC 4271, section 9.2; RFC 1997.
@@ -7,6 +7,7 @@
 -- external neighbour.
 use Rattle.std.specs.Prelude.{◌==◌, ℕ, Bool, true, false, not, ◌&&◌, ◌||◌, if◌then◌else◌, Option, Some, None, option_and_then}
 use Rattle.bits_ip.specs.Prefix.{Net}
+use Rattle.export_core.specs.declared.log.Key.{Key}
 use Rattle.attrs.specs.Clist.{has_pair}
 use Rattle.attrs.specs.declared.attributes.Attrs.{Attrs}
 use Rattle.attrs.specs.declared.attributes.Kind.{Kind}
@@ -47,11 +48,12 @@ abbrev pub accepted : Verdict → Option Attrs
 accepted (Accept attrs) = Some attrs
 accepted (Reject fault) = None
 
--- the attributes with which a route of a net is sent, and none where it isn't: the gate keeps it,
--- or the filter rejects it
-abbrev pub value_by : ExportSpec → (Net → Route → Verdict) → Net → Route → Option Attrs
-value_by spec verdict net r = if is_kept spec r then None else accepted (verdict net r)
+-- the attributes with which a route is sent for a key, and none where it isn't: the gate keeps it,
+-- or the filter rejects it; a pipe's direction has no such gate
+abbrev pub value_by : ExportSpec → (Net → Route → Verdict) → Key → Route → Option Attrs
+value_by spec verdict k r =
+    if not spec.every && is_kept spec r then None else accepted (verdict k.net r)
 
--- the same of a net's best route, where there is one
-abbrev pub passed : (Net → Route → Option Attrs) → Net → Option Route → Option Attrs
-passed value net best = option_and_then (value net) best
+-- the same of a key's candidate, where there is one
+abbrev pub passed : (Key → Route → Option Attrs) → Key → Option Route → Option Attrs
+passed value k best = option_and_then (value k) best

@@ -1,14 +1,13 @@
--- For the laws: what a channel sent of one net in the last stretch of its log (`sends`,
+-- For the laws: what a channel sent of one key in the last stretch of its log (`sends`,
 -- `last_value`), that this is right and rises (`AreRight`, `AreRising`); and the values that stand
--- as sent, in the order of nets (`IsStanding`).
+-- as sent, in the order of keys (`IsStanding`).
 -- From: own.
--- Example: the values of a net stand at rising positions; only one sent again may stand where the
+-- Example: the values of a key stand at rising positions; only one sent again may stand where the
 -- one before it does.
-use Rattle.std.specs.Prelude.{◌≡◌, ℕ, ◌≤◌, List, [], ◌∷◌, Option, map, option_map, option_and_then, slice_get, if◌then◌else◌, ⊤}
-use Rattle.std.specs.List.{filter_map}
+use Rattle.std.specs.Prelude.{◌≡◌, ℕ, ◌≤◌, List, [], ◌∷◌, Option, option_and_then, slice_get, if◌then◌else◌, ⊤}
 use Rattle.std.specs.List.Sorted.{IsStrictlySortedBy}
 use Rattle.std.specs.Map.{keys_of}
-use Rattle.bits_ip.specs.Prefix.{Net, net_cmp, same_net}
+use Rattle.export_core.specs.Keys.{key_cmp, same_key}
 use Rattle.attrs.specs.declared.attributes.Attrs.{Attrs}
 use Rattle.attrs.specs.declared.route.Route.{Route}
 use Rattle.export_core.specs.declared.log.Key.{Key}
@@ -20,18 +19,18 @@ use Rattle.export_core.specs.Marks.{at}
 use Rattle.export_core.specs.Passing.{passed}
 use Rattle.export_core.specs.Standing.{standing_at}
 
--- what was sent of a net in the last stretch of a log that is read backwards, the newest first
-abbrev pub sends : Net → List LogItem → List Sending
+-- what was sent of a key in the last stretch of a log that is read backwards, the newest first
+abbrev pub sends : Key → List LogItem → List Sending
 sends k [] = []
 sends k (Up h ∷ earlier) = []
 sends k (Down ∷ earlier) = []
 sends k (Reload ∷ earlier) = sends k earlier
-sends k (Sent x ∷ earlier) = if same_net x.key.net k then x ∷ sends k earlier else sends k earlier
+sends k (Sent x ∷ earlier) = if same_key x.key k then x ∷ sends k earlier else sends k earlier
 
--- each is what the channel makes of the net's best route at its position, which is one of the
+-- each is what the channel makes of the key's candidate at its position, which is one of the
 -- stretch's and the history's
 abbrev pub AreRight :
-    (Net → Route → Option Attrs) → Course → Net → ℕ → List Sending → Type 0
+    (Key → Route → Option Attrs) → Course → Key → ℕ → List Sending → Type 0
 AreRight value c k h [] = ⊤
 AreRight value c k h (x ∷ earlier) =
     (x.value ≡ passed value k (c.best k x.at)) × (h ≤ x.at) × (x.at ≤ c.len)
@@ -46,19 +45,7 @@ AreRising (x ∷ earlier) = Rises (slice_get earlier 0) x × AreRising earlier
 abbrev pub last_value : List Sending → Option Attrs
 last_value sent = option_and_then (λ x. x.value) (slice_get sent 0)
 
-abbrev pub key_of : Net → Key
-key_of net = record { net = net; num = 0 }
-
-abbrev pub keyed : Net × Attrs → Key × Attrs
-keyed entry = (key_of entry.0, entry.1)
-
--- The values that stand as sent, in the order of nets.
+-- The values that stand as sent, in the order of keys.
 pub record IsStanding (log : List LogItem) (items : List (Key × Attrs)) : Type 0 where
-  pub entries : List (Net × Attrs)
-  pub items_are : items ≡ map keyed entries
-  pub ascend : IsStrictlySortedBy net_cmp (keys_of entries)
-  pub values : (k : Net) → at k entries ≡ standing_at k log
-
--- the entries of some nets, by a function that gives their values
-abbrev pub entries_by : (Net → Option Attrs) → List Net → List (Net × Attrs)
-entries_by f nets = filter_map (λ k. option_map (λ v. (k, v)) (f k)) nets
+  pub ascend : IsStrictlySortedBy key_cmp (keys_of items)
+  pub values : (k : Key) → at k items ≡ standing_at k log

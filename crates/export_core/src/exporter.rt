@@ -1,13 +1,15 @@
 //! The exporter.
-ghost use Rattle.std.specs.Prelude.{◌≡◌, ◌≢◌, ◌↔◌, ◌+◌, ◌<◌, ◌≤◌, ℕ, [], reverse, OnOk, OnErr, IfOk, IfErr, nat_lt, if◌then◌else◌, IfNone, IfSome, IsSome, IsTrue, false, true, Some, None, option_copied, option_map};
+ghost use Rattle.std.specs.Prelude.{◌&&◌, ◌≡◌, ◌≢◌, ◌↔◌, ◌+◌, ◌<◌, ◌≤◌, ℕ, [], reverse, OnOk, OnErr, IfOk, IfErr, nat_lt, if◌then◌else◌, IfNone, IfSome, IsSome, IsTrue, false, true, Some, None, option_copied, option_map};
 ghost use Rattle.bits_ip.specs.Address.{family_of};
-ghost use Rattle.bits_ip.specs.Prefix.{Net};
+ghost use Rattle.export_core.specs.declared.log.Key.{Key};
 ghost use Rattle.export_core.specs.declared.floors.FeedState.TheVariants.{Done, From};
-ghost use Rattle.export_core.specs.Calls.{begun, ended, refreshed, no_marks, Feeds, IsAtRest, IsNews, IsQuiet, MarksAbove, Pushes, Takes, order_with};
-ghost use Rattle.export_core.specs.Candidates.{IsChunk, best_in};
+ghost use Rattle.export_core.specs.Calls.{AreStanding, FlushesBy, begun, ended, refreshed, Feeds, IsAtRest, IsNews, IsQuiet, MarksAbove, Pushes, Takes, order_with};
+ghost use Rattle.export_core.specs.Candidates.{IsChunk, best_in, has_num, heeds, key_of_entry};
 ghost use Rattle.export_core.specs.Logs.{Course, Settled, highest};
 ghost use Rattle.export_core.specs.declared.exporter.Next.TheVariants as next;
 ghost use Rattle.export_core.specs.Marks.{find};
+ghost use Rattle.std.specs.Map.{keys_of};
+ghost use Rattle.export_core.specs.Refusals.{Rose};
 ghost use Rattle.export_core.specs.Plan.{IsFirst, IsNext};
 ghost use Rattle.export_core.specs.Sends.{IsStanding};
 ghost use Rattle.export_core.specs.Standing.{is_open};
@@ -21,7 +23,7 @@ use crate::outlet::{Outlet, PushFault};
 use crate::passing::{ExportSpec, Through};
 use crate::standing::Standing;
 use attrs::{Attrs, Chunk, JEntry, Judge, Route, Shared};
-use bits_ip::{OutOfMemory, Prefix};
+use bits_ip::OutOfMemory;
 use std::alloc::Global;
 use std::collections::VecDeque;
 use std::marker::Model;
@@ -29,11 +31,11 @@ use std::marker::Model;
 /// What a push did.
 #[derive(Clone, Copy, Debug, PartialEq, Eq, Drop)]
 pub enum Pushed {
-    /// The first mark's value was sent.
+    /// The first mark's value was sent, or the first value that stood was withdrawn.
     Sent,
     /// It stands already and no refresh is due.
     Quiet,
-    /// No net is marked.
+    /// No key is marked, or nothing is left to withdraw.
     Nothing,
 }
 
@@ -58,12 +60,13 @@ pub struct Exporter<J: Judge> {
     marks: Marks,
     sent: Standing,
     log: Vec<LogItem>,
+    flushing: bool,
 }
 
 impl<J: Judge> Model for Exporter<J> {
     ghost use Rattle.export_core.specs.States.{State};
     ghost use Rattle.export_core.specs.Families.{AreOfFamily};
-    ghost use Rattle.export_core.specs.Standing.{IsKept};
+    ghost use Rattle.export_core.specs.Standing.{IsKept, held_keys};
 
     ghost Value = { State J };
 
@@ -76,10 +79,12 @@ impl<J: Judge> Model for Exporter<J> {
       refreshing = e.refreshing;
       marks = e.marks;
       log = e.log.items;
+      flushing = e.flushing;
+      left = held_keys e.sent;
     } };
 
-    ghost invariant = { λ e. IsKept e.up e.sent e.log.items
-        × AreOfFamily e.through.spec.family e.marks e.sent };
+    ghost invariant = { λ e. IsKept e.flushing e.up e.sent e.log.items
+        × AreOfFamily e.through.spec e.marks e.sent };
 }
 
 /// Whether a value is sent as one sent again, and none where it isn't sent.
@@ -126,22 +131,28 @@ fn is_done(feed: &FeedState) -> bool
     }
 }
 
-/// Marks the entry's net where the entry stands above what has been read of it.
-fn mark_above(marks: &mut Marks, reached: u64, pos: u64, entry: &JEntry) -> Result<(), OutOfMemory>
-    ensures marks { OnOk result (MarksAbove reached pos entry.now marks.old marks.new) }
-    ensures order { OnOk result (marks.new.order
-        ≡ (if nat_lt reached pos then order_with entry.now.net marks.old else marks.old.order)) }
-    ensures refused { OnErr result
-        ((marks.new.order ≡ marks.old.order)
-        × ((q : Net) → find q marks.new ≡ find q marks.old)) }
+/// Marks the entry's key where its source is heeded and the entry stands above what has been read.
+fn mark_above(
+    marks: &mut Marks,
+    spec: &ExportSpec,
+    reached: u64,
+    pos: u64,
+    entry: &JEntry,
+) -> Result<(), OutOfMemory>
+    ensures marks { OnOk result (MarksAbove spec.now reached pos entry.now marks.old marks.new) }
+    ensures order { OnOk result (keys_of marks.new
+        ≡ (if nat_lt reached pos && heeds spec.now entry.now.num
+        then order_with (key_of_entry spec.now entry.now) marks.old
+        else keys_of marks.old)) }
+    ensures refused { OnErr result (marks.new ≡ marks.old) }
 {
-    if reached < pos {
+    if reached < pos && spec.heeds(entry.num) {
         let mark = Mark {
             at: pos,
-            candidate: copy_best(entry.best.as_ref())?,
+            candidate: copy_best(spec.told(entry))?,
             due: false,
         };
-        marks.put(entry.net, mark)?;
+        marks.put(spec.key_of(entry), mark)?;
     }
     Ok(())
 }
@@ -156,13 +167,15 @@ impl<J: Judge> Exporter<J> {
           floors = [];
           feed = Done;
           refreshing = false;
-          marks = no_marks;
+          marks = [];
           log = [];
+          flushing = false;
+          left = [];
         } }
     {
         Exporter {
             alloc,
-            through: Through::make(spec, judge),
+            through: Through { spec, judge },
             up: false,
             position: 0,
             floors: VecDeque::new(alloc),
@@ -171,6 +184,7 @@ impl<J: Judge> Exporter<J> {
             marks: Marks::new(alloc),
             sent: Standing::new(alloc),
             log: Vec::new(alloc),
+            flushing: false,
         }
     }
 
@@ -188,9 +202,10 @@ impl<J: Judge> Exporter<J> {
         self.feed
     }
 
-    /// The values that stand as sent, in the order of nets.
+    /// The values that stand as sent, in the order of keys.
     pub fn standing(&self) -> Result<Vec<(Key, Shared<Attrs>)>, OutOfMemory>
-        ensures { IfOk result (λ values. IsStanding self.now.log values.items) }
+        ensures { IfOk result (λ values. self.now.flushing ≡ false
+            → IsStanding self.now.log values.items) }
     {
         self.sent.values(self.alloc, &self.log)
     }
@@ -201,29 +216,32 @@ impl<J: Judge> Exporter<J> {
         requires next { pos ≡ self.old.position + 1 }
         requires family { family_of entry.now.net.addr ≡ self.old.spec.family }
         ensures takes { OnOk result (Takes pos entry.now self.old self.new) }
-        ensures stands { OnOk result ((c : Course) → IsEntryAt c pos entry.now
+        ensures refused { OnErr result (self.new ≡ self.old) }
+        ensures stands { OnOk result ((c : Course) → IsEntryAt self.old.spec c pos entry.now
             → StandsFor J.verdict c self.old → StandsFor J.verdict c self.new) }
     {
-        let reached = reach_at(&self.floors, self.position, &entry.net);
-        mark_above(&mut self.marks, reached, pos, entry)?;
+        let key = self.through.spec.key_of(entry);
+        let reached = reach_at(&self.floors, self.position, &key);
+        mark_above(&mut self.marks, &self.through.spec, reached, pos, entry)?;
         self.position = pos;
         lower(&mut self.floors, pos);
         Ok(())
     }
 
     /// What a push of the first mark will do.
-    fn next_of(&self, net: &Prefix, mark: &Mark) -> Result<Next, OutOfMemory>
-        requires { IsFirst net.now mark.now self.now }
+    fn next_of(&self, key: &Key, mark: &Mark) -> Result<Next, OutOfMemory>
+        requires first { IsFirst key.now mark.now self.now }
+        requires stays { self.now.flushing ≡ false }
         ensures { IfOk result (λ next. IsNext J.verdict self.now next) }
     {
-        let value = self.through.best_value(net, mark.candidate.as_ref())?;
-        let last = self.sent.value(&self.log, net);
+        let value = self.through.best_value(key, mark.candidate.as_ref())?;
+        let last = self.sent.value(&self.log, key);
         let Some(again) = send_of(value.as_ref(), last, mark.due) else {
             return Ok(Next::Quiet);
         };
         Ok(Next::Send(Sending {
             at: mark.at,
-            key: Key { net: *net, num: 0 },
+            key: *key,
             value,
             again,
         }))
@@ -231,6 +249,7 @@ impl<J: Judge> Exporter<J> {
 
     /// What the next push will do.
     fn next(&self) -> Result<Next, OutOfMemory>
+        requires stays { self.now.flushing ≡ false }
         ensures { IfOk result (λ next. IsNext J.verdict self.now next) }
     {
         match self.marks.first() {
@@ -241,37 +260,41 @@ impl<J: Judge> Exporter<J> {
 
     /// Sends the first mark's value.
     fn send<O: Outlet>(&mut self, outlet: &mut O, sending: Sending) -> Result<Pushed, PushFault>
+        requires stays { self.old.flushing ≡ false }
         requires next { IsNext J.verdict self.old (next.Send sending) }
-        requires takes { O.takes outlet.old 0 self.old.spec.family ≡ true }
+        requires takes { (num : ℕ) → has_num self.old.spec num ≡ true
+            → O.takes outlet.old num self.old.spec.family ≡ true }
         ensures pushes { IfOk result (Pushes J.verdict self.old self.new
             (O.told outlet.old) (O.told outlet.new)) }
         ensures refused { OnErr result
             ((self.new ≡ self.old) × (O.told outlet.new ≡ O.told outlet.old)) }
         ensures cause { IfErr result (λ fault. fault ≢ PushFault.Memory
-            → (O.refusals outlet.old < O.refusals outlet.new)
+            → Rose (O.refusals outlet.old) (O.refusals outlet.new)
             × (O.fault outlet.new ≡ Some fault)) }
     {
-        let net = sending.net();
+        let key = sending.key();
         let number = sending.number(&self.log);
         self.log.reserve(1)?;
-        self.sent.make_place(&net)?;
+        self.sent.make_place(&key)?;
         outlet.put(&sending)?;
         self.marks.pop();
-        self.sent.set(net, number);
+        self.sent.set(key, number);
         self.log.push_reserved(LogItem::Sent(sending));
         Ok(Pushed::Sent)
     }
 
     /// Pushes the first mark out, in the order of first marking.
     pub fn push_one<O: Outlet>(&mut self, outlet: &mut O) -> Result<Pushed, PushFault>
+        requires stays { self.old.flushing ≡ false }
         requires up { is_open self.old.log ≡ true }
-        requires takes { O.takes outlet.old 0 self.old.spec.family ≡ true }
+        requires takes { (num : ℕ) → has_num self.old.spec num ≡ true
+            → O.takes outlet.old num self.old.spec.family ≡ true }
         ensures pushes { IfOk result (Pushes J.verdict self.old self.new
             (O.told outlet.old) (O.told outlet.new)) }
         ensures refused { OnErr result
             ((self.new ≡ self.old) × (O.told outlet.new ≡ O.told outlet.old)) }
         ensures cause { IfErr result (λ fault. fault ≢ PushFault.Memory
-            → (O.refusals outlet.old < O.refusals outlet.new)
+            → Rose (O.refusals outlet.old) (O.refusals outlet.new)
             × (O.fault outlet.new ≡ Some fault)) }
         ensures up { OnOk result (is_open self.new.log ≡ true) }
         ensures stands { OnOk result ((c : Course)
@@ -285,6 +308,51 @@ impl<J: Judge> Exporter<J> {
             }
             Next::Send(sending) => self.send(outlet, sending),
         }
+    }
+
+    /// Whether what stands is being withdrawn.
+    pub fn is_flushing(&self) -> bool
+        ensures { result ≡ self.now.flushing }
+    {
+        self.flushing
+    }
+
+    /// Withdraws the first value that stands still, in the order of keys. The log has no item of
+    /// it: that all is withdrawn is told by the `Down` that follows.
+    pub fn flush_one<O: Outlet>(&mut self, outlet: &mut O) -> Result<Pushed, PushFault>
+        requires every { self.old.spec.every ≡ true }
+        requires up { is_open self.old.log ≡ true }
+        requires takes { (num : ℕ) → has_num self.old.spec num ≡ true
+            → O.takes outlet.old num self.old.spec.family ≡ true }
+        ensures first { self.old.flushing ≡ false → AreStanding self.old.log self.old.left }
+        ensures flushes { IfOk result (FlushesBy self.old self.new
+            (O.told outlet.old) (O.told outlet.new)) }
+        ensures refused { OnErr result
+            ((self.new ≡ self.old) × (O.told outlet.new ≡ O.told outlet.old)) }
+        ensures cause { IfErr result (λ fault. fault ≢ PushFault.Memory
+            → Rose (O.refusals outlet.old) (O.refusals outlet.new)
+            × (O.fault outlet.new ≡ Some fault)) }
+        ensures up { OnOk result (is_open self.new.log ≡ true) }
+        ensures stands { OnOk result ((c : Course)
+            → StandsFor J.verdict c self.old → StandsFor J.verdict c self.new) }
+    {
+        // what ascends is told for the clause `first`
+        self.sent.ascend();
+        // a push that was refused may have left a place
+        self.sent.skip_places();
+        let Some(key) = self.sent.first() else {
+            return Ok(Pushed::Nothing);
+        };
+        let sending = Sending {
+            at: self.position,
+            key,
+            value: None,
+            again: false,
+        };
+        outlet.put(&sending)?;
+        self.sent.pop();
+        self.flushing = true;
+        Ok(Pushed::Sent)
     }
 
     /// Begins a stretch at the position, with a feed.
@@ -306,11 +374,13 @@ impl<J: Judge> Exporter<J> {
         self.refreshing = false;
         self.marks.clear();
         self.sent.clear();
+        self.flushing = false;
         Ok(())
     }
 
     /// Begins a feed whose marks are due a refresh.
     pub fn refresh(&mut self) -> Result<(), OutOfMemory>
+        requires stays { self.old.flushing ≡ false }
         requires up { is_open self.old.log ≡ true }
         ensures refreshes { OnOk result (self.new ≡ refreshed self.old) }
         ensures up { OnOk result (is_open self.new.log ≡ true) }
@@ -325,9 +395,11 @@ impl<J: Judge> Exporter<J> {
         Ok(())
     }
 
-    /// Ends the stretch. Marks and sent values are forgotten.
+    /// Ends the stretch. Marks and sent values are forgotten; a pipe's direction has withdrawn all
+    /// that stood.
     pub fn down(&mut self) -> Result<(), OutOfMemory>
         requires up { is_open self.old.log ≡ true }
+        requires withdrawn { self.old.spec.every ≡ true → self.old.left ≡ [] }
         ensures ends { OnOk result (self.new ≡ ended self.old) }
         ensures down { OnOk result (is_open self.new.log ≡ false) }
         ensures refused { OnErr result (self.new ≡ self.old) }
@@ -340,22 +412,25 @@ impl<J: Judge> Exporter<J> {
         self.feed = FeedState::Done;
         self.marks.clear();
         self.sent.clear();
+        self.flushing = false;
         Ok(())
     }
 
-    /// Marks the nets of the chunk's range that have a best route, a mark or a sent value.
+    /// Marks the keys of the chunk's range that have a candidate, a mark or a sent value.
     pub fn fed(&mut self, chunk: &Chunk) -> Result<(), OutOfMemory>
+        requires stays { self.old.flushing ≡ false }
         requires here { self.old.feed ≡ From chunk.now.from }
-        requires later { (k : Net) → reach_of self.old k ≤ chunk.now.at }
-        requires chunk { IsChunk chunk.now }
-        requires family { (k : Net) → IsSome (best_in k chunk.now.rows)
-            → family_of k.addr ≡ self.old.spec.family }
+        requires later { (k : Key) → reach_of self.old k ≤ chunk.now.at }
+        requires chunk { IsChunk self.old.spec chunk.now }
+        requires family { (k : Key) → IsSome (best_in self.old.spec k chunk.now.rows)
+            → family_of k.net.addr ≡ self.old.spec.family }
         ensures feeds { OnOk result (Feeds chunk.now self.old self.new) }
-        ensures stands { OnOk result ((c : Course) → IsChunkAt c chunk.now
+        ensures refused { OnErr result (self.new ≡ self.old) }
+        ensures stands { OnOk result ((c : Course) → IsChunkAt self.old.spec c chunk.now
             → StandsFor J.verdict c self.old → StandsFor J.verdict c self.new) }
     {
         let range = Floor::of_chunk(chunk);
-        let mut candidates = best_routes(self.alloc, chunk.rows.as_slice())?;
+        let mut candidates = best_routes(self.alloc, &self.through.spec, chunk.rows.as_slice())?;
         self.marks.add_to(&mut candidates, &range)?;
         self.sent.add_to(&mut candidates, &range)?;
         self.floors.reserve(1)?;
@@ -365,13 +440,13 @@ impl<J: Judge> Exporter<J> {
         Ok(())
     }
 
-    /// Whether the channel is up, at the head, fed, and without a mark.
+    /// Whether the channel is up and keeps what stands, at the head, fed, and without a mark.
     fn rests(&self, head: u64) -> bool
         ensures rests { IsTrue result ↔ IsAtRest self.now head }
-        ensures none { IsTrue result → (k : Net) → find k self.now.marks ≡ None }
+        ensures none { IsTrue result → (k : Key) → find k self.now.marks ≡ None }
     {
         let unmarked = self.marks.is_empty();
-        self.up & (self.position == head) & is_done(&self.feed) & unmarked
+        self.up & !self.flushing & (self.position == head) & is_done(&self.feed) & unmarked
     }
 
     /// Whether the channel is up, and all up to the head is read and sent.

@@ -1,9 +1,10 @@
 //! Up to where the nets of a table have been read.
-ghost use Rattle.std.specs.Prelude.{◌≡◌, ℕ};
-ghost use Rattle.bits_ip.specs.Prefix.{Net};
+ghost use Rattle.std.specs.Prelude.{◌≡◌, ◌<◌, ℕ, Some, slice_get};
+ghost use Rattle.export_core.specs.declared.log.Key.{Key};
 ghost use Rattle.export_core.specs.Candidates.{covers, floor_of, is_from, is_below};
 ghost use Rattle.export_core.specs.States.{reach, higher, feed_after};
 
+use crate::log::Key;
 use attrs::Chunk;
 use bits_ip::Prefix;
 use std::collections::VecDeque;
@@ -55,37 +56,39 @@ impl Floor {
         }
     }
 
-    /// Whether the net is in the range.
-    pub(crate) fn covers(&self, net: &Prefix) -> bool
-        ensures { result ≡ covers self.now net.now }
+    /// Whether the key's net is in the range.
+    pub(crate) fn covers(&self, key: &Key) -> bool
+        ensures { result ≡ covers self.now key.now }
     {
-        is_from(self.from, net) & is_below(self.upto, net)
+        is_from(self.from, &key.net) & is_below(self.upto, &key.net)
     }
 }
 
-/// The greater of the position found and that of the range, where the net is in it.
-fn higher_of(found: u64, floor: &Floor, net: &Prefix) -> u64
-    ensures { result ≡ higher net.now found floor.now }
+/// The greater of the position found and that of the range, where the key's net is in it.
+fn higher_of(found: u64, floor: &Floor, key: &Key) -> u64
+    ensures { result ≡ higher key.now found floor.now }
 {
-    if floor.covers(net) {
+    if floor.covers(key) {
         floor.at.max(found)
     } else {
         found
     }
 }
 
-/// Up to where the net has been read.
-pub(crate) fn reach_at(floors: &VecDeque<Floor>, position: u64, net: &Prefix) -> u64
-    ensures { result ≡ reach position floors.now.items net.now }
+/// Up to where the key's net has been read.
+pub(crate) fn reach_at(floors: &VecDeque<Floor>, position: u64, key: &Key) -> u64
+    ensures { result ≡ reach position floors.now.items key.now }
 {
     floors
         .iter()
-        .fold(position, |found, floor| higher_of(found, floor, net))
+        .fold(position, |found, floor| higher_of(found, floor, key))
 }
 
 /// Drops ranges at or below the position from the front: they tell nothing more.
 pub(crate) fn lower(floors: &mut VecDeque<Floor>, position: u64)
-    ensures { (k : Net) → reach position floors.new.items k ≡ reach position floors.old.items k }
+    ensures read { (k : Key)
+        → reach position floors.new.items k ≡ reach position floors.old.items k }
+    ensures lowered { (f : Floor) → slice_get floors.new.items 0 ≡ Some f → position < f.at }
 {
     while let Some(floor) = floors.front() {
         if floor.at > position {

@@ -4,8 +4,8 @@ ghost use Rattle.std.specs.Prelude.{◌≡◌, length, option_map};
 use attrs::{Attrs, Shared};
 use bits_ip::Prefix;
 
-/// What a channel sends values for.
-#[derive(Clone, Copy, Debug, PartialEq, Eq)]
+/// What a channel sends values for. Keys are ordered by net, and then by source.
+#[derive(Clone, Copy, Debug, PartialEq, Eq, PartialOrd, Ord, Drop)]
 pub struct Key {
     pub net: Prefix,
     /// The number of the source of a pipe's routes, and 0 in other channels.
@@ -25,10 +25,10 @@ pub struct Sending {
 }
 
 impl Sending {
-    pub(crate) fn net(&self) -> Prefix
-        ensures { result ≡ self.now.key.net }
+    pub(crate) fn key(&self) -> Key
+        ensures { result ≡ self.now.key }
     {
-        self.key.net
+        self.key
     }
 
     /// The number that the value gets behind the log's items, and none for a withdrawal.

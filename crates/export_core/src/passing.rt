@@ -1,13 +1,16 @@
 //! What a channel makes of a route.
-ghost use Rattle.std.specs.Prelude.{◌≡◌, ℕ, IfOk, option_copied};
+ghost use Rattle.std.specs.Prelude.{◌≡◌, ℕ, false, IfOk, option_copied};
 ghost use Rattle.attrs.specs.Clist.{has_pair};
+ghost use Rattle.export_core.specs.Candidates.{among, heeds, key_of_entry, told_of};
+ghost use Rattle.export_core.specs.Keys.{key_of};
 ghost use Rattle.export_core.specs.Passing.{has_known, is_for_inside, is_internal, is_kept, passed, value_by};
 
-use attrs::{Attrs, Judge, Kind, Route, Shared, Verdict};
+use crate::log::Key;
+use attrs::{Attrs, JEntry, Judge, Kind, Route, Seq, Shared, Verdict};
 use bits_ip::{Family, OutOfMemory, Prefix};
 
-/// What a channel's gate goes by.
-#[derive(Clone, Copy, Debug, PartialEq, Eq)]
+/// What a channel's gate goes by. What a pipe's direction passes is told by the sources alone.
+#[derive(Debug, Drop)]
 pub struct ExportSpec {
     /// The family of the table that the channel reads.
     pub family: Family,
@@ -17,6 +20,10 @@ pub struct ExportSpec {
     pub to_ebgp: bool,
     /// Whether the communities that are known everywhere (RFC 1997) have their meaning.
     pub interpret: bool,
+    /// Whether it is a pipe's direction, which sends each route of a net and not the best alone.
+    pub every: bool,
+    /// The numbers of the sources whose routes a pipe's direction passes.
+    pub sources: Seq<u32>,
 }
 
 /// The gate and the filter of one channel.
@@ -61,10 +68,48 @@ impl ExportSpec {
         let outside = self.to_ebgp & is_for_inside(&route.attrs);
         own | inside | (self.interpret & (nobody | outside))
     }
+
+    /// Whether the source is one that a pipe's direction passes.
+    pub(crate) fn passes(&self, num: u32) -> bool
+        ensures { result ≡ among num self.now.sources }
+    {
+        self.sources.as_slice().contains(&num)
+    }
+
+    /// Whether an entry of this source marks anything.
+    pub(crate) fn heeds(&self, num: u32) -> bool
+        ensures { result ≡ heeds self.now num }
+    {
+        !self.every || self.passes(num)
+    }
+
+    /// The key of an entry.
+    pub(crate) fn key_of(&self, entry: &JEntry) -> Key
+        ensures { result ≡ key_of_entry self.now entry.now }
+    {
+        let num = if self.every { entry.num } else { 0 };
+        Key {
+            net: entry.net,
+            num,
+        }
+    }
+
+    /// The candidate of that key behind the entry.
+    pub(crate) fn told<'a>(&self, entry: &'a JEntry) -> Option<&'a Route>
+        ensures { option_copied result ≡ told_of self.now entry.now }
+    {
+        if self.every {
+            entry.new.as_ref()
+        } else {
+            entry.best.as_ref()
+        }
+    }
 }
 
 impl<J: Judge> Through<J> {
+    /// Of a channel that isn't a pipe's direction.
     pub fn make(spec: ExportSpec, judge: J) -> Through<J>
+        requires { spec.every ≡ false }
         ensures { result ≡ record { spec = spec; judge = judge } }
     {
         Through { spec, judge }
@@ -74,9 +119,9 @@ impl<J: Judge> Through<J> {
     /// filter rejects it, by its word or by a fault.
     pub fn value(&self, net: &Prefix, route: &Route) -> Result<Option<Shared<Attrs>>, OutOfMemory>
         ensures { IfOk result (λ value. value
-            ≡ value_by self.now.spec (J.verdict self.now.judge) net.now route.now) }
+            ≡ value_by self.now.spec (J.verdict self.now.judge) (key_of net.now) route.now) }
     {
-        if self.spec.keeps(route) {
+        if !self.spec.every && self.spec.keeps(route) {
             return Ok(None);
         }
         match self.judge.judge(net, route)? {
@@ -85,18 +130,18 @@ impl<J: Judge> Through<J> {
         }
     }
 
-    /// The same of a net's best route, where there is one.
+    /// The same of a key's candidate, where there is one.
     pub(crate) fn best_value(
         &self,
-        net: &Prefix,
+        key: &Key,
         best: Option<&Route>,
     ) -> Result<Option<Shared<Attrs>>, OutOfMemory>
         ensures { IfOk result (λ value. value
-            ≡ passed (value_by self.now.spec (J.verdict self.now.judge)) net.now
+            ≡ passed (value_by self.now.spec (J.verdict self.now.judge)) key.now
             (option_copied best.entry)) }
     {
         match best {
-            Some(route) => self.value(net, route),
+            Some(route) => self.value(&key.net, route),
             None => Ok(None),
         }
     }

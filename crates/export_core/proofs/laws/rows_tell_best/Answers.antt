@@ -1,5 +1,5 @@
-use Rattle.export_core.proofs.Courses.{rows_best}
+use Rattle.export_core.proofs.Contents.{rows_told}
 use Rattle.export_core.proofs.laws.rows_tell_best.Goals as goal
 
 pub returns : goal.returns
-returns c = rows_best
+returns c = rows_told

@@ -4,22 +4,22 @@ use Rattle.std.specs.Map.Iter.{deref_pair}
 use Rattle.std.specs.BTreeMap.Range.{entries_between}
 use Rattle.std.proofs.lemmas.Map.Iter.{iter_end}
 use Rattle.export_core.specs.Standing.{index_at}
-use Rattle.bits_ip.specs.Prefix.{net_cmp}
+use Rattle.export_core.specs.Keys.{key_cmp}
 use Rattle.export_core.specs.Candidates.{end_bound, first_bound}
 use Rattle.export_core.specs.Marks.{at}
 use Rattle.export_core.proofs.Feeding.{adds_all, adds_next, inner_there, keys_more}
-use Rattle.export_core.proofs.Nets.{bounds_forward}
+use Rattle.export_core.proofs.Keys.{bounds_forward}
 use Rattle.export_core.proofs.standing.Standing.add_to.Goals as goal
 
-pub range-net-items-requires : goal.range-net-items-requires
-range-net-items-requires c = rw c.bounds_of.ensures (bounds_forward c.args.range.now c.requires)
+pub range-key-items-requires : goal.range-key-items-requires
+range-key-items-requires c = rw c.bounds_of.ensures (bounds_forward c.args.range.now c.requires)
 
-pub loop-net-preserved : goal.loop-net-preserved
-loop-net-preserved c =
-    adds_next (λ q. is_some (index_at q c.args.self.now)) c.in-Some.net.now _ _ _ _ _ c.loop-net.invariant c.in_ok-add_one.ensures (keys_more _ _)
+pub loop-key-preserved : goal.loop-key-preserved
+loop-key-preserved c =
+    adds_next (λ q. is_some (index_at q c.args.self.now)) c.in-Some.key.now _ _ _ _ _ c.loop-key.invariant c.in_ok-add_one.ensures (keys_more _ _)
 
 pub returns : goal.returns
 returns c =
-    let e : map deref_pair c.loop-net.yielded ≡ c.range-net-items.result = search (rules, iter_end) in
-    adds_all c.args.range.now (λ q. is_some (index_at q c.args.self.now)) c.args.self.now _ _ _ (ap keys_of (e ∙ c.range-net-items.ensures.between tt ∙ rw c.bounds_of.ensures refl ∙ ap (λ m. entries_between net_cmp (first_bound c.args.range.now.from) (end_bound c.args.range.now.upto) m) c.self.view_is))
-    (λ q. inner_there (at q c.args.self.now)) c.loop-net.invariant
+    let e : map deref_pair c.loop-key.yielded ≡ c.range-key-items.result = search (rules, iter_end) in
+    adds_all c.args.range.now (λ q. is_some (index_at q c.args.self.now)) c.args.self.now _ _ _ (ap keys_of (e ∙ c.range-key-items.ensures.between tt ∙ rw c.bounds_of.ensures refl ∙ ap (λ m. entries_between key_cmp (first_bound c.args.range.now.from) (end_bound c.args.range.now.upto) m) c.self.view_is))
+    (λ q. inner_there (at q c.args.self.now)) c.loop-key.invariant
