@@ -1,6 +1,6 @@
 -- Histories that are read backwards: their fronts, and the contents that they leave.
 use Rattle.std.proofs.Common.{◌≡◌, ◌≢◌, ℕ, ◌+◌, ◌<◌, ◌≤◌, inl, inr, Bool, true, false, cond, List, [], ◌∷◌, ◌++◌, Option, Some, None, refl, sym, ◌∙◌, ap, subst, arith, length, reverse}
-use Rattle.std.specs.Prelude.{◌==◌, ◌&&◌, nat_lt, unwrap_or, if◌then◌else◌}
+use Rattle.std.specs.Prelude.{◌==◌, ◌&&◌, nat_lt, not, unwrap_or, if◌then◌else◌, ⊤}
 use Rattle.std.proofs.lemmas.List.{reverse-append}
 use Rattle.std.proofs.lemmas.Bool.Decides.{nat_tests, eqb_tells}
 use Rattle.bits_ip.specs.Prefix.{Net, same_net}
@@ -9,7 +9,7 @@ use Rattle.attrs.specs.declared.route.Route.{Route}
 use Rattle.attrs.specs.History.{Content, after, empty, is_of, last_of, IsReal}
 use Rattle.attrs.proofs.Histories.{after-append, last_of-push, IsReal-push}
 use Rattle.export_core.proofs.Nets.{net_tells}
-use Rattle.core_machine.specs.Histories.{AreReal, content_of, entry, front, own}
+use Rattle.core_machine.specs.Histories.{AreFrom, AreReal, content_of, entry, front, of_those, own}
 
 pub some_same : {A : Type 0} {x y : A} → Some x ≡ Some y → x ≡ y
 some_same e = cc
@@ -63,12 +63,48 @@ front_next p (d ∷ h) c e = elim (eqb_tells (length h) p) [
       front_more (p + 1) d h (omega arith) ∙ front_next p h c there ∙ ap (λ l. c ∷ l) (sym (front_more p d h (omega arith)))
 ]
 
+pub eqb_no : (a b : ℕ) → a ≢ b → (a == b) ≡ false
+eqb_no a b e = elim (eqb_tells a b) [ inl w ↦ absurd (e w.1) | inr w ↦ w.0 ]
+
+pub eqb_yes : (a b : ℕ) → a ≡ b → (a == b) ≡ true
+eqb_yes a b e = elim (eqb_tells a b) [ inl w ↦ w.0 | inr w ↦ absurd (w.1 e) ]
+
+-- the changes of those sources that pass a test
+abbrev pub AllOf : (ℕ → Bool) → List Change → Type 0
+AllOf test [] = ⊤
+AllOf test (c ∷ h) = (test c.num ≡ true) × AllOf test h
+
+pub those_in : (test : ℕ → Bool) (c : Change) (h : List Change) → test c.num ≡ true → of_those test (c ∷ h) ≡ c ∷ of_those test h
+those_in test c h e = if_true (test c.num) (c ∷ of_those test h) (of_those test h) e
+
+pub those_out : (test : ℕ → Bool) (c : Change) (h : List Change) → test c.num ≡ false → of_those test (c ∷ h) ≡ of_those test h
+those_out test c h e = if_false (test c.num) (c ∷ of_those test h) (of_those test h) e
+
+pub those_more : (test : ℕ → Bool) (cs h : List Change) → AllOf test cs → of_those test (cs ++ h) ≡ cs ++ of_those test h
+those_more test [] h a = refl
+those_more test (c ∷ cs) h a = those_in test c (cs ++ h) a.0 ∙ ap (λ l. c ∷ l) (those_more test cs h a.1)
+
+pub those_less : (test : ℕ → Bool) (cs h : List Change) → AllOf (λ n. not (test n)) cs → of_those test (cs ++ h) ≡ of_those test h
+those_less test [] h a = refl
+those_less test (c ∷ cs) h a = those_out test c (cs ++ h) (not_true (test c.num) a.0) ∙ those_less test cs h a.1 where
+  not_true : (b : Bool) → not b ≡ true → b ≡ false
+  not_true true e = absurd (let bad : false ≡ true = e in cc)
+  not_true false e = refl
+
+pub own_all : (i : ℕ) (cs : List Change) → AreFrom i cs → AllOf (λ num. num == i) cs
+own_all i [] a = tt
+own_all i (c ∷ cs) a = (eqb_yes c.num i a.0.change, own_all i cs a.1)
+
+pub all_of : (test : ℕ → Bool) (i : ℕ) (cs : List Change) → AreFrom i cs → test i ≡ true → AllOf test cs
+all_of test i [] a e = tt
+all_of test i (c ∷ cs) a e = (ap test a.0.change ∙ e, all_of test i cs a.1 e)
+
 -- a source's own changes
 pub own_named : (i : ℕ) (c : Change) (h : List Change) → c.num ≡ i → own i (c ∷ h) ≡ c ∷ own i h
-own_named i c h e = elim (eqb_tells c.num i) [ inl w ↦ if_true (c.num == i) (c ∷ own i h) (own i h) w.0 | inr w ↦ absurd (w.1 e) ]
+own_named i c h e = those_in (λ num. num == i) c h (eqb_yes c.num i e)
 
 pub own_other : (i : ℕ) (c : Change) (h : List Change) → c.num ≢ i → own i (c ∷ h) ≡ own i h
-own_other i c h e = elim (eqb_tells c.num i) [ inl w ↦ absurd (e w.1) | inr w ↦ if_false (c.num == i) (c ∷ own i h) (own i h) w.0 ]
+own_other i c h e = those_out (λ num. num == i) c h (eqb_no c.num i e)
 
 -- ---- contents
 
@@ -106,16 +142,19 @@ content_past_num c h net num other = content_more c h net num ∙ elim (eqb_tell
   | inr w ↦ if_false (is_of net num c) c.new (content_of h net num) (and_right (same_net net c.net) (num == c.num) w.0)
 ]
 
--- what stands for a source is what its own changes say
+-- what stands for a source is what the changes of any sources say among which it is
+pub content_those : (test : ℕ → Bool) (net : Net) (i : ℕ) (h : List Change) → test i ≡ true → content_of h net i ≡ content_of (of_those test h) net i
+content_those test net i [] e = refl
+content_those test net i (c ∷ h) e = elim (test c.num) as (λ b. test c.num ≡ b → content_of (c ∷ h) net i ≡ content_of (of_those test (c ∷ h)) net i) [
+  | true ↦ λ q. content_more c h net i
+      ∙ elim (is_of net i c) as (λ b. (if b then c.new else content_of h net i) ≡ (if b then c.new else content_of (of_those test h) net i)) [ true ↦ refl | false ↦ content_those test net i h e ]
+      ∙ sym (content_more c (of_those test h) net i)
+      ∙ ap (λ l. content_of l net i) (sym (those_in test c h q))
+  | false ↦ λ q. content_past_num c h net i (λ w. let bad : true ≡ false = sym e ∙ ap test (sym w) ∙ q in cc) ∙ content_those test net i h e ∙ ap (λ l. content_of l net i) (sym (those_out test c h q))
+] refl
+
 pub content_own : (net : Net) (i : ℕ) (h : List Change) → content_of h net i ≡ content_of (own i h) net i
-content_own net i [] = refl
-content_own net i (c ∷ h) = elim (eqb_tells c.num i) [
-  | inl w ↦ content_more c h net i
-      ∙ elim (is_of net i c) as (λ b. (if b then c.new else content_of h net i) ≡ (if b then c.new else content_of (own i h) net i)) [ true ↦ refl | false ↦ content_own net i h ]
-      ∙ sym (content_more c (own i h) net i)
-      ∙ ap (λ l. content_of l net i) (sym (own_named i c h w.1))
-  | inr w ↦ content_past_num c h net i w.1 ∙ content_own net i h ∙ ap (λ l. content_of l net i) (sym (own_other i c h w.1))
-]
+content_own net i h = content_those (λ num. num == i) net i h (eqb_yes i i refl)
 
 -- one more change that differs from what stands
 pub real_more : (c : Change) (h : List Change) → AreReal h → content_of h c.net c.num ≢ c.new → AreReal (c ∷ h)

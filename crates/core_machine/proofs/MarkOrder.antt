@@ -1,51 +1,52 @@
 -- The order of marks, for one who keeps order and marks apart; and an `up` by the count of changes below it.
-use Rattle.std.proofs.Common.{◌≡◌, ℕ, ◌≤◌, inl, inr, Bool, true, false, List, [], ◌∷◌, ◌++◌, Some, refl, sym, ◌∙◌, ap, arith, length, is_some}
+use Rattle.std.proofs.Common.{◌≡◌, ℕ, ◌≤◌, inl, inr, Bool, true, false, List, [], ◌∷◌, ◌++◌, Some, refl, sym, ◌∙◌, ap, subst, arith, length, is_some}
 use Rattle.std.specs.Prelude.{◌||◌, nat_lt, if◌then◌else◌}
 use Rattle.std.specs.List.Sorted.{IsStrictlySortedBy}
 use Rattle.std.proofs.lemmas.List.{append-nil, append_assoc, length-append}
 use Rattle.std.proofs.lemmas.Bool.Decides.{eqb_tells}
-use Rattle.bits_ip.specs.Prefix.{Net, net_cmp, precedes, same_net}
 use Rattle.attrs.specs.declared.route.Change.{Change}
-use Rattle.attrs.proofs.Nets.{precedes_other, same_net_itself}
+use Rattle.export_core.specs.declared.log.Key.{Key}
+use Rattle.export_core.specs.Keys.{key_cmp, same_key}
 use Rattle.export_core.specs.Marks.{holds}
-use Rattle.export_core.proofs.Nets.{net_tells}
+use Rattle.export_core.proofs.Keys.{key_tells, same_key_itself}
+use Rattle.core_machine.specs.Enters.{comes_before}
 use Rattle.core_machine.specs.Histories.{front, own}
-use Rattle.core_machine.specs.Marks.{Marked, find, nets_of, put, put_all, unmarked}
+use Rattle.core_machine.specs.Marks.{Marked, find, keys_of, put, put_all, unmarked}
 use Rattle.core_machine.proofs.Contents.{if_true, if_false, own_named, own_other}
 use Rattle.core_machine.proofs.MarkSteps.{find_past, find_put_other}
-use Rattle.core_machine.proofs.NetLists.{above_held}
+use Rattle.core_machine.proofs.KeyLists.{above_held, before_not}
 
-pub nets_put : (m : Marked) (ms : List Marked) → nets_of (put m ms) ≡ (if is_some (find m.net ms) then nets_of ms else nets_of ms ++ m.net ∷ [])
-nets_put m [] = refl
-nets_put m (x ∷ ms) =
+pub keys_put : (m : Marked) (ms : List Marked) → keys_of (put m ms) ≡ (if is_some (find m.key ms) then keys_of ms else keys_of ms ++ m.key ∷ [])
+keys_put m [] = refl
+keys_put m (x ∷ ms) =
     let n : Marked = record m { due = m.due || x.due } in
-    elim (net_tells x.net m.net) [
-      | inl w ↦ ap nets_of (if_true (same_net x.net m.net) (n ∷ ms) (x ∷ put m ms) w.0) ∙ ap (λ k. k ∷ nets_of ms) (sym w.1)
-          ∙ sym (ap (λ o. if is_some o then x.net ∷ nets_of ms else x.net ∷ (nets_of ms ++ m.net ∷ [])) (if_true (same_net x.net m.net) (Some x) (find m.net ms) w.0))
-      | inr w ↦ ap nets_of (if_false (same_net x.net m.net) (n ∷ ms) (x ∷ put m ms) w.0) ∙ ap (λ l. x.net ∷ l) (nets_put m ms)
-          ∙ elim (is_some (find m.net ms)) as (λ b. x.net ∷ (if b then nets_of ms else nets_of ms ++ m.net ∷ []) ≡ (if b then x.net ∷ nets_of ms else x.net ∷ (nets_of ms ++ m.net ∷ []))) [ true ↦ refl | false ↦ refl ]
-          ∙ sym (ap (λ o. if is_some o then x.net ∷ nets_of ms else x.net ∷ (nets_of ms ++ m.net ∷ [])) (find_past m.net x ms w.1))
+    elim (key_tells x.key m.key) [
+      | inl w ↦ ap keys_of (if_true (same_key x.key m.key) (n ∷ ms) (x ∷ put m ms) w.0) ∙ ap (λ k. k ∷ keys_of ms) (sym w.1)
+          ∙ sym (ap (λ o. if is_some o then x.key ∷ keys_of ms else x.key ∷ (keys_of ms ++ m.key ∷ [])) (if_true (same_key x.key m.key) (Some x) (find m.key ms) w.0))
+      | inr w ↦ ap keys_of (if_false (same_key x.key m.key) (n ∷ ms) (x ∷ put m ms) w.0) ∙ ap (λ l. x.key ∷ l) (keys_put m ms)
+          ∙ elim (is_some (find m.key ms)) as (λ b. x.key ∷ (if b then keys_of ms else keys_of ms ++ m.key ∷ []) ≡ (if b then x.key ∷ keys_of ms else x.key ∷ (keys_of ms ++ m.key ∷ []))) [ true ↦ refl | false ↦ refl ]
+          ∙ sym (ap (λ o. if is_some o then x.key ∷ keys_of ms else x.key ∷ (keys_of ms ++ m.key ∷ [])) (find_past m.key x ms w.1))
     ]
 
-unmarked_put : (m : Marked) (ks : List Net) (ms : List Marked) → ((q : Net) → holds q ks ≡ true → precedes m.net q ≡ true) → unmarked ks (put m ms) ≡ unmarked ks ms
+unmarked_put : (m : Marked) (ks : List Key) (ms : List Marked) → ((q : Key) → holds q ks ≡ true → comes_before m.key q ≡ true) → unmarked ks (put m ms) ≡ unmarked ks ms
 unmarked_put m [] ms far = refl
 unmarked_put m (k ∷ ks) ms far =
-    let lt : precedes m.net k ≡ true = far k (ap (λ b. b || holds k ks) (same_net_itself k)) in
-    let same : find k (put m ms) ≡ find k ms = find_put_other k m ms (λ e. let bad : true ≡ false = sym (same_net_itself k) ∙ ap (λ n. same_net n k) (sym e) ∙ precedes_other m.net k lt in cc) in
-    let rest = unmarked_put m ks ms (λ q h. far q (or_true (same_net k q) (holds q ks) h)) in
+    let lt : comes_before m.key k ≡ true = far k (ap (λ b. b || holds k ks) (same_key_itself k)) in
+    let same : find k (put m ms) ≡ find k ms = find_put_other k m ms (λ e. before_not k (subst (λ n. comes_before n k ≡ true) e lt)) in
+    let rest = unmarked_put m ks ms (λ q h. far q (or_true (same_key k q) (holds q ks) h)) in
     ap (λ o. if is_some o then unmarked ks (put m ms) else k ∷ unmarked ks (put m ms)) same ∙ ap (λ l. if is_some (find k ms) then l else k ∷ l) rest where
       or_true : (a b : Bool) → b ≡ true → (a || b) ≡ true
       or_true true b e = refl
       or_true false b e = e
 
--- a feed leaves the marked nets in their order, and puts the others behind them, in the order of nets
-pub nets_put_all : (ks : List Net) (at : ℕ) (due : Bool) (ms : List Marked) → IsStrictlySortedBy net_cmp ks → nets_of (put_all ks at due ms) ≡ nets_of ms ++ unmarked ks ms
+-- a feed leaves the marked keys in their order, and puts the others behind them, in the order of keys
+pub keys_put_all : (ks : List Key) (at : ℕ) (due : Bool) (ms : List Marked) → IsStrictlySortedBy key_cmp ks → keys_of (put_all ks at due ms) ≡ keys_of ms ++ unmarked ks ms
 unfolding IsStrictlySortedBy
-nets_put_all [] at due ms r = sym (append-nil (nets_of ms))
-nets_put_all (k ∷ ks) at due ms r =
-    let m : Marked = record { net = k; at = at; due = due } in
-    nets_put_all ks at due (put m ms) r.1 ∙ ap (λ l. nets_of (put m ms) ++ l) (unmarked_put m ks ms (λ q h. above_held k q ks r.0 h)) ∙ ap (λ l. l ++ unmarked ks ms) (nets_put m ms)
-    ∙ elim (is_some (find k ms)) as (λ b. (if b then nets_of ms else nets_of ms ++ k ∷ []) ++ unmarked ks ms ≡ nets_of ms ++ (if b then unmarked ks ms else k ∷ unmarked ks ms)) [ true ↦ refl | false ↦ append_assoc (nets_of ms) (k ∷ []) (unmarked ks ms) ]
+keys_put_all [] at due ms r = sym (append-nil (keys_of ms))
+keys_put_all (k ∷ ks) at due ms r =
+    let m : Marked = record { key = k; at = at; due = due } in
+    keys_put_all ks at due (put m ms) r.1 ∙ ap (λ l. keys_of (put m ms) ++ l) (unmarked_put m ks ms (λ q h. above_held k q ks r.0 h)) ∙ ap (λ l. l ++ unmarked ks ms) (keys_put m ms)
+    ∙ elim (is_some (find k ms)) as (λ b. (if b then keys_of ms else keys_of ms ++ k ∷ []) ++ unmarked ks ms ≡ keys_of ms ++ (if b then unmarked ks ms else k ∷ unmarked ks ms)) [ true ↦ refl | false ↦ append_assoc (keys_of ms) (k ∷ []) (unmarked ks ms) ]
 
 -- a source's changes in a front are its oldest
 pub own_front : (i p : ℕ) (h : List Change) → (cs : List Change) × (own i h ≡ cs ++ own i (front p h))

@@ -1,124 +1,159 @@
 -- The machine comes to one state from each script.
-use Rattle.std.proofs.Common.{◌≡◌, ◌≢◌, ℕ, zero, suc, ◌-◌, inl, inr, Bool, true, false, List, [], ◌∷◌, ◌++◌, Option, Some, None, refl, sym, ◌∙◌, ap, subst, length, is_some, option_and_then}
+use Rattle.std.proofs.Common.{◌≡◌, ◌≢◌, ℕ, zero, suc, ◌+◌, ◌-◌, ◌<◌, ◌≤◌, inl, inr, Bool, true, false, List, [], ◌∷◌, ◌++◌, Option, Some, None, refl, sym, ◌∙◌, ap, subst, arith, length, is_some, option_and_then}
 use Rattle.std.specs.Prelude.{◌==◌, ◌||◌, if◌then◌else◌}
+use Rattle.std.proofs.lemmas.Bool.{cases_lt}
 use Rattle.std.proofs.lemmas.List.{append_assoc}
 use Rattle.std.proofs.lemmas.Bool.Decides.{eqb_tells}
-use Rattle.bits_ip.specs.Prefix.{Net, same_net}
 use Rattle.attrs.specs.declared.attributes.Attrs.{Attrs}
 use Rattle.attrs.specs.declared.route.Change.{Change}
-use Rattle.attrs.specs.declared.route.Route.{Route}
-use Rattle.attrs.specs.Selection.{IsBest}
-use Rattle.attrs.proofs.Rows.{Contains-nothing}
+use Rattle.export_core.specs.declared.log.Key.{Key}
 use Rattle.export_core.specs.declared.log.LogItem.{LogItem}
 use Rattle.export_core.specs.declared.log.LogItem.TheVariants.{Up, Down, Reload, Sent}
 use Rattle.export_core.specs.declared.log.Sending.{Sending}
+use Rattle.export_core.specs.Keys.{same_key}
 use Rattle.export_core.specs.Logs.{Account, account, entered, value_of}
 use Rattle.export_core.specs.Marks.{holds}
-use Rattle.export_core.specs.Sends.{key_of}
-use Rattle.export_core.proofs.Nets.{net_tells}
-use Rattle.core_machine.specs.Channels.{Channel, IsFeed, Obeys, closed, fed, if_open, is_open, logged, opened, push_one, pushed, renewed, same_value, send_of, take_one, times, value_at}
-use Rattle.core_machine.specs.Histories.{content_of, entry}
-use Rattle.core_machine.specs.Legal.{Joined, Printed, started}
-use Rattle.core_machine.specs.Lines.{Act, Line, Apply, Take, Push, Show}
-use Rattle.core_machine.specs.Machine.{Applies, Begins, IsPhase, Plays, State, Steps, appended, pushed_out, round, set, start, synced, taken_up}
-use Rattle.core_machine.specs.Marks.{Marked, find, nets_of}
-use Rattle.core_machine.specs.Merges.{ops_of}
-use Rattle.core_machine.specs.Phases.{PlaysAll, Prints}
-use Rattle.core_machine.specs.Room.{in_room, lags, roomed}
-use Rattle.core_machine.specs.Rules.{IsRules, Rules, Signal, Stay, Rise, Fall, Renew, best_of}
-use Rattle.core_machine.proofs.Contents.{content_past_net, if_false}
+use Rattle.export_core.proofs.Keys.{key_tells}
+use Rattle.core_machine.specs.Channels.{Channel, IsFeed, answer, closed, fed, is_open, logged, opened, push_one, pushed, renewed, take_one, times, value_at}
+use Rattle.core_machine.specs.Enters.{standing_keys, withdrawn}
+use Rattle.core_machine.specs.Histories.{content_of}
+use Rattle.core_machine.specs.Legal.{Joined, Printed, join, nothing, started}
+use Rattle.core_machine.specs.Lines.{Act, Line, Apply, Take, Push, Show, ops_of, turn_of}
+use Rattle.core_machine.specs.Machine.{AllObey, Applies, Begins, Feeds, Obeys, Plays, State, Steps, appended, arrived, flushed, gained, if_open, left_by, push_at, set, start, takes, with_channel, with_turn}
+use Rattle.core_machine.specs.Marks.{Marked, find, keys_of}
+use Rattle.core_machine.specs.Phases.{IsPhase, PlaysAll, Prints}
+use Rattle.core_machine.specs.Pipes.{candidate, key_of}
+use Rattle.core_machine.specs.Rounds.{HasRounds, pushed_out, round, taken_up, turned, turns_to}
+use Rattle.core_machine.specs.Rules.{IsRules, Rules, Signal, Stay, Rise, Fall, Renew}
+use Rattle.core_machine.proofs.Contents.{if_false}
+use Rattle.core_machine.proofs.Growing.{more_appended, more_arrived, more_flushed, set_here, set_there, some_list}
+use Rattle.core_machine.proofs.KeyLists.{ascending_one, choice, chosen, chosen_ascends}
 use Rattle.core_machine.proofs.MarkSteps.{find_past}
-use Rattle.core_machine.proofs.NetLists.{ascending_one, choice, chosen, chosen_ascends}
-use Rattle.core_machine.proofs.OneChannel.{some_net, taken_log}
-use Rattle.core_machine.proofs.PhaseEnds.{phase_told, phase_keeps, start_is}
+use Rattle.core_machine.proofs.OneChannel.{candidate_stays, take_log}
+use Rattle.core_machine.proofs.PhaseEnds.{Agrees, joined_agrees, no_route, phase_keeps, phase_told, start_is}
 use Rattle.core_machine.proofs.Replying.{turns_of}
-use Rattle.core_machine.proofs.WholeState.{set_here, set_there, IsState}
+use Rattle.core_machine.proofs.Rounds.{least}
+use Rattle.core_machine.proofs.WholeState.{IsState, begins_keeps, given, plays_keeps}
 
--- ---- the nets that may be fed
+-- ---- the keys that may be fed
 
 or_parts : (a b : Bool) → (a || b) ≡ false → (a ≡ false) × (b ≡ false)
 or_parts true b e = absurd (let bad : true ≡ false = e in cc)
 or_parts false b e = (refl, e)
 
-pub held_append : (k : Net) (xs ys : List Net) → holds k (xs ++ ys) ≡ false → (holds k xs ≡ false) × (holds k ys ≡ false)
+pub held_append : (k : Key) (xs ys : List Key) → holds k (xs ++ ys) ≡ false → (holds k xs ≡ false) × (holds k ys ≡ false)
 held_append k [] ys e = (refl, e)
 held_append k (x ∷ xs) ys e =
-    let p = or_parts (same_net x k) (holds k (xs ++ ys)) e in
+    let p = or_parts (same_key x k) (holds k (xs ++ ys)) e in
     let r = held_append k xs ys p.1 in
     (ap (λ b. b || holds k xs) p.0 ∙ r.0, r.1)
 
-apart : (a b : Net) → same_net a b ≡ false → a ≢ b
-apart a b e = elim (net_tells a b) [ inl w ↦ absurd (let bad : true ≡ false = sym w.0 ∙ e in cc) | inr w ↦ w.1 ]
+apart : (a b : Key) → same_key a b ≡ false → a ≢ b
+apart a b e = elim (key_tells a b) [ inl w ↦ absurd (let bad : true ≡ false = sym w.0 ∙ e in cc) | inr w ↦ w.1 ]
 
-abbrev nets_changed : List Change → List Net
-nets_changed [] = []
-nets_changed (c ∷ h) = c.net ∷ nets_changed h
-
-content_none : (k : Net) (num : ℕ) (h : List Change) → holds k (nets_changed h) ≡ false → content_of h k num ≡ None
-content_none k num [] e = refl
-content_none k num (c ∷ h) e = let p = or_parts (same_net c.net k) (holds k (nets_changed h)) e in
-    content_past_net c h k num (apart c.net k p.0) ∙ content_none k num h p.1
-
-pub find_none : (k : Net) (ms : List Marked) → holds k (nets_of ms) ≡ false → find k ms ≡ None
+pub find_none : (k : Key) (ms : List Marked) → holds k (keys_of ms) ≡ false → find k ms ≡ None
 find_none k [] e = refl
-find_none k (m ∷ ms) e = let p = or_parts (same_net m.net k) (holds k (nets_of ms)) e in find_past k m ms (apart m.net k p.0) ∙ find_none k ms p.1
+find_none k (m ∷ ms) e = let p = or_parts (same_key m.key k) (holds k (keys_of ms)) e in find_past k m ms (apart m.key k p.0) ∙ find_none k ms p.1
 
-abbrev nets_sent : List LogItem → List Net
-nets_sent [] = []
-nets_sent (Up h ∷ log) = []
-nets_sent (Down ∷ log) = []
-nets_sent (Reload ∷ log) = nets_sent log
-nets_sent (Sent x ∷ log) = x.key.net ∷ nets_sent log
+abbrev keys_sent : List LogItem → List Key
+keys_sent [] = []
+keys_sent (Up h ∷ log) = []
+keys_sent (Down ∷ log) = []
+keys_sent (Reload ∷ log) = keys_sent log
+keys_sent (Sent x ∷ log) = x.key ∷ keys_sent log
 
-last_none : (k : Net) (log : List LogItem) → holds k (nets_sent log) ≡ false → (account k log).last ≡ None
+last_none : (k : Key) (log : List LogItem) → holds k (keys_sent log) ≡ false → (account k log).last ≡ None
 last_none k [] e = refl
 last_none k (Up h ∷ log) e = refl
 last_none k (Down ∷ log) e = refl
 last_none k (Reload ∷ log) e = last_none k log e
-last_none k (Sent x ∷ log) e = let p = or_parts (same_net x.key.net k) (holds k (nets_sent log)) e in
-    ap (λ (a : Account). a.last) (if_false (same_net x.key.net k) (entered x (account k log)) (account k log) p.0) ∙ last_none k log p.1
+last_none k (Sent x ∷ log) e = let p = or_parts (same_key x.key k) (holds k (keys_sent log)) e in
+    ap (λ (a : Account). a.last) (if_false (same_key x.key k) (entered x (account k log)) (account k log) p.0) ∙ last_none k log p.1
 
-best_none : (o : Option Route) → IsBest [] o → o ≡ None
-best_none None b = refl
-best_none (Some r) b = absurd (Contains-nothing r b.0)
+-- logs grow
+abbrev pub Grows : Channel → Channel → Type 0
+Grows ch new = (items : List LogItem) × (new.log ≡ items ++ ch.log)
+
+grows_on : (a b c : Channel) → Grows a b → Grows b c → Grows a c
+grows_on a b c p q = (q.0 ++ p.0, q.1 ∙ ap (λ l. q.0 ++ l) p.1 ∙ sym (append_assoc q.0 p.0 a.log))
+
+abbrev pub AllGrow : State → State → Type 0
+AllGrow s t = (c : ℕ) → Grows (s.channels c) (t.channels c)
+
+all_on : (s t u : State) → AllGrow s t → AllGrow t u → AllGrow s u
+all_on s t u a b c = grows_on (s.channels c) (t.channels c) (u.channels c) (a c) (b c)
+
+all_times : (f : State → State) → ((s : State) → AllGrow s (f s)) → (n : ℕ) (s : State) → AllGrow s (times n f s)
+all_times f step zero s c = ([], refl)
+all_times f step (suc n) s c = all_on s (times n f s) (f (times n f s)) (all_times f step n s) (step (times n f s)) c
+
+all_same : (s t : State) → ((c : ℕ) → (t.channels c).log ≡ (s.channels c).log) → AllGrow s t
+all_same s t same c = ([], same c)
+
+one_grows : (c : ℕ) (new : Channel) (s : State) → Grows (s.channels c) new → AllGrow s (with_channel c new s)
+one_grows c new s p j = elim (eqb_tells c j) [
+  | inl w ↦ subst (λ ch. Grows (s.channels j) ch) (sym (set_here c new s.channels j w.1)) (subst (λ q. Grows (s.channels q) new) w.1 p)
+  | inr w ↦ subst (λ ch. Grows (s.channels j) ch) (sym (set_there c new s.channels j w.1)) ([], refl)
+]
+
+if_grows : (c : ℕ) (f : State → State) (s : State) → AllGrow s (f s) → AllGrow s (if_open c f s)
+if_grows c f s p = elim (is_open (s.channels c)) as (λ b. AllGrow s (if b then f s else s)) [ true ↦ p | false ↦ λ j. ([], refl) ]
+
+logged_grows : (o : Option Bool) (m : Marked) (v : Option Attrs) (log : List LogItem) → (items : List LogItem) × (logged o m v log ≡ items ++ log)
+logged_grows None m v log = ([], refl)
+logged_grows (Some again) m v log = (Sent (record { at = m.at; key = m.key; value = v; again = again }) ∷ [], refl)
+
+pushed_grows : (g : Rules) (c : ℕ) (h : List Change) (ms : List Marked) (ch : Channel) → Grows ch (pushed g c h ms ch)
+pushed_grows g c h [] ch = ([], refl)
+pushed_grows g c h (m ∷ ms) ch = logged_grows (answer g c h m ch) m (value_at g c h m) ch.log
+
+takes_log : (g : Rules) (c n : ℕ) (h : List Change) (ch : Channel) → (times n (take_one g c h) ch).log ≡ ch.log
+takes_log g c zero h ch = refl
+takes_log g c (suc n) h ch = take_log g c h (times n (take_one g c h) ch) ∙ takes_log g c n h ch
 
 module _ (g : Rules) (ok : IsRules g) where
-  -- no route is chosen where there is none
-  chosen_none : (f : ℕ → Option Route) → ((num : ℕ) → f num ≡ None) → g.choose f ≡ None
-  chosen_none f none =
-      let nowhere = λ (net : Net) (num : ℕ). let o : Option Route = None in o in
-      ok.same f (λ num. None) none
-      ∙ best_none (g.choose (λ num. None)) (ok.best nowhere some_net [] (λ num le. refl) (record { sources = tt; are = λ num. refl }))
+  -- ---- there is a state
 
-  feed_is : (h : List Change) (ch : Channel) → (nets : List Net) × IsFeed g h ch nets
-  feed_is h ch =
-      let test = λ (k : Net). is_some (best_of g k h) || (is_some (find k ch.marks) || is_some (value_of (account k ch.log))) in
-      let all = nets_changed h ++ (nets_of ch.marks ++ nets_sent ch.log) in (
+  abbrev keys_changed : ℕ → List Change → List Key
+  keys_changed c [] = []
+  keys_changed c (x ∷ h) = key_of g c x ∷ keys_changed c h
+
+  candidate_none : (c : ℕ) (k : Key) (h : List Change) → holds k (keys_changed c h) ≡ false → candidate g c k h ≡ None
+  candidate_none c k [] e = no_route g ok c k
+  candidate_none c k (x ∷ h) e = let p = or_parts (same_key (key_of g c x) k) (holds k (keys_changed c h)) e in
+      candidate_stays g ok c k x h (λ _ same. apart (key_of g c x) k p.0 (sym same)) ∙ candidate_none c k h p.1
+
+  pub feed_is : (c : ℕ) (h : List Change) (ch : Channel) → (keys : List Key) × IsFeed g c h ch keys
+  feed_is c h ch =
+      let test = λ (k : Key). is_some (candidate g c k h) || (is_some (find k ch.marks) || is_some (value_of (account k ch.log))) in
+      let all = keys_changed c h ++ (keys_of ch.marks ++ keys_sent ch.log) in (
         chosen test all,
         record {
           ascend = chosen_ascends test all;
           are = choice test all (λ k e.
-              let p = held_append k (nets_changed h) (nets_of ch.marks ++ nets_sent ch.log) e in
-              let q = held_append k (nets_of ch.marks) (nets_sent ch.log) p.1 in
-              ap (λ o. is_some o || (is_some (find k ch.marks) || is_some (value_of (account k ch.log)))) (chosen_none (content_of h k) (λ num. content_none k num h p.0))
+              let p = held_append k (keys_changed c h) (keys_of ch.marks ++ keys_sent ch.log) e in
+              let q = held_append k (keys_of ch.marks) (keys_sent ch.log) p.1 in
+              ap (λ o. is_some o || (is_some (find k ch.marks) || is_some (value_of (account k ch.log)))) (candidate_none c k h p.0)
               ∙ ap (λ o. is_some o || is_some (value_of (account k ch.log))) (find_none k ch.marks q.0)
               ∙ ap (λ o. is_some (option_and_then (λ (x : Sending). x.value) o)) (last_none k ch.log q.1));
         },
       )
 
-  does_is : (m : Signal) (h : List Change) (ch : Channel) → (new : Channel) × Obeys m g h ch new
-  does_is Stay h ch = (ch, refl)
-  does_is Rise h ch = let f = feed_is h (opened (length h) ch) in (fed f.0 false (length h) (opened (length h) ch), (f.0, f.1, refl))
-  does_is Fall h ch = (closed ch, refl)
-  does_is Renew h ch = let f = feed_is h (renewed ch) in (fed f.0 true (length h) (renewed ch), (f.0, f.1, refl))
+  feeds_is : (c : ℕ) (due : Bool) (ch : Channel) (s : State) → (t : State) × Feeds g c due ch s t
+  feeds_is c due ch s = let h = s.history (g.reads c) in let f = feed_is c h ch in let new = fed f.0 due (length h) ch in (with_channel c new s, (new, (f.0, f.1, refl), refl))
+
+  obeys_is : (m : Signal) (c : ℕ) (s : State) → (t : State) × Obeys m g c s t
+  obeys_is Stay c s = (s, refl)
+  obeys_is Rise c s = feeds_is c false (opened (length (s.history (g.reads c))) (s.channels c)) s
+  obeys_is Fall c s = (_, refl)
+  obeys_is Renew c s = feeds_is c true (renewed (s.channels c)) s
+
+  all_is : (m : Signal) (cs : List ℕ) (s : State) → (t : State) × AllObey m g cs s t
+  all_is m [] s = (s, refl)
+  all_is m (c ∷ cs) s = let u = obeys_is m c s in let t = all_is m cs u.0 in (t.0, (u.0, u.1, t.1))
 
   applies_is : (a : Act) (s : State) → (t : State) × Applies g a s t
-  applies_is a s =
-      let i = a.protocol in
-      let given = g.gives i (s.ops i) a.op in
-      let u = appended g (g.table i) given.changes s in
-      let d = does_is given.signal (u.history (g.table i)) (u.channels i) in
-      (record u { ops = set i (a.op ∷ s.ops i) s.ops; channels = set i d.0 u.channels }, (d.0, d.1, refl))
+  applies_is a s = let effect = g.gives a.protocol (given s a.protocol) a.op in all_is effect.signal (g.belong a.protocol) (with_turn a.protocol (turn_of a) (appended g (g.table a.protocol) effect.changes s))
 
   steps_is : (line : Line) (s : State) → (t : State) × Steps g line s t
   steps_is (Apply a) s = applies_is a s
@@ -126,7 +161,7 @@ module _ (g : Rules) (ok : IsRules g) where
   steps_is (Push n) s = (_, refl)
   steps_is (Show q) s = (_, refl)
 
-  plays_is : (lines : List Line) (s : State) → (t : State) × Plays g lines s t
+  pub plays_is : (lines : List Line) (s : State) → (t : State) × Plays g lines s t
   plays_is [] s = (s, refl)
   plays_is (line ∷ earlier) s = let b = plays_is earlier s in let t = steps_is line b.0 in (t.0, (b.0, b.1, t.1))
 
@@ -134,24 +169,36 @@ module _ (g : Rules) (ok : IsRules g) where
   begins_is [] s = (s, refl)
   begins_is (a ∷ earlier) s = let b = begins_is earlier s in let t = applies_is a b.0 in (t.0, (b.0, b.1, t.1))
 
-  phase_is : (starts : List Act) (lines : List Line) (s : State) → (t : State) × IsPhase g starts lines s t
-  phase_is starts lines s = let b = begins_is starts (record s { replies = [] }) in let u = plays_is lines b.0 in (synced g u.0, (b.0, u.0, b.1, u.1, refl))
+  phase_is : (starts : List Act) (lines : List Line) (s : State) → IsState g ok s → (t : State) × IsPhase g starts lines s t
+  phase_is starts lines s is =
+      let s0 : State = record s { replies = [] } in
+      let now : IsState g ok s0 = record { exact = is.exact; keeps = is.keeps } in
+      let b = begins_is starts s0 in
+      let u = plays_is lines b.0 in
+      let r = least g ok g.tables 0 u.0 (plays_keeps g ok lines b.0 u.0 u.1 (begins_keeps g ok starts s0 b.0 b.1 now)) (omega arith) (λ m lt. absurd (let bad : 1 ≤ 0 = omega arith in omega (arith, bad))) in
+      (times r.0 (round g) u.0, record { begun = b.0; played = u.0; rounds = r.0; begins = b.1; plays = u.1; sync = r.1; end = refl })
 
-  feed_one : (h : List Change) (ch : Channel) (nets more : List Net) → IsFeed g h ch nets → IsFeed g h ch more → nets ≡ more
-  feed_one h ch nets more f m = ascending_one nets more f.ascend m.ascend (λ k. f.are k ∙ sym (m.are k))
+  -- ---- there is one
 
-  does_one : (m : Signal) (h : List Change) (ch new other : Channel) → Obeys m g h ch new → Obeys m g h ch other → new ≡ other
-  does_one Stay h ch new other d e = d ∙ sym e
-  does_one Rise h ch new other d e = d.2 ∙ ap (λ keys. fed keys false (length h) (opened (length h) ch)) (feed_one h (opened (length h) ch) d.0 e.0 d.1 e.1) ∙ sym e.2
-  does_one Fall h ch new other d e = d ∙ sym e
-  does_one Renew h ch new other d e = d.2 ∙ ap (λ keys. fed keys true (length h) (renewed ch)) (feed_one h (renewed ch) d.0 e.0 d.1 e.1) ∙ sym e.2
+  feed_one : (c : ℕ) (h : List Change) (ch : Channel) (keys more : List Key) → IsFeed g c h ch keys → IsFeed g c h ch more → keys ≡ more
+  feed_one c h ch keys more f m = ascending_one keys more f.ascend m.ascend (λ k. f.are k ∙ sym (m.are k))
+
+  feeds_one : (c : ℕ) (due : Bool) (ch : Channel) (s t u : State) → Feeds g c due ch s t → Feeds g c due ch s u → t ≡ u
+  feeds_one c due ch s t u p q = let h = s.history (g.reads c) in
+      p.2 ∙ ap (λ new. with_channel c new s) (p.1.2 ∙ ap (λ keys. fed keys due (length h) ch) (feed_one c h ch p.1.0 q.1.0 p.1.1 q.1.1) ∙ sym q.1.2) ∙ sym q.2
+
+  obeys_one : (m : Signal) (c : ℕ) (s t u : State) → Obeys m g c s t → Obeys m g c s u → t ≡ u
+  obeys_one Stay c s t u p q = p ∙ sym q
+  obeys_one Rise c s t u p q = feeds_one c false (opened (length (s.history (g.reads c))) (s.channels c)) s t u p q
+  obeys_one Fall c s t u p q = p ∙ sym q
+  obeys_one Renew c s t u p q = feeds_one c true (renewed (s.channels c)) s t u p q
+
+  all_one : (m : Signal) (cs : List ℕ) (s t u : State) → AllObey m g cs s t → AllObey m g cs s u → t ≡ u
+  all_one m [] s t u p q = p ∙ sym q
+  all_one m (c ∷ cs) s t u p q = all_one m cs p.0 t u p.2 (subst (λ b. AllObey m g cs b u) (obeys_one m c s q.0 p.0 q.1 p.1) q.2)
 
   applies_one : (a : Act) (s t u : State) → Applies g a s t → Applies g a s u → t ≡ u
-  applies_one a s t u p q =
-      let i = a.protocol in
-      let given = g.gives i (s.ops i) a.op in
-      let v = appended g (g.table i) given.changes s in
-      p.2 ∙ ap (λ new. let w : State = record v { ops = set i (a.op ∷ s.ops i) s.ops; channels = set i new v.channels } in w) (does_one given.signal (v.history (g.table i)) (v.channels i) p.0 q.0 p.1 q.1) ∙ sym q.2
+  applies_one a s t u p q = let effect = g.gives a.protocol (given s a.protocol) a.op in all_one effect.signal (g.belong a.protocol) (with_turn a.protocol (turn_of a) (appended g (g.table a.protocol) effect.changes s)) t u p q
 
   steps_one : (line : Line) (s t u : State) → Steps g line s t → Steps g line s u → t ≡ u
   steps_one (Apply a) s t u p q = applies_one a s t u p q
@@ -167,132 +214,142 @@ module _ (g : Rules) (ok : IsRules g) where
   begins_one [] s t u p q = p ∙ sym q
   begins_one (a ∷ earlier) s t u p q = applies_one a p.0 t u p.2 (subst (λ b. Applies g a b u) (begins_one earlier s q.0 p.0 q.1 p.1) q.2)
 
-  pub phase_one : (starts : List Act) (lines : List Line) (s t u : State) → IsPhase g starts lines s t → IsPhase g starts lines s u → t ≡ u
-  phase_one starts lines s t u p q =
-      let b = begins_one starts (record s { replies = [] }) q.0 p.0 q.2 p.2 in
-      p.4 ∙ ap (synced g) (plays_one lines p.0 p.1 q.1 p.3 (subst (λ b. Plays g lines b q.1) b q.3)) ∙ sym q.4
-
-  -- logs grow
-  abbrev pub Grows : Channel → Channel → Type 0
-  Grows ch new = (items : List LogItem) × (new.log ≡ items ++ ch.log)
-
-  grows_on : (a b c : Channel) → Grows a b → Grows b c → Grows a c
-  grows_on a b c p q = (q.0 ++ p.0, q.1 ∙ ap (λ l. q.0 ++ l) p.1 ∙ sym (append_assoc q.0 p.0 a.log))
-
-  times_grow : (f : Channel → Channel) → ((ch : Channel) → Grows ch (f ch)) → (n : ℕ) (ch : Channel) → Grows ch (times n f ch)
-  times_grow f step zero ch = ([], refl)
-  times_grow f step (suc n) ch = grows_on ch (times n f ch) (f (times n f ch)) (times_grow f step n ch) (step (times n f ch))
-
-  take_grows : (h : List Change) (ch : Channel) → Grows ch (take_one h ch)
-  take_grows h ch = ([], taken_log g ok (entry ch.position h) ch)
-
-  logged_grows : (o : Option Bool) (m : Marked) (v : Option Attrs) (log : List LogItem) → (items : List LogItem) × (logged o m v log ≡ items ++ log)
-  logged_grows None m v log = ([], refl)
-  logged_grows (Some again) m v log = (Sent (record { at = m.at; key = key_of m.net; value = v; again = again }) ∷ [], refl)
-
-  pushed_grows : (i : ℕ) (h : List Change) (ms : List Marked) (ch : Channel) → Grows ch (pushed g i h ms ch)
-  pushed_grows i h [] ch = ([], refl)
-  pushed_grows i h (m ∷ ms) ch = logged_grows (send_of (same_value (value_at g i h m) (value_of (account m.net ch.log))) m.due (is_some (value_at g i h m))) m (value_at g i h m) ch.log
-
-  if_grows : (b : Bool) (ch new : Channel) → Grows ch new → Grows ch (if b then new else ch)
-  if_grows true ch new p = p
-  if_grows false ch new p = ([], refl)
-
-  does_grows : (m : Signal) (h : List Change) (ch new : Channel) → Obeys m g h ch new → Grows ch new
-  does_grows Stay h ch new d = ([], ap (λ c. c.log) d)
-  does_grows Rise h ch new d = (Up (length h) ∷ [], ap (λ c. c.log) d.2)
-  does_grows Fall h ch new d = (Down ∷ [], ap (λ c. c.log) d)
-  does_grows Renew h ch new d = (Reload ∷ [], ap (λ c. c.log) d.2)
-
-  abbrev pub AllGrow : State → State → Type 0
-  AllGrow s t = (i : ℕ) → Grows (s.channels i) (t.channels i)
-
-  appended_grow : (t : ℕ) (cs : List Change) (s : State) → AllGrow s (appended g t cs s)
-  appended_grow t [] s i = ([], refl)
-  appended_grow t (c ∷ cs) s i = let u = appended g t cs s in let ch = u.channels i in
-      grows_on (s.channels i) ch (in_room g t (u.history t) u.channels i) (appended_grow t cs s i) (if_grows (g.table i == t) ch (roomed g (u.history t) ch) (if_grows (lags g (u.history t) ch) ch (take_one (u.history t) ch) (take_grows (u.history t) ch)))
-
-  set_grows : (i : ℕ) (new : Channel) (old : ℕ → Channel) (j : ℕ) → Grows (old i) new → Grows (old j) (set i new old j)
-  set_grows i new old j p = elim (eqb_tells i j) [
-    | inl w ↦ subst (λ ch. Grows (old j) ch) (sym (set_here i new old j w.1)) (subst (λ q. Grows (old q) new) w.1 p)
-    | inr w ↦ subst (λ ch. Grows (old j) ch) (sym (set_there i new old j w.1)) ([], refl)
+  pub rounds_one : (s : State) (n m : ℕ) → HasRounds g s n → HasRounds g s m → n ≡ m
+  rounds_one s n m p q = elim (cases_lt n m) [
+    | inl w ↦ absurd (q.each n w p.end)
+    | inr w ↦ elim (cases_lt m n) [ inl z ↦ absurd (p.each m z q.end) | inr z ↦ omega (arith, w, z) ]
   ]
 
+  pub phase_one : (starts : List Act) (lines : List Line) (s t u : State) → IsPhase g starts lines s t → IsPhase g starts lines s u → t ≡ u
+  phase_one starts lines s t u p q =
+      let b = begins_one starts (record s { replies = [] }) q.begun p.begun q.begins p.begins in
+      let e = plays_one lines p.begun q.played p.played (subst (λ b. Plays g lines b q.played) b q.plays) p.plays in
+      let n = rounds_one p.played p.rounds q.rounds p.sync (subst (λ s. HasRounds g s q.rounds) e q.sync) in
+      p.end ∙ ap (λ r. times r (round g) p.played) n ∙ ap (times q.rounds (round g)) (sym e) ∙ sym q.end
+
+  -- ---- it can be printed: logs grow
+
+  arrived_grows : (o : Option ℕ) (x : Option Change) (s : State) → AllGrow s (arrived g o x s)
+  arrived_grows None x s = λ c. ([], refl)
+  arrived_grows (Some t) x s = all_same s (arrived g (Some t) x s) (more_arrived g ok t x s).logs
+
+  push_grows : (c : ℕ) (s : State) → AllGrow s (push_at g c s)
+  push_grows c s =
+      let h = s.history (g.reads c) in
+      let ch = s.channels c in
+      let new = push_one g c h ch in
+      let o = gained g c h ch.marks ch in
+      let u = arrived g (g.target c) o s in
+      let more = arrived_grows (g.target c) o s in
+      λ j. elim (eqb_tells c j) [
+        | inl w ↦ subst (λ x. Grows (s.channels j) x) (sym (set_here c new u.channels j w.1)) (subst (λ q. Grows (s.channels q) new) w.1 (pushed_grows g c h ch.marks ch))
+        | inr w ↦ subst (λ x. Grows (s.channels j) x) (sym (set_there c new u.channels j w.1)) (more j)
+      ]
+
+  takes_grow : (c n : ℕ) (s : State) → AllGrow s (takes g c n s)
+  takes_grow c n s = let h = s.history (g.reads c) in one_grows c (times n (take_one g c h) (s.channels c)) s ([], takes_log g c n h (s.channels c))
+
+  left_grows : (o : Option ℕ) (ks : List Key) (s : State) → AllGrow s (left_by g o ks s)
+  left_grows None ks s = λ c. ([], refl)
+  left_grows (Some t) ks s = all_same s (flushed g t ks s) (more_flushed g ok t ks s).logs
+
+  told_grows : (s t u : State) → t ≡ u → AllGrow s u → AllGrow s t
+  told_grows s t u e p = subst (AllGrow s) (sym e) p
+
+  obeys_grows : (m : Signal) (c : ℕ) (s t : State) → Obeys m g c s t → AllGrow s t
+  obeys_grows Stay c s t d = told_grows s t s d (λ j. ([], refl))
+  obeys_grows Rise c s t d = told_grows s t (with_channel c d.0 s) d.2 (one_grows c d.0 s (Up (length (s.history (g.reads c))) ∷ [], ap (λ x. x.log) d.1.2))
+  obeys_grows Fall c s t d = let u = left_by g (g.target c) (standing_keys (s.channels c).log) s in told_grows s t (with_channel c (closed (u.channels c)) u) d
+      (all_on s u (with_channel c (closed (u.channels c)) u) (left_grows (g.target c) (standing_keys (s.channels c).log) s) (one_grows c (closed (u.channels c)) u (Down ∷ [], refl)))
+  obeys_grows Renew c s t d = told_grows s t (with_channel c d.0 s) d.2 (one_grows c d.0 s (Reload ∷ [], ap (λ x. x.log) d.1.2))
+
+  all_grow : (m : Signal) (cs : List ℕ) (s t : State) → AllObey m g cs s t → AllGrow s t
+  all_grow m [] s t d = told_grows s t s d (λ j. ([], refl))
+  all_grow m (c ∷ cs) s t d = all_on s d.0 t (obeys_grows m c s d.0 d.1) (all_grow m cs d.0 t d.2)
+
   applies_grow : (a : Act) (s t : State) → Applies g a s t → AllGrow s t
-  applies_grow a s t p j =
-      let i = a.protocol in
-      let given = g.gives i (s.ops i) a.op in
-      let u = appended g (g.table i) given.changes s in
-      subst (λ (t : State). Grows (s.channels j) (t.channels j)) (sym p.2)
-      (grows_on (s.channels j) (u.channels j) (set i p.0 u.channels j) (appended_grow (g.table i) given.changes s j) (set_grows i p.0 u.channels j (does_grows given.signal (u.history (g.table i)) (u.channels i) p.0 p.1)))
+  applies_grow a s t p =
+      let effect = g.gives a.protocol (given s a.protocol) a.op in
+      let u = appended g (g.table a.protocol) effect.changes s in
+      let v = with_turn a.protocol (turn_of a) u in
+      all_on s v t (all_same s v (more_appended g ok (g.table a.protocol) effect.changes s).logs) (all_grow effect.signal (g.belong a.protocol) v t p)
 
   steps_grow : (line : Line) (s t : State) → Steps g line s t → AllGrow s t
-  steps_grow (Apply a) s t p j = applies_grow a s t p j
-  steps_grow (Take n) s t p j = let i = n.channel in let h = s.history (g.table i) in let ch = s.channels i in
-      subst (λ (t : State). Grows (s.channels j) (t.channels j)) (sym p) (set_grows i (if_open (times n.number (take_one h)) ch) s.channels j (if_grows (is_open ch) ch (times n.number (take_one h) ch) (times_grow (take_one h) (take_grows h) n.number ch)))
-  steps_grow (Push n) s t p j = let i = n.channel in let h = s.history (g.table i) in let ch = s.channels i in
-      subst (λ (t : State). Grows (s.channels j) (t.channels j)) (sym p)
-      (set_grows i (if_open (times n.number (push_one g i h)) ch) s.channels j (if_grows (is_open ch) ch (times n.number (push_one g i h) ch) (times_grow (push_one g i h) (λ c. pushed_grows i h c.marks c) n.number ch)))
-  steps_grow (Show a) s t p j = subst (λ (t : State). Grows (s.channels j) (t.channels j)) (sym p) ([], refl)
+  steps_grow (Apply a) s t p = applies_grow a s t p
+  steps_grow (Take n) s t p = told_grows s t (if_open n.channel (takes g n.channel n.number) s) p (if_grows n.channel (takes g n.channel n.number) s (takes_grow n.channel n.number s))
+  steps_grow (Push n) s t p = told_grows s t (if_open n.channel (times n.number (push_at g n.channel)) s) p (if_grows n.channel (times n.number (push_at g n.channel)) s (all_times (push_at g n.channel) (push_grows n.channel) n.number s))
+  steps_grow (Show a) s t p = subst (AllGrow s) (sym p) (λ j. ([], refl))
 
   plays_grow : (lines : List Line) (s t : State) → Plays g lines s t → AllGrow s t
-  plays_grow [] s t p j = subst (λ (t : State). Grows (s.channels j) (t.channels j)) (sym p) ([], refl)
-  plays_grow (line ∷ earlier) s t p j = grows_on (s.channels j) (p.0.channels j) (t.channels j) (plays_grow earlier s p.0 p.1 j) (steps_grow line p.0 t p.2 j)
+  plays_grow [] s t p = told_grows s t s p (λ j. ([], refl))
+  plays_grow (line ∷ earlier) s t p = all_on s p.0 t (plays_grow earlier s p.0 p.1) (steps_grow line p.0 t p.2)
 
   begins_grow : (starts : List Act) (s t : State) → Begins g starts s t → AllGrow s t
-  begins_grow [] s t p j = subst (λ (t : State). Grows (s.channels j) (t.channels j)) (sym p) ([], refl)
-  begins_grow (a ∷ earlier) s t p j = grows_on (s.channels j) (p.0.channels j) (t.channels j) (begins_grow earlier s p.0 p.1 j) (applies_grow a p.0 t p.2 j)
+  begins_grow [] s t p = told_grows s t s p (λ j. ([], refl))
+  begins_grow (a ∷ earlier) s t p = all_on s p.0 t (begins_grow earlier s p.0 p.1) (applies_grow a p.0 t p.2)
 
-  round_grows : (i : ℕ) (h : List Change) (ch : Channel) → Grows ch (round g i h ch)
-  round_grows i h ch = let c = taken_up h ch in if_grows (is_open ch) ch (pushed_out g i h c)
-      (grows_on ch c (pushed_out g i h c) (times_grow (take_one h) (take_grows h) (length h - ch.position) ch) (times_grow (push_one g i h) (λ c. pushed_grows i h c.marks c) (length c.marks) c))
+  turn_grows : (c : ℕ) (s : State) → AllGrow s (turned g c s)
+  turn_grows c s = let u = taken_up g c s in if_grows c (λ v. pushed_out g c (taken_up g c v)) s
+      (all_on s u (pushed_out g c u) (takes_grow c (length (s.history (g.reads c)) - (s.channels c).position) s) (all_times (push_at g c) (push_grows c) (length (u.channels c).marks) u))
+
+  turns_grow : (n : ℕ) (s : State) → AllGrow s (turns_to g n s)
+  turns_grow zero s c = ([], refl)
+  turns_grow (suc n) s c = all_on s (turns_to g n s) (turned g n (turns_to g n s)) (turns_grow n s) (turn_grows n (turns_to g n s)) c
 
   phase_grows : (starts : List Act) (lines : List Line) (s t : State) → IsPhase g starts lines s t → AllGrow s t
-  phase_grows starts lines s t p j =
-      let old = s.channels j in
-      let b = p.0.channels j in
-      let u = p.1.channels j in
-      subst (λ (t : State). Grows old (t.channels j)) (sym p.4)
-      (grows_on old u (round g j (p.1.history (g.table j)) u) (grows_on old b u (begins_grow starts (record s { replies = [] }) p.0 p.2 j) (plays_grow lines p.0 p.1 p.3 j)) (round_grows j (p.1.history (g.table j)) u))
+  phase_grows starts lines s t p =
+      let s0 : State = record s { replies = [] } in
+      let end = times p.rounds (round g) p.played in
+      told_grows s t end p.end (all_on s p.played end (all_on s p.begun p.played (begins_grow starts s0 p.begun p.begins) (plays_grow lines p.begun p.played p.plays)) (all_times (round g) (turns_grow g.channels) p.rounds p.played))
 
-  -- each phase can be printed
-  prints_is : (starts : List Act) (lines : List Line) (s t : State) → IsPhase g starts lines s t → IsState g ok s → (p : Printed) × Prints g s t p
-  prints_is starts lines s t ph is =
-      let past : Joined = record { history = s.history; ops = s.ops; logs = λ i. (s.channels i).log } in
-      let told = phase_told g ok past starts lines s t (record { history = λ n. refl; ops = λ i. refl; logs = λ i. refl }) ph is in
+  -- what the channels' logs have more than was printed
+  abbrev AreLater : Joined → State → Type 0
+  AreLater past s = (c : ℕ) → (items : List LogItem) × ((s.channels c).log ≡ items ++ past.logs c)
+
+  prints_is : (past : Joined) (starts : List Act) (lines : List Line) (s t : State) → Agrees g ok past s → AreLater past s → IsPhase g starts lines s t → IsState g ok s → (p : Printed) × Prints g past t p
+  prints_is past starts lines s t a l ph is =
+      let told = phase_told g ok past starts lines s t a ph is in
       let logs = phase_grows starts lines s t ph in (
         record {
           entries = λ n. (told.grown n).0;
-          ops = λ i. ops_of (turns_of i lines) ++ started starts i;
-          items = λ i. (logs i).0;
+          ops = λ i. turns_of i lines ++ started starts i;
+          items = λ c. (logs c).0 ++ (l c).0;
           replies = t.replies;
           shown = record {
             rows = λ n. content_of (t.history n);
-            modes = λ i. g.mode i (t.ops i);
-            accepted = λ i. g.accepted i (t.ops i);
-            up = λ i. is_open (t.channels i);
-            standing = λ i k. value_of (account k (t.channels i).log);
+            modes = λ i. g.mode i (given t i);
+            accepted = λ i. length (g.accepted i (given t i));
+            up = λ c. is_open (t.channels c);
+            standing = λ c k. value_of (account k (t.channels c).log);
           };
         },
         record {
           entries = λ n. (told.grown n).1;
-          ops = λ i. told.ops i ∙ sym (append_assoc (ops_of (turns_of i lines)) (started starts i) (s.ops i));
-          items = λ i. (logs i).1;
+          ops = λ i. told.ops i ∙ sym (append_assoc (turns_of i lines) (started starts i) (past.ops i));
+          items = λ c. (logs c).1 ∙ ap (λ x. (logs c).0 ++ x) (l c).1 ∙ sym (append_assoc (logs c).0 (l c).0 (past.logs c));
           replies = refl;
-          shown = record { rows = λ n k num. refl; modes = λ i. refl; accepted = λ i. refl; up = λ i. refl; standing = λ i k. refl };
+          shown = record { rows = λ n k num. refl; modes = λ i. refl; accepted = λ i. refl; up = λ c. refl; standing = λ c k. refl };
         },
       )
 
-  pub plays_all : (starts : List Act) (s : State) (scripts : List (List Line)) → IsState g ok s → (printed : List Printed) × PlaysAll g starts s scripts printed
-  plays_all starts s [] is = ([], tt)
-  plays_all starts s (lines ∷ more) is =
-      let t = phase_is starts lines s in
-      let p = prints_is starts lines s t.0 t.1 is in
-      let rest = plays_all [] t.0 more (phase_keeps g ok starts lines s t.0 t.1 is) in
+  pub plays_all : (past : Joined) (starts : List Act) (s : State) (scripts : List (List Line)) → Agrees g ok past s → AreLater past s → IsState g ok s → (printed : List Printed) × PlaysAll g starts past s scripts printed
+  plays_all past starts s [] a l is = ([], tt)
+  plays_all past starts s (lines ∷ more) a l is =
+      let t = phase_is starts lines s is in
+      let p = prints_is past starts lines s t.0 a l t.1 is in
+      let j = joined_agrees g ok past t.0 p.0 p.1 in
+      let rest = plays_all (join past p.0) [] t.0 more (record { history = j.history; ops = j.ops }) (λ c. ([], sym (j.logs c))) (phase_keeps g ok starts lines s t.0 t.1 is) in
       (p.0 ∷ rest.0, (t.0, t.1, p.1, rest.1))
 
-pub played : (g : Rules) (starts : List Act) (scripts : List (List Line)) → IsRules g → (printed : List Printed) × PlaysAll g starts start scripts printed
-played g starts scripts ok = plays_all g ok starts start scripts (start_is g ok)
+nil_append : (log : List LogItem) → log ≡ log ++ []
+nil_append [] = refl
+nil_append (x ∷ log) = ap (λ l. x ∷ l) (nil_append log)
+
+pub played : (g : Rules) (starts : List Act) (scripts : List (List Line)) → IsRules g → (printed : List Printed) × PlaysAll g starts nothing (start g) scripts printed
+played g starts scripts ok = plays_all g ok nothing starts (start g) scripts (record { history = λ t. refl; ops = λ i. refl }) (λ c. (((start g).channels c).log, nil_append ((start g).channels c).log)) (start_is g ok)
+
+pub lines_played : (g : Rules) (lines : List Line) (s : State) → IsRules g → (t : State) × Plays g lines s t
+lines_played g lines s ok = plays_is g ok lines s
 
 pub one_state : (g : Rules) (starts : List Act) (lines : List Line) (s t u : State) → IsRules g → IsPhase g starts lines s t → IsPhase g starts lines s u → t ≡ u
 one_state g starts lines s t u ok p q = phase_one g ok starts lines s t u p q

@@ -7,8 +7,8 @@ use Rattle.std.proofs.lemmas.Bool.Decides.{nat_tests, eqb_tells}
 use Rattle.attrs.specs.declared.route.Change.{Change}
 use Rattle.import_core.specs.declared.operation.Op.{Op}
 use Rattle.core_machine.specs.Histories.{content_of, front, own}
-use Rattle.core_machine.specs.Lines.{Act, Line, Apply, Take, Push, Show, Reply}
-use Rattle.core_machine.specs.Merges.{Turn, asked, ops_of, picked}
+use Rattle.core_machine.specs.Lines.{Act, Line, Apply, Take, Push, Show, Reply, Turn, ops_of, turn_of}
+use Rattle.core_machine.specs.Merges.{asked, picked}
 use Rattle.core_machine.specs.Replies.{Answers, Question, is_nil, latest, needed, questions}
 use Rattle.core_machine.specs.Rules.{Rules, changes}
 use Rattle.core_machine.proofs.Contents.{if_true, if_false, front_more}
@@ -16,7 +16,7 @@ use Rattle.core_machine.proofs.Contents.{if_true, if_false, front_more}
 -- the turns that lines give a protocol
 abbrev pub turns_of : ℕ → List Line → List Turn
 turns_of i [] = []
-turns_of i (Apply x ∷ earlier) = if x.protocol == i then record { actor = x.actor; op = x.op } ∷ turns_of i earlier else turns_of i earlier
+turns_of i (Apply x ∷ earlier) = if x.protocol == i then turn_of x ∷ turns_of i earlier else turns_of i earlier
 turns_of i (Take n ∷ earlier) = turns_of i earlier
 turns_of i (Push n ∷ earlier) = turns_of i earlier
 turns_of i (Show b ∷ earlier) = turns_of i earlier
@@ -28,9 +28,9 @@ and_no false = refl
 -- an actor's turns are its lines
 pub picked_asked : (a i : ℕ) (lines : List Line) → picked a (turns_of i lines) ≡ asked a i lines
 picked_asked a i [] = refl
-picked_asked a i (Apply x ∷ earlier) = elim (x.protocol == i) as (λ b. picked a (if b then record { actor = x.actor; op = x.op } ∷ turns_of i earlier else turns_of i earlier) ≡ (if (x.actor == a) && b then x.op ∷ asked a i earlier else asked a i earlier)) [
-  | true ↦ elim (x.actor == a) as (λ d. (if d then x.op ∷ picked a (turns_of i earlier) else picked a (turns_of i earlier)) ≡ (if d && true then x.op ∷ asked a i earlier else asked a i earlier)) [ true ↦ ap (λ l. x.op ∷ l) (picked_asked a i earlier) | false ↦ picked_asked a i earlier ]
-  | false ↦ picked_asked a i earlier ∙ sym (if_false ((x.actor == a) && false) (x.op ∷ asked a i earlier) (asked a i earlier) (and_no (x.actor == a)))
+picked_asked a i (Apply x ∷ earlier) = elim (x.protocol == i) as (λ b. picked a (if b then turn_of x ∷ turns_of i earlier else turns_of i earlier) ≡ (if (x.actor == a) && b then turn_of x ∷ asked a i earlier else asked a i earlier)) [
+  | true ↦ elim (x.actor == a) as (λ d. (if d then turn_of x ∷ picked a (turns_of i earlier) else picked a (turns_of i earlier)) ≡ (if d && true then turn_of x ∷ asked a i earlier else asked a i earlier)) [ true ↦ ap (λ l. turn_of x ∷ l) (picked_asked a i earlier) | false ↦ picked_asked a i earlier ]
+  | false ↦ picked_asked a i earlier ∙ sym (if_false ((x.actor == a) && false) (turn_of x ∷ asked a i earlier) (asked a i earlier) (and_no (x.actor == a)))
 ]
 picked_asked a i (Take n ∷ earlier) = picked_asked a i earlier
 picked_asked a i (Push n ∷ earlier) = picked_asked a i earlier
@@ -46,7 +46,7 @@ within_more a i n m [] le w = tt
 within_more a i n m (q ∷ more) le w = (omega (arith, w.0), within_more a i n m more le w.1)
 
 asked_more : (a i : ℕ) (x : Act) (earlier : List Line) → length (asked a i earlier) ≤ length (asked a i (Apply x ∷ earlier))
-asked_more a i x earlier = elim ((x.actor == a) && (x.protocol == i)) as (λ b. length (asked a i earlier) ≤ length (if b then x.op ∷ asked a i earlier else asked a i earlier)) [ true ↦ omega arith | false ↦ le_refl _ ]
+asked_more a i x earlier = elim ((x.actor == a) && (x.protocol == i)) as (λ b. length (asked a i earlier) ≤ length (if b then turn_of x ∷ asked a i earlier else asked a i earlier)) [ true ↦ omega arith | false ↦ le_refl _ ]
 
 pub all_within : (a i : ℕ) (lines : List Line) → AllWithin a i (length (asked a i lines)) (questions a lines)
 all_within a i [] = tt

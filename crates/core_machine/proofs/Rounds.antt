@@ -1,102 +1,89 @@
--- A sync has at most one round.
-use Rattle.std.proofs.Common.{◌≡◌, ℕ, zero, suc, ◌+◌, ◌-◌, ◌<◌, ◌≤◌, ◌⊎◌, inl, inr, Bool, true, false, List, [], ◌∷◌, refl, sym, ◌∙◌, ap, subst, arith, length}
-use Rattle.std.proofs.Math.Path.{fun_ext}
+-- A sync comes to an end: there is a number of rounds.
+use Rattle.std.proofs.Common.{◌≡◌, ◌≢◌, ℕ, zero, suc, ◌+◌, ◌<◌, ◌≤◌, inl, inr, Bool, true, false, not, List, [], ◌∷◌, refl, sym, ◌∙◌, ap, subst, arith, length}
+use Rattle.std.specs.Prelude.{◌==◌, ◌&&◌, ◌||◌, if◌then◌else◌}
+use Rattle.std.proofs.lemmas.Bool.{cases_lt}
+use Rattle.std.proofs.lemmas.Bool.Decides.{eqb_tells}
 use Rattle.attrs.specs.declared.route.Change.{Change}
-use Rattle.core_machine.specs.Channels.{Channel, is_open, push_one, take_one, times}
+use Rattle.core_machine.specs.Channels.{Channel, is_open, times}
 use Rattle.core_machine.specs.Lines.{Act, Line}
-use Rattle.core_machine.specs.Machine.{Begins, Comes, Plays, State, pushed_out, round, synced, taken_up}
-use Rattle.core_machine.specs.Rounds.{AreSettled, HasRounds, IsSettled}
+use Rattle.core_machine.specs.Machine.{Begins, Plays, State}
+use Rattle.core_machine.specs.Marks.{Marked}
+use Rattle.core_machine.specs.Phases.{Comes}
+use Rattle.core_machine.specs.Rounds.{AreSettled, HasRounds, IsSettled, round}
 use Rattle.core_machine.specs.Rules.{IsRules, Rules}
-use Rattle.core_machine.proofs.Beginnings.{between}
-use Rattle.core_machine.proofs.Contents.{if_true, if_false}
-use Rattle.core_machine.proofs.PhaseEnds.{no_marks, pushes_marks, pushes_position, round_ends, sync_ends, takes_position}
-use Rattle.core_machine.proofs.WholeState.{IsState}
+use Rattle.core_machine.proofs.Bound.{late_settled, rounds_late}
+use Rattle.core_machine.proofs.PhaseEnds.{comes_keeps}
+use Rattle.core_machine.proofs.WholeState.{IsState, begins_keeps, given, plays_keeps, rounds_keep}
 
-no_takes : (h : List Change) (ch : Channel) → length h ≤ ch.position → taken_up h ch ≡ ch
-no_takes h ch le = ap (λ n. times n (take_one h) ch) (let none : length h - ch.position ≡ 0 = omega arith in none)
+no : {A : Type 0} → true ≡ false → A
+no e = absurd (let bad : true ≡ false = e in cc)
 
-no_pushes : (g : Rules) (i : ℕ) (h : List Change) (ch : Channel) → ch.marks ≡ [] → pushed_out g i h ch ≡ ch
-no_pushes g i h ch none = ap (λ n. times n (push_one g i h) ch) (ap length none)
+abbrev is_nil : List Marked → Bool
+is_nil [] = true
+is_nil (m ∷ ms) = false
 
-taken_to : (h : List Change) (ch : Channel) → length h ≤ (taken_up h ch).position
-taken_to h ch = elim (far (length h) ch.position) [
-  | inl le ↦ omega (arith, le, ap (λ (c : Channel). c.position) (no_takes h ch le))
-  | inr le ↦ omega (arith, le, takes_position h (length h - ch.position) ch (omega (arith, le)))
+abbrev rests : List Change → Channel → Bool
+rests h ch = (ch.position == length h) && is_nil ch.marks
+
+rests_yes : (h : List Change) (ch : Channel) → rests h ch ≡ true → IsSettled h ch
+rests_yes h ch e = elim (eqb_tells ch.position (length h)) [
+  | inl w ↦ record { position = w.1; marks = nil ch.marks (sym (ap (λ b. b && is_nil ch.marks) w.0) ∙ e) }
+  | inr w ↦ no (sym (sym (ap (λ b. b && is_nil ch.marks) w.0) ∙ e))
 ] where
-  far : (n p : ℕ) → (n ≤ p) ⊎ (p ≤ n)
-  far n p = grind arith
+  nil : (ms : List Marked) → is_nil ms ≡ true → ms ≡ []
+  nil [] e = refl
+  nil (m ∷ ms) e = no (sym e)
 
-round_open : (g : Rules) (i : ℕ) (h : List Change) (ch : Channel) → is_open ch ≡ true → round g i h ch ≡ pushed_out g i h (taken_up h ch)
-round_open g i h ch up = if_true (is_open ch) (pushed_out g i h (taken_up h ch)) ch up
+rests_no : (h : List Change) (ch : Channel) → rests h ch ≡ false → IsSettled h ch → ⊥
+rests_no h ch e s = elim (eqb_tells ch.position (length h)) [
+  | inl w ↦ no (sym (ap (λ ms. is_nil ms) s.marks) ∙ sym (ap (λ b. b && is_nil ch.marks) w.0) ∙ e)
+  | inr w ↦ w.1 s.position
+]
 
-round_closed : (g : Rules) (i : ℕ) (h : List Change) (ch : Channel) → is_open ch ≡ false → round g i h ch ≡ ch
-round_closed g i h ch down = if_false (is_open ch) (pushed_out g i h (taken_up h ch)) ch down
+-- the first n channels
+record Told (g : Rules) (s : State) (n : ℕ) (b : Bool) : Type 0 where
+  yes : b ≡ true → (c : ℕ) → c < n → is_open (s.channels c) ≡ true → IsSettled (s.history (g.reads c)) (s.channels c)
+  no_ : b ≡ false → AreSettled g s → ⊥
 
--- a round of a channel that has taken all and has no mark does nothing
-round_rests : (g : Rules) (i : ℕ) (h : List Change) (ch : Channel) → length h ≤ ch.position → ch.marks ≡ [] → round g i h ch ≡ ch
-round_rests g i h ch le none = elim (is_open ch) as (λ b. is_open ch ≡ b → round g i h ch ≡ ch) [
-  | true ↦ λ e. round_open g i h ch e ∙ ap (pushed_out g i h) (no_takes h ch le) ∙ no_pushes g i h ch none
-  | false ↦ λ e. round_closed g i h ch e
-] refl
-
-round_again : (g : Rules) (i : ℕ) (h : List Change) (ch : Channel) → round g i h (round g i h ch) ≡ round g i h ch
-round_again g i h ch = elim (is_open ch) as (λ b. is_open ch ≡ b → round g i h (round g i h ch) ≡ round g i h ch) [
-  | true ↦ λ e.
-      let t = taken_up h ch in
-      let p = pushed_out g i h t in
-      ap (round g i h) (round_open g i h ch e)
-      ∙ round_rests g i h p (omega (arith, taken_to h ch, pushes_position g i h (length t.marks) t)) (no_marks p.marks (pushes_marks g i h (length t.marks) 0 t (omega arith)))
-      ∙ sym (round_open g i h ch e)
-  | false ↦ λ e. ap (round g i h) (round_closed g i h ch e)
-] refl
-
-pub synced_again : (g : Rules) (s : State) → synced g (synced g s) ≡ synced g s
-synced_again g s = ap (λ (channels : ℕ → Channel). record s { channels = channels }) (fun_ext (λ i. round_again g i (s.history (g.table i)) (s.channels i)))
-
--- where all are settled, a round changes nothing
-pub settled_stay : (g : Rules) (s : State) → AreSettled g s → synced g s ≡ s
-settled_stay g s are = ap (λ (channels : ℕ → Channel). record s { channels = channels }) (fun_ext stay) where
-  stay : (i : ℕ) → round g i (s.history (g.table i)) (s.channels i) ≡ s.channels i
-  stay i = elim (is_open (s.channels i)) as (λ b. is_open (s.channels i) ≡ b → round g i (s.history (g.table i)) (s.channels i) ≡ s.channels i) [
-    | true ↦ λ e. let is = are i e in round_rests g i (s.history (g.table i)) (s.channels i) (omega (arith, is.position)) is.marks
-    | false ↦ λ e. round_closed g i (s.history (g.table i)) (s.channels i) e
-  ] refl
-
-round_keeps_down : (g : Rules) (i : ℕ) (h : List Change) (ch : Channel) → is_open ch ≡ false → is_open (round g i h ch) ≡ false
-round_keeps_down g i h ch e = ap is_open (round_closed g i h ch e) ∙ e
-
--- no channel that is up stands past its table's head
-abbrev pub AreWithin : Rules → State → Type 0
-AreWithin g s = (i : ℕ) → is_open (s.channels i) ≡ true → (s.channels i).position ≤ length (s.history (g.table i))
-
-pub round_settles : (g : Rules) (s : State) → AreWithin g s → AreSettled g (synced g s)
-round_settles g s within i up =
-    let h = s.history (g.table i) in
-    elim (is_open (s.channels i)) as (λ b. is_open (s.channels i) ≡ b → IsSettled h ((synced g s).channels i)) [
-      | true ↦ λ e. let ends = round_ends g i h (s.channels i) e (within i e) in record { position = ends.0; marks = ends.1 }
-      | false ↦ λ e. absurd (let bad : false ≡ true = sym (round_keeps_down g i h (s.channels i) e) ∙ up in cc)
-    ] refl
-
--- none where all are settled, and else one
-pub rounds_told : (g : Rules) (s : State) (rounds : ℕ) → AreWithin g s → rounds ≤ 1 → (rounds ≡ 0 → AreSettled g s) → (AreSettled g s → rounds ≡ 0) → HasRounds g s rounds
-rounds_told g s zero within few none all = record { end = none refl; each = λ m less. absurd (omega (arith, less)) }
-rounds_told g s (suc zero) within few none all = record { end = round_settles g s within; each = first } where
-  first : (m : ℕ) → m < 1 → AreSettled g (times m (synced g) s) → ⊥
-  first zero less are = absurd (let bad : 1 ≡ 0 = all are in cc)
-  first (suc m) less are = absurd (omega (arith, less))
-rounds_told g s (suc (suc n)) within few none all = absurd (omega (arith, few))
-
-few_rounds : (g : Rules) (s : State) (rounds : ℕ) → AreSettled g (synced g s) → HasRounds g s rounds → rounds ≤ 1
-few_rounds g s zero are has = omega arith
-few_rounds g s (suc zero) are has = omega arith
-few_rounds g s (suc (suc n)) are has = absurd (has.each 1 (omega arith) are)
+tell : (g : Rules) (s : State) (n : ℕ) → (b : Bool) × Told g s n b
+tell g s zero = (true, record { yes = λ _ c lt. absurd (let bad : 1 ≤ 0 = omega arith in omega (arith, bad)); no_ = λ e. no e })
+tell g s (suc n) = let r = tell g s n in let h = s.history (g.reads n) in let ch = s.channels n in
+    elim r.0 as (λ b. Told g s n b → (b : Bool) × Told g s (suc n) b) [
+      | false ↦ λ t. (false, record { yes = λ e. no (sym e); no_ = λ e a. t.no_ refl a })
+      | true ↦ λ t. elim (is_open ch) as (λ b. is_open ch ≡ b → (b : Bool) × Told g s (suc n) b) [
+        | false ↦ λ shut. (true, record { yes = λ _ c lt up. elim (eqb_tells c n) [
+            | inl w ↦ no (sym up ∙ ap (λ c. is_open (s.channels c)) w.1 ∙ shut)
+            | inr w ↦ t.yes refl c (elim (cases_lt c n) [ inl z ↦ z | inr z ↦ absurd (w.1 (omega (arith, lt, z))) ]) up
+          ]; no_ = λ e. no e })
+        | true ↦ λ up. elim (rests h ch) as (λ b. rests h ch ≡ b → (b : Bool) × Told g s (suc n) b) [
+          | true ↦ λ e. (true, record { yes = λ _ c lt open_c. elim (eqb_tells c n) [
+              | inl w ↦ subst (λ c. IsSettled (s.history (g.reads c)) (s.channels c)) (sym w.1) (rests_yes h ch e)
+              | inr w ↦ t.yes refl c (elim (cases_lt c n) [ inl z ↦ z | inr z ↦ absurd (w.1 (omega (arith, lt, z))) ]) open_c
+            ]; no_ = λ q. no q })
+          | false ↦ λ e. (false, record { yes = λ q. no (sym q); no_ = λ _ a. rests_no h ch e (a n up) })
+        ] refl
+      ] refl
+    ] r.1
 
 module _ (g : Rules) (ok : IsRules g) where
-  state_settles : (s : State) → IsState g ok s → AreSettled g (synced g s)
-  state_settles s is i up = let e = sync_ends g ok s i is up in record { position = e.0; marks = e.1 }
+  pub least : (left n : ℕ) (s : State) → IsState g ok s → n + left ≡ g.tables → ((m : ℕ) → m < n → AreSettled g (times m (round g) s) → ⊥) → (rounds : ℕ) × HasRounds g s rounds
+  least zero n s is e before = (n, record { end = subst (λ k. AreSettled g (times k (round g) s)) (let same : g.tables ≡ n = omega (arith, e) in same) (late_settled g ok (times g.tables (round g) s) (rounds_keep g ok g.tables s is) (rounds_late g ok g.tables s is)); each = before })
+  least (suc left) n s is e before =
+      let u = times n (round g) s in
+      let r = tell g u g.channels in
+      elim r.0 as (λ b. Told g u g.channels b → (rounds : ℕ) × HasRounds g s rounds) [
+        | true ↦ λ t. (n, record { end = λ c up. elim (cases_lt c g.channels) [
+            | inl w ↦ t.yes refl c w up
+            | inr w ↦ no (sym up ∙ ((rounds_keep g ok n s is).keeps c).up ∙ ok.no_more c w (given u (g.owner c)))
+          ]; each = before })
+        | false ↦ λ t. least left (suc n) s is (omega (arith, e)) (λ m lt. elim (cases_lt m n) [
+          | inl w ↦ before m w
+          | inr w ↦ subst (λ k. AreSettled g (times k (round g) s) → ⊥) (let same : n ≡ m = omega (arith, lt, w) in same) (t.no_ refl)
+        ])
+      ] r.1
 
-pub lines_settle : (g : Rules) (phases : List (List Act × List Line)) (starts : List Act) (lines : List Line) (s b u : State) → IsRules g → Comes g phases s → Begins g starts (record s { replies = [] }) b → Plays g lines b u → AreSettled g (synced g u)
-lines_settle g phases starts lines s b u ok c d q = state_settles g ok u (between g ok phases starts lines s b u c d q)
-
-pub one_round : (g : Rules) (phases : List (List Act × List Line)) (starts : List Act) (lines : List Line) (s b u : State) (rounds : ℕ) → IsRules g → Comes g phases s → Begins g starts (record s { replies = [] }) b → Plays g lines b u → HasRounds g u rounds → rounds ≤ 1
-one_round g phases starts lines s b u rounds ok c d q = few_rounds g u rounds (lines_settle g phases starts lines s b u ok c d q)
+pub ends : (g : Rules) (phases : List (List Act × List Line)) (starts : List Act) (lines : List Line) (s b u : State) → IsRules g → Comes g phases s → Begins g starts (record s { replies = [] }) b → Plays g lines b u → (rounds : ℕ) × HasRounds g u rounds
+ends g phases starts lines s b u ok c p q =
+    let is = comes_keeps g ok phases s c in
+    let now : IsState g ok (record s { replies = [] }) = record { exact = is.exact; keeps = is.keeps } in
+    least g ok g.tables 0 u (plays_keeps g ok lines b u q (begins_keeps g ok starts (record s { replies = [] }) b p now)) (omega arith) (λ m lt. absurd (let bad : 1 ≤ 0 = omega arith in omega (arith, bad)))

@@ -1,160 +1,402 @@
 -- What the lines keep of the whole state.
-use Rattle.std.proofs.Common.{◌≡◌, ◌≢◌, ℕ, ◌-◌, inl, inr, true, false, List, [], ◌∷◌, ◌++◌, refl, sym, ◌∙◌, ap, subst, length, is_some}
-use Rattle.std.specs.Prelude.{◌==◌, if◌then◌else◌}
+use Rattle.std.proofs.Common.{◌≡◌, ◌≢◌, ℕ, zero, suc, ◌-◌, inl, inr, Bool, true, false, List, [], ◌∷◌, ◌++◌, Option, Some, None, refl, sym, ◌∙◌, ap, subst, length, is_some, option_map}
+use Rattle.std.specs.Prelude.{◌==◌, ◌||◌, if◌then◌else◌}
+use Rattle.std.proofs.lemmas.List.{append_assoc}
 use Rattle.std.proofs.lemmas.Bool.Decides.{eqb_tells}
+use Rattle.attrs.specs.declared.attributes.Attrs.{Attrs}
 use Rattle.attrs.specs.declared.route.Change.{Change}
 use Rattle.import_core.specs.declared.operation.Op.{Op}
-use Rattle.export_core.specs.Logs.{stretch}
-use Rattle.core_machine.specs.Channels.{Channel, if_open, is_open, push_one, take_one, times}
-use Rattle.core_machine.specs.Histories.{AreOf, AreReal, content_of, entry, own}
-use Rattle.core_machine.specs.Lines.{Act, Line, Apply, Take, Push, Show}
-use Rattle.core_machine.specs.Machine.{Applies, Begins, Plays, State, Steps, appended, pushed_out, set, synced, taken_up}
-use Rattle.core_machine.specs.Room.{roomed}
-use Rattle.core_machine.specs.Rules.{IsRules, Rules, changes, made}
-use Rattle.core_machine.proofs.Contents.{if_true, if_false, own_named, own_other, content_own, real_less, real_more}
-use Rattle.core_machine.proofs.OneChannel.{times_keeps, IsKept, taken_log, take_keeps, push_keeps, open_pushed, room_keeps, longer_keeps, does_keeps}
+use Rattle.export_core.specs.declared.log.Key.{Key}
+use Rattle.export_core.specs.declared.log.LogItem.{LogItem}
+use Rattle.export_core.specs.declared.log.LogItem.TheVariants.{Sent}
+use Rattle.export_core.specs.declared.log.Sending.{Sending}
+use Rattle.export_core.specs.Candidates.{among}
+use Rattle.export_core.specs.Logs.{stretch, account, value_of, Follows}
+use Rattle.export_core.specs.Marks.{holds}
+use Rattle.core_machine.specs.Channels.{Channel, answer, closed, fed, is_open, logged, opened, push_one, pushed, renewed, take_one, times, value_at}
+use Rattle.core_machine.specs.Enters.{change_to, enters, standing_keys, withdrawn}
+use Rattle.core_machine.specs.Histories.{AreFrom, AreReal, content_of, of_those, own}
+use Rattle.core_machine.specs.Lines.{Act, Line, Apply, Take, Push, Show, Turn, ops_of, turn_of}
+use Rattle.core_machine.specs.Machine.{AllObey, Applies, Begins, Feeds, Obeys, Plays, State, Steps, appended, arrived, flushed, gain, gained, if_open, left_by, push_at, set, takes, with_channel, with_turn}
+use Rattle.core_machine.specs.Marks.{Marked}
+use Rattle.core_machine.specs.Pipes.{course_of, is_pipe, passes}
+use Rattle.core_machine.specs.Rounds.{pushed_out, round, taken_up, turned, turns_to}
+use Rattle.core_machine.specs.Rules.{AreApart, Fits, IsRules, Rules, Signal, Stay, Rise, Fall, Renew, changes, is_up, signalled}
+use Rattle.core_machine.proofs.Contents.{AllOf, content_those, if_true, if_false, none_some, real_more, some_same}
+use Rattle.core_machine.proofs.Entering.{all_withdrawn, once_standing, real_withdrawn, sent_passes, standing_passes, standing_told, stands_entered, withdrawn_is}
+use Rattle.core_machine.proofs.Growing.{IsMore, IsOn, Keeps, more_appended, more_arrived, more_flushed, more_none, more_on, on_same, on_then, set_here, set_there, some_list}
+use Rattle.core_machine.proofs.OneChannel.{IsDone, IsKept, fall_keeps, open_pushed, push_keeps, renew_keeps, rise_keeps, take_keeps, take_log, times_keeps}
+use Rattle.core_machine.proofs.Tables.{IsExact, exact_by, exact_logs, exact_own}
 
-pub set_here : {X : Type 0} (i : ℕ) (x : X) (old : ℕ → X) (j : ℕ) → i ≡ j → set i x old j ≡ x
-set_here i x old j e = elim (eqb_tells i j) [ inl w ↦ if_true (i == j) x (old j) w.0 | inr w ↦ absurd (w.1 e) ]
+no : {A : Type 0} → true ≡ false → A
+no e = absurd (let bad : true ≡ false = e in cc)
 
-pub set_there : {X : Type 0} (i : ℕ) (x : X) (old : ℕ → X) (j : ℕ) → i ≢ j → set i x old j ≡ old j
-set_there i x old j e = elim (eqb_tells i j) [ inl w ↦ absurd (e w.1) | inr w ↦ if_false (i == j) x (old j) w.0 ]
+-- the operations of each protocol
+abbrev pub given : State → ℕ → List Op
+given s i = ops_of (s.ops i)
 
-pub all_first : (i : ℕ) (cs ds : List Change) → AreOf i (cs ++ ds) → AreOf i cs
+pub all_first : (i : ℕ) (cs ds : List Change) → AreFrom i (cs ++ ds) → AreFrom i cs
 all_first i [] ds a = tt
 all_first i (c ∷ cs) ds a = (a.0, all_first i cs ds a.1)
 
-pub made_here : (g : Rules) (t i : ℕ) (ops : List Op) → g.table i ≡ t → made g t i ops ≡ changes g i ops
-made_here g t i ops e = elim (eqb_tells (g.table i) t) [ inl w ↦ if_true (g.table i == t) (changes g i ops) [] w.0 | inr w ↦ absurd (w.1 e) ]
+abbrev pub logs_of : State → ℕ → List LogItem
+logs_of s c = (s.channels c).log
+
+map_apart : (g : Rules) (ok : IsRules g) (i : ℕ) (a b : Option Attrs) → option_map (g.route i) a ≡ option_map (g.route i) b → a ≡ b
+map_apart g ok i None None e = refl
+map_apart g ok i None (Some y) e = absurd (none_some e)
+map_apart g ok i (Some x) None e = absurd (none_some (sym e))
+map_apart g ok i (Some x) (Some y) e = ap (λ z. Some z) (ok.told i x y (some_same e))
+
+pub is_target : (g : Rules) (c t : ℕ) → g.target c ≡ Some t → is_pipe g c ≡ true
+is_target g c t e = ap is_some e
 
 module _ (g : Rules) (ok : IsRules g) where
-  -- a state at rest
-  pub record IsState (s : State) : Type 0 where
-    pub real : (t : ℕ) → AreReal (s.history t)
-    pub exact : (t i : ℕ) → own i (s.history t) ≡ made g t i (s.ops i)
-    pub kept : (i : ℕ) → IsKept g ok (s.history (g.table i)) i (s.ops i) (s.channels i)
+  -- a state, with operations that a function gives for each channel
+  pub record IsRight (ops : ℕ → List Op) (s : State) : Type 0 where
+    pub exact : IsExact g s.history (given s) (logs_of s)
+    pub keeps : Keeps g ok ops s
 
-  -- the state with some changes of an operation appended to the protocol's table
-  pub record IsMid (i : ℕ) (cs : List Change) (s u : State) : Type 0 where
-    pub history : u.history (g.table i) ≡ cs ++ s.history (g.table i)
-    pub elsewhere : (n : ℕ) → g.table i ≢ n → u.history n ≡ s.history n
-    pub replies : u.replies ≡ s.replies
-    pub real : (n : ℕ) → AreReal (u.history n)
-    pub here : own i (u.history (g.table i)) ≡ cs ++ changes g i (s.ops i)
-    pub there : (n j : ℕ) → i ≢ j → own j (u.history n) ≡ made g n j (s.ops j)
-    pub kept : (j : ℕ) → IsKept g ok (u.history (g.table j)) j (s.ops j) (u.channels j)
+  abbrev pub owned : State → ℕ → List Op
+  owned s c = given s (g.owner c)
 
-  pub appended_mid : (i : ℕ) (cs : List Change) (s : State) → AreOf i cs → AreReal (cs ++ changes g i (s.ops i)) → IsState s → IsMid i cs s (appended g (g.table i) cs s)
-  appended_mid i [] s a r is = record { history = refl; elsewhere = λ n other. refl; replies = refl; real = is.real; here = is.exact (g.table i) i ∙ made_here g (g.table i) i (s.ops i) refl; there = λ n j other. is.exact n j; kept = is.kept }
-  appended_mid i (c ∷ cs) s a r is =
-      let differs = real_less c (cs ++ changes g i (s.ops i)) r in
-      let m = appended_mid i cs s a.1 differs.0 is in
-      let at = g.table i in
-      let u = appended g at cs s in
-      let h = u.history at in
-      let new = set at (c ∷ h) u.history in
-      let new_here : new at ≡ c ∷ h = set_here at (c ∷ h) u.history at refl in
+  abbrev pub IsState : State → Type 0
+  IsState s = IsRight (owned s) s
+
+  -- what a step does of a whole state
+  pub record IsStep (ops : ℕ → List Op) (s u : State) : Type 0 where
+    pub right : IsRight ops u
+    pub on : IsOn g ok s u
+
+  -- one channel is changed by what keeps it
+  pub one_keeps : (c : ℕ) (ops : List Op) (f : ℕ → List Op) (new : Channel) (s : State) → IsKept g ok (s.history (g.reads c)) c ops new → ((e : ℕ) → c ≢ e → IsKept g ok (s.history (g.reads e)) e (f e) (s.channels e)) → f c ≡ ops
+      → Keeps g ok f (with_channel c new s)
+  one_keeps c ops f new s k others e = λ j. elim (eqb_tells c j) [
+    | inl w ↦ subst (λ q. IsKept g ok (s.history (g.reads q)) q (f q) (set c new s.channels q)) w.1 (subst (λ o. IsKept g ok (s.history (g.reads c)) c o (set c new s.channels c)) (sym e) (subst (IsKept g ok (s.history (g.reads c)) c ops) (sym (set_here c new s.channels c refl)) k))
+    | inr w ↦ subst (IsKept g ok (s.history (g.reads j)) j (f j)) (sym (set_there c new s.channels j w.1)) (others j w.1)
+  ]
+
+  log_here : (c : ℕ) (new : Channel) (s : State) → logs_of (with_channel c new s) c ≡ new.log
+  log_here c new s = ap (λ ch. ch.log) (set_here c new s.channels c refl)
+
+  log_there : (c e : ℕ) (new : Channel) (s : State) → c ≢ e → logs_of (with_channel c new s) e ≡ logs_of s e
+  log_there c e new s other = ap (λ ch. ch.log) (set_there c new s.channels e other)
+
+  same_enters : (c : ℕ) (new : Channel) (s : State) → enters g new.log ≡ enters g (s.channels c).log → (d : ℕ) → enters g (logs_of (with_channel c new s) d) ≡ enters g (logs_of s d)
+  same_enters c new s e d = elim (eqb_tells c d) [
+    | inl w ↦ subst (λ q. enters g (logs_of (with_channel c new s) q) ≡ enters g (logs_of s q)) w.1 (ap (enters g) (log_here c new s) ∙ e)
+    | inr w ↦ ap (enters g) (log_there c d new s w.1)
+  ]
+
+  -- a channel's step that enters nothing
+  pub quiet_step : (c : ℕ) (ops : List Op) (f f2 : ℕ → List Op) (new : Channel) (s : State) → enters g new.log ≡ enters g (s.channels c).log → IsKept g ok (s.history (g.reads c)) c ops new → f2 c ≡ ops → ((e : ℕ) → c ≢ e → f2 e ≡ f e) → IsRight f s → IsRight f2 (with_channel c new s)
+  quiet_step c ops f f2 new s e k here there r = record {
+    exact = exact_logs g ok s.history (given s) (logs_of s) (logs_of (with_channel c new s)) (same_enters c new s e) r.exact;
+    keeps = one_keeps c ops f2 new s k (λ j other. subst (λ o. IsKept g ok (s.history (g.reads j)) j o (s.channels j)) (sym (there j other)) (r.keeps j)) here;
+  }
+
+  -- a direction's step that enters changes
+  pub enter_step : (d t : ℕ) (cs : List Change) (ops : List Op) (f f2 : ℕ → List Op) (new : Channel) (s u : State) → g.target d ≡ Some t → IsMore g ok t cs s u → AllOf (passes g d) cs → AreReal (cs ++ s.history t)
+      → enters g new.log ≡ cs ++ enters g (s.channels d).log → IsKept g ok (s.history (g.reads d)) d ops new → f2 d ≡ ops → ((e : ℕ) → d ≢ e → f2 e ≡ f e) → IsRight f s → IsRight f2 (with_channel d new u)
+  enter_step d t cs ops f f2 new s u td m a r more k here there x = let k2 = m.keeps f x.keeps in record {
+    exact = exact_by g ok d t cs s.history u.history (given u) (logs_of s) (logs_of (with_channel d new u)) td a r (ap (enters g) (log_here d new u) ∙ more) (λ e other. log_there d e new u other ∙ m.logs e) m.here m.there
+        (subst (λ (o : ℕ → List Turn). IsExact g s.history (λ i. ops_of (o i)) (logs_of s)) (sym m.ops) x.exact);
+    keeps = one_keeps d ops f2 new u (subst (λ h. IsKept g ok h d ops new) (sym (m.there (g.reads d) (λ e. ok.apart d t td (sym e)))) k)
+        (λ j other. subst (λ o. IsKept g ok (u.history (g.reads j)) j o (u.channels j)) (sym (there j other)) (k2 j)) here;
+  }
+
+  -- ---- pushes
+
+  enters_pushed : (c : ℕ) (h : List Change) (ms : List Marked) (ch : Channel) → enters g (pushed g c h ms ch).log ≡ some_list (gained g c h ms ch) ++ enters g ch.log
+  enters_pushed c h [] ch = refl
+  enters_pushed c h (m ∷ ms) ch = let v = value_at g c h m in elim (answer g c h m ch) as (λ a. enters g (logged a m v ch.log) ≡ some_list (gain g a m v) ++ enters g ch.log) [
+    | None ↦ refl
+    | Some b ↦ elim b as (λ b. enters g (logged (Some b) m v ch.log) ≡ some_list (gain g (Some b) m v) ++ enters g ch.log) [ true ↦ refl | false ↦ refl ]
+  ]
+
+  -- what a push enters may come
+  pub gained_fits : (d t : ℕ) (h into : List Change) (ms : List Marked) (ch : Channel) → g.target d ≡ Some t → Follows (g.value d) (course_of g d h) (pushed g d h ms ch).log → of_those (passes g d) into ≡ enters g ch.log → AreReal into
+      → AllOf (passes g d) (some_list (gained g d h ms ch)) × AreReal (some_list (gained g d h ms ch) ++ into)
+  gained_fits d t h into [] ch td f e r = (tt, r)
+  gained_fits d t h into (m ∷ ms) ch td f e r = let v = value_at g d h m in
+      elim (answer g d h m ch) as (λ a. Follows (g.value d) (course_of g d h) (logged a m v ch.log) → AllOf (passes g d) (some_list (gain g a m v)) × AreReal (some_list (gain g a m v) ++ into)) [
+        | None ↦ λ f. (tt, r)
+        | Some b ↦ elim b as (λ b. Follows (g.value d) (course_of g d h) (logged (Some b) m v ch.log) → AllOf (passes g d) (some_list (gain g (Some b) m v)) × AreReal (some_list (gain g (Some b) m v) ++ into)) [
+          | true ↦ λ f. (tt, r)
+          | false ↦ λ f.
+              let x : Sending = record { at = m.at; key = m.key; value = v; again = false } in
+              let p = sent_passes g d h ch.log x (is_target g d t td) f refl in
+              ((p, tt), real_more (change_to g m.key v) into r (λ same. f.1.changed refl (map_apart g ok m.key.num v (value_of (account m.key ch.log))
+                  (sym same ∙ content_those (passes g d) m.key.net m.key.num into p ∙ ap (λ l. content_of l m.key.net m.key.num) e ∙ stands_entered g (g.value d) (course_of g d h) ch.log f.0 m.key))))
+        ]
+      ] f
+
+  pub push_step : (c : ℕ) (f : ℕ → List Op) (s : State) → is_open (s.channels c) ≡ true → IsRight f s → IsStep f s (push_at g c s)
+  push_step c f s up r =
+      let h = s.history (g.reads c) in
+      let ch = s.channels c in
+      let new = push_one g c h ch in
+      let k = push_keeps g ok h c (f c) ch up (r.keeps c) in
+      let o = gained g c h ch.marks ch in
+      elim (g.target c) as (λ q. g.target c ≡ q → IsStep f s (with_channel c new (arrived g q o s))) [
+        | None ↦ λ e. record {
+            right = record {
+              exact = record { real = r.exact.real; exact = r.exact.exact; no_others = r.exact.no_others;
+                entered = λ d t td. r.exact.entered d t td ∙ sym (ap (enters g) (log_there c d new s (λ cd. none_some (sym e ∙ ap g.target cd ∙ td)))) };
+              keeps = one_keeps c (f c) f new s k (λ j other. r.keeps j) refl;
+            };
+            on = record { grew = λ n. ([], refl); ops = refl; replies = refl };
+          }
+        | Some t ↦ λ e.
+            let fits = gained_fits c t h (s.history t) ch.marks ch e k.channel.follows (r.exact.entered c t e) (r.exact.real t) in
+            let m = more_arrived g ok t o s in
+            let on = more_on g ok t (some_list o) s (arrived g (Some t) o s) m in
+            record {
+              right = enter_step c t (some_list o) (f c) f f new s (arrived g (Some t) o s) e m fits.0 fits.1 (enters_pushed c h ch.marks ch) k refl (λ j other. refl) r;
+              on = record { grew = on.grew; ops = on.ops; replies = on.replies };
+            }
+      ] refl
+
+  arrives_log : (q o : Option ℕ) (x : Option Change) (s : State) (c : ℕ) → q ≡ o → (arrived g q x s).channels c ≡ (arrived g o x s).channels c
+  arrives_log q o x s c e = ap (λ q. (arrived g q x s).channels c) e
+
+  pub push_open : (c : ℕ) (s : State) → is_open ((push_at g c s).channels c) ≡ is_open (s.channels c)
+  push_open c s = let h = s.history (g.reads c) in let ch = s.channels c in let u = arrived g (g.target c) (gained g c h ch.marks ch) s in
+      ap is_open (set_here c (push_one g c h ch) u.channels c refl) ∙ open_pushed g h c ch.marks ch
+
+  pub pushes_step : (n c : ℕ) (f : ℕ → List Op) (s : State) → is_open (s.channels c) ≡ true → IsRight f s → IsStep f s (times n (push_at g c) s) × (is_open ((times n (push_at g c) s).channels c) ≡ true)
+  pushes_step zero c f s up r = (record { right = r; on = on_same g ok s }, up)
+  pushes_step (suc n) c f s up r =
+      let p = pushes_step n c f s up r in
+      let u = times n (push_at g c) s in
+      let q = push_step c f u p.1 p.0.right in (
+        record { right = q.right; on = on_then g ok s u (push_at g c u) p.0.on q.on },
+        push_open c u ∙ p.1,
+      )
+
+  -- ---- takes
+
+  takes_log : (c n : ℕ) (h : List Change) (ch : Channel) → (times n (take_one g c h) ch).log ≡ ch.log
+  takes_log c zero h ch = refl
+  takes_log c (suc n) h ch = take_log g c h (times n (take_one g c h) ch) ∙ takes_log c n h ch
+
+  pub takes_step : (c n : ℕ) (f : ℕ → List Op) (s : State) → IsRight f s → IsStep f s (takes g c n s)
+  takes_step c n f s r =
+      let h = s.history (g.reads c) in
+      let ch = s.channels c in
+      let new = times n (take_one g c h) ch in
       record {
-        history = new_here ∙ ap (λ h. c ∷ h) m.history;
-        elsewhere = λ n other. set_there at (c ∷ h) u.history n other ∙ m.elsewhere n other;
-        replies = m.replies;
-        real = λ n. elim (eqb_tells at n) [
-          | inl w ↦ subst AreReal (sym (set_here at (c ∷ h) u.history n w.1))
-              (real_more c h (m.real at) (λ e. differs.1 (ap (λ l. content_of l c.net c.num) (sym (ap (λ q. own q h) a.0 ∙ m.here)) ∙ sym (content_own c.net c.num h) ∙ e)))
-          | inr w ↦ subst AreReal (sym (set_there at (c ∷ h) u.history n w.1)) (m.real n)
-        ];
-        here = ap (own i) new_here ∙ own_named i c h a.0 ∙ ap (λ h. c ∷ h) m.here;
-        there = λ n j other. elim (eqb_tells at n) [
-          | inl w ↦ ap (own j) (set_here at (c ∷ h) u.history n w.1) ∙ own_other j c h (λ e. other (sym a.0 ∙ e)) ∙ subst (λ q. own j h ≡ made g q j (s.ops j)) w.1 (m.there at j other)
-          | inr w ↦ ap (own j) (set_there at (c ∷ h) u.history n w.1) ∙ m.there n j other
-        ];
-        kept = λ j. let ch = u.channels j in elim (eqb_tells (g.table j) at) [
-          | inl w ↦ subst (λ h2. IsKept g ok h2 j (s.ops j) (if g.table j == at then roomed g h ch else ch)) (sym (set_here at (c ∷ h) u.history (g.table j) (sym w.1)))
-              (subst (IsKept g ok (c ∷ h) j (s.ops j)) (sym (if_true (g.table j == at) (roomed g h ch) ch w.0))
-              (longer_keeps g ok c h j (s.ops j) (roomed g h ch) (room_keeps g ok h j (s.ops j) ch (subst (λ q. IsKept g ok (u.history q) j (s.ops j) ch) w.1 (m.kept j)))))
-          | inr w ↦ subst (λ h2. IsKept g ok h2 j (s.ops j) (if g.table j == at then roomed g h ch else ch)) (sym (set_there at (c ∷ h) u.history (g.table j) (λ e. w.1 (sym e))))
-              (subst (IsKept g ok (u.history (g.table j)) j (s.ops j)) (sym (if_false (g.table j == at) (roomed g h ch) ch w.0)) (m.kept j))
-        ];
+        right = quiet_step c (f c) f f new s (ap (enters g) (takes_log c n h ch)) (times_keeps (IsKept g ok h c (f c)) (take_one g c h) (take_keeps g ok h c (f c)) n ch (r.keeps c)) refl (λ e other. refl) r;
+        on = record { grew = λ n. ([], refl); ops = refl; replies = refl };
       }
 
-  pub act_mid : (a : Act) (s : State) → IsState s → IsMid a.protocol (g.gives a.protocol (s.ops a.protocol) a.op).changes s (appended g (g.table a.protocol) (g.gives a.protocol (s.ops a.protocol) a.op).changes s)
-  act_mid a s is =
-      let i = a.protocol in
-      let cs = (g.gives i (s.ops i) a.op).changes in
-      appended_mid i cs s (all_first i cs (changes g i (s.ops i)) (ok.own i (a.op ∷ s.ops i))) (ok.real i (a.op ∷ s.ops i)) is
+  pub takes_open : (c n : ℕ) (s : State) → is_open ((takes g c n s).channels c) ≡ is_open (s.channels c)
+  takes_open c n s = let h = s.history (g.reads c) in let ch = s.channels c in
+      ap is_open (set_here c (times n (take_one g c h) ch) s.channels c refl) ∙ ap (λ l. is_some (stretch l)) (takes_log c n h ch)
 
-  -- an operation
-  pub apply_keeps : (a : Act) (s t : State) → Applies g a s t → IsState s → IsState t
-  apply_keeps a s t p is =
-      let i = a.protocol in
-      let given = g.gives i (s.ops i) a.op in
-      let u = appended g (g.table i) given.changes s in
-      let m = act_mid a s is in
-      let d = does_keeps g ok (u.history (g.table i)) i a.op (s.ops i) given.signal (u.channels i) p.0 m.here (ok.fits i (s.ops i) a.op) p.1 (m.kept i) in
-      let ops = set i (a.op ∷ s.ops i) s.ops in
-      let channels = set i p.0 u.channels in
-      let ops_here : ops i ≡ a.op ∷ s.ops i = set_here i (a.op ∷ s.ops i) s.ops i refl in
-      subst IsState (sym p.2) (record {
-        real = m.real;
-        exact = λ n j. elim (eqb_tells i j) [
-          | inl w ↦ subst (λ q. own q (u.history n) ≡ made g n q (ops q)) w.1 (elim (eqb_tells (g.table i) n) [
-            | inl z ↦ subst (λ q. own i (u.history q) ≡ made g q i (ops i)) z.1 (m.here ∙ ap (changes g i) (sym ops_here) ∙ sym (made_here g (g.table i) i (ops i) refl))
-            | inr z ↦ ap (own i) (m.elsewhere n z.1) ∙ is.exact n i ∙ if_false (g.table i == n) (changes g i (s.ops i)) [] z.0 ∙ sym (if_false (g.table i == n) (changes g i (ops i)) [] z.0)
-          ])
-          | inr w ↦ m.there n j w.1 ∙ ap (made g n j) (sym (set_there i (a.op ∷ s.ops i) s.ops j w.1))
-        ];
-        kept = λ j. elim (eqb_tells i j) [
-          | inl w ↦ subst (λ q. IsKept g ok (u.history (g.table q)) q (ops q) (channels q)) w.1
-              (subst (λ o. IsKept g ok (u.history (g.table i)) i o (channels i)) (sym ops_here)
-              (subst (IsKept g ok (u.history (g.table i)) i (a.op ∷ s.ops i)) (sym (set_here i p.0 u.channels i refl)) (record { channel = d.channel; up = d.up; marks = d.marks })))
-          | inr w ↦ subst (λ o. IsKept g ok (u.history (g.table j)) j o (channels j)) (sym (set_there i (a.op ∷ s.ops i) s.ops j w.1))
-              (subst (IsKept g ok (u.history (g.table j)) j (s.ops j)) (sym (set_there i p.0 u.channels j w.1)) (m.kept j))
-        ];
+  if_open_step : (c : ℕ) (f : ℕ → List Op) (act : State → State) (s : State) → (is_open (s.channels c) ≡ true → IsStep f s (act s)) → IsRight f s → IsStep f s (if_open c act s)
+  if_open_step c f act s k r = elim (is_open (s.channels c)) as (λ b. is_open (s.channels c) ≡ b → IsStep f s (if b then act s else s)) [ true ↦ k | false ↦ λ _. record { right = r; on = on_same g ok s } ] refl
+
+  pub turn_step : (c : ℕ) (f : ℕ → List Op) (s : State) → IsRight f s → IsStep f s (turned g c s)
+  turn_step c f s r = if_open_step c f (λ u. pushed_out g c (taken_up g c u)) s (λ up.
+      let n = length (s.history (g.reads c)) - (s.channels c).position in
+      let u = takes g c n s in
+      let t = takes_step c n f s r in
+      let p = (pushes_step (length (u.channels c).marks) c f u (takes_open c n s ∙ up) t.right).0 in
+      record { right = p.right; on = on_then g ok s u (pushed_out g c u) t.on p.on }) r
+
+  pub turns_step : (n : ℕ) (f : ℕ → List Op) (s : State) → IsRight f s → IsStep f s (turns_to g n s)
+  turns_step zero f s r = record { right = r; on = on_same g ok s }
+  turns_step (suc n) f s r = let u = turns_to g n s in let a = turns_step n f s r in let b = turn_step n f u a.right in record { right = b.right; on = on_then g ok s u (turned g n u) a.on b.on }
+
+  pub rounds_step : (n : ℕ) (f : ℕ → List Op) (s : State) → IsRight f s → IsStep f s (times n (round g) s)
+  rounds_step zero f s r = record { right = r; on = on_same g ok s }
+  rounds_step (suc n) f s r = let u = times n (round g) s in let a = rounds_step n f s r in let b = turns_step g.channels f u a.right in record { right = b.right; on = on_then g ok s u (round g u) a.on b.on }
+
+  -- ---- operations
+
+  done_keeps : (h : List Change) (c : ℕ) (op : Op) (ops : List Op) (m : Signal) (ch : Channel) → (g.gives (g.owner c) ops op).signal ≡ m → IsDone g ok h c op ops m ch → IsKept g ok h c (op ∷ ops) ch
+  done_keeps h c op ops m ch e d = let i = subst (λ n. IsDone g ok h c op ops n ch) (sym e) d in record { channel = i.channel; up = i.up; marks = i.marks }
+
+  some_none : {A : Type 0} (o : Option A) → is_some o ≡ true → o ≢ None
+  some_none None e = λ _. let bad : false ≡ true = e in absurd (no (sym bad))
+  some_none (Some x) e = λ q. none_some (sym q)
+
+  mapped_some : (i : ℕ) (o : Option Attrs) → is_some o ≡ true → option_map (g.route i) o ≢ None
+  mapped_some i None e = λ _. absurd (no (sym e))
+  mapped_some i (Some x) e = λ q. none_some (sym q)
+
+  -- one channel, with the operation before it still to be counted
+  pub does_step : (c : ℕ) (op : Op) (ops : List Op) (m : Signal) (f f2 : ℕ → List Op) (s t : State) → f c ≡ ops → f2 c ≡ op ∷ ops → ((e : ℕ) → c ≢ e → f2 e ≡ f e)
+      → (g.gives (g.owner c) ops op).signal ≡ m → Fits m (is_up g (g.owner c) ops) → (g.target c ≡ None → own (g.owner c) (s.history (g.reads c)) ≡ changes g (g.owner c) (op ∷ ops))
+      → Obeys m g c s t → IsRight f s → IsStep f2 s t
+  does_step c op ops Stay f f2 s t e e2 same em fit own_is d r =
+      let k = subst (λ o. IsKept g ok (s.history (g.reads c)) c o (s.channels c)) e (r.keeps c) in
+      subst (IsStep f2 s) (sym d) (record {
+        right = record {
+          exact = r.exact;
+          keeps = λ j. elim (eqb_tells c j) [
+            | inl w ↦ subst (λ q. IsKept g ok (s.history (g.reads q)) q (f2 q) (s.channels q)) w.1 (subst (λ o. IsKept g ok (s.history (g.reads c)) c o (s.channels c)) (sym e2)
+                (done_keeps (s.history (g.reads c)) c op ops Stay (s.channels c) em (record { channel = k.channel; up = k.up; marks = k.marks })))
+            | inr w ↦ subst (λ o. IsKept g ok (s.history (g.reads j)) j o (s.channels j)) (sym (same j w.1)) (r.keeps j)
+          ];
+        };
+        on = on_same g ok s;
       })
+  does_step c op ops Rise f f2 s t e e2 same em fit own_is d r =
+      let h = s.history (g.reads c) in
+      let ch = s.channels c in
+      let k = subst (λ o. IsKept g ok h c o ch) e (r.keeps c) in
+      let new = fed d.1.0 false (length h) (opened (length h) ch) in
+      subst (IsStep f2 s) (sym (d.2 ∙ ap (λ x. with_channel c x s) d.1.2)) (record {
+        right = quiet_step c (op ∷ ops) f f2 new s refl (done_keeps h c op ops Rise new em (rise_keeps g ok h c op ops ch d.1.0 own_is fit d.1.1 k)) e2 same r;
+        on = record { grew = λ n. ([], refl); ops = refl; replies = refl };
+      })
+  does_step c op ops Renew f f2 s t e e2 same em fit own_is d r =
+      let h = s.history (g.reads c) in
+      let ch = s.channels c in
+      let k = subst (λ o. IsKept g ok h c o ch) e (r.keeps c) in
+      let new = fed d.1.0 true (length h) (renewed ch) in
+      subst (IsStep f2 s) (sym (d.2 ∙ ap (λ x. with_channel c x s) d.1.2)) (record {
+        right = quiet_step c (op ∷ ops) f f2 new s refl (done_keeps h c op ops Renew new em (renew_keeps g ok h c op ops ch d.1.0 fit d.1.1 k)) e2 same r;
+        on = record { grew = λ n. ([], refl); ops = refl; replies = refl };
+      })
+  does_step c op ops Fall f f2 s t e e2 same em fit own_is d r =
+      let h = s.history (g.reads c) in
+      let ch = s.channels c in
+      let ks = standing_keys ch.log in
+      let k = subst (λ o. IsKept g ok h c o ch) e (r.keeps c) in
+      let k2 = done_keeps h c op ops Fall (closed ch) em (fall_keeps g ok h c op ops ch fit k) in
+      subst (IsStep f2 s) (sym d) (elim (g.target c) as (λ q. g.target c ≡ q → IsStep f2 s (with_channel c (closed ((left_by g q ks s).channels c)) (left_by g q ks s))) [
+        | None ↦ λ z. record {
+            right = record {
+              exact = record { real = r.exact.real; exact = r.exact.exact; no_others = r.exact.no_others;
+                entered = λ x n td. r.exact.entered x n td ∙ sym (ap (enters g) (log_there c x (closed ch) s (λ cd. none_some (sym z ∙ ap g.target cd ∙ td)))) };
+              keeps = one_keeps c (op ∷ ops) f2 (closed ch) s k2 (λ j other. subst (λ o. IsKept g ok (s.history (g.reads j)) j o (s.channels j)) (sym (same j other)) (r.keeps j)) e2;
+            };
+            on = record { grew = λ n. ([], refl); ops = refl; replies = refl };
+          }
+        | Some n ↦ λ z.
+            let u = flushed g n ks s in
+            let m = more_flushed g ok n ks s in
+            let on = more_on g ok n (withdrawn ks []) s u m in
+            let pipe = is_target g c n z in
+            let follows = k.channel.follows in
+            let pass : (q : Key) → holds q ks ≡ true → passes g c q.num ≡ true = λ q i. standing_passes g c h ch.log q pipe follows (sym (standing_told q ch.log) ∙ i) in
+            let real : AreReal (withdrawn ks [] ++ s.history n) = subst AreReal (withdrawn_is ks (s.history n)) (real_withdrawn ks (s.history n) (once_standing ch.log)
+                (λ q i none. mapped_some q.num (value_of (account q ch.log)) (sym (standing_told q ch.log) ∙ i)
+                    (sym (content_those (passes g c) q.net q.num (s.history n) (pass q i) ∙ ap (λ l. content_of l q.net q.num) (r.exact.entered c n z) ∙ stands_entered g (g.value c) (course_of g c h) ch.log follows q) ∙ none))
+                (r.exact.real n)) in
+            subst (λ x. IsStep f2 s (with_channel c (closed x) u)) (sym (m.same c (ok.apart c n z))) (record {
+              right = enter_step c n (withdrawn ks []) (op ∷ ops) f f2 (closed ch) s u z m (all_withdrawn (passes g c) ks [] pass tt) real (withdrawn_is ks (enters g ch.log)) k2 e2 same r;
+              on = record { grew = on.grew; ops = on.ops; replies = on.replies };
+            })
+      ] refl)
+
+  -- a channel in no list of its protocol's
+  idle_keeps : (h : List Change) (c : ℕ) (op : Op) (ops : List Op) (ch : Channel) → ((o : List Op) → is_up g (g.owner c) o ≡ false) → IsKept g ok h c ops ch → IsKept g ok h c (op ∷ ops) ch
+  idle_keeps h c op ops ch never k =
+      let m = (g.gives (g.owner c) ops op).signal in
+      let fit = ok.fits (g.owner c) ops op in
+      elim m as (λ q. m ≡ q → IsKept g ok h c (op ∷ ops) ch) [
+        | Stay ↦ λ e. done_keeps h c op ops Stay ch e (record { channel = k.channel; up = k.up; marks = k.marks })
+        | Rise ↦ λ e. no (sym (ap (λ q. signalled q (is_up g (g.owner c) ops)) e) ∙ never (op ∷ ops))
+        | Fall ↦ λ e. no (sym (subst (λ q. Fits q (is_up g (g.owner c) ops)) e fit) ∙ never ops)
+        | Renew ↦ λ e. no (sym (subst (λ q. Fits q (is_up g (g.owner c) ops)) e fit) ∙ never ops)
+      ] refl
+
+  -- some channels are still to be told of the last operation
+  abbrev pub midway : List ℕ → List Op → (ℕ → List Op) → ℕ → List Op
+  midway cs ops f c = if among c cs then ops else f c
+
+  pub does_all_step : (i : ℕ) (op : Op) (ops : List Op) (m : Signal) (cs : List ℕ) (f : ℕ → List Op) (s t : State) → ((c : ℕ) → f c ≡ given s (g.owner c)) → given s i ≡ op ∷ ops → (g.gives i ops op).signal ≡ m → Fits m (is_up g i ops)
+      → ((c : ℕ) → among c cs ≡ true → g.owner c ≡ i) → AreApart cs → AllObey m g cs s t → IsRight (midway cs ops f) s → IsStep f s t
+  does_all_step i op ops m [] f s t ef eo em fit own_of apart d r = subst (IsStep f s) (sym d) (record { right = r; on = on_same g ok s })
+  does_all_step i op ops m (c ∷ cs) f s t ef eo em fit own_of apart d r =
+      let u = d.0 in
+      let here : among c (c ∷ cs) ≡ true = ap (λ b. b || among c cs) (eqb_same c) in
+      let ow : g.owner c ≡ i = own_of c here in
+      let fc : f c ≡ op ∷ ops = ef c ∙ ap (given s) ow ∙ eo in
+      let step = does_step c op ops m (midway (c ∷ cs) ops f) (midway cs ops f) s u (if_true (among c (c ∷ cs)) ops (f c) here) (if_false (among c cs) ops (f c) apart.0 ∙ fc)
+          (λ e other. ap (λ b. if b || among e cs then ops else f e) (sym (eqb_other c e other)))
+          (subst (λ q. (g.gives q ops op).signal ≡ m) (sym ow) em) (subst (λ q. Fits m (is_up g q ops)) (sym ow) fit)
+          (λ none. ap (λ n. own (g.owner c) (s.history n)) (ok.reads_own c none) ∙ r.exact.exact (g.owner c) ∙ ap (changes g (g.owner c)) (ap (given s) ow ∙ eo)) d.1 r in
+      let rest = does_all_step i op ops m cs f u t (λ e. ef e ∙ ap (λ (o : ℕ → List Turn). ops_of (o (g.owner e))) (sym step.on.ops)) (ap (λ (o : ℕ → List Turn). ops_of (o i)) step.on.ops ∙ eo) em fit (λ e a. own_of e (or_right (c == e) (among e cs) a)) apart.1 d.2 step.right in
+      record { right = rest.right; on = on_then g ok s u t step.on rest.on } where
+        eqb_same : (n : ℕ) → (n == n) ≡ true
+        eqb_same n = elim (eqb_tells n n) [ inl w ↦ w.0 | inr w ↦ absurd (w.1 refl) ]
+
+        eqb_other : (a b : ℕ) → a ≢ b → (a == b) ≡ false
+        eqb_other a b other = elim (eqb_tells a b) [ inl w ↦ absurd (other w.1) | inr w ↦ w.0 ]
+
+        or_right : (a b : Bool) → b ≡ true → (a || b) ≡ true
+        or_right true b e = refl
+        or_right false b e = e
+
+  -- what an operation does
+  pub record IsActed (a : Act) (s t : State) : Type 0 where
+    pub state : IsState t
+    pub grew : (n : ℕ) → (cs : List Change) × (t.history n ≡ cs ++ s.history n)
+    pub ops : t.ops ≡ set a.protocol (turn_of a ∷ s.ops a.protocol) s.ops
+    pub replies : t.replies ≡ s.replies
+
+  pub act_step : (a : Act) (s t : State) → Applies g a s t → IsState s → IsActed a s t
+  act_step a s t p is =
+      let i = a.protocol in
+      let ops = given s i in
+      let turn = turn_of a in
+      let effect = g.gives i ops a.op in
+      let u = appended g (g.table i) effect.changes s in
+      let v = with_turn i turn u in
+      let m = more_appended g ok (g.table i) effect.changes s in
+      let vo : v.ops ≡ set i (turn ∷ s.ops i) s.ops = ap (λ (o : ℕ → List Turn). set i (turn ∷ o i) o) m.ops in
+      let vi : given v i ≡ a.op ∷ ops = ap (λ (o : ℕ → List Turn). ops_of (o i)) vo ∙ ap ops_of (set_here i (turn ∷ s.ops i) s.ops i refl) in
+      let vj : (j : ℕ) → i ≢ j → given v j ≡ given s j = λ j other. ap (λ (o : ℕ → List Turn). ops_of (o j)) vo ∙ ap ops_of (set_there i (turn ∷ s.ops i) s.ops j other) in
+      let x = exact_own g ok i effect.changes s.history u.history (given s) (given v) (logs_of s) (all_first i effect.changes (changes g i ops) (ok.own i (a.op ∷ ops))) (ok.real i (a.op ∷ ops)) (ap (changes g i) vi) vj m.here m.there is.exact in
+      let k = m.keeps (owned s) is.keeps in
+      let r : IsRight (midway (g.belong i) ops (owned v)) v = record {
+        exact = exact_logs g ok u.history (given v) (logs_of s) (logs_of v) (λ d. ap (enters g) (m.logs d)) x;
+        keeps = λ c. let Is = λ (o : List Op). IsKept g ok (u.history (g.reads c)) c o (u.channels c) in
+            elim (among c (g.belong i)) as (λ b. among c (g.belong i) ≡ b → Is (if b then ops else owned v c)) [
+              | true ↦ λ e. subst Is (ap (given s) (ok.belongs i c e)) (k c)
+              | false ↦ λ e. elim (eqb_tells i (g.owner c)) [
+                | inl w ↦ subst Is (sym (ap (given v) (sym w.1) ∙ vi ∙ ap (λ o. a.op ∷ o) (ap (given s) w.1))) (idle_keeps (u.history (g.reads c)) c a.op (given s (g.owner c)) (u.channels c) (ok.all c (subst (λ q. among c (g.belong q) ≡ false) w.1 e)) (k c))
+                | inr w ↦ subst Is (sym (vj (g.owner c) w.1)) (k c)
+              ]
+            ] refl;
+      } in
+      let d = does_all_step i a.op ops effect.signal (g.belong i) (owned v) v t (λ c. refl) vi refl (ok.fits i ops a.op) (λ c e. ok.belongs i c e) (ok.once i) p r in
+      let grew = more_on g ok (g.table i) effect.changes s u m in
+      record {
+        state = subst (λ (o : ℕ → List Turn). IsRight (λ c. ops_of (o (g.owner c))) t) (sym d.on.ops) d.right;
+        grew = λ n. let x = grew.grew n in let y = d.on.grew n in (y.0 ++ x.0, y.1 ∙ ap (λ l. y.0 ++ l) x.1 ∙ sym (append_assoc y.0 x.0 (s.history n)));
+        ops = d.on.ops ∙ vo;
+        replies = d.on.replies ∙ m.replies;
+      }
 
   pub begins_keeps : (starts : List Act) (s t : State) → Begins g starts s t → IsState s → IsState t
   begins_keeps [] s t p is = subst IsState (sym p) is
-  begins_keeps (a ∷ earlier) s t p is = apply_keeps a p.0 t p.2 (begins_keeps earlier s p.0 p.1 is)
+  begins_keeps (a ∷ earlier) s t p is = (act_step a p.0 t p.2 (begins_keeps earlier s p.0 p.1 is)).state
 
-  -- one channel is changed by what keeps it
-  one_keeps : (i : ℕ) (new : Channel) (s : State) → IsKept g ok (s.history (g.table i)) i (s.ops i) new → IsState s → IsState (record s { channels = set i new s.channels })
-  one_keeps i new s k is = record {
-    real = is.real;
-    exact = is.exact;
-    kept = λ j. elim (eqb_tells i j) [
-      | inl w ↦ subst (λ q. IsKept g ok (s.history (g.table q)) q (s.ops q) (set i new s.channels q)) w.1 (subst (IsKept g ok (s.history (g.table i)) i (s.ops i)) (sym (set_here i new s.channels i refl)) k)
-      | inr w ↦ subst (IsKept g ok (s.history (g.table j)) j (s.ops j)) (sym (set_there i new s.channels j w.1)) (is.kept j)
-    ];
-  }
+  -- a step that left_by the operations
+  state_of : (s t : State) → IsStep (owned s) s t → IsState t
+  state_of s t d = subst (λ (o : ℕ → List Turn). IsRight (λ c. ops_of (o (g.owner c))) t) (sym d.on.ops) d.right
 
-  takes_keep : (h : List Change) (i n : ℕ) (ops : List Op) (ch : Channel) → IsKept g ok h i ops ch → IsKept g ok h i ops (times n (take_one h) ch)
-  takes_keep h i n ops ch k = times_keeps (IsKept g ok h i ops) (take_one h) (take_keeps g ok h i ops) n ch k
+  pub push_line : (n c : ℕ) (s : State) → IsState s → IsStep (owned s) s (if_open c (times n (push_at g c)) s)
+  push_line n c s is = if_open_step c (owned s) (times n (push_at g c)) s (λ up. (pushes_step n c (owned s) s up is).0) is
 
-  pushes_keep : (h : List Change) (i n : ℕ) (ops : List Op) (ch : Channel) → is_open ch ≡ true → IsKept g ok h i ops ch → IsKept g ok h i ops (times n (push_one g i h) ch)
-  pushes_keep h i n ops ch up k = (times_keeps (λ ch. (is_open ch ≡ true) × IsKept g ok h i ops ch) (push_one g i h) (λ x p. (open_pushed g ok h i x.marks x ∙ p.0, push_keeps g ok h i ops x p.0 p.1)) n ch (up, k)).1
-
-  if_open_keeps : (f : Channel → Channel) (h : List Change) (i : ℕ) (ops : List Op) (ch : Channel) → (is_open ch ≡ true → IsKept g ok h i ops (f ch)) → IsKept g ok h i ops ch → IsKept g ok h i ops (if_open f ch)
-  if_open_keeps f h i ops ch open_keeps k = elim (is_open ch) as (λ b. is_open ch ≡ b → IsKept g ok h i ops (if b then f ch else ch)) [ true ↦ open_keeps | false ↦ λ _. k ] refl
+  pub take_line : (n c : ℕ) (s : State) → IsState s → IsStep (owned s) s (if_open c (takes g c n) s)
+  take_line n c s is = if_open_step c (owned s) (takes g c n) s (λ up. takes_step c n (owned s) s is) is
 
   pub step_keeps : (line : Line) (s t : State) → Steps g line s t → IsState s → IsState t
-  step_keeps (Apply a) s t p is = apply_keeps a s t p is
-  step_keeps (Take n) s t p is = let i = n.channel in let h = s.history (g.table i) in let ch = s.channels i in
-      subst IsState (sym p) (one_keeps i (if_open (times n.number (take_one h)) ch) s (if_open_keeps (times n.number (take_one h)) h i (s.ops i) ch (λ _. takes_keep h i n.number (s.ops i) ch (is.kept i)) (is.kept i)) is)
-  step_keeps (Push n) s t p is = let i = n.channel in let h = s.history (g.table i) in let ch = s.channels i in
-      subst IsState (sym p) (one_keeps i (if_open (times n.number (push_one g i h)) ch) s (if_open_keeps (times n.number (push_one g i h)) h i (s.ops i) ch (λ up. pushes_keep h i n.number (s.ops i) ch up (is.kept i)) (is.kept i)) is)
-  step_keeps (Show a) s t p is = subst IsState (sym p) (record { real = is.real; exact = is.exact; kept = is.kept })
+  step_keeps (Apply a) s t p is = (act_step a s t p is).state
+  step_keeps (Take n) s t p is = subst IsState (sym p) (state_of s (if_open n.channel (takes g n.channel n.number) s) (take_line n.number n.channel s is))
+  step_keeps (Push n) s t p is = subst IsState (sym p) (state_of s (if_open n.channel (times n.number (push_at g n.channel)) s) (push_line n.number n.channel s is))
+  step_keeps (Show q) s t p is = subst IsState (sym p) (record { exact = is.exact; keeps = is.keeps })
 
   pub plays_keeps : (lines : List Line) (s t : State) → Plays g lines s t → IsState s → IsState t
   plays_keeps [] s t p is = subst IsState (sym p) is
   plays_keeps (line ∷ earlier) s t p is = step_keeps line p.0 t p.2 (plays_keeps earlier s p.0 p.1 is)
 
-  pub open_takes : (h : List Change) (n : ℕ) (ch : Channel) → is_open ch ≡ true → is_open (times n (take_one h) ch) ≡ true
-  open_takes h n ch up = times_keeps (λ ch. is_open ch ≡ true) (take_one h) (λ x e. ap (λ l. is_some (stretch l)) (taken_log g ok (entry x.position h) x) ∙ e) n ch up
-
-  pub sync_keeps : (s : State) → IsState s → IsState (synced g s)
-  sync_keeps s is = record {
-    real = is.real;
-    exact = is.exact;
-    kept = λ i. let h = s.history (g.table i) in let ch = s.channels i in if_open_keeps (λ c. pushed_out g i h (taken_up h c)) h i (s.ops i) ch
-        (λ up. let c = taken_up h ch in pushes_keep h i (length c.marks) (s.ops i) c (open_takes h (length h - ch.position) ch up) (takes_keep h i (length h - ch.position) (s.ops i) ch (is.kept i))) (is.kept i);
-  }
+  pub rounds_keep : (n : ℕ) (s : State) → IsState s → IsState (times n (round g) s)
+  rounds_keep n s is = state_of s (times n (round g) s) (rounds_step n (owned s) s is)

@@ -1,22 +1,25 @@
 -- The machine: what the lines of a script do, in their order, to tables, protocols and channels
--- (`Applies`, `Steps`, `Plays`). A history for each table, the operations of each protocol, a
--- channel for each protocol (one that has none is always down), and the replies.
--- Not modelled: memory, threads, a largest position, and pipes: a push changes no table, so one
--- round makes a sync.
--- From: BIRD User's Guide, "Remote control"; RFC 4271, section 9; scripts and phases are own.
+-- (`Applies`, `Steps`, `Plays`). A history for each table, the operations of each protocol with who
+-- asked for them, channels, and the replies.
+-- Not modelled: memory, threads and a largest position.
+-- From: BIRD User's Guide, "Remote control" and "Pipe"; RFC 4271, section 9; scripts and phases are
+-- own.
 -- Example: with a journal of one change each channel takes one before the next change comes.
-use Rattle.std.specs.Prelude.{◌≡◌, ◌==◌, ℕ, ◌-◌, List, [], ◌∷◌, length, if◌then◌else◌}
-use Rattle.import_core.specs.declared.operation.Op.{Op}
+use Rattle.std.specs.Prelude.{◌≡◌, ◌==◌, ℕ, Bool, true, false, List, [], ◌∷◌, length, Option, Some, None, if◌then◌else◌}
+use Rattle.attrs.specs.declared.attributes.Attrs.{Attrs}
 use Rattle.attrs.specs.declared.route.Change.{Change}
-use Rattle.core_machine.specs.Channels.{Channel, Obeys, if_open, push_one, take_one, times}
-use Rattle.core_machine.specs.Lines.{Act, Line, Apply, Take, Push, Show, Reply}
+use Rattle.export_core.specs.declared.log.Key.{Key}
+use Rattle.core_machine.specs.Channels.{Channel, IsFed, answer, closed, is_open, new_channel, opened, push_one, renewed, take_one, times, value_at}
+use Rattle.core_machine.specs.Enters.{change_to, standing_keys, withdrawal}
+use Rattle.core_machine.specs.Lines.{Act, Line, Apply, Take, Push, Show, Reply, Turn, ops_of, turn_of}
+use Rattle.core_machine.specs.Marks.{Marked}
 use Rattle.core_machine.specs.Room.{in_room}
-use Rattle.core_machine.specs.Rules.{Rules}
+use Rattle.core_machine.specs.Rules.{Rules, Signal, Stay, Rise, Fall, Renew}
 
 -- What a protocol has come to is what its operations say. All lists are read backwards.
 pub record State : Type 0 where
   pub history : ℕ → List Change
-  pub ops : ℕ → List Op
+  pub ops : ℕ → List Turn
   pub channels : ℕ → Channel
   pub replies : List Reply
 
@@ -24,37 +27,109 @@ pub record State : Type 0 where
 abbrev pub set : {X : Type 0} → ℕ → X → (ℕ → X) → ℕ → X
 set i x old j = if i == j then x else old j
 
--- Changes come to a table one by one. Before each one, room is made in the table.
+abbrev pub with_channel : ℕ → Channel → State → State
+with_channel c ch s = record s { channels = set c ch s.channels }
+
+abbrev pub with_turn : ℕ → Turn → State → State
+with_turn i t s = record s { ops = set i (t ∷ s.ops i) s.ops }
+
+-- a channel that is down does nothing
+abbrev pub if_open : ℕ → (State → State) → State → State
+if_open c f s = if is_open (s.channels c) then f s else s
+
+-- ---- changes come to a table one by one, and before each one room is made in the table
+
+abbrev pub added : Rules → ℕ → Change → State → State
+added rules table x s = record s {
+  history = set table (x ∷ s.history table) s.history;
+  channels = in_room rules table (s.history table) s.channels;
+}
+
 abbrev pub appended : Rules → ℕ → List Change → State → State
 appended rules table [] s = s
-appended rules table (c ∷ earlier) s =
-    let before = appended rules table earlier s in
-    record before {
-      history = set table (c ∷ before.history table) before.history;
-      channels = in_room rules table (before.history table) before.channels;
-    }
+appended rules table (x ∷ earlier) s = added rules table x (appended rules table earlier s)
 
--- An operation: its changes come, and then its protocol's channel obeys its signal.
+-- ---- takes and pushes
+
+abbrev pub takes : Rules → ℕ → ℕ → State → State
+takes rules c n s =
+    with_channel c (times n (take_one rules c (s.history (rules.reads c))) (s.channels c)) s
+
+-- the change that a direction of a pipe makes when it pushes a mark: none where it sends nothing,
+-- or only again what stands
+abbrev pub gain : Rules → Option Bool → Marked → Option Attrs → Option Change
+gain rules None m v = None
+gain rules (Some true) m v = None
+gain rules (Some false) m v = Some (change_to rules m.key v)
+
+abbrev pub gained : Rules → ℕ → List Change → List Marked → Channel → Option Change
+gained rules c history [] ch = None
+gained rules c history (m ∷ more) ch =
+    gain rules (answer rules c history m ch) m (value_at rules c history m)
+
+abbrev pub arrived : Rules → Option ℕ → Option Change → State → State
+arrived rules None change s = s
+arrived rules (Some table) None s = s
+arrived rules (Some table) (Some x) s = added rules table x s
+
+-- A push: what a direction of a pipe sends comes to the table that it writes.
+abbrev pub push_at : Rules → ℕ → State → State
+push_at rules c s =
+    let history = s.history (rules.reads c) in
+    let ch = s.channels c in
+    with_channel c (push_one rules c history ch)
+    (arrived rules (rules.target c) (gained rules c history ch.marks ch) s)
+
+-- ---- signals
+
+-- the withdrawals of these keys come to a table, in their order
+abbrev pub flushed : Rules → ℕ → List Key → State → State
+flushed rules table [] s = s
+flushed rules table (k ∷ keys) s =
+    flushed rules table keys (added rules table (withdrawal k) s)
+
+-- they come to the table that a direction of a pipe writes
+abbrev pub left_by : Rules → Option ℕ → List Key → State → State
+left_by rules None keys s = s
+left_by rules (Some table) keys s = flushed rules table keys s
+
+abbrev pub Feeds : Rules → ℕ → Bool → Channel → State → State → Type 0
+Feeds rules c due ch s t =
+    (new : Channel) × IsFed rules c (s.history (rules.reads c)) due ch new
+    × (t ≡ with_channel c new s)
+
+-- What a signal does to a channel: a feed follows a rise, and after a refresh its marks are due. A
+-- direction of a pipe that goes down withdraws first what stands as sent.
+abbrev pub Obeys : Signal → Rules → ℕ → State → State → Type 0
+Obeys Stay rules c s t = t ≡ s
+Obeys Rise rules c s t =
+    Feeds rules c false (opened (length (s.history (rules.reads c))) (s.channels c)) s t
+Obeys Fall rules c s t =
+    let u = left_by rules (rules.target c) (standing_keys (s.channels c).log) s in
+    t ≡ with_channel c (closed (u.channels c)) u
+Obeys Renew rules c s t = Feeds rules c true (renewed (s.channels c)) s t
+
+-- and to some channels, one after another
+abbrev pub AllObey : Signal → Rules → List ℕ → State → State → Type 0
+AllObey signal rules [] s t = t ≡ s
+AllObey signal rules (c ∷ more) s t =
+    (between : State) × Obeys signal rules c s between × AllObey signal rules more between t
+
+-- An operation: its changes come, and then its protocol's channels obey its signal.
 abbrev pub Applies : Rules → Act → State → State → Type 0
 Applies rules a s t =
     let i = a.protocol in
-    let effect = rules.gives i (s.ops i) a.op in
-    let u = appended rules (rules.table i) effect.changes s in
-    (new : Channel) × Obeys effect.signal rules (u.history (rules.table i)) (u.channels i) new
-    × (t ≡ record u { ops = set i (a.op ∷ s.ops i) s.ops; channels = set i new u.channels })
+    let effect = rules.gives i (ops_of (s.ops i)) a.op in
+    AllObey effect.signal rules (rules.belong i)
+    (with_turn i (turn_of a) (appended rules (rules.table i) effect.changes s)) t
 
--- a channel is driven by hand
-abbrev pub with_channel : ℕ → (Channel → Channel) → State → State
-with_channel i f s = record s { channels = set i (if_open f (s.channels i)) s.channels }
+-- ---- lines
 
 -- what a line does
 abbrev pub Steps : Rules → Line → State → State → Type 0
 Steps rules (Apply a) s t = Applies rules a s t
-Steps rules (Take n) s t =
-    t ≡ with_channel n.channel (times n.number (take_one (s.history (rules.table n.channel)))) s
-Steps rules (Push n) s t =
-    t ≡ with_channel n.channel
-    (times n.number (push_one rules n.channel (s.history (rules.table n.channel)))) s
+Steps rules (Take n) s t = t ≡ if_open n.channel (takes rules n.channel n.number) s
+Steps rules (Push n) s t = t ≡ if_open n.channel (times n.number (push_at rules n.channel)) s
 Steps rules (Show q) s t =
     t ≡ record s {
       replies = record {
@@ -77,41 +152,11 @@ Begins rules [] s t = t ≡ s
 Begins rules (a ∷ earlier) s t =
     (between : State) × Begins rules earlier s between × Applies rules a between t
 
--- ---- a sync: each channel that is up takes to the head, and then pushes until nothing is marked
-
-abbrev pub taken_up : List Change → Channel → Channel
-taken_up history ch = times (length history - ch.position) (take_one history) ch
-
-abbrev pub pushed_out : Rules → ℕ → List Change → Channel → Channel
-pushed_out rules i history ch = times (length ch.marks) (push_one rules i history) ch
-
-abbrev pub round : Rules → ℕ → List Change → Channel → Channel
-round rules i history ch =
-    if_open (λ open_ch. pushed_out rules i history (taken_up history open_ch)) ch
-
-abbrev pub synced : Rules → State → State
-synced rules s =
-    record s { channels = λ i. round rules i (s.history (rules.table i)) (s.channels i) }
-
--- A phase begins where the one before it ended: operations that no actor asks for, the lines of the
--- script up to a `sync`, and the sync.
-abbrev pub IsPhase : Rules → List Act → List Line → State → State → Type 0
-IsPhase rules starts lines s t =
-    (b : State) × (u : State) × Begins rules starts (record s { replies = [] }) b
-    × Plays rules lines b u × (t ≡ synced rules u)
-
--- the state before the first phase
-abbrev pub start : State
-start = record {
+-- The state before the first phase. The directions of pipes are up.
+abbrev pub start : Rules → State
+start rules = record {
   history = λ table. [];
   ops = λ i. [];
-  channels = λ i. record { position = 0; floor = 0; marks = []; log = [] };
+  channels = λ c. if rules.first (rules.owner c) then opened 0 new_channel else new_channel;
   replies = [];
 }
-
--- A state that phases come to: of each the operations before its lines, and its lines. The newest
--- phase stands first.
-abbrev pub Comes : Rules → List (List Act × List Line) → State → Type 0
-Comes rules [] s = s ≡ start
-Comes rules (phase ∷ earlier) s =
-    (between : State) × Comes rules earlier between × IsPhase rules phase.0 phase.1 between s

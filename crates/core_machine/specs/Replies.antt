@@ -9,8 +9,8 @@ use Rattle.std.specs.Prelude.{◌≡◌, ◌==◌, ◌&&◌, ℕ, ◌≤◌, nat
 use Rattle.import_core.specs.declared.operation.Op.{Op}
 use Rattle.attrs.specs.declared.route.Change.{Change}
 use Rattle.core_machine.specs.Histories.{front, own}
-use Rattle.core_machine.specs.Lines.{Ask, Line, Apply, Take, Push, Show, Reply}
-use Rattle.core_machine.specs.Merges.{Turn, asked, ops_of, picked}
+use Rattle.core_machine.specs.Lines.{Ask, Line, Apply, Take, Push, Show, Reply, Turn, ops_of}
+use Rattle.core_machine.specs.Merges.{asked, picked}
 use Rattle.core_machine.specs.Rules.{Rules, changes}
 
 -- what an actor asks, and the lines before that

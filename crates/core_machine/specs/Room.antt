@@ -14,34 +14,36 @@ abbrev pub lags : Rules → List Change → Channel → Bool
 lags rules history ch = is_open ch && (length history - ch.position == rules.cells)
 
 -- it takes one change where it lags so
-abbrev pub roomed : Rules → List Change → Channel → Channel
-roomed rules history ch = if lags rules history ch then take_one history ch else ch
+abbrev pub roomed : Rules → ℕ → List Change → Channel → Channel
+roomed rules c history ch = if lags rules history ch then take_one rules c history ch else ch
 
 -- the channels once room is made in a table: each one over it that lags has taken one change
 abbrev pub in_room : Rules → ℕ → List Change → (ℕ → Channel) → ℕ → Channel
-in_room rules table history channels j =
-    if rules.table j == table then roomed rules history (channels j) else channels j
+in_room rules table history channels c =
+    if rules.reads c == table then roomed rules c history (channels c) else channels c
 
 -- the lowest-numbered channel over a table that lags
 pub record IsLowest
-    (rules : Rules) (table : ℕ) (history : List Change) (channels : ℕ → Channel) (i : ℕ)
+    (rules : Rules) (table : ℕ) (history : List Change) (channels : ℕ → Channel) (c : ℕ)
     : Type 0 where
-  pub reads : rules.table i ≡ table
-  pub lag : lags rules history (channels i) ≡ true
+  pub reads : rules.reads c ≡ table
+  pub lag : lags rules history (channels c) ≡ true
   pub lower :
-      (j : ℕ) → j < i → rules.table j ≡ table → lags rules history (channels j) ≡ false
+      (other : ℕ) → other < c → rules.reads other ≡ table
+      → lags rules history (channels other) ≡ false
 
 -- one channel takes one change
-abbrev pub helped : ℕ → List Change → (ℕ → Channel) → ℕ → Channel
-helped i history channels j = if i == j then take_one history (channels i) else channels j
+abbrev pub helped : Rules → ℕ → List Change → (ℕ → Channel) → ℕ → Channel
+helped rules c history channels other =
+    if c == other then take_one rules c history (channels c) else channels other
 
 -- The same step by step: so many times the lowest-numbered channel that lags takes one change, and
 -- then none lags.
 abbrev pub Makes :
     Rules → ℕ → List Change → ℕ → (ℕ → Channel) → (ℕ → Channel) → Type 0
 Makes rules table history zero channels after =
-    ((i : ℕ) → rules.table i ≡ table → lags rules history (channels i) ≡ false)
-    × ((j : ℕ) → after j ≡ channels j)
+    ((c : ℕ) → rules.reads c ≡ table → lags rules history (channels c) ≡ false)
+    × ((other : ℕ) → after other ≡ channels other)
 Makes rules table history (suc n) channels after =
-    (i : ℕ) × IsLowest rules table history channels i
-    × Makes rules table history n (helped i history channels) after
+    (c : ℕ) × IsLowest rules table history channels c
+    × Makes rules table history n (helped rules c history channels) after

@@ -1,8 +1,8 @@
 -- The ups, downs and refreshes of a channel's log are those that its protocol's operations signal,
--- in their order (`AreSignals`). Lists are read backwards.
+-- in their order, and before them a pipe's opening (`AreSignals`). Lists are read backwards.
 -- From: own.
 -- Example: behind `open` and `reload out` a log has `Up` and `Reload`.
-use Rattle.std.specs.Prelude.{◌≡◌, ℕ, List, [], ◌∷◌, ⊤}
+use Rattle.std.specs.Prelude.{◌≡◌, ℕ, List, [], ◌∷◌, Option, Some, None, if◌then◌else◌, ⊤}
 use Rattle.import_core.specs.declared.operation.Op.{Op}
 use Rattle.attrs.specs.declared.route.Change.{Change}
 use Rattle.export_core.specs.declared.log.LogItem.{LogItem}
@@ -23,33 +23,40 @@ pub record Notice : Type 0 where
   pub signal : Signal
   pub ops : List Op
 
--- one more, where the channel is told anything
+-- one more, where the channels are told anything
 abbrev pub with_signal : Signal → List Op → List Notice → List Notice
 with_signal Stay ops earlier = earlier
 with_signal Rise ops earlier = record { signal = Rise; ops = ops } ∷ earlier
 with_signal Fall ops earlier = record { signal = Fall; ops = ops } ∷ earlier
 with_signal Renew ops earlier = record { signal = Renew; ops = ops } ∷ earlier
 
--- the notices that a protocol's operations give its channel
+-- The notices that a protocol's operations give its channels. A pipe's directions come up before
+-- all.
 abbrev pub notices : Rules → ℕ → List Op → List Notice
-notices rules i [] = []
+notices rules i [] = if rules.first i then record { signal = Rise; ops = [] } ∷ [] else []
 notices rules i (op ∷ earlier) =
     with_signal (rules.gives i earlier op).signal (op ∷ earlier) (notices rules i earlier)
 
--- The item is the signal's. Where the channel comes up at a position, the protocol's own changes up
--- to there are those of its operations up to this one: the position is at or behind all of them,
--- and before all later ones.
+-- Where a channel comes up at a position behind some operations. One that writes no table: its
+-- protocol's own changes up to there are those of these operations, so the position is at or behind
+-- all of them, and before all later ones. A direction of a pipe opens at 0.
+abbrev pub IsPlace : Rules → List Change → ℕ → ℕ → List Op → Option ℕ → Type 0
+IsPlace rules history c h ops None =
+    own (rules.owner c) (front h history) ≡ changes rules (rules.owner c) ops
+IsPlace rules history c h ops (Some table) = ops ≡ [] → h ≡ 0
+
+-- The item is the notice's.
 abbrev pub IsSignalOf : Rules → List Change → ℕ → LogItem → Notice → Type 0
-IsSignalOf rules history i (Up h) s =
-    (s.signal ≡ Rise) × (own i (front h history) ≡ changes rules i s.ops)
-IsSignalOf rules history i Down s = s.signal ≡ Fall
-IsSignalOf rules history i Reload s = s.signal ≡ Renew
-IsSignalOf rules history i (Sent x) s = ⊥
+IsSignalOf rules history c (Up h) n =
+    (n.signal ≡ Rise) × IsPlace rules history c h n.ops (rules.target c)
+IsSignalOf rules history c Down n = n.signal ≡ Fall
+IsSignalOf rules history c Reload n = n.signal ≡ Renew
+IsSignalOf rules history c (Sent x) n = ⊥
 
 -- item by item
 abbrev pub AreSignals : Rules → List Change → ℕ → List LogItem → List Notice → Type 0
-AreSignals rules history i [] [] = ⊤
-AreSignals rules history i [] (s ∷ more) = ⊥
-AreSignals rules history i (x ∷ items) [] = ⊥
-AreSignals rules history i (x ∷ items) (s ∷ more) =
-    IsSignalOf rules history i x s × AreSignals rules history i items more
+AreSignals rules history c [] [] = ⊤
+AreSignals rules history c [] (n ∷ more) = ⊥
+AreSignals rules history c (x ∷ items) [] = ⊥
+AreSignals rules history c (x ∷ items) (n ∷ more) =
+    IsSignalOf rules history c x n × AreSignals rules history c items more
