@@ -31,16 +31,13 @@ use Rattle.import_core.specs.Import.{imported_route}
 use Rattle.import_core.specs.Imports.{Imports, Routes, is_up, route_at, with_route, without}
 use Rattle.import_core.specs.Operations.{also_refreshed, configured, done_in, enabled, fixed_route, opened, refreshed, started, up_with}
 use Rattle.import_core.proofs.Routes.{at_tells}
-use Rattle.core_setup.specs.Announced.{IsFrom, IsOfFamily, fixed_at}
+use Rattle.core_machine.specs.Histories.{AreFrom, IsFrom}
+use Rattle.core_setup.specs.Announced.{IsOfFamily, fixed_at, fixed_in}
 use Rattle.core_setup.specs.Differences.{difference_at, nets_of, same_route, with_net, with_nets}
-use Rattle.core_setup.specs.Protocols.{effect_after, effect_at, imports_after, protocol_at, rules_of}
-use Rattle.core_setup.specs.Setup.{IsSetup, Protocol, Setup}
-use Rattle.core_setup.proofs.Chained.{reverse_push}
-use Rattle.core_setup.proofs.SetupRules.{protocol_is}
-
-all_append : {X : Type 0} (P : X → Type 0) (xs ys : List X) → AllByRecursion P xs → AllByRecursion P ys → AllByRecursion P (xs ++ ys)
-all_append P [] ys a b = b
-all_append P (x ∷ xs) ys a b = (a.0, all_append P xs ys a.1 b)
+use Rattle.core_setup.specs.Protocols.{effect_after, effect_at, effect_in, imports_after, protocol_at, rules_of}
+use Rattle.core_setup.specs.Setup.{Body, FitsBody, IsPipe, IsSetup, IsSource, Protocol, Setup, Source}
+use Rattle.core_setup.proofs.Chained.{all_of, reverse_push}
+use Rattle.core_setup.proofs.Numbered.{all_append, protocol_is}
 
 pub all_reverse : {X : Type 0} (P : X → Type 0) (xs : List X) → AllByRecursion P xs → AllByRecursion P (reverse xs)
 all_reverse P [] a = tt
@@ -214,7 +211,7 @@ all_keys F (e ∷ es) a = (a.0, all_keys F es a.1)
 
 -- ---- a protocol
 
-module _ (p : Protocol) (P : Net → Route → Type 0) (filtered : (net : Net) (route : Route) (attrs : Attrs) → P net route → P net (record { src = route.src; attrs = attrs })) (fixed : AllByRecursion (λ (f : Fixed). P f.net (fixed_route p.spec f)) p.spec.fixed) where
+module _ (p : Source) (P : Net → Route → Type 0) (filtered : (net : Net) (route : Route) (attrs : Attrs) → P net route → P net (record { src = route.src; attrs = attrs })) (fixed : AllByRecursion (λ (f : Fixed). P f.net (fixed_route p.spec f)) p.spec.fixed) where
   imports_are : (ops : List Op) → AllByRecursion (Announces p.spec P) ops → Both P (imports_after p ops)
   imports_are [] a = (tt, tt)
   imports_are (op ∷ earlier) a =
@@ -225,7 +222,7 @@ module _ (p : Protocol) (P : Net → Route → Type 0) (filtered : (net : Net) (
 abbrev Tells : ImportSpec → Op → Type 0
 Tells spec op = Announces spec (λ net route. route.src.num ≡ spec.src.num) op
 
-its_source : (p : Protocol) (earlier : List Op) (op : Op) → AllByRecursion (IsFrom p.spec.src.num) (effect_after p earlier op).changes
+its_source : (p : Source) (earlier : List Op) (op : Op) → AllByRecursion (IsFrom p.spec.src.num) (effect_after p earlier op).changes
 its_source p earlier op =
     let num = p.spec.src.num in
     let P : Net → Route → Type 0 = λ net route. route.src.num ≡ num in
@@ -244,17 +241,30 @@ its_source p earlier op =
     announced : (ops : List Op) → AllByRecursion (Tells p.spec) ops
     announced ops = all_always (Tells p.spec) one ops
 
+-- all changes of operations
+all_from : (num : ℕ) (xs : List Change) → AllByRecursion (IsFrom num) xs → (ys : List Change) → AreFrom num ys → AreFrom num (xs ++ ys)
+all_from num [] a ys b = b
+all_from num (x ∷ xs) a ys b = (a.0, all_from num xs a.1 ys b)
+
+pub all_own : (p : Source) (ops : List Op) → AreFrom p.spec.src.num (all_of p ops)
+all_own p [] = tt
+all_own p (op ∷ earlier) = all_from p.spec.src.num (effect_after p earlier op).changes (its_source p earlier op) (all_of p earlier) (all_own p earlier)
+
 pub sources_are : (setup : Setup) (i : ℕ) (earlier : List Op) (op : Op) → IsSetup setup → AllByRecursion (IsFrom i) ((rules_of setup).gives i earlier op).changes
 sources_are setup i earlier op is = by (protocol_at setup i) refl where
+  in_body : (b : Body) → FitsBody setup.tables i b → AllByRecursion (IsFrom i) (effect_in b earlier op).changes
+  in_body (IsSource p) fits = subst (λ n. AllByRecursion (IsFrom n) (effect_after p earlier op).changes) fits.source (its_source p earlier op)
+  in_body (IsPipe p) fits = tt
+
   by : (o : Option Protocol) → protocol_at setup i ≡ o → AllByRecursion (IsFrom i) (effect_at o earlier op).changes
   by None e = tt
-  by (Some p) e = subst (λ n. AllByRecursion (IsFrom n) (effect_after p earlier op).changes) (protocol_is setup i p is e).source (its_source p earlier op)
+  by (Some p) e = in_body p.body (protocol_is setup i p is e)
 
 module _ (family : Family) where
   abbrev InFamily : Net → Route → Type 0
   InFamily net route = family_of net.addr ≡ family
 
-  its_family : (p : Protocol) → AllByRecursion (λ (f : Fixed). family_of f.net.addr ≡ family) p.spec.fixed → (earlier : List Op) (op : Op) → AllByRecursion (IsOfFamily family) (op ∷ earlier)
+  its_family : (p : Source) → AllByRecursion (λ (f : Fixed). family_of f.net.addr ≡ family) p.spec.fixed → (earlier : List Op) (op : Op) → AllByRecursion (IsOfFamily family) (op ∷ earlier)
       → AllByRecursion (λ (c : Change). family_of c.net.addr ≡ family) (effect_after p earlier op).changes
   its_family p fixed earlier op given =
       let before = (imports_after p earlier).accepted in
@@ -274,7 +284,12 @@ module _ (family : Family) where
       announced [] a = tt
       announced (op ∷ ops) a = (one op a.0, announced ops a.1)
 
+families_in : (b : Body) (family : Family) (earlier : List Op) (op : Op) → AllByRecursion (λ (f : Fixed). family_of f.net.addr ≡ family) (fixed_in b) → AllByRecursion (IsOfFamily family) (op ∷ earlier)
+    → AllByRecursion (λ (c : Change). family_of c.net.addr ≡ family) (effect_in b earlier op).changes
+families_in (IsSource p) family earlier op fixed given = its_family family p fixed earlier op given
+families_in (IsPipe p) family earlier op fixed given = tt
+
 pub families_are : (p : Option Protocol) (family : Family) (earlier : List Op) (op : Op) → AllByRecursion (λ (f : Fixed). family_of f.net.addr ≡ family) (fixed_at p) → AllByRecursion (IsOfFamily family) (op ∷ earlier)
     → AllByRecursion (λ (c : Change). family_of c.net.addr ≡ family) (effect_at p earlier op).changes
 families_are None family earlier op fixed given = tt
-families_are (Some p) family earlier op fixed given = its_family family p fixed earlier op given
+families_are (Some p) family earlier op fixed given = families_in p.body family earlier op fixed given

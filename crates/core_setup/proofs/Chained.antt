@@ -1,32 +1,27 @@
 -- What the operations of a protocol change, one after another: the definition of imports has the lists in the order of time,
 -- and the machine reads them backwards.
-use Rattle.std.proofs.Common.{◌≡◌, ℕ, List, [], ◌∷◌, ◌++◌, refl, sym, ◌∙◌, ap, subst, reverse}
-use Rattle.std.specs.List.{AllByRecursion}
+use Rattle.std.proofs.Common.{◌≡◌, ℕ, List, [], ◌∷◌, ◌++◌, None, refl, sym, ◌∙◌, ap, subst, reverse}
+use Rattle.std.specs.Prelude.{◌==◌}
 use Rattle.std.proofs.lemmas.List.{append-nil, append_assoc, reverse-append, reverse-reverse}
+use Rattle.std.proofs.lemmas.Bool.{cond-true}
+use Rattle.bits_ip.specs.Prefix.{Net}
 use Rattle.attrs.specs.declared.route.Change.{Change}
 use Rattle.import_core.specs.declared.import_spec.ImportSpec.{ImportSpec}
 use Rattle.import_core.specs.declared.operation.Op.{Op}
-use Rattle.import_core.specs.Changes.{AreChanges, IsDifference}
+use Rattle.import_core.specs.Changes.{AreChanges, IsDifference, routes_from}
 use Rattle.import_core.specs.Decisions.{Filter}
-use Rattle.import_core.specs.Imports.{Imports, nothing_yet}
+use Rattle.import_core.specs.Imports.{Imports, nothing_yet, route_at}
 use Rattle.import_core.specs.Operations.{after_from, done}
-use Rattle.import_core.proofs.Differences.{real_from_nothing}
-use Rattle.core_machine.specs.Histories.{AreOf, AreReal}
+use Rattle.import_core.proofs.Differences.{leave_from_nothing, real_from_nothing}
+use Rattle.core_machine.specs.Histories.{AreReal, content_of}
 use Rattle.core_setup.specs.Differences.{differences}
 use Rattle.core_setup.specs.Protocols.{effect_after, imports_after}
-use Rattle.core_setup.specs.Setup.{Protocol}
+use Rattle.core_setup.specs.Setup.{Source}
 use Rattle.core_setup.proofs.Differing.{differences_are}
-
-of_append : (num : ℕ) (xs ys : List Change) → AreOf num xs → AreOf num ys → AreOf num (xs ++ ys)
-of_append num [] ys first later = later
-of_append num (x ∷ xs) ys first later = (first.0, of_append num xs ys first.1 later)
+use Rattle.core_setup.proofs.Numbered.{itself_is}
 
 pub reverse_push : {A : Type 0} (x : A) (xs : List A) → reverse (x ∷ xs) ≡ reverse xs ++ x ∷ []
 reverse_push x xs = reverse-append (x ∷ []) xs
-
-of_reverse : (num : ℕ) (xs : List Change) → AllByRecursion (λ (c : Change). c.num ≡ num) xs → AreOf num (reverse xs)
-of_reverse num [] all = tt
-of_reverse num (x ∷ xs) all = subst (AreOf num) (sym (reverse_push x xs)) (of_append num (reverse xs) (x ∷ []) (of_reverse num xs all.1) (all.0, tt))
 
 module _ (spec : ImportSpec) (verdict : Filter) where
   -- one more operation at the end
@@ -46,7 +41,7 @@ module _ (spec : ImportSpec) (verdict : Filter) where
     changes_push ops op (done spec verdict o i).imports are.1 ds are.4 is,
   )
 
-module _ (p : Protocol) where
+module _ (p : Source) where
   -- the changes of all operations
   abbrev pub all_of : List Op → List Change
   all_of [] = []
@@ -78,9 +73,10 @@ module _ (p : Protocol) where
   pub all_real : (ops : List Op) → AreReal (all_of ops)
   all_real ops = real_from_nothing p.spec p.filter (reverse ops) (reverse (all_of ops)) (all_are ops)
 
-  pub all_own : (ops : List Op) → AreOf p.spec.src.num (all_of ops)
-  all_own [] = tt
-  all_own (op ∷ earlier) =
-      of_append p.spec.src.num (effect_after p earlier op).changes (all_of earlier)
-      (of_reverse p.spec.src.num _ (differences_are p.spec.src.num (imports_after p earlier).accepted (imports_after p (op ∷ earlier)).accepted).source)
-      (all_own earlier)
+  -- they leave what is accepted
+  pub all_leave : (ops : List Op) (net : Net) → content_of (all_of ops) net p.spec.src.num ≡ route_at net (imports_after p ops).accepted
+  all_leave ops net =
+      let num = p.spec.src.num in
+      leave_from_nothing p.spec p.filter (reverse ops) (reverse (all_of ops)) (all_are ops) net num
+      ∙ ap (λ (i : Imports). routes_from num i.accepted net num) (after_is ops)
+      ∙ cond-true (num == num) (route_at net (imports_after p ops).accepted) None (itself_is num)

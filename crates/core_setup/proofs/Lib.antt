@@ -1,9 +1,14 @@
 pub mod PairLemmas
 pub mod Differing
 pub mod Choosing
+pub mod Numbered
 pub mod Chained
+pub mod Ordered
 pub mod Signalled
-pub mod SetupRules
 pub mod Admitted
+pub mod SetupRules
+pub mod Passed
+pub mod WorkedPipes
+pub mod Standings
 pub mod Playing
 pub mod Determined

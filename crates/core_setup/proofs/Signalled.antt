@@ -1,4 +1,5 @@
--- Signals: the channel of a protocol of BGP is up exactly where its imports are, and a static protocol tells nothing.
+-- Signals: the channel of a protocol of BGP is up exactly where its imports are, a static protocol tells nothing, and a pipe
+-- what fits it.
 use Rattle.std.proofs.Common.{◌≡◌, ℕ, Bool, true, false, List, [], ◌∷◌, Option, Some, None, refl, sym, ◌∙◌, ap, subst}
 use Rattle.std.specs.Prelude.{◌||◌, fold, if◌then◌else◌}
 use Rattle.bits_ip.specs.Prefix.{Net}
@@ -20,8 +21,8 @@ use Rattle.import_core.specs.Import.{imported_route}
 use Rattle.import_core.specs.Imports.{Imports, Routes, is_up, with_route}
 use Rattle.import_core.specs.Operations.{also_refreshed, configured, done, done_in, enabled, opened, refreshed, started, up_with}
 use Rattle.core_machine.specs.Rules.{Fits, signalled}
-use Rattle.core_setup.specs.Protocols.{effect_after, imports_after, signal_of}
-use Rattle.core_setup.specs.Setup.{Protocol}
+use Rattle.core_setup.specs.Protocols.{effect_after, imports_after, pipe_signal, signal_of}
+use Rattle.core_setup.specs.Setup.{Source}
 
 no_bgp : {A : Type 0} → Static ≡ Bgp → A
 no_bgp e = cc
@@ -208,7 +209,7 @@ follows_from mark.Refresh up old new e h = e ∙ h.0 ∙ sym h.1
 fits_quiet : (m : Mark) (up : Bool) → m ≡ mark.Stay → Fits (signal_of m) up
 fits_quiet m up e = subst (λ (x : Mark). Fits (signal_of x) up) (sym e) tt
 
-module _ (p : Protocol) where
+module _ (p : Source) where
   -- whether the channel is up behind operations
   abbrev pub up_of : List Op → Bool
   up_of [] = false
@@ -235,3 +236,13 @@ module _ (p : Protocol) where
 
   pub signals_fit : (earlier : List Op) (op : Op) → Fits (effect_after p earlier op).signal (up_of earlier)
   signals_fit = by_kind p.spec.kind refl
+
+-- ---- a pipe
+
+pub pipe_fits : (up : Bool) (op : Op) → Fits (pipe_signal up op) up
+pipe_fits true Disable = refl
+pipe_fits false Enable = refl
+pipe_fits true ReloadIn = refl
+pipe_fits true ReloadOut = refl
+pipe_fits true Reload = refl
+pipe_fits up op = tt

@@ -1,23 +1,48 @@
-ghost use Rattle.std.specs.Prelude.{◌≡◌, ℕ, List, ◌∷◌, Option};
+//! What holds of all that is played.
+ghost use Rattle.std.specs.Prelude.{◌≡◌, ℕ, List, ◌∷◌, Option, Some, slice_get};
 ghost use Rattle.std.specs.List.{AllByRecursion};
+ghost use Rattle.attrs.specs.declared.route.Route.{Route};
 ghost use Rattle.bits_ip.specs.Address.{family_of};
 ghost use Rattle.bits_ip.specs.declared.address.Family.{Family};
+ghost use Rattle.export_core.specs.Passing.{value_by};
+ghost use Rattle.export_core.specs.declared.log.Key.{Key};
 ghost use Rattle.import_core.specs.Changes.{IsDifference};
 ghost use Rattle.import_core.specs.Imports.{AreInOrder, Routes};
 ghost use Rattle.import_core.specs.declared.operation.Op.{Op};
+ghost use Rattle.core_machine.specs.Histories.{IsFrom};
 ghost use Rattle.core_machine.specs.Lines.{Line};
+ghost use Rattle.core_machine.specs.Match.{IsSpecOf};
 ghost use Rattle.core_machine.specs.Rules.{IsRules};
 ghost use Rattle.report.specs.declared.phase.PhaseReport.{PhaseReport};
-ghost use Rattle.core_setup.specs.Announced.{IsFrom, IsOfFamily, fixed_at};
+ghost use Rattle.core_setup.specs.Announced.{IsOfFamily, fixed_at};
+ghost use Rattle.core_setup.specs.Channels.{Channel, channels};
 ghost use Rattle.core_setup.specs.Differences.{differences};
 ghost use Rattle.core_setup.specs.Plays.{IsLegalPlay, IsPlay};
-ghost use Rattle.core_setup.specs.Protocols.{effect_at, rules_of};
+ghost use Rattle.core_setup.specs.Protocols.{effect_at, exports_of, rules_of};
 ghost use Rattle.core_setup.specs.Setup.{IsSetup, Protocol, Setup};
+
+use core_machine::laws::{levels_give_ways, phases_are_legal, phases_come_to_one_state};
 
 /// Tables and protocols say rules of which the machine's laws hold.
 pub fn setups_are_as_asked()
     ensures { (setup : Setup) → IsSetup setup → IsRules (rules_of setup) }
-{}
+{
+    levels_give_ways();
+}
+
+/// The gate and the filter of a channel's exporter say what the rules say of the channel: whether
+/// it is a direction of a pipe, which sources it passes then, and what it sends of a route.
+pub fn exporters_go_by_the_rules()
+    ensures { (setup : Setup) (c : ℕ) (channel : Channel) → IsSetup setup
+        → slice_get (channels setup) c ≡ Some channel
+        → let exports = exports_of setup c channel in
+        IsSpecOf (rules_of setup) c exports.spec
+        × ((key : Key) (route : Route)
+        → value_by exports.spec exports.filter key route
+        ≡ (rules_of setup).value c key route) }
+{
+    levels_give_ways();
+}
 
 /// The differences are the changes that the definition of imports asks for.
 pub fn differences_are_the_changes()
@@ -30,14 +55,20 @@ pub fn plays_are_legal()
     ensures { (setup : Setup) (actors : List (List ℕ)) (scripts : List (List Line))
         (reports : List PhaseReport) → IsSetup setup → IsPlay setup actors scripts reports
         → IsLegalPlay setup actors scripts reports }
-{}
+{
+    levels_give_ways();
+    phases_are_legal();
+}
 
 /// Scripts come to one list of reports.
 pub fn reports_are_determined()
     ensures { (setup : Setup) (actors : List (List ℕ)) (scripts : List (List Line))
         (reports others : List PhaseReport) → IsSetup setup → IsPlay setup actors scripts reports
         → IsPlay setup actors scripts others → reports ≡ others }
-{}
+{
+    levels_give_ways();
+    phases_come_to_one_state();
+}
 
 /// A protocol changes its own routes alone, and each new route of its changes has its number.
 pub fn changes_tell_their_protocol()
