@@ -12,6 +12,7 @@ use Rattle.attrs.specs.declared.judge.Verdict.{Verdict}
 use Rattle.attrs.specs.declared.route.Change.{Change}
 use Rattle.attrs.specs.declared.route.Route.{Route}
 use Rattle.attrs.specs.declared.route.Src.{Src}
+use Rattle.export_core.specs.declared.floors.FeedState.TheVariants.{From}
 use Rattle.export_core.specs.declared.log.Key.{Key}
 use Rattle.export_core.specs.declared.log.LogItem.{LogItem}
 use Rattle.export_core.specs.declared.log.LogItem.TheVariants.{Sent}
@@ -137,8 +138,20 @@ module _ {J : Type 0} (verdict : J → Net → Route → Verdict) where
     pub reads : Reads held table
     pub is_up : is_open reads.ch ≡ up
 
-  -- a channel whose feed has begun
-  pub record HasBegun (held : Channel J) (table : Table) : Type 0 where
+  -- an exporter, over this table, which is up or isn't
+  pub record IsOver (e : Exporter J) (table : Table) (up : Bool) : Type 0 where
+    pub rules : Rules
+    pub c : ℕ
+    pub family : Family
+    pub history : List Change
+    pub ch : machine.Channel
+    pub rules_are : IsRules rules
+    pub is : IsTable rules family history table
+    pub is_up : is_open ch ≡ up
+    pub exporter : IsExporter verdict rules c (Some family) history e ch
+
+  -- one whose feed has begun
+  pub record HasBegun (e : Exporter J) (table : Table) : Type 0 where
     pub rules : Rules
     pub c : ℕ
     pub family : Family
@@ -147,5 +160,6 @@ module _ {J : Type 0} (verdict : J → Net → Route → Verdict) where
     pub ch : machine.Channel
     pub rules_are : IsRules rules
     pub is : IsTable rules family history table
-    pub family_is : held.exporter.spec.family ≡ family
-    pub begun : MatchesFed verdict rules c history due [] held.exporter ch
+    pub family_is : e.spec.family ≡ family
+    pub feed_is : e.feed ≡ From None
+    pub begun : MatchesFed verdict rules c history due [] e ch

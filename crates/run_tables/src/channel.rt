@@ -15,7 +15,7 @@ ghost use Rattle.export_core.specs.declared.log.LogItem.{LogItem as HeldItem};
 ghost use Rattle.export_core.specs.declared.log.Sending.{Sending as HeldSending};
 ghost use Rattle.export_core.specs.Calls.{ended};
 ghost use Rattle.export_core.specs.Standing.{is_open as is_log_open};
-ghost use Rattle.run_tables.specs.Channels.{AreSources, HasBegun, IsChannel, IsSomeChannel, Reads, ReadsUp, Tells, TellsPush, TellsStanding, Withdraws, if_up, left_of};
+ghost use Rattle.run_tables.specs.Channels.{AreSources, HasBegun, IsChannel, IsExporter, IsOver, IsSomeChannel, Reads, ReadsUp, Tells, TellsPush, TellsStanding, Withdraws, cursor_of, if_up, left_of};
 ghost use Rattle.run_tables.specs.Tables.{IsTable};
 ghost use Rattle.run_tables.specs.declared.table.Table.{Table as HeldTable};
 
@@ -77,13 +77,7 @@ impl<J: Judge> Channel<J> {
         let Some(position) = self.cursor else {
             return Ok(());
         };
-        match table.entry(position) {
-            Some(entry) => {
-                self.exporter.take(position + 1, entry)?;
-                self.cursor = Some(position + 1);
-            }
-            None => {}
-        }
+        self.cursor = Some(take_next(&mut self.exporter, position, table)?);
         Ok(())
     }
 
@@ -189,8 +183,7 @@ impl<J: Judge> Channel<J> {
             × IsFed rules c history false (opened (length history) ch) new
             × IsChannel J.verdict rules c (Some family) history self.new new) }
     {
-        self.exporter.up(table.head())?;
-        feed(&mut self.exporter, table)?;
+        open(&mut self.exporter, table)?;
         self.cursor = Some(table.head());
         Ok(())
     }
@@ -205,9 +198,7 @@ impl<J: Judge> Channel<J> {
             → (new : machine.Channel) × IsFed rules c history true (renewed ch) new
             × IsChannel J.verdict rules c (Some family) history self.new new) }
     {
-        self.exporter.refresh()?;
-        feed(&mut self.exporter, table)?;
-        Ok(())
+        refresh(&mut self.exporter, table)
     }
 
     /// Goes down, as a channel to a neighbour.
@@ -253,6 +244,61 @@ impl<J: Judge> Channel<J> {
             None => true,
         }
     }
+}
+
+/// Takes the next change of the table, where there is one, and answers how many have been taken.
+fn take_next<J: Judge>(
+    exporter: &mut Exporter<J>,
+    position: u64,
+    table: &Table,
+) -> Result<u64, OutOfMemory>
+    requires over { IsOver J.verdict exporter.old table.now true }
+    requires here { exporter.old.position ≡ position }
+    ensures { IfOk result (λ next. (rules : Rules) (c : ℕ) (family : Family)
+        (history : List HeldChange) (ch : machine.Channel) → IsTable rules family history table.now
+        → is_open ch ≡ true → IsExporter J.verdict rules c (Some family) history exporter.old ch
+        → IsExporter J.verdict rules c (Some family) history exporter.new
+        (take_one rules c history ch)
+        × (Some next ≡ cursor_of (take_one rules c history ch))) }
+{
+    match table.entry(position) {
+        Some(entry) => {
+            exporter.take(position + 1, entry)?;
+            Ok(position + 1)
+        }
+        None => Ok(position),
+    }
+}
+
+/// Comes up at the table's head, and is fed.
+fn open<J: Judge>(exporter: &mut Exporter<J>, table: &Table) -> Result<(), OutOfMemory>
+    requires { IsOver J.verdict exporter.old table.now false }
+    ensures { OnOk result ((rules : Rules) (c : ℕ) (family : Family) (history : List HeldChange)
+        (ch : machine.Channel) → IsRules rules → IsTable rules family history table.now
+        → is_open ch ≡ false
+        → IsExporter J.verdict rules c (Some family) history exporter.old ch
+        → (new : machine.Channel)
+        × IsFed rules c history false (opened (length history) ch) new
+        × IsExporter J.verdict rules c (Some family) history exporter.new new) }
+{
+    exporter.up(table.head())?;
+    feed(exporter, table)?;
+    Ok(())
+}
+
+/// Is fed anew.
+fn refresh<J: Judge>(exporter: &mut Exporter<J>, table: &Table) -> Result<(), OutOfMemory>
+    requires { IsOver J.verdict exporter.old table.now true }
+    ensures { OnOk result ((rules : Rules) (c : ℕ) (family : Family) (history : List HeldChange)
+        (ch : machine.Channel) → IsRules rules → IsTable rules family history table.now
+        → is_open ch ≡ true
+        → IsExporter J.verdict rules c (Some family) history exporter.old ch
+        → (new : machine.Channel) × IsFed rules c history true (renewed ch) new
+        × IsExporter J.verdict rules c (Some family) history exporter.new new) }
+{
+    exporter.refresh()?;
+    feed(exporter, table)?;
+    Ok(())
 }
 
 /// Feeds an exporter, whose feed has begun, with the whole table.
@@ -337,7 +383,11 @@ fn withdraw_next<J: Judge>(exporter: &mut Exporter<J>) -> Result<bool, OutOfMemo
     ensures { IfOk result (λ more. Withdraws exporter.old exporter.new more) }
 {
     match exporter.flush_one(&mut LogOnly) {
-        Ok(pushed) => Ok(pushed == Pushed::Sent),
+        Ok(pushed) => match pushed {
+            Pushed::Sent => Ok(true),
+            Pushed::Quiet => Ok(true),
+            Pushed::Nothing => Ok(false),
+        },
         Err(_) => Err(OutOfMemory),
     }
 }

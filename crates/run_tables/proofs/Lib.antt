@@ -1,0 +1,6 @@
+pub mod Journals
+pub mod Runs
+pub mod Steps
+pub mod Kept
+pub mod Feeding
+pub mod Stretches
