@@ -174,13 +174,16 @@ module _ (g : Rules) (ok : IsRules g) where
     far p =
         let q = passed_way g n m.key.num (g.target n) refl p in
         let here : g.hops t m.key.num ≡ Some (n ∷ q.1) = subst (λ y. g.hops y m.key.num ≡ Some (n ∷ q.1)) (some_same (sym q.2 ∙ e)) q.3 in
-        let before = (ok.ways.chain t m.key.num n q.1 here).1 in
-        (n ∷ q.1, here, elim (cases_lt 0 r) [
-          | inl w ↦ let d = marks m.key (ap is_some (find_here m ms)) (omega (arith, w)) in
-              let same : d.2.0 ≡ q.1 = some_same (sym d.2.1 ∙ ap (g.hops (g.reads n)) (sym (d.1 (is_target g n t e))) ∙ before) in
-              omega (arith, d.2.2, ap length same)
-          | inr w ↦ omega (arith, w)
-        ])
+        let before = (ok.ways.chain t m.key.num n q.1 here).1 in (
+          n ∷ q.1,
+          here,
+          elim (cases_lt 0 r) [
+            | inl w ↦ let d = marks m.key (ap is_some (find_here m ms)) (omega (arith, w)) in
+                let same : d.2.0 ≡ q.1 = some_same (sym d.2.1 ∙ ap (g.hops (g.reads n)) (sym (d.1 (is_target g n t e))) ∙ before) in
+                omega (arith, d.2.2, ap length same)
+            | inr w ↦ omega (arith, w)
+          ],
+        )
 
     from : (o : Option Bool) → AllOf (passes g n) (some_list (gain g o m (value_at g n h m))) → gain g o m (value_at g n h m) ≡ Some x → IsFar t x.num (suc r)
     from None a is = absurd (none_some is)

@@ -107,7 +107,7 @@ pub real_withdrawn : (ks : List Key) (h : List Change) → IsOnce ks → ((k : K
 real_withdrawn [] h o all r = r
 real_withdrawn (k ∷ ks) h o all r = real_withdrawn ks (withdrawal k ∷ h) o.1
     (λ q e. let other : same_key k q ≡ false = elim (key_tells k q) [ inl w ↦ absurd (let bad : true ≡ false = sym e ∙ ap (λ y. holds y ks) (sym w.1) ∙ o.0 in cc) | inr w ↦ w.0 ] in
-      λ none. all q (or_true (same_key k q) (holds q ks) e) (sym (content_key (withdrawal k) h q.net q.num ∙ if_false (same_key k q) None (content_of h q.net q.num) other) ∙ none))
+    λ none. all q (or_true (same_key k q) (holds q ks) e) (sym (content_key (withdrawal k) h q.net q.num ∙ if_false (same_key k q) None (content_of h q.net q.num) other) ∙ none))
     (real_more (withdrawal k) h r (all k (ap (λ t. t || holds k ks) (same_key_itself k))))
 
 module _ (g : Rules) where

@@ -18,3 +18,7 @@ pub mod Making
 pub mod Lagging
 pub mod Matching
 pub mod Fed
+pub mod Levels
+pub mod ToldRows
+pub mod Beginnings
+pub mod SomeRules

@@ -174,7 +174,7 @@ module _ {J : Type 0} (verdict : J → Net → Route → Verdict) (g : Rules) (c
         let fresh : Mark = calls.mark_of e.spec pos read in
         let marked : (k : Key) → exporter.find k e'.marks ≡ (if same_key own k && test then Some (joined (exporter.find k e.marks) fresh) else exporter.find k e.marks)
         = λ k. t.marks k ∙ ap (λ q. if same_key q k && (nat_lt (reach_of e (key_of_entry e.spec read)) pos && exporter_keys.heeds e.spec read.num) then Some (joined (exporter.find k e.marks) fresh) else exporter.find k e.marks) ek
-            ∙ ap (λ b. if same_key own k && b then Some (joined (exporter.find k e.marks) fresh) else exporter.find k e.marks) tested in
+        ∙ ap (λ b. if same_key own k && b then Some (joined (exporter.find k e.marks) fresh) else exporter.find k e.marks) tested in
         let ordered : e'.marks.order ≡ (if test then calls.order_with own e.marks else e.marks.order)
         = t.order ∙ ap (λ b. if b then calls.order_with (key_of_entry e.spec read) e.marks else e.marks.order) tested ∙ ap (λ q. if test then calls.order_with q e.marks else e.marks.order) ek in
         elim test as (λ b. test ≡ b → MatchesRead verdict g c h e' (record ch { position = at; marks = (if b then put mark ch.marks else ch.marks) })) [
@@ -204,18 +204,18 @@ module _ {J : Type 0} (verdict : J → Net → Route → Verdict) (g : Rules) (c
                 feed = t.feed ∙ m.feed;
               }
           | false ↦ λ no_test. record {
-              within = moved_within (length h) ch at up (omega (arith, below)) m.within;
-              resembles = record {
-                spec = kept_spec e e' t.spec r.spec;
-                value = kept_value e e' t.spec t.judge r.value;
-                position = t.position ∙ here;
-                order = ordered ∙ ap (λ b. if b then calls.order_with own e.marks else e.marks.order) no_test ∙ r.order;
-                marks = λ k. marked k ∙ if_false (same_key own k && test) (Some (joined (exporter.find k e.marks) fresh)) (exporter.find k e.marks) (ap (λ b. same_key own k && b) no_test ∙ and_no (same_key own k)) ∙ r.marks k;
-                log = ap reverse t.log ∙ r.log;
-              };
-              read = reached;
-              feed = t.feed ∙ m.feed;
-            }
+            within = moved_within (length h) ch at up (omega (arith, below)) m.within;
+            resembles = record {
+              spec = kept_spec e e' t.spec r.spec;
+              value = kept_value e e' t.spec t.judge r.value;
+              position = t.position ∙ here;
+              order = ordered ∙ ap (λ b. if b then calls.order_with own e.marks else e.marks.order) no_test ∙ r.order;
+              marks = λ k. marked k ∙ if_false (same_key own k && test) (Some (joined (exporter.find k e.marks) fresh)) (exporter.find k e.marks) (ap (λ b. same_key own k && b) no_test ∙ and_no (same_key own k)) ∙ r.marks k;
+              log = ap reverse t.log ∙ r.log;
+            };
+            read = reached;
+            feed = t.feed ∙ m.feed;
+          }
         ] refl
 
     pub take_matches : (pos : ℕ) → is_open ch ≡ true → pos ≡ e.position + 1 → IsNextEntry g h ch read → Takes pos read e e' → Matches verdict g c h e ch → Matches verdict g c h e' (take_one g c h ch)

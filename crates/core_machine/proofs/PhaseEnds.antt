@@ -104,7 +104,7 @@ module _ (g : Rules) (ok : IsRules g) where
       marks = subst (AreSignals g [] c []) (sym (ap (λ (b : Bool). if b then opening ∷ [] else []) e)) tt;
     }
 
-  quiet_start : (s : State) → IsState g ok s → IsState g ok (record s { replies = [] })
+  pub quiet_start : (s : State) → IsState g ok s → IsState g ok (record s { replies = [] })
   quiet_start s is = record { exact = is.exact; keeps = is.keeps }
 
   -- the state before the sync

@@ -51,15 +51,27 @@ tell g s (suc n) = let r = tell g s n in let h = s.history (g.reads n) in let ch
     elim r.0 as (λ b. Told g s n b → (b : Bool) × Told g s (suc n) b) [
       | false ↦ λ t. (false, record { yes = λ e. no (sym e); no_ = λ e a. t.no_ refl a })
       | true ↦ λ t. elim (is_open ch) as (λ b. is_open ch ≡ b → (b : Bool) × Told g s (suc n) b) [
-        | false ↦ λ shut. (true, record { yes = λ _ c lt up. elim (eqb_tells c n) [
-            | inl w ↦ no (sym up ∙ ap (λ c. is_open (s.channels c)) w.1 ∙ shut)
-            | inr w ↦ t.yes refl c (elim (cases_lt c n) [ inl z ↦ z | inr z ↦ absurd (w.1 (omega (arith, lt, z))) ]) up
-          ]; no_ = λ e. no e })
+        | false ↦ λ shut. (
+          true,
+          record {
+            yes = λ _ c lt up. elim (eqb_tells c n) [
+              | inl w ↦ no (sym up ∙ ap (λ c. is_open (s.channels c)) w.1 ∙ shut)
+              | inr w ↦ t.yes refl c (elim (cases_lt c n) [ inl z ↦ z | inr z ↦ absurd (w.1 (omega (arith, lt, z))) ]) up
+            ];
+            no_ = λ e. no e;
+          },
+        )
         | true ↦ λ up. elim (rests h ch) as (λ b. rests h ch ≡ b → (b : Bool) × Told g s (suc n) b) [
-          | true ↦ λ e. (true, record { yes = λ _ c lt open_c. elim (eqb_tells c n) [
-              | inl w ↦ subst (λ c. IsSettled (s.history (g.reads c)) (s.channels c)) (sym w.1) (rests_yes h ch e)
-              | inr w ↦ t.yes refl c (elim (cases_lt c n) [ inl z ↦ z | inr z ↦ absurd (w.1 (omega (arith, lt, z))) ]) open_c
-            ]; no_ = λ q. no q })
+          | true ↦ λ e. (
+            true,
+            record {
+              yes = λ _ c lt open_c. elim (eqb_tells c n) [
+                | inl w ↦ subst (λ c. IsSettled (s.history (g.reads c)) (s.channels c)) (sym w.1) (rests_yes h ch e)
+                | inr w ↦ t.yes refl c (elim (cases_lt c n) [ inl z ↦ z | inr z ↦ absurd (w.1 (omega (arith, lt, z))) ]) open_c
+              ];
+              no_ = λ q. no q;
+            },
+          )
           | false ↦ λ e. (false, record { yes = λ q. no (sym q); no_ = λ _ a. rests_no h ch e (a n up) })
         ] refl
       ] refl
@@ -72,10 +84,16 @@ module _ (g : Rules) (ok : IsRules g) where
       let u = times n (round g) s in
       let r = tell g u g.channels in
       elim r.0 as (λ b. Told g u g.channels b → (rounds : ℕ) × HasRounds g s rounds) [
-        | true ↦ λ t. (n, record { end = λ c up. elim (cases_lt c g.channels) [
-            | inl w ↦ t.yes refl c w up
-            | inr w ↦ no (sym up ∙ ((rounds_keep g ok n s is).keeps c).up ∙ ok.no_more c w (given u (g.owner c)))
-          ]; each = before })
+        | true ↦ λ t. (
+          n,
+          record {
+            end = λ c up. elim (cases_lt c g.channels) [
+              | inl w ↦ t.yes refl c w up
+              | inr w ↦ no (sym up ∙ ((rounds_keep g ok n s is).keeps c).up ∙ ok.no_more c w (given u (g.owner c)))
+            ];
+            each = before;
+          },
+        )
         | false ↦ λ t. least left (suc n) s is (omega (arith, e)) (λ m lt. elim (cases_lt m n) [
           | inl w ↦ before m w
           | inr w ↦ subst (λ k. AreSettled g (times k (round g) s) → ⊥) (let same : n ≡ m = omega (arith, lt, w) in same) (t.no_ refl)

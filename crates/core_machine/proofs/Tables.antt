@@ -16,7 +16,7 @@ pub reals_more : (i : ℕ) (cs h : List Change) → AreFrom i cs → AreReal h �
 reals_more i [] h a r s = r
 reals_more i (c ∷ cs) h a r s = let z = real_less c (cs ++ own i h) s in real_more c (cs ++ h) (reals_more i cs h a.1 r z.0)
     (λ e. z.1 (sym (content_own c.net c.num (cs ++ h)
-      ∙ subst (λ n. content_of (own n (cs ++ h)) c.net c.num ≡ content_of (cs ++ own i h) c.net c.num) (sym a.0.change) (ap (λ l. content_of l c.net c.num) (those_more (λ num. num == i) cs h (own_all i cs a.1)))) ∙ e))
+    ∙ subst (λ n. content_of (own n (cs ++ h)) c.net c.num ≡ content_of (cs ++ own i h) c.net c.num) (sym a.0.change) (ap (λ l. content_of l c.net c.num) (those_more (λ num. num == i) cs h (own_all i cs a.1)))) ∙ e))
 
 all_not : (test : ℕ → Bool) (i : ℕ) (cs : List Change) → test i ≡ false → AreFrom i cs → AllOf (λ n. not (test n)) cs
 all_not test i [] e a = tt

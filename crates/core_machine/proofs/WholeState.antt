@@ -125,9 +125,11 @@ module _ (g : Rules) (ok : IsRules g) where
           | true ↦ λ f. (tt, r)
           | false ↦ λ f.
               let x : Sending = record { at = m.at; key = m.key; value = v; again = false } in
-              let p = sent_passes g d h ch.log x (is_target g d t td) f refl in
-              ((p, tt), real_more (change_to g m.key v) into r (λ same. f.1.changed refl (map_apart g ok m.key.num v (value_of (account m.key ch.log))
-                  (sym same ∙ content_those (passes g d) m.key.net m.key.num into p ∙ ap (λ l. content_of l m.key.net m.key.num) e ∙ stands_entered g (g.value d) (course_of g d h) ch.log f.0 m.key))))
+              let p = sent_passes g d h ch.log x (is_target g d t td) f refl in (
+                (p, tt),
+                real_more (change_to g m.key v) into r (λ same. f.1.changed refl (map_apart g ok m.key.num v (value_of (account m.key ch.log))
+                    (sym same ∙ content_those (passes g d) m.key.net m.key.num into p ∙ ap (λ l. content_of l m.key.net m.key.num) e ∙ stands_entered g (g.value d) (course_of g d h) ch.log f.0 m.key))),
+              )
         ]
       ] f
 
@@ -140,13 +142,17 @@ module _ (g : Rules) (ok : IsRules g) where
       let o = gained g c h ch.marks ch in
       elim (g.target c) as (λ q. g.target c ≡ q → IsStep f s (with_channel c new (arrived g q o s))) [
         | None ↦ λ e. record {
-            right = record {
-              exact = record { real = r.exact.real; exact = r.exact.exact; no_others = r.exact.no_others;
-                entered = λ d t td. r.exact.entered d t td ∙ sym (ap (enters g) (log_there c d new s (λ cd. none_some (sym e ∙ ap g.target cd ∙ td)))) };
-              keeps = one_keeps c (f c) f new s k (λ j other. r.keeps j) refl;
+          right = record {
+            exact = record {
+              real = r.exact.real;
+              exact = r.exact.exact;
+              no_others = r.exact.no_others;
+              entered = λ d t td. r.exact.entered d t td ∙ sym (ap (enters g) (log_there c d new s (λ cd. none_some (sym e ∙ ap g.target cd ∙ td))));
             };
-            on = record { grew = λ n. ([], refl); ops = refl; replies = refl };
-          }
+            keeps = one_keeps c (f c) f new s k (λ j other. r.keeps j) refl;
+          };
+          on = record { grew = λ n. ([], refl); ops = refl; replies = refl };
+        }
         | Some t ↦ λ e.
             let fits = gained_fits c t h (s.history t) ch.marks ch e k.channel.follows (r.exact.entered c t e) (r.exact.real t) in
             let m = more_arrived g ok t o s in
@@ -269,13 +275,17 @@ module _ (g : Rules) (ok : IsRules g) where
       let k2 = done_keeps h c op ops Fall (closed ch) em (fall_keeps g ok h c op ops ch fit k) in
       subst (IsStep f2 s) (sym d) (elim (g.target c) as (λ q. g.target c ≡ q → IsStep f2 s (with_channel c (closed ((left_by g q ks s).channels c)) (left_by g q ks s))) [
         | None ↦ λ z. record {
-            right = record {
-              exact = record { real = r.exact.real; exact = r.exact.exact; no_others = r.exact.no_others;
-                entered = λ x n td. r.exact.entered x n td ∙ sym (ap (enters g) (log_there c x (closed ch) s (λ cd. none_some (sym z ∙ ap g.target cd ∙ td)))) };
-              keeps = one_keeps c (op ∷ ops) f2 (closed ch) s k2 (λ j other. subst (λ o. IsKept g ok (s.history (g.reads j)) j o (s.channels j)) (sym (same j other)) (r.keeps j)) e2;
+          right = record {
+            exact = record {
+              real = r.exact.real;
+              exact = r.exact.exact;
+              no_others = r.exact.no_others;
+              entered = λ x n td. r.exact.entered x n td ∙ sym (ap (enters g) (log_there c x (closed ch) s (λ cd. none_some (sym z ∙ ap g.target cd ∙ td))));
             };
-            on = record { grew = λ n. ([], refl); ops = refl; replies = refl };
-          }
+            keeps = one_keeps c (op ∷ ops) f2 (closed ch) s k2 (λ j other. subst (λ o. IsKept g ok (s.history (g.reads j)) j o (s.channels j)) (sym (same j other)) (r.keeps j)) e2;
+          };
+          on = record { grew = λ n. ([], refl); ops = refl; replies = refl };
+        }
         | Some n ↦ λ z.
             let u = flushed g n ks s in
             let m = more_flushed g ok n ks s in
@@ -284,9 +294,9 @@ module _ (g : Rules) (ok : IsRules g) where
             let follows = k.channel.follows in
             let pass : (q : Key) → holds q ks ≡ true → passes g c q.num ≡ true = λ q i. standing_passes g c h ch.log q pipe follows (sym (standing_told q ch.log) ∙ i) in
             let real : AreReal (withdrawn ks [] ++ s.history n) = subst AreReal (withdrawn_is ks (s.history n)) (real_withdrawn ks (s.history n) (once_standing ch.log)
-                (λ q i none. mapped_some q.num (value_of (account q ch.log)) (sym (standing_told q ch.log) ∙ i)
-                    (sym (content_those (passes g c) q.net q.num (s.history n) (pass q i) ∙ ap (λ l. content_of l q.net q.num) (r.exact.entered c n z) ∙ stands_entered g (g.value c) (course_of g c h) ch.log follows q) ∙ none))
-                (r.exact.real n)) in
+            (λ q i none. mapped_some q.num (value_of (account q ch.log)) (sym (standing_told q ch.log) ∙ i)
+            (sym (content_those (passes g c) q.net q.num (s.history n) (pass q i) ∙ ap (λ l. content_of l q.net q.num) (r.exact.entered c n z) ∙ stands_entered g (g.value c) (course_of g c h) ch.log follows q) ∙ none))
+            (r.exact.real n)) in
             subst (λ x. IsStep f2 s (with_channel c (closed x) u)) (sym (m.same c (ok.apart c n z))) (record {
               right = enter_step c n (withdrawn ks []) (op ∷ ops) f f2 (closed ch) s u z m (all_withdrawn (passes g c) ks [] pass tt) real (withdrawn_is ks (enters g ch.log)) k2 e2 same r;
               on = record { grew = on.grew; ops = on.ops; replies = on.replies };
@@ -318,9 +328,9 @@ module _ (g : Rules) (ok : IsRules g) where
       let ow : g.owner c ≡ i = own_of c here in
       let fc : f c ≡ op ∷ ops = ef c ∙ ap (given s) ow ∙ eo in
       let step = does_step c op ops m (midway (c ∷ cs) ops f) (midway cs ops f) s u (if_true (among c (c ∷ cs)) ops (f c) here) (if_false (among c cs) ops (f c) apart.0 ∙ fc)
-          (λ e other. ap (λ b. if b || among e cs then ops else f e) (sym (eqb_other c e other)))
-          (subst (λ q. (g.gives q ops op).signal ≡ m) (sym ow) em) (subst (λ q. Fits m (is_up g q ops)) (sym ow) fit)
-          (λ none. ap (λ n. own (g.owner c) (s.history n)) (ok.reads_own c none) ∙ r.exact.exact (g.owner c) ∙ ap (changes g (g.owner c)) (ap (given s) ow ∙ eo)) d.1 r in
+      (λ e other. ap (λ b. if b || among e cs then ops else f e) (sym (eqb_other c e other)))
+      (subst (λ q. (g.gives q ops op).signal ≡ m) (sym ow) em) (subst (λ q. Fits m (is_up g q ops)) (sym ow) fit)
+      (λ none. ap (λ n. own (g.owner c) (s.history n)) (ok.reads_own c none) ∙ r.exact.exact (g.owner c) ∙ ap (changes g (g.owner c)) (ap (given s) ow ∙ eo)) d.1 r in
       let rest = does_all_step i op ops m cs f u t (λ e. ef e ∙ ap (λ (o : ℕ → List Turn). ops_of (o (g.owner e))) (sym step.on.ops)) (ap (λ (o : ℕ → List Turn). ops_of (o i)) step.on.ops ∙ eo) em fit (λ e a. own_of e (or_right (c == e) (among e cs) a)) apart.1 d.2 step.right in
       record { right = rest.right; on = on_then g ok s u t step.on rest.on } where
         eqb_same : (n : ℕ) → (n == n) ≡ true
