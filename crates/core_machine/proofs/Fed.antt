@@ -3,6 +3,7 @@
 use Rattle.std.proofs.Common.{◌≡◌, ℕ, ◌≤◌, max, inl, inr, Bool, true, false, not, List, [], ◌∷◌, ◌++◌, reverse, Option, Some, None, refl, sym, ◌∙◌, ap, subst, arith, length, is_some, option_map}
 use Rattle.std.specs.Prelude.{◌&&◌, ◌||◌, if◌then◌else◌}
 use Rattle.std.specs.List.{filter}
+use Rattle.std.specs.Map.{keys_of}
 use Rattle.std.specs.List.Sorted.{IsStrictlySortedBy}
 use Rattle.std.proofs.Math.Nat.{le_refl}
 use Rattle.std.proofs.lemmas.List.{append_assoc, reverse-append}
@@ -34,7 +35,7 @@ use Rattle.export_core.proofs.Nets.{before_first}
 use Rattle.core_machine.specs.Channels.{Channel, IsFed, closed, fed, is_open, opened, renewed}
 use Rattle.core_machine.specs.Enters.{comes_before, standing_keys}
 use Rattle.core_machine.specs.Histories.{front}
-use Rattle.core_machine.specs.Marks.{Marked, find, keys_of, put_all, unmarked}
+use Rattle.core_machine.specs.Marks.{Marked, find, marked_keys, put_all, unmarked}
 use Rattle.core_machine.specs.Match.{IsHeadChunk, IsWithin, Matches, MatchesFed, MatchesFlushed, MatchesRead, is_wanted, mark_of}
 use Rattle.core_machine.specs.Pipes.{candidate}
 use Rattle.core_machine.specs.Rules.{Rules}
@@ -334,7 +335,7 @@ module _ {J : Type 0} (verdict : J → Net → Route → Verdict) (g : Rules) (c
 
     -- the keys that have been fed now
     abbrev all : List Key
-    all = keys ++ (keys_of ch.marks ++ t.order.0)
+    all = keys ++ (marked_keys ch.marks ++ t.order.0)
 
     abbrev more : List Key
     more = chosen now all
@@ -347,8 +348,8 @@ module _ {J : Type 0} (verdict : J → Net → Route → Verdict) (g : Rules) (c
 
     more_are : (k : Key) → holds k more ≡ now k
     more_are k = choice now all (λ k none.
-        let p = held_append k keys (keys_of ch.marks ++ t.order.0) none in
-        let q = held_append k (keys_of ch.marks) t.order.0 p.1 in
+        let p = held_append k keys (marked_keys ch.marks ++ t.order.0) none in
+        let q = held_append k (marked_keys ch.marks) t.order.0 p.1 in
         either (over k)
         (λ o. now_in k o ∙ wanted_no k (find_none k ch.marks q.0) (sym (added_in k o) ∙ q.1))
         (λ o. now_out k o ∙ p.0)) k
@@ -396,7 +397,7 @@ module _ {J : Type 0} (verdict : J → Net → Route → Verdict) (g : Rules) (c
           value = kept_value verdict g c h e e' t.spec t.judge m.resembles.value;
           position = t.position ∙ m.resembles.position;
           order = t.order.1 ∙ ap (λ l. l ++ t.order.0) (m.resembles.order ∙ keys_put_all keys (length h) due ch.marks m.ascend)
-              ∙ append_assoc (keys_of ch.marks) (unmarked keys ch.marks) t.order.0 ∙ ap (λ l. keys_of ch.marks ++ l) (sym order_more)
+              ∙ append_assoc (marked_keys ch.marks) (unmarked keys ch.marks) t.order.0 ∙ ap (λ l. marked_keys ch.marks ++ l) (sym order_more)
               ∙ sym (keys_put_all more (length h) due ch.marks (chosen_ascends now all));
           marks = marks_more;
           log = ap reverse t.log ∙ m.resembles.log;
@@ -437,7 +438,7 @@ module _ {J : Type 0} (verdict : J → Net → Route → Verdict) (g : Rules) (c
           spec = kept_spec verdict g c h e e' f.spec m.like.resembles.spec;
           value = kept_value verdict g c h e e' f.spec f.judge m.like.resembles.value;
           position = f.position ∙ m.like.resembles.position;
-          order = ap (λ (l : exporter.Listed). l.order) f.marks ∙ m.like.resembles.order;
+          order = ap keys_of f.marks ∙ m.like.resembles.order;
           marks = λ k. ap (exporter.find k) f.marks ∙ m.like.resembles.marks k;
           log = ap reverse f.log ∙ m.like.resembles.log;
         };

@@ -11,21 +11,21 @@ use Rattle.export_core.specs.Marks.{holds}
 use Rattle.export_core.proofs.Keys.{key_tells, same_key_itself}
 use Rattle.core_machine.specs.Enters.{comes_before}
 use Rattle.core_machine.specs.Histories.{front, own}
-use Rattle.core_machine.specs.Marks.{Marked, find, keys_of, put, put_all, unmarked}
+use Rattle.core_machine.specs.Marks.{Marked, find, marked_keys, put, put_all, unmarked}
 use Rattle.core_machine.proofs.Contents.{if_true, if_false, own_named, own_other}
 use Rattle.core_machine.proofs.MarkSteps.{find_past, find_put_other}
 use Rattle.core_machine.proofs.KeyLists.{above_held, before_not}
 
-pub keys_put : (m : Marked) (ms : List Marked) → keys_of (put m ms) ≡ (if is_some (find m.key ms) then keys_of ms else keys_of ms ++ m.key ∷ [])
+pub keys_put : (m : Marked) (ms : List Marked) → marked_keys (put m ms) ≡ (if is_some (find m.key ms) then marked_keys ms else marked_keys ms ++ m.key ∷ [])
 keys_put m [] = refl
 keys_put m (x ∷ ms) =
     let n : Marked = record m { due = m.due || x.due } in
     elim (key_tells x.key m.key) [
-      | inl w ↦ ap keys_of (if_true (same_key x.key m.key) (n ∷ ms) (x ∷ put m ms) w.0) ∙ ap (λ k. k ∷ keys_of ms) (sym w.1)
-          ∙ sym (ap (λ o. if is_some o then x.key ∷ keys_of ms else x.key ∷ (keys_of ms ++ m.key ∷ [])) (if_true (same_key x.key m.key) (Some x) (find m.key ms) w.0))
-      | inr w ↦ ap keys_of (if_false (same_key x.key m.key) (n ∷ ms) (x ∷ put m ms) w.0) ∙ ap (λ l. x.key ∷ l) (keys_put m ms)
-          ∙ elim (is_some (find m.key ms)) as (λ b. x.key ∷ (if b then keys_of ms else keys_of ms ++ m.key ∷ []) ≡ (if b then x.key ∷ keys_of ms else x.key ∷ (keys_of ms ++ m.key ∷ []))) [ true ↦ refl | false ↦ refl ]
-          ∙ sym (ap (λ o. if is_some o then x.key ∷ keys_of ms else x.key ∷ (keys_of ms ++ m.key ∷ [])) (find_past m.key x ms w.1))
+      | inl w ↦ ap marked_keys (if_true (same_key x.key m.key) (n ∷ ms) (x ∷ put m ms) w.0) ∙ ap (λ k. k ∷ marked_keys ms) (sym w.1)
+          ∙ sym (ap (λ o. if is_some o then x.key ∷ marked_keys ms else x.key ∷ (marked_keys ms ++ m.key ∷ [])) (if_true (same_key x.key m.key) (Some x) (find m.key ms) w.0))
+      | inr w ↦ ap marked_keys (if_false (same_key x.key m.key) (n ∷ ms) (x ∷ put m ms) w.0) ∙ ap (λ l. x.key ∷ l) (keys_put m ms)
+          ∙ elim (is_some (find m.key ms)) as (λ b. x.key ∷ (if b then marked_keys ms else marked_keys ms ++ m.key ∷ []) ≡ (if b then x.key ∷ marked_keys ms else x.key ∷ (marked_keys ms ++ m.key ∷ []))) [ true ↦ refl | false ↦ refl ]
+          ∙ sym (ap (λ o. if is_some o then x.key ∷ marked_keys ms else x.key ∷ (marked_keys ms ++ m.key ∷ [])) (find_past m.key x ms w.1))
     ]
 
 unmarked_put : (m : Marked) (ks : List Key) (ms : List Marked) → ((q : Key) → holds q ks ≡ true → comes_before m.key q ≡ true) → unmarked ks (put m ms) ≡ unmarked ks ms
@@ -40,13 +40,13 @@ unmarked_put m (k ∷ ks) ms far =
       or_true false b e = e
 
 -- a feed leaves the marked keys in their order, and puts the others behind them, in the order of keys
-pub keys_put_all : (ks : List Key) (at : ℕ) (due : Bool) (ms : List Marked) → IsStrictlySortedBy key_cmp ks → keys_of (put_all ks at due ms) ≡ keys_of ms ++ unmarked ks ms
+pub keys_put_all : (ks : List Key) (at : ℕ) (due : Bool) (ms : List Marked) → IsStrictlySortedBy key_cmp ks → marked_keys (put_all ks at due ms) ≡ marked_keys ms ++ unmarked ks ms
 unfolding IsStrictlySortedBy
-keys_put_all [] at due ms r = sym (append-nil (keys_of ms))
+keys_put_all [] at due ms r = sym (append-nil (marked_keys ms))
 keys_put_all (k ∷ ks) at due ms r =
     let m : Marked = record { key = k; at = at; due = due } in
-    keys_put_all ks at due (put m ms) r.1 ∙ ap (λ l. keys_of (put m ms) ++ l) (unmarked_put m ks ms (λ q h. above_held k q ks r.0 h)) ∙ ap (λ l. l ++ unmarked ks ms) (keys_put m ms)
-    ∙ elim (is_some (find k ms)) as (λ b. (if b then keys_of ms else keys_of ms ++ k ∷ []) ++ unmarked ks ms ≡ keys_of ms ++ (if b then unmarked ks ms else k ∷ unmarked ks ms)) [ true ↦ refl | false ↦ append_assoc (keys_of ms) (k ∷ []) (unmarked ks ms) ]
+    keys_put_all ks at due (put m ms) r.1 ∙ ap (λ l. marked_keys (put m ms) ++ l) (unmarked_put m ks ms (λ q h. above_held k q ks r.0 h)) ∙ ap (λ l. l ++ unmarked ks ms) (keys_put m ms)
+    ∙ elim (is_some (find k ms)) as (λ b. (if b then marked_keys ms else marked_keys ms ++ k ∷ []) ++ unmarked ks ms ≡ marked_keys ms ++ (if b then unmarked ks ms else k ∷ unmarked ks ms)) [ true ↦ refl | false ↦ append_assoc (marked_keys ms) (k ∷ []) (unmarked ks ms) ]
 
 -- a source's changes in a front are its oldest
 pub own_front : (i p : ℕ) (h : List Change) → (cs : List Change) × (own i h ≡ cs ++ own i (front p h))

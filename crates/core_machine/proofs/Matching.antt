@@ -1,6 +1,7 @@
 -- A take and a push of an exporter, a new one, and a longer history, beside the machine's.
 use Rattle.std.proofs.Common.{◌≡◌, ◌≢◌, ℕ, ◌+◌, ◌<◌, ◌≤◌, max, inl, inr, Bool, true, false, List, [], ◌∷◌, ◌++◌, reverse, Option, Some, None, refl, sym, ◌∙◌, ap, subst, arith, length, is_some, option_map}
 use Rattle.std.specs.Prelude.{◌==◌, ◌&&◌, ◌||◌, nat_lt, not, slice_get, drop, if◌then◌else◌}
+use Rattle.std.specs.Map.{keys_of}
 use Rattle.std.proofs.lemmas.Bool.{cases_lt}
 use Rattle.std.proofs.lemmas.Bool.Decides.{eqb_tells, nat_tests}
 use Rattle.std.proofs.lemmas.List.{reverse-append}
@@ -39,7 +40,7 @@ use Rattle.core_machine.specs.Channels.{Channel, answer, is_open, logged, new_ch
 use Rattle.core_machine.specs.Enters.{change_to}
 use Rattle.core_machine.specs.Histories.{content_of, front}
 use Rattle.core_machine.specs.Machine.{gain, gained}
-use Rattle.core_machine.specs.Marks.{AreOnce, Marked, find, keys_of, put}
+use Rattle.core_machine.specs.Marks.{AreOnce, Marked, find, marked_keys, put}
 use Rattle.core_machine.specs.Match.{IsNextEntry, IsSpecOf, IsWithin, Matches, MatchesRead, Resembles, change_of_sending, mark_of}
 use Rattle.core_machine.specs.Pipes.{candidate, heeds, is_pipe, key_of, passes}
 use Rattle.core_machine.specs.Rules.{Rules, best_of}
@@ -175,8 +176,8 @@ module _ {J : Type 0} (verdict : J → Net → Route → Verdict) (g : Rules) (c
         let marked : (k : Key) → exporter.find k e'.marks ≡ (if same_key own k && test then Some (joined (exporter.find k e.marks) fresh) else exporter.find k e.marks)
         = λ k. t.marks k ∙ ap (λ q. if same_key q k && (nat_lt (reach_of e (key_of_entry e.spec read)) pos && exporter_keys.heeds e.spec read.num) then Some (joined (exporter.find k e.marks) fresh) else exporter.find k e.marks) ek
         ∙ ap (λ b. if same_key own k && b then Some (joined (exporter.find k e.marks) fresh) else exporter.find k e.marks) tested in
-        let ordered : e'.marks.order ≡ (if test then calls.order_with own e.marks else e.marks.order)
-        = t.order ∙ ap (λ b. if b then calls.order_with (key_of_entry e.spec read) e.marks else e.marks.order) tested ∙ ap (λ q. if test then calls.order_with q e.marks else e.marks.order) ek in
+        let ordered : keys_of e'.marks ≡ (if test then calls.order_with own e.marks else keys_of e.marks)
+        = t.order ∙ ap (λ b. if b then calls.order_with (key_of_entry e.spec read) e.marks else keys_of e.marks) tested ∙ ap (λ q. if test then calls.order_with q e.marks else keys_of e.marks) ek in
         elim test as (λ b. test ≡ b → MatchesRead verdict g c h e' (record ch { position = at; marks = (if b then put mark ch.marks else ch.marks) })) [
           | true ↦ λ yes_test.
               let p = find_put mark ch.marks in
@@ -186,8 +187,8 @@ module _ {J : Type 0} (verdict : J → Net → Route → Verdict) (g : Rules) (c
                   spec = kept_spec e e' t.spec r.spec;
                   value = kept_value e e' t.spec t.judge r.value;
                   position = t.position ∙ here;
-                  order = ordered ∙ ap (λ b. if b then calls.order_with own e.marks else e.marks.order) yes_test
-                      ∙ ap (λ b. if b then e.marks.order else e.marks.order ++ own ∷ []) (ap (λ o. is_some o) (r.marks own) ∙ some_mark g c h own (find own ch.marks))
+                  order = ordered ∙ ap (λ b. if b then calls.order_with own e.marks else keys_of e.marks) yes_test
+                      ∙ ap (λ b. if b then keys_of e.marks else keys_of e.marks ++ own ∷ []) (ap (λ o. is_some o) (r.marks own) ∙ some_mark g c h own (find own ch.marks))
                       ∙ ap (λ l. if is_some (find own ch.marks) then l else l ++ own ∷ []) r.order ∙ sym (keys_put mark ch.marks);
                   marks = λ k. marked k ∙ ap (λ b. if same_key own k && b then Some (joined (exporter.find k e.marks) fresh) else exporter.find k e.marks) yes_test ∙ elim (key_tells own k) [
                     | inl z ↦ ap (λ b. if b && true then Some (joined (exporter.find k e.marks) fresh) else exporter.find k e.marks) z.0
@@ -209,7 +210,7 @@ module _ {J : Type 0} (verdict : J → Net → Route → Verdict) (g : Rules) (c
               spec = kept_spec e e' t.spec r.spec;
               value = kept_value e e' t.spec t.judge r.value;
               position = t.position ∙ here;
-              order = ordered ∙ ap (λ b. if b then calls.order_with own e.marks else e.marks.order) no_test ∙ r.order;
+              order = ordered ∙ ap (λ b. if b then calls.order_with own e.marks else keys_of e.marks) no_test ∙ r.order;
               marks = λ k. marked k ∙ if_false (same_key own k && test) (Some (joined (exporter.find k e.marks) fresh)) (exporter.find k e.marks) (ap (λ b. same_key own k && b) no_test ∙ and_no (same_key own k)) ∙ r.marks k;
               log = ap reverse t.log ∙ r.log;
             };
@@ -223,9 +224,9 @@ module _ {J : Type 0} (verdict : J → Net → Route → Verdict) (g : Rules) (c
 
 -- ---- pushes
 
-nil_of : (ms : List Marked) → keys_of ms ≡ [] → ms ≡ []
+nil_of : (ms : List Marked) → marked_keys ms ≡ [] → ms ≡ []
 nil_of [] e = refl
-nil_of (m ∷ ms) e = absurd (let bad : m.key ∷ keys_of ms ≡ [] = e in cc)
+nil_of (m ∷ ms) e = absurd (let bad : m.key ∷ marked_keys ms ≡ [] = e in cc)
 
 -- what stands needs no sending
 quiet_send : (v last : Option Attrs) (due : Bool) → IsQuiet due v last → send_of (same_value v last) due (is_some v) ≡ None
@@ -270,14 +271,14 @@ module _ {J : Type 0} (verdict : J → Net → Route → Verdict) (g : Rules) (c
   record IsHead (k : Key) (m : Mark) (x : Marked) (xs : List Marked) (e e' : State J) : Type 0 where
     key : k ≡ x.key
     mark : m ≡ mark_of g c h x.key x
-    order : e'.marks.order ≡ keys_of xs
+    order : keys_of e'.marks ≡ marked_keys xs
     marks : (q : Key) → exporter.find q e'.marks ≡ option_map (mark_of g c h q) (find q xs)
     value : passed (value_for verdict e) k m.candidate ≡ value_at g c h x
     standing : (log : List LogItem) → reverse e.log ≡ log → standing_at k e.log ≡ value_of (account x.key log)
 
   pops_head : (k : Key) (m : Mark) (x : Marked) (xs : List Marked) (e e' : State J) (ch : Channel) → ch.marks ≡ x ∷ xs → AreOnce (x ∷ xs) → Pops k m e e' → Resembles verdict g c h e ch → IsHead k m x xs e e'
   pops_head k m x xs e e' ch is once p r =
-      let order : e.marks.order ≡ x.key ∷ keys_of xs = r.order ∙ ap keys_of is in
+      let order : keys_of e.marks ≡ x.key ∷ marked_keys xs = r.order ∙ ap marked_keys is in
       let ek : k ≡ x.key = some_same (sym p.first ∙ ap (λ l. slice_get l 0) order) in
       let there : find x.key ch.marks ≡ Some x = ap (find x.key) is ∙ find_here x xs in
       let em : m ≡ mark_of g c h x.key x = some_same (sym p.mark ∙ ap (λ q. exporter.find q e.marks) ek ∙ r.marks x.key ∙ ap (option_map (mark_of g c h x.key)) there) in
@@ -310,8 +311,8 @@ module _ {J : Type 0} (verdict : J → Net → Route → Verdict) (g : Rules) (c
 
   pushed_matches : (answer : Pushed) (told told' : Option (List Sending)) (e e' : State J) (ch : Channel) (ms : List Marked) → ch.marks ≡ ms → AreOnce ms → Pushes verdict e e' told told' answer → MatchesRead verdict g c h e ch → MatchesRead verdict g c h e' (pushed g c h ms ch)
   pushed_matches answers.Nothing told told' e e' ch [] is once p s = subst (λ e. MatchesRead verdict g c h e ch) (sym p.1) s
-  pushed_matches answers.Nothing told told' e e' ch (x ∷ xs) is once p s = absurd (let bad : x.key ∷ keys_of xs ≡ [] = sym (s.resembles.order ∙ ap keys_of is) ∙ p.0 in cc)
-  pushed_matches answers.Quiet told told' e e' ch [] is once p s = absurd (none_some (sym (ap (λ l. slice_get l 0) (s.resembles.order ∙ ap keys_of is)) ∙ p.2.pops.first))
+  pushed_matches answers.Nothing told told' e e' ch (x ∷ xs) is once p s = absurd (let bad : x.key ∷ marked_keys xs ≡ [] = sym (s.resembles.order ∙ ap marked_keys is) ∙ ap keys_of p.0 in cc)
+  pushed_matches answers.Quiet told told' e e' ch [] is once p s = absurd (none_some (sym (ap (λ l. slice_get l 0) (s.resembles.order ∙ ap marked_keys is)) ∙ p.2.pops.first))
   pushed_matches answers.Quiet told told' e e' ch (x ∷ xs) is once p s =
       let k = p.0 in
       let m = p.1 in
@@ -322,7 +323,7 @@ module _ {J : Type 0} (verdict : J → Net → Route → Verdict) (g : Rules) (c
       (subst (λ w. IsQuiet m.due w last) head.value (subst (IsQuiet m.due (passed (value_for verdict e) k m.candidate)) (head.standing ch.log s.resembles.log) p.2.quiet)) in
       popped_matches k m x xs e e' ch (logged (send_of (same_value v last) x.due (is_some v)) x v ch.log) is (ap (λ o. is_some o) (stretch_logged (send_of (same_value v last) x.due (is_some v)) x v ch.log)) head p.2.pops
       (ap reverse p.2.log ∙ s.resembles.log ∙ sym (ap (λ o. logged o x v ch.log) (quiet_send v last x.due quiet))) s
-  pushed_matches answers.Sent told told' e e' ch [] is once p s = absurd (none_some (sym (ap (λ l. slice_get l 0) (s.resembles.order ∙ ap keys_of is)) ∙ p.2.pops.first))
+  pushed_matches answers.Sent told told' e e' ch [] is once p s = absurd (none_some (sym (ap (λ l. slice_get l 0) (s.resembles.order ∙ ap marked_keys is)) ∙ p.2.pops.first))
   pushed_matches answers.Sent told told' e e' ch (x ∷ xs) is once p s =
       let m = p.0 in
       let sent = p.1 in
@@ -348,7 +349,7 @@ module _ {J : Type 0} (verdict : J → Net → Route → Verdict) (g : Rules) (c
   -- ---- what comes of a push in the table that is written
 
   none_pops : (k : Key) (m : Mark) (e e' : State J) (ch : Channel) → ch.marks ≡ [] → Pops k m e e' → Resembles verdict g c h e ch → ⊥
-  none_pops k m e e' ch is p r = none_some (sym (ap (λ l. slice_get l 0) (r.order ∙ ap keys_of is)) ∙ p.first)
+  none_pops k m e e' ch is p r = none_some (sym (ap (λ l. slice_get l 0) (r.order ∙ ap marked_keys is)) ∙ p.first)
 
   sent_gains : (m : Mark) (x : Sending) (e e' : State J) (ch : Channel) (ms : List Marked) → ch.marks ≡ ms → AreOnce ms → PushesOut verdict m x e e' → MatchesRead verdict g c h e ch → gained g c h ms ch ≡ change_of_sending g x
   sent_gains m x e e' ch [] is once p s = absurd (none_pops x.key m e e' ch is p.pops s.resembles)
@@ -380,12 +381,12 @@ module _ {J : Type 0} (verdict : J → Net → Route → Verdict) (g : Rules) (c
   pub quiet_enters : (k : Key) (m : Mark) (e e' : State J) (ch : Channel) → PushesQuietly verdict k m e e' → Matches verdict g c h e ch → gained g c h ch.marks ch ≡ None
   quiet_enters k m e e' ch p s = quiet_gains k m e e' ch ch.marks refl s.like.within.once p s.like
 
-  pub nothing_enters : (e : State J) (ch : Channel) → e.marks.order ≡ [] → Matches verdict g c h e ch → gained g c h ch.marks ch ≡ None
-  nothing_enters e ch none s = ap (λ ms. gained g c h ms ch) (nil_of ch.marks (sym s.like.resembles.order ∙ none))
+  pub nothing_enters : (e : State J) (ch : Channel) → e.marks ≡ [] → Matches verdict g c h e ch → gained g c h ch.marks ch ≡ None
+  nothing_enters e ch none s = ap (λ ms. gained g c h ms ch) (nil_of ch.marks (sym s.like.resembles.order ∙ ap keys_of none))
 
   -- ---- a new exporter, and a longer history
 
-  pub new_matches : (e : State J) → IsSpecOf g c e.spec → ((k : Key) (r : Route) → value_for verdict e k r ≡ g.value c k r) → e.position ≡ 0 → e.floors ≡ [] → e.feed ≡ Done → e.marks ≡ calls.no_marks → e.log ≡ [] → e.flushing ≡ false → Matches verdict g c h e new_channel
+  pub new_matches : (e : State J) → IsSpecOf g c e.spec → ((k : Key) (r : Route) → value_for verdict e k r ≡ g.value c k r) → e.position ≡ 0 → e.floors ≡ [] → e.feed ≡ Done → e.marks ≡ [] → e.log ≡ [] → e.flushing ≡ false → Matches verdict g c h e new_channel
   new_matches e spec value position floors feed marks log rest = record {
     like = record {
       within = record { once = tt; idle = λ _. refl; read = λ up. no (sym up); marks = λ k m none. absurd (none_some none) };
@@ -393,7 +394,7 @@ module _ {J : Type 0} (verdict : J → Net → Route → Verdict) (g : Rules) (c
         spec = spec;
         value = value;
         position = position;
-        order = ap (λ (m : exporter.Listed). m.order) marks;
+        order = ap keys_of marks;
         marks = λ k. ap (exporter.find k) marks;
         log = ap reverse log;
       };

@@ -20,7 +20,7 @@ use Rattle.core_machine.specs.Histories.{content_of}
 use Rattle.core_machine.specs.Legal.{Joined, Printed, join, nothing, started}
 use Rattle.core_machine.specs.Lines.{Act, Line, Apply, Take, Push, Show, ops_of, turn_of}
 use Rattle.core_machine.specs.Machine.{AllObey, Applies, Begins, Feeds, Obeys, Plays, State, Steps, appended, arrived, flushed, gained, if_open, left_by, push_at, set, start, takes, with_channel, with_turn}
-use Rattle.core_machine.specs.Marks.{Marked, find, keys_of}
+use Rattle.core_machine.specs.Marks.{Marked, find, marked_keys}
 use Rattle.core_machine.specs.Phases.{IsPhase, PlaysAll, Prints}
 use Rattle.core_machine.specs.Pipes.{candidate, key_of}
 use Rattle.core_machine.specs.Rounds.{HasRounds, pushed_out, round, taken_up, turned, turns_to}
@@ -51,9 +51,9 @@ held_append k (x ∷ xs) ys e =
 apart : (a b : Key) → same_key a b ≡ false → a ≢ b
 apart a b e = elim (key_tells a b) [ inl w ↦ absurd (let bad : true ≡ false = sym w.0 ∙ e in cc) | inr w ↦ w.1 ]
 
-pub find_none : (k : Key) (ms : List Marked) → holds k (keys_of ms) ≡ false → find k ms ≡ None
+pub find_none : (k : Key) (ms : List Marked) → holds k (marked_keys ms) ≡ false → find k ms ≡ None
 find_none k [] e = refl
-find_none k (m ∷ ms) e = let p = or_parts (same_key m.key k) (holds k (keys_of ms)) e in find_past k m ms (apart m.key k p.0) ∙ find_none k ms p.1
+find_none k (m ∷ ms) e = let p = or_parts (same_key m.key k) (holds k (marked_keys ms)) e in find_past k m ms (apart m.key k p.0) ∙ find_none k ms p.1
 
 abbrev keys_sent : List LogItem → List Key
 keys_sent [] = []
@@ -126,13 +126,13 @@ module _ (g : Rules) (ok : IsRules g) where
   pub feed_is : (c : ℕ) (h : List Change) (ch : Channel) → (keys : List Key) × IsFeed g c h ch keys
   feed_is c h ch =
       let test = λ (k : Key). is_some (candidate g c k h) || (is_some (find k ch.marks) || is_some (value_of (account k ch.log))) in
-      let all = keys_changed c h ++ (keys_of ch.marks ++ keys_sent ch.log) in (
+      let all = keys_changed c h ++ (marked_keys ch.marks ++ keys_sent ch.log) in (
         chosen test all,
         record {
           ascend = chosen_ascends test all;
           are = choice test all (λ k e.
-              let p = held_append k (keys_changed c h) (keys_of ch.marks ++ keys_sent ch.log) e in
-              let q = held_append k (keys_of ch.marks) (keys_sent ch.log) p.1 in
+              let p = held_append k (keys_changed c h) (marked_keys ch.marks ++ keys_sent ch.log) e in
+              let q = held_append k (marked_keys ch.marks) (keys_sent ch.log) p.1 in
               ap (λ o. is_some o || (is_some (find k ch.marks) || is_some (value_of (account k ch.log)))) (candidate_none c k h p.0)
               ∙ ap (λ o. is_some o || is_some (value_of (account k ch.log))) (find_none k ch.marks q.0)
               ∙ ap (λ o. is_some (option_and_then (λ (x : Sending). x.value) o)) (last_none k ch.log q.1));

@@ -34,9 +34,9 @@ abbrev pub AreOnce : List Marked → Type 0
 AreOnce [] = ⊤
 AreOnce (m ∷ more) = (find m.key more ≡ None) × AreOnce more
 
-abbrev pub keys_of : List Marked → List Key
-keys_of [] = []
-keys_of (m ∷ more) = m.key ∷ keys_of more
+abbrev pub marked_keys : List Marked → List Key
+marked_keys [] = []
+marked_keys (m ∷ more) = m.key ∷ marked_keys more
 
 -- those of some keys that have no mark
 abbrev pub unmarked : List Key → List Marked → List Key

@@ -1,13 +1,14 @@
 -- An exporter of export_core beside the machine's channel: at rest (`Matches`), in the midst of a
 -- feed (`MatchesFed`), which an exporter takes in parts, and in the midst of the withdrawals of a
--- direction of a pipe that goes down (`MatchesFlushed`). The exporter keeps its marks as an order
--- with a candidate for each key, its log in the order written, ranges of feeds that tell up to where
+-- direction of a pipe that goes down (`MatchesFlushed`). The exporter keeps its marks with
+-- their candidates, its log in the order written, ranges of feeds that tell up to where
 -- each net has been read, and the sources that it passes as a list; the channel keeps none of these.
 -- Not modelled: memory.
 -- From: own.
 -- Example: a new exporter of a channel that isn't up is the channel that the machine begins with.
 use Rattle.std.specs.Prelude.{◌≡◌, ◌&&◌, ◌||◌, ◌+◌, ◌≤◌, ℕ, max, not, Bool, true, false, List, [], ◌∷◌, Option, Some, None, is_some, option_map, reverse, length, if◌then◌else◌}
 use Rattle.std.specs.List.Sorted.{IsStrictlySortedBy}
+use Rattle.std.specs.Map.{keys_of}
 use Rattle.bits_ip.specs.Prefix.{Net}
 use Rattle.attrs.specs.declared.journal.Chunk.{Chunk}
 use Rattle.attrs.specs.declared.journal.JEntry.{JEntry}
@@ -31,7 +32,7 @@ use Rattle.export_core.specs.States.{State, is_ahead, reach_of, value_for}
 use Rattle.core_machine.specs.Channels.{Channel, fed, is_open}
 use Rattle.core_machine.specs.Enters.{change_to}
 use Rattle.core_machine.specs.Histories.{entry, front}
-use Rattle.core_machine.specs.Marks.{AreOnce, Marked, find, keys_of}
+use Rattle.core_machine.specs.Marks.{AreOnce, Marked, find, marked_keys}
 use Rattle.core_machine.specs.Pipes.{candidate, is_pipe, passes}
 use Rattle.core_machine.specs.Rules.{Rules, best_of}
 
@@ -83,7 +84,7 @@ module _ {J : Type 0} (verdict : J → Net → Route → Verdict) (rules : Rules
     pub spec : IsSpecOf rules c e.spec
     pub value : (k : Key) (r : Route) → value_for verdict e k r ≡ rules.value c k r
     pub position : e.position ≡ ch.position
-    pub order : e.marks.order ≡ keys_of ch.marks
+    pub order : keys_of e.marks ≡ marked_keys ch.marks
     pub marks :
         (k : Key) → exporter.find k e.marks
         ≡ option_map (mark_of rules c history k) (find k ch.marks)

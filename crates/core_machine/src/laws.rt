@@ -15,7 +15,7 @@ ghost use Rattle.export_core.specs.declared.log.Key.{Key};
 ghost use Rattle.export_core.specs.declared.log.Sending.{Sending};
 ghost use Rattle.export_core.specs.declared.marks.Mark.{Mark};
 ghost use Rattle.export_core.specs.declared.passing.ExportSpec.{ExportSpec};
-ghost use Rattle.export_core.specs.Calls.{AreStanding, Feeds, Flushes, FlushesBy, Pushes, PushesOut, PushesQuietly, Takes, begun, ended, no_marks, refreshed};
+ghost use Rattle.export_core.specs.Calls.{AreStanding, Feeds, Flushes, FlushesBy, Pushes, PushesOut, PushesQuietly, Takes, begun, ended, refreshed};
 ghost use Rattle.export_core.specs.Candidates.{best_in};
 ghost use Rattle.export_core.specs.Histories.{AreRoutesOf};
 ghost use Rattle.export_core.specs.Logs.{Settled};
@@ -147,7 +147,7 @@ pub fn positions_are_told_by_counts()
 pub fn new_exporters_match<J: Judge>()
     ensures { (rules : Rules) (c : ℕ) (e : Exporter J) → IsSpecOf rules c e.spec
         → ((k : Key) (r : Route) → value_for J.verdict e k r ≡ rules.value c k r)
-        → e.position ≡ 0 → e.floors ≡ [] → e.feed ≡ Done → e.marks ≡ no_marks → e.log ≡ []
+        → e.position ≡ 0 → e.floors ≡ [] → e.feed ≡ Done → e.marks ≡ [] → e.log ≡ []
         → e.flushing ≡ false → Matches J.verdict rules c [] e new_channel }
 {}
 
@@ -191,7 +191,7 @@ pub fn pushes_match<J: Judge>()
         → Matches J.verdict rules c history e ch
         → gained rules c history ch.marks ch ≡ None }
     ensures nothing { (rules : Rules) (c : ℕ) (history : List Change) (e : Exporter J)
-        (ch : Channel) → e.marks.order ≡ [] → Matches J.verdict rules c history e ch
+        (ch : Channel) → e.marks ≡ [] → Matches J.verdict rules c history e ch
         → gained rules c history ch.marks ch ≡ None }
 {}
 
