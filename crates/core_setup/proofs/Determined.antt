@@ -37,44 +37,44 @@ use Rattle.core_setup.proofs.Standings.{same_entries}
 module _
     (g : Rules) (ok : IsRules g)
     (one_state : (rules : Rules) (starts : List Act) (lines : List Line) (s t u : State) → IsRules rules → IsPhase rules starts lines s t → IsPhase rules starts lines s u → t ≡ u)
-    where
-  prints_one : (past : Joined) (t : State) (p q : Printed) → Prints g past t p → Prints g past t q → p ≡ q
-  prints_one past t p q a b =
-      let entries : (n : ℕ) → p.entries n ≡ q.entries n = λ n. append_cancel_right (p.entries n) (q.entries n) (past.history n) (sym (a.entries n) ∙ b.entries n) in
-      let ops : (i : ℕ) → p.ops i ≡ q.ops i = λ i. append_cancel_right (p.ops i) (q.ops i) (past.ops i) (sym (a.ops i) ∙ b.ops i) in
-      let items : (i : ℕ) → p.items i ≡ q.items i = λ i. append_cancel_right (p.items i) (q.items i) (past.logs i) (sym (a.items i) ∙ b.items i) in
-      let replies : p.replies ≡ q.replies = sym a.replies ∙ b.replies in
-      let rows : (n : ℕ) (k : Net) (num : ℕ) → p.shown.rows n k num ≡ q.shown.rows n k num = λ n k num. a.shown.rows n k num ∙ sym (b.shown.rows n k num) in
-      let modes : (i : ℕ) → p.shown.modes i ≡ q.shown.modes i = λ i. a.shown.modes i ∙ sym (b.shown.modes i) in
-      let accepted : (i : ℕ) → p.shown.accepted i ≡ q.shown.accepted i = λ i. a.shown.accepted i ∙ sym (b.shown.accepted i) in
-      let up : (i : ℕ) → p.shown.up i ≡ q.shown.up i = λ i. a.shown.up i ∙ sym (b.shown.up i) in
-      let standing : (i : ℕ) (k : Key) → p.shown.standing i k ≡ q.shown.standing i k = λ i k. a.shown.standing i k ∙ sym (b.shown.standing i k) in
-      λ j. record {
-        entries = λ n. entries n j;
-        ops = λ i. ops i j;
-        items = λ i. items i j;
-        replies = replies j;
-        shown = record {
-          rows = λ n k num. rows n k num j;
-          modes = λ i. modes i j;
-          accepted = λ i. accepted i j;
-          up = λ i. up i j;
-          standing = λ i k. standing i k j;
-        };
-      }
+  where
+    prints_one : (past : Joined) (t : State) (p q : Printed) → Prints g past t p → Prints g past t q → p ≡ q
+    prints_one past t p q a b =
+        let entries : (n : ℕ) → p.entries n ≡ q.entries n = λ n. append_cancel_right (p.entries n) (q.entries n) (past.history n) (sym (a.entries n) ∙ b.entries n) in
+        let ops : (i : ℕ) → p.ops i ≡ q.ops i = λ i. append_cancel_right (p.ops i) (q.ops i) (past.ops i) (sym (a.ops i) ∙ b.ops i) in
+        let items : (i : ℕ) → p.items i ≡ q.items i = λ i. append_cancel_right (p.items i) (q.items i) (past.logs i) (sym (a.items i) ∙ b.items i) in
+        let replies : p.replies ≡ q.replies = sym a.replies ∙ b.replies in
+        let rows : (n : ℕ) (k : Net) (num : ℕ) → p.shown.rows n k num ≡ q.shown.rows n k num = λ n k num. a.shown.rows n k num ∙ sym (b.shown.rows n k num) in
+        let modes : (i : ℕ) → p.shown.modes i ≡ q.shown.modes i = λ i. a.shown.modes i ∙ sym (b.shown.modes i) in
+        let accepted : (i : ℕ) → p.shown.accepted i ≡ q.shown.accepted i = λ i. a.shown.accepted i ∙ sym (b.shown.accepted i) in
+        let up : (i : ℕ) → p.shown.up i ≡ q.shown.up i = λ i. a.shown.up i ∙ sym (b.shown.up i) in
+        let standing : (i : ℕ) (k : Key) → p.shown.standing i k ≡ q.shown.standing i k = λ i k. a.shown.standing i k ∙ sym (b.shown.standing i k) in
+        λ j. record {
+          entries = λ n. entries n j;
+          ops = λ i. ops i j;
+          items = λ i. items i j;
+          replies = replies j;
+          shown = record {
+            rows = λ n k num. rows n k num j;
+            modes = λ i. modes i j;
+            accepted = λ i. accepted i j;
+            up = λ i. up i j;
+            standing = λ i k. standing i k j;
+          };
+        }
 
-  printed_one : (starts : List Act) (past : Joined) (s : State) (scripts : List (List Line)) (ps qs : List Printed) → PlaysAll g starts past s scripts ps → PlaysAll g starts past s scripts qs → ps ≡ qs
-  printed_one starts past s [] [] [] a b = refl
-  printed_one starts past s [] [] (q ∷ qs) a b = absurd b
-  printed_one starts past s [] (p ∷ ps) qs a b = absurd a
-  printed_one starts past s (lines ∷ more) [] qs a b = absurd a
-  printed_one starts past s (lines ∷ more) (p ∷ ps) [] a b = absurd b
-  printed_one starts past s (lines ∷ more) (p ∷ ps) (q ∷ qs) a b =
-      let same : b.0 ≡ a.0 = one_state g starts lines s b.0 a.0 ok b.1 a.1 in
-      let first : p ≡ q = prints_one past a.0 p q a.2 (subst (λ t. Prints g past t q) same b.2) in
-      let there : PlaysAll g [] (join past p) a.0 more qs = subst (λ x. PlaysAll g [] (join past x) a.0 more qs) (sym first) (subst (λ t. PlaysAll g [] (join past q) t more qs) same b.3) in
-      let rest : ps ≡ qs = printed_one [] (join past p) a.0 more ps qs a.3 there in
-      λ j. first j ∷ rest j
+    printed_one : (starts : List Act) (past : Joined) (s : State) (scripts : List (List Line)) (ps qs : List Printed) → PlaysAll g starts past s scripts ps → PlaysAll g starts past s scripts qs → ps ≡ qs
+    printed_one starts past s [] [] [] a b = refl
+    printed_one starts past s [] [] (q ∷ qs) a b = absurd b
+    printed_one starts past s [] (p ∷ ps) qs a b = absurd a
+    printed_one starts past s (lines ∷ more) [] qs a b = absurd a
+    printed_one starts past s (lines ∷ more) (p ∷ ps) [] a b = absurd b
+    printed_one starts past s (lines ∷ more) (p ∷ ps) (q ∷ qs) a b =
+        let same : b.0 ≡ a.0 = one_state g starts lines s b.0 a.0 ok b.1 a.1 in
+        let first : p ≡ q = prints_one past a.0 p q a.2 (subst (λ t. Prints g past t q) same b.2) in
+        let there : PlaysAll g [] (join past p) a.0 more qs = subst (λ x. PlaysAll g [] (join past x) a.0 more qs) (sym first) (subst (λ t. PlaysAll g [] (join past q) t more qs) same b.3) in
+        let rest : ps ≡ qs = printed_one [] (join past p) a.0 more ps qs a.3 there in
+        λ j. first j ∷ rest j
 
 pairs_one : {X Y : Type 0} (P : ℕ → X → Y → Type 0) → ((n : ℕ) (x : X) (y z : Y) → P n x y → P n x z → y ≡ z) → (n : ℕ) (xs : List X) (ys zs : List Y) → Pairs P n xs ys → Pairs P n xs zs → ys ≡ zs
 pairs_one P one n [] [] [] a b = refl
@@ -160,8 +160,8 @@ module _ (setup : Setup) (actors : List (List ℕ)) where
 module _
     (ways : (rules : Rules) → 1 ≤ rules.tables → HasWays rules → AreWays rules)
     (one_state : (rules : Rules) (starts : List Act) (lines : List Line) (s t u : State) → IsRules rules → IsPhase rules starts lines s t → IsPhase rules starts lines s u → t ≡ u)
-    where
-  pub reports_determined : (setup : Setup) (actors : List (List ℕ)) (scripts : List (List Line)) (reports others : List PhaseReport) → IsSetup setup → IsPlay setup actors scripts reports → IsPlay setup actors scripts others → reports ≡ others
-  reports_determined setup actors scripts reports others is a b =
-      let same : b.printed ≡ a.printed = printed_one (rules_of setup) (setup_rules ways setup is) one_state (starts setup) nothing (start (rules_of setup)) scripts b.printed a.printed b.plays a.plays in
-      reports_one setup actors 1 nothing a.printed reports others a.are (subst (λ ps. AreReports setup actors 1 nothing ps others) same b.are)
+  where
+    pub reports_determined : (setup : Setup) (actors : List (List ℕ)) (scripts : List (List Line)) (reports others : List PhaseReport) → IsSetup setup → IsPlay setup actors scripts reports → IsPlay setup actors scripts others → reports ≡ others
+    reports_determined setup actors scripts reports others is a b =
+        let same : b.printed ≡ a.printed = printed_one (rules_of setup) (setup_rules ways setup is) one_state (starts setup) nothing (start (rules_of setup)) scripts b.printed a.printed b.plays a.plays in
+        reports_one setup actors 1 nothing a.printed reports others a.are (subst (λ ps. AreReports setup actors 1 nothing ps others) same b.are)

@@ -1,5 +1,5 @@
 -- Protocols and channels by their numbers.
-use Rattle.std.proofs.Common.{◌≡◌, ◌≢◌, ℕ, zero, suc, ◌+◌, ◌<◌, ◌≤◌, inl, inr, Bool, true, false, cond, List, [], ◌∷◌, ◌++◌, Option, Some, None, refl, sym, ◌∙◌, ap, subst, arith, length, is_some}
+use Rattle.std.proofs.Common.{◌≡◌, ◌≢◌, ℕ, zero, suc, ◌+◌, ◌<◌, ◌≤◌, inl, inr, Bool, true, false, List, [], ◌∷◌, ◌++◌, Option, Some, None, refl, sym, ◌∙◌, ap, subst, arith, length, is_some}
 use Rattle.std.specs.Prelude.{◌==◌, ◌||◌, if◌then◌else◌, slice_get}
 use Rattle.std.specs.List.{AllByRecursion}
 use Rattle.std.proofs.lemmas.Bool.{false≢true}
@@ -72,14 +72,17 @@ module _ (setup : Setup) (n : ℕ) (p : Protocol) (there : protocol_at setup n �
       → HasSession k (family_at setup.tables table) n o → AllByRecursion (Belongs setup) (session setup.tables n p.name table o)
   session_belongs table k None same within has = tt
   session_belongs table Static (Some exports) same within has = absurd has
-  session_belongs table Bgp (Some exports) same within has = (record {
-    protocol = p;
-    there = there;
-    own = λ e. same;
-    apart = λ t e. none_some e;
-    within = within;
-    every = has.every;
-  }, tt)
+  session_belongs table Bgp (Some exports) same within has = (
+    record {
+      protocol = p;
+      there = there;
+      own = λ e. same;
+      apart = λ t e. none_some e;
+      within = within;
+      every = has.every;
+    },
+    tt,
+  )
 
   body_belongs : (b : Body) → p.body ≡ b → FitsBody setup.tables n b → AllByRecursion (Belongs setup) (channels_in setup.tables n p.name b)
   body_belongs (IsSource s) e fits = session_belongs s.table s.spec.kind s.exports (sym (ap (table_in (length setup.tables)) e)) fits.table fits.session
@@ -92,14 +95,17 @@ module _ (setup : Setup) (n : ℕ) (p : Protocol) (there : protocol_at setup n �
       within = fits.primary;
       every = refl;
     },
-    (record {
-      protocol = p;
-      there = there;
-      own = λ f. none_some (sym f);
-      apart = λ t f same. fits.apart (sym (same ∙ sym (some_same f)));
-      within = fits.peer;
-      every = refl;
-    }, tt),
+    (
+      record {
+        protocol = p;
+        there = there;
+        own = λ f. none_some (sym f);
+        apart = λ t f same. fits.apart (sym (same ∙ sym (some_same f)));
+        within = fits.peer;
+        every = refl;
+      },
+      tt,
+    ),
   )
 
 module _ (setup : Setup) where
@@ -160,12 +166,12 @@ module _ (owner : ℕ) where
     by false f h again = further n x chs c (again h)
     by true f h again = elim (eqb_tells n c) [
       | inl w ↦ record {
-          k = zero;
-          ch = x;
-          number = sym w.1 ∙ nothing_first n;
-          there = refl;
-          own = elim (eqb_tells x.owner owner) [ inl v ↦ v.1 | inr v ↦ absurd (false≢true (sym v.0 ∙ f)) ];
-        }
+        k = zero;
+        ch = x;
+        number = sym w.1 ∙ nothing_first n;
+        there = refl;
+        own = elim (eqb_tells x.owner owner) [ inl v ↦ v.1 | inr v ↦ absurd (false≢true (sym v.0 ∙ f)) ];
+      }
       | inr w ↦ further n x chs c (again (one_of (n == c) (among c (numbers_of owner (n + 1) chs)) h w.0))
     ]
 

@@ -1,5 +1,5 @@
 -- The exporter of a channel goes by what the rules say of it.
-use Rattle.std.proofs.Common.{◌≡◌, ◌≢◌, ℕ, zero, suc, ◌+◌, ◌<◌, ◌≤◌, ◌⊎◌, inl, inr, Bool, true, false, List, [], ◌∷◌, ◌++◌, Option, Some, None, refl, sym, ◌∙◌, ap, subst, arith, length, is_some}
+use Rattle.std.proofs.Common.{◌≡◌, ◌≢◌, ℕ, zero, suc, ◌<◌, ◌≤◌, ◌⊎◌, inl, inr, Bool, true, false, List, [], ◌∷◌, ◌++◌, Option, Some, None, refl, sym, ◌∙◌, ap, arith, length, is_some}
 use Rattle.std.specs.Prelude.{◌==◌, ◌||◌, if◌then◌else◌}
 use Rattle.std.proofs.lemmas.Bool.{false≢true}
 use Rattle.std.proofs.lemmas.Bool.Decides.{eqb_tells, nat_tests}
@@ -11,9 +11,9 @@ use Rattle.core_machine.specs.Match.{IsSpecOf}
 use Rattle.core_machine.specs.Pipes.{ends_with, passes, passes_to}
 use Rattle.core_machine.specs.Rules.{AreWays, Rules}
 use Rattle.core_setup.specs.Channels.{Channel, channel_at, reads_at, target_at}
-use Rattle.core_setup.specs.Protocols.{exports_of, exports_to, passed_below, protocol_at, rules_of, sources, table_at, value_at}
+use Rattle.core_setup.specs.Protocols.{exports_of, exports_to, passed_below, rules_of, sources, table_at, value_at}
 use Rattle.core_setup.specs.Setup.{Exports, IsSetup, Setup}
-use Rattle.core_setup.proofs.Numbered.{beyond_none, channel_belongs, itself_is, none_some, some_same}
+use Rattle.core_setup.proofs.Numbered.{beyond_none, channel_belongs, itself_is, none_some}
 
 -- ---- numbers in lists
 

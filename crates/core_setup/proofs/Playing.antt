@@ -15,11 +15,11 @@ use Rattle.core_setup.proofs.SetupRules.{setup_rules}
 module _
     (ways : (rules : Rules) → 1 ≤ rules.tables → HasWays rules → AreWays rules)
     (legal : (rules : Rules) (starts : List Act) (scripts : List (List Line)) (printed : List Printed) → IsRules rules
-        → PlaysAll rules starts nothing (start rules) scripts printed → AreLegal rules starts nothing scripts printed)
-    where
-  pub play_is_legal : (setup : Setup) (actors : List (List ℕ)) (scripts : List (List Line)) (reports : List PhaseReport) → IsSetup setup → IsPlay setup actors scripts reports → IsLegalPlay setup actors scripts reports
-  play_is_legal setup actors scripts reports is play = record {
-    printed = play.printed;
-    legal = legal (rules_of setup) (starts setup) scripts play.printed (setup_rules ways setup is) play.plays;
-    are = play.are;
-  }
+    → PlaysAll rules starts nothing (start rules) scripts printed → AreLegal rules starts nothing scripts printed)
+  where
+    pub play_is_legal : (setup : Setup) (actors : List (List ℕ)) (scripts : List (List Line)) (reports : List PhaseReport) → IsSetup setup → IsPlay setup actors scripts reports → IsLegalPlay setup actors scripts reports
+    play_is_legal setup actors scripts reports is play = record {
+      printed = play.printed;
+      legal = legal (rules_of setup) (starts setup) scripts play.printed (setup_rules ways setup is) play.plays;
+      are = play.are;
+    }

@@ -1,23 +1,22 @@
 -- Tables and protocols say rules as the machine asks for them.
-use Rattle.std.proofs.Common.{◌≡◌, ◌≢◌, ℕ, zero, suc, ◌+◌, ◌-◌, ◌<◌, ◌≤◌, Bool, true, false, List, [], ◌∷◌, ◌++◌, Option, Some, None, refl, sym, ◌∙◌, ap, subst, arith, length}
+use Rattle.std.proofs.Common.{◌≡◌, ◌≢◌, ℕ, zero, suc, ◌-◌, ◌≤◌, Bool, true, false, List, [], ◌∷◌, ◌++◌, Option, Some, None, refl, sym, ◌∙◌, ap, subst, arith, length}
 use Rattle.std.proofs.lemmas.Bool.{false≢true}
 use Rattle.bits_ip.specs.Prefix.{Net}
-use Rattle.attrs.specs.declared.attributes.Attrs.{Attrs}
 use Rattle.attrs.specs.declared.route.Change.{Change}
 use Rattle.import_core.specs.declared.operation.Op.{Op}
 use Rattle.import_core.specs.Imports.{AreInOrder, route_at}
 use Rattle.import_core.proofs.Routes.{sorted_nil}
 use Rattle.export_core.specs.Candidates.{among}
 use Rattle.core_machine.specs.Histories.{AreFrom, AreReal, content_of}
-use Rattle.core_machine.specs.Rules.{AreWays, Fits, IsRules, Rules, Stay, changes, is_up, signalled}
+use Rattle.core_machine.specs.Rules.{AreWays, Fits, IsRules, Rules, changes, is_up, signalled}
 use Rattle.core_machine.specs.Ways.{Found, HasWays, level, levels, tried}
 use Rattle.core_setup.specs.Channels.{Channel, channel_at, channels, numbers_of, owner_at, reads_at, target_at}
-use Rattle.core_setup.specs.Protocols.{accepted_at, effect_at, effect_in, first_at, is_pipe, only_tells, pipe_is_up, protocol_at, rules_of, rules_with, src_at, table_at, table_in, ways}
+use Rattle.core_setup.specs.Protocols.{accepted_at, effect_at, effect_in, first_at, is_pipe, pipe_is_up, protocol_at, rules_of, rules_with, src_at, table_at, ways}
 use Rattle.core_setup.specs.Setup.{Body, FitsBody, IsPipe, IsSetup, IsSource, Pipe, Protocol, Setup, Source}
 use Rattle.core_setup.proofs.Admitted.{all_own}
 use Rattle.core_setup.proofs.Chained.{all_leave, all_of, all_real}
 use Rattle.core_setup.proofs.Choosing.{best_of_all, best_same}
-use Rattle.core_setup.proofs.Numbered.{Belongs, beyond_none, channel_belongs, channel_listed, listed_owner, none_some, numbers_apart, protocol_is, some_same}
+use Rattle.core_setup.proofs.Numbered.{beyond_none, channel_belongs, channel_listed, listed_owner, none_some, numbers_apart, protocol_is}
 use Rattle.core_setup.proofs.Ordered.{accepted_ordered}
 use Rattle.core_setup.proofs.Signalled.{pipe_fits, signals_fit, up_of}
 

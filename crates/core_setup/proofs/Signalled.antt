@@ -1,6 +1,6 @@
 -- Signals: the channel of a protocol of BGP is up exactly where its imports are, a static protocol tells nothing, and a pipe
 -- what fits it.
-use Rattle.std.proofs.Common.{◌≡◌, ℕ, Bool, true, false, List, [], ◌∷◌, Option, Some, None, refl, sym, ◌∙◌, ap, subst}
+use Rattle.std.proofs.Common.{◌≡◌, ◌≢◌, ℕ, Bool, true, false, List, [], ◌∷◌, Option, Some, None, refl, sym, ◌∙◌, ap, subst}
 use Rattle.std.specs.Prelude.{◌||◌, fold, if◌then◌else◌}
 use Rattle.bits_ip.specs.Prefix.{Net}
 use Rattle.attrs.specs.declared.attributes.Kind.{Kind}
@@ -21,7 +21,7 @@ use Rattle.import_core.specs.Import.{imported_route}
 use Rattle.import_core.specs.Imports.{Imports, Routes, is_up, with_route}
 use Rattle.import_core.specs.Operations.{also_refreshed, configured, done, done_in, enabled, opened, refreshed, started, up_with}
 use Rattle.core_machine.specs.Rules.{Fits, signalled}
-use Rattle.core_setup.specs.Protocols.{effect_after, imports_after, pipe_signal, signal_of}
+use Rattle.core_setup.specs.Protocols.{effect_after, imports_after, pipe_is_up, pipe_signal, signal_of}
 use Rattle.core_setup.specs.Setup.{Source}
 
 no_bgp : {A : Type 0} → Static ≡ Bgp → A
@@ -246,3 +246,26 @@ pipe_fits true ReloadIn = refl
 pipe_fits true ReloadOut = refl
 pipe_fits true Reload = refl
 pipe_fits up op = tt
+
+enabled_by : (up : Bool) → signalled (pipe_signal up Enable) up ≡ true
+enabled_by true = refl
+enabled_by false = refl
+
+disabled_by : (up : Bool) → signalled (pipe_signal up Disable) up ≡ false
+disabled_by true = refl
+disabled_by false = refl
+
+other_word : (up : Bool) (op : Op) → op ≢ Enable → op ≢ Disable → signalled (pipe_signal up op) up ≡ up
+other_word up Enable enable disable = absurd (enable refl)
+other_word up Disable enable disable = absurd (disable refl)
+other_word true op enable disable = refl
+other_word false op enable disable = refl
+
+pub enabled_up : (earlier : List Op) → pipe_is_up (Enable ∷ earlier) ≡ true
+enabled_up earlier = enabled_by (pipe_is_up earlier)
+
+pub disabled_down : (earlier : List Op) → pipe_is_up (Disable ∷ earlier) ≡ false
+disabled_down earlier = disabled_by (pipe_is_up earlier)
+
+pub others_stay : (op : Op) (earlier : List Op) → op ≢ Enable → op ≢ Disable → pipe_is_up (op ∷ earlier) ≡ pipe_is_up earlier
+others_stay op earlier enable disable = other_word (pipe_is_up earlier) op enable disable

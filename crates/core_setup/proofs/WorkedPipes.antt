@@ -1,5 +1,5 @@
 -- A worked example, computed: two static protocols and a chain of two pipes, from `master4` to `t1` and from `t1` to `t2`.
-use Rattle.std.proofs.Common.{◌≡◌, ℕ, Bool, true, false, List, [], ◌∷◌, map, Option, Some, None, refl}
+use Rattle.std.proofs.Common.{◌≡◌, ℕ, true, false, List, [], ◌∷◌, map, Some, None, refl}
 use Rattle.std.specs.Prelude.{codes}
 use Rattle.attrs.specs.declared.attributes.Kind.TheVariants.{Static}
 use Rattle.attrs.specs.declared.judge.Verdict.TheVariants.{Accept}

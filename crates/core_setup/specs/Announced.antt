@@ -2,7 +2,7 @@
 -- of what operations announce (`IsOfFamily`).
 -- From: own.
 -- Example: a protocol with an IPv4 channel announces nets of IPv4.
-use Rattle.std.specs.Prelude.{◌≡◌, ℕ, List, [], Option, Some, None, ⊤}
+use Rattle.std.specs.Prelude.{◌≡◌, List, [], Option, Some, None, ⊤}
 use Rattle.bits_ip.specs.Address.{family_of}
 use Rattle.bits_ip.specs.declared.address.Family.{Family}
 use Rattle.import_core.specs.declared.import_spec.Fixed.{Fixed}

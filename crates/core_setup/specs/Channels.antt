@@ -8,7 +8,7 @@ use Rattle.bits_ip.specs.declared.address.Family.{Family}
 use Rattle.bits_ip.specs.declared.address.Family.TheVariants.{V4}
 use Rattle.export_core.specs.declared.passing.ExportSpec.{ExportSpec}
 use Rattle.import_core.specs.Decisions.{Filter}
-use Rattle.core_setup.specs.Setup.{Body, Exports, IsPipe, IsSource, Pipe, Protocol, Setup, Source, family_at}
+use Rattle.core_setup.specs.Setup.{Body, Exports, IsPipe, IsSource, Protocol, Setup, family_at}
 
 pub record Channel : Type 0 where
   pub name : List ℕ

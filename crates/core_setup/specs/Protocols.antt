@@ -13,7 +13,6 @@ use Rattle.attrs.specs.declared.attributes.Kind.TheVariants.{Static, Bgp}
 use Rattle.attrs.specs.declared.route.Route.{Route}
 use Rattle.attrs.specs.declared.route.Src.{Src}
 use Rattle.export_core.specs.declared.log.Key.{Key}
-use Rattle.export_core.specs.declared.passing.ExportSpec.{ExportSpec}
 use Rattle.export_core.specs.Passing.{value_by}
 use Rattle.import_core.specs.declared.mode.Mode.{Mode}
 use Rattle.import_core.specs.declared.mode.Mode.TheVariants as mode

@@ -1,5 +1,5 @@
 //! What holds of all that is played.
-ghost use Rattle.std.specs.Prelude.{◌≡◌, ℕ, List, ◌∷◌, Option, Some, slice_get};
+ghost use Rattle.std.specs.Prelude.{◌≡◌, ◌≢◌, ℕ, true, false, List, [], ◌∷◌, Option, Some, slice_get};
 ghost use Rattle.std.specs.List.{AllByRecursion};
 ghost use Rattle.attrs.specs.declared.route.Route.{Route};
 ghost use Rattle.bits_ip.specs.Address.{family_of};
@@ -9,6 +9,7 @@ ghost use Rattle.export_core.specs.declared.log.Key.{Key};
 ghost use Rattle.import_core.specs.Changes.{IsDifference};
 ghost use Rattle.import_core.specs.Imports.{AreInOrder, Routes};
 ghost use Rattle.import_core.specs.declared.operation.Op.{Op};
+ghost use Rattle.import_core.specs.declared.operation.Op.TheVariants.{Disable, Enable};
 ghost use Rattle.core_machine.specs.Histories.{IsFrom};
 ghost use Rattle.core_machine.specs.Lines.{Line};
 ghost use Rattle.core_machine.specs.Match.{IsSpecOf};
@@ -18,7 +19,7 @@ ghost use Rattle.core_setup.specs.Announced.{IsOfFamily, fixed_at};
 ghost use Rattle.core_setup.specs.Channels.{Channel, channels};
 ghost use Rattle.core_setup.specs.Differences.{differences};
 ghost use Rattle.core_setup.specs.Plays.{IsLegalPlay, IsPlay};
-ghost use Rattle.core_setup.specs.Protocols.{effect_at, exports_of, rules_of};
+ghost use Rattle.core_setup.specs.Protocols.{effect_at, exports_of, pipe_is_up, rules_of};
 ghost use Rattle.core_setup.specs.Setup.{IsSetup, Protocol, Setup};
 
 use core_machine::laws::{levels_give_ways, phases_are_legal, phases_come_to_one_state};
@@ -43,6 +44,16 @@ pub fn exporters_go_by_the_rules()
 {
     levels_give_ways();
 }
+
+/// A pipe is up or down by the last `enable` or `disable` that it was told, and up where it was told
+/// neither.
+pub fn pipes_obey_the_last_word()
+    ensures first { pipe_is_up [] ≡ true }
+    ensures enabled { (earlier : List Op) → pipe_is_up (Enable ∷ earlier) ≡ true }
+    ensures disabled { (earlier : List Op) → pipe_is_up (Disable ∷ earlier) ≡ false }
+    ensures others { (op : Op) (earlier : List Op) → op ≢ Enable → op ≢ Disable
+        → pipe_is_up (op ∷ earlier) ≡ pipe_is_up earlier }
+{}
 
 /// The differences are the changes that the definition of imports asks for.
 pub fn differences_are_the_changes()

@@ -1,10 +1,11 @@
 //! The text of what pipes send, beside what protocols of BGP send.
 use crate::samples::{configured, net, one};
-use attrs::{Attrs, Seq, Shared};
+use attrs::{Attrs, Change, Seq, Shared};
 use export_core::{Key, LogItem, Sending};
-use import_core::Mode;
+use import_core::{Done, Mode, Op};
 use report::{
-    ChannelReport, ExportReport, ModeReport, PhaseReport, ProtocolReport, Standing, phase_text,
+    ChannelReport, ExportReport, JournalReport, ModeReport, PhaseReport, ProtocolReport,
+    ProtocolState, Standing, TableReport, phase_text,
 };
 use std::alloc::Global;
 use std::test::Fail;
@@ -105,8 +106,7 @@ fn a_pipe_sends_by_source_and_accepts_nothing(rt: HostRuntime) -> Result<(), Fai
     let mut phase = quiet(alloc)?;
     phase.modes.push(ModeReport {
         name: word(alloc, "pc")?,
-        mode: Mode::Up,
-        accepted: None,
+        state: ProtocolState::Pipe(true),
     })?;
     for (name, pipe) in [("p1", false), ("pc.export", true)] {
         phase.channels.push(log(alloc, name, pipe)?)?;
@@ -115,5 +115,92 @@ fn a_pipe_sends_by_source_and_accepts_nothing(rt: HostRuntime) -> Result<(), Fai
     let mut text = Vec::new(alloc);
     phase_text(&phase, &mut text)?;
     assert_eq!(rt; text.as_slice(), PHASE.as_bytes());
+    Ok(())
+}
+
+const DISABLED: &str = "phase 2\n\
+    protocol s\n\
+    protocol a\n\
+    \tdisable\n\
+    journal t1 1 2\n\
+    \t2 203.0.113.0/24 s -\n\
+    channel a.export\n\
+    \tdown\n\
+    channel a.import\n\
+    \tdown\n\
+    state\n\
+    \ttable t1 0 0\n\
+    \tprotocol s up 1\n\
+    \tprotocol a down\n\
+    \texport a.export down\n\
+    \texport a.import down\n";
+
+/// The protocols s and a, and a table t1 that a emptied.
+fn emptied(alloc: Global) -> Result<PhaseReport, Fail> {
+    let mut protocols = one(alloc, protocol(alloc, "s")?)?;
+    let mut pipe = protocol(alloc, "a")?;
+    pipe.ops.push(Done {
+        op: Op::Disable,
+        over: false,
+    })?;
+    protocols.push(pipe)?;
+    let gone = Change {
+        net: net()?,
+        num: 0,
+        new: None,
+    };
+    let journal = JournalReport {
+        table: word(alloc, "t1")?,
+        from: 1,
+        entries: one(alloc, gone)?,
+    };
+    let table = TableReport {
+        name: word(alloc, "t1")?,
+        rows: Seq::new(alloc),
+    };
+    Ok(PhaseReport {
+        number: 2,
+        protocols,
+        journals: one(alloc, journal)?,
+        channels: Seq::new(alloc),
+        replies: Seq::new(alloc),
+        tables: one(alloc, table)?,
+        modes: Seq::new(alloc),
+        exports: Seq::new(alloc),
+    })
+}
+
+fn mode(alloc: Global, name: &str, state: ProtocolState) -> Result<ModeReport, Fail> {
+    Ok(ModeReport {
+        name: word(alloc, name)?,
+        state,
+    })
+}
+
+#[test]
+fn a_disabled_pipe_is_down_both_ways(rt: HostRuntime) -> Result<(), Fail> {
+    let alloc = rt.alloc();
+    let mut phase = emptied(alloc)?;
+    phase
+        .modes
+        .push(mode(alloc, "s", ProtocolState::Imports(Mode::Up, 1))?)?;
+    phase
+        .modes
+        .push(mode(alloc, "a", ProtocolState::Pipe(false))?)?;
+    for name in ["a.export", "a.import"] {
+        phase.channels.push(ChannelReport {
+            name: word(alloc, name)?,
+            pipe: true,
+            items: one(alloc, LogItem::Down)?,
+        })?;
+        phase.exports.push(ExportReport {
+            name: word(alloc, name)?,
+            pipe: true,
+            standing: None,
+        })?;
+    }
+    let mut text = Vec::new(alloc);
+    phase_text(&phase, &mut text)?;
+    assert_eq!(rt; text.as_slice(), DISABLED.as_bytes());
     Ok(())
 }
