@@ -1,10 +1,10 @@
 -- A table's journal and its rows, and the history that they have.
-use Rattle.std.proofs.Common.{◌≡◌, ◌≢◌, ℕ, zero, suc, ◌+◌, ◌<◌, ◌≤◌, inl, inr, Bool, true, false, List, [], ◌∷◌, ◌++◌, Option, Some, None, refl, sym, ◌∙◌, ap, subst, arith, length, map, reverse, option_map}
+use Rattle.std.proofs.Common.{◌≡◌, ◌≢◌, ℕ, zero, suc, ◌+◌, ◌-◌, ◌<◌, ◌≤◌, inl, inr, Bool, true, false, List, [], ◌∷◌, ◌++◌, Option, Some, None, refl, sym, ◌∙◌, ap, subst, arith, length, map, reverse, option_map}
 use Rattle.std.specs.Prelude.{◌==◌, ◌&&◌, IsSome, slice_get, unwrap_or, if◌then◌else◌}
 use Rattle.std.specs.List.{AllByRecursion}
 use Rattle.std.proofs.lemmas.Bool.{cases_lt}
 use Rattle.std.proofs.lemmas.Bool.Decides.{eqb_tells}
-use Rattle.std.proofs.lemmas.List.{length-map, length-reverse, map-append, reverse-append}
+use Rattle.std.proofs.lemmas.List.{length-append, length-map, length-reverse, map-append, reverse-append, reverse-reverse}
 use Rattle.std.proofs.lemmas.Option.{slice_get-map, slice_get_within}
 use Rattle.bits_ip.specs.Address.{family_of}
 use Rattle.bits_ip.specs.Prefix.{Net, same_net}
@@ -40,6 +40,19 @@ get_push xs x p = elim (eqb_tells (length xs) p) [
   | inl w ↦ ap (slice_get (xs ++ x ∷ [])) (sym w.1) ∙ get_last xs x ∙ sym (if_true (length xs == p) (Some x) (slice_get xs p) w.0)
   | inr w ↦ get_other xs x p w.1 ∙ sym (if_false (length xs == p) (Some x) (slice_get xs p) w.0)
 ]
+
+-- the last item of a list, and the first of it backwards
+last_of : {X : Type 0} (r l : List X) (y : X) → reverse l ≡ r → slice_get l (length l - 1) ≡ Some y → (earlier : List X) × (reverse l ≡ y ∷ earlier)
+last_of [] l y e at = absurd (none_some (sym (ap (λ (xs : List _). slice_get xs (length xs - 1)) (sym (reverse-reverse l) ∙ ap reverse e)) ∙ at))
+last_of (z ∷ zs) l y e at =
+    let whole : l ≡ reverse zs ++ z ∷ [] = sym (reverse-reverse l) ∙ ap reverse e ∙ reverse-append (z ∷ []) zs in
+    let there : slice_get (reverse zs ++ z ∷ []) (length l - 1) ≡ Some y = ap (λ xs. slice_get xs (length l - 1)) (sym whole) ∙ at in
+    let place : length l - 1 ≡ length (reverse zs) = let n = ap length whole in let m = length-append (reverse zs) (z ∷ []) in omega (arith, n, m) in
+    let same : z ≡ y = some_same (sym (get_last (reverse zs) z) ∙ ap (slice_get (reverse zs ++ z ∷ [])) (sym place) ∙ there) in
+    (zs, e ∙ ap (λ x. x ∷ zs) same)
+
+pub last_item : {X : Type 0} (l : List X) (y : X) → slice_get l (length l - 1) ≡ Some y → (earlier : List X) × (reverse l ≡ y ∷ earlier)
+last_item l y at = last_of (reverse l) l y refl at
 
 reverse_push : (c : Change) (h : List Change) → reverse (c ∷ h) ≡ reverse h ++ c ∷ []
 reverse_push c h = reverse-append (c ∷ []) h

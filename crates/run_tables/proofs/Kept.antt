@@ -1,5 +1,6 @@
 -- A channel as it is held, and what steps of its exporter do to it.
 use Rattle.std.proofs.Common.{◌≡◌, ℕ, zero, suc, ◌+◌, ◌-◌, Bool, true, false, List, [], Option, Some, None, refl, sym, ◌∙◌, ap, subst, arith, length, if◌then◌else◌}
+use Rattle.std.specs.Prelude.{◌==◌, ◌&&◌}
 use Rattle.bits_ip.specs.Prefix.{Net}
 use Rattle.bits_ip.specs.declared.address.Family.{Family}
 use Rattle.attrs.specs.declared.judge.Verdict.{Verdict}
@@ -9,6 +10,7 @@ use Rattle.export_core.specs.States.{State}
 use Rattle.export_core.specs.Calls.{ended}
 use Rattle.core_machine.specs.Channels.{IsFed, closed, is_open, opened, push_one, renewed, take_one, times}
 use Rattle.core_machine.specs.Channels as machine
+use Rattle.core_machine.specs.Room.{lags, roomed}
 use Rattle.core_machine.specs.Rules.{IsRules, Rules}
 use Rattle.core_machine.proofs.Contents.{if_false, if_true, none_some}
 use Rattle.run_tables.specs.Channels.{IsChannel, IsExporter, IsOver, IsSomeChannel, Reads, ReadsUp, cursor_of, if_up, left_of}
@@ -189,3 +191,18 @@ module _ {J : Type 0} (verdict : J → Net → Route → Verdict) (table : Table
     is_up = r.is_up;
     exporter = r.reads.channel.exporter;
   }
+
+-- ---- room
+
+module _ {J : Type 0} (verdict : J → Net → Route → Verdict) (rules : Rules) (c : ℕ) (h : List Change) (family : Option Family) (held : Channel J) (ch : machine.Channel) where
+  both_up : (a b : Bool) → (a && b) ≡ true → a ≡ true
+  both_up true b e = refl
+  both_up false b e = absurd (let bad : false ≡ true = e in cc)
+
+  pub room_taken : lags rules h ch ≡ true → IsChannel verdict rules c family h held (if_up (take_one rules c h) ch) → IsChannel verdict rules c family h held (roomed rules c h ch)
+  room_taken lag m =
+      subst (IsChannel verdict rules c family h held)
+      (open_does (take_one rules c h) ch (both_up (is_open ch) (length h - ch.position == rules.cells) lag) ∙ sym (if_true (lags rules h ch) (take_one rules c h ch) ch lag)) m
+
+  pub room_there : lags rules h ch ≡ false → IsChannel verdict rules c family h held ch → IsChannel verdict rules c family h held (roomed rules c h ch)
+  room_there none m = subst (IsChannel verdict rules c family h held) (sym (if_false (lags rules h ch) (take_one rules c h ch) ch none)) m

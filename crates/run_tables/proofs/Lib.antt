@@ -4,3 +4,5 @@ pub mod Steps
 pub mod Kept
 pub mod Feeding
 pub mod Stretches
+pub mod Settling
+pub mod Entries

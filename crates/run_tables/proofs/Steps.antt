@@ -1,7 +1,7 @@
 -- An exporter and its channel of the machine, step by step.
 use Rattle.std.proofs.Common.{◌≡◌, ℕ, ◌+◌, ◌≤◌, ◌<◌, Bool, true, false, List, [], ◌∷◌, ◌++◌, Option, Some, None, refl, sym, ◌∙◌, ap, subst, arith, inl, inr, length, reverse, is_some, option_map}
 use Rattle.std.specs.Prelude.{IsSome, slice_get, if◌then◌else◌}
-use Rattle.std.specs.Map.{keys_of as keys_in}
+use Rattle.std.specs.Map.{keys_of}
 use Rattle.std.proofs.lemmas.Bool.{cases_lt}
 use Rattle.std.proofs.lemmas.List.{reverse-append}
 use Rattle.bits_ip.specs.Address.{family_of}
@@ -28,7 +28,7 @@ use Rattle.export_core.specs.Standing.{is_open as is_log_open}
 use Rattle.export_core.specs.States.{State, value_for}
 use Rattle.core_machine.specs.Channels.{Channel, IsFed, closed, is_open, opened, push_one, take_one, taken}
 use Rattle.core_machine.specs.Histories.{content_of, entry, front}
-use Rattle.core_machine.specs.Marks.{Marked, find, keys_of}
+use Rattle.core_machine.specs.Marks.{Marked, find, marked_keys}
 use Rattle.core_machine.specs.Match.{Matches, mark_of}
 use Rattle.core_machine.specs.Pipes.{candidate, is_pipe, passes}
 use Rattle.core_machine.specs.Rules.{Rules}
@@ -99,18 +99,18 @@ module _ {J : Type 0} (verdict : J → Net → Route → Verdict) (rules : Rules
   }
 
   -- none is marked
-  none_marked : (ms : List Marked) → keys_of ms ≡ [] → ms ≡ []
+  none_marked : (ms : List Marked) → marked_keys ms ≡ [] → ms ≡ []
   none_marked [] e = refl
-  none_marked (m ∷ ms) e = absurd (let bad : m.key ∷ keys_of ms ≡ [] = e in cc)
+  none_marked (m ∷ ms) e = absurd (let bad : m.key ∷ marked_keys ms ≡ [] = e in cc)
 
-  some_marked : (ms : List Marked) (k : Key) → slice_get (keys_of ms) 0 ≡ Some k → 1 ≤ length ms
+  some_marked : (ms : List Marked) (k : Key) → slice_get (marked_keys ms) 0 ≡ Some k → 1 ≤ length ms
   some_marked [] k e = absurd (none_some e)
   some_marked (m ∷ ms) k e = omega arith
 
   pub marks_end : (family : Option Family) (e : State J) (ch : Channel) → IsExporter verdict rules c family h e ch → e.marks ≡ [] → ch.marks ≡ []
-  marks_end family e ch m none = none_marked ch.marks (sym m.matches.like.resembles.order ∙ ap keys_in none)
+  marks_end family e ch m none = none_marked ch.marks (sym m.matches.like.resembles.order ∙ ap keys_of none)
 
-  marks_begin : (family : Option Family) (e : State J) (ch : Channel) (k : Key) → IsExporter verdict rules c family h e ch → slice_get (keys_in e.marks) 0 ≡ Some k → 1 ≤ length ch.marks
+  marks_begin : (family : Option Family) (e : State J) (ch : Channel) (k : Key) → IsExporter verdict rules c family h e ch → slice_get (keys_of e.marks) 0 ≡ Some k → 1 ≤ length ch.marks
   marks_begin family e ch k m first = some_marked ch.marks k (ap (λ l. slice_get l 0) (sym m.matches.like.resembles.order) ∙ first)
 
   -- a value that a direction of a pipe sends is of a protocol

@@ -101,7 +101,7 @@ module _ {J : Type 0} (verdict : J → Net → Route → Verdict) (table : Table
 -- ---- what stands is withdrawn
 
 module _ {J : Type 0} where
-  made : ExportSpec → J → ℕ → List Floor → Bool → List LogItem → State J
+  abbrev made : ExportSpec → J → ℕ → List Floor → Bool → List LogItem → State J
   made spec judge position floors refreshing log = record {
     spec = spec;
     judge = judge;
