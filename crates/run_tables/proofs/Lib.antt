@@ -6,3 +6,9 @@ pub mod Feeding
 pub mod Stretches
 pub mod Settling
 pub mod Entries
+pub mod Routing
+pub mod Reading
+pub mod Readers
+pub mod RouteSteps
+pub mod Changing
+pub mod Pushing

@@ -58,7 +58,19 @@ module _ {J : Type 0} (verdict : J → Net → Route → Verdict) (setup : Setup
   }
 
   pub reads_up : (held : Channel J) (table : Table) (up : Bool) → is_open (s.channels c) ≡ up → IsRead verdict setup s c held table → ReadsUp verdict held table up
-  reads_up held table up is read = record { reads = reads held table read; is_up = is }
+  reads_up held table up is read = record {
+    reads = record {
+      rules = rules_of setup;
+      c = c;
+      family = read.family;
+      history = s.history held.table;
+      ch = s.channels c;
+      rules_are = are.rules_are;
+      is = read.is;
+      channel = read.channel;
+    };
+    is_up = is;
+  }
 
   pub some_up : (held : Channel J) (table : Table) (up : Bool) → is_open (s.channels c) ≡ up → IsRead verdict setup s c held table → IsSomeChannel verdict held up
   some_up held table up is read = record {

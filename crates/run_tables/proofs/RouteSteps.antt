@@ -3,7 +3,7 @@ use Rattle.std.proofs.Common.{◌≡◌, ◌≢◌, ℕ, zero, suc, ◌+◌, ◌
 use Rattle.std.specs.Prelude.{◌==◌, ◌&&◌, ◌||◌, nat_lt, slice_get, take, if◌then◌else◌}
 use Rattle.std.proofs.Math.Path.{fun_ext}
 use Rattle.std.proofs.lemmas.Bool.{cases_lt}
-use Rattle.std.proofs.lemmas.Bool.Decides.{eqb_tells}
+use Rattle.std.proofs.lemmas.Bool.Decides.{eqb_tells, nat_tests}
 use Rattle.std.proofs.lemmas.List.{take_all}
 use Rattle.bits_ip.specs.Prefix.{Net}
 use Rattle.attrs.specs.declared.judge.Verdict.{Verdict}
@@ -12,7 +12,7 @@ use Rattle.attrs.specs.declared.route.Route.{Route}
 use Rattle.export_core.specs.Candidates.{among}
 use Rattle.export_core.specs.declared.log.Key.{Key}
 use Rattle.core_machine.specs.Channels as machine
-use Rattle.core_machine.specs.Channels.{closed, is_open, push_one, take_one, times}
+use Rattle.core_machine.specs.Channels.{closed, is_open, push_one, pushed, take_one, times}
 use Rattle.core_machine.specs.Enters.{standing_keys, withdrawal}
 use Rattle.core_machine.specs.Machine.{State, added, arrived, flushed, gained, if_open, push_at, set, takes, with_channel}
 use Rattle.core_machine.specs.Room.{in_room, lags, roomed}
@@ -116,13 +116,16 @@ module _ {J : Type 0} (verdict : J → Net → Route → Verdict) (setup : Setup
     same : (j : ℕ) → (if among j (take place numbers) then roomed (rules_of setup) j (s.history table) (s.channels j) else s.channels j) ≡ new j
     same j = elim (cases_lt j (length (channels setup))) [
       | inl w ↦ ap (λ b. if b then roomed (rules_of setup) j (s.history table) (s.channels j) else s.channels j)
-          (listed j ∙ ap (λ b. b && ((rules_of setup).reads j == table)) (if_lt j (length (channels setup)) true false w))
+          (listed j ∙ ap (λ b. b && ((rules_of setup).reads j == table)) (is_lt j (length (channels setup)) w))
       | inr w ↦ if_false (among j (take place numbers)) (roomed (rules_of setup) j (s.history table) (s.channels j)) (s.channels j)
           (listed j ∙ ap (λ b. b && ((rules_of setup).reads j == table)) (not_lt j (length (channels setup)) w))
           ∙ sym (room_down (rules_of setup) table (s.history table) s.channels j (before.beyond j w))
     ] where
       not_lt : (a b : ℕ) → b ≤ a → nat_lt a b ≡ false
-      not_lt a b le = omega (arith, le)
+      not_lt a b le = grind (arith, nat_tests)
+
+      is_lt : (a b : ℕ) → a < b → nat_lt a b ≡ true
+      is_lt a b w = grind (arith, nat_tests)
 
 -- ---- a channel that doesn't read a table sees nothing of its changes
 
@@ -162,3 +165,44 @@ with_same c ch s e = ap made (fun_ext same) where
     | inl w ↦ at_here c ch s.channels j w ∙ e ∙ ap s.channels w
     | inr w ↦ at_there c ch s.channels j w
   ]
+
+-- ---- a channel takes
+
+module _ (rules : Rules) (c : ℕ) where
+  pub took : (count : ℕ) (s : State) → with_channel c (if_up (times count (take_one rules c (s.history (rules.reads c)))) (s.channels c)) s ≡ if_open c (takes rules c count) s
+  took count s = on (is_open (s.channels c)) where
+    on : (b : Bool) → with_channel c (if b then times count (take_one rules c (s.history (rules.reads c))) (s.channels c) else s.channels c) s ≡ (if b then takes rules c count s else s)
+    on true = refl
+    on false = with_same c (s.channels c) s refl
+
+  -- to the head
+  pub took_up : (head : ℕ) (s : State) → head ≡ length (s.history (rules.reads c)) → is_open (s.channels c) ≡ true
+      → with_channel c (if_up (times head (take_one rules c (s.history (rules.reads c)))) (s.channels c)) s ≡ taken_up rules c s
+  took_up head s at up =
+      ap (λ ch. with_channel c ch s)
+      (if_true (is_open (s.channels c)) (times head (take_one rules c (s.history (rules.reads c))) (s.channels c)) (s.channels c) up
+      ∙ takes_up rules c (s.history (rules.reads c)) head (s.channels c) (omega (arith, at)))
+
+  -- ---- it pushes
+
+  pub push_is : (s : State) (o : Option Change) → ((table : ℕ) → rules.target c ≡ Some table → rules.reads c ≢ table) → gained rules c (s.history (rules.reads c)) (s.channels c).marks (s.channels c) ≡ o
+      → arrived rules (rules.target c) o (with_channel c (push_one rules c (s.history (rules.reads c)) (s.channels c)) s) ≡ push_at rules c s
+  push_is s o apart gains =
+      let new = push_one rules c (s.history (rules.reads c)) (s.channels c) in
+      arrived_past rules c new (rules.target c) o s apart ∙ ap (λ x. with_channel c new (arrived rules (rules.target c) x s)) (sym gains)
+
+  nothing_arrives : (o : Option ℕ) (s : State) → arrived rules o None s ≡ s
+  nothing_arrives None s = refl
+  nothing_arrives (Some table) s = refl
+
+  pub quiet_is : (s : State) → gained rules c (s.history (rules.reads c)) (s.channels c).marks (s.channels c) ≡ None
+      → with_channel c (push_one rules c (s.history (rules.reads c)) (s.channels c)) s ≡ push_at rules c s
+  quiet_is s none =
+      let new = push_one rules c (s.history (rules.reads c)) (s.channels c) in
+      ap (with_channel c new) (sym (nothing_arrives (rules.target c) s)) ∙ ap (λ x. with_channel c new (arrived rules (rules.target c) x s)) (sym none)
+
+  -- where nothing is marked
+  pub push_nothing : (s : State) → (s.channels c).marks ≡ [] → push_at rules c s ≡ s
+  push_nothing s none =
+      ap (λ ms. with_channel c (pushed rules c (s.history (rules.reads c)) ms (s.channels c)) (arrived rules (rules.target c) (gained rules c (s.history (rules.reads c)) ms (s.channels c)) s)) none
+      ∙ ap (with_channel c (s.channels c)) (nothing_arrives (rules.target c) s) ∙ with_same c (s.channels c) s refl

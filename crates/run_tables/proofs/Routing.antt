@@ -83,8 +83,11 @@ module _ {J : Type 0} (verdict : J → Net → Route → Verdict) where
     readers_length = pairs_length (ReadersAre setup) 0 setup.tables r.readers.items are.readers
 
     module _ (c : ℕ) (held : Channel J) (e : slice_get r.channels.items c ≡ Some held) where
-      one : (seen : setups.Channel) × (slice_get (channels setup) c ≡ Some seen) × ChannelIs setup s c seen held
+      abbrev pub one : (seen : setups.Channel) × (slice_get (channels setup) c ≡ Some seen) × ChannelIs setup s c seen held
       one = one_here (ChannelIs setup s) (channels setup) r.channels.items are.channels c held e
+
+      pub channel_there : IsChannel verdict (rules_of setup) c (family_at setup.tables one.0.reads) (s.history one.0.reads) held (s.channels c)
+      channel_there = one.2
 
       pub table_of : held.table ≡ (rules_of setup).reads c
       table_of = one.2.table
@@ -135,6 +138,10 @@ module _ {J : Type 0} (verdict : J → Net → Route → Verdict) where
     beyond = λ c w. ap is_open (sym (same c)) ∙ are.beyond c w;
     sources = are.sources;
   }
+
+  -- the same state, written otherwise
+  pub as_state : (setup : Setup) {s t : State} {r : Routes J} → s ≡ t → AreRoutes verdict setup s r → AreRoutes verdict setup t r
+  as_state setup {r = r} e are = subst (λ u. AreRoutes verdict setup u r) e are
 
   -- ---- a channel is another one
 

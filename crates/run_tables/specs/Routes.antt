@@ -1,6 +1,6 @@
 -- For private contracts, and for what `HasPlayed` of sys_run keeps of a core from phase to phase;
 -- nothing promised rests on it: all tables and channels, and the machine's state of them.
-use Rattle.std.specs.Prelude.{◌≡◌, ◌==◌, ◌&&◌, ◌<◌, ◌≤◌, ℕ, nat_lt, Bool, true, false, List, ◌∷◌, length, Some, slice_get, take}
+use Rattle.std.specs.Prelude.{◌≡◌, ◌==◌, ◌&&◌, ◌<◌, ◌≤◌, ℕ, nat_lt, Bool, true, false, List, [], ◌∷◌, length, Option, Some, None, slice_get, take}
 use Rattle.std.specs.declared.alloc.Global.{Global}
 use Rattle.std.specs.declared.vec.Vec.{Vec}
 use Rattle.bits_ip.specs.Prefix.{Net}
@@ -15,7 +15,7 @@ use Rattle.core_machine.specs.Machine.{State}
 use Rattle.core_machine.specs.Room.{in_room}
 use Rattle.core_machine.specs.Rounds.{HasRounds}
 use Rattle.core_machine.specs.Rules.{IsRules, Rules}
-use Rattle.core_setup.specs.Channels.{channels}
+use Rattle.core_setup.specs.Channels as setups
 use Rattle.core_setup.specs.Pairs.{Pairs}
 use Rattle.core_setup.specs.Protocols.{rules_of}
 use Rattle.core_setup.specs.Setup.{IsSetup, Setup, family_at}
@@ -34,6 +34,14 @@ pub record AreReaders (rules : Rules) (count table : ℕ) (numbers : List ℕ) :
   pub once :
       (place c : ℕ) → slice_get numbers place ≡ Some c → among c (take place numbers) ≡ false
 
+-- the readers of a table, by its number
+abbrev pub numbers_in : Option (Vec ℕ Global) → List ℕ
+numbers_in None = []
+numbers_in (Some numbers) = numbers.items
+
+abbrev pub readers_at : {J : Type 0} → ℕ → Routes J → List ℕ
+readers_at table routes = numbers_in (slice_get routes.readers.items table)
+
 module _ {J : Type 0} (verdict : J → Net → Route → Verdict) where
   pub record AreRoutes (setup : Setup) (s : State) (routes : Routes J) : Type 0 where
     pub setup_is : IsSetup setup
@@ -44,14 +52,14 @@ module _ {J : Type 0} (verdict : J → Net → Route → Verdict) where
         0 setup.tables routes.tables.items
     pub readers :
         Pairs (λ n seen (numbers : Vec ℕ Global).
-        AreReaders (rules_of setup) (length (channels setup)) n numbers.items)
+        AreReaders (rules_of setup) (length (setups.channels setup)) n numbers.items)
         0 setup.tables routes.readers.items
     pub channels :
         Pairs (λ c seen held.
         IsChannel verdict (rules_of setup) c (family_at setup.tables seen.reads)
         (s.history seen.reads) held (s.channels c))
-        0 (channels setup) routes.channels.items
-    pub beyond : (c : ℕ) → length (channels setup) ≤ c → is_open (s.channels c) ≡ false
+        0 (setups.channels setup) routes.channels.items
+    pub beyond : (c : ℕ) → length (setups.channels setup) ≤ c → is_open (s.channels c) ≡ false
     pub sources : AreSources (rules_of setup) routes.sources.items
 
   -- the same of some state, as conditions

@@ -82,11 +82,12 @@ impl<J: Judge> Routes<J> {
     fn make_room_of(&mut self, number: usize) -> Result<(), OutOfMemory>
         requires holds { Holds J.verdict self.old }
         requires there { number < length self.old.channels.items }
-        ensures { OnOk result ((setup : Setup) (s : State)
+        ensures room { OnOk result ((setup : Setup) (s : State)
             → AreRoutes J.verdict setup s self.old
             → AreRoutes J.verdict setup
             (with_channel number (roomed (rules_of setup) number
             (s.history ((rules_of setup).reads number)) (s.channels number)) s) self.new) }
+        ensures readers { self.new.readers ≡ self.old.readers }
     {
         let table = self.channels[number].table;
         self.channels[number].make_room(&self.tables[table], self.cells)
