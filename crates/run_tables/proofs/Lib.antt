@@ -12,3 +12,6 @@ pub mod Readers
 pub mod RouteSteps
 pub mod Changing
 pub mod Pushing
+pub mod PushSteps
+pub mod Obeying
+pub mod Syncing

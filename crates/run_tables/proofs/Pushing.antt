@@ -15,6 +15,7 @@ use Rattle.core_machine.specs.Marks.{Marked, marked_keys}
 use Rattle.core_machine.specs.Rounds.{pushed_out}
 use Rattle.core_machine.specs.Rules.{IsRules, Rules}
 use Rattle.core_machine.proofs.Growing.{more_arrived, set_here as at_here}
+use Rattle.core_machine.proofs.OneChannel.{times_keeps}
 use Rattle.core_machine.proofs.WholeState.{push_open}
 use Rattle.core_setup.specs.Channels.{channels}
 use Rattle.core_setup.specs.Protocols.{rules_of}
@@ -86,3 +87,7 @@ module _ {J : Type 0} (verdict : J → Net → Route → Verdict) (setup : Setup
         of_one held there =
             let m = (channel_there verdict setup s r are c held there).exporter.matches.like.resembles.order in
             sym (length_keys held.exporter.marks) ∙ ap length m ∙ length_marked (s.channels c).marks
+
+-- pushes leave a channel up
+pub pushes_open : (rules : Rules) (ok : IsRules rules) (c n : ℕ) (s : State) → is_open (s.channels c) ≡ true → is_open ((times n (push_at rules c) s).channels c) ≡ true
+pushes_open rules ok c n s up = times_keeps (λ (u : State). is_open (u.channels c) ≡ true) (push_at rules c) (λ u e. push_open rules ok c u ∙ e) n s up

@@ -206,3 +206,6 @@ module _ (rules : Rules) (c : ℕ) where
   push_nothing s none =
       ap (λ ms. with_channel c (pushed rules c (s.history (rules.reads c)) ms (s.channels c)) (arrived rules (rules.target c) (gained rules c (s.history (rules.reads c)) ms (s.channels c)) s)) none
       ∙ ap (with_channel c (s.channels c)) (nothing_arrives (rules.target c) s) ∙ with_same c (s.channels c) s refl
+
+  pub quiet_none : (s : State) → (s.channels c).marks ≡ [] → with_channel c (push_one rules c (s.history (rules.reads c)) (s.channels c)) s ≡ push_at rules c s
+  quiet_none s none = quiet_is s (ap (λ ms. gained rules c (s.history (rules.reads c)) ms (s.channels c)) none)

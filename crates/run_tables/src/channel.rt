@@ -137,6 +137,20 @@ impl<J: Judge> Channel<J> {
         Ok(())
     }
 
+    /// Takes all that there is.
+    pub(crate) fn take_to_head(&mut self, table: &Table) -> Result<(), OutOfMemory>
+        requires { Reads J.verdict self.old table.now }
+        ensures { OnOk result ((rules : Rules) (c : ℕ) (family : Family)
+            (history : List HeldChange) (ch : machine.Channel)
+            → IsTable rules family history table.now
+            → IsChannel J.verdict rules c (Some family) history self.old ch
+            → IsChannel J.verdict rules c (Some family) history self.new
+            (if_up (times (length history) (take_one rules c history)) ch)) }
+    {
+        self.take_many(table, table.head())?;
+        Ok(())
+    }
+
     /// Pushes the first mark.
     pub(crate) fn push(&mut self) -> Result<Pushed, OutOfMemory>
         requires { IsSomeChannel J.verdict self.old true }

@@ -2,12 +2,12 @@
 ghost use Rattle.std.specs.Prelude.{◌≡◌, ◌↔◌, ◌<◌, ◌≤◌, ℕ, true, false, [], ◌∷◌, List, slice_get, Some, length, IfOk, IsSome, IsTrue, OnOk, None, reverse};
 ghost use Rattle.std.specs.List.{All};
 ghost use Rattle.attrs.specs.declared.route.Change.{Change as HeldChange};
-ghost use Rattle.core_machine.specs.Channels.{is_open, times};
-ghost use Rattle.core_machine.specs.Enters.{withdrawal};
+ghost use Rattle.core_machine.specs.Channels.{closed, is_open, times};
+ghost use Rattle.core_machine.specs.Enters.{standing_keys, withdrawal};
 ghost use Rattle.core_machine.specs.Machine.{Obeys, State, added, appended, arrived, flushed, if_open, push_at, takes, with_channel};
 ghost use Rattle.core_machine.specs.Match.{change_of_sending};
 ghost use Rattle.core_machine.specs.Room.{roomed};
-ghost use Rattle.core_machine.specs.Rounds.{AreSettled, HasRounds, IsSettled, pushed_out, round, turned};
+ghost use Rattle.core_machine.specs.Rounds.{AreSettled, HasRounds, IsSettled, pushed_out, round, taken_up, turned};
 ghost use Rattle.core_machine.specs.Rules.{Fits};
 ghost use Rattle.core_setup.specs.Protocols.{rules_of, signal_of};
 ghost use Rattle.core_setup.specs.Setup.{Setup};
@@ -17,6 +17,7 @@ ghost use Rattle.export_core.specs.declared.log.Sending.{Sending as HeldSending}
 ghost use Rattle.import_core.specs.declared.step.Mark.TheVariants as mark;
 ghost use Rattle.std.specs.declared.alloc.Global.{Global as Alloc};
 ghost use Rattle.std.specs.declared.vec.Vec.{Vec as Held};
+ghost use Rattle.run_tables.specs.declared.channel.Channel.{Channel as HeldChannel};
 ghost use Rattle.run_tables.specs.Routes.{AreRoutes, Ends, HasSent, Holds, HoldsUp, with_room};
 
 use crate::channel::Channel;
@@ -185,7 +186,8 @@ impl<J: Judge> Routes<J> {
             → (more ≡ false → (s.channels number).marks ≡ [])
             × (more ≡ true → 1 ≤ length (s.channels number).marks)) }
     {
-        match self.channels[number].push()? {
+        let pushed = self.channels[number].push()?;
+        match pushed {
             Pushed::Sent => {
                 self.enter(number)?;
                 Ok(true)
@@ -205,10 +207,26 @@ impl<J: Judge> Routes<J> {
             → AreRoutes J.verdict setup (arrived (rules_of setup)
             ((rules_of setup).target number) (change_of_sending (rules_of setup) x) s) self.new) }
     {
-        let Some(table) = self.channels[number].target else {
-            return Ok(());
-        };
-        match self.channels[number].entered(&self.sources)? {
+        match self.channels[number].target {
+            Some(table) => self.enter_to(number, table),
+            None => Ok(()),
+        }
+    }
+
+    /// The same, where it writes this table.
+    fn enter_to(&mut self, number: usize, table: usize) -> Result<(), OutOfMemory>
+        requires holds { HasSent J.verdict number self.old }
+        requires there { number < length self.old.channels.items }
+        requires writes { (held : HeldChannel J) → slice_get self.old.channels.items number ≡ Some held
+            → held.target ≡ Some table }
+        ensures { OnOk result ((setup : Setup) (s : State) (x : HeldSending)
+            (earlier : List HeldItem) → AreRoutes J.verdict setup s self.old
+            → (s.channels number).log ≡ Sent x ∷ earlier
+            → AreRoutes J.verdict setup (arrived (rules_of setup)
+            (Some table) (change_of_sending (rules_of setup) x) s) self.new) }
+    {
+        let entered = self.channels[number].entered(&self.sources)?;
+        match entered {
             Some(change) => self.append(table, change),
             None => Ok(()),
         }
@@ -223,9 +241,21 @@ impl<J: Judge> Routes<J> {
             → AreRoutes J.verdict setup
             (if_open number (times count (push_at (rules_of setup) number)) s) self.new) }
     {
-        if self.channels[number].cursor.is_none() {
-            return Ok(());
+        match self.channels[number].cursor {
+            Some(_) => self.push_some(number, count),
+            None => Ok(()),
         }
+    }
+
+    /// Has a channel that is up push so many marks, or all that there are.
+    fn push_some(&mut self, number: usize, count: u32) -> Result<(), OutOfMemory>
+        requires holds { HoldsUp J.verdict number self.old }
+        requires there { number < length self.old.channels.items }
+        ensures { OnOk result ((setup : Setup) (s : State)
+            → AreRoutes J.verdict setup s self.old
+            → AreRoutes J.verdict setup
+            (times count (push_at (rules_of setup) number) s) self.new) }
+    {
         for _ in 0..count {
             if !self.push_one(number)? {
                 return Ok(());
@@ -294,12 +324,28 @@ impl<J: Judge> Routes<J> {
             × AreRoutes J.verdict setup t self.new) }
     {
         match self.channels[number].target {
-            Some(table) => {
-                let keys = self.channels[number].flush(self.alloc)?;
-                self.withdraw(table, keys)
+            Some(table) => self.fall_from(number, table),
+            None => {
+                self.channels[number].fall()?;
+                Ok(())
             }
-            None => self.channels[number].fall(),
         }
+    }
+
+    /// The same, where the channel writes this table.
+    fn fall_from(&mut self, number: usize, table: usize) -> Result<(), OutOfMemory>
+        requires holds { HoldsUp J.verdict number self.old }
+        requires there { number < length self.old.channels.items }
+        requires writes { (held : HeldChannel J) → slice_get self.old.channels.items number ≡ Some held
+            → held.target ≡ Some table }
+        ensures { OnOk result ((setup : Setup) (s : State)
+            → AreRoutes J.verdict setup s self.old
+            → let u = flushed (rules_of setup) table (standing_keys (s.channels number).log) s in
+            AreRoutes J.verdict setup (with_channel number (closed (u.channels number)) u)
+            self.new) }
+    {
+        let keys = self.channels[number].flush(self.alloc)?;
+        self.withdraw(table, keys)
     }
 
     /// Withdraws keys from a table.
@@ -342,13 +388,35 @@ impl<J: Judge> Routes<J> {
             → AreRoutes J.verdict setup
             (turned (rules_of setup) number s) self.new) }
     {
-        if self.channels[number].cursor.is_none() {
-            return Ok(());
+        match self.channels[number].cursor {
+            Some(_) => self.settle_up(number),
+            None => Ok(()),
         }
-        let table = self.channels[number].table;
-        let head = self.tables[table].head();
-        self.channels[number].take_many(&self.tables[table], head)?;
+    }
+
+    /// The turn of a channel that is up.
+    fn settle_up(&mut self, number: usize) -> Result<(), OutOfMemory>
+        requires holds { HoldsUp J.verdict number self.old }
+        requires there { number < length self.old.channels.items }
+        ensures { OnOk result ((setup : Setup) (s : State)
+            → AreRoutes J.verdict setup s self.old → is_open (s.channels number) ≡ true
+            → AreRoutes J.verdict setup
+            (pushed_out (rules_of setup) number (taken_up (rules_of setup) number s)) self.new) }
+    {
+        self.take_up(number)?;
         self.push_out(number)
+    }
+
+    /// Has a channel that is up take to the head of its table.
+    fn take_up(&mut self, number: usize) -> Result<(), OutOfMemory>
+        requires holds { Holds J.verdict self.old }
+        requires there { number < length self.old.channels.items }
+        ensures { OnOk result ((setup : Setup) (s : State)
+            → AreRoutes J.verdict setup s self.old → is_open (s.channels number) ≡ true
+            → AreRoutes J.verdict setup (taken_up (rules_of setup) number s) self.new) }
+    {
+        let table = self.channels[number].table;
+        self.channels[number].take_to_head(&self.tables[table])
     }
 
     /// Whether a channel, where it is up, is settled.
