@@ -114,7 +114,7 @@ module _ {J : Type 0} (verdict : J → Net → Route → Verdict) (setup : Setup
   ]
 
 pub true_false : {A : Type 0} (b : Bool) → IsTrue b → b ≡ false → A
-true_false b yes no = absurd (let bad : true ≡ false = sym yes ∙ no in cc)
+true_false b one other = absurd (let bad : true ≡ false = sym one ∙ other in cc)
 
 -- ---- the turns of a round
 

@@ -42,40 +42,7 @@ pub struct Routes<J: Judge> {
     pub sources: Vec<Src>,
 }
 
-impl<J: Judge + Drop> Routes<J> {
-    /// Tables without routes, and channels that have sent nothing. The directions of pipes come up.
-    pub fn make(
-        alloc: Global,
-        cells: u64,
-        tables: Vec<Table>,
-        channels: Vec<Channel<J>>,
-        sources: Vec<Src>,
-    ) -> Result<Routes<J>, OutOfMemory> {
-        let readers = readers_of(alloc, tables.len(), &channels)?;
-        let mut routes = Routes {
-            alloc,
-            cells,
-            tables,
-            readers,
-            channels,
-            sources,
-        };
-        routes.open_pipes()?;
-        Ok(routes)
-    }
-}
-
 impl<J: Judge> Routes<J> {
-    /// Each direction of a pipe comes up.
-    fn open_pipes(&mut self) -> Result<(), OutOfMemory> {
-        for number in 0..self.channels.len() {
-            if self.channels[number].is_pipe() {
-                self.rise(number)?;
-            }
-        }
-        Ok(())
-    }
-
     // ---- changes of tables
 
     /// Lets a channel take one change, where it lags by the whole journal of the table that it
@@ -474,22 +441,6 @@ impl<J: Judge> Routes<J> {
         }
         Ok(rounds)
     }
-}
-
-/// The channels that read each of so many tables, in their order.
-fn readers_of<J: Judge>(
-    alloc: Global,
-    tables: usize,
-    channels: &[Channel<J>],
-) -> Result<Vec<Vec<usize>>, OutOfMemory> {
-    let mut readers = Vec::new(alloc);
-    for _ in 0..tables {
-        readers.push(Vec::new(alloc))?;
-    }
-    for (number, channel) in channels.iter().enumerate() {
-        readers[channel.table].push(number)?;
-    }
-    Ok(readers)
 }
 
 /// The change that takes a key out.

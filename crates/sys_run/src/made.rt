@@ -5,8 +5,8 @@ use crate::ways::{Direction, ends_with, ways_from};
 use attrs::{Judge, Seq, Src};
 use bits_ip::{Family, OutOfMemory};
 use export_core::{ExportSpec, Exporter};
-use import_core::Importer;
-use run_tables::{Channel, Table};
+use import_core::{Importer, Mark};
+use run_tables::{Channel, Routes, Table};
 use std::alloc::Global;
 use std::mem;
 
@@ -257,4 +257,58 @@ fn gate(alloc: Global, family: Family, number: u32, passed: &mut Vec<u32>) -> Ex
         every: true,
         sources: Seq::from_vec(mem::replace(passed, Vec::new(alloc))),
     }
+}
+
+// ---- tables and channels
+
+/// Tables without routes, and channels that have sent nothing. The directions of pipes come up.
+pub(crate) fn make_routes<J: Judge + Drop>(
+    alloc: Global,
+    cells: u64,
+    tables: Vec<Table>,
+    channels: Vec<Channel<J>>,
+    sources: Vec<Src>,
+) -> Result<Routes<J>, OutOfMemory> {
+    let readers = readers_of(alloc, tables.len(), &channels)?;
+    let mut routes = Routes {
+        alloc,
+        cells,
+        tables,
+        readers,
+        channels,
+        sources,
+    };
+    open_pipes(&mut routes)?;
+    Ok(routes)
+}
+
+/// Each direction of a pipe comes up.
+fn open_pipes<J: Judge>(routes: &mut Routes<J>) -> Result<(), OutOfMemory> {
+    for number in 0..routes.channels.len() {
+        open_pipe(routes, number)?;
+    }
+    Ok(())
+}
+
+fn open_pipe<J: Judge>(routes: &mut Routes<J>, number: usize) -> Result<(), OutOfMemory> {
+    if routes.channels[number].is_pipe() {
+        routes.obey(number, Mark::Up)?;
+    }
+    Ok(())
+}
+
+/// The channels that read each of so many tables, in their order.
+fn readers_of<J: Judge>(
+    alloc: Global,
+    tables: usize,
+    channels: &[Channel<J>],
+) -> Result<Vec<Vec<usize>>, OutOfMemory> {
+    let mut readers = Vec::new(alloc);
+    for _ in 0..tables {
+        readers.push(Vec::new(alloc))?;
+    }
+    for (number, channel) in channels.iter().enumerate() {
+        readers[channel.table].push(number)?;
+    }
+    Ok(readers)
 }

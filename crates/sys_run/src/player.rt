@@ -1,6 +1,6 @@
 //! A core: what plays a script.
 
-use crate::made::{Made, make_protocols, make_tables, passed_by};
+use crate::made::{Made, make_protocols, make_routes, make_tables, passed_by};
 use crate::parts::{ProtocolParts, TableParts};
 use crate::phase::Begun;
 use crate::protocol::{Body, Protocol, is_up_behind, pipe_mark};
@@ -62,7 +62,7 @@ impl<J: Judge + Drop> Core<J> {
         Ok(Core {
             alloc,
             phases: 0,
-            routes: Routes::make(alloc, u64::from(cells), held, channels, sources)?,
+            routes: make_routes(alloc, u64::from(cells), held, channels, sources)?,
             protocols,
             replies: Vec::new(alloc),
             tables,
