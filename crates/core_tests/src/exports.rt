@@ -1,10 +1,10 @@
 //! A channel whose outlet refuses.
-ghost use Rattle.std.specs.Prelude.{◌≡◌, [], OnOk, true};
+ghost use Rattle.std.specs.Prelude.{◌≡◌, [], OnOk, false, true};
 ghost use Rattle.bits_ip.specs.declared.address.Family.TheVariants.{V4};
 ghost use Rattle.export_core.specs.Standing.{is_open};
 
 use crate::samples::{All, net, route};
-use attrs::JEntry;
+use attrs::{JEntry, Seq};
 use bits_ip::Family;
 use export_core::{ExportSpec, Exporter, LogItem, Outlet, PushFault, Pushed, PutFault, Sending};
 use std::alloc::Global;
@@ -38,14 +38,17 @@ impl Outlet for Refusing {
 }
 
 /// What stands for the channel of a neighbour in another autonomous system.
-fn spec() -> ExportSpec
-    ensures { result.family ≡ V4 }
+pub fn spec(alloc: Global) -> ExportSpec
+    ensures family { result.family ≡ V4 }
+    ensures every { result.every ≡ false }
 {
     ExportSpec {
         family: Family::V4,
         own: 2,
         to_ebgp: true,
         interpret: true,
+        every: false,
+        sources: Seq::new(alloc),
     }
 }
 
@@ -53,7 +56,8 @@ fn spec() -> ExportSpec
 fn begin(alloc: Global, exporter: &mut Exporter<All>) -> Result<(), Fail>
     requires log { exporter.old.log ≡ [] }
     requires family { exporter.old.spec.family ≡ V4 }
-    ensures { OnOk result (is_open exporter.new.log ≡ true) }
+    ensures up { OnOk result (is_open exporter.new.log ≡ true) }
+    ensures stays { OnOk result (exporter.new.flushing ≡ false) }
 {
     let net = net()?;
     let best = Some(route(alloc, 1)?);
@@ -69,8 +73,10 @@ fn begin(alloc: Global, exporter: &mut Exporter<All>) -> Result<(), Fail>
 }
 
 fn push(exporter: &mut Exporter<All>, outlet: &mut Refusing) -> Result<Pushed, PushFault>
-    requires { is_open exporter.old.log ≡ true }
-    ensures { is_open exporter.new.log ≡ true }
+    requires up { is_open exporter.old.log ≡ true }
+    requires stays { exporter.old.flushing ≡ false }
+    ensures up { is_open exporter.new.log ≡ true }
+    ensures stays { exporter.new.flushing ≡ false }
 {
     match exporter.push_one(outlet) {
         Ok(pushed) => Ok(pushed),
@@ -82,7 +88,7 @@ type Answers = [Result<Pushed, PushFault>; 3];
 
 /// What three pushes answer, the first of which is refused, and whether the log then has the value.
 fn pushed(alloc: Global, fault: PushFault) -> Result<(Answers, bool), Fail> {
-    let mut exporter = Exporter::make(alloc, spec(), All);
+    let mut exporter = Exporter::make(alloc, spec(alloc), All);
     begin(alloc, &mut exporter)?;
     let mut outlet = Refusing {
         fault,

@@ -5,7 +5,11 @@
 #![tactic(auto)]
 
 #[cfg(test)]
+mod directions;
+#[cfg(test)]
 mod exports;
+#[cfg(test)]
+mod feeds;
 #[cfg(test)]
 mod imports;
 #[cfg(test)]

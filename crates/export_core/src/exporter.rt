@@ -271,6 +271,7 @@ impl<J: Judge> Exporter<J> {
         ensures cause { IfErr result (λ fault. fault ≢ PushFault.Memory
             → Rose (O.refusals outlet.old) (O.refusals outlet.new)
             × (O.fault outlet.new ≡ Some fault)) }
+        ensures stays { OnOk result (self.new.flushing ≡ false) }
     {
         let key = sending.key();
         let number = sending.number(&self.log);
@@ -297,6 +298,7 @@ impl<J: Judge> Exporter<J> {
             → Rose (O.refusals outlet.old) (O.refusals outlet.new)
             × (O.fault outlet.new ≡ Some fault)) }
         ensures up { OnOk result (is_open self.new.log ≡ true) }
+        ensures stays { OnOk result (self.new.flushing ≡ false) }
         ensures stands { OnOk result ((c : Course)
             → StandsFor J.verdict c self.old → StandsFor J.verdict c self.new) }
     {

@@ -1,0 +1,165 @@
+//! A pipe's direction: it passes each source, and withdraws what stands before it goes down.
+ghost use Rattle.std.specs.Prelude.{◌≡◌, ◌+◌, [], IfOk, OnOk, false, true};
+ghost use Rattle.bits_ip.specs.declared.address.Family.TheVariants.{V4};
+ghost use Rattle.export_core.specs.Standing.{is_open};
+
+use crate::samples::{All, net, route};
+use attrs::{JEntry, Seq};
+use bits_ip::Family;
+use export_core::{ExportSpec, Exporter, LogItem, Outlet, Pushed, PutFault, Sending};
+use std::alloc::Global;
+use std::test::Fail;
+
+/// Keeps of each value its source, and whether it is one.
+#[derive(Debug, Drop)]
+struct Kept {
+    sent: Vec<(u32, bool)>,
+}
+
+impl Outlet for Kept {
+    ghost use Rattle.std.specs.Prelude.{true, None};
+
+    ghost takes = { λ _ _ _. true };
+
+    ghost refusals = { λ _. 0 };
+
+    ghost fault = { λ _. None };
+
+    ghost told = { λ _. None };
+
+    fn put(&mut self, sending: &Sending) -> Result<(), PutFault> {
+        let _kept = self.sent.push((sending.key.num, sending.value.is_some()));
+        Ok(())
+    }
+}
+
+/// A direction that passes the sources 1 and 3.
+fn spec(alloc: Global) -> Result<ExportSpec, Fail>
+    ensures family { IfOk result (λ spec. spec.family ≡ V4) }
+    ensures every { IfOk result (λ spec. spec.every ≡ true) }
+{
+    let mut sources = Seq::new(alloc);
+    sources.push(1)?;
+    sources.push(3)?;
+    Ok(ExportSpec {
+        family: Family::V4,
+        own: 9,
+        to_ebgp: false,
+        interpret: false,
+        every: true,
+        sources,
+    })
+}
+
+/// The best route is that of source 7, which the direction doesn't pass.
+fn take(alloc: Global, exporter: &mut Exporter<All>, pos: u64, num: u32) -> Result<(), Fail>
+    requires up { is_open exporter.old.log ≡ true }
+    requires next { pos ≡ exporter.old.position + 1 }
+    requires family { exporter.old.spec.family ≡ V4 }
+    ensures up { OnOk result (is_open exporter.new.log ≡ true) }
+    ensures at { OnOk result (exporter.new.position ≡ pos) }
+    ensures spec { OnOk result (exporter.new.spec ≡ exporter.old.spec) }
+    ensures flushing { OnOk result (exporter.new.flushing ≡ exporter.old.flushing) }
+{
+    let net = net()?;
+    let new = Some(route(alloc, num)?);
+    let best = Some(route(alloc, 7)?);
+    let entry = JEntry {
+        net,
+        num,
+        new,
+        best,
+    };
+    exporter.take(pos, &entry)?;
+    Ok(())
+}
+
+/// The direction takes entries of the sources 3, 2 and 1.
+fn begun(alloc: Global) -> Result<Exporter<All>, Fail>
+    ensures up { IfOk result (λ exporter. is_open exporter.log ≡ true) }
+    ensures every { IfOk result (λ exporter. exporter.spec.every ≡ true) }
+    ensures stays { IfOk result (λ exporter. exporter.flushing ≡ false) }
+{
+    let mut exporter = Exporter::make(alloc, spec(alloc)?, All);
+    exporter.up(0)?;
+    take(alloc, &mut exporter, 1, 3)?;
+    take(alloc, &mut exporter, 2, 2)?;
+    take(alloc, &mut exporter, 3, 1)?;
+    Ok(exporter)
+}
+
+fn push(exporter: &mut Exporter<All>, outlet: &mut Kept) -> Result<Pushed, Fail>
+    requires up { is_open exporter.old.log ≡ true }
+    requires stays { exporter.old.flushing ≡ false }
+    requires every { exporter.old.spec.every ≡ true }
+    ensures up { OnOk result (is_open exporter.new.log ≡ true) }
+    ensures stays { OnOk result (exporter.new.flushing ≡ false) }
+    ensures every { OnOk result (exporter.new.spec.every ≡ true) }
+{
+    let pushed = exporter.push_one(outlet)?;
+    Ok(pushed)
+}
+
+/// What three pushes answer.
+fn pushed(exporter: &mut Exporter<All>, outlet: &mut Kept) -> Result<[Pushed; 3], Fail>
+    requires up { is_open exporter.old.log ≡ true }
+    requires stays { exporter.old.flushing ≡ false }
+    requires every { exporter.old.spec.every ≡ true }
+    ensures up { OnOk result (is_open exporter.new.log ≡ true) }
+    ensures every { OnOk result (exporter.new.spec.every ≡ true) }
+{
+    let first = push(exporter, outlet)?;
+    let second = push(exporter, outlet)?;
+    let third = push(exporter, outlet)?;
+    Ok([first, second, third])
+}
+
+/// One withdrawal, where something stands still.
+fn withdraw(exporter: &mut Exporter<All>, outlet: &mut Kept) -> Result<Pushed, Fail>
+    requires up { is_open exporter.old.log ≡ true }
+    requires every { exporter.old.spec.every ≡ true }
+    ensures up { OnOk result (is_open exporter.new.log ≡ true) }
+    ensures every { OnOk result (exporter.new.spec.every ≡ true) }
+{
+    let pushed = exporter.flush_one(outlet)?;
+    Ok(pushed)
+}
+
+/// The direction goes down, and answers whether nothing was left to withdraw.
+fn end(exporter: &mut Exporter<All>, outlet: &mut Kept) -> Result<bool, Fail>
+    requires up { is_open exporter.old.log ≡ true }
+    requires every { exporter.old.spec.every ≡ true }
+{
+    match exporter.flush_one(outlet)? {
+        Pushed::Nothing => {
+            exporter.down()?;
+            Ok(true)
+        }
+        _ => Ok(false),
+    }
+}
+
+#[test]
+fn a_pipe_passes_each_source_and_withdraws_in_order(rt: HostRuntime) -> Result<(), Fail> {
+    let alloc = rt.alloc();
+    let mut exporter = begun(alloc)?;
+    let mut outlet = Kept {
+        sent: Vec::new(alloc),
+    };
+    let answers = pushed(&mut exporter, &mut outlet)?;
+    assert!(rt; answers == [Pushed::Sent, Pushed::Sent, Pushed::Nothing]);
+    assert_eq!(rt; outlet.sent.as_slice(), [(3, true), (1, true)].as_slice());
+    let first = withdraw(&mut exporter, &mut outlet)?;
+    assert!(rt; exporter.is_flushing());
+    let second = withdraw(&mut exporter, &mut outlet)?;
+    assert!(rt; [first, second] == [Pushed::Sent, Pushed::Sent]);
+    assert_eq!(rt;
+        outlet.sent.as_slice(),
+        [(3, true), (1, true), (1, false), (3, false)].as_slice()
+    );
+    assert!(rt; exporter.items().len() == 3);
+    assert!(rt; end(&mut exporter, &mut outlet)?);
+    assert!(rt; !exporter.is_flushing());
+    assert!(rt; exporter.items().len() == 4);
+    Ok(())
+}
