@@ -3,6 +3,7 @@
 use Rattle.std.proofs.Common.{◌≡◌, ◌≢◌, ◌∙◌, sym, ap, refl, subst, ℕ, ◌+◌, ◌≤◌, true, false, List, [], ◌∷◌, ◌++◌, map, Some, option_map, arith, length, true≢false}
 use Rattle.std.proofs.lemmas.Option.{slice_get_within}
 use Rattle.bits_ip.specs.declared.address.Family.{Family}
+use Rattle.conf_check.specs.Behind.{at_start, behind}
 use Rattle.conf_rules.specs.Joints.{IsForest, JoinsApart, joined}
 use Rattle.conf_rules.specs.declared.joints.Joint.{Joint}
 use Rattle.core_setup.specs.Pairs.{Pairs}
@@ -68,7 +69,8 @@ unfolding system_in
 some_tables text system is =
     let first = masters_first text is.0 in
     let count = ap length first.1 in
-    subst (λ (s : System). 1 ≤ length s.tables) (sym is.2) (omega (arith, count))
+    let some : 1 ≤ length (behind (at_start text) is.0).tables = omega (arith, count) in
+    subst (λ (s : System). 1 ≤ length s.tables) (sym is.2) some
 
 pub playable : ((pipes : List Joint) (a : ℕ) → joined pipes a a ≡ true)
     → ((text : List ℕ) (system : System) → IsSystem text system → AllFit system.tables system.protocols)
