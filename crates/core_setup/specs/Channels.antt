@@ -1,6 +1,6 @@
--- The channels of what is played (`channels`), in the order of protocols: one of BGP has a channel to
--- its neighbour, of its own name; a pipe P has the direction `P.export` from its primary table to
--- its peer table and then `P.import` back; a static one has none. Their numbers count from 0.
+-- The channels of what is played (`channels`), in the order of protocols: one of BGP has a channel
+-- to its neighbour, of its own name; a pipe P has the direction `P.export` from its primary table
+-- to its peer table and then `P.import` back; a static one has none. Their numbers count from 0.
 -- From: BIRD User's Guide, "Channel options" and "Pipe"; the names of a pipe's channels are own.
 -- Example: behind a pipe the channel of the next protocol of BGP has number 2.
 use Rattle.std.specs.Prelude.{◌==◌, ◌+◌, ℕ, true, false, List, [], ◌∷◌, ◌++◌, codes, Option, Some, None, option_and_then, slice_get, if◌then◌else◌}

@@ -1,7 +1,8 @@
 -- What tables and protocols say to the machine, its rules (`rules_of`): what an operation of a
--- protocol does behind its earlier ones (`effect_at`), what a channel sends of a route (`value_at`),
--- the best of a net's routes, by which pipes a source's routes come to a table (`ways`), which
--- sources a pipe's direction passes (`sources`), and the starts of static protocols (`starts`).
+-- protocol does behind its earlier ones (`effect_at`), what a channel sends of a route
+-- (`value_at`), the best of a net's routes, by which pipes a source's routes come to a table
+-- (`ways`), which sources a pipe's direction passes (`sources`), and the starts of static
+-- protocols (`starts`).
 -- Lists of operations and of changes are read backwards.
 -- From: the definitions of imports (specs/Operations of import_core), of exports (specs/Passing of
 -- export_core) and of selection; BIRD User's Guide, "Pipe" and "Remote control".

@@ -45,8 +45,8 @@ pub fn exporters_go_by_the_rules()
     levels_give_ways();
 }
 
-/// A pipe is up or down by the last `enable` or `disable` that it was told, and up where it was told
-/// neither.
+/// A pipe is up or down by the last `enable` or `disable` that it was told, and up where it was
+/// told neither.
 pub fn pipes_obey_the_last_word()
     ensures first { pipe_is_up [] ≡ true }
     ensures enabled { (earlier : List Op) → pipe_is_up (Enable ∷ earlier) ≡ true }

@@ -23,10 +23,6 @@ handed verdict tables protocols system cells tables_are protocols_are =
     ap (λ (t : List (List ℕ × Family)). record { tables = t; protocols = map (protocol_seen verdict) protocols; cells = cells }) tables_are
     ∙ ap (λ (p : List setup.Protocol). record { tables = system.tables; protocols = p; cells = cells }) protocols_are
 
--- what holds of the one where it is fit, holds of the other
-pub handed_on : (P Q : Setup → Type 0) (seen of : Setup) → seen ≡ of → P of → (P seen → Q seen) → Q of
-handed_on P Q seen of same fit given = subst (λ (s : Setup). Q s) same (given (subst (λ (s : Setup). P s) (sym same) fit))
-
 -- ---- one protocol, part by part
 
 module _ {J : Type 0} (verdict : J → Net → Route → Verdict) where

@@ -1,14 +1,18 @@
 -- What an accepted configuration gives to play is a setup, where each channel has its table; and scripts know its protocols as
 -- what they are.
-use Rattle.std.proofs.Common.{◌≡◌, ◌∙◌, sym, ap, refl, subst, ℕ, ◌+◌, ◌≤◌, List, [], ◌∷◌, map, Some, option_map, arith, length}
+use Rattle.std.proofs.Common.{◌≡◌, ◌≢◌, ◌∙◌, sym, ap, refl, subst, ℕ, ◌+◌, ◌≤◌, true, false, List, [], ◌∷◌, ◌++◌, map, Some, option_map, arith, length, true≢false}
 use Rattle.std.proofs.lemmas.Option.{slice_get_within}
 use Rattle.bits_ip.specs.declared.address.Family.{Family}
+use Rattle.conf_check.specs.Behind.{at_start, behind}
+use Rattle.conf_rules.specs.Joints.{IsForest, JoinsApart, joined}
+use Rattle.conf_rules.specs.declared.joints.Joint.{Joint}
 use Rattle.core_setup.specs.Pairs.{Pairs}
 use Rattle.core_setup.specs.Setup as setup
 use Rattle.core_setup.specs.Setup.{IsSetup, family_at}
 use Rattle.script_lines.specs.declared.named.NamedProtocol.{NamedProtocol}
 use Rattle.system.specs.System.{Bgp, Body, IsBgp, IsPipe, IsStatic, Pipe, Protocol, Static, System, system_in}
-use Rattle.system.specs.Tables.{AllFit, BodyFits, Fits, FitsPipe, Has, Tables}
+use Rattle.system.specs.Pipes.{pipe_of as joint_in, pipes_of}
+use Rattle.system.specs.Tables.{AllFit, BodyFits, Fits, Has, Tables}
 use Rattle.system.specs.Texts.{IsSystem}
 use Rattle.system.proofs.TablesThere.{masters_first}
 use Rattle.sys_build.specs.Names.{IsKindOf, kind_of, named_of, named_protocol}
@@ -31,22 +35,33 @@ bgp_fits tables number p fits = record {
   session = record { family = has_family tables p.channel.table p.channel.family fits; own = refl; every = refl };
 }
 
-pipe_fits : (tables : Tables) (p : Pipe) → FitsPipe tables p → setup.FitsPipe tables (pipe_of p)
-pipe_fits tables p fits = record {
-  primary = slice_get_within tables p.table fits.primary.0 fits.primary.1;
-  peer = slice_get_within tables p.peer fits.peer.0 fits.peer.1;
-  apart = fits.apart;
-  family = has_family tables p.table fits.family fits.primary ∙ sym (has_family tables p.peer fits.family fits.peer);
+pipe_fits : (tables : Tables) (p : Pipe) → BodyFits tables (IsPipe p) → p.table ≢ p.peer → setup.FitsPipe tables (pipe_of p)
+pipe_fits tables p fits apart = record {
+  primary = slice_get_within tables p.table fits.0.0 fits.0.1;
+  peer = slice_get_within tables p.peer fits.1.0 fits.1.1;
+  apart = apart;
+  family = has_family tables p.table p.family fits.0 ∙ sym (has_family tables p.peer p.family fits.1);
 }
 
-body_fits : (tables : Tables) (number : ℕ) (body : Body) → BodyFits tables body → setup.FitsBody tables number (body_of number body)
-body_fits tables number (IsStatic p) fits = static_fits tables number p fits
-body_fits tables number (IsBgp p) fits = bgp_fits tables number p fits
-body_fits tables number (IsPipe p) fits = pipe_fits tables p fits
+-- A table is joined to itself: so a pipe that joins what those before it don't join has two tables.
+module _ (itself : (pipes : List Joint) (a : ℕ) → joined pipes a a ≡ true) (tables : Tables) where
+  two_tables : (before : List Joint) (p : Pipe) → joined before p.table p.peer ≡ false → p.table ≢ p.peer
+  two_tables before p apart same =
+      true≢false (sym (itself before p.peer) ∙ ap (λ (a : ℕ). joined before a p.peer) (sym same) ∙ apart)
 
-protocols_fit : (tables : Tables) (number : ℕ) (ps : List Protocol) → AllFit tables ps → setup.AreProtocols tables number (protocols_from number ps)
-protocols_fit tables number [] fit = tt
-protocols_fit tables number (p ∷ more) fit = (body_fits tables number p.body fit.0, protocols_fit tables (number + 1) more fit.1)
+  next_fit : (before : List Joint) (number : ℕ) (name : List ℕ) (body : Body) (more : List Protocol) → BodyFits tables body → JoinsApart before (joint_in body ++ pipes_of more)
+      → ((behind : List Joint) → JoinsApart behind (pipes_of more) → setup.AreProtocols tables (number + 1) (protocols_from (number + 1) more))
+      → setup.AreProtocols tables number (protocols_from number (record { name = name; body = body } ∷ more))
+  next_fit before number name (IsStatic p) more fits apart rest = (static_fits tables number p fits, rest before apart)
+  next_fit before number name (IsBgp p) more fits apart rest = (bgp_fits tables number p fits, rest before apart)
+  next_fit before number name (IsPipe p) more fits apart rest =
+      let joint : Joint = record { table = p.table; peer = p.peer } in
+      (pipe_fits tables p fits (two_tables before p apart.0), rest (before ++ joint ∷ []) apart.1)
+
+  protocols_fit : (before : List Joint) (number : ℕ) (ps : List Protocol) → AllFit tables ps → JoinsApart before (pipes_of ps) → setup.AreProtocols tables number (protocols_from number ps)
+  protocols_fit before number [] fit apart = tt
+  protocols_fit before number (p ∷ more) fit apart =
+      next_fit before number p.name p.body more fit.0 apart (λ behind later. protocols_fit behind (number + 1) more fit.1 later)
 
 -- the main tables are there
 some_tables : (text : List ℕ) (system : System) → IsSystem text system → 1 ≤ length system.tables
@@ -54,14 +69,17 @@ unfolding system_in
 some_tables text system is =
     let first = masters_first text is.0 in
     let count = ap length first.1 in
-    subst (λ (s : System). 1 ≤ length s.tables) (sym is.2) (omega (arith, count))
+    let some : 1 ≤ length (behind (at_start text) is.0).tables = omega (arith, count) in
+    subst (λ (s : System). 1 ≤ length s.tables) (sym is.2) some
 
-pub playable : ((text : List ℕ) (system : System) → IsSystem text system → AllFit system.tables system.protocols)
+pub playable : ((pipes : List Joint) (a : ℕ) → joined pipes a a ≡ true)
+    → ((text : List ℕ) (system : System) → IsSystem text system → AllFit system.tables system.protocols)
+    → ((text : List ℕ) (system : System) → IsSystem text system → IsForest (pipes_of system.protocols))
     → (text : List ℕ) (system : System) → IsSystem text system → (cells : ℕ) → IsSetup (setup_of system cells)
 unfolding setup_of
-playable there text system is cells = record {
+playable itself there forest text system is cells = record {
   tables = some_tables text system is;
-  protocols = protocols_fit system.tables 0 system.protocols (there text system is);
+  protocols = protocols_fit itself system.tables [] 0 system.protocols (there text system is) (forest text system is);
 }
 
 -- ---- kinds

@@ -10,7 +10,10 @@ ghost use Rattle.sys_build.specs.Setups.{setup_of};
 ghost use Rattle.system.specs.System.{System};
 ghost use Rattle.system.specs.Texts.{IsSystem};
 
-use system::laws::{channels_have_their_tables, configurations_have_few_protocols};
+use conf_rules::laws::joined_tables_are_those_that_pipes_lead_between;
+use system::laws::{
+    channels_have_their_tables, configurations_have_few_protocols, pipes_form_a_forest,
+};
 
 /// An accepted configuration can be played: routes tell the numbers of their protocols, each table
 /// that a protocol names is there, each channel is of the family of its table, and a pipe joins two
@@ -19,7 +22,9 @@ pub fn accepted_configurations_are_setups()
     ensures { (text : List ℕ) (system : System) → IsSystem text system → (cells : ℕ)
         → IsSetup (setup_of system cells) }
 {
+    joined_tables_are_those_that_pipes_lead_between();
     channels_have_their_tables();
+    pipes_form_a_forest();
 }
 
 /// The numbers by which scripts name protocols and channels are those of the setup, and so those of
