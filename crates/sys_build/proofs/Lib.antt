@@ -1,4 +1,5 @@
 pub mod Few
 pub mod Handed
+pub mod Numbering
 pub mod Playable
 pub mod Turns

@@ -6,9 +6,9 @@ use Rattle.std.proofs.lemmas.List.{length-map, length-take-le, map-append, take_
 use Rattle.std.proofs.lemmas.Option.{get_or_from_slice_get, slice_get_within}
 use Rattle.core_setup.specs.Setup as setup
 use Rattle.script_lines.specs.declared.named.NamedProtocol.{NamedProtocol}
-use Rattle.system.specs.System.{Body, IsBgp, IsPipe, IsStatic, Protocol, System}
+use Rattle.system.specs.System.{Protocol, System}
 use Rattle.sys_build.specs.Names.{all_channels, channels_of, named_of, named_protocol}
-use Rattle.sys_build.specs.Setups.{has_pipe, is_pipe, protocols_from, with_protocol}
+use Rattle.sys_build.specs.Setups.{has_pipe, is_pipe, protocol_of, protocols_from}
 
 -- ---- lists
 
@@ -28,23 +28,18 @@ got_next see xs old new i x so_far pushed is =
 
 -- ---- protocols
 
-with_append : (n : ℕ) (name : List ℕ) (body : Body) (xs ys : List setup.Protocol) → with_protocol n name body (xs ++ ys) ≡ with_protocol n name body xs ++ ys
-with_append n name (IsStatic p) xs ys = refl
-with_append n name (IsBgp p) xs ys = refl
-with_append n name (IsPipe p) xs ys = refl
-
-protocols_push : (n : ℕ) (ps : List Protocol) (p : Protocol) → protocols_from n (ps ++ p ∷ []) ≡ protocols_from n ps ++ with_protocol (n + length ps) p.name p.body []
-protocols_push n [] p = ap (λ (k : ℕ). with_protocol k p.name p.body []) (omega arith)
+protocols_push : (n : ℕ) (ps : List Protocol) (p : Protocol) → protocols_from n (ps ++ p ∷ []) ≡ protocols_from n ps ++ protocol_of (n + length ps) p ∷ []
+protocols_push n [] p = ap (λ (k : ℕ). protocol_of k p ∷ []) (omega arith)
 protocols_push n (q ∷ ps) p =
-    ap (λ (l : List setup.Protocol). with_protocol n q.name q.body l) (protocols_push (n + 1) ps p)
-    ∙ with_append n q.name q.body (protocols_from (n + 1) ps) (with_protocol (n + 1 + length ps) p.name p.body [])
-    ∙ ap (λ (k : ℕ). with_protocol n q.name q.body (protocols_from (n + 1) ps) ++ with_protocol k p.name p.body []) (omega arith)
+    ap (λ (l : List setup.Protocol). protocol_of n q ∷ l) (protocols_push (n + 1) ps p)
+    ∙ ap (λ (k : ℕ). protocol_of n q ∷ (protocols_from (n + 1) ps ++ protocol_of k p ∷ [])) (omega arith)
 
-pub protocols_turn : {D : Type 0} (see : D → Protocol) (defs : List D) (i : ℕ) (d : D) (old new : List setup.Protocol) → i < length defs → d ≡ get_or defs i d → old ≡ protocols_from 0 (map see (take i defs))
-    → new ≡ old ++ with_protocol i (see d).name (see d).body [] → new ≡ protocols_from 0 (map see (take (i + 1) defs))
-protocols_turn see defs i d old new below is so_far pushed =
-    pushed ∙ ap (λ (l : List setup.Protocol). l ++ with_protocol i (see d).name (see d).body []) so_far
-    ∙ ap (λ (k : ℕ). protocols_from 0 (map see (take i defs)) ++ with_protocol k (see d).name (see d).body []) (omega (arith, length-map (take i defs) see, length-take-le i defs (omega (arith, below))))
+pub protocols_turn : {D P : Type 0} (see : D → Protocol) (made : P → setup.Protocol) (defs : List D) (i : ℕ) (d : D) (old new : List P) (x : P) → i < length defs → d ≡ get_or defs i d → map made old ≡ protocols_from 0 (map see (take i defs))
+    → new ≡ old ++ x ∷ [] → made x ≡ protocol_of i (see d) → map made new ≡ protocols_from 0 (map see (take (i + 1) defs))
+protocols_turn see made defs i d old new x below is so_far pushed seen =
+    ap (λ (l : List _). map made l) pushed ∙ map-append made old (x ∷ []) ∙ ap (λ (l : List setup.Protocol). l ++ made x ∷ []) so_far
+    ∙ ap (λ (y : setup.Protocol). protocols_from 0 (map see (take i defs)) ++ y ∷ []) seen
+    ∙ ap (λ (k : ℕ). protocols_from 0 (map see (take i defs)) ++ protocol_of k (see d) ∷ []) (omega (arith, length-map (take i defs) see, length-take-le i defs (omega (arith, below))))
     ∙ sym (protocols_push 0 (map see (take i defs)) (see d))
     ∙ ap (λ (l : List Protocol). protocols_from 0 l) (sym (seen_more see defs i d below is))
 

@@ -1,8 +1,12 @@
 -- What scripts can name of a configuration (`named_of`): its protocols with their kinds, and its
--- channels.
+-- channels; which kind is that of a protocol that is played (`IsKindOf`).
 -- From: own.
 -- Example: a protocol of BGP is a protocol and a channel of one name.
-use Rattle.std.specs.Prelude.{ℕ, List, [], ◌∷◌, ◌++◌, map, codes}
+use Rattle.std.specs.Prelude.{◌≡◌, ℕ, List, [], ◌∷◌, ◌++◌, map, codes, Some, ⊤}
+use Rattle.attrs.specs.declared.attributes.Kind.TheVariants.{Bgp, Static}
+use Rattle.bits_ip.specs.declared.address.Family.{Family}
+use Rattle.core_setup.specs.Setup as setup
+use Rattle.core_setup.specs.Setup.{family_at}
 use Rattle.script_lines.specs.declared.named.Named.{Named}
 use Rattle.script_lines.specs.declared.named.NamedProtocol.{NamedProtocol}
 use Rattle.script_lines.specs.declared.named.ProtocolKind.{ProtocolKind}
@@ -36,3 +40,12 @@ named_of system = record {
   protocols = map named_protocol system.protocols;
   channels = all_channels system.protocols;
 }
+
+-- a protocol that is played is of this kind, and the family is that of its table
+abbrev pub IsKindOf : List (List ℕ × Family) → ProtocolKind → setup.Body → Type 0
+IsKindOf tables (kinds.Static family) (setup.IsSource p) =
+    (p.spec.kind ≡ Static) × (family_at tables p.table ≡ Some family)
+IsKindOf tables (kinds.Bgp family) (setup.IsSource p) =
+    (p.spec.kind ≡ Bgp) × (family_at tables p.table ≡ Some family)
+IsKindOf tables kinds.Pipe (setup.IsPipe p) = ⊤
+IsKindOf tables _ _ = ⊥

@@ -1,7 +1,6 @@
--- What a configuration gives to play (`setup_of`): its tables, and its protocols but for pipes,
--- with what holds for their routes and what their filters say; whether it has a pipe (`has_pipe`).
--- Not modelled: pipes.
--- From: BIRD User's Guide, "Static", "BGP" and "Channel options".
+-- What a configuration gives to play (`setup_of`): its tables, and its protocols, each with its
+-- number, with what holds for their routes and what their filters say.
+-- From: BIRD User's Guide, "Static", "BGP", "Pipe" and "Channel options".
 -- Example: static routes have preference 200; a neighbour in another AS is external.
 use Rattle.std.specs.Prelude.{◌≡◌, ℕ, ◌+◌, Bool, true, false, not, ◌==◌, if◌then◌else◌, List, [], ◌∷◌, map, Option, Some, None, option_map}
 use Rattle.bits_ip.specs.declared.address.Addr.{Addr}
@@ -23,8 +22,8 @@ use Rattle.import_core.specs.declared.import_spec.ImportSpec.{ImportSpec}
 use Rattle.import_core.specs.declared.import_spec.Limit.{Limit}
 use Rattle.protos.specs.Protocols.{bgp_spec, static_spec}
 use Rattle.core_setup.specs.Setup as setup
-use Rattle.core_setup.specs.Setup.{Exports, Setup}
-use Rattle.system.specs.System.{Bgp, Body, IsBgp, IsPipe, IsStatic, Protocol, Static, System}
+use Rattle.core_setup.specs.Setup.{Setup}
+use Rattle.system.specs.System.{Bgp, Body, IsBgp, IsPipe, IsStatic, Pipe, Protocol, Static, System}
 use Rattle.system.specs.Texts.{IsSystem}
 
 -- ---- imports
@@ -66,9 +65,8 @@ static_imports number preference limit routes =
     static_spec (record { num = number; def_med = 0; def_lp = 0 }) preference
     (option_map limit_of limit) (map fixed_of routes)
 
-abbrev pub static_of : ℕ → List ℕ → Static → setup.Protocol
-static_of number name p = record {
-  name = name;
+abbrev pub static_of : ℕ → Static → setup.Source
+static_of number p = record {
   table = p.channel.table;
   spec = static_imports number p.channel.preference p.channel.limit p.routes;
   filter = p.channel.import;
@@ -85,17 +83,19 @@ bgp_imports number med local_pref neighbor external preference limit =
     bgp_spec (record { num = number; def_med = med; def_lp = local_pref }) neighbor external
     preference (option_map limit_of limit)
 
+-- the gate of a channel to a neighbour, which sends the best route of each net
 abbrev pub gate_of : ℕ → Family → (external interpret : Bool) → ExportSpec
 gate_of number family external interpret = record {
   family = family;
   own = number;
   to_ebgp = external;
   interpret = interpret;
+  every = false;
+  sources = [];
 }
 
-abbrev pub bgp_of : ℕ → List ℕ → Bgp → setup.Protocol
-bgp_of number name p = record {
-  name = name;
+abbrev pub bgp_of : ℕ → Bgp → setup.Source
+bgp_of number p = record {
   table = p.channel.table;
   spec = bgp_imports number p.default_med p.default_local_pref p.neighbor
       (is_external p.local p.remote) p.channel.preference p.channel.limit;
@@ -107,16 +107,22 @@ bgp_of number name p = record {
   });
 }
 
-abbrev pub with_protocol :
-    ℕ → List ℕ → Body → List setup.Protocol → List setup.Protocol
-with_protocol number name (IsStatic p) more = static_of number name p ∷ more
-with_protocol number name (IsBgp p) more = bgp_of number name p ∷ more
-with_protocol number name (IsPipe p) more = more
+-- from the primary table to the peer table by the exports, and back by the imports
+abbrev pub pipe_of : Pipe → setup.Pipe
+pipe_of p = record { primary = p.table; peer = p.peer; export = p.export; import = p.import }
 
+abbrev pub body_of : ℕ → Body → setup.Body
+body_of number (IsStatic p) = setup.IsSource (static_of number p)
+body_of number (IsBgp p) = setup.IsSource (bgp_of number p)
+body_of number (IsPipe p) = setup.IsPipe (pipe_of p)
+
+abbrev pub protocol_of : ℕ → Protocol → setup.Protocol
+protocol_of number p = record { name = p.name; body = body_of number p.body }
+
+-- protocols with their numbers from this one on
 abbrev pub protocols_from : ℕ → List Protocol → List setup.Protocol
 protocols_from number [] = []
-protocols_from number (p ∷ more) =
-    with_protocol number p.name p.body (protocols_from (number + 1) more)
+protocols_from number (p ∷ more) = protocol_of number p ∷ protocols_from (number + 1) more
 
 -- what a system gives to play, with journals of so many changes
 unfoldable pub setup_of : System → ℕ → Setup
@@ -126,7 +132,11 @@ setup_of system cells = record {
   cells = cells;
 }
 
--- ---- pipes aren't played yet
+-- an accepted configuration
+abbrev pub IsAccepted : System → Type 0
+IsAccepted system = (text : List ℕ) × IsSystem text system
+
+-- ---- configurations with pipes, which the program doesn't play yet
 
 abbrev pub is_pipe : Body → Bool
 is_pipe (IsStatic p) = false

@@ -2,7 +2,7 @@
 //! (`specs/Setups`), and the names that scripts may use (`specs/Names`).
 //!
 //! `build` makes the core, whose filters are the policies of the configuration, and `named` the
-//! names. Pipes aren't played yet: `has_pipe` tells whether there is one.
+//! names, which count as the core's numbers do (`laws`).
 #![tactic(auto)]
 
 pub mod laws;

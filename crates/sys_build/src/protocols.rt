@@ -1,66 +1,76 @@
 //! What the protocols of a configuration give.
-ghost use Rattle.std.specs.Prelude.{◌≡◌, ◌++◌, [], IfOk, OnOk, map, option_map};
+ghost use Rattle.std.specs.Prelude.{◌≡◌, ◌≤◌, IfOk, length, map, option_map};
 ghost use Rattle.sys_build.specs.Setups as setups;
-ghost use Rattle.sys_build.specs.Setups.{action_of, bgp_of, dest_of, fixed_of, gateway_of, limit_of, protocols_from, static_of, with_protocol};
-ghost use Rattle.sys_run.specs.Parts.{protocol_seen};
-ghost use Rattle.system.specs.Seen.{bgp_seen, body_seen, policy_says, static_seen, system_of};
+ghost use Rattle.sys_build.specs.Setups.{action_of, bgp_of, body_of, dest_of, fixed_of, gateway_of, limit_of, pipe_of, protocol_of, protocols_from, static_of};
+ghost use Rattle.sys_run.specs.Parts.{body_seen, pipe_seen, protocol_seen, source_seen};
+ghost use Rattle.system.specs.Seen as seen;
+ghost use Rattle.system.specs.Seen.{bgp_seen, policy_says, static_seen, system_of};
 
 use crate::tables::copied;
-use attrs::{Dest, Judge, Src};
+use attrs::{Dest, Judge, Seq, Src};
 use bits_ip::{Addr, OutOfMemory};
 use conf_ast::configurations::Action as Written;
 use conf_check::{
-    BgpDef, ImportLimit, PolicyDef, ProtocolBody, ProtocolDef, StaticDef, StaticRoute, StaticTarget,
+    BgpDef, ImportLimit, PipeDef, PolicyDef, ProtocolBody, ProtocolDef, StaticDef, StaticRoute,
+    StaticTarget,
 };
 use export_core::ExportSpec;
 use import_core::{Action, Fixed, ImportSpec, Limit};
 use protos::{bgp_spec, static_spec};
 use std::alloc::Global;
-use sys_run::{ExportParts, ProtocolParts};
+use sys_run::{BodyParts, ExportParts, PipeParts, ProtocolParts, SourceParts};
 use system::{Passes, System};
 
-/// The protocols but for pipes, each with its number in the configuration.
+/// The protocols, by their numbers.
 pub(crate) fn protocols<'a>(
     alloc: Global,
     system: &'a System,
 ) -> Result<Vec<ProtocolParts<Passes<'a>>>, OutOfMemory>
+    requires { length (system_of system.now).protocols ≤ 256 }
     ensures { IfOk result (λ parts. map (protocol_seen ⟦<Passes<'a> as Judge>⟧.verdict) parts.items
         ≡ protocols_from 0 (system_of system.now).protocols) }
 {
     let mut parts = Vec::new(alloc);
     for (number, def) in system.checked.protocols.iter().enumerate() {
-        let Ok(number) = u32::try_from(number) else {
-            return Err(OutOfMemory);
-        };
-        push_protocol(alloc, system, number, def, &mut parts)?;
+        parts.push(protocol(alloc, system, number as u32, def)?)?;
     }
     Ok(parts)
 }
 
-/// Puts a protocol of this number behind the others, unless it is a pipe.
-fn push_protocol<'a>(
+/// The protocol of this number.
+fn protocol<'a>(
     alloc: Global,
     system: &'a System,
     number: u32,
     def: &'a ProtocolDef,
-    parts: &mut Vec<ProtocolParts<Passes<'a>>>,
-) -> Result<(), OutOfMemory>
-    ensures { OnOk result (map (protocol_seen ⟦<Passes<'a> as Judge>⟧.verdict) parts.new.items
-        ≡ map (protocol_seen ⟦<Passes<'a> as Judge>⟧.verdict) parts.old.items
-        ++ with_protocol number def.now.name
-        (body_seen system.now.checked.declared.scope system.now.checked.filters.items
-        system.now.names def.now.body) []) }
+) -> Result<ProtocolParts<Passes<'a>>, OutOfMemory>
+    ensures { IfOk result (λ parts. protocol_seen ⟦<Passes<'a> as Judge>⟧.verdict parts
+        ≡ protocol_of number
+        (seen.protocol_seen system.now.checked.declared.scope system.now.checked.filters.items
+        system.now.names def.now)) }
 {
-    match &def.body {
-        ProtocolBody::Static(p) => {
-            parts.push(static_protocol(alloc, system, number, def.name.as_slice(), p)?)?;
-        }
-        ProtocolBody::Bgp(p) => {
-            parts.push(bgp_protocol(alloc, system, number, def.name.as_slice(), p)?)?;
-        }
-        ProtocolBody::Pipe(_) => {}
+    let name = copied(alloc, def.name.as_slice())?;
+    let body = body_parts(alloc, system, number, &def.body)?;
+    Ok(ProtocolParts { name, body })
+}
+
+/// What the protocol of this number does.
+fn body_parts<'a>(
+    alloc: Global,
+    system: &'a System,
+    number: u32,
+    def: &'a ProtocolBody,
+) -> Result<BodyParts<Passes<'a>>, OutOfMemory>
+    ensures { IfOk result (λ parts. body_seen ⟦<Passes<'a> as Judge>⟧.verdict parts
+        ≡ body_of number
+        (seen.body_seen system.now.checked.declared.scope system.now.checked.filters.items
+        system.now.names def.now)) }
+{
+    match def {
+        ProtocolBody::Static(p) => Ok(BodyParts::Source(static_source(alloc, system, number, p)?)),
+        ProtocolBody::Bgp(p) => Ok(BodyParts::Source(bgp_source(alloc, system, number, p))),
+        ProtocolBody::Pipe(p) => Ok(BodyParts::Pipe(pipe(alloc, system, p))),
     }
-    Ok(())
 }
 
 /// A policy of the configuration, as a filter.
@@ -74,20 +84,18 @@ fn passes<'a>(alloc: Global, system: &'a System, policy: &'a PolicyDef) -> Passe
 
 // ---- static protocols
 
-fn static_protocol<'a>(
+fn static_source<'a>(
     alloc: Global,
     system: &'a System,
     number: u32,
-    name: &[u8],
     def: &'a StaticDef,
-) -> Result<ProtocolParts<Passes<'a>>, OutOfMemory>
-    ensures { IfOk result (λ parts. protocol_seen ⟦<Passes<'a> as Judge>⟧.verdict parts
-        ≡ static_of number name.now
+) -> Result<SourceParts<Passes<'a>>, OutOfMemory>
+    ensures { IfOk result (λ parts. source_seen ⟦<Passes<'a> as Judge>⟧.verdict parts
+        ≡ static_of number
         (static_seen system.now.checked.declared.scope system.now.checked.filters.items
         system.now.names def.now)) }
 {
-    Ok(ProtocolParts {
-        name: copied(alloc, name)?,
+    Ok(SourceParts {
         table: def.channel.table,
         spec: static_imports(alloc, number, def)?,
         judge: passes(alloc, system, &def.channel.import),
@@ -155,28 +163,26 @@ fn gateway_of(target: &StaticTarget) -> Option<Addr>
 
 // ---- protocols of BGP
 
-fn bgp_protocol<'a>(
+fn bgp_source<'a>(
     alloc: Global,
     system: &'a System,
     number: u32,
-    name: &[u8],
     def: &'a BgpDef,
-) -> Result<ProtocolParts<Passes<'a>>, OutOfMemory>
-    ensures { IfOk result (λ parts. protocol_seen ⟦<Passes<'a> as Judge>⟧.verdict parts
-        ≡ bgp_of number name.now
+) -> SourceParts<Passes<'a>>
+    ensures { source_seen ⟦<Passes<'a> as Judge>⟧.verdict result
+        ≡ bgp_of number
         (bgp_seen system.now.checked.declared.scope system.now.checked.filters.items
-        system.now.names def.now)) }
+        system.now.names def.now) }
 {
-    Ok(ProtocolParts {
-        name: copied(alloc, name)?,
+    SourceParts {
         table: def.channel.table,
         spec: bgp_imports(alloc, number, def),
         judge: passes(alloc, system, &def.channel.import),
         exports: Some(ExportParts {
-            spec: gate(number, def),
+            spec: gate(alloc, number, def),
             judge: passes(alloc, system, &def.channel.export),
         }),
-    })
+    }
 }
 
 /// Whether the neighbour is in another autonomous system.
@@ -208,7 +214,7 @@ fn bgp_imports(alloc: Global, number: u32, def: &BgpDef) -> ImportSpec
 }
 
 /// The gate of a channel to the neighbour.
-fn gate(number: u32, def: &BgpDef) -> ExportSpec
+fn gate(alloc: Global, number: u32, def: &BgpDef) -> ExportSpec
     ensures { result ≡ setups.gate_of number def.now.channel.family
         (setups.is_external def.now.local def.now.remote) def.now.interpret_communities }
 {
@@ -217,6 +223,24 @@ fn gate(number: u32, def: &BgpDef) -> ExportSpec
         own: number,
         to_ebgp: is_external(def),
         interpret: def.interpret_communities,
+        every: false,
+        sources: Seq::new(alloc),
+    }
+}
+
+// ---- pipes
+
+fn pipe<'a>(alloc: Global, system: &'a System, def: &'a PipeDef) -> PipeParts<Passes<'a>>
+    ensures { pipe_seen ⟦<Passes<'a> as Judge>⟧.verdict result
+        ≡ pipe_of
+        (seen.pipe_seen system.now.checked.declared.scope system.now.checked.filters.items
+        system.now.names def.now) }
+{
+    PipeParts {
+        primary: def.table,
+        peer: def.peer,
+        export: passes(alloc, system, &def.export),
+        import: passes(alloc, system, &def.import),
     }
 }
 

@@ -1,5 +1,5 @@
 //! The tables of a configuration.
-ghost use Rattle.std.specs.Prelude.{◌≡◌, IfOk, Some, map, slice_get};
+ghost use Rattle.std.specs.Prelude.{◌≡◌, ◌<◌, IfOk, Some, length, map, slice_get};
 ghost use Rattle.sys_run.specs.Parts.{table_seen};
 ghost use Rattle.system.specs.Seen.{system_of};
 
@@ -22,6 +22,7 @@ pub(crate) fn tables(alloc: Global, system: &System) -> Result<Vec<TableParts>, 
 
 /// The table of this number.
 fn table(alloc: Global, system: &System, number: usize) -> Result<TableParts, OutOfMemory>
+    requires { number < length (system_of system.now).tables }
     ensures { IfOk result
         (λ parts. slice_get (system_of system.now).tables number ≡ Some (table_seen parts)) }
 {
@@ -30,7 +31,7 @@ fn table(alloc: Global, system: &System, number: usize) -> Result<TableParts, Ou
             name: copied(alloc, name)?,
             family: *family,
         }),
-        None => Err(OutOfMemory),
+        None => unreachable!(),
     }
 }
 

@@ -4,7 +4,7 @@ ghost use Rattle.filt_tree.specs.declared.scope.Scope.{Scope};
 ghost use Rattle.filt_tree.specs.declared.tree.TFilter.{TFilter};
 ghost use Rattle.sys_run.specs.Playing.{HasPlayed};
 ghost use Rattle.sys_build.specs.Setups as setups;
-ghost use Rattle.sys_build.specs.Setups.{IsPlayable, setup_of};
+ghost use Rattle.sys_build.specs.Setups.{IsAccepted, setup_of};
 ghost use Rattle.system.specs.Seen.{body_seen, system_of};
 
 use crate::laws::accepted_configurations_are_setups;
@@ -15,6 +15,7 @@ use bits_ip::OutOfMemory;
 use conf_check::ProtocolBody;
 use std::alloc::Global;
 use sys_run::Core;
+use system::laws::configurations_have_few_protocols;
 use system::{Passes, System};
 
 /// Whether a protocol of the configuration is a pipe.
@@ -36,8 +37,8 @@ fn is_pipe(body: &ProtocolBody) -> bool
     }
 }
 
-/// The core of a configuration without pipes, which has played nothing. The journal of each table
-/// holds so many changes.
+/// The core of an accepted configuration, which has played nothing. The journal of each table holds
+/// so many changes.
 ///
 /// `OutOfMemory` comes where memory is refused.
 pub fn build<'a>(
@@ -45,12 +46,13 @@ pub fn build<'a>(
     system: &'a System,
     cells: u32,
 ) -> Result<Core<Passes<'a>>, OutOfMemory>
-    requires { IsPlayable (system_of system.now) }
+    requires { IsAccepted (system_of system.now) }
     ensures { IfOk result (λ core. (actors : List (List ℕ))
         → HasPlayed (⟦<Passes<'a> as Judge>⟧.verdict) (setup_of (system_of system.now) cells)
         actors [] [] core) }
 {
     accepted_configurations_are_setups();
+    configurations_have_few_protocols();
     let tables = tables(alloc, system)?;
     let protocols = protocols(alloc, system)?;
     Core::make(alloc, cells, tables, protocols)

@@ -5,19 +5,18 @@
 //! up takes to the head of its table and sends all. Each phase comes to a report.
 //!
 //! Contracts say it by the machine of `core_machine`: what a core has played are the machine's
-//! phases, and its reports are what is reported of these (`specs/Playing`). Inside, `tables` and
-//! `channels` are the machine's histories and channels, one for each number.
+//! phases, and its reports are what is reported of these (`specs/Playing`).
 #![tactic(auto)]
 
-mod channel;
-mod imports;
 pub mod laws;
 mod made;
 mod parts;
 mod phase;
 mod player;
-mod routes;
-mod table;
+mod protocol;
+mod ways;
 
-pub use parts::{ExportParts, ProtocolParts, TableParts};
+pub use parts::{
+    BodyParts, ExportParts, PipeParts, ProtocolParts, SourceParts, TableParts,
+};
 pub use player::Core;

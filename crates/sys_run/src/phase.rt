@@ -1,27 +1,8 @@
 //! The report of a phase.
-ghost use Rattle.std.specs.Prelude.{◌≡◌, ◌+◌, ◌++◌, ℕ, List, Option, Some, IfOk, OnOk, drop, length, map, option_copied, option_map, slice_get};
-ghost use Rattle.attrs.specs.declared.route.Change.{Change as HeldChange};
-ghost use Rattle.bits_ip.specs.declared.address.Family.{Family};
-ghost use Rattle.core_machine.specs.Channels as machine;
-ghost use Rattle.core_machine.specs.Legal.{Printed};
-ghost use Rattle.core_machine.specs.Machine.{State};
-ghost use Rattle.core_machine.specs.Phases.{Prints};
-ghost use Rattle.core_machine.specs.Rules.{Rules};
-ghost use Rattle.core_setup.specs.Pairs.{Pairs};
-ghost use Rattle.core_setup.specs.Protocols.{rules_of};
-ghost use Rattle.core_setup.specs.Reports.{IsReport};
-ghost use Rattle.core_setup.specs.Setup.{Setup};
-ghost use Rattle.export_core.specs.Histories.{change_of};
-ghost use Rattle.sys_run.specs.Channels.{IsChannel};
-ghost use Rattle.sys_run.specs.Cores.{Holds, IsCore};
-ghost use Rattle.sys_run.specs.Phase.{BeganAt, IsEmptied, IsExportOf, IsJournalOf, IsLogOf, IsModeOf, IsOperationsOf, IsTableOf, joined_of, reply_of, standing_in, told};
-ghost use Rattle.sys_run.specs.Playing.{silent};
 
-use crate::channel::Channel;
-use crate::imports::Imports;
 use crate::parts::TableParts;
 use crate::player::{Answered, Core};
-use crate::table::Table;
+use crate::protocol::Protocol;
 use attrs::{Attrs, Change, JEntry, Judge, Route, Seq, Shared};
 use bits_ip::OutOfMemory;
 use export_core::{Key, LogItem, Sending};
@@ -29,6 +10,7 @@ use report::{
     ChannelReport, ExportReport, JournalReport, ModeReport, PhaseReport, ProtocolReport,
     ReplyReport, Standing, TableReport,
 };
+use run_tables::{Channel, Table};
 use script_lines::Name;
 use std::alloc::Global;
 use std::mem;
@@ -41,21 +23,15 @@ pub(crate) struct Begun {
 }
 
 impl Begun {
-    pub(crate) fn of<J: Judge>(core: &Core<J>) -> Result<Begun, OutOfMemory>
-        ensures { IfOk result (λ begun. (setup : Setup) (b s : State)
-            → IsCore J.verdict setup b s core.now → BeganAt setup s begun) }
-    {
+    pub(crate) fn of<J: Judge>(core: &Core<J>) -> Result<Begun, OutOfMemory> {
         Ok(Begun {
             heads: heads_of(core.alloc, &core.routes.tables)?,
-            logged: logged_of(core.alloc, &core.routes.channels)?,
+            logged: logged_of(core.alloc, core.phases == 0, &core.routes.channels)?,
         })
     }
 }
 
-fn heads_of(alloc: Global, tables: &[Table]) -> Result<Vec<u64>, OutOfMemory>
-    ensures { IfOk result
-        (λ heads. heads.items ≡ map (λ table. length table.entries.items) tables.now) }
-{
+fn heads_of(alloc: Global, tables: &[Table]) -> Result<Vec<u64>, OutOfMemory> {
     let mut heads = Vec::new(alloc);
     for table in tables {
         heads.push(table.head())?;
@@ -63,17 +39,21 @@ fn heads_of(alloc: Global, tables: &[Table]) -> Result<Vec<u64>, OutOfMemory>
     Ok(heads)
 }
 
-fn logged_of<J: Judge>(alloc: Global, channels: &[Channel<J>]) -> Result<Vec<usize>, OutOfMemory>
-    ensures { IfOk result (λ logged. Pairs (λ n held len. (rules : Rules) (i : ℕ)
-        (family : Option Family) (history : List HeldChange) (ch : machine.Channel)
-        → IsChannel J.verdict rules i family history held ch → len ≡ length ch.log)
-        0 channels.now logged.items) }
-{
+/// How many items each log has; none before the first phase, to which the openings of pipes belong.
+fn logged_of<J: Judge>(
+    alloc: Global,
+    first: bool,
+    channels: &[Channel<J>],
+) -> Result<Vec<usize>, OutOfMemory> {
     let mut logged = Vec::new(alloc);
     for channel in channels {
-        logged.push(channel.logged())?;
+        logged.push(len_unless(first, channel.items()))?;
     }
     Ok(logged)
+}
+
+fn len_unless(first: bool, items: &[LogItem]) -> usize {
+    if first { 0 } else { items.len() }
 }
 
 impl<J: Judge> Core<J> {
@@ -82,34 +62,19 @@ impl<J: Judge> Core<J> {
         &mut self,
         actors: &[Name],
         begun: &Begun,
-    ) -> Result<PhaseReport, OutOfMemory>
-        requires { Holds J.verdict self.old }
-        ensures report { IfOk result (λ report. (setup : Setup) (b s : State)
-            → IsCore J.verdict setup b s self.old → BeganAt setup b begun.now
-            → length self.old.replies.items ≡ length actors.now
-            → (p : Printed) × Prints (rules_of setup) b s p
-            × IsReport setup actors.now (self.old.phases + 1) (joined_of b) p report
-            × IsCore J.verdict setup (silent s) (silent s) self.new) }
-        ensures phases { OnOk result (self.new.phases ≡ self.old.phases + 1) }
-    {
+    ) -> Result<PhaseReport, OutOfMemory> {
         let Some(number) = self.phases.checked_add(1) else {
             return Err(OutOfMemory);
         };
         let alloc = self.alloc;
         let answered = mem::replace(&mut self.replies, Vec::new(alloc));
-        let protocols = report_operations(alloc, &self.names, &mut self.imports)?;
+        let protocols = report_operations(alloc, &self.names, &mut self.protocols)?;
         let journals = report_journals(alloc, &self.tables, &self.routes.tables, &begun.heads)?;
-        let channels = report_logs(
-            alloc,
-            &self.names,
-            &self.channels,
-            &self.routes.channels,
-            &begun.logged,
-        )?;
+        let channels = report_logs(alloc, &self.channels, &self.routes.channels, &begun.logged)?;
         let replies = report_replies(alloc, actors, &self.tables, answered)?;
         let tables = report_tables(alloc, &self.tables, &self.routes.tables)?;
-        let modes = report_modes(alloc, &self.names, &self.imports)?;
-        let exports = report_exports(alloc, &self.names, &self.channels, &self.routes.channels)?;
+        let modes = report_modes(alloc, &self.names, &self.protocols)?;
+        let exports = report_exports(alloc, &self.channels, &self.routes.channels)?;
         self.phases = number;
         Ok(PhaseReport {
             number,
@@ -125,9 +90,7 @@ impl<J: Judge> Core<J> {
 }
 
 /// A copy of the name of this number.
-fn copy_name(alloc: Global, names: &[Seq<u8>], number: usize) -> Result<Seq<u8>, OutOfMemory>
-    ensures { IfOk result (λ name. slice_get names.now number ≡ Some name) }
-{
+fn copy_name(alloc: Global, names: &[Seq<u8>], number: usize) -> Result<Seq<u8>, OutOfMemory> {
     match names.get(number) {
         Some(name) => Ok(Seq::from_vec(Vec::from_slice(alloc, name.as_slice())?)),
         None => Err(OutOfMemory),
@@ -139,10 +102,7 @@ fn copy_table_name(
     alloc: Global,
     tables: &[TableParts],
     number: usize,
-) -> Result<Seq<u8>, OutOfMemory>
-    ensures { IfOk result
-        (λ name. option_map (λ table. table.name) (slice_get tables.now number) ≡ Some name) }
-{
+) -> Result<Seq<u8>, OutOfMemory> {
     match tables.get(number) {
         Some(table) => Ok(Seq::from_vec(Vec::from_slice(alloc, table.name.as_slice())?)),
         None => Err(OutOfMemory),
@@ -153,16 +113,12 @@ fn copy_table_name(
 fn report_operations<J: Judge>(
     alloc: Global,
     names: &[Seq<u8>],
-    imports: &mut Vec<Imports<J>>,
-) -> Result<Seq<ProtocolReport>, OutOfMemory>
-    ensures reports { IfOk result (λ reports.
-        Pairs (IsOperationsOf names.now) 0 imports.old.items reports) }
-    ensures emptied { OnOk result (Pairs IsEmptied 0 imports.old.items imports.new.items) }
-{
+    protocols: &mut Vec<Protocol<J>>,
+) -> Result<Seq<ProtocolReport>, OutOfMemory> {
     let mut reports = Seq::new(alloc);
-    for number in 0..imports.len() {
+    for number in 0..protocols.len() {
         let name = copy_name(alloc, names, number)?;
-        let done = mem::replace(&mut imports[number].done, Vec::new(alloc));
+        let done = mem::replace(&mut protocols[number].done, Vec::new(alloc));
         let ops = Seq::from_vec(done);
         reports.push(ProtocolReport { name, ops })?;
     }
@@ -175,10 +131,7 @@ fn report_journals(
     parts: &[TableParts],
     tables: &[Table],
     heads: &[u64],
-) -> Result<Seq<JournalReport>, OutOfMemory>
-    ensures { IfOk result (λ reports.
-        Pairs (IsJournalOf parts.now heads.now) 0 tables.now reports) }
-{
+) -> Result<Seq<JournalReport>, OutOfMemory> {
     let mut reports = Seq::new(alloc);
     for (number, table) in tables.iter().enumerate() {
         reports.push(report_journal(alloc, parts, table, heads, number)?)?;
@@ -192,17 +145,15 @@ fn report_journal(
     table: &Table,
     heads: &[u64],
     number: usize,
-) -> Result<JournalReport, OutOfMemory>
-    ensures { IfOk result (λ report. IsJournalOf parts.now heads.now number table.now report) }
-{
+) -> Result<JournalReport, OutOfMemory> {
     let name = copy_table_name(alloc, parts, number)?;
     let Some(from) = heads.get(number).copied() else {
         return Err(OutOfMemory);
     };
-    if from > table.entries.len() as u64 {
+    if from > table.head() {
         return Err(OutOfMemory);
     }
-    let entries = copy_changes(alloc, &table.entries[from as usize..])?;
+    let entries = copy_changes(alloc, table.since(from))?;
     Ok(JournalReport {
         table: name,
         from,
@@ -210,9 +161,7 @@ fn report_journal(
     })
 }
 
-fn copy_changes(alloc: Global, entries: &[JEntry]) -> Result<Seq<Change>, OutOfMemory>
-    ensures { IfOk result (λ changes. changes ≡ map change_of entries.now) }
-{
+fn copy_changes(alloc: Global, entries: &[JEntry]) -> Result<Seq<Change>, OutOfMemory> {
     let mut changes = Seq::from_vec(Vec::with_capacity(alloc, entries.len())?);
     for entry in entries {
         changes.push(copy_change(entry)?)?;
@@ -220,9 +169,7 @@ fn copy_changes(alloc: Global, entries: &[JEntry]) -> Result<Seq<Change>, OutOfM
     Ok(changes)
 }
 
-fn copy_change(entry: &JEntry) -> Result<Change, OutOfMemory>
-    ensures { IfOk result (λ change. change ≡ change_of entry.now) }
-{
+fn copy_change(entry: &JEntry) -> Result<Change, OutOfMemory> {
     Ok(Change {
         net: entry.net,
         num: entry.num,
@@ -230,30 +177,23 @@ fn copy_change(entry: &JEntry) -> Result<Change, OutOfMemory>
     })
 }
 
-fn copy_route(route: Option<&Route>) -> Result<Option<Route>, OutOfMemory>
-    ensures { IfOk result (λ copy. copy ≡ option_copied route.entry) }
-{
+fn copy_route(route: Option<&Route>) -> Result<Option<Route>, OutOfMemory> {
     match route {
         Some(route) => Ok(Some(route.copy()?)),
         None => Ok(None),
     }
 }
 
-/// The log of each channel of these numbers, from these lengths on.
+/// The log of each channel, from these lengths on.
 fn report_logs<J: Judge>(
     alloc: Global,
     names: &[Seq<u8>],
-    numbers: &[usize],
     channels: &[Channel<J>],
     logged: &[usize],
-) -> Result<Seq<ChannelReport>, OutOfMemory>
-    ensures { IfOk result (λ reports.
-        Pairs (λ n number report. IsLogOf J.verdict names.now channels.now logged.now number report)
-        0 numbers.now reports) }
-{
+) -> Result<Seq<ChannelReport>, OutOfMemory> {
     let mut reports = Seq::new(alloc);
-    for number in numbers {
-        reports.push(report_log(alloc, names, *number, channels, logged)?)?;
+    for (number, channel) in channels.iter().enumerate() {
+        reports.push(report_log(alloc, names, number, channel, logged)?)?;
     }
     Ok(reports)
 }
@@ -262,40 +202,30 @@ fn report_log<J: Judge>(
     alloc: Global,
     names: &[Seq<u8>],
     number: usize,
-    channels: &[Channel<J>],
+    channel: &Channel<J>,
     logged: &[usize],
-) -> Result<ChannelReport, OutOfMemory>
-    ensures { IfOk result (λ report.
-        IsLogOf J.verdict names.now channels.now logged.now number report) }
-{
+) -> Result<ChannelReport, OutOfMemory> {
     let name = copy_name(alloc, names, number)?;
     let Some(from) = logged.get(number).copied() else {
-        return Err(OutOfMemory);
-    };
-    let Some(channel) = channels.get(number) else {
         return Err(OutOfMemory);
     };
     let items = copy_behind(alloc, channel.items(), from)?;
     Ok(ChannelReport {
         name,
-        pipe: false,
+        pipe: channel.is_pipe(),
         items,
     })
 }
 
 /// A copy of the items behind so many.
-fn copy_behind(alloc: Global, items: &[LogItem], from: usize) -> Result<Seq<LogItem>, OutOfMemory>
-    ensures { IfOk result (λ copy. copy ≡ drop from items.now) }
-{
+fn copy_behind(alloc: Global, items: &[LogItem], from: usize) -> Result<Seq<LogItem>, OutOfMemory> {
     if from > items.len() {
         return Err(OutOfMemory);
     }
     copy_items(alloc, &items[from..])
 }
 
-fn copy_items(alloc: Global, items: &[LogItem]) -> Result<Seq<LogItem>, OutOfMemory>
-    ensures { IfOk result (λ copy. copy ≡ items.now) }
-{
+fn copy_items(alloc: Global, items: &[LogItem]) -> Result<Seq<LogItem>, OutOfMemory> {
     let mut copy = Seq::from_vec(Vec::with_capacity(alloc, items.len())?);
     for item in items {
         copy.push(copy_item(item)?)?;
@@ -303,9 +233,7 @@ fn copy_items(alloc: Global, items: &[LogItem]) -> Result<Seq<LogItem>, OutOfMem
     Ok(copy)
 }
 
-fn copy_item(item: &LogItem) -> Result<LogItem, OutOfMemory>
-    ensures { IfOk result (λ copy. copy ≡ item.now) }
-{
+fn copy_item(item: &LogItem) -> Result<LogItem, OutOfMemory> {
     match item {
         LogItem::Up(at) => Ok(LogItem::Up(*at)),
         LogItem::Down => Ok(LogItem::Down),
@@ -314,9 +242,7 @@ fn copy_item(item: &LogItem) -> Result<LogItem, OutOfMemory>
     }
 }
 
-fn copy_sending(sending: &Sending) -> Result<Sending, OutOfMemory>
-    ensures { IfOk result (λ copy. copy ≡ sending.now) }
-{
+fn copy_sending(sending: &Sending) -> Result<Sending, OutOfMemory> {
     Ok(Sending {
         at: sending.at,
         key: sending.key,
@@ -325,9 +251,7 @@ fn copy_sending(sending: &Sending) -> Result<Sending, OutOfMemory>
     })
 }
 
-fn copy_value(value: Option<&Shared<Attrs>>) -> Result<Option<Shared<Attrs>>, OutOfMemory>
-    ensures { IfOk result (λ copy. copy ≡ option_copied value.entry) }
-{
+fn copy_value(value: Option<&Shared<Attrs>>) -> Result<Option<Shared<Attrs>>, OutOfMemory> {
     match value {
         Some(attrs) => Ok(Some(attrs.share()?)),
         None => Ok(None),
@@ -340,10 +264,7 @@ fn report_replies(
     actors: &[Name],
     tables: &[TableParts],
     replies: Vec<Vec<Answered>>,
-) -> Result<Seq<ReplyReport>, OutOfMemory>
-    ensures { IfOk result (λ reports.
-        reports ≡ told (slice_get tables.now 0) actors.now replies.items) }
-{
+) -> Result<Seq<ReplyReport>, OutOfMemory> {
     let mut reports = Seq::new(alloc);
     let mut number: usize = 0;
     for answered in replies {
@@ -366,10 +287,7 @@ fn tell(
     tables: &[TableParts],
     answered: Vec<Answered>,
     reports: &mut Seq<ReplyReport>,
-) -> Result<(), OutOfMemory>
-    ensures { OnOk result (reports.new
-        ≡ reports.old ++ map (reply_of (slice_get tables.now 0) actor.now) answered.items) }
-{
+) -> Result<(), OutOfMemory> {
     for reply in answered {
         reports.push(report_reply(alloc, actor, tables, reply)?)?;
     }
@@ -381,10 +299,7 @@ fn report_reply(
     actor: &[u8],
     tables: &[TableParts],
     reply: Answered,
-) -> Result<ReplyReport, OutOfMemory>
-    ensures { IfOk result
-        (λ report. report ≡ reply_of (slice_get tables.now 0) actor.now reply) }
-{
+) -> Result<ReplyReport, OutOfMemory> {
     let Answered { at, text } = reply;
     Ok(ReplyReport {
         actor: Seq::from_vec(Vec::from_slice(alloc, actor)?),
@@ -399,9 +314,7 @@ fn report_tables(
     alloc: Global,
     parts: &[TableParts],
     tables: &[Table],
-) -> Result<Seq<TableReport>, OutOfMemory>
-    ensures { IfOk result (λ reports. Pairs (IsTableOf parts.now) 0 tables.now reports) }
-{
+) -> Result<Seq<TableReport>, OutOfMemory> {
     let mut reports = Seq::new(alloc);
     for (number, table) in tables.iter().enumerate() {
         reports.push(report_table(alloc, parts, table, number)?)?;
@@ -414,9 +327,7 @@ fn report_table(
     parts: &[TableParts],
     table: &Table,
     number: usize,
-) -> Result<TableReport, OutOfMemory>
-    ensures { IfOk result (λ report. IsTableOf parts.now number table.now report) }
-{
+) -> Result<TableReport, OutOfMemory> {
     Ok(TableReport {
         name: copy_table_name(alloc, parts, number)?,
         rows: Seq::from_vec(table.rows()?),
@@ -427,36 +338,26 @@ fn report_table(
 fn report_modes<J: Judge>(
     alloc: Global,
     names: &[Seq<u8>],
-    imports: &[Imports<J>],
-) -> Result<Seq<ModeReport>, OutOfMemory>
-    ensures { IfOk result (λ reports. Pairs (IsModeOf names.now) 0 imports.now reports) }
-{
+    protocols: &[Protocol<J>],
+) -> Result<Seq<ModeReport>, OutOfMemory> {
     let mut reports = Seq::new(alloc);
-    for (number, held) in imports.iter().enumerate() {
+    for (number, protocol) in protocols.iter().enumerate() {
         let name = copy_name(alloc, names, number)?;
-        reports.push(ModeReport {
-            name,
-            mode: held.importer.mode(),
-            accepted: Some(held.importer.accepted()),
-        })?;
+        let state = protocol.body.state();
+        reports.push(ModeReport { name, state })?;
     }
     Ok(reports)
 }
 
-/// What stands as sent by each channel of these numbers.
+/// What stands as sent by each channel.
 fn report_exports<J: Judge>(
     alloc: Global,
     names: &[Seq<u8>],
-    numbers: &[usize],
     channels: &[Channel<J>],
-) -> Result<Seq<ExportReport>, OutOfMemory>
-    ensures { IfOk result (λ reports.
-        Pairs (λ n number report. IsExportOf J.verdict names.now channels.now number report)
-        0 numbers.now reports) }
-{
+) -> Result<Seq<ExportReport>, OutOfMemory> {
     let mut reports = Seq::new(alloc);
-    for number in numbers {
-        reports.push(report_export(alloc, names, *number, channels)?)?;
+    for (number, channel) in channels.iter().enumerate() {
+        reports.push(report_export(alloc, names, number, channel)?)?;
     }
     Ok(reports)
 }
@@ -465,19 +366,14 @@ fn report_export<J: Judge>(
     alloc: Global,
     names: &[Seq<u8>],
     number: usize,
-    channels: &[Channel<J>],
-) -> Result<ExportReport, OutOfMemory>
-    ensures { IfOk result (λ report. IsExportOf J.verdict names.now channels.now number report) }
-{
+    channel: &Channel<J>,
+) -> Result<ExportReport, OutOfMemory> {
     let name = copy_name(alloc, names, number)?;
-    let Some(channel) = channels.get(number) else {
-        return Err(OutOfMemory);
-    };
     let values = channel.standing()?;
     let standing = all_standing(alloc, values)?;
     Ok(ExportReport {
         name,
-        pipe: false,
+        pipe: channel.is_pipe(),
         standing,
     })
 }
@@ -485,10 +381,7 @@ fn report_export<J: Judge>(
 fn all_standing(
     alloc: Global,
     values: Option<Vec<(Key, Shared<Attrs>)>>,
-) -> Result<Option<Seq<Standing>>, OutOfMemory>
-    ensures { IfOk result (λ standing.
-        standing ≡ option_map (λ held. map standing_in held.items) values) }
-{
+) -> Result<Option<Seq<Standing>>, OutOfMemory> {
     match values {
         Some(values) => Ok(Some(standing_of(alloc, values)?)),
         None => Ok(None),
@@ -498,9 +391,7 @@ fn all_standing(
 fn standing_of(
     alloc: Global,
     values: Vec<(Key, Shared<Attrs>)>,
-) -> Result<Seq<Standing>, OutOfMemory>
-    ensures { IfOk result (λ standing. standing ≡ map standing_in values.items) }
-{
+) -> Result<Seq<Standing>, OutOfMemory> {
     let mut standing = Seq::from_vec(Vec::with_capacity(alloc, values.len())?);
     for (key, attrs) in values {
         standing.push(Standing { key, attrs })?;

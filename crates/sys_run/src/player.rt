@@ -1,28 +1,14 @@
 //! A core: what plays a script.
-ghost use Rattle.std.specs.Prelude.{◌≡◌, ◌<◌, ◌++◌, ℕ, [], ◌∷◌, length, List, IfOk, OnOk, Some, map, slice_get};
-ghost use Rattle.std.specs.declared.alloc.Global.{Global};
-ghost use Rattle.std.specs.declared.vec.Vec.{Vec};
-ghost use Rattle.core_machine.specs.Lines.{Line as MachineLine, Reply};
-ghost use Rattle.core_machine.specs.Machine.{Applies, Begins, Plays, State, Steps, synced};
-ghost use Rattle.core_machine.specs.Rounds.{HasRounds};
-ghost use Rattle.core_setup.specs.Protocols.{rules_of, starts, with_start};
-ghost use Rattle.core_setup.specs.Setup.{IsSetup, Protocol, Setup};
-ghost use Rattle.report.specs.declared.phase.PhaseReport.{PhaseReport as Report};
-ghost use Rattle.sys_run.specs.Cores.{Holds, IsAnswered, IsCore, Keeps};
-ghost use Rattle.sys_run.specs.Parts.{setup_seen};
-ghost use Rattle.sys_run.specs.Playing.{HasPlayed, IsPlaying, starts_in};
-ghost use Rattle.sys_run.specs.Scripts.{line_of, phase_of};
-ghost use Rattle.sys_run.specs.declared.player.Answered.{Answered as HeldAnswer};
 
-use crate::imports::Imports;
-use crate::made::{Made, make_protocols, make_tables};
+use crate::made::{Made, make_protocols, make_routes, make_tables, passed_by};
 use crate::parts::{ProtocolParts, TableParts};
 use crate::phase::Begun;
-use crate::routes::Routes;
+use crate::protocol::{Body, Protocol, is_up_behind, pipe_mark};
 use attrs::{Judge, Kind, Seq};
 use bits_ip::OutOfMemory;
-use import_core::{Done, Op, Step};
+use import_core::{Done, Mark, Op, Step};
 use report::PhaseReport;
+use run_tables::Routes;
 use script_lines::{Line, Name};
 use show_route::answer;
 use std::alloc::Global;
@@ -42,51 +28,46 @@ pub struct Core<J: Judge> {
     /// How many phases have ended.
     pub(crate) phases: u32,
     pub(crate) routes: Routes<J>,
-    /// The imports of the protocols, by their numbers.
-    pub(crate) imports: Vec<Imports<J>>,
-    /// The protocols' numbers of the channels.
-    pub(crate) channels: Vec<usize>,
+    /// The protocols, by their numbers.
+    pub(crate) protocols: Vec<Protocol<J>>,
     /// The replies of the phase, by the actors' numbers.
     pub(crate) replies: Vec<Vec<Answered>>,
     pub(crate) tables: Vec<TableParts>,
     /// The protocols' names.
     pub(crate) names: Vec<Seq<u8>>,
+    /// The channels' names.
+    pub(crate) channels: Vec<Seq<u8>>,
 }
 
 impl<J: Judge + Drop> Core<J> {
     /// A core that has played nothing. The journal of each table holds so many changes for the
-    /// channels that are still to take them.
+    /// channels that are still to take them. The channels are numbered in the order of protocols:
+    /// of a pipe P `P.export` and then `P.import`.
     pub fn make(
         alloc: Global,
         cells: u32,
         tables: Vec<TableParts>,
         protocols: Vec<ProtocolParts<J>>,
-    ) -> Result<Core<J>, OutOfMemory>
-        ensures { IfOk result (λ core. (actors : List (List ℕ))
-            → IsSetup (setup_seen J.verdict tables.items protocols.items cells)
-            → HasPlayed J.verdict (setup_seen J.verdict tables.items protocols.items cells)
-            actors [] [] core) }
-    {
+    ) -> Result<Core<J>, OutOfMemory> {
         let held = make_tables(alloc, &tables)?;
+        let passed = passed_by(alloc, tables.len(), &protocols)?;
+        let made = make_protocols(alloc, &tables, passed, protocols)?;
         let Made {
             names,
-            imports,
+            protocols,
             channels,
-            numbers,
-        } = make_protocols(alloc, protocols)?;
+            channel_names,
+            sources,
+        } = made;
         Ok(Core {
             alloc,
             phases: 0,
-            routes: Routes {
-                cells: u64::from(cells),
-                tables: held,
-                channels,
-            },
-            imports,
-            channels: numbers,
+            routes: make_routes(alloc, u64::from(cells), held, channels, sources)?,
+            protocols,
             replies: Vec::new(alloc),
             tables,
             names,
+            channels: channel_names,
         })
     }
 }
@@ -97,13 +78,7 @@ impl<J: Judge> Core<J> {
     /// script.
     ///
     /// `OutOfMemory` comes where memory is refused. The core is of no use then.
-    pub fn play(&mut self, actors: &[Name], lines: Vec<Line>) -> Result<PhaseReport, OutOfMemory>
-        requires { IsPlaying J.verdict self.old }
-        ensures { IfOk result (λ report. (setup : Setup) (scripts : List (List MachineLine))
-            (reports : List Report) → HasPlayed J.verdict setup actors.now scripts reports self.old
-            → HasPlayed J.verdict setup actors.now
-            (scripts ++ phase_of setup lines.items ∷ []) (reports ++ report ∷ []) self.new) }
-    {
+    pub fn play(&mut self, actors: &[Name], lines: Vec<Line>) -> Result<PhaseReport, OutOfMemory> {
         let begun = Begun::of(self)?;
         self.replies = no_replies(self.alloc, actors.len())?;
         self.begin()?;
@@ -113,14 +88,7 @@ impl<J: Judge> Core<J> {
     }
 
     /// Starts the static protocols, in their order, where no phase has ended yet.
-    fn begin(&mut self) -> Result<(), OutOfMemory>
-        requires { Holds J.verdict self.old }
-        ensures core { OnOk result ((setup : Setup) (b s : State)
-            → IsCore J.verdict setup b s self.old
-            → (t : State) × Begins (rules_of setup) (starts_in setup self.old.phases) s t
-            × IsCore J.verdict setup b t self.new) }
-        ensures kept { OnOk result (Keeps self.old self.new) }
-    {
+    fn begin(&mut self) -> Result<(), OutOfMemory> {
         if self.phases == 0 {
             self.start()
         } else {
@@ -129,59 +97,30 @@ impl<J: Judge> Core<J> {
     }
 
     /// Starts the static protocols, in their order.
-    fn start(&mut self) -> Result<(), OutOfMemory>
-        requires { Holds J.verdict self.old }
-        ensures core { OnOk result ((setup : Setup) (b s : State)
-            → IsCore J.verdict setup b s self.old
-            → (t : State) × Begins (rules_of setup) (starts setup) s t
-            × IsCore J.verdict setup b t self.new) }
-        ensures kept { OnOk result (Keeps self.old self.new) }
-    {
-        for number in 0..self.imports.len() {
+    fn start(&mut self) -> Result<(), OutOfMemory> {
+        for number in 0..self.protocols.len() {
             self.start_one(number)?;
         }
         Ok(())
     }
 
     /// Starts a protocol, if it is static.
-    fn start_one(&mut self, number: usize) -> Result<(), OutOfMemory>
-        requires holds { Holds J.verdict self.old }
-        requires there { number < length self.old.imports.items }
-        ensures core { OnOk result ((setup : Setup) (b s : State) (p : Protocol)
-            → IsCore J.verdict setup b s self.old → slice_get setup.protocols number ≡ Some p
-            → (t : State) × Begins (rules_of setup) (with_start number p.spec.kind []) s t
-            × IsCore J.verdict setup b t self.new) }
-        ensures kept { OnOk result (Keeps self.old self.new) }
-    {
-        match self.imports[number].kind {
-            Kind::Static => self.apply(number, Op::Start),
-            Kind::Bgp => Ok(()),
+    fn start_one(&mut self, number: usize) -> Result<(), OutOfMemory> {
+        if self.protocols[number].body.is_static() {
+            self.apply(number, Op::Start)?;
         }
+        Ok(())
     }
 
     /// Does the lines in their order.
-    fn run(&mut self, lines: Vec<Line>) -> Result<(), OutOfMemory>
-        requires { Holds J.verdict self.old }
-        ensures core { OnOk result ((setup : Setup) (b s : State)
-            → IsCore J.verdict setup b s self.old
-            → (t : State) × Plays (rules_of setup) (phase_of setup lines.items) s t
-            × IsCore J.verdict setup b t self.new) }
-        ensures kept { OnOk result (Keeps self.old self.new) }
-    {
+    fn run(&mut self, lines: Vec<Line>) -> Result<(), OutOfMemory> {
         for line in lines {
             self.step(line)?;
         }
         Ok(())
     }
 
-    fn step(&mut self, line: Line) -> Result<(), OutOfMemory>
-        requires { Holds J.verdict self.old }
-        ensures core { OnOk result ((setup : Setup) (b s : State)
-            → IsCore J.verdict setup b s self.old
-            → (t : State) × Steps (rules_of setup) (line_of setup line) s t
-            × IsCore J.verdict setup b t self.new) }
-        ensures kept { OnOk result (Keeps self.old self.new) }
-    {
+    fn step(&mut self, line: Line) -> Result<(), OutOfMemory> {
         match line {
             Line::Take { channel, count } => self.take(channel, count),
             Line::Push { channel, count } => self.push(channel, count),
@@ -190,88 +129,72 @@ impl<J: Judge> Core<J> {
         }
     }
 
-    /// Does an operation: its changes come to the protocol's table, and then its channel obeys.
-    fn apply(&mut self, number: usize, op: Op) -> Result<(), OutOfMemory>
-        requires { Holds J.verdict self.old }
-        ensures core { OnOk result ((setup : Setup) (b s : State)
-            → IsCore J.verdict setup b s self.old
-            → (t : State) × ((actor : ℕ) → Applies (rules_of setup)
-            (record { actor = actor; protocol = number; op = op }) s t)
-            × IsCore J.verdict setup b t self.new) }
-        ensures kept { OnOk result (Keeps self.old self.new) }
-    {
-        if number >= self.imports.len() {
-            return Err(OutOfMemory);
+    /// Does an operation: its changes come to the protocol's table, and then its channels obey.
+    fn apply(&mut self, number: usize, op: Op) -> Result<(), OutOfMemory> {
+        if number >= self.protocols.len() {
+            return Ok(());
         }
-        let step = self.imports[number].importer.apply(&op)?;
-        let Step {
-            changes,
-            over,
-            mark,
-        } = step;
-        let table = self.routes.channels[number].table;
-        self.routes.append_all(table, changes.into_vec())?;
-        self.routes.obey(number, mark)?;
-        self.imports[number].done.push(Done { op, over })?;
+        let Told { mark, over } = self.turn(number, &op)?;
+        self.obey(number, mark)?;
+        self.protocols[number].done.push(Done { op, over })?;
         Ok(())
     }
 
-    /// Has a channel take so many changes, or all that there are.
-    fn take(&mut self, channel: u32, count: u32) -> Result<(), OutOfMemory>
-        requires { Holds J.verdict self.old }
-        ensures core { OnOk result ((setup : Setup) (b s : State)
-            → IsCore J.verdict setup b s self.old
-            → (t : State) × Steps (rules_of setup) (line_of setup (Line.Take channel count)) s t
-            × IsCore J.verdict setup b t self.new) }
-        ensures kept { OnOk result (Keeps self.old self.new) }
-    {
-        let Some(number) = self.channels.get(channel as usize).copied() else {
-            return Err(OutOfMemory);
-        };
+    /// The protocol's part of an operation, and the changes that come of it.
+    fn turn(&mut self, number: usize, op: &Op) -> Result<Told, OutOfMemory> {
+        match &mut self.protocols[number].body {
+            Body::Source(source) => {
+                let Step { changes, over, mark } = source.importer.apply(op)?;
+                self.routes.append_all(source.table, changes.into_vec())?;
+                Ok(Told { mark, over })
+            }
+            Body::Pipe(up) => {
+                let mark = pipe_mark(*up, op);
+                *up = is_up_behind(*up, mark);
+                Ok(Told { mark, over: false })
+            }
+        }
+    }
+
+    /// The protocol's channels obey, in their order.
+    fn obey(&mut self, number: usize, mark: Mark) -> Result<(), OutOfMemory> {
+        for channel in self.protocols[number].from..self.protocols[number].upto {
+            self.routes.obey(channel, mark)?;
+        }
+        Ok(())
+    }
+
+    /// Has a channel take so many changes, or all that there are. One that isn't there takes none.
+    fn take(&mut self, channel: u32, count: u32) -> Result<(), OutOfMemory> {
+        let number = channel as usize;
+        if number >= self.routes.channels.len() {
+            return Ok(());
+        }
         self.routes.take(number, count)
     }
 
-    /// Has a channel push so many marked nets, or all that there are.
-    fn push(&mut self, channel: u32, count: u32) -> Result<(), OutOfMemory>
-        requires { Holds J.verdict self.old }
-        ensures core { OnOk result ((setup : Setup) (b s : State)
-            → IsCore J.verdict setup b s self.old
-            → (t : State) × Steps (rules_of setup) (line_of setup (Line.Push channel count)) s t
-            × IsCore J.verdict setup b t self.new) }
-        ensures kept { OnOk result (Keeps self.old self.new) }
-    {
-        let Some(number) = self.channels.get(channel as usize).copied() else {
-            return Err(OutOfMemory);
-        };
+    /// Has a channel push so many marks, or all that there are. One that isn't there has none.
+    fn push(&mut self, channel: u32, count: u32) -> Result<(), OutOfMemory> {
+        let number = channel as usize;
+        if number >= self.routes.channels.len() {
+            return Ok(());
+        }
         self.routes.push(number, count)
     }
 
     /// Answers `show route` of the first table.
-    fn show(&mut self, actor: u32) -> Result<(), OutOfMemory>
-        requires { Holds J.verdict self.old }
-        ensures core { OnOk result ((setup : Setup) (b s : State)
-            → IsCore J.verdict setup b s self.old
-            → (t : State) × Steps (rules_of setup) (line_of setup (Line.Show actor)) s t
-            × IsCore J.verdict setup b t self.new) }
-        ensures kept { OnOk result (Keeps self.old self.new) }
-    {
+    fn show(&mut self, actor: u32) -> Result<(), OutOfMemory> {
         let reply = self.answer()?;
         let number = actor as usize;
         if number >= self.replies.len() {
-            return Err(OutOfMemory);
+            return Ok(());
         }
         self.replies[number].push(reply)?;
         Ok(())
     }
 
     /// The first table as it is now, in the words of a reply.
-    fn answer(&self) -> Result<Answered, OutOfMemory>
-        requires { Holds J.verdict self.now }
-        ensures { IfOk result (λ answered. (setup : Setup) (b s : State) (reply : Reply)
-            → IsCore J.verdict setup b s self.now → reply.table ≡ 0
-            → reply.at ≡ length (s.history 0) → reply.query ≡ []
-            → IsAnswered setup s answered reply) }
-    {
+    fn answer(&self) -> Result<Answered, OutOfMemory> {
         let Some(table) = self.routes.tables.first() else {
             return Err(OutOfMemory);
         };
@@ -288,25 +211,19 @@ impl<J: Judge> Core<J> {
     }
 
     /// The sync at a phase's end; answers the number of its rounds.
-    fn sync(&mut self) -> Result<u32, OutOfMemory>
-        requires { Holds J.verdict self.old }
-        ensures core { OnOk result ((setup : Setup) (b s : State)
-            → IsCore J.verdict setup b s self.old
-            → IsCore J.verdict setup b (synced (rules_of setup) s) self.new) }
-        ensures kept { OnOk result (Keeps self.old self.new) }
-        ensures rounds { IfOk result (λ rounds. (setup : Setup) (b s : State)
-            → IsCore J.verdict setup b s self.old → HasRounds (rules_of setup) s rounds) }
-    {
+    fn sync(&mut self) -> Result<usize, OutOfMemory> {
         self.routes.sync()
     }
 }
 
+/// What an operation tells the protocol's channels, and whether a route was over the limit in it.
+struct Told {
+    mark: Mark,
+    over: bool,
+}
+
 /// So many empty lists of replies.
-fn no_replies(alloc: Global, actors: usize) -> Result<Vec<Vec<Answered>>, OutOfMemory>
-    ensures { IfOk result (λ replies. (length replies.items ≡ actors)
-        × ((a : ℕ) (held : Vec HeldAnswer Global) → slice_get replies.items a ≡ Some held
-        → held.items ≡ [])) }
-{
+fn no_replies(alloc: Global, actors: usize) -> Result<Vec<Vec<Answered>>, OutOfMemory> {
     let mut replies = Vec::new(alloc);
     for _number in 0..actors {
         replies.push(Vec::new(alloc))?;
@@ -315,9 +232,7 @@ fn no_replies(alloc: Global, actors: usize) -> Result<Vec<Vec<Answered>>, OutOfM
 }
 
 /// The bytes of the names.
-fn slices(alloc: Global, names: &[Seq<u8>]) -> Result<Vec<&[u8]>, OutOfMemory>
-    ensures { IfOk result (λ slices. map (λ name. name.now) slices.items ≡ names.now) }
-{
+fn slices(alloc: Global, names: &[Seq<u8>]) -> Result<Vec<&[u8]>, OutOfMemory> {
     let mut slices = Vec::new(alloc);
     for name in names {
         slices.push(name.as_slice())?;

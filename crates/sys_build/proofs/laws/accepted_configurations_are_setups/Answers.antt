@@ -2,4 +2,6 @@ use Rattle.sys_build.proofs.Playable.{playable}
 use Rattle.sys_build.proofs.laws.accepted_configurations_are_setups.Goals as goal
 
 pub returns : goal.returns
-returns c = playable c.channels_have_their_tables.ensures
+returns c =
+    playable c.joined_tables_are_those_that_pipes_lead_between.ensures.itself c.channels_have_their_tables.ensures
+    c.pipes_form_a_forest.ensures

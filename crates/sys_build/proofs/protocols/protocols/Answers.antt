@@ -1,10 +1,8 @@
-use Rattle.std.proofs.Common.{◌≡◌, ◌<◌, ◌∙◌, ◌++◌, [], List, ℕ, ap, get_or, length, map, subst}
+use Rattle.std.proofs.Common.{◌≡◌, ◌<◌, List, get_or, length, subst}
 use Rattle.conf_check.specs.declared.checked.ProtocolDef.{ProtocolDef}
 use Rattle.system.specs.contracts.passes.PassesJudge.TheImpl as passes
 use Rattle.sys_run.specs.Parts.{protocol_seen}
 use Rattle.system.specs.Seen as system
-use Rattle.system.specs.Seen.{body_seen}
-use Rattle.sys_build.specs.Setups.{with_protocol}
 use Rattle.sys_build.proofs.Turns.{protocols_turn}
 use Rattle.sys_build.proofs.protocols.protocols.Goals as goal
 
@@ -14,11 +12,10 @@ loop-number-preserved c =
     let number = c.loop-number.number in
     let def = c.def-item.result in
     let same = c.deref-def-items.ensures.value in
-    let old = map (protocol_seen (passes.ghosts).verdict) c.loop-number.parts.items in
-    protocols_turn (system.protocol_seen s.checked.declared.scope s.checked.filters.items s.names) s.checked.protocols.items number def
-    old (map (protocol_seen (passes.ghosts).verdict) c.push_protocol.new.parts.items)
+    protocols_turn (system.protocol_seen s.checked.declared.scope s.checked.filters.items s.names) (protocol_seen (passes.ghosts).verdict) s.checked.protocols.items number def
+    c.loop-number.parts.items c.push.new.self.items c.in_ok-protocol.field-0
     (subst (λ (l : List ProtocolDef). number < length l) same c.loop-number-test.true)
     (subst (λ (l : List ProtocolDef). def ≡ get_or l number def) same c.def-item.is)
     c.loop-number.invariant
-    (c.in_ok-push_protocol.ensures
-    ∙ ap (λ (n : ℕ). old ++ with_protocol n def.name (body_seen s.checked.declared.scope s.checked.filters.items s.names def.body) []) c.in-Ok.ensures.1)
+    c.in_ok-push.ensures.items
+    c.in_ok-protocol.ensures

@@ -1,25 +1,28 @@
-use Rattle.std.proofs.Common.{[]}
+use Rattle.std.proofs.Common.{[], subst, sym}
 use Rattle.std.proofs.lemmas.Result.{IfOk-weaker}
 use Rattle.core_setup.specs.Setup.{IsSetup}
 use Rattle.system.specs.contracts.passes.PassesJudge.TheImpl as passes
 use Rattle.system.specs.Seen.{system_of}
-use Rattle.sys_run.specs.Parts.{setup_seen}
 use Rattle.sys_run.specs.Playing.{HasPlayed}
-use Rattle.sys_build.specs.Setups.{setup_of}
-use Rattle.sys_build.proofs.Handed.{handed, handed_on}
+use Rattle.sys_build.proofs.Handed.{handed}
 use Rattle.sys_build.proofs.whole.build.Goals as goal
+
+pub protocols-requires : goal.protocols-requires
+protocols-requires c = c.configurations_have_few_protocols.ensures c.requires.0 (system_of c.args.system.now) c.requires.1
+
+pub make-requires : goal.make-requires
+make-requires c =
+    let system = system_of c.args.system.now in
+    subst IsSetup
+    (sym (handed (passes.ghosts).verdict c.in_ok-tables.tables.items c.in_ok-protocols.protocols.items system c.args.cells c.in_ok-tables.ensures c.in_ok-protocols.ensures))
+    (c.accepted_configurations_are_setups.ensures c.requires.0 system c.requires.1 c.args.cells)
 
 pub returns : goal.returns
 returns c =
     let verdict = (passes.ghosts).verdict in
-    let tables = c.in_ok-tables.tables.items in
-    let protocols = c.in_ok-protocols.protocols.items in
-    let system = system_of c.args.system.now in
-    let cells = c.args.cells in
     IfOk-weaker c.make.result _ _
     (λ core made actors.
-    handed_on IsSetup (λ s. HasPlayed verdict s actors [] [] core) (setup_seen verdict tables protocols cells) (setup_of system cells)
-    (handed verdict tables protocols system cells c.in_ok-tables.ensures c.in_ok-protocols.ensures)
-    (c.accepted_configurations_are_setups.ensures c.requires.0 system c.requires.1 c.requires.2 cells)
+    subst (λ s. HasPlayed verdict s actors [] [] core)
+    (handed verdict c.in_ok-tables.tables.items c.in_ok-protocols.protocols.items (system_of c.args.system.now) c.args.cells c.in_ok-tables.ensures c.in_ok-protocols.ensures)
     (made actors))
     c.make.ensures

@@ -1,0 +1,17 @@
+pub mod Journals
+pub mod Runs
+pub mod Steps
+pub mod Kept
+pub mod Feeding
+pub mod Stretches
+pub mod Settling
+pub mod Entries
+pub mod Routing
+pub mod Reading
+pub mod Readers
+pub mod RouteSteps
+pub mod Changing
+pub mod Pushing
+pub mod PushSteps
+pub mod Obeying
+pub mod Syncing

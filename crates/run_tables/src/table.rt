@@ -1,0 +1,142 @@
+//! A table with its journal.
+ghost use Rattle.std.specs.Prelude.{◌≡◌, ◌<◌, ◌≤◌, ℕ, [], ◌∷◌, drop, length, List, IfOk, IsSome, IsTrue, OnOk, ◌↔◌, Option, Some, None, option_copied, slice_get};
+ghost use Rattle.attrs.specs.declared.route.Change.{Change};
+ghost use Rattle.bits_ip.specs.declared.address.Family.{Family};
+ghost use Rattle.core_machine.specs.Rules.{IsRules, Rules};
+ghost use Rattle.attrs.specs.Table.{Shows};
+ghost use Rattle.core_machine.specs.Histories.{content_of};
+ghost use Rattle.run_tables.specs.Tables.{Admits, IsTable, IsWhole};
+
+use attrs::{Change, Chunk, JEntry, Route, Row, Select, Seq};
+use bits_ip::{Family, OutOfMemory};
+use rib::Rib;
+use std::alloc::Global;
+
+/// A table of routes, and all its changes so far.
+#[derive(Debug, Drop)]
+pub struct Table {
+    family: Family,
+    rib: Rib,
+    entries: Vec<JEntry>,
+}
+
+impl Table {
+    /// A table without routes.
+    pub fn make(alloc: Global, family: Family) -> Table
+        ensures { (rules : Rules) → IsTable rules family [] result }
+    {
+        Table {
+            family,
+            rib: Rib::make(alloc, family),
+            entries: Vec::new(alloc),
+        }
+    }
+
+    /// How many changes there were.
+    pub fn head(&self) -> u64
+        ensures { result ≡ length self.now.entries.items }
+    {
+        self.entries.len() as u64
+    }
+
+    /// The change that a reader at this position reads next.
+    pub(crate) fn entry(&self, position: u64) -> Option<&JEntry>
+        ensures { option_copied result ≡ slice_get self.now.entries.items position }
+    {
+        self.entries.get(position as usize)
+    }
+
+    /// The changes from a position on.
+    pub fn since(&self, position: u64) -> &[JEntry]
+        requires { position ≤ length self.now.entries.items }
+        ensures { result.now ≡ drop position self.now.entries.items }
+    {
+        &self.entries[position as usize..]
+    }
+
+    /// Whether the change is one of this table: of its family, and of a route that tells its
+    /// source.
+    fn admits(&self, change: &Change) -> bool
+        ensures { IsTrue result ↔ Admits self.now.family change.now }
+    {
+        let family = is_same_family(change.net.family(), self.family);
+        match &change.new {
+            Some(route) => family && route.src.num == change.num,
+            None => family,
+        }
+    }
+
+    /// Changes the table, and goes on with the journal. Imports of a protocol and pipes over the
+    /// table give no change that it doesn't admit.
+    pub(crate) fn append(&mut self, change: Change) -> Result<(), OutOfMemory>
+        requires { self.old.family ≡ self.old.rib.family }
+        ensures { OnOk result ((rules : Rules) (family : Family) (history : List Change)
+            → IsRules rules → (IsSome change.new → change.num < rules.protocols)
+            → IsTable rules family history self.old
+            → IsTable rules family (change ∷ history) self.new) }
+    {
+        if !self.admits(&change) {
+            return Err(OutOfMemory);
+        }
+        self.rib.reserve(&change)?;
+        let copy = copy_option(change.new.as_ref())?;
+        let Change { net, num, new } = change;
+        let _ = self.rib.change(Change {
+            net,
+            num,
+            new: copy,
+        });
+        let best = self.rib.copy_best(&net)?;
+        self.entries.push(JEntry {
+            net,
+            num,
+            new,
+            best,
+        })?;
+        Ok(())
+    }
+
+    /// All rows, as a feed at the table's head reads them.
+    pub(crate) fn whole(&self) -> Result<Chunk, OutOfMemory>
+        ensures { IfOk result (λ chunk. (rules : Rules) (family : Family)
+            (history : List Change) → IsTable rules family history self.now
+            → IsWhole history chunk) }
+    {
+        let rows = self.rows()?;
+        Ok(Chunk {
+            at: self.head(),
+            from: None,
+            upto: None,
+            rows: Seq::from_vec(rows),
+            more: false,
+        })
+    }
+
+    /// All rows.
+    pub fn rows(&self) -> Result<Vec<Row>, OutOfMemory>
+        ensures { IfOk result (λ rows. (rules : Rules) (family : Family) (history : List Change)
+            → IsTable rules family history self.now → Shows rows.items (content_of history)) }
+    {
+        self.rib.select(&Select::All)
+    }
+}
+
+fn copy_option(route: Option<&Route>) -> Result<Option<Route>, OutOfMemory>
+    ensures { IfOk result (λ copy. copy ≡ option_copied route.entry) }
+{
+    match route {
+        Some(route) => Ok(Some(route.copy()?)),
+        None => Ok(None),
+    }
+}
+
+fn is_same_family(one: Family, other: Family) -> bool
+    ensures { IsTrue result ↔ (one ≡ other) }
+{
+    match (one, other) {
+        (Family::V4, Family::V4) => true,
+        (Family::V4, Family::V6) => false,
+        (Family::V6, Family::V4) => false,
+        (Family::V6, Family::V6) => true,
+    }
+}

@@ -1,8 +1,0 @@
-use Rattle.system.specs.contracts.passes.PassesJudge.TheImpl as passes
-use Rattle.sys_build.proofs.Handed.{with_channel}
-use Rattle.sys_build.proofs.protocols.bgp_protocol.Goals as goal
-
-pub returns : goal.returns
-returns c =
-    with_channel (passes.ghosts).verdict c.in_ok-copied.field-0 _ c.args.def.now.channel.table c.bgp_imports.result _ c.passes.result _ c.gate.result _ c.passes-2.result _
-    c.in_ok-copied.ensures c.bgp_imports.ensures c.passes.ensures c.gate.ensures c.passes-2.ensures
