@@ -24,14 +24,14 @@ use Rattle.export_core.proofs.Keys.{same_key_itself}
 use Rattle.export_core.proofs.Pushing.{account_right}
 use Rattle.core_machine.specs.Channels.{Channel, IsFed, fed, is_open, new_channel, opened, take_one, times}
 use Rattle.core_machine.specs.Enters.{change_to, enters, standing_keys, withdrawal, withdrawn}
-use Rattle.core_machine.specs.Histories.{AreFrom, AreReal, IsFrom, content_of, front, of_those, own}
+use Rattle.core_machine.specs.Histories.{AreFrom, AreReal, content_of, front, of_those, own}
 use Rattle.core_machine.specs.Lines.{Act, Line}
 use Rattle.core_machine.specs.Machine.{Begins, Plays, State, if_open, push_at, start, takes}
 use Rattle.core_machine.specs.Phases.{Comes}
 use Rattle.core_machine.specs.Pipes.{candidate, course_of, ends_with, is_pipe, passes}
 use Rattle.core_machine.specs.Rounds.{taken_up, turn_lines}
 use Rattle.core_machine.specs.Rules.{IsRules, Rules, best_of}
-use Rattle.core_machine.proofs.Contents.{content_more, content_own, eqb_no, eqb_yes, front_more, if_false, if_lt, if_true, none_some, some_same, those_in, those_out}
+use Rattle.core_machine.proofs.Contents.{content_more, content_own, eqb_no, eqb_yes, front_more, if_false, if_lt, if_true, none_some, those_in, those_out}
 use Rattle.core_machine.proofs.Entering.{or_true, standing_told}
 use Rattle.core_machine.proofs.Growing.{set_here}
 use Rattle.core_machine.proofs.MarkOrder.{own_front}

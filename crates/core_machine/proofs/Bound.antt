@@ -1,5 +1,5 @@
 -- How many rounds a sync has: by the distance that a source's changes still have to go.
-use Rattle.std.proofs.Common.{◌≡◌, ◌≢◌, ◌⊎◌, ℕ, zero, suc, ◌+◌, ◌-◌, ◌<◌, ◌≤◌, inl, inr, Bool, true, false, List, [], ◌∷◌, ◌++◌, Option, Some, None, refl, sym, ◌∙◌, ap, subst, arith, length, is_some}
+use Rattle.std.proofs.Common.{◌≡◌, ◌≢◌, ℕ, zero, suc, ◌+◌, ◌-◌, ◌<◌, ◌≤◌, inl, inr, Bool, true, false, List, [], ◌∷◌, Option, Some, None, refl, sym, ◌∙◌, ap, subst, arith, length, is_some}
 use Rattle.std.specs.Prelude.{◌==◌, ◌&&◌, nat_lt, if◌then◌else◌}
 use Rattle.std.proofs.Math.Nat.{le_refl}
 use Rattle.std.proofs.lemmas.Bool.{cases_lt}
@@ -14,20 +14,20 @@ use Rattle.export_core.proofs.Pushing.{open_at}
 use Rattle.core_machine.specs.Channels.{Channel, answer, is_open, push_one, pushed, take_one, taken, times, value_at}
 use Rattle.core_machine.specs.Histories.{entry, own}
 use Rattle.core_machine.specs.Lines.{Act, Line}
-use Rattle.core_machine.specs.Machine.{Begins, Plays, State, added, arrived, gain, gained, if_open, push_at, set, takes, with_channel}
+use Rattle.core_machine.specs.Machine.{Begins, Plays, State, added, arrived, gain, gained, push_at, set, with_channel}
 use Rattle.core_machine.specs.Marks.{Marked, find, put}
 use Rattle.core_machine.specs.Phases.{Comes}
 use Rattle.core_machine.specs.Pipes.{heeds, is_pipe, key_of, passes}
-use Rattle.core_machine.specs.Room.{in_room, lags, roomed}
-use Rattle.core_machine.specs.Rounds.{AreSettled, HasRounds, IsSettled, pushed_out, round, taken_up, turned, turns_to}
+use Rattle.core_machine.specs.Room.{lags, roomed}
+use Rattle.core_machine.specs.Rounds.{AreSettled, HasRounds, pushed_out, round, taken_up, turned, turns_to}
 use Rattle.core_machine.specs.Rules.{IsRules, Rules}
 use Rattle.core_machine.proofs.Contents.{AllOf, none_some, some_same, if_true, if_false, entry_lt, entry_none, those_in, those_out, eqb_yes}
-use Rattle.core_machine.proofs.Growing.{IsMore, more_added, more_arrived, set_here, set_there, some_list}
+use Rattle.core_machine.proofs.Growing.{more_added, more_arrived, set_here, set_there, some_list}
 use Rattle.core_machine.proofs.MarkSteps.{find_here, find_put_other}
-use Rattle.core_machine.proofs.OneChannel.{IsKept, push_keeps, some_key, take_log, times_keeps}
+use Rattle.core_machine.proofs.OneChannel.{push_keeps, some_key, times_keeps}
 use Rattle.core_machine.proofs.PhaseEnds.{comes_keeps}
 use Rattle.core_machine.proofs.Tables.{passed_way}
-use Rattle.core_machine.proofs.WholeState.{IsRight, IsState, begins_keeps, gained_fits, given, is_target, owned, plays_keeps, push_open, pushes_step, rounds_keep, rounds_step, takes_open, takes_step, turn_step, turns_step}
+use Rattle.core_machine.proofs.WholeState.{IsRight, IsState, begins_keeps, gained_fits, given, is_target, owned, plays_keeps, pushes_step, rounds_keep, takes_open, takes_step, turns_step}
 
 no : {A : Type 0} → true ≡ false → A
 no e = absurd (let bad : true ≡ false = e in cc)
@@ -317,43 +317,49 @@ module _ (g : Rules) (ok : IsRules g) where
   rounds_late zero s is = first_late s is
   rounds_late (suc n) s is = round_late n (times n (round g) s) (rounds_keep g ok n s is) (rounds_late n s is)
 
-  -- nothing comes from so far
-  not_far : (t num : ℕ) → IsFar t num g.tables → ⊥
-  not_far t num f = let lt = ok.ways.short t num f.0 f.1 in never (omega (arith, f.2, lt))
+  module _ (most : ℕ) (short : (t i : ℕ) (ds : List ℕ) → g.hops t i ≡ Some ds → length ds < most) where
+    -- nothing comes from so far
+    not_far : (t num : ℕ) → IsFar t num most → ⊥
+    not_far t num f = let lt = short t num f.0 f.1 in never (omega (arith, f.2, lt))
 
-  some_tables : 1 ≤ g.tables
-  some_tables = let lt = ok.ways.short (g.table 0) 0 [] (ok.ways.home 0) in omega (arith, lt)
+    some : 1 ≤ most
+    some = let lt = short (g.table 0) 0 [] (ok.ways.home 0) in omega (arith, lt)
 
-  rested : (ms : List Marked) → ((k : Key) → is_some (find k ms) ≡ true → ⊥) → ms ≡ []
-  rested [] none = refl
-  rested (m ∷ ms) none = absurd (none m.key (ap is_some (find_here m ms)))
+    rested : (ms : List Marked) → ((k : Key) → is_some (find k ms) ≡ true → ⊥) → ms ≡ []
+    rested [] none = refl
+    rested (m ∷ ms) none = absurd (none m.key (ap is_some (find_here m ms)))
 
-  pub late_settled : (s : State) → IsState g ok s → AreLate (λ c. g.tables) s → AreSettled g s
-  late_settled s is l c up =
-      let h = s.history (g.reads c) in
-      let ch = s.channels c in
-      let k = l c up in
-      let o = open_at (stretch ch.log) up in
-      let w = ((is.keeps c).channel.lanes o.0 o.1 some_key).within in
-      record {
-        position = elim (cases_lt ch.position (length h)) [
-          | inl z ↦ elim (entry ch.position h) as (λ o. entry ch.position h ≡ o → ch.position ≡ length h) [
-            | None ↦ λ e. let high = entry_none ch.position h e in never (omega (arith, z, high))
-            | Some x ↦ λ e. absurd (not_far (g.reads c) x.num (k.entries ch.position x (le_refl ch.position) e))
-          ] refl
-          | inr z ↦ omega (arith, w, z)
-        ];
-        marks = rested ch.marks (λ q some. let d = k.marks q some some_tables in not_far (g.reads c) d.0 d.2);
-      }
+    pub late_settled : (s : State) → IsState g ok s → AreLate (λ c. most) s → AreSettled g s
+    late_settled s is l c up =
+        let h = s.history (g.reads c) in
+        let ch = s.channels c in
+        let k = l c up in
+        let o = open_at (stretch ch.log) up in
+        let w = ((is.keeps c).channel.lanes o.0 o.1 some_key).within in
+        record {
+          position = elim (cases_lt ch.position (length h)) [
+            | inl z ↦ elim (entry ch.position h) as (λ o. entry ch.position h ≡ o → ch.position ≡ length h) [
+              | None ↦ λ e. let high = entry_none ch.position h e in never (omega (arith, z, high))
+              | Some x ↦ λ e. absurd (not_far (g.reads c) x.num (k.entries ch.position x (le_refl ch.position) e))
+            ] refl
+            | inr z ↦ omega (arith, w, z)
+          ];
+          marks = rested ch.marks (λ q is_some_q. let d = k.marks q is_some_q some in not_far (g.reads c) d.0 d.2);
+        }
 
-  pub few : (s : State) (rounds : ℕ) → IsState g ok s → HasRounds g s rounds → rounds ≤ g.tables
-  few s rounds is r = elim (cases_lt g.tables rounds) [
-    | inl w ↦ absurd (r.each g.tables w (late_settled (times g.tables (round g) s) (rounds_keep g ok g.tables s is) (rounds_late g.tables s is)))
-    | inr w ↦ w
-  ]
+    pub few : (s : State) (rounds : ℕ) → IsState g ok s → HasRounds g s rounds → rounds ≤ most
+    few s rounds is r = elim (cases_lt most rounds) [
+      | inl w ↦ absurd (r.each most w (late_settled (times most (round g) s) (rounds_keep g ok most s is) (rounds_late most s is)))
+      | inr w ↦ w
+    ]
 
-pub bound : (g : Rules) (phases : List (List Act × List Line)) (starts : List Act) (lines : List Line) (s b u : State) (rounds : ℕ) → IsRules g → Comes g phases s → Begins g starts (record s { replies = [] }) b → Plays g lines b u → HasRounds g u rounds → rounds ≤ g.tables
-bound g phases starts lines s b u rounds ok c p q r =
+-- a bound on the directions of ways is one on rounds
+pub bound_by_ways : (g : Rules) (most : ℕ) (phases : List (List Act × List Line)) (starts : List Act) (lines : List Line) (s b u : State) (rounds : ℕ) → IsRules g → ((t i : ℕ) (ds : List ℕ) → g.hops t i ≡ Some ds → length ds < most)
+    → Comes g phases s → Begins g starts (record s { replies = [] }) b → Plays g lines b u → HasRounds g u rounds → rounds ≤ most
+bound_by_ways g most phases starts lines s b u rounds ok short c p q r =
     let is = comes_keeps g ok phases s c in
     let now : IsState g ok (record s { replies = [] }) = record { exact = is.exact; keeps = is.keeps } in
-    few g ok u rounds (plays_keeps g ok lines b u q (begins_keeps g ok starts (record s { replies = [] }) b p now)) r
+    few g ok most short u rounds (plays_keeps g ok lines b u q (begins_keeps g ok starts (record s { replies = [] }) b p now)) r
+
+pub bound : (g : Rules) (phases : List (List Act × List Line)) (starts : List Act) (lines : List Line) (s b u : State) (rounds : ℕ) → IsRules g → Comes g phases s → Begins g starts (record s { replies = [] }) b → Plays g lines b u → HasRounds g u rounds → rounds ≤ g.tables
+bound g phases starts lines s b u rounds ok c p q r = bound_by_ways g g.tables phases starts lines s b u rounds ok ok.ways.short c p q r

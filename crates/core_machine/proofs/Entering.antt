@@ -1,6 +1,6 @@
 -- What a direction's log does to the table that it writes.
 use Rattle.std.proofs.Common.{◌≡◌, ◌≢◌, ℕ, inl, inr, Bool, true, false, List, [], ◌∷◌, ◌++◌, Option, Some, None, refl, sym, ◌∙◌, ap, subst, is_some, option_and_then, option_map}
-use Rattle.std.specs.Prelude.{IsSome, ◌==◌, ◌&&◌, ◌||◌, if◌then◌else◌}
+use Rattle.std.specs.Prelude.{◌||◌, if◌then◌else◌}
 use Rattle.std.specs.List.Sorted.{IsStrictlySortedBy}
 use Rattle.std.proofs.lemmas.List.{append_assoc}
 use Rattle.bits_ip.specs.Prefix.{Net}
@@ -12,16 +12,16 @@ use Rattle.export_core.specs.declared.log.LogItem.{LogItem}
 use Rattle.export_core.specs.declared.log.LogItem.TheVariants.{Up, Down, Reload, Sent}
 use Rattle.export_core.specs.declared.log.Sending.{Sending}
 use Rattle.export_core.specs.Keys.{key_cmp, same_key}
-use Rattle.export_core.specs.Logs.{Course, Account, stretch, account, entered, value_of, Follows}
+use Rattle.export_core.specs.Logs.{Course, stretch, account, entered, value_of, Follows}
 use Rattle.export_core.specs.Marks.{IsOnce, holds}
 use Rattle.export_core.specs.Passing.{passed}
 use Rattle.export_core.proofs.Keys.{key_tells, same_key_flip, same_key_itself}
 use Rattle.export_core.proofs.Pushing.{account_right}
-use Rattle.core_machine.specs.Enters.{change_to, enters, kept_with, standing_keys, with_key, withdrawal, withdrawn, without_key}
+use Rattle.core_machine.specs.Enters.{change_to, enters, kept_with, standing_keys, withdrawal, withdrawn, without_key}
 use Rattle.core_machine.specs.Histories.{AreReal, content_of, front}
 use Rattle.core_machine.specs.Pipes.{candidate, course_of, is_pipe, passes}
-use Rattle.core_machine.specs.Rules.{IsRules, Rules}
-use Rattle.core_machine.proofs.Contents.{AllOf, content_more, if_true, if_false, none_some, real_more, some_same}
+use Rattle.core_machine.specs.Rules.{Rules}
+use Rattle.core_machine.proofs.Contents.{AllOf, content_more, if_true, if_false, none_some, real_more}
 use Rattle.core_machine.proofs.FeedSteps.{no_some}
 use Rattle.core_machine.proofs.KeyLists.{holds_without, none_ascends, once_ascending, others_without, with_ascends, with_holds, without_ascends}
 use Rattle.core_machine.proofs.OneChannel.{pipe_candidate}

@@ -1,15 +1,13 @@
 -- Changes that come to a table, and what they leave.
-use Rattle.std.proofs.Common.{◌≡◌, ◌≢◌, ℕ, inl, inr, Bool, true, false, List, [], ◌∷◌, ◌++◌, Option, Some, None, refl, sym, ◌∙◌, ap, subst}
+use Rattle.std.proofs.Common.{◌≡◌, ◌≢◌, ℕ, inl, inr, true, false, List, [], ◌∷◌, ◌++◌, Option, Some, None, refl, sym, ◌∙◌, ap, subst}
 use Rattle.std.specs.Prelude.{◌==◌, if◌then◌else◌}
 use Rattle.std.proofs.lemmas.List.{append_assoc}
 use Rattle.std.proofs.lemmas.Bool.Decides.{eqb_tells}
 use Rattle.attrs.specs.declared.route.Change.{Change}
 use Rattle.import_core.specs.declared.operation.Op.{Op}
 use Rattle.export_core.specs.declared.log.Key.{Key}
-use Rattle.export_core.specs.declared.log.LogItem.{LogItem}
-use Rattle.core_machine.specs.Channels.{Channel, is_open}
 use Rattle.core_machine.specs.Enters.{withdrawal, withdrawn}
-use Rattle.core_machine.specs.Machine.{State, added, appended, arrived, flushed, left_by, set}
+use Rattle.core_machine.specs.Machine.{State, added, appended, arrived, flushed, set}
 use Rattle.core_machine.specs.Room.{in_room, roomed}
 use Rattle.core_machine.specs.Rules.{IsRules, Rules}
 use Rattle.core_machine.proofs.Contents.{if_true, if_false}

@@ -1,12 +1,12 @@
 -- Lists of keys in order: two that hold the same are one, each finite choice of keys has one, and what
 -- a list holds with a key more or less.
-use Rattle.std.proofs.Common.{◌≡◌, ◌≢◌, ◌⊎◌, ◌<◌, ℕ, inl, inr, Bool, true, false, List, [], ◌∷◌, refl, sym, ◌∙◌, ap, subst, arith, Ordering, Less, Equal, Greater}
-use Rattle.std.specs.Prelude.{◌==◌, ◌&&◌, ◌||◌, nat_lt, if◌then◌else◌}
+use Rattle.std.proofs.Common.{◌≡◌, ◌≢◌, ◌⊎◌, ℕ, inl, inr, Bool, true, false, List, [], ◌∷◌, refl, sym, ◌∙◌, ap, subst, arith, Ordering, Less, Equal, Greater}
+use Rattle.std.specs.Prelude.{◌&&◌, ◌||◌, nat_lt, if◌then◌else◌}
 use Rattle.std.specs.List.{AllByRecursion}
 use Rattle.std.specs.List.Sorted.{IsStrictlySortedBy}
 use Rattle.std.specs.Ordering.{is_eq, is_lt, nat_cmp, ordering_then}
 use Rattle.std.proofs.lemmas.Bool.Decides.{eqb_tells, nat_tests}
-use Rattle.bits_ip.specs.Prefix.{Net, net_cmp, precedes, same_net}
+use Rattle.bits_ip.specs.Prefix.{net_cmp, precedes, same_net}
 use Rattle.attrs.proofs.Nets.{net_cases, precedes_chain, precedes_other, same_net_itself}
 use Rattle.export_core.specs.declared.log.Key.{Key}
 use Rattle.export_core.specs.Keys.{key_cmp, same_key}

@@ -16,7 +16,7 @@ use Rattle.core_machine.specs.Room.{roomed}
 use Rattle.core_machine.specs.Rounds.{pushed_out, round, taken_up, turned, turns_to}
 use Rattle.core_machine.specs.Rules.{IsRules, Rules, Signal, Stay, Rise, Fall, Renew}
 use Rattle.core_machine.proofs.Bound.{push_position}
-use Rattle.core_machine.proofs.Contents.{if_true, if_false, entry_none, none_some}
+use Rattle.core_machine.proofs.Contents.{if_true, if_false, entry_none}
 use Rattle.core_machine.proofs.Growing.{set_here, set_there}
 use Rattle.core_machine.proofs.OneChannel.{times_keeps, taken_log, open_pushed}
 use Rattle.core_machine.proofs.WholeState.{given}

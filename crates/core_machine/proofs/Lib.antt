@@ -22,3 +22,6 @@ pub mod Levels
 pub mod ToldRows
 pub mod Beginnings
 pub mod SomeRules
+pub mod WorkedRows
+pub mod Courses
+pub mod Listing

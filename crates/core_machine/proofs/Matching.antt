@@ -3,7 +3,7 @@ use Rattle.std.proofs.Common.{◌≡◌, ◌≢◌, ℕ, ◌+◌, ◌<◌, ◌�
 use Rattle.std.specs.Prelude.{◌==◌, ◌&&◌, ◌||◌, nat_lt, not, slice_get, drop, if◌then◌else◌}
 use Rattle.std.specs.Map.{keys_of}
 use Rattle.std.proofs.lemmas.Bool.{cases_lt}
-use Rattle.std.proofs.lemmas.Bool.Decides.{eqb_tells, nat_tests}
+use Rattle.std.proofs.lemmas.Bool.Decides.{nat_tests}
 use Rattle.std.proofs.lemmas.List.{reverse-append}
 use Rattle.bits_ip.specs.Prefix.{Net}
 use Rattle.attrs.specs.declared.attributes.Attrs.{Attrs}
@@ -90,24 +90,27 @@ module _ (g : Rules) (c : ℕ) (spec : ExportSpec) (is : IsSpecOf g c spec) wher
   pub key_same : (read : JEntry) → key_of_entry spec read ≡ key_of g c (change_of read)
   key_same read = ap (λ (b : Bool). let k : Key = record { net = read.net; num = (if b then read.num else 0) } in k) is.every
 
-  -- the candidate that an entry tells
-  pub told_same : (h : List Change) (ch : Channel) (read : JEntry) → IsNextEntry g h ch read → heeds g c read.num ≡ true → told_of spec read ≡ candidate g c (key_of g c (change_of read)) (front (ch.position + 1) h)
-  told_same h ch read next heed =
+  -- the candidate that an entry tells behind its change
+  pub told_behind : (h : List Change) (read : JEntry) → read.best ≡ best_of g read.net (change_of read ∷ h) → heeds g c read.num ≡ true → told_of spec read ≡ candidate g c (key_of g c (change_of read)) (change_of read ∷ h)
+  told_behind h read best heed =
       let x = change_of read in
       let k = key_of g c x in
-      let f = front (ch.position + 1) h in
-      let more = front_next ch.position h x next.change in
+      let f = x ∷ h in
       elim (is_pipe g c) as (λ b. is_pipe g c ≡ b → told_of spec read ≡ candidate g c k f) [
         | true ↦ λ q. ap (λ e. if e then read.new else read.best) (is.every ∙ q)
             ∙ sym (pipe_candidate g c k (content_of f) q
             ∙ ap (λ b. if b then content_of f k.net k.num else None) (ap (passes g c) (pipe_key g c x q) ∙ sym (heeds_pipe g c read.num q) ∙ heed)
             ∙ ap (content_of f k.net) (pipe_key g c x q)
-            ∙ ap (λ l. content_of l x.net x.num) more
-            ∙ content_key x (front ch.position h) x.net x.num
-            ∙ if_true (same_key (record { net = x.net; num = x.num }) (record { net = x.net; num = x.num })) x.new (content_of (front ch.position h) x.net x.num) (same_key_itself (record { net = x.net; num = x.num })))
-        | false ↦ λ q. ap (λ e. if e then read.new else read.best) (is.every ∙ q) ∙ next.best
+            ∙ content_key x h x.net x.num
+            ∙ if_true (same_key (record { net = x.net; num = x.num }) (record { net = x.net; num = x.num })) x.new (content_of h x.net x.num) (same_key_itself (record { net = x.net; num = x.num })))
+        | false ↦ λ q. ap (λ e. if e then read.new else read.best) (is.every ∙ q) ∙ best
             ∙ sym (plain_candidate g c k (content_of f) q ∙ if_true (k.num == 0) (g.choose (content_of f k.net)) None (eqb_yes k.num 0 (plain_key g c x q)))
       ] refl
+
+  pub told_same : (h : List Change) (ch : Channel) (read : JEntry) → IsNextEntry g h ch read → heeds g c read.num ≡ true → told_of spec read ≡ candidate g c (key_of g c (change_of read)) (front (ch.position + 1) h)
+  told_same h ch read next heed =
+      let more = front_next ch.position h (change_of read) next.change in
+      told_behind (front ch.position h) read (next.best ∙ ap (best_of g read.net) more) heed ∙ ap (candidate g c (key_of g c (change_of read))) (sym more)
 
 -- ---- what holds of each channel
 

@@ -4,7 +4,6 @@ use Rattle.std.specs.Prelude.{◌==◌, ◌&&◌, ◌||◌, nat_lt, if◌then◌
 use Rattle.std.proofs.Math.Nat.{le_refl}
 use Rattle.std.proofs.lemmas.Bool.Decides.{eqb_tells, nat_tests, not_from_Decides}
 use Rattle.bits_ip.specs.declared.address.Addr.TheVariants.{V4}
-use Rattle.bits_ip.specs.Prefix.{Net}
 use Rattle.attrs.specs.declared.attributes.Attrs.{Attrs}
 use Rattle.attrs.specs.declared.route.Change.{Change}
 use Rattle.attrs.specs.contracts.attributes.AttrsPartialEq.TheImpl as attributes
@@ -23,9 +22,9 @@ use Rattle.core_machine.specs.Histories.{content_of, entry, front, own}
 use Rattle.core_machine.specs.Marks.{Marked, find, put}
 use Rattle.core_machine.specs.Pipes.{candidate, candidate_in, course_of, heeds, is_pipe, key_of, passes}
 use Rattle.core_machine.specs.Room.{lags, roomed}
-use Rattle.core_machine.specs.Rules.{Fits, IsRules, Rules, Signal, Stay, Rise, Fall, Renew, changes, is_up, signalled}
+use Rattle.core_machine.specs.Rules.{IsRules, Rules, Signal, Rise, Fall, Renew, changes, is_up, signalled}
 use Rattle.core_machine.specs.Signals.{AreSignals, IsPlace, Notice, notices, with_signal, without_sends}
-use Rattle.core_machine.proofs.Contents.{some_same, none_some, content_past_net, content_past_num, eqb_no, front_more, front_all, front_next, entry_lt, if_true, if_false}
+use Rattle.core_machine.proofs.Contents.{some_same, none_some, content_past_net, content_past_num, front_more, front_all, front_next, entry_lt, if_true, if_false}
 use Rattle.core_machine.proofs.ChannelSteps.{IsChannel, quiet_keeps, sent_keeps, take_marks, take_passes, take_skips, up_keeps, reload_keeps, down_keeps}
 use Rattle.core_machine.proofs.FeedSteps.{fed_keeps, no_some, channel_longer}
 

@@ -1,6 +1,6 @@
 -- The machine comes to one state from each script.
-use Rattle.std.proofs.Common.{◌≡◌, ◌≢◌, ℕ, zero, suc, ◌+◌, ◌-◌, ◌<◌, ◌≤◌, inl, inr, Bool, true, false, List, [], ◌∷◌, ◌++◌, Option, Some, None, refl, sym, ◌∙◌, ap, subst, arith, length, is_some, option_and_then}
-use Rattle.std.specs.Prelude.{◌==◌, ◌||◌, if◌then◌else◌}
+use Rattle.std.proofs.Common.{◌≡◌, ◌≢◌, ℕ, zero, suc, ◌-◌, ◌≤◌, inl, inr, Bool, true, false, List, [], ◌∷◌, ◌++◌, Option, Some, None, refl, sym, ◌∙◌, ap, subst, arith, length, is_some, option_and_then}
+use Rattle.std.specs.Prelude.{◌||◌, if◌then◌else◌}
 use Rattle.std.proofs.lemmas.Bool.{cases_lt}
 use Rattle.std.proofs.lemmas.List.{append_assoc}
 use Rattle.std.proofs.lemmas.Bool.Decides.{eqb_tells}
@@ -15,18 +15,18 @@ use Rattle.export_core.specs.Logs.{Account, account, entered, value_of}
 use Rattle.export_core.specs.Marks.{holds}
 use Rattle.export_core.proofs.Keys.{key_tells}
 use Rattle.core_machine.specs.Channels.{Channel, IsFeed, answer, closed, fed, is_open, logged, opened, push_one, pushed, renewed, take_one, times, value_at}
-use Rattle.core_machine.specs.Enters.{standing_keys, withdrawn}
+use Rattle.core_machine.specs.Enters.{standing_keys}
 use Rattle.core_machine.specs.Histories.{content_of}
 use Rattle.core_machine.specs.Legal.{Joined, Printed, join, nothing, started}
-use Rattle.core_machine.specs.Lines.{Act, Line, Apply, Take, Push, Show, ops_of, turn_of}
-use Rattle.core_machine.specs.Machine.{AllObey, Applies, Begins, Feeds, Obeys, Plays, State, Steps, appended, arrived, flushed, gained, if_open, left_by, push_at, set, start, takes, with_channel, with_turn}
+use Rattle.core_machine.specs.Lines.{Act, Line, Apply, Take, Push, Show, turn_of}
+use Rattle.core_machine.specs.Machine.{AllObey, Applies, Begins, Feeds, Obeys, Plays, State, Steps, appended, arrived, flushed, gained, if_open, left_by, push_at, start, takes, with_channel, with_turn}
 use Rattle.core_machine.specs.Marks.{Marked, find, marked_keys}
 use Rattle.core_machine.specs.Phases.{IsPhase, PlaysAll, Prints}
 use Rattle.core_machine.specs.Pipes.{candidate, key_of}
 use Rattle.core_machine.specs.Rounds.{HasRounds, pushed_out, round, taken_up, turned, turns_to}
 use Rattle.core_machine.specs.Rules.{IsRules, Rules, Signal, Stay, Rise, Fall, Renew}
 use Rattle.core_machine.proofs.Contents.{if_false}
-use Rattle.core_machine.proofs.Growing.{more_appended, more_arrived, more_flushed, set_here, set_there, some_list}
+use Rattle.core_machine.proofs.Growing.{more_appended, more_arrived, more_flushed, set_here, set_there}
 use Rattle.core_machine.proofs.KeyLists.{ascending_one, choice, chosen, chosen_ascends}
 use Rattle.core_machine.proofs.MarkSteps.{find_past}
 use Rattle.core_machine.proofs.OneChannel.{candidate_stays, take_log}

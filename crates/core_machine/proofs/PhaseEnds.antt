@@ -1,5 +1,5 @@
 -- Phases: what an actor is told, the sync, and that what is printed is legal.
-use Rattle.std.proofs.Common.{◌≡◌, ◌≢◌, ℕ, zero, suc, ◌+◌, ◌-◌, ◌<◌, ◌≤◌, inl, inr, Bool, true, false, List, [], ◌∷◌, ◌++◌, Option, Some, None, refl, sym, ◌∙◌, ap, subst, arith, length, map, is_some, option_map}
+use Rattle.std.proofs.Common.{◌≡◌, ℕ, ◌≤◌, inl, inr, Bool, true, false, List, [], ◌∷◌, ◌++◌, Option, Some, None, refl, sym, ◌∙◌, ap, subst, arith, length, is_some, option_map}
 use Rattle.std.specs.Prelude.{◌==◌, if◌then◌else◌}
 use Rattle.std.proofs.Math.Nat.{le_refl}
 use Rattle.std.proofs.Math.Path.{fun_ext}
@@ -13,12 +13,11 @@ use Rattle.attrs.specs.Selection.{IsBest}
 use Rattle.attrs.proofs.Rows.{Contains-nothing}
 use Rattle.import_core.specs.declared.operation.Op.{Op}
 use Rattle.export_core.specs.declared.log.Key.{Key}
-use Rattle.export_core.specs.declared.log.LogItem.{LogItem}
 use Rattle.export_core.specs.declared.log.LogItem.TheVariants.{Up}
 use Rattle.export_core.specs.Lanes.{IsLane}
 use Rattle.export_core.specs.Logs.{stretch, account, value_of, Follows, Settled}
 use Rattle.export_core.specs.Passing.{passed}
-use Rattle.core_machine.specs.Channels.{Channel, is_open, new_channel, opened, times}
+use Rattle.core_machine.specs.Channels.{is_open, new_channel, opened, times}
 use Rattle.core_machine.specs.Enters.{enters}
 use Rattle.core_machine.specs.Histories.{AreReal, content_of, of_those, own}
 use Rattle.core_machine.specs.Legal.{AreLegal, IsLegal, Joined, Printed, join, nothing, started}
@@ -29,7 +28,7 @@ use Rattle.core_machine.specs.Phases.{Comes, IsPhase, PlaysAll, Prints}
 use Rattle.core_machine.specs.Pipes.{candidate, candidate_in, course_of, ends_with, is_pipe, passes}
 use Rattle.core_machine.specs.Replies.{Answers, Question, needed, questions, replies_to}
 use Rattle.core_machine.specs.Rounds.{AreSettled, round}
-use Rattle.core_machine.specs.Rules.{IsRules, Rules, Rise, changes, held, is_up}
+use Rattle.core_machine.specs.Rules.{IsRules, Rules, Rise, changes, is_up}
 use Rattle.core_machine.specs.Signals.{AreSignals, IsPlace, Notice, notices, without_sends}
 use Rattle.core_machine.specs.SyncState.{IsSyncState, along, along_way, content}
 use Rattle.core_machine.proofs.Contents.{content_own, content_those, eqb_yes, front_all, if_true, if_false, none_some, some_same}

@@ -6,7 +6,7 @@ use Rattle.std.proofs.lemmas.List.{length-append}
 use Rattle.std.proofs.lemmas.Bool.Decides.{nat_tests, eqb_tells}
 use Rattle.attrs.specs.declared.route.Change.{Change}
 use Rattle.import_core.specs.declared.operation.Op.{Op}
-use Rattle.core_machine.specs.Histories.{content_of, front, own}
+use Rattle.core_machine.specs.Histories.{front, own}
 use Rattle.core_machine.specs.Lines.{Act, Line, Apply, Take, Push, Show, Reply, Turn, ops_of, turn_of}
 use Rattle.core_machine.specs.Merges.{asked, picked}
 use Rattle.core_machine.specs.Replies.{Answers, Question, is_nil, latest, needed, questions}

@@ -1,6 +1,6 @@
 -- A sync comes to an end: there is a number of rounds.
-use Rattle.std.proofs.Common.{◌≡◌, ◌≢◌, ℕ, zero, suc, ◌+◌, ◌<◌, ◌≤◌, inl, inr, Bool, true, false, not, List, [], ◌∷◌, refl, sym, ◌∙◌, ap, subst, arith, length}
-use Rattle.std.specs.Prelude.{◌==◌, ◌&&◌, ◌||◌, if◌then◌else◌}
+use Rattle.std.proofs.Common.{◌≡◌, ℕ, zero, suc, ◌+◌, ◌<◌, ◌≤◌, inl, inr, Bool, true, false, List, [], ◌∷◌, refl, sym, ◌∙◌, ap, subst, arith, length}
+use Rattle.std.specs.Prelude.{◌==◌, ◌&&◌}
 use Rattle.std.proofs.lemmas.Bool.{cases_lt}
 use Rattle.std.proofs.lemmas.Bool.Decides.{eqb_tells}
 use Rattle.attrs.specs.declared.route.Change.{Change}
@@ -79,7 +79,7 @@ tell g s (suc n) = let r = tell g s n in let h = s.history (g.reads n) in let ch
 
 module _ (g : Rules) (ok : IsRules g) where
   pub least : (left n : ℕ) (s : State) → IsState g ok s → n + left ≡ g.tables → ((m : ℕ) → m < n → AreSettled g (times m (round g) s) → ⊥) → (rounds : ℕ) × HasRounds g s rounds
-  least zero n s is e before = (n, record { end = subst (λ k. AreSettled g (times k (round g) s)) (let same : g.tables ≡ n = omega (arith, e) in same) (late_settled g ok (times g.tables (round g) s) (rounds_keep g ok g.tables s is) (rounds_late g ok g.tables s is)); each = before })
+  least zero n s is e before = (n, record { end = subst (λ k. AreSettled g (times k (round g) s)) (let same : g.tables ≡ n = omega (arith, e) in same) (late_settled g ok g.tables ok.ways.short (times g.tables (round g) s) (rounds_keep g ok g.tables s is) (rounds_late g ok g.tables s is)); each = before })
   least (suc left) n s is e before =
       let u = times n (round g) s in
       let r = tell g u g.channels in

@@ -26,7 +26,7 @@ use Rattle.export_core.proofs.Nets.{is_at_is}
 use Rattle.core_machine.specs.Histories.{AreFrom, AreReal, content_of}
 use Rattle.core_machine.specs.Rules.{AreApart, Effect, Fits, IsRules, Rules, Signal, Stay, Rise, Fall, changes, held, is_up, signalled}
 use Rattle.core_machine.specs.Ways.{levels}
-use Rattle.core_machine.proofs.Contents.{content_more, eqb_no, if_true, if_false, none_some, real_more, some_same}
+use Rattle.core_machine.proofs.Contents.{content_more, if_true, if_false, none_some, real_more, some_same}
 use Rattle.core_machine.proofs.Levels.{are_ways}
 
 -- the attributes of a route, with a preference

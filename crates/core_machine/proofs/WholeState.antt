@@ -8,7 +8,6 @@ use Rattle.attrs.specs.declared.route.Change.{Change}
 use Rattle.import_core.specs.declared.operation.Op.{Op}
 use Rattle.export_core.specs.declared.log.Key.{Key}
 use Rattle.export_core.specs.declared.log.LogItem.{LogItem}
-use Rattle.export_core.specs.declared.log.LogItem.TheVariants.{Sent}
 use Rattle.export_core.specs.declared.log.Sending.{Sending}
 use Rattle.export_core.specs.Candidates.{among}
 use Rattle.export_core.specs.Logs.{stretch, account, value_of, Follows}
@@ -17,14 +16,14 @@ use Rattle.core_machine.specs.Channels.{Channel, answer, closed, fed, is_open, l
 use Rattle.core_machine.specs.Enters.{change_to, enters, standing_keys, withdrawn}
 use Rattle.core_machine.specs.Histories.{AreFrom, AreReal, content_of, of_those, own}
 use Rattle.core_machine.specs.Lines.{Act, Line, Apply, Take, Push, Show, Turn, ops_of, turn_of}
-use Rattle.core_machine.specs.Machine.{AllObey, Applies, Begins, Feeds, Obeys, Plays, State, Steps, appended, arrived, flushed, gain, gained, if_open, left_by, push_at, set, takes, with_channel, with_turn}
+use Rattle.core_machine.specs.Machine.{AllObey, Applies, Begins, Obeys, Plays, State, Steps, appended, arrived, flushed, gain, gained, if_open, left_by, push_at, set, takes, with_channel, with_turn}
 use Rattle.core_machine.specs.Marks.{Marked}
 use Rattle.core_machine.specs.Pipes.{course_of, is_pipe, passes}
 use Rattle.core_machine.specs.Rounds.{pushed_out, round, taken_up, turned, turns_to}
 use Rattle.core_machine.specs.Rules.{AreApart, Fits, IsRules, Rules, Signal, Stay, Rise, Fall, Renew, changes, is_up, signalled}
 use Rattle.core_machine.proofs.Contents.{AllOf, content_those, if_true, if_false, none_some, real_more, some_same}
 use Rattle.core_machine.proofs.Entering.{all_withdrawn, once_standing, real_withdrawn, sent_passes, standing_passes, standing_told, stands_entered, withdrawn_is}
-use Rattle.core_machine.proofs.Growing.{IsMore, IsOn, Keeps, more_appended, more_arrived, more_flushed, more_none, more_on, on_same, on_then, set_here, set_there, some_list}
+use Rattle.core_machine.proofs.Growing.{IsMore, IsOn, Keeps, more_appended, more_arrived, more_flushed, more_on, on_same, on_then, set_here, set_there, some_list}
 use Rattle.core_machine.proofs.OneChannel.{IsDone, IsKept, fall_keeps, open_pushed, push_keeps, renew_keeps, rise_keeps, take_keeps, take_log, times_keeps}
 use Rattle.core_machine.proofs.Tables.{IsExact, exact_by, exact_logs, exact_own}
 
@@ -232,6 +231,28 @@ module _ (g : Rules) (ok : IsRules g) where
   mapped_some i None e = λ _. absurd (no (sym e))
   mapped_some i (Some x) e = λ q. none_some (sym q)
 
+  -- what stands as sent is of sources that the direction passes
+  standing_pass : (c n : ℕ) (f : ℕ → List Op) (s : State) → g.target c ≡ Some n → IsRight f s → (q : Key) → holds q (standing_keys (s.channels c).log) ≡ true → passes g c q.num ≡ true
+  standing_pass c n f s z r q i = let log = (s.channels c).log in standing_passes g c (s.history (g.reads c)) log q (is_target g c n z) (r.keeps c).channel.follows (sym (standing_told q log) ∙ i)
+
+  -- it stands in the table that is written, so that each withdrawal of it is a change
+  pub flush_real : (c n : ℕ) (f : ℕ → List Op) (s : State) → g.target c ≡ Some n → IsRight f s → AreReal (withdrawn (standing_keys (s.channels c).log) (s.history n))
+  flush_real c n f s z r =
+      let log = (s.channels c).log in
+      real_withdrawn (standing_keys log) (s.history n) (once_standing log)
+      (λ q i none. mapped_some q.num (value_of (account q log)) (sym (standing_told q log) ∙ i)
+      (sym (content_those (passes g c) q.net q.num (s.history n) (standing_pass c n f s z r q i) ∙ ap (λ l. content_of l q.net q.num) (r.exact.entered c n z)
+      ∙ stands_entered g (g.value c) (course_of g c (s.history (g.reads c))) log (r.keeps c).channel.follows q) ∙ none))
+      (r.exact.real n)
+
+  -- and so is what a push enters
+  pub push_real : (c n : ℕ) (f : ℕ → List Op) (s : State) → is_open (s.channels c) ≡ true → g.target c ≡ Some n → IsRight f s
+      → AreReal (some_list (gained g c (s.history (g.reads c)) (s.channels c).marks (s.channels c)) ++ s.history n)
+  push_real c n f s up z r =
+      let h = s.history (g.reads c) in
+      let ch = s.channels c in
+      (gained_fits c n h (s.history n) ch.marks ch z (push_keeps g ok h c (f c) ch up (r.keeps c)).channel.follows (r.exact.entered c n z) (r.exact.real n)).1
+
   -- one channel, with the operation before it still to be counted
   pub does_step : (c : ℕ) (op : Op) (ops : List Op) (m : Signal) (f f2 : ℕ → List Op) (s t : State) → f c ≡ ops → f2 c ≡ op ∷ ops → ((e : ℕ) → c ≢ e → f2 e ≡ f e)
       → (g.gives (g.owner c) ops op).signal ≡ m → Fits m (is_up g (g.owner c) ops) → (g.target c ≡ None → own (g.owner c) (s.history (g.reads c)) ≡ changes g (g.owner c) (op ∷ ops))
@@ -290,15 +311,9 @@ module _ (g : Rules) (ok : IsRules g) where
             let u = flushed g n ks s in
             let m = more_flushed g ok n ks s in
             let on = more_on g ok n (withdrawn ks []) s u m in
-            let pipe = is_target g c n z in
-            let follows = k.channel.follows in
-            let pass : (q : Key) → holds q ks ≡ true → passes g c q.num ≡ true = λ q i. standing_passes g c h ch.log q pipe follows (sym (standing_told q ch.log) ∙ i) in
-            let real : AreReal (withdrawn ks [] ++ s.history n) = subst AreReal (withdrawn_is ks (s.history n)) (real_withdrawn ks (s.history n) (once_standing ch.log)
-            (λ q i none. mapped_some q.num (value_of (account q ch.log)) (sym (standing_told q ch.log) ∙ i)
-            (sym (content_those (passes g c) q.net q.num (s.history n) (pass q i) ∙ ap (λ l. content_of l q.net q.num) (r.exact.entered c n z) ∙ stands_entered g (g.value c) (course_of g c h) ch.log follows q) ∙ none))
-            (r.exact.real n)) in
+            let real : AreReal (withdrawn ks [] ++ s.history n) = subst AreReal (withdrawn_is ks (s.history n)) (flush_real c n f s z r) in
             subst (λ x. IsStep f2 s (with_channel c (closed x) u)) (sym (m.same c (ok.apart c n z))) (record {
-              right = enter_step c n (withdrawn ks []) (op ∷ ops) f f2 (closed ch) s u z m (all_withdrawn (passes g c) ks [] pass tt) real (withdrawn_is ks (enters g ch.log)) k2 e2 same r;
+              right = enter_step c n (withdrawn ks []) (op ∷ ops) f f2 (closed ch) s u z m (all_withdrawn (passes g c) ks [] (standing_pass c n f s z r) tt) real (withdrawn_is ks (enters g ch.log)) k2 e2 same r;
               on = record { grew = on.grew; ops = on.ops; replies = on.replies };
             })
       ] refl)

@@ -4,7 +4,7 @@
 -- Not modelled: how a table keeps either.
 -- From: own.
 -- Example: the front at the head is the history.
-use Rattle.std.specs.Prelude.{◌≡◌, ◌==◌, ℕ, nat_lt, Bool, true, List, [], ◌∷◌, length, reverse, Option, Some, None, IfSome, if◌then◌else◌, ⊤}
+use Rattle.std.specs.Prelude.{◌≡◌, ◌==◌, ℕ, nat_lt, Bool, List, [], ◌∷◌, length, reverse, Option, Some, None, IfSome, if◌then◌else◌, ⊤}
 use Rattle.attrs.specs.declared.route.Change.{Change}
 use Rattle.attrs.specs.History.{Content, after, empty, IsReal}
 

@@ -4,8 +4,8 @@
 -- Not modelled: names and texts; actors, protocols, channels and tables have numbers, and so has
 -- what a question asks besides.
 -- From: own.
--- Example: `@p1 open 10.0.0.1` in line 3 is an `Act` of actor 0 on protocol 0, where p1 is the first
--- of both.
+-- Example: `@p1 open 10.0.0.1` in line 3 is an `Act` of actor 0 on protocol 0, where p1 is the
+-- first of both.
 use Rattle.std.specs.Prelude.{ℕ, List, map}
 use Rattle.import_core.specs.declared.operation.Op.{Op}
 

@@ -1,12 +1,12 @@
 -- An exporter of export_core beside the machine's channel: at rest (`Matches`), in the midst of a
 -- feed (`MatchesFed`), which an exporter takes in parts, and in the midst of the withdrawals of a
--- direction of a pipe that goes down (`MatchesFlushed`). The exporter keeps its marks with
--- their candidates, its log in the order written, ranges of feeds that tell up to where
--- each net has been read, and the sources that it passes as a list; the channel keeps none of these.
+-- direction of a pipe that goes down (`MatchesFlushed`). The exporter keeps its marks with their
+-- candidates, its log in the order written, ranges of feeds that tell up to where each net has been
+-- read, and the sources that it passes as a list; the channel keeps none of these.
 -- Not modelled: memory.
 -- From: own.
--- Example: a new exporter of a channel that isn't up is the channel that the machine begins with.
-use Rattle.std.specs.Prelude.{◌≡◌, ◌&&◌, ◌||◌, ◌+◌, ◌≤◌, ℕ, max, not, Bool, true, false, List, [], ◌∷◌, Option, Some, None, is_some, option_map, reverse, length, if◌then◌else◌}
+-- Example: a new exporter is a channel that never was up.
+use Rattle.std.specs.Prelude.{◌≡◌, ◌&&◌, ◌||◌, ◌+◌, ◌≤◌, ℕ, max, not, Bool, true, false, List, [], ◌∷◌, ◌++◌, map, Option, Some, None, is_some, option_map, reverse, length, if◌then◌else◌}
 use Rattle.std.specs.List.Sorted.{IsStrictlySortedBy}
 use Rattle.std.specs.Map.{keys_of}
 use Rattle.bits_ip.specs.Prefix.{Net}
@@ -15,7 +15,6 @@ use Rattle.attrs.specs.declared.journal.JEntry.{JEntry}
 use Rattle.attrs.specs.declared.judge.Verdict.{Verdict}
 use Rattle.attrs.specs.declared.route.Change.{Change}
 use Rattle.attrs.specs.declared.route.Route.{Route}
-use Rattle.attrs.specs.History.{Content}
 use Rattle.export_core.specs.declared.floors.FeedState.TheVariants.{Done}
 use Rattle.export_core.specs.declared.log.Key.{Key}
 use Rattle.export_core.specs.declared.log.Sending.{Sending}
@@ -67,6 +66,13 @@ pub record IsNextEntry (rules : Rules) (history : List Change) (ch : Channel) (r
     : Type 0 where
   pub change : entry ch.position history ≡ Some (change_of read)
   pub best : read.best ≡ best_of rules read.net (front (ch.position + 1) history)
+
+-- each entry of a history tells the route that is chosen of its net behind it
+abbrev pub TellChosen : Rules → List JEntry → Type 0
+TellChosen rules entries =
+    (earlier : List JEntry) (read : JEntry) (later : List JEntry)
+    → entries ≡ earlier ++ read ∷ later
+    → read.best ≡ best_of rules read.net (change_of read ∷ reverse (map change_of earlier))
 
 -- the chunk is of the table's head, and its rows tell the candidates of its range
 pub record IsHeadChunk

@@ -1,6 +1,7 @@
--- The rounds of a sync (`round`): in the order of channels, each one that is up takes to its table's
--- head, and then pushes until nothing is marked. With pipes a push changes a table, so more than one
--- round may be needed: rounds go on until all channels that are up are settled (`HasRounds`).
+-- The rounds of a sync (`round`): in the order of channels, each one that is up takes to the head
+-- of its table, and then pushes until nothing is marked. With pipes a push changes a table, so more
+-- than one round may be needed: rounds go on until all channels that are up are settled
+-- (`HasRounds`).
 -- From: own.
 -- Example: where all channels are settled there is no round, and without pipes at most one.
 use Rattle.std.specs.Prelude.{◌≡◌, ◌<◌, ◌-◌, ℕ, zero, suc, true, List, [], ◌∷◌, length}

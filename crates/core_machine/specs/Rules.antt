@@ -8,7 +8,7 @@
 -- Not modelled: how a configuration says it.
 -- From: BIRD User's Guide, "Remote control", "Protocol options", "BGP" and "Pipe"; RFC 4271,
 -- section 9.
--- Example: a protocol that comes up and imports a route, and a pipe that takes it to a second table.
+-- Example: a protocol that comes up and imports a route, and a pipe that takes it to another table.
 use Rattle.std.specs.Prelude.{◌≡◌, ◌≢◌, ◌≤◌, ◌<◌, ℕ, Bool, true, false, List, [], ◌∷◌, ◌++◌, length, Option, Some, None, ⊤}
 use Rattle.bits_ip.specs.Prefix.{Net}
 use Rattle.attrs.specs.declared.attributes.Attrs.{Attrs}

@@ -24,9 +24,9 @@ pub record Shown : Type 0 where
   pub up : ℕ → Bool
   pub standing : ℕ → Key → Option Attrs
 
--- What comes of a source's route of a net by a way of directions, the last first. The accepted route
--- stands in the protocol's own table; each direction in turn replaces its attributes by those that
--- it sends, or drops it; one that is down drops all.
+-- What comes of a source's route of a net by a way of directions, the last first. The accepted
+-- route stands in the protocol's own table; each direction in turn replaces its attributes by those
+-- that it sends, or drops it; one that is down drops all.
 abbrev pub along : Rules → (ℕ → List Op) → Net → ℕ → List ℕ → Option Route
 along rules ops net num [] = held rules num (ops num) net
 along rules ops net num (d ∷ ds) =

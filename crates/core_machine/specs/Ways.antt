@@ -1,6 +1,6 @@
--- Which directions of pipes a source's routes go (`HasWays`): found level by level from the source's
--- table on, at each level the directions in the order of channels. So each table has the shortest
--- way to it, and of those the one whose directions come first.
+-- Which directions of pipes a source's routes go (`HasWays`): found level by level from the
+-- source's table on, at each level the directions in the order of channels. So each table has the
+-- shortest way to it, and of those the one that was found first.
 -- Not modelled: a limit on how often a route may pass pipes.
 -- From: own.
 -- Example: with pipes from `master4` to `t1` and from `t1` to `t2` a source of `master4` comes to

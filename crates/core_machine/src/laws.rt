@@ -1,4 +1,4 @@
-ghost use Rattle.std.specs.Prelude.{◌≡◌, ◌≤◌, ◌+◌, ◌-◌, ◌++◌, ℕ, Bool, true, false, List, [], ◌∷◌, length, map, Option, Some, None, reverse, slice_get, take};
+ghost use Rattle.std.specs.Prelude.{◌≡◌, ◌<◌, ◌≤◌, ◌+◌, ◌-◌, ◌++◌, ℕ, Bool, true, false, List, [], ◌∷◌, length, map, Option, Some, None, reverse, slice_get, take};
 ghost use Rattle.bits_ip.specs.Prefix.{Net};
 ghost use Rattle.attrs.specs.declared.journal.Chunk.{Chunk};
 ghost use Rattle.attrs.specs.declared.journal.JEntry.{JEntry};
@@ -17,7 +17,7 @@ ghost use Rattle.export_core.specs.declared.marks.Mark.{Mark};
 ghost use Rattle.export_core.specs.declared.passing.ExportSpec.{ExportSpec};
 ghost use Rattle.export_core.specs.Calls.{AreStanding, Feeds, Flushes, FlushesBy, Pushes, PushesOut, PushesQuietly, Takes, begun, ended, refreshed};
 ghost use Rattle.export_core.specs.Candidates.{best_in};
-ghost use Rattle.export_core.specs.Histories.{AreRoutesOf};
+ghost use Rattle.export_core.specs.Histories.{AreRoutesOf, change_of, course_of as told_course};
 ghost use Rattle.export_core.specs.Logs.{Settled};
 ghost use Rattle.export_core.specs.States.{State as Exporter, value_for};
 ghost use Rattle.core_machine.specs.Channels.{Channel, IsFed, closed, fed, is_open, new_channel, opened, push_one, renewed, take_one, times};
@@ -26,7 +26,7 @@ ghost use Rattle.core_machine.specs.Histories.{AreReal, content_of, front, own};
 ghost use Rattle.core_machine.specs.Legal.{AreLegal, Printed, nothing};
 ghost use Rattle.core_machine.specs.Lines.{Act, Line};
 ghost use Rattle.core_machine.specs.Machine.{Begins, Plays, State, gained, if_open, push_at, start};
-ghost use Rattle.core_machine.specs.Match.{IsHeadChunk, IsNextEntry, IsSpecOf, Matches, MatchesFed, MatchesFlushed, change_of_sending};
+ghost use Rattle.core_machine.specs.Match.{IsHeadChunk, IsNextEntry, IsSpecOf, Matches, MatchesFed, MatchesFlushed, TellChosen, change_of_sending};
 ghost use Rattle.core_machine.specs.Phases.{Comes, IsPhase, PlaysAll};
 ghost use Rattle.core_machine.specs.Pipes.{candidate_in, course_of};
 ghost use Rattle.core_machine.specs.Room.{Makes, in_room};
@@ -69,6 +69,16 @@ pub fn rounds_are_few()
         (lines : List Line) (s b u : State) (rounds : ℕ) → IsRules rules → Comes rules phases s
         → Begins rules starts (record s { replies = [] }) b → Plays rules lines b u
         → HasRounds rules u rounds → rounds ≤ rules.tables }
+{}
+
+/// Nor has it more rounds than a number that each way has fewer directions than: without pipes it
+/// has one at most.
+pub fn rounds_go_by_ways()
+    ensures { (rules : Rules) (most : ℕ) (phases : List (List Act × List Line))
+        (starts : List Act) (lines : List Line) (s b u : State) (rounds : ℕ) → IsRules rules
+        → ((table i : ℕ) (ds : List ℕ) → rules.hops table i ≡ Some ds → length ds < most)
+        → Comes rules phases s → Begins rules starts (record s { replies = [] }) b
+        → Plays rules lines b u → HasRounds rules u rounds → rounds ≤ most }
 {}
 
 /// Each list of scripts comes to phases, so that the first law speaks of something.
@@ -151,8 +161,8 @@ pub fn new_exporters_match<J: Judge>()
         → e.flushing ≡ false → Matches J.verdict rules c [] e new_channel }
 {}
 
-/// Where a direction of a pipe has come up at the beginning and was fed of an empty table, it is the
-/// channel that the machine begins with.
+/// Where a direction of a pipe has come up at the beginning and was fed of an empty table, it is
+/// the channel that the machine begins with.
 pub fn pipes_open_at_the_beginning()
     ensures { (rules : Rules) (c : ℕ) (ch : Channel) → IsRules rules
         → rules.first (rules.owner c) ≡ true → IsFed rules c [] false (opened 0 new_channel) ch
@@ -173,6 +183,17 @@ pub fn takes_match<J: Judge>()
         → pos ≡ e.position + 1 → IsNextEntry rules history ch read
         → Takes pos read e new → Matches J.verdict rules c history e ch
         → Matches J.verdict rules c history new (take_one rules c history ch) }
+{}
+
+/// The course that entries tell an exporter is the history's, as its channel reads it.
+pub fn courses_agree()
+    ensures { (rules : Rules) (c : ℕ) (spec : ExportSpec) (entries : List JEntry) → IsRules rules
+        → IsSpecOf rules c spec → TellChosen rules entries
+        → ((told_course spec entries).len
+        ≡ (course_of rules c (reverse (map change_of entries))).len)
+        × ((k : Key) (position : ℕ)
+        → (told_course spec entries).best k position
+        ≡ (course_of rules c (reverse (map change_of entries))).best k position) }
 {}
 
 /// A push is the machine's, and so is what comes of it in the table that a direction of a pipe
@@ -225,9 +246,9 @@ pub fn feeds_match<J: Judge>()
         × Matches J.verdict rules c history e (fed keys due (length history) ch) }
 {}
 
-/// The withdrawals of a direction of a pipe that goes down are the machine's: at the beginning those
-/// of all keys that stand, each flush makes the first of those that are left, and when it answers
-/// that there is nothing none is left. Then the stretch ends as the machine's.
+/// The withdrawals of a direction of a pipe that goes down are the machine's: those of all keys
+/// that stand are left at the beginning, each flush makes the first of those that are left, and
+/// where it answers that there is nothing none is left. Then the stretch ends as the machine's.
 pub fn flushes_match<J: Judge>()
     ensures begin { (rules : Rules) (c : ℕ) (history : List Change) (e : Exporter J)
         (ch : Channel) → AreStanding e.log e.left → Matches J.verdict rules c history e ch
@@ -282,6 +303,17 @@ pub fn only_protocols_have_routes()
         → Begins rules starts (record s { replies = [] }) b → Plays rules lines b u
         → content_of (front position (u.history table)) net num ≡ Some route
         → route.src.num ≡ num }
+{}
+
+/// In the machine's tables the routes of a net can be listed at each position, so that what is said
+/// of each list of them is said of something.
+pub fn routes_are_listed()
+    ensures { (rules : Rules) (phases : List (List Act × List Line)) (starts : List Act)
+        (lines : List Line) (s b u : State) (table position : ℕ) (net : Net) → IsRules rules
+        → Comes rules phases s → Begins rules starts (record s { replies = [] }) b
+        → Plays rules lines b u
+        → (routes : List Route)
+        × AreRoutesOf (content_of (front position (u.history table))) net routes }
 {}
 
 /// Rows that show a content tell the candidate of each key, so that an entry or a chunk may be made

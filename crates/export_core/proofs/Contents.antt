@@ -5,7 +5,6 @@ use Rattle.std.proofs.lemmas.List.{map-append, append_assoc}
 use Rattle.std.proofs.lemmas.Bool.Decides.{eqb_tells}
 use Rattle.bits_ip.specs.Prefix.{Net, same_net}
 use Rattle.attrs.specs.declared.journal.JEntry.{JEntry}
-use Rattle.attrs.specs.declared.route.Change.{Change}
 use Rattle.attrs.specs.declared.route.Route.{Route}
 use Rattle.attrs.specs.declared.route.Row.{Row}
 use Rattle.attrs.specs.History.{Content, after, empty, content_at, last_of}
@@ -16,7 +15,7 @@ use Rattle.attrs.proofs.Rows.{IsBest-one}
 use Rattle.attrs.proofs.Shown.{routes_below}
 use Rattle.export_core.specs.declared.log.Key.{Key}
 use Rattle.export_core.specs.declared.passing.ExportSpec.{ExportSpec}
-use Rattle.export_core.specs.Candidates.{among, best_in, candidate_of, first_of, has_num, heeds, key_of_entry, told_of}
+use Rattle.export_core.specs.Candidates.{among, best_in, candidate_of, first_of, has_num, heeds, key_of_entry}
 use Rattle.export_core.specs.Histories.{IsBestOf, TellsBest, best_after, change_of, course_of}
 use Rattle.export_core.specs.Keys.{key_of, same_key}
 use Rattle.export_core.proofs.Courses.{best_next}

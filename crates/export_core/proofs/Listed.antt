@@ -1,7 +1,7 @@
 -- The entries of some keys, and the marks of bodies as a list.
 use Rattle.std.proofs.Common.{◌≡◌, ◌<◌, arith, length, slice_index_or, Bool, true, false, not, List, [], ◌∷◌, ◌++◌, Option, Some, None, refl, inl, inr, sym, ◌∙◌, ap, subst, cond, is_some, option_map}
 use Rattle.std.specs.Prelude.{◌||◌, ◌↔◌, ℕ, if◌then◌else◌, drop, slice_get, IsTrue}
-use Rattle.std.specs.List.{cons_option, filter, filter_map}
+use Rattle.std.specs.List.{cons_option, filter}
 use Rattle.std.specs.Map.{keys_of}
 use Rattle.std.specs.BTreeMap.{is_at}
 use Rattle.export_core.specs.declared.log.Key.{Key}

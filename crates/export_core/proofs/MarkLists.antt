@@ -1,6 +1,6 @@
 -- The order and the bodies of marks stay in step.
 use Rattle.std.proofs.Common.{◌≡◌, Ordering, Less, Equal, Greater, ℕ, Bool, true, false, not, List, [], ◌∷◌, ◌++◌, Option, Some, None, refl, inl, inr, sym, ◌∙◌, ap, subst, cond, is_some, option_and_then, option_map}
-use Rattle.std.specs.Prelude.{◌||◌, ◌&&◌, IsSome, if◌then◌else◌, slice_get}
+use Rattle.std.specs.Prelude.{◌||◌, ◌&&◌, IsSome, if◌then◌else◌}
 use Rattle.std.specs.List.{filter}
 use Rattle.std.specs.Map.{keys_of}
 use Rattle.std.specs.BTreeMap.{insert_entry, is_at}
@@ -12,7 +12,7 @@ use Rattle.export_core.specs.declared.log.Key.{Key}
 use Rattle.export_core.proofs.Keys.{same_key_itself}
 use Rattle.attrs.specs.declared.route.Route.{Route}
 use Rattle.export_core.specs.declared.marks.Mark.{Mark}
-use Rattle.export_core.specs.Marks.{Listed, find, at, mark_at, holds, joined, unmarked, with_candidate, Fills, HasPlace, Joins, KeepsPlaces, IsOnce, IsListed, SameMarks}
+use Rattle.export_core.specs.Marks.{at, mark_at, holds, joined, unmarked, with_candidate, Fills, HasPlace, Joins, KeepsPlaces, IsOnce, IsListed, SameMarks}
 use Rattle.export_core.proofs.Keys.{key_tells, take_if, skip_if, is_at_is, same_key_flip, holds-keys_of}
 
 false_true : false ≡ true → ⊥

@@ -1,9 +1,7 @@
 -- What was sent of one net.
-use Rattle.std.proofs.Common.{◌≡◌, ℕ, ◌≤◌, Bool, true, false, List, [], ◌∷◌, ◌++◌, Option, Some, None, refl, inl, inr, sym, ◌∙◌, ap, subst, is_some, map, option_map, option_and_then, arith, cond}
-use Rattle.std.specs.Prelude.{◌||◌, if◌then◌else◌, slice_get}
-use Rattle.std.specs.List.{cons_option, filter}
-use Rattle.std.specs.BTreeMap.{is_at}
-use Rattle.std.proofs.lemmas.List.{map-append}
+use Rattle.std.proofs.Common.{◌≡◌, ℕ, ◌≤◌, Bool, true, false, List, [], ◌∷◌, ◌++◌, Option, Some, None, refl, inl, inr, sym, ◌∙◌, ap, subst, is_some, option_map, option_and_then, arith, cond}
+use Rattle.std.specs.Prelude.{if◌then◌else◌, slice_get}
+use Rattle.std.specs.List.{cons_option}
 use Rattle.std.proofs.lemmas.List.Elements.{filter_map-append}
 use Rattle.std.specs.List.Sorted.{IsStrictlySortedBy}
 use Rattle.std.specs.Map.{keys_of}
@@ -21,7 +19,7 @@ use Rattle.export_core.specs.Passing.{passed}
 use Rattle.export_core.specs.Sends.{AreRight, AreRising, IsStanding, last_value, sends}
 use Rattle.export_core.specs.Standing.{index_at, standing_at, value_at}
 use Rattle.export_core.proofs.Listed.{at_by, keys_by}
-use Rattle.export_core.proofs.Keys.{holds-keys_of, is_at_is, key_tells, same_key_flip}
+use Rattle.export_core.proofs.Keys.{holds-keys_of, key_tells}
 
 pub follows_front : (value : Key → Route → Option Attrs) (c : Course) (later earlier : List LogItem) → Follows value c (later ++ earlier) → Follows value c earlier
 follows_front value c [] earlier f = f

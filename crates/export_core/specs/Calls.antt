@@ -1,6 +1,6 @@
 -- What each call of an exporter does, exactly (`Takes`, `Feeds`, `Pushes`, `FlushesBy`, `begun`,
 -- `refreshed`, `ended`, `IsAtRest`).
--- From: RFC 4271, section 9.2; RFC 2918 for a refresh; BIRD User's Guide, "Pipe"; the calls are own.
+-- From: RFC 4271, section 9.2; RFC 2918 for a refresh; BIRD User's Guide, "Pipe"; calls are own.
 -- Example: a push of a mark whose value stands as sent, and of which no refresh is due, writes
 -- nothing. A flush withdraws the first of what stands, and the log has no item of it.
 use Rattle.std.specs.Prelude.{◌≡◌, ◌≢◌, ◌<◌, ℕ, Bool, true, false, nat_lt, ◌&&◌, ◌||◌, not, List, [], ◌∷◌, ◌++◌, Option, Some, None, is_some, IsSome, slice_get, drop, option_map, if◌then◌else◌}
@@ -205,11 +205,13 @@ module _ {J : Type 0} where
       (m : Mark) × (x : Sending) × PushesOut verdict m x e e'
       × (told' ≡ option_map (λ sent. sent ++ x ∷ []) told)
 
-  -- The first of what stands still is withdrawn: the outlet is given a value of none, and the log no
-  -- item.
+  -- The first of what stands still is withdrawn: the outlet is given a value of none, and the log
+  -- no item.
   pub record Flushes (x : Sending) (e e' : State J) : Type 0 where
     pub left : e.left ≡ x.key ∷ e'.left
     pub value : x.value ≡ None
+    pub at : x.at ≡ e.position
+    pub again : x.again ≡ false
     pub flushing : e'.flushing ≡ true
     pub spec : e'.spec ≡ e.spec
     pub judge : e'.judge ≡ e.judge

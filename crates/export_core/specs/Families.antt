@@ -1,4 +1,4 @@
--- For private contracts alone: the keys of an exporter are of its family, and of numbers that it has.
+-- For private contracts alone: the keys of an exporter are of its family, and of a number it has.
 use Rattle.std.specs.Prelude.{◌≡◌, ℕ, true, List, Option, IsSome}
 use Rattle.export_core.specs.declared.passing.ExportSpec.{ExportSpec}
 use Rattle.export_core.specs.Candidates.{has_num}

@@ -1,5 +1,5 @@
--- A table's history as a channel's course (`course_of`): the candidate of each key at each position;
--- that a course goes on (`IsLonger`), that entries tell the best (`TellsBest`).
+-- A table's history as a channel's course (`course_of`): the candidate of each key at each
+-- position; that a course goes on (`IsLonger`), that entries tell the best (`TellsBest`).
 -- From: own.
 -- Example: behind a withdrawal the best of the net is none.
 use Rattle.std.specs.Prelude.{◌≡◌, ◌&&◌, ℕ, ◌≤◌, List, [], ◌∷◌, ◌++◌, Option, None, fold, map, take, length, if◌then◌else◌}

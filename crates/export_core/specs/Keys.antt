@@ -1,6 +1,6 @@
 -- Keys: what a channel sends values for. A channel of BGP has a key for each net, with the number 0
--- (`key_of`), a pipe's direction one for each net and source. Their order (`key_cmp`) is by net, and
--- then by source.
+-- (`key_of`), a pipe's direction one for each net and source. Their order (`key_cmp`) is by net,
+-- and then by source.
 -- From: own; the order of nets is that of bits_ip.
 -- Example: 10.0.0.0/8 of the source 2 stands before 10.0.0.0/8 of the source 3, and both stand
 -- before 11.0.0.0/8 of the source 1.

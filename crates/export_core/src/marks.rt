@@ -89,8 +89,8 @@ fn has_mark(bodies: &BTreeMap<Key, Option<Mark>>, key: &Key) -> bool
     mark_of(bodies, key).is_some()
 }
 
-/// Marks a place, and tells whether it had no mark. A mark that takes the place of another stays due
-/// where that was.
+/// Marks a place, and tells whether it had no mark. A mark that takes the place of another stays
+/// due where that was.
 fn mark_place(place: &mut Option<Mark>, mark: Mark) -> bool
     ensures mark { place.new ≡ Some (joined place.old mark) }
     ensures new { result ≡ not (is_some place.old) }

@@ -1,6 +1,5 @@
 use Rattle.std.proofs.Common.{◌≡◌, ◌∙◌, refl, sym, ap, subst, is_some, option_map, Some, false, List, [], ◌∷◌, ◌++◌}
 use Rattle.std.specs.Prelude.{◌&&◌, IsSome}
-use Rattle.bits_ip.specs.Address.{family_of}
 use Rattle.export_core.specs.declared.log.Key.{Key}
 use Rattle.attrs.specs.declared.route.Route.{Route}
 use Rattle.export_core.specs.declared.floors.Floor.{Floor}

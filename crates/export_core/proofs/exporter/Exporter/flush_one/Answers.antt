@@ -1,7 +1,6 @@
-use Rattle.std.proofs.Common.{◌≡◌, ◌∙◌, ◌∷◌, ℕ, true, false, Some, None, refl, sym, ap, subst, is_some}
+use Rattle.std.proofs.Common.{◌≡◌, ◌∙◌, ◌∷◌, false, None, refl, sym, ap, subst}
 use Rattle.export_core.specs.declared.log.Sending.{Sending}
 use Rattle.export_core.proofs.Stretches.{flushes_from}
-use Rattle.export_core.specs.Standing.{index_at}
 use Rattle.export_core.specs.Calls.{AreStanding}
 use Rattle.export_core.proofs.Left.{are_standing}
 use Rattle.export_core.proofs.Kept.{head_drop, kept_flush}
@@ -21,6 +20,8 @@ returns-clause-flushes g c =
       flushes_from x _ _ _ c.self.view_is (record {
         left = sym c.skip_places.ensures.held ∙ head_drop _ _ (sym c.in-Some.ensures.first) ∙ ap (λ l. c.in-Some.key ∷ l) (sym c.pop.ensures.held);
         value = refl;
+        at = refl;
+        again = refl;
         flushing = refl;
         spec = refl;
         judge = refl;

@@ -1,10 +1,7 @@
 use Rattle.std.proofs.Common.{◌≡◌, ◌∙◌, refl, sym, ap, map, is_some, rules}
 use Rattle.std.specs.Map.{keys_of}
 use Rattle.std.specs.Map.Iter.{deref_pair}
-use Rattle.std.specs.BTreeMap.Range.{entries_between}
 use Rattle.std.proofs.lemmas.Map.Iter.{iter_end}
-use Rattle.export_core.specs.Keys.{key_cmp}
-use Rattle.export_core.specs.Candidates.{end_bound, first_bound}
 use Rattle.export_core.specs.Marks.{at, find}
 use Rattle.export_core.proofs.Feeding.{adds_all, adds_next, inner_there, keys_more}
 use Rattle.export_core.proofs.Keys.{bounds_forward}

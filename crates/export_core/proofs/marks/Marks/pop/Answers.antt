@@ -1,4 +1,4 @@
-use Rattle.std.proofs.Common.{None, subst}
+use Rattle.std.proofs.Common.{subst}
 use Rattle.export_core.specs.Marks.{IsListed}
 use Rattle.export_core.proofs.Listed.{gone_listed, rest_listed, seen_of}
 use Rattle.export_core.proofs.MarkLists.{listed_pop}

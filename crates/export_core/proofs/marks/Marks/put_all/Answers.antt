@@ -1,6 +1,5 @@
-use Rattle.std.proofs.Common.{◌∙◌}
 use Rattle.std.specs.Map.{keys_of}
-use Rattle.export_core.proofs.Listed.{all_marks, all_order, listed_as, same_view, seen_of}
+use Rattle.export_core.proofs.Listed.{all_marks, all_order, seen_of}
 use Rattle.export_core.proofs.marks.Marks.put_all.Goals as goal
 
 pub returns-clause-marks : goal.returns-clause-marks
