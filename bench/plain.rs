@@ -1,5 +1,5 @@
-//! The job of `birdcore play` in plain Rust, for `play.py` to compare with: bgp and static protocols that import and
-//! export all or none, with the standard library alone.
+//! The job of `birdcore play` in plain Rust, for `play.py` to compare with: bgp and static protocols and pipes that
+//! import and export all or none, with the standard library alone.
 //!
 //! It takes files of the forms that the loads have, and stops with a panic at any other. Like birdcore it reads both
 //! files whole before it plays, and writes the report of a phase after the phase's sync. Texts are read and written
@@ -24,6 +24,7 @@ struct Reply {
 
 struct Names {
     protocols: HashMap<String, usize>,
+    channels: HashMap<String, usize>,
     tables: HashMap<String, usize>,
 }
 
@@ -63,8 +64,10 @@ fn is_on(word: &str) -> bool {
 
 /// The options of a protocol, as last written.
 struct Options {
+    pipe: bool,
     v6: bool,
     table: Option<String>,
+    peer: Option<String>,
     import: bool,
     export: bool,
     pref: Option<u32>,
@@ -79,8 +82,10 @@ struct Options {
 impl Default for Options {
     fn default() -> Options {
         Options {
+            pipe: false,
             v6: false,
             table: None,
+            peer: None,
             import: true,
             export: false,
             pref: None,
@@ -100,6 +105,7 @@ impl Options {
             ["ipv4"] => self.v6 = false,
             ["ipv6"] => self.v6 = true,
             ["table", name] => self.table = Some(name.to_string()),
+            ["peer", "table", name] => self.peer = Some(name.to_string()),
             ["import", policy] => self.import = is_on(policy),
             ["export", policy] => self.export = is_on(policy),
             ["preference", value] => self.pref = Some(number(value)),
@@ -130,37 +136,58 @@ impl Options {
         )
     }
 
-    fn protocol(self, name: String, place: usize, tables: &[Table]) -> Protocol {
+    /// Puts the protocol behind the others, with its channels.
+    fn add_to(self, name: String, system: &mut System) {
+        let place = system.protocols.len();
+        let number_of = |table: &str| {
+            let is_table = |known: &Table| known.name == table;
+            system.tables.iter().position(is_table).expect("a table")
+        };
         let master = if self.v6 { "master6" } else { "master4" };
-        let table = self.table.as_deref().unwrap_or(master);
-        let is_table = |known: &Table| known.name == table;
-        let table = tables.iter().position(is_table).expect("a table");
+        let table = number_of(self.table.as_deref().unwrap_or(master));
         let pref = |default| self.pref.unwrap_or(default);
-        let (feeder, exporter, pref) = match self.neighbor {
-            None => (self.static_feeder(pref(200)), None, pref(200)),
-            Some((neighbor, system)) => {
-                let ebgp = system != self.local;
-                let exporter = Exporter::new(place, ebgp, self.communities, self.export);
+        let (body, channels) = match (self.neighbor, self.pipe) {
+            (_, true) => {
+                let peer = number_of(self.peer.as_deref().expect("a peer table"));
+                let direction = |way, reads, target, passed| {
+                    let passes = Vec::new();
+                    let gate = Gate::Pipe { target, passes };
+                    Channel::new(format!("{name}.{way}"), place, reads, gate, passed)
+                };
+                let out = direction("export", table, peer, self.export);
+                let back = direction("import", peer, table, self.import);
+                (Body::Pipe(true), vec![out, back])
+            }
+            (None, false) => {
+                let feeder = self.static_feeder(pref(200));
+                let importer = Importer::new(feeder, self.import, pref(200));
+                (Body::Source { table, importer }, Vec::new())
+            }
+            (Some((neighbor, number)), false) => {
+                let ebgp = number != self.local;
+                let communities = self.communities;
+                let gate = Gate::Bgp { ebgp, communities };
+                let channel = Channel::new(name.clone(), place, table, gate, self.export);
                 let session = Session {
                     neighbor,
                     ebgp,
                     router_id: 0,
                 };
-                (Feeder::Bgp(session), Some(exporter), pref(100))
+                let importer = Importer::new(Feeder::Bgp(session), self.import, pref(100));
+                (Body::Source { table, importer }, vec![channel])
             }
         };
-        Protocol {
+        system.channels.extend(channels);
+        system.protocols.push(Protocol {
             name,
             source: Source {
                 number: place,
                 med: self.med,
                 lp: self.lp,
             },
-            table,
-            importer: Importer::new(feeder, self.import, pref),
-            exporter,
+            body,
             ops: Vec::new(),
-        }
+        });
     }
 }
 
@@ -183,13 +210,14 @@ fn static_attrs(pref: u32, dest: Dest, gw: Option<IpAddr>) -> Attrs {
     }
 }
 
-/// { protocol (bgp | static) NAME { OPTION; .. } | (ipv4 | ipv6) table NAME; }, where a channel's
+/// { protocol (bgp | static | pipe) NAME { OPTION; .. } | (ipv4 | ipv6) table NAME; }, where a channel's
 /// options count as its protocol's.
 fn read_config(text: &str, cells: u64) -> System {
     let mut system = System {
         cells,
         tables: vec![Table::new("master4"), Table::new("master6")],
         protocols: Vec::new(),
+        channels: Vec::new(),
     };
     let mut open: Option<(String, Options)> = None;
     let mut depth = 0;
@@ -198,8 +226,13 @@ fn read_config(text: &str, cells: u64) -> System {
         let words: Vec<&str> = words.split_whitespace().collect();
         match (words.as_slice(), &mut open) {
             ([], _) => {}
-            (["protocol", "bgp" | "static", name], None) => {
-                open = Some((name.to_string(), Options::default()));
+            (["protocol", kind @ ("bgp" | "static" | "pipe"), name], None) => {
+                let pipe = *kind == "pipe";
+                let options = Options {
+                    pipe,
+                    ..Options::default()
+                };
+                open = Some((name.to_string(), options));
             }
             (["ipv4" | "ipv6", "table", name], None) => system.tables.push(Table::new(name)),
             (words, Some((_, options))) => options.set(words),
@@ -212,12 +245,16 @@ fn read_config(text: &str, cells: u64) -> System {
         }
         if depth == 0 && sign == "}" {
             let (name, options) = open.take().expect("a protocol");
-            let place = system.protocols.len();
-            system
-                .protocols
-                .push(options.protocol(name, place, &system.tables));
+            options.add_to(name, &mut system);
         }
     }
+    let sources = system.protocols.len();
+    for channel in &mut system.channels {
+        if let Gate::Pipe { passes, .. } = &mut channel.gate {
+            passes.resize(sources, false);
+        }
+    }
+    system.find_passes();
     system
 }
 
@@ -320,11 +357,11 @@ fn read_schedule(names: &Names, first: &str, rest: &str) -> Line {
     match (first, words.as_slice()) {
         ("sync", []) => Line::Sync,
         ("!take", [name, count]) => Line::Take {
-            protocol: names.protocols[*name],
+            channel: names.channels[*name],
             count: number(count).into(),
         },
         ("!push", [name, count]) => Line::Push {
-            protocol: names.protocols[*name],
+            channel: names.channels[*name],
             count: number(count).into(),
         },
         _ => panic!("a line: {first}"),
@@ -333,9 +370,11 @@ fn read_schedule(names: &Names, first: &str, rest: &str) -> Line {
 
 fn names_of(system: &System) -> Names {
     let protocols = system.protocols.iter().map(|protocol| &protocol.name);
+    let channels = system.channels.iter().map(|channel| &channel.name);
     let tables = system.tables.iter().map(|table| &table.name);
     Names {
         protocols: protocols.cloned().zip(0..).collect(),
+        channels: channels.cloned().zip(0..).collect(),
         tables: tables.cloned().zip(0..).collect(),
     }
 }
@@ -474,25 +513,38 @@ impl Display for Op {
     }
 }
 
-impl Display for Item {
-    fn fmt(&self, f: &mut Formatter) -> fmt::Result {
-        match self {
-            Item::Up(position) => write!(f, "up {position}"),
-            Item::Down => f.write_str("down"),
-            Item::Reload => f.write_str("reload"),
-            Item::Sent {
-                again,
-                position,
-                net,
-                value,
-            } => {
-                let again = if *again { "again " } else { "" };
-                write!(f, "{again}{position} {net} ")?;
-                match value {
-                    Some(attrs) => attrs.fmt(f),
-                    None => f.write_str("-"),
-                }
-            }
+/// A value that is sent, with its source where it goes through a pipe.
+fn write_value(
+    out: &mut impl Write,
+    system: &System,
+    is_pipe: bool,
+    key: &Key,
+    value: Option<&Attrs>,
+) -> io::Result<()> {
+    write!(out, "{} ", key.0)?;
+    if is_pipe {
+        write!(out, "{} ", system.protocols[key.1].name)?;
+    }
+    match value {
+        Some(attrs) => writeln!(out, "{attrs}"),
+        None => writeln!(out, "-"),
+    }
+}
+
+fn write_item(out: &mut impl Write, system: &System, is_pipe: bool, item: &Item) -> io::Result<()> {
+    match item {
+        Item::Up(position) => writeln!(out, "\tup {position}"),
+        Item::Down => writeln!(out, "\tdown"),
+        Item::Reload => writeln!(out, "\treload"),
+        Item::Sent {
+            again,
+            position,
+            key,
+            value,
+        } => {
+            let again = if *again { "again " } else { "" };
+            write!(out, "\t{again}{position} ")?;
+            write_value(out, system, is_pipe, key, value.as_deref())
         }
     }
 }
@@ -557,7 +609,7 @@ fn write_events(out: &mut impl Write, system: &System) -> io::Result<()> {
             table.head()
         )?;
         for (position, entry) in (table.begun + 1..).zip(&table.entries) {
-            let name = &system.protocols[entry.source].name;
+            let name = &system.protocols[entry.source.number].name;
             write!(out, "\t{position} {} {name} ", entry.net)?;
             match &entry.new {
                 Some(attrs) => writeln!(out, "{attrs}")?,
@@ -565,12 +617,10 @@ fn write_events(out: &mut impl Write, system: &System) -> io::Result<()> {
             }
         }
     }
-    for protocol in &system.protocols {
-        if let Some(exporter) = &protocol.exporter {
-            writeln!(out, "channel {}", protocol.name)?;
-            for item in &exporter.log {
-                writeln!(out, "\t{item}")?;
-            }
+    for channel in &system.channels {
+        writeln!(out, "channel {}", channel.name)?;
+        for item in &channel.log {
+            write_item(out, system, channel.is_pipe(), item)?;
         }
     }
     Ok(())
@@ -604,19 +654,25 @@ fn write_state(out: &mut impl Write, system: &System) -> io::Result<()> {
         }
     }
     for protocol in &system.protocols {
-        let (mode, accepted) = (protocol.importer.mode, protocol.importer.accepted.len());
-        writeln!(out, "\tprotocol {} {mode} {accepted}", protocol.name)?;
-    }
-    for protocol in &system.protocols {
-        match &protocol.exporter {
-            Some(exporter) if exporter.up => {
-                writeln!(out, "\texport {} {}", protocol.name, exporter.sent.len())?;
-                for (net, attrs) in &exporter.sent {
-                    writeln!(out, "\t\t{net} {attrs}")?;
-                }
+        let name = &protocol.name;
+        match &protocol.body {
+            Body::Source { importer, .. } => {
+                let (mode, accepted) = (importer.mode, importer.accepted.len());
+                writeln!(out, "\tprotocol {name} {mode} {accepted}")?;
             }
-            Some(_) => writeln!(out, "\texport {} down", protocol.name)?,
-            None => {}
+            Body::Pipe(true) => writeln!(out, "\tprotocol {name} up")?,
+            Body::Pipe(false) => writeln!(out, "\tprotocol {name} down")?,
+        }
+    }
+    for channel in &system.channels {
+        if !channel.up {
+            writeln!(out, "\texport {} down", channel.name)?;
+            continue;
+        }
+        writeln!(out, "\texport {} {}", channel.name, channel.sent.len())?;
+        for (key, attrs) in &channel.sent {
+            write!(out, "\t\t")?;
+            write_value(out, system, channel.is_pipe(), key, Some(attrs))?;
         }
     }
     Ok(())
@@ -634,8 +690,8 @@ fn play(out: &mut impl Write, system: &mut System, script: Script) -> io::Result
                     goes_on = true;
                     break;
                 }
-                Line::Take { protocol, count } => system.take(protocol, count),
-                Line::Push { protocol, count } => system.push(protocol, count),
+                Line::Take { channel, count } => system.take(channel, count),
+                Line::Push { channel, count } => system.push(channel, count),
                 Line::Apply { protocol, op } => system.apply(protocol, op),
                 Line::Show { actor, table } => replies.push(reply(system, actor, table)),
             }

@@ -96,15 +96,15 @@ pub enum Op {
 
 pub enum Line {
     Sync,
-    Take { protocol: usize, count: u64 },
-    Push { protocol: usize, count: u64 },
+    Take { channel: usize, count: u64 },
+    Push { channel: usize, count: u64 },
     Apply { protocol: usize, op: Op },
     Show { actor: usize, table: usize },
 }
 
 pub struct Entry {
     pub net: Net,
-    pub source: usize,
+    pub source: Source,
     pub new: Option<Rc<Attrs>>,
     best: Option<Route>,
 }
@@ -160,11 +160,14 @@ struct Mark {
     due: bool,
 }
 
-/// Marked nets in the order of their first marking.
+/// What a channel sends values of: a net, and the source where it is a direction of a pipe, else 0.
+pub type Key = (Net, usize);
+
+/// Marked keys in the order of their first marking.
 #[derive(Default)]
 struct Marks {
-    order: VecDeque<Net>,
-    marks: HashMap<Net, Mark>,
+    order: VecDeque<Key>,
+    marks: HashMap<Key, Mark>,
 }
 
 pub enum Item {
@@ -174,31 +177,44 @@ pub enum Item {
     Sent {
         again: bool,
         position: u64,
-        net: Net,
+        key: Key,
         value: Option<Rc<Attrs>>,
     },
 }
 
-/// The export channel of a bgp protocol.
-pub struct Exporter {
-    pub source: usize,
-    pub ebgp: bool,
-    pub communities: bool,
+/// What a channel lets out.
+pub enum Gate {
+    /// The channel of a bgp protocol sends each net's best route.
+    Bgp { ebgp: bool, communities: bool },
+    /// A direction of a pipe passes the routes of these sources to a table.
+    Pipe { target: usize, passes: Vec<bool> },
+}
+
+/// A channel, of a bgp protocol or a direction of a pipe.
+pub struct Channel {
+    pub name: String,
+    pub owner: usize,
+    pub table: usize,
+    pub gate: Gate,
     pub export: bool,
     pub up: bool,
     position: u64,
     floor: u64,
     marks: Marks,
-    pub sent: BTreeMap<Net, Rc<Attrs>>,
+    pub sent: BTreeMap<Key, Rc<Attrs>>,
     pub log: Vec<Item>,
+}
+
+pub enum Body {
+    Source { table: usize, importer: Importer },
+    /// Whether it is up.
+    Pipe(bool),
 }
 
 pub struct Protocol {
     pub name: String,
     pub source: Source,
-    pub table: usize,
-    pub importer: Importer,
-    pub exporter: Option<Exporter>,
+    pub body: Body,
     pub ops: Vec<Op>,
 }
 
@@ -206,6 +222,7 @@ pub struct System {
     pub cells: u64,
     pub tables: Vec<Table>,
     pub protocols: Vec<Protocol>,
+    pub channels: Vec<Channel>,
 }
 
 /// Less where `a` is preferred to `b`, a route of the same net from another source.
@@ -272,7 +289,7 @@ impl Table {
         }
         self.entries.push(Entry {
             net,
-            source: source.number,
+            source,
             new,
             best,
         });
@@ -420,26 +437,26 @@ impl Session {
 }
 
 impl Marks {
-    /// A net that is marked already keeps its place, and stays due where it was.
-    fn put(&mut self, net: Net, position: u64, candidate: Option<Route>, due: bool) {
+    /// A key that is marked already keeps its place, and stays due where it was.
+    fn put(&mut self, key: Key, position: u64, candidate: Option<Route>, due: bool) {
         let mark = Mark {
             position,
             candidate,
             due,
         };
-        if let Some(kept) = self.marks.get_mut(&net) {
+        if let Some(kept) = self.marks.get_mut(&key) {
             let due = kept.due || due;
             *kept = Mark { due, ..mark };
         } else {
-            self.order.push_back(net);
-            self.marks.insert(net, mark);
+            self.order.push_back(key);
+            self.marks.insert(key, mark);
         }
     }
 
-    fn take_first(&mut self) -> Option<(Net, Mark)> {
-        let net = self.order.pop_front()?;
-        let mark = self.marks.remove(&net)?;
-        Some((net, mark))
+    fn take_first(&mut self) -> Option<(Key, Mark)> {
+        let key = self.order.pop_front()?;
+        let mark = self.marks.remove(&key)?;
+        Some((key, mark))
     }
 
     fn clear(&mut self) {
@@ -448,12 +465,13 @@ impl Marks {
     }
 }
 
-impl Exporter {
-    pub fn new(source: usize, ebgp: bool, communities: bool, export: bool) -> Exporter {
-        Exporter {
-            source,
-            ebgp,
-            communities,
+impl Channel {
+    pub fn new(name: String, owner: usize, table: usize, gate: Gate, export: bool) -> Channel {
+        Channel {
+            name,
+            owner,
+            table,
+            gate,
             export,
             up: false,
             position: 0,
@@ -464,52 +482,71 @@ impl Exporter {
         }
     }
 
-    fn gate_keeps(&self, route: &Route) -> bool {
-        let attrs = &route.attrs;
-        let has = |community| self.communities && attrs.coms.contains(&community);
-        route.source.number == self.source
-            || attrs.kind == Kind::Bgp && !attrs.ebgp && !self.ebgp
-            || has(NO_ADVERTISE)
-            || self.ebgp && (has(NO_EXPORT) || has(NO_EXPORT_SUBCONFED))
+    pub fn is_pipe(&self) -> bool {
+        matches!(self.gate, Gate::Pipe { .. })
     }
 
-    fn value(&self, candidate: Option<Route>) -> Option<Rc<Attrs>> {
+    fn keeps(&self, route: &Route) -> bool {
+        let attrs = &route.attrs;
+        let Gate::Bgp { ebgp, communities } = self.gate else {
+            return false;
+        };
+        let has = |community| communities && attrs.coms.contains(&community);
+        route.source.number == self.owner
+            || attrs.kind == Kind::Bgp && !attrs.ebgp && !ebgp
+            || has(NO_ADVERTISE)
+            || ebgp && (has(NO_EXPORT) || has(NO_EXPORT_SUBCONFED))
+    }
+
+    fn value(&self, candidate: Option<&Route>) -> Option<Rc<Attrs>> {
         candidate
-            .filter(|route| self.export && !self.gate_keeps(route))
-            .map(|route| route.attrs)
+            .filter(|route| self.export && !self.keeps(route))
+            .map(|route| route.attrs.clone())
+    }
+
+    /// The candidates of a net at the table's head, by their keys.
+    fn candidates(&self, net: Net, routes: &[Route]) -> Vec<(Key, Route)> {
+        match &self.gate {
+            Gate::Bgp { .. } => vec![((net, 0), routes[0].clone())],
+            Gate::Pipe { passes, .. } => routes
+                .iter()
+                .filter(|route| passes[route.source.number])
+                .map(|route| ((net, route.source.number), route.clone()))
+                .collect(),
+        }
     }
 
     fn feed(&mut self, table: &Table, due: bool) {
-        let mut nets: BTreeSet<Net> = table.nets.keys().copied().collect();
-        nets.extend(&self.marks.order);
-        nets.extend(self.sent.keys());
+        let mut found: BTreeMap<Key, Option<Route>> = BTreeMap::new();
+        found.extend(self.marks.order.iter().map(|key| (*key, None)));
+        found.extend(self.sent.keys().map(|key| (*key, None)));
+        for (net, routes) in &table.nets {
+            let candidates = self.candidates(*net, routes);
+            found.extend(candidates.into_iter().map(|(key, route)| (key, Some(route))));
+        }
         self.floor = table.head();
-        for net in nets {
-            let best = table.nets.get(&net).map(|routes| routes[0].clone());
-            self.marks.put(net, self.floor, best, due);
+        for (key, candidate) in found {
+            self.marks.put(key, self.floor, candidate, due);
         }
     }
 
-    fn mark(&mut self, table: &Table, then: Then) {
-        match then {
-            Then::Stay => {}
-            Then::Up => {
-                self.up = true;
-                self.position = table.head();
-                self.log.push(Item::Up(self.position));
-                self.feed(table, false);
-            }
-            Then::Refresh => {
-                self.log.push(Item::Reload);
-                self.feed(table, true);
-            }
-            Then::Down => {
-                self.up = false;
-                self.log.push(Item::Down);
-                self.marks.clear();
-                self.sent.clear();
-            }
-        }
+    fn begin(&mut self, table: &Table) {
+        self.up = true;
+        self.position = table.head();
+        self.log.push(Item::Up(self.position));
+        self.feed(table, false);
+    }
+
+    fn refresh(&mut self, table: &Table) {
+        self.log.push(Item::Reload);
+        self.feed(table, true);
+    }
+
+    fn end(&mut self) {
+        self.up = false;
+        self.log.push(Item::Down);
+        self.marks.clear();
+        self.sent.clear();
     }
 
     /// False where the cursor stands at the head.
@@ -518,99 +555,193 @@ impl Exporter {
             return false;
         }
         self.position += 1;
-        if self.position > self.floor {
-            let entry = table.entry(self.position);
-            let best = entry.best.clone();
-            self.marks.put(entry.net, self.position, best, false);
+        if self.position <= self.floor {
+            return true;
+        }
+        let entry = table.entry(self.position);
+        match &self.gate {
+            Gate::Bgp { .. } => {
+                let best = entry.best.clone();
+                self.marks.put((entry.net, 0), self.position, best, false);
+            }
+            Gate::Pipe { passes, .. } if passes[entry.source.number] => {
+                let source = entry.source;
+                let new = entry.new.clone().map(|attrs| Route { source, attrs });
+                let key = (entry.net, source.number);
+                self.marks.put(key, self.position, new, false);
+            }
+            Gate::Pipe { .. } => {}
         }
         true
     }
 
-    /// False where nothing is marked.
-    fn push(&mut self) -> bool {
-        let Some((net, mark)) = self.marks.take_first() else {
-            return false;
-        };
-        let value = self.value(mark.candidate);
-        let again = value.as_ref() == self.sent.get(&net);
+    /// What a push sends, where anything is marked, and where it isn't quiet.
+    fn push(&mut self) -> Option<Option<(Key, bool, Option<Rc<Attrs>>)>> {
+        let (key, mark) = self.marks.take_first()?;
+        let value = self.value(mark.candidate.as_ref());
+        let again = value.as_ref() == self.sent.get(&key);
         if again && (!mark.due || value.is_none()) {
-            return true;
+            return Some(None);
         }
         match &value {
-            Some(attrs) => self.sent.insert(net, attrs.clone()),
-            None => self.sent.remove(&net),
+            Some(attrs) => self.sent.insert(key, attrs.clone()),
+            None => self.sent.remove(&key),
         };
+        let position = mark.position;
         self.log.push(Item::Sent {
             again,
-            position: mark.position,
-            net,
-            value,
+            position,
+            key,
+            value: value.clone(),
         });
-        true
+        Some(Some((key, again, value)))
+    }
+
+    fn is_settled(&self, table: &Table) -> bool {
+        !self.up || self.position == table.head() && self.marks.order.is_empty()
     }
 }
 
 impl System {
-    /// The exporter of a protocol where it is up, with the table that it reads.
-    fn channel(&mut self, protocol: usize) -> Option<(&mut Exporter, &Table)> {
-        let protocol = &mut self.protocols[protocol];
-        let exporter = protocol.exporter.as_mut().filter(|exporter| exporter.up)?;
-        Some((exporter, &self.tables[protocol.table]))
-    }
-
-    pub fn start(&mut self) {
-        for protocol in 0..self.protocols.len() {
-            if !self.protocols[protocol].importer.is_bgp() {
-                self.apply(protocol, Op::Start);
+    /// Which sources enter a table by a direction that comes along these ways: level by level.
+    pub fn find_passes(&mut self) {
+        let sources = self.protocols.len();
+        for number in 0..sources {
+            let Body::Source { table, .. } = self.protocols[number].body else {
+                continue;
+            };
+            let mut reached = vec![table];
+            let mut next = 0;
+            while next < reached.len() {
+                let from = reached[next];
+                next += 1;
+                for channel in &mut self.channels {
+                    if let Gate::Pipe { target, passes } = &mut channel.gate {
+                        if channel.table == from && !reached.contains(target) {
+                            reached.push(*target);
+                            passes[number] = true;
+                        }
+                    }
+                }
             }
         }
     }
 
+    /// Pipes come up, and static protocols start.
+    pub fn start(&mut self) {
+        for channel in &mut self.channels {
+            if channel.is_pipe() {
+                channel.begin(&self.tables[channel.table]);
+            }
+        }
+        for number in 0..self.protocols.len() {
+            match &self.protocols[number].body {
+                Body::Source { importer, .. } if !importer.is_bgp() => self.apply(number, Op::Start),
+                _ => {}
+            }
+        }
+    }
+
+    fn change(&mut self, table: usize, net: Net, source: Source, new: Option<Rc<Attrs>>) {
+        self.make_room(table);
+        self.tables[table].change(net, source, new);
+    }
+
     pub fn apply(&mut self, number: usize, op: Op) {
         let protocol = &mut self.protocols[number];
-        let (source, table) = (protocol.source, protocol.table);
-        let (changes, then) = protocol.importer.apply(&op, source.lp);
+        let source = protocol.source;
+        let (table, changes, then) = match &mut protocol.body {
+            Body::Source { table, importer } => {
+                let (changes, then) = importer.apply(&op, source.lp);
+                (*table, changes, then)
+            }
+            Body::Pipe(up) => (0, Changes::new(), pipe_then(up, &op)),
+        };
         protocol.ops.push(op);
         for (net, new) in changes {
-            self.make_room(table);
-            self.tables[table].change(net, source, new);
+            self.change(table, net, source, new);
         }
-        if let Some(exporter) = &mut self.protocols[number].exporter {
-            exporter.mark(&self.tables[table], then);
+        for channel in 0..self.channels.len() {
+            if self.channels[channel].owner == number {
+                self.mark(channel, &then);
+            }
         }
+    }
+
+    fn mark(&mut self, number: usize, then: &Then) {
+        let channel = &mut self.channels[number];
+        let table = &self.tables[channel.table];
+        match then {
+            Then::Stay => {}
+            Then::Up => channel.begin(table),
+            Then::Refresh => channel.refresh(table),
+            Then::Down => self.end(number),
+        }
+    }
+
+    fn end(&mut self, number: usize) {
+        if let Gate::Pipe { target, .. } = self.channels[number].gate {
+            let sent: Vec<Key> = self.channels[number].sent.keys().copied().collect();
+            for (net, source) in sent {
+                let source = self.protocols[source].source;
+                self.change(target, net, source, None);
+            }
+        }
+        self.channels[number].end();
     }
 
     /// Each cursor that lags by the whole journal takes one entry.
     fn make_room(&mut self, number: usize) {
         let table = &self.tables[number];
-        let readers = self
-            .protocols
-            .iter_mut()
-            .filter(|protocol| protocol.table == number);
-        for exporter in readers.filter_map(|protocol| protocol.exporter.as_mut()) {
-            if exporter.up && table.head() - exporter.position == self.cells {
-                exporter.take(table);
+        for channel in &mut self.channels {
+            let lags = channel.up && channel.table == number;
+            if lags && table.head() - channel.position == self.cells {
+                channel.take(table);
             }
         }
     }
 
-    pub fn take(&mut self, protocol: usize, count: u64) {
-        if let Some((exporter, table)) = self.channel(protocol) {
-            let _ = (0..count).all(|_| exporter.take(table));
+    pub fn take(&mut self, channel: usize, count: u64) {
+        let channel = &mut self.channels[channel];
+        if channel.up {
+            let table = &self.tables[channel.table];
+            let _ = (0..count).all(|_| channel.take(table));
         }
     }
 
-    pub fn push(&mut self, protocol: usize, count: u64) {
-        if let Some((exporter, _)) = self.channel(protocol) {
-            let _ = (0..count).all(|_| exporter.push());
+    /// False where nothing is marked.
+    fn push_one(&mut self, number: usize) -> bool {
+        match self.channels[number].push() {
+            None => false,
+            Some(None) => true,
+            Some(Some((key, again, value))) => {
+                if let (Gate::Pipe { target, .. }, false) = (&self.channels[number].gate, again) {
+                    let source = self.protocols[key.1].source;
+                    self.change(*target, key.0, source, value);
+                }
+                true
+            }
         }
     }
 
-    /// Without pipes one round settles all channels.
+    pub fn push(&mut self, channel: usize, count: u64) {
+        if self.channels[channel].up {
+            let _ = (0..count).all(|_| self.push_one(channel));
+        }
+    }
+
+    fn is_settled(&self) -> bool {
+        let settled = |channel: &Channel| channel.is_settled(&self.tables[channel.table]);
+        self.channels.iter().all(settled)
+    }
+
+    /// Rounds until all channels that are up are settled.
     pub fn sync(&mut self) {
-        for protocol in 0..self.protocols.len() {
-            self.take(protocol, u64::MAX);
-            self.push(protocol, u64::MAX);
+        while !self.is_settled() {
+            for channel in 0..self.channels.len() {
+                self.take(channel, u64::MAX);
+                self.push(channel, u64::MAX);
+            }
         }
     }
 
@@ -622,9 +753,25 @@ impl System {
         }
         for protocol in &mut self.protocols {
             protocol.ops.clear();
-            if let Some(exporter) = &mut protocol.exporter {
-                exporter.log.clear();
-            }
         }
+        for channel in &mut self.channels {
+            channel.log.clear();
+        }
+    }
+}
+
+/// What an operation of a pipe means for its directions.
+fn pipe_then(up: &mut bool, op: &Op) -> Then {
+    match (op, *up) {
+        (Op::Disable, true) => {
+            *up = false;
+            Then::Down
+        }
+        (Op::Enable, false) => {
+            *up = true;
+            Then::Up
+        }
+        (Op::Reload | Op::ReloadIn | Op::ReloadOut, true) => Then::Refresh,
+        _ => Then::Stay,
     }
 }

@@ -10,6 +10,8 @@ a  One neighbour adds as many different nets, in their order or shuffled, with p
 b  Eight eBGP neighbours, which import all and export none, add a quarter as many nets, each of them by four neighbours,
    all in any order; then half of the routes are withdrawn, and one protocol does `reload in`.
 c  The same adds and withdrawals where the eight export all, to each other, and a `sync` at the end.
+e  The same adds and withdrawals where the eight have four tables, two of them one each, which pipes join to the main
+   table both ways; a `sync` at the end.
 d  Memory: 400,000 adds of different nets over one neighbour, over eight that export none, and over eight that export
    all. Since a script has at most 16 MiB, its lines are as short as they get: nets of IPv6, a path of one number. The
    greatest memory of PROGRAM must stay under 8 GiB.
@@ -41,15 +43,22 @@ SEED = 65000
 HEAD = f"{'load':4} {'kind':10} {'adds':>7} {'lines':>7} {'program':>8} {'seconds':>8} {'us/line':>8} {'MiB':>7}"
 
 
-def protocol(name, number, family, address, policy):
+def protocol(name, number, family, address, policy, table=""):
     return (
         f"protocol bgp {name} {{ local as 65000; neighbor {address} as {65000 + number}; med metric on;\n"
-        f"  {family} {{ import all; export {policy}; }}; }}\n"
+        f"  {family} {{ {table}import all; export {policy}; }}; }}\n"
     )
 
 
-def neighbour(number, policy):
-    return protocol(f"p{number}", number, "ipv4", f"192.0.2.{number}", policy)
+def neighbour(number, policy, table=""):
+    return protocol(f"p{number}", number, "ipv4", f"192.0.2.{number}", policy, table)
+
+
+def pipe(table):
+    return (
+        f"ipv4 table t{table};\n"
+        f"protocol pipe j{table} {{ table master4; peer table t{table}; import all; export all; }}\n"
+    )
 
 
 def net(index):
@@ -100,6 +109,12 @@ def exports(count):
     yield "exports", conf, eight_neighbours(count) + ["sync"]
 
 
+def pipes(count):
+    conf = "".join(pipe(table) for table in range(4))
+    conf += "".join(neighbour(number, "all", f"table t{number % 4}; ") for number in NEIGHBOURS)
+    yield "pipes", conf, eight_neighbours(count) + ["sync"]
+
+
 def short_net(index):
     """The nets 1::/16 to 1::/99, 2::/16 to 2::/99 and so on."""
     return f"{1 + index // 84:x}::/{16 + index % 84}"
@@ -129,6 +144,7 @@ LOADS = {
     "a": (one_neighbour, SIZES, RUNS),
     "b": (imports, SIZES, RUNS),
     "c": (exports, SIZES, RUNS),
+    "e": (pipes, SIZES, RUNS),
     "d": (memory, MEMORY_SIZES, 1),
 }
 

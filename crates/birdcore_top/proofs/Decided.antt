@@ -10,7 +10,7 @@ use Rattle.birdcore_top.specs.declared.status.Status.{Status}
 use Rattle.birdcore_top.specs.declared.status.Status.TheVariants.{Usage, ConfigRefused, ScriptRefused, NotBuilt, ReadFault, WriteFault, OutOfMemory, TooLong}
 use Rattle.birdcore_top.specs.declared.status.Status.TheVariants as variants
 use Rattle.birdcore_top.specs.Command.{Command, Play}
-use Rattle.birdcore_top.specs.Outcome.{Outcome, Misused, OverLimit, Refused, Unbuilt, BadLine, UnbuiltLine, Played, Held, IsAccepted, ConfGives, ScriptGives, IsPossible, IsRequired, files_read}
+use Rattle.birdcore_top.specs.Outcome.{Outcome, Misused, OverLimit, Refused, BadLine, UnbuiltLine, Played, Held, IsAccepted, ConfGives, ScriptGives, IsPossible, IsRequired, files_read}
 use Rattle.birdcore_top.specs.Written.{IfBegun}
 use Rattle.birdcore_top.specs.Answer.{Answers, HasCause, MissesInTurn, NoneFailed, SinkTakes}
 
@@ -33,7 +33,6 @@ module _ (law : HasOneOutcome) (conf script : List ℕ) (cells : ℕ) (held : He
   conf_failed : (o : Outcome) → ConfGives IsSomeAnd conf (held conf) o → All (λ name. Rose (before name) (now name) → ⊥) (files_read (Play conf script cells) o) → Rose (before conf) (now conf) → ⊥
   conf_failed (OverLimit word) is none rose = none 0 conf (omega arith) rose
   conf_failed (Refused l c k) is none rose = none 0 conf (omega arith) rose
-  conf_failed Unbuilt is none rose = none 0 conf (omega arith) rose
   conf_failed Misused is none rose = is
   conf_failed (BadLine n k) is none rose = is
   conf_failed (UnbuiltLine n) is none rose = is
@@ -47,7 +46,6 @@ module _ (law : HasOneOutcome) (conf script : List ℕ) (cells : ℕ) (held : He
   script_conf_failed system (Played setup actors phases) is none rose = none 0 conf (omega arith) rose
   script_conf_failed system Misused is none rose = is
   script_conf_failed system (Refused l c k) is none rose = is
-  script_conf_failed system Unbuilt is none rose = is
 
   script_failed : (system : System) (o : Outcome) → ScriptGives IsSomeAnd system cells script (held script) o → All (λ name. Rose (before name) (now name) → ⊥) (files_read (Play conf script cells) o)
       → Rose (before script) (now script) → ⊥
@@ -57,7 +55,6 @@ module _ (law : HasOneOutcome) (conf script : List ℕ) (cells : ℕ) (held : He
   script_failed system (Played setup actors phases) is none rose = none 1 conf (omega arith) rose
   script_failed system Misused is none rose = is
   script_failed system (Refused l c k) is none rose = is
-  script_failed system Unbuilt is none rose = is
 
   not_in_turn : (o : Outcome) → IsRequired (Some (Play conf script cells)) held o → All (λ name. Rose (before name) (now name) → ⊥) (files_read (Play conf script cells) o)
       → MissesInTurn (Play conf script cells) held before now → ⊥

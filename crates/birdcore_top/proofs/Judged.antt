@@ -5,12 +5,11 @@ use Rattle.outside_io.specs.Whole.{limit, IsLong, IsWhole}
 use Rattle.script_lines.specs.Script as script
 use Rattle.script_lines.specs.declared.faults.ScriptKind.{ScriptKind}
 use Rattle.sys_build.specs.Names.{named_of}
-use Rattle.sys_build.specs.Setups.{has_pipe}
 use Rattle.system.specs.System.{System}
 use Rattle.system.specs.Texts.{IsFault, IsSystem}
 use Rattle.system.specs.declared.read.SystemFault.{SystemFault}
 use Rattle.system.specs.declared.read.SystemFault.TheVariants as faults
-use Rattle.birdcore_top.specs.Outcome.{Outcome, OverLimit, Refused, Unbuilt, BadLine, UnbuiltLine, Within, ConfGives, ScriptGives}
+use Rattle.birdcore_top.specs.Outcome.{Outcome, OverLimit, Refused, BadLine, UnbuiltLine, Within, ConfGives, ScriptGives}
 use Rattle.birdcore_top.specs.Answer.{status_of, Stops}
 use Rattle.birdcore_top.specs.declared.status.Status.{Status}
 use Rattle.birdcore_top.specs.declared.status.Status.TheVariants.{NotBuilt, ScriptRefused}
@@ -27,11 +26,6 @@ conf_stops name held bytes (faults.Refused line column kind) whole is = record {
   cause = λ answer. (Refused line column kind, judged held bytes _ whole is, (refl, refl, refl));
 }
 conf_stops name held bytes faults.Memory whole is = record { early = refl; cause = λ answer. cc }
-
--- a configuration that has a pipe
-pub pipe_stops : (name : List ℕ) (held : Option (List ℕ)) (bytes : List ℕ) (system : System) → IsWhole held bytes → IsSystem bytes system → has_pipe system.protocols ≡ true
-    → Stops (ConfGives IfSome name held) (NotBuilt 1 0)
-pipe_stops name held bytes system whole is pipe = record { early = refl; cause = λ answer. (Unbuilt, judged held bytes _ whole (system, is, pipe), (refl, refl)) }
 
 module _ (system : System) (name : List ℕ) (held : Option (List ℕ)) where
   -- a script that is over the limit

@@ -5,4 +5,3 @@ pub mod Joined
 pub mod Outcomes
 pub mod Decided
 pub mod Owed
-pub mod SaidOnce

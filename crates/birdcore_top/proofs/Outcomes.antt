@@ -11,17 +11,14 @@ use Rattle.script_lines.specs.declared.script.Line.{Line}
 use Rattle.sys_build.specs.Names.{named_of}
 use Rattle.sys_build.specs.Setups.{IsPlayable}
 use Rattle.system.specs.System.{System}
-use Rattle.system.specs.Texts.{IsRefusedAt}
+use Rattle.system.specs.Texts.{IsRefusedAt, IsSystem}
 use Rattle.birdcore_top.specs.Command.{Command, Play}
-use Rattle.birdcore_top.specs.Outcome.{Outcome, Misused, OverLimit, Refused, Unbuilt, BadLine, UnbuiltLine, Played, Held, Configures, IsAccepted, IsBuilt, IsNotBuilt, ConfGives, ScriptGives, IsPossible, IsRequired}
+use Rattle.birdcore_top.specs.Outcome.{Outcome, Misused, OverLimit, Refused, BadLine, UnbuiltLine, Played, Held, Configures, IsAccepted, ConfGives, ScriptGives, IsPossible, IsRequired}
 
--- What a text says: of configurations it is one that is built, or one that isn't, or it is refused, at one place for one
--- reason; of scripts it has one answer. This is what the laws of texts say.
+-- What a text says: of configurations it is one, or it is refused, at one place for one reason; of scripts it has one answer. This is what the laws of texts say.
 pub record SaysOnce : Type 0 where
-  pub configurations_agree : (text : List ℕ) (a b : System) → IsBuilt text a → IsBuilt text b → a ≡ b
-  pub built_or_not : (text : List ℕ) (system : System) → IsBuilt text system → IsNotBuilt text → ⊥
-  pub built_or_refused : (text : List ℕ) (system : System) (line column : ℕ) (kind : ConfKind) → IsBuilt text system → IsRefusedAt text line column kind → ⊥
-  pub not_built_or_refused : (text : List ℕ) (line column : ℕ) (kind : ConfKind) → IsNotBuilt text → IsRefusedAt text line column kind → ⊥
+  pub configurations_agree : (text : List ℕ) (a b : System) → IsSystem text a → IsSystem text b → a ≡ b
+  pub accepted_or_refused : (text : List ℕ) (system : System) (line column : ℕ) (kind : ConfKind) → IsSystem text system → IsRefusedAt text line column kind → ⊥
   pub refusals_agree : (text : List ℕ) (l m c d : ℕ) (k j : ConfKind) → IsRefusedAt text l c k → IsRefusedAt text m d j → (l ≡ m) × (c ≡ d) × (k ≡ j)
   pub answers_agree : (named : Named) (text : List ℕ) (a b : script_answers.Answer) → Answers named text a → Answers named text b → a ≡ b
 
@@ -54,13 +51,8 @@ module _ (once : SaysOnce) where
   conf_once : (name file : List ℕ) (o p : Outcome) → ConfGives IsSomeAnd name (Some file) o → ConfGives IfSome name (Some file) p → p ≡ o
   conf_once name file (OverLimit word) (OverLimit other) is may = ap OverLimit (may.0 ∙ sym is.0)
   conf_once name file (OverLimit word) (Refused l c k) is may = absurd (omega (arith, is.1, may.0))
-  conf_once name file (OverLimit word) Unbuilt is may = absurd (omega (arith, is.1, may.0))
   conf_once name file (Refused l c k) (OverLimit other) is may = absurd (omega (arith, may.1, is.0))
   conf_once name file (Refused l c k) (Refused m d j) is may = same_place m l d c j k (once.refusals_agree file m l d c j k may.1 is.1)
-  conf_once name file (Refused l c k) Unbuilt is may = absurd (once.not_built_or_refused file l c k may.1 is.1)
-  conf_once name file Unbuilt (OverLimit other) is may = absurd (omega (arith, may.1, is.0))
-  conf_once name file Unbuilt (Refused m d j) is may = absurd (once.not_built_or_refused file m d j is.1 may.1)
-  conf_once name file Unbuilt Unbuilt is may = refl
   conf_once name file Misused p is may = absurd is
   conf_once name file (BadLine n k) p is may = absurd is
   conf_once name file (UnbuiltLine n) p is may = absurd is
@@ -73,16 +65,11 @@ module _ (once : SaysOnce) where
   conf_once name file (Refused l c k) (BadLine m j) is may = absurd may
   conf_once name file (Refused l c k) (UnbuiltLine m) is may = absurd may
   conf_once name file (Refused l c k) (Played setup actors phases) is may = absurd may
-  conf_once name file Unbuilt Misused is may = absurd may
-  conf_once name file Unbuilt (BadLine m j) is may = absurd may
-  conf_once name file Unbuilt (UnbuiltLine m) is may = absurd may
-  conf_once name file Unbuilt (Played setup actors phases) is may = absurd may
 
   -- A configuration that is accepted has no outcome without its script.
   accepted_goes_on : (name file : List ℕ) (system : System) (o : Outcome) → Configures system file → ConfGives IfSome name (Some file) o → ⊥
   accepted_goes_on name file system (OverLimit word) is may = omega (arith, may.1, is.0)
-  accepted_goes_on name file system (Refused l c k) is may = once.built_or_refused file system l c k is.1 may.1
-  accepted_goes_on name file system Unbuilt is may = once.built_or_not file system is.1 may.1
+  accepted_goes_on name file system (Refused l c k) is may = once.accepted_or_refused file system l c k is.1 may.1
   accepted_goes_on name file system Misused is may = may
   accepted_goes_on name file system (BadLine n k) is may = may
   accepted_goes_on name file system (UnbuiltLine n) is may = may
@@ -109,25 +96,19 @@ module _ (once : SaysOnce) where
       same_play other setup phases2 phases actors2 actors (may.0 ∙ sym is.0) (once.answers_agree (named_of system) text _ _ may.1.1 is.1.1)
   script_once system cells name text Misused p is may = absurd is
   script_once system cells name text (Refused l c k) p is may = absurd is
-  script_once system cells name text Unbuilt p is may = absurd is
   script_once system cells name text (OverLimit word) Misused is may = absurd may
   script_once system cells name text (OverLimit word) (Refused l c j) is may = absurd may
-  script_once system cells name text (OverLimit word) Unbuilt is may = absurd may
   script_once system cells name text (BadLine n k) Misused is may = absurd may
   script_once system cells name text (BadLine n k) (Refused l c j) is may = absurd may
-  script_once system cells name text (BadLine n k) Unbuilt is may = absurd may
   script_once system cells name text (UnbuiltLine n) Misused is may = absurd may
   script_once system cells name text (UnbuiltLine n) (Refused l c j) is may = absurd may
-  script_once system cells name text (UnbuiltLine n) Unbuilt is may = absurd may
   script_once system cells name text (Played setup actors phases) Misused is may = absurd may
   script_once system cells name text (Played setup actors phases) (Refused l c j) is may = absurd may
-  script_once system cells name text (Played setup actors phases) Unbuilt is may = absurd may
 
   -- an outcome that is required rests on a file that is told
   no_conf : (name : List ℕ) (o : Outcome) → ConfGives IsSomeAnd name None o → ⊥
   no_conf name (OverLimit word) is = is.1
   no_conf name (Refused l c k) is = is
-  no_conf name Unbuilt is = is
   no_conf name Misused is = is
   no_conf name (BadLine n k) is = is
   no_conf name (UnbuiltLine n) is = is
@@ -136,7 +117,6 @@ module _ (once : SaysOnce) where
   as_told : (name file : List ℕ) (o : Outcome) → ConfGives IsSomeAnd name (Some file) o → ConfGives IfSome name (Some file) o
   as_told name file (OverLimit word) is = is
   as_told name file (Refused l c k) is = is
-  as_told name file Unbuilt is = is
   as_told name file Misused is = is
   as_told name file (BadLine n k) is = is
   as_told name file (UnbuiltLine n) is = is
@@ -154,7 +134,6 @@ module _ (once : SaysOnce) where
   no_script system cells name (Played setup actors phases) is = is.1
   no_script system cells name Misused is = is
   no_script system cells name (Refused l c k) is = is
-  no_script system cells name Unbuilt is = is
 
   scripts_once : (system : System) (cells : ℕ) (name : List ℕ) (script : Option (List ℕ)) (o p : Outcome) → ScriptGives IsSomeAnd system cells name script o
       → ScriptGives IfSome system cells name script p → p ≡ o

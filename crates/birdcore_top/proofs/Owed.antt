@@ -15,7 +15,7 @@ use Rattle.script_lines.specs.declared.script.Line.{Line}
 use Rattle.birdcore_top.specs.Answer.{Answers, AnswersConf, FindsLacked, HasCause, IsEnd, IsMissed, MissesInTurn, Stops, is_early, writes}
 use Rattle.birdcore_top.specs.Answered.{Answered, ShelfSeen, SinkSeen}
 use Rattle.birdcore_top.specs.Command.{Command, Play}
-use Rattle.birdcore_top.specs.Outcome.{Held, Outcome, Misused, OverLimit, Refused, Unbuilt, BadLine, UnbuiltLine, Played, IsPossible}
+use Rattle.birdcore_top.specs.Outcome.{Held, Outcome, Misused, OverLimit, Refused, BadLine, UnbuiltLine, Played, IsPossible}
 use Rattle.birdcore_top.specs.Written.{HasBegun, HasPlayed, IfBegun, IfPlayed, text_so_far}
 use Rattle.birdcore_top.specs.declared.status.Status.{Status}
 use Rattle.birdcore_top.specs.declared.status.Status.TheVariants.{Usage, ConfigRefused, ScriptRefused, NotBuilt, ReadFault, WriteFault, OutOfMemory, TooLong}
@@ -51,7 +51,6 @@ no_misuse (Play conf script cells) held Misused (inl is) answers = is
 no_misuse (Play conf script cells) held Misused (inr is) answers = is.3
 no_misuse command held (OverLimit name) possible answers = answers
 no_misuse command held (Refused line column kind) possible answers = answers
-no_misuse command held Unbuilt possible answers = answers
 no_misuse command held (BadLine line kind) possible answers = answers
 no_misuse command held (UnbuiltLine line) possible answers = answers
 no_misuse command held (Played setup actors phases) possible answers = answers

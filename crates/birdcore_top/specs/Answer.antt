@@ -13,14 +13,13 @@ use Rattle.system.specs.declared.read.SystemFault.TheVariants as faults
 use Rattle.birdcore_top.specs.declared.status.Status.{Status}
 use Rattle.birdcore_top.specs.declared.status.Status.TheVariants.{Ok, Usage, ConfigRefused, ScriptRefused, NotBuilt, ReadFault, WriteFault, OutOfMemory, TooLong}
 use Rattle.birdcore_top.specs.Command.{Command, Play}
-use Rattle.birdcore_top.specs.Outcome.{Held, Outcome, Misused, OverLimit, Refused, Unbuilt, BadLine, UnbuiltLine, Played, ConfGives, IsAccepted, files_read}
+use Rattle.birdcore_top.specs.Outcome.{Held, Outcome, Misused, OverLimit, Refused, BadLine, UnbuiltLine, Played, ConfGives, IsAccepted, files_read}
 
 -- the answer to an outcome
 abbrev pub Answers : Outcome → Status → Type 0
 Answers Misused Usage = ⊤
 Answers (OverLimit name) (TooLong word) = string_bytes word ≡ name
 Answers (Refused line column kind) (ConfigRefused l c k) = (l ≡ line) × (c ≡ column) × (k ≡ kind)
-Answers Unbuilt (NotBuilt file line) = (file ≡ 1) × (line ≡ 0)
 Answers (BadLine n kind) (ScriptRefused line k) = (line ≡ n) × (k ≡ kind)
 Answers (UnbuiltLine n) (NotBuilt file line) = (file ≡ 2) × (line ≡ n)
 Answers (Played setup actors phases) Ok = ⊤

@@ -1,12 +1,11 @@
 -- What a command and its files come to (`Outcome`, by `IsPossible` and `IsRequired`): the one thing
--- that the program has to answer; which files decide it (`files_read`), and that a configuration is
--- built or not (`IsBuilt`, `IsNotBuilt`).
+-- that the program has to answer; which files decide it (`files_read`).
 -- Not modelled: what files hold that isn't told: `IsPossible` asks nothing of them, and
 -- `IsRequired` is false of all that rests on them. Over a shelf that tells its files both say the
 -- same (the law `files_have_one_outcome`).
 -- From: own.
--- Example: a refused configuration decides alone, whatever the script is; a pipe isn't built.
-use Rattle.std.specs.Prelude.{◌≡◌, ℕ, ◌≤◌, ◌⊎◌, false, true, List, [], ◌∷◌, length, Option, Some, None, IfSome, IsSomeAnd}
+-- Example: a refused configuration decides alone, whatever the script is.
+use Rattle.std.specs.Prelude.{◌≡◌, ℕ, ◌≤◌, ◌⊎◌, List, [], ◌∷◌, length, Option, Some, None, IfSome, IsSomeAnd}
 use Rattle.conf_ast.specs.declared.kind.ConfKind.{ConfKind}
 use Rattle.outside_io.specs.Whole.{limit, IsLong}
 use Rattle.core_setup.specs.Setup.{Setup}
@@ -15,7 +14,7 @@ use Rattle.script_lines.specs.declared.script.Line.{Line}
 use Rattle.script_lines.specs.Script as script_answers
 use Rattle.script_lines.specs.Script.{Answers}
 use Rattle.sys_build.specs.Names.{named_of}
-use Rattle.sys_build.specs.Setups.{IsPlayable, has_pipe, setup_of}
+use Rattle.sys_build.specs.Setups.{IsPlayable, setup_of}
 use Rattle.system.specs.System.{System}
 use Rattle.system.specs.Texts.{IsRefusedAt, IsSystem}
 use Rattle.birdcore_top.specs.Command.{Command, Play}
@@ -24,7 +23,6 @@ pub data Outcome : Type 0 where
   Misused : Outcome  -- the words are no command
   OverLimit : List ℕ → Outcome  -- the file of this name is over the limit
   Refused : ℕ → ℕ → ConfKind → Outcome  -- the configuration is refused in this line and column
-  Unbuilt : Outcome  -- the configuration is accepted, and has a pipe
   BadLine : ℕ → ScriptKind → Outcome  -- this line of the script is refused
   UnbuiltLine : ℕ → Outcome  -- no line is refused, and this one is the first that isn't built
   Played : Setup → List (List ℕ) → List (List Line) → Outcome  -- actors and phases are played
@@ -43,17 +41,9 @@ Knowledge = Option (List ℕ) → (List ℕ → Type 0) → Type 0
 abbrev pub Within : (List ℕ → Type 0) → List ℕ → Type 0
 Within P file = (length file ≤ limit) × P file
 
--- the text is accepted, comes to this, and all of it is built
-abbrev pub IsBuilt : List ℕ → System → Type 0
-IsBuilt text system = IsSystem text system × (has_pipe system.protocols ≡ false)
-
--- the text is accepted, and a pipe isn't built
-abbrev pub IsNotBuilt : List ℕ → Type 0
-IsNotBuilt text =
-    (system : System) × IsSystem text system × (has_pipe system.protocols ≡ true)
-
+-- the file is accepted, and comes to this
 abbrev pub Configures : System → List ℕ → Type 0
-Configures system = Within (λ file. IsBuilt file system)
+Configures system = Within (λ file. IsSystem file system)
 
 abbrev pub IsAccepted : List ℕ → Type 0
 IsAccepted file = (system : System) × Configures system file
@@ -65,7 +55,6 @@ abbrev pub ConfGives : Knowledge → List ℕ → Option (List ℕ) → Outcome 
 ConfGives known name conf (OverLimit word) = (word ≡ name) × known conf IsLong
 ConfGives known name conf (Refused line column kind) =
     known conf (Within (λ file. IsRefusedAt file line column kind))
-ConfGives known name conf Unbuilt = known conf (Within IsNotBuilt)
 ConfGives known name conf _ = ⊥
 
 -- what the script of this name gives over a configuration
@@ -109,7 +98,6 @@ abbrev pub files_read : Command → Outcome → List (List ℕ)
 files_read (Play conf script cells) Misused = []
 files_read (Play conf script cells) (OverLimit name) = conf ∷ name ∷ []
 files_read (Play conf script cells) (Refused line column kind) = conf ∷ []
-files_read (Play conf script cells) Unbuilt = conf ∷ []
 files_read (Play conf script cells) (BadLine line kind) = conf ∷ script ∷ []
 files_read (Play conf script cells) (UnbuiltLine line) = conf ∷ script ∷ []
 files_read (Play conf script cells) (Played setup actors phases) = conf ∷ script ∷ []

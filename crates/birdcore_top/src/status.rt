@@ -47,8 +47,8 @@ pub enum Status {
     TooLong {
         name: String,
     },
-    /// What the files say isn't built yet: a pipe of the configuration (file 1, line 0), or further
-    /// words of `show route` in a line of the script (file 2), counted from 1.
+    /// What a line of the script (file 2) says isn't built yet: further words of `show route`. Lines
+    /// are counted from 1.
     #[error("not built {file} {line}")]
     NotBuilt {
         file: u32,

@@ -18,7 +18,6 @@ use crate::write::write_play;
 use outside_io::{Gate, ReadError, Shelf, Sink, read_whole};
 use script_lines::{Script, ScriptFault, read_script};
 use std::alloc::Global;
-use sys_build::has_pipe;
 use sys_build::laws::accepted_configurations_are_few;
 use system::{System, read_system};
 
@@ -129,9 +128,6 @@ fn read_conf<F: Shelf>(alloc: Global, name: &str, shelf: &mut F) -> Result<Syste
     accepted_configurations_are_few();
     let bytes = read_file(alloc, name, shelf)?;
     let system = read_system(alloc, &bytes)?;
-    if has_pipe(&system) {
-        return Err(Status::NotBuilt { file: 1, line: 0 });
-    }
     Ok(system)
 }
 

@@ -10,7 +10,7 @@ use Rattle.sys_build.specs.Names.{named_of}
 use Rattle.sys_build.specs.Setups.{IsPlayable, setup_of}
 use Rattle.system.specs.System.{System}
 use Rattle.birdcore_top.specs.Command.{Play}
-use Rattle.birdcore_top.specs.Outcome.{Held, Outcome, OverLimit, Refused, Unbuilt, BadLine, UnbuiltLine, Played, Configures, ConfGives, ScriptGives, IsRequired}
+use Rattle.birdcore_top.specs.Outcome.{Held, Outcome, OverLimit, Refused, BadLine, UnbuiltLine, Played, Configures, ConfGives, ScriptGives, IsRequired}
 use Rattle.top_laws.specs.Says.{SaysSomething}
 
 within_or : (file : List ℕ) → IsLong file ⊎ (length file ≤ limit)
@@ -38,11 +38,8 @@ module _ (says : (text : List ℕ) → length text ≤ limit → SaysSomething t
   play_outcome conf script cells file text = elim (within_or file) [
     | inl long ↦ (OverLimit conf, inl (refl, long))
     | inr within ↦ elim (says file within) [
-      | inl is ↦ let found = script_outcome is.0 cells script text in (found.0, inr (is.0, (file, is.1.0, is.1.1), (within, is.1), found.1))
-      | inr other ↦ elim other [
-        | inl unbuilt ↦ (Unbuilt, inl (within, unbuilt))
-        | inr refused ↦ (Refused refused.0 refused.1 refused.2, inl (within, refused.3))
-      ]
+      | inl is ↦ let found = script_outcome is.0 cells script text in (found.0, inr (is.0, (file, is.1), (within, is.1), found.1))
+      | inr refused ↦ (Refused refused.0 refused.1 refused.2, inl (within, refused.3))
     ]
   ]
 

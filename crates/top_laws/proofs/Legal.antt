@@ -1,9 +1,9 @@
 -- What is played can be played.
-use Rattle.std.proofs.Common.{◌≡◌, ℕ, false, List, Option, Some, None, sym, subst, inl, inr}
+use Rattle.std.proofs.Common.{◌≡◌, ℕ, List, Option, Some, None, sym, subst, inl, inr}
 use Rattle.std.specs.Prelude.{IfSome}
 use Rattle.core_setup.specs.Setup.{IsSetup, Setup}
 use Rattle.script_lines.specs.declared.script.Line.{Line}
-use Rattle.sys_build.specs.Setups.{IsPlayable, has_pipe, setup_of}
+use Rattle.sys_build.specs.Setups.{IsPlayable, setup_of}
 use Rattle.system.specs.System.{System}
 use Rattle.system.specs.Texts.{IsSystem}
 use Rattle.birdcore_top.specs.Command.{Command, Play}
@@ -12,11 +12,11 @@ use Rattle.birdcore_top.specs.Outcome.{Held, Misused, IsPossible, Played, Script
 not_misused : (setup : Setup) (actors : List (List ℕ)) (phases : List (List Line)) → Played setup actors phases ≡ Misused → ⊥
 not_misused setup actors phases same = cc
 
-module _ (can_be : (text : List ℕ) (system : System) → IsSystem text system → has_pipe system.protocols ≡ false → (cells : ℕ) → IsSetup (setup_of system cells)) where
+module _ (can_be : (text : List ℕ) (system : System) → IsSystem text system → (cells : ℕ) → IsSetup (setup_of system cells)) where
   can_be_played : (system : System) (cells : ℕ) (name : List ℕ) (script : Option (List ℕ)) (setup : Setup) (actors : List (List ℕ)) (phases : List (List Line)) → IsPlayable system
       → ScriptGives IfSome system cells name script (Played setup actors phases) → IsSetup setup
   can_be_played system cells name script setup actors phases playable gives =
-      subst (λ (s : Setup). IsSetup s) (sym gives.0) (can_be playable.0 system playable.1 playable.2 cells)
+      subst (λ (s : Setup). IsSetup s) (sym gives.0) (can_be playable.0 system playable.1 cells)
 
   pub is_setup : (command : Option Command) (held : Held) (setup : Setup) (actors : List (List ℕ)) (phases : List (List Line)) → IsPossible command held (Played setup actors phases) → IsSetup setup
   is_setup None held setup actors phases possible = absurd (not_misused setup actors phases possible)

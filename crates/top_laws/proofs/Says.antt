@@ -1,7 +1,6 @@
 -- Each text within the limit says something.
 use Rattle.std.proofs.Common.{◌≡◌, ◌≤◌, ◌<◌, ◌^◌, ap, refl, sym, subst, ℕ, List, length, Option, Some, None, arith, inl, inr}
 use Rattle.std.specs.Prelude.{◌⊎◌}
-use Rattle.std.proofs.lemmas.Bool.{cases_Bool}
 use Rattle.conf_lex.specs.Lex.{Lexes}
 use Rattle.conf_lex.specs.declared.token.Token.{Token}
 use Rattle.conf_lex.specs.declared.word.Word.{Word}
@@ -17,7 +16,6 @@ use Rattle.conf_ast.specs.declared.configurations.Statement.{Statement}
 use Rattle.conf_ast.specs.Configurations.{Declaration, configuration_of}
 use Rattle.conf_rules.specs.declared.refusal.Refusal.{Refusal}
 use Rattle.outside_io.specs.Whole.{limit}
-use Rattle.sys_build.specs.Setups.{has_pipe}
 use Rattle.system.specs.System.{system_in}
 use Rattle.system.specs.Texts.{IsAcceptedText, refused_in}
 use Rattle.top_laws.specs.Says.{SaysSomething}
@@ -25,10 +23,7 @@ use Rattle.top_laws.specs.Says.{SaysSomething}
 -- ---- what is accepted
 
 of_accepted : (text : List ℕ) (ds : List Declaration) → IsAcceptedText text ds → SaysSomething text
-of_accepted text ds is = elim (cases_Bool (has_pipe (system_in text ds).protocols)) [
-  | inl pipe ↦ inr (inl (system_in text ds, (ds, is, refl), pipe))
-  | inr none ↦ inl (system_in text ds, ((ds, is, refl), none))
-]
+of_accepted text ds is = inl (system_in text ds, (ds, is, refl))
 
 -- ---- texts
 
@@ -37,7 +32,7 @@ module _ (each_place : (text : List ℕ) (at : ℕ) → (line : ℕ) × (column 
   of_statements text all is None found =
       of_accepted text (configuration_of all) (record { statements = all; tree = is; are = refl; accepted = found })
   of_statements text all is (Some r) found =
-      let place = each_place text r.at in inr (inr (place.0, place.1, r.kind, (r.at, inr (record { statements = all; tree = is; refused = found }), place.2)))
+      let place = each_place text r.at in inr (place.0, place.1, r.kind, (r.at, inr (record { statements = all; tree = is; refused = found }), place.2))
 
   module _ (few : (text : List ℕ) (tokens : List Token) → Lexes 0 text tokens → length (significant_words text tokens) ≤ length text)
       (each_tree : (t : ParseTree) → DerivesLongest rule t config → length (yield t) < 2 ^ 63 → (all : List Statement) × (statements_tree all ≡ t)) where
@@ -51,5 +46,5 @@ module _ (each_place : (text : List ℕ) (at : ℕ) → (line : ℕ) × (column 
     pub says_something : ((text : List ℕ) → ((t : ParseTree) × IsConfigText text t) ⊎ ((at : ℕ) × (kind : ConfKind) × IsRefusedText text at kind)) → (text : List ℕ) → length text ≤ limit → SaysSomething text
     says_something each_text text within = elim (each_text text) [
       | inl is ↦ of_tree text is.0 within is.1
-      | inr refused ↦ let place = each_place text refused.0 in inr (inr (place.0, place.1, refused.1, (refused.0, inl refused.2, place.2)))
+      | inr refused ↦ let place = each_place text refused.0 in inr (place.0, place.1, refused.1, (refused.0, inl refused.2, place.2))
     ]

@@ -12,8 +12,7 @@ use conf_laws::readings::{
 use conf_lex::laws::{tokens_are_slices, tokens_rise};
 use script_lines::laws::each_text_has_an_answer;
 
-/// Each text within the limit says something: it is a configuration that is built, or one that
-/// isn't, or it is refused.
+/// Each text within the limit says something: it is a configuration, or it is refused.
 pub fn each_text_says_something()
     ensures { (text : List ℕ) → length text ≤ limit → SaysSomething text }
 {

@@ -3,10 +3,8 @@ use Rattle.birdcore_top.proofs.laws.files_have_one_outcome.Goals as goal
 
 once : goal.After-a_text_has_one_answer → SaysOnce
 once c = record {
-  configurations_agree = c.texts_say_one_thing.ensures.built;
-  built_or_not = c.texts_say_one_thing.ensures.built_or_not;
-  built_or_refused = c.texts_say_one_thing.ensures.built_or_refused;
-  not_built_or_refused = c.texts_say_one_thing.ensures.not_built_or_refused;
+  configurations_agree = c.texts_say_one_thing.ensures.accepted;
+  accepted_or_refused = c.texts_say_one_thing.ensures.accepted_or_refused;
   refusals_agree = c.texts_say_one_thing.ensures.refused;
   answers_agree = c.a_text_has_one_answer.ensures;
 }
