@@ -8,7 +8,7 @@ use Rattle.core_setup.specs.Setup as setup
 use Rattle.script_lines.specs.declared.named.NamedProtocol.{NamedProtocol}
 use Rattle.system.specs.System.{Protocol, System}
 use Rattle.sys_build.specs.Names.{all_channels, channels_of, named_of, named_protocol}
-use Rattle.sys_build.specs.Setups.{has_pipe, is_pipe, protocol_of, protocols_from}
+use Rattle.sys_build.specs.Setups.{protocol_of, protocols_from}
 
 -- ---- lists
 
@@ -71,15 +71,3 @@ unfolding named_of
 named_is system protocols channels protocols_are channels_are =
     ap (λ (l : List NamedProtocol). record { protocols = l; channels = channels }) protocols_are
     ∙ ap (λ (l : List (List ℕ)). record { protocols = map named_protocol system.protocols; channels = l }) channels_are
-
--- ---- pipes
-
-or_else : (b c : Bool) → b || c ≡ (if b then true else c)
-or_else true c = refl
-or_else false c = refl
-
-pub some_pipe : {D : Type 0} (see : D → Protocol) (defs : List D) → list_any (λ d. is_pipe (see d).body) defs ≡ has_pipe (map see defs)
-some_pipe see [] = refl
-some_pipe see (d ∷ defs) =
-    or_else (is_pipe (see d).body) (list_any (λ (x : _). is_pipe (see x).body) defs)
-    ∙ ap (λ (b : Bool). if is_pipe (see d).body then true else b) (some_pipe see defs)

@@ -132,22 +132,6 @@ setup_of system cells = record {
   cells = cells;
 }
 
--- an accepted configuration
-abbrev pub IsAccepted : System → Type 0
-IsAccepted system = (text : List ℕ) × IsSystem text system
-
--- ---- configurations with pipes, which the program doesn't play yet
-
-abbrev pub is_pipe : Body → Bool
-is_pipe (IsStatic p) = false
-is_pipe (IsBgp p) = false
-is_pipe (IsPipe p) = true
-
-abbrev pub has_pipe : List Protocol → Bool
-has_pipe [] = false
-has_pipe (p ∷ more) = if is_pipe p.body then true else has_pipe more
-
--- an accepted configuration without pipes
+-- what an accepted configuration comes to; each can be played
 abbrev pub IsPlayable : System → Type 0
-IsPlayable system =
-    (text : List ℕ) × IsSystem text system × (has_pipe system.protocols ≡ false)
+IsPlayable system = (text : List ℕ) × IsSystem text system

@@ -12,4 +12,4 @@ mod tables;
 mod whole;
 
 pub use names::named;
-pub use whole::{build, has_pipe};
+pub use whole::build;
