@@ -10,7 +10,7 @@ use Rattle.std.specs.List.{flat_map}
 use Rattle.attrs.specs.declared.judge.Verdict.{Verdict}
 use Rattle.attrs.specs.declared.route.Route.{Route}
 use Rattle.bits_ip.specs.Prefix.{Net}
-use Rattle.core_machine.specs.Legal.{Printed}
+use Rattle.core_machine.specs.Legal.{Joined, Printed, join, nothing}
 use Rattle.core_machine.specs.Lines.{Act, Line as MachineLine}
 use Rattle.core_machine.specs.Machine.{State}
 use Rattle.core_machine.specs.Phases.{PlaysAll}
@@ -73,20 +73,20 @@ split f done rest all whole = ap (λ l. map f l) (sym whole) ∙ map-append f do
 pub split_behind : {A B : Type 0} (f : A → B) (done : List A) (x : A) (rest all : List A) → done ++ x ∷ rest ≡ all → map f all ≡ map f done ++ f x ∷ [] ++ map f rest
 split_behind f done x rest all whole = split f done (x ∷ rest) all whole ∙ sym (append_assoc (map f done) (f x ∷ []) (map f rest))
 
-plays_all : (rules : Rules) (acts : List Act) (s : State) (scripts : List (List MachineLine)) (printed : List Printed) (t : State) → PlaysTo rules acts s scripts printed t
-    → PlaysAll rules acts s scripts printed
-plays_all rules acts s [] [] t is = tt
-plays_all rules acts s [] (p ∷ printed) t is = is
-plays_all rules acts s (lines ∷ more) [] t is = is
-plays_all rules acts s (lines ∷ more) (p ∷ printed) t is = (is.0, is.1, is.2, plays_all rules [] is.0 more printed t is.3)
+plays_all : (rules : Rules) (acts : List Act) (past : Joined) (s : State) (scripts : List (List MachineLine)) (printed : List Printed) (t : State) → PlaysTo rules acts past s scripts printed t
+    → PlaysAll rules acts past s scripts printed
+plays_all rules acts past s [] [] t is = tt
+plays_all rules acts past s [] (p ∷ printed) t is = is
+plays_all rules acts past s (lines ∷ more) [] t is = is
+plays_all rules acts past s (lines ∷ more) (p ∷ printed) t is = (is.0, is.1, is.2, plays_all rules [] (join past p) is.0 more printed t is.3)
 
 module _ {J : Type 0} (verdict : J → Net → Route → Verdict) (setup : Setup) (actors : List (List ℕ)) where
   -- what a core has played is a play
-  pub is_play : (phases : List (List Line)) (reports : List PhaseReport) (now : Core J) → core.HasPlayed verdict setup actors (map (phase_of setup) phases) reports now
+  pub is_play : (phases : List (List Line)) (reports : List PhaseReport) (now : Core J) → core.HasPlayed verdict setup actors (map phase_of phases) reports now
       → ArePlayed setup actors phases reports
   is_play phases reports now is = record {
     printed = is.printed;
-    plays = plays_all (rules_of setup) (starts setup) _ (map (phase_of setup) phases) is.printed is.state is.plays;
+    plays = plays_all (rules_of setup) (starts setup) nothing _ (map phase_of phases) is.printed is.state is.plays;
     are = is.are;
   }
 
@@ -95,9 +95,9 @@ module _ {J : Type 0} (verdict : J → Net → Route → Verdict) (setup : Setup
   nothing_yet now a is = record { reports = []; played = is; written = Appends-nil a }
 
   module _ (phases : List (List Line)) (lines : List Line) (now next : Core J) (report : PhaseReport) (a b c : Option (List ℕ)) (written : HasWritten verdict setup actors phases now a b)
-      (played : core.HasPlayed verdict setup actors (map (phase_of setup) phases ++ phase_of setup lines ∷ []) (written.reports ++ report ∷ []) next) where
-    one_more : core.HasPlayed verdict setup actors (map (phase_of setup) (phases ++ lines ∷ [])) (written.reports ++ report ∷ []) next
-    one_more = subst (λ (l : List (List MachineLine)). core.HasPlayed verdict setup actors l (written.reports ++ report ∷ []) next) (sym (map-append (phase_of setup) phases (lines ∷ []))) played
+      (played : core.HasPlayed verdict setup actors (map phase_of phases ++ phase_of lines ∷ []) (written.reports ++ report ∷ []) next) where
+    one_more : core.HasPlayed verdict setup actors (map phase_of (phases ++ lines ∷ [])) (written.reports ++ report ∷ []) next
+    one_more = subst (λ (l : List (List MachineLine)). core.HasPlayed verdict setup actors l (written.reports ++ report ∷ []) next) (sym (map-append phase_of phases (lines ∷ []))) played
 
     -- a phase more is done
     pub phase_more : Appends b c (phase_text report) → HasWritten verdict setup actors (phases ++ lines ∷ []) next a c

@@ -22,7 +22,7 @@ use Rattle.birdcore_top.specs.Outcome.{Held, IsPossible, Played}
 
 -- the phases played, with these reports
 abbrev pub ArePlayed : Setup → List (List ℕ) → List (List Line) → List PhaseReport → Type 0
-ArePlayed setup actors phases reports = IsPlay setup actors (map (phase_of setup) phases) reports
+ArePlayed setup actors phases reports = IsPlay setup actors (map phase_of phases) reports
 
 -- A play of the files may be due, and this is said of the reports of its phases.
 pub record IfPlayed
@@ -79,5 +79,5 @@ pub record HasWritten
     {J : Type 0} (verdict : J → Net → Route → Verdict) (setup : Setup) (actors : List (List ℕ))
     (phases : List (List Line)) (now : Core J) (before after : Option (List ℕ)) : Type 0 where
   pub reports : List PhaseReport
-  pub played : core.HasPlayed verdict setup actors (map (phase_of setup) phases) reports now
+  pub played : core.HasPlayed verdict setup actors (map phase_of phases) reports now
   pub written : Appends before after (flat_map phase_text reports)

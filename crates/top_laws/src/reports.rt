@@ -32,7 +32,7 @@ pub fn reports_are_legal()
         (actors : List (List ℕ)) (phases : List (List Line)) (reports : List PhaseReport)
         → IsPossible command held (Played setup actors phases)
         → ArePlayed setup actors phases reports
-        → IsLegalPlay setup actors (map (phase_of setup) phases) reports }
+        → IsLegalPlay setup actors (map phase_of phases) reports }
 {
     accepted_configurations_are_setups();
     plays_are_legal();

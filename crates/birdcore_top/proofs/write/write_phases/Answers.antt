@@ -16,7 +16,7 @@ play-requires g c =
     record {
       setup = c.requires.0;
       actors = c.args.actors.now;
-      scripts = map (phase_of c.requires.0) (map (λ phase. phase.items) c.loop-lines.yielded);
+      scripts = map phase_of (map (λ phase. phase.items) c.loop-lines.yielded);
       reports = done.reports;
       played = done.played;
     }
