@@ -1,0 +1,6 @@
+pub mod Arms
+pub mod Lists
+pub mod Steps
+pub mod Takes
+pub mod Tests
+pub mod Works

@@ -1,0 +1,4 @@
+pub mod Levels
+pub mod Lists
+pub mod Machines
+pub mod Seen
