@@ -3,4 +3,5 @@ pub mod Lists
 pub mod Steps
 pub mod Takes
 pub mod Tests
+pub mod Waits
 pub mod Works

@@ -71,9 +71,9 @@ ends_failed around vals os w (failures.Fault fault) attrs = ends_faulted around 
 ends_failed around vals os w failures.Stuck attrs = ends_stuck around w.levels vals.under os.under w.lists attrs
 
 -- a step that fails
-pub fails_at : (failure : ListFailure) (around : Around) (vals os : Held) (w : Waiting) (flow : Flow Frame) (attrs : Attrs) (after : Verdict) (l n : ℕ) → Fails failure attrs flow → Steps (Err failure) (ended around vals os w flow) after l n
-fails_at (list_failures.Failed failure) around vals os w flow attrs after l n is = ap (ended around vals os w) is ∙ ends_failed around vals os w failure attrs
-fails_at list_failures.Memory around vals os w flow attrs after l n is = tt
+pub fails_at : (failure : ListFailure) (around : Around) (vals os : Held) (w : Waiting) (flow : Flow Frame) (attrs : Attrs) (after : Verdict) (now : Attrs) (l n : ℕ) → Fails failure attrs flow → Steps (Err failure) (ended around vals os w flow) after now l n
+fails_at (list_failures.Failed failure) around vals os w flow attrs after now l n is = ap (ended around vals os w) is ∙ ends_failed around vals os w failure attrs
+fails_at list_failures.Memory around vals os w flow attrs after now l n is = tt
 
 -- ---- effects
 
@@ -91,7 +91,7 @@ same-under around vals new os onew w flow p q = ap (λ (fs : List (List Val)). r
 pub acted : (around : Around) (fs : List Routine) (rest tail : List Instr) (e : Effect) (vals new os onew : Held) (w : Waiting) (attrs anew : Attrs) → rest ≡ instrs.Do e ∷ tail → effect around e vals.here os.here attrs ≡ Done (new.here, onew.here) anew → new.under ≡ vals.under → onew.under ≡ os.under → (said around fs rest vals os w attrs ≡ said around fs tail new onew w anew) × (left fs tail w < left fs rest w)
 acted around fs rest tail e vals new os onew w attrs anew is done p q = (
   ap (ended around vals os w) (act-flow around fs rest tail e vals.here os.here attrs is ∙ ap (λ (flow : Flow (Frame × List Val)). and_then flow (λ held attrs. mean (setting around fs) tail 0 held.0 held.1 attrs)) done)
-  ∙ same-under around vals new os onew w (mean (setting around fs) tail 0 new.here onew.here anew) p q,
+      ∙ same-under around vals new os onew w (mean (setting around fs) tail 0 new.here onew.here anew) p q,
   over-tail fs rest tail e w is,
 )
 
@@ -99,19 +99,30 @@ pub fails-then : {A B : Type 0} (failure : ListFailure) (flow : Flow A) (next : 
 fails-then (list_failures.Failed failure) flow next attrs is = rw is refl
 fails-then list_failures.Memory flow next attrs is = tt
 
-pub act-fails : (failure : ListFailure) (around : Around) (fs : List Routine) (rest tail : List Instr) (e : Effect) (vals os : Held) (w : Waiting) (attrs anew : Attrs) (after : Verdict) (l n : ℕ) → rest ≡ instrs.Do e ∷ tail → Fails failure anew (effect around e vals.here os.here attrs) → Steps (Err failure) (said around fs rest vals os w attrs) after l n
-act-fails failure around fs rest tail e vals os w attrs anew after l n is fail =
-    rw (act-flow around fs rest tail e vals.here os.here attrs is) (fails_at failure around vals os w (and_then (effect around e vals.here os.here attrs) (λ held attrs. mean (setting around fs) tail 0 held.0 held.1 attrs)) anew after l n (fails-then failure (effect around e vals.here os.here attrs) (λ held attrs. mean (setting around fs) tail 0 held.0 held.1 attrs) anew fail))
+pub act-fails : (failure : ListFailure) (around : Around) (fs : List Routine) (rest tail : List Instr) (e : Effect) (vals os : Held) (w : Waiting) (attrs anew : Attrs) (after : Verdict) (now : Attrs) (l n : ℕ) → rest ≡ instrs.Do e ∷ tail → Fails failure anew (effect around e vals.here os.here attrs) → Steps (Err failure) (said around fs rest vals os w attrs) after now l n
+act-fails failure around fs rest tail e vals os w attrs anew after now l n is fail =
+    rw (act-flow around fs rest tail e vals.here os.here attrs is) (fails_at failure around vals os w (and_then (effect around e vals.here os.here attrs) (λ held attrs. mean (setting around fs) tail 0 held.0 held.1 attrs)) anew after now l n (fails-then failure (effect around e vals.here os.here attrs) (λ held attrs. mean (setting around fs) tail 0 held.0 held.1 attrs) anew fail))
 
 -- ---- jumps
 
 pub jumped : (around : Around) (fs : List Routine) (rest tail code : List Instr) (i : Instr) (n : ℕ) (vals os onew : Held) (w : Waiting) (attrs : Attrs) → rest ≡ i ∷ tail → code ≡ drop n tail → one (setting around fs) i (mean (setting around fs) tail) vals.here os.here attrs ≡ mean (setting around fs) tail n vals.here onew.here attrs → onew.under ≡ os.under → cost (costs fs) tail n ≤ beside (costs fs) i (cost (costs fs) tail) → (said around fs rest vals os w attrs ≡ said around fs code vals onew w attrs) × (left fs code w < left fs rest w)
 jumped around fs rest tail code i n vals os onew w attrs is to leads q le = (
   ap (ended around vals os w) (ap (λ (code : List Instr). mean (setting around fs) code 0 vals.here os.here attrs) is ∙ leads ∙ sym (mean-behind (setting around fs) tail n vals.here onew.here attrs) ∙ ap (λ (xs : List Instr). mean (setting around fs) xs 0 vals.here onew.here attrs) (sym to))
-  ∙ same-under around vals vals os onew w (mean (setting around fs) code 0 vals.here onew.here attrs) refl q,
+      ∙ same-under around vals vals os onew w (mean (setting around fs) code 0 vals.here onew.here attrs) refl q,
   omega (arith, ap (λ (code : List Instr). cost (costs fs) code 0) is, ap (λ (code : List Instr). cost (costs fs) code 0) to, works.cost-behind (costs fs) tail n, le),
 )
 
-pub jump-fails : (failure : ListFailure) (around : Around) (fs : List Routine) (rest tail : List Instr) (i : Instr) (vals os : Held) (w : Waiting) (attrs : Attrs) (after : Verdict) (l n : ℕ) → rest ≡ i ∷ tail → Fails failure attrs (one (setting around fs) i (mean (setting around fs) tail) vals.here os.here attrs) → Steps (Err failure) (said around fs rest vals os w attrs) after l n
-jump-fails failure around fs rest tail i vals os w attrs after l n is fail =
-    rw is (fails_at failure around vals os w (one (setting around fs) i (mean (setting around fs) tail) vals.here os.here attrs) attrs after l n fail)
+pub jump-fails : (failure : ListFailure) (around : Around) (fs : List Routine) (rest tail : List Instr) (i : Instr) (vals os : Held) (w : Waiting) (attrs : Attrs) (after : Verdict) (now : Attrs) (l n : ℕ) → rest ≡ i ∷ tail → Fails failure attrs (one (setting around fs) i (mean (setting around fs) tail) vals.here os.here attrs) → Steps (Err failure) (said around fs rest vals os w attrs) after now l n
+jump-fails failure around fs rest tail i vals os w attrs after now l n is fail =
+    rw is (fails_at failure around vals os w (one (setting around fs) i (mean (setting around fs) tail) vals.here os.here attrs) attrs after now l n fail)
+
+-- ---- ends
+
+pub accepts : (around : Around) (fs : List Routine) (rest tail : List Instr) (i : Instr) (vals os : Held) (w : Waiting) (attrs : Attrs) → rest ≡ i ∷ tail → i ≡ instrs.Accept → said around fs rest vals os w attrs ≡ verdicts.Accept attrs
+accepts around fs rest tail i vals os w attrs is what = rw (is, what) (ends_accepted around w.levels vals.under os.under w.lists attrs)
+
+pub rejects : (around : Around) (fs : List Routine) (rest tail : List Instr) (i : Instr) (vals os : Held) (w : Waiting) (attrs : Attrs) → rest ≡ i ∷ tail → i ≡ instrs.Reject → said around fs rest vals os w attrs ≡ verdicts.Reject None
+rejects around fs rest tail i vals os w attrs is what = rw (is, what) (ends_rejected around w.levels vals.under os.under w.lists attrs)
+
+pub stuck : (around : Around) (fs : List Routine) (rest tail : List Instr) (i : Instr) (vals os : Held) (w : Waiting) (attrs : Attrs) → rest ≡ i ∷ tail → i ≡ instrs.Stuck → said around fs rest vals os w attrs ≡ verdicts.Reject None
+stuck around fs rest tail i vals os w attrs is what = rw (is, what) (ends_stuck around w.levels vals.under os.under w.lists attrs)

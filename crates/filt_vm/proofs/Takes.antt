@@ -46,15 +46,17 @@ turned k xs = ap reverse (both k xs) ∙ reverse-append (take k xs) (drop k xs)
 
 tops : {A : Type 0} (n k : ℕ) (xs : List A) → n ≤ length xs → k ≡ length xs - n → (take n (reverse xs) ≡ reverse (drop k xs)) × (drop n (reverse xs) ≡ reverse (take k xs))
 tops n k xs le is =
-    let e : n ≡ length (reverse (drop k xs)) = omega (arith, length-reverse (drop k xs), behind k xs) in
-    (ap (take n) (turned k xs) ∙ ap (λ (m : ℕ). take m (reverse (drop k xs) ++ reverse (take k xs))) e ∙ take-front (reverse (drop k xs)) (reverse (take k xs)),
-    ap (drop n) (turned k xs) ∙ ap (λ (m : ℕ). drop m (reverse (drop k xs) ++ reverse (take k xs))) e ∙ drop-front (reverse (drop k xs)) (reverse (take k xs)))
+    let e : n ≡ length (reverse (drop k xs)) = omega (arith, length-reverse (drop k xs), behind k xs) in (
+      ap (take n) (turned k xs) ∙ ap (λ (m : ℕ). take m (reverse (drop k xs) ++ reverse (take k xs))) e ∙ take-front (reverse (drop k xs)) (reverse (take k xs)),
+      ap (drop n) (turned k xs) ∙ ap (λ (m : ℕ). drop m (reverse (drop k xs) ++ reverse (take k xs))) e ∙ drop-front (reverse (drop k xs)) (reverse (take k xs)),
+    )
 
 tops-past : {A : Type 0} (n k : ℕ) (xs : List A) → length xs ≤ n → k ≡ length xs - n → (take n (reverse xs) ≡ reverse (drop k xs)) × (drop n (reverse xs) ≡ reverse (take k xs))
 tops-past n k xs le is =
-    let z : k ≡ 0 = omega arith in
-    (all n (reverse xs) (omega (arith, length-reverse xs)) ∙ ap reverse (sym (zero-drop k xs z)),
-    none n (reverse xs) (omega (arith, length-reverse xs)) ∙ ap reverse (sym (zero-take k xs z)))
+    let z : k ≡ 0 = omega arith in (
+      all n (reverse xs) (omega (arith, length-reverse xs)) ∙ ap reverse (sym (zero-drop k xs z)),
+      none n (reverse xs) (omega (arith, length-reverse xs)) ∙ ap reverse (sym (zero-take k xs z)),
+    )
 
 either : (m n : ℕ) → (m ≤ n) ⊎ (n ≤ m)
 either zero n = inl (omega arith)

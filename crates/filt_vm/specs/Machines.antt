@@ -22,6 +22,8 @@ use Rattle.filt_vm.specs.declared.level.Level.TheVariants as levels
 use Rattle.filt_vm.specs.declared.level.Call.{Call}
 use Rattle.filt_vm.specs.declared.level.Turn.{Turn}
 use Rattle.filt_vm.specs.declared.machine.Machine.{Machine}
+use Rattle.filt_vm.specs.declared.step.Step.{Step}
+use Rattle.filt_vm.specs.declared.step.Step.TheVariants as steps
 use Rattle.filt_vm.specs.Levels.{Waiting, behind_first, top_elements}
 use Rattle.filt_vm.specs.Seen.{Fails, Held, around_in, first_of, rest_of}
 
@@ -88,12 +90,14 @@ abbrev pub fails : Failure → Verdict
 fails (failures.Fault fault) = verdicts.Reject (Some fault)
 fails failures.Stuck = verdicts.Reject None
 
--- A step of the machine: what is said in the end stays, and less is left; or this is said.
-abbrev pub Steps : Result (Option Verdict) ListFailure → (before after : Verdict) → (left now : ℕ) → Type 0
-Steps (Ok None) before after left now = (before ≡ after) × (now < left)
-Steps (Ok (Some verdict)) before after left now = before ≡ verdict
-Steps (Err (list_failures.Failed failure)) before after left now = before ≡ fails failure
-Steps (Err list_failures.Memory) before after left now = ⊤
+-- A step of the machine: what is said in the end stays, and less is left; or this is said, of the
+-- attributes as they then are.
+abbrev pub Steps : Result Step ListFailure → (before after : Verdict) → Attrs → (left now : ℕ) → Type 0
+Steps (Ok steps.On) before after attrs left now = (before ≡ after) × (now < left)
+Steps (Ok steps.Accepts) before after attrs left now = before ≡ verdicts.Accept attrs
+Steps (Ok (steps.Rejects fault)) before after attrs left now = before ≡ verdicts.Reject fault
+Steps (Err (list_failures.Failed failure)) before after attrs left now = before ≡ fails failure
+Steps (Err list_failures.Memory) before after attrs left now = ⊤
 
 -- The call tells where a jump leads, or why there is none.
 abbrev pub Leads : Result ℕ ListFailure → (ℕ → Flow Frame) → Attrs → Flow Frame → Type 0
@@ -118,13 +122,36 @@ abbrev pub work : Machine → ℕ
 work m = left m.functions.now m.rest.now m.levels
 
 -- a step
-abbrev pub Goes : Result (Option Verdict) ListFailure → Machine → Machine → Type 0
-Goes result before after = Steps result (says before) (says after) (work before) (work after)
+abbrev pub Goes : Result Step ListFailure → Machine → Machine → Type 0
+Goes result before after =
+    Steps result (says before) (says after) after.attrs (work before) (work after)
 
 -- a step of a machine behind these levels, where what runs comes to this
-abbrev pub Ends : Result (Option Verdict) ListFailure → List Level → Flow Frame → Machine → Machine → Type 0
+abbrev pub Ends : Result Step ListFailure → List Level → Flow Frame → Machine → Machine → Type 0
 Ends result all flow before after =
     Steps result
     (resumed (around_in before.around) all before.locals.under before.operands.under
     before.levels.lists flow)
-    (says after) (left_in all before.levels.lists) (work after)
+    (says after) after.attrs (left_in all before.levels.lists) (work after)
+
+-- the caller goes on
+abbrev pub back_in : Machine → Call → Machine
+back_in m c = record {
+  around = m.around;
+  functions = c.functions;
+  rest = c.rest;
+  locals = record { here = first_of m.locals.under; under = rest_of m.locals.under };
+  operands = record { here = first_of m.operands.under; under = rest_of m.operands.under };
+  levels = m.levels;
+  attrs = m.attrs;
+}
+
+-- the caller that waits, and those behind it; without one there are none
+abbrev pub waits : Option Call → List Level → List Level
+waits None all = []
+waits (Some c) all = levels.Returns c ∷ all
+
+-- a call, as an expression or a statement
+abbrev pub call_of : (puts : Bool) → (function count : ℕ) → Instr
+call_of true f n = instrs.Call f n
+call_of false f n = instrs.Perform f n

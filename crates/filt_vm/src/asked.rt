@@ -148,11 +148,7 @@ fn pair_test<'a>(
 
 /// Whether a test holds, where what the route holds is there.
 #[inline(always)]
-fn test_truth<'a>(
-    around: &Surroundings<'a>,
-    what: &TTest,
-    attrs: &Running<'a>,
-) -> Option<bool>
+fn test_truth<'a>(around: &Surroundings<'a>, what: &TTest, attrs: &Running<'a>) -> Option<bool>
     ensures { (vals : Frame) → IfSome result (λ b. trees.test (around_in around.now) what.now
         vals attrs.now
         ≡ Done (VBool b) attrs.now) }

@@ -60,11 +60,7 @@ pub(crate) fn effect<'a>(
     }
 }
 
-fn one<'a>(
-    alloc: Global,
-    operator: OfOne,
-    operands: &mut Operands<'a>,
-) -> Result<(), ListFailure>
+fn one<'a>(alloc: Global, operator: OfOne, operands: &mut Operands<'a>) -> Result<(), ListFailure>
     ensures done { (vals : Frame) (attrs : Attrs)
         → Yields (λ _. (vals, operands.new.here)) result attrs
         (with_one (λ v os attrs. put vals os (plainly (one_of operator v) attrs))

@@ -10,8 +10,12 @@ use filt_values::{Failure, Value};
 
 /// Whether the value has elements.
 pub(crate) fn is_list(value: &Value<'_>) -> Result<(), Failure>
-    ensures { Answers (λ _. elements_in (val_of value.now)) result (elements (val_of value.now)) }
+    ensures list { Answers (λ _. elements_in (val_of value.now)) result
+        (elements (val_of value.now)) }
+    ensures few { length (elements_in (val_of value.now)) ≤ 120 }
 {
+    // Asked for what the call ensures: the list is short.
+    let _few = count(value);
     match value {
         Value::Path(_) => Ok(()),
         Value::PathOf(_) => Ok(()),

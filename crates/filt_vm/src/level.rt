@@ -1,6 +1,6 @@
 //! What is done behind what runs.
 
-ghost use Rattle.std.specs.Prelude.{◌≡◌, ◌<◌, [], ◌∷◌, get_or, length, nat_lt, MatchOption, OnOk};
+ghost use Rattle.std.specs.Prelude.{◌≡◌, ◌<◌, [], ◌∷◌, get_or, length, nat_lt, IsTrue, MatchOption, OnOk};
 ghost use Rattle.filt_values.specs.Seen.{val_of};
 ghost use Rattle.filt_values.specs.Values.{VInt};
 ghost use Rattle.filt_vm.specs.Levels.{behind_first, top_elements};
@@ -83,8 +83,9 @@ impl<'a> Levels<'a> {
     /// This waits, too.
     pub(crate) fn push(&mut self, level: Level<'a>) -> Result<(), OutOfMemory>
         ensures { OnOk result (self.new ≡ record {
-            levels = level.entry ∷ self.old.levels;
-            lists = self.old.lists }) }
+          levels = level.entry ∷ self.old.levels;
+          lists = self.old.lists;
+        }) }
     {
         self.levels.push(level)?;
         Ok(())
@@ -93,8 +94,9 @@ impl<'a> Levels<'a> {
     /// A loop over this list begins.
     pub(crate) fn begin(&mut self, list: Value<'a>) -> Result<(), OutOfMemory>
         ensures { OnOk result (self.new ≡ record {
-            levels = self.old.levels;
-            lists = val_of list.entry ∷ self.old.lists }) }
+          levels = self.old.levels;
+          lists = val_of list.entry ∷ self.old.lists;
+        }) }
     {
         self.lists.push(list)?;
         Ok(())
@@ -103,8 +105,9 @@ impl<'a> Levels<'a> {
     /// The innermost loop is over.
     pub(crate) fn end(&mut self)
         ensures { self.new ≡ record {
-            levels = self.old.levels;
-            lists = behind_first self.old.lists } }
+          levels = self.old.levels;
+          lists = behind_first self.old.lists;
+        } }
     {
         let _over = self.lists.pop();
     }
@@ -120,7 +123,8 @@ impl<'a> Levels<'a> {
 
     /// Whether the list of the innermost loop has an element at that place.
     pub(crate) fn has(&self, n: usize) -> bool
-        ensures { result ≡ nat_lt n (length (top_elements self.now.lists)) }
+        ensures has { result ≡ nat_lt n (length (top_elements self.now.lists)) }
+        ensures few { IsTrue result → n < 120 }
     {
         match self.lists.last() {
             Some(list) => n < count(list),

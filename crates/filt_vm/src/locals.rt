@@ -42,8 +42,9 @@ impl<'a> Locals<'a> {
     /// One variable more.
     pub(crate) fn push(&mut self, value: Value<'a>) -> Result<(), OutOfMemory>
         ensures { OnOk result (self.new ≡ record {
-            here = self.old.here ++ val_of value.entry ∷ [];
-            under = self.old.under }) }
+          here = self.old.here ++ val_of value.entry ∷ [];
+          under = self.old.under;
+        }) }
     {
         self.here.push(value)?;
         Ok(())
@@ -82,8 +83,9 @@ impl<'a> Locals<'a> {
     /// The variables behind the first so many are gone.
     pub(crate) fn truncate(&mut self, depth: usize)
         ensures { self.new ≡ record {
-            here = take depth self.old.here;
-            under = self.old.under } }
+          here = take depth self.old.here;
+          under = self.old.under;
+        } }
     {
         self.here.truncate(depth);
     }
@@ -91,8 +93,9 @@ impl<'a> Locals<'a> {
     /// The variables of a function that is called are these.
     pub(crate) fn enter(&mut self, arguments: Vec<Value<'a>>) -> Result<(), OutOfMemory>
         ensures { OnOk result (self.new ≡ record {
-            here = vals_of arguments.entry;
-            under = self.old.here ∷ self.old.under }) }
+          here = vals_of arguments.entry;
+          under = self.old.here ∷ self.old.under;
+        }) }
     {
         let outer = std::mem::replace(&mut self.here, arguments);
         self.under.push(outer)?;
@@ -102,8 +105,9 @@ impl<'a> Locals<'a> {
     /// Those of the last caller again.
     pub(crate) fn leave(&mut self, alloc: Global)
         ensures { self.new ≡ record {
-            here = first_of self.old.under;
-            under = rest_of self.old.under } }
+          here = first_of self.old.under;
+          under = rest_of self.old.under;
+        } }
     {
         match self.under.pop() {
             Some(outer) => self.here = outer,

@@ -37,8 +37,9 @@ impl<'a> Operands<'a> {
 
     pub(crate) fn push(&mut self, value: Value<'a>) -> Result<(), OutOfMemory>
         ensures { OnOk result (self.new ≡ record {
-            here = val_of value.entry ∷ self.old.here;
-            under = self.old.under }) }
+          here = val_of value.entry ∷ self.old.here;
+          under = self.old.under;
+        }) }
     {
         self.here.push(value)?;
         Ok(())
@@ -59,8 +60,9 @@ impl<'a> Operands<'a> {
         ensures taken { IfOk result (λ values. vals_of values
             ≡ reverse (take count self.old.here)) }
         ensures left { OnOk result (self.new ≡ record {
-            here = drop count self.old.here;
-            under = self.old.under }) }
+          here = drop count self.old.here;
+          under = self.old.under;
+        }) }
     {
         let at = self.here.len().saturating_sub(count);
         let taken = self.here.split_off(at)?;
@@ -70,8 +72,9 @@ impl<'a> Operands<'a> {
     /// There are none from now on, and these wait.
     pub(crate) fn enter(&mut self, alloc: Global) -> Result<(), OutOfMemory>
         ensures { OnOk result (self.new ≡ record {
-            here = [];
-            under = self.old.here ∷ self.old.under }) }
+          here = [];
+          under = self.old.here ∷ self.old.under;
+        }) }
     {
         let outer = std::mem::replace(&mut self.here, Vec::new(alloc));
         self.under.push(outer)?;
@@ -88,8 +91,9 @@ impl<'a> Operands<'a> {
     /// Those again that waited last.
     pub(crate) fn leave(&mut self, alloc: Global)
         ensures { self.new ≡ record {
-            here = first_of self.old.under;
-            under = rest_of self.old.under } }
+          here = first_of self.old.under;
+          under = rest_of self.old.under;
+        } }
     {
         match self.under.pop() {
             Some(outer) => self.here = outer,

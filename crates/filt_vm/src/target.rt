@@ -69,11 +69,7 @@ fn if_top(is: bool, n: usize, operands: &mut Operands<'_>) -> Result<usize, List
     Ok(jump_where(is, n, truth))
 }
 
-fn if_decided(
-    joint: LogicalOp,
-    n: usize,
-    operands: &mut Operands<'_>,
-) -> Result<usize, ListFailure>
+fn if_decided(joint: LogicalOp, n: usize, operands: &mut Operands<'_>) -> Result<usize, ListFailure>
     ensures leads { (rest : ℕ → At) (vals : Frame) (attrs : Attrs)
         → Leads result (λ n. rest n vals operands.new.here attrs) attrs
         (with_one (λ v os attrs. and_then (plainly (bool_in v) attrs)
@@ -101,10 +97,7 @@ fn decides(joint: LogicalOp, left: bool) -> bool
     }
 }
 
-fn among<'a>(
-    arms: &'a [TArm<TStmt>],
-    operands: &mut Operands<'a>,
-) -> Result<usize, ListFailure>
+fn among<'a>(arms: &'a [TArm<TStmt>], operands: &mut Operands<'a>) -> Result<usize, ListFailure>
     ensures leads { (rest : ℕ → At) (vals : Frame) (attrs : Attrs)
         → Leads result (λ n. rest n vals operands.new.here attrs) attrs
         (with_one (λ v os attrs. and_then (plainly (arms_before (labels_of arms.now) v) attrs)

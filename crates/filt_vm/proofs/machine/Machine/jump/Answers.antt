@@ -10,7 +10,7 @@ returns-in_err-passed c =
     let p = err_from_is_err_and c.from_residual.result c.from_residual.ensures.1 in
     let around = around_in c.args.self.now.around in
     let fs = c.args.self.now.functions.now in
-    rw (p.1, p.2) (steps.jump-fails c.in_err-passed.field-0.0 around fs c.args.self.now.rest.now c.args.tail.now c.args.i c.args.self.now.locals c.args.self.now.operands c.args.self.now.levels c.args.self.now.attrs _ _ _ c.requires.code (c.in_err-passed.ensures.leads (setting around fs) (mean (setting around fs) c.args.tail.now) c.args.self.now.locals.here (steps.around_is around fs)))
+    rw (p.1, p.2) (steps.jump-fails c.in_err-passed.field-0.0 around fs c.args.self.now.rest.now c.args.tail.now c.args.i c.args.self.now.locals c.args.self.now.operands c.args.self.now.levels c.args.self.now.attrs _ _ _ _ c.requires.code (c.in_err-passed.ensures.leads (setting around fs) (mean (setting around fs) c.args.tail.now) c.args.self.now.locals.here (steps.around_is around fs)))
 
 pub returns : goal.returns
 returns c =
