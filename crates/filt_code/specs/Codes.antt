@@ -3,7 +3,7 @@
 -- leads to. The variables are the frame of the meaning of filters, whose forms stand here too; the
 -- operands lie apart, the one on top first.
 -- Nothing is to be believed of it: what compiled filters say is tied to the meaning of their sources.
-use Rattle.std.specs.Prelude.{ℕ, suc, zero, Bool, true, false, not, List, [], ◌∷◌, ◌++◌, length, map, take, drop, reverse, Option, Some, None, Result, Ok, Err, slice_get}
+use Rattle.std.specs.Prelude.{ℕ, suc, zero, Bool, true, false, not, List, [], ◌∷◌, ◌++◌, length, map, take, drop, reverse, Option, Some, None, Result, Ok, slice_get}
 use Rattle.attrs.specs.declared.attributes.Attrs.{Attrs}
 use Rattle.attrs.specs.declared.judge.Verdict.{Verdict}
 use Rattle.conf_ast.specs.declared.filters.LogicalOp.{LogicalOp}
@@ -16,7 +16,7 @@ use Rattle.filt_values.specs.Seen.{val_of_fixed}
 use Rattle.filt_values.specs.Values.{Val, VBool, VPrefixSet, default_of}
 use Rattle.filt_meaning.specs.Attributes.{with_attribute}
 use Rattle.filt_meaning.specs.Configuration.{given_by, verdict_of}
-use Rattle.filt_meaning.specs.Flow.{Why, AtEnd, Returned, Accepted, Rejected, Stuck, Flow, Done, Stopped, Frame, Run, and_then, plainly}
+use Rattle.filt_meaning.specs.Flow.{AtEnd, Returned, Accepted, Rejected, Stuck, Flow, Done, Stopped, Frame, Run, and_then, plainly}
 use Rattle.filt_meaning.specs.Meaning.{given, on_two, variable_or, attribute, defined, factor_of, term_of, compare_of, property_of, method_of, set_variable, set_attributes, unset, elements, turns}
 use Rattle.filt_meaning.specs.Names.{Around, Doing, there}
 use Rattle.filt_tree.specs.declared.tree.Labels.{Labels}

@@ -16,7 +16,6 @@ use Rattle.filt_tree.specs.declared.tree.TTest.TheVariants as tests
 use Rattle.filt_values.specs.declared.fixed.Fixed.{Fixed}
 use Rattle.filt_values.specs.declared.value.Sort.TheVariants as sorts
 use Rattle.filt_code.specs.Codes.{Setting, mean}
-use Rattle.filt_code.specs.declared.instr.Effect.{Effect}
 use Rattle.filt_code.specs.declared.instr.Effect.TheVariants as effects
 use Rattle.filt_code.specs.declared.instr.Instr.{Instr}
 use Rattle.filt_code.specs.declared.instr.Instr.TheVariants as instrs

@@ -1,5 +1,5 @@
 -- Lists of values.
-use Rattle.std.proofs.Common.{◌≡◌, ℕ, Bool, true, cond, ◌<◌, List, length, map, take, ap, sym, ◌∙◌, refl, arith}
+use Rattle.std.proofs.Common.{◌≡◌, ℕ, Bool, true, cond, ◌<◌, List, length, map, take, ap, sym, ◌∙◌, arith}
 use Rattle.std.proofs.lemmas.List.{take-map, map-set, length-map}
 use Rattle.std.proofs.lemmas.Bool.{lt-ltb}
 use Rattle.std.proofs.Math.Dec.{ltb}

@@ -1,7 +1,5 @@
 -- The steps of the machine.
-use Rattle.std.proofs.Common.{◌≡◌, ℕ, suc, zero, ◌+◌, ◌-◌, ◌*◌, ◌<◌, ◌≤◌, Bool, true, false, List, [], ◌∷◌, ◌++◌, length, take, drop, get_or, reverse, Option, Some, None, Result, Ok, Err, IfOk, refl, sym, ap, ◌∙◌, arith, length-append}
-use Rattle.std.specs.Prelude.{slice_get}
-use Rattle.std.proofs.lemmas.Option.{slice_get_past}
+use Rattle.std.proofs.Common.{◌≡◌, ℕ, suc, zero, ◌<◌, ◌≤◌, List, [], ◌∷◌, drop, Some, None, Err, refl, sym, ap, ◌∙◌, arith}
 use Rattle.attrs.specs.declared.attributes.Attrs.{Attrs}
 use Rattle.attrs.specs.declared.judge.FilterFault.{FilterFault}
 use Rattle.attrs.specs.declared.judge.Verdict.{Verdict}
@@ -10,23 +8,20 @@ use Rattle.filt_values.specs.declared.value.Failure.{Failure}
 use Rattle.filt_values.specs.declared.value.Failure.TheVariants as failures
 use Rattle.filt_values.specs.declared.value.ListFailure.{ListFailure}
 use Rattle.filt_values.specs.declared.value.ListFailure.TheVariants as list_failures
-use Rattle.filt_values.specs.declared.value.Value.{Value}
-use Rattle.filt_values.specs.Seen.{val_of}
 use Rattle.filt_values.specs.Values.{Val}
-use Rattle.filt_meaning.specs.Configuration.{verdict_of}
-use Rattle.filt_meaning.specs.Flow.{Flow, Done, Stopped, Frame, Faulted, Stuck, Accepted, Rejected, and_then, plainly, why_of}
-use Rattle.filt_meaning.specs.Names.{Around, Doing}
+use Rattle.filt_meaning.specs.Flow.{Flow, Done, Stopped, Frame, Faulted, Stuck, Accepted, Rejected, and_then, why_of}
+use Rattle.filt_meaning.specs.Names.{Around}
 use Rattle.filt_code.specs.declared.code.Routine.{Routine}
 use Rattle.filt_code.specs.declared.instr.Effect.{Effect}
 use Rattle.filt_code.specs.declared.instr.Instr.{Instr}
 use Rattle.filt_code.specs.declared.instr.Instr.TheVariants as instrs
-use Rattle.filt_code.specs.Codes.{Setting, At, doing, effect, mean, one, setting, with_routine, with_routines}
+use Rattle.filt_code.specs.Codes.{Setting, doing, effect, mean, one, setting, with_routine, with_routines}
 use Rattle.filt_code.specs.Costs.{beside, cost, costs}
 use Rattle.filt_vm.specs.declared.level.Level.{Level}
 use Rattle.filt_vm.specs.declared.level.Level.TheVariants as levels
 use Rattle.filt_vm.specs.Levels.{Waiting, behind_first}
-use Rattle.filt_vm.specs.Machines.{Steps, ended, fails, left, left_in, resumed, said}
-use Rattle.filt_vm.specs.Seen.{Fails, Held, first_of, rest_of}
+use Rattle.filt_vm.specs.Machines.{Steps, ended, fails, left, resumed, said}
+use Rattle.filt_vm.specs.Seen.{Fails, Held, rest_of}
 use Rattle.filt_vm.proofs.Works as works
 
 -- ---- lists of code

@@ -1,5 +1,5 @@
 -- Tests of what a route holds.
-use Rattle.std.proofs.Common.{◌≡◌, Bool, Result, Ok, Err, refl, ◌∙◌, ap}
+use Rattle.std.proofs.Common.{◌≡◌, Bool, Result, Ok, Err, refl}
 use Rattle.attrs.specs.declared.attributes.Attrs.{Attrs}
 use Rattle.filt_values.specs.declared.value.Failure.{Failure}
 use Rattle.filt_values.specs.declared.value.ListFailure.{ListFailure}
@@ -9,7 +9,7 @@ use Rattle.filt_values.specs.Operators.{bool_in, matches_of}
 use Rattle.filt_values.specs.Seen.{Builds}
 use Rattle.filt_values.specs.Values.{Val, VInt, VPair}
 use Rattle.filt_meaning.specs.Attributes.{attribute_of}
-use Rattle.filt_meaning.specs.Flow.{Flow, Frame, and_then, plainly}
+use Rattle.filt_meaning.specs.Flow.{Frame, and_then, plainly}
 use Rattle.filt_meaning.specs.Meaning.{compare_of, property_of}
 use Rattle.filt_meaning.specs.Names.{Around}
 use Rattle.filt_tree.specs.declared.tree.TTest.{TTest}

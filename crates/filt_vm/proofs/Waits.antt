@@ -1,5 +1,5 @@
 -- What waits for what runs.
-use Rattle.std.proofs.Common.{◌≡◌, ℕ, suc, zero, ◌+◌, ◌-◌, ◌*◌, ◌<◌, ◌≤◌, Bool, true, false, List, [], ◌∷◌, ◌++◌, length, take, drop, get_or, reverse, Option, Some, None, Result, Ok, Err, refl, sym, ap, ◌∙◌, arith, length-append}
+use Rattle.std.proofs.Common.{◌≡◌, ℕ, suc, zero, ◌+◌, ◌-◌, ◌<◌, ◌≤◌, Bool, true, false, List, [], ◌∷◌, ◌++◌, length, take, drop, get_or, reverse, Option, Some, None, Result, Ok, Err, refl, sym, ap, ◌∙◌, arith, length-append}
 use Rattle.std.specs.Prelude.{slice_get, is_some}
 use Rattle.std.proofs.lemmas.Option.{slice_get_past, slice_get-get_or}
 use Rattle.attrs.specs.declared.attributes.Attrs.{Attrs}
@@ -13,13 +13,13 @@ use Rattle.filt_values.specs.declared.value.ListFailure.TheVariants as list_fail
 use Rattle.filt_values.specs.declared.value.Sort.{Sort}
 use Rattle.filt_values.specs.Values.{Val, VInt}
 use Rattle.filt_meaning.specs.Configuration.{at_end, given_by, verdict_of}
-use Rattle.filt_meaning.specs.Flow.{Flow, Done, Stopped, Frame, AtEnd, Returned, Stuck, Why, and_then, plainly}
+use Rattle.filt_meaning.specs.Flow.{Flow, Done, Stopped, Frame, Stuck, Why, and_then, plainly}
 use Rattle.filt_meaning.specs.Meaning.{elements, turns}
-use Rattle.filt_meaning.specs.Names.{Around, Doing, there}
+use Rattle.filt_meaning.specs.Names.{Around, Doing}
 use Rattle.filt_code.specs.declared.code.Routine.{Routine}
 use Rattle.filt_code.specs.declared.instr.Instr.{Instr}
 use Rattle.filt_code.specs.declared.instr.Instr.TheVariants as instrs
-use Rattle.filt_code.specs.Codes.{Setting, called, doing, mean, setting, with_routine, with_routines}
+use Rattle.filt_code.specs.Codes.{Setting, doing, mean, setting, with_routine, with_routines}
 use Rattle.filt_code.specs.Costs.{cost, costs}
 use Rattle.filt_vm.specs.declared.level.Call.{Call}
 use Rattle.filt_vm.specs.declared.level.Level.{Level}

@@ -1,5 +1,5 @@
 -- For private contracts alone: what a machine says in the end, and how much it has left to do.
-use Rattle.std.specs.Prelude.{◌≡◌, ℕ, suc, zero, ◌+◌, ◌-◌, ◌<◌, ◌≤◌, Bool, true, false, List, [], ◌∷◌, drop, length, take, Option, Some, None, Result, Ok, Err, ⊤}
+use Rattle.std.specs.Prelude.{◌≡◌, ℕ, suc, zero, ◌+◌, ◌-◌, ◌<◌, Bool, true, false, List, [], ◌∷◌, drop, length, take, Option, Some, None, Result, Ok, Err, ⊤}
 use Rattle.attrs.specs.declared.attributes.Attrs.{Attrs}
 use Rattle.attrs.specs.declared.judge.Verdict.{Verdict}
 use Rattle.attrs.specs.declared.judge.Verdict.TheVariants as verdicts

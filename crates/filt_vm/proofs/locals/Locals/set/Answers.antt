@@ -1,4 +1,4 @@
-use Rattle.std.proofs.Common.{refl, arith, ◌<◌, length}
+use Rattle.std.proofs.Common.{refl, arith}
 use Rattle.filt_vm.proofs.Lists as lists
 use Rattle.filt_vm.proofs.locals.Locals.set.Goals as goal
 

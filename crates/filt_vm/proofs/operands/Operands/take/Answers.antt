@@ -1,4 +1,4 @@
-use Rattle.std.proofs.Common.{List, ap, arith, ◌≡◌, ◌-◌, length, reverse, take, drop}
+use Rattle.std.proofs.Common.{List, ap, arith}
 use Rattle.filt_values.specs.Values.{Val}
 use Rattle.filt_vm.specs.Seen.{tops_of, Held}
 use Rattle.filt_vm.proofs.Takes as takes
