@@ -1,7 +1,5 @@
-pub mod Arms
-pub mod Lists
-pub mod Steps
-pub mod Takes
-pub mod Tests
-pub mod Waits
-pub mod Works
+mod Lists
+mod Steps
+mod Takes
+mod Waits
+mod Works

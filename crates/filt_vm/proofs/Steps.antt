@@ -21,7 +21,8 @@ use Rattle.filt_vm.specs.declared.level.Level.{Level}
 use Rattle.filt_vm.specs.declared.level.Level.TheVariants as levels
 use Rattle.filt_vm.specs.Levels.{Waiting, behind_first}
 use Rattle.filt_vm.specs.Machines.{Steps, ended, fails, left, resumed, said}
-use Rattle.filt_vm.specs.Seen.{Fails, Held, rest_of}
+use Rattle.filt_route.specs.Seen.{Fails}
+use Rattle.filt_vm.specs.Seen.{Held, rest_of}
 use Rattle.filt_vm.proofs.Works as works
 
 -- ---- lists of code

@@ -29,7 +29,8 @@ use Rattle.filt_vm.specs.declared.step.Step.{Step}
 use Rattle.filt_vm.specs.declared.step.Step.TheVariants as steps
 use Rattle.filt_vm.specs.Levels.{Waiting, behind_first, top_elements}
 use Rattle.filt_vm.specs.Machines.{Steps, call_of, ended, fails, handed, waits, left, left_in, resumed, returned, said, turned, turns_left}
-use Rattle.filt_vm.specs.Seen.{Held, elements_in, first_of, rest_of}
+use Rattle.filt_route.specs.Seen.{elements_in}
+use Rattle.filt_vm.specs.Seen.{Held, first_of, rest_of}
 use Rattle.filt_vm.proofs.Steps as s
 use Rattle.filt_vm.proofs.Works as works
 

@@ -3,7 +3,7 @@ use Rattle.std.specs.Prelude.{List, [], ◌∷◌}
 use Rattle.filt_values.specs.Values.{Val}
 use Rattle.filt_meaning.specs.Flow.{Frame}
 use Rattle.filt_vm.specs.declared.level.Level.{Level}
-use Rattle.filt_vm.specs.Seen.{elements_in}
+use Rattle.filt_route.specs.Seen.{elements_in}
 
 -- what waits, and the lists of the loops, the innermost first
 pub record Waiting : Type 0 where

@@ -1,4 +1,3 @@
 pub mod Levels
-pub mod Lists
 pub mod Machines
 pub mod Seen

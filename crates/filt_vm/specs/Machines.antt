@@ -25,7 +25,8 @@ use Rattle.filt_vm.specs.declared.machine.Machine.{Machine}
 use Rattle.filt_vm.specs.declared.step.Step.{Step}
 use Rattle.filt_vm.specs.declared.step.Step.TheVariants as steps
 use Rattle.filt_vm.specs.Levels.{Waiting, behind_first, top_elements}
-use Rattle.filt_vm.specs.Seen.{Fails, Held, around_in, first_of, rest_of}
+use Rattle.filt_route.specs.Seen.{Fails, around_in}
+use Rattle.filt_vm.specs.Seen.{Held, first_of, rest_of}
 
 -- a caller goes on with what a function gave, which it puts, or doesn't
 abbrev pub handed : Bool → (List Val → Attrs → Flow Frame) → List Val → Option Val → Attrs → Flow Frame

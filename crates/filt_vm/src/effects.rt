@@ -6,15 +6,13 @@ ghost use Rattle.filt_code.specs.Codes.{effect, one_of, over, put, two_of, with_
 ghost use Rattle.filt_meaning.specs.Attributes.{with_attribute};
 ghost use Rattle.filt_meaning.specs.Flow.{Done, Frame, plainly};
 ghost use Rattle.filt_meaning.specs.Meaning.{set_attributes, set_variable};
-ghost use Rattle.filt_vm.specs.Seen.{around_in, Yields};
+ghost use Rattle.filt_route.specs.Seen.{around_in, Yields};
 
 use crate::locals::Locals;
 use crate::operands::Operands;
-use crate::operators::{apply_one, apply_two};
-use crate::running::Running;
-use crate::surroundings::Surroundings;
 use conf_ast::filters::Attribute;
 use filt_code::{Effect, OfOne, OfTwo};
+use filt_route::{Running, Surroundings, apply_one, apply_two};
 use filt_values::{ListFailure, Value};
 use std::alloc::Global;
 

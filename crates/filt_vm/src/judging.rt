@@ -10,12 +10,11 @@ use crate::level::Levels;
 use crate::locals::Locals;
 use crate::machine::{Machine, first};
 use crate::operands::Operands;
-use crate::running::Running;
 use crate::step::Step;
-use crate::surroundings::Surroundings;
 use attrs::{FilterFault, Names, Route, Verdict};
 use bits_ip::{OutOfMemory, Prefix};
 use filt_code::{Draft, Routine};
+use filt_route::{Running, Surroundings};
 use filt_values::{Defaults, Failure, ListFailure};
 use std::alloc::Global;
 

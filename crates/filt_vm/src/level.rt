@@ -5,9 +5,9 @@ ghost use Rattle.filt_values.specs.Seen.{val_of};
 ghost use Rattle.filt_values.specs.Values.{VInt};
 ghost use Rattle.filt_vm.specs.Levels.{behind_first, top_elements};
 
-use crate::elements::{count, element};
 use bits_ip::OutOfMemory;
 use filt_code::{Instr, Routine};
+use filt_route::{count, element};
 use filt_values::{Sort, Value};
 use std::alloc::Global;
 use std::marker::Model;

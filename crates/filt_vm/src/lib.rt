@@ -7,20 +7,13 @@
 //! the filter changes them, and sets and constants stay where they are.
 #![tactic(auto)]
 
-mod asked;
 mod effects;
-mod elements;
 mod judging;
-mod labels;
 mod level;
 mod locals;
 mod machine;
 mod operands;
-mod operators;
-mod parts;
-mod running;
 mod step;
-mod surroundings;
 mod target;
 
 pub use judging::run;

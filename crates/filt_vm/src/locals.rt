@@ -6,7 +6,8 @@ ghost use Rattle.filt_values.specs.Seen.{val_of, Builds};
 ghost use Rattle.filt_meaning.specs.Flow.{Done};
 ghost use Rattle.filt_meaning.specs.Meaning.{set_variable};
 ghost use Rattle.filt_meaning.specs.Names.{there};
-ghost use Rattle.filt_vm.specs.Seen.{first_of, rest_of, vals_of, Yields};
+ghost use Rattle.filt_route.specs.Seen.{Yields};
+ghost use Rattle.filt_vm.specs.Seen.{first_of, rest_of, vals_of};
 
 use bits_ip::OutOfMemory;
 use filt_values::{Failure, ListFailure, Value, copy};

@@ -12,16 +12,14 @@ ghost use Rattle.filt_vm.specs.declared.level.Level.TheVariants as levels;
 ghost use Rattle.filt_vm.specs.Machines.{back_in, call_of, left_in, resumed, waits, Ends, Goes, IsJump};
 
 use crate::effects::effect;
-use crate::elements::is_list;
 use crate::level::{Call, Level, Levels, Turn};
 use crate::locals::Locals;
 use crate::operands::Operands;
-use crate::running::Running;
 use crate::step::Step;
-use crate::surroundings::Surroundings;
 use crate::target::target;
 use attrs::FilterFault;
 use filt_code::{Effect, Instr, Routine};
+use filt_route::{Running, Surroundings, is_list};
 use filt_values::{Failure, ListFailure, Value};
 use std::alloc::Global;
 

@@ -7,16 +7,12 @@ ghost use Rattle.filt_code.specs.Costs.{beside};
 ghost use Rattle.filt_meaning.specs.Flow.{Frame, and_then, plainly};
 ghost use Rattle.filt_values.specs.Operators.{bool_in};
 ghost use Rattle.filt_vm.specs.Machines.{IsJump, Leads};
-ghost use Rattle.filt_vm.specs.Seen.{around_in};
+ghost use Rattle.filt_route.specs.Seen.{around_in};
 
-use crate::asked::asked;
-use crate::labels::arms_before;
 use crate::operands::Operands;
-use crate::parts::bool;
-use crate::running::Running;
-use crate::surroundings::Surroundings;
 use conf_ast::filters::LogicalOp;
 use filt_code::Instr;
+use filt_route::{Running, Surroundings, arms_before, asked, bool};
 use filt_tree::{TArm, TStmt};
 use filt_values::{ListFailure, Value};
 

@@ -1,5 +1,5 @@
 use Rattle.std.proofs.lemmas.Result.{err_from_is_err_and}
-use Rattle.filt_vm.specs.Seen.{around_in}
+use Rattle.filt_route.specs.Seen.{around_in}
 use Rattle.filt_vm.proofs.Steps as steps
 use Rattle.filt_vm.proofs.machine.Machine.act.Goals as goal
 

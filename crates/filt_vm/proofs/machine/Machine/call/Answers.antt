@@ -1,5 +1,6 @@
 use Rattle.std.proofs.Common.{refl}
-use Rattle.filt_vm.specs.Seen.{around_in, vals_of}
+use Rattle.filt_route.specs.Seen.{around_in}
+use Rattle.filt_vm.specs.Seen.{vals_of}
 use Rattle.filt_vm.specs.declared.level.Call.{Call}
 use Rattle.filt_vm.proofs.Waits as w
 use Rattle.filt_vm.proofs.machine.Machine.call.Goals as goal

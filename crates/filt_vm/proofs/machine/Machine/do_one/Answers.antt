@@ -1,4 +1,4 @@
-use Rattle.filt_vm.specs.Seen.{around_in}
+use Rattle.filt_route.specs.Seen.{around_in}
 use Rattle.filt_vm.proofs.Steps as steps
 use Rattle.filt_vm.proofs.machine.Machine.do_one.Goals as goal
 

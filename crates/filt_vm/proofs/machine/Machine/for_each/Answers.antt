@@ -1,7 +1,7 @@
 use Rattle.std.proofs.Common.{refl, length}
 use Rattle.std.proofs.lemmas.Result.{err_from_is_err_and}
 use Rattle.filt_values.specs.Seen.{val_of}
-use Rattle.filt_vm.specs.Seen.{around_in}
+use Rattle.filt_route.specs.Seen.{around_in}
 use Rattle.filt_vm.specs.declared.level.Turn.{Turn}
 use Rattle.filt_vm.proofs.Waits as w
 use Rattle.filt_vm.proofs.machine.Machine.for_each.Goals as goal

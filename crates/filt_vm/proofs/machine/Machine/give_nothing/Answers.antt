@@ -1,7 +1,8 @@
 use Rattle.std.proofs.Common.{◌∙◌, sym}
 use Rattle.filt_code.specs.Codes.{mean, setting}
 use Rattle.filt_vm.specs.Machines.{handed}
-use Rattle.filt_vm.specs.Seen.{around_in, first_of, rest_of}
+use Rattle.filt_route.specs.Seen.{around_in}
+use Rattle.filt_vm.specs.Seen.{first_of, rest_of}
 use Rattle.filt_vm.proofs.Waits as w
 use Rattle.filt_vm.proofs.machine.Machine.give_nothing.Goals as goal
 

@@ -1,6 +1,6 @@
 use Rattle.std.proofs.Common.{refl}
 use Rattle.std.proofs.lemmas.Result.{err_from_is_err_and}
-use Rattle.filt_vm.specs.Seen.{around_in}
+use Rattle.filt_route.specs.Seen.{around_in}
 use Rattle.filt_vm.proofs.Waits as w
 use Rattle.filt_vm.proofs.machine.Machine.give_top.Goals as goal
 

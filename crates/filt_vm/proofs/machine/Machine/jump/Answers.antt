@@ -1,7 +1,7 @@
 use Rattle.std.proofs.lemmas.Result.{err_from_is_err_and}
 use Rattle.filt_code.specs.Codes.{mean, setting}
 use Rattle.filt_code.specs.Costs.{cost, costs}
-use Rattle.filt_vm.specs.Seen.{around_in}
+use Rattle.filt_route.specs.Seen.{around_in}
 use Rattle.filt_vm.proofs.Steps as steps
 use Rattle.filt_vm.proofs.machine.Machine.jump.Goals as goal
 

@@ -1,10 +1,10 @@
 -- For private contracts alone: the lists of a route while a filter runs, as the definitions see
 -- them.
 use Rattle.std.specs.Prelude.{ℕ, List}
-use Rattle.filt_vm.specs.declared.running.Numbers.{Numbers}
-use Rattle.filt_vm.specs.declared.running.Numbers.TheVariants as numbers
-use Rattle.filt_vm.specs.declared.running.Pairs.{Pairs}
-use Rattle.filt_vm.specs.declared.running.Pairs.TheVariants as pairs
+use Rattle.filt_route.specs.declared.running.Numbers.{Numbers}
+use Rattle.filt_route.specs.declared.running.Numbers.TheVariants as numbers
+use Rattle.filt_route.specs.declared.running.Pairs.{Pairs}
+use Rattle.filt_route.specs.declared.running.Pairs.TheVariants as pairs
 
 abbrev pub numbers_of : Numbers → List ℕ
 numbers_of (numbers.Lent path) = path.now

@@ -1,6 +1,6 @@
 use Rattle.filt_values.specs.Values.{VPrefix, VPrefixSet}
-use Rattle.filt_vm.proofs.Tests as tests
-use Rattle.filt_vm.proofs.asked.asked.Goals as goal
+use Rattle.filt_route.proofs.Tests as tests
+use Rattle.filt_route.proofs.questions.asked.Goals as goal
 
 pub returns-in-Test : goal.returns-in-Test
 returns-in-Test c = λ vals. rw (c.in-Test.is) (c.tested.ensures vals)

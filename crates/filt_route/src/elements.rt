@@ -4,12 +4,12 @@ ghost use Rattle.std.specs.Prelude.{◌≡◌, ◌<◌, ◌≤◌, get_or, lengt
 ghost use Rattle.filt_meaning.specs.Meaning.{elements};
 ghost use Rattle.filt_values.specs.Seen.{val_of, Answers};
 ghost use Rattle.filt_values.specs.Values.{VInt, VPair};
-ghost use Rattle.filt_vm.specs.Seen.{elements_in};
+ghost use Rattle.filt_route.specs.Seen.{elements_in};
 
 use filt_values::{Failure, Value};
 
 /// Whether the value has elements.
-pub(crate) fn is_list(value: &Value<'_>) -> Result<(), Failure>
+pub fn is_list(value: &Value<'_>) -> Result<(), Failure>
     ensures list { Answers (λ _. elements_in (val_of value.now)) result
         (elements (val_of value.now)) }
     ensures few { length (elements_in (val_of value.now)) ≤ 120 }
@@ -26,7 +26,7 @@ pub(crate) fn is_list(value: &Value<'_>) -> Result<(), Failure>
 }
 
 /// How many elements a value has; what is no list has none.
-pub(crate) fn count(value: &Value<'_>) -> usize
+pub fn count(value: &Value<'_>) -> usize
     ensures counted { result ≡ length (elements_in (val_of value.now)) }
     ensures few { result ≤ 120 }
 {
@@ -40,7 +40,7 @@ pub(crate) fn count(value: &Value<'_>) -> usize
 }
 
 /// An element of a list.
-pub(crate) fn element<'a>(list: &Value<'a>, n: usize) -> Value<'a>
+pub fn element<'a>(list: &Value<'a>, n: usize) -> Value<'a>
     requires { n < length (elements_in (val_of list.now)) }
     ensures { val_of result ≡ get_or (elements_in (val_of list.now)) n (VInt 0) }
 {

@@ -3,7 +3,7 @@
 ghost use Rattle.std.specs.Prelude.{◌≡◌, get_or, []};
 ghost use Rattle.filt_values.specs.Seen.{val_of};
 ghost use Rattle.filt_values.specs.Values.{default_of, VString};
-ghost use Rattle.filt_vm.specs.Seen.{around_in};
+ghost use Rattle.filt_route.specs.Seen.{around_in};
 
 use attrs::Names;
 use bits_ip::Prefix;
@@ -12,7 +12,7 @@ use std::alloc::Global;
 
 /// Where code is run.
 #[derive(Clone, Copy)]
-pub(crate) struct Surroundings<'a> {
+pub struct Surroundings<'a> {
     pub alloc: Global,
     pub names: &'a Names,
     pub net: &'a Prefix,
@@ -23,7 +23,7 @@ pub(crate) struct Surroundings<'a> {
 
 impl<'a> Surroundings<'a> {
     /// The name of the protocol that the route comes from.
-    pub(crate) fn protocol(&self) -> Value<'a>
+    pub fn protocol(&self) -> Value<'a>
         ensures { val_of result
             ≡ VString (get_or (around_in self.now).protocols (around_in self.now).number []) }
     {
@@ -32,7 +32,7 @@ impl<'a> Surroundings<'a> {
     }
 
     /// What a variable of a sort holds without a value. Takes no memory.
-    pub(crate) fn default(&self, sort: Sort) -> Value<'a>
+    pub fn default(&self, sort: Sort) -> Value<'a>
         ensures { val_of result ≡ default_of sort }
     {
         let defaults = self.defaults;

@@ -13,7 +13,7 @@ ghost use Rattle.filt_values.specs.Operators as operators;
 ghost use Rattle.filt_values.specs.Operators.{bool_in, matches_of};
 ghost use Rattle.filt_values.specs.Seen.{val_of, Builds};
 ghost use Rattle.filt_values.specs.Values.{VBool, VClist, VInt, VPair, VPath, VPrefix, VPrefixSet};
-ghost use Rattle.filt_vm.specs.Seen.{around_in, test_in, Yields};
+ghost use Rattle.filt_route.specs.Seen.{around_in, test_in, Yields};
 
 use crate::labels::is_element;
 use crate::operators::{apply_compare, apply_one};
@@ -29,7 +29,7 @@ use filt_tree::TTest;
 use filt_values::{ListFailure, Value};
 
 /// The answer.
-pub(crate) fn asked<'a>(
+pub fn asked<'a>(
     around: &Surroundings<'a>,
     what: Question<'a>,
     attrs: &Running<'a>,

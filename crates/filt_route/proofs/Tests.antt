@@ -15,7 +15,7 @@ use Rattle.filt_meaning.specs.Names.{Around}
 use Rattle.filt_tree.specs.declared.tree.TTest.{TTest}
 use Rattle.filt_tree.specs.declared.tree.TTest.TheVariants as tests
 use Rattle.filt_tree.specs.Trees as trees
-use Rattle.filt_vm.specs.Seen.{test_in, Yields}
+use Rattle.filt_route.specs.Seen.{test_in, Yields}
 
 one_by_one : {A B : Type 0} (r : Result A Failure) (g : A → Result B Failure) (attrs : Attrs) → and_then (plainly r attrs) (λ v attrs. plainly (g v) attrs) ≡ plainly (operators.and_then r g) attrs
 one_by_one (Ok a) g attrs = refl

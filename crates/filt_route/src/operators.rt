@@ -13,7 +13,7 @@ use filt_values::{
 };
 use std::alloc::Global;
 
-pub(crate) fn apply_one<'a>(
+pub fn apply_one<'a>(
     alloc: Global,
     operator: OfOne,
     value: &Value<'a>,
@@ -31,7 +31,7 @@ pub(crate) fn apply_one<'a>(
     }
 }
 
-pub(crate) fn apply_two<'a>(
+pub fn apply_two<'a>(
     operator: OfTwo,
     left: Value<'a>,
     right: &Value<'a>,

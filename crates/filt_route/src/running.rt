@@ -10,8 +10,8 @@ ghost use Rattle.filt_values.specs.Seen.{val_of, Answers, Builds};
 ghost use Rattle.filt_values.specs.Values.{VClist, VInt, VIp, VOrigin, VPath};
 ghost use Rattle.filt_meaning.specs.Names.{Around};
 ghost use Rattle.filt_meaning.specs.Attributes.{attribute_of, defined_as, is_defined, with_attribute, without_attribute};
-ghost use Rattle.filt_vm.specs.Lists.{numbers_of, pairs_of};
-ghost use Rattle.filt_vm.specs.Seen.{around_in};
+ghost use Rattle.filt_route.specs.Lists.{numbers_of, pairs_of};
+ghost use Rattle.filt_route.specs.Seen.{around_in};
 
 use crate::parts::{dest, int, ip, origin};
 use crate::surroundings::Surroundings;
@@ -38,7 +38,7 @@ pub(crate) enum Pairs<'a> {
 
 /// The attributes of a route as the filter has left them so far. Contracts see the `Attrs`.
 #[derive(Drop)]
-pub(crate) struct Running<'a> {
+pub struct Running<'a> {
     /// The route's own attributes, while none was changed.
     own: Option<&'a Shared<Attrs>>,
     pref: u32,
@@ -60,7 +60,7 @@ pub(crate) struct Running<'a> {
 impl<'a> Model for Running<'a> {
     ghost use Rattle.std.specs.Prelude.{◌≡◌, IfSome};
     ghost use Rattle.attrs.specs.declared.attributes.Attrs.{Attrs};
-    ghost use Rattle.filt_vm.specs.Lists.{numbers_of, pairs_of};
+    ghost use Rattle.filt_route.specs.Lists.{numbers_of, pairs_of};
 
     ghost Value = { Attrs };
 
@@ -101,7 +101,7 @@ impl<'a> Model for Running<'a> {
 
 impl<'a> Running<'a> {
     /// The attributes as they are before the filter. Takes no memory.
-    pub(crate) fn of(attrs: &'a Shared<Attrs>) -> Running<'a>
+    pub fn of(attrs: &'a Shared<Attrs>) -> Running<'a>
         ensures { result ≡ attrs.now }
     {
         Running {
@@ -124,7 +124,7 @@ impl<'a> Running<'a> {
     }
 
     /// The attributes as the filter leaves them: the route's own where it changed none.
-    pub(crate) fn finish(self, alloc: Global) -> Result<Shared<Attrs>, OutOfMemory>
+    pub fn finish(self, alloc: Global) -> Result<Shared<Attrs>, OutOfMemory>
         ensures { IfOk result (λ attrs. attrs ≡ self.entry) }
     {
         match self.own {
@@ -175,7 +175,7 @@ impl<'a> Running<'a> {
     }
 
     /// What an attribute holds. A list that the route lends is lent.
-    pub(crate) fn read(
+    pub fn read(
         &self,
         around: &Surroundings<'a>,
         attribute: Attribute,
@@ -236,7 +236,7 @@ impl<'a> Running<'a> {
     }
 
     /// Whether an attribute holds anything.
-    pub(crate) fn is_defined(&self, attribute: Attribute) -> bool
+    pub fn is_defined(&self, attribute: Attribute) -> bool
         ensures { result ≡ is_defined attribute self.now }
     {
         match attribute {
@@ -258,7 +258,7 @@ impl<'a> Running<'a> {
     }
 
     /// Makes an attribute hold a value. Takes no memory.
-    pub(crate) fn assign(&mut self, attribute: Attribute, value: Value<'a>) -> Result<(), Failure>
+    pub fn assign(&mut self, attribute: Attribute, value: Value<'a>) -> Result<(), Failure>
         ensures value { Answers (λ _. self.new) result
             (with_attribute attribute (val_of value.entry)
             self.old) }
@@ -408,7 +408,7 @@ impl<'a> Running<'a> {
     }
 
     /// Makes an attribute hold nothing, a list no elements. Takes no memory.
-    pub(crate) fn unset(&mut self, alloc: Global, attribute: Attribute) -> Result<(), Failure>
+    pub fn unset(&mut self, alloc: Global, attribute: Attribute) -> Result<(), Failure>
         ensures value { Answers (λ _. self.new) result (without_attribute attribute self.old) }
         ensures refused { OnErr result (self.new ≡ self.old) }
     {

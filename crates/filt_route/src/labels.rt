@@ -14,7 +14,7 @@ use filt_tree::{Labels, TArm, TStmt};
 use filt_values::{Failure, Value, matches};
 
 /// How many arms stand before the first one whose labels have the value, or how many there are.
-pub(crate) fn arms_before<'a>(arms: &'a [TArm<TStmt>], value: &Value<'a>) -> Result<usize, Failure>
+pub fn arms_before<'a>(arms: &'a [TArm<TStmt>], value: &Value<'a>) -> Result<usize, Failure>
     ensures before { Answers (λ n. n) result
         (arms_before (labels_of arms.now) (val_of value.now)) }
     ensures few { IfOk result (λ n. n ≤ length arms.now) }

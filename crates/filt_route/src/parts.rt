@@ -16,7 +16,7 @@ pub(crate) fn int(value: &Value<'_>) -> Result<u32, Failure>
     }
 }
 
-pub(crate) fn bool(value: &Value<'_>) -> Result<bool, Failure>
+pub fn bool(value: &Value<'_>) -> Result<bool, Failure>
     ensures { Answers (λ b. b) result (bool_in (val_of value.now)) }
 {
     match value {
