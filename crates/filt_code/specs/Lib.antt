@@ -1,0 +1,3 @@
+pub mod Codes
+pub mod Costs
+pub mod Worked

@@ -1,0 +1,291 @@
+//! Conditions that need no operands. Most of them are over what is there already, and are answered
+//! without a value; where an attribute isn't there, the operators answer.
+
+ghost use Rattle.std.specs.Prelude.{◌≡◌, Ok, IfSome};
+ghost use Rattle.attrs.specs.Clist.{has_pair, same_pair};
+ghost use Rattle.filt_code.specs.Codes.{question};
+ghost use Rattle.filt_meaning.specs.Attributes.{attribute_of};
+ghost use Rattle.filt_meaning.specs.Flow.{Done, Frame, and_then, plainly};
+ghost use Rattle.filt_meaning.specs.Meaning.{compare_of, property_of};
+ghost use Rattle.filt_meaning.specs.Names.{Around};
+ghost use Rattle.filt_tree.specs.Trees as trees;
+ghost use Rattle.filt_values.specs.Operators as operators;
+ghost use Rattle.filt_values.specs.Operators.{bool_in, matches_of};
+ghost use Rattle.filt_values.specs.Seen.{val_of, Builds};
+ghost use Rattle.filt_values.specs.Values.{VBool, VClist, VInt, VPair, VPath, VPrefix, VPrefixSet};
+ghost use Rattle.filt_route.specs.Seen.{around_in, test_in, Yields};
+
+use crate::labels::is_element;
+use crate::operators::{apply_compare, apply_one};
+use crate::parts::bool;
+use crate::running::Running;
+use crate::surroundings::Surroundings;
+use attrs::{Clist, Path};
+use bits_ip::Prefix;
+use conf_ast::filters::{Attribute, CompareOp, Property};
+use filt_code::{OfOne, Question};
+use filt_sets::PrefixSet;
+use filt_tree::TTest;
+use filt_values::{ListFailure, Value};
+
+/// The answer.
+pub fn asked<'a>(
+    around: &Surroundings<'a>,
+    what: Question<'a>,
+    attrs: &Running<'a>,
+) -> Result<bool, ListFailure>
+    ensures { (vals : Frame) → Yields (λ b. b) result attrs.now
+        (and_then (question (around_in around.now) what.entry vals attrs.now)
+        (λ v attrs. plainly (bool_in v) attrs)) }
+{
+    match what {
+        Question::Test(test) => tested(around, &test, attrs),
+        Question::NetIn(set) => net_in(set, around.net),
+        Question::Defined(a) => Ok(attrs.is_defined(a)),
+    }
+}
+
+fn net_in<'a>(set: &'a PrefixSet, net: &Prefix) -> Result<bool, ListFailure>
+    ensures { Builds (λ b. b) result
+        (operators.and_then (matches_of (VPrefix net.now) (VPrefixSet set.now)) bool_in) }
+{
+    Ok(is_element(&Value::Prefix(*net), &Value::PrefixSet(set))?)
+}
+
+#[inline(always)]
+fn tested<'a>(
+    around: &Surroundings<'a>,
+    what: &TTest,
+    attrs: &Running<'a>,
+) -> Result<bool, ListFailure>
+    ensures { (vals : Frame) → Yields (λ b. b) result attrs.now
+        (and_then (trees.test (around_in around.now) what.now vals attrs.now)
+        (λ v attrs. plainly (bool_in v) attrs)) }
+{
+    match test_truth(around, what, attrs) {
+        Some(holds) => Ok(holds),
+        None => tested_by_operators(around, *what, attrs),
+    }
+}
+
+#[inline(never)]
+fn tested_by_operators<'a>(
+    around: &Surroundings<'a>,
+    what: TTest,
+    attrs: &Running<'a>,
+) -> Result<bool, ListFailure>
+    ensures { Builds (λ b. b) result
+        (operators.and_then (test_in (around_in around.now) what attrs.now) bool_in) }
+{
+    let found = test(around, what, attrs)?;
+    Ok(bool(&found)?)
+}
+
+/// What a comparison of what the route holds comes to.
+fn test<'a>(
+    around: &Surroundings<'a>,
+    what: TTest,
+    attrs: &Running<'a>,
+) -> Result<Value<'a>, ListFailure>
+    ensures { Builds val_of result (test_in (around_in around.now) what attrs.now) }
+{
+    match what {
+        TTest::Attribute(a, op, number) => attribute_test(around, a, op, number, attrs),
+        TTest::Property(a, property, op, number) => {
+            property_test(around, a, property, op, number, attrs)
+        }
+        TTest::Pair(first, second, op, a) => pair_test(around, first, second, op, a, attrs),
+    }
+}
+
+fn attribute_test<'a>(
+    around: &Surroundings<'a>,
+    a: Attribute,
+    op: CompareOp,
+    number: u32,
+    attrs: &Running<'a>,
+) -> Result<Value<'a>, ListFailure>
+    ensures { Builds val_of result (operators.and_then
+        (attribute_of (around_in around.now) a attrs.now)
+        (λ v. compare_of op v (VInt number))) }
+{
+    let held = attrs.read(around, a)?;
+    Ok(apply_compare(op, &held, &Value::Int(number))?)
+}
+
+fn property_test<'a>(
+    around: &Surroundings<'a>,
+    a: Attribute,
+    property: Property,
+    op: CompareOp,
+    number: u32,
+    attrs: &Running<'a>,
+) -> Result<Value<'a>, ListFailure>
+    ensures { Builds val_of result (operators.and_then
+        (attribute_of (around_in around.now) a attrs.now)
+        (λ v. operators.and_then (property_of property v) (λ w. compare_of op w (VInt number)))) }
+{
+    let held = attrs.read(around, a)?;
+    let part = apply_one(around.alloc, OfOne::Property(property), &held)?;
+    Ok(apply_compare(op, &part, &Value::Int(number))?)
+}
+
+fn pair_test<'a>(
+    around: &Surroundings<'a>,
+    first: u16,
+    second: u16,
+    op: CompareOp,
+    a: Attribute,
+    attrs: &Running<'a>,
+) -> Result<Value<'a>, ListFailure>
+    ensures { Builds val_of result (operators.and_then
+        (attribute_of (around_in around.now) a attrs.now)
+        (λ v. compare_of op (VPair (first, second)) v)) }
+{
+    let held = attrs.read(around, a)?;
+    Ok(apply_compare(op, &Value::Pair(first, second), &held)?)
+}
+
+/// Whether a test holds, where what the route holds is there.
+#[inline(always)]
+fn test_truth<'a>(around: &Surroundings<'a>, what: &TTest, attrs: &Running<'a>) -> Option<bool>
+    ensures { (vals : Frame) → IfSome result (λ b. trees.test (around_in around.now) what.now
+        vals attrs.now
+        ≡ Done (VBool b) attrs.now) }
+{
+    match what {
+        TTest::Attribute(a, compare, number) => {
+            let held = attrs.number(*a)?;
+            let holds = compare_numbers(*compare, held, *number)?;
+            Some(holds)
+        }
+        TTest::Property(a, property, compare, number) => {
+            let held = part_number(around, *a, *property, attrs)?;
+            let holds = compare_numbers(*compare, held, *number)?;
+            Some(holds)
+        }
+        TTest::Pair(first, second, compare, a) => {
+            let is = pair_holds(*first, *second, *compare, *a, attrs)?;
+            Some(is)
+        }
+    }
+}
+
+/// Whether a pair is in the list of communities.
+#[inline(always)]
+fn pair_holds(
+    first: u16,
+    second: u16,
+    compare: CompareOp,
+    a: Attribute,
+    attrs: &Running<'_>,
+) -> Option<bool>
+    ensures { (place : Around) → IfSome result (λ b. and_then
+        (plainly (attribute_of place a attrs.now) attrs.now)
+        (λ list attrs. plainly (compare_of compare (VPair (first, second)) list) attrs)
+        ≡ Done (VBool b) attrs.now) }
+{
+    match a {
+        Attribute::BgpCommunity => {
+            let is = has_pair(attrs.list(), first, second);
+            match compare {
+                CompareOp::Matches => Some(is),
+                CompareOp::MatchesNot => Some(!is),
+                _ => None,
+            }
+        }
+        _ => None,
+    }
+}
+
+#[inline(always)]
+fn compare_numbers(compare: CompareOp, a: u32, b: u32) -> Option<bool>
+    ensures { IfSome result (λ holds. compare_of compare (VInt a) (VInt b) ≡ Ok (VBool holds)) }
+{
+    match compare {
+        CompareOp::Equal => Some(a == b),
+        CompareOp::NotEqual => Some(!(a == b)),
+        CompareOp::Less => Some(a.cmp(&b).is_lt()),
+        CompareOp::LessOrEqual => Some(a.cmp(&b).is_le()),
+        CompareOp::Greater => Some(a.cmp(&b).is_gt()),
+        CompareOp::GreaterOrEqual => Some(a.cmp(&b).is_ge()),
+        CompareOp::Matches => None,
+        CompareOp::MatchesNot => None,
+    }
+}
+
+#[inline(always)]
+fn part_number<'a>(
+    around: &Surroundings<'a>,
+    a: Attribute,
+    property: Property,
+    attrs: &Running<'a>,
+) -> Option<u32>
+    ensures { IfSome result (λ n. and_then
+        (plainly (attribute_of (around_in around.now) a attrs.now) attrs.now)
+        (λ v attrs. plainly (property_of property v) attrs)
+        ≡ Done (VInt n) attrs.now) }
+{
+    match a {
+        Attribute::Net => {
+            let found = net_number(around.net, property)?;
+            Some(found)
+        }
+        Attribute::BgpPath => {
+            let found = path_number(attrs.path(), property)?;
+            Some(found)
+        }
+        Attribute::BgpCommunity => {
+            let found = list_number(attrs.list(), property)?;
+            Some(found)
+        }
+        _ => None,
+    }
+}
+
+#[inline(always)]
+fn net_number(net: &Prefix, property: Property) -> Option<u32>
+    ensures { IfSome result (λ n. property_of property (VPrefix net.now) ≡ Ok (VInt n)) }
+{
+    match property {
+        Property::Len => Some(u32::from(net.len())),
+        _ => None,
+    }
+}
+
+#[inline(always)]
+fn path_number(path: &Path, property: Property) -> Option<u32>
+    ensures { IfSome result (λ n. property_of property (VPath path.now) ≡ Ok (VInt n)) }
+{
+    match property {
+        Property::Len => Some(path.as_slice().len() as u32),
+        Property::First => Some(path.as_slice().first().copied().unwrap_or(0)),
+        Property::Last => Some(path.as_slice().last().copied().unwrap_or(0)),
+        Property::Ip => None,
+    }
+}
+
+#[inline(always)]
+fn list_number(list: &Clist, property: Property) -> Option<u32>
+    ensures { IfSome result (λ n. property_of property (VClist list.now) ≡ Ok (VInt n)) }
+{
+    match property {
+        Property::Len => Some(list.as_slice().len() as u32),
+        _ => None,
+    }
+}
+
+#[inline(always)]
+fn has_pair(list: &Clist, first: u16, second: u16) -> bool
+    ensures { result ≡ has_pair list.now (first, second) }
+{
+    let pairs = list.as_slice();
+    pairs.iter().any(|pair| is_pair(pair, first, second))
+}
+
+#[inline(always)]
+fn is_pair(pair: &(u16, u16), first: u16, second: u16) -> bool
+    ensures { result ≡ same_pair pair.now (first, second) }
+{
+    pair.0 == first && pair.1 == second
+}

@@ -1,0 +1,5 @@
+mod Lists
+mod Steps
+mod Takes
+mod Waits
+mod Works

@@ -1,0 +1,17 @@
+use Rattle.std.proofs.Common.{◌∙◌, sym}
+use Rattle.filt_code.specs.Codes.{mean, setting}
+use Rattle.filt_vm.specs.Machines.{handed}
+use Rattle.filt_route.specs.Seen.{around_in}
+use Rattle.filt_vm.specs.Seen.{first_of, rest_of}
+use Rattle.filt_vm.proofs.Waits as w
+use Rattle.filt_vm.proofs.machine.Machine.give_nothing.Goals as goal
+
+pub returns-then-is_some : goal.returns-then-is_some
+returns-then-is_some c =
+    let around = around_in c.args.self.now.around in
+    w.gives-none around c.args.self.now.levels.levels (rest_of c.args.self.now.locals.under) (rest_of c.args.self.now.operands.under) c.args.self.now.levels.lists c.args.call.gives (handed c.args.call.puts (λ os attrs. mean (setting around c.args.call.functions.now) c.args.call.rest.now 0 (first_of c.args.self.now.locals.under) os attrs) (first_of c.args.self.now.operands.under)) c.args.self.now.attrs (sym c.is_some.ensures ∙ c.if-is_some.true)
+
+pub returns-then-call : goal.returns-then-call
+returns-then-call c =
+    let around = around_in c.args.self.now.around in
+    w.puts-none around c.args.self.now.levels.levels (rest_of c.args.self.now.locals.under) (rest_of c.args.self.now.operands.under) c.args.self.now.levels.lists c.args.call.gives c.args.call.puts (λ os attrs. mean (setting around c.args.call.functions.now) c.args.call.rest.now 0 (first_of c.args.self.now.locals.under) os attrs) (first_of c.args.self.now.operands.under) c.args.self.now.attrs (sym c.is_some.ensures ∙ c.if-is_some.false) c.if-call.true

@@ -1,0 +1,19 @@
+//! The machine that runs compiled filters (`run`).
+//!
+//! What code means is `filt_code/specs/Codes`, and the machine says just that. It goes from
+//! instruction to instruction: what a function or the body of a loop leaves behind waits in lists of
+//! its own, so nothing here calls itself, and functions may call each other to any depth. It ends,
+//! since each step leaves less to do (`specs/Machines`). The attributes of the route are lent until
+//! the filter changes them, and sets and constants stay where they are.
+#![tactic(auto)]
+
+mod effects;
+mod judging;
+mod level;
+mod locals;
+mod machine;
+mod operands;
+mod step;
+mod target;
+
+pub use judging::run;

@@ -1,0 +1,304 @@
+//! The machine, and its steps.
+
+ghost use Rattle.std.specs.Prelude.{◌≡◌, ◌≤◌, List, [], ◌∷◌, drop, take};
+ghost use Rattle.attrs.specs.declared.attributes.Attrs.{Attrs};
+ghost use Rattle.filt_code.specs.Codes.{mean, Setting};
+ghost use Rattle.filt_meaning.specs.Flow.{AtEnd, Done, Frame, Returned, Stopped, Why};
+ghost use Rattle.filt_meaning.specs.Names.{Around};
+ghost use Rattle.filt_values.specs.Seen.{val_of};
+ghost use Rattle.filt_values.specs.Values.{Val};
+ghost use Rattle.filt_code.specs.declared.instr.Instr.TheVariants as instrs;
+ghost use Rattle.filt_vm.specs.declared.level.Level.TheVariants as levels;
+ghost use Rattle.filt_vm.specs.Machines.{back_in, call_of, left_in, resumed, waits, Ends, Goes, IsJump};
+
+use crate::effects::effect;
+use crate::level::{Call, Level, Levels, Turn};
+use crate::locals::Locals;
+use crate::operands::Operands;
+use crate::step::Step;
+use crate::target::target;
+use attrs::FilterFault;
+use filt_code::{Effect, Instr, Routine};
+use filt_route::{Running, Surroundings, is_list};
+use filt_values::{Failure, ListFailure, Value};
+use std::alloc::Global;
+
+/// A filter that runs.
+#[derive(Drop)]
+pub(crate) struct Machine<'a> {
+    pub around: Surroundings<'a>,
+    /// The functions that the code may call.
+    pub functions: &'a [Routine<'a>],
+    /// The code from the next instruction on.
+    pub rest: &'a [Instr<'a>],
+    pub locals: Locals<'a>,
+    pub operands: Operands<'a>,
+    pub levels: Levels<'a>,
+    pub attrs: Running<'a>,
+}
+
+impl<'a> Machine<'a> {
+    /// The next instruction.
+    pub(crate) fn step(&mut self) -> Result<Step, ListFailure>
+        ensures { Goes result self.old self.new }
+    {
+        let rest = self.rest;
+        match rest.first() {
+            Some(i) => self.do_one(*i, &rest[1..]),
+            None => self.end(),
+        }
+    }
+
+    fn do_one(&mut self, i: Instr<'a>, tail: &'a [Instr<'a>]) -> Result<Step, ListFailure>
+        requires { self.old.rest.now ≡ i ∷ tail.now }
+        ensures { Goes result self.old self.new }
+    {
+        match i {
+            Instr::Do(what) => self.act(what, tail),
+            Instr::Jump(_) => self.jump(i, tail),
+            Instr::JumpIf(_, _) => self.jump(i, tail),
+            Instr::JumpIfAsked(_, _, _) => self.jump(i, tail),
+            Instr::JumpIfDecided(_, _) => self.jump(i, tail),
+            Instr::Switch(_) => self.jump(i, tail),
+            Instr::ForEach(over) => self.for_each(over, tail),
+            Instr::EndTurn => self.end(),
+            Instr::Call(number, count) => self.call(number, count, true, tail),
+            Instr::Perform(number, count) => self.call(number, count, false, tail),
+            Instr::Accept => Ok(Step::Accepts),
+            Instr::Reject => Ok(Step::Rejects(None)),
+            Instr::Return => self.give_top(tail),
+            Instr::ReturnNothing => self.give_end(tail),
+            Instr::Stuck => Err(ListFailure::Failed(Failure::Stuck)),
+        }
+    }
+
+    /// An effect, with the code behind it.
+    fn act(&mut self, what: Effect<'a>, tail: &'a [Instr<'a>]) -> Result<Step, ListFailure>
+        requires { self.old.rest.now ≡ instrs.Do what ∷ tail.now }
+        ensures { Goes result self.old self.new }
+    {
+        effect(
+            &self.around,
+            what,
+            &mut self.locals,
+            &mut self.operands,
+            &mut self.attrs,
+        )?;
+        self.rest = tail;
+        Ok(Step::On)
+    }
+
+    /// A jump, with the code behind it.
+    fn jump(&mut self, i: Instr<'a>, tail: &'a [Instr<'a>]) -> Result<Step, ListFailure>
+        requires jumps { IsJump i }
+        requires code { self.old.rest.now ≡ i ∷ tail.now }
+        ensures { Goes result self.old self.new }
+    {
+        let passed = target(&self.around, i, &mut self.operands, &self.attrs)?;
+        self.rest = behind(tail, passed);
+        Ok(Step::On)
+    }
+
+    /// A loop, with its body and the code behind it.
+    fn for_each(&mut self, over: usize, tail: &'a [Instr<'a>]) -> Result<Step, ListFailure>
+        requires { self.old.rest.now ≡ instrs.ForEach over ∷ tail.now }
+        ensures { Goes result self.old self.new }
+    {
+        let list = self.operands.pop()?;
+        is_list(&list)?;
+        let turn = Turn {
+            functions: self.functions,
+            body: tail,
+            over,
+            variables: self.locals.len(),
+            next: 0,
+        };
+        self.levels.begin(list)?;
+        self.levels.push(Level::Turns(turn))?;
+        self.operands.enter(self.around.alloc)?;
+        let whole = tail.len();
+        self.rest = behind(tail, whole);
+        Ok(Step::On)
+    }
+
+    /// A call, with the code behind it.
+    fn call(
+        &mut self,
+        number: usize,
+        count: usize,
+        puts: bool,
+        tail: &'a [Instr<'a>],
+    ) -> Result<Step, ListFailure>
+        requires { self.old.rest.now ≡ call_of puts number count ∷ tail.now }
+        ensures { Goes result self.old self.new }
+    {
+        let functions = self.functions;
+        match functions.get(number) {
+            Some(routine) => {
+                let call = Call {
+                    functions,
+                    rest: tail,
+                    gives: routine.gives,
+                    puts,
+                };
+                let arguments = self.operands.take(count)?;
+                self.operands.enter(self.around.alloc)?;
+                self.locals.enter(arguments)?;
+                self.levels.push(Level::Returns(call))?;
+                self.functions = first(functions, number);
+                self.rest = routine.code.as_slice();
+                Ok(Step::On)
+            }
+            None => Err(ListFailure::Failed(Failure::Stuck)),
+        }
+    }
+
+    /// The end of code, or of a loop's body.
+    fn end(&mut self) -> Result<Step, ListFailure>
+        requires { (s : Setting) (vals : Frame) (os : List Val) (attrs : Attrs)
+            → mean s self.old.rest.now 0 vals os attrs ≡ Done vals attrs }
+        ensures { Goes result self.old self.new }
+    {
+        match self.levels.pop() {
+            None => Ok(Step::Rejects(Some(FilterFault::NoVerdict))),
+            Some(Level::Returns(call)) => self.give_nothing(call),
+            Some(Level::Turns(turn)) => self.turn(turn),
+        }
+    }
+
+    /// `return` with the top operand.
+    fn give_top(&mut self, tail: &'a [Instr<'a>]) -> Result<Step, ListFailure>
+        requires { self.old.rest.now ≡ instrs.Return ∷ tail.now }
+        ensures { Goes result self.old self.new }
+    {
+        let value = self.operands.pop()?;
+        match unwound(self.around.alloc, &mut self.levels, &mut self.operands) {
+            Some(call) => self.give(call, value),
+            None => Ok(Step::Rejects(None)),
+        }
+    }
+
+    /// `return` with nothing.
+    fn give_end(&mut self, tail: &'a [Instr<'a>]) -> Result<Step, ListFailure>
+        requires { self.old.rest.now ≡ instrs.ReturnNothing ∷ tail.now }
+        ensures { Goes result self.old self.new }
+    {
+        match unwound(self.around.alloc, &mut self.levels, &mut self.operands) {
+            Some(call) => self.give_nothing(call),
+            None => Ok(Step::Rejects(Some(FilterFault::NoVerdict))),
+        }
+    }
+
+    /// A function gives a value to the caller that waited for it.
+    fn give(&mut self, call: Call<'a>, value: Value<'a>) -> Result<Step, ListFailure>
+        ensures { Ends result (levels.Returns call.entry ∷ self.old.levels.levels)
+            (Stopped (Returned (val_of value.entry)) self.old.attrs) self.old self.new }
+    {
+        self.go_back(call);
+        if call.puts {
+            self.operands.push(value)?;
+        }
+        Ok(Step::On)
+    }
+
+    /// A function ends without a value.
+    fn give_nothing(&mut self, call: Call<'a>) -> Result<Step, ListFailure>
+        ensures { Ends result (levels.Returns call.entry ∷ self.old.levels.levels)
+            (Stopped AtEnd self.old.attrs) self.old self.new }
+    {
+        if call.gives.is_some() {
+            return Ok(Step::Rejects(Some(FilterFault::NoValue)));
+        }
+        if call.puts {
+            return Err(ListFailure::Failed(Failure::Stuck));
+        }
+        self.go_back(call);
+        Ok(Step::On)
+    }
+
+    /// The caller goes on.
+    fn go_back(&mut self, call: Call<'a>)
+        ensures { self.new ≡ back_in self.old call.entry }
+    {
+        self.locals.leave(self.around.alloc);
+        self.operands.leave(self.around.alloc);
+        self.functions = call.functions;
+        self.rest = call.rest;
+    }
+
+    /// The next turn of a loop, or what is behind it.
+    fn turn(&mut self, turn: Turn<'a>) -> Result<Step, ListFailure>
+        ensures { Ends result (levels.Turns turn.entry ∷ self.old.levels.levels)
+            (Done self.old.locals.here self.old.attrs) self.old self.new }
+    {
+        self.functions = turn.functions;
+        self.locals.truncate(turn.variables);
+        if self.levels.has(turn.next) {
+            let value = self.levels.element(turn.next);
+            self.locals.push(value)?;
+            let again = Turn {
+                functions: turn.functions,
+                body: turn.body,
+                over: turn.over,
+                variables: turn.variables,
+                next: turn.next + 1,
+            };
+            self.levels.push(Level::Turns(again))?;
+            self.operands.clear();
+            self.rest = turn.body;
+            return Ok(Step::On);
+        }
+        self.levels.end();
+        self.operands.leave(self.around.alloc);
+        self.rest = behind(turn.body, turn.over);
+        Ok(Step::On)
+    }
+}
+
+/// The caller that waits for the function that runs, past the loops in between, which are over.
+fn unwound<'a>(
+    alloc: Global,
+    levels: &mut Levels<'a>,
+    operands: &mut Operands<'a>,
+) -> Option<Call<'a>>
+    ensures flow { (around : Around) (fs : List (List Val)) (why : Why) (attrs : Attrs)
+        → resumed around levels.old.levels fs operands.old.under levels.old.lists
+        (Stopped why attrs)
+        ≡ resumed around (waits result levels.new.levels) fs operands.new.under levels.new.lists
+        (Stopped why attrs) }
+    ensures left { left_in (waits result levels.new.levels) levels.new.lists
+        ≤ left_in levels.old.levels levels.old.lists }
+{
+    while let Some(level) = levels.pop() {
+        match level {
+            Level::Returns(call) => return Some(call),
+            Level::Turns(_) => {
+                levels.end();
+                operands.leave(alloc);
+            }
+        }
+    }
+    None
+}
+
+/// The code behind so many instructions.
+fn behind<'a>(code: &'a [Instr<'a>], count: usize) -> &'a [Instr<'a>]
+    ensures { result.now ≡ drop count code.now }
+{
+    if count < code.len() {
+        &code[count..]
+    } else {
+        &code[code.len()..]
+    }
+}
+
+/// The first functions, or all where there are fewer.
+pub(crate) fn first<'a>(functions: &'a [Routine<'a>], count: usize) -> &'a [Routine<'a>]
+    ensures { result.now ≡ take count functions.now }
+{
+    if count < functions.len() {
+        &functions[..count]
+    } else {
+        functions
+    }
+}
