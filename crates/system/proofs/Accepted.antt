@@ -21,7 +21,7 @@ pub neither : (first later : Option Refusal) → or_later first later ≡ None �
 neither None later is = (refl, is)
 neither (Some r) later is = absurd (none-some r (sym is))
 
-behind_push : (known : Known) (ds : List conf.Declaration) (d : conf.Declaration) → behind known (ds ++ d ∷ []) ≡ behind_one (behind known ds) d
+pub behind_push : (known : Known) (ds : List conf.Declaration) (d : conf.Declaration) → behind known (ds ++ d ∷ []) ≡ behind_one (behind known ds) d
 behind_push known [] d = refl
 behind_push known (x ∷ ds) d = behind_push (behind_one known x) ds d
 

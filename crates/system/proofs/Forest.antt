@@ -53,7 +53,20 @@ number_is known name f is = ap (λ (o : Option Family). option_map (λ (x : Fami
 not_joined : (known : Known) (at : ℕ) (o : Option Joint) (j : Joint) → o ≡ Some j → cycle known at o ≡ [] → joined known.pipes j.table j.peer ≡ false
 not_joined known at o j is h = not_refused (joined known.pipes j.table j.peer) at _ (sym (ap (λ (x : Option Joint). cycle known at x) is) ∙ h)
 
-pipe_-- a protocol that is no pipe
+pipe_step : (said : Passing → Filter) (known : Known) (more : Tables) (p : Instance PipeSetting) (peer : Option Name) → known.tables ≡ Masters more → last_peer None p.settings ≡ peer → pipe known p ≡ []
+    → Step known (known.pipes ++ option_to_list (joint_of known p.settings)) (of.pipe_with said known peer p.settings)
+pipe_step said known more p None masters is h = absurd (has_peer known p h is)
+pipe_step said known more p (Some name) masters is h =
+    let two = are_two known p name more masters is h in
+    let primary = primary_name known.scene.text (last_table None p.settings) in
+    let j : Joint = record { table = table_number known primary; peer = table_number known (name_bytes known.scene.text name) } in
+    let joins : joint_of known p.settings ≡ Some j =
+    ap (λ (o : Option Name). joint (primary_number known (last_table None p.settings)) (peer_number known o)) is
+    ∙ ap (λ (o : Option ℕ). joint o (peer_number known (Some name))) (number_is known primary (or_v4 (table_of known name)) two.primary)
+    ∙ ap (λ (o : Option ℕ). joint (Some (table_number known primary)) o) (number_is known (name_bytes known.scene.text name) (or_v4 (table_of known name)) two.other) in
+    (ap (λ (o : Option Joint). known.pipes ++ option_to_list o) joins, (not_joined known (place_of p.at p.name) (joint_of known p.settings) j joins (no_cycle known p h), tt))
+
+-- a protocol that is no pipe
 no_pipe : (known : Known) (body : Option Body) → joints body ≡ [] → Step known known.pipes body
 no_pipe known body none = (sym (append-nil known.pipes) ∙ ap (λ (l : List Joint). known.pipes ++ l) (sym none), subst (λ (l : List Joint). JoinsApart known.pipes l) (sym none) tt)
 
