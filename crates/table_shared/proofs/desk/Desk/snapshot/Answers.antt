@@ -23,7 +23,7 @@ returns-clause-view c =
       };
       shows = in_seen (journal c.args.pass.now) c.args.self.now c.tell_pass-at.new.pass.1 (Shows c.args.self.now.rib.rows) kept pass (t.pass ∙ t.list) kept.rows;
       rows = picked;
-      total = c.total-total.ensures;
+      total = c.total-total.ensures.count;
       family = subst (λ (t : Terms TableOpening). AreOfFamily t.opening.family c.from_vec.result) (sym pass)
           (family_selected c.args.pass.now.1.seen.terms.opening.family c.args.pick.now c.args.self.now.rib.rows c.from_vec.result kept.nets picked);
     }
