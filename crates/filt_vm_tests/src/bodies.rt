@@ -3,6 +3,7 @@ use crate::samples::{Said, answer};
 use attrs::FilterFault;
 use conf_ast::filters::{AddOp, Attribute, CompareOp, LogicalOp, MethodKind, MulOp};
 use filt_code::{OfOne, OfTwo};
+use std::alloc::Global;
 use std::process::Abort;
 use std::test::Fail;
 
@@ -82,12 +83,11 @@ fn the_right_side_is_passed(rt: HostRuntime) -> Result<(), Fail> {
     Ok(())
 }
 
-/// The same, with the value of `&&` put.
-#[test]
-fn the_left_side_decides(rt: HostRuntime) -> Result<(), Fail> {
+/// `{ if LEFT && 1 / 0 = 1 then reject; accept; }`, or with `||`, where the value of the whole is put.
+fn joined(alloc: Global, left: bool, joint: LogicalOp) -> Result<Said, Fail> {
     let lines = [
-        Line::Bool(false),
-        Line::Decided(LogicalOp::And, 6),
+        Line::Bool(left),
+        Line::Decided(joint, 6),
         Line::Int(1),
         Line::Int(0),
         OVER,
@@ -98,8 +98,24 @@ fn the_left_side_decides(rt: HostRuntime) -> Result<(), Fail> {
         Line::Reject,
         Line::Accept,
     ];
-    let found = answer(rt.alloc(), &lines, 0)?;
-    assert_eq!(rt; found, Said::Accepts(2, 65001, None));
+    answer(alloc, &lines, 0)
+}
+
+#[test]
+fn the_left_side_decides(rt: HostRuntime) -> Result<(), Fail> {
+    let both = joined(rt.alloc(), false, LogicalOp::And)?;
+    assert_eq!(rt; both, Said::Accepts(2, 65001, None));
+    let either = joined(rt.alloc(), true, LogicalOp::Or)?;
+    assert_eq!(rt; either, Said::Rejects(None));
+    Ok(())
+}
+
+#[test]
+fn the_right_side_decides(rt: HostRuntime) -> Result<(), Fail> {
+    let both = joined(rt.alloc(), true, LogicalOp::And)?;
+    assert_eq!(rt; both, Said::Rejects(Some(FilterFault::ZeroDivisor)));
+    let either = joined(rt.alloc(), false, LogicalOp::Or)?;
+    assert_eq!(rt; either, Said::Rejects(Some(FilterFault::ZeroDivisor)));
     Ok(())
 }
 
@@ -147,7 +163,7 @@ fn parts_of_pairs(rt: HostRuntime) -> Result<(), Fail> {
     Ok(())
 }
 
-/// `{ bgp_path.prepend(65000); accept; }`, also on a path of 120.
+/// `{ bgp_path.prepend(65000); accept; }`, also on paths of 119 and 120 numbers.
 #[test]
 fn prepended(rt: HostRuntime) -> Result<(), Fail> {
     let lines = [
@@ -160,8 +176,10 @@ fn prepended(rt: HostRuntime) -> Result<(), Fail> {
     let alloc = rt.alloc();
     let short = answer(alloc, &lines, 0)?;
     assert_eq!(rt; short, Said::Accepts(3, 65000, None));
-    let long = answer(alloc, &lines, 118)?;
-    assert_eq!(rt; long, Said::Rejects(Some(FilterFault::PathLong)));
+    let longest = answer(alloc, &lines, 117)?;
+    assert_eq!(rt; longest, Said::Accepts(120, 65000, None));
+    let too_long = answer(alloc, &lines, 118)?;
+    assert_eq!(rt; too_long, Said::Rejects(Some(FilterFault::PathLong)));
     Ok(())
 }
 

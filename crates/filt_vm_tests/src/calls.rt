@@ -36,7 +36,7 @@ fn hands_on<'a>(
     function(alloc, parameters, &lines, values)
 }
 
-/// The function of these lines, and so many behind it that each hand on to the one before.
+/// The function of these lines, and so many behind it that each hand on to the one before it.
 fn functions<'a>(
     alloc: Global,
     parameters: &'a [Sort],
