@@ -72,7 +72,7 @@ module _ {J : Type 0} (verdict : J → Net → Route → Verdict) (setup : Setup
 
   pub room_more : (place c : ℕ) (r : Routes J) → AreReaders (rules_of setup) (length (channels setup)) table numbers → slice_get numbers place ≡ Some c → (rules_of setup).reads c ≡ table
       → (let u = rooms_in (rules_of setup) table (take place numbers) s in
-        AreRoutes verdict setup (with_channel c (roomed (rules_of setup) c (u.history ((rules_of setup).reads c)) (u.channels c)) u) r)
+      AreRoutes verdict setup (with_channel c (roomed (rules_of setup) c (u.history ((rules_of setup).reads c)) (u.channels c)) u) r)
       → AreRoutes verdict setup (rooms_in (rules_of setup) table (take (place + 1) numbers) s) r
   room_more place c r readers at reads are = are_same verdict setup (with_channel c new u) (rooms_in rules table (take (place + 1) numbers) s) r (λ n. refl) same are where
     rules : Rules

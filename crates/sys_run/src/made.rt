@@ -1,4 +1,12 @@
 //! The parts of a core that has played nothing.
+ghost use Rattle.std.specs.Prelude.{◌≡◌, ◌<◌, ◌++◌, ℕ, IfOk, OnOk, [], List, codes, length, map};
+ghost use Rattle.core_machine.specs.Machine.{start};
+ghost use Rattle.core_setup.specs.Pairs.{Pairs};
+ghost use Rattle.core_setup.specs.Protocols.{rules_of};
+ghost use Rattle.core_setup.specs.Setup.{IsSetup, Setup};
+ghost use Rattle.run_tables.specs.Routes.{AreRoutes};
+ghost use Rattle.sys_run.specs.Made.{ArePassed, IsMade, IsMadeTable, MayBegin};
+ghost use Rattle.sys_run.specs.Parts.{protocol_seen, setup_seen};
 use crate::parts::{BodyParts, ExportParts, PipeParts, ProtocolParts, SourceParts, TableParts};
 use crate::protocol::{Body, Protocol, Source};
 use crate::ways::{Direction, ends_with, ways_from};
@@ -23,7 +31,9 @@ pub(crate) struct Made<J: Judge> {
 }
 
 /// Tables without routes.
-pub(crate) fn make_tables(alloc: Global, parts: &[TableParts]) -> Result<Vec<Table>, OutOfMemory> {
+pub(crate) fn make_tables(alloc: Global, parts: &[TableParts]) -> Result<Vec<Table>, OutOfMemory>
+    ensures { IfOk result (λ tables. Pairs IsMadeTable 0 parts.now tables.items) }
+{
     let mut tables = Vec::new(alloc);
     for part in parts {
         tables.push(Table::make(alloc, part.family))?;
@@ -95,16 +105,20 @@ fn none_passed<J: Judge>(
 /// The sources that each channel passes as a direction of a pipe.
 pub(crate) fn passed_by<J: Judge>(
     alloc: Global,
-    tables: usize,
+    tables: &[TableParts],
     protocols: &[ProtocolParts<J>],
-) -> Result<Vec<Vec<u32>>, OutOfMemory> {
+) -> Result<Vec<Vec<u32>>, OutOfMemory>
+    requires { (cells : ℕ) → IsSetup (setup_seen J.verdict tables.now protocols.now cells) }
+    ensures { IfOk result (λ passed. (cells : ℕ)
+        → ArePassed (setup_seen J.verdict tables.now protocols.now cells) passed.items) }
+{
     let directions = directions_of(alloc, protocols)?;
     let mut passed = none_passed(alloc, protocols)?;
     let mut number: u32 = 0;
     for protocol in protocols {
         match &protocol.body {
             BodyParts::Source(source) => {
-                let found = ways_from(alloc, tables, &directions, source.table)?;
+                let found = ways_from(alloc, tables.len(), &directions, source.table)?;
                 for direction in &directions {
                     if ends_with(direction, &found) {
                         passed[direction.channel].push(number)?;
@@ -126,7 +140,12 @@ pub(crate) fn make_protocols<J: Judge + Drop>(
     tables: &[TableParts],
     passed: Vec<Vec<u32>>,
     protocols: Vec<ProtocolParts<J>>,
-) -> Result<Made<J>, OutOfMemory> {
+) -> Result<Made<J>, OutOfMemory>
+    requires { (cells : ℕ) → IsSetup (setup_seen J.verdict tables.now protocols.items cells) }
+    ensures { IfOk result (λ made. (cells : ℕ)
+        → ArePassed (setup_seen J.verdict tables.now protocols.items cells) passed.items
+        → IsMade J.verdict (setup_seen J.verdict tables.now protocols.items cells) made) }
+{
     let mut made = Made {
         names: Vec::new(alloc),
         protocols: Vec::new(alloc),
@@ -268,7 +287,12 @@ pub(crate) fn make_routes<J: Judge + Drop>(
     tables: Vec<Table>,
     channels: Vec<Channel<J>>,
     sources: Vec<Src>,
-) -> Result<Routes<J>, OutOfMemory> {
+) -> Result<Routes<J>, OutOfMemory>
+    requires { (setup : Setup) × MayBegin J.verdict setup cells tables.items channels.items sources.items }
+    ensures { IfOk result (λ routes. (setup : Setup)
+        → MayBegin J.verdict setup cells tables.items channels.items sources.items
+        → AreRoutes J.verdict setup (start (rules_of setup)) routes) }
+{
     let readers = readers_of(alloc, tables.len(), &channels)?;
     let mut routes = Routes {
         alloc,

@@ -26,9 +26,12 @@ withdraw-requires-clause-holds g c =
     let v = g.J.Judge.verdict in
     let h = c.requires.holds in
     let held = c.index_mut.result.now in
-    let f = found_one v h.0 h.1 c.args.self.now c.args.number h.2 c.requires.there held c.index_mut.ensures.value in
-    (h.0, _, channel_is v h.0 h.1 c.args.self.now _ c.args.number held c.flush.new.self f.0 f.2 f.1 (record { cells = refl; readers = refl; sources = refl }) refl refl (closed (h.1.channels c.args.number))
-    (c.in_ok-keys.ensures (rules_of h.0) c.args.number f.2.family (h.1.history held.table) (h.1.channels c.args.number) f.2.channel).1 h.2)
+    let f = found_one v h.0 h.1 c.args.self.now c.args.number h.2 c.requires.there held c.index_mut.ensures.value in (
+      h.0,
+      _,
+      channel_is v h.0 h.1 c.args.self.now _ c.args.number held c.flush.new.self f.0 f.2 f.1 (record { cells = refl; readers = refl; sources = refl }) refl refl (closed (h.1.channels c.args.number))
+          (c.in_ok-keys.ensures (rules_of h.0) c.args.number f.2.family (h.1.history held.table) (h.1.channels c.args.number) f.2.channel).1 h.2,
+    )
 
 pub withdraw-requires-clause-there : goal.withdraw-requires-clause-there
 withdraw-requires-clause-there g c =
