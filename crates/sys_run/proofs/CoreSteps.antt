@@ -136,9 +136,11 @@ module _ (rules : Rules) (c : ℕ) where
       } where
         logs : (j : ℕ) → ((c ≡ j) ⊎ (c ≡ j → ⊥)) → Behind s (arrived rules (rules.target c) (gained rules c (s.history (rules.reads c)) (s.channels c).marks (s.channels c)) s) → (xs : List LogItem) × (((push_at rules c s).channels j).log ≡ xs ++ (s.channels j).log)
         logs j (inl same) a =
-            let more = pushed_more (s.history (rules.reads c)) (s.channels c).marks (s.channels c) in
-            (more.0, ap (λ (x : machine.Channel). x.log) (at_here c (push_one rules c (s.history (rules.reads c)) (s.channels c)) (arrived rules (rules.target c) (gained rules c (s.history (rules.reads c)) (s.channels c).marks (s.channels c)) s).channels j same)
-            ∙ more.1 ∙ ap (λ n. more.0 ++ (s.channels n).log) same)
+            let more = pushed_more (s.history (rules.reads c)) (s.channels c).marks (s.channels c) in (
+              more.0,
+              ap (λ (x : machine.Channel). x.log) (at_here c (push_one rules c (s.history (rules.reads c)) (s.channels c)) (arrived rules (rules.target c) (gained rules c (s.history (rules.reads c)) (s.channels c).marks (s.channels c)) s).channels j same)
+                  ∙ more.1 ∙ ap (λ n. more.0 ++ (s.channels n).log) same,
+            )
         logs j (inr apart) a =
             ((a.logs j).0, ap (λ (x : machine.Channel). x.log) (at_there c (push_one rules c (s.history (rules.reads c)) (s.channels c)) (arrived rules (rules.target c) (gained rules c (s.history (rules.reads c)) (s.channels c).marks (s.channels c)) s).channels j apart) ∙ (a.logs j).1)
 
@@ -164,7 +166,7 @@ module _ (rules : Rules) (ok : IsRules rules) where
 
 -- ---- the core
 
-answered_on : (setup : Setup) (s t : State) (cs : List Change) (held : Answered) (reply : Reply) → t.history 0 ≡ cs ++ s.history 0 → IsAnswered setup s held reply → IsAnswered setup t held reply
+pub answered_on : (setup : Setup) (s t : State) (cs : List Change) (held : Answered) (reply : Reply) → t.history 0 ≡ cs ++ s.history 0 → IsAnswered setup s held reply → IsAnswered setup t held reply
 answered_on setup s t cs held reply e is = record {
   table = is.table;
   at = is.at;

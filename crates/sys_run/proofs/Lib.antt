@@ -1,3 +1,4 @@
 pub mod Turning
 pub mod CoreSteps
 pub mod PlayingLines
+pub mod Asking

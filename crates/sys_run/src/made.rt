@@ -7,6 +7,7 @@ ghost use Rattle.core_setup.specs.Setup.{IsSetup, Setup};
 ghost use Rattle.run_tables.specs.Routes.{AreRoutes};
 ghost use Rattle.sys_run.specs.Made.{ArePassed, IsMade, IsMadeTable, MayBegin};
 ghost use Rattle.sys_run.specs.Parts.{protocol_seen, setup_seen};
+
 use crate::parts::{BodyParts, ExportParts, PipeParts, ProtocolParts, SourceParts, TableParts};
 use crate::protocol::{Body, Protocol, Source};
 use crate::ways::{Direction, ends_with, ways_from};
@@ -183,7 +184,12 @@ impl<J: Judge + Drop> Made<J> {
         name: &Seq<u8>,
         parts: SourceParts<J>,
     ) -> Result<(), OutOfMemory> {
-        let SourceParts { table, spec, judge, exports } = parts;
+        let SourceParts {
+            table,
+            spec,
+            judge,
+            exports,
+        } = parts;
         let from = self.channels.len();
         match exports {
             Some(ExportParts { spec, judge }) => {
@@ -209,7 +215,12 @@ impl<J: Judge + Drop> Made<J> {
         name: &Seq<u8>,
         parts: PipeParts<J>,
     ) -> Result<(), OutOfMemory> {
-        let PipeParts { primary, peer, export, import } = parts;
+        let PipeParts {
+            primary,
+            peer,
+            export,
+            import,
+        } = parts;
         let from = self.channels.len();
         let number = self.names.len() as u32;
         let family = tables[primary].family;
@@ -221,7 +232,11 @@ impl<J: Judge + Drop> Made<J> {
         self.add_channel(name_there, primary, Some(peer), exporter)?;
         let importer = Exporter::make(alloc, back, import);
         self.add_channel(name_back, peer, Some(primary), importer)?;
-        self.sources.push(Src { num: number, def_med: 0, def_lp: 0 })?;
+        self.sources.push(Src {
+            num: number,
+            def_med: 0,
+            def_lp: 0,
+        })?;
         self.add_protocol(alloc, Body::Pipe(true), from)
     }
 

@@ -8,6 +8,7 @@ ghost use Rattle.import_core.specs.declared.operation.Op.{Op as HeldOp};
 ghost use Rattle.import_core.specs.declared.step.Mark.TheVariants.{Stay};
 ghost use Rattle.sys_run.specs.Cores.{Does, is_static};
 ghost use Rattle.sys_run.specs.Phase.{state_of};
+
 use attrs::{Change, Judge, Kind, Seq};
 use bits_ip::OutOfMemory;
 use import_core::{Done, Importer, Mark, Op, Step};

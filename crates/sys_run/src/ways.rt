@@ -6,6 +6,7 @@ ghost use Rattle.core_machine.specs.Rules.{Rules};
 ghost use Rattle.core_machine.specs.Ways.{Found, level, levels, tried};
 ghost use Rattle.sys_run.specs.Made.{AreFound, IsWithin, directions_in};
 ghost use Rattle.sys_run.specs.declared.ways.Direction.{Direction as HeldDirection};
+
 use bits_ip::OutOfMemory;
 use std::alloc::Global;
 

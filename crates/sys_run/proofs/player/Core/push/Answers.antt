@@ -22,5 +22,5 @@ returns-clause-core g c = on_ok_weaker c.push.result (λ steps setup past s are.
   if_open c.args.channel (times c.args.count (push_at (rules_of setup) c.args.channel)) s,
   refl,
   core_behind g.J.Judge.verdict setup past s (if_open c.args.channel (times c.args.count (push_at (rules_of setup) c.args.channel)) s) c.args.self.now _ are (steps setup s are.routes)
-  (behind_if c.args.channel (times c.args.count (push_at (rules_of setup) c.args.channel)) s (behind_times (push_at (rules_of setup) c.args.channel) (behind_push (rules_of setup) c.args.channel are.routes.rules_are) c.args.count s)),
+      (behind_if c.args.channel (times c.args.count (push_at (rules_of setup) c.args.channel)) s (behind_times (push_at (rules_of setup) c.args.channel) (behind_push (rules_of setup) c.args.channel are.routes.rules_are) c.args.count s)),
 )) c.push.ensures

@@ -22,5 +22,5 @@ returns-clause-core g c = on_ok_weaker c.take.result (λ steps setup past s are.
   if_open c.args.channel (takes (rules_of setup) c.args.channel c.args.count) s,
   refl,
   core_behind g.J.Judge.verdict setup past s (if_open c.args.channel (takes (rules_of setup) c.args.channel c.args.count) s) c.args.self.now _ are (steps setup s are.routes)
-  (behind_if c.args.channel (takes (rules_of setup) c.args.channel c.args.count) s (behind_takes (rules_of setup) c.args.channel c.args.count s)),
+      (behind_if c.args.channel (takes (rules_of setup) c.args.channel c.args.count) s (behind_takes (rules_of setup) c.args.channel c.args.count s)),
 )) c.take.ensures
