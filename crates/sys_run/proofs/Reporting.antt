@@ -3,6 +3,7 @@ use Rattle.std.proofs.Common.{◌≡◌, ℕ, zero, suc, ◌+◌, ◌-◌, ◌==
 use Rattle.std.specs.Prelude.{slice_get, option_map, if◌then◌else◌}
 use Rattle.std.specs.declared.alloc.Global.{Global}
 use Rattle.std.specs.declared.vec.Vec.{Vec}
+use Rattle.std.proofs.lemmas.Bool.{cond-false, ne_eqb}
 use Rattle.std.proofs.lemmas.List.{append_cancel_right, length-reverse, reverse-append, reverse-reverse}
 use Rattle.std.proofs.lemmas.Option.{none-some, same_Some, slice_get-map}
 use Rattle.bits_ip.specs.Prefix.{Net}
@@ -83,8 +84,7 @@ up_is false = refl
 
 -- behind a phase there is one
 behind_first : {A : Type 0} (n : ℕ) (xs : List A) → xs ≡ (if n + 1 == 0 then [] else xs)
-behind_first zero xs = refl
-behind_first (suc n) xs = refl
+behind_first n xs = sym (cond-false (n + 1 == 0) [] xs (ne_eqb (n + 1) 0 (λ e. omega (arith, e))))
 
 module _ {J : Type 0} (verdict : J → Net → Route → Verdict) where
   -- where a phase began
