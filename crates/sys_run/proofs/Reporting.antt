@@ -51,7 +51,7 @@ use Rattle.run_tables.specs.declared.channel.Channel.{Channel}
 use Rattle.run_tables.specs.declared.table.Table.{Table}
 use Rattle.run_tables.proofs.Routing.{ChannelIs, TableIs, are_same}
 use Rattle.sys_run.specs.Cores.{Does, IsAnswered, IsCore, PlaysAs, counted}
-use Rattle.sys_run.specs.Phase.{BeganAt, IsEmptied, IsExportOf, IsJournalOf, IsLogOf, IsModeOf, IsOperationsOf, IsTableOf, joined_of, logged_in, name_at, name_of, reply_of, standing_in, state_of, told}
+use Rattle.sys_run.specs.Phase.{BeganAt, IsEmptied, IsExportOf, IsJournalOf, IsLogOf, IsModeOf, IsOperationsOf, IsTableOf, logged_in, name_at, name_of, reply_of, standing_in, state_of, told}
 use Rattle.sys_run.specs.Playing.{Agrees, Rests, silent}
 use Rattle.sys_run.specs.declared.parts.TableParts.{TableParts}
 use Rattle.sys_run.specs.declared.phase.Begun.{Begun}
@@ -291,45 +291,37 @@ module _ {J : Type 0} (verdict : J → Net → Route → Verdict) (setup : Setup
 
   -- ---- the core behind the report
 
-  module _ (base : Joined) (histories : (n : ℕ) → s.history n ≡ base.history n) (operations : (i : ℕ) → s.ops i ≡ base.ops i) (logs : (c : ℕ) → (s.channels c).log ≡ base.logs c) where
-    emptied_is : (j : ℕ) (q : Protocol) (held new : HeldProtocol J) → PlaysAs verdict setup j q (past.ops j) (s.ops j) held → IsEmptied j held new → PlaysAs verdict setup j q (base.ops j) (s.ops j) new
-    emptied_is j q held new is of = record {
-      body = subst (λ b. Does verdict q.body (ops_of (s.ops j)) b) (sym of.body) is.body;
-      ordered = let o = is.ordered in let f = of.from_is in let u = of.upto_is in omega (arith, o, f, u);
-      within = let w = is.within in let u = of.upto_is in omega (arith, w, u);
-      belong = is.belong ∙ ap (λ n. counted n (held.upto - n)) (sym of.from_is) ∙ ap (λ n. counted new.from (n - new.from)) (sym of.upto_is);
-      new = [];
-      since = operations j;
-      done = of.done;
-    }
+  emptied_is : (j : ℕ) (q : Protocol) (held new : HeldProtocol J) → PlaysAs verdict setup j q (past.ops j) (s.ops j) held → IsEmptied j held new → PlaysAs verdict setup j q ((join past printed).ops j) (s.ops j) new
+  emptied_is j q held new is of = record {
+    body = subst (λ b. Does verdict q.body (ops_of (s.ops j)) b) (sym of.body) is.body;
+    ordered = let o = is.ordered in let f = of.from_is in let u = of.upto_is in omega (arith, o, f, u);
+    within = let w = is.within in let u = of.upto_is in omega (arith, w, u);
+    belong = is.belong ∙ ap (λ n. counted n (held.upto - n)) (sym of.from_is) ∙ ap (λ n. counted new.from (n - new.from)) (sym of.upto_is);
+    new = [];
+    since = (are.operations j).1;
+    done = of.done;
+  }
 
-    pub rests_at : (protocols : Vec (HeldProtocol J) Global) (replies : Vec (Vec Answered Global) Global) (phases : ℕ) → Pairs IsEmptied 0 core.protocols.items protocols.items → replies.items ≡ []
-        → IsCore verdict setup base (silent s) (record core { protocols = protocols; replies = replies; phases = phases })
-    rests_at protocols replies phases of none = record {
+  pub rests : (protocols : Vec (HeldProtocol J) Global) (replies : Vec (Vec Answered Global) Global) (phases : ℕ) → Pairs IsEmptied 0 core.protocols.items protocols.items → replies.items ≡ [] → phases ≡ core.phases + 1
+      → Rests verdict setup (core.phases + 1) (join past printed) s (record core { protocols = protocols; replies = replies; phases = phases })
+  rests protocols replies phases of none e = record {
+    core_is = record {
       routes = are_same verdict setup s (silent s) core.routes (λ n. refl) (λ i. refl) are.routes;
-      protocols = pairs_through (λ i q held. PlaysAs verdict setup i q (past.ops i) (s.ops i) held) IsEmptied (λ i q held. PlaysAs verdict setup i q (base.ops i) (s.ops i) held)
+      protocols = pairs_through (λ i q held. PlaysAs verdict setup i q (past.ops i) (s.ops i) held) IsEmptied (λ i q held. PlaysAs verdict setup i q ((join past printed).ops i) (s.ops i) held)
           setup.protocols core.protocols.items protocols.items (λ j q held new _ _ _ is e. emptied_is j q held new is e) are.protocols of;
       up = are.up;
-      histories = λ n. ([], histories n);
-      operations = λ i. ([], operations i);
-      logs = λ c. ([], logs c);
+      histories = λ n. ([], (are.histories n).1);
+      operations = λ i. ([], (are.operations i).1);
+      logs = λ c. ([], (are.logs c).1);
       replies = λ actor held e. absurd (none-some held (ap (λ (xs : List (Vec Answered Global)). slice_get xs actor) (sym none) ∙ e));
       channels = are.channels;
       tables = are.tables;
       names = are.names;
-    }
-
-  module _ (protocols : Vec (HeldProtocol J) Global) (replies : Vec (Vec Answered Global) Global) (phases : ℕ) (of : Pairs IsEmptied 0 core.protocols.items protocols.items) (none : replies.items ≡ []) where
-    pub rests_joined : IsCore verdict setup (joined_of s) (silent s) (record core { protocols = protocols; replies = replies; phases = phases })
-    rests_joined = rests_at (joined_of s) (λ n. refl) (λ i. refl) (λ c. refl) protocols replies phases of none
-
-    pub rests : phases ≡ core.phases + 1 → Rests verdict setup (core.phases + 1) (join past printed) s (record core { protocols = protocols; replies = replies; phases = phases })
-    rests e = record {
-      core_is = rests_at (join past printed) (λ n. (are.histories n).1) (λ i. (are.operations i).1) (λ c. (are.logs c).1) protocols replies phases of none;
-      agrees = record {
-        history = λ n. sym (are.histories n).1;
-        ops = λ i. sym (are.operations i).1;
-        logs = λ c. sym (are.logs c).1 ∙ behind_first core.phases (s.channels c).log;
-      };
-      phases_are = e;
-    }
+    };
+    agrees = record {
+      history = λ n. sym (are.histories n).1;
+      ops = λ i. sym (are.operations i).1;
+      logs = λ c. sym (are.logs c).1 ∙ behind_first core.phases (s.channels c).log;
+    };
+    phases_are = e;
+  }

@@ -1,6 +1,6 @@
 -- For private contracts, and for what `HasPlayed` keeps of a core from phase to phase; nothing
 -- promised rests on it: a core in the midst of a phase, and the machine's state.
-use Rattle.std.specs.Prelude.{◌≡◌, ◌+◌, ◌-◌, ◌≤◌, ◌++◌, ◌<◌, ℕ, zero, suc, Bool, true, false, List, [], ◌∷◌, length, map, reverse, Some, slice_get, ⊤, ⊥}
+use Rattle.std.specs.Prelude.{◌≡◌, ◌+◌, ◌-◌, ◌≤◌, ◌++◌, ◌<◌, ℕ, zero, suc, Bool, true, false, List, [], ◌∷◌, length, map, reverse, Some, slice_get, ⊤}
 use Rattle.std.specs.declared.alloc.Global.{Global}
 use Rattle.std.specs.declared.vec.Vec.{Vec}
 use Rattle.bits_ip.specs.Prefix.{Net}
@@ -120,11 +120,11 @@ module _ {J : Type 0} (verdict : J → Net → Route → Verdict) where
 
 -- ---- parts of an operation
 
-module _ {J : Type 0} where
-  abbrev pub is_static_kind : Kind → Bool
-  is_static_kind kinds.Static = true
-  is_static_kind kinds.Bgp = false
+abbrev pub is_static_kind : Kind → Bool
+is_static_kind kinds.Static = true
+is_static_kind kinds.Bgp = false
 
+module _ {J : Type 0} where
   abbrev pub is_static : Body J → Bool
   is_static (Source held) = is_static_kind held.kind
   is_static (Pipe up) = false

@@ -15,7 +15,6 @@ use Rattle.export_core.specs.Histories.{change_of}
 use Rattle.core_machine.specs.Channels as machine
 use Rattle.core_machine.specs.Histories.{content_of}
 use Rattle.core_machine.specs.Legal.{Joined}
-use Rattle.core_machine.specs.Machine.{State}
 use Rattle.core_machine.specs.Rules.{Rules}
 use Rattle.core_setup.specs.Channels as setups
 use Rattle.core_setup.specs.Pairs.{Pairs}
@@ -40,10 +39,6 @@ use Rattle.sys_run.specs.declared.player.Answered.{Answered}
 use Rattle.sys_run.specs.declared.protocol.Body.{Body}
 use Rattle.sys_run.specs.declared.protocol.Body.TheVariants.{Pipe, Source}
 use Rattle.sys_run.specs.declared.protocol.Protocol.{Protocol}
-
--- all that a state has come to
-abbrev pub joined_of : State → Joined
-joined_of s = record { history = s.history; ops = s.ops; logs = λ c. (s.channels c).log }
 
 -- the positions and the lengths of logs are those of what was printed before
 pub record BeganAt (setup : Setup) (past : Joined) (begun : Begun) : Type 0 where

@@ -9,8 +9,8 @@ ghost use Rattle.core_setup.specs.Reports.{IsReport};
 ghost use Rattle.core_setup.specs.Setup.{Setup};
 ghost use Rattle.export_core.specs.Histories.{change_of};
 ghost use Rattle.sys_run.specs.Cores.{Holds, IsCore};
-ghost use Rattle.sys_run.specs.Phase.{BeganAt, IsEmptied, IsExportOf, IsJournalOf, IsLogOf, IsModeOf, IsOperationsOf, IsTableOf, joined_of, logged_in, reply_of, standing_in, told};
-ghost use Rattle.sys_run.specs.Playing.{Rests, silent};
+ghost use Rattle.sys_run.specs.Phase.{BeganAt, IsEmptied, IsExportOf, IsJournalOf, IsLogOf, IsModeOf, IsOperationsOf, IsTableOf, logged_in, reply_of, standing_in, told};
+ghost use Rattle.sys_run.specs.Playing.{Rests};
 
 use crate::parts::TableParts;
 use crate::player::{Answered, Core};
@@ -91,7 +91,6 @@ impl<J: Judge> Core<J> {
             → length self.old.replies.items ≡ length actors.now
             → (p : Printed) × Prints (rules_of setup) past s p
             × IsReport setup actors.now (self.old.phases + 1) past p report
-            × IsCore J.verdict setup (joined_of s) (silent s) self.new
             × Rests J.verdict setup (self.old.phases + 1) (join past p) s self.new) }
         ensures phases { OnOk result (self.new.phases ≡ self.old.phases + 1) }
     {

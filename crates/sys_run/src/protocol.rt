@@ -1,10 +1,11 @@
 //! A protocol in play.
-ghost use Rattle.std.specs.Prelude.{◌≡◌, ◌↔◌, ◌∷◌, [], List, IfOk, IsTrue, OnOk, reverse};
+ghost use Rattle.std.specs.Prelude.{◌≡◌, ◌↔◌, ◌∷◌, [], List, IfOk, IsTrue, OnOk, reverse, if◌then◌else◌};
 ghost use Rattle.attrs.specs.declared.attributes.Kind.TheVariants as kinds;
 ghost use Rattle.core_machine.specs.Rules.{signalled};
 ghost use Rattle.core_setup.specs.Protocols.{effect_in, pipe_signal, signal_of};
 ghost use Rattle.core_setup.specs.Setup.{Body as SeenBody};
 ghost use Rattle.import_core.specs.declared.operation.Op.{Op as HeldOp};
+ghost use Rattle.import_core.specs.declared.step.Mark.TheVariants.{Stay};
 ghost use Rattle.sys_run.specs.Cores.{Does, is_static};
 ghost use Rattle.sys_run.specs.Phase.{state_of};
 use attrs::{Change, Judge, Kind, Seq};
@@ -129,7 +130,9 @@ pub(crate) fn pipe_mark(up: bool, op: &Op) -> Mark
     }
 }
 
-fn when(fits: bool, mark: Mark) -> Mark {
+fn when(fits: bool, mark: Mark) -> Mark
+    ensures { result ≡ (if fits then mark else Stay) }
+{
     if fits { mark } else { Mark::Stay }
 }
 

@@ -67,7 +67,8 @@ fn begin_at(home: bool) -> Option<Way>
 
 /// Each direction goes on from ways of this length.
 fn go_on(directions: &[Direction], len: usize, found: &mut Vec<Option<Way>>)
-    requires { All (λ (d : HeldDirection). IsWithin (length found.old.items) d) directions.now }
+    requires below { len < length found.old.items }
+    requires within { All (λ (d : HeldDirection). IsWithin (length found.old.items) d) directions.now }
     ensures { (rules : Rules) (ways : Found)
         → directions.now ≡ directions_in rules rules.channels
         → AreFound ways (length found.old.items) found.old.items
@@ -81,7 +82,8 @@ fn go_on(directions: &[Direction], len: usize, found: &mut Vec<Option<Way>>)
 /// A direction goes on where a way of this length comes to the table that it reads, and none to the
 /// one that it writes.
 fn go_one(direction: &Direction, len: usize, found: &mut Vec<Option<Way>>)
-    requires { IsWithin (length found.old.items) direction.now }
+    requires below { len < length found.old.items }
+    requires within { IsWithin (length found.old.items) direction.now }
     ensures { (rules : Rules) (ways : Found)
         → rules.reads direction.now.channel ≡ direction.now.reads
         → AreFound ways (length found.old.items) found.old.items

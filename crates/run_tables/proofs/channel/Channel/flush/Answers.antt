@@ -1,4 +1,4 @@
-use Rattle.std.proofs.Common.{Some, refl, sym, ◌∙◌}
+use Rattle.std.proofs.Common.{Some, ◌∙◌}
 use Rattle.run_tables.proofs.Kept.{fallen}
 use Rattle.run_tables.proofs.Stretches.{keys_stand}
 use Rattle.run_tables.proofs.channel.Channel.flush.Goals as goal

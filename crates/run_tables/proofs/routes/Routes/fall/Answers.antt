@@ -1,4 +1,4 @@
-use Rattle.std.proofs.Common.{true, refl, ap, sym, ◌∙◌, Some, None}
+use Rattle.std.proofs.Common.{refl, ap, ◌∙◌, Some, None}
 use Rattle.std.proofs.lemmas.Result.{on_ok_weaker}
 use Rattle.core_machine.specs.Channels.{closed}
 use Rattle.core_setup.specs.Protocols.{rules_of}

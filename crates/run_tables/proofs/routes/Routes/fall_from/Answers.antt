@@ -1,8 +1,7 @@
-use Rattle.std.proofs.Common.{true, refl, ap, sym, ◌∙◌, Some}
+use Rattle.std.proofs.Common.{true, refl, Some}
 use Rattle.std.proofs.lemmas.Result.{on_ok_weaker}
 use Rattle.core_machine.specs.Channels.{closed}
 use Rattle.core_setup.specs.Protocols.{rules_of}
-use Rattle.core_setup.specs.Setup.{Setup}
 use Rattle.run_tables.proofs.Obeying.{flushed_state, is_every, target_is}
 use Rattle.run_tables.proofs.PushSteps.{writes_there}
 use Rattle.run_tables.proofs.Reading.{found_one, some_up}

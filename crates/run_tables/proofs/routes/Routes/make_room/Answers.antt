@@ -1,10 +1,8 @@
-use Rattle.std.proofs.Common.{◌≡◌, ◌+◌, ℕ, List, Some, refl, length, sym, ap, subst, ◌∙◌, arith}
+use Rattle.std.proofs.Common.{◌+◌, ℕ, List, refl, sym, ap, subst, ◌∙◌, arith}
 use Rattle.std.specs.Prelude.{slice_get, take}
 use Rattle.std.specs.declared.alloc.Global.{Global}
 use Rattle.std.specs.declared.vec.Vec.{Vec}
-use Rattle.core_machine.specs.Machine.{State}
 use Rattle.core_setup.specs.Protocols.{rules_of}
-use Rattle.core_setup.specs.Setup.{Setup}
 use Rattle.run_tables.specs.Routes.{AreRoutes, readers_at}
 use Rattle.run_tables.proofs.Readers.{reader_is, readers_of, readers_there}
 use Rattle.run_tables.proofs.Routing.{channels_length}

@@ -1,4 +1,4 @@
-use Rattle.std.proofs.Common.{ap, arith}
+use Rattle.std.proofs.Common.{arith}
 use Rattle.core_machine.specs.Channels.{times}
 use Rattle.core_machine.specs.Rounds.{round}
 use Rattle.core_setup.specs.Protocols.{rules_of}

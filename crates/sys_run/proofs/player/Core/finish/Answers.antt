@@ -9,7 +9,7 @@ use Rattle.sys_run.specs.Phase.{IsExportOf, IsJournalOf, IsLogOf, IsModeOf, IsOp
 use Rattle.sys_run.specs.declared.parts.TableParts.{TableParts}
 use Rattle.sys_run.specs.declared.player.Answered.{Answered}
 use Rattle.sys_run.specs.declared.protocol.Protocol.{Protocol}
-use Rattle.sys_run.proofs.Reporting.{exports_reported, journals_reported, logs_reported, modes_reported, operations_reported, printed, prints, replies_reported, rests, rests_joined, tables_reported}
+use Rattle.sys_run.proofs.Reporting.{exports_reported, journals_reported, logs_reported, modes_reported, operations_reported, printed, prints, replies_reported, rests, tables_reported}
 use Rattle.sys_run.proofs.player.Core.finish.Goals as goal
 
 pub returns-clause-report : goal.returns-clause-report
@@ -54,6 +54,5 @@ returns-clause-report g c = λ setup past s are at len.
         modes = modes_reported v setup past s core are emptied.items c.in_ok-modes.modes forgotten modes;
         exports = exports_reported v setup past s core are c.in_ok-exports.exports exports;
       },
-      rests_joined v setup past s core are emptied c.replace-answered.new.dest c.in-Some.number forgotten none,
       rests v setup past s core are emptied c.replace-answered.new.dest c.in-Some.number forgotten none c.in-Some.ensures.1,
     )
