@@ -1,5 +1,5 @@
 -- The report of a phase: its parts are those of what is printed.
-use Rattle.std.proofs.Common.{◌≡◌, ℕ, zero, suc, ◌+◌, ◌-◌, ◌==◌, Bool, true, false, List, [], ◌∷◌, ◌++◌, length, map, drop, reverse, Option, Some, None, is_some, refl, sym, ap, subst, ◌∙◌, arith}
+use Rattle.std.proofs.Common.{◌≡◌, ℕ, suc, ◌+◌, ◌-◌, ◌==◌, Bool, true, false, List, [], ◌∷◌, ◌++◌, length, map, drop, reverse, Option, Some, None, is_some, refl, sym, ap, subst, ◌∙◌, arith}
 use Rattle.std.specs.Prelude.{slice_get, option_map, if◌then◌else◌}
 use Rattle.std.specs.declared.alloc.Global.{Global}
 use Rattle.std.specs.declared.vec.Vec.{Vec}
@@ -23,7 +23,7 @@ use Rattle.core_machine.specs.Channels as machine
 use Rattle.core_machine.specs.Channels.{is_open}
 use Rattle.core_machine.specs.Histories.{content_of, front}
 use Rattle.core_machine.specs.Legal.{Joined, Printed, join}
-use Rattle.core_machine.specs.Lines.{Reply, Turn, ops_of}
+use Rattle.core_machine.specs.Lines.{Reply, ops_of}
 use Rattle.core_machine.specs.Machine.{State}
 use Rattle.core_machine.specs.Phases.{Prints}
 use Rattle.core_machine.specs.Replies.{replies_to}
@@ -32,7 +32,7 @@ use Rattle.core_setup.specs.Channels as setups
 use Rattle.core_setup.specs.Channels.{channels, target_at}
 use Rattle.core_setup.specs.Pairs.{Pairs}
 use Rattle.core_setup.specs.Protocols.{accepted_at, accepted_in, mode_at, mode_in, pipe_is_up, pipe_mode, rules_of}
-use Rattle.core_setup.specs.Reports.{AreStanding, IsExportReport, IsReplyReport, IsStandingReport, IsTableReport, channel_report, dones, is_direction, journal_report, mode_report, name_in, protocol_names, protocol_report, replies_from, standing_of, state_in, table_name}
+use Rattle.core_setup.specs.Reports.{IsExportReport, IsReplyReport, IsStandingReport, IsTableReport, channel_report, dones, is_direction, journal_report, mode_report, name_in, protocol_names, protocol_report, replies_from, state_in, table_name}
 use Rattle.core_setup.specs.Setup.{Body as SeenBody, IsPipe, IsSource, Protocol, Setup}
 use Rattle.core_setup.proofs.PairLemmas.{other_here, pairs_append, pairs_mapped, pairs_through, weaker_here}
 use Rattle.show_route.specs.Reply.{reply_text}
@@ -52,7 +52,7 @@ use Rattle.run_tables.specs.declared.table.Table.{Table}
 use Rattle.run_tables.proofs.Routing.{ChannelIs, TableIs, are_same}
 use Rattle.sys_run.specs.Cores.{Does, IsAnswered, IsCore, PlaysAs, counted}
 use Rattle.sys_run.specs.Phase.{BeganAt, IsEmptied, IsExportOf, IsJournalOf, IsLogOf, IsModeOf, IsOperationsOf, IsTableOf, logged_in, name_at, name_of, reply_of, standing_in, state_of, told}
-use Rattle.sys_run.specs.Playing.{Agrees, Rests, silent}
+use Rattle.sys_run.specs.Playing.{Rests, silent}
 use Rattle.sys_run.specs.declared.parts.TableParts.{TableParts}
 use Rattle.sys_run.specs.declared.phase.Begun.{Begun}
 use Rattle.sys_run.specs.declared.player.Answered.{Answered}

@@ -1,4 +1,4 @@
-use Rattle.std.proofs.Common.{◌∙◌, ap, drop, map, sym}
+use Rattle.std.proofs.Common.{◌∙◌, ap, map, sym}
 use Rattle.export_core.specs.Histories.{change_of}
 use Rattle.sys_run.proofs.ReportingLoops.{drop_map, got_copied}
 use Rattle.sys_run.proofs.phase.report_journal.Goals as goal
