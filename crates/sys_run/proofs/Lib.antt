@@ -2,3 +2,5 @@ pub mod Turning
 pub mod CoreSteps
 pub mod PlayingLines
 pub mod Asking
+pub mod ReportingLoops
+pub mod Reporting

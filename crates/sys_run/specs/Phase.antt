@@ -1,12 +1,11 @@
 -- For private contracts alone: where a phase began, and what is reported at its end of the single
 -- parts of a core.
-use Rattle.std.specs.Prelude.{◌≡◌, ◌++◌, ℕ, List, [], ◌∷◌, drop, is_some, length, map, reverse, Option, Some, None, option_map, slice_get}
+use Rattle.std.specs.Prelude.{◌≡◌, ◌++◌, ℕ, Bool, List, [], ◌∷◌, drop, is_some, length, map, Option, Some, None, option_map, slice_get, if◌then◌else◌}
 use Rattle.std.specs.declared.alloc.Global.{Global}
 use Rattle.std.specs.declared.vec.Vec.{Vec}
 use Rattle.bits_ip.specs.Prefix.{Net}
 use Rattle.bits_ip.specs.declared.address.Family.{Family}
 use Rattle.attrs.specs.declared.attributes.Attrs.{Attrs}
-use Rattle.attrs.specs.declared.journal.JEntry.{JEntry}
 use Rattle.attrs.specs.declared.judge.Verdict.{Verdict}
 use Rattle.attrs.specs.declared.route.Change.{Change}
 use Rattle.attrs.specs.declared.route.Route.{Route}
@@ -16,7 +15,6 @@ use Rattle.export_core.specs.Histories.{change_of}
 use Rattle.core_machine.specs.Channels as machine
 use Rattle.core_machine.specs.Histories.{content_of}
 use Rattle.core_machine.specs.Legal.{Joined}
-use Rattle.core_machine.specs.Machine.{State}
 use Rattle.core_machine.specs.Rules.{Rules}
 use Rattle.core_setup.specs.Channels as setups
 use Rattle.core_setup.specs.Pairs.{Pairs}
@@ -42,10 +40,6 @@ use Rattle.sys_run.specs.declared.protocol.Body.{Body}
 use Rattle.sys_run.specs.declared.protocol.Body.TheVariants.{Pipe, Source}
 use Rattle.sys_run.specs.declared.protocol.Protocol.{Protocol}
 
--- all that a state has come to
-abbrev pub joined_of : State → Joined
-joined_of s = record { history = s.history; ops = s.ops; logs = λ c. (s.channels c).log }
-
 -- the positions and the lengths of logs are those of what was printed before
 pub record BeganAt (setup : Setup) (past : Joined) (begun : Begun) : Type 0 where
   pub heads :
@@ -59,6 +53,10 @@ abbrev pub name_at : ℕ → List TableParts → Option (List ℕ)
 name_at number parts = option_map (λ (table : TableParts). table.name) (slice_get parts number)
 
 module _ {J : Type 0} where
+  -- how many items a channel's log has, and none before the first phase
+  abbrev pub logged_in : Bool → Channel J → ℕ
+  logged_in first held = if first then 0 else length held.exporter.log
+
   -- the report has the protocol's operations
   pub record IsOperationsOf
       (names : List (List ℕ)) (i : ℕ) (held : Protocol J) (report : ProtocolReport) : Type 0 where
@@ -82,6 +80,16 @@ module _ {J : Type 0} where
     pub name : slice_get names i ≡ Some report.name
     pub state : report.state ≡ state_of held.body
 
+  -- the report has the items of the log from a length on
+  pub record IsLogOf
+      (names : List (List ℕ)) (logged : List ℕ) (number : ℕ) (held : Channel J)
+      (report : ChannelReport) : Type 0 where
+    pub name : slice_get names number ≡ Some report.name
+    pub pipe : report.pipe ≡ is_some held.target
+    pub began : ℕ
+    pub begun : slice_get logged number ≡ Some began
+    pub items : report.items ≡ drop began held.exporter.log
+
 -- the report has the changes from a position on
 pub record IsJournalOf
     (parts : List TableParts) (heads : List ℕ) (number : ℕ) (table : Table)
@@ -102,16 +110,6 @@ abbrev pub standing_in : Key × Attrs → Standing
 standing_in value = record { key = value.0; attrs = value.1 }
 
 module _ {J : Type 0} (verdict : J → Net → Route → Verdict) where
-  -- the report has the items of the log from a length on
-  pub record IsLogOf
-      (names : List (List ℕ)) (logged : List ℕ) (number : ℕ) (held : Channel J)
-      (report : ChannelReport) : Type 0 where
-    pub name : slice_get names number ≡ Some report.name
-    pub pipe : report.pipe ≡ is_some held.target
-    pub began : ℕ
-    pub begun : slice_get logged number ≡ Some began
-    pub items : report.items ≡ drop began held.exporter.log
-
   pub record IsExportOf
       (names : List (List ℕ)) (number : ℕ) (held : Channel J) (report : ExportReport)
       : Type 0 where

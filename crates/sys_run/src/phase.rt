@@ -1,6 +1,6 @@
 //! The report of a phase.
-ghost use Rattle.std.specs.Prelude.{◌≡◌, ◌+◌, ◌++◌, ◌==◌, ℕ, List, Option, Some, IfOk, OnOk, drop, length, map, option_copied, option_map, slice_get, if◌then◌else◌};
-ghost use Rattle.core_machine.specs.Legal.{Joined, Printed};
+ghost use Rattle.std.specs.Prelude.{◌≡◌, ◌+◌, ◌++◌, ℕ, List, Option, Some, IfOk, OnOk, drop, length, map, option_copied, option_map, slice_get, if◌then◌else◌};
+ghost use Rattle.core_machine.specs.Legal.{Joined, Printed, join};
 ghost use Rattle.core_machine.specs.Machine.{State};
 ghost use Rattle.core_machine.specs.Phases.{Prints};
 ghost use Rattle.core_setup.specs.Pairs.{Pairs};
@@ -8,10 +8,9 @@ ghost use Rattle.core_setup.specs.Protocols.{rules_of};
 ghost use Rattle.core_setup.specs.Reports.{IsReport};
 ghost use Rattle.core_setup.specs.Setup.{Setup};
 ghost use Rattle.export_core.specs.Histories.{change_of};
-ghost use Rattle.run_tables.specs.declared.channel.Channel.{Channel as HeldChannel};
 ghost use Rattle.sys_run.specs.Cores.{Holds, IsCore};
-ghost use Rattle.sys_run.specs.Phase.{BeganAt, IsEmptied, IsExportOf, IsJournalOf, IsLogOf, IsModeOf, IsOperationsOf, IsTableOf, joined_of, reply_of, standing_in, told};
-ghost use Rattle.sys_run.specs.Playing.{Rests, silent};
+ghost use Rattle.sys_run.specs.Phase.{BeganAt, IsEmptied, IsExportOf, IsJournalOf, IsLogOf, IsModeOf, IsOperationsOf, IsTableOf, logged_in, reply_of, standing_in, told};
+ghost use Rattle.sys_run.specs.Playing.{Rests};
 
 use crate::parts::TableParts;
 use crate::player::{Answered, Core};
@@ -64,9 +63,7 @@ fn logged_of<J: Judge>(
     first: bool,
     channels: &[Channel<J>],
 ) -> Result<Vec<usize>, OutOfMemory>
-    ensures { IfOk result (λ logged. logged.items
-        ≡ map (λ (held : HeldChannel J). if first then 0 else length held.exporter.log)
-        channels.now) }
+    ensures { IfOk result (λ logged. logged.items ≡ map (logged_in first) channels.now) }
 {
     let mut logged = Vec::new(alloc);
     for channel in channels {
@@ -94,7 +91,7 @@ impl<J: Judge> Core<J> {
             → length self.old.replies.items ≡ length actors.now
             → (p : Printed) × Prints (rules_of setup) past s p
             × IsReport setup actors.now (self.old.phases + 1) past p report
-            × IsCore J.verdict setup (joined_of s) (silent s) self.new) }
+            × Rests J.verdict setup (self.old.phases + 1) (join past p) s self.new) }
         ensures phases { OnOk result (self.new.phases ≡ self.old.phases + 1) }
     {
         let Some(number) = self.phases.checked_add(1) else {
@@ -246,8 +243,7 @@ fn report_logs<J: Judge>(
     logged: &[usize],
 ) -> Result<Seq<ChannelReport>, OutOfMemory>
     ensures { IfOk result (λ reports.
-        Pairs (λ n held report. IsLogOf J.verdict names.now logged.now n held report)
-        0 channels.now reports) }
+        Pairs (IsLogOf names.now logged.now) 0 channels.now reports) }
 {
     let mut reports = Seq::new(alloc);
     for (number, channel) in channels.iter().enumerate() {
@@ -263,8 +259,7 @@ fn report_log<J: Judge>(
     channel: &Channel<J>,
     logged: &[usize],
 ) -> Result<ChannelReport, OutOfMemory>
-    ensures { IfOk result (λ report.
-        IsLogOf J.verdict names.now logged.now number channel.now report) }
+    ensures { IfOk result (λ report. IsLogOf names.now logged.now number channel.now report) }
 {
     let name = copy_name(alloc, names, number)?;
     let Some(from) = logged.get(number).copied() else {
@@ -442,8 +437,7 @@ fn report_exports<J: Judge>(
     channels: &[Channel<J>],
 ) -> Result<Seq<ExportReport>, OutOfMemory>
     ensures { IfOk result (λ reports.
-        Pairs (λ n held report. IsExportOf J.verdict names.now n held report)
-        0 channels.now reports) }
+        Pairs (IsExportOf J.verdict names.now) 0 channels.now reports) }
 {
     let mut reports = Seq::new(alloc);
     for (number, channel) in channels.iter().enumerate() {
