@@ -26,6 +26,7 @@ use crate::phase::Begun;
 use crate::protocol::{Body, Protocol, Turned};
 use attrs::{Change, Judge, Seq};
 use bits_ip::OutOfMemory;
+use core_machine::laws::{rounds_are_few, syncs_end};
 use import_core::{Done, Mark, Op};
 use report::PhaseReport;
 use run_tables::Routes;
@@ -110,6 +111,8 @@ impl<J: Judge> Core<J> {
             → HasPlayed J.verdict setup actors.now
             (scripts ++ phase_of lines.items ∷ []) (reports ++ report ∷ []) self.new) }
     {
+        syncs_end();
+        rounds_are_few();
         let begun = Begun::of(self)?;
         self.replies = no_replies(self.alloc, actors.len())?;
         self.begin()?;
