@@ -1,5 +1,5 @@
 -- The ways that code finds are the machine's.
-use Rattle.std.proofs.Common.{◌≡◌, ◌≢◌, ℕ, zero, suc, ◌+◌, ◌<◌, ◌≤◌, ◌⊎◌, inl, inr, Bool, true, false, not, List, [], ◌∷◌, ◌++◌, Option, Some, None, refl, sym, ◌∙◌, ap, subst, arith, length, is_some, set, take, get_or}
+use Rattle.std.proofs.Common.{◌≡◌, ◌≢◌, ℕ, zero, suc, ◌+◌, ◌-◌, ◌<◌, ◌≤◌, ◌⊎◌, inl, inr, Bool, true, false, not, List, [], ◌∷◌, ◌++◌, Option, Some, None, refl, sym, ◌∙◌, ap, subst, arith, length, is_some, set, take, get_or}
 use Rattle.std.specs.Prelude.{◌==◌, ◌&&◌, if◌then◌else◌, option_map, slice_get}
 use Rattle.std.specs.declared.alloc.Global.{Global}
 use Rattle.std.specs.declared.vec.Vec.{Vec}
@@ -11,7 +11,7 @@ use Rattle.core_machine.specs.Rules.{Rules}
 use Rattle.core_machine.specs.Ways.{Found, gone_on, level, levels, tried, with_way}
 use Rattle.core_setup.specs.Channels.{Channel}
 use Rattle.core_setup.proofs.PairLemmas.{cases_same, get-set, get-set_other, get_within, length-set_at, take_one_more}
-use Rattle.sys_run.specs.Made.{AreFound, AreLists, IsWithin, directions_in, direction_of, found_from, given, given_all, given_one, goes_on, gone_all, gone_one, way_of}
+use Rattle.sys_run.specs.Made.{AreFound, AreLists, AreWithin, IsWithin, directions_in, direction_of, found_from, given, given_all, given_one, goes_on, gone_all, gone_one, way_of}
 use Rattle.sys_run.specs.declared.ways.Direction.{Direction}
 use Rattle.sys_run.specs.declared.ways.Way.{Way}
 
@@ -255,3 +255,28 @@ given_turn f number k xs x lists e = sym (ap (λ l. given_all f number l lists) 
 
 pub found_none : (held : List (Option Way)) (f : Found) → held ≡ [] → AreFound 0 held f
 found_none held f e = subst (λ (l : List (Option Way)). AreFound 0 l f) (sym e) (record { count = refl; each = λ t w at. absurd (none-some w at) })
+
+pub item_read : {X : Type 0} (xs : List X) (k : ℕ) (x : X) → k < length xs → x ≡ get_or xs k x → slice_get xs k ≡ Some x
+item_read xs k x w e = read_at xs k x w ∙ ap (λ y. Some y) (sym e)
+
+pub within_count : (tables channels others : ℕ) (d : Direction) → channels ≡ others → IsWithin tables channels d → IsWithin tables others d
+within_count tables channels others d e is = record { channel = subst (λ n. d.channel < n) e is.channel; reads = is.reads; writes = is.writes }
+
+pub longer : {X : Type 0} (xs ys : List X) (x : X) → ys ≡ xs ++ x ∷ [] → length ys ≡ length xs + 1
+longer {X} xs ys x e = ap length e ∙ by xs where
+  by : (zs : List X) → length (zs ++ x ∷ []) ≡ length zs + 1
+  by [] = refl
+  by (z ∷ zs) = let h = by zs in omega (arith, h)
+
+pub lists_none : (held : List (Vec ℕ Global)) → held ≡ [] → (length held ≡ 0) × AreLists held (λ c. [])
+lists_none held e = (ap length e, λ c x at. absurd (none-some x (ap (λ l. slice_get l c) (sym e) ∙ at)))
+
+pub within_moved : (t u c d : ℕ) (xs ys : List Direction) → t ≡ u → c ≡ d → xs ≡ ys → AreWithin t c xs → AreWithin u d ys
+within_moved t u c d xs ys et ec ex are = subst (λ (l : List Direction). AreWithin u d l) ex (subst (λ n. AreWithin u n xs) ec (subst (λ n. AreWithin n c xs) et are))
+
+pub given_moved : (xs ys : List Direction) (t u m n home : ℕ) (held : List (Vec ℕ Global)) (lists : ℕ → List ℕ) → xs ≡ ys → t ≡ u → m ≡ n
+    → AreLists held (given_all (found_from xs home (t - 1)) m xs lists) → AreLists held (given_all (found_from ys home (u - 1)) n ys lists)
+given_moved xs ys t u m n home held lists ex et em are =
+    subst (λ (l : List Direction). AreLists held (given_all (found_from l home (u - 1)) n l lists)) ex
+    (subst (λ k. AreLists held (given_all (found_from xs home (u - 1)) k xs lists)) em
+    (subst (λ k. AreLists held (given_all (found_from xs home (k - 1)) m xs lists)) et are))

@@ -203,6 +203,19 @@ module _ {J : Type 0} (verdict : J → Net → Route → Verdict) where
     pub sources :
         Pairs IsSource 0 (map (protocol_seen verdict) protocols) made.sources.items
 
+  -- these channels are added, and nothing else
+  pub record AddsChannels
+      (passed : ℕ → List ℕ) (seen : List setups.Channel) (old new : Made J) : Type 0 where
+    pub names : new.names ≡ old.names
+    pub protocols : new.protocols ≡ old.protocols
+    pub sources : new.sources ≡ old.sources
+    pub added : List (Channel J)
+    pub channels : new.channels.items ≡ old.channels.items ++ added
+    pub are : Pairs (IsNewChannel passed) (length old.channels.items) seen added
+    pub channel_names :
+        new.channel_names.items
+        ≡ old.channel_names.items ++ map (λ (c : setups.Channel). c.name) seen
+
   -- what is added of one more protocol, but for its name
   pub record Adds
       (tables : List (List ℕ × Family)) (passed : ℕ → List ℕ) (number : ℕ) (name : List ℕ)

@@ -1,20 +1,20 @@
 //! The parts of a core that has played nothing.
-ghost use Rattle.std.specs.Prelude.{◌≡◌, ◌<◌, ◌^◌, ◌++◌, ◌-◌, ◌+◌, ℕ, true, false, [], ◌∷◌, List, IfOk, OnOk, Option, Some, None, length, map, slice_get};
+ghost use Rattle.std.specs.Prelude.{◌≡◌, ◌<◌, ◌^◌, ◌++◌, ◌-◌, ◌+◌, ℕ, true, false, [], ◌∷◌, List, IfOk, OnOk, Option, Some, None, length, map, option_map, slice_get};
 ghost use Rattle.std.specs.declared.alloc.Global.{Global as Alloc};
 ghost use Rattle.std.specs.declared.vec.Vec.{Vec as Held};
 ghost use Rattle.bits_ip.specs.declared.address.Family.{Family};
 ghost use Rattle.core_machine.specs.Machine.{start};
 ghost use Rattle.core_machine.specs.Rules.{Rules};
 ghost use Rattle.core_machine.specs.Ways.{Found};
-ghost use Rattle.core_setup.specs.Channels.{channels_in, family_or_first};
+ghost use Rattle.core_setup.specs.Channels.{channels_in, family_or_first, session};
 ghost use Rattle.core_setup.specs.Pairs.{Pairs};
 ghost use Rattle.core_setup.specs.Protocols.{rules_of, table_in};
-ghost use Rattle.core_setup.specs.Setup.{IsSetup, Setup, family_at};
+ghost use Rattle.core_setup.specs.Setup.{IsPipe, IsSetup, Setup, family_at};
 ghost use Rattle.run_tables.specs.Routes.{AreReaders, AreRoutes};
 ghost use Rattle.run_tables.specs.declared.channel.Channel.{Channel as HeldChannel};
-ghost use Rattle.sys_run.specs.Made.{Adds, AreFound, AreLists, AreNew, ArePassed, AreWithin, IsMade, IsMadeTable, IsWithin, Left, directions_in, found_from, given_all, given_one, opened_to, passed_at, readers_in, seen_in};
-ghost use Rattle.sys_run.specs.Parts.{body_seen, setup_seen, table_seen};
-ghost use Rattle.sys_run.specs.declared.parts.BodyParts.TheVariants.{Pipe, Source};
+ghost use Rattle.sys_run.specs.Made.{Adds, AddsChannels, AreFound, AreLists, AreNew, ArePassed, AreWithin, IsMade, IsMadeTable, IsWithin, Left, directions_in, found_from, given_all, given_one, opened_to, passed_at, readers_in, seen_in};
+ghost use Rattle.sys_run.specs.Parts.{body_seen, exports_seen, pipe_seen, setup_seen, table_seen};
+ghost use Rattle.sys_run.specs.declared.parts.BodyParts.TheVariants as kinds;
 ghost use Rattle.sys_run.specs.declared.parts.ProtocolParts.{ProtocolParts as Parts};
 ghost use Rattle.sys_run.specs.declared.parts.TableParts.{TableParts as HeldTable};
 ghost use Rattle.sys_run.specs.declared.protocol.Protocol.{Protocol as HeldProtocol};
@@ -278,12 +278,38 @@ impl<J: Judge + Drop> Made<J> {
             → Left (length self.new.channels.items) passed.new.items lists) }
     {
         let ProtocolParts { name, body } = protocol;
-        match body {
-            BodyParts::Source(source) => self.add_source(alloc, &name, source)?,
-            BodyParts::Pipe(pipe) => self.add_pipe(alloc, tables, passed, &name, pipe)?,
-        }
+        self.add_body(alloc, tables, passed, &name, body)?;
         self.names.push(name)?;
         Ok(())
+    }
+
+    fn add_body(
+        &mut self,
+        alloc: Global,
+        tables: &[TableParts],
+        passed: &mut Vec<Vec<u32>>,
+        name: &Seq<u8>,
+        body: BodyParts<J>,
+    ) -> Result<(), OutOfMemory>
+        requires { length self.old.names.items < 2 ^ 32 }
+        ensures adds { OnOk result ((lists : ℕ → List ℕ)
+            → Left (length self.old.channels.items) passed.old.items lists
+            → Adds J.verdict (map table_seen tables.now) lists (length self.old.names.items)
+            name.now body self.old self.new) }
+        ensures left { OnOk result ((lists : ℕ → List ℕ)
+            → Left (length self.old.channels.items) passed.old.items lists
+            → Left (length self.new.channels.items) passed.new.items lists) }
+    {
+        match body {
+            BodyParts::Source(source) => {
+                self.add_source(alloc, name, source)?;
+                Ok(())
+            }
+            BodyParts::Pipe(pipe) => {
+                self.add_pipe(alloc, tables, passed, name, pipe)?;
+                Ok(())
+            }
+        }
     }
 
     fn add_source(
@@ -293,24 +319,42 @@ impl<J: Judge + Drop> Made<J> {
         parts: SourceParts<J>,
     ) -> Result<(), OutOfMemory>
         ensures { OnOk result ((tables : List (List ℕ × Family)) (lists : ℕ → List ℕ) (number : ℕ)
-            → Adds J.verdict tables lists number name.now (Source parts) self.old self.new) }
+            → Adds J.verdict tables lists number name.now (kinds.Source parts) self.old self.new) }
     {
         let SourceParts { table, spec, judge, exports } = parts;
         let from = self.channels.len();
-        match exports {
-            Some(ExportParts { spec, judge }) => {
-                let exporter = Exporter::make(alloc, spec, judge);
-                self.add_channel(copied(alloc, name.as_slice(), b"")?, table, None, exporter)?;
-            }
-            None => {}
-        }
+        self.add_session(alloc, name, table, exports)?;
         self.sources.push(spec.src)?;
         let body = Body::Source(Source {
             table,
             kind: spec.kind,
             importer: Importer::make(alloc, spec, judge),
         });
-        self.add_protocol(alloc, body, from)
+        self.add_protocol(alloc, body, from)?;
+        Ok(())
+    }
+
+    /// The channel to a neighbour, where there is one.
+    fn add_session(
+        &mut self,
+        alloc: Global,
+        name: &Seq<u8>,
+        table: usize,
+        exports: Option<ExportParts<J>>,
+    ) -> Result<(), OutOfMemory>
+        ensures { OnOk result ((tables : List (List ℕ × Family)) (lists : ℕ → List ℕ) (number : ℕ)
+            → AddsChannels J.verdict lists (session tables number name.now table
+            (option_map (exports_seen J.verdict) exports)) self.old self.new) }
+    {
+        match exports {
+            Some(ExportParts { spec, judge }) => {
+                let exporter = Exporter::make(alloc, spec, judge);
+                let copy = copied(alloc, name.as_slice(), b"")?;
+                self.add_channel(copy, table, None, exporter)?;
+                Ok(())
+            }
+            None => Ok(()),
+        }
     }
 
     fn add_pipe(
@@ -325,14 +369,39 @@ impl<J: Judge + Drop> Made<J> {
         ensures adds { OnOk result ((lists : ℕ → List ℕ)
             → Left (length self.old.channels.items) passed.old.items lists
             → Adds J.verdict (map table_seen tables.now) lists (length self.old.names.items)
-            name.now (Pipe parts) self.old self.new) }
+            name.now (kinds.Pipe parts) self.old self.new) }
         ensures left { OnOk result ((lists : ℕ → List ℕ)
             → Left (length self.old.channels.items) passed.old.items lists
             → Left (length self.new.channels.items) passed.new.items lists) }
     {
+        let from = self.channels.len();
+        let number = number_of(self.names.len());
+        self.add_both(alloc, tables, passed, name, number, parts)?;
+        self.sources.push(Src { num: number, def_med: 0, def_lp: 0 })?;
+        self.add_protocol(alloc, Body::Pipe(true), from)?;
+        Ok(())
+    }
+
+    /// Both directions of a pipe.
+    fn add_both(
+        &mut self,
+        alloc: Global,
+        tables: &[TableParts],
+        passed: &mut Vec<Vec<u32>>,
+        name: &Seq<u8>,
+        number: u32,
+        parts: PipeParts<J>,
+    ) -> Result<(), OutOfMemory>
+        ensures adds { OnOk result ((lists : ℕ → List ℕ)
+            → Left (length self.old.channels.items) passed.old.items lists
+            → AddsChannels J.verdict lists (channels_in (map table_seen tables.now) number
+            name.now (IsPipe (pipe_seen J.verdict parts))) self.old self.new) }
+        ensures left { OnOk result ((lists : ℕ → List ℕ)
+            → Left (length self.old.channels.items) passed.old.items lists
+            → Left (length self.old.channels.items + 2) passed.new.items lists) }
+    {
         let PipeParts { primary, peer, export, import } = parts;
         let from = self.channels.len();
-        let number = self.names.len() as u32;
         let there = gate(family_of(tables, primary), number, taken(alloc, passed, from));
         let back = gate(family_of(tables, peer), number, taken(alloc, passed, from + 1));
         let name_there = copied(alloc, name.as_slice(), b".export")?;
@@ -341,8 +410,7 @@ impl<J: Judge + Drop> Made<J> {
         self.add_channel(name_there, primary, Some(peer), exporter)?;
         let importer = Exporter::make(alloc, back, import);
         self.add_channel(name_back, peer, Some(primary), importer)?;
-        self.sources.push(Src { num: number, def_med: 0, def_lp: 0 })?;
-        self.add_protocol(alloc, Body::Pipe(true), from)
+        Ok(())
     }
 
     fn add_channel(
@@ -399,6 +467,14 @@ impl<J: Judge + Drop> Made<J> {
         })?;
         Ok(())
     }
+}
+
+/// A protocol's number, where so many stand before it.
+fn number_of(count: usize) -> u32
+    requires { count < 2 ^ 32 }
+    ensures { result ≡ count }
+{
+    count as u32
 }
 
 /// A copy of a name, with more behind it.
