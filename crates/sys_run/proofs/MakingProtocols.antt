@@ -72,12 +72,12 @@ module _ {J : Type 0} (verdict : J → Net → Route → Verdict) (tables : List
     bodies = subst (λ (l : List (Protocol J)). Pairs (IsMadeProtocol verdict tables (ps ++ p ∷ [])) 0 (ps ++ p ∷ []) l) (sym (ap (λ (v : Vec (Protocol J) Global). v.items) protocols ∙ adds.protocols))
         (pairs_push (IsMadeProtocol verdict tables (ps ++ p ∷ [])) 0 ps old.protocols.items p adds.held
         (pairs_weaker (IsMadeProtocol verdict tables ps) (IsMadeProtocol verdict tables (ps ++ p ∷ [])) 0 ps old.protocols.items (λ j x y ex ey held.
-            let w = get_within ps j x ex in record {
-              body = held.body;
-              from = held.from ∙ ap length (sym (before (0 + j) (omega (arith, w))));
-              upto = held.upto ∙ ap length (sym (before (suc (0 + j)) (omega (arith, w))));
-              done = held.done;
-            }) is.bodies)
+        let w = get_within ps j x ex in record {
+          body = held.body;
+          from = held.from ∙ ap length (sym (before (0 + j) (omega (arith, w))));
+          upto = held.upto ∙ ap length (sym (before (suc (0 + j)) (omega (arith, w))));
+          done = held.done;
+        }) is.bodies)
         (record {
           body = adds.body;
           from = adds.from ∙ sym seen_old ∙ ap length (sym (ap whole_of (take_front (0 + length ps) ps (p ∷ []) (omega arith)) ∙ ap (λ n. whole_of (take n ps)) zero_on ∙ ap whole_of (take_whole ps)));

@@ -94,14 +94,14 @@ module _ {J : Type 0} where
   reader_here n (x ∷ held) t zero h e =
       subst (λ m. among m (readers_from n (x ∷ held) t) ≡ (h.table == t)) (let z : n ≡ zero + n = omega arith in z)
       (by (x.table == t) (below_first (n + 1) held t n (omega arith)) ∙ ap (λ (y : Held J). y.table == t) (some_same e)) where
-    by : (b : Bool) → among n (readers_from (n + 1) held t) ≡ false → among n ((if b then n ∷ [] else []) ++ readers_from (n + 1) held t) ≡ b
-    by true rest = ap (λ x. x || among n (readers_from (n + 1) held t)) (same_number n n refl)
-    by false rest = rest
+        by : (b : Bool) → among n (readers_from (n + 1) held t) ≡ false → among n ((if b then n ∷ [] else []) ++ readers_from (n + 1) held t) ≡ b
+        by true rest = ap (λ x. x || among n (readers_from (n + 1) held t)) (same_number n n refl)
+        by false rest = rest
   reader_here n (x ∷ held) t (suc j) h e =
       by (x.table == t) (subst (λ m. among m (readers_from (n + 1) held t) ≡ (h.table == t)) (let z : j + (n + 1) ≡ suc j + n = omega arith in z) (reader_here (n + 1) held t j h e)) where
-    by : (b : Bool) → among (suc j + n) (readers_from (n + 1) held t) ≡ (h.table == t) → among (suc j + n) ((if b then n ∷ [] else []) ++ readers_from (n + 1) held t) ≡ (h.table == t)
-    by true rest = ap (λ x. x || among (suc j + n) (readers_from (n + 1) held t)) (other_number n (suc j + n) (λ e. let bad : 1 ≤ 0 = omega (arith, e) in omega (arith, bad))) ∙ rest
-    by false rest = rest
+        by : (b : Bool) → among (suc j + n) (readers_from (n + 1) held t) ≡ (h.table == t) → among (suc j + n) ((if b then n ∷ [] else []) ++ readers_from (n + 1) held t) ≡ (h.table == t)
+        by true rest = ap (λ x. x || among (suc j + n) (readers_from (n + 1) held t)) (other_number n (suc j + n) (λ e. let bad : 1 ≤ 0 = omega (arith, e) in omega (arith, bad))) ∙ rest
+        by false rest = rest
 
   no_lower : (n : ℕ) (held : List (Held J)) (t place c : ℕ) → slice_get (readers_from n held t) place ≡ Some c → n ≤ c
   no_lower n [] t place c e = none_some e

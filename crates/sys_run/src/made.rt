@@ -18,6 +18,7 @@ ghost use Rattle.sys_run.specs.declared.parts.BodyParts.TheVariants as kinds;
 ghost use Rattle.sys_run.specs.declared.parts.ProtocolParts.{ProtocolParts as Parts};
 ghost use Rattle.sys_run.specs.declared.parts.TableParts.{TableParts as HeldTable};
 ghost use Rattle.sys_run.specs.declared.protocol.Protocol.{Protocol as HeldProtocol};
+
 use crate::parts::{BodyParts, ExportParts, PipeParts, ProtocolParts, SourceParts, TableParts};
 use crate::protocol::{Body, Protocol, Source};
 use crate::ways::{Direction, Way, ends_with, ways_from};
@@ -321,7 +322,12 @@ impl<J: Judge + Drop> Made<J> {
         ensures { OnOk result ((tables : List (List ℕ × Family)) (lists : ℕ → List ℕ) (number : ℕ)
             → Adds J.verdict tables lists number name.now (kinds.Source parts) self.old self.new) }
     {
-        let SourceParts { table, spec, judge, exports } = parts;
+        let SourceParts {
+            table,
+            spec,
+            judge,
+            exports,
+        } = parts;
         let from = self.channels.len();
         self.add_session(alloc, name, table, exports)?;
         self.sources.push(spec.src)?;
@@ -377,7 +383,11 @@ impl<J: Judge + Drop> Made<J> {
         let from = self.channels.len();
         let number = number_of(self.names.len());
         self.add_both(alloc, tables, passed, name, number, parts)?;
-        self.sources.push(Src { num: number, def_med: 0, def_lp: 0 })?;
+        self.sources.push(Src {
+            num: number,
+            def_med: 0,
+            def_lp: 0,
+        })?;
         self.add_protocol(alloc, Body::Pipe(true), from)?;
         Ok(())
     }
@@ -400,10 +410,23 @@ impl<J: Judge + Drop> Made<J> {
             → Left (length self.old.channels.items) passed.old.items lists
             → Left (length self.old.channels.items + 2) passed.new.items lists) }
     {
-        let PipeParts { primary, peer, export, import } = parts;
+        let PipeParts {
+            primary,
+            peer,
+            export,
+            import,
+        } = parts;
         let from = self.channels.len();
-        let there = gate(family_of(tables, primary), number, taken(alloc, passed, from));
-        let back = gate(family_of(tables, peer), number, taken(alloc, passed, from + 1));
+        let there = gate(
+            family_of(tables, primary),
+            number,
+            taken(alloc, passed, from),
+        );
+        let back = gate(
+            family_of(tables, peer),
+            number,
+            taken(alloc, passed, from + 1),
+        );
         let name_there = copied(alloc, name.as_slice(), b".export")?;
         let name_back = copied(alloc, name.as_slice(), b".import")?;
         let exporter = Exporter::make(alloc, there, export);
@@ -444,12 +467,7 @@ impl<J: Judge + Drop> Made<J> {
     }
 
     /// The channels of the protocol are those from a number on.
-    fn add_protocol(
-        &mut self,
-        alloc: Global,
-        body: Body<J>,
-        from: usize,
-    ) -> Result<(), OutOfMemory>
+    fn add_protocol(&mut self, alloc: Global, body: Body<J>, from: usize) -> Result<(), OutOfMemory>
         ensures names { OnOk result (self.new.names ≡ self.old.names) }
         ensures channels { OnOk result (self.new.channels ≡ self.old.channels) }
         ensures channel_names { OnOk result (self.new.channel_names ≡ self.old.channel_names) }

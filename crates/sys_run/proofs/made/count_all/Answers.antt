@@ -13,10 +13,11 @@ pub loop-protocol-preserved : goal.loop-protocol-preserved
 loop-protocol-preserved g c =
     let xs = c.args.protocols.now in
     let k = c.loop-protocol.protocol-index in
-    let x = c.protocol-item.result in
-    (omega (arith, c.loop-protocol.invariant.0, c.count_channels-count.ensures.few),
-    λ tables. count_turn g.J.Judge.verdict tables xs k c.loop-protocol.count c.count_channels-count.result x (item_read xs k x c.loop-protocol-test.true c.protocol-item.is)
-    (c.loop-protocol.invariant.1 tables) (c.count_channels-count.ensures.many tables k x.name))
+    let x = c.protocol-item.result in (
+      omega (arith, c.loop-protocol.invariant.0, c.count_channels-count.ensures.few),
+      λ tables. count_turn g.J.Judge.verdict tables xs k c.loop-protocol.count c.count_channels-count.result x (item_read xs k x c.loop-protocol-test.true c.protocol-item.is)
+          (c.loop-protocol.invariant.1 tables) (c.count_channels-count.ensures.many tables k x.name),
+    )
 
 pub returns : goal.returns
 returns g c = λ tables. c.loop-protocol.invariant.1 tables

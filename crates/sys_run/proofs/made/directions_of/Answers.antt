@@ -15,12 +15,13 @@ loop-protocol-preserved g c =
     let xs = c.args.protocols.now in
     let k = c.loop-protocol.protocol-index in
     let x = c.protocol-item.result in
-    let at : _ = item_read xs k x c.loop-protocol-test.true c.protocol-item.is in
-    (omega (arith, c.loop-protocol.invariant.0, c.count_channels-channel.ensures.few),
-    λ tables. count_turn v tables xs k c.loop-protocol.channel c.count_channels-channel.result x at
-    (c.loop-protocol.invariant.1 tables) (c.count_channels-channel.ensures.many tables k x.name),
-    λ tables. directions_turn v tables xs k c.loop-protocol.channel x c.loop-protocol.directions.items c.add_directions.new.directions.items at
-    (c.loop-protocol.invariant.1 tables) (c.loop-protocol.invariant.2 tables) (c.in_ok-add_directions.ensures tables k x.name))
+    let at : _ = item_read xs k x c.loop-protocol-test.true c.protocol-item.is in (
+      omega (arith, c.loop-protocol.invariant.0, c.count_channels-channel.ensures.few),
+      λ tables. count_turn v tables xs k c.loop-protocol.channel c.count_channels-channel.result x at
+          (c.loop-protocol.invariant.1 tables) (c.count_channels-channel.ensures.many tables k x.name),
+      λ tables. directions_turn v tables xs k c.loop-protocol.channel x c.loop-protocol.directions.items c.add_directions.new.directions.items at
+          (c.loop-protocol.invariant.1 tables) (c.loop-protocol.invariant.2 tables) (c.in_ok-add_directions.ensures tables k x.name),
+    )
 
 pub returns : goal.returns
 returns g c = λ tables. c.loop-protocol.invariant.2 tables

@@ -16,9 +16,11 @@ readers_of-requires g c = λ d held e.
 pub open_pipes-requires : goal.open_pipes-requires
 open_pipes-requires g c =
     let h = c.requires in
-    let many : length c.in_ok-readers.readers.items ≡ length c.args.tables.items = omega (arith, c.in_ok-readers.ensures.count, c.len.ensures, c.args.tables.ok.0) in
-    (h.0, routes_are g.J.Judge.verdict h.0 (record { alloc = c.args.alloc; cells = c.args.cells; tables = c.args.tables; readers = c.in_ok-readers.readers; channels = c.args.channels; sources = c.args.sources }) h.1 many
-    (subst (λ (l : List (Channel g.row.J.Denot)). AreLists c.in_ok-readers.readers.items (readers_in l)) c.deref.ensures.value c.in_ok-readers.ensures.readers))
+    let many : length c.in_ok-readers.readers.items ≡ length c.args.tables.items = omega (arith, c.in_ok-readers.ensures.count, c.len.ensures, c.args.tables.ok.0) in (
+      h.0,
+      routes_are g.J.Judge.verdict h.0 (record { alloc = c.args.alloc; cells = c.args.cells; tables = c.args.tables; readers = c.in_ok-readers.readers; channels = c.args.channels; sources = c.args.sources }) h.1 many
+          (subst (λ (l : List (Channel g.row.J.Denot)). AreLists c.in_ok-readers.readers.items (readers_in l)) c.deref.ensures.value c.in_ok-readers.ensures.readers),
+    )
 
 pub returns : goal.returns
 returns g c = λ setup new.

@@ -1,5 +1,4 @@
 use Rattle.std.proofs.Common.{◌≡◌, ◌∙◌, ◌+◌, ap, arith}
-use Rattle.sys_run.proofs.MakingNew.{new_of}
 use Rattle.sys_run.proofs.MakingWays.{lists_none, lists_push, longer}
 use Rattle.sys_run.proofs.made.no_readers.Goals as goal
 

@@ -15,11 +15,12 @@ pass_one-requires c =
 pub loop-direction-preserved : goal.loop-direction-preserved
 loop-direction-preserved c =
     let k = c.loop-direction.direction-index in
-    let ds = c.args.directions.now in
-    (c.in_ok-pass_one.ensures.count ∙ c.loop-direction.invariant.0,
-    λ tables f lists are held. subst (λ (l : ℕ → List ℕ). AreLists c.pass_one.new.passed.items l)
-    (given_turn f c.args.number k ds _ lists (read_at ds k (record { channel = 0; reads = 0; writes = 0 }) c.loop-direction-test.true))
-    (c.in_ok-pass_one.ensures.lists tables f (given_all f c.args.number (take k ds) lists) are (c.loop-direction.invariant.1 tables f lists are held)))
+    let ds = c.args.directions.now in (
+      c.in_ok-pass_one.ensures.count ∙ c.loop-direction.invariant.0,
+      λ tables f lists are held. subst (λ (l : ℕ → List ℕ). AreLists c.pass_one.new.passed.items l)
+          (given_turn f c.args.number k ds _ lists (read_at ds k (record { channel = 0; reads = 0; writes = 0 }) c.loop-direction-test.true))
+          (c.in_ok-pass_one.ensures.lists tables f (given_all f c.args.number (take k ds) lists) are (c.loop-direction.invariant.1 tables f lists are held)),
+    )
 
 pub returns-clause-lists : goal.returns-clause-lists
 returns-clause-lists c = λ tables f lists are held.

@@ -36,16 +36,18 @@ loop-protocol-preserved g c =
     let home = c.home_of-home.result in
     let new = c.pass_source.new.passed.items in
     let there : slice_get ps k ≡ Some x = item_read ps k x c.loop-protocol-test.true c.protocol-item.is in
-    let count = c.in_ok-pass_source.ensures.count ∙ c.loop-protocol.invariant.0 in
-    (count, ap (λ n. n + 1) c.loop-protocol.invariant.1,
-    λ parts cells e.
-        let setup : Setup = setup_seen v parts ps cells in
-        lists_till setup new (suc k) (k + 1) (let z : suc k ≡ k + 1 = omega arith in z)
-        (passed_turn setup k home new (home_is v parts ps cells k c.args.tables home x there e c.home_of-home.ensures)
-        (count ∙ c.in_ok-passed.ensures.0 ∙ c.count_all.ensures (map table_seen parts))
-        (given_moved c.deref.result.now (directions_in 0 (channels setup)) c.args.tables (length setup.tables) c.loop-protocol.number k home new (λ d. passed_below (rules_of setup) d k)
-        (c.deref.ensures.value ∙ c.in_ok-directions.ensures (map table_seen parts)) (sym (length-map parts table_seen ∙ e)) c.loop-protocol.invariant.1
-        (c.in_ok-pass_source.ensures.lists (λ d. passed_below (rules_of setup) d k) (c.loop-protocol.invariant.2 parts cells e)))))
+    let count = c.in_ok-pass_source.ensures.count ∙ c.loop-protocol.invariant.0 in (
+      count,
+      ap (λ n. n + 1) c.loop-protocol.invariant.1,
+      λ parts cells e.
+          let setup : Setup = setup_seen v parts ps cells in
+          lists_till setup new (suc k) (k + 1) (let z : suc k ≡ k + 1 = omega arith in z)
+          (passed_turn setup k home new (home_is v parts ps cells k c.args.tables home x there e c.home_of-home.ensures)
+          (count ∙ c.in_ok-passed.ensures.0 ∙ c.count_all.ensures (map table_seen parts))
+          (given_moved c.deref.result.now (directions_in 0 (channels setup)) c.args.tables (length setup.tables) c.loop-protocol.number k home new (λ d. passed_below (rules_of setup) d k)
+          (c.deref.ensures.value ∙ c.in_ok-directions.ensures (map table_seen parts)) (sym (length-map parts table_seen ∙ e)) c.loop-protocol.invariant.1
+          (c.in_ok-pass_source.ensures.lists (λ d. passed_below (rules_of setup) d k) (c.loop-protocol.invariant.2 parts cells e)))),
+    )
 
 pub returns : goal.returns
 returns g c = λ parts cells e.

@@ -22,10 +22,12 @@ loop-channel-preserved g c =
     let x = c.channel-item.result in
     let cs = c.args.channels.now in
     let at = item_read cs k x c.loop-channel-test.true c.channel-item.is in
-    let held = c.loop-channel.readers.items in
-    (length-set_at held x.table c.push.new.self ∙ c.loop-channel.invariant.0, ap (λ n. n + 1) c.loop-channel.invariant.1,
-    readers_turn cs k x held c.index_mut.result.now c.push.new.self c.loop-channel.number at c.loop-channel.invariant.1
-    (item_read held x.table c.index_mut.result.now (omega (arith, c.requires k x at, c.loop-channel.invariant.0)) c.index_mut.ensures.value) c.in_ok-push.ensures.items c.loop-channel.invariant.2)
+    let held = c.loop-channel.readers.items in (
+      length-set_at held x.table c.push.new.self ∙ c.loop-channel.invariant.0,
+      ap (λ n. n + 1) c.loop-channel.invariant.1,
+      readers_turn cs k x held c.index_mut.result.now c.push.new.self c.loop-channel.number at c.loop-channel.invariant.1
+          (item_read held x.table c.index_mut.result.now (omega (arith, c.requires k x at, c.loop-channel.invariant.0)) c.index_mut.ensures.value) c.in_ok-push.ensures.items c.loop-channel.invariant.2,
+    )
 
 pub returns-clause-count : goal.returns-clause-count
 returns-clause-count g c = c.loop-channel.invariant.0

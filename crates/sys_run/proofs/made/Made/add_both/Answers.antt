@@ -29,10 +29,12 @@ returns-clause-adds g c = λ lists left.
         direction_new v tables lists (length old.channels.items) c.args.number c.args.name.now (codes ".export") p.primary p.peer p.export c.gate-there.result c.family_of.result c.taken.result.items c.make-exporter.result
             c.make-exporter.ensures c.gate-there.ensures c.family_of.ensures
             (c.taken.ensures.list ∙ left n (omega (arith, from)) ∙ ap lists from),
-        (direction_new v tables lists (length old.channels.items + 1) c.args.number c.args.name.now (codes ".import") p.peer p.primary p.import c.gate-back.result c.family_of-2.result c.taken-2.result.items c.make-importer.result
-            c.make-importer.ensures c.gate-back.ensures c.family_of-2.ensures
-            (c.taken-2.ensures.list ∙ c.taken.ensures.others (n + 1) (λ e. omega (arith, e)) ∙ left (n + 1) (omega (arith, from)) ∙ ap (λ m. lists (m + 1)) from),
-        tt),
+        (
+          direction_new v tables lists (length old.channels.items + 1) c.args.number c.args.name.now (codes ".import") p.peer p.primary p.import c.gate-back.result c.family_of-2.result c.taken-2.result.items c.make-importer.result
+              c.make-importer.ensures c.gate-back.ensures c.family_of-2.ensures
+              (c.taken-2.ensures.list ∙ c.taken.ensures.others (n + 1) (λ e. omega (arith, e)) ∙ left (n + 1) (omega (arith, from)) ∙ ap (λ m. lists (m + 1)) from),
+          tt,
+        ),
       );
       channel_names = second.channel_names ∙ ap (λ l. l ++ c.in_ok-name_back.name_back ∷ []) first.channel_names
           ∙ append_assoc old.channel_names.items (c.in_ok-name_there.name_there ∷ []) (c.in_ok-name_back.name_back ∷ [])
