@@ -250,7 +250,8 @@ module _ {J : Type 0} (verdict : J → Net → Route → Verdict) where
     pub rules_are : IsRules (rules_of setup)
     pub cells_are : cells ≡ setup.cells
     pub tables_are :
-        Pairs (λ n seen table. (rules : Rules) → IsTable rules seen.1 [] table) 0 setup.tables tables
+        Pairs (λ n seen table. (rules : Rules) → IsTable rules seen.1 [] table)
+        0 setup.tables tables
     pub channels_are : Pairs (IsNewChannel (sources setup)) 0 (channels setup) held
     pub sources_are : AreSources (rules_of setup) sources_held
 

@@ -578,7 +578,8 @@ pub(crate) fn make_routes<J: Judge + Drop>(
 
 /// Each direction of a pipe comes up.
 fn open_pipes<J: Judge>(routes: &mut Routes<J>) -> Result<(), OutOfMemory>
-    requires { (setup : Setup) × AreRoutes J.verdict setup (opened_to (rules_of setup) 0) routes.old }
+    requires { (setup : Setup)
+        × AreRoutes J.verdict setup (opened_to (rules_of setup) 0) routes.old }
     ensures { OnOk result ((setup : Setup)
         → AreRoutes J.verdict setup (opened_to (rules_of setup) 0) routes.old
         → AreRoutes J.verdict setup (start (rules_of setup)) routes.new) }
