@@ -6,3 +6,9 @@ pub mod ReportingLoops
 pub mod Reporting
 pub mod Starting
 pub mod Played
+pub mod MakingWays
+pub mod MakingParts
+pub mod MakingProtocols
+pub mod MakingRoutes
+pub mod MakingNew
+pub mod MakingCore

@@ -6,7 +6,8 @@ use Rattle.bits_ip.specs.Prefix.{Net}
 use Rattle.bits_ip.specs.declared.address.Family.{Family}
 use Rattle.attrs.specs.declared.judge.Verdict.{Verdict}
 use Rattle.attrs.specs.declared.route.Route.{Route}
-use Rattle.core_setup.specs.Setup.{Body, Exports, IsPipe, IsSource, Pipe as SeenPipe, Protocol, Setup, Source as SeenSource}
+use Rattle.core_setup.specs.Setup as setup
+use Rattle.core_setup.specs.Setup.{Exports, Setup}
 use Rattle.sys_run.specs.declared.parts.BodyParts.{BodyParts}
 use Rattle.sys_run.specs.declared.parts.BodyParts.TheVariants.{Pipe, Source}
 use Rattle.sys_run.specs.declared.parts.ExportParts.{ExportParts}
@@ -22,7 +23,7 @@ module _ {J : Type 0} (verdict : J → Net → Route → Verdict) where
   abbrev pub exports_seen : ExportParts J → Exports
   exports_seen exports = record { spec = exports.spec; filter = verdict exports.judge }
 
-  abbrev pub source_seen : SourceParts J → SeenSource
+  abbrev pub source_seen : SourceParts J → setup.Source
   source_seen p = record {
     table = p.table;
     spec = p.spec;
@@ -30,7 +31,7 @@ module _ {J : Type 0} (verdict : J → Net → Route → Verdict) where
     exports = option_map exports_seen p.exports;
   }
 
-  abbrev pub pipe_seen : PipeParts J → SeenPipe
+  abbrev pub pipe_seen : PipeParts J → setup.Pipe
   pipe_seen p = record {
     primary = p.primary;
     peer = p.peer;
@@ -38,11 +39,11 @@ module _ {J : Type 0} (verdict : J → Net → Route → Verdict) where
     import = verdict p.import;
   }
 
-  abbrev pub body_seen : BodyParts J → Body
-  body_seen (Source p) = IsSource (source_seen p)
-  body_seen (Pipe p) = IsPipe (pipe_seen p)
+  abbrev pub body_seen : BodyParts J → setup.Body
+  body_seen (Source p) = setup.IsSource (source_seen p)
+  body_seen (Pipe p) = setup.IsPipe (pipe_seen p)
 
-  abbrev pub protocol_seen : ProtocolParts J → Protocol
+  abbrev pub protocol_seen : ProtocolParts J → setup.Protocol
   protocol_seen p = record { name = p.name; body = body_seen p.body }
 
   abbrev pub setup_seen : List TableParts → List (ProtocolParts J) → ℕ → Setup

@@ -1,5 +1,5 @@
 //! A core: what plays a script.
-ghost use Rattle.std.specs.Prelude.{◌≡◌, ◌<◌, ◌≤◌, ◌++◌, ◌-◌, ℕ, [], ◌∷◌, length, List, IfOk, IsSome, OnOk, reverse, Some, map, slice_get};
+ghost use Rattle.std.specs.Prelude.{◌≡◌, ◌<◌, ◌≤◌, ◌^◌, ◌++◌, ◌-◌, ℕ, [], ◌∷◌, length, List, IfOk, IsSome, OnOk, reverse, Some, map, slice_get};
 ghost use Rattle.std.specs.List.{All};
 ghost use Rattle.std.specs.declared.alloc.Global.{Global};
 ghost use Rattle.std.specs.declared.vec.Vec.{Vec};
@@ -70,13 +70,14 @@ impl<J: Judge + Drop> Core<J> {
         tables: Vec<TableParts>,
         protocols: Vec<ProtocolParts<J>>,
     ) -> Result<Core<J>, OutOfMemory>
-        requires { IsSetup (setup_seen J.verdict tables.items protocols.items cells) }
+        requires few { length protocols.items < 2 ^ 32 }
+        requires setup { IsSetup (setup_seen J.verdict tables.items protocols.items cells) }
         ensures { IfOk result (λ core. (actors : List (List ℕ))
             → HasPlayed J.verdict (setup_seen J.verdict tables.items protocols.items cells)
             actors [] [] core) }
     {
         let held = make_tables(alloc, &tables)?;
-        let passed = passed_by(alloc, &tables, &protocols)?;
+        let passed = passed_by(alloc, tables.len(), &protocols)?;
         let made = make_protocols(alloc, &tables, passed, protocols)?;
         let Made {
             names,
