@@ -4,3 +4,5 @@ pub mod PlayingLines
 pub mod Asking
 pub mod ReportingLoops
 pub mod Reporting
+pub mod Operating
+pub mod OperatingChannels
