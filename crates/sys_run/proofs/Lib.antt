@@ -6,3 +6,4 @@ pub mod ReportingLoops
 pub mod Reporting
 pub mod Operating
 pub mod OperatingChannels
+pub mod OperatingCore
