@@ -12,3 +12,6 @@ pub mod MakingProtocols
 pub mod MakingRoutes
 pub mod MakingNew
 pub mod MakingCore
+pub mod Operating
+pub mod OperatingChannels
+pub mod OperatingCore
