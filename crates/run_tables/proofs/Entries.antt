@@ -1,5 +1,5 @@
 -- What a direction of a pipe sent last, and its change.
-use Rattle.std.proofs.Common.{◌≡◌, ◌-◌, ℕ, List, ◌∷◌, Option, Some, refl, ap, subst, sym, ◌∙◌, length, reverse}
+use Rattle.std.proofs.Common.{◌≡◌, ◌-◌, List, ◌∷◌, Option, Some, ap, subst, sym, ◌∙◌, length, reverse}
 use Rattle.std.specs.Prelude.{IfOk, slice_get}
 use Rattle.std.specs.declared.result.Result.{Result}
 use Rattle.std.proofs.lemmas.Result.{IfOk-weaker}

@@ -1,5 +1,5 @@
 -- A feed of the whole table.
-use Rattle.std.proofs.Common.{◌≡◌, ℕ, ◌+◌, ◌≤◌, max, Bool, true, false, List, [], ◌∷◌, Option, Some, None, refl, sym, ◌∙◌, ap, subst, arith, length}
+use Rattle.std.proofs.Common.{◌≡◌, ℕ, ◌≤◌, max, Bool, true, false, List, [], ◌∷◌, Option, Some, None, refl, sym, ◌∙◌, ap, subst, arith, length}
 use Rattle.std.specs.Prelude.{◌==◌, ◌&&◌, IsSome, slice_get, if◌then◌else◌}
 use Rattle.bits_ip.specs.Address.{family_of}
 use Rattle.bits_ip.specs.Prefix.{Net}
@@ -13,7 +13,7 @@ use Rattle.attrs.proofs.Rows.{first_found}
 use Rattle.export_core.specs.declared.floors.FeedState.TheVariants.{Done, From}
 use Rattle.export_core.specs.declared.log.Key.{Key}
 use Rattle.export_core.specs.declared.passing.ExportSpec.{ExportSpec}
-use Rattle.export_core.specs.Calls.{Feeds, begun, refreshed}
+use Rattle.export_core.specs.Calls.{Feeds}
 use Rattle.export_core.specs.Candidates.{IsChunk, best_in, covers, floor_of, is_below, is_from}
 use Rattle.export_core.specs.States.{State, feed_after, is_ahead, reach_of}
 use Rattle.core_machine.specs.Channels.{Channel, IsFed, is_open, opened, renewed}
@@ -22,15 +22,14 @@ use Rattle.core_machine.specs.Histories.{content_of}
 use Rattle.core_machine.specs.Match.{IsHeadChunk, IsSpecOf, Matches, MatchesFed}
 use Rattle.core_machine.specs.Pipes.{candidate, is_pipe, passes}
 use Rattle.core_machine.specs.Rules.{IsRules, Rules}
-use Rattle.core_machine.proofs.Contents.{if_false, none_some, some_same}
-use Rattle.core_machine.proofs.Fed.{chunk_matches, feed_matches, refresh_matches, up_matches}
+use Rattle.core_machine.proofs.Contents.{none_some}
+use Rattle.core_machine.proofs.Fed.{chunk_matches, feed_matches}
 use Rattle.core_machine.proofs.OneChannel.{pipe_candidate, plain_candidate}
 use Rattle.core_machine.proofs.ToldRows.{rows_candidate, rows_tell}
-use Rattle.run_tables.specs.Channels.{HasBegun, IsExporter, IsOver}
+use Rattle.run_tables.specs.Channels.{HasBegun}
 use Rattle.run_tables.specs.declared.table.Table.{Table}
 use Rattle.run_tables.specs.Tables.{IsTable, IsWhole}
-use Rattle.run_tables.proofs.Journals.{change_family, content_family, head_is, sourced_none}
-use Rattle.run_tables.proofs.Steps.{fed_is, opened_told}
+use Rattle.run_tables.proofs.Journals.{change_family, content_family, sourced_none}
 
 -- the range is all
 covers_all : (chunk : Chunk) → chunk.from ≡ None → chunk.upto ≡ None → (k : Key) → covers (floor_of chunk) k ≡ true

@@ -1,5 +1,5 @@
 -- A table's journal and its rows, and the history that they have.
-use Rattle.std.proofs.Common.{◌≡◌, ◌≢◌, ℕ, zero, suc, ◌+◌, ◌-◌, ◌<◌, ◌≤◌, inl, inr, Bool, true, false, List, [], ◌∷◌, ◌++◌, Option, Some, None, refl, sym, ◌∙◌, ap, subst, arith, length, map, reverse, option_map}
+use Rattle.std.proofs.Common.{◌≡◌, ◌≢◌, ℕ, zero, suc, ◌+◌, ◌-◌, ◌≤◌, inl, inr, Bool, true, false, List, [], ◌∷◌, ◌++◌, Option, Some, None, refl, sym, ◌∙◌, ap, subst, arith, length, map, reverse, option_map}
 use Rattle.std.specs.Prelude.{◌==◌, ◌&&◌, IsSome, slice_get, unwrap_or, if◌then◌else◌}
 use Rattle.std.specs.List.{AllByRecursion}
 use Rattle.std.proofs.lemmas.Bool.{cases_lt}
@@ -18,7 +18,7 @@ use Rattle.export_core.proofs.Nets.{net_tells}
 use Rattle.export_core.specs.Histories.{change_of}
 use Rattle.core_machine.specs.Histories.{content_of, entry, front}
 use Rattle.core_machine.specs.Rules.{IsRules, Rules, best_of}
-use Rattle.core_machine.proofs.Contents.{content_more, content_past_num, entry_lt, front_more, if_false, if_lt, if_true, none_some, some_same}
+use Rattle.core_machine.proofs.Contents.{content_more, entry_lt, front_more, if_false, if_lt, if_true, none_some, some_same}
 use Rattle.core_machine.proofs.ToldRows.{rows_tell}
 use Rattle.rib.specs.Rib.{first_of}
 use Rattle.rib.specs.Rib as rib

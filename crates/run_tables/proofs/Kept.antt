@@ -1,19 +1,18 @@
 -- A channel as it is held, and what steps of its exporter do to it.
-use Rattle.std.proofs.Common.{◌≡◌, ℕ, zero, suc, ◌+◌, ◌-◌, Bool, true, false, List, [], Option, Some, None, refl, sym, ◌∙◌, ap, subst, arith, length, if◌then◌else◌}
+use Rattle.std.proofs.Common.{◌≡◌, ℕ, suc, ◌+◌, ◌-◌, Bool, true, false, List, Option, Some, None, refl, sym, ◌∙◌, ap, subst, arith, length, if◌then◌else◌}
 use Rattle.std.specs.Prelude.{◌==◌, ◌&&◌}
 use Rattle.bits_ip.specs.Prefix.{Net}
 use Rattle.bits_ip.specs.declared.address.Family.{Family}
 use Rattle.attrs.specs.declared.judge.Verdict.{Verdict}
 use Rattle.attrs.specs.declared.route.Change.{Change}
 use Rattle.attrs.specs.declared.route.Route.{Route}
-use Rattle.export_core.specs.States.{State}
 use Rattle.export_core.specs.Calls.{ended}
 use Rattle.core_machine.specs.Channels.{IsFed, closed, is_open, opened, push_one, renewed, take_one, times}
 use Rattle.core_machine.specs.Channels as machine
 use Rattle.core_machine.specs.Room.{lags, roomed}
-use Rattle.core_machine.specs.Rules.{IsRules, Rules}
+use Rattle.core_machine.specs.Rules.{Rules}
 use Rattle.core_machine.proofs.Contents.{if_false, if_true, none_some}
-use Rattle.run_tables.specs.Channels.{IsChannel, IsExporter, IsOver, IsSomeChannel, Reads, ReadsUp, cursor_of, if_up, left_of}
+use Rattle.run_tables.specs.Channels.{IsChannel, IsExporter, IsOver, Reads, ReadsUp, cursor_of, if_up, left_of}
 use Rattle.run_tables.specs.declared.channel.Channel.{Channel}
 use Rattle.run_tables.specs.declared.table.Table.{Table}
 use Rattle.run_tables.specs.Tables.{IsTable}

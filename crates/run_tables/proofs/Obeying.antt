@@ -1,21 +1,18 @@
 -- What signals do to a channel of some number, and its turn in a round.
-use Rattle.std.proofs.Common.{◌≡◌, ◌≢◌, ◌↔◌, ℕ, zero, suc, ◌+◌, ◌-◌, ◌<◌, ◌≤◌, inl, inr, Bool, true, false, List, [], ◌∷◌, length, get_or, set, Option, Some, None, IsTrue, refl, sym, ap, subst, ◌∙◌, arith, is_some, reverse}
-use Rattle.std.specs.Prelude.{slice_get, if◌then◌else◌}
+use Rattle.std.proofs.Common.{◌≡◌, ℕ, ◌+◌, ◌-◌, ◌<◌, ◌≤◌, inl, inr, Bool, true, false, List, [], length, set, Option, Some, None, IsTrue, refl, sym, ap, subst, ◌∙◌, arith, is_some}
+use Rattle.std.specs.Prelude.{slice_get}
 use Rattle.std.proofs.lemmas.Bool.{cases_lt}
 use Rattle.bits_ip.specs.Prefix.{Net}
-use Rattle.bits_ip.specs.declared.address.Family.{Family}
 use Rattle.attrs.specs.declared.judge.Verdict.{Verdict}
-use Rattle.attrs.specs.declared.route.Change.{Change}
 use Rattle.attrs.specs.declared.route.Route.{Route}
 use Rattle.export_core.specs.declared.log.Key.{Key}
 use Rattle.export_core.specs.Standing.{is_open as is_log_open}
 use Rattle.core_machine.specs.Channels as machine
 use Rattle.core_machine.specs.Channels.{IsFed, closed, is_open, times}
 use Rattle.core_machine.specs.Enters.{standing_keys}
-use Rattle.core_machine.specs.Machine.{Feeds, Obeys, State, flushed, if_open, left_by, takes, with_channel}
-use Rattle.core_machine.specs.Pipes.{is_pipe}
+use Rattle.core_machine.specs.Machine.{Feeds, Obeys, State, flushed, left_by, with_channel}
 use Rattle.core_machine.specs.Rounds.{AreSettled, IsSettled, pushed_out, taken_up, turned, turns_to}
-use Rattle.core_machine.specs.Rules.{IsRules, Rules, Fall}
+use Rattle.core_machine.specs.Rules.{Fall}
 use Rattle.core_machine.proofs.Contents.{if_false, if_true}
 use Rattle.core_machine.proofs.Growing.{more_flushed}
 use Rattle.core_machine.proofs.WholeState.{takes_open}

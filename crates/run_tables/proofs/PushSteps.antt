@@ -1,10 +1,9 @@
 -- A push of a channel of some number, and what comes of it in the table that it writes.
-use Rattle.std.proofs.Common.{◌≡◌, ◌≢◌, ℕ, zero, suc, ◌+◌, ◌<◌, ◌≤◌, Bool, true, false, List, [], ◌∷◌, ◌++◌, length, get_or, set, Option, Some, None, refl, sym, ap, subst, ◌∙◌, arith, reverse}
+use Rattle.std.proofs.Common.{◌≡◌, ◌≢◌, ℕ, zero, suc, ◌+◌, ◌<◌, ◌≤◌, Bool, true, false, List, [], ◌∷◌, length, get_or, set, Option, Some, None, refl, sym, ap, subst, ◌∙◌, arith, reverse}
 use Rattle.std.specs.Prelude.{IsSome, is_some, option_map, slice_get, if◌then◌else◌}
 use Rattle.std.specs.List.{AllByRecursion}
 use Rattle.bits_ip.specs.Prefix.{Net}
 use Rattle.bits_ip.specs.declared.address.Family.{Family}
-use Rattle.attrs.specs.declared.attributes.Kind.{Kind}
 use Rattle.attrs.specs.declared.judge.Verdict.{Verdict}
 use Rattle.attrs.specs.declared.route.Change.{Change}
 use Rattle.attrs.specs.declared.route.Route.{Route}
@@ -17,10 +16,10 @@ use Rattle.export_core.specs.declared.log.Sending.{Sending}
 use Rattle.core_machine.specs.Channels as machine
 use Rattle.core_machine.specs.Channels.{is_open, push_one}
 use Rattle.core_machine.specs.Enters.{change_to}
-use Rattle.core_machine.specs.Machine.{State, added, arrived, gained, push_at, with_channel}
+use Rattle.core_machine.specs.Machine.{State, gained, with_channel}
 use Rattle.core_machine.specs.Match.{change_of_sending}
 use Rattle.core_machine.specs.Pipes.{is_pipe}
-use Rattle.core_machine.specs.Rules.{IsRules, Rules}
+use Rattle.core_machine.specs.Rules.{Rules}
 use Rattle.core_machine.proofs.Contents.{none_some, some_same}
 use Rattle.core_machine.proofs.Growing.{set_here as at_here}
 use Rattle.core_setup.specs.Channels.{channel_at, channels, channels_from, channels_in, session, target_at}
@@ -28,7 +27,7 @@ use Rattle.core_setup.specs.Channels as setups
 use Rattle.core_setup.specs.Protocols.{rules_of}
 use Rattle.core_setup.specs.Setup.{AreProtocols, Body, Exports, FitsBody, IsPipe, IsSource, Protocol, Setup}
 use Rattle.core_setup.proofs.Numbered.{all_append}
-use Rattle.run_tables.specs.Channels.{AreSources, IsChannel, IsOfProtocol, Tells, TellsPush, cursor_of}
+use Rattle.run_tables.specs.Channels.{IsChannel, IsOfProtocol, Tells, TellsPush, cursor_of}
 use Rattle.run_tables.specs.Routes.{AreRoutes}
 use Rattle.run_tables.specs.Tables.{IsTable}
 use Rattle.run_tables.specs.declared.channel.Channel.{Channel}
@@ -36,7 +35,7 @@ use Rattle.run_tables.specs.declared.routes.Routes.{Routes}
 use Rattle.run_tables.specs.declared.table.Table.{Table}
 use Rattle.run_tables.proofs.Kept.{open_of}
 use Rattle.run_tables.proofs.Reading.{found_one}
-use Rattle.run_tables.proofs.Routing.{Stays, channel_is, channel_there, in_list, table_of, target_of, tables_length}
+use Rattle.run_tables.proofs.Routing.{Stays, channel_is, channel_there, table_of, target_of, tables_length}
 
 -- ---- a table that a direction writes is there
 

@@ -1,24 +1,21 @@
 -- A channel's pushes, until nothing is marked.
-use Rattle.std.proofs.Common.{◌≡◌, ◌≢◌, ℕ, zero, suc, ◌+◌, ◌<◌, ◌≤◌, inl, inr, Bool, true, false, List, [], ◌∷◌, length, Option, Some, None, refl, sym, ap, subst, ◌∙◌, arith, reverse}
-use Rattle.std.specs.Prelude.{slice_get, if◌then◌else◌}
+use Rattle.std.proofs.Common.{◌≡◌, ℕ, suc, ◌<◌, ◌≤◌, true, List, [], ◌∷◌, length, Option, Some, None, refl, sym, ap, ◌∙◌}
+use Rattle.std.specs.Prelude.{slice_get}
 use Rattle.std.specs.Map.{keys_of}
 use Rattle.bits_ip.specs.Prefix.{Net}
 use Rattle.attrs.specs.declared.judge.Verdict.{Verdict}
-use Rattle.attrs.specs.declared.route.Change.{Change}
 use Rattle.attrs.specs.declared.route.Route.{Route}
 use Rattle.export_core.specs.declared.log.Key.{Key}
 use Rattle.export_core.specs.declared.marks.Mark.{Mark}
 use Rattle.core_machine.specs.Channels as machine
 use Rattle.core_machine.specs.Channels.{is_open, push_one, times}
-use Rattle.core_machine.specs.Machine.{State, arrived, gained, push_at, with_channel}
+use Rattle.core_machine.specs.Machine.{State, arrived, gained, push_at}
 use Rattle.core_machine.specs.Marks.{Marked, marked_keys}
 use Rattle.core_machine.specs.Rounds.{pushed_out}
 use Rattle.core_machine.specs.Rules.{IsRules, Rules}
-use Rattle.core_machine.proofs.Growing.{more_arrived, set_here as at_here}
+use Rattle.core_machine.proofs.Growing.{set_here as at_here}
 use Rattle.core_machine.proofs.OneChannel.{times_keeps}
 use Rattle.core_machine.proofs.WholeState.{push_open}
-use Rattle.core_setup.specs.Channels.{channels}
-use Rattle.core_setup.specs.Protocols.{rules_of}
 use Rattle.core_setup.specs.Setup.{Setup}
 use Rattle.core_setup.proofs.PairLemmas.{get_here}
 use Rattle.run_tables.specs.Routes.{AreRoutes}

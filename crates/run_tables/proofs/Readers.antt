@@ -1,9 +1,8 @@
 -- The readers of a table, as code reads them.
-use Rattle.std.proofs.Common.{◌≡◌, ℕ, zero, suc, ◌+◌, ◌<◌, inl, inr, Bool, true, false, List, [], ◌∷◌, length, Option, Some, None, refl, sym, ap, ◌∙◌, arith}
+use Rattle.std.proofs.Common.{◌≡◌, ℕ, zero, suc, ◌<◌, inl, inr, Bool, true, false, List, [], ◌∷◌, length, Some, None, refl, sym, ap, ◌∙◌, arith}
 use Rattle.std.specs.Prelude.{◌==◌, ◌&&◌, ◌||◌, nat_lt, slice_get}
 use Rattle.std.specs.declared.alloc.Global.{Global}
 use Rattle.std.specs.declared.vec.Vec.{Vec}
-use Rattle.std.proofs.lemmas.Bool.{cases_lt}
 use Rattle.std.proofs.lemmas.Bool.Decides.{eqb_tells, nat_tests}
 use Rattle.bits_ip.specs.Prefix.{Net}
 use Rattle.attrs.specs.declared.judge.Verdict.{Verdict}
@@ -41,11 +40,13 @@ below a b e = grind (arith, nat_tests)
 -- a reader is one of the channels, and reads the table
 pub reader_is : (rules : Rules) (count table : ℕ) (numbers : List ℕ) (place c : ℕ) → AreReaders rules count table numbers → slice_get numbers place ≡ Some c → (c < count) × (rules.reads c ≡ table)
 reader_is rules count table numbers place c readers at =
-    let is = both (nat_lt c count) (rules.reads c == table) (sym (readers.are c) ∙ among_get numbers place c at) in
-    (below c count is.0, elim (eqb_tells (rules.reads c) table) [
-      | inl w ↦ w.1
-      | inr w ↦ absurd (let bad : false ≡ true = sym w.0 ∙ is.1 in cc)
-    ])
+    let is = both (nat_lt c count) (rules.reads c == table) (sym (readers.are c) ∙ among_get numbers place c at) in (
+      below c count is.0,
+      elim (eqb_tells (rules.reads c) table) [
+        | inl w ↦ w.1
+        | inr w ↦ absurd (let bad : false ≡ true = sym w.0 ∙ is.1 in cc)
+      ],
+    )
 
 module _ {J : Type 0} (verdict : J → Net → Route → Verdict) (setup : Setup) (s : State) (r : Routes J) (are : AreRoutes verdict setup s r) (table : ℕ) (w : table < length r.tables.items) where
   pub record HasReaders : Type 0 where

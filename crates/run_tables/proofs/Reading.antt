@@ -1,5 +1,5 @@
 -- A channel and its table as code reads them by their numbers.
-use Rattle.std.proofs.Common.{◌≡◌, ℕ, ◌<◌, length, get_or, sym, ap, ◌∙◌, Bool, true, Some}
+use Rattle.std.proofs.Common.{◌≡◌, ℕ, ◌<◌, length, get_or, sym, ap, ◌∙◌, Bool, Some}
 use Rattle.std.specs.Prelude.{slice_get}
 use Rattle.bits_ip.specs.Prefix.{Net}
 use Rattle.attrs.specs.declared.judge.Verdict.{Verdict}

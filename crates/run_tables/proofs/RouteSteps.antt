@@ -1,5 +1,5 @@
 -- Steps of tables and channels, one after another, and the machine's state behind them.
-use Rattle.std.proofs.Common.{◌≡◌, ◌≢◌, ℕ, zero, suc, ◌+◌, ◌-◌, ◌<◌, ◌≤◌, inl, inr, Bool, true, false, List, [], ◌∷◌, ◌++◌, length, Option, Some, None, refl, sym, ap, subst, ◌∙◌, arith}
+use Rattle.std.proofs.Common.{◌≡◌, ◌≢◌, ℕ, ◌+◌, ◌-◌, ◌<◌, ◌≤◌, inl, inr, Bool, true, false, List, [], ◌∷◌, ◌++◌, length, Option, Some, None, refl, sym, ap, ◌∙◌, arith}
 use Rattle.std.specs.Prelude.{◌==◌, ◌&&◌, ◌||◌, nat_lt, slice_get, take, if◌then◌else◌}
 use Rattle.std.proofs.Math.Path.{fun_ext}
 use Rattle.std.proofs.lemmas.Bool.{cases_lt}
@@ -13,22 +13,22 @@ use Rattle.export_core.specs.Candidates.{among}
 use Rattle.export_core.specs.declared.log.Key.{Key}
 use Rattle.core_machine.specs.Channels as machine
 use Rattle.core_machine.specs.Channels.{closed, is_open, push_one, pushed, take_one, times}
-use Rattle.core_machine.specs.Enters.{standing_keys, withdrawal}
+use Rattle.core_machine.specs.Enters.{withdrawal}
 use Rattle.core_machine.specs.Machine.{State, added, arrived, flushed, gained, if_open, push_at, set, takes, with_channel}
 use Rattle.core_machine.specs.Room.{in_room, lags, roomed}
-use Rattle.core_machine.specs.Rounds.{pushed_out, taken_up, turned}
-use Rattle.core_machine.specs.Rules.{IsRules, Rules}
-use Rattle.core_machine.proofs.Contents.{eqb_no, if_false, if_lt, if_true}
-use Rattle.core_machine.proofs.Growing.{more_flushed, set_here as at_here, set_there as at_there}
+use Rattle.core_machine.specs.Rounds.{taken_up}
+use Rattle.core_machine.specs.Rules.{Rules}
+use Rattle.core_machine.proofs.Contents.{eqb_no, if_false, if_true}
+use Rattle.core_machine.proofs.Growing.{set_here as at_here, set_there as at_there}
 use Rattle.core_setup.specs.Channels.{channels}
 use Rattle.core_setup.specs.Protocols.{rules_of}
 use Rattle.core_setup.specs.Setup.{Setup}
 use Rattle.core_setup.proofs.PairLemmas.{cases_same, take_one_more}
-use Rattle.run_tables.specs.Channels.{cursor_of, if_up}
+use Rattle.run_tables.specs.Channels.{if_up}
 use Rattle.run_tables.specs.Routes.{AreReaders, AreRoutes, with_room}
 use Rattle.run_tables.specs.declared.routes.Routes.{Routes}
 use Rattle.run_tables.proofs.Routing.{are_same}
-use Rattle.run_tables.proofs.Runs.{push_marks, takes_open, takes_up, times_first}
+use Rattle.run_tables.proofs.Runs.{takes_up}
 
 -- ---- room
 
@@ -72,7 +72,7 @@ module _ {J : Type 0} (verdict : J → Net → Route → Verdict) (setup : Setup
 
   pub room_more : (place c : ℕ) (r : Routes J) → AreReaders (rules_of setup) (length (channels setup)) table numbers → slice_get numbers place ≡ Some c → (rules_of setup).reads c ≡ table
       → (let u = rooms_in (rules_of setup) table (take place numbers) s in
-        AreRoutes verdict setup (with_channel c (roomed (rules_of setup) c (u.history ((rules_of setup).reads c)) (u.channels c)) u) r)
+      AreRoutes verdict setup (with_channel c (roomed (rules_of setup) c (u.history ((rules_of setup).reads c)) (u.channels c)) u) r)
       → AreRoutes verdict setup (rooms_in (rules_of setup) table (take (place + 1) numbers) s) r
   room_more place c r readers at reads are = are_same verdict setup (with_channel c new u) (rooms_in rules table (take (place + 1) numbers) s) r (λ n. refl) same are where
     rules : Rules

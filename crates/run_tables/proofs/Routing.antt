@@ -1,6 +1,6 @@
 -- All tables and channels beside the machine's state of them: what is read there, and what one
 -- change of a channel or of a table leaves.
-use Rattle.std.proofs.Common.{◌≡◌, ℕ, zero, suc, ◌+◌, ◌<◌, ◌≤◌, ◌⊎◌, inl, inr, List, [], ◌∷◌, length, get_or, set, Option, Some, None, refl, sym, ap, subst, ◌∙◌, arith}
+use Rattle.std.proofs.Common.{◌≡◌, ℕ, ◌<◌, ◌≤◌, ◌⊎◌, inl, inr, List, ◌∷◌, length, get_or, set, Option, Some, refl, sym, ap, subst, ◌∙◌, arith}
 use Rattle.std.specs.Prelude.{slice_get, option_map}
 use Rattle.std.specs.declared.alloc.Global.{Global}
 use Rattle.std.specs.declared.vec.Vec.{Vec}
@@ -11,13 +11,11 @@ use Rattle.attrs.specs.declared.judge.Verdict.{Verdict}
 use Rattle.attrs.specs.declared.route.Change.{Change}
 use Rattle.attrs.specs.declared.route.Route.{Route}
 use Rattle.attrs.specs.declared.route.Src.{Src}
-use Rattle.export_core.specs.States.{State as Exporter}
 use Rattle.core_machine.specs.Channels as machine
 use Rattle.core_machine.specs.Channels.{is_open}
 use Rattle.core_machine.specs.Machine.{State, with_channel}
 use Rattle.core_machine.specs.Machine.{set as at_set}
-use Rattle.core_machine.specs.Room.{in_room}
-use Rattle.core_machine.specs.Rules.{IsRules, Rules}
+use Rattle.core_machine.specs.Rules.{Rules}
 use Rattle.core_machine.proofs.Growing.{set_here as at_here, set_there as at_there}
 use Rattle.core_machine.proofs.Matching.{longer_matches}
 use Rattle.core_setup.specs.Channels.{channel_at, channels, reads_at, target_at}
@@ -27,7 +25,7 @@ use Rattle.core_setup.specs.Protocols.{rules_of}
 use Rattle.core_setup.specs.Setup.{Setup, family_at}
 use Rattle.core_setup.proofs.Numbered.{channel_belongs}
 use Rattle.core_setup.proofs.PairLemmas.{cases_same, get_one, get_within, one_here, pairs_length, set_here, weaker_here}
-use Rattle.run_tables.specs.Channels.{AreSources, IsChannel, IsExporter}
+use Rattle.run_tables.specs.Channels.{AreSources, IsChannel}
 use Rattle.run_tables.specs.Routes.{AreReaders, AreRoutes}
 use Rattle.run_tables.specs.Tables.{IsTable}
 use Rattle.run_tables.specs.declared.channel.Channel.{Channel}

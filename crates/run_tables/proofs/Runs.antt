@@ -14,7 +14,7 @@ use Rattle.core_machine.specs.Marks.{Marked}
 use Rattle.core_machine.specs.Rules.{Rules}
 use Rattle.core_machine.proofs.Bound.{push_position, take_position}
 use Rattle.core_machine.proofs.Contents.{if_false}
-use Rattle.core_machine.proofs.OneChannel.{open_pushed, taken_log, take_log, times_keeps}
+use Rattle.core_machine.proofs.OneChannel.{open_pushed, take_log, times_keeps}
 use Rattle.run_tables.specs.Channels.{cursor_of}
 
 -- more of a step that changes nothing any more

@@ -1,5 +1,5 @@
 -- An exporter and its channel of the machine, step by step.
-use Rattle.std.proofs.Common.{◌≡◌, ℕ, ◌+◌, ◌≤◌, ◌<◌, Bool, true, false, List, [], ◌∷◌, ◌++◌, Option, Some, None, refl, sym, ◌∙◌, ap, subst, arith, inl, inr, length, reverse, is_some, option_map}
+use Rattle.std.proofs.Common.{◌≡◌, ℕ, ◌+◌, ◌≤◌, ◌<◌, Bool, true, false, List, [], ◌∷◌, Option, Some, None, refl, sym, ◌∙◌, ap, subst, arith, inl, inr, length, reverse, is_some, option_map}
 use Rattle.std.specs.Prelude.{IsSome, slice_get, if◌then◌else◌}
 use Rattle.std.specs.Map.{keys_of}
 use Rattle.std.proofs.lemmas.Bool.{cases_lt}
@@ -19,7 +19,7 @@ use Rattle.export_core.specs.declared.log.LogItem.TheVariants.{Sent}
 use Rattle.export_core.specs.declared.log.Sending.{Sending}
 use Rattle.export_core.specs.declared.marks.Mark.{Mark}
 use Rattle.export_core.specs.declared.passing.ExportSpec.{ExportSpec}
-use Rattle.export_core.specs.Calls.{Pushes, PushesOut, PushesQuietly, Takes, ended}
+use Rattle.export_core.specs.Calls.{Pushes, PushesOut, Takes, ended}
 use Rattle.export_core.specs.Histories.{change_of}
 use Rattle.export_core.specs.Logs.{highest, stretch}
 use Rattle.export_core.specs.Marks as exporter

@@ -1,5 +1,5 @@
 -- How a channel's stretches begin, go on and end.
-use Rattle.std.proofs.Common.{◌≡◌, ℕ, Bool, true, false, List, [], ◌∷◌, ◌++◌, ◌<◌, Option, Some, arith, refl, sym, ◌∙◌, ap, subst, length, reverse, is_some}
+use Rattle.std.proofs.Common.{◌≡◌, ℕ, Bool, true, false, List, [], ◌∷◌, ◌++◌, ◌<◌, Option, Some, arith, sym, ◌∙◌, ap, subst, length, is_some}
 use Rattle.std.specs.Map.{keys_of}
 use Rattle.bits_ip.specs.Prefix.{Net}
 use Rattle.bits_ip.specs.declared.address.Family.{Family}
@@ -17,8 +17,7 @@ use Rattle.export_core.specs.declared.log.LogItem.{LogItem}
 use Rattle.export_core.specs.declared.log.LogItem.TheVariants.{Down}
 use Rattle.export_core.specs.declared.passing.ExportSpec.{ExportSpec}
 use Rattle.export_core.specs.Calls.{AreStanding, Flushes, FlushesBy, begun, ended, refreshed}
-use Rattle.export_core.specs.Keys.{key_cmp}
-use Rattle.export_core.specs.Marks.{at, holds}
+use Rattle.export_core.specs.Marks.{at}
 use Rattle.export_core.specs.Sends.{IsStanding}
 use Rattle.export_core.specs.States.{State}
 use Rattle.export_core.proofs.Keys.{holds-keys_of}

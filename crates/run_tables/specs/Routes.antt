@@ -1,6 +1,6 @@
 -- For private contracts, and for what `HasPlayed` of sys_run keeps of a core from phase to phase;
 -- nothing promised rests on it: all tables and channels, and the machine's state of them.
-use Rattle.std.specs.Prelude.{◌≡◌, ◌==◌, ◌&&◌, ◌<◌, ◌≤◌, ℕ, nat_lt, Bool, true, false, List, [], ◌∷◌, length, Option, Some, None, slice_get, take}
+use Rattle.std.specs.Prelude.{◌≡◌, ◌==◌, ◌&&◌, ◌≤◌, ℕ, nat_lt, true, false, List, [], ◌∷◌, length, Option, Some, None, slice_get, take}
 use Rattle.std.specs.declared.alloc.Global.{Global}
 use Rattle.std.specs.declared.vec.Vec.{Vec}
 use Rattle.bits_ip.specs.Prefix.{Net}

@@ -1,6 +1,6 @@
 -- For private contracts, and for what `HasPlayed` of sys_run keeps of a core from phase to phase;
 -- nothing promised rests on it: a table with its journal, and the machine's history of it.
-use Rattle.std.specs.Prelude.{◌≡◌, ◌+◌, ◌<◌, ℕ, List, [], length, Option, Some, None, IsSome, map, reverse, slice_get, ⊤}
+use Rattle.std.specs.Prelude.{◌≡◌, ◌+◌, ◌<◌, ℕ, List, length, Option, Some, None, IsSome, map, reverse, slice_get, ⊤}
 use Rattle.std.specs.List.{AllByRecursion}
 use Rattle.bits_ip.specs.Address.{family_of}
 use Rattle.bits_ip.specs.declared.address.Family.{Family}

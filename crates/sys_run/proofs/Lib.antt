@@ -1,20 +1,17 @@
-mod UpTo
-mod Routing
-mod RouteSteps
-mod Reading
-mod Growing
-mod Acting
-mod Reporting
-mod Played
-mod Numbering
-mod Making
-mod Looping
-mod Settling
-pub mod Journals
-pub mod Chunks
-pub mod Runs
-pub mod Steps
-pub mod Loops
-pub mod Stretches
-pub mod Kept
-pub mod Obeying
+pub mod Turning
+pub mod CoreSteps
+pub mod PlayingLines
+pub mod Asking
+pub mod ReportingLoops
+pub mod Reporting
+pub mod Starting
+pub mod Played
+pub mod MakingWays
+pub mod MakingParts
+pub mod MakingProtocols
+pub mod MakingRoutes
+pub mod MakingNew
+pub mod MakingCore
+pub mod Operating
+pub mod OperatingChannels
+pub mod OperatingCore

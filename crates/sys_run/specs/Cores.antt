@@ -1,6 +1,6 @@
 -- For private contracts, and for what `HasPlayed` keeps of a core from phase to phase; nothing
 -- promised rests on it: a core in the midst of a phase, and the machine's state.
-use Rattle.std.specs.Prelude.{◌≡◌, ◌≤◌, ◌++◌, ℕ, List, [], length, map, reverse, Some, slice_get}
+use Rattle.std.specs.Prelude.{◌≡◌, ◌+◌, ◌-◌, ◌≤◌, ◌++◌, ◌<◌, ℕ, zero, suc, Bool, true, false, List, [], ◌∷◌, length, map, reverse, Some, slice_get, ⊤}
 use Rattle.std.specs.declared.alloc.Global.{Global}
 use Rattle.std.specs.declared.vec.Vec.{Vec}
 use Rattle.bits_ip.specs.Prefix.{Net}
@@ -10,70 +10,149 @@ use Rattle.attrs.specs.declared.route.Route.{Route}
 use Rattle.attrs.specs.declared.route.Row.{Row}
 use Rattle.attrs.specs.Table.{Shows}
 use Rattle.export_core.specs.declared.log.LogItem.{LogItem}
-use Rattle.import_core.specs.declared.operation.Op.{Op}
-use Rattle.core_machine.specs.Channels.{is_open}
+use Rattle.core_machine.specs.Channels.{is_open, times}
 use Rattle.core_machine.specs.Histories.{content_of, front}
-use Rattle.core_machine.specs.Lines.{Reply}
+use Rattle.core_machine.specs.Legal.{Joined}
+use Rattle.core_machine.specs.Lines.{Reply, Turn, ops_of}
 use Rattle.core_machine.specs.Machine.{State}
 use Rattle.core_machine.specs.Replies.{replies_to}
-use Rattle.core_machine.specs.Rules.{is_up}
+use Rattle.core_machine.specs.Rounds.{HasRounds}
+use Rattle.core_machine.specs.Rules.{Fits, Signal, is_up}
+use Rattle.core_setup.specs.Channels as setups
 use Rattle.core_setup.specs.Pairs.{Pairs}
-use Rattle.core_setup.specs.Protocols.{imports_after, rules_of}
-use Rattle.core_setup.specs.Reports.{channels, dones, protocol_names, table_name}
-use Rattle.core_setup.specs.Setup.{Protocol, Setup}
+use Rattle.core_setup.specs.Protocols.{imports_after, pipe_is_up, rules_of, signal_of}
+use Rattle.core_setup.specs.Reports.{dones, protocol_names, table_name}
+use Rattle.core_setup.specs.Setup.{Body as SeenBody, IsPipe, IsSource, Protocol as SeenProtocol, Setup, Source as SeenSource}
+use Rattle.attrs.specs.declared.attributes.Kind.{Kind}
+use Rattle.attrs.specs.declared.attributes.Kind.TheVariants as kinds
+use Rattle.import_core.specs.declared.operation.Op.{Op}
+use Rattle.import_core.specs.declared.step.Mark.{Mark}
 use Rattle.show_route.specs.Reply.{reply_text}
-use Rattle.sys_run.specs.Routes.{AreRoutes}
+use Rattle.run_tables.specs.Routes.{AreRoutes}
+use Rattle.run_tables.specs.declared.routes.Routes.{Routes}
+use Rattle.sys_run.specs.declared.parts.TableParts.{TableParts}
 use Rattle.sys_run.specs.declared.player.Answered.{Answered}
 use Rattle.sys_run.specs.declared.player.Core.{Core}
-use Rattle.sys_run.specs.declared.imports.Imports.{Imports}
-use Rattle.sys_run.specs.declared.parts.TableParts.{TableParts}
+use Rattle.sys_run.specs.declared.protocol.Body.{Body}
+use Rattle.sys_run.specs.declared.protocol.Body.TheVariants.{Pipe, Source}
+use Rattle.sys_run.specs.declared.protocol.Protocol.{Protocol}
+use Rattle.sys_run.specs.declared.protocol.Source.{Source as HeldSource}
 
 -- the reply is held with its text: all rows of its table as it was at the reply's position
 pub record IsAnswered (setup : Setup) (s : State) (held : Answered) (reply : Reply) : Type 0 where
   pub table : reply.table ≡ 0
   pub at : held.at ≡ reply.at
   pub within : reply.at ≤ length (s.history 0)
-  pub query : reply.query ≡ []
+  pub query : reply.query ≡ 0
   pub rows : List Row
   pub shown : Shows rows (content_of (front reply.at (s.history 0)))
   pub text : held.text.items ≡ reply_text (protocol_names setup) (table_name setup 0) rows
 
+-- so many numbers from one on
+abbrev pub counted : ℕ → ℕ → List ℕ
+counted number zero = []
+counted number (suc count) = number ∷ counted (number + 1) count
+
 module _ {J : Type 0} (verdict : J → Net → Route → Verdict) where
-  -- A protocol's imports, with the operations done since those of the phases before.
-  pub record IsImporting
-      (setup : Setup) (i : ℕ) (p : Protocol) (base ops : List Op) (held : Imports J) : Type 0 where
+  -- imports behind a protocol's operations
+  pub record Imports (p : SeenSource) (ops : List Op) (held : HeldSource J) : Type 0 where
+    pub table : held.table ≡ p.table
     pub kind : held.kind ≡ p.spec.kind
     pub spec : held.importer.spec ≡ p.spec
     pub judge : verdict held.importer.judge ≡ p.filter
     pub imports : held.importer.imports ≡ imports_after p ops
-    pub new : List Op
-    pub since : ops ≡ new ++ base
-    pub done : held.done.items ≡ reverse (dones (rules_of setup) i base new)
 
-  -- `b` is the machine's state at the phase's beginning, and `s` the one now.
-  pub record IsCore (setup : Setup) (b s : State) (core : Core J) : Type 0 where
+  -- what a protocol has come to behind its operations
+  abbrev pub Does : SeenBody → List Op → Body J → Type 0
+  Does (IsSource p) ops (Source held) = Imports p ops held
+  Does (IsSource p) ops (Pipe up) = ⊥
+  Does (IsPipe p) ops (Source held) = ⊥
+  Does (IsPipe p) ops (Pipe up) = up ≡ pipe_is_up ops
+
+  -- A protocol behind its operations, of which those before the phase are told apart; its channels
+  -- follow each other.
+  pub record PlaysAs
+      (setup : Setup) (i : ℕ) (p : SeenProtocol) (base ops : List Turn) (held : Protocol J)
+      : Type 0 where
+    pub body : Does p.body (ops_of ops) held.body
+    pub ordered : held.from ≤ held.upto
+    pub within : held.upto ≤ length (setups.channels setup)
+    pub belong : (rules_of setup).belong i ≡ counted held.from (held.upto - held.from)
+    pub new : List Turn
+    pub since : ops ≡ new ++ base
+    pub done :
+        held.done.items ≡ reverse (dones (rules_of setup) i (ops_of base) (ops_of new))
+
+  -- `past` is what was printed before the phase, and `s` the machine's state now.
+  pub record IsCore (setup : Setup) (past : Joined) (s : State) (core : Core J) : Type 0 where
     pub routes : AreRoutes verdict setup s core.routes
-    pub imports :
-        Pairs (λ i p held. IsImporting setup i p (b.ops i) (s.ops i) held)
-        0 setup.protocols core.imports.items
-    pub up : (i : ℕ) → is_open (s.channels i) ≡ is_up (rules_of setup) i (s.ops i)
+    pub protocols :
+        Pairs (λ i p held. PlaysAs setup i p (past.ops i) (s.ops i) held)
+        0 setup.protocols core.protocols.items
+    pub up :
+        (c : ℕ) → is_open (s.channels c)
+        ≡ is_up (rules_of setup) ((rules_of setup).owner c)
+        (ops_of (s.ops ((rules_of setup).owner c)))
     -- what there was before the phase
-    pub histories : (n : ℕ) → (changes : List Change) × (s.history n ≡ changes ++ b.history n)
-    pub operations : (i : ℕ) → (ops : List Op) × (s.ops i ≡ ops ++ b.ops i)
+    pub histories :
+        (n : ℕ) → (changes : List Change) × (s.history n ≡ changes ++ past.history n)
+    pub operations : (i : ℕ) → (turns : List Turn) × (s.ops i ≡ turns ++ past.ops i)
     pub logs :
-        (i : ℕ) → (items : List LogItem) × ((s.channels i).log ≡ items ++ (b.channels i).log)
+        (c : ℕ) → (items : List LogItem) × ((s.channels c).log ≡ items ++ past.logs c)
     pub replies :
         (actor : ℕ) (held : Vec Answered Global) → slice_get core.replies.items actor ≡ Some held
         → Pairs (λ n answered reply. IsAnswered setup s answered reply) 0 held.items
         (reverse (replies_to actor s.replies))
-    -- the protocols of channels, and names
-    pub channels : core.channels.items ≡ map (λ channel. channel.0) (channels setup)
+    -- names
+    pub channels : core.channels.items ≡ map (λ (c : setups.Channel). c.name) (setups.channels setup)
     pub tables : Pairs (λ n seen (held : TableParts). (seen ≡ (held.name, held.family)))
         0 setup.tables core.tables.items
     pub names : core.names.items ≡ protocol_names setup
 
   abbrev pub Holds : Core J → Type 0
-  Holds core = (setup : Setup) × (b : State) × (s : State) × IsCore setup b s core
+  Holds core = (setup : Setup) × (past : Joined) × (s : State) × IsCore setup past s core
+
+  -- and a sync has few rounds
+  abbrev pub Ends : Core J → Type 0
+  Ends core =
+      (setup : Setup) × (past : Joined) × (s : State) × IsCore setup past s core
+      × (rounds : ℕ) × HasRounds (rules_of setup) s rounds × (rounds ≤ length setup.tables)
+
+-- ---- parts of an operation
+
+abbrev pub is_static_kind : Kind → Bool
+is_static_kind kinds.Static = true
+is_static_kind kinds.Bgp = false
+
+module _ {J : Type 0} where
+  abbrev pub is_static : Body J → Bool
+  is_static (Source held) = is_static_kind held.kind
+  is_static (Pipe up) = false
+
+  -- the number of the table to which a protocol imports, and 0 of a pipe, which makes no change
+  abbrev pub table_of : Body J → ℕ
+  table_of (Source held) = held.table
+  table_of (Pipe up) = 0
+
+  abbrev pub made_by : Body J → List Change → List Change
+  made_by (Source held) changes = changes
+  made_by (Pipe up) changes = []
+
+  -- that table is there
+  abbrev pub ImportsTo : ℕ → Body J → Type 0
+  ImportsTo tables (Source held) = held.table < tables
+  ImportsTo tables (Pipe up) = ⊤
+
+-- the channels from one number to below another are all up or all down, as the signal wants
+abbrev pub AllFit : Signal → ℕ → ℕ → State → Type 0
+AllFit signal from_is upto s =
+    (c : ℕ) → from_is ≤ c → c < upto → Fits signal (is_open (s.channels c))
+
+abbrev pub MayObey :
+    {J : Type 0} → (J → Net → Route → Verdict) → Mark → ℕ → ℕ → Routes J → Type 0
+MayObey verdict mark from_is upto routes =
+    (setup : Setup) × (s : State) × AreRoutes verdict setup s routes
+    × AllFit (signal_of mark) from_is upto s × (upto ≤ length (setups.channels setup))
 
 -- how many phases have ended, and for how many actors there are replies, stays
 pub record Keeps {J : Type 0} (old new : Core J) : Type 0 where

@@ -1,9 +1,6 @@
 pub mod Scripts
 pub mod Parts
-pub mod Tables
-pub mod Channels
-pub mod Made
-pub mod Routes
-pub mod Phase
 pub mod Cores
+pub mod Made
+pub mod Phase
 pub mod Playing

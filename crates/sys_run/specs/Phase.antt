@@ -1,6 +1,6 @@
 -- For private contracts alone: where a phase began, and what is reported at its end of the single
 -- parts of a core.
-use Rattle.std.specs.Prelude.{◌≡◌, ◌++◌, ℕ, false, List, [], ◌∷◌, drop, length, map, reverse, Option, Some, None, option_map, slice_get}
+use Rattle.std.specs.Prelude.{◌≡◌, ◌++◌, ℕ, Bool, List, [], ◌∷◌, drop, is_some, length, map, Option, Some, None, option_map, slice_get, if◌then◌else◌}
 use Rattle.std.specs.declared.alloc.Global.{Global}
 use Rattle.std.specs.declared.vec.Vec.{Vec}
 use Rattle.bits_ip.specs.Prefix.{Net}
@@ -15,8 +15,8 @@ use Rattle.export_core.specs.Histories.{change_of}
 use Rattle.core_machine.specs.Channels as machine
 use Rattle.core_machine.specs.Histories.{content_of}
 use Rattle.core_machine.specs.Legal.{Joined}
-use Rattle.core_machine.specs.Machine.{State}
 use Rattle.core_machine.specs.Rules.{Rules}
+use Rattle.core_setup.specs.Channels as setups
 use Rattle.core_setup.specs.Pairs.{Pairs}
 use Rattle.core_setup.specs.Setup.{Setup}
 use Rattle.report.specs.declared.phase.ChannelReport.{ChannelReport}
@@ -24,58 +24,78 @@ use Rattle.report.specs.declared.phase.ExportReport.{ExportReport}
 use Rattle.report.specs.declared.phase.JournalReport.{JournalReport}
 use Rattle.report.specs.declared.phase.ModeReport.{ModeReport}
 use Rattle.report.specs.declared.phase.ProtocolReport.{ProtocolReport}
+use Rattle.report.specs.declared.phase.ProtocolState.{ProtocolState}
+use Rattle.report.specs.declared.phase.ProtocolState.TheVariants as states
 use Rattle.report.specs.declared.phase.ReplyReport.{ReplyReport}
 use Rattle.report.specs.declared.phase.Standing.{Standing}
 use Rattle.report.specs.declared.phase.TableReport.{TableReport}
-use Rattle.sys_run.specs.Channels.{IsChannel, TellsStanding}
-use Rattle.sys_run.specs.Tables.{IsTable}
-use Rattle.sys_run.specs.declared.channel.Channel.{Channel}
-use Rattle.sys_run.specs.declared.player.Answered.{Answered}
-use Rattle.sys_run.specs.declared.imports.Imports.{Imports}
+use Rattle.run_tables.specs.Channels.{IsChannel, TellsStanding}
+use Rattle.run_tables.specs.Tables.{IsTable}
+use Rattle.run_tables.specs.declared.channel.Channel.{Channel}
+use Rattle.run_tables.specs.declared.table.Table.{Table}
 use Rattle.sys_run.specs.declared.parts.TableParts.{TableParts}
 use Rattle.sys_run.specs.declared.phase.Begun.{Begun}
-use Rattle.sys_run.specs.declared.table.Table.{Table}
+use Rattle.sys_run.specs.declared.player.Answered.{Answered}
+use Rattle.sys_run.specs.declared.protocol.Body.{Body}
+use Rattle.sys_run.specs.declared.protocol.Body.TheVariants.{Pipe, Source}
+use Rattle.sys_run.specs.declared.protocol.Protocol.{Protocol}
 
--- all that a state has come to
-abbrev pub joined_of : State → Joined
-joined_of s = record { history = s.history; ops = s.ops; logs = λ i. (s.channels i).log }
-
--- the positions and the lengths of logs are those of this state
-pub record BeganAt (setup : Setup) (b : State) (begun : Begun) : Type 0 where
+-- the positions and the lengths of logs are those of what was printed before
+pub record BeganAt (setup : Setup) (past : Joined) (begun : Begun) : Type 0 where
   pub heads :
-      Pairs (λ n table head. head ≡ length (b.history n)) 0 setup.tables begun.heads.items
+      Pairs (λ n table head. head ≡ length (past.history n)) 0 setup.tables begun.heads.items
   pub logged :
-      Pairs (λ i p len. len ≡ length (b.channels i).log) 0 setup.protocols begun.logged.items
+      Pairs (λ c channel len. len ≡ length (past.logs c))
+      0 (setups.channels setup) begun.logged.items
 
 -- the name of the table of a number
 abbrev pub name_at : ℕ → List TableParts → Option (List ℕ)
 name_at number parts = option_map (λ (table : TableParts). table.name) (slice_get parts number)
 
 module _ {J : Type 0} where
+  -- how many items a channel's log has, and none before the first phase
+  abbrev pub logged_in : Bool → Channel J → ℕ
+  logged_in first held = if first then 0 else length held.exporter.log
+
   -- the report has the protocol's operations
   pub record IsOperationsOf
-      (names : List (List ℕ)) (i : ℕ) (held : Imports J) (report : ProtocolReport) : Type 0 where
+      (names : List (List ℕ)) (i : ℕ) (held : Protocol J) (report : ProtocolReport) : Type 0 where
     pub name : slice_get names i ≡ Some report.name
     pub ops : report.ops ≡ held.done.items
 
   -- the operations are forgotten
-  pub record IsEmptied (i : ℕ) (held new : Imports J) : Type 0 where
-    pub kind : new.kind ≡ held.kind
-    pub importer : new.importer ≡ held.importer
+  pub record IsEmptied (i : ℕ) (held new : Protocol J) : Type 0 where
+    pub body : new.body ≡ held.body
+    pub from_is : new.from ≡ held.from
+    pub upto_is : new.upto ≡ held.upto
     pub done : new.done.items ≡ []
 
+  abbrev pub state_of : Body J → ProtocolState
+  state_of (Source held) =
+      states.Imports held.importer.imports.mode (length held.importer.imports.accepted)
+  state_of (Pipe up) = states.Pipe up
+
   pub record IsModeOf
-      (names : List (List ℕ)) (i : ℕ) (held : Imports J) (report : ModeReport) : Type 0 where
+      (names : List (List ℕ)) (i : ℕ) (held : Protocol J) (report : ModeReport) : Type 0 where
     pub name : slice_get names i ≡ Some report.name
-    pub mode : report.mode ≡ held.importer.imports.mode
-    pub accepted : report.accepted ≡ Some (length held.importer.imports.accepted)
+    pub state : report.state ≡ state_of held.body
+
+  -- the report has the items of the log from a length on
+  pub record IsLogOf
+      (names : List (List ℕ)) (logged : List ℕ) (number : ℕ) (held : Channel J)
+      (report : ChannelReport) : Type 0 where
+    pub name : slice_get names number ≡ Some report.name
+    pub pipe : report.pipe ≡ is_some held.target
+    pub began : ℕ
+    pub begun : slice_get logged number ≡ Some began
+    pub items : report.items ≡ drop began held.exporter.log
 
 -- the report has the changes from a position on
 pub record IsJournalOf
     (parts : List TableParts) (heads : List ℕ) (number : ℕ) (table : Table)
     (report : JournalReport) : Type 0 where
   pub name : name_at number parts ≡ Some report.table
-  pub from : slice_get heads number ≡ Some report.from
+  pub from_is : slice_get heads number ≡ Some report.from
   pub entries : report.entries ≡ drop report.from (map change_of table.entries.items)
 
 pub record IsTableOf (parts : List TableParts) (number : ℕ) (table : Table) (report : TableReport)
@@ -90,32 +110,15 @@ abbrev pub standing_in : Key × Attrs → Standing
 standing_in value = record { key = value.0; attrs = value.1 }
 
 module _ {J : Type 0} (verdict : J → Net → Route → Verdict) where
-  -- the report has the items of the log from a length on
-  pub record IsLogOf
-      (names : List (List ℕ)) (channels : List (Channel J)) (logged : List ℕ) (number : ℕ)
-      (report : ChannelReport) : Type 0 where
-    pub name : slice_get names number ≡ Some report.name
-    pub pipe : report.pipe ≡ false
-    pub held : Channel J
-    pub from : ℕ
-    pub channel : slice_get channels number ≡ Some held
-    pub begun : slice_get logged number ≡ Some from
-    pub items :
-        (rules : Rules) (i : ℕ) (family : Option Family) (history : List Change)
-        (ch : machine.Channel) → IsChannel verdict rules i family history held ch
-        → report.items ≡ drop from (reverse ch.log)
-
   pub record IsExportOf
-      (names : List (List ℕ)) (channels : List (Channel J)) (number : ℕ) (report : ExportReport)
+      (names : List (List ℕ)) (number : ℕ) (held : Channel J) (report : ExportReport)
       : Type 0 where
     pub name : slice_get names number ≡ Some report.name
-    pub pipe : report.pipe ≡ false
-    pub held : Channel J
-    pub channel : slice_get channels number ≡ Some held
+    pub pipe : report.pipe ≡ is_some held.target
     pub values : Option (Vec (Key × Attrs) Global)
     pub told :
-        (rules : Rules) (i : ℕ) (family : Option Family) (history : List Change)
-        (ch : machine.Channel) → IsChannel verdict rules i family history held ch
+        (rules : Rules) (c : ℕ) (family : Option Family) (history : List Change)
+        (ch : machine.Channel) → IsChannel verdict rules c family history held ch
         → TellsStanding ch values
     pub standing :
         report.standing

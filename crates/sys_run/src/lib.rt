@@ -16,7 +16,5 @@ mod player;
 mod protocol;
 mod ways;
 
-pub use parts::{
-    BodyParts, ExportParts, PipeParts, ProtocolParts, SourceParts, TableParts,
-};
+pub use parts::{BodyParts, ExportParts, PipeParts, ProtocolParts, SourceParts, TableParts};
 pub use player::Core;

@@ -1,4 +1,16 @@
 //! The report of a phase.
+ghost use Rattle.std.specs.Prelude.{◌≡◌, ◌+◌, ◌++◌, ℕ, List, Option, Some, IfOk, OnOk, drop, length, map, option_copied, option_map, slice_get, if◌then◌else◌};
+ghost use Rattle.core_machine.specs.Legal.{Joined, Printed, join};
+ghost use Rattle.core_machine.specs.Machine.{State};
+ghost use Rattle.core_machine.specs.Phases.{Prints};
+ghost use Rattle.core_setup.specs.Pairs.{Pairs};
+ghost use Rattle.core_setup.specs.Protocols.{rules_of};
+ghost use Rattle.core_setup.specs.Reports.{IsReport};
+ghost use Rattle.core_setup.specs.Setup.{Setup};
+ghost use Rattle.export_core.specs.Histories.{change_of};
+ghost use Rattle.sys_run.specs.Cores.{Holds, IsCore};
+ghost use Rattle.sys_run.specs.Phase.{BeganAt, IsEmptied, IsExportOf, IsJournalOf, IsLogOf, IsModeOf, IsOperationsOf, IsTableOf, logged_in, reply_of, standing_in, told};
+ghost use Rattle.sys_run.specs.Playing.{Rests};
 
 use crate::parts::TableParts;
 use crate::player::{Answered, Core};
@@ -23,7 +35,10 @@ pub(crate) struct Begun {
 }
 
 impl Begun {
-    pub(crate) fn of<J: Judge>(core: &Core<J>) -> Result<Begun, OutOfMemory> {
+    pub(crate) fn of<J: Judge>(core: &Core<J>) -> Result<Begun, OutOfMemory>
+        ensures { IfOk result (λ begun. (setup : Setup) (past : Joined) (phases : ℕ) (s : State)
+            → Rests J.verdict setup phases past s core.now → BeganAt setup past begun) }
+    {
         Ok(Begun {
             heads: heads_of(core.alloc, &core.routes.tables)?,
             logged: logged_of(core.alloc, core.phases == 0, &core.routes.channels)?,
@@ -31,7 +46,10 @@ impl Begun {
     }
 }
 
-fn heads_of(alloc: Global, tables: &[Table]) -> Result<Vec<u64>, OutOfMemory> {
+fn heads_of(alloc: Global, tables: &[Table]) -> Result<Vec<u64>, OutOfMemory>
+    ensures { IfOk result
+        (λ heads. heads.items ≡ map (λ table. length table.entries.items) tables.now) }
+{
     let mut heads = Vec::new(alloc);
     for table in tables {
         heads.push(table.head())?;
@@ -44,7 +62,9 @@ fn logged_of<J: Judge>(
     alloc: Global,
     first: bool,
     channels: &[Channel<J>],
-) -> Result<Vec<usize>, OutOfMemory> {
+) -> Result<Vec<usize>, OutOfMemory>
+    ensures { IfOk result (λ logged. logged.items ≡ map (logged_in first) channels.now) }
+{
     let mut logged = Vec::new(alloc);
     for channel in channels {
         logged.push(len_unless(first, channel.items()))?;
@@ -52,7 +72,9 @@ fn logged_of<J: Judge>(
     Ok(logged)
 }
 
-fn len_unless(first: bool, items: &[LogItem]) -> usize {
+fn len_unless(first: bool, items: &[LogItem]) -> usize
+    ensures { result ≡ (if first then 0 else length items.now) }
+{
     if first { 0 } else { items.len() }
 }
 
@@ -62,7 +84,16 @@ impl<J: Judge> Core<J> {
         &mut self,
         actors: &[Name],
         begun: &Begun,
-    ) -> Result<PhaseReport, OutOfMemory> {
+    ) -> Result<PhaseReport, OutOfMemory>
+        requires { Holds J.verdict self.old }
+        ensures report { IfOk result (λ report. (setup : Setup) (past : Joined) (s : State)
+            → IsCore J.verdict setup past s self.old → BeganAt setup past begun.now
+            → length self.old.replies.items ≡ length actors.now
+            → (p : Printed) × Prints (rules_of setup) past s p
+            × IsReport setup actors.now (self.old.phases + 1) past p report
+            × Rests J.verdict setup (self.old.phases + 1) (join past p) s self.new) }
+        ensures phases { OnOk result (self.new.phases ≡ self.old.phases + 1) }
+    {
         let Some(number) = self.phases.checked_add(1) else {
             return Err(OutOfMemory);
         };
@@ -90,7 +121,9 @@ impl<J: Judge> Core<J> {
 }
 
 /// A copy of the name of this number.
-fn copy_name(alloc: Global, names: &[Seq<u8>], number: usize) -> Result<Seq<u8>, OutOfMemory> {
+fn copy_name(alloc: Global, names: &[Seq<u8>], number: usize) -> Result<Seq<u8>, OutOfMemory>
+    ensures { IfOk result (λ name. slice_get names.now number ≡ Some name) }
+{
     match names.get(number) {
         Some(name) => Ok(Seq::from_vec(Vec::from_slice(alloc, name.as_slice())?)),
         None => Err(OutOfMemory),
@@ -102,7 +135,10 @@ fn copy_table_name(
     alloc: Global,
     tables: &[TableParts],
     number: usize,
-) -> Result<Seq<u8>, OutOfMemory> {
+) -> Result<Seq<u8>, OutOfMemory>
+    ensures { IfOk result
+        (λ name. option_map (λ table. table.name) (slice_get tables.now number) ≡ Some name) }
+{
     match tables.get(number) {
         Some(table) => Ok(Seq::from_vec(Vec::from_slice(alloc, table.name.as_slice())?)),
         None => Err(OutOfMemory),
@@ -114,7 +150,11 @@ fn report_operations<J: Judge>(
     alloc: Global,
     names: &[Seq<u8>],
     protocols: &mut Vec<Protocol<J>>,
-) -> Result<Seq<ProtocolReport>, OutOfMemory> {
+) -> Result<Seq<ProtocolReport>, OutOfMemory>
+    ensures reports { IfOk result (λ reports.
+        Pairs (IsOperationsOf names.now) 0 protocols.old.items reports) }
+    ensures emptied { OnOk result (Pairs IsEmptied 0 protocols.old.items protocols.new.items) }
+{
     let mut reports = Seq::new(alloc);
     for number in 0..protocols.len() {
         let name = copy_name(alloc, names, number)?;
@@ -131,7 +171,10 @@ fn report_journals(
     parts: &[TableParts],
     tables: &[Table],
     heads: &[u64],
-) -> Result<Seq<JournalReport>, OutOfMemory> {
+) -> Result<Seq<JournalReport>, OutOfMemory>
+    ensures { IfOk result (λ reports.
+        Pairs (IsJournalOf parts.now heads.now) 0 tables.now reports) }
+{
     let mut reports = Seq::new(alloc);
     for (number, table) in tables.iter().enumerate() {
         reports.push(report_journal(alloc, parts, table, heads, number)?)?;
@@ -145,7 +188,9 @@ fn report_journal(
     table: &Table,
     heads: &[u64],
     number: usize,
-) -> Result<JournalReport, OutOfMemory> {
+) -> Result<JournalReport, OutOfMemory>
+    ensures { IfOk result (λ report. IsJournalOf parts.now heads.now number table.now report) }
+{
     let name = copy_table_name(alloc, parts, number)?;
     let Some(from) = heads.get(number).copied() else {
         return Err(OutOfMemory);
@@ -161,7 +206,9 @@ fn report_journal(
     })
 }
 
-fn copy_changes(alloc: Global, entries: &[JEntry]) -> Result<Seq<Change>, OutOfMemory> {
+fn copy_changes(alloc: Global, entries: &[JEntry]) -> Result<Seq<Change>, OutOfMemory>
+    ensures { IfOk result (λ changes. changes ≡ map change_of entries.now) }
+{
     let mut changes = Seq::from_vec(Vec::with_capacity(alloc, entries.len())?);
     for entry in entries {
         changes.push(copy_change(entry)?)?;
@@ -169,7 +216,9 @@ fn copy_changes(alloc: Global, entries: &[JEntry]) -> Result<Seq<Change>, OutOfM
     Ok(changes)
 }
 
-fn copy_change(entry: &JEntry) -> Result<Change, OutOfMemory> {
+fn copy_change(entry: &JEntry) -> Result<Change, OutOfMemory>
+    ensures { IfOk result (λ change. change ≡ change_of entry.now) }
+{
     Ok(Change {
         net: entry.net,
         num: entry.num,
@@ -177,7 +226,9 @@ fn copy_change(entry: &JEntry) -> Result<Change, OutOfMemory> {
     })
 }
 
-fn copy_route(route: Option<&Route>) -> Result<Option<Route>, OutOfMemory> {
+fn copy_route(route: Option<&Route>) -> Result<Option<Route>, OutOfMemory>
+    ensures { IfOk result (λ copy. copy ≡ option_copied route.entry) }
+{
     match route {
         Some(route) => Ok(Some(route.copy()?)),
         None => Ok(None),
@@ -190,7 +241,10 @@ fn report_logs<J: Judge>(
     names: &[Seq<u8>],
     channels: &[Channel<J>],
     logged: &[usize],
-) -> Result<Seq<ChannelReport>, OutOfMemory> {
+) -> Result<Seq<ChannelReport>, OutOfMemory>
+    ensures { IfOk result (λ reports.
+        Pairs (IsLogOf names.now logged.now) 0 channels.now reports) }
+{
     let mut reports = Seq::new(alloc);
     for (number, channel) in channels.iter().enumerate() {
         reports.push(report_log(alloc, names, number, channel, logged)?)?;
@@ -204,7 +258,9 @@ fn report_log<J: Judge>(
     number: usize,
     channel: &Channel<J>,
     logged: &[usize],
-) -> Result<ChannelReport, OutOfMemory> {
+) -> Result<ChannelReport, OutOfMemory>
+    ensures { IfOk result (λ report. IsLogOf names.now logged.now number channel.now report) }
+{
     let name = copy_name(alloc, names, number)?;
     let Some(from) = logged.get(number).copied() else {
         return Err(OutOfMemory);
@@ -218,14 +274,18 @@ fn report_log<J: Judge>(
 }
 
 /// A copy of the items behind so many.
-fn copy_behind(alloc: Global, items: &[LogItem], from: usize) -> Result<Seq<LogItem>, OutOfMemory> {
+fn copy_behind(alloc: Global, items: &[LogItem], from: usize) -> Result<Seq<LogItem>, OutOfMemory>
+    ensures { IfOk result (λ copy. copy ≡ drop from items.now) }
+{
     if from > items.len() {
         return Err(OutOfMemory);
     }
     copy_items(alloc, &items[from..])
 }
 
-fn copy_items(alloc: Global, items: &[LogItem]) -> Result<Seq<LogItem>, OutOfMemory> {
+fn copy_items(alloc: Global, items: &[LogItem]) -> Result<Seq<LogItem>, OutOfMemory>
+    ensures { IfOk result (λ copy. copy ≡ items.now) }
+{
     let mut copy = Seq::from_vec(Vec::with_capacity(alloc, items.len())?);
     for item in items {
         copy.push(copy_item(item)?)?;
@@ -233,7 +293,9 @@ fn copy_items(alloc: Global, items: &[LogItem]) -> Result<Seq<LogItem>, OutOfMem
     Ok(copy)
 }
 
-fn copy_item(item: &LogItem) -> Result<LogItem, OutOfMemory> {
+fn copy_item(item: &LogItem) -> Result<LogItem, OutOfMemory>
+    ensures { IfOk result (λ copy. copy ≡ item.now) }
+{
     match item {
         LogItem::Up(at) => Ok(LogItem::Up(*at)),
         LogItem::Down => Ok(LogItem::Down),
@@ -242,7 +304,9 @@ fn copy_item(item: &LogItem) -> Result<LogItem, OutOfMemory> {
     }
 }
 
-fn copy_sending(sending: &Sending) -> Result<Sending, OutOfMemory> {
+fn copy_sending(sending: &Sending) -> Result<Sending, OutOfMemory>
+    ensures { IfOk result (λ copy. copy ≡ sending.now) }
+{
     Ok(Sending {
         at: sending.at,
         key: sending.key,
@@ -251,7 +315,9 @@ fn copy_sending(sending: &Sending) -> Result<Sending, OutOfMemory> {
     })
 }
 
-fn copy_value(value: Option<&Shared<Attrs>>) -> Result<Option<Shared<Attrs>>, OutOfMemory> {
+fn copy_value(value: Option<&Shared<Attrs>>) -> Result<Option<Shared<Attrs>>, OutOfMemory>
+    ensures { IfOk result (λ copy. copy ≡ option_copied value.entry) }
+{
     match value {
         Some(attrs) => Ok(Some(attrs.share()?)),
         None => Ok(None),
@@ -264,7 +330,10 @@ fn report_replies(
     actors: &[Name],
     tables: &[TableParts],
     replies: Vec<Vec<Answered>>,
-) -> Result<Seq<ReplyReport>, OutOfMemory> {
+) -> Result<Seq<ReplyReport>, OutOfMemory>
+    ensures { IfOk result (λ reports.
+        reports ≡ told (slice_get tables.now 0) actors.now replies.items) }
+{
     let mut reports = Seq::new(alloc);
     let mut number: usize = 0;
     for answered in replies {
@@ -287,7 +356,10 @@ fn tell(
     tables: &[TableParts],
     answered: Vec<Answered>,
     reports: &mut Seq<ReplyReport>,
-) -> Result<(), OutOfMemory> {
+) -> Result<(), OutOfMemory>
+    ensures { OnOk result (reports.new
+        ≡ reports.old ++ map (reply_of (slice_get tables.now 0) actor.now) answered.items) }
+{
     for reply in answered {
         reports.push(report_reply(alloc, actor, tables, reply)?)?;
     }
@@ -299,7 +371,10 @@ fn report_reply(
     actor: &[u8],
     tables: &[TableParts],
     reply: Answered,
-) -> Result<ReplyReport, OutOfMemory> {
+) -> Result<ReplyReport, OutOfMemory>
+    ensures { IfOk result
+        (λ report. report ≡ reply_of (slice_get tables.now 0) actor.now reply) }
+{
     let Answered { at, text } = reply;
     Ok(ReplyReport {
         actor: Seq::from_vec(Vec::from_slice(alloc, actor)?),
@@ -314,7 +389,9 @@ fn report_tables(
     alloc: Global,
     parts: &[TableParts],
     tables: &[Table],
-) -> Result<Seq<TableReport>, OutOfMemory> {
+) -> Result<Seq<TableReport>, OutOfMemory>
+    ensures { IfOk result (λ reports. Pairs (IsTableOf parts.now) 0 tables.now reports) }
+{
     let mut reports = Seq::new(alloc);
     for (number, table) in tables.iter().enumerate() {
         reports.push(report_table(alloc, parts, table, number)?)?;
@@ -327,7 +404,9 @@ fn report_table(
     parts: &[TableParts],
     table: &Table,
     number: usize,
-) -> Result<TableReport, OutOfMemory> {
+) -> Result<TableReport, OutOfMemory>
+    ensures { IfOk result (λ report. IsTableOf parts.now number table.now report) }
+{
     Ok(TableReport {
         name: copy_table_name(alloc, parts, number)?,
         rows: Seq::from_vec(table.rows()?),
@@ -339,7 +418,9 @@ fn report_modes<J: Judge>(
     alloc: Global,
     names: &[Seq<u8>],
     protocols: &[Protocol<J>],
-) -> Result<Seq<ModeReport>, OutOfMemory> {
+) -> Result<Seq<ModeReport>, OutOfMemory>
+    ensures { IfOk result (λ reports. Pairs (IsModeOf names.now) 0 protocols.now reports) }
+{
     let mut reports = Seq::new(alloc);
     for (number, protocol) in protocols.iter().enumerate() {
         let name = copy_name(alloc, names, number)?;
@@ -354,7 +435,10 @@ fn report_exports<J: Judge>(
     alloc: Global,
     names: &[Seq<u8>],
     channels: &[Channel<J>],
-) -> Result<Seq<ExportReport>, OutOfMemory> {
+) -> Result<Seq<ExportReport>, OutOfMemory>
+    ensures { IfOk result (λ reports.
+        Pairs (IsExportOf J.verdict names.now) 0 channels.now reports) }
+{
     let mut reports = Seq::new(alloc);
     for (number, channel) in channels.iter().enumerate() {
         reports.push(report_export(alloc, names, number, channel)?)?;
@@ -367,7 +451,9 @@ fn report_export<J: Judge>(
     names: &[Seq<u8>],
     number: usize,
     channel: &Channel<J>,
-) -> Result<ExportReport, OutOfMemory> {
+) -> Result<ExportReport, OutOfMemory>
+    ensures { IfOk result (λ report. IsExportOf J.verdict names.now number channel.now report) }
+{
     let name = copy_name(alloc, names, number)?;
     let values = channel.standing()?;
     let standing = all_standing(alloc, values)?;
@@ -381,7 +467,10 @@ fn report_export<J: Judge>(
 fn all_standing(
     alloc: Global,
     values: Option<Vec<(Key, Shared<Attrs>)>>,
-) -> Result<Option<Seq<Standing>>, OutOfMemory> {
+) -> Result<Option<Seq<Standing>>, OutOfMemory>
+    ensures { IfOk result (λ standing.
+        standing ≡ option_map (λ held. map standing_in held.items) values) }
+{
     match values {
         Some(values) => Ok(Some(standing_of(alloc, values)?)),
         None => Ok(None),
@@ -391,7 +480,9 @@ fn all_standing(
 fn standing_of(
     alloc: Global,
     values: Vec<(Key, Shared<Attrs>)>,
-) -> Result<Seq<Standing>, OutOfMemory> {
+) -> Result<Seq<Standing>, OutOfMemory>
+    ensures { IfOk result (λ standing. standing ≡ map standing_in values.items) }
+{
     let mut standing = Seq::from_vec(Vec::with_capacity(alloc, values.len())?);
     for (key, attrs) in values {
         standing.push(Standing { key, attrs })?;

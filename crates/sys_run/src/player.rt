@@ -1,12 +1,33 @@
 //! A core: what plays a script.
+ghost use Rattle.std.specs.Prelude.{◌≡◌, ◌<◌, ◌≤◌, ◌^◌, ◌++◌, ◌-◌, ℕ, [], ◌∷◌, length, List, IfOk, IsSome, OnOk, reverse, Some, map, slice_get};
+ghost use Rattle.std.specs.List.{All};
+ghost use Rattle.std.specs.declared.alloc.Global.{Global};
+ghost use Rattle.std.specs.declared.vec.Vec.{Vec};
+ghost use Rattle.attrs.specs.declared.route.Change.{Change as HeldChange};
+ghost use Rattle.core_machine.specs.Channels.{times};
+ghost use Rattle.core_machine.specs.Legal.{Joined};
+ghost use Rattle.core_machine.specs.Lines.{Act, Line as MachineLine, Reply};
+ghost use Rattle.core_machine.specs.Machine.{AllObey, Applies, Begins, Plays, State, Steps, appended};
+ghost use Rattle.core_machine.specs.Rounds.{HasRounds, round};
+ghost use Rattle.core_setup.specs.Protocols.{rules_of, signal_of, starts, with_begin};
+ghost use Rattle.core_setup.specs.Setup.{IsSetup, Protocol as SeenProtocol, Setup};
+ghost use Rattle.report.specs.declared.phase.PhaseReport.{PhaseReport as Report};
+ghost use Rattle.sys_run.specs.Cores.{AllFit, Ends, Holds, ImportsTo, IsAnswered, IsCore, Keeps, MayObey, counted, made_by, table_of};
+ghost use Rattle.run_tables.specs.Routes.{AreRoutes, Holds as RoutesHold};
+ghost use Rattle.sys_run.specs.Parts.{setup_seen};
+ghost use Rattle.sys_run.specs.Playing.{HasPlayed, IsPlaying, starts_in};
+ghost use Rattle.sys_run.specs.Scripts.{line_of, phase_of};
+ghost use Rattle.sys_run.specs.declared.player.Answered.{Answered as HeldAnswer};
+ghost use Rattle.sys_run.specs.declared.protocol.Protocol.{Protocol as HeldProtocol};
 
 use crate::made::{Made, make_protocols, make_routes, make_tables, passed_by};
 use crate::parts::{ProtocolParts, TableParts};
 use crate::phase::Begun;
-use crate::protocol::{Body, Protocol, is_up_behind, pipe_mark};
-use attrs::{Judge, Kind, Seq};
+use crate::protocol::{Body, Protocol, Turned};
+use attrs::{Change, Judge, Seq};
 use bits_ip::OutOfMemory;
-use import_core::{Done, Mark, Op, Step};
+use core_machine::laws::{rounds_are_few, syncs_end};
+use import_core::{Done, Mark, Op};
 use report::PhaseReport;
 use run_tables::Routes;
 use script_lines::{Line, Name};
@@ -48,7 +69,13 @@ impl<J: Judge + Drop> Core<J> {
         cells: u32,
         tables: Vec<TableParts>,
         protocols: Vec<ProtocolParts<J>>,
-    ) -> Result<Core<J>, OutOfMemory> {
+    ) -> Result<Core<J>, OutOfMemory>
+        requires few { length protocols.items < 2 ^ 32 }
+        requires setup { IsSetup (setup_seen J.verdict tables.items protocols.items cells) }
+        ensures { IfOk result (λ core. (actors : List (List ℕ))
+            → HasPlayed J.verdict (setup_seen J.verdict tables.items protocols.items cells)
+            actors [] [] core) }
+    {
         let held = make_tables(alloc, &tables)?;
         let passed = passed_by(alloc, tables.len(), &protocols)?;
         let made = make_protocols(alloc, &tables, passed, protocols)?;
@@ -78,7 +105,15 @@ impl<J: Judge> Core<J> {
     /// script.
     ///
     /// `OutOfMemory` comes where memory is refused. The core is of no use then.
-    pub fn play(&mut self, actors: &[Name], lines: Vec<Line>) -> Result<PhaseReport, OutOfMemory> {
+    pub fn play(&mut self, actors: &[Name], lines: Vec<Line>) -> Result<PhaseReport, OutOfMemory>
+        requires { IsPlaying J.verdict self.old }
+        ensures { IfOk result (λ report. (setup : Setup) (scripts : List (List MachineLine))
+            (reports : List Report) → HasPlayed J.verdict setup actors.now scripts reports self.old
+            → HasPlayed J.verdict setup actors.now
+            (scripts ++ phase_of lines.items ∷ []) (reports ++ report ∷ []) self.new) }
+    {
+        syncs_end();
+        rounds_are_few();
         let begun = Begun::of(self)?;
         self.replies = no_replies(self.alloc, actors.len())?;
         self.begin()?;
@@ -88,7 +123,14 @@ impl<J: Judge> Core<J> {
     }
 
     /// Starts the static protocols, in their order, where no phase has ended yet.
-    fn begin(&mut self) -> Result<(), OutOfMemory> {
+    fn begin(&mut self) -> Result<(), OutOfMemory>
+        requires { Holds J.verdict self.old }
+        ensures core { OnOk result ((setup : Setup) (past : Joined) (s : State)
+            → IsCore J.verdict setup past s self.old
+            → (t : State) × Begins (rules_of setup) (starts_in setup self.old.phases) s t
+            × IsCore J.verdict setup past t self.new) }
+        ensures kept { OnOk result (Keeps self.old self.new) }
+    {
         if self.phases == 0 {
             self.start()
         } else {
@@ -97,7 +139,14 @@ impl<J: Judge> Core<J> {
     }
 
     /// Starts the static protocols, in their order.
-    fn start(&mut self) -> Result<(), OutOfMemory> {
+    fn start(&mut self) -> Result<(), OutOfMemory>
+        requires { Holds J.verdict self.old }
+        ensures core { OnOk result ((setup : Setup) (past : Joined) (s : State)
+            → IsCore J.verdict setup past s self.old
+            → (t : State) × Begins (rules_of setup) (starts setup) s t
+            × IsCore J.verdict setup past t self.new) }
+        ensures kept { OnOk result (Keeps self.old self.new) }
+    {
         for number in 0..self.protocols.len() {
             self.start_one(number)?;
         }
@@ -105,7 +154,16 @@ impl<J: Judge> Core<J> {
     }
 
     /// Starts a protocol, if it is static.
-    fn start_one(&mut self, number: usize) -> Result<(), OutOfMemory> {
+    fn start_one(&mut self, number: usize) -> Result<(), OutOfMemory>
+        requires holds { Holds J.verdict self.old }
+        requires there { number < length self.old.protocols.items }
+        ensures core { OnOk result ((setup : Setup) (past : Joined) (s : State)
+            (p : SeenProtocol) → IsCore J.verdict setup past s self.old
+            → slice_get setup.protocols number ≡ Some p
+            → (t : State) × Begins (rules_of setup) (with_begin number p.body []) s t
+            × IsCore J.verdict setup past t self.new) }
+        ensures kept { OnOk result (Keeps self.old self.new) }
+    {
         if self.protocols[number].body.is_static() {
             self.apply(number, Op::Start)?;
         }
@@ -113,14 +171,28 @@ impl<J: Judge> Core<J> {
     }
 
     /// Does the lines in their order.
-    fn run(&mut self, lines: Vec<Line>) -> Result<(), OutOfMemory> {
+    fn run(&mut self, lines: Vec<Line>) -> Result<(), OutOfMemory>
+        requires { Holds J.verdict self.old }
+        ensures core { OnOk result ((setup : Setup) (past : Joined) (s : State)
+            → IsCore J.verdict setup past s self.old
+            → (t : State) × Plays (rules_of setup) (phase_of lines.items) s t
+            × IsCore J.verdict setup past t self.new) }
+        ensures kept { OnOk result (Keeps self.old self.new) }
+    {
         for line in lines {
             self.step(line)?;
         }
         Ok(())
     }
 
-    fn step(&mut self, line: Line) -> Result<(), OutOfMemory> {
+    fn step(&mut self, line: Line) -> Result<(), OutOfMemory>
+        requires { Holds J.verdict self.old }
+        ensures core { OnOk result ((setup : Setup) (past : Joined) (s : State)
+            → IsCore J.verdict setup past s self.old
+            → (t : State) × Steps (rules_of setup) (line_of line) s t
+            × IsCore J.verdict setup past t self.new) }
+        ensures kept { OnOk result (Keeps self.old self.new) }
+    {
         match line {
             Line::Take { channel, count } => self.take(channel, count),
             Line::Push { channel, count } => self.push(channel, count),
@@ -130,42 +202,82 @@ impl<J: Judge> Core<J> {
     }
 
     /// Does an operation: its changes come to the protocol's table, and then its channels obey.
-    fn apply(&mut self, number: usize, op: Op) -> Result<(), OutOfMemory> {
+    /// Without such a protocol it does nothing.
+    fn apply(&mut self, number: usize, op: Op) -> Result<(), OutOfMemory>
+        requires { Holds J.verdict self.old }
+        ensures core { OnOk result ((setup : Setup) (past : Joined) (s : State) (a : Act)
+            → IsCore J.verdict setup past s self.old → a.protocol ≡ number → a.op ≡ op
+            → (t : State) × Applies (rules_of setup) a s t
+            × IsCore J.verdict setup past t self.new) }
+        ensures kept { OnOk result (Keeps self.old self.new) }
+    {
         if number >= self.protocols.len() {
             return Ok(());
         }
-        let Told { mark, over } = self.turn(number, &op)?;
+        let Turned {
+            changes,
+            over,
+            mark,
+        } = self.protocols[number].body.turn(self.alloc, &op)?;
+        self.change(number, changes.into_vec())?;
         self.obey(number, mark)?;
         self.protocols[number].done.push(Done { op, over })?;
         Ok(())
     }
 
-    /// The protocol's part of an operation, and the changes that come of it.
-    fn turn(&mut self, number: usize, op: &Op) -> Result<Told, OutOfMemory> {
-        match &mut self.protocols[number].body {
-            Body::Source(source) => {
-                let Step { changes, over, mark } = source.importer.apply(op)?;
-                self.routes.append_all(source.table, changes.into_vec())?;
-                Ok(Told { mark, over })
-            }
-            Body::Pipe(up) => {
-                let mark = pipe_mark(*up, op);
-                *up = is_up_behind(*up, mark);
-                Ok(Told { mark, over: false })
-            }
+    /// Changes come to the table that a protocol imports to; a pipe makes none.
+    fn change(&mut self, number: usize, changes: Vec<Change>) -> Result<(), OutOfMemory>
+        requires routes { RoutesHold J.verdict self.old.routes }
+        requires there { number < length self.old.protocols.items }
+        requires sources { All (λ (c : HeldChange).
+            IsSome c.new → c.num < length self.old.routes.sources.items) changes.items }
+        requires table { (held : HeldProtocol J) → slice_get self.old.protocols.items number ≡ Some held
+            → ImportsTo (length self.old.routes.tables.items) held.body }
+        ensures routes { OnOk result ((setup : Setup) (s : State) (held : HeldProtocol J)
+            → AreRoutes J.verdict setup s self.old.routes
+            → slice_get self.old.protocols.items number ≡ Some held
+            → AreRoutes J.verdict setup
+            (appended (rules_of setup) (table_of held.body) (made_by held.body (reverse changes.items)) s)
+            self.new.routes) }
+        ensures kept { self.new ≡ record self.old { routes = self.new.routes } }
+    {
+        match &self.protocols[number].body {
+            Body::Source(source) => self.routes.append_all(source.table, changes),
+            Body::Pipe(_) => Ok(()),
         }
     }
 
-    /// The protocol's channels obey, in their order.
-    fn obey(&mut self, number: usize, mark: Mark) -> Result<(), OutOfMemory> {
-        for channel in self.protocols[number].from..self.protocols[number].upto {
+    /// A protocol's channels obey, in their order.
+    fn obey(&mut self, number: usize, mark: Mark) -> Result<(), OutOfMemory>
+        requires there { number < length self.old.protocols.items }
+        requires holds { (held : HeldProtocol J) → slice_get self.old.protocols.items number ≡ Some held
+            → MayObey J.verdict mark held.from held.upto self.old.routes }
+        ensures routes { OnOk result ((setup : Setup) (s : State) (held : HeldProtocol J)
+            → AreRoutes J.verdict setup s self.old.routes
+            → slice_get self.old.protocols.items number ≡ Some held
+            → AllFit (signal_of mark) held.from held.upto s
+            → (t : State)
+            × AllObey (signal_of mark) (rules_of setup) (counted held.from (held.upto - held.from)) s t
+            × AreRoutes J.verdict setup t self.new.routes) }
+        ensures kept { self.new ≡ record self.old { routes = self.new.routes } }
+    {
+        let from = self.protocols[number].from;
+        let upto = self.protocols[number].upto;
+        for channel in from..upto {
             self.routes.obey(channel, mark)?;
         }
         Ok(())
     }
 
     /// Has a channel take so many changes, or all that there are. One that isn't there takes none.
-    fn take(&mut self, channel: u32, count: u32) -> Result<(), OutOfMemory> {
+    fn take(&mut self, channel: u32, count: u32) -> Result<(), OutOfMemory>
+        requires { Holds J.verdict self.old }
+        ensures core { OnOk result ((setup : Setup) (past : Joined) (s : State)
+            → IsCore J.verdict setup past s self.old
+            → (t : State) × Steps (rules_of setup) (line_of (Line.Take channel count)) s t
+            × IsCore J.verdict setup past t self.new) }
+        ensures kept { OnOk result (Keeps self.old self.new) }
+    {
         let number = channel as usize;
         if number >= self.routes.channels.len() {
             return Ok(());
@@ -174,7 +286,14 @@ impl<J: Judge> Core<J> {
     }
 
     /// Has a channel push so many marks, or all that there are. One that isn't there has none.
-    fn push(&mut self, channel: u32, count: u32) -> Result<(), OutOfMemory> {
+    fn push(&mut self, channel: u32, count: u32) -> Result<(), OutOfMemory>
+        requires { Holds J.verdict self.old }
+        ensures core { OnOk result ((setup : Setup) (past : Joined) (s : State)
+            → IsCore J.verdict setup past s self.old
+            → (t : State) × Steps (rules_of setup) (line_of (Line.Push channel count)) s t
+            × IsCore J.verdict setup past t self.new) }
+        ensures kept { OnOk result (Keeps self.old self.new) }
+    {
         let number = channel as usize;
         if number >= self.routes.channels.len() {
             return Ok(());
@@ -183,7 +302,14 @@ impl<J: Judge> Core<J> {
     }
 
     /// Answers `show route` of the first table.
-    fn show(&mut self, actor: u32) -> Result<(), OutOfMemory> {
+    fn show(&mut self, actor: u32) -> Result<(), OutOfMemory>
+        requires { Holds J.verdict self.old }
+        ensures core { OnOk result ((setup : Setup) (past : Joined) (s : State)
+            → IsCore J.verdict setup past s self.old
+            → (t : State) × Steps (rules_of setup) (line_of (Line.Show actor)) s t
+            × IsCore J.verdict setup past t self.new) }
+        ensures kept { OnOk result (Keeps self.old self.new) }
+    {
         let reply = self.answer()?;
         let number = actor as usize;
         if number >= self.replies.len() {
@@ -194,7 +320,13 @@ impl<J: Judge> Core<J> {
     }
 
     /// The first table as it is now, in the words of a reply.
-    fn answer(&self) -> Result<Answered, OutOfMemory> {
+    fn answer(&self) -> Result<Answered, OutOfMemory>
+        requires { Holds J.verdict self.now }
+        ensures { IfOk result (λ answered. (setup : Setup) (past : Joined) (s : State)
+            (reply : Reply) → IsCore J.verdict setup past s self.now → reply.table ≡ 0
+            → reply.at ≡ length (s.history 0) → reply.query ≡ 0
+            → IsAnswered setup s answered reply) }
+    {
         let Some(table) = self.routes.tables.first() else {
             return Err(OutOfMemory);
         };
@@ -211,19 +343,23 @@ impl<J: Judge> Core<J> {
     }
 
     /// The sync at a phase's end; answers the number of its rounds.
-    fn sync(&mut self) -> Result<usize, OutOfMemory> {
+    fn sync(&mut self) -> Result<usize, OutOfMemory>
+        requires { Ends J.verdict self.old }
+        ensures core { IfOk result (λ rounds. (setup : Setup) (past : Joined) (s : State)
+            → IsCore J.verdict setup past s self.old → HasRounds (rules_of setup) s rounds
+            × IsCore J.verdict setup past (times rounds (round (rules_of setup)) s) self.new) }
+        ensures kept { OnOk result (Keeps self.old self.new) }
+    {
         self.routes.sync()
     }
 }
 
-/// What an operation tells the protocol's channels, and whether a route was over the limit in it.
-struct Told {
-    mark: Mark,
-    over: bool,
-}
-
 /// So many empty lists of replies.
-fn no_replies(alloc: Global, actors: usize) -> Result<Vec<Vec<Answered>>, OutOfMemory> {
+fn no_replies(alloc: Global, actors: usize) -> Result<Vec<Vec<Answered>>, OutOfMemory>
+    ensures { IfOk result (λ replies. (length replies.items ≡ actors)
+        × ((a : ℕ) (held : Vec HeldAnswer Global) → slice_get replies.items a ≡ Some held
+        → held.items ≡ [])) }
+{
     let mut replies = Vec::new(alloc);
     for _number in 0..actors {
         replies.push(Vec::new(alloc))?;
@@ -232,7 +368,9 @@ fn no_replies(alloc: Global, actors: usize) -> Result<Vec<Vec<Answered>>, OutOfM
 }
 
 /// The bytes of the names.
-fn slices(alloc: Global, names: &[Seq<u8>]) -> Result<Vec<&[u8]>, OutOfMemory> {
+fn slices(alloc: Global, names: &[Seq<u8>]) -> Result<Vec<&[u8]>, OutOfMemory>
+    ensures { IfOk result (λ slices. map (λ name. name.now) slices.items ≡ names.now) }
+{
     let mut slices = Vec::new(alloc);
     for name in names {
         slices.push(name.as_slice())?;

@@ -1,7 +1,7 @@
 use Rattle.std.proofs.Common.{arith}
 use Rattle.core_setup.proofs.PairLemmas.{pairs_end, pairs_turn}
 use Rattle.sys_run.specs.Made.{IsMadeTable}
-use Rattle.sys_run.proofs.Routing.{item_read}
+use Rattle.sys_run.proofs.MakingWays.{item_read}
 use Rattle.sys_run.proofs.made.make_tables.Goals as goal
 
 pub loop-part-preserved : goal.loop-part-preserved

@@ -1,5 +1,5 @@
 use Rattle.std.proofs.Common.{◌≡◌, length, map, take}
-use Rattle.sys_run.specs.declared.table.Table.{Table}
+use Rattle.run_tables.specs.declared.table.Table.{Table}
 use Rattle.sys_run.proofs.phase.heads_of.Given as goal
 
 abbrev pub invariant-loop-table : goal.invariant-loop-table

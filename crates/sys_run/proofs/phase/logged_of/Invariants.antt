@@ -1,7 +1,6 @@
-use Rattle.std.proofs.Common.{take}
-use Rattle.core_setup.specs.Pairs.{Pairs}
-use Rattle.sys_run.proofs.Looping.{TellsLogged}
+use Rattle.std.proofs.Common.{◌≡◌, map, take}
+use Rattle.sys_run.specs.Phase.{logged_in}
 use Rattle.sys_run.proofs.phase.logged_of.Given as goal
 
 abbrev pub invariant-loop-channel : goal.invariant-loop-channel
-invariant-loop-channel g l = Pairs (TellsLogged g.J.Judge.verdict) 0 (take l.channel-index l.channels) l.logged.items
+invariant-loop-channel g l = l.logged.items ≡ map (logged_in l.first) (take l.channel-index l.channels)

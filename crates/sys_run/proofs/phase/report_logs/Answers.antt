@@ -1,15 +1,15 @@
-use Rattle.std.proofs.Common.{get_or, arith}
-use Rattle.std.proofs.lemmas.Option.{slice_get-get_or}
+use Rattle.std.proofs.Common.{arith}
 use Rattle.core_setup.proofs.PairLemmas.{pairs_end, pairs_turn}
-use Rattle.sys_run.proofs.Looping.{TellsLog}
+use Rattle.run_tables.proofs.Routing.{item_read}
+use Rattle.sys_run.specs.Phase.{IsLogOf}
 use Rattle.sys_run.proofs.phase.report_logs.Goals as goal
 
 pub loop-number-preserved : goal.loop-number-preserved
 loop-number-preserved g c =
-    let xs = c.args.numbers.now in
-    let k = c.loop-number.number-index in
-    pairs_turn (TellsLog g.J.Judge.verdict c.args.names.now c.args.channels.now c.args.logged.now) xs c.loop-number.reports c.push.new.self k (get_or xs k 0) c.in_ok-report_log.field-0
-    (slice_get-get_or xs k 0 (omega arith)) c.in_ok-push.ensures.pushed c.loop-number.invariant c.in_ok-report_log.ensures
+    let xs = c.args.channels.now in
+    let k = c.loop-number.number in
+    pairs_turn (IsLogOf c.args.names.now c.args.logged.now) xs c.loop-number.reports c.push.new.self k c.index-channels-number.result c.in_ok-report_log.field-0
+    (item_read xs k c.index-channels-number.result (omega arith) c.index-channels-number.is) c.in_ok-push.ensures.pushed c.loop-number.invariant c.in_ok-report_log.ensures
 
 pub returns : goal.returns
-returns g c = pairs_end (TellsLog g.J.Judge.verdict c.args.names.now c.args.channels.now c.args.logged.now) c.args.numbers.now c.loop-number.reports c.loop-number.number-index (omega arith) c.loop-number.invariant
+returns g c = pairs_end (IsLogOf c.args.names.now c.args.logged.now) c.args.channels.now c.loop-number.reports c.loop-number.number (omega arith) c.loop-number.invariant

@@ -7,7 +7,7 @@ use Rattle.std.proofs.lemmas.Option.{slice_get_read}
 use Rattle.report.specs.declared.phase.ReplyReport.{ReplyReport}
 use Rattle.sys_run.specs.Phase.{reply_of, told}
 use Rattle.sys_run.specs.declared.player.Answered.{Answered}
-use Rattle.sys_run.proofs.Looping.{told_more, told_none}
+use Rattle.sys_run.proofs.ReportingLoops.{told_more, told_none}
 use Rattle.sys_run.proofs.phase.report_replies.Goals as goal
 
 pub loop-answered-init : goal.loop-answered-init

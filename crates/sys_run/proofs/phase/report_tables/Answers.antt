@@ -1,7 +1,7 @@
 use Rattle.std.proofs.Common.{arith}
 use Rattle.core_setup.proofs.PairLemmas.{pairs_end, pairs_turn}
+use Rattle.run_tables.proofs.Routing.{item_read}
 use Rattle.sys_run.specs.Phase.{IsTableOf}
-use Rattle.sys_run.proofs.Routing.{item_read}
 use Rattle.sys_run.proofs.phase.report_tables.Goals as goal
 
 pub loop-number-preserved : goal.loop-number-preserved

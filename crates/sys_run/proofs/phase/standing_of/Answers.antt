@@ -4,7 +4,7 @@ use Rattle.attrs.specs.declared.attributes.Attrs.{Attrs}
 use Rattle.export_core.specs.declared.log.Key.{Key}
 use Rattle.report.specs.declared.phase.Standing.{Standing}
 use Rattle.sys_run.specs.Phase.{standing_in}
-use Rattle.sys_run.proofs.Looping.{map_push}
+use Rattle.sys_run.proofs.ReportingLoops.{map_push}
 use Rattle.sys_run.proofs.phase.standing_of.Goals as goal
 
 pub loop-key-preserved : goal.loop-key-preserved

@@ -4,7 +4,7 @@ use Rattle.std.proofs.lemmas.List.{append-nil, nil_from_length}
 use Rattle.report.specs.declared.phase.ReplyReport.{ReplyReport}
 use Rattle.sys_run.specs.Phase.{reply_of}
 use Rattle.sys_run.specs.declared.player.Answered.{Answered}
-use Rattle.sys_run.proofs.Looping.{map_push}
+use Rattle.sys_run.proofs.ReportingLoops.{map_push}
 use Rattle.sys_run.proofs.phase.tell.Goals as goal
 
 pub loop-reply-init : goal.loop-reply-init

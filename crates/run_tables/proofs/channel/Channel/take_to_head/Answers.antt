@@ -1,4 +1,4 @@
-use Rattle.std.proofs.Common.{◌≡◌, ℕ, Some, subst, ◌∙◌}
+use Rattle.std.proofs.Common.{ℕ, Some, subst, ◌∙◌}
 use Rattle.core_machine.specs.Channels.{take_one, times}
 use Rattle.run_tables.specs.Channels.{IsChannel, if_up}
 use Rattle.run_tables.proofs.Journals.{head_is}

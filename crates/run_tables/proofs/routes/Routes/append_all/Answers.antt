@@ -34,8 +34,8 @@ append-requires-clause-source g c =
     let whole : c.loop-change.yielded ++ c.in-Some.change ∷ c.next.new.self.rest.items ≡ c.args.changes.items =
     ap (λ (l : List Change). c.loop-change.yielded ++ l) (sym c.in-Some.ensures.steps.0) ∙ c.loop-change.invariant.0 in
     λ some.
-        let w = source_at (length old.sources.items) c.args.changes.items c.loop-change.yielded c.next.new.self.rest.items c.in-Some.change c.requires.sources whole some in
-        omega (arith, w, h.2.sources.count, now.sources.count)
+    let w = source_at (length old.sources.items) c.args.changes.items c.loop-change.yielded c.next.new.self.rest.items c.in-Some.change c.requires.sources whole some in
+    omega (arith, w, h.2.sources.count, now.sources.count)
 
 pub loop-change-preserved : goal.loop-change-preserved
 loop-change-preserved g c =

@@ -1,4 +1,4 @@
-use Rattle.std.proofs.Common.{◌≡◌, Some, None, sym, ap, ◌∙◌}
+use Rattle.std.proofs.Common.{sym, ap, ◌∙◌}
 use Rattle.core_machine.specs.Machine.{arrived}
 use Rattle.core_machine.specs.Match.{change_of_sending}
 use Rattle.core_setup.specs.Protocols.{rules_of}

@@ -1,6 +1,5 @@
-use Rattle.std.proofs.Common.{◌≡◌, Some, None, sym, ap, subst, ◌∙◌, arith}
+use Rattle.std.proofs.Common.{Some, sym, ap, subst, ◌∙◌}
 use Rattle.core_machine.specs.Machine.{arrived}
-use Rattle.core_machine.specs.Match.{change_of_sending}
 use Rattle.core_setup.specs.Protocols.{rules_of}
 use Rattle.std.proofs.lemmas.Result.{on_ok_weaker}
 use Rattle.run_tables.specs.Channels.{AreSources, Tells}

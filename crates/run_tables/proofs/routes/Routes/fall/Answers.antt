@@ -1,4 +1,4 @@
-use Rattle.std.proofs.Common.{true, refl, ap, sym, ◌∙◌, Some, None}
+use Rattle.std.proofs.Common.{refl, ap, ◌∙◌, Some, None}
 use Rattle.std.proofs.lemmas.Result.{on_ok_weaker}
 use Rattle.core_machine.specs.Channels.{closed}
 use Rattle.core_setup.specs.Protocols.{rules_of}
@@ -47,10 +47,10 @@ returns-in_ok-fall-in-None g c = λ setup s are fits.
     let held = c.index_mut.result.now in
     let f = found_one v setup s r c.args.number are c.requires.there held c.index_mut.ensures.value in
     let none = ap (λ (x : Channel _). x.target) (get_one r.channels.items c.args.number held c.index.result.now f.1
-        (item_read r.channels.items c.args.number c.index.result.now c.requires.there c.index.ensures)) ∙ c.in-None.is in (
-          _,
-          falls_alone v setup s r c.args.number are _ (target_is v setup s r c.args.number are held f.1 None none) refl,
-          channel_is v setup s r _ c.args.number held c.fall.new.self f.0 f.2 f.1 (record { cells = refl; readers = refl; sources = refl }) refl refl (closed (s.channels c.args.number))
+    (item_read r.channels.items c.args.number c.index.result.now c.requires.there c.index.ensures)) ∙ c.in-None.is in (
+      _,
+      falls_alone v setup s r c.args.number are _ (target_is v setup s r c.args.number are held f.1 None none) refl,
+      channel_is v setup s r _ c.args.number held c.fall.new.self f.0 f.2 f.1 (record { cells = refl; readers = refl; sources = refl }) refl refl (closed (s.channels c.args.number))
           (fallen v (rules_of setup) c.args.number (s.history held.table) (Some f.2.family) held c.fall.new.self (s.channels c.args.number) c.fall.ensures.table c.fall.ensures.target
           c.in_ok-fall-in-None.ensures.cursor c.in_ok-fall-in-None.ensures.ends f.2.channel) are,
-        )
+    )

@@ -1,8 +1,7 @@
-use Rattle.std.proofs.Common.{true, refl, ap, sym, ◌∙◌, Some}
+use Rattle.std.proofs.Common.{true, refl, Some}
 use Rattle.std.proofs.lemmas.Result.{on_ok_weaker}
 use Rattle.core_machine.specs.Channels.{closed}
 use Rattle.core_setup.specs.Protocols.{rules_of}
-use Rattle.core_setup.specs.Setup.{Setup}
 use Rattle.run_tables.proofs.Obeying.{flushed_state, is_every, target_is}
 use Rattle.run_tables.proofs.PushSteps.{writes_there}
 use Rattle.run_tables.proofs.Reading.{found_one, some_up}
@@ -26,9 +25,12 @@ withdraw-requires-clause-holds g c =
     let v = g.J.Judge.verdict in
     let h = c.requires.holds in
     let held = c.index_mut.result.now in
-    let f = found_one v h.0 h.1 c.args.self.now c.args.number h.2 c.requires.there held c.index_mut.ensures.value in
-    (h.0, _, channel_is v h.0 h.1 c.args.self.now _ c.args.number held c.flush.new.self f.0 f.2 f.1 (record { cells = refl; readers = refl; sources = refl }) refl refl (closed (h.1.channels c.args.number))
-    (c.in_ok-keys.ensures (rules_of h.0) c.args.number f.2.family (h.1.history held.table) (h.1.channels c.args.number) f.2.channel).1 h.2)
+    let f = found_one v h.0 h.1 c.args.self.now c.args.number h.2 c.requires.there held c.index_mut.ensures.value in (
+      h.0,
+      _,
+      channel_is v h.0 h.1 c.args.self.now _ c.args.number held c.flush.new.self f.0 f.2 f.1 (record { cells = refl; readers = refl; sources = refl }) refl refl (closed (h.1.channels c.args.number))
+          (c.in_ok-keys.ensures (rules_of h.0) c.args.number f.2.family (h.1.history held.table) (h.1.channels c.args.number) f.2.channel).1 h.2,
+    )
 
 pub withdraw-requires-clause-there : goal.withdraw-requires-clause-there
 withdraw-requires-clause-there g c =

@@ -1,10 +1,8 @@
-use Rattle.std.proofs.Common.{◌≡◌, ◌+◌, ℕ, List, Some, refl, length, sym, ap, subst, ◌∙◌, arith}
+use Rattle.std.proofs.Common.{◌+◌, ℕ, List, refl, sym, ap, subst, ◌∙◌, arith}
 use Rattle.std.specs.Prelude.{slice_get, take}
 use Rattle.std.specs.declared.alloc.Global.{Global}
 use Rattle.std.specs.declared.vec.Vec.{Vec}
-use Rattle.core_machine.specs.Machine.{State}
 use Rattle.core_setup.specs.Protocols.{rules_of}
-use Rattle.core_setup.specs.Setup.{Setup}
 use Rattle.run_tables.specs.Routes.{AreRoutes, readers_at}
 use Rattle.run_tables.proofs.Readers.{reader_is, readers_of, readers_there}
 use Rattle.run_tables.proofs.Routing.{channels_length}
@@ -53,7 +51,7 @@ loop-place-preserved g c = (
       let is = reader_is (rules_of setup) _ t n.numbers.items place c.reader-number.result n.are_readers at in
       let before = c.loop-place.invariant.1 setup s are in
       let step = c.in_ok-make_room_of.ensures.room setup (rooms_in (rules_of setup) t (take place n.numbers.items) s)
-          (subst (λ (xs : List ℕ). AreRoutes v setup (rooms_in (rules_of setup) t (take place xs) s) c.loop-place.self) n.listed before) in
+      (subst (λ (xs : List ℕ). AreRoutes v setup (rooms_in (rules_of setup) t (take place xs) s) c.loop-place.self) n.listed before) in
       subst (λ (xs : List ℕ). AreRoutes v setup (rooms_in (rules_of setup) t (take (place + 1) xs) s) c.make_room_of.new.self) (sym n.listed)
       (room_more v setup t n.numbers.items s place c.reader-number.result c.make_room_of.new.self n.are_readers at is.1 step),
 )

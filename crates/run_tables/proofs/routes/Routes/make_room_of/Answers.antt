@@ -1,4 +1,4 @@
-use Rattle.std.proofs.Common.{Some, refl, arith, ap, ◌∙◌, subst}
+use Rattle.std.proofs.Common.{Some, refl, arith, ap, subst}
 use Rattle.std.proofs.lemmas.Result.{on_ok_weaker}
 use Rattle.core_machine.specs.Room.{roomed}
 use Rattle.core_setup.specs.Protocols.{rules_of}

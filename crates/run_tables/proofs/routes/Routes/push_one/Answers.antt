@@ -1,9 +1,9 @@
-use Rattle.std.proofs.Common.{◌≡◌, true, false, refl, sym, ap, ◌∙◌, reverse}
+use Rattle.std.proofs.Common.{◌≡◌, true, false, refl, reverse}
 use Rattle.core_setup.specs.Protocols.{rules_of}
 use Rattle.run_tables.proofs.Reading.{found_one, some_up}
 use Rattle.run_tables.proofs.Routing.{as_state}
 use Rattle.run_tables.proofs.RouteSteps.{push_is, quiet_is, quiet_none}
-use Rattle.run_tables.proofs.PushSteps.{apart_of, nothing_told, push_leaves, pushed, quiet_told, sent_is}
+use Rattle.run_tables.proofs.PushSteps.{apart_of, nothing_told, push_leaves, quiet_told, sent_is}
 use Rattle.run_tables.proofs.routes.Routes.push_one.Goals as goal
 
 pub push-requires : goal.push-requires

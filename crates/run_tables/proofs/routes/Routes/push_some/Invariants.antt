@@ -1,4 +1,4 @@
-use Rattle.std.proofs.Common.{◌≡◌, ◌≤◌, length}
+use Rattle.std.proofs.Common.{◌≤◌}
 use Rattle.core_machine.specs.Channels.{times}
 use Rattle.core_machine.specs.Machine.{State, push_at}
 use Rattle.core_setup.specs.Protocols.{rules_of}

@@ -1,4 +1,4 @@
-use Rattle.std.proofs.Common.{Some, refl, arith, true, false, length}
+use Rattle.std.proofs.Common.{refl, arith, false, length}
 use Rattle.std.proofs.lemmas.Result.{on_ok_weaker}
 use Rattle.core_machine.specs.Channels.{opened}
 use Rattle.core_setup.specs.Protocols.{rules_of}

@@ -1,4 +1,3 @@
-use Rattle.std.proofs.Common.{sym, ◌∙◌}
 use Rattle.std.proofs.lemmas.Result.{on_ok_weaker}
 use Rattle.run_tables.proofs.Obeying.{turn_down, turn_up}
 use Rattle.run_tables.proofs.PushSteps.{open_is, shut_is}

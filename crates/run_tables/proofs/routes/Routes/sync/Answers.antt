@@ -1,4 +1,4 @@
-use Rattle.std.proofs.Common.{ap, arith}
+use Rattle.std.proofs.Common.{arith}
 use Rattle.core_machine.specs.Channels.{times}
 use Rattle.core_machine.specs.Rounds.{round}
 use Rattle.core_setup.specs.Protocols.{rules_of}
@@ -19,7 +19,7 @@ round-requires g c = let h = c.requires in (h.0, times c.loop-self.rounds (round
 pub overflow_add-rounds : goal.overflow_add-rounds
 overflow_add-rounds g c =
     let lt = fewer_rounds g.J.Judge.verdict c.args.self.now c.loop-self.self c.loop-self.rounds c.requires c.loop-self.invariant
-        (λ setup s are all. true_false c.are_settled.result ((c.are_settled.ensures setup s are).1 all) c.loop-self-test.true) in
+    (λ setup s are all. true_false c.are_settled.result ((c.are_settled.ensures setup s are).1 all) c.loop-self-test.true) in
     omega (arith, lt, c.loop-self.self.tables.ok.0)
 
 pub loop-self-smaller : goal.loop-self-smaller
@@ -32,7 +32,7 @@ loop-self-smaller g c =
     let la = tables_length v h.0 s c.loop-self.self now in
     let lb = tables_length v h.0 (round (rules_of h.0) s) c.round.new.self next in
     let lt = fewer_rounds v c.args.self.now c.loop-self.self c.loop-self.rounds h c.loop-self.invariant
-        (λ setup s are all. true_false c.are_settled.result ((c.are_settled.ensures setup s are).1 all) c.loop-self-test.true) in
+    (λ setup s are all. true_false c.are_settled.result ((c.are_settled.ensures setup s are).1 all) c.loop-self-test.true) in
     omega (arith, la, lb, lt)
 
 pub loop-self-preserved : goal.loop-self-preserved

@@ -1,4 +1,4 @@
-use Rattle.std.proofs.Common.{Some, refl, ap, subst, ◌∙◌, arith, length}
+use Rattle.std.proofs.Common.{Some, refl, subst, arith, length}
 use Rattle.std.proofs.lemmas.Result.{on_ok_weaker}
 use Rattle.core_machine.specs.Channels.{take_one, times}
 use Rattle.core_setup.specs.Protocols.{rules_of}

@@ -1,14 +1,14 @@
-use Rattle.std.proofs.Common.{Bool, [], ◌∷◌, ◌++◌, None, refl, ap, ◌∙◌, arith}
-use Rattle.std.specs.Prelude.{if◌then◌else◌}
-use Rattle.sys_run.proofs.Making.{made_more}
+use Rattle.std.proofs.Common.{length, map, refl}
+use Rattle.sys_run.specs.Parts.{table_seen}
+use Rattle.sys_run.proofs.MakingProtocols.{made_more}
 use Rattle.sys_run.proofs.made.Made.add.Goals as goal
 
-pub returns : goal.returns
-returns g c = λ earlier is.
-    let p = c.args.protocol in
-    let old = c.args.self.now in
-    made_more earlier p old _ (record { kind = p.spec.kind; importer = c.make.result; done = c.new.result }) (record { table = p.table; exporter = c.make_exporter.result; cursor = None }) c.len.result is
-    (omega (arith, old.names.ok.0)) c.in_ok-push.ensures.items c.in_ok-push-2.ensures.items c.in_ok-push-3.ensures.items
-    (c.in_ok-add_number.ensures ∙ ap (λ (b : Bool). old.numbers.items ++ (if b then c.len.result ∷ [] else [])) c.is_some.ensures)
-    (record { kind = refl; importer = c.make.ensures; done = c.new.ensures.items })
-    (record { table = refl; cursor = refl; exporter = c.make_exporter.ensures })
+pub returns-clause-made : goal.returns-clause-made
+returns-clause-made g c = λ earlier lists is left.
+    let mid = c.add_body.new.self in
+    made_more g.J.Judge.verdict (map table_seen c.args.tables.now) lists earlier c.args.protocol c.args.self.now mid
+    (record { names = c.push.new.self; protocols = mid.protocols; channels = mid.channels; channel_names = mid.channel_names; sources = mid.sources })
+    (length c.args.self.now.names.items) refl is (c.in_ok-add_body.ensures.adds lists left) c.in_ok-push.ensures.items refl refl refl refl
+
+pub returns-clause-left : goal.returns-clause-left
+returns-clause-left g c = λ lists left. c.in_ok-add_body.ensures.left lists left

@@ -11,13 +11,13 @@ use Rattle.core_setup.specs.Protocols.{rules_of}
 use Rattle.core_setup.specs.Reports.{name_in, protocol_names, table_name}
 use Rattle.core_setup.proofs.PairLemmas.{one_here}
 use Rattle.sys_run.specs.declared.parts.TableParts.{TableParts}
-use Rattle.sys_run.specs.declared.table.Table.{Table}
-use Rattle.sys_run.proofs.Numbering.{text_same}
-use Rattle.sys_run.proofs.Routing.{TableIs}
+use Rattle.run_tables.specs.declared.table.Table.{Table}
+use Rattle.sys_run.proofs.PlayingLines.{text_same}
+use Rattle.run_tables.proofs.Routing.{TableIs}
 use Rattle.sys_run.proofs.player.Core.answer.Goals as goal
 
 pub returns : goal.returns
-returns g c = λ setup b s reply are table at query.
+returns g c = λ setup past s reply are table at query.
     let core = c.args.self.now in
     let held = c.in-Some.table.now in
     let parts = c.in-Some-first.parts.now in

@@ -1,94 +1,139 @@
-use Rattle.std.proofs.Common.{◌≡◌, ◌<◌, ◌++◌, [], ◌∷◌, length, set, refl, ap, ◌∙◌, arith}
+use Rattle.std.proofs.Common.{◌≡◌, ◌<◌, ◌++◌, List, [], ◌∷◌, length, set, Some, refl, sym, ap, subst, ◌∙◌, arith}
+use Rattle.std.specs.Prelude.{slice_get}
+use Rattle.std.specs.Vec.{with_item}
+use Rattle.core_machine.specs.Lines.{Turn, turn_of}
+use Rattle.core_machine.specs.Machine.{with_turn}
 use Rattle.core_setup.proofs.PairLemmas.{get-set, get_one, length-set_at}
-use Rattle.sys_run.specs.declared.imports.Imports.{Imports}
-use Rattle.sys_run.proofs.Acting.{changed, changed_is, done_of, imports_length, mark_fits, operation_done, sources_of}
-use Rattle.sys_run.proofs.Routing.{channels_length, item_read, table_of, table_there}
+use Rattle.run_tables.proofs.Routing.{item_read}
+use Rattle.sys_run.specs.Cores.{ImportsTo, IsCore}
+use Rattle.sys_run.specs.declared.player.Core.{Core}
+use Rattle.sys_run.specs.declared.protocol.Protocol.{Protocol}
+use Rattle.sys_run.proofs.OperatingCore.{changed, changed_is, imports_there, noted, operation_done, signal_fits, sources_are, turned_of, unacted}
 use Rattle.sys_run.proofs.player.Core.apply.Goals as goal
 
-pub index-requires : goal.index-requires
-index-requires g c =
-    let h = c.requires in
-    let core = c.args.self.now in
-    omega (arith, imports_length g.J.Judge.verdict h.0 h.1 h.2 core h.3, core.routes.channels.ok.0, core.imports.ok.0)
+pub index_mut-requires : goal.index_mut-requires
+index_mut-requires g c = let len = c.len.ensures in let w = c.if-number-len.false in let ok = c.args.self.now.protocols.ok.0 in omega (arith, len, w, ok)
 
-pub append_all-requires-clause-holds : goal.append_all-requires-clause-holds
-append_all-requires-clause-holds g c = let h = c.requires in (h.0, h.2, h.3.routes)
+pub change-requires-clause-routes : goal.change-requires-clause-routes
+change-requires-clause-routes g c = let h = c.requires in (h.0, h.2, h.3.routes)
 
-pub append_all-requires-clause-there : goal.append_all-requires-clause-there
-append_all-requires-clause-there g c =
-    let v = g.J.Judge.verdict in
-    let h = c.requires in
-    let core = c.args.self.now in
-    let w : c.args.number < length core.routes.channels.items = omega (arith, imports_length v h.0 h.1 h.2 core h.3, core.imports.ok.0) in
-    table_there v h.0 h.2 core.routes h.3.routes c.args.number c.index.result.now (item_read core.routes.channels.items c.args.number c.index.result.now w c.index.ensures)
+pub change-requires-clause-there : goal.change-requires-clause-there
+change-requires-clause-there g c =
+    let items = c.args.self.now.protocols.items in
+    let mid : Protocol g.row.J.Denot = record c.index_mut.result.now { body = c.turn.new.self } in
+    let w : c.args.number < length items = omega (arith, c.len.ensures, c.if-number-len.false, c.args.self.now.protocols.ok.0) in
+    omega (arith, w, length-set_at items c.args.number mid)
 
-pub append_all-requires-clause-sources : goal.append_all-requires-clause-sources
-append_all-requires-clause-sources g c =
+pub change-requires-clause-sources : goal.change-requires-clause-sources
+change-requires-clause-sources g c =
     let v = g.J.Judge.verdict in
     let h = c.requires in
     let core = c.args.self.now in
     let i = c.args.number in
     let held = c.index_mut.result.now in
-    let wi : i < length core.imports.items = omega (arith, core.imports.ok.0) in
-    let w : i < length core.routes.channels.items = omega (arith, imports_length v h.0 h.1 h.2 core h.3, wi) in
-    let d = done_of v h.0 h.1 h.2 core i c.args.op held c.apply.new.self c.in_ok-step.step h.3 (item_read core.imports.items i held wi c.index_mut.ensures.value) c.in_ok-step.ensures.step in
-    sources_of v h.0 h.1 h.2 i c.args.op held c.apply.new.self c.in_ok-step.step (length core.routes.channels.items) c.into_vec.result.items d w c.into_vec.ensures
+    let w : i < length core.protocols.items = omega (arith, c.len.ensures, c.if-number-len.false, core.protocols.ok.0) in
+    let eh = item_read core.protocols.items i held w c.index_mut.ensures.value in
+    let is = turned_of v h.0 h.1 h.2 core h.3 i c.args.op held c.turn.new.self c.in_ok-changes.field-0 eh c.in_ok-changes.ensures in
+    sources_are v h.0 h.1 h.2 core h.3 i c.args.op held c.turn.new.self c.in_ok-changes.field-0 is c.into_vec.result.items c.into_vec.ensures
 
-pub obey-requires-clause-holds : goal.obey-requires-clause-holds
-obey-requires-clause-holds g c =
+pub change-requires-clause-table : goal.change-requires-clause-table
+change-requires-clause-table g c = λ given e.
     let v = g.J.Judge.verdict in
     let h = c.requires in
     let core = c.args.self.now in
     let i = c.args.number in
     let held = c.index_mut.result.now in
-    let wi : i < length core.imports.items = omega (arith, core.imports.ok.0) in
-    let w : i < length core.routes.channels.items = omega (arith, imports_length v h.0 h.1 h.2 core h.3, wi) in
-    let d = done_of v h.0 h.1 h.2 core i c.args.op held c.apply.new.self c.in_ok-step.step h.3 (item_read core.imports.items i held wi c.index_mut.ensures.value) c.in_ok-step.ensures.step in
-    let at = table_of v h.0 h.2 core.routes h.3.routes i c.index.result.now (item_read core.routes.channels.items i c.index.result.now w c.index.ensures) in (
-      h.0,
-      changed v h.0 i c.args.op h.2,
-      changed_is v h.0 h.1 h.2 i c.index.result.now.table c.args.op held c.apply.new.self c.in_ok-step.step c.into_vec.result.items c.append_all.new.self d c.into_vec.ensures at
-          (c.in_ok-append_all.ensures h.0 h.2 h.3.routes),
-      mark_fits v h.0 h.1 h.2 core i c.args.op held c.apply.new.self c.in_ok-step.step h.3 d,
-    )
+    let mid : Protocol g.row.J.Denot = record held { body = c.turn.new.self } in
+    let w : i < length core.protocols.items = omega (arith, c.len.ensures, c.if-number-len.false, core.protocols.ok.0) in
+    let eh = item_read core.protocols.items i held w c.index_mut.ensures.value in
+    let is = turned_of v h.0 h.1 h.2 core h.3 i c.args.op held c.turn.new.self c.in_ok-changes.field-0 eh c.in_ok-changes.ensures in
+    let same : mid ≡ given = get_one (set core.protocols.items i mid) i mid given (get-set core.protocols.items i mid w) e in
+    subst (λ (p : Protocol g.row.J.Denot). ImportsTo (length core.routes.tables.items) p.body) same
+    (imports_there v h.0 h.1 h.2 core h.3 i c.args.op held c.turn.new.self c.in_ok-changes.field-0 is)
 
 pub obey-requires-clause-there : goal.obey-requires-clause-there
 obey-requires-clause-there g c =
+    let items = c.args.self.now.protocols.items in
+    let mid : Protocol g.row.J.Denot = record c.index_mut.result.now { body = c.turn.new.self } in
+    let w : c.args.number < length items = omega (arith, c.len.ensures, c.if-number-len.false, c.args.self.now.protocols.ok.0) in
+    let kept : length c.change.new.self.protocols.items ≡ length (set items c.args.number mid) = ap (λ (core : Core g.row.J.Denot). length core.protocols.items) c.change.ensures.kept in
+    omega (arith, w, kept, length-set_at items c.args.number mid)
+
+pub obey-requires-clause-holds : goal.obey-requires-clause-holds
+obey-requires-clause-holds g c = λ given e.
     let v = g.J.Judge.verdict in
     let h = c.requires in
     let core = c.args.self.now in
-    omega (
-      arith,
-      imports_length v h.0 h.1 h.2 core h.3,
-      core.imports.ok.0,
-      channels_length v h.0 h.2 core.routes h.3.routes,
-      channels_length v h.0 _ c.append_all.new.self (c.in_ok-append_all.ensures h.0 h.2 h.3.routes),
+    let i = c.args.number in
+    let held = c.index_mut.result.now in
+    let mid : Protocol g.row.J.Denot = record held { body = c.turn.new.self } in
+    let w : i < length core.protocols.items = omega (arith, c.len.ensures, c.if-number-len.false, core.protocols.ok.0) in
+    let eh = item_read core.protocols.items i held w c.index_mut.ensures.value in
+    let is = turned_of v h.0 h.1 h.2 core h.3 i c.args.op held c.turn.new.self c.in_ok-changes.field-0 eh c.in_ok-changes.ensures in
+    let turn : Turn = record { actor = 0; line = 0; op = c.args.op } in
+    let em : slice_get (set core.protocols.items i mid) i ≡ Some mid = get-set core.protocols.items i mid w in
+    let eg : slice_get (set core.protocols.items i mid) i ≡ Some given = ap (λ (core : Core g.row.J.Denot). slice_get core.protocols.items i) (sym c.change.ensures.kept) ∙ e in
+    let same : mid ≡ given = get_one (set core.protocols.items i mid) i mid given em eg in
+    let low : held.from ≡ given.from = ap (λ (p : Protocol g.row.J.Denot). p.from) same in
+    let high : held.upto ≡ given.upto = ap (λ (p : Protocol g.row.J.Denot). p.upto) same in
+    let fits = signal_fits v h.0 h.1 h.2 core h.3 i c.args.op held c.turn.new.self c.in_ok-changes.field-0 is turn in (
+      h.0,
+      noted v h.0 h.1 i turn h.2,
+      changed_is v h.0 h.1 h.2 core h.3 i c.args.op held c.turn.new.self c.in_ok-changes.field-0 is c.into_vec.result.items c.change.new.self.routes turn refl c.into_vec.ensures
+          (c.in_ok-change.ensures.routes h.0 h.2 mid h.3.routes em),
+      λ n from_is below. fits n (omega (arith, from_is, low)) (omega (arith, below, high)),
+      let within = is.plays.within in omega (arith, within, high),
     )
 
 pub index_mut-requires-2 : goal.index_mut-requires-2
-index_mut-requires-2 g c = omega arith
+index_mut-requires-2 g c =
+    let items = c.args.self.now.protocols.items in
+    let mid : Protocol g.row.J.Denot = record c.index_mut.result.now { body = c.turn.new.self } in
+    let w : c.args.number < length items = omega (arith, c.len.ensures, c.if-number-len.false, c.args.self.now.protocols.ok.0) in
+    let kept : length c.change.new.self.protocols.items ≡ length (set items c.args.number mid) = ap (λ (core : Core g.row.J.Denot). length core.protocols.items) c.change.ensures.kept in
+    let still : length c.obey.new.self.protocols.items ≡ length c.change.new.self.protocols.items = ap (λ (core : Core g.row.J.Denot). length core.protocols.items) c.obey.ensures.kept in
+    omega (arith, w, kept, still, length-set_at items c.args.number mid, c.obey.new.self.protocols.ok.0)
+
+pub returns-then-number-len-clause-core : goal.returns-then-number-len-clause-core
+returns-then-number-len-clause-core g c = λ setup past s a are ei eo.
+    unacted g.J.Judge.verdict setup past s c.args.self.now a are (omega (arith, c.if-number-len.true, c.len.ensures, ei, c.args.self.now.protocols.ok.0))
 
 pub returns-clause-core : goal.returns-clause-core
-returns-clause-core g c = λ setup b s are.
+returns-clause-core g c = λ setup past s a are ei eo.
     let v = g.J.Judge.verdict in
     let core = c.args.self.now in
     let i = c.args.number in
     let op = c.args.op in
     let held = c.index_mut.result.now in
-    let next = c.apply.new.self in
-    let step = c.in_ok-step.step in
-    let mid : Imports g.row.J.Denot = record { kind = held.kind; importer = next; done = held.done } in
+    let turned = c.in_ok-changes.field-0 in
+    let mid : Protocol g.row.J.Denot = record held { body = c.turn.new.self } in
     let again = c.index_mut-2.result.now in
-    let after : Imports g.row.J.Denot = record { kind = again.kind; importer = again.importer; done = c.push.new.self } in
-    let wi : i < length core.imports.items = omega (arith, core.imports.ok.0) in
-    let w : i < length core.routes.channels.items = omega (arith, imports_length v setup b s core are, wi) in
-    let eh = item_read core.imports.items i held wi c.index_mut.ensures.value in
-    let d = done_of v setup b s core i op held next step are eh c.in_ok-step.ensures.step in
-    let at = table_of v setup s core.routes are.routes i c.index.result.now (item_read core.routes.channels.items i c.index.result.now w c.index.ensures) in
-    let now = changed_is v setup b s i c.index.result.now.table op held next step c.into_vec.result.items c.append_all.new.self d c.into_vec.ensures at (c.in_ok-append_all.ensures setup s are.routes) in
-    let got = c.in_ok-obey.ensures setup (changed v setup i op s) now (mark_fits v setup b s core i op held next step are d) in
-    let wm : i < length (set core.imports.items i mid) = omega (arith, wi, length-set_at core.imports.items i mid) in
-    let same : again ≡ mid = get_one (set core.imports.items i mid) i again mid (item_read (set core.imports.items i mid) i again wm c.index_mut-2.ensures.value) (get-set core.imports.items i mid wi) in
-    operation_done v setup b s core i op c.obey.new.self _ held mid after next step got.0 are eh d c.in_ok-step.ensures.kept got.1 got.2 refl
-    (ap (λ (x : Imports g.row.J.Denot). x.kind) same) (ap (λ (x : Imports g.row.J.Denot). x.importer) same)
-    (c.in_ok-push.ensures.items ∙ ap (λ (x : Imports g.row.J.Denot). x.done.items ++ record { op = op; over = step.over } ∷ []) same)
+    let after : Protocol g.row.J.Denot = record again { done = c.push.new.self } in
+    let w : i < length core.protocols.items = omega (arith, c.len.ensures, c.if-number-len.false, core.protocols.ok.0) in
+    let eh = item_read core.protocols.items i held w c.index_mut.ensures.value in
+    let is = turned_of v setup past s core are i op held c.turn.new.self turned eh c.in_ok-changes.ensures in
+    let em : slice_get (set core.protocols.items i mid) i ≡ Some mid = get-set core.protocols.items i mid w in
+    let now =
+    changed_is v setup past s core are i op held c.turn.new.self turned is c.into_vec.result.items c.change.new.self.routes (turn_of a) eo c.into_vec.ensures
+    (c.in_ok-change.ensures.routes setup s mid are.routes em) in
+    let fits = signal_fits v setup past s core are i op held c.turn.new.self turned is (turn_of a) in
+    let ec : slice_get c.change.new.self.protocols.items i ≡ Some mid = ap (λ (core : Core g.row.J.Denot). slice_get core.protocols.items i) c.change.ensures.kept ∙ em in
+    let got = c.in_ok-obey.ensures.routes setup (with_turn i (turn_of a) (changed v setup past i op s)) mid now ec fits in
+    let whole =
+    c.obey.ensures.kept ∙ ap (λ (core : Core g.row.J.Denot). record core { routes = c.obey.new.self.routes }) c.change.ensures.kept in
+    let items : c.obey.new.self.protocols.items ≡ set core.protocols.items i mid = ap (λ (core : Core g.row.J.Denot). core.protocols.items) whole in
+    let wo : i < length c.obey.new.self.protocols.items = omega (arith, w, ap length items, length-set_at core.protocols.items i mid) in
+    let same : again ≡ mid =
+    get_one c.obey.new.self.protocols.items i again mid (item_read c.obey.new.self.protocols.items i again wo c.index_mut-2.ensures.value) (ap (λ (xs : List (Protocol g.row.J.Denot)). slice_get xs i) items ∙ em) in
+    let protocols = with_item c.obey.new.self.protocols i after in
+    let done =
+    operation_done v setup past s core are i op held c.turn.new.self turned is a got.0 c.obey.new.self.routes protocols mid after ei eo eh got.1 got.2 (ap (λ (xs : List (Protocol g.row.J.Denot)). set xs i after) items)
+    (ap (λ (p : Protocol g.row.J.Denot). p.body) same) (ap (λ (p : Protocol g.row.J.Denot). p.from) same) (ap (λ (p : Protocol g.row.J.Denot). p.upto) same)
+    (c.in_ok-push.ensures.items ∙ ap (λ (p : Protocol g.row.J.Denot). p.done.items ++ record { op = op; over = turned.over } ∷ []) same) in
+    (done.0, done.1, subst (IsCore v setup past done.0) (sym (ap (λ (core : Core g.row.J.Denot). record core { protocols = protocols }) whole)) done.2)
+
+pub returns-clause-kept : goal.returns-clause-kept
+returns-clause-kept g c = record {
+  phases = ap (λ (core : Core g.row.J.Denot). core.phases) c.obey.ensures.kept ∙ ap (λ (core : Core g.row.J.Denot). core.phases) c.change.ensures.kept;
+  replies = ap (λ (core : Core g.row.J.Denot). length core.replies.items) c.obey.ensures.kept ∙ ap (λ (core : Core g.row.J.Denot). length core.replies.items) c.change.ensures.kept;
+}

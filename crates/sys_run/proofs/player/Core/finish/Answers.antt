@@ -1,60 +1,58 @@
-use Rattle.std.proofs.Common.{ℕ, List, ap, subst, ◌∙◌}
+use Rattle.std.proofs.Common.{◌≡◌, ℕ, List, [], ap, subst, ◌∙◌}
 use Rattle.std.specs.Prelude.{slice_get}
 use Rattle.std.specs.declared.alloc.Global.{Global}
 use Rattle.std.specs.declared.vec.Vec.{Vec}
 use Rattle.core_setup.specs.Pairs.{Pairs}
+use Rattle.run_tables.specs.declared.channel.Channel.{Channel}
+use Rattle.run_tables.specs.declared.table.Table.{Table}
 use Rattle.sys_run.specs.Phase.{IsExportOf, IsJournalOf, IsLogOf, IsModeOf, IsOperationsOf, IsTableOf, told}
-use Rattle.sys_run.specs.declared.channel.Channel.{Channel}
-use Rattle.sys_run.specs.declared.imports.Imports.{Imports}
 use Rattle.sys_run.specs.declared.parts.TableParts.{TableParts}
 use Rattle.sys_run.specs.declared.player.Answered.{Answered}
-use Rattle.sys_run.specs.declared.table.Table.{Table}
+use Rattle.sys_run.specs.declared.protocol.Protocol.{Protocol}
 use Rattle.sys_run.proofs.Reporting.{exports_reported, journals_reported, logs_reported, modes_reported, operations_reported, printed, prints, replies_reported, rests, tables_reported}
 use Rattle.sys_run.proofs.player.Core.finish.Goals as goal
 
 pub returns-clause-report : goal.returns-clause-report
-returns-clause-report g c = λ setup b s are at len.
+returns-clause-report g c = λ setup past s are at len.
     let v = g.J.Judge.verdict in
     let core = c.args.self.now in
     let begun = c.args.begun.now in
-    let protocols = subst (λ (names : List (List ℕ)). Pairs (IsOperationsOf names) 0 core.imports.items c.in_ok-protocols.protocols) c.deref.ensures.value c.in_ok-protocols.ensures.reports in
+    let protocols = subst (λ (names : List (List ℕ)). Pairs (IsOperationsOf names) 0 core.protocols.items c.in_ok-protocols.protocols) c.deref.ensures.value c.in_ok-protocols.ensures.reports in
     let journals =
     subst (λ (parts : List TableParts). Pairs (IsJournalOf parts begun.heads.items) 0 core.routes.tables.items c.in_ok-journals.journals) c.deref-2.ensures.value
     (subst (λ (tables : List Table). Pairs (IsJournalOf c.deref-2.result.now begun.heads.items) 0 tables c.in_ok-journals.journals) c.deref-3.ensures.value
     (subst (λ (heads : List ℕ). Pairs (IsJournalOf c.deref-2.result.now heads) 0 c.deref-3.result.now c.in_ok-journals.journals) c.deref-4.ensures.value c.in_ok-journals.ensures)) in
     let logs =
-    subst (λ (names : List (List ℕ)). Pairs (λ n number r. IsLogOf v names core.routes.channels.items begun.logged.items number r) 0 core.channels.items c.in_ok-channels.channels) c.deref-5.ensures.value
-    (subst (λ (numbers : List ℕ). Pairs (λ n number r. IsLogOf v c.deref-5.result.now core.routes.channels.items begun.logged.items number r) 0 numbers c.in_ok-channels.channels) c.deref-6.ensures.value
-    (subst (λ (channels : List (Channel g.row.J.Denot)). Pairs (λ n number r. IsLogOf v c.deref-5.result.now channels begun.logged.items number r) 0 c.deref-6.result.now c.in_ok-channels.channels) c.deref-7.ensures.value
-    (subst (λ (logged : List ℕ). Pairs (λ n number r. IsLogOf v c.deref-5.result.now c.deref-7.result.now logged number r) 0 c.deref-6.result.now c.in_ok-channels.channels) c.deref-8.ensures.value c.in_ok-channels.ensures))) in
+    subst (λ (names : List (List ℕ)). Pairs (IsLogOf names begun.logged.items) 0 core.routes.channels.items c.in_ok-channels.channels) c.deref-5.ensures.value
+    (subst (λ (channels : List (Channel g.row.J.Denot)). Pairs (IsLogOf c.deref-5.result.now begun.logged.items) 0 channels c.in_ok-channels.channels) c.deref-6.ensures.value
+    (subst (λ (logged : List ℕ). Pairs (IsLogOf c.deref-5.result.now logged) 0 c.deref-6.result.now c.in_ok-channels.channels) c.deref-7.ensures.value c.in_ok-channels.ensures)) in
     let replies =
     c.in_ok-replies.ensures
-    ∙ ap (λ (parts : List TableParts). told (slice_get parts 0) c.args.actors.now c.replace-answered.result.items) c.deref-9.ensures.value
+    ∙ ap (λ (parts : List TableParts). told (slice_get parts 0) c.args.actors.now c.replace-answered.result.items) c.deref-8.ensures.value
     ∙ ap (λ (held : Vec (Vec Answered Global) Global). told (slice_get core.tables.items 0) c.args.actors.now held.items) c.replace-answered.ensures.value in
     let tables =
-    subst (λ (parts : List TableParts). Pairs (IsTableOf parts) 0 core.routes.tables.items c.in_ok-tables.tables) c.deref-10.ensures.value
-    (subst (λ (tables : List Table). Pairs (IsTableOf c.deref-10.result.now) 0 tables c.in_ok-tables.tables) c.deref-11.ensures.value c.in_ok-tables.ensures) in
-    let imports = c.report_operations.new.imports in
+    subst (λ (parts : List TableParts). Pairs (IsTableOf parts) 0 core.routes.tables.items c.in_ok-tables.tables) c.deref-9.ensures.value
+    (subst (λ (tables : List Table). Pairs (IsTableOf c.deref-9.result.now) 0 tables c.in_ok-tables.tables) c.deref-10.ensures.value c.in_ok-tables.ensures) in
+    let emptied = c.report_operations.new.protocols in
     let modes =
-    subst (λ (names : List (List ℕ)). Pairs (IsModeOf names) 0 imports.items c.in_ok-modes.modes) c.deref-12.ensures.value
-    (subst (λ (held : List (Imports g.row.J.Denot)). Pairs (IsModeOf c.deref-12.result.now) 0 held c.in_ok-modes.modes) c.deref-13.ensures.value c.in_ok-modes.ensures) in
+    subst (λ (names : List (List ℕ)). Pairs (IsModeOf names) 0 emptied.items c.in_ok-modes.modes) c.deref-11.ensures.value
+    (subst (λ (held : List (Protocol g.row.J.Denot)). Pairs (IsModeOf c.deref-11.result.now) 0 held c.in_ok-modes.modes) c.deref-12.ensures.value c.in_ok-modes.ensures) in
     let exports =
-    subst (λ (names : List (List ℕ)). Pairs (λ n number r. IsExportOf v names core.routes.channels.items number r) 0 core.channels.items c.in_ok-exports.exports) c.deref-14.ensures.value
-    (subst (λ (numbers : List ℕ). Pairs (λ n number r. IsExportOf v c.deref-14.result.now core.routes.channels.items number r) 0 numbers c.in_ok-exports.exports) c.deref-15.ensures.value
-    (subst (λ (channels : List (Channel g.row.J.Denot)). Pairs (λ n number r. IsExportOf v c.deref-14.result.now channels number r) 0 c.deref-15.result.now c.in_ok-exports.exports) c.deref-16.ensures.value c.in_ok-exports.ensures)) in
-    let emptied = c.in_ok-protocols.ensures.emptied in (
-      printed v setup b s core are,
-      prints v setup b s core are,
+    subst (λ (names : List (List ℕ)). Pairs (IsExportOf v names) 0 core.routes.channels.items c.in_ok-exports.exports) c.deref-13.ensures.value
+    (subst (λ (channels : List (Channel g.row.J.Denot)). Pairs (IsExportOf v c.deref-13.result.now) 0 channels c.in_ok-exports.exports) c.deref-14.ensures.value c.in_ok-exports.ensures) in
+    let forgotten = c.in_ok-protocols.ensures.emptied in
+    let none : c.replace-answered.new.dest.items ≡ [] = ap (λ (held : Vec (Vec Answered Global) Global). held.items) c.replace-answered.ensures.after ∙ c.new.ensures.items in (
+      printed v setup past s core are,
+      prints v setup past s core are,
       record {
         number_is = c.in-Some.ensures.1;
-        protocols = operations_reported v setup b s core are c.in_ok-protocols.protocols protocols;
-        journals = journals_reported v setup b s core are begun c.in_ok-journals.journals at journals;
-        channel_logs = logs_reported v setup b s core are begun c.in_ok-channels.channels at logs;
-        replies = replies_reported v setup b s core are c.args.actors.now c.in_ok-replies.replies len replies;
-        tables = tables_reported v setup b s core are c.in_ok-tables.tables tables;
-        modes = modes_reported v setup b s core are imports.items c.in_ok-modes.modes emptied modes;
-        exports = exports_reported v setup b s core are c.in_ok-exports.exports exports;
+        protocols = operations_reported v setup past s core are c.in_ok-protocols.protocols protocols;
+        journals = journals_reported v setup past s core are begun c.in_ok-journals.journals at journals;
+        channel_logs = logs_reported v setup past s core are begun c.in_ok-channels.channels at logs;
+        replies = replies_reported v setup past s core are c.args.actors.now c.in_ok-replies.replies len replies;
+        tables = tables_reported v setup past s core are c.in_ok-tables.tables tables;
+        modes = modes_reported v setup past s core are emptied.items c.in_ok-modes.modes forgotten modes;
+        exports = exports_reported v setup past s core are c.in_ok-exports.exports exports;
       },
-      rests v setup b s core are imports c.replace-answered.new.dest c.in-Some.number emptied
-          (ap (λ (held : Vec (Vec Answered Global) Global). held.items) c.replace-answered.ensures.after ∙ c.new.ensures.items),
+      rests v setup past s core are emptied c.replace-answered.new.dest c.in-Some.number forgotten none c.in-Some.ensures.1,
     )

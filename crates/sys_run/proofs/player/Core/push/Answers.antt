@@ -1,33 +1,26 @@
-use Rattle.std.proofs.Common.{◌≡◌, Some, sym, ap, ◌∙◌, arith}
-use Rattle.std.specs.Prelude.{slice_get}
+use Rattle.std.proofs.Common.{refl, sym, arith}
 use Rattle.std.proofs.lemmas.Result.{on_ok_weaker}
-use Rattle.core_machine.specs.Channels.{if_open, push_one, times}
-use Rattle.core_machine.specs.Machine.{set, with_channel}
+use Rattle.core_machine.specs.Channels.{times}
+use Rattle.core_machine.specs.Machine.{if_open, push_at}
 use Rattle.core_setup.specs.Protocols.{rules_of}
-use Rattle.sys_run.proofs.Acting.{channels_grew, set_grows}
-use Rattle.sys_run.proofs.Growing.{pushes_grow}
-use Rattle.sys_run.proofs.Numbering.{got_copied, number_is}
-use Rattle.sys_run.proofs.Routing.{channels_length}
+use Rattle.sys_run.specs.Cores.{IsCore}
+use Rattle.sys_run.proofs.CoreSteps.{behind_if, behind_push, behind_times, core_behind, none_there}
 use Rattle.sys_run.proofs.player.Core.push.Goals as goal
 
-pub push-requires-clause-there : goal.push-requires-clause-there
-push-requires-clause-there g c =
-    let h = c.requires in
-    let e : slice_get c.args.self.now.channels.items c.args.channel ≡ Some c.in-Some.number =
-    ap (λ xs. slice_get xs c.args.channel) (sym c.deref.ensures.value) ∙ got_copied c.deref.result.now c.args.channel c.get.result c.in-Some.number c.get.ensures.lookup (sym c.copied.ensures ∙ c.in-Some.is) in
-    let n = number_is h.0 c.args.channel c.in-Some.number (ap (λ xs. slice_get xs c.args.channel) (sym h.3.channels) ∙ e) in
-    omega (arith, n.1, channels_length g.J.Judge.verdict h.0 h.2 c.args.self.now.routes h.3.routes)
+pub returns-then-number-len-clause-core : goal.returns-then-number-len-clause-core
+returns-then-number-len-clause-core g c = λ setup past s are. (
+  s,
+  sym (none_there g.J.Judge.verdict setup past s c.args.self.now c.args.channel (times c.args.count (push_at (rules_of setup) c.args.channel)) are (omega (arith, c.if-number-len.true, c.len.ensures))),
+  are,
+)
+
+pub push-requires-clause-holds : goal.push-requires-clause-holds
+push-requires-clause-holds g c = let h = c.requires in (h.0, h.2, h.3.routes)
 
 pub returns-clause-core : goal.returns-clause-core
-returns-clause-core g c = on_ok_weaker c.push.result (λ moved setup b s are.
-    let v = g.J.Judge.verdict in
-    let i = c.in-Some.number in
-    let e : slice_get c.args.self.now.channels.items c.args.channel ≡ Some i =
-    ap (λ xs. slice_get xs c.args.channel) (sym c.deref.ensures.value) ∙ got_copied c.deref.result.now c.args.channel c.get.result i c.get.ensures.lookup (sym c.copied.ensures ∙ c.in-Some.is) in
-    let n = number_is setup c.args.channel i (ap (λ xs. slice_get xs c.args.channel) (sym are.channels) ∙ e) in
-    let ch = if_open (times c.args.count (push_one (rules_of setup) i (s.history ((rules_of setup).table i)))) (s.channels i) in (
-      with_channel i (times c.args.count (push_one (rules_of setup) i (s.history ((rules_of setup).table i)))) s,
-      ap (λ k. with_channel k (times c.args.count (push_one (rules_of setup) k (s.history ((rules_of setup).table k)))) s) (sym n.0),
-      channels_grew v setup b s c.args.self.now c.push.new.self (set i ch s.channels) are (moved setup s are.routes)
-          (set_grows v setup s i ch (pushes_grow (rules_of setup) i (s.history ((rules_of setup).table i)) c.args.count (s.channels i))),
-    )) c.push.ensures
+returns-clause-core g c = on_ok_weaker c.push.result (λ steps setup past s are. (
+  if_open c.args.channel (times c.args.count (push_at (rules_of setup) c.args.channel)) s,
+  refl,
+  core_behind g.J.Judge.verdict setup past s (if_open c.args.channel (times c.args.count (push_at (rules_of setup) c.args.channel)) s) c.args.self.now _ are (steps setup s are.routes)
+      (behind_if c.args.channel (times c.args.count (push_at (rules_of setup) c.args.channel)) s (behind_times (push_at (rules_of setup) c.args.channel) (behind_push (rules_of setup) c.args.channel are.routes.rules_are) c.args.count s)),
+)) c.push.ensures

@@ -1,4 +1,5 @@
 use Rattle.std.proofs.Common.{◌≡◌, ◌++◌}
+use Rattle.core_machine.specs.Legal.{Joined}
 use Rattle.core_machine.specs.Machine.{Plays, State}
 use Rattle.core_setup.specs.Protocols.{rules_of}
 use Rattle.core_setup.specs.Setup.{Setup}
@@ -10,5 +11,5 @@ abbrev pub invariant-loop-line : goal.invariant-loop-line
 invariant-loop-line g l =
     Keeps l.fn.self l.self
     × (l.yielded ++ l.line-iterator.rest.items ≡ l.fn.lines.items)
-    × ((setup : Setup) (b s : State) → IsCore g.J.Judge.verdict setup b s l.fn.self
-    → (t : State) × Plays (rules_of setup) (phase_of setup l.yielded) s t × IsCore g.J.Judge.verdict setup b t l.self)
+    × ((setup : Setup) (past : Joined) (s : State) → IsCore g.J.Judge.verdict setup past s l.fn.self
+    → (t : State) × Plays (rules_of setup) (phase_of l.yielded) s t × IsCore g.J.Judge.verdict setup past t l.self)

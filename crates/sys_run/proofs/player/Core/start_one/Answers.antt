@@ -1,22 +1,28 @@
-use Rattle.std.proofs.Common.{[], refl, sym, subst, ◌∙◌}
-use Rattle.std.proofs.lemmas.Result.{on_ok_weaker}
-use Rattle.core_machine.specs.Machine.{Begins}
-use Rattle.core_setup.specs.Protocols.{rules_of, with_start}
-use Rattle.sys_run.proofs.Acting.{kind_of}
-use Rattle.sys_run.proofs.Routing.{item_read}
+use Rattle.std.proofs.Common.{refl, sym, ◌∙◌}
+use Rattle.core_machine.specs.Lines.{Act}
+use Rattle.import_core.specs.declared.operation.Op.TheVariants.{Start}
+use Rattle.run_tables.proofs.Routing.{item_read}
+use Rattle.sys_run.proofs.Starting.{starts_one, waits_one}
 use Rattle.sys_run.proofs.player.Core.start_one.Goals as goal
 
-pub returns-in-Static-clause-core : goal.returns-in-Static-clause-core
-returns-in-Static-clause-core g c = on_ok_weaker c.apply.result (λ done setup b s p are e.
+pub returns-in_ok-apply-clause-core : goal.returns-in_ok-apply-clause-core
+returns-in_ok-apply-clause-core g c = λ setup past s p are e.
     let core = c.args.self.now in
     let held = c.index.result.now in
-    let kind = sym (kind_of g.J.Judge.verdict setup b s core c.args.number held p are (item_read core.imports.items c.args.number held c.requires.there c.index.ensures) e) ∙ c.in-Static.is in
-    let got = done setup b s are in
-    (got.0, subst (λ k. Begins (rules_of setup) (with_start c.args.number k []) s got.0) (sym kind) (s, refl, got.1 0), got.2)) c.apply.ensures.core
+    let act : Act = record { actor = 0; line = 0; protocol = c.args.number; op = Start } in
+    let got = c.in_ok-apply.ensures.core setup past s act are refl refl in (
+      got.0,
+      starts_one g.J.Judge.verdict setup past s core are c.args.number p held got.0 e (item_read core.protocols.items c.args.number held c.requires.there c.index.ensures)
+          (sym c.is_static.ensures ∙ c.if-is_static.true) got.1,
+      got.2,
+    )
 
-pub returns-in-Bgp-clause-core : goal.returns-in-Bgp-clause-core
-returns-in-Bgp-clause-core g c = λ setup b s p are e.
+pub returns-else-is_static-clause-core : goal.returns-else-is_static-clause-core
+returns-else-is_static-clause-core g c = λ setup past s p are e.
     let core = c.args.self.now in
-    let held = c.index.result.now in
-    let kind = sym (kind_of g.J.Judge.verdict setup b s core c.args.number held p are (item_read core.imports.items c.args.number held c.requires.there c.index.ensures) e) ∙ c.in-Bgp.is in
-    (s, subst (λ k. Begins (rules_of setup) (with_start c.args.number k []) s s) (sym kind) refl, are)
+    let held = c.index.result.now in (
+      s,
+      waits_one g.J.Judge.verdict setup past s core are c.args.number p held e (item_read core.protocols.items c.args.number held c.requires.there c.index.ensures)
+          (sym c.is_static.ensures ∙ c.if-is_static.false),
+      are,
+    )

@@ -1,4 +1,4 @@
-use Rattle.std.proofs.Common.{sym, subst}
+use Rattle.std.proofs.Common.{refl, sym, subst}
 use Rattle.std.proofs.lemmas.Result.{on_ok_weaker}
 use Rattle.core_machine.specs.Machine.{Steps}
 use Rattle.core_setup.specs.Protocols.{rules_of}
@@ -6,6 +6,6 @@ use Rattle.sys_run.specs.Scripts.{line_of}
 use Rattle.sys_run.proofs.player.Core.step.Goals as goal
 
 pub returns-in-Apply-clause-core : goal.returns-in-Apply-clause-core
-returns-in-Apply-clause-core g c = on_ok_weaker c.apply.result (λ done setup b s are.
-    let got = done setup b s are in
-    (got.0, subst (λ l. Steps (rules_of setup) (line_of setup l) s got.0) (sym c.in-Apply.is) (got.1 c.in-Apply.actor), got.2)) c.apply.ensures.core
+returns-in-Apply-clause-core g c = on_ok_weaker c.apply.result (λ done setup past s are.
+    let got = done setup past s (record { actor = c.in-Apply.actor; line = c.in-Apply.line; protocol = c.in-Apply.protocol; op = c.in-Apply.op }) are refl refl in
+    (got.0, subst (λ l. Steps (rules_of setup) (line_of l) s got.0) (sym c.in-Apply.is) got.1, got.2)) c.apply.ensures.core

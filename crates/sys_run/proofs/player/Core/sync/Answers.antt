@@ -1,19 +1,18 @@
-use Rattle.std.proofs.Common.{refl}
-use Rattle.std.proofs.lemmas.Result.{IfOk-weaker, on_ok_weaker}
-use Rattle.core_machine.specs.Machine.{round}
+use Rattle.std.proofs.Common.{◌≡◌}
+use Rattle.std.proofs.lemmas.Result.{IfOk-weaker}
+use Rattle.core_machine.specs.Channels.{times}
+use Rattle.core_machine.specs.Machine.{State}
+use Rattle.core_machine.specs.Rounds.{round}
 use Rattle.core_setup.specs.Protocols.{rules_of}
-use Rattle.sys_run.proofs.Acting.{channels_grew}
-use Rattle.sys_run.proofs.Growing.{round_grows}
+use Rattle.sys_run.proofs.CoreSteps.{behind_rounds, core_behind}
 use Rattle.sys_run.proofs.player.Core.sync.Goals as goal
 
+pub sync-requires : goal.sync-requires
+sync-requires g c = let h = c.requires in (h.0, h.2, h.3.routes, h.4, h.5, h.6)
+
 pub returns-clause-core : goal.returns-clause-core
-returns-clause-core g c = on_ok_weaker c.sync.result (λ synced setup b s are.
-    channels_grew g.J.Judge.verdict setup b s c.args.self.now c.sync.new.self
-    (λ i. round (rules_of setup) i (s.history ((rules_of setup).table i)) (s.channels i)) are (synced setup s are.routes)
-    (λ i. round_grows (rules_of setup) i (s.history ((rules_of setup).table i)) (s.channels i))) c.sync.ensures.synced
-
-pub returns-clause-kept : goal.returns-clause-kept
-returns-clause-kept g c = on_ok_weaker c.sync.result (λ _. record { phases = refl; replies = refl }) c.sync.ensures.synced
-
-pub returns-clause-rounds : goal.returns-clause-rounds
-returns-clause-rounds g c = IfOk-weaker c.sync.result _ _ (λ rounds told setup b s are. told setup s are.routes) c.sync.ensures.rounds
+returns-clause-core g c = IfOk-weaker c.sync.result _ _ (λ rounds ends setup past s are.
+    let e = ends setup s are.routes in (
+      e.0,
+      core_behind g.J.Judge.verdict setup past s (times rounds (round (rules_of setup)) s) c.args.self.now _ are e.1 (behind_rounds (rules_of setup) are.routes.rules_are rounds s),
+    )) c.sync.ensures
