@@ -1,10 +1,12 @@
 -- A configuration of few protocols names few protocols and few channels.
-use Rattle.std.proofs.Common.{◌*◌, ◌≤◌, ℕ, List, [], ◌∷◌, length, arith}
+use Rattle.std.proofs.Common.{◌≡◌, ◌∙◌, sym, ap, refl, ◌*◌, ◌^◌, ◌<◌, ◌≤◌, ℕ, suc, ◌+◌, List, [], ◌∷◌, length, map, arith}
 use Rattle.std.proofs.lemmas.List.{length-append, length-map}
+use Rattle.core_setup.specs.Setup as setup
 use Rattle.script_lines.specs.Kinds.{AreFew}
 use Rattle.system.specs.System.{Body, IsBgp, IsPipe, IsStatic, Protocol, System}
 use Rattle.system.specs.Texts.{IsSystem}
 use Rattle.sys_build.specs.Names.{all_channels, channels_of, named_of, named_protocol}
+use Rattle.sys_build.specs.Setups.{protocols_from}
 
 two_channels : (name : List ℕ) (body : Body) → length (channels_of name body) ≤ 2
 two_channels name (IsStatic p) = omega arith
@@ -21,3 +23,10 @@ are_few few text system is = record {
   protocols = omega (arith, few text system is, length-map system.protocols named_protocol);
   channels = omega (arith, few text system is, few_channels system.protocols);
 }
+
+from_as_many : (n : ℕ) (ps : List Protocol) → length (protocols_from n ps) ≡ length ps
+from_as_many n [] = refl
+from_as_many n (p ∷ more) = ap suc (from_as_many (n + 1) more)
+
+pub parts_few : {P : Type 0} (seen : P → setup.Protocol) (parts : List P) (ps : List Protocol) → map seen parts ≡ protocols_from 0 ps → length ps ≤ 256 → length parts < 2 ^ 32
+parts_few seen parts ps are few = omega (arith, length-map parts seen, ap length are, from_as_many 0 ps, few)

@@ -4,14 +4,22 @@ use Rattle.core_setup.specs.Setup.{IsSetup}
 use Rattle.system.specs.contracts.passes.PassesJudge.TheImpl as passes
 use Rattle.system.specs.Seen.{system_of}
 use Rattle.sys_run.specs.Playing.{HasPlayed}
+use Rattle.sys_run.specs.Parts.{protocol_seen}
+use Rattle.sys_build.proofs.Few.{parts_few}
 use Rattle.sys_build.proofs.Handed.{handed}
 use Rattle.sys_build.proofs.whole.build.Goals as goal
 
 pub protocols-requires : goal.protocols-requires
 protocols-requires c = c.configurations_have_few_protocols.ensures c.requires.0 (system_of c.args.system.now) c.requires.1
 
-pub make-requires : goal.make-requires
-make-requires c =
+pub make-requires-few : goal.make-requires-few
+make-requires-few c =
+    let system = system_of c.args.system.now in
+    parts_few (protocol_seen (passes.ghosts).verdict) c.in_ok-protocols.protocols.items system.protocols c.in_ok-protocols.ensures
+    (c.configurations_have_few_protocols.ensures c.requires.0 system c.requires.1)
+
+pub make-requires-setup : goal.make-requires-setup
+make-requires-setup c =
     let system = system_of c.args.system.now in
     subst IsSetup
     (sym (handed (passes.ghosts).verdict c.in_ok-tables.tables.items c.in_ok-protocols.protocols.items system c.args.cells c.in_ok-tables.ensures c.in_ok-protocols.ensures))
