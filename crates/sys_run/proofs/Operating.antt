@@ -1,5 +1,5 @@
 -- What comes of a protocol's operation.
-use Rattle.std.proofs.Common.{◌≡◌, Bool, true, false, List, [], ◌∷◌, reverse, refl, sym, ap, subst, ◌∙◌}
+use Rattle.std.proofs.Common.{◌≡◌, Bool, false, List, [], ◌∷◌, reverse, refl, ap, subst, ◌∙◌}
 use Rattle.bits_ip.specs.Prefix.{Net}
 use Rattle.attrs.specs.declared.judge.Verdict.{Verdict}
 use Rattle.attrs.specs.declared.route.Change.{Change}
@@ -56,7 +56,7 @@ module _ {J : Type 0} (verdict : J → Net → Route → Verdict) (earlier : Lis
           imports = st.imports;
         },
         ap reverse (difference_one p.spec.src.num before.accepted o.imports.accepted step.changes (differences p.spec.src.num before.accepted o.imports.accepted) st.changes
-        (differences_are p.spec.src.num before.accepted o.imports.accepted)),
+            (differences_are p.spec.src.num before.accepted o.imports.accepted)),
         ap signal_of st.mark,
         st.over,
       )

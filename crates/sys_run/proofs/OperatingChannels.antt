@@ -1,6 +1,6 @@
 -- What a signal leaves of the machine's state, where a protocol's channels obey it.
 use Rattle.std.proofs.Common.{◌≡◌, ℕ, zero, suc, ◌+◌, ◌-◌, ◌≤◌, ◌<◌, inl, inr, ◌⊎◌, Bool, true, false, List, [], ◌∷◌, ◌++◌, Option, Some, None, length, refl, sym, ap, subst, ◌∙◌, arith, append_assoc, is_some}
-use Rattle.std.specs.Prelude.{◌==◌, ◌||◌, if◌then◌else◌}
+use Rattle.std.specs.Prelude.{◌==◌, ◌||◌}
 use Rattle.std.proofs.lemmas.Bool.{cases_lt}
 use Rattle.std.proofs.lemmas.Bool.Decides.{eqb_tells}
 use Rattle.attrs.specs.declared.route.Change.{Change}
@@ -12,13 +12,12 @@ use Rattle.export_core.specs.declared.log.LogItem.TheVariants.{Down, Reload, Up}
 use Rattle.core_machine.specs.Channels as machine
 use Rattle.core_machine.specs.Channels.{closed, is_open}
 use Rattle.core_machine.specs.Enters.{standing_keys}
-use Rattle.core_machine.specs.Lines.{Turn, ops_of}
 use Rattle.core_machine.specs.Machine.{AllObey, Obeys, State, appended, flushed, left_by, with_channel}
 use Rattle.core_machine.specs.Rules.{AreApart, Fall, Fits, IsRules, Renew, Rise, Rules, Signal, Stay, signalled}
 use Rattle.core_machine.proofs.Growing.{IsMore, more_appended, more_flushed, more_on, set_here as at_here, set_there as at_there}
 use Rattle.core_setup.proofs.PairLemmas.{cases_same}
 use Rattle.sys_run.specs.Cores.{counted}
-use Rattle.sys_run.proofs.CoreSteps.{Behind, behind_same, behind_then}
+use Rattle.sys_run.proofs.CoreSteps.{Behind, behind_same}
 
 -- what changes of a table alone leave
 pub behind_more : (rules : Rules) (ok : IsRules rules) (n : ℕ) (cs : List Change) (s u : State) → IsMore rules ok n cs s u → Behind s u

@@ -1,5 +1,5 @@
 -- The core behind an operation of a protocol.
-use Rattle.std.proofs.Common.{◌≡◌, ℕ, zero, suc, ◌+◌, ◌-◌, ◌≤◌, ◌<◌, inl, inr, ◌⊎◌, Bool, true, false, List, [], ◌∷◌, ◌++◌, Option, Some, None, length, reverse, set, refl, sym, ap, subst, ◌∙◌, arith, append_assoc}
+use Rattle.std.proofs.Common.{◌≡◌, ℕ, zero, suc, ◌-◌, ◌≤◌, ◌<◌, inl, inr, ◌⊎◌, Bool, true, false, List, [], ◌∷◌, ◌++◌, Some, length, reverse, set, refl, sym, ap, subst, ◌∙◌, arith, append_assoc}
 use Rattle.std.specs.Prelude.{IsSome, slice_get}
 use Rattle.std.specs.List.{All}
 use Rattle.std.specs.declared.alloc.Global.{Global}
@@ -14,7 +14,6 @@ use Rattle.export_core.specs.Candidates.{among}
 use Rattle.export_core.specs.declared.log.LogItem.{LogItem}
 use Rattle.import_core.specs.declared.operation.Op.{Op}
 use Rattle.import_core.specs.declared.step.Done.{Done}
-use Rattle.import_core.specs.declared.step.Mark.{Mark}
 use Rattle.core_machine.specs.Channels.{is_open}
 use Rattle.core_machine.specs.Histories.{AreFrom}
 use Rattle.core_machine.specs.Legal.{Joined}
@@ -24,7 +23,6 @@ use Rattle.core_machine.specs.Machine.{set as at_set}
 use Rattle.core_machine.specs.Replies.{replies_to}
 use Rattle.core_machine.specs.Rules.{Effect, Fits, IsRules, Rules, Signal, Stay, is_up, signalled}
 use Rattle.core_machine.proofs.Growing.{set_here as at_here, set_there as at_there}
-use Rattle.core_setup.specs.Channels as setups
 use Rattle.core_setup.specs.Pairs.{Pairs}
 use Rattle.core_setup.specs.Protocols.{effect_at, effect_in, protocol_at, rules_of, signal_of, table_at, table_in}
 use Rattle.core_setup.specs.Reports.{dones}
@@ -35,7 +33,6 @@ use Rattle.run_tables.specs.Routes.{AreRoutes}
 use Rattle.run_tables.specs.declared.routes.Routes.{Routes}
 use Rattle.run_tables.proofs.Routing.{are_same, tables_length}
 use Rattle.sys_run.specs.Cores.{AllFit, Does, ImportsTo, IsAnswered, IsCore, PlaysAs, counted, made_by, table_of}
-use Rattle.sys_run.specs.declared.player.Answered.{Answered}
 use Rattle.sys_run.specs.declared.player.Core.{Core}
 use Rattle.sys_run.specs.declared.protocol.Body.{Body}
 use Rattle.sys_run.specs.declared.protocol.Body.TheVariants.{Pipe, Source}
