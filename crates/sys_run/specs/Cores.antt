@@ -10,7 +10,7 @@ use Rattle.attrs.specs.declared.route.Route.{Route}
 use Rattle.attrs.specs.declared.route.Row.{Row}
 use Rattle.attrs.specs.Table.{Shows}
 use Rattle.export_core.specs.declared.log.LogItem.{LogItem}
-use Rattle.core_machine.specs.Channels.{is_open, times}
+use Rattle.core_machine.specs.Channels.{is_open}
 use Rattle.core_machine.specs.Histories.{content_of, front}
 use Rattle.core_machine.specs.Legal.{Joined}
 use Rattle.core_machine.specs.Lines.{Reply, Turn, ops_of}
