@@ -104,7 +104,8 @@ module _ {J : Type 0} (verdict : J → Net → Route → Verdict) where
         → Pairs (λ n answered reply. IsAnswered setup s answered reply) 0 held.items
         (reverse (replies_to actor s.replies))
     -- names
-    pub channels : core.channels.items ≡ map (λ (c : setups.Channel). c.name) (setups.channels setup)
+    pub channels :
+        core.channels.items ≡ map (λ (c : setups.Channel). c.name) (setups.channels setup)
     pub tables : Pairs (λ n seen (held : TableParts). (seen ≡ (held.name, held.family)))
         0 setup.tables core.tables.items
     pub names : core.names.items ≡ protocol_names setup
