@@ -1,5 +1,5 @@
 -- A core that has played nothing.
-use Rattle.std.proofs.Common.{◌≡◌, ◌≢◌, ℕ, zero, suc, ◌+◌, ◌-◌, ◌<◌, ◌≤◌, inl, inr, Bool, true, false, List, [], ◌∷◌, ◌++◌, Option, Some, None, refl, sym, ◌∙◌, ap, subst, arith, length, map, take}
+use Rattle.std.proofs.Common.{◌≡◌, ℕ, zero, suc, ◌+◌, ◌-◌, ◌<◌, ◌≤◌, inl, inr, Bool, true, false, List, [], ◌∷◌, ◌++◌, Option, Some, None, refl, sym, ◌∙◌, ap, subst, arith, length, map, take}
 use Rattle.std.specs.Prelude.{◌==◌, slice_get, option_map, if◌then◌else◌}
 use Rattle.std.specs.declared.alloc.Global.{Global}
 use Rattle.std.specs.declared.vec.Vec.{Vec}
@@ -22,7 +22,7 @@ use Rattle.core_setup.specs.Setup.{Body, Exports, IsPipe, IsSource, Protocol, Se
 use Rattle.core_setup.proofs.PairLemmas.{one_here, pairs_all, pairs_length}
 use Rattle.run_tables.specs.Routes.{AreRoutes}
 use Rattle.sys_run.specs.Cores.{Does, IsCore, PlaysAs, counted}
-use Rattle.sys_run.specs.Made.{IsMade, IsMadeBody, IsMadeProtocol, channels_before, seen_in}
+use Rattle.sys_run.specs.Made.{IsMade, IsMadeBody, IsMadeProtocol, channels_before}
 use Rattle.sys_run.specs.Parts.{body_seen, protocol_seen, setup_seen, table_seen}
 use Rattle.sys_run.specs.Playing.{HasPlayed, silent}
 use Rattle.sys_run.specs.declared.made.Made.{Made}

@@ -1,11 +1,10 @@
 -- What a new core's routes are made of.
 use Rattle.std.proofs.Common.{◌≡◌, ℕ, ◌<◌, List, [], Option, Some, None, refl, sym, ◌∙◌, ap, subst, arith, length, map}
-use Rattle.std.specs.Prelude.{slice_get, option_map}
+use Rattle.std.specs.Prelude.{option_map}
 use Rattle.std.specs.declared.alloc.Global.{Global}
 use Rattle.std.specs.declared.vec.Vec.{Vec}
 use Rattle.std.proofs.lemmas.List.{length-map}
 use Rattle.std.proofs.lemmas.Option.{same_Some, slice_get-map}
-use Rattle.attrs.specs.declared.attributes.Attrs.{Attrs}
 use Rattle.attrs.specs.declared.judge.Verdict.{Verdict}
 use Rattle.attrs.specs.declared.route.Route.{Route}
 use Rattle.attrs.specs.declared.route.Src.{Src}
@@ -15,16 +14,16 @@ use Rattle.core_machine.specs.Rules.{Rules}
 use Rattle.core_machine.proofs.Levels.{are_ways}
 use Rattle.core_setup.specs.Channels.{Channel, channels}
 use Rattle.core_setup.specs.Pairs.{Pairs}
-use Rattle.core_setup.specs.Protocols.{exports_to, protocol_at, rules_of, sources, src_at}
-use Rattle.core_setup.specs.Setup.{IsSetup, Protocol, Setup}
-use Rattle.core_setup.proofs.PairLemmas.{get_here, get_within, one_here, pairs_all, pairs_here, pairs_length, weaker_here}
+use Rattle.core_setup.specs.Protocols.{exports_to, rules_of, sources, src_at}
+use Rattle.core_setup.specs.Setup.{IsSetup, Setup}
+use Rattle.core_setup.proofs.PairLemmas.{get_here, get_within, one_here, pairs_all, pairs_length, weaker_here}
 use Rattle.core_setup.proofs.SetupRules.{setup_rules}
 use Rattle.run_tables.specs.Channels.{AreSources}
 use Rattle.run_tables.specs.Tables.{IsTable}
 use Rattle.run_tables.specs.declared.channel.Channel.{Channel as Held}
 use Rattle.run_tables.specs.declared.table.Table.{Table}
 use Rattle.sys_run.specs.Made.{AreNew, ArePassed, IsMade, IsMadeTable, IsNewChannel, IsSource, passed_at}
-use Rattle.sys_run.specs.Parts.{protocol_seen, setup_seen, table_seen}
+use Rattle.sys_run.specs.Parts.{setup_seen, table_seen}
 use Rattle.sys_run.specs.declared.made.Made.{Made}
 use Rattle.sys_run.specs.declared.parts.ProtocolParts.{ProtocolParts}
 use Rattle.sys_run.specs.declared.parts.TableParts.{TableParts}

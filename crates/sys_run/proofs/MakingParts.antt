@@ -5,7 +5,7 @@ use Rattle.std.specs.List.{AllByRecursion}
 use Rattle.std.specs.declared.alloc.Global.{Global}
 use Rattle.std.specs.declared.vec.Vec.{Vec}
 use Rattle.std.proofs.lemmas.List.{append-nil, length-append, length-map}
-use Rattle.std.proofs.lemmas.Option.{none-some, same_Some, slice_get-map}
+use Rattle.std.proofs.lemmas.Option.{slice_get-map}
 use Rattle.attrs.specs.declared.judge.Verdict.{Verdict}
 use Rattle.attrs.specs.declared.route.Route.{Route}
 use Rattle.bits_ip.specs.Prefix.{Net}
@@ -14,11 +14,11 @@ use Rattle.core_machine.specs.Pipes.{ends_with, passes, passes_to}
 use Rattle.core_machine.specs.Rules.{Rules}
 use Rattle.core_machine.specs.Ways.{Found, levels}
 use Rattle.core_setup.specs.Channels.{Channel, channel_at, channels, channels_from, channels_in, reads_at, session, target_at}
-use Rattle.core_setup.specs.Protocols.{passed_below, protocol_at, rules_of, rules_with, sources, table_at, table_in}
+use Rattle.core_setup.specs.Protocols.{passed_below, protocol_at, rules_of, rules_with, table_at, table_in}
 use Rattle.core_setup.specs.Setup.{AreProtocols, Body, Exports, FitsBody, IsPipe, IsSetup, IsSource, Protocol, Setup}
 use Rattle.core_setup.proofs.Numbered.{all_append}
 use Rattle.core_setup.proofs.PairLemmas.{get_here, get_within, length_front, take_one_more}
-use Rattle.sys_run.specs.Made.{AreLists, ArePassed, AreWithin, IsWithin, directions_in, direction_of, found_from, given_all, seen_in}
+use Rattle.sys_run.specs.Made.{AreLists, AreWithin, IsWithin, directions_in, direction_of, found_from, given_all, seen_in}
 use Rattle.sys_run.specs.Parts.{body_seen, protocol_seen, setup_seen, table_seen}
 use Rattle.sys_run.specs.declared.parts.ProtocolParts.{ProtocolParts}
 use Rattle.sys_run.specs.declared.parts.TableParts.{TableParts}

@@ -1,10 +1,8 @@
 -- Protocols and channels that are made.
-use Rattle.std.proofs.Common.{◌≡◌, ℕ, zero, suc, ◌+◌, ◌<◌, ◌≤◌, Bool, true, false, List, [], ◌∷◌, ◌++◌, Option, Some, None, refl, sym, ◌∙◌, ap, subst, arith, length, map, take, append_assoc}
-use Rattle.std.specs.Prelude.{option_map, slice_get}
+use Rattle.std.proofs.Common.{◌≡◌, ℕ, zero, suc, ◌+◌, ◌≤◌, true, false, List, [], ◌∷◌, ◌++◌, Option, Some, None, refl, sym, ◌∙◌, ap, subst, arith, length, map, take}
 use Rattle.std.specs.declared.alloc.Global.{Global}
 use Rattle.std.specs.declared.vec.Vec.{Vec}
-use Rattle.std.proofs.lemmas.List.{append-nil, length-append, length-map}
-use Rattle.std.proofs.lemmas.Option.{none-some, same_Some}
+use Rattle.std.proofs.lemmas.List.{length-append, length-map}
 use Rattle.attrs.specs.declared.judge.Verdict.{Verdict}
 use Rattle.attrs.specs.declared.route.Route.{Route}
 use Rattle.attrs.specs.declared.route.Src.{Src}
@@ -21,12 +19,11 @@ use Rattle.core_setup.specs.Setup as setup
 use Rattle.core_setup.specs.Setup.{family_at}
 use Rattle.core_setup.proofs.PairLemmas.{pairs_length, pairs_push, pairs_weaker, get_within}
 use Rattle.run_tables.specs.declared.channel.Channel.{Channel}
-use Rattle.sys_run.specs.Made.{Adds, AddsChannels, IsMade, IsMadeBody, IsMadeProtocol, IsNewChannel, IsSource, Left, channels_before, passed_at, seen_in}
-use Rattle.sys_run.specs.Parts.{body_seen, exports_seen, pipe_seen, protocol_seen}
+use Rattle.sys_run.specs.Made.{Adds, AddsChannels, IsMade, IsMadeBody, IsMadeProtocol, IsNewChannel, IsSource, Left, channels_before, seen_in}
+use Rattle.sys_run.specs.Parts.{body_seen, exports_seen, protocol_seen}
 use Rattle.sys_run.specs.declared.made.Made.{Made}
 use Rattle.sys_run.specs.declared.parts.BodyParts.{BodyParts}
 use Rattle.sys_run.specs.declared.parts.ExportParts.{ExportParts}
-use Rattle.sys_run.specs.declared.parts.PipeParts.{PipeParts}
 use Rattle.sys_run.specs.declared.parts.ProtocolParts.{ProtocolParts}
 use Rattle.sys_run.specs.declared.protocol.Body.{Body}
 use Rattle.sys_run.specs.declared.protocol.Protocol.{Protocol}

@@ -11,13 +11,10 @@ use Rattle.attrs.specs.declared.judge.Verdict.{Verdict}
 use Rattle.attrs.specs.declared.attributes.Kind.{Kind}
 use Rattle.attrs.specs.declared.attributes.Kind.TheVariants.{Bgp, Static}
 use Rattle.attrs.specs.declared.route.Route.{Route}
-use Rattle.attrs.specs.declared.route.Src.{Src}
 use Rattle.bits_ip.specs.Prefix.{Net}
 use Rattle.bits_ip.specs.declared.address.Family.{Family}
 use Rattle.export_core.specs.Candidates.{among}
 use Rattle.export_core.specs.Passing.{value_by}
-use Rattle.export_core.specs.States.{State as Exporter, value_for}
-use Rattle.export_core.specs.declared.log.Key.{Key}
 use Rattle.export_core.specs.declared.passing.ExportSpec.{ExportSpec}
 use Rattle.import_core.specs.Decisions.{Filter}
 use Rattle.core_machine.specs.Channels as machine
@@ -33,7 +30,7 @@ use Rattle.core_setup.specs.Pairs.{Pairs}
 use Rattle.core_setup.specs.Protocols.{exports_of, exports_to, first_at, is_pipe, protocol_at, rules_of, sources}
 use Rattle.core_setup.specs.Setup.{AreProtocols, Body, Exports, FitsBody, HasSession, IsPipe, IsSetup, IsSource, Protocol, Setup, family_at}
 use Rattle.core_setup.proofs.Numbered.{all_append, beyond_none, channel_belongs}
-use Rattle.core_setup.proofs.PairLemmas.{get_here, get_within, length_front, one_here, take_one_more, pairs_all, pairs_here, pairs_length, weaker_here}
+use Rattle.core_setup.proofs.PairLemmas.{get_here, length_front, one_here, take_one_more, pairs_all, pairs_length, weaker_here}
 use Rattle.core_setup.proofs.Passed.{spec_is, value_is}
 use Rattle.core_setup.proofs.SetupRules.{setup_ways}
 use Rattle.run_tables.specs.Channels.{IsChannel}

@@ -10,7 +10,7 @@ use Rattle.attrs.specs.declared.route.Route.{Route}
 use Rattle.attrs.specs.declared.route.Row.{Row}
 use Rattle.attrs.specs.Table.{Shows}
 use Rattle.export_core.specs.declared.log.LogItem.{LogItem}
-use Rattle.core_machine.specs.Channels.{is_open, times}
+use Rattle.core_machine.specs.Channels.{is_open}
 use Rattle.core_machine.specs.Histories.{content_of, front}
 use Rattle.core_machine.specs.Legal.{Joined}
 use Rattle.core_machine.specs.Lines.{Reply, Turn, ops_of}
@@ -104,7 +104,8 @@ module _ {J : Type 0} (verdict : J → Net → Route → Verdict) where
         → Pairs (λ n answered reply. IsAnswered setup s answered reply) 0 held.items
         (reverse (replies_to actor s.replies))
     -- names
-    pub channels : core.channels.items ≡ map (λ (c : setups.Channel). c.name) (setups.channels setup)
+    pub channels :
+        core.channels.items ≡ map (λ (c : setups.Channel). c.name) (setups.channels setup)
     pub tables : Pairs (λ n seen (held : TableParts). (seen ≡ (held.name, held.family)))
         0 setup.tables core.tables.items
     pub names : core.names.items ≡ protocol_names setup

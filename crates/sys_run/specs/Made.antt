@@ -8,7 +8,6 @@ use Rattle.attrs.specs.declared.judge.Verdict.{Verdict}
 use Rattle.attrs.specs.declared.route.Route.{Route}
 use Rattle.attrs.specs.declared.route.Src.{Src}
 use Rattle.export_core.specs.declared.floors.FeedState.TheVariants.{Done}
-use Rattle.export_core.specs.States.{State as Exporter}
 use Rattle.import_core.specs.Imports.{nothing_yet}
 use Rattle.core_machine.specs.Channels.{new_channel, opened}
 use Rattle.core_machine.specs.Machine.{State}

@@ -231,13 +231,15 @@ impl<J: Judge> Core<J> {
         requires there { number < length self.old.protocols.items }
         requires sources { All (λ (c : HeldChange).
             IsSome c.new → c.num < length self.old.routes.sources.items) changes.items }
-        requires table { (held : HeldProtocol J) → slice_get self.old.protocols.items number ≡ Some held
+        requires table { (held : HeldProtocol J)
+            → slice_get self.old.protocols.items number ≡ Some held
             → ImportsTo (length self.old.routes.tables.items) held.body }
         ensures routes { OnOk result ((setup : Setup) (s : State) (held : HeldProtocol J)
             → AreRoutes J.verdict setup s self.old.routes
             → slice_get self.old.protocols.items number ≡ Some held
             → AreRoutes J.verdict setup
-            (appended (rules_of setup) (table_of held.body) (made_by held.body (reverse changes.items)) s)
+            (appended (rules_of setup) (table_of held.body)
+            (made_by held.body (reverse changes.items)) s)
             self.new.routes) }
         ensures kept { self.new ≡ record self.old { routes = self.new.routes } }
     {
@@ -250,14 +252,16 @@ impl<J: Judge> Core<J> {
     /// A protocol's channels obey, in their order.
     fn obey(&mut self, number: usize, mark: Mark) -> Result<(), OutOfMemory>
         requires there { number < length self.old.protocols.items }
-        requires holds { (held : HeldProtocol J) → slice_get self.old.protocols.items number ≡ Some held
+        requires holds { (held : HeldProtocol J)
+            → slice_get self.old.protocols.items number ≡ Some held
             → MayObey J.verdict mark held.from held.upto self.old.routes }
         ensures routes { OnOk result ((setup : Setup) (s : State) (held : HeldProtocol J)
             → AreRoutes J.verdict setup s self.old.routes
             → slice_get self.old.protocols.items number ≡ Some held
             → AllFit (signal_of mark) held.from held.upto s
             → (t : State)
-            × AllObey (signal_of mark) (rules_of setup) (counted held.from (held.upto - held.from)) s t
+            × AllObey (signal_of mark) (rules_of setup)
+            (counted held.from (held.upto - held.from)) s t
             × AreRoutes J.verdict setup t self.new.routes) }
         ensures kept { self.new ≡ record self.old { routes = self.new.routes } }
     {

@@ -1,4 +1,4 @@
-use Rattle.std.proofs.Common.{◌≡◌, ◌+◌, ℕ, List, Some, arith, ap, ◌∙◌, length}
+use Rattle.std.proofs.Common.{List, arith, ap, ◌∙◌}
 use Rattle.std.proofs.lemmas.List.{take_all}
 use Rattle.sys_run.specs.Made.{directions_in, seen_in}
 use Rattle.sys_run.specs.declared.parts.ProtocolParts.{ProtocolParts}

@@ -1,4 +1,4 @@
-use Rattle.std.proofs.Common.{◌≡◌, ◌≤◌, ◌++◌, ℕ, length, map}
+use Rattle.std.proofs.Common.{◌≡◌, ◌++◌, length, map}
 use Rattle.sys_run.specs.Made.{IsMade, Left, passed_at}
 use Rattle.sys_run.specs.Parts.{table_seen}
 use Rattle.sys_run.proofs.made.make_protocols.Given as goal

@@ -1,6 +1,5 @@
-use Rattle.std.proofs.Common.{◌≡◌, ◌<◌, ℕ, List, Some, length, sym, ap, subst, ◌∙◌, arith}
+use Rattle.std.proofs.Common.{◌≡◌, List, length, sym, ap, subst, ◌∙◌, arith}
 use Rattle.std.specs.Prelude.{slice_get}
-use Rattle.core_setup.specs.Setup.{Setup}
 use Rattle.run_tables.specs.declared.channel.Channel.{Channel}
 use Rattle.sys_run.specs.Made.{AreLists, readers_in}
 use Rattle.sys_run.proofs.MakingRoutes.{reads_within, routes_are, tables_many}

@@ -1,4 +1,4 @@
-use Rattle.std.proofs.Common.{◌≡◌, ◌≤◌, [], length}
+use Rattle.std.proofs.Common.{◌≡◌, [], length}
 use Rattle.sys_run.specs.Made.{AreLists}
 use Rattle.sys_run.proofs.made.no_readers.Given as goal
 

@@ -1,11 +1,10 @@
-use Rattle.std.proofs.Common.{Some, true, false, sym, ap, subst, ◌∙◌, is_some}
+use Rattle.std.proofs.Common.{sym, ap, subst, ◌∙◌}
 use Rattle.core_machine.specs.Channels.{is_open}
 use Rattle.core_machine.specs.Machine.{State}
 use Rattle.core_setup.specs.Protocols.{rules_of}
 use Rattle.run_tables.specs.Routes.{AreRoutes}
 use Rattle.sys_run.specs.Made.{opened_to}
 use Rattle.sys_run.proofs.MakingRoutes.{not_yet, passed_over, pipe_is, risen}
-use Rattle.sys_run.proofs.MakingWays.{item_read}
 use Rattle.sys_run.proofs.made.open_pipe.Goals as goal
 
 pub obey-requires-clause-holds : goal.obey-requires-clause-holds

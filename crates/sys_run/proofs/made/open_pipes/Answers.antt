@@ -1,4 +1,4 @@
-use Rattle.std.proofs.Common.{◌≡◌, ◌≤◌, ◌+◌, ℕ, length, sym, subst, ◌∙◌, arith}
+use Rattle.std.proofs.Common.{◌≤◌, ◌+◌, length, sym, subst, ◌∙◌, arith}
 use Rattle.core_machine.specs.Machine.{State}
 use Rattle.core_setup.specs.Channels.{channels}
 use Rattle.core_setup.specs.Protocols.{rules_of}

@@ -1,5 +1,4 @@
-use Rattle.std.proofs.Common.{◌≡◌, ◌+◌, ℕ, List, length, take, get_or, arith, sym, ap, subst, ◌∙◌}
-use Rattle.core_machine.specs.Ways.{Found}
+use Rattle.std.proofs.Common.{ℕ, List, length, take, sym, subst, ◌∙◌}
 use Rattle.std.proofs.lemmas.List.{take_all}
 use Rattle.sys_run.specs.Made.{AreLists, given_all}
 use Rattle.sys_run.specs.declared.ways.Direction.{Direction}

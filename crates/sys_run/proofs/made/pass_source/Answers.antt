@@ -1,5 +1,4 @@
-use Rattle.std.proofs.Common.{◌≡◌, length, refl, sym, ap, ◌∙◌}
-use Rattle.sys_run.specs.declared.ways.Way.{Way}
+use Rattle.std.proofs.Common.{length, refl, sym, ap, ◌∙◌}
 use Rattle.sys_run.proofs.MakingWays.{within_moved}
 use Rattle.sys_run.proofs.made.pass_source.Goals as goal
 

@@ -1,7 +1,7 @@
 use Rattle.std.proofs.Common.{◌≡◌, ℕ, List, length}
 use Rattle.core_setup.specs.Protocols.{passed_below, rules_of}
-use Rattle.sys_run.specs.Made.{AreLists, seen_in}
-use Rattle.sys_run.specs.Parts.{setup_seen, table_seen}
+use Rattle.sys_run.specs.Made.{AreLists}
+use Rattle.sys_run.specs.Parts.{setup_seen}
 use Rattle.sys_run.specs.declared.parts.TableParts.{TableParts}
 use Rattle.sys_run.proofs.made.passed_by.Given as goal
 

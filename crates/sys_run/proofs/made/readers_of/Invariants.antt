@@ -1,4 +1,4 @@
-use Rattle.std.proofs.Common.{◌≡◌, ℕ, length, take}
+use Rattle.std.proofs.Common.{◌≡◌, length, take}
 use Rattle.sys_run.specs.Made.{AreLists, readers_in}
 use Rattle.sys_run.proofs.made.readers_of.Given as goal
 

@@ -1,7 +1,5 @@
-use Rattle.std.proofs.Common.{◌≡◌, ◌+◌, ℕ, [], ap, subst, sym, ◌∙◌, arith, length, Option, List, Some, None}
-use Rattle.std.specs.Prelude.{◌==◌, if◌then◌else◌, option_map}
-use Rattle.sys_run.specs.Made.{AreFound, found_from, way_of}
-use Rattle.sys_run.specs.declared.ways.Way.{Way}
+use Rattle.std.proofs.Common.{◌≡◌, [], subst, arith}
+use Rattle.sys_run.specs.Made.{AreFound, found_from}
 use Rattle.sys_run.proofs.MakingWays.{found_none, found_push}
 use Rattle.sys_run.proofs.ways.begun.Goals as goal
 

@@ -1,4 +1,4 @@
-use Rattle.std.proofs.Common.{◌≡◌, ◌+◌, ℕ, List, length, take, get_or, arith, sym, ap, subst, ◌∙◌}
+use Rattle.std.proofs.Common.{List, length, take, arith, sym, subst, ◌∙◌}
 use Rattle.core_machine.specs.Ways.{Found}
 use Rattle.std.proofs.lemmas.List.{take_all}
 use Rattle.sys_run.specs.Made.{AreFound, gone_all}

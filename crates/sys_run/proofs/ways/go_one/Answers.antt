@@ -1,4 +1,4 @@
-use Rattle.std.proofs.Common.{List, Option, sym, ap, subst, ◌∙◌}
+use Rattle.std.proofs.Common.{List, Option, sym, subst, ◌∙◌}
 use Rattle.core_machine.specs.Ways.{Found}
 use Rattle.sys_run.specs.Made.{AreFound}
 use Rattle.sys_run.specs.declared.ways.Way.{Way}

@@ -1,5 +1,5 @@
-use Rattle.std.proofs.Common.{◌≡◌, ◌+◌, ◌-◌, suc, ℕ, List, length, arith, sym, ap, subst, ◌∙◌, [], refl}
-use Rattle.sys_run.specs.Made.{AreFound, found_from, gone_all}
+use Rattle.std.proofs.Common.{◌≡◌, ◌+◌, ◌-◌, suc, length, arith, sym, subst}
+use Rattle.sys_run.specs.Made.{AreFound, found_from}
 use Rattle.sys_run.proofs.MakingWays.{within_same}
 use Rattle.sys_run.proofs.ways.ways_from.Goals as goal
 

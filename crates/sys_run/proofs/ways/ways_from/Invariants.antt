@@ -1,4 +1,3 @@
-use Rattle.std.proofs.Common.{◌≡◌, length}
 use Rattle.sys_run.specs.Made.{AreFound, found_from}
 use Rattle.sys_run.proofs.ways.ways_from.Given as goal
 

@@ -1,5 +1,4 @@
 use Rattle.std.proofs.Common.{refl, arith}
-use Rattle.sys_run.specs.declared.protocol.Protocol.{Protocol}
 use Rattle.sys_run.proofs.made.Made.add_protocol.Goals as goal
 
 pub returns-clause-protocols : goal.returns-clause-protocols

@@ -1,6 +1,5 @@
-use Rattle.std.proofs.Common.{◌≡◌, ℕ, List, length, map, refl, sym, ap, subst, ◌∙◌, arith}
+use Rattle.std.proofs.Common.{◌≡◌, List, length, map, refl, sym, subst, arith}
 use Rattle.core_setup.specs.Pairs.{Pairs}
-use Rattle.core_setup.specs.Setup.{Setup}
 use Rattle.sys_run.specs.Made.{AreNew, ArePassed, IsMade, IsMadeTable, passed_at}
 use Rattle.sys_run.specs.Parts.{setup_seen, table_seen}
 use Rattle.sys_run.specs.declared.parts.ProtocolParts.{ProtocolParts}

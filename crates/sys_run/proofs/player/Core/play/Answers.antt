@@ -67,5 +67,5 @@ returns g c = IfOk-weaker c.finish.result _ _ (λ report reported setup scripts 
     let number : c.sync.new.self.phases ≡ old.phases = c.in_ok-sync.ensures.kept.phases ∙ c.in_ok-run.ensures.kept.phases ∙ c.in_ok-begin.ensures.kept.phases in
     let got = reported setup was t done.1 (c.in_ok-begun.ensures setup was (length scripts) played.state played.rests) len in
     played_more v setup actors scripts reports old played c.finish.new.self (phase_of c.args.lines.items) begun.0 ran.0 rounds got.0 report begun.1 ran.1 done.0 got.1
-        (subst (λ n. IsReport setup actors (n + 1) was got.0 report) number got.2)
-        (subst (λ n. Rests v setup (n + 1) (join was got.0) t c.finish.new.self) number got.3)) c.finish.ensures.report
+    (subst (λ n. IsReport setup actors (n + 1) was got.0 report) number got.2)
+    (subst (λ n. Rests v setup (n + 1) (join was got.0) t c.finish.new.self) number got.3)) c.finish.ensures.report

@@ -3,7 +3,6 @@ use Rattle.std.proofs.lemmas.Result.{on_ok_weaker}
 use Rattle.core_machine.specs.Channels.{times}
 use Rattle.core_machine.specs.Machine.{if_open, push_at}
 use Rattle.core_setup.specs.Protocols.{rules_of}
-use Rattle.sys_run.specs.Cores.{IsCore}
 use Rattle.sys_run.proofs.CoreSteps.{behind_if, behind_push, behind_times, core_behind, none_there}
 use Rattle.sys_run.proofs.player.Core.push.Goals as goal
 

@@ -1,4 +1,4 @@
-use Rattle.std.proofs.Common.{◌<◌, [], ◌∷◌, length, refl, arith}
+use Rattle.std.proofs.Common.{◌<◌, ◌∷◌, length, refl, arith}
 use Rattle.core_machine.specs.Lines.{Reply}
 use Rattle.core_setup.proofs.PairLemmas.{length-set_at}
 use Rattle.sys_run.proofs.Asking.{asked, unheard}

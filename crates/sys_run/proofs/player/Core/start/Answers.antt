@@ -1,4 +1,4 @@
-use Rattle.std.proofs.Common.{[], refl, subst, ◌∙◌, arith}
+use Rattle.std.proofs.Common.{[], subst, ◌∙◌, arith}
 use Rattle.std.proofs.lemmas.List.{take_all}
 use Rattle.core_machine.specs.Machine.{Begins}
 use Rattle.core_setup.specs.Protocols.{rules_of, starts_from}

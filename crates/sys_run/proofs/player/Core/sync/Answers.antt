@@ -1,7 +1,5 @@
-use Rattle.std.proofs.Common.{◌≡◌}
 use Rattle.std.proofs.lemmas.Result.{IfOk-weaker}
 use Rattle.core_machine.specs.Channels.{times}
-use Rattle.core_machine.specs.Machine.{State}
 use Rattle.core_machine.specs.Rounds.{round}
 use Rattle.core_setup.specs.Protocols.{rules_of}
 use Rattle.sys_run.proofs.CoreSteps.{behind_rounds, core_behind}

@@ -1,9 +1,7 @@
 use Rattle.std.proofs.Common.{refl, sym, arith}
 use Rattle.std.proofs.lemmas.Result.{on_ok_weaker}
-use Rattle.core_machine.specs.Channels.{times}
 use Rattle.core_machine.specs.Machine.{if_open, takes}
 use Rattle.core_setup.specs.Protocols.{rules_of}
-use Rattle.sys_run.specs.Cores.{IsCore}
 use Rattle.sys_run.proofs.CoreSteps.{behind_if, behind_takes, core_behind, none_there}
 use Rattle.sys_run.proofs.player.Core.take.Goals as goal
 
