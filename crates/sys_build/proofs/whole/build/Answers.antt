@@ -12,14 +12,14 @@ use Rattle.sys_build.proofs.whole.build.Goals as goal
 pub protocols-requires : goal.protocols-requires
 protocols-requires c = c.configurations_have_few_protocols.ensures c.requires.0 (system_of c.args.system.now) c.requires.1
 
-pub make-requires-few : goal.make-requires-few
-make-requires-few c =
+pub make-requires-clause-few : goal.make-requires-clause-few
+make-requires-clause-few c =
     let system = system_of c.args.system.now in
     parts_few (protocol_seen (passes.ghosts).verdict) c.in_ok-protocols.protocols.items system.protocols c.in_ok-protocols.ensures
     (c.configurations_have_few_protocols.ensures c.requires.0 system c.requires.1)
 
-pub make-requires-setup : goal.make-requires-setup
-make-requires-setup c =
+pub make-requires-clause-setup : goal.make-requires-clause-setup
+make-requires-clause-setup c =
     let system = system_of c.args.system.now in
     subst IsSetup
     (sym (handed (passes.ghosts).verdict c.in_ok-tables.tables.items c.in_ok-protocols.protocols.items system c.args.cells c.in_ok-tables.ensures c.in_ok-protocols.ensures))
