@@ -316,7 +316,7 @@ test_puts seen what old a b c d new p q r u w =
 -- ---- calls
 
 -- as many values, where there are any
-abbrev Counted : ℕ → Flow Frame → Type 0
+abbrev pub Counted : ℕ → Flow Frame → Type 0
 Counted n (Done vs attrs) = length vs ≡ n
 Counted n (Stopped why attrs) = ⊤
 

@@ -1,3 +1,5 @@
+pub mod Acting
+pub mod Cases
 pub mod Cost
 pub mod Emitting
 pub mod Walk

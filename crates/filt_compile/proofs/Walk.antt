@@ -12,11 +12,18 @@ use Rattle.conf_ast.specs.declared.filters.MethodKind.{MethodKind}
 use Rattle.conf_ast.specs.declared.filters.AddOp.{AddOp}
 use Rattle.filt_values.specs.declared.value.Failure.{Failure}
 use Rattle.filt_values.specs.Values.{Val}
-use Rattle.filt_meaning.specs.Flow.{Flow, Done, Stopped, Frame, Run, and_then, plainly}
+use Rattle.filt_meaning.specs.Flow.{Accepted, Rejected, Flow, Done, Stopped, Frame, Run, and_then, plainly}
 use Rattle.filt_meaning.specs.Meaning as m
+use Rattle.filt_meaning.specs.Meaning.{Act}
 use Rattle.filt_meaning.specs.Names.{there}
 use Rattle.filt_tree.specs.declared.tree.TAccess.{TAccess}
 use Rattle.filt_tree.specs.declared.tree.TAccess.TheVariants as accesses
+use Rattle.filt_tree.specs.declared.tree.Labels.{Labels}
+use Rattle.filt_tree.specs.declared.tree.TArm.{TArm}
+use Rattle.filt_tree.specs.declared.tree.TStmt.{TStmt, fold-TStmt, the_lemmas as stmt_lemmas}
+use Rattle.filt_tree.specs.declared.tree.TStmt.TheVariants as s
+use Rattle.filt_tree.specs.declared.tree.TStmt.TheOpen.{TStmt-F}
+use Rattle.filt_tree.specs.declared.tree.TTarget.{TTarget}
 use Rattle.filt_tree.specs.declared.tree.TTest.{TTest}
 use Rattle.conf_lex.specs.declared.attribute.Attribute.{Attribute}
 use Rattle.filt_values.specs.declared.fixed.Fixed.{Fixed}
@@ -203,3 +210,78 @@ of-Stuck A step = search (rules, expr_lemmas)
 
 pub stuck_is : (x : TExpr) (t : Tables) → x ≡ e.Stuck → trees.expr x t ≡ m.given (Err failures.Stuck)
 stuck_is x t is = ap (λ (x : TExpr). trees.expr x t) is ∙ ap (λ (f : Tables → Run Val). f t) (of-Stuck _ trees.expr_step)
+
+-- ---- statements
+
+turn_by : (t : Tables) (ss : List TStmt) → trees.in_order (map (trees.over t) (map trees.stmt ss)) ≡ trees.body t ss
+turn_by t ss = ap trees.in_order (by_parts {B = Tables → Act} _ _ _ (λ a. refl) ss)
+
+pub block_is : (t : Tables) (k : Vec Sort Global) (v : Vec TStmt Global) (st : TStmt) (sorts : List Sort) (ss : List TStmt) (vals : Frame) (attrs : Attrs) → st ≡ s.Block k v → sorts ≡ k.items → ss ≡ v.items → trees.stmt st t vals attrs ≡ and_then (trees.run t sorts ss vals attrs) (λ after attrs. Done (take (length vals) after) attrs)
+block_is t k v st sorts ss vals attrs is p q =
+    ap (λ (x : TStmt). trees.stmt x t vals attrs) is
+    ∙ ap (λ (f : Tables → Act). f t vals attrs) (forms.act-of-Block _ trees.stmt_step k v)
+    ∙ ap (λ (a : Act). m.block (map default_of k.items) a vals attrs) (turn_by t v.items)
+    ∙ rw (← p, ← q) refl
+
+pub assign_is : (t : Tables) (target : TTarget) (x : TExpr) (st : TStmt) (vals : Frame) (attrs : Attrs) → st ≡ s.Assign target x → trees.stmt st t vals attrs ≡ and_then (trees.expr x t vals attrs) (λ v attrs. trees.set_place target v vals attrs)
+assign_is t target x st vals attrs is =
+    ap (λ (x : TStmt). trees.stmt x t vals attrs) is ∙ ap (λ (f : Tables → Act). f t vals attrs) (forms.act-of-Assign _ trees.stmt_step target x)
+
+pub if_is : (t : Tables) (x : TExpr) (a : Box TStmt Global) (st first : TStmt) (vals : Frame) (attrs : Attrs) → st ≡ s.If x a → first ≡ a.value → trees.stmt st t vals attrs ≡ m.choice (trees.expr x t) (trees.stmt first t) m.nothing vals attrs
+if_is t x a st first vals attrs is f =
+    ap (λ (x : TStmt). trees.stmt x t vals attrs) is ∙ ap (λ (f : Tables → Act). f t vals attrs) (forms.act-of-If _ trees.stmt_step x a) ∙ rw (← f) refl
+
+pub if_else_is : (t : Tables) (x : TExpr) (a b : Box TStmt Global) (st first second : TStmt) (vals : Frame) (attrs : Attrs) → st ≡ s.IfElse x a b → first ≡ a.value → second ≡ b.value → trees.stmt st t vals attrs ≡ m.choice (trees.expr x t) (trees.stmt first t) (trees.stmt second t) vals attrs
+if_else_is t x a b st first second vals attrs is f g =
+    ap (λ (x : TStmt). trees.stmt x t vals attrs) is ∙ ap (λ (f : Tables → Act). f t vals attrs) (forms.act-of-IfElse _ trees.stmt_step x a b) ∙ rw (← f, ← g) refl
+
+arms_by : (t : Tables) (f : TArm TStmt → TArm (Tables → Act)) → ((a : TArm TStmt) → trees.arm_over t (f a) ≡ trees.arm_of t a) → (xs : List (TArm TStmt)) → map (trees.arm_over t) (map f xs) ≡ trees.arms_of t xs
+arms_by t f same xs = by_parts (trees.arm_over t) f (trees.arm_of t) same xs
+
+pub case_is : (t : Tables) (x : TExpr) (v : Vec (TArm TStmt) Global) (o : Vec TStmt Global) (st : TStmt) (as_arms : List (TArm TStmt)) (otherwise : List TStmt) (vals : Frame) (attrs : Attrs) → st ≡ s.Case x v o → as_arms ≡ v.items → otherwise ≡ o.items → trees.stmt st t vals attrs ≡ m.cases (trees.expr x t) (trees.arms (trees.arms_of t as_arms) (trees.body t otherwise)) vals attrs
+case_is t x v o st as_arms otherwise vals attrs is p q =
+    ap (λ (x : TStmt). trees.stmt x t vals attrs) is
+    ∙ ap (λ (f : Tables → Act). f t vals attrs) (forms.act-of-Case _ trees.stmt_step x v o)
+    ∙ ap (λ (all : List (Labels × Act)). m.cases (trees.expr x t) (trees.arms all (trees.in_order (map (trees.over t) (map trees.stmt o.items)))) vals attrs) (arms_by t _ (λ a. ap (λ (b : Act). (a.labels, b)) (turn_by t a.body.items)) v.items)
+    ∙ ap (λ (b : Act). m.cases (trees.expr x t) (trees.arms (trees.arms_of t v.items) b) vals attrs) (turn_by t o.items)
+    ∙ rw (← p, ← q) refl
+
+pub for_is : (t : Tables) (x : TExpr) (a : Box TStmt Global) (st turn : TStmt) (vals : Frame) (attrs : Attrs) → st ≡ s.For x a → turn ≡ a.value → trees.stmt st t vals attrs ≡ m.loop (trees.expr x t) (trees.stmt turn t) vals attrs
+for_is t x a st turn vals attrs is f =
+    ap (λ (x : TStmt). trees.stmt x t vals attrs) is ∙ ap (λ (f : Tables → Act). f t vals attrs) (forms.act-of-For _ trees.stmt_step x a) ∙ rw (← f) refl
+
+pub return_is : (t : Tables) (o : Option TExpr) (st : TStmt) (vals : Frame) (attrs : Attrs) → st ≡ s.Return o → trees.stmt st t vals attrs ≡ trees.result o t vals attrs
+return_is t o st vals attrs is =
+    ap (λ (x : TStmt). trees.stmt x t vals attrs) is ∙ ap (λ (f : Tables → Act). f t vals attrs) (forms.act-of-Return _ trees.stmt_step o)
+
+pub print_is : (t : Tables) (v : Vec TExpr Global) (st : TStmt) (es : List TExpr) (vals : Frame) (attrs : Attrs) → st ≡ s.Print v → es ≡ v.items → trees.stmt st t vals attrs ≡ and_then (trees.all_values (trees.exprs t es) vals attrs) (λ vs attrs. Done vals attrs)
+print_is t v st es vals attrs is p =
+    ap (λ (x : TStmt). trees.stmt x t vals attrs) is ∙ ap (λ (f : Tables → Act). f t vals attrs) (forms.act-of-Print _ trees.stmt_step v) ∙ rw (← p) refl
+
+pub do_is : (t : Tables) (n : ℕ) (v : Vec TExpr Global) (st : TStmt) (es : List TExpr) (vals : Frame) (attrs : Attrs) → st ≡ s.Call n v → es ≡ v.items → trees.stmt st t vals attrs ≡ and_then (m.call (slice_get t.functions n) (trees.all_values (trees.exprs t es)) vals attrs) (λ given attrs. Done vals attrs)
+do_is t n v st es vals attrs is p =
+    ap (λ (x : TStmt). trees.stmt x t vals attrs) is ∙ ap (λ (f : Tables → Act). f t vals attrs) (forms.act-of-Call _ trees.stmt_step n v) ∙ rw (← p) refl
+
+act-of-Nothing : (A : Type 0) (step : TStmt-F A → A) → fold-TStmt A step s.Nothing ≡ step TStmt-F.Nothing
+act-of-Nothing A step = search (rules, stmt_lemmas)
+
+pub nothing_acts : (x : TStmt) (t : Tables) → x ≡ s.Nothing → trees.stmt x t ≡ m.nothing
+nothing_acts x t is = ap (λ (x : TStmt). trees.stmt x t) is ∙ ap (λ (f : Tables → Act). f t) (act-of-Nothing _ trees.stmt_step)
+
+act-of-Unset : (A : Type 0) (step : TStmt-F A → A) (a : Attribute) → fold-TStmt A step (s.Unset a) ≡ step (TStmt-F.Unset a)
+act-of-Unset A step a = search (rules, stmt_lemmas)
+
+pub unset_acts : (a : Attribute) (x : TStmt) (t : Tables) → x ≡ (s.Unset a) → trees.stmt x t ≡ m.unset a
+unset_acts a x t is = ap (λ (x : TStmt). trees.stmt x t) is ∙ ap (λ (f : Tables → Act). f t) (act-of-Unset _ trees.stmt_step a)
+
+act-of-Accept : (A : Type 0) (step : TStmt-F A → A) → fold-TStmt A step s.Accept ≡ step TStmt-F.Accept
+act-of-Accept A step = search (rules, stmt_lemmas)
+
+pub accept_acts : (x : TStmt) (t : Tables) → x ≡ s.Accept → trees.stmt x t ≡ m.stop Accepted
+accept_acts x t is = ap (λ (x : TStmt). trees.stmt x t) is ∙ ap (λ (f : Tables → Act). f t) (act-of-Accept _ trees.stmt_step)
+
+act-of-Reject : (A : Type 0) (step : TStmt-F A → A) → fold-TStmt A step s.Reject ≡ step TStmt-F.Reject
+act-of-Reject A step = search (rules, stmt_lemmas)
+
+pub reject_acts : (x : TStmt) (t : Tables) → x ≡ s.Reject → trees.stmt x t ≡ m.stop Rejected
+reject_acts x t is = ap (λ (x : TStmt). trees.stmt x t) is ∙ ap (λ (f : Tables → Act). f t) (act-of-Reject _ trees.stmt_step)

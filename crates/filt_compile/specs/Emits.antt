@@ -1,13 +1,20 @@
 -- For private contracts alone: what code comes to that was emitted in front of other code.
-use Rattle.std.specs.Prelude.{◌≡◌, ℕ, List, [], ◌∷◌, ◌++◌, length, map, reverse, Vec}
+use Rattle.std.specs.Prelude.{◌≡◌, ℕ, ◌+◌, ◌-◌, Bool, List, [], ◌∷◌, ◌++◌, length, map, reverse, Vec, ⊤}
 use Rattle.std.specs.Global.{Global}
 use Rattle.attrs.specs.declared.attributes.Attrs.{Attrs}
 use Rattle.filt_values.specs.Seen.{val_of_fixed}
-use Rattle.filt_values.specs.Values.{Val}
-use Rattle.filt_meaning.specs.Flow.{Frame, Run, and_then}
-use Rattle.filt_tree.specs.Trees.{Tables}
+use Rattle.filt_values.specs.declared.value.Sort.{Sort}
+use Rattle.filt_values.specs.Operators.{bool_in}
+use Rattle.filt_values.specs.Values.{Val, default_of}
+use Rattle.filt_meaning.specs.Flow.{Flow, Done, Stopped, Frame, Run, and_then, plainly}
+use Rattle.filt_meaning.specs.Meaning.{Act}
+use Rattle.filt_tree.specs.declared.tree.TArm.{TArm}
+use Rattle.filt_tree.specs.declared.tree.TStmt.{TStmt}
+use Rattle.filt_tree.specs.declared.tree.TTarget.{TTarget}
+use Rattle.filt_tree.specs.Trees.{Tables, body, set_place}
 use Rattle.filt_code.specs.declared.instr.Instr.{Instr}
-use Rattle.filt_code.specs.Codes.{Setting, mean}
+use Rattle.filt_code.specs.declared.instr.Instr.TheVariants as instrs
+use Rattle.filt_code.specs.Codes.{Setting, jump_where, mean}
 use Rattle.filt_compile.specs.declared.seen.Seen.{Seen}
 
 -- code in the order in which it runs
@@ -39,3 +46,74 @@ pub record PutsAll (seen : Seen) (run : Tables → Run Frame) (old new : List In
   pub code : List Instr
   pub grows : new ≡ code ++ old
   pub means : (s : Setting) → length s.functions ≡ seen.functions → (vals : Frame) (os : List Val) (attrs : Attrs) → mean s new 0 vals os attrs ≡ and_then (run (tables_of seen s) vals attrs) (λ vs attrs. mean s old 0 vals (reverse vs ++ os) attrs)
+
+-- The same of a condition, which puts nothing, and passes over n instructions of the old code where
+-- its truth value is this one.
+pub record Asks (seen : Seen) (is : Bool) (n : ℕ) (run : Tables → Run Val) (old new : List Instr) : Type 0 where
+  pub code : List Instr
+  pub grows : new ≡ code ++ old
+  pub means : (s : Setting) → length s.functions ≡ seen.functions → (vals : Frame) (os : List Val) (attrs : Attrs) → mean s new 0 vals os attrs ≡ and_then (run (tables_of seen s) vals attrs) (λ v attrs. and_then (plainly (bool_in v) attrs) (λ b attrs. mean s old (jump_where is n b) vals os attrs))
+
+-- so many variables, where the run goes on
+abbrev pub Leaves : ℕ → Flow Frame → Type 0
+Leaves n (Done after attrs) = length after ≡ n
+Leaves n (Stopped why attrs) = ⊤
+
+-- The new code is other code in front of the old one, which does over so many variables what the
+-- run does.
+pub record Acts (seen : Seen) (depth : ℕ) (run : Tables → Act) (old new : List Instr) : Type 0 where
+  pub code : List Instr
+  pub grows : new ≡ code ++ old
+  pub means : (s : Setting) → length s.functions ≡ seen.functions → (vals : Frame) (attrs : Attrs) → length vals ≡ depth → mean s new 0 vals [] attrs ≡ and_then (run (tables_of seen s) vals attrs) (λ after attrs. mean s old 0 after [] attrs)
+  pub keeps : (t : Tables) (vals : Frame) (attrs : Attrs) → length vals ≡ depth → Leaves depth (run t vals attrs)
+
+-- The same, with variables of these sorts more, which stay.
+pub record Runs (seen : Seen) (depth : ℕ) (sorts : List Sort) (run : Tables → Act) (old new : List Instr) : Type 0 where
+  pub code : List Instr
+  pub grows : new ≡ code ++ old
+  pub means : (s : Setting) → length s.functions ≡ seen.functions → (vals : Frame) (attrs : Attrs) → length vals ≡ depth → mean s new 0 vals [] attrs ≡ and_then (run (tables_of seen s) (vals ++ map default_of sorts) attrs) (λ after attrs. mean s old 0 after [] attrs)
+  pub keeps : (t : Tables) (vals : Frame) (attrs : Attrs) → length vals ≡ depth → Leaves (depth + length sorts) (run t (vals ++ map default_of sorts) attrs)
+
+-- The new code is other code in front of the old one, which makes variables of these sorts.
+pub record Declares (sorts : List Sort) (old new : List Instr) : Type 0 where
+  pub code : List Instr
+  pub grows : new ≡ code ++ old
+  pub means : (s : Setting) (vals : Frame) (os : List Val) (attrs : Attrs) → mean s new 0 vals os attrs ≡ mean s old 0 (vals ++ map default_of sorts) os attrs
+
+-- The new code is other code in front of the old one, by which a target holds the top operand.
+pub record Sets (target : TTarget) (old new : List Instr) : Type 0 where
+  pub code : List Instr
+  pub grows : new ≡ code ++ old
+  pub means : (s : Setting) (v : Val) (vals : Frame) (attrs : Attrs) → mean s new 0 vals (v ∷ []) attrs ≡ and_then (set_place target v vals attrs) (λ after attrs. mean s old 0 after [] attrs)
+
+-- other code in front of the old one
+pub record Grows (old new : List Instr) : Type 0 where
+  pub code : List Instr
+  pub grows : new ≡ code ++ old
+
+-- from a place in the new code on, told by how much code there is from it on, what the run does is
+-- done, and then the old code
+pub record Target (seen : Seen) (depth : ℕ) (run : Tables → Act) (start : ℕ) (old new : List Instr) : Type 0 where
+  pub front : List Instr
+  pub back : List Instr
+  pub is : new ≡ front ++ back
+  pub far : start ≡ length back
+  pub means : (s : Setting) → length s.functions ≡ seen.functions → (vals : Frame) (attrs : Attrs) → length vals ≡ depth → mean s back 0 vals [] attrs ≡ and_then (run (tables_of seen s) vals attrs) (λ after attrs. mean s old 0 after [] attrs)
+  pub keeps : (t : Tables) (vals : Frame) (attrs : Attrs) → length vals ≡ depth → Leaves depth (run t vals attrs)
+
+-- a place for each arm
+abbrev pub Targets : Seen → ℕ → (old new : List Instr) → List (TArm TStmt) → List ℕ → Type 0
+Targets seen depth old new [] [] = ⊤
+Targets seen depth old new [] (start ∷ starts) = ⊥
+Targets seen depth old new (a ∷ as_arms) [] = ⊥
+Targets seen depth old new (a ∷ as_arms) (start ∷ starts) =
+    Target seen depth (λ t. body t a.body.items) start old new × Targets seen depth old new as_arms starts
+
+pub record Bodies (seen : Seen) (depth : ℕ) (as_arms : List (TArm TStmt)) (starts : List ℕ) (old mid new : List Instr) : Type 0 where
+  pub front : Grows mid new
+  pub targets : Targets seen depth old new as_arms starts
+
+-- a jump to each place, the first one first
+abbrev pub jumps_to : List ℕ → List Instr → List Instr
+jumps_to [] old = old
+jumps_to (start ∷ starts) old = let rest = jumps_to starts old in instrs.Jump (length rest - start) ∷ rest

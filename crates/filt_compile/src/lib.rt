@@ -5,6 +5,8 @@
 //! does (`filt_tree/specs/Trees`), with whatever code stands behind it (`specs/Emits`).
 #![tactic(auto)]
 
+mod act;
+mod condition;
 mod emitted;
 mod rest;
 mod seen;

@@ -1,0 +1,22 @@
+use Rattle.std.proofs.Common.{ℕ, ◌≡◌, ◌+◌, ◌-◌, ◌<◌, ◌≤◌, ◌∷◌, List, [], length, map, drop, refl, sym, ap, ◌∙◌, arith}
+use Rattle.std.proofs.lemmas.Result.{on_ok_weaker}
+use Rattle.filt_values.specs.Values.{Val}
+use Rattle.filt_meaning.specs.Flow.{AtEnd, Flow, Frame, Run}
+use Rattle.filt_meaning.specs.Meaning as m
+use Rattle.filt_tree.specs.declared.tree.TTarget.{TTarget}
+use Rattle.filt_tree.specs.Trees as trees
+use Rattle.filt_code.specs.declared.instr.Instr.TheVariants as instrs
+use Rattle.filt_compile.specs.Emits.{ahead, jumps_to, Acts, Asks, Declares, Puts, Sets}
+use Rattle.filt_compile.proofs.Acting as ac
+use Rattle.filt_compile.proofs.Emitting as em
+use Rattle.filt_compile.proofs.Walk as w
+use Rattle.filt_compile.proofs.act.set.Goals as goal
+
+pub returns-in-Local : goal.returns-in-Local
+returns-in-Local c = on_ok_weaker c.push.result (λ is. ac.sets_as c.args.target _ (ahead c.args.out.now) (ahead c.push.new.out) c.in-Local.is (ac.sets_local c.in-Local.place (ahead c.args.out.now) (ahead c.push.new.out) is)) c.push.ensures
+
+pub returns-in-Attribute : goal.returns-in-Attribute
+returns-in-Attribute c = on_ok_weaker c.push-in-Attribute.result (λ is. ac.sets_as c.args.target _ (ahead c.args.out.now) (ahead c.push-in-Attribute.new.out) c.in-Attribute.is (ac.sets_attribute c.in-Attribute.a (ahead c.args.out.now) (ahead c.push-in-Attribute.new.out) is)) c.push-in-Attribute.ensures
+
+pub returns-in-Nowhere : goal.returns-in-Nowhere
+returns-in-Nowhere c = on_ok_weaker c.push-in-Nowhere.result (λ is. ac.sets_as c.args.target _ (ahead c.args.out.now) (ahead c.push-in-Nowhere.new.out) c.in-Nowhere.is (ac.sets_nowhere (ahead c.args.out.now) (ahead c.push-in-Nowhere.new.out) is)) c.push-in-Nowhere.ensures
