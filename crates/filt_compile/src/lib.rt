@@ -7,7 +7,10 @@
 
 mod act;
 mod condition;
+mod drafts;
 mod emitted;
 mod rest;
 mod seen;
 mod value;
+
+pub use drafts::{compile, library};

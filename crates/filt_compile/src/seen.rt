@@ -4,6 +4,7 @@ use filt_values::Fixed;
 use std::alloc::Global;
 
 /// What is seen of a scope.
+#[derive(Clone, Copy)]
 pub(crate) struct Seen<'a> {
     pub(crate) alloc: Global,
     pub(crate) constants: &'a [Fixed],
