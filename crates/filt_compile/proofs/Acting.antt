@@ -1,9 +1,9 @@
 -- What code comes to that does what statements do, a piece in front of another.
 use Rattle.std.proofs.Common.{◌≡◌, ℕ, suc, zero, ◌+◌, ◌-◌, ◌<◌, ◌≤◌, Bool, true, false, List, [], ◌∷◌, ◌++◌, map, reverse, length, take, drop, Option, Some, None, Result, Ok, Err, refl, sym, ap, ◌∙◌, arith, length-append, append_assoc, Vec}
 use Rattle.std.proofs.lemmas.List.{append-nil, length-take, length-map, length-set}
-use Rattle.std.proofs.lemmas.Option.{slice_get_past, slice_get-get_or}
+use Rattle.std.proofs.lemmas.Option.{slice_get_past}
 use Rattle.std.proofs.Math.ListN.{get_or}
-use Rattle.std.specs.Prelude.{slice_get, slice_set, nat_lt, if◌then◌else◌, ⊤}
+use Rattle.std.specs.Prelude.{slice_get, slice_set, nat_lt, if◌then◌else◌}
 use Rattle.std.specs.Global.{Global}
 use Rattle.std.specs.Prelude.{SomeIff}
 use Rattle.std.proofs.lemmas.List.{length-reverse}
@@ -13,15 +13,12 @@ use Rattle.conf_lex.specs.declared.attribute.Attribute.{Attribute}
 use Rattle.filt_values.specs.declared.value.Failure.{Failure}
 use Rattle.filt_values.specs.declared.value.Sort.{Sort}
 use Rattle.filt_values.specs.Operators.{bool_in}
-use Rattle.filt_values.specs.Operators as operators
 use Rattle.filt_values.specs.Values.{Val, default_of}
 use Rattle.filt_meaning.specs.Attributes.{with_attribute, without_attribute}
-use Rattle.filt_meaning.specs.Flow.{AtEnd, Returned, Accepted, Rejected, Stuck, Why, Flow, Done, Stopped, Frame, Run, and_then, plainly}
+use Rattle.filt_meaning.specs.Flow.{Returned, Stuck, Why, Flow, Done, Stopped, Frame, Run, and_then, plainly}
 use Rattle.filt_meaning.specs.Meaning as m
 use Rattle.filt_meaning.specs.Meaning.{Act}
-use Rattle.filt_meaning.specs.Names.{Doing, there}
-use Rattle.filt_tree.specs.declared.tree.Labels.{Labels}
-use Rattle.filt_tree.specs.declared.tree.TArm.{TArm}
+use Rattle.filt_meaning.specs.Names.{Doing}
 use Rattle.filt_tree.specs.declared.tree.TExpr.{TExpr}
 use Rattle.filt_tree.specs.declared.tree.TStmt.{TStmt}
 use Rattle.filt_tree.specs.declared.tree.TTarget.{TTarget}
@@ -33,9 +30,9 @@ use Rattle.filt_code.specs.declared.instr.Effect.TheVariants as effects
 use Rattle.filt_code.specs.declared.instr.Instr.{Instr}
 use Rattle.filt_code.specs.declared.instr.Instr.TheVariants as instrs
 use Rattle.filt_code.specs.declared.instr.Question.TheVariants as questions
-use Rattle.filt_code.specs.Codes.{Setting, mean, jump_where, labels_of, arms_before, before_in, called, over}
+use Rattle.filt_code.specs.Codes.{Setting, mean, jump_where, over}
 use Rattle.filt_compile.specs.declared.seen.Seen.{Seen}
-use Rattle.filt_compile.specs.Emits.{Acts, Asks, Bodies, Declares, Grows, Leaves, Puts, PutsAll, Runs, Sets, Target, Targets, jumps_to, tables_of}
+use Rattle.filt_compile.specs.Emits.{Acts, Asks, Declares, Leaves, Puts, PutsAll, Runs, Sets, tables_of}
 use Rattle.filt_compile.proofs.Emitting as em
 use Rattle.filt_compile.proofs.Emitting.{passed_by, further}
 use Rattle.filt_compile.proofs.Walk as w

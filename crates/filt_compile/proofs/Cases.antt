@@ -1,12 +1,12 @@
 -- What the code of a `case` comes to: the jumps behind the switch, and what they lead to.
-use Rattle.std.proofs.Common.{◌≡◌, ℕ, suc, zero, ◌+◌, ◌-◌, ◌<◌, ◌≤◌, Bool, true, false, List, [], ◌∷◌, ◌++◌, map, length, take, drop, Option, Some, None, Result, Ok, Err, refl, sym, ap, ◌∙◌, arith, length-append, append_assoc}
+use Rattle.std.proofs.Common.{◌≡◌, ℕ, suc, zero, ◌+◌, ◌-◌, ◌<◌, ◌≤◌, Bool, true, false, List, [], ◌∷◌, ◌++◌, length, take, Result, Ok, Err, refl, ap, ◌∙◌, arith}
 use Rattle.std.proofs.Math.ListN.{get_or}
 use Rattle.std.specs.Borrow.{Bor}
 use Rattle.attrs.specs.declared.attributes.Attrs.{Attrs}
 use Rattle.filt_values.specs.declared.value.Failure.{Failure}
 use Rattle.filt_values.specs.Operators as operators
 use Rattle.filt_values.specs.Values.{Val}
-use Rattle.filt_meaning.specs.Flow.{Flow, Done, Stopped, Frame, Run, and_then, plainly}
+use Rattle.filt_meaning.specs.Flow.{Flow, Done, Stopped, Frame, and_then, plainly}
 use Rattle.filt_meaning.specs.Meaning as m
 use Rattle.filt_meaning.specs.Meaning.{Act}
 use Rattle.filt_tree.specs.declared.tree.TArm.{TArm}

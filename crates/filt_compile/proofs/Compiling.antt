@@ -1,13 +1,11 @@
 -- Whole codes, and lists of them.
-use Rattle.std.proofs.Common.{◌≡◌, ℕ, suc, zero, ◌+◌, ◌<◌, ◌≤◌, List, [], ◌∷◌, ◌++◌, map, reverse, length, take, drop, Option, Some, None, refl, sym, ap, ◌∙◌, arith}
+use Rattle.std.proofs.Common.{◌≡◌, ℕ, suc, ◌+◌, ◌<◌, ◌≤◌, List, [], ◌∷◌, ◌++◌, reverse, length, take, Option, refl, sym, ap, ◌∙◌, arith}
 use Rattle.std.proofs.lemmas.List.{take-map}
 use Rattle.std.proofs.Math.ListN.{get_or}
 use Rattle.attrs.specs.declared.attributes.Attrs.{Attrs}
-use Rattle.attrs.specs.declared.judge.Verdict.{Verdict}
 use Rattle.filt_values.specs.declared.fixed.Fixed.{Fixed}
 use Rattle.filt_values.specs.declared.value.Sort.{Sort}
 use Rattle.filt_values.specs.Seen.{val_of_fixed}
-use Rattle.filt_values.specs.Values.{Val}
 use Rattle.filt_meaning.specs.Configuration.{given_by, verdict_of}
 use Rattle.filt_meaning.specs.Flow.{Flow, Done, Stopped, Frame, and_then}
 use Rattle.filt_tree.specs.declared.scope.TFunction.{TFunction}
@@ -16,11 +14,10 @@ use Rattle.filt_tree.specs.Trees as trees
 use Rattle.filt_tree.specs.Trees.{Tables}
 use Rattle.filt_code.specs.declared.code.Routine.{Routine}
 use Rattle.filt_code.specs.declared.instr.Instr.{Instr}
-use Rattle.filt_code.specs.Codes.{Setting, doing, mean}
+use Rattle.filt_code.specs.Codes.{Setting, mean}
 use Rattle.filt_compile.specs.declared.seen.Seen.{Seen}
 use Rattle.filt_compile.specs.Compiles.{beside, AreCompiled, IsCompiled}
 use Rattle.filt_compile.specs.Emits.{Runs, tables_of}
-use Rattle.filt_compile.proofs.Walk.{and_then_done}
 use Rattle.filt_compile.proofs.Cases as cs
 
 -- code with nothing behind it

@@ -1,5 +1,5 @@
 -- A number for each checked tree that is greater than those of its parts, so that a walk ends.
-use Rattle.std.proofs.Common.{◌≡◌, ℕ, suc, zero, ◌+◌, ◌<◌, List, [], ◌∷◌, map, take, Option, Some, None, refl, sym, ap, ◌∙◌, arith, Box, Vec}
+use Rattle.std.proofs.Common.{◌≡◌, ℕ, suc, zero, ◌+◌, ◌<◌, List, [], ◌∷◌, map, Option, Some, None, refl, sym, ap, ◌∙◌, arith, Box, Vec}
 use Rattle.std.specs.Prelude.{slice_get}
 use Rattle.std.specs.Global.{Global}
 use Rattle.std.specs.Borrow.{Bor}

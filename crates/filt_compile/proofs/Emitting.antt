@@ -1,7 +1,7 @@
 -- What code comes to that is emitted from its end, a piece in front of another.
 use Rattle.std.proofs.Common.{◌≡◌, ℕ, suc, zero, ◌+◌, ◌-◌, ◌<◌, ◌≤◌, Bool, true, false, not, List, [], ◌∷◌, ◌++◌, map, reverse, length, take, drop, Option, Some, None, Result, Ok, Err, refl, sym, ap, ◌∙◌, arith, length-append, append_assoc}
-use Rattle.std.proofs.lemmas.List.{append-nil, reverse-append, reverse-reverse, length-reverse}
-use Rattle.std.proofs.lemmas.List.{length-map, length-take, take-append-drop}
+use Rattle.std.proofs.lemmas.List.{reverse-append, reverse-reverse, length-reverse}
+use Rattle.std.proofs.lemmas.List.{length-map}
 use Rattle.std.proofs.lemmas.Option.{slice_get_past, slice_get-get_or}
 use Rattle.std.proofs.Math.ListN.{get_or}
 use Rattle.std.specs.Prelude.{slice_get, ◌==◌, ⊤}
@@ -44,7 +44,7 @@ use Rattle.filt_code.specs.declared.instr.OfOne.{OfOne}
 use Rattle.filt_code.specs.declared.instr.OfOne.TheVariants as of_one
 use Rattle.filt_code.specs.declared.instr.OfTwo.{OfTwo}
 use Rattle.filt_code.specs.declared.instr.Question.TheVariants as questions
-use Rattle.filt_code.specs.Codes.{Setting, At, decides, behind_left, mean, put, effect, jump_where, one_of, two_of, called}
+use Rattle.filt_code.specs.Codes.{Setting, At, decides, behind_left, mean, put, effect, jump_where, one_of, two_of}
 use Rattle.filt_compile.specs.declared.seen.Seen.{Seen}
 use Rattle.filt_compile.specs.Emits.{Makes, Puts, PutsAll, tables_of}
 use Rattle.filt_compile.specs.Parts.{Part, One, Two, Joined, made_by, made_by_all}

@@ -1,7 +1,6 @@
-use Rattle.std.proofs.Common.{◌-◌, ◌≤◌, ◌<◌, length, arith}
+use Rattle.std.proofs.Common.{arith}
 use Rattle.filt_compile.specs.Emits.{ahead}
 use Rattle.filt_compile.proofs.Acting as ac
-use Rattle.filt_compile.proofs.Cases as cs
 use Rattle.filt_compile.proofs.act.declare.Goals as goal
 
 pub loop-n-preserved : goal.loop-n-preserved

@@ -1,6 +1,5 @@
-use Rattle.std.proofs.Common.{◌≡◌, ◌≤◌, length, drop}
-use Rattle.filt_compile.specs.Emits.{ahead, jumps_to, Declares}
-use Rattle.filt_compile.proofs.Acting as ac
+use Rattle.std.proofs.Common.{◌≤◌, length, drop}
+use Rattle.filt_compile.specs.Emits.{ahead, Declares}
 use Rattle.filt_compile.proofs.act.declare.Given as goal
 
 abbrev pub invariant-loop-n : goal.invariant-loop-n

@@ -1,14 +1,10 @@
-use Rattle.std.proofs.Common.{ℕ, ◌≡◌, ◌+◌, ◌-◌, ◌<◌, ◌≤◌, ◌∷◌, List, [], length, map, drop, refl, sym, ap, ◌∙◌, arith}
+use Rattle.std.proofs.Common.{ap}
 use Rattle.std.proofs.lemmas.Result.{on_ok_weaker}
 use Rattle.filt_values.specs.Values.{Val}
-use Rattle.filt_meaning.specs.Flow.{AtEnd, Flow, Frame, Run}
-use Rattle.filt_meaning.specs.Meaning as m
-use Rattle.filt_tree.specs.declared.tree.TTarget.{TTarget}
+use Rattle.filt_meaning.specs.Flow.{Run}
 use Rattle.filt_tree.specs.Trees as trees
-use Rattle.filt_code.specs.declared.instr.Instr.TheVariants as instrs
-use Rattle.filt_compile.specs.Emits.{ahead, jumps_to, Acts, Asks, Declares, Puts, Sets}
+use Rattle.filt_compile.specs.Emits.{ahead}
 use Rattle.filt_compile.proofs.Acting as ac
-use Rattle.filt_compile.proofs.Emitting as em
 use Rattle.filt_compile.proofs.Walk as w
 use Rattle.filt_compile.proofs.condition.condition.Goals as goal
 

@@ -1,4 +1,3 @@
-use Rattle.std.proofs.Common.{refl}
 use Rattle.filt_compile.proofs.Compiling as cm
 use Rattle.filt_compile.proofs.drafts.code.Goals as goal
 

@@ -1,4 +1,4 @@
-use Rattle.std.proofs.Common.{◌∙◌, ◌≤◌, length, arith}
+use Rattle.std.proofs.Common.{◌∙◌, arith}
 use Rattle.filt_compile.proofs.Compiling as cm
 use Rattle.filt_compile.proofs.drafts.library.Goals as goal
 

@@ -1,7 +1,4 @@
 use Rattle.std.proofs.lemmas.Result.{on_ok_weaker}
-use Rattle.filt_meaning.specs.Meaning.{given}
-use Rattle.filt_meaning.specs.Names.{there}
-use Rattle.std.proofs.Common.{slice_get}
 use Rattle.filt_compile.specs.Emits.{ahead}
 use Rattle.filt_compile.proofs.Emitting as em
 use Rattle.filt_compile.proofs.Walk as w
