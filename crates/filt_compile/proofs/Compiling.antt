@@ -1,20 +1,24 @@
 -- Whole codes, and lists of them.
-use Rattle.std.proofs.Common.{◌≡◌, ℕ, suc, ◌+◌, ◌<◌, ◌≤◌, List, [], ◌∷◌, ◌++◌, reverse, length, take, Option, refl, sym, ap, ◌∙◌, arith}
-use Rattle.std.proofs.lemmas.List.{take-map}
+use Rattle.std.proofs.Common.{◌≡◌, ℕ, suc, ◌+◌, ◌<◌, ◌≤◌, List, [], ◌∷◌, ◌++◌, reverse, length, map, length-append, take, Option, refl, sym, ap, ◌∙◌, arith}
+use Rattle.std.proofs.lemmas.List.{length-take, take-map}
 use Rattle.std.proofs.Math.ListN.{get_or}
 use Rattle.attrs.specs.declared.attributes.Attrs.{Attrs}
 use Rattle.filt_values.specs.declared.fixed.Fixed.{Fixed}
 use Rattle.filt_values.specs.declared.value.Sort.{Sort}
 use Rattle.filt_values.specs.Seen.{val_of_fixed}
+use Rattle.filt_values.specs.Values.{Val}
 use Rattle.filt_meaning.specs.Configuration.{given_by, verdict_of}
 use Rattle.filt_meaning.specs.Flow.{Flow, Done, Stopped, Frame, and_then}
+use Rattle.filt_meaning.specs.Names.{Around, Doing}
 use Rattle.filt_tree.specs.declared.scope.TFunction.{TFunction}
+use Rattle.filt_tree.specs.declared.tree.TFilter.{TFilter}
 use Rattle.filt_tree.specs.declared.tree.TStmt.{TStmt}
 use Rattle.filt_tree.specs.Trees as trees
 use Rattle.filt_tree.specs.Trees.{Tables}
+use Rattle.filt_code.specs.declared.code.Draft.{Draft}
 use Rattle.filt_code.specs.declared.code.Routine.{Routine}
 use Rattle.filt_code.specs.declared.instr.Instr.{Instr}
-use Rattle.filt_code.specs.Codes.{Setting, mean}
+use Rattle.filt_code.specs.Codes.{Setting, code_judged, doing, mean, setting, with_routine, with_routines}
 use Rattle.filt_compile.specs.declared.seen.Seen.{Seen}
 use Rattle.filt_compile.specs.Compiles.{beside, AreCompiled, IsCompiled}
 use Rattle.filt_compile.specs.Emits.{Runs, tables_of}
@@ -69,3 +73,40 @@ compiled_more constants number i all rs ends f made lt at count is p q =
 
 pub compiled_end : (constants : List Fixed) (i : ℕ) (all : List TFunction) (rs : List Routine) → length all ≤ i → AreCompiled constants 0 (take i all) rs → AreCompiled constants 0 all rs
 compiled_end constants i all rs le p = rw (← cs.taken_whole all i le) p
+
+-- ---- the same functions
+
+length-table : (t : Tables) (fs : List TFunction) → length (trees.with_functions t fs).functions ≡ length t.functions + length fs
+length-table t [] = omega arith
+length-table t (g ∷ fs) = omega (arith, length-table (trees.with_function t (trees.function t g)) fs, length-append t.functions (trees.function t g ∷ []))
+
+constants_kept : (t : Tables) (fs : List TFunction) → (trees.with_functions t fs).constants ≡ t.constants
+constants_kept t [] = refl
+constants_kept t (g ∷ fs) = constants_kept (trees.with_function t (trees.function t g)) fs
+
+around_kept : (t : Tables) (fs : List TFunction) → (trees.with_functions t fs).around ≡ t.around
+around_kept t [] = refl
+around_kept t (g ∷ fs) = around_kept (trees.with_function t (trees.function t g)) fs
+
+whole_tables : (around : Around) (cs : List Fixed) (fs : List TFunction) (t : Tables) → t ≡ trees.tables around cs fs → t ≡ record { around = around; constants = map val_of_fixed cs; functions = (trees.tables around cs fs).functions }
+whole_tables around cs fs t is =
+    is ∙ parts_are (trees.tables around cs fs) around (map val_of_fixed cs) (around_kept (record { around = around; constants = map val_of_fixed cs; functions = [] }) fs) (constants_kept (record { around = around; constants = map val_of_fixed cs; functions = [] }) fs)
+  where
+    parts_are : (t : Tables) (around : Around) (vs : List Val) → t.around ≡ around → t.constants ≡ vs → t ≡ record { around = around; constants = vs; functions = t.functions }
+    parts_are t around vs p q = rw (← p, ← q) refl
+
+around_of : (s : Setting) (rs : List Routine) → (with_routines s rs).around ≡ s.around
+around_of s [] = refl
+around_of s (r ∷ rs) = around_of (with_routine s (doing s r)) rs
+
+-- over the same functions code says what its filter says
+pub code_says : (around : Around) (constants : List Fixed) (fs : List TFunction) (routines : List Routine) (f : TFilter) (draft : Draft) → draft.functions ≡ f.functions → ((s : Setting) → length s.functions ≡ f.functions → (attrs : Attrs) → verdict_of (mean s draft.code.items 0 [] [] attrs) ≡ verdict_of (trees.run (beside (take f.constants constants) s) f.sorts.items f.body.items [] attrs)) → f.functions ≤ length fs → (setting around (take draft.functions routines)).functions ≡ (trees.tables around (take f.constants constants) (take f.functions fs)).functions → (attrs : Attrs) → code_judged around routines draft attrs ≡ trees.judged around constants fs f attrs
+code_says around constants fs routines f draft count means enough same attrs =
+    means (setting around (take draft.functions routines)) (omega (arith, ap (λ (ds : List Doing). length ds) same, length-table (record { around = around; constants = map val_of_fixed (take f.constants constants); functions = [] }) (take f.functions fs), length-take f.functions fs, enough)) attrs
+    ∙ by_tables (beside (take f.constants constants) (setting around (take draft.functions routines))) (trees.tables around (take f.constants constants) (take f.functions fs)) (beside_is (setting around (take draft.functions routines)) around (take f.constants constants) (trees.tables around (take f.constants constants) (take f.functions fs)).functions (around_of (record { around = around; functions = [] }) (take draft.functions routines)) same ∙ sym (whole_tables around (take f.constants constants) (take f.functions fs) (trees.tables around (take f.constants constants) (take f.functions fs)) refl))
+  where
+    by_tables : (t u : Tables) → t ≡ u → verdict_of (trees.run t f.sorts.items f.body.items [] attrs) ≡ verdict_of (trees.run u f.sorts.items f.body.items [] attrs)
+    by_tables t u is = rw is refl
+
+    beside_is : (s : Setting) (around : Around) (cs : List Fixed) (ds : List Doing) → s.around ≡ around → s.functions ≡ ds → beside cs s ≡ record { around = around; constants = map val_of_fixed cs; functions = ds }
+    beside_is s around cs ds p q = rw (p, q) refl

@@ -1,11 +1,14 @@
 //! The code of filters and of functions.
 
-ghost use Rattle.std.specs.Prelude.{◌≡◌, [], length, take, IfOk, List};
+ghost use Rattle.std.specs.Prelude.{◌≡◌, ◌≤◌, [], length, take, IfOk, List};
 ghost use Rattle.attrs.specs.declared.attributes.Attrs.{Attrs};
 ghost use Rattle.filt_meaning.specs.Configuration.{verdict_of};
 ghost use Rattle.filt_meaning.specs.Flow.{Frame};
 ghost use Rattle.filt_tree.specs.Trees as trees;
-ghost use Rattle.filt_code.specs.Codes.{mean, Setting};
+ghost use Rattle.filt_meaning.specs.Names.{Around};
+ghost use Rattle.filt_tree.specs.declared.scope.TFunction.{TFunction};
+ghost use Rattle.filt_code.specs.declared.code.Routine.{Routine};
+ghost use Rattle.filt_code.specs.Codes.{code_judged, mean, setting, Setting};
 ghost use Rattle.filt_compile.specs.Compiles.{beside, AreCompiled, IsCompiled};
 ghost use Rattle.filt_compile.specs.Emits.{tables_of};
 
@@ -30,6 +33,13 @@ pub fn compile<'a>(
         → verdict_of (mean s draft.code.items 0 [] [] attrs)
         ≡ verdict_of (trees.run (beside (take filter.now.constants constants.now) s)
         filter.now.sorts.items filter.now.body.items [] attrs)) }
+    ensures judged { IfOk result (λ draft. (around : Around) (fs : List TFunction)
+        (routines : List Routine) → filter.now.functions ≤ length fs
+        → (setting around (take draft.functions routines)).functions
+        ≡ (trees.tables around (take filter.now.constants constants.now)
+        (take filter.now.functions fs)).functions
+        → (attrs : Attrs) → code_judged around routines draft attrs
+        ≡ trees.judged around constants.now fs filter.now attrs) }
 {
     let seen = Seen {
         alloc,
