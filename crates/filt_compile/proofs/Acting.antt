@@ -5,15 +5,24 @@ use Rattle.std.proofs.lemmas.Option.{slice_get_past}
 use Rattle.std.proofs.Math.ListN.{get_or}
 use Rattle.std.specs.Prelude.{slice_get, slice_set, nat_lt, if◌then◌else◌}
 use Rattle.std.specs.Global.{Global}
-use Rattle.std.specs.Prelude.{SomeIff}
+use Rattle.std.specs.Borrow.{Bor}
+use Rattle.std.proofs.Common.{Box}
+use Rattle.conf_ast.specs.declared.filters.CompareOp.{CompareOp}
+use Rattle.conf_ast.specs.declared.filters.CompareOp.TheVariants as compare_ops
+use Rattle.conf_lex.specs.declared.attribute.Attribute.TheVariants as attributes
+use Rattle.filt_sets.specs.declared.prefixes.PrefixItem.{PrefixItem}
+use Rattle.filt_tree.specs.declared.tree.TExpr.TheVariants as e
+use Rattle.filt_tree.proofs.Forms as forms
+use Rattle.filt_compile.specs.Emits.{IsAsked, IsNet, IsNetIn, IsSet}
+use Rattle.std.specs.Prelude.{IfSome, SomeIff}
 use Rattle.std.proofs.lemmas.List.{length-reverse}
 use Rattle.filt_compile.specs.Emits.{ahead}
 use Rattle.attrs.specs.declared.attributes.Attrs.{Attrs}
 use Rattle.conf_lex.specs.declared.attribute.Attribute.{Attribute}
 use Rattle.filt_values.specs.declared.value.Failure.{Failure}
 use Rattle.filt_values.specs.declared.value.Sort.{Sort}
-use Rattle.filt_values.specs.Operators.{bool_in}
-use Rattle.filt_values.specs.Values.{Val, default_of}
+use Rattle.filt_values.specs.Operators.{bool_in, matches_of}
+use Rattle.filt_values.specs.Values.{Val, VPrefixSet, default_of}
 use Rattle.filt_meaning.specs.Attributes.{with_attribute, without_attribute}
 use Rattle.filt_meaning.specs.Flow.{Returned, Stuck, Why, Flow, Done, Stopped, Frame, Run, and_then, plainly}
 use Rattle.filt_meaning.specs.Meaning as m
@@ -458,3 +467,27 @@ length_ahead n out is = is ∙ sym (length-reverse out.items)
 
 pub distance_from : (n len before : ℕ) (mid : Vec Instr Global) (old : List Instr) → n ≡ len - before → len ≡ length mid.items → before ≡ length old → n ≡ length (ahead mid) - length old
 distance_from n len before mid old is a b = rw (is, a, b, length-reverse mid.items) refl
+
+pub net_asks : (seen : Seen) (is : Bool) (n : ℕ) (e : TExpr) (set : Bor (List PrefixItem)) (old new : List Instr) → IsNetIn e set.now → new ≡ instrs.JumpIfAsked is (questions.NetIn set) n ∷ old → Asks seen is n (λ t. trees.expr e t) old new
+net_asks seen is n e set old new same front = asks_as seen is n (λ t. m.on_two (m.attribute t.around attributes.Net) (m.given (Ok (VPrefixSet set.now))) matches_of) (λ t. trees.expr e t) old new (λ t vals attrs. ap (λ (f : Run Val). f vals attrs) (same t)) (record {
+  code = instrs.JumpIfAsked is (questions.NetIn set) n ∷ [];
+  grows = front;
+  means = λ s few vals os attrs. ap (λ (code : List Instr). mean s code 0 vals os attrs) front;
+})
+
+pub net_in : (a b : Box TExpr Global) (x first second : TExpr) (set : List PrefixItem) → x ≡ e.Compare compare_ops.Matches a b → first ≡ a.value → second ≡ b.value → IsNet first → IsSet second set → IsNetIn x set
+net_in a b x first second set is f g net there t =
+    ap (λ (x : TExpr). trees.expr x t) is
+    ∙ ap (λ (h : Tables → Run Val). h t) (forms.of-Compare _ trees.expr_step compare_ops.Matches a b)
+    ∙ joined (trees.expr a.value t) (trees.expr b.value t) (m.attribute t.around attributes.Net) (m.given (Ok (VPrefixSet set))) (ap (λ (y : TExpr). trees.expr y t) (sym f) ∙ net t) (ap (λ (y : TExpr). trees.expr y t) (sym g) ∙ there t)
+  where
+    joined : (p q r u : Run Val) → p ≡ r → q ≡ u → m.on_two p q matches_of ≡ m.on_two r u matches_of
+    joined p q r u one two = rw (one, two) refl
+
+pub net_in_some : (op : CompareOp) (a b : Box TExpr Global) (x first second : TExpr) (r : Option (Bor (List PrefixItem))) → x ≡ e.Compare op a b → first ≡ a.value → second ≡ b.value → IfSome r (λ set. IsAsked op first second set.now) → IfSome r (λ set. IsNetIn x set.now)
+net_in_some op a b x first second (Some set) is f g asked = net_in a b x first second set.now (is ∙ ap (λ (op : CompareOp). e.Compare op a b) asked.0) f g asked.1 asked.2
+net_in_some op a b x first second None is f g asked = tt
+
+pub asked_some : (op : CompareOp) (first second : TExpr) (r : Option (Bor (List PrefixItem))) → op ≡ compare_ops.Matches → IsNet first → IfSome r (λ set. IsSet second set.now) → IfSome r (λ set. IsAsked op first second set.now)
+asked_some op first second (Some set) is net there = (is, net, there)
+asked_some op first second None is net there = tt

@@ -1,17 +1,22 @@
 -- For private contracts alone: what code comes to that was emitted in front of other code.
-use Rattle.std.specs.Prelude.{◌≡◌, ℕ, ◌+◌, ◌-◌, Bool, List, [], ◌∷◌, ◌++◌, length, map, reverse, Vec, ⊤}
+use Rattle.std.specs.Prelude.{◌≡◌, ℕ, ◌+◌, ◌-◌, Bool, List, [], ◌∷◌, ◌++◌, length, map, reverse, Vec, Ok, ⊤}
 use Rattle.std.specs.Global.{Global}
 use Rattle.attrs.specs.declared.attributes.Attrs.{Attrs}
 use Rattle.filt_values.specs.Seen.{val_of_fixed}
 use Rattle.filt_values.specs.declared.value.Sort.{Sort}
-use Rattle.filt_values.specs.Operators.{bool_in}
-use Rattle.filt_values.specs.Values.{Val, default_of}
+use Rattle.filt_values.specs.Operators.{bool_in, matches_of}
+use Rattle.filt_values.specs.Values.{Val, VPrefixSet, default_of}
 use Rattle.filt_meaning.specs.Flow.{Flow, Done, Stopped, Frame, Run, and_then, plainly}
-use Rattle.filt_meaning.specs.Meaning.{Act}
+use Rattle.conf_ast.specs.declared.filters.CompareOp.{CompareOp}
+use Rattle.conf_ast.specs.declared.filters.CompareOp.TheVariants as compare_ops
+use Rattle.conf_lex.specs.declared.attribute.Attribute.TheVariants as attributes
+use Rattle.filt_sets.specs.declared.prefixes.PrefixItem.{PrefixItem}
+use Rattle.filt_meaning.specs.Meaning.{Act, attribute, given, on_two}
+use Rattle.filt_tree.specs.declared.tree.TExpr.{TExpr}
 use Rattle.filt_tree.specs.declared.tree.TArm.{TArm}
 use Rattle.filt_tree.specs.declared.tree.TStmt.{TStmt}
 use Rattle.filt_tree.specs.declared.tree.TTarget.{TTarget}
-use Rattle.filt_tree.specs.Trees.{Tables, body, set_place}
+use Rattle.filt_tree.specs.Trees.{Tables, body, expr, set_place}
 use Rattle.filt_code.specs.declared.instr.Instr.{Instr}
 use Rattle.filt_code.specs.declared.instr.Instr.TheVariants as instrs
 use Rattle.filt_code.specs.Codes.{Setting, jump_where, mean}
@@ -117,3 +122,19 @@ pub record Bodies (seen : Seen) (depth : ℕ) (as_arms : List (TArm TStmt)) (sta
 abbrev pub jumps_to : List ℕ → List Instr → List Instr
 jumps_to [] old = old
 jumps_to (start ∷ starts) old = let rest = jumps_to starts old in instrs.Jump (length rest - start) ∷ rest
+
+-- what `net` is
+abbrev pub IsNet : TExpr → Type 0
+IsNet e = (t : Tables) → expr e t ≡ attribute t.around attributes.Net
+
+-- what a set of nets is that stands in the source
+abbrev pub IsSet : TExpr → List PrefixItem → Type 0
+IsSet e set = (t : Tables) → expr e t ≡ given (Ok (VPrefixSet set))
+
+-- `net`, `~` and such a set
+abbrev pub IsAsked : CompareOp → (a b : TExpr) → List PrefixItem → Type 0
+IsAsked op a b set = (op ≡ compare_ops.Matches) × IsNet a × IsSet b set
+
+-- what `net ~ set` is
+abbrev pub IsNetIn : TExpr → List PrefixItem → Type 0
+IsNetIn e set = (t : Tables) → expr e t ≡ on_two (attribute t.around attributes.Net) (given (Ok (VPrefixSet set))) matches_of
