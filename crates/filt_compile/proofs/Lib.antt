@@ -1,0 +1,6 @@
+pub mod Acting
+pub mod Cases
+pub mod Compiling
+pub mod Cost
+pub mod Emitting
+pub mod Walk

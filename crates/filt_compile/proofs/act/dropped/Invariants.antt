@@ -1,0 +1,13 @@
+use Rattle.std.proofs.Common.{◌≤◌, length, drop}
+use Rattle.filt_compile.specs.Emits.{ahead}
+use Rattle.filt_compile.proofs.Acting as ac
+use Rattle.filt_compile.proofs.act.dropped.Given as goal
+
+abbrev pub invariant-loop-n : goal.invariant-loop-n
+invariant-loop-n l = record {
+  low : l.n ≤ length l.es;
+  made : ac.Printed l.seen l.depth (drop l.n l.es) (ahead l.initial.out) (ahead l.out);
+}
+
+abbrev pub decreases-loop-n : goal.decreases-loop-n
+decreases-loop-n l = l.n

@@ -1,0 +1,16 @@
+use Rattle.std.proofs.Common.{refl, ap}
+use Rattle.std.proofs.lemmas.Result.{on_ok_weaker}
+use Rattle.filt_meaning.specs.Flow.{AtEnd}
+use Rattle.filt_tree.specs.declared.tree.TExpr.{TExpr}
+use Rattle.std.proofs.Common.{Option}
+use Rattle.filt_tree.specs.Trees as trees
+use Rattle.filt_code.specs.declared.instr.Instr.TheVariants as instrs
+use Rattle.filt_compile.specs.Emits.{ahead}
+use Rattle.filt_compile.proofs.Acting as ac
+use Rattle.filt_compile.proofs.act.give.Goals as goal
+
+pub returns-in-None : goal.returns-in-None
+returns-in-None c = on_ok_weaker c.push.result (λ is. ac.acts_as c.args.seen.now c.args.depth _ (λ t. trees.result c.args.e.now t) (ahead c.args.out.now) (ahead c.push.new.out) (λ u vals attrs. ap (λ (x : Option TExpr). trees.result x u vals attrs) c.in-None.is) (ac.acts_stop c.args.seen.now c.args.depth instrs.ReturnNothing AtEnd (ahead c.args.out.now) (ahead c.push.new.out) is (λ s vals attrs. refl))) c.push.ensures
+
+pub returns-in_ok-push-in-Some : goal.returns-in_ok-push-in-Some
+returns-in_ok-push-in-Some c = on_ok_weaker c.value.result (λ p. ac.acts_as c.args.seen.now c.args.depth _ (λ t. trees.result c.args.e.now t) (ahead c.args.out.now) (ahead c.value.new.out) (λ u vals attrs. ap (λ (x : Option TExpr). trees.result x u vals attrs) c.in-Some.is) (ac.acts_give c.args.seen.now c.args.depth _ (ahead c.args.out.now) (ahead c.push-in-Some.new.out) (ahead c.value.new.out) c.in_ok-push-in-Some.ensures p)) c.value.ensures

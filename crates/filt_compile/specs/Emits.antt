@@ -1,0 +1,140 @@
+-- For private contracts alone: what code comes to that was emitted in front of other code.
+use Rattle.std.specs.Prelude.{◌≡◌, ℕ, ◌+◌, ◌-◌, Bool, List, [], ◌∷◌, ◌++◌, length, map, reverse, Vec, Ok, ⊤}
+use Rattle.std.specs.Global.{Global}
+use Rattle.attrs.specs.declared.attributes.Attrs.{Attrs}
+use Rattle.filt_values.specs.Seen.{val_of_fixed}
+use Rattle.filt_values.specs.declared.value.Sort.{Sort}
+use Rattle.filt_values.specs.Operators.{bool_in, matches_of}
+use Rattle.filt_values.specs.Values.{Val, VPrefixSet, default_of}
+use Rattle.filt_meaning.specs.Flow.{Flow, Done, Stopped, Frame, Run, and_then, plainly}
+use Rattle.conf_ast.specs.declared.filters.CompareOp.{CompareOp}
+use Rattle.conf_ast.specs.declared.filters.CompareOp.TheVariants as compare_ops
+use Rattle.conf_lex.specs.declared.attribute.Attribute.TheVariants as attributes
+use Rattle.filt_sets.specs.declared.prefixes.PrefixItem.{PrefixItem}
+use Rattle.filt_meaning.specs.Meaning.{Act, attribute, given, on_two}
+use Rattle.filt_tree.specs.declared.tree.TExpr.{TExpr}
+use Rattle.filt_tree.specs.declared.tree.TArm.{TArm}
+use Rattle.filt_tree.specs.declared.tree.TStmt.{TStmt}
+use Rattle.filt_tree.specs.declared.tree.TTarget.{TTarget}
+use Rattle.filt_tree.specs.Trees.{Tables, body, expr, set_place}
+use Rattle.filt_code.specs.declared.instr.Instr.{Instr}
+use Rattle.filt_code.specs.declared.instr.Instr.TheVariants as instrs
+use Rattle.filt_code.specs.Codes.{Setting, jump_where, mean}
+use Rattle.filt_compile.specs.declared.seen.Seen.{Seen}
+
+-- code in the order in which it runs
+abbrev pub ahead : Vec Instr Global → List Instr
+ahead out = reverse out.items
+
+-- what trees are run over where code is run over this setting
+abbrev pub tables_of : Seen → Setting → Tables
+tables_of seen s = record {
+  around = s.around;
+  constants = map val_of_fixed seen.constants.now;
+  functions = s.functions;
+}
+
+-- The new code is other code in front of the old one, which puts what the run gives.
+pub record Puts (seen : Seen) (run : Tables → Run Val) (old new : List Instr) : Type 0 where
+  pub code : List Instr
+  pub grows : new ≡ code ++ old
+  pub means : (s : Setting) → length s.functions ≡ seen.functions → (vals : Frame) (os : List Val) (attrs : Attrs) → mean s new 0 vals os attrs ≡ and_then (run (tables_of seen s) vals attrs) (λ v attrs. mean s old 0 vals (v ∷ os) attrs)
+
+-- The same, where it takes a value and puts what is made of it.
+pub record Makes (seen : Seen) (make : Tables → Val → Run Val) (old new : List Instr) : Type 0 where
+  pub code : List Instr
+  pub grows : new ≡ code ++ old
+  pub means : (s : Setting) → length s.functions ≡ seen.functions → (v : Val) (vals : Frame) (os : List Val) (attrs : Attrs) → mean s new 0 vals (v ∷ os) attrs ≡ and_then (make (tables_of seen s) v vals attrs) (λ w attrs. mean s old 0 vals (w ∷ os) attrs)
+
+-- The same, where it puts several values, the last one on top.
+pub record PutsAll (seen : Seen) (run : Tables → Run Frame) (old new : List Instr) : Type 0 where
+  pub code : List Instr
+  pub grows : new ≡ code ++ old
+  pub means : (s : Setting) → length s.functions ≡ seen.functions → (vals : Frame) (os : List Val) (attrs : Attrs) → mean s new 0 vals os attrs ≡ and_then (run (tables_of seen s) vals attrs) (λ vs attrs. mean s old 0 vals (reverse vs ++ os) attrs)
+
+-- The same of a condition, which puts nothing, and passes over n instructions of the old code where
+-- its truth value is this one.
+pub record Asks (seen : Seen) (is : Bool) (n : ℕ) (run : Tables → Run Val) (old new : List Instr) : Type 0 where
+  pub code : List Instr
+  pub grows : new ≡ code ++ old
+  pub means : (s : Setting) → length s.functions ≡ seen.functions → (vals : Frame) (os : List Val) (attrs : Attrs) → mean s new 0 vals os attrs ≡ and_then (run (tables_of seen s) vals attrs) (λ v attrs. and_then (plainly (bool_in v) attrs) (λ b attrs. mean s old (jump_where is n b) vals os attrs))
+
+-- so many variables, where the run goes on
+abbrev pub Leaves : ℕ → Flow Frame → Type 0
+Leaves n (Done after attrs) = length after ≡ n
+Leaves n (Stopped why attrs) = ⊤
+
+-- The new code is other code in front of the old one, which does over so many variables what the
+-- run does.
+pub record Acts (seen : Seen) (depth : ℕ) (run : Tables → Act) (old new : List Instr) : Type 0 where
+  pub code : List Instr
+  pub grows : new ≡ code ++ old
+  pub means : (s : Setting) → length s.functions ≡ seen.functions → (vals : Frame) (attrs : Attrs) → length vals ≡ depth → mean s new 0 vals [] attrs ≡ and_then (run (tables_of seen s) vals attrs) (λ after attrs. mean s old 0 after [] attrs)
+  pub keeps : (t : Tables) (vals : Frame) (attrs : Attrs) → length vals ≡ depth → Leaves depth (run t vals attrs)
+
+-- The same, with variables of these sorts more, which stay.
+pub record Runs (seen : Seen) (depth : ℕ) (sorts : List Sort) (run : Tables → Act) (old new : List Instr) : Type 0 where
+  pub code : List Instr
+  pub grows : new ≡ code ++ old
+  pub means : (s : Setting) → length s.functions ≡ seen.functions → (vals : Frame) (attrs : Attrs) → length vals ≡ depth → mean s new 0 vals [] attrs ≡ and_then (run (tables_of seen s) (vals ++ map default_of sorts) attrs) (λ after attrs. mean s old 0 after [] attrs)
+  pub keeps : (t : Tables) (vals : Frame) (attrs : Attrs) → length vals ≡ depth → Leaves (depth + length sorts) (run t (vals ++ map default_of sorts) attrs)
+
+-- The new code is other code in front of the old one, which makes variables of these sorts.
+pub record Declares (sorts : List Sort) (old new : List Instr) : Type 0 where
+  pub code : List Instr
+  pub grows : new ≡ code ++ old
+  pub means : (s : Setting) (vals : Frame) (os : List Val) (attrs : Attrs) → mean s new 0 vals os attrs ≡ mean s old 0 (vals ++ map default_of sorts) os attrs
+
+-- The new code is other code in front of the old one, by which a target holds the top operand.
+pub record Sets (target : TTarget) (old new : List Instr) : Type 0 where
+  pub code : List Instr
+  pub grows : new ≡ code ++ old
+  pub means : (s : Setting) (v : Val) (vals : Frame) (attrs : Attrs) → mean s new 0 vals (v ∷ []) attrs ≡ and_then (set_place target v vals attrs) (λ after attrs. mean s old 0 after [] attrs)
+
+-- other code in front of the old one
+pub record Grows (old new : List Instr) : Type 0 where
+  pub code : List Instr
+  pub grows : new ≡ code ++ old
+
+-- from a place in the new code on, told by how much code there is from it on, what the run does is
+-- done, and then the old code
+pub record Target (seen : Seen) (depth : ℕ) (run : Tables → Act) (start : ℕ) (old new : List Instr) : Type 0 where
+  pub front : List Instr
+  pub back : List Instr
+  pub is : new ≡ front ++ back
+  pub far : start ≡ length back
+  pub means : (s : Setting) → length s.functions ≡ seen.functions → (vals : Frame) (attrs : Attrs) → length vals ≡ depth → mean s back 0 vals [] attrs ≡ and_then (run (tables_of seen s) vals attrs) (λ after attrs. mean s old 0 after [] attrs)
+  pub keeps : (t : Tables) (vals : Frame) (attrs : Attrs) → length vals ≡ depth → Leaves depth (run t vals attrs)
+
+-- a place for each arm
+abbrev pub Targets : Seen → ℕ → (old new : List Instr) → List (TArm TStmt) → List ℕ → Type 0
+Targets seen depth old new [] [] = ⊤
+Targets seen depth old new [] (start ∷ starts) = ⊥
+Targets seen depth old new (a ∷ as_arms) [] = ⊥
+Targets seen depth old new (a ∷ as_arms) (start ∷ starts) =
+    Target seen depth (λ t. body t a.body.items) start old new × Targets seen depth old new as_arms starts
+
+pub record Bodies (seen : Seen) (depth : ℕ) (as_arms : List (TArm TStmt)) (starts : List ℕ) (old mid new : List Instr) : Type 0 where
+  pub front : Grows mid new
+  pub targets : Targets seen depth old new as_arms starts
+
+-- a jump to each place, the first one first
+abbrev pub jumps_to : List ℕ → List Instr → List Instr
+jumps_to [] old = old
+jumps_to (start ∷ starts) old = let rest = jumps_to starts old in instrs.Jump (length rest - start) ∷ rest
+
+-- what `net` is
+abbrev pub IsNet : TExpr → Type 0
+IsNet e = (t : Tables) → expr e t ≡ attribute t.around attributes.Net
+
+-- what a set of nets is that stands in the source
+abbrev pub IsSet : TExpr → List PrefixItem → Type 0
+IsSet e set = (t : Tables) → expr e t ≡ given (Ok (VPrefixSet set))
+
+-- `net`, `~` and such a set
+abbrev pub IsAsked : CompareOp → (a b : TExpr) → List PrefixItem → Type 0
+IsAsked op a b set = (op ≡ compare_ops.Matches) × IsNet a × IsSet b set
+
+-- what `net ~ set` is
+abbrev pub IsNetIn : TExpr → List PrefixItem → Type 0
+IsNetIn e set = (t : Tables) → expr e t ≡ on_two (attribute t.around attributes.Net) (given (Ok (VPrefixSet set))) matches_of

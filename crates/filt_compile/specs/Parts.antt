@@ -1,0 +1,60 @@
+-- For private contracts alone: what follows an operand, as a list of operators.
+use Rattle.std.specs.Prelude.{List, [], ◌∷◌, map}
+use Rattle.conf_ast.specs.declared.filters.LogicalOp.{LogicalOp}
+use Rattle.filt_values.specs.Operators.{bool_in}
+use Rattle.filt_values.specs.Values.{Val}
+use Rattle.filt_meaning.specs.Flow.{Done, Run, and_then, plainly}
+use Rattle.filt_meaning.specs.Meaning.{right_side}
+use Rattle.filt_tree.specs.declared.tree.TAccess.{TAccess}
+use Rattle.filt_tree.specs.declared.tree.TAccess.TheVariants as accesses
+use Rattle.filt_tree.specs.declared.tree.TExpr.{TExpr}
+use Rattle.filt_tree.specs.Trees.{Tables, expr}
+use Rattle.filt_code.specs.declared.instr.OfOne.{OfOne}
+use Rattle.filt_code.specs.declared.instr.OfOne.TheVariants as of_one
+use Rattle.filt_code.specs.declared.instr.OfTwo.{OfTwo}
+use Rattle.filt_code.specs.declared.instr.OfTwo.TheVariants as of_two
+use Rattle.filt_code.specs.Codes.{one_of, two_of}
+use Rattle.filt_compile.specs.declared.rest.Rest.{Rest}
+use Rattle.filt_compile.specs.declared.rest.Rest.TheVariants as rests
+use Rattle.filt_compile.specs.declared.rest.Step.{Step}
+use Rattle.filt_compile.specs.declared.rest.Step.TheVariants as steps
+
+-- what makes another value of a value: an operator, with its right operand
+pub data Part : Type 0 where
+  One : OfOne → Part
+  Two : OfTwo → TExpr → Part
+  Joined : LogicalOp → TExpr → Part
+
+abbrev pub part_of : Step → Part
+part_of (steps.One op) = One op
+part_of (steps.Two op e) = Two op e.now
+part_of (steps.Joined joint e) = Joined joint e.now
+
+abbrev pub part_of_access : TAccess TExpr → Part
+part_of_access (accesses.Property property) = One (of_one.Property property)
+part_of_access (accesses.Method kind e) = Two (of_two.Method kind) e
+
+abbrev pub parts_of : Rest → List Part
+parts_of rests.Not = One of_one.Not ∷ []
+parts_of rests.Empty = One of_one.Empty ∷ []
+parts_of (rests.Pair e) = Two of_two.Pair e.now ∷ []
+parts_of (rests.Method kind e) = Two (of_two.Method kind) e.now ∷ []
+parts_of (rests.Compare compare e) = Two (of_two.Compare compare) e.now ∷ []
+parts_of (rests.Accesses more) = map part_of_access more.now
+parts_of (rests.Factors more) = map (λ x. Two (of_two.Factor x.0) x.1) more.now
+parts_of (rests.Terms more) = map (λ x. Two (of_two.Term x.0) x.1) more.now
+parts_of (rests.Joints more) = map (λ x. Joined x.0 x.1) more.now
+
+-- what a part makes of a value
+abbrev pub made_by : Tables → Part → Val → Run Val
+made_by t (One op) v vals attrs = plainly (one_of op v) attrs
+made_by t (Two op e) v vals attrs =
+    and_then (expr e t vals attrs) (λ w attrs. plainly (two_of op v w) attrs)
+made_by t (Joined joint e) v vals attrs =
+    and_then (plainly (bool_in v) attrs) (λ left attrs. right_side joint left (expr e t) vals attrs)
+
+-- one part after another
+abbrev pub made_by_all : Tables → List Part → Val → Run Val
+made_by_all t [] v vals attrs = Done v attrs
+made_by_all t (part ∷ more) v vals attrs =
+    and_then (made_by t part v vals attrs) (λ w attrs. made_by_all t more w vals attrs)

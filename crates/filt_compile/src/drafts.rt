@@ -1,0 +1,123 @@
+//! The code of filters and of functions.
+
+ghost use Rattle.std.specs.Prelude.{◌≡◌, ◌≤◌, [], length, take, IfOk, List};
+ghost use Rattle.attrs.specs.declared.attributes.Attrs.{Attrs};
+ghost use Rattle.filt_meaning.specs.Configuration.{verdict_of};
+ghost use Rattle.filt_meaning.specs.Flow.{Frame};
+ghost use Rattle.filt_tree.specs.Trees as trees;
+ghost use Rattle.filt_meaning.specs.Names.{Around};
+ghost use Rattle.filt_tree.specs.declared.scope.TFunction.{TFunction};
+ghost use Rattle.filt_code.specs.declared.code.Routine.{Routine};
+ghost use Rattle.filt_code.specs.Codes.{code_judged, mean, setting, Setting};
+ghost use Rattle.filt_compile.specs.Compiles.{beside, AreCompiled, IsCompiled};
+ghost use Rattle.filt_compile.specs.Emits.{tables_of};
+
+use crate::act::block;
+use crate::seen::Seen;
+use bits_ip::OutOfMemory;
+use filt_code::{Draft, Instr, Routine};
+use filt_tree::{TFilter, TFunction, TStmt};
+use filt_values::{Fixed, Sort};
+use std::alloc::Global;
+
+/// The code of a filter, over the constants of the scope, of which it sees the first. It does what
+/// the filter's statements do, wherever the same functions can be called, as many as it sees.
+pub fn compile<'a>(
+    alloc: Global,
+    constants: &'a [Fixed],
+    filter: &'a TFilter,
+) -> Result<Draft<'a>, OutOfMemory>
+    ensures functions { IfOk result (λ draft. draft.functions ≡ filter.now.functions) }
+    ensures judges { IfOk result (λ draft. (s : Setting)
+        → length s.functions ≡ filter.now.functions → (attrs : Attrs)
+        → verdict_of (mean s draft.code.items 0 [] [] attrs)
+        ≡ verdict_of (trees.run (beside (take filter.now.constants constants.now) s)
+        filter.now.sorts.items filter.now.body.items [] attrs)) }
+    ensures judged { IfOk result (λ draft. (around : Around) (fs : List TFunction)
+        (routines : List Routine) → filter.now.functions ≤ length fs
+        → (setting around (take draft.functions routines)).functions
+        ≡ (trees.tables around (take filter.now.constants constants.now)
+        (take filter.now.functions fs)).functions
+        → (attrs : Attrs) → code_judged around routines draft attrs
+        ≡ trees.judged around constants.now fs filter.now attrs) }
+{
+    let seen = Seen {
+        alloc,
+        constants: first(constants, filter.constants),
+        functions: filter.functions,
+    };
+    let code = code(&seen, &filter.sorts, &filter.body, 0)?;
+    Ok(Draft {
+        functions: filter.functions,
+        code,
+    })
+}
+
+/// The code of functions, each of which calls earlier ones alone, over the constants of the scope.
+pub fn library<'a>(
+    alloc: Global,
+    constants: &'a [Fixed],
+    functions: &'a [TFunction],
+) -> Result<Vec<Routine<'a>>, OutOfMemory>
+    ensures { IfOk result (λ routines. AreCompiled constants.now 0 functions.now routines.items) }
+{
+    let mut routines = Vec::new(alloc);
+    for function in functions {
+        let number = routines.len();
+        let made = routine(alloc, constants, number, function)?;
+        routines.push(made)?;
+    }
+    Ok(routines)
+}
+
+/// The code of the function of this number.
+fn routine<'a>(
+    alloc: Global,
+    constants: &'a [Fixed],
+    number: usize,
+    function: &'a TFunction,
+) -> Result<Routine<'a>, OutOfMemory>
+    ensures { IfOk result (λ made. IsCompiled constants.now number function.now made) }
+{
+    let seen = Seen {
+        alloc,
+        constants: first(constants, function.constants),
+        functions: number,
+    };
+    let arguments = function.parameters.len();
+    let code = code(&seen, &function.sorts, &function.body, arguments)?;
+    Ok(Routine {
+        parameters: &function.parameters,
+        gives: function.gives,
+        code,
+    })
+}
+
+/// The code of statements over variables of these sorts behind so many arguments.
+fn code<'a>(
+    seen: &Seen<'a>,
+    sorts: &'a [Sort],
+    statements: &'a [TStmt],
+    arguments: usize,
+) -> Result<Vec<Instr<'a>>, OutOfMemory>
+    ensures { IfOk result (λ code. (s : Setting) → length s.functions ≡ seen.now.functions
+        → (vals : Frame) (attrs : Attrs) → length vals ≡ arguments
+        → mean s code.items 0 vals [] attrs
+        ≡ trees.run (tables_of seen.now s) sorts.now statements.now vals attrs) }
+{
+    let mut out = Vec::new(seen.alloc);
+    block(seen, sorts, statements, arguments, &mut out)?;
+    out.reverse();
+    Ok(out)
+}
+
+/// The first items, or all where there are fewer.
+fn first<T>(items: &[T], count: usize) -> &[T]
+    ensures { result.now ≡ take count items.now }
+{
+    if count < items.len() {
+        &items[..count]
+    } else {
+        items
+    }
+}
