@@ -5,7 +5,7 @@ use Rattle.std.proofs.lemmas.List.{nil_from_length}
 use Rattle.text.specs.Lines.{is_blank}
 use Rattle.text.specs.Cut.{behind, is_word_byte}
 use Rattle.text.proofs.LineCuts.{filled_from_test}
-use Rattle.text.proofs.WordCuts.{words_cut_none, words_cut, words_cut_shorter}
+use Rattle.text.proofs.WordCuts.{words_cut_none, words_cut, words_cut_shorter, behind_cut}
 use Rattle.text.proofs.words.next_word.Goals as goal
 
 pub returns-then-is_empty-clause-word : goal.returns-then-is_empty-clause-word
@@ -30,3 +30,11 @@ returns-clause-shorter c =
     let text : behind_blanks ≡ behind is_blank rest = c.split_at.ensures.back ∙ ap (λ (n : ℕ). drop n rest) c.blank_len.ensures.len in
     let after : c.split_at-2.result.1.now ≡ behind is_word_byte behind_blanks = c.split_at-2.ensures.back ∙ ap (λ (n : ℕ). drop n behind_blanks) c.word_len.ensures.len in
     words_cut_shorter rest behind_blanks _ text (filled_from_test behind_blanks c.if-is_empty.ensures) after
+
+pub returns-clause-behind : goal.returns-clause-behind
+returns-clause-behind c =
+    let rest = c.args.rest.now in
+    let behind_blanks = c.split_at.result.1.now in
+    let text : behind_blanks ≡ behind is_blank rest = c.split_at.ensures.back ∙ ap (λ (n : ℕ). drop n rest) c.blank_len.ensures.len in
+    let after : c.split_at-2.result.1.now ≡ behind is_word_byte behind_blanks = c.split_at-2.ensures.back ∙ ap (λ (n : ℕ). drop n behind_blanks) c.word_len.ensures.len in
+    behind_cut rest behind_blanks _ text (filled_from_test behind_blanks c.if-is_empty.ensures) after
