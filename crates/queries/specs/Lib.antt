@@ -1,0 +1,4 @@
+pub mod Name
+pub mod Question
+pub mod Seen
+pub mod Inside
