@@ -3,6 +3,7 @@ use Rattle.std.proofs.Common.{◌≡◌, ◌≤◌, ℕ, ◌+◌, Bool, true, fa
 use Rattle.std.proofs.lemmas.List.{append_cancel_right}
 use Rattle.bits_ip.specs.Prefix.{Net}
 use Rattle.bits_ip.specs.declared.address.Family.{Family}
+use Rattle.attrs.specs.History.{Content}
 use Rattle.attrs.specs.declared.attributes.Attrs.{Attrs}
 use Rattle.attrs.proofs.Shown.{Shows-one}
 use Rattle.export_core.specs.declared.log.Key.{Key}
@@ -15,7 +16,8 @@ use Rattle.report.specs.declared.phase.ProtocolReport.{ProtocolReport}
 use Rattle.report.specs.declared.phase.ReplyReport.{ReplyReport}
 use Rattle.report.specs.declared.phase.Standing.{Standing}
 use Rattle.report.specs.declared.phase.TableReport.{TableReport}
-use Rattle.show_route.specs.Reply.{reply_text}
+use Rattle.show_route.specs.Shown.{Choice, IsReply, Sender}
+use Rattle.show_route.specs.declared.query.Query.{Query}
 use Rattle.core_machine.specs.Histories.{content_of, front}
 use Rattle.core_machine.specs.Legal.{Joined, Printed, join, nothing}
 use Rattle.core_machine.specs.Lines.{Act, Line, Reply}
@@ -27,6 +29,7 @@ use Rattle.core_setup.specs.Channels.{Channel, channels}
 use Rattle.core_setup.specs.Pairs.{Pairs}
 use Rattle.core_setup.specs.Plays.{IsPlay}
 use Rattle.core_setup.specs.Protocols.{rules_of, starts}
+use Rattle.core_setup.specs.Queries.{choice_of, sends_of}
 use Rattle.core_setup.specs.Reports.{AreReports, AreStanding, IsExportReport, IsReplyReport, IsReport, IsStandingReport, IsTableReport, channel_report, journal_report, mode_report, protocol_names, protocol_report, replies_from, standing_of, table_name}
 use Rattle.core_setup.specs.Setup.{IsSetup, Protocol, Setup}
 use Rattle.core_setup.proofs.SetupRules.{setup_rules}
@@ -114,15 +117,29 @@ table_one p n table r q a b =
     let rows : r.rows ≡ q.rows = Shows-one r.rows q.rows (p.shown.rows n) a.rows b.rows in
     λ j. record { name = name j; rows = rows j }
 
-module _ (setup : Setup) (actors : List (List ℕ)) where
+-- that a query has one reply over a content is a law of replies
+abbrev AreOneReply : Type 0
+AreOneReply = (names : List (List ℕ)) (table : List ℕ) (query : Query) (choice : Option Choice) (sends : Option Sender) (content : Content) (a b : List ℕ)
+    → IsReply names table query choice sends content a → IsReply names table query choice sends content b → a ≡ b
+
+some_one : {X : Type 0} {x y : X} → Some x ≡ Some y → x ≡ y
+some_one {X} {x} {y} e = cc
+
+module _ (one : AreOneReply) (setup : Setup) (actors : List (List ℕ)) where
+  -- the text of a query, over the content of a table
+  abbrev IsTextOf : (content : ℕ → Content) → Query → List ℕ → Type 0
+  IsTextOf content query text = IsReply (protocol_names setup) (table_name setup query.table) query (choice_of setup query) (sends_of setup query) (content query.table) text
+
   reply_one : (all : Joined) (n : ℕ) (reply : List ℕ × Reply) (r q : ReplyReport) → IsReplyReport setup all reply r → IsReplyReport setup all reply q → r ≡ q
   reply_one all n reply r q a b =
+      let same : b.query ≡ a.query = some_one (sym b.query_is ∙ a.query_is) in
+      let content : ℕ → Content = λ table. content_of (front reply.1.at (all.history table)) in
+      let other : IsTextOf content a.query q.text = subst (λ x. IsTextOf content x q.text) same b.text in
       let actor : r.actor ≡ q.actor = a.actor ∙ sym b.actor in
-      let table : r.table ≡ q.table = a.table ∙ sym b.table in
+      let table : r.table ≡ q.table = a.table ∙ ap (λ (x : Query). table_name setup x.table) (sym same) ∙ sym b.table in
       let at : r.at ≡ q.at = a.at ∙ sym b.at in
-      let text : r.text ≡ q.text = a.text
-      ∙ ap (reply_text (protocol_names setup) (table_name setup reply.1.table)) (Shows-one a.rows b.rows (content_of (front reply.1.at (all.history reply.1.table))) a.shown b.shown)
-      ∙ sym b.text in
+      let text : r.text ≡ q.text =
+      one (protocol_names setup) (table_name setup a.query.table) a.query (choice_of setup a.query) (sends_of setup a.query) (content a.query.table) r.text q.text a.text other in
       λ j. record { actor = actor j; table = table j; at = at j; text = text j }
 
   report_one : (number : ℕ) (past : Joined) (p : Printed) (r q : PhaseReport) → IsReport setup actors number past p r → IsReport setup actors number past p q → r ≡ q
@@ -160,8 +177,9 @@ module _ (setup : Setup) (actors : List (List ℕ)) where
 module _
     (ways : (rules : Rules) → 1 ≤ rules.tables → HasWays rules → AreWays rules)
     (one_state : (rules : Rules) (starts : List Act) (lines : List Line) (s t u : State) → IsRules rules → IsPhase rules starts lines s t → IsPhase rules starts lines s u → t ≡ u)
+    (one_reply : AreOneReply)
   where
     pub reports_determined : (setup : Setup) (actors : List (List ℕ)) (scripts : List (List Line)) (reports others : List PhaseReport) → IsSetup setup → IsPlay setup actors scripts reports → IsPlay setup actors scripts others → reports ≡ others
     reports_determined setup actors scripts reports others is a b =
         let same : b.printed ≡ a.printed = printed_one (rules_of setup) (setup_rules ways setup is) one_state (starts setup) nothing (start (rules_of setup)) scripts b.printed a.printed b.plays a.plays in
-        reports_one setup actors 1 nothing a.printed reports others a.are (subst (λ ps. AreReports setup actors 1 nothing ps others) same b.are)
+        reports_one one_reply setup actors 1 nothing a.printed reports others a.are (subst (λ ps. AreReports setup actors 1 nothing ps others) same b.are)

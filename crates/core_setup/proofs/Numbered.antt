@@ -1,6 +1,6 @@
 -- Protocols and channels by their numbers.
 use Rattle.std.proofs.Common.{◌≡◌, ◌≢◌, ℕ, zero, suc, ◌+◌, ◌<◌, ◌≤◌, inl, inr, Bool, true, false, List, [], ◌∷◌, ◌++◌, Option, Some, None, refl, sym, ◌∙◌, ap, subst, arith, length, is_some}
-use Rattle.std.specs.Prelude.{◌==◌, ◌||◌, if◌then◌else◌, slice_get}
+use Rattle.std.specs.Prelude.{◌==◌, ◌||◌, if◌then◌else◌, slice_get, IsSome, option_and_then}
 use Rattle.std.specs.List.{AllByRecursion}
 use Rattle.std.proofs.lemmas.Bool.{false≢true}
 use Rattle.std.proofs.lemmas.Bool.Decides.{eqb_tells}
@@ -11,7 +11,8 @@ use Rattle.export_core.specs.Candidates.{among}
 use Rattle.core_machine.specs.Rules.{AreApart}
 use Rattle.core_setup.specs.Channels.{Channel, channel_at, channels, channels_from, channels_in, numbers_of, session}
 use Rattle.core_setup.specs.Protocols.{protocol_at, table_in}
-use Rattle.core_setup.specs.Setup.{AreProtocols, Body, Exports, FitsBody, HasSession, IsPipe, IsSetup, IsSource, Protocol, Setup, family_at}
+use Rattle.core_setup.specs.Queries.{exports_at, exports_in}
+use Rattle.core_setup.specs.Setup.{AreProtocols, Body, Exports, ExportsFrom, FitsBody, HasSession, IsPipe, IsSetup, IsSource, Pipe, Protocol, Setup, Source, family_at}
 
 pub none_some : {A : Type 0} {B : Type 0} {x : A} → None ≡ Some x → B
 none_some e = cc
@@ -66,13 +67,16 @@ pub record Belongs (setup : Setup) (ch : Channel) : Type 0 where
   pub apart : (table : ℕ) → ch.target ≡ Some table → ch.reads ≢ table
   pub within : ch.reads < length setup.tables
   pub every : ch.exports.spec.every ≡ is_some ch.target
+  -- a protocol with routes of its own has no other channel
+  pub sends : (s : Source) → protocol.body ≡ IsSource s → s.exports ≡ Some ch.exports
 
 module _ (setup : Setup) (n : ℕ) (p : Protocol) (there : protocol_at setup n ≡ Some p) where
   session_belongs : (table : ℕ) (k : Kind) (o : Option Exports) → table ≡ table_in (length setup.tables) p.body → table < length setup.tables
+      → ((s : Source) → p.body ≡ IsSource s → s.exports ≡ o)
       → HasSession k (family_at setup.tables table) n o → AllByRecursion (Belongs setup) (session setup.tables n p.name table o)
-  session_belongs table k None same within has = tt
-  session_belongs table Static (Some exports) same within has = absurd has
-  session_belongs table Bgp (Some exports) same within has = (
+  session_belongs table k None same within own has = tt
+  session_belongs table Static (Some exports) same within own has = absurd has
+  session_belongs table Bgp (Some exports) same within own has = (
     record {
       protocol = p;
       there = there;
@@ -80,12 +84,20 @@ module _ (setup : Setup) (n : ℕ) (p : Protocol) (there : protocol_at setup n �
       apart = λ t e. none_some e;
       within = within;
       every = has.every;
+      sends = own;
     },
     tt,
   )
 
+  one_source : (s t : Source) → IsSource s ≡ IsSource t → s ≡ t
+  one_source s t e = cc
+
+  no_source : {A : Type 0} (q : Pipe) (s : Source) → IsPipe q ≡ IsSource s → A
+  no_source q s e = cc
+
   body_belongs : (b : Body) → p.body ≡ b → FitsBody setup.tables n b → AllByRecursion (Belongs setup) (channels_in setup.tables n p.name b)
-  body_belongs (IsSource s) e fits = session_belongs s.table s.spec.kind s.exports (sym (ap (table_in (length setup.tables)) e)) fits.table fits.session
+  body_belongs (IsSource s) e fits = session_belongs s.table s.spec.kind s.exports (sym (ap (table_in (length setup.tables)) e)) fits.table
+      (λ t f. ap (λ (x : Source). x.exports) (one_source t s (sym f ∙ e))) fits.session
   body_belongs (IsPipe q) e fits = (
     record {
       protocol = p;
@@ -94,6 +106,7 @@ module _ (setup : Setup) (n : ℕ) (p : Protocol) (there : protocol_at setup n �
       apart = λ t f same. fits.apart (same ∙ sym (some_same f));
       within = fits.primary;
       every = refl;
+      sends = λ s f. no_source q s (sym e ∙ f);
     },
     (
       record {
@@ -103,6 +116,7 @@ module _ (setup : Setup) (n : ℕ) (p : Protocol) (there : protocol_at setup n �
         apart = λ t f same. fits.apart (sym (same ∙ sym (some_same f)));
         within = fits.peer;
         every = refl;
+        sends = λ s f. no_source q s (sym e ∙ f);
       },
       tt,
     ),
@@ -212,3 +226,66 @@ listed_owner setup i c e =
 pub channel_listed : (setup : Setup) (c : ℕ) (ch : Channel) → channel_at setup c ≡ Some ch → among c (numbers_of ch.owner 0 (channels setup)) ≡ true
 channel_listed setup c ch e =
     subst (λ m. among m (numbers_of ch.owner 0 (channels setup)) ≡ true) (nothing_more c) (there_is ch.owner 0 (channels setup) c ch e refl)
+
+-- ---- the channel of a protocol that has one
+
+-- the channel of this protocol is there, with these exports
+record HasChannel (owner : ℕ) (chs : List Channel) : Type 0 where
+  place : ℕ
+  ch : Channel
+  there : slice_get chs place ≡ Some ch
+  own : ch.owner ≡ owner
+
+get_behind : {X : Type 0} (xs ys : List X) (k : ℕ) → slice_get (xs ++ ys) (length xs + k) ≡ slice_get ys k
+get_behind [] ys k = ap (slice_get ys) (sym (nothing_first k))
+get_behind (x ∷ xs) ys k =
+    let next : length (x ∷ xs) + k ≡ suc (length xs + k) = omega arith in
+    ap (slice_get (x ∷ (xs ++ ys))) next ∙ get_behind xs ys k
+
+module _ (tables : List (List ℕ × Family)) where
+  has_first : (n table : ℕ) (name : List ℕ) (b : Body) (rest : List Channel) → ExportsFrom table b → HasChannel n (channels_in tables n name b ++ rest)
+  has_first n table name (IsPipe q) rest is = absurd is
+  has_first n table name (IsSource s) rest is = by s.exports is.1 where
+    by : (o : Option Exports) → IsSome o → HasChannel n (session tables n name s.table o ++ rest)
+    by None some = absurd (false≢true some)
+    by (Some exports) some = record {
+      place = zero;
+      ch = record { name = name; owner = n; reads = s.table; target = None; exports = exports };
+      there = refl;
+      own = refl;
+    }
+
+  has_later : (n owner : ℕ) (p : Protocol) (rest : List Channel) → HasChannel owner rest → HasChannel owner (channels_in tables n p.name p.body ++ rest)
+  has_later n owner p rest has = record {
+    place = length (channels_in tables n p.name p.body) + has.place;
+    ch = has.ch;
+    there = get_behind (channels_in tables n p.name p.body) rest has.place ∙ has.there;
+    own = has.own;
+  }
+
+  has_from : (n table : ℕ) (ps : List Protocol) (i : ℕ) (p : Protocol) → slice_get ps i ≡ Some p → ExportsFrom table p.body → HasChannel (i + n) (channels_from tables n ps)
+  has_from n table [] i p e is = none_some e
+  has_from n table (q ∷ ps) zero p e is =
+      subst (λ k. HasChannel k (channels_from tables n (q ∷ ps))) (nothing_first n)
+      (has_first n table q.name q.body (channels_from tables (n + 1) ps) (subst (λ (x : Protocol). ExportsFrom table x.body) (sym (some_same e)) is))
+  has_from n table (q ∷ ps) (suc i) p e is =
+      has_later n (suc i + n) q (channels_from tables (n + 1) ps) (subst (λ k. HasChannel k (channels_from tables (n + 1) ps)) (one_further i n) (has_from (n + 1) table ps i p e is))
+
+own_exports : (table : ℕ) (b : Body) (exports : Exports) → ExportsFrom table b → ((s : Source) → b ≡ IsSource s → s.exports ≡ Some exports) → exports_in b ≡ Some exports
+own_exports table (IsPipe q) exports is sends = absurd is
+own_exports table (IsSource s) exports is sends = sends s refl
+
+module _ (setup : Setup) (i table : ℕ) (p : Protocol) (there : slice_get setup.protocols i ≡ Some p) (is : ExportsFrom table p.body) where
+  -- there is one
+  pub exports_listed : (c : ℕ) × (among c (numbers_of i 0 (channels setup)) ≡ true)
+  exports_listed =
+      let has = has_from setup.tables 0 table setup.protocols i p there is in
+      (has.place, subst (λ k. among has.place (numbers_of k 0 (channels setup)) ≡ true) (has.own ∙ nothing_more i) (channel_listed setup has.place has.ch has.there))
+
+  -- and each one of it has its exports
+  pub exports_own : (c : ℕ) (ch : Channel) → IsSetup setup → channel_at setup c ≡ Some ch → ch.owner ≡ i → exports_at setup.protocols i ≡ Some ch.exports
+  exports_own c ch fits e own =
+      let b = channel_belongs setup c ch fits e in
+      let same : b.protocol ≡ p = some_same (sym b.there ∙ ap (protocol_at setup) own ∙ there) in
+      ap (option_and_then (λ (q : Protocol). exports_in q.body)) there
+      ∙ own_exports table p.body ch.exports is (λ s f. b.sends s (ap (λ (q : Protocol). q.body) same ∙ f))

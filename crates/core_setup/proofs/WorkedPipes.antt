@@ -26,6 +26,8 @@ setup = record {
   tables = (codes "master4", V4) ∷ (codes "master6", V6) ∷ (codes "t1", V4) ∷ (codes "t2", V4) ∷ [];
   protocols = static_in (codes "s") 0 0 ∷ static_in (codes "u") 1 3 ∷ record { name = codes "a"; body = IsPipe (record { primary = 0; peer = 2; export = all; import = all }) } ∷ record { name = codes "b"; body = IsPipe (record { primary = 2; peer = 3; export = all; import = all }) } ∷ [];
   cells = 1;
+  choices = [];
+  queries = [];
 }
 
 -- channels have their numbers in this order

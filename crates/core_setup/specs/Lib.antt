@@ -1,4 +1,5 @@
 pub mod Setup
+pub mod Queries
 pub mod Channels
 pub mod Differences
 pub mod Choice

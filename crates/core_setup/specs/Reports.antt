@@ -9,7 +9,6 @@ use Rattle.std.specs.Map.{keys_of}
 use Rattle.bits_ip.specs.declared.address.Family.{Family}
 use Rattle.attrs.specs.declared.attributes.Attrs.{Attrs}
 use Rattle.attrs.specs.Table.{Shows}
-use Rattle.attrs.specs.declared.route.Row.{Row}
 use Rattle.import_core.specs.Imports.{is_up}
 use Rattle.import_core.specs.declared.operation.Op.{Op}
 use Rattle.import_core.specs.declared.step.Done.{Done}
@@ -27,7 +26,8 @@ use Rattle.report.specs.declared.phase.ProtocolState.TheVariants.{Imports, Pipe}
 use Rattle.report.specs.declared.phase.ReplyReport.{ReplyReport}
 use Rattle.report.specs.declared.phase.Standing.{Standing}
 use Rattle.report.specs.declared.phase.TableReport.{TableReport}
-use Rattle.show_route.specs.Reply.{reply_text}
+use Rattle.show_route.specs.Shown.{IsReply}
+use Rattle.show_route.specs.declared.query.Query.{Query}
 use Rattle.core_machine.specs.Histories.{content_of, front}
 use Rattle.core_machine.specs.Legal.{Joined, Printed, join}
 use Rattle.core_machine.specs.Lines.{Reply, ops_of}
@@ -37,6 +37,7 @@ use Rattle.core_machine.specs.SyncState.{Shown}
 use Rattle.core_setup.specs.Channels.{Channel, channels}
 use Rattle.core_setup.specs.Pairs.{Pairs}
 use Rattle.core_setup.specs.Protocols.{rules_of}
+use Rattle.core_setup.specs.Queries.{choice_of, sends_of}
 use Rattle.core_setup.specs.Setup.{Body, IsPipe, IsSource, Protocol, Setup}
 
 -- ---- operations
@@ -133,16 +134,20 @@ table_name setup number = name_in (slice_get setup.tables number)
 abbrev pub protocol_names : Setup → List (List ℕ)
 protocol_names setup = map (λ (p : Protocol). p.name) setup.protocols
 
--- A reply tells all rows of its table as it was at the reply's position.
+-- A reply answers the query of its number, over the query's table as it was at the reply's
+-- position.
 pub record IsReplyReport
     (setup : Setup) (all : Joined) (reply : List ℕ × Reply) (report : ReplyReport) : Type 0 where
+  pub query : Query
+  pub query_is : slice_get setup.queries reply.1.query ≡ Some query
+  pub table_is : reply.1.table ≡ query.table
   pub actor : report.actor ≡ reply.0
-  pub table : report.table ≡ table_name setup reply.1.table
+  pub table : report.table ≡ table_name setup query.table
   pub at : report.at ≡ reply.1.at
-  pub rows : List Row
-  pub shown : Shows rows (content_of (front reply.1.at (all.history reply.1.table)))
   pub text :
-      report.text ≡ reply_text (protocol_names setup) (table_name setup reply.1.table) rows
+      IsReply (protocol_names setup) (table_name setup query.table) query
+      (choice_of setup query) (sends_of setup query)
+      (content_of (front reply.1.at (all.history query.table))) report.text
 
 -- ---- the whole
 

@@ -1,17 +1,22 @@
 -- What is played (`Setup`): tables, and protocols. A protocol has routes of its own to import and
--- perhaps a channel to a neighbour (`Source`), or it is a pipe between two tables (`Pipe`). That
--- numbers, tables and families fit (`IsSetup`). Names, families, what holds for all routes of a
--- protocol, filters as functions.
+-- perhaps a channel to a neighbour (`Source`), or it is a pipe between two tables (`Pipe`). And
+-- what `show route` is asked, with the filters by which routes are chosen. That numbers, tables and
+-- families fit (`IsSetup`, `FitsQuery`). Names, families, what holds for all routes of a protocol,
+-- filters as functions.
 -- Not modelled: where all this comes from.
--- From: BIRD User's Guide, "Routing tables", "Protocol options", "Channel options" and "Pipe".
--- Example: a protocol of BGP has a channel, a static one none, a pipe one each way.
-use Rattle.std.specs.Prelude.{◌≡◌, ◌≢◌, ◌<◌, ◌≤◌, ◌+◌, ℕ, false, List, [], ◌∷◌, length, Option, Some, None, option_map, slice_get, ⊤}
+-- From: BIRD User's Guide, "Routing tables", "Protocol options", "Channel options", "Pipe", and
+-- "Remote control" for `show route`.
+-- Example: a protocol of BGP has a channel, a static one none, a pipe one each way. A query for
+-- what a static protocol exports doesn't fit.
+use Rattle.std.specs.Prelude.{◌≡◌, ◌≢◌, ◌<◌, ◌≤◌, ◌+◌, ℕ, false, List, [], ◌∷◌, length, Option, Some, None, IfSome, IsSome, option_map, slice_get, ⊤}
+use Rattle.std.specs.List.{All}
 use Rattle.attrs.specs.declared.attributes.Kind.{Kind}
 use Rattle.attrs.specs.declared.attributes.Kind.TheVariants.{Static, Bgp}
 use Rattle.bits_ip.specs.declared.address.Family.{Family}
 use Rattle.export_core.specs.declared.passing.ExportSpec.{ExportSpec}
 use Rattle.import_core.specs.declared.import_spec.ImportSpec.{ImportSpec}
 use Rattle.import_core.specs.Decisions.{Filter}
+use Rattle.show_route.specs.declared.query.Query.{Query}
 
 -- what a channel sends: what its gate and its filter let pass
 pub record Exports : Type 0 where
@@ -45,12 +50,17 @@ pub record Protocol : Type 0 where
   pub name : List ℕ
   pub body : Body
 
--- Tables and protocols have numbers, from 0 in their order.
+-- Tables, protocols, choices and queries have numbers, from 0 in their order.
 pub record Setup : Type 0 where
   pub tables : List (List ℕ × Family)
   pub protocols : List Protocol
   -- how many changes the journal of each table holds
   pub cells : ℕ
+  -- what the filters say by which routes are chosen: those of the configuration, and then the
+  -- conditions of the script
+  pub choices : List Filter
+  -- what the script asks of tables
+  pub queries : List Query
 
 -- the family of the table of a number
 abbrev pub family_at : List (List ℕ × Family) → ℕ → Option Family
@@ -93,7 +103,25 @@ AreProtocols tables number [] = ⊤
 AreProtocols tables number (p ∷ more) =
     FitsBody tables number p.body × AreProtocols tables (number + 1) more
 
+-- the protocol has a channel to its neighbour, which reads this table
+abbrev pub ExportsFrom : ℕ → Body → Type 0
+ExportsFrom table (IsSource p) = (p.table ≡ table) × IsSome p.exports
+ExportsFrom table (IsPipe p) = ⊥
+
+-- What a query names is there: its table, the filter by which routes are chosen, the protocol whose
+-- routes alone are shown, and the protocol whose exports are shown, from its table.
+pub record FitsQuery
+    (tables : List (List ℕ × Family)) (protocols : List Protocol) (choices : List Filter)
+    (query : Query) : Type 0 where
+  pub table : query.table < length tables
+  pub choice : IfSome query.choice (λ number. number < length choices)
+  pub source : IfSome query.source (λ number. number < length protocols)
+  pub export :
+      IfSome query.export (λ number. (p : Protocol)
+      × (slice_get protocols number ≡ Some p) × ExportsFrom query.table p.body)
+
 pub record IsSetup (setup : Setup) : Type 0 where
   -- there is a table
   pub tables : 1 ≤ length setup.tables
   pub protocols : AreProtocols setup.tables 0 setup.protocols
+  pub queries : All (FitsQuery setup.tables setup.protocols setup.choices) setup.queries

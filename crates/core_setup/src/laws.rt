@@ -23,6 +23,7 @@ ghost use Rattle.core_setup.specs.Protocols.{effect_at, exports_of, pipe_is_up, 
 ghost use Rattle.core_setup.specs.Setup.{IsSetup, Protocol, Setup};
 
 use core_machine::laws::{levels_give_ways, phases_are_legal, phases_come_to_one_state};
+use show_route::laws::a_query_has_one_reply;
 
 /// Tables and protocols say rules of which the machine's laws hold.
 pub fn setups_are_as_asked()
@@ -79,6 +80,7 @@ pub fn reports_are_determined()
 {
     levels_give_ways();
     phases_come_to_one_state();
+    a_query_has_one_reply();
 }
 
 /// A protocol changes its own routes alone, and each new route of its changes has its number.

@@ -1,5 +1,5 @@
-//! Tests of imports, exports, reports and replies where no script of a play leads: operations that
-//! the other kind of protocol has, an outlet that refuses, pipes, a source without a name.
+//! Tests of imports, exports and reports where no script of a play leads: operations that the other
+//! kind of protocol has, an outlet that refuses, pipes.
 //!
 //! What a script reaches is tried by the reports of `birdcore_top_cases`.
 #![tactic(auto)]
@@ -14,7 +14,5 @@ mod feeds;
 mod imports;
 #[cfg(test)]
 mod pipes;
-#[cfg(test)]
-mod replies;
 #[cfg(test)]
 mod samples;

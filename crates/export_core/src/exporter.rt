@@ -312,6 +312,13 @@ impl<J: Judge> Exporter<J> {
         }
     }
 
+    /// What the channel makes of a route, whether it is up or down.
+    pub fn through(&self) -> &Through<J>
+        ensures { result.now ≡ record { spec = self.now.spec; judge = self.now.judge } }
+    {
+        &self.through
+    }
+
     /// Whether what stands is being withdrawn.
     pub fn is_flushing(&self) -> bool
         ensures { result ≡ self.now.flushing }

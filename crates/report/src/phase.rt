@@ -7,7 +7,7 @@ use import_core::{Done, Mode};
 #[derive(Debug, Drop)]
 pub struct PhaseReport {
     /// The phase's number, from 1.
-    pub number: u32,
+    pub number: u64,
     pub protocols: Seq<ProtocolReport>,
     pub journals: Seq<JournalReport>,
     pub channels: Seq<ChannelReport>,

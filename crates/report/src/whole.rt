@@ -24,7 +24,7 @@ pub fn phase_text<W: TextOut>(phase: &PhaseReport, out: &mut W) -> Result<(), W:
     write_state(phase, out)
 }
 
-fn write_phase_head<W: TextOut>(number: u32, out: &mut W) -> Result<(), W::Fault>
+fn write_phase_head<W: TextOut>(number: u64, out: &mut W) -> Result<(), W::Fault>
     ensures written { OnOk result
         (W.written out.new ≡ W.written out.old ++ codes "phase " ++ decimal number ++ codes "\n") }
     ensures kept { Kept W.follows out.old out.new }

@@ -112,6 +112,13 @@ impl Table {
         })
     }
 
+    /// The rows, which queries ask for.
+    pub fn rib(&self) -> &Rib
+        ensures { result.now ≡ self.now.rib }
+    {
+        &self.rib
+    }
+
     /// All rows.
     pub fn rows(&self) -> Result<Vec<Row>, OutOfMemory>
         ensures { IfOk result (λ rows. (rules : Rules) (family : Family) (history : List Change)

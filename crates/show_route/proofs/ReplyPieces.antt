@@ -1,9 +1,6 @@
 -- Pieces of a reply, appended one after another.
-use Rattle.std.proofs.Common.{◌≡◌, ◌++◌, ◌∷◌, [], ℕ, List, true, false, codes, decimal, append_assoc, ap, sym, ◌∙◌, refl}
-use Rattle.std.specs.List.{flat_map}
-use Rattle.bits_ip.specs.Prefix.{Net}
-use Rattle.attrs.specs.declared.route.Route.{Route}
-use Rattle.show_route.specs.Reply.{last_as_text, shown_route, shown_routes}
+use Rattle.std.proofs.Common.{◌≡◌, ◌++◌, ◌∷◌, [], ℕ, List, codes, decimal, append_assoc, ap, sym, ◌∙◌, refl}
+use Rattle.show_route.specs.Reply.{last_as_text}
 
 pub last_as : (front : List ℕ) (n : ℕ) → last_as_text (front ++ n ∷ []) ≡ codes "AS" ++ decimal n
 last_as [] n = refl
@@ -17,21 +14,6 @@ last_written path front n b b1 b2 is e1 e2 =
     e2 ∙ ap (λ (l : List ℕ). l ++ decimal n) e1
     ∙ append_assoc b (codes "AS") (decimal n)
     ∙ ap (λ (l : List ℕ). b ++ l) (sym (ap last_as_text is ∙ last_as front n))
-
--- none behind the first has a star
-pub others_are : (names : List (List ℕ)) (net : Net) (rs : List Route) → shown_routes names net false rs ≡ flat_map (shown_route names net false) rs
-others_are names net [] = refl
-others_are names net (r ∷ rest) = ap (λ (l : List ℕ). shown_route names net false r ++ l) (others_are names net rest)
-
-pub routes_joined :
-    (names : List (List ℕ)) (net : Net) (best : Route) (others rs : List Route) (b b1 b2 : List ℕ)
-    → rs ≡ best ∷ others → b1 ≡ b ++ shown_route names net true best → b2 ≡ b1 ++ flat_map (shown_route names net false) others
-    → b2 ≡ b ++ shown_routes names net true rs
-routes_joined names net best others rs b b1 b2 is e1 e2 =
-    e2 ∙ ap (λ (l : List ℕ). l ++ flat_map (shown_route names net false) others) e1
-    ∙ append_assoc b (shown_route names net true best) (flat_map (shown_route names net false) others)
-    ∙ ap (λ (l : List ℕ). b ++ (shown_route names net true best ++ l)) (sym (others_are names net others))
-    ∙ ap (λ (l : List Route). b ++ shown_routes names net true l) (sym is)
 
 -- the three groups of a route
 pub route_joined :

@@ -1,11 +1,9 @@
--- What `show route` answers for rows of a table (`reply_text`): the whole reply over all rows.
--- Not modelled: its options (a choice of nets, of protocols, of attributes shown), times and
--- metrics of protocols.
+-- How a reply to `show route` begins (`reply_head`), and how it shows a route (`shown_route`).
+-- Not modelled: which routes it shows (Shown); times and metrics of protocols.
 -- From: BIRD User's Guide, "Remote control", `show route`; the form of a line is own.
 -- Example: `203.0.113.0/24 unicast [p1] * (100) [AS65002i]`, and `via 192.0.2.1` in a line of its
 -- own behind a tab.
 use Rattle.std.specs.Prelude.{ℕ, Bool, true, false, if◌then◌else◌, List, [], ◌∷◌, ◌++◌, Option, Some, None, codes, decimal}
-use Rattle.std.specs.List.{flat_map}
 use Rattle.bits_ip.specs.Prefix.{Net}
 use Rattle.bits_ip.specs.Text.{addr_text, net_text}
 use Rattle.text.specs.Names.{name_of}
@@ -15,7 +13,6 @@ use Rattle.attrs.specs.declared.attributes.Origin.TheVariants.{Igp, Egp, Incompl
 use Rattle.attrs.specs.declared.attributes.Kind.{Kind}
 use Rattle.attrs.specs.declared.attributes.Kind.TheVariants.{Static, Bgp}
 use Rattle.attrs.specs.declared.route.Route.{Route}
-use Rattle.attrs.specs.declared.route.Row.{Row}
 
 -- the last AS of a path, and nothing of an empty one
 abbrev pub last_as_text : List ℕ → List ℕ
@@ -44,19 +41,6 @@ shown_route names net best r =
     ++ as_text r.attrs.kind r.attrs.path r.attrs.origin ++ codes "\n"
     ++ optional_text (codes "\tvia ") (λ gw. addr_text gw ++ codes "\n") r.attrs.gw
 
--- A net's routes stand in selection order, so its best is the first.
-abbrev pub shown_routes : List (List ℕ) → Net → Bool → List Route → List ℕ
-shown_routes names net best [] = []
-shown_routes names net best (r ∷ rest) =
-    shown_route names net best r ++ shown_routes names net false rest
-
-abbrev pub shown_row : List (List ℕ) → Row → List ℕ
-shown_row names row = shown_routes names row.net true row.routes
-
 -- the heading: the table's name
 abbrev pub reply_head : List ℕ → List ℕ
 reply_head table = codes "Table " ++ table ++ codes ":\n"
-
--- the reply: the heading, and the routes of each net
-abbrev pub reply_text : List (List ℕ) → List ℕ → List Row → List ℕ
-reply_text names table rows = reply_head table ++ flat_map (shown_row names) rows

@@ -3,8 +3,8 @@
 //! A `Query` says what is asked: of which nets, of one protocol, as one protocol exports them, the
 //! best of each net, those that a filter accepts; and whether attributes are told too, or only how
 //! many there are. `answer_query` answers it over the rows that it asks for, with the filter and
-//! the channel that it names, `answer_table` over a table. `answer` answers the query without options, over all rows. Rows may
-//! be lent by a table (`LentRow`), so no route is copied.
+//! the channel that it names, `answer_table` over a table. Rows are lent by a table (`LentRow`), so
+//! no route is copied.
 //!
 //! Contracts say which routes of the table's content are shown, in which order, and how
 //! (`IsReply` of specs/Shown): they speak of what a filter and a channel make of a route, and not
@@ -21,5 +21,4 @@ mod show;
 mod whole;
 
 pub use query::Query;
-pub use reply::{answer, begin, write_routes};
 pub use whole::{answer_query, answer_table};

@@ -1,36 +1,16 @@
 //! The text of a reply.
 ghost use Rattle.std.specs.Prelude.{◌≡◌, ◌++◌, ◌∷◌, List, ℕ, [], if◌then◌else◌, true, false, codes, decimal, map, OnOk, IfOk};
-ghost use Rattle.std.specs.List.{flat_map};
 ghost use Rattle.bits_ip.specs.Text.{addr_text, net_text};
 ghost use Rattle.attrs.specs.Text.{dest_text, optional_text};
 ghost use Rattle.text.specs.Names.{name_of};
-ghost use Rattle.show_route.specs.Reply.{as_text, last_as_text, origin_letter, reply_head, reply_text, shown_route, shown_routes, shown_row};
+ghost use Rattle.show_route.specs.Reply.{as_text, last_as_text, origin_letter, reply_head, shown_route};
 
-use attrs::{Attrs, Kind, Origin, Route, Row};
+use attrs::{Attrs, Kind, Origin, Route};
 use bits_ip::{Addr, OutOfMemory, Prefix, append_addr, append_prefix, write_number};
 use std::alloc::Global;
 
-/// The reply to `show route` over these rows of a table, with the protocols' names by number.
-///
-/// `OutOfMemory` comes where memory is refused. BIRD User's Guide, section 4 ("Remote control"),
-/// `show route`.
-pub fn answer(
-    alloc: Global,
-    names: &[&[u8]],
-    table: &[u8],
-    rows: &[Row],
-) -> Result<Vec<u8>, OutOfMemory>
-    ensures { IfOk result
-        (λ text.
-        text.items ≡ reply_text (map (λ name. name.now) names.now) table.now rows.now) }
-{
-    let mut out = begin(alloc, table)?;
-    write_rows(names, rows, &mut out)?;
-    Ok(out)
-}
-
-/// The beginning of a reply, to which `write_routes` appends each net.
-pub fn begin(alloc: Global, table: &[u8]) -> Result<Vec<u8>, OutOfMemory>
+/// The beginning of a reply.
+pub(crate) fn begin(alloc: Global, table: &[u8]) -> Result<Vec<u8>, OutOfMemory>
     ensures { IfOk result (λ text. text.items ≡ reply_head table.now) }
 {
     let mut out = Vec::new(alloc);
@@ -38,52 +18,6 @@ pub fn begin(alloc: Global, table: &[u8]) -> Result<Vec<u8>, OutOfMemory>
     out.extend_from_slice(table)?;
     out.extend_from_slice(b":\n")?;
     Ok(out)
-}
-
-fn write_rows(names: &[&[u8]], rows: &[Row], out: &mut Vec<u8>) -> Result<(), OutOfMemory>
-    ensures { OnOk result
-        (out.new.items ≡ out.old.items
-        ++ flat_map (shown_row (map (λ name. name.now) names.now)) rows.now) }
-{
-    for row in rows {
-        write_routes(names, &row.net, row.routes.as_slice(), out)?;
-    }
-    Ok(())
-}
-
-/// Appends the routes of a net in selection order: the first is the best. On refusal a part of them
-/// may stand.
-pub fn write_routes(
-    names: &[&[u8]],
-    net: &Prefix,
-    routes: &[Route],
-    out: &mut Vec<u8>,
-) -> Result<(), OutOfMemory>
-    ensures { OnOk result
-        (out.new.items ≡ out.old.items
-        ++ shown_routes (map (λ name. name.now) names.now) net.now true routes.now) }
-{
-    let Some((best, others)) = routes.split_first() else {
-        return Ok(());
-    };
-    write_route(names, net, true, best, out)?;
-    write_others(names, net, others, out)
-}
-
-fn write_others(
-    names: &[&[u8]],
-    net: &Prefix,
-    routes: &[Route],
-    out: &mut Vec<u8>,
-) -> Result<(), OutOfMemory>
-    ensures { OnOk result
-        (out.new.items ≡ out.old.items
-        ++ flat_map (shown_route (map (λ name. name.now) names.now) net.now false) routes.now) }
-{
-    for route in routes {
-        write_route(names, net, false, route, out)?;
-    }
-    Ok(())
 }
 
 pub(crate) fn write_route(

@@ -47,7 +47,9 @@ fn main(rt: HostRuntime) -> io::Result<ExitCode> {
     let two = are_answered(&rt, "two.txt", "of_two.txt")?;
     let three = are_answered(&rt, "three.txt", "of_three.txt")?;
     let alike = are_answered(&rt, "alike.txt", "of_alike.txt")?;
-    Ok(if many && two && three && alike {
+    let unnamed = are_answered(&rt, "unnamed.txt", "of_unnamed.txt")?;
+    let empty = are_answered(&rt, "empty.txt", "of_empty.txt")?;
+    Ok(if many && two && three && alike && unnamed && empty {
         ExitCode::SUCCESS
     } else {
         ExitCode::FAILURE
