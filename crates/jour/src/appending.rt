@@ -11,6 +11,18 @@ use crate::writer::Writer;
 use jour_rule::law::Law;
 use jour_rule::steps::{Line, Place, append, store_word};
 
+/// Loads words of a cell eight apart, which tells nothing: the lines of memory that an entry is
+/// stored into then come together and not one behind the other.
+fn fetch<O, L: Law<O>>(line: &Line<O, L>, cell: usize, count: usize)
+    requires wide { (line.now.table_id.words < 2 ^ 32)
+        × (cell + 256 ≤ line.now.table_id.words) }
+    requires few { count ≤ 256 }
+{
+    for k in 0..count / 8 + 2 {
+        line.peek(cell + (k * 8).min(255));
+    }
+}
+
 /// Stores the words of an entry, the first one at `cell`.
 fn stage<O, L: Law<O>>(line: &Line<O, L>, place: &mut Place<O>, cell: usize, words: &[u64])
     requires here { place.old.table_id ≡ line.now.table_id }
@@ -24,6 +36,7 @@ fn stage<O, L: Law<O>>(line: &Line<O, L>, place: &mut Place<O>, cell: usize, wor
     ensures kept { place.new.table_id ≡ place.old.table_id }
     ensures view { place.new.me ≡ (with_all words.now place.old.me.0, place.old.me.1) }
 {
+    fetch(line, cell, words.len());
     for k in 0..words.len() {
         store_word(line, place, cell + k, words[k]);
     }

@@ -1,5 +1,5 @@
 //! An entry's words on a thread's own side.
-ghost use Rattle.std.specs.Prelude.{◌≡◌, ◌==◌, ◌<◌, ◌≤◌, [], ◌∷◌, ◌++◌, length};
+ghost use Rattle.std.specs.Prelude.{◌≡◌, ◌==◌, ◌<◌, ◌≤◌, [], ◌∷◌, ◌++◌, length, slice_set};
 
 use std::marker::Model;
 
@@ -60,6 +60,22 @@ impl Buf {
     {
         self.words[self.len] = word;
         self.len += 1;
+    }
+
+    /// Gives it so many words. Those that it hadn't are left as they come.
+    pub fn resize(&mut self, count: usize)
+        requires { count ≤ 256 }
+        ensures { length self.new ≡ count }
+    {
+        self.len = count;
+    }
+
+    /// Puts a word in the place of another.
+    pub fn set(&mut self, index: usize, word: u64)
+        requires { (index < length self.old) × (index < 256) }
+        ensures { self.new ≡ slice_set self.old index word }
+    {
+        self.words[index] = word;
     }
 
     /// The words.
