@@ -42,7 +42,7 @@ fn beside(rt: &HostRuntime, played: String, wanted: bool, checked: &str) -> io::
 /// alone.
 pub fn checked_so(rt: &HostRuntime, played: String, files: Vec<MemFile>) -> io::Result<String> {
     let checked = checked(rt, files, "check conf script")?;
-    let wanted = checked == played || played.as_str() == "out of memory";
+    let wanted = checked.as_str() == played.as_str() || played.as_str() == "out of memory";
     beside(rt, played, wanted, checked.as_str())
 }
 
