@@ -1,8 +1,10 @@
-//! Tries plays that files of cases hold: what the program answers to each, and which report it
-//! writes.
+//! Tries plays, checks and queries that files of cases hold: what the program answers to each, and
+//! which report or reply it writes.
 #![tactic(auto)]
 
+mod checks;
 mod plays;
+mod replies;
 
 use cases::{Case, Tally, read};
 use std::io;
@@ -15,12 +17,16 @@ enum Sort {
     Texts,
     /// The name of a configuration's file and a script, and the status.
     Scripts,
-    /// The program's words, and the status or the report's name.
+    /// One text or two, and what `check` answers.
+    Checks,
+    /// The program's words, and the status, `ok` or the report's name.
     Words,
     /// Two texts, and the report's name.
     Reports,
     /// The names of two files, and the report's name.
     Plays,
+    /// The names of two files and a query, and the reply.
+    Replies,
 }
 
 fn answer(rt: &HostRuntime, sort: Sort, case: &Case) -> io::Result<String> {
@@ -29,9 +35,11 @@ fn answer(rt: &HostRuntime, sort: Sort, case: &Case) -> io::Result<String> {
     match sort {
         Sort::Texts => plays::answer(rt, input),
         Sort::Scripts => plays::refusal(rt, input),
+        Sort::Checks => checks::answer(rt, input),
         Sort::Words => plays::words(rt, input),
         Sort::Reports => plays::report(rt, name, input),
         Sort::Plays => plays::play(rt, name, input),
+        Sort::Replies => replies::reply(rt, input),
     }
 }
 
@@ -48,10 +56,12 @@ fn main(rt: HostRuntime) -> io::Result<ExitCode> {
     let tables = [
         (Sort::Texts, "answers.txt"),
         (Sort::Scripts, "refused.txt"),
+        (Sort::Checks, "checks.txt"),
         (Sort::Words, "words.txt"),
         (Sort::Reports, "reports.txt"),
         (Sort::Plays, "plays.txt"),
         (Sort::Plays, "examples.txt"),
+        (Sort::Replies, "replies.txt"),
     ];
     let mut good = true;
     for (sort, name) in tables {

@@ -2,7 +2,9 @@
 //!
 //! An input is `CONF @@ SCRIPT`, the two files' texts; `none` stands for a file that isn't there.
 //! Where the files lie beside the table it is `CONF SCRIPT`, their names, and what stands behind
-//! them is given to `play` behind its three words.
+//! them is given to `play` behind its three words. What is refused is checked too, with the same
+//! answer, and what is played is accepted by a check.
+use crate::checks::{also_checked, checked_so};
 use birdcore_top::Status;
 use birdcore_top::top::top;
 use outside_io::{MemFile, MemShelf, MemSink, OpenGate};
@@ -10,25 +12,31 @@ use std::alloc::Global;
 use std::io::{Error, ErrorKind};
 use std::{fs, io, str};
 
-fn bad_line() -> Error {
+/// The error of a case that isn't in the notation.
+pub fn bad_line() -> Error {
     Error::from(ErrorKind::InvalidData)
 }
 
-fn text_of(input: &[u8]) -> io::Result<&str> {
+pub fn text_of(input: &[u8]) -> io::Result<&str> {
     let Ok(text) = str::from_utf8(input) else {
         return Err(bad_line());
     };
     Ok(text)
 }
 
-fn put_file(alloc: Global, name: &str, bytes: Vec<u8>, files: &mut Vec<MemFile>) -> io::Result<()> {
+pub fn put_file(
+    alloc: Global,
+    name: &str,
+    bytes: Vec<u8>,
+    files: &mut Vec<MemFile>,
+) -> io::Result<()> {
     let name = String::from_str(alloc, name)?;
     files.push(MemFile::new(name, bytes))?;
     Ok(())
 }
 
-fn files_of(alloc: Global, input: &[u8]) -> io::Result<Vec<MemFile>> {
-    let (conf, script) = text_of(input)?.split_once(" @@ ").ok_or(bad_line())?;
+/// The files of these texts.
+pub fn files_with(alloc: Global, conf: &str, script: &str) -> io::Result<Vec<MemFile>> {
     let mut files = Vec::new(alloc);
     for (name, text) in [("conf", conf), ("script", script)] {
         if text != "none" {
@@ -36,6 +44,11 @@ fn files_of(alloc: Global, input: &[u8]) -> io::Result<Vec<MemFile>> {
         }
     }
     Ok(files)
+}
+
+fn files_of(alloc: Global, input: &[u8]) -> io::Result<Vec<MemFile>> {
+    let (conf, script) = text_of(input)?.split_once(" @@ ").ok_or(bad_line())?;
+    files_with(alloc, conf, script)
 }
 
 fn files_at(rt: &HostRuntime, conf: &str, script: &str) -> io::Result<Vec<MemFile>> {
@@ -56,7 +69,7 @@ fn words_of(alloc: Global, text: &str) -> io::Result<Vec<String>> {
 }
 
 /// The status of the program with these words over these files, and what was written.
-fn done(rt: &HostRuntime, files: Vec<MemFile>, words: &str) -> io::Result<(Status, Vec<u8>)> {
+pub fn done(rt: &HostRuntime, files: Vec<MemFile>, words: &str) -> io::Result<(Status, Vec<u8>)> {
     let alloc = rt.alloc();
     let words = words_of(alloc, words)?;
     let mut shelf = MemShelf::new(alloc, files);
@@ -66,7 +79,7 @@ fn done(rt: &HostRuntime, files: Vec<MemFile>, words: &str) -> io::Result<(Statu
 }
 
 /// The status, and that something was written beside a status with which nothing should be.
-fn status_of(rt: &HostRuntime, status: Status, text: &[u8]) -> io::Result<String> {
+pub fn status_of(rt: &HostRuntime, status: Status, text: &[u8]) -> io::Result<String> {
     if text.is_empty() {
         Ok(format!(in rt.alloc(); "{status}")?)
     } else {
@@ -75,8 +88,8 @@ fn status_of(rt: &HostRuntime, status: Status, text: &[u8]) -> io::Result<String
     }
 }
 
-/// The name of the expected report's file where the program is done and wrote it, and else what it
-/// did.
+/// The name of the expected report's file where the program is done and wrote it, `ok` where it
+/// wrote that, and else what it did.
 fn compared(rt: &HostRuntime, name: &str, status: Status, text: &[u8]) -> io::Result<String> {
     if status != Status::Ok {
         return status_of(rt, status, text);
@@ -84,6 +97,8 @@ fn compared(rt: &HostRuntime, name: &str, status: Status, text: &[u8]) -> io::Re
     let expected = fs::read(rt, name)?;
     let answer = if text == expected.as_slice() {
         name
+    } else if text == b"ok\n".as_slice() {
+        "ok"
     } else {
         "another report"
     };
@@ -94,26 +109,28 @@ fn compared(rt: &HostRuntime, name: &str, status: Status, text: &[u8]) -> io::Re
 pub fn answer(rt: &HostRuntime, input: &[u8]) -> io::Result<String> {
     let files = files_of(rt.alloc(), input)?;
     let (status, text) = done(rt, files, "play conf script")?;
-    status_of(rt, status, text.as_slice())
+    let played = status_of(rt, status, text.as_slice())?;
+    checked_so(rt, played, files_of(rt.alloc(), input)?)
+}
+
+fn script_over(rt: &HostRuntime, input: &[u8]) -> io::Result<Vec<MemFile>> {
+    let (conf, script) = text_of(input)?.split_once(" @@ ").ok_or(bad_line())?;
+    let script = script.as_bytes().to_vec(rt.alloc())?;
+    let mut files = Vec::new(rt.alloc());
+    put_file(rt.alloc(), "conf", fs::read(rt, conf)?, &mut files)?;
+    put_file(rt.alloc(), "script", script, &mut files)?;
+    Ok(files)
 }
 
 /// The status of the play of a script, which stands behind the name of a configuration's file.
 pub fn refusal(rt: &HostRuntime, input: &[u8]) -> io::Result<String> {
-    let (conf, script) = text_of(input)?.split_once(" @@ ").ok_or(bad_line())?;
-    let mut files = Vec::new(rt.alloc());
-    put_file(rt.alloc(), "conf", fs::read(rt, conf)?, &mut files)?;
-    put_file(
-        rt.alloc(),
-        "script",
-        script.as_bytes().to_vec(rt.alloc())?,
-        &mut files,
-    )?;
-    let (status, text) = done(rt, files, "play conf script")?;
-    status_of(rt, status, text.as_slice())
+    let (status, text) = done(rt, script_over(rt, input)?, "play conf script")?;
+    let played = status_of(rt, status, text.as_slice())?;
+    checked_so(rt, played, script_over(rt, input)?)
 }
 
 /// What the program answers to these words over two files that are played by `play conf script`,
-/// or the name of their report where it writes that.
+/// or what it writes: `ok`, or the name of their report.
 pub fn words(rt: &HostRuntime, input: &[u8]) -> io::Result<String> {
     let files = files_at(rt, "one_peer.conf", "one_route.script")?;
     let (status, text) = done(rt, files, text_of(input)?)?;
@@ -124,7 +141,8 @@ pub fn words(rt: &HostRuntime, input: &[u8]) -> io::Result<String> {
 pub fn report(rt: &HostRuntime, name: &str, input: &[u8]) -> io::Result<String> {
     let files = files_of(rt.alloc(), input)?;
     let (status, text) = done(rt, files, "play conf script")?;
-    compared(rt, name, status, text.as_slice())
+    let played = compared(rt, name, status, text.as_slice())?;
+    also_checked(rt, played, files_of(rt.alloc(), input)?)
 }
 
 /// Which report the play of files of these names writes.
@@ -138,5 +156,6 @@ pub fn play(rt: &HostRuntime, name: &str, input: &[u8]) -> io::Result<String> {
         let words = format!(in rt.alloc(); "play conf script {more}")?;
         done(rt, files, words.as_str())?
     };
-    compared(rt, name, status, text.as_slice())
+    let played = compared(rt, name, status, text.as_slice())?;
+    also_checked(rt, played, files_at(rt, conf, script)?)
 }

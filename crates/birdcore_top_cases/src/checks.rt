@@ -1,0 +1,53 @@
+//! What `check` answers and writes.
+//!
+//! An input is `CONF @@ SCRIPT`, the two files' texts, or `CONF` alone; `none` stands for a file that
+//! isn't there.
+use crate::plays::{done, files_with, status_of, text_of};
+use birdcore_top::Status;
+use outside_io::MemFile;
+use std::io;
+
+/// What the program answers to these words over these files, and `ok` where it writes that.
+fn checked(rt: &HostRuntime, files: Vec<MemFile>, words: &str) -> io::Result<String> {
+    let (status, text) = done(rt, files, words)?;
+    if status == Status::Ok && text.as_slice() == b"ok\n".as_slice() {
+        Ok(String::from_str(rt.alloc(), "ok")?)
+    } else {
+        status_of(rt, status, text.as_slice())
+    }
+}
+
+/// What the check of an input answers.
+pub fn answer(rt: &HostRuntime, input: &[u8]) -> io::Result<String> {
+    let text = text_of(input)?;
+    match text.split_once(" @@ ") {
+        Some((conf, script)) => {
+            let files = files_with(rt.alloc(), conf, script)?;
+            checked(rt, files, "check conf script")
+        }
+        None => checked(rt, files_with(rt.alloc(), text, "none")?, "check conf"),
+    }
+}
+
+/// What a play came to, and how a check of its files differs from what is wanted.
+fn beside(rt: &HostRuntime, played: String, wanted: bool, checked: &str) -> io::Result<String> {
+    if wanted {
+        Ok(played)
+    } else {
+        Ok(format!(in rt.alloc(); "{played}, and checked: {checked}")?)
+    }
+}
+
+/// The status of a play, where the check of its files has the same; want of memory comes of a play
+/// alone.
+pub fn checked_so(rt: &HostRuntime, played: String, files: Vec<MemFile>) -> io::Result<String> {
+    let checked = checked(rt, files, "check conf script")?;
+    let wanted = checked.as_str() == played.as_str() || played.as_str() == "out of memory";
+    beside(rt, played, wanted, checked.as_str())
+}
+
+/// What a play wrote, where the check of its files writes `ok`.
+pub fn also_checked(rt: &HostRuntime, played: String, files: Vec<MemFile>) -> io::Result<String> {
+    let checked = checked(rt, files, "check conf script")?;
+    beside(rt, played, checked.as_str() == "ok", checked.as_str())
+}
