@@ -1,18 +1,18 @@
 -- What the script comes to, over a configuration that is accepted.
-use Rattle.std.proofs.Common.{◌≡◌, ℕ, ◌-◌, ◌≤◌, List, Option, Some, None, sym, ◌∙◌, subst, arith, inl, inr}
-use Rattle.std.specs.Prelude.{Bool, Result, Ok, Err, IfErr, IfSome, IsErrAnd, IsTrue}
+use Rattle.std.proofs.Common.{◌≡◌, ℕ, ◌≤◌, List, Option, Some, None, sym, ◌∙◌, subst, arith, inl, inr}
+use Rattle.std.specs.Prelude.{◌⊎◌, Bool, Result, Ok, Err, IfErr, IfSome, IsErrAnd, IsTrue}
 use Rattle.core_setup.specs.Setup.{Setup}
 use Rattle.outside_io.specs.Faults.{NoneFell, Rose}
 use Rattle.report.specs.declared.phase.PhaseReport.{PhaseReport}
 use Rattle.script_lines.specs.declared.script.Line.{Line}
 use Rattle.sys_build.specs.Setups.{IsPlayable}
 use Rattle.system.specs.System.{System}
-use Rattle.birdcore_top.specs.Answer.{FindsLackedBy, HasCause, IsEnd, IsMissed, MissesInTurn, Stops}
-use Rattle.birdcore_top.specs.Command.{Command, Play}
-use Rattle.birdcore_top.specs.Outcome.{Configures, Held, Outcome, IsAccepted, IsPossible, Played, ScriptGives}
+use Rattle.birdcore_top.specs.Answer.{AreMissedInTurn, FindsLackedBy, HasCause, IsEnd, IsMissed, Stops}
+use Rattle.birdcore_top.specs.Command.{Command}
+use Rattle.birdcore_top.specs.Outcome.{Accepted, Configures, Held, Outcome, IsAccepted, ConfGives, IsPossible, PlayGives, Played, ScriptGives}
 use Rattle.birdcore_top.specs.Written.{HasBegun, IfBegun}
 use Rattle.birdcore_top.specs.declared.status.Status.{Status}
-use Rattle.birdcore_top.specs.declared.status.Status.TheVariants.{Usage, ConfigRefused, ScriptRefused, NotBuilt, ReadFault, WriteFault, OutOfMemory, TooLong}
+use Rattle.birdcore_top.specs.declared.status.Status.TheVariants.{Usage, ConfigRefused, ScriptRefused, ReadFault, WriteFault, OutOfMemory, TooLong}
 use Rattle.birdcore_top.specs.declared.status.Status.TheVariants as variants
 
 -- the status that an error is made of
@@ -25,29 +25,33 @@ pub stops_as : {T : Type 0} (possible : Outcome → Type 0) (result : Result T S
 stops_as possible (Ok x) made is stops = tt
 stops_as possible (Err e) made is stops = subst (λ (s : Status). Stops possible s) (sym is) stops
 
-accepted_of : (file : Option (List ℕ)) (system : System) → IfSome file (Configures system) → IfSome file IsAccepted
+pub accepted_of : (file : Option (List ℕ)) (system : System) → IfSome file (Configures system) → IfSome file IsAccepted
 accepted_of None system is = tt
 accepted_of (Some text) system is = (system, is)
 
 pub rose_since : (before between now : ℕ) → before ≤ between → Rose between now → Rose before now
 rose_since before between now later rose = grind (arith, later, rose)
 
-module _ (conf script : List ℕ) (cells : ℕ) (held : Held) (system : System) (playable : IsPlayable system) (accepted : IfSome (held conf) (Configures system)) where
-  pub over : (o : Outcome) → ScriptGives IfSome system cells script (held script) o → IsPossible (Some (Play conf script cells)) held o
-  over o is = inr (system, playable, accepted, is)
+module _ (conf script : List ℕ) (held : Held) (system : System) (playable : IsPlayable system) (accepted : IfSome (held conf) (Configures system)) where
+  pub over : (cells : ℕ) (o : Outcome) → ScriptGives IfSome system cells script (held script) o → PlayGives IfSome conf script cells held o
+  over cells o is = inr (system, playable, accepted, is)
 
-  -- the script is refused, or isn't built
-  pub script_stopped : (status : Status) → Stops (λ o. (n : ℕ) → ScriptGives IfSome system n script (held script) o) status → Stops (IsPossible (Some (Play conf script cells)) held) status
-  script_stopped status is = record { early = is.early; cause = λ answer. let found = is.cause answer in (found.0, inr (system, playable, accepted, found.1 cells), found.2) }
+  -- the script is refused
+  pub script_stopped : (status : Status) → Stops (λ o. (n : ℕ) → ScriptGives IfSome system n script (held script) o) status → Stops (λ o. (n : ℕ) → PlayGives IfSome conf script n held o) status
+  script_stopped status is = record { early = is.early; cause = λ answer. let found = is.cause answer in (found.0, λ n. inr (system, playable, accepted, found.1 n), found.2) }
 
-  pub in_turn : (before between now : List ℕ → ℕ) → NoneFell before between → Rose (between script) (now script) → MissesInTurn (Play conf script cells) held before now
+  pub in_turn : (before between now : List ℕ → ℕ) → NoneFell before between → Rose (between script) (now script) → AreMissedInTurn conf script held before now
   in_turn before between now none_fell rose = inr (accepted_of (held conf) system accepted, rose_since (before script) (between script) (now script) (none_fell script) rose)
 
+-- the configuration is refused
+pub conf_stopped : (conf script : List ℕ) (held : Held) (status : Status) → Stops (ConfGives IfSome conf (held conf)) status → Stops (λ o. (n : ℕ) → PlayGives IfSome conf script n held o) status
+conf_stopped conf script held status is = record { early = is.early; cause = λ answer. let found = is.cause answer in (found.0, λ n. inl found.1, found.2) }
+
 -- where the script isn't held
-pub lacked_script : {T : Type 0} (conf script : List ℕ) (cells : ℕ) (held : Held) (lacks : List ℕ → Bool) (result : Result T Status) (made : Status) → IsErrAnd result (λ e. e ≡ made)
-    → (IsTrue (lacks conf) → ⊥) → (IsTrue (lacks script) → IsMissed made) → FindsLackedBy (Play conf script cells) lacks held result
-lacked_script conf script cells held lacks (Ok x) made is held_conf missed = absurd is
-lacked_script conf script cells held lacks (Err e) made is held_conf missed = (λ lacks_it. absurd (held_conf lacks_it), λ lacks_it. inl (subst (λ (s : Status). IsMissed s) (sym is) (missed lacks_it)))
+pub lacked_script : {T : Type 0} (conf script : List ℕ) (held : Held) (lacks : List ℕ → Bool) (result : Result T Status) (made : Status) → IsErrAnd result (λ e. e ≡ made)
+    → (IsTrue (lacks conf) → ⊥) → (IsTrue (lacks script) → IsMissed made) → FindsLackedBy conf script lacks held result
+lacked_script conf script held lacks (Ok x) made is held_conf missed = absurd is
+lacked_script conf script held lacks (Err e) made is held_conf missed = (λ lacks_it. absurd (held_conf lacks_it), λ lacks_it. inl (subst (λ (s : Status). IsMissed s) (sym is) (missed lacks_it)))
 
 -- what is begun of a play that may be due
 pub begun_of : (command : Option Command) (held : Held) (setup : Setup) (actors : List (List ℕ)) (phases : List (List Line)) (P : List (List Line) → List PhaseReport → Type 0)
@@ -74,4 +78,8 @@ end_has_cause command held setup actors phases possible Usage is = absurd is
 end_has_cause command held setup actors phases possible (ConfigRefused line column kind) is = absurd is
 end_has_cause command held setup actors phases possible (ScriptRefused line kind) is = absurd is
 end_has_cause command held setup actors phases possible (TooLong word) is = absurd is
-end_has_cause command held setup actors phases possible (NotBuilt file line) is = absurd is
+
+-- and so does the end of a check that accepts
+pub accepted_has_cause : (command : Option Command) (held : Held) → IsPossible command held Accepted → (status : Status) → (status ≡ variants.Ok) ⊎ (status ≡ WriteFault) → HasCause (IsPossible command held) status
+accepted_has_cause command held possible status (inl is) = subst (λ (s : Status). HasCause (IsPossible command held) s) (sym is) (λ answer. (Accepted, possible, tt))
+accepted_has_cause command held possible status (inr is) = subst (λ (s : Status). HasCause (IsPossible command held) s) (sym is) (λ answer. absurd (cc))

@@ -1,18 +1,19 @@
 -- What a file that was read whole tells of the outcome.
-use Rattle.std.proofs.Common.{◌≡◌, ℕ, ◌≤◌, true, List, length, Option, Some, None, refl, sym, subst}
+use Rattle.std.proofs.Common.{◌≡◌, ℕ, ◌≤◌, List, length, Option, Some, None, refl, sym, subst}
 use Rattle.std.specs.Prelude.{IfSome}
 use Rattle.outside_io.specs.Whole.{limit, IsLong, IsWhole}
-use Rattle.script_lines.specs.Script as script
 use Rattle.script_lines.specs.declared.faults.ScriptKind.{ScriptKind}
-use Rattle.sys_build.specs.Names.{named_of}
+use Rattle.sys_build.specs.Scripts as script
+use Rattle.sys_build.specs.declared.scripts.ReadFault.{ReadFault}
+use Rattle.sys_build.specs.declared.scripts.ReadFault.TheVariants as line_faults
 use Rattle.system.specs.System.{System}
-use Rattle.system.specs.Texts.{IsFault, IsSystem}
+use Rattle.system.specs.Texts.{IsFault}
 use Rattle.system.specs.declared.read.SystemFault.{SystemFault}
 use Rattle.system.specs.declared.read.SystemFault.TheVariants as faults
-use Rattle.birdcore_top.specs.Outcome.{Outcome, OverLimit, Refused, BadLine, UnbuiltLine, Within, ConfGives, ScriptGives}
-use Rattle.birdcore_top.specs.Answer.{status_of, Stops}
+use Rattle.birdcore_top.specs.Outcome.{Outcome, OverLimit, Refused, BadLine, Within, ConfGives, ScriptGives}
+use Rattle.birdcore_top.specs.Answer.{line_status, status_of, Stops}
 use Rattle.birdcore_top.specs.declared.status.Status.{Status}
-use Rattle.birdcore_top.specs.declared.status.Status.TheVariants.{NotBuilt, ScriptRefused}
+use Rattle.birdcore_top.specs.declared.status.Status.TheVariants.{ScriptRefused}
 
 -- what holds of the bytes that were read holds of the file, where it is told
 pub judged : (held : Option (List ℕ)) (bytes : List ℕ) (P : List ℕ → Type 0) → IsWhole held bytes → P bytes → IfSome held (Within P)
@@ -42,11 +43,9 @@ module _ (system : System) (name : List ℕ) (held : Option (List ℕ)) where
 
   module _ (bytes : List ℕ) (whole : IsWhole held bytes) where
     -- a line of the script is refused
-    pub line_stops : (line : ℕ) (kind : ScriptKind) → script.Answers (named_of system) bytes (script.Refused line kind)
-        → Stops (λ o. (cells : ℕ) → ScriptGives IfSome system cells name held o) (ScriptRefused line kind)
+    line_stops : (line : ℕ) (kind : ScriptKind) → script.Answers system bytes (script.Refused line kind) → Stops (λ o. (cells : ℕ) → ScriptGives IfSome system cells name held o) (ScriptRefused line kind)
     line_stops line kind is = record { early = refl; cause = λ answer. (BadLine line kind, λ cells. judged held bytes _ whole is, (refl, refl)) }
 
-    -- a line of the script isn't built
-    pub unbuilt_stops : (line : ℕ) → script.Answers (named_of system) bytes (script.NotBuilt line)
-        → Stops (λ o. (cells : ℕ) → ScriptGives IfSome system cells name held o) (NotBuilt 2 line)
-    unbuilt_stops line is = record { early = refl; cause = λ answer. (UnbuiltLine line, λ cells. judged held bytes _ whole is, (refl, refl)) }
+    pub script_stops : (fault : ReadFault) → script.Tells system bytes fault → Stops (λ o. (cells : ℕ) → ScriptGives IfSome system cells name held o) (line_status fault)
+    script_stops (line_faults.Refused line kind) is = line_stops line kind is
+    script_stops line_faults.Memory is = record { early = refl; cause = λ answer. cc }

@@ -1,4 +1,5 @@
 pub mod Cells
+pub mod Asking
 pub mod Writing
 pub mod Judged
 pub mod Joined

@@ -1,6 +1,6 @@
 -- What each way out of the program owes.
 use Rattle.std.proofs.Common.{◌≡◌, ℕ, true, false, List, Option, Some, None, refl, sym, ◌∙◌, ap, subst, inl, inr}
-use Rattle.std.specs.Prelude.{◌⊎◌, Bool, IsTrue}
+use Rattle.std.specs.Prelude.{◌⊎◌, Bool, IfSome, IsTrue}
 use Rattle.std.specs.Io.KnownBytes.{Appends, Keeps}
 use Rattle.std.specs.List.{flat_map}
 use Rattle.std.proofs.KnownBytes.{Keeps-refl}
@@ -12,16 +12,16 @@ use Rattle.outside_io.specs.Whole.{WritesFront}
 use Rattle.report.specs.Report.{phase_text, report_text}
 use Rattle.report.specs.declared.phase.PhaseReport.{PhaseReport}
 use Rattle.script_lines.specs.declared.script.Line.{Line}
-use Rattle.birdcore_top.specs.Answer.{Answers, AnswersConf, FindsLacked, HasCause, IsEnd, IsMissed, MissesInTurn, Stops, is_early, writes}
+use Rattle.birdcore_top.specs.Answer.{Answers, FindsLacked, HasCause, IsEnd, MissesInTurn, Stops, is_early, writes}
 use Rattle.birdcore_top.specs.Answered.{Answered, ShelfSeen, SinkSeen}
-use Rattle.birdcore_top.specs.Command.{Command, Play}
-use Rattle.birdcore_top.specs.Outcome.{Held, Outcome, Misused, OverLimit, Refused, BadLine, UnbuiltLine, Played, IsPossible}
-use Rattle.birdcore_top.specs.Written.{HasBegun, HasPlayed, IfBegun, IfPlayed, text_so_far}
+use Rattle.birdcore_top.specs.Command.{Command, Play, Check, conf_of, script_of, usual_cells}
+use Rattle.birdcore_top.specs.Outcome.{Held, Outcome, Misused, OverLimit, Refused, BadLine, Played, Accepted, ConfGives, PlayGives, IsPossible}
+use Rattle.birdcore_top.specs.Written.{HasBegun, HasPlayed, IfBegun, IfPlayed, accepted_text, text_so_far}
 use Rattle.birdcore_top.specs.declared.status.Status.{Status}
-use Rattle.birdcore_top.specs.declared.status.Status.TheVariants.{Usage, ConfigRefused, ScriptRefused, NotBuilt, ReadFault, WriteFault, OutOfMemory, TooLong}
+use Rattle.birdcore_top.specs.declared.status.Status.TheVariants.{Usage, ConfigRefused, ScriptRefused, ReadFault, WriteFault, OutOfMemory, TooLong}
 use Rattle.birdcore_top.specs.declared.status.Status.TheVariants as variants
 use Rattle.birdcore_top.proofs.Decided.{HasOneOutcome, exact}
-use Rattle.birdcore_top.proofs.Joined.{begun_of, end_has_cause}
+use Rattle.birdcore_top.proofs.Joined.{accepted_has_cause, begun_of, end_has_cause}
 
 -- ---- words that are no command
 
@@ -46,14 +46,20 @@ nothing_asked shelf sink = record {
 -- ---- what a command answers
 
 -- words that are a command aren't told that they are misused
+never_misused : (command : Command) (held : Held) → IsPossible (Some command) held Misused → ⊥
+never_misused (Play conf script cells) held (inl is) = is
+never_misused (Play conf script cells) held (inr is) = is.3
+never_misused (Check conf None) held is = is
+never_misused (Check conf (Some script)) held (inl is) = is
+never_misused (Check conf (Some script)) held (inr is) = is.3
+
 no_misuse : (command : Command) (held : Held) (o : Outcome) → IsPossible (Some command) held o → Answers o Usage → ⊥
-no_misuse (Play conf script cells) held Misused (inl is) answers = is
-no_misuse (Play conf script cells) held Misused (inr is) answers = is.3
+no_misuse command held Misused possible answers = never_misused command held possible
 no_misuse command held (OverLimit name) possible answers = answers
 no_misuse command held (Refused line column kind) possible answers = answers
 no_misuse command held (BadLine line kind) possible answers = answers
-no_misuse command held (UnbuiltLine line) possible answers = answers
 no_misuse command held (Played setup actors phases) possible answers = answers
+no_misuse command held Accepted possible answers = answers
 
 not_usage : (command : Command) (held : Held) (status : Status) → HasCause (IsPossible (Some command) held) status → status ≡ Usage → ⊥
 not_usage command held status cause is =
@@ -63,22 +69,57 @@ not_usage command held status cause is =
 no_command : (command : Command) → ◌≡◌ {A = Option Command} (Some command) None → ⊥
 no_command command is = none-some command (sym is)
 
--- both files are held, as far as that is told
+-- its files are held, as far as that is told
 abbrev AreHeld : Command → (List ℕ → Bool) → Type 0
-AreHeld (Play conf script cells) lacks = (IsTrue (lacks conf) → ⊥) × (IsTrue (lacks script) → ⊥)
+AreHeld command lacks = (IsTrue (lacks (conf_of command)) → ⊥) × IfSome (script_of command) (λ script. IsTrue (lacks script) → ⊥)
 
-held_both : (command : Command) (lacks : List ℕ → Bool) (held : Held) (status : Status) → AreHeld command lacks → FindsLacked (Some command) lacks held status
-held_both (Play conf script cells) lacks held status are = record { conf_lacked = λ lacking. absurd (are.0 lacking); script_lacked = λ lacking. absurd (are.1 lacking) }
+held_all : (command : Command) (lacks : List ℕ → Bool) (held : Held) (status : Status) → AreHeld command lacks → FindsLacked (Some command) lacks held status
+held_all (Play conf script cells) lacks held status are = record { conf_lacked = λ lacking. absurd (are.0 lacking); script_lacked = λ lacking. absurd (are.1 lacking) }
+held_all (Check conf None) lacks held status are = record { conf_lacked = λ lacking. absurd (are.0 lacking); script_lacked = tt }
+held_all (Check conf (Some script)) lacks held status are = record { conf_lacked = λ lacking. absurd (are.0 lacking); script_lacked = λ lacking. absurd (are.1 lacking) }
 
--- what is answered where one isn't
-abbrev AreMissed : Command → (List ℕ → Bool) → Held → Status → Type 0
-AreMissed (Play conf script cells) lacks held status =
-    (IsTrue (lacks conf) → IsMissed status) × (IsTrue (lacks script) → IsMissed status ⊎ AnswersConf (Play conf script cells) held status)
+-- ---- what stops a play stops a check
 
-missed_one : (command : Command) (lacks : List ℕ → Bool) (held : Held) (status : Status) → AreMissed command lacks held status → FindsLacked (Some command) lacks held status
-missed_one (Play conf script cells) lacks held status are = record { conf_lacked = are.0; script_lacked = are.1 }
+-- an outcome that a play answers before it writes
+checked_so : (conf script : List ℕ) (held : Held) (o : Outcome) (status : Status) → is_early status ≡ true → PlayGives IfSome conf script usual_cells held o → Answers o status
+    → (q : Outcome) × IsPossible (Some (Check conf (Some script))) held q × Answers q status
+checked_so conf script held Misused status early gives answers = (Misused, gives, answers)
+checked_so conf script held (OverLimit name) status early gives answers = (OverLimit name, gives, answers)
+checked_so conf script held (Refused line column kind) status early gives answers = (Refused line column kind, gives, answers)
+checked_so conf script held (BadLine line kind) status early gives answers = (BadLine line kind, gives, answers)
+checked_so conf script held Accepted status early (inl is) answers = absurd is
+checked_so conf script held Accepted status early (inr is) answers = absurd is.3
+checked_so conf script held (Played setup actors phases) variants.Ok early gives answers = absurd (true≢false (sym early))
+checked_so conf script held (Played setup actors phases) Usage early gives answers = absurd answers
+checked_so conf script held (Played setup actors phases) (ConfigRefused line column kind) early gives answers = absurd answers
+checked_so conf script held (Played setup actors phases) (ScriptRefused line kind) early gives answers = absurd answers
+checked_so conf script held (Played setup actors phases) ReadFault early gives answers = absurd answers
+checked_so conf script held (Played setup actors phases) WriteFault early gives answers = absurd answers
+checked_so conf script held (Played setup actors phases) OutOfMemory early gives answers = absurd answers
+checked_so conf script held (Played setup actors phases) (TooLong name) early gives answers = absurd answers
 
--- nothing was written
+pub stops_play : (conf script : List ℕ) (cells : ℕ) (held : Held) (status : Status) → Stops (λ o. (n : ℕ) → PlayGives IfSome conf script n held o) status
+    → Stops (IsPossible (Some (Play conf script cells)) held) status
+stops_play conf script cells held status is = record { early = is.early; cause = λ answer. let found = is.cause answer in (found.0, found.1 cells, found.2) }
+
+pub stops_check : (conf script : List ℕ) (held : Held) (status : Status) → Stops (λ o. (n : ℕ) → PlayGives IfSome conf script n held o) status
+    → Stops (IsPossible (Some (Check conf (Some script))) held) status
+stops_check conf script held status is = record { early = is.early; cause = λ answer. let found = is.cause answer in checked_so conf script held found.0 status is.early (found.1 usual_cells) found.2 }
+
+-- an outcome of a configuration that is refused
+refused_so : (conf : List ℕ) (held : Held) (o : Outcome) → ConfGives IfSome conf (held conf) o → IsPossible (Some (Check conf None)) held o
+refused_so conf held (OverLimit name) is = is
+refused_so conf held (Refused line column kind) is = is
+refused_so conf held Misused is = is
+refused_so conf held (BadLine line kind) is = is
+refused_so conf held (Played setup actors phases) is = is
+refused_so conf held Accepted is = absurd is
+
+pub stops_alone : (conf : List ℕ) (held : Held) (status : Status) → Stops (ConfGives IfSome conf (held conf)) status → Stops (IsPossible (Some (Check conf None)) held) status
+stops_alone conf held status is = record { early = is.early; cause = λ answer. let found = is.cause answer in (found.0, refused_so conf held found.0 found.1, found.2) }
+
+-- ---- nothing was written, or all
+
 not_early : (status other : Status) → is_early status ≡ true → is_early other ≡ false → status ≡ other → ⊥
 not_early status other early late is = true≢false (sym early ∙ ap is_early is ∙ late)
 
@@ -92,7 +133,19 @@ end_writes ReadFault is silent = is
 end_writes (ConfigRefused line column kind) is silent = is
 end_writes (ScriptRefused line kind) is silent = is
 end_writes (TooLong name) is silent = is
-end_writes (NotBuilt file line) is silent = is
+
+-- nor is what a check writes silent
+accepted_writes : (status : Status) → (status ≡ variants.Ok) ⊎ (status ≡ WriteFault) → writes status ≡ false → ⊥
+accepted_writes status (inl is) silent = true≢false (sym (ap writes is) ∙ silent)
+accepted_writes status (inr is) silent = true≢false (sym (ap writes is) ∙ silent)
+
+accepted_reads : (status : Status) → (status ≡ variants.Ok) ⊎ (status ≡ WriteFault) → status ≡ ReadFault → ⊥
+accepted_reads status (inl is) read = absurd (cc)
+accepted_reads status (inr is) read = absurd (cc)
+
+accepted_wants : (status : Status) → (status ≡ variants.Ok) ⊎ (status ≡ WriteFault) → status ≡ OutOfMemory → ⊥
+accepted_wants status (inl is) wants = absurd (cc)
+accepted_wants status (inr is) wants = absurd (cc)
 
 module _ (law : HasOneOutcome) (command : Command) (shelf shelf_after : ShelfSeen) (sink sink_after : SinkSeen) where
   -- the front of a report
@@ -101,7 +154,7 @@ module _ (law : HasOneOutcome) (command : Command) (shelf shelf_after : ShelfSee
 
   -- A file stops the program before anything is written.
   pub stopped : (status : Status) → Stops (IsPossible (Some command) shelf.held) status → (status ≡ ReadFault → Rose shelf.faults shelf_after.faults)
-      → (status ≡ ReadFault → MissesInTurn command shelf.held shelf.missed shelf_after.missed) → AreMissed command shelf.lacks shelf.held status
+      → (status ≡ ReadFault → MissesInTurn command shelf.held shelf.missed shelf_after.missed) → FindsLacked (Some command) shelf.lacks shelf.held status
       → Keeps sink.contents sink_after.contents → Answered (Some command) shelf shelf_after sink sink_after status
   stopped status is read in_turn absent kept =
       let failed : status ≡ WriteFault → ⊥ = not_early status WriteFault is.early refl in
@@ -115,8 +168,8 @@ module _ (law : HasOneOutcome) (command : Command) (shelf shelf_after : ShelfSee
         front = λ fault. absurd (failed fault);
         begun = λ wanting. inl kept;
         nothing_else = λ silent. kept;
-        exact = exact law (Some command) shelf.held shelf.missed shelf_after.missed sink.faults sink_after.faults Front status is.cause in_turn (λ fault. absurd (failed fault)) (λ fault. absurd (failed fault));
-        absent = missed_one command shelf.lacks shelf.held status absent;
+        exact = exact law (Some command) shelf.held shelf.missed shelf_after.missed sink.faults sink_after.faults Front (WritesFront sink.contents sink_after.contents accepted_text) status is.cause in_turn (λ fault. absurd (failed fault)) (λ fault. absurd (failed fault));
+        absent = absent;
       }
 
   module _ (setup : Setup) (actors : List (List ℕ)) (phases : List (List Line)) (possible : IsPossible (Some command) shelf.held (Played setup actors phases)) where
@@ -147,10 +200,32 @@ module _ (law : HasOneOutcome) (command : Command) (shelf shelf_after : ShelfSee
           read = λ is. absurd (no_read is);
           in_turn = λ is. absurd (no_read is);
           write = write;
-          report = λ is. played_of (λ reports. Appends sink.contents sink_after.contents (report_text reports)) (report is);
-          front = begun_so;
+          report = λ is. inl (played_of (λ reports. Appends sink.contents sink_after.contents (report_text reports)) (report is));
+          front = λ is. inl (begun_so is);
           begun = λ is. inr (begun_of (Some command) shelf.held setup actors phases (λ more reports. Appends sink.contents sink_after.contents (flat_map phase_text reports)) possible (begun is));
           nothing_else = λ silent. absurd (end_writes status end silent);
-          exact = exact law (Some command) shelf.held shelf.missed shelf_after.missed sink.faults sink_after.faults Front status cause (λ is. absurd (no_read is)) write begun_so;
-          absent = held_both command shelf.lacks shelf.held status absent;
+          exact = exact law (Some command) shelf.held shelf.missed shelf_after.missed sink.faults sink_after.faults Front (WritesFront sink.contents sink_after.contents accepted_text) status cause (λ is. absurd (no_read is)) write (λ is. inl (begun_so is));
+          absent = held_all command shelf.lacks shelf.held status absent;
         }
+
+  -- What was checked is accepted, which is written, or the sink fails.
+  pub accepted : IsPossible (Some command) shelf.held Accepted → AreHeld command shelf.lacks → (status : Status) → (status ≡ variants.Ok) ⊎ (status ≡ WriteFault)
+      → (status ≡ variants.Ok → Appends sink.contents sink_after.contents accepted_text) → (status ≡ WriteFault → WritesFront sink.contents sink_after.contents accepted_text)
+      → (status ≡ WriteFault → Rose sink.faults sink_after.faults) → Answered (Some command) shelf shelf_after sink sink_after status
+  accepted possible absent status end whole front write =
+      let cause = accepted_has_cause (Some command) shelf.held possible status end in
+      record {
+        usage = (λ used. absurd (not_usage command shelf.held status cause used), λ none. absurd (no_command command none));
+        cause = cause;
+        read = λ is. absurd (accepted_reads status end is);
+        in_turn = λ is. absurd (accepted_reads status end is);
+        write = write;
+        report = λ is. inr (possible, whole is);
+        front = λ is. inr (possible, front is);
+        begun = λ is. absurd (accepted_wants status end is);
+        nothing_else = λ silent. absurd (accepted_writes status end silent);
+        exact =
+            exact law (Some command) shelf.held shelf.missed shelf_after.missed sink.faults sink_after.faults Front (WritesFront sink.contents sink_after.contents accepted_text) status cause
+            (λ is. absurd (accepted_reads status end is)) write (λ is. inr (possible, front is));
+        absent = held_all command shelf.lacks shelf.held status absent;
+      }

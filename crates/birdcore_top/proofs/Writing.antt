@@ -1,12 +1,12 @@
 -- What is written of a play, phase by phase.
-use Rattle.std.proofs.Common.{◌≡◌, ℕ, List, [], ◌∷◌, ◌++◌, length, take, drop, map, Option, refl, sym, ◌∙◌, ap, subst, append_assoc, append-nil, take-append-drop}
+use Rattle.std.proofs.Common.{◌≡◌, ℕ, ◌<◌, ◌+◌, ◌^◌, arith, List, [], ◌∷◌, ◌++◌, length, take, drop, map, Option, refl, sym, ◌∙◌, ap, subst, append_assoc, append-nil, take-append-drop}
 use Rattle.std.proofs.KnownBytes.{Appends-nil}
 use Rattle.std.proofs.Math.Seq.{take-append_seam}
 use Rattle.std.proofs.lemmas.Grind.{flat_map-append}
-use Rattle.std.proofs.lemmas.List.{map-append}
+use Rattle.std.proofs.lemmas.List.{length-append, length-map, map-append}
 use Rattle.std.specs.Prelude.{codes}
 use Rattle.std.specs.Io.KnownBytes.{Appends, Keeps}
-use Rattle.std.specs.List.{flat_map}
+use Rattle.std.specs.List.{AllByRecursion, flat_map}
 use Rattle.attrs.specs.declared.judge.Verdict.{Verdict}
 use Rattle.attrs.specs.declared.route.Route.{Route}
 use Rattle.bits_ip.specs.Prefix.{Net}
@@ -65,6 +65,14 @@ so_far a b c reports report (phase ∷ more) before text =
 
 -- ---- phases
 
+-- what holds of each phase holds of the next
+next_of : {A : Type 0} (P : A → Type 0) (front : List A) (x : A) (back : List A) → AllByRecursion P (front ++ x ∷ back) → P x
+next_of P [] x back all = all.0
+next_of P (y ∷ front) x back all = next_of P front x back all.1
+
+pub asked_next : {A B : Type 0} (P : B → Type 0) (f : A → B) (front : List A) (x : A) (back whole : List A) → front ++ x ∷ back ≡ whole → AllByRecursion P (map f whole) → P (f x)
+asked_next P f front x back whole is all = next_of P (map f front) (f x) (map f back) (subst (AllByRecursion P) (ap (λ l. map f l) (sym is) ∙ map-append f front (x ∷ back)) all)
+
 -- what is done and what is left
 pub split : {A B : Type 0} (f : A → B) (done rest all : List A) → done ++ rest ≡ all → map f all ≡ map f done ++ map f rest
 split f done rest all whole = ap (λ l. map f l) (sym whole) ∙ map-append f done rest
@@ -72,6 +80,11 @@ split f done rest all whole = ap (λ l. map f l) (sym whole) ∙ map-append f do
 -- what is done with one more, and what is left behind it
 pub split_behind : {A B : Type 0} (f : A → B) (done : List A) (x : A) (rest all : List A) → done ++ x ∷ rest ≡ all → map f all ≡ map f done ++ f x ∷ [] ++ map f rest
 split_behind f done x rest all whole = split f done (x ∷ rest) all whole ∙ sym (append_assoc (map f done) (f x ∷ []) (map f rest))
+
+-- A list in memory has fewer than 2 ^ 63 items.
+pub few_so_far : {A B C : Type 0} (h : B → C) (f : A → B) (front back whole : List A) → front ++ back ≡ whole → length whole < 2 ^ 63 → length (map h (map f front)) + 1 < 2 ^ 64
+few_so_far h f front back whole is few =
+    omega (arith, few, ap (λ l. length l) is, length-append front back, length-map (map f front) h, length-map front f)
 
 plays_all : (rules : Rules) (acts : List Act) (past : Joined) (s : State) (scripts : List (List MachineLine)) (printed : List Printed) (t : State) → PlaysTo rules acts past s scripts printed t
     → PlaysAll rules acts past s scripts printed
@@ -82,11 +95,11 @@ plays_all rules acts past s (lines ∷ more) (p ∷ printed) t is = (is.0, is.1,
 
 module _ {J : Type 0} (verdict : J → Net → Route → Verdict) (setup : Setup) (actors : List (List ℕ)) where
   -- what a core has played is a play
-  pub is_play : (phases : List (List Line)) (reports : List PhaseReport) (now : Core J) → core.HasPlayed verdict setup actors (map phase_of phases) reports now
+  pub is_play : (phases : List (List Line)) (reports : List PhaseReport) (now : Core J) → core.HasPlayed verdict setup actors (map (phase_of setup.queries) phases) reports now
       → ArePlayed setup actors phases reports
   is_play phases reports now is = record {
     printed = is.printed;
-    plays = plays_all (rules_of setup) (starts setup) nothing _ (map phase_of phases) is.printed is.state is.plays;
+    plays = plays_all (rules_of setup) (starts setup) nothing _ (map (phase_of setup.queries) phases) is.printed is.state is.plays;
     are = is.are;
   }
 
@@ -95,9 +108,9 @@ module _ {J : Type 0} (verdict : J → Net → Route → Verdict) (setup : Setup
   nothing_yet now a is = record { reports = []; played = is; written = Appends-nil a }
 
   module _ (phases : List (List Line)) (lines : List Line) (now next : Core J) (report : PhaseReport) (a b c : Option (List ℕ)) (written : HasWritten verdict setup actors phases now a b)
-      (played : core.HasPlayed verdict setup actors (map phase_of phases ++ phase_of lines ∷ []) (written.reports ++ report ∷ []) next) where
-    one_more : core.HasPlayed verdict setup actors (map phase_of (phases ++ lines ∷ [])) (written.reports ++ report ∷ []) next
-    one_more = subst (λ (l : List (List MachineLine)). core.HasPlayed verdict setup actors l (written.reports ++ report ∷ []) next) (sym (map-append phase_of phases (lines ∷ []))) played
+      (played : core.HasPlayed verdict setup actors (map (phase_of setup.queries) phases ++ phase_of setup.queries lines ∷ []) (written.reports ++ report ∷ []) next) where
+    one_more : core.HasPlayed verdict setup actors (map (phase_of setup.queries) (phases ++ lines ∷ [])) (written.reports ++ report ∷ []) next
+    one_more = subst (λ (l : List (List MachineLine)). core.HasPlayed verdict setup actors l (written.reports ++ report ∷ []) next) (sym (map-append (phase_of setup.queries) phases (lines ∷ []))) played
 
     -- a phase more is done
     pub phase_more : Appends b c (phase_text report) → HasWritten verdict setup actors (phases ++ lines ∷ []) next a c

@@ -3,7 +3,7 @@
 -- Not modelled: what a shelf or a sink doesn't tell; when memory is refused, which may come in place
 -- of any answer.
 -- From: own.
--- Example: the table of statuses in the README.
+-- Example: the table of statuses in the README, for both commands.
 use Rattle.std.specs.Prelude.{◌≡◌, ◌⊎◌, ◌↔◌, ℕ, Bool, false, List, Option, None, IsSomeAnd}
 use Rattle.std.specs.Io.KnownBytes.{Appends, Keeps}
 use Rattle.std.specs.List.{flat_map}
@@ -13,7 +13,7 @@ use Rattle.report.specs.Report.{phase_text, report_text}
 use Rattle.birdcore_top.specs.Answer.{Answers, FindsLacked, HasCause, MissesInTurn, NoneFailed, SinkTakes, writes}
 use Rattle.birdcore_top.specs.Command.{Command}
 use Rattle.birdcore_top.specs.Outcome.{Held, Outcome, IsPossible, IsRequired}
-use Rattle.birdcore_top.specs.Written.{IfBegun, IfPlayed, text_so_far}
+use Rattle.birdcore_top.specs.Written.{IfAccepted, IfBegun, IfPlayed, accepted_text, text_so_far}
 use Rattle.birdcore_top.specs.declared.status.Status.{Status}
 use Rattle.birdcore_top.specs.declared.status.Status.TheVariants.{Ok, Usage, ReadFault, WriteFault, OutOfMemory}
 
@@ -58,15 +58,20 @@ pub record Answered
       → IsSomeAnd command (λ c. MissesInTurn c shelf.held shelf.missed shelf_after.missed)
   -- A write fault is answered only where the output failed.
   pub write : status ≡ WriteFault → Rose sink.faults sink_after.faults
-  -- With the status 0 the report is written, of all phases and to its end.
+  -- With the status 0 the report is written, of all phases and to its end; of a check `ok` and a
+  -- newline.
   pub report : status ≡ Ok
       → IfPlayed command shelf.held
       (λ reports. Appends sink.contents sink_after.contents (report_text reports))
+      ⊎ IfAccepted command shelf.held
+      (Appends sink.contents sink_after.contents accepted_text)
   -- After a write fault a front of the report is written; its last line, `end`, was begun only
-  -- where the reports of all phases stand before it.
+  -- where the reports of all phases stand before it. Of a check it is a front of what that writes.
   pub front : status ≡ WriteFault
       → IfBegun command shelf.held
       (λ more reports. WritesFront sink.contents sink_after.contents (text_so_far more reports))
+      ⊎ IfAccepted command shelf.held
+      (WritesFront sink.contents sink_after.contents accepted_text)
   -- Where memory was refused, the reports of the first phases are written, each whole, or nothing.
   pub begun : status ≡ OutOfMemory
       → Keeps sink.contents sink_after.contents
@@ -76,7 +81,7 @@ pub record Answered
   -- With any other status nothing is written.
   pub nothing_else : writes status ≡ false → Keeps sink.contents sink_after.contents
   -- What the told files require is answered, or want of memory, unless one of the files that
-  -- decide it failed, or the output where there is a report.
+  -- decide it failed, or the output where there is something to write.
   pub exact : (o : Outcome) → IsRequired command shelf.held o
       → NoneFailed command o shelf.missed shelf_after.missed
       → SinkTakes o sink.faults sink_after.faults

@@ -1,19 +1,40 @@
--- The words of the command line, as a command (`command_of`), and how many changes a journal is to
--- hold (`cells_in`).
+-- The words of the command line, as a command (`command_of`), which files it names (`files_of`), and
+-- how many changes a journal is to hold (`cells_in`).
 -- From: own; numbers as Rust's `u64` reads them.
--- Example: `play a b` and `play a b --journal +5` are commands; three other words, `--journal 0`
--- and `--journal 4097` are none.
-use Rattle.std.specs.Prelude.{◌&&◌, ◌==◌, not, nat_le, ℕ, Bool, List, [], ◌∷◌, length, map, String, Option, Some, None, codes, if◌then◌else◌}
+-- Example: `check a`, `check a b`, `play a b` and `play a b --journal +5` are commands; `play a`,
+-- `check a b --journal 5`, `--journal 0` and `--journal 4097` are none.
+use Rattle.std.specs.Prelude.{◌&&◌, ◌==◌, not, nat_le, ℕ, Bool, true, List, [], ◌∷◌, length, map, String, Option, Some, None, codes, if◌then◌else◌}
 use Rattle.std.specs.Str.{all_ascii_digits, bytes_eq}
 use Rattle.std.specs.Str.Parse.{digits_value, without_leading_plus}
 use Rattle.std.specs.String.{string_bytes}
 use Rattle.std.specs.declared.alloc.Global.{Global}
 use Rattle.birdcore_top.specs.declared.words.Asked.{Asked}
+use Rattle.birdcore_top.specs.declared.words.Asked.TheVariants as asked
 
--- play CONF SCRIPT: the names of the two files, and how many changes the journal of a table holds
--- for the channels that are still to take them
 pub data Command : Type 0 where
+  -- play CONF SCRIPT: the names of the two files, and how many changes the journal of a table holds
+  -- for the channels that are still to take them
   Play : (conf : List ℕ) → (script : List ℕ) → (cells : ℕ) → Command
+  -- check CONF, or check CONF SCRIPT
+  Check : (conf : List ℕ) → (script : Option (List ℕ)) → Command
+
+-- ---- files
+
+abbrev pub conf_of : Command → List ℕ
+conf_of (Play conf script cells) = conf
+conf_of (Check conf script) = conf
+
+abbrev pub script_of : Command → Option (List ℕ)
+script_of (Play conf script cells) = Some script
+script_of (Check conf script) = script
+
+-- their names, in the order in which they are read
+abbrev pub files_of : Command → List (List ℕ)
+files_of (Play conf script cells) = conf ∷ script ∷ []
+files_of (Check conf None) = conf ∷ []
+files_of (Check conf (Some script)) = conf ∷ script ∷ []
+
+-- ---- words
 
 -- how many it holds where nothing is said, and at most
 abbrev pub usual_cells : ℕ
@@ -33,18 +54,43 @@ abbrev pub cells_in : List ℕ → Option ℕ
 cells_in word =
     if spells_cells word then Some (digits_value 10 (without_leading_plus word)) else None
 
+-- the name of a file: a word that a minus sign begins is an option, but for that sign alone
+abbrev pub is_file : List ℕ → Bool
+is_file (first ∷ next ∷ word) = not (first == 45)
+is_file word = true
+
+-- one file behind the command's name
+abbrev pub asked_of_one : List ℕ → List ℕ → Option Command
+asked_of_one word conf =
+    if bytes_eq word (codes "check") && is_file conf then Some (Check conf None) else None
+
+-- two files
+abbrev pub asked_of_two : List ℕ → List ℕ → List ℕ → Option Command
+asked_of_two word conf script =
+    if is_file conf && is_file script
+    then (if bytes_eq word (codes "play")
+    then Some (Play conf script usual_cells)
+    else (if bytes_eq word (codes "check") then Some (Check conf (Some script)) else None))
+    else None
+
 abbrev pub played_with : List ℕ → List ℕ → Option ℕ → Option Command
 played_with conf script None = None
 played_with conf script (Some cells) = Some (Play conf script cells)
 
--- the command that these words are, and none where they are misused
-abbrev pub command_in : List (List ℕ) → Option Command
-command_in (word ∷ conf ∷ script ∷ []) =
-    if bytes_eq word (codes "play") then Some (Play conf script usual_cells) else None
-command_in (word ∷ conf ∷ script ∷ option ∷ number ∷ []) =
-    if bytes_eq word (codes "play") && bytes_eq option (codes "--journal")
+-- two files, an option and its value
+abbrev pub asked_of_four : List ℕ → List ℕ → List ℕ → List ℕ → List ℕ → Option Command
+asked_of_four word conf script option number =
+    if (bytes_eq word (codes "play") && bytes_eq option (codes "--journal"))
+    && (is_file conf && is_file script)
     then played_with conf script (cells_in number)
     else None
+
+-- the command that these words are, and none where they are misused
+abbrev pub command_in : List (List ℕ) → Option Command
+command_in (word ∷ conf ∷ []) = asked_of_one word conf
+command_in (word ∷ conf ∷ script ∷ []) = asked_of_two word conf script
+command_in (word ∷ conf ∷ script ∷ option ∷ number ∷ []) =
+    asked_of_four word conf script option number
 command_in words = None
 
 abbrev pub command_of : List (String Global) → Option Command
@@ -52,4 +98,6 @@ command_of words = command_in (map string_bytes words)
 
 -- for the contracts of private functions: the command that is asked for so
 abbrev pub command_asked : Asked → Command
-command_asked asked = Play asked.conf.now asked.script.now asked.cells
+command_asked (asked.Play conf script cells) = Play conf.now script.now cells
+command_asked (asked.CheckOne conf) = Check conf.now None
+command_asked (asked.CheckBoth conf script) = Check conf.now (Some script.now)

@@ -1,31 +1,34 @@
 -- What a command and its files come to (`Outcome`, by `IsPossible` and `IsRequired`): the one thing
--- that the program has to answer; which files decide it (`files_read`).
+-- that the program has to answer; which files decide it (`files_read`). A check comes to what a play
+-- of the same files does, but that they are accepted in place of played.
 -- Not modelled: what files hold that isn't told: `IsPossible` asks nothing of them, and
 -- `IsRequired` is false of all that rests on them. Over a shelf that tells its files both say the
 -- same (the law `files_have_one_outcome`).
 -- From: own.
--- Example: a refused configuration decides alone, whatever the script is.
+-- Example: a refused configuration decides alone, whatever the script is, and alike for both
+-- commands.
 use Rattle.std.specs.Prelude.{◌≡◌, ℕ, ◌≤◌, ◌⊎◌, List, [], ◌∷◌, length, Option, Some, None, IfSome, IsSomeAnd}
 use Rattle.conf_ast.specs.declared.kind.ConfKind.{ConfKind}
 use Rattle.outside_io.specs.Whole.{limit, IsLong}
 use Rattle.core_setup.specs.Setup.{Setup}
 use Rattle.script_lines.specs.declared.faults.ScriptKind.{ScriptKind}
 use Rattle.script_lines.specs.declared.script.Line.{Line}
-use Rattle.script_lines.specs.Script as script_answers
-use Rattle.script_lines.specs.Script.{Answers}
-use Rattle.sys_build.specs.Names.{named_of}
+use Rattle.show_route.specs.declared.query.Query.{Query}
+use Rattle.sys_build.specs.Scripts as script_answers
+use Rattle.sys_build.specs.Scripts.{Answers}
 use Rattle.sys_build.specs.Setups.{IsPlayable, setup_of}
+use Rattle.system.specs.Policies.{Filter}
 use Rattle.system.specs.System.{System}
 use Rattle.system.specs.Texts.{IsRefusedAt, IsSystem}
-use Rattle.birdcore_top.specs.Command.{Command, Play}
+use Rattle.birdcore_top.specs.Command.{Command, Play, Check, conf_of, files_of, usual_cells}
 
 pub data Outcome : Type 0 where
   Misused : Outcome  -- the words are no command
   OverLimit : List ℕ → Outcome  -- the file of this name is over the limit
   Refused : ℕ → ℕ → ConfKind → Outcome  -- the configuration is refused in this line and column
   BadLine : ℕ → ScriptKind → Outcome  -- this line of the script is refused
-  UnbuiltLine : ℕ → Outcome  -- no line is refused, and this one is the first that isn't built
   Played : Setup → List (List ℕ) → List (List Line) → Outcome  -- actors and phases are played
+  Accepted : Outcome  -- what was to be checked is accepted
 
 -- ---- files
 
@@ -48,6 +51,10 @@ Configures system = Within (λ file. IsSystem file system)
 abbrev pub IsAccepted : List ℕ → Type 0
 IsAccepted file = (system : System) × Configures system file
 
+-- what an accepted file within the limit comes to
+abbrev pub IsConfigured : System → Type 0
+IsConfigured system = (file : List ℕ) × Configures system file
+
 -- ---- outcomes
 
 -- what the configuration of this name gives without the script
@@ -57,20 +64,29 @@ ConfGives known name conf (Refused line column kind) =
     known conf (Within (λ file. IsRefusedAt file line column kind))
 ConfGives known name conf _ = ⊥
 
+-- A script is played: its phases and actors, over what the configuration gives to play with the
+-- script's queries and what its conditions accept. Some text is this script, and the file is, where
+-- it is told.
+pub record IsPlayed (known : Knowledge) (system : System) (cells : ℕ) (script : Option (List ℕ))
+    (setup : Setup) (actors : List (List ℕ)) (phases : List (List Line)) : Type 0 where
+  pub queries : List Query
+  pub conditions : List Filter
+  pub setup_is : setup ≡ setup_of system cells conditions queries
+  pub text : List ℕ
+  pub is_script :
+      Answers system text (script_answers.Accepted phases actors queries conditions)
+  pub told : known script (Within (λ file. Answers system file
+      (script_answers.Accepted phases actors queries conditions)))
+
 -- what the script of this name gives over a configuration
 abbrev pub ScriptGives :
     Knowledge → System → ℕ → List ℕ → Option (List ℕ) → Outcome → Type 0
 ScriptGives known system cells name script (OverLimit word) =
     (word ≡ name) × known script IsLong
 ScriptGives known system cells name script (BadLine line kind) =
-    known script
-    (Within (λ text. Answers (named_of system) text (script_answers.Refused line kind)))
-ScriptGives known system cells name script (UnbuiltLine line) =
-    known script (Within (λ text. Answers (named_of system) text (script_answers.NotBuilt line)))
+    known script (Within (λ text. Answers system text (script_answers.Refused line kind)))
 ScriptGives known system cells name script (Played setup actors phases) =
-    (setup ≡ setup_of system cells)
-    × known script
-    (Within (λ text. Answers (named_of system) text (script_answers.Accepted phases actors)))
+    IsPlayed known system cells script setup actors phases
 ScriptGives known system cells name script _ = ⊥
 
 -- The configuration comes first, and the script only where the configuration is accepted.
@@ -80,10 +96,25 @@ PlayGives known conf script cells held o =
     ⊎ ((system : System) × IsPlayable system × known (held conf) (Configures system)
     × ScriptGives known system cells script (held script) o)
 
+-- What can be played is accepted, and what can't is refused as it is then.
+abbrev pub IsCheckOf : (Outcome → Type 0) → Outcome → Type 0
+IsCheckOf play Accepted = (setup : Setup) × (actors : List (List ℕ))
+    × (phases : List (List Line)) × play (Played setup actors phases)
+IsCheckOf play (Played setup actors phases) = ⊥
+IsCheckOf play o = play o
+
+-- what a configuration gives that is checked alone
+abbrev pub CheckGives : Knowledge → List ℕ → Option (List ℕ) → Outcome → Type 0
+CheckGives known name conf Accepted = known conf IsAccepted
+CheckGives known name conf o = ConfGives known name conf o
+
 -- what a command gives over files, and words that are none
 abbrev pub Gives : Knowledge → Option Command → Held → Outcome → Type 0
 Gives known None held o = o ≡ Misused
 Gives known (Some (Play conf script cells)) held o = PlayGives known conf script cells held o
+Gives known (Some (Check conf None)) held o = CheckGives known conf (held conf) o
+Gives known (Some (Check conf (Some script))) held o =
+    IsCheckOf (PlayGives known conf script usual_cells held) o
 
 -- This may be due, as far as the files are told,
 abbrev pub IsPossible : Option Command → Held → Outcome → Type 0
@@ -95,9 +126,9 @@ IsRequired = Gives IsSomeAnd
 
 -- the names of the files that decide an outcome, in the order in which they are read
 abbrev pub files_read : Command → Outcome → List (List ℕ)
-files_read (Play conf script cells) Misused = []
-files_read (Play conf script cells) (OverLimit name) = conf ∷ name ∷ []
-files_read (Play conf script cells) (Refused line column kind) = conf ∷ []
-files_read (Play conf script cells) (BadLine line kind) = conf ∷ script ∷ []
-files_read (Play conf script cells) (UnbuiltLine line) = conf ∷ script ∷ []
-files_read (Play conf script cells) (Played setup actors phases) = conf ∷ script ∷ []
+files_read command Misused = []
+files_read command (OverLimit name) = conf_of command ∷ name ∷ []
+files_read command (Refused line column kind) = conf_of command ∷ []
+files_read command (BadLine line kind) = files_of command
+files_read command (Played setup actors phases) = files_of command
+files_read command Accepted = files_of command

@@ -1,11 +1,12 @@
 -- What is written: the report of the phases played (`ArePlayed`, `IfPlayed`), or of the first of
--- them (`IfBegun`), whose text has no last line as long as phases are left (`text_so_far`).
+-- them (`IfBegun`), whose text has no last line as long as phases are left (`text_so_far`); of a
+-- check that what was checked is accepted (`IfAccepted`, `accepted_text`).
 -- Not modelled: what stands at a sink that tells nothing.
 -- From: own.
 -- Example: the worked run of docs/DEFINITIONS.md.
-use Rattle.std.specs.Prelude.{◌≡◌, ℕ, List, [], ◌∷◌, ◌++◌, map, Option}
+use Rattle.std.specs.Prelude.{◌≡◌, ℕ, List, [], ◌∷◌, ◌++◌, codes, map, Option}
 use Rattle.std.specs.Io.KnownBytes.{Appends}
-use Rattle.std.specs.List.{flat_map}
+use Rattle.std.specs.List.{AllByRecursion, flat_map}
 use Rattle.attrs.specs.declared.judge.Verdict.{Verdict}
 use Rattle.attrs.specs.declared.route.Route.{Route}
 use Rattle.bits_ip.specs.Prefix.{Net}
@@ -14,15 +15,19 @@ use Rattle.core_setup.specs.Setup.{Setup}
 use Rattle.report.specs.Report.{phase_text, report_text}
 use Rattle.report.specs.declared.phase.PhaseReport.{PhaseReport}
 use Rattle.script_lines.specs.declared.script.Line.{Line}
+use Rattle.sys_build.specs.Setups.{setup_of}
+use Rattle.sys_build.specs.declared.scripts.ReadScript.{ReadScript}
 use Rattle.sys_run.specs.Playing as core
-use Rattle.sys_run.specs.Scripts.{phase_of}
+use Rattle.sys_run.specs.Scripts.{AsksWhatIs, phase_of}
 use Rattle.sys_run.specs.declared.player.Core.{Core}
+use Rattle.system.specs.Seen.{filter_says, system_of}
+use Rattle.system.specs.declared.system.System.{System}
 use Rattle.birdcore_top.specs.Command.{Command}
-use Rattle.birdcore_top.specs.Outcome.{Held, IsPossible, Played}
+use Rattle.birdcore_top.specs.Outcome.{Accepted, Held, IsPossible, Played}
 
 -- the phases played, with these reports
 abbrev pub ArePlayed : Setup → List (List ℕ) → List (List Line) → List PhaseReport → Type 0
-ArePlayed setup actors phases reports = IsPlay setup actors (map phase_of phases) reports
+ArePlayed setup actors phases reports = IsPlay setup actors (map (phase_of setup.queries) phases) reports
 
 -- A play of the files may be due, and this is said of the reports of its phases.
 pub record IfPlayed
@@ -55,7 +60,30 @@ pub record IfBegun
   pub played : ArePlayed setup actors first reports
   pub said : P more reports
 
--- ---- the same of a given play, for the contracts of private functions
+-- the text that a check writes
+abbrev pub accepted_text : List ℕ
+accepted_text = codes "ok\n"
+
+-- What is checked may be accepted, and this is said.
+abbrev pub IfAccepted : Option Command → Held → Type 0 → Type 0
+IfAccepted command held said = IsPossible command held Accepted × said
+
+-- ---- for the contracts of private functions
+
+-- what is to be played of a configuration and a script that were read
+abbrev pub setup_read : System → ReadScript → ℕ → Setup
+setup_read system script cells =
+    setup_of (system_of system) cells (map (filter_says system) script.filters.items)
+    script.queries.items
+
+abbrev pub phases_read : ReadScript → List (List Line)
+phases_read script = map (λ phase. phase.items) script.phases.items
+
+-- each line of these phases asks for what there is, of so many queries
+abbrev pub AskWhatIs : ℕ → List (List Line) → Type 0
+AskWhatIs queries phases = AllByRecursion (AllByRecursion (AsksWhatIs queries)) phases
+
+-- ---- the same of a given play
 
 pub record HasPlayed
     (setup : Setup) (actors : List (List ℕ)) (phases : List (List Line))
@@ -79,5 +107,5 @@ pub record HasWritten
     {J : Type 0} (verdict : J → Net → Route → Verdict) (setup : Setup) (actors : List (List ℕ))
     (phases : List (List Line)) (now : Core J) (before after : Option (List ℕ)) : Type 0 where
   pub reports : List PhaseReport
-  pub played : core.HasPlayed verdict setup actors (map phase_of phases) reports now
+  pub played : core.HasPlayed verdict setup actors (map (phase_of setup.queries) phases) reports now
   pub written : Appends before after (flat_map phase_text reports)

@@ -7,7 +7,7 @@ ghost use Rattle.system.specs.Texts.{IsRefusedAt, IsSystem};
 ghost use Rattle.birdcore_top.specs.Command.{Command};
 ghost use Rattle.birdcore_top.specs.Outcome.{Held, Outcome, ConfGives, IsAccepted, IsPossible, IsRequired};
 
-use script_lines::laws::a_text_has_one_answer;
+use sys_build::laws::a_text_has_one_answer;
 use system::laws::texts_say_one_thing;
 
 /// Files that are told come to one outcome at most: what may be due is what is required. Where the

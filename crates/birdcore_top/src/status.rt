@@ -7,6 +7,7 @@ use bits_ip::OutOfMemory;
 use conf_ast::ConfKind;
 use script_lines::ScriptKind;
 use std::alloc::AllocError;
+use sys_build::ReadFault;
 use system::SystemFault;
 use thiserror::Error;
 
@@ -14,10 +15,11 @@ use thiserror::Error;
 /// `Ok`.
 #[derive(Debug, PartialEq, Eq, Drop, Error)]
 pub enum Status {
-    /// The input was read to its end, and the whole report was written.
+    /// The files were read and accepted, and the whole report, or the `ok` of a check, was written.
     #[error("ok")]
     Ok,
-    /// The words aren't `play CONF SCRIPT`, perhaps with `--journal N` behind them.
+    /// The words are neither `check CONF`, perhaps with `SCRIPT` behind it, nor `play CONF SCRIPT`,
+    /// perhaps with `--journal N` behind that.
     #[error("usage: birdcore COMMAND [CONF [SCRIPT]] [--journal N] [--number N] [-q]")]
     Usage,
     /// The configuration is refused at this place. Lines, and the bytes of a line, are counted from
@@ -37,7 +39,7 @@ pub enum Status {
     /// A file couldn't be read.
     #[error("read fault")]
     ReadFault,
-    /// The report couldn't be written to its end.
+    /// The report, or the `ok` of a check, couldn't be written to its end.
     #[error("write fault")]
     WriteFault,
     #[error("out of memory")]
@@ -46,13 +48,6 @@ pub enum Status {
     #[error("too long {name}")]
     TooLong {
         name: String,
-    },
-    /// What a line of the script (file 2) says isn't built yet: further words of `show route`. Lines
-    /// are counted from 1.
-    #[error("not built {file} {line}")]
-    NotBuilt {
-        file: u32,
-        line: u32,
     },
 }
 
@@ -70,7 +65,6 @@ impl Status {
             Status::WriteFault => 5,
             Status::OutOfMemory => 6,
             Status::TooLong { .. } => 7,
-            Status::NotBuilt { .. } => 9,
         }
     }
 }
@@ -88,6 +82,19 @@ impl From<OutOfMemory> for Status {
 
     fn from(_: OutOfMemory) -> Self {
         Status::OutOfMemory
+    }
+}
+
+impl From<ReadFault> for Status {
+    ghost use Rattle.birdcore_top.specs.Answer.{line_status};
+
+    ghost from_gives = { λ fault status. status ≡ line_status fault };
+
+    fn from(fault: ReadFault) -> Self {
+        match fault {
+            ReadFault::Refused { line, kind } => Status::ScriptRefused { line, kind },
+            ReadFault::Memory => Status::OutOfMemory,
+        }
     }
 }
 

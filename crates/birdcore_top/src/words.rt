@@ -1,6 +1,6 @@
 //! The command line.
 ghost use Rattle.std.specs.Prelude.{◌≡◌, None, Some, MatchOption};
-ghost use Rattle.birdcore_top.specs.Command.{cells_in, command_asked, command_of};
+ghost use Rattle.birdcore_top.specs.Command.{asked_of_four, asked_of_one, asked_of_two, cells_in, command_asked, command_of, is_file};
 
 /// How many changes the journal of a table holds where nothing is said.
 const USUAL_CELLS: u32 = 256;
@@ -8,35 +8,112 @@ const USUAL_CELLS: u32 = 256;
 /// How many it holds at most.
 const MOST_CELLS: u32 = 4096;
 
-/// What the words ask for: the names of the two files, and how many changes the journal of a table holds for
-/// the channels that are still to take them.
+/// What the words ask for, with the names of files.
 #[derive(Clone, Copy, Debug)]
-pub(crate) struct Asked<'a> {
-    pub(crate) conf: &'a str,
-    pub(crate) script: &'a str,
-    pub(crate) cells: u32,
+pub(crate) enum Asked<'a> {
+    /// A script is to be played over a configuration. The journal of a table holds so many changes
+    /// for the channels that are still to take them.
+    Play {
+        conf: &'a str,
+        script: &'a str,
+        cells: u32,
+    },
+    /// A configuration is to be checked.
+    CheckOne {
+        conf: &'a str,
+    },
+    /// A configuration is to be checked, and a script over it.
+    CheckBoth {
+        conf: &'a str,
+        script: &'a str,
+    },
 }
 
-/// What the words ask for, where they are `play CONF SCRIPT`, perhaps with `--journal N` behind them.
+/// What the words ask for: `check CONF`, `check CONF SCRIPT`, or `play CONF SCRIPT`, perhaps with
+/// `--journal N` behind it.
 pub(crate) fn asked_by(words: &[String]) -> Option<Asked<'_>>
     ensures { MatchOption result (command_of words.now ≡ None)
         (λ asked. command_of words.now ≡ Some (command_asked asked)) }
 {
     match words {
-        [command, conf, script] if command.as_str() == "play" => Some(Asked {
-            conf: conf.as_str(),
-            script: script.as_str(),
-            cells: USUAL_CELLS,
-        }),
-        [command, conf, script, option, number]
-            if command.as_str() == "play" && option.as_str() == "--journal" => {
-            Some(Asked {
-                conf: conf.as_str(),
-                script: script.as_str(),
-                cells: cells_of(number.as_str())?,
-            })
-        }
+        [command, conf] => of_one(command.as_str(), conf.as_str()),
+        [command, conf, script] => of_two(command.as_str(), conf.as_str(), script.as_str()),
+        [command, conf, script, option, number] => of_four(
+            command.as_str(),
+            conf.as_str(),
+            script.as_str(),
+            option.as_str(),
+            number.as_str(),
+        ),
         _ => None,
+    }
+}
+
+/// What is asked for by one word behind the first.
+fn of_one<'a>(command: &str, conf: &'a str) -> Option<Asked<'a>>
+    ensures { MatchOption result (asked_of_one command.now conf.now ≡ None)
+        (λ asked. asked_of_one command.now conf.now ≡ Some (command_asked asked)) }
+{
+    if command == "check" && is_file(conf) {
+        Some(Asked::CheckOne { conf })
+    } else {
+        None
+    }
+}
+
+/// What is asked for by two words behind the first.
+fn of_two<'a>(command: &str, conf: &'a str, script: &'a str) -> Option<Asked<'a>>
+    ensures { MatchOption result (asked_of_two command.now conf.now script.now ≡ None)
+        (λ asked. asked_of_two command.now conf.now script.now ≡ Some (command_asked asked)) }
+{
+    if !(is_file(conf) && is_file(script)) {
+        None
+    } else if command == "play" {
+        Some(Asked::Play {
+            conf,
+            script,
+            cells: USUAL_CELLS,
+        })
+    } else if command == "check" {
+        Some(Asked::CheckBoth { conf, script })
+    } else {
+        None
+    }
+}
+
+/// What is asked for by four words behind the first.
+fn of_four<'a>(
+    command: &str,
+    conf: &'a str,
+    script: &'a str,
+    option: &str,
+    number: &str,
+) -> Option<Asked<'a>>
+    ensures { MatchOption result
+        (asked_of_four command.now conf.now script.now option.now number.now ≡ None)
+        (λ asked. asked_of_four command.now conf.now script.now option.now number.now
+        ≡ Some (command_asked asked)) }
+{
+    if command == "play" && option == "--journal" && is_file(conf) && is_file(script) {
+        Some(Asked::Play {
+            conf,
+            script,
+            cells: cells_of(number)?,
+        })
+    } else {
+        None
+    }
+}
+
+/// Whether the word is the name of a file: one that a minus sign begins is an option, but for that
+/// sign alone.
+fn is_file(word: &str) -> bool
+    ensures { result ≡ is_file word.now }
+{
+    let bytes = word.as_bytes();
+    match bytes.first() {
+        Some(first) => bytes.len() < 2 || *first != b'-',
+        None => true,
     }
 }
 

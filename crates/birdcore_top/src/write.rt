@@ -1,25 +1,26 @@
-//! Plays a script over a configuration, and writes the report of each phase when it has ended.
-ghost use Rattle.std.specs.Prelude.{◌≡◌, ◌⊎◌, ◌≤◌, [], Err, codes, map, IfErr, OnOk};
+//! Plays a script over a configuration, and writes the report of each phase when it has ended; and
+//! what is written of a check.
+ghost use Rattle.std.specs.Prelude.{◌≡◌, ◌⊎◌, ◌≤◌, [], Err, length, map, IfErr, OnOk};
 ghost use Rattle.std.specs.Io.KnownBytes.{Appends, Keeps};
 ghost use Rattle.std.specs.List.{flat_map};
-ghost use Rattle.core_setup.specs.Setup.{Setup};
+ghost use Rattle.core_setup.specs.Setup.{IsSetup, Setup};
 ghost use Rattle.outside_io.specs.Faults.{Rose};
 ghost use Rattle.outside_io.specs.Whole.{WritesFront};
 ghost use Rattle.report.specs.Report.{phase_text, report_text};
-ghost use Rattle.sys_build.specs.Setups.{IsPlayable, setup_of};
+ghost use Rattle.sys_build.specs.Setups.{IsPlayable};
 ghost use Rattle.sys_run.specs.Playing as played;
 ghost use Rattle.system.specs.Seen.{system_of};
 ghost use Rattle.birdcore_top.specs.Answer.{CutsOff, IsEnd};
-ghost use Rattle.birdcore_top.specs.Written.{HasBegun, HasPlayed, HasWritten, text_so_far};
+ghost use Rattle.birdcore_top.specs.Written.{AskWhatIs, HasBegun, HasPlayed, HasWritten, accepted_text, phases_read, setup_read, text_so_far};
 
 use crate::status::Status;
 use attrs::Judge;
 use bits_ip::OutOfMemory;
 use outside_io::{Block, Failed, Sink, Stream, write_whole};
 use report::{PhaseReport, phase_text};
-use script_lines::{Line, Name, Script};
+use script_lines::{Line, Name};
 use std::alloc::Global;
-use sys_build::build;
+use sys_build::{ReadScript, build};
 use sys_run::Core;
 use system::System;
 
@@ -30,34 +31,38 @@ pub(crate) fn write_play<K: Sink>(
     alloc: Global,
     system: &System,
     cells: u32,
-    script: Script,
+    script: ReadScript,
     out: &mut K,
 ) -> Status
-    requires { IsPlayable (system_of system.now) }
+    requires playable { IsPlayable (system_of system.now) }
+    requires setup { IsSetup (setup_read system.now script cells) }
+    requires asked { AskWhatIs (length script.queries.items) (phases_read script) }
     ensures end { IsEnd result }
     ensures report { result ≡ Status.Ok
-        → HasPlayed (setup_of (system_of system.now) cells) script.actors.items
-        (map (λ phase. phase.items) script.phases.items)
+        → HasPlayed (setup_read system.now script cells) script.actors.items (phases_read script)
         (λ reports. Appends (K.contents out.old) (K.contents out.new) (report_text reports)) }
     ensures front { result ≡ Status.WriteFault
-        → HasBegun (setup_of (system_of system.now) cells) script.actors.items
-        (map (λ phase. phase.items) script.phases.items)
+        → HasBegun (setup_read system.now script cells) script.actors.items (phases_read script)
         (λ more reports.
         WritesFront (K.contents out.old) (K.contents out.new) (text_so_far more reports)) }
     ensures begun { result ≡ Status.OutOfMemory
-        → HasBegun (setup_of (system_of system.now) cells) script.actors.items
-        (map (λ phase. phase.items) script.phases.items)
+        → HasBegun (setup_read system.now script cells) script.actors.items (phases_read script)
         (λ more reports.
         Appends (K.contents out.old) (K.contents out.new) (flat_map phase_text reports)) }
     ensures write { result ≡ Status.WriteFault → Rose (K.faults out.old) (K.faults out.new) }
 {
-    let Script { phases, actors } = script;
-    let mut core = match build(alloc, system, cells) {
+    let ReadScript {
+        phases,
+        actors,
+        queries,
+        filters,
+    } = script;
+    let mut core = match build(alloc, system, filters.as_slice(), queries, cells) {
         Ok(core) => core,
         Err(OutOfMemory) => return Status::OutOfMemory,
     };
     match write_phases(alloc, &mut core, &actors, phases, out) {
-        Ok(()) => end_report(out),
+        Ok(()) => write_line(b"end\n", out),
         Err(status) => status,
     }
 }
@@ -70,7 +75,8 @@ fn write_phases<J: Judge, K: Sink>(
     phases: Vec<Vec<Line>>,
     out: &mut K,
 ) -> Result<(), Status>
-    requires { (setup : Setup) × played.HasPlayed J.verdict setup actors.now [] [] core.old }
+    requires { (setup : Setup) × played.HasPlayed J.verdict setup actors.now [] [] core.old
+        × AskWhatIs (length setup.queries) (map (λ phase. phase.items) phases.items) }
     ensures played { OnOk result ((setup : Setup)
         → played.HasPlayed J.verdict setup actors.now [] [] core.old
         → HasWritten J.verdict setup actors.now (map (λ phase. phase.items) phases.items) core.new
@@ -123,16 +129,28 @@ fn write_phase<K: Sink>(alloc: Global, report: &PhaseReport, out: &mut K) -> Res
     }
 }
 
-/// Writes the last line of the report.
-fn end_report<K: Sink>(out: &mut K) -> Status
+/// Writes that what was checked is accepted.
+pub(crate) fn write_accepted<K: Sink>(out: &mut K) -> Status
     ensures end { (result ≡ Status.Ok) ⊎ (result ≡ Status.WriteFault) }
     ensures whole { result ≡ Status.Ok
-        → Appends (K.contents out.old) (K.contents out.new) (codes "end\n") }
+        → Appends (K.contents out.old) (K.contents out.new) accepted_text }
     ensures front { result ≡ Status.WriteFault
-        → WritesFront (K.contents out.old) (K.contents out.new) (codes "end\n") }
+        → WritesFront (K.contents out.old) (K.contents out.new) accepted_text }
     ensures write { result ≡ Status.WriteFault → Rose (K.faults out.old) (K.faults out.new) }
 {
-    match write_whole(out, b"end\n") {
+    write_line(b"ok\n", out)
+}
+
+/// Writes the last line of all.
+fn write_line<K: Sink>(line: &[u8], out: &mut K) -> Status
+    ensures end { (result ≡ Status.Ok) ⊎ (result ≡ Status.WriteFault) }
+    ensures whole { result ≡ Status.Ok
+        → Appends (K.contents out.old) (K.contents out.new) line.now }
+    ensures front { result ≡ Status.WriteFault
+        → WritesFront (K.contents out.old) (K.contents out.new) line.now }
+    ensures write { result ≡ Status.WriteFault → Rose (K.faults out.old) (K.faults out.new) }
+{
+    match write_whole(out, line) {
         Ok(()) => Status::Ok,
         Err(Failed) => Status::WriteFault,
     }

@@ -5,7 +5,7 @@ use birdcore_top::Status;
 use birdcore_top::top::top;
 use outside_io::{Failed, MemShelf, MemSink, OpenGate, Sink, SureShelf};
 use std::test::Fail;
-use top_laws::surely::play_surely;
+use top_laws::surely::do_surely;
 
 /// The status of the worked run over a shelf whose call of this number fails, what it wrote, and
 /// how often the shelf was called.
@@ -123,6 +123,69 @@ fn the_worked_run_over_what_never_fails_is_done(rt: HostRuntime) -> Result<(), F
     let mut shelf = SureShelf {
         files: files(alloc, CONF, SCRIPT)?,
     };
-    assert_eq!(rt; play_surely(alloc, &words, &mut shelf), Status::Ok);
+    assert_eq!(rt; do_surely(alloc, &words, &mut shelf), Status::Ok);
+    Ok(())
+}
+
+/// The status of a check over a shelf whose call of this number fails, what it wrote, and how often
+/// the shelf was called.
+fn checked_with_a_fault(
+    rt: &HostRuntime,
+    asked: &[&str],
+    call: u64,
+) -> Result<(Status, Vec<u8>, u64), Fail> {
+    let alloc = rt.alloc();
+    let words = words(alloc, asked)?;
+    let mut shelf = MemShelf::new(alloc, files(alloc, CONF, SCRIPT)?);
+    shelf.failing.push(call)?;
+    let mut sink = MemSink::new(alloc);
+    let status = top(rt, alloc, &words, &mut shelf, &mut sink, &OpenGate);
+    Ok((status, sink.bytes, shelf.calls))
+}
+
+/// A check of a configuration alone reads it alone.
+#[test]
+fn each_read_of_a_check_can_fail(rt: HostRuntime) -> Result<(), Fail> {
+    let alone = ["check", "conf"];
+    let both = ["check", "conf", "script"];
+    for (asked, least) in [(alone.as_slice(), 1), (both.as_slice(), 2)] {
+        let (status, text, calls) = checked_with_a_fault(&rt, asked, 0)?;
+        assert_eq!(rt; status, Status::Ok);
+        assert_eq!(rt; text.as_slice(), b"ok\n".as_slice());
+        assert!(rt; calls >= least);
+        for done in 0..calls {
+            let (status, text, _) = checked_with_a_fault(&rt, asked, done + 1)?;
+            assert_eq!(rt; status, Status::ReadFault, "behind {done}");
+            assert_eq!(rt; text.len(), 0);
+        }
+    }
+    Ok(())
+}
+
+/// The status of a check into a slow sink whose call of this number fails, and what it took.
+fn checked_slowly(rt: &HostRuntime, call: u64) -> Result<(Status, Vec<u8>), Fail> {
+    let alloc = rt.alloc();
+    let words = words(alloc, &["check", "conf", "script"])?;
+    let mut shelf = SureShelf {
+        files: files(alloc, CONF, SCRIPT)?,
+    };
+    let mut sink = MemSink::new(alloc);
+    sink.failing.push(call)?;
+    let mut slow = Slow { sink };
+    let status = top(rt, alloc, &words, &mut shelf, &mut slow, &OpenGate);
+    let Slow { sink } = slow;
+    Ok((status, sink.bytes))
+}
+
+#[test]
+fn a_slow_sink_gets_a_check_up_to_its_fault(rt: HostRuntime) -> Result<(), Fail> {
+    for (taken, text) in [(0, ""), (1, "o"), (2, "ok")] {
+        let (status, bytes) = checked_slowly(&rt, taken + 1)?;
+        assert_eq!(rt; status, Status::WriteFault);
+        assert_eq!(rt; bytes.as_slice(), text.as_bytes());
+    }
+    let (status, bytes) = checked_slowly(&rt, 4)?;
+    assert_eq!(rt; status, Status::Ok);
+    assert_eq!(rt; bytes.as_slice(), b"ok\n".as_slice());
     Ok(())
 }

@@ -15,6 +15,10 @@ fn a_status_has_a_line_and_a_number(rt: HostRuntime) -> Result<(), Fail> {
         line: 4,
         kind: ScriptKind::UnknownActor,
     };
+    let condition = Status::ScriptRefused {
+        line: 12,
+        kind: ScriptKind::Expression,
+    };
     let name = String::from_str(alloc, "conf")?;
     let table = [
         (
@@ -24,11 +28,11 @@ fn a_status_has_a_line_and_a_number(rt: HostRuntime) -> Result<(), Fail> {
         ),
         (refused, 2, "config 3:15 C2 Syntax"),
         (unknown, 3, "script 4 S2 UnknownActor"),
+        (condition, 3, "script 12 S8 Expression"),
         (Status::ReadFault, 4, "read fault"),
         (Status::WriteFault, 5, "write fault"),
         (Status::OutOfMemory, 6, "out of memory"),
         (Status::TooLong { name }, 7, "too long conf"),
-        (Status::NotBuilt { file: 2, line: 4 }, 9, "not built 2 4"),
     ];
     assert_eq!(rt; Status::Ok.number(), 0);
     for (status, number, line) in table.iter() {

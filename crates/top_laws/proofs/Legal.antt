@@ -3,22 +3,29 @@ use Rattle.std.proofs.Common.{◌≡◌, ℕ, List, Option, Some, None, sym, sub
 use Rattle.std.specs.Prelude.{IfSome}
 use Rattle.core_setup.specs.Setup.{IsSetup, Setup}
 use Rattle.script_lines.specs.declared.script.Line.{Line}
+use Rattle.show_route.specs.declared.query.Query.{Query}
+use Rattle.sys_build.specs.Scripts as script_answers
+use Rattle.sys_build.specs.Scripts.{Answers}
 use Rattle.sys_build.specs.Setups.{IsPlayable, setup_of}
+use Rattle.system.specs.Policies.{Filter}
 use Rattle.system.specs.System.{System}
 use Rattle.system.specs.Texts.{IsSystem}
-use Rattle.birdcore_top.specs.Command.{Command, Play}
+use Rattle.birdcore_top.specs.Command.{Command, Play, Check}
 use Rattle.birdcore_top.specs.Outcome.{Held, Misused, IsPossible, Played, ScriptGives}
 
 not_misused : (setup : Setup) (actors : List (List ℕ)) (phases : List (List Line)) → Played setup actors phases ≡ Misused → ⊥
 not_misused setup actors phases same = cc
 
-module _ (can_be : (text : List ℕ) (system : System) → IsSystem text system → (cells : ℕ) → IsSetup (setup_of system cells)) where
+module _ (can_be : (conf text : List ℕ) (system : System) (phases : List (List Line)) (actors : List (List ℕ)) (queries : List Query) (conditions : List Filter) (cells : ℕ)
+    → IsSystem conf system → Answers system text (script_answers.Accepted phases actors queries conditions) → IsSetup (setup_of system cells conditions queries)) where
   can_be_played : (system : System) (cells : ℕ) (name : List ℕ) (script : Option (List ℕ)) (setup : Setup) (actors : List (List ℕ)) (phases : List (List Line)) → IsPlayable system
       → ScriptGives IfSome system cells name script (Played setup actors phases) → IsSetup setup
   can_be_played system cells name script setup actors phases playable gives =
-      subst (λ (s : Setup). IsSetup s) (sym gives.0) (can_be playable.0 system playable.1 cells)
+      subst (λ (s : Setup). IsSetup s) (sym gives.setup_is) (can_be playable.0 gives.text system phases actors gives.queries gives.conditions cells playable.1 gives.is_script)
 
   pub is_setup : (command : Option Command) (held : Held) (setup : Setup) (actors : List (List ℕ)) (phases : List (List Line)) → IsPossible command held (Played setup actors phases) → IsSetup setup
   is_setup None held setup actors phases possible = absurd (not_misused setup actors phases possible)
   is_setup (Some (Play conf script cells)) held setup actors phases (inl is) = absurd is
   is_setup (Some (Play conf script cells)) held setup actors phases (inr is) = can_be_played is.0 cells script (held script) setup actors phases is.1 is.3
+  is_setup (Some (Check conf None)) held setup actors phases is = absurd is
+  is_setup (Some (Check conf (Some script))) held setup actors phases is = absurd is

@@ -1,7 +1,7 @@
 //! Each text says something, and files that are told come to an outcome.
-ghost use Rattle.std.specs.Prelude.{◌≡◌, ◌≤◌, ℕ, length, List, Some};
+ghost use Rattle.std.specs.Prelude.{◌≡◌, ◌≤◌, ℕ, length, IfSome, List, Some};
 ghost use Rattle.outside_io.specs.Whole.{limit};
-ghost use Rattle.birdcore_top.specs.Command.{Play};
+ghost use Rattle.birdcore_top.specs.Command.{Command, conf_of, script_of};
 ghost use Rattle.birdcore_top.specs.Outcome.{Held, Outcome, IsRequired};
 ghost use Rattle.top_laws.specs.Says.{SaysSomething};
 
@@ -10,7 +10,7 @@ use conf_laws::readings::{
     each_tree_is_of_a_configuration,
 };
 use conf_lex::laws::{tokens_are_slices, tokens_rise};
-use script_lines::laws::each_text_has_an_answer;
+use sys_build::laws::each_text_has_an_answer;
 
 /// Each text within the limit says something: it is a configuration, or it is refused.
 pub fn each_text_says_something()
@@ -23,11 +23,12 @@ pub fn each_text_says_something()
     each_place_has_a_line_and_a_column();
 }
 
-/// Files that are told come to an outcome.
+/// A command whose files are told comes to an outcome.
 pub fn told_files_have_an_outcome()
-    ensures { (conf script : List ℕ) (cells : ℕ) (held : Held) (file text : List ℕ)
-        → held conf ≡ Some file → held script ≡ Some text
-        → (o : Outcome) × IsRequired (Some (Play conf script cells)) held o }
+    ensures { (command : Command) (held : Held) (file : List ℕ)
+        → held (conf_of command) ≡ Some file
+        → IfSome (script_of command) (λ script. (text : List ℕ) × (held script ≡ Some text))
+        → (o : Outcome) × IsRequired (Some command) held o }
 {
     each_text_says_something();
     each_text_has_an_answer();

@@ -10,7 +10,7 @@ ghost use Rattle.birdcore_top.specs.Outcome.{Held, Played, IsPossible};
 ghost use Rattle.birdcore_top.specs.Written.{ArePlayed};
 
 use core_setup::laws::{plays_are_legal, reports_are_determined};
-use sys_build::laws::accepted_configurations_are_setups;
+use sys_build::laws::accepted_scripts_are_setups;
 
 /// Phases played come to one list of reports.
 pub fn phases_come_to_one_report()
@@ -20,7 +20,7 @@ pub fn phases_come_to_one_report()
         → ArePlayed setup actors phases reports → ArePlayed setup actors phases others
         → reports ≡ others }
 {
-    accepted_configurations_are_setups();
+    accepted_scripts_are_setups();
     reports_are_determined();
 }
 
@@ -32,8 +32,8 @@ pub fn reports_are_legal()
         (actors : List (List ℕ)) (phases : List (List Line)) (reports : List PhaseReport)
         → IsPossible command held (Played setup actors phases)
         → ArePlayed setup actors phases reports
-        → IsLegalPlay setup actors (map phase_of phases) reports }
+        → IsLegalPlay setup actors (map (phase_of setup.queries) phases) reports }
 {
-    accepted_configurations_are_setups();
+    accepted_scripts_are_setups();
     plays_are_legal();
 }

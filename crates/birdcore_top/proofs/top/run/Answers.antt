@@ -8,5 +8,11 @@ returns-in-None g c =
     (nothing_asked (shelf_of (g.F.Shelf.held c.args.shelf.now) (g.F.Shelf.lacks c.args.shelf.now) (g.F.Shelf.missed c.args.shelf.now) (g.F.Shelf.faults c.args.shelf.now))
     (sink_of (g.K.Sink.contents c.args.out.now) (g.K.Sink.faults c.args.out.now)))
 
-pub returns-in-Some : goal.returns-in-Some
-returns-in-Some g c = rw c.in-Some.ensures c.play_files.ensures
+pub returns-in-Some-Play : goal.returns-in-Some-Play
+returns-in-Some-Play g c = rw (c.in-Some-Play.ensures, c.in-Some-Play.field-0-is) c.play_files.ensures
+
+pub returns-in-Some-CheckOne : goal.returns-in-Some-CheckOne
+returns-in-Some-CheckOne g c = rw (c.in-Some-CheckOne.ensures, c.in-Some-CheckOne.field-0-is) c.check_conf.ensures
+
+pub returns-in-Some-CheckBoth : goal.returns-in-Some-CheckBoth
+returns-in-Some-CheckBoth g c = rw (c.in-Some-CheckBoth.ensures, c.in-Some-CheckBoth.field-0-is) c.check_files.ensures

@@ -1,13 +1,14 @@
-use Rattle.std.proofs.Common.{◌++◌, ◌∷◌, [], List, map, Vec, Err, sym, ap, ◌∙◌, append_assoc, subst, arith}
+use Rattle.std.proofs.Common.{◌++◌, ◌∷◌, [], List, length, map, Vec, Err, sym, ap, ◌∙◌, append_assoc, subst, arith}
 use Rattle.std.proofs.KnownBytes.{Keeps-refl}
 use Rattle.std.proofs.lemmas.List.{map-append}
 use Rattle.std.specs.Global.{Global}
 use Rattle.script_lines.specs.declared.script.Line.{Line}
-use Rattle.sys_run.specs.Scripts.{phase_of}
+use Rattle.std.specs.List.{AllByRecursion}
+use Rattle.sys_run.specs.Scripts.{AsksWhatIs, phase_of}
 use Rattle.birdcore_top.specs.Written.{HasWritten}
 use Rattle.birdcore_top.specs.declared.status.Status.{Status}
 use Rattle.birdcore_top.proofs.Joined.{err_is, rose_since}
-use Rattle.birdcore_top.proofs.Writing.{cut_between, cut_in_phase, phase_more, split, split_behind}
+use Rattle.birdcore_top.proofs.Writing.{asked_next, cut_between, few_so_far, cut_in_phase, phase_more, split, split_behind}
 use Rattle.birdcore_top.proofs.write.write_phases.Goals as goal
 
 pub play-requires : goal.play-requires
@@ -16,9 +17,13 @@ play-requires g c =
     record {
       setup = c.requires.0;
       actors = c.args.actors.now;
-      scripts = map phase_of (map (λ phase. phase.items) c.loop-lines.yielded);
+      scripts = map (phase_of c.requires.0.queries) (map (λ phase. phase.items) c.loop-lines.yielded);
       reports = done.reports;
       played = done.played;
+      asked = asked_next (AllByRecursion (AsksWhatIs (length c.requires.0.queries))) (λ (phase : Vec Line Global). phase.items) c.loop-lines.yielded c.in-Some.lines c.next.new.self.rest.items c.args.phases.items
+          (ap (λ (l : List (Vec Line Global)). c.loop-lines.yielded ++ l) (sym c.in-Some.ensures.steps.0) ∙ c.loop-lines.invariant.whole) c.requires.2;
+      few = few_so_far (phase_of c.requires.0.queries) (λ (phase : Vec Line Global). phase.items) c.loop-lines.yielded c.loop-lines.lines-iterator.rest.items c.args.phases.items c.loop-lines.invariant.whole
+          (omega (arith, c.args.phases.ok.0, c.args.phases.ok.1, c.args.phases.small));
     }
 
 pub returns-in_err-report-clause-begun : goal.returns-in_err-report-clause-begun
