@@ -9,16 +9,20 @@ use Rattle.attrs.specs.Text.{origin_text}
 use Rattle.attrs.specs.declared.attributes.Origin.{Origin}
 use Rattle.attrs.specs.declared.attributes.Origin.TheVariants.{Igp, Egp, Incomplete}
 use Rattle.import_core.specs.declared.operation.Given.{Given}
-use Rattle.script_lines.specs.Grammar.{IsDecimal, AreDecimals, IsAdd, IsDel, IsCom, IsStep, IsBehind, IsCommand, first_word}
-use Rattle.script_lines.specs.Grammar.{Command, Open, Close, Add, Del, Disable, Enable, ReloadIn, ReloadOut, ShowRoute, ShowMore, Form, Sync, Take, Push, Says, HasForm}
+use Rattle.script_lines.specs.Grammar.{IsDel, IsStep, IsBehind, IsCommand, first_word}
+use Rattle.announcements.specs.Grammar.{IsDecimal, AreDecimals, IsAdd, IsCom}
+use Rattle.script_lines.specs.Grammar.{Command, Open, Close, Add, Del, Disable, Enable, ReloadIn, ReloadOut, ShowRoute, Form, Sync, Take, Push, Says, AreForm, HasForm}
+use Rattle.queries.specs.Question.{Asked, IsQuestion}
+use Rattle.text.specs.Lines.{behind_words, words_of}
 use Rattle.script_lines.specs.Grammar as grammar
-use Rattle.script_lines.specs.Inside.{BeginWithOptions}
-use Rattle.script_lines.proofs.AddKept.{given_same}
-use Rattle.script_lines.proofs.AddParts.{tail_of, third_same, via_of_add, path_of_add, options_begin_add, paths_same}
-use Rattle.script_lines.proofs.CommandParts.{first_byte, heads_same, words_behind, verb_for, text_for, verbs_same}
-use Rattle.script_lines.proofs.CommunityWords.{coms_agree}
+use Rattle.announcements.specs.Reading.{BeginWithOptions}
+use Rattle.announcements.proofs.AddKept.{given_same}
+use Rattle.announcements.proofs.AddParts.{tail_of, third_same, via_of_add, path_of_add, options_begin_add, paths_same}
+use Rattle.script_lines.proofs.CommandParts.{verb_for, text_for, verbs_same}
+use Rattle.announcements.proofs.Words.{first_byte, heads_same, words_behind}
+use Rattle.announcements.proofs.CommunityWords.{coms_agree}
 use Rattle.script_lines.proofs.LineParts.{sync_not_take, sync_not_push, take_not_push, sync_not_spoken, take_not_spoken, push_not_spoken}
-use Rattle.script_lines.proofs.Options.{numbers_agree, options_same}
+use Rattle.announcements.proofs.Options.{numbers_agree, options_same}
 
 numbers_of_words : (words : List (List ℕ)) (a b : List ℕ) → AreDecimals words a → AreDecimals words b → a ≡ b
 numbers_of_words [] [] [] one other = refl
@@ -90,57 +94,11 @@ in_not_out e = omega (arith, ap length e)
 one_not_two : (a b c : List ℕ) → a ∷ [] ≡ b ∷ c ∷ [] → ⊥
 one_not_two a b c same = omega (arith, ap length same)
 
-one_not_more : (a b c : List ℕ) (words : List (List ℕ)) → a ∷ [] ≡ b ∷ c ∷ words → ⊥
-one_not_more a b c words same = omega (arith, ap length same)
-
 same_name : (words : List (List ℕ)) (a b : List ℕ) → words ≡ a ∷ [] → words ≡ b ∷ [] → a ≡ b
 same_name words a b one other = heads_same a b [] [] (sym one ∙ other)
 
 same_second : (words : List (List ℕ)) (w a b : List ℕ) → words ≡ w ∷ a ∷ [] → words ≡ w ∷ b ∷ [] → a ≡ b
 same_second words w a b one other = heads_same a b [] [] (words_behind w w (a ∷ []) (b ∷ []) (sym one ∙ other))
-
--- one command of each first word has these words behind it
-behind_agree : (rest : List (List ℕ)) (c d : Command) → verb_for c ≡ verb_for d → IsBehind c rest → IsBehind d rest → c ≡ d
-behind_agree rest (Open m) (Open n) same one other =
-    ap Open (v4_same m n (addr_texts_agree (v4_text m) (V4 m) (V4 n) (one.1, refl) (other.1, same_name rest _ _ one.0 other.0)))
-behind_agree rest (Open m) _ same one other = absurd (cc)
-behind_agree rest Close Close same one other = refl
-behind_agree rest Close _ same one other = absurd (cc)
-behind_agree rest (Add net given) (Add net' given') same one other =
-    let parts = adds_agree rest net net' given given' one other in
-    ap (λ (n : Net). Add n given) parts.0 ∙ ap (λ (g : Given). Add net' g) parts.1
-behind_agree rest (Add net given) _ same one other = absurd (cc)
-behind_agree rest (Del net) (Del net') same one other = ap Del (dels_agree rest net net' one other)
-behind_agree rest (Del net) _ same one other = absurd (cc)
-behind_agree rest (Disable a) (Disable b) same one other = ap Disable (same_name rest a b one.0 other.0)
-behind_agree rest (Disable a) _ same one other = absurd (cc)
-behind_agree rest (Enable a) (Enable b) same one other = ap Enable (same_name rest a b one.0 other.0)
-behind_agree rest (Enable a) _ same one other = absurd (cc)
-behind_agree rest (grammar.Reload a) (grammar.Reload b) same one other = ap grammar.Reload (same_name rest a b one.0 other.0)
-behind_agree rest (grammar.Reload a) (ReloadIn b) same one other = absurd (one_not_two a _ b (sym one.0 ∙ other.0))
-behind_agree rest (grammar.Reload a) (ReloadOut b) same one other = absurd (one_not_two a _ b (sym one.0 ∙ other.0))
-behind_agree rest (grammar.Reload a) _ same one other = absurd (cc)
-behind_agree rest (ReloadIn a) (grammar.Reload b) same one other = absurd (one_not_two b _ a (sym other.0 ∙ one.0))
-behind_agree rest (ReloadIn a) (ReloadIn b) same one other = ap ReloadIn (same_second rest _ a b one.0 other.0)
-behind_agree rest (ReloadIn a) (ReloadOut b) same one other = absurd (in_not_out (heads_same _ _ _ _ (sym one.0 ∙ other.0)))
-behind_agree rest (ReloadIn a) _ same one other = absurd (cc)
-behind_agree rest (ReloadOut a) (grammar.Reload b) same one other = absurd (one_not_two b _ a (sym other.0 ∙ one.0))
-behind_agree rest (ReloadOut a) (ReloadIn b) same one other = absurd (in_not_out (heads_same _ _ _ _ (sym other.0 ∙ one.0)))
-behind_agree rest (ReloadOut a) (ReloadOut b) same one other = ap ReloadOut (same_second rest _ a b one.0 other.0)
-behind_agree rest (ReloadOut a) _ same one other = absurd (cc)
-behind_agree rest ShowRoute ShowRoute same one other = refl
-behind_agree rest ShowRoute ShowMore same one other = absurd (one_not_more _ _ other.0 other.1 (sym one ∙ other.2))
-behind_agree rest ShowRoute _ same one other = absurd (cc)
-behind_agree rest ShowMore ShowRoute same one other = absurd (one_not_more _ _ one.0 one.1 (sym other ∙ one.2))
-behind_agree rest ShowMore ShowMore same one other = refl
-behind_agree rest ShowMore _ same one other = absurd (cc)
-
-commands_agree : (words : List (List ℕ)) (c d : Command) → IsCommand words c → IsCommand words d → c ≡ d
-commands_agree words c d one other =
-    let whole = sym one.whole ∙ other.whole in
-    let firsts = heads_same (first_word c) (first_word d) one.rest other.rest whole in
-    let rests = words_behind (first_word c) (first_word d) one.rest other.rest whole in
-    behind_agree other.rest c d (verbs_same (verb_for c) (verb_for d) (sym (text_for c) ∙ firsts ∙ text_for d)) (subst (IsBehind c) rests one.rest_is) other.rest_is
 
 -- steps
 step_names : (label a b m n : List ℕ) (words : List (List ℕ)) → words ≡ label ∷ a ∷ m ∷ [] → words ≡ label ∷ b ∷ n ∷ [] → (a ≡ b) × (m ≡ n)
@@ -162,29 +120,76 @@ both_begin words a b xs ys one other = heads_same a b xs ys (sym one ∙ other)
 actors_same : (a b : List ℕ) → 64 ∷ a ≡ 64 ∷ b → a ≡ b
 actors_same a b same = cc
 
-pub forms_agree : (words : List (List ℕ)) (a b : Form) → HasForm words a → HasForm words b → a ≡ b
-forms_agree words Sync Sync one other = refl
-forms_agree words Sync (Take b n) one other = absurd (sync_not_take (both_begin words _ _ _ _ one other.whole))
-forms_agree words Sync (Push b n) one other = absurd (sync_not_push (both_begin words _ _ _ _ one other.whole))
-forms_agree words Sync (Says b d) one other = absurd (sync_not_spoken b (both_begin words _ _ _ _ one other.whole))
-forms_agree words (Take a m) Sync one other = absurd (sync_not_take (both_begin words _ _ _ _ other one.whole))
-forms_agree words (Take a m) (Take b n) one other =
-    let parts = steps_agree (codes "!take") words a b m n one other in
-    ap (λ (l : List ℕ). Take l m) parts.0 ∙ ap (λ (k : ℕ). Take b k) parts.1
-forms_agree words (Take a m) (Push b n) one other = absurd (take_not_push (both_begin words _ _ _ _ one.whole other.whole))
-forms_agree words (Take a m) (Says b d) one other = absurd (take_not_spoken b (both_begin words _ _ _ _ one.whole other.whole))
-forms_agree words (Push a m) Sync one other = absurd (sync_not_push (both_begin words _ _ _ _ other one.whole))
-forms_agree words (Push a m) (Take b n) one other = absurd (take_not_push (both_begin words _ _ _ _ other.whole one.whole))
-forms_agree words (Push a m) (Push b n) one other =
-    let parts = steps_agree (codes "!push") words a b m n one other in
-    ap (λ (l : List ℕ). Push l m) parts.0 ∙ ap (λ (k : ℕ). Push b k) parts.1
-forms_agree words (Push a m) (Says b d) one other = absurd (push_not_spoken b (both_begin words _ _ _ _ one.whole other.whole))
-forms_agree words (Says a c) Sync one other = absurd (sync_not_spoken a (both_begin words _ _ _ _ other one.whole))
-forms_agree words (Says a c) (Take b n) one other = absurd (take_not_spoken a (both_begin words _ _ _ _ other.whole one.whole))
-forms_agree words (Says a c) (Push b n) one other = absurd (push_not_spoken a (both_begin words _ _ _ _ other.whole one.whole))
-forms_agree words (Says a c) (Says b d) one other =
-    let whole = sym one.whole ∙ other.whole in
-    let actor = actors_same a b (heads_same _ _ _ _ whole) in
-    let P : List (List ℕ) → Type 0 = λ l. IsCommand l c in
-    let command = commands_agree other.rest c d (subst P (words_behind _ _ _ _ whole) one.command_is) other.command_is in
-    ap (λ (l : List ℕ). Says l c) actor ∙ ap (λ (e : Command). Says b e) command
+-- that a text is one question at most
+abbrev pub OneQuestion : Type 0
+OneQuestion = (rest : List ℕ) (a b : Asked) → IsQuestion rest a → IsQuestion rest b → a ≡ b
+
+module _ (one_question : OneQuestion) where
+  -- one command of each first word has these words behind it
+  behind_agree : (bytes : List ℕ) (rest : List (List ℕ)) (c d : Command) → verb_for c ≡ verb_for d → IsBehind bytes c rest → IsBehind bytes d rest → c ≡ d
+  behind_agree bytes rest (Open m) (Open n) same one other =
+      ap Open (v4_same m n (addr_texts_agree (v4_text m) (V4 m) (V4 n) (one.1, refl) (other.1, same_name rest _ _ one.0 other.0)))
+  behind_agree bytes rest (Open m) _ same one other = absurd (cc)
+  behind_agree bytes rest Close Close same one other = refl
+  behind_agree bytes rest Close _ same one other = absurd (cc)
+  behind_agree bytes rest (Add net given) (Add net' given') same one other =
+      let parts = adds_agree rest net net' given given' one other in
+      ap (λ (n : Net). Add n given) parts.0 ∙ ap (λ (g : Given). Add net' g) parts.1
+  behind_agree bytes rest (Add net given) _ same one other = absurd (cc)
+  behind_agree bytes rest (Del net) (Del net') same one other = ap Del (dels_agree rest net net' one other)
+  behind_agree bytes rest (Del net) _ same one other = absurd (cc)
+  behind_agree bytes rest (Disable a) (Disable b) same one other = ap Disable (same_name rest a b one.0 other.0)
+  behind_agree bytes rest (Disable a) _ same one other = absurd (cc)
+  behind_agree bytes rest (Enable a) (Enable b) same one other = ap Enable (same_name rest a b one.0 other.0)
+  behind_agree bytes rest (Enable a) _ same one other = absurd (cc)
+  behind_agree bytes rest (grammar.Reload a) (grammar.Reload b) same one other = ap grammar.Reload (same_name rest a b one.0 other.0)
+  behind_agree bytes rest (grammar.Reload a) (ReloadIn b) same one other = absurd (one_not_two a _ b (sym one.0 ∙ other.0))
+  behind_agree bytes rest (grammar.Reload a) (ReloadOut b) same one other = absurd (one_not_two a _ b (sym one.0 ∙ other.0))
+  behind_agree bytes rest (grammar.Reload a) _ same one other = absurd (cc)
+  behind_agree bytes rest (ReloadIn a) (grammar.Reload b) same one other = absurd (one_not_two b _ a (sym other.0 ∙ one.0))
+  behind_agree bytes rest (ReloadIn a) (ReloadIn b) same one other = ap ReloadIn (same_second rest _ a b one.0 other.0)
+  behind_agree bytes rest (ReloadIn a) (ReloadOut b) same one other = absurd (in_not_out (heads_same _ _ _ _ (sym one.0 ∙ other.0)))
+  behind_agree bytes rest (ReloadIn a) _ same one other = absurd (cc)
+  behind_agree bytes rest (ReloadOut a) (grammar.Reload b) same one other = absurd (one_not_two b _ a (sym other.0 ∙ one.0))
+  behind_agree bytes rest (ReloadOut a) (ReloadIn b) same one other = absurd (in_not_out (heads_same _ _ _ _ (sym other.0 ∙ one.0)))
+  behind_agree bytes rest (ReloadOut a) (ReloadOut b) same one other = ap ReloadOut (same_second rest _ a b one.0 other.0)
+  behind_agree bytes rest (ReloadOut a) _ same one other = absurd (cc)
+  behind_agree bytes rest (ShowRoute a) (ShowRoute b) same one other = ap ShowRoute (one_question bytes a b one.2 other.2)
+  behind_agree bytes rest (ShowRoute a) _ same one other = absurd (cc)
+
+  commands_agree : (bytes : List ℕ) (words : List (List ℕ)) (c d : Command) → IsCommand bytes words c → IsCommand bytes words d → c ≡ d
+  commands_agree bytes words c d one other =
+      let whole = sym one.whole ∙ other.whole in
+      let firsts = heads_same (first_word c) (first_word d) one.rest other.rest whole in
+      let rests = words_behind (first_word c) (first_word d) one.rest other.rest whole in
+      behind_agree bytes other.rest c d (verbs_same (verb_for c) (verb_for d) (sym (text_for c) ∙ firsts ∙ text_for d)) (subst (IsBehind bytes c) rests one.rest_is) other.rest_is
+
+  words_agree : (bytes : List ℕ) (words : List (List ℕ)) (a b : Form) → AreForm bytes words a → AreForm bytes words b → a ≡ b
+  words_agree bytes words Sync Sync one other = refl
+  words_agree bytes words Sync (Take b n) one other = absurd (sync_not_take (both_begin words _ _ _ _ one other.whole))
+  words_agree bytes words Sync (Push b n) one other = absurd (sync_not_push (both_begin words _ _ _ _ one other.whole))
+  words_agree bytes words Sync (Says b d) one other = absurd (sync_not_spoken b (both_begin words _ _ _ _ one other.whole))
+  words_agree bytes words (Take a m) Sync one other = absurd (sync_not_take (both_begin words _ _ _ _ other one.whole))
+  words_agree bytes words (Take a m) (Take b n) one other =
+      let parts = steps_agree (codes "!take") words a b m n one other in
+      ap (λ (l : List ℕ). Take l m) parts.0 ∙ ap (λ (k : ℕ). Take b k) parts.1
+  words_agree bytes words (Take a m) (Push b n) one other = absurd (take_not_push (both_begin words _ _ _ _ one.whole other.whole))
+  words_agree bytes words (Take a m) (Says b d) one other = absurd (take_not_spoken b (both_begin words _ _ _ _ one.whole other.whole))
+  words_agree bytes words (Push a m) Sync one other = absurd (sync_not_push (both_begin words _ _ _ _ other one.whole))
+  words_agree bytes words (Push a m) (Take b n) one other = absurd (take_not_push (both_begin words _ _ _ _ other.whole one.whole))
+  words_agree bytes words (Push a m) (Push b n) one other =
+      let parts = steps_agree (codes "!push") words a b m n one other in
+      ap (λ (l : List ℕ). Push l m) parts.0 ∙ ap (λ (k : ℕ). Push b k) parts.1
+  words_agree bytes words (Push a m) (Says b d) one other = absurd (push_not_spoken b (both_begin words _ _ _ _ one.whole other.whole))
+  words_agree bytes words (Says a c) Sync one other = absurd (sync_not_spoken a (both_begin words _ _ _ _ other one.whole))
+  words_agree bytes words (Says a c) (Take b n) one other = absurd (take_not_spoken a (both_begin words _ _ _ _ other.whole one.whole))
+  words_agree bytes words (Says a c) (Push b n) one other = absurd (push_not_spoken a (both_begin words _ _ _ _ other.whole one.whole))
+  words_agree bytes words (Says a c) (Says b d) one other =
+      let whole = sym one.whole ∙ other.whole in
+      let actor = actors_same a b (heads_same _ _ _ _ whole) in
+      let P : List (List ℕ) → Type 0 = λ l. IsCommand bytes l c in
+      let command = commands_agree bytes other.rest c d (subst P (words_behind _ _ _ _ whole) one.command_is) other.command_is in
+      ap (λ (l : List ℕ). Says l c) actor ∙ ap (λ (e : Command). Says b e) command
+
+  pub forms_agree : (line : List ℕ) (a b : Form) → HasForm line a → HasForm line b → a ≡ b
+  forms_agree line a b one other = words_agree (behind_words 3 line) (words_of line) a b one other

@@ -11,18 +11,24 @@ use Rattle.script_lines.specs.declared.commands.Verb.{Verb}
 use Rattle.script_lines.specs.declared.commands.Verb.TheVariants as verbs
 use Rattle.script_lines.specs.declared.commands.Reload.{Reload}
 use Rattle.script_lines.specs.declared.commands.Reload.TheVariants as reloads
-use Rattle.script_lines.specs.Grammar.{IsDecimal, AreCommunities, IsCommunity, IsCom, IsAdd, IsDel, AreName, AreWordAndName, is_name, each_once, IsActor}
-use Rattle.script_lines.specs.Grammar.{Command, Open, Close, Add, Del, Disable, Enable, ReloadIn, ReloadOut, ShowRoute, ShowMore, IsCommand, Form, Sync, Take, Push, Says, HasForm}
+use Rattle.script_lines.specs.Grammar.{IsDel, AreName, AreWordAndName, IsActor}
+use Rattle.announcements.specs.Grammar.{IsDecimal, AreCommunities, IsCommunity, IsCom, IsAdd, each_once}
+use Rattle.script_lines.specs.Grammar.{Command, Open, Close, Add, Del, Disable, Enable, ReloadIn, ReloadOut, ShowRoute, IsCommand, Form, Sync, Take, Push, Says, AreForm, HasForm}
+use Rattle.queries.specs.Name.{is_name}
+use Rattle.queries.specs.Question.{Asked, IsQuestion}
+use Rattle.text.specs.Lines.{behind_words, words_of}
 use Rattle.script_lines.specs.Grammar as grammar
 use Rattle.script_lines.specs.declared.reading.Mark.{Mark}
 use Rattle.script_lines.specs.declared.reading.Mark.TheVariants as marks
-use Rattle.script_lines.specs.Inside.{HasNoNumber, BeginWithNumbers, IsVia, IsOrigin, IsPathAndOrigin, LacksNumber, BeginWithOption, BeginWithOptions, AreNoOptions, AreOnce, AreStep, IsReload, verb_text, mark_text}
-use Rattle.script_lines.proofs.AddParts.{no_via, no_origin, no_path_behind, no_options_behind, no_com_behind, add_read}
-use Rattle.script_lines.proofs.CommandParts.{first_byte, heads_same, words_behind, command_made, no_verb, no_command, no_open, no_close, no_add, no_del, no_disable, no_enable, no_reload, no_show}
-use Rattle.script_lines.proofs.CommunityWords.{once_of_com}
+use Rattle.script_lines.specs.Inside.{AreStep, IsReload, verb_text, mark_text}
+use Rattle.announcements.specs.Reading.{HasNoNumber, BeginWithNumbers, IsVia, IsOrigin, IsPathAndOrigin, LacksNumber, BeginWithOption, BeginWithOptions, AreNoOptions, AreOnce}
+use Rattle.announcements.proofs.AddParts.{no_via, no_origin, no_path_behind, no_options_behind, no_com_behind, add_read}
+use Rattle.script_lines.proofs.CommandParts.{command_made, no_verb, no_command, no_open, no_close, no_add, no_del, no_disable, no_enable, no_reload, no_show}
+use Rattle.announcements.proofs.Words.{first_byte, heads_same, words_behind}
+use Rattle.announcements.proofs.CommunityWords.{once_of_com}
 use Rattle.script_lines.proofs.LineParts.{step_made, no_take, no_push, no_sync, no_mark, no_speaker, no_spoken, spoken_made}
-use Rattle.script_lines.proofs.Options.{options_begin, option_same, moved}
-use Rattle.script_lines.proofs.ToldAddresses.{Told, Found, told_both, told_most, told_number, told_word, found_v4, found_addr, found_net}
+use Rattle.announcements.proofs.Options.{options_begin, option_same, moved}
+use Rattle.queries.proofs.ToldAddresses.{Told, Found, told_both, told_most, told_number, told_word, found_v4, found_addr, found_net}
 use Rattle.script_lines.proofs.ToldWords.{told_true, found_decimal, found_origin, found_community}
 
 -- no words begin as some do
@@ -347,55 +353,16 @@ reload_of words = elim (name_of words) [
       ]
 ]
 
-reload_command : (rest : List (List ℕ)) (reload : Reload) (name : List ℕ) → IsReload rest reload name → (c : Command) × IsCommand (codes "reload" ∷ rest) c
-reload_command rest reloads.Both name is = (grammar.Reload name, command_made (grammar.Reload name) rest is)
-reload_command rest reloads.In name is = (ReloadIn name, command_made (ReloadIn name) rest is)
-reload_command rest reloads.Out name is = (ReloadOut name, command_made (ReloadOut name) rest is)
-
-show_behind : (rest more : List (List ℕ)) → rest ≡ codes "route" ∷ more → (c : Command) × IsCommand (codes "show" ∷ rest) c
-show_behind rest [] is = (ShowRoute, command_made ShowRoute rest is)
-show_behind rest (word ∷ more) is = (ShowMore, command_made ShowMore rest (word, more, is))
+reload_command : (bytes : List ℕ) (rest : List (List ℕ)) (reload : Reload) (name : List ℕ) → IsReload rest reload name → (c : Command) × IsCommand bytes (codes "reload" ∷ rest) c
+reload_command bytes rest reloads.Both name is = (grammar.Reload name, command_made bytes (grammar.Reload name) rest is)
+reload_command bytes rest reloads.In name is = (ReloadIn name, command_made bytes (ReloadIn name) rest is)
+reload_command bytes rest reloads.Out name is = (ReloadOut name, command_made bytes (ReloadOut name) rest is)
 
 route_of : (words : List (List ℕ)) → Told ((more : List (List ℕ)) × (words ≡ codes "route" ∷ more))
 route_of [] = inr (λ is. no_words _ _ is.1)
 route_of (word ∷ more) = elim (told_word word (codes "route")) [
   | inl same ↦ inl (more, ap (λ (w : List ℕ). w ∷ more) same)
   | inr other ↦ inr (λ is. other (heads_same word (codes "route") more is.0 is.1))
-]
-
--- a command, by its first word
-at_word : (verb : Verb) (rest : List (List ℕ)) → Found (IsCommand (verb_text verb ∷ rest))
-at_word verbs.Open rest = elim (open_of rest) [
-  | inl is ↦ inl (Open is.0, command_made (Open is.0) rest (is.1, is.2))
-  | inr none ↦ inr (no_open rest (λ id same small. none (id, same, small)))
-]
-at_word verbs.Close rest = elim (end_of rest) [
-  | inl is ↦ inl (Close, command_made Close rest is)
-  | inr filled ↦ inr (no_close rest filled)
-]
-at_word verbs.Add rest = elim (add_of rest) [
-  | inl is ↦ inl (Add is.0 is.1, command_made (Add is.0 is.1) rest is.2)
-  | inr none ↦ inr (no_add rest (λ net given is. none (net, given, is)))
-]
-at_word verbs.Del rest = elim (del_of rest) [
-  | inl is ↦ inl (Del is.0, command_made (Del is.0) rest is.1)
-  | inr none ↦ inr (no_del rest (λ net is. none (net, is)))
-]
-at_word verbs.Disable rest = elim (name_of rest) [
-  | inl is ↦ inl (Disable is.0, command_made (Disable is.0) rest is.1)
-  | inr none ↦ inr (no_disable rest none)
-]
-at_word verbs.Enable rest = elim (name_of rest) [
-  | inl is ↦ inl (Enable is.0, command_made (Enable is.0) rest is.1)
-  | inr none ↦ inr (no_enable rest none)
-]
-at_word verbs.Reload rest = elim (reload_of rest) [
-  | inl is ↦ inl (reload_command rest is.0 is.1 is.2)
-  | inr none ↦ inr (no_reload rest none)
-]
-at_word verbs.Show rest = elim (route_of rest) [
-  | inl is ↦ inl (show_behind rest is.0 is.1)
-  | inr none ↦ inr (no_show rest (λ more is. none (more, is)))
 ]
 
 -- the first words of commands, tried one after another
@@ -453,15 +420,6 @@ found_verb word = elim (tried word verbs.Open) [
       ]
 ]
 
-command_of : (words : List (List ℕ)) → Found (IsCommand words)
-command_of [] = inr (no_command [] refl)
-command_of (word ∷ rest) = elim (found_verb word) [
-  | inl is ↦
-      let P : List ℕ → Type 0 = λ w. Found (IsCommand (w ∷ rest)) in
-      subst P (sym is.1) (at_word is.0 rest)
-  | inr none ↦ inr (no_verb (word ∷ rest) rest word refl none)
-]
-
 -- a channel's name and a number
 abbrev IsAnyStep : List (List ℕ) → Type 0
 IsAnyStep words = (name : List ℕ) × (count : ℕ) × AreStep words name count
@@ -486,81 +444,143 @@ step_of (name ∷ []) = inr (λ step. no_words _ _ (words_behind name step.0 [] 
 step_of (name ∷ word ∷ []) = step_words name word
 step_of (name ∷ word ∷ more ∷ words) = inr (λ step. two_words _ _ _ _ _ _ step.2.whole)
 
--- a line, by its first word
-sync_found : (rest : List (List ℕ)) → Found (HasForm (codes "sync" ∷ rest))
-sync_found rest = elim (end_of rest) [
-  | inl none ↦ inl (Sync, ap (λ (l : List (List ℕ)). codes "sync" ∷ l) none)
-  | inr filled ↦ inr (no_sync rest filled)
-]
+-- that a text is a question or none
+abbrev pub ToldQuestions : Type 0
+ToldQuestions = (rest : List ℕ) → Found (IsQuestion rest)
 
-take_found : (rest : List (List ℕ)) → Found (HasForm (codes "!take" ∷ rest))
-take_found rest = elim (step_of rest) [
-  | inl step ↦ inl (Take step.0 step.1, step_made (codes "!take") rest step.0 step.1 step.2)
-  | inr none ↦ inr (no_take rest (λ name count step. none (name, count, step)))
-]
+module _ (told : ToldQuestions) (bytes : List ℕ) where
+  no_question : (rest more : List (List ℕ)) → rest ≡ codes "route" ∷ more → ((asked : Asked) → IsQuestion bytes asked → ⊥) → (c : Command) → IsCommand bytes (codes "show" ∷ rest) c → ⊥
+  no_question rest more cut none = no_show bytes rest (λ others asked same is. none asked is)
 
-push_found : (rest : List (List ℕ)) → Found (HasForm (codes "!push" ∷ rest))
-push_found rest = elim (step_of rest) [
-  | inl step ↦ inl (Push step.0 step.1, step_made (codes "!push") rest step.0 step.1 step.2)
-  | inr none ↦ inr (no_push rest (λ name count step. none (name, count, step)))
-]
+  show_of : (rest : List (List ℕ)) → Found (IsCommand bytes (codes "show" ∷ rest))
+  show_of rest = elim (route_of rest) [
+    | inl cut ↦
+        elim (told bytes) [
+          | inl is ↦ inl (ShowRoute is.0, command_made bytes (ShowRoute is.0) rest (cut.0, cut.1, is.1))
+          | inr none ↦ inr (no_question rest cut.0 cut.1 none)
+        ]
+    | inr none ↦ inr (no_show bytes rest (λ more asked same is. none (more, same)))
+  ]
 
-as_word : (label word : List ℕ) (rest : List (List ℕ)) → word ≡ label → Found (HasForm (label ∷ rest)) → Found (HasForm (word ∷ rest))
-as_word label word rest is found =
-    let P : List ℕ → Type 0 = λ w. Found (HasForm (w ∷ rest)) in
-    subst P (sym is) found
+  -- a command, by its first word
+  at_word : (verb : Verb) (rest : List (List ℕ)) → Found (IsCommand bytes (verb_text verb ∷ rest))
+  at_word verbs.Open rest = elim (open_of rest) [
+    | inl is ↦ inl (Open is.0, command_made bytes (Open is.0) rest (is.1, is.2))
+    | inr none ↦ inr (no_open bytes rest (λ id same small. none (id, same, small)))
+  ]
+  at_word verbs.Close rest = elim (end_of rest) [
+    | inl is ↦ inl (Close, command_made bytes Close rest is)
+    | inr filled ↦ inr (no_close bytes rest filled)
+  ]
+  at_word verbs.Add rest = elim (add_of rest) [
+    | inl is ↦ inl (Add is.0 is.1, command_made bytes (Add is.0 is.1) rest is.2)
+    | inr none ↦ inr (no_add bytes rest (λ net given is. none (net, given, is)))
+  ]
+  at_word verbs.Del rest = elim (del_of rest) [
+    | inl is ↦ inl (Del is.0, command_made bytes (Del is.0) rest is.1)
+    | inr none ↦ inr (no_del bytes rest (λ net is. none (net, is)))
+  ]
+  at_word verbs.Disable rest = elim (name_of rest) [
+    | inl is ↦ inl (Disable is.0, command_made bytes (Disable is.0) rest is.1)
+    | inr none ↦ inr (no_disable bytes rest none)
+  ]
+  at_word verbs.Enable rest = elim (name_of rest) [
+    | inl is ↦ inl (Enable is.0, command_made bytes (Enable is.0) rest is.1)
+    | inr none ↦ inr (no_enable bytes rest none)
+  ]
+  at_word verbs.Reload rest = elim (reload_of rest) [
+    | inl is ↦ inl (reload_command bytes rest is.0 is.1 is.2)
+    | inr none ↦ inr (no_reload bytes rest none)
+  ]
+  at_word verbs.Show rest = show_of rest
 
-told_actor : (name : List ℕ) → Told (IsActor name)
-told_actor name = told_both (told_true (is_name name)) (told_most (length name) 64)
+  command_of : (words : List (List ℕ)) → Found (IsCommand bytes words)
+  command_of [] = inr (no_command bytes [] refl)
+  command_of (word ∷ rest) = elim (found_verb word) [
+    | inl is ↦
+        let P : List ℕ → Type 0 = λ w. Found (IsCommand bytes (w ∷ rest)) in
+        subst P (sym is.1) (at_word is.0 rest)
+    | inr none ↦ inr (no_verb bytes (word ∷ rest) rest word refl none)
+  ]
 
-spoken_form : (actor : List ℕ) (rest : List (List ℕ)) → Found (HasForm ((64 ∷ actor) ∷ rest))
-spoken_form actor rest = elim (told_actor actor) [
-  | inl speaks ↦
-      elim (command_of rest) [
-        | inl is ↦ inl (Says actor is.0, spoken_made actor rest is.0 speaks is.1)
-        | inr none ↦ inr (no_spoken actor rest none)
-      ]
-  | inr none ↦ inr (no_speaker actor rest none)
-]
+  -- a line, by its first word
+  sync_found : (rest : List (List ℕ)) → Found (AreForm bytes (codes "sync" ∷ rest))
+  sync_found rest = elim (end_of rest) [
+    | inl none ↦ inl (Sync, ap (λ (l : List (List ℕ)). codes "sync" ∷ l) none)
+    | inr filled ↦ inr (no_sync bytes rest filled)
+  ]
 
-no_marks : (word : List ℕ) → (word ≡ codes "sync" → ⊥) → (word ≡ codes "!take" → ⊥) → (word ≡ codes "!push" → ⊥) → (mark : Mark) → word ≡ mark_text mark → ⊥
-no_marks word one two three marks.Sync is = one is
-no_marks word one two three marks.Take is = two is
-no_marks word one two three marks.Push is = three is
+  take_found : (rest : List (List ℕ)) → Found (AreForm bytes (codes "!take" ∷ rest))
+  take_found rest = elim (step_of rest) [
+    | inl step ↦ inl (Take step.0 step.1, step_made bytes (codes "!take") rest step.0 step.1 step.2)
+    | inr none ↦ inr (no_take bytes rest (λ name count step. none (name, count, step)))
+  ]
 
--- a line in which nobody speaks
-work_form : (word : List ℕ) (rest : List (List ℕ)) → ((actor : List ℕ) → word ≡ 64 ∷ actor → ⊥) → Found (HasForm (word ∷ rest))
-work_form word rest silent = elim (told_word word (codes "sync")) [
-  | inl is ↦ as_word (codes "sync") word rest is (sync_found rest)
-  | inr one ↦
-      elim (told_word word (codes "!take")) [
-        | inl is ↦ as_word (codes "!take") word rest is (take_found rest)
-        | inr two ↦
-            elim (told_word word (codes "!push")) [
-              | inl is ↦ as_word (codes "!push") word rest is (push_found rest)
-              | inr three ↦ inr (no_mark word rest (no_marks word one two three) silent)
-            ]
-      ]
-]
+  push_found : (rest : List (List ℕ)) → Found (AreForm bytes (codes "!push" ∷ rest))
+  push_found rest = elim (step_of rest) [
+    | inl step ↦ inl (Push step.0 step.1, step_made bytes (codes "!push") rest step.0 step.1 step.2)
+    | inr none ↦ inr (no_push bytes rest (λ name count step. none (name, count, step)))
+  ]
 
-silent_word : (b : ℕ) (word actor : List ℕ) → (b ≡ 64 → ⊥) → b ∷ word ≡ 64 ∷ actor → ⊥
-silent_word b word actor other same = other (first_byte b 64 word actor same)
+  as_word : (label word : List ℕ) (rest : List (List ℕ)) → word ≡ label → Found (AreForm bytes (label ∷ rest)) → Found (AreForm bytes (word ∷ rest))
+  as_word label word rest is found =
+      let P : List ℕ → Type 0 = λ w. Found (AreForm bytes (w ∷ rest)) in
+      subst P (sym is) found
 
-no_form : (form : Form) → HasForm [] form → ⊥
-no_form Sync is = no_words _ _ is
-no_form (Take channel count) is = no_words _ _ is.whole
-no_form (Push channel count) is = no_words _ _ is.whole
-no_form (Says actor command) is = no_words _ _ is.whole
+  told_actor : (name : List ℕ) → Told (IsActor name)
+  told_actor name = told_both (told_true (is_name name)) (told_most (length name) 64)
 
-empty_word : (actor : List ℕ) → [] ≡ 64 ∷ actor → ⊥
-empty_word actor same = cc
+  spoken_form : (actor : List ℕ) (rest : List (List ℕ)) → Found (AreForm bytes ((64 ∷ actor) ∷ rest))
+  spoken_form actor rest = elim (told_actor actor) [
+    | inl speaks ↦
+        elim (command_of rest) [
+          | inl is ↦ inl (Says actor is.0, spoken_made bytes actor rest is.0 speaks is.1)
+          | inr none ↦ inr (no_spoken bytes actor rest none)
+        ]
+    | inr none ↦ inr (no_speaker bytes actor rest none)
+  ]
 
-pub form_of : (words : List (List ℕ)) → Found (HasForm words)
-form_of [] = inr no_form
-form_of ([] ∷ rest) = work_form [] rest empty_word
-form_of ((b ∷ word) ∷ rest) = elim (told_number b 64) [
-  | inl is ↦
-      let P : ℕ → Type 0 = λ n. Found (HasForm ((n ∷ word) ∷ rest)) in
-      subst P (sym is) (spoken_form word rest)
-  | inr other ↦ work_form (b ∷ word) rest (λ actor same. silent_word b word actor other same)
-]
+  no_marks : (word : List ℕ) → (word ≡ codes "sync" → ⊥) → (word ≡ codes "!take" → ⊥) → (word ≡ codes "!push" → ⊥) → (mark : Mark) → word ≡ mark_text mark → ⊥
+  no_marks word one two three marks.Sync is = one is
+  no_marks word one two three marks.Take is = two is
+  no_marks word one two three marks.Push is = three is
+
+  -- a line in which nobody speaks
+  work_form : (word : List ℕ) (rest : List (List ℕ)) → ((actor : List ℕ) → word ≡ 64 ∷ actor → ⊥) → Found (AreForm bytes (word ∷ rest))
+  work_form word rest silent = elim (told_word word (codes "sync")) [
+    | inl is ↦ as_word (codes "sync") word rest is (sync_found rest)
+    | inr one ↦
+        elim (told_word word (codes "!take")) [
+          | inl is ↦ as_word (codes "!take") word rest is (take_found rest)
+          | inr two ↦
+              elim (told_word word (codes "!push")) [
+                | inl is ↦ as_word (codes "!push") word rest is (push_found rest)
+                | inr three ↦ inr (no_mark bytes word rest (no_marks word one two three) silent)
+              ]
+        ]
+  ]
+
+  silent_word : (b : ℕ) (word actor : List ℕ) → (b ≡ 64 → ⊥) → b ∷ word ≡ 64 ∷ actor → ⊥
+  silent_word b word actor other same = other (first_byte b 64 word actor same)
+
+  no_form : (form : Form) → AreForm bytes [] form → ⊥
+  no_form Sync is = no_words _ _ is
+  no_form (Take channel count) is = no_words _ _ is.whole
+  no_form (Push channel count) is = no_words _ _ is.whole
+  no_form (Says actor command) is = no_words _ _ is.whole
+
+  empty_word : (actor : List ℕ) → [] ≡ 64 ∷ actor → ⊥
+  empty_word actor same = cc
+
+  words_form : (words : List (List ℕ)) → Found (AreForm bytes words)
+  words_form [] = inr no_form
+  words_form ([] ∷ rest) = work_form [] rest empty_word
+  words_form ((b ∷ word) ∷ rest) = elim (told_number b 64) [
+    | inl is ↦
+        let P : ℕ → Type 0 = λ n. Found (AreForm bytes ((n ∷ word) ∷ rest)) in
+        subst P (sym is) (spoken_form word rest)
+    | inr other ↦ work_form (b ∷ word) rest (λ actor same. silent_word b word actor other same)
+  ]
+
+pub form_of : ToldQuestions → (line : List ℕ) → Found (HasForm line)
+form_of told line = words_form told (behind_words 3 line) (words_of line)

@@ -7,10 +7,10 @@ use Rattle.attrs.specs.Text.{origin_text}
 use Rattle.attrs.specs.declared.attributes.Origin.{Origin}
 use Rattle.attrs.specs.declared.attributes.Origin.TheVariants.{Igp, Egp, Incomplete}
 use Rattle.text.specs.Cut.{behind}
-use Rattle.script_lines.specs.Grammar.{IsDecimal, IsCommunity}
-use Rattle.script_lines.specs.Inside.{is_no_colon, IsCut}
-use Rattle.script_lines.proofs.CommunityWords.{cut_none, cut_some, no_colon, no_left, no_right}
-use Rattle.script_lines.proofs.ToldAddresses.{Told, Found, told_both, told_less, told_word, told_digits}
+use Rattle.announcements.specs.Grammar.{IsDecimal, IsCommunity}
+use Rattle.announcements.specs.Reading.{is_no_colon, IsCut}
+use Rattle.announcements.proofs.CommunityWords.{cut_none, cut_some, no_colon, no_left, no_right}
+use Rattle.queries.proofs.ToldAddresses.{Told, Found, told_both, told_less, told_word, told_digits}
 
 pub told_true : (b : Bool) → Told (b ≡ true)
 told_true true = inl refl

@@ -1,25 +1,22 @@
 -- For private contracts alone: the parts of a line as they are read one after the other, and what
--- the lines so far come to; what a front of the words says, where no longer front says it; what is
--- kept of numbers that may be too large.
+-- the lines so far come to.
 -- Not modelled: where in the line a word stands.
-use Rattle.std.specs.Prelude.{◌≡◌, ℕ, Bool, true, false, not, ◌&&◌, ◌==◌, ◌⊎◌}
-use Rattle.std.specs.Prelude.{nat_le, is_none, if◌then◌else◌, IsTrue, List, [], ◌∷◌, ◌++◌}
+use Rattle.std.specs.Prelude.{◌≡◌, ℕ, ◌+◌, ◌<◌, ◌≤◌, ◌^◌, Bool, true, false, ◌&&◌, ◌⊎◌}
+use Rattle.std.specs.Prelude.{is_none, IsTrue, List, [], ◌∷◌, ◌++◌}
 use Rattle.std.specs.Prelude.{length, map, codes, Option, None, Some, unwrap_or, Result, Ok, Err, ⊤}
-use Rattle.std.specs.Prelude.{MatchResult}
-use Rattle.std.specs.List.{list_all, position, find}
-use Rattle.std.specs.Option.{option_or}
+use Rattle.std.specs.Prelude.{MatchResult, option_and_then}
+use Rattle.std.specs.List.{position, find}
 use Rattle.bits_ip.specs.Address.{family_of}
 use Rattle.bits_ip.specs.Prefix.{Net}
-use Rattle.bits_ip.specs.Text.{IsAddrText, IsNetText}
 use Rattle.bits_ip.specs.declared.address.Addr.{Addr}
-use Rattle.attrs.specs.Clist.{has_pair}
-use Rattle.attrs.specs.Text.{origin_text}
-use Rattle.attrs.specs.declared.attributes.Origin.{Origin}
-use Rattle.import_core.specs.declared.operation.Given.{Given}
+use Rattle.queries.specs.Name.{is_name}
+use Rattle.queries.specs.Question.{Asked}
+use Rattle.show_route.specs.declared.query.Query.{Query}
+use Rattle.text.specs.Lines.{behind_words, words_of}
 use Rattle.import_core.specs.declared.operation.Op.{Op}
 use Rattle.import_core.specs.declared.operation.Op.TheVariants as ops
-use Rattle.script_lines.specs.declared.refusal.Refusal.{Refusal}
-use Rattle.script_lines.specs.declared.refusal.Refusal.TheVariants as refusals
+use Rattle.announcements.specs.declared.refusal.Refusal.{Refusal}
+use Rattle.announcements.specs.declared.refusal.Refusal.TheVariants as refusals
 use Rattle.script_lines.specs.declared.refusal.LineFault.{LineFault}
 use Rattle.script_lines.specs.declared.refusal.LineFault.TheVariants as line_faults
 use Rattle.script_lines.specs.declared.faults.ScriptKind.{ScriptKind}
@@ -28,7 +25,7 @@ use Rattle.script_lines.specs.declared.faults.ScriptFault.{ScriptFault}
 use Rattle.script_lines.specs.declared.faults.ScriptFault.TheVariants as faults
 use Rattle.script_lines.specs.declared.named.Named.{Named}
 use Rattle.script_lines.specs.declared.named.NamedProtocol.{NamedProtocol}
-use Rattle.script_lines.specs.declared.add.Announcement.{Announcement}
+use Rattle.script_lines.specs.declared.named.NamedTable.{NamedTable}
 use Rattle.script_lines.specs.declared.commands.Act.{Act}
 use Rattle.script_lines.specs.declared.commands.Act.TheVariants as acts
 use Rattle.script_lines.specs.declared.commands.Verb.{Verb}
@@ -38,223 +35,48 @@ use Rattle.script_lines.specs.declared.commands.Reload.TheVariants as reloads
 use Rattle.script_lines.specs.declared.reading.Mark.{Mark}
 use Rattle.script_lines.specs.declared.reading.Mark.TheVariants as marks
 use Rattle.script_lines.specs.declared.reading.Reading.{Reading}
+use Rattle.script_lines.specs.declared.script.Condition.{Condition}
 use Rattle.script_lines.specs.declared.script.Line.{Line}
 use Rattle.script_lines.specs.declared.script.Line.TheVariants as lines
 use Rattle.script_lines.specs.declared.script.Script.{Script}
-use Rattle.script_lines.specs.Grammar.{IsDecimal, AreDecimals, IsOption, IsCommunity, IsCom}
-use Rattle.script_lines.specs.Grammar.{AreCommunities, each_once, IsAdd, is_name, AreName}
-use Rattle.script_lines.specs.Grammar.{AreWordAndName, IsCommand, HasForm}
+use Rattle.announcements.specs.Grammar.{IsDecimal}
+use Rattle.script_lines.specs.Grammar.{AreName}
+use Rattle.script_lines.specs.Grammar.{AreWordAndName, IsCommand, AreForm}
 use Rattle.script_lines.specs.Grammar.{Command, Open, Close, Add, Del, Disable, Enable}
-use Rattle.script_lines.specs.Grammar.{ReloadIn, ReloadOut, ShowRoute, ShowMore, Form, Sync, Take}
+use Rattle.script_lines.specs.Grammar.{ReloadIn, ReloadOut, ShowRoute, Form, Sync, Take}
 use Rattle.script_lines.specs.Grammar.{Push, Says}
 use Rattle.script_lines.specs.Grammar as grammar
 use Rattle.script_lines.specs.Kinds.{place_of, channel_of, protocol_of, session_of, is_called}
-use Rattle.script_lines.specs.Kinds.{is_session_of, is_of_family, fits, option_fits, path_fits}
-use Rattle.script_lines.specs.Kinds.{pair_fits, given_fits, applies, least_kind}
-use Rattle.script_lines.specs.Kinds.{is_actor_too_many}
-use Rattle.script_lines.specs.Script.{is_passed, with_actor, IsRefusedAs}
+use Rattle.script_lines.specs.Kinds.{is_session_of, is_of_family}
+use Rattle.announcements.specs.Limits.{fits}
+use Rattle.script_lines.specs.Kinds.{applies, least_kind}
+use Rattle.script_lines.specs.Kinds.{is_actor_too_many, is_table, filter_of, asked_table}
+use Rattle.script_lines.specs.Kinds.{asks_unknown, asks_other_family}
+use Rattle.script_lines.specs.Script.{is_passed, with_actor, condition_at, IsRefusedAs}
 
 abbrev pub protocol_place : List NamedProtocol → List ℕ → Option ℕ
 protocol_place protocols name = position (is_called name) protocols
 
+abbrev pub table_place : List NamedTable → List ℕ → Option ℕ
+table_place tables name = position (is_table name) tables
+
 abbrev pub session_place : List NamedProtocol → List ℕ → Option ℕ
 session_place protocols name = position (is_session_of name) protocols
-
--- the value, where it passes
-abbrev pub kept : {X : Type 0} → (X → Bool) → X → Option X
-kept test x = if test x then Some x else None
-
--- what is kept of such a value
-abbrev pub IsKept : {X : Type 0} → (X → Bool) → (X → Type 0) → Option X → Type 0
-IsKept test P value = (x : _) × P x × (value ≡ kept test x)
-
--- what holds where the form is the reason
-abbrev pub IfForm : Refusal → Type 0 → Type 0
-IfForm refusals.Form P = P
-IfForm refusals.Memory P = ⊤
 
 -- why a line isn't read, of which a part isn't
 abbrev pub fault_of : Refusal → LineFault
 fault_of refusals.Form = line_faults.Refused why.Syntax
 fault_of refusals.Memory = line_faults.Memory
 
--- the fault of the line of this number
-abbrev pub fault_at : ℕ → LineFault → ScriptFault
-fault_at line (line_faults.Refused kind) = faults.Refused line kind
-fault_at line line_faults.Memory = faults.Memory
+-- the fault of the line of this number, behind those that were read
+abbrev pub fault_at : ℕ → LineFault → Reading → ScriptFault
+fault_at line (line_faults.Refused kind) reading = faults.Refused line kind reading.conditions
+fault_at line line_faults.Memory reading = faults.Memory
 
 -- what holds where a line is refused
 abbrev pub IfRefused : (ScriptKind → Type 0) → LineFault → Type 0
 IfRefused P (line_faults.Refused kind) = P kind
 IfRefused P line_faults.Memory = ⊤
-
--- the first of these words spells no number
-abbrev pub HasNoNumber : List (List ℕ) → Type 0
-HasNoNumber words =
-    (word : List ℕ) (more : List (List ℕ)) (n : ℕ) → words ≡ word ∷ more → IsDecimal word n → ⊥
-
--- The first word spells a number, of which this is kept.
-pub record BeginWithNumber (words : List (List ℕ)) (number : Option ℕ) (rest : List (List ℕ))
-    : Type 0 where
-  pub word : List ℕ
-  pub whole : words ≡ word ∷ rest
-  pub n : ℕ
-  pub number_is : IsDecimal word n
-  pub kept_is : number ≡ kept fits n
-
--- The words begin with these numbers, and no further one, and go on with the rest.
-pub record BeginWithNumbers (words : List (List ℕ)) (numbers : List ℕ) (rest : List (List ℕ))
-    : Type 0 where
-  pub front : List (List ℕ)
-  pub whole : words ≡ front ++ rest
-  pub numbers_are : AreDecimals front numbers
-  pub longest : HasNoNumber rest
-
--- So do these, of which this is kept where all fit.
-pub record ReadsNumbers (words : List (List ℕ)) (items : List ℕ) (fit : Bool)
-    (rest : List (List ℕ)) : Type 0 where
-  pub raw : List ℕ
-  pub begin : BeginWithNumbers words raw rest
-  pub fit_is : fit ≡ list_all fits raw
-  pub kept_is : fit ≡ true → items ≡ raw
-
--- a number more, of which this is kept
-abbrev pub KeepsNumber : Option ℕ → List ℕ → Bool → List ℕ → Bool → Type 0
-KeepsNumber None old old_fit new new_fit = new_fit ≡ false
-KeepsNumber (Some n) old old_fit new new_fit = (new_fit ≡ old_fit) × (new ≡ old ++ n ∷ [])
-
--- NET via IP path, and the rest
-pub record IsVia (words : List (List ℕ)) (net : Net) (gateway : Addr) (rest : List (List ℕ))
-    : Type 0 where
-  pub net_word : List ℕ
-  pub gateway_word : List ℕ
-  pub whole : words ≡ net_word ∷ codes "via" ∷ gateway_word ∷ codes "path" ∷ rest
-  pub net_is : IsNetText net_word net
-  pub gateway_is : IsAddrText gateway_word gateway
-
--- origin ORIGIN, and the rest
-abbrev pub IsOrigin : List (List ℕ) → Origin → List (List ℕ) → Type 0
-IsOrigin words origin rest = words ≡ codes "origin" ∷ origin_text origin ∷ rest
-
--- NUMBERS origin ORIGIN, and the rest
-pub record IsPathAndOrigin (words : List (List ℕ)) (path : List ℕ) (origin : Origin)
-    (rest : List (List ℕ)) : Type 0 where
-  pub path_words : List (List ℕ)
-  pub whole : words ≡ path_words ++ codes "origin" ∷ origin_text origin ∷ rest
-  pub path_is : AreDecimals path_words path
-
--- So do these, and this is kept of the path.
-pub record ReadsPath (words : List (List ℕ)) (path : Option (List ℕ)) (origin : Origin)
-    (rest : List (List ℕ)) : Type 0 where
-  pub raw : List ℕ
-  pub is : IsPathAndOrigin words raw origin rest
-  pub kept_is : path ≡ kept path_fits raw
-
--- the words don't begin with this one
-abbrev pub BeginsNot : List ℕ → List (List ℕ) → Type 0
-BeginsNot label words = (more : List (List ℕ)) → words ≡ label ∷ more → ⊥
-
--- An optional part at the front, and what follows it. Where it isn't there its label doesn't come.
-abbrev pub BeginWithOption : List ℕ → List (List ℕ) → Option ℕ → List (List ℕ) → Type 0
-BeginWithOption label words None rest = (rest ≡ words) × BeginsNot label words
-BeginWithOption label words (Some n) rest =
-    (word : List ℕ) × (words ≡ label ∷ word ∷ rest) × IsDecimal word n
-
--- so do these, and this is kept of the number
-pub record ReadsOption (label : List ℕ) (words : List (List ℕ)) (value : Option (Option ℕ))
-    (rest : List (List ℕ)) : Type 0 where
-  pub raw : Option ℕ
-  pub is : BeginWithOption label words raw rest
-  pub kept_is : value ≡ kept option_fits raw
-
--- the label comes, and no number behind it
-abbrev pub LacksNumber : List ℕ → List (List ℕ) → Type 0
-LacksNumber label words = (more : List (List ℕ)) × (words ≡ label ∷ more) × HasNoNumber more
-
--- the optional numbers of an `add` in their order, and the rest
-pub record BeginWithOptions (words : List (List ℕ)) (med lp igp : Option ℕ)
-    (rest : List (List ℕ)) : Type 0 where
-  pub behind_med : List (List ℕ)
-  pub behind_lp : List (List ℕ)
-  pub med_is : BeginWithOption (codes "med") words med behind_med
-  pub lp_is : BeginWithOption (codes "lp") behind_med lp behind_lp
-  pub igp_is : BeginWithOption (codes "igp") behind_lp igp rest
-
--- so do these, and this is kept of each number
-pub record ReadsOptions (words : List (List ℕ)) (med lp igp : Option (Option ℕ))
-    (rest : List (List ℕ)) : Type 0 where
-  pub raw_med : Option ℕ
-  pub raw_lp : Option ℕ
-  pub raw_igp : Option ℕ
-  pub begin : BeginWithOptions words raw_med raw_lp raw_igp rest
-  pub med_is : med ≡ kept option_fits raw_med
-  pub lp_is : lp ≡ kept option_fits raw_lp
-  pub igp_is : igp ≡ kept option_fits raw_igp
-
--- the optional parts of an `add`, to the line's end
-pub record AreOptions (words : List (List ℕ)) (med lp igp : Option ℕ) (coms : List (ℕ × ℕ))
-    : Type 0 where
-  pub med_words : List (List ℕ)
-  pub lp_words : List (List ℕ)
-  pub igp_words : List (List ℕ)
-  pub com_words : List (List ℕ)
-  pub whole : words ≡ med_words ++ (lp_words ++ (igp_words ++ com_words))
-  pub med_is : IsOption (codes "med") med_words med
-  pub lp_is : IsOption (codes "lp") lp_words lp
-  pub igp_is : IsOption (codes "igp") igp_words igp
-  pub com_is : IsCom com_words coms
-
--- no optional parts are these words
-abbrev pub AreNoOptions : List (List ℕ) → Type 0
-AreNoOptions words =
-    (med lp igp : Option ℕ) (coms : List (ℕ × ℕ)) → AreOptions words med lp igp coms → ⊥
-
-abbrev pub is_no_colon : ℕ → Bool
-is_no_colon b = not (b == 58)
-
--- cut at the first colon
-pub record IsCut (word left right : List ℕ) : Type 0 where
-  pub whole : word ≡ left ++ 58 ∷ right
-  pub first : IsTrue (list_all is_no_colon left)
-
--- what fits a number of sixteen bits
-abbrev pub part_fits : ℕ → Bool
-part_fits n = nat_le n 65535
-
--- what is kept of a part, by what is kept of a number
-abbrev pub part_kept : Option ℕ → Option ℕ
-part_kept None = None
-part_kept (Some n) = kept part_fits n
-
--- the list with this community, which is put last where it is a new one
-abbrev pub with_pair : List (ℕ × ℕ) → ℕ × ℕ → List (ℕ × ℕ)
-with_pair pairs pair = if has_pair pairs pair then pairs else pairs ++ pair ∷ []
-
--- The list has this community now, if it fits.
-pub record Puts (pair : ℕ × ℕ) (old : List (ℕ × ℕ)) (fit : Bool) (new : List (ℕ × ℕ)) : Type 0 where
-  pub fit_is : fit ≡ (pair_fits pair && nat_le (length (with_pair old pair)) 64)
-  pub added : fit ≡ true → new ≡ with_pair old pair
-
--- The word is a community, and the list has it now, if all fit.
-pub record AddsOne (word : List ℕ) (old_fit : Bool) (old : List (ℕ × ℕ)) (new_fit : Bool)
-    (new : List (ℕ × ℕ)) : Type 0 where
-  pub pair : ℕ × ℕ
-  pub pair_is : IsCommunity word pair
-  pub puts : old_fit ≡ true → Puts pair old new_fit new
-  pub stays : old_fit ≡ false → new_fit ≡ false
-
--- these words spell communities, which are these, each once
-pub record AreOnce (words : List (List ℕ)) (coms : List (ℕ × ℕ)) : Type 0 where
-  pub pairs : List (ℕ × ℕ)
-  pub pairs_are : AreCommunities words pairs
-  pub once : coms ≡ each_once pairs
-
--- an `add`, and what is kept of it
-pub record ReadsAdd (words : List (List ℕ)) (said : Announcement) : Type 0 where
-  pub given : Given
-  pub is : IsAdd words said.net given
-  pub gateway_is : said.gateway ≡ given.gw
-  pub kept_is : said.given ≡ kept given_fits given
 
 -- the first word of a command
 abbrev pub verb_text : Verb → List ℕ
@@ -266,6 +88,19 @@ verb_text verbs.Disable = codes "disable"
 verb_text verbs.Enable = codes "enable"
 verb_text verbs.Reload = codes "reload"
 verb_text verbs.Show = codes "show"
+
+-- the query of what is asked, with the number of the filter if that has a name
+abbrev pub plain_query : Named → Asked → Query
+plain_query named asked = record {
+  table = unwrap_or (asked_table named asked) 0;
+  pick = asked.pick;
+  choice = option_and_then (filter_of named) asked.filter;
+  source = option_and_then (protocol_of named) asked.protocol;
+  export = option_and_then (session_of named) asked.export;
+  primary = asked.primary;
+  all = asked.all;
+  count = asked.count;
+}
 
 -- what a command comes to, where no kind applies
 abbrev pub act_of : Named → List ℕ → Command → Act
@@ -281,8 +116,7 @@ act_of named actor (grammar.Reload name) =
 act_of named actor (ReloadIn name) = acts.Apply (unwrap_or (protocol_of named name) 0) ops.ReloadIn
 act_of named actor (ReloadOut name) =
     acts.Apply (unwrap_or (protocol_of named name) 0) ops.ReloadOut
-act_of named actor ShowRoute = acts.Show
-act_of named actor ShowMore = acts.ShowMore
+act_of named actor (ShowRoute asked) = acts.Show (plain_query named asked) asked.condition
 
 -- the kinds that don't rest on who has spoken before
 abbrev pub first_kinds : List ScriptKind
@@ -292,24 +126,41 @@ first_kinds =
 abbrev pub first_kind : Named → Form → Option ScriptKind
 first_kind named form = find (applies named [] form) first_kinds
 
--- These words are a command that comes to this.
-pub record IsActed (named : Named) (actor : List ℕ) (words : List (List ℕ)) (act : Act) : Type 0
-  where
-    pub command : Command
-    pub command_is : IsCommand words command
-    pub fine : first_kind named (Says actor command) ≡ None
-    pub act_is : act ≡ act_of named actor command
+-- These words, with these bytes behind the second, are a command that comes to this.
+pub record IsActed (named : Named) (actor bytes : List ℕ) (words : List (List ℕ)) (act : Act)
+    : Type 0 where
+  pub command : Command
+  pub command_is : IsCommand bytes words command
+  pub fine : first_kind named (Says actor command) ≡ None
+  pub act_is : act ≡ act_of named actor command
 
 -- these words are no command, or one that is refused so
-abbrev pub IsNoAct : Named → List ℕ → List (List ℕ) → ScriptKind → Type 0
-IsNoAct named actor words why.Syntax = (command : Command) → IsCommand words command → ⊥
-IsNoAct named actor words kind =
-    (command : Command) × IsCommand words command
+abbrev pub IsNoAct : Named → List ℕ → List ℕ → List (List ℕ) → ScriptKind → Type 0
+IsNoAct named actor bytes words why.Syntax =
+    (command : Command) → IsCommand bytes words command → ⊥
+IsNoAct named actor bytes words kind =
+    (command : Command) × IsCommand bytes words command
     × (first_kind named (Says actor command) ≡ Some kind)
 
-abbrev pub Acts : Named → List ℕ → List (List ℕ) → Result Act LineFault → Type 0
-Acts named actor words result =
-    MatchResult result (IsActed named actor words) (IfRefused (IsNoAct named actor words))
+abbrev pub Acts : Named → List ℕ → List ℕ → List (List ℕ) → Result Act LineFault → Type 0
+Acts named actor bytes words result =
+    MatchResult result (IsActed named actor bytes words)
+    (IfRefused (IsNoAct named actor bytes words))
+
+-- what is asked is refused so
+abbrev pub IsUnfit : Named → Asked → ScriptKind → Type 0
+IsUnfit named asked why.UnknownName = asks_unknown named asked ≡ true
+IsUnfit named asked why.Nettype =
+    (asks_unknown named asked ≡ false) × (asks_other_family named asked ≡ true)
+IsUnfit named asked kind = ⊥
+
+-- what is asked comes to this, or is refused so
+abbrev pub Judges : Named → Asked → Result Act LineFault → Type 0
+Judges named asked result =
+    MatchResult result
+    (λ act. (asks_unknown named asked ≡ false) × (asks_other_family named asked ≡ false)
+    × (act ≡ acts.Show (plain_query named asked) asked.condition))
+    (IfRefused (IsUnfit named asked))
 
 -- an operation of the actor's own session
 abbrev pub IsSessionLine : Named → List ℕ → Op → Result Act LineFault → Type 0
@@ -388,19 +239,27 @@ pub record State : Type 0 where
   pub actors : List (List ℕ)
   pub phases : List (List Line)
   pub lines : List Line
-  pub unbuilt : Option ℕ
+  pub queries : List Query
+  pub conditions : List Condition
 
 abbrev pub state_of : Reading → State
 state_of reading = record {
   actors = reading.actors.items;
   phases = map (λ phase. phase.items) reading.phases.items;
   lines = reading.lines.items;
-  unbuilt = reading.unbuilt;
+  queries = reading.queries.items;
+  conditions = reading.conditions.items;
 }
 
 -- nothing is read
 abbrev pub start : State
-start = record { actors = []; phases = []; lines = []; unbuilt = None }
+start = record { actors = []; phases = []; lines = []; queries = []; conditions = [] }
+
+-- There is room for the line of this number: for its actor, its query and its condition.
+pub record HasRoom (named : Named) (number : ℕ) (state : State) : Type 0 where
+  pub actors : length state.actors ≤ 64
+  pub queries : length state.queries < number
+  pub conditions : length named.filters + length state.conditions < 2 ^ 32
 
 -- a line more in the phase that hasn't ended
 abbrev pub and_line : Line → State → State
@@ -408,19 +267,30 @@ and_line line state = record {
   actors = state.actors;
   phases = state.phases;
   lines = state.lines ++ line ∷ [];
-  unbuilt = state.unbuilt;
+  queries = state.queries;
+  conditions = state.conditions;
 }
 
+-- the number of the filter: of a condition, behind so many others, its place behind all filters
+abbrev pub choice_after : Named → ℕ → Option (List ℕ) → Option ℕ → Option ℕ
+choice_after named before None choice = choice
+choice_after named before (Some condition) choice = Some (length named.filters + before)
+
+-- the query with the choice of its condition
+abbrev pub chosen : Named → ℕ → Option (List ℕ) → Query → Query
+chosen named before condition query =
+    record query { choice = choice_after named before condition query.choice }
+
 -- what the actor of this number does in the line of this number
-abbrev pub acted : ℕ → ℕ → Act → State → State
-acted number actor (acts.Apply protocol op) state =
+abbrev pub acted : Named → ℕ → ℕ → Act → State → State
+acted named number actor (acts.Apply protocol op) state =
     and_line (lines.Apply actor number protocol op) state
-acted number actor acts.Show state = and_line (lines.Show actor) state
-acted number actor acts.ShowMore state = record {
+acted named number actor (acts.Show query condition) state = record {
   actors = state.actors;
   phases = state.phases;
-  lines = state.lines;
-  unbuilt = option_or state.unbuilt (Some number);
+  lines = state.lines ++ lines.Show actor (length state.queries) ∷ [];
+  queries = state.queries ++ chosen named (length state.conditions) condition query ∷ [];
+  conditions = state.conditions ++ condition_at number condition;
 }
 
 abbrev pub with_actors : List (List ℕ) → State → State
@@ -428,7 +298,8 @@ with_actors actors state = record {
   actors = actors;
   phases = state.phases;
   lines = state.lines;
-  unbuilt = state.unbuilt;
+  queries = state.queries;
+  conditions = state.conditions;
 }
 
 -- what the lines come to with one more
@@ -437,7 +308,8 @@ after named number Sync state = record {
   actors = state.actors;
   phases = state.phases ++ state.lines ∷ [];
   lines = [];
-  unbuilt = state.unbuilt;
+  queries = state.queries;
+  conditions = state.conditions;
 }
 after named number (Take channel count) state =
     and_line (lines.Take (unwrap_or (channel_of named channel) 0) count) state
@@ -445,29 +317,37 @@ after named number (Push channel count) state =
     and_line (lines.Push (unwrap_or (channel_of named channel) 0) count) state
 after named number (Says actor command) state =
     let actors = with_actor state.actors (Says actor command) in
-    acted number (unwrap_or (place_of actors actor) 0) (act_of named actor command)
+    acted named number (unwrap_or (place_of actors actor) 0) (act_of named actor command)
     (with_actors actors state)
 
 -- a line of this form is read
-pub record IsRead (named : Named) (number : ℕ) (words : List (List ℕ)) (old new : State) : Type 0
-  where
-    pub form : Form
-    pub form_is : HasForm words form
-    pub fine : least_kind named old.actors form ≡ None
-    pub new_is : new ≡ after named number form old
+pub record IsRead (named : Named) (number : ℕ) (bytes : List ℕ) (words : List (List ℕ))
+    (old new : State) : Type 0 where
+  pub form : Form
+  pub form_is : AreForm bytes words form
+  pub fine : least_kind named old.actors form ≡ None
+  pub new_is : new ≡ after named number form old
+
+-- a line is refused, and the conditions stay
+abbrev pub Refuses :
+    Named → List ℕ → List (List ℕ) → State → State → LineFault → Type 0
+Refuses named bytes words old new =
+    IfRefused (λ kind. (new.conditions ≡ old.conditions)
+    × IsRefusedAs named old.actors (AreForm bytes words) kind)
 
 abbrev pub ReadsLine :
-    Named → ℕ → List (List ℕ) → State → Result (Unit {0}) LineFault → State → Type 0
-ReadsLine named number words old result new =
-    MatchResult result (λ _. IsRead named number words old new)
-    (IfRefused (IsRefusedAs named old.actors words))
+    Named → ℕ → List ℕ → List (List ℕ) → State → Result (Unit {0}) LineFault → State → Type 0
+ReadsLine named number bytes words old result new =
+    MatchResult result (λ _. IsRead named number bytes words old new)
+    (Refuses named bytes words old new)
 
 -- a line is read, or passed over
 abbrev pub ReadsOne :
-    Named → ℕ → List (List ℕ) → State → Result (Unit {0}) LineFault → State → Type 0
-ReadsOne named number words old result new =
-    ((is_passed words ≡ true) × (new ≡ old) × (result ≡ Ok tt))
-    ⊎ ((is_passed words ≡ false) × ReadsLine named number words old result new)
+    Named → ℕ → List ℕ → State → Result (Unit {0}) LineFault → State → Type 0
+ReadsOne named number line old result new =
+    ((is_passed line ≡ true) × (new ≡ old) × (result ≡ Ok tt))
+    ⊎ ((is_passed line ≡ false)
+    × ReadsLine named number (behind_words 3 line) (words_of line) old result new)
 
 -- the actor's number, and those who have spoken
 abbrev pub Numbers : List ℕ → List (List ℕ) → Result ℕ LineFault → List (List ℕ) → Type 0
@@ -476,16 +356,26 @@ Numbers actor old result new =
     × (is_actor_too_many old (Says actor Close) ≡ false) × (place_of new actor ≡ Some number))
     (IfRefused (λ kind. (kind ≡ why.Actors) × (is_actor_too_many old (Says actor Close) ≡ true)))
 
-abbrev pub Does : ℕ → ℕ → Act → State → Result (Unit {0}) LineFault → State → Type 0
-Does number actor act old result new = MatchResult result (λ _. new ≡ acted number actor act old)
+-- what was said is put behind what was said before
+abbrev pub Does :
+    Named → ℕ → ℕ → Act → State → Result (Unit {0}) LineFault → State → Type 0
+Does named number actor act old result new =
+    MatchResult result (λ _. new ≡ acted named number actor act old)
+    (λ fault. fault ≡ line_faults.Memory)
+
+-- so is a condition
+abbrev pub PutsCondition :
+    ℕ → Option (List ℕ) → List Condition → Result (Unit {0}) LineFault → List Condition → Type 0
+PutsCondition number condition old result new =
+    MatchResult result (λ _. new ≡ old ++ condition_at number condition)
     (λ fault. fault ≡ line_faults.Memory)
 
 -- all lines are read
 abbrev pub Finishes : Reading → Result Script ScriptFault → Type 0
 Finishes reading (Ok script) =
-    (reading.unbuilt ≡ None) × (script.actors.items ≡ reading.actors.items)
+    (script.actors.items ≡ reading.actors.items)
     × (map (λ phase. phase.items) script.phases.items
     ≡ map (λ phase. phase.items) reading.phases.items ++ reading.lines.items ∷ [])
-Finishes reading (Err (faults.Refused line kind)) = ⊥
-Finishes reading (Err (faults.NotBuilt line)) = reading.unbuilt ≡ Some line
-Finishes reading (Err faults.Memory) = ⊤
+    × (script.queries.items ≡ reading.queries.items)
+    × (script.conditions.items ≡ reading.conditions.items)
+Finishes reading (Err fault) = fault ≡ faults.Memory

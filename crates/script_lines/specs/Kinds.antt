@@ -1,36 +1,45 @@
 -- Why a line that is of the grammar is refused: each kind by itself (`has_wrong_actor`,
 -- `has_unknown_name`, `has_other_family`, `is_over_limit`, `is_actor_too_many`), and the least of
 -- those that apply (`least_kind`). What scripts can name (`channel_of`, `protocol_of`,
--- `session_of`, `is_of_family`), by names, kinds of protocols and families; who has spoken before.
--- Not modelled: the configuration itself.
--- From: own, this program's format of scripts. A path has at most 120 numbers and a list at most 64
--- communities, which are limits of this program; numbers have 32 bits and the parts of a community
--- sixteen (RFC 6793, RFC 4271, RFC 1997).
--- Example: `!take nope 4294967296` is S3; an `add` by no bgp protocol has no S4.
-use Rattle.std.specs.Prelude.{ℕ, ◌<◌, ◌^◌, Bool, true, false, not, ◌&&◌, nat_le, is_some, is_none}
+-- `session_of`, `is_of_family`, `table_of`, `filter_of`), by names, kinds of protocols and families;
+-- which table is asked (`asked_table`); who has spoken before. A kind that rests on what is unknown
+-- doesn't apply.
+-- Not modelled: the configuration itself; whether a condition is one, which is the greatest kind.
+-- From: own, this program's format of scripts; limits of numbers are those of specs/Limits of
+-- announcements.
+-- Example: `!take nope 4294967296` is S3; an `add` by no bgp protocol has no S4, and `show route
+-- 2001:db8::/32 table nope` is S3.
+use Rattle.std.specs.Prelude.{ℕ, ◌<◌, ◌^◌, Bool, true, false, not, ◌&&◌, ◌||◌, nat_le}
+use Rattle.std.specs.Prelude.{is_some, is_none, option_map, option_and_then}
 use Rattle.std.specs.Prelude.{List, [], ◌∷◌, length, Option, None, Some}
-use Rattle.std.specs.List.{list_all, position, find}
+use Rattle.std.specs.List.{position, find, slice_get}
+use Rattle.attrs.specs.declared.route.Select.{Select}
+use Rattle.attrs.specs.declared.route.Select.TheVariants.{All, Exact, For, Within}
 use Rattle.std.specs.Str.{bytes_eq}
 use Rattle.bits_ip.specs.Address.{family_of}
 use Rattle.bits_ip.specs.declared.address.Family.{Family}
 use Rattle.bits_ip.specs.declared.address.Family.TheVariants as families
-use Rattle.import_core.specs.declared.operation.Given.{Given}
+use Rattle.queries.specs.Question.{Asked}
 use Rattle.script_lines.specs.declared.named.Named.{Named}
 use Rattle.script_lines.specs.declared.named.NamedProtocol.{NamedProtocol}
+use Rattle.script_lines.specs.declared.named.NamedTable.{NamedTable}
 use Rattle.script_lines.specs.declared.named.ProtocolKind.{ProtocolKind}
 use Rattle.script_lines.specs.declared.named.ProtocolKind.TheVariants.{Bgp}
 use Rattle.script_lines.specs.declared.faults.ScriptKind.{ScriptKind}
 use Rattle.script_lines.specs.declared.faults.ScriptKind.TheVariants.{Syntax, UnknownActor}
 use Rattle.script_lines.specs.declared.faults.ScriptKind.TheVariants.{UnknownName, Nettype}
-use Rattle.script_lines.specs.declared.faults.ScriptKind.TheVariants.{AttrLimit, Actors}
+use Rattle.script_lines.specs.declared.faults.ScriptKind.TheVariants.{AttrLimit, Actors, Expression}
 use Rattle.script_lines.specs.Grammar.{Command, Open, Close, Add, Del, Disable, Enable, Reload}
-use Rattle.script_lines.specs.Grammar.{ReloadIn, ReloadOut}
+use Rattle.script_lines.specs.Grammar.{ReloadIn, ReloadOut, ShowRoute}
 use Rattle.script_lines.specs.Grammar.{Form, Take, Push, Says}
+use Rattle.announcements.specs.Limits.{fits, given_fits}
 
--- There are few enough protocols and channels for numbers of 32 bits.
+-- There are few enough protocols, channels, tables and filters for numbers of 32 bits.
 pub record AreFew (named : Named) : Type 0 where
   pub protocols : length named.protocols < 2 ^ 32
   pub channels : length named.channels < 2 ^ 32
+  pub tables : length named.tables < 2 ^ 32
+  pub filters : length named.filters < 2 ^ 32
 
 -- the place of a name in a list, from 0, where it is there
 abbrev pub place_of : List (List ℕ) → List ℕ → Option ℕ
@@ -76,27 +85,71 @@ is_some_of family (Some protocol) = is_bgp_of family protocol.kind
 abbrev pub is_of_family : Named → List ℕ → Family → Bool
 is_of_family named name family = is_some_of family (find (is_session_of name) named.protocols)
 
--- what fits a number of 32 bits
-abbrev pub fits : ℕ → Bool
-fits n = nat_le n 4294967295
+-- the number of the table of this name
+abbrev pub is_table : List ℕ → NamedTable → Bool
+is_table name table = bytes_eq table.name name
 
-abbrev pub option_fits : Option ℕ → Bool
-option_fits None = true
-option_fits (Some n) = fits n
+abbrev pub table_of : Named → List ℕ → Option ℕ
+table_of named name = position (is_table name) named.tables
 
-abbrev pub pair_fits : ℕ × ℕ → Bool
-pair_fits pair = nat_le pair.0 65535 && nat_le pair.1 65535
+-- the number of the filter of this name
+abbrev pub filter_of : Named → List ℕ → Option ℕ
+filter_of named name = place_of named.filters name
 
-abbrev pub path_fits : List ℕ → Bool
-path_fits path = list_all fits path && nat_le (length path) 120
+-- the number of the table of the bgp protocol of this name
+abbrev pub export_table : Named → List ℕ → Option ℕ
+export_table named name =
+    option_map (λ protocol. protocol.table) (find (is_session_of name) named.protocols)
 
-abbrev pub coms_fit : List (ℕ × ℕ) → Bool
-coms_fit coms = list_all pair_fits coms && nat_le (length coms) 64
+-- the family of the net that is asked for
+abbrev pub pick_family : Select → Option Family
+pick_family All = None
+pick_family (Exact net) = Some (family_of net.addr)
+pick_family (For net) = Some (family_of net.addr)
+pick_family (Within net) = Some (family_of net.addr)
 
-abbrev pub given_fits : Given → Bool
-given_fits given =
-    path_fits given.path && option_fits given.med && option_fits given.lp
-    && option_fits given.igp && coms_fit given.coms
+-- master4, or master6 for a net of IPv6
+abbrev pub default_table : Option Family → ℕ
+default_table (Some families.V6) = 1
+default_table _ = 0
+
+-- the number of the table of this name, or else of that of this export, or else of the default one
+abbrev pub table_by : Named → Option (List ℕ) → Option (List ℕ) → Select → Option ℕ
+table_by named (Some table) export pick = table_of named table
+table_by named None (Some export) pick = export_table named export
+table_by named None None pick = Some (default_table (pick_family pick))
+
+-- the number of the table that is asked, where it is known
+abbrev pub asked_table : Named → Asked → Option ℕ
+asked_table named asked = table_by named asked.table asked.export asked.pick
+
+-- the family of the table of this number
+abbrev pub family_at : Named → ℕ → Option Family
+family_at named number = option_map (λ table. table.family) (slice_get named.tables number)
+
+-- the family of the table that is asked
+abbrev pub asked_family : Named → Asked → Option Family
+asked_family named asked = option_and_then (family_at named) (asked_table named asked)
+
+-- a name is given, and nothing has it
+abbrev pub lacks : (List ℕ → Option ℕ) → Option (List ℕ) → Bool
+lacks number None = false
+lacks number (Some name) = is_none (number name)
+
+-- an unknown table, protocol or filter, or exports of no bgp protocol
+abbrev pub asks_unknown : Named → Asked → Bool
+asks_unknown named asked =
+    lacks (table_of named) asked.table || lacks (protocol_of named) asked.protocol
+    || lacks (session_of named) asked.export || lacks (filter_of named) asked.filter
+
+-- two families are known, and they differ
+abbrev pub differ : Option Family → Option Family → Bool
+differ (Some one) (Some other) = not (same_family one other)
+differ _ _ = false
+
+-- a net of another family than the table, where that is known
+abbrev pub asks_other_family : Named → Asked → Bool
+asks_other_family named asked = differ (pick_family asked.pick) (asked_family named asked)
 
 -- operations of a session, which only a bgp protocol has
 abbrev pub is_session : Command → Bool
@@ -111,7 +164,7 @@ abbrev pub has_wrong_actor : Named → Form → Bool
 has_wrong_actor named (Says actor command) = is_session command && is_none (session_of named actor)
 has_wrong_actor named _ = false
 
--- An unknown channel or protocol.
+-- An unknown channel, protocol, table or filter.
 abbrev pub has_unknown_name : Named → Form → Bool
 has_unknown_name named (Take channel count) = is_none (channel_of named channel)
 has_unknown_name named (Push channel count) = is_none (channel_of named channel)
@@ -120,9 +173,10 @@ has_unknown_name named (Says actor (Enable name)) = is_none (protocol_of named n
 has_unknown_name named (Says actor (Reload name)) = is_none (protocol_of named name)
 has_unknown_name named (Says actor (ReloadIn name)) = is_none (protocol_of named name)
 has_unknown_name named (Says actor (ReloadOut name)) = is_none (protocol_of named name)
+has_unknown_name named (Says actor (ShowRoute asked)) = asks_unknown named asked
 has_unknown_name named _ = false
 
--- A net or a gateway of another family than the channel, where the channel is known.
+-- A net or a gateway of another family than the channel or the table, where that is known.
 abbrev pub has_other_family : Named → Form → Bool
 has_other_family named (Says actor (Add net given)) =
     is_some (session_of named actor)
@@ -130,6 +184,7 @@ has_other_family named (Says actor (Add net given)) =
     && is_of_family named actor (family_of given.gw))
 has_other_family named (Says actor (Del net)) =
     is_some (session_of named actor) && not (is_of_family named actor (family_of net.addr))
+has_other_family named (Says actor (ShowRoute asked)) = asks_other_family named asked
 has_other_family named _ = false
 
 -- A number of over 32 bits, a community's part of over sixteen, a path of over 120 numbers, over 64
@@ -154,8 +209,9 @@ applies named actors form UnknownName = has_unknown_name named form
 applies named actors form Nettype = has_other_family named form
 applies named actors form AttrLimit = is_over_limit form
 applies named actors form Actors = is_actor_too_many actors form
+applies named actors form Expression = false
 
--- all kinds, the least first
+-- all kinds that are judged here, the least first
 abbrev pub kinds : List ScriptKind
 kinds = Syntax ∷ UnknownActor ∷ UnknownName ∷ Nettype ∷ AttrLimit ∷ Actors ∷ []
 

@@ -4,22 +4,24 @@ ghost use Rattle.std.specs.Prelude.{MatchOption};
 ghost use Rattle.bits_ip.specs.Prefix.{Net};
 ghost use Rattle.bits_ip.specs.Text.{v4_text};
 ghost use Rattle.bits_ip.specs.declared.address.Addr.{Addr};
-ghost use Rattle.text.specs.Lines.{words_of};
+ghost use Rattle.text.specs.Lines.{behind_word, behind_words, words_of};
 ghost use Rattle.script_lines.specs.Grammar.{IsDel, AreName};
 ghost use Rattle.script_lines.specs.Kinds.{AreFew};
 ghost use Rattle.script_lines.specs.Inside.{Acts, verb_text, IsSessionLine, IsNamedLine};
 ghost use Rattle.script_lines.specs.Inside.{IsReload, IsReloadWord, reload_op, are_of_family};
-ghost use Rattle.script_lines.specs.Inside.{ReadsAdd};
+ghost use Rattle.announcements.specs.Reading.{ReadsAdd};
 ghost use Rattle.script_lines.specs.declared.commands.Verb.{Verb};
 ghost use Rattle.script_lines.specs.declared.commands.Reload.{Reload};
 
-use crate::add::{Announcement, read_add};
 use crate::faults::ScriptKind;
-use crate::named::{Named, family_of, is_of_family, protocol_of, session_of};
-use crate::numbers::is_name;
+use crate::named::{Name, Named, family_of, is_of_family, protocol_of, session_of};
 use crate::refusal::LineFault;
+use crate::show::judge_show;
+use announcements::{Announcement, read_add};
 use bits_ip::{Addr, Family, Prefix, parse_prefix, parse_v4};
 use import_core::Op;
+use queries::{is_name, read_question};
+use show_route::Query;
 use std::alloc::Global;
 use text::{expect_word, is_end, next_word};
 
@@ -27,11 +29,16 @@ use text::{expect_word, is_end, next_word};
 #[derive(Drop)]
 pub enum Act {
     /// An operation on the protocol of this number.
-    Apply { protocol: u32, op: Op },
-    /// `show route`.
-    Show,
-    /// `show route` with further words.
-    ShowMore,
+    Apply {
+        protocol: u32,
+        op: Op,
+    },
+    /// `show route`: what is asked, with the number of the filter if that has a name, and the
+    /// condition.
+    Show {
+        query: Query,
+        condition: Option<Name>,
+    },
 }
 
 /// The first word of a command.
@@ -81,7 +88,7 @@ pub fn read_command(
     words: &[u8],
 ) -> Result<Act, LineFault>
     requires { AreFew named.now }
-    ensures { Acts named.now actor.now (words_of words.now) result }
+    ensures { Acts named.now actor.now (behind_words 2 words.now) (words_of words.now) result }
 {
     let Some((word, rest)) = next_word(words) else {
         return Err(LineFault::Refused(ScriptKind::Syntax));
@@ -101,7 +108,8 @@ fn read_behind(
     rest: &[u8],
 ) -> Result<Act, LineFault>
     requires { AreFew named.now }
-    ensures { Acts named.now actor.now (verb_text verb ∷ words_of rest.now) result }
+    ensures { Acts named.now actor.now (behind_word rest.now) (verb_text verb ∷ words_of rest.now)
+        result }
 {
     match verb {
         Verb::Open => open_line(named, actor, rest),
@@ -111,13 +119,14 @@ fn read_behind(
         Verb::Disable => disable_line(named, actor, rest),
         Verb::Enable => enable_line(named, actor, rest),
         Verb::Reload => reload_line(named, actor, rest),
-        Verb::Show => show_line(rest),
+        Verb::Show => show_line(alloc, named, actor, rest),
     }
 }
 
 fn open_line(named: &Named, actor: &[u8], rest: &[u8]) -> Result<Act, LineFault>
     requires { AreFew named.now }
-    ensures { Acts named.now actor.now (codes "open" ∷ words_of rest.now) result }
+    ensures { Acts named.now actor.now (behind_word rest.now) (codes "open" ∷ words_of rest.now)
+        result }
 {
     match read_open(rest) {
         Some(id) => session_line(named, actor, Op::SessionUp(id)),
@@ -127,7 +136,8 @@ fn open_line(named: &Named, actor: &[u8], rest: &[u8]) -> Result<Act, LineFault>
 
 fn close_line(named: &Named, actor: &[u8], rest: &[u8]) -> Result<Act, LineFault>
     requires { AreFew named.now }
-    ensures { Acts named.now actor.now (codes "close" ∷ words_of rest.now) result }
+    ensures { Acts named.now actor.now (behind_word rest.now) (codes "close" ∷ words_of rest.now)
+        result }
 {
     if is_end(rest) {
         session_line(named, actor, Op::SessionDown)
@@ -149,7 +159,8 @@ fn session_line(named: &Named, actor: &[u8], op: Op) -> Result<Act, LineFault>
 
 fn add_line(alloc: Global, named: &Named, actor: &[u8], rest: &[u8]) -> Result<Act, LineFault>
     requires { AreFew named.now }
-    ensures { Acts named.now actor.now (codes "add" ∷ words_of rest.now) result }
+    ensures { Acts named.now actor.now (behind_word rest.now) (codes "add" ∷ words_of rest.now)
+        result }
 {
     let said = read_add(alloc, rest)?;
     judge_add(named, actor, said)
@@ -158,8 +169,8 @@ fn add_line(alloc: Global, named: &Named, actor: &[u8], rest: &[u8]) -> Result<A
 /// What an `add` comes to.
 fn judge_add(named: &Named, actor: &[u8], said: Announcement) -> Result<Act, LineFault>
     requires { AreFew named.now }
-    ensures { (words : List (List ℕ)) → ReadsAdd words said
-        → Acts named.now actor.now (codes "add" ∷ words) result }
+    ensures { (bytes : List ℕ) (words : List (List ℕ)) → ReadsAdd words said
+        → Acts named.now actor.now bytes (codes "add" ∷ words) result }
 {
     let Announcement {
         net,
@@ -190,7 +201,8 @@ fn are_of_family(named: &Named, actor: &[u8], net: &Prefix, gateway: &Addr) -> b
 
 fn del_line(named: &Named, actor: &[u8], rest: &[u8]) -> Result<Act, LineFault>
     requires { AreFew named.now }
-    ensures { Acts named.now actor.now (codes "del" ∷ words_of rest.now) result }
+    ensures { Acts named.now actor.now (behind_word rest.now) (codes "del" ∷ words_of rest.now)
+        result }
 {
     let Some(net) = read_del(rest) else {
         return Err(LineFault::Refused(ScriptKind::Syntax));
@@ -210,7 +222,8 @@ fn del_line(named: &Named, actor: &[u8], rest: &[u8]) -> Result<Act, LineFault>
 
 fn disable_line(named: &Named, actor: &[u8], rest: &[u8]) -> Result<Act, LineFault>
     requires { AreFew named.now }
-    ensures { Acts named.now actor.now (codes "disable" ∷ words_of rest.now) result }
+    ensures { Acts named.now actor.now (behind_word rest.now) (codes "disable" ∷ words_of rest.now)
+        result }
 {
     match read_name(rest) {
         Some(name) => named_line(named, name, Op::Disable),
@@ -220,7 +233,8 @@ fn disable_line(named: &Named, actor: &[u8], rest: &[u8]) -> Result<Act, LineFau
 
 fn enable_line(named: &Named, actor: &[u8], rest: &[u8]) -> Result<Act, LineFault>
     requires { AreFew named.now }
-    ensures { Acts named.now actor.now (codes "enable" ∷ words_of rest.now) result }
+    ensures { Acts named.now actor.now (behind_word rest.now) (codes "enable" ∷ words_of rest.now)
+        result }
 {
     match read_name(rest) {
         Some(name) => named_line(named, name, Op::Enable),
@@ -230,7 +244,8 @@ fn enable_line(named: &Named, actor: &[u8], rest: &[u8]) -> Result<Act, LineFaul
 
 fn reload_line(named: &Named, actor: &[u8], rest: &[u8]) -> Result<Act, LineFault>
     requires { AreFew named.now }
-    ensures { Acts named.now actor.now (codes "reload" ∷ words_of rest.now) result }
+    ensures { Acts named.now actor.now (behind_word rest.now) (codes "reload" ∷ words_of rest.now)
+        result }
 {
     match read_reload(rest) {
         Some((reload, name)) => named_line(named, name, op_of(reload)),
@@ -249,18 +264,18 @@ fn named_line(named: &Named, name: &[u8], op: Op) -> Result<Act, LineFault>
     }
 }
 
-fn show_line(rest: &[u8]) -> Result<Act, LineFault>
-    ensures { (named : Named) (actor : List ℕ)
-        → Acts named actor (codes "show" ∷ words_of rest.now) result }
+fn show_line(alloc: Global, named: &Named, actor: &[u8], rest: &[u8]) -> Result<Act, LineFault>
+    requires { AreFew named.now }
+    ensures { Acts named.now actor.now (behind_word rest.now) (codes "show" ∷ words_of rest.now)
+        result }
 {
     let Some(more) = expect_word(rest, b"route") else {
         return Err(LineFault::Refused(ScriptKind::Syntax));
     };
-    Ok(if is_end(more) {
-        Act::Show
-    } else {
-        Act::ShowMore
-    })
+    match read_question(more) {
+        Some(question) => judge_show(alloc, named, &question),
+        None => Err(LineFault::Refused(ScriptKind::Syntax)),
+    }
 }
 
 fn read_open(rest: &[u8]) -> Option<u32>

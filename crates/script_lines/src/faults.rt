@@ -1,4 +1,5 @@
 //! Why a text isn't read as a script.
+use crate::script::Condition;
 use thiserror::Error;
 
 /// Why a line is refused. In a line the first kind of these that applies is given.
@@ -11,10 +12,11 @@ pub enum ScriptKind {
     /// An operation of a session by an actor that isn't the name of a bgp protocol.
     #[error("S2 UnknownActor")]
     UnknownActor,
-    /// No channel or no protocol has this name.
+    /// No channel, protocol, table or filter has this name, or the protocol whose exports are asked
+    /// for is none of BGP.
     #[error("S3 UnknownName")]
     UnknownName,
-    /// A net or a gateway is of another family than the channel.
+    /// A net or a gateway is of another family than the channel or the table.
     #[error("S4 Nettype")]
     Nettype,
     /// A number is over 4294967295, a part of a community over 65535, a path has over 120 numbers,
@@ -24,18 +26,24 @@ pub enum ScriptKind {
     /// The first line of a 65th actor.
     #[error("S7 Actors")]
     Actors,
+    /// What stands behind `where` is no condition. `read_script` doesn't judge this: whoever knows
+    /// the language of conditions gives it.
+    #[error("S8 Expression")]
+    Expression,
 }
 
 /// Why a text isn't read as a script.
-#[derive(Clone, Copy, Debug, PartialEq, Eq, Drop, Error)]
+#[derive(Debug, Drop, Error)]
 pub enum ScriptFault {
     /// The line of this number is refused. It is the first such line; all lines are counted, from
-    /// 1.
+    /// 1. The lines before it have these conditions, in their order: nothing is known yet of what
+    /// they say.
     #[error("{line} {kind}")]
-    Refused { line: u32, kind: ScriptKind },
-    /// No line is refused, and the one of this number is the first that isn't built yet.
-    #[error("line {line} isn't built yet")]
-    NotBuilt { line: u32 },
+    Refused {
+        line: u32,
+        kind: ScriptKind,
+        conditions: Vec<Condition>,
+    },
     /// Memory was wanted and not given.
     #[error("out of memory")]
     Memory,

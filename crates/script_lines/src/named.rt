@@ -4,7 +4,8 @@ ghost use Rattle.bits_ip.specs.Address.{family_of};
 ghost use Rattle.script_lines.specs.Kinds.{place_of, is_called, is_bgp, is_bgp_of, channel_of};
 ghost use Rattle.script_lines.specs.Kinds.{protocol_of, session_of, is_of_family, same_family};
 ghost use Rattle.script_lines.specs.Kinds.{AreFew, is_session_of};
-ghost use Rattle.script_lines.specs.Inside.{session_place, protocol_place};
+ghost use Rattle.script_lines.specs.Kinds.{table_of, is_table, filter_of, export_table, family_at};
+ghost use Rattle.script_lines.specs.Inside.{session_place, protocol_place, table_place};
 
 use attrs::Seq;
 use bits_ip::{Addr, Family, OutOfMemory};
@@ -54,10 +55,20 @@ pub enum ProtocolKind {
 pub struct NamedProtocol {
     pub name: Name,
     pub kind: ProtocolKind,
+    /// The number of its channel's table; of a pipe that of its primary table.
+    pub table: u32,
+}
+
+/// A table as scripts know it.
+#[derive(Debug, Drop)]
+pub struct NamedTable {
+    pub name: Name,
+    /// The family of its nets.
+    pub family: Family,
 }
 
 /// What a configuration declares, as far as scripts can name it. Names of protocols differ, and so
-/// do those of channels.
+/// do those of channels, of tables and of filters.
 #[derive(Debug, Drop)]
 pub struct Named {
     /// The protocols in their order.
@@ -65,6 +76,10 @@ pub struct Named {
     /// The names of the channels in their order: of a bgp protocol its own name, of a pipe P
     /// `P.export` and `P.import`.
     pub channels: Seq<Name>,
+    /// The tables in their order: the first is master4, the second master6.
+    pub tables: Seq<NamedTable>,
+    /// The names of the filters in their order.
+    pub filters: Seq<Name>,
 }
 
 /// The number of the channel of this name.
@@ -92,6 +107,40 @@ pub fn session_of(named: &Named, name: &[u8]) -> Option<u32>
 {
     let place = session_place(named.protocols.as_slice(), name)?;
     u32::try_from(place).ok()
+}
+
+/// The number of the table of this name.
+pub fn table_of(named: &Named, name: &[u8]) -> Option<u32>
+    requires { AreFew named.now }
+    ensures { result ≡ table_of named.now name.now }
+{
+    let place = table_place(named.tables.as_slice(), name)?;
+    u32::try_from(place).ok()
+}
+
+/// The number of the filter of this name.
+pub fn filter_of(named: &Named, name: &[u8]) -> Option<u32>
+    requires { AreFew named.now }
+    ensures { result ≡ filter_of named.now name.now }
+{
+    let place = place_of(named.filters.as_slice(), name)?;
+    u32::try_from(place).ok()
+}
+
+/// The number of the table of the bgp protocol of this name.
+pub fn export_table(named: &Named, name: &[u8]) -> Option<u32>
+    ensures { result ≡ export_table named.now name.now }
+{
+    let protocol = session(named.protocols.as_slice(), name)?;
+    Some(protocol.table)
+}
+
+/// The family of the table of this number.
+pub fn family_at(named: &Named, number: u32) -> Option<Family>
+    ensures { result ≡ family_at named.now number }
+{
+    let table = named.tables.as_slice().get(number as usize)?;
+    Some(table.family)
 }
 
 /// Whether the bgp protocol of this name has a channel of this family.
@@ -129,6 +178,12 @@ fn protocol_place(protocols: &[NamedProtocol], name: &[u8]) -> Option<usize>
         .position(|protocol| is_called(protocol, name))
 }
 
+fn table_place(tables: &[NamedTable], name: &[u8]) -> Option<usize>
+    ensures { result ≡ table_place tables.now name.now }
+{
+    tables.iter().position(|table| is_table(table, name))
+}
+
 fn session_place(protocols: &[NamedProtocol], name: &[u8]) -> Option<usize>
     ensures { result ≡ session_place protocols.now name.now }
 {
@@ -147,6 +202,12 @@ fn is_called(protocol: &NamedProtocol, name: &[u8]) -> bool
     ensures { result ≡ is_called name.now protocol.now }
 {
     protocol.name.as_slice() == name
+}
+
+fn is_table(table: &NamedTable, name: &[u8]) -> bool
+    ensures { result ≡ is_table name.now table.now }
+{
+    table.name.as_slice() == name
 }
 
 fn is_bgp(kind: ProtocolKind) -> bool
@@ -169,7 +230,7 @@ fn is_bgp_of(family: Family, kind: ProtocolKind) -> bool
     }
 }
 
-fn is_same(one: Family, other: Family) -> bool
+pub fn is_same(one: Family, other: Family) -> bool
     ensures { result ≡ same_family one other }
 {
     match (one, other) {

@@ -1,19 +1,25 @@
 //! One line after another.
-ghost use Rattle.std.specs.Prelude.{◌≡◌, ◌∷◌, ◌≤◌, ℕ, List, length, codes, IsTrue, ◌↔◌};
+ghost use Rattle.std.specs.Prelude.{◌≡◌, ◌∷◌, ◌≤◌, ◌<◌, ◌+◌, ◌^◌, ℕ, List, length, codes, IsTrue, ◌↔◌};
 ghost use Rattle.std.specs.Prelude.{MatchOption};
-ghost use Rattle.text.specs.Lines.{begins_with, words_of};
+ghost use Rattle.text.specs.Lines.{begins_with, behind_words, words_of};
 ghost use Rattle.script_lines.specs.Grammar.{IsActor};
-ghost use Rattle.script_lines.specs.Kinds.{AreFew, fits};
-ghost use Rattle.script_lines.specs.Inside.{IsKept, AreStep, Steps, mark_text, state_of};
+ghost use Rattle.script_lines.specs.Kinds.{AreFew};
+ghost use Rattle.announcements.specs.Limits.{fits};
+ghost use Rattle.script_lines.specs.Inside.{AreStep, Steps, mark_text, state_of};
+ghost use Rattle.announcements.specs.Reading.{IsKept};
 ghost use Rattle.script_lines.specs.Inside.{start, ReadsOne, ReadsLine, Numbers, Does};
+ghost use Rattle.script_lines.specs.Inside.{HasRoom, PutsCondition, choice_after};
+ghost use Rattle.script_lines.specs.declared.commands.Act.TheVariants.{Show};
 ghost use Rattle.script_lines.specs.declared.reading.Mark.{Mark};
 
 use crate::commands::{Act, read_command};
 use crate::faults::ScriptKind;
 use crate::named::{Name, Named, channel_of, place_of};
-use crate::numbers::{is_name, next_number};
 use crate::refusal::LineFault;
-use crate::script::Line;
+use crate::script::{Condition, Line};
+use announcements::next_number;
+use queries::is_name;
+use show_route::Query;
 use std::alloc::Global;
 use std::mem;
 use text::{is_end, next_word};
@@ -33,8 +39,10 @@ pub struct Reading {
     pub phases: Vec<Vec<Line>>,
     /// The lines of the phase that hasn't.
     pub lines: Vec<Line>,
-    /// The first line that isn't built yet.
-    pub unbuilt: Option<u32>,
+    /// What was asked.
+    pub queries: Vec<Query>,
+    /// The conditions there.
+    pub conditions: Vec<Condition>,
 }
 
 impl Reading {
@@ -46,7 +54,8 @@ impl Reading {
             actors: Vec::new(alloc),
             phases: Vec::new(alloc),
             lines: Vec::new(alloc),
-            unbuilt: None,
+            queries: Vec::new(alloc),
+            conditions: Vec::new(alloc),
         }
     }
 }
@@ -60,8 +69,8 @@ pub fn read_one(
     reading: &mut Reading,
 ) -> Result<(), LineFault>
     requires few { AreFew named.now }
-    requires actors { length reading.old.actors.items ≤ 64 }
-    ensures { ReadsOne named.now number (words_of line.now)
+    requires room { HasRoom named.now number (state_of reading.old) }
+    ensures { ReadsOne named.now number line.now
         (state_of reading.old) result (state_of reading.new) }
 {
     let Some((word, rest)) = next_word(line) else {
@@ -90,8 +99,8 @@ fn read_line(
     reading: &mut Reading,
 ) -> Result<(), LineFault>
     requires few { AreFew named.now }
-    requires actors { length reading.old.actors.items ≤ 64 }
-    ensures { ReadsLine named.now number (word.now ∷ words_of rest.now)
+    requires room { HasRoom named.now number (state_of reading.old) }
+    ensures { ReadsLine named.now number (behind_words 2 rest.now) (word.now ∷ words_of rest.now)
         (state_of reading.old) result (state_of reading.new) }
 {
     match actor_of(word) {
@@ -145,7 +154,7 @@ fn work(
 ) -> Result<(), LineFault>
     requires few { AreFew named.now }
     requires spoken { (actor : List ℕ) → word.now ≡ 64 ∷ actor → ⊥ }
-    ensures { ReadsLine named.now number (word.now ∷ words_of rest.now)
+    ensures { ReadsLine named.now number (behind_words 2 rest.now) (word.now ∷ words_of rest.now)
         (state_of reading.old) result (state_of reading.new) }
 {
     match mark_of(word) {
@@ -158,7 +167,7 @@ fn work(
 
 fn sync_line(alloc: Global, rest: &[u8], reading: &mut Reading) -> Result<(), LineFault>
     ensures { (named : Named) (number : ℕ)
-        → ReadsLine named number (codes "sync" ∷ words_of rest.now)
+        → ReadsLine named number (behind_words 2 rest.now) (codes "sync" ∷ words_of rest.now)
         (state_of reading.old) result (state_of reading.new) }
 {
     if !is_end(rest) {
@@ -171,7 +180,8 @@ fn sync_line(alloc: Global, rest: &[u8], reading: &mut Reading) -> Result<(), Li
 
 fn take_line(named: &Named, rest: &[u8], reading: &mut Reading) -> Result<(), LineFault>
     requires { AreFew named.now }
-    ensures { (number : ℕ) → ReadsLine named.now number (codes "!take" ∷ words_of rest.now)
+    ensures { (number : ℕ)
+        → ReadsLine named.now number (behind_words 2 rest.now) (codes "!take" ∷ words_of rest.now)
         (state_of reading.old) result (state_of reading.new) }
 {
     let (channel, count) = read_step(named, rest)?;
@@ -181,7 +191,8 @@ fn take_line(named: &Named, rest: &[u8], reading: &mut Reading) -> Result<(), Li
 
 fn push_line(named: &Named, rest: &[u8], reading: &mut Reading) -> Result<(), LineFault>
     requires { AreFew named.now }
-    ensures { (number : ℕ) → ReadsLine named.now number (codes "!push" ∷ words_of rest.now)
+    ensures { (number : ℕ)
+        → ReadsLine named.now number (behind_words 2 rest.now) (codes "!push" ∷ words_of rest.now)
         (state_of reading.old) result (state_of reading.new) }
 {
     let (channel, count) = read_step(named, rest)?;
@@ -231,16 +242,17 @@ fn speak(
     reading: &mut Reading,
 ) -> Result<(), LineFault>
     requires few { AreFew named.now }
-    requires actors { length reading.old.actors.items ≤ 64 }
-    ensures { ReadsLine named.now number ((64 ∷ actor.now) ∷ words_of rest.now)
-        (state_of reading.old) result (state_of reading.new) }
+    requires room { HasRoom named.now number (state_of reading.old) }
+    ensures { ReadsLine named.now number (behind_words 2 rest.now)
+        ((64 ∷ actor.now) ∷ words_of rest.now) (state_of reading.old) result
+        (state_of reading.new) }
 {
     if !is_actor(actor) {
         return Err(LineFault::Refused(ScriptKind::Syntax));
     }
     let act = read_command(alloc, named, actor, rest)?;
     let actor = actor_number(alloc, actor, &mut reading.actors)?;
-    put_act(number, actor, act, reading)
+    put_act(named, number, actor, act, reading)
 }
 
 fn is_actor(name: &[u8]) -> bool
@@ -266,18 +278,86 @@ fn actor_number(alloc: Global, actor: &[u8], actors: &mut Vec<Name>) -> Result<u
 }
 
 /// Puts what was said behind what was said before.
-fn put_act(number: u32, actor: u32, act: Act, reading: &mut Reading) -> Result<(), LineFault>
-    ensures { Does number actor act (state_of reading.old) result (state_of reading.new) }
+fn put_act(
+    named: &Named,
+    number: u32,
+    actor: u32,
+    act: Act,
+    reading: &mut Reading,
+) -> Result<(), LineFault>
+    requires { HasRoom named.now number (state_of reading.old) }
+    ensures { Does named.now number actor act (state_of reading.old) result (state_of reading.new) }
 {
     match act {
-        Act::Apply { protocol, op } => reading.lines.push(Line::Apply {
-            actor,
-            line: number,
-            protocol,
-            op,
-        })?,
-        Act::Show => reading.lines.push(Line::Show { actor })?,
-        Act::ShowMore => reading.unbuilt = reading.unbuilt.or(Some(number)),
+        Act::Apply { protocol, op } => {
+            reading.lines.push(Line::Apply {
+                actor,
+                line: number,
+                protocol,
+                op,
+            })?;
+            Ok(())
+        }
+        Act::Show { query, condition } => {
+            put_query(named, number, actor, query, condition, reading)
+        }
+    }
+}
+
+/// Puts a query behind those before, its condition, and the line that asks it.
+fn put_query(
+    named: &Named,
+    number: u32,
+    actor: u32,
+    query: Query,
+    condition: Option<Name>,
+    reading: &mut Reading,
+) -> Result<(), LineFault>
+    requires { HasRoom named.now number (state_of reading.old) }
+    ensures { Does named.now number actor (Show query condition) (state_of reading.old) result
+        (state_of reading.new) }
+{
+    let place = reading.queries.len() as u32;
+    let choice = choice_after(named, reading.conditions.len(), &condition, query.choice);
+    reading.queries.push(Query { choice, ..query })?;
+    put_condition(number, condition, &mut reading.conditions)?;
+    reading.lines.push(Line::Show {
+        actor,
+        query: place,
+    })?;
+    Ok(())
+}
+
+/// The number of the filter of a query: with a condition, behind so many others, its place behind
+/// all filters that have names.
+fn choice_after(
+    named: &Named,
+    before: usize,
+    condition: &Option<Name>,
+    choice: Option<u32>,
+) -> Option<u32>
+    requires { length named.now.filters + before < 2 ^ 32 }
+    ensures { result ≡ choice_after named.now before condition.now choice }
+{
+    match condition {
+        Some(_) => {
+            let place = named.filters.len() + before;
+            Some(place as u32)
+        }
+        None => choice,
+    }
+}
+
+/// Puts the condition of a line behind those before.
+fn put_condition(
+    number: u32,
+    condition: Option<Name>,
+    conditions: &mut Vec<Condition>,
+) -> Result<(), LineFault>
+    ensures { PutsCondition number condition conditions.old.items result conditions.new.items }
+{
+    if let Some(text) = condition {
+        conditions.push(Condition { line: number, text })?;
     }
     Ok(())
 }

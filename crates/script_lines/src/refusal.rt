@@ -1,27 +1,8 @@
-//! Why a part of a line isn't read, and why a line isn't.
+//! Why a line isn't read.
 use crate::faults::ScriptKind;
+use announcements::Refusal;
 use bits_ip::OutOfMemory;
 use std::alloc::AllocFailed;
-
-/// Why a part of a line isn't read.
-#[derive(Clone, Copy, Debug, PartialEq, Eq)]
-pub enum Refusal {
-    /// It isn't of the grammar.
-    Form,
-    /// Memory was wanted and not given.
-    Memory,
-}
-
-impl<T: Drop> From<AllocFailed<T>> for Refusal {
-    ghost use Rattle.std.specs.Prelude.{◌≡◌};
-    ghost use Rattle.script_lines.specs.declared.refusal.Refusal.TheVariants.{Memory};
-
-    ghost from_gives = { λ _ refusal. refusal ≡ Memory };
-
-    fn from(_: AllocFailed<T>) -> Self {
-        Refusal::Memory
-    }
-}
 
 /// Why a line isn't read.
 #[derive(Clone, Copy, Debug, PartialEq, Eq)]

@@ -1,5 +1,5 @@
 use Rattle.text.specs.Lines.{words_of}
-use Rattle.script_lines.proofs.AddParts.{no_del_net}
+use Rattle.script_lines.proofs.DelParts.{no_del_net}
 use Rattle.script_lines.proofs.commands.read_del.Goals as goal
 
 pub returns-in_err-net : goal.returns-in_err-net

@@ -14,7 +14,7 @@ loop-line-preserved c =
 pub returns-in-Err : goal.returns-in-Err
 returns-in-Err c =
     rw c.at_line.ensures
-    (refused_here c.args.named.now c.args.text.now (state_of c.loop-line.reading) (state_of c.read_one.new.reading) c.loop-line.number _ c.loop-line.rest.now c.in-Some.line.now c.in-Some.after.now
+    (refused_here c.args.named.now c.args.text.now (state_of c.loop-line.reading) c.read_one.new.reading c.loop-line.number _ c.loop-line.rest.now c.in-Some.line.now c.in-Some.after.now
     c.in-Err.fault c.loop-line.invariant refl c.in-Some.ensures.line c.in-Err.ensures)
 
 pub returns : goal.returns
