@@ -1,8 +1,9 @@
 use crate::names::named;
-use attrs::{write_communities, write_optional_number, write_spaced_numbers};
+use attrs::{Select, write_communities, write_optional_number, write_spaced_numbers};
 use bits_ip::{Addr, OutOfMemory, Prefix, write_addr, write_number, write_prefix};
 use import_core::{Given, Op};
-use script_lines::{Line, Script, ScriptFault, read_script};
+use script_lines::{Condition, Line, Script, ScriptFault, ScriptKind, read_script};
+use show_route::Query;
 use std::alloc::Global;
 use std::io;
 use std::io::{Error, ErrorKind};
@@ -10,10 +11,12 @@ use std::io::{Error, ErrorKind};
 /// What a script says, or why it isn't read.
 ///
 /// Phases are separated by ` / `, lines by `; `, and an empty phase is `-`. An operation is written
-/// with its actor's number, its line's and its protocol's: `0@2 p3 del 10.0.0.0/8`. Behind ` by `
-/// are those who speak.
+/// with its actor's number, its line's and its protocol's: `0@2 p3 del 10.0.0.0/8`; a query with
+/// its actor's number, its own and its table's, and what else is asked: `0@ q1 t2 in 10.0.0.0/8 of
+/// p3`. Behind ` by ` are those who speak, and behind ` where ` the conditions, each with its line's
+/// number, between brackets.
 pub fn answer(alloc: Global, text: &[u8]) -> io::Result<String> {
-    if text.len() >= u32::MAX as usize {
+    if text.len() >= 1_000_000 {
         return Err(Error::from(ErrorKind::InvalidInput));
     }
     let Ok(named) = named(alloc) else {
@@ -22,12 +25,32 @@ pub fn answer(alloc: Global, text: &[u8]) -> io::Result<String> {
     if named.protocols.len() > 256 || named.channels.len() > 512 {
         return Err(Error::from(ErrorKind::InvalidInput));
     }
+    if named.tables.len() > 64 || named.filters.len() > 64 {
+        return Err(Error::from(ErrorKind::InvalidInput));
+    }
     match read_script(alloc, text, &named) {
         Ok(script) => written(alloc, &script),
-        Err(ScriptFault::Refused { line, kind }) => Ok(format!(in alloc; "{line} {kind}")?),
-        Err(ScriptFault::NotBuilt { line }) => Ok(format!(in alloc; "not built {line}")?),
+        Err(
+            ScriptFault::Refused {
+                line,
+                kind,
+                conditions,
+            },
+        ) => refused(alloc, line, kind, conditions.as_slice()),
         Err(ScriptFault::Memory) => Err(Error::from(ErrorKind::OutOfMemory)),
     }
+}
+
+fn refused(
+    alloc: Global,
+    line: u32,
+    kind: ScriptKind,
+    conditions: &[Condition],
+) -> io::Result<String> {
+    let mut out = Vec::from_slice(alloc, format!(in alloc; "{line} {kind}")?.as_bytes())?;
+    let written = write_conditions(conditions, &mut out);
+    written.map_err(|_| Error::from(ErrorKind::OutOfMemory))?;
+    String::from_utf8(out).map_err(|_| Error::from(ErrorKind::InvalidData))
 }
 
 fn written(alloc: Global, script: &Script) -> io::Result<String> {
@@ -42,7 +65,7 @@ fn write_script(alloc: Global, script: &Script, out: &mut Vec<u8>) -> Result<(),
         if !out.is_empty() {
             out.extend_from_slice(b" / ")?;
         }
-        write_phase(alloc, phase.as_slice(), out)?;
+        write_phase(alloc, phase.as_slice(), script.queries.as_slice(), out)?;
     }
     let mut sign = b" by ".as_slice();
     for actor in &script.actors {
@@ -50,23 +73,44 @@ fn write_script(alloc: Global, script: &Script, out: &mut Vec<u8>) -> Result<(),
         out.extend_from_slice(actor.as_slice())?;
         sign = b",".as_slice();
     }
+    write_conditions(script.conditions.as_slice(), out)
+}
+
+fn write_conditions(conditions: &[Condition], out: &mut Vec<u8>) -> Result<(), OutOfMemory> {
+    for condition in conditions {
+        out.extend_from_slice(b" where ")?;
+        write_number(condition.line, out)?;
+        out.extend_from_slice(b"[")?;
+        out.extend_from_slice(condition.text.as_slice())?;
+        out.extend_from_slice(b"]")?;
+    }
     Ok(())
 }
 
-fn write_phase(alloc: Global, lines: &[Line], out: &mut Vec<u8>) -> Result<(), OutOfMemory> {
+fn write_phase(
+    alloc: Global,
+    lines: &[Line],
+    queries: &[Query],
+    out: &mut Vec<u8>,
+) -> Result<(), OutOfMemory> {
     if lines.is_empty() {
         out.extend_from_slice(b"-")?;
     }
     let mut sign = b"".as_slice();
     for line in lines {
         out.extend_from_slice(sign)?;
-        write_line(alloc, line, out)?;
+        write_line(alloc, line, queries, out)?;
         sign = b"; ".as_slice();
     }
     Ok(())
 }
 
-fn write_line(alloc: Global, line: &Line, out: &mut Vec<u8>) -> Result<(), OutOfMemory> {
+fn write_line(
+    alloc: Global,
+    line: &Line,
+    queries: &[Query],
+    out: &mut Vec<u8>,
+) -> Result<(), OutOfMemory> {
     match line {
         Line::Take { channel, count } => write_two(b"take ", *channel, b" ", *count, out),
         Line::Push { channel, count } => write_two(b"push ", *channel, b" ", *count, out),
@@ -81,12 +125,61 @@ fn write_line(alloc: Global, line: &Line, out: &mut Vec<u8>) -> Result<(), OutOf
             write_number(*protocol, out)?;
             write_op(alloc, op, out)
         }
-        Line::Show { actor } => {
-            write_number(*actor, out)?;
-            out.extend_from_slice(b"@ show route")?;
-            Ok(())
+        Line::Show { actor, query } => {
+            write_two(b"", *actor, b"@ q", *query, out)?;
+            match queries.get(*query as usize) {
+                Some(asked) => write_query(alloc, asked, out),
+                None => Ok(()),
+            }
         }
     }
+}
+
+fn write_query(alloc: Global, query: &Query, out: &mut Vec<u8>) -> Result<(), OutOfMemory> {
+    write_labelled(b" t", Some(query.table), out)?;
+    write_pick(alloc, &query.pick, out)?;
+    write_labelled(b" filter ", query.choice, out)?;
+    write_labelled(b" of p", query.source, out)?;
+    write_labelled(b" export p", query.export, out)?;
+    write_flag(b" primary", query.primary, out)?;
+    write_flag(b" all", query.all, out)?;
+    write_flag(b" count", query.count, out)
+}
+
+fn write_labelled(label: &[u8], number: Option<u32>, out: &mut Vec<u8>) -> Result<(), OutOfMemory> {
+    match number {
+        Some(number) => {
+            out.extend_from_slice(label)?;
+            write_number(number, out)
+        }
+        None => Ok(()),
+    }
+}
+
+fn write_flag(label: &[u8], set: bool, out: &mut Vec<u8>) -> Result<(), OutOfMemory> {
+    if set {
+        out.extend_from_slice(label)?;
+    }
+    Ok(())
+}
+
+fn write_pick(alloc: Global, pick: &Select, out: &mut Vec<u8>) -> Result<(), OutOfMemory> {
+    match pick {
+        Select::All => Ok(()),
+        Select::Exact(net) => write_net(alloc, b" ", net, out),
+        Select::For(net) => write_net(alloc, b" for ", net, out),
+        Select::Within(net) => write_net(alloc, b" in ", net, out),
+    }
+}
+
+fn write_net(
+    alloc: Global,
+    label: &[u8],
+    net: &Prefix,
+    out: &mut Vec<u8>,
+) -> Result<(), OutOfMemory> {
+    out.extend_from_slice(label)?;
+    write_prefix(alloc, net, out)
 }
 
 fn write_two(

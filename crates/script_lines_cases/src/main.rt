@@ -1,5 +1,5 @@
-//! Tries scripts that files of cases hold, over a few protocols: what a script says, or the line at
-//! which it is refused or not built yet.
+//! Tries scripts that files of cases hold, over a few protocols, tables and filters: what a script
+//! says, or the line at which it is refused.
 //!
 //! The module `names` has the protocols, `answer` says how what a script says is written.
 #![tactic(auto)]
