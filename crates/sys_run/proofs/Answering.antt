@@ -4,7 +4,7 @@ use Rattle.std.specs.Prelude.{◌==◌, ◌||◌, IfSome, option_and_then, optio
 use denote.Bor.{Bor}
 use Rattle.std.proofs.lemmas.Bool.{false≢true}
 use Rattle.std.proofs.lemmas.List.{length-map, length-reverse}
-use Rattle.std.proofs.lemmas.Option.{get_or_from_slice_get, same_Some, slice_get-map, slice_get_within}
+use Rattle.std.proofs.lemmas.Option.{get_or_from_slice_get, slice_get-map, slice_get_within}
 use Rattle.bits_ip.specs.Prefix.{Net}
 use Rattle.bits_ip.specs.declared.address.Family.{Family}
 use Rattle.attrs.specs.History.{Content}
@@ -15,7 +15,6 @@ use Rattle.attrs.specs.declared.route.Route.{Route}
 use Rattle.export_core.specs.Candidates.{among}
 use Rattle.export_core.specs.Histories.{change_of}
 use Rattle.export_core.specs.Keys.{key_of}
-use Rattle.export_core.specs.Passing.{value_by}
 use Rattle.export_core.specs.declared.passing.Through.{Through}
 use Rattle.show_route.specs.Senders.{sender_of}
 use Rattle.show_route.specs.Shown.{Choice, IsReply, Sender}
@@ -25,8 +24,8 @@ use Rattle.core_machine.specs.Legal.{Joined}
 use Rattle.core_machine.specs.Lines.{Reply}
 use Rattle.core_machine.specs.Machine.{State}
 use Rattle.core_machine.proofs.Contents.{front_all}
-use Rattle.core_setup.specs.Channels.{channel_at, channels, numbers_of}
-use Rattle.core_setup.specs.Protocols.{rules_of, value_at}
+use Rattle.core_setup.specs.Channels.{channels, numbers_of}
+use Rattle.core_setup.specs.Protocols.{value_at}
 use Rattle.core_setup.specs.Queries.{choice_of, exports_at, sends_of}
 use Rattle.core_setup.specs.Reports.{name_in, protocol_names, table_name}
 use Rattle.core_setup.specs.Setup.{Exports, ExportsFrom, FitsQuery, IsSetup, Protocol as SeenProtocol, Setup}

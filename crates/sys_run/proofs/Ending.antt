@@ -12,7 +12,6 @@ use Rattle.attrs.specs.declared.judge.Verdict.{Verdict}
 use Rattle.attrs.specs.declared.route.Route.{Route}
 use Rattle.export_core.specs.Histories.{change_of}
 use Rattle.core_machine.specs.Legal.{Joined}
-use Rattle.core_machine.specs.Lines.{Reply}
 use Rattle.core_machine.specs.Machine.{State}
 use Rattle.core_machine.specs.Replies.{replies_to}
 use Rattle.show_route.specs.declared.query.Query.{Query}

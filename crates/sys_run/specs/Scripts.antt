@@ -3,7 +3,7 @@
 -- Not modelled: texts and names (specs/Script of script_lines).
 -- From: own.
 -- Example: `!take p2 1`, where p1 is static and has no channel, is of channel 0.
-use Rattle.std.specs.Prelude.{◌<◌, ℕ, List, length, map, reverse, Option, Some, None, slice_get, ⊤}
+use Rattle.std.specs.Prelude.{◌<◌, ℕ, List, map, reverse, Option, Some, None, slice_get, ⊤}
 use Rattle.core_machine.specs.Lines as machine
 use Rattle.script_lines.specs.declared.script.Line.{Line}
 use Rattle.script_lines.specs.declared.script.Line.TheVariants as lines

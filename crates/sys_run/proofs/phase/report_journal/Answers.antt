@@ -1,4 +1,4 @@
-use Rattle.std.proofs.Common.{◌≡◌, ◌∙◌, ap, arith, length, map, sym}
+use Rattle.std.proofs.Common.{◌≡◌, ◌∙◌, ap, arith, map, sym}
 use Rattle.std.proofs.lemmas.Option.{same_Some, slice_get_within}
 use Rattle.export_core.specs.Histories.{change_of}
 use Rattle.sys_run.proofs.ReportingLoops.{drop_map}

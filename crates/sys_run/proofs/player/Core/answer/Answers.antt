@@ -1,9 +1,8 @@
-use Rattle.std.proofs.Common.{◌≡◌, ◌<◌, ℕ, List, length, map, Option, Some, is_some, refl, sym, ap, subst, ◌∙◌, arith}
+use Rattle.std.proofs.Common.{◌≡◌, ◌<◌, ℕ, List, map, Option, Some, is_some, refl, sym, ap, subst, ◌∙◌, arith}
 use Rattle.std.specs.Prelude.{option_copied, option_map, slice_get}
 use denote.Bor.{Bor}
 use Rattle.attrs.specs.Table.{Shows}
 use Rattle.attrs.specs.declared.route.Row.{Row}
-use Rattle.core_setup.specs.Setup.{FitsQuery}
 use Rattle.export_core.specs.declared.passing.Through.{Through}
 use Rattle.rib.specs.Rib.{Table}
 use Rattle.run_tables.proofs.Routing.{item_read}
