@@ -41,6 +41,8 @@ module _ {J : Type 0} (verdict : J → Net → Route → Verdict) (setup : Setup
     channels = are.channels;
     tables = are.tables;
     names = are.names;
+    choices = are.choices;
+    queries = are.queries;
   } where
     t : State
     t = record s { replies = reply ∷ s.replies }
@@ -48,7 +50,7 @@ module _ {J : Type 0} (verdict : J → Net → Route → Verdict) (setup : Setup
     on : (actor : ℕ) (given : Vec Answered Global) → Pairs (λ n a r. IsAnswered setup s a r) 0 given.items (reverse (replies_to actor s.replies))
         → Pairs (λ n a r. IsAnswered setup t a r) 0 given.items (reverse (replies_to actor s.replies))
     on actor given ps = weaker_here (λ n a r. IsAnswered setup s a r) (λ n a r. IsAnswered setup t a r) given.items (reverse (replies_to actor s.replies))
-        (λ n a r _ _ x. answered_on setup s t [] a r refl x) ps
+        (λ n a r _ _ x. answered_on setup s t a r (λ k. ([], refl)) x) ps
 
     told : (actor : ℕ) (given : Vec Answered Global) → slice_get (set core.replies.items reply.actor after) actor ≡ Some given
         → (((reply.actor == actor) ≡ true) × (reply.actor ≡ actor)) ⊎ (((reply.actor == actor) ≡ false) × (reply.actor ≡ actor → ⊥))
@@ -63,7 +65,7 @@ module _ {J : Type 0} (verdict : J → Net → Route → Verdict) (setup : Setup
         sym (push_reverse reply (replies_to actor s.replies)) ∙ ap reverse (sym (if_true (reply.actor == actor) (reply ∷ replies_to actor s.replies) (replies_to actor s.replies) w.0)) in
         subst (λ (xs : List Reply). Pairs (λ n a r. IsAnswered setup t a r) 0 given.items xs) last
         (subst (λ (xs : List Answered). Pairs (λ n a r. IsAnswered setup t a r) 0 xs (reverse (replies_to actor s.replies) ++ reply ∷ [])) items
-        (pairs_push (λ n a r. IsAnswered setup t a r) 0 held.items (reverse (replies_to actor s.replies)) answered reply before (answered_on setup s t [] answered reply refl is)))
+        (pairs_push (λ n a r. IsAnswered setup t a r) 0 held.items (reverse (replies_to actor s.replies)) answered reply before (answered_on setup s t answered reply (λ k. ([], refl)) is)))
     told actor given e (inr w) =
         let there : slice_get core.replies.items actor ≡ Some given = sym (get-set_other core.replies.items reply.actor actor after (λ same. w.1 (sym same))) ∙ e in
         let rest : replies_to actor s.replies ≡ replies_to actor t.replies = sym (if_false (reply.actor == actor) (reply ∷ replies_to actor s.replies) (replies_to actor s.replies) w.0) in
@@ -85,10 +87,12 @@ module _ {J : Type 0} (verdict : J → Net → Route → Verdict) (setup : Setup
         let rest : replies_to actor s.replies ≡ replies_to actor t.replies = sym (if_false (reply.actor == actor) (reply ∷ replies_to actor s.replies) (replies_to actor s.replies) other) in
         subst (λ (xs : List Reply). Pairs (λ n a r. IsAnswered setup t a r) 0 given.items (reverse xs)) rest
         (weaker_here (λ n a r. IsAnswered setup s a r) (λ n a r. IsAnswered setup t a r) given.items (reverse (replies_to actor s.replies))
-        (λ n a r _ _ x. answered_on setup s t [] a r refl x) (are.replies actor given e));
+        (λ n a r _ _ x. answered_on setup s t a r (λ k. ([], refl)) x) (are.replies actor given e));
     channels = are.channels;
     tables = are.tables;
     names = are.names;
+    choices = are.choices;
+    queries = are.queries;
   } where
     t : State
     t = record s { replies = reply ∷ s.replies }

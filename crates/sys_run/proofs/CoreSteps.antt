@@ -7,7 +7,6 @@ use Rattle.attrs.specs.declared.attributes.Attrs.{Attrs}
 use Rattle.attrs.specs.declared.judge.Verdict.{Verdict}
 use Rattle.attrs.specs.declared.route.Change.{Change}
 use Rattle.attrs.specs.declared.route.Route.{Route}
-use Rattle.attrs.specs.Table.{Shows}
 use Rattle.export_core.specs.Logs.{stretch}
 use Rattle.export_core.specs.declared.log.LogItem.{LogItem}
 use Rattle.export_core.specs.declared.log.LogItem.TheVariants.{Sent}
@@ -28,8 +27,11 @@ use Rattle.core_machine.proofs.Replying.{front_on}
 use Rattle.core_machine.proofs.WholeState.{push_open}
 use Rattle.core_setup.specs.Pairs.{Pairs}
 use Rattle.core_setup.specs.Protocols.{rules_of}
+use Rattle.core_setup.specs.Queries.{choice_of, sends_of}
+use Rattle.core_setup.specs.Reports.{protocol_names, table_name}
 use Rattle.core_setup.specs.Setup.{Setup}
 use Rattle.core_setup.proofs.PairLemmas.{cases_same, weaker_here}
+use Rattle.show_route.specs.Shown.{IsReply}
 use Rattle.run_tables.specs.Routes.{AreRoutes}
 use Rattle.run_tables.proofs.Routing.{channels_length}
 use Rattle.run_tables.specs.declared.routes.Routes.{Routes}
@@ -164,16 +166,25 @@ module _ (rules : Rules) (ok : IsRules rules) where
 
 -- ---- the core
 
-pub answered_on : (setup : Setup) (s t : State) (cs : List Change) (held : Answered) (reply : Reply) → t.history 0 ≡ cs ++ s.history 0 → IsAnswered setup s held reply → IsAnswered setup t held reply
-answered_on setup s t cs held reply e is = record {
+pub answered_on : (setup : Setup) (s t : State) (held : Answered) (reply : Reply) → ((n : ℕ) → (cs : List Change) × (t.history n ≡ cs ++ s.history n)) → IsAnswered setup s held reply → IsAnswered setup t held reply
+answered_on setup s t held reply grown is = record {
+  query = is.query;
+  query_is = is.query_is;
+  table_is = is.table_is;
   table = is.table;
   at = is.at;
-  within = let w = is.within in omega (arith, w, ap length e, length-append cs (s.history 0));
-  query = is.query;
-  rows = is.rows;
-  shown = subst (λ h. Shows is.rows (content_of h)) (sym (ap (front reply.at) e ∙ front_on reply.at cs (s.history 0) is.within)) is.shown;
-  text = is.text;
-}
+  within = let w = is.within in omega (arith, w, ap length e, length-append cs (s.history n));
+  text = subst (λ h. IsReply (protocol_names setup) (table_name setup n) is.query (choice_of setup is.query) (sends_of setup is.query) (content_of h) held.text.items)
+      (sym (ap (front reply.at) e ∙ front_on reply.at cs (s.history n) is.within)) is.text;
+} where
+  n : ℕ
+  n = is.query.table
+
+  cs : List Change
+  cs = (grown n).0
+
+  e : t.history n ≡ cs ++ s.history n
+  e = (grown n).1
 
 module _ {J : Type 0} (verdict : J → Net → Route → Verdict) (setup : Setup) (past : Joined) where
   pub core_behind : (s t : State) (core : Core J) (routes : Routes J) → IsCore verdict setup past s core → AreRoutes verdict setup t routes → Behind s t → IsCore verdict setup past t (record core { routes = routes })
@@ -186,10 +197,12 @@ module _ {J : Type 0} (verdict : J → Net → Route → Verdict) (setup : Setup
     logs = λ c. ((b.logs c).0 ++ (are.logs c).0, (b.logs c).1 ∙ ap (λ h. (b.logs c).0 ++ h) (are.logs c).1 ∙ sym (append_assoc (b.logs c).0 (are.logs c).0 (past.logs c)));
     replies = λ actor held e. subst (λ (rs : List Reply). Pairs (λ n answered reply. IsAnswered setup t answered reply) 0 held.items (reverse (replies_to actor rs))) (sym b.replies)
         (weaker_here (λ n answered reply. IsAnswered setup s answered reply) (λ n answered reply. IsAnswered setup t answered reply) held.items (reverse (replies_to actor s.replies))
-        (λ n answered reply _ _ is. answered_on setup s t (b.history 0).0 answered reply (b.history 0).1 is) (are.replies actor held e));
+        (λ n answered reply _ _ is. answered_on setup s t answered reply b.history is) (are.replies actor held e));
     channels = are.channels;
     tables = are.tables;
     names = are.names;
+    choices = are.choices;
+    queries = are.queries;
   }
 
   -- a channel that isn't there does nothing

@@ -1,7 +1,9 @@
 pub mod Turning
 pub mod CoreSteps
 pub mod PlayingLines
+pub mod Answering
 pub mod Asking
+pub mod Ending
 pub mod ReportingLoops
 pub mod Reporting
 pub mod Starting

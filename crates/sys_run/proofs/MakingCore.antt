@@ -23,6 +23,7 @@ use Rattle.core_setup.proofs.PairLemmas.{one_here, pairs_all, pairs_length}
 use Rattle.run_tables.specs.Routes.{AreRoutes}
 use Rattle.sys_run.specs.Cores.{Does, IsCore, PlaysAs, counted}
 use Rattle.sys_run.specs.Made.{IsMade, IsMadeBody, IsMadeProtocol, channels_before}
+use Rattle.show_route.specs.declared.query.Query.{Query}
 use Rattle.sys_run.specs.Parts.{body_seen, protocol_seen, setup_seen, table_seen}
 use Rattle.sys_run.specs.Playing.{HasPlayed, silent}
 use Rattle.sys_run.specs.declared.made.Made.{Made}
@@ -141,9 +142,9 @@ module _ {J : Type 0} (verdict : J → Net → Route → Verdict) where
   body_is (parts.Pipe p) (body.Source held) is = absurd is
   body_is (parts.Pipe p) (body.Pipe up) is = is
 
-  module _ (tables : List TableParts) (protocols : List (ProtocolParts J)) (cells : ℕ) where
+  module _ (tables : List TableParts) (protocols : List (ProtocolParts J)) (cells : ℕ) (choices : List J) (queries : List Query) where
     abbrev seen : Setup
-    seen = setup_seen verdict tables protocols cells
+    seen = setup_seen verdict tables protocols cells choices queries
 
     plays_as : (i : ℕ) (p : ProtocolParts J) (held : HeldProtocol J) → slice_get protocols i ≡ Some p → IsMadeProtocol verdict (map table_seen tables) protocols i p held
         → PlaysAs verdict seen i (protocol_seen verdict p) [] [] held
@@ -174,8 +175,8 @@ module _ {J : Type 0} (verdict : J → Net → Route → Verdict) where
 
     pub made_core : (passed : ℕ → List ℕ) (made : Made J) (core : Core J) → AreRoutes verdict seen (start (rules_of seen)) core.routes → IsMade verdict (map table_seen tables) passed protocols made
         → core.names.items ≡ made.names.items → core.protocols.items ≡ made.protocols.items → core.channels.items ≡ made.channel_names.items → core.tables.items ≡ tables → core.replies.items ≡ [] → core.phases ≡ 0
-        → (actors : List (List ℕ)) → HasPlayed verdict seen actors [] [] core
-    made_core passed made core routes is names bodies channel_names same_tables no_replies phases actors = record {
+        → core.choices.items ≡ choices → core.queries.items ≡ queries → (actors : List (List ℕ)) → HasPlayed verdict seen actors [] [] core
+    made_core passed made core routes is names bodies channel_names same_tables no_replies phases same_choices same_queries actors = record {
       state = start (rules_of seen);
       printed = [];
       plays = refl;
@@ -204,4 +205,6 @@ module _ {J : Type 0} (verdict : J → Net → Route → Verdict) where
         channels = channel_names ∙ is.channel_names;
         tables = subst (λ (xs : List TableParts). Pairs (λ n seen (held : TableParts). (seen ≡ (held.name, held.family))) 0 (map table_seen tables) xs) (sym same_tables) (tables_seen 0 tables);
         names = names ∙ is.names ∙ names_seen protocols;
+        choices = ap (map verdict) same_choices;
+        queries = same_queries;
       }

@@ -23,6 +23,7 @@ use Rattle.run_tables.specs.Tables.{IsTable}
 use Rattle.run_tables.specs.declared.channel.Channel.{Channel as Held}
 use Rattle.run_tables.specs.declared.table.Table.{Table}
 use Rattle.sys_run.specs.Made.{AreNew, ArePassed, IsMade, IsMadeTable, IsNewChannel, IsSource, passed_at}
+use Rattle.show_route.specs.declared.query.Query.{Query}
 use Rattle.sys_run.specs.Parts.{setup_seen, table_seen}
 use Rattle.sys_run.specs.declared.made.Made.{Made}
 use Rattle.sys_run.specs.declared.parts.ProtocolParts.{ProtocolParts}
@@ -69,10 +70,10 @@ module _ {J : Type 0} (verdict : J → Net → Route → Verdict) where
   }
 
   -- what is made of parts is new
-  pub new_of : (tables : List TableParts) (protocols : List (ProtocolParts J)) (cells : ℕ) (held : List Table) (passed : List (Vec ℕ Global)) (made : Made J) → IsSetup (setup_seen verdict tables protocols cells)
-      → Pairs IsMadeTable 0 tables held → ArePassed (setup_seen verdict tables protocols cells) passed → IsMade verdict (map table_seen tables) (passed_at passed) protocols made
-      → AreNew verdict (setup_seen verdict tables protocols cells) cells held made.channels.items made.sources.items
-  new_of tables protocols cells held passed made is tabled passing is_made = record {
+  pub new_of : (tables : List TableParts) (protocols : List (ProtocolParts J)) (cells : ℕ) (choices : List J) (queries : List Query) (held : List Table) (passed : List (Vec ℕ Global)) (made : Made J) → IsSetup (setup_seen verdict tables protocols cells choices queries)
+      → Pairs IsMadeTable 0 tables held → ArePassed (setup_seen verdict tables protocols cells choices queries) passed → IsMade verdict (map table_seen tables) (passed_at passed) protocols made
+      → AreNew verdict (setup_seen verdict tables protocols cells choices queries) cells held made.channels.items made.sources.items
+  new_of tables protocols cells choices queries held passed made is tabled passing is_made = record {
     setup_is = is;
     rules_are = setup_rules are_ways setup is;
     cells_are = refl;
@@ -82,4 +83,4 @@ module _ {J : Type 0} (verdict : J → Net → Route → Verdict) where
     sources_are = sources_are setup made.sources.items is_made.sources;
   } where
     setup : Setup
-    setup = setup_seen verdict tables protocols cells
+    setup = setup_seen verdict tables protocols cells choices queries

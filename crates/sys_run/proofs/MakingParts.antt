@@ -19,6 +19,7 @@ use Rattle.core_setup.specs.Setup.{AreProtocols, Body, Exports, FitsBody, IsPipe
 use Rattle.core_setup.proofs.Numbered.{all_append}
 use Rattle.core_setup.proofs.PairLemmas.{get_here, get_within, length_front, take_one_more}
 use Rattle.sys_run.specs.Made.{AreLists, AreWithin, IsWithin, directions_in, direction_of, found_from, given_all, seen_in}
+use Rattle.show_route.specs.declared.query.Query.{Query}
 use Rattle.sys_run.specs.Parts.{body_seen, protocol_seen, setup_seen, table_seen}
 use Rattle.sys_run.specs.declared.parts.ProtocolParts.{ProtocolParts}
 use Rattle.sys_run.specs.declared.parts.TableParts.{TableParts}
@@ -155,9 +156,9 @@ module _ (setup : Setup) where
   lists_till held m n e are = subst (λ k. AreLists held (λ c. passed_below (rules_of setup) c k)) e are
 
 -- the table of a protocol's routes
-pub home_is : {J : Type 0} (verdict : J → Net → Route → Verdict) (parts : List TableParts) (xs : List (ProtocolParts J)) (cells k tables home : ℕ) (x : ProtocolParts J) → slice_get xs k ≡ Some x → length parts ≡ tables
+pub home_is : {J : Type 0} (verdict : J → Net → Route → Verdict) (parts : List TableParts) (xs : List (ProtocolParts J)) (cells : ℕ) (choices : List J) (queries : List Query) (k tables home : ℕ) (x : ProtocolParts J) → slice_get xs k ≡ Some x → length parts ≡ tables
     → home ≡ table_in tables (body_seen verdict x.body)
-    → home ≡ table_at (length (setup_seen verdict parts xs cells).tables) (protocol_at (setup_seen verdict parts xs cells) k)
-home_is verdict parts xs cells k tables home x there e is =
+    → home ≡ table_at (length (setup_seen verdict parts xs cells choices queries).tables) (protocol_at (setup_seen verdict parts xs cells choices queries) k)
+home_is verdict parts xs cells choices queries k tables home x there e is =
     is ∙ ap (λ n. table_in n (body_seen verdict x.body)) (sym (length-map parts table_seen ∙ e))
-    ∙ sym (ap (table_at (length (setup_seen verdict parts xs cells).tables)) (slice_get-map (protocol_seen verdict) xs k ∙ ap (option_map (protocol_seen verdict)) there))
+    ∙ sym (ap (table_at (length (setup_seen verdict parts xs cells choices queries).tables)) (slice_get-map (protocol_seen verdict) xs k ∙ ap (option_map (protocol_seen verdict)) there))

@@ -141,10 +141,12 @@ module _ {J : Type 0} (verdict : J → Net → Route → Verdict) (setup : Setup
     logs = λ c. ((log c).0 ++ (are.logs c).0, (log c).1 ∙ ap (λ h. (log c).0 ++ h) (are.logs c).1 ∙ sym (append_assoc (log c).0 (are.logs c).0 (past.logs c)));
     replies = λ actor held e. subst (λ (rs : List Reply). Pairs (λ n answered reply. IsAnswered setup t answered reply) 0 held.items (reverse (replies_to actor rs))) (sym (d.replies ∙ b.replies))
         (weaker_here (λ n answered reply. IsAnswered setup s answered reply) (λ n answered reply. IsAnswered setup t answered reply) held.items (reverse (replies_to actor s.replies))
-        (λ n answered reply _ _ is. answered_on setup s t (history 0).0 answered reply (history 0).1 is) (are.replies actor held e));
+        (λ n answered reply _ _ is. answered_on setup s t answered reply history is) (are.replies actor held e));
     channels = are.channels;
     tables = are.tables;
     names = are.names;
+    choices = are.choices;
+    queries = are.queries;
   } where
     rules : Rules
     rules = rules_of setup

@@ -113,6 +113,8 @@ module _ {J : Type 0} (verdict : J → Net → Route → Verdict) where
     channels = are.channels;
     tables = are.tables;
     names = are.names;
+    choices = are.choices;
+    queries = are.queries;
   }
 
   module _ (setup : Setup) (actors : List (List ℕ)) (scripts : List (List Line)) (reports : List PhaseReport) (old : Core J) (played : HasPlayed verdict setup actors scripts reports old) where

@@ -1,5 +1,5 @@
 -- The report of a phase: its parts are those of what is printed.
-use Rattle.std.proofs.Common.{◌≡◌, ℕ, suc, ◌+◌, ◌-◌, ◌==◌, Bool, true, false, List, [], ◌∷◌, ◌++◌, length, map, drop, reverse, Option, Some, None, is_some, refl, sym, ap, subst, ◌∙◌, arith}
+use Rattle.std.proofs.Common.{◌≡◌, ℕ, zero, suc, ◌+◌, ◌-◌, ◌==◌, Bool, true, false, List, [], ◌∷◌, ◌++◌, length, map, drop, reverse, Option, Some, None, is_some, refl, sym, ap, subst, ◌∙◌, arith}
 use Rattle.std.specs.Prelude.{slice_get, option_map, if◌then◌else◌}
 use Rattle.std.specs.declared.alloc.Global.{Global}
 use Rattle.std.specs.declared.vec.Vec.{Vec}
@@ -12,7 +12,6 @@ use Rattle.attrs.specs.declared.attributes.Attrs.{Attrs}
 use Rattle.attrs.specs.declared.judge.Verdict.{Verdict}
 use Rattle.attrs.specs.declared.route.Change.{Change}
 use Rattle.attrs.specs.declared.route.Route.{Route}
-use Rattle.attrs.specs.Table.{Shows}
 use Rattle.export_core.specs.declared.log.Key.{Key}
 use Rattle.export_core.specs.declared.log.LogItem.{LogItem}
 use Rattle.export_core.specs.Logs.{account, value_of}
@@ -32,10 +31,11 @@ use Rattle.core_setup.specs.Channels as setups
 use Rattle.core_setup.specs.Channels.{channels, target_at}
 use Rattle.core_setup.specs.Pairs.{Pairs}
 use Rattle.core_setup.specs.Protocols.{accepted_at, accepted_in, mode_at, mode_in, pipe_is_up, pipe_mode, rules_of}
+use Rattle.core_setup.specs.Queries.{choice_of, sends_of}
 use Rattle.core_setup.specs.Reports.{IsExportReport, IsReplyReport, IsStandingReport, IsTableReport, channel_report, dones, is_direction, journal_report, mode_report, name_in, protocol_names, protocol_report, replies_from, state_in, table_name}
 use Rattle.core_setup.specs.Setup.{Body as SeenBody, IsPipe, IsSource, Protocol, Setup}
 use Rattle.core_setup.proofs.PairLemmas.{other_here, pairs_append, pairs_mapped, pairs_through, weaker_here}
-use Rattle.show_route.specs.Reply.{reply_text}
+use Rattle.show_route.specs.Shown.{IsReply}
 use Rattle.report.specs.declared.phase.ChannelReport.{ChannelReport}
 use Rattle.report.specs.declared.phase.ExportReport.{ExportReport}
 use Rattle.report.specs.declared.phase.JournalReport.{JournalReport}
@@ -246,42 +246,45 @@ module _ {J : Type 0} (verdict : J → Net → Route → Verdict) (setup : Setup
 
   -- ---- replies
 
-  first_named : name_of (slice_get core.tables.items 0) ≡ table_name setup 0
-  first_named = by setup.tables core.tables.items are.tables where
-    by : (seen : List (List ℕ × Family)) (held : List TableParts) → Pairs (λ n seen (held : TableParts). let pair : List ℕ × Family = (held.name, held.family) in seen ≡ pair) 0 seen held
-        → name_of (slice_get held 0) ≡ name_in (slice_get seen 0)
-    by [] [] ps = refl
-    by [] (y ∷ ys) ps = absurd ps
-    by (x ∷ xs) [] ps = absurd ps
-    by (x ∷ xs) (y ∷ ys) ps = ap (λ (t : List ℕ × Family). t.0) (sym ps.0)
+  parts_named : (n : ℕ) → name_of (slice_get core.tables.items n) ≡ table_name setup n
+  parts_named n = by 0 n setup.tables core.tables.items are.tables where
+    by : (k n : ℕ) (seen : List (List ℕ × Family)) (held : List TableParts) → Pairs (λ n seen (held : TableParts). let pair : List ℕ × Family = (held.name, held.family) in seen ≡ pair) k seen held
+        → name_of (slice_get held n) ≡ name_in (slice_get seen n)
+    by k n [] [] ps = refl
+    by k n [] (y ∷ ys) ps = absurd ps
+    by k n (x ∷ xs) [] ps = absurd ps
+    by k zero (x ∷ xs) (y ∷ ys) ps = ap (λ (t : List ℕ × Family). t.0) (sym ps.0)
+    by k (suc n) (x ∷ xs) (y ∷ ys) ps = by (k + 1) n xs ys ps.1
 
   reply_is : (name : List ℕ) (held : Answered) (reply : Reply) → IsAnswered setup s held reply
-      → IsReplyReport setup (join past printed) (name, reply) (reply_of (slice_get core.tables.items 0) name held)
+      → IsReplyReport setup (join past printed) (name, reply) (reply_of core.tables.items name held)
   reply_is name held reply is = record {
+    query = is.query;
+    query_is = is.query_is;
+    table_is = is.table_is;
     actor = refl;
-    table = first_named ∙ sym (ap (table_name setup) is.table);
+    table = parts_named held.table ∙ ap (table_name setup) is.table;
     at = is.at;
-    rows = is.rows;
-    shown = subst (λ h. Shows is.rows (content_of (front reply.at h))) (ap s.history (sym is.table) ∙ (are.histories reply.table).1) is.shown;
-    text = is.text ∙ ap (λ n. reply_text (protocol_names setup) (table_name setup n) is.rows) (sym is.table);
+    text = subst (λ h. IsReply (protocol_names setup) (table_name setup is.query.table) is.query (choice_of setup is.query) (sends_of setup is.query) (content_of (front reply.at h)) held.text.items)
+        (are.histories is.query.table).1 is.text;
   }
 
   replies_are : (n : ℕ) (actors : List (List ℕ)) (replies : List (Vec Answered Global)) → length replies ≡ length actors
       → ((k : ℕ) (held : Vec Answered Global) → slice_get replies k ≡ Some held → Pairs (λ _ answered reply. IsAnswered setup s answered reply) 0 held.items (reverse (replies_to (n + k) s.replies)))
-      → Pairs (λ _ reply r. IsReplyReport setup (join past printed) reply r) 0 (replies_from n actors s.replies) (told (slice_get core.tables.items 0) actors replies)
+      → Pairs (λ _ reply r. IsReplyReport setup (join past printed) reply r) 0 (replies_from n actors s.replies) (told core.tables.items actors replies)
   replies_are n [] replies e each = tt
   replies_are n (name ∷ actors) [] e each = absurd (omega (arith, e))
   replies_are n (name ∷ actors) (held ∷ more) e each =
       let here : n + 0 ≡ n = omega arith in
       pairs_append (λ reply r. IsReplyReport setup (join past printed) reply r) 0 0 0 _ _ _ _
       (pairs_mapped (λ answered reply. IsAnswered setup s answered reply) (λ reply r. IsReplyReport setup (join past printed) reply r)
-      (reply_of (slice_get core.tables.items 0) name) (λ r. (name, r)) 0 0 held.items (reverse (replies_to n s.replies)) (λ answered reply is. reply_is name answered reply is)
+      (reply_of core.tables.items name) (λ r. (name, r)) 0 0 held.items (reverse (replies_to n s.replies)) (λ answered reply is. reply_is name answered reply is)
       (subst (λ m. Pairs (λ _ answered reply. IsAnswered setup s answered reply) 0 held.items (reverse (replies_to m s.replies))) here (each 0 held refl)))
       (replies_are (n + 1) actors more (omega (arith, e)) (λ k x ex.
       let further : n + suc k ≡ n + 1 + k = omega arith in
       subst (λ m. Pairs (λ _ answered reply. IsAnswered setup s answered reply) 0 x.items (reverse (replies_to m s.replies))) further (each (suc k) x ex)))
 
-  pub replies_reported : (actors : List (List ℕ)) (reports : List ReplyReport) → length core.replies.items ≡ length actors → reports ≡ told (slice_get core.tables.items 0) actors core.replies.items
+  pub replies_reported : (actors : List (List ℕ)) (reports : List ReplyReport) → length core.replies.items ≡ length actors → reports ≡ told core.tables.items actors core.replies.items
       → Pairs (λ n reply r. IsReplyReport setup (join past printed) reply r) 0 (replies_from 0 actors printed.replies) reports
   replies_reported actors reports e told_of =
       subst (λ (rs : List ReplyReport). Pairs (λ n reply r. IsReplyReport setup (join past printed) reply r) 0 (replies_from 0 actors printed.replies) rs) (sym told_of)
@@ -317,6 +320,8 @@ module _ {J : Type 0} (verdict : J → Net → Route → Verdict) (setup : Setup
       channels = are.channels;
       tables = are.tables;
       names = are.names;
+      choices = are.choices;
+      queries = are.queries;
     };
     agrees = record {
       history = λ n. sym (are.histories n).1;

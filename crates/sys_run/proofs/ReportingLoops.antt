@@ -1,12 +1,11 @@
 -- What loops of a report say so far, and where a phase began.
-use Rattle.std.proofs.Common.{◌≡◌, ℕ, zero, suc, ◌+◌, ◌<◌, ◌≤◌, Bool, true, false, List, [], ◌∷◌, ◌++◌, length, map, set, drop, Option, Some, None, refl, sym, ap, ◌∙◌, append_assoc, arith}
-use denote.Bor.{Bor}
-use Rattle.std.specs.Prelude.{slice_get, option_copied, option_map, if◌then◌else◌}
-use Rattle.std.specs.Slice.{IsItemAt}
+use Rattle.std.proofs.Common.{◌≡◌, ℕ, zero, suc, ◌+◌, ◌<◌, ◌≤◌, Bool, true, false, List, [], ◌∷◌, ◌++◌, length, map, set, drop, Some, refl, sym, ap, ◌∙◌, append_assoc, arith}
+use Rattle.std.specs.Prelude.{slice_get, option_map, if◌then◌else◌}
+use Rattle.std.specs.List.{AllByRecursion}
 use Rattle.std.specs.declared.alloc.Global.{Global}
 use Rattle.std.specs.declared.vec.Vec.{Vec}
 use Rattle.std.proofs.lemmas.List.{append-nil, length-map, length-reverse}
-use Rattle.std.proofs.lemmas.Option.{none-some, same_Some, slice_get-map, slice_get_read}
+use Rattle.std.proofs.lemmas.Option.{none-some, same_Some, slice_get-map}
 use Rattle.bits_ip.specs.Prefix.{Net}
 use Rattle.attrs.specs.declared.judge.Verdict.{Verdict}
 use Rattle.attrs.specs.declared.route.Route.{Route}
@@ -74,11 +73,11 @@ pub map_push : {A B : Type 0} (f : A → B) (xs : List A) (x : A) → map f (xs 
 map_push f [] x = refl
 map_push f (y ∷ xs) x = ap (λ l. f y ∷ l) (map_push f xs x)
 
-pub told_none : (table : Option TableParts) (actors : List (List ℕ)) → told table actors [] ≡ []
+pub told_none : (table : List TableParts) (actors : List (List ℕ)) → told table actors [] ≡ []
 told_none table [] = refl
 told_none table (a ∷ actors) = refl
 
-pub told_more : (table : Option TableParts) (actors : List (List ℕ)) (held : List (Vec Answered Global)) (last : Vec Answered Global) (actor : List ℕ) → slice_get actors (length held) ≡ Some actor
+pub told_more : (table : List TableParts) (actors : List (List ℕ)) (held : List (Vec Answered Global)) (last : Vec Answered Global) (actor : List ℕ) → slice_get actors (length held) ≡ Some actor
     → told table actors (held ++ last ∷ []) ≡ told table actors held ++ map (reply_of table actor) last.items
 told_more table [] held last actor e = absurd (none-some actor e)
 told_more table (a ∷ actors) [] last actor e =
@@ -86,19 +85,17 @@ told_more table (a ∷ actors) [] last actor e =
 told_more table (a ∷ actors) (h ∷ held) last actor e =
     ap (λ l. map (reply_of table a) h.items ++ l) (told_more table actors held last actor e) ∙ sym (append_assoc (map (reply_of table a) h.items) (told table actors held) (map (reply_of table actor) last.items))
 
+-- what holds of all holds of each
+pub one_among : {X : Type 0} (P : X → Type 0) (xs : List X) (x : X) (ys : List X) → AllByRecursion P (xs ++ x ∷ ys) → P x
+one_among P [] x ys all = all.0
+one_among P (y ∷ xs) x ys all = one_among P xs x ys all.1
+
 -- ---- the back of a list
 
 pub drop_map : {A B : Type 0} (f : A → B) (n : ℕ) (xs : List A) → map f (drop n xs) ≡ drop n (map f xs)
 drop_map f zero xs = refl
 drop_map f (suc n) [] = refl
 drop_map f (suc n) (x ∷ xs) = drop_map f n xs
-
--- ---- what code reads
-
-pub got_copied : {X : Type 0} (xs : List X) (i : ℕ) (r : Option (Bor X)) (x : X) → IsItemAt xs i r → option_copied r ≡ Some x → slice_get xs i ≡ Some x
-got_copied xs i None x look e = absurd (none-some x e)
-got_copied xs i (Some y) x look e =
-    slice_get_read xs (length xs) i y.now refl look.3.0 look.1 ∙ e
 
 -- ---- where a phase began
 

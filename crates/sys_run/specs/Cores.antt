@@ -1,14 +1,12 @@
 -- For private contracts, and for what `HasPlayed` keeps of a core from phase to phase; nothing
 -- promised rests on it: a core in the midst of a phase, and the machine's state.
-use Rattle.std.specs.Prelude.{◌≡◌, ◌+◌, ◌-◌, ◌≤◌, ◌++◌, ◌<◌, ℕ, zero, suc, Bool, true, false, List, [], ◌∷◌, length, map, reverse, Some, slice_get, ⊤}
+use Rattle.std.specs.Prelude.{◌≡◌, ◌+◌, ◌-◌, ◌≤◌, ◌++◌, ◌<◌, ℕ, zero, suc, Bool, true, false, List, [], ◌∷◌, length, map, reverse, Option, Some, option_and_then, option_map, slice_get, ⊤}
 use Rattle.std.specs.declared.alloc.Global.{Global}
 use Rattle.std.specs.declared.vec.Vec.{Vec}
 use Rattle.bits_ip.specs.Prefix.{Net}
 use Rattle.attrs.specs.declared.judge.Verdict.{Verdict}
 use Rattle.attrs.specs.declared.route.Change.{Change}
 use Rattle.attrs.specs.declared.route.Route.{Route}
-use Rattle.attrs.specs.declared.route.Row.{Row}
-use Rattle.attrs.specs.Table.{Shows}
 use Rattle.export_core.specs.declared.log.LogItem.{LogItem}
 use Rattle.core_machine.specs.Channels.{is_open}
 use Rattle.core_machine.specs.Histories.{content_of, front}
@@ -21,14 +19,18 @@ use Rattle.core_machine.specs.Rules.{Fits, Signal, is_up}
 use Rattle.core_setup.specs.Channels as setups
 use Rattle.core_setup.specs.Pairs.{Pairs}
 use Rattle.core_setup.specs.Protocols.{imports_after, pipe_is_up, rules_of, signal_of}
+use Rattle.core_setup.specs.Queries.{choice_of, sends_of}
 use Rattle.core_setup.specs.Reports.{dones, protocol_names, table_name}
 use Rattle.core_setup.specs.Setup.{Body as SeenBody, IsPipe, IsSource, Protocol as SeenProtocol, Setup, Source as SeenSource}
 use Rattle.attrs.specs.declared.attributes.Kind.{Kind}
 use Rattle.attrs.specs.declared.attributes.Kind.TheVariants as kinds
 use Rattle.import_core.specs.declared.operation.Op.{Op}
 use Rattle.import_core.specs.declared.step.Mark.{Mark}
-use Rattle.show_route.specs.Reply.{reply_text}
+use Rattle.show_route.specs.Shown.{IsReply}
+use Rattle.show_route.specs.declared.query.Query.{Query}
+use Rattle.export_core.specs.declared.passing.Through.{Through}
 use Rattle.run_tables.specs.Routes.{AreRoutes}
+use Rattle.run_tables.specs.declared.channel.Channel.{Channel}
 use Rattle.run_tables.specs.declared.routes.Routes.{Routes}
 use Rattle.sys_run.specs.declared.parts.TableParts.{TableParts}
 use Rattle.sys_run.specs.declared.player.Answered.{Answered}
@@ -38,15 +40,19 @@ use Rattle.sys_run.specs.declared.protocol.Body.TheVariants.{Pipe, Source}
 use Rattle.sys_run.specs.declared.protocol.Protocol.{Protocol}
 use Rattle.sys_run.specs.declared.protocol.Source.{Source as HeldSource}
 
--- the reply is held with its text: all rows of its table as it was at the reply's position
+-- the reply is held with its text: it answers the query of its number, over the query's table as
+-- it was at the reply's position
 pub record IsAnswered (setup : Setup) (s : State) (held : Answered) (reply : Reply) : Type 0 where
-  pub table : reply.table ≡ 0
+  pub query : Query
+  pub query_is : slice_get setup.queries reply.query ≡ Some query
+  pub table_is : reply.table ≡ query.table
+  pub table : held.table ≡ query.table
   pub at : held.at ≡ reply.at
-  pub within : reply.at ≤ length (s.history 0)
-  pub query : reply.query ≡ 0
-  pub rows : List Row
-  pub shown : Shows rows (content_of (front reply.at (s.history 0)))
-  pub text : held.text.items ≡ reply_text (protocol_names setup) (table_name setup 0) rows
+  pub within : reply.at ≤ length (s.history query.table)
+  pub text :
+      IsReply (protocol_names setup) (table_name setup query.table) query
+      (choice_of setup query) (sends_of setup query)
+      (content_of (front reply.at (s.history query.table))) held.text.items
 
 -- so many numbers from one on
 abbrev pub counted : ℕ → ℕ → List ℕ
@@ -109,6 +115,9 @@ module _ {J : Type 0} (verdict : J → Net → Route → Verdict) where
     pub tables : Pairs (λ n seen (held : TableParts). (seen ≡ (held.name, held.family)))
         0 setup.tables core.tables.items
     pub names : core.names.items ≡ protocol_names setup
+    -- what can be asked
+    pub choices : map verdict core.choices.items ≡ setup.choices
+    pub queries : core.queries.items ≡ setup.queries
 
   abbrev pub Holds : Core J → Type 0
   Holds core = (setup : Setup) × (past : Joined) × (s : State) × IsCore setup past s core
@@ -155,7 +164,31 @@ MayObey verdict mark from_is upto routes =
     (setup : Setup) × (s : State) × AreRoutes verdict setup s routes
     × AllFit (signal_of mark) from_is upto s × (upto ≤ length (setups.channels setup))
 
--- how many phases have ended, and for how many actors there are replies, stays
+-- how many phases have ended, for how many actors there are replies, and the queries, stays
 pub record Keeps {J : Type 0} (old new : Core J) : Type 0 where
   pub phases : new.phases ≡ old.phases
   pub replies : length new.replies.items ≡ length old.replies.items
+  pub queries : new.queries ≡ old.queries
+
+-- ---- what a query names
+
+module _ {J : Type 0} where
+  -- the gate and the filter of a channel
+  abbrev pub through_of : Channel J → Through J
+  through_of held = record { spec = held.exporter.spec; judge = held.exporter.judge }
+
+  -- the first channel of a protocol, which of one of BGP is the only one
+  abbrev pub channel_of : Core J → ℕ → Option (Channel J)
+  channel_of core number =
+      option_and_then (λ (held : Protocol J). slice_get core.routes.channels.items held.from)
+      (slice_get core.protocols.items number)
+
+  -- of the protocol whose exports are asked for
+  abbrev pub export_in : Core J → Query → Option (Through J)
+  export_in core query =
+      option_map through_of (option_and_then (channel_of core) query.export)
+
+  -- the filter by which routes are chosen
+  abbrev pub choice_in : Core J → Query → Option J
+  choice_in core query =
+      option_and_then (λ (number : ℕ). slice_get core.choices.items number) query.choice

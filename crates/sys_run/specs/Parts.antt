@@ -1,4 +1,5 @@
--- What a core is made of, as what is played (`setup_seen`).
+-- What a core is made of, as what is played (`setup_seen`): tables, protocols, the size of
+-- journals, the filters by which queries choose routes, and the queries.
 -- From: own.
 -- Example: a core without protocols is a setup without protocols.
 use Rattle.std.specs.Prelude.{ℕ, List, map, option_map}
@@ -8,6 +9,7 @@ use Rattle.attrs.specs.declared.judge.Verdict.{Verdict}
 use Rattle.attrs.specs.declared.route.Route.{Route}
 use Rattle.core_setup.specs.Setup as setup
 use Rattle.core_setup.specs.Setup.{Exports, Setup}
+use Rattle.show_route.specs.declared.query.Query.{Query}
 use Rattle.sys_run.specs.declared.parts.BodyParts.{BodyParts}
 use Rattle.sys_run.specs.declared.parts.BodyParts.TheVariants.{Pipe, Source}
 use Rattle.sys_run.specs.declared.parts.ExportParts.{ExportParts}
@@ -46,9 +48,12 @@ module _ {J : Type 0} (verdict : J → Net → Route → Verdict) where
   abbrev pub protocol_seen : ProtocolParts J → setup.Protocol
   protocol_seen p = record { name = p.name; body = body_seen p.body }
 
-  abbrev pub setup_seen : List TableParts → List (ProtocolParts J) → ℕ → Setup
-  setup_seen tables protocols cells = record {
+  abbrev pub setup_seen :
+      List TableParts → List (ProtocolParts J) → ℕ → List J → List Query → Setup
+  setup_seen tables protocols cells choices queries = record {
     tables = map table_seen tables;
     protocols = map protocol_seen protocols;
     cells = cells;
+    choices = map verdict choices;
+    queries = queries;
   }

@@ -1,6 +1,7 @@
 -- For private contracts alone: where a phase began, and what is reported at its end of the single
 -- parts of a core.
-use Rattle.std.specs.Prelude.{◌≡◌, ◌++◌, ℕ, Bool, List, [], ◌∷◌, drop, is_some, length, map, Option, Some, None, option_map, slice_get, if◌then◌else◌}
+use Rattle.std.specs.Prelude.{◌≡◌, ◌<◌, ◌≤◌, ◌+◌, ◌^◌, ◌++◌, ℕ, Bool, List, [], ◌∷◌, drop, is_some, length, map, Option, Some, None, option_map, slice_get, if◌then◌else◌}
+use Rattle.std.specs.List.{AllByRecursion}
 use Rattle.std.specs.declared.alloc.Global.{Global}
 use Rattle.std.specs.declared.vec.Vec.{Vec}
 use Rattle.bits_ip.specs.Prefix.{Net}
@@ -15,6 +16,7 @@ use Rattle.export_core.specs.Histories.{change_of}
 use Rattle.core_machine.specs.Channels as machine
 use Rattle.core_machine.specs.Histories.{content_of}
 use Rattle.core_machine.specs.Legal.{Joined}
+use Rattle.core_machine.specs.Machine.{State}
 use Rattle.core_machine.specs.Rules.{Rules}
 use Rattle.core_setup.specs.Channels as setups
 use Rattle.core_setup.specs.Pairs.{Pairs}
@@ -33,6 +35,8 @@ use Rattle.run_tables.specs.Channels.{IsChannel, TellsStanding}
 use Rattle.run_tables.specs.Tables.{IsTable}
 use Rattle.run_tables.specs.declared.channel.Channel.{Channel}
 use Rattle.run_tables.specs.declared.table.Table.{Table}
+use Rattle.sys_run.specs.Cores.{IsCore}
+use Rattle.sys_run.specs.declared.player.Core.{Core}
 use Rattle.sys_run.specs.declared.parts.TableParts.{TableParts}
 use Rattle.sys_run.specs.declared.phase.Begun.{Begun}
 use Rattle.sys_run.specs.declared.player.Answered.{Answered}
@@ -47,6 +51,19 @@ pub record BeganAt (setup : Setup) (past : Joined) (begun : Begun) : Type 0 wher
   pub logged :
       Pairs (λ c channel len. len ≡ length (past.logs c))
       0 (setups.channels setup) begun.logged.items
+
+-- these are positions of the tables, and these lengths of fronts of the channels' logs
+abbrev pub AreHeads : List Table → List ℕ → Type 0
+AreHeads tables heads =
+    Pairs (λ n (table : Table) head. head ≤ length table.entries.items) 0 tables heads
+
+abbrev pub AreLogged : {J : Type 0} → List (Channel J) → List ℕ → Type 0
+AreLogged {J} channels logged =
+    Pairs (λ c (held : Channel J) len. len ≤ length held.exporter.log) 0 channels logged
+
+-- the tables of replies are among so many
+abbrev pub AreOfTables : ℕ → List Answered → Type 0
+AreOfTables tables replies = AllByRecursion (λ (reply : Answered). reply.table < tables) replies
 
 -- the name of the table of a number
 abbrev pub name_at : ℕ → List TableParts → Option (List ℕ)
@@ -124,19 +141,35 @@ module _ {J : Type 0} (verdict : J → Net → Route → Verdict) where
         report.standing
         ≡ option_map (λ (held : Vec (Key × Attrs) Global). map standing_in held.items) values
 
--- ---- replies, which are all of the first table
+-- A phase that began so can end, with replies to these actors.
+pub record MayEnd
+    {J : Type 0} (verdict : J → Net → Route → Verdict) (actors : List (List ℕ)) (begun : Begun)
+    (core : Core J) : Type 0 where
+  pub setup : Setup
+  pub past : Joined
+  pub s : State
+  pub core_is : IsCore verdict setup past s core
+  pub began : BeganAt setup past begun
+  pub replies : length core.replies.items ≡ length actors
+  pub few : core.phases + 1 < 2 ^ 64
+
+-- ---- replies
 
 abbrev pub name_of : Option TableParts → List ℕ
 name_of None = []
 name_of (Some table) = table.name
 
-abbrev pub reply_of : Option TableParts → List ℕ → Answered → ReplyReport
-reply_of table actor held =
-    record { actor = actor; table = name_of table; at = held.at; text = held.text.items }
+abbrev pub reply_of : List TableParts → List ℕ → Answered → ReplyReport
+reply_of parts actor held = record {
+  actor = actor;
+  table = name_of (slice_get parts held.table);
+  at = held.at;
+  text = held.text.items;
+}
 
 -- the replies to each actor
-abbrev pub told : Option TableParts → List (List ℕ) → List (Vec Answered Global) → List ReplyReport
-told table [] replies = []
-told table (actor ∷ actors) [] = []
-told table (actor ∷ actors) (held ∷ more) =
-    map (reply_of table actor) held.items ++ told table actors more
+abbrev pub told : List TableParts → List (List ℕ) → List (Vec Answered Global) → List ReplyReport
+told parts [] replies = []
+told parts (actor ∷ actors) [] = []
+told parts (actor ∷ actors) (held ∷ more) =
+    map (reply_of parts actor) held.items ++ told parts actors more

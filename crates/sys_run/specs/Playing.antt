@@ -2,7 +2,8 @@
 -- reported.
 -- From: own.
 -- Example: a new core has played nothing.
-use Rattle.std.specs.Prelude.{◌≡◌, ◌==◌, ℕ, zero, suc, List, [], ◌∷◌, length, if◌then◌else◌}
+use Rattle.std.specs.Prelude.{◌≡◌, ◌==◌, ◌<◌, ◌+◌, ◌^◌, ℕ, zero, suc, List, [], ◌∷◌, length, if◌then◌else◌}
+use Rattle.std.specs.List.{All}
 use Rattle.bits_ip.specs.Prefix.{Net}
 use Rattle.attrs.specs.declared.judge.Verdict.{Verdict}
 use Rattle.attrs.specs.declared.route.Route.{Route}
@@ -15,7 +16,9 @@ use Rattle.core_setup.specs.Protocols.{rules_of, starts}
 use Rattle.core_setup.specs.Reports.{AreReports}
 use Rattle.core_setup.specs.Setup.{Setup}
 use Rattle.report.specs.declared.phase.PhaseReport.{PhaseReport}
+use Rattle.script_lines.specs.declared.script.Line.{Line as ScriptLine}
 use Rattle.sys_run.specs.Cores.{IsCore}
+use Rattle.sys_run.specs.Scripts.{AsksWhatIs}
 use Rattle.sys_run.specs.declared.player.Core.{Core}
 
 -- the phases of scripts from a state on, behind what was printed before; what is printed of them,
@@ -70,10 +73,14 @@ module _ {J : Type 0} (verdict : J → Net → Route → Verdict) where
     pub are : AreReports setup actors 1 nothing printed reports
     pub rests : Rests setup (length scripts) (joined_all nothing printed) state core
 
-  -- The core has played something, as each one that was made has.
-  pub record IsPlaying (core : Core J) : Type 0 where
+  -- The core has played something, as each one that was made has, and these lines ask what is among
+  -- its queries.
+  pub record IsPlaying (lines : List ScriptLine) (core : Core J) : Type 0 where
     pub setup : Setup
     pub actors : List (List ℕ)
     pub scripts : List (List Line)
     pub reports : List PhaseReport
     pub played : HasPlayed setup actors scripts reports core
+    -- its phases have numbers
+    pub few : length scripts + 1 < 2 ^ 64
+    pub asked : All (AsksWhatIs (length setup.queries)) lines

@@ -1,23 +1,39 @@
 -- Scripts as the machine reads them (`line_of`, `phase_of`): lines with the numbers of actors,
--- protocols and channels, backwards.
--- Not modelled: texts and names (specs/Script of script_lines); of tables `show route` means the
--- first, and it is asked for all its routes.
+-- protocols, channels and queries, backwards. A `show route` asks for the table of its query.
+-- Not modelled: texts and names (specs/Script of script_lines).
 -- From: own.
 -- Example: `!take p2 1`, where p1 is static and has no channel, is of channel 0.
-use Rattle.std.specs.Prelude.{List, map, reverse}
+use Rattle.std.specs.Prelude.{◌<◌, ℕ, List, map, reverse, Option, Some, None, slice_get, ⊤}
 use Rattle.core_machine.specs.Lines as machine
 use Rattle.script_lines.specs.declared.script.Line.{Line}
 use Rattle.script_lines.specs.declared.script.Line.TheVariants as lines
+use Rattle.show_route.specs.declared.query.Query.{Query}
 
-abbrev pub line_of : Line → machine.Line
-line_of (lines.Take channel count) =
+-- the table of a query
+abbrev pub table_in : Option Query → ℕ
+table_in None = 0
+table_in (Some query) = query.table
+
+abbrev pub asked_table : List Query → ℕ → ℕ
+asked_table queries number = table_in (slice_get queries number)
+
+abbrev pub line_of : List Query → Line → machine.Line
+line_of queries (lines.Take channel count) =
     machine.Take (record { channel = channel; number = count })
-line_of (lines.Push channel count) =
+line_of queries (lines.Push channel count) =
     machine.Push (record { channel = channel; number = count })
-line_of (lines.Apply actor line protocol op) =
+line_of queries (lines.Apply actor line protocol op) =
     machine.Apply (record { actor = actor; line = line; protocol = protocol; op = op })
-line_of (lines.Show actor) = machine.Show (record { actor = actor; table = 0; query = 0 })
+line_of queries (lines.Show actor query) =
+    machine.Show (record { actor = actor; table = asked_table queries query; query = query })
 
 -- the lines of a phase, read backwards
-abbrev pub phase_of : List Line → List machine.Line
-phase_of phase = reverse (map line_of phase)
+abbrev pub phase_of : List Query → List Line → List machine.Line
+phase_of queries phase = reverse (map (line_of queries) phase)
+
+-- what the line asks is among so many queries
+abbrev pub AsksWhatIs : ℕ → Line → Type 0
+AsksWhatIs queries (lines.Take channel count) = ⊤
+AsksWhatIs queries (lines.Push channel count) = ⊤
+AsksWhatIs queries (lines.Apply actor line protocol op) = ⊤
+AsksWhatIs queries (lines.Show actor query) = query < queries

@@ -12,6 +12,7 @@ ghost use Rattle.core_setup.specs.Protocols.{rules_of, table_in};
 ghost use Rattle.core_setup.specs.Setup.{IsPipe, IsSetup, Setup, family_at};
 ghost use Rattle.run_tables.specs.Routes.{AreReaders, AreRoutes};
 ghost use Rattle.run_tables.specs.declared.channel.Channel.{Channel as HeldChannel};
+ghost use Rattle.show_route.specs.declared.query.Query.{Query};
 ghost use Rattle.sys_run.specs.Made.{Adds, AddsChannels, AreFound, AreLists, AreNew, ArePassed, AreWithin, IsMade, IsMadeTable, IsWithin, Left, directions_in, found_from, given_all, given_one, opened_to, passed_at, readers_in, seen_in};
 ghost use Rattle.sys_run.specs.Parts.{body_seen, exports_seen, pipe_seen, setup_seen, table_seen};
 ghost use Rattle.sys_run.specs.declared.parts.BodyParts.TheVariants as kinds;
@@ -161,11 +162,13 @@ pub(crate) fn passed_by<J: Judge>(
     protocols: &[ProtocolParts<J>],
 ) -> Result<Vec<Vec<u32>>, OutOfMemory>
     requires few { length protocols.now < 2 ^ 32 }
-    requires fits { (parts : List HeldTable) × (cells : ℕ) × (length parts ≡ tables)
-        × IsSetup (setup_seen J.verdict parts protocols.now cells) }
-    ensures { IfOk result (λ passed. (parts : List HeldTable) (cells : ℕ)
-        → length parts ≡ tables
-        → ArePassed (setup_seen J.verdict parts protocols.now cells) passed.items) }
+    requires fits { (parts : List HeldTable) × (cells : ℕ) × (choices : List J)
+        × (queries : List Query) × (length parts ≡ tables)
+        × IsSetup (setup_seen J.verdict parts protocols.now cells choices queries) }
+    ensures { IfOk result (λ passed. (parts : List HeldTable) (cells : ℕ) (choices : List J)
+        (queries : List Query) → length parts ≡ tables
+        → ArePassed (setup_seen J.verdict parts protocols.now cells choices queries)
+        passed.items) }
 {
     let directions = directions_of(alloc, protocols)?;
     let mut passed = none_passed(alloc, count_all(protocols))?;

@@ -1,5 +1,7 @@
 //! The report of a phase.
-ghost use Rattle.std.specs.Prelude.{◌≡◌, ◌+◌, ◌++◌, ℕ, List, Option, Some, IfOk, OnOk, drop, length, map, option_copied, option_map, slice_get, if◌then◌else◌};
+ghost use Rattle.std.specs.Prelude.{◌≡◌, ◌<◌, ◌≤◌, ◌+◌, ◌++◌, ◌^◌, ℕ, List, Option, Some, IfOk, OnOk, drop, length, map, option_copied, option_map, slice_get, if◌then◌else◌};
+ghost use Rattle.std.specs.declared.alloc.Global.{Global};
+ghost use Rattle.std.specs.declared.vec.Vec.{Vec};
 ghost use Rattle.core_machine.specs.Legal.{Joined, Printed, join};
 ghost use Rattle.core_machine.specs.Machine.{State};
 ghost use Rattle.core_machine.specs.Phases.{Prints};
@@ -8,9 +10,10 @@ ghost use Rattle.core_setup.specs.Protocols.{rules_of};
 ghost use Rattle.core_setup.specs.Reports.{IsReport};
 ghost use Rattle.core_setup.specs.Setup.{Setup};
 ghost use Rattle.export_core.specs.Histories.{change_of};
-ghost use Rattle.sys_run.specs.Cores.{Holds, IsCore};
-ghost use Rattle.sys_run.specs.Phase.{BeganAt, IsEmptied, IsExportOf, IsJournalOf, IsLogOf, IsModeOf, IsOperationsOf, IsTableOf, logged_in, reply_of, standing_in, told};
+ghost use Rattle.sys_run.specs.Cores.{IsCore};
+ghost use Rattle.sys_run.specs.Phase.{AreHeads, AreLogged, AreOfTables, BeganAt, IsEmptied, IsExportOf, IsJournalOf, IsLogOf, IsModeOf, IsOperationsOf, IsTableOf, MayEnd, logged_in, reply_of, standing_in, told};
 ghost use Rattle.sys_run.specs.Playing.{Rests};
+ghost use Rattle.sys_run.specs.declared.player.Answered.{Answered as HeldAnswer};
 
 use crate::parts::TableParts;
 use crate::player::{Answered, Core};
@@ -85,7 +88,7 @@ impl<J: Judge> Core<J> {
         actors: &[Name],
         begun: &Begun,
     ) -> Result<PhaseReport, OutOfMemory>
-        requires { Holds J.verdict self.old }
+        requires { MayEnd J.verdict actors.now begun.now self.old }
         ensures report { IfOk result (λ report. (setup : Setup) (past : Joined) (s : State)
             → IsCore J.verdict setup past s self.old → BeganAt setup past begun.now
             → length self.old.replies.items ≡ length actors.now
@@ -94,9 +97,7 @@ impl<J: Judge> Core<J> {
             × Rests J.verdict setup (self.old.phases + 1) (join past p) s self.new) }
         ensures phases { OnOk result (self.new.phases ≡ self.old.phases + 1) }
     {
-        let Some(number) = self.phases.checked_add(1) else {
-            return Err(OutOfMemory);
-        };
+        let number = number_behind(self.phases);
         let alloc = self.alloc;
         let answered = mem::replace(&mut self.replies, Vec::new(alloc));
         let protocols = report_operations(alloc, &self.names, &mut self.protocols)?;
@@ -122,11 +123,12 @@ impl<J: Judge> Core<J> {
 
 /// A copy of the name of this number.
 fn copy_name(alloc: Global, names: &[Seq<u8>], number: usize) -> Result<Seq<u8>, OutOfMemory>
+    requires { number < length names.now }
     ensures { IfOk result (λ name. slice_get names.now number ≡ Some name) }
 {
     match names.get(number) {
         Some(name) => Ok(Seq::from_vec(Vec::from_slice(alloc, name.as_slice())?)),
-        None => Err(OutOfMemory),
+        None => unreachable!(),
     }
 }
 
@@ -136,13 +138,33 @@ fn copy_table_name(
     tables: &[TableParts],
     number: usize,
 ) -> Result<Seq<u8>, OutOfMemory>
+    requires { number < length tables.now }
     ensures { IfOk result
         (λ name. option_map (λ table. table.name) (slice_get tables.now number) ≡ Some name) }
 {
     match tables.get(number) {
         Some(table) => Ok(Seq::from_vec(Vec::from_slice(alloc, table.name.as_slice())?)),
-        None => Err(OutOfMemory),
+        None => unreachable!(),
     }
+}
+
+/// The item at a place.
+fn item_at<T: Copy>(items: &[T], place: usize) -> T
+    requires { place < length items.now }
+    ensures { slice_get items.now place ≡ Some result }
+{
+    match items.get(place) {
+        Some(item) => *item,
+        None => unreachable!(),
+    }
+}
+
+/// The number of the phase behind so many.
+fn number_behind(phases: u64) -> u64
+    requires { phases + 1 < 2 ^ 64 }
+    ensures { result ≡ phases + 1 }
+{
+    phases + 1
 }
 
 /// The operations of each protocol, which are forgotten there.
@@ -151,6 +173,7 @@ fn report_operations<J: Judge>(
     names: &[Seq<u8>],
     protocols: &mut Vec<Protocol<J>>,
 ) -> Result<Seq<ProtocolReport>, OutOfMemory>
+    requires { length names.now ≡ length protocols.old.items }
     ensures reports { IfOk result (λ reports.
         Pairs (IsOperationsOf names.now) 0 protocols.old.items reports) }
     ensures emptied { OnOk result (Pairs IsEmptied 0 protocols.old.items protocols.new.items) }
@@ -172,6 +195,8 @@ fn report_journals(
     tables: &[Table],
     heads: &[u64],
 ) -> Result<Seq<JournalReport>, OutOfMemory>
+    requires parts { length parts.now ≡ length tables.now }
+    requires heads { AreHeads tables.now heads.now }
     ensures { IfOk result (λ reports.
         Pairs (IsJournalOf parts.now heads.now) 0 tables.now reports) }
 {
@@ -189,15 +214,13 @@ fn report_journal(
     heads: &[u64],
     number: usize,
 ) -> Result<JournalReport, OutOfMemory>
+    requires parts { number < length parts.now }
+    requires heads { (head : ℕ) × (slice_get heads.now number ≡ Some head)
+        × (head ≤ length table.now.entries.items) }
     ensures { IfOk result (λ report. IsJournalOf parts.now heads.now number table.now report) }
 {
     let name = copy_table_name(alloc, parts, number)?;
-    let Some(from) = heads.get(number).copied() else {
-        return Err(OutOfMemory);
-    };
-    if from > table.head() {
-        return Err(OutOfMemory);
-    }
+    let from = item_at(heads, number);
     let entries = copy_changes(alloc, table.since(from))?;
     Ok(JournalReport {
         table: name,
@@ -242,6 +265,8 @@ fn report_logs<J: Judge>(
     channels: &[Channel<J>],
     logged: &[usize],
 ) -> Result<Seq<ChannelReport>, OutOfMemory>
+    requires names { length names.now ≡ length channels.now }
+    requires logged { AreLogged channels.now logged.now }
     ensures { IfOk result (λ reports.
         Pairs (IsLogOf names.now logged.now) 0 channels.now reports) }
 {
@@ -259,12 +284,13 @@ fn report_log<J: Judge>(
     channel: &Channel<J>,
     logged: &[usize],
 ) -> Result<ChannelReport, OutOfMemory>
+    requires names { number < length names.now }
+    requires logged { (len : ℕ) × (slice_get logged.now number ≡ Some len)
+        × (len ≤ length channel.now.exporter.log) }
     ensures { IfOk result (λ report. IsLogOf names.now logged.now number channel.now report) }
 {
     let name = copy_name(alloc, names, number)?;
-    let Some(from) = logged.get(number).copied() else {
-        return Err(OutOfMemory);
-    };
+    let from = item_at(logged, number);
     let items = copy_behind(alloc, channel.items(), from)?;
     Ok(ChannelReport {
         name,
@@ -275,11 +301,9 @@ fn report_log<J: Judge>(
 
 /// A copy of the items behind so many.
 fn copy_behind(alloc: Global, items: &[LogItem], from: usize) -> Result<Seq<LogItem>, OutOfMemory>
+    requires { from ≤ length items.now }
     ensures { IfOk result (λ copy. copy ≡ drop from items.now) }
 {
-    if from > items.len() {
-        return Err(OutOfMemory);
-    }
     copy_items(alloc, &items[from..])
 }
 
@@ -324,27 +348,36 @@ fn copy_value(value: Option<&Shared<Attrs>>) -> Result<Option<Shared<Attrs>>, Ou
     }
 }
 
-/// The replies to each actor, all of the first table.
+/// The name of the actor of this number.
+fn name_at(actors: &[Name], number: usize) -> &[u8]
+    requires { number < length actors.now }
+    ensures { slice_get actors.now number ≡ Some result.now }
+{
+    match actors.get(number) {
+        Some(actor) => actor.as_slice(),
+        None => unreachable!(),
+    }
+}
+
+/// The replies to each actor.
 fn report_replies(
     alloc: Global,
     actors: &[Name],
     tables: &[TableParts],
     replies: Vec<Vec<Answered>>,
 ) -> Result<Seq<ReplyReport>, OutOfMemory>
+    requires actors { length replies.items ≡ length actors.now }
+    requires tables { (a : ℕ) (held : Vec HeldAnswer Global) → slice_get replies.items a ≡ Some held
+        → AreOfTables (length tables.now) held.items }
     ensures { IfOk result (λ reports.
-        reports ≡ told (slice_get tables.now 0) actors.now replies.items) }
+        reports ≡ told tables.now actors.now replies.items) }
 {
     let mut reports = Seq::new(alloc);
     let mut number: usize = 0;
     for answered in replies {
-        let Some(actor) = actors.get(number) else {
-            return Err(OutOfMemory);
-        };
-        tell(alloc, actor.as_slice(), tables, answered, &mut reports)?;
-        let Some(next) = number.checked_add(1) else {
-            return Err(OutOfMemory);
-        };
-        number = next;
+        let actor = name_at(actors, number);
+        tell(alloc, actor, tables, answered, &mut reports)?;
+        number += 1;
     }
     Ok(reports)
 }
@@ -357,8 +390,9 @@ fn tell(
     answered: Vec<Answered>,
     reports: &mut Seq<ReplyReport>,
 ) -> Result<(), OutOfMemory>
+    requires { AreOfTables (length tables.now) answered.items }
     ensures { OnOk result (reports.new
-        ≡ reports.old ++ map (reply_of (slice_get tables.now 0) actor.now) answered.items) }
+        ≡ reports.old ++ map (reply_of tables.now actor.now) answered.items) }
 {
     for reply in answered {
         reports.push(report_reply(alloc, actor, tables, reply)?)?;
@@ -372,13 +406,14 @@ fn report_reply(
     tables: &[TableParts],
     reply: Answered,
 ) -> Result<ReplyReport, OutOfMemory>
+    requires { reply.table < length tables.now }
     ensures { IfOk result
-        (λ report. report ≡ reply_of (slice_get tables.now 0) actor.now reply) }
+        (λ report. report ≡ reply_of tables.now actor.now reply) }
 {
-    let Answered { at, text } = reply;
+    let Answered { table, at, text } = reply;
     Ok(ReplyReport {
         actor: Seq::from_vec(Vec::from_slice(alloc, actor)?),
-        table: copy_table_name(alloc, tables, 0)?,
+        table: copy_table_name(alloc, tables, table as usize)?,
         at,
         text: Seq::from_vec(text),
     })
@@ -390,6 +425,7 @@ fn report_tables(
     parts: &[TableParts],
     tables: &[Table],
 ) -> Result<Seq<TableReport>, OutOfMemory>
+    requires { length parts.now ≡ length tables.now }
     ensures { IfOk result (λ reports. Pairs (IsTableOf parts.now) 0 tables.now reports) }
 {
     let mut reports = Seq::new(alloc);
@@ -405,6 +441,7 @@ fn report_table(
     table: &Table,
     number: usize,
 ) -> Result<TableReport, OutOfMemory>
+    requires { number < length parts.now }
     ensures { IfOk result (λ report. IsTableOf parts.now number table.now report) }
 {
     Ok(TableReport {
@@ -419,6 +456,7 @@ fn report_modes<J: Judge>(
     names: &[Seq<u8>],
     protocols: &[Protocol<J>],
 ) -> Result<Seq<ModeReport>, OutOfMemory>
+    requires { length names.now ≡ length protocols.now }
     ensures { IfOk result (λ reports. Pairs (IsModeOf names.now) 0 protocols.now reports) }
 {
     let mut reports = Seq::new(alloc);
@@ -436,6 +474,7 @@ fn report_exports<J: Judge>(
     names: &[Seq<u8>],
     channels: &[Channel<J>],
 ) -> Result<Seq<ExportReport>, OutOfMemory>
+    requires { length names.now ≡ length channels.now }
     ensures { IfOk result (λ reports.
         Pairs (IsExportOf J.verdict names.now) 0 channels.now reports) }
 {
@@ -452,6 +491,7 @@ fn report_export<J: Judge>(
     number: usize,
     channel: &Channel<J>,
 ) -> Result<ExportReport, OutOfMemory>
+    requires { number < length names.now }
     ensures { IfOk result (λ report. IsExportOf J.verdict names.now number channel.now report) }
 {
     let name = copy_name(alloc, names, number)?;

@@ -1,5 +1,5 @@
 //! A core: what plays a script.
-ghost use Rattle.std.specs.Prelude.{◌≡◌, ◌<◌, ◌≤◌, ◌^◌, ◌++◌, ◌-◌, ℕ, [], ◌∷◌, length, List, IfOk, IsSome, OnOk, reverse, Some, map, slice_get};
+ghost use Rattle.std.specs.Prelude.{◌≡◌, ◌<◌, ◌≤◌, ◌^◌, ◌++◌, ◌-◌, ℕ, [], ◌∷◌, length, List, IfOk, IsSome, OnOk, reverse, Some, map, option_copied, option_map, slice_get};
 ghost use Rattle.std.specs.List.{All};
 ghost use Rattle.std.specs.declared.alloc.Global.{Global};
 ghost use Rattle.std.specs.declared.vec.Vec.{Vec};
@@ -12,11 +12,11 @@ ghost use Rattle.core_machine.specs.Rounds.{HasRounds, round};
 ghost use Rattle.core_setup.specs.Protocols.{rules_of, signal_of, starts, with_begin};
 ghost use Rattle.core_setup.specs.Setup.{IsSetup, Protocol as SeenProtocol, Setup};
 ghost use Rattle.report.specs.declared.phase.PhaseReport.{PhaseReport as Report};
-ghost use Rattle.sys_run.specs.Cores.{AllFit, Ends, Holds, ImportsTo, IsAnswered, IsCore, Keeps, MayObey, counted, made_by, table_of};
+ghost use Rattle.sys_run.specs.Cores.{AllFit, Ends, Holds, ImportsTo, IsAnswered, IsCore, Keeps, MayObey, choice_in, counted, export_in, made_by, table_of, through_of};
 ghost use Rattle.run_tables.specs.Routes.{AreRoutes, Holds as RoutesHold};
 ghost use Rattle.sys_run.specs.Parts.{setup_seen};
 ghost use Rattle.sys_run.specs.Playing.{HasPlayed, IsPlaying, starts_in};
-ghost use Rattle.sys_run.specs.Scripts.{line_of, phase_of};
+ghost use Rattle.sys_run.specs.Scripts.{AsksWhatIs, asked_table, line_of, phase_of};
 ghost use Rattle.sys_run.specs.declared.player.Answered.{Answered as HeldAnswer};
 ghost use Rattle.sys_run.specs.declared.protocol.Protocol.{Protocol as HeldProtocol};
 
@@ -27,16 +27,19 @@ use crate::protocol::{Body, Protocol, Turned};
 use attrs::{Change, Judge, Seq};
 use bits_ip::OutOfMemory;
 use core_machine::laws::{rounds_are_few, syncs_end};
+use export_core::Through;
 use import_core::{Done, Mark, Op};
 use report::PhaseReport;
-use run_tables::Routes;
+use run_tables::{Channel, Routes};
 use script_lines::{Line, Name};
-use show_route::answer;
+use show_route::{Query, answer_table};
 use std::alloc::Global;
 
-/// A reply to `show route` of the first table.
+/// A reply to `show route`.
 #[derive(Debug, Drop)]
 pub(crate) struct Answered {
+    /// The number of the table.
+    pub(crate) table: u32,
     /// The table's position.
     pub(crate) at: u64,
     pub(crate) text: Vec<u8>,
@@ -47,7 +50,7 @@ pub(crate) struct Answered {
 pub struct Core<J: Judge> {
     pub(crate) alloc: Global,
     /// How many phases have ended.
-    pub(crate) phases: u32,
+    pub(crate) phases: u64,
     pub(crate) routes: Routes<J>,
     /// The protocols, by their numbers.
     pub(crate) protocols: Vec<Protocol<J>>,
@@ -58,22 +61,30 @@ pub struct Core<J: Judge> {
     pub(crate) names: Vec<Seq<u8>>,
     /// The channels' names.
     pub(crate) channels: Vec<Seq<u8>>,
+    /// The filters by which queries choose routes, by number.
+    pub(crate) choices: Vec<J>,
+    /// What lines ask, by number.
+    pub(crate) queries: Vec<Query>,
 }
 
 impl<J: Judge + Drop> Core<J> {
     /// A core that has played nothing. The journal of each table holds so many changes for the
     /// channels that are still to take them. The channels are numbered in the order of protocols:
-    /// of a pipe P `P.export` and then `P.import`.
+    /// of a pipe P `P.export` and then `P.import`. Lines ask the queries by their numbers, and
+    /// queries name the filters of `choices` by theirs.
     pub fn make(
         alloc: Global,
         cells: u32,
         tables: Vec<TableParts>,
         protocols: Vec<ProtocolParts<J>>,
+        choices: Vec<J>,
+        queries: Vec<Query>,
     ) -> Result<Core<J>, OutOfMemory>
         requires few { length protocols.items < 2 ^ 32 }
-        requires setup { IsSetup (setup_seen J.verdict tables.items protocols.items cells) }
-        ensures { IfOk result (λ core. (actors : List (List ℕ))
-            → HasPlayed J.verdict (setup_seen J.verdict tables.items protocols.items cells)
+        requires setup { IsSetup (setup_seen J.verdict tables.items protocols.items cells
+            choices.items queries.items) }
+        ensures { IfOk result (λ core. (actors : List (List ℕ)) → HasPlayed J.verdict
+            (setup_seen J.verdict tables.items protocols.items cells choices.items queries.items)
             actors [] [] core) }
     {
         let held = make_tables(alloc, &tables)?;
@@ -95,6 +106,8 @@ impl<J: Judge + Drop> Core<J> {
             tables,
             names,
             channels: channel_names,
+            choices,
+            queries,
         })
     }
 }
@@ -102,15 +115,16 @@ impl<J: Judge + Drop> Core<J> {
 impl<J: Judge> Core<J> {
     /// Plays one more phase: these lines in their order, in the first phase behind the start of
     /// each static protocol, and then a sync. `actors` are the names of all who speak in the
-    /// script.
+    /// script. What the lines ask is among the core's queries.
     ///
     /// `OutOfMemory` comes where memory is refused. The core is of no use then.
     pub fn play(&mut self, actors: &[Name], lines: Vec<Line>) -> Result<PhaseReport, OutOfMemory>
-        requires { IsPlaying J.verdict self.old }
+        requires { IsPlaying J.verdict lines.items self.old }
         ensures { IfOk result (λ report. (setup : Setup) (scripts : List (List MachineLine))
             (reports : List Report) → HasPlayed J.verdict setup actors.now scripts reports self.old
             → HasPlayed J.verdict setup actors.now
-            (scripts ++ phase_of lines.items ∷ []) (reports ++ report ∷ []) self.new) }
+            (scripts ++ phase_of setup.queries lines.items ∷ []) (reports ++ report ∷ [])
+            self.new) }
     {
         syncs_end();
         rounds_are_few();
@@ -172,10 +186,11 @@ impl<J: Judge> Core<J> {
 
     /// Does the lines in their order.
     fn run(&mut self, lines: Vec<Line>) -> Result<(), OutOfMemory>
-        requires { Holds J.verdict self.old }
+        requires holds { Holds J.verdict self.old }
+        requires asked { All (AsksWhatIs (length self.old.queries.items)) lines.items }
         ensures core { OnOk result ((setup : Setup) (past : Joined) (s : State)
             → IsCore J.verdict setup past s self.old
-            → (t : State) × Plays (rules_of setup) (phase_of lines.items) s t
+            → (t : State) × Plays (rules_of setup) (phase_of setup.queries lines.items) s t
             × IsCore J.verdict setup past t self.new) }
         ensures kept { OnOk result (Keeps self.old self.new) }
     {
@@ -186,10 +201,11 @@ impl<J: Judge> Core<J> {
     }
 
     fn step(&mut self, line: Line) -> Result<(), OutOfMemory>
-        requires { Holds J.verdict self.old }
+        requires holds { Holds J.verdict self.old }
+        requires asked { AsksWhatIs (length self.old.queries.items) line }
         ensures core { OnOk result ((setup : Setup) (past : Joined) (s : State)
             → IsCore J.verdict setup past s self.old
-            → (t : State) × Steps (rules_of setup) (line_of line) s t
+            → (t : State) × Steps (rules_of setup) (line_of setup.queries line) s t
             × IsCore J.verdict setup past t self.new) }
         ensures kept { OnOk result (Keeps self.old self.new) }
     {
@@ -197,7 +213,7 @@ impl<J: Judge> Core<J> {
             Line::Take { channel, count } => self.take(channel, count),
             Line::Push { channel, count } => self.push(channel, count),
             Line::Apply { protocol, op, .. } => self.apply(protocol as usize, op),
-            Line::Show { actor } => self.show(actor),
+            Line::Show { actor, query } => self.show(actor, query),
         }
     }
 
@@ -278,7 +294,8 @@ impl<J: Judge> Core<J> {
         requires { Holds J.verdict self.old }
         ensures core { OnOk result ((setup : Setup) (past : Joined) (s : State)
             → IsCore J.verdict setup past s self.old
-            → (t : State) × Steps (rules_of setup) (line_of (Line.Take channel count)) s t
+            → (t : State)
+            × Steps (rules_of setup) (line_of setup.queries (Line.Take channel count)) s t
             × IsCore J.verdict setup past t self.new) }
         ensures kept { OnOk result (Keeps self.old self.new) }
     {
@@ -294,7 +311,8 @@ impl<J: Judge> Core<J> {
         requires { Holds J.verdict self.old }
         ensures core { OnOk result ((setup : Setup) (past : Joined) (s : State)
             → IsCore J.verdict setup past s self.old
-            → (t : State) × Steps (rules_of setup) (line_of (Line.Push channel count)) s t
+            → (t : State)
+            × Steps (rules_of setup) (line_of setup.queries (Line.Push channel count)) s t
             × IsCore J.verdict setup past t self.new) }
         ensures kept { OnOk result (Keeps self.old self.new) }
     {
@@ -305,16 +323,18 @@ impl<J: Judge> Core<J> {
         self.routes.push(number, count)
     }
 
-    /// Answers `show route` of the first table.
-    fn show(&mut self, actor: u32) -> Result<(), OutOfMemory>
-        requires { Holds J.verdict self.old }
+    /// Answers a query. Who isn't there hears nothing.
+    fn show(&mut self, actor: u32, query: u32) -> Result<(), OutOfMemory>
+        requires holds { Holds J.verdict self.old }
+        requires there { query < length self.old.queries.items }
         ensures core { OnOk result ((setup : Setup) (past : Joined) (s : State)
             → IsCore J.verdict setup past s self.old
-            → (t : State) × Steps (rules_of setup) (line_of (Line.Show actor)) s t
+            → (t : State)
+            × Steps (rules_of setup) (line_of setup.queries (Line.Show actor query)) s t
             × IsCore J.verdict setup past t self.new) }
         ensures kept { OnOk result (Keeps self.old self.new) }
     {
-        let reply = self.answer()?;
+        let reply = self.answer(query as usize)?;
         let number = actor as usize;
         if number >= self.replies.len() {
             return Ok(());
@@ -323,27 +343,58 @@ impl<J: Judge> Core<J> {
         Ok(())
     }
 
-    /// The first table as it is now, in the words of a reply.
-    fn answer(&self) -> Result<Answered, OutOfMemory>
-        requires { Holds J.verdict self.now }
+    /// What is answered to the query of this number, over its table as it is now.
+    fn answer(&self, number: usize) -> Result<Answered, OutOfMemory>
+        requires holds { Holds J.verdict self.now }
+        requires there { number < length self.now.queries.items }
         ensures { IfOk result (λ answered. (setup : Setup) (past : Joined) (s : State)
-            (reply : Reply) → IsCore J.verdict setup past s self.now → reply.table ≡ 0
-            → reply.at ≡ length (s.history 0) → reply.query ≡ 0
+            (reply : Reply) → IsCore J.verdict setup past s self.now → reply.query ≡ number
+            → reply.table ≡ asked_table setup.queries number
+            → reply.at ≡ length (s.history reply.table)
             → IsAnswered setup s answered reply) }
     {
-        let Some(table) = self.routes.tables.first() else {
-            return Err(OutOfMemory);
-        };
-        let Some(parts) = self.tables.first() else {
-            return Err(OutOfMemory);
-        };
-        let rows = table.rows()?;
+        let query = &self.queries[number];
+        let place = query.table as usize;
+        let table = &self.routes.tables[place];
         let names = slices(self.alloc, &self.names)?;
-        let text = answer(self.alloc, &names, parts.name.as_slice(), &rows)?;
+        let text = answer_table(
+            self.alloc,
+            query,
+            table.rib(),
+            self.tables[place].name.as_slice(),
+            &names,
+            self.choice(query),
+            self.export(query),
+        )?;
         Ok(Answered {
+            table: query.table,
             at: table.head(),
             text,
         })
+    }
+
+    /// The filter by which a query chooses routes.
+    fn choice(&self, query: &Query) -> Option<&J>
+        ensures { option_copied result ≡ choice_in self.now query.now }
+    {
+        match query.choice {
+            Some(number) => self.choices.get(number as usize),
+            None => None,
+        }
+    }
+
+    /// The gate and the filter of the channel whose exports a query asks for, whether it is up or
+    /// down.
+    fn export(&self, query: &Query) -> Option<&Through<J>>
+        ensures { option_copied result ≡ export_in self.now query.now }
+    {
+        match query.export {
+            Some(number) => match self.protocols.get(number as usize) {
+                Some(protocol) => through_at(&self.routes.channels, protocol.from),
+                None => None,
+            },
+            None => None,
+        }
     }
 
     /// The sync at a phase's end; answers the number of its rounds.
@@ -355,6 +406,16 @@ impl<J: Judge> Core<J> {
         ensures kept { OnOk result (Keeps self.old self.new) }
     {
         self.routes.sync()
+    }
+}
+
+/// The gate and the filter of the channel of this number.
+fn through_at<J: Judge>(channels: &[Channel<J>], number: usize) -> Option<&Through<J>>
+    ensures { option_copied result ≡ option_map through_of (slice_get channels.now number) }
+{
+    match channels.get(number) {
+        Some(channel) => Some(channel.exporter.through()),
+        None => None,
     }
 }
 

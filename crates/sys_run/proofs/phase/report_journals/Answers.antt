@@ -1,8 +1,16 @@
-use Rattle.std.proofs.Common.{arith}
-use Rattle.core_setup.proofs.PairLemmas.{pairs_end, pairs_turn}
+use Rattle.std.proofs.Common.{◌≤◌, arith, length}
+use Rattle.core_setup.proofs.PairLemmas.{other_here, pairs_end, pairs_turn}
+use Rattle.run_tables.specs.declared.table.Table.{Table}
 use Rattle.run_tables.proofs.Routing.{item_read}
 use Rattle.sys_run.specs.Phase.{IsJournalOf}
 use Rattle.sys_run.proofs.phase.report_journals.Goals as goal
+
+pub report_journal-requires-clause-heads : goal.report_journal-requires-clause-heads
+report_journal-requires-clause-heads c =
+    let xs = c.args.tables.now in
+    let k = c.loop-number.number in
+    other_here (λ n (table : Table) head. head ≤ length table.entries.items) xs c.args.heads.now c.requires.heads k c.index-tables-number.result
+    (item_read xs k c.index-tables-number.result (omega arith) c.index-tables-number.is)
 
 pub loop-number-preserved : goal.loop-number-preserved
 loop-number-preserved c =

@@ -10,6 +10,9 @@ use Rattle.sys_run.proofs.ReportingLoops.{IsEmptiedTo, emptied_all, emptied_more
 use Rattle.run_tables.proofs.Routing.{item_read}
 use Rattle.sys_run.proofs.phase.report_operations.Goals as goal
 
+pub copy_name-requires : goal.copy_name-requires
+copy_name-requires g c = omega (arith, c.args.protocols.now.ok.0, c.requires)
+
 pub loop-number-init : goal.loop-number-init
 loop-number-init g c =
     (subst (λ (l : List ProtocolReport). Pairs (IsOperationsOf {J = g.row.J.Denot} c.args.names.now) 0 [] l) (sym c.new-reports.ensures) tt, emptied_none c.args.protocols.now.items)

@@ -136,4 +136,5 @@ pub returns-clause-kept : goal.returns-clause-kept
 returns-clause-kept g c = record {
   phases = ap (λ (core : Core g.row.J.Denot). core.phases) c.obey.ensures.kept ∙ ap (λ (core : Core g.row.J.Denot). core.phases) c.change.ensures.kept;
   replies = ap (λ (core : Core g.row.J.Denot). length core.replies.items) c.obey.ensures.kept ∙ ap (λ (core : Core g.row.J.Denot). length core.replies.items) c.change.ensures.kept;
+  queries = ap (λ (core : Core g.row.J.Denot). core.queries) c.obey.ensures.kept ∙ ap (λ (core : Core g.row.J.Denot). core.queries) c.change.ensures.kept;
 }

@@ -12,4 +12,4 @@ invariant-loop-line g l =
     Keeps l.fn.self l.self
     × (l.yielded ++ l.line-iterator.rest.items ≡ l.fn.lines.items)
     × ((setup : Setup) (past : Joined) (s : State) → IsCore g.J.Judge.verdict setup past s l.fn.self
-    → (t : State) × Plays (rules_of setup) (phase_of l.yielded) s t × IsCore g.J.Judge.verdict setup past t l.self)
+    → (t : State) × Plays (rules_of setup) (phase_of setup.queries l.yielded) s t × IsCore g.J.Judge.verdict setup past t l.self)

@@ -19,7 +19,7 @@ loop-number-preserved g c =
     let n = c.loop-number.number in
     let kept = c.loop-number.invariant.0 in
     let more = c.in_ok-start_one.ensures.kept in (
-      record { phases = more.phases ∙ kept.phases; replies = more.replies ∙ kept.replies },
+      record { phases = more.phases ∙ kept.phases; replies = more.replies ∙ kept.replies; queries = more.queries ∙ kept.queries },
       λ setup past s are.
           let now = c.loop-number.invariant.1 setup past s are in
           let p = get_here setup.protocols n (omega (arith, protocols_length v setup past s c.args.self.now are, c.args.self.now.protocols.ok.0)) in

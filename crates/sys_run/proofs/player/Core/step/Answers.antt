@@ -8,4 +8,4 @@ use Rattle.sys_run.proofs.player.Core.step.Goals as goal
 pub returns-in-Apply-clause-core : goal.returns-in-Apply-clause-core
 returns-in-Apply-clause-core g c = on_ok_weaker c.apply.result (λ done setup past s are.
     let got = done setup past s (record { actor = c.in-Apply.actor; line = c.in-Apply.line; protocol = c.in-Apply.protocol; op = c.in-Apply.op }) are refl refl in
-    (got.0, subst (λ l. Steps (rules_of setup) (line_of l) s got.0) (sym c.in-Apply.is) got.1, got.2)) c.apply.ensures.core
+    (got.0, subst (λ l. Steps (rules_of setup) (line_of setup.queries l) s got.0) (sym c.in-Apply.is) got.1, got.2)) c.apply.ensures.core
