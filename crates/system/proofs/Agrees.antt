@@ -52,7 +52,7 @@ module _ (text : List ℕ) (scope : Scope) (filters : List TFilter) (names : Lis
   abbrev Says : PolicyDef → Filter
   Says = seen.policy_says scope filters names
 
-  tree_does : (before : List conf.Declaration) (ss : Statements) (f : TFilter) → Does text scope before ss f → seen.tree_says scope filters names f ≡ by_source text names (Some (before, ss))
+  tree_does : (before : List conf.Declaration) (ss : Statements) (f : TFilter) → Does text scope before ss f → seen.tree_says scope names f ≡ by_source text names (Some (before, ss))
   tree_does before ss f does = fun_ext (λ net. fun_ext (λ route. does (around_route names net route) route.attrs))
 
   -- the filter of a number
@@ -295,7 +295,7 @@ all_names known (d ∷ ds) =
 
 module _ (text : List ℕ) (scope : Scope) (filters : List TFilter) (names : List (List ℕ)) where
   abbrev Tree : TFilter → Filter
-  Tree = seen.tree_says scope filters names
+  Tree = seen.tree_says scope names
 
   filters_agree : (before ds : List conf.Declaration) (fs : List TFilter) → DoEach (Does text scope) (filter_sources before ds) fs → named (filter_names text ds) (map Tree fs) ≡ filters_behind text names before ds
   filters_agree before [] fs each = refl
@@ -340,7 +340,7 @@ system_agrees text ds held is are =
     let scope = held.checked.declared.scope in
     let filters = held.checked.filters.items in
     let names : held.names ≡ names_in text ds = are ∙ names_agree text ds held.checked is in
-    let Trees : List Filter = map (seen.tree_says scope filters held.names) filters in
+    let Trees : List Filter = map (seen.tree_says scope held.names) filters in
     system_same (seen.system_of held) _ (ap (λ (k : Known). k.tables) is.declared)
     (ap (λ (k : Known). named k.filters Trees) is.declared ∙ ap (λ (l : List (List ℕ)). named l Trees) (all_names (at_start text) ds)
     ∙ filters_agree text scope filters held.names [] ds filters is.filters ∙ ap (λ (n : List (List ℕ)). filters_behind text n [] ds) names)

@@ -1,6 +1,11 @@
 pub mod Accepted
 pub mod Agrees
+pub mod AskedOnce
+pub mod ByNumber
+pub mod Conditions
+pub mod Counted
 pub mod Few
+pub mod FewNames
 pub mod Forest
 pub mod SaidOnce
 pub mod TablesThere

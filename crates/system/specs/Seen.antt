@@ -28,26 +28,35 @@ use Rattle.system.specs.Asked.{Asked, unless_refused}
 use Rattle.system.specs.Policies.{Filter}
 use Rattle.system.specs.System.{Bgp, Body, Channel, IsBgp, IsPipe, IsStatic, Pipe, Protocol, Static, System}
 use Rattle.system.specs.declared.system.System.{System as Held}
+use Rattle.system.specs.declared.passes.Rule.{Rule}
+use Rattle.system.specs.declared.passes.Rule.TheVariants as rules
 use Rattle.system.specs.declared.read.SystemFault.{SystemFault}
 use Rattle.system.specs.declared.read.SystemFault.TheVariants as faults
 
--- What trees do over a scope with these filters by number, where protocols have these names.
-module _ (scope : Scope) (filters : List TFilter) (names : List (List ℕ)) where
-  -- what a tree says
-  abbrev pub tree_says : TFilter → Filter
-  tree_says f net route =
-      judged (around_route names net route) (constant_values scope) (function_trees scope) f
-      route.attrs
+-- what the tree of a filter says over a scope, where protocols have these names
+abbrev pub tree_says : Scope → (names : List (List ℕ)) → TFilter → Filter
+tree_says scope names f net route =
+    judged (around_route names net route) (constant_values scope) (function_trees scope) f
+    route.attrs
 
+-- what a judge says that goes by this rule
+abbrev pub rule_says : Scope → (names : List (List ℕ)) → Rule → Filter
+rule_says scope names rules.All net route = verdicts.Accept route.attrs
+rule_says scope names rules.None net route = verdicts.Reject None
+rule_says scope names (rules.Filter f) net route = tree_says scope names f.now net route
+
+-- What policies and protocols do over a scope with these filters by number, where protocols have
+-- these names.
+module _ (scope : Scope) (filters : List TFilter) (names : List (List ℕ)) where
   abbrev pub numbered : Option TFilter → Filter
   numbered None net route = verdicts.Reject None
-  numbered (Some f) net route = tree_says f net route
+  numbered (Some f) net route = tree_says scope names f net route
 
   abbrev pub policy_says : PolicyDef → Filter
   policy_says policies.All net route = verdicts.Accept route.attrs
   policy_says policies.None net route = verdicts.Reject None
   policy_says (policies.Filter n) net route = numbered (slice_get filters n) net route
-  policy_says (policies.Own f) net route = tree_says f net route
+  policy_says (policies.Own f) net route = tree_says scope names f net route
 
   abbrev pub channel_seen : ChannelDef → Channel
   channel_seen def = record {
@@ -97,13 +106,16 @@ asked_over scope names text e =
     (λ net route. meaning.judged (context_of text (around_route names net route) scope [])
     (filter_where e) route.attrs)
 
+-- what the tree of a filter says over what is held
+abbrev pub filter_says : Held → TFilter → Filter
+filter_says held f = tree_says held.checked.declared.scope held.names f
+
 -- what is configured, where it is held so
 abbrev pub system_of : Held → System
 system_of held = record {
   tables = map (λ e. (e.0.items, e.1)) held.checked.declared.tables.entries;
   filters = named (map (λ name. name.items) held.checked.declared.filters.keys)
-      (map (tree_says held.checked.declared.scope held.checked.filters.items held.names)
-      held.checked.filters.items);
+      (map (filter_says held) held.checked.filters.items);
   asked = asked_over held.checked.declared.scope held.names;
   protocols = map
       (protocol_seen held.checked.declared.scope held.checked.filters.items held.names)

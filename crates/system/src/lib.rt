@@ -1,11 +1,14 @@
 //! What a configuration comes to when it is played: its tables, and its protocols with what their
 //! policies say of routes (`specs/System`, `specs/Policies`).
 //!
-//! `read_system` reads a text: the system, or where it is refused and why (`specs/Texts`). A policy
-//! is a `Judge` (`Passes`): `System::passes` gives the one of a channel or a pipe. What holds of
-//! each text and of each accepted configuration are the `laws`.
+//! `read_system` reads a text: the system, or where it is refused and why (`specs/Texts`).
+//! `System::condition` reads a condition that stands elsewhere, over the system
+//! (`specs/Conditions`). Policies, filters and conditions are judges of one type (`Passes`):
+//! `System::passes` gives the one of a channel's or a pipe's policy, `System::filter` that of a
+//! filter. What holds of each text and of each accepted configuration are the `laws`.
 #![tactic(auto)]
 
+mod condition;
 pub mod laws;
 mod passes;
 mod read;

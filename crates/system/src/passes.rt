@@ -1,5 +1,6 @@
-ghost use Rattle.std.specs.Prelude.{◌≡◌, IfOk};
-ghost use Rattle.system.specs.Seen.{tree_says};
+ghost use Rattle.std.specs.Prelude.{◌≡◌, ◌^◌, ℕ, List};
+ghost use Rattle.filt_tree.specs.declared.scope.Scope.{Scope};
+ghost use Rattle.system.specs.Seen.{policy_says, rule_says};
 
 use attrs::{Judge, Names, Route, Verdict};
 use bits_ip::{OutOfMemory, Prefix};
@@ -8,64 +9,75 @@ use filt_comp::run_tree;
 use filt_tree::{Scope, TFilter};
 use std::alloc::Global;
 
-/// A policy, as one that judges routes (BIRD User's Guide, "Channel options", `import` and
-/// `export`).
+/// What a judge goes by.
+#[derive(Clone, Copy)]
+pub(crate) enum Rule<'a> {
+    /// Each route is accepted.
+    All,
+    /// None is.
+    None,
+    /// What this filter says.
+    Filter(&'a TFilter),
+}
+
+/// A policy, a filter by name or a condition, as one that judges routes (BIRD User's Guide,
+/// "Channel options", `import` and `export`, and "Remote control", `show route`).
 #[derive(Clone, Copy)]
 pub struct Passes<'a> {
     alloc: Global,
     scope: &'a Scope,
-    filters: &'a Vec<TFilter>,
     names: &'a Names,
-    policy: &'a PolicyDef,
+    rule: Rule<'a>,
 }
 
 impl<'a> Passes<'a> {
-    /// The policy over a scope, with the filters by their numbers and the names of the protocols.
-    pub fn new(
+    /// The judge by a rule over a scope, with the names of the protocols.
+    pub(crate) fn new(
         alloc: Global,
         scope: &'a Scope,
-        filters: &'a Vec<TFilter>,
         names: &'a Names,
-        policy: &'a PolicyDef,
+        rule: Rule<'a>,
     ) -> Passes<'a>
-        ensures scope { result.scope.now ≡ scope.now }
-        ensures filters { result.filters.now ≡ filters.now }
-        ensures names { result.names.now ≡ names.now }
-        ensures policy { result.policy.now ≡ policy.now }
+        ensures { ⟦<Passes<'a> as Judge>⟧.verdict result
+            ≡ rule_says scope.now names.now rule.entry }
     {
         Passes {
             alloc,
             scope,
-            filters,
             names,
-            policy,
+            rule,
         }
     }
+}
 
-    fn run(&self, filter: &TFilter, net: &Prefix, route: &Route) -> Result<Verdict, OutOfMemory>
-        ensures { IfOk result (λ verdict. verdict
-            ≡ tree_says self.now.scope.now self.now.filters.now.items self.now.names.now filter.now
-            net.now route.now) }
-    {
-        run_tree(self.alloc, self.scope, filter, self.names, net, route)
+/// The rule of a policy, with the filters by their numbers.
+pub(crate) fn rule_of<'a>(policy: &'a PolicyDef, filters: &'a Vec<TFilter>) -> Rule<'a>
+    ensures { (scope : Scope) (names : List (List ℕ)) → rule_says scope names result
+        ≡ policy_says scope filters.now.items names policy.now }
+{
+    match policy {
+        PolicyDef::All => Rule::All,
+        PolicyDef::None => Rule::None,
+        PolicyDef::Filter(number) => match filters.get(*number) {
+            Some(filter) => Rule::Filter(filter),
+            None => Rule::None,
+        },
+        PolicyDef::Own(filter) => Rule::Filter(filter),
     }
 }
 
 impl Judge for Passes<'_> {
-    ghost use Rattle.system.specs.Seen.{policy_says};
+    ghost use Rattle.system.specs.Seen.{rule_says};
 
-    ghost verdict = { λ p net route. policy_says p.scope.now p.filters.now.items p.names.now
-        p.policy.now net route };
+    ghost verdict = { λ p net route. rule_says p.scope.now p.names.now p.rule net route };
 
     fn judge(&self, net: &Prefix, route: &Route) -> Result<Verdict, OutOfMemory> {
-        match self.policy {
-            PolicyDef::All => Ok(Verdict::Accept(route.attrs.share()?)),
-            PolicyDef::None => Ok(Verdict::Reject(None)),
-            PolicyDef::Filter(number) => match self.filters.get(*number) {
-                Some(filter) => self.run(filter, net, route),
-                None => Ok(Verdict::Reject(None)),
-            },
-            PolicyDef::Own(filter) => self.run(filter, net, route),
+        match self.rule {
+            Rule::All => Ok(Verdict::Accept(route.attrs.share()?)),
+            Rule::None => Ok(Verdict::Reject(None)),
+            Rule::Filter(filter) => {
+                run_tree(self.alloc, self.scope, filter, self.names, net, route)
+            }
         }
     }
 }
