@@ -4,14 +4,14 @@ use Rattle.std.specs.Prelude.{◌==◌, ◌&&◌, not, IsSome, IsSomeAnd, option
 use Rattle.std.specs.List.{count_by, filter}
 use Rattle.std.specs.BTreeMap.{insert_entry, is_at}
 use Rattle.std.specs.BTreeMap.Range.{IsLeBy, IsLtBy, entries_between}
-use Rattle.std.specs.Map.{remove_entry, values_of}
+use Rattle.std.specs.Map.{remove_entry, set_value, values_of}
 use Rattle.std.specs.Ordering.{is_le}
 use Rattle.std.specs.Range.Bound.{IsForward}
 use Rattle.std.specs.declared.ops.Bound.TheVariants.{Unbounded}
 use Rattle.std.specs.declared.alloc.Global.{Global}
 use Rattle.std.specs.declared.vec.Vec.{Vec}
 use Rattle.std.proofs.lemmas.Bool.{cond-true, cond-false, cases_Bool, false≢true}
-use Rattle.std.proofs.lemmas.Map.Entries.{sum_by-insert_entry, sum_by-remove_entry}
+use Rattle.std.proofs.lemmas.Map.Entries.{sum_by-insert_entry, sum_by-remove_entry, sum_by-set_value}
 use Rattle.std.proofs.lemmas.Bool.Decides.{nat_tests}
 use Rattle.std.proofs.lemmas.List.{length-append, take_at}
 use Rattle.std.proofs.lemmas.List.Sums.{length-filter}
@@ -47,12 +47,6 @@ put-here k w old new puts = puts k ∙ cond-true _ _ _ (at_itself k)
 
 pub put-other : (k : Net) (w : Option Routes) (old new : Entries) → Puts k w old new → (q : Net) → is_at (net_cmp k) q ≡ false → entry_at q new ≡ entry_at q old
 put-other k w old new puts q past = puts q ∙ cond-false _ _ _ past
-
-pub put-twice : (k : Net) (v w : Option Routes) (old mid new : Entries) → Puts k v old mid → Puts k w mid new → Puts k w old new
-put-twice k v w old mid new first second q = elim (cases_Bool (is_at (net_cmp k) q)) [
-  | inl at ↦ second q ∙ cond-true _ _ _ at ∙ sym (cond-true _ _ _ at)
-  | inr past ↦ put-other k w mid new second q past ∙ put-other k v old mid first q past ∙ sym (cond-false _ _ _ past)
-]
 
 -- the same routes stand everywhere
 abbrev pub SameRoutes : Entries → Entries → Type 0
@@ -123,27 +117,9 @@ count-dropped k es none = omega (arith, count-taken k es, ap length none)
 pub count-fresh : (k : Net) (v : Routes) (es : Entries) → AreKeys es → entry_at k es ≡ None → v.items ≡ [] → count_of (insert_entry net_cmp es k v) ≡ count_of es
 count-fresh k v es keys none empty = omega (arith, count-put k v es keys, ap (λ (o : Option Routes). length (items_of o)) none, ap length empty)
 
--- routes in the place of others, by way of none
-pub count-replaced : (k : Net) (blank had has : Routes) (old mid new : Entries) → AreKeys old → AreKeys mid → blank.items ≡ [] → entry_at k old ≡ Some had
-    → Puts k (Some blank) old mid → mid ≡ insert_entry net_cmp old k blank → new ≡ insert_entry net_cmp mid k has
-    → count_of new + length had.items ≡ count_of old + length has.items
-count-replaced k blank had has old mid new keys also empty was puts first second =
-    omega (
-      arith,
-      count-put k blank old keys,
-      count-put k has mid also,
-      ap (λ (o : Option Routes). length (items_of o)) was,
-      ap (λ (o : Option Routes). length (items_of o)) (put-here k (Some blank) old mid puts),
-      ap length empty,
-      ap count_of first,
-      ap count_of second,
-    )
-
-pub count-swapped : (k : Net) (blank had has : Routes) (old mid new : Entries) → AreKeys old → AreKeys mid → blank.items ≡ [] → entry_at k old ≡ Some had
-    → Puts k (Some blank) old mid → mid ≡ insert_entry net_cmp old k blank → new ≡ insert_entry net_cmp mid k has → length has.items ≡ length had.items
-    → count_of new ≡ count_of old
-count-swapped k blank had has old mid new keys also empty was puts first second same =
-    omega (arith, count-replaced k blank had has old mid new keys also empty was puts first second, same)
+-- routes in the place of others
+pub count-written : (k : Net) (had has : Routes) (old new : Entries) → entry_at k old ≡ Some had → new ≡ set_value (is_at (net_cmp k)) old has → count_of new + length had.items ≡ count_of old + length has.items
+count-written k had has old new was is = ap (λ (es : Entries). count_of es + length had.items) is ∙ sum_by-set_value weight (is_at (net_cmp k)) old had has was
 
 pub count-within : (k : Net) (es : Entries) → length (routes_at k es) ≤ count_of es
 count-within k es = omega (arith, count-taken k es)

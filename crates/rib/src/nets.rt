@@ -1,5 +1,5 @@
-ghost use Rattle.std.specs.Prelude.{◌≡◌, ◌≢◌, ◌↔◌, ◌≤◌, ◌<◌, ◌+◌, ◌++◌, ◌^◌, [], false, IfOk, IfSome, IsSome, IsSomeAnd, IsTrue, OnOk, OnErr, Some, length, not, ◌==◌, option_copied, slice_index_or, take, if◌then◌else◌};
-ghost use Rattle.std.specs.BTreeMap.{insert_entry, is_at};
+ghost use Rattle.std.specs.Prelude.{◌≡◌, ◌≢◌, ◌↔◌, ◌≤◌, ◌<◌, ◌+◌, ◌++◌, ◌^◌, [], false, IfNone, IfOk, IfSome, IsSome, IsSomeAnd, IsTrue, OnOk, OnErr, length, not, ◌==◌, option_copied, slice_index_or, take};
+ghost use Rattle.std.specs.BTreeMap.{is_at};
 ghost use Rattle.std.specs.List.{count_by};
 ghost use Rattle.std.specs.Map.{values_of};
 ghost use Rattle.attrs.specs.declared.route.Row.{Row};
@@ -69,22 +69,6 @@ impl Nets {
         }
     }
 
-    /// Puts routes in the place of those of a net that is there, and gives these.
-    fn replace(&mut self, net: Prefix, routes: Vec<Route>) -> Vec<Route>
-        requires { IsSome (entry_at net self.old) }
-        ensures old { entry_at net self.old ≡ Some result }
-        ensures entries { self.new ≡ insert_entry net_cmp self.old net routes }
-        ensures at { (q : Net) → entry_at q self.new
-            ≡ (if is_at (net_cmp net) q then Some routes else entry_at q self.old) }
-        ensures was { AreKeys self.old }
-        ensures keys { AreKeys self.new }
-    {
-        match self.map.insert(net, routes) {
-            Ok(Some(old)) => old,
-            _ => unreachable!(),
-        }
-    }
-
     /// Puts a net there, which has no routes yet, with room for one.
     fn add(&mut self, alloc: Global, net: Prefix) -> Result<(), OutOfMemory>
         requires { IsSome (entry_at net self.old) → ⊥ }
@@ -102,22 +86,24 @@ impl Nets {
         Ok(())
     }
 
-    /// Makes room for one more route of a net that is there.
-    fn grow(&mut self, alloc: Global, net: Prefix) -> Result<(), OutOfMemory>
-        requires { IsSome (entry_at net self.old) }
-        ensures made { OnOk result (HasRoomAt net self.new) }
-        ensures room { HasRoomAt net self.old → HasRoomAt net self.new }
+    /// Makes room for one more route of the net, where it is there.
+    fn grow(&mut self, net: &Prefix) -> Option<Result<(), OutOfMemory>>
+        ensures made { IfSome result (λ grown. OnOk grown (HasRoomAt net.now self.new)) }
+        ensures room { HasRoomAt net.now self.old → HasRoomAt net.now self.new }
         ensures routes { (q : Net) → routes_at q self.new ≡ routes_at q self.old }
-        ensures there { IsSome (entry_at net self.new) }
-        ensures others { (q : Net) → is_at (net_cmp net) q ≡ false
+        ensures there { IfSome result (λ _. IsSome (entry_at net.now self.old)
+            × IsSome (entry_at net.now self.new)) }
+        ensures absent { IfNone result ((IsSome (entry_at net.now self.old) → ⊥)
+            × (self.new ≡ self.old)) }
+        ensures others { (q : Net) → is_at (net_cmp net.now) q ≡ false
             → entry_at q self.new ≡ entry_at q self.old }
         ensures count { count_of self.new ≡ count_of self.old }
         ensures keys { AreKeys self.new }
     {
-        let mut routes = self.replace(net, Vec::new(alloc));
-        let grown = grow_routes(&mut routes);
-        let _empty = self.replace(net, routes);
-        grown
+        match self.map.get_mut(net) {
+            Some(routes) => Some(grow_routes(routes)),
+            None => None,
+        }
     }
 
     /// Takes the net out, where it has no routes.
@@ -151,14 +137,7 @@ impl Nets {
 
     /// Changes the route of a source of a net, for which there is room, and counts it. It may be
     /// the net's last.
-    fn change_at(
-        &mut self,
-        alloc: Global,
-        total: &mut u64,
-        net: Prefix,
-        num: u32,
-        new: Option<Route>,
-    ) -> Outcome
+    fn change_at(&mut self, total: &mut u64, net: Prefix, num: u32, new: Option<Route>) -> Outcome
         requires room { HasRoomAt net self.old }
         requires are { AreRoutes (routes_at net self.old) }
         requires within { length (routes_at net self.old) ≤ total.old }
@@ -174,14 +153,14 @@ impl Nets {
             (λ moved. IsTrue moved
             ↔ (first_of (routes_at net self.new) ≢ first_of (routes_at net self.old))) }
     {
-        let mut routes = self.replace(net, Vec::new(alloc));
-        let outcome = change_counted(&mut routes, total, num, new);
-        let _empty = self.replace(net, routes);
-        outcome
+        match self.map.get_mut(&net) {
+            Some(routes) => change_counted(routes, total, num, new),
+            None => unreachable!(),
+        }
     }
 
     /// Makes a change, in the memory that is there for it. A net that has no routes then goes.
-    pub(crate) fn change(&mut self, alloc: Global, total: &mut u64, change: Change) -> Outcome
+    pub(crate) fn change(&mut self, total: &mut u64, change: Change) -> Outcome
         requires nets { AreNets (family_of change.net.addr) self.old total.old }
         requires room { HasRoomAt change.net self.old }
         requires counts { total.old + 1 < 2 ^ 64 }
@@ -197,7 +176,7 @@ impl Nets {
     {
         let Change { net, num, new } = change;
         let _addr = net.addr();
-        let outcome = self.change_at(alloc, total, net, num, new);
+        let outcome = self.change_at(total, net, num, new);
         self.drop_empty(&net);
         outcome
     }
@@ -213,10 +192,9 @@ impl Nets {
         ensures count { count_of self.new ≡ count_of self.old }
         ensures keys { AreKeys self.new }
     {
-        if self.map.contains_key(net) {
-            self.grow(alloc, *net)
-        } else {
-            self.add(alloc, *net)
+        match self.grow(net) {
+            Some(grown) => grown,
+            None => self.add(alloc, *net),
         }
     }
 

@@ -96,7 +96,7 @@ impl Rib {
             ↔ (best_of change.net self.new.rows ≢ best_of change.net self.old.rows)) }
     {
         self.room = None;
-        self.nets.change(self.alloc, &mut self.total, change)
+        self.nets.change(&mut self.total, change)
     }
 
     /// Whether the key's route is the given one already.
