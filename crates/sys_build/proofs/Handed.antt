@@ -8,20 +8,26 @@ use Rattle.export_core.specs.declared.passing.ExportSpec.{ExportSpec}
 use Rattle.import_core.specs.declared.import_spec.ImportSpec.{ImportSpec}
 use Rattle.core_setup.specs.Setup as setup
 use Rattle.core_setup.specs.Setup.{Setup}
+use Rattle.show_route.specs.declared.query.Query.{Query}
 use Rattle.sys_run.specs.Parts.{body_seen, pipe_seen, protocol_seen, setup_seen, source_seen, table_seen}
 use Rattle.sys_run.specs.declared.parts.BodyParts.{BodyParts}
 use Rattle.sys_run.specs.declared.parts.ProtocolParts.{ProtocolParts}
 use Rattle.sys_run.specs.declared.parts.TableParts.{TableParts}
 use Rattle.system.specs.Policies.{Filter}
 use Rattle.system.specs.System.{System}
-use Rattle.sys_build.specs.Setups.{protocols_from, setup_of}
+use Rattle.sys_build.specs.Setups.{choices_of, protocols_from, setup_of}
 
-pub handed : {J : Type 0} (verdict : J → Net → Route → Verdict) (tables : List TableParts) (protocols : List (ProtocolParts J)) (system : System) (cells : ℕ) → map table_seen tables ≡ system.tables
-    → map (protocol_seen verdict) protocols ≡ protocols_from 0 system.protocols → setup_seen verdict tables protocols cells ≡ setup_of system cells
+pub handed : {J : Type 0} (verdict : J → Net → Route → Verdict) (tables : List TableParts) (protocols : List (ProtocolParts J)) (choices : List J) (system : System) (cells : ℕ) (conditions : List Filter) (queries : List Query)
+    → map table_seen tables ≡ system.tables → map (protocol_seen verdict) protocols ≡ protocols_from 0 system.protocols → map verdict choices ≡ choices_of system conditions
+    → setup_seen verdict tables protocols cells choices queries ≡ setup_of system cells conditions queries
 unfolding setup_of
-handed verdict tables protocols system cells tables_are protocols_are =
-    ap (λ (t : List (List ℕ × Family)). record { tables = t; protocols = map (protocol_seen verdict) protocols; cells = cells }) tables_are
-    ∙ ap (λ (p : List setup.Protocol). record { tables = system.tables; protocols = p; cells = cells }) protocols_are
+handed verdict tables protocols choices system cells conditions queries tables_are protocols_are choices_are =
+    ap (λ (t : List (List ℕ × Family)). made t (map (protocol_seen verdict) protocols) (map verdict choices)) tables_are
+    ∙ ap (λ (p : List setup.Protocol). made system.tables p (map verdict choices)) protocols_are
+    ∙ ap (λ (c : List Filter). made system.tables (protocols_from 0 system.protocols) c) choices_are
+  where
+    made : List (List ℕ × Family) → List setup.Protocol → List Filter → Setup
+    made t p c = record { tables = t; protocols = p; cells = cells; choices = c; queries = queries }
 
 -- ---- one protocol, part by part
 

@@ -4,6 +4,8 @@ use Rattle.std.proofs.lemmas.List.{map-append}
 use Rattle.core_setup.specs.Channels.{Channel, channels, channels_from, channels_in}
 use Rattle.core_setup.specs.Setup as setup
 use Rattle.script_lines.specs.declared.named.NamedProtocol.{NamedProtocol}
+use Rattle.show_route.specs.declared.query.Query.{Query}
+use Rattle.system.specs.Policies.{Filter}
 use Rattle.system.specs.System.{Body, IsBgp, IsPipe, IsStatic, Protocol, System}
 use Rattle.system.specs.Tables.{Tables}
 use Rattle.sys_build.specs.Names.{all_channels, channels_of, named_of, named_protocol}
@@ -25,10 +27,11 @@ channels_count tables number (p ∷ more) =
     ∙ ap (λ (l : List (List ℕ)). map (λ (c : Channel). c.name) (channels_in tables number p.name (body_of number p.body)) ++ l) (channels_count tables (number + 1) more)
     ∙ sym (map-append (λ (c : Channel). c.name) (channels_in tables number p.name (body_of number p.body)) (channels_from tables (number + 1) (protocols_from (number + 1) more)))
 
-pub protocols_alike : (system : System) (cells : ℕ) → map (λ (p : NamedProtocol). p.name) (named_of system).protocols ≡ map (λ (p : setup.Protocol). p.name) (setup_of system cells).protocols
+pub protocols_alike : (system : System) (cells : ℕ) (filters : List Filter) (queries : List Query)
+    → map (λ (p : NamedProtocol). p.name) (named_of system).protocols ≡ map (λ (p : setup.Protocol). p.name) (setup_of system cells filters queries).protocols
 unfolding named_of setup_of
-protocols_alike system cells = protocols_count 0 system.protocols
+protocols_alike system cells filters queries = protocols_count 0 system.protocols
 
-pub channels_alike : (system : System) (cells : ℕ) → (named_of system).channels ≡ map (λ (c : Channel). c.name) (channels (setup_of system cells))
+pub channels_alike : (system : System) (cells : ℕ) (filters : List Filter) (queries : List Query) → (named_of system).channels ≡ map (λ (c : Channel). c.name) (channels (setup_of system cells filters queries))
 unfolding named_of setup_of
-channels_alike system cells = channels_count system.tables 0 system.protocols
+channels_alike system cells filters queries = channels_count system.tables 0 system.protocols

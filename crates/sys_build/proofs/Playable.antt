@@ -1,22 +1,34 @@
--- What an accepted configuration gives to play is a setup, where each channel has its table; and scripts know its protocols as
--- what they are.
-use Rattle.std.proofs.Common.{◌≡◌, ◌≢◌, ◌∙◌, sym, ap, refl, subst, ℕ, ◌+◌, ◌≤◌, true, false, List, [], ◌∷◌, ◌++◌, map, Some, option_map, arith, length, true≢false}
-use Rattle.std.proofs.lemmas.Option.{slice_get_within}
+-- What an accepted configuration and a script give to play is a setup, where each channel has its table, and each query what it
+-- names; and scripts know protocols as what they are.
+use Rattle.std.proofs.Common.{◌≡◌, ◌≢◌, ◌∙◌, sym, ap, refl, subst, ℕ, zero, suc, ◌+◌, ◌<◌, ◌≤◌, true, false, List, [], ◌∷◌, ◌++◌, map, Option, Some, None, option_map, arith, length, true≢false}
+use Rattle.std.specs.Prelude.{IfSome, slice_get, slice_index_or}
+use Rattle.std.specs.List.{All}
+use Rattle.std.proofs.lemmas.List.{length-append, length-map}
+use Rattle.std.proofs.lemmas.List.Elements.{All-cons, All-nil}
+use Rattle.std.proofs.lemmas.Option.{none-some, same_Some, slice_get_within}
 use Rattle.bits_ip.specs.declared.address.Family.{Family}
 use Rattle.conf_check.specs.Behind.{at_start, behind}
 use Rattle.conf_rules.specs.Joints.{IsForest, JoinsApart, joined}
 use Rattle.conf_rules.specs.declared.joints.Joint.{Joint}
 use Rattle.core_setup.specs.Pairs.{Pairs}
 use Rattle.core_setup.specs.Setup as setup
-use Rattle.core_setup.specs.Setup.{IsSetup, family_at}
+use Rattle.core_setup.specs.Setup.{ExportsFrom, FitsQuery, IsSetup, family_at}
+use Rattle.script_lines.specs.Kinds.{is_bgp}
+use Rattle.script_lines.specs.Script.{AsksWhatIs, HasTables, IsScript}
+use Rattle.script_lines.specs.declared.named.Named.{Named}
 use Rattle.script_lines.specs.declared.named.NamedProtocol.{NamedProtocol}
+use Rattle.script_lines.specs.declared.script.Condition.{Condition}
+use Rattle.script_lines.specs.declared.script.Line.{Line}
+use Rattle.show_route.specs.declared.query.Query.{Query}
+use Rattle.system.specs.Policies.{Filter}
 use Rattle.system.specs.System.{Bgp, Body, IsBgp, IsPipe, IsStatic, Pipe, Protocol, Static, System, system_in}
 use Rattle.system.specs.Pipes.{pipe_of as joint_in, pipes_of}
 use Rattle.system.specs.Tables.{AllFit, BodyFits, Fits, Has, Tables}
 use Rattle.system.specs.Texts.{IsSystem}
 use Rattle.system.proofs.TablesThere.{masters_first}
-use Rattle.sys_build.specs.Names.{IsKindOf, kind_of, named_of, named_protocol}
-use Rattle.sys_build.specs.Setups.{bgp_of, body_of, pipe_of, protocols_from, setup_of, static_of}
+use Rattle.sys_build.specs.Names.{IsKindOf, kind_of, named_of, named_protocol, named_table, table_of}
+use Rattle.sys_build.specs.Scripts.{Accepted, Answers, AreAsked}
+use Rattle.sys_build.specs.Setups.{bgp_of, body_of, choices_of, pipe_of, protocol_of, protocols_from, setup_of, static_of}
 
 has_family : (tables : Tables) (number : ℕ) (family : Family) → Has tables number family → family_at tables number ≡ Some family
 has_family tables number family has = ap (λ o. option_map (λ t. t.1) o) has.1 ∙ ap (λ f. Some f) has.2
@@ -64,23 +76,108 @@ module _ (itself : (pipes : List Joint) (a : ℕ) → joined pipes a a ≡ true)
       next_fit before number p.name p.body more fit.0 apart (λ behind later. protocols_fit behind (number + 1) more fit.1 later)
 
 -- the main tables are there
-some_tables : (text : List ℕ) (system : System) → IsSystem text system → 1 ≤ length system.tables
+some_tables : (text : List ℕ) (system : System) → IsSystem text system → 2 ≤ length system.tables
 unfolding system_in
 some_tables text system is =
     let first = masters_first text is.0 in
     let count = ap length first.1 in
-    let some : 1 ≤ length (behind (at_start text) is.0).tables = omega (arith, count) in
-    subst (λ (s : System). 1 ≤ length s.tables) (sym is.2) some
+    let some : 2 ≤ length (behind (at_start text) is.0).tables = omega (arith, count) in
+    subst (λ (s : System). 2 ≤ length s.tables) (sym is.2) some
 
-pub playable : ((pipes : List Joint) (a : ℕ) → joined pipes a a ≡ true)
-    → ((text : List ℕ) (system : System) → IsSystem text system → AllFit system.tables system.protocols)
-    → ((text : List ℕ) (system : System) → IsSystem text system → IsForest (pipes_of system.protocols))
-    → (text : List ℕ) (system : System) → IsSystem text system → (cells : ℕ) → IsSetup (setup_of system cells)
-unfolding setup_of
-playable itself there forest text system is cells = record {
-  tables = some_tables text system is;
-  protocols = protocols_fit itself system.tables [] 0 system.protocols (there text system is) (forest text system is);
+-- ---- the tables that scripts know
+
+table_there : (tables : Tables) (body : Body) → BodyFits tables body → table_of body < length tables
+table_there tables (IsStatic p) fits = slice_get_within tables p.channel.table fits.0 fits.1
+table_there tables (IsBgp p) fits = slice_get_within tables p.channel.table fits.0 fits.1
+table_there tables (IsPipe p) fits = slice_get_within tables p.table fits.0.0 fits.0.1
+
+tables_there : (tables : Tables) (ps : List Protocol) → AllFit tables ps → All (λ (p : NamedProtocol). p.table < length (map named_table tables)) (map named_protocol ps)
+tables_there tables [] fit = All-nil (λ (p : NamedProtocol). p.table < length (map named_table tables))
+tables_there tables (p ∷ more) fit =
+    All-cons (λ (q : NamedProtocol). q.table < length (map named_table tables)) (named_protocol p) (map named_protocol more)
+    (omega (arith, table_there tables p.body fit.0, length-map tables named_table)) (tables_there tables more fit.1)
+
+pub have_tables : ((text : List ℕ) (system : System) → IsSystem text system → AllFit system.tables system.protocols) → (text : List ℕ) (system : System) → IsSystem text system → HasTables (named_of system)
+unfolding named_of
+have_tables there text system is = record {
+  masters = omega (arith, some_tables text system is, length-map system.tables named_table);
+  protocols = tables_there system.tables system.protocols (there text system is);
 }
+
+-- ---- queries
+
+-- the protocol of a number, as scripts know it and as it is played
+at_both : (first : ℕ) (ps : List Protocol) (number : ℕ) (declared : NamedProtocol) → slice_get (map named_protocol ps) number ≡ Some declared
+    → (p : Protocol) × (declared ≡ named_protocol p) × (slice_get (protocols_from first ps) number ≡ Some (protocol_of (first + number) p))
+at_both first [] number declared is = absurd (none-some declared is)
+at_both first (p ∷ ps) zero declared is = (p, sym (same_Some (named_protocol p) declared is), ap (λ (n : ℕ). Some (protocol_of n p)) (omega arith))
+at_both first (p ∷ ps) (suc number) declared is =
+    let rest = at_both (first + 1) ps number declared is in
+    (rest.0, rest.1, rest.2 ∙ ap (λ (n : ℕ). Some (protocol_of n rest.0)) (omega arith))
+
+exports_from : (number table : ℕ) (body : Body) → is_bgp (kind_of body) ≡ true → table ≡ table_of body → ExportsFrom table (body_of number body)
+exports_from number table (IsStatic p) bgp reads = absurd (true≢false (sym bgp))
+exports_from number table (IsBgp p) bgp reads = (sym reads, refl)
+exports_from number table (IsPipe p) bgp reads = absurd (true≢false (sym bgp))
+
+some_export : (ps : List Protocol) (table : ℕ) (asked : Option ℕ)
+    → IfSome asked (λ number. (number < length (map named_protocol ps)) × (declared : NamedProtocol) × (slice_get (map named_protocol ps) number ≡ Some declared) × (is_bgp declared.kind ≡ true) × (table ≡ declared.table))
+    → IfSome asked (λ number. (p : setup.Protocol) × (slice_get (protocols_from 0 ps) number ≡ Some p) × ExportsFrom table p.body)
+some_export ps table None is = tt
+some_export ps table (Some number) is =
+    let both = at_both 0 ps number is.1 is.2 in
+    let bgp = subst (λ (d : NamedProtocol). is_bgp d.kind ≡ true) both.1 is.3 in
+    (protocol_of (0 + number) both.0, both.2, exports_from (0 + number) table both.0.body bgp (is.4 ∙ ap (λ (d : NamedProtocol). d.table) both.1))
+
+some_below : (asked : Option ℕ) (m n : ℕ) → m ≡ n → IfSome asked (λ number. number < m) → IfSome asked (λ number. number < n)
+some_below asked m n same is = subst (λ (k : ℕ). IfSome asked (λ number. number < k)) same is
+
+from_as_many : (n : ℕ) (ps : List Protocol) → length (protocols_from n ps) ≡ length ps
+from_as_many n [] = refl
+from_as_many n (p ∷ more) = ap (λ (k : ℕ). suc k) (from_as_many (n + 1) more)
+
+fits_query : (system : System) (conditions : List Filter) (query : Query) → AsksWhatIs (named_of system) (length conditions) query → FitsQuery system.tables (protocols_from 0 system.protocols) (choices_of system conditions) query
+unfolding named_of
+fits_query system conditions query asks = record {
+  table = omega (arith, asks.table, length-map system.tables named_table);
+  choice =
+      some_below query.choice (length (map (λ (f : List ℕ × Filter). f.0) system.filters) + length conditions) (length (choices_of system conditions))
+      (omega (arith, length-map system.filters (λ (f : List ℕ × Filter). f.0), length-map system.filters (λ (f : List ℕ × Filter). f.1), length-append (map (λ (f : List ℕ × Filter). f.1) system.filters) conditions))
+      asks.choice;
+  source =
+      some_below query.source (length (map named_protocol system.protocols)) (length (protocols_from 0 system.protocols))
+      (omega (arith, length-map system.protocols named_protocol, from_as_many 0 system.protocols))
+      asks.source;
+  export = some_export system.protocols query.table query.export asks.export;
+}
+
+fit_queries : (system : System) (count : ℕ) (conditions : List Filter) (queries : List Query) → count ≡ length conditions → All (AsksWhatIs (named_of system) count) queries
+    → All (FitsQuery system.tables (protocols_from 0 system.protocols) (choices_of system conditions)) queries
+fit_queries system count conditions queries same all =
+    λ k d below. fits_query system conditions (slice_index_or queries k d) (subst (λ (n : ℕ). AsksWhatIs (named_of system) n (slice_index_or queries k d)) same (all k d below))
+
+-- as many conditions as filters
+asked_count : (system : System) (conditions : List Condition) (filters : List Filter) → AreAsked system conditions filters → length conditions ≡ length filters
+asked_count system [] [] are = refl
+asked_count system [] (f ∷ filters) are = absurd are
+asked_count system (c ∷ more) [] are = absurd are
+asked_count system (c ∷ more) (f ∷ filters) are = ap (λ (k : ℕ). suc k) (asked_count system more filters are.1)
+
+module _ (itself : (pipes : List Joint) (a : ℕ) → joined pipes a a ≡ true)
+    (there : (text : List ℕ) (system : System) → IsSystem text system → AllFit system.tables system.protocols)
+    (forest : (text : List ℕ) (system : System) → IsSystem text system → IsForest (pipes_of system.protocols))
+    (asks : (named : Named) (text : List ℕ) (phases : List (List Line)) (actors : List (List ℕ)) (queries : List Query) (conditions : List Condition)
+    → HasTables named → IsScript named text phases actors queries conditions → All (AsksWhatIs named (length conditions)) queries) where
+  pub playable : (conf text : List ℕ) (system : System) (phases : List (List Line)) (actors : List (List ℕ)) (queries : List Query) (filters : List Filter) (cells : ℕ)
+      → IsSystem conf system → Answers system text (Accepted phases actors queries filters) → IsSetup (setup_of system cells filters queries)
+  unfolding setup_of
+  playable conf text system phases actors queries filters cells is script = record {
+    tables = omega (arith, some_tables conf system is);
+    protocols = protocols_fit itself system.tables [] 0 system.protocols (there conf system is) (forest conf system is);
+    queries =
+        fit_queries system (length script.conditions) filters queries (asked_count system script.conditions filters script.asked)
+        (asks (named_of system) text phases actors queries script.conditions (have_tables there conf system is) script.lines_are);
+  }
 
 -- ---- kinds
 
@@ -95,7 +192,7 @@ kinds_fit tables number [] fit = tt
 kinds_fit tables number (p ∷ more) fit = (body_kind tables number p.body fit.0, kinds_fit tables (number + 1) more fit.1)
 
 pub kinds_are : ((text : List ℕ) (system : System) → IsSystem text system → AllFit system.tables system.protocols)
-    → (text : List ℕ) (system : System) → IsSystem text system → (cells : ℕ)
-    → Pairs (λ i (named : NamedProtocol) (p : setup.Protocol). IsKindOf (setup_of system cells).tables named.kind p.body) 0 (named_of system).protocols (setup_of system cells).protocols
+    → (text : List ℕ) (system : System) → IsSystem text system → (cells : ℕ) (filters : List Filter) (queries : List Query)
+    → Pairs (λ i (named : NamedProtocol) (p : setup.Protocol). IsKindOf (setup_of system cells filters queries).tables named.kind p.body) 0 (named_of system).protocols (setup_of system cells filters queries).protocols
 unfolding named_of setup_of
-kinds_are there text system is cells = kinds_fit system.tables 0 system.protocols (there text system is)
+kinds_are there text system is cells filters queries = kinds_fit system.tables 0 system.protocols (there text system is)

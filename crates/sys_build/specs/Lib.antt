@@ -1,2 +1,3 @@
 pub mod Setups
 pub mod Names
+pub mod Scripts

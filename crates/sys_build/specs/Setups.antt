@@ -1,8 +1,9 @@
--- What a configuration gives to play (`setup_of`): its tables, and its protocols, each with its
--- number, with what holds for their routes and what their filters say.
+-- What a configuration and a script give to play (`setup_of`): the configuration's tables, and its
+-- protocols, each with its number, with what holds for their routes and what their filters say; and
+-- the script's queries, over the filters by name and the script's conditions.
 -- From: BIRD User's Guide, "Static", "BGP", "Pipe" and "Channel options".
 -- Example: static routes have preference 200; a neighbour in another AS is external.
-use Rattle.std.specs.Prelude.{◌≡◌, ℕ, ◌+◌, Bool, true, false, not, ◌==◌, if◌then◌else◌, List, [], ◌∷◌, map, Option, Some, None, option_map}
+use Rattle.std.specs.Prelude.{◌≡◌, ℕ, ◌+◌, Bool, true, false, not, ◌==◌, if◌then◌else◌, List, [], ◌∷◌, ◌++◌, map, Option, Some, None, option_map}
 use Rattle.bits_ip.specs.declared.address.Addr.{Addr}
 use Rattle.bits_ip.specs.declared.address.Family.{Family}
 use Rattle.attrs.specs.declared.attributes.Dest.{Dest}
@@ -23,6 +24,8 @@ use Rattle.import_core.specs.declared.import_spec.Limit.{Limit}
 use Rattle.protos.specs.Protocols.{bgp_spec, static_spec}
 use Rattle.core_setup.specs.Setup as setup
 use Rattle.core_setup.specs.Setup.{Setup}
+use Rattle.show_route.specs.declared.query.Query.{Query}
+use Rattle.system.specs.Policies.{Filter}
 use Rattle.system.specs.System.{Bgp, Body, IsBgp, IsPipe, IsStatic, Pipe, Protocol, Static, System}
 use Rattle.system.specs.Texts.{IsSystem}
 
@@ -124,12 +127,19 @@ abbrev pub protocols_from : ℕ → List Protocol → List setup.Protocol
 protocols_from number [] = []
 protocols_from number (p ∷ more) = protocol_of number p ∷ protocols_from (number + 1) more
 
--- what a system gives to play, with journals of so many changes
-unfoldable pub setup_of : System → ℕ → Setup
-setup_of system cells = record {
+-- by which filters a query can choose: those by name, then conditions
+abbrev pub choices_of : System → (conditions : List Filter) → List Filter
+choices_of system conditions = map (λ filter. filter.1) system.filters ++ conditions
+
+-- What a system gives to play, with journals of so many changes and a script of these conditions
+-- and queries.
+unfoldable pub setup_of : System → ℕ → (conditions : List Filter) → List Query → Setup
+setup_of system cells conditions queries = record {
   tables = system.tables;
   protocols = protocols_from 0 system.protocols;
   cells = cells;
+  choices = choices_of system conditions;
+  queries = queries;
 }
 
 -- what an accepted configuration comes to; each can be played

@@ -1,58 +1,116 @@
-//! What holds of all that an accepted configuration gives to play, and of what it names.
-ghost use Rattle.std.specs.Prelude.{◌≡◌, ℕ, List, map};
+//! What holds of all that an accepted configuration and a script give to play, and of what is named.
+ghost use Rattle.std.specs.Prelude.{◌≡◌, ◌<◌, ◌≤◌, ◌-◌, ◌^◌, ℕ, List, length, map};
+ghost use Rattle.std.specs.List.{All};
 ghost use Rattle.core_setup.specs.Channels.{Channel, channels};
 ghost use Rattle.core_setup.specs.Pairs.{Pairs};
 ghost use Rattle.core_setup.specs.Setup.{IsSetup, Protocol};
 ghost use Rattle.script_lines.specs.Kinds.{AreFew};
+ghost use Rattle.script_lines.specs.Script.{HasTables, NamesWhatIs};
 ghost use Rattle.script_lines.specs.declared.named.NamedProtocol.{NamedProtocol};
+ghost use Rattle.script_lines.specs.declared.script.Line.{Line};
+ghost use Rattle.show_route.specs.declared.query.Query.{Query};
 ghost use Rattle.sys_build.specs.Names.{IsKindOf, named_of};
+ghost use Rattle.sys_build.specs.Scripts.{Accepted, Answer, Answers};
 ghost use Rattle.sys_build.specs.Setups.{setup_of};
+ghost use Rattle.system.specs.Policies.{Filter};
 ghost use Rattle.system.specs.System.{System};
 ghost use Rattle.system.specs.Texts.{IsSystem};
 
 use conf_rules::laws::joined_tables_are_those_that_pipes_lead_between;
+use script_lines::laws as lines;
 use system::laws::{
-    channels_have_their_tables, configurations_have_few_protocols, pipes_form_a_forest,
+    channels_have_their_tables, conditions_ask_for_one_thing, configurations_have_few_protocols,
+    configurations_have_few_tables_and_filters, each_text_is_a_condition_or_is_refused,
+    pipes_form_a_forest,
 };
 
-/// An accepted configuration can be played: routes tell the numbers of their protocols, each table
-/// that a protocol names is there, each channel is of the family of its table, and a pipe joins two
-/// tables of one family.
-pub fn accepted_configurations_are_setups()
-    ensures { (text : List ℕ) (system : System) → IsSystem text system → (cells : ℕ)
-        → IsSetup (setup_of system cells) }
+/// A text has one answer at most over a system: it is a script, with its queries and what its
+/// conditions ask for, or it is refused, in one line for one reason.
+pub fn a_text_has_one_answer()
+    ensures { (system : System) (text : List ℕ) (a b : Answer)
+        → Answers system text a → Answers system text b → a ≡ b }
+{
+    lines::a_text_has_one_answer();
+    conditions_ask_for_one_thing();
+}
+
+/// Each text has an answer.
+pub fn each_text_has_an_answer()
+    ensures { (system : System) (text : List ℕ) → length text < 2 ^ 32 - 1
+        → (answer : Answer) × Answers system text answer }
+{
+    lines::each_text_has_an_answer();
+    lines::conditions_are_short();
+    each_text_is_a_condition_or_is_refused();
+}
+
+/// An accepted script over an accepted configuration can be played: routes tell the numbers of their
+/// protocols, each table that a protocol names is there, each channel is of the family of its table,
+/// a pipe joins two tables of one family, and what a query names is there.
+pub fn accepted_scripts_are_setups()
+    ensures { (conf text : List ℕ) (system : System) (phases : List (List Line))
+        (actors : List (List ℕ)) (queries : List Query) (filters : List Filter) (cells : ℕ)
+        → IsSystem conf system → Answers system text (Accepted phases actors queries filters)
+        → IsSetup (setup_of system cells filters queries) }
 {
     joined_tables_are_those_that_pipes_lead_between();
     channels_have_their_tables();
     pipes_form_a_forest();
+    accepted_configurations_have_their_tables();
+    lines::a_script_names_what_is();
+}
+
+/// Each line of an accepted script names what there is, and at most 64 speak.
+pub fn accepted_scripts_name_what_is()
+    ensures lines { (system : System) (text : List ℕ) (phases : List (List Line))
+        (actors : List (List ℕ)) (queries : List Query) (filters : List Filter)
+        → Answers system text (Accepted phases actors queries filters)
+        → All (All (NamesWhatIs (named_of system) actors (length queries))) phases }
+    ensures actors { (system : System) (text : List ℕ) (phases : List (List Line))
+        (actors : List (List ℕ)) (queries : List Query) (filters : List Filter)
+        → Answers system text (Accepted phases actors queries filters) → length actors ≤ 64 }
+{
+    lines::a_script_names_what_is();
 }
 
 /// The numbers by which scripts name protocols and channels are those of the setup, and so those of
 /// its reports.
 pub fn names_count_as_the_setup()
-    ensures protocols { (system : System) (cells : ℕ)
+    ensures protocols { (system : System) (cells : ℕ) (filters : List Filter)
+        (queries : List Query)
         → map (λ (p : NamedProtocol). p.name) (named_of system).protocols
-        ≡ map (λ (p : Protocol). p.name) (setup_of system cells).protocols }
-    ensures channels { (system : System) (cells : ℕ)
-        → (named_of system).channels
-        ≡ map (λ (c : Channel). c.name) (channels (setup_of system cells)) }
+        ≡ map (λ (p : Protocol). p.name) (setup_of system cells filters queries).protocols }
+    ensures channels { (system : System) (cells : ℕ) (filters : List Filter)
+        (queries : List Query) → (named_of system).channels
+        ≡ map (λ (c : Channel). c.name) (channels (setup_of system cells filters queries)) }
 {}
 
 /// Scripts know each protocol of an accepted configuration as what it is, with the family of its
 /// table.
 pub fn kinds_are_those_of_the_setup()
     ensures { (text : List ℕ) (system : System) → IsSystem text system → (cells : ℕ)
-        → Pairs (λ i named p. IsKindOf (setup_of system cells).tables named.kind p.body) 0
-        (named_of system).protocols (setup_of system cells).protocols }
+        (filters : List Filter) (queries : List Query)
+        → Pairs (λ i named p. IsKindOf (setup_of system cells filters queries).tables named.kind
+        p.body) 0 (named_of system).protocols
+        (setup_of system cells filters queries).protocols }
 {
     channels_have_their_tables();
 }
 
 /// What an accepted configuration names is little enough for numbers of 32 bits: it has at most 256
-/// protocols.
+/// protocols and 64 tables, and no more filters than bytes.
 pub fn accepted_configurations_are_few()
-    ensures { (text : List ℕ) (system : System) → IsSystem text system
+    ensures { (text : List ℕ) (system : System) → IsSystem text system → length text < 2 ^ 32
         → AreFew (named_of system) }
 {
     configurations_have_few_protocols();
+    configurations_have_few_tables_and_filters();
+}
+
+/// An accepted configuration has the tables master4 and master6, and those of its protocols.
+pub fn accepted_configurations_have_their_tables()
+    ensures { (text : List ℕ) (system : System) → IsSystem text system
+        → HasTables (named_of system) }
+{
+    channels_have_their_tables();
 }

@@ -1,14 +1,18 @@
 //! What scripts can name of a configuration.
-ghost use Rattle.std.specs.Prelude.{◌≡◌, ◌++◌, ℕ, List, IfOk, OnOk, map};
+ghost use Rattle.std.specs.Prelude.{◌≡◌, ◌<◌, ◌^◌, ◌++◌, ℕ, List, Some, IfOk, OnOk, length, map, slice_get};
+ghost use Rattle.std.specs.List.{All};
+ghost use Rattle.conf_check.specs.declared.checked.ProtocolDef.{ProtocolDef};
+ghost use Rattle.script_lines.specs.Kinds.{AreFew};
+ghost use Rattle.script_lines.specs.Script.{HasTables};
 ghost use Rattle.filt_tree.specs.declared.scope.Scope.{Scope};
 ghost use Rattle.filt_tree.specs.declared.tree.TFilter.{TFilter};
-ghost use Rattle.sys_build.specs.Names.{all_channels, channels_of, kind_of, named_of, named_protocol, pipe_channels};
+ghost use Rattle.sys_build.specs.Names.{all_channels, channels_of, held_table, kind_of, named_of, named_protocol, named_table, pipe_channels, table_of};
 ghost use Rattle.system.specs.Seen.{body_seen, protocol_seen, system_of};
 
 use attrs::Seq;
 use bits_ip::OutOfMemory;
 use conf_check::{ProtocolBody, ProtocolDef};
-use script_lines::{Name, Named, NamedProtocol, ProtocolKind};
+use script_lines::{Name, Named, NamedProtocol, NamedTable, ProtocolKind};
 use std::alloc::Global;
 use system::System;
 
@@ -16,18 +20,25 @@ use system::System;
 ///
 /// `OutOfMemory` comes where memory is refused.
 pub fn named(alloc: Global, system: &System) -> Result<Named, OutOfMemory>
+    requires few { AreFew (named_of (system_of system.now)) }
+    requires tables { HasTables (named_of (system_of system.now)) }
     ensures { IfOk result (λ named. named ≡ named_of (system_of system.now)) }
 {
     let protocols = protocols(alloc, &system.checked.protocols)?;
     let channels = channels(alloc, &system.checked.protocols)?;
+    let tables = tables(alloc, system)?;
+    let filters = filters(alloc, system)?;
     Ok(Named {
         protocols: Seq::from_vec(protocols),
         channels: Seq::from_vec(channels),
+        tables: Seq::from_vec(tables),
+        filters: Seq::from_vec(filters),
     })
 }
 
 /// The protocols in their order.
 fn protocols(alloc: Global, defs: &[ProtocolDef]) -> Result<Vec<NamedProtocol>, OutOfMemory>
+    requires { All (λ (def : ProtocolDef). held_table def.body < 2 ^ 32) defs.now }
     ensures { (scope : Scope) (filters : List TFilter) (names : List (List ℕ))
         → IfOk result (λ named. named.items
         ≡ map named_protocol (map (protocol_seen scope filters names) defs.now)) }
@@ -40,6 +51,7 @@ fn protocols(alloc: Global, defs: &[ProtocolDef]) -> Result<Vec<NamedProtocol>, 
 }
 
 fn protocol(alloc: Global, def: &ProtocolDef) -> Result<NamedProtocol, OutOfMemory>
+    requires { held_table def.now.body < 2 ^ 32 }
     ensures { (scope : Scope) (filters : List TFilter) (names : List (List ℕ))
         → IfOk result (λ named. named
         ≡ named_protocol (protocol_seen scope filters names def.now)) }
@@ -47,7 +59,21 @@ fn protocol(alloc: Global, def: &ProtocolDef) -> Result<NamedProtocol, OutOfMemo
     Ok(NamedProtocol {
         name: Name::new(alloc, def.name.as_slice())?,
         kind: kind_of(&def.body),
+        table: table_of(&def.body),
     })
+}
+
+/// The number of the table of the protocol's channel, of a pipe that of the primary table.
+fn table_of(body: &ProtocolBody) -> u32
+    requires { held_table body.now < 2 ^ 32 }
+    ensures { (scope : Scope) (filters : List TFilter) (names : List (List ℕ))
+        → result ≡ table_of (body_seen scope filters names body.now) }
+{
+    match body {
+        ProtocolBody::Static(p) => p.channel.table as u32,
+        ProtocolBody::Bgp(p) => p.channel.table as u32,
+        ProtocolBody::Pipe(p) => p.table as u32,
+    }
 }
 
 fn kind_of(body: &ProtocolBody) -> ProtocolKind
@@ -109,4 +135,44 @@ fn joined(alloc: Global, name: &[u8], word: &[u8]) -> Result<Name, OutOfMemory>
     let mut bytes = Vec::from_slice(alloc, name)?;
     bytes.extend_from_slice(word)?;
     Name::new(alloc, &bytes)
+}
+
+/// The tables in their order.
+fn tables(alloc: Global, system: &System) -> Result<Vec<NamedTable>, OutOfMemory>
+    ensures { IfOk result
+        (λ tables. tables.items ≡ map named_table (system_of system.now).tables) }
+{
+    let mut tables = Vec::new(alloc);
+    for number in 0..system.checked.declared.tables.len() {
+        tables.push(table(alloc, system, number)?)?;
+    }
+    Ok(tables)
+}
+
+/// The table of this number.
+fn table(alloc: Global, system: &System, number: usize) -> Result<NamedTable, OutOfMemory>
+    requires { number < length (system_of system.now).tables }
+    ensures { IfOk result (λ table. slice_get (system_of system.now).tables number
+        ≡ Some (table.name, table.family)) }
+{
+    match system.checked.declared.tables.get_index(number) {
+        Some((name, family)) => Ok(NamedTable {
+            name: Name::new(alloc, name)?,
+            family: *family,
+        }),
+        None => unreachable!(),
+    }
+}
+
+/// The names of the filters in their order.
+fn filters(alloc: Global, system: &System) -> Result<Vec<Name>, OutOfMemory>
+    ensures { IfOk result (λ filters. filters.items
+        ≡ map (λ filter. filter.0) (system_of system.now).filters) }
+{
+    let mut filters = Vec::new(alloc);
+    for number in 0..system.filter_count() {
+        let name = Name::new(alloc, system.filter_name(number))?;
+        filters.push(name)?;
+    }
+    Ok(filters)
 }

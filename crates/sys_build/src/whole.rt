@@ -1,36 +1,45 @@
 //! The core of a configuration.
-ghost use Rattle.std.specs.Prelude.{◌≡◌, ℕ, [], List, IfOk};
+ghost use Rattle.std.specs.Prelude.{◌≡◌, ℕ, [], List, IfOk, map};
+ghost use Rattle.core_setup.specs.Setup.{IsSetup};
 ghost use Rattle.sys_run.specs.Playing.{HasPlayed};
 ghost use Rattle.sys_build.specs.Setups.{IsPlayable, setup_of};
-ghost use Rattle.system.specs.Seen.{system_of};
+ghost use Rattle.system.specs.Seen.{filter_says, system_of};
 
-use crate::laws::accepted_configurations_are_setups;
+use crate::choices::choices;
 use crate::protocols::protocols;
 use crate::tables::tables;
 use attrs::Judge;
 use bits_ip::OutOfMemory;
+use filt_tree::TFilter;
+use show_route::Query;
 use std::alloc::Global;
 use sys_run::Core;
 use system::laws::configurations_have_few_protocols;
 use system::{Passes, System};
 
-/// The core of an accepted configuration, which has played nothing. The journal of each table holds
-/// so many changes.
+/// The core of an accepted configuration, which has played nothing, for a script of these
+/// conditions and queries. The journal of each table holds so many changes.
 ///
 /// `OutOfMemory` comes where memory is refused.
 pub fn build<'a>(
     alloc: Global,
     system: &'a System,
+    conditions: &'a [TFilter],
+    queries: Vec<Query>,
     cells: u32,
 ) -> Result<Core<Passes<'a>>, OutOfMemory>
-    requires { IsPlayable (system_of system.now) }
+    requires playable { IsPlayable (system_of system.now) }
+    requires setup { IsSetup (setup_of (system_of system.now) cells
+        (map (filter_says system.now) conditions.now) queries.items) }
     ensures { IfOk result (λ core. (actors : List (List ℕ))
-        → HasPlayed (⟦<Passes<'a> as Judge>⟧.verdict) (setup_of (system_of system.now) cells)
+        → HasPlayed (⟦<Passes<'a> as Judge>⟧.verdict)
+        (setup_of (system_of system.now) cells
+        (map (filter_says system.now) conditions.now) queries.items)
         actors [] [] core) }
 {
-    accepted_configurations_are_setups();
     configurations_have_few_protocols();
     let tables = tables(alloc, system)?;
     let protocols = protocols(alloc, system)?;
-    Core::make(alloc, cells, tables, protocols)
+    let choices = choices(alloc, system, conditions)?;
+    Core::make(alloc, cells, tables, protocols, choices, queries)
 }

@@ -1,8 +1,8 @@
-use Rattle.std.proofs.Common.{[], subst, sym}
+use Rattle.std.proofs.Common.{[], subst, sym, map}
 use Rattle.std.proofs.lemmas.Result.{IfOk-weaker}
 use Rattle.core_setup.specs.Setup.{IsSetup}
 use Rattle.system.specs.contracts.passes.PassesJudge.TheImpl as passes
-use Rattle.system.specs.Seen.{system_of}
+use Rattle.system.specs.Seen.{filter_says, system_of}
 use Rattle.sys_run.specs.Playing.{HasPlayed}
 use Rattle.sys_run.specs.Parts.{protocol_seen}
 use Rattle.sys_build.proofs.Few.{parts_few}
@@ -10,20 +10,21 @@ use Rattle.sys_build.proofs.Handed.{handed}
 use Rattle.sys_build.proofs.whole.build.Goals as goal
 
 pub protocols-requires : goal.protocols-requires
-protocols-requires c = c.configurations_have_few_protocols.ensures c.requires.0 (system_of c.args.system.now) c.requires.1
+protocols-requires c = c.configurations_have_few_protocols.ensures c.requires.playable.0 (system_of c.args.system.now) c.requires.playable.1
 
 pub make-requires-clause-few : goal.make-requires-clause-few
 make-requires-clause-few c =
     let system = system_of c.args.system.now in
     parts_few (protocol_seen (passes.ghosts).verdict) c.in_ok-protocols.protocols.items system.protocols c.in_ok-protocols.ensures
-    (c.configurations_have_few_protocols.ensures c.requires.0 system c.requires.1)
+    (c.configurations_have_few_protocols.ensures c.requires.playable.0 system c.requires.playable.1)
 
 pub make-requires-clause-setup : goal.make-requires-clause-setup
 make-requires-clause-setup c =
     let system = system_of c.args.system.now in
     subst IsSetup
-    (sym (handed (passes.ghosts).verdict c.in_ok-tables.tables.items c.in_ok-protocols.protocols.items system c.args.cells c.in_ok-tables.ensures c.in_ok-protocols.ensures))
-    (c.accepted_configurations_are_setups.ensures c.requires.0 system c.requires.1 c.args.cells)
+    (sym (handed (passes.ghosts).verdict c.in_ok-tables.tables.items c.in_ok-protocols.protocols.items c.in_ok-choices.choices.items system c.args.cells (map (filter_says c.args.system.now) c.args.conditions.now) c.args.queries.items
+    c.in_ok-tables.ensures c.in_ok-protocols.ensures c.in_ok-choices.ensures))
+    c.requires.setup
 
 pub returns : goal.returns
 returns c =
@@ -31,6 +32,7 @@ returns c =
     IfOk-weaker c.make.result _ _
     (λ core made actors.
     subst (λ s. HasPlayed verdict s actors [] [] core)
-    (handed verdict c.in_ok-tables.tables.items c.in_ok-protocols.protocols.items (system_of c.args.system.now) c.args.cells c.in_ok-tables.ensures c.in_ok-protocols.ensures)
+    (handed verdict c.in_ok-tables.tables.items c.in_ok-protocols.protocols.items c.in_ok-choices.choices.items (system_of c.args.system.now) c.args.cells (map (filter_says c.args.system.now) c.args.conditions.now) c.args.queries.items
+    c.in_ok-tables.ensures c.in_ok-protocols.ensures c.in_ok-choices.ensures)
     (made actors))
     c.make.ensures

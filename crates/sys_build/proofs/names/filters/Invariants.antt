@@ -1,0 +1,7 @@
+use Rattle.std.proofs.Common.{◌≡◌, ℕ, List, map, take}
+use Rattle.system.specs.Policies.{Filter}
+use Rattle.system.specs.Seen.{system_of}
+use Rattle.sys_build.proofs.names.filters.Given as goal
+
+abbrev pub invariant-loop-number : goal.invariant-loop-number
+invariant-loop-number l = l.filters.items ≡ take l.number (map (λ (f : List ℕ × Filter). f.0) (system_of l.system).filters)

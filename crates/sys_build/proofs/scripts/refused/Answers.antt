@@ -1,0 +1,18 @@
+use Rattle.std.proofs.Common.{map}
+use Rattle.script_lines.specs.Script as lines
+use Rattle.system.specs.Seen.{filter_says, system_of}
+use Rattle.sys_build.specs.Scripts.{Accepted, Answers, Tells}
+use Rattle.sys_build.proofs.Judged.{handed_on, told_first, told_words}
+use Rattle.sys_build.proofs.scripts.refused.Goals as goal
+
+pub returns-in_err-_judged : goal.returns-in_err-_judged
+returns-in_err-_judged c =
+    let system = c.args.system.now in
+    let fault = c.in_err-_judged.field-0.0 in
+    handed_on c.from_residual.result fault (λ read. Answers (system_of system) c.args.text.now (Accepted (map (λ phase. phase.items) read.phases.items) read.actors.items read.queries.items (map (filter_says system) read.filters.items))) (Tells (system_of system) c.args.text.now) c.from_residual.ensures.1
+    (told_first (system_of system) c.args.text.now (lines.Refused c.args.line c.args.kind c.args.conditions.now) fault c.requires c.in_err-_judged.ensures)
+
+pub returns : goal.returns
+returns c =
+    let system = c.args.system.now in
+    told_words (system_of system) c.args.text.now c.args.line c.args.kind c.args.conditions.now (map (filter_says system) c.in_ok-_judged._judged.items) c.requires c.in_ok-_judged.ensures
