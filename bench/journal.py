@@ -6,10 +6,11 @@
 It builds a program over copies of the repository's crates, with what `rt check` kept in crates/table_shared_tests and
 crates/jour_tests and below, and wants rustc and valgrind. Each figure is the work of COUNT entries (by
 default 200,000), found as the difference between two runs: instructions as callgrind counts them, and the shortest of
-five runs in seconds of a processor.
+forty runs in seconds of a processor, in which all works take turns.
 
 take    an entry of 13 words is taken by `Cursor::next` and `advance`, in turns of a thousand, beside an unproved ring
-        of atomic words and a queue under a lock. The bar is twice the ring.
+        of atomic words; the last of its words is read. The bar is twice the ring.
+read    the same, and all its words are added up; also beside a queue under a lock.
 update  a table of 100,000 nets has one of their routes changed (a BGP route with a path of four numbers), by
         `Table::update`, beside the same change of the table that a core plays on. The bar is 1.5 times that.
 race    two threads enter COUNT changes each into a table of 4,096 cells, and two cursors take all; what each read is
@@ -27,7 +28,7 @@ import time
 TOP = pathlib.Path(__file__).resolve().parent.parent
 COUNT = 200_000
 NETS = 100_000
-RUNS = 5
+RUNS = 40
 
 CRATES = "table_shared_tests jour_tests table_shared rec_words rib attrs bits_ip jour jour_rule keyed_lock outside_io atomic_table"
 
@@ -102,40 +103,65 @@ fn entry(number: u64) -> Buf {
     words
 }
 
-fn take(cursor: &mut Reader, words: &mut Buf) {
-    let Some(_) = cursor.next(words) else {
-        return;
-    };
-    cursor.advance();
+fn sum_of(words: &[u64]) -> u64 {
+    let mut sum = 0u64;
+    for word in words {
+        sum = sum.wrapping_add(*word);
+    }
+    sum
 }
 
-fn take_turn(cursor: &mut Option<Reader>) {
-    let mut words = Buf::new();
-    if let Some(cursor) = cursor.as_mut() {
-        for _ in 0..1000u32 {
-            take(cursor, &mut words);
-        }
+fn last_of(words: &[u64]) -> u64 {
+    match words.last() {
+        Some(word) => *word,
+        None => 0,
     }
 }
 
-/// Appends so many entries over 1,024 cells, and takes them in turns of a thousand.
-fn append_and_take(alloc: Global, count: u32, cursors: u32) -> Result<u32, OutOfMemory>
+/// Takes the next entry, and reads all its words or the last.
+fn take(cursor: &mut Reader, words: &mut Buf, all: bool) -> u64 {
+    let Some(_) = cursor.next(words) else {
+        return 0;
+    };
+    cursor.advance();
+    if all {
+        sum_of(words.words())
+    } else {
+        last_of(words.words())
+    }
+}
+
+/// What a thousand entries add up to.
+fn take_turn(cursor: &mut Option<Reader>, all: bool) -> u64 {
+    let mut words = Buf::new();
+    let mut sum = 0u64;
+    if let Some(cursor) = cursor.as_mut() {
+        for _ in 0..1000u32 {
+            sum = sum.wrapping_add(take(cursor, &mut words, all));
+        }
+    }
+    sum
+}
+
+/// Appends so many entries over 1,024 cells, and takes them in turns of a thousand. Answers what
+/// the words that were read add up to.
+fn append_and_take(alloc: Global, count: u32, cursors: u32, all: bool) -> Result<u64, OutOfMemory>
     requires { cursors ≤ 512 }
 {
     let Some((mut journal, mut closed)) = Journal::open(alloc, 1024, cursors)? else {
         return Ok(0);
     };
     let mut cursor = journal.start_one(&mut closed);
-    let mut done = 0u32;
+    let mut sum = 0u64;
     for number in 0..count {
-        if journal.put(entry(u64::from(number)).words()).is_ok() {
-            done = done.wrapping_add(1);
+        if journal.put(entry(u64::from(number)).words()).is_err() {
+            break;
         }
         if number % 1000 == 999 {
-            take_turn(&mut cursor);
+            sum = sum.wrapping_add(take_turn(&mut cursor, all));
         }
     }
-    Ok(done)
+    Ok(sum)
 }
 
 /// Which of 100,000 nets is changed next: all of them, in a scattered order.
@@ -145,8 +171,8 @@ fn place(number: u32) -> u32
     (u64::from(number) * 7919 % 100_000) as u32
 }
 
-fn make(alloc: Global, count: u32) -> Result<u32, OutOfMemory> {
-    let mut done = 0u32;
+fn make(alloc: Global, count: u32) -> Result<u64, OutOfMemory> {
+    let mut done = 0u64;
     for number in 0..count {
         let Ok(net) = numbered_net(place(number)) else {
             break;
@@ -159,12 +185,12 @@ fn make(alloc: Global, count: u32) -> Result<u32, OutOfMemory> {
     Ok(done)
 }
 
-fn change_plain(alloc: Global, count: u32) -> Result<u32, OutOfMemory> {
+fn change_plain(alloc: Global, count: u32) -> Result<u64, OutOfMemory> {
     let mut table = Plain {
         rib: Rib::make(alloc, Family::V4),
         entries: Vec::new(alloc),
     };
-    let mut done = 0u32;
+    let mut done = 0u64;
     for number in 0..count {
         let Ok(net) = numbered_net(place(number)) else {
             break;
@@ -176,11 +202,11 @@ fn change_plain(alloc: Global, count: u32) -> Result<u32, OutOfMemory> {
     Ok(done)
 }
 
-fn update<R: Wait>(rt: &R, alloc: Global, count: u32) -> Result<u32, OutOfMemory> {
+fn update<R: Wait>(rt: &R, alloc: Global, count: u32) -> Result<u64, OutOfMemory> {
     let Some(mut bench) = Bench::open(alloc, 4096, 0)? else {
         return Ok(0);
     };
-    let mut done = 0u32;
+    let mut done = 0u64;
     for number in 0..count {
         let Ok(net) = numbered_net(place(number)) else {
             break;
@@ -195,7 +221,7 @@ fn update<R: Wait>(rt: &R, alloc: Global, count: u32) -> Result<u32, OutOfMemory
     Ok(done)
 }
 
-fn run_race<R: Threads + Wait + Sync>(rt: &R, alloc: Global, count: u32) -> Result<u32, OutOfMemory> {
+fn run_race<R: Threads + Wait + Sync>(rt: &R, alloc: Global, count: u32) -> Result<u64, OutOfMemory> {
     let Some(race) = Race::open(alloc, 4096)? else {
         return Ok(0);
     };
@@ -206,7 +232,7 @@ fn run_race<R: Threads + Wait + Sync>(rt: &R, alloc: Global, count: u32) -> Resu
         && raced.left == raced.history
         && raced.right == raced.history
     {
-        Ok(count)
+        Ok(u64::from(count))
     } else {
         Ok(0)
     }
@@ -217,12 +243,15 @@ fn work<R: Threads + Wait + Sync>(
     alloc: Global,
     mode: &str,
     count: u32,
-) -> Result<u32, OutOfMemory> {
+) -> Result<u64, OutOfMemory> {
     if mode == "append" {
-        return append_and_take(alloc, count, 0);
+        return append_and_take(alloc, count, 0, false);
     }
     if mode == "take" {
-        return append_and_take(alloc, count, 1);
+        return append_and_take(alloc, count, 1, false);
+    }
+    if mode == "read" {
+        return append_and_take(alloc, count, 1, true);
     }
     if mode == "make" {
         return make(alloc, count);
@@ -294,12 +323,18 @@ def seconds(program, work, count):
     return after.ru_utime + after.ru_stime - before.ru_utime - before.ru_stime
 
 
-def each(program, work, start, count):
-    """The instructions and the nanoseconds of one entry."""
-    counted = instructions(program, work, start + count) - instructions(program, work, start)
-    few = min(seconds(program, work, start) for _ in range(RUNS))
-    many = min(seconds(program, work, start + count) for _ in range(RUNS))
-    return counted / count, (many - few) * 1e9 / count
+def each(works, count):
+    """The instructions and the nanoseconds of one entry of each work: a program, a word and where it starts."""
+    counted = {}
+    times = {}
+    for name, (program, work, start) in works.items():
+        counted[name] = instructions(program, work, start + count) - instructions(program, work, start)
+        times[name] = [], []
+    for _ in range(RUNS):
+        for name, (program, work, start) in works.items():
+            times[name][0].append(seconds(program, work, start))
+            times[name][1].append(seconds(program, work, start + count))
+    return {name: (counted[name] / count, (min(many) - min(few)) * 1e9 / count) for name, (few, many) in times.items()}
 
 
 def row(name, figures, bar=None):
@@ -326,17 +361,20 @@ def main():
     with tempfile.TemporaryDirectory() as name:
         program, plain = build(pathlib.Path(name))
         print(f"{'each':34} {'instructions':>12} {'ns':>10} {'of the bar':>12} {'':>10}")
-        ring = less(each(plain, "take", 0, count), each(plain, "append", 0, count))
-        queue = less(each(plain, "mutex-take", 0, count), each(plain, "mutex-append", 0, count))
-        ours = less(each(program, "take", 0, count), each(program, "append", 0, count))
-        row("take, unproved ring", ring)
-        row("take, queue under a lock", queue)
-        row("take, cursor", ours, ring)
-        made = each(program, "make", NETS, count)
-        today = less(each(program, "plain", NETS, count), made)
-        shared = less(each(program, "update", NETS, count), made)
+        works = {name: (plain, name, 0) for name in ["append", "take", "read", "mutex-append", "mutex-read"]}
+        works |= {name: (program, name.removeprefix("our-"), 0) for name in ["our-append", "our-take", "our-read"]}
+        works |= {name: (program, name, NETS) for name in ["make", "plain", "update"]}
+        found = each(works, count)
+        row("append, unproved ring", found["append"])
+        row("append, journal", found["our-append"], found["append"])
+        for work in ["take", "read"]:
+            ring = less(found[work], found["append"])
+            row(f"{work}, unproved ring", ring)
+            row(f"{work}, cursor", less(found["our-" + work], found["our-append"]), ring)
+        row("read, queue under a lock", less(found["mutex-read"], found["mutex-append"]))
+        today = less(found["plain"], found["make"])
         row("change, plain table", today)
-        row("update, shared table", shared, today)
+        row("update, shared table", less(found["update"], found["make"]), today)
         for label, which, work in [("ring", plain, "two"), ("queue", plain, "mutex-two"), ("race", program, "race")]:
             taken, told = clock(which, work, count)
             print(f"{label:34} {taken:12.2f} s {told}", flush=True)

@@ -1,5 +1,6 @@
 //! What bench/journal.py measures the proved journal beside: an unproved ring of atomic words in the same cells, and a
-//! queue under a lock. Each appends entries of 13 words, and takes them in turns of a thousand or on a second thread.
+//! queue under a lock. Each appends entries of 13 words, and takes them in turns of a thousand, of which it
+//! adds up all words or the last ones, or on a second thread.
 
 use std::collections::VecDeque;
 use std::hint::black_box;
@@ -95,35 +96,56 @@ fn entry(number: u64) -> [u64; WORDS] {
     words
 }
 
-fn ring(count: u64, takes: bool) {
+fn sum_of(words: &[u64]) -> u64 {
+    words.iter().fold(0, |sum, word| sum.wrapping_add(*word))
+}
+
+fn next_of(queue: &Mutex<VecDeque<[u64; WORDS]>>) -> Option<[u64; WORDS]> {
+    queue.lock().unwrap().pop_front()
+}
+
+fn last_of(words: &[u64]) -> u64 {
+    words.last().copied().unwrap_or(0)
+}
+
+fn ring(count: u64, read: Option<impl Fn(&[u64]) -> u64>) {
     let ring = Ring::new();
+    black_box(&ring);
     let mut writer = Writer { ring: &ring, head: 0, low: 0 };
     let mut reader = Reader { ring: &ring, position: 0, known: 0 };
     let mut words = [0; CELL];
+    let mut sum = 0u64;
     for turn in 0..count / TURN {
         for number in 0..TURN {
             black_box(writer.append(&entry(turn * TURN + number)));
         }
-        if takes {
-            while black_box(reader.take(&mut words)).is_some() {}
+        if let Some(read) = &read {
+            while let Some(taken) = reader.take(&mut words) {
+                sum = sum.wrapping_add(read(&words[..taken]));
+            }
         } else {
             writer.forget_reader();
         }
     }
+    println!("{sum}");
 }
 
 fn mutex(count: u64, takes: bool) {
     let queue = Mutex::new(VecDeque::new());
+    let mut sum = 0u64;
     for turn in 0..count / TURN {
         for number in 0..TURN {
             queue.lock().unwrap().push_back(entry(turn * TURN + number));
         }
         if takes {
-            while black_box(queue.lock().unwrap().pop_front()).is_some() {}
+            while let Some(words) = next_of(&queue) {
+                sum = sum.wrapping_add(sum_of(&words));
+            }
         } else {
             queue.lock().unwrap().clear();
         }
     }
+    println!("{sum}");
 }
 
 fn ring_of_two(count: u64) {
@@ -169,10 +191,11 @@ fn main() {
     let words: Vec<String> = std::env::args().collect();
     let count = words[2].parse().unwrap();
     match words[1].as_str() {
-        "append" => ring(count, false),
-        "take" => ring(count, true),
+        "append" => ring(count, None::<fn(&[u64]) -> u64>),
+        "take" => ring(count, Some(last_of)),
+        "read" => ring(count, Some(sum_of)),
         "mutex-append" => mutex(count, false),
-        "mutex-take" => mutex(count, true),
+        "mutex-read" => mutex(count, true),
         "two" => ring_of_two(count),
         "mutex-two" => mutex_of_two(count),
         _ => panic!("no such work"),
