@@ -3,7 +3,7 @@
 -- leads to. The variables are the frame of the meaning of filters, whose forms stand here too; the
 -- operands lie apart, the one on top first.
 -- Nothing is to be believed of it: what compiled filters say is tied to the meaning of their sources.
-use Rattle.std.specs.Prelude.{ℕ, suc, zero, Bool, true, false, not, List, [], ◌∷◌, ◌++◌, length, map, take, drop, reverse, Option, Some, None, Result, Ok, slice_get}
+use Rattle.std.specs.Prelude.{ℕ, suc, zero, ◌-◌, Bool, true, false, not, List, [], ◌∷◌, ◌++◌, length, map, take, drop, reverse, Option, Some, None, Result, Ok, slice_get}
 use Rattle.attrs.specs.declared.attributes.Attrs.{Attrs}
 use Rattle.attrs.specs.declared.judge.Verdict.{Verdict}
 use Rattle.conf_ast.specs.declared.filters.LogicalOp.{LogicalOp}
@@ -96,7 +96,7 @@ effect around (effects.Assign a) vals os attrs =
     with_one (λ v os attrs. over os (set_attributes vals (with_attribute a v attrs) attrs)) os attrs
 effect around (effects.Unset a) vals os attrs = over os (unset a vals attrs)
 effect around (effects.Declare sort) vals os attrs = Done (vals ++ default_of sort ∷ [], os) attrs
-effect around (effects.Leave depth) vals os attrs = Done (take depth vals, os) attrs
+effect around (effects.Leave n) vals os attrs = Done (take (length vals - n) vals, os) attrs
 
 -- ---- jumps
 

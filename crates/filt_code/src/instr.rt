@@ -51,7 +51,7 @@ pub enum Effect<'a> {
     Unset(Attribute),
     /// One variable more, without a value.
     Declare(Sort),
-    /// The variables behind so many are gone.
+    /// So many of the last variables are gone.
     Leave(usize),
 }
 

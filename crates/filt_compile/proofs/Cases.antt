@@ -28,8 +28,8 @@ grows_same old = record { code = []; grows = refl }
 pub grows_by : (old mid new : List Instr) → Grows old mid → Grows mid new → Grows old new
 grows_by old mid new p q = record { code = q.code ++ p.code; grows = further new mid old q.code p.code q.grows p.grows }
 
-target_grows : (seen : Seen) (depth : ℕ) (run : Tables → Act) (start : ℕ) (old mid new : List Instr) → Grows mid new → Target seen depth run start old mid → Target seen depth run start old new
-target_grows seen depth run start old mid new g p = record {
+target_grows : (seen : Seen) (run : Tables → Act) (start : ℕ) (old mid new : List Instr) → Grows mid new → Target seen run start old mid → Target seen run start old new
+target_grows seen run start old mid new g p = record {
   front = g.code ++ p.front;
   back = p.back;
   is = further new mid p.back g.code p.front g.grows p.is;
@@ -38,47 +38,47 @@ target_grows seen depth run start old mid new g p = record {
   keeps = p.keeps;
 }
 
-pub targets_grow : (seen : Seen) (depth : ℕ) (old mid new : List Instr) (rows : List (TArm TStmt)) (starts : List ℕ) → Grows mid new → Targets seen depth old mid rows starts → Targets seen depth old new rows starts
-targets_grow seen depth old mid new [] [] g p = tt
-targets_grow seen depth old mid new [] (start ∷ starts) g p = absurd p
-targets_grow seen depth old mid new (a ∷ rows) [] g p = absurd p
-targets_grow seen depth old mid new (a ∷ rows) (start ∷ starts) g p = (target_grows seen depth (λ t. trees.body t a.body.items) start old mid new g p.0, targets_grow seen depth old mid new rows starts g p.1)
+pub targets_grow : (seen : Seen) (old mid new : List Instr) (rows : List (TArm TStmt)) (starts : List ℕ) → Grows mid new → Targets seen old mid rows starts → Targets seen old new rows starts
+targets_grow seen old mid new [] [] g p = tt
+targets_grow seen old mid new [] (start ∷ starts) g p = absurd p
+targets_grow seen old mid new (a ∷ rows) [] g p = absurd p
+targets_grow seen old mid new (a ∷ rows) (start ∷ starts) g p = (target_grows seen (λ t. trees.body t a.body.items) start old mid new g p.0, targets_grow seen old mid new rows starts g p.1)
 
-targets_push : (seen : Seen) (depth : ℕ) (old new : List Instr) (rows : List (TArm TStmt)) (starts : List ℕ) (a : TArm TStmt) (start : ℕ) → Targets seen depth old new rows starts → Target seen depth (λ t. trees.body t a.body.items) start old new → Targets seen depth old new (rows ++ a ∷ []) (starts ++ start ∷ [])
-targets_push seen depth old new [] [] a start p q = (q, tt)
-targets_push seen depth old new [] (x ∷ starts) a start p q = absurd p
-targets_push seen depth old new (b ∷ rows) [] a start p q = absurd p
-targets_push seen depth old new (b ∷ rows) (x ∷ starts) a start p q = (p.0, targets_push seen depth old new rows starts a start p.1 q)
+targets_push : (seen : Seen) (old new : List Instr) (rows : List (TArm TStmt)) (starts : List ℕ) (a : TArm TStmt) (start : ℕ) → Targets seen old new rows starts → Target seen (λ t. trees.body t a.body.items) start old new → Targets seen old new (rows ++ a ∷ []) (starts ++ start ∷ [])
+targets_push seen old new [] [] a start p q = (q, tt)
+targets_push seen old new [] (x ∷ starts) a start p q = absurd p
+targets_push seen old new (b ∷ rows) [] a start p q = absurd p
+targets_push seen old new (b ∷ rows) (x ∷ starts) a start p q = (p.0, targets_push seen old new rows starts a start p.1 q)
 
 -- a jump to a place
-pub target_means : (seen : Seen) (depth : ℕ) (run : Tables → Act) (start n : ℕ) (old new : List Instr) → Target seen depth run start old new → n ≡ length new - start → (s : Setting) → length s.functions ≡ seen.functions → (vals : Frame) (attrs : Attrs) → length vals ≡ depth → mean s new n vals [] attrs ≡ and_then (run (tables_of seen s) vals attrs) (λ after attrs. mean s old 0 after [] attrs)
-target_means seen depth run start n old new p far s few vals attrs long = passed_by s new p.front p.back n vals [] attrs p.is (omega (arith, far, p.far)) ∙ p.means s few vals attrs long
+pub target_means : (seen : Seen) (run : Tables → Act) (start n : ℕ) (old new : List Instr) → Target seen run start old new → n ≡ length new - start → (s : Setting) → length s.functions ≡ seen.functions → (vals : Frame) (attrs : Attrs) → mean s new n vals [] attrs ≡ and_then (run (tables_of seen s) vals attrs) (λ after attrs. mean s old 0 after [] attrs)
+target_means seen run start n old new p far s few vals attrs = passed_by s new p.front p.back n vals [] attrs p.is (omega (arith, far, p.far)) ∙ p.means s few vals attrs
 
 jump_then : (s : Setting) (flow : Flow Frame) (n : ℕ) (old mid front : List Instr) → front ≡ instrs.Jump n ∷ mid → ((after : Frame) (attrs : Attrs) → mean s mid n after [] attrs ≡ mean s old 0 after [] attrs) → and_then flow (λ after attrs. mean s front 0 after [] attrs) ≡ and_then flow (λ after attrs. mean s old 0 after [] attrs)
 jump_then s (Done after attrs) n old mid front is same = ap (λ (code : List Instr). mean s code 0 after [] attrs) is ∙ same after attrs
 jump_then s (Stopped why attrs) n old mid front is same = refl
 
-pub bodies_more : (seen : Seen) (depth k start : ℕ) (rows more : List (TArm TStmt)) (starts ends : List ℕ) (a : TArm TStmt) (ss : List TStmt) (old mid out b new : List Instr) → more ≡ rows ++ a ∷ [] → ends ≡ starts ++ start ∷ [] → ss ≡ a.body.items → Grows old mid → Bodies seen depth rows starts old mid out → k ≡ length out - length old → b ≡ instrs.Jump k ∷ out → Acts seen depth (λ t. trees.body t ss) b new → start ≡ length new → Bodies seen depth more ends old mid new
-bodies_more seen depth k start rows more starts ends a ss old mid out b new two three same g p far is q long =
+pub bodies_more : (seen : Seen) (k start : ℕ) (rows more : List (TArm TStmt)) (starts ends : List ℕ) (a : TArm TStmt) (ss : List TStmt) (old mid out b new : List Instr) → more ≡ rows ++ a ∷ [] → ends ≡ starts ++ start ∷ [] → ss ≡ a.body.items → Grows old mid → Bodies seen rows starts old mid out → k ≡ length out - length old → b ≡ instrs.Jump k ∷ out → Acts seen (λ t. trees.body t ss) b new → start ≡ length new → Bodies seen more ends old mid new
+bodies_more seen k start rows more starts ends a ss old mid out b new two three same g p far is q long =
     rw (two, three) (record {
       front = grows_by mid out new p.front (grows_by out b new (record { code = instrs.Jump k ∷ []; grows = is }) (record { code = q.code; grows = q.grows }));
-      targets = targets_push seen depth old new rows starts a start
-          (targets_grow seen depth old out new rows starts (grows_by out b new (record { code = instrs.Jump k ∷ []; grows = is }) (record { code = q.code; grows = q.grows })) p.targets)
+      targets = targets_push seen old new rows starts a start
+          (targets_grow seen old out new rows starts (grows_by out b new (record { code = instrs.Jump k ∷ []; grows = is }) (record { code = q.code; grows = q.grows })) p.targets)
           (record {
             front = [];
             back = new;
             is = refl;
             far = long;
-            means = λ s few vals attrs deep. q.means s few vals attrs deep ∙ jump_then s (trees.body (tables_of seen s) ss vals attrs) k old out b is (λ after attrs. passed_by s out (grows_by old mid out g p.front).code old k after [] attrs (grows_by old mid out g p.front).grows far) ∙ ap (λ (xs : List TStmt). and_then (trees.body (tables_of seen s) xs vals attrs) (λ after attrs. mean s old 0 after [] attrs)) same;
-            keeps = λ t vals attrs deep. leaves_same t vals attrs (q.keeps t vals attrs deep);
+            means = λ s few vals attrs. q.means s few vals attrs ∙ jump_then s (trees.body (tables_of seen s) ss vals attrs) k old out b is (λ after attrs. passed_by s out (grows_by old mid out g p.front).code old k after [] attrs (grows_by old mid out g p.front).grows far) ∙ ap (λ (xs : List TStmt). and_then (trees.body (tables_of seen s) xs vals attrs) (λ after attrs. mean s old 0 after [] attrs)) same;
+            keeps = λ t vals attrs. leaves_same t vals attrs (q.keeps t vals attrs);
           });
     })
   where
-    leaves_same : (t : Tables) (vals : Frame) (attrs : Attrs) → Leaves depth (trees.body t ss vals attrs) → Leaves depth (trees.body t a.body.items vals attrs)
+    leaves_same : (t : Tables) (vals : Frame) (attrs : Attrs) → Leaves (length vals) (trees.body t ss vals attrs) → Leaves (length vals) (trees.body t a.body.items vals attrs)
     leaves_same t vals attrs h = rw (← same) h
 
-pub bodies_start : (seen : Seen) (depth : ℕ) (old mid : List Instr) → Bodies seen depth [] [] old mid mid
-bodies_start seen depth old mid = record { front = grows_same mid; targets = tt }
+pub bodies_start : (seen : Seen) (old mid : List Instr) → Bodies seen [] [] old mid mid
+bodies_start seen old mid = record { front = grows_same mid; targets = tt }
 
 jumps_grow : (starts : List ℕ) (old : List Instr) → Grows old (jumps_to starts old)
 jumps_grow [] old = grows_same old
@@ -95,33 +95,33 @@ arm_means s d rest old (Ok false) more first second vals attrs one two = next_ju
 arm_means s d rest old (Err failure) more first second vals attrs one two = refl
 
 -- the jumps behind the switch
-table_means : (seen : Seen) (depth : ℕ) (s : Setting) → length s.functions ≡ seen.functions → (rows : List (TArm TStmt)) (starts : List ℕ) (old base : List Instr) (otherwise : Act) (v : Val) (vals : Frame) (attrs : Attrs) → length vals ≡ depth → Targets seen depth old base rows starts → mean s base 0 vals [] attrs ≡ and_then (otherwise vals attrs) (λ after attrs. mean s old 0 after [] attrs) → and_then (plainly (arms_before (labels_of rows) v) attrs) (λ i attrs. mean s (jumps_to starts base) i vals [] attrs) ≡ and_then (trees.arms (trees.arms_of (tables_of seen s) rows) otherwise v vals attrs) (λ after attrs. mean s old 0 after [] attrs)
-table_means seen depth s few [] [] old base otherwise v vals attrs long p none = none
-table_means seen depth s few [] (start ∷ starts) old base otherwise v vals attrs long p none = absurd p
-table_means seen depth s few (a ∷ rows) [] old base otherwise v vals attrs long p none = absurd p
-table_means seen depth s few (a ∷ rows) (start ∷ starts) old base otherwise v vals attrs long p none =
+table_means : (seen : Seen) (s : Setting) → length s.functions ≡ seen.functions → (rows : List (TArm TStmt)) (starts : List ℕ) (old base : List Instr) (otherwise : Act) (v : Val) (vals : Frame) (attrs : Attrs) → Targets seen old base rows starts → mean s base 0 vals [] attrs ≡ and_then (otherwise vals attrs) (λ after attrs. mean s old 0 after [] attrs) → and_then (plainly (arms_before (labels_of rows) v) attrs) (λ i attrs. mean s (jumps_to starts base) i vals [] attrs) ≡ and_then (trees.arms (trees.arms_of (tables_of seen s) rows) otherwise v vals attrs) (λ after attrs. mean s old 0 after [] attrs)
+table_means seen s few [] [] old base otherwise v vals attrs p none = none
+table_means seen s few [] (start ∷ starts) old base otherwise v vals attrs p none = absurd p
+table_means seen s few (a ∷ rows) [] old base otherwise v vals attrs p none = absurd p
+table_means seen s few (a ∷ rows) (start ∷ starts) old base otherwise v vals attrs p none =
     arm_means s (length (jumps_to starts base) - start) (jumps_to starts base) old (trees.has a.labels v) (arms_before (labels_of rows) v) (trees.body (tables_of seen s) a.body.items) (trees.arms (trees.arms_of (tables_of seen s) rows) otherwise v) vals attrs
-    (target_means seen depth (λ t. trees.body t a.body.items) start (length (jumps_to starts base) - start) old (jumps_to starts base) (target_grows seen depth (λ t. trees.body t a.body.items) start old base (jumps_to starts base) (jumps_grow starts base) p.0) refl s few vals attrs long)
-    (table_means seen depth s few rows starts old base otherwise v vals attrs long p.1 none)
+    (target_means seen (λ t. trees.body t a.body.items) start (length (jumps_to starts base) - start) old (jumps_to starts base) (target_grows seen (λ t. trees.body t a.body.items) start old base (jumps_to starts base) (jumps_grow starts base) p.0) refl s few vals attrs)
+    (table_means seen s few rows starts old base otherwise v vals attrs p.1 none)
 
 arm_leaves : (n : ℕ) (r : Result Bool Failure) (first second : Act) (vals : Frame) (attrs : Attrs) → Leaves n (first vals attrs) → Leaves n (second vals attrs) → Leaves n (m.arm r first second vals attrs)
 arm_leaves n (Ok true) first second vals attrs one two = one
 arm_leaves n (Ok false) first second vals attrs one two = two
 arm_leaves n (Err failure) first second vals attrs one two = tt
 
-arms_leave : (seen : Seen) (depth : ℕ) (rows : List (TArm TStmt)) (starts : List ℕ) (old new : List Instr) (t : Tables) (otherwise : Act) (v : Val) (vals : Frame) (attrs : Attrs) → length vals ≡ depth → Targets seen depth old new rows starts → Leaves depth (otherwise vals attrs) → Leaves depth (trees.arms (trees.arms_of t rows) otherwise v vals attrs)
-arms_leave seen depth [] [] old new t otherwise v vals attrs long p none = none
-arms_leave seen depth [] (start ∷ starts) old new t otherwise v vals attrs long p none = absurd p
-arms_leave seen depth (a ∷ rows) [] old new t otherwise v vals attrs long p none = absurd p
-arms_leave seen depth (a ∷ rows) (start ∷ starts) old new t otherwise v vals attrs long p none =
-    arm_leaves depth (trees.has a.labels v) (trees.body t a.body.items) (trees.arms (trees.arms_of t rows) otherwise v) vals attrs (p.0.keeps t vals attrs long) (arms_leave seen depth rows starts old new t otherwise v vals attrs long p.1 none)
+arms_leave : (seen : Seen) (rows : List (TArm TStmt)) (starts : List ℕ) (old new : List Instr) (t : Tables) (otherwise : Act) (v : Val) (vals : Frame) (attrs : Attrs) → Targets seen old new rows starts → Leaves (length vals) (otherwise vals attrs) → Leaves (length vals) (trees.arms (trees.arms_of t rows) otherwise v vals attrs)
+arms_leave seen [] [] old new t otherwise v vals attrs p none = none
+arms_leave seen [] (start ∷ starts) old new t otherwise v vals attrs p none = absurd p
+arms_leave seen (a ∷ rows) [] old new t otherwise v vals attrs p none = absurd p
+arms_leave seen (a ∷ rows) (start ∷ starts) old new t otherwise v vals attrs p none =
+    arm_leaves (length vals) (trees.has a.labels v) (trees.body t a.body.items) (trees.arms (trees.arms_of t rows) otherwise v) vals attrs (p.0.keeps t vals attrs) (arms_leave seen rows starts old new t otherwise v vals attrs p.1 none)
 
 case_then : (flow : Flow Val) (first second : Val → Attrs → Flow Frame) (next : Frame → Attrs → Flow Frame) → ((v : Val) (attrs : Attrs) → first v attrs ≡ and_then (second v attrs) next) → and_then flow first ≡ and_then (and_then flow second) next
 case_then (Done v attrs) first second next same = same v attrs
 case_then (Stopped why attrs) first second next same = refl
 
-pub acts_case : (seen : Seen) (depth k : ℕ) (x : TExpr) (rows : Bor (List (TArm TStmt))) (otherwise : List TStmt) (starts : List ℕ) (old o b j jj sw new : List Instr) → Acts seen depth (λ t. trees.body t otherwise) old o → Bodies seen depth rows.now starts old o b → k ≡ length b - length o → j ≡ instrs.Jump k ∷ b → jj ≡ jumps_to starts j → sw ≡ instrs.Switch rows ∷ jj → Puts seen (λ t. trees.expr x t) sw new → Acts seen depth (λ t. m.cases (trees.expr x t) (trees.arms (trees.arms_of t rows.now) (trees.body t otherwise))) old new
-acts_case seen depth k x rows otherwise starts old o b j jj sw new p bs far is table front q =
+pub acts_case : (seen : Seen) (k : ℕ) (x : TExpr) (rows : Bor (List (TArm TStmt))) (otherwise : List TStmt) (starts : List ℕ) (old o b j jj sw new : List Instr) → Acts seen (λ t. trees.body t otherwise) old o → Bodies seen rows.now starts old o b → k ≡ length b - length o → j ≡ instrs.Jump k ∷ b → jj ≡ jumps_to starts j → sw ≡ instrs.Switch rows ∷ jj → Puts seen (λ t. trees.expr x t) sw new → Acts seen (λ t. m.cases (trees.expr x t) (trees.arms (trees.arms_of t rows.now) (trees.body t otherwise))) old new
+acts_case seen k x rows otherwise starts old o b j jj sw new p bs far is table front q =
     let to_j : Grows b j = record { code = instrs.Jump k ∷ []; grows = is } in
     let to_jj : Grows j jj = record { code = (jumps_grow starts j).code; grows = table ∙ (jumps_grow starts j).grows } in
     let to_sw : Grows jj sw = record { code = instrs.Switch rows ∷ []; grows = front } in
@@ -131,13 +131,13 @@ acts_case seen depth k x rows otherwise starts old o b j jj sw new p bs far is t
     record {
       code = whole.code;
       grows = whole.grows;
-      means = λ s few vals attrs long. q.means s few vals [] attrs
+      means = λ s few vals attrs. q.means s few vals [] attrs
           ∙ case_then (trees.expr x (tables_of seen s) vals attrs) (λ v attrs. mean s sw 0 vals (v ∷ []) attrs) (λ v attrs. trees.arms (trees.arms_of (tables_of seen s) rows.now) (trees.body (tables_of seen s) otherwise) v vals attrs) (λ after attrs. mean s old 0 after [] attrs) (λ v attrs.
           ap (λ (code : List Instr). mean s code 0 vals (v ∷ []) attrs) front
           ∙ ap (λ (code : List Instr). and_then (plainly (arms_before (labels_of rows.now) v) attrs) (λ i attrs. mean s code i vals [] attrs)) table
-          ∙ table_means seen depth s few rows.now starts old j (trees.body (tables_of seen s) otherwise) v vals attrs long (targets_grow seen depth old b j rows.now starts to_j bs.targets)
-          (ap (λ (code : List Instr). mean s code 0 vals [] attrs) is ∙ passed_by s b bs.front.code o k vals [] attrs bs.front.grows far ∙ p.means s few vals attrs long));
-      keeps = λ t vals attrs long. given_leaves depth (trees.expr x t vals attrs) (λ v attrs. trees.arms (trees.arms_of t rows.now) (trees.body t otherwise) v vals attrs) (λ v attrs. arms_leave seen depth rows.now starts old b t (trees.body t otherwise) v vals attrs long bs.targets (p.keeps t vals attrs long));
+          ∙ table_means seen s few rows.now starts old j (trees.body (tables_of seen s) otherwise) v vals attrs (targets_grow seen old b j rows.now starts to_j bs.targets)
+          (ap (λ (code : List Instr). mean s code 0 vals [] attrs) is ∙ passed_by s b bs.front.code o k vals [] attrs bs.front.grows far ∙ p.means s few vals attrs));
+      keeps = λ t vals attrs. given_leaves (length vals) (trees.expr x t vals attrs) (λ v attrs. trees.arms (trees.arms_of t rows.now) (trees.body t otherwise) v vals attrs) (λ v attrs. arms_leave seen rows.now starts old b t (trees.body t otherwise) v vals attrs bs.targets (p.keeps t vals attrs));
     }
 
 pub taken_next : {A : Type 0} (xs : List A) (i : ℕ) (x : A) → i < length xs → x ≡ get_or xs i x → take (i + 1) xs ≡ take i xs ++ x ∷ []
@@ -151,8 +151,8 @@ taken_whole [] (suc i) le = refl
 taken_whole (x ∷ xs) zero le = absurd (omega arith)
 taken_whole (x ∷ xs) (suc i) le = ap (λ (zs : List _). x ∷ zs) (taken_whole xs i (omega arith))
 
-pub bodies_end : (seen : Seen) (depth i : ℕ) (rows : List (TArm TStmt)) (starts : List ℕ) (old mid new : List Instr) → length rows ≤ i → Bodies seen depth (take i rows) starts old mid new → Bodies seen depth rows starts old mid new
-bodies_end seen depth i rows starts old mid new le p = rw (← taken_whole rows i le) p
+pub bodies_end : (seen : Seen) (i : ℕ) (rows : List (TArm TStmt)) (starts : List ℕ) (old mid new : List Instr) → length rows ≤ i → Bodies seen (take i rows) starts old mid new → Bodies seen rows starts old mid new
+bodies_end seen i rows starts old mid new le p = rw (← taken_whole rows i le) p
 
-pub grows_acts : (seen : Seen) (depth : ℕ) (run : Tables → Act) (old new : List Instr) → Acts seen depth run old new → Grows old new
-grows_acts seen depth run old new p = record { code = p.code; grows = p.grows }
+pub grows_acts : (seen : Seen) (run : Tables → Act) (old new : List Instr) → Acts seen run old new → Grows old new
+grows_acts seen run old new p = record { code = p.code; grows = p.grows }

@@ -1,6 +1,8 @@
 -- Whole codes, and lists of them.
-use Rattle.std.proofs.Common.{◌≡◌, ℕ, suc, ◌+◌, ◌<◌, ◌≤◌, List, [], ◌∷◌, ◌++◌, reverse, length, map, length-append, take, Option, refl, sym, ap, ◌∙◌, arith}
-use Rattle.std.proofs.lemmas.List.{length-take, take-map}
+use Rattle.std.proofs.Common.{◌≡◌, ℕ, suc, zero, ◌+◌, ◌<◌, ◌≤◌, List, [], ◌∷◌, ◌++◌, reverse, length, map, length-append, take, Option, refl, sym, ap, ◌∙◌, arith}
+use Rattle.std.proofs.lemmas.List.{take-map}
+use Rattle.std.proofs.Math.Path.{fun_ext}
+use Rattle.std.specs.Prelude.{All}
 use Rattle.std.proofs.Math.ListN.{get_or}
 use Rattle.attrs.specs.declared.attributes.Attrs.{Attrs}
 use Rattle.filt_values.specs.declared.fixed.Fixed.{Fixed}
@@ -20,33 +22,25 @@ use Rattle.filt_code.specs.declared.code.Routine.{Routine}
 use Rattle.filt_code.specs.declared.instr.Instr.{Instr}
 use Rattle.filt_code.specs.Codes.{Setting, code_judged, doing, mean, setting, with_routine, with_routines}
 use Rattle.filt_compile.specs.declared.seen.Seen.{Seen}
-use Rattle.filt_compile.specs.Compiles.{beside, AreCompiled, IsCompiled}
+use Rattle.filt_compile.specs.Compiles.{beside, AreBefore, AreCompiled, IsCompiled}
 use Rattle.filt_compile.specs.Emits.{Runs, tables_of}
 use Rattle.filt_compile.proofs.Cases as cs
 
 -- code with nothing behind it
-pub whole_code : (seen : Seen) (depth : ℕ) (sorts : List Sort) (ss : List TStmt) (empty backwards code : List Instr) → empty ≡ [] → code ≡ reverse backwards → Runs seen depth sorts (λ t. trees.body t ss) (reverse empty) (reverse backwards) → (s : Setting) → length s.functions ≡ seen.functions → (vals : Frame) (attrs : Attrs) → length vals ≡ depth → mean s code 0 vals [] attrs ≡ trees.run (tables_of seen s) sorts ss vals attrs
-whole_code seen depth sorts ss empty backwards code none is p s few vals attrs long =
+pub whole_code : (seen : Seen) (sorts : List Sort) (ss : List TStmt) (empty backwards code : List Instr) → empty ≡ [] → code ≡ reverse backwards → Runs seen sorts (λ t. trees.body t ss) (reverse empty) (reverse backwards) → (s : Setting) → length s.functions ≡ seen.functions → (vals : Frame) (attrs : Attrs) → mean s code 0 vals [] attrs ≡ trees.run (tables_of seen s) sorts ss vals attrs
+whole_code seen sorts ss empty backwards code none is p s few vals attrs =
     ap (λ (code : List Instr). mean s code 0 vals [] attrs) is
-    ∙ p.means s few vals attrs long
+    ∙ p.means s few vals attrs
     ∙ nothing_behind s (trees.run (tables_of seen s) sorts ss vals attrs) empty none
   where
     nothing_behind : (s : Setting) (flow : Flow Frame) (empty : List Instr) → empty ≡ [] → and_then flow (λ after attrs. mean s (reverse empty) 0 after [] attrs) ≡ flow
     nothing_behind s (Done after attrs) empty none = ap (λ (code : List Instr). mean s (reverse code) 0 after [] attrs) none
     nothing_behind s (Stopped why attrs) empty none = refl
 
--- a filter's code
-pub filter_code : (seen : Seen) (constants : List Fixed) (count : ℕ) (sorts fsorts : List Sort) (ss fss : List TStmt) (code : List Instr) → seen.constants.now ≡ take count constants → sorts ≡ fsorts → ss ≡ fss → ((s : Setting) → length s.functions ≡ seen.functions → (vals : Frame) (attrs : Attrs) → length vals ≡ 0 → mean s code 0 vals [] attrs ≡ trees.run (tables_of seen s) sorts ss vals attrs) → (s : Setting) → length s.functions ≡ seen.functions → (attrs : Attrs) → verdict_of (mean s code 0 [] [] attrs) ≡ verdict_of (trees.run (beside (take count constants) s) fsorts fss [] attrs)
-filter_code seen constants count sorts fsorts ss fss code p q r means s few attrs =
-    ap verdict_of (means s few [] attrs refl) ∙ same s seen.constants.now (take count constants) sorts fsorts ss fss attrs p q r
-  where
-    same : (s : Setting) (cs ds : List Fixed) (sorts fsorts : List Sort) (ss fss : List TStmt) (attrs : Attrs) → cs ≡ ds → sorts ≡ fsorts → ss ≡ fss → verdict_of (trees.run (beside cs s) sorts ss [] attrs) ≡ verdict_of (trees.run (beside ds s) fsorts fss [] attrs)
-    same s cs ds sorts fsorts ss fss attrs p q r = rw (p, q, r) refl
-
 -- a function's code
-pub function_code : (seen : Seen) (constants : List Fixed) (number depth : ℕ) (f : TFunction) (made : Routine) (sorts : List Sort) (ss : List TStmt) → seen.constants.now ≡ take f.constants constants → seen.functions ≡ number → sorts ≡ f.sorts.items → ss ≡ f.body.items → depth ≡ length f.parameters.items → made.gives ≡ f.gives → ((s : Setting) → length s.functions ≡ seen.functions → (vals : Frame) (attrs : Attrs) → length vals ≡ depth → mean s made.code.items 0 vals [] attrs ≡ trees.run (tables_of seen s) sorts ss vals attrs) → IsCompiled constants number f made
-function_code seen constants number depth f made sorts ss p u q r d g means s few arguments long attrs =
-    ap (λ (flow : Flow Frame). given_by made.gives flow) (means s (few ∙ sym u) arguments attrs (long ∙ sym d))
+pub function_code : (seen : Seen) (constants : List Fixed) (number : ℕ) (f : TFunction) (made : Routine) (sorts : List Sort) (ss : List TStmt) → seen.constants.now ≡ take f.constants constants → seen.functions ≡ number → sorts ≡ f.sorts.items → ss ≡ f.body.items → made.gives ≡ f.gives → ((s : Setting) → length s.functions ≡ seen.functions → (vals : Frame) (attrs : Attrs) → mean s made.code.items 0 vals [] attrs ≡ trees.run (tables_of seen s) sorts ss vals attrs) → IsCompiled constants number f made
+function_code seen constants number f made sorts ss p u q r g means s few arguments attrs =
+    ap (λ (flow : Flow Frame). given_by made.gives flow) (means s (few ∙ sym u) arguments attrs)
     ∙ ap (λ (o : Option Sort). given_by o (trees.run (tables_of seen s) sorts ss arguments attrs)) g
     ∙ same s seen.constants.now sorts ss p q r
   where
@@ -76,9 +70,41 @@ compiled_end constants i all rs le p = rw (← cs.taken_whole all i le) p
 
 -- ---- the same functions
 
-length-table : (t : Tables) (fs : List TFunction) → length (trees.with_functions t fs).functions ≡ length t.functions + length fs
-length-table t [] = omega arith
-length-table t (g ∷ fs) = omega (arith, length-table (trees.with_function t (trees.function t g)) fs, length-append t.functions (trees.function t g ∷ []))
+taken_again : {A : Type 0} (n : ℕ) (xs : List A) → take (length (take n xs)) xs ≡ take n xs
+taken_again zero xs = refl
+taken_again (suc n) [] = refl
+taken_again (suc n) (x ∷ xs) = ap (λ (ys : List _). x ∷ ys) (taken_again n xs)
+
+taken_in_front : {A : Type 0} (n m : ℕ) (xs : List A) → n ≤ m → take n (take m xs) ≡ take n xs
+taken_in_front zero m xs le = refl
+taken_in_front (suc n) zero xs le = absurd (omega arith)
+taken_in_front (suc n) (suc m) [] le = refl
+taken_in_front (suc n) (suc m) (x ∷ xs) le = ap (λ (ys : List _). x ∷ ys) (taken_in_front n m xs (omega arith))
+
+compiled_front : (constants : List Fixed) (number n : ℕ) (fs : List TFunction) (rs : List Routine) → AreCompiled constants number fs rs → AreCompiled constants number (take n fs) (take n rs)
+compiled_front constants number zero fs rs p = tt
+compiled_front constants number (suc n) [] [] p = tt
+compiled_front constants number (suc n) [] (r ∷ rs) p = absurd p
+compiled_front constants number (suc n) (g ∷ fs) [] p = absurd p
+compiled_front constants number (suc n) (g ∷ fs) (r ∷ rs) p = (p.0, compiled_front constants (suc number) n fs rs p.1)
+
+-- a function over more constants than it sees
+same_function : (constants : List Fixed) (m : ℕ) (s : Setting) (t : Tables) (g : TFunction) (arguments : Frame) (attrs : Attrs) → s.around ≡ t.around → t.constants ≡ map val_of_fixed (take m constants) → s.functions ≡ t.functions → g.constants ≤ m → trees.function (beside constants s) g arguments attrs ≡ trees.function t g arguments attrs
+same_function constants m s t g arguments attrs a k d le =
+    by_parts s.around t.around (take g.constants (map val_of_fixed constants)) (take g.constants t.constants) s.functions t.functions a
+    (sym (taken_in_front g.constants m (map val_of_fixed constants) le) ∙ ap (λ (vs : List Val). take g.constants vs) (take-map val_of_fixed m constants ∙ sym k)) d
+  where
+    by_parts : (a b : Around) (ks ls : List Val) (ds es : List Doing) → a ≡ b → ks ≡ ls → ds ≡ es → given_by g.gives (trees.run (record { around = a; constants = ks; functions = ds }) g.sorts.items g.body.items arguments attrs) ≡ given_by g.gives (trees.run (record { around = b; constants = ls; functions = es }) g.sorts.items g.body.items arguments attrs)
+    by_parts a b ks ls ds es p q r = rw (p, q, r) refl
+
+-- code and trees of the same functions come to the same list of what they do
+same_functions : (constants : List Fixed) (m number : ℕ) (fs : List TFunction) (rs : List Routine) (s : Setting) (t : Tables) → AreCompiled constants number fs rs → All (λ (g : TFunction). g.constants ≤ m) fs → length s.functions ≡ number → s.around ≡ t.around → t.constants ≡ map val_of_fixed (take m constants) → s.functions ≡ t.functions → (with_routines s rs).functions ≡ (trees.with_functions t fs).functions
+same_functions constants m number [] [] s t p h few a k d = d
+same_functions constants m number [] (r ∷ rs) s t p h few a k d = absurd p
+same_functions constants m number (g ∷ fs) [] s t p h few a k d = absurd p
+same_functions constants m number (g ∷ fs) (r ∷ rs) s t p h few a k d =
+    let e : doing s r ≡ trees.function t g = fun_ext (λ arguments. fun_ext (λ attrs. p.0 s few arguments attrs ∙ same_function constants m s t g arguments attrs a k d (h zero g (omega arith)))) in
+    same_functions constants m (suc number) fs rs (with_routine s (doing s r)) (trees.with_function t (trees.function t g)) p.1 (λ i x below. h (suc i) x (omega (arith, below))) (omega (arith, length-append s.functions (doing s r ∷ []), few)) a k (ap (λ (ds : List Doing). ds ++ doing s r ∷ []) d ∙ ap (λ (f : Doing). t.functions ++ f ∷ []) e)
 
 constants_kept : (t : Tables) (fs : List TFunction) → (trees.with_functions t fs).constants ≡ t.constants
 constants_kept t [] = refl
@@ -88,25 +114,46 @@ around_kept : (t : Tables) (fs : List TFunction) → (trees.with_functions t fs)
 around_kept t [] = refl
 around_kept t (g ∷ fs) = around_kept (trees.with_function t (trees.function t g)) fs
 
-whole_tables : (around : Around) (cs : List Fixed) (fs : List TFunction) (t : Tables) → t ≡ trees.tables around cs fs → t ≡ record { around = around; constants = map val_of_fixed cs; functions = (trees.tables around cs fs).functions }
-whole_tables around cs fs t is =
-    is ∙ parts_are (trees.tables around cs fs) around (map val_of_fixed cs) (around_kept (record { around = around; constants = map val_of_fixed cs; functions = [] }) fs) (constants_kept (record { around = around; constants = map val_of_fixed cs; functions = [] }) fs)
-  where
-    parts_are : (t : Tables) (around : Around) (vs : List Val) → t.around ≡ around → t.constants ≡ vs → t ≡ record { around = around; constants = vs; functions = t.functions }
-    parts_are t around vs p q = rw (← p, ← q) refl
-
 around_of : (s : Setting) (rs : List Routine) → (with_routines s rs).around ≡ s.around
 around_of s [] = refl
 around_of s (r ∷ rs) = around_of (with_routine s (doing s r)) rs
 
--- over the same functions code says what its filter says
-pub code_says : (around : Around) (constants : List Fixed) (fs : List TFunction) (routines : List Routine) (f : TFilter) (draft : Draft) → draft.functions ≡ f.functions → ((s : Setting) → length s.functions ≡ f.functions → (attrs : Attrs) → verdict_of (mean s draft.code.items 0 [] [] attrs) ≡ verdict_of (trees.run (beside (take f.constants constants) s) f.sorts.items f.body.items [] attrs)) → f.functions ≤ length fs → (setting around (take draft.functions routines)).functions ≡ (trees.tables around (take f.constants constants) (take f.functions fs)).functions → (attrs : Attrs) → code_judged around routines draft attrs ≡ trees.judged around constants fs f attrs
-code_says around constants fs routines f draft count means enough same attrs =
-    means (setting around (take draft.functions routines)) (omega (arith, ap (λ (ds : List Doing). length ds) same, length-table (record { around = around; constants = map val_of_fixed (take f.constants constants); functions = [] }) (take f.functions fs), length-take f.functions fs, enough)) attrs
-    ∙ by_tables (beside (take f.constants constants) (setting around (take draft.functions routines))) (trees.tables around (take f.constants constants) (take f.functions fs)) (beside_is (setting around (take draft.functions routines)) around (take f.constants constants) (trees.tables around (take f.constants constants) (take f.functions fs)).functions (around_of (record { around = around; functions = [] }) (take draft.functions routines)) same ∙ sym (whole_tables around (take f.constants constants) (take f.functions fs) (trees.tables around (take f.constants constants) (take f.functions fs)) refl))
-  where
-    by_tables : (t u : Tables) → t ≡ u → verdict_of (trees.run t f.sorts.items f.body.items [] attrs) ≡ verdict_of (trees.run u f.sorts.items f.body.items [] attrs)
-    by_tables t u is = rw is refl
+length_of : (s : Setting) (rs : List Routine) → length (with_routines s rs).functions ≡ length s.functions + length rs
+length_of s [] = omega arith
+length_of s (r ∷ rs) = omega (arith, length_of (with_routine s (doing s r)) rs, length-append s.functions (doing s r ∷ []))
 
-    beside_is : (s : Setting) (around : Around) (cs : List Fixed) (ds : List Doing) → s.around ≡ around → s.functions ≡ ds → beside cs s ≡ record { around = around; constants = map val_of_fixed cs; functions = ds }
-    beside_is s around cs ds p q = rw (p, q) refl
+none_before : (n : ℕ) → 0 + n ≡ n
+none_before n = omega arith
+
+counted : (around : Around) (rs : List Routine) → length (setting around rs).functions ≡ length rs
+counted around rs =
+    length_of (record { around = around; functions = [] }) rs ∙ none_before (length rs)
+
+-- ---- filters
+
+tables_by : (t u : Tables) → t.around ≡ u.around → t.constants ≡ u.constants → t.functions ≡ u.functions → t ≡ u
+tables_by t u p q r =
+    ap (λ (a : Around). record { around = a; constants = t.constants; functions = t.functions }) p
+    ∙ ap (λ (k : List Val). record { around = u.around; constants = k; functions = t.functions }) q
+    ∙ ap (λ (d : List Doing). record { around = u.around; constants = u.constants; functions = d }) r
+
+-- what code sees is what the filter sees
+seen_same : (seen : Seen) (constants : List Fixed) (fs : List TFunction) (routines : List Routine) (f : TFilter) (around : Around) → seen.constants.now ≡ take f.constants constants → AreCompiled constants 0 fs routines → AreBefore fs f → tables_of seen (setting around (take f.functions routines)) ≡ trees.tables around (take f.constants constants) (take f.functions fs)
+seen_same seen constants fs routines f around same p h =
+    let s : Setting = record { around = around; functions = [] } in
+    let t : Tables = record { around = around; constants = map val_of_fixed (take f.constants constants); functions = [] } in
+    tables_by (tables_of seen (setting around (take f.functions routines))) (trees.tables around (take f.constants constants) (take f.functions fs))
+    (around_of s (take f.functions routines) ∙ sym (around_kept t (take f.functions fs)))
+    (ap (λ (cs : List Fixed). map val_of_fixed cs) same ∙ sym (constants_kept t (take f.functions fs)))
+    (same_functions constants f.constants 0 (take f.functions fs) (take f.functions routines) s t (compiled_front constants 0 f.functions fs routines p) h refl refl refl refl)
+
+-- over the same functions code says what its filter says
+pub code_says : (seen : Seen) (constants : List Fixed) (routines : List Routine) (f : TFilter) (draft : Draft) (sorts : List Sort) (ss : List TStmt) → seen.constants.now ≡ take f.constants constants → seen.functions ≡ draft.functions → draft.functions ≡ length (take f.functions routines) → sorts ≡ f.sorts.items → ss ≡ f.body.items → ((s : Setting) → length s.functions ≡ seen.functions → (vals : Frame) (attrs : Attrs) → mean s draft.code.items 0 vals [] attrs ≡ trees.run (tables_of seen s) sorts ss vals attrs) → (fs : List TFunction) → AreCompiled constants 0 fs routines → AreBefore fs f → (around : Around) (attrs : Attrs) → code_judged around routines draft attrs ≡ trees.judged around constants fs f attrs
+code_says seen constants routines f draft sorts ss same few count q r means fs p h around attrs =
+    let front : take draft.functions routines ≡ take f.functions routines = ap (λ (n : ℕ). take n routines) count ∙ taken_again f.functions routines in
+    ap (λ (rs : List Routine). verdict_of (mean (setting around rs) draft.code.items 0 [] [] attrs)) front
+    ∙ ap verdict_of (means (setting around (take f.functions routines)) (counted around (take f.functions routines) ∙ sym count ∙ sym few) [] attrs)
+    ∙ by_parts (tables_of seen (setting around (take f.functions routines))) (trees.tables around (take f.constants constants) (take f.functions fs)) sorts f.sorts.items ss f.body.items (seen_same seen constants fs routines f around same p h) q r
+  where
+    by_parts : (t u : Tables) (xs ys : List Sort) (as_one bs : List TStmt) → t ≡ u → xs ≡ ys → as_one ≡ bs → verdict_of (trees.run t xs as_one [] attrs) ≡ verdict_of (trees.run u ys bs [] attrs)
+    by_parts t u xs ys as_one bs p q r = rw (p, q, r) refl

@@ -122,6 +122,13 @@ cost-Compare compare a b = forms.of-Compare ℕ expr_step compare a b
 pub cost-Joint : (a : Box TExpr Global) (v : Vec (LogicalOp × TExpr) Global) → cost (e.Joint a v) ≡ 9 + cost a.value + parts_cost (map (λ x. Joined x.0 x.1) v.items)
 cost-Joint a v = forms.of-Joint ℕ expr_step a v ∙ ap (λ (ns : List ℕ). 9 + cost a.value + all ns) (by_parts {B = LogicalOp × ℕ} (λ x. x.1) (λ x. (x.0, cost x.1)) (λ x. cost x.1) (λ x. refl) v.items ∙ sym (by_parts part_cost (λ (x : LogicalOp × TExpr). Joined x.0 x.1) (λ x. cost x.1) (λ x. refl) v.items))
 
+-- of what is joined, each with its operator
+abbrev pub joints_cost : List (LogicalOp × TExpr) → ℕ
+joints_cost more = all (map (λ x. cost x.1) more)
+
+pub cost-joined : (a : Box TExpr Global) (v : Vec (LogicalOp × TExpr) Global) → cost (e.Joint a v) ≡ 9 + cost a.value + joints_cost v.items
+cost-joined a v = forms.of-Joint ℕ expr_step a v ∙ ap (λ (ns : List ℕ). 9 + cost a.value + all ns) (by_parts {B = LogicalOp × ℕ} (λ x. x.1) (λ x. (x.0, cost x.1)) (λ x. cost x.1) (λ x. refl) v.items)
+
 pub act-cost-Block : (sorts : Vec Sort Global) (v : Vec TStmt Global) → act_cost (s.Block sorts v) ≡ 9 + body_cost v.items
 act-cost-Block sorts v = forms.act-of-Block ℕ stmt_step sorts v
 

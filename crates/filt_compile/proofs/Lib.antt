@@ -1,4 +1,5 @@
 pub mod Acting
+pub mod Asking
 pub mod Cases
 pub mod Compiling
 pub mod Cost

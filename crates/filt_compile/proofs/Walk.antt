@@ -109,7 +109,7 @@ expr-Product a v t = ap (λ (f : Tables → Run Val). f t) (forms.of-Product _ t
 expr-Sum : (a : Box TExpr Global) (v : Vec (AddOp × TExpr) Global) (t : Tables) → trees.expr (e.Sum a v) t ≡ trees.chain m.term_of (trees.expr a.value t) (trees.parts t v.items)
 expr-Sum a v t = ap (λ (f : Tables → Run Val). f t) (forms.of-Sum _ trees.expr_step a v) ∙ ap (λ (xs : List (AddOp × Run Val)). trees.chain m.term_of (trees.expr a.value t) xs) (by_parts {B = AddOp × (Tables → Run Val)} _ _ _ (λ x. refl) v.items)
 
-expr-Joint : (a : Box TExpr Global) (v : Vec (LogicalOp × TExpr) Global) (t : Tables) → trees.expr (e.Joint a v) t ≡ trees.joints (trees.expr a.value t) (trees.parts t v.items)
+pub expr-Joint : (a : Box TExpr Global) (v : Vec (LogicalOp × TExpr) Global) (t : Tables) → trees.expr (e.Joint a v) t ≡ trees.joints (trees.expr a.value t) (trees.parts t v.items)
 expr-Joint a v t = ap (λ (f : Tables → Run Val). f t) (forms.of-Joint _ trees.expr_step a v) ∙ ap (λ (xs : List (LogicalOp × Run Val)). trees.joints (trees.expr a.value t) xs) (by_parts {B = LogicalOp × (Tables → Run Val)} _ _ _ (λ x. refl) v.items)
 
 expr-Access : (a : Box TExpr Global) (v : Vec (TAccess TExpr) Global) (t : Tables) → trees.expr (e.Access a v) t ≡ trees.accessed (trees.expr a.value t) (trees.accesses_of t v.items)

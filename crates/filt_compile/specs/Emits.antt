@@ -1,5 +1,5 @@
 -- For private contracts alone: what code comes to that was emitted in front of other code.
-use Rattle.std.specs.Prelude.{◌≡◌, ℕ, ◌+◌, ◌-◌, Bool, List, [], ◌∷◌, ◌++◌, length, map, reverse, Vec, Ok, ⊤}
+use Rattle.std.specs.Prelude.{◌≡◌, ◌≤◌, ℕ, ◌+◌, ◌-◌, Bool, true, false, List, [], ◌∷◌, ◌++◌, length, map, reverse, Vec, Ok, ⊤}
 use Rattle.std.specs.Global.{Global}
 use Rattle.attrs.specs.declared.attributes.Attrs.{Attrs}
 use Rattle.filt_values.specs.Seen.{val_of_fixed}
@@ -9,6 +9,8 @@ use Rattle.filt_values.specs.Values.{Val, VPrefixSet, default_of}
 use Rattle.filt_meaning.specs.Flow.{Flow, Done, Stopped, Frame, Run, and_then, plainly}
 use Rattle.conf_ast.specs.declared.filters.CompareOp.{CompareOp}
 use Rattle.conf_ast.specs.declared.filters.CompareOp.TheVariants as compare_ops
+use Rattle.conf_ast.specs.declared.filters.LogicalOp.{LogicalOp}
+use Rattle.conf_ast.specs.declared.filters.LogicalOp.TheVariants as logical_ops
 use Rattle.conf_lex.specs.declared.attribute.Attribute.TheVariants as attributes
 use Rattle.filt_sets.specs.declared.prefixes.PrefixItem.{PrefixItem}
 use Rattle.filt_meaning.specs.Meaning.{Act, attribute, given, on_two}
@@ -59,25 +61,41 @@ pub record Asks (seen : Seen) (is : Bool) (n : ℕ) (run : Tables → Run Val) (
   pub grows : new ≡ code ++ old
   pub means : (s : Setting) → length s.functions ≡ seen.functions → (vals : Frame) (os : List Val) (attrs : Attrs) → mean s new 0 vals os attrs ≡ and_then (run (tables_of seen s) vals attrs) (λ v attrs. and_then (plainly (bool_in v) attrs) (λ b attrs. mean s old (jump_where is n b) vals os attrs))
 
+-- The same, where it jumps to the place of the old code that has so much code from it on.
+abbrev pub Leads : Seen → (is : Bool) → (to : ℕ) → (Tables → Run Val) → (old new : List Instr) → Type 0
+Leads seen is to run old new = to ≤ length old → Asks seen is (length old - to) run old new
+
+-- the value of the left side of `&&` or `||` that decides
+abbrev pub decider : LogicalOp → Bool
+decider logical_ops.And = false
+decider logical_ops.Or = true
+
+-- to the place, where what decides is wanted, else behind the right side
+abbrev pub landing : (deciding wanted : Bool) → (place behind : ℕ) → ℕ
+landing true true place behind = place
+landing true false place behind = behind
+landing false true place behind = behind
+landing false false place behind = place
+
 -- so many variables, where the run goes on
 abbrev pub Leaves : ℕ → Flow Frame → Type 0
 Leaves n (Done after attrs) = length after ≡ n
 Leaves n (Stopped why attrs) = ⊤
 
--- The new code is other code in front of the old one, which does over so many variables what the
--- run does.
-pub record Acts (seen : Seen) (depth : ℕ) (run : Tables → Act) (old new : List Instr) : Type 0 where
+-- The new code is other code in front of the old one, which does what the run does, and the run
+-- leaves as many variables as it found.
+pub record Acts (seen : Seen) (run : Tables → Act) (old new : List Instr) : Type 0 where
   pub code : List Instr
   pub grows : new ≡ code ++ old
-  pub means : (s : Setting) → length s.functions ≡ seen.functions → (vals : Frame) (attrs : Attrs) → length vals ≡ depth → mean s new 0 vals [] attrs ≡ and_then (run (tables_of seen s) vals attrs) (λ after attrs. mean s old 0 after [] attrs)
-  pub keeps : (t : Tables) (vals : Frame) (attrs : Attrs) → length vals ≡ depth → Leaves depth (run t vals attrs)
+  pub means : (s : Setting) → length s.functions ≡ seen.functions → (vals : Frame) (attrs : Attrs) → mean s new 0 vals [] attrs ≡ and_then (run (tables_of seen s) vals attrs) (λ after attrs. mean s old 0 after [] attrs)
+  pub keeps : (t : Tables) (vals : Frame) (attrs : Attrs) → Leaves (length vals) (run t vals attrs)
 
 -- The same, with variables of these sorts more, which stay.
-pub record Runs (seen : Seen) (depth : ℕ) (sorts : List Sort) (run : Tables → Act) (old new : List Instr) : Type 0 where
+pub record Runs (seen : Seen) (sorts : List Sort) (run : Tables → Act) (old new : List Instr) : Type 0 where
   pub code : List Instr
   pub grows : new ≡ code ++ old
-  pub means : (s : Setting) → length s.functions ≡ seen.functions → (vals : Frame) (attrs : Attrs) → length vals ≡ depth → mean s new 0 vals [] attrs ≡ and_then (run (tables_of seen s) (vals ++ map default_of sorts) attrs) (λ after attrs. mean s old 0 after [] attrs)
-  pub keeps : (t : Tables) (vals : Frame) (attrs : Attrs) → length vals ≡ depth → Leaves (depth + length sorts) (run t (vals ++ map default_of sorts) attrs)
+  pub means : (s : Setting) → length s.functions ≡ seen.functions → (vals : Frame) (attrs : Attrs) → mean s new 0 vals [] attrs ≡ and_then (run (tables_of seen s) (vals ++ map default_of sorts) attrs) (λ after attrs. mean s old 0 after [] attrs)
+  pub keeps : (t : Tables) (vals : Frame) (attrs : Attrs) → Leaves (length vals + length sorts) (run t (vals ++ map default_of sorts) attrs)
 
 -- The new code is other code in front of the old one, which makes variables of these sorts.
 pub record Declares (sorts : List Sort) (old new : List Instr) : Type 0 where
@@ -98,25 +116,25 @@ pub record Grows (old new : List Instr) : Type 0 where
 
 -- from a place in the new code on, told by how much code there is from it on, what the run does is
 -- done, and then the old code
-pub record Target (seen : Seen) (depth : ℕ) (run : Tables → Act) (start : ℕ) (old new : List Instr) : Type 0 where
+pub record Target (seen : Seen) (run : Tables → Act) (start : ℕ) (old new : List Instr) : Type 0 where
   pub front : List Instr
   pub back : List Instr
   pub is : new ≡ front ++ back
   pub far : start ≡ length back
-  pub means : (s : Setting) → length s.functions ≡ seen.functions → (vals : Frame) (attrs : Attrs) → length vals ≡ depth → mean s back 0 vals [] attrs ≡ and_then (run (tables_of seen s) vals attrs) (λ after attrs. mean s old 0 after [] attrs)
-  pub keeps : (t : Tables) (vals : Frame) (attrs : Attrs) → length vals ≡ depth → Leaves depth (run t vals attrs)
+  pub means : (s : Setting) → length s.functions ≡ seen.functions → (vals : Frame) (attrs : Attrs) → mean s back 0 vals [] attrs ≡ and_then (run (tables_of seen s) vals attrs) (λ after attrs. mean s old 0 after [] attrs)
+  pub keeps : (t : Tables) (vals : Frame) (attrs : Attrs) → Leaves (length vals) (run t vals attrs)
 
 -- a place for each arm
-abbrev pub Targets : Seen → ℕ → (old new : List Instr) → List (TArm TStmt) → List ℕ → Type 0
-Targets seen depth old new [] [] = ⊤
-Targets seen depth old new [] (start ∷ starts) = ⊥
-Targets seen depth old new (a ∷ as_arms) [] = ⊥
-Targets seen depth old new (a ∷ as_arms) (start ∷ starts) =
-    Target seen depth (λ t. body t a.body.items) start old new × Targets seen depth old new as_arms starts
+abbrev pub Targets : Seen → (old new : List Instr) → List (TArm TStmt) → List ℕ → Type 0
+Targets seen old new [] [] = ⊤
+Targets seen old new [] (start ∷ starts) = ⊥
+Targets seen old new (a ∷ as_arms) [] = ⊥
+Targets seen old new (a ∷ as_arms) (start ∷ starts) =
+    Target seen (λ t. body t a.body.items) start old new × Targets seen old new as_arms starts
 
-pub record Bodies (seen : Seen) (depth : ℕ) (as_arms : List (TArm TStmt)) (starts : List ℕ) (old mid new : List Instr) : Type 0 where
+pub record Bodies (seen : Seen) (as_arms : List (TArm TStmt)) (starts : List ℕ) (old mid new : List Instr) : Type 0 where
   pub front : Grows mid new
-  pub targets : Targets seen depth old new as_arms starts
+  pub targets : Targets seen old new as_arms starts
 
 -- a jump to each place, the first one first
 abbrev pub jumps_to : List ℕ → List Instr → List Instr

@@ -15,39 +15,33 @@ use filt_code::{Effect, Instr};
 use filt_tree::{TArm, TExpr, TStmt, TTarget};
 use filt_values::Sort;
 
-/// Statements in their order, over so many variables.
+/// Statements in their order.
 #[cycle(acts)]
 pub(crate) fn body<'a>(
     seen: &Seen<'a>,
     statements: &'a [TStmt],
-    depth: usize,
     out: &mut Vec<Instr<'a>>,
 ) -> Result<(), OutOfMemory>
-    ensures { OnOk result (Acts seen.now depth (λ t. trees.body t statements.now)
+    ensures { OnOk result (Acts seen.now (λ t. trees.body t statements.now)
         (ahead out.old) (ahead out.new)) }
 {
     let mut n = statements.len();
     while n > 0 {
         n -= 1;
-        act(seen, &statements[n], depth, out)?;
+        act(seen, &statements[n], out)?;
     }
     Ok(())
 }
 
 #[cycle(acts)]
-fn act<'a>(
-    seen: &Seen<'a>,
-    s: &'a TStmt,
-    depth: usize,
-    out: &mut Vec<Instr<'a>>,
-) -> Result<(), OutOfMemory>
-    ensures { OnOk result (Acts seen.now depth (λ t. trees.stmt s.now t)
+fn act<'a>(seen: &Seen<'a>, s: &'a TStmt, out: &mut Vec<Instr<'a>>) -> Result<(), OutOfMemory>
+    ensures { OnOk result (Acts seen.now (λ t. trees.stmt s.now t)
         (ahead out.old) (ahead out.new)) }
 {
     match s {
         TStmt::Block(sorts, statements) => {
-            push(out, Instr::Do(Effect::Leave(depth)))?;
-            block(seen, sorts, statements, depth, out)
+            push(out, Instr::Do(Effect::Leave(sorts.len())))?;
+            block(seen, sorts, statements, out)
         }
         TStmt::Nothing => Ok(()),
         TStmt::Assign(target, e) => {
@@ -55,15 +49,15 @@ fn act<'a>(
             value(seen, e, out)
         }
         TStmt::Unset(a) => push(out, Instr::Do(Effect::Unset(*a))),
-        TStmt::If(e, first) => choice(seen, e, first, depth, out),
-        TStmt::IfElse(e, first, second) => either(seen, e, first, second, depth, out),
-        TStmt::Case(e, arms, otherwise) => case(seen, e, arms, otherwise, depth, out),
-        TStmt::For(e, turn) => turns(seen, e, turn, depth, out),
+        TStmt::If(e, first) => choice(seen, e, first, out),
+        TStmt::IfElse(e, first, second) => either(seen, e, first, second, out),
+        TStmt::Case(e, arms, otherwise) => case(seen, e, arms, otherwise, out),
+        TStmt::For(e, turn) => turns(seen, e, turn, out),
         TStmt::Accept => push(out, Instr::Accept),
         TStmt::Reject => push(out, Instr::Reject),
-        TStmt::Return(e) => give(seen, e, depth, out),
-        TStmt::Print(es) => dropped(seen, es, depth, out),
-        TStmt::Call(number, es) => perform(seen, *number, es, depth, out),
+        TStmt::Return(e) => give(seen, e, out),
+        TStmt::Print(es) => dropped(seen, es, out),
+        TStmt::Call(number, es) => perform(seen, *number, es, out),
     }
 }
 
@@ -73,16 +67,12 @@ pub(crate) fn block<'a>(
     seen: &Seen<'a>,
     sorts: &'a [Sort],
     statements: &'a [TStmt],
-    depth: usize,
     out: &mut Vec<Instr<'a>>,
 ) -> Result<(), OutOfMemory>
-    ensures { OnOk result (Runs seen.now depth sorts.now (λ t. trees.body t statements.now)
+    ensures { OnOk result (Runs seen.now sorts.now (λ t. trees.body t statements.now)
         (ahead out.old) (ahead out.new)) }
 {
-    let Some(inner) = depth.checked_add(sorts.len()) else {
-        return Err(OutOfMemory);
-    };
-    body(seen, statements, inner, out)?;
+    body(seen, statements, out)?;
     declare(sorts, out)
 }
 
@@ -92,17 +82,15 @@ fn choice<'a>(
     seen: &Seen<'a>,
     e: &'a TExpr,
     first: &'a TStmt,
-    depth: usize,
     out: &mut Vec<Instr<'a>>,
 ) -> Result<(), OutOfMemory>
-    ensures { OnOk result (Acts seen.now depth
+    ensures { OnOk result (Acts seen.now
         (λ t. meaning.choice (trees.expr e.now t) (trees.stmt first.now t) meaning.nothing)
         (ahead out.old) (ahead out.new)) }
 {
-    let before = out.len();
-    act(seen, first, depth, out)?;
-    let passed = out.len().saturating_sub(before);
-    condition(seen, e, false, passed, out)
+    let behind = out.len();
+    act(seen, first, out)?;
+    condition(seen, e, false, behind, out)
 }
 
 /// `if` with `else`.
@@ -112,20 +100,18 @@ fn either<'a>(
     e: &'a TExpr,
     first: &'a TStmt,
     second: &'a TStmt,
-    depth: usize,
     out: &mut Vec<Instr<'a>>,
 ) -> Result<(), OutOfMemory>
-    ensures { OnOk result (Acts seen.now depth
+    ensures { OnOk result (Acts seen.now
         (λ t. meaning.choice (trees.expr e.now t) (trees.stmt first.now t)
         (trees.stmt second.now t)) (ahead out.old) (ahead out.new)) }
 {
     let before = out.len();
-    act(seen, second, depth, out)?;
+    act(seen, second, out)?;
     let other = out.len();
     push(out, Instr::Jump(other.saturating_sub(before)))?;
-    act(seen, first, depth, out)?;
-    let passed = out.len().saturating_sub(other);
-    condition(seen, e, false, passed, out)
+    act(seen, first, out)?;
+    condition(seen, e, false, other, out)
 }
 
 /// `for`: a turn for each element of a list.
@@ -134,19 +120,15 @@ fn turns<'a>(
     seen: &Seen<'a>,
     e: &'a TExpr,
     turn: &'a TStmt,
-    depth: usize,
     out: &mut Vec<Instr<'a>>,
 ) -> Result<(), OutOfMemory>
-    ensures { OnOk result (Acts seen.now depth
+    ensures { OnOk result (Acts seen.now
         (λ t. meaning.loop (trees.expr e.now t) (trees.stmt turn.now t))
         (ahead out.old) (ahead out.new)) }
 {
-    let Some(inner) = depth.checked_add(1) else {
-        return Err(OutOfMemory);
-    };
     let before = out.len();
     push(out, Instr::EndTurn)?;
-    act(seen, turn, inner, out)?;
+    act(seen, turn, out)?;
     let passed = out.len().saturating_sub(before);
     push(out, Instr::ForEach(passed))?;
     value(seen, e, out)
@@ -156,10 +138,9 @@ fn turns<'a>(
 fn give<'a>(
     seen: &Seen<'a>,
     e: &'a Option<TExpr>,
-    depth: usize,
     out: &mut Vec<Instr<'a>>,
 ) -> Result<(), OutOfMemory>
-    ensures { OnOk result (Acts seen.now depth (λ t. trees.result e.now t)
+    ensures { OnOk result (Acts seen.now (λ t. trees.result e.now t)
         (ahead out.old) (ahead out.new)) }
 {
     match e {
@@ -175,10 +156,9 @@ fn give<'a>(
 fn dropped<'a>(
     seen: &Seen<'a>,
     es: &'a [TExpr],
-    depth: usize,
     out: &mut Vec<Instr<'a>>,
 ) -> Result<(), OutOfMemory>
-    ensures { OnOk result (Acts seen.now depth
+    ensures { OnOk result (Acts seen.now
         (λ t. meaning.evaluate (trees.all_values (trees.exprs t es.now)))
         (ahead out.old) (ahead out.new)) }
 {
@@ -196,10 +176,9 @@ fn perform<'a>(
     seen: &Seen<'a>,
     number: usize,
     es: &'a [TExpr],
-    depth: usize,
     out: &mut Vec<Instr<'a>>,
 ) -> Result<(), OutOfMemory>
-    ensures { OnOk result (Acts seen.now depth
+    ensures { OnOk result (Acts seen.now
         (λ t. meaning.evaluate (meaning.call (slice_get t.functions number)
         (trees.all_values (trees.exprs t es.now)))) (ahead out.old) (ahead out.new)) }
 {
@@ -241,17 +220,16 @@ fn case<'a>(
     e: &'a TExpr,
     arms: &'a [TArm<TStmt>],
     otherwise: &'a [TStmt],
-    depth: usize,
     out: &mut Vec<Instr<'a>>,
 ) -> Result<(), OutOfMemory>
-    ensures { OnOk result (Acts seen.now depth
+    ensures { OnOk result (Acts seen.now
         (λ t. meaning.cases (trees.expr e.now t) (trees.arms (trees.arms_of t arms.now)
         (trees.body t otherwise.now))) (ahead out.old) (ahead out.new)) }
 {
     let before = out.len();
-    body(seen, otherwise, depth, out)?;
+    body(seen, otherwise, out)?;
     let other = out.len();
-    let starts = bodies(seen, arms, before, depth, out)?;
+    let starts = bodies(seen, arms, before, out)?;
     let passed = out.len().saturating_sub(other);
     push(out, Instr::Jump(passed))?;
     jumps(&starts, out)?;
@@ -265,18 +243,17 @@ fn bodies<'a>(
     seen: &Seen<'a>,
     arms: &'a [TArm<TStmt>],
     before: usize,
-    depth: usize,
     out: &mut Vec<Instr<'a>>,
 ) -> Result<Vec<usize>, OutOfMemory>
     ensures { IfOk result (λ starts. (old : List Instr) → before ≡ length old
         → Grows old (ahead out.old)
-        → Bodies seen.now depth arms.now starts.items old (ahead out.old) (ahead out.new)) }
+        → Bodies seen.now arms.now starts.items old (ahead out.old) (ahead out.new)) }
 {
     let mut starts = Vec::new(seen.alloc);
     for arm in arms {
         let passed = out.len().saturating_sub(before);
         push(out, Instr::Jump(passed))?;
-        body(seen, &arm.body, depth, out)?;
+        body(seen, &arm.body, out)?;
         starts.push(out.len())?;
     }
     Ok(starts)

@@ -1,21 +1,102 @@
 //! Conditions.
 
-ghost use Rattle.std.specs.Prelude.{◌≡◌, true, IfSome, OnOk};
+ghost use Rattle.std.specs.Prelude.{◌≡◌, ◌<◌, length, slice_get, true, IfSome, OnOk, Some};
 ghost use Rattle.filt_tree.specs.Trees as trees;
-ghost use Rattle.filt_compile.specs.Emits.{ahead, Asks, IsAsked, IsNet, IsNetIn, IsSet};
+ghost use Rattle.filt_compile.specs.Emits.{ahead, decider, landing, Asks, IsAsked, IsNet, IsNetIn, IsSet, Leads};
 
 use crate::emitted::push;
 use crate::seen::Seen;
 use crate::value::value;
 use bits_ip::OutOfMemory;
-use conf_ast::filters::{Attribute, CompareOp};
+use conf_ast::filters::{Attribute, CompareOp, LogicalOp};
 use filt_code::{Instr, Question};
 use filt_sets::PrefixSet;
 use filt_tree::TExpr;
 use filt_values::Fixed;
 
-/// What passes over so many instructions where a condition's truth value is this one.
+/// What jumps where a condition's truth value is this one, to the place that has so much code from it
+/// on. What `&&`, `||` and `!` join isn't put: each of their sides jumps by itself.
+#[cycle(conditions)]
 pub(crate) fn condition<'a>(
+    seen: &Seen<'a>,
+    e: &'a TExpr,
+    is: bool,
+    to: usize,
+    out: &mut Vec<Instr<'a>>,
+) -> Result<(), OutOfMemory>
+    ensures { OnOk result (Leads seen.now is to (λ t. trees.expr e.now t)
+        (ahead out.old) (ahead out.new)) }
+{
+    match e {
+        TExpr::Not(a) => condition(seen, a, !is, to, out),
+        TExpr::Joint(first, more) => joined(seen, first, more, is, to, out),
+        _ => {
+            let over = out.len().saturating_sub(to);
+            asked(seen, e, is, over, out)
+        }
+    }
+}
+
+/// An operand, and what is joined to it by `&&` and `||`.
+#[cycle(conditions)]
+fn joined<'a>(
+    seen: &Seen<'a>,
+    first: &'a TExpr,
+    more: &'a [(LogicalOp, TExpr)],
+    is: bool,
+    to: usize,
+    out: &mut Vec<Instr<'a>>,
+) -> Result<(), OutOfMemory>
+    ensures { OnOk result (Leads seen.now is to (λ t. trees.joints (trees.expr first.now t)
+        (trees.parts t more.now)) (ahead out.old) (ahead out.new)) }
+{
+    let mut n = more.len();
+    let mut wanted = is;
+    let mut place = to;
+    while n > 0 {
+        n -= 1;
+        let part = part_at(more, n);
+        let behind = out.len();
+        condition(seen, &part.1, wanted, place, out)?;
+        let deciding = decider(part.0);
+        place = landing(deciding, wanted, place, behind);
+        wanted = deciding;
+    }
+    condition(seen, first, wanted, place, out)
+}
+
+fn part_at(more: &[(LogicalOp, TExpr)], n: usize) -> &(LogicalOp, TExpr)
+    requires { n < length more.now }
+    ensures { slice_get more.now n ≡ Some result.now }
+{
+    &more[n]
+}
+
+/// The value of the left side of `&&` or `||` that decides.
+fn decider(joint: LogicalOp) -> bool
+    ensures { result ≡ decider joint }
+{
+    match joint {
+        LogicalOp::And => false,
+        LogicalOp::Or => true,
+    }
+}
+
+/// Where a left side leads that decides: to the place, where its value is wanted, else behind the
+/// right one.
+fn landing(deciding: bool, wanted: bool, place: usize, behind: usize) -> usize
+    ensures { result ≡ landing deciding wanted place behind }
+{
+    match (deciding, wanted) {
+        (true, true) => place,
+        (true, false) => behind,
+        (false, true) => behind,
+        (false, false) => place,
+    }
+}
+
+/// What passes over so many instructions where a condition's truth value is this one.
+fn asked<'a>(
     seen: &Seen<'a>,
     e: &'a TExpr,
     is: bool,

@@ -1,15 +1,13 @@
 //! The code of filters and of functions.
 
-ghost use Rattle.std.specs.Prelude.{◌≡◌, ◌≤◌, [], length, take, IfOk, List};
+ghost use Rattle.std.specs.Prelude.{◌≡◌, [], length, take, IfOk, List};
 ghost use Rattle.attrs.specs.declared.attributes.Attrs.{Attrs};
-ghost use Rattle.filt_meaning.specs.Configuration.{verdict_of};
 ghost use Rattle.filt_meaning.specs.Flow.{Frame};
-ghost use Rattle.filt_tree.specs.Trees as trees;
 ghost use Rattle.filt_meaning.specs.Names.{Around};
+ghost use Rattle.filt_tree.specs.Trees as trees;
 ghost use Rattle.filt_tree.specs.declared.scope.TFunction.{TFunction};
-ghost use Rattle.filt_code.specs.declared.code.Routine.{Routine};
-ghost use Rattle.filt_code.specs.Codes.{code_judged, mean, setting, Setting};
-ghost use Rattle.filt_compile.specs.Compiles.{beside, AreCompiled, IsCompiled};
+ghost use Rattle.filt_code.specs.Codes.{code_judged, mean, Setting};
+ghost use Rattle.filt_compile.specs.Compiles.{AreBefore, AreCompiled, IsCompiled};
 ghost use Rattle.filt_compile.specs.Emits.{tables_of};
 
 use crate::act::block;
@@ -20,37 +18,27 @@ use filt_tree::{TFilter, TFunction, TStmt};
 use filt_values::{Fixed, Sort};
 use std::alloc::Global;
 
-/// The code of a filter, over the constants of the scope, of which it sees the first. It does what
-/// the filter's statements do, wherever the same functions can be called, as many as it sees.
+/// The code of a filter, over the constants and the compiled functions of the scope, of which it sees
+/// the first. Its verdict is that of the filter, every fault included.
 pub fn compile<'a>(
     alloc: Global,
     constants: &'a [Fixed],
+    routines: &[Routine<'a>],
     filter: &'a TFilter,
 ) -> Result<Draft<'a>, OutOfMemory>
-    ensures functions { IfOk result (λ draft. draft.functions ≡ filter.now.functions) }
-    ensures judges { IfOk result (λ draft. (s : Setting)
-        → length s.functions ≡ filter.now.functions → (attrs : Attrs)
-        → verdict_of (mean s draft.code.items 0 [] [] attrs)
-        ≡ verdict_of (trees.run (beside (take filter.now.constants constants.now) s)
-        filter.now.sorts.items filter.now.body.items [] attrs)) }
-    ensures judged { IfOk result (λ draft. (around : Around) (fs : List TFunction)
-        (routines : List Routine) → filter.now.functions ≤ length fs
-        → (setting around (take draft.functions routines)).functions
-        ≡ (trees.tables around (take filter.now.constants constants.now)
-        (take filter.now.functions fs)).functions
-        → (attrs : Attrs) → code_judged around routines draft attrs
-        ≡ trees.judged around constants.now fs filter.now attrs) }
+    ensures { IfOk result (λ draft. (functions : List TFunction)
+        → AreCompiled constants.now 0 functions routines.now → AreBefore functions filter.now
+        → (around : Around) (attrs : Attrs) → code_judged around routines.now draft attrs
+        ≡ trees.judged around constants.now functions filter.now attrs) }
 {
+    let functions = first(routines, filter.functions).len();
     let seen = Seen {
         alloc,
         constants: first(constants, filter.constants),
-        functions: filter.functions,
+        functions,
     };
-    let code = code(&seen, &filter.sorts, &filter.body, 0)?;
-    Ok(Draft {
-        functions: filter.functions,
-        code,
-    })
+    let code = code(&seen, &filter.sorts, &filter.body)?;
+    Ok(Draft { functions, code })
 }
 
 /// The code of functions, each of which calls earlier ones alone, over the constants of the scope.
@@ -84,8 +72,7 @@ fn routine<'a>(
         constants: first(constants, function.constants),
         functions: number,
     };
-    let arguments = function.parameters.len();
-    let code = code(&seen, &function.sorts, &function.body, arguments)?;
+    let code = code(&seen, &function.sorts, &function.body)?;
     Ok(Routine {
         parameters: &function.parameters,
         gives: function.gives,
@@ -93,20 +80,18 @@ fn routine<'a>(
     })
 }
 
-/// The code of statements over variables of these sorts behind so many arguments.
+/// The code of statements over variables of these sorts, behind the arguments.
 fn code<'a>(
     seen: &Seen<'a>,
     sorts: &'a [Sort],
     statements: &'a [TStmt],
-    arguments: usize,
 ) -> Result<Vec<Instr<'a>>, OutOfMemory>
     ensures { IfOk result (λ code. (s : Setting) → length s.functions ≡ seen.now.functions
-        → (vals : Frame) (attrs : Attrs) → length vals ≡ arguments
-        → mean s code.items 0 vals [] attrs
+        → (vals : Frame) (attrs : Attrs) → mean s code.items 0 vals [] attrs
         ≡ trees.run (tables_of seen.now s) sorts.now statements.now vals attrs) }
 {
     let mut out = Vec::new(seen.alloc);
-    block(seen, sorts, statements, arguments, &mut out)?;
+    block(seen, sorts, statements, &mut out)?;
     out.reverse();
     Ok(out)
 }

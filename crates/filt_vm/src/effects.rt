@@ -51,8 +51,9 @@ pub(crate) fn effect<'a>(
         Effect::Assign(a) => assign(a, operands, attrs),
         Effect::Unset(a) => Ok(attrs.unset(around.alloc, a)?),
         Effect::Declare(sort) => Ok(locals.push(around.default(sort))?),
-        Effect::Leave(depth) => {
-            locals.truncate(depth);
+        Effect::Leave(count) => {
+            let left = locals.len().saturating_sub(count);
+            locals.truncate(left);
             Ok(())
         }
     }

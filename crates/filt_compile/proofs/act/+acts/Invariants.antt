@@ -32,11 +32,11 @@ decreases-turns l = k.act_cost l.turn.now + 1
 abbrev pub invariant-body-loop-n : goal.invariant-body-loop-n
 invariant-body-loop-n l = record {
   low : l.n ≤ length l.statements;
-  made : Acts l.seen l.depth (λ t. trees.body t (drop l.n l.statements)) (ahead l.initial.out) (ahead l.out);
+  made : Acts l.seen (λ t. trees.body t (drop l.n l.statements)) (ahead l.initial.out) (ahead l.out);
 }
 
 abbrev pub decreases-body-loop-n : goal.decreases-body-loop-n
 decreases-body-loop-n l = l.n
 
 abbrev pub invariant-bodies-loop-arm : goal.invariant-bodies-loop-arm
-invariant-bodies-loop-arm l = (old : List Instr) → l.before ≡ length old → Grows old (ahead l.initial.out) → Bodies l.seen l.depth (take l.arm-index l.arms) l.starts.items old (ahead l.initial.out) (ahead l.out)
+invariant-bodies-loop-arm l = (old : List Instr) → l.before ≡ length old → Grows old (ahead l.initial.out) → Bodies l.seen (take l.arm-index l.arms) l.starts.items old (ahead l.initial.out) (ahead l.out)

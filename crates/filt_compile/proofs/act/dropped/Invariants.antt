@@ -6,7 +6,7 @@ use Rattle.filt_compile.proofs.act.dropped.Given as goal
 abbrev pub invariant-loop-n : goal.invariant-loop-n
 invariant-loop-n l = record {
   low : l.n ≤ length l.es;
-  made : ac.Printed l.seen l.depth (drop l.n l.es) (ahead l.initial.out) (ahead l.out);
+  made : ac.Printed l.seen (drop l.n l.es) (ahead l.initial.out) (ahead l.out);
 }
 
 abbrev pub decreases-loop-n : goal.decreases-loop-n

@@ -10,7 +10,7 @@ use Rattle.filt_compile.proofs.Acting as ac
 use Rattle.filt_compile.proofs.act.give.Goals as goal
 
 pub returns-in-None : goal.returns-in-None
-returns-in-None c = on_ok_weaker c.push.result (λ is. ac.acts_as c.args.seen.now c.args.depth _ (λ t. trees.result c.args.e.now t) (ahead c.args.out.now) (ahead c.push.new.out) (λ u vals attrs. ap (λ (x : Option TExpr). trees.result x u vals attrs) c.in-None.is) (ac.acts_stop c.args.seen.now c.args.depth instrs.ReturnNothing AtEnd (ahead c.args.out.now) (ahead c.push.new.out) is (λ s vals attrs. refl))) c.push.ensures
+returns-in-None c = on_ok_weaker c.push.result (λ is. ac.acts_as c.args.seen.now _ (λ t. trees.result c.args.e.now t) (ahead c.args.out.now) (ahead c.push.new.out) (λ u vals attrs. ap (λ (x : Option TExpr). trees.result x u vals attrs) c.in-None.is) (ac.acts_stop c.args.seen.now instrs.ReturnNothing AtEnd (ahead c.args.out.now) (ahead c.push.new.out) is (λ s vals attrs. refl))) c.push.ensures
 
 pub returns-in_ok-push-in-Some : goal.returns-in_ok-push-in-Some
-returns-in_ok-push-in-Some c = on_ok_weaker c.value.result (λ p. ac.acts_as c.args.seen.now c.args.depth _ (λ t. trees.result c.args.e.now t) (ahead c.args.out.now) (ahead c.value.new.out) (λ u vals attrs. ap (λ (x : Option TExpr). trees.result x u vals attrs) c.in-Some.is) (ac.acts_give c.args.seen.now c.args.depth _ (ahead c.args.out.now) (ahead c.push-in-Some.new.out) (ahead c.value.new.out) c.in_ok-push-in-Some.ensures p)) c.value.ensures
+returns-in_ok-push-in-Some c = on_ok_weaker c.value.result (λ p. ac.acts_as c.args.seen.now _ (λ t. trees.result c.args.e.now t) (ahead c.args.out.now) (ahead c.value.new.out) (λ u vals attrs. ap (λ (x : Option TExpr). trees.result x u vals attrs) c.in-Some.is) (ac.acts_give c.args.seen.now _ (ahead c.args.out.now) (ahead c.push-in-Some.new.out) (ahead c.value.new.out) c.in_ok-push-in-Some.ensures p)) c.value.ensures

@@ -5,7 +5,7 @@ use Rattle.filt_compile.proofs.Acting as ac
 use Rattle.filt_compile.proofs.act.perform.Goals as goal
 
 pub returns-then-number-seen : goal.returns-then-number-seen
-returns-then-number-seen c = on_ok_weaker c.values.result (λ p. ac.acts_perform c.args.seen.now c.args.depth c.args.number (length c.args.es.now) c.args.es.now (ahead c.args.out.now) (ahead c.push.new.out) (ahead c.values.new.out) c.if-number-seen.true refl c.in_ok-push.ensures p) c.values.ensures
+returns-then-number-seen c = on_ok_weaker c.values.result (λ p. ac.acts_perform c.args.seen.now c.args.number (length c.args.es.now) c.args.es.now (ahead c.args.out.now) (ahead c.push.new.out) (ahead c.values.new.out) c.if-number-seen.true refl c.in_ok-push.ensures p) c.values.ensures
 
 pub returns : goal.returns
-returns c = on_ok_weaker c.push-2.result (λ is. ac.no_perform c.args.seen.now c.args.depth c.args.number c.args.es.now (ahead c.args.out.now) (ahead c.push-2.new.out) (omega (arith, c.if-number-seen.false)) is) c.push-2.ensures
+returns c = on_ok_weaker c.push-2.result (λ is. ac.no_perform c.args.seen.now c.args.number c.args.es.now (ahead c.args.out.now) (ahead c.push-2.new.out) (omega (arith, c.if-number-seen.false)) is) c.push-2.ensures

@@ -1,4 +1,4 @@
-use Rattle.std.proofs.Common.{◌∙◌, refl}
+use Rattle.std.proofs.Common.{refl}
 use Rattle.filt_code.specs.declared.code.Routine.{Routine}
 use Rattle.filt_compile.specs.declared.seen.Seen.{Seen}
 use Rattle.filt_compile.proofs.Compiling as cm
@@ -8,4 +8,4 @@ pub returns : goal.returns
 returns c =
     let seen : Seen = record { alloc = c.args.alloc; constants = c.first.result; functions = c.args.number } in
     let made : Routine = record { parameters = c.deref-3.result; gives = c.args.function.now.gives; code = c.in_ok-code.code } in
-    cm.function_code seen c.args.constants.now c.args.number c.len-arguments.result c.args.function.now made c.deref.result.now c.deref-2.result.now c.first.ensures refl c.deref.ensures.value c.deref-2.ensures.value (c.len-arguments.ensures ∙ c.args.function.now.parameters.ok.0) refl c.in_ok-code.ensures
+    cm.function_code seen c.args.constants.now c.args.number c.args.function.now made c.deref.result.now c.deref-2.result.now c.first.ensures refl c.deref.ensures.value c.deref-2.ensures.value refl c.in_ok-code.ensures

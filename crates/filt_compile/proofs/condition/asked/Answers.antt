@@ -6,7 +6,7 @@ use Rattle.filt_tree.specs.Trees as trees
 use Rattle.filt_compile.specs.Emits.{ahead}
 use Rattle.filt_compile.proofs.Acting as ac
 use Rattle.filt_compile.proofs.Walk as w
-use Rattle.filt_compile.proofs.condition.condition.Goals as goal
+use Rattle.filt_compile.proofs.condition.asked.Goals as goal
 
 pub returns-in-Test : goal.returns-in-Test
 returns-in-Test c = on_ok_weaker c.push-in-Test.result (λ is. ac.asks_as c.args.seen.now c.args.is c.args.over _ (λ t. trees.expr c.args.e.now t) (ahead c.args.out.now) (ahead c.push-in-Test.new.out) (λ u vals attrs. w.test_is u c.in-Test.what c.args.e.now vals attrs c.in-Test.is) (ac.test_asks c.args.seen.now c.args.is c.args.over c.in-Test.what (ahead c.args.out.now) (ahead c.push-in-Test.new.out) is)) c.push-in-Test.ensures
