@@ -4,9 +4,10 @@ use Rattle.std.proofs.KnownBytes.{Appends-nil}
 use Rattle.std.proofs.Math.Seq.{take-append_seam}
 use Rattle.std.proofs.lemmas.Grind.{flat_map-append}
 use Rattle.std.proofs.lemmas.List.{length-append, length-map, map-append}
+use Rattle.std.proofs.lemmas.List.Elements.{All-head, All-tail}
 use Rattle.std.specs.Prelude.{codes}
 use Rattle.std.specs.Io.KnownBytes.{Appends, Keeps}
-use Rattle.std.specs.List.{AllByRecursion, flat_map}
+use Rattle.std.specs.List.{All, flat_map}
 use Rattle.attrs.specs.declared.judge.Verdict.{Verdict}
 use Rattle.attrs.specs.declared.route.Route.{Route}
 use Rattle.bits_ip.specs.Prefix.{Net}
@@ -66,12 +67,12 @@ so_far a b c reports report (phase ∷ more) before text =
 -- ---- phases
 
 -- what holds of each phase holds of the next
-next_of : {A : Type 0} (P : A → Type 0) (front : List A) (x : A) (back : List A) → AllByRecursion P (front ++ x ∷ back) → P x
-next_of P [] x back all = all.0
-next_of P (y ∷ front) x back all = next_of P front x back all.1
+next_of : {A : Type 0} (P : A → Type 0) (front : List A) (x : A) (back : List A) → All P (front ++ x ∷ back) → P x
+next_of P [] x back all = All-head P x back all
+next_of P (y ∷ front) x back all = next_of P front x back (All-tail P y (front ++ x ∷ back) all)
 
-pub asked_next : {A B : Type 0} (P : B → Type 0) (f : A → B) (front : List A) (x : A) (back whole : List A) → front ++ x ∷ back ≡ whole → AllByRecursion P (map f whole) → P (f x)
-asked_next P f front x back whole is all = next_of P (map f front) (f x) (map f back) (subst (AllByRecursion P) (ap (λ l. map f l) (sym is) ∙ map-append f front (x ∷ back)) all)
+pub asked_next : {A B : Type 0} (P : B → Type 0) (f : A → B) (front : List A) (x : A) (back whole : List A) → front ++ x ∷ back ≡ whole → All P (map f whole) → P (f x)
+asked_next P f front x back whole is all = next_of P (map f front) (f x) (map f back) (subst (All P) (ap (λ l. map f l) (sym is) ∙ map-append f front (x ∷ back)) all)
 
 -- what is done and what is left
 pub split : {A B : Type 0} (f : A → B) (done rest all : List A) → done ++ rest ≡ all → map f all ≡ map f done ++ map f rest

@@ -6,7 +6,7 @@
 -- Example: the worked run of docs/DEFINITIONS.md.
 use Rattle.std.specs.Prelude.{◌≡◌, ℕ, List, [], ◌∷◌, ◌++◌, codes, map, Option}
 use Rattle.std.specs.Io.KnownBytes.{Appends}
-use Rattle.std.specs.List.{AllByRecursion, flat_map}
+use Rattle.std.specs.List.{All, flat_map}
 use Rattle.attrs.specs.declared.judge.Verdict.{Verdict}
 use Rattle.attrs.specs.declared.route.Route.{Route}
 use Rattle.bits_ip.specs.Prefix.{Net}
@@ -81,7 +81,7 @@ phases_read script = map (λ phase. phase.items) script.phases.items
 
 -- each line of these phases asks for what there is, of so many queries
 abbrev pub AskWhatIs : ℕ → List (List Line) → Type 0
-AskWhatIs queries phases = AllByRecursion (AllByRecursion (AsksWhatIs queries)) phases
+AskWhatIs queries phases = All (All (AsksWhatIs queries)) phases
 
 -- ---- the same of a given play
 
