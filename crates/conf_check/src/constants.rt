@@ -56,22 +56,19 @@ fn copy_mask(alloc: Global, mask: &Mask) -> Result<Fixed, OutOfMemory>
 fn copy_ints(alloc: Global, set: &IntSet) -> Result<Fixed, OutOfMemory>
     ensures { IfOk result (λ v. val_of_fixed v ≡ VIntSet set.now) }
 {
-    let items = Vec::from_slice(alloc, set.items())?;
-    Ok(Fixed::IntSet(IntSet::make(items)))
+    Ok(Fixed::IntSet(set.copy(alloc)?))
 }
 
 fn copy_pairs(alloc: Global, set: &PairSet) -> Result<Fixed, OutOfMemory>
     ensures { IfOk result (λ v. val_of_fixed v ≡ VPairSet set.now) }
 {
-    let items = Vec::from_slice(alloc, set.items())?;
-    Ok(Fixed::PairSet(PairSet::make(items)))
+    Ok(Fixed::PairSet(set.copy(alloc)?))
 }
 
 fn copy_prefixes(alloc: Global, set: &PrefixSet) -> Result<Fixed, OutOfMemory>
     ensures { IfOk result (λ v. val_of_fixed v ≡ VPrefixSet set.now) }
 {
-    let items = Vec::from_slice(alloc, set.items())?;
-    Ok(Fixed::PrefixSet(PrefixSet::make(items)))
+    Ok(Fixed::PrefixSet(set.copy(alloc)?))
 }
 
 /// The value of another constant.

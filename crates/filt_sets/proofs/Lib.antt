@@ -1,4 +1,5 @@
 pub mod Cuts
+mod Given
 mod InOrder
 mod Marks
 mod Meaning

@@ -1,5 +1,5 @@
 -- Nets in their order: where those stand that cover a net, and those that it covers.
-use Rattle.std.proofs.Common.{◌≡◌, ℕ, ◌<◌, ◌≤◌, ◌+◌, ◌-◌, ◌*◌, ◌/◌, ◌%◌, ◌^◌, ◌↔◌, ◌⊎◌, ⊎_elim, inl, inr, suc, min, Option, Result, Ok, Err, IfOk, OnErr, IsSomeAnd, Bool, true, false, not, IsTrue, List, [], ◌∷◌, length, get_or, take, drop, All, refl, sym, ap, ◌∙◌, subst, arith}
+use Rattle.std.proofs.Common.{◌≡◌, ℕ, ◌<◌, ◌≤◌, ◌+◌, ◌-◌, ◌*◌, ◌/◌, ◌%◌, ◌^◌, ◌↔◌, ◌⊎◌, ⊎_elim, inl, inr, suc, min, Option, Result, Ok, Err, IfOk, OnErr, IsSomeAnd, Bool, true, false, not, IsTrue, List, length, get_or, take, drop, All, refl, sym, ap, ◌∙◌, subst, arith}
 use Rattle.std.specs.Prelude.{Any, ◌&&◌, ◌==◌, nat_le}
 use Rattle.std.specs.Result.{result_ok}
 use Rattle.std.specs.Ordering.{is_lt, nat_cmp, ordering_then}
@@ -18,7 +18,7 @@ use lib.Count.{count_leading_zeros}
 use Rattle.bits_ip.specs.declared.address.Addr.{Addr}
 use Rattle.bits_ip.specs.declared.address.Addr.TheVariants.{V4, V6}
 use Rattle.bits_ip.specs.Address.{family_of, family_rank, number_of, width_of}
-use Rattle.bits_ip.specs.Prefix.{Net, IsPrefix, Covers, front_bits, net_cmp, precedes}
+use Rattle.bits_ip.specs.Prefix.{Net, IsPrefix, Covers, front_bits, precedes}
 use Rattle.filt_sets.specs.declared.prefixes.PrefixItem.{PrefixItem}
 use Rattle.filt_sets.specs.Search.{AreBehind, AreLeft, AreRising, AreInOrder, HoldCovering, IsNet, IsShared, TakesCovered, TakesCovering, TakesLength, is_covered}
 use Rattle.filt_sets.specs.Sets.{TakesNet}

@@ -1,10 +1,10 @@
 -- How the code searches sets and masks: nothing that is promised. Of `cuts`, which filt_values
 -- names, a law says that it is `IsCut` of Mask.
-use Rattle.std.specs.Prelude.{◌≡◌, ℕ, ◌<◌, ◌≤◌, ◌==◌, nat_le, nat_lt, if◌then◌else◌, ⊤}
+use Rattle.std.specs.Prelude.{◌≡◌, ℕ, ◌<◌, ◌≤◌, ◌==◌, nat_le, nat_lt, if◌then◌else◌, IsTrue}
 use Rattle.std.specs.Prelude.{Bool, true, false, ◌&&◌, ◌||◌}
 use Rattle.std.specs.Prelude.{List, [], ◌∷◌, length, take, drop, slice_index_or, All}
 use Rattle.std.specs.List.{AllAdjacentBelow}
-use Rattle.std.specs.List.Sorted.{IsSortedBy}
+use Rattle.std.specs.List.Sorted.{IsPermutation, IsSortedBy}
 use Rattle.std.specs.declared.cmp.Ordering.{Ordering}
 use Rattle.std.specs.declared.cmp.Ordering.TheVariants.{Less, Equal, Greater}
 use Rattle.bits_ip.specs.declared.address.Addr.{Addr}
@@ -13,7 +13,7 @@ use Rattle.bits_ip.specs.Prefix.{Net, IsPrefix, Covers, front_bits, precedes}
 use Rattle.filt_sets.specs.declared.ints.IntItem.{IntItem}
 use Rattle.filt_sets.specs.declared.prefixes.PrefixItem.{PrefixItem}
 use Rattle.filt_sets.specs.declared.prefixes.Search.{Search}
-use Rattle.filt_sets.specs.declared.prefixes.Search.TheVariants.{Each, Exact, InOrder}
+use Rattle.filt_sets.specs.declared.prefixes.Search.TheVariants.{Exact, InOrder}
 use Rattle.filt_sets.specs.declared.mask.Atom.{Atom}
 use Rattle.filt_sets.specs.declared.mask.Atom.TheVariants.{Range, One, Any}
 use Rattle.filt_sets.specs.declared.mask.MaskItem.{MaskItem}
@@ -64,6 +64,11 @@ pub record AreApart (items : List IntItem) : Type 0 where
   pub filled : All (λ item. item.lo ≤ item.hi) items
   pub rising : AllAdjacentBelow (λ a b. a.hi < b.lo) items (length items)
 
+-- These are the items that were given, in order and apart where `are_apart` says so.
+pub record HoldsInts (are_apart : Bool) (given items : List IntItem) : Type 0 where
+  pub fits : IsTrue are_apart → AreApart items
+  pub permutation : IsPermutation given items
+
 -- an item that takes its own net alone
 pub record IsExact (item : PrefixItem) : Type 0 where
   pub prefix : IsPrefix item.net.addr item.net.len
@@ -98,9 +103,13 @@ pub record AreInOrder (shortest : ℕ) (items : List PrefixItem) : Type 0 where
 
 -- the items may be searched so
 abbrev pub IsSearchOf : Search → List PrefixItem → Type 0
-IsSearchOf Each items = ⊤
 IsSearchOf Exact items = AreExact items
 IsSearchOf (InOrder shortest) items = AreInOrder shortest items
+
+-- These are the items that were given, in an order by which they may be searched.
+pub record HoldsNets (way : Search) (given items : List PrefixItem) : Type 0 where
+  pub fits : IsSearchOf way items
+  pub permutation : IsPermutation given items
 
 -- the item's net covers this one, whose length it takes
 pub record TakesCovered (net : Net) (item : PrefixItem) : Type 0 where

@@ -1,8 +1,12 @@
-ghost use Rattle.std.specs.Prelude.{◌≡◌, ◌↔◌, ◌<◌, ◌≤◌, IsTrue, All, Any, length};
+ghost use Rattle.std.specs.Prelude.{◌≡◌, ◌↔◌, ◌<◌, ◌≤◌, IfOk, IsTrue, All, Any, length};
 ghost use Rattle.std.specs.List.{AllAdjacentBelow};
+ghost use Rattle.std.specs.List.Sorted.{IsPermutation};
 ghost use Rattle.filt_sets.specs.Search.{AreApart, side_of};
 ghost use Rattle.filt_sets.specs.Sets.{TakesInt};
 
+use crate::written::Written;
+use bits_ip::OutOfMemory;
+use std::alloc::Global;
 use std::cmp::Ordering;
 use std::marker::Model;
 
@@ -41,6 +45,8 @@ pub struct IntSet {
     items: Vec<IntItem>,
     /// Set only where the items are in rising order and apart.
     are_apart: bool,
+    /// The items as they were given.
+    written: Written<Vec<IntItem>>,
 }
 
 impl Model for IntSet {
@@ -49,40 +55,77 @@ impl Model for IntSet {
 
     ghost Value = { List IntItem };
 
-    ghost use Rattle.std.specs.Prelude.{IsTrue};
-    ghost use Rattle.filt_sets.specs.Search.{AreApart};
+    ghost use Rattle.filt_sets.specs.Search.{HoldsInts};
 
-    ghost view = { λ set. set.items.items };
+    ghost view = { λ set. set.written.value.items };
 
-    ghost invariant = { λ set. IsTrue set.are_apart → AreApart set.items.items };
+    ghost invariant = { λ set. HoldsInts set.are_apart set.written.value.items set.items.items };
 }
 
 impl IntSet {
-    /// The set of these items, which it goes over once. Takes no memory.
+    /// The set of these items. Where they aren't apart and in rising order, they are put in the
+    /// order of their first numbers. Takes no memory.
     pub fn make(items: Vec<IntItem>) -> IntSet
         ensures { result ≡ items.items }
     {
-        let are_apart = are_apart(&items);
-        IntSet { items, are_apart }
+        let written = Written::of(&items);
+        let mut items = items;
+        let are_apart = put_in_order(&mut items);
+        IntSet {
+            items,
+            are_apart,
+            written,
+        }
     }
 
-    pub fn items(&self) -> &[IntItem]
-        ensures { result.now ≡ self.now }
+    /// The same set once more.
+    pub fn copy(&self, alloc: Global) -> Result<IntSet, OutOfMemory>
+        ensures { IfOk result (λ set. set ≡ self.now) }
     {
-        self.items.as_slice()
+        Ok(IntSet {
+            items: Vec::from_slice(alloc, &self.items)?,
+            are_apart: self.are_apart,
+            written: self.written.again(),
+        })
     }
 
-    /// Whether some item has the number in its range. A binary search answers where the items are
-    /// in rising order and apart, else a walk over the items.
+    /// Whether some item has the number in its range. A binary search answers where the ranges are
+    /// apart, else a walk over the items.
     pub fn has(&self, number: u32) -> bool
         ensures { IsTrue result ↔ Any (λ item. TakesInt item number) self.now }
     {
-        if self.are_apart {
-            has_in_order(self.items.as_slice(), number)
-        } else {
-            self.items.iter().any(|item| item.takes(number))
-        }
+        has_int(self.are_apart, &self.items, number)
     }
+}
+
+fn has_int(are_apart: bool, items: &[IntItem], number: u32) -> bool
+    requires { IsTrue are_apart → AreApart items.now }
+    ensures { IsTrue result ↔ Any (λ item. TakesInt item number) items.now }
+{
+    if are_apart {
+        has_in_order(items, number)
+    } else {
+        items.iter().any(|item| item.takes(number))
+    }
+}
+
+/// Whether they are in rising order and apart in the end.
+fn put_in_order(items: &mut Vec<IntItem>) -> bool
+    ensures permutation { IsPermutation items.old.items items.new.items }
+    ensures apart { IsTrue result → AreApart items.new.items }
+{
+    if are_apart(items) {
+        true
+    } else {
+        sort(items);
+        are_apart(items)
+    }
+}
+
+fn sort(items: &mut Vec<IntItem>)
+    ensures { IsPermutation items.old.items items.new.items }
+{
+    items.sort_unstable_by(|a, b| a.lo.cmp(&b.lo));
 }
 
 fn are_apart(items: &[IntItem]) -> bool

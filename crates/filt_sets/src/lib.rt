@@ -7,9 +7,10 @@
 //! both have. A mask is seen as the list of its items too, and matches a path that can be cut into
 //! one piece for each of them.
 //!
-//! Nothing here takes memory. Where the ranges of a set of numbers are in order and apart, or the
-//! nets of a set of prefixes are in order, searches by halves answer, else a walk over the items.
-//! A mask costs its items times the path's length.
+//! Nothing here but `copy` takes memory. The items of a set of numbers or of prefixes are put in
+//! order when it is made, which no answer tells, and searches by halves answer; where ranges of
+//! numbers overlap, and for pairs, it is a walk over the items. A mask costs its items times the
+//! path's length.
 #![tactic(auto)]
 
 mod covering;
@@ -18,6 +19,7 @@ pub mod laws;
 mod mask;
 mod pairs;
 mod prefixes;
+mod written;
 
 pub use ints::{IntItem, IntSet};
 pub use mask::{Atom, Mask, MaskItem};

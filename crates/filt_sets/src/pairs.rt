@@ -1,7 +1,9 @@
-ghost use Rattle.std.specs.Prelude.{◌≡◌, ◌↔◌, IsTrue, Any};
+ghost use Rattle.std.specs.Prelude.{◌≡◌, ◌↔◌, IfOk, IsTrue, Any};
 ghost use Rattle.filt_sets.specs.Sets.{TakesPair};
 
 use crate::IntItem;
+use bits_ip::OutOfMemory;
+use std::alloc::Global;
 use std::marker::Model;
 
 /// A range for each part of a pair, written `(a..b, c..d)`. `*` is the range of all numbers.
@@ -42,10 +44,13 @@ impl PairSet {
         PairSet { items }
     }
 
-    pub fn items(&self) -> &[PairItem]
-        ensures { result.now ≡ self.now }
+    /// The same set once more.
+    pub fn copy(&self, alloc: Global) -> Result<PairSet, OutOfMemory>
+        ensures { IfOk result (λ set. set ≡ self.now) }
     {
-        self.items.as_slice()
+        Ok(PairSet {
+            items: Vec::from_slice(alloc, &self.items)?,
+        })
     }
 
     /// Whether some item has each part in its range.

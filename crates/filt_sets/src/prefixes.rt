@@ -1,12 +1,14 @@
-ghost use Rattle.std.specs.Prelude.{◌≡◌, ◌↔◌, IsTrue, All, Any};
-ghost use Rattle.std.specs.List.Sorted.{IsSortedBy};
+ghost use Rattle.std.specs.Prelude.{◌≡◌, ◌↔◌, IsTrue, IfOk, All, Any};
+ghost use Rattle.std.specs.List.Sorted.{IsPermutation, IsSortedBy};
 ghost use Rattle.bits_ip.specs.Prefix.{precedes};
 ghost use Rattle.filt_sets.specs.Search.{AreExact, AreInOrder, IsExact, IsNet, IsSearchOf};
 ghost use Rattle.filt_sets.specs.Search.{Reaches, TakesLength};
 ghost use Rattle.filt_sets.specs.Sets.{TakesNet};
 
 use crate::covering::{has_covered, has_covering};
-use bits_ip::Prefix;
+use crate::written::Written;
+use bits_ip::{OutOfMemory, Prefix};
+use std::alloc::Global;
 use std::marker::Model;
 
 /// A pattern of prefixes, with the lengths that it takes: `a/l` takes `l` alone, `a/l+` from `l` to
@@ -58,14 +60,12 @@ impl PrefixItem {
     }
 }
 
-/// How a set is searched.
+/// How the items are searched, whose nets are in their order.
 #[derive(Clone, Copy, Debug)]
 enum Search {
-    /// Item by item.
-    Each,
-    /// The nets are in their order, and each item takes its own alone.
+    /// Each item takes its own net alone.
     Exact,
-    /// The nets are in their order. No item takes a net shorter than its own and than this length.
+    /// No item takes a net shorter than its own and than this length.
     InOrder { shortest: u8 },
 }
 
@@ -74,6 +74,8 @@ enum Search {
 pub struct PrefixSet {
     items: Vec<PrefixItem>,
     search: Search,
+    /// The items as they were given.
+    written: Written<Vec<PrefixItem>>,
 }
 
 impl Model for PrefixSet {
@@ -82,51 +84,84 @@ impl Model for PrefixSet {
 
     ghost Value = { List PrefixItem };
 
-    ghost use Rattle.filt_sets.specs.Search.{IsSearchOf};
+    ghost use Rattle.filt_sets.specs.Search.{HoldsNets};
 
-    ghost view = { λ set. set.items.items };
+    ghost view = { λ set. set.written.value.items };
 
-    ghost invariant = { λ set. IsSearchOf set.search set.items.items };
+    ghost invariant = { λ set. HoldsNets set.search set.written.value.items set.items.items };
 }
 
 impl PrefixSet {
-    /// The set of these items, which it goes over at most three times. Takes no memory.
+    /// The set of these items. Where their nets aren't in order, they are put in order. Takes no
+    /// memory.
     pub fn make(items: Vec<PrefixItem>) -> PrefixSet
         ensures { result ≡ items.items }
     {
+        let written = Written::of(&items);
+        let mut items = items;
+        put_in_order(&mut items);
         let search = search_of(&items);
-        PrefixSet { items, search }
+        PrefixSet {
+            items,
+            search,
+            written,
+        }
     }
 
-    pub fn items(&self) -> &[PrefixItem]
-        ensures { result.now ≡ self.now }
+    /// The same set once more.
+    pub fn copy(&self, alloc: Global) -> Result<PrefixSet, OutOfMemory>
+        ensures { IfOk result (λ set. set ≡ self.now) }
     {
-        self.items.as_slice()
+        Ok(PrefixSet {
+            items: Vec::from_slice(alloc, &self.items)?,
+            search: self.search,
+            written: self.written.again(),
+        })
     }
 
     /// Whether some item takes the net.
     ///
-    /// Where the nets of the items are in their order, binary searches answer: at most one more
-    /// than the net has bits, and two for the items that the net covers, which are walked over if
-    /// the set takes nets so short. Where each item takes its own net alone, it is one search. Out
-    /// of their order all items are walked over.
+    /// Binary searches answer: at most one more than the net has bits, and two for the items that
+    /// the net covers, which are walked over if the set takes nets so short. Where each item takes
+    /// its own net alone, it is one search.
     pub fn has(&self, net: &Prefix) -> bool
         ensures { IsTrue result ↔ Any (λ item. TakesNet item net.now) self.now }
     {
-        match self.search {
-            Search::Each => self.items.iter().any(|item| item.takes(net)),
-            Search::Exact => has_exact(self.items.as_slice(), net),
-            Search::InOrder { shortest } => has_in_order(self.items.as_slice(), shortest, net),
-        }
+        has_net(self.search, &self.items, net)
     }
 }
 
-fn search_of(items: &[PrefixItem]) -> Search
-    ensures { IsSearchOf result items.now }
+fn has_net(search: Search, items: &[PrefixItem], net: &Prefix) -> bool
+    requires { IsSearchOf search items.now }
+    ensures { IsTrue result ↔ Any (λ item. TakesNet item net.now) items.now }
+{
+    match search {
+        Search::Exact => has_exact(items, net),
+        Search::InOrder { shortest } => has_in_order(items, shortest, net),
+    }
+}
+
+fn put_in_order(items: &mut Vec<PrefixItem>)
+    ensures permutation { IsPermutation items.old.items items.new.items }
+    ensures rising { IsSortedBy (λ a b. precedes a.net b.net) items.new.items }
 {
     if !rise(items) {
-        Search::Each
-    } else if take_one_each(items) {
+        sort(items);
+    }
+}
+
+fn sort(items: &mut Vec<PrefixItem>)
+    ensures permutation { IsPermutation items.old.items items.new.items }
+    ensures rising { IsSortedBy (λ a b. precedes a.net b.net) items.new.items }
+{
+    items.sort_unstable_by(|a, b| a.net.cmp(&b.net));
+}
+
+fn search_of(items: &[PrefixItem]) -> Search
+    requires { IsSortedBy (λ a b. precedes a.net b.net) items.now }
+    ensures { IsSearchOf result items.now }
+{
+    if take_one_each(items) {
         Search::Exact
     } else {
         Search::InOrder {
