@@ -88,11 +88,7 @@ fn push(exporter: &mut Exporter<All>, outlet: &mut Refusing) -> Result<Pushed, P
 type Answers = [Result<Pushed, PushFault>; 3];
 
 /// What three pushes answer, the first of which is refused, and whether the log then has the value.
-fn pushed(
-    alloc: Global,
-    hasher: RandomState,
-    fault: PushFault,
-) -> Result<(Answers, bool), Fail> {
+fn pushed(alloc: Global, hasher: RandomState, fault: PushFault) -> Result<(Answers, bool), Fail> {
     let mut exporter = Exporter::make(alloc, hasher, spec(alloc), All);
     begin(alloc, &mut exporter)?;
     let mut outlet = Refusing {

@@ -1,6 +1,6 @@
 -- Lists of marks, as keys are marked one after another.
-use Rattle.std.proofs.Common.{◌≡◌, Ordering, Less, Equal, Greater, ℕ, Bool, true, false, not, List, [], ◌∷◌, ◌++◌, Option, Some, None, refl, inl, inr, sym, ◌∙◌, ap, subst, cond, is_some, option_and_then, option_map}
-use Rattle.std.specs.Prelude.{◌||◌, ◌&&◌, IsSome, if◌then◌else◌}
+use Rattle.std.proofs.Common.{◌≡◌, Ordering, Less, Equal, Greater, ℕ, Bool, true, false, not, List, [], ◌∷◌, ◌++◌, Option, Some, None, refl, inl, inr, sym, ◌∙◌, ap, subst, cond, is_some, option_and_then}
+use Rattle.std.specs.Prelude.{◌||◌, ◌&&◌, if◌then◌else◌}
 use Rattle.std.specs.List.{filter}
 use Rattle.std.specs.Map.{keys_of}
 use Rattle.std.specs.BTreeMap.{insert_entry, is_at}
@@ -62,12 +62,6 @@ inner_written k w old new writes q = ap (λ o. option_and_then (λ m. m) o) (wri
 pub none_of : {X : Type 0} (o : Option X) → is_some o ≡ false → o ≡ None
 none_of None e = refl
 none_of (Some x) e = absurd (let bad : true ≡ false = e in cc)
-
-pub joined_none : (m : Mark) (o : Option Mark) → o ≡ None → m ≡ joined o m
-joined_none m o e = let j : joined None m ≡ m = ap (λ b. record { at = m.at; candidate = m.candidate; due = b }) (or_false m.due) in sym j ∙ ap (λ q. joined q m) (sym e)
-
-inner_none : {X : Type 0} (o : Option (Option X)) → o ≡ None → option_and_then (λ m. m) o ≡ None
-inner_none o e = ap (option_and_then (λ m. m)) e
 
 -- one of the candidates is marked, and what is left to mark gives the same
 pub fill_step : (pos : ℕ) (due : Bool) (k : Key) (candidate : Option Route) (left left' : List (Key × Option Route)) (old new : Listed) → at k left ≡ Some candidate → Writes k None left left'

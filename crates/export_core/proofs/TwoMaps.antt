@@ -1,20 +1,20 @@
 -- Marks that stand in two maps, one after the other.
-use Rattle.std.proofs.Common.{◌≡◌, ◌<◌, ◌≤◌, ◌-◌, ◌+◌, ℕ, Result, Ok, Err, zero, suc, arith, length, nat_eq, Bool, true, false, not, List, [], ◌∷◌, ◌++◌, Option, Some, None, refl, inl, inr, sym, ◌∙◌, ap, subst, cond, is_some, get_or, position}
-use Rattle.std.specs.Prelude.{◌||◌, ◌&&◌, ◌↔◌, OnOk, OnErr, IsSome, IsTrue, if◌then◌else◌, drop, take, slice_get}
+use Rattle.std.proofs.Common.{◌≡◌, ◌<◌, ◌≤◌, ◌-◌, ◌+◌, ℕ, Result, Ok, Err, zero, suc, arith, length, nat_eq, Bool, true, false, not, List, [], ◌∷◌, ◌++◌, Option, Some, None, refl, inl, inr, sym, ◌∙◌, ap, subst, cond, is_some, position}
+use Rattle.std.specs.Prelude.{◌||◌, ◌&&◌, OnOk, OnErr, IsTrue, if◌then◌else◌, drop, slice_get}
 use Rattle.std.specs.Map.{keys_of, values_of, lookup}
 use Rattle.std.specs.BTreeMap.{is_at}
 use Rattle.std.proofs.lemmas.List.{append_assoc, drop_more}
 use Rattle.std.proofs.lemmas.Bool.Decides.{Decides-eqb}
 use Rattle.std.proofs.lemmas.Option.{slice_get_within, get_or_from_slice_get}
-use Rattle.indexmap.specs.IndexMap.{set_value_at}
+use Rattle.indexmap.specs.IndexMap.{insert_entry, set_value_at}
 use Rattle.indexmap.proofs.MapLemmas.{Found-position}
 use Rattle.std.specs.List.{position_or_len}
 use Rattle.export_core.specs.Keys.{key_cmp, same_key}
 use Rattle.export_core.specs.declared.log.Key.{Key}
 use Rattle.export_core.specs.declared.marks.Mark.{Mark}
-use Rattle.export_core.specs.Marks.{at, find, holds, joined, live, AreMarks, IsFirst, IsOnce, Joins, Listed, Puts}
+use Rattle.export_core.specs.Marks.{at, find, holds, is_due, joined, live, AreMarks, IsFirst, IsOnce, Joins, Listed, Puts}
 use Rattle.export_core.proofs.Keys.{key_eq, key_eq_as, key_eq_is, key_tells, take_if, skip_if, is_at_is, same_key_flip, same_key_is, same_key_itself, holds-keys_of}
-use Rattle.export_core.proofs.MarkLists.{joined_none, none_of, once_push}
+use Rattle.export_core.proofs.MarkLists.{none_of, once_push}
 
 false_true : false ≡ true → ⊥
 false_true e = cc
@@ -147,6 +147,83 @@ joins_of n i k m v w es less f was is =
       marks = λ q. set_live n i k es w less f q ∙ ap (λ o. if same_key k q then o else at q (drop n es)) mark;
     }
 
+-- ---- a key is put into a map
+
+-- what is written where the key stands then is as if it had been put so
+set_inserted : (k : Key) (m w : Mark) (es : Listed) → set_value_at (insert_entry key_eq es k m) (position_or_len (key_eq k) (keys_of es)) w ≡ insert_entry key_eq es k w
+set_inserted k m w [] = refl
+set_inserted k m w (e ∷ es) = by_test (key_eq k e.0) (set_inserted k m w es) where
+  by_test : (b : Bool) → set_value_at (insert_entry key_eq es k m) (position_or_len (key_eq k) (keys_of es)) w ≡ insert_entry key_eq es k w
+      → set_value_at (if b then (e.0, m) ∷ es else e ∷ insert_entry key_eq es k m) (cond (not b) (1 + position_or_len (key_eq k) (keys_of es)) 0) w ≡ (if b then (e.0, w) ∷ es else e ∷ insert_entry key_eq es k w)
+  by_test true rest = refl
+  by_test false rest =
+      let next : 1 + position_or_len (key_eq k) (keys_of es) ≡ suc (position_or_len (key_eq k) (keys_of es)) = omega arith in
+      ap (λ i. set_value_at (e ∷ insert_entry key_eq es k m) i w) next ∙ ap (λ l. e ∷ l) rest
+
+value_inserted : (k : Key) (m : Mark) (es : Listed) → slice_get (values_of (insert_entry key_eq es k m)) (position_or_len (key_eq k) (keys_of es)) ≡ Some m
+value_inserted k m [] = refl
+value_inserted k m (e ∷ es) = by_test (key_eq k e.0) (value_inserted k m es) where
+  by_test : (b : Bool) → slice_get (values_of (insert_entry key_eq es k m)) (position_or_len (key_eq k) (keys_of es)) ≡ Some m
+      → slice_get (values_of (if b then (e.0, m) ∷ es else e ∷ insert_entry key_eq es k m)) (cond (not b) (1 + position_or_len (key_eq k) (keys_of es)) 0) ≡ Some m
+  by_test true rest = refl
+  by_test false rest =
+      let next : 1 + position_or_len (key_eq k) (keys_of es) ≡ suc (position_or_len (key_eq k) (keys_of es)) = omega arith in
+      ap (λ i. slice_get (values_of (e ∷ insert_entry key_eq es k m)) i) next ∙ rest
+
+at_inserted : (k : Key) (w : Mark) (es : Listed) (q : Key) → at q (insert_entry key_eq es k w) ≡ (if same_key k q then Some w else at q es)
+at_inserted k w [] q = ap (λ b. cond b (Some w) None) (is_at_is q k ∙ same_key_flip q k)
+at_inserted k w (e ∷ es) q = by_test (key_eq k e.0) refl (at_inserted k w es q) where
+  by_test : (b : Bool) → key_eq k e.0 ≡ b → at q (insert_entry key_eq es k w) ≡ (if same_key k q then Some w else at q es)
+      → at q (if b then (e.0, w) ∷ es else e ∷ insert_entry key_eq es k w) ≡ (if same_key k q then Some w else at q (e ∷ es))
+  by_test true s rest = set_here k q e.0 w e.1 (at q es) (sym (key_eq_is k e.0) ∙ s)
+  by_test false s rest = set_later k q e.0 w e.1 (at q es) (at q (insert_entry key_eq es k w)) (sym (key_eq_is k e.0) ∙ s) rest
+
+keys_inserted : (k : Key) (w : Mark) (es : Listed) → keys_of (insert_entry key_eq es k w) ≡ (if is_some (at k es) then keys_of es else keys_of es ++ k ∷ [])
+keys_inserted k w [] = refl
+keys_inserted k w (e ∷ es) = by_test (key_eq k e.0) (key_eq_is k e.0 ∙ sym (is_at_is k e.0)) (keys_inserted k w es) where
+  inner : (s : Bool) → keys_of (insert_entry key_eq es k w) ≡ (if s then keys_of es else keys_of es ++ k ∷ []) → e.0 ∷ keys_of (insert_entry key_eq es k w) ≡ (if s then keys_of (e ∷ es) else keys_of (e ∷ es) ++ k ∷ [])
+  inner true rest = ap (λ l. e.0 ∷ l) rest
+  inner false rest = ap (λ l. e.0 ∷ l) rest
+
+  by_test : (b : Bool) → b ≡ is_at (key_cmp k) e.0 → keys_of (insert_entry key_eq es k w) ≡ (if is_some (at k es) then keys_of es else keys_of es ++ k ∷ [])
+      → keys_of (if b then (e.0, w) ∷ es else e ∷ insert_entry key_eq es k w) ≡ (if is_some (at k (e ∷ es)) then keys_of (e ∷ es) else keys_of (e ∷ es) ++ k ∷ [])
+  by_test true s rest = ap (λ t. if is_some (cond t (Some e.1) (at k es)) then keys_of (e ∷ es) else keys_of (e ∷ es) ++ k ∷ []) s
+  by_test false s rest = inner (is_some (at k es)) rest ∙ ap (λ t. if is_some (cond t (Some e.1) (at k es)) then keys_of (e ∷ es) else keys_of (e ∷ es) ++ k ∷ []) s
+
+inserted_puts : (k : Key) (m w : Mark) (old : Listed) → w ≡ joined (find k old) m → Puts k m old (insert_entry key_eq old k w)
+inserted_puts k m w old e = record {
+  marks = λ q. at_inserted k w old q ∙ ap (λ (x : Mark). if same_key k q then Some x else find q old) e;
+  order = keys_inserted k w old;
+}
+
+due_or : (b c : Bool) → c ≡ true → true ≡ (b || c)
+due_or true c e = refl
+due_or false c e = sym e
+
+or_quiet : (b c : Bool) → c ≡ false → b ≡ (b || c)
+or_quiet true c e = refl
+or_quiet false c e = sym e
+
+-- a key is put that was due, and stays so
+pub puts_due : (k : Key) (m v : Mark) (old mid : Listed) (i : ℕ) → mid ≡ insert_entry key_eq old k m → i ≡ position_or_len (key_eq k) (keys_of old) → slice_get (values_of mid) i ≡ Some v → is_due (find k old) ≡ true
+    → Puts k m old (set_value_at mid i (record { at = v.at; candidate = v.candidate; due = true }))
+puts_due k m v old mid i e ei was due =
+    let named : Some v ≡ Some m = sym was ∙ ap (λ n. slice_get (values_of mid) n) ei ∙ ap (λ (l : Listed). slice_get (values_of l) (position_or_len (key_eq k) (keys_of old))) e ∙ value_inserted k m old in
+    let same : v ≡ m = cc in
+    let w : Mark = record { at = v.at; candidate = v.candidate; due = true } in
+    let is : w ≡ joined (find k old) m = ap (λ (x : Mark). record { at = x.at; candidate = x.candidate; due = true }) same ∙ ap (λ b. record { at = m.at; candidate = m.candidate; due = b }) (due_or m.due (is_due (find k old)) due) in
+    let made : set_value_at mid i w ≡ insert_entry key_eq old k w = ap (λ n. set_value_at mid n w) ei ∙ ap (λ (l : Listed). set_value_at l (position_or_len (key_eq k) (keys_of old)) w) e ∙ set_inserted k m w old in
+    subst (Puts k m old) (sym made) (inserted_puts k m w old is)
+
+-- and one that wasn't
+pub puts_quiet : (k : Key) (m : Mark) (old new : Listed) → new ≡ insert_entry key_eq old k m → is_due (find k old) ≡ false → Puts k m old new
+puts_quiet k m old new e quiet =
+    subst (Puts k m old) (sym e) (inserted_puts k m m old (ap (λ b. record { at = m.at; candidate = m.candidate; due = b }) (or_quiet m.due (is_due (find k old)) quiet)))
+
+-- what the map had at the key
+pub due_at : (k : Key) (es : Listed) (o : Option Mark) → o ≡ lookup (key_eq k) es → is_due (find k es) ≡ is_due o
+due_at k es o e = ap is_due (sym (e ∙ lookup_at k es))
+
 -- ---- a key is marked
 
 if_true : {X : Type 0} (b : Bool) (x y : X) → b ≡ true → (if b then x else y) ≡ x
@@ -154,32 +231,6 @@ if_true b x y e = rw e refl
 
 if_false : {X : Type 0} (b : Bool) (x y : X) → b ≡ false → (if b then x else y) ≡ y
 if_false b x y e = rw e refl
-
-pub puts_joined : (k : Key) (m : Mark) (old new : Listed) → Joins 0 k m old new → Puts k m old new
-puts_joined k m old new j = record {
-  marks = j.marks;
-  order = j.keys ∙ sym (if_true (is_some (find k old)) (keys_of old) (keys_of old ++ k ∷ []) j.there);
-}
-
-pub puts_added : (k : Key) (m : Mark) (old new : Listed) → at k old ≡ None → new ≡ old ++ (k, m) ∷ [] → Puts k m old new
-puts_added k m old new none e = record {
-  marks = λ q. ap (at q) e ∙ at_append q old ((k, m) ∷ []) ∙ elim (key_tells k q) [
-    | inl z ↦
-        let gone : at q old ≡ None = subst (λ n. at n old ≡ None) z.1 none in
-        ap (λ o. if is_some o then o else at q ((k, m) ∷ [])) gone
-        ∙ ap (λ b. cond b (Some m) None) (is_at_is q k ∙ same_key_flip q k ∙ z.0)
-        ∙ ap Some (joined_none m (find k old) none)
-        ∙ sym (if_true (same_key k q) (Some (joined (find k old) m)) (find q old) z.0)
-    | inr z ↦
-        ap (λ b. if is_some (at q old) then at q old else cond b (Some m) None) (is_at_is q k ∙ same_key_flip q k ∙ z.0)
-        ∙ there (at q old)
-        ∙ sym (if_false (same_key k q) (Some (joined (find k old) m)) (find q old) z.0)
-  ];
-  order = ap keys_of e ∙ keys_append old ((k, m) ∷ []) ∙ sym (if_false (is_some (find k old)) (keys_of old) (keys_of old ++ k ∷ []) (ap (λ o. is_some o) none));
-} where
-  there : {X : Type 0} (o : Option X) → (if is_some o then o else None) ≡ o
-  there None = refl
-  there (Some x) = refl
 
 -- in the first map
 pub puts_first : (n : ℕ) (k : Key) (m : Mark) (old new rest : Listed) → Joins n k m old new → Puts k m (live n old rest) (live n new rest)
@@ -198,8 +249,8 @@ puts_first n k m old new rest j =
             ∙ sym (if_false (same_key k q) (Some (joined (find k (live n old rest)) m)) (find q (live n old rest)) z.0)
       ];
       order =
-        keys_append (drop n new) rest ∙ ap (λ ks. ks ++ keys_of rest) j.rest ∙ sym (keys_append (drop n old) rest)
-        ∙ sym (if_true (is_some (find k (live n old rest))) (keys_of (live n old rest)) (keys_of (live n old rest) ++ k ∷ []) (ap (λ o. is_some o) here ∙ j.there));
+          keys_append (drop n new) rest ∙ ap (λ ks. ks ++ keys_of rest) j.rest ∙ sym (keys_append (drop n old) rest)
+          ∙ sym (if_true (is_some (find k (live n old rest))) (keys_of (live n old rest)) (keys_of (live n old rest) ++ k ∷ []) (ap (λ o. is_some o) here ∙ j.there));
     }
 
 -- behind the first map
@@ -220,9 +271,9 @@ puts_second k m front old new none p =
             ∙ sym (if_false (same_key k q) (Some (joined (find k (front ++ old)) m)) (find q (front ++ old)) z.0)
       ];
       order =
-        keys_append front new ∙ ap (λ ks. keys_of front ++ ks) p.order ∙ behind (is_some (at k old))
-        ∙ ap (λ ks. if is_some (at k old) then ks else ks ++ k ∷ []) (sym (keys_append front old))
-        ∙ ap (λ o. if is_some o then keys_of (front ++ old) else keys_of (front ++ old) ++ k ∷ []) (sym here);
+          keys_append front new ∙ ap (λ ks. keys_of front ++ ks) p.order ∙ behind (is_some (at k old))
+          ∙ ap (λ ks. if is_some (at k old) then ks else ks ++ k ∷ []) (sym (keys_append front old))
+          ∙ ap (λ o. if is_some o then keys_of (front ++ old) else keys_of (front ++ old) ++ k ∷ []) (sym here);
     } where
       behind : (b : Bool) → keys_of front ++ (if b then keys_of old else keys_of old ++ k ∷ []) ≡ (if b then keys_of front ++ keys_of old else keys_of front ++ keys_of old ++ k ∷ [])
       behind true = refl
@@ -241,13 +292,6 @@ are_puts n k m old new coming coming' a keys p = record {
   once = once_puts k m (live n old coming) (live n new coming') p a.once;
 }
 
--- no key of the second map stands twice
-pub once_behind : (n : ℕ) (front back : Listed) → IsOnce (keys_of (live n front back)) → IsOnce (keys_of back)
-once_behind n front back once = behind (drop n front) once where
-  behind : (xs : Listed) → IsOnce (keys_of (xs ++ back)) → IsOnce (keys_of back)
-  behind [] o = o
-  behind (x ∷ xs) o = behind xs o.1
-
 -- ---- the first is taken out
 
 pub drop_end : {X : Type 0} (n : ℕ) (xs : List X) → length xs ≤ n → drop n xs ≡ []
@@ -264,17 +308,6 @@ drop_none (suc n) (x ∷ xs) e = let w = drop_none n xs e in omega (arith, w)
 append_none : {X : Type 0} (xs : List X) → xs ++ [] ≡ xs
 append_none [] = refl
 append_none (x ∷ xs) = ap (λ l. x ∷ l) (append_none xs)
-
--- the maps change places
-pub turned : (n : ℕ) (leaving coming : Listed) → length leaving ≤ n → live 0 coming [] ≡ live n leaving coming
-turned n leaving coming w = append_none coming ∙ sym (ap (λ l. l ++ coming) (drop_end n leaving w))
-
-pub are_turned : (n : ℕ) (leaving coming : Listed) → length leaving ≤ n → AreMarks n leaving coming → AreMarks 0 coming []
-are_turned n leaving coming w a = record {
-  within = omega arith;
-  apart = once_behind n leaving coming a.once;
-  once = subst (λ l. IsOnce (keys_of l)) (sym (turned n leaving coming w)) a.once;
-}
 
 -- what is written at the number doesn't show behind it
 pub past_set : (n : ℕ) (es : Listed) (w : Mark) → drop (n + 1) (set_value_at es n w) ≡ drop 1 (drop n es)
@@ -355,9 +388,6 @@ live_nil n es rest e none = none_at n es rest (omega (arith, e)) ∙ nil rest no
 pub first_behind : (n : ℕ) (es rest view : Listed) (k : Key) (m : Mark) → live n es rest ≡ view → length es ≤ n → slice_get rest 0 ≡ Some (k, m) → (slice_get (keys_of view) 0 ≡ Some k) × (find k view ≡ Some m)
 first_behind n es rest view k m seen w is = first_in 0 rest [] view k m (append_none rest ∙ sym (none_at n es rest w) ∙ seen) is
 
-pub none_first : (n : ℕ) (es rest view : Listed) → live n es rest ≡ view → length es ≤ n → length rest ≤ 0 → view ≡ []
-none_first n es rest view seen w none = sym seen ∙ none_at n es rest w ∙ drop_end 0 rest none
-
 -- whether there are none
 pub empty_is : (n a b : ℕ) (es rest view : Listed) → live n es rest ≡ view → n ≤ length es → a ≡ length es → b ≡ length rest → (IsTrue (nat_eq n a && nat_eq b 0) → view ≡ []) × (view ≡ [] → IsTrue (nat_eq n a && nat_eq b 0))
 empty_is n a b es rest view seen w ea eb = (
@@ -384,10 +414,6 @@ pub puts_behind : (n : ℕ) (k : Key) (m back : Mark) (old new coming coming' : 
 puts_behind n k m back old new coming coming' same e none p =
     subst (λ (l : Listed). Puts k m (live n old coming) (live n l coming')) (sym same) (puts_second k m (drop n old) coming coming' none (subst (λ (x : Mark). Puts k x coming coming') e p))
 
-pub puts_new : (k : Key) (m back : Mark) (old mid new : Listed) → mid ≡ old → back ≡ m → at k old ≡ None → new ≡ mid ++ (k, back) ∷ [] → Puts k m old new
-puts_new k m back old mid new same e none added =
-    puts_added k m old new none (added ∙ ap (λ l. l ++ (k, back) ∷ []) same ∙ ap (λ (x : Mark). old ++ (k, x) ∷ []) e)
-
 -- what holds where a call succeeds and where it is refused holds
 pub either_way : {A E : Type 0} {P Q R : Type 0} (r : Result A E) → OnOk r P → OnErr r Q → (P → R) → (Q → R) → R
 either_way (Ok x) p q f g = f p
@@ -395,9 +421,3 @@ either_way (Err x) p q f g = g q
 
 pub are_same : (n : ℕ) (old new coming coming' : Listed) → new ≡ old → coming' ≡ coming → AreMarks n old coming → AreMarks n new coming'
 are_same n old new coming coming' e f a = subst (λ (l : Listed). AreMarks n l coming') (sym e) (subst (λ (l : Listed). AreMarks n old l) (sym f) a)
-
-pub turned_same : (n : ℕ) (leaving coming leaving' coming' : Listed) → length leaving ≤ n → leaving' ≡ coming → coming' ≡ take 0 leaving → live 0 leaving' coming' ≡ live n leaving coming
-turned_same n leaving coming leaving' coming' w e f = ap (λ l. l ++ coming') e ∙ ap (λ l. coming ++ l) f ∙ turned n leaving coming w
-
-pub are_turned_same : (n : ℕ) (leaving coming leaving' coming' : Listed) → length leaving ≤ n → leaving' ≡ coming → coming' ≡ take 0 leaving → AreMarks n leaving coming → AreMarks 0 leaving' coming'
-are_turned_same n leaving coming leaving' coming' w e f a = are_same 0 coming leaving' [] coming' e f (are_turned n leaving coming w a)

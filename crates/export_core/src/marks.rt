@@ -8,7 +8,7 @@ ghost use Rattle.export_core.specs.declared.log.Key.{Key};
 ghost use Rattle.export_core.specs.Keys.{key_cmp, same_key};
 ghost use Rattle.export_core.specs.Candidates.{AddsNone, covers, is_from};
 ghost use Rattle.export_core.specs.Calls.{order_with};
-ghost use Rattle.export_core.specs.Marks.{at, find, joined, live, unmarked_of, AreMarks, IsFirst, IsOnce, Joins, MarksEach, Puts};
+ghost use Rattle.export_core.specs.Marks.{at, find, is_due, joined, live, unmarked_of, AreMarks, IsFirst, IsOnce, Joins, MarksEach, Puts};
 
 use crate::candidates::add_none;
 use crate::floors::Floor;
@@ -101,7 +101,6 @@ fn mark_there(map: &mut Keyed, from: usize, key: &Key, mark: Mark) -> Result<(),
     ensures back { IfErr result (λ back. back ≡ mark) }
     ensures none { OnErr result (at key.now (drop from map.old.entries) ≡ None) }
     ensures same { OnErr result (map.new.entries ≡ map.old.entries) }
-    ensures room { spare map.new ≡ spare map.old }
 {
     match place_of(map, from, key) {
         Some(place) => {
@@ -110,18 +109,6 @@ fn mark_there(map: &mut Keyed, from: usize, key: &Key, mark: Mark) -> Result<(),
         }
         None => Err(mark),
     }
-}
-
-/// Marks the key, which isn't in the map, behind the others.
-fn add(map: &mut Keyed, key: Key, mark: Mark) -> Result<(), OutOfMemory>
-    requires { at key map.old.entries ≡ None }
-    ensures added { OnOk result (map.new.entries ≡ map.old.entries ++ (key, mark) ∷ []) }
-    ensures refused { OnErr result (map.new.entries ≡ map.old.entries) }
-    ensures succeeds { 0 < spare map.old → IsOk result }
-    ensures room { spare map.old ≤ spare map.new + 1 }
-{
-    map.insert(key, mark)?;
-    Ok(())
 }
 
 /// Marks the key. A key that is marked already keeps its place in the order, and stays due where it
@@ -148,18 +135,28 @@ fn put(
     }
 }
 
-/// Marks a key that has no mark in the map that is emptied.
+fn is_due(mark: &Option<Mark>) -> bool
+    ensures { result ≡ is_due mark.now }
+{
+    match mark {
+        Some(mark) => mark.due,
+        None => false,
+    }
+}
+
+/// Marks a key that has no mark in the map that is emptied. One search finds its place.
 fn put_new(coming: &mut Keyed, key: Key, mark: Mark) -> Result<(), OutOfMemory>
-    requires { IsOnce (keys_of coming.old.entries) }
     ensures puts { OnOk result (Puts key mark coming.old.entries coming.new.entries) }
     ensures refused { OnErr result (coming.new.entries ≡ coming.old.entries) }
     ensures succeeds { 0 < spare coming.old → IsOk result }
     ensures room { spare coming.old ≤ spare coming.new + 1 }
 {
-    match mark_there(coming, 0, &key, mark) {
-        Ok(()) => Ok(()),
-        Err(mark) => add(coming, key, mark),
+    let (place, old) = coming.insert_full(key, mark)?;
+    if is_due(&old) {
+        coming[place].due = true;
+        return Ok(());
     }
+    Ok(())
 }
 
 /// Marks a key with its candidate, as `put` does. Takes no memory.

@@ -9,7 +9,7 @@ loop-left-init c =
       omega (arith, len, from),
       omega (arith, len),
       subst (λ (n : ℕ). Covers c.args.range.now n c.args.map.now.entries c.args.candidates.now.entries c.args.candidates.now.entries) (sym len)
-      (covers_none c.args.range.now c.args.map.now.entries c.args.candidates.now.entries),
+          (covers_none c.args.range.now c.args.map.now.entries c.args.candidates.now.entries),
     )
 
 pub loop-left-preserved-in-Continue-1 : goal.loop-left-preserved-in-Continue-1
@@ -21,8 +21,8 @@ loop-left-preserved-in-Continue-1 c =
       omega (arith, from, more),
       omega (arith, within),
       covers_more c.args.range.now (c.loop-left.left - 1) c.in-Some.key.now c.in-Some.field-0-1.now c.args.map.now.entries _ c.loop-left.candidates.entries _ (sym c.in-Some.ensures.entry)
-      (subst (λ (n : ℕ). Covers c.args.range.now n c.args.map.now.entries c.args.candidates.now.entries c.loop-left.candidates.entries) next c.loop-left.invariant.2)
-      (rw (sym c.covers.ensures) c.in_ok-add_none.ensures),
+          (subst (λ (n : ℕ). Covers c.args.range.now n c.args.map.now.entries c.args.candidates.now.entries c.loop-left.candidates.entries) next c.loop-left.invariant.2)
+          (rw (sym c.covers.ensures) c.in_ok-add_none.ensures),
     )
 
 pub returns : goal.returns

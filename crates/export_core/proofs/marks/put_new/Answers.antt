@@ -1,25 +1,14 @@
-use Rattle.std.proofs.Common.{◌∙◌, ap, arith}
-use Rattle.std.proofs.lemmas.Result.{on_err_weaker, on_ok_weaker}
-use Rattle.export_core.specs.Marks.{at}
-use Rattle.export_core.proofs.TwoMaps.{puts_joined, puts_new}
+use Rattle.std.proofs.Common.{◌∙◌, sym}
+use Rattle.export_core.proofs.TwoMaps.{due_at, puts_due, puts_quiet}
 use Rattle.export_core.proofs.marks.put_new.Goals as goal
 
-pub add-requires : goal.add-requires
-add-requires c = ap (at c.args.key) c.in-Err.ensures.same ∙ c.in-Err.ensures.none
+pub returns-then-is_due-clause-puts : goal.returns-then-is_due-clause-puts
+returns-then-is_due-clause-puts c =
+    let put = c.in_ok-place.ensures in
+    puts_due c.args.key c.args.mark _ c.args.coming.now.entries _ _ put.entries put.index c.index_mut.ensures.value
+    (due_at c.args.key c.args.coming.now.entries _ put.old ∙ sym c.is_due.ensures ∙ c.if-is_due.true)
 
-pub returns-in-Ok-clause-puts : goal.returns-in-Ok-clause-puts
-returns-in-Ok-clause-puts c = puts_joined c.args.key c.args.mark c.args.coming.now.entries _ c.in-Ok.ensures.joins
-
-pub returns-in-Err-clause-puts : goal.returns-in-Err-clause-puts
-returns-in-Err-clause-puts c =
-    on_ok_weaker c.add.result
-    (λ e. puts_new c.args.key c.args.mark _ c.args.coming.now.entries _ _ c.in-Err.ensures.same c.in-Err.ensures.back c.in-Err.ensures.none e) c.add.ensures.added
-
-pub returns-in-Err-clause-refused : goal.returns-in-Err-clause-refused
-returns-in-Err-clause-refused c = on_err_weaker c.add.result (λ e. e ∙ c.in-Err.ensures.same) c.add.ensures.refused
-
-pub returns-in-Err-clause-succeeds : goal.returns-in-Err-clause-succeeds
-returns-in-Err-clause-succeeds c = λ w. let r = c.in-Err.ensures.room in c.add.ensures.succeeds (omega (arith, r, w))
-
-pub returns-in-Err-clause-room : goal.returns-in-Err-clause-room
-returns-in-Err-clause-room c = let r = c.in-Err.ensures.room in let s = c.add.ensures.room in omega (arith, r, s)
+pub returns-clause-puts : goal.returns-clause-puts
+returns-clause-puts c =
+    let put = c.in_ok-place.ensures in
+    puts_quiet c.args.key c.args.mark c.args.coming.now.entries _ put.entries (due_at c.args.key c.args.coming.now.entries _ put.old ∙ sym c.is_due.ensures ∙ c.if-is_due.false)
