@@ -10,15 +10,17 @@ use crate::words::{Asked, asked_by};
 use crate::write::{write_accepted, write_play};
 use outside_io::{Gate, Shelf, Sink};
 use std::alloc::Global;
+use std::random::RandomSource;
 
 /// Does all that the program does: plays the script over the configuration that the words name, and
 /// writes the report, phase by phase; or checks a configuration, perhaps with a script over it, and
 /// writes `ok` where they are accepted.
 ///
 /// What it answers and what stands written are one record of eleven promises (`specs/Answered`).
-/// Want of memory may come in place of any answer.
-pub fn top<R, F: Shelf, K: Sink, G: Gate + Sync>(
-    _rt: &R,
+/// Want of memory may come in place of any answer; where a script is to be played, also for want of
+/// random bytes.
+pub fn top<R: RandomSource, F: Shelf, K: Sink, G: Gate + Sync>(
+    rt: &R,
     alloc: Global,
     words: &[String],
     shelf: &mut F,
@@ -32,11 +34,17 @@ pub fn top<R, F: Shelf, K: Sink, G: Gate + Sync>(
         (sink_of (K.contents out.new) (K.faults out.new))
         result }
 {
-    run(alloc, words, shelf, out)
+    run(rt, alloc, words, shelf, out)
 }
 
 /// Does what the words ask for.
-fn run<F: Shelf, K: Sink>(alloc: Global, words: &[String], shelf: &mut F, out: &mut K) -> Status
+fn run<R: RandomSource, F: Shelf, K: Sink>(
+    rt: &R,
+    alloc: Global,
+    words: &[String],
+    shelf: &mut F,
+    out: &mut K,
+) -> Status
     ensures { Answered (command_of words.now)
         (shelf_of (F.held shelf.old) (F.lacks shelf.old) (F.missed shelf.old) (F.faults shelf.old))
         (shelf_of (F.held shelf.new) (F.lacks shelf.new) (F.missed shelf.new) (F.faults shelf.new))
@@ -51,7 +59,7 @@ fn run<F: Shelf, K: Sink>(alloc: Global, words: &[String], shelf: &mut F, out: &
                 script,
                 cells,
             },
-        ) => { play_files(alloc, conf, script, cells, shelf, out) }
+        ) => { play_files(rt, alloc, conf, script, cells, shelf, out) }
         Some(Asked::CheckOne { conf }) => check_conf(alloc, conf, shelf, out),
         Some(Asked::CheckBoth { conf, script }) => check_files(alloc, conf, script, shelf, out),
         None => Status::Usage,
@@ -59,7 +67,8 @@ fn run<F: Shelf, K: Sink>(alloc: Global, words: &[String], shelf: &mut F, out: &
 }
 
 /// Reads the two files, plays them, and writes the report.
-fn play_files<F: Shelf, K: Sink>(
+fn play_files<R: RandomSource, F: Shelf, K: Sink>(
+    rt: &R,
     alloc: Global,
     conf: &str,
     script: &str,
@@ -76,7 +85,7 @@ fn play_files<F: Shelf, K: Sink>(
 {
     files_have_one_outcome();
     match read_files(alloc, conf, script, shelf) {
-        Ok(Files { system, script }) => write_play(alloc, &system, cells, script, out),
+        Ok(Files { system, script }) => write_play(rt, alloc, &system, cells, script, out),
         Err(status) => status,
     }
 }

@@ -20,14 +20,18 @@ use outside_io::{Block, Failed, Sink, Stream, write_whole};
 use report::{PhaseReport, phase_text};
 use script_lines::{Line, Name};
 use std::alloc::Global;
+use std::hash::RandomState;
+use std::random::RandomSource;
 use sys_build::{ReadScript, build};
 use sys_run::Core;
 use system::System;
 
 /// Plays the script over the configuration, and writes the reports.
 ///
-/// With `OutOfMemory` the reports of the first phases may have been written, each whole.
-pub(crate) fn write_play<K: Sink>(
+/// With `OutOfMemory` the reports of the first phases may have been written, each whole. It comes
+/// too where there are no random bytes, by which keys that others choose are hashed.
+pub(crate) fn write_play<R: RandomSource, K: Sink>(
+    rt: &R,
     alloc: Global,
     system: &System,
     cells: u32,
@@ -57,7 +61,10 @@ pub(crate) fn write_play<K: Sink>(
         queries,
         filters,
     } = script;
-    let mut core = match build(alloc, system, filters.as_slice(), queries, cells) {
+    let Some(hasher) = RandomState::new(rt).ok() else {
+        return Status::OutOfMemory;
+    };
+    let mut core = match build(alloc, hasher, system, filters.as_slice(), queries, cells) {
         Ok(core) => core,
         Err(OutOfMemory) => return Status::OutOfMemory,
     };

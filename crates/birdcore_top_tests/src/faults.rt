@@ -4,6 +4,8 @@ use crate::worked::{CONF, REPORT, REPORT_OF_TWO_PHASES, SCRIPT, TWO_PHASES, file
 use birdcore_top::Status;
 use birdcore_top::top::top;
 use outside_io::{Failed, MemShelf, MemSink, OpenGate, Sink, SureShelf};
+use std::io;
+use std::random::RandomSource;
 use std::test::Fail;
 use top_laws::surely::do_surely;
 
@@ -116,6 +118,27 @@ fn a_sink_that_takes_nothing_is_a_write_fault(rt: HostRuntime) -> Result<(), Fai
     Ok(())
 }
 
+/// Has no bytes to give.
+struct Broken;
+
+impl RandomSource for Broken {
+    fn fill_bytes(&self, _buf: &mut [u8]) -> io::Result<()> {
+        Err(io::Error::from_raw_os_error(5))
+    }
+}
+
+#[test]
+fn nothing_is_played_without_random_bytes(rt: HostRuntime) -> Result<(), Fail> {
+    let alloc = rt.alloc();
+    let words = words(alloc, &["play", "conf", "script"])?;
+    let mut shelf = MemShelf::new(alloc, files(alloc, CONF, SCRIPT)?);
+    let mut sink = MemSink::new(alloc);
+    let status = top(&Broken, alloc, &words, &mut shelf, &mut sink, &OpenGate);
+    assert_eq!(rt; status, Status::OutOfMemory);
+    assert_eq!(rt; sink.bytes.len(), 0);
+    Ok(())
+}
+
 #[test]
 fn the_worked_run_over_what_never_fails_is_done(rt: HostRuntime) -> Result<(), Fail> {
     let alloc = rt.alloc();
@@ -123,6 +146,6 @@ fn the_worked_run_over_what_never_fails_is_done(rt: HostRuntime) -> Result<(), F
     let mut shelf = SureShelf {
         files: files(alloc, CONF, SCRIPT)?,
     };
-    assert_eq!(rt; do_surely(alloc, &words, &mut shelf), Status::Ok);
+    assert_eq!(rt; do_surely(&rt, alloc, &words, &mut shelf), Status::Ok);
     Ok(())
 }

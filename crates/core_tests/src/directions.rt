@@ -8,6 +8,7 @@ use attrs::{JEntry, Seq};
 use bits_ip::Family;
 use export_core::{ExportSpec, Exporter, LogItem, Outlet, Pushed, PutFault, Sending};
 use std::alloc::Global;
+use std::hash::RandomState;
 use std::test::Fail;
 
 /// Keeps of each value its source, and whether it is one.
@@ -75,12 +76,12 @@ fn take(alloc: Global, exporter: &mut Exporter<All>, pos: u64, num: u32) -> Resu
 }
 
 /// The direction takes entries of the sources 3, 2 and 1.
-fn begun(alloc: Global) -> Result<Exporter<All>, Fail>
+fn begun(alloc: Global, hasher: RandomState) -> Result<Exporter<All>, Fail>
     ensures up { IfOk result (λ exporter. is_open exporter.log ≡ true) }
     ensures every { IfOk result (λ exporter. exporter.spec.every ≡ true) }
     ensures stays { IfOk result (λ exporter. exporter.flushing ≡ false) }
 {
-    let mut exporter = Exporter::make(alloc, spec(alloc)?, All);
+    let mut exporter = Exporter::make(alloc, hasher, spec(alloc)?, All);
     exporter.up(0)?;
     take(alloc, &mut exporter, 1, 3)?;
     take(alloc, &mut exporter, 2, 2)?;
@@ -142,7 +143,7 @@ fn end(exporter: &mut Exporter<All>, outlet: &mut Kept) -> Result<bool, Fail>
 #[test]
 fn a_pipe_passes_each_source_and_withdraws_in_order(rt: HostRuntime) -> Result<(), Fail> {
     let alloc = rt.alloc();
-    let mut exporter = begun(alloc)?;
+    let mut exporter = begun(alloc, RandomState::new(&rt)?)?;
     let mut outlet = Kept {
         sent: Vec::new(alloc),
     };

@@ -8,6 +8,7 @@ use attrs::{JEntry, Seq};
 use bits_ip::Family;
 use export_core::{ExportSpec, Exporter, LogItem, Outlet, PushFault, Pushed, PutFault, Sending};
 use std::alloc::Global;
+use std::hash::RandomState;
 use std::test::Fail;
 
 /// Refuses the first value with this fault.
@@ -87,8 +88,8 @@ fn push(exporter: &mut Exporter<All>, outlet: &mut Refusing) -> Result<Pushed, P
 type Answers = [Result<Pushed, PushFault>; 3];
 
 /// What three pushes answer, the first of which is refused, and whether the log then has the value.
-fn pushed(alloc: Global, fault: PushFault) -> Result<(Answers, bool), Fail> {
-    let mut exporter = Exporter::make(alloc, spec(alloc), All);
+fn pushed(alloc: Global, hasher: RandomState, fault: PushFault) -> Result<(Answers, bool), Fail> {
+    let mut exporter = Exporter::make(alloc, hasher, spec(alloc), All);
     begin(alloc, &mut exporter)?;
     let mut outlet = Refusing {
         fault,
@@ -106,6 +107,7 @@ fn pushed(alloc: Global, fault: PushFault) -> Result<(Answers, bool), Fail> {
 
 #[test]
 fn a_refused_value_is_sent_at_the_next_push(rt: HostRuntime) -> Result<(), Fail> {
+    let hasher = RandomState::new(&rt)?;
     let faults = [
         PushFault::Blocked {
             cursor: 1,
@@ -116,7 +118,7 @@ fn a_refused_value_is_sent_at_the_next_push(rt: HostRuntime) -> Result<(), Fail>
         PushFault::Memory,
     ];
     for fault in faults {
-        let (answers, is_logged) = pushed(rt.alloc(), fault)?;
+        let (answers, is_logged) = pushed(rt.alloc(), hasher, fault)?;
         assert!(rt; answers == [Err(fault), Ok(Pushed::Sent), Ok(Pushed::Nothing)]);
         assert!(rt; is_logged);
     }

@@ -9,6 +9,7 @@ use crate::samples::All;
 use attrs::{Chunk, Seq};
 use export_core::{Exporter, FeedState};
 use std::alloc::Global;
+use std::hash::RandomState;
 use std::test::Fail;
 
 /// All of a table without rows, at its beginning.
@@ -47,7 +48,7 @@ fn feed(exporter: &mut Exporter<All>, chunk: &Chunk) -> Result<(), Fail>
 #[test]
 fn a_channel_is_fed_refreshed_and_ended(rt: HostRuntime) -> Result<(), Fail> {
     let alloc = rt.alloc();
-    let mut exporter = Exporter::make(alloc, spec(alloc), All);
+    let mut exporter = Exporter::make(alloc, RandomState::new(&rt)?, spec(alloc), All);
     feed(&mut exporter, &whole(alloc))?;
     assert!(rt; exporter.is_settled(0));
     assert!(rt; exporter.feed_from() == FeedState::Done);

@@ -120,7 +120,7 @@ none_kept asked there k es not_both e q = sym (by_case (at q es) (asked && same_
   by_case None false f = refl
   by_case None true f = absurd (f refl refl)
 
-adds_one : (o mid new : Option (Option Route)) (t t' s : Bool) → mid ≡ (if is_some o then o else (if t then Some None else None)) → new ≡ (if is_some mid then mid else (if s then Some None else None)) → t' ≡ (t || s) → new ≡ (if is_some o then o else (if t' then Some None else None))
+pub adds_one : (o mid new : Option (Option Route)) (t t' s : Bool) → mid ≡ (if is_some o then o else (if t then Some None else None)) → new ≡ (if is_some mid then mid else (if s then Some None else None)) → t' ≡ (t || s) → new ≡ (if is_some o then o else (if t' then Some None else None))
 adds_one (Some x) mid new t t' s em en et = en ∙ rw em refl
 adds_one None mid new true t' s em en et = en ∙ rw (em, et) refl
 adds_one None mid new false t' s em en et = en ∙ rw (em, et) refl

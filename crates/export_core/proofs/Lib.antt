@@ -3,10 +3,12 @@ pub mod Keys
 pub mod Listed
 pub mod LaneSteps
 pub mod MarkLists
+pub mod TwoMaps
 pub mod Taking
 pub mod Pushing
 pub mod Stretches
 pub mod Feeding
+pub mod Covered
 pub mod Kept
 pub mod Families
 pub mod SendLists

@@ -1,8 +1,8 @@
 -- Marks (`Listed`): what is marked, in the order of first marking. For private contracts alone are
--- those of an order and of bodies, which may have places without a mark.
+-- those of two maps, one of which is emptied from the front while the other takes what is new.
 -- From: own.
 -- Example: a mark keeps its place when its key changes again.
-use Rattle.std.specs.Prelude.{if◌then◌else◌, ◌≡◌, ℕ, Bool, false, ◌||◌, List, [], ◌∷◌, Option, Some, None, is_some, IsSome, option_and_then, option_map, ⊤, not, ◌++◌, ◌+◌, ◌≤◌, length}
+use Rattle.std.specs.Prelude.{if◌then◌else◌, ◌≡◌, ℕ, zero, suc, Bool, true, false, ◌||◌, List, [], ◌∷◌, Option, Some, None, is_some, IsSome, option_map, ⊤, not, ◌++◌, ◌≤◌, drop, length}
 use Rattle.std.specs.List.{filter, filter_map}
 use Rattle.std.specs.Map.{lookup, keys_of}
 use Rattle.std.specs.BTreeMap.{is_at}
@@ -14,9 +14,6 @@ use Rattle.export_core.specs.declared.marks.Mark.{Mark}
 -- what a list of entries has at a key
 abbrev pub at : {X : Type 0} → Key → List (Key × X) → Option X
 at k entries = lookup (is_at (key_cmp k)) entries
-
-abbrev pub mark_at : Key → List (Key × Option Mark) → Option Mark
-mark_at k bodies = option_and_then (λ m. m) (at k bodies)
 
 abbrev pub HasPlace : {X : Type 0} → Key → List (Key × X) → Type 0
 HasPlace k entries = IsSome (at k entries)
@@ -51,36 +48,39 @@ abbrev pub IsOnce : List Key → Type 0
 IsOnce [] = ⊤
 IsOnce (x ∷ xs) = (holds x xs ≡ false) × IsOnce xs
 
--- each key stands once in the order, and just the keys that have a mark do
-pub record IsListed (order : List Key) (bodies : List (Key × Option Mark)) : Type 0 where
-  pub once : IsOnce order
-  pub same : (k : Key) → holds k order ≡ is_some (mark_at k bodies)
+-- The marks of two maps: those of the first, from a number on, and then those of the second.
+abbrev pub live : ℕ → Listed → Listed → Listed
+live from leaving coming = drop from leaving ++ coming
 
--- the marks of bodies, in an order
-abbrev pub listed : List Key → List (Key × Option Mark) → Listed
-listed order bodies = entries_by (λ k. mark_at k bodies) order
+-- no key is marked twice, and none stands twice in the first map
+pub record AreMarks (from : ℕ) (leaving coming : Listed) : Type 0 where
+  pub within : from ≤ length leaving
+  pub apart : IsOnce (keys_of leaving)
+  pub once : IsOnce (keys_of (live from leaving coming))
 
--- the same bodies but for places
-abbrev pub SameMarks : List (Key × Option Mark) → List (Key × Option Mark) → Type 0
-SameMarks old new = (q : Key) → mark_at q new ≡ mark_at q old
+-- the number is that of the first entry of the key
+abbrev pub IsFirst : Key → Listed → ℕ → Type 0
+IsFirst k [] i = ⊥
+IsFirst k (e ∷ es) zero = same_key k e.0 ≡ true
+IsFirst k (e ∷ es) (suc i) = (same_key k e.0 ≡ false) × IsFirst k es i
 
-abbrev pub KeepsPlaces : {X : Type 0} → List (Key × X) → List (Key × X) → Type 0
-KeepsPlaces old new = (q : Key) → HasPlace q old → HasPlace q new
-
--- the marks after a key is marked, which stays due where it was
-abbrev pub Joins : Key → Mark → List (Key × Option Mark) → List (Key × Option Mark) → Type 0
-Joins k m old new =
-    (q : Key) → mark_at q new
-    ≡ (if same_key k q then Some (joined (mark_at k old) m) else mark_at q old)
+-- A key that is marked from a number on is marked again: it keeps its place and stays due where it
+-- was.
+pub record Joins (from : ℕ) (k : Key) (m : Mark) (old new : Listed) : Type 0 where
+  pub keys : keys_of new ≡ keys_of old
+  pub there : IsSome (at k (drop from old))
+  pub rest : keys_of (drop from new) ≡ keys_of (drop from old)
+  pub marks :
+      (q : Key) → at q (drop from new)
+      ≡ (if same_key k q then Some (joined (at k (drop from old)) m) else at q (drop from old))
 
 -- A key is marked: it goes behind the others, or keeps its place and stays due where it was.
-pub record Fills
-    (k : Key) (m : Mark) (keys : List Key) (bodies : List (Key × Option Mark)) (keys' : List Key)
-    (bodies' : List (Key × Option Mark)) : Type 0 where
-  pub marks : Joins k m bodies bodies'
-  pub order : keys' ≡ (if is_some (mark_at k bodies) then keys else keys ++ k ∷ [])
-  pub places : KeepsPlaces bodies bodies'
-  pub listed : IsListed keys' bodies'
+pub record Puts (k : Key) (m : Mark) (old new : Listed) : Type 0 where
+  pub marks :
+      (q : Key) → find q new
+      ≡ (if same_key k q then Some (joined (find k old) m) else find q old)
+  pub order :
+      keys_of new ≡ (if is_some (find k old) then keys_of old else keys_of old ++ k ∷ [])
 
 -- a key's mark after it is given a candidate, which is none where there is no route
 abbrev pub with_candidate : ℕ → Bool → Option (Option Route) → Option Mark → Option Mark
@@ -89,34 +89,21 @@ with_candidate pos due (Some candidate) old =
     Some (joined old (record { at = pos; candidate = candidate; due = due }))
 
 -- each key among the candidates is marked with its candidate
-abbrev pub MarksAll :
-    List (Key × Option Route) → ℕ → Bool → List (Key × Option Mark) → List (Key × Option Mark)
-    → Type 0
-MarksAll candidates pos due old new =
-    (q : Key) → mark_at q new ≡ with_candidate pos due (at q candidates) (mark_at q old)
-
--- the same of marks as a list
 abbrev pub MarksEach : List (Key × Option Route) → ℕ → Bool → Listed → Listed → Type 0
 MarksEach candidates pos due old new =
     (q : Key) → find q new ≡ with_candidate pos due (at q candidates) (find q old)
 
 -- the keys that have no mark
-abbrev pub unmarked : List (Key × Option Mark) → List Key → List Key
-unmarked bodies keys = filter (λ k. not (is_some (mark_at k bodies))) keys
-
 abbrev pub unmarked_of : Listed → List Key → List Key
 unmarked_of marks keys = filter (λ k. not (is_some (find k marks))) keys
 
 -- some of the candidates are marked, and what is left to mark gives what marking all gives
 pub record IsFilling
-    (pos : ℕ) (due : Bool) (candidates : List (Key × Option Route)) (first : List Key)
-    (old : List (Key × Option Mark)) (left : List (Key × Option Route)) (order : List Key)
-    (len capacity : ℕ) (bodies : List (Key × Option Mark)) : Type 0 where
-  pub marks :
-      (q : Key) → with_candidate pos due (at q left) (mark_at q bodies)
-      ≡ with_candidate pos due (at q candidates) (mark_at q old)
+    (pos : ℕ) (due : Bool) (candidates : List (Key × Option Route)) (first : Listed)
+    (left : List (Key × Option Route)) (marks : Listed) : Type 0 where
+  pub given :
+      (q : Key) → with_candidate pos due (at q left) (find q marks)
+      ≡ with_candidate pos due (at q candidates) (find q first)
   pub added :
-      order ++ unmarked bodies (keys_of left) ≡ first ++ unmarked old (keys_of candidates)
-  pub places : (q : Key) → HasPlace q left → HasPlace q bodies
-  pub room : len + length left ≤ capacity
-  pub listed : IsListed order bodies
+      keys_of marks ++ unmarked_of marks (keys_of left)
+      ≡ keys_of first ++ unmarked_of first (keys_of candidates)

@@ -26,6 +26,7 @@ use attrs::{Attrs, Chunk, JEntry, Judge, Route, Shared};
 use bits_ip::OutOfMemory;
 use std::alloc::Global;
 use std::collections::VecDeque;
+use std::hash::RandomState;
 use std::marker::Model;
 
 /// What a push did.
@@ -158,8 +159,9 @@ fn mark_above(
 }
 
 impl<J: Judge> Exporter<J> {
-    /// A channel that is down.
-    pub fn make(alloc: Global, spec: ExportSpec, judge: J) -> Exporter<J>
+    /// A channel that is down. Its marks are kept by keys that are hashed by this, which no answer
+    /// depends on.
+    pub fn make(alloc: Global, hasher: RandomState, spec: ExportSpec, judge: J) -> Exporter<J>
         ensures { result ≡ record {
           spec = spec;
           judge = judge;
@@ -181,7 +183,7 @@ impl<J: Judge> Exporter<J> {
             floors: VecDeque::new(alloc),
             feed: FeedState::Done,
             refreshing: false,
-            marks: Marks::new(alloc),
+            marks: Marks::new(alloc, hasher),
             sent: Standing::new(alloc),
             log: Vec::new(alloc),
             flushing: false,

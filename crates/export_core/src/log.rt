@@ -5,7 +5,7 @@ use attrs::{Attrs, Shared};
 use bits_ip::Prefix;
 
 /// What a channel sends values for. Keys are ordered by net, and then by source.
-#[derive(Clone, Copy, Debug, PartialEq, Eq, PartialOrd, Ord, Drop)]
+#[derive(Clone, Copy, Debug, PartialEq, Eq, PartialOrd, Ord, Hash, Drop)]
 pub struct Key {
     pub net: Prefix,
     /// The number of the source of a pipe's routes, and 0 in other channels.

@@ -1,23 +1,26 @@
 //! Marks in the order of first marking.
-ghost use Rattle.std.specs.Prelude.{◌≡◌, ◌↔◌, ◌+◌, ◌<◌, ◌≤◌, ◌||◌, List, [], ◌∷◌, ◌++◌, ◌&&◌, OnOk, OnErr, IfErr, IfOk, IfNone, IfSome, IsTrue, IsSome, None, Some, is_some, slice_get, drop, length, option_copied, true, if◌then◌else◌, not};
-ghost use Rattle.std.specs.VecDeque.{deque_len, deque_capacity};
+ghost use Rattle.std.specs.Prelude.{◌≡◌, ◌↔◌, ◌+◌, ◌<◌, ◌≤◌, List, [], ◌∷◌, ◌++◌, ◌&&◌, OnOk, OnErr, IfErr, IfOk, IfNone, IfSome, IsTrue, IsOk, Some, None, true, is_some, slice_get, drop, length, if◌then◌else◌};
 ghost use Rattle.std.specs.Map.{keys_of};
 ghost use Rattle.std.specs.List.Sorted.{IsStrictlySortedBy};
 ghost use Rattle.bits_ip.specs.Prefix.{Net};
+ghost use Rattle.indexmap.specs.IndexMap.{spare};
 ghost use Rattle.export_core.specs.declared.log.Key.{Key};
 ghost use Rattle.export_core.specs.Keys.{key_cmp, same_key};
 ghost use Rattle.export_core.specs.Candidates.{AddsNone, covers, is_from};
 ghost use Rattle.export_core.specs.Calls.{order_with};
-ghost use Rattle.export_core.specs.Marks.{at, find, mark_at, joined, unmarked, unmarked_of, Fills, HasPlace, Joins, KeepsPlaces, IsListed, MarksAll, MarksEach, SameMarks};
+ghost use Rattle.export_core.specs.Marks.{at, find, is_due, joined, live, unmarked_of, AreMarks, IsFirst, IsOnce, Joins, MarksEach, Puts};
 
-use crate::candidates::{add_none, bounds_of};
+use crate::candidates::add_none;
 use crate::floors::Floor;
 use crate::log::Key;
 use attrs::Route;
 use bits_ip::OutOfMemory;
+use indexmap::IndexMap;
 use std::alloc::Global;
-use std::collections::{BTreeMap, VecDeque};
+use std::collections::BTreeMap;
+use std::hash::RandomState;
 use std::marker::Model;
+use std::mem;
 
 /// A mark of a key: its candidate, and the position at which it stood.
 #[derive(Debug, Drop)]
@@ -29,244 +32,245 @@ pub struct Mark {
     pub due: bool,
 }
 
-/// Marks by key, and the keys in the order in which they were marked. The map may have places
-/// without a mark.
+type Keyed = IndexMap<Key, Mark, RandomState>;
+
+/// Marks by key, in the order in which their keys were marked. Nothing moves in either of two maps:
+/// one is emptied from the front, and has no marks before the number `from`; the other takes new
+/// marks. When nothing is left of the first, they change places.
 #[derive(Debug, Drop)]
 pub(crate) struct Marks {
-    order: VecDeque<Key>,
-    bodies: BTreeMap<Key, Option<Mark>>,
+    leaving: Keyed,
+    from: usize,
+    coming: Keyed,
 }
 
 impl Model for Marks {
-    ghost use Rattle.export_core.specs.Marks.{Listed, IsListed, listed};
+    ghost use Rattle.export_core.specs.Marks.{Listed, AreMarks, live};
 
     ghost Value = { Listed };
 
-    ghost view = { λ m. listed m.order.items m.bodies.entries };
+    ghost view = { λ m. live m.from m.leaving.entries m.coming.entries };
 
-    ghost invariant = { λ m. IsListed m.order.items m.bodies.entries };
+    ghost invariant = { λ m. AreMarks m.from m.leaving.entries m.coming.entries };
 }
 
-/// Makes a place for a mark of the key, which changes no mark.
-fn make_place(bodies: &mut BTreeMap<Key, Option<Mark>>, key: &Key) -> Result<(), OutOfMemory>
-    ensures same { SameMarks bodies.old.entries bodies.new.entries }
-    ensures places { KeepsPlaces bodies.old.entries bodies.new.entries }
-    ensures made { OnOk result (HasPlace key.now bodies.new.entries) }
+/// The mark takes the place of an older one, and stays due where that was.
+fn join(place: &mut Mark, mark: Mark)
+    ensures { place.new ≡ joined (Some place.old) mark }
 {
-    if !bodies.contains_key(key) {
-        bodies.insert(*key, None)?;
-    }
-    Ok(())
+    let was_due = place.due;
+    *place = Mark {
+        at: mark.at,
+        candidate: mark.candidate,
+        due: mark.due | was_due,
+    };
 }
 
-/// Makes a place for each of the candidates' keys.
-fn make_places(
-    bodies: &mut BTreeMap<Key, Option<Mark>>,
-    candidates: &BTreeMap<Key, Option<Route>>,
-) -> Result<(), OutOfMemory>
-    ensures same { SameMarks bodies.old.entries bodies.new.entries }
-    ensures made { OnOk result ((q : Key) → HasPlace q candidates.now.entries
-        → HasPlace q bodies.new.entries) }
+/// The mark at the number, with its key.
+fn mark_at(map: &Keyed, place: usize) -> Option<(Key, &Mark)>
+    ensures some { IfSome result (λ p. slice_get map.now.entries place ≡ Some (p.0, p.1.now)) }
+    ensures none { IfNone result (length map.now.entries ≤ place) }
 {
-    for key in candidates.keys() {
-        make_place(bodies, key)?;
-    }
-    Ok(())
-}
-
-fn mark_of<'a>(bodies: &'a BTreeMap<Key, Option<Mark>>, key: &Key) -> Option<&'a Mark>
-    ensures { option_copied result ≡ mark_at key.now bodies.now.entries }
-{
-    match bodies.get(key) {
-        Some(mark) => mark.as_ref(),
+    match map.get_index(place) {
+        Some((key, mark)) => Some((*key, mark)),
         None => None,
     }
 }
 
-fn has_mark(bodies: &BTreeMap<Key, Option<Mark>>, key: &Key) -> bool
-    ensures { result ≡ is_some (mark_at key.now bodies.now.entries) }
+/// Where the key stands in the map, at the number or behind it.
+fn place_of(map: &Keyed, from: usize, key: &Key) -> Option<usize>
+    requires { IsOnce (keys_of map.now.entries) }
+    ensures some { IfSome result (λ i. IsFirst key.now map.now.entries i × (from ≤ i)) }
+    ensures none { IfNone result (at key.now (drop from map.now.entries) ≡ None) }
 {
-    mark_of(bodies, key).is_some()
+    if map.len() <= from {
+        return None;
+    }
+    let place = map.get_index_of(key)?;
+    if place < from {
+        return None;
+    }
+    Some(place)
 }
 
-/// Marks a place, and tells whether it had no mark. A mark that takes the place of another stays
-/// due where that was.
-fn mark_place(place: &mut Option<Mark>, mark: Mark) -> bool
-    ensures mark { place.new ≡ Some (joined place.old mark) }
-    ensures new { result ≡ not (is_some place.old) }
-{
-    let was_due = match place {
-        Some(old) => old.due,
-        None => false,
-    };
-    let is_new = place.is_none();
-    *place = Some(Mark {
-        at: mark.at,
-        candidate: mark.candidate,
-        due: mark.due | was_due,
-    });
-    is_new
-}
-
-/// Marks the key at its place, and tells whether it had no mark. Where it has no place the mark is
+/// Marks the key where it stands in the map, at the number or behind it. Elsewhere the mark is
 /// given back.
-fn mark_there(bodies: &mut BTreeMap<Key, Option<Mark>>, key: &Key, mark: Mark) -> Result<bool, Mark>
-    ensures marks { OnOk result (Joins key.now mark bodies.old.entries bodies.new.entries) }
-    ensures new { IfOk result
-        (λ is_new. is_new ≡ not (is_some (mark_at key.now bodies.old.entries))) }
-    ensures places { KeepsPlaces bodies.old.entries bodies.new.entries }
+fn mark_there(map: &mut Keyed, from: usize, key: &Key, mark: Mark) -> Result<(), Mark>
+    requires { IsOnce (keys_of map.old.entries) }
+    ensures joins { OnOk result (Joins from key.now mark map.old.entries map.new.entries) }
     ensures back { IfErr result (λ back. back ≡ mark) }
-    ensures none { OnErr result ((at key.now bodies.old.entries ≡ None)
-        × (bodies.new.entries ≡ bodies.old.entries)) }
+    ensures none { OnErr result (at key.now (drop from map.old.entries) ≡ None) }
+    ensures same { OnErr result (map.new.entries ≡ map.old.entries) }
 {
-    match bodies.get_mut(key) {
-        Some(place) => Ok(mark_place(place, mark)),
+    match place_of(map, from, key) {
+        Some(place) => {
+            join(&mut map[place], mark);
+            Ok(())
+        }
         None => Err(mark),
     }
 }
 
-/// Makes a place with a mark of the key, which has none.
-fn make_marked(
-    bodies: &mut BTreeMap<Key, Option<Mark>>,
-    key: &Key,
-    mark: Mark,
-) -> Result<(), OutOfMemory>
-    requires { at key.now bodies.old.entries ≡ None }
-    ensures marks { OnOk result (Joins key.now mark bodies.old.entries bodies.new.entries) }
-    ensures places { KeepsPlaces bodies.old.entries bodies.new.entries }
-    ensures refused { OnErr result (bodies.new.entries ≡ bodies.old.entries) }
-{
-    bodies.insert(*key, Some(mark))?;
-    Ok(())
-}
-
-/// Marks the key, and tells whether it had no mark.
-fn mark_net(
-    bodies: &mut BTreeMap<Key, Option<Mark>>,
-    key: &Key,
-    mark: Mark,
-) -> Result<bool, OutOfMemory>
-    ensures marks { OnOk result (Joins key.now mark bodies.old.entries bodies.new.entries) }
-    ensures new { IfOk result
-        (λ is_new. is_new ≡ not (is_some (mark_at key.now bodies.old.entries))) }
-    ensures places { KeepsPlaces bodies.old.entries bodies.new.entries }
-    ensures refused { OnErr result (bodies.new.entries ≡ bodies.old.entries) }
-{
-    match mark_there(bodies, key, mark) {
-        Ok(is_new) => Ok(is_new),
-        Err(mark) => {
-            make_marked(bodies, key, mark)?;
-            Ok(true)
-        }
-    }
-}
-
-/// Puts the key behind the others, where it is new.
-fn place_last(order: &mut VecDeque<Key>, key: Key, is_new: bool)
-    requires { deque_len order.old < deque_capacity order.old }
-    ensures order { order.new.items
-        ≡ (if is_new then order.old.items ++ key ∷ [] else order.old.items) }
-    ensures room { deque_capacity order.new ≡ deque_capacity order.old }
-    ensures len { deque_len order.new ≤ deque_len order.old + 1 }
-{
-    if is_new {
-        order.push_back_reserved(key);
-    }
-}
-
-/// Marks the key, for which there is a place. A key that is marked already keeps its place in the
-/// order, and stays due where it was.
-fn fill(order: &mut VecDeque<Key>, bodies: &mut BTreeMap<Key, Option<Mark>>, key: Key, mark: Mark)
-    requires place { HasPlace key bodies.old.entries }
-    requires room { deque_len order.old < deque_capacity order.old }
-    requires listed { IsListed order.old.items bodies.old.entries }
-    ensures fills { Fills key mark order.old.items bodies.old.entries
-        order.new.items bodies.new.entries }
-    ensures room { deque_capacity order.new ≡ deque_capacity order.old }
-    ensures len { deque_len order.new ≤ deque_len order.old + 1 }
-{
-    match mark_there(bodies, &key, mark) {
-        Ok(is_new) => place_last(order, key, is_new),
-        Err(_) => unreachable!(),
-    }
-}
-
-/// Marks the key, as `fill` does, where it may have no place yet.
+/// Marks the key. A key that is marked already keeps its place in the order, and stays due where it
+/// was.
 fn put(
-    order: &mut VecDeque<Key>,
-    bodies: &mut BTreeMap<Key, Option<Mark>>,
+    leaving: &mut Keyed,
+    from: usize,
+    coming: &mut Keyed,
     key: Key,
     mark: Mark,
 ) -> Result<(), OutOfMemory>
-    requires room { deque_len order.old < deque_capacity order.old }
-    requires listed { IsListed order.old.items bodies.old.entries }
-    ensures fills { OnOk result (Fills key mark order.old.items bodies.old.entries
-        order.new.items bodies.new.entries) }
-    ensures refused { OnErr result ((order.new.items ≡ order.old.items)
-        × (bodies.new.entries ≡ bodies.old.entries)) }
+    requires { AreMarks from leaving.old.entries coming.old.entries }
+    ensures puts { OnOk result (Puts key mark (live from leaving.old.entries coming.old.entries)
+        (live from leaving.new.entries coming.new.entries)) }
+    ensures are { AreMarks from leaving.new.entries coming.new.entries }
+    ensures refused { OnErr result ((leaving.new.entries ≡ leaving.old.entries)
+        × (coming.new.entries ≡ coming.old.entries)) }
+    ensures succeeds { 0 < spare coming.old → IsOk result }
+    ensures room { spare coming.old ≤ spare coming.new + 1 }
 {
-    let is_new = mark_net(bodies, &key, mark)?;
-    place_last(order, key, is_new);
+    match mark_there(leaving, from, &key, mark) {
+        Ok(()) => Ok(()),
+        Err(mark) => put_new(coming, key, mark),
+    }
+}
+
+fn is_due(mark: &Option<Mark>) -> bool
+    ensures { result ≡ is_due mark.now }
+{
+    match mark {
+        Some(mark) => mark.due,
+        None => false,
+    }
+}
+
+/// Marks a key that has no mark in the map that is emptied. One search finds its place.
+fn put_new(coming: &mut Keyed, key: Key, mark: Mark) -> Result<(), OutOfMemory>
+    ensures puts { OnOk result (Puts key mark coming.old.entries coming.new.entries) }
+    ensures refused { OnErr result (coming.new.entries ≡ coming.old.entries) }
+    ensures succeeds { 0 < spare coming.old → IsOk result }
+    ensures room { spare coming.old ≤ spare coming.new + 1 }
+{
+    let (place, old) = coming.insert_full(key, mark)?;
+    if is_due(&old) {
+        coming[place].due = true;
+        return Ok(());
+    }
     Ok(())
 }
 
-/// Marks a key with its candidate, as `fill` does.
-fn fill_entry(
-    order: &mut VecDeque<Key>,
-    bodies: &mut BTreeMap<Key, Option<Mark>>,
+/// Marks a key with its candidate, as `put` does. Takes no memory.
+fn fill(
+    leaving: &mut Keyed,
+    from: usize,
+    coming: &mut Keyed,
     entry: (Key, Option<Route>),
     at: u64,
     due: bool,
 )
-    requires place { HasPlace entry.0 bodies.old.entries }
-    requires room { deque_len order.old < deque_capacity order.old }
-    requires listed { IsListed order.old.items bodies.old.entries }
-    ensures fills { Fills entry.0 (record { at = at; candidate = entry.1; due = due })
-        order.old.items bodies.old.entries order.new.items bodies.new.entries }
-    ensures room { deque_capacity order.new ≡ deque_capacity order.old }
-    ensures len { deque_len order.new ≤ deque_len order.old + 1 }
+    requires are { AreMarks from leaving.old.entries coming.old.entries }
+    requires room { 0 < spare coming.old }
+    ensures puts { Puts entry.0 (record { at = at; candidate = entry.1; due = due })
+        (live from leaving.old.entries coming.old.entries)
+        (live from leaving.new.entries coming.new.entries) }
+    ensures are { AreMarks from leaving.new.entries coming.new.entries }
+    ensures room { spare coming.old ≤ spare coming.new + 1 }
 {
     let (key, candidate) = entry;
-    fill(order, bodies, key, Mark { at, candidate, due });
+    match put(leaving, from, coming, key, Mark { at, candidate, due }) {
+        Ok(()) => {}
+        Err(_) => unreachable!(),
+    }
 }
 
 /// Marks each of the candidates' keys, in the order of keys.
 fn fill_all(
-    order: &mut VecDeque<Key>,
-    bodies: &mut BTreeMap<Key, Option<Mark>>,
+    leaving: &mut Keyed,
+    from: usize,
+    coming: &mut Keyed,
     candidates: BTreeMap<Key, Option<Route>>,
     at: u64,
     due: bool,
 )
-    requires places { (q : Key) → HasPlace q candidates.entries → HasPlace q bodies.old.entries }
-    requires room { deque_len order.old + length candidates.entries ≤ deque_capacity order.old }
-    requires listed { IsListed order.old.items bodies.old.entries }
-    ensures marks { MarksAll candidates.entries at due bodies.old.entries bodies.new.entries }
-    ensures order { order.new.items
-        ≡ order.old.items ++ unmarked bodies.old.entries (keys_of candidates.entries) }
-    ensures listed { IsListed order.new.items bodies.new.entries }
+    requires are { AreMarks from leaving.old.entries coming.old.entries }
+    requires room { length candidates.entries ≤ spare coming.old }
+    ensures marks { MarksEach candidates.entries at due
+        (live from leaving.old.entries coming.old.entries)
+        (live from leaving.new.entries coming.new.entries) }
+    ensures order { keys_of (live from leaving.new.entries coming.new.entries)
+        ≡ keys_of (live from leaving.old.entries coming.old.entries)
+        ++ unmarked_of (live from leaving.old.entries coming.old.entries)
+        (keys_of candidates.entries) }
+    ensures are { AreMarks from leaving.new.entries coming.new.entries }
 {
     let mut left = candidates;
     while let Some(entry) = left.pop_first() {
-        fill_entry(order, bodies, entry, at, due);
+        fill(leaving, from, coming, entry, at, due);
     }
 }
 
-/// The key has no mark any more.
-fn forget(bodies: &mut BTreeMap<Key, Option<Mark>>, key: &Key)
-    ensures { (q : Key) → mark_at q bodies.new.entries
-        ≡ (if same_key key.now q then None else mark_at q bodies.old.entries) }
+/// Where nothing is left of the map that is emptied, the two change places. Answers where the marks
+/// of the first begin.
+fn turn(leaving: &mut Keyed, from: usize, coming: &mut Keyed) -> usize
+    requires { AreMarks from leaving.old.entries coming.old.entries }
+    ensures same { live result leaving.new.entries coming.new.entries
+        ≡ live from leaving.old.entries coming.old.entries }
+    ensures are { AreMarks result leaving.new.entries coming.new.entries }
+    ensures ahead { result ≡ length leaving.new.entries → coming.new.entries ≡ [] }
 {
-    bodies.remove(key);
+    if from < leaving.len() {
+        return from;
+    }
+    leaving.truncate(0);
+    mem::swap(leaving, coming);
+    0
+}
+
+/// Takes the mark at the number out, and answers where the marks begin then. What it holds goes.
+fn leave(leaving: &mut Keyed, from: usize) -> usize
+    requires { from ≤ length leaving.old.entries }
+    ensures rest { drop result leaving.new.entries ≡ drop 1 (drop from leaving.old.entries) }
+    ensures keys { keys_of leaving.new.entries ≡ keys_of leaving.old.entries }
+    ensures within { result ≤ length leaving.new.entries }
+{
+    if from < leaving.len() {
+        leaving[from].candidate = None;
+        return from + 1;
+    }
+    from
+}
+
+/// Adds the keys of the map, from the number on, that are in the range, with no candidate.
+fn add_covered(
+    candidates: &mut BTreeMap<Key, Option<Route>>,
+    map: &Keyed,
+    from: usize,
+    range: &Floor,
+) -> Result<(), OutOfMemory>
+    requires { from ≤ length map.now.entries }
+    ensures { OnOk result
+        (AddsNone (λ q. covers range.now q && is_some (at q (drop from map.now.entries)))
+        candidates.old.entries candidates.new.entries) }
+{
+    let mut left = map.len();
+    while left > from {
+        left -= 1;
+        if let Some((key, _)) = map.get_index(left) {
+            add_none(candidates, key, range.covers(key))?;
+        }
+    }
+    Ok(())
 }
 
 impl Marks {
-    pub(crate) fn new(alloc: Global) -> Marks
+    /// No marks, whose keys are hashed by this.
+    pub(crate) fn new(alloc: Global, hasher: RandomState) -> Marks
         ensures { result ≡ [] }
     {
         Marks {
-            order: VecDeque::new(alloc),
-            bodies: BTreeMap::new(alloc),
+            leaving: IndexMap::with_hasher(alloc, hasher),
+            from: 0,
+            coming: IndexMap::with_hasher(alloc, hasher),
         }
     }
 
@@ -280,8 +284,7 @@ impl Marks {
         ensures order { OnOk result (keys_of self.new ≡ order_with key self.old) }
         ensures refused { OnErr result (self.new ≡ self.old) }
     {
-        self.order.reserve(1)?;
-        put(&mut self.order, &mut self.bodies, key, mark)
+        put(&mut self.leaving, self.from, &mut self.coming, key, mark)
     }
 
     /// The first mark with its key.
@@ -290,10 +293,9 @@ impl Marks {
             (slice_get (keys_of self.now) 0 ≡ Some p.0) × (find p.0 self.now ≡ Some p.1.now)) }
         ensures none { IfNone result (self.now ≡ []) }
     {
-        let key = *self.order.front()?;
-        match self.bodies.get(&key) {
-            Some(Some(mark)) => Some((key, mark)),
-            _ => unreachable!(),
+        match mark_at(&self.leaving, self.from) {
+            Some(first) => Some(first),
+            None => mark_at(&self.coming, 0),
         }
     }
 
@@ -301,7 +303,7 @@ impl Marks {
         ensures empty { IsTrue result ↔ (self.now ≡ []) }
         ensures none { IsTrue result → (k : Key) → find k self.now ≡ None }
     {
-        self.order.is_empty()
+        (self.from == self.leaving.len()) & (self.coming.len() == 0)
     }
 
     /// Takes the first mark out.
@@ -310,21 +312,8 @@ impl Marks {
             → (q : Key) → find q self.new ≡ (if same_key k q then None else find q self.old) }
         ensures rest { self.new ≡ drop 1 self.old }
     {
-        if let Some(key) = self.order.pop_front() {
-            forget(&mut self.bodies, &key);
-        }
-    }
-
-    /// Adds the key, where it is marked, with no candidate.
-    fn add_one(
-        &self,
-        candidates: &mut BTreeMap<Key, Option<Route>>,
-        key: &Key,
-    ) -> Result<(), OutOfMemory>
-        ensures { OnOk result (AddsNone (λ q. is_some (find key.now self.now) && same_key key.now q)
-            candidates.old.entries candidates.new.entries) }
-    {
-        add_none(candidates, key, has_mark(&self.bodies, key))
+        let from = turn(&mut self.leaving, self.from, &mut self.coming);
+        self.from = leave(&mut self.leaving, from);
     }
 
     /// Adds the keys in the range that are marked, with no candidate.
@@ -337,10 +326,8 @@ impl Marks {
         ensures { OnOk result (AddsNone (λ q. covers range.now q && is_some (find q self.now))
             candidates.old.entries candidates.new.entries) }
     {
-        for (key, _) in self.bodies.range(bounds_of(range)) {
-            self.add_one(candidates, key)?;
-        }
-        Ok(())
+        add_covered(candidates, &self.leaving, self.from, range)?;
+        add_covered(candidates, &self.coming, 0, range)
     }
 
     /// Marks each of the candidates' keys, in the order of keys.
@@ -356,16 +343,23 @@ impl Marks {
         ensures ascend { IsStrictlySortedBy key_cmp (keys_of candidates.entries) }
         ensures refused { OnErr result (self.new ≡ self.old) }
     {
-        self.order.reserve(candidates.len())?;
-        make_places(&mut self.bodies, &candidates)?;
-        fill_all(&mut self.order, &mut self.bodies, candidates, at, due);
+        self.coming.reserve(candidates.len())?;
+        fill_all(
+            &mut self.leaving,
+            self.from,
+            &mut self.coming,
+            candidates,
+            at,
+            due,
+        );
         Ok(())
     }
 
     pub(crate) fn clear(&mut self)
         ensures { self.new ≡ [] }
     {
-        self.order.clear();
-        self.bodies.clear();
+        self.leaving.truncate(0);
+        self.coming.truncate(0);
+        self.from = 0;
     }
 }

@@ -13,16 +13,19 @@ use bits_ip::OutOfMemory;
 use filt_tree::TFilter;
 use show_route::Query;
 use std::alloc::Global;
+use std::hash::RandomState;
 use sys_run::Core;
 use system::laws::configurations_have_few_protocols;
 use system::{Passes, System};
 
 /// The core of an accepted configuration, which has played nothing, for a script of these
-/// conditions and queries. The journal of each table holds so many changes.
+/// conditions and queries. The journal of each table holds so many changes. Keys that others choose
+/// are hashed by the hasher, on which nothing that is printed depends.
 ///
 /// `OutOfMemory` comes where memory is refused.
 pub fn build<'a>(
     alloc: Global,
+    hasher: RandomState,
     system: &'a System,
     conditions: &'a [TFilter],
     queries: Vec<Query>,
@@ -41,5 +44,5 @@ pub fn build<'a>(
     let tables = tables(alloc, system)?;
     let protocols = protocols(alloc, system)?;
     let choices = choices(alloc, system, conditions)?;
-    Core::make(alloc, cells, tables, protocols, choices, queries)
+    Core::make(alloc, hasher, cells, tables, protocols, choices, queries)
 }

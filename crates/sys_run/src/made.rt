@@ -29,6 +29,7 @@ use export_core::{ExportSpec, Exporter};
 use import_core::{Importer, Mark};
 use run_tables::{Channel, Routes, Table};
 use std::alloc::Global;
+use std::hash::RandomState;
 use std::mem;
 
 /// What is made of protocols.
@@ -241,6 +242,7 @@ fn pass_one(
 /// Protocols that have done nothing, and their channels.
 pub(crate) fn make_protocols<J: Judge + Drop>(
     alloc: Global,
+    hasher: RandomState,
     tables: &[TableParts],
     passed: Vec<Vec<u32>>,
     protocols: Vec<ProtocolParts<J>>,
@@ -258,7 +260,7 @@ pub(crate) fn make_protocols<J: Judge + Drop>(
     };
     let mut passed = passed;
     for protocol in protocols {
-        made.add(alloc, tables, &mut passed, protocol)?;
+        made.add(alloc, hasher, tables, &mut passed, protocol)?;
     }
     Ok(made)
 }
@@ -267,6 +269,7 @@ impl<J: Judge + Drop> Made<J> {
     fn add(
         &mut self,
         alloc: Global,
+        hasher: RandomState,
         tables: &[TableParts],
         passed: &mut Vec<Vec<u32>>,
         protocol: ProtocolParts<J>,
@@ -282,7 +285,7 @@ impl<J: Judge + Drop> Made<J> {
             → Left (length self.new.channels.items) passed.new.items lists) }
     {
         let ProtocolParts { name, body } = protocol;
-        self.add_body(alloc, tables, passed, &name, body)?;
+        self.add_body(alloc, hasher, tables, passed, &name, body)?;
         self.names.push(name)?;
         Ok(())
     }
@@ -290,6 +293,7 @@ impl<J: Judge + Drop> Made<J> {
     fn add_body(
         &mut self,
         alloc: Global,
+        hasher: RandomState,
         tables: &[TableParts],
         passed: &mut Vec<Vec<u32>>,
         name: &Seq<u8>,
@@ -306,11 +310,11 @@ impl<J: Judge + Drop> Made<J> {
     {
         match body {
             BodyParts::Source(source) => {
-                self.add_source(alloc, name, source)?;
+                self.add_source(alloc, hasher, name, source)?;
                 Ok(())
             }
             BodyParts::Pipe(pipe) => {
-                self.add_pipe(alloc, tables, passed, name, pipe)?;
+                self.add_pipe(alloc, hasher, tables, passed, name, pipe)?;
                 Ok(())
             }
         }
@@ -319,6 +323,7 @@ impl<J: Judge + Drop> Made<J> {
     fn add_source(
         &mut self,
         alloc: Global,
+        hasher: RandomState,
         name: &Seq<u8>,
         parts: SourceParts<J>,
     ) -> Result<(), OutOfMemory>
@@ -332,7 +337,7 @@ impl<J: Judge + Drop> Made<J> {
             exports,
         } = parts;
         let from = self.channels.len();
-        self.add_session(alloc, name, table, exports)?;
+        self.add_session(alloc, hasher, name, table, exports)?;
         self.sources.push(spec.src)?;
         let body = Body::Source(Source {
             table,
@@ -347,6 +352,7 @@ impl<J: Judge + Drop> Made<J> {
     fn add_session(
         &mut self,
         alloc: Global,
+        hasher: RandomState,
         name: &Seq<u8>,
         table: usize,
         exports: Option<ExportParts<J>>,
@@ -357,7 +363,7 @@ impl<J: Judge + Drop> Made<J> {
     {
         match exports {
             Some(ExportParts { spec, judge }) => {
-                let exporter = Exporter::make(alloc, spec, judge);
+                let exporter = Exporter::make(alloc, hasher, spec, judge);
                 let copy = copied(alloc, name.as_slice(), b"")?;
                 self.add_channel(copy, table, None, exporter)?;
                 Ok(())
@@ -369,6 +375,7 @@ impl<J: Judge + Drop> Made<J> {
     fn add_pipe(
         &mut self,
         alloc: Global,
+        hasher: RandomState,
         tables: &[TableParts],
         passed: &mut Vec<Vec<u32>>,
         name: &Seq<u8>,
@@ -385,7 +392,7 @@ impl<J: Judge + Drop> Made<J> {
     {
         let from = self.channels.len();
         let number = number_of(self.names.len());
-        self.add_both(alloc, tables, passed, name, number, parts)?;
+        self.add_both(alloc, hasher, tables, passed, name, number, parts)?;
         self.sources.push(Src {
             num: number,
             def_med: 0,
@@ -399,6 +406,7 @@ impl<J: Judge + Drop> Made<J> {
     fn add_both(
         &mut self,
         alloc: Global,
+        hasher: RandomState,
         tables: &[TableParts],
         passed: &mut Vec<Vec<u32>>,
         name: &Seq<u8>,
@@ -432,9 +440,9 @@ impl<J: Judge + Drop> Made<J> {
         );
         let name_there = copied(alloc, name.as_slice(), b".export")?;
         let name_back = copied(alloc, name.as_slice(), b".import")?;
-        let exporter = Exporter::make(alloc, there, export);
+        let exporter = Exporter::make(alloc, hasher, there, export);
         self.add_channel(name_there, primary, Some(peer), exporter)?;
-        let importer = Exporter::make(alloc, back, import);
+        let importer = Exporter::make(alloc, hasher, back, import);
         self.add_channel(name_back, peer, Some(primary), importer)?;
         Ok(())
     }

@@ -34,6 +34,7 @@ use run_tables::{Channel, Routes};
 use script_lines::{Line, Name};
 use show_route::{Query, answer_table};
 use std::alloc::Global;
+use std::hash::RandomState;
 
 /// A reply to `show route`.
 #[derive(Debug, Drop)]
@@ -71,9 +72,10 @@ impl<J: Judge + Drop> Core<J> {
     /// A core that has played nothing. The journal of each table holds so many changes for the
     /// channels that are still to take them. The channels are numbered in the order of protocols:
     /// of a pipe P `P.export` and then `P.import`. Lines ask the queries by their numbers, and
-    /// queries name the filters of `choices` by theirs.
+    /// queries name the filters of `choices` by theirs. What is printed doesn't depend on the hasher.
     pub fn make(
         alloc: Global,
+        hasher: RandomState,
         cells: u32,
         tables: Vec<TableParts>,
         protocols: Vec<ProtocolParts<J>>,
@@ -89,7 +91,7 @@ impl<J: Judge + Drop> Core<J> {
     {
         let held = make_tables(alloc, &tables)?;
         let passed = passed_by(alloc, tables.len(), &protocols)?;
-        let made = make_protocols(alloc, &tables, passed, protocols)?;
+        let made = make_protocols(alloc, hasher, &tables, passed, protocols)?;
         let Made {
             names,
             protocols,

@@ -8,16 +8,22 @@ use birdcore_top::Status;
 use birdcore_top::top::top;
 use outside_io::{OpenGate, Shelf, SureShelf, SureSink};
 use std::alloc::Global;
+use std::random::RandomSource;
 
 /// Does what the words ask for over the files of a shelf that never fails, and lets what is written
 /// go to a sink that takes all.
 ///
 /// No fault is answered then: it is what words and files require, or want of memory.
-pub fn do_surely(alloc: Global, words: &[String], shelf: &mut SureShelf) -> Status
+pub fn do_surely<R: RandomSource>(
+    rt: &R,
+    alloc: Global,
+    words: &[String],
+    shelf: &mut SureShelf,
+) -> Status
     ensures no_fault { (result ≢ Status.ReadFault) × (result ≢ Status.WriteFault) }
     ensures complete { (o : Outcome)
         → IsRequired (command_of words.now) (⟦<SureShelf as Shelf>⟧.held shelf.old) o
         → Answers o result ⊎ (result ≡ Status.OutOfMemory) }
 {
-    top(&(), alloc, words, shelf, &mut SureSink, &OpenGate)
+    top(rt, alloc, words, shelf, &mut SureSink, &OpenGate)
 }

@@ -1,11 +1,12 @@
-use Rattle.std.proofs.Common.{◌≡◌, ◌∙◌, Some, ap, rules, slice_get}
-use Rattle.export_core.specs.Marks.{mark_at}
-use Rattle.export_core.proofs.Listed.{first_is, seen_of}
+use Rattle.std.proofs.lemmas.Option.{IfSome_then}
+use Rattle.export_core.proofs.TwoMaps.{first_behind, first_in}
 use Rattle.export_core.proofs.marks.Marks.first.Goals as goal
 
-pub returns-clause-some : goal.returns-clause-some
-returns-clause-some c =
-    let seen = seen_of c.args.self.now c.self.inside.order.items c.self.inside.bodies.entries c.self.view_is c.self.invariant in
-    let key = first_is c.self.inside.order.items c.in_ok-key.field-0.now c.in_ok-key.ensures.item.3.0 c.in_ok-key.ensures.lookup in
-    let mark : mark_at c.in_ok-key.field-0.now c.self.inside.bodies.entries ≡ Some c.in-Some-Some.mark = search rules in
-    (ap (λ ks. slice_get ks 0) seen.keys ∙ key, seen.marks c.in_ok-key.field-0.now ∙ mark)
+pub returns-in-Some-clause-some : goal.returns-in-Some-clause-some
+returns-in-Some-clause-some c =
+    first_in c.self.inside.from c.self.inside.leaving.entries c.self.inside.coming.entries c.args.self.now c.in-Some.first.0 c.in-Some.first.1.now c.self.view_is c.in-Some.ensures.some
+
+pub returns-in-None-clause-some : goal.returns-in-None-clause-some
+returns-in-None-clause-some c =
+    IfSome_then c.mark_at-in-None.result c.mark_at-in-None.ensures.some
+    (λ p is. first_behind c.self.inside.from c.self.inside.leaving.entries c.self.inside.coming.entries c.args.self.now p.0 p.1.now c.self.view_is c.in-None.ensures.none is)
