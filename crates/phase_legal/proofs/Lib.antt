@@ -1,0 +1,4 @@
+pub mod Merging
+pub mod Made
+pub mod Stamping
+pub mod Answering

@@ -1,0 +1,5 @@
+pub mod Turns
+pub mod Changes
+pub mod Stamps
+pub mod Shown
+pub mod Ended
