@@ -315,14 +315,72 @@ fn read_add<'a>(mut words: impl Iterator<Item = &'a str>) -> Op {
     Op::Add(net, given)
 }
 
-/// show route [table NAME]
-fn read_show(names: &Names, actor: usize, words: &[&str]) -> Line {
-    let table = match words {
-        ["route"] => 0,
-        ["route", "table", name] => names.tables[*name],
-        _ => panic!("a query: {words:?}"),
+/// A net, or an address as the net of its own.
+fn covered(word: &str) -> Net {
+    match word.split_once('/') {
+        Some(_) => net(word),
+        None => {
+            let addr = address(word);
+            let len = if addr.is_ipv4() { 32 } else { 128 };
+            Net { addr, len }
+        }
+    }
+}
+
+/// One of a few conditions on the net's length and the path.
+fn condition(words: &[&str]) -> Condition {
+    let [name, sign, value] = *words else {
+        panic!("a condition: {words:?}");
     };
-    Line::Show { actor, table }
+    let value = number(value);
+    match (name, sign) {
+        ("net.len", ">") => Box::new(move |net, _| u32::from(net.len) > value),
+        ("net.len", "<") => Box::new(move |net, _| u32::from(net.len) < value),
+        ("bgp_path.len", "<") => Box::new(move |_, route| (route.attrs.path.len() as u32) < value),
+        ("bgp_path.first", "=") => Box::new(move |_, route| route.attrs.path.first() == Some(&value)),
+        _ => panic!("a condition: {words:?}"),
+    }
+}
+
+/// show route [NET | for IP | for NET | in NET] [table NAME] [count] [where CONDITION && ..]
+fn read_show(names: &Names, actor: usize, words: &[&str]) -> Line {
+    let ["route", rest @ ..] = words else {
+        panic!("a query: {words:?}");
+    };
+    let (pick, mut rest) = match rest {
+        ["for", word, rest @ ..] => (Pick::For(covered(word)), rest),
+        ["in", word, rest @ ..] => (Pick::Within(net(word)), rest),
+        [word, rest @ ..] if word.contains('/') => (Pick::Exact(net(word)), rest),
+        _ => (Pick::All, rest),
+    };
+    let is_v6 = match pick {
+        Pick::All => false,
+        Pick::Exact(net) | Pick::For(net) | Pick::Within(net) => net.addr.is_ipv6(),
+    };
+    let mut query = Query {
+        table: usize::from(is_v6),
+        pick,
+        conditions: Vec::new(),
+        count: false,
+    };
+    while let [option, behind @ ..] = rest {
+        rest = match (*option, behind) {
+            ("table", [name, behind @ ..]) => {
+                query.table = names.tables[*name];
+                behind
+            }
+            ("count", behind) => {
+                query.count = true;
+                behind
+            }
+            ("where", condition_words) => {
+                query.conditions = condition_words.split(|word| *word == "&&").map(condition).collect();
+                &[]
+            }
+            _ => panic!("a query: {words:?}"),
+        };
+    }
+    Line::Show { actor, query }
 }
 
 /// What stands behind an actor's name.
@@ -575,20 +633,43 @@ fn write_row(out: &mut String, net: &Net, route: &Route, star: &str, name: &str)
     }
 }
 
-fn reply(system: &System, actor: usize, table: usize) -> Reply {
-    let read = &system.tables[table];
+fn passes(query: &Query, net: &Net, route: &Route) -> bool {
+    query.conditions.iter().all(|condition| condition(net, route))
+}
+
+fn rows_text(system: &System, query: &Query) -> String {
+    let read = &system.tables[query.table];
     let mut text = format!("\tTable {}:\n", read.name);
-    for (net, routes) in &read.nets {
+    read.each(&query.pick, |net, routes| {
         for (place, route) in routes.iter().enumerate() {
-            let star = if place == 0 { " *" } else { "" };
-            let name = &system.protocols[route.source.number].name;
-            write_row(&mut text, net, route, star, name).expect("a string takes all");
+            if passes(query, net, route) {
+                let star = if place == 0 { " *" } else { "" };
+                let name = &system.protocols[route.source.number].name;
+                write_row(&mut text, net, route, star, name).expect("a string takes all");
+            }
         }
-    }
+    });
+    text
+}
+
+fn count_text(system: &System, query: &Query) -> String {
+    let read = &system.tables[query.table];
+    let (mut shown, mut nets) = (0, 0);
+    read.each(&query.pick, |net, routes| {
+        let kept = routes.iter().filter(|route| passes(query, net, route)).count();
+        shown += kept;
+        nets += usize::from(kept > 0);
+    });
+    let (total, name) = (read.routes, &read.name);
+    format!("\t{shown} of {total} routes for {nets} networks in table {name}\n")
+}
+
+fn reply(system: &System, actor: usize, query: &Query) -> Reply {
+    let text = if query.count { count_text(system, query) } else { rows_text(system, query) };
     Reply {
         actor,
-        table,
-        position: read.head(),
+        table: query.table,
+        position: system.tables[query.table].head(),
         text,
     }
 }
@@ -693,7 +774,7 @@ fn play(out: &mut impl Write, system: &mut System, script: Script) -> io::Result
                 Line::Take { channel, count } => system.take(channel, count),
                 Line::Push { channel, count } => system.push(channel, count),
                 Line::Apply { protocol, op } => system.apply(protocol, op),
-                Line::Show { actor, table } => replies.push(reply(system, actor, table)),
+                Line::Show { actor, query } => replies.push(reply(system, actor, &query)),
             }
         }
         system.sync();

@@ -99,7 +99,25 @@ pub enum Line {
     Take { channel: usize, count: u64 },
     Push { channel: usize, count: u64 },
     Apply { protocol: usize, op: Op },
-    Show { actor: usize, table: usize },
+    Show { actor: usize, query: Query },
+}
+
+/// Which nets a query asks for.
+pub enum Pick {
+    All,
+    Exact(Net),
+    For(Net),
+    Within(Net),
+}
+
+pub type Condition = Box<dyn Fn(&Net, &Route) -> bool>;
+
+/// A query, which shows the routes that pass all conditions.
+pub struct Query {
+    pub table: usize,
+    pub pick: Pick,
+    pub conditions: Vec<Condition>,
+    pub count: bool,
 }
 
 pub struct Entry {
@@ -254,6 +272,51 @@ fn bgp_selection(a: &Route, b: &Route) -> Ordering {
         .then_with(|| x.sender.cmp(&y.sender))
 }
 
+/// The bits of an address from the left, of 32 or 128.
+fn bits(addr: IpAddr) -> u128 {
+    match addr {
+        IpAddr::V4(addr) => u128::from(u32::from(addr)) << 96,
+        IpAddr::V6(addr) => addr.into(),
+    }
+}
+
+impl Net {
+    /// The net of this length that covers it.
+    fn cut(self, len: u8) -> Net {
+        let kept = bits(self.addr) & u128::MAX.checked_shl(128 - u32::from(len)).unwrap_or(0);
+        let addr = match self.addr {
+            IpAddr::V4(_) => IpAddr::V4(((kept >> 96) as u32).into()),
+            IpAddr::V6(_) => IpAddr::V6(kept.into()),
+        };
+        Net { addr, len }
+    }
+
+    fn covers(self, other: Net) -> bool {
+        self.addr.is_ipv4() == other.addr.is_ipv4() && self.len <= other.len && other.cut(self.len) == self
+    }
+
+    /// How many first bits both have.
+    fn common(self, other: Net) -> u8 {
+        let same = (bits(self.addr) ^ bits(other.addr)).leading_zeros() as u8;
+        same.min(self.len).min(other.len)
+    }
+}
+
+/// The nets that cover one, from the longest on.
+fn longest(nets: &BTreeMap<Net, Vec<Route>>, asked: Net) -> Option<(&Net, &Vec<Route>)> {
+    let mut asked = asked;
+    loop {
+        let found = nets.range(..=asked).next_back()?;
+        if found.0.covers(asked) {
+            return Some(found);
+        }
+        if found.0.addr.is_ipv4() != asked.addr.is_ipv4() {
+            return None;
+        }
+        asked = asked.cut(found.0.common(asked));
+    }
+}
+
 impl Table {
     pub fn new(name: &str) -> Table {
         Table {
@@ -262,6 +325,19 @@ impl Table {
             routes: 0,
             begun: 0,
             entries: Vec::new(),
+        }
+    }
+
+    /// Calls `show` for each net that is asked for.
+    pub fn each(&self, pick: &Pick, mut show: impl FnMut(&Net, &[Route])) {
+        match *pick {
+            Pick::All => self.nets.iter().for_each(|(net, routes)| show(net, routes)),
+            Pick::Exact(asked) => self.nets.get_key_value(&asked).into_iter().for_each(|(net, routes)| show(net, routes)),
+            Pick::For(asked) => longest(&self.nets, asked).into_iter().for_each(|(net, routes)| show(net, routes)),
+            Pick::Within(asked) => {
+                let within = self.nets.range(asked..).take_while(|(net, _)| asked.covers(**net));
+                within.for_each(|(net, routes)| show(net, routes));
+            }
         }
     }
 

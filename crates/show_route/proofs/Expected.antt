@@ -17,7 +17,7 @@ use Rattle.attrs.proofs.Rows.{before_back}
 use Rattle.rib.specs.Picks.{front}
 use Rattle.rib.proofs.Covering.{cover-front}
 use Rattle.show_route.specs.declared.query.Query.{Query}
-use Rattle.show_route.specs.Shown.{AreInOrder, AreShown, Choice, ComesBeforeAll, IsBestAt, IsReply, IsRouteOf, IsSelected, IsShown, Item, Sender, comes_before, count_nets, count_text, counted, plain, reply_of}
+use Rattle.show_route.specs.Shown.{AreInOrder, AreShown, Choice, ComesBeforeAll, IsBestAt, IsReply, IsRouteOf, IsSelected, IsShown, IsThere, Item, Sender, comes_before, count_nets, count_text, counted, plain, reply_of}
 use Rattle.show_route.specs.Steps.{rows_shown}
 use Rattle.attrs.specs.Select.{selected}
 use Rattle.show_route.proofs.Answering.{rows-show}
@@ -169,11 +169,12 @@ for-one content asked a b prefixes first second =
 
 pub for-shows : (query : Query) (choice : Option Choice) (sends : Option Sender) (content : Content) (asked : Net) (a b : Item) → query.pick ≡ For asked
     → ((net : Net) (route : Route) → IsRouteOf content net route → IsPrefix net.addr net.len)
-    → IsShown query choice sends content a → IsShown query choice sends content b → (a.net ≡ b.net) × Covers a.net asked
+    → IsShown query choice sends content a → IsShown query choice sends content b
+    → (a.net ≡ b.net) × Covers a.net asked × ((other : Net) → IsThere content other → Covers other asked → other.len ≤ a.net.len)
 for-shows query choice sends content asked a b pick prefixes first second =
     let p : IsSelected (For asked) content a.net = subst (λ (s : Select). IsSelected s content a.net) pick first.selected in
     let q : IsSelected (For asked) content b.net = subst (λ (s : Select). IsSelected s content b.net) pick second.selected in
-    (for-one content asked a.net b.net prefixes p q, p.1)
+    (for-one content asked a.net b.net prefixes p q, p.1, p.2)
 
 pub export-shows : (query : Query) (sends : Sender) (content : Content) (net : Net) (attrs : Attrs) → query.pick ≡ All → query.source ≡ None
     → ((item : Item) × IsShown query None (Some sends) content item × (item.net ≡ net) × (item.route.attrs ≡ attrs)) ↔ ((best : Route) × IsBestAt content net best × (sends net best ≡ Some attrs))

@@ -2,5 +2,6 @@ mod Answering
 mod Expected
 mod Members
 mod ReplyPieces
+mod Settling
 mod Tables
 mod Tallies

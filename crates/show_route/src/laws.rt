@@ -1,14 +1,26 @@
 //! What an operator expects of replies.
-ghost use Rattle.std.specs.Prelude.{◌≡◌, ◌≢◌, ◌↔◌, ℕ, true, not, List, length, Option, None, Some, Contains, IsTrue};
+ghost use Rattle.std.specs.Prelude.{◌≡◌, ◌≢◌, ◌↔◌, ◌≤◌, ℕ, true, false, not, List, length, map, Option, None, Some, Contains, IsTrue};
 ghost use Rattle.bits_ip.specs.Prefix.{Covers, IsPrefix, Net};
-ghost use Rattle.attrs.specs.History.{Content};
+ghost use Rattle.attrs.specs.History.{Content, content_at};
 ghost use Rattle.attrs.specs.Table.{Shows};
 ghost use Rattle.attrs.specs.declared.attributes.Attrs.{Attrs};
+ghost use Rattle.attrs.specs.declared.journal.JEntry.{JEntry};
+ghost use Rattle.attrs.specs.declared.judge.Verdict.{Verdict};
 ghost use Rattle.attrs.specs.declared.route.Route.{Route};
 ghost use Rattle.attrs.specs.declared.route.Row.{Row};
 ghost use Rattle.attrs.specs.declared.route.Select.TheVariants.{All, For};
+ghost use Rattle.export_core.specs.Histories.{TellsBest, change_of, course_of};
+ghost use Rattle.export_core.specs.Keys.{key_of};
+ghost use Rattle.export_core.specs.Logs.{Settled};
+ghost use Rattle.export_core.specs.Passing.{value_by};
+ghost use Rattle.export_core.specs.Sends.{last_value, sends};
+ghost use Rattle.export_core.specs.declared.log.LogItem.{LogItem};
+ghost use Rattle.export_core.specs.declared.passing.ExportSpec.{ExportSpec};
 ghost use Rattle.show_route.specs.declared.query.Query.{Query};
-ghost use Rattle.show_route.specs.Shown.{AreShown, Choice, IsBestAt, IsReply, IsRouteOf, IsShown, Item, Sender, comes_before, count_nets, count_text, plain, counted};
+ghost use Rattle.show_route.specs.Senders.{sender_of};
+ghost use Rattle.show_route.specs.Shown.{AreShown, Choice, IsBestAt, IsReply, IsRouteOf, IsShown, IsThere, Item, Sender, comes_before, count_nets, count_text, plain, counted};
+
+use export_core::laws::{course_tells_best, settled_is_present};
 
 /// A query has one reply over a content.
 pub fn a_query_has_one_reply()
@@ -63,7 +75,8 @@ pub fn for_shows_one_net()
         (asked : Net) (a b : Item) → query.pick ≡ For asked
         → ((net : Net) (route : Route) → IsRouteOf content net route → IsPrefix net.addr net.len)
         → IsShown query choice sends content a → IsShown query choice sends content b
-        → (a.net ≡ b.net) × Covers a.net asked }
+        → (a.net ≡ b.net) × Covers a.net asked
+        × ((other : Net) → IsThere content other → Covers other asked → other.len ≤ a.net.len) }
 {}
 
 /// `export` shows of each net what the channel sends of its best route, and nothing else.
@@ -74,3 +87,19 @@ pub fn export_shows_what_is_sent()
         × (item.route.attrs ≡ attrs))
         ↔ ((best : Route) × IsBestAt content net best × (sends net best ≡ Some attrs)) }
 {}
+
+/// That is what the channel, were it up and settled there, would have sent last: over a table's
+/// history, whatever such a channel's log is.
+pub fn export_shows_what_a_settled_channel_sent()
+    ensures { (query : Query) (spec : ExportSpec) (verdict : Net → Route → Verdict)
+        (history : List JEntry) (rows : List Row) (log : List LogItem) (net : Net) (attrs : Attrs)
+        → query.pick ≡ All → query.source ≡ None → spec.every ≡ false → TellsBest history
+        → let content = content_at (length history) (map change_of history) in
+        Shows rows content → Settled (value_by spec verdict) (course_of spec history) log
+        → ((item : Item) × IsShown query None (Some (sender_of spec verdict)) content item
+        × (item.net ≡ net) × (item.route.attrs ≡ attrs))
+        ↔ (last_value (sends (key_of net) log) ≡ Some attrs) }
+{
+    course_tells_best();
+    settled_is_present();
+}
