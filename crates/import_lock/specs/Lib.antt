@@ -1,0 +1,4 @@
+pub mod Terms
+pub mod Kept
+pub mod Calls
+pub mod Locks
