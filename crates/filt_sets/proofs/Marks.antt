@@ -1,30 +1,16 @@
 -- Marks of the places of a path, from the last one on.
-use Rattle.std.proofs.Common.{◌≡◌, ◌==◌, ℕ, zero, suc, ◌<◌, ◌-◌, ◌++◌, take, ◌≤◌, ◌+◌, Bool, true, false, ◌&&◌, List, [], ◌∷◌, length, get_or, set, replicate, drop, refl, sym, ap, ◌∙◌, ⊎_elim, arith, append_assoc, get_or-set_other, get_or-set_same}
+use Rattle.std.proofs.Common.{◌≡◌, ◌==◌, ℕ, zero, suc, ◌<◌, ◌-◌, ◌++◌, take, ◌≤◌, ◌+◌, Bool, true, false, List, [], ◌∷◌, length, get_or, set, replicate, drop, refl, sym, ap, ◌∙◌, ⊎_elim, arith, append_assoc, get_or-set_other, get_or-set_same}
 use Rattle.std.proofs.lemmas.Bool.{cases_eq, eq-eqb, ne_eqb}
 use Rattle.std.proofs.lemmas.List.{drop_more, take_all, take_more, length-replicate}
 use Rattle.std.proofs.Math.Seq.{drop-length}
 use Rattle.filt_sets.specs.declared.mask.MaskItem.{MaskItem}
-use Rattle.filt_sets.specs.Search.{before, cuts, is_empty, is_run, matches_at, Tells}
+use Rattle.filt_sets.specs.Search.{before, cuts, is_empty, matches_at, Tells}
 
 -- The marks below a place tell of the later items alone, those from it on of the item too. `behind` is what stood there.
 pub record IsMarked (item : MaskItem) (later : List ℕ → Bool) (path : List ℕ) (marks : List Bool) (place : ℕ) (was : Bool) : Type 0 where
   pub low : (k : ℕ) → k < place → get_or marks k false ≡ later (drop k path)
   pub high : (k : ℕ) → place ≤ k → k ≤ length path → get_or marks k false ≡ before item later (drop k path)
   pub behind : was ≡ later (drop place path)
-
-pub marks_start : (item : MaskItem) (later : List ℕ → Bool) (path : List ℕ) (marks : List Bool) → length path < length marks → Tells later path marks
-    → IsMarked item later path (set marks (length path) (is_run item.atom && get_or marks (length path) false)) (length path) (get_or marks (length path) false)
-marks_start item later path marks room tells =
-    let n = length path in
-    let v = is_run item.atom && get_or marks n false in
-    let here : get_or (set marks n v) n false ≡ v = get_or-set_same marks n v false room in
-    let was : get_or marks n false ≡ later [] = tells n (omega arith) ∙ ap later (drop-length path) in
-    let last : v ≡ before item later (drop n path) = ap (λ b. is_run item.atom && b) was ∙ sym (ap (before item later) (drop-length path)) in
-    record {
-      low = λ k h. let ne : k ≡ n → ⊥ = λ e. omega arith in get_or-set_other marks n k v false ne ∙ tells k (omega arith);
-      high = λ k h i. let e : k ≡ n = omega arith in rw e (here ∙ last);
-      behind = tells n (omega arith);
-    }
 
 pub marks_step :
     (item : MaskItem) (later : List ℕ → Bool) (path : List ℕ) (marks : List Bool) (place p : ℕ) (was : Bool) → place ≡ p + 1 → p < length path → length path < length marks → IsMarked item later path marks place was

@@ -1,5 +1,5 @@
 -- Nets in their order: where those stand that cover a net, and those that it covers.
-use Rattle.std.proofs.Common.{◌≡◌, ℕ, ◌<◌, ◌≤◌, ◌+◌, ◌-◌, ◌*◌, ◌/◌, ◌%◌, ◌^◌, ◌↔◌, ◌⊎◌, ⊎_elim, inl, inr, suc, min, Option, Result, Ok, Err, IfOk, OnErr, IsSomeAnd, Bool, true, false, not, IsTrue, List, length, get_or, take, drop, All, refl, sym, ap, ◌∙◌, subst, arith}
+use Rattle.std.proofs.Common.{◌≡◌, ℕ, ◌<◌, ◌≤◌, ◌+◌, ◌-◌, ◌*◌, ◌/◌, ◌%◌, ◌^◌, ◌↔◌, ⊎_elim, suc, min, Option, Result, Ok, Err, IfOk, OnErr, IsSomeAnd, Bool, true, false, not, IsTrue, List, length, get_or, take, drop, All, refl, sym, ap, ◌∙◌, subst, arith}
 use Rattle.std.specs.Prelude.{Any, ◌&&◌, ◌==◌, nat_le}
 use Rattle.std.specs.Result.{result_ok}
 use Rattle.std.specs.Ordering.{is_lt, nat_cmp, ordering_then}
@@ -20,7 +20,7 @@ use Rattle.bits_ip.specs.declared.address.Addr.TheVariants.{V4, V6}
 use Rattle.bits_ip.specs.Address.{family_of, family_rank, number_of, width_of}
 use Rattle.bits_ip.specs.Prefix.{Net, IsPrefix, Covers, front_bits, precedes}
 use Rattle.filt_sets.specs.declared.prefixes.PrefixItem.{PrefixItem}
-use Rattle.filt_sets.specs.Search.{AreBehind, AreLeft, AreRising, AreInOrder, HoldCovering, IsNet, IsShared, TakesCovered, TakesCovering, TakesLength, is_covered}
+use Rattle.filt_sets.specs.Search.{AreBehind, AreLeft, AreRising, HoldCovering, IsNet, IsShared, TakesCovered, TakesCovering, TakesLength, is_covered}
 use Rattle.filt_sets.specs.Sets.{TakesNet}
 
 -- ---- families
@@ -292,18 +292,6 @@ taken_rises items n rising = record {
       rw (get_or-take n items (k + 1) d (omega arith), get_or-take n items k d (omega arith)) (rising.rising k d low (omega arith));
 }
 
-pub left_first : (net : Net) (items front : List PrefixItem) → AreRising items → front ≡ take (length front) items
-    → IsPartitionPoint (λ item. precedes net item.net ≡ false) (λ item. precedes net item.net ≡ true) items (length front) → AreLeft net items front
-left_first net items front rising is parts = record {
-  part = is;
-  within = omega (arith, ap length is, length-take (length front) items);
-  upto = λ k d h. parts.0 k d (omega arith) h;
-  held = λ k d h takes.
-      ⊎_elim (λ low. low)
-      (λ high. let wrong : true ≡ false = sym (parts.1 k d high h) ∙ covers_upto (get_or items k d).net net (rising.each k d h) takes.covers in absurd (cc))
-      (cases_lt k (length front));
-}
-
 -- an element of a list is there whatever stands behind its end
 default_last : {X : Type 0} (xs : List X) (i : ℕ) (x d : X) → x ≡ get_or xs i x → i < length xs → get_or xs i d ≡ x
 default_last xs i x d at within = get_or_default xs i d x within ∙ sym at
@@ -340,18 +328,6 @@ left_next net items front before item rest rising left some is at misses part he
           held up behind k d (omega (arith, short, low)) (subst (λ x. Covers x.net net) (sym here) takes.covers))
           (cases_eq k (n - 1));
     }
-
-pub left_found : (net : Net) (items front : List PrefixItem) (item : PrefixItem) → AreLeft net items front → 0 < length front
-    → item ≡ get_or front (length front - 1) item → TakesCovered net item → Any (TakesCovered net) items
-left_found net items front item left some at takes =
-    let n = length front in
-    let last : item ≡ get_or items (n - 1) item = at ∙ ap (λ l. get_or l (n - 1) item) left.part ∙ get_or-take n items (n - 1) item (omega arith) in
-    (n - 1, item, omega (arith, left.within), sym last, takes)
-
-pub left_none : (net : Net) (items front : List PrefixItem) → AreLeft net items front → length front ≡ 0 → Any (TakesCovered net) items → ⊥
-left_none net items front left none any =
-    let (k, x, within, is, takes) = any in
-    omega (arith, left.held k x within (subst (TakesCovered net) (sym is) takes), none)
 
 -- ---- the nets that a net covers stand together
 
@@ -436,32 +412,6 @@ covered_any net items p n r is inside first second answer = (
 
 -- ---- both together
 
--- of two nets, the bits that both have agree exactly where one covers the other
-takes_either : (item : PrefixItem) (net : Net) → TakesNet item net → TakesCovered net item ⊎ TakesCovering net item
-takes_either item net takes =
-    ⊎_elim
-    (λ short.
-    let both : min net.len item.net.len ≡ net.len = min-eq_left (omega arith) in
-    inr (record {
-      length = (takes.lo, takes.hi);
-      covers = record {
-        family = sym takes.family;
-        len = omega arith;
-        bits = sym (subst (λ k. front_bits item.net.addr k ≡ front_bits net.addr k) both takes.bits);
-      };
-    }))
-    (λ long.
-    let both : min net.len item.net.len ≡ item.net.len = min-eq_right long in
-    inl (record {
-      length = (takes.lo, takes.hi);
-      covers = record {
-        family = takes.family;
-        len = long;
-        bits = subst (λ k. front_bits item.net.addr k ≡ front_bits net.addr k) both takes.bits;
-      };
-    }))
-    (cases_lt net.len item.net.len)
-
 takes_covered : (item : PrefixItem) (net : Net) → TakesCovered net item → TakesNet item net
 takes_covered item net takes =
     let both : min net.len item.net.len ≡ item.net.len = min-eq_right takes.covers.len in
@@ -471,52 +421,3 @@ takes_covered item net takes =
       hi = takes.length.1;
       bits = subst (λ k. front_bits item.net.addr k ≡ front_bits net.addr k) (sym both) takes.covers.bits;
     }
-
-takes_covering : (item : PrefixItem) (net : Net) → TakesCovering net item → TakesNet item net
-takes_covering item net takes =
-    let both : min net.len item.net.len ≡ net.len = min-eq_left takes.covers.len in
-    record {
-      family = sym takes.covers.family;
-      lo = takes.length.0;
-      hi = takes.length.1;
-      bits = subst (λ k. front_bits item.net.addr k ≡ front_bits net.addr k) (sym both) (sym takes.covers.bits);
-    }
-
-any_by : {X : Type 0} (P Q : X → Type 0) (xs : List X) → ((x : X) → P x → Q x) → Any P xs → Any Q xs
-any_by P Q xs more any = let (k, x, within, at, p) = any in (k, x, within, at, more x p)
-
-pub any_covered : (net : Net) (items : List PrefixItem) → Any (TakesCovered net) items → Any (λ item. TakesNet item net) items
-any_covered net items any = any_by (TakesCovered net) (λ item. TakesNet item net) items (λ item takes. takes_covered item net takes) any
-
-pub any_covering : (net : Net) (items : List PrefixItem) → Any (TakesCovering net) items → Any (λ item. TakesNet item net) items
-any_covering net items any = any_by (TakesCovering net) (λ item. TakesNet item net) items (λ item takes. takes_covering item net takes) any
-
--- where no item's net that covers this one takes it, one that this net covers does, and the set has items for nets so short
-pub any_longer : (net : Net) (items : List PrefixItem) (shortest : ℕ) → AreInOrder shortest items → (Any (TakesCovered net) items → ⊥) → Any (λ item. TakesNet item net) items
-    → (shortest ≤ net.len) × Any (TakesCovering net) items
-any_longer net items shortest order none any =
-    let (k, x, within, at, takes) = any in
-    ⊎_elim
-    (λ covered. absurd (none (k, x, within, at, covered)))
-    (λ covering.
-    let least : x.lo < x.net.len → shortest ≤ x.lo = subst (λ y. y.lo < y.net.len → shortest ≤ y.lo) at (order.least k x within) in
-    ⊎_elim
-    (λ below. (omega (arith, least below, covering.length.0), (k, x, within, at, covering)))
-    (λ above.
-    let same : x.net.len ≡ net.len = omega (arith, above, covering.length.0, covering.covers.len) in
-    absurd (none (
-      k,
-      x,
-      within,
-      at,
-      record {
-        length = covering.length;
-        covers = record {
-          family = sym covering.covers.family;
-          len = omega arith;
-          bits = subst (λ l. front_bits x.net.addr l ≡ front_bits net.addr l) (sym same) (sym covering.covers.bits);
-        };
-      },
-    )))
-    (cases_lt x.lo x.net.len))
-    (takes_either x net takes)

@@ -1,3 +1,4 @@
+//! What single items take, in the words of `bits_ip` and of std.
 ghost use Rattle.std.specs.Prelude.{◌≡◌, ◌≢◌, ◌↔◌, ◌≤◌, ℕ, List, [], ◌∷◌, ◌++◌, All, true, false};
 ghost use Rattle.bits_ip.specs.Address.{width_of};
 ghost use Rattle.bits_ip.specs.Prefix.{Net, IsPrefix, Covers};

@@ -1,3 +1,4 @@
+//! Masks of paths: runs of AS numbers, one after another.
 ghost use Rattle.std.specs.Prelude.{◌≡◌, ◌==◌, ℕ, ◌<◌, ◌↔◌, Bool, List, length, slice_index_or};
 ghost use Rattle.std.specs.Prelude.{false, IsTrue};
 ghost use Rattle.filt_sets.specs.Mask.{IsCut};

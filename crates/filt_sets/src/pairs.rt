@@ -1,3 +1,4 @@
+//! Sets of pairs of numbers of 16 bits, as communities are.
 ghost use Rattle.std.specs.Prelude.{◌≡◌, ◌↔◌, IfOk, IsTrue, Any};
 ghost use Rattle.filt_sets.specs.Sets.{TakesPair};
 

@@ -1,3 +1,4 @@
+//! Sets of prefixes: nets, each with the lengths that count.
 ghost use Rattle.std.specs.Prelude.{◌≡◌, ◌↔◌, IsTrue, IfOk, All, Any};
 ghost use Rattle.std.specs.List.Sorted.{IsPermutation, IsSortedBy};
 ghost use Rattle.bits_ip.specs.Prefix.{precedes};

@@ -1,3 +1,5 @@
+//! What a set was made of, where the set itself holds it in another order: a value that clauses and
+//! invariants read, and no code.
 ghost use Rattle.std.specs.Prelude.{◌≡◌};
 ghost use Rattle.std.specs.Borrow.{ftrue};
 
