@@ -12,7 +12,8 @@ take    an entry of 13 words is taken by `Cursor::next` and `advance`, in turns 
         of atomic words; the last of its words is read. The bar is twice the ring.
 read    the same, and all its words are added up; also beside a queue under a lock.
 update  a table of 100,000 nets has one of their routes changed (a BGP route with a path of four numbers), by
-        `Table::update`, beside the same change of the table that a core plays on. The bar is 1.5 times that.
+        `Table::update` over a journal of 64, 256 (a table's own) or 4,096 cells, whose only cursor skips all every fifty
+        changes, beside the same change of the table that a core plays on. The bar is 1.5 times that.
 race    two threads enter COUNT changes each into a table of 4,096 cells, and two cursors take all; what each read is
         compared with the history. Beside it a ring and a queue with a thread at each end. Seconds by the clock.
 """
@@ -29,6 +30,7 @@ TOP = pathlib.Path(__file__).resolve().parent.parent
 COUNT = 200_000
 NETS = 100_000
 RUNS = 40
+UPDATES = ["update-64", "update-256", "update-4096"]
 
 CRATES = "table_shared_tests jour_tests table_shared rec_words rib attrs bits_ip jour jour_rule keyed_lock outside_io atomic_table"
 
@@ -202,8 +204,10 @@ fn change_plain(alloc: Global, count: u32) -> Result<u64, OutOfMemory> {
     Ok(done)
 }
 
-fn update<R: Wait>(rt: &R, alloc: Global, count: u32) -> Result<u64, OutOfMemory> {
-    let Some(mut bench) = Bench::open(alloc, 4096, 0)? else {
+fn update<R: Wait>(rt: &R, alloc: Global, cells: u32, count: u32) -> Result<u64, OutOfMemory>
+    requires { (0 < cells) × (cells ≤ 4096) }
+{
+    let Some(mut bench) = Bench::open(alloc, cells, 0)? else {
         return Ok(0);
     };
     let mut done = 0u64;
@@ -214,7 +218,7 @@ fn update<R: Wait>(rt: &R, alloc: Global, count: u32) -> Result<u64, OutOfMemory
         if bench.learn(rt, alloc, &net, number).is_ok() {
             done = done.wrapping_add(1);
         }
-        if number % 1000 == 999 {
+        if number % 50 == 49 {
             let _at = bench.skip()?;
         }
     }
@@ -259,8 +263,14 @@ fn work<R: Threads + Wait + Sync>(
     if mode == "plain" {
         return change_plain(alloc, count);
     }
-    if mode == "update" {
-        return update(rt, alloc, count);
+    if mode == "update-64" {
+        return update(rt, alloc, 64, count);
+    }
+    if mode == "update-256" {
+        return update(rt, alloc, 256, count);
+    }
+    if mode == "update-4096" {
+        return update(rt, alloc, 4096, count);
     }
     run_race(rt, alloc, count)
 }
@@ -363,7 +373,7 @@ def main():
         print(f"{'each':34} {'instructions':>12} {'ns':>10} {'of the bar':>12} {'':>10}")
         works = {name: (plain, name, 0) for name in ["append", "take", "read", "mutex-append", "mutex-read"]}
         works |= {name: (program, name.removeprefix("our-"), 0) for name in ["our-append", "our-take", "our-read"]}
-        works |= {name: (program, name, NETS) for name in ["make", "plain", "update"]}
+        works |= {name: (program, name, NETS) for name in ["make", "plain", *UPDATES]}
         found = each(works, count)
         row("append, unproved ring", found["append"])
         row("append, journal", found["our-append"], found["append"])
@@ -374,7 +384,8 @@ def main():
         row("read, queue under a lock", less(found["mutex-read"], found["mutex-append"]))
         today = less(found["plain"], found["make"])
         row("change, plain table", today)
-        row("update, shared table", less(found["update"], found["make"]), today)
+        for work in UPDATES:
+            row(f"{work.replace('-', ', ')} cells", less(found[work], found["make"]), today)
         for label, which, work in [("ring", plain, "two"), ("queue", plain, "mutex-two"), ("race", program, "race")]:
             taken, told = clock(which, work, count)
             print(f"{label:34} {taken:12.2f} s {told}", flush=True)

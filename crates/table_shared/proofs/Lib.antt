@@ -5,3 +5,4 @@ pub mod RowParts
 pub mod Appending
 pub mod Histories
 pub mod Receipts
+pub mod Taken

@@ -105,3 +105,8 @@ IsFault change old new Memory = new ≡ old
 abbrev pub IsAboveAll : Seat TableOpening → Done → Type 0
 IsAboveAll old (Same at) = head_of old ≤ at
 IsAboveAll old (At position) = head_of old < position
+
+-- It stands above each head that the port had known too, and is the head that it knows then.
+abbrev pub IsAboveKnown : Seat TableOpening → Seat TableOpening → Done → Type 0
+IsAboveKnown old new (Same at) = (known old ≤ at) × (at ≡ known new)
+IsAboveKnown old new (At position) = (known old < position) × (position ≡ known new)

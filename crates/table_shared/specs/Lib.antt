@@ -5,3 +5,4 @@ pub mod Views
 pub mod Kept
 pub mod Prepared
 pub mod Phases
+pub mod Taken

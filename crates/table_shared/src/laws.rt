@@ -4,8 +4,11 @@ ghost use Rattle.bits_ip.specs.Prefix.{Net};
 ghost use Rattle.attrs.specs.History.{IsReal, after};
 ghost use Rattle.attrs.specs.declared.journal.JEntry.{JEntry};
 ghost use Rattle.jour_rule.specs.declared.views.Entry.{Entry};
+ghost use Rattle.jour_rule.specs.declared.views.View.{View as Seat};
 ghost use Rattle.jour_rule.specs.Journal.{receipts};
 ghost use Rattle.table_shared.specs.Opening.{TableOpening, sources_of};
+ghost use Rattle.rec_words.specs.Entries.{IsEntryWords};
+ghost use Rattle.table_shared.specs.Taken.{IsGiven, IsReadAs};
 ghost use Rattle.table_shared.specs.Records.{AreRecords, AreSaid, at_first, change_of, content_after};
 
 use rec_words::laws::words_spell_one_entry;
@@ -38,3 +41,12 @@ pub fn a_port_alone_changes_its_sources()
 {
     words_spell_one_entry();
 }
+
+/// What a cursor's `next` gives is always the words of an entry, so `get_words` never refuses it. The
+/// record that it says is a real change where what the cursor has taken leaves the table.
+pub fn what_is_read_is_a_record()
+    ensures record { (cursor : Seat TableOpening) (words : List ℕ) → IsGiven cursor words
+        → (said : JEntry) × IsReadAs cursor words said }
+    ensures words { (cursor : Seat TableOpening) (words : List ℕ) → IsGiven cursor words
+        → IsEntryWords words }
+{}

@@ -9,7 +9,7 @@
 //! the list.
 //!
 //! `law` has what entries owe, `desk` what lies under the lock, `update` and `shows` its calls,
-//! `close` the end of a phase.
+//! `close` the end of a phase, `taking` what a cursor's words say.
 #![tactic(auto)]
 
 mod answers;
@@ -20,6 +20,7 @@ pub mod laws;
 mod port;
 mod shows;
 mod table;
+mod taking;
 mod update;
 mod view;
 
@@ -28,4 +29,5 @@ pub use close::{Closing, Phase};
 pub use law::{Opening, RecordLaw, TableCursor, TablePass};
 pub use port::Port;
 pub use table::Table;
+pub use taking::read_record;
 pub use view::View;

@@ -57,7 +57,8 @@ impl Port {
 
     /// Takes in a copy of what the pass has seen, and loads the head. What it had seen begins what
     /// it has seen then, so its receipts begin its new ones. Which of the entries that are new to
-    /// it are its own isn't told: a call under the table's lock (`Table::start`) keeps the receipts.
+    /// it are its own isn't told: a call under the table's lock (`Table::start`) keeps its
+    /// receipts.
     pub fn meet(&mut self, pass: &mut TablePass)
         requires { journal pass.old ≡ journal self.old }
         ensures pass { pass.new ≡ pass.old }

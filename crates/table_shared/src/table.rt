@@ -7,7 +7,7 @@ ghost use Rattle.rib.specs.Rib.{AreOfFamily};
 ghost use Rattle.jour_rule.specs.Moves.{position_of};
 ghost use Rattle.jour.specs.Seats.{AreCursors, AreMakers, AreUnread, front, head_of, heads, journal, known, number_of, own};
 ghost use Rattle.table_shared.specs.Opening.{lists_of};
-ghost use Rattle.table_shared.specs.Answers.{IsAboveAll, IsDone, IsFault, MayMake};
+ghost use Rattle.table_shared.specs.Answers.{IsAboveAll, IsAboveKnown, IsDone, IsFault, MayMake};
 ghost use Rattle.table_shared.specs.Phases.{IsClosed};
 ghost use Rattle.table_shared.specs.Views.{IsChunk, IsTold, IsView};
 
@@ -116,7 +116,8 @@ impl Table {
     /// where it doesn't. Of a real change `Memory` may come, at which nothing has changed; `Ended`
     /// where no position is left; else `Full`, where a cursor has yet to read the oldest entry that
     /// there is a cell for: it is the lowest such, and the port has seen the list to the head, as
-    /// behind `Same` and `Ended`. Behind an entry the gate is passed at place 1, under the lock.
+    /// behind `Same` and `Ended`. An entry stands above all that the port had seen and each head that
+    /// it had known. Behind an entry the gate is passed at place 1, under the lock.
     pub fn update<R: Wait, G: Gate>(
         &self,
         rt: &R,
@@ -131,6 +132,8 @@ impl Table {
         ensures done { IfOk result (IsDone change.now port.old.1 port.new.1) }
         ensures fault { IfErr result (IsFault change.now port.old.1 port.new.1) }
         ensures above { IfOk result (IsAboveAll port.old.1) }
+        ensures known { IfOk result (IsAboveKnown port.old.1 port.new.1) }
+        ensures least { known port.old.1 ≤ known port.new.1 }
         ensures prefix { IsPrefix (front port.old.1) (front port.new.1) }
     {
         let (held, mut desk) = self.lock.lock(rt);

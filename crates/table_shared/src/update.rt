@@ -1,9 +1,9 @@
 //! How a change becomes an entry.
-ghost use Rattle.std.specs.Prelude.{◌≡◌, ◌+◌, ◌<◌, ◌^◌, IfErr, IfOk};
+ghost use Rattle.std.specs.Prelude.{◌≡◌, ◌+◌, ◌<◌, ◌≤◌, ◌^◌, IfErr, IfOk};
 ghost use mathlib.Core.List.{IsPrefix};
 ghost use Rattle.attrs.specs.Table.{route_in};
-ghost use Rattle.jour.specs.Seats.{HasRoom, front, head_of, journal, number_of, own};
-ghost use Rattle.table_shared.specs.Answers.{Differs, IsAboveAll, IsDone, IsEntered, IsFault, MayMake};
+ghost use Rattle.jour.specs.Seats.{HasRoom, front, head_of, journal, known, number_of, own};
+ghost use Rattle.table_shared.specs.Answers.{Differs, IsAboveAll, IsAboveKnown, IsDone, IsEntered, IsFault, MayMake};
 ghost use Rattle.table_shared.specs.Kept.{IsKept};
 ghost use Rattle.table_shared.specs.Prepared.{AreCopies, HasMemory};
 
@@ -30,6 +30,8 @@ impl Desk {
         ensures done { IfOk result (IsDone change.now maker.old.1 maker.new.1) }
         ensures fault { IfErr result (IsFault change.now maker.old.1 maker.new.1) }
         ensures above { IfOk result (IsAboveAll maker.old.1) }
+        ensures known { IfOk result (IsAboveKnown maker.old.1 maker.new.1) }
+        ensures least { known maker.old.1 ≤ known maker.new.1 }
         ensures prefix { IsPrefix (front maker.old.1) (front maker.new.1) }
     {
         if self.rib.stands(change) {
@@ -55,6 +57,8 @@ impl Desk {
         ensures done { IfOk result (IsDone prepared.change maker.old.1 maker.new.1) }
         ensures fault { IfErr result (IsFault prepared.change maker.old.1 maker.new.1) }
         ensures above { IfOk result (IsAboveAll maker.old.1) }
+        ensures known { IfOk result (IsAboveKnown maker.old.1 maker.new.1) }
+        ensures least { known maker.old.1 ≤ known maker.new.1 }
         ensures prefix { IsPrefix (front maker.old.1) (front maker.new.1) }
     {
         let head = self.writer.tell_maker(maker);
@@ -86,6 +90,7 @@ impl Desk {
             × (number_of maker.new.1.role ≡ number_of maker.old.1.role) }
         ensures entered { IsEntered prepared.change maker.old.1 maker.new.1 result }
         ensures above { head_of maker.old.1 < result }
+        ensures known { result ≡ known maker.new.1 }
         ensures prefix { IsPrefix (front maker.old.1) (front maker.new.1) }
     {
         let Prepared { said, change } = prepared;

@@ -27,10 +27,12 @@ pub record IsOfTwo (opening : TableOpening) : Type 0 where
 -- seats of that table
 abbrev pub AreOf : TableId × Terms TableOpening → List (TableId × Seat TableOpening) → Type 0
 AreOf here seats =
-    (k : ℕ) (seat : TableId × Seat TableOpening) → slice_get seats k ≡ Some seat → journal seat ≡ here
+    (k : ℕ) (seat : TableId × Seat TableOpening) → slice_get seats k ≡ Some seat
+    → journal seat ≡ here
 
 -- closed cursors of that table
-abbrev pub AreClosed : TableId × Terms TableOpening → List ((TableId × Seat TableOpening) × Bool) → Type 0
+abbrev pub AreClosed : TableId × Terms TableOpening
+    → List ((TableId × Seat TableOpening) × Bool) → Type 0
 AreClosed here cursors =
     (k : ℕ) (c : (TableId × Seat TableOpening) × Bool) → slice_get cursors k ≡ Some c
     → (journal c.0 ≡ here) × (c.1 ≡ false)

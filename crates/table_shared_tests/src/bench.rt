@@ -6,14 +6,16 @@ ghost use Rattle.table_shared.specs.Opening.{lists_of};
 ghost use Rattle.table_shared_tests.specs.Changes.{AreOf, AreClosed, IsOfSource, IsOfTwo, two_sources};
 
 use crate::routes::{change_of, learnt_change};
-use attrs::{Change, Chunk, Select};
+use attrs::{Change, Chunk, JEntry, Select};
 use bits_ip::{Family, OutOfMemory, Prefix};
 use jour_rule::buf::Buf;
-use outside_io::OpenGate;
+use outside_io::{Gate, OpenGate};
 use rib::Rib;
 use std::alloc::Global;
 use std::sync::Wait;
-use table_shared::{Done, Phase, Port, Table, TableCursor, TablePass, UpdateFault, View};
+use table_shared::{
+    Done, Phase, Port, Table, TableCursor, TablePass, UpdateFault, View, read_record,
+};
 
 /// A table of IPv4 nets with a port for the source 0 and one for the source 1, and one cursor.
 #[derive(Drop)]
@@ -82,8 +84,9 @@ pub(crate) fn last_cursor(table: &Table, cursors: &mut Vec<TableCursor>) -> Opti
 }
 
 /// Enters a change of the port's source.
-pub(crate) fn enter<R: Wait>(
+pub(crate) fn enter<R: Wait, G: Gate>(
     rt: &R,
+    gate: &G,
     table: &Table,
     port: &mut Port,
     num: u32,
@@ -96,7 +99,7 @@ pub(crate) fn enter<R: Wait>(
     ensures { (journal port.new ≡ journal port.old)
         × (number_of port.new.1.role ≡ number_of port.old.1.role) }
 {
-    match table.update(rt, &OpenGate, port, change) {
+    match table.update(rt, gate, port, change) {
         Ok(done) => Ok(done),
         Err(fault) => Err(Refused::Table(fault)),
     }
@@ -150,10 +153,24 @@ impl Bench {
     ) -> Result<Done, Refused>
         requires { family_of net.now.addr ≡ Family.V4 }
     {
+        self.first_past(rt, &OpenGate, alloc, net, pref)
+    }
+
+    /// The source 0 announces the net, and the gate is passed behind an entry.
+    pub fn first_past<R: Wait, G: Gate>(
+        &mut self,
+        rt: &R,
+        gate: &G,
+        alloc: Global,
+        net: &Prefix,
+        pref: u32,
+    ) -> Result<Done, Refused>
+        requires { family_of net.now.addr ≡ Family.V4 }
+    {
         let Ok(change) = change_of(alloc, net, 0, pref) else {
             return Err(Refused::Memory);
         };
-        enter(rt, &self.table, &mut self.first, 0, &change)
+        enter(rt, gate, &self.table, &mut self.first, 0, &change)
     }
 
     /// The source 1 announces the net.
@@ -169,7 +186,7 @@ impl Bench {
         let Ok(change) = change_of(alloc, net, 1, pref) else {
             return Err(Refused::Memory);
         };
-        enter(rt, &self.table, &mut self.second, 1, &change)
+        enter(rt, &OpenGate, &self.table, &mut self.second, 1, &change)
     }
 
     /// The source 0 announces the net as a BGP neighbour does.
@@ -185,7 +202,7 @@ impl Bench {
         let Ok(change) = learnt_change(alloc, net, 0, med) else {
             return Err(Refused::Memory);
         };
-        enter(rt, &self.table, &mut self.first, 0, &change)
+        enter(rt, &OpenGate, &self.table, &mut self.first, 0, &change)
     }
 
     /// Starts the cursor, and answers where it stands. None if it is started already.
@@ -214,6 +231,17 @@ impl Bench {
         let at = self.cursor.next(&mut words)?;
         self.cursor.advance();
         Some(at)
+    }
+
+    /// Takes the next entry, and answers its position and the record that it says.
+    pub fn take_record(&mut self, alloc: Global) -> Result<Option<(u64, JEntry)>, OutOfMemory> {
+        let mut words = Buf::new();
+        let Some(at) = self.cursor.next(&mut words) else {
+            return Ok(None);
+        };
+        let said = read_record(alloc, &self.cursor, &words)?;
+        self.cursor.advance();
+        Ok(Some((at, said)))
     }
 
     /// The cursor skips what the first port has seen. Answers where it stands, and none if it is
@@ -258,20 +286,22 @@ impl Bench {
     }
 
     /// Ends the phase.
-    pub fn close<R: Wait>(self, rt: &R) -> Phase {
+    pub fn close<R: Wait>(self, rt: &R, alloc: Global) -> Result<Phase, OutOfMemory> {
         let Bench {
             table,
             first,
             second,
-            mut cursor,
-            mut pass,
+            cursor,
+            pass,
             started: _,
         } = self;
-        let mut closing = table.close(rt);
-        closing.retire(first);
-        closing.retire(second);
-        closing.hear_pass(&mut pass);
-        closing.hear_cursor(&mut cursor);
-        closing.phase()
+        let mut ports = Vec::with_capacity(alloc, 2)?;
+        ports.push(first)?;
+        ports.push(second)?;
+        let mut passes = Vec::with_capacity(alloc, 1)?;
+        passes.push(pass)?;
+        let mut cursors = Vec::with_capacity(alloc, 1)?;
+        cursors.push(cursor)?;
+        Ok(table.close_phase(rt, ports, passes, cursors))
     }
 }

@@ -34,13 +34,27 @@ fn shown<R: Wait + Abort>(rt: &R, bench: &mut Bench) -> Result<(), Fail> {
     Ok(())
 }
 
+/// The cursor takes both changes, as records.
+fn taken<R: Wait + Abort>(rt: &R, bench: &mut Bench, alloc: Global) -> Result<(), Fail> {
+    let ten = net(10)?;
+    for num in 0..2u32 {
+        let Some((at, said)) = bench.take_record(alloc)? else {
+            panic!(rt; "a cursor without an entry")
+        };
+        assert_eq!(rt; (at, said.num), (u64::from(num) + 1, num));
+        assert!(rt; said.net == ten && said.new.is_some() && said.best.is_some());
+    }
+    assert_eq!(rt; bench.take(), None);
+    Ok(())
+}
+
 #[test]
 fn a_phase_has_each_change_once(rt: HostRuntime) -> Result<(), Fail> {
     let mut bench = opened(&rt, rt.alloc(), 4, 0)?;
     two_routes(&rt, &mut bench, rt.alloc())?;
     shown(&rt, &mut bench)?;
-    assert_eq!(rt; bench.take(), Some(1));
-    let phase = bench.close(&rt);
+    taken(&rt, &mut bench, rt.alloc())?;
+    let phase = bench.close(&rt, rt.alloc())?;
     assert_eq!(rt; (phase.from, phase.entries.len()), (0, 2));
     assert_eq!(rt; phase.ports.as_slice(), [0, 1].as_slice());
     Ok(())
@@ -72,18 +86,18 @@ fn a_table_is_fed_in_parts(rt: HostRuntime) -> Result<(), Fail> {
     parts(&rt, &mut bench)
 }
 
-/// Two threads enter 100,000 changes each over 4,096 cells, and two cursors take all 200,000, as
+/// Two threads enter 500,000 changes each over 4,096 cells, and two cursors take all 1,000,000, as
 /// the history has them.
 #[test]
 fn cursors_take_what_two_threads_enter(rt: HostRuntime) -> Result<(), Fail> {
     let Some(race) = Race::open(rt.alloc(), 4096)? else {
         panic!(rt; "a table without its ports or its cursors")
     };
-    let Some(raced) = race.run(&rt, rt.alloc(), 100_000)? else {
+    let Some(raced) = race.run(&rt, rt.alloc(), 500_000)? else {
         panic!(rt; "a table that somebody else has")
     };
-    assert!(rt; raced.entered == (100_000, 100_000));
-    assert!(rt; raced.history.count == 200_000);
+    assert!(rt; raced.entered == (500_000, 500_000));
+    assert!(rt; raced.history.count == 1_000_000);
     assert!(rt; raced.left == raced.history && raced.right == raced.history);
     Ok(())
 }

@@ -7,6 +7,7 @@ ghost use Rattle.table_shared_tests.specs.Changes.{IsOfTwo};
 use crate::bench::{Refused, enter};
 use crate::routes::{change_of, numbered_net};
 use jour_rule::buf::Buf;
+use outside_io::OpenGate;
 use std::alloc::Global;
 use std::sync::{Arc, Wait};
 use std::thread;
@@ -32,7 +33,14 @@ impl Source {
         let Ok(change) = change_of(alloc, &net, self.num, pref) else {
             return Err(Refused::Memory);
         };
-        enter(rt, &self.table, &mut self.port, self.num, &change)
+        enter(
+            rt,
+            &OpenGate,
+            &self.table,
+            &mut self.port,
+            self.num,
+            &change,
+        )
     }
 }
 

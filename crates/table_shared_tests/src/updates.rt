@@ -1,8 +1,10 @@
 use crate::opened::opened;
 use crate::{Bench, Refused, net};
+use outside_io::Gate;
 use std::alloc::Global;
 use std::process::Abort;
 use std::sync::Wait;
+use std::sync::atomic::{AtomicU64, Ordering};
 use std::test::Fail;
 use table_shared::{Done, UpdateFault};
 
@@ -71,4 +73,43 @@ fn the_last_position_ends_a_table(rt: HostRuntime) -> Result<(), Fail> {
         Err(Refused::Table(ended))
     );
     Ok(())
+}
+
+/// A gate that counts who passes it behind a change.
+#[derive(Drop)]
+struct Passes {
+    count: AtomicU64,
+}
+
+impl Gate for Passes {
+    fn pass(&self, place: u32) {
+        if place == 1 {
+            self.count.fetch_add(1, Ordering::SeqCst);
+        }
+    }
+}
+
+/// The gate is passed once behind an entry, and behind no other answer.
+fn passed<R: Wait + Abort>(rt: &R, bench: &mut Bench, alloc: Global) -> Result<(), Fail> {
+    let ten = net(10)?;
+    let gate = Passes {
+        count: AtomicU64::new(0),
+    };
+    assert_eq!(rt; bench.start(rt), Some(0));
+    assert_eq!(rt;
+        bench.first_past(rt, &gate, alloc, &ten, 1),
+        Ok(Done::At(1))
+    );
+    assert_eq!(rt; gate.count.load(Ordering::SeqCst), 1);
+    let same = Done::Same { at: 1 };
+    assert_eq!(rt; bench.first_past(rt, &gate, alloc, &ten, 1), Ok(same));
+    assert_eq!(rt; bench.first_past(rt, &gate, alloc, &ten, 2), Err(FULL));
+    assert_eq!(rt; gate.count.load(Ordering::SeqCst), 1);
+    Ok(())
+}
+
+#[test]
+fn a_gate_is_passed_behind_each_entry(rt: HostRuntime) -> Result<(), Fail> {
+    let mut bench = opened(&rt, rt.alloc(), 1, 0)?;
+    passed(&rt, &mut bench, rt.alloc())
 }
