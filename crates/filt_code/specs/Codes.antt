@@ -3,15 +3,17 @@
 -- leads to. The variables are the frame of the meaning of filters, whose forms stand here too; the
 -- operands lie apart, the one on top first.
 -- Nothing is to be believed of it: what compiled filters say is tied to the meaning of their sources.
-use Rattle.std.specs.Prelude.{ℕ, suc, zero, ◌-◌, Bool, true, false, not, List, [], ◌∷◌, ◌++◌, length, map, take, drop, reverse, Option, Some, None, Result, Ok, slice_get}
+use Rattle.std.specs.Prelude.{ℕ, suc, zero, ◌-◌, Bool, true, false, not, ◌&&◌, nat_le, List, [], ◌∷◌, ◌++◌, length, map, take, drop, reverse, Option, Some, None, Result, Ok, Err, get_or, slice_get}
 use Rattle.attrs.specs.declared.attributes.Attrs.{Attrs}
+use Rattle.attrs.specs.declared.judge.FilterFault.TheVariants as faults
 use Rattle.attrs.specs.declared.judge.Verdict.{Verdict}
 use Rattle.conf_ast.specs.declared.filters.LogicalOp.{LogicalOp}
 use Rattle.conf_ast.specs.declared.filters.LogicalOp.TheVariants as logical_ops
 use Rattle.conf_lex.specs.declared.attribute.Attribute.TheVariants as attributes
 use Rattle.filt_values.specs.declared.value.Failure.{Failure}
+use Rattle.filt_values.specs.declared.value.Failure.TheVariants.{Fault}
 use Rattle.filt_values.specs.Operators as operators
-use Rattle.filt_values.specs.Operators.{bool_in, emptied_of, matches_of, not_of, pair_of, truth_of}
+use Rattle.filt_values.specs.Operators.{bool_in, emptied_of, matches_of, not_of, pair_of, says, truth_of}
 use Rattle.filt_values.specs.Seen.{val_of_fixed}
 use Rattle.filt_values.specs.Values.{Val, VBool, VPrefixSet, default_of}
 use Rattle.filt_meaning.specs.Attributes.{with_attribute}
@@ -29,6 +31,8 @@ use Rattle.filt_code.specs.declared.instr.Effect.{Effect}
 use Rattle.filt_code.specs.declared.instr.Effect.TheVariants as effects
 use Rattle.filt_code.specs.declared.instr.Instr.{Instr}
 use Rattle.filt_code.specs.declared.instr.Instr.TheVariants as instrs
+use Rattle.filt_code.specs.declared.instr.Number.{Number}
+use Rattle.filt_code.specs.declared.instr.Number.TheVariants as numbers
 use Rattle.filt_code.specs.declared.instr.OfOne.{OfOne}
 use Rattle.filt_code.specs.declared.instr.OfOne.TheVariants as of_one
 use Rattle.filt_code.specs.declared.instr.OfTwo.{OfTwo}
@@ -98,9 +102,34 @@ effect around (effects.Unset a) vals os attrs = over os (unset a vals attrs)
 effect around (effects.Declare sort) vals os attrs = Done (vals ++ default_of sort ∷ [], os) attrs
 effect around (effects.Leave n) vals os attrs = Done (take (length vals - n) vals, os) attrs
 
+-- ---- numbers
+
+abbrev pub known : Option ℕ → Result ℕ Failure
+known None = Err (Fault faults.Undefined)
+known (Some n) = Ok n
+
+-- what a route holds; a number that it may not have is a fault where it hasn't
+abbrev pub number_in : Around → Number → Attrs → Result ℕ Failure
+number_in around numbers.NetLength attrs = Ok around.net.len
+number_in around numbers.Preference attrs = Ok attrs.pref
+number_in around numbers.Med attrs = known attrs.med
+number_in around numbers.LocalPref attrs = known attrs.lp
+number_in around numbers.IgpMetric attrs = known attrs.igp
+number_in around numbers.PathLength attrs = Ok (length attrs.path)
+number_in around numbers.First attrs = Ok (get_or attrs.path 0 0)
+number_in around numbers.Last attrs = Ok (get_or attrs.path (length attrs.path - 1) 0)
+number_in around numbers.Communities attrs = Ok (length attrs.coms)
+
+-- whether a number is at least the first one and at most the second one
+abbrev pub within : (low high : ℕ) → ℕ → Bool
+within low high n = nat_le low n && nat_le n high
+
 -- ---- jumps
 
 abbrev pub question : Around → Question → Run Val
+question around (questions.Within number low high) =
+    λ vals attrs. plainly (operators.and_then (number_in around number attrs)
+    (λ n. says (within low high n))) attrs
 question around (questions.Test what) = test around what
 question around (questions.NetIn set) =
     on_two (attribute around attributes.Net) (given (Ok (VPrefixSet set.now))) matches_of

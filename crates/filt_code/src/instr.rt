@@ -55,9 +55,28 @@ pub enum Effect<'a> {
     Leave(usize),
 }
 
+/// A number that a route holds.
+#[derive(Clone, Copy)]
+pub enum Number {
+    NetLength,
+    Preference,
+    Med,
+    LocalPref,
+    IgpMetric,
+    PathLength,
+    /// The first number of the path.
+    First,
+    /// Its last one.
+    Last,
+    /// How many communities there are.
+    Communities,
+}
+
 /// A condition that needs no operands.
 #[derive(Clone, Copy)]
 pub enum Question<'a> {
+    /// Whether a number is at least the first one and at most the second one.
+    Within(Number, u32, u32),
     Test(TTest),
     /// Whether the net is in a set.
     NetIn(&'a PrefixSet),

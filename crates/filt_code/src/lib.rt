@@ -11,4 +11,4 @@ mod instr;
 pub mod laws;
 
 pub use code::{Draft, Routine};
-pub use instr::{Effect, Instr, OfOne, OfTwo, Question};
+pub use instr::{Effect, Instr, Number, OfOne, OfTwo, Question};

@@ -4,4 +4,5 @@ pub mod Cases
 pub mod Compiling
 pub mod Cost
 pub mod Emitting
+pub mod Ranging
 pub mod Walk

@@ -1,3 +1,4 @@
 pub mod Compiles
 pub mod Emits
 pub mod Parts
+pub mod Ranges

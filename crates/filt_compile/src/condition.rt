@@ -2,16 +2,19 @@
 
 ghost use Rattle.std.specs.Prelude.{◌≡◌, ◌<◌, length, slice_get, true, IfSome, OnOk, Some};
 ghost use Rattle.filt_tree.specs.Trees as trees;
+ghost use Rattle.filt_code.specs.declared.instr.Question.TheVariants as questions;
+ghost use Rattle.filt_compile.specs.Ranges.{sense};
 ghost use Rattle.filt_compile.specs.Emits.{ahead, decider, landing, Asks, IsAsked, IsNet, IsNetIn, IsSet, Leads};
 
 use crate::emitted::push;
+use crate::ranges::{Range, ranged};
 use crate::seen::Seen;
 use crate::value::value;
 use bits_ip::OutOfMemory;
 use conf_ast::filters::{Attribute, CompareOp, LogicalOp};
 use filt_code::{Instr, Question};
 use filt_sets::PrefixSet;
-use filt_tree::TExpr;
+use filt_tree::{TExpr, TTest};
 use filt_values::Fixed;
 
 /// What jumps where a condition's truth value is this one, to the place that has so much code from it
@@ -110,13 +113,45 @@ fn asked<'a>(
         return push(out, Instr::JumpIfAsked(is, Question::NetIn(set), over));
     }
     match e {
-        TExpr::Test(what) => push(out, Instr::JumpIfAsked(is, Question::Test(*what), over)),
+        TExpr::Test(what) => tested(seen, *what, is, over, out),
         TExpr::Defined(a) => push(out, Instr::JumpIfAsked(is, Question::Defined(*a), over)),
         _ => {
             push(out, Instr::JumpIf(is, over))?;
             value(seen, e, out)
         }
     }
+}
+
+/// The same of a test. One of a number asks whether it is within a range.
+fn tested<'a>(
+    seen: &Seen<'a>,
+    what: TTest,
+    is: bool,
+    over: usize,
+    out: &mut Vec<Instr<'a>>,
+) -> Result<(), OutOfMemory>
+    ensures { OnOk result (Asks seen.now is over (λ t. trees.test t.around what)
+        (ahead out.old) (ahead out.new)) }
+{
+    match ranged(what) {
+        Some(range) => push(
+            out,
+            Instr::JumpIfAsked(sense(range.inside, is), question(range), over),
+        ),
+        None => push(out, Instr::JumpIfAsked(is, Question::Test(what), over)),
+    }
+}
+
+fn question<'a>(range: Range) -> Question<'a>
+    ensures { result ≡ questions.Within range.number range.low range.high }
+{
+    Question::Within(range.number, range.low, range.high)
+}
+
+fn sense(inside: bool, is: bool) -> bool
+    ensures { result ≡ sense inside is }
+{
+    if inside { is } else { !is }
 }
 
 /// The set of which a condition asks whether the net is in it, where that is all that it asks.

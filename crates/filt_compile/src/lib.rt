@@ -9,6 +9,7 @@ mod act;
 mod condition;
 mod drafts;
 mod emitted;
+mod ranges;
 mod rest;
 mod seen;
 mod value;

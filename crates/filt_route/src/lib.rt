@@ -17,6 +17,6 @@ pub use elements::{count, element, is_list};
 pub use labels::arms_before;
 pub use operators::{apply_one, apply_two};
 pub use parts::bool;
-pub use questions::asked;
+pub use questions::{answered, asked};
 pub use running::Running;
 pub use surroundings::Surroundings;

@@ -1,18 +1,20 @@
 //! Conditions that need no operands. Most of them are over what is there already, and are answered
 //! without a value; where an attribute isn't there, the operators answer.
 
-ghost use Rattle.std.specs.Prelude.{◌≡◌, Ok, IfSome};
+ghost use Rattle.std.specs.Prelude.{◌≡◌, Err, Ok, IfSome, MatchOption};
 ghost use Rattle.attrs.specs.Clist.{has_pair, same_pair};
-ghost use Rattle.filt_code.specs.Codes.{question};
+ghost use Rattle.attrs.specs.declared.judge.FilterFault.TheVariants as faults;
+ghost use Rattle.filt_code.specs.Codes.{number_in, question, within};
 ghost use Rattle.filt_meaning.specs.Attributes.{attribute_of};
 ghost use Rattle.filt_meaning.specs.Flow.{Done, Frame, and_then, plainly};
 ghost use Rattle.filt_meaning.specs.Meaning.{compare_of, property_of};
 ghost use Rattle.filt_meaning.specs.Names.{Around};
 ghost use Rattle.filt_tree.specs.Trees as trees;
+ghost use Rattle.filt_values.specs.declared.value.Failure.TheVariants.{Fault};
 ghost use Rattle.filt_values.specs.Operators as operators;
 ghost use Rattle.filt_values.specs.Operators.{bool_in, matches_of};
 ghost use Rattle.filt_values.specs.Seen.{val_of, Builds};
-ghost use Rattle.filt_values.specs.Values.{VBool, VClist, VInt, VPair, VPath, VPrefix, VPrefixSet};
+ghost use Rattle.filt_values.specs.Values.{VBool, VInt, VPair, VPrefix, VPrefixSet};
 ghost use Rattle.filt_route.specs.Seen.{around_in, test_in, Yields};
 
 use crate::labels::is_element;
@@ -20,13 +22,13 @@ use crate::operators::{apply_compare, apply_one};
 use crate::parts::bool;
 use crate::running::Running;
 use crate::surroundings::Surroundings;
-use attrs::{Clist, Path};
+use attrs::{Clist, FilterFault};
 use bits_ip::Prefix;
 use conf_ast::filters::{Attribute, CompareOp, Property};
-use filt_code::{OfOne, Question};
+use filt_code::{Number, OfOne, Question};
 use filt_sets::PrefixSet;
 use filt_tree::TTest;
-use filt_values::{ListFailure, Value};
+use filt_values::{Failure, ListFailure, Value};
 
 /// The answer.
 pub fn asked<'a>(
@@ -39,9 +41,52 @@ pub fn asked<'a>(
         (λ v attrs. plainly (bool_in v) attrs)) }
 {
     match what {
+        Question::Within(number, low, high) => is_within(around, number, low, high, attrs),
         Question::Test(test) => tested(around, &test, attrs),
         Question::NetIn(set) => net_in(set, around.net),
         Question::Defined(a) => Ok(attrs.is_defined(a)),
+    }
+}
+
+/// The answer, where it is one that most conditions ask for, and is there.
+#[inline(always)]
+pub fn answered<'a>(
+    around: &Surroundings<'a>,
+    what: &Question<'a>,
+    attrs: &Running<'a>,
+) -> Option<bool>
+    ensures { (vals : Frame) → IfSome result (λ b. question (around_in around.now) what.now vals
+        attrs.now
+        ≡ Done (VBool b) attrs.now) }
+{
+    match what {
+        Question::Within(number, low, high) => {
+            let found = held(around, *number, attrs)?;
+            Some(within(*low, *high, found))
+        }
+        Question::Test(test) => {
+            let holds = test_truth(test, attrs)?;
+            Some(holds)
+        }
+        _ => None,
+    }
+}
+
+/// Whether a number that the route holds is within these.
+fn is_within<'a>(
+    around: &Surroundings<'a>,
+    number: Number,
+    low: u32,
+    high: u32,
+    attrs: &Running<'a>,
+) -> Result<bool, ListFailure>
+    ensures { Builds (λ b. b) result (operators.and_then
+        (number_in (around_in around.now) number attrs.now)
+        (λ n. Ok (within low high n))) }
+{
+    match held(around, number, attrs) {
+        Some(found) => Ok(within(low, high, found)),
+        None => Err(ListFailure::Failed(Failure::Fault(FilterFault::Undefined))),
     }
 }
 
@@ -52,7 +97,6 @@ fn net_in<'a>(set: &'a PrefixSet, net: &Prefix) -> Result<bool, ListFailure>
     Ok(is_element(&Value::Prefix(*net), &Value::PrefixSet(set))?)
 }
 
-#[inline(always)]
 fn tested<'a>(
     around: &Surroundings<'a>,
     what: &TTest,
@@ -62,7 +106,7 @@ fn tested<'a>(
         (and_then (trees.test (around_in around.now) what.now vals attrs.now)
         (λ v attrs. plainly (bool_in v) attrs)) }
 {
-    match test_truth(around, what, attrs) {
+    match test_truth(what, attrs) {
         Some(holds) => Ok(holds),
         None => tested_by_operators(around, *what, attrs),
     }
@@ -146,28 +190,19 @@ fn pair_test<'a>(
     Ok(apply_compare(op, &Value::Pair(first, second), &held)?)
 }
 
-/// Whether a test holds, where what the route holds is there.
+/// Whether a test holds, where it asks for a pair among the communities.
 #[inline(always)]
-fn test_truth<'a>(around: &Surroundings<'a>, what: &TTest, attrs: &Running<'a>) -> Option<bool>
-    ensures { (vals : Frame) → IfSome result (λ b. trees.test (around_in around.now) what.now
+fn test_truth<'a>(what: &TTest, attrs: &Running<'a>) -> Option<bool>
+    ensures { (place : Around) (vals : Frame) → IfSome result (λ b. trees.test place what.now
         vals attrs.now
         ≡ Done (VBool b) attrs.now) }
 {
     match what {
-        TTest::Attribute(a, compare, number) => {
-            let held = attrs.number(*a)?;
-            let holds = compare_numbers(*compare, held, *number)?;
-            Some(holds)
-        }
-        TTest::Property(a, property, compare, number) => {
-            let held = part_number(around, *a, *property, attrs)?;
-            let holds = compare_numbers(*compare, held, *number)?;
-            Some(holds)
-        }
         TTest::Pair(first, second, compare, a) => {
             let is = pair_holds(*first, *second, *compare, *a, attrs)?;
             Some(is)
         }
+        _ => None,
     }
 }
 
@@ -198,81 +233,31 @@ fn pair_holds(
     }
 }
 
+/// A number that the route holds, where it does.
 #[inline(always)]
-fn compare_numbers(compare: CompareOp, a: u32, b: u32) -> Option<bool>
-    ensures { IfSome result (λ holds. compare_of compare (VInt a) (VInt b) ≡ Ok (VBool holds)) }
+fn held<'a>(around: &Surroundings<'a>, number: Number, attrs: &Running<'a>) -> Option<u32>
+    ensures { MatchOption result
+        (number_in (around_in around.now) number attrs.now ≡ Err (Fault faults.Undefined))
+        (λ n. number_in (around_in around.now) number attrs.now ≡ Ok n) }
 {
-    match compare {
-        CompareOp::Equal => Some(a == b),
-        CompareOp::NotEqual => Some(!(a == b)),
-        CompareOp::Less => Some(a.cmp(&b).is_lt()),
-        CompareOp::LessOrEqual => Some(a.cmp(&b).is_le()),
-        CompareOp::Greater => Some(a.cmp(&b).is_gt()),
-        CompareOp::GreaterOrEqual => Some(a.cmp(&b).is_ge()),
-        CompareOp::Matches => None,
-        CompareOp::MatchesNot => None,
+    match number {
+        Number::NetLength => Some(u32::from(around.net.len())),
+        Number::Preference => Some(attrs.pref()),
+        Number::Med => attrs.med(),
+        Number::LocalPref => attrs.lp(),
+        Number::IgpMetric => attrs.igp(),
+        Number::PathLength => Some(attrs.path().as_slice().len() as u32),
+        Number::First => Some(attrs.path().as_slice().first().copied().unwrap_or(0)),
+        Number::Last => Some(attrs.path().as_slice().last().copied().unwrap_or(0)),
+        Number::Communities => Some(attrs.list().as_slice().len() as u32),
     }
 }
 
 #[inline(always)]
-fn part_number<'a>(
-    around: &Surroundings<'a>,
-    a: Attribute,
-    property: Property,
-    attrs: &Running<'a>,
-) -> Option<u32>
-    ensures { IfSome result (λ n. and_then
-        (plainly (attribute_of (around_in around.now) a attrs.now) attrs.now)
-        (λ v attrs. plainly (property_of property v) attrs)
-        ≡ Done (VInt n) attrs.now) }
+fn within(low: u32, high: u32, number: u32) -> bool
+    ensures { result ≡ within low high number }
 {
-    match a {
-        Attribute::Net => {
-            let found = net_number(around.net, property)?;
-            Some(found)
-        }
-        Attribute::BgpPath => {
-            let found = path_number(attrs.path(), property)?;
-            Some(found)
-        }
-        Attribute::BgpCommunity => {
-            let found = list_number(attrs.list(), property)?;
-            Some(found)
-        }
-        _ => None,
-    }
-}
-
-#[inline(always)]
-fn net_number(net: &Prefix, property: Property) -> Option<u32>
-    ensures { IfSome result (λ n. property_of property (VPrefix net.now) ≡ Ok (VInt n)) }
-{
-    match property {
-        Property::Len => Some(u32::from(net.len())),
-        _ => None,
-    }
-}
-
-#[inline(always)]
-fn path_number(path: &Path, property: Property) -> Option<u32>
-    ensures { IfSome result (λ n. property_of property (VPath path.now) ≡ Ok (VInt n)) }
-{
-    match property {
-        Property::Len => Some(path.as_slice().len() as u32),
-        Property::First => Some(path.as_slice().first().copied().unwrap_or(0)),
-        Property::Last => Some(path.as_slice().last().copied().unwrap_or(0)),
-        Property::Ip => None,
-    }
-}
-
-#[inline(always)]
-fn list_number(list: &Clist, property: Property) -> Option<u32>
-    ensures { IfSome result (λ n. property_of property (VClist list.now) ≡ Ok (VInt n)) }
-{
-    match property {
-        Property::Len => Some(list.as_slice().len() as u32),
-        _ => None,
-    }
+    low <= number && number <= high
 }
 
 #[inline(always)]

@@ -200,19 +200,32 @@ impl<'a> Running<'a> {
         }
     }
 
-    /// What an attribute holds, where it holds a number.
     #[inline(always)]
-    pub(crate) fn number(&self, attribute: Attribute) -> Option<u32>
-        ensures { (place : Around)
-            → IfSome result (λ n. attribute_of place attribute self.now ≡ Ok (VInt n)) }
+    pub(crate) fn pref(&self) -> u32
+        ensures { result ≡ self.now.pref }
     {
-        match attribute {
-            Attribute::Preference => Some(self.pref),
-            Attribute::BgpMed => Some(self.med?),
-            Attribute::BgpLocalPref => Some(self.lp?),
-            Attribute::IgpMetric => Some(self.igp?),
-            _ => None,
-        }
+        self.pref
+    }
+
+    #[inline(always)]
+    pub(crate) fn med(&self) -> Option<u32>
+        ensures { result ≡ self.now.med }
+    {
+        self.med
+    }
+
+    #[inline(always)]
+    pub(crate) fn lp(&self) -> Option<u32>
+        ensures { result ≡ self.now.lp }
+    {
+        self.lp
+    }
+
+    #[inline(always)]
+    pub(crate) fn igp(&self) -> Option<u32>
+        ensures { result ≡ self.now.igp }
+    {
+        self.igp
     }
 
     #[inline(always)]

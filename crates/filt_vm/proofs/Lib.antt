@@ -1,4 +1,5 @@
 mod Lists
+mod Passes
 mod Steps
 mod Takes
 mod Waits

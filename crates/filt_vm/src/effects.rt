@@ -1,11 +1,13 @@
 //! What changes variables, operands and attributes alone.
 
-ghost use Rattle.std.specs.Prelude.{◌≡◌, Some, OnOk};
+ghost use Rattle.std.specs.Prelude.{◌≡◌, [], ◌∷◌, ◌++◌, List, None, Ok, Some, OnOk};
 ghost use Rattle.attrs.specs.declared.attributes.Attrs.{Attrs};
 ghost use Rattle.filt_code.specs.Codes.{effect, one_of, over, put, two_of, with_one};
+ghost use Rattle.filt_values.specs.Seen.{val_of_fixed};
+ghost use Rattle.filt_values.specs.Values.{Val, default_of};
 ghost use Rattle.filt_meaning.specs.Attributes.{with_attribute};
 ghost use Rattle.filt_meaning.specs.Flow.{Done, Frame, plainly};
-ghost use Rattle.filt_meaning.specs.Meaning.{set_attributes, set_variable};
+ghost use Rattle.filt_meaning.specs.Meaning.{attribute, defined, given, set_attributes, set_variable, variable_or};
 ghost use Rattle.filt_route.specs.Seen.{around_in, Yields};
 
 use crate::locals::Locals;
@@ -13,10 +15,12 @@ use crate::operands::Operands;
 use conf_ast::filters::Attribute;
 use filt_code::{Effect, OfOne, OfTwo};
 use filt_route::{Running, Surroundings, apply_one, apply_two};
-use filt_values::{ListFailure, Value};
+use filt_values::{Fixed, ListFailure, Sort, Value};
 use std::alloc::Global;
 
-/// What an instruction does that leads to the next one.
+/// What an instruction does that leads to the next one. Each effect has a function of its own, so that
+/// no step makes room for what another one holds.
+#[inline(never)]
 pub(crate) fn effect<'a>(
     around: &Surroundings<'a>,
     what: Effect<'a>,
@@ -30,27 +34,18 @@ pub(crate) fn effect<'a>(
     ensures operands { OnOk result (operands.new.under ≡ operands.old.under) }
 {
     match what {
-        Effect::Push(known) => Ok(operands.push(known.value(around.alloc))?),
-        Effect::Local(place) => {
-            let held = locals.get(place)?;
-            Ok(operands.push(held)?)
-        }
-        Effect::Attribute(a) => {
-            let held = attrs.read(around, a)?;
-            Ok(operands.push(held)?)
-        }
-        Effect::Defined(a) => Ok(operands.push(Value::Bool(attrs.is_defined(a)))?),
-        Effect::Default(sort) => Ok(operands.push(around.default(sort))?),
+        Effect::Push(known) => put_known(around.alloc, known, operands),
+        Effect::Local(place) => put_local(place, locals, operands),
+        Effect::Attribute(a) => put_attribute(around, a, operands, attrs),
+        Effect::Defined(a) => put_defined(a, operands, attrs),
+        Effect::Default(sort) => put_default(around, sort, operands),
         Effect::One(operator) => one(around.alloc, operator, operands),
         Effect::Two(operator) => two(operator, operands),
-        Effect::Discard => {
-            let _dropped = operands.pop()?;
-            Ok(())
-        }
+        Effect::Discard => discard(operands),
         Effect::Store(place) => store(place, locals, operands),
         Effect::Assign(a) => assign(a, operands, attrs),
         Effect::Unset(a) => Ok(attrs.unset(around.alloc, a)?),
-        Effect::Declare(sort) => Ok(locals.push(around.default(sort))?),
+        Effect::Declare(sort) => declare(around, sort, locals),
         Effect::Leave(count) => {
             let left = locals.len().saturating_sub(count);
             locals.truncate(left);
@@ -59,6 +54,106 @@ pub(crate) fn effect<'a>(
     }
 }
 
+#[inline(never)]
+fn put_known<'a>(
+    alloc: Global,
+    known: &'a Fixed,
+    operands: &mut Operands<'a>,
+) -> Result<(), ListFailure>
+    ensures done { (vals : Frame) (attrs : Attrs)
+        → Yields (λ _. (vals, operands.new.here)) result attrs
+        (put vals operands.old.here (given (Ok (val_of_fixed known.now)) vals attrs)) }
+    ensures under { OnOk result (operands.new.under ≡ operands.old.under) }
+{
+    Ok(operands.push(known.value(alloc))?)
+}
+
+#[inline(never)]
+fn put_local<'a>(
+    place: usize,
+    locals: &Locals<'a>,
+    operands: &mut Operands<'a>,
+) -> Result<(), ListFailure>
+    ensures done { (attrs : Attrs)
+        → Yields (λ _. (locals.now.here, operands.new.here)) result attrs
+        (put locals.now.here operands.old.here
+        (variable_or (Some place) None locals.now.here attrs)) }
+    ensures under { OnOk result (operands.new.under ≡ operands.old.under) }
+{
+    let held = locals.get(place)?;
+    Ok(operands.push(held)?)
+}
+
+#[inline(never)]
+fn put_attribute<'a>(
+    around: &Surroundings<'a>,
+    a: Attribute,
+    operands: &mut Operands<'a>,
+    attrs: &Running<'a>,
+) -> Result<(), ListFailure>
+    ensures done { (vals : Frame)
+        → Yields (λ _. (vals, operands.new.here)) result attrs.now
+        (put vals operands.old.here (attribute (around_in around.now) a vals attrs.now)) }
+    ensures under { OnOk result (operands.new.under ≡ operands.old.under) }
+{
+    let held = attrs.read(around, a)?;
+    Ok(operands.push(held)?)
+}
+
+#[inline(never)]
+fn put_defined<'a>(
+    a: Attribute,
+    operands: &mut Operands<'a>,
+    attrs: &Running<'a>,
+) -> Result<(), ListFailure>
+    ensures done { (vals : Frame)
+        → Yields (λ _. (vals, operands.new.here)) result attrs.now
+        (put vals operands.old.here (defined a vals attrs.now)) }
+    ensures under { OnOk result (operands.new.under ≡ operands.old.under) }
+{
+    Ok(operands.push(Value::Bool(attrs.is_defined(a)))?)
+}
+
+#[inline(never)]
+fn put_default<'a>(
+    around: &Surroundings<'a>,
+    sort: Sort,
+    operands: &mut Operands<'a>,
+) -> Result<(), ListFailure>
+    ensures done { (vals : Frame) (attrs : Attrs)
+        → Yields (λ _. (vals, operands.new.here)) result attrs
+        (put vals operands.old.here (given (Ok (default_of sort)) vals attrs)) }
+    ensures under { OnOk result (operands.new.under ≡ operands.old.under) }
+{
+    Ok(operands.push(around.default(sort))?)
+}
+
+#[inline(never)]
+fn discard<'a>(operands: &mut Operands<'a>) -> Result<(), ListFailure>
+    ensures done { (vals : Frame) (attrs : Attrs)
+        → Yields {A = Frame × List Val} (λ _. (vals, operands.new.here)) result attrs
+        (with_one (λ v os attrs. Done (vals, os) attrs) operands.old.here attrs) }
+    ensures under { OnOk result (operands.new.under ≡ operands.old.under) }
+{
+    let _dropped = operands.pop()?;
+    Ok(())
+}
+
+#[inline(never)]
+fn declare<'a>(
+    around: &Surroundings<'a>,
+    sort: Sort,
+    locals: &mut Locals<'a>,
+) -> Result<(), ListFailure>
+    ensures done { (os : List Val) (attrs : Attrs)
+        → Yields {A = Frame × List Val} (λ _. (locals.new.here, os)) result attrs
+        (Done (locals.old.here ++ default_of sort ∷ [], os) attrs) }
+    ensures under { OnOk result (locals.new.under ≡ locals.old.under) }
+{
+    Ok(locals.push(around.default(sort))?)
+}
+
+#[inline(never)]
 fn one<'a>(alloc: Global, operator: OfOne, operands: &mut Operands<'a>) -> Result<(), ListFailure>
     ensures done { (vals : Frame) (attrs : Attrs)
         → Yields (λ _. (vals, operands.new.here)) result attrs
@@ -71,6 +166,7 @@ fn one<'a>(alloc: Global, operator: OfOne, operands: &mut Operands<'a>) -> Resul
     Ok(operands.push(found)?)
 }
 
+#[inline(never)]
 fn two<'a>(operator: OfTwo, operands: &mut Operands<'a>) -> Result<(), ListFailure>
     ensures done { (vals : Frame) (attrs : Attrs)
         → Yields (λ _. (vals, operands.new.here)) result attrs
@@ -85,6 +181,7 @@ fn two<'a>(operator: OfTwo, operands: &mut Operands<'a>) -> Result<(), ListFailu
     Ok(operands.push(found)?)
 }
 
+#[inline(never)]
 fn store<'a>(
     place: usize,
     locals: &mut Locals<'a>,
@@ -101,6 +198,7 @@ fn store<'a>(
     locals.set(place, value)
 }
 
+#[inline(never)]
 fn assign<'a>(
     attribute: Attribute,
     operands: &mut Operands<'a>,

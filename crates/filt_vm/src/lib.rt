@@ -13,6 +13,7 @@ mod level;
 mod locals;
 mod machine;
 mod operands;
+mod passing;
 mod step;
 mod target;
 

@@ -15,6 +15,7 @@ use crate::effects::effect;
 use crate::level::{Call, Level, Levels, Turn};
 use crate::locals::Locals;
 use crate::operands::Operands;
+use crate::passing::ahead;
 use crate::step::Step;
 use crate::target::target;
 use attrs::FilterFault;
@@ -40,6 +41,13 @@ pub(crate) struct Machine<'a> {
 impl<'a> Machine<'a> {
     /// The next instruction.
     pub(crate) fn step(&mut self) -> Result<Step, ListFailure>
+        ensures { Goes result self.old self.new }
+    {
+        self.rest = ahead(&self.around, self.rest, &self.attrs);
+        self.first()
+    }
+
+    fn first(&mut self) -> Result<Step, ListFailure>
         ensures { Goes result self.old self.new }
     {
         let rest = self.rest;
@@ -282,7 +290,8 @@ fn unwound<'a>(
 }
 
 /// The code behind so many instructions.
-fn behind<'a>(code: &'a [Instr<'a>], count: usize) -> &'a [Instr<'a>]
+#[inline(always)]
+pub(crate) fn behind<'a>(code: &'a [Instr<'a>], count: usize) -> &'a [Instr<'a>]
     ensures { result.now ≡ drop count code.now }
 {
     if count < code.len() {

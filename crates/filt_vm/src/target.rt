@@ -41,7 +41,8 @@ pub(crate) fn target<'a>(
     }
 }
 
-fn jump_where(is: bool, n: usize, truth: bool) -> usize
+#[inline(always)]
+pub(crate) fn jump_where(is: bool, n: usize, truth: bool) -> usize
     ensures { result ≡ jump_where is n truth }
 {
     match (is, truth) {

@@ -9,7 +9,7 @@ use Rattle.filt_compile.proofs.Walk as w
 use Rattle.filt_compile.proofs.condition.asked.Goals as goal
 
 pub returns-in-Test : goal.returns-in-Test
-returns-in-Test c = on_ok_weaker c.push-in-Test.result (λ is. ac.asks_as c.args.seen.now c.args.is c.args.over _ (λ t. trees.expr c.args.e.now t) (ahead c.args.out.now) (ahead c.push-in-Test.new.out) (λ u vals attrs. w.test_is u c.in-Test.what c.args.e.now vals attrs c.in-Test.is) (ac.test_asks c.args.seen.now c.args.is c.args.over c.in-Test.what (ahead c.args.out.now) (ahead c.push-in-Test.new.out) is)) c.push-in-Test.ensures
+returns-in-Test c = on_ok_weaker c.tested.result (λ p. ac.asks_as c.args.seen.now c.args.is c.args.over (λ t. trees.test t.around c.in-Test.what) (λ t. trees.expr c.args.e.now t) (ahead c.args.out.now) (ahead c.tested.new.out) (λ u vals attrs. w.test_is u c.in-Test.what c.args.e.now vals attrs c.in-Test.is) p) c.tested.ensures
 
 pub returns-in-Defined : goal.returns-in-Defined
 returns-in-Defined c = on_ok_weaker c.push-in-Defined.result (λ is. ac.asks_as c.args.seen.now c.args.is c.args.over _ (λ t. trees.expr c.args.e.now t) (ahead c.args.out.now) (ahead c.push-in-Defined.new.out) (λ u vals attrs. ap (λ (f : Run Val). f vals attrs) (w.defined_is c.in-Defined.a c.args.e.now u c.in-Defined.is)) (ac.defined_asks c.args.seen.now c.args.is c.args.over c.in-Defined.a (ahead c.args.out.now) (ahead c.push-in-Defined.new.out) is)) c.push-in-Defined.ensures
