@@ -1,5 +1,5 @@
 -- In an accepted configuration each filter sees only functions that were declared before it.
-use Rattle.std.proofs.Common.{◌≡◌, ℕ, ◌≤◌, All, List, [], ◌∷◌, ◌++◌, Option, Some, None, Result, Ok, Err, Bool, true, false, length, take, sym, subst, arith}
+use Rattle.std.proofs.Common.{◌≡◌, ℕ, ◌≤◌, All, List, [], ◌∷◌, ◌++◌, Option, Result, Bool, true, false, length, take, sym, subst, arith}
 use Rattle.std.proofs.lemmas.List.Elements.{All-cons, All-take}
 use Rattle.std.specs.Prelude.{IfOk, IfSome}
 use Rattle.bits_ip.specs.declared.memory.OutOfMemory.{OutOfMemory}
