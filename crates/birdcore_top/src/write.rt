@@ -1,6 +1,6 @@
 //! Plays a script over a configuration, and writes the report of each phase when it has ended; and
 //! what is written of a check.
-ghost use Rattle.std.specs.Prelude.{◌≡◌, ◌⊎◌, ◌≤◌, [], Err, length, map, IfErr, OnOk};
+ghost use Rattle.std.specs.Prelude.{◌≡◌, ◌⊎◌, ◌≤◌, [], All, Err, length, map, IfErr, OnOk};
 ghost use Rattle.std.specs.Io.KnownBytes.{Appends, Keeps};
 ghost use Rattle.std.specs.List.{flat_map};
 ghost use Rattle.core_setup.specs.Setup.{IsSetup, Setup};
@@ -9,6 +9,7 @@ ghost use Rattle.outside_io.specs.Whole.{WritesFront};
 ghost use Rattle.report.specs.Report.{phase_text, report_text};
 ghost use Rattle.sys_build.specs.Setups.{IsPlayable};
 ghost use Rattle.sys_run.specs.Playing as played;
+ghost use Rattle.system.specs.Coded.{AreOrdered, IsBefore};
 ghost use Rattle.system.specs.Seen.{system_of};
 ghost use Rattle.birdcore_top.specs.Answer.{CutsOff, IsEnd};
 ghost use Rattle.birdcore_top.specs.Written.{AskWhatIs, HasBegun, HasPlayed, HasWritten, accepted_text, phases_read, setup_read, text_so_far};
@@ -39,6 +40,8 @@ pub(crate) fn write_play<R: RandomSource, K: Sink>(
     out: &mut K,
 ) -> Status
     requires playable { IsPlayable (system_of system.now) }
+    requires ordered { AreOrdered system.now }
+    requires before { All (IsBefore system.now) script.filters.items }
     requires setup { IsSetup (setup_read system.now script cells) }
     requires asked { AskWhatIs (length script.queries.items) (phases_read script) }
     ensures end { IsEnd result }
@@ -64,7 +67,19 @@ pub(crate) fn write_play<R: RandomSource, K: Sink>(
     let Some(hasher) = RandomState::new(rt).ok() else {
         return Status::OutOfMemory;
     };
-    let mut core = match build(alloc, hasher, system, filters.as_slice(), queries, cells) {
+    let code = match system.code(alloc) {
+        Ok(code) => code,
+        Err(OutOfMemory) => return Status::OutOfMemory,
+    };
+    let mut core = match build(
+        alloc,
+        hasher,
+        system,
+        &code,
+        filters.as_slice(),
+        queries,
+        cells,
+    ) {
         Ok(core) => core,
         Err(OutOfMemory) => return Status::OutOfMemory,
     };

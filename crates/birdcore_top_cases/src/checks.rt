@@ -38,11 +38,10 @@ fn beside(rt: &HostRuntime, played: String, wanted: bool, checked: &str) -> io::
     }
 }
 
-/// The status of a play, where the check of its files has the same; want of memory comes of a play
-/// alone.
+/// The status of a play, where the check of its files has the same.
 pub fn checked_so(rt: &HostRuntime, played: String, files: Vec<MemFile>) -> io::Result<String> {
     let checked = checked(rt, files, "check conf script")?;
-    let wanted = checked.as_str() == played.as_str() || played.as_str() == "out of memory";
+    let wanted = checked.as_str() == played.as_str();
     beside(rt, played, wanted, checked.as_str())
 }
 

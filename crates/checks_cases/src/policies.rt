@@ -1,12 +1,16 @@
 //! What the policies of the first protocol say of a route.
 //!
 //! The route comes from the protocol of number 0, as the module `routes` says.
+ghost use Rattle.std.specs.Prelude.{IfSome};
+ghost use Rattle.system.specs.Coded.{AreOrdered, HasCode, PolicyBefore, ProtocolBefore};
+
+use crate::faults::no_memory;
 use crate::routes::read_route;
 use attrs::{Judge, Verdict, attr_text};
-use conf_check::{PolicyDef, ProtocolBody};
+use conf_check::{PolicyDef, ProtocolBody, ProtocolDef};
 use std::alloc::Global;
 use std::{io, str};
-use system::{System, read_system};
+use system::{Code, System, read_system};
 
 const LIMIT: usize = 1 << 24;
 
@@ -26,21 +30,77 @@ fn verdict_text(alloc: Global, verdict: &Verdict) -> io::Result<String> {
     }
 }
 
-fn judged(alloc: Global, system: &System, policy: &PolicyDef) -> io::Result<String> {
+fn judged<'a>(
+    alloc: Global,
+    system: &'a System,
+    code: &'a Code<'a>,
+    policy: &'a PolicyDef,
+) -> io::Result<String>
+    requires code { HasCode system.now code.now }
+    requires before { PolicyBefore system.now policy.now }
+{
     let (net, route) = read_route(alloc, ROUTE)?;
-    match system.passes(alloc, policy).judge(&net, &route) {
+    let passes = system.passes(alloc, code, policy).map_err(no_memory)?;
+    match passes.judge(&net, &route) {
         Ok(verdict) => verdict_text(alloc, &verdict),
         Err(_) => Ok(String::from_str(alloc, "out of memory")?),
     }
 }
 
-/// The import and the export policy of the first protocol.
-fn policies(system: &System) -> Option<(&PolicyDef, &PolicyDef)> {
-    let protocol = system.checked.protocols.first()?;
+fn first(system: &System) -> Option<&ProtocolDef>
+    requires { AreOrdered system.now }
+    ensures { IfSome result (λ def. ProtocolBefore system.now def.now) }
+{
+    system.checked.protocols.first()
+}
+
+/// What the import and the export policy say.
+fn both<'a>(
+    alloc: Global,
+    system: &'a System,
+    code: &'a Code<'a>,
+    import: &'a PolicyDef,
+    export: &'a PolicyDef,
+) -> io::Result<String>
+    requires code { HasCode system.now code.now }
+    requires import { PolicyBefore system.now import.now }
+    requires export { PolicyBefore system.now export.now }
+{
+    let import = judged(alloc, system, code, import)?;
+    let export = judged(alloc, system, code, export)?;
+    Ok(format!(in alloc; "{import} / {export}")?)
+}
+
+/// What both policies of a protocol say.
+fn policies<'a>(
+    alloc: Global,
+    system: &'a System,
+    code: &'a Code<'a>,
+    protocol: &'a ProtocolDef,
+) -> io::Result<String>
+    requires code { HasCode system.now code.now }
+    requires before { ProtocolBefore system.now protocol.now }
+{
     match &protocol.body {
-        ProtocolBody::Static(def) => Some((&def.channel.import, &def.channel.export)),
-        ProtocolBody::Bgp(def) => Some((&def.channel.import, &def.channel.export)),
-        ProtocolBody::Pipe(def) => Some((&def.import, &def.export)),
+        ProtocolBody::Static(def) => {
+            both(
+                alloc,
+                system,
+                code,
+                &def.channel.import,
+                &def.channel.export,
+            )
+        }
+        ProtocolBody::Bgp(def) => {
+            both(
+                alloc,
+                system,
+                code,
+                &def.channel.import,
+                &def.channel.export,
+            )
+        }
+        ProtocolBody::Pipe(def) => both(alloc, system, code, &def.import, &def.export),
     }
 }
 
@@ -53,10 +113,9 @@ pub fn answer(alloc: Global, text: &[u8]) -> io::Result<String> {
         Ok(system) => system,
         Err(fault) => return Ok(format!(in alloc; "{fault}")?),
     };
-    let Some((import, export)) = policies(&system) else {
+    let Some(protocol) = first(&system) else {
         return Ok(String::from_str(alloc, "no protocol")?);
     };
-    let import = judged(alloc, &system, import)?;
-    let export = judged(alloc, &system, export)?;
-    Ok(format!(in alloc; "{import} / {export}")?)
+    let code = system.code(alloc).map_err(no_memory)?;
+    policies(alloc, &system, &code, protocol)
 }

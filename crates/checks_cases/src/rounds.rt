@@ -11,8 +11,9 @@ use crate::routes::read_route;
 use attrs::{Names, Route, Verdict};
 use bits_ip::{Prefix, parse_decimal};
 use conf_tree::read_config;
-use filt_comp::run_tree;
-use filt_tree::{Scope, TFilter};
+use filt_code::{Draft, Routine};
+use filt_compile::{compile, library};
+use filt_vm::run;
 use std::alloc::Global;
 use std::{fs, io, str};
 
@@ -41,14 +42,14 @@ fn routes(alloc: Global) -> io::Result<Vec<(Prefix, Route)>> {
 /// How many of the routes the filter accepts.
 fn round(
     alloc: Global,
-    scope: &Scope,
-    filter: &TFilter,
+    code: &Draft<'_>,
+    functions: &[Routine<'_>],
     names: &Names,
     routes: &[(Prefix, Route)],
 ) -> io::Result<u64> {
     let mut accepted: u64 = 0;
     for (net, route) in routes {
-        let verdict = run_tree(alloc, scope, filter, names, net, route).map_err(no_memory)?;
+        let verdict = run(alloc, code, functions, names, net, route).map_err(no_memory)?;
         if let Verdict::Accept(_) = verdict {
             accepted = accepted.saturating_add(1);
         }
@@ -62,11 +63,15 @@ fn count(alloc: Global, text: &[u8], rounds: u32) -> io::Result<u64>
     let config = read_config(alloc, text).map_err(|_| bad())?;
     let seen = see(alloc, &config)?.map_err(|_| bad())?;
     let filter = seen.filter.as_ref().ok_or(bad())?;
+    let constants = seen.scope.constants.values().as_slice();
+    let trees = seen.scope.functions.values().as_slice();
+    let functions = library(alloc, constants, trees).map_err(no_memory)?;
+    let code = compile(alloc, constants, &functions, filter).map_err(no_memory)?;
     let names = Names::make(Vec::new(alloc));
     let routes = routes(alloc)?;
     let mut accepted: u64 = 0;
     for _ in 0..rounds {
-        accepted = accepted.saturating_add(round(alloc, &seen.scope, filter, &names, &routes)?);
+        accepted = accepted.saturating_add(round(alloc, &code, &functions, &names, &routes)?);
     }
     Ok(accepted)
 }

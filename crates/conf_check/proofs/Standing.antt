@@ -1,6 +1,7 @@
 -- What has been made of statements, and of one more.
 use Rattle.std.proofs.Common.{◌≡◌, ℕ, ◌+◌, ◌<◌, ◌≤◌, All, Bool, true, false, List, [], ◌∷◌, ◌++◌, length, map, take, get_or, Option, None, Result, Ok, Err, refl, sym, ap, subst, ◌∙◌, arith, append_assoc, append-nil, length-append}
-use Rattle.std.proofs.lemmas.List.{map-append, take_more}
+use Rattle.std.proofs.lemmas.List.{map-append, take-append-le, take_more}
+use Rattle.std.proofs.lemmas.List.Elements.{All-take}
 use Rattle.std.proofs.lemmas.Option.{same_Some}
 use Rattle.std.specs.Result.{IfOk, IsErrAnd, MatchResult, result_ok}
 use Rattle.conf_ast.specs.declared.kind.ConfFault.{ConfFault}
@@ -37,9 +38,9 @@ use Rattle.conf_check.specs.declared.checked.ProtocolBody.TheVariants as bodies
 use Rattle.conf_check.specs.declared.checked.ProtocolDef.{ProtocolDef}
 use Rattle.conf_check.specs.declared.checked.StaticDef.{StaticDef}
 use Rattle.conf_check.specs.Behind.{at_start, behind, behind_one}
-use Rattle.conf_check.specs.Checked.{AreProtocols, DoEach, Does, IsBgp, IsBody, IsChannel, IsChecked, IsOnly, IsPipe, IsPolicy, IsProtocol, IsStatic, NextProtocol, SeesAs, Source, bgp_preference, filter_source, filter_sources, is_protocol, last_export, last_import, last_pipe_export, last_pipe_import, static_preference}
+use Rattle.conf_check.specs.Checked.{AreBefore, AreProtocols, DoEach, Does, IsBgp, IsBody, IsChannel, IsChecked, IsOnly, IsPipe, IsPolicy, IsProtocol, IsStatic, NextProtocol, SeesAs, Source, bgp_preference, filter_source, filter_sources, is_protocol, last_export, last_import, last_pipe_export, last_pipe_import, static_preference}
 use Rattle.conf_check.specs.Refused.{IsFault, or_later, refusal_of}
-use Rattle.conf_check.specs.Seen.{Adds, AddsFilter, AddsOne, AddsProtocol, Grows, Lasts, Means, Stands}
+use Rattle.conf_check.specs.Seen.{Adds, AddsFilter, AddsOne, AddsProtocol, AreWithin, Grows, Lasts, Means, Stands}
 
 -- ---- behind one statement more
 
@@ -195,22 +196,36 @@ protocols_more text does before (x ∷ ds) whole d defs all is h adds =
 
 -- ---- trees
 
+-- a filter that sees no more functions than there are sees the same ones where there are more
+before_grows : (n m : ℕ) (fs more : List TFunction) → n ≤ length fs → All (λ (g : TFunction). g.constants ≤ m) (take n fs) → All (λ (g : TFunction). g.constants ≤ m) (take n (fs ++ more))
+before_grows n m fs more le all = subst (λ (l : List TFunction). All (λ (g : TFunction). g.constants ≤ m) l) (sym (take-append-le n fs more le)) all
+
 lasts_grow : (text : List ℕ) (scope after : Scope) → Grows scope after → WeakerBehind (Lasts text scope) (Lasts text after)
 lasts_grow text scope after g = λ before ss f h. record {
-  does = λ around attrs.
-      ap (λ (cs : List Fixed). judged around cs (function_trees after) f attrs) g.constants.1
-      ∙ ap (λ (fs : List TFunction). judged around (constant_values scope ++ g.constants.0) fs f attrs) g.functions.1
-      ∙ filter_stays around (constant_values scope) g.constants.0 (function_trees scope) g.functions.0 f attrs h.constants h.functions
-      ∙ h.does around attrs;
+  does = record {
+    says = λ around attrs.
+        ap (λ (cs : List Fixed). judged around cs (function_trees after) f attrs) g.constants.1
+        ∙ ap (λ (fs : List TFunction). judged around (constant_values scope ++ g.constants.0) fs f attrs) g.functions.1
+        ∙ filter_stays around (constant_values scope) g.constants.0 (function_trees scope) g.functions.0 f attrs h.constants h.functions
+        ∙ h.does.says around attrs;
+    sees = subst (λ (l : List TFunction). AreBefore l f) (sym g.functions.1) (before_grows f.functions f.constants (function_trees scope) g.functions.0 h.functions h.does.sees);
+  };
   constants = omega (arith, h.constants, ap (λ (cs : List Fixed). length cs) g.constants.1, length-append (constant_values scope) g.constants.0);
   functions = omega (arith, h.functions, ap (λ (fs : List TFunction). length fs) g.functions.1, length-append (function_trees scope) g.functions.0);
 }
 
-means_lasts : (text : List ℕ) (scope : Scope) (before : List conf.Declaration) → SeesAs text before scope → Weaker (Means text scope) (Lasts text scope before)
-means_lasts text scope before sees = λ ss f h. record {
-  does = λ around attrs. h.does around attrs ∙ ap (λ (c : Context). meaning.judged c ss attrs) (sees around);
-  constants = h.constants;
-  functions = h.functions;
+-- what sees all constants sees no function that sees more
+all_before : (n m k : ℕ) (fs : List TFunction) → m ≡ k → All (λ (g : TFunction). g.constants ≤ k) fs → All (λ (g : TFunction). g.constants ≤ m) (take n fs)
+all_before n m k fs is all = subst (λ (l : ℕ). All (λ (g : TFunction). g.constants ≤ l) (take n fs)) (sym is) (All-take (λ (g : TFunction). g.constants ≤ k) n fs all)
+
+means_lasts : (text : List ℕ) (scope : Scope) (before : List conf.Declaration) → SeesAs text before scope → AreWithin scope → Weaker (Means text scope) (Lasts text scope before)
+means_lasts text scope before sees within = λ ss f h. record {
+  does = record {
+    says = λ around attrs. h.does around attrs ∙ ap (λ (c : Context). meaning.judged c ss attrs) (sees around);
+    sees = all_before f.functions f.constants (length (constant_values scope)) (function_trees scope) h.constants within;
+  };
+  constants = omega (arith, h.constants);
+  functions = omega (arith, h.functions);
 }
 
 lasts_does : (text : List ℕ) (scope : Scope) → WeakerBehind (Lasts text scope) (Does text scope)
@@ -237,7 +252,7 @@ filter_adds_map does other m (conf.Pipe p) xs ys h = h
 pub stands_more : (text : List ℕ) (before : List conf.Declaration) (d : conf.Declaration) (old new : Checked) → Stands text before old → Adds text d old new → Stands text (before ++ d ∷ []) new
 stands_more text before d old new s a =
     let after = new.declared.scope in
-    let weaker : Weaker (Means text old.declared.scope) (Lasts text after before) = λ ss f h. lasts_grow text old.declared.scope after a.declares.grows before ss f (means_lasts text old.declared.scope before s.sees ss f h) in
+    let weaker : Weaker (Means text old.declared.scope) (Lasts text after before) = λ ss f h. lasts_grow text old.declared.scope after a.declares.grows before ss f (means_lasts text old.declared.scope before s.sees s.within ss f h) in
     record {
       declared = a.declares.known ∙ ap (λ (k : Known). behind_one k d) s.declared ∙ sym (behind_more (at_start text) before d);
       filters = subst (λ (l : List Source). DoEach (Lasts text after) l new.filters.items) (sym (sources_more [] before d))
@@ -259,6 +274,7 @@ stands_checked text ds checked s = record {
   scope = s.sees;
   filters = each_map (Lasts text checked.declared.scope) (Does text checked.declared.scope) (lasts_does text checked.declared.scope) (filter_sources [] ds) checked.filters.items s.filters;
   protocols = protocols_map text (Lasts text checked.declared.scope) (Does text checked.declared.scope) (lasts_does text checked.declared.scope) [] ds checked.protocols.items s.protocols;
+  within = s.within;
 }
 
 none_within : (n : ℕ) (fs : List TFunction) → fs ≡ [] → All (λ (f : TFunction). f.constants ≤ n) fs

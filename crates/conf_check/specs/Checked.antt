@@ -4,7 +4,7 @@
 -- From: BIRD User's Guide, "Channel options", "BGP", "Static", "Pipe"; some defaults are own.
 -- Example: where nothing is written: `import all`, `export none`, `master4` or `master6`,
 -- preference 200 and 100, limits that disable, MED 0, local preference 100.
-use Rattle.std.specs.Prelude.{◌≡◌, ℕ, Bool, true, false, List, [], ◌∷◌, ◌++◌, map, Option, Some, None, ⊤}
+use Rattle.std.specs.Prelude.{◌≡◌, ◌≤◌, ℕ, Bool, true, false, All, List, [], ◌∷◌, ◌++◌, length, map, take, Option, Some, None, ⊤}
 use Rattle.attrs.specs.declared.attributes.Attrs.{Attrs}
 use Rattle.bits_ip.specs.declared.address.Addr.{Addr}
 use Rattle.bits_ip.specs.declared.address.Addr.TheVariants as addrs
@@ -26,6 +26,7 @@ use Rattle.filt_meaning.specs.Configuration as meaning
 use Rattle.filt_meaning.specs.Configuration.{filter_where}
 use Rattle.filt_meaning.specs.Names.{Around}
 use Rattle.filt_tree.specs.declared.scope.Scope.{Scope}
+use Rattle.filt_tree.specs.declared.scope.TFunction.{TFunction}
 use Rattle.filt_tree.specs.declared.tree.TFilter.{TFilter}
 use Rattle.filt_tree.specs.Scopes.{constant_values, context_of, function_trees}
 use Rattle.filt_tree.specs.Trees as trees
@@ -69,12 +70,18 @@ or_v4 (Some family) = family
 
 -- ---- filters
 
+-- The functions that a filter sees were declared before it, so they see no constants but its own.
+abbrev pub AreBefore : List TFunction → TFilter → Type 0
+AreBefore functions f =
+    All (λ (g : TFunction). g.constants ≤ f.constants) (take f.functions functions)
+
 -- The tree does over the scope what the statements do behind these statements of a configuration.
-abbrev pub Does : (text : List ℕ) → Scope → (before : List conf.Declaration) → Statements
-    → TFilter → Type 0
-Does text scope before ss f = (around : Around) (attrs : Attrs)
-    → trees.judged around (constant_values scope) (function_trees scope) f attrs
-    ≡ meaning.judged (meaning.behind (meaning.at_start text around) before) ss attrs
+pub record Does (text : List ℕ) (scope : Scope) (before : List conf.Declaration)
+    (ss : Statements) (f : TFilter) : Type 0 where
+  pub says : (around : Around) (attrs : Attrs)
+      → trees.judged around (constant_values scope) (function_trees scope) f attrs
+      ≡ meaning.judged (meaning.behind (meaning.at_start text around) before) ss attrs
+  pub sees : AreBefore (function_trees scope) f
 
 -- the scope is seen as the meaning of filters sees the place behind these statements
 abbrev pub SeesAs : List ℕ → List conf.Declaration → Scope → Type 0
@@ -312,3 +319,7 @@ pub record IsChecked (text : List ℕ) (ds : List conf.Declaration) (checked : C
       checked.filters.items
   pub protocols : AreProtocols text (Does text checked.declared.scope) [] ds
       checked.protocols.items
+  -- no function sees more constants than there are
+  pub within : All
+      (λ (g : TFunction). g.constants ≤ length (constant_values checked.declared.scope))
+      (function_trees checked.declared.scope)

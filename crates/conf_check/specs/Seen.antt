@@ -29,14 +29,14 @@ use Rattle.conf_check.specs.Checked.{AreProtocols, DoEach, Does, SeesAs, IsProto
 
 -- ---- filters
 
--- The tree does what the statements do where the scope declares what there is, and sees no more
--- than the scope has.
+-- The tree does what the statements do where the scope declares what there is, and sees all of the
+-- scope's constants and functions.
 pub record Means (text : List ℕ) (scope : Scope) (ss : Statements) (f : TFilter) : Type 0 where
   pub does : (around : Around) (attrs : Attrs)
       → trees.judged around (constant_values scope) (function_trees scope) f attrs
       ≡ meaning.judged (context_of text around scope []) ss attrs
-  pub constants : f.constants ≤ length (constant_values scope)
-  pub functions : f.functions ≤ length (function_trees scope)
+  pub constants : f.constants ≡ length (constant_values scope)
+  pub functions : f.functions ≡ length (function_trees scope)
 
 -- as `Does`, and it goes on doing so where the scope declares more
 pub record Lasts (text : List ℕ) (scope : Scope) (before : List conf.Declaration)

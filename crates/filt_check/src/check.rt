@@ -25,7 +25,7 @@ use conf_ast::filters::{Block, Expr, Filter, Function, Stmt};
 use filt_rules::{
     first_in_block, first_in_condition, first_in_function, sort_given, weigh_block, weigh_condition,
 };
-use filt_tree::{Scope, TExpr, TFilter, TFunction, TStmt, depth};
+use filt_tree::{Scope, TExpr, TFilter, TFunction, TStmt};
 use std::alloc::Global;
 
 // ---- filters
@@ -101,12 +101,10 @@ pub fn resolve_filter(
         × (f.functions ≡ length (function_trees scope.now))) }
 {
     let block = resolve_block(alloc, text, scope, &[], body)?;
-    let depth = depth(&block.body);
     Ok(TFilter {
         constants: scope.constants.len(),
         functions: scope.functions.len(),
         sorts: block.sorts,
-        depth,
         body: block.body,
     })
 }
@@ -171,12 +169,10 @@ pub fn resolve_condition(
 {
     let x = resolve(alloc, text, scope, &[], condition)?;
     let body = where_body(alloc, x)?;
-    let depth = depth(&body);
     Ok(TFilter {
         constants: scope.constants.len(),
         functions: scope.functions.len(),
         sorts: Vec::new(alloc),
-        depth,
         body,
     })
 }
@@ -229,14 +225,12 @@ pub fn resolve_function(
     let names = parameter_names(alloc, text, &function.parameters)?;
     let parameters = parameter_sorts(alloc, &function.parameters)?;
     let block = resolve_block(alloc, text, scope, &names, &function.block.statements)?;
-    let depth = depth(&block.body);
     Ok(TFunction {
         parameters,
         gives: sort_given(function.gives),
         weight: weigh_block(text, scope, &function.block),
         constants: scope.constants.len(),
         sorts: block.sorts,
-        depth,
         body: block.body,
     })
 }

@@ -5,10 +5,8 @@
 //! No filter that was checked comes there.
 #![tactic(auto)]
 
-mod nesting;
 mod scope;
 mod tree;
 
-pub use nesting::depth;
 pub use scope::{Scope, TFunction};
 pub use tree::{Labels, TAccess, TArm, TExpr, TFilter, TStmt, TTarget, TTest};

@@ -16,9 +16,6 @@ pub struct TFunction {
     pub constants: usize,
     /// The sorts of the variables of its block, behind the parameters.
     pub sorts: Vec<Sort>,
-    /// How many nodes of its statements stand within one another at most (`depth`). A call of it
-    /// opens no more nodes at once, beside those of the functions that it calls.
-    pub depth: u32,
     pub body: Vec<TStmt>,
 }
 

@@ -107,7 +107,5 @@ pub struct TFilter {
     pub functions: usize,
     /// The sorts of the variables of its block.
     pub sorts: Vec<Sort>,
-    /// How many nodes of its statements stand within one another at most (`depth`).
-    pub depth: u32,
     pub body: Vec<TStmt>,
 }

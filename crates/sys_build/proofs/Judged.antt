@@ -1,7 +1,8 @@
 -- What is judged of conditions, one after another, and of a text by its lines and its conditions.
-use Rattle.std.proofs.Common.{◌≡◌, ◌∙◌, sym, ap, subst, refl, ℕ, zero, suc, ◌+◌, ◌<◌, ◌≤◌, List, [], ◌∷◌, ◌++◌, length, map, take, drop, get_or, Result, Ok, Err, arith, inl, inr}
-use Rattle.std.specs.Prelude.{IsErrAnd, MatchResult}
+use Rattle.std.proofs.Common.{◌≡◌, ◌∙◌, sym, ap, subst, refl, ℕ, zero, suc, ◌+◌, ◌<◌, ◌≤◌, All, List, [], ◌∷◌, ◌++◌, length, map, take, drop, get_or, Result, Ok, Err, arith, inl, inr}
+use Rattle.std.specs.Prelude.{IfOk, IsErrAnd, MatchResult}
 use Rattle.std.proofs.lemmas.List.{map-append, take_all, take_more}
+use Rattle.std.proofs.lemmas.List.Elements.{All-push}
 use Rattle.script_lines.specs.Script as lines
 use Rattle.script_lines.specs.declared.faults.ScriptKind.{ScriptKind}
 use Rattle.script_lines.specs.declared.script.Condition.{Condition}
@@ -62,6 +63,19 @@ first_refused system cs i c filters faults.Memory below is asked told = tt
 pub handed_on : {T : Type 0} (r : Result T ReadFault) (fault : ReadFault) (P : T → Type 0) (Q : ReadFault → Type 0) → IsErrAnd r (λ e. e ≡ fault) → Q fault → MatchResult r P Q
 handed_on (Ok x) fault P Q same is = absurd same
 handed_on (Err e) fault P Q same is = subst Q (sym same) is
+
+-- so nothing is there
+pub none_handed : {T : Type 0} (r : Result T ReadFault) (P : T → Type 0) (Q : ReadFault → Type 0) → IsErrAnd r Q → IfOk r P
+none_handed (Ok x) P Q is = absurd is
+none_handed (Err e) P Q is = tt
+
+-- ---- what holds of each
+
+pub none_before : {T : Type 0} (P : T → Type 0) → All P []
+none_before P = λ k d below. absurd (omega (arith, below))
+
+pub one_before : {T : Type 0} (P : T → Type 0) (old new : List T) (x : T) → new ≡ old ++ x ∷ [] → All P old → P x → All P new
+one_before P old new x pushed all is = subst (λ (l : List _). All P l) (sym pushed) (All-push P old x all is)
 
 -- ---- texts
 

@@ -1,38 +1,47 @@
 //! The filters by which queries choose.
-ghost use Rattle.std.specs.Prelude.{◌≡◌, ◌++◌, IfOk, map};
+ghost use Rattle.std.specs.Prelude.{◌≡◌, ◌++◌, All, IfOk, map};
 ghost use Rattle.sys_build.specs.Setups.{choices_of};
+ghost use Rattle.system.specs.Coded.{HasCode, IsBefore};
 ghost use Rattle.system.specs.Seen.{filter_says, system_of};
 
 use attrs::Judge;
 use bits_ip::OutOfMemory;
 use filt_tree::TFilter;
 use std::alloc::Global;
-use system::{Passes, System};
+use system::{Code, Passes, System};
 
 /// The filters that have names, by their numbers, and behind them conditions.
 pub(crate) fn choices<'a>(
     alloc: Global,
     system: &'a System,
+    code: &'a Code<'a>,
     conditions: &'a [TFilter],
 ) -> Result<Vec<Passes<'a>>, OutOfMemory>
+    requires code { HasCode system.now code.now }
+    requires before { All (IsBefore system.now) conditions.now }
     ensures { IfOk result (λ choices. map (⟦<Passes<'a> as Judge>⟧.verdict) choices.items
         ≡ choices_of (system_of system.now) (map (filter_says system.now) conditions.now)) }
 {
-    let mut choices = filters(alloc, system)?;
+    let mut choices = filters(alloc, system, code)?;
     for condition in conditions {
-        choices.push(system.filter(alloc, condition))?;
+        choices.push(system.filter(alloc, code, condition)?)?;
     }
     Ok(choices)
 }
 
 /// The filters that have names, by their numbers.
-fn filters<'a>(alloc: Global, system: &'a System) -> Result<Vec<Passes<'a>>, OutOfMemory>
+fn filters<'a>(
+    alloc: Global,
+    system: &'a System,
+    code: &'a Code<'a>,
+) -> Result<Vec<Passes<'a>>, OutOfMemory>
+    requires { HasCode system.now code.now }
     ensures { IfOk result (λ filters. map (⟦<Passes<'a> as Judge>⟧.verdict) filters.items
         ≡ map (λ filter. filter.1) (system_of system.now).filters) }
 {
     let mut filters = Vec::new(alloc);
     for number in 0..system.filter_count() {
-        filters.push(system.numbered(alloc, number))?;
+        filters.push(system.numbered(alloc, code, number))?;
     }
     Ok(filters)
 }

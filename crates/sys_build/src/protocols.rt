@@ -3,6 +3,7 @@ ghost use Rattle.std.specs.Prelude.{◌≡◌, ◌≤◌, IfOk, length, map, opt
 ghost use Rattle.sys_build.specs.Setups as setups;
 ghost use Rattle.sys_build.specs.Setups.{action_of, bgp_of, body_of, dest_of, fixed_of, gateway_of, limit_of, pipe_of, protocol_of, protocols_from, static_of};
 ghost use Rattle.sys_run.specs.Parts.{body_seen, pipe_seen, protocol_seen, source_seen};
+ghost use Rattle.system.specs.Coded.{BodyBefore, ChannelBefore, HasCode, PolicyBefore, ProtocolBefore};
 ghost use Rattle.system.specs.Seen as seen;
 ghost use Rattle.system.specs.Seen.{bgp_seen, policy_says, static_seen, system_of};
 
@@ -19,20 +20,22 @@ use import_core::{Action, Fixed, ImportSpec, Limit};
 use protos::{bgp_spec, static_spec};
 use std::alloc::Global;
 use sys_run::{BodyParts, ExportParts, PipeParts, ProtocolParts, SourceParts};
-use system::{Passes, System};
+use system::{Code, Passes, System};
 
 /// The protocols, by their numbers.
 pub(crate) fn protocols<'a>(
     alloc: Global,
     system: &'a System,
+    code: &'a Code<'a>,
 ) -> Result<Vec<ProtocolParts<Passes<'a>>>, OutOfMemory>
-    requires { length (system_of system.now).protocols ≤ 256 }
+    requires code { HasCode system.now code.now }
+    requires few { length (system_of system.now).protocols ≤ 256 }
     ensures { IfOk result (λ parts. map (protocol_seen ⟦<Passes<'a> as Judge>⟧.verdict) parts.items
         ≡ protocols_from 0 (system_of system.now).protocols) }
 {
     let mut parts = Vec::new(alloc);
     for (number, def) in system.checked.protocols.iter().enumerate() {
-        parts.push(protocol(alloc, system, number as u32, def)?)?;
+        parts.push(protocol(alloc, system, code, number as u32, def)?)?;
     }
     Ok(parts)
 }
@@ -41,16 +44,19 @@ pub(crate) fn protocols<'a>(
 fn protocol<'a>(
     alloc: Global,
     system: &'a System,
+    code: &'a Code<'a>,
     number: u32,
     def: &'a ProtocolDef,
 ) -> Result<ProtocolParts<Passes<'a>>, OutOfMemory>
+    requires code { HasCode system.now code.now }
+    requires before { ProtocolBefore system.now def.now }
     ensures { IfOk result (λ parts. protocol_seen ⟦<Passes<'a> as Judge>⟧.verdict parts
         ≡ protocol_of number
         (seen.protocol_seen system.now.checked.declared.scope system.now.checked.filters.items
         system.now.names def.now)) }
 {
     let name = copied(alloc, def.name.as_slice())?;
-    let body = body_parts(alloc, system, number, &def.body)?;
+    let body = body_parts(alloc, system, code, number, &def.body)?;
     Ok(ProtocolParts { name, body })
 }
 
@@ -58,28 +64,40 @@ fn protocol<'a>(
 fn body_parts<'a>(
     alloc: Global,
     system: &'a System,
+    code: &'a Code<'a>,
     number: u32,
     def: &'a ProtocolBody,
 ) -> Result<BodyParts<Passes<'a>>, OutOfMemory>
+    requires code { HasCode system.now code.now }
+    requires before { BodyBefore system.now def.now }
     ensures { IfOk result (λ parts. body_seen ⟦<Passes<'a> as Judge>⟧.verdict parts
         ≡ body_of number
         (seen.body_seen system.now.checked.declared.scope system.now.checked.filters.items
         system.now.names def.now)) }
 {
     match def {
-        ProtocolBody::Static(p) => Ok(BodyParts::Source(static_source(alloc, system, number, p)?)),
-        ProtocolBody::Bgp(p) => Ok(BodyParts::Source(bgp_source(alloc, system, number, p))),
-        ProtocolBody::Pipe(p) => Ok(BodyParts::Pipe(pipe(alloc, system, p))),
+        ProtocolBody::Static(p) => {
+            Ok(BodyParts::Source(static_source(alloc, system, code, number, p)?))
+        }
+        ProtocolBody::Bgp(p) => Ok(BodyParts::Source(bgp_source(alloc, system, code, number, p)?)),
+        ProtocolBody::Pipe(p) => Ok(BodyParts::Pipe(pipe(alloc, system, code, p)?)),
     }
 }
 
 /// A policy of the configuration, as a filter.
-fn passes<'a>(alloc: Global, system: &'a System, policy: &'a PolicyDef) -> Passes<'a>
-    ensures { ⟦<Passes<'a> as Judge>⟧.verdict result
+fn passes<'a>(
+    alloc: Global,
+    system: &'a System,
+    code: &'a Code<'a>,
+    policy: &'a PolicyDef,
+) -> Result<Passes<'a>, OutOfMemory>
+    requires code { HasCode system.now code.now }
+    requires before { PolicyBefore system.now policy.now }
+    ensures { IfOk result (λ passes. ⟦<Passes<'a> as Judge>⟧.verdict passes
         ≡ policy_says system.now.checked.declared.scope system.now.checked.filters.items
-        system.now.names policy.now }
+        system.now.names policy.now) }
 {
-    system.passes(alloc, policy)
+    system.passes(alloc, code, policy)
 }
 
 // ---- static protocols
@@ -87,18 +105,22 @@ fn passes<'a>(alloc: Global, system: &'a System, policy: &'a PolicyDef) -> Passe
 fn static_source<'a>(
     alloc: Global,
     system: &'a System,
+    code: &'a Code<'a>,
     number: u32,
     def: &'a StaticDef,
 ) -> Result<SourceParts<Passes<'a>>, OutOfMemory>
+    requires code { HasCode system.now code.now }
+    requires before { ChannelBefore system.now def.now.channel }
     ensures { IfOk result (λ parts. source_seen ⟦<Passes<'a> as Judge>⟧.verdict parts
         ≡ static_of number
         (static_seen system.now.checked.declared.scope system.now.checked.filters.items
         system.now.names def.now)) }
 {
+    let judge = passes(alloc, system, code, &def.channel.import)?;
     Ok(SourceParts {
         table: def.channel.table,
         spec: static_imports(alloc, number, def)?,
-        judge: passes(alloc, system, &def.channel.import),
+        judge,
         exports: None,
     })
 }
@@ -166,23 +188,28 @@ fn gateway_of(target: &StaticTarget) -> Option<Addr>
 fn bgp_source<'a>(
     alloc: Global,
     system: &'a System,
+    code: &'a Code<'a>,
     number: u32,
     def: &'a BgpDef,
-) -> SourceParts<Passes<'a>>
-    ensures { source_seen ⟦<Passes<'a> as Judge>⟧.verdict result
+) -> Result<SourceParts<Passes<'a>>, OutOfMemory>
+    requires code { HasCode system.now code.now }
+    requires before { ChannelBefore system.now def.now.channel }
+    ensures { IfOk result (λ parts. source_seen ⟦<Passes<'a> as Judge>⟧.verdict parts
         ≡ bgp_of number
         (bgp_seen system.now.checked.declared.scope system.now.checked.filters.items
-        system.now.names def.now) }
+        system.now.names def.now)) }
 {
-    SourceParts {
+    let import = passes(alloc, system, code, &def.channel.import)?;
+    let export = passes(alloc, system, code, &def.channel.export)?;
+    Ok(SourceParts {
         table: def.channel.table,
         spec: bgp_imports(alloc, number, def),
-        judge: passes(alloc, system, &def.channel.import),
+        judge: import,
         exports: Some(ExportParts {
             spec: gate(alloc, number, def),
-            judge: passes(alloc, system, &def.channel.export),
+            judge: export,
         }),
-    }
+    })
 }
 
 /// Whether the neighbour is in another autonomous system.
@@ -230,18 +257,28 @@ fn gate(alloc: Global, number: u32, def: &BgpDef) -> ExportSpec
 
 // ---- pipes
 
-fn pipe<'a>(alloc: Global, system: &'a System, def: &'a PipeDef) -> PipeParts<Passes<'a>>
-    ensures { pipe_seen ⟦<Passes<'a> as Judge>⟧.verdict result
+fn pipe<'a>(
+    alloc: Global,
+    system: &'a System,
+    code: &'a Code<'a>,
+    def: &'a PipeDef,
+) -> Result<PipeParts<Passes<'a>>, OutOfMemory>
+    requires code { HasCode system.now code.now }
+    requires import { PolicyBefore system.now def.now.import }
+    requires export { PolicyBefore system.now def.now.export }
+    ensures { IfOk result (λ parts. pipe_seen ⟦<Passes<'a> as Judge>⟧.verdict parts
         ≡ pipe_of
         (seen.pipe_seen system.now.checked.declared.scope system.now.checked.filters.items
-        system.now.names def.now) }
+        system.now.names def.now)) }
 {
-    PipeParts {
+    let export = passes(alloc, system, code, &def.export)?;
+    let import = passes(alloc, system, code, &def.import)?;
+    Ok(PipeParts {
         primary: def.table,
         peer: def.peer,
-        export: passes(alloc, system, &def.export),
-        import: passes(alloc, system, &def.import),
-    }
+        export,
+        import,
+    })
 }
 
 // ---- limits

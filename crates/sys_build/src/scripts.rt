@@ -1,8 +1,9 @@
 //! Scripts, with what their conditions ask for.
-ghost use Rattle.std.specs.Prelude.{◌<◌, ◌+◌, ◌-◌, ◌^◌, ℕ, List, MatchResult, length, map};
+ghost use Rattle.std.specs.Prelude.{◌<◌, ◌+◌, ◌-◌, ◌^◌, ℕ, All, IfOk, List, MatchResult, length, map};
 ghost use Rattle.script_lines.specs.Script as lines;
 ghost use Rattle.sys_build.specs.Scripts.{Accepted, Answers, AreAsked, Tells, TellsFirst, TellsOne};
 ghost use Rattle.sys_build.specs.Names.{named_of};
+ghost use Rattle.system.specs.Coded.{AreOrdered, IsBefore};
 ghost use Rattle.system.specs.Conditions.{IsCondition};
 ghost use Rattle.system.specs.Seen.{filter_says, system_of};
 ghost use Rattle.system.specs.Texts.{IsSystem};
@@ -51,11 +52,13 @@ pub enum ReadFault {
 pub fn read_script(alloc: Global, text: &[u8], system: &System) -> Result<ReadScript, ReadFault>
     requires { (conf : List ℕ) × IsSystem conf (system_of system.now)
         × (length conf + length text.now < 2 ^ 32 - 1) }
-    ensures { MatchResult result
+    ensures told { MatchResult result
         (λ script. Answers (system_of system.now) text.now
         (Accepted (map (λ phase. phase.items) script.phases.items) script.actors.items
         script.queries.items (map (filter_says system.now) script.filters.items)))
         (Tells (system_of system.now) text.now) }
+    ensures before { AreOrdered system.now
+        → IfOk result (λ script. All (IsBefore system.now) script.filters.items) }
 {
     accepted_configurations_are_few();
     accepted_configurations_have_their_tables();
@@ -87,11 +90,13 @@ fn accepted(
     requires { lines.Answers (named_of (system_of system.now)) text.now
         (lines.Accepted (map (λ phase. phase.items) script.phases.items) script.actors.items
         script.queries.items script.conditions.items) }
-    ensures { MatchResult result
+    ensures told { MatchResult result
         (λ read. Answers (system_of system.now) text.now
         (Accepted (map (λ phase. phase.items) read.phases.items) read.actors.items
         read.queries.items (map (filter_says system.now) read.filters.items)))
         (Tells (system_of system.now) text.now) }
+    ensures before { AreOrdered system.now
+        → IfOk result (λ read. All (IsBefore system.now) read.filters.items) }
 {
     let filters = judged(alloc, system, &script.conditions)?;
     Ok(ReadScript {
@@ -114,11 +119,13 @@ fn refused(
 ) -> Result<ReadScript, ReadFault>
     requires { lines.Answers (named_of (system_of system.now)) text.now
         (lines.Refused line kind conditions.now) }
-    ensures { MatchResult result
+    ensures told { MatchResult result
         (λ read. Answers (system_of system.now) text.now
         (Accepted (map (λ phase. phase.items) read.phases.items) read.actors.items
         read.queries.items (map (filter_says system.now) read.filters.items)))
         (Tells (system_of system.now) text.now) }
+    ensures before { AreOrdered system.now
+        → IfOk result (λ read. All (IsBefore system.now) read.filters.items) }
 {
     let _judged = judged(alloc, system, conditions)?;
     Err(ReadFault::Refused { line, kind })
@@ -130,10 +137,12 @@ fn judged(
     system: &System,
     conditions: &[Condition],
 ) -> Result<Vec<TFilter>, ReadFault>
-    ensures { MatchResult result
+    ensures told { MatchResult result
         (λ filters. AreAsked (system_of system.now) conditions.now
         (map (filter_says system.now) filters.items))
         (TellsFirst (system_of system.now) conditions.now) }
+    ensures before { AreOrdered system.now
+        → IfOk result (λ filters. All (IsBefore system.now) filters.items) }
 {
     let mut filters = Vec::new(alloc);
     for condition in conditions {
@@ -144,10 +153,11 @@ fn judged(
 
 /// What a condition asks for, where it isn't refused.
 fn judge(alloc: Global, system: &System, condition: &Condition) -> Result<TFilter, ReadFault>
-    ensures { MatchResult result
+    ensures told { MatchResult result
         (λ filter. IsCondition (system_of system.now) condition.now.text
         (filter_says system.now filter))
         (TellsOne (system_of system.now) condition.now) }
+    ensures before { AreOrdered system.now → IfOk result (IsBefore system.now) }
 {
     match system.condition(alloc, condition.text.as_slice()) {
         Ok(Some(filter)) => Ok(filter),

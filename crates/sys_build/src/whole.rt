@@ -1,8 +1,9 @@
 //! The core of a configuration.
-ghost use Rattle.std.specs.Prelude.{◌≡◌, ℕ, [], List, IfOk, map};
+ghost use Rattle.std.specs.Prelude.{◌≡◌, ℕ, [], All, List, IfOk, map};
 ghost use Rattle.core_setup.specs.Setup.{IsSetup};
 ghost use Rattle.sys_run.specs.Playing.{HasPlayed};
 ghost use Rattle.sys_build.specs.Setups.{IsPlayable, setup_of};
+ghost use Rattle.system.specs.Coded.{HasCode, IsBefore};
 ghost use Rattle.system.specs.Seen.{filter_says, system_of};
 
 use crate::choices::choices;
@@ -16,22 +17,26 @@ use std::alloc::Global;
 use std::hash::RandomState;
 use sys_run::Core;
 use system::laws::configurations_have_few_protocols;
-use system::{Passes, System};
+use system::{Code, Passes, System};
 
 /// The core of an accepted configuration, which has played nothing, for a script of these
-/// conditions and queries. The journal of each table holds so many changes. Keys that others choose
-/// are hashed by the hasher, on which nothing that is printed depends.
+/// conditions and queries, over the configuration's code. The journal of each table holds so many
+/// changes. The conditions and the policies' own filters are compiled. Keys that others choose are
+/// hashed by the hasher, on which nothing that is printed depends.
 ///
 /// `OutOfMemory` comes where memory is refused.
 pub fn build<'a>(
     alloc: Global,
     hasher: RandomState,
     system: &'a System,
+    code: &'a Code<'a>,
     conditions: &'a [TFilter],
     queries: Vec<Query>,
     cells: u32,
 ) -> Result<Core<Passes<'a>>, OutOfMemory>
     requires playable { IsPlayable (system_of system.now) }
+    requires code { HasCode system.now code.now }
+    requires before { All (IsBefore system.now) conditions.now }
     requires setup { IsSetup (setup_of (system_of system.now) cells
         (map (filter_says system.now) conditions.now) queries.items) }
     ensures { IfOk result (λ core. (actors : List (List ℕ))
@@ -42,7 +47,7 @@ pub fn build<'a>(
 {
     configurations_have_few_protocols();
     let tables = tables(alloc, system)?;
-    let protocols = protocols(alloc, system)?;
-    let choices = choices(alloc, system, conditions)?;
+    let protocols = protocols(alloc, system, code)?;
+    let choices = choices(alloc, system, code, conditions)?;
     Core::make(alloc, hasher, cells, tables, protocols, choices, queries)
 }

@@ -53,7 +53,7 @@ module _ (text : List ℕ) (scope : Scope) (filters : List TFilter) (names : Lis
   Says = seen.policy_says scope filters names
 
   tree_does : (before : List conf.Declaration) (ss : Statements) (f : TFilter) → Does text scope before ss f → seen.tree_says scope names f ≡ by_source text names (Some (before, ss))
-  tree_does before ss f does = fun_ext (λ net. fun_ext (λ route. does (around_route names net route) route.attrs))
+  tree_does before ss f does = fun_ext (λ net. fun_ext (λ route. does.says (around_route names net route) route.attrs))
 
   -- the filter of a number
   numbered_says : (sources : List Source) (fs : List TFilter) → DoEach (Does text scope) sources fs → (n : ℕ)

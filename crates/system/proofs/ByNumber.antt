@@ -1,8 +1,11 @@
 -- The filters that have names, by their numbers.
-use Rattle.std.proofs.Common.{◌≡◌, ◌∙◌, sym, ap, ℕ, zero, suc, ◌<◌, ◌≤◌, min, List, [], ◌∷◌, length, map, Some, None, arith}
+use Rattle.std.proofs.Common.{◌≡◌, ◌∙◌, sym, ap, refl, ℕ, zero, suc, ◌<◌, ◌≤◌, min, List, [], ◌∷◌, length, map, Some, None, arith}
 use Rattle.std.proofs.lemmas.Option.{none-some}
-use Rattle.std.specs.Prelude.{slice_get, slice_index_or}
+use Rattle.std.specs.Prelude.{slice_get}
 use Rattle.filt_tree.specs.Scopes.{named}
+use Rattle.filt_tree.specs.declared.scope.Scope.{Scope}
+use Rattle.filt_tree.specs.declared.tree.TFilter.{TFilter}
+use Rattle.system.specs.Seen.{numbered, tree_says}
 
 pub count_of : {A : Type 0} (ns : List (List ℕ)) (xs : List A) → length (named ns xs) ≡ min (length ns) (length xs)
 count_of [] xs = omega arith
@@ -14,12 +17,6 @@ name_at [] xs i n less is = absurd (omega (arith, less))
 name_at (m ∷ ns) [] i n less is = absurd (omega (arith, less))
 name_at (m ∷ ns) (x ∷ xs) zero n less is = is
 name_at (m ∷ ns) (x ∷ xs) (suc i) n less is = name_at ns xs i n (omega (arith, less)) is
-
-pub value_at : {A : Type 0} (ns : List (List ℕ)) (xs : List A) (i : ℕ) (x : A) → i < length (named ns xs) → slice_get xs i ≡ Some x → slice_get (map (λ f. f.1) (named ns xs)) i ≡ Some x
-value_at [] xs i y less is = absurd (omega (arith, less))
-value_at (m ∷ ns) [] i y less is = absurd (omega (arith, less))
-value_at (m ∷ ns) (x ∷ xs) zero y less is = is
-value_at (m ∷ ns) (x ∷ xs) (suc i) y less is = value_at ns xs i y (omega (arith, less)) is
 
 pub got_seen : {D S : Type 0} (see : D → S) (ds : List D) (i : ℕ) (d : D) → slice_get ds i ≡ Some d → slice_get (map see ds) i ≡ Some (see d)
 got_seen see [] i d is = absurd cc
@@ -35,7 +32,10 @@ none_past [] i is less = omega (arith, less)
 none_past (x ∷ xs) zero is less = none-some x is
 none_past (x ∷ xs) (suc i) is less = none_past xs i is (omega (arith, less))
 
-pub got_at : {A : Type 0} (xs : List A) (i : ℕ) (x : A) → i < length xs → x ≡ slice_index_or xs i x → slice_get xs i ≡ Some x
-got_at [] i x less is = absurd (omega (arith, less))
-got_at (y ∷ xs) zero x less is = ap (λ (z : _). Some z) (sym is)
-got_at (y ∷ xs) (suc i) x less is = got_at xs i x (omega (arith, less)) is
+-- the filter of a number, which is there
+pub number_says : (scope : Scope) (filters : List TFilter) (names : List (List ℕ)) (ns : List (List ℕ)) (fs : List TFilter) (i : ℕ) → i < length (named ns (map (tree_says scope names) fs))
+    → slice_get (map (λ f. f.1) (named ns (map (tree_says scope names) fs))) i ≡ Some (numbered scope filters names (slice_get fs i))
+number_says scope filters names [] fs i less = absurd (omega (arith, less))
+number_says scope filters names (n ∷ ns) [] i less = absurd (omega (arith, less))
+number_says scope filters names (n ∷ ns) (f ∷ fs) zero less = refl
+number_says scope filters names (n ∷ ns) (f ∷ fs) (suc i) less = number_says scope filters names ns fs i (omega (arith, less))

@@ -2,11 +2,13 @@ pub mod Accepted
 pub mod Agrees
 pub mod AskedOnce
 pub mod ByNumber
+pub mod Coding
 pub mod Conditions
 pub mod Counted
 pub mod Few
 pub mod FewNames
 pub mod Forest
+pub mod Ordered
 pub mod SaidOnce
 pub mod TablesThere
 pub mod Told

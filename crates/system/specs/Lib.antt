@@ -1,6 +1,7 @@
 pub mod Pipes
 pub mod Policies
 pub mod Asked
+pub mod Coded
 pub mod Conditions
 pub mod System
 pub mod Tables

@@ -18,12 +18,17 @@ use Rattle.conf_check.specs.declared.checked.StaticDef.{StaticDef}
 use Rattle.conf_ast.specs.Filters.{Expression}
 use Rattle.filt_meaning.specs.Configuration as meaning
 use Rattle.filt_meaning.specs.Configuration.{around_route, filter_where}
+use Rattle.filt_code.specs.Codes.{code_judged}
+use Rattle.filt_code.specs.declared.code.Draft.{Draft}
+use Rattle.filt_code.specs.declared.code.Routine.{Routine}
 use Rattle.filt_rules.specs.Refused.{of_filter}
 use Rattle.filt_types.specs.Seen.{scene_of}
 use Rattle.filt_tree.specs.Scopes.{constant_values, context_of, function_trees, named}
 use Rattle.filt_tree.specs.Trees.{judged}
 use Rattle.filt_tree.specs.declared.scope.Scope.{Scope}
+use Rattle.filt_tree.specs.declared.scope.TFunction.{TFunction}
 use Rattle.filt_tree.specs.declared.tree.TFilter.{TFilter}
+use Rattle.filt_values.specs.declared.fixed.Fixed.{Fixed}
 use Rattle.system.specs.Asked.{Asked, unless_refused}
 use Rattle.system.specs.Policies.{Filter}
 use Rattle.system.specs.System.{Bgp, Body, Channel, IsBgp, IsPipe, IsStatic, Pipe, Protocol, Static, System}
@@ -39,11 +44,29 @@ tree_says scope names f net route =
     judged (around_route names net route) (constant_values scope) (function_trees scope) f
     route.attrs
 
+-- what the tree of a filter says over these constants and functions
+abbrev pub tree_over : List Fixed → List TFunction → (names : List (List ℕ)) → TFilter → Filter
+tree_over constants functions names f net route =
+    judged (around_route names net route) constants functions f route.attrs
+
+-- what the code of a filter says over that of functions
+abbrev pub draft_says : List Routine → (names : List (List ℕ)) → Draft → Filter
+draft_says functions names draft net route =
+    code_judged (around_route names net route) functions draft route.attrs
+
+-- so of a filter by its number
+abbrev pub drafted : List Routine → (names : List (List ℕ)) → Option Draft → Filter
+drafted functions names None net route = verdicts.Reject None
+drafted functions names (Some draft) net route = draft_says functions names draft net route
+
 -- what a judge says that goes by this rule
-abbrev pub rule_says : Scope → (names : List (List ℕ)) → Rule → Filter
-rule_says scope names rules.All net route = verdicts.Accept route.attrs
-rule_says scope names rules.None net route = verdicts.Reject None
-rule_says scope names (rules.Filter f) net route = tree_says scope names f.now net route
+abbrev pub rule_says : List Routine → (names : List (List ℕ)) → Rule → Filter
+rule_says functions names rules.All net route = verdicts.Accept route.attrs
+rule_says functions names rules.None net route = verdicts.Reject None
+rule_says functions names (rules.Filter draft) net route =
+    draft_says functions names draft.now net route
+rule_says functions names (rules.Own draft) net route =
+    draft_says functions names draft net route
 
 -- What policies and protocols do over a scope with these filters by number, where protocols have
 -- these names.

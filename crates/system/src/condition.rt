@@ -1,10 +1,13 @@
 //! Conditions that stand in texts of their own.
-ghost use Rattle.std.specs.Prelude.{◌≡◌, ℕ, List, Option, IfOk, IsSome, MatchOption};
+ghost use Rattle.std.specs.Prelude.{◌≡◌, ℕ, List, Option, IfOk, IfSome, IsSome, MatchOption};
 ghost use Rattle.conf_ast.specs.Filters.{expression_of};
 ghost use Rattle.conf_lex.specs.Lex.{Lexes};
+ghost use Rattle.conf_check.specs.Checked.{AreBefore};
 ghost use Rattle.filt_check.specs.Answers.{IsFault};
+ghost use Rattle.filt_tree.specs.Scopes.{function_trees};
 ghost use Rattle.filt_types.specs.declared.refusal.Refusal.{Refusal};
 ghost use Rattle.system.specs.Asked.{Asks, Refuses};
+ghost use Rattle.system.specs.Coded.{AreOrdered, AreWithin, IsBefore};
 ghost use Rattle.system.specs.Conditions.{IsCondition, IsExpressionText, IsNoExpression, RefusesCondition};
 ghost use Rattle.system.specs.Seen.{asked_over, filter_says, system_of, tree_says};
 
@@ -59,9 +62,11 @@ pub(crate) fn answered(
 ) -> Result<Option<TFilter>, OutOfMemory>
     requires { MatchOption found.now (IsNoExpression text.now)
         (λ tree. IsExpressionText text.now (expression_of tree)) }
-    ensures { IfOk result (λ answer. MatchOption answer
+    ensures condition { IfOk result (λ answer. MatchOption answer
         (RefusesCondition (system_of system.now) text.now)
         (λ filter. IsCondition (system_of system.now) text.now (filter_says system.now filter))) }
+    ensures before { AreOrdered system.now
+        → IfOk result (λ answer. IfSome answer (IsBefore system.now)) }
 {
     match found {
         Some(tree) => checked(alloc, text, &system.checked.declared.scope, tree),
@@ -76,11 +81,13 @@ fn checked(
     scope: &Scope,
     condition: &Expr,
 ) -> Result<Option<TFilter>, OutOfMemory>
-    ensures { (names : List (List ℕ))
+    ensures asked { (names : List (List ℕ))
         → IfOk result (λ answer. MatchOption answer
         (asked_over scope.now names text.now (expression_of condition.now) ≡ Refuses)
         (λ filter. asked_over scope.now names text.now (expression_of condition.now)
         ≡ Asks (tree_says scope.now names filter))) }
+    ensures before { AreWithin scope.now
+        → IfOk result (λ answer. IfSome answer (AreBefore (function_trees scope.now))) }
 {
     match check_expr(alloc, text, scope, 0, condition) {
         Ok(filter) => Ok(Some(filter)),

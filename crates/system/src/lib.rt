@@ -3,17 +3,20 @@
 //!
 //! `read_system` reads a text: the system, or where it is refused and why (`specs/Texts`).
 //! `System::condition` reads a condition that stands elsewhere, over the system
-//! (`specs/Conditions`). Policies, filters and conditions are judges of one type (`Passes`):
-//! `System::passes` gives the one of a channel's or a pipe's policy, `System::filter` that of a
-//! filter. What holds of each text and of each accepted configuration are the `laws`.
+//! (`specs/Conditions`). Filters run as code: `System::code` compiles the functions and the filters
+//! by name, once each (`Code`). Policies, filters and conditions are judges of one type over it
+//! (`Passes`): `System::passes` gives the one of a channel's or a pipe's policy, `System::filter`
+//! that of a filter. What holds of each text and of each accepted configuration are the `laws`.
 #![tactic(auto)]
 
+mod code;
 mod condition;
 pub mod laws;
 mod passes;
 mod read;
 mod system;
 
+pub use code::Code;
 pub use passes::Passes;
 pub use read::{SystemFault, read_system};
 pub use system::System;

@@ -1,83 +1,69 @@
-ghost use Rattle.std.specs.Prelude.{◌≡◌, ◌^◌, ℕ, List};
-ghost use Rattle.filt_tree.specs.declared.scope.Scope.{Scope};
-ghost use Rattle.system.specs.Seen.{policy_says, rule_says};
+ghost use Rattle.std.specs.Prelude.{◌≡◌};
+ghost use Rattle.system.specs.Seen.{rule_says};
 
+use crate::code::Code;
 use attrs::{Judge, Names, Route, Verdict};
 use bits_ip::{OutOfMemory, Prefix};
-use conf_check::PolicyDef;
-use filt_comp::run_tree;
-use filt_tree::{Scope, TFilter};
+use filt_code::Draft;
+use filt_vm::run;
 use std::alloc::Global;
 
 /// What a judge goes by.
-#[derive(Clone, Copy)]
+#[derive(Drop)]
 pub(crate) enum Rule<'a> {
     /// Each route is accepted.
     All,
     /// None is.
     None,
-    /// What this filter says.
-    Filter(&'a TFilter),
+    /// What this code of a filter by name says.
+    Filter(&'a Draft<'a>),
+    /// What this code says.
+    Own(Draft<'a>),
 }
 
-/// A policy, a filter by name or a condition, as one that judges routes (BIRD User's Guide,
-/// "Channel options", `import` and `export`, and "Remote control", `show route`).
-#[derive(Clone, Copy)]
+/// A policy, a filter by name or a condition, as one that judges routes by its code (BIRD User's
+/// Guide, "Channel options", `import` and `export`, and "Remote control", `show route`).
+#[derive(Drop)]
 pub struct Passes<'a> {
     alloc: Global,
-    scope: &'a Scope,
+    code: &'a Code<'a>,
     names: &'a Names,
     rule: Rule<'a>,
 }
 
 impl<'a> Passes<'a> {
-    /// The judge by a rule over a scope, with the names of the protocols.
+    /// The judge by a rule, over the code of the functions, with the names of the protocols.
     pub(crate) fn new(
         alloc: Global,
-        scope: &'a Scope,
+        code: &'a Code<'a>,
         names: &'a Names,
         rule: Rule<'a>,
     ) -> Passes<'a>
         ensures { ⟦<Passes<'a> as Judge>⟧.verdict result
-            ≡ rule_says scope.now names.now rule.entry }
+            ≡ rule_says code.now.functions.items names.now rule.entry }
     {
         Passes {
             alloc,
-            scope,
+            code,
             names,
             rule,
         }
     }
 }
 
-/// The rule of a policy, with the filters by their numbers.
-pub(crate) fn rule_of<'a>(policy: &'a PolicyDef, filters: &'a Vec<TFilter>) -> Rule<'a>
-    ensures { (scope : Scope) (names : List (List ℕ)) → rule_says scope names result
-        ≡ policy_says scope filters.now.items names policy.now }
-{
-    match policy {
-        PolicyDef::All => Rule::All,
-        PolicyDef::None => Rule::None,
-        PolicyDef::Filter(number) => match filters.get(*number) {
-            Some(filter) => Rule::Filter(filter),
-            None => Rule::None,
-        },
-        PolicyDef::Own(filter) => Rule::Filter(filter),
-    }
-}
-
 impl Judge for Passes<'_> {
     ghost use Rattle.system.specs.Seen.{rule_says};
 
-    ghost verdict = { λ p net route. rule_says p.scope.now p.names.now p.rule net route };
+    ghost verdict = { λ p net route.
+        rule_says p.code.now.functions.items p.names.now p.rule net route };
 
     fn judge(&self, net: &Prefix, route: &Route) -> Result<Verdict, OutOfMemory> {
-        match self.rule {
+        let functions = self.code.functions.as_slice();
+        match &self.rule {
             Rule::All => Ok(Verdict::Accept(route.attrs.share()?)),
             Rule::None => Ok(Verdict::Reject(None)),
-            Rule::Filter(filter) => {
-                run_tree(self.alloc, self.scope, filter, self.names, net, route)
-            }
+            Rule::Filter(draft) => run(self.alloc, draft, functions, self.names, net, route),
+            Rule::Own(draft) => run(self.alloc, draft, functions, self.names, net, route),
         }
     }
 }

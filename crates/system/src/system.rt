@@ -1,13 +1,16 @@
-ghost use Rattle.std.specs.Prelude.{◌≡◌, ◌<◌, Some, length, map, slice_get, IfOk, MatchOption};
+ghost use Rattle.std.specs.Prelude.{◌≡◌, ◌<◌, Some, length, map, slice_get, IfOk, IfSome, MatchOption};
 ghost use Rattle.std.specs.String.{string_bytes};
+ghost use Rattle.system.specs.Coded.{AreOrdered, HasCode, IsBefore, PolicyBefore};
 ghost use Rattle.system.specs.Conditions.{IsCondition, RefusesCondition};
-ghost use Rattle.system.specs.Seen.{filter_says, policy_says, system_of};
+ghost use Rattle.system.specs.Seen.{filter_says, numbered, policy_says, rule_says, system_of};
 
+use crate::code::{Code, constants, drafts, functions, rule_at};
 use crate::condition::{answered, expression};
-use crate::passes::{Passes, Rule, rule_of};
+use crate::passes::{Passes, Rule};
 use attrs::{Judge, Names};
 use bits_ip::OutOfMemory;
 use conf_check::{Checked, PolicyDef, ProtocolDef};
+use filt_compile::{compile, library};
 use filt_tree::TFilter;
 use std::alloc::Global;
 
@@ -21,22 +24,101 @@ pub struct System {
 }
 
 impl System {
-    /// What a policy of the configuration says of routes.
-    pub fn passes<'a>(&'a self, alloc: Global, policy: &'a PolicyDef) -> Passes<'a>
-        ensures { ⟦<Passes<'a> as Judge>⟧.verdict result
-            ≡ policy_says self.now.checked.declared.scope self.now.checked.filters.items
-            self.now.names policy.now }
+    /// The code of the configuration's functions, and of its filters by name.
+    ///
+    /// `OutOfMemory` comes where memory is refused.
+    pub fn code<'a>(&'a self, alloc: Global) -> Result<Code<'a>, OutOfMemory>
+        requires { AreOrdered self.now }
+        ensures { IfOk result (HasCode self.now) }
     {
-        let rule = rule_of(policy, &self.checked.filters);
-        Passes::new(alloc, &self.checked.declared.scope, &self.names, rule)
+        let constants = constants(&self.checked.declared.scope);
+        let trees = functions(&self.checked.declared.scope);
+        let functions = library(alloc, constants, trees)?;
+        let filters = drafts(alloc, constants, &functions, &self.checked.filters)?;
+        Ok(Code { functions, filters })
     }
 
-    /// What a filter or a condition, checked behind the configuration, says of routes.
-    pub fn filter<'a>(&'a self, alloc: Global, filter: &'a TFilter) -> Passes<'a>
-        ensures { ⟦<Passes<'a> as Judge>⟧.verdict result ≡ filter_says self.now filter.now }
+    /// What a policy of the configuration says of routes. A filter of its own is compiled.
+    pub fn passes<'a>(
+        &'a self,
+        alloc: Global,
+        code: &'a Code<'a>,
+        policy: &'a PolicyDef,
+    ) -> Result<Passes<'a>, OutOfMemory>
+        requires code { HasCode self.now code.now }
+        requires before { PolicyBefore self.now policy.now }
+        ensures { IfOk result (λ passes. ⟦<Passes<'a> as Judge>⟧.verdict passes
+            ≡ policy_says self.now.checked.declared.scope self.now.checked.filters.items
+            self.now.names policy.now) }
     {
-        let rule = Rule::Filter(filter);
-        Passes::new(alloc, &self.checked.declared.scope, &self.names, rule)
+        let rule = self.rule(alloc, code, policy)?;
+        Ok(Passes::new(alloc, code, &self.names, rule))
+    }
+
+    /// The rule of a policy.
+    fn rule<'a>(
+        &'a self,
+        alloc: Global,
+        code: &'a Code<'a>,
+        policy: &'a PolicyDef,
+    ) -> Result<Rule<'a>, OutOfMemory>
+        requires code { HasCode self.now code.now }
+        requires before { PolicyBefore self.now policy.now }
+        ensures { IfOk result (λ rule. rule_says code.now.functions.items self.now.names rule
+            ≡ policy_says self.now.checked.declared.scope self.now.checked.filters.items
+            self.now.names policy.now) }
+    {
+        match policy {
+            PolicyDef::All => Ok(Rule::All),
+            PolicyDef::None => Ok(Rule::None),
+            PolicyDef::Filter(number) => Ok(rule_at(&code.filters, *number)),
+            PolicyDef::Own(filter) => self.own(alloc, code, filter),
+        }
+    }
+
+    /// The rule of a filter, which is compiled.
+    fn own<'a>(
+        &'a self,
+        alloc: Global,
+        code: &'a Code<'a>,
+        filter: &'a TFilter,
+    ) -> Result<Rule<'a>, OutOfMemory>
+        requires code { HasCode self.now code.now }
+        requires before { IsBefore self.now filter.now }
+        ensures { IfOk result (λ rule. rule_says code.now.functions.items self.now.names rule
+            ≡ filter_says self.now filter.now) }
+    {
+        let constants = constants(&self.checked.declared.scope);
+        let draft = compile(alloc, constants, code.functions.as_slice(), filter)?;
+        Ok(Rule::Own(draft))
+    }
+
+    /// What a filter or a condition, checked behind the configuration, says of routes. It is
+    /// compiled.
+    pub fn filter<'a>(
+        &'a self,
+        alloc: Global,
+        code: &'a Code<'a>,
+        filter: &'a TFilter,
+    ) -> Result<Passes<'a>, OutOfMemory>
+        requires code { HasCode self.now code.now }
+        requires before { IsBefore self.now filter.now }
+        ensures { IfOk result (λ passes. ⟦<Passes<'a> as Judge>⟧.verdict passes
+            ≡ filter_says self.now filter.now) }
+    {
+        let rule = self.own(alloc, code, filter)?;
+        Ok(Passes::new(alloc, code, &self.names, rule))
+    }
+
+    /// The filter of this number, as one that judges routes; behind the last one none is accepted.
+    fn by_number<'a>(&'a self, alloc: Global, code: &'a Code<'a>, number: usize) -> Passes<'a>
+        requires { HasCode self.now code.now }
+        ensures { ⟦<Passes<'a> as Judge>⟧.verdict result
+            ≡ numbered self.now.checked.declared.scope self.now.checked.filters.items
+            self.now.names (slice_get self.now.checked.filters.items number) }
+    {
+        let rule = rule_at(&code.filters, number);
+        Passes::new(alloc, code, &self.names, rule)
     }
 
     /// How many filters have names.
@@ -60,15 +142,13 @@ impl System {
     }
 
     /// The filter of this number, as one that judges routes.
-    pub fn numbered<'a>(&'a self, alloc: Global, number: usize) -> Passes<'a>
-        requires { number < length (system_of self.now).filters }
+    pub fn numbered<'a>(&'a self, alloc: Global, code: &'a Code<'a>, number: usize) -> Passes<'a>
+        requires code { HasCode self.now code.now }
+        requires number { number < length (system_of self.now).filters }
         ensures { slice_get (map (λ filter. filter.1) (system_of self.now).filters) number
             ≡ Some (⟦<Passes<'a> as Judge>⟧.verdict result) }
     {
-        match self.checked.filters.get(number) {
-            Some(filter) => self.filter(alloc, filter),
-            None => unreachable!(),
-        }
+        self.by_number(alloc, code, number)
     }
 
     /// The condition that stands in a text of its own, and nothing where it is refused. It sees
@@ -76,9 +156,11 @@ impl System {
     ///
     /// `OutOfMemory` comes where memory is refused.
     pub fn condition(&self, alloc: Global, text: &[u8]) -> Result<Option<TFilter>, OutOfMemory>
-        ensures { IfOk result (λ answer. MatchOption answer
+        ensures condition { IfOk result (λ answer. MatchOption answer
             (RefusesCondition (system_of self.now) text.now)
             (λ filter. IsCondition (system_of self.now) text.now (filter_says self.now filter))) }
+        ensures before { AreOrdered self.now
+            → IfOk result (λ answer. IfSome answer (IsBefore self.now)) }
     {
         let found = expression(alloc, text)?;
         answered(alloc, text, self, &found)

@@ -5,10 +5,13 @@ use crate::faults::{bad, no_memory};
 use crate::filters::changes::write_changes;
 use crate::filters::judging::{Seen, see};
 use crate::routes::read_route;
-use attrs::{Attrs, Names, Verdict};
+use attrs::{Attrs, Names, Route, Verdict};
+use bits_ip::{OutOfMemory, Prefix};
 use conf_tree::{ConfFault, place, read_config};
 use filt_check::TypeFault;
-use filt_comp::run_tree;
+use filt_compile::{compile, library};
+use filt_tree::{Scope, TFilter};
+use filt_vm::run;
 use std::alloc::{AllocError, Global};
 use std::io;
 use std::io::{Error, ErrorKind};
@@ -58,13 +61,28 @@ fn accepted(alloc: Global, before: &Attrs, after: &Attrs) -> io::Result<String> 
     String::from_utf8(out).map_err(|_| bad())
 }
 
+/// What a filter says of a route, by its code and that of the functions before it.
+fn verdict(
+    alloc: Global,
+    scope: &Scope,
+    filter: &TFilter,
+    names: &Names,
+    net: &Prefix,
+    route: &Route,
+) -> Result<Verdict, OutOfMemory> {
+    let constants = scope.constants.values().as_slice();
+    let functions = library(alloc, constants, scope.functions.values().as_slice())?;
+    let code = compile(alloc, constants, &functions, filter)?;
+    run(alloc, &code, &functions, names, net, route)
+}
+
 fn judged(alloc: Global, seen: &Seen, words: &[u8]) -> io::Result<String> {
     let Some(filter) = &seen.filter else {
         return Ok(String::from_str(alloc, "no filter")?);
     };
     let names = Names::make(vec![in alloc; String::from_str(alloc, "p1")?]?);
     let (net, route) = read_route(alloc, words)?;
-    match run_tree(alloc, &seen.scope, filter, &names, &net, &route).map_err(no_memory)? {
+    match verdict(alloc, &seen.scope, filter, &names, &net, &route).map_err(no_memory)? {
         Verdict::Accept(after) => accepted(alloc, &route.attrs, &after),
         Verdict::Reject(None) => Ok(String::from_str(alloc, "reject")?),
         Verdict::Reject(Some(fault)) => Ok(format!(in alloc; "fault {fault:?}")?),

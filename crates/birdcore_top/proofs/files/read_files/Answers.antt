@@ -52,3 +52,6 @@ pub returns-in_err-script-clause-absent : goal.returns-in_err-script-clause-abse
 returns-in_err-script-clause-absent g c =
     lacked_script c.args.conf.now c.args.script.now (g.F.Shelf.held c.args.shelf.now) (g.F.Shelf.lacks c.args.shelf.now) c.from_residual-in_err-script.result c.in_err-script.field-0.0
     c.from_residual-in_err-script.ensures.1 c.in_ok-system.ensures.absent (rw c.in_ok-system.ensures.lacks at c.in_err-script.ensures.absent)
+
+pub returns-clause-before : goal.returns-clause-before
+returns-clause-before g c = c.in_ok-script.ensures.before c.in_ok-system.ensures.ordered

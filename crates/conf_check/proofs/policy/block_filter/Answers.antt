@@ -1,4 +1,4 @@
-use Rattle.std.proofs.Common.{List, ap, ◌∙◌, arith, []}
+use Rattle.std.proofs.Common.{List, ap, ◌∙◌, []}
 use Rattle.conf_ast.specs.declared.filters.Stmt.{Stmt}
 use Rattle.conf_ast.specs.Filters.{statements_of}
 use Rattle.filt_meaning.specs.Configuration.{judged}
@@ -8,6 +8,6 @@ use Rattle.conf_check.proofs.policy.block_filter.Goals as goal
 pub returns : goal.returns
 returns c = record {
   does = λ around attrs. c.in_ok-filter.ensures.meaning around attrs ∙ ap (λ (ss : List Stmt). judged (context_of c.args.text.now around c.args.scope.now []) (statements_of ss) attrs) c.deref.ensures.value;
-  constants = omega (arith, c.in_ok-filter.ensures.sees.0);
-  functions = omega (arith, c.in_ok-filter.ensures.sees.1);
+  constants = c.in_ok-filter.ensures.sees.0;
+  functions = c.in_ok-filter.ensures.sees.1;
 }

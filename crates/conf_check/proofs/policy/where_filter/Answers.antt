@@ -1,9 +1,8 @@
-use Rattle.std.proofs.Common.{arith}
 use Rattle.conf_check.proofs.policy.where_filter.Goals as goal
 
 pub returns : goal.returns
 returns c = record {
   does = λ around attrs. c.in_ok-filter.ensures.meaning around attrs;
-  constants = omega (arith, c.in_ok-filter.ensures.sees.0);
-  functions = omega (arith, c.in_ok-filter.ensures.sees.1);
+  constants = c.in_ok-filter.ensures.sees.0;
+  functions = c.in_ok-filter.ensures.sees.1;
 }

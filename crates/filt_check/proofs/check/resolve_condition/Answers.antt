@@ -14,5 +14,5 @@ use Rattle.filt_check.proofs.check.resolve_condition.Goals as goal
 
 pub returns-clause-meaning : goal.returns-clause-meaning
 returns-clause-meaning c = λ around attrs. filter_same c.args.text.now around c.args.scope.now (filter_where (expression_of c.args.condition.now))
-    (record { constants = c.len.result; functions = c.len-2.result; sorts = c.new.result; depth = c.depth-depth.result; body = c.in_ok-body.body }) attrs
+    (record { constants = c.len.result; functions = c.len-2.result; sorts = c.new.result; body = c.in_ok-body.body }) attrs
     (c.len.ensures.len ∙ sym (mapped_length (λ (e : Vec ℕ Global × Fixed). e.1) c.args.scope.now.constants.entries)) (c.len-2.ensures.len ∙ sym (mapped_length (λ (e : Vec ℕ Global × TFunction). e.1) c.args.scope.now.functions.entries)) c.new.ensures.items (c.in_ok-body.ensures (tables_of around c.args.scope.now) ∙ ap (λ (a : Run Val). where_act a) (c.in_ok-x.ensures around))

@@ -15,7 +15,7 @@ use Rattle.filt_check.proofs.check.resolve_function.Goals as goal
 
 pub returns-clause-meaning : goal.returns-clause-meaning
 returns-clause-meaning c = λ around. function_same c.args.text.now around c.args.scope.now (routine_of c.args.function.now)
-    (record { parameters = c.in_ok-parameters.parameters; gives = c.sort_given.result; weight = c.weigh_block.result; constants = c.len.result; sorts = c.in_ok-block.block.sorts; depth = c.depth-depth.result; body = c.in_ok-block.block.body })
+    (record { parameters = c.in_ok-parameters.parameters; gives = c.sort_given.result; weight = c.weigh_block.result; constants = c.len.result; sorts = c.in_ok-block.block.sorts; body = c.in_ok-block.block.body })
     (names_of c.in_ok-names.names.items) c.sort_given.ensures
     (c.len.ensures.len ∙ sym (mapped_length (λ (e : Vec ℕ Global × Fixed). e.1) c.args.scope.now.constants.entries))
     (c.in_ok-block.ensures.sorts ∙ ap (λ (ss : List Stmt). sorts_in (all_declared c.args.text.now (statements_of ss))) c.deref-4.ensures.value)

@@ -1,5 +1,7 @@
-use Rattle.std.proofs.Common.{◌∙◌, sym, ap, ◌++◌, ℕ, List, map, append-nil}
+use Rattle.std.proofs.Common.{◌∙◌, sym, ap, subst, ◌++◌, ℕ, List, map, append-nil}
+use Rattle.filt_tree.specs.declared.tree.TFilter.{TFilter}
 use Rattle.system.specs.contracts.passes.PassesJudge.TheImpl as passes
+use Rattle.system.specs.Coded.{IsBefore}
 use Rattle.system.specs.Policies.{Filter}
 use Rattle.system.specs.Seen.{filter_says, system_of}
 use Rattle.sys_build.proofs.Turns.{asked_turn, seen_all}
@@ -8,10 +10,14 @@ use Rattle.sys_build.proofs.choices.choices.Goals as goal
 pub loop-condition-init : goal.loop-condition-init
 loop-condition-init c = c.in_ok-choices.ensures ∙ sym (append-nil (map (λ (f : List ℕ × Filter). f.1) (system_of c.args.system.now).filters))
 
+pub filter-requires-clause-before : goal.filter-requires-clause-before
+filter-requires-clause-before c =
+    subst (λ (f : TFilter). IsBefore c.args.system.now f) (sym c.condition-item.is) (c.requires.before c.loop-condition.condition-index c.condition-item.result c.loop-condition-test.true)
+
 pub loop-condition-preserved : goal.loop-condition-preserved
 loop-condition-preserved c =
     asked_turn (passes.ghosts).verdict (filter_says c.args.system.now) (map (λ (f : List ℕ × Filter). f.1) (system_of c.args.system.now).filters) c.args.conditions.now c.loop-condition.condition-index c.condition-item.result
-    c.loop-condition.choices.items c.push.new.self.items c.filter.result c.loop-condition-test.true c.condition-item.is c.loop-condition.invariant c.in_ok-push.ensures.items c.filter.ensures
+    c.loop-condition.choices.items c.push.new.self.items c.in_ok-filter.field-0 c.loop-condition-test.true c.condition-item.is c.loop-condition.invariant c.in_ok-push.ensures.items c.in_ok-filter.ensures
 
 pub returns : goal.returns
 returns c =

@@ -4,5 +4,5 @@ use Rattle.sys_build.proofs.protocols.bgp_source.Goals as goal
 
 pub returns : goal.returns
 returns c =
-    with_channel (passes.ghosts).verdict c.args.def.now.channel.table c.bgp_imports.result _ c.passes.result _ c.gate.result _ c.passes-2.result _
-    c.bgp_imports.ensures c.passes.ensures c.gate.ensures c.passes-2.ensures
+    with_channel (passes.ghosts).verdict c.args.def.now.channel.table c.bgp_imports.result _ c.in_ok-import.import _ c.gate.result _ c.in_ok-export.export _
+    c.bgp_imports.ensures c.in_ok-import.ensures c.gate.ensures c.in_ok-export.ensures

@@ -4,4 +4,4 @@ use Rattle.sys_build.proofs.protocols.pipe.Goals as goal
 
 pub returns : goal.returns
 returns c =
-    both_ways (passes.ghosts).verdict c.args.def.now.table c.args.def.now.peer c.passes.result c.passes-2.result _ _ c.passes.ensures c.passes-2.ensures
+    both_ways (passes.ghosts).verdict c.args.def.now.table c.args.def.now.peer c.in_ok-export.export c.in_ok-import.import _ _ c.in_ok-export.ensures c.in_ok-import.ensures

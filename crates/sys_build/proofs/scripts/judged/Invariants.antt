@@ -1,7 +1,11 @@
-use Rattle.std.proofs.Common.{map, take}
+use Rattle.std.proofs.Common.{All, map, take}
+use Rattle.system.specs.Coded.{AreOrdered, IsBefore}
 use Rattle.system.specs.Seen.{filter_says, system_of}
 use Rattle.sys_build.specs.Scripts.{AreAsked}
 use Rattle.sys_build.proofs.scripts.judged.Given as goal
 
 abbrev pub invariant-loop-condition : goal.invariant-loop-condition
-invariant-loop-condition l = AreAsked (system_of l.system) (take l.condition-index l.conditions) (map (filter_says l.system) l.filters.items)
+invariant-loop-condition l = record {
+  asked : AreAsked (system_of l.system) (take l.condition-index l.conditions) (map (filter_says l.system) l.filters.items);
+  before : AreOrdered l.system → All (IsBefore l.system) l.filters.items;
+}

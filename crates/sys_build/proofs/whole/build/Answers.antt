@@ -9,8 +9,8 @@ use Rattle.sys_build.proofs.Few.{parts_few}
 use Rattle.sys_build.proofs.Handed.{handed}
 use Rattle.sys_build.proofs.whole.build.Goals as goal
 
-pub protocols-requires : goal.protocols-requires
-protocols-requires c = c.configurations_have_few_protocols.ensures c.requires.playable.0 (system_of c.args.system.now) c.requires.playable.1
+pub protocols-requires-clause-few : goal.protocols-requires-clause-few
+protocols-requires-clause-few c = c.configurations_have_few_protocols.ensures c.requires.playable.0 (system_of c.args.system.now) c.requires.playable.1
 
 pub make-requires-clause-few : goal.make-requires-clause-few
 make-requires-clause-few c =

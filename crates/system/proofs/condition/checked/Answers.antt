@@ -1,9 +1,13 @@
 use Rattle.conf_ast.specs.Filters.{expression_of}
 use Rattle.system.proofs.Conditions.{asks, refuses}
+use Rattle.system.proofs.Ordered.{checked_before}
 use Rattle.system.proofs.condition.checked.Goals as goal
 
-pub returns-in-Ok : goal.returns-in-Ok
-returns-in-Ok c = λ names. asks c.args.scope.now names c.args.text.now (expression_of c.args.condition.now) c.in-Ok.filter c.in-Ok.ensures.answer c.in-Ok.ensures.meaning
+pub returns-in-Ok-clause-asked : goal.returns-in-Ok-clause-asked
+returns-in-Ok-clause-asked c = λ names. asks c.args.scope.now names c.args.text.now (expression_of c.args.condition.now) c.in-Ok.filter c.in-Ok.ensures.answer c.in-Ok.ensures.meaning
 
-pub returns-in_ok-refused-in-Err : goal.returns-in_ok-refused-in-Err
-returns-in_ok-refused-in-Err c = λ names. refuses c.args.scope.now names c.args.text.now (expression_of c.args.condition.now) (c.in_ok-refused-in-Err.ensures _ _ c.in-Err.ensures.answer)
+pub returns-in-Ok-clause-before : goal.returns-in-Ok-clause-before
+returns-in-Ok-clause-before c = λ within. checked_before c.args.scope.now c.in-Ok.filter within c.in-Ok.ensures.sees.0
+
+pub returns-in_ok-refused-in-Err-clause-asked : goal.returns-in_ok-refused-in-Err-clause-asked
+returns-in_ok-refused-in-Err-clause-asked c = λ names. refuses c.args.scope.now names c.args.text.now (expression_of c.args.condition.now) (c.in_ok-refused-in-Err.ensures _ _ c.in-Err.ensures.answer)

@@ -1,3 +1,5 @@
+use Rattle.conf_ast.specs.Configurations.{configuration_of}
+use Rattle.system.proofs.Ordered.{ordered}
 use Rattle.system.proofs.Told.{check_told, held_told}
 use Rattle.system.proofs.read.read_system.Goals as goal
 
@@ -10,3 +12,6 @@ pub returns-in-Ok-names-clause-system : goal.returns-in-Ok-names-clause-system
 returns-in-Ok-names-clause-system c =
     held_told c.args.text.now c.in-Ok.tree.statements.items _ c.in-Ok.ensures.tree (rw c.in-Ok.ensures.text at c.in-Ok-check_config.ensures.answer)
     (rw c.in-Ok.ensures.text at c.in-Ok-check_config.ensures.checked) (rw c.deref.ensures.value at c.in-Ok-names.ensures)
+
+pub returns-in-Ok-names-clause-ordered : goal.returns-in-Ok-names-clause-ordered
+returns-in-Ok-names-clause-ordered c = ordered c.args.text.now (configuration_of c.in-Ok.tree.statements.items) _ (rw c.in-Ok.ensures.text at c.in-Ok-check_config.ensures.checked)
