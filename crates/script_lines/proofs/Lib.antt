@@ -1,6 +1,7 @@
 mod Agreement
 mod CommandParts
 mod DelParts
+mod FirstPlaces
 mod LineParts
 mod Places
 mod ScriptLines

@@ -1,4 +1,5 @@
 pub mod Grammar
 pub mod Kinds
+pub mod NamePlaces
 pub mod Script
 pub mod Inside

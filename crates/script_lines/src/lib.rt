@@ -23,6 +23,7 @@
 mod commands;
 mod faults;
 pub mod laws;
+mod name_list;
 mod named;
 mod reading;
 mod refusal;
@@ -30,5 +31,6 @@ mod script;
 mod show;
 
 pub use faults::{ScriptFault, ScriptKind};
+pub use name_list::NameList;
 pub use named::{Name, Named, NamedProtocol, NamedTable, ProtocolKind};
 pub use script::{Condition, Line, Script, read_script};

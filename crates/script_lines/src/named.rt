@@ -7,6 +7,7 @@ ghost use Rattle.script_lines.specs.Kinds.{AreFew, is_session_of};
 ghost use Rattle.script_lines.specs.Kinds.{table_of, is_table, filter_of, export_table, family_at};
 ghost use Rattle.script_lines.specs.Inside.{session_place, protocol_place, table_place};
 
+use crate::name_list::NameList;
 use attrs::Seq;
 use bits_ip::{Addr, Family, OutOfMemory};
 use std::alloc::Global;
@@ -69,7 +70,7 @@ pub struct NamedTable {
 
 /// What a configuration declares, as far as scripts can name it. Names of protocols differ, and so
 /// do those of channels, of tables and of filters.
-#[derive(Debug, Drop)]
+#[derive(Drop)]
 pub struct Named {
     /// The protocols in their order.
     pub protocols: Seq<NamedProtocol>,
@@ -79,7 +80,7 @@ pub struct Named {
     /// The tables in their order: the first is master4, the second master6.
     pub tables: Seq<NamedTable>,
     /// The names of the filters in their order.
-    pub filters: Seq<Name>,
+    pub filters: NameList,
 }
 
 /// The number of the channel of this name.
@@ -123,7 +124,7 @@ pub fn filter_of(named: &Named, name: &[u8]) -> Option<u32>
     requires { AreFew named.now }
     ensures { result ≡ filter_of named.now name.now }
 {
-    let place = place_of(named.filters.as_slice(), name)?;
+    let place = named.filters.place(name)?;
     u32::try_from(place).ok()
 }
 

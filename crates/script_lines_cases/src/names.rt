@@ -1,7 +1,7 @@
 //! What the scripts of the tables can name.
 use attrs::Seq;
 use bits_ip::{Family, OutOfMemory};
-use script_lines::{Name, Named, NamedProtocol, NamedTable, ProtocolKind};
+use script_lines::{Name, NameList, Named, NamedProtocol, NamedTable, ProtocolKind};
 use std::alloc::Global;
 
 /// A name of 64 bytes.
@@ -73,7 +73,7 @@ pub fn named(alloc: Global) -> Result<Named, OutOfMemory> {
     let protocols = Seq::from_vec(protocols(alloc)?);
     let channels = Seq::from_vec(channels(alloc)?);
     let tables = Seq::from_vec(tables(alloc)?);
-    let filters = Seq::from_vec(filters(alloc)?);
+    let filters = NameList::make(alloc, filters(alloc)?)?;
     Ok(Named {
         protocols,
         channels,

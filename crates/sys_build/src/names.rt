@@ -12,7 +12,7 @@ ghost use Rattle.system.specs.Seen.{body_seen, protocol_seen, system_of};
 use attrs::Seq;
 use bits_ip::OutOfMemory;
 use conf_check::{ProtocolBody, ProtocolDef};
-use script_lines::{Name, Named, NamedProtocol, NamedTable, ProtocolKind};
+use script_lines::{Name, NameList, Named, NamedProtocol, NamedTable, ProtocolKind};
 use std::alloc::Global;
 use system::System;
 
@@ -28,11 +28,12 @@ pub fn named(alloc: Global, system: &System) -> Result<Named, OutOfMemory>
     let channels = channels(alloc, &system.checked.protocols)?;
     let tables = tables(alloc, system)?;
     let filters = filters(alloc, system)?;
+    let listed = NameList::make(alloc, filters)?;
     Ok(Named {
         protocols: Seq::from_vec(protocols),
         channels: Seq::from_vec(channels),
         tables: Seq::from_vec(tables),
-        filters: Seq::from_vec(filters),
+        filters: listed,
     })
 }
 

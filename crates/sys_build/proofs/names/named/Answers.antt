@@ -16,8 +16,8 @@ returns c =
     let s = c.args.system.now in
     let scope = s.checked.declared.scope in
     let filters = s.checked.filters.items in
-    named_is (system_of s) c.from_vec.result c.from_vec-2.result c.from_vec-3.result c.from_vec-4.result
+    named_is (system_of s) c.from_vec.result c.from_vec-2.result c.from_vec-3.result c.in_ok-listed.listed
     (c.from_vec.ensures ∙ c.in_ok-protocols.ensures scope filters s.names ∙ ap (λ (l : List ProtocolDef). map named_protocol (map (protocol_seen scope filters s.names) l)) c.deref.ensures.value)
     (c.from_vec-2.ensures ∙ c.in_ok-channels.ensures scope filters s.names ∙ ap (λ (l : List ProtocolDef). all_channels (map (protocol_seen scope filters s.names) l)) c.deref-2.ensures.value)
     (c.from_vec-3.ensures ∙ c.in_ok-tables.ensures)
-    (c.from_vec-4.ensures ∙ c.in_ok-filters.ensures)
+    (c.in_ok-listed.ensures ∙ c.in_ok-filters.ensures)
