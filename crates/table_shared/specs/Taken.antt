@@ -24,7 +24,8 @@ pub record IsReadAs (cursor : Seat TableOpening) (words : List ℕ) (said : JEnt
   pub maker : ℕ
   pub earlier : List JEntry
   pub records :
-      AreRecords cursor.seen.terms.opening (at_first cursor.seen.terms.opening) (taken cursor) earlier
+      AreRecords cursor.seen.terms.opening (at_first cursor.seen.terms.opening) (taken cursor)
+      earlier
   pub is :
       IsRecord cursor.seen.terms.opening (content_after cursor.seen.terms.opening earlier)
       (entry maker words) said

@@ -42,8 +42,8 @@ pub fn a_port_alone_changes_its_sources()
     words_spell_one_entry();
 }
 
-/// What a cursor's `next` gives is always the words of an entry, so `get_words` never refuses it. The
-/// record that it says is a real change where what the cursor has taken leaves the table.
+/// What a cursor's `next` gives is always the words of an entry, so `get_words` never refuses it.
+/// The record that it says is a real change where what the cursor has taken leaves the table.
 pub fn what_is_read_is_a_record()
     ensures record { (cursor : Seat TableOpening) (words : List ℕ) → IsGiven cursor words
         → (said : JEntry) × IsReadAs cursor words said }

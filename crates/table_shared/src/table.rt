@@ -116,8 +116,8 @@ impl Table {
     /// where it doesn't. Of a real change `Memory` may come, at which nothing has changed; `Ended`
     /// where no position is left; else `Full`, where a cursor has yet to read the oldest entry that
     /// there is a cell for: it is the lowest such, and the port has seen the list to the head, as
-    /// behind `Same` and `Ended`. An entry stands above all that the port had seen and each head that
-    /// it had known. Behind an entry the gate is passed at place 1, under the lock.
+    /// behind `Same` and `Ended`. An entry stands above all that the port had seen and each head
+    /// that it had known. Behind an entry the gate is passed at place 1, under the lock.
     pub fn update<R: Wait, G: Gate>(
         &self,
         rt: &R,
