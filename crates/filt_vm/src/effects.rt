@@ -18,8 +18,8 @@ use filt_route::{Running, Surroundings, apply_one, apply_two};
 use filt_values::{Fixed, ListFailure, Sort, Value};
 use std::alloc::Global;
 
-/// What an instruction does that leads to the next one. Each effect has a function of its own, so that
-/// no step makes room for what another one holds.
+/// What an instruction does that leads to the next one. Each effect has a function of its own, so
+/// that no step makes room for what another one holds.
 #[inline(never)]
 pub(crate) fn effect<'a>(
     around: &Surroundings<'a>,

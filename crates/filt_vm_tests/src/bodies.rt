@@ -2,7 +2,7 @@ use crate::lines::Line;
 use crate::samples::{Said, answer};
 use attrs::FilterFault;
 use conf_ast::filters::{AddOp, Attribute, CompareOp, LogicalOp, MethodKind, MulOp};
-use filt_code::{OfOne, OfTwo};
+use filt_code::{Number, OfOne, OfTwo};
 use std::alloc::Global;
 use std::process::Abort;
 use std::test::Fail;
@@ -60,6 +60,48 @@ fn undefined(rt: HostRuntime) -> Result<(), Fail> {
     ];
     let found = answer(rt.alloc(), &lines, 0)?;
     assert_eq!(rt; found, Said::Rejects(Some(FilterFault::Undefined)));
+    Ok(())
+}
+
+/// `{ if bgp_path.len > 2 then reject; if bgp_path.first = 65001 then accept; reject; }`
+#[test]
+fn conditions_in_a_row(rt: HostRuntime) -> Result<(), Fail> {
+    let lines = [
+        Line::UnlessWithin(Number::PathLength, 3, 9, 1),
+        Line::Reject,
+        Line::UnlessWithin(Number::First, 65001, 65001, 1),
+        Line::Accept,
+        Line::Reject,
+    ];
+    let found = answer(rt.alloc(), &lines, 0)?;
+    assert_eq!(rt; found, Said::Accepts(2, 65001, None));
+    Ok(())
+}
+
+/// `{ if bgp_path.len > 2 then reject; if bgp_med = 0 then accept; reject; }`
+#[test]
+fn undefined_in_a_row(rt: HostRuntime) -> Result<(), Fail> {
+    let lines = [
+        Line::UnlessWithin(Number::PathLength, 3, 9, 1),
+        Line::Reject,
+        Line::UnlessWithin(Number::Med, 0, 0, 1),
+        Line::Accept,
+        Line::Reject,
+    ];
+    let found = answer(rt.alloc(), &lines, 0)?;
+    assert_eq!(rt; found, Said::Rejects(Some(FilterFault::Undefined)));
+    Ok(())
+}
+
+/// A condition that leads past the last instruction.
+#[test]
+fn past_the_end(rt: HostRuntime) -> Result<(), Fail> {
+    let lines = [
+        Line::UnlessWithin(Number::PathLength, 3, 9, 7),
+        Line::Accept,
+    ];
+    let found = answer(rt.alloc(), &lines, 0)?;
+    assert_eq!(rt; found, Said::Rejects(Some(FilterFault::NoVerdict)));
     Ok(())
 }
 

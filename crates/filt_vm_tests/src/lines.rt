@@ -2,7 +2,7 @@
 
 use bits_ip::OutOfMemory;
 use conf_ast::filters::{Attribute, CompareOp, LogicalOp};
-use filt_code::{Effect, Instr, OfOne, OfTwo, Question};
+use filt_code::{Effect, Instr, Number, OfOne, OfTwo, Question};
 use filt_tree::TTest;
 use filt_values::{Fixed, Sort};
 use std::alloc::Global;
@@ -26,6 +26,8 @@ pub enum Line {
     Unless(usize),
     /// Jumps where an attribute isn't this number.
     UnlessIs(Attribute, u32, usize),
+    /// Jumps where a number of the route isn't within these.
+    UnlessWithin(Number, u32, u32, usize),
     Decided(LogicalOp, usize),
     ForEach(usize),
     EndTurn,
@@ -77,6 +79,9 @@ fn instr<'a>(line: Line, value: &'a Fixed) -> Instr<'a> {
             Question::Test(TTest::Attribute(a, CompareOp::Equal, number)),
             n,
         ),
+        Line::UnlessWithin(number, low, high, n) => {
+            Instr::JumpIfAsked(false, Question::Within(number, low, high), n)
+        }
         Line::Decided(joint, n) => Instr::JumpIfDecided(joint, n),
         Line::ForEach(n) => Instr::ForEach(n),
         Line::EndTurn => Instr::EndTurn,
