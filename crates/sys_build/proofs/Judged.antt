@@ -71,8 +71,11 @@ none_handed (Err e) P Q is = tt
 
 -- ---- what holds of each
 
-pub none_before : {T : Type 0} (P : T → Type 0) → All P []
-none_before P = λ k d below. absurd (omega (arith, below))
+pub none_before : {T : Type 0} (P : T → Type 0) (xs : List T) → xs ≡ [] → All P xs
+none_before P xs none = λ k d below. absurd (omega (arith, below, ap (λ (l : List _). length l) none))
+
+pub none_asked : {T : Type 0} (system : System) (says : T → Filter) (xs : List T) → xs ≡ [] → AreAsked system [] (map says xs)
+none_asked system says xs none = subst (λ (l : List _). AreAsked system [] (map says l)) (sym none) tt
 
 pub one_before : {T : Type 0} (P : T → Type 0) (old new : List T) (x : T) → new ≡ old ++ x ∷ [] → All P old → P x → All P new
 one_before P old new x pushed all is = subst (λ (l : List _). All P l) (sym pushed) (All-push P old x all is)

@@ -2,11 +2,14 @@ use Rattle.std.proofs.Common.{map}
 use Rattle.system.specs.Coded.{IsBefore}
 use Rattle.system.specs.Seen.{filter_says, system_of}
 use Rattle.sys_build.specs.Scripts.{AreAsked, TellsFirst}
-use Rattle.sys_build.proofs.Judged.{first_refused, handed_on, judged_all, judged_turn, none_before, none_handed, one_before}
+use Rattle.sys_build.proofs.Judged.{first_refused, handed_on, judged_all, judged_turn, none_asked, none_before, none_handed, one_before}
 use Rattle.sys_build.proofs.scripts.judged.Goals as goal
 
 pub loop-condition-init : goal.loop-condition-init
-loop-condition-init c = record { asked = tt; before = λ ordered. none_before (IsBefore c.args.system.now) }
+loop-condition-init c = record {
+  asked = none_asked (system_of c.args.system.now) (filter_says c.args.system.now) c.new-filters.result.items c.new-filters.ensures.items;
+  before = λ ordered. none_before (IsBefore c.args.system.now) c.new-filters.result.items c.new-filters.ensures.items;
+}
 
 pub loop-condition-preserved : goal.loop-condition-preserved
 loop-condition-preserved c =
