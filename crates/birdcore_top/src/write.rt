@@ -9,7 +9,7 @@ ghost use Rattle.outside_io.specs.Whole.{WritesFront};
 ghost use Rattle.report.specs.Report.{phase_text, report_text};
 ghost use Rattle.sys_build.specs.Setups.{IsPlayable};
 ghost use Rattle.sys_run.specs.Playing as played;
-ghost use Rattle.system.specs.Coded.{AreOrdered, IsBefore};
+ghost use Rattle.system.specs.Coded.{AreOrdered, HasCode, IsBefore};
 ghost use Rattle.system.specs.Seen.{system_of};
 ghost use Rattle.birdcore_top.specs.Answer.{CutsOff, IsEnd};
 ghost use Rattle.birdcore_top.specs.Written.{AskWhatIs, HasBegun, HasPlayed, HasWritten, accepted_text, phases_read, setup_read, text_so_far};
@@ -25,7 +25,7 @@ use std::hash::RandomState;
 use std::random::RandomSource;
 use sys_build::{ReadScript, build};
 use sys_run::Core;
-use system::System;
+use system::{Code, System};
 
 /// Plays the script over the configuration, and writes the reports.
 ///
@@ -58,24 +58,55 @@ pub(crate) fn write_play<R: RandomSource, K: Sink>(
         Appends (K.contents out.old) (K.contents out.new) (flat_map phase_text reports)) }
     ensures write { result ≡ Status.WriteFault → Rose (K.faults out.old) (K.faults out.new) }
 {
+    let Some(hasher) = RandomState::new(rt).ok() else {
+        return Status::OutOfMemory;
+    };
+    match system.code(alloc) {
+        Ok(code) => play_coded(alloc, hasher, system, &code, cells, script, out),
+        Err(OutOfMemory) => Status::OutOfMemory,
+    }
+}
+
+/// Plays the script over the configuration and its code, and writes the reports.
+fn play_coded<K: Sink>(
+    alloc: Global,
+    hasher: RandomState,
+    system: &System,
+    code: &Code,
+    cells: u32,
+    script: ReadScript,
+    out: &mut K,
+) -> Status
+    requires playable { IsPlayable (system_of system.now) }
+    requires code { HasCode system.now code.now }
+    requires before { All (IsBefore system.now) script.filters.items }
+    requires setup { IsSetup (setup_read system.now script cells) }
+    requires asked { AskWhatIs (length script.queries.items) (phases_read script) }
+    ensures end { IsEnd result }
+    ensures report { result ≡ Status.Ok
+        → HasPlayed (setup_read system.now script cells) script.actors.items (phases_read script)
+        (λ reports. Appends (K.contents out.old) (K.contents out.new) (report_text reports)) }
+    ensures front { result ≡ Status.WriteFault
+        → HasBegun (setup_read system.now script cells) script.actors.items (phases_read script)
+        (λ more reports.
+        WritesFront (K.contents out.old) (K.contents out.new) (text_so_far more reports)) }
+    ensures begun { result ≡ Status.OutOfMemory
+        → HasBegun (setup_read system.now script cells) script.actors.items (phases_read script)
+        (λ more reports.
+        Appends (K.contents out.old) (K.contents out.new) (flat_map phase_text reports)) }
+    ensures write { result ≡ Status.WriteFault → Rose (K.faults out.old) (K.faults out.new) }
+{
     let ReadScript {
         phases,
         actors,
         queries,
         filters,
     } = script;
-    let Some(hasher) = RandomState::new(rt).ok() else {
-        return Status::OutOfMemory;
-    };
-    let code = match system.code(alloc) {
-        Ok(code) => code,
-        Err(OutOfMemory) => return Status::OutOfMemory,
-    };
     let mut core = match build(
         alloc,
         hasher,
         system,
-        &code,
+        code,
         filters.as_slice(),
         queries,
         cells,

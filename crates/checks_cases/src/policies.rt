@@ -30,12 +30,7 @@ fn verdict_text(alloc: Global, verdict: &Verdict) -> io::Result<String> {
     }
 }
 
-fn judged<'a>(
-    alloc: Global,
-    system: &'a System,
-    code: &'a Code<'a>,
-    policy: &'a PolicyDef,
-) -> io::Result<String>
+fn judged(alloc: Global, system: &System, code: &Code, policy: &PolicyDef) -> io::Result<String>
     requires code { HasCode system.now code.now }
     requires before { PolicyBefore system.now policy.now }
 {
@@ -55,12 +50,12 @@ fn first(system: &System) -> Option<&ProtocolDef>
 }
 
 /// What the import and the export policy say.
-fn both<'a>(
+fn both(
     alloc: Global,
-    system: &'a System,
-    code: &'a Code<'a>,
-    import: &'a PolicyDef,
-    export: &'a PolicyDef,
+    system: &System,
+    code: &Code,
+    import: &PolicyDef,
+    export: &PolicyDef,
 ) -> io::Result<String>
     requires code { HasCode system.now code.now }
     requires import { PolicyBefore system.now import.now }
@@ -72,11 +67,11 @@ fn both<'a>(
 }
 
 /// What both policies of a protocol say.
-fn policies<'a>(
+fn policies(
     alloc: Global,
-    system: &'a System,
-    code: &'a Code<'a>,
-    protocol: &'a ProtocolDef,
+    system: &System,
+    code: &Code,
+    protocol: &ProtocolDef,
 ) -> io::Result<String>
     requires code { HasCode system.now code.now }
     requires before { ProtocolBefore system.now protocol.now }
@@ -104,18 +99,26 @@ fn policies<'a>(
     }
 }
 
+/// What both policies of the first protocol say.
+fn of_first(alloc: Global, system: &System) -> io::Result<String>
+    requires { AreOrdered system.now }
+{
+    let Some(protocol) = first(system) else {
+        return Ok(String::from_str(alloc, "no protocol")?);
+    };
+    match system.code(alloc) {
+        Ok(code) => policies(alloc, system, &code, protocol),
+        Err(fault) => Err(no_memory(fault)),
+    }
+}
+
 /// What both say, or why there is no such protocol.
 pub fn answer(alloc: Global, text: &[u8]) -> io::Result<String> {
     if text.len() > LIMIT {
         return Ok(String::from_str(alloc, "too long")?);
     }
-    let system = match read_system(alloc, text) {
-        Ok(system) => system,
-        Err(fault) => return Ok(format!(in alloc; "{fault}")?),
-    };
-    let Some(protocol) = first(&system) else {
-        return Ok(String::from_str(alloc, "no protocol")?);
-    };
-    let code = system.code(alloc).map_err(no_memory)?;
-    policies(alloc, &system, &code, protocol)
+    match read_system(alloc, text) {
+        Ok(system) => of_first(alloc, &system),
+        Err(fault) => Ok(format!(in alloc; "{fault}")?),
+    }
 }
