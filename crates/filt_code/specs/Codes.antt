@@ -1,9 +1,9 @@
--- What code does (`mean`), and what compiled filters say of a route (`code_judged`). A line for each
--- instruction: what it does to the variables, the operands and the attributes, and which place it
--- leads to. The variables are the frame of the meaning of filters, whose forms stand here too; the
--- operands lie apart, the one on top first.
+-- What code does (`mean`), and what compiled filters come to (`code_flow`) and say of a route
+-- (`code_judged`). A line for each instruction: what it does to the variables, the operands and the
+-- attributes, and which place it leads to. The variables are the frame of the meaning of filters,
+-- whose forms stand here too; the operands lie apart, the one on top first.
 -- Nothing is to be believed of it: what compiled filters say is tied to the meaning of their sources.
-use Rattle.std.specs.Prelude.{ℕ, suc, zero, ◌-◌, Bool, true, false, not, ◌&&◌, nat_le, List, [], ◌∷◌, ◌++◌, length, map, take, drop, reverse, Option, Some, None, Result, Ok, Err, get_or, slice_get}
+use Rattle.std.specs.Prelude.{◌≡◌, ℕ, suc, zero, ◌-◌, Bool, true, false, not, ◌&&◌, nat_le, List, [], ◌∷◌, ◌++◌, length, map, take, drop, reverse, Option, Some, None, Result, Ok, Err, get_or, slice_get}
 use Rattle.attrs.specs.declared.attributes.Attrs.{Attrs}
 use Rattle.attrs.specs.declared.judge.FilterFault.TheVariants as faults
 use Rattle.attrs.specs.declared.judge.Verdict.{Verdict}
@@ -232,7 +232,16 @@ with_routines s (f ∷ fs) = with_routines (with_routine s (doing s f)) fs
 abbrev pub setting : Around → List Routine → Setting
 setting around fs = with_routines (record { around = around; functions = [] }) fs
 
--- what code says of attributes, over functions of which it sees the first
+-- what the code of a filter comes to, over functions of which it sees the first
+abbrev pub code_flow : Around → List Routine → Draft → Attrs → Flow Frame
+code_flow around fs code attrs =
+    mean (setting around (take code.functions fs)) code.code.items 0 [] [] attrs
+
+-- what it says of attributes
 abbrev pub code_judged : Around → List Routine → Draft → Attrs → Verdict
-code_judged around fs code attrs =
-    verdict_of (mean (setting around (take code.functions fs)) code.code.items 0 [] [] attrs)
+code_judged around fs code attrs = verdict_of (code_flow around fs code attrs)
+
+-- The code of a filter is never stuck over these functions, whatever route it is run for.
+abbrev pub IsNeverStuck : List Routine → Draft → Type 0
+IsNeverStuck fs code = (around : Around) (attrs after : Attrs)
+    → code_flow around fs code attrs ≡ Stopped Stuck after → ⊥

@@ -1,7 +1,7 @@
 -- What checked filters do: a line for each form of a tree. The forms are those of the meaning of
 -- filters; here they are joined by places where there they are by names. Nothing is to be believed
 -- of it: filt_check ties what checked trees do to the meaning of their sources.
-use Rattle.std.specs.Prelude.{ℕ, Bool, List, [], ◌∷◌, ◌++◌, map, take, Option, Some, None, Result, Ok, Err, slice_get}
+use Rattle.std.specs.Prelude.{◌≡◌, ◌≤◌, ℕ, Bool, All, List, [], ◌∷◌, ◌++◌, map, take, Option, Some, None, Result, Ok, Err, slice_get}
 use Rattle.attrs.specs.declared.attributes.Attrs.{Attrs}
 use Rattle.attrs.specs.declared.judge.Verdict.{Verdict}
 use Rattle.conf_ast.specs.declared.filters.MulOp.{MulOp}
@@ -16,7 +16,7 @@ use Rattle.filt_values.specs.Seen.{val_of_fixed}
 use Rattle.filt_values.specs.Values.{Val, VInt, VPair, VIntSet, VPairSet, VPrefixSet, default_of}
 use Rattle.filt_meaning.specs.Attributes.{with_attribute}
 use Rattle.filt_meaning.specs.Configuration.{given_by, verdict_of}
-use Rattle.filt_meaning.specs.Flow.{Flow, Frame, Run, AtEnd, Accepted, Rejected}
+use Rattle.filt_meaning.specs.Flow.{Flow, Frame, Run, AtEnd, Accepted, Rejected, Stopped, Stuck}
 use Rattle.filt_meaning.specs.Items.{among}
 use Rattle.filt_meaning.specs.Meaning.{Act, given, on_value, on_two, joined, no_values, one_more, variable_or, called_value, call, attribute, defined, factor_of, term_of, compare_of, property_of, method_of, nothing, stop, in_turn, block, set_variable, set_attributes, unset, choice, arm, cases, loop, give, evaluate}
 use Rattle.filt_meaning.specs.Flow as flow
@@ -231,9 +231,23 @@ tables around constants functions =
 
 -- ---- filters
 
--- what a filter says of attributes, over constants and functions of which it sees the first
+-- what a filter comes to, over constants and functions of which it sees the first
+abbrev pub tree_flow : Around → List Fixed → List TFunction → TFilter → Attrs → Flow Frame
+tree_flow around constants functions f attrs =
+    run (tables around (take f.constants constants) (take f.functions functions))
+    f.sorts.items f.body.items [] attrs
+
+-- what it says of attributes
 abbrev pub judged : Around → List Fixed → List TFunction → TFilter → Attrs → Verdict
 judged around constants functions f attrs =
-    verdict_of
-    (run (tables around (take f.constants constants) (take f.functions functions))
-    f.sorts.items f.body.items [] attrs)
+    verdict_of (tree_flow around constants functions f attrs)
+
+-- The filter is never stuck, whatever route it is run for.
+abbrev pub IsNeverStuck : List Fixed → List TFunction → TFilter → Type 0
+IsNeverStuck constants functions f = (around : Around) (attrs after : Attrs)
+    → tree_flow around constants functions f attrs ≡ Stopped Stuck after → ⊥
+
+-- The functions that a filter sees were declared before it, so they see no constants but its own.
+abbrev pub AreBefore : List TFunction → TFilter → Type 0
+AreBefore functions f =
+    All (λ (g : TFunction). g.constants ≤ f.constants) (take f.functions functions)
