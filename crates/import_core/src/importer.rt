@@ -1,5 +1,5 @@
 //! The imports of a protocol.
-ghost use Rattle.std.specs.Prelude.{◌≡◌, [], length, true, false, IfOk, if◌then◌else◌};
+ghost use Rattle.std.specs.Prelude.{◌≡◌, [], length, true, false, IfOk, OnErr, if◌then◌else◌};
 ghost use Rattle.import_core.specs.declared.held.Decision.TheVariants.{Limited, Stored};
 ghost use Rattle.import_core.specs.declared.mode.Mode.TheVariants as mode;
 ghost use Rattle.import_core.specs.declared.step.Mark.TheVariants as mark;
@@ -197,6 +197,7 @@ impl<J: Judge> Importer<J> {
             (up_with self.old.spec (J.verdict self.old.judge) self.old.imports.received
             self.old.imports) self.new step) }
         ensures kept { KeepsSpec self.old self.new }
+        ensures refused { OnErr result (self.new ≡ self.old) }
     {
         let rebuilt = self.nets.rebuild(self.alloc, &self.spec, &self.judge)?;
         let (mode, step) = finished(self.spec.kind, rebuilt);
@@ -210,6 +211,7 @@ impl<J: Judge> Importer<J> {
             (done self.old.spec (J.verdict self.old.judge) op.Start
             self.old.imports) self.new step) }
         ensures kept { KeepsSpec self.old self.new }
+        ensures refused { OnErr result (self.new ≡ self.old) }
     {
         if !self.is_unstarted() {
             return Ok(self.still(Mark::Stay));
@@ -227,6 +229,7 @@ impl<J: Judge> Importer<J> {
             (done self.old.spec (J.verdict self.old.judge) (op.SessionUp id)
             self.old.imports) self.new step) }
         ensures kept { KeepsSpec self.old self.new }
+        ensures refused { OnErr result (self.new ≡ self.old) }
     {
         if self.is_closed() {
             self.mode = Mode::Up;
@@ -243,6 +246,7 @@ impl<J: Judge> Importer<J> {
             (decided_by self.old.spec net.now held.route (Stored held.accepted over)
             (receiving net.now held.route self.old.imports)) self.new step) }
         ensures kept { KeepsSpec self.old self.new }
+        ensures refused { OnErr result (self.new ≡ self.old) }
     {
         let changes = self
             .nets
@@ -262,6 +266,7 @@ impl<J: Judge> Importer<J> {
             (decided_by self.old.spec net.now route Limited
             (receiving net.now route self.old.imports)) self.new step) }
         ensures kept { KeepsSpec self.old self.new }
+        ensures refused { OnErr result (self.new ≡ self.old) }
     {
         let changes = self.nets.withdrawals(self.alloc, self.spec.src.num)?;
         let accepted = Accepted::Nothing;
@@ -287,6 +292,7 @@ impl<J: Judge> Importer<J> {
             (decided_by self.old.spec net.now route decision
             (receiving net.now route self.old.imports)) self.new step) }
         ensures kept { KeepsSpec self.old self.new }
+        ensures refused { OnErr result (self.new ≡ self.old) }
     {
         match decision {
             Decision::Stored(accepted, over) => self.store(net, Held { route, accepted }, over),
@@ -311,6 +317,7 @@ impl<J: Judge> Importer<J> {
             (done self.old.spec (J.verdict self.old.judge) (op.Add net.now given.now)
             self.old.imports) self.new step) }
         ensures kept { KeepsSpec self.old self.new }
+        ensures refused { OnErr result (self.new ≡ self.old) }
     {
         if !self.is_up() {
             return Ok(self.still(Mark::Stay));
@@ -329,6 +336,7 @@ impl<J: Judge> Importer<J> {
             (done self.old.spec (J.verdict self.old.judge) (op.Del net.now)
             self.old.imports) self.new step) }
         ensures kept { KeepsSpec self.old self.new }
+        ensures refused { OnErr result (self.new ≡ self.old) }
     {
         if !self.is_up() {
             return Ok(self.still(Mark::Stay));
@@ -349,6 +357,7 @@ impl<J: Judge> Importer<J> {
             (done self.old.spec (J.verdict self.old.judge) op.SessionDown
             self.old.imports) self.new step) }
         ensures kept { KeepsSpec self.old self.new }
+        ensures refused { OnErr result (self.new ≡ self.old) }
     {
         if !self.is_up() {
             return Ok(self.still(Mark::Stay));
@@ -368,6 +377,7 @@ impl<J: Judge> Importer<J> {
         ensures step { IfOk result (λ step. IsNext self.old
             (disabled self.old.spec mark self.old.imports) self.new step) }
         ensures kept { KeepsSpec self.old self.new }
+        ensures refused { OnErr result (self.new ≡ self.old) }
     {
         let changes = self.nets.withdrawals(self.alloc, self.spec.src.num)?;
         self.nets.switch_off(self.spec.kind);
@@ -384,6 +394,7 @@ impl<J: Judge> Importer<J> {
             (done self.old.spec (J.verdict self.old.judge) op.Disable
             self.old.imports) self.new step) }
         ensures kept { KeepsSpec self.old self.new }
+        ensures refused { OnErr result (self.new ≡ self.old) }
     {
         match self.mode {
             Mode::Idle => self.switch_off(Mark::Stay),
@@ -399,6 +410,7 @@ impl<J: Judge> Importer<J> {
             (enabled self.old.spec (J.verdict self.old.judge) self.old.spec.kind
             self.old.imports) self.new step) }
         ensures kept { KeepsSpec self.old self.new }
+        ensures refused { OnErr result (self.new ≡ self.old) }
     {
         match self.spec.kind {
             Kind::Static => self.rebuild(),
@@ -414,6 +426,7 @@ impl<J: Judge> Importer<J> {
             (done self.old.spec (J.verdict self.old.judge) op.Enable
             self.old.imports) self.new step) }
         ensures kept { KeepsSpec self.old self.new }
+        ensures refused { OnErr result (self.new ≡ self.old) }
     {
         match self.mode {
             Mode::Idle => Ok(self.still(Mark::Stay)),
@@ -428,6 +441,7 @@ impl<J: Judge> Importer<J> {
             (done self.old.spec (J.verdict self.old.judge) op.ReloadIn
             self.old.imports) self.new step) }
         ensures kept { KeepsSpec self.old self.new }
+        ensures refused { OnErr result (self.new ≡ self.old) }
     {
         if !self.is_up() {
             return Ok(self.still(Mark::Stay));
@@ -440,6 +454,7 @@ impl<J: Judge> Importer<J> {
             (done self.old.spec (J.verdict self.old.judge) op.ReloadOut
             self.old.imports) self.new step) }
         ensures kept { KeepsSpec self.old self.new }
+        ensures refused { OnErr result (self.new ≡ self.old) }
     {
         if !self.is_up() {
             return Ok(self.still(Mark::Stay));
@@ -452,6 +467,7 @@ impl<J: Judge> Importer<J> {
             (done self.old.spec (J.verdict self.old.judge) op.Reload
             self.old.imports) self.new step) }
         ensures kept { KeepsSpec self.old self.new }
+        ensures refused { OnErr result (self.new ≡ self.old) }
     {
         if !self.is_up() {
             return Ok(self.still(Mark::Stay));
@@ -501,12 +517,12 @@ impl<J: Judge> Importer<J> {
 
     /// Does an operation. In a mode in which it has no effect the step has no changes.
     ///
-    /// `OutOfMemory` comes where memory is refused; the protocol and its filter are the same then,
-    /// and nothing is said of the routes.
+    /// `OutOfMemory` comes where memory is refused; all is as before then.
     pub fn apply(&mut self, op: &Op) -> Result<Step, OutOfMemory>
         ensures step { IfOk result (λ step. IsNext self.old
             (done self.old.spec (J.verdict self.old.judge) op.now self.old.imports) self.new step) }
         ensures kept { KeepsSpec self.old self.new }
+        ensures refused { OnErr result (self.new ≡ self.old) }
     {
         match op {
             Op::Start => self.start(),

@@ -255,7 +255,8 @@ impl Nets {
 
     /// Holds this of the net from now on.
     pub(crate) fn put(&mut self, net: Prefix, held: Held) -> Result<(), OutOfMemory>
-        ensures { OnOk result (self.new ≡ holding net held self.old) }
+        ensures held { OnOk result (self.new ≡ holding net held self.old) }
+        ensures refused { OnErr result (self.new ≡ self.old) }
     {
         let _count = self.held.len();
         let was = tally(self.is_accepted(&net));

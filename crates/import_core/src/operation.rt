@@ -1,6 +1,8 @@
 //! What a neighbour does.
+ghost use Rattle.std.specs.Prelude.{◌≡◌, IfOk};
+
 use attrs::{Clist, Origin, Path};
-use bits_ip::{Addr, Prefix};
+use bits_ip::{Addr, OutOfMemory, Prefix};
 
 /// What an announcement says of a route.
 #[derive(Debug, Drop)]
@@ -16,6 +18,25 @@ pub struct Given {
     /// The internal distance.
     pub igp: Option<u32>,
     pub coms: Clist,
+}
+
+impl Given {
+    /// A copy, equal to the original.
+    pub fn copy(&self) -> Result<Given, OutOfMemory>
+        ensures { IfOk result (λ copy. copy ≡ self.now) }
+    {
+        let path = self.path.copy()?;
+        let coms = self.coms.copy()?;
+        Ok(Given {
+            gw: self.gw,
+            path,
+            origin: self.origin,
+            med: self.med,
+            lp: self.lp,
+            igp: self.igp,
+            coms,
+        })
+    }
 }
 
 /// An operation on a protocol's imports.
@@ -41,4 +62,24 @@ pub enum Op {
     ReloadOut,
     /// Both.
     Reload,
+}
+
+impl Op {
+    /// A copy, equal to the original. Memory is taken for an announcement's lists alone.
+    pub fn copy(&self) -> Result<Op, OutOfMemory>
+        ensures { IfOk result (λ copy. copy ≡ self.now) }
+    {
+        match self {
+            Op::Start => Ok(Op::Start),
+            Op::SessionUp(id) => Ok(Op::SessionUp(*id)),
+            Op::Add(net, given) => Ok(Op::Add(*net, given.copy()?)),
+            Op::Del(net) => Ok(Op::Del(*net)),
+            Op::SessionDown => Ok(Op::SessionDown),
+            Op::Disable => Ok(Op::Disable),
+            Op::Enable => Ok(Op::Enable),
+            Op::ReloadIn => Ok(Op::ReloadIn),
+            Op::ReloadOut => Ok(Op::ReloadOut),
+            Op::Reload => Ok(Op::Reload),
+        }
+    }
 }

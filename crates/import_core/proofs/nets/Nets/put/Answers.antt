@@ -16,7 +16,7 @@ invariant_of-self-2 c =
     c.is_accepted.result c.is_accepted-2.result c.len-count.ensures.ordered c.in_ok-insert.ensures.ordered c.in_ok-insert.ensures.updates.0 c.self.invariant c.self.view_is
     c.is_accepted.ensures c.tally-was.ensures c.is_accepted-2.ensures c.tally-is.ensures
 
-pub returns : goal.returns
-returns c =
+pub returns-clause-held : goal.returns-clause-held
+returns-clause-held c =
     kept-put c.args.net c.args.held c.self.inside.held.entries c.insert.new.self.entries c.len-count.ensures.ordered c.in_ok-insert.ensures.ordered c.in_ok-insert.ensures.updates.0
     ∙ ap (λ (k : Kept). holding c.args.net c.args.held k) c.self.view_is
