@@ -21,5 +21,5 @@ mod routes;
 mod selection;
 
 pub use lent::LentRow;
-pub use rib::{Outcome, Rib};
+pub use rib::{Outcome, Prospect, Rib};
 pub use selection::before;

@@ -116,7 +116,22 @@ impl Nets {
         ensures count { count_of self.new ≡ count_of self.old }
         ensures keys { AreKeys self.new }
     {
-        if self.is_empty_at(net) {
+        let is_empty = self.is_empty_at(net);
+        self.drop_if(net, is_empty);
+    }
+
+    /// Takes the net out, where it has no routes, which the caller has seen.
+    fn drop_if(&mut self, net: &Prefix, is_empty: bool)
+        requires empty { IsTrue is_empty ↔ IsEmptyAt net.now self.old }
+        requires keys { AreKeys self.old }
+        ensures gone { IsEmptyAt net.now self.new → ⊥ }
+        ensures routes { (q : Net) → routes_at q self.new ≡ routes_at q self.old }
+        ensures others { (q : Net) → is_at (net_cmp net.now) q ≡ false
+            → entry_at q self.new ≡ entry_at q self.old }
+        ensures count { count_of self.new ≡ count_of self.old }
+        ensures keys { AreKeys self.new }
+    {
+        if is_empty {
             self.take_out(net);
         }
     }
@@ -136,8 +151,14 @@ impl Nets {
     }
 
     /// Changes the route of a source of a net, for which there is room, and counts it. It may be
-    /// the net's last.
-    fn change_at(&mut self, total: &mut u64, net: Prefix, num: u32, new: Option<Route>) -> Outcome
+    /// the net's last: then the net has none now, which the second part tells.
+    fn change_at(
+        &mut self,
+        total: &mut u64,
+        net: Prefix,
+        num: u32,
+        new: Option<Route>,
+    ) -> (Outcome, bool)
         requires room { HasRoomAt net self.old }
         requires are { AreRoutes (routes_at net self.old) }
         requires within { length (routes_at net self.old) ≤ total.old }
@@ -147,9 +168,10 @@ impl Nets {
         ensures others { (q : Net) → is_at (net_cmp net) q ≡ false
             → entry_at q self.new ≡ entry_at q self.old }
         ensures total { total.new + count_of self.old ≡ total.old + count_of self.new }
+        ensures empty { IsTrue result.1 ↔ IsEmptyAt net self.new }
         ensures keys { AreKeys self.new }
-        ensures same { (result ≡ Outcome.Same) ↔ (route_of num (routes_at net self.old) ≡ new) }
-        ensures moved { IfChanged result
+        ensures same { (result.0 ≡ Outcome.Same) ↔ (route_of num (routes_at net self.old) ≡ new) }
+        ensures moved { IfChanged result.0
             (λ moved. IsTrue moved
             ↔ (first_of (routes_at net self.new) ≢ first_of (routes_at net self.old))) }
     {
@@ -176,8 +198,8 @@ impl Nets {
     {
         let Change { net, num, new } = change;
         let _addr = net.addr();
-        let outcome = self.change_at(total, net, num, new);
-        self.drop_empty(&net);
+        let (outcome, is_empty) = self.change_at(total, net, num, new);
+        self.drop_if(&net, is_empty);
         outcome
     }
 
@@ -389,8 +411,13 @@ fn first_bound(from: Option<&Prefix>) -> Bound<Prefix>
     }
 }
 
-/// Changes the route of a source, and counts it.
-fn change_counted(routes: &mut Vec<Route>, total: &mut u64, num: u32, new: Option<Route>) -> Outcome
+/// Changes the route of a source, and counts it. The second part tells whether no route is left.
+fn change_counted(
+    routes: &mut Vec<Route>,
+    total: &mut u64,
+    num: u32,
+    new: Option<Route>,
+) -> (Outcome, bool)
     requires room { HasRoom routes.old }
     requires are { AreRoutes routes.old.items }
     requires within { length routes.old.items ≤ total.old }
@@ -398,14 +425,15 @@ fn change_counted(routes: &mut Vec<Route>, total: &mut u64, num: u32, new: Optio
     requires source { IfSome new (λ route. route.src.num ≡ num) }
     ensures routes { Replaces num new routes.old.items routes.new.items }
     ensures total { total.new + length routes.old.items ≡ total.old + length routes.new.items }
-    ensures same { (result ≡ Outcome.Same) ↔ (route_of num routes.old.items ≡ new) }
-    ensures moved { IfChanged result
+    ensures empty { IsTrue result.1 ↔ (routes.new.items ≡ []) }
+    ensures same { (result.0 ≡ Outcome.Same) ↔ (route_of num routes.old.items ≡ new) }
+    ensures moved { IfChanged result.0
         (λ moved. IsTrue moved ↔ (first_of routes.new.items ≢ first_of routes.old.items)) }
 {
     *total -= routes.len() as u64;
     let outcome = change_routes(routes, num, new);
     *total += routes.len() as u64;
-    outcome
+    (outcome, routes.is_empty())
 }
 
 /// Makes room for one more route.

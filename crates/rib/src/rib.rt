@@ -1,4 +1,4 @@
-ghost use Rattle.std.specs.Prelude.{◌≡◌, ◌≢◌, ◌↔◌, ◌<◌, ◌≤◌, ℕ, [], ◌∷◌, Some, None, IfOk, IfSome, IsTrue, IsSome, OnOk, OnErr, length, option_copied, slice_index_or, take};
+ghost use Rattle.std.specs.Prelude.{◌≡◌, ◌≢◌, ◌↔◌, ◌<◌, ◌≤◌, ℕ, [], ◌∷◌, Some, None, IfOk, IfSome, IsTrue, IsSome, Ok, OnOk, OnErr, length, option_copied, slice_index_or, take};
 ghost use Rattle.bits_ip.specs.Address.{family_of};
 ghost use Rattle.bits_ip.specs.Prefix.{Net};
 ghost use Rattle.attrs.specs.History.{after};
@@ -6,11 +6,11 @@ ghost use Rattle.attrs.specs.declared.route.Row.{Row};
 ghost use Rattle.attrs.specs.Select.{rows_from, selected};
 ghost use Rattle.attrs.specs.Table.{AreRows, IsBestOf, count_routes, route_in, routes_of};
 ghost use Rattle.rib.specs.Rib.{best_of, AreOfFamily};
-ghost use Rattle.rib.specs.Outcome.{IfChanged};
+ghost use Rattle.rib.specs.Outcome.{IfChanged, IfChanges};
 
 use crate::lent::LentRow;
 use crate::nets::Nets;
-use crate::routes::{best_with, copy_option, copy_routes, find_route, same_routes};
+use crate::routes::{copy_option, copy_routes, prospect_of};
 use attrs::{Change, Route, Row, Select};
 use bits_ip::{Family, OutOfMemory, Prefix};
 use std::alloc::Global;
@@ -23,6 +23,15 @@ pub enum Outcome {
     Same,
     /// It wasn't. `moved` tells whether the net's best route is another one now, or none.
     Changed { moved: bool },
+}
+
+/// What a change would do.
+#[derive(Debug, Drop)]
+pub enum Prospect {
+    /// The key's route is the given one already.
+    Same,
+    /// It isn't. `best` would be the best of the change's net.
+    Changes { best: Option<Route> },
 }
 
 /// The routes of a table, of one family of nets: at most one for a net and a source.
@@ -99,13 +108,18 @@ impl Rib {
         self.nets.change(&mut self.total, change)
     }
 
-    /// Whether the key's route is the given one already.
-    pub fn stands(&self, change: &Change) -> bool
-        ensures { IsTrue result
+    /// What the change would do, and a copy of the best that its net would then have, by one
+    /// look-up. The table stays. Memory is taken for the copy alone.
+    pub fn prospect(&self, change: &Change) -> Result<Prospect, OutOfMemory>
+        requires { IfSome change.now.new (λ route. route.src.num ≡ change.now.num) }
+        ensures same { (result ≡ Ok Prospect.Same)
             ↔ (route_in self.now.rows change.now.net change.now.num ≡ change.now.new) }
+        ensures best { IfOk result (IfChanges (IsBestOf
+            (after (route_in self.now.rows) (change.now ∷ []))
+            change.now.net)) }
     {
         let routes = self.nets.routes(&change.net);
-        same_routes(find_route(routes, change.num), change.new.as_ref())
+        prospect_of(routes, change.num, change.new.as_ref())
     }
 
     /// How many nets there are. It goes through all of them.
@@ -144,17 +158,6 @@ impl Rib {
         ensures { IfOk result (λ best. best ≡ best_of net.now self.now.rows) }
     {
         copy_option(self.best(net))
-    }
-
-    /// A copy of what the best of the change's net would be after the change. The table stays.
-    pub fn copy_best_with(&self, change: &Change) -> Result<Option<Route>, OutOfMemory>
-        requires { IfSome change.now.new (λ route. route.src.num ≡ change.now.num) }
-        ensures { IfOk result (IsBestOf
-            (after (route_in self.now.rows) (change.now ∷ []))
-            change.now.net) }
-    {
-        let routes = self.nets.routes(&change.net);
-        copy_option(best_with(routes, change.num, change.new.as_ref()))
     }
 
     /// Copies of the rows that are asked for, in the order of nets. One net costs a look-up, the

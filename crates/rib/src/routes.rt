@@ -1,21 +1,21 @@
-ghost use Rattle.std.specs.Prelude.{◌≡◌, ◌≢◌, ◌↔◌, ◌==◌, None, Some, IfOk, IfSome, IsTrue, find, not, option_copied, position};
+ghost use Rattle.std.specs.Prelude.{◌≡◌, ◌≢◌, ◌↔◌, ◌==◌, None, Ok, Some, IfOk, IfSome, IsTrue, find, not, option_copied, position};
 ghost use Rattle.std.specs.Vec.{vec_capacity};
 ghost use Rattle.attrs.specs.Selection.{before};
 ghost use Rattle.attrs.specs.Table.{route_of};
 ghost use Rattle.rib.specs.Rib.{first_of};
-ghost use Rattle.rib.specs.Outcome.{IfChanged};
+ghost use Rattle.rib.specs.Outcome.{IfChanged, IfChanges};
 ghost use Rattle.rib.specs.Entries.{HasRoom};
 ghost use Rattle.rib.specs.Picks.{better_of, routes_with};
 ghost use Rattle.rib.specs.Steps.{AreRoutes, Replaces, without, placed, leads, goes_first};
 
 use crate::before;
-use crate::rib::Outcome;
+use crate::rib::{Outcome, Prospect};
 use attrs::Route;
 use bits_ip::OutOfMemory;
 use std::alloc::Global;
 
 /// The route of a source.
-pub(crate) fn find_route(routes: &[Route], num: u32) -> Option<&Route>
+fn find_route(routes: &[Route], num: u32) -> Option<&Route>
     ensures { option_copied result ≡ route_of num routes.now }
 {
     routes.iter().find(|route| route.src.num == num)
@@ -41,11 +41,7 @@ fn better_of<'a>(route: Option<&'a Route>, other: Option<&'a Route>) -> Option<&
 }
 
 /// The best of a net's routes, were this the route of the source, or were there none of it.
-pub(crate) fn best_with<'a>(
-    routes: &'a [Route],
-    num: u32,
-    new: Option<&'a Route>,
-) -> Option<&'a Route>
+fn best_with<'a>(routes: &'a [Route], num: u32, new: Option<&'a Route>) -> Option<&'a Route>
     requires { AreRoutes routes.now }
     ensures { option_copied result
         ≡ first_of (routes_with num (option_copied new.entry) routes.now) }
@@ -75,7 +71,7 @@ pub(crate) fn copy_routes(alloc: Global, routes: &[Route]) -> Result<Vec<Route>,
 }
 
 /// Whether both are the same route, or neither is there.
-pub(crate) fn same_routes(a: Option<&Route>, b: Option<&Route>) -> bool
+fn same_routes(a: Option<&Route>, b: Option<&Route>) -> bool
     ensures { IsTrue result ↔ (option_copied a.entry ≡ option_copied b.entry) }
 {
     match (a, b) {
@@ -83,6 +79,25 @@ pub(crate) fn same_routes(a: Option<&Route>, b: Option<&Route>) -> bool
         (None, None) => true,
         _ => false,
     }
+}
+
+/// What a net's routes would do, were this the route of the source, or were there none of it.
+pub(crate) fn prospect_of(
+    routes: &[Route],
+    num: u32,
+    new: Option<&Route>,
+) -> Result<Prospect, OutOfMemory>
+    requires { AreRoutes routes.now }
+    ensures same { (result ≡ Ok Prospect.Same)
+        ↔ (route_of num routes.now ≡ option_copied new.entry) }
+    ensures best { IfOk result (IfChanges
+        (λ best. best ≡ first_of (routes_with num (option_copied new.entry) routes.now))) }
+{
+    if same_routes(find_route(routes, num), new) {
+        return Ok(Prospect::Same);
+    }
+    let best = copy_option(best_with(routes, num, new))?;
+    Ok(Prospect::Changes { best })
 }
 
 fn place_of(routes: &[Route], num: u32) -> Option<usize>

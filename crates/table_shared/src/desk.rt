@@ -1,5 +1,8 @@
 //! What lies under a table's lock.
-ghost use Rattle.std.specs.Prelude.{◌≡◌, IfOk, IfSome, OnOk, option_copied};
+ghost use Rattle.std.specs.Prelude.{◌≡◌, [], ◌∷◌, IfOk, OnOk, option_copied};
+ghost use Rattle.attrs.specs.History.{after};
+ghost use Rattle.attrs.specs.Table.{IsBestOf, route_in};
+ghost use Rattle.table_shared.specs.Answers.{with_best};
 ghost use Rattle.table_shared.specs.Prepared.{AreCopies, HasMemory, IsSameBut};
 
 use crate::law::TableWriter;
@@ -27,15 +30,22 @@ pub(crate) struct Prepared {
 }
 
 impl Desk {
-    /// Takes all memory that the change may want.
-    pub(crate) fn prepare(&mut self, change: &Change) -> Result<Prepared, OutOfMemory>
-        requires { IfSome change.now.new (λ route. route.src.num ≡ change.now.num) }
+    /// Takes all memory that the change may want. `best` is the best of its net behind it.
+    pub(crate) fn prepare(
+        &mut self,
+        change: &Change,
+        best: Option<Route>,
+    ) -> Result<Prepared, OutOfMemory>
+        requires { IsBestOf
+            (after (route_in self.old.rib.rows) (change.now ∷ []))
+            change.now.net
+            best }
         ensures same { IsSameBut self.old self.new }
         ensures copies { IfOk result (AreCopies self.new.rib.rows change.now) }
         ensures memory { IfOk result (λ _. HasMemory self.new change.now) }
     {
         self.take_memory(change)?;
-        self.copies(change)
+        copies(change, best)
     }
 
     fn take_memory(&mut self, change: &Change) -> Result<(), OutOfMemory>
@@ -46,21 +56,20 @@ impl Desk {
         self.ports.reserve(1)?;
         self.rib.reserve(change)
     }
+}
 
-    fn copies(&self, change: &Change) -> Result<Prepared, OutOfMemory>
-        requires { IfSome change.now.new (λ route. route.src.num ≡ change.now.num) }
-        ensures { IfOk result (AreCopies self.now.rib.rows change.now) }
-    {
-        let best = self.rib.copy_best_with(change)?;
-        let said = JEntry {
-            net: change.net,
-            num: change.num,
-            new: copy_option(change.new.as_ref())?,
-            best,
-        };
-        let change = copy_change(change)?;
-        Ok(Prepared { said, change })
-    }
+fn copies(change: &Change, best: Option<Route>) -> Result<Prepared, OutOfMemory>
+    ensures copy { IfOk result (λ prepared. prepared.change ≡ change.now) }
+    ensures said { IfOk result (λ prepared. prepared.said ≡ with_best best change.now) }
+{
+    let said = JEntry {
+        net: change.net,
+        num: change.num,
+        new: copy_option(change.new.as_ref())?,
+        best,
+    };
+    let change = copy_change(change)?;
+    Ok(Prepared { said, change })
 }
 
 fn copy_change(change: &Change) -> Result<Change, OutOfMemory>
