@@ -25,3 +25,4 @@ pub mod SomeRules
 pub mod WorkedRows
 pub mod Courses
 pub mod Listing
+pub mod Bridges

@@ -2,6 +2,7 @@ pub mod Histories
 pub mod Lines
 pub mod Rules
 pub mod Pipes
+pub mod Bridges
 pub mod Ways
 pub mod Marks
 pub mod Channels

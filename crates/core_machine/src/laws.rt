@@ -20,6 +20,7 @@ ghost use Rattle.export_core.specs.Candidates.{best_in};
 ghost use Rattle.export_core.specs.Histories.{AreRoutesOf, change_of, course_of as told_course};
 ghost use Rattle.export_core.specs.Logs.{Settled};
 ghost use Rattle.export_core.specs.States.{State as Exporter, value_for};
+ghost use Rattle.core_machine.specs.Bridges.{AreWithin, IsBridge, comes_but_by};
 ghost use Rattle.core_machine.specs.Channels.{Channel, IsFed, closed, fed, is_open, new_channel, opened, push_one, renewed, take_one, times};
 ghost use Rattle.core_machine.specs.Enters.{standing_keys};
 ghost use Rattle.core_machine.specs.Histories.{AreReal, content_of, front, own};
@@ -28,7 +29,7 @@ ghost use Rattle.core_machine.specs.Lines.{Act, Line};
 ghost use Rattle.core_machine.specs.Machine.{Begins, Plays, State, gained, if_open, push_at, start};
 ghost use Rattle.core_machine.specs.Match.{IsHeadChunk, IsNextEntry, IsSpecOf, Matches, MatchesFed, MatchesFlushed, TellChosen, change_of_sending};
 ghost use Rattle.core_machine.specs.Phases.{Comes, IsPhase, PlaysAll};
-ghost use Rattle.core_machine.specs.Pipes.{candidate_in, course_of};
+ghost use Rattle.core_machine.specs.Pipes.{candidate_in, course_of, passes};
 ghost use Rattle.core_machine.specs.Room.{Makes, in_room};
 ghost use Rattle.core_machine.specs.Rounds.{HasRounds, taken_up, turn_lines};
 ghost use Rattle.core_machine.specs.Rules.{AreWays, IsRules, Rules, best_of};
@@ -137,6 +138,15 @@ pub fn no_channel_lags_by_more()
 /// The ways that are found level by level are ways, whatever tables the pipes join.
 pub fn levels_give_ways()
     ensures { (rules : Rules) → 1 ≤ rules.tables → HasWays rules → AreWays rules }
+{}
+
+/// A direction of a pipe that is a bridge, as each pipe of a forest is, passes the sources that come
+/// to the table that it reads, but for those that come there by the same pipe: so nothing goes back
+/// by the pipe that it came by, and all else goes on.
+pub fn bridges_keep_what_comes_by_them()
+    ensures { (rules : Rules) (d e num : ℕ) → HasWays rules → AreWithin rules
+        → IsBridge rules d e
+        → passes rules d num ≡ comes_but_by rules e (rules.reads d) num }
 {}
 
 /// What the functions of a configuration owe can be met, and with a pipe.

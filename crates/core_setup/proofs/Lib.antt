@@ -12,3 +12,4 @@ pub mod WorkedPipes
 pub mod Standings
 pub mod Playing
 pub mod Determined
+pub mod Bridged

@@ -194,7 +194,7 @@ module _ (setup : Setup) (f g : ℕ → ℕ → Option (List ℕ)) (i : ℕ) whe
   levels_same zero = refl
   levels_same (suc len) = level_same len (length (channels setup)) (levels (rules_with f setup) i len) (levels (rules_with g setup) i len) (levels_same len)
 
-has_ways : (setup : Setup) → HasWays (rules_of setup)
+pub has_ways : (setup : Setup) → HasWays (rules_of setup)
 has_ways setup table i = ap (λ (found : Found). found table) (levels_same setup (λ table i. None) (ways setup) i (length setup.tables - 1))
 
 -- That the ways that are found level by level are ways is a law of the machine.

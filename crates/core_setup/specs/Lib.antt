@@ -4,6 +4,7 @@ pub mod Channels
 pub mod Differences
 pub mod Choice
 pub mod Protocols
+pub mod Bridges
 pub mod Announced
 pub mod Pairs
 pub mod Reports

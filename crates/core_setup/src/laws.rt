@@ -16,13 +16,16 @@ ghost use Rattle.core_machine.specs.Match.{IsSpecOf};
 ghost use Rattle.core_machine.specs.Rules.{IsRules};
 ghost use Rattle.report.specs.declared.phase.PhaseReport.{PhaseReport};
 ghost use Rattle.core_setup.specs.Announced.{IsOfFamily, fixed_at};
+ghost use Rattle.core_setup.specs.Bridges.{IsBridgeOf, KeepsItsOwn, pipe_at};
 ghost use Rattle.core_setup.specs.Channels.{Channel, channels};
 ghost use Rattle.core_setup.specs.Differences.{differences};
 ghost use Rattle.core_setup.specs.Plays.{IsLegalPlay, IsPlay};
 ghost use Rattle.core_setup.specs.Protocols.{effect_at, exports_of, pipe_is_up, rules_of};
-ghost use Rattle.core_setup.specs.Setup.{IsSetup, Protocol, Setup};
+ghost use Rattle.core_setup.specs.Setup.{IsSetup, Pipe, Protocol, Setup};
 
-use core_machine::laws::{levels_give_ways, phases_are_legal, phases_come_to_one_state};
+use core_machine::laws::{
+    bridges_keep_what_comes_by_them, levels_give_ways, phases_are_legal, phases_come_to_one_state,
+};
 use show_route::laws::a_query_has_one_reply;
 
 /// Tables and protocols say rules of which the machine's laws hold.
@@ -44,6 +47,18 @@ pub fn exporters_go_by_the_rules()
         ≡ (rules_of setup).value c key route) }
 {
     levels_give_ways();
+}
+
+/// Each direction of a pipe that is a bridge, as each pipe of a forest is, keeps the routes that come
+/// by the pipe itself to the table that it reads, and passes those of all other sources that come
+/// there.
+pub fn bridges_keep_their_own()
+    ensures { (setup : Setup) (number : ℕ) (p : Pipe) (d e num : ℕ) → IsSetup setup
+        → pipe_at setup number ≡ Some p → IsBridgeOf setup number p
+        → (rules_of setup).belong number ≡ d ∷ e ∷ []
+        → KeepsItsOwn setup d e num × KeepsItsOwn setup e d num }
+{
+    bridges_keep_what_comes_by_them();
 }
 
 /// A pipe is up or down by the last `enable` or `disable` that it was told, and up where it was
