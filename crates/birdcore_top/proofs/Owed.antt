@@ -9,12 +9,13 @@ use Rattle.std.proofs.lemmas.Option.{none-some}
 use Rattle.core_setup.specs.Setup.{Setup}
 use Rattle.outside_io.specs.Faults.{Rose}
 use Rattle.outside_io.specs.Whole.{WritesFront}
-use Rattle.report.specs.Report.{phase_text, report_text}
+use Rattle.report.specs.Report.{report_text, text_in}
+use Rattle.report.specs.declared.phase.Form.{Form}
 use Rattle.report.specs.declared.phase.PhaseReport.{PhaseReport}
 use Rattle.script_lines.specs.declared.script.Line.{Line}
 use Rattle.birdcore_top.specs.Answer.{Answers, FindsLacked, HasCause, IsEnd, MissesInTurn, Stops, is_early, writes}
 use Rattle.birdcore_top.specs.Answered.{Answered, ShelfSeen, SinkSeen}
-use Rattle.birdcore_top.specs.Command.{Command, Play, Check, conf_of, script_of, usual_cells}
+use Rattle.birdcore_top.specs.Command.{Command, Play, Check, conf_of, form_of, script_of, usual_cells}
 use Rattle.birdcore_top.specs.Outcome.{Held, Outcome, Misused, OverLimit, Refused, BadLine, Played, Accepted, ConfGives, PlayGives, IsPossible}
 use Rattle.birdcore_top.specs.Written.{HasBegun, HasPlayed, IfBegun, IfPlayed, accepted_text, text_so_far}
 use Rattle.birdcore_top.specs.declared.status.Status.{Status}
@@ -47,8 +48,8 @@ nothing_asked shelf sink = record {
 
 -- words that are a command aren't told that they are misused
 never_misused : (command : Command) (held : Held) → IsPossible (Some command) held Misused → ⊥
-never_misused (Play conf script cells) held (inl is) = is
-never_misused (Play conf script cells) held (inr is) = is.3
+never_misused (Play conf script cells form) held (inl is) = is
+never_misused (Play conf script cells form) held (inr is) = is.3
 never_misused (Check conf None) held is = is
 never_misused (Check conf (Some script)) held (inl is) = is
 never_misused (Check conf (Some script)) held (inr is) = is.3
@@ -74,7 +75,7 @@ abbrev AreHeld : Command → (List ℕ → Bool) → Type 0
 AreHeld command lacks = (IsTrue (lacks (conf_of command)) → ⊥) × IfSome (script_of command) (λ script. IsTrue (lacks script) → ⊥)
 
 held_all : (command : Command) (lacks : List ℕ → Bool) (held : Held) (status : Status) → AreHeld command lacks → FindsLacked (Some command) lacks held status
-held_all (Play conf script cells) lacks held status are = record { conf_lacked = λ lacking. absurd (are.0 lacking); script_lacked = λ lacking. absurd (are.1 lacking) }
+held_all (Play conf script cells form) lacks held status are = record { conf_lacked = λ lacking. absurd (are.0 lacking); script_lacked = λ lacking. absurd (are.1 lacking) }
 held_all (Check conf None) lacks held status are = record { conf_lacked = λ lacking. absurd (are.0 lacking); script_lacked = tt }
 held_all (Check conf (Some script)) lacks held status are = record { conf_lacked = λ lacking. absurd (are.0 lacking); script_lacked = λ lacking. absurd (are.1 lacking) }
 
@@ -98,9 +99,9 @@ checked_so conf script held (Played setup actors phases) WriteFault early gives 
 checked_so conf script held (Played setup actors phases) OutOfMemory early gives answers = absurd answers
 checked_so conf script held (Played setup actors phases) (TooLong name) early gives answers = absurd answers
 
-pub stops_play : (conf script : List ℕ) (cells : ℕ) (held : Held) (status : Status) → Stops (λ o. (n : ℕ) → PlayGives IfSome conf script n held o) status
-    → Stops (IsPossible (Some (Play conf script cells)) held) status
-stops_play conf script cells held status is = record { early = is.early; cause = λ answer. let found = is.cause answer in (found.0, found.1 cells, found.2) }
+pub stops_play : (conf script : List ℕ) (cells : ℕ) (form : Form) (held : Held) (status : Status) → Stops (λ o. (n : ℕ) → PlayGives IfSome conf script n held o) status
+    → Stops (IsPossible (Some (Play conf script cells form)) held) status
+stops_play conf script cells form held status is = record { early = is.early; cause = λ answer. let found = is.cause answer in (found.0, found.1 cells, found.2) }
 
 pub stops_check : (conf script : List ℕ) (held : Held) (status : Status) → Stops (λ o. (n : ℕ) → PlayGives IfSome conf script n held o) status
     → Stops (IsPossible (Some (Check conf (Some script))) held) status
@@ -150,7 +151,7 @@ accepted_wants status (inr is) wants = absurd (cc)
 module _ (law : HasOneOutcome) (command : Command) (shelf shelf_after : ShelfSeen) (sink sink_after : SinkSeen) where
   -- the front of a report
   abbrev Front : List (List Line) → List PhaseReport → Type 0
-  Front more reports = WritesFront sink.contents sink_after.contents (text_so_far more reports)
+  Front more reports = WritesFront sink.contents sink_after.contents (text_so_far (form_of (Some command)) more reports)
 
   -- A file stops the program before anything is written.
   pub stopped : (status : Status) → Stops (IsPossible (Some command) shelf.held) status → (status ≡ ReadFault → Rose shelf.faults shelf_after.faults)
@@ -186,9 +187,9 @@ module _ (law : HasOneOutcome) (command : Command) (shelf shelf_after : ShelfSee
 
     -- The files are played, to the report's end or until the sink fails or memory is refused.
     pub ended : AreHeld command shelf.lacks → (status : Status) → IsEnd status
-        → (status ≡ variants.Ok → HasPlayed setup actors phases (λ reports. Appends sink.contents sink_after.contents (report_text reports)))
-        → (status ≡ WriteFault → HasBegun setup actors phases (λ more reports. WritesFront sink.contents sink_after.contents (text_so_far more reports)))
-        → (status ≡ OutOfMemory → HasBegun setup actors phases (λ more reports. Appends sink.contents sink_after.contents (flat_map phase_text reports)))
+        → (status ≡ variants.Ok → HasPlayed setup actors phases (λ reports. Appends sink.contents sink_after.contents (report_text (form_of (Some command)) reports)))
+        → (status ≡ WriteFault → HasBegun setup actors phases (λ more reports. WritesFront sink.contents sink_after.contents (text_so_far (form_of (Some command)) more reports)))
+        → (status ≡ OutOfMemory → HasBegun setup actors phases (λ more reports. Appends sink.contents sink_after.contents (flat_map (text_in (form_of (Some command))) reports)))
         → (status ≡ WriteFault → Rose sink.faults sink_after.faults) → Answered (Some command) shelf shelf_after sink sink_after status
     ended absent status end report front begun write =
         let cause = end_has_cause (Some command) shelf.held setup actors phases possible status end in
@@ -200,9 +201,9 @@ module _ (law : HasOneOutcome) (command : Command) (shelf shelf_after : ShelfSee
           read = λ is. absurd (no_read is);
           in_turn = λ is. absurd (no_read is);
           write = write;
-          report = λ is. inl (played_of (λ reports. Appends sink.contents sink_after.contents (report_text reports)) (report is));
+          report = λ is. inl (played_of (λ reports. Appends sink.contents sink_after.contents (report_text (form_of (Some command)) reports)) (report is));
           front = λ is. inl (begun_so is);
-          begun = λ is. inr (begun_of (Some command) shelf.held setup actors phases (λ more reports. Appends sink.contents sink_after.contents (flat_map phase_text reports)) possible (begun is));
+          begun = λ is. inr (begun_of (Some command) shelf.held setup actors phases (λ more reports. Appends sink.contents sink_after.contents (flat_map (text_in (form_of (Some command))) reports)) possible (begun is));
           nothing_else = λ silent. absurd (end_writes status end silent);
           exact = exact law (Some command) shelf.held shelf.missed shelf_after.missed sink.faults sink_after.faults Front (WritesFront sink.contents sink_after.contents accepted_text) status cause (λ is. absurd (no_read is)) write (λ is. inl (begun_so is));
           absent = held_all command shelf.lacks shelf.held status absent;

@@ -20,7 +20,8 @@ use Rattle.core_setup.specs.Protocols.{rules_of, starts}
 use Rattle.core_setup.specs.Setup.{Setup}
 use Rattle.outside_io.proofs.Blocks.{appends_kept, appends_more}
 use Rattle.outside_io.specs.Whole.{WritesFront}
-use Rattle.report.specs.Report.{phase_text, report_text}
+use Rattle.report.specs.Report.{report_text, text_in}
+use Rattle.report.specs.declared.phase.Form.{Form}
 use Rattle.report.specs.declared.phase.PhaseReport.{PhaseReport}
 use Rattle.script_lines.specs.declared.script.Line.{Line}
 use Rattle.sys_run.specs.Playing as core
@@ -52,17 +53,17 @@ pub front_last : (a b c : Option (List ℕ)) (xs ys : List ℕ) → Appends a b 
 front_last a b c xs ys whole front = subst (λ (l : List ℕ). WritesFront a c l) (append-nil (xs ++ ys)) (front_more a b c xs ys [] whole front)
 
 -- the text of a report more
-more_text : (reports : List PhaseReport) (report : PhaseReport) → flat_map phase_text (reports ++ report ∷ []) ≡ flat_map phase_text reports ++ phase_text report
-more_text reports report =
-    flat_map-append phase_text reports (report ∷ []) ∙ ap (λ (l : List ℕ). flat_map phase_text reports ++ l) (append-nil (phase_text report))
+more_text : (form : Form) (reports : List PhaseReport) (report : PhaseReport) → flat_map (text_in form) (reports ++ report ∷ []) ≡ flat_map (text_in form) reports ++ text_in form report
+more_text form reports report =
+    flat_map-append (text_in form) reports (report ∷ []) ∙ ap (λ (l : List ℕ). flat_map (text_in form) reports ++ l) (append-nil (text_in form report))
 
 -- the texts of what is written, and a front of the text of a phase more
-so_far : (a b c : Option (List ℕ)) (reports : List PhaseReport) (report : PhaseReport) (more : List (List Line)) → Appends a b (flat_map phase_text reports) → WritesFront b c (phase_text report)
-    → WritesFront a c (text_so_far more (reports ++ report ∷ []))
-so_far a b c reports report [] before text =
-    subst (λ (l : List ℕ). WritesFront a c (l ++ codes "end\n")) (sym (more_text reports report)) (front_more a b c (flat_map phase_text reports) (phase_text report) (codes "end\n") before text)
-so_far a b c reports report (phase ∷ more) before text =
-    subst (λ (l : List ℕ). WritesFront a c l) (sym (more_text reports report)) (front_last a b c (flat_map phase_text reports) (phase_text report) before text)
+so_far : (form : Form) (a b c : Option (List ℕ)) (reports : List PhaseReport) (report : PhaseReport) (more : List (List Line)) → Appends a b (flat_map (text_in form) reports) → WritesFront b c (text_in form report)
+    → WritesFront a c (text_so_far form more (reports ++ report ∷ []))
+so_far form a b c reports report [] before text =
+    subst (λ (l : List ℕ). WritesFront a c (l ++ codes "end\n")) (sym (more_text form reports report)) (front_more a b c (flat_map (text_in form) reports) (text_in form report) (codes "end\n") before text)
+so_far form a b c reports report (phase ∷ more) before text =
+    subst (λ (l : List ℕ). WritesFront a c l) (sym (more_text form reports report)) (front_last a b c (flat_map (text_in form) reports) (text_in form report) before text)
 
 -- ---- phases
 
@@ -105,68 +106,68 @@ module _ {J : Type 0} (verdict : J → Net → Route → Verdict) (setup : Setup
   }
 
   -- no phase is done
-  pub nothing_yet : (now : Core J) (a : Option (List ℕ)) → core.HasPlayed verdict setup actors [] [] now → HasWritten verdict setup actors [] now a a
-  nothing_yet now a is = record { reports = []; played = is; written = Appends-nil a }
+  pub nothing_yet : (form : Form) (now : Core J) (a : Option (List ℕ)) → core.HasPlayed verdict setup actors [] [] now → HasWritten verdict setup actors [] form now a a
+  nothing_yet form now a is = record { reports = []; played = is; written = Appends-nil a }
 
-  module _ (phases : List (List Line)) (lines : List Line) (now next : Core J) (report : PhaseReport) (a b c : Option (List ℕ)) (written : HasWritten verdict setup actors phases now a b)
+  module _ (form : Form) (phases : List (List Line)) (lines : List Line) (now next : Core J) (report : PhaseReport) (a b c : Option (List ℕ)) (written : HasWritten verdict setup actors phases form now a b)
       (played : core.HasPlayed verdict setup actors (map (phase_of setup.queries) phases ++ phase_of setup.queries lines ∷ []) (written.reports ++ report ∷ []) next) where
     one_more : core.HasPlayed verdict setup actors (map (phase_of setup.queries) (phases ++ lines ∷ [])) (written.reports ++ report ∷ []) next
     one_more = subst (λ (l : List (List MachineLine)). core.HasPlayed verdict setup actors l (written.reports ++ report ∷ []) next) (sym (map-append (phase_of setup.queries) phases (lines ∷ []))) played
 
     -- a phase more is done
-    pub phase_more : Appends b c (phase_text report) → HasWritten verdict setup actors (phases ++ lines ∷ []) next a c
+    pub phase_more : Appends b c (text_in form report) → HasWritten verdict setup actors (phases ++ lines ∷ []) form next a c
     phase_more text = record {
       reports = written.reports ++ report ∷ [];
       played = one_more;
-      written = subst (λ (l : List ℕ). Appends a c l) (sym (more_text written.reports report)) (appends_more a b c (flat_map phase_text written.reports) (phase_text report) written.written text);
+      written = subst (λ (l : List ℕ). Appends a c l) (sym (more_text form written.reports report)) (appends_more a b c (flat_map (text_in form) written.reports) (text_in form report) written.written text);
     }
 
     -- the sink failed in the report of a phase
-    pub cut_in_phase : (all more : List (List Line)) → all ≡ (phases ++ lines ∷ []) ++ more → WritesFront b c (phase_text report)
-        → HasBegun setup actors all (λ left reports. WritesFront a c (text_so_far left reports))
+    pub cut_in_phase : (all more : List (List Line)) → all ≡ (phases ++ lines ∷ []) ++ more → WritesFront b c (text_in form report)
+        → HasBegun setup actors all (λ left reports. WritesFront a c (text_so_far form left reports))
     cut_in_phase all more whole text = record {
       first = phases ++ lines ∷ [];
       more = more;
       reports = written.reports ++ report ∷ [];
       whole = whole;
       played = is_play (phases ++ lines ∷ []) (written.reports ++ report ∷ []) next one_more;
-      said = so_far a b c written.reports report more written.written text;
+      said = so_far form a b c written.reports report more written.written text;
     }
 
-  module _ (phases : List (List Line)) (now : Core J) (a b c : Option (List ℕ)) (written : HasWritten verdict setup actors phases now a b) where
+  module _ (form : Form) (phases : List (List Line)) (now : Core J) (a b c : Option (List ℕ)) (written : HasWritten verdict setup actors phases form now a b) where
     -- nothing more is written
-    pub cut_between : (all more : List (List Line)) → all ≡ phases ++ more → Keeps b c → HasBegun setup actors all (λ left reports. Appends a c (flat_map phase_text reports))
+    pub cut_between : (all more : List (List Line)) → all ≡ phases ++ more → Keeps b c → HasBegun setup actors all (λ left reports. Appends a c (flat_map (text_in form) reports))
     cut_between all more whole kept = record {
       first = phases;
       more = more;
       reports = written.reports;
       whole = whole;
       played = is_play phases written.reports now written.played;
-      said = appends_kept a b c (flat_map phase_text written.reports) written.written kept;
+      said = appends_kept a b c (flat_map (text_in form) written.reports) written.written kept;
     }
 
     -- all is written
-    pub all_written : Appends b c (codes "end\n") → HasPlayed setup actors phases (λ reports. Appends a c (report_text reports))
+    pub all_written : Appends b c (codes "end\n") → HasPlayed setup actors phases (λ reports. Appends a c (report_text form reports))
     all_written text = record {
       reports = written.reports;
       played = is_play phases written.reports now written.played;
-      said = appends_more a b c (flat_map phase_text written.reports) (codes "end\n") written.written text;
+      said = appends_more a b c (flat_map (text_in form) written.reports) (codes "end\n") written.written text;
     }
 
     -- the sink failed in the last line
-    pub cut_at_end : WritesFront b c (codes "end\n") → HasBegun setup actors phases (λ left reports. WritesFront a c (text_so_far left reports))
+    pub cut_at_end : WritesFront b c (codes "end\n") → HasBegun setup actors phases (λ left reports. WritesFront a c (text_so_far form left reports))
     cut_at_end text = record {
       first = phases;
       more = [];
       reports = written.reports;
       whole = sym (append-nil phases);
       played = is_play phases written.reports now written.played;
-      said = front_last a b c (flat_map phase_text written.reports) (codes "end\n") written.written text;
+      said = front_last a b c (flat_map (text_in form) written.reports) (codes "end\n") written.written text;
     }
 
 -- nothing is played, nothing is written
-pub not_begun : (setup : Setup) (actors : List (List ℕ)) (phases : List (List Line)) (a : Option (List ℕ)) → HasBegun setup actors phases (λ left reports. Appends a a (flat_map phase_text reports))
-not_begun setup actors phases a = record {
+pub not_begun : (form : Form) (setup : Setup) (actors : List (List ℕ)) (phases : List (List Line)) (a : Option (List ℕ)) → HasBegun setup actors phases (λ left reports. Appends a a (flat_map (text_in form) reports))
+not_begun form setup actors phases a = record {
   first = [];
   more = phases;
   reports = [];

@@ -9,9 +9,9 @@ use Rattle.std.specs.Io.KnownBytes.{Appends, Keeps}
 use Rattle.std.specs.List.{flat_map}
 use Rattle.outside_io.specs.Faults.{Rose}
 use Rattle.outside_io.specs.Whole.{WritesFront}
-use Rattle.report.specs.Report.{phase_text, report_text}
+use Rattle.report.specs.Report.{report_text, text_in}
 use Rattle.birdcore_top.specs.Answer.{Answers, FindsLacked, HasCause, MissesInTurn, NoneFailed, SinkTakes, writes}
-use Rattle.birdcore_top.specs.Command.{Command}
+use Rattle.birdcore_top.specs.Command.{Command, form_of}
 use Rattle.birdcore_top.specs.Outcome.{Held, Outcome, IsPossible, IsRequired}
 use Rattle.birdcore_top.specs.Written.{IfAccepted, IfBegun, IfPlayed, accepted_text, text_so_far}
 use Rattle.birdcore_top.specs.declared.status.Status.{Status}
@@ -58,26 +58,28 @@ pub record Answered
       → IsSomeAnd command (λ c. MissesInTurn c shelf.held shelf.missed shelf_after.missed)
   -- A write fault is answered only where the output failed.
   pub write : status ≡ WriteFault → Rose sink.faults sink_after.faults
-  -- With the status 0 the report is written, of all phases and to its end; of a check `ok` and a
-  -- newline.
+  -- With the status 0 the report is written, of all phases and to its end, in the form that the
+  -- words ask for; of a check `ok` and a newline.
   pub report : status ≡ Ok
       → IfPlayed command shelf.held
-      (λ reports. Appends sink.contents sink_after.contents (report_text reports))
+      (λ reports.
+      Appends sink.contents sink_after.contents (report_text (form_of command) reports))
       ⊎ IfAccepted command shelf.held
       (Appends sink.contents sink_after.contents accepted_text)
   -- After a write fault a front of the report is written; its last line, `end`, was begun only
   -- where the reports of all phases stand before it. Of a check it is a front of what that writes.
   pub front : status ≡ WriteFault
       → IfBegun command shelf.held
-      (λ more reports. WritesFront sink.contents sink_after.contents (text_so_far more reports))
+      (λ more reports. WritesFront sink.contents sink_after.contents
+      (text_so_far (form_of command) more reports))
       ⊎ IfAccepted command shelf.held
       (WritesFront sink.contents sink_after.contents accepted_text)
   -- Where memory was refused, the reports of the first phases are written, each whole, or nothing.
   pub begun : status ≡ OutOfMemory
       → Keeps sink.contents sink_after.contents
       ⊎ IfBegun command shelf.held
-      (λ more reports.
-      Appends sink.contents sink_after.contents (flat_map phase_text reports))
+      (λ more reports. Appends sink.contents sink_after.contents
+      (flat_map (text_in (form_of command)) reports))
   -- With any other status nothing is written.
   pub nothing_else : writes status ≡ false → Keeps sink.contents sink_after.contents
   -- What the told files require is answered, or want of memory, unless one of the files that

@@ -111,7 +111,7 @@ CheckGives known name conf o = ConfGives known name conf o
 -- what a command gives over files, and words that are none
 abbrev pub Gives : Knowledge → Option Command → Held → Outcome → Type 0
 Gives known None held o = o ≡ Misused
-Gives known (Some (Play conf script cells)) held o = PlayGives known conf script cells held o
+Gives known (Some (Play conf script cells form)) held o = PlayGives known conf script cells held o
 Gives known (Some (Check conf None)) held o = CheckGives known conf (held conf) o
 Gives known (Some (Check conf (Some script))) held o =
     IsCheckOf (PlayGives known conf script usual_cells held) o

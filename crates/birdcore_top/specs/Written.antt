@@ -12,7 +12,8 @@ use Rattle.attrs.specs.declared.route.Route.{Route}
 use Rattle.bits_ip.specs.Prefix.{Net}
 use Rattle.core_setup.specs.Plays.{IsPlay}
 use Rattle.core_setup.specs.Setup.{Setup}
-use Rattle.report.specs.Report.{phase_text, report_text}
+use Rattle.report.specs.Report.{report_text, text_in}
+use Rattle.report.specs.declared.phase.Form.{Form}
 use Rattle.report.specs.declared.phase.PhaseReport.{PhaseReport}
 use Rattle.script_lines.specs.declared.script.Line.{Line}
 use Rattle.sys_build.specs.Setups.{setup_of}
@@ -42,9 +43,9 @@ pub record IfPlayed
 
 -- The text of the reports of the first phases: the last line, `end`, stands behind them only where
 -- no more phases are left.
-abbrev pub text_so_far : (more : List (List Line)) → List PhaseReport → List ℕ
-text_so_far [] reports = report_text reports
-text_so_far (phase ∷ more) reports = flat_map phase_text reports
+abbrev pub text_so_far : Form → (more : List (List Line)) → List PhaseReport → List ℕ
+text_so_far form [] reports = report_text form reports
+text_so_far form (phase ∷ more) reports = flat_map (text_in form) reports
 
 -- A play of the files may be due, and this is said of the phases that are left behind some first
 -- ones, and of the reports of these.
@@ -105,7 +106,8 @@ pub record HasBegun
 -- The core has played these phases, and the texts of their reports are written.
 pub record HasWritten
     {J : Type 0} (verdict : J → Net → Route → Verdict) (setup : Setup) (actors : List (List ℕ))
-    (phases : List (List Line)) (now : Core J) (before after : Option (List ℕ)) : Type 0 where
+    (phases : List (List Line)) (form : Form) (now : Core J) (before after : Option (List ℕ))
+    : Type 0 where
   pub reports : List PhaseReport
   pub played : core.HasPlayed verdict setup actors (map (phase_of setup.queries) phases) reports now
-  pub written : Appends before after (flat_map phase_text reports)
+  pub written : Appends before after (flat_map (text_in form) reports)

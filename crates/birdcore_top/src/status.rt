@@ -19,7 +19,7 @@ pub enum Status {
     #[error("ok")]
     Ok,
     /// The words are neither `check CONF`, perhaps with `SCRIPT` behind it, nor `play CONF SCRIPT`,
-    /// perhaps with `--journal N` behind that.
+    /// perhaps with `--journal N` behind that and with `-q` as the last word.
     #[error("usage: birdcore COMMAND [CONF [SCRIPT]] [--journal N] [--number N] [-q]")]
     Usage,
     /// The configuration is refused at this place. Lines, and the bytes of a line, are counted from

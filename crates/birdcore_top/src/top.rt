@@ -9,11 +9,12 @@ use crate::status::Status;
 use crate::words::{Asked, asked_by};
 use crate::write::{write_accepted, write_play};
 use outside_io::{Gate, Shelf, Sink};
+use report::Form;
 use std::alloc::Global;
 use std::random::RandomSource;
 
 /// Does all that the program does: plays the script over the configuration that the words name, and
-/// writes the report, phase by phase; or checks a configuration, perhaps with a script over it, and
+/// writes the report, phase by phase, in the form that they ask for; or checks a configuration, perhaps with a script over it, and
 /// writes `ok` where they are accepted.
 ///
 /// What it answers and what stands written are one record of eleven promises (`specs/Answered`).
@@ -58,8 +59,9 @@ fn run<R: RandomSource, F: Shelf, K: Sink>(
                 conf,
                 script,
                 cells,
+                form,
             },
-        ) => { play_files(rt, alloc, conf, script, cells, shelf, out) }
+        ) => { play_files(rt, alloc, conf, script, cells, form, shelf, out) }
         Some(Asked::CheckOne { conf }) => check_conf(alloc, conf, shelf, out),
         Some(Asked::CheckBoth { conf, script }) => check_files(alloc, conf, script, shelf, out),
         None => Status::Usage,
@@ -73,10 +75,11 @@ fn play_files<R: RandomSource, F: Shelf, K: Sink>(
     conf: &str,
     script: &str,
     cells: u32,
+    form: Form,
     shelf: &mut F,
     out: &mut K,
 ) -> Status
-    ensures { Answered (Some (Play conf.now script.now cells))
+    ensures { Answered (Some (Play conf.now script.now cells form))
         (shelf_of (F.held shelf.old) (F.lacks shelf.old) (F.missed shelf.old) (F.faults shelf.old))
         (shelf_of (F.held shelf.new) (F.lacks shelf.new) (F.missed shelf.new) (F.faults shelf.new))
         (sink_of (K.contents out.old) (K.faults out.old))
@@ -85,7 +88,7 @@ fn play_files<R: RandomSource, F: Shelf, K: Sink>(
 {
     files_have_one_outcome();
     match read_files(alloc, conf, script, shelf) {
-        Ok(Files { system, script }) => write_play(rt, alloc, &system, cells, script, out),
+        Ok(Files { system, script }) => write_play(rt, alloc, &system, cells, form, script, out),
         Err(status) => status,
     }
 }

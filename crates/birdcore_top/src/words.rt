@@ -1,6 +1,8 @@
 //! The command line.
 ghost use Rattle.std.specs.Prelude.{◌≡◌, None, Some, MatchOption};
-ghost use Rattle.birdcore_top.specs.Command.{asked_of_four, asked_of_one, asked_of_two, cells_in, command_asked, command_of, is_file};
+ghost use Rattle.birdcore_top.specs.Command.{asked_of_five, asked_of_four, asked_of_one, asked_of_three, asked_of_two, cells_in, command_asked, command_of, is_file};
+
+use report::Form;
 
 /// How many changes the journal of a table holds where nothing is said.
 const USUAL_CELLS: u32 = 256;
@@ -12,11 +14,12 @@ const MOST_CELLS: u32 = 4096;
 #[derive(Clone, Copy, Debug)]
 pub(crate) enum Asked<'a> {
     /// A script is to be played over a configuration. The journal of a table holds so many changes
-    /// for the channels that are still to take them.
+    /// for the channels that are still to take them; the report is written in this form.
     Play {
         conf: &'a str,
         script: &'a str,
         cells: u32,
+        form: Form,
     },
     /// A configuration is to be checked.
     CheckOne {
@@ -30,7 +33,7 @@ pub(crate) enum Asked<'a> {
 }
 
 /// What the words ask for: `check CONF`, `check CONF SCRIPT`, or `play CONF SCRIPT`, perhaps with
-/// `--journal N` behind it.
+/// `--journal N` behind it, and perhaps with `-q` as the last word.
 pub(crate) fn asked_by(words: &[String]) -> Option<Asked<'_>>
     ensures { MatchOption result (command_of words.now ≡ None)
         (λ asked. command_of words.now ≡ Some (command_asked asked)) }
@@ -38,12 +41,26 @@ pub(crate) fn asked_by(words: &[String]) -> Option<Asked<'_>>
     match words {
         [command, conf] => of_one(command.as_str(), conf.as_str()),
         [command, conf, script] => of_two(command.as_str(), conf.as_str(), script.as_str()),
+        [command, conf, script, last] => of_three(
+            command.as_str(),
+            conf.as_str(),
+            script.as_str(),
+            last.as_str(),
+        ),
         [command, conf, script, option, number] => of_four(
             command.as_str(),
             conf.as_str(),
             script.as_str(),
             option.as_str(),
             number.as_str(),
+        ),
+        [command, conf, script, option, number, last] => of_five(
+            command.as_str(),
+            conf.as_str(),
+            script.as_str(),
+            option.as_str(),
+            number.as_str(),
+            last.as_str(),
         ),
         _ => None,
     }
@@ -73,9 +90,33 @@ fn of_two<'a>(command: &str, conf: &'a str, script: &'a str) -> Option<Asked<'a>
             conf,
             script,
             cells: USUAL_CELLS,
+            form: Form::Whole,
         })
     } else if command == "check" {
         Some(Asked::CheckBoth { conf, script })
+    } else {
+        None
+    }
+}
+
+/// What is asked for by three words behind the first.
+fn of_three<'a>(
+    command: &str,
+    conf: &'a str,
+    script: &'a str,
+    last: &str,
+) -> Option<Asked<'a>>
+    ensures { MatchOption result (asked_of_three command.now conf.now script.now last.now ≡ None)
+        (λ asked. asked_of_three command.now conf.now script.now last.now
+        ≡ Some (command_asked asked)) }
+{
+    if command == "play" && last == "-q" && is_file(conf) && is_file(script) {
+        Some(Asked::Play {
+            conf,
+            script,
+            cells: USUAL_CELLS,
+            form: Form::Quiet,
+        })
     } else {
         None
     }
@@ -99,6 +140,34 @@ fn of_four<'a>(
             conf,
             script,
             cells: cells_of(number)?,
+            form: Form::Whole,
+        })
+    } else {
+        None
+    }
+}
+
+/// What is asked for by five words behind the first.
+fn of_five<'a>(
+    command: &str,
+    conf: &'a str,
+    script: &'a str,
+    option: &str,
+    number: &str,
+    last: &str,
+) -> Option<Asked<'a>>
+    ensures { MatchOption result
+        (asked_of_five command.now conf.now script.now option.now number.now last.now ≡ None)
+        (λ asked. asked_of_five command.now conf.now script.now option.now number.now last.now
+        ≡ Some (command_asked asked)) }
+{
+    let is_quiet = command == "play" && option == "--journal" && last == "-q";
+    if is_quiet && is_file(conf) && is_file(script) {
+        Some(Asked::Play {
+            conf,
+            script,
+            cells: cells_of(number)?,
+            form: Form::Quiet,
         })
     } else {
         None

@@ -6,7 +6,7 @@ ghost use Rattle.std.specs.List.{flat_map};
 ghost use Rattle.core_setup.specs.Setup.{IsSetup, Setup};
 ghost use Rattle.outside_io.specs.Faults.{Rose};
 ghost use Rattle.outside_io.specs.Whole.{WritesFront};
-ghost use Rattle.report.specs.Report.{phase_text, report_text};
+ghost use Rattle.report.specs.Report.{report_text, text_in};
 ghost use Rattle.sys_build.specs.Setups.{IsPlayable};
 ghost use Rattle.sys_run.specs.Playing as played;
 ghost use Rattle.system.specs.Coded.{AreOrdered, HasCode, IsBefore};
@@ -18,7 +18,7 @@ use crate::status::Status;
 use attrs::Judge;
 use bits_ip::OutOfMemory;
 use outside_io::{Block, Failed, Sink, Stream, write_whole};
-use report::{PhaseReport, phase_text};
+use report::{Form, PhaseReport, text_in};
 use script_lines::{Line, Name};
 use std::alloc::Global;
 use std::hash::RandomState;
@@ -27,7 +27,7 @@ use sys_build::{ReadScript, build};
 use sys_run::Core;
 use system::{Code, System};
 
-/// Plays the script over the configuration, and writes the reports.
+/// Plays the script over the configuration, and writes the reports in this form.
 ///
 /// With `OutOfMemory` the reports of the first phases may have been written, each whole. It comes
 /// too where there are no random bytes, by which keys that others choose are hashed.
@@ -36,6 +36,7 @@ pub(crate) fn write_play<R: RandomSource, K: Sink>(
     alloc: Global,
     system: &System,
     cells: u32,
+    form: Form,
     script: ReadScript,
     out: &mut K,
 ) -> Status
@@ -47,22 +48,22 @@ pub(crate) fn write_play<R: RandomSource, K: Sink>(
     ensures end { IsEnd result }
     ensures report { result ≡ Status.Ok
         → HasPlayed (setup_read system.now script cells) script.actors.items (phases_read script)
-        (λ reports. Appends (K.contents out.old) (K.contents out.new) (report_text reports)) }
+        (λ reports. Appends (K.contents out.old) (K.contents out.new) (report_text form reports)) }
     ensures front { result ≡ Status.WriteFault
         → HasBegun (setup_read system.now script cells) script.actors.items (phases_read script)
         (λ more reports.
-        WritesFront (K.contents out.old) (K.contents out.new) (text_so_far more reports)) }
+        WritesFront (K.contents out.old) (K.contents out.new) (text_so_far form more reports)) }
     ensures begun { result ≡ Status.OutOfMemory
         → HasBegun (setup_read system.now script cells) script.actors.items (phases_read script)
         (λ more reports.
-        Appends (K.contents out.old) (K.contents out.new) (flat_map phase_text reports)) }
+        Appends (K.contents out.old) (K.contents out.new) (flat_map (text_in form) reports)) }
     ensures write { result ≡ Status.WriteFault → Rose (K.faults out.old) (K.faults out.new) }
 {
     let Some(hasher) = RandomState::new(rt).ok() else {
         return Status::OutOfMemory;
     };
     match system.code(alloc) {
-        Ok(code) => play_coded(alloc, hasher, system, &code, cells, script, out),
+        Ok(code) => play_coded(alloc, hasher, system, &code, cells, form, script, out),
         Err(OutOfMemory) => Status::OutOfMemory,
     }
 }
@@ -74,6 +75,7 @@ fn play_coded<K: Sink>(
     system: &System,
     code: &Code,
     cells: u32,
+    form: Form,
     script: ReadScript,
     out: &mut K,
 ) -> Status
@@ -85,15 +87,15 @@ fn play_coded<K: Sink>(
     ensures end { IsEnd result }
     ensures report { result ≡ Status.Ok
         → HasPlayed (setup_read system.now script cells) script.actors.items (phases_read script)
-        (λ reports. Appends (K.contents out.old) (K.contents out.new) (report_text reports)) }
+        (λ reports. Appends (K.contents out.old) (K.contents out.new) (report_text form reports)) }
     ensures front { result ≡ Status.WriteFault
         → HasBegun (setup_read system.now script cells) script.actors.items (phases_read script)
         (λ more reports.
-        WritesFront (K.contents out.old) (K.contents out.new) (text_so_far more reports)) }
+        WritesFront (K.contents out.old) (K.contents out.new) (text_so_far form more reports)) }
     ensures begun { result ≡ Status.OutOfMemory
         → HasBegun (setup_read system.now script cells) script.actors.items (phases_read script)
         (λ more reports.
-        Appends (K.contents out.old) (K.contents out.new) (flat_map phase_text reports)) }
+        Appends (K.contents out.old) (K.contents out.new) (flat_map (text_in form) reports)) }
     ensures write { result ≡ Status.WriteFault → Rose (K.faults out.old) (K.faults out.new) }
 {
     let ReadScript {
@@ -114,7 +116,7 @@ fn play_coded<K: Sink>(
         Ok(core) => core,
         Err(OutOfMemory) => return Status::OutOfMemory,
     };
-    match write_phases(alloc, &mut core, &actors, phases, out) {
+    match write_phases(alloc, form, &mut core, &actors, phases, out) {
         Ok(()) => write_line(b"end\n", out),
         Err(status) => status,
     }
@@ -123,6 +125,7 @@ fn play_coded<K: Sink>(
 /// Plays the phases, and writes the report of each.
 fn write_phases<J: Judge, K: Sink>(
     alloc: Global,
+    form: Form,
     core: &mut Core<J>,
     actors: &[Name],
     phases: Vec<Vec<Line>>,
@@ -132,43 +135,48 @@ fn write_phases<J: Judge, K: Sink>(
         × AskWhatIs (length setup.queries) (map (λ phase. phase.items) phases.items) }
     ensures played { OnOk result ((setup : Setup)
         → played.HasPlayed J.verdict setup actors.now [] [] core.old
-        → HasWritten J.verdict setup actors.now (map (λ phase. phase.items) phases.items) core.new
+        → HasWritten J.verdict setup actors.now (map (λ phase. phase.items) phases.items) form core.new
         (K.contents out.old) (K.contents out.new)) }
     ensures cut { IfErr result CutsOff }
     ensures front { result ≡ Err Status.WriteFault → (setup : Setup)
         → played.HasPlayed J.verdict setup actors.now [] [] core.old
         → HasBegun setup actors.now (map (λ phase. phase.items) phases.items)
         (λ more reports.
-        WritesFront (K.contents out.old) (K.contents out.new) (text_so_far more reports)) }
+        WritesFront (K.contents out.old) (K.contents out.new) (text_so_far form more reports)) }
     ensures begun { result ≡ Err Status.OutOfMemory → (setup : Setup)
         → played.HasPlayed J.verdict setup actors.now [] [] core.old
         → HasBegun setup actors.now (map (λ phase. phase.items) phases.items)
         (λ more reports.
-        Appends (K.contents out.old) (K.contents out.new) (flat_map phase_text reports)) }
+        Appends (K.contents out.old) (K.contents out.new) (flat_map (text_in form) reports)) }
     ensures write { result ≡ Err Status.WriteFault → Rose (K.faults out.old) (K.faults out.new) }
     ensures later { K.faults out.old ≤ K.faults out.new }
 {
     for lines in phases {
         let report = core.play(actors, lines)?;
-        write_phase(alloc, &report, out)?;
+        write_phase(alloc, form, &report, out)?;
     }
     Ok(())
 }
 
 /// Writes the report of one phase. Memory is wanted for a block alone, before anything is written.
-fn write_phase<K: Sink>(alloc: Global, report: &PhaseReport, out: &mut K) -> Result<(), Status>
+fn write_phase<K: Sink>(
+    alloc: Global,
+    form: Form,
+    report: &PhaseReport,
+    out: &mut K,
+) -> Result<(), Status>
     ensures whole { OnOk result
-        (Appends (K.contents out.old) (K.contents out.new) (phase_text report.now)) }
+        (Appends (K.contents out.old) (K.contents out.new) (text_in form report.now)) }
     ensures cut { IfErr result CutsOff }
     ensures front { result ≡ Err Status.WriteFault
-        → WritesFront (K.contents out.old) (K.contents out.new) (phase_text report.now) }
+        → WritesFront (K.contents out.old) (K.contents out.new) (text_in form report.now) }
     ensures nothing { result ≡ Err Status.OutOfMemory
         → Keeps (K.contents out.old) (K.contents out.new) }
     ensures write { result ≡ Err Status.WriteFault → Rose (K.faults out.old) (K.faults out.new) }
     ensures later { K.faults out.old ≤ K.faults out.new }
 {
     let mut stream = Stream::new(Block::make(alloc)?, out);
-    match phase_text(report, &mut stream) {
+    match text_in(form, report, &mut stream) {
         Ok(()) => {}
         Err(never) => match never {},
     }

@@ -36,7 +36,7 @@ fn answer(rt: &HostRuntime, sort: Sort, case: &Case) -> io::Result<String> {
         Sort::Texts => plays::answer(rt, input),
         Sort::Scripts => plays::refusal(rt, input),
         Sort::Checks => checks::answer(rt, input),
-        Sort::Words => plays::words(rt, input),
+        Sort::Words => plays::words(rt, name, input),
         Sort::Reports => plays::report(rt, name, input),
         Sort::Plays => plays::play(rt, name, input),
         Sort::Replies => replies::reply(rt, input),

@@ -1,5 +1,5 @@
--- The report's text (`report_text`): a function of what each phase reports; every byte of it. A
--- part has a line or more; indentation is tabs, fields are separated by one space, each line ends
+-- The report's text (`report_text`): a function of what each phase reports; every byte of it. In the
+-- quiet form (`quiet_text`) a phase is its number and what stands at its end. A part has a line or more; indentation is tabs, fields are separated by one space, each line ends
 -- with a newline.
 -- Not modelled: where what is reported comes from.
 -- From: own; attributes are written as specs/Text of attrs says.
@@ -33,6 +33,8 @@ use Rattle.report.specs.declared.phase.ProtocolState.TheVariants.{Imports, Pipe}
 use Rattle.report.specs.declared.phase.ExportReport.{ExportReport}
 use Rattle.report.specs.declared.phase.Standing.{Standing}
 use Rattle.report.specs.declared.phase.PhaseReport.{PhaseReport}
+use Rattle.report.specs.declared.phase.Form.{Form}
+use Rattle.report.specs.declared.phase.Form.TheVariants as forms
 
 -- a line behind one tab, and behind two
 abbrev pub line1 : List ℕ → List ℕ
@@ -170,6 +172,19 @@ phase_text phase =
     ++ flat_map mode_line phase.modes
     ++ flat_map (export_text (names_of phase)) phase.exports
 
+-- the quiet form: the phase's number, and what stands at its end
+abbrev pub quiet_text : PhaseReport → List ℕ
+quiet_text phase =
+    codes "phase " ++ decimal phase.number ++ codes "\n"
+    ++ codes "state\n"
+    ++ flat_map (table_text (names_of phase)) phase.tables
+    ++ flat_map mode_line phase.modes
+    ++ flat_map (export_text (names_of phase)) phase.exports
+
+abbrev pub text_in : Form → PhaseReport → List ℕ
+text_in forms.Whole = phase_text
+text_in forms.Quiet = quiet_text
+
 -- each phase, and `end` behind the last
-abbrev pub report_text : List PhaseReport → List ℕ
-report_text phases = flat_map phase_text phases ++ codes "end\n"
+abbrev pub report_text : Form → List PhaseReport → List ℕ
+report_text form phases = flat_map (text_in form) phases ++ codes "end\n"

@@ -4,7 +4,8 @@
 //! what each protocol was told, what each table took, what each channel sent, what was replied;
 //! then the tables, the protocols and the channels as they stand. `phase_text` appends the text of
 //! a phase to what takes text (`TextOut` of bits_ip): a `Vec<u8>`, or a stream to a sink, which
-//! needs no memory for it.
+//! needs no memory for it; `quiet_text` the same without what came about, and `text_in` the one of
+//! these that a `Form` names.
 //!
 //! Contracts see a phase as plain data, and its text by one function of specs/Report for each part.
 //! Two facts carry all: each writer appends the text of its part and nothing else, and the parts of
@@ -17,6 +18,7 @@
 
 mod exports;
 mod journals;
+pub mod laws;
 mod logs;
 mod modes;
 mod operation;
@@ -28,7 +30,7 @@ mod tables;
 mod whole;
 
 pub use phase::{
-    ChannelReport, ExportReport, JournalReport, ModeReport, PhaseReport, ProtocolReport,
+    ChannelReport, ExportReport, Form, JournalReport, ModeReport, PhaseReport, ProtocolReport,
     ProtocolState, ReplyReport, Standing, TableReport,
 };
-pub use whole::phase_text;
+pub use whole::{phase_text, quiet_text, text_in};

@@ -1,7 +1,16 @@
-//! What is reported of a phase.
+//! What is reported of a phase, and how much of it is written.
 use attrs::{Attrs, Change, Row, Seq, Shared};
 use export_core::{Key, LogItem};
 use import_core::{Done, Mode};
+
+/// How much of a phase is written.
+#[derive(Clone, Copy, Debug, PartialEq, Eq)]
+pub enum Form {
+    /// All of it.
+    Whole,
+    /// Its number, and what stands at its end.
+    Quiet,
+}
 
 /// All that is reported of a phase. A protocol's number is its place in `protocols`.
 #[derive(Debug, Drop)]

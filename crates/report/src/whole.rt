@@ -2,13 +2,13 @@
 ghost use Rattle.std.specs.Prelude.{◌≡◌, ◌++◌, codes, decimal, OnOk};
 ghost use Rattle.std.specs.List.{flat_map};
 ghost use Rattle.bits_ip.specs.Out.{Kept};
-ghost use Rattle.report.specs.Report.{channel_text, export_text, journal_text, mode_line, names_of, phase_text, protocol_text, reply_block, table_text};
+ghost use Rattle.report.specs.Report.{channel_text, export_text, journal_text, mode_line, names_of, phase_text, protocol_text, quiet_text, reply_block, table_text, text_in};
 
 use crate::exports::write_exports;
 use crate::journals::write_journals;
 use crate::logs::write_channels;
 use crate::modes::write_modes;
-use crate::phase::PhaseReport;
+use crate::phase::{Form, PhaseReport};
 use crate::protocols::write_protocols;
 use crate::replies::write_replies;
 use crate::tables::write_tables;
@@ -22,6 +22,31 @@ pub fn phase_text<W: TextOut>(phase: &PhaseReport, out: &mut W) -> Result<(), W:
     write_phase_head(phase.number, out)?;
     write_events(phase, out)?;
     write_state(phase, out)
+}
+
+/// Appends the text of a phase in its quiet form: its number, and what stands at its end. Where a
+/// piece isn't taken, a part of the text may stand.
+pub fn quiet_text<W: TextOut>(phase: &PhaseReport, out: &mut W) -> Result<(), W::Fault>
+    ensures written { OnOk result (W.written out.new ≡ W.written out.old ++ quiet_text phase.now) }
+    ensures kept { Kept W.follows out.old out.new }
+{
+    write_phase_head(phase.number, out)?;
+    write_state(phase, out)
+}
+
+/// Appends the text of a phase in this form.
+pub fn text_in<W: TextOut>(
+    form: Form,
+    phase: &PhaseReport,
+    out: &mut W,
+) -> Result<(), W::Fault>
+    ensures written { OnOk result (W.written out.new ≡ W.written out.old ++ text_in form phase.now) }
+    ensures kept { Kept W.follows out.old out.new }
+{
+    match form {
+        Form::Whole => phase_text(phase, out),
+        Form::Quiet => quiet_text(phase, out),
+    }
 }
 
 fn write_phase_head<W: TextOut>(number: u64, out: &mut W) -> Result<(), W::Fault>

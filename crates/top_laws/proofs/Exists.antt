@@ -80,7 +80,7 @@ module _ (says : (text : List ℕ) → length text ≤ limit → SaysSomething t
   -- the files of a command are told
   pub outcome_exists : (command : Command) (held : Held) (file : List ℕ) → held (conf_of command) ≡ Some file → IfSome (script_of command) (λ script. (text : List ℕ) × (held script ≡ Some text))
       → (o : Outcome) × IsRequired (Some command) held o
-  outcome_exists (Play conf script cells) held file conf_told told = both_exist conf script cells held file told.0 conf_told told.1
+  outcome_exists (Play conf script cells form) held file conf_told told = both_exist conf script cells held file told.0 conf_told told.1
   outcome_exists (Check conf None) held file conf_told told =
       let found = alone_exists conf file in (found.0, subst (λ (c : Option (List ℕ)). CheckGives IsSomeAnd conf c found.0) (sym conf_told) found.1)
   outcome_exists (Check conf (Some script)) held file conf_told told =

@@ -25,7 +25,7 @@ module _ (can_be : (conf text : List ℕ) (system : System) (phases : List (List
 
   pub is_setup : (command : Option Command) (held : Held) (setup : Setup) (actors : List (List ℕ)) (phases : List (List Line)) → IsPossible command held (Played setup actors phases) → IsSetup setup
   is_setup None held setup actors phases possible = absurd (not_misused setup actors phases possible)
-  is_setup (Some (Play conf script cells)) held setup actors phases (inl is) = absurd is
-  is_setup (Some (Play conf script cells)) held setup actors phases (inr is) = can_be_played is.0 cells script (held script) setup actors phases is.1 is.3
+  is_setup (Some (Play conf script cells form)) held setup actors phases (inl is) = absurd is
+  is_setup (Some (Play conf script cells form)) held setup actors phases (inr is) = can_be_played is.0 cells script (held script) setup actors phases is.1 is.3
   is_setup (Some (Check conf None)) held setup actors phases is = absurd is
   is_setup (Some (Check conf (Some script))) held setup actors phases is = absurd is

@@ -8,12 +8,12 @@ use Rattle.birdcore_top.proofs.top.play_files.Goals as goal
 pub returns-in-Ok : goal.returns-in-Ok
 returns-in-Ok g c =
     ended (record { accepted = c.files_have_one_outcome.ensures.accepted; one = c.files_have_one_outcome.ensures.one })
-    (Play c.args.conf.now c.args.script.now c.args.cells) _ _ _ _ _ _ _ (c.in-Ok.ensures.files c.args.cells) c.in-Ok.ensures.absent c.write_play.result c.write_play.ensures.end
+    (Play c.args.conf.now c.args.script.now c.args.cells c.args.form) _ _ _ _ _ _ _ (c.in-Ok.ensures.files c.args.cells) c.in-Ok.ensures.absent c.write_play.result c.write_play.ensures.end
     c.write_play.ensures.report c.write_play.ensures.front c.write_play.ensures.begun c.write_play.ensures.write
 
 pub returns-in-Err : goal.returns-in-Err
 returns-in-Err g c =
     stopped (record { accepted = c.files_have_one_outcome.ensures.accepted; one = c.files_have_one_outcome.ensures.one })
-    (Play c.args.conf.now c.args.script.now c.args.cells) _ _ _ _ c.in-Err.status (stops_play c.args.conf.now c.args.script.now c.args.cells (g.F.Shelf.held c.args.shelf.now) c.in-Err.status c.in-Err.ensures.stopped)
+    (Play c.args.conf.now c.args.script.now c.args.cells c.args.form) _ _ _ _ c.in-Err.status (stops_play c.args.conf.now c.args.script.now c.args.cells c.args.form (g.F.Shelf.held c.args.shelf.now) c.in-Err.status c.in-Err.ensures.stopped)
     (λ is. c.in-Err.ensures.read (ap (λ (s : Status). Err s) is)) (λ is. c.in-Err.ensures.in_turn (ap (λ (s : Status). Err s) is))
     (record { conf_lacked = c.in-Err.ensures.absent.0; script_lacked = c.in-Err.ensures.absent.1 }) (Keeps-refl _)

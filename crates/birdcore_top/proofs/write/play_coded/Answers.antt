@@ -7,7 +7,7 @@ use Rattle.birdcore_top.proofs.Writing.{all_written, cut_at_end, not_begun}
 use Rattle.birdcore_top.proofs.write.play_coded.Goals as goal
 
 pub returns-in-Err-clause-begun : goal.returns-in-Err-clause-begun
-returns-in-Err-clause-begun g c = λ is. not_begun (setup_read c.args.system.now c.args.script c.args.cells) c.args.script.actors.items _ _
+returns-in-Err-clause-begun g c = λ is. not_begun c.args.form (setup_read c.args.system.now c.args.script c.args.cells) c.args.script.actors.items _ _
 
 pub build-requires-clause-before : goal.build-requires-clause-before
 build-requires-clause-before g c = rw c.as_slice.ensures.value c.requires.before
@@ -19,12 +19,12 @@ write_phases-requires g c = (setup_read c.args.system.now c.args.script c.args.c
 pub returns-in-Ok-write_phases-clause-report : goal.returns-in-Ok-write_phases-clause-report
 returns-in-Ok-write_phases-clause-report g c = λ is.
     let done = c.in-Ok-write_phases.ensures.played (setup_read c.args.system.now c.args.script c.args.cells) ((rw c.as_slice.ensures.value at c.in-Ok.ensures) c.deref.result.now) in
-    rw c.deref.ensures.value at (all_written _ _ _ _ _ _ _ _ done (c.write_line.ensures.whole is))
+    rw c.deref.ensures.value at (all_written _ _ _ _ _ _ _ _ _ done (c.write_line.ensures.whole is))
 
 pub returns-in-Ok-write_phases-clause-front : goal.returns-in-Ok-write_phases-clause-front
 returns-in-Ok-write_phases-clause-front g c = λ is.
     let done = c.in-Ok-write_phases.ensures.played (setup_read c.args.system.now c.args.script c.args.cells) ((rw c.as_slice.ensures.value at c.in-Ok.ensures) c.deref.result.now) in
-    rw c.deref.ensures.value at (cut_at_end _ _ _ _ _ _ _ _ done (c.write_line.ensures.front is))
+    rw c.deref.ensures.value at (cut_at_end _ _ _ _ _ _ _ _ _ done (c.write_line.ensures.front is))
 
 pub returns-in-Ok-write_phases-clause-write : goal.returns-in-Ok-write_phases-clause-write
 returns-in-Ok-write_phases-clause-write g c = λ is. rose_since _ _ _ c.in-Ok-write_phases.ensures.later (c.write_line.ensures.write is)
