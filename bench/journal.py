@@ -1,16 +1,17 @@
 #!/usr/bin/env python3
 """Times journals and shared tables, beside plain Rust (plain_journal.rs) and the plain table of today.
 
-    bench/journal.py [COUNT]
+    bench/journal.py [COUNT] [take] [update] [race]
 
 It builds a program over copies of the repository's crates, with what `rt check` kept in crates/table_shared_tests and
 crates/jour_tests and below, and wants rustc and valgrind. Each figure is the work of COUNT entries (by
-default 200,000), found as the difference between two runs: instructions as callgrind counts them, and the shortest of
-forty runs in seconds of a processor, in which all works take turns.
+default 200,000), found as the difference between two runs: instructions as callgrind counts them, and nanoseconds of a
+processor, by the shortest of forty runs and by those in the middle, in which all works take turns. Without a name it
+measures all three.
 
 take    an entry of 13 words is taken by `Cursor::next` and `advance`, in turns of a thousand, beside an unproved ring
-        of atomic words; the last of its words is read. The bar is twice the ring.
-read    the same, and all its words are added up; also beside a queue under a lock.
+        of atomic words; the last of its words is read. The bar is twice the ring. Then the same, and all its words are
+        added up; also beside a queue under a lock.
 update  a table of 100,000 nets has one of their routes changed (a BGP route with a path of four numbers), by
         `Table::update` over a journal of 64, 256 (a table's own) or 4,096 cells, whose only cursor skips all every fifty
         changes, beside the same change of the table that a core plays on. The bar is 1.5 times that.
@@ -21,6 +22,7 @@ race    two threads enter COUNT changes each into a table of 4,096 cells, and tw
 import pathlib
 import resource
 import shutil
+import statistics
 import subprocess
 import sys
 import tempfile
@@ -344,18 +346,21 @@ def each(works, count):
         for name, (program, work, start) in works.items():
             times[name][0].append(seconds(program, work, start))
             times[name][1].append(seconds(program, work, start + count))
-    return {name: (counted[name] / count, (min(many) - min(few)) * 1e9 / count) for name, (few, many) in times.items()}
+    return {
+        name: [counted[name] / count, *((of(many) - of(few)) * 1e9 / count for of in (min, statistics.median))]
+        for name, (few, many) in times.items()
+    }
 
 
 def row(name, figures, bar=None):
-    told = f"{name:34} {figures[0]:12.0f} {figures[1]:10.0f}"
+    told = f"{name:34} {figures[0]:12.0f} {figures[1]:10.0f} {figures[2]:10.0f}"
     if bar:
-        told += f" {figures[0] / bar[0]:12.2f} {figures[1] / bar[1]:10.2f}"
+        told += " ".join(["", *(f"{figure / one:10.2f}" for figure, one in zip(figures, bar))])
     print(told, flush=True)
 
 
 def less(more, fewer):
-    return more[0] - fewer[0], more[1] - fewer[1]
+    return [one - other for one, other in zip(more, fewer)]
 
 
 def clock(program, work, count):
@@ -364,31 +369,46 @@ def clock(program, work, count):
     return time.monotonic() - begun, told.strip()
 
 
+def take(program, plain, count):
+    works = {name: (plain, name, 0) for name in ["append", "take", "read", "mutex-append", "mutex-read"]}
+    works |= {name: (program, name.removeprefix("our-"), 0) for name in ["our-append", "our-take", "our-read"]}
+    found = each(works, count)
+    row("append, unproved ring", found["append"])
+    row("append, journal", found["our-append"], found["append"])
+    for work in ["take", "read"]:
+        ring = less(found[work], found["append"])
+        row(f"{work}, unproved ring", ring)
+        row(f"{work}, cursor", less(found["our-" + work], found["our-append"]), ring)
+    row("read, queue under a lock", less(found["mutex-read"], found["mutex-append"]))
+
+
+def update(program, plain, count):
+    found = each({name: (program, name, NETS) for name in ["make", "plain", *UPDATES]}, count)
+    today = less(found["plain"], found["make"])
+    row("change, plain table", today)
+    for work in UPDATES:
+        row(f"{work.replace('-', ', ')} cells", less(found[work], found["make"]), today)
+
+
+def race(program, plain, count):
+    for label, which, work in [("ring", plain, "two"), ("queue", plain, "mutex-two"), ("race", program, "race")]:
+        taken, told = clock(which, work, count)
+        print(f"{label:34} {taken:12.2f} s {told}", flush=True)
+
+
+PARTS = {"take": take, "update": update, "race": race}
+
+
 def main():
-    if len(sys.argv) > 2:
-        sys.exit("usage: bench/journal.py [COUNT]")
-    count = int(sys.argv[1]) if len(sys.argv) > 1 else COUNT
+    words = sys.argv[1:]
+    count = int(words.pop(0)) if words and words[0].isdigit() else COUNT
+    if not set(words) <= PARTS.keys():
+        sys.exit("usage: bench/journal.py [COUNT] [take] [update] [race]")
     with tempfile.TemporaryDirectory() as name:
         program, plain = build(pathlib.Path(name))
-        print(f"{'each':34} {'instructions':>12} {'ns':>10} {'of the bar':>12} {'':>10}")
-        works = {name: (plain, name, 0) for name in ["append", "take", "read", "mutex-append", "mutex-read"]}
-        works |= {name: (program, name.removeprefix("our-"), 0) for name in ["our-append", "our-take", "our-read"]}
-        works |= {name: (program, name, NETS) for name in ["make", "plain", *UPDATES]}
-        found = each(works, count)
-        row("append, unproved ring", found["append"])
-        row("append, journal", found["our-append"], found["append"])
-        for work in ["take", "read"]:
-            ring = less(found[work], found["append"])
-            row(f"{work}, unproved ring", ring)
-            row(f"{work}, cursor", less(found["our-" + work], found["our-append"]), ring)
-        row("read, queue under a lock", less(found["mutex-read"], found["mutex-append"]))
-        today = less(found["plain"], found["make"])
-        row("change, plain table", today)
-        for work in UPDATES:
-            row(f"{work.replace('-', ', ')} cells", less(found[work], found["make"]), today)
-        for label, which, work in [("ring", plain, "two"), ("queue", plain, "mutex-two"), ("race", program, "race")]:
-            taken, told = clock(which, work, count)
-            print(f"{label:34} {taken:12.2f} s {told}", flush=True)
+        print(f"{'each':34} {'instructions':>12} {'least ns':>10} {'middle ns':>10} {'of the bar':>10}")
+        for part in words or PARTS:
+            PARTS[part](program, plain, count)
 
 
 if __name__ == "__main__":

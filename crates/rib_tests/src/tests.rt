@@ -3,7 +3,7 @@ ghost use Rattle.std.specs.Prelude.{◌≡◌, ◌≤◌, IfOk};
 use crate::{Step, change_of, net, new_route, play};
 use attrs::{Change, Row, Select};
 use bits_ip::{Addr, Family};
-use rib::{Outcome, Rib};
+use rib::{Outcome, Prospect, Rib};
 use std::alloc::Global;
 use std::process::Abort;
 use std::test::Fail;
@@ -154,35 +154,6 @@ fn a_table_may_be_emptied(rt: HostRuntime) -> Result<(), Fail> {
     Ok(())
 }
 
-/// Whether this is what stands in a table for 10.0.0.0 of this length and a source.
-fn stands(alloc: Global, table: &Rib, len: u8, num: u32, pref: Option<u32>) -> Result<bool, Fail> {
-    let change = Change {
-        net: net(TEN, len)?,
-        num,
-        new: new_route(alloc, num, pref),
-    };
-    Ok(table.stands(&change))
-}
-
-#[test]
-fn a_route_stands_for_its_net_and_source(rt: HostRuntime) -> Result<(), Fail> {
-    let alloc = rt.alloc();
-    let table = table_of(&rt, alloc, &[add(TEN, 8, 1, 100)])?;
-    let cases = [
-        (8, 1, Some(100), true),
-        (8, 1, Some(90), false),
-        (8, 1, None, false),
-        (8, 2, Some(100), false),
-        (8, 2, None, true),
-        (16, 1, Some(100), false),
-        (16, 1, None, true),
-    ];
-    for (len, num, pref, want) in cases {
-        assert_eq!(rt; stands(alloc, &table, len, num, pref)?, want);
-    }
-    Ok(())
-}
-
 /// A table of four nets, each with one route.
 fn four_nets(rt: &impl Abort, alloc: Global) -> Result<Rib, Fail>
     ensures { IfOk result (λ table. table.family ≡ Family.V4) }
@@ -257,16 +228,23 @@ fn no_cover_selects_no_row(rt: HostRuntime) -> Result<(), Fail> {
     assert_selects(&rt, alloc, &table, &pick, &[])
 }
 
-/// The preference of the best of 10.0.0.0/8 if a source's route there changed so.
-fn best_with(alloc: Global, table: &Rib, num: u32, pref: Option<u32>) -> Result<Option<u32>, Fail> {
+/// What a change of 10.0.0.0 of this length would do: nothing, or leave a best of this preference.
+fn prospect(
+    alloc: Global,
+    table: &Rib,
+    len: u8,
+    num: u32,
+    pref: Option<u32>,
+) -> Result<Option<Option<u32>>, Fail> {
     let change = Change {
-        net: net(TEN, 8)?,
+        net: net(TEN, len)?,
         num,
         new: new_route(alloc, num, pref),
     };
-    Ok(match table.copy_best_with(&change)? {
-        Some(route) => Some(route.attrs.pref),
-        None => None,
+    Ok(match table.prospect(&change)? {
+        Prospect::Same => None,
+        Prospect::Changes { best: Some(route) } => Some(Some(route.attrs.pref)),
+        Prospect::Changes { best: None } => Some(None),
     })
 }
 
@@ -279,6 +257,28 @@ fn best_of(table: &Rib, len: u8) -> Result<Option<u32>, Fail> {
 }
 
 #[test]
+fn a_change_to_what_stands_would_do_nothing(rt: HostRuntime) -> Result<(), Fail> {
+    let alloc = rt.alloc();
+    let table = table_of(&rt, alloc, &[add(TEN, 8, 1, 100), add(TEN, 8, 2, 90)])?;
+    // The length, the source and its new preference, and whether it stands.
+    let cases = [
+        (8, 1, Some(100), true),
+        (8, 1, Some(90), false),
+        (8, 1, None, false),
+        (8, 2, Some(90), true),
+        (8, 2, Some(100), false),
+        (8, 3, Some(100), false),
+        (8, 3, None, true),
+        (16, 1, Some(100), false),
+        (16, 1, None, true),
+    ];
+    for (len, num, pref, want) in cases {
+        assert_eq!(rt; prospect(alloc, &table, len, num, pref)?.is_none(), want);
+    }
+    Ok(())
+}
+
+#[test]
 fn the_best_is_told_before_a_change(rt: HostRuntime) -> Result<(), Fail> {
     let alloc = rt.alloc();
     let table = table_of(&rt, alloc, &[add(TEN, 8, 1, 100), add(TEN, 8, 2, 90)])?;
@@ -288,15 +288,25 @@ fn the_best_is_told_before_a_change(rt: HostRuntime) -> Result<(), Fail> {
         (1, None, Some(90)),
         (2, Some(110), Some(110)),
         (2, None, Some(100)),
+        (3, Some(95), Some(100)),
         (3, Some(100), Some(100)),
         (3, Some(120), Some(120)),
     ];
     for (num, pref, want) in cases {
-        assert_eq!(rt; best_with(alloc, &table, num, pref)?, want);
+        assert_eq!(rt; prospect(alloc, &table, 8, num, pref)?, Some(want));
         assert_eq!(rt; best_of(&table, 8)?, Some(100));
     }
     assert_eq!(rt; best_of(&table, 16)?, None);
     assert_eq!(rt; table.copy_routes(&net(TEN, 16)?)?.len(), 0);
+    Ok(())
+}
+
+#[test]
+fn a_lone_route_comes_and_goes(rt: HostRuntime) -> Result<(), Fail> {
+    let alloc = rt.alloc();
+    let table = table_of(&rt, alloc, &[add(TEN, 8, 1, 100)])?;
+    assert_eq!(rt; prospect(alloc, &table, 8, 1, None)?, Some(None));
+    assert_eq!(rt; prospect(alloc, &table, 16, 1, Some(70))?, Some(Some(70)));
     Ok(())
 }
 
