@@ -93,9 +93,9 @@ module _ (g : Rules) (len : ℕ) where
     level_reaches (suc n) w = elim (cases_lt d n) [
       | inl less ↦ let x = some_of (level g len n f t) (level_reaches n less) in ap (λ o. is_some o) (tried_keeps n (g.target n) (level g len n f) t x.0 x.1)
       | inr le ↦ let same : d ≡ n = omega (arith, w, le) in subst (λ k. is_some (tried g k len (g.target k) (level g len n f) t) ≡ true) same
-        (ap (λ o. is_some (tried g d len o (level g len n f) t)) target
-        ∙ ap (λ o. is_some (gone_on d len t (level g len n f) o t)) (level_keeps n f (g.reads d) ds reached)
-        ∙ gone_reaches d t (level g len n f) ds long)
+          (ap (λ o. is_some (tried g d len o (level g len n f) t)) target
+          ∙ ap (λ o. is_some (gone_on d len t (level g len n f) o t)) (level_keeps n f (g.reads d) ds reached)
+          ∙ gone_reaches d t (level g len n f) ds long)
     ]
 
 -- so each table is reached that a direction leads to from one that was reached before
@@ -236,8 +236,8 @@ module _ (g : Rules) (has : HasWays g) (within : AreWithin g) (d e : ℕ) (bridg
         | inr w ↦ elim (eqb_tells c e) [
           | inl v ↦ record { by = c; is = inr v.1; table = u; target = next.0; there = refl; ds = cs; way = is }
           | inr v ↦ (let same = bridge.along c u next.0 w.1 v.1 in
-            let x = crosses cs (g.reads c) next.1 (other ∙ ap not (sym same)) in
-            record { by = x.by; is = x.is; table = x.table; target = x.target; there = x.there ∙ same; ds = x.ds; way = x.way })
+              let x = crosses cs (g.reads c) next.1 (other ∙ ap not (sym same)) in
+              record { by = x.by; is = x.is; table = x.table; target = x.target; there = x.there ∙ same; ds = x.ds; way = x.way })
         ]
       ]
 
@@ -245,17 +245,17 @@ module _ (g : Rules) (has : HasWays g) (within : AreWithin g) (d e : ℕ) (bridg
   there_by : Crosses (g.reads e) → (ds : List ℕ) × (g.hops (g.reads e) i ≡ Some (d ∷ ds))
   there_by x = elim x.is [
     | inl same ↦ (let at : x.table ≡ g.reads e = some_same (sym x.target ∙ ap g.target same ∙ bridge.there) in
-      (x.ds, subst (λ t. g.hops t i ≡ Some (d ∷ x.ds)) at (subst (λ c. g.hops x.table i ≡ Some (c ∷ x.ds)) same x.way)))
+        (x.ds, subst (λ t. g.hops t i ≡ Some (d ∷ x.ds)) at (subst (λ c. g.hops x.table i ≡ Some (c ∷ x.ds)) same x.way)))
     | inr same ↦ (let at : x.table ≡ g.reads d = some_same (sym x.target ∙ ap g.target same ∙ bridge.back) in
-      apart (side (g.reads d)) (side (g.reads e)) bridge.across (ap side (sym at) ∙ x.there))
+        apart (side (g.reads d)) (side (g.reads e)) bridge.across (ap side (sym at) ∙ x.there))
   ]
 
   back_by : Crosses (g.reads d) → (ds : List ℕ) × (g.hops (g.reads d) i ≡ Some (e ∷ ds))
   back_by x = elim x.is [
     | inl same ↦ (let at : x.table ≡ g.reads e = some_same (sym x.target ∙ ap g.target same ∙ bridge.there) in
-      apart (side (g.reads d)) (side (g.reads e)) bridge.across (sym x.there ∙ ap side at))
+        apart (side (g.reads d)) (side (g.reads e)) bridge.across (sym x.there ∙ ap side at))
     | inr same ↦ (let at : x.table ≡ g.reads d = some_same (sym x.target ∙ ap g.target same ∙ bridge.back) in
-      (x.ds, subst (λ t. g.hops t i ≡ Some (e ∷ x.ds)) at (subst (λ c. g.hops x.table i ≡ Some (c ∷ x.ds)) same x.way)))
+        (x.ds, subst (λ t. g.hops t i ≡ Some (e ∷ x.ds)) at (subst (λ c. g.hops x.table i ≡ Some (c ∷ x.ds)) same x.way)))
   ]
 
   itself : (c : ℕ) → (c == c) ≡ true
@@ -269,7 +269,7 @@ module _ (g : Rules) (has : HasWays g) (within : AreWithin g) (d e : ℕ) (bridg
   onward ds is other = elim (one_side (side (g.table i)) (side (g.reads d))) [
     | inl same ↦ reach (g.hops (g.reads e) i) refl (same ∙ bridge.across)
     | inr far ↦ (let x = back_by (crosses ds (g.reads d) is far) in
-      true_false (sym (itself e) ∙ ap (ends_with e) (sym x.1 ∙ is) ∙ other))
+        true_false (sym (itself e) ∙ ap (ends_with e) (sym x.1 ∙ is) ∙ other))
   ] where
     none_reached : g.hops (g.reads e) i ≡ None → ⊥
     none_reached none =
@@ -294,8 +294,8 @@ module _ (g : Rules) (has : HasWays g) (within : AreWithin g) (d e : ℕ) (bridg
       on [] at same = ap (λ l. not (ends_with e (Some l))) same
       on (x ∷ xs) at same = elim (eqb_tells x e) [
         | inl w ↦ (let again : g.hops (g.reads e) i ≡ Some xs = subst (λ y. g.hops (g.reads y) i ≡ Some xs) w.1 (ways.chain (g.reads d) i x xs at).1 in
-          let bad : c ∷ cs ≡ xs = some_same (sym is ∙ again) in
-          absurd (omega (arith, ap length bad, ap length same)))
+            let bad : c ∷ cs ≡ xs = some_same (sym is ∙ again) in
+            absurd (omega (arith, ap length bad, ap length same)))
         | inr w ↦ ap (λ l. not (ends_with e (Some l))) same ∙ ap not w.0
       ]
 

@@ -5,4 +5,5 @@ pub mod Handed
 pub mod Judged
 pub mod Numbering
 pub mod Playable
+pub mod Bridging
 pub mod Turns

@@ -1,9 +1,11 @@
 //! What holds of all that an accepted configuration and a script give to play, and of what is named.
-ghost use Rattle.std.specs.Prelude.{◌≡◌, ◌<◌, ◌≤◌, ◌-◌, ◌^◌, ℕ, List, length, map};
+ghost use Rattle.std.specs.Prelude.{◌≡◌, ◌<◌, ◌≤◌, ◌-◌, ◌^◌, ℕ, List, [], ◌∷◌, Some, length, map};
 ghost use Rattle.std.specs.List.{All};
+ghost use Rattle.core_setup.specs.Bridges.{KeepsItsOwn, pipe_at};
 ghost use Rattle.core_setup.specs.Channels.{Channel, channels};
 ghost use Rattle.core_setup.specs.Pairs.{Pairs};
-ghost use Rattle.core_setup.specs.Setup.{IsSetup, Protocol};
+ghost use Rattle.core_setup.specs.Protocols.{rules_of};
+ghost use Rattle.core_setup.specs.Setup.{IsSetup, Pipe, Protocol};
 ghost use Rattle.script_lines.specs.Kinds.{AreFew};
 ghost use Rattle.script_lines.specs.Script.{HasTables, NamesWhatIs};
 ghost use Rattle.script_lines.specs.declared.named.NamedProtocol.{NamedProtocol};
@@ -16,7 +18,10 @@ ghost use Rattle.system.specs.Policies.{Filter};
 ghost use Rattle.system.specs.System.{System};
 ghost use Rattle.system.specs.Texts.{IsSystem};
 
-use conf_rules::laws::joined_tables_are_those_that_pipes_lead_between;
+use conf_rules::laws::{
+    joined_tables_are_those_that_pipes_lead_between, pipes_of_a_forest_are_bridges,
+};
+use core_setup::laws::bridges_keep_their_own;
 use script_lines::laws as lines;
 use system::laws::{
     channels_have_their_tables, conditions_ask_for_one_thing, configurations_have_few_protocols,
@@ -58,6 +63,25 @@ pub fn accepted_scripts_are_setups()
     pipes_form_a_forest();
     accepted_configurations_have_their_tables();
     lines::a_script_names_what_is();
+}
+
+/// In an accepted configuration each direction of a pipe keeps the routes that come by the pipe itself
+/// to the table that it reads, and passes those of all other sources that come there. So nothing goes
+/// back by the pipe that it came by.
+pub fn pipes_keep_their_own()
+    ensures { (conf text : List ℕ) (system : System) (phases : List (List Line))
+        (actors : List (List ℕ)) (queries : List Query) (filters : List Filter)
+        (cells number : ℕ) (p : Pipe) (d e num : ℕ) → IsSystem conf system
+        → Answers system text (Accepted phases actors queries filters)
+        → pipe_at (setup_of system cells filters queries) number ≡ Some p
+        → (rules_of (setup_of system cells filters queries)).belong number ≡ d ∷ e ∷ []
+        → KeepsItsOwn (setup_of system cells filters queries) d e num
+        × KeepsItsOwn (setup_of system cells filters queries) e d num }
+{
+    pipes_form_a_forest();
+    pipes_of_a_forest_are_bridges();
+    bridges_keep_their_own();
+    accepted_scripts_are_setups();
 }
 
 /// Each line of an accepted script names what there is, and at most 64 speak.
