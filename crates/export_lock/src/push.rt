@@ -1,0 +1,24 @@
+//! How what is marked is sent.
+ghost use Rattle.std.specs.Prelude.{◌≡◌, ℕ, true};
+ghost use Rattle.export_core.specs.Candidates.{has_num};
+ghost use Rattle.export_lock.specs.Kept.{Goes, IsHeld};
+
+use crate::state::ExportState;
+use attrs::Judge;
+use export_core::{Outlet, PushFault, Pushed};
+
+impl<J: Judge> ExportState<J> {
+    /// Sends the first net that is marked, where its value is news; a channel that is down has
+    /// nothing to send. Each fault is the outlet's, or want of memory, and all is as before then.
+    pub fn push_turn<O: Outlet>(&mut self, outlet: &mut O) -> Result<Pushed, PushFault>
+        requires held { IsHeld J.verdict self.old }
+        requires takes { (num : ℕ) → has_num self.old.exporter.spec num ≡ true
+            → O.takes outlet.old num self.old.exporter.spec.family ≡ true }
+        ensures goes { Goes J.verdict self.old self.new }
+    {
+        if !self.cursor.is_started() {
+            return Ok(Pushed::Nothing);
+        }
+        self.exporter.push_one(outlet)
+    }
+}
