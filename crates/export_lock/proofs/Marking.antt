@@ -1,5 +1,5 @@
 -- What a mark, or a look alone, leaves of what an export lock keeps.
-use Rattle.std.proofs.Common.{◌≡◌, ℕ, suc, ◌+◌, arith, List, [], ◌∷◌, ◌++◌, true, false, cond, inl, inr, length, map, reverse, refl, sym, ap, subst, ◌∙◌, append-nil}
+use Rattle.std.proofs.Common.{◌≡◌, ℕ, suc, ◌+◌, ◌≤◌, arith, List, [], ◌∷◌, ◌++◌, true, false, cond, inl, inr, length, map, reverse, refl, sym, ap, subst, ◌∙◌, append-nil}
 use Rattle.std.proofs.lemmas.Bool.Decides.{eqb_tells}
 use Rattle.std.proofs.lemmas.List.{map-append, reverse-append}
 use mathlib.Core.List.{IsPrefix}
@@ -63,12 +63,14 @@ module _ {J : Type 0} (verdict : J → Net → Route → Verdict) (key : ExportT
     stays = ap (λ z. z.flushing) same ∙ o.stays;
     here = here ∙ o.here;
     start = o.start;
+    family = o.family;
     marks = marks ∙ o.marks;
     makers = o.makers;
     cursors = o.cursors;
     marked = ap (λ z. without_sends (reverse z.log)) same ∙ o.marked ∙ ap (λ z. items_in z ++ without_sends key.log) (sym list);
     mode = mode ∙ o.mode ∙ ap (λ z. is_open z.log) (sym same);
     position = λ is. let was = ap (λ z. is_open z.log) (sym same) ∙ is in ap (λ z. z.position) same ∙ o.position was ∙ sym (position was);
+    least = λ is. subst (λ z. key.table.1.start ≤ z.position) (sym same) (o.least (ap (λ z. is_open z.log) (sym same) ∙ is));
     stands = λ history b'. subst (StandsFor verdict (course_of key.exports.spec history)) (sym same) (o.stands history (begins_shorter key (front a.cursor.0.1) (front b.cursor.0.1) history prefix b'));
   }
 
@@ -76,16 +78,17 @@ module _ {J : Type 0} (verdict : J → Net → Route → Verdict) (key : ExportT
   pub marks_on : (a b : ExportState J) (x : LogItem) → without_sends (x ∷ reverse a.exporter.log) ≡ x ∷ without_sends (reverse a.exporter.log) → item_in (mark_words x) ≡ x
       → b.exporter.spec ≡ a.exporter.spec → b.exporter.judge ≡ a.exporter.judge → b.exporter.flushing ≡ false → b.exporter.log ≡ a.exporter.log ++ x ∷ []
       → journal b.cursor.0 ≡ journal a.cursor.0 → journal b.marks ≡ journal a.marks → front b.marks.1 ≡ front a.marks.1 ++ entry 0 (mark_words x) ∷ [] → b.cursor.1 ≡ is_open b.exporter.log
-      → (is_open b.exporter.log ≡ true → b.exporter.position ≡ position_of b.cursor.0.1.role)
+      → (is_open b.exporter.log ≡ true → b.exporter.position ≡ position_of b.cursor.0.1.role) → (is_open b.exporter.log ≡ true → key.table.1.start ≤ b.exporter.position)
       → ((history : List JEntry) → BeginsWith key (front b.cursor.0.1) history → StandsFor verdict (course_of key.exports.spec history) b.exporter)
       → IsExports verdict key a → IsExports verdict key b
-  marks_on a b x is_mark back spec judge stays log here marks list mode position stands o = record {
+  marks_on a b x is_mark back spec judge stays log here marks list mode position least stands o = record {
     spec = spec ∙ o.spec;
     filter = ap verdict judge ∙ o.filter;
     single = o.single;
     stays = stays;
     here = here ∙ o.here;
     start = o.start;
+    family = o.family;
     marks = marks ∙ o.marks;
     makers = o.makers;
     cursors = o.cursors;
@@ -97,6 +100,7 @@ module _ {J : Type 0} (verdict : J → Net → Route → Verdict) (key : ExportT
         ∙ ap (λ z. items_in z ++ without_sends key.log) (sym list);
     mode = mode;
     position = position;
+    least = least;
     stands = stands;
   }
 

@@ -1,5 +1,5 @@
 -- A push leaves what an export lock keeps.
-use Rattle.std.proofs.Common.{◌≡◌, List, [], ◌∷◌, false, Option, reverse, sym, ap, subst, ◌∙◌}
+use Rattle.std.proofs.Common.{◌≡◌, ◌≤◌, List, [], ◌∷◌, false, Option, reverse, sym, ap, subst, ◌∙◌}
 use Rattle.std.specs.Prelude.{IfOk, OnErr, OnOk, is_some}
 use Rattle.std.specs.declared.result.Result.{Result}
 use Rattle.std.specs.declared.result.Result.TheVariants.{Ok, Err}
@@ -33,12 +33,14 @@ module _ {J : Type 0} (verdict : J → Net → Route → Verdict) (key : ExportT
     stays = stays;
     here = o.here;
     start = o.start;
+    family = o.family;
     marks = o.marks;
     makers = o.makers;
     cursors = o.cursors;
     marked = log ∙ o.marked;
     mode = o.mode ∙ sym open_is;
     position = λ is. position ∙ o.position (sym open_is ∙ is);
+    least = λ is. subst (λ z. key.table.1.start ≤ z) (sym position) (o.least (sym open_is ∙ is));
     stands = λ history b. stands (course_of key.exports.spec history) (o.stands history b);
   }
 

@@ -5,7 +5,7 @@
 -- Not modelled: how far feeds have read.
 -- From: own.
 -- Example: behind an up at 4 the journal of marks has one entry more, and the cursor stands at 4.
-use Rattle.std.specs.Prelude.{◌≡◌, ℕ, ◌+◌, ◌<◌, ◌^◌, true, false, List, ◌++◌, length, reverse}
+use Rattle.std.specs.Prelude.{◌≡◌, ℕ, ◌+◌, ◌<◌, ◌≤◌, ◌^◌, true, false, List, ◌++◌, length, reverse}
 use Rattle.atomic_table.specs.Seated.{TableId}
 use Rattle.attrs.specs.declared.journal.JEntry.{JEntry}
 use Rattle.attrs.specs.declared.judge.Verdict.{Verdict}
@@ -36,6 +36,7 @@ module _ {J : Type 0} (verdict : J → Net → Route → Verdict) where
     -- its journals are those of the key, and marks have no cursor and one maker
     pub here : journal state.cursor.0 ≡ key.table
     pub start : key.table.1.start ≡ length key.before
+    pub family : key.exports.spec.family ≡ key.table.1.opening.family
     pub marks : journal state.marks ≡ key.marks
     pub makers : key.marks.1.opening ≡ 1
     pub cursors : key.marks.1.cursors ≡ 0
@@ -46,6 +47,7 @@ module _ {J : Type 0} (verdict : J → Net → Route → Verdict) where
     pub position :
         is_open state.exporter.log ≡ true
         → state.exporter.position ≡ position_of state.cursor.0.1.role
+    pub least : is_open state.exporter.log ≡ true → key.table.1.start ≤ state.exporter.position
     pub stands :
         (history : List JEntry) → BeginsWith key (front state.cursor.0.1) history
         → StandsFor verdict (course_of key.exports.spec history) state.exporter

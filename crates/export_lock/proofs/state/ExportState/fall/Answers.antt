@@ -21,5 +21,6 @@ returns-clause-goes g c = λ key o.
     (ap (λ z. z.spec) ends) (ap (λ z. z.judge) ends) (ap (λ z. z.flushing) ends) (ap (λ z. z.log) ends)
     (ap (λ z. journal z) c.close.ensures.same) c.note.ensures.here.0 c.note.ensures.list (c.close.ensures.closed ∙ sym c.in_ok-down.ensures.down)
     (λ is. absurd (let e : false ≡ true = sym c.in_ok-down.ensures.down ∙ is in cc))
+    (λ is. absurd (let e : false ≡ true = sym c.in_ok-down.ensures.down ∙ is in cc))
     (λ history b. c.in_ok-down.ensures.stands (course_of key.exports.spec history) (o.stands history (subst (λ z. BeginsWith key (front z.1) history) c.close.ensures.same b)))
     o

@@ -28,6 +28,11 @@ returns-in-Ok-clause-goes g c = λ key o.
     (ap (λ z. z.spec) begins) (ap (λ z. z.judge) begins) (ap (λ z. z.flushing) begins) (ap (λ z. z.log) begins)
     c.start-head.ensures.here.0 c.note.ensures.here.0 c.note.ensures.list (c.start-head.ensures.started.1 ∙ sym c.in-Ok.ensures.up)
     (λ is. ap (λ z. z.position) begins ∙ sym c.start-head.ensures.started.0)
+    (λ is.
+    let at = ap (λ z. z.position) begins in
+    let seen = c.start-head.ensures.told.seen in
+    let start = ap (λ z. z.1.start) (c.start-head.ensures.here.0 ∙ o.here) in
+    omega (arith, at, seen, start))
     (λ history b. c.in-Ok.ensures.stands (course_of key.exports.spec history)
     (let within = begins_within key (front c.start-head.new.cursor.0.1) history o.start b in
     let seen = c.start-head.ensures.told.seen in
