@@ -66,3 +66,9 @@ module _ {J : Type 0} (verdict : J → Net → Route → Verdict) (key : ExportT
       → OnOk r ((c : Course) → StandsFor verdict c a.exporter → StandsFor verdict c e) → IsExports verdict key a → IsExports verdict key (record { exporter = e; cursor = a.cursor; marks = a.marks })
   pushed told more (Ok p) did refused stays stands o = by_kind told more p did stays stands o
   pushed told more (Err f) did refused stays stands o = unchanged refused.0 o
+
+-- a refusal leaves the value as it was
+pub as_was : {J : Type 0} (r : Result Pushed PushFault) (a : ExportState J) (e : State J) (told more : Option (List Sending)) → OnErr r ((e ≡ a.exporter) × (more ≡ told))
+    → OnErr r ((record { exporter = e; cursor = a.cursor; marks = a.marks } ≡ a) × (more ≡ told))
+as_was (Ok p) a e told more refused = tt
+as_was {J} (Err f) a e told more refused = (ap (λ (z : State J). record { exporter = z; cursor = a.cursor; marks = a.marks }) refused.0, refused.1)
