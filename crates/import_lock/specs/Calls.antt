@@ -12,13 +12,27 @@ use Rattle.import_core.specs.declared.operation.Op.{Op}
 use Rattle.import_core.specs.declared.step.Mark.{Mark}
 use Rattle.jour.specs.Seats.{front, head_of, journal, number_of}
 use Rattle.core_machine.specs.Rules.{Effect}
-use Rattle.core_setup.specs.Protocols.{signal_of}
+use Rattle.core_setup.specs.Protocols.{rules_of, signal_of}
 use Rattle.phase_legal.specs.Changes.{AreAbove}
+use Rattle.phase_legal.specs.Shown.{Room}
 use Rattle.table_shared.specs.Answers.{IsEntered, IsFault}
 use Rattle.table_shared.specs.declared.answers.UpdateFault.{UpdateFault}
-use Rattle.import_lock.specs.Kept.{IsImporting, left}
-use Rattle.import_lock.specs.Terms.{ImportTerms, IsLineOf, ops_told, past_ops, rules_in}
+use Rattle.import_lock.specs.Kept.{AreStamped, IsImporting, left}
+use Rattle.import_lock.specs.Terms.{ImportTerms, IsLineOf, PhaseTerms, ops_told, past_ops, rules_in}
 use Rattle.import_lock.specs.declared.state.ImportState.{ImportState}
+
+module _ {J : Type 0} where
+  -- Changes may have gone from those that wait to the table. All else is as before but for what
+  -- the port has seen.
+  pub record OnlySends (old new : ImportState J) : Type 0 where
+    pub importer : new.importer ≡ old.importer
+    pub ops : new.ops.items ≡ old.ops.items
+    pub turns : new.turns ≡ old.turns
+    pub stamp : new.stamp ≡ old.stamp
+    pub fault : new.fault ≡ old.fault
+    pub port : journal new.port ≡ journal old.port
+    pub port_number : number_of new.port.1.role ≡ number_of old.port.1.role
+    pub head : head_of old.port.1 ≤ head_of new.port.1
 
 module _ {J : Type 0} (verdict : J → Net → Route → Verdict) where
   -- it is the value of some lock
@@ -41,24 +55,38 @@ module _ {J : Type 0} (verdict : J → Net → Route → Verdict) where
     pub importing : IsImporting verdict key (made ++ more) new
     pub above : AreAbove (head_of old.port.1) more
 
+  -- Changes may have gone from those that wait to the table, and all that a lock keeps is kept.
+  pub record Sends (old new : ImportState J) : Type 0 where
+    pub only : OnlySends old new
+    pub kept :
+        (key : ImportTerms) (made : List (ℕ × Change)) → IsImporting verdict key made old
+        → HasSent key made old new
+
+  -- An operation was applied and recorded, and of the changes that wait then some may have gone to
+  -- the table.
+  pub record HasTurned
+      (key : ImportTerms) (made : List (ℕ × Change)) (op : Op) (old new : ImportState J)
+      : Type 0 where
+    pub sent : HasSent key made old new
+    pub ops : ops_told key (front new.turns.1) ≡ op ∷ ops_told key (front old.turns.1)
+
+  -- All that the operations of the turns give is sent, and the channel has the marks of all but the
+  -- last one, of which this mark is due.
+  pub record IsDue
+      (key : ImportTerms) (made : List (ℕ × Change)) (op : Op) (earlier : List Op) (mark : Mark)
+      (state : ImportState J) : Type 0 where
+    pub importing : IsImporting verdict key made state
+    pub told : ops_told key (front state.turns.1) ≡ op ∷ earlier
+    pub signal :
+        signal_of mark ≡ ((rules_in key).gives key.number (earlier ++ past_ops key) op).signal
+    pub stamped : AreStamped verdict key made earlier state
+
 -- the signal of a mark, and whether a route was over the limit, are an effect's
 pub record Tells (effect : Effect) (mark : Mark) (over : Bool) : Type 0 where
   pub signal : signal_of mark ≡ effect.signal
   pub over_is : over ≡ effect.over
 
 module _ {J : Type 0} where
-  -- Changes may have gone from those that wait to the table. All else is as before but for what
-  -- the port has seen.
-  pub record OnlySends (old new : ImportState J) : Type 0 where
-    pub importer : new.importer ≡ old.importer
-    pub ops : new.ops.items ≡ old.ops.items
-    pub turns : new.turns ≡ old.turns
-    pub stamp : new.stamp ≡ old.stamp
-    pub fault : new.fault ≡ old.fault
-    pub port : journal new.port ≡ journal old.port
-    pub port_number : number_of new.port.1.role ≡ number_of old.port.1.role
-    pub head : head_of old.port.1 ≤ head_of new.port.1
-
   -- the first change that waited is the port's entry at this position, or nothing waits
   abbrev pub SendsOne : Option ℕ → ImportState J → ImportState J → Type 0
   SendsOne None old new = (left old ≡ []) × (new ≡ old)
@@ -79,6 +107,14 @@ module _ {J : Type 0} where
     pub stamp : new.stamp ≡ old.stamp
     pub fault : new.fault ≡ old.fault
 
+  -- An operation may have been applied, recorded and sent. The stamp is as before, and the port has
+  -- seen no less.
+  pub record OnlyTurns (old new : ImportState J) : Type 0 where
+    pub stamp : new.stamp ≡ old.stamp
+    pub port : journal new.port ≡ journal old.port
+    pub port_number : number_of new.port.1.role ≡ number_of old.port.1.role
+    pub head : head_of old.port.1 ≤ head_of new.port.1
+
   -- What an operation did, as the turns tell it.
   pub record IsTold
       (key : ImportTerms) (op : Op) (mark : Mark) (over : Bool) (old new : ImportState J)
@@ -88,3 +124,9 @@ module _ {J : Type 0} where
         Tells
         ((rules_in key).gives key.number (ops_told key (front old.turns.1) ++ past_ops key) op)
         mark over
+
+-- the room is the phase's, as far as turns and what they give go
+pub record IsRoomOf (phase : PhaseTerms) (room : Room) : Type 0 where
+  pub rules : room.rules ≡ rules_of phase.setup
+  pub lines : room.lines ≡ phase.lines
+  pub past : room.past ≡ phase.past

@@ -1,4 +1,5 @@
 pub mod Terms
 pub mod Kept
+pub mod Begun
 pub mod Calls
 pub mod Locks

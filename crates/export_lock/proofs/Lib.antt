@@ -1,0 +1,4 @@
+pub mod Histories
+pub mod Marking
+pub mod Pushing
+pub mod Taking

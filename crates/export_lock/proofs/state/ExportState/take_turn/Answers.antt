@@ -1,0 +1,62 @@
+use Rattle.std.proofs.Common.{◌≡◌, ◌+◌, ◌-◌, ◌∙◌, ap, sym, refl, subst, [], append-nil, false, true}
+use mathlib.Core.List.{IsPrefix}
+use mathlib.Core.Option.{some}
+use lib.ListN.{get_elem?}
+use Rattle.export_core.specs.Calls.{Takes}
+use Rattle.export_core.specs.Logs.{Course}
+use Rattle.export_core.specs.States.{IsEntryAt, StandsFor}
+use Rattle.jour_rule.specs.Moves.{entry, position_of, read_of}
+use Rattle.jour.specs.Seats.{front}
+use Rattle.rec_words.specs.Entries.{Spells}
+use Rattle.export_lock.proofs.Taking.{taken_on}
+use Rattle.export_lock.proofs.Marking.{still_on}
+use Rattle.export_lock.proofs.state.ExportState.take_turn.Goals as goal
+
+pub returns-in_default-clause-goes : goal.returns-in_default-clause-goes
+returns-in_default-clause-goes g c = λ key o. still_on g.J.Judge.verdict key c.args.self.now (record { exporter = c.args.self.now.exporter; cursor = c.next.new.self; marks = c.args.self.now.marks }) refl c.next.ensures.same.0
+    (subst (λ z. IsPrefix (front c.args.self.now.cursor.0.1) z) (sym c.next.ensures.same.1) ([], append-nil (front c.args.self.now.cursor.0.1))) c.next.ensures.same.4 (λ _. c.next.ensures.same.2) refl refl o
+
+pub returns-in_err-entry-clause-goes : goal.returns-in_err-entry-clause-goes
+returns-in_err-entry-clause-goes g c = λ key o. still_on g.J.Judge.verdict key c.args.self.now (record { exporter = c.args.self.now.exporter; cursor = c.next.new.self; marks = c.args.self.now.marks }) refl c.next.ensures.same.0
+    (subst (λ z. IsPrefix (front c.args.self.now.cursor.0.1) z) (sym c.next.ensures.same.1) ([], append-nil (front c.args.self.now.cursor.0.1))) c.next.ensures.same.4 (λ _. c.next.ensures.same.2) refl refl o
+
+pub returns-in_err-take-clause-goes : goal.returns-in_err-take-clause-goes
+returns-in_err-take-clause-goes g c = λ key o. still_on g.J.Judge.verdict key c.args.self.now (record { exporter = c.take.new.self; cursor = c.next.new.self; marks = c.args.self.now.marks }) c.in_err-take.ensures.refused c.next.ensures.same.0
+    (subst (λ z. IsPrefix (front c.args.self.now.cursor.0.1) z) (sym c.next.ensures.same.1) ([], append-nil (front c.args.self.now.cursor.0.1))) c.next.ensures.same.4 (λ _. c.next.ensures.same.2) refl refl o
+
+pub take-requires-clause-family : goal.take-requires-clause-family
+take-requires-clause-family g c =
+    let o = c.requires.held.exports in
+    c.in_ok-entry.ensures.is.family ∙ ap (λ z. z.1.opening.family) (c.next.ensures.same.0 ∙ o.here) ∙ sym o.family ∙ ap (λ z. z.family) (sym o.spec)
+
+pub returns-clause-goes : goal.returns-clause-goes
+returns-clause-goes g c = λ key o.
+    let verdict = g.J.Judge.verdict in
+    let was = c.args.self.now in
+    let p = position_of was.cursor.0.1.role in
+    let k = c.advance.ensures.entry.0 in
+    let words = read_of c.next.new.self.0.1.role in
+    let said = c.in_ok-entry.entry in
+    let now = c.advance.new.self in
+    let at : c.in-Some.at ≡ p + 1 = c.in-Some.ensures.some.0 ∙ ap (λ z. z + 1) c.next.ensures.same.2 in
+    taken_on c.entries_are_told.ensures c.words_spell_one_entry.ensures verdict key was c.take.new.self now k words said
+    (sym o.mode ∙ sym c.is_started.ensures ∙ c.if-not-is_started.false) p refl
+    (subst (λ z. Takes z said was.exporter c.take.new.self) at c.in_ok-take.ensures.takes)
+    (subst (λ z. (course : Course) → IsEntryAt was.exporter.spec course z said → StandsFor verdict course was.exporter → StandsFor verdict course c.take.new.self) at c.in_ok-take.ensures.stands)
+    (c.advance.ensures.same.0 ∙ c.next.ensures.same.0)
+    (c.advance.ensures.same.4 ∙ c.next.ensures.same.4)
+    (c.advance.ensures.position ∙ ap (λ z. z + 1) c.next.ensures.same.2)
+    (subst (λ z. IsPrefix z (front now.0.1)) c.next.ensures.same.1 c.advance.ensures.prefix)
+    (subst (λ z. get_elem? (front now.0.1) (z - was.cursor.0.1.seen.terms.start) ≡ some (entry k words)) c.next.ensures.same.2
+    (subst (λ z. get_elem? (front now.0.1) (position_of c.next.new.self.0.1.role - z) ≡ some (entry k words)) (ap (λ z. z.1.start) c.next.ensures.same.0) c.advance.ensures.entry.1))
+    (subst (λ z. Spells said z) (sym c.in-Some.ensures.some.2) c.in_ok-entry.ensures.is.words)
+    o
+
+pub returns-clause-took : goal.returns-clause-took
+returns-clause-took g c = λ _.
+    let o = c.requires.held.exports in
+    c.in_ok-take.ensures.takes.position ∙ c.in-Some.ensures.some.0
+    ∙ ap (λ z. z + 1) (c.next.ensures.same.2 ∙ sym (o.position (sym o.mode ∙ sym c.is_started.ensures ∙ c.if-not-is_started.false)))
+
+pub returns-then-not-is_started-clause-none : goal.returns-then-not-is_started-clause-none
+returns-then-not-is_started-clause-none g c = λ _. (refl, λ up. absurd (let e : false ≡ true = sym c.if-not-is_started.true ∙ c.is_started.ensures ∙ up in cc))
