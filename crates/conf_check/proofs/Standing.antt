@@ -17,7 +17,7 @@ use Rattle.filt_tree.specs.declared.scope.Scope.{Scope}
 use Rattle.filt_tree.specs.declared.scope.TFunction.{TFunction}
 use Rattle.filt_tree.specs.declared.tree.TFilter.{TFilter}
 use Rattle.filt_tree.specs.Scopes.{constant_values, function_trees}
-use Rattle.filt_tree.specs.Trees.{judged}
+use Rattle.filt_tree.specs.Trees.{AreBefore, tree_flow}
 use Rattle.filt_values.specs.declared.fixed.Fixed.{Fixed}
 use Rattle.filt_check.proofs.Growing.{filter_stays, nothing_declared}
 use Rattle.conf_rules.specs.declared.refusal.Refusal.{Refusal}
@@ -38,7 +38,7 @@ use Rattle.conf_check.specs.declared.checked.ProtocolBody.TheVariants as bodies
 use Rattle.conf_check.specs.declared.checked.ProtocolDef.{ProtocolDef}
 use Rattle.conf_check.specs.declared.checked.StaticDef.{StaticDef}
 use Rattle.conf_check.specs.Behind.{at_start, behind, behind_one}
-use Rattle.conf_check.specs.Checked.{AreBefore, AreProtocols, DoEach, Does, IsBgp, IsBody, IsChannel, IsChecked, IsOnly, IsPipe, IsPolicy, IsProtocol, IsStatic, NextProtocol, SeesAs, Source, bgp_preference, filter_source, filter_sources, is_protocol, last_export, last_import, last_pipe_export, last_pipe_import, static_preference}
+use Rattle.conf_check.specs.Checked.{AreProtocols, DoEach, Does, IsBgp, IsBody, IsChannel, IsChecked, IsOnly, IsPipe, IsPolicy, IsProtocol, IsStatic, NextProtocol, SeesAs, Source, bgp_preference, filter_source, filter_sources, is_protocol, last_export, last_import, last_pipe_export, last_pipe_import, static_preference}
 use Rattle.conf_check.specs.Refused.{IsFault, or_later, refusal_of}
 use Rattle.conf_check.specs.Seen.{Adds, AddsFilter, AddsOne, AddsProtocol, AreWithin, Grows, Lasts, Means, Stands}
 
@@ -203,11 +203,11 @@ before_grows n m fs more le all = subst (λ (l : List TFunction). All (λ (g : T
 lasts_grow : (text : List ℕ) (scope after : Scope) → Grows scope after → WeakerBehind (Lasts text scope) (Lasts text after)
 lasts_grow text scope after g = λ before ss f h. record {
   does = record {
-    says = λ around attrs.
-        ap (λ (cs : List Fixed). judged around cs (function_trees after) f attrs) g.constants.1
-        ∙ ap (λ (fs : List TFunction). judged around (constant_values scope ++ g.constants.0) fs f attrs) g.functions.1
+    comes_to = λ around attrs.
+        ap (λ (cs : List Fixed). tree_flow around cs (function_trees after) f attrs) g.constants.1
+        ∙ ap (λ (fs : List TFunction). tree_flow around (constant_values scope ++ g.constants.0) fs f attrs) g.functions.1
         ∙ filter_stays around (constant_values scope) g.constants.0 (function_trees scope) g.functions.0 f attrs h.constants h.functions
-        ∙ h.does.says around attrs;
+        ∙ h.does.comes_to around attrs;
     sees = subst (λ (l : List TFunction). AreBefore l f) (sym g.functions.1) (before_grows f.functions f.constants (function_trees scope) g.functions.0 h.functions h.does.sees);
   };
   constants = omega (arith, h.constants, ap (λ (cs : List Fixed). length cs) g.constants.1, length-append (constant_values scope) g.constants.0);
@@ -221,7 +221,7 @@ all_before n m k fs is all = subst (λ (l : ℕ). All (λ (g : TFunction). g.con
 means_lasts : (text : List ℕ) (scope : Scope) (before : List conf.Declaration) → SeesAs text before scope → AreWithin scope → Weaker (Means text scope) (Lasts text scope before)
 means_lasts text scope before sees within = λ ss f h. record {
   does = record {
-    says = λ around attrs. h.does around attrs ∙ ap (λ (c : Context). meaning.judged c ss attrs) (sees around);
+    comes_to = λ around attrs. h.does around attrs ∙ ap (λ (c : Context). meaning.body c [] ss [] attrs) (sees around);
     sees = all_before f.functions f.constants (length (constant_values scope)) (function_trees scope) h.constants within;
   };
   constants = omega (arith, h.constants);

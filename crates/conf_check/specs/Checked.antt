@@ -4,7 +4,7 @@
 -- From: BIRD User's Guide, "Channel options", "BGP", "Static", "Pipe"; some defaults are own.
 -- Example: where nothing is written: `import all`, `export none`, `master4` or `master6`,
 -- preference 200 and 100, limits that disable, MED 0, local preference 100.
-use Rattle.std.specs.Prelude.{◌≡◌, ◌≤◌, ℕ, Bool, true, false, All, List, [], ◌∷◌, ◌++◌, length, map, take, Option, Some, None, ⊤}
+use Rattle.std.specs.Prelude.{◌≡◌, ◌≤◌, ℕ, Bool, true, false, All, List, [], ◌∷◌, ◌++◌, length, map, Option, Some, None, ⊤}
 use Rattle.attrs.specs.declared.attributes.Attrs.{Attrs}
 use Rattle.bits_ip.specs.declared.address.Addr.{Addr}
 use Rattle.bits_ip.specs.declared.address.Addr.TheVariants as addrs
@@ -29,7 +29,7 @@ use Rattle.filt_tree.specs.declared.scope.Scope.{Scope}
 use Rattle.filt_tree.specs.declared.scope.TFunction.{TFunction}
 use Rattle.filt_tree.specs.declared.tree.TFilter.{TFilter}
 use Rattle.filt_tree.specs.Scopes.{constant_values, context_of, function_trees}
-use Rattle.filt_tree.specs.Trees as trees
+use Rattle.filt_tree.specs.Trees.{AreBefore, tree_flow}
 use Rattle.conf_rules.specs.Channels.{last_table, settings_of}
 use Rattle.conf_rules.specs.Known.{Known, number_of, place_in, table_number, table_of}
 use Rattle.conf_rules.specs.Protocols as rules
@@ -70,17 +70,13 @@ or_v4 (Some family) = family
 
 -- ---- filters
 
--- The functions that a filter sees were declared before it, so they see no constants but its own.
-abbrev pub AreBefore : List TFunction → TFilter → Type 0
-AreBefore functions f =
-    All (λ (g : TFunction). g.constants ≤ f.constants) (take f.functions functions)
-
--- The tree does over the scope what the statements do behind these statements of a configuration.
+-- The tree comes to over the scope what the statements come to behind these statements of a
+-- configuration.
 pub record Does (text : List ℕ) (scope : Scope) (before : List conf.Declaration)
     (ss : Statements) (f : TFilter) : Type 0 where
-  pub says : (around : Around) (attrs : Attrs)
-      → trees.judged around (constant_values scope) (function_trees scope) f attrs
-      ≡ meaning.judged (meaning.behind (meaning.at_start text around) before) ss attrs
+  pub comes_to : (around : Around) (attrs : Attrs)
+      → tree_flow around (constant_values scope) (function_trees scope) f attrs
+      ≡ meaning.body (meaning.behind (meaning.at_start text around) before) [] ss [] attrs
   pub sees : AreBefore (function_trees scope) f
 
 -- the scope is seen as the meaning of filters sees the place behind these statements

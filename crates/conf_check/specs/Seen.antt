@@ -16,7 +16,7 @@ use Rattle.filt_tree.specs.declared.scope.Scope.{Scope}
 use Rattle.filt_tree.specs.declared.scope.TFunction.{TFunction}
 use Rattle.filt_tree.specs.declared.tree.TFilter.{TFilter}
 use Rattle.filt_tree.specs.Scopes.{constant_values, context_of, function_trees}
-use Rattle.filt_tree.specs.Trees as trees
+use Rattle.filt_tree.specs.Trees.{tree_flow}
 use Rattle.filt_values.specs.declared.fixed.Fixed.{Fixed}
 use Rattle.conf_rules.specs.declared.declared.Declared.{Declared}
 use Rattle.conf_rules.specs.Known.{Known}
@@ -33,8 +33,8 @@ use Rattle.conf_check.specs.Checked.{AreProtocols, DoEach, Does, SeesAs, IsProto
 -- scope's constants and functions.
 pub record Means (text : List ℕ) (scope : Scope) (ss : Statements) (f : TFilter) : Type 0 where
   pub does : (around : Around) (attrs : Attrs)
-      → trees.judged around (constant_values scope) (function_trees scope) f attrs
-      ≡ meaning.judged (context_of text around scope []) ss attrs
+      → tree_flow around (constant_values scope) (function_trees scope) f attrs
+      ≡ meaning.body (context_of text around scope []) [] ss [] attrs
   pub constants : f.constants ≡ length (constant_values scope)
   pub functions : f.functions ≡ length (function_trees scope)
 

@@ -7,21 +7,21 @@ use Rattle.filt_values.specs.declared.fixed.Fixed.{Fixed}
 use Rattle.filt_values.specs.Seen.{val_of_fixed}
 use Rattle.filt_values.specs.Values.{Val}
 use Rattle.filt_meaning.specs.Configuration as meaning
-use Rattle.filt_meaning.specs.Configuration.{given_by, verdict_of}
+use Rattle.filt_meaning.specs.Configuration.{given_by}
 use Rattle.filt_meaning.specs.Names.{Around, Doing}
 use Rattle.filt_tree.specs.declared.scope.Scope.{Scope}
 use Rattle.filt_tree.specs.declared.scope.TFunction.{TFunction}
 use Rattle.filt_tree.specs.declared.tree.TFilter.{TFilter}
 use Rattle.filt_tree.specs.Scopes.{constant_values, constants_in, context_of, function_names, function_trees, named, tables_of}
-use Rattle.filt_tree.specs.Trees.{Tables, function, judged, run, tables, with_function, with_functions}
+use Rattle.filt_tree.specs.Trees.{Tables, function, run, tables, tree_flow, with_function, with_functions}
 use Rattle.filt_check.proofs.Lookups.{around_stays, constants_stay, functions_length, mapped_length}
 
 -- ---- filters
 
-pub filter_stays : (around : Around) (cs more : List Fixed) (fs others : List TFunction) (x : TFilter) (attrs : Attrs) → x.constants ≤ length cs → x.functions ≤ length fs → judged around (cs ++ more) (fs ++ others) x attrs ≡ judged around cs fs x attrs
+pub filter_stays : (around : Around) (cs more : List Fixed) (fs others : List TFunction) (x : TFilter) (attrs : Attrs) → x.constants ≤ length cs → x.functions ≤ length fs → tree_flow around (cs ++ more) (fs ++ others) x attrs ≡ tree_flow around cs fs x attrs
 filter_stays around cs more fs others x attrs p q =
-    ap (λ (l : List Fixed). verdict_of (run (tables around l (take x.functions (fs ++ others))) x.sorts.items x.body.items [] attrs)) (take-append-le x.constants cs more p)
-    ∙ ap (λ (l : List TFunction). verdict_of (run (tables around (take x.constants cs) l) x.sorts.items x.body.items [] attrs)) (take-append-le x.functions fs others q)
+    ap (λ (l : List Fixed). run (tables around l (take x.functions (fs ++ others))) x.sorts.items x.body.items [] attrs) (take-append-le x.constants cs more p)
+    ∙ ap (λ (l : List TFunction). run (tables around (take x.constants cs) l) x.sorts.items x.body.items [] attrs) (take-append-le x.functions fs others q)
 
 -- ---- functions
 

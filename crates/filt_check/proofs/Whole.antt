@@ -12,7 +12,7 @@ use Rattle.filt_values.specs.declared.value.Sort.{Sort}
 use Rattle.filt_values.specs.Seen.{val_of_fixed}
 use Rattle.filt_values.specs.Values.{Val, default_of}
 use Rattle.filt_meaning.specs.Configuration as meaning
-use Rattle.filt_meaning.specs.Configuration.{at_end, given_by, verdict_of, doing, parameter_names}
+use Rattle.filt_meaning.specs.Configuration.{at_end, given_by, doing, parameter_names}
 use Rattle.filt_meaning.specs.Flow.{Flow, Done, Stopped, AtEnd, Returned, Accepted, Rejected, Faulted, Stuck, Frame}
 use Rattle.filt_meaning.specs.Meaning.{Act, acts, all_declared, choice, defaults, in_turn, nothing, stop, within}
 use Rattle.filt_meaning.specs.Names.{Around, Context}
@@ -23,7 +23,7 @@ use Rattle.filt_tree.specs.declared.tree.TFilter.{TFilter}
 use Rattle.filt_tree.specs.declared.tree.TStmt.{TStmt}
 use Rattle.filt_tree.specs.declared.tree.TStmt.TheVariants as ts
 use Rattle.filt_tree.specs.Scopes.{constant_values, context_of, function_trees, tables_of}
-use Rattle.filt_tree.specs.Trees.{Tables, body, expr, first_constants, function, judged, run, stmt, tables}
+use Rattle.filt_tree.specs.Trees.{Tables, body, expr, first_constants, function, run, stmt, tables, tree_flow}
 use Rattle.filt_types.specs.Scenes.{Signature}
 use Rattle.filt_types.specs.Statements.{sort_given}
 use Rattle.filt_check.specs.Seen.{sorts_in, where_act}
@@ -42,11 +42,11 @@ run_same t c sorts us ss args attrs p h =
     ap (λ (a : Act). a (args ++ map default_of sorts) attrs) h
     ∙ ap (λ (l : Frame). acts ss (within c (all_declared c.text ss)) (args ++ l) attrs) (ap (λ (l : List Sort). map default_of l) p ∙ defaults_are (all_declared c.text ss))
 
-pub filter_same : (text : List ℕ) (around : Around) (scope : Scope) (ss : Statements) (x : TFilter) (attrs : Attrs) → x.constants ≡ length (constant_values scope) → x.functions ≡ length (function_trees scope) → x.sorts.items ≡ sorts_in (all_declared text ss) → body (tables_of around scope) x.body.items ≡ acts ss (within (context_of text around scope []) (all_declared text ss)) → judged around (constant_values scope) (function_trees scope) x attrs ≡ meaning.judged (context_of text around scope []) ss attrs
+pub filter_same : (text : List ℕ) (around : Around) (scope : Scope) (ss : Statements) (x : TFilter) (attrs : Attrs) → x.constants ≡ length (constant_values scope) → x.functions ≡ length (function_trees scope) → x.sorts.items ≡ sorts_in (all_declared text ss) → body (tables_of around scope) x.body.items ≡ acts ss (within (context_of text around scope []) (all_declared text ss)) → tree_flow around (constant_values scope) (function_trees scope) x attrs ≡ meaning.body (context_of text around scope []) [] ss [] attrs
 filter_same text around scope ss x attrs p q sorts h =
-    ap (λ (cs : List Fixed). verdict_of (run (tables around cs (take x.functions (function_trees scope))) x.sorts.items x.body.items [] attrs)) (whole x.constants (constant_values scope) p)
-    ∙ ap (λ (fs : List TFunction). verdict_of (run (tables around (constant_values scope) fs) x.sorts.items x.body.items [] attrs)) (whole x.functions (function_trees scope) q)
-    ∙ ap (λ (fl : Flow Frame). verdict_of fl) (run_same (tables_of around scope) (context_of text around scope []) x.sorts.items x.body.items ss [] attrs sorts h)
+    ap (λ (cs : List Fixed). run (tables around cs (take x.functions (function_trees scope))) x.sorts.items x.body.items [] attrs) (whole x.constants (constant_values scope) p)
+    ∙ ap (λ (fs : List TFunction). run (tables around (constant_values scope) fs) x.sorts.items x.body.items [] attrs) (whole x.functions (function_trees scope) q)
+    ∙ run_same (tables_of around scope) (context_of text around scope []) x.sorts.items x.body.items ss [] attrs sorts h
 
 -- ---- conditions
 

@@ -4,11 +4,11 @@ ghost use Rattle.std.specs.Prelude.{◌≡◌, [], length, None, IfOk, MatchResu
 ghost use Rattle.attrs.specs.declared.attributes.Attrs.{Attrs};
 ghost use Rattle.conf_ast.specs.Configurations.{routine_of};
 ghost use Rattle.conf_ast.specs.Filters.{block_of, expression_of, statements_of};
-ghost use Rattle.filt_meaning.specs.Configuration as meaning;
-ghost use Rattle.filt_meaning.specs.Configuration.{doing, filter_where};
+ghost use Rattle.filt_meaning.specs.Configuration.{body, doing, filter_where};
 ghost use Rattle.filt_meaning.specs.Names.{Around};
 ghost use Rattle.filt_tree.specs.Scopes.{constant_values, context_of, function_trees, tables_of};
 ghost use Rattle.filt_tree.specs.Trees as trees;
+ghost use Rattle.filt_tree.specs.Trees.{tree_flow};
 ghost use Rattle.filt_types.specs.Refusals.{first_in};
 ghost use Rattle.filt_types.specs.Seen.{scene_of, signature_of};
 ghost use Rattle.filt_types.specs.Weight.{block_weight};
@@ -49,8 +49,8 @@ pub fn check_filter(
         (first_in None (of_filter (scene_of text.now scope.now) filter.now.name.at
         (block_of filter.now.block)))) }
     ensures meaning { IfOk result (λ f. (around : Around) (attrs : Attrs)
-        → trees.judged around (constant_values scope.now) (function_trees scope.now) f attrs
-        ≡ meaning.judged (context_of text.now around scope.now []) (block_of filter.now.block)
+        → tree_flow around (constant_values scope.now) (function_trees scope.now) f attrs
+        ≡ body (context_of text.now around scope.now []) [] (block_of filter.now.block) []
         attrs) }
     ensures sees { IfOk result (λ f. (f.constants ≡ length (constant_values scope.now))
         × (f.functions ≡ length (function_trees scope.now))) }
@@ -75,8 +75,8 @@ pub fn check_block(
         (first_in None
         (of_filter (scene_of text.now scope.now) at (block_of block.now)))) }
     ensures meaning { IfOk result (λ f. (around : Around) (attrs : Attrs)
-        → trees.judged around (constant_values scope.now) (function_trees scope.now) f attrs
-        ≡ meaning.judged (context_of text.now around scope.now []) (block_of block.now) attrs) }
+        → tree_flow around (constant_values scope.now) (function_trees scope.now) f attrs
+        ≡ body (context_of text.now around scope.now []) [] (block_of block.now) [] attrs) }
     ensures sees { IfOk result (λ f. (f.constants ≡ length (constant_values scope.now))
         × (f.functions ≡ length (function_trees scope.now))) }
 {
@@ -91,16 +91,16 @@ pub fn resolve_filter(
     alloc: Global,
     text: &[u8],
     scope: &Scope,
-    body: &[Stmt],
+    statements: &[Stmt],
 ) -> Result<TFilter, OutOfMemory>
     ensures meaning { IfOk result (λ f. (around : Around) (attrs : Attrs)
-        → trees.judged around (constant_values scope.now) (function_trees scope.now) f attrs
-        ≡ meaning.judged (context_of text.now around scope.now []) (statements_of body.now)
+        → tree_flow around (constant_values scope.now) (function_trees scope.now) f attrs
+        ≡ body (context_of text.now around scope.now []) [] (statements_of statements.now) []
         attrs) }
     ensures sees { IfOk result (λ f. (f.constants ≡ length (constant_values scope.now))
         × (f.functions ≡ length (function_trees scope.now))) }
 {
-    let block = resolve_block(alloc, text, scope, &[], body)?;
+    let block = resolve_block(alloc, text, scope, &[], statements)?;
     Ok(TFilter {
         constants: scope.constants.len(),
         functions: scope.functions.len(),
@@ -130,9 +130,9 @@ pub fn check_expr(
         (first_in None (of_filter (scene_of text.now scope.now) at
         (filter_where (expression_of condition.now))))) }
     ensures meaning { IfOk result (λ f. (around : Around) (attrs : Attrs)
-        → trees.judged around (constant_values scope.now) (function_trees scope.now) f attrs
-        ≡ meaning.judged (context_of text.now around scope.now [])
-        (filter_where (expression_of condition.now)) attrs) }
+        → tree_flow around (constant_values scope.now) (function_trees scope.now) f attrs
+        ≡ body (context_of text.now around scope.now []) []
+        (filter_where (expression_of condition.now)) [] attrs) }
     ensures sees { IfOk result (λ f. (f.constants ≡ length (constant_values scope.now))
         × (f.functions ≡ length (function_trees scope.now))) }
 {
@@ -161,9 +161,9 @@ pub fn resolve_condition(
     condition: &Expr,
 ) -> Result<TFilter, OutOfMemory>
     ensures meaning { IfOk result (λ f. (around : Around) (attrs : Attrs)
-        → trees.judged around (constant_values scope.now) (function_trees scope.now) f attrs
-        ≡ meaning.judged (context_of text.now around scope.now [])
-        (filter_where (expression_of condition.now)) attrs) }
+        → tree_flow around (constant_values scope.now) (function_trees scope.now) f attrs
+        ≡ body (context_of text.now around scope.now []) []
+        (filter_where (expression_of condition.now)) [] attrs) }
     ensures sees { IfOk result (λ f. (f.constants ≡ length (constant_values scope.now))
         × (f.functions ≡ length (function_trees scope.now))) }
 {

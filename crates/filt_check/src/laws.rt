@@ -13,17 +13,18 @@ ghost use Rattle.filt_tree.specs.declared.scope.Scope.{Scope};
 ghost use Rattle.filt_tree.specs.declared.scope.TFunction.{TFunction};
 ghost use Rattle.filt_tree.specs.declared.tree.TFilter.{TFilter};
 ghost use Rattle.filt_tree.specs.Scopes.{constant_values, context_of, function_trees, tables_of};
-ghost use Rattle.filt_tree.specs.Trees.{function, judged, tables, with_function};
+ghost use Rattle.filt_tree.specs.Trees.{function, tables, tree_flow, with_function};
 ghost use Rattle.filt_types.specs.declared.refusal.Refusal.{Refusal};
 ghost use Rattle.filt_check.specs.Answers.{IsFault};
 ghost use Rattle.filt_check.specs.declared.fault.TypeFault.{TypeFault};
 ghost use Rattle.filt_check.specs.declared.fault.TypeFault.TheVariants.{Memory};
 
-/// A filter means the same where the scope declares more behind what it sees.
+/// A filter does the same where the scope declares more behind what it sees.
 pub fn filters_mean_the_same_behind_more()
     ensures { (around : Around) (cs more : List Fixed) (fs others : List TFunction) (f : TFilter)
         (attrs : Attrs) → f.constants ≤ length cs → f.functions ≤ length fs
-        → judged around (cs ++ more) (fs ++ others) f attrs ≡ judged around cs fs f attrs }
+        → tree_flow around (cs ++ more) (fs ++ others) f attrs
+        ≡ tree_flow around cs fs f attrs }
 {}
 
 /// A function does the same where the scope declares more behind it, and keeps its number.

@@ -1,13 +1,13 @@
 use Rattle.std.proofs.Common.{List, ap, ◌∙◌, []}
 use Rattle.conf_ast.specs.declared.filters.Stmt.{Stmt}
 use Rattle.conf_ast.specs.Filters.{statements_of}
-use Rattle.filt_meaning.specs.Configuration.{judged}
+use Rattle.filt_meaning.specs.Configuration.{body}
 use Rattle.filt_tree.specs.Scopes.{context_of}
 use Rattle.conf_check.proofs.policy.block_filter.Goals as goal
 
 pub returns : goal.returns
 returns c = record {
-  does = λ around attrs. c.in_ok-filter.ensures.meaning around attrs ∙ ap (λ (ss : List Stmt). judged (context_of c.args.text.now around c.args.scope.now []) (statements_of ss) attrs) c.deref.ensures.value;
+  does = λ around attrs. c.in_ok-filter.ensures.meaning around attrs ∙ ap (λ (ss : List Stmt). body (context_of c.args.text.now around c.args.scope.now []) [] (statements_of ss) [] attrs) c.deref.ensures.value;
   constants = c.in_ok-filter.ensures.sees.0;
   functions = c.in_ok-filter.ensures.sees.1;
 }

@@ -8,6 +8,6 @@ use Rattle.filt_check.proofs.Whole.{filter_same}
 use Rattle.filt_check.proofs.check.resolve_filter.Goals as goal
 
 pub returns-clause-meaning : goal.returns-clause-meaning
-returns-clause-meaning c = λ around attrs. filter_same c.args.text.now around c.args.scope.now (statements_of c.args.body.now)
+returns-clause-meaning c = λ around attrs. filter_same c.args.text.now around c.args.scope.now (statements_of c.args.statements.now)
     (record { constants = c.len.result; functions = c.len-2.result; sorts = c.in_ok-block.block.sorts; body = c.in_ok-block.block.body }) attrs
     (c.len.ensures.len ∙ sym (mapped_length (λ (e : Vec ℕ Global × Fixed). e.1) c.args.scope.now.constants.entries)) (c.len-2.ensures.len ∙ sym (mapped_length (λ (e : Vec ℕ Global × TFunction). e.1) c.args.scope.now.functions.entries)) c.in_ok-block.ensures.sorts (c.in_ok-block.ensures.body around)
