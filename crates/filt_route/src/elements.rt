@@ -1,54 +1,73 @@
 //! Elements of paths and lists of communities.
 
-ghost use Rattle.std.specs.Prelude.{◌≡◌, ◌<◌, ◌≤◌, get_or, length, map};
+ghost use Rattle.std.specs.Prelude.{◌≡◌, ◌<◌, ◌≤◌, get_or, length, map, Ok};
 ghost use Rattle.filt_meaning.specs.Meaning.{elements};
-ghost use Rattle.filt_values.specs.Seen.{val_of, Answers};
+ghost use Rattle.filt_values.specs.Seen.{val_of};
 ghost use Rattle.filt_values.specs.Values.{VInt, VPair};
-ghost use Rattle.filt_route.specs.Seen.{elements_in};
+ghost use Rattle.filt_route.specs.Seen.{elements_of, IsApplicable};
 
-use filt_values::{Failure, Value};
+use attrs::{Clist, Path};
+use filt_values::Value;
 
-/// Whether the value has elements.
-pub fn is_list(value: &Value<'_>) -> Result<(), Failure>
-    ensures list { Answers (λ _. elements_in (val_of value.now)) result
-        (elements (val_of value.now)) }
-    ensures few { length (elements_in (val_of value.now)) ≤ 120 }
-{
-    // Asked for what the call ensures: the list is short.
-    let _few = count(value);
-    match value {
-        Value::Path(_) => Ok(()),
-        Value::PathOf(_) => Ok(()),
-        Value::Clist(_) => Ok(()),
-        Value::ClistOf(_) => Ok(()),
-        _ => Err(Failure::Stuck),
+/// What a loop goes over. Contracts see its elements (`elements_of`).
+#[derive(Drop)]
+pub enum Elements<'a> {
+    Path(Path),
+    /// Those of a path that stands elsewhere.
+    PathOf(&'a Path),
+    Clist(Clist),
+    /// Those of a list of communities that stands elsewhere.
+    ClistOf(&'a Clist),
+}
+
+impl<'a> Elements<'a> {
+    /// The elements of a path or a list of communities.
+    pub fn of(list: Value<'a>) -> Elements<'a>
+        requires { IsApplicable (elements (val_of list)) }
+        ensures elements { elements (val_of list.entry) ≡ Ok (elements_of result) }
+        ensures few { length (elements_of result) ≤ 120 }
+    {
+        let elements = held(list);
+        // Asked for what the call ensures: there are few.
+        let _few = elements.len();
+        elements
+    }
+
+    pub fn len(&self) -> usize
+        ensures counted { result ≡ length (elements_of self.now) }
+        ensures few { result ≤ 120 }
+    {
+        match self {
+            Elements::Path(path) => path.as_slice().len(),
+            Elements::PathOf(path) => path.as_slice().len(),
+            Elements::Clist(list) => list.as_slice().len(),
+            Elements::ClistOf(list) => list.as_slice().len(),
+        }
+    }
+
+    /// An element by its place.
+    pub fn get(&self, n: usize) -> Value<'a>
+        requires { n < length (elements_of self.now) }
+        ensures { val_of result ≡ get_or (elements_of self.now) n (VInt 0) }
+    {
+        match self {
+            Elements::Path(path) => number(path.as_slice(), n),
+            Elements::PathOf(path) => number(path.as_slice(), n),
+            Elements::Clist(list) => pair(list.as_slice(), n),
+            Elements::ClistOf(list) => pair(list.as_slice(), n),
+        }
     }
 }
 
-/// How many elements a value has; what is no list has none.
-pub fn count(value: &Value<'_>) -> usize
-    ensures counted { result ≡ length (elements_in (val_of value.now)) }
-    ensures few { result ≤ 120 }
-{
-    match value {
-        Value::Path(path) => path.as_slice().len(),
-        Value::PathOf(path) => path.as_slice().len(),
-        Value::Clist(list) => list.as_slice().len(),
-        Value::ClistOf(list) => list.as_slice().len(),
-        _ => 0,
-    }
-}
-
-/// An element of a list.
-pub fn element<'a>(list: &Value<'a>, n: usize) -> Value<'a>
-    requires { n < length (elements_in (val_of list.now)) }
-    ensures { val_of result ≡ get_or (elements_in (val_of list.now)) n (VInt 0) }
+fn held(list: Value<'_>) -> Elements<'_>
+    requires { IsApplicable (elements (val_of list)) }
+    ensures { elements (val_of list.entry) ≡ Ok (elements_of result) }
 {
     match list {
-        Value::Path(path) => number(path.as_slice(), n),
-        Value::PathOf(path) => number(path.as_slice(), n),
-        Value::Clist(list) => pair(list.as_slice(), n),
-        Value::ClistOf(list) => pair(list.as_slice(), n),
+        Value::Path(path) => Elements::Path(path),
+        Value::PathOf(path) => Elements::PathOf(path),
+        Value::Clist(list) => Elements::Clist(list),
+        Value::ClistOf(list) => Elements::ClistOf(list),
         _ => unreachable!(),
     }
 }

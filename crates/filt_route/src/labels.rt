@@ -5,17 +5,20 @@ ghost use Rattle.filt_code.specs.Codes.{arms_before, labels_of};
 ghost use Rattle.filt_meaning.specs.Items.{among};
 ghost use Rattle.filt_tree.specs.Trees as trees;
 ghost use Rattle.filt_values.specs.Operators.{and_then, bool_in, matches_of};
-ghost use Rattle.filt_values.specs.Seen.{val_of, Answers};
+ghost use Rattle.filt_values.specs.Seen.{val_of};
 ghost use Rattle.filt_values.specs.Values.{VIntSet, VPairSet, VPrefixSet};
+ghost use Rattle.filt_route.specs.Seen.{Gives, IsApplicable};
 
+use crate::halt::{Halt, halted};
 use crate::parts::bool;
 use filt_sets::{IntSet, PairSet, PrefixSet};
 use filt_tree::{Labels, TArm, TStmt};
-use filt_values::{Failure, Value, matches};
+use filt_values::{Value, matches};
 
 /// How many arms stand before the first one whose labels have the value, or how many there are.
-pub fn arms_before<'a>(arms: &'a [TArm<TStmt>], value: &Value<'a>) -> Result<usize, Failure>
-    ensures before { Answers (λ n. n) result
+pub fn arms_before<'a>(arms: &'a [TArm<TStmt>], value: &Value<'a>) -> Result<usize, Halt>
+    requires { IsApplicable (arms_before (labels_of arms.now) (val_of value.now)) }
+    ensures before { Gives (λ n. n) result
         (arms_before (labels_of arms.now) (val_of value.now)) }
     ensures few { IfOk result (λ n. n ≤ length arms.now) }
 {
@@ -28,49 +31,53 @@ pub fn arms_before<'a>(arms: &'a [TArm<TStmt>], value: &Value<'a>) -> Result<usi
 }
 
 /// Whether the value is among the labels.
-fn has<'a>(labels: &'a Labels, value: &Value<'a>) -> Result<bool, Failure>
-    ensures { Answers (λ b. b) result (trees.has labels.now (val_of value.now)) }
+fn has<'a>(labels: &'a Labels, value: &Value<'a>) -> Result<bool, Halt>
+    requires { IsApplicable (trees.has labels.now (val_of value.now)) }
+    ensures { Gives (λ b. b) result (trees.has labels.now (val_of value.now)) }
 {
     match labels {
         Labels::Ints(set) => among_ints(set, value),
         Labels::Pairs(set) => among_pairs(set, value),
         Labels::Prefixes(set) => among_prefixes(set, value),
-        Labels::Stuck => Err(Failure::Stuck),
+        Labels::Stuck => unreachable!(),
     }
 }
 
-fn among_ints<'a>(set: &'a IntSet, value: &Value<'a>) -> Result<bool, Failure>
-    ensures { Answers (λ b. b) result (among (VIntSet set.now) (val_of value.now)) }
+fn among_ints<'a>(set: &'a IntSet, value: &Value<'a>) -> Result<bool, Halt>
+    requires { IsApplicable (among (VIntSet set.now) (val_of value.now)) }
+    ensures { Gives (λ b. b) result (among (VIntSet set.now) (val_of value.now)) }
 {
     match value {
         Value::Int(_) => is_element(value, &Value::IntSet(set)),
-        _ => Err(Failure::Stuck),
+        _ => unreachable!(),
     }
 }
 
-fn among_pairs<'a>(set: &'a PairSet, value: &Value<'a>) -> Result<bool, Failure>
-    ensures { Answers (λ b. b) result (among (VPairSet set.now) (val_of value.now)) }
+fn among_pairs<'a>(set: &'a PairSet, value: &Value<'a>) -> Result<bool, Halt>
+    requires { IsApplicable (among (VPairSet set.now) (val_of value.now)) }
+    ensures { Gives (λ b. b) result (among (VPairSet set.now) (val_of value.now)) }
 {
     match value {
         Value::Pair(_, _) => is_element(value, &Value::PairSet(set)),
-        _ => Err(Failure::Stuck),
+        _ => unreachable!(),
     }
 }
 
-fn among_prefixes<'a>(set: &'a PrefixSet, value: &Value<'a>) -> Result<bool, Failure>
-    ensures { Answers (λ b. b) result (among (VPrefixSet set.now) (val_of value.now)) }
+fn among_prefixes<'a>(set: &'a PrefixSet, value: &Value<'a>) -> Result<bool, Halt>
+    requires { IsApplicable (among (VPrefixSet set.now) (val_of value.now)) }
+    ensures { Gives (λ b. b) result (among (VPrefixSet set.now) (val_of value.now)) }
 {
     match value {
         Value::Prefix(_) => is_element(value, &Value::PrefixSet(set)),
-        _ => Err(Failure::Stuck),
+        _ => unreachable!(),
     }
 }
 
-pub(crate) fn is_element<'a>(value: &Value<'a>, set: &Value<'a>) -> Result<bool, Failure>
-    ensures { Answers (λ b. b) result
-        (and_then (matches_of (val_of value.now) (val_of set.now))
-        bool_in) }
+pub(crate) fn is_element<'a>(value: &Value<'a>, set: &Value<'a>) -> Result<bool, Halt>
+    requires { IsApplicable (and_then (matches_of (val_of value.now) (val_of set.now)) bool_in) }
+    ensures { Gives (λ b. b) result
+        (and_then (matches_of (val_of value.now) (val_of set.now)) bool_in) }
 {
-    let answer = matches(value, set)?;
-    bool(&answer)
+    let answer = matches(value, set).map_err(halted)?;
+    Ok(bool(&answer))
 }

@@ -6,6 +6,7 @@
 #![tactic(auto)]
 
 mod elements;
+mod halt;
 mod labels;
 mod operators;
 mod parts;
@@ -13,7 +14,8 @@ mod questions;
 mod running;
 mod surroundings;
 
-pub use elements::{count, element, is_list};
+pub use elements::Elements;
+pub use halt::Halt;
 pub use labels::arms_before;
 pub use operators::{apply_one, apply_two};
 pub use parts::bool;

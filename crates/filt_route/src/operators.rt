@@ -3,7 +3,9 @@
 ghost use Rattle.filt_code.specs.Codes.{one_of, two_of};
 ghost use Rattle.filt_meaning.specs.Meaning.{compare_of, factor_of, method_of, term_of};
 ghost use Rattle.filt_values.specs.Seen.{val_of, Answers, Builds};
+ghost use Rattle.filt_route.specs.Seen.{Gives, IsApplicable};
 
+use crate::halt::{Halt, halted, list_halted};
 use conf_ast::filters::{AddOp, CompareOp, MethodKind, MulOp, Property};
 use filt_code::{OfOne, OfTwo};
 use filt_values::{
@@ -13,11 +15,15 @@ use filt_values::{
 };
 use std::alloc::Global;
 
-pub fn apply_one<'a>(
-    alloc: Global,
-    operator: OfOne,
-    value: &Value<'a>,
-) -> Result<Value<'a>, Failure>
+/// What an operator gives of a value that it takes.
+pub fn apply_one<'a>(alloc: Global, operator: OfOne, value: &Value<'a>) -> Result<Value<'a>, Halt>
+    requires { IsApplicable (one_of operator (val_of value.now)) }
+    ensures { Gives val_of result (one_of operator (val_of value.now)) }
+{
+    one(alloc, operator, value).map_err(halted)
+}
+
+fn one<'a>(alloc: Global, operator: OfOne, value: &Value<'a>) -> Result<Value<'a>, Failure>
     ensures { Answers val_of result (one_of operator (val_of value.now)) }
 {
     match operator {
@@ -31,23 +37,27 @@ pub fn apply_one<'a>(
     }
 }
 
-pub fn apply_two<'a>(
-    operator: OfTwo,
-    left: Value<'a>,
-    right: &Value<'a>,
-) -> Result<Value<'a>, ListFailure>
+/// What an operator gives of two values that it takes.
+pub fn apply_two<'a>(operator: OfTwo, left: Value<'a>, right: &Value<'a>) -> Result<Value<'a>, Halt>
+    requires { IsApplicable (two_of operator (val_of left) (val_of right.now)) }
+    ensures { Gives val_of result (two_of operator (val_of left.entry) (val_of right.now)) }
+{
+    two(operator, left, right).map_err(list_halted)
+}
+
+fn two<'a>(operator: OfTwo, left: Value<'a>, right: &Value<'a>) -> Result<Value<'a>, ListFailure>
     ensures { Builds val_of result (two_of operator (val_of left.entry) (val_of right.now)) }
 {
     match operator {
-        OfTwo::Method(kind) => apply_method(kind, left, right),
+        OfTwo::Method(kind) => method(kind, left, right),
         OfTwo::Pair => Ok(pair(&left, right)?),
-        OfTwo::Factor(factor) => Ok(apply_factor(factor, &left, right)?),
-        OfTwo::Term(term) => Ok(apply_term(term, &left, right)?),
-        OfTwo::Compare(compare) => Ok(apply_compare(compare, &left, right)?),
+        OfTwo::Factor(op) => Ok(factor(op, &left, right)?),
+        OfTwo::Term(op) => Ok(term(op, &left, right)?),
+        OfTwo::Compare(op) => Ok(compare(op, &left, right)?),
     }
 }
 
-fn apply_method<'a>(
+fn method<'a>(
     kind: MethodKind,
     list: Value<'a>,
     argument: &Value<'a>,
@@ -62,36 +72,39 @@ fn apply_method<'a>(
     }
 }
 
-fn apply_factor<'a>(
-    factor: MulOp,
-    left: &Value<'a>,
-    right: &Value<'a>,
-) -> Result<Value<'a>, Failure>
-    ensures { Answers val_of result (factor_of factor (val_of left.now) (val_of right.now)) }
+fn factor<'a>(op: MulOp, left: &Value<'a>, right: &Value<'a>) -> Result<Value<'a>, Failure>
+    ensures { Answers val_of result (factor_of op (val_of left.now) (val_of right.now)) }
 {
-    match factor {
+    match op {
         MulOp::Times => times(left, right),
         MulOp::Over => over(left, right),
     }
 }
 
-fn apply_term<'a>(term: AddOp, left: &Value<'a>, right: &Value<'a>) -> Result<Value<'a>, Failure>
-    ensures { Answers val_of result (term_of term (val_of left.now) (val_of right.now)) }
+fn term<'a>(op: AddOp, left: &Value<'a>, right: &Value<'a>) -> Result<Value<'a>, Failure>
+    ensures { Answers val_of result (term_of op (val_of left.now) (val_of right.now)) }
 {
-    match term {
+    match op {
         AddOp::Plus => plus(left, right),
         AddOp::Minus => minus(left, right),
     }
 }
 
 pub(crate) fn apply_compare<'a>(
-    compare: CompareOp,
+    op: CompareOp,
     left: &Value<'a>,
     right: &Value<'a>,
-) -> Result<Value<'a>, Failure>
-    ensures { Answers val_of result (compare_of compare (val_of left.now) (val_of right.now)) }
+) -> Result<Value<'a>, Halt>
+    requires { IsApplicable (compare_of op (val_of left.now) (val_of right.now)) }
+    ensures { Gives val_of result (compare_of op (val_of left.now) (val_of right.now)) }
 {
-    match compare {
+    compare(op, left, right).map_err(halted)
+}
+
+fn compare<'a>(op: CompareOp, left: &Value<'a>, right: &Value<'a>) -> Result<Value<'a>, Failure>
+    ensures { Answers val_of result (compare_of op (val_of left.now) (val_of right.now)) }
+{
+    match op {
         CompareOp::Equal => equal(left, right),
         CompareOp::NotEqual => not_equal(left, right),
         CompareOp::Less => less(left, right),

@@ -1,53 +1,60 @@
 //! What a value is, of one sort.
 
+ghost use Rattle.std.specs.Prelude.{◌≡◌, Ok};
 ghost use Rattle.filt_values.specs.Operators.{bool_in, dest_in, int_in, ip_in, origin_in};
-ghost use Rattle.filt_values.specs.Seen.{val_of, Answers};
+ghost use Rattle.filt_values.specs.Seen.{val_of};
+ghost use Rattle.filt_route.specs.Seen.{IsApplicable};
 
 use attrs::{Dest, Origin};
 use bits_ip::Addr;
-use filt_values::{Failure, Value};
+use filt_values::Value;
 
-pub(crate) fn int(value: &Value<'_>) -> Result<u32, Failure>
-    ensures { Answers (λ n. n) result (int_in (val_of value.now)) }
+pub(crate) fn int(value: &Value<'_>) -> u32
+    requires { IsApplicable (int_in (val_of value.now)) }
+    ensures { int_in (val_of value.now) ≡ Ok result }
 {
     match value {
-        Value::Int(number) => Ok(*number),
-        _ => Err(Failure::Stuck),
+        Value::Int(number) => *number,
+        _ => unreachable!(),
     }
 }
 
-pub fn bool(value: &Value<'_>) -> Result<bool, Failure>
-    ensures { Answers (λ b. b) result (bool_in (val_of value.now)) }
+pub fn bool(value: &Value<'_>) -> bool
+    requires { IsApplicable (bool_in (val_of value.now)) }
+    ensures { bool_in (val_of value.now) ≡ Ok result }
 {
     match value {
-        Value::Bool(truth) => Ok(*truth),
-        _ => Err(Failure::Stuck),
+        Value::Bool(truth) => *truth,
+        _ => unreachable!(),
     }
 }
 
-pub(crate) fn ip(value: &Value<'_>) -> Result<Addr, Failure>
-    ensures { Answers (λ a. a) result (ip_in (val_of value.now)) }
+pub(crate) fn ip(value: &Value<'_>) -> Addr
+    requires { IsApplicable (ip_in (val_of value.now)) }
+    ensures { ip_in (val_of value.now) ≡ Ok result }
 {
     match value {
-        Value::Ip(addr) => Ok(*addr),
-        _ => Err(Failure::Stuck),
+        Value::Ip(addr) => *addr,
+        _ => unreachable!(),
     }
 }
 
-pub(crate) fn dest(value: &Value<'_>) -> Result<Dest, Failure>
-    ensures { Answers (λ d. d) result (dest_in (val_of value.now)) }
+pub(crate) fn dest(value: &Value<'_>) -> Dest
+    requires { IsApplicable (dest_in (val_of value.now)) }
+    ensures { dest_in (val_of value.now) ≡ Ok result }
 {
     match value {
-        Value::Dest(dest) => Ok(*dest),
-        _ => Err(Failure::Stuck),
+        Value::Dest(dest) => *dest,
+        _ => unreachable!(),
     }
 }
 
-pub(crate) fn origin(value: &Value<'_>) -> Result<Origin, Failure>
-    ensures { Answers (λ o. o) result (origin_in (val_of value.now)) }
+pub(crate) fn origin(value: &Value<'_>) -> Origin
+    requires { IsApplicable (origin_in (val_of value.now)) }
+    ensures { origin_in (val_of value.now) ≡ Ok result }
 {
     match value {
-        Value::Origin(origin) => Ok(*origin),
-        _ => Err(Failure::Stuck),
+        Value::Origin(origin) => *origin,
+        _ => unreachable!(),
     }
 }

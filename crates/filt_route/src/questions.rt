@@ -1,7 +1,7 @@
 //! Conditions that need no operands. Most of them are over what is there already, and are answered
 //! without a value; where an attribute isn't there, the operators answer.
 
-ghost use Rattle.std.specs.Prelude.{◌≡◌, Err, Ok, IfSome, MatchOption};
+ghost use Rattle.std.specs.Prelude.{◌≡◌, [], Err, Ok, IfSome, MatchOption};
 ghost use Rattle.attrs.specs.Clist.{has_pair, same_pair};
 ghost use Rattle.attrs.specs.declared.judge.FilterFault.TheVariants as faults;
 ghost use Rattle.filt_code.specs.Codes.{number_in, question, within};
@@ -13,10 +13,11 @@ ghost use Rattle.filt_tree.specs.Trees as trees;
 ghost use Rattle.filt_values.specs.declared.value.Failure.TheVariants.{Fault};
 ghost use Rattle.filt_values.specs.Operators as operators;
 ghost use Rattle.filt_values.specs.Operators.{bool_in, matches_of};
-ghost use Rattle.filt_values.specs.Seen.{val_of, Builds};
+ghost use Rattle.filt_values.specs.Seen.{val_of};
 ghost use Rattle.filt_values.specs.Values.{VBool, VInt, VPair, VPrefix, VPrefixSet};
-ghost use Rattle.filt_route.specs.Seen.{around_in, test_in, Yields};
+ghost use Rattle.filt_route.specs.Seen.{around_in, test_in, Gives, IsApplicable, IsUnstuck, Yields};
 
+use crate::halt::Halt;
 use crate::labels::is_element;
 use crate::operators::{apply_compare, apply_one};
 use crate::parts::bool;
@@ -28,14 +29,16 @@ use conf_ast::filters::{Attribute, CompareOp, Property};
 use filt_code::{Number, OfOne, Question};
 use filt_sets::PrefixSet;
 use filt_tree::TTest;
-use filt_values::{Failure, ListFailure, Value};
+use filt_values::Value;
 
 /// The answer.
 pub fn asked<'a>(
     around: &Surroundings<'a>,
     what: Question<'a>,
     attrs: &Running<'a>,
-) -> Result<bool, ListFailure>
+) -> Result<bool, Halt>
+    requires { IsUnstuck (and_then (question (around_in around.now) what [] attrs.now)
+        (λ v attrs. plainly (bool_in v) attrs)) }
     ensures { (vals : Frame) → Yields (λ b. b) result attrs.now
         (and_then (question (around_in around.now) what.entry vals attrs.now)
         (λ v attrs. plainly (bool_in v) attrs)) }
@@ -79,29 +82,27 @@ fn is_within<'a>(
     low: u32,
     high: u32,
     attrs: &Running<'a>,
-) -> Result<bool, ListFailure>
-    ensures { Builds (λ b. b) result (operators.and_then
+) -> Result<bool, Halt>
+    ensures { Gives (λ b. b) result (operators.and_then
         (number_in (around_in around.now) number attrs.now)
         (λ n. Ok (within low high n))) }
 {
     match held(around, number, attrs) {
         Some(found) => Ok(within(low, high, found)),
-        None => Err(ListFailure::Failed(Failure::Fault(FilterFault::Undefined))),
+        None => Err(Halt::Fault(FilterFault::Undefined)),
     }
 }
 
-fn net_in<'a>(set: &'a PrefixSet, net: &Prefix) -> Result<bool, ListFailure>
-    ensures { Builds (λ b. b) result
+fn net_in<'a>(set: &'a PrefixSet, net: &Prefix) -> Result<bool, Halt>
+    ensures { Gives (λ b. b) result
         (operators.and_then (matches_of (VPrefix net.now) (VPrefixSet set.now)) bool_in) }
 {
-    Ok(is_element(&Value::Prefix(*net), &Value::PrefixSet(set))?)
+    is_element(&Value::Prefix(*net), &Value::PrefixSet(set))
 }
 
-fn tested<'a>(
-    around: &Surroundings<'a>,
-    what: &TTest,
-    attrs: &Running<'a>,
-) -> Result<bool, ListFailure>
+fn tested<'a>(around: &Surroundings<'a>, what: &TTest, attrs: &Running<'a>) -> Result<bool, Halt>
+    requires { IsUnstuck (and_then (trees.test (around_in around.now) what.now [] attrs.now)
+        (λ v attrs. plainly (bool_in v) attrs)) }
     ensures { (vals : Frame) → Yields (λ b. b) result attrs.now
         (and_then (trees.test (around_in around.now) what.now vals attrs.now)
         (λ v attrs. plainly (bool_in v) attrs)) }
@@ -117,21 +118,20 @@ fn tested_by_operators<'a>(
     around: &Surroundings<'a>,
     what: TTest,
     attrs: &Running<'a>,
-) -> Result<bool, ListFailure>
-    ensures { Builds (λ b. b) result
+) -> Result<bool, Halt>
+    requires { IsApplicable
+        (operators.and_then (test_in (around_in around.now) what attrs.now) bool_in) }
+    ensures { Gives (λ b. b) result
         (operators.and_then (test_in (around_in around.now) what attrs.now) bool_in) }
 {
     let found = test(around, what, attrs)?;
-    Ok(bool(&found)?)
+    Ok(bool(&found))
 }
 
 /// What a comparison of what the route holds comes to.
-fn test<'a>(
-    around: &Surroundings<'a>,
-    what: TTest,
-    attrs: &Running<'a>,
-) -> Result<Value<'a>, ListFailure>
-    ensures { Builds val_of result (test_in (around_in around.now) what attrs.now) }
+fn test<'a>(around: &Surroundings<'a>, what: TTest, attrs: &Running<'a>) -> Result<Value<'a>, Halt>
+    requires { IsApplicable (test_in (around_in around.now) what attrs.now) }
+    ensures { Gives val_of result (test_in (around_in around.now) what attrs.now) }
 {
     match what {
         TTest::Attribute(a, op, number) => attribute_test(around, a, op, number, attrs),
@@ -148,13 +148,16 @@ fn attribute_test<'a>(
     op: CompareOp,
     number: u32,
     attrs: &Running<'a>,
-) -> Result<Value<'a>, ListFailure>
-    ensures { Builds val_of result (operators.and_then
+) -> Result<Value<'a>, Halt>
+    requires { IsApplicable (operators.and_then
+        (attribute_of (around_in around.now) a attrs.now)
+        (λ v. compare_of op v (VInt number))) }
+    ensures { Gives val_of result (operators.and_then
         (attribute_of (around_in around.now) a attrs.now)
         (λ v. compare_of op v (VInt number))) }
 {
     let held = attrs.read(around, a)?;
-    Ok(apply_compare(op, &held, &Value::Int(number))?)
+    apply_compare(op, &held, &Value::Int(number))
 }
 
 fn property_test<'a>(
@@ -164,14 +167,17 @@ fn property_test<'a>(
     op: CompareOp,
     number: u32,
     attrs: &Running<'a>,
-) -> Result<Value<'a>, ListFailure>
-    ensures { Builds val_of result (operators.and_then
+) -> Result<Value<'a>, Halt>
+    requires { IsApplicable (operators.and_then
+        (attribute_of (around_in around.now) a attrs.now)
+        (λ v. operators.and_then (property_of property v) (λ w. compare_of op w (VInt number)))) }
+    ensures { Gives val_of result (operators.and_then
         (attribute_of (around_in around.now) a attrs.now)
         (λ v. operators.and_then (property_of property v) (λ w. compare_of op w (VInt number)))) }
 {
     let held = attrs.read(around, a)?;
     let part = apply_one(around.alloc, OfOne::Property(property), &held)?;
-    Ok(apply_compare(op, &part, &Value::Int(number))?)
+    apply_compare(op, &part, &Value::Int(number))
 }
 
 fn pair_test<'a>(
@@ -181,13 +187,16 @@ fn pair_test<'a>(
     op: CompareOp,
     a: Attribute,
     attrs: &Running<'a>,
-) -> Result<Value<'a>, ListFailure>
-    ensures { Builds val_of result (operators.and_then
+) -> Result<Value<'a>, Halt>
+    requires { IsApplicable (operators.and_then
+        (attribute_of (around_in around.now) a attrs.now)
+        (λ v. compare_of op (VPair (first, second)) v)) }
+    ensures { Gives val_of result (operators.and_then
         (attribute_of (around_in around.now) a attrs.now)
         (λ v. compare_of op (VPair (first, second)) v)) }
 {
     let held = attrs.read(around, a)?;
-    Ok(apply_compare(op, &Value::Pair(first, second), &held)?)
+    apply_compare(op, &Value::Pair(first, second), &held)
 }
 
 /// Whether a test holds, where it asks for a pair among the communities.

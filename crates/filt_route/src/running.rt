@@ -1,24 +1,22 @@
 //! The attributes of a route while a filter runs.
 
-ghost use Rattle.std.specs.Prelude.{◌≡◌, Ok, IfOk, IfSome, OnErr};
-ghost use Rattle.attrs.specs.declared.judge.FilterFault.TheVariants as faults;
+ghost use Rattle.std.specs.Prelude.{◌≡◌, Ok, IfOk, IfSome};
 ghost use Rattle.conf_lex.specs.declared.attribute.Attribute.TheVariants as attributes;
-ghost use Rattle.filt_values.specs.declared.value.Failure.TheVariants.{Fault};
-ghost use Rattle.filt_values.specs.declared.value.ListFailure.TheVariants.{Failed};
 ghost use Rattle.filt_values.specs.Operators.{clist_in, path_in};
-ghost use Rattle.filt_values.specs.Seen.{val_of, Answers, Builds};
+ghost use Rattle.filt_values.specs.Seen.{val_of};
 ghost use Rattle.filt_values.specs.Values.{VClist, VInt, VIp, VOrigin, VPath};
 ghost use Rattle.filt_meaning.specs.Names.{Around};
 ghost use Rattle.filt_meaning.specs.Attributes.{attribute_of, defined_as, is_defined, with_attribute, without_attribute};
 ghost use Rattle.filt_route.specs.Lists.{numbers_of, pairs_of};
-ghost use Rattle.filt_route.specs.Seen.{around_in};
+ghost use Rattle.filt_route.specs.Seen.{around_in, Gives, IsApplicable};
 
+use crate::halt::Halt;
 use crate::parts::{dest, int, ip, origin};
 use crate::surroundings::Surroundings;
 use attrs::{Attrs, Clist, Dest, FilterFault, Kind, Origin, Path, Shared};
 use bits_ip::{Addr, OutOfMemory};
 use conf_ast::filters::Attribute;
-use filt_values::{Failure, ListFailure, Value};
+use filt_values::Value;
 use std::alloc::Global;
 use std::marker::Model;
 
@@ -175,12 +173,8 @@ impl<'a> Running<'a> {
     }
 
     /// What an attribute holds. A list that the route lends is lent.
-    pub fn read(
-        &self,
-        around: &Surroundings<'a>,
-        attribute: Attribute,
-    ) -> Result<Value<'a>, ListFailure>
-        ensures { Builds val_of result (attribute_of (around_in around.now) attribute self.now) }
+    pub fn read(&self, around: &Surroundings<'a>, attribute: Attribute) -> Result<Value<'a>, Halt>
+        ensures { Gives val_of result (attribute_of (around_in around.now) attribute self.now) }
     {
         match attribute {
             Attribute::Net => Ok(Value::Prefix(*around.net)),
@@ -271,20 +265,18 @@ impl<'a> Running<'a> {
     }
 
     /// Makes an attribute hold a value. Takes no memory.
-    pub fn assign(&mut self, attribute: Attribute, value: Value<'a>) -> Result<(), Failure>
-        ensures value { Answers (λ _. self.new) result
-            (with_attribute attribute (val_of value.entry)
-            self.old) }
-        ensures refused { OnErr result (self.new ≡ self.old) }
+    pub fn assign(&mut self, attribute: Attribute, value: Value<'a>)
+        requires { IsApplicable (with_attribute attribute (val_of value) self.old) }
+        ensures { with_attribute attribute (val_of value.entry) self.old ≡ Ok self.new }
     {
         match attribute {
-            Attribute::Net => Err(Failure::Stuck),
+            Attribute::Net => unreachable!(),
             Attribute::Preference => self.assign_pref(&value),
             Attribute::Gw => self.assign_gw(&value),
             Attribute::From => self.assign_sender(&value),
             Attribute::BgpNextHop => self.assign_next_hop(&value),
-            Attribute::Proto => Err(Failure::Stuck),
-            Attribute::Source => Err(Failure::Stuck),
+            Attribute::Proto => unreachable!(),
+            Attribute::Source => unreachable!(),
             Attribute::Dest => self.assign_dest(&value),
             Attribute::BgpPath => self.assign_path(value),
             Attribute::BgpOrigin => self.assign_origin(&value),
@@ -295,145 +287,112 @@ impl<'a> Running<'a> {
         }
     }
 
-    fn assign_pref(&mut self, value: &Value<'_>) -> Result<(), Failure>
-        ensures value { Answers (λ _. self.new) result
-            (with_attribute attributes.Preference (val_of value.now)
-            self.old) }
-        ensures refused { OnErr result (self.new ≡ self.old) }
+    fn assign_pref(&mut self, value: &Value<'_>)
+        requires { IsApplicable (with_attribute attributes.Preference (val_of value.now) self.old) }
+        ensures { with_attribute attributes.Preference (val_of value.now) self.old ≡ Ok self.new }
     {
-        self.pref = int(value)?;
+        self.pref = int(value);
         self.own = None;
-        Ok(())
     }
 
     /// The packets are sent to it.
-    fn assign_gw(&mut self, value: &Value<'_>) -> Result<(), Failure>
-        ensures value { Answers (λ _. self.new) result
-            (with_attribute attributes.Gw (val_of value.now)
-            self.old) }
-        ensures refused { OnErr result (self.new ≡ self.old) }
+    fn assign_gw(&mut self, value: &Value<'_>)
+        requires { IsApplicable (with_attribute attributes.Gw (val_of value.now) self.old) }
+        ensures { with_attribute attributes.Gw (val_of value.now) self.old ≡ Ok self.new }
     {
-        self.gw = Some(ip(value)?);
+        self.gw = Some(ip(value));
         self.own = None;
         self.dest = Dest::Unicast;
-        Ok(())
     }
 
-    fn assign_sender(&mut self, value: &Value<'_>) -> Result<(), Failure>
-        ensures value { Answers (λ _. self.new) result
-            (with_attribute attributes.From (val_of value.now)
-            self.old) }
-        ensures refused { OnErr result (self.new ≡ self.old) }
+    fn assign_sender(&mut self, value: &Value<'_>)
+        requires { IsApplicable (with_attribute attributes.From (val_of value.now) self.old) }
+        ensures { with_attribute attributes.From (val_of value.now) self.old ≡ Ok self.new }
     {
-        self.sender = Some(ip(value)?);
+        self.sender = Some(ip(value));
         self.own = None;
-        Ok(())
     }
 
-    fn assign_next_hop(&mut self, value: &Value<'_>) -> Result<(), Failure>
-        ensures value { Answers (λ _. self.new) result
-            (with_attribute attributes.BgpNextHop (val_of value.now)
-            self.old) }
-        ensures refused { OnErr result (self.new ≡ self.old) }
+    fn assign_next_hop(&mut self, value: &Value<'_>)
+        requires { IsApplicable (with_attribute attributes.BgpNextHop (val_of value.now) self.old) }
+        ensures { with_attribute attributes.BgpNextHop (val_of value.now) self.old ≡ Ok self.new }
     {
-        self.next_hop = Some(ip(value)?);
+        self.next_hop = Some(ip(value));
         self.own = None;
-        Ok(())
     }
 
     /// It leads on to no gateway.
-    fn assign_dest(&mut self, value: &Value<'_>) -> Result<(), Failure>
-        ensures value { Answers (λ _. self.new) result
-            (with_attribute attributes.Dest (val_of value.now)
-            self.old) }
-        ensures refused { OnErr result (self.new ≡ self.old) }
+    fn assign_dest(&mut self, value: &Value<'_>)
+        requires { IsApplicable (with_attribute attributes.Dest (val_of value.now) self.old) }
+        ensures { with_attribute attributes.Dest (val_of value.now) self.old ≡ Ok self.new }
     {
-        self.dest = dest(value)?;
+        self.dest = dest(value);
         self.own = None;
         self.gw = None;
-        Ok(())
     }
 
-    fn assign_origin(&mut self, value: &Value<'_>) -> Result<(), Failure>
-        ensures value { Answers (λ _. self.new) result
-            (with_attribute attributes.BgpOrigin (val_of value.now)
-            self.old) }
-        ensures refused { OnErr result (self.new ≡ self.old) }
+    fn assign_origin(&mut self, value: &Value<'_>)
+        requires { IsApplicable (with_attribute attributes.BgpOrigin (val_of value.now) self.old) }
+        ensures { with_attribute attributes.BgpOrigin (val_of value.now) self.old ≡ Ok self.new }
     {
-        self.origin = Some(origin(value)?);
+        self.origin = Some(origin(value));
         self.own = None;
-        Ok(())
     }
 
-    fn assign_med(&mut self, value: &Value<'_>) -> Result<(), Failure>
-        ensures value { Answers (λ _. self.new) result
-            (with_attribute attributes.BgpMed (val_of value.now)
-            self.old) }
-        ensures refused { OnErr result (self.new ≡ self.old) }
+    fn assign_med(&mut self, value: &Value<'_>)
+        requires { IsApplicable (with_attribute attributes.BgpMed (val_of value.now) self.old) }
+        ensures { with_attribute attributes.BgpMed (val_of value.now) self.old ≡ Ok self.new }
     {
-        self.med = Some(int(value)?);
+        self.med = Some(int(value));
         self.own = None;
-        Ok(())
     }
 
-    fn assign_lp(&mut self, value: &Value<'_>) -> Result<(), Failure>
-        ensures value { Answers (λ _. self.new) result
-            (with_attribute attributes.BgpLocalPref (val_of value.now)
-            self.old) }
-        ensures refused { OnErr result (self.new ≡ self.old) }
+    fn assign_lp(&mut self, value: &Value<'_>)
+        requires { IsApplicable (with_attribute attributes.BgpLocalPref (val_of value.now) self.old) }
+        ensures { with_attribute attributes.BgpLocalPref (val_of value.now) self.old ≡ Ok self.new }
     {
-        self.lp = Some(int(value)?);
+        self.lp = Some(int(value));
         self.own = None;
-        Ok(())
     }
 
-    fn assign_igp(&mut self, value: &Value<'_>) -> Result<(), Failure>
-        ensures value { Answers (λ _. self.new) result
-            (with_attribute attributes.IgpMetric (val_of value.now)
-            self.old) }
-        ensures refused { OnErr result (self.new ≡ self.old) }
+    fn assign_igp(&mut self, value: &Value<'_>)
+        requires { IsApplicable (with_attribute attributes.IgpMetric (val_of value.now) self.old) }
+        ensures { with_attribute attributes.IgpMetric (val_of value.now) self.old ≡ Ok self.new }
     {
-        self.igp = Some(int(value)?);
+        self.igp = Some(int(value));
         self.own = None;
-        Ok(())
     }
 
-    fn assign_path(&mut self, value: Value<'a>) -> Result<(), Failure>
-        ensures value { Answers (λ _. self.new) result
-            (with_attribute attributes.BgpPath (val_of value.entry)
-            self.old) }
-        ensures refused { OnErr result (self.new ≡ self.old) }
+    fn assign_path(&mut self, value: Value<'a>)
+        requires { IsApplicable (with_attribute attributes.BgpPath (val_of value) self.old) }
+        ensures { with_attribute attributes.BgpPath (val_of value.entry) self.old ≡ Ok self.new }
     {
-        self.path = path_kept(value)?;
+        self.path = path_kept(value);
         self.own = None;
-        Ok(())
     }
 
-    fn assign_list(&mut self, value: Value<'a>) -> Result<(), Failure>
-        ensures value { Answers (λ _. self.new) result
-            (with_attribute attributes.BgpCommunity (val_of value.entry)
-            self.old) }
-        ensures refused { OnErr result (self.new ≡ self.old) }
+    fn assign_list(&mut self, value: Value<'a>)
+        requires { IsApplicable (with_attribute attributes.BgpCommunity (val_of value) self.old) }
+        ensures { with_attribute attributes.BgpCommunity (val_of value.entry) self.old ≡ Ok self.new }
     {
-        self.coms = list_kept(value)?;
+        self.coms = list_kept(value);
         self.own = None;
-        Ok(())
     }
 
     /// Makes an attribute hold nothing, a list no elements. Takes no memory.
-    pub fn unset(&mut self, alloc: Global, attribute: Attribute) -> Result<(), Failure>
-        ensures value { Answers (λ _. self.new) result (without_attribute attribute self.old) }
-        ensures refused { OnErr result (self.new ≡ self.old) }
+    pub fn unset(&mut self, alloc: Global, attribute: Attribute)
+        requires { IsApplicable (without_attribute attribute self.old) }
+        ensures { without_attribute attribute self.old ≡ Ok self.new }
     {
         match attribute {
-            Attribute::Net => return Err(Failure::Stuck),
-            Attribute::Preference => return Err(Failure::Stuck),
+            Attribute::Net => unreachable!(),
+            Attribute::Preference => unreachable!(),
             Attribute::Gw => self.gw = None,
-            Attribute::From => return Err(Failure::Stuck),
+            Attribute::From => unreachable!(),
             Attribute::BgpNextHop => self.next_hop = None,
-            Attribute::Proto => return Err(Failure::Stuck),
-            Attribute::Source => return Err(Failure::Stuck),
-            Attribute::Dest => return Err(Failure::Stuck),
+            Attribute::Proto => unreachable!(),
+            Attribute::Source => unreachable!(),
+            Attribute::Dest => unreachable!(),
             Attribute::BgpPath => self.path = Numbers::Made(Path::new(alloc)),
             Attribute::BgpOrigin => self.origin = None,
             Attribute::BgpMed => self.med = None,
@@ -442,7 +401,6 @@ impl<'a> Running<'a> {
             Attribute::BgpCommunity => self.coms = Pairs::Made(Clist::new(alloc)),
         }
         self.own = None;
-        Ok(())
     }
 }
 
@@ -482,55 +440,51 @@ fn list_value<'a>(list: &Pairs<'a>) -> Result<Value<'a>, OutOfMemory>
     }
 }
 
-fn path_kept(value: Value<'_>) -> Result<Numbers<'_>, Failure>
-    ensures { Answers numbers_of result (path_in (val_of value.entry)) }
+fn path_kept(value: Value<'_>) -> Numbers<'_>
+    requires { IsApplicable (path_in (val_of value)) }
+    ensures { path_in (val_of value.entry) ≡ Ok (numbers_of result) }
 {
     match value {
-        Value::Path(path) => Ok(Numbers::Made(path)),
-        Value::PathOf(path) => Ok(Numbers::Lent(path)),
-        _ => Err(Failure::Stuck),
+        Value::Path(path) => Numbers::Made(path),
+        Value::PathOf(path) => Numbers::Lent(path),
+        _ => unreachable!(),
     }
 }
 
-fn list_kept(value: Value<'_>) -> Result<Pairs<'_>, Failure>
-    ensures { Answers pairs_of result (clist_in (val_of value.entry)) }
+fn list_kept(value: Value<'_>) -> Pairs<'_>
+    requires { IsApplicable (clist_in (val_of value)) }
+    ensures { clist_in (val_of value.entry) ≡ Ok (pairs_of result) }
 {
     match value {
-        Value::Clist(list) => Ok(Pairs::Made(list)),
-        Value::ClistOf(list) => Ok(Pairs::Lent(list)),
-        _ => Err(Failure::Stuck),
+        Value::Clist(list) => Pairs::Made(list),
+        Value::ClistOf(list) => Pairs::Lent(list),
+        _ => unreachable!(),
     }
 }
 
-fn held_addr<'a>(held: Option<Addr>) -> Result<Value<'a>, ListFailure>
-    ensures { Builds val_of result (defined_as VIp held) }
+fn held_addr<'a>(held: Option<Addr>) -> Result<Value<'a>, Halt>
+    ensures { Gives val_of result (defined_as VIp held) }
 {
     match held {
         Some(addr) => Ok(Value::Ip(addr)),
-        None => Err(undefined()),
+        None => Err(Halt::Fault(FilterFault::Undefined)),
     }
 }
 
-fn held_number<'a>(held: Option<u32>) -> Result<Value<'a>, ListFailure>
-    ensures { Builds val_of result (defined_as VInt held) }
+fn held_number<'a>(held: Option<u32>) -> Result<Value<'a>, Halt>
+    ensures { Gives val_of result (defined_as VInt held) }
 {
     match held {
         Some(number) => Ok(Value::Int(number)),
-        None => Err(undefined()),
+        None => Err(Halt::Fault(FilterFault::Undefined)),
     }
 }
 
-fn held_origin<'a>(held: Option<Origin>) -> Result<Value<'a>, ListFailure>
-    ensures { Builds val_of result (defined_as VOrigin held) }
+fn held_origin<'a>(held: Option<Origin>) -> Result<Value<'a>, Halt>
+    ensures { Gives val_of result (defined_as VOrigin held) }
 {
     match held {
         Some(origin) => Ok(Value::Origin(origin)),
-        None => Err(undefined()),
+        None => Err(Halt::Fault(FilterFault::Undefined)),
     }
-}
-
-fn undefined() -> ListFailure
-    ensures { result ≡ Failed (Fault faults.Undefined) }
-{
-    ListFailure::Failed(Failure::Fault(FilterFault::Undefined))
 }

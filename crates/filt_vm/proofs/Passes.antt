@@ -3,11 +3,9 @@ use Rattle.std.proofs.Common.{◌≡◌, ℕ, suc, zero, ◌<◌, ◌≤◌, max
 use Rattle.std.proofs.Math.Nat.{le-max_left, le-max_right}
 use Rattle.std.specs.Prelude.{slice_get}
 use Rattle.attrs.specs.declared.attributes.Attrs.{Attrs}
-use Rattle.attrs.specs.declared.judge.Verdict.{Verdict}
-use Rattle.filt_values.specs.declared.value.ListFailure.{ListFailure}
-use Rattle.filt_values.specs.declared.value.ListFailure.TheVariants as list_failures
 use Rattle.filt_values.specs.Operators.{bool_in}
 use Rattle.filt_values.specs.Values.{Val, VBool}
+use Rattle.filt_meaning.specs.Configuration.{verdict_of}
 use Rattle.filt_meaning.specs.Flow.{Flow, Done, Frame, and_then, plainly}
 use Rattle.filt_meaning.specs.Names.{Around}
 use Rattle.filt_code.specs.declared.code.Routine.{Routine}
@@ -16,6 +14,8 @@ use Rattle.filt_code.specs.declared.instr.Instr.TheVariants as instrs
 use Rattle.filt_code.specs.declared.instr.Question.{Question}
 use Rattle.filt_code.specs.Codes.{Setting, jump_where, mean, one, question, setting}
 use Rattle.filt_code.specs.Costs.{beside, cost, costs}
+use Rattle.filt_route.specs.declared.halt.Halt.{Halt}
+use Rattle.filt_route.specs.declared.halt.Halt.TheVariants as halts
 use Rattle.filt_vm.specs.declared.step.Step.{Step}
 use Rattle.filt_vm.specs.declared.step.Step.TheVariants as steps
 use Rattle.filt_vm.specs.Levels.{Waiting}
@@ -70,12 +70,12 @@ costs-less fs code i place m is q n b (Some next) there what far to =
     omega (arith, cost_at fs code place i there, ap (λ (i : Instr). beside fs i (cost fs (drop (suc place) code))) what, cost_beyond fs code (suc place) (jump_where is n b) next (omega (arith, far, to)), one_way (cost fs (drop (suc place) code)) is n b)
 
 -- a step behind jumps that were passed
-pub goes_from : (r : Result Step ListFailure) (before mid after : Verdict) (attrs : Attrs) (more less now : ℕ) → before ≡ mid → less ≤ more → Steps r mid after attrs less now → Steps r before after attrs more now
+pub goes_from : (r : Result Step Halt) (before mid after : Flow Frame) (attrs : Attrs) (more less now : ℕ) → before ≡ mid → less ≤ more → Steps r mid after attrs less now → Steps r before after attrs more now
 goes_from (Ok steps.On) before mid after attrs more less now same le p = (same ∙ p.0, omega (arith, le, p.1))
-goes_from (Ok steps.Accepts) before mid after attrs more less now same le p = same ∙ p
-goes_from (Ok (steps.Rejects fault)) before mid after attrs more less now same le p = same ∙ p
-goes_from (Err (list_failures.Failed failure)) before mid after attrs more less now same le p = same ∙ p
-goes_from (Err list_failures.Memory) before mid after attrs more less now same le p = tt
+goes_from (Ok steps.Accepts) before mid after attrs more less now same le p = ap verdict_of same ∙ p
+goes_from (Ok (steps.Rejects fault)) before mid after attrs more less now same le p = ap verdict_of same ∙ p
+goes_from (Err (halts.Fault fault)) before mid after attrs more less now same le p = ap verdict_of same ∙ p
+goes_from (Err halts.Memory) before mid after attrs more less now same le p = tt
 
 pub means_behind : (s : Setting) (code rest : List Instr) (place : ℕ) (vals : Frame) (os : List Val) (attrs : Attrs) → rest ≡ drop place code → mean s code 0 vals os attrs ≡ mean s code place vals os attrs → mean s code 0 vals os attrs ≡ mean s rest 0 vals os attrs
 means_behind s code rest place vals os attrs to same =

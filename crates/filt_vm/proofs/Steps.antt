@@ -2,14 +2,10 @@
 use Rattle.std.proofs.Common.{◌≡◌, ℕ, suc, zero, ◌<◌, ◌≤◌, List, [], ◌∷◌, drop, Some, None, Err, refl, sym, ap, ◌∙◌, arith}
 use Rattle.attrs.specs.declared.attributes.Attrs.{Attrs}
 use Rattle.attrs.specs.declared.judge.FilterFault.{FilterFault}
-use Rattle.attrs.specs.declared.judge.Verdict.{Verdict}
 use Rattle.attrs.specs.declared.judge.Verdict.TheVariants as verdicts
-use Rattle.filt_values.specs.declared.value.Failure.{Failure}
-use Rattle.filt_values.specs.declared.value.Failure.TheVariants as failures
-use Rattle.filt_values.specs.declared.value.ListFailure.{ListFailure}
-use Rattle.filt_values.specs.declared.value.ListFailure.TheVariants as list_failures
 use Rattle.filt_values.specs.Values.{Val}
-use Rattle.filt_meaning.specs.Flow.{Flow, Done, Stopped, Frame, Faulted, Stuck, Accepted, Rejected, and_then, why_of}
+use Rattle.filt_meaning.specs.Configuration.{verdict_of}
+use Rattle.filt_meaning.specs.Flow.{Flow, Done, Stopped, Frame, Faulted, Stuck, Accepted, Rejected, and_then}
 use Rattle.filt_meaning.specs.Names.{Around}
 use Rattle.filt_code.specs.declared.code.Routine.{Routine}
 use Rattle.filt_code.specs.declared.instr.Effect.{Effect}
@@ -20,8 +16,10 @@ use Rattle.filt_code.specs.Costs.{beside, cost, costs}
 use Rattle.filt_vm.specs.declared.level.Level.{Level}
 use Rattle.filt_vm.specs.declared.level.Level.TheVariants as levels
 use Rattle.filt_vm.specs.Levels.{Waiting, behind_first}
-use Rattle.filt_vm.specs.Machines.{Steps, ended, fails, left, resumed, said}
+use Rattle.filt_route.specs.declared.halt.Halt.{Halt}
+use Rattle.filt_route.specs.declared.halt.Halt.TheVariants as halts
 use Rattle.filt_route.specs.Seen.{Fails}
+use Rattle.filt_vm.specs.Machines.{Steps, ended, left, resumed, said}
 use Rattle.filt_vm.specs.Seen.{Held, rest_of}
 use Rattle.filt_vm.proofs.Works as works
 
@@ -42,34 +40,30 @@ around_is around fs = around_kept (record { around = around; functions = [] }) f
 
 -- ---- what ends a filter
 
-pub ends_faulted : (around : Around) (all : List Level) (fs os : List (List Val)) (ls : List Val) (fault : FilterFault) (attrs : Attrs) → resumed around all fs os ls (Stopped (Faulted fault) attrs) ≡ verdicts.Reject (Some fault)
+pub ends_faulted : (around : Around) (all : List Level) (fs os : List (List Val)) (ls : List Frame) (fault : FilterFault) (attrs : Attrs) → resumed around all fs os ls (Stopped (Faulted fault) attrs) ≡ Stopped (Faulted fault) attrs
 ends_faulted around [] fs os ls fault attrs = refl
 ends_faulted around (levels.Returns c ∷ more) fs os ls fault attrs = ends_faulted around more (rest_of fs) (rest_of os) ls fault attrs
 ends_faulted around (levels.Turns t ∷ more) fs os ls fault attrs = ends_faulted around more fs (rest_of os) (behind_first ls) fault attrs
 
-pub ends_stuck : (around : Around) (all : List Level) (fs os : List (List Val)) (ls : List Val) (attrs : Attrs) → resumed around all fs os ls (Stopped Stuck attrs) ≡ verdicts.Reject None
+pub ends_stuck : (around : Around) (all : List Level) (fs os : List (List Val)) (ls : List Frame) (attrs : Attrs) → resumed around all fs os ls (Stopped Stuck attrs) ≡ Stopped Stuck attrs
 ends_stuck around [] fs os ls attrs = refl
 ends_stuck around (levels.Returns c ∷ more) fs os ls attrs = ends_stuck around more (rest_of fs) (rest_of os) ls attrs
 ends_stuck around (levels.Turns t ∷ more) fs os ls attrs = ends_stuck around more fs (rest_of os) (behind_first ls) attrs
 
-pub ends_accepted : (around : Around) (all : List Level) (fs os : List (List Val)) (ls : List Val) (attrs : Attrs) → resumed around all fs os ls (Stopped Accepted attrs) ≡ verdicts.Accept attrs
+pub ends_accepted : (around : Around) (all : List Level) (fs os : List (List Val)) (ls : List Frame) (attrs : Attrs) → resumed around all fs os ls (Stopped Accepted attrs) ≡ Stopped Accepted attrs
 ends_accepted around [] fs os ls attrs = refl
 ends_accepted around (levels.Returns c ∷ more) fs os ls attrs = ends_accepted around more (rest_of fs) (rest_of os) ls attrs
 ends_accepted around (levels.Turns t ∷ more) fs os ls attrs = ends_accepted around more fs (rest_of os) (behind_first ls) attrs
 
-pub ends_rejected : (around : Around) (all : List Level) (fs os : List (List Val)) (ls : List Val) (attrs : Attrs) → resumed around all fs os ls (Stopped Rejected attrs) ≡ verdicts.Reject None
+pub ends_rejected : (around : Around) (all : List Level) (fs os : List (List Val)) (ls : List Frame) (attrs : Attrs) → resumed around all fs os ls (Stopped Rejected attrs) ≡ Stopped Rejected attrs
 ends_rejected around [] fs os ls attrs = refl
 ends_rejected around (levels.Returns c ∷ more) fs os ls attrs = ends_rejected around more (rest_of fs) (rest_of os) ls attrs
 ends_rejected around (levels.Turns t ∷ more) fs os ls attrs = ends_rejected around more fs (rest_of os) (behind_first ls) attrs
 
-pub ends_failed : (around : Around) (vals os : Held) (w : Waiting) (failure : Failure) (attrs : Attrs) → ended around vals os w (Stopped (why_of failure) attrs) ≡ fails failure
-ends_failed around vals os w (failures.Fault fault) attrs = ends_faulted around w.levels vals.under os.under w.lists fault attrs
-ends_failed around vals os w failures.Stuck attrs = ends_stuck around w.levels vals.under os.under w.lists attrs
-
 -- a step that fails
-pub fails_at : (failure : ListFailure) (around : Around) (vals os : Held) (w : Waiting) (flow : Flow Frame) (attrs : Attrs) (after : Verdict) (now : Attrs) (l n : ℕ) → Fails failure attrs flow → Steps (Err failure) (ended around vals os w flow) after now l n
-fails_at (list_failures.Failed failure) around vals os w flow attrs after now l n is = ap (ended around vals os w) is ∙ ends_failed around vals os w failure attrs
-fails_at list_failures.Memory around vals os w flow attrs after now l n is = tt
+pub fails_at : (halt : Halt) (around : Around) (vals os : Held) (w : Waiting) (flow : Flow Frame) (attrs : Attrs) (after : Flow Frame) (now : Attrs) (l n : ℕ) → Fails halt attrs flow → Steps (Err halt) (ended around vals os w flow) after now l n
+fails_at (halts.Fault fault) around vals os w flow attrs after now l n is = ap verdict_of (ap (ended around vals os w) is ∙ ends_faulted around w.levels vals.under os.under w.lists fault attrs)
+fails_at halts.Memory around vals os w flow attrs after now l n is = tt
 
 -- ---- effects
 
@@ -91,13 +85,13 @@ acted around fs rest tail e vals new os onew w attrs anew is done p q = (
   over-tail fs rest tail e w is,
 )
 
-pub fails-then : {A B : Type 0} (failure : ListFailure) (flow : Flow A) (next : A → Attrs → Flow B) (attrs : Attrs) → Fails failure attrs flow → Fails failure attrs (and_then flow next)
-fails-then (list_failures.Failed failure) flow next attrs is = rw is refl
-fails-then list_failures.Memory flow next attrs is = tt
+pub fails-then : {A B : Type 0} (halt : Halt) (flow : Flow A) (next : A → Attrs → Flow B) (attrs : Attrs) → Fails halt attrs flow → Fails halt attrs (and_then flow next)
+fails-then (halts.Fault fault) flow next attrs is = rw is refl
+fails-then halts.Memory flow next attrs is = tt
 
-pub act-fails : (failure : ListFailure) (around : Around) (fs : List Routine) (rest tail : List Instr) (e : Effect) (vals os : Held) (w : Waiting) (attrs anew : Attrs) (after : Verdict) (now : Attrs) (l n : ℕ) → rest ≡ instrs.Do e ∷ tail → Fails failure anew (effect around e vals.here os.here attrs) → Steps (Err failure) (said around fs rest vals os w attrs) after now l n
-act-fails failure around fs rest tail e vals os w attrs anew after now l n is fail =
-    rw (act-flow around fs rest tail e vals.here os.here attrs is) (fails_at failure around vals os w (and_then (effect around e vals.here os.here attrs) (λ held attrs. mean (setting around fs) tail 0 held.0 held.1 attrs)) anew after now l n (fails-then failure (effect around e vals.here os.here attrs) (λ held attrs. mean (setting around fs) tail 0 held.0 held.1 attrs) anew fail))
+pub act-fails : (halt : Halt) (around : Around) (fs : List Routine) (rest tail : List Instr) (e : Effect) (vals os : Held) (w : Waiting) (attrs anew : Attrs) (after : Flow Frame) (now : Attrs) (l n : ℕ) → rest ≡ instrs.Do e ∷ tail → Fails halt anew (effect around e vals.here os.here attrs) → Steps (Err halt) (said around fs rest vals os w attrs) after now l n
+act-fails halt around fs rest tail e vals os w attrs anew after now l n is fail =
+    rw (act-flow around fs rest tail e vals.here os.here attrs is) (fails_at halt around vals os w (and_then (effect around e vals.here os.here attrs) (λ held attrs. mean (setting around fs) tail 0 held.0 held.1 attrs)) anew after now l n (fails-then halt (effect around e vals.here os.here attrs) (λ held attrs. mean (setting around fs) tail 0 held.0 held.1 attrs) anew fail))
 
 -- ---- jumps
 
@@ -108,17 +102,17 @@ jumped around fs rest tail code i n vals os onew w attrs is to leads q le = (
   omega (arith, ap (λ (code : List Instr). cost (costs fs) code 0) is, ap (λ (code : List Instr). cost (costs fs) code 0) to, works.cost-behind (costs fs) tail n, le),
 )
 
-pub jump-fails : (failure : ListFailure) (around : Around) (fs : List Routine) (rest tail : List Instr) (i : Instr) (vals os : Held) (w : Waiting) (attrs : Attrs) (after : Verdict) (now : Attrs) (l n : ℕ) → rest ≡ i ∷ tail → Fails failure attrs (one (setting around fs) i (mean (setting around fs) tail) vals.here os.here attrs) → Steps (Err failure) (said around fs rest vals os w attrs) after now l n
-jump-fails failure around fs rest tail i vals os w attrs after now l n is fail =
-    rw is (fails_at failure around vals os w (one (setting around fs) i (mean (setting around fs) tail) vals.here os.here attrs) attrs after now l n fail)
+pub jump-fails : (halt : Halt) (around : Around) (fs : List Routine) (rest tail : List Instr) (i : Instr) (vals os : Held) (w : Waiting) (attrs : Attrs) (after : Flow Frame) (now : Attrs) (l n : ℕ) → rest ≡ i ∷ tail → Fails halt attrs (one (setting around fs) i (mean (setting around fs) tail) vals.here os.here attrs) → Steps (Err halt) (said around fs rest vals os w attrs) after now l n
+jump-fails halt around fs rest tail i vals os w attrs after now l n is fail =
+    rw is (fails_at halt around vals os w (one (setting around fs) i (mean (setting around fs) tail) vals.here os.here attrs) attrs after now l n fail)
 
 -- ---- ends
 
-pub accepts : (around : Around) (fs : List Routine) (rest tail : List Instr) (i : Instr) (vals os : Held) (w : Waiting) (attrs : Attrs) → rest ≡ i ∷ tail → i ≡ instrs.Accept → said around fs rest vals os w attrs ≡ verdicts.Accept attrs
-accepts around fs rest tail i vals os w attrs is what = rw (is, what) (ends_accepted around w.levels vals.under os.under w.lists attrs)
+pub accepts : (around : Around) (fs : List Routine) (rest tail : List Instr) (i : Instr) (vals os : Held) (w : Waiting) (attrs : Attrs) → rest ≡ i ∷ tail → i ≡ instrs.Accept → verdict_of (said around fs rest vals os w attrs) ≡ verdicts.Accept attrs
+accepts around fs rest tail i vals os w attrs is what = rw (is, what) (ap verdict_of (ends_accepted around w.levels vals.under os.under w.lists attrs))
 
-pub rejects : (around : Around) (fs : List Routine) (rest tail : List Instr) (i : Instr) (vals os : Held) (w : Waiting) (attrs : Attrs) → rest ≡ i ∷ tail → i ≡ instrs.Reject → said around fs rest vals os w attrs ≡ verdicts.Reject None
-rejects around fs rest tail i vals os w attrs is what = rw (is, what) (ends_rejected around w.levels vals.under os.under w.lists attrs)
+pub rejects : (around : Around) (fs : List Routine) (rest tail : List Instr) (i : Instr) (vals os : Held) (w : Waiting) (attrs : Attrs) → rest ≡ i ∷ tail → i ≡ instrs.Reject → verdict_of (said around fs rest vals os w attrs) ≡ verdicts.Reject None
+rejects around fs rest tail i vals os w attrs is what = rw (is, what) (ap verdict_of (ends_rejected around w.levels vals.under os.under w.lists attrs))
 
-pub stuck : (around : Around) (fs : List Routine) (rest tail : List Instr) (i : Instr) (vals os : Held) (w : Waiting) (attrs : Attrs) → rest ≡ i ∷ tail → i ≡ instrs.Stuck → said around fs rest vals os w attrs ≡ verdicts.Reject None
+pub stuck : (around : Around) (fs : List Routine) (rest tail : List Instr) (i : Instr) (vals os : Held) (w : Waiting) (attrs : Attrs) → rest ≡ i ∷ tail → i ≡ instrs.Stuck → said around fs rest vals os w attrs ≡ Stopped Stuck attrs
 stuck around fs rest tail i vals os w attrs is what = rw (is, what) (ends_stuck around w.levels vals.under os.under w.lists attrs)

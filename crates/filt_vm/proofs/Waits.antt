@@ -1,19 +1,16 @@
 -- What waits for what runs.
 use Rattle.std.proofs.Common.{◌≡◌, ℕ, suc, zero, ◌+◌, ◌-◌, ◌<◌, ◌≤◌, Bool, true, false, List, [], ◌∷◌, ◌++◌, length, take, drop, get_or, reverse, Option, Some, None, Result, Ok, Err, refl, sym, ap, ◌∙◌, arith, length-append}
 use Rattle.std.specs.Prelude.{slice_get, is_some}
+use Rattle.std.proofs.lemmas.Bool.{ltb-true, ltb-false}
+use Rattle.std.proofs.Math.Dec.{ltb}
 use Rattle.std.proofs.lemmas.Option.{slice_get_past, slice_get-get_or}
 use Rattle.attrs.specs.declared.attributes.Attrs.{Attrs}
 use Rattle.attrs.specs.declared.judge.FilterFault.TheVariants as faults
-use Rattle.attrs.specs.declared.judge.Verdict.{Verdict}
 use Rattle.attrs.specs.declared.judge.Verdict.TheVariants as verdicts
-use Rattle.filt_values.specs.declared.value.Failure.{Failure}
-use Rattle.filt_values.specs.declared.value.Failure.TheVariants as failures
-use Rattle.filt_values.specs.declared.value.ListFailure.{ListFailure}
-use Rattle.filt_values.specs.declared.value.ListFailure.TheVariants as list_failures
 use Rattle.filt_values.specs.declared.value.Sort.{Sort}
 use Rattle.filt_values.specs.Values.{Val, VInt}
 use Rattle.filt_meaning.specs.Configuration.{at_end, given_by, verdict_of}
-use Rattle.filt_meaning.specs.Flow.{Flow, Done, Stopped, Frame, Stuck, Why, and_then, plainly}
+use Rattle.filt_meaning.specs.Flow.{AtEnd, Flow, Done, Stopped, Frame, Stuck, Why, and_then, plainly}
 use Rattle.filt_meaning.specs.Meaning.{elements, turns}
 use Rattle.filt_meaning.specs.Names.{Around, Doing}
 use Rattle.filt_code.specs.declared.code.Routine.{Routine}
@@ -28,19 +25,22 @@ use Rattle.filt_vm.specs.declared.level.Turn.{Turn}
 use Rattle.filt_vm.specs.declared.step.Step.{Step}
 use Rattle.filt_vm.specs.declared.step.Step.TheVariants as steps
 use Rattle.filt_vm.specs.Levels.{Waiting, behind_first, top_elements}
-use Rattle.filt_vm.specs.Machines.{Steps, call_of, ended, fails, handed, waits, left, left_in, resumed, returned, said, turned, turns_left}
-use Rattle.filt_route.specs.Seen.{elements_in}
+use Rattle.filt_vm.specs.Machines.{Steps, call_of, ended, handed, waits, left, left_in, resumed, returned, said, turned, turns_left}
+use Rattle.filt_route.specs.declared.halt.Halt.{Halt}
+use Rattle.filt_route.specs.declared.halt.Halt.TheVariants as halts
+use Rattle.filt_route.specs.Seen.{IsUnstuck}
 use Rattle.filt_vm.specs.Seen.{Held, first_of, rest_of}
 use Rattle.filt_vm.proofs.Steps as s
+use Rattle.filt_vm.proofs.Unstuck as u
 use Rattle.filt_vm.proofs.Works as works
 
 -- a step from what is the same, and has no less left
-pub steps-from : (r : Result Step ListFailure) (before same after : Verdict) (attrs : Attrs) (l more n : ℕ) → same ≡ before → l ≤ more → Steps r before after attrs l n → Steps r same after attrs more n
+pub steps-from : (r : Result Step Halt) (before same after : Flow Frame) (attrs : Attrs) (l more n : ℕ) → same ≡ before → l ≤ more → Steps r before after attrs l n → Steps r same after attrs more n
 steps-from (Ok steps.On) before same after attrs l more n is le h = (is ∙ h.0, omega (arith, h.1, le))
-steps-from (Ok steps.Accepts) before same after attrs l more n is le h = is ∙ h
-steps-from (Ok (steps.Rejects fault)) before same after attrs l more n is le h = is ∙ h
-steps-from (Err (list_failures.Failed failure)) before same after attrs l more n is le h = is ∙ h
-steps-from (Err list_failures.Memory) before same after attrs l more n is le h = tt
+steps-from (Ok steps.Accepts) before same after attrs l more n is le h = ap verdict_of is ∙ h
+steps-from (Ok (steps.Rejects fault)) before same after attrs l more n is le h = ap verdict_of is ∙ h
+steps-from (Err (halts.Fault fault)) before same after attrs l more n is le h = ap verdict_of is ∙ h
+steps-from (Err halts.Memory) before same after attrs l more n is le h = tt
 
 all-of : {A : Type 0} (xs : List A) → take (length xs) xs ≡ xs
 all-of [] = refl
@@ -52,16 +52,16 @@ none-of (x ∷ xs) = none-of xs
 
 -- ---- loops
 
-loop-flow : (around : Around) (fs : List Routine) (tail : List Instr) (t : Turn) (vals : Frame) (v : Val) (os : List Val) (attrs : Attrs) (n : ℕ) → t.functions.now ≡ fs → t.body.now ≡ tail → t.next ≡ 0 → t.over ≡ n → t.variables ≡ length vals → elements v ≡ Ok (elements_in v) → and_then (plainly (elements v) attrs) (λ vs attrs. and_then (turns (length vals) vs (λ vals attrs. mean (setting around fs) tail 0 vals [] attrs) vals attrs) (λ vals attrs. mean (setting around fs) tail n vals os attrs)) ≡ turned around t (elements_in v) os (Done vals attrs)
-loop-flow around fs tail t vals v os attrs n f b zero-is over-is depth-is list-is =
+loop-flow : (around : Around) (fs : List Routine) (tail : List Instr) (t : Turn) (vals : Frame) (v : Val) (els : Frame) (os : List Val) (attrs : Attrs) (n : ℕ) → t.functions.now ≡ fs → t.body.now ≡ tail → t.next ≡ 0 → t.over ≡ n → t.variables ≡ length vals → elements v ≡ Ok els → and_then (plainly (elements v) attrs) (λ vs attrs. and_then (turns (length vals) vs (λ vals attrs. mean (setting around fs) tail 0 vals [] attrs) vals attrs) (λ vals attrs. mean (setting around fs) tail n vals os attrs)) ≡ turned around t els os (Done vals attrs)
+loop-flow around fs tail t vals v els os attrs n f b zero-is over-is depth-is list-is =
     rw (list-is, f, b, zero-is, over-is, depth-is, all-of vals) refl
 
-pub begun : (around : Around) (fs : List Routine) (rest tail code : List Instr) (n m : ℕ) (t : Turn) (vals os o new : Held) (w middle waiting : Waiting) (v : Val) (attrs : Attrs) → rest ≡ instrs.ForEach n ∷ tail → t.functions.now ≡ fs → t.body.now ≡ tail → t.next ≡ 0 → t.over ≡ n → t.variables ≡ length vals.here → os ≡ record { here = v ∷ o.here; under = o.under } → elements v ≡ Ok (elements_in v) → length (elements_in v) ≤ 120 → m ≡ length tail → code ≡ drop m tail → middle ≡ record { levels = w.levels; lists = v ∷ w.lists } → waiting ≡ record { levels = levels.Turns t ∷ middle.levels; lists = middle.lists } → new ≡ record { here = []; under = o.here ∷ o.under } → (said around fs rest vals os w attrs ≡ said around fs code vals new waiting attrs) × (left fs code waiting < left fs rest w)
-begun around fs rest tail code n m t vals os o new w middle waiting v attrs is f b z ov d pops list few whole end mid wait onew =
+pub begun : (around : Around) (fs : List Routine) (rest tail code : List Instr) (n m : ℕ) (t : Turn) (vals os o new : Held) (w middle waiting : Waiting) (v : Val) (els : Frame) (attrs : Attrs) → rest ≡ instrs.ForEach n ∷ tail → t.functions.now ≡ fs → t.body.now ≡ tail → t.next ≡ 0 → t.over ≡ n → t.variables ≡ length vals.here → os ≡ record { here = v ∷ o.here; under = o.under } → elements v ≡ Ok els → length els ≤ 120 → m ≡ length tail → code ≡ drop m tail → middle ≡ record { levels = w.levels; lists = els ∷ w.lists } → waiting ≡ record { levels = levels.Turns t ∷ middle.levels; lists = middle.lists } → new ≡ record { here = []; under = o.here ∷ o.under } → (said around fs rest vals os w attrs ≡ said around fs code vals new waiting attrs) × (left fs code waiting < left fs rest w)
+begun around fs rest tail code n m t vals os o new w middle waiting v els attrs is f b z ov d pops list few whole end mid wait onew =
     let e : code ≡ [] = end ∙ ap (λ (k : ℕ). drop k tail) whole ∙ none-of tail in
     rw (is, pops, e, wait, mid, onew) (
-      ap (resumed around w.levels vals.under o.under w.lists) (loop-flow around fs tail t vals.here v o.here attrs n f b z ov d list),
-      rw (f, b, z, ov) (omega (arith, works.at_most (length (elements_in v) - 0) (cost (costs fs) tail 0) (omega (arith, few)))),
+      ap (resumed around w.levels vals.under o.under w.lists) (loop-flow around fs tail t vals.here v els o.here attrs n f b z ov d list),
+      rw (f, b, z, ov) (omega (arith, works.at_most (length els - 0) (cost (costs fs) tail 0) (omega (arith, few)))),
     )
 
 next-or : {A : Type 0} (xs : List A) (i : ℕ) (d : A) → i < length xs → drop i xs ≡ get_or xs i d ∷ drop (i + 1) xs
@@ -161,50 +161,60 @@ no-call : (around : Around) (puts : Bool) (fs : List Routine) (n k : ℕ) (tail 
 no-call around true fs n k tail vals os attrs is = rw is refl
 no-call around false fs n k tail vals os attrs is = rw is refl
 
-pub no-function : (around : Around) (puts : Bool) (fs : List Routine) (n k : ℕ) (rest tail : List Instr) (vals os : Held) (w : Waiting) (attrs : Attrs) → rest ≡ call_of puts n k ∷ tail → length fs ≤ n → said around fs rest vals os w attrs ≡ verdicts.Reject None
-no-function around puts fs n k rest tail vals os w attrs is le =
-    rw is (ap (ended around vals os w) (no-call around puts fs n k tail vals.here os.here attrs (table-past around fs n le)) ∙ s.ends_stuck around w.levels vals.under os.under w.lists attrs)
+-- the function is there
+pub has-function : (around : Around) (puts : Bool) (fs : List Routine) (n k : ℕ) (rest tail : List Instr) (vals os : Held) (w : Waiting) (attrs : Attrs) → rest ≡ call_of puts n k ∷ tail → IsUnstuck (said around fs rest vals os w attrs) → n < length fs
+has-function around puts fs n k rest tail vals os w attrs is unstuck = by (ltb n (length fs)) refl
+  where
+    by : (b : Bool) → ltb n (length fs) ≡ b → n < length fs
+    by true below = ltb-true n (length fs) below
+    by false isnt = absurd (u.inside around w.levels vals.under os.under w.lists (mean (setting around fs) rest 0 vals.here os.here attrs) unstuck attrs (ap (λ (code : List Instr). mean (setting around fs) code 0 vals.here os.here attrs) is ∙ no-call around puts fs n k tail vals.here os.here attrs (table-past around fs n (ltb-false n (length fs) isnt))))
 
 -- ---- what ends
 
-pub end-none : (around : Around) (fs : List Routine) (rest : List Instr) (vals os : Held) (w : Waiting) (attrs : Attrs) → mean (setting around fs) rest 0 vals.here os.here attrs ≡ Done vals.here attrs → w.levels ≡ [] → said around fs rest vals os w attrs ≡ verdicts.Reject (Some faults.NoVerdict)
-end-none around fs rest vals os w attrs m is = ap (ended around vals os w) m ∙ ap (λ (all : List Level). resumed around all vals.under os.under w.lists (Done vals.here attrs)) is
+pub end-none : (around : Around) (fs : List Routine) (rest : List Instr) (vals os : Held) (w : Waiting) (attrs : Attrs) → mean (setting around fs) rest 0 vals.here os.here attrs ≡ Done vals.here attrs → w.levels ≡ [] → verdict_of (said around fs rest vals os w attrs) ≡ verdicts.Reject (Some faults.NoVerdict)
+end-none around fs rest vals os w attrs m is = ap verdict_of (ap (ended around vals os w) m ∙ ap (λ (all : List Level). resumed around all vals.under os.under w.lists (Done vals.here attrs)) is)
 
-pub end-steps : (r : Result Step ListFailure) (around : Around) (fs : List Routine) (rest : List Instr) (level : Level) (vals os : Held) (w new : Waiting) (flow : Flow Frame) (attrs : Attrs) (after : Verdict) (now : Attrs) (n : ℕ) → mean (setting around fs) rest 0 vals.here os.here attrs ≡ flow → w.levels ≡ level ∷ new.levels → new.lists ≡ w.lists → Steps r (resumed around (level ∷ new.levels) vals.under os.under new.lists flow) after now (left_in (level ∷ new.levels) new.lists) n → Steps r (said around fs rest vals os w attrs) after now (left fs rest w) n
+pub end-steps : (r : Result Step Halt) (around : Around) (fs : List Routine) (rest : List Instr) (level : Level) (vals os : Held) (w new : Waiting) (flow : Flow Frame) (attrs : Attrs) (after : Flow Frame) (now : Attrs) (n : ℕ) → mean (setting around fs) rest 0 vals.here os.here attrs ≡ flow → w.levels ≡ level ∷ new.levels → new.lists ≡ w.lists → Steps r (resumed around (level ∷ new.levels) vals.under os.under new.lists flow) after now (left_in (level ∷ new.levels) new.lists) n → Steps r (said around fs rest vals os w attrs) after now (left fs rest w) n
 end-steps r around fs rest level vals os w new flow attrs after now n m is lists h =
     steps-from r _ _ after now _ _ n
-    (ap (ended around vals os w) m ∙ ap (λ (all : List Level). resumed around all vals.under os.under w.lists flow) is ∙ ap (λ (ls : List Val). resumed around (level ∷ new.levels) vals.under os.under ls flow) (sym lists))
-    (omega (arith, ap (λ (all : List Level). left_in all w.lists) is, ap (λ (ls : List Val). left_in (level ∷ new.levels) ls) lists))
+    (ap (ended around vals os w) m ∙ ap (λ (all : List Level). resumed around all vals.under os.under w.lists flow) is ∙ ap (λ (ls : List Frame). resumed around (level ∷ new.levels) vals.under os.under ls flow) (sym lists))
+    (omega (arith, ap (λ (all : List Level). left_in all w.lists) is, ap (λ (ls : List Frame). left_in (level ∷ new.levels) ls) lists))
     h
 
-pub unwinds : (r : Result Step ListFailure) (around : Around) (fs : List Routine) (rest : List Instr) (found : Option Call) (call : Call) (vals os o onew : Held) (w new : Waiting) (why : Why) (attrs : Attrs) (after : Verdict) (now : Attrs) (n : ℕ) → mean (setting around fs) rest 0 vals.here os.here attrs ≡ Stopped why attrs → os.under ≡ o.under → resumed around w.levels vals.under o.under w.lists (Stopped why attrs) ≡ resumed around (waits found new.levels) vals.under onew.under new.lists (Stopped why attrs) → left_in (waits found new.levels) new.lists ≤ left_in w.levels w.lists → found ≡ Some call → Steps r (resumed around (levels.Returns call ∷ new.levels) vals.under onew.under new.lists (Stopped why attrs)) after now (left_in (levels.Returns call ∷ new.levels) new.lists) n → Steps r (said around fs rest vals os w attrs) after now (left fs rest w) n
+pub unwinds : (r : Result Step Halt) (around : Around) (fs : List Routine) (rest : List Instr) (found : Option Call) (call : Call) (vals os o onew : Held) (w new : Waiting) (why : Why) (attrs : Attrs) (after : Flow Frame) (now : Attrs) (n : ℕ) → mean (setting around fs) rest 0 vals.here os.here attrs ≡ Stopped why attrs → os.under ≡ o.under → resumed around w.levels vals.under o.under w.lists (Stopped why attrs) ≡ resumed around (waits found new.levels) vals.under onew.under new.lists (Stopped why attrs) → left_in (waits found new.levels) new.lists ≤ left_in w.levels w.lists → found ≡ Some call → Steps r (resumed around (levels.Returns call ∷ new.levels) vals.under onew.under new.lists (Stopped why attrs)) after now (left_in (levels.Returns call ∷ new.levels) new.lists) n → Steps r (said around fs rest vals os w attrs) after now (left fs rest w) n
 unwinds r around fs rest found call vals os o onew w new why attrs after now n m u flow le is h =
     steps-from r _ _ after now _ _ n
     (ap (ended around vals os w) m ∙ ap (λ (us : List (List Val)). resumed around w.levels vals.under us w.lists (Stopped why attrs)) u ∙ flow ∙ ap (λ (c : Option Call). resumed around (waits c new.levels) vals.under onew.under new.lists (Stopped why attrs)) is)
     (omega (arith, le, ap (λ (c : Option Call). left_in (waits c new.levels) new.lists) is))
     h
 
-pub unwinds-all : (around : Around) (fs : List Routine) (rest : List Instr) (found : Option Call) (vals os o onew : Held) (w new : Waiting) (why : Why) (attrs : Attrs) → mean (setting around fs) rest 0 vals.here os.here attrs ≡ Stopped why attrs → os.under ≡ o.under → resumed around w.levels vals.under o.under w.lists (Stopped why attrs) ≡ resumed around (waits found new.levels) vals.under onew.under new.lists (Stopped why attrs) → found ≡ None → said around fs rest vals os w attrs ≡ verdict_of (Stopped why attrs)
-unwinds-all around fs rest found vals os o onew w new why attrs m u flow is =
+-- what is behind a `return` that leads to a caller
+pub unwound-to : (around : Around) (fs : List Routine) (rest : List Instr) (found : Option Call) (call : Call) (vals os o onew : Held) (w new : Waiting) (why : Why) (attrs : Attrs) → mean (setting around fs) rest 0 vals.here os.here attrs ≡ Stopped why attrs → os.under ≡ o.under → resumed around w.levels vals.under o.under w.lists (Stopped why attrs) ≡ resumed around (waits found new.levels) vals.under onew.under new.lists (Stopped why attrs) → found ≡ Some call → said around fs rest vals os w attrs ≡ resumed around (levels.Returns call ∷ new.levels) vals.under onew.under new.lists (Stopped why attrs)
+unwound-to around fs rest found call vals os o onew w new why attrs m u flow is =
     ap (ended around vals os w) m ∙ ap (λ (us : List (List Val)). resumed around w.levels vals.under us w.lists (Stopped why attrs)) u ∙ flow ∙ ap (λ (c : Option Call). resumed around (waits c new.levels) vals.under onew.under new.lists (Stopped why attrs)) is
 
--- what wants an operand, where there is none
-pub no-operand : (failure : ListFailure) (around : Around) (fs : List Routine) (rest : List Instr) (vals os : Held) (w : Waiting) (attrs : Attrs) (after : Verdict) (now : Attrs) (l n : ℕ) → mean (setting around fs) rest 0 vals.here [] attrs ≡ Stopped Stuck attrs → failure ≡ list_failures.Failed failures.Stuck → os.here ≡ [] → Steps (Err failure) (said around fs rest vals os w attrs) after now l n
-no-operand failure around fs rest vals os w attrs after now l n m is none =
-    rw is (ap (λ (vs : List Val). ended around vals os w (mean (setting around fs) rest 0 vals.here vs attrs)) none ∙ ap (ended around vals os w) m ∙ s.ends_stuck around w.levels vals.under os.under w.lists attrs)
+pub unwinds-all : (around : Around) (fs : List Routine) (rest : List Instr) (found : Option Call) (vals os o onew : Held) (w new : Waiting) (why : Why) (attrs : Attrs) → mean (setting around fs) rest 0 vals.here os.here attrs ≡ Stopped why attrs → os.under ≡ o.under → resumed around w.levels vals.under o.under w.lists (Stopped why attrs) ≡ resumed around (waits found new.levels) vals.under onew.under new.lists (Stopped why attrs) → found ≡ None → verdict_of (said around fs rest vals os w attrs) ≡ verdict_of (Stopped why attrs)
+unwinds-all around fs rest found vals os o onew w new why attrs m u flow is =
+    ap verdict_of (ap (ended around vals os w) m ∙ ap (λ (us : List (List Val)). resumed around w.levels vals.under us w.lists (Stopped why attrs)) u ∙ flow ∙ ap (λ (c : Option Call). resumed around (waits c new.levels) vals.under onew.under new.lists (Stopped why attrs)) is)
 
-pub not-a-list : (failure : Failure) (around : Around) (fs : List Routine) (rest tail : List Instr) (n : ℕ) (vals os o : Held) (w : Waiting) (v : Val) (attrs : Attrs) → rest ≡ instrs.ForEach n ∷ tail → os ≡ record { here = v ∷ o.here; under = o.under } → elements v ≡ Err failure → said around fs rest vals os w attrs ≡ fails failure
-not-a-list failure around fs rest tail n vals os o w v attrs is pops list =
-    rw (is, pops) (ap (λ (r : Result Frame Failure). ended around vals (record { here = v ∷ o.here; under = o.under }) w (and_then (plainly r attrs) (λ vs attrs. and_then (turns (length vals.here) vs (λ vals attrs. mean (setting around fs) tail 0 vals [] attrs) vals.here attrs) (λ vals attrs. mean (setting around fs) tail n vals o.here attrs)))) list
-    ∙ s.ends_failed around vals (record { here = v ∷ o.here; under = o.under }) w failure attrs)
+-- what such a level is behind
+pub popped : (around : Around) (fs : List Routine) (rest : List Instr) (level : Level) (vals os : Held) (w new : Waiting) (flow : Flow Frame) (attrs : Attrs) → mean (setting around fs) rest 0 vals.here os.here attrs ≡ flow → w.levels ≡ level ∷ new.levels → new.lists ≡ w.lists → said around fs rest vals os w attrs ≡ resumed around (level ∷ new.levels) vals.under os.under new.lists flow
+popped around fs rest level vals os w new flow attrs m is lists =
+    ap (ended around vals os w) m ∙ ap (λ (all : List Level). resumed around all vals.under os.under w.lists flow) is ∙ ap (λ (ls : List Frame). resumed around (level ∷ new.levels) vals.under os.under ls flow) (sym lists)
 
 -- ---- functions that end without a value
 
-pub gives-none : (around : Around) (more : List Level) (fs os : List (List Val)) (ls : List Val) (g : Option Sort) (next : Option Val → Attrs → Flow Frame) (attrs : Attrs) → is_some g ≡ true → resumed around more fs os ls (and_then (at_end g attrs) next) ≡ verdicts.Reject (Some faults.NoValue)
+pub gives-none : (around : Around) (more : List Level) (fs os : List (List Val)) (ls : List Frame) (g : Option Sort) (next : Option Val → Attrs → Flow Frame) (attrs : Attrs) → is_some g ≡ true → verdict_of (resumed around more fs os ls (and_then (at_end g attrs) next)) ≡ verdicts.Reject (Some faults.NoValue)
 gives-none around more fs os ls None next attrs is = absurd (cc)
-gives-none around more fs os ls (Some sort) next attrs is = s.ends_faulted around more fs os ls faults.NoValue attrs
+gives-none around more fs os ls (Some sort) next attrs is = ap verdict_of (s.ends_faulted around more fs os ls faults.NoValue attrs)
 
-pub puts-none : (around : Around) (more : List Level) (fs us : List (List Val)) (ls : List Val) (g : Option Sort) (puts : Bool) (next : List Val → Attrs → Flow Frame) (os : List Val) (attrs : Attrs) → is_some g ≡ false → puts ≡ true → resumed around more fs us ls (and_then (at_end g attrs) (handed puts next os)) ≡ verdicts.Reject None
-puts-none around more fs us ls None true next os attrs is p = s.ends_stuck around more fs us ls attrs
-puts-none around more fs us ls None false next os attrs is p = absurd (cc)
-puts-none around more fs us ls (Some sort) puts next os attrs is p = absurd (cc)
+pub puts-none : (around : Around) (more : List Level) (fs us : List (List Val)) (ls : List Frame) (g : Option Sort) (puts : Bool) (next : List Val → Attrs → Flow Frame) (os : List Val) (attrs : Attrs) → is_some g ≡ false → IsUnstuck (resumed around more fs us ls (and_then (at_end g attrs) (handed puts next os))) → and_then (at_end g attrs) (handed puts next os) ≡ next os attrs
+puts-none around more fs us ls None true next os attrs is unstuck = absurd (unstuck attrs (s.ends_stuck around more fs us ls attrs))
+puts-none around more fs us ls None false next os attrs is unstuck = refl
+puts-none around more fs us ls (Some sort) puts next os attrs is unstuck = absurd (cc)
+
+pub gives-nothing : (around : Around) (c : Call) (vals os : Held) (w : Waiting) (attrs : Attrs) → is_some c.gives ≡ false → IsUnstuck (resumed around (levels.Returns c ∷ w.levels) vals.under os.under w.lists (Stopped AtEnd attrs)) → (resumed around (levels.Returns c ∷ w.levels) vals.under os.under w.lists (Stopped AtEnd attrs) ≡ said around c.functions.now c.rest.now (record { here = first_of vals.under; under = rest_of vals.under }) (record { here = first_of os.under; under = rest_of os.under }) w attrs) × (left c.functions.now c.rest.now w < left_in (levels.Returns c ∷ w.levels) w.lists)
+gives-nothing around c vals os w attrs none unstuck = (
+  ap (resumed around w.levels (rest_of vals.under) (rest_of os.under) w.lists) (puts-none around w.levels (rest_of vals.under) (rest_of os.under) w.lists c.gives c.puts (λ os attrs. mean (setting around c.functions.now) c.rest.now 0 (first_of vals.under) os attrs) (first_of os.under) attrs none unstuck),
+  omega arith,
+)

@@ -2,10 +2,10 @@
 use Rattle.std.proofs.Common.{◌≡◌, ℕ, suc, zero, ◌+◌, ◌*◌, ◌<◌, ◌≤◌, max, List, [], ◌∷◌, ◌++◌, length, take, drop, get_or, Some, Result, Ok, Err, IfOk, refl, arith, length-append, inl, inr, ◌⊎◌}
 use Rattle.std.proofs.Math.Nat.{le-max_left, le-max_right, le_refl}
 use Rattle.std.specs.Prelude.{slice_get}
-use Rattle.filt_values.specs.declared.value.ListFailure.{ListFailure}
 use Rattle.filt_code.specs.declared.code.Routine.{Routine}
 use Rattle.filt_code.specs.declared.instr.Instr.{Instr}
 use Rattle.filt_code.specs.Costs.{cost, costs, greatest, with_costs}
+use Rattle.filt_route.specs.declared.halt.Halt.{Halt}
 use Rattle.filt_vm.specs.Machines.{turns_left}
 
 one_up : (m n : ℕ) → (m ≡ suc n) ⊎ (m ≤ n) → (suc m ≡ suc (suc n)) ⊎ (suc m ≤ suc n)
@@ -27,9 +27,9 @@ greatest_of of zero zero le = le_refl (of 0)
 greatest_of of zero (suc m) le = absurd (omega arith)
 greatest_of of (suc n) m le = one_less of n m (last_or_before m n le) (λ l. greatest_of of n m l)
 
-pub few_cost : (r : Result ℕ ListFailure) (of : ℕ → ℕ) (n : ℕ) → IfOk r (λ m. m ≤ n) → IfOk r (λ m. of m ≤ greatest of n)
+pub few_cost : (r : Result ℕ Halt) (of : ℕ → ℕ) (n : ℕ) → IfOk r (λ m. m ≤ n) → IfOk r (λ m. of m ≤ greatest of n)
 few_cost (Ok m) of n le = greatest_of of n m le
-few_cost (Err failure) of n le = tt
+few_cost (Err halt) of n le = tt
 
 -- from a place on, as by what stands there
 pub cost-behind : (fs : List ℕ) (code : List Instr) (n : ℕ) → cost fs (drop n code) 0 ≡ cost fs code n

@@ -1,12 +1,11 @@
 -- For private contracts alone: values as the code that runs sees them.
-use Rattle.std.specs.Prelude.{◌≡◌, List, [], ◌∷◌, map, reverse, Result, Ok, Err, Vec}
+use Rattle.std.specs.Prelude.{List, [], ◌∷◌, map, reverse, Result, Vec}
 use Rattle.std.specs.Global.{Global}
-use Rattle.filt_values.specs.declared.value.Failure.TheVariants as failures
-use Rattle.filt_values.specs.declared.value.ListFailure.{ListFailure}
-use Rattle.filt_values.specs.declared.value.ListFailure.TheVariants as list_failures
+use Rattle.filt_values.specs.declared.value.Failure.{Failure}
 use Rattle.filt_values.specs.declared.value.Value.{Value}
 use Rattle.filt_values.specs.Seen.{val_of}
 use Rattle.filt_values.specs.Values.{Val}
+use Rattle.filt_route.specs.Seen.{IsApplicable}
 
 -- ---- values
 
@@ -37,8 +36,16 @@ abbrev pub rest_of : List (List Val) → List (List Val)
 rest_of [] = []
 rest_of (here ∷ under) = under
 
--- The value was on top, or there was none.
-abbrev pub Pops : Result Value ListFailure → Held → Held → Type 0
-Pops (Ok v) before after = before ≡ record { here = val_of v ∷ after.here; under = after.under }
-Pops (Err failure) before after =
-    (failure ≡ list_failures.Failed failures.Stuck) × (before.here ≡ [])
+-- ---- conditions
+
+-- the top operand is there, and one that the operator takes
+abbrev pub TakesTop : {A : Type 0} → (Val → Result A Failure) → (operands : List Val) → Type 0
+TakesTop f [] = ⊥
+TakesTop f (v ∷ os) = IsApplicable (f v)
+
+-- so are the two top operands, of which the right one is on top
+abbrev pub TakesTopTwo :
+    {A : Type 0} → (Val → Val → Result A Failure) → (operands : List Val) → Type 0
+TakesTopTwo f [] = ⊥
+TakesTopTwo f (w ∷ []) = ⊥
+TakesTopTwo f (w ∷ v ∷ os) = IsApplicable (f v w)

@@ -1,21 +1,21 @@
 //! Filters that run.
 
 ghost use Rattle.std.specs.Prelude.{◌≡◌, IfOk};
-ghost use Rattle.attrs.specs.declared.judge.Verdict.TheVariants as verdicts;
-ghost use Rattle.filt_code.specs.Codes.{code_judged};
-ghost use Rattle.filt_meaning.specs.Configuration.{around_route};
-ghost use Rattle.filt_vm.specs.Machines.{fails, says};
+ghost use Rattle.filt_code.specs.Codes.{code_judged, IsNeverStuck};
+ghost use Rattle.filt_meaning.specs.Configuration.{around_route, verdict_of};
+ghost use Rattle.filt_route.specs.Seen.{IsUnstuck};
+ghost use Rattle.filt_vm.specs.Machines.{outcome};
 
 use crate::level::Levels;
 use crate::locals::Locals;
 use crate::machine::{Machine, first};
 use crate::operands::Operands;
 use crate::step::Step;
-use attrs::{FilterFault, Names, Route, Verdict};
+use attrs::{Names, Route, Verdict};
 use bits_ip::{OutOfMemory, Prefix};
 use filt_code::{Draft, Routine};
-use filt_route::{Running, Surroundings};
-use filt_values::{Defaults, Failure, ListFailure};
+use filt_route::{Halt, Running, Surroundings};
+use filt_values::Defaults;
 use std::alloc::Global;
 
 /// What the code of a filter says of a route of a net, over functions of which it may call the
@@ -23,8 +23,9 @@ use std::alloc::Global;
 /// one (BIRD User's Guide, "Filters"). Functions may call each other to any depth: what waits for
 /// them lies on the heap.
 ///
-/// No set, no constant and no list that the filter doesn't change is copied. The `Err` says that
-/// memory was wanted.
+/// The code is to be never stuck, so here is no answer for a value of a wrong sort, an operand that
+/// isn't there, or a variable or a function that there isn't. No set, no constant and no list that the
+/// filter doesn't change is copied. The `Err` says that memory was wanted.
 pub fn run(
     alloc: Global,
     code: &Draft<'_>,
@@ -33,6 +34,7 @@ pub fn run(
     net: &Prefix,
     route: &Route,
 ) -> Result<Verdict, OutOfMemory>
+    requires { IsNeverStuck functions.now code.now }
     ensures { IfOk result (λ v. v ≡ code_judged (around_route names.now net.now route.now)
         functions.now code.now route.now.attrs) }
 {
@@ -49,6 +51,7 @@ fn run_over<'a>(
     route: &'a Route,
     defaults: &'a Defaults,
 ) -> Result<Verdict, OutOfMemory>
+    requires { IsNeverStuck functions.now code.now }
     ensures { IfOk result (λ v. v ≡ code_judged (around_route names.now net.now route.now)
         functions.now code.now route.now.attrs) }
 {
@@ -73,7 +76,8 @@ fn run_over<'a>(
 
 /// What the machine says in the end.
 fn finished(alloc: Global, machine: Machine<'_>) -> Result<Verdict, OutOfMemory>
-    ensures { IfOk result (λ v. v ≡ says machine.entry) }
+    requires { IsUnstuck (outcome machine) }
+    ensures { IfOk result (λ v. v ≡ verdict_of (outcome machine.entry)) }
 {
     let mut machine = machine;
     loop {
@@ -81,17 +85,8 @@ fn finished(alloc: Global, machine: Machine<'_>) -> Result<Verdict, OutOfMemory>
             Ok(Step::On) => {}
             Ok(Step::Accepts) => return Ok(Verdict::Accept(machine.attrs.finish(alloc)?)),
             Ok(Step::Rejects(fault)) => return Ok(Verdict::Reject(fault)),
-            Err(ListFailure::Failed(failure)) => return Ok(failed(failure)),
-            Err(ListFailure::Memory) => return Err(OutOfMemory),
+            Err(Halt::Fault(fault)) => return Ok(Verdict::Reject(Some(fault))),
+            Err(Halt::Memory) => return Err(OutOfMemory),
         }
-    }
-}
-
-fn failed(failure: Failure) -> Verdict
-    ensures { result ≡ fails failure }
-{
-    match failure {
-        Failure::Fault(fault) => Verdict::Reject(Some(fault)),
-        Failure::Stuck => Verdict::Reject(None),
     }
 }

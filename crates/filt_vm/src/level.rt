@@ -2,12 +2,13 @@
 
 ghost use Rattle.std.specs.Prelude.{◌≡◌, ◌<◌, [], ◌∷◌, get_or, length, nat_lt, IsTrue, MatchOption, OnOk};
 ghost use Rattle.filt_values.specs.Seen.{val_of};
+ghost use Rattle.filt_route.specs.Seen.{elements_of};
 ghost use Rattle.filt_values.specs.Values.{VInt};
 ghost use Rattle.filt_vm.specs.Levels.{behind_first, top_elements};
 
 use bits_ip::OutOfMemory;
 use filt_code::{Instr, Routine};
-use filt_route::{count, element};
+use filt_route::Elements;
 use filt_values::{Sort, Value};
 use std::alloc::Global;
 use std::marker::Model;
@@ -53,21 +54,24 @@ pub(crate) struct Turn<'a> {
 #[derive(Drop)]
 pub(crate) struct Levels<'a> {
     levels: Vec<Level<'a>>,
-    lists: Vec<Value<'a>>,
+    lists: Vec<Elements<'a>>,
 }
 
 impl<'a> Model for Levels<'a> {
     ghost use Rattle.std.specs.Coded.{codes};
-    ghost use Rattle.std.specs.Prelude.{reverse};
+    ghost use Rattle.std.specs.Prelude.{map, reverse};
+    ghost use Rattle.filt_route.specs.Seen.{elements_of};
     ghost use Rattle.filt_tree.specs.contracts.tree.TStmt as trees;
     ghost use Rattle.filt_vm.specs.Levels.{Waiting};
-    ghost use Rattle.filt_vm.specs.Seen.{top_first};
 
     ghost Value = { Waiting };
 
     ghost coded = { Prim.hlevel (codes, trees.the_row.coded) };
 
-    ghost view = { λ w. record { levels = reverse w.levels.items; lists = top_first w.lists } };
+    ghost view = { λ w. record {
+      levels = reverse w.levels.items;
+      lists = reverse (map elements_of w.lists.items);
+    } };
 }
 
 impl<'a> Levels<'a> {
@@ -92,10 +96,10 @@ impl<'a> Levels<'a> {
     }
 
     /// A loop over this list begins.
-    pub(crate) fn begin(&mut self, list: Value<'a>) -> Result<(), OutOfMemory>
+    pub(crate) fn begin(&mut self, list: Elements<'a>) -> Result<(), OutOfMemory>
         ensures { OnOk result (self.new ≡ record {
           levels = self.old.levels;
-          lists = val_of list.entry ∷ self.old.lists;
+          lists = elements_of list.entry ∷ self.old.lists;
         }) }
     {
         self.lists.push(list)?;
@@ -127,7 +131,7 @@ impl<'a> Levels<'a> {
         ensures few { IsTrue result → n < 120 }
     {
         match self.lists.last() {
-            Some(list) => n < count(list),
+            Some(list) => n < list.len(),
             None => false,
         }
     }
@@ -138,7 +142,7 @@ impl<'a> Levels<'a> {
         ensures { val_of result ≡ get_or (top_elements self.now.lists) n (VInt 0) }
     {
         match self.lists.last() {
-            Some(list) => element(list, n),
+            Some(list) => list.get(n),
             None => unreachable!(),
         }
     }

@@ -5,6 +5,10 @@
 //! its own, so nothing here calls itself, and functions may call each other to any depth. It ends,
 //! since each step leaves less to do (`specs/Machines`). The attributes of the route are lent until
 //! the filter changes them, and sets and constants stay where they are.
+//!
+//! It runs only code that is never stuck (`IsNeverStuck`), whatever route it is run for: that is a
+//! condition on what the code means alone. So no step answers for a value of a wrong sort, a missing
+//! operand, or a variable or a function that there isn't.
 #![tactic(auto)]
 
 mod effects;

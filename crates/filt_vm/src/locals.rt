@@ -1,16 +1,11 @@
 //! Variables.
 
-ghost use Rattle.std.specs.Prelude.{◌≡◌, [], ◌∷◌, ◌++◌, length, map, take, slice_get, Some, OnOk};
-ghost use Rattle.attrs.specs.declared.attributes.Attrs.{Attrs};
-ghost use Rattle.filt_values.specs.Seen.{val_of, Builds};
-ghost use Rattle.filt_meaning.specs.Flow.{Done};
-ghost use Rattle.filt_meaning.specs.Meaning.{set_variable};
-ghost use Rattle.filt_meaning.specs.Names.{there};
-ghost use Rattle.filt_route.specs.Seen.{Yields};
+ghost use Rattle.std.specs.Prelude.{◌≡◌, ◌<◌, [], ◌∷◌, ◌++◌, length, take, slice_get, slice_set, Some, IfOk, OnOk};
+ghost use Rattle.filt_values.specs.Seen.{val_of};
 ghost use Rattle.filt_vm.specs.Seen.{first_of, rest_of, vals_of};
 
 use bits_ip::OutOfMemory;
-use filt_values::{Failure, ListFailure, Value, copy};
+use filt_values::{Value, copy};
 use std::alloc::Global;
 use std::marker::Model;
 
@@ -52,26 +47,22 @@ impl<'a> Locals<'a> {
     }
 
     /// The value of a variable.
-    pub(crate) fn get(&self, place: usize) -> Result<Value<'a>, ListFailure>
-        ensures { Builds val_of result (there (slice_get self.now.here place)) }
+    pub(crate) fn get(&self, place: usize) -> Result<Value<'a>, OutOfMemory>
+        requires { place < length self.now.here }
+        ensures { IfOk result (λ value. slice_get self.now.here place ≡ Some (val_of value)) }
     {
-        match self.here.get(place) {
-            Some(held) => Ok(copy(held)?),
-            None => Err(ListFailure::Failed(Failure::Stuck)),
-        }
+        copy(&self.here[place])
     }
 
     /// A variable holds a value from now on.
-    pub(crate) fn set(&mut self, place: usize, value: Value<'a>) -> Result<(), ListFailure>
-        ensures set { (attrs : Attrs) → Yields (λ _. self.new.here) result attrs
-            (set_variable (Some place) (val_of value.entry) self.old.here attrs) }
-        ensures under { self.new.under ≡ self.old.under }
+    pub(crate) fn set(&mut self, place: usize, value: Value<'a>)
+        requires { place < length self.old.here }
+        ensures { self.new ≡ record {
+          here = slice_set self.old.here place (val_of value.entry);
+          under = self.old.under;
+        } }
     {
-        if place < self.here.len() {
-            self.here[place] = value;
-            return Ok(());
-        }
-        Err(ListFailure::Failed(Failure::Stuck))
+        self.here[place] = value;
     }
 
     /// How many variables there are.

@@ -1,6 +1,6 @@
 //! The machine, and its steps.
 
-ghost use Rattle.std.specs.Prelude.{◌≡◌, ◌≤◌, List, [], ◌∷◌, drop, take};
+ghost use Rattle.std.specs.Prelude.{◌≡◌, ◌<◌, ◌≤◌, List, [], ◌∷◌, drop, length, slice_get, take, Some};
 ghost use Rattle.attrs.specs.declared.attributes.Attrs.{Attrs};
 ghost use Rattle.filt_code.specs.Codes.{mean, Setting};
 ghost use Rattle.filt_meaning.specs.Flow.{AtEnd, Done, Frame, Returned, Stopped, Why};
@@ -9,7 +9,8 @@ ghost use Rattle.filt_values.specs.Seen.{val_of};
 ghost use Rattle.filt_values.specs.Values.{Val};
 ghost use Rattle.filt_code.specs.declared.instr.Instr.TheVariants as instrs;
 ghost use Rattle.filt_vm.specs.declared.level.Level.TheVariants as levels;
-ghost use Rattle.filt_vm.specs.Machines.{back_in, call_of, left_in, resumed, waits, Ends, Goes, IsJump};
+ghost use Rattle.filt_route.specs.Seen.{IsUnstuck};
+ghost use Rattle.filt_vm.specs.Machines.{back_in, call_of, left_in, outcome, outcome_behind, resumed, waits, Ends, Goes, IsJump};
 
 use crate::effects::effect;
 use crate::level::{Call, Level, Levels, Turn};
@@ -20,8 +21,8 @@ use crate::step::Step;
 use crate::target::target;
 use attrs::FilterFault;
 use filt_code::{Effect, Instr, Routine};
-use filt_route::{Running, Surroundings, is_list};
-use filt_values::{Failure, ListFailure, Value};
+use filt_route::{Elements, Halt, Running, Surroundings};
+use filt_values::Value;
 use std::alloc::Global;
 
 /// A filter that runs.
@@ -40,14 +41,16 @@ pub(crate) struct Machine<'a> {
 
 impl<'a> Machine<'a> {
     /// The next instruction.
-    pub(crate) fn step(&mut self) -> Result<Step, ListFailure>
+    pub(crate) fn step(&mut self) -> Result<Step, Halt>
+        requires { IsUnstuck (outcome self.old) }
         ensures { Goes result self.old self.new }
     {
         self.rest = ahead(&self.around, self.rest, &self.attrs);
         self.first()
     }
 
-    fn first(&mut self) -> Result<Step, ListFailure>
+    fn first(&mut self) -> Result<Step, Halt>
+        requires { IsUnstuck (outcome self.old) }
         ensures { Goes result self.old self.new }
     {
         let rest = self.rest;
@@ -57,8 +60,9 @@ impl<'a> Machine<'a> {
         }
     }
 
-    fn do_one(&mut self, i: Instr<'a>, tail: &'a [Instr<'a>]) -> Result<Step, ListFailure>
-        requires { self.old.rest.now ≡ i ∷ tail.now }
+    fn do_one(&mut self, i: Instr<'a>, tail: &'a [Instr<'a>]) -> Result<Step, Halt>
+        requires code { self.old.rest.now ≡ i ∷ tail.now }
+        requires unstuck { IsUnstuck (outcome self.old) }
         ensures { Goes result self.old self.new }
     {
         match i {
@@ -76,13 +80,14 @@ impl<'a> Machine<'a> {
             Instr::Reject => Ok(Step::Rejects(None)),
             Instr::Return => self.give_top(tail),
             Instr::ReturnNothing => self.give_end(tail),
-            Instr::Stuck => Err(ListFailure::Failed(Failure::Stuck)),
+            Instr::Stuck => unreachable!(),
         }
     }
 
     /// An effect, with the code behind it.
-    fn act(&mut self, what: Effect<'a>, tail: &'a [Instr<'a>]) -> Result<Step, ListFailure>
-        requires { self.old.rest.now ≡ instrs.Do what ∷ tail.now }
+    fn act(&mut self, what: Effect<'a>, tail: &'a [Instr<'a>]) -> Result<Step, Halt>
+        requires code { self.old.rest.now ≡ instrs.Do what ∷ tail.now }
+        requires unstuck { IsUnstuck (outcome self.old) }
         ensures { Goes result self.old self.new }
     {
         effect(
@@ -97,9 +102,10 @@ impl<'a> Machine<'a> {
     }
 
     /// A jump, with the code behind it.
-    fn jump(&mut self, i: Instr<'a>, tail: &'a [Instr<'a>]) -> Result<Step, ListFailure>
+    fn jump(&mut self, i: Instr<'a>, tail: &'a [Instr<'a>]) -> Result<Step, Halt>
         requires jumps { IsJump i }
         requires code { self.old.rest.now ≡ i ∷ tail.now }
+        requires unstuck { IsUnstuck (outcome self.old) }
         ensures { Goes result self.old self.new }
     {
         let passed = target(&self.around, i, &mut self.operands, &self.attrs)?;
@@ -108,12 +114,12 @@ impl<'a> Machine<'a> {
     }
 
     /// A loop, with its body and the code behind it.
-    fn for_each(&mut self, over: usize, tail: &'a [Instr<'a>]) -> Result<Step, ListFailure>
-        requires { self.old.rest.now ≡ instrs.ForEach over ∷ tail.now }
+    fn for_each(&mut self, over: usize, tail: &'a [Instr<'a>]) -> Result<Step, Halt>
+        requires code { self.old.rest.now ≡ instrs.ForEach over ∷ tail.now }
+        requires unstuck { IsUnstuck (outcome self.old) }
         ensures { Goes result self.old self.new }
     {
-        let list = self.operands.pop()?;
-        is_list(&list)?;
+        let list = Elements::of(self.operands.pop());
         let turn = Turn {
             functions: self.functions,
             body: tail,
@@ -136,35 +142,33 @@ impl<'a> Machine<'a> {
         count: usize,
         puts: bool,
         tail: &'a [Instr<'a>],
-    ) -> Result<Step, ListFailure>
-        requires { self.old.rest.now ≡ call_of puts number count ∷ tail.now }
+    ) -> Result<Step, Halt>
+        requires code { self.old.rest.now ≡ call_of puts number count ∷ tail.now }
+        requires unstuck { IsUnstuck (outcome self.old) }
         ensures { Goes result self.old self.new }
     {
         let functions = self.functions;
-        match functions.get(number) {
-            Some(routine) => {
-                let call = Call {
-                    functions,
-                    rest: tail,
-                    gives: routine.gives,
-                    puts,
-                };
-                let arguments = self.operands.take(count)?;
-                self.operands.enter(self.around.alloc)?;
-                self.locals.enter(arguments)?;
-                self.levels.push(Level::Returns(call))?;
-                self.functions = first(functions, number);
-                self.rest = routine.code.as_slice();
-                Ok(Step::On)
-            }
-            None => Err(ListFailure::Failed(Failure::Stuck)),
-        }
+        let routine = routine_at(functions, number);
+        let call = Call {
+            functions,
+            rest: tail,
+            gives: routine.gives,
+            puts,
+        };
+        let arguments = self.operands.take(count)?;
+        self.operands.enter(self.around.alloc)?;
+        self.locals.enter(arguments)?;
+        self.levels.push(Level::Returns(call))?;
+        self.functions = first(functions, number);
+        self.rest = routine.code.as_slice();
+        Ok(Step::On)
     }
 
     /// The end of code, or of a loop's body.
-    fn end(&mut self) -> Result<Step, ListFailure>
-        requires { (s : Setting) (vals : Frame) (os : List Val) (attrs : Attrs)
+    fn end(&mut self) -> Result<Step, Halt>
+        requires ends { (s : Setting) (vals : Frame) (os : List Val) (attrs : Attrs)
             → mean s self.old.rest.now 0 vals os attrs ≡ Done vals attrs }
+        requires unstuck { IsUnstuck (outcome self.old) }
         ensures { Goes result self.old self.new }
     {
         match self.levels.pop() {
@@ -175,11 +179,12 @@ impl<'a> Machine<'a> {
     }
 
     /// `return` with the top operand.
-    fn give_top(&mut self, tail: &'a [Instr<'a>]) -> Result<Step, ListFailure>
-        requires { self.old.rest.now ≡ instrs.Return ∷ tail.now }
+    fn give_top(&mut self, tail: &'a [Instr<'a>]) -> Result<Step, Halt>
+        requires code { self.old.rest.now ≡ instrs.Return ∷ tail.now }
+        requires unstuck { IsUnstuck (outcome self.old) }
         ensures { Goes result self.old self.new }
     {
-        let value = self.operands.pop()?;
+        let value = self.operands.pop();
         match unwound(self.around.alloc, &mut self.levels, &mut self.operands) {
             Some(call) => self.give(call, value),
             None => Ok(Step::Rejects(None)),
@@ -187,8 +192,9 @@ impl<'a> Machine<'a> {
     }
 
     /// `return` with nothing.
-    fn give_end(&mut self, tail: &'a [Instr<'a>]) -> Result<Step, ListFailure>
-        requires { self.old.rest.now ≡ instrs.ReturnNothing ∷ tail.now }
+    fn give_end(&mut self, tail: &'a [Instr<'a>]) -> Result<Step, Halt>
+        requires code { self.old.rest.now ≡ instrs.ReturnNothing ∷ tail.now }
+        requires unstuck { IsUnstuck (outcome self.old) }
         ensures { Goes result self.old self.new }
     {
         match unwound(self.around.alloc, &mut self.levels, &mut self.operands) {
@@ -198,7 +204,7 @@ impl<'a> Machine<'a> {
     }
 
     /// A function gives a value to the caller that waited for it.
-    fn give(&mut self, call: Call<'a>, value: Value<'a>) -> Result<Step, ListFailure>
+    fn give(&mut self, call: Call<'a>, value: Value<'a>) -> Result<Step, Halt>
         ensures { Ends result (levels.Returns call.entry ∷ self.old.levels.levels)
             (Stopped (Returned (val_of value.entry)) self.old.attrs) self.old self.new }
     {
@@ -210,15 +216,14 @@ impl<'a> Machine<'a> {
     }
 
     /// A function ends without a value.
-    fn give_nothing(&mut self, call: Call<'a>) -> Result<Step, ListFailure>
+    fn give_nothing(&mut self, call: Call<'a>) -> Result<Step, Halt>
+        requires { IsUnstuck (outcome_behind (levels.Returns call ∷ self.old.levels.levels)
+            (Stopped AtEnd self.old.attrs) self.old) }
         ensures { Ends result (levels.Returns call.entry ∷ self.old.levels.levels)
             (Stopped AtEnd self.old.attrs) self.old self.new }
     {
         if call.gives.is_some() {
             return Ok(Step::Rejects(Some(FilterFault::NoValue)));
-        }
-        if call.puts {
-            return Err(ListFailure::Failed(Failure::Stuck));
         }
         self.go_back(call);
         Ok(Step::On)
@@ -235,7 +240,7 @@ impl<'a> Machine<'a> {
     }
 
     /// The next turn of a loop, or what is behind it.
-    fn turn(&mut self, turn: Turn<'a>) -> Result<Step, ListFailure>
+    fn turn(&mut self, turn: Turn<'a>) -> Result<Step, Halt>
         ensures { Ends result (levels.Turns turn.entry ∷ self.old.levels.levels)
             (Done self.old.locals.here self.old.attrs) self.old self.new }
     {
@@ -287,6 +292,13 @@ fn unwound<'a>(
         }
     }
     None
+}
+
+fn routine_at<'a>(functions: &'a [Routine<'a>], number: usize) -> &'a Routine<'a>
+    requires { number < length functions.now }
+    ensures { slice_get functions.now number ≡ Some result.now }
+{
+    &functions[number]
 }
 
 /// The code behind so many instructions.

@@ -1,11 +1,11 @@
 //! Operands.
 
-ghost use Rattle.std.specs.Prelude.{◌≡◌, [], ◌∷◌, drop, map, reverse, take, IfOk, OnOk};
+ghost use Rattle.std.specs.Prelude.{◌≡◌, ◌<◌, [], ◌∷◌, drop, length, reverse, take, IfOk, OnOk};
 ghost use Rattle.filt_values.specs.Seen.{val_of};
-ghost use Rattle.filt_vm.specs.Seen.{first_of, rest_of, vals_of, Pops};
+ghost use Rattle.filt_vm.specs.Seen.{first_of, rest_of, vals_of};
 
 use bits_ip::OutOfMemory;
-use filt_values::{Failure, ListFailure, Value};
+use filt_values::Value;
 use std::alloc::Global;
 use std::marker::Model;
 
@@ -46,12 +46,16 @@ impl<'a> Operands<'a> {
     }
 
     /// The top operand, which is taken.
-    pub(crate) fn pop(&mut self) -> Result<Value<'a>, ListFailure>
-        ensures { Pops result self.old self.new }
+    pub(crate) fn pop(&mut self) -> Value<'a>
+        requires { 0 < length self.old.here }
+        ensures { self.old ≡ record {
+          here = val_of result ∷ self.new.here;
+          under = self.new.under;
+        } }
     {
         match self.here.pop() {
-            Some(value) => Ok(value),
-            None => Err(ListFailure::Failed(Failure::Stuck)),
+            Some(value) => value,
+            None => unreachable!(),
         }
     }
 

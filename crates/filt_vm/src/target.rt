@@ -6,15 +6,16 @@ ghost use Rattle.filt_code.specs.Codes.{arms_before, labels_of, behind_left, dec
 ghost use Rattle.filt_code.specs.Costs.{beside};
 ghost use Rattle.filt_meaning.specs.Flow.{Frame, and_then, plainly};
 ghost use Rattle.filt_values.specs.Operators.{bool_in};
-ghost use Rattle.filt_vm.specs.Machines.{IsJump, Leads};
 ghost use Rattle.filt_route.specs.Seen.{around_in};
+ghost use Rattle.filt_vm.specs.Machines.{IsJump, IsReady, Leads};
+ghost use Rattle.filt_vm.specs.Seen.{TakesTop};
 
 use crate::operands::Operands;
 use conf_ast::filters::LogicalOp;
 use filt_code::Instr;
-use filt_route::{Running, Surroundings, arms_before, asked, bool};
+use filt_route::{Halt, Running, Surroundings, arms_before, asked, bool};
 use filt_tree::{TArm, TStmt};
-use filt_values::{ListFailure, Value};
+use filt_values::Value;
 
 /// How many instructions a jump passes over, and what it does to the operands.
 pub(crate) fn target<'a>(
@@ -22,8 +23,9 @@ pub(crate) fn target<'a>(
     i: Instr<'a>,
     operands: &mut Operands<'a>,
     attrs: &Running<'a>,
-) -> Result<usize, ListFailure>
-    requires { IsJump i }
+) -> Result<usize, Halt>
+    requires jumps { IsJump i }
+    requires ready { IsReady (around_in around.now) i operands.old.here attrs.now }
     ensures leads { (s : Setting) (rest : ℕ → At) (vals : Frame)
         → s.around ≡ around_in around.now
         → Leads result (λ n. rest n vals operands.new.here attrs.now) attrs.now
@@ -33,7 +35,7 @@ pub(crate) fn target<'a>(
 {
     match i {
         Instr::Jump(n) => Ok(n),
-        Instr::JumpIf(is, n) => if_top(is, n, operands),
+        Instr::JumpIf(is, n) => Ok(if_top(is, n, operands)),
         Instr::JumpIfAsked(is, what, n) => Ok(jump_where(is, n, asked(around, what, attrs)?)),
         Instr::JumpIfDecided(joint, n) => if_decided(joint, n, operands),
         Instr::Switch(arms) => among(arms, operands),
@@ -53,20 +55,21 @@ pub(crate) fn jump_where(is: bool, n: usize, truth: bool) -> usize
     }
 }
 
-fn if_top(is: bool, n: usize, operands: &mut Operands<'_>) -> Result<usize, ListFailure>
+fn if_top(is: bool, n: usize, operands: &mut Operands<'_>) -> usize
+    requires { TakesTop bool_in operands.old.here }
     ensures leads { (rest : ℕ → At) (vals : Frame) (attrs : Attrs)
-        → Leads result (λ n. rest n vals operands.new.here attrs) attrs
-        (with_one (λ v os attrs. and_then (plainly (bool_in v) attrs)
-        (λ b attrs. rest (jump_where is n b) vals os attrs)) operands.old.here attrs) }
-    ensures under { OnOk result (operands.new.under ≡ operands.old.under) }
-    ensures either { IfOk result (λ m. (m ≡ 0) ⊎ (m ≡ n)) }
+        → with_one (λ v os attrs. and_then (plainly (bool_in v) attrs)
+        (λ b attrs. rest (jump_where is n b) vals os attrs)) operands.old.here attrs
+        ≡ rest result vals operands.new.here attrs }
+    ensures under { operands.new.under ≡ operands.old.under }
+    ensures either { (result ≡ 0) ⊎ (result ≡ n) }
 {
-    let value = operands.pop()?;
-    let truth = bool(&value)?;
-    Ok(jump_where(is, n, truth))
+    let value = operands.pop();
+    jump_where(is, n, bool(&value))
 }
 
-fn if_decided(joint: LogicalOp, n: usize, operands: &mut Operands<'_>) -> Result<usize, ListFailure>
+fn if_decided(joint: LogicalOp, n: usize, operands: &mut Operands<'_>) -> Result<usize, Halt>
+    requires { TakesTop bool_in operands.old.here }
     ensures leads { (rest : ℕ → At) (vals : Frame) (attrs : Attrs)
         → Leads result (λ n. rest n vals operands.new.here attrs) attrs
         (with_one (λ v os attrs. and_then (plainly (bool_in v) attrs)
@@ -75,8 +78,8 @@ fn if_decided(joint: LogicalOp, n: usize, operands: &mut Operands<'_>) -> Result
     ensures under { OnOk result (operands.new.under ≡ operands.old.under) }
     ensures either { IfOk result (λ m. (m ≡ 0) ⊎ (m ≡ n)) }
 {
-    let value = operands.pop()?;
-    let left = bool(&value)?;
+    let value = operands.pop();
+    let left = bool(&value);
     if decides(joint, left) {
         operands.push(Value::Bool(left))?;
         return Ok(n);
@@ -94,7 +97,8 @@ fn decides(joint: LogicalOp, left: bool) -> bool
     }
 }
 
-fn among<'a>(arms: &'a [TArm<TStmt>], operands: &mut Operands<'a>) -> Result<usize, ListFailure>
+fn among<'a>(arms: &'a [TArm<TStmt>], operands: &mut Operands<'a>) -> Result<usize, Halt>
+    requires { TakesTop (arms_before (labels_of arms.now)) operands.old.here }
     ensures leads { (rest : ℕ → At) (vals : Frame) (attrs : Attrs)
         → Leads result (λ n. rest n vals operands.new.here attrs) attrs
         (with_one (λ v os attrs. and_then (plainly (arms_before (labels_of arms.now) v) attrs)
@@ -102,6 +106,6 @@ fn among<'a>(arms: &'a [TArm<TStmt>], operands: &mut Operands<'a>) -> Result<usi
     ensures under { OnOk result (operands.new.under ≡ operands.old.under) }
     ensures few { IfOk result (λ n. n ≤ length arms.now) }
 {
-    let value = operands.pop()?;
-    Ok(arms_before(arms, &value)?)
+    let value = operands.pop();
+    arms_before(arms, &value)
 }

@@ -1,25 +1,12 @@
+use Rattle.filt_route.specs.Seen.{around_in}
+use Rattle.filt_vm.proofs.Unstuck as u
 use Rattle.filt_vm.proofs.effects.effect.Goals as goal
-
-pub returns-in-Push-clause-done : goal.returns-in-Push-clause-done
-returns-in-Push-clause-done c = rw (c.in-Push.is) (c.put_known.ensures.done c.args.locals.now.here c.args.attrs.now)
-
-pub returns-in-Local-clause-done : goal.returns-in-Local-clause-done
-returns-in-Local-clause-done c = rw (c.in-Local.is) (c.put_local.ensures.done c.args.attrs.now)
 
 pub returns-in-Attribute-clause-done : goal.returns-in-Attribute-clause-done
 returns-in-Attribute-clause-done c = rw (c.in-Attribute.is) (c.put_attribute.ensures.done c.args.locals.now.here)
 
-pub returns-in-Defined-clause-done : goal.returns-in-Defined-clause-done
-returns-in-Defined-clause-done c = rw (c.in-Defined.is) (c.put_defined.ensures.done c.args.locals.now.here)
-
-pub returns-in-Default-clause-done : goal.returns-in-Default-clause-done
-returns-in-Default-clause-done c = rw (c.in-Default.is) (c.put_default.ensures.done c.args.locals.now.here c.args.attrs.now)
-
 pub returns-in-Discard-clause-done : goal.returns-in-Discard-clause-done
 returns-in-Discard-clause-done c = rw (c.in-Discard.is) (c.discard.ensures.done c.args.locals.now.here c.args.attrs.now)
-
-pub returns-in-Declare-clause-done : goal.returns-in-Declare-clause-done
-returns-in-Declare-clause-done c = rw (c.in-Declare.is) (c.declare.ensures.done c.args.operands.now.here c.args.attrs.now)
 
 pub returns-in-One-clause-done : goal.returns-in-One-clause-done
 returns-in-One-clause-done c = rw (c.in-One.is) (c.one.ensures.done c.args.locals.now.here c.args.attrs.now)
@@ -32,3 +19,27 @@ returns-in-Store-clause-done c = rw (c.in-Store.is) (c.store.ensures.done c.args
 
 pub returns-in-Assign-clause-done : goal.returns-in-Assign-clause-done
 returns-in-Assign-clause-done c = rw (c.in-Assign.is) (c.assign.ensures.done c.args.locals.now.here)
+
+pub put_local-requires : goal.put_local-requires
+put_local-requires c = u.of_local (around_in c.args.around.now) c.args.what c.in-Local.place c.args.locals.now.here c.args.operands.now.here c.args.attrs.now c.in-Local.is c.requires
+
+pub one-requires : goal.one-requires
+one-requires c = u.of_one (around_in c.args.around.now) c.args.what c.in-One.operator c.args.locals.now.here c.args.operands.now.here c.args.attrs.now c.in-One.is c.requires
+
+pub two-requires : goal.two-requires
+two-requires c = u.of_two (around_in c.args.around.now) c.args.what c.in-Two.operator c.args.locals.now.here c.args.operands.now.here c.args.attrs.now c.in-Two.is c.requires
+
+pub discard-requires : goal.discard-requires
+discard-requires c = u.of_discard (around_in c.args.around.now) c.args.what c.args.locals.now.here c.args.operands.now.here c.args.attrs.now c.in-Discard.is c.requires
+
+pub store-requires-clause-place : goal.store-requires-clause-place
+store-requires-clause-place c = (u.of_store (around_in c.args.around.now) c.args.what c.in-Store.place c.args.locals.now.here c.args.operands.now.here c.args.attrs.now c.in-Store.is c.requires).1
+
+pub store-requires-clause-operand : goal.store-requires-clause-operand
+store-requires-clause-operand c = (u.of_store (around_in c.args.around.now) c.args.what c.in-Store.place c.args.locals.now.here c.args.operands.now.here c.args.attrs.now c.in-Store.is c.requires).0
+
+pub assign-requires : goal.assign-requires
+assign-requires c = u.of_assign (around_in c.args.around.now) c.args.what c.in-Assign.a c.args.locals.now.here c.args.operands.now.here c.args.attrs.now c.in-Assign.is c.requires
+
+pub unset-requires : goal.unset-requires
+unset-requires c = u.of_unset (around_in c.args.around.now) c.args.what c.in-Unset.a c.args.locals.now.here c.args.operands.now.here c.args.attrs.now c.in-Unset.is c.requires

@@ -1,7 +1,12 @@
-use Rattle.std.proofs.Common.{refl, arith}
+use Rattle.std.proofs.Common.{List, refl, ap}
+use Rattle.filt_values.specs.Values.{Val}
+use Rattle.filt_vm.specs.Seen.{frames_of, Held}
 use Rattle.filt_vm.proofs.Lists as lists
 use Rattle.filt_vm.proofs.locals.Locals.set.Goals as goal
 
-pub returns-then-place-len-clause-set : goal.returns-then-place-len-clause-set
-returns-then-place-len-clause-set c = λ attrs.
-    rw (← c.self.view_is) (lists.is_set c.self.inside.here.items _ c.args.place c.args.value attrs (omega (arith, c.if-place-len.true, c.len.ensures, c.self.inside.here.ok.0)) refl)
+abbrev held : List Val → List (List Val) → Held
+held vs under = record { here = vs; under = under }
+
+pub returns : goal.returns
+returns c =
+    rw (← c.self.view_is) (ap (λ (vs : List Val). held vs (frames_of c.self.inside.under)) (lists.set_at c.self.inside.here.items _ c.args.place c.args.value refl))

@@ -4,12 +4,12 @@ use Rattle.filt_vm.proofs.machine.Machine.do_one.Goals as goal
 
 pub returns-in-Accept : goal.returns-in-Accept
 returns-in-Accept c =
-    steps.accepts (around_in c.args.self.now.around) c.args.self.now.functions.now c.args.self.now.rest.now c.args.tail.now c.args.i c.args.self.now.locals c.args.self.now.operands c.args.self.now.levels c.args.self.now.attrs c.requires c.in-Accept.is
+    steps.accepts (around_in c.args.self.now.around) c.args.self.now.functions.now c.args.self.now.rest.now c.args.tail.now c.args.i c.args.self.now.locals c.args.self.now.operands c.args.self.now.levels c.args.self.now.attrs c.requires.code c.in-Accept.is
 
 pub returns-in-Reject : goal.returns-in-Reject
 returns-in-Reject c =
-    steps.rejects (around_in c.args.self.now.around) c.args.self.now.functions.now c.args.self.now.rest.now c.args.tail.now c.args.i c.args.self.now.locals c.args.self.now.operands c.args.self.now.levels c.args.self.now.attrs c.requires c.in-Reject.is
+    steps.rejects (around_in c.args.self.now.around) c.args.self.now.functions.now c.args.self.now.rest.now c.args.tail.now c.args.i c.args.self.now.locals c.args.self.now.operands c.args.self.now.levels c.args.self.now.attrs c.requires.code c.in-Reject.is
 
-pub returns-in-Stuck : goal.returns-in-Stuck
-returns-in-Stuck c =
-    steps.stuck (around_in c.args.self.now.around) c.args.self.now.functions.now c.args.self.now.rest.now c.args.tail.now c.args.i c.args.self.now.locals c.args.self.now.operands c.args.self.now.levels c.args.self.now.attrs c.requires c.in-Stuck.is
+pub unreachable-requires : goal.unreachable-requires
+unreachable-requires c =
+    c.requires.unstuck c.args.self.now.attrs (steps.stuck (around_in c.args.self.now.around) c.args.self.now.functions.now c.args.self.now.rest.now c.args.tail.now c.args.i c.args.self.now.locals c.args.self.now.operands c.args.self.now.levels c.args.self.now.attrs c.requires.code c.in-Stuck.is)

@@ -11,7 +11,6 @@ returns-then-is_some c =
     let around = around_in c.args.self.now.around in
     w.gives-none around c.args.self.now.levels.levels (rest_of c.args.self.now.locals.under) (rest_of c.args.self.now.operands.under) c.args.self.now.levels.lists c.args.call.gives (handed c.args.call.puts (λ os attrs. mean (setting around c.args.call.functions.now) c.args.call.rest.now 0 (first_of c.args.self.now.locals.under) os attrs) (first_of c.args.self.now.operands.under)) c.args.self.now.attrs (sym c.is_some.ensures ∙ c.if-is_some.true)
 
-pub returns-then-call : goal.returns-then-call
-returns-then-call c =
-    let around = around_in c.args.self.now.around in
-    w.puts-none around c.args.self.now.levels.levels (rest_of c.args.self.now.locals.under) (rest_of c.args.self.now.operands.under) c.args.self.now.levels.lists c.args.call.gives c.args.call.puts (λ os attrs. mean (setting around c.args.call.functions.now) c.args.call.rest.now 0 (first_of c.args.self.now.locals.under) os attrs) (first_of c.args.self.now.operands.under) c.args.self.now.attrs (sym c.is_some.ensures ∙ c.if-is_some.false) c.if-call.true
+pub returns : goal.returns
+returns c =
+    rw (c.go_back.ensures) (w.gives-nothing (around_in c.args.self.now.around) c.args.call c.args.self.now.locals c.args.self.now.operands c.args.self.now.levels c.args.self.now.attrs (sym c.is_some.ensures ∙ c.if-is_some.false) c.requires)

@@ -3,6 +3,7 @@ use Rattle.filt_code.specs.Codes.{mean, setting}
 use Rattle.filt_code.specs.Costs.{cost, costs}
 use Rattle.filt_route.specs.Seen.{around_in}
 use Rattle.filt_vm.proofs.Steps as steps
+use Rattle.filt_vm.proofs.Unstuck as u
 use Rattle.filt_vm.proofs.machine.Machine.jump.Goals as goal
 
 pub returns-in_err-passed : goal.returns-in_err-passed
@@ -17,3 +18,6 @@ returns c =
     let around = around_in c.args.self.now.around in
     let fs = c.args.self.now.functions.now in
     steps.jumped around fs c.args.self.now.rest.now c.args.tail.now c.behind-self.result.now c.args.i c.in_ok-passed.passed c.args.self.now.locals c.args.self.now.operands c.target.new.operands c.args.self.now.levels c.args.self.now.attrs c.requires.code c.behind-self.ensures (c.in_ok-passed.ensures.leads (setting around fs) (mean (setting around fs) c.args.tail.now) c.args.self.now.locals.here (steps.around_is around fs)) c.in_ok-passed.ensures.under (c.in_ok-passed.ensures.cost (costs fs) (cost (costs fs) c.args.tail.now))
+
+pub target-requires-clause-ready : goal.target-requires-clause-ready
+target-requires-clause-ready c = u.jump_ready (around_in c.args.self.now.around) c.args.self.now.functions.now c.args.self.now.rest.now c.args.tail.now c.args.i c.args.self.now.locals c.args.self.now.operands c.args.self.now.levels c.args.self.now.attrs c.requires.code c.requires.unstuck
