@@ -16,9 +16,9 @@ use Rattle.conf_check.proofs.Allowed.{nil_left, nil_right}
 use Rattle.system.specs.Policies.{Filter, by_source, says}
 use Rattle.system.specs.System.{Body, Protocol, bgp_with, body_of, names_in, pipe_with, protocols_behind, static_with, with_body}
 use Rattle.accepted_laws.specs.Texts.{BothPolicies, IsSafe, IsSafePolicy}
-use Rattle.accepted_laws.specs.Written.{IsWritten, filters_in, in_bgp_setting, in_channel, in_channel_setting, in_pipe_setting, in_policy, in_static_setting}
-use Rattle.accepted_laws.proofs.Every.{Every, left, members, right, weaker}
-use Rattle.accepted_laws.proofs.Named.{named_written}
+use Rattle.system.specs.Written.{IsWritten, filters_in, in_bgp_setting, in_channel, in_channel_setting, in_pipe_setting, in_policy, in_static_setting}
+use Rattle.system.proofs.Every.{Every, left, members, right, weaker}
+use Rattle.system.proofs.Named.{named_written}
 use Rattle.accepted_laws.proofs.Numbers.{at_number, number_less}
 
 -- ---- the policies that count are written, or are those that stand where none is

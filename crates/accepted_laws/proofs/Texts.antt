@@ -13,10 +13,10 @@ use Rattle.conf_check.specs.Behind.{at_start, behind}
 use Rattle.conf_check.specs.Refused.{refusal_of}
 use Rattle.system.specs.System.{Protocol, System, system_in}
 use Rattle.system.specs.Texts.{IsAcceptedText, IsSystem, refused_in}
-use Rattle.accepted_laws.specs.Behind.{context_behind, counts_behind}
+use Rattle.system.specs.Behind.{context_behind, counts_behind}
 use Rattle.accepted_laws.specs.Texts.{BothPolicies, IsSafe, IsSafePolicy}
-use Rattle.accepted_laws.specs.Written.{IsWritten}
-use Rattle.accepted_laws.proofs.Every.{all_of}
+use Rattle.system.specs.Written.{IsWritten}
+use Rattle.system.proofs.Every.{all_of}
 use Rattle.accepted_laws.proofs.Policies.{all_safe}
 
 accepted_is : (text : List ℕ) (ds : List conf.Declaration) → IsAcceptedText text ds

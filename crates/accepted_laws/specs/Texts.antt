@@ -17,8 +17,8 @@ use Rattle.filt_steps.specs.Limits.{AttrsAreWithin}
 use Rattle.filt_steps.specs.Steps.{filter_steps}
 use Rattle.system.specs.Policies.{Filter}
 use Rattle.system.specs.System.{Body, IsBgp, IsPipe, IsStatic, names_in}
-use Rattle.accepted_laws.specs.Behind.{context_behind, counts_behind}
-use Rattle.accepted_laws.specs.Written.{IsWritten}
+use Rattle.system.specs.Behind.{context_behind, counts_behind}
+use Rattle.system.specs.Written.{IsWritten}
 
 -- Behind these statements the filter is never stuck, and takes few steps, whatever the route.
 pub record IsSafe (text : List ℕ) (before : List conf.Declaration) (ss : Statements)

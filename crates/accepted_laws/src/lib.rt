@@ -1,6 +1,6 @@
-//! What it is worth that a configuration is accepted: the laws that no filter of it is ever stuck
-//! (`specs/Written`), that each ends within 10,000,000 steps, and that the policies of the system
-//! that a text comes to run no other filters (`specs/Texts`). No program calls what stands here.
+//! What it is worth that a configuration is accepted: the law that the policies of the system that a
+//! text comes to run only filters that are written there, which are never stuck and end within
+//! 10,000,000 steps (`specs/Texts`). No program calls what stands here.
 #![tactic(auto)]
 
 pub mod laws;

@@ -13,7 +13,7 @@ use Rattle.conf_ast.specs.Configurations as conf
 use Rattle.conf_ast.specs.Configurations.{BgpSetting, FamilyChannel, Instance, Passing, PassAll, PassNone, PassByFilter, PassByBlock, PassWhere, PipeSetting, StaticSetting}
 use Rattle.conf_ast.specs.Filters.{Expression, Statements}
 use Rattle.filt_meaning.specs.Configuration as meaning
-use Rattle.filt_meaning.specs.Configuration.{around_route, constant, filter_where, of_text, verdict}
+use Rattle.filt_meaning.specs.Configuration.{around_route, constant, filter_where, of_text, verdict, verdict_of}
 use Rattle.filt_meaning.specs.Names.{Context}
 use Rattle.filt_rules.specs.Refused.{of_filter}
 use Rattle.filt_values.specs.Values.{Val}
@@ -53,7 +53,7 @@ module _ (text : List ℕ) (scope : Scope) (filters : List TFilter) (names : Lis
   Says = seen.policy_says scope filters names
 
   tree_does : (before : List conf.Declaration) (ss : Statements) (f : TFilter) → Does text scope before ss f → seen.tree_says scope names f ≡ by_source text names (Some (before, ss))
-  tree_does before ss f does = fun_ext (λ net. fun_ext (λ route. does.says (around_route names net route) route.attrs))
+  tree_does before ss f does = fun_ext (λ net. fun_ext (λ route. ap verdict_of (does.comes_to (around_route names net route) route.attrs)))
 
   -- the filter of a number
   numbered_says : (sources : List Source) (fs : List TFilter) → DoEach (Does text scope) sources fs → (n : ℕ)

@@ -11,7 +11,7 @@ use Rattle.filt_meaning.specs.Configuration.{around_route, filter_where}
 use Rattle.filt_meaning.specs.Names.{Around}
 use Rattle.filt_rules.specs.Refused.{of_filter}
 use Rattle.filt_tree.specs.Scopes.{constant_values, context_of, function_trees}
-use Rattle.filt_tree.specs.Trees as trees
+use Rattle.filt_tree.specs.Trees.{tree_flow}
 use Rattle.filt_tree.specs.declared.scope.Scope.{Scope}
 use Rattle.filt_tree.specs.declared.tree.TFilter.{TFilter}
 use Rattle.filt_types.specs.Refusals.{first_in, precedes}
@@ -34,9 +34,13 @@ some_first found (x ∷ rs) =
     let k = some_first h.0 rs in
     (k.0, ap (λ (o : Option Refusal). first_in o rs) h.1 ∙ k.1)
 
+-- where none is the first there is none
+pub none_left : (rs : List Refusal) → first_in None rs ≡ None → rs ≡ []
+none_left [] none = refl
+none_left (x ∷ rs) none = let k = some_first x rs in absurd (none-some k.0 (sym none ∙ k.1))
+
 none_asks : (rs : List Refusal) (f : Filter) → first_in None rs ≡ None → unless_refused rs f ≡ Asks f
-none_asks [] f none = refl
-none_asks (x ∷ rs) f none = let k = some_first x rs in absurd (none-some k.0 (sym none ∙ k.1))
+none_asks rs f none = ap (λ (l : List Refusal). unless_refused l f) (none_left rs none)
 
 some_refuses : (rs : List Refusal) (f : Filter) → is_some (first_in None rs) ≡ true → unless_refused rs f ≡ Refuses
 some_refuses [] f some = absurd (true≢false (sym some))
@@ -44,11 +48,11 @@ some_refuses (x ∷ rs) f some = refl
 
 module _ (scope : Scope) (names : List (List ℕ)) (text : List ℕ) (e : Expression) where
   pub asks : (f : TFilter) → first_in None (of_filter (scene_of text scope) 0 (filter_where e)) ≡ None
-      → ((around : Around) (attrs : Attrs) → trees.judged around (constant_values scope) (function_trees scope) f attrs ≡ meaning.judged (context_of text around scope []) (filter_where e) attrs)
+      → ((around : Around) (attrs : Attrs) → tree_flow around (constant_values scope) (function_trees scope) f attrs ≡ meaning.body (context_of text around scope []) [] (filter_where e) [] attrs)
       → asked_over scope names text e ≡ Asks (tree_says scope names f)
   asks f none does =
       none_asks (of_filter (scene_of text scope) 0 (filter_where e)) (λ net route. meaning.judged (context_of text (around_route names net route) scope []) (filter_where e) route.attrs) none
-      ∙ ap (λ (g : Filter). Asks g) (fun_ext (λ net. fun_ext (λ route. sym (does (around_route names net route) route.attrs))))
+      ∙ ap (λ (g : Filter). Asks g) (fun_ext (λ net. fun_ext (λ route. sym (ap meaning.verdict_of (does (around_route names net route) route.attrs)))))
 
   pub refuses : is_some (first_in None (of_filter (scene_of text scope) 0 (filter_where e))) ≡ true → asked_over scope names text e ≡ Refuses
   refuses some =

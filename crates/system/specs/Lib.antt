@@ -7,3 +7,5 @@ pub mod System
 pub mod Tables
 pub mod Texts
 pub mod Seen
+pub mod Behind
+pub mod Written

@@ -2,6 +2,7 @@
 -- the rest is for private contracts.
 -- From: own.
 use Rattle.std.specs.Prelude.{◌≡◌, ⊤, ℕ, List, [], map, Option, Some, None, slice_get}
+use Rattle.attrs.specs.declared.attributes.Attrs.{Attrs}
 use Rattle.attrs.specs.declared.judge.Verdict.TheVariants as verdicts
 use Rattle.conf_tree.specs.Position.{IsPlace}
 use Rattle.conf_ast.specs.declared.kind.ConfFault.{ConfFault}
@@ -18,13 +19,15 @@ use Rattle.conf_check.specs.declared.checked.StaticDef.{StaticDef}
 use Rattle.conf_ast.specs.Filters.{Expression}
 use Rattle.filt_meaning.specs.Configuration as meaning
 use Rattle.filt_meaning.specs.Configuration.{around_route, filter_where}
-use Rattle.filt_code.specs.Codes.{code_judged}
+use Rattle.filt_meaning.specs.Flow.{Flow, Frame}
+use Rattle.filt_meaning.specs.Names.{Around}
+use Rattle.filt_code.specs.Codes.{IsNeverStuck, code_flow, code_judged}
 use Rattle.filt_code.specs.declared.code.Draft.{Draft}
 use Rattle.filt_code.specs.declared.code.Routine.{Routine}
 use Rattle.filt_rules.specs.Refused.{of_filter}
 use Rattle.filt_types.specs.Seen.{scene_of}
 use Rattle.filt_tree.specs.Scopes.{constant_values, context_of, function_trees, named}
-use Rattle.filt_tree.specs.Trees.{judged}
+use Rattle.filt_tree.specs.Trees.{judged, tree_flow}
 use Rattle.filt_tree.specs.declared.scope.Scope.{Scope}
 use Rattle.filt_tree.specs.declared.scope.TFunction.{TFunction}
 use Rattle.filt_tree.specs.declared.tree.TFilter.{TFilter}
@@ -44,12 +47,18 @@ tree_says scope names f net route =
     judged (around_route names net route) (constant_values scope) (function_trees scope) f
     route.attrs
 
--- what the tree of a filter says over these constants and functions
-abbrev pub tree_over : List Fixed → List TFunction → (names : List (List ℕ)) → TFilter → Filter
-tree_over constants functions names f net route =
-    judged (around_route names net route) constants functions f route.attrs
+-- what it comes to over these constants and functions
+abbrev pub flow_over : List Fixed → List TFunction → TFilter → Around → Attrs → Flow Frame
+flow_over constants functions f around attrs = tree_flow around constants functions f attrs
 
--- what the code of a filter says over that of functions
+abbrev pub filter_flow : Scope → TFilter → Around → Attrs → Flow Frame
+filter_flow scope f = flow_over (constant_values scope) (function_trees scope) f
+
+-- what the code of a filter comes to over that of functions
+abbrev pub draft_flow : List Routine → Draft → Around → Attrs → Flow Frame
+draft_flow functions draft around attrs = code_flow around functions draft attrs
+
+-- what it says
 abbrev pub draft_says : List Routine → (names : List (List ℕ)) → Draft → Filter
 draft_says functions names draft net route =
     code_judged (around_route names net route) functions draft route.attrs
@@ -67,6 +76,19 @@ rule_says functions names (rules.Filter draft) net route =
     draft_says functions names draft.now net route
 rule_says functions names (rules.Own draft) net route =
     draft_says functions names draft net route
+
+-- What is run by this rule is never stuck over these functions.
+abbrev pub IsRuleNeverStuck : List Routine → Rule → Type 0
+IsRuleNeverStuck functions rules.All = ⊤
+IsRuleNeverStuck functions rules.None = ⊤
+IsRuleNeverStuck functions (rules.Filter draft) = IsNeverStuck functions draft.now
+IsRuleNeverStuck functions (rules.Own draft) = IsNeverStuck functions draft
+
+-- a judge by its rule, over the code of the functions, with the names of the protocols
+pub record Judging : Type 0 where
+  pub functions : List Routine
+  pub names : List (List ℕ)
+  pub rule : Rule
 
 -- What policies and protocols do over a scope with these filters by number, where protocols have
 -- these names.

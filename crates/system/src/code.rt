@@ -1,11 +1,12 @@
 //! The code of what a configuration declares.
 ghost use Rattle.std.specs.Prelude.{◌≡◌, ℕ, List, All, IfOk, map, slice_get};
-ghost use Rattle.conf_check.specs.Checked.{AreBefore};
+ghost use Rattle.filt_code.specs.Codes.{IsNeverStuck};
 ghost use Rattle.filt_code.specs.declared.code.Routine.{Routine};
 ghost use Rattle.filt_compile.specs.Compiles.{AreCompiled};
 ghost use Rattle.filt_tree.specs.Scopes.{constant_values, function_trees};
+ghost use Rattle.filt_tree.specs.Trees.{AreBefore};
 ghost use Rattle.filt_tree.specs.declared.scope.TFunction.{TFunction};
-ghost use Rattle.system.specs.Seen.{draft_says, drafted, rule_says, tree_over};
+ghost use Rattle.system.specs.Seen.{IsRuleNeverStuck, draft_flow, drafted, flow_over, rule_says};
 
 use crate::passes::Rule;
 use bits_ip::OutOfMemory;
@@ -46,8 +47,8 @@ pub(crate) fn drafts<'a>(
 ) -> Result<Vec<Draft<'a>>, OutOfMemory>
     ensures { IfOk result (λ drafts. (trees : List TFunction)
         → AreCompiled constants.now 0 trees functions.now → All (AreBefore trees) filters.now
-        → (names : List (List ℕ)) → map (draft_says functions.now names) drafts.items
-        ≡ map (tree_over constants.now trees names) filters.now) }
+        → map (draft_flow functions.now) drafts.items
+        ≡ map (flow_over constants.now trees) filters.now) }
 {
     let mut drafts = Vec::new(alloc);
     for filter in filters {
@@ -58,9 +59,11 @@ pub(crate) fn drafts<'a>(
 
 /// The rule of the filter of this number; behind the last one none is accepted.
 pub(crate) fn rule_at<'a>(filters: &'a Vec<Draft<'a>>, number: usize) -> Rule<'a>
-    ensures { (functions : List Routine) (names : List (List ℕ))
+    ensures says { (functions : List Routine) (names : List (List ℕ))
         → rule_says functions names result
         ≡ drafted functions names (slice_get filters.now.items number) }
+    ensures never_stuck { (functions : List Routine)
+        → All (IsNeverStuck functions) filters.now.items → IsRuleNeverStuck functions result }
 {
     match filters.get(number) {
         Some(draft) => Rule::Filter(draft),

@@ -2,12 +2,10 @@
 ghost use Rattle.std.specs.Prelude.{◌≡◌, ℕ, List, Option, IfOk, IfSome, IsSome, MatchOption};
 ghost use Rattle.conf_ast.specs.Filters.{expression_of};
 ghost use Rattle.conf_lex.specs.Lex.{Lexes};
-ghost use Rattle.conf_check.specs.Checked.{AreBefore};
 ghost use Rattle.filt_check.specs.Answers.{IsFault};
-ghost use Rattle.filt_tree.specs.Scopes.{function_trees};
 ghost use Rattle.filt_types.specs.declared.refusal.Refusal.{Refusal};
 ghost use Rattle.system.specs.Asked.{Asks, Refuses};
-ghost use Rattle.system.specs.Coded.{AreOrdered, AreWithin, IsBefore};
+ghost use Rattle.system.specs.Coded.{AreOrdered, AreWithin, CanRun, IsBefore, IsTyped};
 ghost use Rattle.system.specs.Conditions.{IsCondition, IsExpressionText, IsNoExpression, RefusesCondition};
 ghost use Rattle.system.specs.Seen.{asked_over, filter_says, system_of, tree_says};
 
@@ -16,6 +14,7 @@ use bits_ip::OutOfMemory;
 use conf_ast::filters::Expr;
 use conf_lex::{LexFault, Token, lex};
 use filt_check::{TypeFault, check_expr};
+use filt_laws::laws::typed_filters_are_never_stuck;
 use filt_syntax::{SyntaxFault, parse_expr};
 use filt_tree::{Scope, TFilter};
 use std::alloc::Global;
@@ -86,9 +85,10 @@ fn checked(
         (asked_over scope.now names text.now (expression_of condition.now) ≡ Refuses)
         (λ filter. asked_over scope.now names text.now (expression_of condition.now)
         ≡ Asks (tree_says scope.now names filter))) }
-    ensures before { AreWithin scope.now
-        → IfOk result (λ answer. IfSome answer (AreBefore (function_trees scope.now))) }
+    ensures before { AreWithin scope.now → IsTyped scope.now
+        → IfOk result (λ answer. IfSome answer (CanRun scope.now)) }
 {
+    typed_filters_are_never_stuck();
     match check_expr(alloc, text, scope, 0, condition) {
         Ok(filter) => Ok(Some(filter)),
         Err(fault) => {

@@ -3,6 +3,9 @@ ghost use Rattle.system.specs.Coded.{AreOrdered};
 ghost use Rattle.system.specs.Seen.{IsTold, system_of};
 ghost use Rattle.system.specs.Texts.{IsFault, IsSystem};
 
+use crate::filter_laws::{
+    accepted_filters_are_never_stuck, what_runs_agrees_with_what_is_declared,
+};
 use crate::system::{System, names};
 use conf_check::check_config;
 use conf_tree::{ConfFault, ConfKind, place, read_config};
@@ -54,6 +57,8 @@ pub fn read_system(alloc: Global, text: &[u8]) -> Result<System, SystemFault>
         Ok(checked) => checked,
         Err(fault) => return Err(refused(text, fault)),
     };
+    what_runs_agrees_with_what_is_declared();
+    accepted_filters_are_never_stuck();
     match names(alloc, &checked.protocols) {
         Ok(names) => Ok(System { checked, names }),
         Err(_) => Err(SystemFault::Memory),

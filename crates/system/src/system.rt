@@ -2,7 +2,8 @@ ghost use Rattle.std.specs.Prelude.{◌≡◌, ◌<◌, Some, length, map, slice
 ghost use Rattle.std.specs.String.{string_bytes};
 ghost use Rattle.system.specs.Coded.{AreOrdered, HasCode, IsBefore, PolicyBefore};
 ghost use Rattle.system.specs.Conditions.{IsCondition, RefusesCondition};
-ghost use Rattle.system.specs.Seen.{filter_says, numbered, policy_says, rule_says, system_of};
+ghost use Rattle.system.specs.Seen.{IsRuleNeverStuck, filter_says, numbered, policy_says, rule_says};
+ghost use Rattle.system.specs.Seen.{system_of};
 
 use crate::code::{Code, constants, drafts, functions, rule_at};
 use crate::condition::{answered, expression};
@@ -64,9 +65,10 @@ impl System {
     ) -> Result<Rule<'a>, OutOfMemory>
         requires code { HasCode self.now code.now }
         requires before { PolicyBefore self.now policy.now }
-        ensures { IfOk result (λ rule. rule_says code.now.functions.items self.now.names rule
+        ensures says { IfOk result (λ rule. rule_says code.now.functions.items self.now.names rule
             ≡ policy_says self.now.checked.declared.scope self.now.checked.filters.items
             self.now.names policy.now) }
+        ensures never_stuck { IfOk result (IsRuleNeverStuck code.now.functions.items) }
     {
         match policy {
             PolicyDef::All => Ok(Rule::All),
@@ -85,8 +87,9 @@ impl System {
     ) -> Result<Rule<'a>, OutOfMemory>
         requires code { HasCode self.now code.now }
         requires before { IsBefore self.now filter.now }
-        ensures { IfOk result (λ rule. rule_says code.now.functions.items self.now.names rule
+        ensures says { IfOk result (λ rule. rule_says code.now.functions.items self.now.names rule
             ≡ filter_says self.now filter.now) }
+        ensures never_stuck { IfOk result (IsRuleNeverStuck code.now.functions.items) }
     {
         let constants = constants(&self.checked.declared.scope);
         let draft = compile(alloc, constants, code.functions.as_slice(), filter)?;

@@ -1,3 +1,4 @@
+use Rattle.std.proofs.Common.{[], append-nil, sym}
 use Rattle.conf_ast.specs.Configurations.{configuration_of}
 use Rattle.system.proofs.Ordered.{ordered}
 use Rattle.system.proofs.Told.{check_told, held_told}
@@ -14,4 +15,9 @@ returns-in-Ok-names-clause-system c =
     (rw c.in-Ok.ensures.text at c.in-Ok-check_config.ensures.checked) (rw c.deref.ensures.value at c.in-Ok-names.ensures)
 
 pub returns-in-Ok-names-clause-ordered : goal.returns-in-Ok-names-clause-ordered
-returns-in-Ok-names-clause-ordered c = ordered c.args.text.now (configuration_of c.in-Ok.tree.statements.items) _ (rw c.in-Ok.ensures.text at c.in-Ok-check_config.ensures.checked)
+returns-in-Ok-names-clause-ordered c =
+    let ds = configuration_of c.in-Ok.tree.statements.items in
+    let none = rw c.in-Ok.ensures.text at c.in-Ok-check_config.ensures.answer in
+    ordered c.args.text.now ds _ (rw c.in-Ok.ensures.text at c.in-Ok-check_config.ensures.checked)
+    (λ before ss written. c.accepted_filters_are_never_stuck.ensures.stuck c.args.text.now ds before ss none written)
+    (c.what_runs_agrees_with_what_is_declared.ensures.sorts c.args.text.now ds ds [] none (sym (append-nil ds)))

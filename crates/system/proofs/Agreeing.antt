@@ -30,8 +30,8 @@ use Rattle.conf_rules.specs.Statements.{is_master, refusals}
 use Rattle.conf_check.specs.Behind.{at_start, behind, behind_one, context_in, no_route, with_others, with_signature, with_table, with_value}
 use Rattle.conf_check.specs.Refused.{or_later, refusal_of}
 use Rattle.conf_check.proofs.ConstantValues.{constant_same, seen}
-use Rattle.accepted_laws.specs.Behind.{context_behind, counts_behind, scene_behind}
-use Rattle.accepted_laws.proofs.Fine.{function_fine}
+use Rattle.system.specs.Behind.{context_behind, counts_behind, scene_behind}
+use Rattle.system.proofs.Fine.{function_fine}
 
 -- what the rules see, what runs and what is counted; beside limits, which rest on what runs alone
 pub record Sees (scene : Scene) (c : Context) (fs : Counts) : Type 0 where

@@ -1,5 +1,5 @@
-use Rattle.accepted_laws.proofs.Agreeing.{none_refused, sorts_agree, weights_agree}
-use Rattle.accepted_laws.proofs.laws.what_runs_agrees_with_what_is_declared.Goals as goal
+use Rattle.system.proofs.Agreeing.{none_refused, sorts_agree, weights_agree}
+use Rattle.system.proofs.filter_laws.what_runs_agrees_with_what_is_declared.Goals as goal
 
 pub returns-clause-sorts : goal.returns-clause-sorts
 returns-clause-sorts c =

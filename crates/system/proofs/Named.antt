@@ -3,8 +3,8 @@ use Rattle.std.proofs.Common.{◌≡◌, arith, List, [], ◌∷◌, ◌++◌, r
 use Rattle.conf_ast.specs.Configurations as conf
 use Rattle.conf_ast.specs.Filters.{Statements}
 use Rattle.conf_check.specs.Checked.{Source, filter_source, filter_sources}
-use Rattle.accepted_laws.specs.Written.{IsWritten}
-use Rattle.accepted_laws.proofs.Every.{Every, join, of_one, weaker}
+use Rattle.system.specs.Written.{IsWritten}
+use Rattle.system.proofs.Every.{Every, join, of_one, weaker}
 
 -- it is written in these statements, which stand behind the others
 abbrev IsWrittenBehind : (before ds : List conf.Declaration) → Source → Type 0

@@ -1,5 +1,5 @@
-use Rattle.accepted_laws.proofs.Accepted.{keeps}
-use Rattle.accepted_laws.proofs.laws.accepted_functions_keep_their_signatures.Goals as goal
+use Rattle.system.proofs.Unrefused.{keeps}
+use Rattle.system.proofs.filter_laws.accepted_functions_keep_their_signatures.Goals as goal
 
 pub returns : goal.returns
 returns c =

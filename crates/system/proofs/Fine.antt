@@ -18,8 +18,8 @@ use Rattle.conf_rules.specs.Protocols.{bgp_setting, bgp_settings, pipe_setting, 
 use Rattle.conf_rules.specs.Refusals.{of_filter, of_filters}
 use Rattle.conf_rules.specs.Statements.{refusals}
 use Rattle.conf_check.proofs.Allowed.{nil_left, nil_right}
-use Rattle.accepted_laws.specs.Written.{filters_in, in_bgp_setting, in_channel, in_channel_setting, in_pipe_setting, in_policy, in_static_setting}
-use Rattle.accepted_laws.proofs.Every.{Every, join}
+use Rattle.system.specs.Written.{filters_in, in_bgp_setting, in_channel, in_channel_setting, in_pipe_setting, in_policy, in_static_setting}
+use Rattle.system.proofs.Every.{Every, join}
 
 -- nothing is refused of a filter, and it isn't too heavy
 abbrev pub IsFine : Scene → Statements → Type 0

@@ -1,5 +1,5 @@
-use Rattle.accepted_laws.proofs.Accepted.{filter_takes, function_takes}
-use Rattle.accepted_laws.proofs.laws.accepted_filters_take_10_000_000_steps_at_most.Goals as goal
+use Rattle.system.proofs.Unrefused.{filter_takes, function_takes}
+use Rattle.system.proofs.filter_laws.accepted_filters_take_10_000_000_steps_at_most.Goals as goal
 
 pub returns-clause-filters : goal.returns-clause-filters
 returns-clause-filters c =

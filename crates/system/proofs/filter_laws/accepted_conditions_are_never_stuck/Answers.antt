@@ -2,8 +2,8 @@ use Rattle.std.proofs.Common.{◌≡◌, []}
 use Rattle.attrs.specs.declared.attributes.Attrs.{Attrs}
 use Rattle.filt_meaning.specs.Configuration.{body}
 use Rattle.filt_meaning.specs.Flow.{Stuck, Stopped}
-use Rattle.accepted_laws.proofs.Accepted.{condition_holds, condition_takes}
-use Rattle.accepted_laws.proofs.laws.accepted_conditions_are_never_stuck.Goals as goal
+use Rattle.system.proofs.Unrefused.{condition_holds, condition_takes}
+use Rattle.system.proofs.filter_laws.accepted_conditions_are_never_stuck.Goals as goal
 
 pub returns-clause-stuck : goal.returns-clause-stuck
 returns-clause-stuck c =

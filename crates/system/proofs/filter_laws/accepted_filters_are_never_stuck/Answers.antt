@@ -4,8 +4,8 @@ use Rattle.attrs.specs.declared.judge.Verdict.TheVariants as verdicts
 use Rattle.filt_values.specs.Values.{Val}
 use Rattle.filt_meaning.specs.Configuration.{body, judged}
 use Rattle.filt_meaning.specs.Flow.{Rejected, Returned, Stuck, Stopped}
-use Rattle.accepted_laws.proofs.Accepted.{holds}
-use Rattle.accepted_laws.proofs.laws.accepted_filters_are_never_stuck.Goals as goal
+use Rattle.system.proofs.Unrefused.{holds}
+use Rattle.system.proofs.filter_laws.accepted_filters_are_never_stuck.Goals as goal
 
 pub returns-clause-stuck : goal.returns-clause-stuck
 returns-clause-stuck c =

@@ -18,10 +18,10 @@ use Rattle.filt_steps.specs.Steps.{Counts, filter_steps, function_steps}
 use Rattle.conf_rules.specs.Statements.{refusals}
 use Rattle.conf_check.specs.Behind.{at_start, behind}
 use Rattle.conf_check.specs.Refused.{refusal_of}
-use Rattle.accepted_laws.specs.Behind.{context_behind, counts_behind, scene_behind}
-use Rattle.accepted_laws.specs.Written.{IsWritten, filters_in}
-use Rattle.accepted_laws.proofs.Every.{of_one}
-use Rattle.accepted_laws.proofs.Fine.{IsFine, condition_fine, function_fine, written_fine}
+use Rattle.system.specs.Behind.{context_behind, counts_behind, scene_behind}
+use Rattle.system.specs.Written.{IsWritten, filters_in}
+use Rattle.system.proofs.Every.{of_one}
+use Rattle.system.proofs.Fine.{IsFine, condition_fine, function_fine, written_fine}
 
 module _
     (sorts : (text : List ℕ) (ds before more : List conf.Declaration)
