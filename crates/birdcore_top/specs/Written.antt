@@ -19,7 +19,7 @@ use Rattle.script_lines.specs.declared.script.Line.{Line}
 use Rattle.sys_build.specs.Setups.{setup_of}
 use Rattle.sys_build.specs.declared.scripts.ReadScript.{ReadScript}
 use Rattle.sys_run.specs.Playing as core
-use Rattle.sys_run.specs.Scripts.{AsksWhatIs, phase_of}
+use Rattle.sys_run.specs.Scripts.{AsksWhatIs, FitsLine, phase_of}
 use Rattle.sys_run.specs.declared.player.Core.{Core}
 use Rattle.system.specs.Seen.{filter_says, system_of}
 use Rattle.system.specs.declared.system.System.{System}
@@ -83,6 +83,10 @@ phases_read script = map (λ phase. phase.items) script.phases.items
 -- each line of these phases asks for what there is, of so many queries
 abbrev pub AskWhatIs : ℕ → List (List Line) → Type 0
 AskWhatIs queries phases = All (All (AsksWhatIs queries)) phases
+
+-- what each line of these phases announces is of the family of its protocol's table
+abbrev pub FitTables : Setup → List (List Line) → Type 0
+FitTables setup phases = All (All (FitsLine setup)) phases
 
 -- ---- the same of a given play
 

@@ -9,12 +9,14 @@ ghost use Rattle.system.specs.Coded.{AreOrdered, IsBefore};
 ghost use Rattle.system.specs.Seen.{filter_says, system_of};
 ghost use Rattle.birdcore_top.specs.Outcome.{OverLimit, Played, Configures, ConfGives, IsConfigured, PlayGives, ScriptGives};
 ghost use Rattle.birdcore_top.specs.Answer.{AreMissedInTurn, IsMissed, FindsLackedBy, IsReadStatus, Stops};
-ghost use Rattle.birdcore_top.specs.Written.{AskWhatIs, phases_read, setup_read};
+ghost use Rattle.birdcore_top.specs.Written.{AskWhatIs, FitTables, phases_read, setup_read};
 
 use crate::status::Status;
 use outside_io::{ReadError, Shelf, read_whole};
 use std::alloc::Global;
-use sys_build::laws::{accepted_scripts_are_setups, accepted_scripts_name_what_is};
+use sys_build::laws::{
+    accepted_scripts_are_setups, accepted_scripts_fit_their_tables, accepted_scripts_name_what_is,
+};
 use sys_build::{ReadScript, read_script};
 use system::{System, read_system};
 
@@ -44,6 +46,8 @@ pub(crate) fn read_files<F: Shelf>(
         → IsSetup (setup_read files.system files.script cells)) }
     ensures asked { IfOk result (λ files.
         AskWhatIs (length files.script.queries.items) (phases_read files.script)) }
+    ensures fits { IfOk result (λ files. (cells : ℕ)
+        → FitTables (setup_read files.system files.script cells) (phases_read files.script)) }
     ensures stopped { IfErr result (Stops (λ o. (cells : ℕ)
         → PlayGives IfSome conf.now script.now cells (F.held shelf.old) o)) }
     ensures read { result ≡ Err Status.ReadFault → Rose (F.faults shelf.old) (F.faults shelf.new) }
@@ -55,6 +59,7 @@ pub(crate) fn read_files<F: Shelf>(
 {
     accepted_scripts_are_setups();
     accepted_scripts_name_what_is();
+    accepted_scripts_fit_their_tables();
     let system = read_conf(alloc, conf, shelf)?;
     let script = read_lines(alloc, &system, script, shelf)?;
     Ok(Files { system, script })

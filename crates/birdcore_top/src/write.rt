@@ -12,7 +12,7 @@ ghost use Rattle.sys_run.specs.Playing as played;
 ghost use Rattle.system.specs.Coded.{AreOrdered, HasCode, IsBefore};
 ghost use Rattle.system.specs.Seen.{system_of};
 ghost use Rattle.birdcore_top.specs.Answer.{CutsOff, IsEnd};
-ghost use Rattle.birdcore_top.specs.Written.{AskWhatIs, HasBegun, HasPlayed, HasWritten, accepted_text, phases_read, setup_read, text_so_far};
+ghost use Rattle.birdcore_top.specs.Written.{AskWhatIs, FitTables, HasBegun, HasPlayed, HasWritten, accepted_text, phases_read, setup_read, text_so_far};
 
 use crate::status::Status;
 use attrs::Judge;
@@ -45,6 +45,7 @@ pub(crate) fn write_play<R: RandomSource, K: Sink>(
     requires before { All (IsBefore system.now) script.filters.items }
     requires setup { IsSetup (setup_read system.now script cells) }
     requires asked { AskWhatIs (length script.queries.items) (phases_read script) }
+    requires fits { FitTables (setup_read system.now script cells) (phases_read script) }
     ensures end { IsEnd result }
     ensures report { result ≡ Status.Ok
         → HasPlayed (setup_read system.now script cells) script.actors.items (phases_read script)
@@ -84,6 +85,7 @@ fn play_coded<K: Sink>(
     requires before { All (IsBefore system.now) script.filters.items }
     requires setup { IsSetup (setup_read system.now script cells) }
     requires asked { AskWhatIs (length script.queries.items) (phases_read script) }
+    requires fits { FitTables (setup_read system.now script cells) (phases_read script) }
     ensures end { IsEnd result }
     ensures report { result ≡ Status.Ok
         → HasPlayed (setup_read system.now script cells) script.actors.items (phases_read script)
@@ -132,7 +134,8 @@ fn write_phases<J: Judge, K: Sink>(
     out: &mut K,
 ) -> Result<(), Status>
     requires { (setup : Setup) × played.HasPlayed J.verdict setup actors.now [] [] core.old
-        × AskWhatIs (length setup.queries) (map (λ phase. phase.items) phases.items) }
+        × AskWhatIs (length setup.queries) (map (λ phase. phase.items) phases.items)
+        × FitTables setup (map (λ phase. phase.items) phases.items) }
     ensures played { OnOk result ((setup : Setup)
         → played.HasPlayed J.verdict setup actors.now [] [] core.old
         → HasWritten J.verdict setup actors.now (map (λ phase. phase.items) phases.items) form core.new

@@ -1,6 +1,6 @@
 -- What holds of all routes of a protocol: of the configured ones, of those that operations announce, and of what a filter
 -- leaves of either. It holds of the routes that are received and accepted, and so of those of changes.
-use Rattle.std.proofs.Common.{◌≡◌, ℕ, inl, inr, Bool, true, false, cond, not, List, [], ◌∷◌, ◌++◌, Option, Some, None, refl, sym, ap, subst, reverse, Ordering, Less, Equal, Greater}
+use Rattle.std.proofs.Common.{◌≡◌, ℕ, inl, inr, Bool, true, false, cond, not, List, [], ◌∷◌, ◌++◌, Option, Some, None, refl, sym, ◌∙◌, ap, subst, reverse, Ordering, Less, Equal, Greater}
 use Rattle.std.specs.Prelude.{◌||◌, IfSome, ⊤, filter, fold, if◌then◌else◌}
 use Rattle.std.specs.BTreeMap.{is_at}
 use Rattle.std.specs.List.{AllByRecursion, flat_map}
@@ -32,10 +32,11 @@ use Rattle.import_core.specs.Imports.{Imports, Routes, is_up, route_at, with_rou
 use Rattle.import_core.specs.Operations.{also_refreshed, configured, done_in, enabled, fixed_route, opened, refreshed, started, up_with}
 use Rattle.import_core.proofs.Routes.{at_tells}
 use Rattle.core_machine.specs.Histories.{AreFrom, IsFrom}
-use Rattle.core_setup.specs.Announced.{IsOfFamily, fixed_at, fixed_in}
+use Rattle.core_machine.proofs.Contents.{some_same}
+use Rattle.core_setup.specs.Announced.{FitsTable, IsOfFamily, fixed_at, fixed_in}
 use Rattle.core_setup.specs.Differences.{difference_at, nets_of, same_route, with_net, with_nets}
 use Rattle.core_setup.specs.Protocols.{effect_after, effect_at, effect_in, imports_after, protocol_at, rules_of}
-use Rattle.core_setup.specs.Setup.{Body, FitsBody, IsPipe, IsSetup, IsSource, Protocol, Setup, Source}
+use Rattle.core_setup.specs.Setup.{Body, FitsBody, FitsSource, IsPipe, IsSetup, IsSource, Protocol, Setup, Source, family_at}
 use Rattle.core_setup.proofs.Chained.{all_of, reverse_push}
 use Rattle.core_setup.proofs.Numbered.{all_append, protocol_is}
 
@@ -293,3 +294,21 @@ pub families_are : (p : Option Protocol) (family : Family) (earlier : List Op) (
     → AllByRecursion (λ (c : Change). family_of c.net.addr ≡ family) (effect_at p earlier op).changes
 families_are None family earlier op fixed given = tt
 families_are (Some p) family earlier op fixed given = families_in p.body family earlier op fixed given
+
+-- ---- what a protocol is told is of the family of its table
+
+pub all_weaker : {X : Type 0} (P Q : X → Type 0) → ((x : X) → P x → Q x) → (xs : List X) → AllByRecursion P xs → AllByRecursion Q xs
+all_weaker P Q f [] a = tt
+all_weaker P Q f (x ∷ xs) a = (f x a.0, all_weaker P Q f xs a.1)
+
+-- the changes of a protocol, and that they tell it
+pub fitting : (tables : List (List ℕ × Family)) (number : ℕ) (p : Source) (family : Family) → FitsSource tables number p → family_at tables p.table ≡ Some family
+    → (earlier : List Op) (op : Op) → AllByRecursion (FitsTable tables (IsSource p)) (op ∷ earlier)
+    → AllByRecursion (λ (c : Change). (family_of c.net.addr ≡ family) × IsFrom number c) (effect_after p earlier op).changes
+fitting tables number p family fits is earlier op told =
+    all_both (λ (c : Change). family_of c.net.addr ≡ family) (IsFrom number) (effect_after p earlier op).changes
+    (its_family family p
+    (all_weaker (λ (f : Fixed). family_at tables p.table ≡ Some (family_of f.net.addr)) (λ (f : Fixed). family_of f.net.addr ≡ family) (λ f e. some_same (sym e ∙ is)) p.spec.fixed fits.fixed)
+    earlier op
+    (all_weaker (FitsTable tables (IsSource p)) (IsOfFamily family) (λ op h. subst (λ o. IfSome o (λ family. IsOfFamily family op)) is h) (op ∷ earlier) told))
+    (subst (λ n. AllByRecursion (IsFrom n) (effect_after p earlier op).changes) fits.source (its_source p earlier op))

@@ -9,11 +9,13 @@
 -- Example: a protocol of BGP has a channel, a static one none, a pipe one each way. A query for
 -- what a static protocol exports doesn't fit.
 use Rattle.std.specs.Prelude.{◌≡◌, ◌≢◌, ◌<◌, ◌≤◌, ◌+◌, ℕ, false, List, [], ◌∷◌, length, Option, Some, None, IfSome, IsSome, option_map, slice_get, ⊤}
-use Rattle.std.specs.List.{All}
+use Rattle.std.specs.List.{All, AllByRecursion}
 use Rattle.attrs.specs.declared.attributes.Kind.{Kind}
 use Rattle.attrs.specs.declared.attributes.Kind.TheVariants.{Static, Bgp}
+use Rattle.bits_ip.specs.Address.{family_of}
 use Rattle.bits_ip.specs.declared.address.Family.{Family}
 use Rattle.export_core.specs.declared.passing.ExportSpec.{ExportSpec}
+use Rattle.import_core.specs.declared.import_spec.Fixed.{Fixed}
 use Rattle.import_core.specs.declared.import_spec.ImportSpec.{ImportSpec}
 use Rattle.import_core.specs.Decisions.{Filter}
 use Rattle.show_route.specs.declared.query.Query.{Query}
@@ -80,10 +82,14 @@ HasSession Static table number (Some exports) = ⊥
 HasSession Bgp table number None = ⊥
 HasSession Bgp table number (Some exports) = IsSession table number exports
 
--- the routes of a protocol of this number tell it, and its table is there
+-- The routes of a protocol of this number tell it, its table is there, and the nets of its
+-- configured routes are of the table's family.
 pub record FitsSource (tables : List (List ℕ × Family)) (number : ℕ) (p : Source) : Type 0 where
   pub source : p.spec.src.num ≡ number
   pub table : p.table < length tables
+  pub fixed :
+      AllByRecursion (λ (f : Fixed). family_at tables p.table ≡ Some (family_of f.net.addr))
+      p.spec.fixed
   pub session : HasSession p.spec.kind (family_at tables p.table) number p.exports
 
 -- the two tables of a pipe are there, they aren't one, and they are of one family

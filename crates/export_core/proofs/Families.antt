@@ -16,7 +16,8 @@ use Rattle.export_core.specs.Calls.{MarksAbove, mark_of}
 use Rattle.export_core.specs.Candidates.{AddsNone, best_in, covers, floor_of}
 use Rattle.export_core.specs.Families.{AreOfFamily, IsKeyOf}
 use Rattle.export_core.specs.Marks.{Listed, at, find, joined, with_candidate}
-use Rattle.export_core.specs.Standing.{index_at}
+use Rattle.export_core.specs.declared.log.LogItem.{LogItem}
+use Rattle.export_core.specs.Standing.{IsKept, index_at, standing_at, value_at}
 use Rattle.export_core.proofs.Keys.{key_tells, skip_if}
 use Rattle.export_core.proofs.Taking.{other_if}
 
@@ -128,3 +129,17 @@ families_less spec marks sent sent' f fewer = record { marked = f.marked; stands
   by_number : (k : Key) (o : Option ℕ) → index_at k sent' ≡ o → IsSome o → IsSome (index_at k sent)
   by_number k None e i = absurd (false_true i)
   by_number k (Some n) e i = ap (λ o. is_some o) (fewer k n e)
+
+-- ---- what the exporter tells of its keys
+
+pub marks_family : (spec : ExportSpec) (marks : Listed) (sent : List (Key × Option ℕ)) → AreOfFamily spec marks sent → (k : Key) → IsSome (find k marks) → family_of k.net.addr ≡ spec.family
+marks_family spec marks sent f k some = (f.marked k some).family
+
+-- what stands has a place with a number
+number_there : (log : List LogItem) (o : Option ℕ) → IsSome (value_at log o) → IsSome o
+number_there log None some = some
+number_there log (Some n) some = refl
+
+pub standing_family : (spec : ExportSpec) (marks : Listed) (flushing up : Bool) (sent : List (Key × Option ℕ)) (log : List LogItem) → IsKept flushing up sent log → AreOfFamily spec marks sent → flushing ≡ false → (k : Key) → IsSome (standing_at k log) → family_of k.net.addr ≡ spec.family
+standing_family spec marks flushing up sent log kept f steady k some =
+    (f.stands k (number_there log (index_at k sent) (some_same (sym (kept.values steady k)) some))).family

@@ -12,7 +12,7 @@ ghost use Rattle.std.specs.Map.{keys_of};
 ghost use Rattle.export_core.specs.Refusals.{Rose};
 ghost use Rattle.export_core.specs.Plan.{IsFirst, IsNext};
 ghost use Rattle.export_core.specs.Sends.{IsStanding};
-ghost use Rattle.export_core.specs.Standing.{is_open};
+ghost use Rattle.export_core.specs.Standing.{is_open, standing_at};
 ghost use Rattle.export_core.specs.States.{IsChunkAt, IsEntryAt, StandsFor, reach_of, value_for};
 
 use crate::candidates::best_routes;
@@ -204,10 +204,12 @@ impl<J: Judge> Exporter<J> {
         self.feed
     }
 
-    /// The values that stand as sent, in the order of keys.
+    /// The values that stand as sent, in the order of keys. Their nets are of the channel's family.
     pub fn standing(&self) -> Result<Vec<(Key, Shared<Attrs>)>, OutOfMemory>
-        ensures { IfOk result (λ values. self.now.flushing ≡ false
+        ensures values { IfOk result (λ values. self.now.flushing ≡ false
             → IsStanding self.now.log values.items) }
+        ensures families { self.now.flushing ≡ false → (k : Key)
+            → IsSome (standing_at k self.now.log) → family_of k.net.addr ≡ self.now.spec.family }
     {
         self.sent.values(self.alloc, &self.log)
     }
@@ -286,7 +288,8 @@ impl<J: Judge> Exporter<J> {
         Ok(Pushed::Sent)
     }
 
-    /// Pushes the first mark out, in the order of first marking.
+    /// Pushes the first mark out, in the order of first marking. The nets of what is marked are of
+    /// the channel's family.
     pub fn push_one<O: Outlet>(&mut self, outlet: &mut O) -> Result<Pushed, PushFault>
         requires stays { self.old.flushing ≡ false }
         requires up { is_open self.old.log ≡ true }
@@ -303,6 +306,8 @@ impl<J: Judge> Exporter<J> {
         ensures stays { OnOk result (self.new.flushing ≡ false) }
         ensures stands { OnOk result ((c : Course)
             → StandsFor J.verdict c self.old → StandsFor J.verdict c self.new) }
+        ensures families { (k : Key) → IsSome (find k self.old.marks)
+            → family_of k.net.addr ≡ self.old.spec.family }
     {
         match self.next()? {
             Next::Nothing => Ok(Pushed::Nothing),

@@ -9,20 +9,20 @@ use Rattle.filt_values.specs.declared.fixed.Fixed.{Fixed}
 use Rattle.filt_values.specs.declared.value.Sort.{Sort}
 use Rattle.filt_values.specs.Seen.{val_of_fixed}
 use Rattle.filt_values.specs.Values.{Val}
-use Rattle.filt_meaning.specs.Configuration.{given_by, verdict_of}
+use Rattle.filt_meaning.specs.Configuration.{given_by}
 use Rattle.filt_meaning.specs.Flow.{Flow, Done, Stopped, Frame, and_then}
 use Rattle.filt_meaning.specs.Names.{Around, Doing}
 use Rattle.filt_tree.specs.declared.scope.TFunction.{TFunction}
 use Rattle.filt_tree.specs.declared.tree.TFilter.{TFilter}
 use Rattle.filt_tree.specs.declared.tree.TStmt.{TStmt}
 use Rattle.filt_tree.specs.Trees as trees
-use Rattle.filt_tree.specs.Trees.{Tables}
+use Rattle.filt_tree.specs.Trees.{AreBefore, Tables}
 use Rattle.filt_code.specs.declared.code.Draft.{Draft}
 use Rattle.filt_code.specs.declared.code.Routine.{Routine}
 use Rattle.filt_code.specs.declared.instr.Instr.{Instr}
-use Rattle.filt_code.specs.Codes.{Setting, code_judged, doing, mean, setting, with_routine, with_routines}
+use Rattle.filt_code.specs.Codes.{Setting, code_flow, doing, mean, setting, with_routine, with_routines}
 use Rattle.filt_compile.specs.declared.seen.Seen.{Seen}
-use Rattle.filt_compile.specs.Compiles.{beside, AreBefore, AreCompiled, IsCompiled}
+use Rattle.filt_compile.specs.Compiles.{beside, AreCompiled, IsCompiled}
 use Rattle.filt_compile.specs.Emits.{Runs, tables_of}
 use Rattle.filt_compile.proofs.Cases as cs
 
@@ -147,13 +147,13 @@ seen_same seen constants fs routines f around same p h =
     (ap (λ (cs : List Fixed). map val_of_fixed cs) same ∙ sym (constants_kept t (take f.functions fs)))
     (same_functions constants f.constants 0 (take f.functions fs) (take f.functions routines) s t (compiled_front constants 0 f.functions fs routines p) h refl refl refl refl)
 
--- over the same functions code says what its filter says
-pub code_says : (seen : Seen) (constants : List Fixed) (routines : List Routine) (f : TFilter) (draft : Draft) (sorts : List Sort) (ss : List TStmt) → seen.constants.now ≡ take f.constants constants → seen.functions ≡ draft.functions → draft.functions ≡ length (take f.functions routines) → sorts ≡ f.sorts.items → ss ≡ f.body.items → ((s : Setting) → length s.functions ≡ seen.functions → (vals : Frame) (attrs : Attrs) → mean s draft.code.items 0 vals [] attrs ≡ trees.run (tables_of seen s) sorts ss vals attrs) → (fs : List TFunction) → AreCompiled constants 0 fs routines → AreBefore fs f → (around : Around) (attrs : Attrs) → code_judged around routines draft attrs ≡ trees.judged around constants fs f attrs
-code_says seen constants routines f draft sorts ss same few count q r means fs p h around attrs =
+-- over the same functions code comes to what its filter comes to
+pub code_flows : (seen : Seen) (constants : List Fixed) (routines : List Routine) (f : TFilter) (draft : Draft) (sorts : List Sort) (ss : List TStmt) → seen.constants.now ≡ take f.constants constants → seen.functions ≡ draft.functions → draft.functions ≡ length (take f.functions routines) → sorts ≡ f.sorts.items → ss ≡ f.body.items → ((s : Setting) → length s.functions ≡ seen.functions → (vals : Frame) (attrs : Attrs) → mean s draft.code.items 0 vals [] attrs ≡ trees.run (tables_of seen s) sorts ss vals attrs) → (fs : List TFunction) → AreCompiled constants 0 fs routines → AreBefore fs f → (around : Around) (attrs : Attrs) → code_flow around routines draft attrs ≡ trees.tree_flow around constants fs f attrs
+code_flows seen constants routines f draft sorts ss same few count q r means fs p h around attrs =
     let front : take draft.functions routines ≡ take f.functions routines = ap (λ (n : ℕ). take n routines) count ∙ taken_again f.functions routines in
-    ap (λ (rs : List Routine). verdict_of (mean (setting around rs) draft.code.items 0 [] [] attrs)) front
-    ∙ ap verdict_of (means (setting around (take f.functions routines)) (counted around (take f.functions routines) ∙ sym count ∙ sym few) [] attrs)
+    ap (λ (rs : List Routine). mean (setting around rs) draft.code.items 0 [] [] attrs) front
+    ∙ means (setting around (take f.functions routines)) (counted around (take f.functions routines) ∙ sym count ∙ sym few) [] attrs
     ∙ by_parts (tables_of seen (setting around (take f.functions routines))) (trees.tables around (take f.constants constants) (take f.functions fs)) sorts f.sorts.items ss f.body.items (seen_same seen constants fs routines f around same p h) q r
   where
-    by_parts : (t u : Tables) (xs ys : List Sort) (as_one bs : List TStmt) → t ≡ u → xs ≡ ys → as_one ≡ bs → verdict_of (trees.run t xs as_one [] attrs) ≡ verdict_of (trees.run u ys bs [] attrs)
+    by_parts : (t u : Tables) (xs ys : List Sort) (as_one bs : List TStmt) → t ≡ u → xs ≡ ys → as_one ≡ bs → trees.run t xs as_one [] attrs ≡ trees.run u ys bs [] attrs
     by_parts t u xs ys as_one bs p q r = rw (p, q, r) refl

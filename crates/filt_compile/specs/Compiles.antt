@@ -1,11 +1,10 @@
 -- What is owed of compiled functions and filters: what their trees do.
-use Rattle.std.specs.Prelude.{◌≡◌, ◌≤◌, ℕ, suc, List, [], ◌∷◌, length, map, take, All, ⊤}
+use Rattle.std.specs.Prelude.{◌≡◌, ℕ, suc, List, [], ◌∷◌, length, map, ⊤}
 use Rattle.attrs.specs.declared.attributes.Attrs.{Attrs}
 use Rattle.filt_values.specs.declared.fixed.Fixed.{Fixed}
 use Rattle.filt_values.specs.Seen.{val_of_fixed}
 use Rattle.filt_meaning.specs.Flow.{Frame}
 use Rattle.filt_tree.specs.declared.scope.TFunction.{TFunction}
-use Rattle.filt_tree.specs.declared.tree.TFilter.{TFilter}
 use Rattle.filt_tree.specs.Trees.{Tables, function}
 use Rattle.filt_code.specs.declared.code.Routine.{Routine}
 use Rattle.filt_code.specs.Codes.{Setting, doing}
@@ -31,8 +30,3 @@ AreCompiled constants number [] (made ∷ more) = ⊥
 AreCompiled constants number (f ∷ fs) [] = ⊥
 AreCompiled constants number (f ∷ fs) (made ∷ more) =
     IsCompiled constants number f made × AreCompiled constants (suc number) fs more
-
--- The functions that a filter sees were declared before it, so they see no constants but its own.
-abbrev pub AreBefore : List TFunction → TFilter → Type 0
-AreBefore functions f =
-    All (λ (g : TFunction). g.constants ≤ f.constants) (take f.functions functions)

@@ -5,9 +5,10 @@ ghost use Rattle.attrs.specs.declared.attributes.Attrs.{Attrs};
 ghost use Rattle.filt_meaning.specs.Flow.{Frame};
 ghost use Rattle.filt_meaning.specs.Names.{Around};
 ghost use Rattle.filt_tree.specs.Trees as trees;
+ghost use Rattle.filt_tree.specs.Trees.{AreBefore};
 ghost use Rattle.filt_tree.specs.declared.scope.TFunction.{TFunction};
-ghost use Rattle.filt_code.specs.Codes.{code_judged, mean, Setting};
-ghost use Rattle.filt_compile.specs.Compiles.{AreBefore, AreCompiled, IsCompiled};
+ghost use Rattle.filt_code.specs.Codes.{code_flow, mean, Setting};
+ghost use Rattle.filt_compile.specs.Compiles.{AreCompiled, IsCompiled};
 ghost use Rattle.filt_compile.specs.Emits.{tables_of};
 
 use crate::act::block;
@@ -19,7 +20,7 @@ use filt_values::{Fixed, Sort};
 use std::alloc::Global;
 
 /// The code of a filter, over the constants and the compiled functions of the scope, of which it sees
-/// the first. Its verdict is that of the filter, every fault included.
+/// the first. It comes to what the filter comes to, every fault included, and so does its verdict.
 pub fn compile<'a>(
     alloc: Global,
     constants: &'a [Fixed],
@@ -28,8 +29,8 @@ pub fn compile<'a>(
 ) -> Result<Draft<'a>, OutOfMemory>
     ensures { IfOk result (λ draft. (functions : List TFunction)
         → AreCompiled constants.now 0 functions routines.now → AreBefore functions filter.now
-        → (around : Around) (attrs : Attrs) → code_judged around routines.now draft attrs
-        ≡ trees.judged around constants.now functions filter.now attrs) }
+        → (around : Around) (attrs : Attrs) → code_flow around routines.now draft attrs
+        ≡ trees.tree_flow around constants.now functions filter.now attrs) }
 {
     let functions = first(routines, filter.functions).len();
     let seen = Seen {

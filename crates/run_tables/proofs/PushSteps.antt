@@ -2,6 +2,7 @@
 use Rattle.std.proofs.Common.{◌≡◌, ◌≢◌, ℕ, zero, suc, ◌+◌, ◌<◌, ◌≤◌, Bool, true, false, List, [], ◌∷◌, length, get_or, set, Option, Some, None, refl, sym, ap, subst, ◌∙◌, arith, reverse}
 use Rattle.std.specs.Prelude.{IsSome, is_some, option_map, slice_get, if◌then◌else◌}
 use Rattle.std.specs.List.{AllByRecursion}
+use Rattle.bits_ip.specs.Address.{family_of}
 use Rattle.bits_ip.specs.Prefix.{Net}
 use Rattle.bits_ip.specs.declared.address.Family.{Family}
 use Rattle.attrs.specs.declared.judge.Verdict.{Verdict}
@@ -19,23 +20,24 @@ use Rattle.core_machine.specs.Enters.{change_to}
 use Rattle.core_machine.specs.Machine.{State, gained, with_channel}
 use Rattle.core_machine.specs.Match.{change_of_sending}
 use Rattle.core_machine.specs.Pipes.{is_pipe}
-use Rattle.core_machine.specs.Rules.{Rules}
+use Rattle.core_machine.specs.Rules.{IsRules, Rules}
 use Rattle.core_machine.proofs.Contents.{none_some, some_same}
 use Rattle.core_machine.proofs.Growing.{set_here as at_here}
-use Rattle.core_setup.specs.Channels.{channel_at, channels, channels_from, channels_in, session, target_at}
+use Rattle.core_setup.specs.Channels.{channel_at, channels, channels_from, channels_in, reads_at, session, target_at}
 use Rattle.core_setup.specs.Channels as setups
 use Rattle.core_setup.specs.Protocols.{rules_of}
-use Rattle.core_setup.specs.Setup.{AreProtocols, Body, Exports, FitsBody, IsPipe, IsSource, Protocol, Setup}
+use Rattle.core_setup.specs.Setup.{AreProtocols, Body, Exports, FitsBody, IsPipe, IsSource, Protocol, Setup, family_at}
 use Rattle.core_setup.proofs.Numbered.{all_append}
+use Rattle.core_setup.proofs.PairLemmas.{one_here}
 use Rattle.run_tables.specs.Channels.{IsChannel, IsOfProtocol, Tells, TellsPush, cursor_of}
-use Rattle.run_tables.specs.Routes.{AreRoutes}
-use Rattle.run_tables.specs.Tables.{IsTable}
+use Rattle.run_tables.specs.Routes.{AdmitsAt, AreRoutes}
+use Rattle.run_tables.specs.Tables.{IsTable, TellsSource}
 use Rattle.run_tables.specs.declared.channel.Channel.{Channel}
 use Rattle.run_tables.specs.declared.routes.Routes.{Routes}
 use Rattle.run_tables.specs.declared.table.Table.{Table}
 use Rattle.run_tables.proofs.Kept.{open_of}
 use Rattle.run_tables.proofs.Reading.{found_one}
-use Rattle.run_tables.proofs.Routing.{Stays, channel_is, channel_there, table_of, target_of, tables_length}
+use Rattle.run_tables.proofs.Routing.{Stays, TableIs, channel_is, channel_there, table_of, target_of, tables_length}
 
 -- ---- a table that a direction writes is there
 
@@ -67,6 +69,37 @@ target_there : (setup : Setup) (c table : ℕ) (o : Option setups.Channel) → A
 target_there setup c table None are e t = absurd (none_some t)
 target_there setup c table (Some ch) are e t = at_place (WritesIn setup.tables) (channels setup) c ch (all_write setup.tables 0 setup.protocols are) e table t
 
+-- ---- and of the family of the one that it reads
+
+abbrev JoinsIn : List (List ℕ × Family) → setups.Channel → Type 0
+JoinsIn tables ch = (table : ℕ) → ch.target ≡ Some table → family_at tables ch.reads ≡ family_at tables table
+
+session_joins : (tables : List (List ℕ × Family)) (n : ℕ) (name : List ℕ) (table : ℕ) (o : Option Exports) → AllByRecursion (JoinsIn tables) (session tables n name table o)
+session_joins tables n name table None = tt
+session_joins tables n name table (Some exports) = (λ t e. absurd (none_some e), tt)
+
+body_joins : (tables : List (List ℕ × Family)) (n : ℕ) (name : List ℕ) (b : Body) → FitsBody tables n b → AllByRecursion (JoinsIn tables) (channels_in tables n name b)
+body_joins tables n name (IsSource p) fits = session_joins tables n name p.table p.exports
+body_joins tables n name (IsPipe p) fits = (
+  λ t e. fits.family ∙ ap (family_at tables) (some_same e),
+  (λ t e. sym fits.family ∙ ap (family_at tables) (some_same e), tt),
+)
+
+all_join : (tables : List (List ℕ × Family)) (n : ℕ) (ps : List Protocol) → AreProtocols tables n ps → AllByRecursion (JoinsIn tables) (channels_from tables n ps)
+all_join tables n [] are = tt
+all_join tables n (p ∷ ps) are =
+    all_append (JoinsIn tables) (channels_in tables n p.name p.body) (channels_from tables (n + 1) ps) (body_joins tables n p.name p.body are.0) (all_join tables (n + 1) ps are.1)
+
+target_joined : (setup : Setup) (c table : ℕ) (o : Option setups.Channel) → AreProtocols setup.tables 0 setup.protocols → channel_at setup c ≡ o → target_at o ≡ Some table
+    → family_at setup.tables (reads_at (length setup.tables) o) ≡ family_at setup.tables table
+target_joined setup c table None are e t = absurd (none_some t)
+target_joined setup c table (Some ch) are e t = at_place (JoinsIn setup.tables) (channels setup) c ch (all_join setup.tables 0 setup.protocols are) e table t
+
+-- a route that comes of attributes tells its source
+tells_source : (rules : Rules) (ok : IsRules rules) (num : ℕ) (value : Option Attrs) → TellsSource num (option_map (rules.route num) value)
+tells_source rules ok num None = tt
+tells_source rules ok num (Some attrs) = ok.source num attrs
+
 -- ---- a channel that is down
 
 pub shut_of : (ch : machine.Channel) → cursor_of ch ≡ None → is_open ch ≡ false
@@ -94,6 +127,15 @@ module _ {J : Type 0} (verdict : J → Net → Route → Verdict) (setup : Setup
         let w = target_there setup c table (channel_at setup c) are.setup_is.protocols refl (sym (target_of verdict setup s r are c held there) ∙ e) in
         omega (arith, w, tables_length verdict setup s r are)
 
+    -- a change of the family of the table that it reads is one of the table that it writes
+    pub admits_there : (table : ℕ) → held.target ≡ Some table → (net : Net) (num : ℕ) (new : Option Route) → family_at setup.tables ((rules_of setup).reads c) ≡ Some (family_of net.addr) → TellsSource num new
+        → AdmitsAt table r (record { net = net; num = num; new = new })
+    admits_there table e net num new is tells written et =
+        let at = one_here (TableIs setup s) setup.tables r.tables.items are.tables table written et in
+        let joined = target_joined setup c table (channel_at setup c) are.setup_is.protocols refl (sym (target_of verdict setup s r are c held there) ∙ e) in
+        let same : family_of net.addr ≡ at.0.1 = some_same (sym is ∙ joined ∙ ap (option_map (λ (t : List ℕ × Family). t.1)) at.1) in
+        record { family_is = same ∙ sym at.2.family_is; source = tells }
+
     module _ (x : Sending) (earlier : List LogItem) (last : (s.channels c).log ≡ Sent x ∷ earlier) where
       pub last_is : reverse held.exporter.log ≡ Sent x ∷ earlier
       last_is = log_is ∙ last
@@ -119,6 +161,14 @@ pub change_sourced : (rules : Rules) (c n : ℕ) (x : Sending) (change : Change)
 change_sourced rules c n x change e low some =
     let is = made_of rules x x.again change e in
     subst (λ (y : Change). y.num < n) is (low (some_value (rules.route x.key.num) x.value (subst (λ (y : Change). IsSome y.new) (sym is) some)))
+
+-- it is one of the table that is written
+pub sent_admits : {J : Type 0} (verdict : J → Net → Route → Verdict) (setup : Setup) (s : State) (r : Routes J) (c : ℕ) (are : AreRoutes verdict setup s r) (held : Channel J) → slice_get r.channels.items c ≡ Some held
+    → (table : ℕ) → held.target ≡ Some table → (x : Sending) → family_at setup.tables ((rules_of setup).reads c) ≡ Some (family_of x.key.net.addr)
+    → (change : Change) → change_of_sending (rules_of setup) x ≡ Some change → AdmitsAt table r change
+sent_admits verdict setup s r c are held there table e x is change made =
+    subst (AdmitsAt table r) (made_of (rules_of setup) x x.again change made)
+    (admits_there verdict setup s r c are held there table e x.key.net x.key.num (option_map ((rules_of setup).route x.key.num) x.value) is (tells_source (rules_of setup) are.rules_are x.key.num x.value))
 
 -- ---- a push
 
@@ -150,11 +200,11 @@ module _ {J : Type 0} (verdict : J → Net → Route → Verdict) (setup : Setup
 
   -- what it tells
   module _ (answer : Pushed) (tells : (rules : Rules) (c : ℕ) (family : Family) (h : List Change) (ch : machine.Channel) (table : Table) → IsTable rules family h table → IsChannel verdict rules c (Some family) h held ch
-      → TellsPush rules c h held.exporter.log after.exporter.log ch answer) where
-    pub push_told : TellsPush (rules_of setup) c (s.history ((rules_of setup).reads c)) held.exporter.log after.exporter.log (s.channels c) answer
+      → TellsPush rules c family h held.exporter.log after.exporter.log ch answer) where
+    pub push_told : TellsPush (rules_of setup) c family (s.history ((rules_of setup).reads c)) held.exporter.log after.exporter.log (s.channels c) answer
     push_told =
         let f = found_one verdict setup s r c are w held e in
-        subst (λ n. TellsPush (rules_of setup) c (s.history n) held.exporter.log after.exporter.log (s.channels c) answer) at
+        subst (λ n. TellsPush (rules_of setup) c family (s.history n) held.exporter.log after.exporter.log (s.channels c) answer) at
         (tells (rules_of setup) c f.2.family (s.history held.table) (s.channels c) f.0 f.2.is f.2.channel)
 
     pub record IsSent : Type 0 where
@@ -163,20 +213,22 @@ module _ {J : Type 0} (verdict : J → Net → Route → Verdict) (setup : Setup
       pub log : ((pushed).channels c).log ≡ Sent x ∷ reverse held.exporter.log
       pub gains : gained (rules_of setup) c (s.history ((rules_of setup).reads c)) (s.channels c).marks (s.channels c) ≡ change_of_sending (rules_of setup) x
       pub of_protocol : IsOfProtocol (rules_of setup) c x
+      pub of_family : family_at setup.tables ((rules_of setup).reads c) ≡ Some (family_of x.key.net.addr)
 
     pub sent_is : answer ≡ answers.Sent → IsSent
     sent_is same =
-        let t = subst (TellsPush (rules_of setup) c (s.history ((rules_of setup).reads c)) held.exporter.log after.exporter.log (s.channels c)) same push_told in
+        let t = subst (TellsPush (rules_of setup) c family (s.history ((rules_of setup).reads c)) held.exporter.log after.exporter.log (s.channels c)) same push_told in
         record {
           marked = t.0;
           x = t.1;
           log = ap (λ (ch : machine.Channel). ch.log) (at_here c new_channel s.channels c refl) ∙ sym is_now.exporter.matches.like.resembles.log ∙ t.2;
           gains = t.3;
           of_protocol = t.4;
+          of_family = ap (family_at setup.tables) (sym at) ∙ (found_one verdict setup s r c are w held e).2.family_is ∙ ap Some (sym t.5);
         }
 
     pub quiet_told : answer ≡ answers.Quiet → (1 ≤ length (s.channels c).marks) × (gained (rules_of setup) c (s.history ((rules_of setup).reads c)) (s.channels c).marks (s.channels c) ≡ None)
-    quiet_told same = subst (TellsPush (rules_of setup) c (s.history ((rules_of setup).reads c)) held.exporter.log after.exporter.log (s.channels c)) same push_told
+    quiet_told same = subst (TellsPush (rules_of setup) c family (s.history ((rules_of setup).reads c)) held.exporter.log after.exporter.log (s.channels c)) same push_told
 
     pub nothing_told : answer ≡ answers.Nothing → (s.channels c).marks ≡ []
-    nothing_told same = subst (TellsPush (rules_of setup) c (s.history ((rules_of setup).reads c)) held.exporter.log after.exporter.log (s.channels c)) same push_told
+    nothing_told same = subst (TellsPush (rules_of setup) c family (s.history ((rules_of setup).reads c)) held.exporter.log after.exporter.log (s.channels c)) same push_told

@@ -24,10 +24,10 @@ use Rattle.core_setup.specs.Pairs.{Pairs}
 use Rattle.core_setup.specs.Protocols.{rules_of}
 use Rattle.core_setup.specs.Setup.{Setup, family_at}
 use Rattle.core_setup.proofs.Numbered.{channel_belongs}
-use Rattle.core_setup.proofs.PairLemmas.{cases_same, get_one, get_within, one_here, pairs_length, set_here, weaker_here}
+use Rattle.core_setup.proofs.PairLemmas.{cases_same, get_here, get_one, get_within, one_here, pairs_length, set_here, weaker_here}
 use Rattle.run_tables.specs.Channels.{AreSources, IsChannel}
-use Rattle.run_tables.specs.Routes.{AreReaders, AreRoutes}
-use Rattle.run_tables.specs.Tables.{IsTable}
+use Rattle.run_tables.specs.Routes.{AdmitsAt, AreReaders, AreRoutes}
+use Rattle.run_tables.specs.Tables.{Admits, IsTable}
 use Rattle.run_tables.specs.declared.channel.Channel.{Channel}
 use Rattle.run_tables.specs.declared.routes.Routes.{Routes}
 use Rattle.run_tables.specs.declared.table.Table.{Table}
@@ -118,6 +118,16 @@ module _ {J : Type 0} (verdict : J → Net → Route → Verdict) where
 
       pub in_list : c < length (channels setup)
       in_list = let w = get_within r.channels.items c held e in omega (arith, w, channels_length)
+
+  -- a table admits what it admitted before, since its family stays
+  pub admits_still : (setup : Setup) (s t : State) (r new : Routes J) → AreRoutes verdict setup s r → AreRoutes verdict setup t new → (n : ℕ) → n < length r.tables.items → (c : Change) → AdmitsAt n r c → AdmitsAt n new c
+  admits_still setup s t r new are now n w c admits table there =
+      let old = get_here r.tables.items n w in
+      let was = one_here (TableIs setup s) setup.tables r.tables.items are.tables n old.0 old.1 in
+      let is = one_here (TableIs setup t) setup.tables new.tables.items now.tables n table there in
+      subst (λ (family : Family). Admits family c)
+      (was.2.family_is ∙ ap (λ (seen : List ℕ × Family). seen.1) (get_one setup.tables n was.0 is.0 was.1 is.1) ∙ sym is.2.family_is)
+      (admits old.0 old.1)
 
   -- ---- what is the same at each number
 

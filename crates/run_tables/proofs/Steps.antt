@@ -138,15 +138,16 @@ module _ {J : Type 0} (verdict : J → Net → Route → Verdict) (rules : Rules
     pub sent_of : (mark : Mark) (x : Sending) (e' : State J) → PushesOut verdict mark x e e' → IsOfProtocol rules c x
     sent_of mark x e' p pipe some = marked_of x.key mark pipe p.pops.mark (passed_some (value_for verdict e) x.key mark.candidate (subst IsSome p.value some))
 
-    pub push_tells : (answer : Pushed) (told told' : Option (List Sending)) (e' : State J) → Pushes verdict e e' told told' answer → TellsPush rules c h e.log e'.log ch answer
-    push_tells answers.Nothing told told' e' p = marks_end (Some family) e ch m p.0
-    push_tells answers.Quiet told told' e' p = (marks_begin (Some family) e ch p.0 m p.2.pops.first, quiet_enters verdict rules c h p.0 p.1 e e' ch p.2 m.matches)
-    push_tells answers.Sent told told' e' p = (
+    pub push_tells : (marked : (k : Key) → IsSome (exporter.find k e.marks) → family_of k.net.addr ≡ e.spec.family) (answer : Pushed) (told told' : Option (List Sending)) (e' : State J) → Pushes verdict e e' told told' answer → TellsPush rules c family h e.log e'.log ch answer
+    push_tells marked answers.Nothing told told' e' p = marks_end (Some family) e ch m p.0
+    push_tells marked answers.Quiet told told' e' p = (marks_begin (Some family) e ch p.0 m p.2.pops.first, quiet_enters verdict rules c h p.0 p.1 e e' ch p.2 m.matches)
+    push_tells marked answers.Sent told told' e' p = (
       marks_begin (Some family) e ch p.1.key m p.2.pops.first,
       p.1,
       ap reverse p.2.log ∙ reverse-append e.log (Sent p.1 ∷ []),
       sent_enters verdict rules c h p.0 p.1 e e' ch p.2 m.matches,
       sent_of p.0 p.1 e' p.2,
+      marked p.1.key (ap (λ o. is_some o) p.2.pops.mark) ∙ sym (some_same m.family_is),
     )
 
   -- ---- stretches

@@ -1,6 +1,9 @@
 -- How a channel's stretches begin, go on and end.
-use Rattle.std.proofs.Common.{◌≡◌, ℕ, Bool, true, false, List, [], ◌∷◌, ◌++◌, ◌<◌, Option, Some, arith, sym, ◌∙◌, ap, subst, length, is_some}
+use Rattle.std.proofs.Common.{◌≡◌, ℕ, Bool, true, false, List, [], ◌∷◌, ◌++◌, ◌<◌, Option, Some, arith, sym, ◌∙◌, ap, subst, length, is_some, refl}
+use Rattle.std.specs.Prelude.{IsSome, ◌||◌}
+use Rattle.std.specs.List.{AllByRecursion}
 use Rattle.std.specs.Map.{keys_of}
+use Rattle.bits_ip.specs.Address.{family_of}
 use Rattle.bits_ip.specs.Prefix.{Net}
 use Rattle.bits_ip.specs.declared.address.Family.{Family}
 use Rattle.attrs.specs.declared.attributes.Attrs.{Attrs}
@@ -17,10 +20,12 @@ use Rattle.export_core.specs.declared.log.LogItem.{LogItem}
 use Rattle.export_core.specs.declared.log.LogItem.TheVariants.{Down}
 use Rattle.export_core.specs.declared.passing.ExportSpec.{ExportSpec}
 use Rattle.export_core.specs.Calls.{AreStanding, Flushes, FlushesBy, begun, ended, refreshed}
-use Rattle.export_core.specs.Marks.{at}
+use Rattle.export_core.specs.Keys.{same_key}
+use Rattle.export_core.specs.Marks.{at, holds}
 use Rattle.export_core.specs.Sends.{IsStanding}
+use Rattle.export_core.specs.Standing.{standing_at}
 use Rattle.export_core.specs.States.{State}
-use Rattle.export_core.proofs.Keys.{holds-keys_of}
+use Rattle.export_core.proofs.Keys.{holds-keys_of, same_key_itself}
 use Rattle.core_machine.specs.Channels.{Channel, IsFed, is_open, opened, renewed}
 use Rattle.core_machine.specs.Enters.{standing_keys}
 use Rattle.core_machine.specs.Match.{Matches, MatchesFed}
@@ -186,3 +191,18 @@ module _ {J : Type 0} (verdict : J → Net → Route → Verdict) (rules : Rules
       };
       rest = m.rest;
     }
+
+-- what holds of each key that stands in a list
+each_held : (P : Key → Type 0) (keys : List Key) → ((k : Key) → holds k keys ≡ true → P k) → AllByRecursion P keys
+each_held P [] all = tt
+each_held P (x ∷ keys) all = (all x (ap (λ b. b || holds x keys) (same_key_itself x)), each_held P keys (λ k there. all k (or_there (same_key x k) (holds k keys) there))) where
+  or_there : (a b : Bool) → b ≡ true → (a || b) ≡ true
+  or_there true b e = refl
+  or_there false b e = e
+
+-- the nets of what stands are of one family
+pub keys_family : (family : Family) (log : List LogItem) (items : List (Key × Attrs)) → IsStanding log items → ((k : Key) → IsSome (standing_at k log) → family_of k.net.addr ≡ family)
+    → (keys : List Key) → keys ≡ keys_of items → AllByRecursion (λ (k : Key). family_of k.net.addr ≡ family) keys
+keys_family family log items is all keys same =
+    each_held (λ (k : Key). family_of k.net.addr ≡ family) keys
+    (λ k there. all k (ap is_some (sym (is.values k)) ∙ sym (holds-keys_of k items) ∙ ap (holds k) (sym same) ∙ there))

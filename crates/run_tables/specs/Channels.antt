@@ -5,6 +5,7 @@ use Rattle.std.specs.List.Sorted.{IsStrictlySortedBy}
 use Rattle.std.specs.Map.{keys_of}
 use Rattle.std.specs.declared.alloc.Global.{Global}
 use Rattle.std.specs.declared.vec.Vec.{Vec}
+use Rattle.bits_ip.specs.Address.{family_of}
 use Rattle.bits_ip.specs.Prefix.{Net}
 use Rattle.bits_ip.specs.declared.address.Family.{Family}
 use Rattle.attrs.specs.declared.attributes.Attrs.{Attrs}
@@ -96,18 +97,20 @@ Withdraws e e' true =
     × (e'.spec ≡ e.spec)
 Withdraws e e' false = (e.left ≡ []) × (e' ≡ e)
 
--- What a push tells, by its answer: what was sent is the log's last item, and its change is the
--- machine's.
+-- What a push tells, by its answer: what was sent is the log's last item, of a net of this family,
+-- and its change is the machine's.
 abbrev pub TellsPush :
-    Rules → ℕ → List Change → List LogItem → List LogItem → machine.Channel → Pushed → Type 0
-TellsPush rules c history log log' ch pushed.Nothing = ch.marks ≡ []
-TellsPush rules c history log log' ch pushed.Quiet =
+    Rules → ℕ → Family → List Change → List LogItem → List LogItem → machine.Channel → Pushed
+    → Type 0
+TellsPush rules c family history log log' ch pushed.Nothing = ch.marks ≡ []
+TellsPush rules c family history log log' ch pushed.Quiet =
     (1 ≤ length ch.marks) × (gained rules c history ch.marks ch ≡ None)
-TellsPush rules c history log log' ch pushed.Sent =
+TellsPush rules c family history log log' ch pushed.Sent =
     (1 ≤ length ch.marks)
     × (x : Sending) × (reverse log' ≡ Sent x ∷ reverse log)
     × (gained rules c history ch.marks ch ≡ change_of_sending rules x)
     × IsOfProtocol rules c x
+    × (family_of x.key.net.addr ≡ family)
 
 -- ---- the same of some channel of the machine, as conditions
 

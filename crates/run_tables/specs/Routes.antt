@@ -3,8 +3,10 @@
 use Rattle.std.specs.Prelude.{◌≡◌, ◌==◌, ◌&&◌, ◌≤◌, ℕ, nat_lt, true, false, List, [], ◌∷◌, length, Option, Some, None, slice_get, take}
 use Rattle.std.specs.declared.alloc.Global.{Global}
 use Rattle.std.specs.declared.vec.Vec.{Vec}
+use Rattle.bits_ip.specs.Address.{family_of}
 use Rattle.bits_ip.specs.Prefix.{Net}
 use Rattle.attrs.specs.declared.judge.Verdict.{Verdict}
+use Rattle.attrs.specs.declared.route.Change.{Change}
 use Rattle.attrs.specs.declared.route.Route.{Route}
 use Rattle.export_core.specs.Candidates.{among}
 use Rattle.export_core.specs.declared.log.LogItem.{LogItem}
@@ -20,8 +22,9 @@ use Rattle.core_setup.specs.Pairs.{Pairs}
 use Rattle.core_setup.specs.Protocols.{rules_of}
 use Rattle.core_setup.specs.Setup.{IsSetup, Setup, family_at}
 use Rattle.run_tables.specs.Channels.{AreSources, IsChannel, IsOfProtocol}
-use Rattle.run_tables.specs.Tables.{IsTable}
+use Rattle.run_tables.specs.Tables.{Admits, IsTable}
 use Rattle.run_tables.specs.declared.routes.Routes.{Routes}
+use Rattle.run_tables.specs.declared.table.Table.{Table}
 
 -- room is made in a table
 abbrev pub with_room : Rules → ℕ → State → State
@@ -41,6 +44,11 @@ numbers_in (Some numbers) = numbers.items
 
 abbrev pub readers_at : {J : Type 0} → ℕ → Routes J → List ℕ
 readers_at table routes = numbers_in (slice_get routes.readers.items table)
+
+-- the table of a number admits the change
+abbrev pub AdmitsAt : {J : Type 0} → ℕ → Routes J → Change → Type 0
+AdmitsAt number routes c =
+    (table : Table) → slice_get routes.tables.items number ≡ Some table → Admits table.family c
 
 module _ {J : Type 0} (verdict : J → Net → Route → Verdict) where
   pub record AreRoutes (setup : Setup) (s : State) (routes : Routes J) : Type 0 where
@@ -71,12 +79,14 @@ module _ {J : Type 0} (verdict : J → Net → Route → Verdict) where
   HoldsUp c routes =
       (setup : Setup) × (s : State) × AreRoutes setup s routes × (is_open (s.channels c) ≡ true)
 
-  -- and the channel's last item is a value, of a protocol where it writes a table
+  -- and the channel's last item is a value, of a net of its table's family, and of a protocol
+  -- where it writes a table
   abbrev pub HasSent : ℕ → Routes J → Type 0
   HasSent c routes =
       (setup : Setup) × (s : State) × AreRoutes setup s routes × (x : Sending)
       × (earlier : List LogItem) × ((s.channels c).log ≡ Sent x ∷ earlier)
       × IsOfProtocol (rules_of setup) c x
+      × (family_at setup.tables ((rules_of setup).reads c) ≡ Some (family_of x.key.net.addr))
 
   -- and a sync has few rounds
   abbrev pub Ends : Routes J → Type 0

@@ -1,7 +1,9 @@
 //! A channel: to a neighbour, or a direction of a pipe.
 ghost use Rattle.std.specs.Prelude.{◌≡◌, ◌↔◌, ◌<◌, ◌∷◌, ℕ, Bool, true, false, [], List, length, reverse, slice_get, IfOk, IsSome, IsTrue, OnOk, is_some, Option, Some, None, option_copied, option_map};
+ghost use Rattle.std.specs.List.{AllByRecursion};
 ghost use Rattle.std.specs.Map.{keys_of};
 ghost use Rattle.attrs.specs.declared.route.Change.{Change as HeldChange};
+ghost use Rattle.bits_ip.specs.Address.{family_of};
 ghost use Rattle.bits_ip.specs.declared.address.Family.{Family};
 ghost use Rattle.core_machine.specs.Channels as machine;
 ghost use Rattle.core_machine.specs.Channels.{IsFed, closed, is_open, opened, push_one, renewed, take_one, times};
@@ -163,7 +165,8 @@ impl<J: Judge> Channel<J> {
             (history : List HeldChange) (ch : machine.Channel) (table : HeldTable)
             → IsTable rules family history table
             → IsChannel J.verdict rules c (Some family) history self.old ch
-            → TellsPush rules c history self.old.exporter.log self.new.exporter.log ch pushed) }
+            → TellsPush rules c family history self.old.exporter.log self.new.exporter.log ch
+            pushed) }
     {
         match self.exporter.push_one(&mut LogOnly) {
             Ok(pushed) => Ok(pushed),
@@ -238,7 +241,8 @@ impl<J: Judge> Channel<J> {
             (history : List HeldChange) (ch : machine.Channel)
             → IsChannel J.verdict rules c (Some family) history self.old ch
             → (keys.items ≡ standing_keys ch.log)
-            × IsChannel J.verdict rules c (Some family) history self.new (closed ch)) }
+            × IsChannel J.verdict rules c (Some family) history self.new (closed ch)
+            × AllByRecursion (λ k. family_of k.net.addr ≡ family) keys.items) }
     {
         let keys = keys_of(alloc, self.exporter.standing()?)?;
         withdraw_all(&mut self.exporter)?;

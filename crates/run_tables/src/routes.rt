@@ -18,7 +18,7 @@ ghost use Rattle.import_core.specs.declared.step.Mark.TheVariants as mark;
 ghost use Rattle.std.specs.declared.alloc.Global.{Global as Alloc};
 ghost use Rattle.std.specs.declared.vec.Vec.{Vec as Held};
 ghost use Rattle.run_tables.specs.declared.channel.Channel.{Channel as HeldChannel};
-ghost use Rattle.run_tables.specs.Routes.{AreRoutes, Ends, HasSent, Holds, HoldsUp, with_room};
+ghost use Rattle.run_tables.specs.Routes.{AdmitsAt, AreRoutes, Ends, HasSent, Holds, HoldsUp, with_room};
 
 use crate::channel::Channel;
 use crate::table::Table;
@@ -100,6 +100,7 @@ impl<J: Judge> Routes<J> {
         requires holds { Holds J.verdict self.old }
         requires there { table < length self.old.tables.items }
         requires source { IsSome change.new → change.num < length self.old.sources.items }
+        requires admitted { AdmitsAt table self.old change }
         ensures { OnOk result ((setup : Setup) (s : State)
             → AreRoutes J.verdict setup s self.old
             → AreRoutes J.verdict setup
@@ -115,6 +116,7 @@ impl<J: Judge> Routes<J> {
         requires there { table < length self.old.tables.items }
         requires sources { All (λ (c : HeldChange).
             IsSome c.new → c.num < length self.old.sources.items) changes.items }
+        requires admitted { All (AdmitsAt table self.old) changes.items }
         ensures { OnOk result ((setup : Setup) (s : State)
             → AreRoutes J.verdict setup s self.old
             → AreRoutes J.verdict setup
@@ -319,6 +321,7 @@ impl<J: Judge> Routes<J> {
     fn withdraw(&mut self, table: usize, keys: Vec<Key>) -> Result<(), OutOfMemory>
         requires holds { Holds J.verdict self.old }
         requires there { table < length self.old.tables.items }
+        requires admitted { All (λ k. AdmitsAt table self.old (withdrawal k)) keys.items }
         ensures { OnOk result ((setup : Setup) (s : State)
             → AreRoutes J.verdict setup s self.old
             → AreRoutes J.verdict setup

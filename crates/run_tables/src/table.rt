@@ -1,5 +1,5 @@
 //! A table with its journal.
-ghost use Rattle.std.specs.Prelude.{◌≡◌, ◌<◌, ◌≤◌, ℕ, [], ◌∷◌, drop, length, List, IfOk, IsSome, IsTrue, OnOk, ◌↔◌, Option, Some, None, option_copied, slice_get};
+ghost use Rattle.std.specs.Prelude.{◌≡◌, ◌<◌, ◌≤◌, ℕ, [], ◌∷◌, drop, length, List, IfOk, IsSome, OnOk, option_copied, slice_get};
 ghost use Rattle.attrs.specs.declared.route.Change.{Change};
 ghost use Rattle.bits_ip.specs.declared.address.Family.{Family};
 ghost use Rattle.core_machine.specs.Rules.{IsRules, Rules};
@@ -54,30 +54,15 @@ impl Table {
         &self.entries[position as usize..]
     }
 
-    /// Whether the change is one of this table: of its family, and of a route that tells its
-    /// source.
-    fn admits(&self, change: &Change) -> bool
-        ensures { IsTrue result ↔ Admits self.now.family change.now }
-    {
-        let family = is_same_family(change.net.family(), self.family);
-        match &change.new {
-            Some(route) => family && route.src.num == change.num,
-            None => family,
-        }
-    }
-
-    /// Changes the table, and goes on with the journal. Imports of a protocol and pipes over the
-    /// table give no change that it doesn't admit.
+    /// Changes the table, and goes on with the journal.
     pub(crate) fn append(&mut self, change: Change) -> Result<(), OutOfMemory>
-        requires { self.old.family ≡ self.old.rib.family }
+        requires family { self.old.family ≡ self.old.rib.family }
+        requires admitted { Admits self.old.family change }
         ensures { OnOk result ((rules : Rules) (family : Family) (history : List Change)
             → IsRules rules → (IsSome change.new → change.num < rules.protocols)
             → IsTable rules family history self.old
             → IsTable rules family (change ∷ history) self.new) }
     {
-        if !self.admits(&change) {
-            return Err(OutOfMemory);
-        }
         self.rib.reserve(&change)?;
         let copy = copy_option(change.new.as_ref())?;
         let Change { net, num, new } = change;
@@ -134,16 +119,5 @@ fn copy_option(route: Option<&Route>) -> Result<Option<Route>, OutOfMemory>
     match route {
         Some(route) => Ok(Some(route.copy()?)),
         None => Ok(None),
-    }
-}
-
-fn is_same_family(one: Family, other: Family) -> bool
-    ensures { IsTrue result ↔ (one ≡ other) }
-{
-    match (one, other) {
-        (Family::V4, Family::V4) => true,
-        (Family::V4, Family::V6) => false,
-        (Family::V6, Family::V4) => false,
-        (Family::V6, Family::V6) => true,
     }
 }

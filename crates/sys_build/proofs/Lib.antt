@@ -4,6 +4,8 @@ pub mod Fitting
 pub mod Handed
 pub mod Judged
 pub mod Numbering
+pub mod RoutesFit
 pub mod Playable
+pub mod Announcing
 pub mod Bridging
 pub mod Turns

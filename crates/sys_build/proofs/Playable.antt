@@ -2,12 +2,15 @@
 -- names; and scripts know protocols as what they are.
 use Rattle.std.proofs.Common.{◌≡◌, ◌≢◌, ◌∙◌, sym, ap, refl, subst, ℕ, zero, suc, ◌+◌, ◌<◌, ◌≤◌, true, false, List, [], ◌∷◌, ◌++◌, map, Option, Some, None, option_map, arith, length, true≢false}
 use Rattle.std.specs.Prelude.{IfSome, slice_get, slice_index_or}
-use Rattle.std.specs.List.{All}
+use Rattle.std.specs.List.{All, AllByRecursion}
 use Rattle.std.proofs.lemmas.List.{length-append, length-map}
 use Rattle.std.proofs.lemmas.List.Elements.{All-cons, All-nil}
 use Rattle.std.proofs.lemmas.Option.{none-some, same_Some, slice_get_within}
+use Rattle.bits_ip.specs.Address.{family_of}
 use Rattle.bits_ip.specs.declared.address.Family.{Family}
+use Rattle.import_core.specs.declared.import_spec.Fixed.{Fixed}
 use Rattle.conf_check.specs.Behind.{at_start, behind}
+use Rattle.conf_check.specs.declared.checked.StaticRoute.{StaticRoute}
 use Rattle.conf_rules.specs.Joints.{IsForest, JoinsApart, joined}
 use Rattle.conf_rules.specs.declared.joints.Joint.{Joint}
 use Rattle.core_setup.specs.Pairs.{Pairs}
@@ -28,15 +31,22 @@ use Rattle.system.specs.Texts.{IsSystem}
 use Rattle.system.proofs.TablesThere.{masters_first}
 use Rattle.sys_build.specs.Names.{IsKindOf, kind_of, named_of, named_protocol, named_table, table_of}
 use Rattle.sys_build.specs.Scripts.{Accepted, Answers, AreAsked}
-use Rattle.sys_build.specs.Setups.{bgp_of, body_of, choices_of, pipe_of, protocol_of, protocols_from, setup_of, static_of}
+use Rattle.sys_build.specs.Setups.{bgp_of, body_of, choices_of, fixed_of, pipe_of, protocol_of, protocols_from, setup_of, static_of}
+use Rattle.sys_build.proofs.RoutesFit.{AllRoutesFit, AreOfFamily, RoutesFit, all_routes_fit}
 
 has_family : (tables : Tables) (number : ℕ) (family : Family) → Has tables number family → family_at tables number ≡ Some family
 has_family tables number family has = ap (λ o. option_map (λ t. t.1) o) has.1 ∙ ap (λ f. Some f) has.2
 
-static_fits : (tables : Tables) (number : ℕ) (p : Static) → Fits tables p.channel → setup.FitsSource tables number (static_of number p)
-static_fits tables number p fits = record {
+fixed_fit : (tables : Tables) (number : ℕ) (family : Family) → family_at tables number ≡ Some family → (routes : List StaticRoute) → AreOfFamily family routes
+    → AllByRecursion (λ (f : Fixed). family_at tables number ≡ Some (family_of f.net.addr)) (map fixed_of routes)
+fixed_fit tables number family is [] fit = tt
+fixed_fit tables number family is (r ∷ routes) fit = (is ∙ ap (λ f. Some f) (sym fit.0), fixed_fit tables number family is routes fit.1)
+
+static_fits : (tables : Tables) (number : ℕ) (p : Static) → Fits tables p.channel → RoutesFit (IsStatic p) → setup.FitsSource tables number (static_of number p)
+static_fits tables number p fits routes = record {
   source = refl;
   table = slice_get_within tables p.channel.table fits.0 fits.1;
+  fixed = fixed_fit tables p.channel.table p.channel.family (has_family tables p.channel.table p.channel.family fits) p.routes routes;
   session = tt;
 }
 
@@ -44,6 +54,7 @@ bgp_fits : (tables : Tables) (number : ℕ) (p : Bgp) → Fits tables p.channel 
 bgp_fits tables number p fits = record {
   source = refl;
   table = slice_get_within tables p.channel.table fits.0 fits.1;
+  fixed = tt;
   session = record { family = has_family tables p.channel.table p.channel.family fits; own = refl; every = refl };
 }
 
@@ -61,19 +72,19 @@ module _ (itself : (pipes : List Joint) (a : ℕ) → joined pipes a a ≡ true)
   two_tables before p apart same =
       true≢false (sym (itself before p.peer) ∙ ap (λ (a : ℕ). joined before a p.peer) (sym same) ∙ apart)
 
-  next_fit : (before : List Joint) (number : ℕ) (name : List ℕ) (body : Body) (more : List Protocol) → BodyFits tables body → JoinsApart before (joint_in body ++ pipes_of more)
+  next_fit : (before : List Joint) (number : ℕ) (name : List ℕ) (body : Body) (more : List Protocol) → BodyFits tables body → RoutesFit body → JoinsApart before (joint_in body ++ pipes_of more)
       → ((behind : List Joint) → JoinsApart behind (pipes_of more) → setup.AreProtocols tables (number + 1) (protocols_from (number + 1) more))
       → setup.AreProtocols tables number (protocols_from number (record { name = name; body = body } ∷ more))
-  next_fit before number name (IsStatic p) more fits apart rest = (static_fits tables number p fits, rest before apart)
-  next_fit before number name (IsBgp p) more fits apart rest = (bgp_fits tables number p fits, rest before apart)
-  next_fit before number name (IsPipe p) more fits apart rest =
+  next_fit before number name (IsStatic p) more fits routes apart rest = (static_fits tables number p fits routes, rest before apart)
+  next_fit before number name (IsBgp p) more fits routes apart rest = (bgp_fits tables number p fits, rest before apart)
+  next_fit before number name (IsPipe p) more fits routes apart rest =
       let joint : Joint = record { table = p.table; peer = p.peer } in
       (pipe_fits tables p fits (two_tables before p apart.0), rest (before ++ joint ∷ []) apart.1)
 
-  protocols_fit : (before : List Joint) (number : ℕ) (ps : List Protocol) → AllFit tables ps → JoinsApart before (pipes_of ps) → setup.AreProtocols tables number (protocols_from number ps)
-  protocols_fit before number [] fit apart = tt
-  protocols_fit before number (p ∷ more) fit apart =
-      next_fit before number p.name p.body more fit.0 apart (λ behind later. protocols_fit behind (number + 1) more fit.1 later)
+  protocols_fit : (before : List Joint) (number : ℕ) (ps : List Protocol) → AllFit tables ps → AllRoutesFit ps → JoinsApart before (pipes_of ps) → setup.AreProtocols tables number (protocols_from number ps)
+  protocols_fit before number [] fit routes apart = tt
+  protocols_fit before number (p ∷ more) fit routes apart =
+      next_fit before number p.name p.body more fit.0 routes.0 apart (λ behind later. protocols_fit behind (number + 1) more fit.1 routes.1 later)
 
 -- the main tables are there
 some_tables : (text : List ℕ) (system : System) → IsSystem text system → 2 ≤ length system.tables
@@ -173,7 +184,7 @@ module _ (itself : (pipes : List Joint) (a : ℕ) → joined pipes a a ≡ true)
   unfolding setup_of
   playable conf text system phases actors queries filters cells is script = record {
     tables = omega (arith, some_tables conf system is);
-    protocols = protocols_fit itself system.tables [] 0 system.protocols (there conf system is) (forest conf system is);
+    protocols = protocols_fit itself system.tables [] 0 system.protocols (there conf system is) (all_routes_fit conf system is) (forest conf system is);
     queries =
         fit_queries system (length script.conditions) filters queries (asked_count system script.conditions filters script.asked)
         (asks (named_of system) text phases actors queries script.conditions (have_tables there conf system is) script.lines_are);

@@ -14,6 +14,7 @@ ghost use Rattle.show_route.specs.declared.query.Query.{Query};
 ghost use Rattle.sys_build.specs.Names.{IsKindOf, named_of};
 ghost use Rattle.sys_build.specs.Scripts.{Accepted, Answer, Answers};
 ghost use Rattle.sys_build.specs.Setups.{setup_of};
+ghost use Rattle.sys_run.specs.Scripts.{FitsLine};
 ghost use Rattle.system.specs.Policies.{Filter};
 ghost use Rattle.system.specs.System.{System};
 ghost use Rattle.system.specs.Texts.{IsSystem};
@@ -51,7 +52,7 @@ pub fn each_text_has_an_answer()
 
 /// An accepted script over an accepted configuration can be played: routes tell the numbers of their
 /// protocols, each table that a protocol names is there, each channel is of the family of its table,
-/// a pipe joins two tables of one family, and what a query names is there.
+/// and so are the nets of configured routes, a pipe joins two tables of one family, and what a query names is there.
 pub fn accepted_scripts_are_setups()
     ensures { (conf text : List ℕ) (system : System) (phases : List (List Line))
         (actors : List (List ℕ)) (queries : List Query) (filters : List Filter) (cells : ℕ)
@@ -95,6 +96,17 @@ pub fn accepted_scripts_name_what_is()
         → Answers system text (Accepted phases actors queries filters) → length actors ≤ 64 }
 {
     lines::a_script_names_what_is();
+}
+
+/// What an accepted script announces to a protocol is of the family of the protocol's table.
+pub fn accepted_scripts_fit_their_tables()
+    ensures { (conf text : List ℕ) (system : System) (phases : List (List Line))
+        (actors : List (List ℕ)) (queries : List Query) (filters : List Filter) (cells : ℕ)
+        → IsSystem conf system → Answers system text (Accepted phases actors queries filters)
+        → All (All (FitsLine (setup_of system cells filters queries))) phases }
+{
+    kinds_are_those_of_the_setup();
+    accepted_scripts_name_what_is();
 }
 
 /// The numbers by which scripts name protocols and channels are those of the setup, and so those of

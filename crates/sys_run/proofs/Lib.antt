@@ -13,6 +13,7 @@ pub mod MakingParts
 pub mod MakingProtocols
 pub mod MakingRoutes
 pub mod MakingNew
+pub mod Fitting
 pub mod MakingCore
 pub mod Operating
 pub mod OperatingChannels

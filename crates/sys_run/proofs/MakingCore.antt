@@ -156,6 +156,7 @@ module _ {J : Type 0} (verdict : J → Net → Route → Verdict) where
           (numbers_are (map table_seen tables) 0 0 (map (protocol_seen verdict) protocols) i (protocol_seen verdict p) (slice_get-map (protocol_seen verdict) protocols i ∙ ap (option_map (protocol_seen verdict)) at)
           ∙ ap (λ n. counted n (length (channels_in (map table_seen tables) (i + 0) p.name (body_seen verdict p.body)))) first
           ∙ ap (counted held.from) many);
+      fits = tt;
       new = [];
       since = refl;
       done = is.done;

@@ -1,12 +1,14 @@
 -- The core behind an operation of a protocol.
 use Rattle.std.proofs.Common.{◌≡◌, ℕ, zero, suc, ◌-◌, ◌≤◌, ◌<◌, inl, inr, ◌⊎◌, Bool, true, false, List, [], ◌∷◌, ◌++◌, Some, length, reverse, set, refl, sym, ap, subst, ◌∙◌, arith, append_assoc}
-use Rattle.std.specs.Prelude.{IsSome, slice_get}
-use Rattle.std.specs.List.{All}
+use Rattle.std.specs.Prelude.{IfSome, IsSome, None, Option, option_map, slice_get}
+use Rattle.std.specs.List.{All, AllByRecursion}
 use Rattle.std.specs.declared.alloc.Global.{Global}
 use Rattle.std.specs.declared.vec.Vec.{Vec}
 use Rattle.std.proofs.lemmas.List.{map-append, reverse-append, reverse-reverse}
 use Rattle.std.proofs.lemmas.List.Elements.{All-nil, All-push, All-same}
+use Rattle.bits_ip.specs.Address.{family_of}
 use Rattle.bits_ip.specs.Prefix.{Net}
+use Rattle.bits_ip.specs.declared.address.Family.{Family}
 use Rattle.attrs.specs.declared.judge.Verdict.{Verdict}
 use Rattle.attrs.specs.declared.route.Change.{Change}
 use Rattle.attrs.specs.declared.route.Route.{Route}
@@ -15,7 +17,7 @@ use Rattle.export_core.specs.declared.log.LogItem.{LogItem}
 use Rattle.import_core.specs.declared.operation.Op.{Op}
 use Rattle.import_core.specs.declared.step.Done.{Done}
 use Rattle.core_machine.specs.Channels.{is_open}
-use Rattle.core_machine.specs.Histories.{AreFrom}
+use Rattle.core_machine.specs.Histories.{AreFrom, IsFrom}
 use Rattle.core_machine.specs.Legal.{Joined}
 use Rattle.core_machine.specs.Lines.{Act, Reply, Turn, ops_of, turn_of}
 use Rattle.core_machine.specs.Machine.{AllObey, Applies, State, appended, with_turn}
@@ -23,16 +25,20 @@ use Rattle.core_machine.specs.Machine.{set as at_set}
 use Rattle.core_machine.specs.Replies.{replies_to}
 use Rattle.core_machine.specs.Rules.{Effect, Fits, IsRules, Rules, Signal, Stay, is_up, signalled}
 use Rattle.core_machine.proofs.Growing.{set_here as at_here, set_there as at_there}
+use Rattle.core_setup.specs.Announced.{FitsProtocol, FitsTable}
 use Rattle.core_setup.specs.Pairs.{Pairs}
 use Rattle.core_setup.specs.Protocols.{effect_at, effect_in, protocol_at, rules_of, signal_of, table_at, table_in}
 use Rattle.core_setup.specs.Reports.{dones}
 use Rattle.core_setup.specs.Setup.{Body as SeenBody, FitsBody, IsPipe, IsSource, Protocol as SeenProtocol, Setup}
+use Rattle.core_setup.proofs.Admitted.{all_reverse, fitting}
 use Rattle.core_setup.proofs.Numbered.{beyond_none, protocol_is}
-use Rattle.core_setup.proofs.PairLemmas.{cases_same, get_one, get_within, one_here, pairs_length, set_here, weaker_here}
-use Rattle.run_tables.specs.Routes.{AreRoutes}
+use Rattle.core_setup.proofs.PairLemmas.{cases_same, get_here, get_one, get_within, one_here, pairs_length, set_here, weaker_here}
+use Rattle.run_tables.specs.Routes.{AdmitsAt, AreRoutes}
+use Rattle.run_tables.specs.Tables.{TellsSource}
 use Rattle.run_tables.specs.declared.routes.Routes.{Routes}
-use Rattle.run_tables.proofs.Routing.{are_same, tables_length}
-use Rattle.sys_run.specs.Cores.{AllFit, Does, ImportsTo, IsAnswered, IsCore, PlaysAs, counted, made_by, table_of}
+use Rattle.run_tables.proofs.Changing.{from_recursion}
+use Rattle.run_tables.proofs.Routing.{TableIs, are_same, tables_length}
+use Rattle.sys_run.specs.Cores.{AllFit, AreAdmitted, Does, ImportsTo, IsAnswered, IsCore, PlaysAs, counted, made_by, table_of}
 use Rattle.sys_run.specs.declared.player.Core.{Core}
 use Rattle.sys_run.specs.declared.protocol.Body.{Body}
 use Rattle.sys_run.specs.declared.protocol.Body.TheVariants.{Pipe, Source}
@@ -77,13 +83,14 @@ module _ {J : Type 0} (verdict : J → Net → Route → Verdict) (setup : Setup
 
   pub plays_more : (i : ℕ) (p : SeenProtocol) (base ops : List Turn) (held after : Protocol J) (turn : Turn) (over : Bool) → protocol_at setup i ≡ Some p
       → PlaysAs verdict setup i p base ops held → Does verdict p.body (turn.op ∷ ops_of ops) after.body → over ≡ (effect_in p.body (ops_of ops) turn.op).over
-      → after.from ≡ held.from → after.upto ≡ held.upto → after.done.items ≡ held.done.items ++ record { op = turn.op; over = over } ∷ []
+      → after.from ≡ held.from → after.upto ≡ held.upto → after.done.items ≡ held.done.items ++ record { op = turn.op; over = over } ∷ [] → FitsTable setup.tables p.body turn.op
       → PlaysAs verdict setup i p base (turn ∷ ops) after
-  plays_more i p base ops held after turn over ep is does o low high noted = record {
+  plays_more i p base ops held after turn over ep is does o low high noted fits = record {
     body = does;
     ordered = let w = is.ordered in omega (arith, w, low, high);
     within = let w = is.within in omega (arith, w, high);
     belong = is.belong ∙ ap (λ n. counted n (held.upto - n)) (sym low) ∙ ap (λ n. counted after.from (n - after.from)) (sym high);
+    fits = (fits, is.fits);
     new = turn ∷ is.new;
     since = ap (λ l. turn ∷ l) is.since;
     done = noted ∙ ap (λ (l : List Done). l ++ record { op = turn.op; over = over } ∷ []) is.done
@@ -111,6 +118,34 @@ module _ {J : Type 0} (verdict : J → Net → Route → Verdict) (setup : Setup
   imports_to i (IsSource p) ops (Pipe up) n len fits does = absurd does
   imports_to i (IsPipe p) ops (Source held) n len fits does = absurd does
   imports_to i (IsPipe p) ops (Pipe up) n len fits does = tt
+
+-- ---- the changes of an operation are of the protocol's table
+
+tells_from : (i num : ℕ) (o : Option Route) → num ≡ i → IfSome o (λ (route : Route). route.src.num ≡ i) → TellsSource num o
+tells_from i num None e is = tt
+tells_from i num (Some route) e is = is ∙ sym e
+
+module _ {J : Type 0} (verdict : J → Net → Route → Verdict) (setup : Setup) (s : State) (routes : Routes J) (are : AreRoutes verdict setup s routes) (i : ℕ) where
+  admits_one : (n : ℕ) (seen : List ℕ × Family) → slice_get setup.tables n ≡ Some seen → (c : Change) → (family_of c.net.addr ≡ seen.1) × IsFrom i c → AdmitsAt n routes c
+  admits_one n seen es c is table et =
+      let at = one_here (TableIs setup s) setup.tables routes.tables.items are.tables n table et in
+      record {
+        family_is = is.0 ∙ ap (λ (t : List ℕ × Family). t.1) (get_one setup.tables n seen at.0 es at.1) ∙ sym at.2.family_is;
+        source = tells_from i c.num c.new is.1.change is.1.route;
+      }
+
+  pub body_admitted : (p : SeenBody) (earlier : List Op) (op : Op) (body : Body J) (changes : List Change) → FitsBody setup.tables i p → Does verdict p (op ∷ earlier) body
+      → changes ≡ reverse (effect_in p earlier op).changes → AllByRecursion (FitsTable setup.tables p) (op ∷ earlier) → AreAdmitted body routes changes
+  body_admitted (IsSource p) earlier op (Source held) changes fits does e told =
+      let seen = get_here setup.tables p.table fits.table in
+      let all = fitting setup.tables i p seen.0.1 fits (ap (option_map (λ (t : List ℕ × Family). t.1)) seen.1) earlier op told in
+      let P : Change → Type 0 = λ c. (family_of c.net.addr ≡ seen.0.1) × IsFrom i c in
+      subst (λ n. All (AdmitsAt n routes) changes) (sym does.table)
+      (All-same (AdmitsAt p.table routes) changes (reverse (effect_in (IsSource p) earlier op).changes) e
+      (from_recursion P (AdmitsAt p.table routes) (admits_one p.table seen.0 seen.1) (reverse (effect_in (IsSource p) earlier op).changes) (all_reverse P (effect_in (IsSource p) earlier op).changes all)))
+  body_admitted (IsSource p) earlier op (Pipe up) changes fits does e told = absurd does
+  body_admitted (IsPipe p) earlier op (Source held) changes fits does e told = absurd does
+  body_admitted (IsPipe p) earlier op (Pipe up) changes fits does e told = All-nil (AdmitsAt 0 routes)
 
 module _ {J : Type 0} (verdict : J → Net → Route → Verdict) (setup : Setup) (past : Joined) where
   abbrev pub Plays : (ℕ → List Turn) → ℕ → SeenProtocol → Protocol J → Type 0
@@ -254,6 +289,15 @@ module _ {J : Type 0} (verdict : J → Net → Route → Verdict) (setup : Setup
         All-same (λ (c : Change). IsSome c.new → c.num < length core.routes.sources.items) changes (reverse (effect i op s).changes) back
         (sourced i (length core.routes.sources.items) below (effect i op s).changes all)
 
+    -- what it was told fits its table
+    pub fits_here : (is : IsTurned s i op held body turned) → FitsProtocol setup i op → FitsTable setup.tables is.p.body op
+    fits_here is fits = subst (λ o. IfSome o (λ (p : SeenProtocol). FitsTable setup.tables p.body op)) is.there fits
+
+    pub admitted_there : IsTurned s i op held body turned → FitsProtocol setup i op → (changes : List Change) → changes ≡ turned.changes → AreAdmitted body core.routes changes
+    admitted_there is fits changes e =
+        body_admitted verdict setup s core.routes are.routes i is.p.body (ops_of (s.ops i)) op body changes (protocol_is setup i is.p are.routes.setup_is is.there) is.turns.0
+        (sym (reverse-reverse changes) ∙ ap reverse (ap reverse e ∙ is.turns.1)) (fits_here is fits, is.plays.fits)
+
     pub imports_there : IsTurned s i op held body turned → ImportsTo (length core.routes.tables.items) body
     imports_there is =
         imports_to verdict setup i is.p.body (op ∷ ops_of (s.ops i)) body (length core.routes.tables.items) (tables_length verdict setup s core.routes are.routes)
@@ -292,9 +336,9 @@ module _ {J : Type 0} (verdict : J → Net → Route → Verdict) (setup : Setup
         → a.protocol ≡ i → a.op ≡ op → slice_get core.protocols.items i ≡ Some held
         → AllObey (signal_of turned.mark) (rules_of setup) (counted held.from (held.upto - held.from)) (with_turn i (turn_of a) (changed i op s)) t
         → AreRoutes verdict setup t routes → protocols.items ≡ set (set core.protocols.items i mid) i after → after.body ≡ body
-        → after.from ≡ held.from → after.upto ≡ held.upto → after.done.items ≡ held.done.items ++ record { op = op; over = turned.over } ∷ []
+        → after.from ≡ held.from → after.upto ≡ held.upto → after.done.items ≡ held.done.items ++ record { op = op; over = turned.over } ∷ [] → FitsProtocol setup i op
         → (t : State) × Applies (rules_of setup) a s t × IsCore verdict setup past t (record core { routes = routes; protocols = protocols })
-    operation_done is a t routes protocols mid after ei eo eh all now items body_is low high kept = (
+    operation_done is a t routes protocols mid after ei eo eh all now items body_is low high kept fits = (
       t,
       applied is a t ei eo all,
       acted s t core a routes protocols are (applied is a t ei eo all) now
@@ -310,3 +354,4 @@ module _ {J : Type 0} (verdict : J → Net → Route → Verdict) (setup : Setup
           (subst (λ o. Does verdict is.p.body (o ∷ ops_of (s.ops i)) after.body) (sym eo) (subst (λ x. Does verdict is.p.body (op ∷ ops_of (s.ops i)) x) (sym body_is) is.turns.0))
           (subst (λ o. turned.over ≡ (effect_in is.p.body (ops_of (s.ops i)) o).over) (sym eo) is.turns.3) low high
           (kept ∙ ap (λ o. held.done.items ++ record { op = o; over = turned.over } ∷ []) (sym eo))
+          (subst (FitsTable setup.tables is.p.body) (sym eo) (fits_here is fits))

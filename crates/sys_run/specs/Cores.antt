@@ -1,6 +1,7 @@
 -- For private contracts, and for what `HasPlayed` keeps of a core from phase to phase; nothing
 -- promised rests on it: a core in the midst of a phase, and the machine's state.
 use Rattle.std.specs.Prelude.{◌≡◌, ◌+◌, ◌-◌, ◌≤◌, ◌++◌, ◌<◌, ℕ, zero, suc, Bool, true, false, List, [], ◌∷◌, length, map, reverse, Option, Some, option_and_then, option_map, slice_get, ⊤}
+use Rattle.std.specs.List.{All, AllByRecursion}
 use Rattle.std.specs.declared.alloc.Global.{Global}
 use Rattle.std.specs.declared.vec.Vec.{Vec}
 use Rattle.bits_ip.specs.Prefix.{Net}
@@ -16,6 +17,7 @@ use Rattle.core_machine.specs.Machine.{State}
 use Rattle.core_machine.specs.Replies.{replies_to}
 use Rattle.core_machine.specs.Rounds.{HasRounds}
 use Rattle.core_machine.specs.Rules.{Fits, Signal, is_up}
+use Rattle.core_setup.specs.Announced.{FitsTable}
 use Rattle.core_setup.specs.Channels as setups
 use Rattle.core_setup.specs.Pairs.{Pairs}
 use Rattle.core_setup.specs.Protocols.{imports_after, pipe_is_up, rules_of, signal_of}
@@ -29,7 +31,7 @@ use Rattle.import_core.specs.declared.step.Mark.{Mark}
 use Rattle.show_route.specs.Shown.{IsReply}
 use Rattle.show_route.specs.declared.query.Query.{Query}
 use Rattle.export_core.specs.declared.passing.Through.{Through}
-use Rattle.run_tables.specs.Routes.{AreRoutes}
+use Rattle.run_tables.specs.Routes.{AdmitsAt, AreRoutes}
 use Rattle.run_tables.specs.declared.channel.Channel.{Channel}
 use Rattle.run_tables.specs.declared.routes.Routes.{Routes}
 use Rattle.sys_run.specs.declared.parts.TableParts.{TableParts}
@@ -84,6 +86,8 @@ module _ {J : Type 0} (verdict : J → Net → Route → Verdict) where
     pub ordered : held.from ≤ held.upto
     pub within : held.upto ≤ length (setups.channels setup)
     pub belong : (rules_of setup).belong i ≡ counted held.from (held.upto - held.from)
+    -- it was told nothing of another family than its table's
+    pub fits : AllByRecursion (FitsTable setup.tables p.body) (ops_of ops)
     pub new : List Turn
     pub since : ops ≡ new ++ base
     pub done :
@@ -122,6 +126,11 @@ module _ {J : Type 0} (verdict : J → Net → Route → Verdict) where
   abbrev pub Holds : Core J → Type 0
   Holds core = (setup : Setup) × (past : Joined) × (s : State) × IsCore setup past s core
 
+  -- and this fits what is played
+  abbrev pub HoldsWith : (Setup → Type 0) → Core J → Type 0
+  HoldsWith Fits core =
+      (setup : Setup) × (past : Joined) × (s : State) × IsCore setup past s core × Fits setup
+
   -- and a sync has few rounds
   abbrev pub Ends : Core J → Type 0
   Ends core =
@@ -147,6 +156,11 @@ module _ {J : Type 0} where
   abbrev pub made_by : Body J → List Change → List Change
   made_by (Source held) changes = changes
   made_by (Pipe up) changes = []
+
+  -- its changes are such as that table admits
+  abbrev pub AreAdmitted : Body J → Routes J → List Change → Type 0
+  AreAdmitted held routes changes =
+      All (AdmitsAt (table_of held) routes) (made_by held changes)
 
   -- that table is there
   abbrev pub ImportsTo : ℕ → Body J → Type 0

@@ -18,7 +18,7 @@ use Rattle.core_setup.specs.Setup.{Setup}
 use Rattle.report.specs.declared.phase.PhaseReport.{PhaseReport}
 use Rattle.script_lines.specs.declared.script.Line.{Line as ScriptLine}
 use Rattle.sys_run.specs.Cores.{IsCore}
-use Rattle.sys_run.specs.Scripts.{AsksWhatIs}
+use Rattle.sys_run.specs.Scripts.{AsksWhatIs, FitsLine}
 use Rattle.sys_run.specs.declared.player.Core.{Core}
 
 -- the phases of scripts from a state on, behind what was printed before; what is printed of them,
@@ -73,8 +73,8 @@ module _ {J : Type 0} (verdict : J → Net → Route → Verdict) where
     pub are : AreReports setup actors 1 nothing printed reports
     pub rests : Rests setup (length scripts) (joined_all nothing printed) state core
 
-  -- The core has played something, as each one that was made has, and these lines ask what is among
-  -- its queries.
+  -- The core has played something, as each one that was made has, these lines ask what is among its
+  -- queries, and announce what is of its tables' families.
   pub record IsPlaying (lines : List ScriptLine) (core : Core J) : Type 0 where
     pub setup : Setup
     pub actors : List (List ℕ)
@@ -84,3 +84,4 @@ module _ {J : Type 0} (verdict : J → Net → Route → Verdict) where
     -- its phases have numbers
     pub few : length scripts + 1 < 2 ^ 64
     pub asked : All (AsksWhatIs (length setup.queries)) lines
+    pub fits : All (FitsLine setup) lines

@@ -1,10 +1,13 @@
 -- Scripts as the machine reads them (`line_of`, `phase_of`): lines with the numbers of actors,
--- protocols, channels and queries, backwards. A `show route` asks for the table of its query.
+-- protocols, channels and queries, backwards. A `show route` asks for the table of its query. And
+-- which lines can be played (`AsksWhatIs`, `FitsLine`).
 -- Not modelled: texts and names (specs/Script of script_lines).
 -- From: own.
 -- Example: `!take p2 1`, where p1 is static and has no channel, is of channel 0.
 use Rattle.std.specs.Prelude.{◌<◌, ℕ, List, map, reverse, Option, Some, None, slice_get, ⊤}
 use Rattle.core_machine.specs.Lines as machine
+use Rattle.core_setup.specs.Announced.{FitsProtocol}
+use Rattle.core_setup.specs.Setup.{Setup}
 use Rattle.script_lines.specs.declared.script.Line.{Line}
 use Rattle.script_lines.specs.declared.script.Line.TheVariants as lines
 use Rattle.show_route.specs.declared.query.Query.{Query}
@@ -37,3 +40,10 @@ AsksWhatIs queries (lines.Take channel count) = ⊤
 AsksWhatIs queries (lines.Push channel count) = ⊤
 AsksWhatIs queries (lines.Apply actor line protocol op) = ⊤
 AsksWhatIs queries (lines.Show actor query) = query < queries
+
+-- what the line announces to a protocol is of the family of the protocol's table
+abbrev pub FitsLine : Setup → Line → Type 0
+FitsLine setup (lines.Take channel count) = ⊤
+FitsLine setup (lines.Push channel count) = ⊤
+FitsLine setup (lines.Apply actor line protocol op) = FitsProtocol setup protocol op
+FitsLine setup (lines.Show actor query) = ⊤

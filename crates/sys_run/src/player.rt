@@ -9,14 +9,15 @@ ghost use Rattle.core_machine.specs.Legal.{Joined};
 ghost use Rattle.core_machine.specs.Lines.{Act, Line as MachineLine, Reply};
 ghost use Rattle.core_machine.specs.Machine.{AllObey, Applies, Begins, Plays, State, Steps, appended};
 ghost use Rattle.core_machine.specs.Rounds.{HasRounds, round};
+ghost use Rattle.core_setup.specs.Announced.{FitsProtocol};
 ghost use Rattle.core_setup.specs.Protocols.{rules_of, signal_of, starts, with_begin};
 ghost use Rattle.core_setup.specs.Setup.{IsSetup, Protocol as SeenProtocol, Setup};
 ghost use Rattle.report.specs.declared.phase.PhaseReport.{PhaseReport as Report};
-ghost use Rattle.sys_run.specs.Cores.{AllFit, Ends, Holds, ImportsTo, IsAnswered, IsCore, Keeps, MayObey, choice_in, counted, export_in, made_by, table_of, through_of};
+ghost use Rattle.sys_run.specs.Cores.{AllFit, AreAdmitted, Ends, Holds, HoldsWith, ImportsTo, IsAnswered, IsCore, Keeps, MayObey, choice_in, counted, export_in, made_by, table_of, through_of};
 ghost use Rattle.run_tables.specs.Routes.{AreRoutes, Holds as RoutesHold};
 ghost use Rattle.sys_run.specs.Parts.{setup_seen};
 ghost use Rattle.sys_run.specs.Playing.{HasPlayed, IsPlaying, starts_in};
-ghost use Rattle.sys_run.specs.Scripts.{AsksWhatIs, asked_table, line_of, phase_of};
+ghost use Rattle.sys_run.specs.Scripts.{AsksWhatIs, FitsLine, asked_table, line_of, phase_of};
 ghost use Rattle.sys_run.specs.declared.player.Answered.{Answered as HeldAnswer};
 ghost use Rattle.sys_run.specs.declared.protocol.Protocol.{Protocol as HeldProtocol};
 
@@ -117,7 +118,8 @@ impl<J: Judge + Drop> Core<J> {
 impl<J: Judge> Core<J> {
     /// Plays one more phase: these lines in their order, in the first phase behind the start of
     /// each static protocol, and then a sync. `actors` are the names of all who speak in the
-    /// script. What the lines ask is among the core's queries.
+    /// script. What the lines ask is among the core's queries, and what they announce is of the
+    /// family of the protocol's table.
     ///
     /// `OutOfMemory` comes where memory is refused. The core is of no use then.
     pub fn play(&mut self, actors: &[Name], lines: Vec<Line>) -> Result<PhaseReport, OutOfMemory>
@@ -188,7 +190,8 @@ impl<J: Judge> Core<J> {
 
     /// Does the lines in their order.
     fn run(&mut self, lines: Vec<Line>) -> Result<(), OutOfMemory>
-        requires holds { Holds J.verdict self.old }
+        requires holds { HoldsWith J.verdict (λ setup. All (FitsLine setup) lines.items)
+            self.old }
         requires asked { All (AsksWhatIs (length self.old.queries.items)) lines.items }
         ensures core { OnOk result ((setup : Setup) (past : Joined) (s : State)
             → IsCore J.verdict setup past s self.old
@@ -203,7 +206,7 @@ impl<J: Judge> Core<J> {
     }
 
     fn step(&mut self, line: Line) -> Result<(), OutOfMemory>
-        requires holds { Holds J.verdict self.old }
+        requires holds { HoldsWith J.verdict (λ setup. FitsLine setup line) self.old }
         requires asked { AsksWhatIs (length self.old.queries.items) line }
         ensures core { OnOk result ((setup : Setup) (past : Joined) (s : State)
             → IsCore J.verdict setup past s self.old
@@ -222,7 +225,7 @@ impl<J: Judge> Core<J> {
     /// Does an operation: its changes come to the protocol's table, and then its channels obey.
     /// Without such a protocol it does nothing.
     fn apply(&mut self, number: usize, op: Op) -> Result<(), OutOfMemory>
-        requires { Holds J.verdict self.old }
+        requires { HoldsWith J.verdict (λ setup. FitsProtocol setup number op) self.old }
         ensures core { OnOk result ((setup : Setup) (past : Joined) (s : State) (a : Act)
             → IsCore J.verdict setup past s self.old → a.protocol ≡ number → a.op ≡ op
             → (t : State) × Applies (rules_of setup) a s t
@@ -252,6 +255,9 @@ impl<J: Judge> Core<J> {
         requires table { (held : HeldProtocol J)
             → slice_get self.old.protocols.items number ≡ Some held
             → ImportsTo (length self.old.routes.tables.items) held.body }
+        requires admitted { (held : HeldProtocol J)
+            → slice_get self.old.protocols.items number ≡ Some held
+            → AreAdmitted held.body self.old.routes changes.items }
         ensures routes { OnOk result ((setup : Setup) (s : State) (held : HeldProtocol J)
             → AreRoutes J.verdict setup s self.old.routes
             → slice_get self.old.protocols.items number ≡ Some held

@@ -48,6 +48,12 @@ returns-clause-asked g c =
     (c.accepted_scripts_name_what_is.ensures.lines (system_of c.in_ok-system.system) c.in_ok-script.ensures.answers.0 (phases_read c.in_ok-script.script) c.in_ok-script.script.actors.items
     c.in_ok-script.script.queries.items (map (filter_says c.in_ok-system.system) c.in_ok-script.script.filters.items) c.in_ok-script.ensures.answers.1)
 
+pub returns-clause-fits : goal.returns-clause-fits
+returns-clause-fits g c = λ cells.
+    c.accepted_scripts_fit_their_tables.ensures c.in_ok-system.ensures.configured.0 c.in_ok-script.ensures.answers.0 (system_of c.in_ok-system.system) (phases_read c.in_ok-script.script)
+    c.in_ok-script.script.actors.items c.in_ok-script.script.queries.items (map (filter_says c.in_ok-system.system) c.in_ok-script.script.filters.items) cells
+    c.in_ok-system.ensures.configured.1.1 c.in_ok-script.ensures.answers.1
+
 pub returns-in_err-script-clause-absent : goal.returns-in_err-script-clause-absent
 returns-in_err-script-clause-absent g c =
     lacked_script c.args.conf.now c.args.script.now (g.F.Shelf.held c.args.shelf.now) (g.F.Shelf.lacks c.args.shelf.now) c.from_residual-in_err-script.result c.in_err-script.field-0.0

@@ -14,7 +14,7 @@ build-requires-clause-before g c = rw c.as_slice.ensures.value c.requires.before
 
 pub write_phases-requires : goal.write_phases-requires
 unfolding setup_of
-write_phases-requires g c = (setup_read c.args.system.now c.args.script c.args.cells, (rw c.as_slice.ensures.value at c.in-Ok.ensures) c.deref.result.now, c.requires.asked)
+write_phases-requires g c = (setup_read c.args.system.now c.args.script c.args.cells, (rw c.as_slice.ensures.value at c.in-Ok.ensures) c.deref.result.now, c.requires.asked, c.requires.fits)
 
 pub returns-in-Ok-write_phases-clause-report : goal.returns-in-Ok-write_phases-clause-report
 returns-in-Ok-write_phases-clause-report g c = λ is.

@@ -4,7 +4,7 @@ use Rattle.std.proofs.lemmas.List.{map-append}
 use Rattle.std.specs.Global.{Global}
 use Rattle.script_lines.specs.declared.script.Line.{Line}
 use Rattle.std.specs.List.{All}
-use Rattle.sys_run.specs.Scripts.{AsksWhatIs, phase_of}
+use Rattle.sys_run.specs.Scripts.{AsksWhatIs, FitsLine, phase_of}
 use Rattle.birdcore_top.specs.Written.{HasWritten}
 use Rattle.birdcore_top.specs.declared.status.Status.{Status}
 use Rattle.birdcore_top.proofs.Joined.{err_is, rose_since}
@@ -22,6 +22,8 @@ play-requires g c =
       played = done.played;
       asked = asked_next (All (AsksWhatIs (length c.requires.0.queries))) (λ (phase : Vec Line Global). phase.items) c.loop-lines.yielded c.in-Some.lines c.next.new.self.rest.items c.args.phases.items
           (ap (λ (l : List (Vec Line Global)). c.loop-lines.yielded ++ l) (sym c.in-Some.ensures.steps.0) ∙ c.loop-lines.invariant.whole) c.requires.2;
+      fits = asked_next (All (FitsLine c.requires.0)) (λ (phase : Vec Line Global). phase.items) c.loop-lines.yielded c.in-Some.lines c.next.new.self.rest.items c.args.phases.items
+          (ap (λ (l : List (Vec Line Global)). c.loop-lines.yielded ++ l) (sym c.in-Some.ensures.steps.0) ∙ c.loop-lines.invariant.whole) c.requires.3;
       few = few_so_far (phase_of c.requires.0.queries) (λ (phase : Vec Line Global). phase.items) c.loop-lines.yielded c.loop-lines.lines-iterator.rest.items c.args.phases.items c.loop-lines.invariant.whole
           (omega (arith, c.args.phases.ok.0, c.args.phases.ok.1, c.args.phases.small));
     }

@@ -9,4 +9,4 @@ pub returns : goal.returns
 returns c =
     let seen : Seen = record { alloc = c.args.alloc; constants = c.first.result; functions = length c.first-functions.result.now } in
     let draft : Draft = record { functions = length c.first-functions.result.now; code = c.in_ok-code.code } in
-    cm.code_says seen c.args.constants.now c.args.routines.now c.args.filter.now draft c.deref.result.now c.deref-2.result.now c.first.ensures refl (ap (λ (rs : List Routine). length rs) c.first-functions.ensures) c.deref.ensures.value c.deref-2.ensures.value c.in_ok-code.ensures
+    cm.code_flows seen c.args.constants.now c.args.routines.now c.args.filter.now draft c.deref.result.now c.deref-2.result.now c.first.ensures refl (ap (λ (rs : List Routine). length rs) c.first-functions.ensures) c.deref.ensures.value c.deref-2.ensures.value c.in_ok-code.ensures

@@ -13,4 +13,4 @@ returns-in-Ok-clause-pushes g c rules d family history ch m =
 
 pub returns-in-Ok-clause-tells : goal.returns-in-Ok-clause-tells
 returns-in-Ok-clause-tells g c = λ rules d family history ch table is m.
-    push_tells g.J.Judge.verdict rules d history family table is _ ch m.exporter c.in-Ok.pushed None None _ c.in-Ok.ensures.pushes
+    push_tells g.J.Judge.verdict rules d history family table is _ ch m.exporter c.in-Ok.ensures.families c.in-Ok.pushed None None _ c.in-Ok.ensures.pushes

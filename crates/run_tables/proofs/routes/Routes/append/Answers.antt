@@ -3,7 +3,7 @@ use Rattle.std.proofs.lemmas.Result.{on_ok_weaker}
 use Rattle.core_setup.specs.Protocols.{rules_of}
 use Rattle.core_setup.proofs.PairLemmas.{one_here}
 use Rattle.run_tables.specs.Routes.{with_room}
-use Rattle.run_tables.proofs.Routing.{TableIs, item_read, table_changed, tables_length}
+use Rattle.run_tables.proofs.Routing.{TableIs, admits_still, item_read, table_changed, tables_length}
 use Rattle.run_tables.proofs.routes.Routes.append.Goals as goal
 
 pub index_mut-requires : goal.index_mut-requires
@@ -15,8 +15,8 @@ index_mut-requires g c =
     let after = tables_length v h.0 (with_room (rules_of h.0) c.args.table h.1) c.make_room.new.self (c.in_ok-make_room.ensures h.0 h.1 h.2) in
     omega (arith, there, before, after, c.make_room.new.self.tables.ok.0)
 
-pub append-requires : goal.append-requires
-append-requires g c =
+pub append-requires-clause-family : goal.append-requires-clause-family
+append-requires-clause-family g c =
     let v = g.J.Judge.verdict in
     let h = c.requires.holds in
     let there = c.requires.there in
@@ -27,6 +27,18 @@ append-requires g c =
     (omega (arith, there, tables_length v h.0 h.1 c.args.self.now h.2, tables_length v h.0 s r are)) c.index_mut.ensures.value in
     let is = one_here (TableIs h.0 s) h.0.tables r.tables.items are.tables c.args.table c.index_mut.result.now e in
     is.2.family_is ∙ sym is.2.rib_family
+
+pub append-requires-clause-admitted : goal.append-requires-clause-admitted
+append-requires-clause-admitted g c =
+    let v = g.J.Judge.verdict in
+    let h = c.requires.holds in
+    let there = c.requires.there in
+    let r = c.make_room.new.self in
+    let s = with_room (rules_of h.0) c.args.table h.1 in
+    let are = c.in_ok-make_room.ensures h.0 h.1 h.2 in
+    let e = item_read r.tables.items c.args.table c.index_mut.result.now
+    (omega (arith, there, tables_length v h.0 h.1 c.args.self.now h.2, tables_length v h.0 s r are)) c.index_mut.ensures.value in
+    admits_still v h.0 h.1 s c.args.self.now r h.2 are c.args.table there c.args.change c.requires.admitted c.index_mut.result.now e
 
 pub returns : goal.returns
 returns g c = on_ok_weaker c.append.result (λ appended setup s are.

@@ -1,11 +1,12 @@
-use Rattle.std.proofs.Common.{◌≡◌, List, [], ◌∷◌, ◌++◌, length, reverse, sym, ap, subst, ◌∙◌, append_assoc, arith, rules}
+use Rattle.std.proofs.Common.{◌≡◌, List, [], ◌∷◌, ◌++◌, length, reverse, sym, ap, subst, ◌∙◌, ◌<◌, append_assoc, arith, rules}
+use Rattle.std.specs.Prelude.{IsSome}
 use Rattle.std.proofs.lemmas.List.{append-nil, nil_from_length, reverse-append}
 use Rattle.attrs.specs.declared.route.Change.{Change}
 use Rattle.core_machine.specs.Machine.{appended}
 use Rattle.core_setup.specs.Protocols.{rules_of}
-use Rattle.run_tables.specs.Routes.{AreRoutes}
-use Rattle.run_tables.proofs.Routing.{tables_length}
-use Rattle.run_tables.proofs.Changing.{source_at}
+use Rattle.run_tables.specs.Routes.{AdmitsAt, AreRoutes}
+use Rattle.run_tables.proofs.Routing.{admits_still, tables_length}
+use Rattle.run_tables.proofs.Changing.{one_of}
 use Rattle.run_tables.proofs.routes.Routes.append_all.Goals as goal
 
 pub append-requires-clause-holds : goal.append-requires-clause-holds
@@ -34,8 +35,17 @@ append-requires-clause-source g c =
     let whole : c.loop-change.yielded ++ c.in-Some.change ∷ c.next.new.self.rest.items ≡ c.args.changes.items =
     ap (λ (l : List Change). c.loop-change.yielded ++ l) (sym c.in-Some.ensures.steps.0) ∙ c.loop-change.invariant.0 in
     λ some.
-    let w = source_at (length old.sources.items) c.args.changes.items c.loop-change.yielded c.next.new.self.rest.items c.in-Some.change c.requires.sources whole some in
+    let w = one_of (λ (c : Change). IsSome c.new → c.num < length old.sources.items) c.args.changes.items c.loop-change.yielded c.next.new.self.rest.items c.in-Some.change c.requires.sources whole some in
     omega (arith, w, h.2.sources.count, now.sources.count)
+
+pub append-requires-clause-admitted : goal.append-requires-clause-admitted
+append-requires-clause-admitted g c =
+    let h = c.requires.holds in
+    let n = c.args.table in
+    let whole : c.loop-change.yielded ++ c.in-Some.change ∷ c.next.new.self.rest.items ≡ c.args.changes.items =
+    ap (λ (l : List Change). c.loop-change.yielded ++ l) (sym c.in-Some.ensures.steps.0) ∙ c.loop-change.invariant.0 in
+    admits_still g.J.Judge.verdict h.0 h.1 (appended (rules_of h.0) n (reverse c.loop-change.yielded) h.1) c.args.self.now c.loop-change.self h.2 (c.loop-change.invariant.1 h.0 h.1 h.2) n c.requires.there c.in-Some.change
+    (one_of (AdmitsAt n c.args.self.now) c.args.changes.items c.loop-change.yielded c.next.new.self.rest.items c.in-Some.change c.requires.admitted whole)
 
 pub loop-change-preserved : goal.loop-change-preserved
 loop-change-preserved g c =

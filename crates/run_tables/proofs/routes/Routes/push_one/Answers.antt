@@ -20,7 +20,7 @@ enter-requires-clause-holds g c =
     let held = c.index_mut.result.now in
     let e = c.index_mut.ensures.value in
     let x = sent_is v h.0 h.1 r c.args.number h.2 c.requires.there held c.push.new.self e c.in_ok-pushed.ensures.pushes c.in_ok-pushed.pushed c.in_ok-pushed.ensures.tells c.in-Sent.is in
-    (h.0, _, push_leaves v h.0 h.1 r c.args.number h.2 c.requires.there held c.push.new.self e c.in_ok-pushed.ensures.pushes _ (record { cells = refl; readers = refl; sources = refl }) refl refl, x.x, reverse held.exporter.log, x.log, x.of_protocol)
+    (h.0, _, push_leaves v h.0 h.1 r c.args.number h.2 c.requires.there held c.push.new.self e c.in_ok-pushed.ensures.pushes _ (record { cells = refl; readers = refl; sources = refl }) refl refl, x.x, reverse held.exporter.log, x.log, x.of_protocol, x.of_family)
 
 pub returns-in_ok-enter-in-Sent-clause-pushes : goal.returns-in_ok-enter-in-Sent-clause-pushes
 returns-in_ok-enter-in-Sent-clause-pushes g c = λ setup s are.

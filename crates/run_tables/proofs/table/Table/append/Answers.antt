@@ -11,7 +11,7 @@ returns c rules family history ok low is =
     let made = c.in_ok-reserve.ensures.made in
     let same : c.in_ok-copy.copy ≡ c.args.change.new = c.in_ok-copy.ensures ∙ c.as_ref.ensures.value in
     append_is rules family history c.args.change _ c.args.self.now _ ok low is
-    (c.admits.ensures.0 c.if-not-admits.false) refl (c.change.ensures.family ∙ ap (λ (r : rib.Table). r.family) made)
+    c.requires.admitted refl (c.change.ensures.family ∙ ap (λ (r : rib.Table). r.family) made)
     (λ net num. c.change.ensures.routes net num
     ∙ ap (λ (r : rib.Table). after (route_in r.rows) (record { net = c.args.change.net; num = c.args.change.num; new = c.in_ok-copy.copy } ∷ []) net num) made
     ∙ ap (λ (new : Option Route). after (route_in c.args.self.now.rib.rows) (record { net = c.args.change.net; num = c.args.change.num; new = new } ∷ []) net num) same)

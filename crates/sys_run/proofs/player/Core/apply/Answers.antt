@@ -5,10 +5,11 @@ use Rattle.core_machine.specs.Lines.{Turn, turn_of}
 use Rattle.core_machine.specs.Machine.{with_turn}
 use Rattle.core_setup.proofs.PairLemmas.{get-set, get_one, length-set_at}
 use Rattle.run_tables.proofs.Routing.{item_read}
-use Rattle.sys_run.specs.Cores.{ImportsTo, IsCore}
+use Rattle.sys_run.specs.Cores.{AreAdmitted, ImportsTo, IsCore}
 use Rattle.sys_run.specs.declared.player.Core.{Core}
 use Rattle.sys_run.specs.declared.protocol.Protocol.{Protocol}
-use Rattle.sys_run.proofs.OperatingCore.{changed, changed_is, imports_there, noted, operation_done, signal_fits, sources_are, turned_of, unacted}
+use Rattle.sys_run.proofs.OperatingCore.{admitted_there, changed, changed_is, imports_there, noted, operation_done, signal_fits, sources_are, turned_of, unacted}
+use Rattle.sys_run.proofs.Fitting.{fits_same}
 use Rattle.sys_run.proofs.player.Core.apply.Goals as goal
 
 pub index_mut-requires : goal.index_mut-requires
@@ -50,6 +51,21 @@ change-requires-clause-table g c = λ given e.
     let same : mid ≡ given = get_one (set core.protocols.items i mid) i mid given (get-set core.protocols.items i mid w) e in
     subst (λ (p : Protocol g.row.J.Denot). ImportsTo (length core.routes.tables.items) p.body) same
     (imports_there v h.0 h.1 h.2 core h.3 i c.args.op held c.turn.new.self c.in_ok-changes.field-0 is)
+
+pub change-requires-clause-admitted : goal.change-requires-clause-admitted
+change-requires-clause-admitted g c = λ given e.
+    let v = g.J.Judge.verdict in
+    let h = c.requires in
+    let core = c.args.self.now in
+    let i = c.args.number in
+    let held = c.index_mut.result.now in
+    let mid : Protocol g.row.J.Denot = record held { body = c.turn.new.self } in
+    let w : i < length core.protocols.items = omega (arith, c.len.ensures, c.if-number-len.false, core.protocols.ok.0) in
+    let eh = item_read core.protocols.items i held w c.index_mut.ensures.value in
+    let is = turned_of v h.0 h.1 h.2 core h.3 i c.args.op held c.turn.new.self c.in_ok-changes.field-0 eh c.in_ok-changes.ensures in
+    let same : mid ≡ given = get_one (set core.protocols.items i mid) i mid given (get-set core.protocols.items i mid w) e in
+    subst (λ (p : Protocol g.row.J.Denot). AreAdmitted p.body core.routes c.into_vec.result.items) same
+    (admitted_there v h.0 h.1 h.2 core h.3 i c.args.op held c.turn.new.self c.in_ok-changes.field-0 is h.4 c.into_vec.result.items c.into_vec.ensures)
 
 pub obey-requires-clause-there : goal.obey-requires-clause-there
 obey-requires-clause-there g c =
@@ -129,7 +145,8 @@ returns-clause-core g c = λ setup past s a are ei eo.
     let done =
     operation_done v setup past s core are i op held c.turn.new.self turned is a got.0 c.obey.new.self.routes protocols mid after ei eo eh got.1 got.2 (ap (λ (xs : List (Protocol g.row.J.Denot)). set xs i after) items)
     (ap (λ (p : Protocol g.row.J.Denot). p.body) same) (ap (λ (p : Protocol g.row.J.Denot). p.from) same) (ap (λ (p : Protocol g.row.J.Denot). p.upto) same)
-    (c.in_ok-push.ensures.items ∙ ap (λ (p : Protocol g.row.J.Denot). p.done.items ++ record { op = op; over = turned.over } ∷ []) same) in
+    (c.in_ok-push.ensures.items ∙ ap (λ (p : Protocol g.row.J.Denot). p.done.items ++ record { op = op; over = turned.over } ∷ []) same)
+    (fits_same v c.requires.0 setup c.requires.1 past c.requires.2 s core c.requires.3 are i op c.requires.4) in
     (done.0, done.1, subst (IsCore v setup past done.0) (sym (ap (λ (core : Core g.row.J.Denot). record core { protocols = protocols }) whole)) done.2)
 
 pub returns-clause-kept : goal.returns-clause-kept

@@ -30,7 +30,7 @@ run-requires-clause-holds g c =
     let was = past v r.setup r.actors r.scripts r.reports old r.played in
     let s = silent r.played.state in
     let begun = c.in_ok-begin.ensures.core r.setup was s (unreplied v r.setup was r.played.state old c.in_ok-self.field-0 c.in_ok-self.ensures.1 r.played.rests.core_is) in
-    (r.setup, was, begun.0, begun.2)
+    (r.setup, was, begun.0, begun.2, r.fits)
 
 pub run-requires-clause-asked : goal.run-requires-clause-asked
 run-requires-clause-asked g c =

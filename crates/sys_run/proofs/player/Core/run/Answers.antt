@@ -7,7 +7,7 @@ use Rattle.core_machine.specs.Machine.{Plays}
 use Rattle.core_setup.specs.Protocols.{rules_of}
 use Rattle.script_lines.specs.declared.script.Line.{Line}
 use Rattle.show_route.specs.declared.query.Query.{Query}
-use Rattle.sys_run.specs.Scripts.{AsksWhatIs, phase_of}
+use Rattle.sys_run.specs.Scripts.{AsksWhatIs, FitsLine, phase_of}
 use Rattle.sys_run.proofs.PlayingLines.{line_among, plays_line}
 use Rattle.sys_run.proofs.player.Core.run.Goals as goal
 
@@ -15,7 +15,9 @@ pub step-requires-clause-holds : goal.step-requires-clause-holds
 step-requires-clause-holds g c =
     let h = c.requires.holds in
     let now = c.loop-line.invariant.2 h.0 h.1 h.2 h.3 in
-    (h.0, h.1, now.0, now.2)
+    let lines : c.loop-line.yielded ++ c.in-Some.line ∷ c.next.new.self.rest.items ≡ c.args.lines.items =
+    ap (λ (l : List Line). c.loop-line.yielded ++ l) (sym c.in-Some.ensures.steps.0) ∙ c.loop-line.invariant.1 in
+    (h.0, h.1, now.0, now.2, line_among (FitsLine h.0) c.loop-line.yielded c.in-Some.line c.next.new.self.rest.items (subst (All (FitsLine h.0)) (sym lines) h.4))
 
 pub step-requires-clause-asked : goal.step-requires-clause-asked
 step-requires-clause-asked g c =

@@ -2,8 +2,12 @@ use Rattle.std.proofs.Common.{refl, sym, ◌∙◌}
 use Rattle.core_machine.specs.Lines.{Act}
 use Rattle.import_core.specs.declared.operation.Op.TheVariants.{Start}
 use Rattle.run_tables.proofs.Routing.{item_read}
+use Rattle.sys_run.proofs.Fitting.{start_fits}
 use Rattle.sys_run.proofs.Starting.{starts_one, waits_one}
 use Rattle.sys_run.proofs.player.Core.start_one.Goals as goal
+
+pub apply-requires : goal.apply-requires
+apply-requires g c = let h = c.requires.holds in (h.0, h.1, h.2, h.3, start_fits h.0 c.args.number)
 
 pub returns-in_ok-apply-clause-core : goal.returns-in_ok-apply-clause-core
 returns-in_ok-apply-clause-core g c = λ setup past s p are e.
