@@ -7,6 +7,7 @@
 #![tactic(auto)]
 
 mod configurations;
+mod deciding;
 mod faults;
 mod filters;
 mod policies;

@@ -42,7 +42,8 @@ fn judged(alloc: Global, system: &System, code: &Code, policy: &PolicyDef) -> io
     }
 }
 
-fn first(system: &System) -> Option<&ProtocolDef>
+/// The first protocol.
+pub fn first(system: &System) -> Option<&ProtocolDef>
     requires { AreOrdered system.now }
     ensures { IfSome result (λ def. ProtocolBefore system.now def.now) }
 {

@@ -4,18 +4,16 @@
 //! over 256 routes, of 10.0.0.0/24 to 10.0.255.0/24, alike but for the net, the MED, the last
 //! number of the path and the community, which count them.
 ghost use Rattle.std.specs.Prelude.{◌<◌, ◌^◌, ◌-◌, length};
+ghost use Rattle.system.specs.Coded.{HasCode};
+ghost use Rattle.system.specs.Seen.{system_of};
 
 use crate::faults::{bad, no_memory};
-use crate::filters::see;
 use crate::routes::read_route;
-use attrs::{Names, Route, Verdict};
+use attrs::{Judge, Route, Verdict};
 use bits_ip::{Prefix, parse_decimal};
-use conf_tree::read_config;
-use filt_code::{Draft, Routine};
-use filt_compile::{compile, library};
-use filt_vm::run;
 use std::alloc::Global;
 use std::{fs, io, str};
+use system::{Code, System, read_system};
 
 /// How many routes there are.
 const ROUTES: u16 = 256;
@@ -40,19 +38,32 @@ fn routes(alloc: Global) -> io::Result<Vec<(Prefix, Route)>> {
 }
 
 /// How many of the routes the filter accepts.
-fn round(
-    alloc: Global,
-    code: &Draft<'_>,
-    functions: &[Routine<'_>],
-    names: &Names,
-    routes: &[(Prefix, Route)],
-) -> io::Result<u64> {
+fn round<J: Judge>(judge: &J, routes: &[(Prefix, Route)]) -> io::Result<u64> {
     let mut accepted: u64 = 0;
     for (net, route) in routes {
-        let verdict = run(alloc, code, functions, names, net, route).map_err(no_memory)?;
-        if let Verdict::Accept(_) = verdict {
+        if let Verdict::Accept(_) = judge.judge(net, route).map_err(no_memory)? {
             accepted = accepted.saturating_add(1);
         }
+    }
+    Ok(accepted)
+}
+
+/// How many the last filter accepts in so many rounds.
+fn counted(
+    alloc: Global,
+    system: &System,
+    code: &Code,
+    number: usize,
+    rounds: u32,
+) -> io::Result<u64>
+    requires code { HasCode system.now code.now }
+    requires number { number < length (system_of system.now).filters }
+{
+    let judge = system.numbered(alloc, code, number);
+    let routes = routes(alloc)?;
+    let mut accepted: u64 = 0;
+    for _ in 0..rounds {
+        accepted = accepted.saturating_add(round(&judge, &routes)?);
     }
     Ok(accepted)
 }
@@ -60,20 +71,13 @@ fn round(
 fn count(alloc: Global, text: &[u8], rounds: u32) -> io::Result<u64>
     requires { length text.now < 2 ^ 32 - 1 }
 {
-    let config = read_config(alloc, text).map_err(|_| bad())?;
-    let seen = see(alloc, &config)?.map_err(|_| bad())?;
-    let filter = seen.filter.as_ref().ok_or(bad())?;
-    let constants = seen.scope.constants.values().as_slice();
-    let trees = seen.scope.functions.values().as_slice();
-    let functions = library(alloc, constants, trees).map_err(no_memory)?;
-    let code = compile(alloc, constants, &functions, filter).map_err(no_memory)?;
-    let names = Names::make(Vec::new(alloc));
-    let routes = routes(alloc)?;
-    let mut accepted: u64 = 0;
-    for _ in 0..rounds {
-        accepted = accepted.saturating_add(round(alloc, &code, &functions, &names, &routes)?);
+    let system = read_system(alloc, text).map_err(|_| bad())?;
+    let code = system.code(alloc).map_err(no_memory)?;
+    let filters = system.filter_count();
+    if filters == 0 {
+        return Err(bad());
     }
-    Ok(accepted)
+    counted(alloc, &system, &code, filters - 1, rounds)
 }
 
 /// How many routes the last filter of the configuration in a file accepts in so many rounds.

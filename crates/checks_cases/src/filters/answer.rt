@@ -1,20 +1,19 @@
 //! What is answered to an input.
-ghost use Rattle.std.specs.Prelude.{◌<◌, ◌^◌, ◌-◌, length};
+ghost use Rattle.std.specs.Prelude.{◌<◌, ◌^◌, ◌-◌, IfOk, length};
+ghost use Rattle.system.specs.Coded.{AreOrdered};
 
+use crate::deciding::verdict;
 use crate::faults::{bad, no_memory};
 use crate::filters::changes::write_changes;
-use crate::filters::judging::{Seen, see};
+use crate::filters::judging::see;
 use crate::routes::read_route;
-use attrs::{Attrs, Names, Route, Verdict};
-use bits_ip::{OutOfMemory, Prefix};
+use attrs::{Attrs, Names, Verdict};
 use conf_tree::{ConfFault, place, read_config};
 use filt_check::TypeFault;
-use filt_compile::{compile, library};
-use filt_tree::{Scope, TFilter};
-use filt_vm::run;
 use std::alloc::{AllocError, Global};
 use std::io;
 use std::io::{Error, ErrorKind};
+use system::{System, read_system};
 
 /// The longest configuration of a case, in bytes.
 const LONGEST: usize = 1_000_000;
@@ -61,31 +60,35 @@ fn accepted(alloc: Global, before: &Attrs, after: &Attrs) -> io::Result<String> 
     String::from_utf8(out).map_err(|_| bad())
 }
 
-/// What a filter says of a route, by its code and that of the functions before it.
-fn verdict(
-    alloc: Global,
-    scope: &Scope,
-    filter: &TFilter,
-    names: &Names,
-    net: &Prefix,
-    route: &Route,
-) -> Result<Verdict, OutOfMemory> {
-    let constants = scope.constants.values().as_slice();
-    let functions = library(alloc, constants, scope.functions.values().as_slice())?;
-    let code = compile(alloc, constants, &functions, filter)?;
-    run(alloc, &code, &functions, names, net, route)
+/// The system with one name of a protocol, `p1`: the one that the routes of cases come from.
+fn with_name(alloc: Global, system: System) -> io::Result<System>
+    requires { AreOrdered system }
+    ensures { IfOk result AreOrdered }
+{
+    let names = Names::make(vec![in alloc; String::from_str(alloc, "p1")?]?);
+    let System { checked, .. } = system;
+    Ok(System { checked, names })
 }
 
-fn judged(alloc: Global, seen: &Seen, words: &[u8]) -> io::Result<String> {
-    let Some(filter) = &seen.filter else {
-        return Ok(String::from_str(alloc, "no filter")?);
-    };
-    let names = Names::make(vec![in alloc; String::from_str(alloc, "p1")?]?);
+fn judged(alloc: Global, system: &System, words: &[u8]) -> io::Result<String>
+    requires { AreOrdered system.now }
+{
+    let code = system.code(alloc).map_err(no_memory)?;
     let (net, route) = read_route(alloc, words)?;
-    match verdict(alloc, &seen.scope, filter, &names, &net, &route).map_err(no_memory)? {
-        Verdict::Accept(after) => accepted(alloc, &route.attrs, &after),
-        Verdict::Reject(None) => Ok(String::from_str(alloc, "reject")?),
-        Verdict::Reject(Some(fault)) => Ok(format!(in alloc; "fault {fault:?}")?),
+    match verdict(alloc, system, &code, &net, &route).map_err(no_memory)? {
+        Some(Verdict::Accept(after)) => accepted(alloc, &route.attrs, &after),
+        Some(Verdict::Reject(None)) => Ok(String::from_str(alloc, "reject")?),
+        Some(Verdict::Reject(Some(fault))) => Ok(format!(in alloc; "fault {fault:?}")?),
+        None => Ok(String::from_str(alloc, "no filter")?),
+    }
+}
+
+fn answer_accepted(alloc: Global, words: &[u8], text: &[u8]) -> io::Result<String>
+    requires { length text.now < 2 ^ 32 - 1 }
+{
+    match read_system(alloc, text) {
+        Ok(system) => judged(alloc, &with_name(alloc, system)?, words),
+        Err(fault) => Ok(format!(in alloc; "{fault}")?),
     }
 }
 
@@ -94,7 +97,7 @@ fn answer_text(alloc: Global, words: &[u8], text: &[u8]) -> io::Result<String>
 {
     match read_config(alloc, text) {
         Ok(config) => match see(alloc, &config)? {
-            Ok(seen) => judged(alloc, &seen, words),
+            Ok(()) => answer_accepted(alloc, words, text),
             Err(fault) => refusal(alloc, text, fault),
         },
         Err(ConfFault::Refused { at, kind }) => {
@@ -106,7 +109,8 @@ fn answer_text(alloc: Global, words: &[u8], text: &[u8]) -> io::Result<String>
 }
 
 /// What the filter of an input says of its route: `accept` and the attributes that it changed,
-/// `reject`, or `fault` and which one; or the line, the column and the kind of its refusal.
+/// `reject`, or `fault` and which one; or the line, the column and the kind of its refusal, of a filter
+/// that is too heavy with its weight.
 pub fn answer(alloc: Global, input: &[u8]) -> io::Result<String> {
     let (words, text) = parts(input);
     if text.len() > LONGEST {

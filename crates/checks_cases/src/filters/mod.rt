@@ -9,4 +9,3 @@ mod constants;
 mod judging;
 
 pub use answer::answer;
-pub use judging::see;
