@@ -13,12 +13,12 @@ use Rattle.conf_check.specs.Behind.{at_start, behind}
 use Rattle.conf_check.specs.Checked.{Source, filter_number, filter_sources, last_export, last_import, last_pipe_export, last_pipe_import, protocol_name, route_of}
 use Rattle.conf_check.specs.declared.checked.StaticRoute.{StaticRoute as Made}
 use Rattle.conf_check.proofs.Allowed.{nil_left, nil_right}
-use Rattle.system.specs.Policies.{Filter, by_source, says}
-use Rattle.system.specs.System.{Body, Protocol, bgp_with, body_of, names_in, pipe_with, protocols_behind, static_with, with_body}
+use Rattle.conf_system.specs.Policies.{Filter, by_source, says}
+use Rattle.conf_system.specs.System.{Body, Protocol, bgp_with, body_of, names_in, pipe_with, protocols_behind, static_with, with_body}
 use Rattle.accepted_laws.specs.Texts.{BothPolicies, IsSafe, IsSafePolicy}
-use Rattle.system.specs.Written.{IsWritten, filters_in, in_bgp_setting, in_channel, in_channel_setting, in_pipe_setting, in_policy, in_static_setting}
-use Rattle.system.proofs.Every.{Every, left, members, right, weaker}
-use Rattle.system.proofs.Named.{named_written}
+use Rattle.conf_system.specs.Written.{IsWritten, filters_in, in_bgp_setting, in_channel, in_channel_setting, in_pipe_setting, in_policy, in_static_setting}
+use Rattle.conf_system.proofs.Every.{Every, left, members, right, weaker}
+use Rattle.conf_system.proofs.Named.{named_written}
 use Rattle.accepted_laws.proofs.Numbers.{at_number, number_less}
 
 -- ---- the policies that count are written, or are those that stand where none is

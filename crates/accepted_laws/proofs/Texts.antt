@@ -11,12 +11,12 @@ use Rattle.filt_steps.specs.Steps.{filter_steps}
 use Rattle.conf_rules.specs.Statements.{refusals}
 use Rattle.conf_check.specs.Behind.{at_start, behind}
 use Rattle.conf_check.specs.Refused.{refusal_of}
-use Rattle.system.specs.System.{Protocol, System, system_in}
-use Rattle.system.specs.Texts.{IsAcceptedText, IsSystem, refused_in}
-use Rattle.system.specs.Behind.{context_behind, counts_behind}
+use Rattle.conf_system.specs.System.{Protocol, System, system_in}
+use Rattle.conf_system.specs.Texts.{IsAcceptedText, IsSystem, refused_in}
+use Rattle.conf_system.specs.Behind.{context_behind, counts_behind}
 use Rattle.accepted_laws.specs.Texts.{BothPolicies, IsSafe, IsSafePolicy}
-use Rattle.system.specs.Written.{IsWritten}
-use Rattle.system.proofs.Every.{all_of}
+use Rattle.conf_system.specs.Written.{IsWritten}
+use Rattle.conf_system.proofs.Every.{all_of}
 use Rattle.accepted_laws.proofs.Policies.{all_safe}
 
 accepted_is : (text : List ℕ) (ds : List conf.Declaration) → IsAcceptedText text ds

@@ -15,10 +15,10 @@ use Rattle.filt_meaning.specs.Flow.{Stuck, Stopped}
 use Rattle.filt_meaning.specs.Names.{Around}
 use Rattle.filt_steps.specs.Limits.{AttrsAreWithin}
 use Rattle.filt_steps.specs.Steps.{filter_steps}
-use Rattle.system.specs.Policies.{Filter}
-use Rattle.system.specs.System.{Body, IsBgp, IsPipe, IsStatic, names_in}
-use Rattle.system.specs.Behind.{context_behind, counts_behind}
-use Rattle.system.specs.Written.{IsWritten}
+use Rattle.conf_system.specs.Policies.{Filter}
+use Rattle.conf_system.specs.System.{Body, IsBgp, IsPipe, IsStatic, names_in}
+use Rattle.conf_system.specs.Behind.{context_behind, counts_behind}
+use Rattle.conf_system.specs.Written.{IsWritten}
 
 -- Behind these statements the filter is never stuck, and takes few steps, whatever the route.
 pub record IsSafe (text : List ℕ) (before : List conf.Declaration) (ss : Statements)

@@ -1,10 +1,10 @@
 ghost use Rattle.std.specs.Prelude.{◌≡◌, ℕ, All, List};
 ghost use Rattle.conf_ast.specs.Configurations.{Declaration};
-ghost use Rattle.system.specs.System.{Protocol, System, system_in};
-ghost use Rattle.system.specs.Texts.{IsAcceptedText, IsSystem};
+ghost use Rattle.conf_system.specs.System.{Protocol, System, system_in};
+ghost use Rattle.conf_system.specs.Texts.{IsAcceptedText, IsSystem};
 ghost use Rattle.accepted_laws.specs.Texts.{BothPolicies, IsSafePolicy};
 
-use system::filter_laws::{
+use conf_system::filter_laws::{
     accepted_filters_are_never_stuck, accepted_filters_take_10_000_000_steps_at_most,
     what_runs_agrees_with_what_is_declared,
 };

@@ -5,7 +5,7 @@ use Rattle.std.specs.List.{All}
 use Rattle.outside_io.specs.Faults.{Rose}
 use Rattle.report.specs.declared.phase.PhaseReport.{PhaseReport}
 use Rattle.script_lines.specs.declared.script.Line.{Line}
-use Rattle.system.specs.System.{System}
+use Rattle.conf_system.specs.System.{System}
 use Rattle.birdcore_top.specs.declared.status.Status.{Status}
 use Rattle.birdcore_top.specs.declared.status.Status.TheVariants.{Usage, ConfigRefused, ScriptRefused, ReadFault, WriteFault, OutOfMemory, TooLong}
 use Rattle.birdcore_top.specs.declared.status.Status.TheVariants as variants

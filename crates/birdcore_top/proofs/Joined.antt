@@ -6,7 +6,7 @@ use Rattle.outside_io.specs.Faults.{NoneFell, Rose}
 use Rattle.report.specs.declared.phase.PhaseReport.{PhaseReport}
 use Rattle.script_lines.specs.declared.script.Line.{Line}
 use Rattle.sys_build.specs.Setups.{IsPlayable}
-use Rattle.system.specs.System.{System}
+use Rattle.conf_system.specs.System.{System}
 use Rattle.birdcore_top.specs.Answer.{AreMissedInTurn, FindsLackedBy, HasCause, IsEnd, IsMissed, Stops}
 use Rattle.birdcore_top.specs.Command.{Command}
 use Rattle.birdcore_top.specs.Outcome.{Accepted, Configures, Held, Outcome, IsAccepted, ConfGives, IsPossible, PlayGives, Played, ScriptGives}

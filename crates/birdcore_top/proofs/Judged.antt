@@ -6,10 +6,10 @@ use Rattle.script_lines.specs.declared.faults.ScriptKind.{ScriptKind}
 use Rattle.sys_build.specs.Scripts as script
 use Rattle.sys_build.specs.declared.scripts.ReadFault.{ReadFault}
 use Rattle.sys_build.specs.declared.scripts.ReadFault.TheVariants as line_faults
-use Rattle.system.specs.System.{System}
-use Rattle.system.specs.Texts.{IsFault}
-use Rattle.system.specs.declared.read.SystemFault.{SystemFault}
-use Rattle.system.specs.declared.read.SystemFault.TheVariants as faults
+use Rattle.conf_system.specs.System.{System}
+use Rattle.conf_system.specs.Texts.{IsFault}
+use Rattle.conf_system.specs.declared.read.SystemFault.{SystemFault}
+use Rattle.conf_system.specs.declared.read.SystemFault.TheVariants as faults
 use Rattle.birdcore_top.specs.Outcome.{Outcome, OverLimit, Refused, BadLine, Within, ConfGives, ScriptGives}
 use Rattle.birdcore_top.specs.Answer.{line_status, status_of, Stops}
 use Rattle.birdcore_top.specs.declared.status.Status.{Status}

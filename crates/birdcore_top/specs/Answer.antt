@@ -10,8 +10,8 @@ use Rattle.outside_io.specs.declared.whole.ReadError.{ReadError}
 use Rattle.outside_io.specs.declared.whole.ReadError.TheVariants as errors
 use Rattle.sys_build.specs.declared.scripts.ReadFault.{ReadFault as LineFault}
 use Rattle.sys_build.specs.declared.scripts.ReadFault.TheVariants as line_faults
-use Rattle.system.specs.declared.read.SystemFault.{SystemFault}
-use Rattle.system.specs.declared.read.SystemFault.TheVariants as faults
+use Rattle.conf_system.specs.declared.read.SystemFault.{SystemFault}
+use Rattle.conf_system.specs.declared.read.SystemFault.TheVariants as faults
 use Rattle.birdcore_top.specs.declared.status.Status.{Status}
 use Rattle.birdcore_top.specs.declared.status.Status.TheVariants.{Ok, Usage, ConfigRefused, ScriptRefused, ReadFault, WriteFault, OutOfMemory, TooLong}
 use Rattle.birdcore_top.specs.Command.{Command, conf_of, script_of}

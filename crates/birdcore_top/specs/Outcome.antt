@@ -17,9 +17,9 @@ use Rattle.show_route.specs.declared.query.Query.{Query}
 use Rattle.sys_build.specs.Scripts as script_answers
 use Rattle.sys_build.specs.Scripts.{Answers}
 use Rattle.sys_build.specs.Setups.{IsPlayable, setup_of}
-use Rattle.system.specs.Policies.{Filter}
-use Rattle.system.specs.System.{System}
-use Rattle.system.specs.Texts.{IsRefusedAt, IsSystem}
+use Rattle.conf_system.specs.Policies.{Filter}
+use Rattle.conf_system.specs.System.{System}
+use Rattle.conf_system.specs.Texts.{IsRefusedAt, IsSystem}
 use Rattle.birdcore_top.specs.Command.{Command, Play, Check, conf_of, files_of, usual_cells}
 
 pub data Outcome : Type 0 where

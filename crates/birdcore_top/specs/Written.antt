@@ -21,8 +21,8 @@ use Rattle.sys_build.specs.declared.scripts.ReadScript.{ReadScript}
 use Rattle.sys_run.specs.Playing as core
 use Rattle.sys_run.specs.Scripts.{AsksWhatIs, FitsLine, phase_of}
 use Rattle.sys_run.specs.declared.player.Core.{Core}
-use Rattle.system.specs.Seen.{filter_says, system_of}
-use Rattle.system.specs.declared.system.System.{System}
+use Rattle.conf_system.specs.Seen.{filter_says, system_of}
+use Rattle.conf_system.specs.declared.system.System.{System}
 use Rattle.birdcore_top.specs.Command.{Command}
 use Rattle.birdcore_top.specs.Outcome.{Accepted, Held, IsPossible, Played}
 

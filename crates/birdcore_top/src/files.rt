@@ -5,20 +5,20 @@ ghost use Rattle.outside_io.specs.Faults.{Rose, NoneFell};
 ghost use Rattle.outside_io.specs.Whole.{IsLong, IsWhole};
 ghost use Rattle.sys_build.specs.Scripts.{Accepted, Answers};
 ghost use Rattle.sys_build.specs.Setups.{IsPlayable};
-ghost use Rattle.system.specs.Coded.{AreOrdered, IsBefore};
-ghost use Rattle.system.specs.Seen.{filter_says, system_of};
+ghost use Rattle.conf_system.specs.Coded.{AreOrdered, IsBefore};
+ghost use Rattle.conf_system.specs.Seen.{filter_says, system_of};
 ghost use Rattle.birdcore_top.specs.Outcome.{OverLimit, Played, Configures, ConfGives, IsConfigured, PlayGives, ScriptGives};
 ghost use Rattle.birdcore_top.specs.Answer.{AreMissedInTurn, IsMissed, FindsLackedBy, IsReadStatus, Stops};
 ghost use Rattle.birdcore_top.specs.Written.{AskWhatIs, FitTables, phases_read, setup_read};
 
 use crate::status::Status;
+use conf_system::{System, read_system};
 use outside_io::{ReadError, Shelf, read_whole};
 use std::alloc::Global;
 use sys_build::laws::{
     accepted_scripts_are_setups, accepted_scripts_fit_their_tables, accepted_scripts_name_what_is,
 };
 use sys_build::{ReadScript, read_script};
-use system::{System, read_system};
 
 /// What the two files say.
 #[derive(Drop)]

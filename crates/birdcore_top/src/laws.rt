@@ -2,13 +2,13 @@
 //! at most. The other laws of `top` stand in the crate `top_laws`.
 ghost use Rattle.std.specs.Prelude.{◌≡◌, ℕ, List, Option, IfSome, IsSomeAnd};
 ghost use Rattle.conf_ast.specs.declared.kind.ConfKind.{ConfKind};
-ghost use Rattle.system.specs.System.{System};
-ghost use Rattle.system.specs.Texts.{IsRefusedAt, IsSystem};
+ghost use Rattle.conf_system.specs.System.{System};
+ghost use Rattle.conf_system.specs.Texts.{IsRefusedAt, IsSystem};
 ghost use Rattle.birdcore_top.specs.Command.{Command};
 ghost use Rattle.birdcore_top.specs.Outcome.{Held, Outcome, ConfGives, IsAccepted, IsPossible, IsRequired};
 
+use conf_system::laws::texts_say_one_thing;
 use sys_build::laws::a_text_has_one_answer;
-use system::laws::texts_say_one_thing;
 
 /// Files that are told come to one outcome at most: what may be due is what is required. Where the
 /// configuration decides it alone, the configuration isn't accepted.

@@ -5,10 +5,10 @@ ghost use Rattle.birdcore_top.specs.declared.status.Status.TheVariants.{OutOfMem
 
 use bits_ip::OutOfMemory;
 use conf_ast::ConfKind;
+use conf_system::SystemFault;
 use script_lines::ScriptKind;
 use std::alloc::AllocError;
 use sys_build::ReadFault;
-use system::SystemFault;
 use thiserror::Error;
 
 /// How the program ended. Its text is the line that is printed on standard error where it isn't

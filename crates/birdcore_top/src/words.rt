@@ -100,12 +100,7 @@ fn of_two<'a>(command: &str, conf: &'a str, script: &'a str) -> Option<Asked<'a>
 }
 
 /// What is asked for by three words behind the first.
-fn of_three<'a>(
-    command: &str,
-    conf: &'a str,
-    script: &'a str,
-    last: &str,
-) -> Option<Asked<'a>>
+fn of_three<'a>(command: &str, conf: &'a str, script: &'a str, last: &str) -> Option<Asked<'a>>
     ensures { MatchOption result (asked_of_three command.now conf.now script.now last.now ≡ None)
         (λ asked. asked_of_three command.now conf.now script.now last.now
         ≡ Some (command_asked asked)) }

@@ -9,14 +9,15 @@ ghost use Rattle.outside_io.specs.Whole.{WritesFront};
 ghost use Rattle.report.specs.Report.{report_text, text_in};
 ghost use Rattle.sys_build.specs.Setups.{IsPlayable};
 ghost use Rattle.sys_run.specs.Playing as played;
-ghost use Rattle.system.specs.Coded.{AreOrdered, HasCode, IsBefore};
-ghost use Rattle.system.specs.Seen.{system_of};
+ghost use Rattle.conf_system.specs.Coded.{AreOrdered, HasCode, IsBefore};
+ghost use Rattle.conf_system.specs.Seen.{system_of};
 ghost use Rattle.birdcore_top.specs.Answer.{CutsOff, IsEnd};
 ghost use Rattle.birdcore_top.specs.Written.{AskWhatIs, FitTables, HasBegun, HasPlayed, HasWritten, accepted_text, phases_read, setup_read, text_so_far};
 
 use crate::status::Status;
 use attrs::Judge;
 use bits_ip::OutOfMemory;
+use conf_system::{Code, System};
 use outside_io::{Block, Failed, Sink, Stream, write_whole};
 use report::{Form, PhaseReport, text_in};
 use script_lines::{Line, Name};
@@ -25,7 +26,6 @@ use std::hash::RandomState;
 use std::random::RandomSource;
 use sys_build::{ReadScript, build};
 use sys_run::Core;
-use system::{Code, System};
 
 /// Plays the script over the configuration, and writes the reports in this form.
 ///

@@ -1,15 +1,15 @@
 //! What a configuration's filter says of a route: the policy of its own that its first protocol has,
 //! or else the last filter by name.
 ghost use Rattle.std.specs.Prelude.{◌<◌, length};
-ghost use Rattle.system.specs.Coded.{AreOrdered, HasCode, PolicyBefore, ProtocolBefore};
-ghost use Rattle.system.specs.Seen.{system_of};
+ghost use Rattle.conf_system.specs.Coded.{AreOrdered, HasCode, PolicyBefore, ProtocolBefore};
+ghost use Rattle.conf_system.specs.Seen.{system_of};
 
 use crate::policies::first;
 use attrs::{Judge, Route, Verdict};
 use bits_ip::{OutOfMemory, Prefix};
 use conf_check::{PolicyDef, ProtocolBody, ProtocolDef};
+use conf_system::{Code, System};
 use std::alloc::Global;
-use system::{Code, System};
 
 fn by_policy(
     alloc: Global,

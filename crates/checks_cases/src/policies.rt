@@ -2,15 +2,15 @@
 //!
 //! The route comes from the protocol of number 0, as the module `routes` says.
 ghost use Rattle.std.specs.Prelude.{IfSome};
-ghost use Rattle.system.specs.Coded.{AreOrdered, HasCode, PolicyBefore, ProtocolBefore};
+ghost use Rattle.conf_system.specs.Coded.{AreOrdered, HasCode, PolicyBefore, ProtocolBefore};
 
 use crate::faults::no_memory;
 use crate::routes::read_route;
 use attrs::{Judge, Verdict, attr_text};
 use conf_check::{PolicyDef, ProtocolBody, ProtocolDef};
+use conf_system::{Code, System, read_system};
 use std::alloc::Global;
 use std::{io, str};
-use system::{Code, System, read_system};
 
 const LIMIT: usize = 1 << 24;
 

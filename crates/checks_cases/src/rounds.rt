@@ -4,16 +4,16 @@
 //! over 256 routes, of 10.0.0.0/24 to 10.0.255.0/24, alike but for the net, the MED, the last
 //! number of the path and the community, which count them.
 ghost use Rattle.std.specs.Prelude.{◌<◌, ◌^◌, ◌-◌, length};
-ghost use Rattle.system.specs.Coded.{HasCode};
-ghost use Rattle.system.specs.Seen.{system_of};
+ghost use Rattle.conf_system.specs.Coded.{HasCode};
+ghost use Rattle.conf_system.specs.Seen.{system_of};
 
 use crate::faults::{bad, no_memory};
 use crate::routes::read_route;
 use attrs::{Judge, Route, Verdict};
 use bits_ip::{Prefix, parse_decimal};
+use conf_system::{Code, System, read_system};
 use std::alloc::Global;
 use std::{fs, io, str};
-use system::{Code, System, read_system};
 
 /// How many routes there are.
 const ROUTES: u16 = 256;

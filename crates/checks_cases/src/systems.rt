@@ -2,10 +2,10 @@
 use crate::configurations::family_word;
 use bits_ip::{Addr, write_addr};
 use conf_check::{ChannelDef, ImportLimit, PolicyDef, ProtocolBody, ProtocolDef};
+use conf_system::{System, read_system};
 use std::alloc::Global;
 use std::fmt::Write;
 use std::{io, str};
-use system::{System, read_system};
 
 /// The greatest number of bytes of a file.
 const LIMIT: usize = 1 << 24;

@@ -35,11 +35,7 @@ pub fn quiet_text<W: TextOut>(phase: &PhaseReport, out: &mut W) -> Result<(), W:
 }
 
 /// Appends the text of a phase in this form.
-pub fn text_in<W: TextOut>(
-    form: Form,
-    phase: &PhaseReport,
-    out: &mut W,
-) -> Result<(), W::Fault>
+pub fn text_in<W: TextOut>(form: Form, phase: &PhaseReport, out: &mut W) -> Result<(), W::Fault>
     ensures written { OnOk result (W.written out.new ≡ W.written out.old ++ text_in form phase.now) }
     ensures kept { Kept W.follows out.old out.new }
 {

@@ -11,9 +11,9 @@ use Rattle.script_lines.specs.declared.script.Condition.{Condition}
 use Rattle.script_lines.specs.declared.script.Line.{Line}
 use Rattle.sys_build.specs.Names.{named_of}
 use Rattle.sys_build.specs.Scripts.{Accepted, Answer, Answers, AreAsked, IsFirstRefused, IsRefusedByCondition, IsRefusedByWords, IsRefusedOf, IsScriptOf, Refused, conditions_in}
-use Rattle.system.specs.Conditions.{IsCondition, RefusesCondition}
-use Rattle.system.specs.Policies.{Filter}
-use Rattle.system.specs.System.{System}
+use Rattle.conf_system.specs.Conditions.{IsCondition, RefusesCondition}
+use Rattle.conf_system.specs.Policies.{Filter}
+use Rattle.conf_system.specs.System.{System}
 
 -- the answer of a text, by that of its lines and by what its conditions ask for
 abbrev with_filters : lines.Answer → List Filter → Answer

@@ -10,9 +10,9 @@ use Rattle.core_setup.specs.Bridges.{IsBridgeOf, pipe_at, pipe_in}
 use Rattle.core_setup.specs.Setup as setup
 use Rattle.core_setup.proofs.Numbered.{all_at}
 use Rattle.show_route.specs.declared.query.Query.{Query}
-use Rattle.system.specs.Policies.{Filter}
-use Rattle.system.specs.Pipes.{pipe_of as joint_in, pipes_of}
-use Rattle.system.specs.System.{Body, IsBgp, IsPipe, IsStatic, Pipe, Protocol, System}
+use Rattle.conf_system.specs.Policies.{Filter}
+use Rattle.conf_system.specs.Pipes.{pipe_of as joint_in, pipes_of}
+use Rattle.conf_system.specs.System.{Body, IsBgp, IsPipe, IsStatic, Pipe, Protocol, System}
 use Rattle.sys_build.specs.Setups.{body_of, pipe_of, protocols_from, setup_of}
 
 abbrev joint_of : Pipe → Joint

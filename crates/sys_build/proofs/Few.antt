@@ -3,9 +3,9 @@ use Rattle.std.proofs.Common.{◌≡◌, ◌∙◌, sym, ap, refl, ◌*◌, ◌^
 use Rattle.std.proofs.lemmas.List.{length-append, length-map}
 use Rattle.core_setup.specs.Setup as setup
 use Rattle.script_lines.specs.Kinds.{AreFew}
-use Rattle.system.specs.Policies.{Filter}
-use Rattle.system.specs.System.{Body, IsBgp, IsPipe, IsStatic, Protocol, System}
-use Rattle.system.specs.Texts.{IsSystem}
+use Rattle.conf_system.specs.Policies.{Filter}
+use Rattle.conf_system.specs.System.{Body, IsBgp, IsPipe, IsStatic, Protocol, System}
+use Rattle.conf_system.specs.Texts.{IsSystem}
 use Rattle.sys_build.specs.Names.{all_channels, channels_of, named_of, named_protocol, named_table}
 use Rattle.sys_build.specs.Setups.{protocols_from}
 

@@ -11,8 +11,8 @@ use Rattle.filt_tree.specs.declared.tree.TFilter.{TFilter}
 use Rattle.script_lines.specs.Kinds.{AreFew}
 use Rattle.script_lines.specs.Script.{HasTables}
 use Rattle.script_lines.specs.declared.named.NamedProtocol.{NamedProtocol}
-use Rattle.system.specs.Seen.{body_seen, protocol_seen, system_of}
-use Rattle.system.specs.declared.system.System.{System as Held}
+use Rattle.conf_system.specs.Seen.{body_seen, protocol_seen, system_of}
+use Rattle.conf_system.specs.declared.system.System.{System as Held}
 use Rattle.sys_build.specs.Names.{held_table, named_of, named_protocol, table_of}
 
 index_is : (defs : List ProtocolDef) (i : ℕ) (d : ProtocolDef) → slice_index_or defs i d ≡ get_or defs i d

@@ -13,8 +13,8 @@ use Rattle.sys_run.specs.Parts.{body_seen, pipe_seen, protocol_seen, setup_seen,
 use Rattle.sys_run.specs.declared.parts.BodyParts.{BodyParts}
 use Rattle.sys_run.specs.declared.parts.ProtocolParts.{ProtocolParts}
 use Rattle.sys_run.specs.declared.parts.TableParts.{TableParts}
-use Rattle.system.specs.Policies.{Filter}
-use Rattle.system.specs.System.{System}
+use Rattle.conf_system.specs.Policies.{Filter}
+use Rattle.conf_system.specs.System.{System}
 use Rattle.sys_build.specs.Setups.{choices_of, protocols_from, setup_of}
 
 pub handed : {J : Type 0} (verdict : J → Net → Route → Verdict) (tables : List TableParts) (protocols : List (ProtocolParts J)) (choices : List J) (system : System) (cells : ℕ) (conditions : List Filter) (queries : List Query)

@@ -10,9 +10,9 @@ use Rattle.sys_build.specs.Names.{named_of}
 use Rattle.sys_build.specs.Scripts.{AreAsked, IsFirstRefused, IsRefusedOf, Tells, TellsFirst, TellsOne, conditions_in}
 use Rattle.sys_build.specs.declared.scripts.ReadFault.{ReadFault}
 use Rattle.sys_build.specs.declared.scripts.ReadFault.TheVariants as faults
-use Rattle.system.specs.Conditions.{IsCondition, RefusesCondition}
-use Rattle.system.specs.Policies.{Filter}
-use Rattle.system.specs.System.{System}
+use Rattle.conf_system.specs.Conditions.{IsCondition, RefusesCondition}
+use Rattle.conf_system.specs.Policies.{Filter}
+use Rattle.conf_system.specs.System.{System}
 
 asked_push : (system : System) (cs : List Condition) (fs : List Filter) (c : Condition) (f : Filter) → AreAsked system cs fs → IsCondition system c.text f → AreAsked system (cs ++ c ∷ []) (fs ++ f ∷ [])
 asked_push system [] [] c f are is = (is, tt)

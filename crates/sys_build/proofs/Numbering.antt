@@ -5,9 +5,9 @@ use Rattle.core_setup.specs.Channels.{Channel, channels, channels_from, channels
 use Rattle.core_setup.specs.Setup as setup
 use Rattle.script_lines.specs.declared.named.NamedProtocol.{NamedProtocol}
 use Rattle.show_route.specs.declared.query.Query.{Query}
-use Rattle.system.specs.Policies.{Filter}
-use Rattle.system.specs.System.{Body, IsBgp, IsPipe, IsStatic, Protocol, System}
-use Rattle.system.specs.Tables.{Tables}
+use Rattle.conf_system.specs.Policies.{Filter}
+use Rattle.conf_system.specs.System.{Body, IsBgp, IsPipe, IsStatic, Protocol, System}
+use Rattle.conf_system.specs.Tables.{Tables}
 use Rattle.sys_build.specs.Names.{all_channels, channels_of, named_of, named_protocol}
 use Rattle.sys_build.specs.Setups.{body_of, protocols_from, setup_of}
 

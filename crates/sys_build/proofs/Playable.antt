@@ -23,12 +23,12 @@ use Rattle.script_lines.specs.declared.named.NamedProtocol.{NamedProtocol}
 use Rattle.script_lines.specs.declared.script.Condition.{Condition}
 use Rattle.script_lines.specs.declared.script.Line.{Line}
 use Rattle.show_route.specs.declared.query.Query.{Query}
-use Rattle.system.specs.Policies.{Filter}
-use Rattle.system.specs.System.{Bgp, Body, IsBgp, IsPipe, IsStatic, Pipe, Protocol, Static, System, system_in}
-use Rattle.system.specs.Pipes.{pipe_of as joint_in, pipes_of}
-use Rattle.system.specs.Tables.{AllFit, BodyFits, Fits, Has, Tables}
-use Rattle.system.specs.Texts.{IsSystem}
-use Rattle.system.proofs.TablesThere.{masters_first}
+use Rattle.conf_system.specs.Policies.{Filter}
+use Rattle.conf_system.specs.System.{Bgp, Body, IsBgp, IsPipe, IsStatic, Pipe, Protocol, Static, System, system_in}
+use Rattle.conf_system.specs.Pipes.{pipe_of as joint_in, pipes_of}
+use Rattle.conf_system.specs.Tables.{AllFit, BodyFits, Fits, Has, Tables}
+use Rattle.conf_system.specs.Texts.{IsSystem}
+use Rattle.conf_system.proofs.TablesThere.{masters_first}
 use Rattle.sys_build.specs.Names.{IsKindOf, kind_of, named_of, named_protocol, named_table, table_of}
 use Rattle.sys_build.specs.Scripts.{Accepted, Answers, AreAsked}
 use Rattle.sys_build.specs.Setups.{bgp_of, body_of, choices_of, fixed_of, pipe_of, protocol_of, protocols_from, setup_of, static_of}

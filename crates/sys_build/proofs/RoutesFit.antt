@@ -22,12 +22,12 @@ use Rattle.conf_check.specs.Checked.{Source, filter_sources, protocol_name, rout
 use Rattle.conf_check.specs.Refused.{refusal_of}
 use Rattle.conf_check.specs.declared.checked.StaticRoute.{StaticRoute}
 use Rattle.conf_check.proofs.Allowed.{nil_left, nil_right, none_refused}
-use Rattle.system.specs.Policies.{Filter, says}
-use Rattle.system.specs.System as of
-use Rattle.system.specs.System.{Body, IsBgp, IsPipe, IsStatic, Protocol, System, body_of, names_in, protocols_behind, system_in, with_body}
-use Rattle.system.specs.Texts.{IsSystem, refused_in}
-use Rattle.system.proofs.Accepted.{behind_push, neither}
-use Rattle.system.proofs.TablesThere.{not_refused}
+use Rattle.conf_system.specs.Policies.{Filter, says}
+use Rattle.conf_system.specs.System as of
+use Rattle.conf_system.specs.System.{Body, IsBgp, IsPipe, IsStatic, Protocol, System, body_of, names_in, protocols_behind, system_in, with_body}
+use Rattle.conf_system.specs.Texts.{IsSystem, refused_in}
+use Rattle.conf_system.proofs.Accepted.{behind_push, neither}
+use Rattle.conf_system.proofs.TablesThere.{not_refused}
 
 abbrev pub AreOfFamily : Family → List StaticRoute → Type 0
 AreOfFamily family routes = AllByRecursion (λ (r : StaticRoute). family_of r.net.addr ≡ family) routes

@@ -9,7 +9,7 @@ use Rattle.core_setup.specs.Setup as setup
 use Rattle.script_lines.specs.declared.named.Named.{Named}
 use Rattle.script_lines.specs.declared.named.NamedProtocol.{NamedProtocol}
 use Rattle.script_lines.specs.declared.named.NamedTable.{NamedTable}
-use Rattle.system.specs.System.{Protocol, System}
+use Rattle.conf_system.specs.System.{Protocol, System}
 use Rattle.sys_build.specs.Names.{all_channels, channels_of, named_of, named_protocol, named_table}
 use Rattle.sys_build.specs.Setups.{protocol_of, protocols_from}
 

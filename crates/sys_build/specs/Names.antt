@@ -14,7 +14,7 @@ use Rattle.script_lines.specs.declared.named.NamedProtocol.{NamedProtocol}
 use Rattle.script_lines.specs.declared.named.NamedTable.{NamedTable}
 use Rattle.script_lines.specs.declared.named.ProtocolKind.{ProtocolKind}
 use Rattle.script_lines.specs.declared.named.ProtocolKind.TheVariants as kinds
-use Rattle.system.specs.System.{Body, IsBgp, IsPipe, IsStatic, Protocol, System}
+use Rattle.conf_system.specs.System.{Body, IsBgp, IsPipe, IsStatic, Protocol, System}
 
 abbrev pub kind_of : Body → ProtocolKind
 kind_of (IsStatic p) = kinds.Static p.channel.family

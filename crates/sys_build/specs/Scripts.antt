@@ -16,9 +16,9 @@ use Rattle.script_lines.specs.declared.script.Line.{Line}
 use Rattle.sys_build.specs.Names.{named_of}
 use Rattle.sys_build.specs.declared.scripts.ReadFault.{ReadFault}
 use Rattle.sys_build.specs.declared.scripts.ReadFault.TheVariants as faults
-use Rattle.system.specs.Conditions.{IsCondition, RefusesCondition}
-use Rattle.system.specs.Policies.{Filter}
-use Rattle.system.specs.System.{System}
+use Rattle.conf_system.specs.Conditions.{IsCondition, RefusesCondition}
+use Rattle.conf_system.specs.Policies.{Filter}
+use Rattle.conf_system.specs.System.{System}
 
 -- each of these conditions asks for the routes that the filter in its place accepts
 abbrev pub AreAsked : System → List Condition → List Filter → Type 0

@@ -25,9 +25,9 @@ use Rattle.protos.specs.Protocols.{bgp_spec, static_spec}
 use Rattle.core_setup.specs.Setup as setup
 use Rattle.core_setup.specs.Setup.{Setup}
 use Rattle.show_route.specs.declared.query.Query.{Query}
-use Rattle.system.specs.Policies.{Filter}
-use Rattle.system.specs.System.{Bgp, Body, IsBgp, IsPipe, IsStatic, Pipe, Protocol, Static, System}
-use Rattle.system.specs.Texts.{IsSystem}
+use Rattle.conf_system.specs.Policies.{Filter}
+use Rattle.conf_system.specs.System.{Bgp, Body, IsBgp, IsPipe, IsStatic, Pipe, Protocol, Static, System}
+use Rattle.conf_system.specs.Texts.{IsSystem}
 
 -- ---- imports
 

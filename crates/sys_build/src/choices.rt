@@ -1,14 +1,14 @@
 //! The filters by which queries choose.
 ghost use Rattle.std.specs.Prelude.{◌≡◌, ◌++◌, All, IfOk, map};
 ghost use Rattle.sys_build.specs.Setups.{choices_of};
-ghost use Rattle.system.specs.Coded.{HasCode, IsBefore};
-ghost use Rattle.system.specs.Seen.{filter_says, system_of};
+ghost use Rattle.conf_system.specs.Coded.{HasCode, IsBefore};
+ghost use Rattle.conf_system.specs.Seen.{filter_says, system_of};
 
 use attrs::Judge;
 use bits_ip::OutOfMemory;
+use conf_system::{Code, Passes, System};
 use filt_tree::TFilter;
 use std::alloc::Global;
-use system::{Code, Passes, System};
 
 /// The filters that have names, by their numbers, and behind them conditions.
 pub(crate) fn choices<'a>(

@@ -15,20 +15,20 @@ ghost use Rattle.sys_build.specs.Names.{IsKindOf, named_of};
 ghost use Rattle.sys_build.specs.Scripts.{Accepted, Answer, Answers};
 ghost use Rattle.sys_build.specs.Setups.{setup_of};
 ghost use Rattle.sys_run.specs.Scripts.{FitsLine};
-ghost use Rattle.system.specs.Policies.{Filter};
-ghost use Rattle.system.specs.System.{System};
-ghost use Rattle.system.specs.Texts.{IsSystem};
+ghost use Rattle.conf_system.specs.Policies.{Filter};
+ghost use Rattle.conf_system.specs.System.{System};
+ghost use Rattle.conf_system.specs.Texts.{IsSystem};
 
 use conf_rules::laws::{
     joined_tables_are_those_that_pipes_lead_between, pipes_of_a_forest_are_bridges,
 };
-use core_setup::laws::bridges_keep_their_own;
-use script_lines::laws as lines;
-use system::laws::{
+use conf_system::laws::{
     channels_have_their_tables, conditions_ask_for_one_thing, configurations_have_few_protocols,
     configurations_have_few_tables_and_filters, each_text_is_a_condition_or_is_refused,
     pipes_form_a_forest,
 };
+use core_setup::laws::bridges_keep_their_own;
+use script_lines::laws as lines;
 
 /// A text has one answer at most over a system: it is a script, with its queries and what its
 /// conditions ask for, or it is refused, in one line for one reason.

@@ -7,14 +7,14 @@ ghost use Rattle.script_lines.specs.Script.{HasTables};
 ghost use Rattle.filt_tree.specs.declared.scope.Scope.{Scope};
 ghost use Rattle.filt_tree.specs.declared.tree.TFilter.{TFilter};
 ghost use Rattle.sys_build.specs.Names.{all_channels, channels_of, held_table, kind_of, named_of, named_protocol, named_table, pipe_channels, table_of};
-ghost use Rattle.system.specs.Seen.{body_seen, protocol_seen, system_of};
+ghost use Rattle.conf_system.specs.Seen.{body_seen, protocol_seen, system_of};
 
 use attrs::Seq;
 use bits_ip::OutOfMemory;
 use conf_check::{ProtocolBody, ProtocolDef};
+use conf_system::System;
 use script_lines::{Name, NameList, Named, NamedProtocol, NamedTable, ProtocolKind};
 use std::alloc::Global;
-use system::System;
 
 /// What scripts can name of a configuration.
 ///

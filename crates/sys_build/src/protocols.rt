@@ -3,9 +3,9 @@ ghost use Rattle.std.specs.Prelude.{◌≡◌, ◌≤◌, IfOk, length, map, opt
 ghost use Rattle.sys_build.specs.Setups as setups;
 ghost use Rattle.sys_build.specs.Setups.{action_of, bgp_of, body_of, dest_of, fixed_of, gateway_of, limit_of, pipe_of, protocol_of, protocols_from, static_of};
 ghost use Rattle.sys_run.specs.Parts.{body_seen, pipe_seen, protocol_seen, source_seen};
-ghost use Rattle.system.specs.Coded.{BodyBefore, ChannelBefore, HasCode, PolicyBefore, ProtocolBefore};
-ghost use Rattle.system.specs.Seen as seen;
-ghost use Rattle.system.specs.Seen.{bgp_seen, policy_says, static_seen, system_of};
+ghost use Rattle.conf_system.specs.Coded.{BodyBefore, ChannelBefore, HasCode, PolicyBefore, ProtocolBefore};
+ghost use Rattle.conf_system.specs.Seen as seen;
+ghost use Rattle.conf_system.specs.Seen.{bgp_seen, policy_says, static_seen, system_of};
 
 use crate::tables::copied;
 use attrs::{Dest, Judge, Seq, Src};
@@ -15,12 +15,12 @@ use conf_check::{
     BgpDef, ImportLimit, PipeDef, PolicyDef, ProtocolBody, ProtocolDef, StaticDef, StaticRoute,
     StaticTarget,
 };
+use conf_system::{Code, Passes, System};
 use export_core::ExportSpec;
 use import_core::{Action, Fixed, ImportSpec, Limit};
 use protos::{bgp_spec, static_spec};
 use std::alloc::Global;
 use sys_run::{BodyParts, ExportParts, PipeParts, ProtocolParts, SourceParts};
-use system::{Code, Passes, System};
 
 /// The protocols, by their numbers.
 pub(crate) fn protocols<'a>(

@@ -3,20 +3,20 @@ ghost use Rattle.std.specs.Prelude.{◌<◌, ◌+◌, ◌-◌, ◌^◌, ℕ, All
 ghost use Rattle.script_lines.specs.Script as lines;
 ghost use Rattle.sys_build.specs.Scripts.{Accepted, Answers, AreAsked, Tells, TellsFirst, TellsOne};
 ghost use Rattle.sys_build.specs.Names.{named_of};
-ghost use Rattle.system.specs.Coded.{AreOrdered, IsBefore};
-ghost use Rattle.system.specs.Conditions.{IsCondition};
-ghost use Rattle.system.specs.Seen.{filter_says, system_of};
-ghost use Rattle.system.specs.Texts.{IsSystem};
+ghost use Rattle.conf_system.specs.Coded.{AreOrdered, IsBefore};
+ghost use Rattle.conf_system.specs.Conditions.{IsCondition};
+ghost use Rattle.conf_system.specs.Seen.{filter_says, system_of};
+ghost use Rattle.conf_system.specs.Texts.{IsSystem};
 
 use crate::laws::{accepted_configurations_are_few, accepted_configurations_have_their_tables};
 use crate::names::named;
 use bits_ip::OutOfMemory;
+use conf_system::System;
+use conf_system::laws::configurations_have_few_tables_and_filters;
 use filt_tree::TFilter;
 use script_lines::{Condition, Line, Name, Script, ScriptFault, ScriptKind};
 use show_route::Query;
 use std::alloc::{AllocFailed, Global};
-use system::System;
-use system::laws::configurations_have_few_tables_and_filters;
 use thiserror::Error;
 
 /// What a script says over a configuration.

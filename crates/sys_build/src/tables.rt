@@ -1,13 +1,13 @@
 //! The tables of a configuration.
 ghost use Rattle.std.specs.Prelude.{◌≡◌, ◌<◌, IfOk, Some, length, map, slice_get};
 ghost use Rattle.sys_run.specs.Parts.{table_seen};
-ghost use Rattle.system.specs.Seen.{system_of};
+ghost use Rattle.conf_system.specs.Seen.{system_of};
 
 use attrs::Seq;
 use bits_ip::OutOfMemory;
+use conf_system::System;
 use std::alloc::Global;
 use sys_run::TableParts;
-use system::System;
 
 /// The tables, by their numbers.
 pub(crate) fn tables(alloc: Global, system: &System) -> Result<Vec<TableParts>, OutOfMemory>

@@ -3,21 +3,21 @@ ghost use Rattle.std.specs.Prelude.{◌≡◌, ℕ, [], All, List, IfOk, map};
 ghost use Rattle.core_setup.specs.Setup.{IsSetup};
 ghost use Rattle.sys_run.specs.Playing.{HasPlayed};
 ghost use Rattle.sys_build.specs.Setups.{IsPlayable, setup_of};
-ghost use Rattle.system.specs.Coded.{HasCode, IsBefore};
-ghost use Rattle.system.specs.Seen.{filter_says, system_of};
+ghost use Rattle.conf_system.specs.Coded.{HasCode, IsBefore};
+ghost use Rattle.conf_system.specs.Seen.{filter_says, system_of};
 
 use crate::choices::choices;
 use crate::protocols::protocols;
 use crate::tables::tables;
 use attrs::Judge;
 use bits_ip::OutOfMemory;
+use conf_system::laws::configurations_have_few_protocols;
+use conf_system::{Code, Passes, System};
 use filt_tree::TFilter;
 use show_route::Query;
 use std::alloc::Global;
 use std::hash::RandomState;
 use sys_run::Core;
-use system::laws::configurations_have_few_protocols;
-use system::{Code, Passes, System};
 
 /// The core of an accepted configuration, which has played nothing, for a script of these
 /// conditions and queries, over the configuration's code. The journal of each table holds so many

@@ -8,7 +8,7 @@ use Rattle.script_lines.specs.declared.script.Line.{Line}
 use Rattle.sys_build.specs.Scripts as script_answers
 use Rattle.sys_build.specs.Scripts.{Answer, Answers}
 use Rattle.sys_build.specs.Setups.{IsPlayable, setup_of}
-use Rattle.system.specs.System.{System}
+use Rattle.conf_system.specs.System.{System}
 use Rattle.birdcore_top.specs.Command.{Command, Play, Check, conf_of, script_of, usual_cells}
 use Rattle.birdcore_top.specs.Outcome.{Held, Outcome, Misused, OverLimit, Refused, BadLine, Played, Accepted, Configures, CheckGives, ConfGives, IsCheckOf, PlayGives, ScriptGives, IsRequired}
 use Rattle.top_laws.specs.Says.{SaysSomething}

@@ -7,9 +7,9 @@ use Rattle.show_route.specs.declared.query.Query.{Query}
 use Rattle.sys_build.specs.Scripts as script_answers
 use Rattle.sys_build.specs.Scripts.{Answers}
 use Rattle.sys_build.specs.Setups.{IsPlayable, setup_of}
-use Rattle.system.specs.Policies.{Filter}
-use Rattle.system.specs.System.{System}
-use Rattle.system.specs.Texts.{IsSystem}
+use Rattle.conf_system.specs.Policies.{Filter}
+use Rattle.conf_system.specs.System.{System}
+use Rattle.conf_system.specs.Texts.{IsSystem}
 use Rattle.birdcore_top.specs.Command.{Command, Play, Check}
 use Rattle.birdcore_top.specs.Outcome.{Held, Misused, IsPossible, Played, ScriptGives}
 

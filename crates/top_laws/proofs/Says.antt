@@ -16,8 +16,8 @@ use Rattle.conf_ast.specs.declared.configurations.Statement.{Statement}
 use Rattle.conf_ast.specs.Configurations.{Declaration, configuration_of}
 use Rattle.conf_rules.specs.declared.refusal.Refusal.{Refusal}
 use Rattle.outside_io.specs.Whole.{limit}
-use Rattle.system.specs.System.{system_in}
-use Rattle.system.specs.Texts.{IsAcceptedText, refused_in}
+use Rattle.conf_system.specs.System.{system_in}
+use Rattle.conf_system.specs.Texts.{IsAcceptedText, refused_in}
 use Rattle.top_laws.specs.Says.{SaysSomething}
 
 -- ---- what is accepted

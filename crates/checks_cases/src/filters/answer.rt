@@ -1,6 +1,6 @@
 //! What is answered to an input.
 ghost use Rattle.std.specs.Prelude.{◌<◌, ◌^◌, ◌-◌, IfOk, length};
-ghost use Rattle.system.specs.Coded.{AreOrdered};
+ghost use Rattle.conf_system.specs.Coded.{AreOrdered};
 
 use crate::deciding::verdict;
 use crate::faults::{bad, no_memory};
@@ -8,12 +8,12 @@ use crate::filters::changes::write_changes;
 use crate::filters::judging::see;
 use crate::routes::read_route;
 use attrs::{Attrs, Names, Verdict};
+use conf_system::{System, read_system};
 use conf_tree::{ConfFault, place, read_config};
 use filt_check::TypeFault;
 use std::alloc::{AllocError, Global};
 use std::io;
 use std::io::{Error, ErrorKind};
-use system::{System, read_system};
 
 /// The longest configuration of a case, in bytes.
 const LONGEST: usize = 1_000_000;

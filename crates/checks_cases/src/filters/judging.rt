@@ -73,16 +73,19 @@ fn see_filter(alloc: Global, text: &[u8], filter: &Filter, scope: &mut Scope) ->
 fn see_policy(alloc: Global, text: &[u8], policy: &Policy, scope: &mut Scope) -> Checked<()> {
     match policy {
         Policy::All | Policy::None | Policy::Filter { .. } => Ok(Ok(())),
-        Policy::Block { at, block } => {
-            see_tree(check_block(alloc, text, scope, *at, block))
-        }
+        Policy::Block { at, block } => { see_tree(check_block(alloc, text, scope, *at, block)) }
         Policy::Where { at, condition } => {
             see_tree(check_expr(alloc, text, scope, *at, condition))
         }
     }
 }
 
-fn see_option(alloc: Global, text: &[u8], option: &ChannelOption, scope: &mut Scope) -> Checked<()> {
+fn see_option(
+    alloc: Global,
+    text: &[u8],
+    option: &ChannelOption,
+    scope: &mut Scope,
+) -> Checked<()> {
     match option {
         ChannelOption::Import(policy) | ChannelOption::Export(policy) => {
             see_policy(alloc, text, policy, scope)

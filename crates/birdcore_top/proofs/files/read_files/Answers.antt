@@ -1,6 +1,6 @@
 use Rattle.std.proofs.Common.{Err, ap, length, map}
 use Rattle.sys_build.specs.Names.{named_of}
-use Rattle.system.specs.Seen.{filter_says, system_of}
+use Rattle.conf_system.specs.Seen.{filter_says, system_of}
 use Rattle.birdcore_top.specs.Outcome.{Played}
 use Rattle.birdcore_top.specs.Written.{phases_read, setup_read}
 use Rattle.birdcore_top.specs.declared.status.Status.{Status}

@@ -1,6 +1,6 @@
 use Rattle.std.proofs.Common.{map, refl, arith}
 use Rattle.std.proofs.lemmas.Result.{err_from_is_err_and}
-use Rattle.system.specs.Seen.{filter_says, system_of}
+use Rattle.conf_system.specs.Seen.{filter_says, system_of}
 use Rattle.birdcore_top.proofs.Judged.{judged, script_stops}
 use Rattle.birdcore_top.proofs.files.read_lines.Goals as goal
 

@@ -1,6 +1,6 @@
 use Rattle.std.proofs.Common.{Err, None, ap, inl}
 use Rattle.std.proofs.KnownBytes.{Keeps-refl}
-use Rattle.system.specs.Seen.{system_of}
+use Rattle.conf_system.specs.Seen.{system_of}
 use Rattle.birdcore_top.specs.Command.{Check}
 use Rattle.birdcore_top.specs.declared.status.Status.{Status}
 use Rattle.birdcore_top.proofs.Joined.{accepted_of}

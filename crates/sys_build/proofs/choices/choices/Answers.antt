@@ -1,9 +1,9 @@
 use Rattle.std.proofs.Common.{◌∙◌, sym, ap, subst, ◌++◌, ℕ, List, map, append-nil}
 use Rattle.filt_tree.specs.declared.tree.TFilter.{TFilter}
-use Rattle.system.specs.contracts.passes.PassesJudge.TheImpl as passes
-use Rattle.system.specs.Coded.{IsBefore}
-use Rattle.system.specs.Policies.{Filter}
-use Rattle.system.specs.Seen.{filter_says, system_of}
+use Rattle.conf_system.specs.contracts.passes.PassesJudge.TheImpl as passes
+use Rattle.conf_system.specs.Coded.{IsBefore}
+use Rattle.conf_system.specs.Policies.{Filter}
+use Rattle.conf_system.specs.Seen.{filter_says, system_of}
 use Rattle.sys_build.proofs.Turns.{asked_turn, seen_all}
 use Rattle.sys_build.proofs.choices.choices.Goals as goal
 

@@ -1,7 +1,7 @@
 use Rattle.std.proofs.Common.{◌≡◌, ◌++◌, ℕ, List, map, take}
-use Rattle.system.specs.contracts.passes.PassesJudge.TheImpl as passes
-use Rattle.system.specs.Policies.{Filter}
-use Rattle.system.specs.Seen.{filter_says, system_of}
+use Rattle.conf_system.specs.contracts.passes.PassesJudge.TheImpl as passes
+use Rattle.conf_system.specs.Policies.{Filter}
+use Rattle.conf_system.specs.Seen.{filter_says, system_of}
 use Rattle.sys_build.proofs.choices.choices.Given as goal
 
 abbrev pub invariant-loop-condition : goal.invariant-loop-condition

@@ -1,8 +1,8 @@
 use Rattle.std.proofs.Common.{◌∙◌, ap, ℕ, List, map, arith}
 use Rattle.std.proofs.lemmas.List.{length-map}
-use Rattle.system.specs.contracts.passes.PassesJudge.TheImpl as passes
-use Rattle.system.specs.Policies.{Filter}
-use Rattle.system.specs.Seen.{system_of}
+use Rattle.conf_system.specs.contracts.passes.PassesJudge.TheImpl as passes
+use Rattle.conf_system.specs.Policies.{Filter}
+use Rattle.conf_system.specs.Seen.{system_of}
 use Rattle.sys_build.proofs.Turns.{got_next, took_all}
 use Rattle.sys_build.proofs.choices.filters.Goals as goal
 

@@ -1,5 +1,5 @@
 use Rattle.std.proofs.Common.{◌∙◌, ◌++◌, ap, ℕ, List}
-use Rattle.system.specs.Seen.{body_seen, protocol_seen}
+use Rattle.conf_system.specs.Seen.{body_seen, protocol_seen}
 use Rattle.sys_build.specs.Names.{channels_of}
 use Rattle.sys_build.proofs.Turns.{channels_turn}
 use Rattle.sys_build.proofs.names.channels.Goals as goal

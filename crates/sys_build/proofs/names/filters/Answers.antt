@@ -1,7 +1,7 @@
 use Rattle.std.proofs.Common.{◌∙◌, sym, ap, ℕ, List, Some, map, arith}
 use Rattle.std.proofs.lemmas.List.{length-map}
-use Rattle.system.specs.Policies.{Filter}
-use Rattle.system.specs.Seen.{system_of}
+use Rattle.conf_system.specs.Policies.{Filter}
+use Rattle.conf_system.specs.Seen.{system_of}
 use Rattle.sys_build.proofs.Turns.{took_all, took_next}
 use Rattle.sys_build.proofs.names.filters.Goals as goal
 

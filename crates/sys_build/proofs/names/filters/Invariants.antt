@@ -1,6 +1,6 @@
 use Rattle.std.proofs.Common.{◌≡◌, ℕ, List, map, take}
-use Rattle.system.specs.Policies.{Filter}
-use Rattle.system.specs.Seen.{system_of}
+use Rattle.conf_system.specs.Policies.{Filter}
+use Rattle.conf_system.specs.Seen.{system_of}
 use Rattle.sys_build.proofs.names.filters.Given as goal
 
 abbrev pub invariant-loop-number : goal.invariant-loop-number

@@ -1,7 +1,7 @@
 use Rattle.std.proofs.Common.{◌∙◌, sym, subst, ap, ◌<◌, ◌^◌, List, map}
 use Rattle.std.specs.List.{All}
 use Rattle.conf_check.specs.declared.checked.ProtocolDef.{ProtocolDef}
-use Rattle.system.specs.Seen.{protocol_seen, system_of}
+use Rattle.conf_system.specs.Seen.{protocol_seen, system_of}
 use Rattle.sys_build.specs.Names.{all_channels, held_table, named_protocol}
 use Rattle.sys_build.proofs.Fitting.{tables_fit}
 use Rattle.sys_build.proofs.Turns.{named_is}

@@ -1,5 +1,5 @@
 use Rattle.std.proofs.Common.{◌≡◌, map, take}
-use Rattle.system.specs.Seen.{system_of}
+use Rattle.conf_system.specs.Seen.{system_of}
 use Rattle.sys_build.proofs.Turns.{table_named}
 use Rattle.sys_build.proofs.names.tables.Given as goal
 

@@ -1,4 +1,4 @@
-use Rattle.system.specs.contracts.passes.PassesJudge.TheImpl as passes
+use Rattle.conf_system.specs.contracts.passes.PassesJudge.TheImpl as passes
 use Rattle.sys_build.proofs.Handed.{with_channel}
 use Rattle.sys_build.proofs.protocols.bgp_source.Goals as goal
 

@@ -1,7 +1,7 @@
 use Rattle.std.proofs.Common.{◌∙◌, ap, sym}
 use Rattle.conf_check.specs.declared.checked.ProtocolBody.{ProtocolBody}
 use Rattle.core_setup.specs.Setup as setup
-use Rattle.system.specs.Seen as system
+use Rattle.conf_system.specs.Seen as system
 use Rattle.sys_build.specs.Setups.{body_of}
 use Rattle.sys_build.proofs.protocols.body_parts.Goals as goal
 

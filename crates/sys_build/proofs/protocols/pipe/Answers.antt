@@ -1,4 +1,4 @@
-use Rattle.system.specs.contracts.passes.PassesJudge.TheImpl as passes
+use Rattle.conf_system.specs.contracts.passes.PassesJudge.TheImpl as passes
 use Rattle.sys_build.proofs.Handed.{both_ways}
 use Rattle.sys_build.proofs.protocols.pipe.Goals as goal
 

@@ -1,5 +1,5 @@
 use Rattle.std.proofs.Common.{◌∙◌}
-use Rattle.system.specs.contracts.passes.PassesJudge.TheImpl as passes
+use Rattle.conf_system.specs.contracts.passes.PassesJudge.TheImpl as passes
 use Rattle.sys_build.proofs.Handed.{named_body}
 use Rattle.sys_build.proofs.protocols.protocol.Goals as goal
 

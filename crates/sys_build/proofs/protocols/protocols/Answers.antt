@@ -1,9 +1,9 @@
 use Rattle.std.proofs.Common.{◌≡◌, ◌<◌, List, get_or, length, subst, sym}
 use Rattle.conf_check.specs.declared.checked.ProtocolDef.{ProtocolDef}
-use Rattle.system.specs.contracts.passes.PassesJudge.TheImpl as passes
+use Rattle.conf_system.specs.contracts.passes.PassesJudge.TheImpl as passes
 use Rattle.sys_run.specs.Parts.{protocol_seen}
-use Rattle.system.specs.Coded.{ProtocolBefore}
-use Rattle.system.specs.Seen as system
+use Rattle.conf_system.specs.Coded.{ProtocolBefore}
+use Rattle.conf_system.specs.Seen as system
 use Rattle.sys_build.proofs.Turns.{protocols_turn}
 use Rattle.sys_build.proofs.protocols.protocols.Goals as goal
 

@@ -1,7 +1,7 @@
 use Rattle.std.proofs.Common.{◌≡◌, map, take}
-use Rattle.system.specs.contracts.passes.PassesJudge.TheImpl as passes
+use Rattle.conf_system.specs.contracts.passes.PassesJudge.TheImpl as passes
 use Rattle.sys_run.specs.Parts.{protocol_seen}
-use Rattle.system.specs.Seen as system
+use Rattle.conf_system.specs.Seen as system
 use Rattle.sys_build.specs.Setups.{protocols_from}
 use Rattle.sys_build.proofs.protocols.protocols.Given as goal
 

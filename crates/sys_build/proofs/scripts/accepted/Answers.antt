@@ -1,7 +1,7 @@
 use Rattle.std.proofs.Common.{List, map, subst}
 use Rattle.script_lines.specs.Script as lines
 use Rattle.script_lines.specs.declared.script.Condition.{Condition}
-use Rattle.system.specs.Seen.{filter_says, system_of}
+use Rattle.conf_system.specs.Seen.{filter_says, system_of}
 use Rattle.sys_build.specs.Scripts.{Accepted, Answers, Tells, TellsFirst}
 use Rattle.sys_build.proofs.Judged.{handed_on, none_handed, told_first}
 use Rattle.sys_build.proofs.scripts.accepted.Goals as goal

@@ -1,6 +1,6 @@
 use Rattle.std.proofs.Common.{map}
-use Rattle.system.specs.Coded.{IsBefore}
-use Rattle.system.specs.Seen.{filter_says, system_of}
+use Rattle.conf_system.specs.Coded.{IsBefore}
+use Rattle.conf_system.specs.Seen.{filter_says, system_of}
 use Rattle.sys_build.specs.Scripts.{AreAsked, TellsFirst}
 use Rattle.sys_build.proofs.Judged.{first_refused, handed_on, judged_all, judged_turn, none_asked, none_before, none_handed, one_before}
 use Rattle.sys_build.proofs.scripts.judged.Goals as goal

@@ -1,6 +1,6 @@
 use Rattle.std.proofs.Common.{All, map, take}
-use Rattle.system.specs.Coded.{AreOrdered, IsBefore}
-use Rattle.system.specs.Seen.{filter_says, system_of}
+use Rattle.conf_system.specs.Coded.{AreOrdered, IsBefore}
+use Rattle.conf_system.specs.Seen.{filter_says, system_of}
 use Rattle.sys_build.specs.Scripts.{AreAsked}
 use Rattle.sys_build.proofs.scripts.judged.Given as goal
 

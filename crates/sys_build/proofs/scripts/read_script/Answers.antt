@@ -1,6 +1,6 @@
 use Rattle.std.proofs.Common.{sym, subst, ◌+◌, ◌-◌, ◌<◌, ◌^◌, length}
 use Rattle.script_lines.specs.declared.named.Named.{Named}
-use Rattle.system.specs.Seen.{system_of}
+use Rattle.conf_system.specs.Seen.{system_of}
 use Rattle.sys_build.proofs.Few.{have_room}
 use Rattle.sys_build.proofs.scripts.read_script.Goals as goal
 

@@ -1,6 +1,6 @@
 use Rattle.std.proofs.Common.{map}
 use Rattle.script_lines.specs.Script as lines
-use Rattle.system.specs.Seen.{filter_says, system_of}
+use Rattle.conf_system.specs.Seen.{filter_says, system_of}
 use Rattle.sys_build.specs.Scripts.{Accepted, Answers, Tells}
 use Rattle.sys_build.proofs.Judged.{handed_on, none_handed, told_first, told_words}
 use Rattle.sys_build.proofs.scripts.refused.Goals as goal

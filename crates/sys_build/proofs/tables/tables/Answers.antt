@@ -1,5 +1,5 @@
 use Rattle.sys_run.specs.Parts.{table_seen}
-use Rattle.system.specs.Seen.{system_of}
+use Rattle.conf_system.specs.Seen.{system_of}
 use Rattle.sys_build.proofs.Turns.{got_next}
 use Rattle.sys_build.proofs.tables.tables.Goals as goal
 

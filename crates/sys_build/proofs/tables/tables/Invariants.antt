@@ -1,6 +1,6 @@
 use Rattle.std.proofs.Common.{◌≡◌, map, take}
 use Rattle.sys_run.specs.Parts.{table_seen}
-use Rattle.system.specs.Seen.{system_of}
+use Rattle.conf_system.specs.Seen.{system_of}
 use Rattle.sys_build.proofs.tables.tables.Given as goal
 
 abbrev pub invariant-loop-number : goal.invariant-loop-number

@@ -1,8 +1,8 @@
 use Rattle.std.proofs.Common.{[], subst, sym, map}
 use Rattle.std.proofs.lemmas.Result.{IfOk-weaker}
 use Rattle.core_setup.specs.Setup.{IsSetup}
-use Rattle.system.specs.contracts.passes.PassesJudge.TheImpl as passes
-use Rattle.system.specs.Seen.{filter_says, system_of}
+use Rattle.conf_system.specs.contracts.passes.PassesJudge.TheImpl as passes
+use Rattle.conf_system.specs.Seen.{filter_says, system_of}
 use Rattle.sys_run.specs.Playing.{HasPlayed}
 use Rattle.sys_run.specs.Parts.{protocol_seen}
 use Rattle.sys_build.proofs.Few.{parts_few}

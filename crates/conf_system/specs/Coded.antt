@@ -1,0 +1,80 @@
+-- For conditions of calls: that filters can run, since they see only functions that were declared
+-- before them and are never stuck (`AreOrdered`), which is so of each accepted configuration, and
+-- that code is that of what is held (`HasCode`).
+-- From: own.
+use Rattle.std.specs.Prelude.{◌≡◌, ◌≤◌, ℕ, All, List, [], length, map, ⊤}
+use Rattle.conf_check.specs.declared.checked.ChannelDef.{ChannelDef}
+use Rattle.conf_check.specs.declared.checked.PolicyDef.{PolicyDef}
+use Rattle.conf_check.specs.declared.checked.PolicyDef.TheVariants as policies
+use Rattle.conf_check.specs.declared.checked.ProtocolBody.{ProtocolBody}
+use Rattle.conf_check.specs.declared.checked.ProtocolBody.TheVariants as bodies
+use Rattle.conf_check.specs.declared.checked.ProtocolDef.{ProtocolDef}
+use Rattle.filt_compile.specs.Compiles.{AreCompiled}
+use Rattle.filt_laws.specs.Sound.{Agrees}
+use Rattle.filt_meaning.specs.Names.{Around}
+use Rattle.filt_tree.specs.Scopes.{constant_values, context_of, function_trees}
+use Rattle.filt_tree.specs.Trees.{AreBefore, IsNeverStuck}
+use Rattle.filt_tree.specs.declared.scope.Scope.{Scope}
+use Rattle.filt_tree.specs.declared.scope.TFunction.{TFunction}
+use Rattle.filt_tree.specs.declared.tree.TFilter.{TFilter}
+use Rattle.filt_types.specs.Seen.{scene_of}
+use Rattle.conf_system.specs.Seen.{draft_flow, filter_flow}
+use Rattle.conf_system.specs.declared.code.Code.{Code}
+use Rattle.conf_system.specs.declared.system.System.{System as Held}
+
+-- ---- filters that can run
+
+-- no function of the scope sees more constants than there are
+abbrev pub AreWithin : Scope → Type 0
+AreWithin scope =
+    All (λ (g : TFunction). g.constants ≤ length (constant_values scope)) (function_trees scope)
+
+-- What runs over the scope is what the rules of types see of it, over whatever text.
+abbrev pub IsTyped : Scope → Type 0
+IsTyped scope =
+    (text : List ℕ) (around : Around) → Agrees (scene_of text scope) (context_of text around scope [])
+
+-- The functions that the filter sees were declared before it, and it is never stuck.
+pub record CanRun (scope : Scope) (f : TFilter) : Type 0 where
+  pub before : AreBefore (function_trees scope) f
+  pub never_stuck : IsNeverStuck (constant_values scope) (function_trees scope) f
+
+-- so over what is held
+abbrev pub IsBefore : Held → TFilter → Type 0
+IsBefore held f = CanRun held.checked.declared.scope f
+
+-- so of a policy's own filter, where it has one
+abbrev pub PolicyBefore : Held → PolicyDef → Type 0
+PolicyBefore held policies.All = ⊤
+PolicyBefore held policies.None = ⊤
+PolicyBefore held (policies.Filter n) = ⊤
+PolicyBefore held (policies.Own f) = IsBefore held f
+
+abbrev pub ChannelBefore : Held → ChannelDef → Type 0
+ChannelBefore held def = PolicyBefore held def.import × PolicyBefore held def.export
+
+abbrev pub BodyBefore : Held → ProtocolBody → Type 0
+BodyBefore held (bodies.Static def) = ChannelBefore held def.channel
+BodyBefore held (bodies.Bgp def) = ChannelBefore held def.channel
+BodyBefore held (bodies.Pipe def) = PolicyBefore held def.import × PolicyBefore held def.export
+
+abbrev pub ProtocolBefore : Held → ProtocolDef → Type 0
+ProtocolBefore held def = BodyBefore held def.body
+
+-- so of all that is held
+pub record AreOrdered (held : Held) : Type 0 where
+  pub functions : AreWithin held.checked.declared.scope
+  pub typed : IsTyped held.checked.declared.scope
+  pub filters : All (IsBefore held) held.checked.filters.items
+  pub protocols : All (ProtocolBefore held) held.checked.protocols.items
+
+-- ---- code
+
+-- The code of the functions does what the functions do, and that of each filter by name comes to
+-- what the filter comes to.
+pub record HasCode (held : Held) (code : Code) : Type 0 where
+  pub ordered : AreOrdered held
+  pub functions : AreCompiled (constant_values held.checked.declared.scope) 0
+      (function_trees held.checked.declared.scope) code.functions.items
+  pub filters : map (draft_flow code.functions.items) code.filters.items
+      ≡ map (filter_flow held.checked.declared.scope) held.checked.filters.items

@@ -1,5 +1,0 @@
-use Rattle.std.proofs.Common.{◌∙◌}
-use Rattle.system.proofs.code.constants.Goals as goal
-
-pub returns : goal.returns
-returns c = c.as_slice.ensures ∙ c.values.ensures.rest

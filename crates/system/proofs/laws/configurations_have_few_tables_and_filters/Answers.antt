@@ -1,9 +1,0 @@
-use Rattle.system.proofs.Counted.{said_within}
-use Rattle.system.proofs.FewNames.{have_few_filters, have_few_tables}
-use Rattle.system.proofs.laws.configurations_have_few_tables_and_filters.Goals as goal
-
-pub returns-clause-tables : goal.returns-clause-tables
-returns-clause-tables c = have_few_tables
-
-pub returns-clause-filters : goal.returns-clause-filters
-returns-clause-filters c = have_few_filters (said_within c.tokens_are_slices.ensures c.tokens_rise.ensures)

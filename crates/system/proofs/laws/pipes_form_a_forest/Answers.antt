@@ -1,5 +1,0 @@
-use Rattle.system.proofs.Forest.{is_forest}
-use Rattle.system.proofs.laws.pipes_form_a_forest.Goals as goal
-
-pub returns : goal.returns
-returns c = is_forest

@@ -1,5 +1,0 @@
-use Rattle.std.proofs.Common.{◌∙◌}
-use Rattle.system.proofs.system.System.passes.Goals as goal
-
-pub returns : goal.returns
-returns c = c.new.ensures ∙ c.in_ok-rule.ensures.says
