@@ -1,5 +1,5 @@
 -- The steps of the machine.
-use Rattle.std.proofs.Common.{◌≡◌, ℕ, suc, zero, ◌<◌, ◌≤◌, List, [], ◌∷◌, drop, Some, None, Err, refl, sym, ap, ◌∙◌, arith}
+use Rattle.std.proofs.Common.{◌≡◌, ℕ, suc, zero, ◌<◌, ◌≤◌, List, [], ◌∷◌, drop, None, Err, refl, sym, ap, ◌∙◌, arith}
 use Rattle.attrs.specs.declared.attributes.Attrs.{Attrs}
 use Rattle.attrs.specs.declared.judge.FilterFault.{FilterFault}
 use Rattle.attrs.specs.declared.judge.Verdict.TheVariants as verdicts
