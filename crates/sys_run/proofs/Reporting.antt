@@ -300,6 +300,7 @@ module _ {J : Type 0} (verdict : J → Net → Route → Verdict) (setup : Setup
     ordered = let o = is.ordered in let f = of.from_is in let u = of.upto_is in omega (arith, o, f, u);
     within = let w = is.within in let u = of.upto_is in omega (arith, w, u);
     belong = is.belong ∙ ap (λ n. counted n (held.upto - n)) (sym of.from_is) ∙ ap (λ n. counted new.from (n - new.from)) (sym of.upto_is);
+    fits = is.fits;
     new = [];
     since = (are.operations j).1;
     done = of.done;
