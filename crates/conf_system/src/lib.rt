@@ -20,6 +20,6 @@ mod read;
 mod system;
 
 pub use code::Code;
-pub use system::System;
 pub use passes::Passes;
 pub use read::{SystemFault, read_system};
+pub use system::System;
