@@ -150,5 +150,5 @@ pub fn see(alloc: Global, config: &Config) -> Checked<()> {
             return Ok(Err(fault));
         }
     }
-    Ok(Ok(scope))
+    Ok(Ok(()))
 }
