@@ -17,3 +17,6 @@ returns-in-Err g c =
     (Play c.args.conf.now c.args.script.now c.args.cells c.args.form) _ _ _ _ c.in-Err.status (stops_play c.args.conf.now c.args.script.now c.args.cells c.args.form (g.F.Shelf.held c.args.shelf.now) c.in-Err.status c.in-Err.ensures.stopped)
     (λ is. c.in-Err.ensures.read (ap (λ (s : Status). Err s) is)) (λ is. c.in-Err.ensures.in_turn (ap (λ (s : Status). Err s) is))
     (record { conf_lacked = c.in-Err.ensures.absent.0; script_lacked = c.in-Err.ensures.absent.1 }) (Keeps-refl _)
+
+pub write_play-requires-clause-fits : goal.write_play-requires-clause-fits
+write_play-requires-clause-fits g c = c.in-Ok.ensures.fits c.args.cells
