@@ -223,6 +223,6 @@ module _ (once : SaysOnce) where
   -- What may be due is what is required.
   pub one_outcome : (command : Option Command) (held : Held) (o p : Outcome) → IsRequired command held o → IsPossible command held p → p ≡ o
   one_outcome None held o p is may = may ∙ sym is
-  one_outcome (Some (Play conf script cells)) held o p is may = plays_agree conf script cells held o p is may
+  one_outcome (Some (Play conf script cells form)) held o p is may = plays_agree conf script cells held o p is may
   one_outcome (Some (Check conf None)) held o p is may = alone_agree conf (held conf) o p is may
   one_outcome (Some (Check conf (Some script))) held o p is may = checks_agree conf script held o p is may
