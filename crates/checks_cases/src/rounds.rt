@@ -4,7 +4,7 @@
 //! over 256 routes, of 10.0.0.0/24 to 10.0.255.0/24, alike but for the net, the MED, the last
 //! number of the path and the community, which count them.
 ghost use Rattle.std.specs.Prelude.{◌<◌, ◌^◌, ◌-◌, length};
-ghost use Rattle.conf_system.specs.Coded.{HasCode};
+ghost use Rattle.conf_system.specs.Coded.{AreOrdered, HasCode};
 ghost use Rattle.conf_system.specs.Seen.{system_of};
 
 use crate::faults::{bad, no_memory};
@@ -68,16 +68,25 @@ fn counted(
     Ok(accepted)
 }
 
-fn count(alloc: Global, text: &[u8], rounds: u32) -> io::Result<u64>
-    requires { length text.now < 2 ^ 32 - 1 }
+/// How many the last filter of a system accepts in so many rounds.
+fn of_last(alloc: Global, system: &System, rounds: u32) -> io::Result<u64>
+    requires { AreOrdered system.now }
 {
-    let system = read_system(alloc, text).map_err(|_| bad())?;
     let code = system.code(alloc).map_err(no_memory)?;
     let filters = system.filter_count();
     if filters == 0 {
         return Err(bad());
     }
-    counted(alloc, &system, &code, filters - 1, rounds)
+    counted(alloc, system, &code, filters - 1, rounds)
+}
+
+fn count(alloc: Global, text: &[u8], rounds: u32) -> io::Result<u64>
+    requires { length text.now < 2 ^ 32 - 1 }
+{
+    match read_system(alloc, text) {
+        Ok(system) => of_last(alloc, &system, rounds),
+        Err(_) => Err(bad()),
+    }
 }
 
 /// How many routes the last filter of the configuration in a file accepts in so many rounds.
