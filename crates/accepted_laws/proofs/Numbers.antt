@@ -2,8 +2,8 @@
 use Rattle.std.proofs.Common.{◌≡◌, ℕ, zero, suc, ◌+◌, ◌<◌, ◌≤◌, arith, Bool, true, false, not, ◌||◌, if◌then◌else◌, List, [], ◌∷◌, ◌++◌, length, length-append, Some, slice_get, Contains, refl, ap}
 use Rattle.std.specs.List.{list_any}
 use Rattle.bits_ip.specs.declared.address.Family.{Family}
-use Rattle.conf_lex.specs.declared.named.Name.{Name}
-use Rattle.conf_lex.specs.Names.{name_bytes}
+use Rattle.conf_ast.specs.declared.named.Name.{Name}
+use Rattle.conf_ast.specs.Names.{name_bytes}
 use Rattle.conf_ast.specs.declared.kind.ConfKind.{ConfKind}
 use Rattle.conf_ast.specs.declared.kind.ConfKind.TheVariants as kinds
 use Rattle.conf_ast.specs.Configurations as conf

@@ -1,11 +1,11 @@
 -- Configurations, and the trees that they are of.
 use Rattle.std.proofs.Common.{◌≡◌, ℕ, List, [], ◌∷◌, Option, Some, None, option_map, map, refl, sym as flip, ap, ◌∙◌, Vec}
 use Rattle.std.specs.Global.{Global}
-use Rattle.conf_lex.specs.declared.attribute.Attribute.TheVariants as attributes
+use Rattle.conf_ast.specs.declared.attribute.Attribute.TheVariants as attributes
 use Rattle.conf_lex.specs.declared.symbol.Symbol.{Symbol}
 use Rattle.conf_lex.specs.declared.symbol.Symbol.TheVariants as sym
 use Rattle.conf_lex.specs.declared.word.Word.TheVariants as words
-use Rattle.conf_lex.specs.declared.named.Name.{Name}
+use Rattle.conf_ast.specs.declared.named.Name.{Name}
 use Rattle.conf_lex.specs.Grammar.{Epsilon, Seq, Repeat, ParseTree, NoWords, Pair, Left, Right, Single, Snoc, DerivesLongest}
 use Rattle.conf_lex.specs.Leaves.{symbol_leaf, name_leaf, between}
 use Rattle.conf_ast.specs.declared.filters.Parameter.{Parameter}

@@ -7,7 +7,7 @@ use Rattle.conf_lex.specs.Grammar.{Terminal, Seq, Repeat, ParseTree, Leaf, NoWor
 use Rattle.conf_lex.specs.Leaves.{symbol_leaf}
 use Rattle.conf_ast.specs.declared.filters.Access.{Access}
 use Rattle.conf_ast.specs.declared.filters.Access.TheVariants as accesses
-use Rattle.conf_lex.specs.declared.attribute.Attribute.{Attribute}
+use Rattle.conf_ast.specs.declared.attribute.Attribute.{Attribute}
 use Rattle.conf_ast.specs.declared.filters.CompareOp.{CompareOp}
 use Rattle.conf_ast.specs.declared.filters.Item.{Item}
 use Rattle.conf_ast.specs.declared.filters.MaskItem.{MaskItem}

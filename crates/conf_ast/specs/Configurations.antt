@@ -9,7 +9,7 @@ use Rattle.std.specs.Prelude.{ℕ, Bool, List, Option, option_map, map, Vec}
 use Rattle.std.specs.Global.{Global}
 use Rattle.bits_ip.specs.Prefix.{Net}
 use Rattle.bits_ip.specs.declared.address.Family.{Family}
-use Rattle.conf_lex.specs.declared.named.Name.{Name}
+use Rattle.conf_ast.specs.declared.named.Name.{Name}
 use Rattle.conf_ast.specs.declared.filters.Function.{Function}
 use Rattle.conf_ast.specs.declared.filters.Item.{Item}
 use Rattle.conf_ast.specs.declared.filters.MaskItem.{MaskItem}

@@ -7,11 +7,11 @@
 -- Example: `a + b - c` is `Added (Added a Plus b) Minus c`; `(a)` isn't `a`.
 use Rattle.std.specs.Prelude.{ℕ, List, [], ◌∷◌, Option, Some, None, option_map, Vec}
 use Rattle.std.specs.Global.{Global}
-use Rattle.conf_lex.specs.declared.named.Name.{Name}
+use Rattle.conf_ast.specs.declared.named.Name.{Name}
 use Rattle.conf_ast.specs.declared.filters.Access.{Access}
 use Rattle.conf_ast.specs.declared.filters.Access.TheVariants as accesses
 use Rattle.conf_ast.specs.declared.filters.Arm.{Arm}
-use Rattle.conf_lex.specs.declared.attribute.Attribute.{Attribute}
+use Rattle.conf_ast.specs.declared.attribute.Attribute.{Attribute}
 use Rattle.conf_ast.specs.declared.filters.Block.{Block}
 use Rattle.conf_ast.specs.declared.filters.Change.{Change}
 use Rattle.conf_ast.specs.declared.filters.Change.TheVariants as changes

@@ -1,2 +1,4 @@
+pub mod Names
+pub mod Packed
 pub mod Filters
 pub mod Configurations

@@ -1,8 +1,8 @@
 //! The trees of configurations. Each `at` is the byte of the source at which what it is of begins.
 
+use crate::Name;
 use crate::filters::{Block, Expr, Filter, Function, Item, MaskItem, Num};
 use bits_ip::{Addr, Family, Prefix};
-use conf_lex::Name;
 
 /// An address, and its place.
 #[derive(Clone, Copy, Debug)]

@@ -1,9 +1,9 @@
 //! The trees of filters: expressions, statements, functions. Each `at` is the byte of the source at
 //! which what it is of begins, and `open` the byte of a parenthesis.
 
+pub use crate::{Attribute, Constant};
+use crate::{Name, PackedAddr};
 use bits_ip::Prefix;
-pub use conf_lex::{Attribute, Constant};
-use conf_lex::{Name, PackedAddr};
 
 /// A written number, or the name of a constant that is one.
 #[derive(Clone, Copy, Debug)]

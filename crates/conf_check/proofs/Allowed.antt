@@ -4,8 +4,8 @@ use Rattle.std.proofs.lemmas.Bool.{ltb-true}
 use Rattle.std.proofs.lemmas.Option.{none-some}
 use Rattle.std.specs.List.{list_any}
 use Rattle.bits_ip.specs.declared.address.Family.{Family}
-use Rattle.conf_lex.specs.declared.named.Name.{Name}
-use Rattle.conf_lex.specs.Names.{name_bytes}
+use Rattle.conf_ast.specs.declared.named.Name.{Name}
+use Rattle.conf_ast.specs.Names.{name_bytes}
 use Rattle.conf_ast.specs.declared.kind.ConfKind.{ConfKind}
 use Rattle.conf_ast.specs.Configurations as conf
 use Rattle.conf_ast.specs.Configurations.{FamilyChannel, Instance, StaticSetting, BgpSetting, PipeSetting, Routine, Value}
@@ -13,7 +13,7 @@ use Rattle.conf_ast.specs.Filters.{Statements}
 use Rattle.filt_meaning.specs.Names.{same_name}
 use Rattle.filt_types.specs.Items.{is_none}
 use Rattle.filt_types.specs.Scenes as scenes
-use Rattle.filt_rules.specs.Refused as filters
+use Rattle.filt_types.specs.Refused as filters
 use Rattle.conf_rules.specs.declared.refusal.Refusal.{Refusal}
 use Rattle.conf_rules.specs.Channels.{one_channel}
 use Rattle.conf_rules.specs.Constants.{value}

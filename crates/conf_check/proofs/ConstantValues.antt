@@ -22,9 +22,9 @@ use Rattle.conf_ast.specs.declared.filters.PairPart.{PairPart}
 use Rattle.conf_ast.specs.declared.filters.PairPart.TheVariants as parts
 use Rattle.conf_ast.specs.declared.filters.NumRange.{NumRange}
 use Rattle.conf_ast.specs.Configurations as conf
-use Rattle.filt_values.specs.declared.value.Failure.{Failure}
-use Rattle.filt_values.specs.Operators.{and_then, pair_of}
-use Rattle.filt_values.specs.Values.{Val, VInt, VMask, VIntSet, VPairSet, VPrefixSet}
+use Rattle.filt_meaning.specs.declared.value.Failure.{Failure}
+use Rattle.filt_meaning.specs.Operators.{and_then, pair_of}
+use Rattle.filt_meaning.specs.Values.{Val, VInt, VMask, VIntSet, VPairSet, VPrefixSet}
 use Rattle.filt_meaning.specs.Configuration.{constant}
 use Rattle.filt_meaning.specs.Items as i
 use Rattle.filt_meaning.specs.Names.{Around, Context, Doing}

@@ -5,24 +5,24 @@ use Rattle.std.specs.Result.{result_ok}
 use Rattle.std.proofs.lemmas.List.{map-append}
 use Rattle.std.proofs.lemmas.List.Elements.{All-push}
 use Rattle.bits_ip.specs.declared.address.Family.{Family}
-use Rattle.conf_lex.specs.declared.named.Name.{Name}
-use Rattle.conf_lex.specs.Names.{name_bytes}
+use Rattle.conf_ast.specs.declared.named.Name.{Name}
+use Rattle.conf_ast.specs.Names.{name_bytes}
 use Rattle.conf_ast.specs.Configurations as conf
 use Rattle.conf_ast.specs.Configurations.{Instance, PipeSetting, Routine}
-use Rattle.filt_values.specs.declared.fixed.Fixed.{Fixed}
-use Rattle.filt_values.specs.declared.value.Failure.{Failure}
-use Rattle.filt_values.specs.Seen.{val_of_fixed}
-use Rattle.filt_values.specs.Values.{Val}
+use Rattle.filt_meaning.specs.declared.fixed.Fixed.{Fixed}
+use Rattle.filt_meaning.specs.declared.value.Failure.{Failure}
+use Rattle.filt_meaning.specs.Seen.{val_of_fixed}
+use Rattle.filt_meaning.specs.Values.{Val}
 use Rattle.filt_meaning.specs.Configuration as meaning
 use Rattle.filt_meaning.specs.Configuration.{constant, doing}
 use Rattle.filt_meaning.specs.Names.{Around, Context, Doing}
-use Rattle.filt_tree.specs.declared.scope.Scope.{Scope}
-use Rattle.filt_tree.specs.declared.scope.TFunction.{TFunction}
-use Rattle.filt_tree.specs.Scopes.{constant_values, constants_in, context_of, function_names, function_trees, named, tables_of}
-use Rattle.filt_tree.specs.Trees.{function, tables}
+use Rattle.filt_meaning.specs.declared.scope.Scope.{Scope}
+use Rattle.filt_meaning.specs.declared.scope.TFunction.{TFunction}
+use Rattle.filt_meaning.specs.Scopes.{constant_values, constants_in, context_of, function_names, function_trees, named, tables_of}
+use Rattle.filt_meaning.specs.Trees.{function, tables}
 use Rattle.filt_types.specs.Scenes.{Signature}
 use Rattle.filt_types.specs.Seen.{functions_in, scene_of, signature_of}
-use Rattle.filt_rules.specs.Refused.{signature_in}
+use Rattle.filt_types.specs.Refused.{signature_in}
 use Rattle.filt_check.proofs.Growing.{constant_declared, function_declared}
 use Rattle.conf_rules.specs.declared.declared.Declared.{Declared}
 use Rattle.conf_rules.specs.declared.joints.Joint.{Joint}

@@ -13,12 +13,12 @@ use Rattle.conf_ast.specs.Filters.{Statements}
 use Rattle.filt_meaning.specs.Configuration as meaning
 use Rattle.filt_meaning.specs.Configuration.{filter_where}
 use Rattle.filt_meaning.specs.Names.{Context}
-use Rattle.filt_tree.specs.declared.scope.Scope.{Scope}
-use Rattle.filt_tree.specs.declared.scope.TFunction.{TFunction}
-use Rattle.filt_tree.specs.declared.tree.TFilter.{TFilter}
-use Rattle.filt_tree.specs.Scopes.{constant_values, function_trees}
-use Rattle.filt_tree.specs.Trees.{AreBefore, tree_flow}
-use Rattle.filt_values.specs.declared.fixed.Fixed.{Fixed}
+use Rattle.filt_meaning.specs.declared.scope.Scope.{Scope}
+use Rattle.filt_meaning.specs.declared.scope.TFunction.{TFunction}
+use Rattle.filt_meaning.specs.declared.tree.TFilter.{TFilter}
+use Rattle.filt_meaning.specs.Scopes.{constant_values, function_trees}
+use Rattle.filt_meaning.specs.Trees.{AreBefore, tree_flow}
+use Rattle.filt_meaning.specs.declared.fixed.Fixed.{Fixed}
 use Rattle.filt_check.proofs.Growing.{filter_stays, nothing_declared}
 use Rattle.conf_rules.specs.declared.refusal.Refusal.{Refusal}
 use Rattle.conf_rules.specs.Channels.{settings_of}

@@ -6,14 +6,14 @@ use Rattle.std.specs.Prelude.{ℕ, ◌+◌, if◌then◌else◌, List, [], ◌�
 use Rattle.bits_ip.specs.declared.address.Addr.TheVariants as addrs
 use Rattle.bits_ip.specs.declared.address.Family.{Family}
 use Rattle.bits_ip.specs.declared.address.Family.TheVariants as families
-use Rattle.conf_lex.specs.Names.{name_bytes}
+use Rattle.conf_ast.specs.Names.{name_bytes}
 use Rattle.conf_ast.specs.Configurations as conf
-use Rattle.filt_values.specs.declared.value.Failure.{Failure}
-use Rattle.filt_values.specs.Values.{Val}
+use Rattle.filt_meaning.specs.declared.value.Failure.{Failure}
+use Rattle.filt_meaning.specs.Values.{Val}
 use Rattle.filt_meaning.specs.Configuration.{constant}
 use Rattle.filt_meaning.specs.Names.{Around, Context}
 use Rattle.filt_types.specs.Scenes.{Scene, Signature}
-use Rattle.filt_rules.specs.Refused.{signature_in}
+use Rattle.filt_types.specs.Refused.{signature_in}
 use Rattle.conf_rules.specs.declared.joints.Joint.{Joint}
 use Rattle.conf_rules.specs.Known.{Known}
 use Rattle.conf_rules.specs.Protocols.{bgp_stem, joint_of, own_name, pipe_names, pipe_stem, static_stem}

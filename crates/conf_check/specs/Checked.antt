@@ -10,8 +10,8 @@ use Rattle.bits_ip.specs.declared.address.Addr.{Addr}
 use Rattle.bits_ip.specs.declared.address.Addr.TheVariants as addrs
 use Rattle.bits_ip.specs.declared.address.Family.{Family}
 use Rattle.bits_ip.specs.declared.address.Family.TheVariants as families
-use Rattle.conf_lex.specs.declared.named.Name.{Name}
-use Rattle.conf_lex.specs.Names.{name_bytes}
+use Rattle.conf_ast.specs.declared.named.Name.{Name}
+use Rattle.conf_ast.specs.Names.{name_bytes}
 use Rattle.conf_ast.specs.declared.configurations.Action.{Action}
 use Rattle.conf_ast.specs.declared.configurations.Action.TheVariants as actions
 use Rattle.conf_ast.specs.declared.configurations.Limit.{Limit}
@@ -25,11 +25,11 @@ use Rattle.conf_ast.specs.Filters.{Statements}
 use Rattle.filt_meaning.specs.Configuration as meaning
 use Rattle.filt_meaning.specs.Configuration.{filter_where}
 use Rattle.filt_meaning.specs.Names.{Around}
-use Rattle.filt_tree.specs.declared.scope.Scope.{Scope}
-use Rattle.filt_tree.specs.declared.scope.TFunction.{TFunction}
-use Rattle.filt_tree.specs.declared.tree.TFilter.{TFilter}
-use Rattle.filt_tree.specs.Scopes.{constant_values, context_of, function_trees}
-use Rattle.filt_tree.specs.Trees.{AreBefore, tree_flow}
+use Rattle.filt_meaning.specs.declared.scope.Scope.{Scope}
+use Rattle.filt_meaning.specs.declared.scope.TFunction.{TFunction}
+use Rattle.filt_meaning.specs.declared.tree.TFilter.{TFilter}
+use Rattle.filt_meaning.specs.Scopes.{constant_values, context_of, function_trees}
+use Rattle.filt_meaning.specs.Trees.{AreBefore, tree_flow}
 use Rattle.conf_rules.specs.Channels.{last_table, settings_of}
 use Rattle.conf_rules.specs.Known.{Known, number_of, place_in, table_number, table_of}
 use Rattle.conf_rules.specs.Protocols as rules

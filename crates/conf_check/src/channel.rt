@@ -14,9 +14,9 @@ ghost use Rattle.conf_check.specs.Seen.{Means, passing_or};
 use crate::checked::{ChannelDef, ImportLimit};
 use crate::policy::{export_policy, import_policy};
 use bits_ip::{Family, OutOfMemory};
+use conf_ast::Name;
 use conf_ast::configurations::{Action, Channel, ChannelOption, Limit, Policy};
 use conf_ast::filters::Num;
-use conf_lex::Name;
 use conf_rules::{Declared, last_table, number_of, table_number};
 use std::alloc::Global;
 

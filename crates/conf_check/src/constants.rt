@@ -6,21 +6,20 @@ ghost use Rattle.conf_ast.specs.Configurations.{value_of};
 ghost use Rattle.filt_meaning.specs.Configuration.{constant};
 ghost use Rattle.filt_meaning.specs.Items as written;
 ghost use Rattle.filt_meaning.specs.Names.{Around, constant_of, there};
-ghost use Rattle.filt_tree.specs.Scopes.{context_of};
-ghost use Rattle.filt_tree.specs.Trees.{set_of_labels};
-ghost use Rattle.filt_values.specs.Operators.{and_then, joined, pair_of};
-ghost use Rattle.filt_values.specs.Seen.{val_of_fixed};
-ghost use Rattle.filt_values.specs.Values.{VInt, VIntSet, VMask, VPairSet, VPrefixSet, VString};
+ghost use Rattle.filt_meaning.specs.Scopes.{context_of};
+ghost use Rattle.filt_meaning.specs.Trees.{set_of_labels};
+ghost use Rattle.filt_meaning.specs.Operators.{and_then, joined, pair_of};
+ghost use Rattle.filt_meaning.specs.Seen.{val_of_fixed};
+ghost use Rattle.filt_meaning.specs.Values.{VInt, VIntSet, VMask, VPairSet, VPrefixSet, VString};
 
 use bits_ip::OutOfMemory;
 use conf_ast::configurations::{Literal, StringLiteral};
 use conf_ast::filters::{Item, MaskItem, Num};
-use conf_lex::{Name, bytes_at};
+use conf_ast::{Name, bytes_at};
 use filt_check::{mask_of, number, set_of};
+use filt_meaning::{Fixed, Labels, Scope};
 use filt_sets::{IntSet, Mask, PairSet, PrefixSet};
-use filt_tree::{Labels, Scope};
 use filt_types::{Seen, constant_named};
-use filt_values::Fixed;
 use std::alloc::Global;
 
 /// The same value once more.

@@ -4,7 +4,7 @@ ghost use Rattle.std.specs.Prelude.{◌≡◌, ℕ, ◌++◌, ◌∷◌, ◌<◌
 ghost use Rattle.std.specs.Global.{Global};
 ghost use Rattle.std.specs.List.{list_any};
 ghost use Rattle.filt_meaning.specs.Names.{named_in, same_name};
-ghost use Rattle.filt_tree.specs.Scopes.{constants_in};
+ghost use Rattle.filt_meaning.specs.Scopes.{constants_in};
 ghost use Rattle.filt_types.specs.Scenes.{is_declared as is_named};
 ghost use Rattle.filt_types.specs.Seen.{functions_in};
 ghost use Rattle.conf_rules.specs.Known.{is_declared};
@@ -15,8 +15,7 @@ ghost use Rattle.conf_check.specs.Seen.{AreNamed, Joins, Stays, other_names};
 
 use bits_ip::{Family, OutOfMemory};
 use conf_rules::{Declared, Joint};
-use filt_tree::{Scope, TFunction};
-use filt_values::Fixed;
+use filt_meaning::{Fixed, Scope, TFunction};
 use indexmap::{IndexMap, IndexSet};
 use std::alloc::Global;
 

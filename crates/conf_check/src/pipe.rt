@@ -12,8 +12,8 @@ ghost use Rattle.conf_check.specs.Seen.{HasPeer, Means, passing_or};
 use crate::checked::PipeDef;
 use crate::policy::{export_policy, import_policy};
 use bits_ip::{Family, OutOfMemory};
+use conf_ast::Name;
 use conf_ast::configurations::{PipeOption, Policy, Protocol};
-use conf_lex::Name;
 use conf_rules::{Declared, last_peer, last_pipe_table, table_number, table_of};
 use std::alloc::Global;
 

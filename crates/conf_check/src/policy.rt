@@ -11,12 +11,12 @@ ghost use Rattle.conf_check.specs.Seen.{Means, passing_or};
 
 use crate::checked::PolicyDef;
 use bits_ip::OutOfMemory;
+use conf_ast::Name;
 use conf_ast::configurations::Policy;
 use conf_ast::filters::{Block, Expr};
-use conf_lex::Name;
 use conf_rules::Declared;
 use filt_check::{resolve_condition, resolve_filter};
-use filt_tree::{Scope, TFilter};
+use filt_meaning::{Scope, TFilter};
 use std::alloc::Global;
 
 /// The number of the filter of that name; behind the last one where there is none.

@@ -26,10 +26,9 @@ use crate::policy::block_filter;
 use crate::static_protocol::static_protocol;
 use attrs::Seq;
 use bits_ip::{Family, OutOfMemory};
-use conf_ast::ConfFault;
 use conf_ast::configurations::{BgpOption, Literal, PipeOption, Protocol, Statement, StaticOption};
 use conf_ast::filters::{Filter, Function};
-use conf_lex::Name;
+use conf_ast::{ConfFault, Name};
 use conf_rules::{
     BGP_STEM, Declared, PIPE_STEM, STATIC_STEM, first_in_statement, joint_of, own_name,
 };

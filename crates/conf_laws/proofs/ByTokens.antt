@@ -5,8 +5,8 @@ use Rattle.bits_ip.specs.declared.address.Addr.{Addr}
 use Rattle.conf_lex.specs.Attributes.{attribute_of, constant_of}
 use Rattle.conf_lex.specs.Symbols.{symbol_of, is_else, is_colon, is_slash}
 use Rattle.conf_lex.specs.Words.{kind_symbol, is_prefix}
-use Rattle.conf_lex.specs.declared.attribute.Attribute.{Attribute}
-use Rattle.conf_lex.specs.declared.attribute.Constant.{Constant}
+use Rattle.conf_ast.specs.declared.attribute.Attribute.{Attribute}
+use Rattle.conf_ast.specs.declared.attribute.Constant.{Constant}
 use Rattle.conf_lex.specs.declared.symbol.Symbol.{Symbol}
 use Rattle.conf_lex.specs.declared.symbol.Symbol.TheVariants as symbols
 use Rattle.conf_lex.specs.declared.token.TokenKind.{TokenKind}

@@ -5,13 +5,13 @@ use Rattle.std.specs.Global.{Global}
 use Rattle.bits_ip.specs.declared.prefix.Prefix.{Prefix}
 use Rattle.bits_ip.specs.declared.address.Family.{Family}
 use Rattle.bits_ip.specs.declared.address.Family.TheVariants as families
-use Rattle.conf_lex.specs.declared.attribute.Attribute.{Attribute}
-use Rattle.conf_lex.specs.declared.attribute.Attribute.TheVariants as attributes
+use Rattle.conf_ast.specs.declared.attribute.Attribute.{Attribute}
+use Rattle.conf_ast.specs.declared.attribute.Attribute.TheVariants as attributes
 use Rattle.conf_lex.specs.declared.symbol.Symbol.{Symbol}
 use Rattle.conf_lex.specs.declared.symbol.Symbol.TheVariants as sym
 use Rattle.conf_lex.specs.declared.word.Word.{Word}
 use Rattle.conf_lex.specs.declared.word.Word.TheVariants as words
-use Rattle.conf_lex.specs.declared.named.Name.{Name}
+use Rattle.conf_ast.specs.declared.named.Name.{Name}
 use Rattle.conf_ast.specs.declared.filters.Num.{Num}
 use Rattle.conf_ast.specs.declared.filters.Parameter.{Parameter}
 use Rattle.conf_ast.specs.declared.filters.Separator.{Separator}

@@ -10,8 +10,8 @@ use Rattle.conf_lex.specs.Symbols.{symbol_of, is_placed, is_else, is_colon, is_s
 use Rattle.conf_lex.specs.Words.{symbol_word}
 use Rattle.conf_lex.specs.Shapes.{IsShape, IsDigits}
 use Rattle.conf_lex.specs.declared.scan.Lexeme.TheVariants as lexemes
-use Rattle.conf_lex.specs.declared.attribute.Attribute.{Attribute}
-use Rattle.conf_lex.specs.declared.attribute.Attribute.TheVariants as attributes
+use Rattle.conf_ast.specs.declared.attribute.Attribute.{Attribute}
+use Rattle.conf_ast.specs.declared.attribute.Attribute.TheVariants as attributes
 use Rattle.conf_lex.specs.declared.symbol.Symbol.{Symbol}
 use Rattle.conf_lex.specs.declared.symbol.Symbol.TheVariants as symbols
 use Rattle.conf_lex.specs.declared.token.TokenKind.{TokenKind}

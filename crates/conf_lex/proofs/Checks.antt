@@ -5,9 +5,9 @@ use denote.Enum.Declared.{tag_of}
 use Rattle.conf_lex.specs.Attributes.{attribute_spellings}
 use Rattle.conf_lex.specs.contracts.attribute.Attribute as attribute_type
 use Rattle.conf_lex.specs.contracts.symbol.Symbol as symbol_type
-use Rattle.conf_lex.specs.declared.attribute.Attribute.{Attribute}
-use Rattle.conf_lex.specs.declared.attribute.Attribute.TheVariants as attributes
-use Rattle.conf_lex.specs.declared.attribute.Constant.TheVariants as constants
+use Rattle.conf_ast.specs.declared.attribute.Attribute.{Attribute}
+use Rattle.conf_ast.specs.declared.attribute.Attribute.TheVariants as attributes
+use Rattle.conf_ast.specs.declared.attribute.Constant.TheVariants as constants
 use Rattle.conf_lex.specs.declared.symbol.Symbol.{Symbol}
 use Rattle.conf_lex.specs.declared.symbol.Symbol.TheVariants as symbols
 use Rattle.conf_lex.specs.Symbols.{spellings}

@@ -6,7 +6,7 @@ use Rattle.conf_lex.specs.Grammar.{begins}
 use denote.Enum.Bare.{sameb, same_true, true_same}
 use Rattle.conf_lex.specs.contracts.attribute.Attribute as attribute_type
 use Rattle.conf_lex.specs.contracts.symbol.Symbol as symbol_type
-use Rattle.conf_lex.specs.declared.attribute.Attribute.{Attribute}
+use Rattle.conf_ast.specs.declared.attribute.Attribute.{Attribute}
 use Rattle.conf_lex.specs.declared.symbol.Symbol.{Symbol}
 use Rattle.conf_lex.specs.declared.word.Word.{Word}
 use Rattle.conf_lex.specs.declared.word.Word.TheVariants as words

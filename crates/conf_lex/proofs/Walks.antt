@@ -5,8 +5,8 @@ use Rattle.std.specs.Prelude.{MatchOption, MatchResult, IfErr, IsErrAnd, Result,
 use Rattle.std.proofs.lemmas.Bool.{false≢true}
 use Rattle.std.proofs.lemmas.List.{length-append, length-drop, drop-drop}
 use Rattle.bits_ip.specs.declared.address.Addr.{Addr}
-use Rattle.conf_lex.specs.declared.attribute.Attribute.{Attribute}
-use Rattle.conf_lex.specs.declared.attribute.Constant.{Constant}
+use Rattle.conf_ast.specs.declared.attribute.Attribute.{Attribute}
+use Rattle.conf_ast.specs.declared.attribute.Constant.{Constant}
 use Rattle.conf_lex.specs.declared.lexer.Spot.{Spot}
 use Rattle.conf_lex.specs.declared.symbol.Symbol.{Symbol}
 use Rattle.conf_lex.specs.declared.symbol.Symbol.TheVariants as symbols

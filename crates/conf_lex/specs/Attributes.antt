@@ -5,10 +5,10 @@
 -- Example: `bgp_path` is an attribute, `RTS_BGP` a constant.
 use Rattle.std.specs.Prelude.{ℕ, Option, List, [], ◌∷◌, codes}
 use Rattle.conf_lex.specs.Symbols.{lookup}
-use Rattle.conf_lex.specs.declared.attribute.Attribute.{Attribute}
-use Rattle.conf_lex.specs.declared.attribute.Attribute.TheVariants as attributes
-use Rattle.conf_lex.specs.declared.attribute.Constant.{Constant}
-use Rattle.conf_lex.specs.declared.attribute.Constant.TheVariants as constants
+use Rattle.conf_ast.specs.declared.attribute.Attribute.{Attribute}
+use Rattle.conf_ast.specs.declared.attribute.Attribute.TheVariants as attributes
+use Rattle.conf_ast.specs.declared.attribute.Constant.{Constant}
+use Rattle.conf_ast.specs.declared.attribute.Constant.TheVariants as constants
 
 abbrev pub attribute_spellings : List (List ℕ × Attribute)
 attribute_spellings =

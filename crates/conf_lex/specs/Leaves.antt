@@ -5,7 +5,7 @@
 use Rattle.conf_lex.specs.declared.symbol.Symbol.{Symbol}
 use Rattle.conf_lex.specs.declared.word.Word.{Word}
 use Rattle.conf_lex.specs.declared.word.Word.TheVariants as words
-use Rattle.conf_lex.specs.declared.named.Name.{Name}
+use Rattle.conf_ast.specs.declared.named.Name.{Name}
 use Rattle.conf_lex.specs.Grammar.{ParseTree, Leaf, Pair, Deeper}
 
 abbrev pub name_leaf : Name → ParseTree

@@ -1,4 +1,3 @@
-pub mod Packed
 pub mod Shapes
 pub mod Lex
 pub mod Fronts
@@ -14,5 +13,4 @@ pub mod Sentences
 pub mod Agrees
 pub mod Leaves
 pub mod PartShapes
-pub mod Names
 pub mod Inside

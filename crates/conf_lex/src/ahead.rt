@@ -13,11 +13,11 @@ ghost use Rattle.conf_lex.specs.declared.token.TokenKind.TheVariants as kinds;
 ghost use Rattle.conf_lex.specs.declared.word.Word.TheVariants as words;
 
 use crate::lexer::{Spot, next_token};
-use crate::packed_addr::PackedAddr;
 use crate::symbol::Symbol;
 use crate::token::{LexFault, Token, TokenKind};
 use crate::token_words::{is_colon, is_slash, prefix_word, token_symbol, word_of};
 use crate::word::Word;
+use conf_ast::PackedAddr;
 
 // The next token, where there is one.
 fn token_ahead(text: &[u8], spot: Spot) -> Option<(Token, Spot)>

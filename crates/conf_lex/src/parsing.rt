@@ -10,12 +10,11 @@ ghost use Rattle.conf_lex.specs.Reading.{word, Failed};
 ghost use Rattle.conf_lex.specs.Agrees.{AgreesOnError, Agrees, NeverMemory};
 ghost use Rattle.conf_lex.specs.Leaves.{name_leaf};
 
-use crate::attribute::Attribute;
-use crate::named::Name;
 use crate::refusal::Refusal;
 use crate::symbol::Symbol;
 use crate::word::Word;
 use bits_ip::Prefix;
+use conf_ast::{Attribute, Name};
 
 /// The next word, and the words after it.
 pub fn next(words: &[Word]) -> Option<(Word, &[Word])>

@@ -10,11 +10,11 @@ ghost use Rattle.conf_lex.specs.Words.{IsWithin, AreWithin};
 
 use crate::attribute::{attribute_of, constant_of};
 use crate::keywords::{is_placed, symbol_of};
-use crate::packed_addr::PackedAddr;
 use crate::symbol::Symbol;
 use crate::token::{Token, TokenKind};
 use crate::word::{Word, Words};
 use bits_ip::{Addr, OutOfMemory, Prefix};
+use conf_ast::PackedAddr;
 use std::alloc::Global;
 
 fn symbol_word(at: usize, symbol: Symbol) -> Word

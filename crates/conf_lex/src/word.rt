@@ -1,9 +1,8 @@
 ghost use Rattle.std.specs.Prelude.{◌≡◌, slice_index_or};
 
-use crate::attribute::{Attribute, Constant};
-use crate::packed_addr::PackedAddr;
 use crate::symbol::Symbol;
 use bits_ip::Prefix;
+use conf_ast::{Attribute, Constant, PackedAddr};
 
 /// What the grammars read: a token, or several that are one word to them. `at` is the byte of the
 /// source at which the word begins.

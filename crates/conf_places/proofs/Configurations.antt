@@ -5,8 +5,8 @@ use Rattle.std.specs.List.{list_any}
 use Rattle.bits_ip.specs.Address.{family_of}
 use Rattle.bits_ip.specs.Prefix.{Net, same_net}
 use Rattle.bits_ip.specs.declared.address.Family.{Family}
-use Rattle.conf_lex.specs.declared.named.Name.{Name}
-use Rattle.conf_lex.specs.Names.{name_bytes}
+use Rattle.conf_ast.specs.declared.named.Name.{Name}
+use Rattle.conf_ast.specs.Names.{name_bytes}
 use Rattle.conf_ast.specs.declared.filters.Num.{Num}
 use Rattle.conf_ast.specs.declared.kind.ConfKind.{ConfKind}
 use Rattle.conf_ast.specs.declared.kind.ConfKind.TheVariants as kinds
@@ -27,7 +27,7 @@ use Rattle.filt_types.specs.Expressions.{judge}
 use Rattle.filt_types.specs.Items as items
 use Rattle.filt_types.specs.Items.{is_none}
 use Rattle.filt_types.specs.Scenes.{constant_of}
-use Rattle.filt_rules.specs.Refused as filters
+use Rattle.filt_types.specs.Refused as filters
 use Rattle.conf_rules.specs.declared.refusal.Refusal.{Refusal}
 use Rattle.conf_rules.specs.Channels as channels
 use Rattle.conf_rules.specs.Channels.{passing, limit, settings_of, is_other_family, family_of_table, channel, second_channels, one_channel, lacks_policy, same_family}

@@ -1,9 +1,9 @@
 -- What is refused in a filter stands where it is written: what holds of each place of a filter
 -- holds of the places of its refusals.
 use Rattle.std.proofs.Common.{ℕ, Bool, true, false, not, ◌||◌, ◌==◌, if◌then◌else◌, List, [], ◌∷◌, ◌++◌, length, Option, Some, None, nat_lt}
-use Rattle.conf_lex.specs.declared.named.Name.{Name}
-use Rattle.conf_lex.specs.Names.{name_bytes}
-use Rattle.conf_lex.specs.declared.attribute.Attribute.TheVariants as attributes
+use Rattle.conf_ast.specs.declared.named.Name.{Name}
+use Rattle.conf_ast.specs.Names.{name_bytes}
+use Rattle.conf_ast.specs.declared.attribute.Attribute.TheVariants as attributes
 use Rattle.conf_ast.specs.declared.filters.Item.{Item}
 use Rattle.conf_ast.specs.declared.filters.Item.TheVariants as items
 use Rattle.conf_ast.specs.declared.filters.Lengths.{Lengths}
@@ -26,8 +26,8 @@ use Rattle.conf_ast.specs.declared.filters.VariableType.{VariableType}
 use Rattle.bits_ip.specs.Prefix.{Net}
 use Rattle.conf_ast.specs.Configurations.{Routine}
 use Rattle.conf_ast.specs.Filters.{Expression, Plain, Named, Called, Grouped, Paired, SetOf, MaskOf, IsDefined, MethodOf, PropertyOf, Changed, Negated, Multiplied, Added, Compared, Joined, Expressions, NoExpressions, AndExpressions, Statement, Braced, Nothing, Declare, Assign, ChangeBy, Clear, Unset, If, IfElse, Case, CaseElse, For, Accept, Reject, Return, Print, Printn, Call, Statements, NoStatements, AndStatements, Arms, NoArms, AndArms}
-use Rattle.filt_values.specs.declared.value.Sort.{Sort}
-use Rattle.filt_values.specs.Sorts.{one_bool, one_list}
+use Rattle.filt_meaning.specs.declared.value.Sort.{Sort}
+use Rattle.filt_meaning.specs.Sorts.{one_bool, one_list}
 use Rattle.filt_meaning.specs.Names.{sort_of_type}
 use Rattle.filt_types.specs.declared.refusal.Cause.{Cause}
 use Rattle.filt_types.specs.declared.refusal.Cause.TheVariants as causes
@@ -42,7 +42,7 @@ use Rattle.filt_types.specs.Statements as acts
 use Rattle.filt_types.specs.Statements.{Around, Checked, Aim, Holds, IsFixed, Unknown, aim, refused_target, assigned, assigned_dest, is_dest_word, no_sort, assign, changed, operand, cleared, initial, declare, labels, lacks_labels, of_value, cases, lists_of, is_other_list, over_list, returned, return, check, check_all, check_arms, in_filter, parameters, sort_given, in_function}
 use Rattle.filt_types.specs.Expressions.{constant_word}
 use Rattle.filt_types.specs.Weight.{block_weight, too_heavy}
-use Rattle.filt_rules.specs.Refused.{of_filter, of_function}
+use Rattle.filt_types.specs.Refused.{of_filter, of_function}
 use Rattle.conf_places.specs.Filters.{of_num, of_optional_num, of_part, of_pair_part, of_lengths, of_item, of_items, of_atom, of_mask, of_simple, of_expression, of_expressions, of_optional, of_target, of_statement, of_statements, of_arms, of_parameters}
 use Rattle.conf_places.proofs.Every.{Every, join, left, right}
 

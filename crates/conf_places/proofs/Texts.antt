@@ -6,8 +6,8 @@ use Rattle.conf_lex.specs.Spans.{IsSpan}
 use Rattle.conf_lex.specs.Attributes.{attribute_of, constant_of}
 use Rattle.conf_lex.specs.Symbols.{symbol_of, is_placed, is_else, is_colon, is_slash}
 use Rattle.conf_lex.specs.Words.{word_of, kind_word, constant_or_name, named_word, spelled_word, is_prefix, first_word, slashed, or_alone, token_symbol, slice_of, words_from, words_of}
-use Rattle.conf_lex.specs.declared.attribute.Attribute.{Attribute}
-use Rattle.conf_lex.specs.declared.attribute.Constant.{Constant}
+use Rattle.conf_ast.specs.declared.attribute.Attribute.{Attribute}
+use Rattle.conf_ast.specs.declared.attribute.Constant.{Constant}
 use Rattle.conf_lex.specs.declared.symbol.Symbol.{Symbol}
 use Rattle.conf_lex.specs.declared.symbol.Symbol.TheVariants as symbols
 use Rattle.conf_lex.specs.declared.token.Token.{Token}

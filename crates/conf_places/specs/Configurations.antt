@@ -4,7 +4,7 @@
 -- From: own.
 -- Example: of `filter f { x = 1; }` the bytes of `filter`, `f`, `x` and `1`.
 use Rattle.std.specs.Prelude.{◌≡◌, ◌<◌, ℕ, All, Contains, List, [], ◌∷◌, ◌++◌, Option, Some, None}
-use Rattle.conf_lex.specs.declared.named.Name.{Name}
+use Rattle.conf_ast.specs.declared.named.Name.{Name}
 use Rattle.conf_ast.specs.declared.configurations.Address.{Address}
 use Rattle.conf_ast.specs.declared.configurations.Limit.{Limit}
 use Rattle.conf_ast.specs.declared.configurations.Limit.TheVariants as limits

@@ -11,8 +11,8 @@ use Rattle.bits_ip.specs.declared.address.Family.{Family}
 use Rattle.filt_meaning.specs.Names.{named_in, same_name}
 use Rattle.filt_types.proofs.Lookups.{same_flip}
 use Rattle.conf_ast.specs.Configurations.{PipeSetting}
-use Rattle.conf_lex.specs.declared.named.Name.{Name}
-use Rattle.conf_lex.specs.Names.{name_bytes}
+use Rattle.conf_ast.specs.declared.named.Name.{Name}
+use Rattle.conf_ast.specs.Names.{name_bytes}
 use Rattle.conf_rules.specs.declared.joints.Joint.{Joint}
 use Rattle.conf_rules.specs.Joints.{IsWithin}
 use Rattle.conf_rules.specs.Known.{Known, known_number, place_in, table_number}

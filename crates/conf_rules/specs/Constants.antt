@@ -3,7 +3,7 @@
 -- Example: `define A = (70000, 1);` is C14 at 70000; `define Z = (B, 1);` with a truth value B is
 -- C4.
 use Rattle.std.specs.Prelude.{List, [], ◌++◌}
-use Rattle.conf_lex.specs.declared.named.Name.{Name}
+use Rattle.conf_ast.specs.declared.named.Name.{Name}
 use Rattle.conf_ast.specs.declared.filters.Num.{Num}
 use Rattle.conf_ast.specs.declared.kind.ConfKind.TheVariants as kinds
 use Rattle.conf_ast.specs.Configurations.{Value, NumberValue, TextValue, AddressValue, PrefixValue, TrueValue, FalseValue, ValueOf, PairValue, SetValue, MaskValue}

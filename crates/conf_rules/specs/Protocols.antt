@@ -11,8 +11,8 @@ use Rattle.std.specs.List.{list_any}
 use Rattle.bits_ip.specs.Address.{family_of}
 use Rattle.bits_ip.specs.Prefix.{Net, same_net}
 use Rattle.bits_ip.specs.declared.address.Family.{Family}
-use Rattle.conf_lex.specs.declared.named.Name.{Name}
-use Rattle.conf_lex.specs.Names.{name_bytes}
+use Rattle.conf_ast.specs.declared.named.Name.{Name}
+use Rattle.conf_ast.specs.Names.{name_bytes}
 use Rattle.conf_ast.specs.declared.filters.Num.{Num}
 use Rattle.conf_ast.specs.declared.kind.ConfKind.TheVariants as kinds
 use Rattle.conf_ast.specs.declared.configurations.Route.{Route}

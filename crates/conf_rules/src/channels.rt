@@ -12,9 +12,8 @@ use crate::declared::{Declared, filter, table, table_of};
 use crate::filters::{block, condition, number};
 use crate::refusal::{Refusal, note_if};
 use bits_ip::{Family, OutOfMemory};
-use conf_ast::ConfKind;
 use conf_ast::configurations::{Channel, ChannelOption, Limit, Policy};
-use conf_lex::Name;
+use conf_ast::{ConfKind, Name};
 use std::alloc::Global;
 
 // ---- policies

@@ -11,10 +11,9 @@ ghost use Rattle.conf_rules.specs.Seen.{known_of};
 use crate::declared::Declared;
 use crate::filters::{mask, number, over_16_bits, seen_in, set};
 use crate::refusal::{Refusal, note_if};
-use conf_ast::ConfKind;
 use conf_ast::configurations::Literal;
 use conf_ast::filters::Num;
-use conf_lex::Name;
+use conf_ast::{ConfKind, Name};
 use filt_types::constant_named;
 
 /// A part of a pair is a number of at most 16 bits.

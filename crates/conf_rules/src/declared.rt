@@ -9,9 +9,8 @@ ghost use Rattle.conf_rules.specs.Seen.{known_of};
 use crate::joints::Joint;
 use crate::refusal::{Refusal, note_if};
 use bits_ip::Family;
-use conf_ast::ConfKind;
-use conf_lex::Name;
-use filt_tree::Scope;
+use conf_ast::{ConfKind, Name};
+use filt_meaning::Scope;
 use indexmap::{IndexMap, IndexSet};
 
 /// What a configuration declares before one of its statements: what filters can name and all other

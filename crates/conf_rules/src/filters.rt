@@ -2,7 +2,7 @@
 
 ghost use Rattle.std.specs.Prelude.{◌≡◌, ℕ, List, [], OnOk};
 ghost use Rattle.conf_ast.specs.Filters.{SetOf, MaskOf, block_of, expression_of};
-ghost use Rattle.filt_rules.specs.Refused as refused;
+ghost use Rattle.filt_types.specs.Refused as refused;
 ghost use Rattle.filt_meaning.specs.Configuration.{filter_where};
 ghost use Rattle.filt_types.specs.Expressions.{judge};
 ghost use Rattle.filt_types.specs.Items as items;

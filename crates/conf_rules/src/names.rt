@@ -10,8 +10,7 @@ ghost use Rattle.conf_rules.specs.Seen.{known_of};
 use crate::declared::{Declared, is_declared, too_long};
 use crate::refusal::{Refusal, note_if};
 use bits_ip::{OutOfMemory, write_number};
-use conf_ast::ConfKind;
-use conf_lex::Name;
+use conf_ast::{ConfKind, Name};
 use std::alloc::Global;
 
 /// What the names that are made for protocols begin with, by kind.

@@ -13,9 +13,8 @@ use crate::joints::{Joint, is_joined};
 use crate::names::{declaring_pipe, place_of};
 use crate::refusal::{Refusal, note_if};
 use bits_ip::{Family, OutOfMemory};
-use conf_ast::ConfKind;
 use conf_ast::configurations::{PipeOption, Protocol};
-use conf_lex::Name;
+use conf_ast::{ConfKind, Name};
 use std::alloc::Global;
 
 fn setting(

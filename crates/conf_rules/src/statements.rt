@@ -3,7 +3,7 @@
 ghost use Rattle.std.specs.Prelude.{◌≡◌, ◌++◌, [], if◌then◌else◌, None, IfOk, OnOk};
 ghost use Rattle.conf_ast.specs.Configurations.{declaration_of, routine_of, value_of};
 ghost use Rattle.conf_ast.specs.Filters.{block_of};
-ghost use Rattle.filt_rules.specs.Refused as refused;
+ghost use Rattle.filt_types.specs.Refused as refused;
 ghost use Rattle.conf_rules.specs.Constants as constants;
 ghost use Rattle.conf_rules.specs.Known as known;
 ghost use Rattle.conf_rules.specs.Known.{ArePipesThere};
@@ -20,10 +20,9 @@ use crate::pipes::pipe;
 use crate::refusal::{Refusal, note_first, note_if};
 use crate::static_protocols::static_protocol;
 use bits_ip::{Family, OutOfMemory};
-use conf_ast::ConfKind;
 use conf_ast::configurations::{Literal, Statement};
 use conf_ast::filters::{Filter, Function};
-use conf_lex::Name;
+use conf_ast::{ConfKind, Name};
 use filt_rules::first_in_function;
 use std::alloc::Global;
 

@@ -1,19 +1,19 @@
 -- Behind statements of which nothing is refused, what runs agrees with what the rules have seen.
 use Rattle.std.proofs.Common.{◌≡◌, ℕ, ◌≤◌, arith, Bool, true, false, if◌then◌else◌, List, [], ◌∷◌, ◌++◌, Option, Some, None, Result, Ok, Err, refl, sym, ap, ◌∙◌, subst}
 use Rattle.bits_ip.specs.declared.address.Family.{Family}
-use Rattle.conf_lex.specs.declared.named.Name.{Name}
-use Rattle.conf_lex.specs.Names.{name_bytes}
+use Rattle.conf_ast.specs.declared.named.Name.{Name}
+use Rattle.conf_ast.specs.Names.{name_bytes}
 use Rattle.conf_ast.specs.Configurations as conf
 use Rattle.conf_ast.specs.Configurations.{Routine}
-use Rattle.filt_values.specs.declared.value.Failure.{Failure}
-use Rattle.filt_values.specs.Values.{Val}
+use Rattle.filt_meaning.specs.declared.value.Failure.{Failure}
+use Rattle.filt_meaning.specs.Values.{Val}
 use Rattle.filt_meaning.specs.Configuration as meaning
 use Rattle.filt_meaning.specs.Configuration.{constant, doing, with_constant, with_function}
 use Rattle.filt_meaning.specs.Names.{Around, Context}
 use Rattle.filt_types.specs.Scenes.{Scene, Signature}
 use Rattle.filt_types.specs.Statements.{in_function}
 use Rattle.filt_types.specs.Weight.{block_weight, capped}
-use Rattle.filt_rules.specs.Refused.{signature_in}
+use Rattle.filt_types.specs.Refused.{signature_in}
 use Rattle.filt_laws.specs.Behind as types
 use Rattle.filt_laws.specs.Sound.{Agrees, signature_of}
 use Rattle.filt_steps.specs.Agreement as steps

@@ -7,20 +7,20 @@ use Rattle.bits_ip.specs.Prefix.{Net}
 use Rattle.bits_ip.specs.declared.address.Addr.{Addr}
 use Rattle.bits_ip.specs.declared.address.Addr.TheVariants as addrs
 use Rattle.bits_ip.specs.declared.address.Family.{Family}
-use Rattle.conf_lex.specs.Names.{name_bytes}
-use Rattle.conf_lex.specs.declared.named.Name.{Name}
+use Rattle.conf_ast.specs.Names.{name_bytes}
+use Rattle.conf_ast.specs.declared.named.Name.{Name}
 use Rattle.conf_ast.specs.Configurations as conf
 use Rattle.conf_ast.specs.Configurations.{BgpSetting, FamilyChannel, Instance, Passing, PassAll, PassNone, PassByFilter, PassByBlock, PassWhere, PipeSetting, StaticSetting}
 use Rattle.conf_ast.specs.Filters.{Expression, Statements}
 use Rattle.filt_meaning.specs.Configuration as meaning
 use Rattle.filt_meaning.specs.Configuration.{around_route, constant, filter_where, of_text, verdict, verdict_of}
 use Rattle.filt_meaning.specs.Names.{Context}
-use Rattle.filt_rules.specs.Refused.{of_filter}
-use Rattle.filt_values.specs.Values.{Val}
-use Rattle.filt_values.specs.declared.value.Failure.{Failure}
-use Rattle.filt_tree.specs.Scopes.{context_of, named}
-use Rattle.filt_tree.specs.declared.scope.Scope.{Scope}
-use Rattle.filt_tree.specs.declared.tree.TFilter.{TFilter}
+use Rattle.filt_types.specs.Refused.{of_filter}
+use Rattle.filt_meaning.specs.Values.{Val}
+use Rattle.filt_meaning.specs.declared.value.Failure.{Failure}
+use Rattle.filt_meaning.specs.Scopes.{context_of, named}
+use Rattle.filt_meaning.specs.declared.scope.Scope.{Scope}
+use Rattle.filt_meaning.specs.declared.tree.TFilter.{TFilter}
 use Rattle.conf_rules.specs.Known.{Known}
 use Rattle.conf_rules.specs.Protocols.{bgp_channels, last_peer, static_channels, static_routes}
 use Rattle.conf_rules.specs.Statements.{is_master}

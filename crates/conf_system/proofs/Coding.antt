@@ -14,12 +14,12 @@ use Rattle.filt_compile.specs.Compiles.{AreCompiled}
 use Rattle.filt_meaning.specs.Configuration.{around_route, verdict_of}
 use Rattle.filt_meaning.specs.Flow.{Flow, Frame, Stopped, Stuck}
 use Rattle.filt_meaning.specs.Names.{Around}
-use Rattle.filt_tree.specs.Scopes.{constant_values, function_trees}
-use Rattle.filt_tree.specs.Trees.{AreBefore, tree_flow}
-use Rattle.filt_tree.specs.declared.scope.Scope.{Scope}
-use Rattle.filt_tree.specs.declared.scope.TFunction.{TFunction}
-use Rattle.filt_tree.specs.declared.tree.TFilter.{TFilter}
-use Rattle.filt_values.specs.declared.fixed.Fixed.{Fixed}
+use Rattle.filt_meaning.specs.Scopes.{constant_values, function_trees}
+use Rattle.filt_meaning.specs.Trees.{AreBefore, tree_flow}
+use Rattle.filt_meaning.specs.declared.scope.Scope.{Scope}
+use Rattle.filt_meaning.specs.declared.scope.TFunction.{TFunction}
+use Rattle.filt_meaning.specs.declared.tree.TFilter.{TFilter}
+use Rattle.filt_meaning.specs.declared.fixed.Fixed.{Fixed}
 use Rattle.conf_system.specs.Coded.{AreOrdered, CanRun, HasCode, IsBefore}
 use Rattle.conf_system.specs.Policies.{Filter}
 use Rattle.conf_system.specs.Seen.{draft_flow, draft_says, drafted, filter_flow, filter_says, flow_over, numbered}

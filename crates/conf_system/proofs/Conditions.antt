@@ -9,11 +9,11 @@ use Rattle.conf_ast.specs.Filters.{Expression}
 use Rattle.filt_meaning.specs.Configuration as meaning
 use Rattle.filt_meaning.specs.Configuration.{around_route, filter_where}
 use Rattle.filt_meaning.specs.Names.{Around}
-use Rattle.filt_rules.specs.Refused.{of_filter}
-use Rattle.filt_tree.specs.Scopes.{constant_values, context_of, function_trees}
-use Rattle.filt_tree.specs.Trees.{tree_flow}
-use Rattle.filt_tree.specs.declared.scope.Scope.{Scope}
-use Rattle.filt_tree.specs.declared.tree.TFilter.{TFilter}
+use Rattle.filt_types.specs.Refused.{of_filter}
+use Rattle.filt_meaning.specs.Scopes.{constant_values, context_of, function_trees}
+use Rattle.filt_meaning.specs.Trees.{tree_flow}
+use Rattle.filt_meaning.specs.declared.scope.Scope.{Scope}
+use Rattle.filt_meaning.specs.declared.tree.TFilter.{TFilter}
 use Rattle.filt_types.specs.Refusals.{first_in, precedes}
 use Rattle.filt_types.specs.Seen.{scene_of}
 use Rattle.filt_types.specs.declared.refusal.Refusal.{Refusal}

@@ -14,7 +14,7 @@ use Rattle.conf_rules.specs.Protocols.{bgp_channels, bgp_settings, bgp_stem, cyc
 use Rattle.conf_rules.specs.Refusals.{first_in}
 use Rattle.conf_rules.specs.Statements.{is_master, refusals}
 use Rattle.conf_rules.specs.declared.refusal.Refusal.{Refusal}
-use Rattle.conf_lex.specs.declared.named.Name.{Name}
+use Rattle.conf_ast.specs.declared.named.Name.{Name}
 use Rattle.conf_system.specs.Policies.{Filter, says}
 use Rattle.conf_system.specs.System.{Body, Protocol, System, body_of, names_in, protocols_behind, system_in, with_body}
 use Rattle.conf_system.specs.Texts.{IsSystem, refused_in}

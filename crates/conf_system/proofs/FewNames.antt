@@ -5,8 +5,8 @@ use Rattle.std.proofs.lemmas.List.{length-append, length-map}
 use Rattle.std.specs.Prelude.{nat_lt}
 use Rattle.conf_lex.specs.Grammar.{ParseTree, Single, Snoc, NoWords, yield}
 use Rattle.conf_lex.specs.Lex.{Lexes}
-use Rattle.conf_lex.specs.Names.{name_bytes}
-use Rattle.conf_lex.specs.declared.named.Name.{Name}
+use Rattle.conf_ast.specs.Names.{name_bytes}
+use Rattle.conf_ast.specs.declared.named.Name.{Name}
 use Rattle.conf_lex.specs.declared.token.Token.{Token}
 use Rattle.conf_lex.specs.declared.word.Word.{Word}
 use Rattle.conf_tree.specs.Significant.{significant_words}

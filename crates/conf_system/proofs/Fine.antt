@@ -11,7 +11,7 @@ use Rattle.filt_types.specs.Refusals as of_types
 use Rattle.filt_types.specs.Scenes.{Scene}
 use Rattle.filt_types.specs.Statements.{in_filter, in_function}
 use Rattle.filt_types.specs.Weight.{block_weight, too_heavy}
-use Rattle.filt_rules.specs.Refused as filters
+use Rattle.filt_types.specs.Refused as filters
 use Rattle.conf_rules.specs.Channels.{channel, passing, setting, settings, settings_of}
 use Rattle.conf_rules.specs.Known.{Known, declaring}
 use Rattle.conf_rules.specs.Protocols.{bgp_setting, bgp_settings, pipe_setting, pipe_settings, static_setting, static_settings}

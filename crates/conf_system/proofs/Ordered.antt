@@ -12,12 +12,12 @@ use Rattle.filt_laws.specs.Sound.{Agrees}
 use Rattle.filt_meaning.specs.Configuration.{body, filter_where}
 use Rattle.filt_meaning.specs.Flow.{Stopped, Stuck}
 use Rattle.filt_meaning.specs.Names.{Around, Context}
-use Rattle.filt_rules.specs.Refused.{of_filter}
-use Rattle.filt_tree.specs.Scopes.{constant_values, context_of, function_trees}
-use Rattle.filt_tree.specs.Trees.{AreBefore, tree_flow}
-use Rattle.filt_tree.specs.declared.scope.Scope.{Scope}
-use Rattle.filt_tree.specs.declared.scope.TFunction.{TFunction}
-use Rattle.filt_tree.specs.declared.tree.TFilter.{TFilter}
+use Rattle.filt_types.specs.Refused.{of_filter}
+use Rattle.filt_meaning.specs.Scopes.{constant_values, context_of, function_trees}
+use Rattle.filt_meaning.specs.Trees.{AreBefore, tree_flow}
+use Rattle.filt_meaning.specs.declared.scope.Scope.{Scope}
+use Rattle.filt_meaning.specs.declared.scope.TFunction.{TFunction}
+use Rattle.filt_meaning.specs.declared.tree.TFilter.{TFilter}
 use Rattle.filt_types.specs.Refusals.{first_in}
 use Rattle.filt_types.specs.Scenes.{Scene}
 use Rattle.filt_types.specs.Seen.{scene_of}

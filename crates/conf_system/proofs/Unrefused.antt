@@ -9,7 +9,7 @@ use Rattle.filt_meaning.specs.Configuration.{doing, filter_where, of_text}
 use Rattle.filt_types.specs.Scenes.{Scene}
 use Rattle.filt_types.specs.Statements.{in_filter, in_function}
 use Rattle.filt_types.specs.Weight.{acts_weight, block_weight, capped}
-use Rattle.filt_rules.specs.Refused.{of_filter, signature_in}
+use Rattle.filt_types.specs.Refused.{of_filter, signature_in}
 use Rattle.filt_laws.specs.Behind.{seen_in_text}
 use Rattle.filt_laws.specs.Sound.{Agrees, IsOfSignature, signature_of}
 use Rattle.filt_steps.specs.Agreement.{Agree, TakesAtMost}

@@ -9,7 +9,7 @@ use Rattle.conf_ast.specs.Filters.{Expression}
 use Rattle.filt_meaning.specs.Configuration.{filter_where, verdict_where}
 use Rattle.filt_types.specs.declared.refusal.Refusal.{Refusal}
 use Rattle.filt_types.specs.Scenes.{Scene}
-use Rattle.filt_rules.specs.Refused.{of_filter}
+use Rattle.filt_types.specs.Refused.{of_filter}
 use Rattle.conf_check.specs.Behind.{at_start, behind}
 use Rattle.conf_system.specs.Policies.{Filter}
 

@@ -12,11 +12,11 @@ use Rattle.conf_check.specs.declared.checked.ProtocolDef.{ProtocolDef}
 use Rattle.filt_compile.specs.Compiles.{AreCompiled}
 use Rattle.filt_laws.specs.Sound.{Agrees}
 use Rattle.filt_meaning.specs.Names.{Around}
-use Rattle.filt_tree.specs.Scopes.{constant_values, context_of, function_trees}
-use Rattle.filt_tree.specs.Trees.{AreBefore, IsNeverStuck}
-use Rattle.filt_tree.specs.declared.scope.Scope.{Scope}
-use Rattle.filt_tree.specs.declared.scope.TFunction.{TFunction}
-use Rattle.filt_tree.specs.declared.tree.TFilter.{TFilter}
+use Rattle.filt_meaning.specs.Scopes.{constant_values, context_of, function_trees}
+use Rattle.filt_meaning.specs.Trees.{AreBefore, IsNeverStuck}
+use Rattle.filt_meaning.specs.declared.scope.Scope.{Scope}
+use Rattle.filt_meaning.specs.declared.scope.TFunction.{TFunction}
+use Rattle.filt_meaning.specs.declared.tree.TFilter.{TFilter}
 use Rattle.filt_types.specs.Seen.{scene_of}
 use Rattle.conf_system.specs.Seen.{draft_flow, filter_flow}
 use Rattle.conf_system.specs.declared.code.Code.{Code}

@@ -24,14 +24,14 @@ use Rattle.filt_meaning.specs.Names.{Around}
 use Rattle.filt_code.specs.Codes.{IsNeverStuck, code_flow, code_judged}
 use Rattle.filt_code.specs.declared.code.Draft.{Draft}
 use Rattle.filt_code.specs.declared.code.Routine.{Routine}
-use Rattle.filt_rules.specs.Refused.{of_filter}
+use Rattle.filt_types.specs.Refused.{of_filter}
 use Rattle.filt_types.specs.Seen.{scene_of}
-use Rattle.filt_tree.specs.Scopes.{constant_values, context_of, function_trees, named}
-use Rattle.filt_tree.specs.Trees.{judged, tree_flow}
-use Rattle.filt_tree.specs.declared.scope.Scope.{Scope}
-use Rattle.filt_tree.specs.declared.scope.TFunction.{TFunction}
-use Rattle.filt_tree.specs.declared.tree.TFilter.{TFilter}
-use Rattle.filt_values.specs.declared.fixed.Fixed.{Fixed}
+use Rattle.filt_meaning.specs.Scopes.{constant_values, context_of, function_trees, named}
+use Rattle.filt_meaning.specs.Trees.{judged, tree_flow}
+use Rattle.filt_meaning.specs.declared.scope.Scope.{Scope}
+use Rattle.filt_meaning.specs.declared.scope.TFunction.{TFunction}
+use Rattle.filt_meaning.specs.declared.tree.TFilter.{TFilter}
+use Rattle.filt_meaning.specs.declared.fixed.Fixed.{Fixed}
 use Rattle.conf_system.specs.Asked.{Asked, unless_refused}
 use Rattle.conf_system.specs.Policies.{Filter}
 use Rattle.conf_system.specs.System.{Bgp, Body, Channel, IsBgp, IsPipe, IsStatic, Pipe, Protocol, Static, System}

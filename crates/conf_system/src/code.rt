@@ -3,17 +3,16 @@ ghost use Rattle.std.specs.Prelude.{◌≡◌, ℕ, List, All, IfOk, map, slice_
 ghost use Rattle.filt_code.specs.Codes.{IsNeverStuck};
 ghost use Rattle.filt_code.specs.declared.code.Routine.{Routine};
 ghost use Rattle.filt_compile.specs.Compiles.{AreCompiled};
-ghost use Rattle.filt_tree.specs.Scopes.{constant_values, function_trees};
-ghost use Rattle.filt_tree.specs.Trees.{AreBefore};
-ghost use Rattle.filt_tree.specs.declared.scope.TFunction.{TFunction};
+ghost use Rattle.filt_meaning.specs.Scopes.{constant_values, function_trees};
+ghost use Rattle.filt_meaning.specs.Trees.{AreBefore};
+ghost use Rattle.filt_meaning.specs.declared.scope.TFunction.{TFunction};
 ghost use Rattle.conf_system.specs.Seen.{IsRuleNeverStuck, draft_flow, drafted, flow_over, rule_says};
 
 use crate::passes::Rule;
 use bits_ip::OutOfMemory;
 use filt_code::{Draft, Routine};
 use filt_compile::compile;
-use filt_tree::{Scope, TFilter, TFunction};
-use filt_values::Fixed;
+use filt_meaning::{Fixed, Scope, TFilter, TFunction};
 use std::alloc::Global;
 
 /// The code of a configuration's functions, and of its filters by name. Each is compiled once.

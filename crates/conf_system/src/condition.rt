@@ -15,8 +15,8 @@ use conf_ast::filters::Expr;
 use conf_lex::{LexFault, Token, lex};
 use filt_check::{TypeFault, check_expr};
 use filt_laws::laws::typed_filters_are_never_stuck;
+use filt_meaning::{Scope, TFilter};
 use filt_syntax::{SyntaxFault, parse_expr};
-use filt_tree::{Scope, TFilter};
 use std::alloc::Global;
 
 /// The expression that all tokens of a text are.

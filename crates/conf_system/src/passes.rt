@@ -35,7 +35,7 @@ pub struct Passes<'a> {
 
 impl<'a> Model for Passes<'a> {
     ghost use Rattle.std.specs.Coded.{codes};
-    ghost use Rattle.filt_tree.specs.contracts.tree.TStmt as trees;
+    ghost use Rattle.filt_meaning.specs.contracts.tree.TStmt as trees;
     ghost use Rattle.conf_system.specs.Seen.{IsRuleNeverStuck, Judging};
 
     ghost Value = { Judging };

@@ -12,7 +12,7 @@ use attrs::{Judge, Names};
 use bits_ip::OutOfMemory;
 use conf_check::{Checked, PolicyDef, ProtocolDef};
 use filt_compile::{compile, library};
-use filt_tree::TFilter;
+use filt_meaning::TFilter;
 use std::alloc::Global;
 
 /// An accepted configuration with the names of its protocols.

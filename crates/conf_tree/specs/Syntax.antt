@@ -10,7 +10,7 @@
 -- Example: `protocol static { ipv4; route 10.0.0.0/8 blackhole; }` is a statement: a name may be
 -- left out.
 use Rattle.std.specs.Prelude.{Bool, ◌||◌}
-use Rattle.conf_lex.specs.declared.attribute.Attribute.TheVariants as attributes
+use Rattle.conf_ast.specs.declared.attribute.Attribute.TheVariants as attributes
 use Rattle.conf_lex.specs.declared.symbol.Symbol.{Symbol}
 use Rattle.conf_lex.specs.declared.symbol.Symbol.TheVariants as sym
 use Rattle.conf_lex.specs.Kind.{Kind, number, name, text, address, prefix, symbol, attribute}

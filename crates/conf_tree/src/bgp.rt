@@ -1,7 +1,7 @@
 // The options of BGP protocols. `depth_left` is how many more levels may be opened.
 
 ghost use Rattle.std.specs.Prelude.{◌≡◌, ◌∷◌, false};
-ghost use Rattle.conf_lex.specs.declared.attribute.Attribute.TheVariants as attributes;
+ghost use Rattle.conf_ast.specs.declared.attribute.Attribute.TheVariants as attributes;
 ghost use Rattle.conf_lex.specs.declared.symbol.Symbol.TheVariants as sym;
 ghost use Rattle.conf_lex.specs.declared.word.Word.{Word};
 ghost use Rattle.conf_lex.specs.Kind.{symbol, address};
@@ -22,9 +22,10 @@ use crate::options::ProtocolOption;
 use crate::simple::{as_number, expect_address, expect_switch, next_family, optional_address};
 use crate::transport::transport;
 use bits_ip::Family;
+use conf_ast::Attribute;
 use conf_ast::configurations::BgpOption;
 use conf_lex::parsing::{after, after_attribute, expect};
-use conf_lex::{Attribute, Refusal, Symbol, Word};
+use conf_lex::{Refusal, Symbol, Word};
 use filt_syntax::parts::num;
 use std::alloc::Global;
 

@@ -1,7 +1,7 @@
 // Channels. `depth_left` is how many more levels may be opened.
 
 ghost use Rattle.std.specs.Prelude.{◌≡◌, ◌∷◌};
-ghost use Rattle.conf_lex.specs.declared.attribute.Attribute.TheVariants as attributes;
+ghost use Rattle.conf_ast.specs.declared.attribute.Attribute.TheVariants as attributes;
 ghost use Rattle.conf_lex.specs.declared.symbol.Symbol.TheVariants as sym;
 ghost use Rattle.conf_lex.specs.declared.word.Word.{Word};
 ghost use Rattle.conf_lex.specs.Kind.{symbol, name};
@@ -22,9 +22,10 @@ ghost use Rattle.conf_tree.specs.Readers.{channel_option_at, closed_options, cha
 use crate::options::{ProtocolOption, options};
 use crate::policy::policy;
 use bits_ip::Family;
+use conf_ast::Attribute;
 use conf_ast::configurations::{Action, Channel, ChannelOption, Limit, NextHop};
 use conf_lex::parsing::{after, after_attribute, expect, expect_name};
-use conf_lex::{Attribute, Refusal, Symbol, Word};
+use conf_lex::{Refusal, Symbol, Word};
 use filt_syntax::parts::num;
 use std::alloc::Global;
 

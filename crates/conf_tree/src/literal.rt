@@ -14,9 +14,10 @@ ghost use Rattle.conf_tree.specs.Syntax.{is_value};
 ghost use Rattle.conf_tree.specs.View.{placed_leaf, literal_tree, value_tree};
 ghost use Rattle.conf_tree.specs.Readers.{seen_as, literal_at};
 
+use conf_ast::Name;
 use conf_ast::configurations::{Address, Literal, StringLiteral};
 use conf_lex::parsing::{after_placed, expect, level_below, next};
-use conf_lex::{Name, Refusal, Symbol, Word};
+use conf_lex::{Refusal, Symbol, Word};
 use filt_syntax::parts::{items, mask_items, num};
 use std::alloc::Global;
 

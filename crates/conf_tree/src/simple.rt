@@ -16,10 +16,11 @@ ghost use Rattle.conf_tree.specs.Readers.{optional_switch_at, optional_number_at
 ghost use Rattle.conf_tree.specs.Readers.{optional_semicolon_at};
 
 use bits_ip::{Family, Prefix};
+use conf_ast::Name;
 use conf_ast::configurations::{Address, StringLiteral, Switch};
 use conf_ast::filters::Num;
 use conf_lex::parsing::{after, after_placed, expect, next_name};
-use conf_lex::{Name, Refusal, Symbol, Word};
+use conf_lex::{Refusal, Symbol, Word};
 use filt_syntax::parts::{next_num, num};
 
 pub fn next_address(words: &[Word]) -> Option<(Address, &[Word])>

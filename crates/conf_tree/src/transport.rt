@@ -1,7 +1,7 @@
 // The options of a BGP session's transport.
 
 ghost use Rattle.std.specs.Prelude.{◌≡◌, false};
-ghost use Rattle.conf_lex.specs.declared.attribute.Attribute.TheVariants as attributes;
+ghost use Rattle.conf_ast.specs.declared.attribute.Attribute.TheVariants as attributes;
 ghost use Rattle.conf_lex.specs.declared.symbol.Symbol.TheVariants as sym;
 ghost use Rattle.conf_lex.specs.Kind.{attribute, symbol, text, address};
 ghost use Rattle.conf_lex.specs.Grammar.{Pair, begins};
@@ -13,9 +13,10 @@ ghost use Rattle.conf_tree.specs.View.{attribute_leaf, transport_tree};
 ghost use Rattle.conf_tree.specs.Readers.{seen_as, time_at, optional_switch_at, transport_at};
 
 use crate::simple::{expect_address, expect_text, optional_number, optional_switch, time_number};
+use conf_ast::Attribute;
 use conf_ast::configurations::Transport;
 use conf_lex::parsing::{after, after_attribute, expect};
-use conf_lex::{Attribute, Refusal, Symbol, Word};
+use conf_lex::{Refusal, Symbol, Word};
 
 // By the words after `connect`.
 fn connect_retry_time(words: &[Word]) -> Result<(Transport, &[Word]), Refusal>

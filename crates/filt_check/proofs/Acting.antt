@@ -4,8 +4,8 @@ use Rattle.std.specs.Global.{Global}
 use Rattle.std.proofs.Math.Path.{fun_ext}
 use Rattle.std.proofs.lemmas.Result.{IfOk-weaker}
 use Rattle.bits_ip.specs.declared.memory.OutOfMemory.{OutOfMemory}
-use Rattle.conf_lex.specs.declared.named.Name.{Name}
-use Rattle.conf_lex.specs.Names.{name_bytes}
+use Rattle.conf_ast.specs.declared.named.Name.{Name}
+use Rattle.conf_ast.specs.Names.{name_bytes}
 use Rattle.conf_ast.specs.declared.filters.Arm.{Arm}
 use Rattle.conf_ast.specs.declared.filters.Change.{Change}
 use Rattle.conf_ast.specs.declared.filters.Expr.{Expr}
@@ -17,25 +17,25 @@ use Rattle.conf_ast.specs.declared.filters.Target.{Target}
 use Rattle.conf_ast.specs.declared.filters.Target.TheVariants as targets
 use Rattle.conf_ast.specs.declared.filters.VariableType.{VariableType}
 use Rattle.conf_ast.specs.Filters.{Statement, Braced, Statements, expression_of, statement_of, statements_of, changed}
-use Rattle.filt_values.specs.declared.value.Failure.{Failure}
-use Rattle.filt_values.specs.declared.value.Failure.TheVariants as failures
-use Rattle.filt_values.specs.declared.value.Sort.{Sort}
-use Rattle.filt_values.specs.Operators.{emptied_of}
-use Rattle.filt_values.specs.Values.{Val, default_of}
+use Rattle.filt_meaning.specs.declared.value.Failure.{Failure}
+use Rattle.filt_meaning.specs.declared.value.Failure.TheVariants as failures
+use Rattle.filt_meaning.specs.declared.value.Sort.{Sort}
+use Rattle.filt_meaning.specs.Operators.{emptied_of}
+use Rattle.filt_meaning.specs.Values.{Val, default_of}
 use Rattle.filt_meaning.specs.Flow.{Run, Frame, and_then}
 use Rattle.filt_meaning.specs.Items.{has_label, set_of}
 use Rattle.filt_meaning.specs.Meaning.{Act, act, acts, arms_act, arm, all_declared, assign, block, call, cases, choice, defaults, evaluate, given, give, in_turn, initial, loop, nothing, on_two, on_value, method_of, result, set_target, set_variable, value, within}
 use Rattle.filt_meaning.specs.Names.{Around, Context, Doing, function_of, place_in, sort_of_type, with_variables}
-use Rattle.filt_tree.specs.declared.tree.Labels.{Labels}
-use Rattle.filt_tree.specs.declared.tree.TArm.{TArm}
-use Rattle.filt_tree.specs.declared.tree.TExpr.{TExpr}
-use Rattle.filt_tree.specs.declared.tree.TExpr.TheVariants as te
-use Rattle.filt_tree.specs.declared.tree.TStmt.{TStmt}
-use Rattle.filt_tree.specs.declared.tree.TStmt.TheVariants as ts
-use Rattle.filt_tree.specs.declared.tree.TTarget.{TTarget}
-use Rattle.filt_tree.specs.declared.tree.TTarget.TheVariants as checked
-use Rattle.filt_tree.specs.Trees as trees
-use Rattle.filt_tree.specs.Trees.{Tables, expr, exprs, all_values, stmt, stmts, body, in_order, set_place}
+use Rattle.filt_meaning.specs.declared.tree.Labels.{Labels}
+use Rattle.filt_meaning.specs.declared.tree.TArm.{TArm}
+use Rattle.filt_meaning.specs.declared.tree.TExpr.{TExpr}
+use Rattle.filt_meaning.specs.declared.tree.TExpr.TheVariants as te
+use Rattle.filt_meaning.specs.declared.tree.TStmt.{TStmt}
+use Rattle.filt_meaning.specs.declared.tree.TStmt.TheVariants as ts
+use Rattle.filt_meaning.specs.declared.tree.TTarget.{TTarget}
+use Rattle.filt_meaning.specs.declared.tree.TTarget.TheVariants as checked
+use Rattle.filt_meaning.specs.Trees as trees
+use Rattle.filt_meaning.specs.Trees.{Tables, expr, exprs, all_values, stmt, stmts, body, in_order, set_place}
 use Rattle.filt_types.specs.Walk.{arms_of}
 use Rattle.filt_types.proofs.Trees as o
 use Rattle.filt_check.specs.Seen.{Branch, acts_in, arm_in, arms_in, arms_seen, otherwise_in, picked, sorts_in, values_in, at_place}

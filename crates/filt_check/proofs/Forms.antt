@@ -2,37 +2,37 @@
 -- parts.
 use Rattle.std.proofs.Common.{◌≡◌, ℕ, List, map, Option, Some, None, Ok, Err, refl, ap, ◌∙◌, rules, Box, Vec, slice_get}
 use Rattle.std.specs.Global.{Global}
-use Rattle.conf_lex.specs.declared.attribute.Attribute.{Attribute}
+use Rattle.conf_ast.specs.declared.attribute.Attribute.{Attribute}
 use Rattle.conf_ast.specs.declared.filters.CompareOp.{CompareOp}
 use Rattle.conf_ast.specs.declared.filters.MulOp.{MulOp}
 use Rattle.conf_ast.specs.declared.filters.LogicalOp.{LogicalOp}
 use Rattle.conf_ast.specs.declared.filters.MethodKind.{MethodKind}
 use Rattle.conf_ast.specs.declared.filters.AddOp.{AddOp}
-use Rattle.filt_values.specs.declared.fixed.Fixed.{Fixed}
-use Rattle.filt_values.specs.declared.value.Failure.TheVariants as failures
-use Rattle.filt_values.specs.declared.value.Sort.{Sort}
-use Rattle.filt_values.specs.Operators.{pair_of, not_of, emptied_of}
-use Rattle.filt_values.specs.Seen.{val_of_fixed}
-use Rattle.filt_values.specs.Values.{Val, default_of}
+use Rattle.filt_meaning.specs.declared.fixed.Fixed.{Fixed}
+use Rattle.filt_meaning.specs.declared.value.Failure.TheVariants as failures
+use Rattle.filt_meaning.specs.declared.value.Sort.{Sort}
+use Rattle.filt_meaning.specs.Operators.{pair_of, not_of, emptied_of}
+use Rattle.filt_meaning.specs.Seen.{val_of_fixed}
+use Rattle.filt_meaning.specs.Values.{Val, default_of}
 use Rattle.filt_meaning.specs.Flow.{Run, Accepted, Rejected}
 use Rattle.filt_meaning.specs.Meaning.{Act, given, on_value, on_two, variable_or, attribute, defined, called_value, call, factor_of, term_of, compare_of, method_of, block, nothing, unset, choice, cases, loop, stop, evaluate}
 use Rattle.filt_meaning.specs.Names.{there}
-use Rattle.filt_tree.specs.declared.tree.Labels.{Labels}
-use Rattle.filt_tree.specs.declared.tree.TAccess.{TAccess}
-use Rattle.filt_tree.specs.declared.tree.TAccess.TheVariants as accesses
-use Rattle.filt_tree.specs.declared.tree.TArm.{TArm}
-use Rattle.filt_tree.specs.declared.tree.TExpr.{TExpr, fold-TExpr, the_lemmas as expr_lemmas}
-use Rattle.filt_tree.specs.declared.tree.TExpr.TheVariants as te
-use Rattle.filt_tree.specs.declared.tree.TExpr.TheOpen.{TExpr-F}
-use Rattle.filt_tree.specs.declared.tree.TExpr.TheFolds.{map-TExpr}
-use Rattle.filt_tree.specs.declared.tree.TExpr.TheShapes.{former-TExpr-Access-1-at-3}
-use Rattle.filt_tree.specs.declared.tree.TStmt.{TStmt, fold-TStmt, the_lemmas as stmt_lemmas}
-use Rattle.filt_tree.specs.declared.tree.TStmt.TheVariants as ts
-use Rattle.filt_tree.specs.declared.tree.TStmt.TheOpen.{TStmt-F}
-use Rattle.filt_tree.specs.declared.tree.TStmt.TheFolds.{map-TStmt}
-use Rattle.filt_tree.specs.declared.tree.TTarget.{TTarget}
-use Rattle.filt_tree.specs.declared.tree.TTest.{TTest}
-use Rattle.filt_tree.specs.Trees.{Tables, expr, expr_step, exprs, parts, access, access_over, accesses_of, accessed, all_values, chain, joints, stmt, stmt_step, body, assign, arms, arm_of, arm_over, arms_of, in_order, result, test}
+use Rattle.filt_meaning.specs.declared.tree.Labels.{Labels}
+use Rattle.filt_meaning.specs.declared.tree.TAccess.{TAccess}
+use Rattle.filt_meaning.specs.declared.tree.TAccess.TheVariants as accesses
+use Rattle.filt_meaning.specs.declared.tree.TArm.{TArm}
+use Rattle.filt_meaning.specs.declared.tree.TExpr.{TExpr, fold-TExpr, the_lemmas as expr_lemmas}
+use Rattle.filt_meaning.specs.declared.tree.TExpr.TheVariants as te
+use Rattle.filt_meaning.specs.declared.tree.TExpr.TheOpen.{TExpr-F}
+use Rattle.filt_meaning.specs.declared.tree.TExpr.TheFolds.{map-TExpr}
+use Rattle.filt_meaning.specs.declared.tree.TExpr.TheShapes.{former-TExpr-Access-1-at-3}
+use Rattle.filt_meaning.specs.declared.tree.TStmt.{TStmt, fold-TStmt, the_lemmas as stmt_lemmas}
+use Rattle.filt_meaning.specs.declared.tree.TStmt.TheVariants as ts
+use Rattle.filt_meaning.specs.declared.tree.TStmt.TheOpen.{TStmt-F}
+use Rattle.filt_meaning.specs.declared.tree.TStmt.TheFolds.{map-TStmt}
+use Rattle.filt_meaning.specs.declared.tree.TTarget.{TTarget}
+use Rattle.filt_meaning.specs.declared.tree.TTest.{TTest}
+use Rattle.filt_meaning.specs.Trees.{Tables, expr, expr_step, exprs, parts, access, access_over, accesses_of, accessed, all_values, chain, joints, stmt, stmt_step, body, assign, arms, arm_of, arm_over, arms_of, in_order, result, test}
 use Rattle.filt_types.proofs.Trees.{by_parts}
 
 of-Value : (A : Type 0) (step : TExpr-F A → A) (v : Fixed) → fold-TExpr A step (te.Value v) ≡ step (map-TExpr TExpr A (fold-TExpr A step) (TExpr-F.Value v))

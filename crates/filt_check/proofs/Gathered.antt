@@ -2,21 +2,21 @@
 use Rattle.std.proofs.Common.{◌≡◌, ℕ, ◌+◌, ◌≤◌, List, [], ◌∷◌, ◌++◌, length, map, drop, Option, Some, None, refl, sym, ap, ◌∙◌, append_assoc, append-nil, Box, Vec}
 use Rattle.std.specs.Global.{Global}
 use Rattle.std.proofs.lemmas.List.{drop_all, map-append}
-use Rattle.conf_lex.specs.declared.named.Name.{Name}
+use Rattle.conf_ast.specs.declared.named.Name.{Name}
 use Rattle.conf_ast.specs.declared.filters.Arm.{Arm}
 use Rattle.conf_ast.specs.declared.filters.Expr.{Expr}
 use Rattle.conf_ast.specs.declared.filters.Stmt.{Stmt}
 use Rattle.conf_ast.specs.declared.filters.Stmt.TheVariants as s
 use Rattle.conf_ast.specs.declared.filters.VariableType.{VariableType}
 use Rattle.conf_ast.specs.Filters.{Statement, statement_of, statements_of}
-use Rattle.filt_values.specs.declared.value.Sort.{Sort}
-use Rattle.filt_values.specs.Values.{Val, default_of}
+use Rattle.filt_meaning.specs.declared.value.Sort.{Sort}
+use Rattle.filt_meaning.specs.Values.{Val, default_of}
 use Rattle.filt_meaning.specs.Meaning as meaning
 use Rattle.filt_meaning.specs.Meaning.{declared, all_declared, arms_declare as all_arms_declare, defaults, within}
-use Rattle.conf_lex.specs.Names.{name_bytes}
+use Rattle.conf_ast.specs.Names.{name_bytes}
 use Rattle.filt_meaning.specs.Names.{Around, Variable, sort_of_type}
-use Rattle.filt_tree.specs.declared.scope.Scope.{Scope}
-use Rattle.filt_tree.specs.Scopes.{context_of}
+use Rattle.filt_meaning.specs.declared.scope.Scope.{Scope}
+use Rattle.filt_meaning.specs.Scopes.{context_of}
 use Rattle.filt_types.specs.Walk.{arms_of}
 use Rattle.filt_types.proofs.Trees as o
 use Rattle.filt_check.specs.declared.collect.Declared.{Declared}

@@ -3,17 +3,17 @@ use Rattle.std.proofs.Common.{◌≡◌, ℕ, suc, ◌+◌, ◌≤◌, All, List
 use Rattle.std.specs.Global.{Global}
 use Rattle.std.proofs.lemmas.List.{map-append, take-append-le}
 use Rattle.attrs.specs.declared.attributes.Attrs.{Attrs}
-use Rattle.filt_values.specs.declared.fixed.Fixed.{Fixed}
-use Rattle.filt_values.specs.Seen.{val_of_fixed}
-use Rattle.filt_values.specs.Values.{Val}
+use Rattle.filt_meaning.specs.declared.fixed.Fixed.{Fixed}
+use Rattle.filt_meaning.specs.Seen.{val_of_fixed}
+use Rattle.filt_meaning.specs.Values.{Val}
 use Rattle.filt_meaning.specs.Configuration as meaning
 use Rattle.filt_meaning.specs.Configuration.{given_by}
 use Rattle.filt_meaning.specs.Names.{Around, Doing}
-use Rattle.filt_tree.specs.declared.scope.Scope.{Scope}
-use Rattle.filt_tree.specs.declared.scope.TFunction.{TFunction}
-use Rattle.filt_tree.specs.declared.tree.TFilter.{TFilter}
-use Rattle.filt_tree.specs.Scopes.{constant_values, constants_in, context_of, function_names, function_trees, named, tables_of}
-use Rattle.filt_tree.specs.Trees.{Tables, function, run, tables, tree_flow, with_function, with_functions}
+use Rattle.filt_meaning.specs.declared.scope.Scope.{Scope}
+use Rattle.filt_meaning.specs.declared.scope.TFunction.{TFunction}
+use Rattle.filt_meaning.specs.declared.tree.TFilter.{TFilter}
+use Rattle.filt_meaning.specs.Scopes.{constant_values, constants_in, context_of, function_names, function_trees, named, tables_of}
+use Rattle.filt_meaning.specs.Trees.{Tables, function, run, tables, tree_flow, with_function, with_functions}
 use Rattle.filt_check.proofs.Lookups.{around_stays, constants_stay, functions_length, mapped_length}
 
 -- ---- filters

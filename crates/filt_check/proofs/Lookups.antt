@@ -8,16 +8,16 @@ use Rattle.std.specs.Map.{keys_of, lookup}
 use Rattle.std.specs.Cmp.Lexicographic.{pointwise}
 use Rattle.std.proofs.lemmas.Cmp.{nat_list_eq_equiv}
 use Rattle.std.specs.Option.{option_copied}
-use Rattle.conf_lex.specs.declared.named.Name.{Name}
-use Rattle.conf_lex.specs.Names.{name_bytes}
-use Rattle.filt_values.specs.declared.fixed.Fixed.{Fixed}
-use Rattle.filt_values.specs.Seen.{val_of_fixed}
-use Rattle.filt_values.specs.Values.{Val}
+use Rattle.conf_ast.specs.declared.named.Name.{Name}
+use Rattle.conf_ast.specs.Names.{name_bytes}
+use Rattle.filt_meaning.specs.declared.fixed.Fixed.{Fixed}
+use Rattle.filt_meaning.specs.Seen.{val_of_fixed}
+use Rattle.filt_meaning.specs.Values.{Val}
 use Rattle.filt_meaning.specs.Names.{Around, same_name, place_in, or_here, further, named_in, constant_of, function_of}
-use Rattle.filt_tree.specs.declared.scope.Scope.{Scope}
-use Rattle.filt_tree.specs.declared.scope.TFunction.{TFunction}
-use Rattle.filt_tree.specs.Scopes.{constant_values, function_trees, tables_of, named, context_of}
-use Rattle.filt_tree.specs.Trees.{Tables, tables, function, with_function, with_functions}
+use Rattle.filt_meaning.specs.declared.scope.Scope.{Scope}
+use Rattle.filt_meaning.specs.declared.scope.TFunction.{TFunction}
+use Rattle.filt_meaning.specs.Scopes.{constant_values, function_trees, tables_of, named, context_of}
+use Rattle.filt_meaning.specs.Trees.{Tables, tables, function, with_function, with_functions}
 use Rattle.filt_check.specs.Seen.{names_of, at_place}
 
 -- ---- variables

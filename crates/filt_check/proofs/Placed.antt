@@ -1,13 +1,13 @@
 -- Names that have become places.
 use Rattle.std.proofs.Common.{◌≡◌, ℕ, List, Option, Some, None, slice_get, refl, sym, ap, ◌∙◌}
 use Rattle.std.proofs.Math.Path.{fun_ext}
-use Rattle.conf_lex.specs.declared.named.Name.{Name}
-use Rattle.conf_lex.specs.Names.{name_bytes}
-use Rattle.filt_values.specs.Values.{Val}
+use Rattle.conf_ast.specs.declared.named.Name.{Name}
+use Rattle.conf_ast.specs.Names.{name_bytes}
+use Rattle.filt_meaning.specs.Values.{Val}
 use Rattle.filt_meaning.specs.Meaning.{given, variable_or, named}
 use Rattle.filt_meaning.specs.Names.{Context, place_in, constant_of, there}
-use Rattle.filt_tree.specs.declared.tree.TExpr.TheVariants as te
-use Rattle.filt_tree.specs.Trees.{Tables, expr}
+use Rattle.filt_meaning.specs.declared.tree.TExpr.TheVariants as te
+use Rattle.filt_meaning.specs.Trees.{Tables, expr}
 use Rattle.filt_check.specs.Seen.{at_place}
 use Rattle.filt_check.proofs.Forms as f
 

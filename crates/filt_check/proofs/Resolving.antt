@@ -4,10 +4,10 @@ use Rattle.std.specs.Global.{Global}
 use Rattle.std.proofs.lemmas.List.{map-append, drop_all}
 use Rattle.std.proofs.lemmas.Result.{IfOk-weaker}
 use Rattle.bits_ip.specs.declared.memory.OutOfMemory.{OutOfMemory}
-use Rattle.conf_lex.specs.declared.named.Name.{Name}
+use Rattle.conf_ast.specs.declared.named.Name.{Name}
 use Rattle.conf_ast.specs.declared.filters.Access.{Access}
 use Rattle.conf_ast.specs.declared.filters.Access.TheVariants as accesses
-use Rattle.conf_lex.specs.declared.attribute.Attribute.{Attribute}
+use Rattle.conf_ast.specs.declared.attribute.Attribute.{Attribute}
 use Rattle.conf_ast.specs.declared.filters.CompareOp.{CompareOp}
 use Rattle.conf_ast.specs.declared.filters.Expr.{Expr}
 use Rattle.conf_ast.specs.declared.filters.Expr.TheVariants as e
@@ -20,21 +20,21 @@ use Rattle.conf_ast.specs.declared.filters.MethodKind.{MethodKind}
 use Rattle.conf_ast.specs.declared.filters.Atom.{Atom}
 use Rattle.conf_ast.specs.declared.filters.AddOp.{AddOp}
 use Rattle.conf_ast.specs.Filters.{Expression, PropertyOf, Changed, Multiplied, Added, Joined, expression_of, expressions_of, accessed, multiplied, added, joined}
-use Rattle.filt_values.specs.declared.value.Failure.{Failure}
-use Rattle.filt_values.specs.declared.value.Failure.TheVariants as failures
-use Rattle.filt_values.specs.Operators.{pair_of, not_of}
-use Rattle.filt_values.specs.Values.{Val}
+use Rattle.filt_meaning.specs.declared.value.Failure.{Failure}
+use Rattle.filt_meaning.specs.declared.value.Failure.TheVariants as failures
+use Rattle.filt_meaning.specs.Operators.{pair_of, not_of}
+use Rattle.filt_meaning.specs.Values.{Val}
 use Rattle.filt_meaning.specs.Flow.{Run, Frame}
 use Rattle.filt_meaning.specs.Items.{set_of, mask_of}
 use Rattle.filt_meaning.specs.Meaning.{value, values, plain, named, given, attribute, on_value, on_two, called_value, one_more, factor_of, term_of, compare_of, method_of}
 use Rattle.filt_meaning.specs.Names.{Around, Context, Doing, function_of}
-use Rattle.filt_tree.specs.declared.scope.Scope.{Scope}
-use Rattle.filt_tree.specs.declared.tree.TAccess.{TAccess}
-use Rattle.filt_tree.specs.declared.tree.TExpr.{TExpr}
-use Rattle.filt_tree.specs.declared.tree.TExpr.TheVariants as te
-use Rattle.filt_tree.specs.Scopes.{tables_of}
-use Rattle.filt_tree.specs.Trees as trees
-use Rattle.filt_tree.specs.Trees.{Tables, expr, exprs, all_values}
+use Rattle.filt_meaning.specs.declared.scope.Scope.{Scope}
+use Rattle.filt_meaning.specs.declared.tree.TAccess.{TAccess}
+use Rattle.filt_meaning.specs.declared.tree.TExpr.{TExpr}
+use Rattle.filt_meaning.specs.declared.tree.TExpr.TheVariants as te
+use Rattle.filt_meaning.specs.Scopes.{tables_of}
+use Rattle.filt_meaning.specs.Trees as trees
+use Rattle.filt_meaning.specs.Trees.{Tables, expr, exprs, all_values}
 use Rattle.filt_types.specs.Walk.{accesses_of, operands_of}
 use Rattle.filt_types.proofs.Trees as o
 use Rattle.filt_check.specs.Seen.{values_in, accesses_in, parts_in, at_place}

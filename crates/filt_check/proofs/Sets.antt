@@ -16,10 +16,10 @@ use Rattle.conf_ast.specs.declared.filters.Num.TheVariants as nums
 use Rattle.conf_ast.specs.declared.filters.PairPart.{PairPart}
 use Rattle.conf_ast.specs.declared.filters.PairPart.TheVariants as parts
 use Rattle.conf_ast.specs.declared.filters.NumRange.{NumRange}
-use Rattle.filt_values.specs.declared.value.Failure.{Failure}
-use Rattle.filt_values.specs.declared.value.Failure.TheVariants.{Stuck}
-use Rattle.filt_values.specs.Operators.{and_then, int_in}
-use Rattle.filt_values.specs.Values.{Val, VInt, VIntSet, VPairSet, VPrefixSet}
+use Rattle.filt_meaning.specs.declared.value.Failure.{Failure}
+use Rattle.filt_meaning.specs.declared.value.Failure.TheVariants.{Stuck}
+use Rattle.filt_meaning.specs.Operators.{and_then, int_in}
+use Rattle.filt_meaning.specs.Values.{Val, VInt, VIntSet, VPairSet, VPrefixSet}
 use Rattle.filt_meaning.specs.Items.{number, last_number, int_item, pair_part, pair_item, in_8_bits, prefix_length, prefix_item, with_int_item, with_pair_item, with_prefix_item, before_set, set_of, mask_item, mask_items}
 use Rattle.filt_meaning.specs.Names.{Context, constant_of, there}
 use Rattle.filt_check.specs.Seen.{each, int_of, pair_of, prefix_of}

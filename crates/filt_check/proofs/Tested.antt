@@ -2,14 +2,14 @@
 use Rattle.std.proofs.Common.{◌≡◌, List, sym, ap, ◌∙◌, Box, Vec}
 use Rattle.std.specs.Global.{Global}
 use Rattle.conf_ast.specs.declared.filters.CompareOp.{CompareOp}
-use Rattle.filt_values.specs.Values.{Val}
+use Rattle.filt_meaning.specs.Values.{Val}
 use Rattle.filt_meaning.specs.Flow.{Run}
 use Rattle.filt_meaning.specs.Meaning.{on_two, compare_of}
-use Rattle.filt_tree.specs.declared.tree.TAccess.{TAccess}
-use Rattle.filt_tree.specs.declared.tree.TExpr.{TExpr}
-use Rattle.filt_tree.specs.declared.tree.TExpr.TheVariants as te
-use Rattle.filt_tree.specs.Trees as trees
-use Rattle.filt_tree.specs.Trees.{Tables, expr}
+use Rattle.filt_meaning.specs.declared.tree.TAccess.{TAccess}
+use Rattle.filt_meaning.specs.declared.tree.TExpr.{TExpr}
+use Rattle.filt_meaning.specs.declared.tree.TExpr.TheVariants as te
+use Rattle.filt_meaning.specs.Trees as trees
+use Rattle.filt_meaning.specs.Trees.{Tables, expr}
 use Rattle.filt_check.proofs.Forms as f
 
 -- both sides of a comparison by what they are

@@ -7,23 +7,23 @@ use Rattle.attrs.specs.declared.attributes.Attrs.{Attrs}
 use Rattle.conf_ast.specs.declared.filters.VariableType.{VariableType}
 use Rattle.conf_ast.specs.Configurations.{Routine}
 use Rattle.conf_ast.specs.Filters.{Statements}
-use Rattle.filt_values.specs.declared.fixed.Fixed.{Fixed}
-use Rattle.filt_values.specs.declared.value.Sort.{Sort}
-use Rattle.filt_values.specs.Seen.{val_of_fixed}
-use Rattle.filt_values.specs.Values.{Val, default_of}
+use Rattle.filt_meaning.specs.declared.fixed.Fixed.{Fixed}
+use Rattle.filt_meaning.specs.declared.value.Sort.{Sort}
+use Rattle.filt_meaning.specs.Seen.{val_of_fixed}
+use Rattle.filt_meaning.specs.Values.{Val, default_of}
 use Rattle.filt_meaning.specs.Configuration as meaning
 use Rattle.filt_meaning.specs.Configuration.{at_end, given_by, doing, parameter_names}
 use Rattle.filt_meaning.specs.Flow.{Flow, Done, Stopped, AtEnd, Returned, Accepted, Rejected, Faulted, Stuck, Frame}
 use Rattle.filt_meaning.specs.Meaning.{Act, acts, all_declared, choice, defaults, in_turn, nothing, stop, within}
 use Rattle.filt_meaning.specs.Names.{Around, Context}
-use Rattle.filt_tree.specs.declared.scope.Scope.{Scope}
-use Rattle.filt_tree.specs.declared.scope.TFunction.{TFunction}
-use Rattle.filt_tree.specs.declared.tree.TExpr.{TExpr}
-use Rattle.filt_tree.specs.declared.tree.TFilter.{TFilter}
-use Rattle.filt_tree.specs.declared.tree.TStmt.{TStmt}
-use Rattle.filt_tree.specs.declared.tree.TStmt.TheVariants as ts
-use Rattle.filt_tree.specs.Scopes.{constant_values, context_of, function_trees, tables_of}
-use Rattle.filt_tree.specs.Trees.{Tables, body, expr, first_constants, function, run, stmt, tables, tree_flow}
+use Rattle.filt_meaning.specs.declared.scope.Scope.{Scope}
+use Rattle.filt_meaning.specs.declared.scope.TFunction.{TFunction}
+use Rattle.filt_meaning.specs.declared.tree.TExpr.{TExpr}
+use Rattle.filt_meaning.specs.declared.tree.TFilter.{TFilter}
+use Rattle.filt_meaning.specs.declared.tree.TStmt.{TStmt}
+use Rattle.filt_meaning.specs.declared.tree.TStmt.TheVariants as ts
+use Rattle.filt_meaning.specs.Scopes.{constant_values, context_of, function_trees, tables_of}
+use Rattle.filt_meaning.specs.Trees.{Tables, body, expr, first_constants, function, run, stmt, tables, tree_flow}
 use Rattle.filt_types.specs.Scenes.{Signature}
 use Rattle.filt_types.specs.Statements.{sort_given}
 use Rattle.filt_check.specs.Seen.{sorts_in, where_act}

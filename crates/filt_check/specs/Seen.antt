@@ -15,21 +15,21 @@ use Rattle.conf_ast.specs.declared.filters.Item.TheVariants as items
 use Rattle.conf_ast.specs.declared.filters.Parameter.{Parameter}
 use Rattle.conf_ast.specs.declared.filters.Stmt.{Stmt}
 use Rattle.conf_ast.specs.Filters.{expression_of, statement_of, statements_of}
-use Rattle.filt_values.specs.declared.value.Failure.{Failure}
-use Rattle.filt_values.specs.declared.value.Failure.TheVariants.{Stuck}
-use Rattle.filt_values.specs.declared.value.Sort.{Sort}
-use Rattle.filt_values.specs.Operators.{and_then}
-use Rattle.filt_values.specs.Values.{Val}
+use Rattle.filt_meaning.specs.declared.value.Failure.{Failure}
+use Rattle.filt_meaning.specs.declared.value.Failure.TheVariants.{Stuck}
+use Rattle.filt_meaning.specs.declared.value.Sort.{Sort}
+use Rattle.filt_meaning.specs.Operators.{and_then}
+use Rattle.filt_meaning.specs.Values.{Val}
 use Rattle.filt_meaning.specs.Flow.{Accepted, Rejected, Run}
 use Rattle.filt_meaning.specs.Items.{among, int_item, pair_item, prefix_item, set_of}
 use Rattle.filt_meaning.specs.Meaning.{Act, act, acts, all_declared, arm, choice, in_turn, nothing}
 use Rattle.filt_meaning.specs.Meaning.{stop, value}
 use Rattle.filt_meaning.specs.Names.{Context, Variable, sort_of_type}
-use Rattle.filt_tree.specs.declared.tree.TAccess.{TAccess}
-use Rattle.filt_tree.specs.declared.tree.TAccess.TheVariants as checked
-use Rattle.filt_tree.specs.declared.tree.TArm.{TArm}
-use Rattle.filt_tree.specs.declared.tree.TStmt.{TStmt}
-use Rattle.filt_tree.specs.Trees.{Tables, body, set_of_labels}
+use Rattle.filt_meaning.specs.declared.tree.TAccess.{TAccess}
+use Rattle.filt_meaning.specs.declared.tree.TAccess.TheVariants as checked
+use Rattle.filt_meaning.specs.declared.tree.TArm.{TArm}
+use Rattle.filt_meaning.specs.declared.tree.TStmt.{TStmt}
+use Rattle.filt_meaning.specs.Trees.{Tables, body, set_of_labels}
 use Rattle.filt_check.specs.declared.collect.Declared.{Declared}
 
 -- names that stand in the source, as bytes

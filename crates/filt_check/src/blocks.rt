@@ -1,13 +1,13 @@
 // Statements from names to places.
 
 ghost use Rattle.std.specs.Prelude.{◌≡◌, [], ◌∷◌, IfOk};
-ghost use Rattle.conf_lex.specs.Names.{name_bytes};
+ghost use Rattle.conf_ast.specs.Names.{name_bytes};
 ghost use Rattle.conf_ast.specs.Filters.{Braced, expression_of, statement_of, statements_of};
 ghost use Rattle.filt_meaning.specs.Meaning.{act, acts, all_declared, cases, choice, loop, nothing};
 ghost use Rattle.filt_meaning.specs.Meaning.{value, within};
 ghost use Rattle.filt_meaning.specs.Names.{Around, with_variables};
-ghost use Rattle.filt_tree.specs.Scopes.{context_of, tables_of};
-ghost use Rattle.filt_tree.specs.Trees as trees;
+ghost use Rattle.filt_meaning.specs.Scopes.{context_of, tables_of};
+ghost use Rattle.filt_meaning.specs.Trees as trees;
 ghost use Rattle.filt_check.specs.Seen.{names_of, sorts_in, acts_in, arm_seen, arms_seen, arm_in};
 ghost use Rattle.filt_check.specs.Seen.{arms_in, otherwise_in, picked};
 
@@ -16,10 +16,9 @@ use crate::items::set_of;
 use crate::resolve::resolve;
 use crate::simple::{assign, called, change, declare, print, returned};
 use bits_ip::OutOfMemory;
+use conf_ast::Name;
 use conf_ast::filters::{Arm, Expr, Stmt};
-use conf_lex::Name;
-use filt_tree::{Scope, TArm, TStmt};
-use filt_values::Sort;
+use filt_meaning::{Scope, Sort, TArm, TStmt};
 use std::alloc::Global;
 
 /// A block: the sorts of its own variables, and its statements.

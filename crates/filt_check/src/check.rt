@@ -6,14 +6,14 @@ ghost use Rattle.conf_ast.specs.Configurations.{routine_of};
 ghost use Rattle.conf_ast.specs.Filters.{block_of, expression_of, statements_of};
 ghost use Rattle.filt_meaning.specs.Configuration.{body, doing, filter_where};
 ghost use Rattle.filt_meaning.specs.Names.{Around};
-ghost use Rattle.filt_tree.specs.Scopes.{constant_values, context_of, function_trees, tables_of};
-ghost use Rattle.filt_tree.specs.Trees as trees;
-ghost use Rattle.filt_tree.specs.Trees.{tree_flow};
+ghost use Rattle.filt_meaning.specs.Scopes.{constant_values, context_of, function_trees, tables_of};
+ghost use Rattle.filt_meaning.specs.Trees as trees;
+ghost use Rattle.filt_meaning.specs.Trees.{tree_flow};
 ghost use Rattle.filt_types.specs.Refusals.{first_in};
 ghost use Rattle.filt_types.specs.Seen.{scene_of, signature_of};
 ghost use Rattle.filt_types.specs.Weight.{block_weight};
 ghost use Rattle.filt_check.specs.Answers.{IsFault};
-ghost use Rattle.filt_rules.specs.Refused.{of_filter, of_function, signature_in};
+ghost use Rattle.filt_types.specs.Refused.{of_filter, of_function, signature_in};
 ghost use Rattle.filt_check.specs.Seen.{where_act};
 
 use crate::blocks::resolve_block;
@@ -22,10 +22,10 @@ use crate::fault::{TypeFault, fault};
 use crate::resolve::resolve;
 use bits_ip::OutOfMemory;
 use conf_ast::filters::{Block, Expr, Filter, Function, Stmt};
+use filt_meaning::{Scope, TExpr, TFilter, TFunction, TStmt};
 use filt_rules::{
     first_in_block, first_in_condition, first_in_function, sort_given, weigh_block, weigh_condition,
 };
-use filt_tree::{Scope, TExpr, TFilter, TFunction, TStmt};
 use std::alloc::Global;
 
 // ---- filters

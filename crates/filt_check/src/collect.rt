@@ -1,7 +1,7 @@
 // The variables that statements declare in the block round them.
 
 ghost use Rattle.std.specs.Prelude.{◌≡◌, ◌++◌, ◌∷◌, [], IfOk, OnOk, map};
-ghost use Rattle.conf_lex.specs.Names.{name_bytes};
+ghost use Rattle.conf_ast.specs.Names.{name_bytes};
 ghost use Rattle.conf_ast.specs.Filters.{statement_of, statements_of};
 ghost use Rattle.filt_meaning.specs.Configuration.{parameter_names};
 ghost use Rattle.filt_meaning.specs.Meaning.{declared, all_declared};
@@ -10,10 +10,9 @@ ghost use Rattle.filt_check.specs.Seen.{names_of, variables_of, name_of, sort_of
 ghost use Rattle.filt_check.specs.Seen.{otherwise_declares, parameter_sorts};
 
 use bits_ip::OutOfMemory;
+use conf_ast::Name;
 use conf_ast::filters::{Arm, Parameter, Stmt, VariableType};
-use conf_lex::Name;
-use filt_rules::type_sort;
-use filt_values::Sort;
+use filt_meaning::{Sort, type_sort};
 use std::alloc::Global;
 
 /// A variable that is declared.

@@ -2,15 +2,14 @@
 
 ghost use Rattle.std.specs.Prelude.{◌≡◌, ◌∷◌, [], IfSome, Ok};
 ghost use Rattle.filt_meaning.specs.Meaning.{attribute, compare_of, given, on_two};
-ghost use Rattle.filt_tree.specs.declared.tree.TAccess.TheVariants as accesses;
-ghost use Rattle.filt_tree.specs.Trees as trees;
-ghost use Rattle.filt_tree.specs.Trees.{Tables};
-ghost use Rattle.filt_values.specs.Operators.{pair_of};
-ghost use Rattle.filt_values.specs.Values.{VInt, VPair};
+ghost use Rattle.filt_meaning.specs.declared.tree.TAccess.TheVariants as accesses;
+ghost use Rattle.filt_meaning.specs.Trees as trees;
+ghost use Rattle.filt_meaning.specs.Trees.{Tables};
+ghost use Rattle.filt_meaning.specs.Operators.{pair_of};
+ghost use Rattle.filt_meaning.specs.Values.{VInt, VPair};
 
 use conf_ast::filters::{Attribute, CompareOp, Property};
-use filt_tree::{TAccess, TExpr, TTest};
-use filt_values::Fixed;
+use filt_meaning::{Fixed, TAccess, TExpr, TTest};
 
 /// The comparison of two operands.
 pub(crate) fn comparison(op: CompareOp, left: Box<TExpr>, right: Box<TExpr>) -> TExpr

@@ -5,20 +5,18 @@ ghost use Rattle.bits_ip.specs.Address.{width_of};
 ghost use Rattle.filt_meaning.specs.Items as written;
 ghost use Rattle.conf_ast.specs.declared.filters.MaskAtom.TheVariants as mask_atoms;
 ghost use Rattle.filt_meaning.specs.Names.{Around, constant_of, there};
-ghost use Rattle.filt_tree.specs.Scopes.{context_of};
-ghost use Rattle.filt_tree.specs.Trees.{set_of_labels};
-ghost use Rattle.filt_values.specs.Operators.{and_then, int_in};
-ghost use Rattle.filt_values.specs.Seen.{val_of_fixed};
-ghost use Rattle.filt_values.specs.Values.{VMask, VIntSet, VPairSet, VPrefixSet};
+ghost use Rattle.filt_meaning.specs.Scopes.{context_of};
+ghost use Rattle.filt_meaning.specs.Trees.{set_of_labels};
+ghost use Rattle.filt_meaning.specs.Operators.{and_then, int_in};
+ghost use Rattle.filt_meaning.specs.Seen.{val_of_fixed};
+ghost use Rattle.filt_meaning.specs.Values.{VMask, VIntSet, VPairSet, VPrefixSet};
 ghost use Rattle.filt_check.specs.Seen.{each, int_of, pair_of, prefix_of};
 
 use bits_ip::{Addr, OutOfMemory, Prefix};
-use conf_ast::filters as syntax;
 use conf_ast::filters::{Item, Lengths, MaskAtom, Num, NumRange, PairPart};
-use conf_lex::Name;
+use conf_ast::{Name, filters as syntax};
+use filt_meaning::{Fixed, Labels, Scope};
 use filt_sets::{Atom, IntItem, IntSet, Mask, MaskItem, PairItem, PairSet, PrefixItem, PrefixSet};
-use filt_tree::{Labels, Scope};
-use filt_values::Fixed;
 use std::alloc::Global;
 
 // ---- numbers

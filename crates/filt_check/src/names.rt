@@ -3,12 +3,12 @@
 ghost use Rattle.std.specs.Prelude.{◌≡◌, Some, None, List, ℕ};
 ghost use Rattle.filt_meaning.specs.Meaning.{named};
 ghost use Rattle.filt_meaning.specs.Names.{Around, place_in, constant_of, function_of};
-ghost use Rattle.filt_tree.specs.Scopes.{context_of, tables_of};
-ghost use Rattle.filt_tree.specs.Trees as trees;
+ghost use Rattle.filt_meaning.specs.Scopes.{context_of, tables_of};
+ghost use Rattle.filt_meaning.specs.Trees as trees;
 ghost use Rattle.filt_check.specs.Seen.{names_of, at_place};
 
-use conf_lex::Name;
-use filt_tree::{Scope, TExpr, TTarget};
+use conf_ast::Name;
+use filt_meaning::{Scope, TExpr, TTarget};
 
 /// The last place of a name.
 pub(crate) fn place(names: &[&[u8]], name: &[u8]) -> Option<usize>

@@ -9,13 +9,13 @@ ghost use Rattle.filt_meaning.specs.Meaning as meaning;
 ghost use Rattle.filt_meaning.specs.Attributes.{value_of_constant};
 ghost use Rattle.filt_meaning.specs.Items.{mask_of, set_of};
 ghost use Rattle.filt_meaning.specs.Names.{Around, function_of};
-ghost use Rattle.filt_tree.specs.declared.scope.Scope.{Scope};
-ghost use Rattle.filt_tree.specs.Scopes.{context_of, tables_of};
-ghost use Rattle.filt_tree.specs.Trees as trees;
-ghost use Rattle.filt_tree.specs.Trees.{Tables};
-ghost use Rattle.filt_values.specs.Operators.{pair_of};
-ghost use Rattle.filt_values.specs.Seen.{val_of_fixed};
-ghost use Rattle.filt_values.specs.Values.{VString};
+ghost use Rattle.filt_meaning.specs.declared.scope.Scope.{Scope};
+ghost use Rattle.filt_meaning.specs.Scopes.{context_of, tables_of};
+ghost use Rattle.filt_meaning.specs.Trees as trees;
+ghost use Rattle.filt_meaning.specs.Trees.{Tables};
+ghost use Rattle.filt_meaning.specs.Operators.{pair_of};
+ghost use Rattle.filt_meaning.specs.Seen.{val_of_fixed};
+ghost use Rattle.filt_meaning.specs.Values.{VString};
 ghost use Rattle.filt_check.specs.Seen.{names_of, access_in, accesses_in, values_in, parts_in};
 
 use crate::comparing::comparison;
@@ -26,9 +26,8 @@ use bits_ip::OutOfMemory;
 use conf_ast::filters::{
     Access, AddOp, Atom, CompareOp, Constant, Expr, Item, LogicalOp, MaskItem, MethodKind, MulOp,
 };
-use conf_lex::{Name, bytes_at};
-use filt_tree::{Labels, Scope, TAccess, TExpr};
-use filt_values::Fixed;
+use conf_ast::{Name, bytes_at};
+use filt_meaning::{Fixed, Labels, Scope, TAccess, TExpr};
 use std::alloc::Global;
 
 // ---- words

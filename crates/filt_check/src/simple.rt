@@ -6,20 +6,19 @@ ghost use Rattle.conf_ast.specs.declared.filters.Target.TheVariants as targets;
 ghost use Rattle.filt_meaning.specs.Meaning as meaning;
 ghost use Rattle.filt_meaning.specs.Meaning.{act, assign, call, evaluate, initial, on_two};
 ghost use Rattle.filt_meaning.specs.Meaning.{on_value, read, set_target, value};
-ghost use Rattle.filt_values.specs.Operators.{emptied_of};
+ghost use Rattle.filt_meaning.specs.Operators.{emptied_of};
 ghost use Rattle.filt_meaning.specs.Names.{Around, function_of};
-ghost use Rattle.filt_tree.specs.declared.scope.Scope.{Scope};
-ghost use Rattle.filt_tree.specs.Scopes.{context_of, tables_of};
-ghost use Rattle.filt_tree.specs.Trees as trees;
+ghost use Rattle.filt_meaning.specs.declared.scope.Scope.{Scope};
+ghost use Rattle.filt_meaning.specs.Scopes.{context_of, tables_of};
+ghost use Rattle.filt_meaning.specs.Trees as trees;
 ghost use Rattle.filt_check.specs.Seen.{names_of, values_in};
 
 use crate::names::{function, named, place};
 use crate::resolve::{boxed, resolve, resolve_all};
 use bits_ip::OutOfMemory;
+use conf_ast::Name;
 use conf_ast::filters::{Change, Expr, MethodKind, Target, VariableType};
-use conf_lex::Name;
-use filt_rules::type_sort;
-use filt_tree::{Scope, TExpr, TStmt, TTarget};
+use filt_meaning::{Scope, TExpr, TStmt, TTarget, type_sort};
 use std::alloc::Global;
 
 // ---- targets

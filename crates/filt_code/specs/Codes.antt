@@ -9,22 +9,22 @@ use Rattle.attrs.specs.declared.judge.FilterFault.TheVariants as faults
 use Rattle.attrs.specs.declared.judge.Verdict.{Verdict}
 use Rattle.conf_ast.specs.declared.filters.LogicalOp.{LogicalOp}
 use Rattle.conf_ast.specs.declared.filters.LogicalOp.TheVariants as logical_ops
-use Rattle.conf_lex.specs.declared.attribute.Attribute.TheVariants as attributes
-use Rattle.filt_values.specs.declared.value.Failure.{Failure}
-use Rattle.filt_values.specs.declared.value.Failure.TheVariants.{Fault}
-use Rattle.filt_values.specs.Operators as operators
-use Rattle.filt_values.specs.Operators.{bool_in, emptied_of, matches_of, not_of, pair_of, says, truth_of}
-use Rattle.filt_values.specs.Seen.{val_of_fixed}
-use Rattle.filt_values.specs.Values.{Val, VBool, VPrefixSet, default_of}
+use Rattle.conf_ast.specs.declared.attribute.Attribute.TheVariants as attributes
+use Rattle.filt_meaning.specs.declared.value.Failure.{Failure}
+use Rattle.filt_meaning.specs.declared.value.Failure.TheVariants.{Fault}
+use Rattle.filt_meaning.specs.Operators as operators
+use Rattle.filt_meaning.specs.Operators.{bool_in, emptied_of, matches_of, not_of, pair_of, says, truth_of}
+use Rattle.filt_meaning.specs.Seen.{val_of_fixed}
+use Rattle.filt_meaning.specs.Values.{Val, VBool, VPrefixSet, default_of}
 use Rattle.filt_meaning.specs.Attributes.{with_attribute}
 use Rattle.filt_meaning.specs.Configuration.{given_by, verdict_of}
 use Rattle.filt_meaning.specs.Flow.{AtEnd, Returned, Accepted, Rejected, Stuck, Flow, Done, Stopped, Frame, Run, and_then, plainly}
 use Rattle.filt_meaning.specs.Meaning.{given, on_two, variable_or, attribute, defined, factor_of, term_of, compare_of, property_of, method_of, set_variable, set_attributes, unset, elements, turns}
 use Rattle.filt_meaning.specs.Names.{Around, Doing, there}
-use Rattle.filt_tree.specs.declared.tree.Labels.{Labels}
-use Rattle.filt_tree.specs.declared.tree.TArm.{TArm}
-use Rattle.filt_tree.specs.declared.tree.TStmt.{TStmt}
-use Rattle.filt_tree.specs.Trees.{test, has}
+use Rattle.filt_meaning.specs.declared.tree.Labels.{Labels}
+use Rattle.filt_meaning.specs.declared.tree.TArm.{TArm}
+use Rattle.filt_meaning.specs.declared.tree.TStmt.{TStmt}
+use Rattle.filt_meaning.specs.Trees.{test, has}
 use Rattle.filt_code.specs.declared.code.Draft.{Draft}
 use Rattle.filt_code.specs.declared.code.Routine.{Routine}
 use Rattle.filt_code.specs.declared.instr.Effect.{Effect}

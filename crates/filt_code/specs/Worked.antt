@@ -10,11 +10,11 @@ use Rattle.conf_ast.specs.declared.filters.CompareOp.TheVariants as compare_ops
 use Rattle.conf_ast.specs.declared.filters.LogicalOp.TheVariants as logical_ops
 use Rattle.conf_ast.specs.declared.filters.MethodKind.TheVariants as methods
 use Rattle.conf_ast.specs.declared.filters.MulOp.TheVariants as mul_ops
-use Rattle.conf_lex.specs.declared.attribute.Attribute.TheVariants as attributes
+use Rattle.conf_ast.specs.declared.attribute.Attribute.TheVariants as attributes
 use Rattle.filt_meaning.specs.Configuration.{verdict_of}
-use Rattle.filt_tree.specs.declared.tree.TTest.TheVariants as tests
-use Rattle.filt_values.specs.declared.fixed.Fixed.{Fixed}
-use Rattle.filt_values.specs.declared.value.Sort.TheVariants as sorts
+use Rattle.filt_meaning.specs.declared.tree.TTest.TheVariants as tests
+use Rattle.filt_meaning.specs.declared.fixed.Fixed.{Fixed}
+use Rattle.filt_meaning.specs.declared.value.Sort.TheVariants as sorts
 use Rattle.filt_code.specs.Codes.{Setting, mean}
 use Rattle.filt_code.specs.declared.instr.Effect.TheVariants as effects
 use Rattle.filt_code.specs.declared.instr.Instr.{Instr}

@@ -1,7 +1,7 @@
 //! Code as it is emitted.
 
 use crate::instr::Instr;
-use filt_values::Sort;
+use filt_meaning::Sort;
 
 /// The code of a function. Its first variables are its arguments.
 #[derive(Drop)]

@@ -1,9 +1,8 @@
 //! Instructions.
 
 use conf_ast::filters::{AddOp, Attribute, CompareOp, LogicalOp, MethodKind, MulOp, Property};
+use filt_meaning::{Fixed, Sort, TArm, TStmt, TTest};
 use filt_sets::PrefixSet;
-use filt_tree::{TArm, TStmt, TTest};
-use filt_values::{Fixed, Sort};
 
 /// An operator of one value.
 #[derive(Clone, Copy)]

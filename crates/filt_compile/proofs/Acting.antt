@@ -9,32 +9,32 @@ use Rattle.std.specs.Borrow.{Bor}
 use Rattle.std.proofs.Common.{Box}
 use Rattle.conf_ast.specs.declared.filters.CompareOp.{CompareOp}
 use Rattle.conf_ast.specs.declared.filters.CompareOp.TheVariants as compare_ops
-use Rattle.conf_lex.specs.declared.attribute.Attribute.TheVariants as attributes
+use Rattle.conf_ast.specs.declared.attribute.Attribute.TheVariants as attributes
 use Rattle.filt_sets.specs.declared.prefixes.PrefixItem.{PrefixItem}
-use Rattle.filt_tree.specs.declared.tree.TExpr.TheVariants as e
-use Rattle.filt_tree.proofs.Forms as forms
+use Rattle.filt_meaning.specs.declared.tree.TExpr.TheVariants as e
+use Rattle.filt_meaning.proofs.Forms as forms
 use Rattle.filt_compile.specs.Emits.{IsAsked, IsNet, IsNetIn, IsSet}
 use Rattle.std.specs.Prelude.{IfSome}
 use Rattle.std.proofs.lemmas.List.{length-reverse}
 use Rattle.filt_compile.specs.Emits.{ahead}
 use Rattle.attrs.specs.declared.attributes.Attrs.{Attrs}
-use Rattle.conf_lex.specs.declared.attribute.Attribute.{Attribute}
-use Rattle.filt_values.specs.declared.value.Failure.{Failure}
-use Rattle.filt_values.specs.declared.value.Sort.{Sort}
-use Rattle.filt_values.specs.Operators.{bool_in, matches_of}
-use Rattle.filt_values.specs.Values.{Val, VPrefixSet, default_of}
+use Rattle.conf_ast.specs.declared.attribute.Attribute.{Attribute}
+use Rattle.filt_meaning.specs.declared.value.Failure.{Failure}
+use Rattle.filt_meaning.specs.declared.value.Sort.{Sort}
+use Rattle.filt_meaning.specs.Operators.{bool_in, matches_of}
+use Rattle.filt_meaning.specs.Values.{Val, VPrefixSet, default_of}
 use Rattle.filt_meaning.specs.Attributes.{with_attribute, without_attribute}
 use Rattle.filt_meaning.specs.Flow.{Returned, Stuck, Why, Flow, Done, Stopped, Frame, Run, and_then, plainly}
 use Rattle.filt_meaning.specs.Meaning as m
 use Rattle.filt_meaning.specs.Meaning.{Act}
 use Rattle.filt_meaning.specs.Names.{Doing}
-use Rattle.filt_tree.specs.declared.tree.TExpr.{TExpr}
-use Rattle.filt_tree.specs.declared.tree.TStmt.{TStmt}
-use Rattle.filt_tree.specs.declared.tree.TTarget.{TTarget}
-use Rattle.filt_tree.specs.declared.tree.TTarget.TheVariants as targets
-use Rattle.filt_tree.specs.declared.tree.TTest.{TTest}
-use Rattle.filt_tree.specs.Trees as trees
-use Rattle.filt_tree.specs.Trees.{Tables}
+use Rattle.filt_meaning.specs.declared.tree.TExpr.{TExpr}
+use Rattle.filt_meaning.specs.declared.tree.TStmt.{TStmt}
+use Rattle.filt_meaning.specs.declared.tree.TTarget.{TTarget}
+use Rattle.filt_meaning.specs.declared.tree.TTarget.TheVariants as targets
+use Rattle.filt_meaning.specs.declared.tree.TTest.{TTest}
+use Rattle.filt_meaning.specs.Trees as trees
+use Rattle.filt_meaning.specs.Trees.{Tables}
 use Rattle.filt_code.specs.declared.instr.Effect.TheVariants as effects
 use Rattle.filt_code.specs.declared.instr.Instr.{Instr}
 use Rattle.filt_code.specs.declared.instr.Instr.TheVariants as instrs

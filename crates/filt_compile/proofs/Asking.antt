@@ -6,17 +6,17 @@ use Rattle.std.specs.Global.{Global}
 use Rattle.attrs.specs.declared.attributes.Attrs.{Attrs}
 use Rattle.conf_ast.specs.declared.filters.LogicalOp.{LogicalOp}
 use Rattle.conf_ast.specs.declared.filters.LogicalOp.TheVariants as logical_ops
-use Rattle.filt_values.specs.declared.value.Failure.{Failure}
-use Rattle.filt_values.specs.Operators as operators
-use Rattle.filt_values.specs.Operators.{bool_in, not_of, truth_of}
-use Rattle.filt_values.specs.Values.{Val}
+use Rattle.filt_meaning.specs.declared.value.Failure.{Failure}
+use Rattle.filt_meaning.specs.Operators as operators
+use Rattle.filt_meaning.specs.Operators.{bool_in, not_of, truth_of}
+use Rattle.filt_meaning.specs.Values.{Val}
 use Rattle.filt_meaning.specs.Flow.{Flow, Done, Stopped, Frame, Run, and_then, plainly}
 use Rattle.filt_meaning.specs.Meaning as m
-use Rattle.filt_tree.specs.declared.tree.TExpr.{TExpr}
-use Rattle.filt_tree.specs.declared.tree.TExpr.TheVariants as e
-use Rattle.filt_tree.specs.Trees as trees
-use Rattle.filt_tree.specs.Trees.{Tables}
-use Rattle.filt_tree.proofs.Forms as forms
+use Rattle.filt_meaning.specs.declared.tree.TExpr.{TExpr}
+use Rattle.filt_meaning.specs.declared.tree.TExpr.TheVariants as e
+use Rattle.filt_meaning.specs.Trees as trees
+use Rattle.filt_meaning.specs.Trees.{Tables}
+use Rattle.filt_meaning.proofs.Forms as forms
 use Rattle.filt_code.specs.declared.instr.Instr.{Instr}
 use Rattle.filt_code.specs.Codes.{Setting, jump_where, mean}
 use Rattle.filt_compile.specs.declared.seen.Seen.{Seen}

@@ -8,22 +8,22 @@ use Rattle.conf_ast.specs.declared.filters.MulOp.{MulOp}
 use Rattle.conf_ast.specs.declared.filters.LogicalOp.{LogicalOp}
 use Rattle.conf_ast.specs.declared.filters.MethodKind.{MethodKind}
 use Rattle.conf_ast.specs.declared.filters.AddOp.{AddOp}
-use Rattle.filt_values.specs.declared.value.Sort.{Sort}
-use Rattle.filt_tree.specs.declared.tree.TAccess.{TAccess}
-use Rattle.filt_tree.specs.declared.tree.TAccess.TheVariants as accesses
-use Rattle.filt_tree.specs.declared.tree.TArm.{TArm}
-use Rattle.filt_tree.specs.declared.tree.TTarget.{TTarget}
-use Rattle.filt_tree.specs.declared.tree.TExpr.{TExpr, fold-TExpr}
-use Rattle.filt_tree.specs.declared.tree.TExpr.TheVariants as e
-use Rattle.filt_tree.specs.declared.tree.TExpr.TheOpen.{TExpr-F}
-use Rattle.filt_tree.specs.declared.tree.TStmt.{TStmt, fold-TStmt}
-use Rattle.filt_tree.specs.declared.tree.TStmt.TheVariants as s
-use Rattle.filt_tree.specs.declared.tree.TStmt.TheOpen.{TStmt-F}
+use Rattle.filt_meaning.specs.declared.value.Sort.{Sort}
+use Rattle.filt_meaning.specs.declared.tree.TAccess.{TAccess}
+use Rattle.filt_meaning.specs.declared.tree.TAccess.TheVariants as accesses
+use Rattle.filt_meaning.specs.declared.tree.TArm.{TArm}
+use Rattle.filt_meaning.specs.declared.tree.TTarget.{TTarget}
+use Rattle.filt_meaning.specs.declared.tree.TExpr.{TExpr, fold-TExpr}
+use Rattle.filt_meaning.specs.declared.tree.TExpr.TheVariants as e
+use Rattle.filt_meaning.specs.declared.tree.TExpr.TheOpen.{TExpr-F}
+use Rattle.filt_meaning.specs.declared.tree.TStmt.{TStmt, fold-TStmt}
+use Rattle.filt_meaning.specs.declared.tree.TStmt.TheVariants as s
+use Rattle.filt_meaning.specs.declared.tree.TStmt.TheOpen.{TStmt-F}
 use Rattle.filt_code.specs.declared.instr.OfTwo.TheVariants as of_two
 use Rattle.filt_compile.specs.Parts.{Part, One, Two, Joined, part_of_access}
-use Rattle.filt_tree.proofs.Forms.{by_parts}
-use Rattle.filt_tree.proofs.Forms as forms
-use Rattle.filt_tree.proofs.Size.{all}
+use Rattle.filt_meaning.proofs.Forms.{by_parts}
+use Rattle.filt_meaning.proofs.Forms as forms
+use Rattle.filt_meaning.proofs.Size.{all}
 
 abbrev access_step : TAccess ℕ → ℕ
 access_step (accesses.Property p) = 0

@@ -18,24 +18,24 @@ use Rattle.conf_ast.specs.declared.filters.CompareOp.{CompareOp}
 use Rattle.conf_ast.specs.declared.filters.CompareOp.TheVariants as compare_ops
 use Rattle.conf_ast.specs.declared.filters.LogicalOp.{LogicalOp}
 use Rattle.conf_ast.specs.declared.filters.LogicalOp.TheVariants as logical_ops
-use Rattle.conf_lex.specs.declared.attribute.Attribute.{Attribute}
-use Rattle.filt_values.specs.declared.fixed.Fixed.{Fixed}
-use Rattle.filt_values.specs.declared.value.Sort.{Sort}
-use Rattle.filt_values.specs.declared.value.Failure.{Failure}
-use Rattle.filt_values.specs.declared.value.Sort.TheVariants as sorts
-use Rattle.filt_values.specs.Members as members
-use Rattle.filt_values.specs.Operators.{bool_in, truth_of}
-use Rattle.filt_values.specs.Operators as operators
-use Rattle.filt_values.specs.Seen.{val_of_fixed}
-use Rattle.filt_values.specs.Values.{Val, default_of, VInt, VBool, VIp, VPrefix, VPair, VString, VPath, VMask, VClist, VIntSet, VPairSet, VPrefixSet, VSource, VDest, VOrigin}
+use Rattle.conf_ast.specs.declared.attribute.Attribute.{Attribute}
+use Rattle.filt_meaning.specs.declared.fixed.Fixed.{Fixed}
+use Rattle.filt_meaning.specs.declared.value.Sort.{Sort}
+use Rattle.filt_meaning.specs.declared.value.Failure.{Failure}
+use Rattle.filt_meaning.specs.declared.value.Sort.TheVariants as sorts
+use Rattle.filt_meaning.specs.Members as members
+use Rattle.filt_meaning.specs.Operators.{bool_in, truth_of}
+use Rattle.filt_meaning.specs.Operators as operators
+use Rattle.filt_meaning.specs.Seen.{val_of_fixed}
+use Rattle.filt_meaning.specs.Values.{Val, default_of, VInt, VBool, VIp, VPrefix, VPair, VString, VPath, VMask, VClist, VIntSet, VPairSet, VPrefixSet, VSource, VDest, VOrigin}
 use Rattle.filt_meaning.specs.Flow.{Stuck, Flow, Done, Stopped, Frame, Run, and_then, plainly}
 use Rattle.filt_meaning.specs.Meaning as m
 use Rattle.filt_meaning.specs.Names.{Around, Doing, there}
-use Rattle.filt_tree.specs.declared.tree.TExpr.{TExpr}
-use Rattle.filt_tree.specs.declared.tree.TTest.{TTest}
-use Rattle.filt_tree.specs.declared.tree.TTest.TheVariants as tests
-use Rattle.filt_tree.specs.Trees as trees
-use Rattle.filt_tree.specs.Trees.{Tables}
+use Rattle.filt_meaning.specs.declared.tree.TExpr.{TExpr}
+use Rattle.filt_meaning.specs.declared.tree.TTest.{TTest}
+use Rattle.filt_meaning.specs.declared.tree.TTest.TheVariants as tests
+use Rattle.filt_meaning.specs.Trees as trees
+use Rattle.filt_meaning.specs.Trees.{Tables}
 use Rattle.filt_code.specs.declared.instr.Effect.{Effect}
 use Rattle.filt_code.specs.declared.instr.Effect.TheVariants as effects
 use Rattle.filt_code.specs.declared.instr.Instr.{Instr}
@@ -50,7 +50,7 @@ use Rattle.filt_compile.specs.Emits.{Makes, Puts, PutsAll, tables_of}
 use Rattle.filt_compile.specs.Parts.{Part, One, Two, Joined, made_by, made_by_all}
 use Rattle.filt_compile.proofs.Walk.{and_then_assoc, next_got, next_item, found_at}
 use Rattle.filt_compile.proofs.Walk as w
-use Rattle.filt_tree.specs.declared.tree.TExpr.TheVariants as e
+use Rattle.filt_meaning.specs.declared.tree.TExpr.TheVariants as e
 
 -- ---- lists
 

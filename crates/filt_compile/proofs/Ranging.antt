@@ -10,19 +10,19 @@ use Rattle.attrs.specs.declared.attributes.Attrs.{Attrs}
 use Rattle.conf_ast.specs.declared.filters.CompareOp.{CompareOp}
 use Rattle.conf_ast.specs.declared.filters.CompareOp.TheVariants as compare_ops
 use Rattle.conf_ast.specs.declared.filters.Property.{Property}
-use Rattle.conf_lex.specs.declared.attribute.Attribute.{Attribute}
-use Rattle.filt_values.specs.declared.value.Failure.{Failure}
-use Rattle.filt_values.specs.Operators as operators
-use Rattle.filt_values.specs.Operators.{bool_in, says}
-use Rattle.filt_values.specs.Values.{Val, VBool, VInt}
+use Rattle.conf_ast.specs.declared.attribute.Attribute.{Attribute}
+use Rattle.filt_meaning.specs.declared.value.Failure.{Failure}
+use Rattle.filt_meaning.specs.Operators as operators
+use Rattle.filt_meaning.specs.Operators.{bool_in, says}
+use Rattle.filt_meaning.specs.Values.{Val, VBool, VInt}
 use Rattle.filt_meaning.specs.Attributes.{attribute_of, defined_as}
 use Rattle.filt_meaning.specs.Flow.{Flow, Done, Stopped, Frame, and_then, plainly}
 use Rattle.filt_meaning.specs.Meaning.{compare_of, property_of}
 use Rattle.filt_meaning.specs.Names.{Around}
-use Rattle.filt_tree.specs.declared.tree.TTest.{TTest}
-use Rattle.filt_tree.specs.declared.tree.TTest.TheVariants as tests
-use Rattle.filt_tree.specs.Trees as trees
-use Rattle.filt_tree.specs.Trees.{Tables}
+use Rattle.filt_meaning.specs.declared.tree.TTest.{TTest}
+use Rattle.filt_meaning.specs.declared.tree.TTest.TheVariants as tests
+use Rattle.filt_meaning.specs.Trees as trees
+use Rattle.filt_meaning.specs.Trees.{Tables}
 use Rattle.filt_code.specs.declared.instr.Instr.{Instr}
 use Rattle.filt_code.specs.declared.instr.Instr.TheVariants as instrs
 use Rattle.filt_code.specs.declared.instr.Number.{Number}

@@ -10,39 +10,39 @@ use Rattle.conf_ast.specs.declared.filters.MulOp.{MulOp}
 use Rattle.conf_ast.specs.declared.filters.LogicalOp.{LogicalOp}
 use Rattle.conf_ast.specs.declared.filters.MethodKind.{MethodKind}
 use Rattle.conf_ast.specs.declared.filters.AddOp.{AddOp}
-use Rattle.filt_values.specs.Values.{Val}
+use Rattle.filt_meaning.specs.Values.{Val}
 use Rattle.filt_meaning.specs.Flow.{Accepted, Rejected, Flow, Done, Stopped, Frame, Run, and_then, plainly}
 use Rattle.filt_meaning.specs.Meaning as m
 use Rattle.filt_meaning.specs.Meaning.{Act}
 use Rattle.filt_meaning.specs.Names.{there}
-use Rattle.filt_tree.specs.declared.tree.TAccess.{TAccess}
-use Rattle.filt_tree.specs.declared.tree.TAccess.TheVariants as accesses
-use Rattle.filt_tree.specs.declared.tree.Labels.{Labels}
-use Rattle.filt_tree.specs.declared.tree.TArm.{TArm}
-use Rattle.filt_tree.specs.declared.tree.TStmt.{TStmt, fold-TStmt, the_lemmas as stmt_lemmas}
-use Rattle.filt_tree.specs.declared.tree.TStmt.TheVariants as s
-use Rattle.filt_tree.specs.declared.tree.TStmt.TheOpen.{TStmt-F}
-use Rattle.filt_tree.specs.declared.tree.TTarget.{TTarget}
-use Rattle.filt_tree.specs.declared.tree.TTest.{TTest}
-use Rattle.conf_lex.specs.declared.attribute.Attribute.{Attribute}
-use Rattle.filt_values.specs.declared.fixed.Fixed.{Fixed}
-use Rattle.filt_values.specs.declared.value.Failure.TheVariants as failures
-use Rattle.filt_values.specs.declared.value.Sort.{Sort}
-use Rattle.filt_values.specs.Seen.{val_of_fixed}
-use Rattle.filt_values.specs.Values.{default_of}
-use Rattle.filt_tree.specs.declared.tree.TExpr.{TExpr, fold-TExpr, the_lemmas as expr_lemmas}
-use Rattle.filt_tree.specs.declared.tree.TExpr.TheOpen.{TExpr-F}
-use Rattle.filt_tree.specs.declared.tree.TExpr.TheVariants as e
-use Rattle.filt_tree.specs.Trees as trees
-use Rattle.filt_tree.specs.Trees.{Tables}
+use Rattle.filt_meaning.specs.declared.tree.TAccess.{TAccess}
+use Rattle.filt_meaning.specs.declared.tree.TAccess.TheVariants as accesses
+use Rattle.filt_meaning.specs.declared.tree.Labels.{Labels}
+use Rattle.filt_meaning.specs.declared.tree.TArm.{TArm}
+use Rattle.filt_meaning.specs.declared.tree.TStmt.{TStmt, fold-TStmt, the_lemmas as stmt_lemmas}
+use Rattle.filt_meaning.specs.declared.tree.TStmt.TheVariants as s
+use Rattle.filt_meaning.specs.declared.tree.TStmt.TheOpen.{TStmt-F}
+use Rattle.filt_meaning.specs.declared.tree.TTarget.{TTarget}
+use Rattle.filt_meaning.specs.declared.tree.TTest.{TTest}
+use Rattle.conf_ast.specs.declared.attribute.Attribute.{Attribute}
+use Rattle.filt_meaning.specs.declared.fixed.Fixed.{Fixed}
+use Rattle.filt_meaning.specs.declared.value.Failure.TheVariants as failures
+use Rattle.filt_meaning.specs.declared.value.Sort.{Sort}
+use Rattle.filt_meaning.specs.Seen.{val_of_fixed}
+use Rattle.filt_meaning.specs.Values.{default_of}
+use Rattle.filt_meaning.specs.declared.tree.TExpr.{TExpr, fold-TExpr, the_lemmas as expr_lemmas}
+use Rattle.filt_meaning.specs.declared.tree.TExpr.TheOpen.{TExpr-F}
+use Rattle.filt_meaning.specs.declared.tree.TExpr.TheVariants as e
+use Rattle.filt_meaning.specs.Trees as trees
+use Rattle.filt_meaning.specs.Trees.{Tables}
 use Rattle.filt_code.specs.declared.instr.OfOne.{OfOne}
 use Rattle.filt_code.specs.declared.instr.OfOne.TheVariants as of_one
 use Rattle.filt_code.specs.declared.instr.OfTwo.{OfTwo}
 use Rattle.filt_code.specs.declared.instr.OfTwo.TheVariants as of_two
 use Rattle.filt_code.specs.Codes.{one_of, two_of}
 use Rattle.filt_compile.specs.Parts.{Part, One, Two, Joined, part_of_access, made_by, made_by_all}
-use Rattle.filt_tree.proofs.Forms as forms
-use Rattle.filt_tree.proofs.Forms.{by_parts, by_accesses}
+use Rattle.filt_meaning.proofs.Forms as forms
+use Rattle.filt_meaning.proofs.Forms.{by_parts, by_accesses}
 
 pub and_then_assoc : {A B C : Type 0} (flow : Flow A) (g : A → Attrs → Flow B) (h : B → Attrs → Flow C) → and_then (and_then flow g) h ≡ and_then flow (λ a attrs. and_then (g a attrs) h)
 and_then_assoc (Done a attrs) g h = refl

@@ -2,23 +2,23 @@
 use Rattle.std.specs.Prelude.{◌≡◌, ◌≤◌, ℕ, ◌+◌, ◌-◌, Bool, true, false, List, [], ◌∷◌, ◌++◌, length, map, reverse, Vec, Ok, ⊤}
 use Rattle.std.specs.Global.{Global}
 use Rattle.attrs.specs.declared.attributes.Attrs.{Attrs}
-use Rattle.filt_values.specs.Seen.{val_of_fixed}
-use Rattle.filt_values.specs.declared.value.Sort.{Sort}
-use Rattle.filt_values.specs.Operators.{bool_in, matches_of}
-use Rattle.filt_values.specs.Values.{Val, VPrefixSet, default_of}
+use Rattle.filt_meaning.specs.Seen.{val_of_fixed}
+use Rattle.filt_meaning.specs.declared.value.Sort.{Sort}
+use Rattle.filt_meaning.specs.Operators.{bool_in, matches_of}
+use Rattle.filt_meaning.specs.Values.{Val, VPrefixSet, default_of}
 use Rattle.filt_meaning.specs.Flow.{Flow, Done, Stopped, Frame, Run, and_then, plainly}
 use Rattle.conf_ast.specs.declared.filters.CompareOp.{CompareOp}
 use Rattle.conf_ast.specs.declared.filters.CompareOp.TheVariants as compare_ops
 use Rattle.conf_ast.specs.declared.filters.LogicalOp.{LogicalOp}
 use Rattle.conf_ast.specs.declared.filters.LogicalOp.TheVariants as logical_ops
-use Rattle.conf_lex.specs.declared.attribute.Attribute.TheVariants as attributes
+use Rattle.conf_ast.specs.declared.attribute.Attribute.TheVariants as attributes
 use Rattle.filt_sets.specs.declared.prefixes.PrefixItem.{PrefixItem}
 use Rattle.filt_meaning.specs.Meaning.{Act, attribute, given, on_two}
-use Rattle.filt_tree.specs.declared.tree.TExpr.{TExpr}
-use Rattle.filt_tree.specs.declared.tree.TArm.{TArm}
-use Rattle.filt_tree.specs.declared.tree.TStmt.{TStmt}
-use Rattle.filt_tree.specs.declared.tree.TTarget.{TTarget}
-use Rattle.filt_tree.specs.Trees.{Tables, body, expr, set_place}
+use Rattle.filt_meaning.specs.declared.tree.TExpr.{TExpr}
+use Rattle.filt_meaning.specs.declared.tree.TArm.{TArm}
+use Rattle.filt_meaning.specs.declared.tree.TStmt.{TStmt}
+use Rattle.filt_meaning.specs.declared.tree.TTarget.{TTarget}
+use Rattle.filt_meaning.specs.Trees.{Tables, body, expr, set_place}
 use Rattle.filt_code.specs.declared.instr.Instr.{Instr}
 use Rattle.filt_code.specs.declared.instr.Instr.TheVariants as instrs
 use Rattle.filt_code.specs.Codes.{Setting, jump_where, mean}

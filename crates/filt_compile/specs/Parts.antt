@@ -1,14 +1,14 @@
 -- For private contracts alone: what follows an operand, as a list of operators.
 use Rattle.std.specs.Prelude.{List, [], ◌∷◌, map}
 use Rattle.conf_ast.specs.declared.filters.LogicalOp.{LogicalOp}
-use Rattle.filt_values.specs.Operators.{bool_in}
-use Rattle.filt_values.specs.Values.{Val}
+use Rattle.filt_meaning.specs.Operators.{bool_in}
+use Rattle.filt_meaning.specs.Values.{Val}
 use Rattle.filt_meaning.specs.Flow.{Done, Run, and_then, plainly}
 use Rattle.filt_meaning.specs.Meaning.{right_side}
-use Rattle.filt_tree.specs.declared.tree.TAccess.{TAccess}
-use Rattle.filt_tree.specs.declared.tree.TAccess.TheVariants as accesses
-use Rattle.filt_tree.specs.declared.tree.TExpr.{TExpr}
-use Rattle.filt_tree.specs.Trees.{Tables, expr}
+use Rattle.filt_meaning.specs.declared.tree.TAccess.{TAccess}
+use Rattle.filt_meaning.specs.declared.tree.TAccess.TheVariants as accesses
+use Rattle.filt_meaning.specs.declared.tree.TExpr.{TExpr}
+use Rattle.filt_meaning.specs.Trees.{Tables, expr}
 use Rattle.filt_code.specs.declared.instr.OfOne.{OfOne}
 use Rattle.filt_code.specs.declared.instr.OfOne.TheVariants as of_one
 use Rattle.filt_code.specs.declared.instr.OfTwo.{OfTwo}

@@ -2,16 +2,16 @@
 use Rattle.std.specs.Prelude.{◌≡◌, ℕ, Bool, true, false, not, nat_lt, Ok}
 use Rattle.attrs.specs.declared.attributes.Attrs.{Attrs}
 use Rattle.conf_ast.specs.declared.filters.CompareOp.{CompareOp}
-use Rattle.conf_lex.specs.declared.attribute.Attribute.{Attribute}
+use Rattle.conf_ast.specs.declared.attribute.Attribute.{Attribute}
 use Rattle.conf_ast.specs.declared.filters.Property.{Property}
-use Rattle.filt_values.specs.Operators.{and_then, says}
-use Rattle.filt_values.specs.Values.{VBool, VInt}
+use Rattle.filt_meaning.specs.Operators.{and_then, says}
+use Rattle.filt_meaning.specs.Values.{VBool, VInt}
 use Rattle.filt_meaning.specs.Attributes.{attribute_of}
 use Rattle.filt_meaning.specs.Flow.{Frame, plainly}
 use Rattle.filt_meaning.specs.Meaning.{compare_of, property_of}
 use Rattle.filt_meaning.specs.Names.{Around}
-use Rattle.filt_tree.specs.declared.tree.TTest.{TTest}
-use Rattle.filt_tree.specs.Trees.{test}
+use Rattle.filt_meaning.specs.declared.tree.TTest.{TTest}
+use Rattle.filt_meaning.specs.Trees.{test}
 use Rattle.filt_code.specs.declared.instr.Number.{Number}
 use Rattle.filt_code.specs.Codes.{number_in, within}
 use Rattle.filt_compile.specs.declared.ranges.Range.{Range}

@@ -3,7 +3,7 @@
 ghost use Rattle.std.specs.Prelude.{◌≡◌, length, slice_get, List, IfOk, OnOk};
 ghost use Rattle.filt_code.specs.declared.instr.Instr.{Instr};
 ghost use Rattle.filt_meaning.specs.Meaning as meaning;
-ghost use Rattle.filt_tree.specs.Trees as trees;
+ghost use Rattle.filt_meaning.specs.Trees as trees;
 ghost use Rattle.filt_compile.specs.Emits.{ahead, jumps_to, Acts, Bodies, Declares, Grows, Runs, Sets};
 
 use crate::condition::condition;
@@ -12,8 +12,7 @@ use crate::seen::Seen;
 use crate::value::{value, values};
 use bits_ip::OutOfMemory;
 use filt_code::{Effect, Instr};
-use filt_tree::{TArm, TExpr, TStmt, TTarget};
-use filt_values::Sort;
+use filt_meaning::{Sort, TArm, TExpr, TStmt, TTarget};
 
 /// Statements in their order.
 #[cycle(acts)]

@@ -1,7 +1,7 @@
 //! Conditions.
 
 ghost use Rattle.std.specs.Prelude.{◌≡◌, ◌<◌, length, slice_get, true, IfSome, OnOk, Some};
-ghost use Rattle.filt_tree.specs.Trees as trees;
+ghost use Rattle.filt_meaning.specs.Trees as trees;
 ghost use Rattle.filt_code.specs.declared.instr.Question.TheVariants as questions;
 ghost use Rattle.filt_compile.specs.Ranges.{sense};
 ghost use Rattle.filt_compile.specs.Emits.{ahead, decider, landing, Asks, IsAsked, IsNet, IsNetIn, IsSet, Leads};
@@ -13,9 +13,8 @@ use crate::value::value;
 use bits_ip::OutOfMemory;
 use conf_ast::filters::{Attribute, CompareOp, LogicalOp};
 use filt_code::{Instr, Question};
+use filt_meaning::{Fixed, TExpr, TTest};
 use filt_sets::PrefixSet;
-use filt_tree::{TExpr, TTest};
-use filt_values::Fixed;
 
 /// What jumps where a condition's truth value is this one, to the place that has so much code from it
 /// on. What `&&`, `||` and `!` join isn't put: each of their sides jumps by itself.

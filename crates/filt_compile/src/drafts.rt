@@ -4,9 +4,9 @@ ghost use Rattle.std.specs.Prelude.{◌≡◌, [], length, take, IfOk, List};
 ghost use Rattle.attrs.specs.declared.attributes.Attrs.{Attrs};
 ghost use Rattle.filt_meaning.specs.Flow.{Frame};
 ghost use Rattle.filt_meaning.specs.Names.{Around};
-ghost use Rattle.filt_tree.specs.Trees as trees;
-ghost use Rattle.filt_tree.specs.Trees.{AreBefore};
-ghost use Rattle.filt_tree.specs.declared.scope.TFunction.{TFunction};
+ghost use Rattle.filt_meaning.specs.Trees as trees;
+ghost use Rattle.filt_meaning.specs.Trees.{AreBefore};
+ghost use Rattle.filt_meaning.specs.declared.scope.TFunction.{TFunction};
 ghost use Rattle.filt_code.specs.Codes.{code_flow, mean, Setting};
 ghost use Rattle.filt_compile.specs.Compiles.{AreCompiled, IsCompiled};
 ghost use Rattle.filt_compile.specs.Emits.{tables_of};
@@ -15,8 +15,7 @@ use crate::act::block;
 use crate::seen::Seen;
 use bits_ip::OutOfMemory;
 use filt_code::{Draft, Instr, Routine};
-use filt_tree::{TFilter, TFunction, TStmt};
-use filt_values::{Fixed, Sort};
+use filt_meaning::{Fixed, Sort, TFilter, TFunction, TStmt};
 use std::alloc::Global;
 
 /// The code of a filter, over the constants and the compiled functions of the scope, of which it sees

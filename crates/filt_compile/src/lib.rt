@@ -2,7 +2,7 @@
 //!
 //! Code is emitted from its end: what runs behind is there first, so how far a jump leads is known
 //! when it is emitted, and nothing is changed afterwards. What each part comes to is what its tree
-//! does (`filt_tree/specs/Trees`), with whatever code stands behind it (`specs/Emits`).
+//! does (`filt_meaning/specs/Trees`), with whatever code stands behind it (`specs/Emits`).
 #![tactic(auto)]
 
 mod act;

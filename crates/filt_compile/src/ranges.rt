@@ -1,12 +1,12 @@
 //! Tests of a number that the route holds, as ranges that it is within or isn't.
 
 ghost use Rattle.std.specs.Prelude.{◌≡◌, IfSome};
-ghost use Rattle.conf_lex.specs.declared.attribute.Attribute.TheVariants as attributes;
+ghost use Rattle.conf_ast.specs.declared.attribute.Attribute.TheVariants as attributes;
 ghost use Rattle.filt_compile.specs.Ranges.{IsBelow, IsHeld, IsPart, IsRange, IsWithin};
 
 use conf_ast::filters::{Attribute, CompareOp, Property};
 use filt_code::Number;
-use filt_tree::TTest;
+use filt_meaning::TTest;
 
 /// The numbers from the first one to the last one; a test holds inside or outside of them.
 #[derive(Clone, Copy)]

@@ -6,7 +6,7 @@ ghost use Rattle.filt_compile.specs.Parts.{part_of, part_of_access, parts_of, Jo
 
 use conf_ast::filters::{AddOp, CompareOp, LogicalOp, MethodKind, MulOp};
 use filt_code::{OfOne, OfTwo};
-use filt_tree::{TAccess, TExpr};
+use filt_meaning::{TAccess, TExpr};
 
 /// What makes another value of a value.
 #[derive(Clone, Copy)]

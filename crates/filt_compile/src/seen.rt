@@ -1,6 +1,6 @@
 //! What names in trees stand for.
 
-use filt_values::Fixed;
+use filt_meaning::Fixed;
 use std::alloc::Global;
 
 /// What is seen of a scope.

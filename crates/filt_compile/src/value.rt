@@ -3,7 +3,7 @@
 ghost use Rattle.std.specs.Prelude.{OnOk};
 ghost use Rattle.filt_meaning.specs.Meaning.{given};
 ghost use Rattle.filt_meaning.specs.Names.{there};
-ghost use Rattle.filt_tree.specs.Trees as trees;
+ghost use Rattle.filt_meaning.specs.Trees as trees;
 ghost use Rattle.std.specs.Prelude.{slice_get};
 ghost use Rattle.filt_meaning.specs.Meaning.{called_value};
 ghost use Rattle.filt_compile.specs.Emits.{ahead, Makes, Puts, PutsAll};
@@ -16,8 +16,7 @@ use crate::seen::Seen;
 use bits_ip::OutOfMemory;
 use conf_ast::filters::LogicalOp;
 use filt_code::{Effect, Instr, OfOne, Question};
-use filt_tree::{TExpr, TTest};
-use filt_values::Sort;
+use filt_meaning::{Sort, TExpr, TTest};
 
 /// What puts an expression's value.
 #[cycle(emit)]

@@ -8,12 +8,12 @@ use Rattle.attrs.specs.declared.attributes.Attrs.{Attrs}
 use Rattle.attrs.specs.declared.attributes.Dest.{Dest}
 use Rattle.attrs.specs.declared.attributes.Origin.{Origin}
 use Rattle.bits_ip.specs.declared.address.Addr.{Addr}
-use Rattle.conf_lex.specs.declared.named.Name.{Name}
-use Rattle.conf_lex.specs.Names.{name_bytes}
-use Rattle.conf_lex.specs.declared.attribute.Attribute.{Attribute}
-use Rattle.conf_lex.specs.declared.attribute.Attribute.TheVariants as attributes
-use Rattle.conf_lex.specs.declared.attribute.Constant.{Constant}
-use Rattle.conf_lex.specs.declared.attribute.Constant.TheVariants as constants
+use Rattle.conf_ast.specs.declared.named.Name.{Name}
+use Rattle.conf_ast.specs.Names.{name_bytes}
+use Rattle.conf_ast.specs.declared.attribute.Attribute.{Attribute}
+use Rattle.conf_ast.specs.declared.attribute.Attribute.TheVariants as attributes
+use Rattle.conf_ast.specs.declared.attribute.Constant.{Constant}
+use Rattle.conf_ast.specs.declared.attribute.Constant.TheVariants as constants
 use Rattle.conf_ast.specs.declared.filters.Item.{Item}
 use Rattle.conf_ast.specs.declared.filters.Method.{Method}
 use Rattle.conf_ast.specs.declared.filters.Atom.{Atom}
@@ -23,12 +23,12 @@ use Rattle.conf_ast.specs.declared.filters.Target.TheVariants as targets
 use Rattle.conf_ast.specs.declared.filters.VariableType.{VariableType}
 use Rattle.conf_ast.specs.declared.filters.VariableType.TheVariants as types
 use Rattle.conf_ast.specs.Filters.{Expression, Plain, Grouped, Expressions, Statement, Braced, Nothing, Declare, Assign, ChangeBy, Clear, Unset, If, IfElse, Case, CaseElse, For, Accept, Reject, Return, Print, Printn, Call, Statements, NoStatements, AndStatements, Arms, NoArms, AndArms}
-use Rattle.filt_values.specs.declared.value.Failure.{Failure}
-use Rattle.filt_values.specs.declared.value.Sort.{Sort}
-use Rattle.filt_values.specs.declared.value.Sort.TheVariants as sorts
-use Rattle.filt_values.specs.Operators.{int_in, ip_in, path_in, clist_in, dest_in, origin_in, bool_in, emptied_of}
-use Rattle.filt_values.specs.Sorts.{one_bool, one_list, the_same}
-use Rattle.filt_values.specs.Values.{Val, VInt, VIp, VPair, VPath, VClist, VDest, VOrigin, sort_of, default_of}
+use Rattle.filt_meaning.specs.declared.value.Failure.{Failure}
+use Rattle.filt_meaning.specs.declared.value.Sort.{Sort}
+use Rattle.filt_meaning.specs.declared.value.Sort.TheVariants as sorts
+use Rattle.filt_meaning.specs.Operators.{int_in, ip_in, path_in, clist_in, dest_in, origin_in, bool_in, emptied_of}
+use Rattle.filt_meaning.specs.Sorts.{one_bool, one_list, the_same}
+use Rattle.filt_meaning.specs.Values.{Val, VInt, VIp, VPair, VPath, VClist, VDest, VOrigin, sort_of, default_of}
 use Rattle.filt_meaning.specs.Attributes.{attribute_of, with_attribute, without_attribute}
 use Rattle.filt_meaning.specs.Flow.{Frame, Run, plainly}
 use Rattle.filt_meaning.specs.Meaning.{Act, act, acts, arms_act, all_declared, arms_declare, names_of, defaults, nothing, block, set_variable, set_attributes, set_target, unset, read, choose, choice, arm, elements, turns, loop, give, evaluate, on_value, on_two, method_of, value, values, within}

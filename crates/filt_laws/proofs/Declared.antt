@@ -2,8 +2,8 @@
 -- refused.
 use Rattle.std.proofs.Common.{◌≡◌, ℕ, true, false, nat_lt, List, [], ◌∷◌, ◌++◌, length, remove, refl, sym, ap, ◌∙◌, subst, append_assoc, append-nil}
 use Rattle.std.proofs.lemmas.List.{map-append}
-use Rattle.conf_lex.specs.declared.named.Name.{Name}
-use Rattle.conf_lex.specs.Names.{name_bytes}
+use Rattle.conf_ast.specs.declared.named.Name.{Name}
+use Rattle.conf_ast.specs.Names.{name_bytes}
 use Rattle.conf_ast.specs.declared.filters.Parameter.{Parameter}
 use Rattle.conf_ast.specs.Filters.{Statement, Braced, Nothing, Declare, Assign, ChangeBy, Clear, Unset, If, IfElse, Case, CaseElse, For, Accept, Reject, Return, Print, Printn, Call, Statements, NoStatements, AndStatements, Arms, NoArms, AndArms}
 use Rattle.filt_meaning.specs.Meaning.{all_declared, arms_declare}
@@ -14,7 +14,7 @@ use Rattle.filt_types.specs.Expressions.{judge, wanted}
 use Rattle.filt_types.specs.Refusals.{refused_if}
 use Rattle.filt_types.specs.Scenes.{Scene, Variable, Variables, is_seen, declaring, declared}
 use Rattle.filt_types.specs.Statements.{Around, check, check_all, check_arms, initial, cases, over_list, parameters}
-use Rattle.filt_values.specs.Sorts.{one_bool}
+use Rattle.filt_meaning.specs.Sorts.{one_bool}
 use Rattle.filt_laws.proofs.Names.{Fresh, var, vars, fresh_append, fresh_before, seen_more}
 use Rattle.filt_laws.proofs.Refused.{left_nil, right_nil, not_refused}
 use Rattle.filt_laws.proofs.Slots.{Slot}

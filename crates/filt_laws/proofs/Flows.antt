@@ -2,12 +2,12 @@
 use Rattle.std.proofs.Common.{◌≡◌, Option, Some, Result, Ok, Err}
 use Rattle.std.specs.Bool.{⊤}
 use Rattle.attrs.specs.declared.attributes.Attrs.{Attrs}
-use Rattle.filt_values.specs.declared.value.Failure.{Failure}
-use Rattle.filt_values.specs.declared.value.Failure.TheVariants as failures
-use Rattle.filt_values.specs.declared.value.Sort.{Sort}
-use Rattle.filt_values.specs.Operators as values
-use Rattle.filt_values.specs.Sorts.{IsGiven}
-use Rattle.filt_values.specs.Values.{Val, sort_of}
+use Rattle.filt_meaning.specs.declared.value.Failure.{Failure}
+use Rattle.filt_meaning.specs.declared.value.Failure.TheVariants as failures
+use Rattle.filt_meaning.specs.declared.value.Sort.{Sort}
+use Rattle.filt_meaning.specs.Operators as values
+use Rattle.filt_meaning.specs.Sorts.{IsGiven}
+use Rattle.filt_meaning.specs.Values.{Val, sort_of}
 use Rattle.filt_meaning.specs.Flow.{Why, AtEnd, Returned, Accepted, Rejected, Faulted, Stuck, Flow, Done, Stopped, and_then, plainly}
 use Rattle.filt_laws.specs.Sound.{EndsFilter, IsResult}
 

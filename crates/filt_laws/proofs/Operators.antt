@@ -10,11 +10,11 @@ use Rattle.conf_ast.specs.declared.filters.Property.{Property}
 use Rattle.conf_ast.specs.declared.filters.Property.TheVariants as properties
 use Rattle.conf_ast.specs.declared.filters.AddOp.{AddOp}
 use Rattle.conf_ast.specs.declared.filters.AddOp.TheVariants as add_ops
-use Rattle.filt_values.specs.declared.value.Failure.{Failure}
-use Rattle.filt_values.specs.declared.value.Failure.TheVariants.{Stuck}
-use Rattle.filt_values.specs.declared.value.Sort.{Sort}
-use Rattle.filt_values.specs.Sorts.{IsGiven, TakesOne, TakesTwo, two_ints, a_bool, an_int, the_same}
-use Rattle.filt_values.specs.Values.{Val, sort_of}
+use Rattle.filt_meaning.specs.declared.value.Failure.{Failure}
+use Rattle.filt_meaning.specs.declared.value.Failure.TheVariants.{Stuck}
+use Rattle.filt_meaning.specs.declared.value.Sort.{Sort}
+use Rattle.filt_meaning.specs.Sorts.{IsGiven, TakesOne, TakesTwo, two_ints, a_bool, an_int, the_same}
+use Rattle.filt_meaning.specs.Values.{Val, sort_of}
 use Rattle.filt_meaning.specs.Meaning.{term_of, factor_of, compare_of, property_of, method_of}
 use Rattle.filt_types.specs.Rules.{compares_sorts, method_takes, property}
 use Rattle.filt_laws.specs.Operators.{AreTyped}

@@ -4,7 +4,7 @@ use Rattle.std.specs.Prelude.{nat_lt}
 use Rattle.bits_ip.specs.declared.address.Addr.{Addr}
 use Rattle.bits_ip.specs.declared.address.Addr.TheVariants.{V4, V6}
 use Rattle.bits_ip.specs.Address.{width_of}
-use Rattle.filt_values.specs.declared.value.Failure.TheVariants as failures
+use Rattle.filt_meaning.specs.declared.value.Failure.TheVariants as failures
 use Rattle.std.proofs.Common.{◌≡◌, ℕ, ◌≤◌, ◌^◌, ◌||◌, Ok, Err, arith, Bool, true, false, if◌then◌else◌, List, [], ◌∷◌, ◌++◌, Option, Some, None, refl, sym, ◌∙◌, subst}
 use Rattle.std.specs.Bool.{⊤}
 use Rattle.bits_ip.specs.Prefix.{Net}
@@ -25,10 +25,10 @@ use Rattle.conf_ast.specs.declared.filters.Num.TheVariants as nums
 use Rattle.conf_ast.specs.declared.filters.PairPart.{PairPart}
 use Rattle.conf_ast.specs.declared.filters.PairPart.TheVariants as parts
 use Rattle.conf_ast.specs.declared.filters.NumRange.{NumRange}
-use Rattle.filt_values.specs.declared.value.Sort.{Sort}
-use Rattle.filt_values.specs.declared.value.Sort.TheVariants as sorts
-use Rattle.filt_values.specs.Operators.{and_then, int_in}
-use Rattle.filt_values.specs.Values.{Val, VInt, VPrefix, VPair, VIntSet, VPairSet, VPrefixSet, sort_of}
+use Rattle.filt_meaning.specs.declared.value.Sort.{Sort}
+use Rattle.filt_meaning.specs.declared.value.Sort.TheVariants as sorts
+use Rattle.filt_meaning.specs.Operators.{and_then, int_in}
+use Rattle.filt_meaning.specs.Values.{Val, VInt, VPrefix, VPair, VIntSet, VPairSet, VPrefixSet, sort_of}
 use Rattle.filt_meaning.specs.Items as run
 use Rattle.filt_meaning.specs.Items.{set_of, mask_of, has_label, among}
 use Rattle.filt_meaning.specs.Names.{Around, Context, Doing, there}

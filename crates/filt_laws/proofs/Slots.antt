@@ -2,9 +2,9 @@
 use Rattle.std.proofs.Common.{◌≡◌, ℕ, suc, Bool, true, false, slice_get, slice_set, List, [], ◌∷◌, ◌++◌, length, take, Option, Some, None, refl, sym, ap, subst}
 use Rattle.std.specs.Bool.{⊤}
 use Rattle.std.specs.Cmp.Lexicographic.{same_text, other_text}
-use Rattle.filt_values.specs.declared.value.Sort.{Sort}
-use Rattle.filt_values.specs.declared.value.Sort.TheVariants as sorts
-use Rattle.filt_values.specs.Values.{Val, sort_of, default_of}
+use Rattle.filt_meaning.specs.declared.value.Sort.{Sort}
+use Rattle.filt_meaning.specs.declared.value.Sort.TheVariants as sorts
+use Rattle.filt_meaning.specs.Values.{Val, sort_of, default_of}
 use Rattle.filt_meaning.specs.Flow.{Frame}
 use Rattle.filt_meaning.specs.Meaning.{names_of, defaults}
 use Rattle.filt_meaning.specs.Names.{same_name, place_in, or_here, further}

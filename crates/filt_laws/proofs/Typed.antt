@@ -2,12 +2,12 @@
 use Rattle.std.proofs.Common.{◌≡◌, ℕ, ◌==◌, Bool, true, false, not, ◌&&◌, if◌then◌else◌, List, [], ◌∷◌, ◌++◌, length, map, Option, Some, None, Result, refl, sym, ◌∙◌, subst, arith, eqb-true}
 use Rattle.std.specs.Bool.{⊤}
 use Rattle.attrs.specs.declared.attributes.Attrs.{Attrs}
-use Rattle.conf_lex.specs.declared.named.Name.{Name}
-use Rattle.conf_lex.specs.Names.{name_bytes}
-use Rattle.conf_lex.specs.declared.attribute.Attribute.{Attribute}
-use Rattle.conf_lex.specs.declared.attribute.Attribute.TheVariants as attributes
-use Rattle.conf_lex.specs.declared.attribute.Constant.{Constant}
-use Rattle.conf_lex.specs.declared.attribute.Constant.TheVariants as constants
+use Rattle.conf_ast.specs.declared.named.Name.{Name}
+use Rattle.conf_ast.specs.Names.{name_bytes}
+use Rattle.conf_ast.specs.declared.attribute.Attribute.{Attribute}
+use Rattle.conf_ast.specs.declared.attribute.Attribute.TheVariants as attributes
+use Rattle.conf_ast.specs.declared.attribute.Constant.{Constant}
+use Rattle.conf_ast.specs.declared.attribute.Constant.TheVariants as constants
 use Rattle.conf_ast.specs.declared.filters.Item.{Item}
 use Rattle.conf_ast.specs.declared.filters.LogicalOp.{LogicalOp}
 use Rattle.conf_ast.specs.declared.filters.LogicalOp.TheVariants as logical_ops
@@ -15,12 +15,12 @@ use Rattle.conf_ast.specs.declared.filters.MaskItem.{MaskItem}
 use Rattle.conf_ast.specs.declared.filters.Atom.{Atom}
 use Rattle.conf_ast.specs.declared.filters.Atom.TheVariants as atoms
 use Rattle.conf_ast.specs.Filters.{Expression, Plain, Named, Called, Grouped, Paired, SetOf, MaskOf, IsDefined, MethodOf, PropertyOf, Changed, Negated, Multiplied, Added, Compared, Joined, Expressions, NoExpressions, AndExpressions}
-use Rattle.filt_values.specs.declared.value.Failure.{Failure}
-use Rattle.filt_values.specs.declared.value.Sort.{Sort}
-use Rattle.filt_values.specs.declared.value.Sort.TheVariants as sorts
-use Rattle.filt_values.specs.Operators.{bool_in, truth_of, not_of, pair_of}
-use Rattle.filt_values.specs.Sorts.{TakesOne, TakesTwo, one_bool, a_bool}
-use Rattle.filt_values.specs.Values.{Val, VInt, VBool, VIp, VOrigin, sort_of}
+use Rattle.filt_meaning.specs.declared.value.Failure.{Failure}
+use Rattle.filt_meaning.specs.declared.value.Sort.{Sort}
+use Rattle.filt_meaning.specs.declared.value.Sort.TheVariants as sorts
+use Rattle.filt_meaning.specs.Operators.{bool_in, truth_of, not_of, pair_of}
+use Rattle.filt_meaning.specs.Sorts.{TakesOne, TakesTwo, one_bool, a_bool}
+use Rattle.filt_meaning.specs.Values.{Val, VInt, VBool, VIp, VOrigin, sort_of}
 use Rattle.filt_meaning.specs.Attributes.{attribute_of, defined_as, value_of_constant}
 use Rattle.filt_meaning.specs.Flow.{Flow, Done, Stopped, Frame, Run, plainly}
 use Rattle.filt_meaning.specs.Items.{set_of, mask_of}

@@ -1,14 +1,14 @@
 -- For private contracts alone: what the laws of values say of each operator, for the laws of
 -- filters: which sorts it takes, and of which sort its value is.
-use Rattle.filt_values.specs.Operators.{added_of, deleted_of, emptied_of, equal_of, filtered_of}
-use Rattle.filt_values.specs.Operators.{first_of, greater_of, greater_or_equal_of, ip_of, last_of}
-use Rattle.filt_values.specs.Operators.{len_of, less_of, less_or_equal_of, matches_not_of}
-use Rattle.filt_values.specs.Operators.{matches_of, minus_of, not_equal_of, not_of, over_of}
-use Rattle.filt_values.specs.Operators.{pair_of, plus_of, prepended_of, times_of, truth_of}
-use Rattle.filt_values.specs.Sorts.{TakesOne, TakesTwo, added, compared, deleted, one_list}
-use Rattle.filt_values.specs.Sorts.{filtered, matched, measured, one_bool, one_path, one_prefix}
-use Rattle.filt_values.specs.Sorts.{ordered, prepended, two_ints, a_bool, a_pair, an_int, an_ip}
-use Rattle.filt_values.specs.Sorts.{the_same}
+use Rattle.filt_meaning.specs.Operators.{added_of, deleted_of, emptied_of, equal_of, filtered_of}
+use Rattle.filt_meaning.specs.Operators.{first_of, greater_of, greater_or_equal_of, ip_of, last_of}
+use Rattle.filt_meaning.specs.Operators.{len_of, less_of, less_or_equal_of, matches_not_of}
+use Rattle.filt_meaning.specs.Operators.{matches_of, minus_of, not_equal_of, not_of, over_of}
+use Rattle.filt_meaning.specs.Operators.{pair_of, plus_of, prepended_of, times_of, truth_of}
+use Rattle.filt_meaning.specs.Sorts.{TakesOne, TakesTwo, added, compared, deleted, one_list}
+use Rattle.filt_meaning.specs.Sorts.{filtered, matched, measured, one_bool, one_path, one_prefix}
+use Rattle.filt_meaning.specs.Sorts.{ordered, prepended, two_ints, a_bool, a_pair, an_int, an_ip}
+use Rattle.filt_meaning.specs.Sorts.{the_same}
 
 pub record AreTyped : Type 0 where
   pub plus : TakesTwo two_ints an_int plus_of

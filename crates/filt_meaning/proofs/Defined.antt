@@ -1,9 +1,9 @@
 -- What is defined is read.
 use Rattle.std.proofs.Common.{◌≡◌, true, Option, Some, None, Ok, refl}
 use Rattle.attrs.specs.declared.attributes.Attrs.{Attrs}
-use Rattle.conf_lex.specs.declared.attribute.Attribute.{Attribute}
-use Rattle.conf_lex.specs.declared.attribute.Attribute.TheVariants as attributes
-use Rattle.filt_values.specs.Values.{Val, VInt, VIp, VOrigin}
+use Rattle.conf_ast.specs.declared.attribute.Attribute.{Attribute}
+use Rattle.conf_ast.specs.declared.attribute.Attribute.TheVariants as attributes
+use Rattle.filt_meaning.specs.Values.{Val, VInt, VIp, VOrigin}
 use Rattle.filt_meaning.specs.Attributes.{attribute_of, is_defined, is_some, defined_as}
 use Rattle.filt_meaning.specs.Names.{Around}
 

@@ -5,9 +5,9 @@ use Rattle.attrs.specs.declared.attributes.Attrs.{Attrs}
 use Rattle.conf_ast.specs.declared.filters.Target.{Target}
 use Rattle.conf_ast.specs.declared.filters.Target.TheVariants as targets
 use Rattle.conf_ast.specs.Filters.{Expression, Statement, Braced, Nothing, Declare, Assign, ChangeBy, Clear, Unset, If, IfElse, Case, CaseElse, For, Accept, Reject, Return, Print, Printn, Call, Statements, NoStatements, AndStatements, Arms, NoArms, AndArms}
-use Rattle.conf_lex.specs.Names.{name_bytes}
-use Rattle.filt_values.specs.declared.value.Failure.{Failure}
-use Rattle.filt_values.specs.Values.{Val}
+use Rattle.conf_ast.specs.Names.{name_bytes}
+use Rattle.filt_meaning.specs.declared.value.Failure.{Failure}
+use Rattle.filt_meaning.specs.Values.{Val}
 use Rattle.filt_meaning.specs.Attributes.{with_attribute, without_attribute}
 use Rattle.filt_meaning.specs.Flow.{Returned, Stuck, Flow, Done, Stopped, Frame, Run, and_then, plainly}
 use Rattle.filt_meaning.specs.Meaning.{Act, act, acts, arms_act, all_declared, defaults, within, nothing, in_turn, block, set_variable, set_attributes, set_target, assign, choose, choice, arm, cases, turns, loop, give, evaluate, result, value}

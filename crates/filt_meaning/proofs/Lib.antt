@@ -1,2 +1,4 @@
 mod Defined
 mod Kept
+pub mod Forms
+pub mod Size

@@ -8,14 +8,14 @@ use Rattle.attrs.specs.declared.attributes.Kind.TheVariants as kinds
 use Rattle.attrs.specs.declared.attributes.Dest.TheVariants as dests
 use Rattle.attrs.specs.declared.attributes.Origin.TheVariants as origins
 use Rattle.attrs.specs.declared.judge.FilterFault.TheVariants as faults
-use Rattle.conf_lex.specs.declared.attribute.Attribute.{Attribute}
-use Rattle.conf_lex.specs.declared.attribute.Attribute.TheVariants as attributes
-use Rattle.conf_lex.specs.declared.attribute.Constant.{Constant}
-use Rattle.conf_lex.specs.declared.attribute.Constant.TheVariants as constants
-use Rattle.filt_values.specs.declared.value.Failure.{Failure}
-use Rattle.filt_values.specs.declared.value.Failure.TheVariants.{Fault, Stuck}
-use Rattle.filt_values.specs.Operators.{and_then, int_in, ip_in, path_in, clist_in, dest_in, origin_in}
-use Rattle.filt_values.specs.Values.{Val, VInt, VIp, VPrefix, VString, VPath, VClist, VSource, VDest, VOrigin}
+use Rattle.conf_ast.specs.declared.attribute.Attribute.{Attribute}
+use Rattle.conf_ast.specs.declared.attribute.Attribute.TheVariants as attributes
+use Rattle.conf_ast.specs.declared.attribute.Constant.{Constant}
+use Rattle.conf_ast.specs.declared.attribute.Constant.TheVariants as constants
+use Rattle.filt_meaning.specs.declared.value.Failure.{Failure}
+use Rattle.filt_meaning.specs.declared.value.Failure.TheVariants.{Fault, Stuck}
+use Rattle.filt_meaning.specs.Operators.{and_then, int_in, ip_in, path_in, clist_in, dest_in, origin_in}
+use Rattle.filt_meaning.specs.Values.{Val, VInt, VIp, VPrefix, VString, VPath, VClist, VSource, VDest, VOrigin}
 use Rattle.filt_meaning.specs.Names.{Around}
 
 -- ---- reading

@@ -9,13 +9,13 @@ use Rattle.attrs.specs.declared.judge.FilterFault.TheVariants as faults
 use Rattle.attrs.specs.declared.judge.Verdict.{Verdict}
 use Rattle.attrs.specs.declared.judge.Verdict.TheVariants as verdicts
 use Rattle.attrs.specs.declared.route.Route.{Route}
-use Rattle.conf_lex.specs.Names.{name_bytes}
+use Rattle.conf_ast.specs.Names.{name_bytes}
 use Rattle.conf_ast.specs.declared.filters.Parameter.{Parameter}
 use Rattle.conf_ast.specs.Configurations as conf
 use Rattle.conf_ast.specs.Filters.{Expression, If, Accept, Reject, Statements, NoStatements, AndStatements}
-use Rattle.filt_values.specs.declared.value.Failure.{Failure}
-use Rattle.filt_values.specs.Operators.{and_then, pair_of}
-use Rattle.filt_values.specs.Values.{Val, VInt, VBool, VIp, VPrefix, VString}
+use Rattle.filt_meaning.specs.declared.value.Failure.{Failure}
+use Rattle.filt_meaning.specs.Operators.{and_then, pair_of}
+use Rattle.filt_meaning.specs.Values.{Val, VInt, VBool, VIp, VPrefix, VString}
 use Rattle.filt_meaning.specs.Flow.{AtEnd, Returned, Accepted, Rejected, Faulted, Stuck, Flow, Done, Stopped, Frame}
 use Rattle.filt_meaning.specs.Items.{number, set_of, mask_of}
 use Rattle.filt_meaning.specs.Meaning.{all_declared, defaults, within, acts}

@@ -7,9 +7,9 @@
 use Rattle.std.specs.Prelude.{List, Result, Ok, Err}
 use Rattle.attrs.specs.declared.attributes.Attrs.{Attrs}
 use Rattle.attrs.specs.declared.judge.FilterFault.{FilterFault}
-use Rattle.filt_values.specs.declared.value.Failure.{Failure}
-use Rattle.filt_values.specs.declared.value.Failure.TheVariants as failures
-use Rattle.filt_values.specs.Values.{Val}
+use Rattle.filt_meaning.specs.declared.value.Failure.{Failure}
+use Rattle.filt_meaning.specs.declared.value.Failure.TheVariants as failures
+use Rattle.filt_meaning.specs.Values.{Val}
 
 -- Why a run goes no further.
 pub data Why : Type 0 where

@@ -24,11 +24,11 @@ use Rattle.conf_ast.specs.declared.filters.Num.TheVariants as nums
 use Rattle.conf_ast.specs.declared.filters.PairPart.{PairPart}
 use Rattle.conf_ast.specs.declared.filters.PairPart.TheVariants as parts
 use Rattle.conf_ast.specs.declared.filters.NumRange.{NumRange}
-use Rattle.filt_values.specs.declared.value.Failure.{Failure}
-use Rattle.filt_values.specs.declared.value.Failure.TheVariants.{Stuck}
-use Rattle.filt_values.specs.Members.{in_ints, in_pairs, in_nets}
-use Rattle.filt_values.specs.Operators.{and_then, int_in}
-use Rattle.filt_values.specs.Values.{Val, VInt, VPair, VPrefix, VMask, VIntSet, VPairSet, VPrefixSet}
+use Rattle.filt_meaning.specs.declared.value.Failure.{Failure}
+use Rattle.filt_meaning.specs.declared.value.Failure.TheVariants.{Stuck}
+use Rattle.filt_meaning.specs.Members.{in_ints, in_pairs, in_nets}
+use Rattle.filt_meaning.specs.Operators.{and_then, int_in}
+use Rattle.filt_meaning.specs.Values.{Val, VInt, VPair, VPrefix, VMask, VIntSet, VPairSet, VPrefixSet}
 use Rattle.filt_meaning.specs.Names.{Context, constant_of, there}
 
 -- a number, or the constant of that name, which is one

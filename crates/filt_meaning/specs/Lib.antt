@@ -1,3 +1,8 @@
+pub mod Values
+pub mod Members
+pub mod Operators
+pub mod Seen
+pub mod Sorts
 pub mod Flow
 pub mod Names
 pub mod Items
@@ -6,3 +11,5 @@ pub mod Meaning
 pub mod Configuration
 pub mod Orders
 pub mod Worked
+pub mod Trees
+pub mod Scopes

@@ -4,10 +4,10 @@
 -- Example: `1 / 0 + f()` doesn't call `f`.
 use Rattle.std.specs.Prelude.{◌≡◌, false, []}
 use Rattle.attrs.specs.declared.attributes.Attrs.{Attrs}
-use Rattle.conf_lex.specs.declared.attribute.Attribute.{Attribute}
-use Rattle.conf_lex.specs.declared.attribute.Attribute.TheVariants as attributes
+use Rattle.conf_ast.specs.declared.attribute.Attribute.{Attribute}
+use Rattle.conf_ast.specs.declared.attribute.Attribute.TheVariants as attributes
 use Rattle.conf_ast.specs.Filters.{Expression}
-use Rattle.filt_values.specs.Values.{Val}
+use Rattle.filt_meaning.specs.Values.{Val}
 use Rattle.filt_meaning.specs.Attributes.{is_defined}
 use Rattle.filt_meaning.specs.Flow.{Why, Done, Stopped, Frame}
 use Rattle.filt_meaning.specs.Meaning.{value}

@@ -2,9 +2,9 @@
 -- a name. The law `worked_filters` tells what they say.
 -- From: own.
 use Rattle.std.specs.Prelude.{ℕ, List, [], ◌∷◌, Some, None, codes}
-use Rattle.conf_lex.specs.declared.named.Name.{Name}
-use Rattle.conf_lex.specs.declared.attribute.Attribute.{Attribute}
-use Rattle.conf_lex.specs.declared.attribute.Attribute.TheVariants as attributes
+use Rattle.conf_ast.specs.declared.named.Name.{Name}
+use Rattle.conf_ast.specs.declared.attribute.Attribute.{Attribute}
+use Rattle.conf_ast.specs.declared.attribute.Attribute.TheVariants as attributes
 use Rattle.conf_ast.specs.declared.filters.CompareOp.TheVariants as compare_ops
 use Rattle.conf_ast.specs.declared.filters.MethodKind.TheVariants as methods
 use Rattle.conf_ast.specs.declared.filters.Atom.TheVariants as atoms

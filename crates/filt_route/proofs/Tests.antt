@@ -1,17 +1,17 @@
 -- Tests of what a route holds.
 use Rattle.std.proofs.Common.{◌≡◌, ◌∙◌, ap, Bool, [], Result, Ok, Err, refl}
 use Rattle.attrs.specs.declared.attributes.Attrs.{Attrs}
-use Rattle.filt_values.specs.declared.value.Failure.{Failure}
-use Rattle.filt_values.specs.Operators as operators
-use Rattle.filt_values.specs.Operators.{bool_in, matches_of}
-use Rattle.filt_values.specs.Values.{Val, VInt, VPair}
+use Rattle.filt_meaning.specs.declared.value.Failure.{Failure}
+use Rattle.filt_meaning.specs.Operators as operators
+use Rattle.filt_meaning.specs.Operators.{bool_in, matches_of}
+use Rattle.filt_meaning.specs.Values.{Val, VInt, VPair}
 use Rattle.filt_meaning.specs.Attributes.{attribute_of}
 use Rattle.filt_meaning.specs.Flow.{Flow, Frame, and_then, plainly}
 use Rattle.filt_meaning.specs.Meaning.{compare_of, property_of}
 use Rattle.filt_meaning.specs.Names.{Around}
-use Rattle.filt_tree.specs.declared.tree.TTest.{TTest}
-use Rattle.filt_tree.specs.declared.tree.TTest.TheVariants as tests
-use Rattle.filt_tree.specs.Trees as trees
+use Rattle.filt_meaning.specs.declared.tree.TTest.{TTest}
+use Rattle.filt_meaning.specs.declared.tree.TTest.TheVariants as tests
+use Rattle.filt_meaning.specs.Trees as trees
 use Rattle.filt_route.specs.declared.halt.Halt.{Halt}
 use Rattle.filt_route.specs.declared.halt.Halt.TheVariants as halts
 use Rattle.filt_route.specs.Seen.{test_in, Gives, IsApplicable, IsUnstuck, Yields}

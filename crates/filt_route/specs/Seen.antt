@@ -2,18 +2,18 @@
 -- owe (`Gives`, `Yields`), where code is run (`around_in`), and what loops go over (`elements_of`).
 use Rattle.std.specs.Prelude.{◌≡◌, map, Result, Ok, Err, ⊤}
 use Rattle.attrs.specs.declared.attributes.Attrs.{Attrs}
-use Rattle.filt_values.specs.declared.value.Failure.{Failure}
-use Rattle.filt_values.specs.declared.value.Failure.TheVariants as failures
-use Rattle.filt_values.specs.declared.value.ListFailure.{ListFailure}
-use Rattle.filt_values.specs.declared.value.ListFailure.TheVariants as list_failures
-use Rattle.filt_values.specs.Operators as operators
-use Rattle.filt_values.specs.Values.{Val, VInt, VPair}
+use Rattle.filt_meaning.specs.declared.value.Failure.{Failure}
+use Rattle.filt_meaning.specs.declared.value.Failure.TheVariants as failures
+use Rattle.filt_meaning.specs.declared.value.ListFailure.{ListFailure}
+use Rattle.filt_meaning.specs.declared.value.ListFailure.TheVariants as list_failures
+use Rattle.filt_meaning.specs.Operators as operators
+use Rattle.filt_meaning.specs.Values.{Val, VInt, VPair}
 use Rattle.filt_meaning.specs.Attributes.{attribute_of}
 use Rattle.filt_meaning.specs.Flow.{Flow, Done, Stopped, Faulted, Frame, Stuck}
 use Rattle.filt_meaning.specs.Meaning.{compare_of, property_of}
 use Rattle.filt_meaning.specs.Names.{Around}
-use Rattle.filt_tree.specs.declared.tree.TTest.{TTest}
-use Rattle.filt_tree.specs.declared.tree.TTest.TheVariants as tests
+use Rattle.filt_meaning.specs.declared.tree.TTest.{TTest}
+use Rattle.filt_meaning.specs.declared.tree.TTest.TheVariants as tests
 use Rattle.filt_route.specs.declared.elements.Elements.{Elements}
 use Rattle.filt_route.specs.declared.elements.Elements.TheVariants as elements
 use Rattle.filt_route.specs.declared.halt.Halt.{Halt}

@@ -2,12 +2,12 @@
 
 ghost use Rattle.std.specs.Prelude.{◌≡◌, ◌<◌, ◌≤◌, get_or, length, map, Ok};
 ghost use Rattle.filt_meaning.specs.Meaning.{elements};
-ghost use Rattle.filt_values.specs.Seen.{val_of};
-ghost use Rattle.filt_values.specs.Values.{VInt, VPair};
+ghost use Rattle.filt_meaning.specs.Seen.{val_of};
+ghost use Rattle.filt_meaning.specs.Values.{VInt, VPair};
 ghost use Rattle.filt_route.specs.Seen.{elements_of, IsApplicable};
 
 use attrs::{Clist, Path};
-use filt_values::Value;
+use filt_meaning::Value;
 
 /// What a loop goes over. Contracts see its elements (`elements_of`).
 #[derive(Drop)]

@@ -3,13 +3,13 @@
 ghost use Rattle.std.specs.Prelude.{◌≡◌};
 ghost use Rattle.filt_route.specs.declared.halt.Halt.TheVariants.{Memory};
 ghost use Rattle.filt_route.specs.Seen.{IsHalt};
-ghost use Rattle.filt_values.specs.declared.value.Failure.TheVariants as failures;
-ghost use Rattle.filt_values.specs.declared.value.ListFailure.TheVariants as list_failures;
-ghost use Rattle.filt_values.specs.declared.value.ListFailure.TheVariants.{Failed};
+ghost use Rattle.filt_meaning.specs.declared.value.Failure.TheVariants as failures;
+ghost use Rattle.filt_meaning.specs.declared.value.ListFailure.TheVariants as list_failures;
+ghost use Rattle.filt_meaning.specs.declared.value.ListFailure.TheVariants.{Failed};
 
 use attrs::FilterFault;
 use bits_ip::OutOfMemory;
-use filt_values::{Failure, ListFailure};
+use filt_meaning::{Failure, ListFailure};
 
 /// Why the run of a filter stops where it is.
 #[derive(Clone, Copy, Debug, PartialEq, Eq)]

@@ -3,17 +3,17 @@
 ghost use Rattle.std.specs.Prelude.{◌≤◌, length, IfOk};
 ghost use Rattle.filt_code.specs.Codes.{arms_before, labels_of};
 ghost use Rattle.filt_meaning.specs.Items.{among};
-ghost use Rattle.filt_tree.specs.Trees as trees;
-ghost use Rattle.filt_values.specs.Operators.{and_then, bool_in, matches_of};
-ghost use Rattle.filt_values.specs.Seen.{val_of};
-ghost use Rattle.filt_values.specs.Values.{VIntSet, VPairSet, VPrefixSet};
+ghost use Rattle.filt_meaning.specs.Trees as trees;
+ghost use Rattle.filt_meaning.specs.Operators.{and_then, bool_in, matches_of};
+ghost use Rattle.filt_meaning.specs.Seen.{val_of};
+ghost use Rattle.filt_meaning.specs.Values.{VIntSet, VPairSet, VPrefixSet};
 ghost use Rattle.filt_route.specs.Seen.{Gives, IsApplicable};
 
 use crate::halt::{Halt, halted};
 use crate::parts::bool;
+use filt_meaning::{Labels, TArm, TStmt, Value};
 use filt_sets::{IntSet, PairSet, PrefixSet};
-use filt_tree::{Labels, TArm, TStmt};
-use filt_values::{Value, matches};
+use filt_values::matches;
 
 /// How many arms stand before the first one whose labels have the value, or how many there are.
 pub fn arms_before<'a>(arms: &'a [TArm<TStmt>], value: &Value<'a>) -> Result<usize, Halt>

@@ -2,16 +2,17 @@
 
 ghost use Rattle.filt_code.specs.Codes.{one_of, two_of};
 ghost use Rattle.filt_meaning.specs.Meaning.{compare_of, factor_of, method_of, term_of};
-ghost use Rattle.filt_values.specs.Seen.{val_of, Answers, Builds};
+ghost use Rattle.filt_meaning.specs.Seen.{val_of, Answers, Builds};
 ghost use Rattle.filt_route.specs.Seen.{Gives, IsApplicable};
 
 use crate::halt::{Halt, halted, list_halted};
 use conf_ast::filters::{AddOp, CompareOp, MethodKind, MulOp, Property};
 use filt_code::{OfOne, OfTwo};
+use filt_meaning::{Failure, ListFailure, Value};
 use filt_values::{
-    Failure, ListFailure, Value, add, delete, empty, equal, filter, first, greater,
-    greater_or_equal, ip, last, len, less, less_or_equal, matches, matches_not, minus, not,
-    not_equal, over, pair, plus, prepend, times, truth,
+    add, delete, empty, equal, filter, first, greater, greater_or_equal, ip, last, len, less,
+    less_or_equal, matches, matches_not, minus, not, not_equal, over, pair, plus, prepend, times,
+    truth,
 };
 use std::alloc::Global;
 

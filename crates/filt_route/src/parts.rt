@@ -1,13 +1,13 @@
 //! What a value is, of one sort.
 
 ghost use Rattle.std.specs.Prelude.{◌≡◌, Ok};
-ghost use Rattle.filt_values.specs.Operators.{bool_in, dest_in, int_in, ip_in, origin_in};
-ghost use Rattle.filt_values.specs.Seen.{val_of};
+ghost use Rattle.filt_meaning.specs.Operators.{bool_in, dest_in, int_in, ip_in, origin_in};
+ghost use Rattle.filt_meaning.specs.Seen.{val_of};
 ghost use Rattle.filt_route.specs.Seen.{IsApplicable};
 
 use attrs::{Dest, Origin};
 use bits_ip::Addr;
-use filt_values::Value;
+use filt_meaning::Value;
 
 pub(crate) fn int(value: &Value<'_>) -> u32
     requires { IsApplicable (int_in (val_of value.now)) }

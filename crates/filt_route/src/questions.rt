@@ -9,12 +9,12 @@ ghost use Rattle.filt_meaning.specs.Attributes.{attribute_of};
 ghost use Rattle.filt_meaning.specs.Flow.{Done, Frame, and_then, plainly};
 ghost use Rattle.filt_meaning.specs.Meaning.{compare_of, property_of};
 ghost use Rattle.filt_meaning.specs.Names.{Around};
-ghost use Rattle.filt_tree.specs.Trees as trees;
-ghost use Rattle.filt_values.specs.declared.value.Failure.TheVariants.{Fault};
-ghost use Rattle.filt_values.specs.Operators as operators;
-ghost use Rattle.filt_values.specs.Operators.{bool_in, matches_of};
-ghost use Rattle.filt_values.specs.Seen.{val_of};
-ghost use Rattle.filt_values.specs.Values.{VBool, VInt, VPair, VPrefix, VPrefixSet};
+ghost use Rattle.filt_meaning.specs.Trees as trees;
+ghost use Rattle.filt_meaning.specs.declared.value.Failure.TheVariants.{Fault};
+ghost use Rattle.filt_meaning.specs.Operators as operators;
+ghost use Rattle.filt_meaning.specs.Operators.{bool_in, matches_of};
+ghost use Rattle.filt_meaning.specs.Seen.{val_of};
+ghost use Rattle.filt_meaning.specs.Values.{VBool, VInt, VPair, VPrefix, VPrefixSet};
 ghost use Rattle.filt_route.specs.Seen.{around_in, test_in, Gives, IsApplicable, IsUnstuck, Yields};
 
 use crate::halt::Halt;
@@ -27,9 +27,8 @@ use attrs::{Clist, FilterFault};
 use bits_ip::Prefix;
 use conf_ast::filters::{Attribute, CompareOp, Property};
 use filt_code::{Number, OfOne, Question};
+use filt_meaning::{TTest, Value};
 use filt_sets::PrefixSet;
-use filt_tree::TTest;
-use filt_values::Value;
 
 /// The answer.
 pub fn asked<'a>(

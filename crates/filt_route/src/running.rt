@@ -1,10 +1,10 @@
 //! The attributes of a route while a filter runs.
 
 ghost use Rattle.std.specs.Prelude.{◌≡◌, Ok, IfOk, IfSome};
-ghost use Rattle.conf_lex.specs.declared.attribute.Attribute.TheVariants as attributes;
-ghost use Rattle.filt_values.specs.Operators.{clist_in, path_in};
-ghost use Rattle.filt_values.specs.Seen.{val_of};
-ghost use Rattle.filt_values.specs.Values.{VClist, VInt, VIp, VOrigin, VPath};
+ghost use Rattle.conf_ast.specs.declared.attribute.Attribute.TheVariants as attributes;
+ghost use Rattle.filt_meaning.specs.Operators.{clist_in, path_in};
+ghost use Rattle.filt_meaning.specs.Seen.{val_of};
+ghost use Rattle.filt_meaning.specs.Values.{VClist, VInt, VIp, VOrigin, VPath};
 ghost use Rattle.filt_meaning.specs.Names.{Around};
 ghost use Rattle.filt_meaning.specs.Attributes.{attribute_of, defined_as, is_defined, with_attribute, without_attribute};
 ghost use Rattle.filt_route.specs.Lists.{numbers_of, pairs_of};
@@ -16,7 +16,7 @@ use crate::surroundings::Surroundings;
 use attrs::{Attrs, Clist, Dest, FilterFault, Kind, Origin, Path, Shared};
 use bits_ip::{Addr, OutOfMemory};
 use conf_ast::filters::Attribute;
-use filt_values::Value;
+use filt_meaning::Value;
 use std::alloc::Global;
 use std::marker::Model;
 

@@ -1,13 +1,13 @@
 //! What is given around a route, and no instruction changes.
 
 ghost use Rattle.std.specs.Prelude.{◌≡◌, get_or, []};
-ghost use Rattle.filt_values.specs.Seen.{val_of};
-ghost use Rattle.filt_values.specs.Values.{default_of, VString};
+ghost use Rattle.filt_meaning.specs.Seen.{val_of};
+ghost use Rattle.filt_meaning.specs.Values.{default_of, VString};
 ghost use Rattle.filt_route.specs.Seen.{around_in};
 
 use attrs::Names;
 use bits_ip::Prefix;
-use filt_values::{Defaults, Sort, Value};
+use filt_meaning::{Defaults, Sort, Value};
 use std::alloc::Global;
 
 /// Where code is run.

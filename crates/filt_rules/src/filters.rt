@@ -11,13 +11,12 @@ ghost use Rattle.filt_types.specs.Statements as statements;
 ghost use Rattle.filt_types.specs.Statements.{in_filter, in_function, parameters};
 ghost use Rattle.filt_types.specs.Weight.{block_weight, capped, too_heavy};
 
-use crate::statements::{Around, check_all, declare, seen_at, type_sort, want_bool};
+use crate::statements::{Around, check_all, declare, seen_at, want_bool};
 use crate::weight::{weigh_block, weigh_condition};
 use bits_ip::OutOfMemory;
 use conf_ast::filters::{Block, Expr, Function, Parameter, VariableType};
-use filt_tree::Scope;
+use filt_meaning::{Scope, Sort, type_sort};
 use filt_types::{Cause, Refusal, Seen, Variable, declaring, note_if};
-use filt_values::Sort;
 use std::alloc::Global;
 
 /// The most that a filter or a function may weigh.

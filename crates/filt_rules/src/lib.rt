@@ -11,5 +11,4 @@ mod targets;
 mod weight;
 
 pub use filters::{first_in_block, first_in_condition, first_in_function, sort_given};
-pub use statements::type_sort;
 pub use weight::{weigh, weigh_block, weigh_condition};

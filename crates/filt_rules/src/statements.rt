@@ -2,8 +2,8 @@
 
 ghost use Rattle.std.specs.Prelude.{◌≡◌, Option, OnOk, [], ◌∷◌, ◌++◌, remove, option_map};
 ghost use Rattle.conf_ast.specs.Filters.{expression_of, statement_of, statements_of};
-ghost use Rattle.filt_values.specs.declared.value.Sort.{Sort};
-ghost use Rattle.filt_values.specs.Sorts.{one_bool, one_list};
+ghost use Rattle.filt_meaning.specs.declared.value.Sort.{Sort};
+ghost use Rattle.filt_meaning.specs.Sorts.{one_bool, one_list};
 ghost use Rattle.filt_meaning.specs.Names.{sort_of_type};
 ghost use Rattle.filt_types.specs.Expressions as expressions;
 ghost use Rattle.filt_types.specs.Expressions.{is_other, wanted};
@@ -19,14 +19,13 @@ ghost use Rattle.filt_types.specs.Walk.{all_judged, arms_of, common_seen, judged
 
 use crate::targets::{check_assign, check_change, check_unset, check_value, is_list};
 use bits_ip::OutOfMemory;
+use conf_ast::Name;
 use conf_ast::filters::{Arm, Expr, Item, Stmt, VariableType};
-use conf_lex::Name;
-use filt_tree::Scope;
+use filt_meaning::{Scope, Sort, type_sort};
 use filt_types::{
     Cause, Common, Refusal, Seen, Variable, all_items, call, declaring, differ, has_other_sort, is,
     judge, judge_each, note, note_if,
 };
-use filt_values::Sort;
 
 /// Where statements stand: the source, what the configuration declares before them, and the sort of
 /// what the function gives that they are of, if it gives something. A filter gives nothing.
@@ -71,26 +70,6 @@ fn is_no_bool(sort: Option<Sort>) -> bool
 }
 
 // ---- declarations
-
-/// The sort of the values of a type.
-pub fn type_sort(variable_type: VariableType) -> Sort
-    ensures { result ≡ sort_of_type variable_type }
-{
-    match variable_type {
-        VariableType::Int => Sort::Int,
-        VariableType::Bool => Sort::Bool,
-        VariableType::Ip => Sort::Ip,
-        VariableType::Prefix => Sort::Prefix,
-        VariableType::Pair => Sort::Pair,
-        VariableType::String => Sort::String,
-        VariableType::Path => Sort::Path,
-        VariableType::Mask => Sort::Mask,
-        VariableType::Clist => Sort::Clist,
-        VariableType::IntSet => Sort::IntSet,
-        VariableType::PairSet => Sort::PairSet,
-        VariableType::PrefixSet => Sort::PrefixSet,
-    }
-}
 
 /// The first value of a variable.
 fn check_initial(

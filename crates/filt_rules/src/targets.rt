@@ -4,8 +4,8 @@ ghost use Rattle.std.specs.Prelude.{◌≡◌, ◌++◌, not, if◌then◌else�
 ghost use Rattle.conf_ast.specs.Filters.{expression_of, changed as change_of};
 ghost use Rattle.conf_ast.specs.declared.filters.Target.{Target};
 ghost use Rattle.conf_ast.specs.declared.filters.Target.TheVariants as targets;
-ghost use Rattle.filt_values.specs.declared.value.Sort.{Sort};
-ghost use Rattle.filt_values.specs.Sorts.{one_list};
+ghost use Rattle.filt_meaning.specs.declared.value.Sort.{Sort};
+ghost use Rattle.filt_meaning.specs.Sorts.{one_list};
 ghost use Rattle.filt_types.specs.declared.refusal.Cause.TheVariants as causes;
 ghost use Rattle.filt_types.specs.Expressions as expressions;
 ghost use Rattle.filt_rules.specs.Passes.{aim_seen};
@@ -15,13 +15,13 @@ ghost use Rattle.filt_types.specs.Seen.{scene_in, variable_seen, variables_in};
 ghost use Rattle.filt_types.specs.Statements as statements;
 ghost use Rattle.filt_types.specs.Walk.{judged_of};
 
+use conf_ast::Name;
 use conf_ast::filters::{Attribute, Change, Constant, Expr, Method, Target};
-use conf_lex::Name;
+use filt_meaning::Sort;
 use filt_types::{
     Cause, Judged, Operator, Refusal, Seen, Variable, attribute_sort, constant_named,
     constant_word, is, judge, note, note_if, variable_named, want_sort, with_right,
 };
-use filt_values::Sort;
 
 /// What stands as a target.
 #[derive(Clone, Copy)]

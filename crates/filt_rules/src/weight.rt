@@ -13,9 +13,9 @@ ghost use Rattle.filt_types.specs.Walk.{accesses_of, arms_of, operands_of};
 ghost use Rattle.filt_types.specs.Weight.{weight, weights, optional, act_weight, acts_weight};
 ghost use Rattle.filt_types.specs.Weight.{arms_weight, block_weight, of_function, capped};
 
+use conf_ast::Name;
 use conf_ast::filters::{Access, AddOp, Arm, Block, Change, Expr, LogicalOp, MulOp, Stmt};
-use conf_lex::Name;
-use filt_tree::Scope;
+use filt_meaning::Scope;
 use filt_types::{Seen, function_named};
 
 /// Where sums of weights stop.

@@ -3,12 +3,12 @@ use Rattle.std.proofs.Common.{◌≡◌, ℕ, ◌≤◌, Bool, true, false, List
 use Rattle.std.proofs.lemmas.Bool.{ltb-false}
 use Rattle.std.proofs.lemmas.List.Elements.{All-nil, All-push}
 use Rattle.attrs.specs.declared.attributes.Attrs.{Attrs}
-use Rattle.conf_lex.specs.Names.{name_bytes}
+use Rattle.conf_ast.specs.Names.{name_bytes}
 use Rattle.conf_ast.specs.Configurations.{Routine, Declaration, RouterId, Log, Define, Table, DefineFunction, DefineFilter, Device, Static, Bgp, Pipe}
 use Rattle.conf_ast.specs.Configurations as conf
 use Rattle.conf_ast.specs.Filters.{Statements}
-use Rattle.filt_values.specs.declared.value.Failure.{Failure}
-use Rattle.filt_values.specs.Values.{Val, VInt}
+use Rattle.filt_meaning.specs.declared.value.Failure.{Failure}
+use Rattle.filt_meaning.specs.Values.{Val, VInt}
 use Rattle.filt_meaning.specs.Configuration.{at_start, behind, behind_one, constant, doing, with_constant, with_function}
 use Rattle.filt_meaning.specs.Items.{number}
 use Rattle.filt_meaning.specs.Names.{Around, Context, Doing, constant_of}

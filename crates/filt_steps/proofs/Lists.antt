@@ -10,12 +10,12 @@ use Rattle.bits_ip.specs.Prefix.{Net}
 use Rattle.filt_sets.specs.declared.ints.IntItem.{IntItem}
 use Rattle.filt_sets.specs.declared.pairs.PairItem.{PairItem}
 use Rattle.filt_sets.specs.declared.prefixes.PrefixItem.{PrefixItem}
-use Rattle.conf_lex.specs.declared.attribute.Attribute.{Attribute}
-use Rattle.conf_lex.specs.declared.attribute.Attribute.TheVariants as attributes
+use Rattle.conf_ast.specs.declared.attribute.Attribute.{Attribute}
+use Rattle.conf_ast.specs.declared.attribute.Attribute.TheVariants as attributes
 use Rattle.conf_ast.specs.declared.filters.CompareOp.{CompareOp}
 use Rattle.conf_ast.specs.declared.filters.CompareOp.TheVariants as compare_ops
-use Rattle.conf_lex.specs.declared.attribute.Constant.{Constant}
-use Rattle.conf_lex.specs.declared.attribute.Constant.TheVariants as constants
+use Rattle.conf_ast.specs.declared.attribute.Constant.{Constant}
+use Rattle.conf_ast.specs.declared.attribute.Constant.TheVariants as constants
 use Rattle.conf_ast.specs.declared.filters.MulOp.{MulOp}
 use Rattle.conf_ast.specs.declared.filters.MulOp.TheVariants as mul_ops
 use Rattle.conf_ast.specs.declared.filters.Item.{Item}
@@ -27,11 +27,11 @@ use Rattle.conf_ast.specs.declared.filters.Property.{Property}
 use Rattle.conf_ast.specs.declared.filters.Property.TheVariants as properties
 use Rattle.conf_ast.specs.declared.filters.AddOp.{AddOp}
 use Rattle.conf_ast.specs.declared.filters.AddOp.TheVariants as add_ops
-use Rattle.filt_values.specs.declared.value.Failure.{Failure}
-use Rattle.filt_values.specs.declared.value.Sort.{Sort}
-use Rattle.filt_values.specs.declared.value.Sort.TheVariants as sorts
-use Rattle.filt_values.specs.Operators.{and_then, int_in, bool_in, ip_in, prefix_in, pair_in, string_in, path_in, clist_in, int_set_in, pair_set_in, source_in, dest_in, origin_in, plus_of, minus_of, times_of, quotient_of, over_of, truth_of, not_of, joined, pair_of, equal_of, not_equal_of, order_of, less_of, less_or_equal_of, greater_of, greater_or_equal_of, has_int, has_one_pair, has_net, takes_path, matches_of, matches_not_of, len_of, longer, prepended_of, with_pair, with_pairs, added_to, added_of, numbers_without, numbers_within, pairs_without, pairs_within, deleted_of, filtered_of, emptied_of}
-use Rattle.filt_values.specs.Values.{Val, VInt, VBool, VIp, VPrefix, VPair, VString, VPath, VMask, VClist, VIntSet, VPairSet, VPrefixSet, VSource, VDest, VOrigin, default_of}
+use Rattle.filt_meaning.specs.declared.value.Failure.{Failure}
+use Rattle.filt_meaning.specs.declared.value.Sort.{Sort}
+use Rattle.filt_meaning.specs.declared.value.Sort.TheVariants as sorts
+use Rattle.filt_meaning.specs.Operators.{and_then, int_in, bool_in, ip_in, prefix_in, pair_in, string_in, path_in, clist_in, int_set_in, pair_set_in, source_in, dest_in, origin_in, plus_of, minus_of, times_of, quotient_of, over_of, truth_of, not_of, joined, pair_of, equal_of, not_equal_of, order_of, less_of, less_or_equal_of, greater_of, greater_or_equal_of, has_int, has_one_pair, has_net, takes_path, matches_of, matches_not_of, len_of, longer, prepended_of, with_pair, with_pairs, added_to, added_of, numbers_without, numbers_within, pairs_without, pairs_within, deleted_of, filtered_of, emptied_of}
+use Rattle.filt_meaning.specs.Values.{Val, VInt, VBool, VIp, VPrefix, VPair, VString, VPath, VMask, VClist, VIntSet, VPairSet, VPrefixSet, VSource, VDest, VOrigin, default_of}
 use Rattle.filt_meaning.specs.Attributes.{defined_as, attribute_of, with_attribute, without_attribute, value_of_constant}
 use Rattle.filt_meaning.specs.Flow.{Frame}
 use Rattle.filt_meaning.specs.Items.{int_item, pair_item, prefix_item, with_int_item, with_pair_item, with_prefix_item, set_of_one, before_set, set_of, mask_items, mask_of}

@@ -4,7 +4,7 @@ use Rattle.std.proofs.Common.{ℕ, zero, suc, Bool, true, false, List, [], ◌�
 use Rattle.std.proofs.lemmas.List.Elements.{All-nil, All-cons, All-head, All-tail, All-append, All-push, All-set, All-take, All-map}
 use Rattle.std.specs.Bool.{⊤}
 use Rattle.attrs.specs.declared.attributes.Attrs.{Attrs}
-use Rattle.conf_lex.specs.Names.{name_bytes}
+use Rattle.conf_ast.specs.Names.{name_bytes}
 use Rattle.conf_ast.specs.declared.filters.LogicalOp.{LogicalOp}
 use Rattle.conf_ast.specs.declared.filters.LogicalOp.TheVariants as logical_ops
 use Rattle.conf_ast.specs.declared.filters.Atom.{Atom}
@@ -14,10 +14,10 @@ use Rattle.conf_ast.specs.declared.filters.Target.TheVariants as targets
 use Rattle.conf_ast.specs.declared.filters.VariableType.{VariableType}
 use Rattle.conf_ast.specs.Configurations.{Routine}
 use Rattle.conf_ast.specs.Filters.{Expression, Plain, Named, Called, Grouped, Paired, SetOf, MaskOf, IsDefined, MethodOf, PropertyOf, Changed, Negated, Multiplied, Added, Compared, Joined, Expressions, NoExpressions, AndExpressions, Statement, Braced, Nothing, Declare, Assign, ChangeBy, Clear, Unset, If, IfElse, Case, CaseElse, For, Accept, Reject, Return, Print, Printn, Call, Statements, NoStatements, AndStatements, Arms, NoArms, AndArms}
-use Rattle.filt_values.specs.declared.value.Failure.{Failure}
-use Rattle.filt_values.specs.declared.value.Failure.TheVariants as failures
-use Rattle.filt_values.specs.Operators.{bool_in, pair_of, not_of, truth_of, emptied_of}
-use Rattle.filt_values.specs.Values.{Val, default_of}
+use Rattle.filt_meaning.specs.declared.value.Failure.{Failure}
+use Rattle.filt_meaning.specs.declared.value.Failure.TheVariants as failures
+use Rattle.filt_meaning.specs.Operators.{bool_in, pair_of, not_of, truth_of, emptied_of}
+use Rattle.filt_meaning.specs.Values.{Val, default_of}
 use Rattle.filt_meaning.specs.Attributes.{attribute_of, with_attribute, without_attribute}
 use Rattle.filt_meaning.specs.Configuration.{at_end, body, doing, given_by, parameter_names, run_of, with_parameters}
 use Rattle.filt_meaning.specs.Flow.{AtEnd, Returned, Accepted, Rejected, Faulted, Stuck, Flow, Done, Stopped, Frame, Run, and_then, plainly}

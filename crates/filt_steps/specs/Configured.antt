@@ -3,7 +3,7 @@
 -- From: own.
 -- Example: a function that calls one before it weighs what that one weighs too.
 use Rattle.std.specs.Prelude.{ℕ, List, [], ◌∷◌, ◌++◌, map}
-use Rattle.conf_lex.specs.Names.{name_bytes}
+use Rattle.conf_ast.specs.Names.{name_bytes}
 use Rattle.conf_ast.specs.declared.filters.Parameter.{Parameter}
 use Rattle.conf_ast.specs.Configurations.{Routine, Declaration, DefineFunction}
 use Rattle.filt_meaning.specs.Configuration.{behind_one}

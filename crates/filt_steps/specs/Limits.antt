@@ -5,7 +5,7 @@
 -- Example: a path of 121 numbers isn't within them.
 use Rattle.std.specs.Prelude.{◌≤◌, length, All, IfSome, ⊤}
 use Rattle.attrs.specs.declared.attributes.Attrs.{Attrs}
-use Rattle.filt_values.specs.Values.{Val, VPath, VClist}
+use Rattle.filt_meaning.specs.Values.{Val, VPath, VClist}
 use Rattle.filt_meaning.specs.Flow.{Why, Returned, Flow, Done, Stopped, Frame}
 use Rattle.filt_meaning.specs.Names.{Context, Doing}
 

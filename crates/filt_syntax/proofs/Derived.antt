@@ -5,7 +5,7 @@ use Rattle.std.specs.Borrow.{Bor}
 use Rattle.conf_lex.specs.declared.symbol.Symbol.TheVariants as symbols
 use Rattle.conf_lex.specs.declared.word.Word.{Word}
 use Rattle.conf_lex.specs.declared.word.Word.TheVariants as words
-use Rattle.conf_lex.specs.declared.named.Name.{Name}
+use Rattle.conf_ast.specs.declared.named.Name.{Name}
 use Rattle.conf_lex.specs.declared.refusal.Refusal.{Refusal}
 use Rattle.conf_lex.specs.Grammar.{ParseTree, Leaf, NoWords, Pair, Left, Right, Single, Snoc, Deeper}
 use Rattle.conf_lex.specs.Reading.{Read, Parsed, and_then}
@@ -13,7 +13,7 @@ use Rattle.conf_lex.specs.Leaves.{symbol_leaf}
 use Rattle.conf_lex.specs.Agrees.{Agrees}
 use Rattle.conf_lex.proofs.PartShapes.{fails_then, fails_along}
 use Rattle.conf_ast.specs.declared.filters.Atom.{Atom}
-use Rattle.conf_lex.specs.declared.attribute.Attribute.{Attribute}
+use Rattle.conf_ast.specs.declared.attribute.Attribute.{Attribute}
 use Rattle.conf_ast.specs.declared.filters.Item.{Item}
 use Rattle.conf_ast.specs.declared.filters.MaskItem.{MaskItem}
 use Rattle.conf_ast.specs.declared.filters.Method.{Method}

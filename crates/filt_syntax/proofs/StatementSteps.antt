@@ -3,7 +3,7 @@ use Rattle.std.proofs.Common.{◌≡◌, ℕ, zero, suc, ◌<◌, Bool, true, fa
 use Rattle.conf_lex.specs.declared.symbol.Symbol.TheVariants as sym
 use Rattle.conf_lex.specs.declared.word.Word.{Word}
 use Rattle.conf_lex.specs.declared.word.Word.TheVariants as words
-use Rattle.conf_lex.specs.declared.named.Name.{Name}
+use Rattle.conf_ast.specs.declared.named.Name.{Name}
 use Rattle.conf_lex.specs.Kind.{Kind, kind_of, name, symbol, is_attribute}
 use Rattle.conf_lex.specs.Grammar.{Terminal, Seq, Alt, ParseTree, Leaf, NoWords, Pair, Left, Right, Single, begins, first_set, Bad}
 use Rattle.conf_lex.specs.Reading.{Read, Parsed, Failed, Reader, and_then, word, both, read}
@@ -13,7 +13,7 @@ use Rattle.conf_lex.proofs.Chains.{turn}
 use Rattle.conf_lex.proofs.PartShapes.{then_then, word_bad, bool_cases, Turns, begun, refuses}
 use Rattle.filt_syntax.specs.Syntax.{has_sets, has_no_sets, expr, semicolon, declaration, assigned, changed, print_stmt, stmt, rule}
 use Rattle.filt_syntax.specs.Levels.{Form, arguments_level, attribute_level}
-use Rattle.conf_lex.specs.declared.attribute.Attribute.{Attribute}
+use Rattle.conf_ast.specs.declared.attribute.Attribute.{Attribute}
 use Rattle.conf_ast.specs.declared.filters.Expr.{Expr}
 use Rattle.filt_syntax.specs.declared.variable_type.Member.{Member}
 use Rattle.filt_syntax.specs.declared.variable_type.Member.TheVariants as members

@@ -3,9 +3,9 @@ use Rattle.std.proofs.Common.{◌≡◌, ℕ, List, [], ◌∷◌, ◌++◌, map
 use Rattle.std.specs.Global.{Global}
 use Rattle.conf_lex.specs.declared.symbol.Symbol.TheVariants as sym
 use Rattle.conf_lex.specs.declared.word.Word.TheVariants as words
-use Rattle.conf_lex.specs.declared.named.Name.{Name}
+use Rattle.conf_ast.specs.declared.named.Name.{Name}
 use Rattle.conf_lex.specs.Grammar.{ParseTree, NoWords, Pair, Right, Single, Snoc, Deeper}
-use Rattle.conf_lex.specs.declared.attribute.Attribute.{Attribute}
+use Rattle.conf_ast.specs.declared.attribute.Attribute.{Attribute}
 use Rattle.conf_ast.specs.declared.filters.VariableType.{VariableType}
 use Rattle.conf_ast.specs.declared.filters.Target.{Target}
 use Rattle.conf_ast.specs.declared.filters.Change.{Change}

@@ -4,7 +4,7 @@ use Rattle.conf_lex.specs.declared.symbol.Symbol.{Symbol}
 use Rattle.conf_lex.specs.declared.symbol.Symbol.TheVariants as symbols
 use Rattle.conf_lex.specs.declared.word.Word.{Word}
 use Rattle.conf_lex.specs.declared.word.Word.TheVariants as words
-use Rattle.conf_lex.specs.declared.named.Name.{Name}
+use Rattle.conf_ast.specs.declared.named.Name.{Name}
 use Rattle.conf_lex.specs.declared.refusal.Refusal.{Refusal}
 use Rattle.conf_lex.specs.Kind.{kind_of, symbol, name, is_attribute}
 use Rattle.conf_lex.specs.Grammar.{ParseTree, Leaf, NoWords, Pair, Left, Right, Single, Deeper, begins, first_set, Bad, TooDeep}
@@ -16,7 +16,7 @@ use Rattle.conf_lex.proofs.PartShapes as shapes
 use Rattle.conf_lex.proofs.PartShapes.{fails_then, fails_along, then_then, Turns, begins_none, closed_is, closed_got, closed_inside_fails, closed_end_fails, word_bad, less_one, bool_cases}
 use Rattle.conf_ast.specs.declared.filters.Atom.{Atom}
 use Rattle.conf_ast.specs.declared.filters.Atom.TheVariants as atoms
-use Rattle.conf_lex.specs.declared.attribute.Attribute.{Attribute}
+use Rattle.conf_ast.specs.declared.attribute.Attribute.{Attribute}
 use Rattle.conf_ast.specs.declared.filters.Method.{Method}
 use Rattle.conf_ast.specs.declared.filters.MethodKind.{MethodKind}
 use Rattle.conf_ast.specs.declared.filters.MethodKind.TheVariants as methods

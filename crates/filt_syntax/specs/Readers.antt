@@ -5,7 +5,7 @@
 -- From: own.
 use Rattle.std.specs.Prelude.{ℕ}
 use Rattle.conf_lex.specs.declared.symbol.Symbol.TheVariants as sym
-use Rattle.conf_lex.specs.declared.named.Name.{Name}
+use Rattle.conf_ast.specs.declared.named.Name.{Name}
 use Rattle.conf_lex.specs.Kind.{symbol}
 use Rattle.conf_lex.specs.Grammar.{Terminal, Alt, Nested, Left, Right, Pair}
 use Rattle.conf_lex.specs.Leaves.{name_leaf}

@@ -10,7 +10,7 @@ use Rattle.std.specs.Borrow.{Bor}
 use Rattle.conf_lex.specs.declared.symbol.Symbol.TheVariants as sym
 use Rattle.conf_lex.specs.declared.word.Word.{Word}
 use Rattle.conf_lex.specs.declared.word.Word.TheVariants as words
-use Rattle.conf_lex.specs.declared.named.Name.{Name}
+use Rattle.conf_ast.specs.declared.named.Name.{Name}
 use Rattle.conf_lex.specs.Kind.{Kind, kind_of, number, prefix, symbol}
 use Rattle.conf_lex.specs.Grammar.{Terminal, Seq, Alt, Nested, ParseTree, Pair, Left, Right, Deeper}
 use Rattle.conf_lex.specs.Grammar.{first_set}

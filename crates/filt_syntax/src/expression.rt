@@ -19,9 +19,10 @@ use crate::operators::{
     next_add_op, next_atom, next_compare_op, next_logical_op, next_method, next_mul_op,
     next_property,
 };
+use conf_ast::Name;
 use conf_ast::filters::{Access, Expr, Method};
 use conf_lex::parsing::{after, after_placed, expect, level_below, next_name};
-use conf_lex::{Name, Refusal, Symbol, Word};
+use conf_lex::{Refusal, Symbol, Word};
 use std::alloc::Global;
 
 /// The longest expression.

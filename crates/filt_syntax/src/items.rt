@@ -18,9 +18,10 @@ ghost use Rattle.filt_syntax.specs.ItemReaders.{lengths_at, item_at, items_at, m
 ghost use Rattle.filt_syntax.specs.ItemReaders.{mask_item_at, mask_items_at, label_at};
 
 use bits_ip::Prefix;
+use conf_ast::Name;
 use conf_ast::filters::{Item, Lengths, MaskAtom, MaskItem, Num, NumRange, PairPart};
 use conf_lex::parsing::{after, after_placed, expect, level_below, next_prefix};
-use conf_lex::{Name, Refusal, Symbol, Word};
+use conf_lex::{Refusal, Symbol, Word};
 use std::alloc::Global;
 
 /// A written number or the name of a constant that is one, where either comes next.

@@ -18,8 +18,9 @@ ghost use Rattle.filt_syntax.specs.RefusedToken.{IsPastFirst, IsBadFrom};
 
 use crate::parse::SyntaxFault;
 use bits_ip::{Addr, OutOfMemory, Prefix};
+use conf_ast::PackedAddr;
 use conf_lex::parsing::is_symbol;
-use conf_lex::{PackedAddr, Symbol, Word};
+use conf_lex::{Symbol, Word};
 use std::alloc::Global;
 
 /// Sentences of one form, as far as a word can go on with the beginning of one.

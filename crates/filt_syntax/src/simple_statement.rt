@@ -20,9 +20,10 @@ use crate::bracket::of_attribute;
 use crate::expression::{arguments, expression, method};
 use crate::operators::next_attribute;
 use crate::variable_type::variable_type;
+use conf_ast::Name;
 use conf_ast::filters::{Attribute, Change, Expr, Stmt, Target};
 use conf_lex::parsing::{after, after_placed, expect, expect_name};
-use conf_lex::{Name, Refusal, Symbol, Word};
+use conf_lex::{Refusal, Symbol, Word};
 use std::alloc::Global;
 
 /// A statement in a box, and the words after it.

@@ -2,7 +2,7 @@
 use Rattle.std.proofs.Common.{◌≡◌, Bool, ◌&&◌, List, ◌∷◌, Option, Some, None, is_some, refl, ap, ◌∙◌, sym}
 use Rattle.conf_ast.specs.declared.filters.Item.{Item}
 use Rattle.conf_ast.specs.declared.filters.MaskItem.{MaskItem}
-use Rattle.filt_values.specs.declared.value.Sort.{Sort}
+use Rattle.filt_meaning.specs.declared.value.Sort.{Sort}
 use Rattle.filt_types.specs.declared.refusal.Refusal.{Refusal}
 use Rattle.filt_types.specs.Items.{Common, common, with_sort, all_known, is_known, sort_of_item, sorts_of_items, item, all_items, atom, all_atoms, names_in_atom, names_in_mask}
 use Rattle.filt_types.specs.Refusals.{first_in}

@@ -2,11 +2,11 @@
 -- statement that each variant is.
 use Rattle.std.proofs.Common.{◌≡◌, ℕ, List, [], ◌∷◌, map, Option, Some, None, option_map, refl, ap, ◌∙◌, rules, Box, Vec}
 use Rattle.std.specs.Global.{Global}
-use Rattle.conf_lex.specs.declared.named.Name.{Name}
+use Rattle.conf_ast.specs.declared.named.Name.{Name}
 use Rattle.conf_ast.specs.declared.filters.Access.{Access}
 use Rattle.conf_ast.specs.declared.filters.Access.TheVariants as accesses
 use Rattle.conf_ast.specs.declared.filters.Arm.{Arm}
-use Rattle.conf_lex.specs.declared.attribute.Attribute.{Attribute}
+use Rattle.conf_ast.specs.declared.attribute.Attribute.{Attribute}
 use Rattle.conf_ast.specs.declared.filters.Change.{Change}
 use Rattle.conf_ast.specs.declared.filters.CompareOp.{CompareOp}
 use Rattle.conf_ast.specs.declared.filters.Expr.{Expr, fold-Expr, the_lemmas as expr_lemmas}

@@ -6,8 +6,8 @@
 -- Example: in `1 + x`, with `x` unknown, `x` alone is refused; in `1 + true` the `true`.
 use Rattle.std.specs.Prelude.{ℕ, Bool, true, false, not, ◌&&◌, ◌||◌, ◌==◌, if◌then◌else◌, List, []}
 use Rattle.std.specs.Prelude.{◌∷◌, ◌++◌, length, Option, Some, None}
-use Rattle.conf_lex.specs.declared.named.Name.{Name}
-use Rattle.conf_lex.specs.declared.attribute.Constant.{Constant}
+use Rattle.conf_ast.specs.declared.named.Name.{Name}
+use Rattle.conf_ast.specs.declared.attribute.Constant.{Constant}
 use Rattle.conf_ast.specs.declared.filters.Item.{Item}
 use Rattle.conf_ast.specs.declared.filters.MaskItem.{MaskItem}
 use Rattle.conf_ast.specs.declared.filters.Atom.{Atom}
@@ -16,9 +16,9 @@ use Rattle.conf_ast.specs.Filters.{Expression, Plain, Named, Called, Grouped, Pa
 use Rattle.conf_ast.specs.Filters.{IsDefined, MethodOf, PropertyOf, Changed, Negated, Multiplied}
 use Rattle.conf_ast.specs.Filters.{Added, Compared, Joined, Expressions, NoExpressions}
 use Rattle.conf_ast.specs.Filters.{AndExpressions}
-use Rattle.filt_values.specs.declared.value.Sort.{Sort}
-use Rattle.filt_values.specs.declared.value.Sort.TheVariants as sorts
-use Rattle.filt_values.specs.Values.{Val, sort_of}
+use Rattle.filt_meaning.specs.declared.value.Sort.{Sort}
+use Rattle.filt_meaning.specs.declared.value.Sort.TheVariants as sorts
+use Rattle.filt_meaning.specs.Values.{Val, sort_of}
 use Rattle.filt_types.specs.declared.refusal.Cause.TheVariants as causes
 use Rattle.filt_types.specs.declared.refusal.Refusal.{Refusal}
 use Rattle.filt_types.specs.Items.{NoneYet, One, Many, Common, common, differ, all_known}

@@ -19,9 +19,9 @@ use Rattle.conf_ast.specs.declared.filters.Num.TheVariants as nums
 use Rattle.conf_ast.specs.declared.filters.PairPart.{PairPart}
 use Rattle.conf_ast.specs.declared.filters.PairPart.TheVariants as parts
 use Rattle.conf_ast.specs.declared.filters.NumRange.{NumRange}
-use Rattle.filt_values.specs.declared.value.Sort.{Sort}
-use Rattle.filt_values.specs.declared.value.Sort.TheVariants as sorts
-use Rattle.filt_values.specs.Values.{Val, VInt}
+use Rattle.filt_meaning.specs.declared.value.Sort.{Sort}
+use Rattle.filt_meaning.specs.declared.value.Sort.TheVariants as sorts
+use Rattle.filt_meaning.specs.Values.{Val, VInt}
 use Rattle.filt_types.specs.declared.refusal.Cause.TheVariants as causes
 use Rattle.filt_types.specs.declared.refusal.Refusal.{Refusal}
 use Rattle.filt_types.specs.Refusals.{refused_if}

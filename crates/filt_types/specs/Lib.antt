@@ -5,5 +5,6 @@ pub mod Items
 pub mod Expressions
 pub mod Statements
 pub mod Weight
+pub mod Refused
 pub mod Seen
 pub mod Walk

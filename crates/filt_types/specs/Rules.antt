@@ -1,26 +1,26 @@
 -- Which sorts the places of a form take, by the sorts that its operator takes (`RuleOfOne`,
--- `RuleOfTwo`; the tables are those of filt_values/specs/Sorts); the sorts of attributes and
+-- `RuleOfTwo`; the tables are those of filt_meaning/specs/Sorts); the sorts of attributes and
 -- constants; what can be assigned and unset.
 -- From: BIRD User's Guide, "Filters", "Operators" and "Route attributes"; where the guide is
 -- silent, own.
 -- Example: `delete` has on its left paths and lists of communities, on its right five sorts.
 use Rattle.std.specs.Prelude.{Bool, true, false, ◌&&◌, List, [], ◌∷◌}
 use Rattle.std.specs.List.{list_any}
-use Rattle.conf_lex.specs.declared.attribute.Attribute.{Attribute}
-use Rattle.conf_lex.specs.declared.attribute.Attribute.TheVariants as attributes
+use Rattle.conf_ast.specs.declared.attribute.Attribute.{Attribute}
+use Rattle.conf_ast.specs.declared.attribute.Attribute.TheVariants as attributes
 use Rattle.conf_ast.specs.declared.filters.CompareOp.{CompareOp}
 use Rattle.conf_ast.specs.declared.filters.CompareOp.TheVariants as compare_ops
-use Rattle.conf_lex.specs.declared.attribute.Constant.{Constant}
-use Rattle.conf_lex.specs.declared.attribute.Constant.TheVariants as constants
+use Rattle.conf_ast.specs.declared.attribute.Constant.{Constant}
+use Rattle.conf_ast.specs.declared.attribute.Constant.TheVariants as constants
 use Rattle.conf_ast.specs.declared.filters.MethodKind.{MethodKind}
 use Rattle.conf_ast.specs.declared.filters.MethodKind.TheVariants as methods
 use Rattle.conf_ast.specs.declared.filters.Property.{Property}
 use Rattle.conf_ast.specs.declared.filters.Property.TheVariants as properties
-use Rattle.filt_values.specs.declared.value.Sort.{Sort}
-use Rattle.filt_values.specs.declared.value.Sort.TheVariants as sorts
-use Rattle.filt_values.specs.Sorts.{an_int, a_bool, an_ip, a_pair, the_same, two_ints, one_bool}
-use Rattle.filt_values.specs.Sorts.{compared, ordered, matched, measured, one_path, one_prefix}
-use Rattle.filt_values.specs.Sorts.{prepended, added, deleted, filtered}
+use Rattle.filt_meaning.specs.declared.value.Sort.{Sort}
+use Rattle.filt_meaning.specs.declared.value.Sort.TheVariants as sorts
+use Rattle.filt_meaning.specs.Sorts.{an_int, a_bool, an_ip, a_pair, the_same, two_ints, one_bool}
+use Rattle.filt_meaning.specs.Sorts.{compared, ordered, matched, measured, one_path, one_prefix}
+use Rattle.filt_meaning.specs.Sorts.{prepended, added, deleted, filtered}
 
 abbrev pub all_sorts : List Sort
 all_sorts =

@@ -2,9 +2,9 @@
 -- From: own.
 -- Example: behind `define A = 5;` the scene has the constant `A`, a number.
 use Rattle.std.specs.Prelude.{ℕ, List, map}
-use Rattle.filt_tree.specs.declared.scope.Scope.{Scope}
-use Rattle.filt_tree.specs.declared.scope.TFunction.{TFunction}
-use Rattle.filt_tree.specs.Scopes.{constants_in}
+use Rattle.filt_meaning.specs.declared.scope.Scope.{Scope}
+use Rattle.filt_meaning.specs.declared.scope.TFunction.{TFunction}
+use Rattle.filt_meaning.specs.Scopes.{constants_in}
 use Rattle.filt_types.specs.declared.scene.Seen.{Seen}
 use Rattle.filt_types.specs.declared.scene.Variable.{Variable}
 use Rattle.filt_types.specs.Scenes as scenes

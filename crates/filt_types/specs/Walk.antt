@@ -10,11 +10,11 @@ use Rattle.conf_ast.specs.declared.filters.Expr.{Expr}
 use Rattle.conf_ast.specs.declared.filters.Stmt.{Stmt}
 use Rattle.conf_ast.specs.Filters.{Expression, expression_of, expressions_of, statements_of}
 use Rattle.conf_ast.specs.Filters.{Arms, NoArms, AndArms}
-use Rattle.filt_values.specs.declared.fixed.Fixed.{Fixed}
-use Rattle.filt_values.specs.Seen.{val_of_fixed}
-use Rattle.filt_values.specs.declared.value.Sort.{Sort}
-use Rattle.filt_values.specs.Values.{Val}
-use Rattle.filt_tree.specs.declared.scope.TFunction.{TFunction}
+use Rattle.filt_meaning.specs.declared.fixed.Fixed.{Fixed}
+use Rattle.filt_meaning.specs.Seen.{val_of_fixed}
+use Rattle.filt_meaning.specs.declared.value.Sort.{Sort}
+use Rattle.filt_meaning.specs.Values.{Val}
+use Rattle.filt_meaning.specs.declared.scope.TFunction.{TFunction}
 use Rattle.filt_types.specs.declared.items.Common.{Common}
 use Rattle.filt_types.specs.declared.items.Common.TheVariants as commons
 use Rattle.filt_types.specs.declared.judged.Judged.{Judged}

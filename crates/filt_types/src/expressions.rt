@@ -22,10 +22,9 @@ use crate::refusal::{Cause, Refusal, note, note_if};
 use crate::rules::{Operator, Single, is, of_one, of_two, want_left, want_right};
 use crate::scene::{Seen, constant_named, function_named, variable_named};
 use crate::words::{and_known, mask, named, plain, set, sound};
+use conf_ast::Name;
 use conf_ast::filters::{Access, AddOp, Atom, Constant, Expr, LogicalOp, Method, MulOp};
-use conf_lex::Name;
-use filt_tree::TFunction;
-use filt_values::Sort;
+use filt_meaning::{Sort, TFunction};
 
 /// The judgement of an expression. It keeps the first of what is refused in it.
 #[cycle(expressions)]

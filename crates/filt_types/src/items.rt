@@ -3,7 +3,7 @@
 ghost use Rattle.std.specs.Prelude.{◌≡◌, Some};
 ghost use Rattle.bits_ip.specs.Address.{width_of};
 ghost use Rattle.conf_ast.specs.declared.filters.PairPart.TheVariants as pair_parts;
-ghost use Rattle.filt_values.specs.Seen.{val_of_fixed};
+ghost use Rattle.filt_meaning.specs.Seen.{val_of_fixed};
 ghost use Rattle.filt_types.specs.Items as of;
 ghost use Rattle.filt_types.specs.Items.{is_known, sorts_of_items};
 ghost use Rattle.filt_types.specs.Refusals.{first_in};
@@ -15,7 +15,7 @@ use crate::rules::{is, sort_if};
 use crate::scene::{Seen, constant_named};
 use bits_ip::{Addr, Prefix};
 use conf_ast::filters::{Item, Lengths, MaskAtom, MaskItem, Num, NumRange, PairPart};
-use filt_values::{Fixed, Sort};
+use filt_meaning::{Fixed, Sort};
 
 /// The sorts of some parts so far.
 #[derive(Clone, Copy)]

@@ -1,8 +1,8 @@
 // Which sorts operators take, and what is refused of their operands.
 
 ghost use Rattle.std.specs.Prelude.{◌≡◌};
-ghost use Rattle.filt_values.specs.declared.value.Sort.{Sort};
-ghost use Rattle.filt_values.specs.Sorts as sorts;
+ghost use Rattle.filt_meaning.specs.declared.value.Sort.{Sort};
+ghost use Rattle.filt_meaning.specs.Sorts as sorts;
 ghost use Rattle.filt_types.specs.declared.refusal.Cause.TheVariants as causes;
 ghost use Rattle.filt_types.specs.Expressions as expressions;
 ghost use Rattle.filt_types.specs.Expressions.{is_other, is_taken, wants, gives_where, are_taken};
@@ -15,7 +15,7 @@ ghost use Rattle.filt_types.specs.Walk.{bare, rule_of, rule_of_one, said_of};
 use crate::judged::Judged;
 use crate::refusal::{Cause, Refusal, note_if};
 use conf_ast::filters::{CompareOp, MethodKind, Property};
-use filt_values::Sort;
+use filt_meaning::Sort;
 
 /// An operator of two operands.
 #[derive(Clone, Copy)]

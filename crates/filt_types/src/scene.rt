@@ -1,14 +1,13 @@
 ghost use Rattle.std.specs.Prelude.{◌≡◌, option_map};
-ghost use Rattle.filt_values.specs.Seen.{val_of_fixed};
+ghost use Rattle.filt_meaning.specs.Seen.{val_of_fixed};
 ghost use Rattle.filt_types.specs.Scenes as scenes;
 ghost use Rattle.filt_types.specs.Scenes.{variable_of, constant_of, function_of};
 ghost use Rattle.filt_types.specs.Refusals.{first_in};
 ghost use Rattle.filt_types.specs.Seen.{variable_seen, signature_of, scene_in, variables_in};
 
 use crate::refusal::{Cause, Refusal, note_if};
-use conf_lex::Name;
-use filt_tree::{Scope, TFunction};
-use filt_values::{Fixed, Sort};
+use conf_ast::Name;
+use filt_meaning::{Fixed, Scope, Sort, TFunction};
 
 /// A variable: its name, the sort of its values, and whether it is a loop's, which can't be
 /// assigned to.

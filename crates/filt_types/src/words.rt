@@ -15,9 +15,9 @@ use crate::judged::Judged;
 use crate::refusal::{Cause, Refusal, note, note_if};
 use crate::rules::sort_if;
 use crate::scene::{Seen, constant_named, variable_named};
+use conf_ast::Name;
 use conf_ast::filters::{Atom, Attribute, Constant, Item, MaskItem};
-use conf_lex::Name;
-use filt_values::Sort;
+use filt_meaning::Sort;
 
 pub(crate) fn sound(at: usize, sort: Sort) -> Judged
     ensures { result ≡ said_of (expressions.sound at sort) }

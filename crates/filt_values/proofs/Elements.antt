@@ -16,7 +16,7 @@ use Rattle.filt_sets.specs.Sets.{TakesInt, TakesPair, TakesNet}
 use Rattle.filt_sets.specs.Mask.{IsCut}
 use Rattle.filt_sets.specs.Search.{cuts}
 use Rattle.filt_sets.proofs.Cuts.{cuts_decide}
-use Rattle.filt_values.specs.Members.{takes_int, takes_pair, takes_net, in_ints, in_pairs, in_nets, covers}
+use Rattle.filt_meaning.specs.Members.{takes_int, takes_pair, takes_net, in_ints, in_pairs, in_nets, covers}
 
 -- two tests of one thing
 pub same_tests : {P : Type 0} (a b : Bool) → IsTrue a ↔ P → (b ≡ true → P) × (P → b ≡ true) → a ≡ b

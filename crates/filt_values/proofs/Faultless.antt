@@ -13,12 +13,12 @@ use Rattle.attrs.specs.declared.attributes.Kind.{Kind}
 use Rattle.attrs.specs.declared.attributes.Dest.{Dest}
 use Rattle.attrs.specs.declared.attributes.Origin.{Origin}
 use Rattle.attrs.specs.Clist.{has_pair, same_pair}
-use Rattle.filt_values.specs.declared.value.Failure.{Failure}
-use Rattle.filt_values.specs.declared.value.Failure.TheVariants.{Fault, Stuck}
-use Rattle.filt_values.specs.Members.{in_ints, in_pairs, in_nets, in_path, covers, host_of, addr_cmp, pair_cmp, same_bool, source_rank, dest_rank, origin_rank}
-use Rattle.filt_values.specs.Operators.{and_then, says, int_in, bool_in, ip_in, prefix_in, pair_in, string_in, path_in, clist_in, pair_set_in, source_in, dest_in, origin_in, truth_of, not_of, equal_of, not_equal_of, order_of, less_of, less_or_equal_of, greater_of, greater_or_equal_of, has_int, has_one_pair, has_net, takes_path, takes_clist, matches_of, matches_not_of, len_of, first_of, last_of, ip_of}
-use Rattle.filt_values.specs.Sorts.{IsNoFault}
-use Rattle.filt_values.specs.Values.{Val, VInt, VBool, VIp, VPrefix, VPair, VString, VPath, VMask, VClist, VIntSet, VPairSet, VPrefixSet, VSource, VDest, VOrigin}
+use Rattle.filt_meaning.specs.declared.value.Failure.{Failure}
+use Rattle.filt_meaning.specs.declared.value.Failure.TheVariants.{Fault, Stuck}
+use Rattle.filt_meaning.specs.Members.{in_ints, in_pairs, in_nets, in_path, covers, host_of, addr_cmp, pair_cmp, same_bool, source_rank, dest_rank, origin_rank}
+use Rattle.filt_meaning.specs.Operators.{and_then, says, int_in, bool_in, ip_in, prefix_in, pair_in, string_in, path_in, clist_in, pair_set_in, source_in, dest_in, origin_in, truth_of, not_of, equal_of, not_equal_of, order_of, less_of, less_or_equal_of, greater_of, greater_or_equal_of, has_int, has_one_pair, has_net, takes_path, takes_clist, matches_of, matches_not_of, len_of, first_of, last_of, ip_of}
+use Rattle.filt_meaning.specs.Sorts.{IsNoFault}
+use Rattle.filt_meaning.specs.Values.{Val, VInt, VBool, VIp, VPrefix, VPair, VString, VPath, VMask, VClist, VIntSet, VPairSet, VPrefixSet, VSource, VDest, VOrigin}
 
 fine : {A : Type 0} (a : A) → IsNoFault {A = A} (Ok a)
 fine a fault same = cc

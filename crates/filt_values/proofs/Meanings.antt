@@ -23,11 +23,11 @@ use Rattle.attrs.specs.declared.attributes.Dest.TheVariants.{Unicast, Blackhole,
 use Rattle.attrs.specs.declared.attributes.Origin.{Origin}
 use Rattle.attrs.specs.declared.attributes.Origin.TheVariants.{Igp, Egp, Incomplete}
 use Rattle.attrs.specs.Clist.{same_pair}
-use Rattle.filt_values.specs.declared.value.Failure.{Failure}
-use Rattle.filt_values.specs.Members.{in_ints, in_pairs, host_of, same_bool, source_rank, dest_rank, origin_rank, takes_int, takes_pair, takes_net}
-use Rattle.filt_values.specs.Values.{Val, VInt, VBool, VIp, VPrefix, VPair, VString, VPath, VMask, VClist, VIntSet, VPairSet, VPrefixSet, VSource, VDest, VOrigin, sort_of}
-use Rattle.filt_values.specs.Operators.{and_then, equal_of, matches_not_of, matches_of, not_equal_of, not_of, says}
-use Rattle.filt_values.specs.Sorts.{compared}
+use Rattle.filt_meaning.specs.declared.value.Failure.{Failure}
+use Rattle.filt_meaning.specs.Members.{in_ints, in_pairs, host_of, same_bool, source_rank, dest_rank, origin_rank, takes_int, takes_pair, takes_net}
+use Rattle.filt_meaning.specs.Values.{Val, VInt, VBool, VIp, VPrefix, VPair, VString, VPath, VMask, VClist, VIntSet, VPairSet, VPrefixSet, VSource, VDest, VOrigin, sort_of}
+use Rattle.filt_meaning.specs.Operators.{and_then, equal_of, matches_not_of, matches_of, not_equal_of, not_of, says}
+use Rattle.filt_meaning.specs.Sorts.{compared}
 use Rattle.filt_values.proofs.Elements.{any_decides, covers_decides, int_decides, net_decides, pair_decides}
 
 -- ---- contraries

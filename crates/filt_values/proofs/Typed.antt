@@ -2,11 +2,11 @@
 use Rattle.std.proofs.Common.{ℕ, ◌^◌, ◌++◌, ◌==◌, ◌&&◌, nat_lt, List, [], ◌∷◌, length, Result, Ok, refl, ⊎_elim}
 use Rattle.std.proofs.lemmas.Bool.{cases_Bool}
 use Rattle.attrs.specs.Clist.{has_pair}
-use Rattle.filt_values.specs.declared.value.Failure.{Failure}
-use Rattle.filt_values.specs.declared.value.Sort.TheVariants as sorts
-use Rattle.filt_values.specs.Values.{Val, VInt, VBool, VIp, VPrefix, VPair, VString, VPath, VMask, VClist, VIntSet, VPairSet, VPrefixSet, VSource, VDest, VOrigin}
-use Rattle.filt_values.specs.Operators.{and_then, quotient_of, joined, longer, with_pair, with_pairs, plus_of, minus_of, times_of, over_of, pair_of, equal_of, not_equal_of, less_of, less_or_equal_of, greater_of, greater_or_equal_of, matches_of, matches_not_of, prepended_of, added_of, deleted_of, filtered_of, truth_of, not_of, len_of, first_of, last_of, ip_of, emptied_of}
-use Rattle.filt_values.specs.Sorts.{IsGiven, TakesOne, TakesTwo, added, compared, deleted, one_list, filtered, matched, measured, one_bool, one_path, one_prefix, ordered, prepended, two_ints, a_bool, a_pair, an_int, an_ip, the_same}
+use Rattle.filt_meaning.specs.declared.value.Failure.{Failure}
+use Rattle.filt_meaning.specs.declared.value.Sort.TheVariants as sorts
+use Rattle.filt_meaning.specs.Values.{Val, VInt, VBool, VIp, VPrefix, VPair, VString, VPath, VMask, VClist, VIntSet, VPairSet, VPrefixSet, VSource, VDest, VOrigin}
+use Rattle.filt_meaning.specs.Operators.{and_then, quotient_of, joined, longer, with_pair, with_pairs, plus_of, minus_of, times_of, over_of, pair_of, equal_of, not_equal_of, less_of, less_or_equal_of, greater_of, greater_or_equal_of, matches_of, matches_not_of, prepended_of, added_of, deleted_of, filtered_of, truth_of, not_of, len_of, first_of, last_of, ip_of, emptied_of}
+use Rattle.filt_meaning.specs.Sorts.{IsGiven, TakesOne, TakesTwo, added, compared, deleted, one_list, filtered, matched, measured, one_bool, one_path, one_prefix, ordered, prepended, two_ints, a_bool, a_pair, an_int, an_ip, the_same}
 
 quotient_given : (a b : ℕ) → IsGiven sorts.Int (quotient_of a b)
 quotient_given a b = ⊎_elim (λ t. rw t tt) (λ f. rw f refl) (cases_Bool (b == 0))

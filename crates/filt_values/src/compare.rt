@@ -1,6 +1,6 @@
 ghost use Rattle.std.specs.Prelude.{◌≡◌};
-ghost use Rattle.filt_values.specs.Operators.{equal_of, not_equal_of, order_of, less_of, less_or_equal_of, greater_of, greater_or_equal_of};
-ghost use Rattle.filt_values.specs.Seen.{val_of, Answers};
+ghost use Rattle.filt_meaning.specs.Operators.{equal_of, not_equal_of, order_of, less_of, less_or_equal_of, greater_of, greater_or_equal_of};
+ghost use Rattle.filt_meaning.specs.Seen.{val_of, Answers};
 
 use crate::logic::contrary;
 use crate::parts::{bool, clist, dest, int, ip, origin, pair, path, prefix, source, string};
@@ -8,7 +8,7 @@ use crate::same::{
     addr_order, dest_rank, origin_rank, pair_order, same_addr, same_bool, same_net, same_pair,
     source_rank,
 };
-use crate::{Failure, Value};
+use filt_meaning::{Failure, Value};
 use std::cmp::Ordering;
 
 /// `left = right`, of two of one sort other than sets and masks (BIRD User's Guide, "Operators").

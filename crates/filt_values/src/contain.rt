@@ -1,6 +1,6 @@
 ghost use Rattle.std.specs.Prelude.{◌≡◌};
-ghost use Rattle.filt_values.specs.Operators.{has_int, has_net, has_one_pair, matches_not_of, matches_of, takes_clist, takes_path};
-ghost use Rattle.filt_values.specs.Seen.{val_of, Answers};
+ghost use Rattle.filt_meaning.specs.Operators.{has_int, has_net, has_one_pair, matches_not_of, matches_of, takes_clist, takes_path};
+ghost use Rattle.filt_meaning.specs.Seen.{val_of, Answers};
 
 use crate::logic::contrary;
 use crate::members::{
@@ -8,9 +8,9 @@ use crate::members::{
     some_in_ints, some_in_pairs,
 };
 use crate::parts::{pair_set, prefix};
-use crate::{Failure, Value};
 use attrs::{Clist, Path};
 use bits_ip::Prefix;
+use filt_meaning::{Failure, Value};
 
 /// `left ~ right` (BIRD User's Guide, "Operators"): an element in a set or a list, an address or a
 /// prefix within a prefix, a list of which some element is in a set, or a path that a mask matches.

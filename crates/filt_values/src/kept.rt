@@ -4,7 +4,7 @@
 ghost use Rattle.std.specs.Prelude.{◌≡◌, ◌==◌, not};
 ghost use Rattle.std.specs.List.{filter};
 ghost use Rattle.attrs.specs.Clist.{has_pair, same_pair};
-ghost use Rattle.filt_values.specs.Members.{in_ints, in_pairs};
+ghost use Rattle.filt_meaning.specs.Members.{in_ints, in_pairs};
 
 use crate::members::{has_pair, in_ints, in_pairs};
 use crate::same::same_pair;

@@ -7,11 +7,11 @@ ghost use Rattle.filt_sets.specs.declared.prefixes.PrefixItem.{PrefixItem};
 ghost use Rattle.filt_sets.specs.declared.mask.MaskItem.{MaskItem};
 ghost use Rattle.filt_sets.specs.Mask.{IsCut};
 ghost use Rattle.filt_sets.specs.Sets.{TakesInt, TakesNet, TakesPair};
-ghost use Rattle.filt_values.specs.declared.value.Failure.{Failure};
-ghost use Rattle.filt_values.specs.Members.{host_of};
-ghost use Rattle.filt_values.specs.Values.{Val, VInt, VIp, VPrefix, VPair, VPath, VMask, VClist, VIntSet, VPairSet, VPrefixSet, sort_of};
-ghost use Rattle.filt_values.specs.Operators.{added_of, deleted_of, emptied_of, equal_of, filtered_of, first_of, greater_of, greater_or_equal_of, ip_of, last_of, len_of, less_of, less_or_equal_of, matches_not_of, matches_of, minus_of, not_equal_of, not_of, over_of, pair_of, plus_of, prepended_of, times_of, truth_of, says};
-ghost use Rattle.filt_values.specs.Sorts.{IsNoFault, TakesOne, TakesTwo, added, compared, deleted, one_list, filtered, matched, measured, one_bool, one_path, one_prefix, ordered, prepended, two_ints, a_bool, a_pair, an_int, an_ip, the_same};
+ghost use Rattle.filt_meaning.specs.declared.value.Failure.{Failure};
+ghost use Rattle.filt_meaning.specs.Members.{host_of};
+ghost use Rattle.filt_meaning.specs.Values.{Val, VInt, VIp, VPrefix, VPair, VPath, VMask, VClist, VIntSet, VPairSet, VPrefixSet, sort_of};
+ghost use Rattle.filt_meaning.specs.Operators.{added_of, deleted_of, emptied_of, equal_of, filtered_of, first_of, greater_of, greater_or_equal_of, ip_of, last_of, len_of, less_of, less_or_equal_of, matches_not_of, matches_of, minus_of, not_equal_of, not_of, over_of, pair_of, plus_of, prepended_of, times_of, truth_of, says};
+ghost use Rattle.filt_meaning.specs.Sorts.{IsNoFault, TakesOne, TakesTwo, added, compared, deleted, one_list, filtered, matched, measured, one_bool, one_path, one_prefix, ordered, prepended, two_ints, a_bool, a_pair, an_int, an_ip, the_same};
 
 /// Numbers give numbers and pairs.
 pub fn numbers_are_typed()

@@ -1,16 +1,16 @@
 ghost use Rattle.std.specs.Prelude.{◌≡◌};
-ghost use Rattle.filt_values.specs.declared.value.Failure.TheVariants.{Fault};
-ghost use Rattle.filt_values.specs.declared.value.ListFailure.TheVariants.{Failed};
-ghost use Rattle.filt_values.specs.Operators.{added_of, added_to, deleted_of, emptied_of, filtered_of, longer, numbers_within, numbers_without, pairs_within, pairs_without, prepended_of, with_pair, with_pairs};
-ghost use Rattle.filt_values.specs.Seen.{val_of, Answers, Builds};
+ghost use Rattle.filt_meaning.specs.declared.value.Failure.TheVariants.{Fault};
+ghost use Rattle.filt_meaning.specs.declared.value.ListFailure.TheVariants.{Failed};
+ghost use Rattle.filt_meaning.specs.Operators.{added_of, added_to, deleted_of, emptied_of, filtered_of, longer, numbers_within, numbers_without, pairs_within, pairs_without, prepended_of, with_pair, with_pairs};
+ghost use Rattle.filt_meaning.specs.Seen.{val_of, Answers, Builds};
 
 use crate::kept::{
     numbers_in_set, numbers_not_in_set, other_numbers, other_pairs, pairs_in_list, pairs_in_set,
     pairs_not_in_list, pairs_not_in_set,
 };
 use crate::parts::{int, int_set, into_clist, into_path};
-use crate::{Failure, ListFailure, Value};
 use attrs::{Clist, ClistFault, FilterFault, Path, PathFault};
+use filt_meaning::{Failure, ListFailure, Value};
 use std::alloc::Global;
 
 /// `list.prepend(argument)`: the path with a number before the others (BIRD User's Guide, "Data

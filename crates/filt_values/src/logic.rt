@@ -1,9 +1,9 @@
 ghost use Rattle.std.specs.Prelude.{◌≡◌};
-ghost use Rattle.filt_values.specs.Operators.{not_of, truth_of};
-ghost use Rattle.filt_values.specs.Seen.{val_of, Answers};
+ghost use Rattle.filt_meaning.specs.Operators.{not_of, truth_of};
+ghost use Rattle.filt_meaning.specs.Seen.{val_of, Answers};
 
 use crate::parts::bool;
-use crate::{Failure, Value};
+use filt_meaning::{Failure, Value};
 
 /// The value, where it is a truth value, as conditions want it (BIRD User's Guide, "Control
 /// structures").

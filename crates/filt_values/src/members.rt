@@ -5,7 +5,7 @@ ghost use Rattle.std.specs.List.{list_any};
 ghost use Rattle.bits_ip.specs.Address.{width_of};
 ghost use Rattle.filt_sets.specs.Search.{cuts};
 ghost use Rattle.attrs.specs.Clist.{has_pair};
-ghost use Rattle.filt_values.specs.Members.{covers, host_of, in_ints, in_nets, in_pairs, in_path};
+ghost use Rattle.filt_meaning.specs.Members.{covers, host_of, in_ints, in_nets, in_pairs, in_path};
 
 use attrs::{Clist, Path};
 use bits_ip::{Addr, Prefix};

@@ -1,10 +1,10 @@
 ghost use Rattle.std.specs.Prelude.{◌≡◌};
-ghost use Rattle.filt_values.specs.Operators.{plus_of, minus_of, times_of, over_of, quotient_of};
-ghost use Rattle.filt_values.specs.Seen.{val_of, Answers};
+ghost use Rattle.filt_meaning.specs.Operators.{plus_of, minus_of, times_of, over_of, quotient_of};
+ghost use Rattle.filt_meaning.specs.Seen.{val_of, Answers};
 
 use crate::parts::int;
-use crate::{Failure, Value};
 use attrs::FilterFault;
+use filt_meaning::{Failure, Value};
 
 /// `left + right`, modulo 2 to the 32nd (BIRD User's Guide, "Operators").
 pub fn plus<'a>(left: &Value<'a>, right: &Value<'a>) -> Result<Value<'a>, Failure>

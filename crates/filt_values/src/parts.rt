@@ -1,12 +1,12 @@
 //! What a value is, of one sort.
 
 ghost use Rattle.std.specs.Prelude.{◌≡◌};
-ghost use Rattle.filt_values.specs.Operators.{int_in, bool_in, ip_in, prefix_in, pair_in, string_in, path_in, clist_in, int_set_in, pair_set_in, source_in, dest_in, origin_in};
-ghost use Rattle.filt_values.specs.Seen.{val_of, Answers, Builds};
+ghost use Rattle.filt_meaning.specs.Operators.{int_in, bool_in, ip_in, prefix_in, pair_in, string_in, path_in, clist_in, int_set_in, pair_set_in, source_in, dest_in, origin_in};
+ghost use Rattle.filt_meaning.specs.Seen.{val_of, Answers, Builds};
 
-use crate::{Failure, ListFailure, Value};
 use attrs::{Clist, Dest, Kind, Origin, Path};
 use bits_ip::{Addr, Prefix};
+use filt_meaning::{Failure, ListFailure, Value};
 use filt_sets::{IntSet, PairSet};
 
 pub(crate) fn int<'a>(value: &Value<'a>) -> Result<u32, Failure>

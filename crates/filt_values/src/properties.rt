@@ -1,10 +1,10 @@
 ghost use Rattle.std.specs.Prelude.{◌≡◌};
-ghost use Rattle.filt_values.specs.Operators.{first_of, ip_of, joined, last_of, len_of, pair_of};
-ghost use Rattle.filt_values.specs.Seen.{val_of, Answers};
+ghost use Rattle.filt_meaning.specs.Operators.{first_of, ip_of, joined, last_of, len_of, pair_of};
+ghost use Rattle.filt_meaning.specs.Seen.{val_of, Answers};
 
 use crate::parts::{int, path, prefix};
-use crate::{Failure, Value};
 use attrs::FilterFault;
+use filt_meaning::{Failure, Value};
 
 /// `(left, right)` (BIRD User's Guide, "Data types", `pair`). A part over 65535 is the fault
 /// `PairPart`.

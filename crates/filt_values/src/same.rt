@@ -3,7 +3,7 @@
 ghost use Rattle.std.specs.Prelude.{◌≡◌};
 ghost use Rattle.bits_ip.specs.Prefix.{same_addr, same_net};
 ghost use Rattle.attrs.specs.Clist.{same_pair};
-ghost use Rattle.filt_values.specs.Members.{addr_cmp, dest_rank, origin_rank, pair_cmp, same_bool, source_rank};
+ghost use Rattle.filt_meaning.specs.Members.{addr_cmp, dest_rank, origin_rank, pair_cmp, same_bool, source_rank};
 
 use attrs::{Dest, Kind, Origin};
 use bits_ip::{Addr, Prefix};

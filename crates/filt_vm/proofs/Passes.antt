@@ -3,8 +3,8 @@ use Rattle.std.proofs.Common.{◌≡◌, ℕ, suc, zero, ◌<◌, ◌≤◌, max
 use Rattle.std.proofs.Math.Nat.{le-max_left, le-max_right}
 use Rattle.std.specs.Prelude.{slice_get}
 use Rattle.attrs.specs.declared.attributes.Attrs.{Attrs}
-use Rattle.filt_values.specs.Operators.{bool_in}
-use Rattle.filt_values.specs.Values.{Val, VBool}
+use Rattle.filt_meaning.specs.Operators.{bool_in}
+use Rattle.filt_meaning.specs.Values.{Val, VBool}
 use Rattle.filt_meaning.specs.Configuration.{verdict_of}
 use Rattle.filt_meaning.specs.Flow.{Flow, Done, Frame, and_then, plainly}
 use Rattle.filt_meaning.specs.Names.{Around}

@@ -3,7 +3,7 @@ use Rattle.std.proofs.Common.{◌≡◌, ℕ, suc, zero, ◌<◌, ◌≤◌, Lis
 use Rattle.attrs.specs.declared.attributes.Attrs.{Attrs}
 use Rattle.attrs.specs.declared.judge.FilterFault.{FilterFault}
 use Rattle.attrs.specs.declared.judge.Verdict.TheVariants as verdicts
-use Rattle.filt_values.specs.Values.{Val}
+use Rattle.filt_meaning.specs.Values.{Val}
 use Rattle.filt_meaning.specs.Configuration.{verdict_of}
 use Rattle.filt_meaning.specs.Flow.{Flow, Done, Stopped, Frame, Faulted, Stuck, Accepted, Rejected, and_then}
 use Rattle.filt_meaning.specs.Names.{Around}

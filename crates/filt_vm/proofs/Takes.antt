@@ -1,8 +1,8 @@
 -- The top of a list that is seen from its top.
 use Rattle.std.proofs.Common.{◌≡◌, ℕ, suc, zero, ◌-◌, ◌≤◌, List, [], ◌∷◌, ◌++◌, length, map, take, drop, reverse, refl, sym, ap, ◌∙◌, arith, inl, inr, ◌⊎◌}
 use Rattle.std.proofs.lemmas.List.{take-map, length-map, reverse-append, reverse-reverse, length-reverse}
-use Rattle.filt_values.specs.declared.value.Value.{Value}
-use Rattle.filt_values.specs.Seen.{val_of}
+use Rattle.filt_meaning.specs.declared.value.Value.{Value}
+use Rattle.filt_meaning.specs.Seen.{val_of}
 
 take-front : {A : Type 0} (a b : List A) → take (length a) (a ++ b) ≡ a
 take-front [] b = refl

@@ -4,10 +4,10 @@ use Rattle.std.proofs.Math.Dec.{ltb}
 use Rattle.std.proofs.lemmas.Bool.{ltb-true}
 use Rattle.std.specs.Prelude.{Bool, true, false, cond, slice_get, slice_set}
 use Rattle.attrs.specs.declared.attributes.Attrs.{Attrs}
-use Rattle.conf_lex.specs.declared.attribute.Attribute.{Attribute}
-use Rattle.filt_values.specs.declared.value.Failure.{Failure}
-use Rattle.filt_values.specs.Operators.{bool_in}
-use Rattle.filt_values.specs.Values.{Val}
+use Rattle.conf_ast.specs.declared.attribute.Attribute.{Attribute}
+use Rattle.filt_meaning.specs.declared.value.Failure.{Failure}
+use Rattle.filt_meaning.specs.Operators.{bool_in}
+use Rattle.filt_meaning.specs.Values.{Val}
 use Rattle.filt_meaning.specs.Attributes.{with_attribute, without_attribute}
 use Rattle.filt_meaning.specs.Flow.{Flow, Done, Stopped, Frame, Returned, Stuck, and_then, plainly}
 use Rattle.filt_meaning.specs.Meaning.{elements, set_attributes, turns}
@@ -22,7 +22,7 @@ use Rattle.filt_code.specs.declared.instr.OfTwo.{OfTwo}
 use Rattle.filt_code.specs.declared.instr.Question.{Question}
 use Rattle.filt_code.specs.declared.instr.Question.TheVariants as questions
 use Rattle.filt_code.specs.Codes.{At, Setting, arms_before, behind_left, decides, effect, jump_where, labels_of, mean, one, one_of, question, setting, two_of, with_one}
-use Rattle.filt_tree.specs.declared.tree.TTest.TheVariants as tests
+use Rattle.filt_meaning.specs.declared.tree.TTest.TheVariants as tests
 use Rattle.filt_route.specs.Seen.{IsApplicable, IsUnstuck}
 use Rattle.filt_vm.specs.declared.level.Level.{Level}
 use Rattle.filt_vm.specs.Levels.{Waiting}

@@ -7,8 +7,8 @@ use Rattle.std.proofs.lemmas.Option.{slice_get_past, slice_get-get_or}
 use Rattle.attrs.specs.declared.attributes.Attrs.{Attrs}
 use Rattle.attrs.specs.declared.judge.FilterFault.TheVariants as faults
 use Rattle.attrs.specs.declared.judge.Verdict.TheVariants as verdicts
-use Rattle.filt_values.specs.declared.value.Sort.{Sort}
-use Rattle.filt_values.specs.Values.{Val, VInt}
+use Rattle.filt_meaning.specs.declared.value.Sort.{Sort}
+use Rattle.filt_meaning.specs.Values.{Val, VInt}
 use Rattle.filt_meaning.specs.Configuration.{at_end, given_by, verdict_of}
 use Rattle.filt_meaning.specs.Flow.{AtEnd, Flow, Done, Stopped, Frame, Stuck, Why, and_then, plainly}
 use Rattle.filt_meaning.specs.Meaning.{elements, turns}

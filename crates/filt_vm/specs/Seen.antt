@@ -1,10 +1,10 @@
 -- For private contracts alone: values as the code that runs sees them.
 use Rattle.std.specs.Prelude.{List, [], ◌∷◌, map, reverse, Result, Vec}
 use Rattle.std.specs.Global.{Global}
-use Rattle.filt_values.specs.declared.value.Failure.{Failure}
-use Rattle.filt_values.specs.declared.value.Value.{Value}
-use Rattle.filt_values.specs.Seen.{val_of}
-use Rattle.filt_values.specs.Values.{Val}
+use Rattle.filt_meaning.specs.declared.value.Failure.{Failure}
+use Rattle.filt_meaning.specs.declared.value.Value.{Value}
+use Rattle.filt_meaning.specs.Seen.{val_of}
+use Rattle.filt_meaning.specs.Values.{Val}
 use Rattle.filt_route.specs.Seen.{IsApplicable}
 
 -- ---- values

@@ -3,8 +3,8 @@
 ghost use Rattle.std.specs.Prelude.{◌≡◌, ◌<◌, [], ◌∷◌, ◌++◌, List, length, slice_get, Some, OnOk};
 ghost use Rattle.attrs.specs.declared.attributes.Attrs.{Attrs};
 ghost use Rattle.filt_code.specs.Codes.{effect, one_of, over, put, two_of, with_one};
-ghost use Rattle.filt_values.specs.Seen.{val_of_fixed};
-ghost use Rattle.filt_values.specs.Values.{Val, VBool, default_of};
+ghost use Rattle.filt_meaning.specs.Seen.{val_of_fixed};
+ghost use Rattle.filt_meaning.specs.Values.{Val, VBool, default_of};
 ghost use Rattle.filt_meaning.specs.Attributes.{is_defined, with_attribute};
 ghost use Rattle.filt_meaning.specs.Flow.{Done, Frame, plainly};
 ghost use Rattle.filt_meaning.specs.Meaning.{attribute, set_attributes, set_variable};
@@ -16,8 +16,8 @@ use crate::operands::Operands;
 use bits_ip::OutOfMemory;
 use conf_ast::filters::Attribute;
 use filt_code::{Effect, OfOne, OfTwo};
+use filt_meaning::{Fixed, Sort, Value};
 use filt_route::{Halt, Running, Surroundings, apply_one, apply_two};
-use filt_values::{Fixed, Sort, Value};
 use std::alloc::Global;
 
 /// What an instruction does that leads to the next one. Each effect has a function of its own, so

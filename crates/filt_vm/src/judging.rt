@@ -14,8 +14,8 @@ use crate::step::Step;
 use attrs::{Names, Route, Verdict};
 use bits_ip::{OutOfMemory, Prefix};
 use filt_code::{Draft, Routine};
+use filt_meaning::Defaults;
 use filt_route::{Halt, Running, Surroundings};
-use filt_values::Defaults;
 use std::alloc::Global;
 
 /// What the code of a filter says of a route of a net, over functions of which it may call the

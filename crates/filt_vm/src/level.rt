@@ -1,15 +1,15 @@
 //! What is done behind what runs.
 
 ghost use Rattle.std.specs.Prelude.{◌≡◌, ◌<◌, [], ◌∷◌, get_or, length, nat_lt, IsTrue, MatchOption, OnOk};
-ghost use Rattle.filt_values.specs.Seen.{val_of};
+ghost use Rattle.filt_meaning.specs.Seen.{val_of};
 ghost use Rattle.filt_route.specs.Seen.{elements_of};
-ghost use Rattle.filt_values.specs.Values.{VInt};
+ghost use Rattle.filt_meaning.specs.Values.{VInt};
 ghost use Rattle.filt_vm.specs.Levels.{behind_first, top_elements};
 
 use bits_ip::OutOfMemory;
 use filt_code::{Instr, Routine};
+use filt_meaning::{Sort, Value};
 use filt_route::Elements;
-use filt_values::{Sort, Value};
 use std::alloc::Global;
 use std::marker::Model;
 
@@ -61,7 +61,7 @@ impl<'a> Model for Levels<'a> {
     ghost use Rattle.std.specs.Coded.{codes};
     ghost use Rattle.std.specs.Prelude.{map, reverse};
     ghost use Rattle.filt_route.specs.Seen.{elements_of};
-    ghost use Rattle.filt_tree.specs.contracts.tree.TStmt as trees;
+    ghost use Rattle.filt_meaning.specs.contracts.tree.TStmt as trees;
     ghost use Rattle.filt_vm.specs.Levels.{Waiting};
 
     ghost Value = { Waiting };

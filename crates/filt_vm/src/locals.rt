@@ -1,11 +1,11 @@
 //! Variables.
 
 ghost use Rattle.std.specs.Prelude.{◌≡◌, ◌<◌, [], ◌∷◌, ◌++◌, length, take, slice_get, slice_set, Some, IfOk, OnOk};
-ghost use Rattle.filt_values.specs.Seen.{val_of};
+ghost use Rattle.filt_meaning.specs.Seen.{val_of};
 ghost use Rattle.filt_vm.specs.Seen.{first_of, rest_of, vals_of};
 
 use bits_ip::OutOfMemory;
-use filt_values::{Value, copy};
+use filt_meaning::{Value, copy};
 use std::alloc::Global;
 use std::marker::Model;
 

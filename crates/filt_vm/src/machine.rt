@@ -5,8 +5,8 @@ ghost use Rattle.attrs.specs.declared.attributes.Attrs.{Attrs};
 ghost use Rattle.filt_code.specs.Codes.{mean, Setting};
 ghost use Rattle.filt_meaning.specs.Flow.{AtEnd, Done, Frame, Returned, Stopped, Why};
 ghost use Rattle.filt_meaning.specs.Names.{Around};
-ghost use Rattle.filt_values.specs.Seen.{val_of};
-ghost use Rattle.filt_values.specs.Values.{Val};
+ghost use Rattle.filt_meaning.specs.Seen.{val_of};
+ghost use Rattle.filt_meaning.specs.Values.{Val};
 ghost use Rattle.filt_code.specs.declared.instr.Instr.TheVariants as instrs;
 ghost use Rattle.filt_vm.specs.declared.level.Level.TheVariants as levels;
 ghost use Rattle.filt_route.specs.Seen.{IsUnstuck};
@@ -21,8 +21,8 @@ use crate::step::Step;
 use crate::target::target;
 use attrs::FilterFault;
 use filt_code::{Effect, Instr, Routine};
+use filt_meaning::Value;
 use filt_route::{Elements, Halt, Running, Surroundings};
-use filt_values::Value;
 use std::alloc::Global;
 
 /// A filter that runs.

@@ -1,11 +1,11 @@
 //! Operands.
 
 ghost use Rattle.std.specs.Prelude.{◌≡◌, ◌<◌, [], ◌∷◌, drop, length, reverse, take, IfOk, OnOk};
-ghost use Rattle.filt_values.specs.Seen.{val_of};
+ghost use Rattle.filt_meaning.specs.Seen.{val_of};
 ghost use Rattle.filt_vm.specs.Seen.{first_of, rest_of, vals_of};
 
 use bits_ip::OutOfMemory;
-use filt_values::Value;
+use filt_meaning::Value;
 use std::alloc::Global;
 use std::marker::Model;
 

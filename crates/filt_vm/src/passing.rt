@@ -6,7 +6,7 @@ ghost use Rattle.filt_code.specs.Codes.{mean, Setting};
 ghost use Rattle.filt_code.specs.Costs.{cost};
 ghost use Rattle.filt_meaning.specs.Flow.{Frame};
 ghost use Rattle.filt_route.specs.Seen.{around_in};
-ghost use Rattle.filt_values.specs.Values.{Val};
+ghost use Rattle.filt_meaning.specs.Values.{Val};
 
 use crate::machine::behind;
 use crate::target::jump_where;

@@ -5,7 +5,7 @@ ghost use Rattle.attrs.specs.declared.attributes.Attrs.{Attrs};
 ghost use Rattle.filt_code.specs.Codes.{arms_before, labels_of, behind_left, decides, jump_where, one, with_one, At, Setting};
 ghost use Rattle.filt_code.specs.Costs.{beside};
 ghost use Rattle.filt_meaning.specs.Flow.{Frame, and_then, plainly};
-ghost use Rattle.filt_values.specs.Operators.{bool_in};
+ghost use Rattle.filt_meaning.specs.Operators.{bool_in};
 ghost use Rattle.filt_route.specs.Seen.{around_in};
 ghost use Rattle.filt_vm.specs.Machines.{IsJump, IsReady, Leads};
 ghost use Rattle.filt_vm.specs.Seen.{TakesTop};
@@ -13,9 +13,8 @@ ghost use Rattle.filt_vm.specs.Seen.{TakesTop};
 use crate::operands::Operands;
 use conf_ast::filters::LogicalOp;
 use filt_code::Instr;
+use filt_meaning::{TArm, TStmt, Value};
 use filt_route::{Halt, Running, Surroundings, arms_before, asked, bool};
-use filt_tree::{TArm, TStmt};
-use filt_values::Value;
 
 /// How many instructions a jump passes over, and what it does to the operands.
 pub(crate) fn target<'a>(

@@ -3,7 +3,7 @@ use Rattle.std.proofs.Common.{◌≡◌, ℕ, Bool, true, false, cond, ◌&&◌,
 use Rattle.std.specs.Bool.{nat_eq}
 use Rattle.std.specs.Cmp.Lexicographic.{pointwise, same_text}
 use Rattle.std.proofs.lemmas.Bool.{cases_Bool}
-use Rattle.conf_lex.specs.declared.attribute.Attribute.{Attribute}
+use Rattle.conf_ast.specs.declared.attribute.Attribute.{Attribute}
 use Rattle.conf_lex.specs.declared.symbol.Symbol.{Symbol}
 use Rattle.conf_lex.specs.Attributes.{attribute_of, constant_of, attribute_spellings, constant_spellings}
 use Rattle.conf_lex.specs.Symbols.{lookup, symbol_of, spellings}

@@ -5,7 +5,7 @@ use Rattle.conf_lex.specs.declared.symbol.Symbol.{Symbol}
 use Rattle.conf_lex.specs.declared.symbol.Symbol.TheVariants as symbols
 use Rattle.conf_lex.specs.declared.word.Word.{Word}
 use Rattle.conf_lex.specs.declared.word.Word.TheVariants as words
-use Rattle.conf_lex.specs.declared.named.Name.{Name}
+use Rattle.conf_ast.specs.declared.named.Name.{Name}
 use Rattle.conf_lex.specs.Symbols.{is_placed}
 use Rattle.conf_lex.specs.Kind.{Kind, kind_of, symbol, name}
 use Rattle.conf_lex.specs.Grammar.{Form, Terminal, Epsilon, Seq, Alt, Nested, ParseTree, Leaf, NoWords, Pair, Left, Right, Single, Snoc, Deeper, yield, nullable, DerivesLongest}

@@ -3,7 +3,7 @@
 ghost use Rattle.std.specs.Prelude.{◌≡◌, ◌⊎◌, ℕ, ◌+◌, List, [], ◌∷◌, ◌++◌, length, Some};
 ghost use Rattle.std.specs.Prelude.{None};
 ghost use Rattle.bits_ip.specs.declared.address.Addr.{Addr};
-ghost use Rattle.conf_lex.specs.declared.attribute.Attribute.{Attribute};
+ghost use Rattle.conf_ast.specs.declared.attribute.Attribute.{Attribute};
 ghost use Rattle.conf_lex.specs.declared.symbol.Symbol.{Symbol};
 ghost use Rattle.conf_lex.specs.declared.token.Token.{Token};
 ghost use Rattle.conf_lex.specs.declared.word.Word.{Word};

@@ -1,9 +1,10 @@
 //! The small functions of a parser (`conf_lex::parsing`), each called once on what it takes and
 //! once on what it refuses.
+use conf_ast::Attribute;
 use conf_lex::parsing::{
     after, after_attribute, after_placed, expect, expect_name, level_below, next,
 };
-use conf_lex::{Attribute, Symbol, Word};
+use conf_lex::{Symbol, Word};
 
 const COMMA: Word = Word::Symbol(Symbol::Comma);
 

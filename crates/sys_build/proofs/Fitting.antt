@@ -6,8 +6,8 @@ use Rattle.std.proofs.lemmas.List.Elements.{All-cons, All-head, All-nil, All-tai
 use Rattle.conf_check.specs.declared.checked.ProtocolBody.{ProtocolBody}
 use Rattle.conf_check.specs.declared.checked.ProtocolBody.TheVariants as bodies
 use Rattle.conf_check.specs.declared.checked.ProtocolDef.{ProtocolDef}
-use Rattle.filt_tree.specs.declared.scope.Scope.{Scope}
-use Rattle.filt_tree.specs.declared.tree.TFilter.{TFilter}
+use Rattle.filt_meaning.specs.declared.scope.Scope.{Scope}
+use Rattle.filt_meaning.specs.declared.tree.TFilter.{TFilter}
 use Rattle.script_lines.specs.Kinds.{AreFew}
 use Rattle.script_lines.specs.Script.{HasTables}
 use Rattle.script_lines.specs.declared.named.NamedProtocol.{NamedProtocol}

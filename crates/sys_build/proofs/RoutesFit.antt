@@ -9,7 +9,7 @@ use Rattle.conf_ast.specs.Configurations as conf
 use Rattle.conf_ast.specs.Configurations.{BgpSetting, FamilyChannel, Passing, PipeSetting}
 use Rattle.conf_ast.specs.declared.configurations.Route.{Route}
 use Rattle.conf_ast.specs.declared.kind.ConfKind.TheVariants as kinds
-use Rattle.conf_lex.specs.declared.named.Name.{Name}
+use Rattle.conf_ast.specs.declared.named.Name.{Name}
 use Rattle.conf_rules.specs.Channels.{one_channel, same_family}
 use Rattle.conf_rules.specs.Known.{Known}
 use Rattle.conf_rules.specs.Protocols as rules

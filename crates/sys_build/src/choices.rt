@@ -7,7 +7,7 @@ ghost use Rattle.conf_system.specs.Seen.{filter_says, system_of};
 use attrs::Judge;
 use bits_ip::OutOfMemory;
 use conf_system::{Code, Passes, System};
-use filt_tree::TFilter;
+use filt_meaning::TFilter;
 use std::alloc::Global;
 
 /// The filters that have names, by their numbers, and behind them conditions.

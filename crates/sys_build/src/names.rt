@@ -4,8 +4,8 @@ ghost use Rattle.std.specs.List.{All};
 ghost use Rattle.conf_check.specs.declared.checked.ProtocolDef.{ProtocolDef};
 ghost use Rattle.script_lines.specs.Kinds.{AreFew};
 ghost use Rattle.script_lines.specs.Script.{HasTables};
-ghost use Rattle.filt_tree.specs.declared.scope.Scope.{Scope};
-ghost use Rattle.filt_tree.specs.declared.tree.TFilter.{TFilter};
+ghost use Rattle.filt_meaning.specs.declared.scope.Scope.{Scope};
+ghost use Rattle.filt_meaning.specs.declared.tree.TFilter.{TFilter};
 ghost use Rattle.sys_build.specs.Names.{all_channels, channels_of, held_table, kind_of, named_of, named_protocol, named_table, pipe_channels, table_of};
 ghost use Rattle.conf_system.specs.Seen.{body_seen, protocol_seen, system_of};
 

@@ -13,7 +13,7 @@ use crate::names::named;
 use bits_ip::OutOfMemory;
 use conf_system::System;
 use conf_system::laws::configurations_have_few_tables_and_filters;
-use filt_tree::TFilter;
+use filt_meaning::TFilter;
 use script_lines::{Condition, Line, Name, Script, ScriptFault, ScriptKind};
 use show_route::Query;
 use std::alloc::{AllocFailed, Global};

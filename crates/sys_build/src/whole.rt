@@ -13,7 +13,7 @@ use attrs::Judge;
 use bits_ip::OutOfMemory;
 use conf_system::laws::configurations_have_few_protocols;
 use conf_system::{Code, Passes, System};
-use filt_tree::TFilter;
+use filt_meaning::TFilter;
 use show_route::Query;
 use std::alloc::Global;
 use std::hash::RandomState;

@@ -1,11 +1,10 @@
 //! The values of constants.
 use crate::faults::{bad, no_memory};
+use conf_ast::bytes_at;
 use conf_ast::configurations::{Literal, StringLiteral};
 use conf_ast::filters::{Item, MaskItem, Num};
-use conf_lex::bytes_at;
 use filt_check::{mask_of, number, set_of};
-use filt_tree::{Labels, Scope};
-use filt_values::Fixed;
+use filt_meaning::{Fixed, Labels, Scope};
 use std::alloc::Global;
 use std::io;
 

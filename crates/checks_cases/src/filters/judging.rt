@@ -4,13 +4,13 @@
 //! protocols.
 use crate::faults::bad;
 use crate::filters::constants::constant;
+use conf_ast::Name;
 use conf_ast::configurations::{
     Channel, ChannelOption, Config, Literal, Policy, Protocol, Statement, StaticOption,
 };
 use conf_ast::filters::{Filter, Function};
-use conf_lex::Name;
 use filt_check::{TypeFault, check_block, check_expr, check_filter, check_function};
-use filt_tree::{Scope, TFilter};
+use filt_meaning::{Scope, TFilter};
 use indexmap::{IndexMap, IndexSet};
 use std::alloc::Global;
 use std::io;

@@ -6,7 +6,7 @@ use crate::values::operators::{of_method, of_one, of_two};
 use crate::values::shown::write_value;
 use crate::values::words::{fault_text, name_of};
 use bits_ip::OutOfMemory;
-use filt_values::{Defaults, Failure, ListFailure, Value, copy};
+use filt_meaning::{Defaults, Failure, ListFailure, Value, copy};
 use std::alloc::Global;
 use std::io::{Error, ErrorKind};
 use std::{io, str};

@@ -7,8 +7,8 @@ use crate::notation::{bad, inside, number, pair};
 use crate::values::words::{Word, sort_named, word_of};
 use attrs::{Clist, Path};
 use bits_ip::{OutOfMemory, parse_addr};
+use filt_meaning::{Defaults, Fixed, Sort, Value, copy};
 use filt_sets::{IntSet, Mask, PairSet, PrefixSet};
-use filt_values::{Defaults, Fixed, Sort, Value, copy};
 use std::alloc::Global;
 use std::io;
 

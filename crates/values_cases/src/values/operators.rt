@@ -1,9 +1,10 @@
 //! The operators that cases ask for.
 use crate::values::asked::{Method, OfOne, OfTwo};
+use filt_meaning::{Failure, ListFailure, Value};
 use filt_values::{
-    Failure, ListFailure, Value, add, delete, empty, equal, filter, first, greater,
-    greater_or_equal, ip, last, len, less, less_or_equal, matches, matches_not, minus, not,
-    not_equal, over, pair, plus, prepend, times, truth,
+    add, delete, empty, equal, filter, first, greater, greater_or_equal, ip, last, len, less,
+    less_or_equal, matches, matches_not, minus, not, not_equal, over, pair, plus, prepend, times,
+    truth,
 };
 use std::alloc::Global;
 

@@ -1,7 +1,7 @@
 //! Values as answers show them.
 use crate::values::words::{Word, name_of, text_of};
 use bits_ip::{OutOfMemory, append_addr, append_prefix, write_number};
-use filt_values::Value;
+use filt_meaning::Value;
 
 fn write(text: &str, out: &mut Vec<u8>) -> Result<(), OutOfMemory> {
     out.extend_from_slice(text.as_bytes())?;

@@ -1,6 +1,6 @@
 //! Words of the filter language that are values, and the names of sorts.
 use attrs::{Dest, FilterFault, Kind, Origin};
-use filt_values::Sort;
+use filt_meaning::Sort;
 
 /// A value that is a word.
 #[derive(Clone, Copy, PartialEq, Eq)]

@@ -1,5 +1,5 @@
 use Rattle.std.proofs.Common.{List, ℕ, Option, ap, sym, ◌∙◌}
-use Rattle.conf_lex.specs.declared.named.Name.{Name}
+use Rattle.conf_ast.specs.declared.named.Name.{Name}
 use Rattle.conf_rules.specs.Seen.{known_of}
 use Rattle.conf_rules.specs.Known.{table_number}
 use Rattle.conf_check.specs.Checked as of

@@ -1,4 +1,4 @@
-use Rattle.filt_values.specs.Seen.{val_of_fixed}
+use Rattle.filt_meaning.specs.Seen.{val_of_fixed}
 use Rattle.conf_check.proofs.Names.{absent, entry_joins}
 use Rattle.conf_check.proofs.declare.declare_constant.Goals as goal
 

@@ -1,6 +1,6 @@
 use Rattle.std.proofs.Common.{List, ℕ, Option, None, map, ap, subst, sym, ◌∙◌}
 use Rattle.bits_ip.specs.declared.address.Family.{Family}
-use Rattle.conf_lex.specs.declared.named.Name.{Name}
+use Rattle.conf_ast.specs.declared.named.Name.{Name}
 use Rattle.conf_ast.specs.declared.configurations.PipeOption.{PipeOption}
 use Rattle.conf_ast.specs.Configurations.{PassAll, PassNone, Passing, PipeSetting, pipe_setting_of}
 use Rattle.conf_rules.specs.Known.{table_number}

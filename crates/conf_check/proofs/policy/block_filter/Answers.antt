@@ -2,7 +2,7 @@ use Rattle.std.proofs.Common.{List, ap, ◌∙◌, []}
 use Rattle.conf_ast.specs.declared.filters.Stmt.{Stmt}
 use Rattle.conf_ast.specs.Filters.{statements_of}
 use Rattle.filt_meaning.specs.Configuration.{body}
-use Rattle.filt_tree.specs.Scopes.{context_of}
+use Rattle.filt_meaning.specs.Scopes.{context_of}
 use Rattle.conf_check.proofs.policy.block_filter.Goals as goal
 
 pub returns : goal.returns

@@ -2,11 +2,11 @@ use Rattle.std.proofs.Common.{List, ℕ, Option, option_map, map, ap, sym, ◌�
 use Rattle.std.specs.Global.{Global}
 use Rattle.conf_ast.specs.Configurations.{value_of}
 use Rattle.filt_types.specs.Scenes.{is_declared}
-use Rattle.filt_tree.specs.Scopes.{constants_in}
-use Rattle.filt_values.specs.declared.fixed.Fixed.{Fixed}
-use Rattle.filt_values.specs.Seen.{val_of_fixed}
+use Rattle.filt_meaning.specs.Scopes.{constants_in}
+use Rattle.filt_meaning.specs.declared.fixed.Fixed.{Fixed}
+use Rattle.filt_meaning.specs.Seen.{val_of_fixed}
 use Rattle.conf_rules.specs.Seen.{known_of}
-use Rattle.conf_lex.specs.Names.{name_bytes}
+use Rattle.conf_ast.specs.Names.{name_bytes}
 use Rattle.conf_check.proofs.Allowed.{define_free, is_free}
 use Rattle.conf_check.proofs.Growing.{constant_declares, nothing_defined}
 use Rattle.conf_check.proofs.statements.define.Goals as goal

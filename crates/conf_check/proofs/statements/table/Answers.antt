@@ -1,5 +1,5 @@
 use Rattle.std.proofs.Common.{◌≡◌, Bool, true, false, if◌then◌else◌, List, ℕ, ap, sym, ◌∙◌, refl}
-use Rattle.conf_lex.specs.Names.{name_bytes}
+use Rattle.conf_ast.specs.Names.{name_bytes}
 use Rattle.conf_ast.specs.Configurations as conf
 use Rattle.filt_meaning.specs.Names.{same_name}
 use Rattle.conf_rules.specs.Known.{is_declared}

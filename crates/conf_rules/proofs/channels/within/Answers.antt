@@ -1,5 +1,5 @@
 use Rattle.std.proofs.Common.{Option, map, None, ap, ◌∙◌}
-use Rattle.conf_lex.specs.declared.named.Name.{Name}
+use Rattle.conf_ast.specs.declared.named.Name.{Name}
 use Rattle.conf_ast.specs.Configurations.{channel_setting_of}
 use Rattle.conf_rules.specs.Channels.{family_of_table, last_table, settings}
 use Rattle.conf_rules.specs.Refusals.{first_in}

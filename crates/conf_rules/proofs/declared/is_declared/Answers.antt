@@ -1,5 +1,5 @@
 use Rattle.std.proofs.Common.{◌∙◌}
-use Rattle.filt_values.specs.Seen.{val_of_fixed}
+use Rattle.filt_meaning.specs.Seen.{val_of_fixed}
 use Rattle.filt_types.specs.Seen.{signature_of}
 use Rattle.filt_types.proofs.Lookups.{is_looked_up, is_among}
 use Rattle.conf_rules.proofs.Wholes.{or_three}

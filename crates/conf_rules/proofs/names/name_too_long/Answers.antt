@@ -1,5 +1,5 @@
 use Rattle.std.proofs.Common.{Option, sym, ap, ◌∙◌}
-use Rattle.conf_lex.specs.declared.named.Name.{Name}
+use Rattle.conf_ast.specs.declared.named.Name.{Name}
 use Rattle.conf_rules.specs.Protocols.{name_too_long}
 use Rattle.conf_rules.specs.Refusals.{first_in}
 use Rattle.conf_rules.specs.Seen.{known_of}

@@ -1,5 +1,5 @@
 use Rattle.std.proofs.Common.{Option, ap, ◌∙◌, sym}
-use Rattle.conf_lex.specs.declared.named.Name.{Name}
+use Rattle.conf_ast.specs.declared.named.Name.{Name}
 use Rattle.conf_rules.specs.Protocols.{primary_family}
 use Rattle.conf_rules.specs.Seen.{known_of}
 use Rattle.conf_rules.proofs.pipes.primary_family.Goals as goal

@@ -1,6 +1,6 @@
 use Rattle.std.proofs.Common.{◌∙◌, ap, List, map}
 use Rattle.std.proofs.lemmas.List.{take_all}
-use Rattle.filt_tree.specs.declared.tree.TFilter.{TFilter}
+use Rattle.filt_meaning.specs.declared.tree.TFilter.{TFilter}
 use Rattle.conf_system.specs.Seen.{flow_over}
 use Rattle.conf_system.proofs.Coding.{drafted_as, drafts_more}
 use Rattle.conf_system.proofs.code.drafts.Goals as goal

@@ -1,7 +1,7 @@
 use Rattle.std.proofs.Common.{◌≡◌, All, List, map, take}
 use Rattle.filt_compile.specs.Compiles.{AreCompiled}
-use Rattle.filt_tree.specs.Trees.{AreBefore}
-use Rattle.filt_tree.specs.declared.scope.TFunction.{TFunction}
+use Rattle.filt_meaning.specs.Trees.{AreBefore}
+use Rattle.filt_meaning.specs.declared.scope.TFunction.{TFunction}
 use Rattle.conf_system.specs.Seen.{draft_flow, flow_over}
 use Rattle.conf_system.proofs.code.drafts.Given as goal
 

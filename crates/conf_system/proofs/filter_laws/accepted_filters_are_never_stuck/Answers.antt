@@ -1,7 +1,7 @@
 use Rattle.std.proofs.Common.{◌≡◌, [], None}
 use Rattle.attrs.specs.declared.attributes.Attrs.{Attrs}
 use Rattle.attrs.specs.declared.judge.Verdict.TheVariants as verdicts
-use Rattle.filt_values.specs.Values.{Val}
+use Rattle.filt_meaning.specs.Values.{Val}
 use Rattle.filt_meaning.specs.Configuration.{body, judged}
 use Rattle.filt_meaning.specs.Flow.{Rejected, Returned, Stuck, Stopped}
 use Rattle.conf_system.proofs.Unrefused.{holds}

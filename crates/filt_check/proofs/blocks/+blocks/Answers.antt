@@ -1,7 +1,7 @@
 use Rattle.std.proofs.Common.{◌≡◌, ℕ, ◌+◌, ◌++◌, [], ◌∷◌, arith, List, map, Option, drop, ap, refl, sym, ◌∙◌, Vec, Bor}
 use Rattle.std.specs.Global.{Global}
 use Rattle.std.proofs.lemmas.Result.{IfOk-weaker}
-use Rattle.conf_lex.specs.Names.{name_bytes}
+use Rattle.conf_ast.specs.Names.{name_bytes}
 use Rattle.conf_ast.specs.declared.filters.Arm.{Arm}
 use Rattle.conf_ast.specs.declared.filters.Stmt.{Stmt}
 use Rattle.conf_ast.specs.declared.filters.Stmt.TheVariants as s
@@ -9,10 +9,10 @@ use Rattle.conf_ast.specs.Filters.{expression_of, statement_of, statements_of, N
 use Rattle.filt_meaning.specs.Flow as flow
 use Rattle.filt_meaning.specs.Meaning.{act, acts, all_declared, nothing, stop, unset, value}
 use Rattle.filt_meaning.specs.Names.{Around, Context, with_variables}
-use Rattle.filt_tree.specs.Scopes.{context_of, tables_of}
-use Rattle.filt_tree.specs.Trees as trees
-use Rattle.filt_tree.specs.declared.tree.TStmt.{TStmt}
-use Rattle.filt_tree.specs.declared.tree.TStmt.TheVariants as ts
+use Rattle.filt_meaning.specs.Scopes.{context_of, tables_of}
+use Rattle.filt_meaning.specs.Trees as trees
+use Rattle.filt_meaning.specs.declared.tree.TStmt.{TStmt}
+use Rattle.filt_meaning.specs.declared.tree.TStmt.TheVariants as ts
 use Rattle.filt_types.proofs.Cost as k
 use Rattle.filt_types.proofs.Trees as o
 use Rattle.filt_check.specs.declared.collect.Declared.{Declared}

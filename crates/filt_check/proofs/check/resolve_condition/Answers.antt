@@ -1,12 +1,12 @@
 use Rattle.std.proofs.Common.{ℕ, ap, sym, ◌∙◌, Vec}
 use Rattle.std.specs.Global.{Global}
-use Rattle.filt_values.specs.declared.fixed.Fixed.{Fixed}
-use Rattle.filt_tree.specs.declared.scope.TFunction.{TFunction}
+use Rattle.filt_meaning.specs.declared.fixed.Fixed.{Fixed}
+use Rattle.filt_meaning.specs.declared.scope.TFunction.{TFunction}
 use Rattle.conf_ast.specs.Filters.{expression_of}
-use Rattle.filt_values.specs.Values.{Val}
+use Rattle.filt_meaning.specs.Values.{Val}
 use Rattle.filt_meaning.specs.Configuration.{filter_where}
 use Rattle.filt_meaning.specs.Flow.{Run}
-use Rattle.filt_tree.specs.Scopes.{tables_of}
+use Rattle.filt_meaning.specs.Scopes.{tables_of}
 use Rattle.filt_check.specs.Seen.{where_act}
 use Rattle.filt_check.proofs.Lookups.{mapped_length}
 use Rattle.filt_check.proofs.Whole.{filter_same}

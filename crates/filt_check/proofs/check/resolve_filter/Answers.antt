@@ -1,7 +1,7 @@
 use Rattle.std.proofs.Common.{ℕ, sym, ◌∙◌, Vec}
 use Rattle.std.specs.Global.{Global}
-use Rattle.filt_values.specs.declared.fixed.Fixed.{Fixed}
-use Rattle.filt_tree.specs.declared.scope.TFunction.{TFunction}
+use Rattle.filt_meaning.specs.declared.fixed.Fixed.{Fixed}
+use Rattle.filt_meaning.specs.declared.scope.TFunction.{TFunction}
 use Rattle.conf_ast.specs.Filters.{statements_of}
 use Rattle.filt_check.proofs.Lookups.{mapped_length}
 use Rattle.filt_check.proofs.Whole.{filter_same}

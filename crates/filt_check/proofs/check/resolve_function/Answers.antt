@@ -1,13 +1,13 @@
 use Rattle.std.proofs.Common.{ℕ, List, ap, sym, ◌∙◌, Vec, Bor}
 use Rattle.std.specs.Global.{Global}
-use Rattle.filt_values.specs.declared.fixed.Fixed.{Fixed}
+use Rattle.filt_meaning.specs.declared.fixed.Fixed.{Fixed}
 use Rattle.conf_ast.specs.declared.filters.Parameter.{Parameter}
 use Rattle.conf_ast.specs.declared.filters.Stmt.{Stmt}
 use Rattle.conf_ast.specs.Configurations.{routine_of}
 use Rattle.conf_ast.specs.Filters.{statements_of}
 use Rattle.filt_meaning.specs.Configuration.{parameter_names}
 use Rattle.filt_meaning.specs.Meaning.{acts, all_declared, within}
-use Rattle.filt_tree.specs.Scopes.{context_of}
+use Rattle.filt_meaning.specs.Scopes.{context_of}
 use Rattle.filt_check.specs.Seen.{names_of, sorts_in}
 use Rattle.filt_check.proofs.Lookups.{mapped_length}
 use Rattle.filt_check.proofs.Whole.{function_same}

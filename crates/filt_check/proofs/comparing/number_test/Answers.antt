@@ -1,5 +1,5 @@
 use Rattle.std.proofs.Common.{Ok, sym, ap, ◌∙◌}
-use Rattle.filt_values.specs.Values.{Val, VInt}
+use Rattle.filt_meaning.specs.Values.{Val, VInt}
 use Rattle.filt_meaning.specs.Flow.{Run}
 use Rattle.filt_meaning.specs.Meaning.{given, on_two, compare_of}
 use Rattle.filt_check.proofs.Tested.{access_is}

@@ -1,5 +1,5 @@
 use Rattle.std.proofs.Common.{List, ap, ◌∙◌}
-use Rattle.filt_tree.specs.Scopes.{context_of}
+use Rattle.filt_meaning.specs.Scopes.{context_of}
 use Rattle.filt_meaning.specs.Items.{mask_item}
 use Rattle.filt_check.proofs.Sets.{at_stuck, at_turn, at_end, at_start, rest_of, next_at}
 use Rattle.filt_check.proofs.items.all_atoms.Goals as goal

@@ -1,6 +1,6 @@
 use Rattle.std.proofs.Common.{◌≡◌, ℕ, List, drop}
 use Rattle.filt_meaning.specs.Names.{Around}
-use Rattle.filt_tree.specs.Scopes.{context_of}
+use Rattle.filt_meaning.specs.Scopes.{context_of}
 use Rattle.filt_check.specs.Seen.{each}
 use Rattle.filt_check.specs.Seen.{pair_of}
 use Rattle.filt_check.proofs.Sets.{rest_of}

@@ -1,11 +1,11 @@
 use Rattle.std.proofs.Common.{List, Option, option_map, Result, Ok, ap, sym, ◌∙◌, Vec}
 use Rattle.std.specs.Global.{Global}
 use Rattle.filt_sets.specs.declared.mask.MaskItem.{MaskItem}
-use Rattle.filt_values.specs.declared.value.Failure.{Failure}
-use Rattle.filt_values.specs.Operators.{and_then}
-use Rattle.filt_values.specs.Values.{VMask}
+use Rattle.filt_meaning.specs.declared.value.Failure.{Failure}
+use Rattle.filt_meaning.specs.Operators.{and_then}
+use Rattle.filt_meaning.specs.Values.{VMask}
 use Rattle.filt_meaning.specs.Names.{there}
-use Rattle.filt_tree.specs.Scopes.{context_of}
+use Rattle.filt_meaning.specs.Scopes.{context_of}
 use Rattle.filt_check.proofs.Sets.{masks_are}
 use Rattle.filt_check.proofs.items.mask_of.Goals as goal
 

@@ -1,6 +1,6 @@
 use Rattle.std.proofs.Common.{ap, ◌∙◌, Option}
-use Rattle.filt_values.specs.Operators.{and_then, int_in}
-use Rattle.filt_values.specs.Values.{Val}
+use Rattle.filt_meaning.specs.Operators.{and_then, int_in}
+use Rattle.filt_meaning.specs.Values.{Val}
 use Rattle.filt_meaning.specs.Names.{there}
 use Rattle.filt_check.proofs.items.named_number.Goals as goal
 

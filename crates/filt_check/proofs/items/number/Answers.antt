@@ -1,7 +1,7 @@
 use Rattle.std.proofs.Common.{ap, sym, ◌∙◌}
 use Rattle.conf_ast.specs.declared.filters.Num.{Num}
 use Rattle.filt_meaning.specs.Items as written
-use Rattle.filt_tree.specs.Scopes.{context_of}
+use Rattle.filt_meaning.specs.Scopes.{context_of}
 use Rattle.filt_check.proofs.items.number.Goals as goal
 
 pub returns-in-Name : goal.returns-in-Name

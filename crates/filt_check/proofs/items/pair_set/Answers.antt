@@ -1,9 +1,9 @@
 use Rattle.std.proofs.Common.{List, Option, option_map, Result, Ok, ap, sym, ◌∙◌, Vec}
 use Rattle.std.specs.Global.{Global}
 use Rattle.filt_sets.specs.declared.pairs.PairItem.{PairItem}
-use Rattle.filt_values.specs.declared.value.Failure.{Failure}
-use Rattle.filt_values.specs.Operators.{and_then}
-use Rattle.filt_values.specs.Values.{VPairSet}
+use Rattle.filt_meaning.specs.declared.value.Failure.{Failure}
+use Rattle.filt_meaning.specs.Operators.{and_then}
+use Rattle.filt_meaning.specs.Values.{VPairSet}
 use Rattle.filt_meaning.specs.Names.{there}
 use Rattle.filt_check.proofs.items.pair_set.Goals as goal
 

@@ -2,8 +2,8 @@ use Rattle.std.proofs.Common.{◌≡◌, ℕ, List, ◌∙◌}
 use Rattle.std.proofs.lemmas.Result.{IfOk-weaker}
 use Rattle.filt_meaning.specs.Items as written
 use Rattle.filt_meaning.specs.Names.{Around}
-use Rattle.filt_tree.specs.Scopes.{context_of}
-use Rattle.filt_tree.specs.Trees.{set_of_labels}
+use Rattle.filt_meaning.specs.Scopes.{context_of}
+use Rattle.filt_meaning.specs.Trees.{set_of_labels}
 use Rattle.filt_check.proofs.Sets.{ints_of, ints_are, pairs_of, pairs_are, prefixes_of, prefixes_are}
 use Rattle.filt_check.proofs.items.set_of.Goals as goal
 

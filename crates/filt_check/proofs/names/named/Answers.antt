@@ -1,5 +1,5 @@
 use Rattle.std.proofs.Common.{refl}
-use Rattle.filt_tree.specs.Scopes.{context_of, tables_of}
+use Rattle.filt_meaning.specs.Scopes.{context_of, tables_of}
 use Rattle.filt_check.specs.Seen.{names_of}
 use Rattle.filt_check.proofs.Placed.{local_same, constant_same, unknown_same}
 use Rattle.filt_check.proofs.names.named.Goals as goal

@@ -5,12 +5,12 @@ use Rattle.conf_ast.specs.declared.filters.MulOp.{MulOp}
 use Rattle.conf_ast.specs.declared.filters.LogicalOp.{LogicalOp}
 use Rattle.conf_ast.specs.declared.filters.AddOp.{AddOp}
 use Rattle.conf_ast.specs.Filters.{expression_of}
-use Rattle.filt_values.specs.Values.{Val}
+use Rattle.filt_meaning.specs.Values.{Val}
 use Rattle.filt_meaning.specs.Flow.{Run}
 use Rattle.filt_meaning.specs.Meaning.{value}
-use Rattle.filt_tree.specs.Scopes.{context_of, tables_of}
-use Rattle.filt_tree.specs.declared.tree.TExpr.{TExpr}
-use Rattle.filt_tree.specs.Trees as trees
+use Rattle.filt_meaning.specs.Scopes.{context_of, tables_of}
+use Rattle.filt_meaning.specs.declared.tree.TExpr.{TExpr}
+use Rattle.filt_meaning.specs.Trees as trees
 use Rattle.filt_types.proofs.Cost as k
 use Rattle.filt_check.specs.Seen.{names_of, values_in, access_in, accesses_in, parts_in}
 use Rattle.filt_check.proofs.Tested as x

@@ -1,8 +1,8 @@
 use Rattle.std.proofs.Common.{◌≡◌, ◌+◌, ◌++◌, drop}
 use Rattle.filt_types.proofs.Cost as k
 use Rattle.filt_meaning.specs.Names.{Around}
-use Rattle.filt_tree.specs.Scopes.{context_of, tables_of}
-use Rattle.filt_tree.specs.Trees as trees
+use Rattle.filt_meaning.specs.Scopes.{context_of, tables_of}
+use Rattle.filt_meaning.specs.Trees as trees
 use Rattle.filt_check.specs.Seen.{names_of, accesses_in, values_in, parts_in}
 use Rattle.filt_check.proofs.resolve.+resolve.Given as goal
 

@@ -1,5 +1,5 @@
 use Rattle.filt_meaning.specs.Names.{function_of}
-use Rattle.filt_tree.specs.Scopes.{context_of, tables_of}
+use Rattle.filt_meaning.specs.Scopes.{context_of, tables_of}
 use Rattle.filt_check.proofs.Resolving.{called_known, called_unknown}
 use Rattle.filt_check.proofs.resolve.called.Goals as goal
 

@@ -1,10 +1,10 @@
 use Rattle.std.proofs.Common.{List, Option, option_map, ap, sym, ◌∙◌}
 use Rattle.filt_sets.specs.declared.mask.MaskItem.{MaskItem}
-use Rattle.filt_values.specs.declared.fixed.Fixed.TheVariants as fixed
-use Rattle.filt_values.specs.Values.{VMask}
+use Rattle.filt_meaning.specs.declared.fixed.Fixed.TheVariants as fixed
+use Rattle.filt_meaning.specs.Values.{VMask}
 use Rattle.filt_meaning.specs.Meaning.{given}
 use Rattle.filt_meaning.specs.Names.{there}
-use Rattle.filt_tree.specs.Scopes.{tables_of}
+use Rattle.filt_meaning.specs.Scopes.{tables_of}
 use Rattle.filt_check.proofs.Forms as f
 use Rattle.filt_check.proofs.resolve.mask.Goals as goal
 

@@ -1,6 +1,6 @@
 use Rattle.std.proofs.Common.{ap, ◌∙◌}
 use Rattle.filt_meaning.specs.Meaning.{given}
-use Rattle.filt_tree.specs.Scopes.{tables_of}
+use Rattle.filt_meaning.specs.Scopes.{tables_of}
 use Rattle.filt_check.proofs.resolve.set.Goals as goal
 
 pub returns : goal.returns

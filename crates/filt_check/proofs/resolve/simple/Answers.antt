@@ -1,7 +1,7 @@
 use Rattle.std.proofs.Common.{ap, sym, ◌∙◌}
 use Rattle.conf_ast.specs.declared.filters.Atom.{Atom}
 use Rattle.filt_meaning.specs.Meaning.{plain}
-use Rattle.filt_tree.specs.Scopes.{context_of}
+use Rattle.filt_meaning.specs.Scopes.{context_of}
 use Rattle.filt_check.proofs.Resolving.{attribute_same}
 use Rattle.filt_check.proofs.resolve.simple.Goals as goal
 

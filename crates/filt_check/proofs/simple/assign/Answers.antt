@@ -1,6 +1,6 @@
 use Rattle.conf_ast.specs.Filters.{expression_of}
 use Rattle.filt_meaning.specs.Meaning.{value}
-use Rattle.filt_tree.specs.Scopes.{context_of, tables_of}
+use Rattle.filt_meaning.specs.Scopes.{context_of, tables_of}
 use Rattle.filt_check.specs.Seen.{names_of}
 use Rattle.filt_check.proofs.Acting.{assigned}
 use Rattle.filt_check.proofs.simple.assign.Goals as goal

@@ -1,10 +1,10 @@
 use Rattle.std.proofs.Common.{ap, ◌∙◌}
 use Rattle.conf_ast.specs.Filters.{expression_of}
 use Rattle.filt_meaning.specs.Meaning.{method_of, on_two, read, value}
-use Rattle.filt_tree.specs.declared.tree.TExpr.{TExpr}
-use Rattle.filt_tree.specs.declared.tree.TExpr.TheVariants as te
-use Rattle.filt_tree.specs.Trees.{expr}
-use Rattle.filt_tree.specs.Scopes.{context_of, tables_of}
+use Rattle.filt_meaning.specs.declared.tree.TExpr.{TExpr}
+use Rattle.filt_meaning.specs.declared.tree.TExpr.TheVariants as te
+use Rattle.filt_meaning.specs.Trees.{expr}
+use Rattle.filt_meaning.specs.Scopes.{context_of, tables_of}
 use Rattle.filt_check.specs.Seen.{names_of}
 use Rattle.filt_check.proofs.Acting.{assigned, method_same}
 use Rattle.filt_check.proofs.simple.change_by.Goals as goal

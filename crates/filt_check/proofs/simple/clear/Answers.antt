@@ -1,10 +1,10 @@
 use Rattle.std.proofs.Common.{ap, ◌∙◌}
-use Rattle.filt_values.specs.Operators.{emptied_of}
+use Rattle.filt_meaning.specs.Operators.{emptied_of}
 use Rattle.filt_meaning.specs.Meaning.{on_value, read, value}
-use Rattle.filt_tree.specs.declared.tree.TExpr.{TExpr}
-use Rattle.filt_tree.specs.declared.tree.TExpr.TheVariants as te
-use Rattle.filt_tree.specs.Trees.{expr}
-use Rattle.filt_tree.specs.Scopes.{context_of, tables_of}
+use Rattle.filt_meaning.specs.declared.tree.TExpr.{TExpr}
+use Rattle.filt_meaning.specs.declared.tree.TExpr.TheVariants as te
+use Rattle.filt_meaning.specs.Trees.{expr}
+use Rattle.filt_meaning.specs.Scopes.{context_of, tables_of}
 use Rattle.filt_check.specs.Seen.{names_of}
 use Rattle.filt_check.proofs.Acting.{assigned, empty_same}
 use Rattle.filt_check.proofs.simple.clear.Goals as goal

@@ -1,4 +1,4 @@
-use Rattle.filt_tree.specs.Scopes.{context_of, tables_of}
+use Rattle.filt_meaning.specs.Scopes.{context_of, tables_of}
 use Rattle.filt_check.specs.Seen.{names_of}
 use Rattle.filt_check.proofs.Acting.{default_assigned, value_assigned}
 use Rattle.filt_check.proofs.simple.declare.Goals as goal

@@ -1,7 +1,7 @@
 use Rattle.std.proofs.Common.{ap, sym, ◌∙◌}
 use Rattle.conf_ast.specs.declared.filters.Target.{Target}
 use Rattle.filt_meaning.specs.Meaning.{set_target}
-use Rattle.filt_tree.specs.Scopes.{context_of}
+use Rattle.filt_meaning.specs.Scopes.{context_of}
 use Rattle.filt_check.specs.Seen.{names_of}
 use Rattle.filt_check.proofs.simple.target_place.Goals as goal
 

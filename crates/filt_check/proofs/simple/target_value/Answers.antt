@@ -1,7 +1,7 @@
 use Rattle.std.proofs.Common.{ap, sym, ◌∙◌}
 use Rattle.conf_ast.specs.declared.filters.Target.{Target}
 use Rattle.filt_meaning.specs.Meaning.{read, value}
-use Rattle.filt_tree.specs.Scopes.{context_of}
+use Rattle.filt_meaning.specs.Scopes.{context_of}
 use Rattle.filt_check.specs.Seen.{names_of}
 use Rattle.filt_check.proofs.Resolving.{attribute_same}
 use Rattle.filt_check.proofs.simple.target_value.Goals as goal

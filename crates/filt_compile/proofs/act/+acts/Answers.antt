@@ -1,14 +1,14 @@
 use Rattle.std.proofs.Common.{ℕ, ◌+◌, ◌-◌, List, length, take, refl, sym, ap, ◌∙◌, arith}
-use Rattle.filt_values.specs.declared.value.Sort.{Sort}
+use Rattle.filt_meaning.specs.declared.value.Sort.{Sort}
 use Rattle.std.proofs.lemmas.Result.{on_ok_weaker}
 use Rattle.filt_meaning.specs.Flow.{Accepted, Rejected}
 use Rattle.filt_meaning.specs.Meaning.{Act}
-use Rattle.filt_tree.specs.declared.tree.TArm.{TArm}
-use Rattle.filt_tree.specs.declared.tree.TStmt.{TStmt}
-use Rattle.filt_tree.specs.Trees as trees
+use Rattle.filt_meaning.specs.declared.tree.TArm.{TArm}
+use Rattle.filt_meaning.specs.declared.tree.TStmt.{TStmt}
+use Rattle.filt_meaning.specs.Trees as trees
 use Rattle.filt_code.specs.declared.instr.Instr.TheVariants as instrs
 use Rattle.filt_compile.specs.Emits.{ahead, jumps_to}
-use Rattle.filt_tree.proofs.Size as size
+use Rattle.filt_meaning.proofs.Size as size
 use Rattle.filt_compile.proofs.Acting as ac
 use Rattle.filt_compile.proofs.Cases as cs
 use Rattle.filt_compile.proofs.Cost as k

@@ -1,6 +1,6 @@
 use Rattle.std.proofs.Common.{◌≡◌, ◌+◌, ◌≤◌, List, length, drop, take}
 use Rattle.filt_code.specs.declared.instr.Instr.{Instr}
-use Rattle.filt_tree.specs.Trees as trees
+use Rattle.filt_meaning.specs.Trees as trees
 use Rattle.filt_compile.specs.Emits.{ahead, Acts, Bodies, Grows}
 use Rattle.filt_compile.proofs.Cost as k
 use Rattle.filt_compile.proofs.act.+acts.Given as goal

@@ -1,9 +1,9 @@
 use Rattle.std.proofs.Common.{refl, ap}
 use Rattle.std.proofs.lemmas.Result.{on_ok_weaker}
 use Rattle.filt_meaning.specs.Flow.{AtEnd}
-use Rattle.filt_tree.specs.declared.tree.TExpr.{TExpr}
+use Rattle.filt_meaning.specs.declared.tree.TExpr.{TExpr}
 use Rattle.std.proofs.Common.{Option}
-use Rattle.filt_tree.specs.Trees as trees
+use Rattle.filt_meaning.specs.Trees as trees
 use Rattle.filt_code.specs.declared.instr.Instr.TheVariants as instrs
 use Rattle.filt_compile.specs.Emits.{ahead}
 use Rattle.filt_compile.proofs.Acting as ac

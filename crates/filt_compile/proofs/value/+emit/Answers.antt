@@ -3,15 +3,15 @@ use Rattle.std.proofs.lemmas.Result.{on_ok_weaker}
 use Rattle.conf_ast.specs.declared.filters.MulOp.{MulOp}
 use Rattle.conf_ast.specs.declared.filters.LogicalOp.{LogicalOp}
 use Rattle.conf_ast.specs.declared.filters.AddOp.{AddOp}
-use Rattle.filt_tree.specs.declared.tree.TAccess.{TAccess}
-use Rattle.filt_tree.specs.declared.tree.TExpr.{TExpr}
-use Rattle.filt_values.specs.Values.{Val}
+use Rattle.filt_meaning.specs.declared.tree.TAccess.{TAccess}
+use Rattle.filt_meaning.specs.declared.tree.TExpr.{TExpr}
+use Rattle.filt_meaning.specs.Values.{Val}
 use Rattle.filt_meaning.specs.Flow.{Run}
-use Rattle.filt_tree.specs.Trees as trees
+use Rattle.filt_meaning.specs.Trees as trees
 use Rattle.filt_code.specs.declared.instr.OfTwo.TheVariants as of_two
 use Rattle.filt_compile.specs.Emits.{ahead}
 use Rattle.filt_compile.specs.Parts.{part_of, part_of_access, parts_of, Joined, Two}
-use Rattle.filt_tree.proofs.Size as size
+use Rattle.filt_meaning.proofs.Size as size
 use Rattle.filt_compile.proofs.Cost as k
 use Rattle.filt_compile.proofs.Emitting as em
 use Rattle.filt_compile.proofs.Walk as w

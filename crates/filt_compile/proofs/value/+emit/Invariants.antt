@@ -1,5 +1,5 @@
 use Rattle.std.proofs.Common.{◌+◌, ◌≤◌, length, drop}
-use Rattle.filt_tree.specs.Trees as trees
+use Rattle.filt_meaning.specs.Trees as trees
 use Rattle.filt_compile.specs.Emits.{ahead, Makes, PutsAll}
 use Rattle.filt_compile.specs.Parts.{made_by_all, part_of, parts_of}
 use Rattle.filt_compile.proofs.Cost as k

@@ -1,5 +1,5 @@
 use Rattle.std.proofs.Common.{◌≡◌, drop}
-use Rattle.filt_values.specs.Seen.{val_of}
+use Rattle.filt_meaning.specs.Seen.{val_of}
 use Rattle.filt_code.specs.Codes.{arms_before, labels_of}
 use Rattle.filt_route.proofs.Arms as a
 use Rattle.filt_route.proofs.labels.arms_before.Given as goal

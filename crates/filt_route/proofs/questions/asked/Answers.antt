@@ -1,4 +1,4 @@
-use Rattle.filt_values.specs.Values.{VPrefix, VPrefixSet}
+use Rattle.filt_meaning.specs.Values.{VPrefix, VPrefixSet}
 use Rattle.filt_route.proofs.Tests as tests
 use Rattle.filt_route.proofs.questions.asked.Goals as goal
 

@@ -1,6 +1,6 @@
 use Rattle.std.proofs.Common.{false, ◌+◌, ◌∷◌, [], ◌++◌, drop, get_or, List, ap, ◌∙◌, sym}
 use Rattle.conf_ast.specs.declared.filters.Parameter.{Parameter}
-use Rattle.filt_values.specs.declared.value.Sort.{Sort}
+use Rattle.filt_meaning.specs.declared.value.Sort.{Sort}
 use Rattle.filt_rules.specs.Passes.{around_in}
 use Rattle.filt_types.specs.Refusals.{first_in}
 use Rattle.filt_types.specs.Scenes.{Variables, declared}

@@ -2,7 +2,7 @@ use Rattle.std.proofs.Common.{true, false, ◌∷◌, [], ◌++◌, ◌+◌, ari
 use Rattle.conf_ast.specs.declared.filters.Arm.{Arm}
 use Rattle.conf_ast.specs.declared.filters.Stmt.{Stmt}
 use Rattle.conf_ast.specs.Filters.{statement_of, statements_of}
-use Rattle.filt_values.specs.declared.value.Sort.{Sort}
+use Rattle.filt_meaning.specs.declared.value.Sort.{Sort}
 use Rattle.filt_meaning.specs.Names.{sort_of_type}
 use Rattle.filt_types.specs.declared.refusal.Refusal.{Refusal}
 use Rattle.filt_rules.specs.Passes.{around_in, body_seen, else_of, inside}

@@ -1,7 +1,7 @@
 use Rattle.conf_ast.specs.Filters.{expression_of}
 use Rattle.filt_types.specs.Expressions.{judge}
 use Rattle.filt_types.specs.Seen.{scene_in, variables_in}
-use Rattle.filt_values.specs.Sorts.{one_bool}
+use Rattle.filt_meaning.specs.Sorts.{one_bool}
 use Rattle.filt_rules.proofs.Checking.{wanted_first}
 use Rattle.filt_rules.proofs.statements.want_bool.Goals as goal
 

@@ -3,7 +3,7 @@ use Rattle.filt_types.specs.Expressions.{judge}
 use Rattle.filt_types.specs.Seen.{scene_in, variables_in}
 use Rattle.std.proofs.Common.{ap, ◌∙◌}
 use Rattle.filt_types.specs.Statements.{is_dest_word}
-use Rattle.conf_lex.specs.declared.attribute.Constant.{Constant}
+use Rattle.conf_ast.specs.declared.attribute.Constant.{Constant}
 use Rattle.std.proofs.Common.{Option}
 use Rattle.filt_rules.proofs.Checking.{dest_first}
 use Rattle.filt_rules.proofs.targets.assign_dest.Goals as goal

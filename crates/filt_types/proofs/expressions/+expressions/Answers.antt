@@ -5,7 +5,7 @@ use Rattle.conf_ast.specs.declared.filters.Expr.{Expr}
 use Rattle.conf_ast.specs.declared.filters.MulOp.{MulOp}
 use Rattle.conf_ast.specs.declared.filters.LogicalOp.{LogicalOp}
 use Rattle.conf_ast.specs.declared.filters.AddOp.{AddOp}
-use Rattle.filt_values.specs.declared.value.Sort.{Sort}
+use Rattle.filt_meaning.specs.declared.value.Sort.{Sort}
 use Rattle.conf_ast.specs.Filters.{expression_of}
 use Rattle.filt_types.specs.declared.judged.Judged.{Judged}
 use Rattle.filt_types.specs.declared.refusal.Refusal.{Refusal}

@@ -1,7 +1,7 @@
 use Rattle.std.proofs.Common.{◌∙◌, ap, List, ℕ}
-use Rattle.filt_values.specs.Seen.{val_of_fixed}
+use Rattle.filt_meaning.specs.Seen.{val_of_fixed}
 use Rattle.filt_meaning.specs.Names.{named_in}
-use Rattle.filt_tree.specs.Scopes.{constants_in}
+use Rattle.filt_meaning.specs.Scopes.{constants_in}
 use Rattle.filt_types.proofs.Lookups.{lent, looked_up}
 use Rattle.filt_types.proofs.scene.constant_named.Goals as goal
 

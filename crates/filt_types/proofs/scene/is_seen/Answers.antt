@@ -2,7 +2,7 @@ use Rattle.std.proofs.Common.{◌∙◌, rules}
 use Rattle.std.proofs.lemmas.Iterator.{YieldsList-from_slice}
 use Rattle.std.proofs.lemmas.Iterator.Search.{any_from_yields_List}
 use Rattle.filt_types.specs.declared.scene.Variable.{Variable}
-use Rattle.filt_values.specs.Seen.{val_of_fixed}
+use Rattle.filt_meaning.specs.Seen.{val_of_fixed}
 use Rattle.filt_meaning.specs.Names.{same_name}
 use Rattle.filt_types.specs.Seen.{signature_of}
 use Rattle.filt_types.proofs.Lookups.{or_four, is_variable, is_looked_up, is_among}

@@ -1,6 +1,6 @@
 use Rattle.std.proofs.Common.{rules, ℕ, not}
 use Rattle.std.proofs.lemmas.Fn.{filter_same}
-use Rattle.filt_values.specs.Members.{in_ints}
+use Rattle.filt_meaning.specs.Members.{in_ints}
 use Rattle.filt_values.proofs.Filters.{kept_is}
 use Rattle.filt_values.proofs.kept.numbers_not_in_set.Goals as goal
 

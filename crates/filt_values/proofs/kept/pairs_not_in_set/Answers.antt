@@ -1,6 +1,6 @@
 use Rattle.std.proofs.Common.{rules, ℕ, not, refl}
 use Rattle.std.proofs.lemmas.Fn.{filter_same}
-use Rattle.filt_values.specs.Members.{in_pairs}
+use Rattle.filt_meaning.specs.Members.{in_pairs}
 use Rattle.filt_values.proofs.Filters.{clist_left, kept_is}
 use Rattle.filt_values.proofs.kept.pairs_not_in_set.Goals as goal
 

@@ -1,6 +1,6 @@
 use Rattle.std.proofs.Common.{◌≡◌}
 use Rattle.std.specs.Prelude.{drop}
-use Rattle.filt_values.specs.Operators.{with_pairs}
+use Rattle.filt_meaning.specs.Operators.{with_pairs}
 use Rattle.filt_values.proofs.lists.with_pairs.Given as goal
 
 abbrev pub invariant-loop-first : goal.invariant-loop-first

@@ -1,6 +1,6 @@
 use Rattle.std.proofs.Common.{◌≡◌, ◌≤◌, List, length}
 use Rattle.attrs.specs.declared.attributes.Attrs.{Attrs}
-use Rattle.filt_values.specs.Values.{Val}
+use Rattle.filt_meaning.specs.Values.{Val}
 use Rattle.filt_meaning.specs.Flow.{Stopped, Why}
 use Rattle.filt_meaning.specs.Names.{Around}
 use Rattle.filt_vm.specs.Machines.{left_in, resumed}

@@ -3,7 +3,7 @@ use Rattle.filt_code.specs.Codes.{Setting, mean}
 use Rattle.filt_code.specs.Costs.{cost}
 use Rattle.filt_meaning.specs.Flow.{Frame}
 use Rattle.filt_route.specs.Seen.{around_in}
-use Rattle.filt_values.specs.Values.{Val}
+use Rattle.filt_meaning.specs.Values.{Val}
 use Rattle.filt_vm.proofs.passing.passed.Given as goal
 
 abbrev pub invariant-loop-next : goal.invariant-loop-next

@@ -1,5 +1,5 @@
 use Rattle.std.proofs.Common.{◌∙◌, sym, ap, subst, ◌++◌, ℕ, List, map, append-nil}
-use Rattle.filt_tree.specs.declared.tree.TFilter.{TFilter}
+use Rattle.filt_meaning.specs.declared.tree.TFilter.{TFilter}
 use Rattle.conf_system.specs.contracts.passes.PassesJudge.TheImpl as passes
 use Rattle.conf_system.specs.Coded.{IsBefore}
 use Rattle.conf_system.specs.Policies.{Filter}

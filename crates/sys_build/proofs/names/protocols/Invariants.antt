@@ -1,6 +1,6 @@
 use Rattle.std.proofs.Common.{◌≡◌, ℕ, List, map, take}
-use Rattle.filt_tree.specs.declared.scope.Scope.{Scope}
-use Rattle.filt_tree.specs.declared.tree.TFilter.{TFilter}
+use Rattle.filt_meaning.specs.declared.scope.Scope.{Scope}
+use Rattle.filt_meaning.specs.declared.tree.TFilter.{TFilter}
 use Rattle.conf_system.specs.Seen.{protocol_seen}
 use Rattle.sys_build.specs.Names.{named_protocol}
 use Rattle.sys_build.proofs.names.protocols.Given as goal

@@ -1,5 +1,5 @@
 use Rattle.std.proofs.Common.{List, refl, ap}
-use Rattle.filt_values.specs.Values.{Val}
+use Rattle.filt_meaning.specs.Values.{Val}
 use Rattle.filt_vm.specs.Seen.{frames_of, Held}
 use Rattle.filt_vm.proofs.Lists as lists
 use Rattle.filt_vm.proofs.locals.Locals.set.Goals as goal

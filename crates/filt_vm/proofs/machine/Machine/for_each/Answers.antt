@@ -1,6 +1,6 @@
 use Rattle.std.proofs.Common.{refl, length}
 use Rattle.filt_meaning.specs.Meaning.{elements}
-use Rattle.filt_values.specs.Seen.{val_of}
+use Rattle.filt_meaning.specs.Seen.{val_of}
 use Rattle.filt_route.specs.Seen.{around_in, elements_of}
 use Rattle.filt_vm.specs.declared.level.Turn.{Turn}
 use Rattle.filt_vm.proofs.Unstuck as u

@@ -1,6 +1,6 @@
 use Rattle.std.proofs.Common.{refl, arith, ◌∙◌, sym, ◌+◌, length}
 use Rattle.std.proofs.lemmas.Bool.{ltb-true, ltb-false}
-use Rattle.filt_values.specs.Seen.{val_of}
+use Rattle.filt_meaning.specs.Seen.{val_of}
 use Rattle.filt_vm.specs.Levels.{top_elements}
 use Rattle.filt_route.specs.Seen.{around_in}
 use Rattle.filt_vm.specs.declared.level.Turn.{Turn}

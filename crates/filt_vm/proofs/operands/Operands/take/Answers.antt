@@ -1,5 +1,5 @@
 use Rattle.std.proofs.Common.{List, ap, arith}
-use Rattle.filt_values.specs.Values.{Val}
+use Rattle.filt_meaning.specs.Values.{Val}
 use Rattle.filt_vm.specs.Seen.{tops_of, Held}
 use Rattle.filt_vm.proofs.Takes as takes
 use Rattle.filt_vm.proofs.operands.Operands.take.Goals as goal

@@ -3,7 +3,7 @@ use Rattle.std.specs.Prelude.{◌≡◌}
 use Rattle.std.proofs.Common.{sym}
 use Rattle.bits_ip.specs.Address.{width_of}
 use Rattle.bits_ip.specs.declared.address.Addr.{Addr}
-use Rattle.conf_lex.specs.declared.packed_addr.PackedAddr.TheInside.{Inside}
+use Rattle.conf_ast.specs.declared.packed_addr.PackedAddr.TheInside.{Inside}
 
 abbrev pub addr_in : Inside → Addr
 addr_in p = p.net.addr

@@ -1,5 +1,4 @@
-use crate::TStmt;
-use filt_values::{Fixed, Sort};
+use crate::{Fixed, Sort, TStmt};
 use indexmap::{IndexMap, IndexSet};
 
 /// A checked function.

@@ -7,13 +7,13 @@ use Rattle.attrs.specs.declared.judge.Verdict.{Verdict}
 use Rattle.conf_ast.specs.declared.filters.MulOp.{MulOp}
 use Rattle.conf_ast.specs.declared.filters.LogicalOp.{LogicalOp}
 use Rattle.conf_ast.specs.declared.filters.AddOp.{AddOp}
-use Rattle.filt_values.specs.declared.fixed.Fixed.{Fixed}
-use Rattle.filt_values.specs.declared.value.Failure.{Failure}
-use Rattle.filt_values.specs.declared.value.Failure.TheVariants as failures
-use Rattle.filt_values.specs.declared.value.Sort.{Sort}
-use Rattle.filt_values.specs.Operators.{and_then, not_of, pair_of, emptied_of}
-use Rattle.filt_values.specs.Seen.{val_of_fixed}
-use Rattle.filt_values.specs.Values.{Val, VInt, VPair, VIntSet, VPairSet, VPrefixSet, default_of}
+use Rattle.filt_meaning.specs.declared.fixed.Fixed.{Fixed}
+use Rattle.filt_meaning.specs.declared.value.Failure.{Failure}
+use Rattle.filt_meaning.specs.declared.value.Failure.TheVariants as failures
+use Rattle.filt_meaning.specs.declared.value.Sort.{Sort}
+use Rattle.filt_meaning.specs.Operators.{and_then, not_of, pair_of, emptied_of}
+use Rattle.filt_meaning.specs.Seen.{val_of_fixed}
+use Rattle.filt_meaning.specs.Values.{Val, VInt, VPair, VIntSet, VPairSet, VPrefixSet, default_of}
 use Rattle.filt_meaning.specs.Attributes.{with_attribute}
 use Rattle.filt_meaning.specs.Configuration.{given_by, verdict_of}
 use Rattle.filt_meaning.specs.Flow.{Flow, Frame, Run, AtEnd, Accepted, Rejected, Stopped, Stuck}
@@ -21,21 +21,21 @@ use Rattle.filt_meaning.specs.Items.{among}
 use Rattle.filt_meaning.specs.Meaning.{Act, given, on_value, on_two, joined, no_values, one_more, variable_or, called_value, call, attribute, defined, factor_of, term_of, compare_of, property_of, method_of, nothing, stop, in_turn, block, set_variable, set_attributes, unset, choice, arm, cases, loop, give, evaluate}
 use Rattle.filt_meaning.specs.Flow as flow
 use Rattle.filt_meaning.specs.Names.{Around, Doing, there}
-use Rattle.filt_tree.specs.declared.scope.TFunction.{TFunction}
-use Rattle.filt_tree.specs.declared.tree.Labels.{Labels}
-use Rattle.filt_tree.specs.declared.tree.Labels.TheVariants as labels
-use Rattle.filt_tree.specs.declared.tree.TAccess.{TAccess}
-use Rattle.filt_tree.specs.declared.tree.TAccess.TheVariants as accesses
-use Rattle.filt_tree.specs.declared.tree.TArm.{TArm}
-use Rattle.filt_tree.specs.declared.tree.TExpr.{TExpr, fold-TExpr}
-use Rattle.filt_tree.specs.declared.tree.TExpr.TheOpen.{TExpr-F}
-use Rattle.filt_tree.specs.declared.tree.TFilter.{TFilter}
-use Rattle.filt_tree.specs.declared.tree.TStmt.{TStmt, fold-TStmt}
-use Rattle.filt_tree.specs.declared.tree.TStmt.TheOpen.{TStmt-F}
-use Rattle.filt_tree.specs.declared.tree.TTarget.{TTarget}
-use Rattle.filt_tree.specs.declared.tree.TTarget.TheVariants as targets
-use Rattle.filt_tree.specs.declared.tree.TTest.{TTest}
-use Rattle.filt_tree.specs.declared.tree.TTest.TheVariants as tests
+use Rattle.filt_meaning.specs.declared.scope.TFunction.{TFunction}
+use Rattle.filt_meaning.specs.declared.tree.Labels.{Labels}
+use Rattle.filt_meaning.specs.declared.tree.Labels.TheVariants as labels
+use Rattle.filt_meaning.specs.declared.tree.TAccess.{TAccess}
+use Rattle.filt_meaning.specs.declared.tree.TAccess.TheVariants as accesses
+use Rattle.filt_meaning.specs.declared.tree.TArm.{TArm}
+use Rattle.filt_meaning.specs.declared.tree.TExpr.{TExpr, fold-TExpr}
+use Rattle.filt_meaning.specs.declared.tree.TExpr.TheOpen.{TExpr-F}
+use Rattle.filt_meaning.specs.declared.tree.TFilter.{TFilter}
+use Rattle.filt_meaning.specs.declared.tree.TStmt.{TStmt, fold-TStmt}
+use Rattle.filt_meaning.specs.declared.tree.TStmt.TheOpen.{TStmt-F}
+use Rattle.filt_meaning.specs.declared.tree.TTarget.{TTarget}
+use Rattle.filt_meaning.specs.declared.tree.TTarget.TheVariants as targets
+use Rattle.filt_meaning.specs.declared.tree.TTest.{TTest}
+use Rattle.filt_meaning.specs.declared.tree.TTest.TheVariants as tests
 
 -- What trees are run over: what no statement changes, the values of the constants, and what the
 -- functions do, both by their numbers.

@@ -7,20 +7,20 @@ use Rattle.conf_ast.specs.declared.filters.LogicalOp.{LogicalOp}
 use Rattle.conf_ast.specs.declared.filters.MethodKind.{MethodKind}
 use Rattle.conf_ast.specs.declared.filters.Property.{Property}
 use Rattle.conf_ast.specs.declared.filters.AddOp.{AddOp}
-use Rattle.filt_values.specs.declared.value.Sort.{Sort}
-use Rattle.filt_tree.specs.declared.tree.TAccess.{TAccess}
-use Rattle.filt_tree.specs.declared.tree.TAccess.TheVariants as accesses
-use Rattle.filt_tree.specs.declared.tree.TArm.{TArm}
-use Rattle.filt_tree.specs.declared.tree.TTarget.{TTarget}
-use Rattle.filt_tree.specs.declared.tree.TTest.{TTest}
-use Rattle.filt_tree.specs.declared.tree.TExpr.{TExpr, fold-TExpr, the_lemmas as expr_lemmas}
-use Rattle.filt_tree.specs.declared.tree.TExpr.TheVariants as e
-use Rattle.filt_tree.specs.declared.tree.TExpr.TheOpen.{TExpr-F}
-use Rattle.filt_tree.specs.declared.tree.TExpr.TheFolds.{map-TExpr}
-use Rattle.filt_tree.specs.declared.tree.TStmt.{TStmt, fold-TStmt, the_lemmas as stmt_lemmas}
-use Rattle.filt_tree.specs.declared.tree.TStmt.TheVariants as s
-use Rattle.filt_tree.specs.declared.tree.TStmt.TheOpen.{TStmt-F}
-use Rattle.filt_tree.specs.declared.tree.TStmt.TheFolds.{map-TStmt}
+use Rattle.filt_meaning.specs.declared.value.Sort.{Sort}
+use Rattle.filt_meaning.specs.declared.tree.TAccess.{TAccess}
+use Rattle.filt_meaning.specs.declared.tree.TAccess.TheVariants as accesses
+use Rattle.filt_meaning.specs.declared.tree.TArm.{TArm}
+use Rattle.filt_meaning.specs.declared.tree.TTarget.{TTarget}
+use Rattle.filt_meaning.specs.declared.tree.TTest.{TTest}
+use Rattle.filt_meaning.specs.declared.tree.TExpr.{TExpr, fold-TExpr, the_lemmas as expr_lemmas}
+use Rattle.filt_meaning.specs.declared.tree.TExpr.TheVariants as e
+use Rattle.filt_meaning.specs.declared.tree.TExpr.TheOpen.{TExpr-F}
+use Rattle.filt_meaning.specs.declared.tree.TExpr.TheFolds.{map-TExpr}
+use Rattle.filt_meaning.specs.declared.tree.TStmt.{TStmt, fold-TStmt, the_lemmas as stmt_lemmas}
+use Rattle.filt_meaning.specs.declared.tree.TStmt.TheVariants as s
+use Rattle.filt_meaning.specs.declared.tree.TStmt.TheOpen.{TStmt-F}
+use Rattle.filt_meaning.specs.declared.tree.TStmt.TheFolds.{map-TStmt}
 
 -- lists of parts
 pub by_parts : {A B C : Type 0} (f : B → C) (g : A → B) (h : A → C) → ((a : A) → f (g a) ≡ h a) → (xs : List A) → map f (map g xs) ≡ map h xs

@@ -1,12 +1,14 @@
 ghost use Rattle.std.specs.Prelude.{◌≡◌, IfOk, IsTrue, OnErr};
 ghost use Rattle.bits_ip.specs.declared.address.Addr.TheVariants.{V4};
-ghost use Rattle.filt_values.specs.declared.value.ListFailure.TheVariants.{Failed, Memory};
-ghost use Rattle.filt_values.specs.Seen.{val_of};
-ghost use Rattle.filt_values.specs.Sorts.{one_list};
-ghost use Rattle.filt_values.specs.Values.{default_of, sort_of};
+ghost use Rattle.filt_meaning.specs.declared.value.ListFailure.TheVariants.{Failed, Memory};
+ghost use Rattle.filt_meaning.specs.Names.{sort_of_type};
+ghost use Rattle.filt_meaning.specs.Seen.{val_of};
+ghost use Rattle.filt_meaning.specs.Sorts.{one_list};
+ghost use Rattle.filt_meaning.specs.Values.{default_of, sort_of};
 
 use attrs::{Clist, Dest, FilterFault, Kind, Origin, Path};
 use bits_ip::{Addr, OutOfMemory, Prefix};
+use conf_ast::filters::VariableType;
 use filt_sets::{IntSet, Mask, PairSet, PrefixSet};
 use std::alloc::Global;
 use std::marker::Model;
@@ -205,5 +207,25 @@ fn whole_v4() -> Prefix
     match Prefix::make(Addr::V4(0), 0) {
         Ok(net) => net,
         Err(_) => unreachable!(),
+    }
+}
+
+/// The sort of the values of a type.
+pub fn type_sort(variable_type: VariableType) -> Sort
+    ensures { result ≡ sort_of_type variable_type }
+{
+    match variable_type {
+        VariableType::Int => Sort::Int,
+        VariableType::Bool => Sort::Bool,
+        VariableType::Ip => Sort::Ip,
+        VariableType::Prefix => Sort::Prefix,
+        VariableType::Pair => Sort::Pair,
+        VariableType::String => Sort::String,
+        VariableType::Path => Sort::Path,
+        VariableType::Mask => Sort::Mask,
+        VariableType::Clist => Sort::Clist,
+        VariableType::IntSet => Sort::IntSet,
+        VariableType::PairSet => Sort::PairSet,
+        VariableType::PrefixSet => Sort::PrefixSet,
     }
 }

@@ -1,6 +1,6 @@
 ghost use Rattle.std.specs.Prelude.{◌≡◌};
-ghost use Rattle.filt_values.specs.Seen.{val_of, val_of_fixed};
-ghost use Rattle.filt_values.specs.Values.{sort_of};
+ghost use Rattle.filt_meaning.specs.Seen.{val_of, val_of_fixed};
+ghost use Rattle.filt_meaning.specs.Values.{sort_of};
 
 use crate::{Sort, Value};
 use attrs::{Clist, Dest, Kind, Origin, Path};

@@ -14,7 +14,7 @@ pub struct PackedAddr {
 
 impl Model for PackedAddr {
     ghost use Rattle.bits_ip.specs.declared.address.Addr.{Addr};
-    ghost use Rattle.conf_lex.specs.Packed.{addr_in, packed, IsPacked, packed_is};
+    ghost use Rattle.conf_ast.specs.Packed.{addr_in, packed, IsPacked, packed_is};
 
     ghost Value = { Addr };
 

@@ -5,14 +5,14 @@
 -- Example: each variant of `Value` is its own of `Val`, but a list that stands elsewhere is what an
 -- owned one is.
 use Rattle.std.specs.Prelude.{◌≡◌, [], Result, Ok, Err, ⊤}
-use Rattle.filt_values.specs.declared.value.Value.{Value}
-use Rattle.filt_values.specs.declared.value.Value.TheVariants as values
-use Rattle.filt_values.specs.declared.fixed.Fixed.{Fixed}
-use Rattle.filt_values.specs.declared.fixed.Fixed.TheVariants as fixed
-use Rattle.filt_values.specs.declared.value.Failure.{Failure}
-use Rattle.filt_values.specs.declared.value.ListFailure.{ListFailure}
-use Rattle.filt_values.specs.declared.value.ListFailure.TheVariants.{Failed, Memory}
-use Rattle.filt_values.specs.Values.{Val, VInt, VBool, VIp, VPrefix, VPair, VString, VPath, VMask, VClist, VIntSet, VPairSet, VPrefixSet, VSource, VDest, VOrigin}
+use Rattle.filt_meaning.specs.declared.value.Value.{Value}
+use Rattle.filt_meaning.specs.declared.value.Value.TheVariants as values
+use Rattle.filt_meaning.specs.declared.fixed.Fixed.{Fixed}
+use Rattle.filt_meaning.specs.declared.fixed.Fixed.TheVariants as fixed
+use Rattle.filt_meaning.specs.declared.value.Failure.{Failure}
+use Rattle.filt_meaning.specs.declared.value.ListFailure.{ListFailure}
+use Rattle.filt_meaning.specs.declared.value.ListFailure.TheVariants.{Failed, Memory}
+use Rattle.filt_meaning.specs.Values.{Val, VInt, VBool, VIp, VPrefix, VPair, VString, VPath, VMask, VClist, VIntSet, VPairSet, VPrefixSet, VSource, VDest, VOrigin}
 
 abbrev pub val_of : Value → Val
 val_of (values.Int n) = VInt n

@@ -5,13 +5,13 @@
 use Rattle.std.specs.Prelude.{ℕ, List, [], ◌∷◌, ◌++◌, map, Vec}
 use Rattle.std.specs.Global.{Global}
 use Rattle.std.specs.HashMap.{values}
-use Rattle.filt_values.specs.declared.fixed.Fixed.{Fixed}
-use Rattle.filt_values.specs.Seen.{val_of_fixed}
-use Rattle.filt_values.specs.Values.{Val}
+use Rattle.filt_meaning.specs.declared.fixed.Fixed.{Fixed}
+use Rattle.filt_meaning.specs.Seen.{val_of_fixed}
+use Rattle.filt_meaning.specs.Values.{Val}
 use Rattle.filt_meaning.specs.Names.{Around, Context, Doing}
-use Rattle.filt_tree.specs.declared.scope.Scope.{Scope}
-use Rattle.filt_tree.specs.declared.scope.TFunction.{TFunction}
-use Rattle.filt_tree.specs.Trees.{Tables, tables, judged}
+use Rattle.filt_meaning.specs.declared.scope.Scope.{Scope}
+use Rattle.filt_meaning.specs.declared.scope.TFunction.{TFunction}
+use Rattle.filt_meaning.specs.Trees.{Tables, tables, judged}
 
 -- the constants, with their values
 abbrev pub constants_in : Scope → List (List ℕ × Val)

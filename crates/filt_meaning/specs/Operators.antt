@@ -22,10 +22,10 @@ use Rattle.attrs.specs.declared.attributes.Dest.{Dest}
 use Rattle.attrs.specs.declared.attributes.Origin.{Origin}
 use Rattle.attrs.specs.declared.judge.FilterFault.TheVariants as faults
 use Rattle.attrs.specs.Clist.{has_pair, same_pair}
-use Rattle.filt_values.specs.declared.value.Failure.{Failure}
-use Rattle.filt_values.specs.declared.value.Failure.TheVariants.{Fault, Stuck}
-use Rattle.filt_values.specs.Members.{in_ints, in_pairs, in_nets, in_path, covers, host_of, addr_cmp, pair_cmp, same_bool, source_rank, dest_rank, origin_rank}
-use Rattle.filt_values.specs.Values.{Val, VInt, VBool, VIp, VPrefix, VPair, VString, VPath, VMask, VClist, VIntSet, VPairSet, VPrefixSet, VSource, VDest, VOrigin}
+use Rattle.filt_meaning.specs.declared.value.Failure.{Failure}
+use Rattle.filt_meaning.specs.declared.value.Failure.TheVariants.{Fault, Stuck}
+use Rattle.filt_meaning.specs.Members.{in_ints, in_pairs, in_nets, in_path, covers, host_of, addr_cmp, pair_cmp, same_bool, source_rank, dest_rank, origin_rank}
+use Rattle.filt_meaning.specs.Values.{Val, VInt, VBool, VIp, VPrefix, VPair, VString, VPath, VMask, VClist, VIntSet, VPairSet, VPrefixSet, VSource, VDest, VOrigin}
 
 -- ---- what a value is, of one sort
 

@@ -18,8 +18,8 @@ use Rattle.attrs.specs.declared.attributes.Dest.{Dest}
 use Rattle.attrs.specs.declared.attributes.Dest.TheVariants as dests
 use Rattle.attrs.specs.declared.attributes.Origin.{Origin}
 use Rattle.attrs.specs.declared.attributes.Origin.TheVariants as origins
-use Rattle.filt_values.specs.declared.value.Sort.{Sort}
-use Rattle.filt_values.specs.declared.value.Sort.TheVariants as sorts
+use Rattle.filt_meaning.specs.declared.value.Sort.{Sort}
+use Rattle.filt_meaning.specs.declared.value.Sort.TheVariants as sorts
 
 -- A value. Numbers have 32 bits, the parts of a pair 16; a string is its bytes; sets and masks are
 -- their items.

@@ -2,13 +2,13 @@
 use Rattle.std.proofs.Common.{◌≡◌, ℕ, suc, zero, ◌+◌, ◌<◌, List, [], ◌∷◌, map, length, refl, ap, ◌∙◌, arith, Vec}
 use Rattle.std.proofs.Math.ListN.{get_or}
 use Rattle.std.specs.Global.{Global}
-use Rattle.filt_tree.specs.declared.tree.TArm.{TArm}
-use Rattle.filt_tree.specs.declared.tree.TExpr.{TExpr}
-use Rattle.filt_tree.specs.declared.tree.TStmt.{TStmt, fold-TStmt}
-use Rattle.filt_tree.specs.declared.tree.TStmt.TheVariants as s
-use Rattle.filt_tree.specs.declared.tree.TStmt.TheOpen.{TStmt-F}
-use Rattle.filt_tree.proofs.Forms.{by_parts}
-use Rattle.filt_tree.proofs.Forms as forms
+use Rattle.filt_meaning.specs.declared.tree.TArm.{TArm}
+use Rattle.filt_meaning.specs.declared.tree.TExpr.{TExpr}
+use Rattle.filt_meaning.specs.declared.tree.TStmt.{TStmt, fold-TStmt}
+use Rattle.filt_meaning.specs.declared.tree.TStmt.TheVariants as s
+use Rattle.filt_meaning.specs.declared.tree.TStmt.TheOpen.{TStmt-F}
+use Rattle.filt_meaning.proofs.Forms.{by_parts}
+use Rattle.filt_meaning.proofs.Forms as forms
 
 abbrev pub all : List ℕ → ℕ
 all [] = 0

@@ -1,9 +1,9 @@
 // The trees of checked filters. A variable is its place in the frame, a constant or a function its
 // number in the scope.
 
+use crate::{Fixed, Sort};
 use conf_ast::filters::{AddOp, Attribute, CompareOp, LogicalOp, MethodKind, MulOp, Property};
 use filt_sets::{IntSet, PairSet, PrefixSet};
-use filt_values::{Fixed, Sort};
 
 /// What stands behind a dot. `E` is `TExpr`.
 #[derive(Drop)]

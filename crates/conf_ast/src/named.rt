@@ -1,5 +1,5 @@
 ghost use Rattle.std.specs.Prelude.{◌≡◌, take, drop};
-ghost use Rattle.conf_lex.specs.Names.{name_bytes};
+ghost use Rattle.conf_ast.specs.Names.{name_bytes};
 
 /// A name: `at` is the byte of the source at which it begins, `start` and `len` tell its bytes,
 /// which are those between the quotes where it has some.
