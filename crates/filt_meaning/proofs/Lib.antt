@@ -2,3 +2,4 @@ mod Defined
 mod Kept
 pub mod Forms
 pub mod Size
+pub mod Steps

@@ -12,4 +12,5 @@ pub mod Configuration
 pub mod Orders
 pub mod Worked
 pub mod Trees
+pub mod Steps
 pub mod Scopes
