@@ -52,7 +52,8 @@ pub fn each_text_has_an_answer()
 
 /// An accepted script over an accepted configuration can be played: routes tell the numbers of their
 /// protocols, each table that a protocol names is there, each channel is of the family of its table,
-/// and so are the nets of configured routes, a pipe joins two tables of one family, and what a query names is there.
+/// and so are the nets of configured routes, a pipe joins two tables of one family, and what a query
+/// names is there.
 pub fn accepted_scripts_are_setups()
     ensures { (conf text : List ℕ) (system : System) (phases : List (List Line))
         (actors : List (List ℕ)) (queries : List Query) (filters : List Filter) (cells : ℕ)
