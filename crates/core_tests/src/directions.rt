@@ -75,18 +75,19 @@ fn take(alloc: Global, exporter: &mut Exporter<All>, pos: u64, num: u32) -> Resu
     Ok(())
 }
 
-/// The direction takes entries of the sources 3, 2 and 1.
-fn begun(alloc: Global, hasher: RandomState) -> Result<Exporter<All>, Fail>
-    ensures up { IfOk result (λ exporter. is_open exporter.log ≡ true) }
-    ensures every { IfOk result (λ exporter. exporter.spec.every ≡ true) }
-    ensures stays { IfOk result (λ exporter. exporter.flushing ≡ false) }
+/// The direction comes up, and takes entries of the sources 3, 2 and 1.
+fn begin(alloc: Global, exporter: &mut Exporter<All>) -> Result<(), Fail>
+    requires log { exporter.old.log ≡ [] }
+    requires family { exporter.old.spec.family ≡ V4 }
+    ensures up { OnOk result (is_open exporter.new.log ≡ true) }
+    ensures spec { OnOk result (exporter.new.spec ≡ exporter.old.spec) }
+    ensures stays { OnOk result (exporter.new.flushing ≡ false) }
 {
-    let mut exporter = Exporter::make(alloc, hasher, spec(alloc)?, All);
     exporter.up(0)?;
-    take(alloc, &mut exporter, 1, 3)?;
-    take(alloc, &mut exporter, 2, 2)?;
-    take(alloc, &mut exporter, 3, 1)?;
-    Ok(exporter)
+    take(alloc, exporter, 1, 3)?;
+    take(alloc, exporter, 2, 2)?;
+    take(alloc, exporter, 3, 1)?;
+    Ok(())
 }
 
 fn push(exporter: &mut Exporter<All>, outlet: &mut Kept) -> Result<Pushed, Fail>
@@ -140,27 +141,62 @@ fn end(exporter: &mut Exporter<All>, outlet: &mut Kept) -> Result<bool, Fail>
     }
 }
 
+/// What is seen of a direction that pushes, withdraws and goes down.
+#[derive(Clone, Copy, Debug, PartialEq, Eq)]
+struct Course {
+    pushed: [Pushed; 3],
+    withdrawn: [Pushed; 2],
+    /// Behind the first withdrawal.
+    is_flushing: bool,
+    /// Before it went down, and behind that.
+    items: [usize; 2],
+    is_ended: bool,
+    is_flushing_still: bool,
+}
+
+fn observe(exporter: &mut Exporter<All>, outlet: &mut Kept) -> Result<Course, Fail>
+    requires up { is_open exporter.old.log ≡ true }
+    requires stays { exporter.old.flushing ≡ false }
+    requires every { exporter.old.spec.every ≡ true }
+{
+    let pushed = pushed(exporter, outlet)?;
+    let first = withdraw(exporter, outlet)?;
+    let is_flushing = exporter.is_flushing();
+    let second = withdraw(exporter, outlet)?;
+    let before = exporter.items().len();
+    let is_ended = end(exporter, outlet)?;
+    Ok(Course {
+        pushed,
+        withdrawn: [first, second],
+        is_flushing,
+        items: [before, exporter.items().len()],
+        is_ended,
+        is_flushing_still: exporter.is_flushing(),
+    })
+}
+
+fn played(alloc: Global, hasher: RandomState, outlet: &mut Kept) -> Result<Course, Fail> {
+    let mut exporter = Exporter::make(alloc, hasher, spec(alloc)?, All);
+    begin(alloc, &mut exporter)?;
+    observe(&mut exporter, outlet)
+}
+
 #[test]
 fn a_pipe_passes_each_source_and_withdraws_in_order(rt: HostRuntime) -> Result<(), Fail> {
-    let alloc = rt.alloc();
-    let mut exporter = begun(alloc, RandomState::new(&rt)?)?;
     let mut outlet = Kept {
-        sent: Vec::new(alloc),
+        sent: Vec::new(rt.alloc()),
     };
-    let answers = pushed(&mut exporter, &mut outlet)?;
-    assert!(rt; answers == [Pushed::Sent, Pushed::Sent, Pushed::Nothing]);
-    assert_eq!(rt; outlet.sent.as_slice(), [(3, true), (1, true)].as_slice());
-    let first = withdraw(&mut exporter, &mut outlet)?;
-    assert!(rt; exporter.is_flushing());
-    let second = withdraw(&mut exporter, &mut outlet)?;
-    assert!(rt; [first, second] == [Pushed::Sent, Pushed::Sent]);
-    assert_eq!(rt;
-        outlet.sent.as_slice(),
-        [(3, true), (1, true), (1, false), (3, false)].as_slice()
-    );
-    assert!(rt; exporter.items().len() == 3);
-    assert!(rt; end(&mut exporter, &mut outlet)?);
-    assert!(rt; !exporter.is_flushing());
-    assert!(rt; exporter.items().len() == 4);
+    let course = played(rt.alloc(), RandomState::new(&rt)?, &mut outlet)?;
+    let expected = Course {
+        pushed: [Pushed::Sent, Pushed::Sent, Pushed::Nothing],
+        withdrawn: [Pushed::Sent, Pushed::Sent],
+        is_flushing: true,
+        items: [3, 4],
+        is_ended: true,
+        is_flushing_still: false,
+    };
+    assert_eq!(rt; course, expected);
+    let sent = [(3, true), (1, true), (1, false), (3, false)];
+    assert_eq!(rt; outlet.sent.as_slice(), sent.as_slice());
     Ok(())
 }

@@ -88,21 +88,29 @@ fn push(exporter: &mut Exporter<All>, outlet: &mut Refusing) -> Result<Pushed, P
 type Answers = [Result<Pushed, PushFault>; 3];
 
 /// What three pushes answer, the first of which is refused, and whether the log then has the value.
-fn pushed(alloc: Global, hasher: RandomState, fault: PushFault) -> Result<(Answers, bool), Fail> {
-    let mut exporter = Exporter::make(alloc, hasher, spec(alloc), All);
-    begin(alloc, &mut exporter)?;
+fn tried(exporter: &mut Exporter<All>, fault: PushFault) -> (Answers, bool)
+    requires up { is_open exporter.old.log ≡ true }
+    requires stays { exporter.old.flushing ≡ false }
+{
     let mut outlet = Refusing {
         fault,
         refused: false,
     };
-    let first = push(&mut exporter, &mut outlet);
-    let second = push(&mut exporter, &mut outlet);
-    let third = push(&mut exporter, &mut outlet);
+    let first = push(exporter, &mut outlet);
+    let second = push(exporter, &mut outlet);
+    let third = push(exporter, &mut outlet);
     let is_logged = match exporter.items() {
         [LogItem::Up(0), LogItem::Sent(sending)] => sending.at == 1,
         _ => false,
     };
-    Ok(([first, second, third], is_logged))
+    ([first, second, third], is_logged)
+}
+
+/// The same of a channel that comes up.
+fn pushed(alloc: Global, hasher: RandomState, fault: PushFault) -> Result<(Answers, bool), Fail> {
+    let mut exporter = Exporter::make(alloc, hasher, spec(alloc), All);
+    begin(alloc, &mut exporter)?;
+    Ok(tried(&mut exporter, fault))
 }
 
 #[test]

@@ -45,17 +45,51 @@ fn feed(exporter: &mut Exporter<All>, chunk: &Chunk) -> Result<(), Fail>
     Ok(())
 }
 
+/// What is seen of a channel that was fed, is refreshed, and goes down.
+#[derive(Clone, Copy, Debug, PartialEq, Eq)]
+struct Course {
+    is_settled: bool,
+    is_done: bool,
+    is_empty: bool,
+    is_settled_again: bool,
+    items: usize,
+}
+
+fn observe(exporter: &mut Exporter<All>) -> Result<Course, Fail>
+    requires up { is_open exporter.old.log ≡ true }
+    requires stays { exporter.old.flushing ≡ false }
+    requires every { exporter.old.spec.every ≡ false }
+{
+    let is_settled = exporter.is_settled(0);
+    let is_done = exporter.feed_from() == FeedState::Done;
+    let is_empty = exporter.standing()?.is_empty();
+    exporter.refresh()?;
+    let is_settled_again = exporter.is_settled(0);
+    exporter.down()?;
+    Ok(Course {
+        is_settled,
+        is_done,
+        is_empty,
+        is_settled_again,
+        items: exporter.items().len(),
+    })
+}
+
+fn played(alloc: Global, hasher: RandomState) -> Result<Course, Fail> {
+    let mut exporter = Exporter::make(alloc, hasher, spec(alloc), All);
+    feed(&mut exporter, &whole(alloc))?;
+    observe(&mut exporter)
+}
+
 #[test]
 fn a_channel_is_fed_refreshed_and_ended(rt: HostRuntime) -> Result<(), Fail> {
-    let alloc = rt.alloc();
-    let mut exporter = Exporter::make(alloc, RandomState::new(&rt)?, spec(alloc), All);
-    feed(&mut exporter, &whole(alloc))?;
-    assert!(rt; exporter.is_settled(0));
-    assert!(rt; exporter.feed_from() == FeedState::Done);
-    assert!(rt; exporter.standing()?.is_empty());
-    exporter.refresh()?;
-    assert!(rt; !exporter.is_settled(0));
-    exporter.down()?;
-    assert!(rt; exporter.items().len() == 3);
+    let expected = Course {
+        is_settled: true,
+        is_done: true,
+        is_empty: true,
+        is_settled_again: false,
+        items: 3,
+    };
+    assert_eq!(rt; played(rt.alloc(), RandomState::new(&rt)?)?, expected);
     Ok(())
 }

@@ -43,20 +43,10 @@ fn protocol(alloc: Global, name: &str) -> Result<ProtocolReport, Fail> {
     })
 }
 
-/// A phase of p1 and a pipe pc in which nothing came about.
-fn quiet(alloc: Global) -> Result<PhaseReport, Fail> {
-    let mut protocols = one(alloc, protocol(alloc, "p1")?)?;
-    protocols.push(protocol(alloc, "pc")?)?;
-    Ok(PhaseReport {
-        number: 3,
-        protocols,
-        journals: Seq::new(alloc),
-        channels: Seq::new(alloc),
-        replies: Seq::new(alloc),
-        tables: Seq::new(alloc),
-        modes: Seq::new(alloc),
-        exports: Seq::new(alloc),
-    })
+fn text_of(alloc: Global, phase: &PhaseReport) -> Result<Vec<u8>, Fail> {
+    let mut text = Vec::new(alloc);
+    phase_text(phase, &mut text)?;
+    Ok(text)
 }
 
 /// The key of p1's route.
@@ -100,21 +90,30 @@ fn export(alloc: Global, name: &str, pipe: bool) -> Result<ExportReport, Fail> {
     })
 }
 
-#[test]
-fn a_pipe_sends_by_source_and_accepts_nothing(rt: HostRuntime) -> Result<(), Fail> {
-    let alloc = rt.alloc();
-    let mut phase = quiet(alloc)?;
-    phase.modes.push(ModeReport {
-        name: word(alloc, "pc")?,
-        state: ProtocolState::Pipe(true),
-    })?;
+/// The protocol p1, the pipe pc, and the channels of p1 and of the pipe's one direction, both of
+/// which send.
+fn send(alloc: Global, phase: &mut PhaseReport) -> Result<(), Fail> {
+    phase.protocols.push(protocol(alloc, "p1")?)?;
+    phase.protocols.push(protocol(alloc, "pc")?)?;
+    phase
+        .modes
+        .push(mode(alloc, "pc", ProtocolState::Pipe(true))?)?;
     for (name, pipe) in [("p1", false), ("pc.export", true)] {
         phase.channels.push(log(alloc, name, pipe)?)?;
         phase.exports.push(export(alloc, name, pipe)?)?;
     }
-    let mut text = Vec::new(alloc);
-    phase_text(&phase, &mut text)?;
-    assert_eq!(rt; text.as_slice(), PHASE.as_bytes());
+    Ok(())
+}
+
+fn sending_text(alloc: Global) -> Result<Vec<u8>, Fail> {
+    let mut phase = empty(alloc, 3);
+    send(alloc, &mut phase)?;
+    text_of(alloc, &phase)
+}
+
+#[test]
+fn a_pipe_sends_by_source_and_accepts_nothing(rt: HostRuntime) -> Result<(), Fail> {
+    assert_eq!(rt; sending_text(rt.alloc())?.as_slice(), PHASE.as_bytes());
     Ok(())
 }
 
@@ -135,38 +134,83 @@ const DISABLED: &str = "phase 2\n\
     \texport a.export down\n\
     \texport a.import down\n";
 
-/// The protocols s and a, and a table t1 that a emptied.
-fn emptied(alloc: Global) -> Result<PhaseReport, Fail> {
-    let mut protocols = one(alloc, protocol(alloc, "s")?)?;
+/// A pipe that is disabled.
+fn disabled(alloc: Global) -> Result<ProtocolReport, Fail> {
     let mut pipe = protocol(alloc, "a")?;
     pipe.ops.push(Done {
         op: Op::Disable,
         over: false,
     })?;
-    protocols.push(pipe)?;
+    Ok(pipe)
+}
+
+/// The journal of t1, from which a route is withdrawn.
+fn journal(alloc: Global) -> Result<JournalReport, Fail> {
     let gone = Change {
         net: net()?,
         num: 0,
         new: None,
     };
-    let journal = JournalReport {
+    Ok(JournalReport {
         table: word(alloc, "t1")?,
         from: 1,
         entries: one(alloc, gone)?,
-    };
-    let table = TableReport {
+    })
+}
+
+fn table(alloc: Global) -> Result<TableReport, Fail> {
+    Ok(TableReport {
         name: word(alloc, "t1")?,
         rows: Seq::new(alloc),
-    };
-    Ok(PhaseReport {
-        number: 2,
-        protocols,
-        journals: one(alloc, journal)?,
+    })
+}
+
+/// A phase without protocols in which nothing came about.
+fn empty(alloc: Global, number: u64) -> PhaseReport {
+    PhaseReport {
+        number,
+        protocols: Seq::new(alloc),
+        journals: Seq::new(alloc),
         channels: Seq::new(alloc),
         replies: Seq::new(alloc),
-        tables: one(alloc, table)?,
+        tables: Seq::new(alloc),
         modes: Seq::new(alloc),
         exports: Seq::new(alloc),
+    }
+}
+
+/// The protocols s and a, and a table t1 that a emptied.
+fn end(alloc: Global, phase: &mut PhaseReport) -> Result<(), Fail> {
+    phase.protocols.push(protocol(alloc, "s")?)?;
+    phase.protocols.push(disabled(alloc)?)?;
+    phase.journals.push(journal(alloc)?)?;
+    phase.tables.push(table(alloc)?)?;
+    phase
+        .modes
+        .push(mode(alloc, "s", ProtocolState::Imports(Mode::Up, 1))?)?;
+    phase
+        .modes
+        .push(mode(alloc, "a", ProtocolState::Pipe(false))?)?;
+    for name in ["a.export", "a.import"] {
+        phase.channels.push(down(alloc, name)?)?;
+        phase.exports.push(closed(alloc, name)?)?;
+    }
+    Ok(())
+}
+
+fn down(alloc: Global, name: &str) -> Result<ChannelReport, Fail> {
+    Ok(ChannelReport {
+        name: word(alloc, name)?,
+        pipe: true,
+        items: one(alloc, LogItem::Down)?,
+    })
+}
+
+fn closed(alloc: Global, name: &str) -> Result<ExportReport, Fail> {
+    Ok(ExportReport {
+        name: word(alloc, name)?,
+        pipe: true,
+        standing: None,
     })
 }
 
@@ -177,30 +221,14 @@ fn mode(alloc: Global, name: &str, state: ProtocolState) -> Result<ModeReport, F
     })
 }
 
+fn ended_text(alloc: Global) -> Result<Vec<u8>, Fail> {
+    let mut phase = empty(alloc, 2);
+    end(alloc, &mut phase)?;
+    text_of(alloc, &phase)
+}
+
 #[test]
 fn a_disabled_pipe_is_down_both_ways(rt: HostRuntime) -> Result<(), Fail> {
-    let alloc = rt.alloc();
-    let mut phase = emptied(alloc)?;
-    phase
-        .modes
-        .push(mode(alloc, "s", ProtocolState::Imports(Mode::Up, 1))?)?;
-    phase
-        .modes
-        .push(mode(alloc, "a", ProtocolState::Pipe(false))?)?;
-    for name in ["a.export", "a.import"] {
-        phase.channels.push(ChannelReport {
-            name: word(alloc, name)?,
-            pipe: true,
-            items: one(alloc, LogItem::Down)?,
-        })?;
-        phase.exports.push(ExportReport {
-            name: word(alloc, name)?,
-            pipe: true,
-            standing: None,
-        })?;
-    }
-    let mut text = Vec::new(alloc);
-    phase_text(&phase, &mut text)?;
-    assert_eq!(rt; text.as_slice(), DISABLED.as_bytes());
+    assert_eq!(rt; ended_text(rt.alloc())?.as_slice(), DISABLED.as_bytes());
     Ok(())
 }
