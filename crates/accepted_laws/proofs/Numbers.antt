@@ -8,8 +8,8 @@ use Rattle.conf_ast.specs.declared.kind.ConfKind.{ConfKind}
 use Rattle.conf_ast.specs.declared.kind.ConfKind.TheVariants as kinds
 use Rattle.conf_ast.specs.Configurations as conf
 use Rattle.filt_meaning.specs.Names.{same_name}
-use Rattle.conf_rules.specs.Known.{Known, filter, is_filter, place_in}
-use Rattle.conf_rules.specs.Refusals.{refused_if}
+use Rattle.conf_names.specs.Known.{Known, filter, is_filter, place_in}
+use Rattle.conf_names.specs.Refusals.{refused_if}
 use Rattle.conf_rules.specs.Statements.{is_master}
 use Rattle.conf_check.specs.Behind.{at_start, behind, behind_one, with_table}
 use Rattle.conf_check.specs.Checked.{filter_number, filter_source, filter_sources}

@@ -6,7 +6,7 @@ use Rattle.conf_ast.specs.Configurations.{Passing, PassAll, PassNone, PassByFilt
 use Rattle.conf_ast.specs.Filters.{Statements}
 use Rattle.filt_meaning.specs.Configuration.{filter_where}
 use Rattle.conf_rules.specs.Channels.{channel, passing, setting, settings, settings_of}
-use Rattle.conf_rules.specs.Known.{Known}
+use Rattle.conf_names.specs.Known.{Known}
 use Rattle.conf_rules.specs.Protocols.{bgp_channels, bgp_setting, bgp_settings, last_peer, pipe_setting, pipe_settings, static_channels, static_routes, static_settings}
 use Rattle.conf_rules.specs.Statements.{refusals}
 use Rattle.conf_check.specs.Behind.{at_start, behind}

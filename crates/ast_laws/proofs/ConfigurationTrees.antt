@@ -10,10 +10,10 @@ use Rattle.conf_lex.specs.Grammar.{Epsilon, Seq, Repeat, ParseTree, NoWords, Pai
 use Rattle.conf_lex.specs.Leaves.{symbol_leaf, name_leaf, between}
 use Rattle.conf_ast.specs.declared.filters.Parameter.{Parameter}
 use Rattle.conf_ast.specs.declared.filters.VariableType.{VariableType}
-use Rattle.filt_syntax.specs.Syntax.{rule, optional, semicolon}
-use Rattle.filt_syntax.specs.Levels.{Form}
-use Rattle.filt_syntax.specs.ItemView.{num_tree, items_tree, mask_items_tree}
-use Rattle.filt_syntax.specs.StatementView.{semicolon_leaf, row_after, row_tree, nth, beyond}
+use Rattle.expr_syntax.specs.Syntax.{rule, optional, semicolon}
+use Rattle.expr_syntax.specs.Levels.{Form}
+use Rattle.expr_syntax.specs.ItemView.{num_tree, items_tree, mask_items_tree}
+use Rattle.expr_syntax.specs.Rows.{semicolon_leaf, row_after, row_tree, nth, beyond}
 use Rattle.conf_ast.specs.declared.configurations.BgpOption.{BgpOption}
 use Rattle.conf_ast.specs.declared.configurations.BgpOption.TheVariants as bgp_options
 use Rattle.conf_ast.specs.declared.configurations.Channel.{Channel}
@@ -30,8 +30,9 @@ use Rattle.conf_ast.specs.declared.configurations.Statement.{Statement}
 use Rattle.conf_ast.specs.declared.configurations.Statement.TheVariants as config_statements
 use Rattle.conf_ast.specs.declared.configurations.StaticOption.{StaticOption}
 use Rattle.conf_ast.specs.declared.configurations.StaticOption.TheVariants as static_options
-use Rattle.conf_tree.specs.Syntax as forms
-use Rattle.conf_tree.specs.View.{placed_leaf, attribute_leaf, switch_leaf, family_leaf, maybe, address_leaf, policy_tree, limit_tree, hop_symbol, table_tree, channel_option_tree, ended_tree, ended_row, channel_options_tree, channel_tree, route_tree, static_option_tree, as_tree, transport_tree, default_tree, bgp_option_tree, pipe_option_tree, value_tree, pair_tree, literal_tree, parameters_tree, gives_tree, protocol_end_tree, protocol_tree, device_tree, of_protocol, statement_tree, statements_tree}
+use Rattle.conf_syntax.specs.Syntax as forms
+use Rattle.conf_tree.specs.View.{policy_tree, table_tree, channel_option_tree, channel_options_tree, channel_tree, route_tree, static_option_tree, default_tree, bgp_option_tree, pipe_option_tree, parameters_tree, gives_tree, protocol_end_tree, protocol_tree, device_tree, of_protocol, statement_tree, statements_tree}
+use Rattle.conf_syntax.specs.View.{placed_leaf, attribute_leaf, switch_leaf, family_leaf, maybe, address_leaf, limit_tree, hop_symbol, ended_tree, ended_row, as_tree, transport_tree, value_tree, pair_tree, literal_tree}
 use Rattle.conf_ast.specs.Configurations.{Value, NumberValue, TextValue, AddressValue, PrefixValue, TrueValue, FalseValue, ValueOf, PairValue, SetValue, MaskValue, value_of, Passing, PassAll, PassNone, PassByFilter, PassByBlock, PassWhere, passing_of, ChannelSetting, ChannelTable, ChannelImport, ChannelExport, ChannelPreference, ChannelLimit, ChannelNextHop, channel_setting_of, FamilyChannel, channel_of, channel_settings_of, StaticSetting, StaticChannel, StaticRoute, static_setting_of, BgpSetting, BgpChannel, BgpLocal, BgpNeighbor, BgpMedMetric, BgpInterpretCommunities, BgpDefaultMed, BgpDefaultLocalPref, BgpTransport, bgp_setting_of, PipeSetting, PipeTable, PipePeerTable, PipeImport, PipeExport, pipe_setting_of, Instance, instance_of, Declaration, RouterId, Log, Define, Table, DefineFunction, DefineFilter, Device, Static, Bgp, Pipe, declaration_of, configuration_of}
 use Rattle.ast_laws.proofs.Equations.{two, two_maps}
 use Rattle.ast_laws.proofs.ExpressionsBack.{seen, expression_again}

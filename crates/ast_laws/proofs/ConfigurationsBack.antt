@@ -19,10 +19,10 @@ use Rattle.conf_ast.specs.declared.filters.Parameter.{Parameter}
 use Rattle.conf_ast.specs.declared.filters.Separator.{Separator}
 use Rattle.conf_ast.specs.declared.filters.Separator.TheVariants as separators
 use Rattle.conf_ast.specs.declared.filters.VariableType.{VariableType}
-use Rattle.filt_syntax.specs.Syntax.{rule, optional, semicolon}
-use Rattle.filt_syntax.specs.Levels.{Form}
-use Rattle.filt_syntax.specs.ItemView.{num_tree}
-use Rattle.filt_syntax.specs.StatementView.{row_after, row_tree}
+use Rattle.expr_syntax.specs.Syntax.{rule, optional, semicolon}
+use Rattle.expr_syntax.specs.Levels.{Form}
+use Rattle.expr_syntax.specs.ItemView.{num_tree}
+use Rattle.expr_syntax.specs.Rows.{row_after, row_tree}
 use Rattle.conf_ast.specs.declared.configurations.Action.{Action}
 use Rattle.conf_ast.specs.declared.configurations.Action.TheVariants as actions
 use Rattle.conf_ast.specs.declared.configurations.Address.{Address}
@@ -53,8 +53,9 @@ use Rattle.conf_ast.specs.declared.configurations.Switch.TheVariants as switches
 use Rattle.conf_ast.specs.declared.configurations.Transport.{Transport}
 use Rattle.conf_ast.specs.declared.configurations.Transport.TheVariants as transports
 use Rattle.conf_tree.specs.Read.{IsConfigText}
-use Rattle.conf_tree.specs.Syntax as forms
-use Rattle.conf_tree.specs.View.{switch_symbol, family_symbol, maybe, address_leaf, switch_leaf, policy_tree, action_symbol, action_tree, limit_tree, hop_symbol, channel_option_tree, ended_tree, ended_row, channel_options_tree, channel_tree, target_tree, static_option_tree, transport_tree, bgp_option_tree, pipe_option_tree, literal_tree, separator_symbol, next_parameter, parameters_after, first_parameter, parameters_tree, gives_tree, function_tree, semicolon_tree, protocol_tree, statement_tree, statements_tree}
+use Rattle.conf_syntax.specs.Syntax as forms
+use Rattle.conf_tree.specs.View.{policy_tree, channel_option_tree, channel_options_tree, channel_tree, static_option_tree, bgp_option_tree, pipe_option_tree, separator_symbol, next_parameter, parameters_after, first_parameter, parameters_tree, gives_tree, function_tree, protocol_tree, statement_tree, statements_tree}
+use Rattle.conf_syntax.specs.View.{switch_symbol, family_symbol, maybe, address_leaf, switch_leaf, action_symbol, action_tree, limit_tree, hop_symbol, ended_tree, ended_row, target_tree, transport_tree, literal_tree, semicolon_tree}
 use Rattle.conf_ast.specs.Filters.{Expression, Statements}
 use Rattle.conf_ast.specs.Configurations.{Value, NumberValue, TextValue, AddressValue, PrefixValue, TrueValue, FalseValue, ValueOf, PairValue, SetValue, MaskValue, value_of, Passing, PassAll, PassNone, PassByFilter, PassByBlock, PassWhere, passing_of, ChannelSetting, ChannelTable, ChannelImport, ChannelExport, ChannelPreference, ChannelLimit, ChannelNextHop, channel_setting_of, FamilyChannel, channel_of, channel_settings_of, StaticSetting, StaticChannel, StaticRoute, static_setting_of, BgpSetting, BgpChannel, BgpLocal, BgpNeighbor, BgpMedMetric, BgpInterpretCommunities, BgpDefaultMed, BgpDefaultLocalPref, BgpTransport, bgp_setting_of, PipeSetting, PipeTable, PipePeerTable, PipeImport, PipeExport, pipe_setting_of, Instance, instance_of, Routine, routine_of, Declaration, RouterId, Log, Define, Table, DefineFunction, DefineFilter, Device, Static, Bgp, Pipe, declaration_of, configuration_of}
 use Rattle.ast_laws.proofs.Equations.{two, three, append_nil}

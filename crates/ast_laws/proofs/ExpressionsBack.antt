@@ -22,15 +22,15 @@ use Rattle.conf_ast.specs.declared.filters.Expr.TheOpen.{Expr-F}
 use Rattle.conf_ast.specs.declared.filters.Expr.TheViews.{roll-Expr}
 use Rattle.conf_ast.specs.declared.filters.Expr.TheFolds.{map-Expr, fold-roll-Expr, ind-Expr}
 use Rattle.conf_ast.specs.declared.filters.Expr.TheShapes.{former-Expr-Postfix-1-at-4}
-use Rattle.filt_syntax.specs.Syntax.{rule, primary, postfix, unary, product, sum, comparison, expr, listed, optional}
-use Rattle.filt_syntax.specs.Levels.{Form}
-use Rattle.filt_syntax.specs.Syntax as forms
-use Rattle.filt_syntax.specs.View.{Derivations, derivations, derivations_step, as_primary, as_postfix, as_unary, as_product, as_sum, as_comparison, as_expr, chain_of, parts_after, listed_after, arguments_tree, listed_tree, access_part, mul_op_part, add_op_part, logical_op_part, property_tree, method_tree, mul_op_symbol, add_op_symbol, logical_op_symbol, alone, atom_tree, atom_word, named_tree, group_tree, set_tree, mask_tree, defined_tree, method_call_tree, in_parentheses, second_part, compare_op_symbol}
+use Rattle.expr_syntax.specs.Syntax.{rule, primary, postfix, unary, product, sum, comparison, expr, listed, optional}
+use Rattle.expr_syntax.specs.Levels.{Form}
+use Rattle.expr_syntax.specs.Syntax as forms
+use Rattle.expr_syntax.specs.View.{Derivations, derivations, derivations_step, as_primary, as_postfix, as_unary, as_product, as_sum, as_comparison, as_expr, chain_of, parts_after, listed_after, arguments_tree, listed_tree, access_part, mul_op_part, add_op_part, logical_op_part, property_tree, method_tree, mul_op_symbol, add_op_symbol, logical_op_symbol, alone, atom_tree, atom_word, named_tree, group_tree, set_tree, mask_tree, defined_tree, method_call_tree, in_parentheses, second_part, compare_op_symbol}
 use Rattle.conf_ast.specs.Filters.{Expression, Plain, Named, Called, Grouped, Paired, SetOf, MaskOf, IsDefined, MethodOf, PropertyOf, Changed, Negated, Multiplied, Added, Compared, Joined, Expressions, NoExpressions, AndExpressions, expressions, accessed, multiplied, added, joined, expression_step, expression_of}
 use Rattle.ast_laws.proofs.Equations.{two, two_maps, three_maps}
 use Rattle.ast_laws.proofs.WordsBack.{place_of, name_from, attribute_from, simple_from, property_from, method_from, mul_op_from, add_op_from, compare_op_from, logical_op_from, attribute_back, simple_back, property_back, method_back, mul_op_back, add_op_back, compare_op_back, logical_op_back}
 use Rattle.ast_laws.proofs.ItemsBack.{items_from, mask_from, items_back, mask_back}
-use Rattle.filt_syntax.specs.ItemView.{items_tree, mask_items_tree}
+use Rattle.expr_syntax.specs.ItemView.{items_tree, mask_items_tree}
 
 -- ---- back from trees
 

@@ -16,7 +16,7 @@ use Rattle.conf_ast.specs.declared.filters.Item.TheVariants as items
 use Rattle.conf_ast.specs.declared.filters.MaskAtom.{MaskAtom}
 use Rattle.conf_ast.specs.declared.filters.MaskAtom.TheVariants as mask_atoms
 use Rattle.conf_ast.specs.declared.filters.MaskItem.{MaskItem}
-use Rattle.filt_syntax.specs.ItemView.{num_word, high_tree, num_range_tree, pair_part_tree, lengths_part, item_tree, items_after, items_tree, mask_atom_tree, many_tree, mask_item_tree, mask_after, mask_items_tree}
+use Rattle.expr_syntax.specs.ItemView.{num_word, high_tree, num_range_tree, pair_part_tree, lengths_part, item_tree, items_after, items_tree, mask_atom_tree, many_tree, mask_item_tree, mask_after, mask_items_tree}
 use Rattle.ast_laws.proofs.Equations.{append_nil}
 use Rattle.ast_laws.proofs.WordsBack.{place_of, name_from}
 

@@ -25,11 +25,13 @@ use Rattle.conf_ast.specs.declared.filters.Stmt.TheFolds.{map-Stmt, fold-roll-St
 use Rattle.conf_ast.specs.declared.filters.Target.{Target}
 use Rattle.conf_ast.specs.declared.filters.Target.TheVariants as targets
 use Rattle.conf_ast.specs.declared.filters.VariableType.{VariableType}
-use Rattle.filt_syntax.specs.Syntax.{rule, expr, stmt, label, arm_part, listed, optional, many, block}
-use Rattle.filt_syntax.specs.Levels.{Form}
-use Rattle.filt_syntax.specs.ItemView.{label_tree}
-use Rattle.filt_syntax.specs.View.{derivations, method_word, expr_tree, listed_tree, arguments_tree, method_tree, in_parentheses}
-use Rattle.filt_syntax.specs.StatementView.{stmt_step, stmt_tree, row_after, row_tree, as_part, as_label, body_after, ArmParts, arms_after, arms_row, seen_arm, initial_tree, result_tree, assign_tree, change_stmt_tree, block_view, semicolon_leaf, type_tree, nth, beyond, of_name, of_attribute_tree, block_tree, empty_tree, unset_tree, else_tree, verdict_tree}
+use Rattle.expr_syntax.specs.Syntax.{rule, expr, stmt, label, arm_part, listed, optional, many, block}
+use Rattle.expr_syntax.specs.Levels.{Form}
+use Rattle.expr_syntax.specs.ItemView.{label_tree}
+use Rattle.expr_syntax.specs.View.{derivations, method_word, expr_tree, listed_tree, arguments_tree, method_tree, in_parentheses}
+use Rattle.filt_syntax.specs.StatementView.{stmt_step, stmt_tree, as_part, as_label, body_after, ArmParts, arms_after, arms_row, seen_arm, initial_tree, result_tree, assign_tree, change_stmt_tree, block_view, of_name, of_attribute_tree, block_tree, empty_tree, unset_tree, else_tree, verdict_tree}
+use Rattle.expr_syntax.specs.Rows.{row_after, row_tree, semicolon_leaf, nth, beyond}
+use Rattle.expr_syntax.specs.Types.{type_tree}
 use Rattle.conf_ast.specs.Filters.{Expression, Expressions, NoExpressions, AndExpressions, expression_of, expressions_of, Statement, Braced, Nothing, Declare, Assign, ChangeBy, Clear, Unset, If, IfElse, Case, CaseElse, For, Accept, Reject, Return, Print, Printn, Call, Statements, NoStatements, AndStatements, Arms, NoArms, AndArms, statements, arms, statement_step, statement_of, statements_of, block_of, changed}
 use Rattle.ast_laws.proofs.Equations.{two, three, three_maps}
 use Rattle.ast_laws.proofs.WordsBack.{place_of, name_from, attribute_from, method_from, attribute_back, method_back}

@@ -5,7 +5,7 @@ use Rattle.conf_lex.specs.declared.word.Word.TheVariants as words
 use Rattle.conf_lex.specs.Grammar.{ParseTree, Leaf, Pair, Left, Right}
 use Rattle.conf_ast.specs.declared.filters.VariableType.{VariableType}
 use Rattle.conf_ast.specs.declared.filters.VariableType.TheVariants as types
-use Rattle.filt_syntax.specs.StatementView.{type_tree}
+use Rattle.expr_syntax.specs.Types.{type_tree}
 
 abbrev pub type_from : ParseTree → VariableType
 type_from (Left (Leaf (words.Symbol sym.Bool))) = types.Bool

@@ -14,13 +14,14 @@ use Rattle.filt_meaning.specs.Names.{same_name}
 use Rattle.filt_types.specs.Items.{is_none}
 use Rattle.filt_types.specs.Scenes as scenes
 use Rattle.filt_types.specs.Refused as filters
-use Rattle.conf_rules.specs.declared.refusal.Refusal.{Refusal}
+use Rattle.conf_names.specs.declared.refusal.Refusal.{Refusal}
 use Rattle.conf_rules.specs.Channels.{one_channel}
-use Rattle.conf_rules.specs.Constants.{value}
-use Rattle.conf_rules.specs.Known as of
-use Rattle.conf_rules.specs.Known.{Known, is_declared}
+use Rattle.conf_names.specs.Constants.{value}
+use Rattle.conf_names.specs.Known as of
+use Rattle.conf_names.specs.Known.{Known, is_declared}
+use Rattle.conf_names.specs.Names as of_names
 use Rattle.conf_rules.specs.Protocols as p
-use Rattle.conf_rules.specs.Refusals.{first_in, of_filters, precedes, refused_if}
+use Rattle.conf_names.specs.Refusals.{first_in, of_filters, precedes, refused_if}
 use Rattle.conf_rules.specs.Statements as rules
 use Rattle.conf_check.specs.Seen.{HasOne, HasPeer}
 use Rattle.conf_check.proofs.Names.{or_left, or_right}
@@ -94,23 +95,23 @@ table_free known at f n other h = declaring_free known n (nil_left (of.declaring
 
 -- ---- protocols
 
-pub names_free : (known : Known) (at : ℕ) (n : Option Name) (names : List (List ℕ)) → p.declaring known at n names ≡ [] → list_any (is_declared known) names ≡ false
-names_free known at n names h = not_refused (list_any (is_declared known) names) (p.place_of at n) _ (nil_left _ (p.name_too_long known n) (nil_left _ _ h))
+pub names_free : (known : Known) (at : ℕ) (n : Option Name) (names : List (List ℕ)) → of_names.declaring known at n names ≡ [] → list_any (is_declared known) names ≡ false
+names_free known at n names h = not_refused (list_any (is_declared known) names) (of_names.place_of at n) _ (nil_left _ (of_names.name_too_long known n) (nil_left _ _ h))
 
 few_by : (b : Bool) (at : ℕ) (kind : ConfKind) → refused_if (not b) at kind ≡ [] → b ≡ true
 few_by true at kind h = refl
 few_by false at kind h = absurd (omega (arith, ap (λ (l : List Refusal). length l) h))
 
-pub protocols_few : (known : Known) (at : ℕ) (n : Option Name) (names : List (List ℕ)) → p.declaring known at n names ≡ [] → known.protocols < 256
-protocols_few known at n names h = ltb-true known.protocols 256 (few_by (nat_lt known.protocols 256) (p.place_of at n) _ (nil_right _ _ h))
+pub protocols_few : (known : Known) (at : ℕ) (n : Option Name) (names : List (List ℕ)) → of_names.declaring known at n names ≡ [] → known.protocols < 256
+protocols_few known at n names h = ltb-true known.protocols 256 (few_by (nat_lt known.protocols 256) (of_names.place_of at n) _ (nil_right _ _ h))
 
-pub static_declaring : (known : Known) (x : Instance StaticSetting) → rules.refusals known (conf.Static x) ≡ [] → p.declaring known x.at x.name (p.own_name known p.static_stem x.name ∷ []) ≡ []
+pub static_declaring : (known : Known) (x : Instance StaticSetting) → rules.refusals known (conf.Static x) ≡ [] → of_names.declaring known x.at x.name (of_names.own_name known of_names.static_stem x.name ∷ []) ≡ []
 static_declaring known x h = nil_left _ _ (nil_left _ _ (nil_left _ _ (nil_left _ _ h)))
 
-pub bgp_declaring : (known : Known) (x : Instance BgpSetting) → rules.refusals known (conf.Bgp x) ≡ [] → p.declaring known x.at x.name (p.own_name known p.bgp_stem x.name ∷ []) ≡ []
+pub bgp_declaring : (known : Known) (x : Instance BgpSetting) → rules.refusals known (conf.Bgp x) ≡ [] → of_names.declaring known x.at x.name (of_names.own_name known of_names.bgp_stem x.name ∷ []) ≡ []
 bgp_declaring known x h = nil_left _ _ (nil_left _ _ (nil_left _ _ h))
 
-pub pipe_declaring : (known : Known) (x : Instance PipeSetting) → rules.refusals known (conf.Pipe x) ≡ [] → p.declaring known x.at x.name (p.pipe_names (p.own_name known p.pipe_stem x.name)) ≡ []
+pub pipe_declaring : (known : Known) (x : Instance PipeSetting) → rules.refusals known (conf.Pipe x) ≡ [] → of_names.declaring known x.at x.name (of_names.pipe_names (of_names.own_name known of_names.pipe_stem x.name)) ≡ []
 pipe_declaring known x h = nil_left _ _ (nil_left _ _ (nil_left _ _ (nil_left _ _ h)))
 
 has_one : (at : ℕ) (cs : List FamilyChannel) → one_channel at cs ≡ [] → HasOne cs
@@ -119,31 +120,31 @@ has_one at (c ∷ []) h = (c, refl)
 has_one at (c ∷ d ∷ cs) h = absurd (omega (arith, ap (λ (l : List Refusal). length l) h))
 
 pub static_has_one : (known : Known) (x : Instance StaticSetting) → rules.refusals known (conf.Static x) ≡ [] → HasOne (p.static_channels x.settings)
-static_has_one known x h = has_one (p.place_of x.at x.name) (p.static_channels x.settings) (nil_right _ _ (nil_left _ _ (nil_left _ _ h)))
+static_has_one known x h = has_one (of_names.place_of x.at x.name) (p.static_channels x.settings) (nil_right _ _ (nil_left _ _ (nil_left _ _ h)))
 
 pub bgp_has_one : (known : Known) (x : Instance BgpSetting) → rules.refusals known (conf.Bgp x) ≡ [] → HasOne (p.bgp_channels x.settings)
-bgp_has_one known x h = has_one (p.place_of x.at x.name) (p.bgp_channels x.settings) (nil_right _ _ (nil_left _ _ h))
+bgp_has_one known x h = has_one (of_names.place_of x.at x.name) (p.bgp_channels x.settings) (nil_right _ _ (nil_left _ _ h))
 
 lacks_none : (at : ℕ) (o : Option Name) → p.lacks at o ≡ [] → is_none o ≡ false
 lacks_none at None h = absurd (omega (arith, ap (λ (l : List Refusal). length l) h))
 lacks_none at (Some n) h = refl
 
 pub pipe_has_peer : (known : Known) (x : Instance PipeSetting) → rules.refusals known (conf.Pipe x) ≡ [] → HasPeer (p.last_peer None x.settings)
-pipe_has_peer known x h = lacks_none (p.place_of x.at x.name) (p.last_peer None x.settings) (nil_right _ _ (nil_left _ _ (nil_left _ _ h)))
+pipe_has_peer known x h = lacks_none (of_names.place_of x.at x.name) (p.last_peer None x.settings) (nil_right _ _ (nil_left _ _ (nil_left _ _ h)))
 
 -- ---- names and numbers of protocols
 
-pub static_free : (known : Known) (x : Instance StaticSetting) → rules.refusals known (conf.Static x) ≡ [] → is_declared known (p.own_name known p.static_stem x.name) ≡ false
-static_free known x h = or_left (is_declared known (p.own_name known p.static_stem x.name)) false (names_free known x.at x.name (p.own_name known p.static_stem x.name ∷ []) (static_declaring known x h))
+pub static_free : (known : Known) (x : Instance StaticSetting) → rules.refusals known (conf.Static x) ≡ [] → is_declared known (of_names.own_name known of_names.static_stem x.name) ≡ false
+static_free known x h = or_left (is_declared known (of_names.own_name known of_names.static_stem x.name)) false (names_free known x.at x.name (of_names.own_name known of_names.static_stem x.name ∷ []) (static_declaring known x h))
 
 pub static_few : (known : Known) (x : Instance StaticSetting) → rules.refusals known (conf.Static x) ≡ [] → known.protocols < 256
-static_few known x h = protocols_few known x.at x.name (p.own_name known p.static_stem x.name ∷ []) (static_declaring known x h)
+static_few known x h = protocols_few known x.at x.name (of_names.own_name known of_names.static_stem x.name ∷ []) (static_declaring known x h)
 
-pub bgp_free : (known : Known) (x : Instance BgpSetting) → rules.refusals known (conf.Bgp x) ≡ [] → is_declared known (p.own_name known p.bgp_stem x.name) ≡ false
-bgp_free known x h = or_left (is_declared known (p.own_name known p.bgp_stem x.name)) false (names_free known x.at x.name (p.own_name known p.bgp_stem x.name ∷ []) (bgp_declaring known x h))
+pub bgp_free : (known : Known) (x : Instance BgpSetting) → rules.refusals known (conf.Bgp x) ≡ [] → is_declared known (of_names.own_name known of_names.bgp_stem x.name) ≡ false
+bgp_free known x h = or_left (is_declared known (of_names.own_name known of_names.bgp_stem x.name)) false (names_free known x.at x.name (of_names.own_name known of_names.bgp_stem x.name ∷ []) (bgp_declaring known x h))
 
 pub bgp_few : (known : Known) (x : Instance BgpSetting) → rules.refusals known (conf.Bgp x) ≡ [] → known.protocols < 256
-bgp_few known x h = protocols_few known x.at x.name (p.own_name known p.bgp_stem x.name ∷ []) (bgp_declaring known x h)
+bgp_few known x h = protocols_few known x.at x.name (of_names.own_name known of_names.bgp_stem x.name ∷ []) (bgp_declaring known x h)
 
 free_others : (known : Known) (names : List (List ℕ)) → list_any (is_declared known) names ≡ false → list_any (λ n. list_any (λ o. same_name o n) known.scene.others) names ≡ false
 free_others known [] h = refl
@@ -153,8 +154,8 @@ free_others known (n ∷ names) h =
     any_more : (a b : Bool) → a ≡ false → b ≡ false → (a || b) ≡ false
     any_more a b p q = rw (p, q) refl
 
-pub pipe_free : (known : Known) (x : Instance PipeSetting) → rules.refusals known (conf.Pipe x) ≡ [] → list_any (λ n. list_any (λ o. same_name o n) known.scene.others) (p.pipe_names (p.own_name known p.pipe_stem x.name)) ≡ false
-pipe_free known x h = free_others known (p.pipe_names (p.own_name known p.pipe_stem x.name)) (names_free known x.at x.name (p.pipe_names (p.own_name known p.pipe_stem x.name)) (pipe_declaring known x h))
+pub pipe_free : (known : Known) (x : Instance PipeSetting) → rules.refusals known (conf.Pipe x) ≡ [] → list_any (λ n. list_any (λ o. same_name o n) known.scene.others) (of_names.pipe_names (of_names.own_name known of_names.pipe_stem x.name)) ≡ false
+pipe_free known x h = free_others known (of_names.pipe_names (of_names.own_name known of_names.pipe_stem x.name)) (names_free known x.at x.name (of_names.pipe_names (of_names.own_name known of_names.pipe_stem x.name)) (pipe_declaring known x h))
 
 pub pipe_few : (known : Known) (x : Instance PipeSetting) → rules.refusals known (conf.Pipe x) ≡ [] → known.protocols < 256
-pipe_few known x h = protocols_few known x.at x.name (p.pipe_names (p.own_name known p.pipe_stem x.name)) (pipe_declaring known x h)
+pipe_few known x h = protocols_few known x.at x.name (of_names.pipe_names (of_names.own_name known of_names.pipe_stem x.name)) (pipe_declaring known x h)

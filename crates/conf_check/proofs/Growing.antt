@@ -24,11 +24,12 @@ use Rattle.filt_types.specs.Scenes.{Signature}
 use Rattle.filt_types.specs.Seen.{functions_in, scene_of, signature_of}
 use Rattle.filt_types.specs.Refused.{signature_in}
 use Rattle.filt_check.proofs.Growing.{constant_declared, function_declared}
-use Rattle.conf_rules.specs.declared.declared.Declared.{Declared}
-use Rattle.conf_rules.specs.declared.joints.Joint.{Joint}
-use Rattle.conf_rules.specs.Known.{Known}
-use Rattle.conf_rules.specs.Protocols.{joint_of, own_name, pipe_names, pipe_stem}
-use Rattle.conf_rules.specs.Seen.{known_of}
+use Rattle.conf_names.specs.declared.declared.Declared.{Declared}
+use Rattle.conf_names.specs.declared.joints.Joint.{Joint}
+use Rattle.conf_names.specs.Known.{Known}
+use Rattle.conf_rules.specs.Protocols.{joint_of}
+use Rattle.conf_names.specs.Names.{own_name, pipe_names, pipe_stem}
+use Rattle.conf_names.specs.Seen.{known_of}
 use Rattle.conf_check.specs.Behind.{behind_one, context_in, no_route, with_filter, with_others, with_pipe, with_protocol, with_scene, with_table, with_value}
 use Rattle.conf_check.specs.Seen.{AreWithin, Declares, Grows, Joins, Stays, counted, other_names}
 use Rattle.conf_check.proofs.Names.{nothing}

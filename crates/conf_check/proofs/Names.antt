@@ -20,12 +20,14 @@ use Rattle.filt_meaning.specs.Configuration.{constant}
 use Rattle.filt_meaning.specs.Names.{named_in, same_name}
 use Rattle.filt_types.specs.Scenes.{is_declared}
 use Rattle.filt_types.proofs.Lookups.{is_among, is_looked_up, looked_up, same_flip}
-use Rattle.conf_rules.specs.declared.joints.Joint.{Joint}
-use Rattle.conf_rules.specs.Joints.{IsWithin}
-use Rattle.conf_rules.specs.Known.{ArePipesThere, Known}
-use Rattle.conf_rules.specs.Protocols.{bgp_stem, joint_of, own_name, pipe_names, pipe_stem, static_stem}
+use Rattle.conf_names.specs.declared.joints.Joint.{Joint}
+use Rattle.conf_names.specs.Joints.{IsWithin}
+use Rattle.conf_names.specs.Known.{ArePipesThere, Known}
+use Rattle.conf_rules.specs.Protocols.{joint_of}
+use Rattle.conf_names.specs.Names.{bgp_stem, own_name, pipe_names, pipe_stem, static_stem}
 use Rattle.conf_rules.specs.Statements.{is_master, master}
-use Rattle.conf_rules.proofs.Places.{Key, is_key, joint_within}
+use Rattle.conf_rules.proofs.Places.{joint_within}
+use Rattle.conf_names.proofs.Places.{Key, is_key}
 use Rattle.conf_check.specs.Behind.{at_start, behind, behind_one, context_in, with_filter, with_pipe, with_protocol, with_scene, with_table, with_value}
 use Rattle.conf_check.specs.Seen.{AreNamed, Joins}
 

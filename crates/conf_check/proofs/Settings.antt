@@ -4,7 +4,7 @@ use Rattle.std.proofs.lemmas.List.{map-append}
 use Rattle.bits_ip.specs.declared.address.Addr.{Addr}
 use Rattle.conf_ast.specs.declared.configurations.Limit.{Limit}
 use Rattle.conf_ast.specs.Configurations.{Passing, ChannelSetting, ChannelTable, ChannelImport, ChannelExport, ChannelPreference, ChannelLimit, ChannelNextHop, BgpSetting, BgpChannel, BgpLocal, BgpNeighbor, BgpMedMetric, BgpInterpretCommunities, BgpDefaultMed, BgpDefaultLocalPref, BgpTransport, PipeSetting, PipeTable, PipePeerTable, PipeImport, PipeExport, StaticSetting, StaticChannel, StaticRoute}
-use Rattle.conf_rules.specs.Known.{Known}
+use Rattle.conf_names.specs.Known.{Known}
 use Rattle.conf_rules.specs.Protocols.{static_routes}
 use Rattle.conf_check.specs.Checked as of
 

@@ -20,12 +20,12 @@ use Rattle.filt_meaning.specs.Scopes.{constant_values, function_trees}
 use Rattle.filt_meaning.specs.Trees.{AreBefore, tree_flow}
 use Rattle.filt_meaning.specs.declared.fixed.Fixed.{Fixed}
 use Rattle.filt_check.proofs.Growing.{filter_stays, nothing_declared}
-use Rattle.conf_rules.specs.declared.refusal.Refusal.{Refusal}
+use Rattle.conf_names.specs.declared.refusal.Refusal.{Refusal}
 use Rattle.conf_rules.specs.Channels.{settings_of}
-use Rattle.conf_rules.specs.Known.{Known}
+use Rattle.conf_names.specs.Known.{Known}
 use Rattle.conf_rules.specs.Protocols.{bgp_channels, static_channels}
-use Rattle.conf_rules.specs.Refusals.{first_in}
-use Rattle.conf_rules.specs.Seen.{known_of}
+use Rattle.conf_names.specs.Refusals.{first_in}
+use Rattle.conf_names.specs.Seen.{known_of}
 use Rattle.conf_rules.specs.Statements.{refusals}
 use Rattle.conf_check.specs.declared.checked.BgpDef.{BgpDef}
 use Rattle.conf_check.specs.declared.checked.ChannelDef.{ChannelDef}

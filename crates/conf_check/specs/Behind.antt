@@ -14,9 +14,10 @@ use Rattle.filt_meaning.specs.Configuration.{constant}
 use Rattle.filt_meaning.specs.Names.{Around, Context}
 use Rattle.filt_types.specs.Scenes.{Scene, Signature}
 use Rattle.filt_types.specs.Refused.{signature_in}
-use Rattle.conf_rules.specs.declared.joints.Joint.{Joint}
-use Rattle.conf_rules.specs.Known.{Known}
-use Rattle.conf_rules.specs.Protocols.{bgp_stem, joint_of, own_name, pipe_names, pipe_stem, static_stem}
+use Rattle.conf_names.specs.declared.joints.Joint.{Joint}
+use Rattle.conf_names.specs.Known.{Known}
+use Rattle.conf_rules.specs.Protocols.{joint_of}
+use Rattle.conf_names.specs.Names.{bgp_stem, own_name, pipe_names, pipe_stem, static_stem}
 use Rattle.conf_rules.specs.Statements.{is_master, master}
 
 -- ---- what is there from the start

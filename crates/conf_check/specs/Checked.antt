@@ -31,11 +31,12 @@ use Rattle.filt_meaning.specs.declared.tree.TFilter.{TFilter}
 use Rattle.filt_meaning.specs.Scopes.{constant_values, context_of, function_trees}
 use Rattle.filt_meaning.specs.Trees.{AreBefore, tree_flow}
 use Rattle.conf_rules.specs.Channels.{last_table, settings_of}
-use Rattle.conf_rules.specs.Known.{Known, number_of, place_in, table_number, table_of}
+use Rattle.conf_names.specs.Known.{Known, number_of, place_in, table_number, table_of}
 use Rattle.conf_rules.specs.Protocols as rules
-use Rattle.conf_rules.specs.Protocols.{as_number, bgp_channels, bgp_stem, is_on, last_local, own_name, pipe_stem, primary_name, static_channels, static_routes, static_stem}
+use Rattle.conf_rules.specs.Protocols.{as_number, bgp_channels, is_on, last_local, primary_name, static_channels, static_routes}
+use Rattle.conf_names.specs.Names.{bgp_stem, own_name, pipe_stem, static_stem}
 use Rattle.conf_rules.specs.Statements.{master}
-use Rattle.conf_rules.specs.Seen.{known_of}
+use Rattle.conf_names.specs.Seen.{known_of}
 use Rattle.conf_check.specs.declared.checked.BgpDef.{BgpDef}
 use Rattle.conf_check.specs.declared.checked.ChannelDef.{ChannelDef}
 use Rattle.conf_check.specs.declared.checked.Checked.{Checked}

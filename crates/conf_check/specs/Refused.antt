@@ -7,9 +7,9 @@ use Rattle.std.specs.Prelude.{◌≡◌, List, [], ◌∷◌, Option, Some, None
 use Rattle.conf_ast.specs.declared.kind.ConfFault.{ConfFault}
 use Rattle.conf_ast.specs.declared.kind.ConfFault.TheVariants as faults
 use Rattle.conf_ast.specs.Configurations as conf
-use Rattle.conf_rules.specs.declared.refusal.Refusal.{Refusal}
-use Rattle.conf_rules.specs.Known.{Known}
-use Rattle.conf_rules.specs.Refusals.{first_in}
+use Rattle.conf_names.specs.declared.refusal.Refusal.{Refusal}
+use Rattle.conf_names.specs.Known.{Known}
+use Rattle.conf_names.specs.Refusals.{first_in}
 use Rattle.conf_rules.specs.Statements.{refusals}
 use Rattle.conf_check.specs.Behind.{behind_one}
 

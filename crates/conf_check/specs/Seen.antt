@@ -18,9 +18,9 @@ use Rattle.filt_meaning.specs.declared.tree.TFilter.{TFilter}
 use Rattle.filt_meaning.specs.Scopes.{constant_values, context_of, function_trees}
 use Rattle.filt_meaning.specs.Trees.{tree_flow}
 use Rattle.filt_meaning.specs.declared.fixed.Fixed.{Fixed}
-use Rattle.conf_rules.specs.declared.declared.Declared.{Declared}
-use Rattle.conf_rules.specs.Known.{Known}
-use Rattle.conf_rules.specs.Seen.{known_of}
+use Rattle.conf_names.specs.declared.declared.Declared.{Declared}
+use Rattle.conf_names.specs.Known.{Known}
+use Rattle.conf_names.specs.Seen.{known_of}
 use Rattle.conf_rules.specs.Statements.{refusals}
 use Rattle.conf_check.specs.declared.checked.Checked.{Checked}
 use Rattle.conf_check.specs.declared.checked.ProtocolDef.{ProtocolDef}

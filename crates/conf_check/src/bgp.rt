@@ -5,7 +5,7 @@ ghost use Rattle.bits_ip.specs.declared.address.Addr.TheVariants as addrs;
 ghost use Rattle.conf_ast.specs.Configurations.{FamilyChannel, bgp_setting_of, channel_of, instance_of};
 ghost use Rattle.conf_rules.specs.Protocols as rules;
 ghost use Rattle.conf_rules.specs.Protocols.{bgp_channels};
-ghost use Rattle.conf_rules.specs.Seen.{known_of};
+ghost use Rattle.conf_names.specs.Seen.{known_of};
 ghost use Rattle.conf_check.specs.Checked as of;
 ghost use Rattle.conf_check.specs.Checked.{IsBgp};
 ghost use Rattle.conf_check.specs.Seen.{HasOne, Means};
@@ -15,7 +15,8 @@ use crate::checked::BgpDef;
 use bits_ip::{Addr, OutOfMemory};
 use conf_ast::configurations::{BgpOption, Channel, Protocol};
 use conf_ast::filters::Num;
-use conf_rules::{Declared, as_number, is_on, last_local, last_neighbor};
+use conf_names::Declared;
+use conf_rules::{as_number, is_on, last_local, last_neighbor};
 use std::alloc::Global;
 
 /// The preference of BGP's routes.

@@ -4,9 +4,9 @@ ghost use Rattle.std.specs.Prelude.{◌≡◌, ◌∷◌, [], IfOk, map, option_
 ghost use Rattle.conf_ast.specs.Configurations.{PassAll, PassNone, channel_of, channel_setting_of};
 ghost use Rattle.conf_ast.specs.declared.configurations.Limit.TheVariants as limits;
 ghost use Rattle.conf_rules.specs.Channels.{settings_of};
-ghost use Rattle.conf_rules.specs.Known as rules;
+ghost use Rattle.conf_names.specs.Known as rules;
 ghost use Rattle.conf_rules.specs.Statements as statements;
-ghost use Rattle.conf_rules.specs.Seen.{known_of};
+ghost use Rattle.conf_names.specs.Seen.{known_of};
 ghost use Rattle.conf_check.specs.Checked as of;
 ghost use Rattle.conf_check.specs.Checked.{IsChannel};
 ghost use Rattle.conf_check.specs.Seen.{Means, passing_or};
@@ -17,7 +17,8 @@ use bits_ip::{Family, OutOfMemory};
 use conf_ast::Name;
 use conf_ast::configurations::{Action, Channel, ChannelOption, Limit, Policy};
 use conf_ast::filters::Num;
-use conf_rules::{Declared, last_table, number_of, table_number};
+use conf_names::{Declared, number_of, table_number};
+use conf_rules::last_table;
 use std::alloc::Global;
 
 /// What stands between the braces; nothing where there are none.

@@ -3,7 +3,7 @@
 use attrs::Seq;
 use bits_ip::{Addr, Family, Prefix};
 use conf_ast::configurations::Action;
-use conf_rules::Declared;
+use conf_names::Declared;
 use filt_meaning::TFilter;
 
 /// What of the routes passes (BIRD User's Guide, "Channel options", `import` and `export`).

@@ -7,14 +7,14 @@ ghost use Rattle.filt_meaning.specs.Names.{named_in, same_name};
 ghost use Rattle.filt_meaning.specs.Scopes.{constants_in};
 ghost use Rattle.filt_types.specs.Scenes.{is_declared as is_named};
 ghost use Rattle.filt_types.specs.Seen.{functions_in};
-ghost use Rattle.conf_rules.specs.Known.{is_declared};
-ghost use Rattle.conf_rules.specs.Protocols.{pipe_names};
-ghost use Rattle.conf_rules.specs.Seen.{known_of};
+ghost use Rattle.conf_names.specs.Known.{is_declared};
+ghost use Rattle.conf_names.specs.Names.{pipe_names};
+ghost use Rattle.conf_names.specs.Seen.{known_of};
 ghost use Rattle.conf_check.specs.Behind.{at_start, with_filter, with_pipe, with_table};
 ghost use Rattle.conf_check.specs.Seen.{AreNamed, Joins, Stays, other_names};
 
 use bits_ip::{Family, OutOfMemory};
-use conf_rules::{Declared, Joint};
+use conf_names::{Declared, Joint};
 use filt_meaning::{Fixed, Scope, TFunction};
 use indexmap::{IndexMap, IndexSet};
 use std::alloc::Global;

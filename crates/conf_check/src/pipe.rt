@@ -2,9 +2,9 @@
 
 ghost use Rattle.std.specs.Prelude.{◌≡◌, ◌∷◌, [], IfOk, None, Some, map, option_copied};
 ghost use Rattle.conf_ast.specs.Configurations.{PassAll, PassNone, instance_of, pipe_setting_of};
-ghost use Rattle.conf_rules.specs.Known as known;
+ghost use Rattle.conf_names.specs.Known as known;
 ghost use Rattle.conf_rules.specs.Protocols as rules;
-ghost use Rattle.conf_rules.specs.Seen.{known_of};
+ghost use Rattle.conf_names.specs.Seen.{known_of};
 ghost use Rattle.conf_check.specs.Checked as of;
 ghost use Rattle.conf_check.specs.Checked.{IsPipe};
 ghost use Rattle.conf_check.specs.Seen.{HasPeer, Means, passing_or};
@@ -14,7 +14,8 @@ use crate::policy::{export_policy, import_policy};
 use bits_ip::{Family, OutOfMemory};
 use conf_ast::Name;
 use conf_ast::configurations::{PipeOption, Policy, Protocol};
-use conf_rules::{Declared, last_peer, last_pipe_table, table_number, table_of};
+use conf_names::{Declared, table_number, table_of};
+use conf_rules::{last_peer, last_pipe_table};
 use std::alloc::Global;
 
 fn import_in<'a>(found: Option<&'a Policy>, option: &'a PipeOption) -> Option<&'a Policy>

@@ -6,10 +6,10 @@ ghost use Rattle.conf_ast.specs.declared.kind.ConfFault.TheVariants as faults;
 ghost use Rattle.conf_ast.specs.Configurations as conf;
 ghost use Rattle.conf_ast.specs.Configurations.{Declaration, bgp_setting_of, declaration_of, instance_of, pipe_setting_of, routine_of, static_setting_of, value_of};
 ghost use Rattle.conf_ast.specs.Filters.{block_of};
-ghost use Rattle.conf_rules.specs.Known.{ArePipesThere};
-ghost use Rattle.conf_rules.specs.Refusals.{first_in};
+ghost use Rattle.conf_names.specs.Known.{ArePipesThere};
+ghost use Rattle.conf_names.specs.Refusals.{first_in};
 ghost use Rattle.conf_rules.specs.Statements.{refusals};
-ghost use Rattle.conf_rules.specs.Seen.{known_of};
+ghost use Rattle.conf_names.specs.Seen.{known_of};
 ghost use Rattle.conf_check.specs.Refused.{IsFault};
 ghost use Rattle.conf_check.specs.Seen.{Adds, AreNamed, Declares, IsAllowed, Stands, counted};
 
@@ -29,9 +29,8 @@ use bits_ip::{Family, OutOfMemory};
 use conf_ast::configurations::{BgpOption, Literal, PipeOption, Protocol, Statement, StaticOption};
 use conf_ast::filters::{Filter, Function};
 use conf_ast::{ConfFault, Name};
-use conf_rules::{
-    BGP_STEM, Declared, PIPE_STEM, STATIC_STEM, first_in_statement, joint_of, own_name,
-};
+use conf_names::{BGP_STEM, Declared, PIPE_STEM, STATIC_STEM, own_name};
+use conf_rules::{first_in_statement, joint_of};
 use filt_check::resolve_function;
 use std::alloc::Global;
 

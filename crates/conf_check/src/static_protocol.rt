@@ -3,7 +3,7 @@
 ghost use Rattle.std.specs.Prelude.{◌≡◌, ◌++◌, ◌∷◌, [], IfOk, MatchOption, OnOk, List, map};
 ghost use Rattle.conf_ast.specs.Configurations.{FamilyChannel, channel_of, instance_of, static_setting_of};
 ghost use Rattle.conf_rules.specs.Protocols.{static_channels, static_routes};
-ghost use Rattle.conf_rules.specs.Seen.{known_of};
+ghost use Rattle.conf_names.specs.Seen.{known_of};
 ghost use Rattle.conf_check.specs.Checked as of;
 ghost use Rattle.conf_check.specs.Checked.{IsStatic};
 ghost use Rattle.conf_check.specs.Seen.{HasOne, Means};
@@ -13,7 +13,7 @@ use crate::checked::{StaticDef, StaticRoute, StaticTarget};
 use attrs::Seq;
 use bits_ip::OutOfMemory;
 use conf_ast::configurations::{Channel, Protocol, Route, RouteTarget, StaticOption};
-use conf_rules::Declared;
+use conf_names::Declared;
 use std::alloc::Global;
 
 /// The preference of static routes.

@@ -3,17 +3,17 @@ use Rattle.std.proofs.Common.{cond, ◌≡◌, ℕ, zero, suc, ◌+◌, ◌-◌,
 use Rattle.std.specs.Prelude.{if◌then◌else◌}
 use Rattle.std.proofs.lemmas.List.{length-append, length-take, take-append-drop}
 use Rattle.conf_lex.specs.Symbols.{is_else, is_slash}
-use Rattle.conf_lex.specs.Lex.{Lexes}
-use Rattle.conf_lex.specs.Spans.{IsSpan}
-use Rattle.conf_lex.specs.Words.{slice_of}
+use Rattle.conf_scan.specs.Lex.{Lexes}
+use Rattle.conf_scan.specs.Spans.{IsSpan}
+use Rattle.conf_scan.specs.Spans.{slice_of}
 use Rattle.conf_lex.specs.declared.symbol.Symbol.TheVariants as symbols
-use Rattle.conf_lex.specs.declared.token.Token.{Token}
+use Rattle.conf_scan.specs.declared.token.Token.{Token}
 use Rattle.conf_lex.specs.declared.word.Word.{Word}
 use Rattle.conf_lex.specs.Kind.{Kind, IsSymbol, kind_of}
 use Rattle.conf_lex.specs.Grammar.{ParseTree, yield, DerivesLongest, Derives, too_deep}
 use Rattle.conf_lex.specs.Sentences.{IsBegunWithin, IsTooDeep}
-use Rattle.filt_syntax.specs.Syntax.{rule}
-use Rattle.conf_tree.specs.Syntax.{config}
+use Rattle.expr_syntax.specs.Syntax.{rule}
+use Rattle.conf_syntax.specs.Syntax.{config}
 use Rattle.conf_tree.specs.Significant.{significant_of, significant_words, token_of}
 use Rattle.conf_tree.specs.Sentence.{StopsAt}
 use Rattle.conf_laws.specs.Alike.{AreAlike}

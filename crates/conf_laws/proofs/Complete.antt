@@ -6,9 +6,9 @@ use Rattle.conf_lex.specs.Kind.{Kind, kind_of}
 use Rattle.conf_lex.specs.Grammar.{Terminal, Epsilon, Seq, Alt, Repeat, Nested, ParseTree, Leaf, NoWords, Pair, Left, Right, Single, Snoc, Deeper, yield, DerivesLongest, Derives}
 use Rattle.conf_lex.proofs.Checks.{and_true}
 use Rattle.conf_lex.proofs.Unique.{fronts}
-use Rattle.filt_syntax.specs.Syntax.{rule}
-use Rattle.filt_syntax.specs.Levels.{Level, Form, group_level}
-use Rattle.conf_tree.specs.Syntax.{config}
+use Rattle.expr_syntax.specs.Syntax.{rule}
+use Rattle.expr_syntax.specs.Levels.{Level, Form, group_level}
+use Rattle.conf_syntax.specs.Syntax.{config}
 use Rattle.conf_laws.proofs.Pieces.{Good, pieces, quoted_piece}
 
 -- ---- a tree of each form

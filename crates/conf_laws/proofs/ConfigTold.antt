@@ -53,17 +53,20 @@ use Rattle.conf_lex.proofs.Good.{Solid}
 use Rattle.syntax_laws.proofs.Parts.{size, Small, more_room, chain_small, part_small, start_small, one_is, seq_is, either_is, symbol_is, placed_is, name_is, optional_is, some_words}
 use Rattle.conf_lex.proofs.Symbols.{same_attribute}
 use Rattle.syntax_laws.proofs.Rows.{Seen, both_of, more_of, many_told}
-use Rattle.filt_syntax.specs.Syntax.{rule, optional, many, is_num, set, mask_item, expr, vtype, block, semicolon}
-use Rattle.filt_syntax.specs.Levels.{Form, set_level}
-use Rattle.filt_syntax.specs.ItemView.{num_tree, items_tree, mask_items_tree}
-use Rattle.filt_syntax.specs.View.{expr_tree}
-use Rattle.filt_syntax.specs.StatementView.{semicolon_leaf, type_tree, nth, beyond, row_after, block_view}
-use Rattle.filt_syntax.proofs.Tested.{solid_at}
+use Rattle.expr_syntax.specs.Syntax.{rule, optional, many, is_num, set, mask_item, expr, vtype, block, semicolon}
+use Rattle.expr_syntax.specs.Levels.{Form, set_level}
+use Rattle.expr_syntax.specs.ItemView.{num_tree, items_tree, mask_items_tree}
+use Rattle.expr_syntax.specs.View.{expr_tree}
+use Rattle.filt_syntax.specs.StatementView.{block_view}
+use Rattle.expr_syntax.specs.Rows.{semicolon_leaf, nth, beyond, row_after}
+use Rattle.expr_syntax.specs.Types.{type_tree}
+use Rattle.expr_syntax.proofs.Tested.{solid_at}
 use Rattle.syntax_laws.proofs.ItemsTold.{num_told, prefix_told, between_is, items_told, mask_told}
 use Rattle.syntax_laws.proofs.ExprTold.{levels, vec}
 use Rattle.syntax_laws.proofs.StatementsTold.{type_told, to_block}
-use Rattle.conf_tree.specs.Syntax.{is_default, is_switch, is_family, policy, table_option, is_action, action, is_hop, channel_option, ended_options, channel, route_target, route, static_option, transport, bgp_option, pipe_option, is_value, literal, parameter, is_separator, parameters, function, protocol_end, protocol_of, device, protocol, statement, config}
-use Rattle.conf_tree.specs.View.{placed_leaf, attribute_leaf, address_leaf, text_leaf, switch_symbol, switch_leaf, family_symbol, family_leaf, maybe, policy_tree, action_symbol, limit_tree, hop_symbol, table_tree, channel_option_tree, ended_tree, ended_row, channel_tree, target_tree, route_tree, static_option_tree, as_tree, time_tree, transport_tree, default_tree, bgp_option_tree, pipe_option_tree, value_tree, literal_tree, separator_symbol, parameter_tree, next_parameter, parameters_after, parameters_tree, function_tree, semicolon_tree, protocol_end_tree, protocol_tree, device_tree, statement_tree, statements_tree}
+use Rattle.conf_syntax.specs.Syntax.{is_default, is_switch, is_family, policy, table_option, is_action, action, is_hop, channel_option, ended_options, channel, route_target, route, static_option, transport, bgp_option, pipe_option, is_value, literal, parameter, is_separator, parameters, function, protocol_end, protocol_of, device, protocol, statement, config}
+use Rattle.conf_tree.specs.View.{policy_tree, table_tree, channel_option_tree, channel_tree, route_tree, static_option_tree, default_tree, bgp_option_tree, pipe_option_tree, separator_symbol, parameter_tree, next_parameter, parameters_after, parameters_tree, function_tree, protocol_end_tree, protocol_tree, device_tree, statement_tree, statements_tree}
+use Rattle.conf_syntax.specs.View.{placed_leaf, attribute_leaf, address_leaf, text_leaf, switch_symbol, switch_leaf, family_symbol, family_leaf, maybe, action_symbol, limit_tree, hop_symbol, ended_tree, ended_row, target_tree, as_tree, time_tree, transport_tree, value_tree, literal_tree, semicolon_tree}
 
 never : false ≡ true → ⊥
 never e = cc

@@ -5,8 +5,8 @@ use Rattle.conf_lex.specs.Symbols.{symbol_of, is_else, is_colon, is_slash}
 use Rattle.conf_lex.specs.Words.{kind_symbol}
 use Rattle.conf_lex.specs.declared.symbol.Symbol.{Symbol}
 use Rattle.conf_lex.specs.declared.symbol.Symbol.TheVariants as symbols
-use Rattle.conf_lex.specs.declared.token.TokenKind.{TokenKind}
-use Rattle.conf_lex.specs.declared.token.TokenKind.TheVariants as token_kinds
+use Rattle.conf_scan.specs.declared.token.TokenKind.{TokenKind}
+use Rattle.conf_scan.specs.declared.token.TokenKind.TheVariants as token_kinds
 use Rattle.conf_lex.specs.declared.word.Word.TheVariants as words
 use Rattle.conf_lex.specs.Kind.{Kind, IsSymbol, kind_of, symbol, name}
 use Rattle.conf_tree.specs.declared.significant.Region.{Region}

@@ -7,9 +7,9 @@ use Rattle.conf_lex.specs.Kind.{Kind, IsNoPrefix, kind_of}
 use Rattle.conf_lex.specs.Grammar.{Terminal, Epsilon, Seq, Alt, Repeat, Nested, ParseTree, Leaf, NoWords, Pair, Left, Right, Single, Snoc, Deeper, yield, begins, is_blank, or_later, too_deep, can_continue, can_continue_in, DerivesLongest}
 use Rattle.conf_lex.specs.Sentences.{IsBegun, IsBegunWithin}
 use Rattle.conf_lex.proofs.Checks.{and_true, not, not_true}
-use Rattle.filt_syntax.specs.Syntax.{rule}
-use Rattle.filt_syntax.specs.Levels.{Level, Form, group_level}
-use Rattle.conf_tree.specs.Syntax.{config}
+use Rattle.expr_syntax.specs.Syntax.{rule}
+use Rattle.expr_syntax.specs.Levels.{Level, Form, group_level}
+use Rattle.conf_syntax.specs.Syntax.{config}
 
 -- ---- words of the same kinds
 

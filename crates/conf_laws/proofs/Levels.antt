@@ -5,10 +5,10 @@ use Rattle.conf_lex.specs.Kind.{Kind, IsAddress, IsPrefix, IsNoPrefix, kind_of}
 use Rattle.conf_lex.specs.Grammar.{Terminal, Epsilon, Seq, Alt, Repeat, Nested, ParseTree, Leaf, NoWords, Pair, Left, Right, Single, Snoc, Deeper, yield, or_later, too_deep, DerivesLongest}
 use Rattle.conf_lex.specs.Sentences.{IsBegunWithin}
 use Rattle.conf_lex.proofs.Checks.{and_true, not, not_true}
-use Rattle.filt_syntax.specs.Syntax.{rule}
-use Rattle.filt_syntax.specs.Levels.{Level, Form, group_level}
+use Rattle.expr_syntax.specs.Syntax.{rule}
+use Rattle.expr_syntax.specs.Levels.{Level, Form, group_level}
 use Rattle.filt_syntax.proofs.Follows.{no_deep_within}
-use Rattle.conf_tree.specs.Syntax.{config}
+use Rattle.conf_syntax.specs.Syntax.{config}
 use Rattle.conf_tree.proofs.Tested.{config_checked}
 use Rattle.conf_laws.proofs.ByTokens.{is_net}
 

@@ -4,14 +4,15 @@ use Rattle.std.specs.Prelude.{if◌then◌else◌}
 use Rattle.bits_ip.specs.declared.address.Addr.{Addr}
 use Rattle.conf_lex.specs.Attributes.{attribute_of, constant_of}
 use Rattle.conf_lex.specs.Symbols.{symbol_of, is_placed, is_else, is_colon, is_slash}
-use Rattle.conf_lex.specs.Words.{slice_of, kind_symbol, token_symbol, is_prefix, symbol_word, spelled_word, named_word, constant_or_name, kind_word, word_of, prefix_word, slashed, or_alone, first_word, words_from}
+use Rattle.conf_lex.specs.Words.{kind_symbol, token_symbol, is_prefix, symbol_word, spelled_word, named_word, constant_or_name, kind_word, word_of, prefix_word, slashed, or_alone, first_word, words_from}
+use Rattle.conf_scan.specs.Spans.{slice_of}
 use Rattle.conf_ast.specs.declared.attribute.Attribute.{Attribute}
 use Rattle.conf_ast.specs.declared.attribute.Constant.{Constant}
 use Rattle.conf_lex.specs.declared.symbol.Symbol.{Symbol}
 use Rattle.conf_lex.specs.declared.symbol.Symbol.TheVariants as symbols
-use Rattle.conf_lex.specs.declared.token.Token.{Token}
-use Rattle.conf_lex.specs.declared.token.TokenKind.{TokenKind}
-use Rattle.conf_lex.specs.declared.token.TokenKind.TheVariants as token_kinds
+use Rattle.conf_scan.specs.declared.token.Token.{Token}
+use Rattle.conf_scan.specs.declared.token.TokenKind.{TokenKind}
+use Rattle.conf_scan.specs.declared.token.TokenKind.TheVariants as token_kinds
 use Rattle.conf_lex.specs.declared.word.Word.{Word}
 use Rattle.conf_lex.specs.Kind.{Kind, IsNumber, IsName, IsText, IsAddress, IsPrefix, IsNoPrefix, IsAttribute, IsConstant, IsSymbol, kind_of, name, symbol}
 use Rattle.conf_tree.specs.Significant.{behind, is_significant, significant}

@@ -8,14 +8,14 @@ use Rattle.bits_ip.specs.declared.address.Addr.TheVariants.{V4}
 use Rattle.conf_lex.specs.Attributes.{attribute_of, constant_of}
 use Rattle.conf_lex.specs.Symbols.{symbol_of, is_placed, is_else, is_colon, is_slash}
 use Rattle.conf_lex.specs.Words.{symbol_word}
-use Rattle.conf_lex.specs.Shapes.{IsShape, IsDigits}
-use Rattle.conf_lex.specs.declared.scan.Lexeme.TheVariants as lexemes
+use Rattle.conf_scan.specs.Shapes.{IsShape, IsDigits}
+use Rattle.conf_scan.specs.declared.scan.Lexeme.TheVariants as lexemes
 use Rattle.conf_ast.specs.declared.attribute.Attribute.{Attribute}
 use Rattle.conf_ast.specs.declared.attribute.Attribute.TheVariants as attributes
 use Rattle.conf_lex.specs.declared.symbol.Symbol.{Symbol}
 use Rattle.conf_lex.specs.declared.symbol.Symbol.TheVariants as symbols
-use Rattle.conf_lex.specs.declared.token.TokenKind.{TokenKind}
-use Rattle.conf_lex.specs.declared.token.TokenKind.TheVariants as kinds
+use Rattle.conf_scan.specs.declared.token.TokenKind.{TokenKind}
+use Rattle.conf_scan.specs.declared.token.TokenKind.TheVariants as kinds
 use Rattle.conf_lex.specs.declared.word.Word.{Word}
 use Rattle.conf_lex.specs.declared.word.Word.TheVariants as words
 use Rattle.conf_lex.specs.Kind.{Kind, IsAddress, IsAttribute, IsSymbol, kind_of}

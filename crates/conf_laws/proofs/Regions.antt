@@ -7,9 +7,9 @@ use Rattle.conf_lex.specs.Kind.{Kind, IsSymbol, IsName, kind_of, symbol, name}
 use Rattle.conf_lex.specs.Grammar.{Terminal, Epsilon, Seq, Alt, Repeat, Nested, ParseTree, Leaf, NoWords, Pair, Left, Right, Single, Snoc, Deeper, yield, Derives}
 use Rattle.conf_lex.proofs.Checks.{and_true, not, not_true}
 use Rattle.conf_lex.proofs.Symbols.{same_symbol}
-use Rattle.filt_syntax.specs.Syntax.{rule, optional, semicolon}
-use Rattle.filt_syntax.specs.Levels.{Level, Form, group_level}
-use Rattle.conf_tree.specs.Syntax.{config, statement, router_id, log, define, table, function, filter, protocol, device, protocol_of, protocol_end, ended_options, static_option, bgp_option, pipe_option}
+use Rattle.expr_syntax.specs.Syntax.{rule, optional, semicolon}
+use Rattle.expr_syntax.specs.Levels.{Level, Form, group_level}
+use Rattle.conf_syntax.specs.Syntax.{config, statement, router_id, log, define, table, function, filter, protocol, device, protocol_of, protocol_end, ended_options, static_option, bgp_option, pipe_option}
 use Rattle.conf_tree.specs.declared.significant.Region.{Region}
 use Rattle.conf_tree.specs.declared.significant.Region.TheVariants as regions
 use Rattle.conf_laws.proofs.KindTrees.{kinds_of}

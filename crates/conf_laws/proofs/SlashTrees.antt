@@ -9,11 +9,11 @@ use Rattle.conf_lex.proofs.Checks.{check, and_true, more, not, not_true, solid_o
 use Rattle.conf_lex.proofs.Good.{Front, fits_front}
 use Rattle.conf_lex.proofs.Symbols.{is_symbol_word}
 use Rattle.conf_lex.proofs.Unique.{fronts}
-use Rattle.filt_syntax.specs.Syntax.{rule}
-use Rattle.filt_syntax.specs.Levels.{Level, Form, group_level}
+use Rattle.expr_syntax.specs.Syntax.{rule}
+use Rattle.expr_syntax.specs.Levels.{Level, Form, group_level}
 use Rattle.filt_syntax.specs.RefusedToken.{some_prefix}
-use Rattle.filt_syntax.proofs.Tested.{model, after, checked}
-use Rattle.conf_tree.specs.Syntax.{config}
+use Rattle.expr_syntax.proofs.Tested.{model, after, checked}
+use Rattle.conf_syntax.specs.Syntax.{config}
 use Rattle.conf_laws.proofs.KindTrees.{both_same, or_same}
 use Rattle.conf_tree.proofs.Tested.{config_checked}
 

@@ -7,11 +7,11 @@ use Rattle.std.specs.Cmp.Lexicographic.{pointwise, same_text}
 use Rattle.std.proofs.lemmas.Bool.{cases_Bool, and_parts, and_from, false≢true}
 use Rattle.std.proofs.lemmas.Bool.Decides.{nat_tests}
 use Rattle.std.proofs.lemmas.List.{length-append}
-use Rattle.conf_lex.specs.Shapes.{is_letter, is_name_byte, is_quoted_byte, is_text_byte, is_colons_byte, is_sign, is_short_sign, is_pair_sign, is_empty_sign, short_signs, pair_signs, empty_signs, IsDotted, IsShape, IsToken, IsText, Blank, IsGap}
-use Rattle.conf_lex.specs.Lex.{Lexes}
-use Rattle.conf_lex.specs.declared.scan.Lexeme.{Lexeme}
-use Rattle.conf_lex.specs.declared.scan.Lexeme.TheVariants as lexemes
-use Rattle.conf_lex.specs.declared.token.Token.{Token}
+use Rattle.conf_scan.specs.Shapes.{is_letter, is_name_byte, is_quoted_byte, is_text_byte, is_colons_byte, is_sign, is_short_sign, is_pair_sign, is_empty_sign, short_signs, pair_signs, empty_signs, IsDotted, IsShape, IsToken, IsText, Blank, IsGap}
+use Rattle.conf_scan.specs.Lex.{Lexes}
+use Rattle.conf_scan.specs.declared.scan.Lexeme.{Lexeme}
+use Rattle.conf_scan.specs.declared.scan.Lexeme.TheVariants as lexemes
+use Rattle.conf_scan.specs.declared.token.Token.{Token}
 use Rattle.conf_laws.specs.Spaced.{Spelling, AreSpellings, spaced, spellings_of}
 
 -- ---- bytes that no token but a text has

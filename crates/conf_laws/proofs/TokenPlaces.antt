@@ -1,8 +1,8 @@
 -- Each token begins at a byte of its own.
 use Rattle.std.proofs.Common.{◌≡◌, ℕ, zero, suc, ◌+◌, ◌≤◌, List, [], ◌∷◌, ◌++◌, length, map, slice_index_or, refl, sym, ap, subst, arith, append_assoc}
-use Rattle.conf_lex.specs.Lex.{Lexes}
-use Rattle.conf_lex.specs.Spans.{IsSpan, IsBetween}
-use Rattle.conf_lex.specs.declared.token.Token.{Token}
+use Rattle.conf_scan.specs.Lex.{Lexes}
+use Rattle.conf_scan.specs.Spans.{IsSpan, IsBetween}
+use Rattle.conf_scan.specs.declared.token.Token.{Token}
 use Rattle.filt_syntax.specs.declared.parse.SyntaxFault.TheVariants as faults
 use Rattle.conf_tree.specs.Sentence.{IsRefused}
 use Rattle.conf_tree.specs.Read.{byte_of, IsRefusedText}

@@ -3,22 +3,22 @@ use Rattle.std.proofs.Common.{◌≡◌, ℕ, zero, suc, ◌+◌, ◌-◌, ◌�
 use Rattle.std.specs.Prelude.{if◌then◌else◌, codes}
 use Rattle.std.proofs.lemmas.List.{length-append}
 use Rattle.conf_lex.specs.Symbols.{is_slash}
-use Rattle.conf_lex.specs.Lex.{Lexes}
-use Rattle.conf_lex.specs.Spans.{IsSpan, IsBetween}
+use Rattle.conf_scan.specs.Lex.{Lexes}
+use Rattle.conf_scan.specs.Spans.{IsSpan, IsBetween}
 use Rattle.conf_lex.specs.declared.symbol.Symbol.TheVariants as symbols
-use Rattle.conf_lex.specs.declared.token.Token.{Token}
-use Rattle.conf_lex.specs.declared.token.TokenKind.TheVariants as token_kinds
+use Rattle.conf_scan.specs.declared.token.Token.{Token}
+use Rattle.conf_scan.specs.declared.token.TokenKind.TheVariants as token_kinds
 use Rattle.conf_lex.specs.declared.word.Word.{Word}
 use Rattle.conf_lex.specs.declared.word.Word.TheVariants as words
 use Rattle.conf_lex.specs.Kind.{Kind, IsAddress, kind_of, symbol}
 use Rattle.conf_lex.specs.Grammar.{ParseTree, yield, begins}
 use Rattle.conf_lex.specs.Sentences.{IsBegun, IsBegunWithin}
-use Rattle.filt_syntax.specs.Syntax.{rule}
+use Rattle.expr_syntax.specs.Syntax.{rule}
 use Rattle.filt_syntax.specs.RefusedToken.{some_prefix, some_address, torn_of, IsPast, IsPastFirst}
 use Rattle.filt_syntax.specs.declared.parse.SyntaxFault.TheVariants as faults
 use Rattle.filt_syntax.specs.declared.refused_token.Torn.{Torn}
 use Rattle.filt_syntax.specs.declared.refused_token.Torn.TheVariants as torns
-use Rattle.conf_tree.specs.Syntax.{config}
+use Rattle.conf_syntax.specs.Syntax.{config}
 use Rattle.conf_tree.specs.Significant.{significant_words}
 use Rattle.conf_tree.specs.Sentence.{IsRefused}
 use Rattle.conf_tree.specs.Read.{byte_of, IsRefusedText}

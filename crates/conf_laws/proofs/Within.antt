@@ -6,9 +6,9 @@ use Rattle.bits_ip.specs.declared.address.Addr.{Addr}
 use Rattle.bits_ip.specs.declared.address.Addr.TheVariants.{V4, V6}
 use Rattle.conf_lex.specs.Symbols.{symbol_of, is_else, is_colon, is_slash}
 use Rattle.conf_lex.specs.Words.{kind_symbol}
-use Rattle.conf_lex.specs.declared.scan.Lexeme.TheVariants as lexemes
-use Rattle.conf_lex.specs.declared.token.TokenKind.{TokenKind}
-use Rattle.conf_lex.specs.declared.token.TokenKind.TheVariants as token_kinds
+use Rattle.conf_scan.specs.declared.scan.Lexeme.TheVariants as lexemes
+use Rattle.conf_scan.specs.declared.token.TokenKind.{TokenKind}
+use Rattle.conf_scan.specs.declared.token.TokenKind.TheVariants as token_kinds
 use Rattle.conf_lex.specs.declared.word.Word.{Word}
 use Rattle.conf_lex.specs.declared.word.Word.TheVariants as words
 use Rattle.conf_lex.specs.Kind.{Kind, IsAddress, IsPrefix, IsNoPrefix, kind_of}

@@ -1,10 +1,10 @@
 -- The words before a refused one begin a sentence.
 use Rattle.std.proofs.Common.{ℕ, List, take, subst}
-use Rattle.conf_lex.specs.declared.token.Token.{Token}
+use Rattle.conf_scan.specs.declared.token.Token.{Token}
 use Rattle.conf_lex.specs.declared.word.Word.{Word}
 use Rattle.conf_lex.specs.Sentences.{IsBegunWithin}
-use Rattle.filt_syntax.specs.Syntax.{rule}
-use Rattle.conf_tree.specs.Syntax.{config}
+use Rattle.expr_syntax.specs.Syntax.{rule}
+use Rattle.conf_syntax.specs.Syntax.{config}
 use Rattle.conf_tree.specs.Significant.{significant_words}
 use Rattle.conf_tree.specs.Sentence.{StopsAt}
 use Rattle.syntax_laws.proofs.Pasts.{front_is}

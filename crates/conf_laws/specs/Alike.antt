@@ -6,13 +6,14 @@
 use Rattle.std.specs.Prelude.{◌≡◌, ℕ, Bool, true, false, List, [], ◌∷◌, ◌++◌, length, take}
 use Rattle.bits_ip.specs.declared.address.Addr.{Addr}
 use Rattle.conf_lex.specs.Symbols.{is_colon, is_else, is_slash}
-use Rattle.conf_lex.specs.Words.{slice_of, token_symbol, is_prefix}
-use Rattle.conf_lex.specs.declared.token.Token.{Token}
-use Rattle.conf_lex.specs.declared.token.TokenKind.TheVariants as kinds
+use Rattle.conf_lex.specs.Words.{token_symbol, is_prefix}
+use Rattle.conf_scan.specs.Spans.{slice_of}
+use Rattle.conf_scan.specs.declared.token.Token.{Token}
+use Rattle.conf_scan.specs.declared.token.TokenKind.TheVariants as kinds
 use Rattle.conf_lex.specs.Grammar.{ParseTree, yield, DerivesLongest}
-use Rattle.filt_syntax.specs.Syntax.{rule}
+use Rattle.expr_syntax.specs.Syntax.{rule}
 use Rattle.filt_syntax.specs.RefusedToken.{CanFollow, some_prefix}
-use Rattle.conf_tree.specs.Syntax.{config}
+use Rattle.conf_syntax.specs.Syntax.{config}
 use Rattle.conf_tree.specs.Significant.{significant_words, token_of}
 
 -- a token of one text and a token of another are of one kind and have the same bytes

@@ -4,11 +4,11 @@
 -- From: own.
 -- Example: `router` and `id` are written ` router id `.
 use Rattle.std.specs.Prelude.{ℕ, ⊤, List, [], ◌∷◌, ◌++◌, map}
-use Rattle.conf_lex.specs.Shapes.{IsShape, IsValue}
-use Rattle.conf_lex.specs.Words.{slice_of}
-use Rattle.conf_lex.specs.declared.scan.Lexeme.{Lexeme}
-use Rattle.conf_lex.specs.declared.token.Token.{Token}
-use Rattle.conf_lex.specs.declared.token.TokenKind.{TokenKind}
+use Rattle.conf_scan.specs.Shapes.{IsShape, IsValue}
+use Rattle.conf_scan.specs.Spans.{slice_of}
+use Rattle.conf_scan.specs.declared.scan.Lexeme.{Lexeme}
+use Rattle.conf_scan.specs.declared.token.Token.{Token}
+use Rattle.conf_scan.specs.declared.token.TokenKind.{TokenKind}
 
 -- the bytes of a token, and what it is
 abbrev pub Spelling : Type 0

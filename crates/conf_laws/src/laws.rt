@@ -1,22 +1,22 @@
 //! What stands before a refused token begins a configuration.
 ghost use Rattle.std.specs.Prelude.{◌≡◌, ℕ, List, ◌∷◌, ◌++◌, length, take};
-ghost use Rattle.conf_lex.specs.Lex.{Lexes};
-ghost use Rattle.conf_lex.specs.declared.token.Token.{Token};
+ghost use Rattle.conf_scan.specs.Lex.{Lexes};
+ghost use Rattle.conf_scan.specs.declared.token.Token.{Token};
 ghost use Rattle.conf_lex.specs.declared.word.Word.{Word};
 ghost use Rattle.conf_lex.specs.Sentences.{IsBegunWithin};
 ghost use Rattle.filt_syntax.specs.Parse.{IsRefused};
-ghost use Rattle.filt_syntax.specs.Syntax.{block, expr, rule};
+ghost use Rattle.expr_syntax.specs.Syntax.{block, expr, rule};
 ghost use Rattle.conf_tree.specs.Read.{IsRefusedText};
 ghost use Rattle.conf_tree.specs.Significant.{significant_words};
 ghost use Rattle.conf_tree.specs.Sentence.{StopsAt};
-ghost use Rattle.conf_tree.specs.Syntax.{config};
+ghost use Rattle.conf_syntax.specs.Syntax.{config};
 ghost use Rattle.conf_ast.specs.declared.kind.ConfKind.{ConfKind};
 ghost use Rattle.conf_laws.specs.Begun.{BeginSome};
 ghost use Rattle.conf_laws.specs.Spaced.{Spelling, AreSpellings, spaced, spellings_of};
 
 use conf_ast::ConfKind;
 use conf_lex::Word;
-use conf_lex::laws::{texts_have_one_list_of_tokens, tokens_are_slices, tokens_rise};
+use conf_scan::laws::{texts_have_one_list_of_tokens, tokens_are_slices, tokens_rise};
 use filt_syntax::SyntaxFault;
 
 /// The words before one that can't stand there begin a sentence, and open no level over 64: in a

@@ -2,20 +2,20 @@
 //! first that no configuration has there; each tree is of a configuration; and each place has a
 //! line and a column.
 ghost use Rattle.std.specs.Prelude.{◌≡◌, ◌⊎◌, ℕ, ◌<◌, ◌^◌, List, ◌∷◌, ◌++◌, length};
-ghost use Rattle.conf_lex.specs.Lex.{Lexes};
-ghost use Rattle.conf_lex.specs.declared.token.Token.{Token};
+ghost use Rattle.conf_scan.specs.Lex.{Lexes};
+ghost use Rattle.conf_scan.specs.declared.token.Token.{Token};
 ghost use Rattle.conf_lex.specs.Grammar.{ParseTree, yield, DerivesLongest, Derives};
-ghost use Rattle.filt_syntax.specs.Syntax.{rule};
+ghost use Rattle.expr_syntax.specs.Syntax.{rule};
 ghost use Rattle.conf_tree.specs.Position.{IsPlace};
 ghost use Rattle.conf_tree.specs.Read.{IsConfigText, IsRefusedText};
-ghost use Rattle.conf_tree.specs.Syntax.{config};
+ghost use Rattle.conf_syntax.specs.Syntax.{config};
 ghost use Rattle.conf_tree.specs.View.{statements_tree};
 ghost use Rattle.conf_ast.specs.declared.configurations.Statement.{Statement};
 ghost use Rattle.conf_ast.specs.declared.kind.ConfKind.{ConfKind};
 ghost use Rattle.conf_laws.specs.Alike.{IsAlike, AreAlike, DecideAlike, IsNoSentence};
 
 use conf_ast::ConfKind;
-use conf_lex::laws::{texts_have_one_list_of_tokens, tokens_are_slices, tokens_rise};
+use conf_scan::laws::{texts_have_one_list_of_tokens, tokens_are_slices, tokens_rise};
 use syntax_laws::words::each_text_has_tokens_or_a_place;
 
 /// Each place of a text has a line and a column.

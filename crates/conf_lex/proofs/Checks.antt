@@ -3,7 +3,7 @@ use Rattle.std.proofs.Common.{◌≡◌, ℕ, zero, suc, Bool, true, false, cond
 use Rattle.bits_ip.specs.declared.address.Addr.TheVariants.{V4}
 use denote.Enum.Declared.{tag_of}
 use Rattle.conf_lex.specs.Attributes.{attribute_spellings}
-use Rattle.conf_lex.specs.contracts.attribute.Attribute as attribute_type
+use Rattle.conf_ast.specs.contracts.attribute.Attribute as attribute_type
 use Rattle.conf_lex.specs.contracts.symbol.Symbol as symbol_type
 use Rattle.conf_ast.specs.declared.attribute.Attribute.{Attribute}
 use Rattle.conf_ast.specs.declared.attribute.Attribute.TheVariants as attributes

@@ -4,7 +4,7 @@ use Rattle.std.specs.Bool.{then_some}
 use Rattle.std.specs.Borrow.{Bor}
 use Rattle.conf_lex.specs.Grammar.{begins}
 use denote.Enum.Bare.{sameb, same_true, true_same}
-use Rattle.conf_lex.specs.contracts.attribute.Attribute as attribute_type
+use Rattle.conf_ast.specs.contracts.attribute.Attribute as attribute_type
 use Rattle.conf_lex.specs.contracts.symbol.Symbol as symbol_type
 use Rattle.conf_ast.specs.declared.attribute.Attribute.{Attribute}
 use Rattle.conf_lex.specs.declared.symbol.Symbol.{Symbol}

@@ -3,11 +3,11 @@ use Rattle.std.specs.Prelude.{◌≡◌, ℕ, Bool, true, false, if◌then◌els
 use Rattle.std.specs.Prelude.{[], ◌∷◌}
 use Rattle.conf_lex.specs.Symbols.{is_colon, is_slash}
 use Rattle.conf_lex.specs.Words.{token_symbol}
-use Rattle.conf_lex.specs.declared.lexer.Spot.{Spot}
-use Rattle.conf_lex.specs.declared.token.Token.{Token}
-use Rattle.conf_lex.specs.declared.token.TokenKind.{TokenKind}
-use Rattle.conf_lex.specs.declared.token.TokenKind.TheVariants as kinds
-use Rattle.conf_lex.specs.Walks.{IsStep}
+use Rattle.conf_scan.specs.declared.lexer.Spot.{Spot}
+use Rattle.conf_scan.specs.declared.token.Token.{Token}
+use Rattle.conf_scan.specs.declared.token.TokenKind.{TokenKind}
+use Rattle.conf_scan.specs.declared.token.TokenKind.TheVariants as kinds
+use Rattle.conf_scan.specs.Spots.{IsStep}
 
 -- a colon begins the tokens
 abbrev pub begins_colon : List ℕ → List Token → Bool

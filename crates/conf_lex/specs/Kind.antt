@@ -5,7 +5,7 @@
 use Rattle.std.specs.Prelude.{Bool, true, false, cond}
 use Rattle.conf_lex.specs.Symbols.{is_placed}
 use denote.Enum.Bare.{sameb}
-use Rattle.conf_lex.specs.contracts.attribute.Attribute as attribute_type
+use Rattle.conf_ast.specs.contracts.attribute.Attribute as attribute_type
 use Rattle.conf_lex.specs.contracts.symbol.Symbol as symbol_type
 use Rattle.conf_ast.specs.declared.attribute.Attribute.{Attribute}
 use Rattle.conf_lex.specs.declared.symbol.Symbol.{Symbol}

@@ -1,10 +1,6 @@
-pub mod Shapes
-pub mod Lex
-pub mod Fronts
 pub mod Symbols
 pub mod Attributes
 pub mod Words
-pub mod Spans
 pub mod Walks
 pub mod Kind
 pub mod Grammar

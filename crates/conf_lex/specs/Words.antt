@@ -5,9 +5,8 @@
 -- From: own; an `else` with a colon is of BIRD User's Guide, "Filters" (section "Control
 -- structures").
 -- Example: `10.0.0.0 / 8` is one word, `10.0.0.1 / x` three; `else /* c */ :` is one.
-use Rattle.std.specs.Prelude.{ℕ, suc, zero, ◌+◌, ◌-◌, ◌%◌, ◌^◌, ◌≤◌, Bool, true, ◌&&◌, ◌==◌, nat_le}
-use Rattle.std.specs.Prelude.{if◌then◌else◌, ⊤, Option, Some, None, List, [], ◌∷◌, length, take}
-use Rattle.std.specs.Prelude.{drop}
+use Rattle.std.specs.Prelude.{ℕ, suc, zero, ◌+◌, ◌-◌, ◌%◌, ◌^◌, Bool, true, ◌&&◌, ◌==◌, nat_le}
+use Rattle.std.specs.Prelude.{if◌then◌else◌, Option, Some, None, List, [], ◌∷◌}
 use Rattle.bits_ip.specs.Address.{number_of, width_of}
 use Rattle.bits_ip.specs.declared.address.Addr.{Addr}
 use Rattle.conf_lex.specs.Attributes.{attribute_of, constant_of}
@@ -16,15 +15,12 @@ use Rattle.conf_ast.specs.declared.attribute.Attribute.{Attribute}
 use Rattle.conf_ast.specs.declared.attribute.Constant.{Constant}
 use Rattle.conf_lex.specs.declared.symbol.Symbol.{Symbol}
 use Rattle.conf_lex.specs.declared.symbol.Symbol.TheVariants as symbols
-use Rattle.conf_lex.specs.declared.token.Token.{Token}
-use Rattle.conf_lex.specs.declared.token.TokenKind.{TokenKind}
-use Rattle.conf_lex.specs.declared.token.TokenKind.TheVariants as kinds
+use Rattle.conf_scan.specs.Spans.{slice_of}
+use Rattle.conf_scan.specs.declared.token.Token.{Token}
+use Rattle.conf_scan.specs.declared.token.TokenKind.{TokenKind}
+use Rattle.conf_scan.specs.declared.token.TokenKind.TheVariants as kinds
 use Rattle.conf_lex.specs.declared.word.Word.{Word}
 use Rattle.conf_lex.specs.declared.word.Word.TheVariants as words
-
--- the bytes of a token
-abbrev pub slice_of : List ℕ → Token → List ℕ
-slice_of text t = take t.len (drop t.at text)
 
 -- the symbol that a word or sign is; what stands between quotes is none
 abbrev pub kind_symbol : List ℕ → TokenKind → Option Symbol
@@ -104,17 +100,3 @@ words_from text i zero (t ∷ ts) =
 -- the words of a text with these tokens, each with the number of its first token
 abbrev pub words_of : List ℕ → List Token → List (ℕ × Word)
 words_of text tokens = words_from text 0 0 tokens
-
--- The token stands within the text, and what is between quotes has two of them.
-abbrev pub quotes_of : TokenKind → ℕ
-quotes_of kinds.QuotedName = 2
-quotes_of kinds.Text = 2
-quotes_of _ = 0
-
-pub record IsWithin (text : List ℕ) (t : Token) : Type 0 where
-  pub ends : t.at + t.len ≤ length text
-  pub quotes : quotes_of t.kind ≤ t.len
-
-abbrev pub AreWithin : List ℕ → List Token → Type 0
-AreWithin text [] = ⊤
-AreWithin text (t ∷ ts) = IsWithin text t × AreWithin text ts

@@ -2,22 +2,23 @@
 
 ghost use Rattle.std.specs.Prelude.{◌≡◌, true, false, List, [], None, IfOk, IfErr, MatchOption};
 ghost use Rattle.conf_lex.specs.Symbols.{is_else};
-ghost use Rattle.conf_lex.specs.Words.{token_symbol, word_of, IsWithin};
-ghost use Rattle.conf_lex.specs.Walks.{IsSpot, IsStep, IsStuckFrom, IsWordStep, LexesFrom};
+ghost use Rattle.conf_lex.specs.Words.{token_symbol, word_of};
+ghost use Rattle.conf_scan.specs.Spans.{IsWithin};
+ghost use Rattle.conf_lex.specs.Walks.{IsWordStep};
+ghost use Rattle.conf_scan.specs.Spots.{IsSpot, IsStep, IsStuckFrom, LexesFrom};
 ghost use Rattle.conf_lex.specs.Inside.{begins_colon, number_of, first_number, first_length};
 ghost use Rattle.conf_lex.specs.Inside.{IsColonStep, IsNumberStep, IsLengthStep};
-ghost use Rattle.conf_lex.specs.declared.lexer.Spot.{Spot};
+ghost use Rattle.conf_scan.specs.declared.lexer.Spot.{Spot};
 ghost use Rattle.conf_lex.specs.declared.symbol.Symbol.TheVariants as symbols;
-ghost use Rattle.conf_lex.specs.declared.token.Token.{Token};
-ghost use Rattle.conf_lex.specs.declared.token.TokenKind.TheVariants as kinds;
+ghost use Rattle.conf_scan.specs.declared.token.Token.{Token};
+ghost use Rattle.conf_scan.specs.declared.token.TokenKind.TheVariants as kinds;
 ghost use Rattle.conf_lex.specs.declared.word.Word.TheVariants as words;
 
-use crate::lexer::{Spot, next_token};
 use crate::symbol::Symbol;
-use crate::token::{LexFault, Token, TokenKind};
 use crate::token_words::{is_colon, is_slash, prefix_word, token_symbol, word_of};
 use crate::word::Word;
 use conf_ast::PackedAddr;
+use conf_scan::{LexFault, Spot, Token, TokenKind, next_token};
 
 // The next token, where there is one.
 fn token_ahead(text: &[u8], spot: Spot) -> Option<(Token, Spot)>

@@ -1,20 +1,21 @@
 ghost use Rattle.std.specs.Prelude.{◌≡◌, ◌≤◌, ◌<◌, ◌+◌, ℕ, List, [], ◌∷◌, length, map, drop, take};
 ghost use Rattle.std.specs.Prelude.{IfOk, IfSome, MatchOption};
-ghost use Rattle.conf_lex.specs.Lex.{Lexes};
+ghost use Rattle.conf_scan.specs.Lex.{Lexes};
 ghost use Rattle.conf_lex.specs.Symbols.{symbol_of, is_else, is_colon, is_slash};
 ghost use Rattle.conf_lex.specs.Attributes.{attribute_of, constant_of};
-ghost use Rattle.conf_lex.specs.Words.{slice_of, token_symbol, word_of, symbol_word, spelled_word};
+ghost use Rattle.conf_lex.specs.Words.{token_symbol, word_of, symbol_word, spelled_word};
+ghost use Rattle.conf_scan.specs.Spans.{slice_of};
 ghost use Rattle.conf_lex.specs.Words.{named_word, constant_or_name};
 ghost use Rattle.conf_lex.specs.Words.{prefix_word, slashed, first_word, words_from, words_of};
-ghost use Rattle.conf_lex.specs.Words.{IsWithin, AreWithin};
+ghost use Rattle.conf_scan.specs.Spans.{IsWithin, AreWithin};
 
 use crate::attribute::{attribute_of, constant_of};
 use crate::keywords::{is_placed, symbol_of};
 use crate::symbol::Symbol;
-use crate::token::{Token, TokenKind};
 use crate::word::{Word, Words};
 use bits_ip::{Addr, OutOfMemory, Prefix};
 use conf_ast::PackedAddr;
+use conf_scan::{Token, TokenKind};
 use std::alloc::Global;
 
 fn symbol_word(at: usize, symbol: Symbol) -> Word

@@ -19,10 +19,11 @@ use Rattle.conf_ast.specs.declared.filters.Stmt.TheViews.{roll-Stmt}
 use Rattle.conf_ast.specs.declared.filters.Stmt.TheFolds.{map-Stmt, fold-roll-Stmt, ind-Stmt}
 use Rattle.conf_ast.specs.declared.filters.Target.{Target}
 use Rattle.conf_ast.specs.declared.filters.Target.TheVariants as targets
-use Rattle.filt_syntax.specs.Syntax.{rule, expr, stmt, label, arm_part, listed, optional, many, block}
-use Rattle.filt_syntax.specs.ItemView.{label_tree}
-use Rattle.filt_syntax.specs.View.{expr_tree, listed_tree, arguments_tree}
-use Rattle.filt_syntax.specs.StatementView.{stmt_step, stmt_tree, row_after, row_tree, as_part, as_label, body_after, ArmParts, arms_after, arms_row, seen_arm, case_tree, initial_tree, result_tree, assign_tree, change_stmt_tree, block_view}
+use Rattle.expr_syntax.specs.Syntax.{rule, expr, stmt, label, arm_part, listed, optional, many, block}
+use Rattle.expr_syntax.specs.ItemView.{label_tree}
+use Rattle.expr_syntax.specs.View.{expr_tree, listed_tree, arguments_tree}
+use Rattle.filt_syntax.specs.StatementView.{stmt_step, stmt_tree, as_part, as_label, body_after, ArmParts, arms_after, arms_row, seen_arm, case_tree, initial_tree, result_tree, assign_tree, change_stmt_tree, block_view}
+use Rattle.expr_syntax.specs.Rows.{row_after, row_tree}
 use Rattle.conf_ast.specs.Filters.{Expressions, AndExpressions, expression_of, expressions_of, Statement, Assign, Case, CaseElse, Statements, Arms, NoArms, AndArms, statements, arms, statement_step, statement_of, statements_of, block_of, changed}
 use Rattle.conf_places.specs.Filters.{of_item, of_items, of_expression, of_expressions, of_optional, of_statement, of_statements, of_arms}
 use Rattle.conf_places.proofs.Every.{Every, join}

@@ -28,16 +28,17 @@ use Rattle.filt_types.specs.Items as items
 use Rattle.filt_types.specs.Items.{is_none}
 use Rattle.filt_types.specs.Scenes.{constant_of}
 use Rattle.filt_types.specs.Refused as filters
-use Rattle.conf_rules.specs.declared.refusal.Refusal.{Refusal}
+use Rattle.conf_names.specs.declared.refusal.Refusal.{Refusal}
 use Rattle.conf_rules.specs.Channels as channels
 use Rattle.conf_rules.specs.Channels.{passing, limit, settings_of, is_other_family, family_of_table, channel, second_channels, one_channel, lacks_policy, same_family}
-use Rattle.conf_rules.specs.Constants.{value}
-use Rattle.conf_rules.specs.Known.{Known, is_declared, longest_name, too_long, table_of, is_filter, filter, number, number_of}
-use Rattle.conf_rules.specs.Known as known_names
-use Rattle.conf_rules.specs.declared.joints.Joint.{Joint}
-use Rattle.conf_rules.specs.Joints.{joined}
-use Rattle.conf_rules.specs.Protocols.{cycle, joint_of, own_name, static_stem, bgp_stem, pipe_stem, pipe_names, place_of, name_too_long, most_protocols, declaring, static_setting, static_settings, static_channels, static_routes, family_of_target, family_of_route, families_of_routes, nettypes, repeated, static, optional_number, transport, bgp_setting, bgp_settings, bgp_channels, last_local, last_neighbor, last_med_metric, lacks, as_number, is_external, policies, is_on, med_metric, session, bgp, pipe_setting, pipe_settings, last_table, last_peer, primary_family, differ, peer_family, pipe}
-use Rattle.conf_rules.specs.Refusals.{of_filters, refused_if}
+use Rattle.conf_names.specs.Constants.{value}
+use Rattle.conf_names.specs.Known.{Known, is_declared, longest_name, too_long, table_of, is_filter, filter, number, number_of}
+use Rattle.conf_names.specs.Known as known_names
+use Rattle.conf_names.specs.declared.joints.Joint.{Joint}
+use Rattle.conf_names.specs.Joints.{joined}
+use Rattle.conf_rules.specs.Protocols.{cycle, joint_of, static_setting, static_settings, static_channels, static_routes, family_of_target, family_of_route, families_of_routes, nettypes, repeated, static, optional_number, transport, bgp_setting, bgp_settings, bgp_channels, last_local, last_neighbor, last_med_metric, lacks, as_number, is_external, policies, is_on, med_metric, session, bgp, pipe_setting, pipe_settings, last_table, last_peer, primary_family, differ, peer_family, pipe}
+use Rattle.conf_names.specs.Names.{own_name, static_stem, bgp_stem, pipe_stem, pipe_names, place_of, name_too_long, most_protocols, declaring}
+use Rattle.conf_names.specs.Refusals.{of_filters, refused_if}
 use Rattle.conf_rules.specs.Statements.{most_tables, is_master, one_more_table, refusals}
 use Rattle.conf_places.specs.Configurations.{of_value, of_passing, of_limit, of_channel_setting, of_each, of_maybe, of_channel, of_name, of_address, of_target, of_route, of_static_setting, of_transport, of_bgp_setting, of_pipe_setting, of_instance, places}
 use Rattle.conf_places.specs.Filters.{of_num, of_optional_num, of_expression, of_statements, of_parameters}

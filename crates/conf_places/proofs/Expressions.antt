@@ -15,10 +15,10 @@ use Rattle.conf_ast.specs.declared.filters.Expr.TheOpen.{Expr-F}
 use Rattle.conf_ast.specs.declared.filters.Expr.TheViews.{roll-Expr}
 use Rattle.conf_ast.specs.declared.filters.Expr.TheFolds.{map-Expr, fold-roll-Expr, ind-Expr}
 use Rattle.conf_ast.specs.declared.filters.Expr.TheShapes.{former-Expr-Postfix-1-at-4}
-use Rattle.filt_syntax.specs.Syntax.{rule, primary, postfix, unary, product, sum, comparison, expr, listed, optional}
-use Rattle.filt_syntax.specs.Levels.{Form}
-use Rattle.filt_syntax.specs.Syntax as forms
-use Rattle.filt_syntax.specs.View.{Derivations, derivations, derivations_step, as_primary, as_postfix, as_unary, as_product, as_sum, as_comparison, as_expr, chain_of, parts_after, listed_after, arguments_tree, listed_tree, access_part, mul_op_part, add_op_part, logical_op_part, property_tree, method_tree, mul_op_symbol, add_op_symbol, logical_op_symbol}
+use Rattle.expr_syntax.specs.Syntax.{rule, primary, postfix, unary, product, sum, comparison, expr, listed, optional}
+use Rattle.expr_syntax.specs.Levels.{Form}
+use Rattle.expr_syntax.specs.Syntax as forms
+use Rattle.expr_syntax.specs.View.{Derivations, derivations, derivations_step, as_primary, as_postfix, as_unary, as_product, as_sum, as_comparison, as_expr, chain_of, parts_after, listed_after, arguments_tree, listed_tree, access_part, mul_op_part, add_op_part, logical_op_part, property_tree, method_tree, mul_op_symbol, add_op_symbol, logical_op_symbol}
 use Rattle.conf_ast.specs.Filters.{Expression, PropertyOf, Changed, Multiplied, Added, Joined, Expressions, NoExpressions, AndExpressions, expressions, accessed, multiplied, added, joined, expression_step, expression_of}
 use Rattle.conf_places.specs.Filters.{of_expression, of_expressions}
 use Rattle.conf_places.proofs.Every.{Every, join}

@@ -2,9 +2,9 @@
 use Rattle.std.proofs.Common.{◌≡◌, ℕ, zero, suc, ◌<◌, arith, Bool, true, false, ◌&&◌, ◌||◌, ◌==◌, nat_lt, All, Contains, get_or, length, List, [], ◌∷◌, ◌++◌, Option, Some, None, refl, ap, ◌∙◌, sym as flip, true≢false}
 use Rattle.std.proofs.lemmas.Bool.{eqb-true, ltb-true}
 use Rattle.conf_ast.specs.Configurations.{Declaration}
-use Rattle.conf_rules.specs.declared.refusal.Refusal.{Refusal}
-use Rattle.conf_rules.specs.Known.{Known}
-use Rattle.conf_rules.specs.Refusals.{first_in, precedes, number_of}
+use Rattle.conf_names.specs.declared.refusal.Refusal.{Refusal}
+use Rattle.conf_names.specs.Known.{Known}
+use Rattle.conf_names.specs.Refusals.{first_in, precedes, number_of}
 use Rattle.conf_rules.specs.Statements.{refusals}
 use Rattle.conf_check.specs.Behind.{behind_one}
 use Rattle.conf_check.specs.Refused.{or_later, refusal_of}

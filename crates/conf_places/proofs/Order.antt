@@ -1,17 +1,17 @@
 -- The words of a text stand in its order, and so do the places of the statements that it says.
 use Rattle.std.proofs.Common.{◌≡◌, ℕ, zero, suc, ◌+◌, ◌-◌, ◌<◌, arith, All, Bool, true, false, cond, List, [], ◌∷◌, ◌++◌, map, refl, ap, subst, ◌∙◌, sym as flip}
 use Rattle.std.specs.Bool.{⊤}
-use Rattle.conf_lex.specs.Lex.{Lexes}
-use Rattle.conf_lex.specs.Spans.{IsSpan, IsBetween}
+use Rattle.conf_scan.specs.Lex.{Lexes}
+use Rattle.conf_scan.specs.Spans.{IsSpan, IsBetween}
 use Rattle.conf_lex.specs.Words.{first_word, words_from, words_of}
-use Rattle.conf_lex.specs.declared.token.Token.{Token}
+use Rattle.conf_scan.specs.declared.token.Token.{Token}
 use Rattle.conf_lex.specs.declared.word.Word.{Word}
 use Rattle.conf_lex.specs.Grammar.{ParseTree, NoWords, Single, Snoc, DerivesLongest, yield}
-use Rattle.filt_syntax.specs.Syntax.{rule}
-use Rattle.filt_syntax.specs.StatementView.{row_after}
+use Rattle.expr_syntax.specs.Syntax.{rule}
+use Rattle.expr_syntax.specs.Rows.{row_after}
 use Rattle.conf_tree.specs.Read.{IsConfigText}
 use Rattle.conf_tree.specs.Significant.{significant, is_significant, behind}
-use Rattle.conf_tree.specs.Syntax as forms
+use Rattle.conf_syntax.specs.Syntax as forms
 use Rattle.conf_tree.specs.View.{statement_tree, statements_tree}
 use Rattle.conf_tree.specs.declared.significant.Region.{Region}
 use Rattle.conf_tree.specs.declared.significant.Region.TheVariants as regions

@@ -1,9 +1,9 @@
 -- The refusal of a configuration stands in one of its statements.
 use Rattle.std.proofs.Common.{◌≡◌, ℕ, List, [], ◌∷◌, Contains, Option, Some, None, refl, ap}
 use Rattle.conf_ast.specs.Configurations.{Declaration}
-use Rattle.conf_rules.specs.declared.refusal.Refusal.{Refusal}
-use Rattle.conf_rules.specs.Known.{Known}
-use Rattle.conf_rules.specs.Refusals.{first_in}
+use Rattle.conf_names.specs.declared.refusal.Refusal.{Refusal}
+use Rattle.conf_names.specs.Known.{Known}
+use Rattle.conf_names.specs.Refusals.{first_in}
 use Rattle.conf_rules.specs.Statements.{refusals}
 use Rattle.conf_check.specs.Behind.{behind_one}
 use Rattle.conf_check.specs.Refused.{or_later, refusal_of}

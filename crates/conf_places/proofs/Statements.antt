@@ -9,9 +9,9 @@ use Rattle.conf_lex.specs.Leaves.{name_leaf}
 use Rattle.conf_ast.specs.declared.filters.Num.{Num}
 use Rattle.conf_ast.specs.declared.filters.Parameter.{Parameter}
 use Rattle.conf_ast.specs.declared.filters.Separator.{Separator}
-use Rattle.filt_syntax.specs.ItemView.{num_tree}
-use Rattle.filt_syntax.specs.Syntax.{rule, optional, semicolon}
-use Rattle.filt_syntax.specs.Levels.{Form}
+use Rattle.expr_syntax.specs.ItemView.{num_tree}
+use Rattle.expr_syntax.specs.Syntax.{rule, optional, semicolon}
+use Rattle.expr_syntax.specs.Levels.{Form}
 use Rattle.conf_ast.specs.declared.configurations.Address.{Address}
 use Rattle.conf_ast.specs.declared.configurations.BgpOption.{BgpOption}
 use Rattle.conf_ast.specs.declared.configurations.BgpOption.TheVariants as bgp_options
@@ -35,8 +35,9 @@ use Rattle.conf_ast.specs.declared.configurations.StaticOption.{StaticOption}
 use Rattle.conf_ast.specs.declared.configurations.StaticOption.TheVariants as static_options
 use Rattle.conf_ast.specs.declared.configurations.Transport.{Transport}
 use Rattle.conf_ast.specs.declared.configurations.Transport.TheVariants as transports
-use Rattle.conf_tree.specs.Syntax as forms
-use Rattle.conf_tree.specs.View.{maybe, address_leaf, policy_tree, limit_tree, channel_option_tree, ended_tree, ended_row, channel_options_tree, channel_tree, target_tree, static_option_tree, transport_tree, bgp_option_tree, pipe_option_tree, literal_tree, parameters_tree, parameters_after, next_parameter, first_parameter, protocol_tree, statement_tree, statements_tree}
+use Rattle.conf_syntax.specs.Syntax as forms
+use Rattle.conf_tree.specs.View.{policy_tree, channel_option_tree, channel_options_tree, channel_tree, static_option_tree, bgp_option_tree, pipe_option_tree, parameters_tree, parameters_after, next_parameter, first_parameter, protocol_tree, statement_tree, statements_tree}
+use Rattle.conf_syntax.specs.View.{maybe, address_leaf, limit_tree, ended_tree, ended_row, target_tree, transport_tree, literal_tree}
 use Rattle.conf_ast.specs.Configurations.{value_of, passing_of, channel_setting_of, channel_settings_of, channel_of, static_setting_of, bgp_setting_of, pipe_setting_of, instance_of, declaration_of, configuration_of}
 use Rattle.conf_places.specs.Configurations.{of_value, of_passing, of_limit, of_channel_setting, of_each, of_maybe, of_channel, of_name, of_address, of_target, of_static_setting, of_transport, of_bgp_setting, of_pipe_setting, of_instance, places}
 use Rattle.conf_places.specs.Filters.{of_num, of_optional_num, of_parameters, of_statements}

@@ -1,18 +1,19 @@
 -- The words of a text stand where its tokens do.
 use Rattle.std.proofs.Common.{◌≡◌, ℕ, zero, suc, ◌+◌, ◌-◌, ◌<◌, arith, Bool, true, false, ◌&&◌, cond, if◌then◌else◌, List, [], ◌∷◌, ◌++◌, length, map, Option, Some, None, refl, ap, subst, sym as flip}
 use Rattle.bits_ip.specs.declared.address.Addr.{Addr}
-use Rattle.conf_lex.specs.Lex.{Lexes}
-use Rattle.conf_lex.specs.Spans.{IsSpan}
+use Rattle.conf_scan.specs.Lex.{Lexes}
+use Rattle.conf_scan.specs.Spans.{IsSpan}
 use Rattle.conf_lex.specs.Attributes.{attribute_of, constant_of}
 use Rattle.conf_lex.specs.Symbols.{symbol_of, is_placed, is_else, is_colon, is_slash}
-use Rattle.conf_lex.specs.Words.{word_of, kind_word, constant_or_name, named_word, spelled_word, is_prefix, first_word, slashed, or_alone, token_symbol, slice_of, words_from, words_of}
+use Rattle.conf_lex.specs.Words.{word_of, kind_word, constant_or_name, named_word, spelled_word, is_prefix, first_word, slashed, or_alone, token_symbol, words_from, words_of}
+use Rattle.conf_scan.specs.Spans.{slice_of}
 use Rattle.conf_ast.specs.declared.attribute.Attribute.{Attribute}
 use Rattle.conf_ast.specs.declared.attribute.Constant.{Constant}
 use Rattle.conf_lex.specs.declared.symbol.Symbol.{Symbol}
 use Rattle.conf_lex.specs.declared.symbol.Symbol.TheVariants as symbols
-use Rattle.conf_lex.specs.declared.token.Token.{Token}
-use Rattle.conf_lex.specs.declared.token.TokenKind.{TokenKind}
-use Rattle.conf_lex.specs.declared.token.TokenKind.TheVariants as kinds
+use Rattle.conf_scan.specs.declared.token.Token.{Token}
+use Rattle.conf_scan.specs.declared.token.TokenKind.{TokenKind}
+use Rattle.conf_scan.specs.declared.token.TokenKind.TheVariants as kinds
 use Rattle.conf_lex.specs.declared.word.Word.{Word}
 use Rattle.conf_lex.specs.declared.word.Word.TheVariants as words
 use Rattle.conf_tree.specs.Significant.{significant, is_significant, behind, significant_words}

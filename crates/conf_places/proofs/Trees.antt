@@ -20,11 +20,11 @@ use Rattle.conf_ast.specs.declared.filters.PairPart.TheVariants as pair_parts
 use Rattle.conf_ast.specs.declared.filters.NumRange.{NumRange}
 use Rattle.conf_ast.specs.declared.filters.Atom.{Atom}
 use Rattle.conf_ast.specs.declared.filters.Atom.TheVariants as atoms
-use Rattle.filt_syntax.specs.Syntax.{rule}
-use Rattle.filt_syntax.specs.Levels.{Form}
-use Rattle.filt_syntax.specs.ItemView.{num_tree, high_tree, num_range_tree, pair_part_tree, lengths_part, item_tree, items_after, items_tree, mask_atom_tree, mask_item_tree, mask_after, mask_items_tree}
-use Rattle.filt_syntax.specs.StatementView.{row_after}
-use Rattle.filt_syntax.specs.View.{atom_word}
+use Rattle.expr_syntax.specs.Syntax.{rule}
+use Rattle.expr_syntax.specs.Levels.{Form}
+use Rattle.expr_syntax.specs.ItemView.{num_tree, high_tree, num_range_tree, pair_part_tree, lengths_part, item_tree, items_after, items_tree, mask_atom_tree, mask_item_tree, mask_after, mask_items_tree}
+use Rattle.expr_syntax.specs.Rows.{row_after}
+use Rattle.expr_syntax.specs.View.{atom_word}
 use Rattle.conf_places.specs.Filters.{of_num, of_optional_num, of_part, of_pair_part, of_lengths, of_item, of_items, of_atom, of_mask, of_simple}
 use Rattle.conf_places.specs.Configurations.{of_each}
 use Rattle.conf_places.specs.Words.{of_word, of_words}

@@ -1,23 +1,23 @@
 ghost use Rattle.std.specs.Prelude.{◌≡◌, ◌<◌, ℕ, List, ◌∷◌, ◌++◌, length, None, Some, All};
 ghost use Rattle.std.specs.Prelude.{Contains};
 ghost use Rattle.conf_lex.specs.Grammar.{DerivesLongest, yield};
-ghost use Rattle.filt_syntax.specs.Syntax.{rule};
+ghost use Rattle.expr_syntax.specs.Syntax.{rule};
 ghost use Rattle.conf_ast.specs.declared.configurations.Statement.{Statement};
 ghost use Rattle.conf_tree.specs.Read.{IsConfigText};
-ghost use Rattle.conf_tree.specs.Syntax.{statement};
+ghost use Rattle.conf_syntax.specs.Syntax.{statement};
 ghost use Rattle.conf_tree.specs.View.{statement_tree, statements_tree};
 ghost use Rattle.conf_ast.specs.Configurations.{Declaration, configuration_of, declaration_of};
-ghost use Rattle.conf_rules.specs.Known.{Known};
-ghost use Rattle.conf_rules.specs.Refusals.{first_in};
+ghost use Rattle.conf_names.specs.Known.{Known};
+ghost use Rattle.conf_names.specs.Refusals.{first_in};
 ghost use Rattle.conf_rules.specs.Statements.{refusals};
-ghost use Rattle.conf_rules.specs.declared.refusal.Refusal.{Refusal};
+ghost use Rattle.conf_names.specs.declared.refusal.Refusal.{Refusal};
 ghost use Rattle.conf_check.specs.Refused.{refusal_of};
 ghost use Rattle.conf_places.specs.Configurations.{IsBefore, IsPlaceIn, places};
 ghost use Rattle.conf_places.specs.Refused.{gathered};
 ghost use Rattle.conf_places.specs.Words.{IsTokenPlace, of_words};
 
-use conf_lex::laws::{tokens_are_slices, tokens_rise};
-use conf_rules::laws::first_refusals_are_the_first;
+use conf_names::laws::first_refusals_are_the_first;
+use conf_scan::laws::{tokens_are_slices, tokens_rise};
 
 /// Whatever is declared before a statement, what is refused of it stands at a place that is written
 /// in it: where one of its words begins.

@@ -9,14 +9,14 @@ use Rattle.conf_ast.specs.declared.kind.ConfKind.TheVariants as kinds
 use Rattle.conf_ast.specs.declared.configurations.Route.{Route}
 use Rattle.conf_ast.specs.declared.configurations.Switch.{Switch}
 use Rattle.conf_ast.specs.Configurations.{ChannelSetting, ChannelTable, ChannelImport, ChannelExport, ChannelPreference, ChannelLimit, ChannelNextHop, FamilyChannel, StaticSetting, StaticChannel, StaticRoute, BgpSetting, BgpChannel, BgpLocal, BgpNeighbor, BgpMedMetric, BgpInterpretCommunities, BgpDefaultMed, BgpDefaultLocalPref, BgpTransport, PipeSetting, PipeTable, PipePeerTable, PipeImport, PipeExport}
-use Rattle.conf_rules.specs.declared.refusal.Refusal.{Refusal}
+use Rattle.conf_names.specs.declared.refusal.Refusal.{Refusal}
 use Rattle.conf_rules.specs.Channels as channels
 use Rattle.conf_rules.specs.Channels.{is_empty, one_channel, second_channels}
 use Rattle.conf_rules.specs.Protocols.{families_of_routes, family_of_route, repeated, static_channels, static_routes, bgp_channels, last_local, last_neighbor, last_med_metric, last_peer, last_table}
-use Rattle.conf_rules.specs.Refusals.{first_in, refused_if}
+use Rattle.conf_names.specs.Refusals.{first_in, refused_if}
 use Rattle.conf_rules.specs.Walks.{behind, family_in, has_channel, seen_behind}
-use Rattle.conf_rules.proofs.Firsts.{first_append, first_rest, lists_past}
-use Rattle.conf_rules.proofs.Turns.{or_apart}
+use Rattle.conf_names.proofs.Firsts.{first_append, first_rest, lists_past}
+use Rattle.conf_names.proofs.Turns.{or_apart}
 
 -- ---- the last one that counts
 

@@ -14,9 +14,9 @@ use Rattle.conf_ast.specs.declared.configurations.Limit.TheVariants as limits
 use Rattle.conf_ast.specs.Configurations.{Passing, PassAll, PassNone, PassByFilter, PassByBlock, PassWhere, ChannelSetting, ChannelTable, ChannelImport, ChannelExport, ChannelPreference, ChannelLimit, ChannelNextHop, FamilyChannel}
 use Rattle.filt_meaning.specs.Configuration.{filter_where}
 use Rattle.filt_types.specs.Refused as filters
-use Rattle.conf_rules.specs.declared.refusal.Refusal.{Refusal}
-use Rattle.conf_rules.specs.Known.{Known, filter, number, table, table_of}
-use Rattle.conf_rules.specs.Refusals.{of_filters, refused_if}
+use Rattle.conf_names.specs.declared.refusal.Refusal.{Refusal}
+use Rattle.conf_names.specs.Known.{Known, filter, number, table, table_of}
+use Rattle.conf_names.specs.Refusals.{of_filters, refused_if}
 
 -- ---- policies
 

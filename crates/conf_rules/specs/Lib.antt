@@ -1,9 +1,4 @@
-pub mod Refusals
-pub mod Joints
-pub mod Known
-pub mod Constants
 pub mod Channels
 pub mod Protocols
 pub mod Statements
-pub mod Seen
 pub mod Walks

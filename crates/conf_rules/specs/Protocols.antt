@@ -1,12 +1,11 @@
--- What is refused of static protocols, of BGP and of pipes (`static`, `bgp`, `pipe`), and the name
--- of a protocol without one (`own_name`, by `free_number`).
+-- What is refused of static protocols, of BGP and of pipes (`static`, `bgp`, `pipe`).
 -- From: BIRD User's Guide, "Protocol options", "BGP", "Static", "Pipe"; that policies and the
 -- comparison of MEDs must be told (C10, C11), that a pipe which closes a cycle is refused (C12) and
 -- limits are own.
 -- Example: `med metric off; med metric on;` is accepted; two routes of one net are C13 at the
 -- second; an external session whose channel has no `export` is C10 at the protocol's name; so is C12
 -- of a second pipe between the same two tables.
-use Rattle.std.specs.Prelude.{ℕ, zero, suc, ◌+◌, ◌==◌, Bool, true, false, not, ◌&&◌, nat_lt, if◌then◌else◌, List, [], ◌∷◌, ◌++◌, length, Option, Some, None, codes, decimal}
+use Rattle.std.specs.Prelude.{ℕ, ◌+◌, ◌==◌, Bool, true, false, not, ◌&&◌, List, [], ◌∷◌, ◌++◌, Option, Some, None, codes}
 use Rattle.std.specs.List.{list_any}
 use Rattle.bits_ip.specs.Address.{family_of}
 use Rattle.bits_ip.specs.Prefix.{Net, same_net}
@@ -24,70 +23,13 @@ use Rattle.conf_ast.specs.declared.configurations.Transport.{Transport}
 use Rattle.conf_ast.specs.declared.configurations.Transport.TheVariants as transports
 use Rattle.conf_ast.specs.Configurations.{FamilyChannel, StaticSetting, StaticChannel, StaticRoute, BgpSetting, BgpChannel, BgpLocal, BgpNeighbor, BgpMedMetric, BgpInterpretCommunities, BgpDefaultMed, BgpDefaultLocalPref, BgpTransport, PipeSetting, PipeTable, PipePeerTable, PipeImport, PipeExport, Instance}
 use Rattle.filt_meaning.specs.Names.{named_in}
-use Rattle.conf_rules.specs.declared.joints.Joint.{Joint}
-use Rattle.conf_rules.specs.declared.refusal.Refusal.{Refusal}
+use Rattle.conf_names.specs.declared.joints.Joint.{Joint}
+use Rattle.conf_names.specs.declared.refusal.Refusal.{Refusal}
 use Rattle.conf_rules.specs.Channels.{channel, is_other_family, lacks_policy, one_channel, passing, same_family}
-use Rattle.conf_rules.specs.Joints.{joined}
-use Rattle.conf_rules.specs.Known.{Known, is_declared, known_number, number, number_of, table, table_of, too_long}
-use Rattle.conf_rules.specs.Refusals.{refused_if}
-
--- ---- names
-
--- how many names of constants, functions and other things there are
-abbrev pub names : Known → ℕ
-names known =
-    length known.scene.constants + (length known.scene.functions + length known.scene.others)
-
--- the first number from this one on whose name isn't declared, of so many numbers, and the one
--- behind them where each name is
-abbrev pub free_from : Known → (stem : List ℕ) → (count first : ℕ) → ℕ
-free_from known stem zero first = first
-free_from known stem (suc count) first =
-    if is_declared known (stem ++ decimal first)
-    then free_from known stem count (suc first) else first
-
--- The least number from 1 on that gives a name not declared so far. One of the numbers up to that
--- of all names does, or the next one.
-abbrev pub free_number : Known → (stem : List ℕ) → ℕ
-free_number known stem = free_from known stem (names known) 1
-
--- A protocol without a name is called by its kind and that number.
-abbrev pub own_name : Known → (stem : List ℕ) → Option Name → List ℕ
-own_name known stem None = stem ++ decimal (free_number known stem)
-own_name known stem (Some n) = name_bytes known.scene.text n
-
-abbrev pub static_stem : List ℕ
-static_stem = codes "static"
-
-abbrev pub bgp_stem : List ℕ
-bgp_stem = codes "bgp"
-
-abbrev pub pipe_stem : List ℕ
-pipe_stem = codes "pipe"
-
--- A pipe has two channels, each with a name of its own.
-abbrev pub pipe_names : List ℕ → List (List ℕ)
-pipe_names name = name ∷ (name ++ codes ".export") ∷ (name ++ codes ".import") ∷ []
-
--- where a protocol is refused: at its name, or at its kind's word
-abbrev pub place_of : (at : ℕ) → Option Name → ℕ
-place_of at None = at
-place_of at (Some n) = n.at
-
-abbrev pub name_too_long : Known → Option Name → List Refusal
-name_too_long known None = []
-name_too_long known (Some n) = too_long known n
-
--- How many protocols there may be.
-abbrev pub most_protocols : ℕ
-most_protocols = 256
-
--- what is refused of a protocol that declares these names, and of there being one more
-abbrev pub declaring : Known → (at : ℕ) → Option Name → List (List ℕ) → List Refusal
-declaring known at name declared =
-    refused_if (list_any (is_declared known) declared) (place_of at name) kinds.DuplicateName
-    ++ name_too_long known name
-    ++ refused_if (not (nat_lt known.protocols most_protocols)) (place_of at name) kinds.Limit
+use Rattle.conf_names.specs.Joints.{joined}
+use Rattle.conf_names.specs.Known.{Known, known_number, number, number_of, table, table_of}
+use Rattle.conf_names.specs.Refusals.{refused_if}
+use Rattle.conf_names.specs.Names.{own_name, static_stem, bgp_stem, pipe_stem, pipe_names, place_of, declaring}
 
 -- ---- static protocols
 

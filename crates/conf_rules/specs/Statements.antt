@@ -11,11 +11,12 @@ use Rattle.conf_ast.specs.declared.kind.ConfKind.TheVariants as kinds
 use Rattle.conf_ast.specs.Configurations as conf
 use Rattle.filt_meaning.specs.Names.{same_name}
 use Rattle.filt_types.specs.Refused as filters
-use Rattle.conf_rules.specs.declared.refusal.Refusal.{Refusal}
-use Rattle.conf_rules.specs.Constants.{value}
-use Rattle.conf_rules.specs.Known.{Known, declaring}
-use Rattle.conf_rules.specs.Protocols.{bgp, name_too_long, pipe, static}
-use Rattle.conf_rules.specs.Refusals.{of_filters, refused_if}
+use Rattle.conf_names.specs.declared.refusal.Refusal.{Refusal}
+use Rattle.conf_names.specs.Constants.{value}
+use Rattle.conf_names.specs.Known.{Known, declaring}
+use Rattle.conf_rules.specs.Protocols.{bgp, pipe, static}
+use Rattle.conf_names.specs.Names.{name_too_long}
+use Rattle.conf_names.specs.Refusals.{of_filters, refused_if}
 
 -- ---- tables
 

@@ -6,19 +6,19 @@ ghost use Rattle.conf_ast.specs.Configurations.{bgp_setting_of, instance_of};
 ghost use Rattle.conf_rules.specs.Channels as channels;
 ghost use Rattle.conf_rules.specs.Channels.{one_channel};
 ghost use Rattle.conf_rules.specs.Protocols as of;
-ghost use Rattle.conf_rules.specs.Refusals.{first_in};
-ghost use Rattle.conf_rules.specs.Seen.{known_of};
+ghost use Rattle.conf_names.specs.Refusals.{first_in};
+ghost use Rattle.conf_names.specs.Seen.{known_of};
 ghost use Rattle.conf_rules.specs.Walks.{behind, has_channel};
 
 use crate::channels::{channel, lacks_policy, second_channel};
-use crate::declared::Declared;
-use crate::filters::{number, number_of};
-use crate::names::{BGP_STEM, declaring, place_of};
-use crate::refusal::{Refusal, note_if};
 use bits_ip::OutOfMemory;
 use conf_ast::ConfKind;
 use conf_ast::configurations::{BgpOption, Protocol, Switch, Transport};
 use conf_ast::filters::Num;
+use conf_names::declared::Declared;
+use conf_names::names::{BGP_STEM, declaring, place_of};
+use conf_names::refusal::{Refusal, note_if};
+use conf_names::values::{number, number_of};
 use std::alloc::Global;
 
 // ---- what is written

@@ -3,17 +3,18 @@
 ghost use Rattle.std.specs.Prelude.{◌≡◌, ◌∷◌, ◌++◌, [], ◌||◌, not, map, true, None, OnOk};
 ghost use Rattle.conf_ast.specs.Configurations.{channel_of, channel_setting_of, passing_of};
 ghost use Rattle.conf_rules.specs.Channels as of;
-ghost use Rattle.conf_rules.specs.Known as known;
-ghost use Rattle.conf_rules.specs.Refusals.{first_in};
-ghost use Rattle.conf_rules.specs.Seen.{known_of};
+ghost use Rattle.conf_names.specs.Known as known;
+ghost use Rattle.conf_names.specs.Refusals.{first_in};
+ghost use Rattle.conf_names.specs.Seen.{known_of};
 ghost use Rattle.conf_rules.specs.Walks.{behind};
 
-use crate::declared::{Declared, filter, table, table_of};
-use crate::filters::{block, condition, number};
-use crate::refusal::{Refusal, note_if};
+use crate::filters::{block, condition};
 use bits_ip::{Family, OutOfMemory};
 use conf_ast::configurations::{Channel, ChannelOption, Limit, Policy};
 use conf_ast::{ConfKind, Name};
+use conf_names::declared::{Declared, filter, table, table_of};
+use conf_names::refusal::{Refusal, note_if};
+use conf_names::values::number;
 use std::alloc::Global;
 
 // ---- policies

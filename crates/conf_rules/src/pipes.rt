@@ -2,19 +2,19 @@
 
 ghost use Rattle.std.specs.Prelude.{◌≡◌, ◌++◌, ◌∷◌, [], map, None, OnOk};
 ghost use Rattle.conf_ast.specs.Configurations.{instance_of, pipe_setting_of};
-ghost use Rattle.conf_rules.specs.Known.{ArePipesThere};
+ghost use Rattle.conf_names.specs.Known.{ArePipesThere};
 ghost use Rattle.conf_rules.specs.Protocols as of;
-ghost use Rattle.conf_rules.specs.Refusals.{first_in};
-ghost use Rattle.conf_rules.specs.Seen.{known_of};
+ghost use Rattle.conf_names.specs.Refusals.{first_in};
+ghost use Rattle.conf_names.specs.Seen.{known_of};
 
 use crate::channels::{is_other_family, passing};
-use crate::declared::{Declared, family_of, known_number, table, table_of};
-use crate::joints::{Joint, is_joined};
-use crate::names::{declaring_pipe, place_of};
-use crate::refusal::{Refusal, note_if};
 use bits_ip::{Family, OutOfMemory};
 use conf_ast::configurations::{PipeOption, Protocol};
 use conf_ast::{ConfKind, Name};
+use conf_names::declared::{Declared, family_of, known_number, table, table_of};
+use conf_names::joints::{Joint, is_joined};
+use conf_names::names::{declaring_pipe, place_of};
+use conf_names::refusal::{Refusal, note_if};
 use std::alloc::Global;
 
 fn setting(

@@ -4,25 +4,25 @@ ghost use Rattle.std.specs.Prelude.{◌≡◌, ◌++◌, [], if◌then◌else◌
 ghost use Rattle.conf_ast.specs.Configurations.{declaration_of, routine_of, value_of};
 ghost use Rattle.conf_ast.specs.Filters.{block_of};
 ghost use Rattle.filt_types.specs.Refused as refused;
-ghost use Rattle.conf_rules.specs.Constants as constants;
-ghost use Rattle.conf_rules.specs.Known as known;
-ghost use Rattle.conf_rules.specs.Known.{ArePipesThere};
-ghost use Rattle.conf_rules.specs.Refusals.{first_in, of_filters};
-ghost use Rattle.conf_rules.specs.Seen.{known_of};
+ghost use Rattle.conf_names.specs.Constants as constants;
+ghost use Rattle.conf_names.specs.Known as known;
+ghost use Rattle.conf_names.specs.Known.{ArePipesThere};
+ghost use Rattle.conf_names.specs.Refusals.{first_in, of_filters};
+ghost use Rattle.conf_names.specs.Seen.{known_of};
 ghost use Rattle.conf_rules.specs.Statements as of;
 
 use crate::bgp::bgp;
-use crate::constants::value;
-use crate::declared::{Declared, declaring};
 use crate::filters::block;
-use crate::names::name_too_long;
 use crate::pipes::pipe;
-use crate::refusal::{Refusal, note_first, note_if};
 use crate::static_protocols::static_protocol;
 use bits_ip::{Family, OutOfMemory};
 use conf_ast::configurations::{Literal, Statement};
 use conf_ast::filters::{Filter, Function};
 use conf_ast::{ConfKind, Name};
+use conf_names::constants::value;
+use conf_names::declared::{Declared, declaring};
+use conf_names::names::name_too_long;
+use conf_names::refusal::{Refusal, note_first, note_if};
 use filt_rules::first_in_function;
 use std::alloc::Global;
 

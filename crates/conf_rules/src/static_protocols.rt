@@ -8,17 +8,17 @@ ghost use Rattle.conf_ast.specs.declared.kind.ConfKind.TheVariants as kinds;
 ghost use Rattle.conf_ast.specs.Configurations.{instance_of, static_setting_of};
 ghost use Rattle.conf_rules.specs.Channels.{one_channel};
 ghost use Rattle.conf_rules.specs.Protocols as of;
-ghost use Rattle.conf_rules.specs.Refusals.{first_in, refused_if};
-ghost use Rattle.conf_rules.specs.Seen.{known_of};
+ghost use Rattle.conf_names.specs.Refusals.{first_in, refused_if};
+ghost use Rattle.conf_names.specs.Seen.{known_of};
 ghost use Rattle.conf_rules.specs.Walks.{behind, family_in, has_channel, seen_behind};
 
 use crate::channels::{channel, same_family, second_channel};
-use crate::declared::Declared;
-use crate::names::{STATIC_STEM, declaring, place_of};
-use crate::refusal::{Refusal, note_if};
 use bits_ip::{Addr, Family, OutOfMemory, Prefix};
 use conf_ast::ConfKind;
 use conf_ast::configurations::{Protocol, Route, RouteTarget, StaticOption};
+use conf_names::declared::Declared;
+use conf_names::names::{STATIC_STEM, declaring, place_of};
+use conf_names::refusal::{Refusal, note_if};
 use indexmap::IndexSet;
 use std::alloc::Global;
 

@@ -2,9 +2,9 @@
 use Rattle.std.proofs.Common.{◌≡◌, ◌∙◌, sym, ap, subst, refl, List, [], ◌∷◌, ◌++◌, ℕ, Option, Some, None}
 use Rattle.std.proofs.lemmas.Option.{none-some}
 use Rattle.conf_ast.specs.Configurations as conf
-use Rattle.conf_rules.specs.declared.refusal.Refusal.{Refusal}
-use Rattle.conf_rules.specs.Known.{Known}
-use Rattle.conf_rules.specs.Refusals.{first_in}
+use Rattle.conf_names.specs.declared.refusal.Refusal.{Refusal}
+use Rattle.conf_names.specs.Known.{Known}
+use Rattle.conf_names.specs.Refusals.{first_in}
 use Rattle.conf_rules.specs.Statements.{refusals}
 use Rattle.conf_check.specs.Behind.{at_start, behind, behind_one}
 use Rattle.conf_check.specs.Checked.{Source, filter_sources, protocol_name}

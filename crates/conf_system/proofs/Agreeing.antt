@@ -22,10 +22,10 @@ use Rattle.filt_steps.specs.Configured as counted
 use Rattle.filt_steps.specs.Configured.{with_count}
 use Rattle.filt_steps.specs.Limits.{ContextIsWithin}
 use Rattle.filt_steps.specs.Steps.{Counts, function_steps}
-use Rattle.conf_rules.specs.declared.refusal.Refusal.{Refusal}
-use Rattle.conf_rules.specs.Known.{Known}
-use Rattle.conf_rules.specs.Protocols.{bgp_stem, own_name, pipe_names, pipe_stem, static_stem}
-use Rattle.conf_rules.specs.Refusals.{first_in}
+use Rattle.conf_names.specs.declared.refusal.Refusal.{Refusal}
+use Rattle.conf_names.specs.Known.{Known}
+use Rattle.conf_names.specs.Names.{bgp_stem, own_name, pipe_names, pipe_stem, static_stem}
+use Rattle.conf_names.specs.Refusals.{first_in}
 use Rattle.conf_rules.specs.Statements.{is_master, refusals}
 use Rattle.conf_check.specs.Behind.{at_start, behind, behind_one, context_in, no_route, with_others, with_signature, with_table, with_value}
 use Rattle.conf_check.specs.Refused.{or_later, refusal_of}

@@ -21,7 +21,7 @@ use Rattle.filt_meaning.specs.declared.value.Failure.{Failure}
 use Rattle.filt_meaning.specs.Scopes.{context_of, named}
 use Rattle.filt_meaning.specs.declared.scope.Scope.{Scope}
 use Rattle.filt_meaning.specs.declared.tree.TFilter.{TFilter}
-use Rattle.conf_rules.specs.Known.{Known}
+use Rattle.conf_names.specs.Known.{Known}
 use Rattle.conf_rules.specs.Protocols.{bgp_channels, last_peer, static_channels, static_routes}
 use Rattle.conf_rules.specs.Statements.{is_master}
 use Rattle.conf_check.specs.Behind.{at_start, behind, behind_one, context_in, with_table, with_value}

@@ -3,16 +3,16 @@ use Rattle.std.proofs.Common.{◌≡◌, ◌≢◌, ◌⊎◌, ◌∙◌, ◌+�
 use Rattle.std.proofs.lemmas.Bool.{ltb-false, ltb-true}
 use Rattle.std.proofs.lemmas.List.{length-append, length-map}
 use Rattle.conf_lex.specs.Grammar.{DerivesLongest, ParseTree, yield}
-use Rattle.conf_lex.specs.Lex.{Lexes, Stops}
-use Rattle.conf_lex.specs.Spans.{IsBetween, IsSpan}
+use Rattle.conf_scan.specs.Lex.{Lexes, Stops}
+use Rattle.conf_scan.specs.Spans.{IsBetween, IsSpan}
 use Rattle.conf_lex.specs.Words.{words_from}
-use Rattle.conf_lex.specs.declared.token.Token.{Token}
+use Rattle.conf_scan.specs.declared.token.Token.{Token}
 use Rattle.conf_lex.specs.declared.word.Word.{Word}
 use Rattle.conf_ast.specs.Filters.{Expression, expression_of}
 use Rattle.conf_ast.specs.declared.filters.Expr.{Expr}
-use Rattle.filt_syntax.specs.Syntax.{expr, rule}
+use Rattle.expr_syntax.specs.Syntax.{expr, rule}
 use Rattle.filt_syntax.specs.Tokens.{IsRefusedIn, ParsesAtToken}
-use Rattle.filt_syntax.specs.View.{derivations}
+use Rattle.expr_syntax.specs.View.{derivations}
 use Rattle.filt_syntax.specs.declared.parse.SyntaxFault.{SyntaxFault}
 use Rattle.filt_syntax.specs.declared.parse.SyntaxFault.TheVariants as faults
 use Rattle.filt_syntax.proofs.RefusedTokens.{below_words}

@@ -9,11 +9,12 @@ use Rattle.conf_check.specs.Behind.{at_start, behind, behind_one}
 use Rattle.conf_check.specs.Checked.{Source, filter_sources, protocol_name}
 use Rattle.conf_check.specs.Refused.{refusal_of}
 use Rattle.conf_rules.specs.Channels.{one_channel}
-use Rattle.conf_rules.specs.Known.{Known}
-use Rattle.conf_rules.specs.Protocols.{bgp_channels, bgp_settings, bgp_stem, cycle, declaring, joint_of, lacks, last_peer, last_table, most_protocols, nettypes, own_name, peer_family, pipe_names, pipe_settings, pipe_stem, place_of, repeated, session, static_channels, static_routes, static_settings, static_stem}
-use Rattle.conf_rules.specs.Refusals.{first_in}
+use Rattle.conf_names.specs.Known.{Known}
+use Rattle.conf_rules.specs.Protocols.{bgp_channels, bgp_settings, cycle, joint_of, lacks, last_peer, last_table, nettypes, peer_family, pipe_settings, repeated, session, static_channels, static_routes, static_settings}
+use Rattle.conf_names.specs.Names.{bgp_stem, declaring, most_protocols, own_name, pipe_names, pipe_stem, place_of, static_stem}
+use Rattle.conf_names.specs.Refusals.{first_in}
 use Rattle.conf_rules.specs.Statements.{is_master, refusals}
-use Rattle.conf_rules.specs.declared.refusal.Refusal.{Refusal}
+use Rattle.conf_names.specs.declared.refusal.Refusal.{Refusal}
 use Rattle.conf_ast.specs.declared.named.Name.{Name}
 use Rattle.conf_system.specs.Policies.{Filter, says}
 use Rattle.conf_system.specs.System.{Body, Protocol, System, body_of, names_in, protocols_behind, system_in, with_body}

@@ -4,10 +4,10 @@ use Rattle.std.proofs.lemmas.Bool.{cases_Bool, ltb-true, not-false}
 use Rattle.std.proofs.lemmas.List.{length-append, length-map}
 use Rattle.std.specs.Prelude.{nat_lt}
 use Rattle.conf_lex.specs.Grammar.{ParseTree, Single, Snoc, NoWords, yield}
-use Rattle.conf_lex.specs.Lex.{Lexes}
+use Rattle.conf_scan.specs.Lex.{Lexes}
 use Rattle.conf_ast.specs.Names.{name_bytes}
 use Rattle.conf_ast.specs.declared.named.Name.{Name}
-use Rattle.conf_lex.specs.declared.token.Token.{Token}
+use Rattle.conf_scan.specs.declared.token.Token.{Token}
 use Rattle.conf_lex.specs.declared.word.Word.{Word}
 use Rattle.conf_tree.specs.Significant.{significant_words}
 use Rattle.conf_tree.specs.View.{statement_tree, statements_tree}
@@ -18,10 +18,10 @@ use Rattle.conf_ast.specs.declared.configurations.Statement.TheVariants as state
 use Rattle.conf_check.proofs.Allowed.{nil_right, none_refused}
 use Rattle.conf_check.specs.Behind.{at_start, behind, behind_one}
 use Rattle.conf_check.specs.Refused.{refusal_of}
-use Rattle.conf_rules.specs.Known.{Known, declaring}
-use Rattle.conf_rules.specs.Refusals.{first_in}
+use Rattle.conf_names.specs.Known.{Known, declaring}
+use Rattle.conf_names.specs.Refusals.{first_in}
 use Rattle.conf_rules.specs.Statements.{is_master, most_tables, one_more_table, refusals}
-use Rattle.filt_syntax.specs.StatementView.{row_after}
+use Rattle.expr_syntax.specs.Rows.{row_after}
 use Rattle.conf_system.specs.Policies.{Filter}
 use Rattle.conf_system.specs.System.{System, filter_in, filters_behind, names_in, system_in}
 use Rattle.conf_system.specs.Texts.{IsSystem, refused_in}

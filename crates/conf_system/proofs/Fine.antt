@@ -13,9 +13,9 @@ use Rattle.filt_types.specs.Statements.{in_filter, in_function}
 use Rattle.filt_types.specs.Weight.{block_weight, too_heavy}
 use Rattle.filt_types.specs.Refused as filters
 use Rattle.conf_rules.specs.Channels.{channel, passing, setting, settings, settings_of}
-use Rattle.conf_rules.specs.Known.{Known, declaring}
+use Rattle.conf_names.specs.Known.{Known, declaring}
 use Rattle.conf_rules.specs.Protocols.{bgp_setting, bgp_settings, pipe_setting, pipe_settings, static_setting, static_settings}
-use Rattle.conf_rules.specs.Refusals.{of_filter, of_filters}
+use Rattle.conf_names.specs.Refusals.{of_filter, of_filters}
 use Rattle.conf_rules.specs.Statements.{refusals}
 use Rattle.conf_check.proofs.Allowed.{nil_left, nil_right}
 use Rattle.conf_system.specs.Written.{filters_in, in_bgp_setting, in_channel, in_channel_setting, in_pipe_setting, in_policy, in_static_setting}

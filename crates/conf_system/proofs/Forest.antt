@@ -7,11 +7,12 @@ use Rattle.conf_ast.specs.declared.named.Name.{Name}
 use Rattle.conf_ast.specs.Names.{name_bytes}
 use Rattle.bits_ip.specs.declared.address.Family.{Family}
 use Rattle.filt_meaning.specs.Names.{named_in}
-use Rattle.conf_rules.specs.declared.joints.Joint.{Joint}
-use Rattle.conf_rules.specs.Joints.{IsForest, JoinsApart, joined}
-use Rattle.conf_rules.specs.Known.{Known, known_number, table_number, table_of}
-use Rattle.conf_rules.specs.Protocols.{bgp_channels, cycle, joint, joint_of, last_peer, last_table, peer_number, pipe, place_of, primary_name, primary_number, static_channels, static_routes}
-use Rattle.conf_rules.specs.Refusals.{first_in}
+use Rattle.conf_names.specs.declared.joints.Joint.{Joint}
+use Rattle.conf_names.specs.Joints.{IsForest, JoinsApart, joined}
+use Rattle.conf_names.specs.Known.{Known, known_number, table_number, table_of}
+use Rattle.conf_rules.specs.Protocols.{bgp_channels, cycle, joint, joint_of, last_peer, last_table, peer_number, pipe, primary_name, primary_number, static_channels, static_routes}
+use Rattle.conf_names.specs.Names.{place_of}
+use Rattle.conf_names.specs.Refusals.{first_in}
 use Rattle.conf_rules.specs.Statements.{is_master, refusals}
 use Rattle.conf_check.specs.Behind.{at_start, behind, behind_one, with_table}
 use Rattle.conf_check.specs.Checked.{Source, filter_sources, or_v4, protocol_name, route_of}

@@ -22,7 +22,7 @@ use Rattle.filt_types.specs.Refusals.{first_in}
 use Rattle.filt_types.specs.Scenes.{Scene}
 use Rattle.filt_types.specs.Seen.{scene_of}
 use Rattle.filt_types.specs.Statements.{in_filter}
-use Rattle.conf_rules.specs.Known.{Known}
+use Rattle.conf_names.specs.Known.{Known}
 use Rattle.conf_rules.specs.Protocols.{bgp_channels, static_channels}
 use Rattle.conf_check.specs.Behind.{at_start, behind}
 use Rattle.conf_check.specs.Checked as checks

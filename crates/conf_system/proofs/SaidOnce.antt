@@ -9,7 +9,7 @@ use Rattle.conf_tree.specs.View.{statements_tree}
 use Rattle.conf_ast.specs.declared.kind.ConfKind.{ConfKind}
 use Rattle.conf_ast.specs.declared.configurations.Statement.{Statement}
 use Rattle.conf_ast.specs.Configurations.{Declaration, configuration_of}
-use Rattle.conf_rules.specs.declared.refusal.Refusal.{Refusal}
+use Rattle.conf_names.specs.declared.refusal.Refusal.{Refusal}
 use Rattle.conf_system.specs.System.{System, system_in}
 use Rattle.conf_system.specs.Texts.{IsAcceptedText, IsRefusedAt, IsRefusedWhenChecked, IsSystem, refused_in}
 

@@ -11,14 +11,16 @@ use Rattle.conf_ast.specs.Configurations as conf
 use Rattle.conf_ast.specs.Configurations.{Passing, ChannelSetting, ChannelTable, ChannelImport, ChannelExport, ChannelPreference, ChannelLimit, ChannelNextHop, FamilyChannel, Instance, StaticSetting, StaticChannel, StaticRoute, BgpSetting, BgpChannel, BgpLocal, BgpNeighbor, BgpMedMetric, BgpInterpretCommunities, BgpDefaultMed, BgpDefaultLocalPref, BgpTransport, PipeSetting, PipeTable, PipePeerTable, PipeImport, PipeExport}
 use Rattle.filt_meaning.specs.Names.{named_in, same_name}
 use Rattle.filt_types.specs.Items.{is_none}
-use Rattle.conf_rules.specs.declared.refusal.Refusal.{Refusal}
+use Rattle.conf_names.specs.declared.refusal.Refusal.{Refusal}
 use Rattle.conf_rules.specs.Channels as channels
 use Rattle.conf_rules.specs.Channels.{channel, family_of_table, is_other_family, last_table, one_channel, settings, settings_of}
-use Rattle.conf_rules.specs.Known as known_rules
-use Rattle.conf_rules.specs.Known.{Known, place_in, table_number, table_of}
+use Rattle.conf_names.specs.Known as known_rules
+use Rattle.conf_names.specs.Known.{Known, place_in, table_number, table_of}
+use Rattle.conf_names.specs.Names as of_names
 use Rattle.conf_rules.specs.Protocols as rules
-use Rattle.conf_rules.specs.Protocols.{bgp_channels, bgp_settings, bgp_stem, last_peer, own_name, static_channels, static_routes, static_settings, static_stem}
-use Rattle.conf_rules.specs.Refusals.{refused_if}
+use Rattle.conf_rules.specs.Protocols.{bgp_channels, bgp_settings, last_peer, static_channels, static_routes, static_settings}
+use Rattle.conf_names.specs.Names.{bgp_stem, own_name, static_stem}
+use Rattle.conf_names.specs.Refusals.{refused_if}
 use Rattle.conf_rules.specs.Statements.{is_master, master, refusals}
 use Rattle.conf_check.specs.Behind.{at_start, behind, behind_one, with_table}
 use Rattle.conf_check.specs.Checked.{bgp_preference, or_v4, route_of, static_preference, table_name}
@@ -158,32 +160,32 @@ two_known known ss peer more masters written is h =
 -- what is refused of a pipe but for a cycle
 abbrev pub pipe_front : Known → Instance PipeSetting → List Refusal
 pipe_front known p =
-    rules.declaring known p.at p.name (rules.pipe_names (own_name known rules.pipe_stem p.name)) ++ rules.pipe_settings known p.settings ++ rules.lacks (rules.place_of p.at p.name) (last_peer None p.settings)
+    of_names.declaring known p.at p.name (of_names.pipe_names (own_name known of_names.pipe_stem p.name)) ++ rules.pipe_settings known p.settings ++ rules.lacks (of_names.place_of p.at p.name) (last_peer None p.settings)
     ++ rules.peer_family known (rules.last_table None p.settings) (last_peer None p.settings)
 
 pub are_two : (known : Known) (p : Instance PipeSetting) (peer : Name) (more : Tables) → known.tables ≡ Masters more → last_peer None p.settings ≡ Some peer → rules.pipe known p ≡ [] → AreTwo known p.settings peer
 are_two known p peer more masters is h =
-    let a = rules.declaring known p.at p.name (rules.pipe_names (own_name known rules.pipe_stem p.name)) in
+    let a = of_names.declaring known p.at p.name (of_names.pipe_names (own_name known of_names.pipe_stem p.name)) in
     let b = rules.pipe_settings known p.settings in
-    let d = rules.lacks (rules.place_of p.at p.name) (last_peer None p.settings) in
+    let d = rules.lacks (of_names.place_of p.at p.name) (last_peer None p.settings) in
     let e = rules.peer_family known (rules.last_table None p.settings) (last_peer None p.settings) in
-    let front = nil_left (pipe_front known p) (rules.cycle known (rules.place_of p.at p.name) (rules.joint_of known p.settings)) h in
+    let front = nil_left (pipe_front known p) (rules.cycle known (of_names.place_of p.at p.name) (rules.joint_of known p.settings)) h in
     let written = nil_right a b (nil_left (a ++ b) d (nil_left (a ++ b ++ d) e front)) in
     two_known known p.settings peer more masters written
     (subst (λ (o : Option Name). IsKnown known o) is (pipe_peer_known known None p.settings tt written))
     (subst (λ (o : Option Name). rules.peer_family known (rules.last_table None p.settings) o ≡ []) is (nil_right (a ++ b ++ d) e front))
 
-pub no_cycle : (known : Known) (p : Instance PipeSetting) → rules.pipe known p ≡ [] → rules.cycle known (rules.place_of p.at p.name) (rules.joint_of known p.settings) ≡ []
+pub no_cycle : (known : Known) (p : Instance PipeSetting) → rules.pipe known p ≡ [] → rules.cycle known (of_names.place_of p.at p.name) (rules.joint_of known p.settings) ≡ []
 no_cycle known p h = nil_right (pipe_front known p) _ h
 
 pub has_peer : (known : Known) (p : Instance PipeSetting) → rules.pipe known p ≡ [] → last_peer None p.settings ≡ None → ⊥
 has_peer known p h none =
-    let a = rules.declaring known p.at p.name (rules.pipe_names (own_name known rules.pipe_stem p.name)) in
+    let a = of_names.declaring known p.at p.name (of_names.pipe_names (own_name known of_names.pipe_stem p.name)) in
     let b = rules.pipe_settings known p.settings in
-    let d = rules.lacks (rules.place_of p.at p.name) (last_peer None p.settings) in
+    let d = rules.lacks (of_names.place_of p.at p.name) (last_peer None p.settings) in
     let e = rules.peer_family known (rules.last_table None p.settings) (last_peer None p.settings) in
-    let lacking = nil_right (a ++ b) d (nil_left (a ++ b ++ d) e (nil_left (pipe_front known p) (rules.cycle known (rules.place_of p.at p.name) (rules.joint_of known p.settings)) h)) in
-    absurd (omega (arith, ap (λ (l : List Refusal). length l) (sym (ap (λ (o : Option Name). rules.lacks (rules.place_of p.at p.name) o) none) ∙ lacking)))
+    let lacking = nil_right (a ++ b) d (nil_left (a ++ b ++ d) e (nil_left (pipe_front known p) (rules.cycle known (of_names.place_of p.at p.name) (rules.joint_of known p.settings)) h)) in
+    absurd (omega (arith, ap (λ (l : List Refusal). length l) (sym (ap (λ (o : Option Name). rules.lacks (of_names.place_of p.at p.name) o) none) ∙ lacking)))
 
 -- ---- protocols in which nothing is refused
 
@@ -240,13 +242,13 @@ module _ (said : Passing → Filter) (known : Known) (more : Tables) (masters : 
   body_fits (conf.Static p) h =
       static_fits (static_channels p.settings) (map route_of (static_routes p.settings))
       (static_fine known p.settings
-      (second_of_five (rules.declaring known p.at p.name (own_name known static_stem p.name ∷ [])) (static_settings known p.settings) (one_channel (rules.place_of p.at p.name) (static_channels p.settings))
+      (second_of_five (of_names.declaring known p.at p.name (own_name known static_stem p.name ∷ [])) (static_settings known p.settings) (one_channel (of_names.place_of p.at p.name) (static_channels p.settings))
       (rules.nettypes (static_channels p.settings) (static_routes p.settings)) (rules.repeated [] (static_routes p.settings)) h))
   body_fits (conf.Bgp p) h =
       bgp_fits (bgp_channels p.settings) p.settings
       (bgp_fine known p.settings
-      (second_of_four (rules.declaring known p.at p.name (own_name known bgp_stem p.name ∷ [])) (bgp_settings known p.settings) (one_channel (rules.place_of p.at p.name) (bgp_channels p.settings))
-      (rules.session known (rules.place_of p.at p.name) p.settings) h))
+      (second_of_four (of_names.declaring known p.at p.name (own_name known bgp_stem p.name ∷ [])) (bgp_settings known p.settings) (one_channel (of_names.place_of p.at p.name) (bgp_channels p.settings))
+      (rules.session known (of_names.place_of p.at p.name) p.settings) h))
   body_fits (conf.Pipe p) h = pipe_fits p (last_peer None p.settings) refl h
   body_fits (conf.RouterId a) h = tt
   body_fits conf.Log h = tt

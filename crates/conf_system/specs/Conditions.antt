@@ -8,13 +8,13 @@
 -- without an `A` are refused.
 use Rattle.std.specs.Prelude.{◌≡◌, ◌≢◌, ◌⊎◌, ◌<◌, ℕ, List, length}
 use Rattle.conf_lex.specs.Grammar.{ParseTree}
-use Rattle.conf_lex.specs.Lex.{Lexes, Stops}
-use Rattle.conf_lex.specs.declared.token.Token.{Token}
+use Rattle.conf_scan.specs.Lex.{Lexes, Stops}
+use Rattle.conf_scan.specs.declared.token.Token.{Token}
 use Rattle.conf_ast.specs.Filters.{Expression, expression_of}
 use Rattle.conf_ast.specs.declared.filters.Expr.{Expr}
-use Rattle.filt_syntax.specs.Syntax.{expr}
+use Rattle.expr_syntax.specs.Syntax.{expr}
 use Rattle.filt_syntax.specs.Tokens.{IsRefusedIn, ParsesAtToken}
-use Rattle.filt_syntax.specs.View.{derivations}
+use Rattle.expr_syntax.specs.View.{derivations}
 use Rattle.filt_syntax.specs.declared.parse.SyntaxFault.{SyntaxFault}
 use Rattle.filt_syntax.specs.declared.parse.SyntaxFault.TheVariants.{Memory}
 use Rattle.conf_system.specs.Asked.{Asks, Refuses}

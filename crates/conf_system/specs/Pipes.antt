@@ -2,7 +2,7 @@
 -- From: BIRD User's Guide, "Pipe".
 -- Example: a pipe `protocol pipe { peer table t; }` over `ipv4 table t;` joins the tables 0 and 2.
 use Rattle.std.specs.Prelude.{List, [], ◌∷◌, ◌++◌}
-use Rattle.conf_rules.specs.declared.joints.Joint.{Joint}
+use Rattle.conf_names.specs.declared.joints.Joint.{Joint}
 use Rattle.conf_system.specs.System.{Body, IsBgp, IsPipe, IsStatic, Protocol}
 
 abbrev pub pipe_of : Body → List Joint

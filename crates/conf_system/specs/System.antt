@@ -15,7 +15,7 @@ use Rattle.conf_ast.specs.Configurations as conf
 use Rattle.conf_ast.specs.Configurations.{BgpSetting, FamilyChannel, Instance, Passing, PassAll, PassNone, PipeSetting, StaticSetting}
 use Rattle.conf_ast.specs.Filters.{Expression}
 use Rattle.conf_rules.specs.Channels.{settings_of}
-use Rattle.conf_rules.specs.Known.{Known, table_number, table_of}
+use Rattle.conf_names.specs.Known.{Known, table_number, table_of}
 use Rattle.conf_rules.specs.Protocols as rules
 use Rattle.conf_rules.specs.Protocols.{as_number, bgp_channels, last_local, last_peer, last_table, primary_name, static_channels, static_routes}
 use Rattle.conf_check.specs.Behind.{at_start, behind, behind_one}

@@ -1,7 +1,7 @@
 //! Conditions that stand in texts of their own.
 ghost use Rattle.std.specs.Prelude.{◌≡◌, ℕ, List, Option, IfOk, IfSome, IsSome, MatchOption};
 ghost use Rattle.conf_ast.specs.Filters.{expression_of};
-ghost use Rattle.conf_lex.specs.Lex.{Lexes};
+ghost use Rattle.conf_scan.specs.Lex.{Lexes};
 ghost use Rattle.filt_check.specs.Answers.{IsFault};
 ghost use Rattle.filt_types.specs.declared.refusal.Refusal.{Refusal};
 ghost use Rattle.conf_system.specs.Asked.{Asks, Refuses};
@@ -12,7 +12,7 @@ ghost use Rattle.conf_system.specs.Seen.{asked_over, filter_says, system_of, tre
 use crate::system::System;
 use bits_ip::OutOfMemory;
 use conf_ast::filters::Expr;
-use conf_lex::{LexFault, Token, lex};
+use conf_scan::{LexFault, Token, lex};
 use filt_check::{TypeFault, check_expr};
 use filt_laws::laws::typed_filters_are_never_stuck;
 use filt_meaning::{Scope, TFilter};

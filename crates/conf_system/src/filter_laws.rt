@@ -23,7 +23,7 @@ ghost use Rattle.conf_check.specs.Refused.{refusal_of};
 ghost use Rattle.conf_system.specs.Behind.{context_behind, counts_behind, scene_behind};
 ghost use Rattle.conf_system.specs.Written.{IsWritten};
 
-use conf_rules::laws::first_refusals_are_the_first;
+use conf_names::laws::first_refusals_are_the_first;
 use filt_laws::laws::{
     typed_filters_are_never_stuck, typed_functions_keep_their_signatures,
     what_runs_agrees_with_what_is_seen,

@@ -1,7 +1,7 @@
 //! What a text says of a system: one thing at most. And what holds of each that is accepted.
 ghost use Rattle.std.specs.Prelude.{◌≡◌, ◌⊎◌, ◌<◌, ◌≤◌, ◌-◌, ◌^◌, ℕ, length, List};
 ghost use Rattle.conf_ast.specs.declared.kind.ConfKind.{ConfKind};
-ghost use Rattle.conf_rules.specs.Joints.{IsForest};
+ghost use Rattle.conf_names.specs.Joints.{IsForest};
 ghost use Rattle.conf_system.specs.Conditions.{IsCondition, RefusesCondition};
 ghost use Rattle.conf_system.specs.Pipes.{pipes_of};
 ghost use Rattle.conf_system.specs.Policies.{Filter};
@@ -10,7 +10,7 @@ ghost use Rattle.conf_system.specs.Tables.{AllFit};
 ghost use Rattle.conf_system.specs.Texts.{IsRefusedAt, IsSystem};
 
 use ast_laws::laws::{a_text_is_one_syntax, a_tree_is_of_one_expression};
-use conf_lex::laws::{
+use conf_scan::laws::{
     lexed_texts_are_not_refused, texts_have_one_list_of_tokens, tokens_are_slices, tokens_rise,
 };
 use conf_tree::laws::{

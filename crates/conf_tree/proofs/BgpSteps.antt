@@ -11,15 +11,16 @@ use Rattle.conf_lex.specs.Grammar.{ParseTree, Leaf, Pair, Right, Bad, begins, fi
 use Rattle.conf_lex.specs.Reading.{Parsed, Failed, and_then, word, both}
 use Rattle.conf_lex.specs.Leaves.{symbol_leaf}
 use Rattle.conf_lex.proofs.PartShapes.{word_bad}
-use Rattle.filt_syntax.specs.Syntax.{is_num}
-use Rattle.filt_syntax.specs.StatementView.{nth, beyond}
-use Rattle.filt_syntax.proofs.Tested.{is_checked}
-use Rattle.filt_syntax.proofs.Picks.{maps2, first_read}
-use Rattle.conf_tree.specs.Syntax.{is_default, is_switch, is_family, channel, bgp_option, pipe_option}
-use Rattle.conf_tree.specs.View.{family_symbol}
-use Rattle.conf_tree.specs.Readers.{optional_address_at, as_at, policy_at, channel_at, transport_at, bgp_option_at, pipe_option_at}
-use Rattle.conf_tree.proofs.Heads.{headed, maps3}
-use Rattle.conf_tree.proofs.FirstWords.{behind_six}
+use Rattle.expr_syntax.specs.Syntax.{is_num}
+use Rattle.expr_syntax.specs.Rows.{nth, beyond}
+use Rattle.expr_syntax.proofs.Tested.{is_checked}
+use Rattle.expr_syntax.proofs.Picks.{maps2, first_read}
+use Rattle.conf_syntax.specs.Syntax.{is_default, is_switch, is_family, channel, bgp_option, pipe_option}
+use Rattle.conf_syntax.specs.View.{family_symbol}
+use Rattle.conf_tree.specs.Readers.{policy_at, channel_at, bgp_option_at, pipe_option_at}
+use Rattle.conf_syntax.specs.Readers.{optional_address_at, as_at, transport_at}
+use Rattle.conf_syntax.proofs.Heads.{headed, maps3}
+use Rattle.conf_syntax.proofs.FirstWords.{behind_six}
 
 -- ---- BGP sessions
 

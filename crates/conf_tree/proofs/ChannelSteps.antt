@@ -10,14 +10,15 @@ use Rattle.conf_lex.specs.Kind.{attribute, kind_of, name, symbol}
 use Rattle.conf_lex.specs.Grammar.{Terminal, Alt, ParseTree, NoWords, Pair, Left, Right, begins}
 use Rattle.conf_lex.specs.Reading.{Read, Parsed, Reader, and_then, word, both, read}
 use Rattle.conf_lex.specs.Leaves.{symbol_leaf}
-use Rattle.filt_syntax.specs.Syntax.{optional, is_num, rule}
-use Rattle.filt_syntax.specs.StatementView.{nth, beyond}
-use Rattle.filt_syntax.proofs.Tested.{is_checked}
-use Rattle.filt_syntax.proofs.Picks.{maps2}
-use Rattle.conf_tree.specs.Syntax.{is_family, is_hop, policy, limit, channel_option, channel_options}
-use Rattle.conf_tree.specs.View.{attribute_leaf, family_symbol, family_leaf}
-use Rattle.conf_tree.specs.Readers.{policy_at, limit_value_at, channel_option_at, closed_options, channel_at}
-use Rattle.conf_tree.proofs.Heads.{maps4, headed}
+use Rattle.expr_syntax.specs.Syntax.{optional, is_num, rule}
+use Rattle.expr_syntax.specs.Rows.{nth, beyond}
+use Rattle.expr_syntax.proofs.Tested.{is_checked}
+use Rattle.expr_syntax.proofs.Picks.{maps2}
+use Rattle.conf_syntax.specs.Syntax.{is_family, is_hop, policy, limit, channel_option, channel_options}
+use Rattle.conf_syntax.specs.View.{attribute_leaf, family_symbol, family_leaf}
+use Rattle.conf_tree.specs.Readers.{policy_at, channel_option_at, channel_at}
+use Rattle.conf_syntax.specs.Readers.{limit_value_at, closed_options}
+use Rattle.conf_syntax.proofs.Heads.{maps4, headed}
 
 -- ---- options
 

@@ -17,16 +17,18 @@ use Rattle.conf_lex.specs.declared.refusal.Refusal.{Refusal}
 use Rattle.conf_lex.proofs.Good.{fits_front}
 use Rattle.conf_lex.proofs.Chains.{turn, full_words}
 use Rattle.conf_lex.proofs.PartShapes.{fails_then, fails_along, bool_cases, begun, refuses}
-use Rattle.filt_syntax.specs.Syntax.{rule}
+use Rattle.expr_syntax.specs.Syntax.{rule}
 use Rattle.filt_syntax.specs.StatementReaders.{block_at}
-use Rattle.filt_syntax.specs.StatementView.{nth, row_after, row_tree}
-use Rattle.filt_syntax.proofs.Tested.{model, after, checked, is_checked, good_at, next_at, solid_at}
-use Rattle.conf_tree.specs.Syntax.{is_family, statement}
+use Rattle.expr_syntax.specs.Rows.{nth, row_after, row_tree}
+use Rattle.expr_syntax.proofs.Tested.{model, after, checked, is_checked, good_at, next_at, solid_at}
+use Rattle.conf_syntax.specs.Syntax.{is_family, statement}
 use Rattle.conf_ast.specs.declared.configurations.Statement.{Statement}
-use Rattle.conf_tree.specs.View.{placed_leaf, family_symbol, family_leaf, statement_tree}
-use Rattle.conf_tree.specs.Readers.{regroup, literal_at, parameters_at, gives_at, statement_at, statement_row_at, config_at, to_the_end, whole_at}
-use Rattle.conf_tree.proofs.FirstWords.{both_same}
-use Rattle.conf_tree.proofs.Heads.{headed}
+use Rattle.conf_tree.specs.View.{statement_tree}
+use Rattle.conf_syntax.specs.View.{placed_leaf, family_symbol, family_leaf}
+use Rattle.conf_tree.specs.Readers.{regroup, parameters_at, gives_at, statement_at, statement_row_at, config_at, to_the_end, whole_at}
+use Rattle.conf_syntax.specs.Readers.{literal_at}
+use Rattle.conf_syntax.proofs.FirstWords.{both_same}
+use Rattle.conf_syntax.proofs.Heads.{headed}
 use Rattle.conf_tree.proofs.Tested.{config_checked}
 
 statement_checked : is_checked statement

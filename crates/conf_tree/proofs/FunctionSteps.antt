@@ -11,12 +11,12 @@ use Rattle.conf_lex.specs.Leaves.{symbol_leaf}
 use Rattle.conf_lex.specs.Agrees.{AgreesOnError}
 use Rattle.conf_lex.specs.declared.refusal.Refusal.{Refusal}
 use Rattle.conf_lex.proofs.PartShapes.{fails_then, fails_along, word_bad, bool_cases, begins_none, Turns, links_more, links_fail, links_end, refuses, shorter, chain_turns}
-use Rattle.filt_syntax.specs.Syntax.{rule}
+use Rattle.expr_syntax.specs.Syntax.{rule}
 use Rattle.conf_ast.specs.declared.filters.Parameter.{Parameter}
 use Rattle.conf_ast.specs.declared.filters.Separator.{Separator}
 use Rattle.conf_ast.specs.declared.filters.Separator.TheVariants as separators
-use Rattle.filt_syntax.proofs.Tested.{model, after, checked}
-use Rattle.conf_tree.specs.Syntax.{parameter, parameters, is_separator}
+use Rattle.expr_syntax.proofs.Tested.{model, after, checked}
+use Rattle.conf_syntax.specs.Syntax.{parameter, parameters, is_separator}
 use Rattle.conf_tree.specs.View.{parameter_tree, parameters_tree, parameters_after, first_parameter, separator_symbol}
 use Rattle.conf_tree.specs.Readers.{parameter_at, some_parameters_at, parameters_at}
 

@@ -1,14 +1,10 @@
 pub mod BgpSteps
 pub mod ChannelSteps
 pub mod ConfigSteps
-pub mod FirstWords
 pub mod FunctionSteps
-pub mod Heads
 pub mod Known
 pub mod LastWord
-pub mod LiteralSteps
 pub mod OneOf
-pub mod OptionSteps
 pub mod PlaceSteps
 mod PlacesOnce
 pub mod PolicySteps
@@ -23,5 +19,4 @@ pub mod Tested
 pub mod TextRefusals
 pub mod TextsOnce
 pub mod TokenBytes
-pub mod TransportSteps
 pub mod Whole

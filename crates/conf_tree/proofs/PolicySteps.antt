@@ -8,13 +8,13 @@ use Rattle.conf_lex.specs.Kind.{name, symbol}
 use Rattle.conf_lex.specs.Grammar.{Pair, Left, Right, begins}
 use Rattle.conf_lex.specs.Reading.{Parsed, and_then, word, both}
 use Rattle.conf_lex.specs.Leaves.{symbol_leaf, name_leaf}
-use Rattle.filt_syntax.specs.Readers.{expr_at}
+use Rattle.expr_syntax.specs.Readers.{expr_at}
 use Rattle.filt_syntax.specs.StatementReaders.{block_at}
-use Rattle.filt_syntax.specs.StatementView.{nth, beyond}
-use Rattle.filt_syntax.proofs.Picks.{maps2}
-use Rattle.conf_tree.specs.View.{placed_leaf}
+use Rattle.expr_syntax.specs.Rows.{nth, beyond}
+use Rattle.expr_syntax.proofs.Picks.{maps2}
+use Rattle.conf_syntax.specs.View.{placed_leaf}
 use Rattle.conf_tree.specs.Readers.{policy_at}
-use Rattle.conf_tree.proofs.Heads.{maps4}
+use Rattle.conf_syntax.proofs.Heads.{maps4}
 
 pub policy_all : (k : ℕ) (ws u : List Word) → ws ≡ words.Symbol sym.All ∷ u → policy_at k ws ≡ Parsed (nth 0 (symbol_leaf sym.All)) u
 unfolding policy_at

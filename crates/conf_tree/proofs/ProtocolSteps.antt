@@ -13,16 +13,18 @@ use Rattle.conf_lex.specs.Agrees.{AgreesOnError}
 use Rattle.conf_lex.specs.declared.refusal.Refusal.{Refusal}
 use Rattle.conf_lex.proofs.PartShapes.{fails_then}
 use Rattle.conf_lex.proofs.Symbols.{placed_same}
-use Rattle.filt_syntax.specs.Syntax.{rule}
-use Rattle.filt_syntax.specs.Levels.{Form}
-use Rattle.filt_syntax.specs.StatementView.{nth, beyond}
-use Rattle.filt_syntax.proofs.Tested.{is_checked}
-use Rattle.filt_syntax.proofs.Picks.{maps2, picked, rest_read}
-use Rattle.conf_tree.specs.Syntax.{protocol_of, ended_options, static_option, bgp_option, pipe_option, device, statement}
-use Rattle.conf_tree.specs.View.{placed_leaf, of_protocol}
-use Rattle.conf_tree.specs.Readers.{optional_name_at, optional_semicolon_at, closed_options, protocol_at, statement_at}
-use Rattle.conf_tree.proofs.Heads.{headed}
-use Rattle.conf_tree.proofs.FirstWords.{both_same, last_headed}
+use Rattle.expr_syntax.specs.Syntax.{rule}
+use Rattle.expr_syntax.specs.Levels.{Form}
+use Rattle.expr_syntax.specs.Rows.{nth, beyond}
+use Rattle.expr_syntax.proofs.Tested.{is_checked}
+use Rattle.expr_syntax.proofs.Picks.{maps2, picked, rest_read}
+use Rattle.conf_syntax.specs.Syntax.{protocol_of, ended_options, static_option, bgp_option, pipe_option, device, statement}
+use Rattle.conf_tree.specs.View.{of_protocol}
+use Rattle.conf_syntax.specs.View.{placed_leaf}
+use Rattle.conf_tree.specs.Readers.{protocol_at, statement_at}
+use Rattle.conf_syntax.specs.Readers.{optional_name_at, optional_semicolon_at, closed_options}
+use Rattle.conf_syntax.proofs.Heads.{headed}
+use Rattle.conf_syntax.proofs.FirstWords.{both_same, last_headed}
 
 -- ---- a protocol of options
 

@@ -2,7 +2,7 @@
 use Rattle.std.proofs.Common.{◌≡◌, ℕ, zero, suc, ◌+◌, ◌≤◌, Bool, true, false, cond, List, [], ◌∷◌, ◌++◌, length, map, take, drop, slice_index_or, IsSomeAnd, Result, Ok, Err, IfOk, IfErr, refl, sym, ap, subst, ◌∙◌, arith, inl, inr}
 use Rattle.std.proofs.lemmas.List.{length-append, length-drop, drop_at, take_at}
 use Rattle.std.specs.Borrow.{Bor}
-use Rattle.conf_lex.specs.declared.token.Token.{Token}
+use Rattle.conf_scan.specs.declared.token.Token.{Token}
 use Rattle.conf_lex.specs.declared.word.Word.{Word}
 use Rattle.conf_lex.specs.Grammar.{Bad, TooDeep, ParseTree}
 use Rattle.conf_lex.specs.Reading.{Parsed, Failed}
@@ -10,13 +10,13 @@ use Rattle.conf_lex.specs.Agrees.{AgreesOnError}
 use Rattle.conf_lex.specs.declared.refusal.Refusal.{Refusal}
 use Rattle.conf_lex.specs.declared.refusal.Refusal.TheVariants as refusals
 use Rattle.conf_lex.specs.Sentences.{IsBegunWithin, IsTooDeep}
-use Rattle.filt_syntax.specs.Syntax.{rule}
+use Rattle.expr_syntax.specs.Syntax.{rule}
 use Rattle.filt_syntax.specs.declared.parse.SyntaxFault.{SyntaxFault}
 use Rattle.filt_syntax.specs.declared.parse.SyntaxFault.TheVariants as faults
 use Rattle.filt_syntax.specs.RefusedToken.{IsPastAt, IsBadFrom}
 use Rattle.filt_syntax.proofs.RefusedTokens.{one_past_at, below_words}
 use Rattle.conf_lex.proofs.PartShapes.{bad_from, deep_from}
-use Rattle.conf_tree.specs.Syntax.{config}
+use Rattle.conf_syntax.specs.Syntax.{config}
 use Rattle.conf_tree.specs.Readers.{whole_at}
 use Rattle.conf_lex.specs.Words.{words_of}
 use Rattle.conf_tree.specs.Significant.{behind, is_significant, significant, significant_words, significant_starts, token_of}

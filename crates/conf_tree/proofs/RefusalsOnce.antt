@@ -1,7 +1,7 @@
 -- A text is refused at one byte, for one reason, where it has one list of tokens or one place where it has none.
 use Rattle.std.proofs.Common.{◌≡◌, ℕ, List, refl, sym, ap, ◌∙◌, ◌⊎◌, inl, inr}
-use Rattle.conf_lex.specs.Lex.{Lexes, Stops}
-use Rattle.conf_lex.specs.declared.token.Token.{Token}
+use Rattle.conf_scan.specs.Lex.{Lexes, Stops}
+use Rattle.conf_scan.specs.declared.token.Token.{Token}
 use Rattle.filt_syntax.specs.declared.parse.SyntaxFault.{SyntaxFault}
 use Rattle.filt_syntax.specs.declared.parse.SyntaxFault.TheVariants as faults
 use Rattle.conf_tree.specs.Sentence.{IsRefused}

@@ -7,9 +7,10 @@ use Rattle.bits_ip.specs.declared.address.Family.{Family}
 use Rattle.conf_lex.specs.Kind.{prefix, symbol}
 use Rattle.conf_lex.specs.Grammar.{Left, Right, begins}
 use Rattle.conf_lex.specs.Reading.{Parsed, and_then, word, both}
-use Rattle.conf_tree.specs.Syntax.{is_family}
-use Rattle.conf_tree.specs.View.{family_symbol}
-use Rattle.conf_tree.specs.Readers.{channel_at, route_target_at, static_option_at}
+use Rattle.conf_syntax.specs.Syntax.{is_family}
+use Rattle.conf_syntax.specs.View.{family_symbol}
+use Rattle.conf_tree.specs.Readers.{channel_at, static_option_at}
+use Rattle.conf_syntax.specs.Readers.{route_target_at}
 use Rattle.conf_tree.proofs.ChannelSteps.{family_passes}
 
 pub static_channel : (k at : ℕ) (f : Family) (ws u : List Word) → ws ≡ words.Placed at (family_symbol f) ∷ u → static_option_at k ws ≡ and_then (channel_at k ws) (λ c v. Parsed (Left c) v)

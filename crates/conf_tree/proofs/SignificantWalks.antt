@@ -2,11 +2,12 @@
 use Rattle.std.proofs.Common.{◌≡◌, ℕ, ◌+◌, ◌≤◌, cond, List, [], ◌∷◌, ◌++◌, length, map, Option, Some, sym, subst, ◌∙◌, ap, arith, append_assoc, append-nil}
 use Rattle.std.specs.Prelude.{MatchOption}
 use Rattle.std.proofs.lemmas.List.{length-append}
-use Rattle.conf_lex.specs.Lex.{Lexes}
-use Rattle.conf_lex.specs.Walks.{IsSpot, IsWordStep, LexesFrom}
+use Rattle.conf_scan.specs.Lex.{Lexes}
+use Rattle.conf_lex.specs.Walks.{IsWordStep}
+use Rattle.conf_scan.specs.Spots.{IsSpot, LexesFrom}
 use Rattle.conf_lex.specs.Words.{words_from}
-use Rattle.conf_lex.specs.declared.lexer.Spot.{Spot}
-use Rattle.conf_lex.specs.declared.token.Token.{Token}
+use Rattle.conf_scan.specs.declared.lexer.Spot.{Spot}
+use Rattle.conf_scan.specs.declared.token.Token.{Token}
 use Rattle.conf_lex.specs.declared.word.Word.{Word}
 use Rattle.conf_tree.specs.Significant.{behind, depth_of, is_significant, significant, significant_words}
 use Rattle.conf_tree.specs.declared.significant.Region.{Region}

@@ -1,9 +1,9 @@
 -- What is answered to a text: its configuration, or its one refusal.
 use Rattle.std.proofs.Common.{◌≡◌, ℕ, ◌<◌, ◌≤◌, List, length, arith, Ok, Err, sym, ap, subst, ◌∙◌, ◌⊎◌, inl, inr}
-use Rattle.conf_lex.specs.Lex.{Lexes, Stops, IsBadAt, IsRefused as IsStuckAt}
-use Rattle.conf_lex.specs.declared.token.Token.{Token}
-use Rattle.conf_lex.specs.declared.token.LexFault.{LexFault}
-use Rattle.conf_lex.specs.declared.token.LexFault.TheVariants as lex_faults
+use Rattle.conf_scan.specs.Lex.{Lexes, Stops, IsBadAt, IsRefused as IsStuckAt}
+use Rattle.conf_scan.specs.declared.token.Token.{Token}
+use Rattle.conf_scan.specs.declared.token.LexFault.{LexFault}
+use Rattle.conf_scan.specs.declared.token.LexFault.TheVariants as lex_faults
 use Rattle.conf_lex.specs.Grammar.{ParseTree}
 use Rattle.filt_syntax.specs.declared.parse.SyntaxFault.{SyntaxFault}
 use Rattle.filt_syntax.specs.declared.parse.SyntaxFault.TheVariants as faults

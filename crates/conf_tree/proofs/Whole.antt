@@ -13,12 +13,12 @@ use Rattle.conf_lex.proofs.Good.{outcome, and_then_got, and_then_fault}
 use Rattle.conf_lex.proofs.Checks.{check}
 use Rattle.conf_lex.proofs.Exact.{got_is_read, fault_is_bad, fault_is_too_deep, whole}
 use Rattle.conf_lex.proofs.Unique.{Longer, fronts, too_deep_is_fault}
-use Rattle.filt_syntax.specs.Syntax.{rule}
-use Rattle.filt_syntax.specs.Levels.{Form}
+use Rattle.expr_syntax.specs.Syntax.{rule}
+use Rattle.expr_syntax.specs.Levels.{Form}
 use Rattle.conf_lex.proofs.PartShapes.{bad_from, deep_from}
 use Rattle.filt_syntax.proofs.Follows.{begun_next, not_next, no_deep_within, deep_follows}
-use Rattle.filt_syntax.proofs.Tested.{model, after, checked}
-use Rattle.conf_tree.specs.Syntax.{config}
+use Rattle.expr_syntax.proofs.Tested.{model, after, checked}
+use Rattle.conf_syntax.specs.Syntax.{config}
 use Rattle.conf_tree.specs.Readers.{config_at, to_the_end, whole_at}
 use Rattle.conf_tree.specs.Sentence.{IsSentence, IsStop}
 use Rattle.conf_tree.proofs.Tested.{config_checked}

@@ -1,5 +1,3 @@
-pub mod Syntax
-pub mod Options
 pub mod View
 pub mod Readers
 pub mod Significant

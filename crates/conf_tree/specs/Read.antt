@@ -6,8 +6,8 @@
 -- From: own; the grammar is that of Syntax.
 -- Example: `template bgp t { } @` is refused at `@`.
 use Rattle.std.specs.Prelude.{◌≡◌, ◌≤◌, ◌⊎◌, ℕ, List, length, map, slice_index_or, Result, Ok, Err}
-use Rattle.conf_lex.specs.Lex.{Lexes, Stops}
-use Rattle.conf_lex.specs.declared.token.Token.{Token}
+use Rattle.conf_scan.specs.Lex.{Lexes, Stops}
+use Rattle.conf_scan.specs.declared.token.Token.{Token}
 use Rattle.conf_lex.specs.Grammar.{ParseTree}
 use Rattle.filt_syntax.specs.declared.parse.SyntaxFault.{SyntaxFault}
 use Rattle.filt_syntax.specs.declared.parse.SyntaxFault.TheVariants as faults

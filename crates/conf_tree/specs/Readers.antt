@@ -4,75 +4,30 @@ use Rattle.std.specs.Prelude.{ℕ, List, [], ◌∷◌}
 use Rattle.conf_lex.specs.declared.symbol.Symbol.{Symbol}
 use Rattle.conf_lex.specs.declared.symbol.Symbol.TheVariants as sym
 use Rattle.conf_lex.specs.declared.word.Word.{Word}
-use Rattle.conf_lex.specs.Kind.{name, address, symbol}
-use Rattle.conf_lex.specs.Grammar.{Terminal, Seq, Alt, Bad, ParseTree, Pair, Left, first_set}
+use Rattle.conf_lex.specs.Kind.{symbol}
+use Rattle.conf_lex.specs.Grammar.{Bad, ParseTree, Pair, Left, first_set}
 use Rattle.conf_lex.specs.Reading.{Read, Reader, Parsed, Failed, and_then, word, both, all_turns}
 use Rattle.conf_lex.specs.Reading.{read}
-use Rattle.filt_syntax.specs.Syntax.{optional, is_num, semicolon, rule}
-use Rattle.filt_syntax.specs.Levels.{Form}
+use Rattle.expr_syntax.specs.Syntax.{optional, rule}
+use Rattle.expr_syntax.specs.Levels.{Form}
 use Rattle.filt_syntax.specs.StatementReaders.{block_at}
-use Rattle.conf_tree.specs.Syntax.{is_switch, policy, action, channel_option, ended_options}
-use Rattle.conf_tree.specs.Syntax.{channel, route_target, static_option, transport, bgp_option}
-use Rattle.conf_tree.specs.Syntax.{pipe_option, literal, parameter, parameters, gives, protocol_of}
-use Rattle.conf_tree.specs.Syntax.{statement, config}
-
--- what is read, as a part of a whole
-abbrev pub seen_as : Reader → (ParseTree → ParseTree) → Reader
-seen_as r whole ws = and_then (r ws) (λ t rest. Parsed (whole t) rest)
-
-unfoldable pub optional_name_at : ℕ → Reader
-optional_name_at k = read rule k (optional (Terminal name))
-
-unfoldable pub optional_address_at : ℕ → Reader
-optional_address_at k = read rule k (optional (Terminal address))
-
-unfoldable pub optional_switch_at : ℕ → Reader
-optional_switch_at k = read rule k (optional (Terminal is_switch))
-
-unfoldable pub optional_number_at : ℕ → Reader
-optional_number_at k = read rule k (optional (Terminal is_num))
-
-unfoldable pub optional_semicolon_at : ℕ → Reader
-optional_semicolon_at k = read rule k (optional semicolon)
-
--- "as" num
-unfoldable pub as_at : ℕ → Reader
-as_at k = read rule k (Seq (Terminal (symbol sym.As)) (Terminal is_num))
-
--- "time" num
-unfoldable pub time_at : ℕ → Reader
-time_at k = read rule k (Seq (Terminal (symbol sym.Time)) (Terminal is_num))
+use Rattle.conf_syntax.specs.Syntax.{policy, channel_option}
+use Rattle.conf_syntax.specs.Syntax.{channel, static_option, bgp_option}
+use Rattle.conf_syntax.specs.Syntax.{pipe_option, parameter, parameters, gives, protocol_of}
+use Rattle.conf_syntax.specs.Syntax.{statement, config}
+use Rattle.conf_syntax.specs.Readers.{}
 
 unfoldable pub policy_at : ℕ → Reader
 policy_at k = read rule k policy
 
--- an action, or nothing
-unfoldable pub action_at : ℕ → Reader
-action_at k = read rule k (optional action)
-
--- behind "limit"
-unfoldable pub limit_value_at : ℕ → Reader
-limit_value_at k =
-    read rule k (Alt (Terminal (symbol sym.Off)) (Seq (Terminal is_num) (optional action)))
-
 unfoldable pub channel_option_at : ℕ → Reader
 channel_option_at k = read rule k channel_option
-
--- options and the brace behind them
-unfoldable pub closed_options : Form → ℕ → Reader
-closed_options item k = both (read rule k (ended_options item)) (word (symbol sym.CloseBrace))
 
 unfoldable pub channel_at : ℕ → Reader
 channel_at k = read rule k channel
 
-unfoldable pub route_target_at : ℕ → Reader
-route_target_at k = read rule k route_target
-
 unfoldable pub static_option_at : ℕ → Reader
 static_option_at k = read rule k static_option
-
-unfoldable pub transport_at : ℕ → Reader
-transport_at k = read rule k transport
 
 unfoldable pub bgp_option_at : ℕ → Reader
 bgp_option_at k = read rule k bgp_option
@@ -83,9 +38,6 @@ pipe_option_at k = read rule k pipe_option
 -- a protocol of this kind and these options
 unfoldable pub protocol_at : Symbol → Form → ℕ → Reader
 protocol_at kind item k = read rule k (protocol_of kind item)
-
-unfoldable pub literal_at : ℕ → Reader
-literal_at k = read rule k literal
 
 unfoldable pub parameter_at : ℕ → Reader
 parameter_at k = read rule k parameter

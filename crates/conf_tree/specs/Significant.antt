@@ -13,7 +13,7 @@ use Rattle.std.proofs.Common.{zero, suc}
 use Rattle.conf_lex.specs.Words.{words_of}
 use Rattle.conf_lex.specs.declared.symbol.Symbol.{Symbol}
 use Rattle.conf_lex.specs.declared.symbol.Symbol.TheVariants as sym
-use Rattle.conf_lex.specs.declared.token.Token.{Token}
+use Rattle.conf_scan.specs.declared.token.Token.{Token}
 use Rattle.conf_lex.specs.declared.word.Word.{Word}
 use Rattle.conf_lex.specs.Kind.{kind_of, name, symbol}
 use Rattle.conf_tree.specs.declared.significant.Region.{Region}

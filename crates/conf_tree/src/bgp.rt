@@ -9,24 +9,28 @@ ghost use Rattle.conf_lex.specs.Grammar.{Pair, begins};
 ghost use Rattle.conf_lex.specs.Reading.{both, word};
 ghost use Rattle.conf_lex.specs.Leaves.{symbol_leaf};
 ghost use Rattle.conf_lex.specs.Agrees.{Agrees};
-ghost use Rattle.filt_syntax.specs.Syntax.{is_num};
-ghost use Rattle.filt_syntax.specs.StatementView.{nth, beyond};
-ghost use Rattle.conf_tree.specs.Syntax.{is_family, is_switch, bgp_option};
-ghost use Rattle.conf_tree.specs.Options.{bgp_option_is};
-ghost use Rattle.conf_tree.specs.View.{attribute_leaf, family_symbol, bgp_option_tree};
-ghost use Rattle.conf_tree.specs.Readers.{seen_as, optional_address_at, as_at, channel_at};
-ghost use Rattle.conf_tree.specs.Readers.{transport_at, bgp_option_at};
+ghost use Rattle.expr_syntax.specs.Syntax.{is_num};
+ghost use Rattle.expr_syntax.specs.Rows.{nth, beyond};
+ghost use Rattle.conf_syntax.specs.Syntax.{is_family, is_switch, bgp_option};
+ghost use Rattle.conf_syntax.specs.Options.{bgp_option_is};
+ghost use Rattle.conf_tree.specs.View.{bgp_option_tree};
+ghost use Rattle.conf_syntax.specs.View.{attribute_leaf, family_symbol};
+ghost use Rattle.conf_tree.specs.Readers.{channel_at};
+ghost use Rattle.conf_syntax.specs.Readers.{seen_as, optional_address_at, as_at};
+ghost use Rattle.conf_tree.specs.Readers.{bgp_option_at};
+ghost use Rattle.conf_syntax.specs.Readers.{transport_at};
 
 use crate::channel::channel;
-use crate::options::ProtocolOption;
-use crate::simple::{as_number, expect_address, expect_switch, next_family, optional_address};
-use crate::transport::transport;
 use bits_ip::Family;
 use conf_ast::Attribute;
 use conf_ast::configurations::BgpOption;
 use conf_lex::parsing::{after, after_attribute, expect};
 use conf_lex::{Refusal, Symbol, Word};
-use filt_syntax::parts::num;
+use conf_syntax::parts::{
+    ProtocolOption, as_number, expect_address, expect_switch, next_family, optional_address,
+    transport,
+};
+use expr_syntax::parts::num;
 use std::alloc::Global;
 
 // By the words after `local`.

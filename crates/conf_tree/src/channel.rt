@@ -9,65 +9,27 @@ ghost use Rattle.conf_lex.specs.Grammar.{Pair, Left, Right};
 ghost use Rattle.conf_lex.specs.Reading.{both, word};
 ghost use Rattle.conf_lex.specs.Leaves.{symbol_leaf};
 ghost use Rattle.conf_lex.specs.Agrees.{Agrees};
-ghost use Rattle.filt_syntax.specs.StatementView.{nth, beyond};
-ghost use Rattle.filt_syntax.specs.Syntax.{is_num};
-ghost use Rattle.conf_tree.specs.Syntax.{is_action, is_hop, channel_option};
-ghost use Rattle.conf_tree.specs.Options.{channel_option_is};
-ghost use Rattle.conf_tree.specs.View.{attribute_leaf, family_leaf, maybe, action_tree};
-ghost use Rattle.conf_tree.specs.View.{limit_tree, hop_symbol, channel_option_tree, channel_tree};
-ghost use Rattle.conf_tree.specs.View.{action_symbol, family_symbol};
-ghost use Rattle.conf_tree.specs.Readers.{seen_as, policy_at, action_at, limit_value_at};
-ghost use Rattle.conf_tree.specs.Readers.{channel_option_at, closed_options, channel_at};
+ghost use Rattle.expr_syntax.specs.Rows.{nth, beyond};
+ghost use Rattle.expr_syntax.specs.Syntax.{is_num};
+ghost use Rattle.conf_syntax.specs.Syntax.{is_hop, channel_option};
+ghost use Rattle.conf_syntax.specs.Options.{channel_option_is};
+ghost use Rattle.conf_syntax.specs.View.{attribute_leaf, family_leaf};
+ghost use Rattle.conf_tree.specs.View.{channel_option_tree, channel_tree};
+ghost use Rattle.conf_syntax.specs.View.{family_symbol};
+ghost use Rattle.conf_tree.specs.Readers.{policy_at};
+ghost use Rattle.conf_syntax.specs.Readers.{seen_as, limit_value_at};
+ghost use Rattle.conf_tree.specs.Readers.{channel_option_at, channel_at};
+ghost use Rattle.conf_syntax.specs.Readers.{closed_options};
 
-use crate::options::{ProtocolOption, options};
 use crate::policy::policy;
 use bits_ip::Family;
 use conf_ast::Attribute;
-use conf_ast::configurations::{Action, Channel, ChannelOption, Limit, NextHop};
+use conf_ast::configurations::{Channel, ChannelOption};
 use conf_lex::parsing::{after, after_attribute, expect, expect_name};
 use conf_lex::{Refusal, Symbol, Word};
-use filt_syntax::parts::num;
+use conf_syntax::parts::{ProtocolOption, expect_hop, limit_value, options};
+use expr_syntax::parts::num;
 use std::alloc::Global;
-
-fn expect_action(words: &[Word]) -> Result<(Action, &[Word]), Refusal>
-    ensures { Agrees (λ a. symbol_leaf (action_symbol a)) result (word is_action words.now) }
-{
-    match words {
-        [Word::Symbol(Symbol::Warn), rest @ ..] => Ok((Action::Warn, rest)),
-        [Word::Symbol(Symbol::Block), rest @ ..] => Ok((Action::Block, rest)),
-        [Word::Symbol(Symbol::Disable), rest @ ..] => Ok((Action::Disable, rest)),
-        _ => Err(Refusal::Bad(words)),
-    }
-}
-
-// An action, if one comes next.
-#[tactic(auto, unfolding(crate::specs::Readers::action_at))]
-fn optional_action(words: &[Word]) -> Result<(Option<Action>, &[Word]), Refusal>
-    ensures { Agrees (maybe action_tree) result (action_at 0 words.now) }
-{
-    match after(words, Symbol::Action) {
-        Some(rest) => {
-            let (action, rest) = expect_action(rest)?;
-            Ok((Some(action), rest))
-        }
-        None => Ok((None, words)),
-    }
-}
-
-// By the words after `limit`.
-#[tactic(auto, unfolding(crate::specs::Readers::limit_value_at, crate::specs::Readers::action_at))]
-fn limit_value(words: &[Word]) -> Result<(Limit, &[Word]), Refusal>
-    ensures { Agrees limit_tree result (limit_value_at 0 words.now) }
-{
-    match after(words, Symbol::Off) {
-        Some(rest) => Ok((Limit::Off, rest)),
-        None => {
-            let (count, rest) = num(words)?;
-            let (action, rest) = optional_action(rest)?;
-            Ok((Limit::Count { count, action }, rest))
-        }
-    }
-}
 
 // By the words after `import limit`.
 fn import_limit(words: &[Word]) -> Result<(ChannelOption, &[Word]), Refusal>
@@ -106,16 +68,6 @@ fn import_option<'a>(
     match after(behind, Symbol::Limit) {
         Some(rest) => import_limit(rest),
         None => import_policy(alloc, behind, depth_left),
-    }
-}
-
-fn expect_hop(words: &[Word]) -> Result<(NextHop, &[Word]), Refusal>
-    ensures { Agrees (λ h. symbol_leaf (hop_symbol h)) result (word is_hop words.now) }
-{
-    match words {
-        [Word::Symbol(Symbol::SelfWord), rest @ ..] => Ok((NextHop::Own, rest)),
-        [Word::Symbol(Symbol::Keep), rest @ ..] => Ok((NextHop::Keep, rest)),
-        _ => Err(Refusal::Bad(words)),
     }
 }
 

@@ -1,6 +1,6 @@
 // Whether a word can go on with the beginning of a configuration.
 
-ghost use Rattle.conf_tree.specs.Syntax.{config};
+ghost use Rattle.conf_syntax.specs.Syntax.{config};
 
 use crate::config::config;
 use bits_ip::OutOfMemory;

@@ -8,22 +8,25 @@ ghost use Rattle.conf_lex.specs.Reading.{both, word};
 ghost use Rattle.conf_lex.specs.Kind.{symbol, name};
 ghost use Rattle.conf_lex.specs.Leaves.{symbol_leaf};
 ghost use Rattle.conf_lex.specs.Agrees.{Agrees};
-ghost use Rattle.filt_syntax.specs.Finds.{Finds};
-ghost use Rattle.filt_syntax.specs.StatementView.{nth};
-ghost use Rattle.conf_tree.specs.Syntax.{is_separator};
-ghost use Rattle.conf_tree.specs.View.{maybe, parameter_tree, parameters_tree, separator_symbol};
+ghost use Rattle.expr_syntax.specs.Finds.{Finds};
+ghost use Rattle.expr_syntax.specs.Rows.{nth};
+ghost use Rattle.conf_syntax.specs.Syntax.{is_separator};
+ghost use Rattle.conf_tree.specs.View.{parameter_tree, parameters_tree, separator_symbol};
+ghost use Rattle.conf_syntax.specs.View.{maybe};
 ghost use Rattle.conf_tree.specs.View.{gives_tree, statement_tree};
 ghost use Rattle.conf_tree.specs.Readers.{parameter_at, some_parameters_at, parameters_at};
-ghost use Rattle.conf_tree.specs.Readers.{gives_at, signature_at, seen_as};
+ghost use Rattle.conf_tree.specs.Readers.{gives_at, signature_at};
+ghost use Rattle.conf_syntax.specs.Readers.{seen_as};
 
 use conf_ast::configurations::Statement;
 use conf_ast::filters::{Function, Parameter, Separator, VariableType};
 use conf_lex::parsing::{after, expect, expect_name, expect_placed};
 use conf_lex::{Refusal, Symbol, Word};
-use filt_syntax::parts::{variable_type, whole_block};
+use expr_syntax::parts::variable_type;
+use filt_syntax::parts::whole_block;
 use std::alloc::Global;
 
-#[tactic(auto, unfolding(crate::specs::Readers::parameter_at, filt_syntax::specs::StatementReaders::vtype_at))]
+#[tactic(auto, unfolding(crate::specs::Readers::parameter_at, expr_syntax::specs::Readers::vtype_at))]
 fn parameter<'a>(
     separator: Option<Separator>,
     words: &'a [Word],
@@ -90,7 +93,7 @@ fn parameters<'a>(
 }
 
 // The type of what a function gives, if one comes next.
-#[tactic(auto, unfolding(crate::specs::Readers::gives_at, filt_syntax::specs::StatementReaders::vtype_at))]
+#[tactic(auto, unfolding(crate::specs::Readers::gives_at, expr_syntax::specs::Readers::vtype_at))]
 fn optional_type(words: &[Word]) -> Result<(Option<VariableType>, &[Word]), Refusal>
     ensures { Agrees (maybe gives_tree) result (gives_at 0 words.now) }
 {

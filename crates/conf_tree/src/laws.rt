@@ -8,7 +8,7 @@ ghost use Rattle.conf_tree.specs.Read.{IsConfigText, IsRefusedText};
 ghost use Rattle.conf_ast.specs.declared.kind.ConfKind.{ConfKind};
 
 use conf_ast::ConfKind;
-use conf_lex::laws::{
+use conf_scan::laws::{
     lexed_texts_are_not_refused, texts_are_refused_at_one_place, texts_have_one_list_of_tokens,
 };
 

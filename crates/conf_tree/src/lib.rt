@@ -1,10 +1,11 @@
-//! The grammar of BIRD's configuration and its parser: the tree of a text (conf_ast) or the first
-//! place that is refused (`read_config`, `parse_config`), and the line and column of a place
-//! (`place`). Four laws stand here, on which crates on the way to the program rest.
+//! The parser of BIRD's configuration: the tree of a text (conf_ast) or the first place that is
+//! refused (`read_config`, `parse_config`), and the line and column of a place (`place`). Four laws
+//! stand here, on which crates on the way to the program rest.
 //!
-//! Not in it: tokens and words (conf_lex), expressions, statements and blocks of filters
-//! (filt_syntax), the other laws of what is defined here (conf_laws), configurations as plain data
-//! (conf_ast), and what is refused of names and values (conf_rules).
+//! Not in it: tokens (conf_scan) and words (conf_lex), the grammar and its parts that hold no filter
+//! (conf_syntax), expressions (expr_syntax), statements and blocks of filters (filt_syntax), the
+//! other laws of what is defined here (conf_laws), configurations as plain data (conf_ast), and what
+//! is refused of names and values (conf_rules).
 #![tactic(auto)]
 
 mod bgp;
@@ -13,8 +14,6 @@ mod config;
 mod followed;
 mod function;
 pub mod laws;
-mod literal;
-mod options;
 mod parse;
 mod pipe;
 mod policy;
@@ -22,10 +21,8 @@ mod position;
 mod protocol;
 mod read;
 mod significant;
-mod simple;
 mod statement;
 mod static_routes;
-mod transport;
 mod unsupported;
 
 pub use conf_ast::{ConfFault, ConfKind};

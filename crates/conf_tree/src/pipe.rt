@@ -6,17 +6,18 @@ ghost use Rattle.conf_lex.specs.Grammar.{Pair};
 ghost use Rattle.conf_lex.specs.Reading.{both, word};
 ghost use Rattle.conf_lex.specs.Leaves.{symbol_leaf};
 ghost use Rattle.conf_lex.specs.Agrees.{Agrees};
-ghost use Rattle.filt_syntax.specs.StatementView.{nth, beyond};
-ghost use Rattle.conf_tree.specs.Syntax.{pipe_option};
-ghost use Rattle.conf_tree.specs.Options.{pipe_option_is};
+ghost use Rattle.expr_syntax.specs.Rows.{nth, beyond};
+ghost use Rattle.conf_syntax.specs.Syntax.{pipe_option};
+ghost use Rattle.conf_syntax.specs.Options.{pipe_option_is};
 ghost use Rattle.conf_tree.specs.View.{pipe_option_tree};
-ghost use Rattle.conf_tree.specs.Readers.{seen_as, policy_at};
+ghost use Rattle.conf_tree.specs.Readers.{policy_at};
+ghost use Rattle.conf_syntax.specs.Readers.{seen_as};
 
-use crate::options::ProtocolOption;
 use crate::policy::policy;
 use conf_ast::configurations::PipeOption;
 use conf_lex::parsing::{after, expect, expect_name};
 use conf_lex::{Refusal, Symbol, Word};
+use conf_syntax::parts::ProtocolOption;
 use std::alloc::Global;
 
 // By the words after `table`.

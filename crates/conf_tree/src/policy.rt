@@ -8,16 +8,19 @@ ghost use Rattle.conf_lex.specs.Grammar.{Pair, Right};
 ghost use Rattle.conf_lex.specs.Reading.{both, word};
 ghost use Rattle.conf_lex.specs.Leaves.{symbol_leaf};
 ghost use Rattle.conf_lex.specs.Agrees.{Agrees};
-ghost use Rattle.filt_syntax.specs.Readers.{expr_at};
+ghost use Rattle.expr_syntax.specs.Readers.{expr_at};
 ghost use Rattle.filt_syntax.specs.StatementReaders.{block_at};
-ghost use Rattle.filt_syntax.specs.StatementView.{nth, beyond};
-ghost use Rattle.conf_tree.specs.View.{placed_leaf, policy_tree};
-ghost use Rattle.conf_tree.specs.Readers.{seen_as, policy_at};
+ghost use Rattle.expr_syntax.specs.Rows.{nth, beyond};
+ghost use Rattle.conf_tree.specs.View.{policy_tree};
+ghost use Rattle.conf_syntax.specs.View.{placed_leaf};
+ghost use Rattle.conf_tree.specs.Readers.{policy_at};
+ghost use Rattle.conf_syntax.specs.Readers.{seen_as};
 
 use conf_ast::configurations::Policy;
 use conf_lex::parsing::{after, after_placed, expect_placed, next_name};
 use conf_lex::{Refusal, Symbol, Word};
-use filt_syntax::parts::{expression, whole_block};
+use expr_syntax::parts::expression;
+use filt_syntax::parts::whole_block;
 use std::alloc::Global;
 
 // By the words after `filter`, whose place is told.

@@ -10,17 +10,16 @@ ghost use Rattle.conf_lex.specs.Grammar.{Pair};
 ghost use Rattle.conf_lex.specs.Reading.{both, word};
 ghost use Rattle.conf_lex.specs.Leaves.{symbol_leaf};
 ghost use Rattle.conf_lex.specs.Agrees.{Agrees};
-ghost use Rattle.filt_syntax.specs.StatementView.{nth, beyond};
-ghost use Rattle.conf_tree.specs.Syntax.{static_option, bgp_option, pipe_option};
+ghost use Rattle.expr_syntax.specs.Rows.{nth, beyond};
+ghost use Rattle.conf_syntax.specs.Syntax.{static_option, bgp_option, pipe_option};
 ghost use Rattle.conf_tree.specs.View.{statement_tree, protocol_tree, of_protocol};
-ghost use Rattle.conf_tree.specs.Readers.{seen_as, optional_name_at, optional_semicolon_at};
+ghost use Rattle.conf_syntax.specs.Readers.{seen_as, optional_name_at, optional_semicolon_at};
 ghost use Rattle.conf_tree.specs.Readers.{protocol_at, statement_at};
 
-use crate::options::{ProtocolOption, options};
-use crate::simple::{optional_name, optional_semicolon};
 use conf_ast::configurations::{Protocol, Statement};
 use conf_lex::parsing::{after, after_placed, expect};
 use conf_lex::{Refusal, Symbol, Word};
+use conf_syntax::parts::{ProtocolOption, optional_name, optional_semicolon, options};
 use std::alloc::Global;
 
 // A protocol of this place, by the words after its kind's word, whichever that is.

@@ -1,7 +1,7 @@
 // The configuration of a text.
 
 ghost use Rattle.std.specs.Prelude.{◌≡◌, ◌≤◌, length, IfOk, IfErr};
-ghost use Rattle.conf_lex.specs.Lex.{Lexes};
+ghost use Rattle.conf_scan.specs.Lex.{Lexes};
 ghost use Rattle.conf_lex.specs.Grammar.{ParseTree};
 ghost use Rattle.conf_tree.specs.View.{config_view};
 ghost use Rattle.conf_tree.specs.Read.{byte_of, fault_of, IsConfigText, IsFault, IsWithin};
@@ -14,8 +14,9 @@ use crate::parse::parse_config;
 use crate::significant::walked_words;
 use conf_ast::configurations::Config;
 use conf_ast::{ConfFault, ConfKind};
-use conf_lex::laws::{texts_are_refused_within, tokens_are_slices};
-use conf_lex::{LexFault, Refusal, Token, lex};
+use conf_lex::Refusal;
+use conf_scan::laws::{texts_are_refused_within, tokens_are_slices};
+use conf_scan::{LexFault, Token, lex};
 use filt_syntax::SyntaxFault;
 use filt_syntax::parts::LEVELS;
 use std::alloc::Global;

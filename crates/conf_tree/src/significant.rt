@@ -2,15 +2,16 @@
 
 ghost use Rattle.std.specs.Prelude.{◌≡◌, ◌+◌, ◌<◌, ◌^◌, List, ◌++◌, ◌∷◌, [], cond, true, false};
 ghost use Rattle.std.specs.Prelude.{map, IfOk, OnOk};
-ghost use Rattle.conf_lex.specs.Lex.{Lexes};
-ghost use Rattle.conf_lex.specs.declared.token.Token.{Token};
+ghost use Rattle.conf_scan.specs.Lex.{Lexes};
+ghost use Rattle.conf_scan.specs.declared.token.Token.{Token};
 ghost use Rattle.conf_lex.specs.Kind.{kind_of, name};
 ghost use Rattle.conf_tree.specs.Significant.{behind, depth_of, is_significant, significant_words};
 ghost use Rattle.conf_tree.specs.Significant.{significant_starts};
 
 use bits_ip::OutOfMemory;
 use conf_lex::parsing::is_symbol;
-use conf_lex::{LexFault, Spot, Symbol, Token, Word, Words, next_word, word_at};
+use conf_lex::{Symbol, Word, Words, next_word, word_at};
+use conf_scan::{LexFault, Spot, Token};
 use std::alloc::Global;
 
 /// Where a word stands, as far as it matters to what logs and device blocks hold.

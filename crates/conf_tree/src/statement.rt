@@ -9,19 +9,20 @@ ghost use Rattle.conf_lex.specs.Reading.{both, word};
 ghost use Rattle.conf_lex.specs.Leaves.{symbol_leaf};
 ghost use Rattle.conf_lex.specs.Agrees.{Agrees};
 ghost use Rattle.filt_syntax.specs.StatementReaders.{block_at};
-ghost use Rattle.filt_syntax.specs.StatementView.{nth};
-ghost use Rattle.conf_tree.specs.View.{placed_leaf, family_leaf, statement_tree};
-ghost use Rattle.conf_tree.specs.Readers.{seen_as, literal_at, statement_at};
+ghost use Rattle.expr_syntax.specs.Rows.{nth};
+ghost use Rattle.conf_tree.specs.View.{statement_tree};
+ghost use Rattle.conf_syntax.specs.View.{placed_leaf, family_leaf};
+ghost use Rattle.conf_tree.specs.Readers.{statement_at};
+ghost use Rattle.conf_syntax.specs.Readers.{seen_as, literal_at};
 
 use crate::function::function;
-use crate::literal::literal;
 use crate::protocol::protocol;
-use crate::simple::{expect_address, next_family};
 use bits_ip::Family;
 use conf_ast::configurations::Statement;
 use conf_ast::filters::Filter;
 use conf_lex::parsing::{after, after_placed, expect, expect_name};
 use conf_lex::{Refusal, Symbol, Word};
+use conf_syntax::parts::{expect_address, literal, next_family};
 use filt_syntax::parts::whole_block;
 use std::alloc::Global;
 

@@ -7,39 +7,20 @@ ghost use Rattle.conf_lex.specs.Kind.{symbol, prefix};
 ghost use Rattle.conf_lex.specs.Grammar.{Left, Right};
 ghost use Rattle.conf_lex.specs.Reading.{both, word};
 ghost use Rattle.conf_lex.specs.Agrees.{Agrees};
-ghost use Rattle.conf_tree.specs.Syntax.{static_option};
-ghost use Rattle.conf_tree.specs.Options.{static_option_is};
-ghost use Rattle.conf_tree.specs.View.{family_symbol, target_tree, static_option_tree};
-ghost use Rattle.conf_tree.specs.Readers.{seen_as, channel_at, route_target_at};
+ghost use Rattle.conf_syntax.specs.Syntax.{static_option};
+ghost use Rattle.conf_syntax.specs.Options.{static_option_is};
+ghost use Rattle.conf_tree.specs.View.{static_option_tree};
+ghost use Rattle.conf_syntax.specs.View.{family_symbol};
+ghost use Rattle.conf_tree.specs.Readers.{channel_at};
+ghost use Rattle.conf_syntax.specs.Readers.{seen_as, route_target_at};
 
 use crate::channel::channel;
-use crate::options::ProtocolOption;
-use crate::simple::{expect_address, next_family};
 use bits_ip::Family;
-use conf_ast::configurations::{Route, RouteTarget, StaticOption};
+use conf_ast::configurations::{Route, StaticOption};
 use conf_lex::parsing::{after, expect, next_prefix};
 use conf_lex::{Refusal, Symbol, Word};
+use conf_syntax::parts::{ProtocolOption, next_family, route_target};
 use std::alloc::Global;
-
-#[tactic(auto, unfolding(crate::specs::Readers::route_target_at))]
-fn route_target(words: &[Word]) -> Result<(RouteTarget, &[Word]), Refusal>
-    ensures { Agrees target_tree result (route_target_at 0 words.now) }
-{
-    if let Some(rest) = after(words, Symbol::Via) {
-        let (address, rest) = expect_address(rest)?;
-        return Ok((RouteTarget::Via(address), rest));
-    }
-    if let Some(rest) = after(words, Symbol::Blackhole) {
-        return Ok((RouteTarget::Blackhole, rest));
-    }
-    if let Some(rest) = after(words, Symbol::Unreachable) {
-        return Ok((RouteTarget::Unreachable, rest));
-    }
-    match after(words, Symbol::Prohibit) {
-        Some(rest) => Ok((RouteTarget::Prohibit, rest)),
-        None => Err(Refusal::Bad(words)),
-    }
-}
 
 fn route(words: &[Word]) -> Result<(StaticOption, &[Word]), Refusal>
     ensures { Agrees static_option_tree result

@@ -5,8 +5,8 @@ ghost use Rattle.std.specs.Prelude.{false};
 ghost use Rattle.conf_lex.specs.declared.word.Word.{Word};
 ghost use Rattle.conf_lex.specs.Symbols.{is_placed};
 ghost use Rattle.conf_lex.specs.Sentences.{IsBegunWithin};
-ghost use Rattle.filt_syntax.specs.Syntax.{rule};
-ghost use Rattle.conf_tree.specs.Syntax.{config};
+ghost use Rattle.expr_syntax.specs.Syntax.{rule};
+ghost use Rattle.conf_syntax.specs.Syntax.{config};
 ghost use Rattle.conf_tree.specs.Sentence.{CanStand, EndsIn, is_one_of, statement_words, bgp_words};
 ghost use Rattle.conf_tree.specs.Sentence.{channel_words, import_words, IsUnsupported};
 

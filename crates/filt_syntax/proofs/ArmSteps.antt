@@ -19,14 +19,15 @@ use Rattle.conf_lex.proofs.Chains.{turn, full_words}
 use Rattle.std.proofs.lemmas.List.{length-append}
 use Rattle.conf_ast.specs.declared.filters.Arm.{Arm}
 use Rattle.conf_ast.specs.declared.filters.Stmt.{Stmt}
-use Rattle.filt_syntax.specs.ItemView.{label_tree}
+use Rattle.expr_syntax.specs.ItemView.{label_tree}
 use Rattle.conf_lex.proofs.PartShapes.{fails_then, fails_along, then_then, word_bad, bool_cases, refuses}
-use Rattle.filt_syntax.specs.Syntax.{optional, is_num, pair_item, prefix_item, item, unnamed_item, label_end, label_of_name, label, done_to_name, unnamed_stmt, arm_part, stmt, rule}
-use Rattle.filt_syntax.specs.ItemReaders.{label_at, label_end_at}
-use Rattle.filt_syntax.specs.StatementView.{nth, as_part, as_label, stmt_tree, body_after, ArmParts, arms_after, arms_chain, arms_row, arms_of}
+use Rattle.expr_syntax.specs.Syntax.{optional, is_num, pair_item, prefix_item, item, unnamed_item, label_end, label_of_name, label, done_to_name, unnamed_stmt, arm_part, stmt, rule}
+use Rattle.expr_syntax.specs.ItemReaders.{label_at, label_end_at}
+use Rattle.filt_syntax.specs.StatementView.{as_part, as_label, stmt_tree, body_after, ArmParts, arms_after, arms_chain, arms_row, arms_of}
+use Rattle.expr_syntax.specs.Rows.{nth}
 use Rattle.filt_syntax.specs.StatementReaders.{stmt_at, unnamed_at, done_at, stmts_at, arm_part_at, arms_at, arm_row_at, otherwise_at, arms_end_at, more_arms_at, labelled_at, label_next, is_behind_name, is_item, arms_over, arm_ends}
-use Rattle.filt_syntax.proofs.Tested.{model, after, checked, good_at, next_at, solid_at}
-use Rattle.filt_syntax.proofs.Picks.{maps2, picked, alternative, rest_read, seq_read, apart}
+use Rattle.expr_syntax.proofs.Tested.{model, after, checked, good_at, next_at, solid_at}
+use Rattle.expr_syntax.proofs.Picks.{maps2, picked, alternative, rest_read, seq_read, apart}
 use Rattle.filt_syntax.proofs.StatementSteps.{stmt_refused, stmt_begins}
 
 -- ---- a row, turn by turn

@@ -15,13 +15,14 @@ use Rattle.conf_lex.specs.declared.refusal.Refusal.{Refusal}
 use Rattle.conf_lex.proofs.Good.{fits_front}
 use Rattle.conf_lex.proofs.Chains.{turn, full_words}
 use Rattle.conf_lex.proofs.PartShapes.{fails_then, fails_along, then_then, word_bad, bool_cases}
-use Rattle.filt_syntax.specs.Syntax.{block, if_stmt, case_stmt, stmt, rule}
-use Rattle.filt_syntax.specs.Levels.{block_level, body_level, arms_level}
-use Rattle.filt_syntax.specs.Readers.{expr_at}
-use Rattle.filt_syntax.specs.StatementView.{nth}
-use Rattle.filt_syntax.specs.StatementReaders.{stmt_at, stmts_at, row_at, block_at, vtype_at, else_at, arms_at, branches_at, run_at, braced_at}
-use Rattle.filt_syntax.proofs.Tested.{good_at, next_at, solid_at}
-use Rattle.filt_syntax.proofs.Picks.{maps2, picked, seq_read, nested_deep, nested_is, nested_fails}
+use Rattle.expr_syntax.specs.Syntax.{block, if_stmt, case_stmt, stmt, rule}
+use Rattle.expr_syntax.specs.Levels.{block_level, body_level, arms_level}
+use Rattle.expr_syntax.specs.Readers.{expr_at}
+use Rattle.expr_syntax.specs.Rows.{nth}
+use Rattle.filt_syntax.specs.StatementReaders.{stmt_at, stmts_at, row_at, block_at, else_at, arms_at, branches_at, run_at, braced_at}
+use Rattle.expr_syntax.specs.Readers.{vtype_at}
+use Rattle.expr_syntax.proofs.Tested.{good_at, next_at, solid_at}
+use Rattle.expr_syntax.proofs.Picks.{maps2, picked, seq_read, nested_deep, nested_is, nested_fails}
 use Rattle.filt_syntax.proofs.StatementSteps.{stmt_checked, stmt_refused, stmt_begins, headed}
 
 -- a value seen as one tree gives the tree that is made of it

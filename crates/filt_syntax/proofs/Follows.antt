@@ -8,14 +8,14 @@ use Rattle.conf_lex.specs.Sentences.{IsBegun, IsBegunWithin, IsLast, IsTooDeep}
 use Rattle.conf_lex.proofs.Checks.{check}
 use Rattle.conf_lex.proofs.Exact.{whole}
 use Rattle.conf_lex.proofs.Unique.{fronts, late_outcome, too_deep_is_fault}
-use Rattle.filt_syntax.specs.Syntax.{rule}
-use Rattle.filt_syntax.specs.Levels.{Form}
+use Rattle.expr_syntax.specs.Syntax.{rule}
+use Rattle.expr_syntax.specs.Levels.{Form}
 use Rattle.filt_syntax.specs.declared.parse.SyntaxFault.{SyntaxFault}
 use Rattle.filt_syntax.specs.declared.parse.SyntaxFault.TheVariants as faults
 use Rattle.filt_syntax.specs.Parse.{ParsesAt, IsRefused}
 use Rattle.filt_syntax.specs.RefusedToken.{CanFollow}
 use Rattle.filt_syntax.specs.Inside.{IsEndBy}
-use Rattle.filt_syntax.proofs.Tested.{model, after, checked}
+use Rattle.expr_syntax.proofs.Tested.{model, after, checked}
 
 -- ---- fronts
 

@@ -1,12 +1,6 @@
-pub mod Tested
-pub mod Signs
-pub mod ItemSteps
-pub mod Steps
-pub mod Derived
 pub mod Places
 pub mod Follows
 pub mod RefusedTokens
-pub mod Picks
 pub mod StatementSteps
 pub mod StatementTrees
 pub mod CycleSteps

@@ -13,11 +13,11 @@ use Rattle.filt_syntax.specs.declared.parse.SyntaxFault.TheVariants as faults
 use Rattle.conf_lex.specs.declared.refusal.Refusal.{Refusal}
 use Rattle.conf_lex.specs.declared.refusal.Refusal.TheVariants as refusals
 use Rattle.conf_lex.specs.Agrees.{AgreesOnError}
-use Rattle.filt_syntax.specs.Syntax.{rule}
-use Rattle.filt_syntax.specs.Levels.{Form}
+use Rattle.expr_syntax.specs.Syntax.{rule}
+use Rattle.expr_syntax.specs.Levels.{Form}
 use Rattle.filt_syntax.specs.Parse.{ParsesAt, IsRefused, IsFault}
 use Rattle.filt_syntax.specs.Inside.{refused_words, fault_of}
-use Rattle.filt_syntax.proofs.Tested.{is_checked, model, after, checked}
+use Rattle.expr_syntax.proofs.Tested.{is_checked, model, after, checked}
 
 -- the rest of what stands from a place on
 ends : (words front rest : List Word) (from n : ℕ) → from ≤ length words → drop from words ≡ front ++ rest → n + length rest ≡ length words → drop n words ≡ rest

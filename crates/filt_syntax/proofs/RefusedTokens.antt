@@ -1,12 +1,12 @@
 -- How far behind its first token a refused word is refused.
 use Rattle.std.proofs.Common.{◌≡◌, ◌↔◌, ℕ, zero, suc, ◌+◌, ◌-◌, ◌≤◌, Bool, true, false, cond, if◌then◌else◌, IsTrue, List, [], ◌∷◌, ◌++◌, length, map, drop, slice_index_or, Bor, MatchOption, refl, sym, ap, subst, ◌∙◌, arith, inl, inr}
-use Rattle.filt_syntax.specs.Levels.{Form}
+use Rattle.expr_syntax.specs.Levels.{Form}
 use Rattle.std.specs.Bool.{then_some}
 use Rattle.std.proofs.lemmas.Bool.{false≢true}
 use Rattle.std.proofs.lemmas.List.{length-append}
 use Rattle.bits_ip.specs.declared.address.Addr.{Addr}
 use Rattle.conf_lex.specs.Words.{first_word, words_from}
-use Rattle.conf_lex.specs.declared.token.Token.{Token}
+use Rattle.conf_scan.specs.declared.token.Token.{Token}
 use Rattle.conf_lex.specs.declared.word.Word.{Word}
 use Rattle.conf_lex.specs.declared.word.Word.TheVariants as words
 use Rattle.conf_lex.proofs.Unique.{fronts}

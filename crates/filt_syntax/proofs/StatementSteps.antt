@@ -11,19 +11,18 @@ use Rattle.conf_lex.specs.PartShapes.{links}
 use Rattle.conf_lex.specs.Leaves.{symbol_leaf, name_leaf}
 use Rattle.conf_lex.proofs.Chains.{turn}
 use Rattle.conf_lex.proofs.PartShapes.{then_then, word_bad, bool_cases, Turns, begun, refuses}
-use Rattle.filt_syntax.specs.Syntax.{has_sets, has_no_sets, expr, semicolon, declaration, assigned, changed, print_stmt, stmt, rule}
-use Rattle.filt_syntax.specs.Levels.{Form, arguments_level, attribute_level}
+use Rattle.expr_syntax.specs.Syntax.{expr, semicolon, declaration, assigned, changed, print_stmt, stmt, rule}
+use Rattle.expr_syntax.specs.Levels.{Form, arguments_level, attribute_level}
 use Rattle.conf_ast.specs.declared.attribute.Attribute.{Attribute}
 use Rattle.conf_ast.specs.declared.filters.Expr.{Expr}
-use Rattle.filt_syntax.specs.declared.variable_type.Member.{Member}
-use Rattle.filt_syntax.specs.declared.variable_type.Member.TheVariants as members
-use Rattle.filt_syntax.specs.View.{derivations, with_next, listed_after, listed_tree, expr_tree, expr_trees}
-use Rattle.filt_syntax.specs.Readers.{expr_at, method_at, level_at}
-use Rattle.filt_syntax.specs.StatementView.{nth, beyond, semicolon_leaf, member_symbol, member_type, set_type}
-use Rattle.filt_syntax.specs.StatementReaders.{stmt_at, done_at, of_name_at, vtype_at, change_at, declaration_at, initial_at, result_at, exprs_at}
-use Rattle.filt_syntax.proofs.Steps.{attribute_passes, expr_refused}
-use Rattle.filt_syntax.proofs.Tested.{model, after, checked, is_checked, good_at, next_at}
-use Rattle.filt_syntax.proofs.Picks.{maps2, picked, reaches, rest_of, rest_read}
+use Rattle.expr_syntax.specs.View.{derivations, with_next, listed_after, listed_tree, expr_tree, expr_trees}
+use Rattle.expr_syntax.specs.Readers.{expr_at, method_at, level_at}
+use Rattle.expr_syntax.specs.Rows.{nth, beyond, semicolon_leaf}
+use Rattle.filt_syntax.specs.StatementReaders.{stmt_at, done_at, of_name_at, change_at, declaration_at, initial_at, result_at, exprs_at}
+use Rattle.expr_syntax.specs.Readers.{vtype_at}
+use Rattle.expr_syntax.proofs.Steps.{attribute_passes, expr_refused}
+use Rattle.expr_syntax.proofs.Tested.{model, after, checked, is_checked, good_at, next_at}
+use Rattle.expr_syntax.proofs.Picks.{maps2, picked, reaches, rest_of, rest_read}
 
 maps3 : (x : Read) (f g h : ParseTree → ParseTree) → and_then (and_then (and_then x (λ a u. Parsed (f a) u)) (λ a u. Parsed (g a) u)) (λ a u. Parsed (h a) u) ≡ and_then x (λ a u. Parsed (h (g (f a))) u)
 maps3 (Parsed a u) f g h = refl
@@ -32,39 +31,6 @@ maps3 (Failed why u) f g h = refl
 maps4 : (x : Read) (f g h i : ParseTree → ParseTree) → and_then (and_then (and_then (and_then x (λ a u. Parsed (f a) u)) (λ a u. Parsed (g a) u)) (λ a u. Parsed (h a) u)) (λ a u. Parsed (i a) u) ≡ and_then x (λ a u. Parsed (i (h (g (f a)))) u)
 maps4 (Parsed a u) f g h i = refl
 maps4 (Failed why u) f g h i = refl
-
--- ---- types
-
-pub type_set : (k : ℕ) (m : Member) (ws u v : List Word) → ws ≡ words.Symbol (member_symbol m) ∷ u → u ≡ words.Symbol sym.Set ∷ v → vtype_at k ws ≡ Parsed (set_type (member_symbol m)) v
-unfolding vtype_at
-type_set zero members.Int ws u v is set = rw (is, set) refl
-type_set zero members.Pair ws u v is set = rw (is, set) refl
-type_set zero members.Prefix ws u v is set = rw (is, set) refl
-type_set (suc k) members.Int ws u v is set = rw (is, set) refl
-type_set (suc k) members.Pair ws u v is set = rw (is, set) refl
-type_set (suc k) members.Prefix ws u v is set = rw (is, set) refl
-
-pub type_alone : (k : ℕ) (m : Member) (ws u : List Word) → ws ≡ words.Symbol (member_symbol m) ∷ u → begins (symbol sym.Set) u ≡ false → vtype_at k ws ≡ Parsed (member_type (member_symbol m)) u
-unfolding vtype_at
-type_alone zero members.Int ws u is none = rw (is, none) refl
-type_alone zero members.Pair ws u is none = rw (is, none) refl
-type_alone zero members.Prefix ws u is none = rw (is, none) refl
-type_alone (suc k) members.Int ws u is none = rw (is, none) refl
-type_alone (suc k) members.Pair ws u is none = rw (is, none) refl
-type_alone (suc k) members.Prefix ws u is none = rw (is, none) refl
-
-pub type_other : (k : ℕ) (ws : List Word) → begins has_sets ws ≡ false → vtype_at k ws ≡ and_then (word has_no_sets ws) (λ t u. Parsed (Left t) u)
-unfolding vtype_at
-type_other zero [] none = refl
-type_other (suc k) [] none = refl
-type_other zero (w ∷ ws) none = elim (bool_cases (has_no_sets (kind_of w))) [
-  | inl here ↦ rw here refl
-  | inr other ↦ rw (other, none) refl
-]
-type_other (suc k) (w ∷ ws) none = elim (bool_cases (has_no_sets (kind_of w))) [
-  | inl here ↦ rw here refl
-  | inr other ↦ rw (other, none) refl
-]
 
 -- ---- statements by their first word
 

@@ -16,7 +16,8 @@ use Rattle.conf_ast.specs.declared.filters.Stmt.{Stmt, the_lemmas, fold-Stmt}
 use Rattle.conf_ast.specs.declared.filters.Stmt.TheVariants as stmts
 use Rattle.conf_ast.specs.declared.filters.Stmt.TheFolds.{map-Stmt}
 use Rattle.conf_ast.specs.declared.filters.Stmt.TheOpen.{Stmt-F}
-use Rattle.filt_syntax.specs.StatementView.{ArmParts, seen_arm, arm_of, stmt_step, stmt_tree, stmts_tree, block_tree, empty_tree, declare_tree, assign_tree, change_stmt_tree, call_tree, unset_tree, if_tree, chosen_tree, else_tree, case_tree, for_tree, verdict_tree, return_tree, print_tree, row_after, arms_row, arms_of, otherwise_tree, otherwise_of}
+use Rattle.filt_syntax.specs.StatementView.{ArmParts, seen_arm, arm_of, stmt_step, stmt_tree, stmts_tree, block_tree, empty_tree, declare_tree, assign_tree, change_stmt_tree, call_tree, unset_tree, if_tree, chosen_tree, else_tree, case_tree, for_tree, verdict_tree, return_tree, print_tree, arms_row, arms_of, otherwise_tree, otherwise_of}
+use Rattle.expr_syntax.specs.Rows.{row_after}
 use Rattle.filt_syntax.specs.Inside.{branches_tree, second_tree}
 
 pub tree-Block : (v : Vec Stmt Global) → stmt_tree (stmts.Block v) ≡ block_tree (stmts_tree v.items)

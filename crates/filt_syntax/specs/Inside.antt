@@ -9,7 +9,6 @@ use Rattle.filt_syntax.specs.declared.parse.SyntaxFault.{SyntaxFault}
 use Rattle.filt_syntax.specs.declared.parse.SyntaxFault.TheVariants as faults
 use Rattle.conf_lex.specs.declared.word.Word.TheVariants as words
 use Rattle.std.specs.Global.{Global}
-use Rattle.conf_lex.specs.declared.symbol.Symbol.{Symbol}
 use Rattle.conf_lex.specs.declared.symbol.Symbol.TheVariants as sym
 use Rattle.conf_lex.specs.Grammar.{ParseTree, NoWords, Pair, Right, Deeper}
 use Rattle.conf_lex.specs.Leaves.{between}
@@ -18,18 +17,8 @@ use Rattle.filt_syntax.specs.declared.statement.Branches.{Branches}
 use Rattle.conf_ast.specs.declared.filters.Stmt.{Stmt}
 use Rattle.filt_syntax.specs.StatementView.{else_tree, arms_row, otherwise_tree, stmt_tree, arms_of}
 use Rattle.filt_syntax.specs.StatementView.{otherwise_of}
-use Rattle.filt_syntax.specs.Levels.{Form}
+use Rattle.expr_syntax.specs.Levels.{Form}
 use Rattle.filt_syntax.specs.Tokens.{moved, place_of, IsPastOf}
-use Rattle.conf_ast.specs.declared.filters.Property.{Property}
-use Rattle.conf_ast.specs.declared.filters.Method.{Method}
-use Rattle.conf_ast.specs.declared.filters.Access.{Access}
-use Rattle.conf_ast.specs.declared.filters.Access.TheVariants as accesses
-use Rattle.conf_ast.specs.declared.filters.MulOp.{MulOp}
-use Rattle.conf_ast.specs.declared.filters.AddOp.{AddOp}
-use Rattle.conf_ast.specs.declared.filters.LogicalOp.{LogicalOp}
-use Rattle.conf_ast.specs.declared.filters.Expr.{Expr}
-use Rattle.filt_syntax.specs.View.{mul_op_symbol, add_op_symbol, logical_op_symbol, property_tree}
-use Rattle.filt_syntax.specs.View.{method_tree, derivations}
 
 -- the words from the refused one on
 abbrev pub refused_words : Refusal → List Word
@@ -80,17 +69,3 @@ abbrev pub IsToldAs : Form → List Word → List ℕ → ℕ → SyntaxFault �
 IsToldAs f words starts end fault told =
     (told ≡ faults.Memory) ⊎ ((past : ℕ) × IsPastOf f words fault past
     × (told ≡ moved (slice_index_or starts (place_of fault) end + past) fault))
-
-abbrev pub access_of : Access Expr → Word × ParseTree
-access_of (accesses.Property p) = (words.Symbol sym.Dot, property_tree p)
-access_of (accesses.Method m place e) =
-    (words.Symbol sym.Dot, Right (method_tree m place (derivations e).expr))
-
-abbrev pub mul_op_of : MulOp × Expr → Word × ParseTree
-mul_op_of x = (words.Symbol (mul_op_symbol x.0), (derivations x.1).unary)
-
-abbrev pub add_op_of : AddOp × Expr → Word × ParseTree
-add_op_of x = (words.Symbol (add_op_symbol x.0), (derivations x.1).product)
-
-abbrev pub logical_op_of : LogicalOp × Expr → Word × ParseTree
-logical_op_of x = (words.Symbol (logical_op_symbol x.0), (derivations x.1).comparison)

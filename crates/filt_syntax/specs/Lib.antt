@@ -1,10 +1,3 @@
-pub mod Finds
-pub mod Levels
-pub mod Syntax
-pub mod ItemView
-pub mod ItemReaders
-pub mod View
-pub mod Readers
 pub mod Parse
 pub mod RefusedToken
 pub mod Tokens

@@ -10,8 +10,8 @@ use Rattle.conf_lex.specs.Grammar.{ParseTree}
 use Rattle.conf_lex.specs.Sentences.{IsRead, IsBad, IsTooDeep}
 use Rattle.filt_syntax.specs.declared.parse.SyntaxFault.{SyntaxFault}
 use Rattle.filt_syntax.specs.declared.parse.SyntaxFault.TheVariants as faults
-use Rattle.filt_syntax.specs.Syntax.{rule}
-use Rattle.filt_syntax.specs.Levels.{Form}
+use Rattle.expr_syntax.specs.Syntax.{rule}
+use Rattle.expr_syntax.specs.Levels.{Form}
 
 -- the longest sentence of the form from one place on has this tree, and ends before the other place
 abbrev pub ParsesAt : Form → List Word → ℕ → ParseTree → ℕ → Type 0

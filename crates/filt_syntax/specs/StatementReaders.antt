@@ -1,4 +1,4 @@
--- For private contracts alone, all but `block_at` and `vtype_at`, which `parts` and the grammars
+-- For private contracts alone, all but `block_at`, which `parts` and the grammars
 -- above name: reading each form of a statement, where k more levels may be opened. The forms are
 -- those of `Syntax`, reading is `read` of conf_lex.
 -- Not modelled: memory, but for the lists that an arm is read into.
@@ -20,15 +20,16 @@ use Rattle.conf_lex.specs.Agrees.{AgreesOnError, Agrees}
 use Rattle.conf_lex.specs.declared.refusal.Refusal.{Refusal}
 use Rattle.conf_ast.specs.declared.filters.Arm.{Arm}
 use Rattle.conf_ast.specs.declared.filters.Stmt.{Stmt}
-use Rattle.filt_syntax.specs.ItemView.{label_tree}
-use Rattle.filt_syntax.specs.StatementView.{nth, stmt_tree, body_after, otherwise_of}
+use Rattle.expr_syntax.specs.ItemView.{label_tree}
+use Rattle.filt_syntax.specs.StatementView.{stmt_tree, body_after, otherwise_of}
+use Rattle.expr_syntax.specs.Rows.{nth}
 use Rattle.filt_syntax.specs.Inside.{case_arms}
 use Rattle.conf_lex.specs.Reading.{Reader, Parsed, and_then, word, both, all_turns, read}
-use Rattle.filt_syntax.specs.Syntax.{braces, optional, listed, many, expr, block, vtype, method}
-use Rattle.filt_syntax.specs.Syntax.{semicolon, declaration, stmt, unnamed_stmt, done_to_name}
-use Rattle.filt_syntax.specs.Syntax.{arm_part, arms, rule}
-use Rattle.filt_syntax.specs.Levels.{body_level, arms_level}
-use Rattle.filt_syntax.specs.ItemReaders.{label_at}
+use Rattle.expr_syntax.specs.Syntax.{braces, optional, listed, many, expr, block, vtype, method}
+use Rattle.expr_syntax.specs.Syntax.{semicolon, declaration, stmt, unnamed_stmt, done_to_name}
+use Rattle.expr_syntax.specs.Syntax.{arm_part, arms, rule}
+use Rattle.expr_syntax.specs.Levels.{body_level, arms_level}
+use Rattle.expr_syntax.specs.ItemReaders.{label_at}
 
 unfoldable pub stmt_at : ℕ → Reader
 stmt_at k = read rule k stmt
@@ -43,9 +44,6 @@ done_at k = read rule k done_to_name
 -- a statement that this name begins, by the words after it
 unfoldable pub of_name_at : ℕ → Name → Reader
 of_name_at k n ws = and_then (done_at k ws) (λ d rest. Parsed (Left (Pair (name_leaf n) d)) rest)
-
-unfoldable pub vtype_at : ℕ → Reader
-vtype_at k = read rule k vtype
 
 -- what stands behind the dot of a statement
 unfoldable pub change_at : ℕ → Reader

@@ -6,7 +6,6 @@
 -- Example: each variant of `Stmt` names its alternative of the line `stmt`.
 use Rattle.std.specs.Prelude.{ℕ, List, [], ◌∷◌, Option, Some, None, map, Vec}
 use Rattle.std.specs.Global.{Global}
-use Rattle.std.proofs.Common.{zero, suc}
 use Rattle.conf_lex.specs.declared.symbol.Symbol.{Symbol}
 use Rattle.conf_lex.specs.declared.symbol.Symbol.TheVariants as sym
 use Rattle.conf_lex.specs.declared.word.Word.TheVariants as words
@@ -17,7 +16,6 @@ use Rattle.conf_lex.specs.Leaves.{symbol_leaf, name_leaf, between}
 use Rattle.conf_ast.specs.declared.attribute.Attribute.{Attribute}
 use Rattle.conf_ast.specs.declared.filters.Expr.{Expr}
 use Rattle.conf_ast.specs.declared.filters.VariableType.{VariableType}
-use Rattle.conf_ast.specs.declared.filters.VariableType.TheVariants as types
 use Rattle.conf_ast.specs.declared.filters.Target.{Target}
 use Rattle.conf_ast.specs.declared.filters.Target.TheVariants as targets
 use Rattle.conf_ast.specs.declared.filters.Change.{Change}
@@ -25,47 +23,13 @@ use Rattle.conf_ast.specs.declared.filters.Change.TheVariants as changes
 use Rattle.conf_ast.specs.declared.filters.Arm.{Arm}
 use Rattle.conf_ast.specs.declared.filters.Block.{Block}
 use Rattle.conf_ast.specs.declared.filters.Item.{Item}
-use Rattle.filt_syntax.specs.declared.variable_type.Member.{Member}
-use Rattle.filt_syntax.specs.declared.variable_type.Member.TheVariants as members
 use Rattle.conf_ast.specs.declared.filters.Stmt.{Stmt, fold-Stmt}
 use Rattle.conf_ast.specs.declared.filters.Stmt.TheOpen.{Stmt-F}
-use Rattle.filt_syntax.specs.ItemView.{label_tree}
-use Rattle.filt_syntax.specs.View.{derivations, in_parentheses, method_tree}
-use Rattle.filt_syntax.specs.View.{arguments_tree, listed_tree, expr_trees}
-
-abbrev pub semicolon_leaf : ParseTree
-semicolon_leaf = symbol_leaf sym.Semicolon
-
--- ---- types
-
-abbrev pub plain_type : Symbol → ParseTree
-plain_type s = Left (symbol_leaf s)
-
--- a type of which there are sets, and the type of its sets
-abbrev pub member_type : Symbol → ParseTree
-member_type s = Right (Pair (symbol_leaf s) (Right NoWords))
-
-abbrev pub set_type : Symbol → ParseTree
-set_type s = Right (Pair (symbol_leaf s) (Left (symbol_leaf sym.Set)))
-
-abbrev pub type_tree : VariableType → ParseTree
-type_tree types.Int = member_type sym.Int
-type_tree types.Bool = plain_type sym.Bool
-type_tree types.Ip = plain_type sym.Ip
-type_tree types.Prefix = member_type sym.Prefix
-type_tree types.Pair = member_type sym.Pair
-type_tree types.String = plain_type sym.String
-type_tree types.Path = plain_type sym.PathType
-type_tree types.Mask = plain_type sym.MaskType
-type_tree types.Clist = plain_type sym.Clist
-type_tree types.IntSet = set_type sym.Int
-type_tree types.PairSet = set_type sym.Pair
-type_tree types.PrefixSet = set_type sym.Prefix
-
-abbrev pub member_symbol : Member → Symbol
-member_symbol members.Int = sym.Int
-member_symbol members.Pair = sym.Pair
-member_symbol members.Prefix = sym.Prefix
+use Rattle.expr_syntax.specs.ItemView.{label_tree}
+use Rattle.expr_syntax.specs.View.{derivations, in_parentheses, method_tree}
+use Rattle.expr_syntax.specs.View.{arguments_tree, listed_tree, expr_trees}
+use Rattle.expr_syntax.specs.Rows.{nth, beyond, semicolon_leaf, row_tree}
+use Rattle.expr_syntax.specs.Types.{type_tree}
 
 -- ---- parts of statements
 
@@ -91,16 +55,6 @@ initial_tree (Some e) = Left (Pair (symbol_leaf sym.Equal) (derivations e).expr)
 abbrev pub result_tree : Option Expr → ParseTree
 result_tree None = Right NoWords
 result_tree (Some e) = Left (derivations e).expr
-
--- a choice of several, one after another: the first, or one of those behind it
-abbrev pub nth : ℕ → ParseTree → ParseTree
-nth zero t = Left t
-nth (suc n) t = Right (nth n t)
-
--- the last of them
-abbrev pub beyond : ℕ → ParseTree → ParseTree
-beyond zero t = t
-beyond (suc n) t = Right (beyond n t)
 
 -- ---- the kinds of statements, in the order of the grammar's line
 
@@ -168,16 +122,6 @@ return_tree at e =
 abbrev pub print_tree : Symbol → List Expr → ParseTree
 print_tree s es =
     Right (beyond 10 (Pair (symbol_leaf s) (Pair (listed_tree (expr_trees es)) semicolon_leaf)))
-
--- ---- rows of statements
-
--- statements after statements
-abbrev pub row_after : ParseTree → List ParseTree → ParseTree
-row_after t [] = t
-row_after t (s ∷ ss) = row_after (Snoc t s) ss
-
-abbrev pub row_tree : List ParseTree → ParseTree
-row_tree ss = row_after (Single NoWords) ss
 
 -- ---- the arms of a `case`, which are one row of labels and statements
 

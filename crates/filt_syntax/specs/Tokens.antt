@@ -5,10 +5,10 @@
 -- Example: `[10.0.0.0]` is refused at its third token.
 use Rattle.std.specs.Prelude.{◌≡◌, ℕ, ◌+◌, List, length, map, drop, slice_index_or}
 use Rattle.conf_lex.specs.Words.{words_from}
-use Rattle.conf_lex.specs.declared.token.Token.{Token}
+use Rattle.conf_scan.specs.declared.token.Token.{Token}
 use Rattle.conf_lex.specs.declared.word.Word.{Word}
 use Rattle.conf_lex.specs.Grammar.{ParseTree}
-use Rattle.filt_syntax.specs.Levels.{Form}
+use Rattle.expr_syntax.specs.Levels.{Form}
 use Rattle.filt_syntax.specs.declared.parse.SyntaxFault.{SyntaxFault}
 use Rattle.filt_syntax.specs.declared.parse.SyntaxFault.TheVariants as faults
 use Rattle.filt_syntax.specs.Parse.{ParsesAt, IsRefused}

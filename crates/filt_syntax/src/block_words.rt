@@ -3,7 +3,7 @@
 ghost use Rattle.std.specs.Prelude.{ℕ, ◌≤◌, length, IfOk, IfErr};
 ghost use Rattle.conf_lex.specs.Grammar.{ParseTree};
 ghost use Rattle.filt_syntax.specs.declared.parse.SyntaxFault.{SyntaxFault};
-ghost use Rattle.filt_syntax.specs.Syntax.{block};
+ghost use Rattle.expr_syntax.specs.Syntax.{block};
 ghost use Rattle.filt_syntax.specs.StatementView.{block_view};
 ghost use Rattle.filt_syntax.specs.Parse.{ParsesAt, IsRefused, IsAnswer, IsFault};
 

@@ -1,7 +1,7 @@
 // Whether a word can go on with the beginning of an expression or a block.
 
 ghost use Rattle.std.specs.Prelude.{IfOk};
-ghost use Rattle.filt_syntax.specs.Syntax.{expr, block};
+ghost use Rattle.expr_syntax.specs.Syntax.{expr, block};
 ghost use Rattle.filt_syntax.specs.Inside.{IsEndBy};
 
 use crate::block_words::parse_block_words;

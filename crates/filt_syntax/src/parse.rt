@@ -3,16 +3,16 @@
 ghost use Rattle.std.specs.Prelude.{◌≡◌, ℕ, ◌≤◌, length, drop, IfOk, IfErr};
 ghost use Rattle.conf_lex.specs.Grammar.{ParseTree};
 ghost use Rattle.filt_syntax.specs.declared.parse.SyntaxFault.{SyntaxFault};
-ghost use Rattle.filt_syntax.specs.Syntax.{expr};
-ghost use Rattle.filt_syntax.specs.View.{derivations};
+ghost use Rattle.expr_syntax.specs.Syntax.{expr};
+ghost use Rattle.expr_syntax.specs.View.{derivations};
 ghost use Rattle.filt_syntax.specs.Parse.{ParsesAt, IsRefused, IsAnswer, IsFault};
 ghost use Rattle.filt_syntax.specs.Inside.{refused_words};
 ghost use Rattle.filt_syntax.specs.Inside.{fault_of};
 
-use crate::expression::expression;
 use conf_ast::filters::Expr;
 use conf_lex::parsing::place_in;
 use conf_lex::{Refusal, Word};
+use expr_syntax::parts::expression;
 use std::alloc::Global;
 use thiserror::Error;
 

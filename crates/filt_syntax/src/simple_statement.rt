@@ -8,22 +8,22 @@ ghost use Rattle.conf_lex.specs.Kind.{symbol, name as is_name};
 ghost use Rattle.conf_lex.specs.Grammar.{Pair, begins};
 ghost use Rattle.conf_lex.specs.Reading.{Read, Parsed, word, both};
 ghost use Rattle.conf_lex.specs.Agrees.{Agrees};
-ghost use Rattle.filt_syntax.specs.View.{expr_trees, listed_tree};
-ghost use Rattle.filt_syntax.specs.Readers.{expr_at};
+ghost use Rattle.expr_syntax.specs.View.{expr_trees, listed_tree};
+ghost use Rattle.expr_syntax.specs.Readers.{expr_at};
 ghost use Rattle.filt_syntax.specs.StatementView.{stmt_tree, ended, change_tree};
 ghost use Rattle.filt_syntax.specs.Inside.{boxed_tree};
-ghost use Rattle.filt_syntax.specs.StatementView.{semicolon_leaf, initial_tree};
+ghost use Rattle.filt_syntax.specs.StatementView.{initial_tree};
+ghost use Rattle.expr_syntax.specs.Rows.{semicolon_leaf};
 ghost use Rattle.filt_syntax.specs.StatementReaders.{stmt_at, of_name_at, change_at};
 ghost use Rattle.filt_syntax.specs.StatementReaders.{declaration_at, initial_at, exprs_at};
 
-use crate::bracket::of_attribute;
-use crate::expression::{arguments, expression, method};
-use crate::operators::next_attribute;
-use crate::variable_type::variable_type;
 use conf_ast::Name;
 use conf_ast::filters::{Attribute, Change, Expr, Stmt, Target};
 use conf_lex::parsing::{after, after_placed, expect, expect_name};
 use conf_lex::{Refusal, Symbol, Word};
+use expr_syntax::parts::{
+    arguments, expression, method, next_attribute, of_attribute, variable_type,
+};
 use std::alloc::Global;
 
 /// A statement in a box, and the words after it.

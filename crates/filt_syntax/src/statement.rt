@@ -20,16 +20,14 @@ ghost use Rattle.filt_syntax.specs.StatementReaders.{branches_at, run_at, braced
 ghost use Rattle.filt_syntax.specs.StatementReaders.{arm_ends, arms_over, label_next};
 ghost use Rattle.filt_syntax.specs.StatementReaders.{is_behind_name, is_item, ArmGives, BodyGives};
 ghost use Rattle.filt_syntax.specs.StatementReaders.{OtherwiseGives};
-ghost use Rattle.filt_syntax.specs.View.{derivations};
-ghost use Rattle.filt_syntax.specs.Readers.{expr_at};
+ghost use Rattle.expr_syntax.specs.View.{derivations};
+ghost use Rattle.expr_syntax.specs.Readers.{expr_at};
 
-use crate::expression::expression;
-use crate::items::label;
 use crate::simple_statement::{done_to_name, made, simple_statement};
-use crate::variable_type::variable_type;
 use conf_ast::filters::{Arm, Block, Expr, Stmt};
 use conf_lex::parsing::{after, after_placed, expect, expect_name, level_below, next, next_name};
 use conf_lex::{Refusal, Symbol, Word};
+use expr_syntax::parts::{expression, label, variable_type};
 use std::alloc::{AllocError, Global};
 
 // The branches of an `if`.

@@ -2,11 +2,11 @@
 
 ghost use Rattle.std.specs.Prelude.{ℕ, ◌+◌, ◌^◌, ◌<◌, ◌≤◌, length, slice_index_or};
 ghost use Rattle.std.specs.Prelude.{IfOk, IfErr};
-ghost use Rattle.conf_lex.specs.Lex.{Lexes};
+ghost use Rattle.conf_scan.specs.Lex.{Lexes};
 ghost use Rattle.conf_lex.specs.Grammar.{ParseTree};
 ghost use Rattle.filt_syntax.specs.declared.parse.SyntaxFault.{SyntaxFault};
-ghost use Rattle.filt_syntax.specs.Syntax.{block, expr};
-ghost use Rattle.filt_syntax.specs.View.{derivations};
+ghost use Rattle.expr_syntax.specs.Syntax.{block, expr};
+ghost use Rattle.expr_syntax.specs.View.{derivations};
 ghost use Rattle.filt_syntax.specs.StatementView.{block_view};
 ghost use Rattle.filt_syntax.specs.Parse.{IsAnswer, IsFault, IsRefused};
 ghost use Rattle.filt_syntax.specs.Tokens.{ParsesAtToken, IsRefusedIn};
@@ -18,7 +18,8 @@ use crate::parse::{SyntaxFault, parse_expr_words};
 use crate::refused_token::{Sentences, bad_from};
 use bits_ip::OutOfMemory;
 use conf_ast::filters::{Block, Expr};
-use conf_lex::{Token, Words, words_from};
+use conf_lex::{Words, words_from};
+use conf_scan::Token;
 use std::alloc::Global;
 
 /// The longest expression from a token on, and the place of the token behind it (BIRD User's Guide,

@@ -1,8 +1,9 @@
 //! Expressions and blocks: at which token the longest one in front of a text ends, or which token
 //! is refused. Of words it is their places that are told.
-ghost use Rattle.conf_lex.specs.Lex.{Lexes};
+ghost use Rattle.conf_scan.specs.Lex.{Lexes};
 
-use conf_lex::{Token, Words, lex, words_from};
+use conf_lex::{Words, words_from};
+use conf_scan::{Token, lex};
 use filt_syntax::{SyntaxFault, parse_block, parse_block_words, parse_expr, parse_expr_words};
 use std::alloc::Global;
 use std::io;

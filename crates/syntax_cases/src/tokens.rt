@@ -1,7 +1,7 @@
 //! Tokens, or at which byte a text is refused. A token is written `WHAT@AT+LEN`: where it stands,
 //! and how many bytes it has.
 use bits_ip::{Addr, write_addr};
-use conf_lex::{LexFault, Token, TokenKind, lex};
+use conf_scan::{LexFault, Token, TokenKind, lex};
 use std::alloc::Global;
 use std::io;
 

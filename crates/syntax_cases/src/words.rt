@@ -1,7 +1,8 @@
 //! Words, or at which byte a text is refused. A word is written `FIRST:WHAT`, by its first token,
 //! with `@PLACE` where it carries a place, and `[START+LEN]` where it tells bytes of the text.
 use crate::tokens::addr_text;
-use conf_lex::{LexFault, Word, lex, words_from};
+use conf_lex::{Word, words_from};
+use conf_scan::{LexFault, lex};
 use std::alloc::Global;
 use std::io;
 

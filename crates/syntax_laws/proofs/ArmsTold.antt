@@ -14,10 +14,10 @@ use Rattle.conf_ast.specs.declared.filters.Item.{Item}
 use Rattle.conf_ast.specs.declared.filters.Item.TheVariants as items
 use Rattle.conf_ast.specs.declared.filters.Arm.{Arm}
 use Rattle.conf_ast.specs.declared.filters.Stmt.{Stmt}
-use Rattle.filt_syntax.specs.Syntax.{rule, optional, many, is_num, pair_item, prefix_item, item, stmt, label, label_end, unnamed_item, label_of_name, arm_part}
-use Rattle.filt_syntax.specs.ItemView.{high_tree, item_tree, items_after, label_tree, label_end_tree}
+use Rattle.expr_syntax.specs.Syntax.{rule, optional, many, is_num, pair_item, prefix_item, item, stmt, label, label_end, unnamed_item, label_of_name, arm_part}
+use Rattle.expr_syntax.specs.ItemView.{high_tree, item_tree, items_after, label_tree, label_end_tree}
 use Rattle.filt_syntax.specs.StatementView.{stmt_tree, as_part, as_label, body_after, ArmParts, arms_after, arms_of}
-use Rattle.filt_syntax.proofs.Tested.{solid_at}
+use Rattle.expr_syntax.proofs.Tested.{solid_at}
 use Rattle.filt_syntax.proofs.ArmSteps.{body_more}
 use Rattle.syntax_laws.proofs.ItemsTold.{high_told, item_told}
 use Rattle.syntax_laws.proofs.ExprTold.{vec}

@@ -9,10 +9,10 @@ use Rattle.conf_ast.specs.declared.filters.AddOp.{AddOp}
 use Rattle.conf_ast.specs.declared.filters.LogicalOp.{LogicalOp}
 use Rattle.conf_ast.specs.declared.filters.Expr.{Expr}
 use Rattle.conf_ast.specs.declared.filters.Expr.TheVariants as exprs
-use Rattle.filt_syntax.specs.Syntax.{rule, expr}
-use Rattle.filt_syntax.specs.View.{Derivations, derivations, as_postfix, as_product, as_sum, as_expr, chain_of}
-use Rattle.filt_syntax.specs.Inside.{access_of, mul_op_of, add_op_of, logical_op_of}
-use Rattle.filt_syntax.proofs.Derived.{derivations-Product, derivations-Sum, derivations-Logical, derivations-Postfix}
+use Rattle.expr_syntax.specs.Syntax.{rule, expr}
+use Rattle.expr_syntax.specs.View.{Derivations, derivations, as_postfix, as_product, as_sum, as_expr, chain_of}
+use Rattle.expr_syntax.specs.Inside.{access_of, mul_op_of, add_op_of, logical_op_of}
+use Rattle.expr_syntax.proofs.Derived.{derivations-Product, derivations-Sum, derivations-Logical, derivations-Postfix}
 
 -- a form under which no tree is left blank
 some_parts : {X : Type 0} (part : X → Word × ParseTree) (first : ParseTree) (as_tree : ParseTree → ParseTree) (xs : List X) → (DerivesLongest rule (as_tree NoWords) expr → ⊥) → DerivesLongest rule (as_tree (chain_of first (map part xs))) expr → 1 ≤ length xs

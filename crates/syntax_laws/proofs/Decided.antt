@@ -6,9 +6,9 @@ use Rattle.conf_lex.specs.Kind.{Kind, symbol}
 use Rattle.conf_lex.specs.Grammar.{ParseTree, yield, DerivesLongest, Derives}
 use Rattle.conf_lex.proofs.Checks.{check}
 use Rattle.syntax_laws.proofs.Mended.{takes, decides, mended}
-use Rattle.filt_syntax.specs.Syntax.{rule, stmt, block}
-use Rattle.filt_syntax.specs.Levels.{Level, Form, group_level, body_level}
-use Rattle.filt_syntax.proofs.Tested.{model, after, checked}
+use Rattle.expr_syntax.specs.Syntax.{rule, stmt, block}
+use Rattle.expr_syntax.specs.Levels.{Level, Form, group_level, body_level}
+use Rattle.expr_syntax.proofs.Tested.{model, after, checked}
 
 abbrev pub is_else : Kind → Bool
 is_else k = symbol symbols.Else k

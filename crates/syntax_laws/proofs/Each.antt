@@ -2,18 +2,18 @@
 use Rattle.std.proofs.Common.{◌≡◌, ℕ, suc, zero, ◌+◌, ◌<◌, ◌≤◌, List, [], ◌∷◌, length, take, drop, Option, Some, None, refl, arith, inl, inr, ◌⊎◌}
 use Rattle.std.proofs.lemmas.List.{length-drop}
 use Rattle.bits_ip.specs.declared.address.Addr.TheVariants.{V4, V6}
-use Rattle.conf_lex.specs.declared.scan.Lexeme.{Lexeme}
-use Rattle.conf_lex.specs.declared.scan.Lexeme.TheVariants as lexemes
-use Rattle.conf_lex.specs.declared.token.Token.{Token}
-use Rattle.conf_lex.specs.declared.token.TokenKind.{TokenKind}
-use Rattle.conf_lex.specs.declared.token.TokenKind.TheVariants as kinds
-use Rattle.conf_lex.specs.Shapes.{IsShape, IsHexadecimal, IsValue, IsGap}
-use Rattle.conf_lex.specs.Fronts.{front, separator_len, Tells}
-use Rattle.conf_lex.specs.Lex.{Lexes, Stops, HasNoSeparator, HasNoToken}
-use Rattle.conf_lex.proofs.Between.{separator_found, separator_none, gap_more, gap_none}
-use Rattle.conf_lex.proofs.Numbers.{hex_number, hex_spelled}
-use Rattle.conf_lex.proofs.Readings.{by_sort, decimal_kind, hexadecimal_kind, dotted_kind, colons_kind, no_tokens, no_value, tells, next_lexes, next_stops, gap_ends, gap_stops}
-use Rattle.conf_lex.proofs.Tokens.{front_token}
+use Rattle.conf_scan.specs.declared.scan.Lexeme.{Lexeme}
+use Rattle.conf_scan.specs.declared.scan.Lexeme.TheVariants as lexemes
+use Rattle.conf_scan.specs.declared.token.Token.{Token}
+use Rattle.conf_scan.specs.declared.token.TokenKind.{TokenKind}
+use Rattle.conf_scan.specs.declared.token.TokenKind.TheVariants as kinds
+use Rattle.conf_scan.specs.Shapes.{IsShape, IsHexadecimal, IsValue, IsGap}
+use Rattle.conf_scan.specs.Fronts.{front, separator_len, Tells}
+use Rattle.conf_scan.specs.Lex.{Lexes, Stops, HasNoSeparator, HasNoToken}
+use Rattle.conf_scan.proofs.Between.{separator_found, separator_none, gap_more, gap_none}
+use Rattle.conf_scan.proofs.Numbers.{hex_number, hex_spelled}
+use Rattle.conf_scan.proofs.Readings.{by_sort, decimal_kind, hexadecimal_kind, dotted_kind, colons_kind, no_tokens, no_value, tells, next_lexes, next_stops, gap_ends, gap_stops}
+use Rattle.conf_scan.proofs.Tokens.{front_token}
 use Rattle.syntax_laws.proofs.Told.{Found, told_less, found_number, found_v4, found_v6}
 
 -- what a token says

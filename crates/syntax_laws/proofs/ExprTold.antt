@@ -19,14 +19,14 @@ use Rattle.conf_ast.specs.declared.filters.LogicalOp.{LogicalOp}
 use Rattle.conf_ast.specs.declared.filters.Method.{Method}
 use Rattle.conf_ast.specs.declared.filters.Expr.{Expr}
 use Rattle.conf_ast.specs.declared.filters.Expr.TheVariants as exprs
-use Rattle.filt_syntax.specs.Syntax.{rule, optional, listed, many, mask_item, is_atom, is_method, is_property, is_mul_op, is_add_op, is_compare_op, is_logical_op, call, named, group, set, mask, of_attribute, defined, method_call, method, access}
-use Rattle.filt_syntax.specs.Levels.{Form, group_level, operand_level, arguments_level, set_level, argument_level, two_level, attribute_level}
-use Rattle.filt_syntax.specs.Syntax.{primary, postfix, unary, product, sum, comparison, expr}
-use Rattle.filt_syntax.specs.ItemView.{mask_items_tree}
-use Rattle.filt_syntax.specs.View.{Derivations, derivations, as_primary, alone, parts_after, chain_of, in_parentheses, second_part, arguments_tree, listed_tree, property_tree, method_word, method_tree, compare_op_symbol, mul_op_symbol, add_op_symbol, logical_op_symbol, expr_tree, expr_trees}
-use Rattle.filt_syntax.specs.Inside.{access_of, mul_op_of, add_op_of, logical_op_of}
-use Rattle.filt_syntax.proofs.Tested.{solid_at}
-use Rattle.filt_syntax.proofs.Derived.{lifts, derivations-Atom, derivations-Name, derivations-Call, derivations-Group, derivations-Pair, derivations-Set, derivations-Mask, derivations-Defined, derivations-MethodCall, derivations-Not, derivations-Product, derivations-Sum, derivations-Compare, derivations-Logical, derivations-Postfix, one_more, chain_some, one_more_expr, arguments_listed}
+use Rattle.expr_syntax.specs.Syntax.{rule, optional, listed, many, mask_item, is_atom, is_method, is_property, is_mul_op, is_add_op, is_compare_op, is_logical_op, call, named, group, set, mask, of_attribute, defined, method_call, method, access}
+use Rattle.expr_syntax.specs.Levels.{Form, group_level, operand_level, arguments_level, set_level, argument_level, two_level, attribute_level}
+use Rattle.expr_syntax.specs.Syntax.{primary, postfix, unary, product, sum, comparison, expr}
+use Rattle.expr_syntax.specs.ItemView.{mask_items_tree}
+use Rattle.expr_syntax.specs.View.{Derivations, derivations, as_primary, alone, parts_after, chain_of, in_parentheses, second_part, arguments_tree, listed_tree, property_tree, method_word, method_tree, compare_op_symbol, mul_op_symbol, add_op_symbol, logical_op_symbol, expr_tree, expr_trees}
+use Rattle.expr_syntax.specs.Inside.{access_of, mul_op_of, add_op_of, logical_op_of}
+use Rattle.expr_syntax.proofs.Tested.{solid_at}
+use Rattle.expr_syntax.proofs.Derived.{lifts, derivations-Atom, derivations-Name, derivations-Call, derivations-Group, derivations-Pair, derivations-Set, derivations-Mask, derivations-Defined, derivations-MethodCall, derivations-Not, derivations-Product, derivations-Sum, derivations-Compare, derivations-Logical, derivations-Postfix, one_more, chain_some, one_more_expr, arguments_listed}
 use Rattle.syntax_laws.proofs.SortsOfWords.{attribute_is, atom_is, property_is, method_is, mul_op_is, add_op_is, compare_op_is, logical_op_is}
 use Rattle.syntax_laws.proofs.ItemsTold.{between_is, comma_told, items_told, mask_told}
 

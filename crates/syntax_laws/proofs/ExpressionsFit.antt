@@ -1,9 +1,9 @@
 -- In an expression the next word always decides: a tree of the grammar alone fits.
 use Rattle.std.proofs.Common.{◌≡◌, Bool, true, false, refl}
 use Rattle.conf_lex.specs.Grammar.{ParseTree, DerivesLongest, Derives}
-use Rattle.filt_syntax.specs.Syntax.{expr, rule}
-use Rattle.filt_syntax.specs.Levels.{Level, block_level, body_level, arms_level}
-use Rattle.filt_syntax.proofs.Tested.{model, after, checked}
+use Rattle.expr_syntax.specs.Syntax.{expr, rule}
+use Rattle.expr_syntax.specs.Levels.{Level, block_level, body_level, arms_level}
+use Rattle.expr_syntax.proofs.Tested.{model, after, checked}
 use Rattle.syntax_laws.proofs.Spelled.{strict, spelled_fits}
 
 -- the levels within expressions

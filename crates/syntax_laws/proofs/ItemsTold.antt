@@ -17,11 +17,11 @@ use Rattle.conf_ast.specs.declared.filters.PairPart.TheVariants as pair_parts
 use Rattle.conf_ast.specs.declared.filters.Lengths.TheVariants as lengths_variants
 use Rattle.conf_ast.specs.declared.filters.Item.TheVariants as items
 use Rattle.conf_ast.specs.declared.filters.MaskAtom.TheVariants as mask_atoms
-use Rattle.filt_syntax.specs.Syntax.{rule, optional, is_num, num_range, pair_part, pair_item, lengths, prefix_item, item, mask_atom, mask_item}
-use Rattle.filt_syntax.specs.Levels.{Level, Form, set_level, pair_level, lengths_level}
-use Rattle.filt_syntax.specs.ItemView.{num_tree, high_tree, num_range_tree, pair_part_tree, with_comma, lengths_tree, lengths_part, item_tree, items_tree, mask_atom_tree, many_tree, mask_item_tree, mask_items_tree}
-use Rattle.filt_syntax.proofs.ItemSteps.{one_more_item, one_more_mask_item}
-use Rattle.filt_syntax.proofs.Tested.{solid_at}
+use Rattle.expr_syntax.specs.Syntax.{rule, optional, is_num, num_range, pair_part, pair_item, lengths, prefix_item, item, mask_atom, mask_item}
+use Rattle.expr_syntax.specs.Levels.{Level, Form, set_level, pair_level, lengths_level}
+use Rattle.expr_syntax.specs.ItemView.{num_tree, high_tree, num_range_tree, pair_part_tree, with_comma, lengths_tree, lengths_part, item_tree, items_tree, mask_atom_tree, many_tree, mask_item_tree, mask_items_tree}
+use Rattle.expr_syntax.proofs.ItemSteps.{one_more_item, one_more_mask_item}
+use Rattle.expr_syntax.proofs.Tested.{solid_at}
 use Rattle.syntax_laws.proofs.SortsOfWords.{num_is}
 
 pub num_told : (t : ParseTree) → DerivesLongest rule t (Terminal is_num) → Seen num_tree t

@@ -5,13 +5,14 @@ use Rattle.std.proofs.lemmas.List.{take-append-drop, length-take, length-drop}
 use Rattle.bits_ip.specs.declared.address.Addr.{Addr}
 use Rattle.conf_lex.specs.declared.symbol.Symbol.{Symbol}
 use Rattle.conf_lex.specs.declared.symbol.Symbol.TheVariants as symbols
-use Rattle.conf_lex.specs.declared.token.Token.{Token}
-use Rattle.conf_lex.specs.declared.token.TokenKind.{TokenKind}
-use Rattle.conf_lex.specs.declared.token.TokenKind.TheVariants as kinds
+use Rattle.conf_scan.specs.declared.token.Token.{Token}
+use Rattle.conf_scan.specs.declared.token.TokenKind.{TokenKind}
+use Rattle.conf_scan.specs.declared.token.TokenKind.TheVariants as kinds
 use Rattle.conf_lex.specs.declared.word.Word.{Word}
 use Rattle.conf_lex.specs.declared.word.Word.TheVariants as words
 use Rattle.conf_lex.specs.Symbols.{is_else, is_colon, is_slash}
-use Rattle.conf_lex.specs.Words.{slice_of, kind_symbol, token_symbol, word_of, prefix_word, or_alone, slashed, first_word, words_from, words_of}
+use Rattle.conf_lex.specs.Words.{kind_symbol, token_symbol, word_of, prefix_word, or_alone, slashed, first_word, words_from, words_of}
+use Rattle.conf_scan.specs.Spans.{slice_of}
 use Rattle.syntax_laws.specs.Made.{IsMadeOf, Alone, ElseColon, Slashed, MakeUp}
 use Rattle.conf_lex.proofs.Folded.{first_size, words_behind, drop_one}
 

@@ -22,9 +22,9 @@ use Rattle.conf_ast.specs.declared.filters.LogicalOp.{LogicalOp}
 use Rattle.conf_ast.specs.declared.filters.LogicalOp.TheVariants as logical_ops
 use Rattle.conf_ast.specs.declared.filters.Num.{Num}
 use Rattle.conf_ast.specs.declared.filters.Num.TheVariants as nums
-use Rattle.filt_syntax.specs.Syntax.{is_num, is_atom, is_property, is_method, is_mul_op, is_add_op, is_compare_op, is_logical_op}
-use Rattle.filt_syntax.specs.ItemView.{num_word}
-use Rattle.filt_syntax.specs.View.{atom_word, property_symbol, method_word, mul_op_symbol, add_op_symbol, compare_op_symbol, logical_op_symbol}
+use Rattle.expr_syntax.specs.Syntax.{is_num, is_atom, is_property, is_method, is_mul_op, is_add_op, is_compare_op, is_logical_op}
+use Rattle.expr_syntax.specs.ItemView.{num_word}
+use Rattle.expr_syntax.specs.View.{atom_word, property_symbol, method_word, mul_op_symbol, add_op_symbol, compare_op_symbol, logical_op_symbol}
 
 -- a number, or the name of one
 pub num_is : (w : Word) → is_num (kind_of w) ≡ true → (x : Num) × (w ≡ num_word x)

@@ -20,11 +20,13 @@ use Rattle.conf_ast.specs.declared.filters.Change.TheVariants as changes
 use Rattle.conf_ast.specs.declared.filters.Arm.{Arm}
 use Rattle.conf_ast.specs.declared.filters.Stmt.{Stmt}
 use Rattle.conf_ast.specs.declared.filters.Stmt.TheVariants as stmts
-use Rattle.filt_syntax.specs.Syntax.{rule, optional, listed, many, expr, has_sets, has_no_sets, vtype, semicolon, block, declaration, assigned, changed, done_to_name, done_to_attribute, unset, if_stmt, case_stmt, for_stmt, verdict_stmt, return_stmt, print_stmt, unnamed_stmt, stmt, call, method, of_attribute, label, arm_part}
-use Rattle.filt_syntax.specs.Levels.{Form, block_level, body_level, arms_level}
-use Rattle.filt_syntax.specs.View.{derivations, in_parentheses, arguments_tree, listed_tree, expr_tree, expr_trees}
-use Rattle.filt_syntax.specs.StatementView.{semicolon_leaf, type_tree, assigned_tree, change_tree, changed_tree, initial_tree, result_tree, nth, beyond, else_tree, arms_row, arms_of, ArmParts, otherwise_tree, otherwise_of, stmt_tree, stmts_tree, block_view}
-use Rattle.filt_syntax.proofs.Tested.{solid_at}
+use Rattle.expr_syntax.specs.Syntax.{rule, optional, listed, many, expr, has_sets, has_no_sets, vtype, semicolon, block, declaration, assigned, changed, done_to_name, done_to_attribute, unset, if_stmt, case_stmt, for_stmt, verdict_stmt, return_stmt, print_stmt, unnamed_stmt, stmt, call, method, of_attribute, label, arm_part}
+use Rattle.expr_syntax.specs.Levels.{Form, block_level, body_level, arms_level}
+use Rattle.expr_syntax.specs.View.{derivations, in_parentheses, arguments_tree, listed_tree, expr_tree, expr_trees}
+use Rattle.filt_syntax.specs.StatementView.{assigned_tree, change_tree, changed_tree, initial_tree, result_tree, else_tree, arms_row, arms_of, ArmParts, otherwise_tree, otherwise_of, stmt_tree, stmts_tree, block_view}
+use Rattle.expr_syntax.specs.Rows.{semicolon_leaf, nth, beyond}
+use Rattle.expr_syntax.specs.Types.{type_tree}
+use Rattle.expr_syntax.proofs.Tested.{solid_at}
 use Rattle.filt_syntax.proofs.StatementTrees.{tree-Block, tree-Empty, tree-Declare, tree-Assign, tree-Change, tree-Unset, tree-If, tree-IfElse, tree-Case, tree-For, tree-Accept, tree-Reject, tree-Return, tree-Print, tree-Printn, tree-Call, one_more_stmt}
 use Rattle.syntax_laws.proofs.SortsOfWords.{attribute_is}
 use Rattle.syntax_laws.proofs.ItemsTold.{braced_is, either_symbol}

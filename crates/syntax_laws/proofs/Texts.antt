@@ -6,12 +6,12 @@ use Rattle.std.proofs.Math.Seq.{drop-append_seam}
 use Rattle.conf_lex.specs.Grammar.{Bad, TooDeep, ParseTree, yield}
 use Rattle.conf_lex.specs.Reading.{Read, Parsed, Failed, read}
 use Rattle.conf_lex.specs.Sentences.{IsBegunWithin, IsRead, IsBad, IsTooDeep}
-use Rattle.conf_lex.specs.declared.token.Token.{Token}
+use Rattle.conf_scan.specs.declared.token.Token.{Token}
 use Rattle.conf_lex.specs.declared.word.Word.{Word}
 use Rattle.conf_lex.proofs.Exact.{got_is_read, read_is_got, fault_is_bad, fault_is_too_deep}
 use Rattle.conf_lex.proofs.Unique.{bad_is_fault, too_deep_is_fault}
-use Rattle.filt_syntax.specs.Syntax.{rule}
-use Rattle.filt_syntax.specs.Levels.{Form}
+use Rattle.expr_syntax.specs.Syntax.{rule}
+use Rattle.expr_syntax.specs.Levels.{Form}
 use Rattle.filt_syntax.specs.Parse.{ParsesAt, IsRefused}
 use Rattle.filt_syntax.specs.RefusedToken.{CanFollow}
 use Rattle.filt_syntax.specs.Tokens.{words_behind, token_place, place_of, moved, IsPastOf, ParsesAtToken, IsRefusedIn}
@@ -19,7 +19,7 @@ use Rattle.filt_syntax.specs.declared.parse.SyntaxFault.{SyntaxFault}
 use Rattle.filt_syntax.specs.declared.parse.SyntaxFault.TheVariants as faults
 use Rattle.filt_syntax.proofs.Follows.{stands_follow, fault_follow}
 use Rattle.filt_syntax.proofs.RefusedTokens.{one_past_at}
-use Rattle.filt_syntax.proofs.Tested.{is_checked, model, after, checked}
+use Rattle.expr_syntax.proofs.Tested.{is_checked, model, after, checked}
 use Rattle.syntax_laws.proofs.Pasts.{words_before, some_past_first}
 use Rattle.syntax_laws.proofs.Told.{Told}
 

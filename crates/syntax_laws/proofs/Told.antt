@@ -7,8 +7,8 @@ use Rattle.std.proofs.lemmas.Bool.Decides.{leb_tells, eqb_tells}
 use Rattle.std.proofs.lemmas.List.{length-append, drop-drop}
 use Rattle.bits_ip.specs.Text.{v4_text, groups, joined, IsGroup, AreGroups, IsWhole, IsShortened, IsAddrText}
 use Rattle.bits_ip.specs.declared.address.Addr.TheVariants.{V4, V6}
-use Rattle.conf_lex.specs.Shapes.{IsNumber}
-use Rattle.conf_lex.proofs.Reached.{take_length, drop_length}
+use Rattle.conf_scan.specs.Shapes.{IsNumber}
+use Rattle.conf_scan.proofs.Reached.{take_length, drop_length}
 
 -- it holds or it doesn't
 abbrev pub Told : Type 0 → Type 0

@@ -8,8 +8,8 @@ ghost use Rattle.conf_ast.specs.declared.filters.Expr.TheVariants as exprs;
 ghost use Rattle.conf_ast.specs.declared.filters.MulOp.{MulOp};
 ghost use Rattle.conf_ast.specs.declared.filters.LogicalOp.{LogicalOp};
 ghost use Rattle.conf_ast.specs.declared.filters.AddOp.{AddOp};
-ghost use Rattle.filt_syntax.specs.Syntax.{expr, rule};
-ghost use Rattle.filt_syntax.specs.View.{derivations};
+ghost use Rattle.expr_syntax.specs.Syntax.{expr, rule};
+ghost use Rattle.expr_syntax.specs.View.{derivations};
 
 /// In an expression the next word always decides: a tree by the grammar alone has no part that
 /// stops too soon.

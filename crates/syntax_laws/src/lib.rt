@@ -5,7 +5,7 @@
 //! spelling says one thing. `expressions`, `statements`: how far the lines of the grammar decide by
 //! themselves (BIRD User's Guide, "Filters"), and that each tree is the view of a value.
 //! `readings`: from each token of a text on an expression or a block is parsed or refused, in one
-//! way. Not here: the laws that the parsers of configurations stand on (`conf_lex::laws`), and
+//! way. Not here: the laws that the parsers of configurations stand on (`conf_scan::laws`), and
 //! those of configurations (`conf_tree`, `conf_laws`). Nothing here runs.
 #![tactic(auto)]
 

@@ -3,8 +3,8 @@
 //! answer to each text that has tokens, want of memory apart.
 ghost use Rattle.std.specs.Prelude.{◌≡◌, ◌≢◌, ◌⊎◌, ℕ, List};
 ghost use Rattle.conf_lex.specs.Grammar.{ParseTree};
-ghost use Rattle.conf_lex.specs.declared.token.Token.{Token};
-ghost use Rattle.filt_syntax.specs.Syntax.{block, expr};
+ghost use Rattle.conf_scan.specs.declared.token.Token.{Token};
+ghost use Rattle.expr_syntax.specs.Syntax.{block, expr};
 ghost use Rattle.filt_syntax.specs.Tokens.{ParsesAtToken, IsRefusedIn};
 ghost use Rattle.filt_syntax.specs.declared.parse.SyntaxFault.{SyntaxFault};
 

@@ -3,7 +3,7 @@
 ghost use Rattle.std.specs.Prelude.{◌≡◌, ◌<◌, ◌^◌, length};
 ghost use Rattle.conf_lex.specs.Grammar.{ParseTree, yield, DerivesLongest, Derives};
 ghost use Rattle.conf_ast.specs.declared.filters.Block.{Block};
-ghost use Rattle.filt_syntax.specs.Syntax.{block, rule, stmt};
+ghost use Rattle.expr_syntax.specs.Syntax.{block, rule, stmt};
 ghost use Rattle.filt_syntax.specs.StatementView.{block_view};
 
 /// Each statement of the grammar alone is one: its words have a tree in which an `else` goes to the

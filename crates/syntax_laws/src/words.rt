@@ -5,15 +5,16 @@ ghost use Rattle.std.specs.Prelude.{None};
 ghost use Rattle.bits_ip.specs.declared.address.Addr.{Addr};
 ghost use Rattle.conf_ast.specs.declared.attribute.Attribute.{Attribute};
 ghost use Rattle.conf_lex.specs.declared.symbol.Symbol.{Symbol};
-ghost use Rattle.conf_lex.specs.declared.token.Token.{Token};
+ghost use Rattle.conf_scan.specs.declared.token.Token.{Token};
 ghost use Rattle.conf_lex.specs.declared.word.Word.{Word};
 ghost use Rattle.conf_lex.specs.Attributes.{attribute_of, constant_of};
 ghost use Rattle.conf_lex.specs.Symbols.{symbol_of};
-ghost use Rattle.conf_lex.specs.Lex.{Lexes, Stops};
+ghost use Rattle.conf_scan.specs.Lex.{Lexes, Stops};
 ghost use Rattle.conf_lex.specs.Words.{token_symbol, prefix_word, words_from, words_of};
 ghost use Rattle.syntax_laws.specs.Made.{MakeUp};
 
-use conf_lex::{Symbol, TokenKind, Word};
+use conf_lex::{Symbol, Word};
+use conf_scan::TokenKind;
 
 /// Each text has tokens, or a place at which it is refused.
 pub fn each_text_has_tokens_or_a_place()

@@ -1,5 +1,5 @@
 use conf_ast::filters::{Access, AddOp, CompareOp, Expr, LogicalOp, MethodKind, Property};
-use conf_lex::lex;
+use conf_scan::lex;
 use filt_syntax::parse_expr;
 use std::alloc::Global;
 use std::test::Fail;

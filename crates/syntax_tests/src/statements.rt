@@ -1,5 +1,5 @@
 use conf_ast::filters::{Arm, Block, Change, Item, PairPart, Stmt, Target, VariableType};
-use conf_lex::lex;
+use conf_scan::lex;
 use filt_syntax::parse_block;
 use std::alloc::Global;
 use std::test::Fail;

@@ -4,8 +4,8 @@ use Rattle.std.specs.Prelude.{⊤, option_and_then, slice_get}
 use Rattle.std.specs.List.{All, AllByRecursion}
 use Rattle.std.proofs.lemmas.List.Elements.{All-head, All-tail}
 use Rattle.std.proofs.lemmas.Option.{none-some, same_Some}
-use Rattle.conf_rules.specs.Joints.{IsBridge, IsForest}
-use Rattle.conf_rules.specs.declared.joints.Joint.{Joint}
+use Rattle.conf_names.specs.Joints.{IsBridge, IsForest}
+use Rattle.conf_names.specs.declared.joints.Joint.{Joint}
 use Rattle.core_setup.specs.Bridges.{IsBridgeOf, pipe_at, pipe_in}
 use Rattle.core_setup.specs.Setup as setup
 use Rattle.core_setup.proofs.Numbered.{all_at}

@@ -11,8 +11,8 @@ use Rattle.bits_ip.specs.declared.address.Family.{Family}
 use Rattle.import_core.specs.declared.import_spec.Fixed.{Fixed}
 use Rattle.conf_check.specs.Behind.{at_start, behind}
 use Rattle.conf_check.specs.declared.checked.StaticRoute.{StaticRoute}
-use Rattle.conf_rules.specs.Joints.{IsForest, JoinsApart, joined}
-use Rattle.conf_rules.specs.declared.joints.Joint.{Joint}
+use Rattle.conf_names.specs.Joints.{IsForest, JoinsApart, joined}
+use Rattle.conf_names.specs.declared.joints.Joint.{Joint}
 use Rattle.core_setup.specs.Pairs.{Pairs}
 use Rattle.core_setup.specs.Setup as setup
 use Rattle.core_setup.specs.Setup.{ExportsFrom, FitsQuery, IsSetup, family_at}

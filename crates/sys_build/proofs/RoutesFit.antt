@@ -11,12 +11,14 @@ use Rattle.conf_ast.specs.declared.configurations.Route.{Route}
 use Rattle.conf_ast.specs.declared.kind.ConfKind.TheVariants as kinds
 use Rattle.conf_ast.specs.declared.named.Name.{Name}
 use Rattle.conf_rules.specs.Channels.{one_channel, same_family}
-use Rattle.conf_rules.specs.Known.{Known}
+use Rattle.conf_names.specs.Known.{Known}
+use Rattle.conf_names.specs.Names as of_names
 use Rattle.conf_rules.specs.Protocols as rules
-use Rattle.conf_rules.specs.Protocols.{bgp_channels, families_of_routes, family_of_route, family_of_target, last_peer, nettypes, own_name, static_channels, static_routes, static_settings, static_stem}
-use Rattle.conf_rules.specs.Refusals.{first_in, refused_if}
+use Rattle.conf_rules.specs.Protocols.{bgp_channels, families_of_routes, family_of_route, family_of_target, last_peer, nettypes, static_channels, static_routes, static_settings}
+use Rattle.conf_names.specs.Names.{own_name, static_stem}
+use Rattle.conf_names.specs.Refusals.{first_in, refused_if}
 use Rattle.conf_rules.specs.Statements.{refusals}
-use Rattle.conf_rules.specs.declared.refusal.Refusal.{Refusal}
+use Rattle.conf_names.specs.declared.refusal.Refusal.{Refusal}
 use Rattle.conf_check.specs.Behind.{at_start, behind, behind_one}
 use Rattle.conf_check.specs.Checked.{Source, filter_sources, protocol_name, route_of}
 use Rattle.conf_check.specs.Refused.{refusal_of}
@@ -85,7 +87,7 @@ module _ (said : Passing → Filter) (known : Known) where
   body_fits : (d : conf.Declaration) → refusals known d ≡ [] → SomeFits (body_of said known d)
   body_fits (conf.Static p) none =
       static_fits (static_channels p.settings) (static_routes p.settings)
-      (fourth_of_five (rules.declaring known p.at p.name (own_name known static_stem p.name ∷ [])) (static_settings known p.settings) (one_channel (rules.place_of p.at p.name) (static_channels p.settings))
+      (fourth_of_five (of_names.declaring known p.at p.name (own_name known static_stem p.name ∷ [])) (static_settings known p.settings) (one_channel (of_names.place_of p.at p.name) (static_channels p.settings))
       (nettypes (static_channels p.settings) (static_routes p.settings)) (rules.repeated [] (static_routes p.settings)) none)
   body_fits (conf.Bgp p) none = bgp_fits (bgp_channels p.settings) p.settings
   body_fits (conf.Pipe p) none = pipe_fits (last_peer None p.settings) p.settings

@@ -3,7 +3,7 @@ use Rattle.bits_ip.specs.declared.address.Addr.{Addr}
 use Rattle.bits_ip.specs.declared.address.Addr.TheVariants as addrs
 use Rattle.conf_ast.specs.declared.configurations.BgpOption.{BgpOption}
 use Rattle.conf_ast.specs.Configurations.{bgp_setting_of}
-use Rattle.conf_rules.proofs.Turns.{found_turn, found_ends}
+use Rattle.conf_names.proofs.Turns.{found_turn, found_ends}
 use Rattle.conf_check.specs.Checked as of
 use Rattle.conf_check.proofs.Settings.{next_address}
 use Rattle.conf_check.proofs.bgp.last_address.Goals as goal

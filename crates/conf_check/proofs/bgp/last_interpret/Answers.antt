@@ -3,7 +3,7 @@ use Rattle.std.proofs.Common.{Bool}
 use Rattle.std.proofs.Common.{true}
 use Rattle.conf_ast.specs.declared.configurations.BgpOption.{BgpOption}
 use Rattle.conf_ast.specs.Configurations.{bgp_setting_of}
-use Rattle.conf_rules.proofs.Turns.{found_turn, found_ends}
+use Rattle.conf_names.proofs.Turns.{found_turn, found_ends}
 use Rattle.conf_check.specs.Checked as of
 use Rattle.conf_check.proofs.Settings.{next_interpret}
 use Rattle.conf_check.proofs.bgp.last_interpret.Goals as goal

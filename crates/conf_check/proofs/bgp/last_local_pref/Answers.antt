@@ -2,9 +2,9 @@ use Rattle.std.proofs.Common.{List, map, refl}
 use Rattle.std.proofs.Common.{ℕ}
 use Rattle.conf_ast.specs.declared.configurations.BgpOption.{BgpOption}
 use Rattle.conf_ast.specs.Configurations.{bgp_setting_of}
-use Rattle.conf_rules.proofs.Turns.{found_turn, found_ends}
+use Rattle.conf_names.proofs.Turns.{found_turn, found_ends}
 use Rattle.conf_check.specs.Checked as of
-use Rattle.conf_rules.specs.Seen.{known_of}
+use Rattle.conf_names.specs.Seen.{known_of}
 use Rattle.conf_check.proofs.Settings.{next_local_pref}
 use Rattle.conf_check.proofs.bgp.last_local_pref.Goals as goal
 

@@ -1,6 +1,6 @@
 use Rattle.std.proofs.Common.{◌≡◌, map, drop}
 use Rattle.conf_ast.specs.Configurations.{bgp_setting_of}
-use Rattle.conf_rules.specs.Seen.{known_of}
+use Rattle.conf_names.specs.Seen.{known_of}
 use Rattle.conf_check.specs.Checked as of
 use Rattle.conf_check.proofs.bgp.last_med.Given as goal
 

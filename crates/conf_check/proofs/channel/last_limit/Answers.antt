@@ -3,7 +3,7 @@ use Rattle.conf_ast.specs.declared.configurations.Limit.{Limit}
 use Rattle.conf_ast.specs.declared.configurations.Limit.TheVariants as limits
 use Rattle.conf_ast.specs.declared.configurations.ChannelOption.{ChannelOption}
 use Rattle.conf_ast.specs.Configurations.{channel_setting_of}
-use Rattle.conf_rules.proofs.Turns.{found_turn, found_ends}
+use Rattle.conf_names.proofs.Turns.{found_turn, found_ends}
 use Rattle.conf_check.specs.Checked as of
 use Rattle.conf_check.proofs.Settings.{next_limit}
 use Rattle.conf_check.proofs.channel.last_limit.Goals as goal

@@ -5,8 +5,8 @@ use Rattle.conf_ast.specs.declared.configurations.Statement.{Statement}
 use Rattle.conf_ast.specs.Configurations as conf
 use Rattle.conf_ast.specs.Configurations.{configuration_of, declaration_of}
 use Rattle.filt_types.proofs.Lookups.{next_item, nothing_left}
-use Rattle.conf_rules.specs.Known.{ArePipesThere, Known}
-use Rattle.conf_rules.specs.Seen.{known_of}
+use Rattle.conf_names.specs.Known.{ArePipesThere, Known}
+use Rattle.conf_names.specs.Seen.{known_of}
 use Rattle.conf_check.specs.Behind.{at_start}
 use Rattle.conf_check.specs.Refused.{refusal_of}
 use Rattle.conf_check.specs.Seen.{AreNamed, Stands}

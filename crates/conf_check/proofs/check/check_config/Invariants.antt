@@ -1,6 +1,6 @@
 use Rattle.std.proofs.Common.{◌≡◌, take, drop}
 use Rattle.conf_ast.specs.Configurations.{configuration_of}
-use Rattle.conf_rules.specs.Seen.{known_of}
+use Rattle.conf_names.specs.Seen.{known_of}
 use Rattle.conf_check.specs.Behind.{at_start}
 use Rattle.conf_check.specs.Refused.{refusal_of}
 use Rattle.conf_check.specs.Seen.{Stands}

@@ -1,5 +1,5 @@
 use Rattle.std.proofs.Common.{[]}
-use Rattle.conf_rules.specs.Seen.{known_of}
+use Rattle.conf_names.specs.Seen.{known_of}
 use Rattle.conf_check.proofs.Allowed.{is_free}
 use Rattle.conf_check.proofs.Growing.{filter_known}
 use Rattle.conf_check.proofs.Names.{key_joins}

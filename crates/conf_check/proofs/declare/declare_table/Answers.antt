@@ -1,6 +1,6 @@
 use Rattle.std.proofs.Common.{[]}
 use Rattle.bits_ip.specs.declared.address.Family.{Family}
-use Rattle.conf_rules.specs.Seen.{known_of}
+use Rattle.conf_names.specs.Seen.{known_of}
 use Rattle.conf_check.proofs.Allowed.{is_free}
 use Rattle.conf_check.proofs.Growing.{table_known}
 use Rattle.conf_check.proofs.Names.{absent_in, entry_joins}

@@ -1,8 +1,8 @@
 use Rattle.std.proofs.Common.{◌≡◌, List, ℕ, [], ap, subst, sym, ◌∙◌, refl}
 use Rattle.bits_ip.specs.declared.address.Family.TheVariants as families
-use Rattle.conf_rules.specs.declared.declared.Declared.{Declared}
-use Rattle.conf_rules.specs.Known.{Known, is_declared}
-use Rattle.conf_rules.specs.Seen.{known_of}
+use Rattle.conf_names.specs.declared.declared.Declared.{Declared}
+use Rattle.conf_names.specs.Known.{Known, is_declared}
+use Rattle.conf_names.specs.Seen.{known_of}
 use Rattle.conf_rules.specs.Statements.{master}
 use Rattle.conf_check.specs.Behind.{with_table}
 use Rattle.conf_check.specs.Seen.{AreNamed}

@@ -3,7 +3,7 @@ use Rattle.conf_ast.specs.Configurations as conf
 use Rattle.conf_ast.specs.Configurations.{PassAll}
 use Rattle.conf_ast.specs.declared.configurations.PipeOption.{PipeOption}
 use Rattle.conf_ast.specs.Configurations.{pipe_setting_of}
-use Rattle.conf_rules.proofs.Turns.{found_turn, found_ends}
+use Rattle.conf_names.proofs.Turns.{found_turn, found_ends}
 use Rattle.conf_check.specs.Checked as of
 use Rattle.std.specs.Option.{option_copied}
 use Rattle.conf_check.specs.Seen.{passing_or}

@@ -3,9 +3,9 @@ use Rattle.bits_ip.specs.declared.address.Family.{Family}
 use Rattle.conf_ast.specs.declared.named.Name.{Name}
 use Rattle.conf_ast.specs.declared.configurations.PipeOption.{PipeOption}
 use Rattle.conf_ast.specs.Configurations.{PassAll, PassNone, Passing, PipeSetting, pipe_setting_of}
-use Rattle.conf_rules.specs.Known.{table_number}
+use Rattle.conf_names.specs.Known.{table_number}
 use Rattle.conf_rules.specs.Protocols.{last_peer, last_table, primary_name}
-use Rattle.conf_rules.specs.Seen.{known_of}
+use Rattle.conf_names.specs.Seen.{known_of}
 use Rattle.conf_check.specs.declared.checked.PipeDef.{PipeDef}
 use Rattle.conf_check.specs.Checked.{IsPeer, IsPolicy, last_pipe_export, last_pipe_import, or_v4}
 use Rattle.conf_check.specs.Seen.{Means}

@@ -1,7 +1,7 @@
 use Rattle.std.proofs.Common.{List, ℕ, Option, ap, sym, ◌∙◌}
 use Rattle.conf_ast.specs.declared.named.Name.{Name}
-use Rattle.conf_rules.specs.Seen.{known_of}
-use Rattle.conf_rules.specs.Known.{table_number}
+use Rattle.conf_names.specs.Seen.{known_of}
+use Rattle.conf_names.specs.Known.{table_number}
 use Rattle.conf_rules.specs.Protocols.{primary_name}
 use Rattle.conf_check.proofs.pipe.primary.Goals as goal
 

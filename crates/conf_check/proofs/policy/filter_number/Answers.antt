@@ -1,7 +1,7 @@
 use Rattle.std.proofs.Common.{List, ℕ, ap, sym, ◌∙◌}
-use Rattle.conf_rules.specs.Seen.{known_of}
-use Rattle.conf_rules.specs.Known.{place_in}
-use Rattle.conf_rules.proofs.Places.{place_is, place_none}
+use Rattle.conf_names.specs.Seen.{known_of}
+use Rattle.conf_names.specs.Known.{place_in}
+use Rattle.conf_names.proofs.Places.{place_is, place_none}
 use Rattle.conf_check.proofs.policy.filter_number.Goals as goal
 
 pub returns-in-Some : goal.returns-in-Some

@@ -1,8 +1,8 @@
 use Rattle.std.proofs.Common.{List, ℕ, [], ◌∷◌, ◌++◌, ap, ◌∙◌, refl}
 use Rattle.conf_ast.specs.Configurations as conf
 use Rattle.conf_ast.specs.Configurations.{instance_of, bgp_setting_of}
-use Rattle.conf_rules.specs.Protocols.{own_name, bgp_stem}
-use Rattle.conf_rules.specs.Seen.{known_of}
+use Rattle.conf_names.specs.Names.{own_name, bgp_stem}
+use Rattle.conf_names.specs.Seen.{known_of}
 use Rattle.conf_check.specs.declared.checked.ProtocolBody.TheVariants as bodies
 use Rattle.conf_check.specs.Seen.{other_names}
 use Rattle.conf_check.proofs.Allowed.{is_free, bgp_few, bgp_free, bgp_has_one}

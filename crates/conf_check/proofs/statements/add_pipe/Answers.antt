@@ -2,8 +2,9 @@ use Rattle.std.proofs.Common.{List, ℕ, ◌++◌, map, ap, ◌∙◌}
 use Rattle.std.specs.List.{list_any}
 use Rattle.conf_ast.specs.declared.configurations.PipeOption.{PipeOption}
 use Rattle.conf_ast.specs.Configurations.{instance_of, pipe_setting_of}
-use Rattle.conf_rules.specs.Protocols.{joint_of, own_name, pipe_names, pipe_stem}
-use Rattle.conf_rules.specs.Seen.{known_of}
+use Rattle.conf_rules.specs.Protocols.{joint_of}
+use Rattle.conf_names.specs.Names.{own_name, pipe_names, pipe_stem}
+use Rattle.conf_names.specs.Seen.{known_of}
 use Rattle.conf_check.specs.declared.checked.ProtocolBody.TheVariants as bodies
 use Rattle.conf_check.specs.Seen.{other_names}
 use Rattle.conf_check.proofs.Allowed.{pipe_few, pipe_free, pipe_has_peer}

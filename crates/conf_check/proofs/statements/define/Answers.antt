@@ -5,7 +5,7 @@ use Rattle.filt_types.specs.Scenes.{is_declared}
 use Rattle.filt_meaning.specs.Scopes.{constants_in}
 use Rattle.filt_meaning.specs.declared.fixed.Fixed.{Fixed}
 use Rattle.filt_meaning.specs.Seen.{val_of_fixed}
-use Rattle.conf_rules.specs.Seen.{known_of}
+use Rattle.conf_names.specs.Seen.{known_of}
 use Rattle.conf_ast.specs.Names.{name_bytes}
 use Rattle.conf_check.proofs.Allowed.{define_free, is_free}
 use Rattle.conf_check.proofs.Growing.{constant_declares, nothing_defined}

@@ -1,8 +1,8 @@
 use Rattle.std.proofs.Common.{List, ℕ, ap, ◌∙◌, refl}
 use Rattle.conf_ast.specs.Configurations as conf
 use Rattle.conf_ast.specs.Filters.{block_of}
-use Rattle.conf_rules.specs.Known.{is_declared}
-use Rattle.conf_rules.specs.Seen.{known_of}
+use Rattle.conf_names.specs.Known.{is_declared}
+use Rattle.conf_names.specs.Seen.{known_of}
 use Rattle.conf_check.specs.Behind.{with_filter}
 use Rattle.conf_check.proofs.Allowed.{filter_free}
 use Rattle.conf_check.proofs.Growing.{stays_declares}

@@ -4,7 +4,7 @@ use Rattle.conf_ast.specs.Configurations.{routine_of}
 use Rattle.filt_types.specs.Scenes.{is_declared}
 use Rattle.filt_types.specs.Seen.{functions_in}
 use Rattle.conf_ast.specs.Names.{name_bytes}
-use Rattle.conf_rules.specs.Seen.{known_of}
+use Rattle.conf_names.specs.Seen.{known_of}
 use Rattle.conf_check.proofs.Allowed.{function_free, is_free}
 use Rattle.conf_check.proofs.Growing.{function_declares}
 use Rattle.conf_check.proofs.statements.function.Goals as goal

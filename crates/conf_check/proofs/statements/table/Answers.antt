@@ -2,8 +2,8 @@ use Rattle.std.proofs.Common.{◌≡◌, Bool, true, false, if◌then◌else◌,
 use Rattle.conf_ast.specs.Names.{name_bytes}
 use Rattle.conf_ast.specs.Configurations as conf
 use Rattle.filt_meaning.specs.Names.{same_name}
-use Rattle.conf_rules.specs.Known.{is_declared}
-use Rattle.conf_rules.specs.Seen.{known_of}
+use Rattle.conf_names.specs.Known.{is_declared}
+use Rattle.conf_names.specs.Seen.{known_of}
 use Rattle.conf_rules.specs.Statements.{master}
 use Rattle.conf_check.specs.Behind.{with_table}
 use Rattle.conf_check.proofs.Allowed.{table_free}

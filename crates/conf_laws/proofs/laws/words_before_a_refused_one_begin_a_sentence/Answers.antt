@@ -1,6 +1,6 @@
 use Rattle.conf_laws.proofs.WordsBefore.{config_before}
 use Rattle.syntax_laws.proofs.Pasts.{words_before}
-use Rattle.filt_syntax.specs.Syntax.{block, expr}
+use Rattle.expr_syntax.specs.Syntax.{block, expr}
 use Rattle.conf_laws.proofs.laws.words_before_a_refused_one_begin_a_sentence.Goals as goal
 
 pub returns-clause-config : goal.returns-clause-config

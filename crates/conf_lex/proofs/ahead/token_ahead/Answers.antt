@@ -1,4 +1,4 @@
-use Rattle.conf_lex.proofs.Walks.{no_more, none_stuck}
+use Rattle.conf_scan.proofs.Spots.{no_more, none_stuck}
 use Rattle.conf_lex.proofs.ahead.token_ahead.Goals as goal
 
 pub returns-in-Ok : goal.returns-in-Ok

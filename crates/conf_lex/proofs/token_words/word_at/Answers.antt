@@ -1,8 +1,10 @@
 use Rattle.std.proofs.Common.{◌≡◌, ℕ, List, [], ◌∷◌, length, drop, refl, sym, subst, ◌∙◌, ap, arith}
-use Rattle.conf_lex.specs.declared.token.Token.{Token}
-use Rattle.conf_lex.specs.Lex.{Lexes}
-use Rattle.conf_lex.specs.Words.{AreWithin, words_from}
-use Rattle.conf_lex.proofs.Folded.{next_words, words_reach, within_drop, lexed_within}
+use Rattle.conf_scan.specs.declared.token.Token.{Token}
+use Rattle.conf_scan.specs.Lex.{Lexes}
+use Rattle.conf_lex.specs.Words.{words_from}
+use Rattle.conf_scan.specs.Spans.{AreWithin}
+use Rattle.conf_lex.proofs.Folded.{next_words, words_reach}
+use Rattle.conf_scan.proofs.Within.{within_drop, lexed_within}
 use Rattle.conf_lex.proofs.token_words.word_at.Goals as goal
 
 -- the tokens that are left stand within the text

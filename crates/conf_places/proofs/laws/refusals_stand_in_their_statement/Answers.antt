@@ -1,5 +1,5 @@
 use Rattle.conf_rules.specs.Statements.{refusals}
-use Rattle.conf_rules.specs.declared.refusal.Refusal.{Refusal}
+use Rattle.conf_names.specs.declared.refusal.Refusal.{Refusal}
 use Rattle.std.proofs.Common.{Contains}
 use Rattle.conf_places.specs.Configurations.{places}
 use Rattle.conf_lex.specs.Grammar.{yield}

@@ -1,7 +1,7 @@
 use Rattle.std.proofs.Common.{List, map, ap}
 use Rattle.conf_ast.specs.declared.configurations.BgpOption.{BgpOption}
 use Rattle.conf_ast.specs.Configurations.{bgp_setting_of, instance_of}
-use Rattle.conf_rules.specs.Seen.{known_of}
+use Rattle.conf_names.specs.Seen.{known_of}
 use Rattle.conf_rules.proofs.Wholes.{bgp_first}
 use Rattle.conf_rules.proofs.bgp.bgp.Goals as goal
 

@@ -4,7 +4,7 @@ use Rattle.conf_ast.specs.declared.configurations.BgpOption.{BgpOption}
 use Rattle.conf_ast.specs.Configurations.{bgp_setting_of}
 use Rattle.conf_rules.specs.Protocols.{last_med_metric}
 use Rattle.conf_rules.proofs.Settings.{next_med_metric}
-use Rattle.conf_rules.proofs.Turns.{found_turn, found_ends}
+use Rattle.conf_names.proofs.Turns.{found_turn, found_ends}
 use Rattle.conf_rules.proofs.bgp.last_med_metric.Goals as goal
 
 pub loop-option-preserved : goal.loop-option-preserved

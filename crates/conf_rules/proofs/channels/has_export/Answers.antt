@@ -4,7 +4,7 @@ use Rattle.std.proofs.lemmas.Iterator.Search.{any_from_yields_List}
 use Rattle.conf_ast.specs.declared.configurations.ChannelOption.{ChannelOption}
 use Rattle.conf_ast.specs.Configurations.{channel_setting_of}
 use Rattle.conf_rules.specs.Channels.{is_export}
-use Rattle.conf_rules.proofs.Wholes.{any_viewed}
+use Rattle.conf_names.proofs.Wholes.{any_viewed}
 use Rattle.conf_rules.proofs.channels.has_export.Goals as goal
 
 pub returns : goal.returns

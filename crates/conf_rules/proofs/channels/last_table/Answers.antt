@@ -4,7 +4,7 @@ use Rattle.conf_ast.specs.declared.configurations.ChannelOption.{ChannelOption}
 use Rattle.conf_ast.specs.Configurations.{channel_setting_of}
 use Rattle.conf_rules.specs.Channels.{last_table}
 use Rattle.conf_rules.proofs.Settings.{next_channel_table}
-use Rattle.conf_rules.proofs.Turns.{found_turn, found_ends}
+use Rattle.conf_names.proofs.Turns.{found_turn, found_ends}
 use Rattle.conf_rules.proofs.channels.last_table.Goals as goal
 
 pub loop-option-preserved : goal.loop-option-preserved

@@ -2,8 +2,8 @@ use Rattle.std.proofs.Common.{List, map, refl}
 use Rattle.conf_ast.specs.declared.configurations.ChannelOption.{ChannelOption}
 use Rattle.conf_ast.specs.Configurations.{channel_setting_of}
 use Rattle.conf_rules.specs.Channels.{settings, setting}
-use Rattle.conf_rules.specs.Seen.{known_of}
-use Rattle.conf_rules.proofs.Turns.{turn, ends}
+use Rattle.conf_names.specs.Seen.{known_of}
+use Rattle.conf_names.proofs.Turns.{turn, ends}
 use Rattle.conf_rules.proofs.channels.settings.Goals as goal
 
 pub loop-option-preserved : goal.loop-option-preserved

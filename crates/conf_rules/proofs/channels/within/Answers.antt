@@ -2,9 +2,9 @@ use Rattle.std.proofs.Common.{Option, map, None, ap, ◌∙◌}
 use Rattle.conf_ast.specs.declared.named.Name.{Name}
 use Rattle.conf_ast.specs.Configurations.{channel_setting_of}
 use Rattle.conf_rules.specs.Channels.{family_of_table, last_table, settings}
-use Rattle.conf_rules.specs.Refusals.{first_in}
-use Rattle.conf_rules.specs.Seen.{known_of}
-use Rattle.conf_rules.proofs.Firsts.{first_two}
+use Rattle.conf_names.specs.Refusals.{first_in}
+use Rattle.conf_names.specs.Seen.{known_of}
+use Rattle.conf_names.proofs.Firsts.{first_two}
 use Rattle.conf_rules.proofs.channels.within.Goals as goal
 
 pub returns : goal.returns

@@ -2,7 +2,7 @@ use Rattle.std.proofs.Common.{List, ℕ, arith, map, sym}
 use Rattle.std.proofs.lemmas.List.{length-map}
 use Rattle.bits_ip.specs.declared.address.Family.{Family}
 use Rattle.conf_ast.specs.Configurations.{pipe_setting_of}
-use Rattle.conf_rules.specs.Seen.{known_of}
+use Rattle.conf_names.specs.Seen.{known_of}
 use Rattle.conf_rules.proofs.Places.{joint_within}
 use Rattle.conf_rules.proofs.pipes.cycle.Goals as goal
 

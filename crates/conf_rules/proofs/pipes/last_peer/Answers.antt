@@ -4,7 +4,7 @@ use Rattle.conf_ast.specs.declared.configurations.PipeOption.{PipeOption}
 use Rattle.conf_ast.specs.Configurations.{pipe_setting_of}
 use Rattle.conf_rules.specs.Protocols.{last_peer}
 use Rattle.conf_rules.proofs.Settings.{next_peer}
-use Rattle.conf_rules.proofs.Turns.{found_turn, found_ends}
+use Rattle.conf_names.proofs.Turns.{found_turn, found_ends}
 use Rattle.conf_rules.proofs.pipes.last_peer.Goals as goal
 
 pub loop-option-preserved : goal.loop-option-preserved

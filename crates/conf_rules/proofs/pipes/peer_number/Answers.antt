@@ -1,8 +1,8 @@
 use Rattle.std.proofs.Common.{List, ℕ, Option, ap, sym, ◌∙◌}
 use Rattle.conf_ast.specs.declared.named.Name.{Name}
-use Rattle.conf_rules.specs.Known.{known_number}
+use Rattle.conf_names.specs.Known.{known_number}
 use Rattle.conf_rules.specs.Protocols.{peer_number}
-use Rattle.conf_rules.specs.Seen.{known_of}
+use Rattle.conf_names.specs.Seen.{known_of}
 use Rattle.conf_rules.proofs.pipes.peer_number.Goals as goal
 
 pub returns-in-Some : goal.returns-in-Some

@@ -1,8 +1,8 @@
 use Rattle.conf_ast.specs.Configurations.{value_of}
-use Rattle.conf_rules.specs.Constants.{value}
-use Rattle.conf_rules.specs.Known.{declaring}
-use Rattle.conf_rules.specs.Seen.{known_of}
-use Rattle.conf_rules.proofs.Firsts.{first_two}
+use Rattle.conf_names.specs.Constants.{value}
+use Rattle.conf_names.specs.Known.{declaring}
+use Rattle.conf_names.specs.Seen.{known_of}
+use Rattle.conf_names.proofs.Firsts.{first_two}
 use Rattle.conf_rules.proofs.statements.define.Goals as goal
 
 pub returns : goal.returns

@@ -1,6 +1,6 @@
 use Rattle.std.proofs.Common.{Bool, [], if◌then◌else◌, ap, ◌∙◌}
-use Rattle.conf_rules.specs.Refusals.{first_in}
-use Rattle.conf_rules.specs.Seen.{known_of}
+use Rattle.conf_names.specs.Refusals.{first_in}
+use Rattle.conf_names.specs.Seen.{known_of}
 use Rattle.conf_rules.specs.Statements.{one_more_table}
 use Rattle.conf_rules.proofs.statements.table.Goals as goal
 

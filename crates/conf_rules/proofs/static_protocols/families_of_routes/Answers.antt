@@ -3,7 +3,7 @@ use Rattle.conf_ast.specs.declared.configurations.StaticOption.{StaticOption}
 use Rattle.conf_ast.specs.Configurations.{static_setting_of}
 use Rattle.conf_rules.specs.Protocols.{families_of_routes, static_routes}
 use Rattle.conf_rules.proofs.Settings.{families_more, more_static_routes}
-use Rattle.conf_rules.proofs.Turns.{turn, ends}
+use Rattle.conf_names.proofs.Turns.{turn, ends}
 use Rattle.conf_rules.proofs.static_protocols.families_of_routes.Goals as goal
 
 pub loop-option-preserved : goal.loop-option-preserved

@@ -2,10 +2,10 @@ use Rattle.std.proofs.Common.{◌∷◌, [], ◌+◌, List, map, drop, ap, ◌�
 use Rattle.conf_ast.specs.declared.configurations.StaticOption.{StaticOption}
 use Rattle.conf_ast.specs.Configurations.{static_setting_of}
 use Rattle.filt_types.proofs.Lookups.{next_item}
-use Rattle.conf_rules.specs.declared.refusal.Refusal.{Refusal}
+use Rattle.conf_names.specs.declared.refusal.Refusal.{Refusal}
 use Rattle.conf_rules.specs.Protocols.{repeated, static_routes}
-use Rattle.conf_rules.specs.Refusals.{first_in}
-use Rattle.conf_rules.proofs.Firsts.{first_rest}
+use Rattle.conf_names.specs.Refusals.{first_in}
+use Rattle.conf_names.proofs.Firsts.{first_rest}
 use Rattle.conf_rules.proofs.Settings.{more_static_routes, repeated_more}
 use Rattle.conf_rules.proofs.static_protocols.repeated.Goals as goal
 

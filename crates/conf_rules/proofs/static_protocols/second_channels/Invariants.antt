@@ -1,7 +1,7 @@
 use Rattle.std.proofs.Common.{◌≡◌, ◌||◌, false, map, drop}
 use Rattle.conf_ast.specs.Configurations.{static_setting_of}
 use Rattle.conf_rules.specs.Protocols.{static_channels}
-use Rattle.conf_rules.specs.Refusals.{first_in}
+use Rattle.conf_names.specs.Refusals.{first_in}
 use Rattle.conf_rules.specs.Walks.{behind, has_channel}
 use Rattle.conf_rules.proofs.static_protocols.second_channels.Given as goal
 

@@ -2,7 +2,7 @@ use Rattle.std.proofs.Common.{List, map, ap}
 use Rattle.std.proofs.lemmas.Result.{on_ok_weaker}
 use Rattle.conf_ast.specs.declared.configurations.StaticOption.{StaticOption}
 use Rattle.conf_ast.specs.Configurations.{static_setting_of, instance_of}
-use Rattle.conf_rules.specs.Seen.{known_of}
+use Rattle.conf_names.specs.Seen.{known_of}
 use Rattle.conf_rules.proofs.Wholes.{static_first}
 use Rattle.conf_rules.proofs.static_protocols.static_protocol.Goals as goal
 

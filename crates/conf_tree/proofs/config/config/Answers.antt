@@ -2,7 +2,7 @@ use Rattle.std.proofs.Common.{◌≡◌, ◌<◌, [], ◌∷◌, ◌++◌, lengt
 use Rattle.std.specs.Prelude.{map}
 use Rattle.std.proofs.lemmas.Result.{err_from_is_err_and}
 use Rattle.conf_lex.specs.Grammar.{ParseTree}
-use Rattle.filt_syntax.specs.StatementView.{row_tree}
+use Rattle.expr_syntax.specs.Rows.{row_tree}
 use Rattle.conf_tree.specs.View.{statement_tree}
 use Rattle.conf_tree.proofs.ConfigSteps.{whole_is, whole_more, whole_end, whole_fails, ended_at, no_words, some_words, statement_shorter, one_more_statement}
 use Rattle.conf_tree.proofs.config.config.Goals as goal

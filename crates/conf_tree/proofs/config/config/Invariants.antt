@@ -1,6 +1,6 @@
 use Rattle.std.proofs.Common.{◌≡◌, length}
 use Rattle.std.specs.Prelude.{map}
-use Rattle.filt_syntax.specs.StatementView.{row_tree}
+use Rattle.expr_syntax.specs.Rows.{row_tree}
 use Rattle.conf_tree.specs.View.{statement_tree}
 use Rattle.conf_tree.specs.Readers.{whole_at}
 use Rattle.conf_tree.proofs.ConfigSteps.{ended_at}

@@ -1,8 +1,8 @@
 use Rattle.std.proofs.Common.{◌≤◌, List, length, take, drop, IsSomeAnd, arith, sym, ap, subst, ◌∙◌}
 use Rattle.conf_lex.specs.declared.word.Word.{Word}
 use Rattle.conf_lex.specs.Sentences.{IsBegunWithin}
-use Rattle.filt_syntax.specs.Syntax.{rule}
-use Rattle.conf_tree.specs.Syntax.{config}
+use Rattle.expr_syntax.specs.Syntax.{rule}
+use Rattle.conf_syntax.specs.Syntax.{config}
 use Rattle.conf_tree.specs.Sentence.{word_bytes, IsUnsupported, Refuses}
 use Rattle.conf_tree.proofs.Refusals.{stop_refused, stop_fewer, begun_before, start_within}
 use Rattle.conf_tree.proofs.parse.stopped.Goals as goal

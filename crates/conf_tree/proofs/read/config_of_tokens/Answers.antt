@@ -1,5 +1,5 @@
 use Rattle.std.proofs.Common.{List, sym, ap, ◌∙◌}
-use Rattle.conf_lex.specs.declared.token.Token.{Token}
+use Rattle.conf_scan.specs.declared.token.Token.{Token}
 use Rattle.conf_tree.specs.Read.{fault_of}
 use Rattle.conf_tree.proofs.TextRefusals.{no_tokens, stuck_place, stuck_fault, stuck_within, stuck_only, stuck_exact, tree_exact, fault_exact}
 use Rattle.conf_tree.proofs.read.config_of_tokens.Goals as goal

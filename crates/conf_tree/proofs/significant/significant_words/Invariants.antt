@@ -1,6 +1,6 @@
 use Rattle.std.proofs.Common.{◌≡◌, ℕ, ◌-◌, ◌≤◌, ◌++◌, length, map, drop, List}
 use Rattle.conf_lex.specs.Words.{words_from}
-use Rattle.conf_lex.specs.declared.token.Token.{Token}
+use Rattle.conf_scan.specs.declared.token.Token.{Token}
 use Rattle.conf_lex.specs.declared.word.Word.{Word}
 use Rattle.conf_tree.specs.Significant.{depth_of, significant, significant_words, significant_starts}
 use Rattle.conf_tree.specs.declared.significant.Region.{Region}

@@ -1,7 +1,7 @@
 use Rattle.std.proofs.Common.{List, refl, sym, ap, subst, ◌∙◌, Err}
 use Rattle.conf_lex.specs.declared.word.Word.{Word}
 use Rattle.conf_lex.specs.Agrees.{AgreesOnError}
-use Rattle.filt_syntax.specs.Syntax.{block}
+use Rattle.expr_syntax.specs.Syntax.{block}
 use Rattle.filt_syntax.specs.StatementReaders.{block_at}
 use Rattle.filt_syntax.specs.declared.parse.SyntaxFault.{SyntaxFault}
 use Rattle.conf_ast.specs.declared.filters.Block.{Block}

@@ -1,12 +1,12 @@
 use Rattle.std.proofs.Common.{List, refl, sym, ap, subst, ◌∙◌, Err}
 use Rattle.conf_lex.specs.declared.word.Word.{Word}
 use Rattle.conf_lex.specs.Agrees.{AgreesOnError}
-use Rattle.filt_syntax.specs.Syntax.{expr}
-use Rattle.filt_syntax.specs.Readers.{expr_at}
+use Rattle.expr_syntax.specs.Syntax.{expr}
+use Rattle.expr_syntax.specs.Readers.{expr_at}
 use Rattle.filt_syntax.specs.declared.parse.SyntaxFault.{SyntaxFault}
 use Rattle.conf_ast.specs.declared.filters.Expr.{Expr}
 use Rattle.filt_syntax.specs.Parse.{IsRefused, IsFault}
-use Rattle.filt_syntax.proofs.Steps.{expr_same}
+use Rattle.expr_syntax.proofs.Steps.{expr_same}
 use Rattle.filt_syntax.proofs.Places.{got_fewer, got_stands, got_only, got_exact, fault_fewer, fault_refused, fault_only, fault_exact}
 use Rattle.filt_syntax.proofs.parse.parse_expr_words.Goals as goal
 

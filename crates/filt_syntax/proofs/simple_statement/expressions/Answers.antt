@@ -8,10 +8,10 @@ use Rattle.conf_lex.specs.Kind.{symbol}
 use Rattle.conf_lex.specs.Grammar.{ParseTree}
 use Rattle.conf_lex.specs.PartShapes.{links}
 use Rattle.conf_lex.proofs.PartShapes.{fails_then, links_more, links_fail, links_end}
-use Rattle.filt_syntax.specs.View.{derivations, expr_trees, listed_tree}
-use Rattle.filt_syntax.specs.Readers.{expr_at}
+use Rattle.expr_syntax.specs.View.{derivations, expr_trees, listed_tree}
+use Rattle.expr_syntax.specs.Readers.{expr_at}
 use Rattle.filt_syntax.proofs.StatementSteps.{printed_turns, exprs_is, one_more_printed}
-use Rattle.filt_syntax.proofs.Steps.{expr_shorter}
+use Rattle.expr_syntax.proofs.Steps.{expr_shorter}
 use Rattle.filt_syntax.proofs.simple_statement.expressions.Goals as goal
 
 pub returns-in_err-first : goal.returns-in_err-first

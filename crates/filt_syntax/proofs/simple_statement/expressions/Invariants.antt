@@ -2,8 +2,8 @@ use Rattle.std.proofs.Common.{◌≡◌, ◌<◌, length}
 use Rattle.conf_lex.specs.declared.symbol.Symbol.TheVariants as sym
 use Rattle.conf_lex.specs.Kind.{symbol}
 use Rattle.conf_lex.specs.PartShapes.{links}
-use Rattle.filt_syntax.specs.View.{listed_tree, expr_trees}
-use Rattle.filt_syntax.specs.Readers.{expr_at}
+use Rattle.expr_syntax.specs.View.{listed_tree, expr_trees}
+use Rattle.expr_syntax.specs.Readers.{expr_at}
 use Rattle.filt_syntax.specs.StatementReaders.{exprs_at}
 use Rattle.filt_syntax.proofs.simple_statement.expressions.Given as goal
 

@@ -4,7 +4,7 @@ use Rattle.conf_lex.specs.declared.symbol.Symbol.TheVariants as sym
 use Rattle.conf_lex.specs.declared.word.Word.TheVariants as words
 use Rattle.conf_lex.specs.Grammar.{ParseTree, Deeper}
 use Rattle.conf_lex.proofs.PartShapes.{fails_then, fails_along, gives_along}
-use Rattle.filt_syntax.specs.ItemView.{label_tree}
+use Rattle.expr_syntax.specs.ItemView.{label_tree}
 use Rattle.filt_syntax.specs.StatementView.{stmt_tree, stmts_tree, arms_of, arms_row}
 use Rattle.filt_syntax.specs.Inside.{boxed_tree}
 use Rattle.filt_syntax.specs.StatementReaders.{stmt_at, row_at, more_arms_at, run_at}

@@ -6,8 +6,8 @@ use Rattle.conf_lex.specs.Reading.{word, both}
 use Rattle.conf_lex.specs.Kind.{symbol}
 use Rattle.conf_lex.specs.Leaves.{symbol_leaf}
 use Rattle.conf_lex.proofs.PartShapes.{fails_then}
-use Rattle.filt_syntax.specs.View.{derivations}
-use Rattle.filt_syntax.specs.Readers.{expr_at}
+use Rattle.expr_syntax.specs.View.{derivations}
+use Rattle.expr_syntax.specs.Readers.{expr_at}
 use Rattle.filt_syntax.proofs.CycleSteps.{gives_mapped}
 use Rattle.filt_syntax.proofs.statement.walked.Goals as goal
 

@@ -1,5 +1,5 @@
 use Rattle.std.proofs.Common.{refl}
-use Rattle.filt_syntax.specs.Syntax.{block, expr}
+use Rattle.expr_syntax.specs.Syntax.{block, expr}
 use Rattle.syntax_laws.proofs.Texts.{parsed_or_refused}
 use Rattle.syntax_laws.proofs.readings.each_text_is_parsed_or_refused.Goals as goal
 

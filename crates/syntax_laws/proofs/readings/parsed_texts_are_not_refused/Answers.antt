@@ -1,5 +1,5 @@
 use Rattle.std.proofs.Common.{refl}
-use Rattle.filt_syntax.specs.Syntax.{block, expr}
+use Rattle.expr_syntax.specs.Syntax.{block, expr}
 use Rattle.syntax_laws.proofs.Texts.{not_refused}
 use Rattle.syntax_laws.proofs.readings.parsed_texts_are_not_refused.Goals as goal
 

@@ -1,5 +1,5 @@
 use Rattle.std.proofs.Common.{refl}
-use Rattle.filt_syntax.specs.Syntax.{block, expr}
+use Rattle.expr_syntax.specs.Syntax.{block, expr}
 use Rattle.syntax_laws.proofs.Texts.{one_refusal}
 use Rattle.syntax_laws.proofs.readings.texts_are_refused_at_one_token.Goals as goal
 

@@ -1,5 +1,5 @@
 use Rattle.std.proofs.Common.{refl}
-use Rattle.filt_syntax.specs.Syntax.{block, expr}
+use Rattle.expr_syntax.specs.Syntax.{block, expr}
 use Rattle.syntax_laws.proofs.Texts.{one_tree}
 use Rattle.syntax_laws.proofs.readings.texts_have_one_tree_and_one_end.Goals as goal
 

@@ -1,5 +1,5 @@
 use Rattle.conf_ast.specs.Configurations.{declaration_of}
-use Rattle.conf_rules.specs.Seen.{known_of}
+use Rattle.conf_names.specs.Seen.{known_of}
 use Rattle.conf_rules.specs.Statements.{refusals}
 use Rattle.conf_check.proofs.Allowed.{none_refused}
 use Rattle.conf_check.proofs.checked.Checked.check.Goals as goal

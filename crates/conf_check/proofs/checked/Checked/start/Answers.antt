@@ -1,6 +1,6 @@
 use Rattle.std.proofs.Common.{◌≡◌, List, ℕ, []}
-use Rattle.conf_rules.specs.declared.declared.Declared.{Declared}
-use Rattle.conf_rules.specs.Seen.{known_of}
+use Rattle.conf_names.specs.declared.declared.Declared.{Declared}
+use Rattle.conf_names.specs.Seen.{known_of}
 use Rattle.conf_check.specs.Behind.{at_start}
 use Rattle.conf_check.proofs.Standing.{mapped_ok, stands_start}
 use Rattle.conf_check.proofs.checked.Checked.start.Goals as goal

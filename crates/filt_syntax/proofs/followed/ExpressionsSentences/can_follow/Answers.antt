@@ -1,6 +1,6 @@
 use Rattle.std.proofs.Common.{ℕ, nat_eq, refl, sym, ap, subst, ◌∙◌}
 use Rattle.std.proofs.lemmas.Result.{IfOk-weaker}
-use Rattle.filt_syntax.specs.Syntax.{expr}
+use Rattle.expr_syntax.specs.Syntax.{expr}
 use Rattle.filt_syntax.specs.Inside.{IsEndBy}
 use Rattle.filt_syntax.proofs.Follows.{stands_follow, fault_follow}
 use Rattle.filt_syntax.proofs.followed.ExpressionsSentences.can_follow.Goals as goal

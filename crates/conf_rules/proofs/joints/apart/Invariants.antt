@@ -1,6 +1,0 @@
-use Rattle.std.proofs.Common.{[]}
-use Rattle.conf_rules.specs.Walks.{AreRegions}
-use Rattle.conf_rules.proofs.joints.apart.Given as goal
-
-abbrev pub invariant-loop-table : goal.invariant-loop-table
-invariant-loop-table l = AreRegions [] l.table l.regions.items

@@ -1,6 +1,0 @@
-use Rattle.std.proofs.Common.{None}
-use Rattle.conf_rules.proofs.Firsts.{either_order}
-use Rattle.conf_rules.proofs.laws.order_does_not_matter.Goals as goal
-
-pub returns : goal.returns
-returns c rs others = either_order None rs others

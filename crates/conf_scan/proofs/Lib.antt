@@ -1,0 +1,10 @@
+mod Runs
+mod Found
+pub mod Reached
+pub mod Tokens
+pub mod Between
+pub mod Readings
+pub mod Numbers
+mod Places
+pub mod Within
+pub mod Spots

@@ -1,0 +1,5 @@
+pub mod Shapes
+pub mod Lex
+pub mod Fronts
+pub mod Spans
+pub mod Spots

@@ -1,0 +1,5 @@
+pub mod FirstWords
+pub mod Heads
+pub mod LiteralSteps
+pub mod OptionSteps
+pub mod TransportSteps

@@ -1,0 +1,4 @@
+pub mod Syntax
+pub mod Options
+pub mod View
+pub mod Readers

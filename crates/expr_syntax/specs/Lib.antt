@@ -1,0 +1,10 @@
+pub mod Finds
+pub mod Levels
+pub mod Syntax
+pub mod ItemView
+pub mod ItemReaders
+pub mod View
+pub mod Readers
+pub mod Rows
+pub mod Types
+pub mod Inside

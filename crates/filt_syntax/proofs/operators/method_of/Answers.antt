@@ -1,5 +1,0 @@
-use Rattle.filt_syntax.proofs.Signs.{placed_method}
-use Rattle.filt_syntax.proofs.operators.method_of.Goals as goal
-
-pub returns-in-None : goal.returns-in-None
-returns-in-None c = placed_method c.args.word c.in-Placed.at c.in-Placed.symbol c.in-Placed.is c.in-None.ensures
