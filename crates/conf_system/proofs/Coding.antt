@@ -1,26 +1,28 @@
 -- What the code of filters comes to and says.
-use Rattle.std.proofs.Common.{◌≡◌, ◌∙◌, sym, ap, subst, refl, ℕ, zero, suc, ◌+◌, ◌<◌, nat_lt, All, List, [], ◌∷◌, ◌++◌, Option, Some, get_or, length, map, take, arith}
+use Rattle.std.proofs.Common.{◌≡◌, ◌∙◌, sym, ap, subst, refl, ℕ, zero, suc, ◌+◌, ◌<◌, ◌≤◌, nat_lt, All, List, [], ◌∷◌, ◌++◌, Option, Some, get_or, length, map, take, arith}
 use Rattle.std.proofs.Math.Path.{fun_ext}
 use Rattle.std.proofs.lemmas.Bool.{ltb-true}
 use Rattle.std.proofs.lemmas.List.{map-append, take_more}
-use Rattle.std.proofs.lemmas.List.Elements.{All-cons}
+use Rattle.std.proofs.lemmas.List.Elements.{All-cons, All-push}
 use Rattle.std.specs.Borrow.{Bor}
 use Rattle.std.specs.Prelude.{IfSome, is_some, slice_get}
 use Rattle.attrs.specs.declared.attributes.Attrs.{Attrs}
 use Rattle.filt_code.specs.Codes.{IsNeverStuck, code_flow}
 use Rattle.filt_code.specs.declared.code.Draft.{Draft}
 use Rattle.filt_code.specs.declared.code.Routine.{Routine}
-use Rattle.filt_compile.specs.Compiles.{AreCompiled}
+use Rattle.filt_compile.specs.Compiles.{AreCompiled, CostTheirSteps, CostsItsSteps, draft_cost}
+use Rattle.filt_compile.proofs.Compiling.{filter_costs}
 use Rattle.filt_meaning.specs.Configuration.{around_route, verdict_of}
 use Rattle.filt_meaning.specs.Flow.{Flow, Frame, Stopped, Stuck}
 use Rattle.filt_meaning.specs.Names.{Around}
+use Rattle.filt_meaning.specs.Steps.{filter_steps}
 use Rattle.filt_meaning.specs.Scopes.{constant_values, function_trees}
 use Rattle.filt_meaning.specs.Trees.{AreBefore, tree_flow}
 use Rattle.filt_meaning.specs.declared.scope.Scope.{Scope}
 use Rattle.filt_meaning.specs.declared.scope.TFunction.{TFunction}
 use Rattle.filt_meaning.specs.declared.tree.TFilter.{TFilter}
 use Rattle.filt_meaning.specs.declared.fixed.Fixed.{Fixed}
-use Rattle.conf_system.specs.Coded.{AreOrdered, CanRun, HasCode, IsBefore}
+use Rattle.conf_system.specs.Coded.{AreOrdered, CanRun, CostTheirFilters, HasCode, IsBefore}
 use Rattle.conf_system.specs.Policies.{Filter}
 use Rattle.conf_system.specs.Seen.{draft_flow, draft_says, drafted, filter_flow, filter_says, flow_over, numbered}
 use Rattle.conf_system.specs.declared.code.Code.{Code}
@@ -127,6 +129,17 @@ of_place P ys xs n r x is same all found held =
     let each : All P ys = subst (λ (l : List _). All P l) (sym same) all in
     subst P (sym there) (each n x.now below)
 
+-- ---- costs
+
+-- one filter more
+pub drafts_cost : (functions : List Routine) (drafts new : List Draft) (draft : Draft) (fs : List TFilter) (i : ℕ) (f : TFilter) → i < length fs → f ≡ get_or fs i f → new ≡ drafts ++ draft ∷ []
+    → CostTheirFilters functions fs drafts → CostsItsSteps f.sorts.items f.body.items draft.code.items → CostTheirFilters functions fs new
+drafts_cost functions drafts new draft fs i f below item grown are own = λ trees theirs light most all.
+    let here : filter_steps trees f ≤ most = subst (λ (x : TFilter). filter_steps trees x ≤ most) (sym item) (all i f below) in
+    let more : draft_cost functions draft ≤ most = omega (arith, here, filter_costs trees functions f draft theirs light own) in
+    subst (λ (l : List Draft). All (λ (d : Draft). draft_cost functions d ≤ most) l) (sym grown)
+    (All-push (λ (d : Draft). draft_cost functions d ≤ most) drafts draft (are trees theirs light most all) more)
+
 -- ---- all code
 
 -- what is owed of the code of filters
@@ -134,8 +147,9 @@ abbrev pub CompilesAll : List Fixed → List Routine → List TFilter → List D
 CompilesAll constants functions filters drafts = (ts : List TFunction) → AreCompiled constants 0 ts functions → All (AreBefore ts) filters → map (draft_flow functions) drafts ≡ map (flow_over constants ts) filters
 
 pub has_code : (held : Held) (code : Code) (constants : List Fixed) (ts : List TFunction) (rs : List Routine) (fs : List TFilter) → AreOrdered held → constants ≡ constant_values held.checked.declared.scope → ts ≡ function_trees held.checked.declared.scope
-    → rs ≡ code.functions.items → fs ≡ held.checked.filters.items → AreCompiled constants 0 ts code.functions.items → CompilesAll constants rs fs code.filters.items → HasCode held code
-has_code held code constants ts rs fs ordered cs are same filters compiled all =
+    → rs ≡ code.functions.items → fs ≡ held.checked.filters.items → AreCompiled constants 0 ts code.functions.items → CompilesAll constants rs fs code.filters.items
+    → CostTheirSteps ts code.functions.items → CostTheirFilters rs fs code.filters.items → HasCode held code
+has_code held code constants ts rs fs ordered cs are same filters compiled all theirs each =
     let scope = held.checked.declared.scope in
     let done : AreCompiled (constant_values scope) 0 (function_trees scope) code.functions.items = subst (λ (l : List Fixed). AreCompiled l 0 (function_trees scope) code.functions.items) cs (subst (λ (l : List TFunction). AreCompiled constants 0 l code.functions.items) are compiled) in
     let owed : CompilesAll (constant_values scope) code.functions.items held.checked.filters.items code.filters.items =
@@ -145,4 +159,7 @@ has_code held code constants ts rs fs ordered cs are same filters compiled all =
       ordered = ordered;
       functions = done;
       filters = owed (function_trees scope) done (λ k f below. (ordered.filters k f below).before);
+      functions_cost = subst (λ (l : List TFunction). CostTheirSteps l code.functions.items) are theirs;
+      filters_cost = subst (λ (l : List TFilter). CostTheirFilters code.functions.items l code.filters.items) filters
+          (subst (λ (l : List Routine). CostTheirFilters l fs code.filters.items) same each);
     }

@@ -1,6 +1,6 @@
 -- For conditions of calls: that filters can run, since they see only functions that were declared
 -- before them and are never stuck (`AreOrdered`), which is so of each accepted configuration, and
--- that code is that of what is held (`HasCode`).
+-- that code is that of what is held (`HasCode`), and costs no more than what is held takes.
 -- From: own.
 use Rattle.std.specs.Prelude.{◌≡◌, ◌≤◌, ℕ, All, List, [], length, map, ⊤}
 use Rattle.conf_check.specs.declared.checked.ChannelDef.{ChannelDef}
@@ -9,9 +9,12 @@ use Rattle.conf_check.specs.declared.checked.PolicyDef.TheVariants as policies
 use Rattle.conf_check.specs.declared.checked.ProtocolBody.{ProtocolBody}
 use Rattle.conf_check.specs.declared.checked.ProtocolBody.TheVariants as bodies
 use Rattle.conf_check.specs.declared.checked.ProtocolDef.{ProtocolDef}
-use Rattle.filt_compile.specs.Compiles.{AreCompiled}
+use Rattle.filt_code.specs.declared.code.Draft.{Draft}
+use Rattle.filt_code.specs.declared.code.Routine.{Routine}
+use Rattle.filt_compile.specs.Compiles.{AreCompiled, AreLight, CostTheirSteps, draft_cost}
 use Rattle.filt_laws.specs.Sound.{Agrees}
 use Rattle.filt_meaning.specs.Names.{Around}
+use Rattle.filt_meaning.specs.Steps.{filter_steps}
 use Rattle.filt_meaning.specs.Scopes.{constant_values, context_of, function_trees}
 use Rattle.filt_meaning.specs.Trees.{AreBefore, IsNeverStuck}
 use Rattle.filt_meaning.specs.declared.scope.Scope.{Scope}
@@ -70,11 +73,21 @@ pub record AreOrdered (held : Held) : Type 0 where
 
 -- ---- code
 
+-- Where no filter takes more than `most`, over functions that take five steps for each that they weigh
+-- at most, no code costs more, over the code of these functions.
+abbrev pub CostTheirFilters : List Routine → List TFilter → List Draft → Type 0
+CostTheirFilters functions filters drafts =
+    (trees : List TFunction) → CostTheirSteps trees functions → AreLight [] trees → (most : ℕ)
+    → All (λ (f : TFilter). filter_steps trees f ≤ most) filters
+    → All (λ (d : Draft). draft_cost functions d ≤ most) drafts
+
 -- The code of the functions does what the functions do, and that of each filter by name comes to
--- what the filter comes to.
+-- what the filter comes to; and neither costs more than the functions and the filters take.
 pub record HasCode (held : Held) (code : Code) : Type 0 where
   pub ordered : AreOrdered held
   pub functions : AreCompiled (constant_values held.checked.declared.scope) 0
       (function_trees held.checked.declared.scope) code.functions.items
   pub filters : map (draft_flow code.functions.items) code.filters.items
       ≡ map (filter_flow held.checked.declared.scope) held.checked.filters.items
+  pub functions_cost : CostTheirSteps (function_trees held.checked.declared.scope) code.functions.items
+  pub filters_cost : CostTheirFilters code.functions.items held.checked.filters.items code.filters.items

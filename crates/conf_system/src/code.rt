@@ -3,6 +3,7 @@ ghost use Rattle.std.specs.Prelude.{◌≡◌, ℕ, List, All, IfOk, map, slice_
 ghost use Rattle.filt_code.specs.Codes.{IsNeverStuck};
 ghost use Rattle.filt_code.specs.declared.code.Routine.{Routine};
 ghost use Rattle.filt_compile.specs.Compiles.{AreCompiled};
+ghost use Rattle.conf_system.specs.Coded.{CostTheirFilters};
 ghost use Rattle.filt_meaning.specs.Scopes.{constant_values, function_trees};
 ghost use Rattle.filt_meaning.specs.Trees.{AreBefore};
 ghost use Rattle.filt_meaning.specs.declared.scope.TFunction.{TFunction};
@@ -44,10 +45,11 @@ pub(crate) fn drafts<'a>(
     functions: &[Routine<'a>],
     filters: &'a [TFilter],
 ) -> Result<Vec<Draft<'a>>, OutOfMemory>
-    ensures { IfOk result (λ drafts. (trees : List TFunction)
+    ensures means { IfOk result (λ drafts. (trees : List TFunction)
         → AreCompiled constants.now 0 trees functions.now → All (AreBefore trees) filters.now
         → map (draft_flow functions.now) drafts.items
         ≡ map (flow_over constants.now trees) filters.now) }
+    ensures cost { IfOk result (λ drafts. CostTheirFilters functions.now filters.now drafts.items) }
 {
     let mut drafts = Vec::new(alloc);
     for filter in filters {

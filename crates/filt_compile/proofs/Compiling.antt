@@ -1,6 +1,6 @@
 -- Whole codes, and lists of them.
-use Rattle.std.proofs.Common.{◌≡◌, ℕ, suc, zero, ◌+◌, ◌<◌, ◌≤◌, List, [], ◌∷◌, ◌++◌, reverse, length, map, length-append, take, Option, refl, sym, ap, ◌∙◌, arith}
-use Rattle.std.proofs.lemmas.List.{take-map}
+use Rattle.std.proofs.Common.{◌≡◌, ℕ, suc, zero, ◌+◌, ◌*◌, ◌<◌, ◌≤◌, List, [], ◌∷◌, ◌++◌, reverse, length, map, length-append, append_assoc, take, Option, refl, sym, ap, ◌∙◌, arith}
+use Rattle.std.proofs.lemmas.List.{append-nil, take-map}
 use Rattle.std.proofs.Math.Path.{fun_ext}
 use Rattle.std.specs.Prelude.{All}
 use Rattle.std.proofs.Math.ListN.{get_or}
@@ -20,9 +20,11 @@ use Rattle.filt_meaning.specs.Trees.{AreBefore, Tables}
 use Rattle.filt_code.specs.declared.code.Draft.{Draft}
 use Rattle.filt_code.specs.declared.code.Routine.{Routine}
 use Rattle.filt_code.specs.declared.instr.Instr.{Instr}
+use Rattle.filt_meaning.specs.Steps.{called_by, filter_steps}
+use Rattle.filt_code.specs.Costs.{cost, costs, with_costs}
 use Rattle.filt_code.specs.Codes.{Setting, code_flow, doing, mean, setting, with_routine, with_routines}
 use Rattle.filt_compile.specs.declared.seen.Seen.{Seen}
-use Rattle.filt_compile.specs.Compiles.{beside, AreCompiled, IsCompiled}
+use Rattle.filt_compile.specs.Compiles.{beside, AreCompiled, AreLight, CostAtMost, CostTheirSteps, CostsItsSteps, IsCompiled, draft_cost}
 use Rattle.filt_compile.specs.Emits.{Runs, tables_of}
 use Rattle.filt_compile.proofs.Cases as cs
 
@@ -157,3 +159,68 @@ code_flows seen constants routines f draft sorts ss same few count q r means fs 
   where
     by_parts : (t u : Tables) (xs ys : List Sort) (as_one bs : List TStmt) → t ≡ u → xs ≡ ys → as_one ≡ bs → trees.run t xs as_one [] attrs ≡ trees.run u ys bs [] attrs
     by_parts t u xs ys as_one bs p q r = rw (p, q, r) refl
+
+-- ---- costs
+
+pub costs_of : (ds sorts : List Sort) (xs ss : List TStmt) (code : List Instr) → ds ≡ sorts → xs ≡ ss → CostsItsSteps ds xs code → CostsItsSteps sorts ss code
+costs_of ds sorts xs ss code p q c = rw (← p, ← q) c
+
+costs_push : (fs : List TFunction) (rs : List Routine) (f : TFunction) (made : Routine) → CostTheirSteps fs rs → CostsItsSteps f.sorts.items f.body.items made.code.items → CostTheirSteps (fs ++ f ∷ []) (rs ++ made ∷ [])
+costs_push [] [] f made p q = (q, tt)
+costs_push [] (r ∷ rs) f made p q = absurd p
+costs_push (g ∷ fs) [] f made p q = absurd p
+costs_push (g ∷ fs) (r ∷ rs) f made p q = (p.0, costs_push fs rs f made p.1 q)
+
+pub costs_more : (i : ℕ) (all : List TFunction) (rs ends : List Routine) (f : TFunction) (made : Routine) → i < length all → f ≡ get_or all i f → ends ≡ rs ++ made ∷ [] → CostTheirSteps (take i all) rs → CostsItsSteps f.sorts.items f.body.items made.code.items → CostTheirSteps (take (i + 1) all) ends
+costs_more i all rs ends f made lt at is p q = rw (is, cs.taken_next all i f lt at) (costs_push (take i all) rs f made p q)
+
+pub costs_end : (i : ℕ) (all : List TFunction) (rs : List Routine) → length all ≤ i → CostTheirSteps (take i all) rs → CostTheirSteps all rs
+costs_end i all rs le p = rw (← cs.taken_whole all i le) p
+
+-- one function more
+at_most_more : (costs : List ℕ) (fs : List TFunction) (c : ℕ) (f : TFunction) → length costs ≡ length fs → c ≤ 5 * f.weight → CostAtMost costs (called_by fs) → CostAtMost (costs ++ c ∷ []) (called_by (fs ++ f ∷ []))
+at_most_more [] [] c f long le p zero = le
+at_most_more [] [] c f long le p (suc n) = omega arith
+at_most_more [] (g ∷ fs) c f long le p n = absurd (omega (arith, long))
+at_most_more (x ∷ costs) [] c f long le p n = absurd (omega (arith, long))
+at_most_more (x ∷ costs) (g ∷ fs) c f long le p zero = p zero
+at_most_more (x ∷ costs) (g ∷ fs) c f long le p (suc n) = at_most_more costs fs c f (omega (arith, long)) le (λ m. p (suc m)) n
+
+light_behind : (costs : List ℕ) (before fs : List TFunction) (rs : List Routine) → length costs ≡ length before → CostAtMost costs (called_by before) → CostTheirSteps fs rs → AreLight before fs → CostAtMost (with_costs costs rs) (called_by (before ++ fs))
+light_behind costs before [] [] long p q light = rw (append-nil before) p
+light_behind costs before [] (r ∷ rs) long p q light = absurd q
+light_behind costs before (f ∷ fs) [] long p q light = absurd q
+light_behind costs before (f ∷ fs) (r ∷ rs) long p q light =
+    let c : ℕ = cost costs r.code.items 0 in
+    let le : cost costs r.code.items 0 ≤ 5 * f.weight = omega (arith, q.0 costs (called_by before) p, light.0) in
+    rw (← append_assoc before (f ∷ []) fs) (light_behind (costs ++ cost costs r.code.items 0 ∷ []) (before ++ f ∷ []) fs rs (omega (arith, length-append costs (cost costs r.code.items 0 ∷ []), length-append before (f ∷ []), long)) (at_most_more costs before (cost costs r.code.items 0) f long le p) q.1 light.1)
+
+none_cost : CostAtMost [] (called_by [])
+none_cost n = omega arith
+
+-- light functions cost five for each that they weigh at most
+pub light_costs : (fs : List TFunction) (rs : List Routine) → CostTheirSteps fs rs → AreLight [] fs → CostAtMost (costs rs) (called_by fs)
+light_costs fs rs q light = light_behind [] [] fs rs refl none_cost q light
+
+-- the first functions cost no more than all
+front_stays : (cs : List ℕ) (rs : List Routine) (called : ℕ → ℕ) → CostAtMost (with_costs cs rs) called → CostAtMost cs called
+front_stays cs [] called p = p
+front_stays cs (r ∷ rs) called p = λ n. omega (arith, shorter cs (cost cs r.code.items 0) n, front_stays (cs ++ cost cs r.code.items 0 ∷ []) rs called p n)
+  where
+    shorter : (cs : List ℕ) (c n : ℕ) → get_or cs n 0 ≤ get_or (cs ++ c ∷ []) n 0
+    shorter [] c n = omega arith
+    shorter (x ∷ cs) c zero = omega arith
+    shorter (x ∷ cs) c (suc n) = shorter cs c n
+
+first_behind : (n : ℕ) (cs : List ℕ) (rs : List Routine) (called : ℕ → ℕ) → CostAtMost (with_costs cs rs) called → CostAtMost (with_costs cs (take n rs)) called
+first_behind zero cs rs called p = front_stays cs rs called p
+first_behind (suc n) cs [] called p = p
+first_behind (suc n) cs (r ∷ rs) called p = first_behind n (cs ++ cost cs r.code.items 0 ∷ []) rs called p
+
+pub first_costs : (n : ℕ) (rs : List Routine) (called : ℕ → ℕ) → CostAtMost (costs rs) called → CostAtMost (costs (take n rs)) called
+first_costs n rs called p = first_behind n [] rs called p
+
+-- so does the code of a filter, over the functions that it sees
+pub filter_costs : (fs : List TFunction) (rs : List Routine) (f : TFilter) (draft : Draft) → CostTheirSteps fs rs → AreLight [] fs → CostsItsSteps f.sorts.items f.body.items draft.code.items → draft_cost rs draft ≤ filter_steps fs f
+filter_costs fs rs f draft q light own =
+    own (costs (take draft.functions rs)) (called_by fs) (first_costs draft.functions rs (called_by fs) (light_costs fs rs q light))

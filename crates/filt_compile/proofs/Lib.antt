@@ -5,4 +5,5 @@ pub mod Compiling
 pub mod Cost
 pub mod Emitting
 pub mod Ranging
+pub mod Spending
 pub mod Walk

@@ -1,10 +1,10 @@
 -- Which numbers pass a test.
-use Rattle.std.proofs.Common.{◌≡◌, ℕ, suc, zero, ◌-◌, ◌<◌, ◌≤◌, ◌≢◌, Bool, true, false, not, ◌&&◌, List, [], ◌∷◌, Option, Some, None, Result, Ok, Err, refl, sym, ap, ◌∙◌, arith, inl, inr, ◌⊎◌}
-use Rattle.std.proofs.Math.Dec.{eqb, leb, ltb, leb-zero}
+use Rattle.std.proofs.Common.{◌≡◌, ℕ, suc, zero, ◌<◌, Bool, true, false, not, ◌&&◌, List, [], ◌∷◌, Option, Some, None, Result, Ok, Err, refl, sym, ap, ◌∙◌, arith, inl, inr, ◌⊎◌}
+use Rattle.std.proofs.Math.Dec.{leb, ltb, leb-zero}
 use Rattle.std.proofs.lemmas.Bool.{eq-eqb, ne_eqb, le-leb, lt-leb, lt-ltb}
 use Rattle.std.specs.Cmp.{nat_cmp_is}
 use Rattle.std.specs.Ordering.{is_lt, is_le, is_gt, is_ge, nat_cmp}
-use Rattle.std.specs.Prelude.{◌==◌, nat_le, nat_lt, IfSome}
+use Rattle.std.specs.Prelude.{◌==◌, nat_le, nat_lt}
 use Rattle.std.specs.declared.cmp.Ordering.TheVariants.{Less, Equal, Greater}
 use Rattle.attrs.specs.declared.attributes.Attrs.{Attrs}
 use Rattle.conf_ast.specs.declared.filters.CompareOp.{CompareOp}
@@ -16,9 +16,8 @@ use Rattle.filt_meaning.specs.Operators as operators
 use Rattle.filt_meaning.specs.Operators.{bool_in, says}
 use Rattle.filt_meaning.specs.Values.{Val, VBool, VInt}
 use Rattle.filt_meaning.specs.Attributes.{attribute_of, defined_as}
-use Rattle.filt_meaning.specs.Flow.{Flow, Done, Stopped, Frame, and_then, plainly}
+use Rattle.filt_meaning.specs.Flow.{Flow, Frame, and_then, plainly}
 use Rattle.filt_meaning.specs.Meaning.{compare_of, property_of}
-use Rattle.filt_meaning.specs.Names.{Around}
 use Rattle.filt_meaning.specs.declared.tree.TTest.{TTest}
 use Rattle.filt_meaning.specs.declared.tree.TTest.TheVariants as tests
 use Rattle.filt_meaning.specs.Trees as trees
@@ -28,10 +27,10 @@ use Rattle.filt_code.specs.declared.instr.Instr.TheVariants as instrs
 use Rattle.filt_code.specs.declared.instr.Number.{Number}
 use Rattle.filt_code.specs.declared.instr.Question.{Question}
 use Rattle.filt_code.specs.declared.instr.Question.TheVariants as questions
-use Rattle.filt_code.specs.Codes.{Setting, jump_where, known, mean, number_in, within}
+use Rattle.filt_code.specs.Codes.{jump_where, known, mean, number_in, within}
 use Rattle.filt_compile.specs.declared.ranges.Range.{Range}
 use Rattle.filt_compile.specs.declared.seen.Seen.{Seen}
-use Rattle.filt_compile.specs.Emits.{Asks, tables_of}
+use Rattle.filt_compile.specs.Emits.{Asks}
 use Rattle.filt_compile.specs.Ranges.{IsBelow, IsHeld, IsPart, IsRange, IsWithin, sense}
 
 -- ---- comparing numbers

@@ -168,43 +168,43 @@ called_is t n v x es vals attrs is i =
 
 -- ---- forms without parts
 
-of-Value : (A : Type 0) (step : TExpr-F A → A) (v : Fixed) → fold-TExpr A step (e.Value v) ≡ step (TExpr-F.Value v)
+pub of-Value : (A : Type 0) (step : TExpr-F A → A) (v : Fixed) → fold-TExpr A step (e.Value v) ≡ step (TExpr-F.Value v)
 of-Value A step v = search (rules, expr_lemmas)
 
 pub value_is : (v : Fixed) (x : TExpr) (t : Tables) → x ≡ (e.Value v) → trees.expr x t ≡ m.given (Ok (val_of_fixed v))
 value_is v x t is = ap (λ (x : TExpr). trees.expr x t) is ∙ ap (λ (f : Tables → Run Val). f t) (of-Value _ trees.expr_step v)
 
-of-Constant : (A : Type 0) (step : TExpr-F A → A) (n : ℕ) → fold-TExpr A step (e.Constant n) ≡ step (TExpr-F.Constant n)
+pub of-Constant : (A : Type 0) (step : TExpr-F A → A) (n : ℕ) → fold-TExpr A step (e.Constant n) ≡ step (TExpr-F.Constant n)
 of-Constant A step n = search (rules, expr_lemmas)
 
 pub constant_is : (n : ℕ) (x : TExpr) (t : Tables) → x ≡ (e.Constant n) → trees.expr x t ≡ m.given (there (slice_get t.constants n))
 constant_is n x t is = ap (λ (x : TExpr). trees.expr x t) is ∙ ap (λ (f : Tables → Run Val). f t) (of-Constant _ trees.expr_step n)
 
-of-Local : (A : Type 0) (step : TExpr-F A → A) (n : ℕ) → fold-TExpr A step (e.Local n) ≡ step (TExpr-F.Local n)
+pub of-Local : (A : Type 0) (step : TExpr-F A → A) (n : ℕ) → fold-TExpr A step (e.Local n) ≡ step (TExpr-F.Local n)
 of-Local A step n = search (rules, expr_lemmas)
 
 pub local_is : (n : ℕ) (x : TExpr) (t : Tables) → x ≡ (e.Local n) → trees.expr x t ≡ m.variable_or (Some n) None
 local_is n x t is = ap (λ (x : TExpr). trees.expr x t) is ∙ ap (λ (f : Tables → Run Val). f t) (of-Local _ trees.expr_step n)
 
-of-Attribute : (A : Type 0) (step : TExpr-F A → A) (a : Attribute) → fold-TExpr A step (e.Attribute a) ≡ step (TExpr-F.Attribute a)
+pub of-Attribute : (A : Type 0) (step : TExpr-F A → A) (a : Attribute) → fold-TExpr A step (e.Attribute a) ≡ step (TExpr-F.Attribute a)
 of-Attribute A step a = search (rules, expr_lemmas)
 
 pub attribute_is : (a : Attribute) (x : TExpr) (t : Tables) → x ≡ (e.Attribute a) → trees.expr x t ≡ m.attribute t.around a
 attribute_is a x t is = ap (λ (x : TExpr). trees.expr x t) is ∙ ap (λ (f : Tables → Run Val). f t) (of-Attribute _ trees.expr_step a)
 
-of-Defined : (A : Type 0) (step : TExpr-F A → A) (a : Attribute) → fold-TExpr A step (e.Defined a) ≡ step (TExpr-F.Defined a)
+pub of-Defined : (A : Type 0) (step : TExpr-F A → A) (a : Attribute) → fold-TExpr A step (e.Defined a) ≡ step (TExpr-F.Defined a)
 of-Defined A step a = search (rules, expr_lemmas)
 
 pub defined_is : (a : Attribute) (x : TExpr) (t : Tables) → x ≡ (e.Defined a) → trees.expr x t ≡ m.defined a
 defined_is a x t is = ap (λ (x : TExpr). trees.expr x t) is ∙ ap (λ (f : Tables → Run Val). f t) (of-Defined _ trees.expr_step a)
 
-of-Default : (A : Type 0) (step : TExpr-F A → A) (sort : Sort) → fold-TExpr A step (e.Default sort) ≡ step (TExpr-F.Default sort)
+pub of-Default : (A : Type 0) (step : TExpr-F A → A) (sort : Sort) → fold-TExpr A step (e.Default sort) ≡ step (TExpr-F.Default sort)
 of-Default A step sort = search (rules, expr_lemmas)
 
 pub default_is : (sort : Sort) (x : TExpr) (t : Tables) → x ≡ (e.Default sort) → trees.expr x t ≡ m.given (Ok (default_of sort))
 default_is sort x t is = ap (λ (x : TExpr). trees.expr x t) is ∙ ap (λ (f : Tables → Run Val). f t) (of-Default _ trees.expr_step sort)
 
-of-Stuck : (A : Type 0) (step : TExpr-F A → A) → fold-TExpr A step e.Stuck ≡ step TExpr-F.Stuck
+pub of-Stuck : (A : Type 0) (step : TExpr-F A → A) → fold-TExpr A step e.Stuck ≡ step TExpr-F.Stuck
 of-Stuck A step = search (rules, expr_lemmas)
 
 pub stuck_is : (x : TExpr) (t : Tables) → x ≡ e.Stuck → trees.expr x t ≡ m.given (Err failures.Stuck)
@@ -267,19 +267,19 @@ act-of-Nothing A step = search (rules, stmt_lemmas)
 pub nothing_acts : (x : TStmt) (t : Tables) → x ≡ s.Nothing → trees.stmt x t ≡ m.nothing
 nothing_acts x t is = ap (λ (x : TStmt). trees.stmt x t) is ∙ ap (λ (f : Tables → Act). f t) (act-of-Nothing _ trees.stmt_step)
 
-act-of-Unset : (A : Type 0) (step : TStmt-F A → A) (a : Attribute) → fold-TStmt A step (s.Unset a) ≡ step (TStmt-F.Unset a)
+pub act-of-Unset : (A : Type 0) (step : TStmt-F A → A) (a : Attribute) → fold-TStmt A step (s.Unset a) ≡ step (TStmt-F.Unset a)
 act-of-Unset A step a = search (rules, stmt_lemmas)
 
 pub unset_acts : (a : Attribute) (x : TStmt) (t : Tables) → x ≡ (s.Unset a) → trees.stmt x t ≡ m.unset a
 unset_acts a x t is = ap (λ (x : TStmt). trees.stmt x t) is ∙ ap (λ (f : Tables → Act). f t) (act-of-Unset _ trees.stmt_step a)
 
-act-of-Accept : (A : Type 0) (step : TStmt-F A → A) → fold-TStmt A step s.Accept ≡ step TStmt-F.Accept
+pub act-of-Accept : (A : Type 0) (step : TStmt-F A → A) → fold-TStmt A step s.Accept ≡ step TStmt-F.Accept
 act-of-Accept A step = search (rules, stmt_lemmas)
 
 pub accept_acts : (x : TStmt) (t : Tables) → x ≡ s.Accept → trees.stmt x t ≡ m.stop Accepted
 accept_acts x t is = ap (λ (x : TStmt). trees.stmt x t) is ∙ ap (λ (f : Tables → Act). f t) (act-of-Accept _ trees.stmt_step)
 
-act-of-Reject : (A : Type 0) (step : TStmt-F A → A) → fold-TStmt A step s.Reject ≡ step TStmt-F.Reject
+pub act-of-Reject : (A : Type 0) (step : TStmt-F A → A) → fold-TStmt A step s.Reject ≡ step TStmt-F.Reject
 act-of-Reject A step = search (rules, stmt_lemmas)
 
 pub reject_acts : (x : TStmt) (t : Tables) → x ≡ s.Reject → trees.stmt x t ≡ m.stop Rejected

@@ -22,6 +22,8 @@ use Rattle.filt_meaning.specs.Trees.{Tables, body, expr, set_place}
 use Rattle.filt_code.specs.declared.instr.Instr.{Instr}
 use Rattle.filt_code.specs.declared.instr.Instr.TheVariants as instrs
 use Rattle.filt_code.specs.Codes.{Setting, jump_where, mean}
+use Rattle.filt_code.specs.Costs.{cost}
+use Rattle.filt_compile.specs.Compiles.{CostAtMost}
 use Rattle.filt_compile.specs.declared.seen.Seen.{Seen}
 
 -- code in the order in which it runs
@@ -156,3 +158,30 @@ IsAsked op a b set = (op ≡ compare_ops.Matches) × IsNet a × IsSet b set
 -- what `net ~ set` is
 abbrev pub IsNetIn : TExpr → List PrefixItem → Type 0
 IsNetIn e set = (t : Tables) → expr e t ≡ on_two (attribute t.around attributes.Net) (given (Ok (VPrefixSet set))) matches_of
+
+-- ---- costs
+
+-- Where no function costs more than it is told to, the new code costs so many steps more than the
+-- old one at most.
+pub record AddsAtMost (steps : (ℕ → ℕ) → ℕ) (old new : List Instr) : Type 0 where
+  pub within : (fs : List ℕ) (called : ℕ → ℕ) → CostAtMost fs called → cost fs new 0 ≤ steps called + cost fs old 0
+
+-- The same of a condition, which has one step more, where the old code costs no more than `most` from
+-- the place on that it falls to, and from the n-th instruction on.
+pub record AsksAtMost (steps : (ℕ → ℕ) → ℕ) (n : ℕ) (old new : List Instr) : Type 0 where
+  pub within : (fs : List ℕ) (called : ℕ → ℕ) → CostAtMost fs called → (most : ℕ) → cost fs old 0 ≤ most → cost fs old n ≤ most → cost fs new 0 ≤ steps called + 1 + most
+
+-- The same, where it jumps to the place of the old code that has so much code from it on.
+abbrev pub LeadsAtMost : ((ℕ → ℕ) → ℕ) → (to : ℕ) → (old new : List Instr) → Type 0
+LeadsAtMost steps to old new = to ≤ length old → AsksAtMost steps (length old - to) old new
+
+-- From a place in the new code on, told by how much code there is from it on, it costs so many steps
+-- more than the old one at most.
+pub record StartAtMost (steps : (ℕ → ℕ) → ℕ) (start : ℕ) (old new : List Instr) : Type 0 where
+  pub far : start ≤ length new
+  pub within : (fs : List ℕ) (called : ℕ → ℕ) → CostAtMost fs called → cost fs new (length new - start) ≤ steps called + cost fs old 0
+
+-- so of each of these places
+abbrev pub StartsAtMost : ((ℕ → ℕ) → ℕ) → List ℕ → (old new : List Instr) → Type 0
+StartsAtMost steps [] old new = ⊤
+StartsAtMost steps (start ∷ starts) old new = StartAtMost steps start old new × StartsAtMost steps starts old new

@@ -1,5 +1,5 @@
 -- For private contracts alone: what follows an operand, as a list of operators.
-use Rattle.std.specs.Prelude.{List, [], ◌∷◌, map}
+use Rattle.std.specs.Prelude.{ℕ, ◌+◌, List, [], ◌∷◌, map}
 use Rattle.conf_ast.specs.declared.filters.LogicalOp.{LogicalOp}
 use Rattle.filt_meaning.specs.Operators.{bool_in}
 use Rattle.filt_meaning.specs.Values.{Val}
@@ -9,6 +9,7 @@ use Rattle.filt_meaning.specs.declared.tree.TAccess.{TAccess}
 use Rattle.filt_meaning.specs.declared.tree.TAccess.TheVariants as accesses
 use Rattle.filt_meaning.specs.declared.tree.TExpr.{TExpr}
 use Rattle.filt_meaning.specs.Trees.{Tables, expr}
+use Rattle.filt_meaning.specs.Steps.{expr_steps, sum, sum_over}
 use Rattle.filt_code.specs.declared.instr.OfOne.{OfOne}
 use Rattle.filt_code.specs.declared.instr.OfOne.TheVariants as of_one
 use Rattle.filt_code.specs.declared.instr.OfTwo.{OfTwo}
@@ -58,3 +59,20 @@ abbrev pub made_by_all : Tables → List Part → Val → Run Val
 made_by_all t [] v vals attrs = Done v attrs
 made_by_all t (part ∷ more) v vals attrs =
     and_then (made_by t part v vals attrs) (λ w attrs. made_by_all t more w vals attrs)
+
+-- what a part's code takes
+abbrev pub part_steps : (called : ℕ → ℕ) → Part → ℕ
+part_steps called (One op) = 1
+part_steps called (Two op e) = 1 + expr_steps called e
+part_steps called (Joined joint e) = 2 + expr_steps called e
+
+abbrev pub parts_steps : (called : ℕ → ℕ) → List Part → ℕ
+parts_steps called parts = sum (map (part_steps called) parts)
+
+-- what the sides take that are joined to the first one by `&&` and `||`
+abbrev pub sides_steps : (called : ℕ → ℕ) → List (LogicalOp × TExpr) → ℕ
+sides_steps called more = sum_over 2 (map (λ x. expr_steps called x.1) more)
+
+-- what values take that are let go, one after another
+abbrev pub dropped_steps : (called : ℕ → ℕ) → List TExpr → ℕ
+dropped_steps called es = sum_over 1 (map (expr_steps called) es)

@@ -1,10 +1,12 @@
 //! What statements do.
 
-ghost use Rattle.std.specs.Prelude.{◌≡◌, length, slice_get, List, IfOk, OnOk};
+ghost use Rattle.std.specs.Prelude.{◌≡◌, ◌+◌, ◌*◌, length, slice_get, List, IfOk, OnOk};
 ghost use Rattle.filt_code.specs.declared.instr.Instr.{Instr};
 ghost use Rattle.filt_meaning.specs.Meaning as meaning;
 ghost use Rattle.filt_meaning.specs.Trees as trees;
-ghost use Rattle.filt_compile.specs.Emits.{ahead, jumps_to, Acts, Bodies, Declares, Grows, Runs, Sets};
+ghost use Rattle.filt_compile.specs.Emits.{ahead, jumps_to, Acts, AddsAtMost, Bodies, Declares, Grows, Runs, Sets, StartsAtMost};
+ghost use Rattle.filt_compile.specs.Parts.{dropped_steps};
+ghost use Rattle.filt_meaning.specs.Steps.{arms_steps, body_steps, expr_steps, exprs_steps, given_steps, run_steps, stmt_steps};
 
 use crate::condition::condition;
 use crate::emitted::push;
@@ -22,7 +24,8 @@ pub(crate) fn body<'a>(
     out: &mut Vec<Instr<'a>>,
 ) -> Result<(), OutOfMemory>
     ensures { OnOk result (Acts seen.now (λ t. trees.body t statements.now)
-        (ahead out.old) (ahead out.new)) }
+        (ahead out.old) (ahead out.new)
+        × AddsAtMost (λ called. body_steps called statements.now) (ahead out.old) (ahead out.new)) }
 {
     let mut n = statements.len();
     while n > 0 {
@@ -35,7 +38,8 @@ pub(crate) fn body<'a>(
 #[cycle(acts)]
 fn act<'a>(seen: &Seen<'a>, s: &'a TStmt, out: &mut Vec<Instr<'a>>) -> Result<(), OutOfMemory>
     ensures { OnOk result (Acts seen.now (λ t. trees.stmt s.now t)
-        (ahead out.old) (ahead out.new)) }
+        (ahead out.old) (ahead out.new)
+        × AddsAtMost (λ called. stmt_steps called s.now) (ahead out.old) (ahead out.new)) }
 {
     match s {
         TStmt::Block(sorts, statements) => {
@@ -69,6 +73,8 @@ pub(crate) fn block<'a>(
     out: &mut Vec<Instr<'a>>,
 ) -> Result<(), OutOfMemory>
     ensures { OnOk result (Runs seen.now sorts.now (λ t. trees.body t statements.now)
+        (ahead out.old) (ahead out.new)
+        × AddsAtMost (λ called. run_steps called sorts.now statements.now)
         (ahead out.old) (ahead out.new)) }
 {
     body(seen, statements, out)?;
@@ -85,6 +91,8 @@ fn choice<'a>(
 ) -> Result<(), OutOfMemory>
     ensures { OnOk result (Acts seen.now
         (λ t. meaning.choice (trees.expr e.now t) (trees.stmt first.now t) meaning.nothing)
+        (ahead out.old) (ahead out.new)
+        × AddsAtMost (λ called. 1 + expr_steps called e.now + stmt_steps called first.now)
         (ahead out.old) (ahead out.new)) }
 {
     let behind = out.len();
@@ -103,7 +111,9 @@ fn either<'a>(
 ) -> Result<(), OutOfMemory>
     ensures { OnOk result (Acts seen.now
         (λ t. meaning.choice (trees.expr e.now t) (trees.stmt first.now t)
-        (trees.stmt second.now t)) (ahead out.old) (ahead out.new)) }
+        (trees.stmt second.now t)) (ahead out.old) (ahead out.new)
+        × AddsAtMost (λ called. 2 + expr_steps called e.now + stmt_steps called first.now
+        + stmt_steps called second.now) (ahead out.old) (ahead out.new)) }
 {
     let before = out.len();
     act(seen, second, out)?;
@@ -123,6 +133,8 @@ fn turns<'a>(
 ) -> Result<(), OutOfMemory>
     ensures { OnOk result (Acts seen.now
         (λ t. meaning.loop (trees.expr e.now t) (trees.stmt turn.now t))
+        (ahead out.old) (ahead out.new)
+        × AddsAtMost (λ called. 2 + expr_steps called e.now + 120 * (2 + stmt_steps called turn.now))
         (ahead out.old) (ahead out.new)) }
 {
     let before = out.len();
@@ -140,7 +152,8 @@ fn give<'a>(
     out: &mut Vec<Instr<'a>>,
 ) -> Result<(), OutOfMemory>
     ensures { OnOk result (Acts seen.now (λ t. trees.result e.now t)
-        (ahead out.old) (ahead out.new)) }
+        (ahead out.old) (ahead out.new)
+        × AddsAtMost (λ called. 1 + given_steps called e.now) (ahead out.old) (ahead out.new)) }
 {
     match e {
         None => push(out, Instr::ReturnNothing),
@@ -159,7 +172,8 @@ fn dropped<'a>(
 ) -> Result<(), OutOfMemory>
     ensures { OnOk result (Acts seen.now
         (λ t. meaning.evaluate (trees.all_values (trees.exprs t es.now)))
-        (ahead out.old) (ahead out.new)) }
+        (ahead out.old) (ahead out.new)
+        × AddsAtMost (λ called. dropped_steps called es.now) (ahead out.old) (ahead out.new)) }
 {
     let mut n = es.len();
     while n > 0 {
@@ -179,7 +193,9 @@ fn perform<'a>(
 ) -> Result<(), OutOfMemory>
     ensures { OnOk result (Acts seen.now
         (λ t. meaning.evaluate (meaning.call (slice_get t.functions number)
-        (trees.all_values (trees.exprs t es.now)))) (ahead out.old) (ahead out.new)) }
+        (trees.all_values (trees.exprs t es.now)))) (ahead out.old) (ahead out.new)
+        × AddsAtMost (λ called. 2 + called number + exprs_steps called es.now)
+        (ahead out.old) (ahead out.new)) }
 {
     if number < seen.functions {
         push(out, Instr::Perform(number, es.len()))?;
@@ -190,7 +206,8 @@ fn perform<'a>(
 
 /// Variables of these sorts, without values.
 fn declare<'a>(sorts: &[Sort], out: &mut Vec<Instr<'a>>) -> Result<(), OutOfMemory>
-    ensures { OnOk result (Declares sorts.now (ahead out.old) (ahead out.new)) }
+    ensures { OnOk result (Declares sorts.now (ahead out.old) (ahead out.new)
+        × AddsAtMost (λ called. length sorts.now) (ahead out.old) (ahead out.new)) }
 {
     let mut n = sorts.len();
     while n > 0 {
@@ -203,7 +220,8 @@ fn declare<'a>(sorts: &[Sort], out: &mut Vec<Instr<'a>>) -> Result<(), OutOfMemo
 
 /// What makes a target hold the value on top.
 fn set<'a>(target: TTarget, out: &mut Vec<Instr<'a>>) -> Result<(), OutOfMemory>
-    ensures { OnOk result (Sets target (ahead out.old) (ahead out.new)) }
+    ensures { OnOk result (Sets target (ahead out.old) (ahead out.new)
+        × AddsAtMost (λ called. 1) (ahead out.old) (ahead out.new)) }
 {
     match target {
         TTarget::Local(place) => push(out, Instr::Do(Effect::Store(place))),
@@ -223,7 +241,9 @@ fn case<'a>(
 ) -> Result<(), OutOfMemory>
     ensures { OnOk result (Acts seen.now
         (λ t. meaning.cases (trees.expr e.now t) (trees.arms (trees.arms_of t arms.now)
-        (trees.body t otherwise.now))) (ahead out.old) (ahead out.new)) }
+        (trees.body t otherwise.now))) (ahead out.old) (ahead out.new)
+        × AddsAtMost (λ called. 3 + expr_steps called e.now + arms_steps called arms.now
+        + body_steps called otherwise.now) (ahead out.old) (ahead out.new)) }
 {
     let before = out.len();
     body(seen, otherwise, out)?;
@@ -246,7 +266,9 @@ fn bodies<'a>(
 ) -> Result<Vec<usize>, OutOfMemory>
     ensures { IfOk result (λ starts. (old : List Instr) → before ≡ length old
         → Grows old (ahead out.old)
-        → Bodies seen.now arms.now starts.items old (ahead out.old) (ahead out.new)) }
+        → Bodies seen.now arms.now starts.items old (ahead out.old) (ahead out.new)
+        × StartsAtMost (λ called. 1 + arms_steps called arms.now) starts.items old
+        (ahead out.new)) }
 {
     let mut starts = Vec::new(seen.alloc);
     for arm in arms {

@@ -1,10 +1,12 @@
 //! Conditions.
 
-ghost use Rattle.std.specs.Prelude.{◌≡◌, ◌<◌, length, slice_get, true, IfSome, OnOk, Some};
+ghost use Rattle.std.specs.Prelude.{◌≡◌, ◌<◌, ◌+◌, length, slice_get, true, IfSome, OnOk, Some};
 ghost use Rattle.filt_meaning.specs.Trees as trees;
 ghost use Rattle.filt_code.specs.declared.instr.Question.TheVariants as questions;
 ghost use Rattle.filt_compile.specs.Ranges.{sense};
-ghost use Rattle.filt_compile.specs.Emits.{ahead, decider, landing, Asks, IsAsked, IsNet, IsNetIn, IsSet, Leads};
+ghost use Rattle.filt_compile.specs.Emits.{ahead, decider, landing, Asks, AsksAtMost, IsAsked, IsNet, IsNetIn, IsSet, Leads, LeadsAtMost};
+ghost use Rattle.filt_compile.specs.Parts.{sides_steps};
+ghost use Rattle.filt_meaning.specs.Steps.{expr_steps};
 
 use crate::emitted::push;
 use crate::ranges::{Range, ranged};
@@ -27,7 +29,8 @@ pub(crate) fn condition<'a>(
     out: &mut Vec<Instr<'a>>,
 ) -> Result<(), OutOfMemory>
     ensures { OnOk result (Leads seen.now is to (λ t. trees.expr e.now t)
-        (ahead out.old) (ahead out.new)) }
+        (ahead out.old) (ahead out.new)
+        × LeadsAtMost (λ called. expr_steps called e.now) to (ahead out.old) (ahead out.new)) }
 {
     match e {
         TExpr::Not(a) => condition(seen, a, !is, to, out),
@@ -50,7 +53,9 @@ fn joined<'a>(
     out: &mut Vec<Instr<'a>>,
 ) -> Result<(), OutOfMemory>
     ensures { OnOk result (Leads seen.now is to (λ t. trees.joints (trees.expr first.now t)
-        (trees.parts t more.now)) (ahead out.old) (ahead out.new)) }
+        (trees.parts t more.now)) (ahead out.old) (ahead out.new)
+        × LeadsAtMost (λ called. expr_steps called first.now + sides_steps called more.now) to
+        (ahead out.old) (ahead out.new)) }
 {
     let mut n = more.len();
     let mut wanted = is;
@@ -106,7 +111,8 @@ fn asked<'a>(
     out: &mut Vec<Instr<'a>>,
 ) -> Result<(), OutOfMemory>
     ensures { OnOk result (Asks seen.now is over (λ t. trees.expr e.now t)
-        (ahead out.old) (ahead out.new)) }
+        (ahead out.old) (ahead out.new)
+        × AsksAtMost (λ called. expr_steps called e.now) over (ahead out.old) (ahead out.new)) }
 {
     if let Some(set) = net_set(e) {
         return push(out, Instr::JumpIfAsked(is, Question::NetIn(set), over));
@@ -130,7 +136,8 @@ fn tested<'a>(
     out: &mut Vec<Instr<'a>>,
 ) -> Result<(), OutOfMemory>
     ensures { OnOk result (Asks seen.now is over (λ t. trees.test t.around what)
-        (ahead out.old) (ahead out.new)) }
+        (ahead out.old) (ahead out.new)
+        × AsksAtMost (λ called. 0) over (ahead out.old) (ahead out.new)) }
 {
     match ranged(what) {
         Some(range) => push(

@@ -8,7 +8,7 @@ ghost use Rattle.filt_meaning.specs.Trees as trees;
 ghost use Rattle.filt_meaning.specs.Trees.{AreBefore};
 ghost use Rattle.filt_meaning.specs.declared.scope.TFunction.{TFunction};
 ghost use Rattle.filt_code.specs.Codes.{code_flow, mean, Setting};
-ghost use Rattle.filt_compile.specs.Compiles.{AreCompiled, IsCompiled};
+ghost use Rattle.filt_compile.specs.Compiles.{AreCompiled, CostTheirSteps, CostsItsSteps, IsCompiled};
 ghost use Rattle.filt_compile.specs.Emits.{tables_of};
 
 use crate::act::block;
@@ -19,17 +19,20 @@ use filt_meaning::{Fixed, Sort, TFilter, TFunction, TStmt};
 use std::alloc::Global;
 
 /// The code of a filter, over the constants and the compiled functions of the scope, of which it sees
-/// the first. It comes to what the filter comes to, every fault included, and so does its verdict.
+/// the first. It comes to what the filter comes to, every fault included, and so does its verdict; and
+/// it costs no more than the filter takes, whatever functions cost.
 pub fn compile<'a>(
     alloc: Global,
     constants: &'a [Fixed],
     routines: &[Routine<'a>],
     filter: &'a TFilter,
 ) -> Result<Draft<'a>, OutOfMemory>
-    ensures { IfOk result (λ draft. (functions : List TFunction)
+    ensures means { IfOk result (λ draft. (functions : List TFunction)
         → AreCompiled constants.now 0 functions routines.now → AreBefore functions filter.now
         → (around : Around) (attrs : Attrs) → code_flow around routines.now draft attrs
         ≡ trees.tree_flow around constants.now functions filter.now attrs) }
+    ensures cost { IfOk result (λ draft. CostsItsSteps filter.now.sorts.items filter.now.body.items
+        draft.code.items) }
 {
     let functions = first(routines, filter.functions).len();
     let seen = Seen {
@@ -47,7 +50,8 @@ pub fn library<'a>(
     constants: &'a [Fixed],
     functions: &'a [TFunction],
 ) -> Result<Vec<Routine<'a>>, OutOfMemory>
-    ensures { IfOk result (λ routines. AreCompiled constants.now 0 functions.now routines.items) }
+    ensures means { IfOk result (λ routines. AreCompiled constants.now 0 functions.now routines.items) }
+    ensures cost { IfOk result (λ routines. CostTheirSteps functions.now routines.items) }
 {
     let mut routines = Vec::new(alloc);
     for function in functions {
@@ -65,7 +69,8 @@ fn routine<'a>(
     number: usize,
     function: &'a TFunction,
 ) -> Result<Routine<'a>, OutOfMemory>
-    ensures { IfOk result (λ made. IsCompiled constants.now number function.now made) }
+    ensures { IfOk result (λ made. IsCompiled constants.now number function.now made
+        × CostsItsSteps function.now.sorts.items function.now.body.items made.code.items) }
 {
     let seen = Seen {
         alloc,
@@ -86,9 +91,10 @@ fn code<'a>(
     sorts: &'a [Sort],
     statements: &'a [TStmt],
 ) -> Result<Vec<Instr<'a>>, OutOfMemory>
-    ensures { IfOk result (λ code. (s : Setting) → length s.functions ≡ seen.now.functions
+    ensures { IfOk result (λ code. ((s : Setting) → length s.functions ≡ seen.now.functions
         → (vals : Frame) (attrs : Attrs) → mean s code.items 0 vals [] attrs
-        ≡ trees.run (tables_of seen.now s) sorts.now statements.now vals attrs) }
+        ≡ trees.run (tables_of seen.now s) sorts.now statements.now vals attrs)
+        × CostsItsSteps sorts.now statements.now code.items) }
 {
     let mut out = Vec::new(seen.alloc);
     block(seen, sorts, statements, &mut out)?;

@@ -9,6 +9,7 @@ mod act;
 mod condition;
 mod drafts;
 mod emitted;
+pub mod laws;
 mod ranges;
 mod rest;
 mod seen;

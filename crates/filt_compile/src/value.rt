@@ -1,13 +1,14 @@
 //! The values of expressions.
 
-ghost use Rattle.std.specs.Prelude.{OnOk};
+ghost use Rattle.std.specs.Prelude.{◌+◌, OnOk};
 ghost use Rattle.filt_meaning.specs.Meaning.{given};
 ghost use Rattle.filt_meaning.specs.Names.{there};
 ghost use Rattle.filt_meaning.specs.Trees as trees;
 ghost use Rattle.std.specs.Prelude.{slice_get};
 ghost use Rattle.filt_meaning.specs.Meaning.{called_value};
-ghost use Rattle.filt_compile.specs.Emits.{ahead, Makes, Puts, PutsAll};
-ghost use Rattle.filt_compile.specs.Parts.{made_by, made_by_all, part_of, parts_of, Joined};
+ghost use Rattle.filt_compile.specs.Emits.{ahead, AddsAtMost, Makes, Puts, PutsAll};
+ghost use Rattle.filt_compile.specs.Parts.{made_by, made_by_all, part_of, part_steps, parts_of, parts_steps, Joined};
+ghost use Rattle.filt_meaning.specs.Steps.{expr_steps, exprs_steps};
 ghost use Rattle.filt_meaning.specs.Flow.{and_then};
 
 use crate::emitted::push;
@@ -25,7 +26,8 @@ pub(crate) fn value<'a>(
     e: &'a TExpr,
     out: &mut Vec<Instr<'a>>,
 ) -> Result<(), OutOfMemory>
-    ensures { OnOk result (Puts seen.now (λ t. trees.expr e.now t) (ahead out.old) (ahead out.new)) }
+    ensures { OnOk result (Puts seen.now (λ t. trees.expr e.now t) (ahead out.old) (ahead out.new)
+        × AddsAtMost (λ called. expr_steps called e.now) (ahead out.old) (ahead out.new)) }
 {
     match e {
         TExpr::Value(known) => push(out, Instr::Do(Effect::Push(known))),
@@ -59,7 +61,9 @@ fn chain<'a>(
 ) -> Result<(), OutOfMemory>
     ensures { OnOk result (Puts seen.now (λ t vals attrs. and_then
         (trees.expr first.now t vals attrs)
-        (λ v attrs. made_by_all t (parts_of rest.entry) v vals attrs)) (ahead out.old) (ahead out.new)) }
+        (λ v attrs. made_by_all t (parts_of rest.entry) v vals attrs)) (ahead out.old) (ahead out.new)
+        × AddsAtMost (λ called. expr_steps called first.now + parts_steps called (parts_of rest.entry))
+        (ahead out.old) (ahead out.new)) }
 {
     let mut n = rest.len();
     while n > 0 {
@@ -72,7 +76,8 @@ fn chain<'a>(
 /// An operator, behind its left operand.
 #[cycle(emit)]
 fn apply<'a>(seen: &Seen<'a>, step: Step<'a>, out: &mut Vec<Instr<'a>>) -> Result<(), OutOfMemory>
-    ensures { OnOk result (Makes seen.now (λ t. made_by t (part_of step.entry)) (ahead out.old) (ahead out.new)) }
+    ensures { OnOk result (Makes seen.now (λ t. made_by t (part_of step.entry)) (ahead out.old) (ahead out.new)
+        × AddsAtMost (λ called. part_steps called (part_of step.entry)) (ahead out.old) (ahead out.new)) }
 {
     match step {
         Step::One(operator) => push(out, Instr::Do(Effect::One(operator))),
@@ -93,7 +98,8 @@ fn join<'a>(
     out: &mut Vec<Instr<'a>>,
 ) -> Result<(), OutOfMemory>
     ensures { OnOk result (Makes seen.now (λ t. made_by t (Joined joint right.now))
-        (ahead out.old) (ahead out.new)) }
+        (ahead out.old) (ahead out.new)
+        × AddsAtMost (λ called. 2 + expr_steps called right.now) (ahead out.old) (ahead out.new)) }
 {
     let before = out.len();
     push(out, Instr::Do(Effect::One(OfOne::Truth)))?;
@@ -110,7 +116,8 @@ pub(crate) fn values<'a>(
     out: &mut Vec<Instr<'a>>,
 ) -> Result<(), OutOfMemory>
     ensures { OnOk result (PutsAll seen.now (λ t. trees.all_values (trees.exprs t es.now))
-        (ahead out.old) (ahead out.new)) }
+        (ahead out.old) (ahead out.new)
+        × AddsAtMost (λ called. exprs_steps called es.now) (ahead out.old) (ahead out.new)) }
 {
     let mut n = es.len();
     while n > 0 {
@@ -129,7 +136,9 @@ fn call<'a>(
     out: &mut Vec<Instr<'a>>,
 ) -> Result<(), OutOfMemory>
     ensures { OnOk result (Puts seen.now (λ t. called_value (slice_get t.functions number)
-        (trees.all_values (trees.exprs t es.now))) (ahead out.old) (ahead out.new)) }
+        (trees.all_values (trees.exprs t es.now))) (ahead out.old) (ahead out.new)
+        × AddsAtMost (λ called. 2 + called number + exprs_steps called es.now)
+        (ahead out.old) (ahead out.new)) }
 {
     if number < seen.functions {
         push(out, Instr::Call(number, es.len()))?;
@@ -140,7 +149,7 @@ fn call<'a>(
 
 fn constant<'a>(seen: &Seen<'a>, number: usize, out: &mut Vec<Instr<'a>>) -> Result<(), OutOfMemory>
     ensures { OnOk result (Puts seen.now (λ t. given (there (slice_get t.constants number)))
-        (ahead out.old) (ahead out.new)) }
+        (ahead out.old) (ahead out.new) × AddsAtMost (λ called. 1) (ahead out.old) (ahead out.new)) }
 {
     let constants = seen.constants;
     match constants.get(number) {
@@ -151,7 +160,8 @@ fn constant<'a>(seen: &Seen<'a>, number: usize, out: &mut Vec<Instr<'a>>) -> Res
 
 /// The answer to a question, by two ways to it.
 fn test<'a>(seen: &Seen<'a>, what: TTest, out: &mut Vec<Instr<'a>>) -> Result<(), OutOfMemory>
-    ensures { OnOk result (Puts seen.now (λ t. trees.test t.around what) (ahead out.old) (ahead out.new)) }
+    ensures { OnOk result (Puts seen.now (λ t. trees.test t.around what) (ahead out.old) (ahead out.new)
+        × AddsAtMost (λ called. 3) (ahead out.old) (ahead out.new)) }
 {
     push(out, Instr::Do(Effect::One(OfOne::Not)))?;
     push(out, Instr::Do(Effect::Default(Sort::Bool)))?;

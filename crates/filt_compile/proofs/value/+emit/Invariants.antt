@@ -1,7 +1,8 @@
 use Rattle.std.proofs.Common.{◌+◌, ◌≤◌, length, drop}
+use Rattle.filt_meaning.specs.Steps.{exprs_steps}
 use Rattle.filt_meaning.specs.Trees as trees
-use Rattle.filt_compile.specs.Emits.{ahead, Makes, PutsAll}
-use Rattle.filt_compile.specs.Parts.{made_by_all, part_of, parts_of}
+use Rattle.filt_compile.specs.Emits.{ahead, AddsAtMost, Makes, PutsAll}
+use Rattle.filt_compile.specs.Parts.{made_by_all, part_of, parts_of, parts_steps}
 use Rattle.filt_compile.proofs.Cost as k
 use Rattle.filt_compile.proofs.value.+emit.Given as goal
 
@@ -27,12 +28,14 @@ abbrev pub invariant-chain-loop-n : goal.invariant-chain-loop-n
 invariant-chain-loop-n l = record {
   low : l.n ≤ length (parts_of l.rest);
   made : Makes l.seen (λ t. made_by_all t (drop l.n (parts_of l.rest))) (ahead l.initial.out) (ahead l.out);
+  cheap : AddsAtMost (λ called. parts_steps called (drop l.n (parts_of l.rest))) (ahead l.initial.out) (ahead l.out);
 }
 
 abbrev pub invariant-values-loop-n : goal.invariant-values-loop-n
 invariant-values-loop-n l = record {
   low : l.n ≤ length l.es;
   made : PutsAll l.seen (λ t. trees.all_values (trees.exprs t (drop l.n l.es))) (ahead l.initial.out) (ahead l.out);
+  cheap : AddsAtMost (λ called. exprs_steps called (drop l.n l.es)) (ahead l.initial.out) (ahead l.out);
 }
 
 abbrev pub decreases-chain-loop-n : goal.decreases-chain-loop-n
