@@ -1,5 +1,5 @@
 -- What is so where nothing is refused of a statement.
-use Rattle.std.proofs.Common.{◌≡◌, ℕ, ◌<◌, Bool, true, false, ◌||◌, not, nat_lt, if◌then◌else◌, List, [], ◌∷◌, ◌++◌, length, Option, Some, None, refl, sym, ap, ◌∙◌, arith, true≢false}
+use Rattle.std.proofs.Common.{◌≡◌, ℕ, ◌<◌, ◌≤◌, Bool, true, false, ◌||◌, not, nat_lt, if◌then◌else◌, List, [], ◌∷◌, ◌++◌, length, map, Option, Some, None, refl, sym, ap, ◌∙◌, arith, true≢false}
 use Rattle.std.proofs.lemmas.Bool.{ltb-true}
 use Rattle.std.proofs.lemmas.Option.{none-some}
 use Rattle.std.specs.List.{list_any}
@@ -13,7 +13,11 @@ use Rattle.conf_ast.specs.Filters.{Statements}
 use Rattle.filt_meaning.specs.Names.{same_name}
 use Rattle.filt_types.specs.Items.{is_none}
 use Rattle.filt_types.specs.Scenes as scenes
+use Rattle.filt_types.specs.Refusals as of_types
 use Rattle.filt_types.specs.Refused as filters
+use Rattle.filt_types.specs.Statements.{in_function}
+use Rattle.filt_types.specs.Weight.{block_weight}
+use Rattle.filt_check.proofs.Light.{not_heavy}
 use Rattle.conf_names.specs.declared.refusal.Refusal.{Refusal}
 use Rattle.conf_rules.specs.Channels.{one_channel}
 use Rattle.conf_names.specs.Constants.{value}
@@ -82,6 +86,16 @@ define_free known n v h = declaring_free known n (nil_left (of.declaring known n
 
 pub function_free : (known : Known) (f : Routine) → rules.refusals known (conf.DefineFunction f) ≡ [] → is_declared known (name_bytes known.scene.text f.name) ≡ false
 function_free known f h = declaring_free known f.name (nil_left (of.declaring known f.name) (of_filters (filters.of_function known.scene f)) h)
+
+map_nil : {A B : Type 0} (f : A → B) (xs : List A) → map f xs ≡ [] → xs ≡ []
+map_nil f [] h = refl
+map_nil f (x ∷ xs) h = absurd (omega (arith, ap (λ (l : List _). length l) h))
+
+-- a function of which nothing is refused isn't too heavy
+pub function_light : (known : Known) (f : Routine) → rules.refusals known (conf.DefineFunction f) ≡ [] → block_weight known.scene f.body ≤ 10000000
+function_light known f h =
+    let none : filters.of_function known.scene f ≡ [] = map_nil _ (filters.of_function known.scene f) (nil_right (of.declaring known f.name) (of_filters (filters.of_function known.scene f)) h) in
+    not_heavy f.name.at (block_weight known.scene f.body) (in_function known.scene f) (sym (ap (λ (rs : List _). of_types.first_in None rs) none))
 
 pub filter_free : (known : Known) (at : ℕ) (n : Name) (ss : Statements) → rules.refusals known (conf.DefineFilter at n ss) ≡ [] → is_declared known (name_bytes known.scene.text n) ≡ false
 filter_free known at n ss h = declaring_free known n (nil_left (of.declaring known n) (of_filters (filters.of_filter known.scene n.at ss)) h)

@@ -1,5 +1,5 @@
 -- Scopes that declare one thing more, or none.
-use Rattle.std.proofs.Common.{◌≡◌, ℕ, ◌≤◌, All, List, [], ◌∷◌, ◌++◌, length, map, Option, Some, None, Result, Ok, Err, refl, sym, ap, subst, ◌∙◌, arith, append-nil, length-append, Vec}
+use Rattle.std.proofs.Common.{◌≡◌, ℕ, ◌≤◌, All, List, [], ◌∷◌, ◌++◌, length, map, Option, Some, None, Result, Ok, Err, refl, sym, ap, subst, ◌∙◌, arith, append-nil, append_assoc, length-append, Vec}
 use Rattle.std.specs.Global.{Global}
 use Rattle.std.specs.Result.{result_ok}
 use Rattle.std.proofs.lemmas.List.{map-append}
@@ -19,6 +19,7 @@ use Rattle.filt_meaning.specs.Names.{Around, Context, Doing}
 use Rattle.filt_meaning.specs.declared.scope.Scope.{Scope}
 use Rattle.filt_meaning.specs.declared.scope.TFunction.{TFunction}
 use Rattle.filt_meaning.specs.Scopes.{constant_values, constants_in, context_of, function_names, function_trees, named, tables_of}
+use Rattle.filt_meaning.specs.Steps.{IsLight}
 use Rattle.filt_meaning.specs.Trees.{function, tables}
 use Rattle.filt_types.specs.Scenes.{Signature}
 use Rattle.filt_types.specs.Seen.{functions_in, scene_of, signature_of}
@@ -31,6 +32,7 @@ use Rattle.conf_rules.specs.Protocols.{joint_of}
 use Rattle.conf_names.specs.Names.{own_name, pipe_names, pipe_stem}
 use Rattle.conf_names.specs.Seen.{known_of}
 use Rattle.conf_check.specs.Behind.{behind_one, context_in, no_route, with_filter, with_others, with_pipe, with_protocol, with_scene, with_table, with_value}
+use Rattle.conf_check.specs.Checked.{AreLight, AreLightBehind}
 use Rattle.conf_check.specs.Seen.{AreWithin, Declares, Grows, Joins, Stays, counted, other_names}
 use Rattle.conf_check.proofs.Names.{nothing}
 use Rattle.conf_check.proofs.ConstantValues.{constant_same, given_none, given_some}
@@ -63,6 +65,15 @@ pub stays_within : (scope after : Scope) → Stays scope after → AreWithin sco
 stays_within scope after s h =
     subst (λ (cs : Constants). within_by cs after.functions.entries) (sym s.constants) (subst (λ (fs : Functions). within_by scope.constants.entries fs) (sym s.functions) h)
 
+-- ---- functions that take few steps
+
+stays_light : (scope after : Scope) → Stays scope after → AreLight (function_trees scope) → AreLight (function_trees after)
+stays_light scope after s h = subst (λ (fs : Functions). AreLight (map (λ (e : Vec ℕ Global × TFunction). e.1) fs)) (sym s.functions) h
+
+light_push : (before fs : List TFunction) (f : TFunction) → AreLightBehind before fs → ((more : List TFunction) → IsLight (before ++ (fs ++ more)) f) → AreLightBehind before (fs ++ f ∷ [])
+light_push before [] f h new = (new, tt)
+light_push before (g ∷ fs) f h new = (h.0, light_push (before ++ g ∷ []) fs f h.1 (λ more. subst (λ (l : List TFunction). IsLight l f) (sym (append_assoc before (g ∷ []) (fs ++ more))) (new more)))
+
 pub stays_grows : (scope after : Scope) → Stays scope after → Grows scope after
 stays_grows scope after s = record {
   constants = ([], ap (λ (cs : Constants). map (λ (e : Vec ℕ Global × Fixed). e.1) cs) s.constants ∙ sym (append-nil (constant_values scope)));
@@ -76,6 +87,7 @@ stays_declares text d old new known same s = record {
   grows = stays_grows old.scope new.scope s;
   sees = λ within around. stays_context text around old.scope new.scope s ∙ sym (same (context_of text around old.scope []));
   within = stays_within old.scope new.scope s;
+  light = stays_light old.scope new.scope s;
 }
 
 -- ---- known things
@@ -121,6 +133,9 @@ module _ (text name : List ℕ) (old : Declared) (after : Scope) (v : Fixed) (jo
       subst (λ (fs : List TFunction). All (λ (f : TFunction). f.constants ≤ length (constant_values after)) fs) (sym (functions_same (λ (e : Vec ℕ Global × TFunction). e.1)))
       (within_more (length (constant_values old.scope)) (length (constant_values after)) (function_trees old.scope) (omega (arith, ap (λ (l : List Fixed). length l) constants_more, length-append (constant_values old.scope) (v ∷ []))) h)
 
+  constant_light : AreLight (function_trees old.scope) → AreLight (function_trees after)
+  constant_light h = subst AreLight (sym (functions_same (λ (e : Vec ℕ Global × TFunction). e.1))) h
+
   constant_seen : (around : Around) → AreWithin old.scope → context_of text around after [] ≡ meaning.with_constant (context_of text around old.scope []) name (Ok (val_of_fixed v))
   constant_seen around within = constant_declared text around old.scope after joins.0 v [] joins.2 same within
       ∙ ap (λ (n : List ℕ). meaning.with_constant (context_of text around old.scope []) n (Ok (val_of_fixed v))) joins.1
@@ -145,6 +160,7 @@ constant_declares text name old after value v joins same others is =
       sees = λ within around. constant_seen text bytes old after v joins same around within
           ∙ ap (λ (r : Result Val Failure). meaning.with_constant (context_of text around old.scope []) bytes r) (sym (given around));
       within = constant_within text bytes old after v joins same;
+      light = constant_light text bytes old after v joins same;
     }
 
 -- what has no value declares nothing
@@ -157,13 +173,14 @@ nothing_defined text name old value is =
       grows = stays_grows old.scope old.scope (record { constants = refl; functions = refl });
       sees = λ within around. ap (λ (r : Result Val Failure). meaning.with_constant (context_of text around old.scope []) bytes r) (sym (given around).1);
       within = λ h. h;
+      light = λ h. h;
     }
 
 -- ---- one function more
 
 pub function_declares : (text : List ℕ) (old : Declared) (after : Scope) (r : Routine) (f : TFunction) → Joins (name_bytes text r.name) f old.scope.functions.entries after.functions.entries → after.constants.entries ≡ old.scope.constants.entries → other_names after ≡ other_names old.scope
-    → signature_of f ≡ signature_in (scene_of text old.scope) r → ((around : Around) → function (tables_of around old.scope) f ≡ doing (context_of text around old.scope []) r) → f.constants ≡ length (constant_values old.scope) → Declares text (conf.DefineFunction r) old (over_scope old after)
-function_declares text old after r f joins same others signature does sees =
+    → signature_of f ≡ signature_in (scene_of text old.scope) r → ((around : Around) → function (tables_of around old.scope) f ≡ doing (context_of text around old.scope []) r) → f.constants ≡ length (constant_values old.scope) → ((more : List TFunction) → IsLight (function_trees old.scope ++ more) f) → Declares text (conf.DefineFunction r) old (over_scope old after)
+function_declares text old after r f joins same others signature does sees light =
     let bytes = name_bytes text r.name in
     let trees : function_trees after ≡ function_trees old.scope ++ f ∷ [] = joined_map (λ (e : Vec ℕ Global × TFunction). e.1) bytes f old.scope.functions.entries after.functions.entries joins in
     let values : constant_values after ≡ constant_values old.scope = ap (λ (l : Constants). map (λ (e : Vec ℕ Global × Fixed). e.1) l) same in
@@ -180,6 +197,7 @@ function_declares text old after r f joins same others signature does sees =
       within = λ h. subst (λ (cs : List Fixed). All (λ (g : TFunction). g.constants ≤ length cs) (function_trees after)) (sym values)
           (subst (λ (fs : List TFunction). All (λ (g : TFunction). g.constants ≤ length (constant_values old.scope)) fs) (sym trees)
           (All-push (λ (g : TFunction). g.constants ≤ length (constant_values old.scope)) (function_trees old.scope) f h (omega (arith, sees))));
+      light = λ h. subst AreLight (sym trees) (light_push [] (function_trees old.scope) f h light);
     }
 
 -- ---- tables, filters and protocols

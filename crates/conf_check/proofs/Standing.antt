@@ -1,5 +1,5 @@
 -- What has been made of statements, and of one more.
-use Rattle.std.proofs.Common.{◌≡◌, ℕ, ◌+◌, ◌<◌, ◌≤◌, All, Bool, true, false, List, [], ◌∷◌, ◌++◌, length, map, take, get_or, Option, None, Result, Ok, Err, refl, sym, ap, subst, ◌∙◌, arith, append_assoc, append-nil, length-append}
+use Rattle.std.proofs.Common.{◌≡◌, ℕ, ◌+◌, ◌*◌, ◌<◌, ◌≤◌, All, Bool, true, false, List, [], ◌∷◌, ◌++◌, length, map, take, get_or, Option, None, Result, Ok, Err, refl, sym, ap, subst, ◌∙◌, arith, append_assoc, append-nil, length-append}
 use Rattle.std.proofs.lemmas.List.{map-append, take-append-le, take_more}
 use Rattle.std.proofs.lemmas.List.Elements.{All-take}
 use Rattle.std.proofs.lemmas.Option.{same_Some}
@@ -17,7 +17,11 @@ use Rattle.filt_meaning.specs.declared.scope.Scope.{Scope}
 use Rattle.filt_meaning.specs.declared.scope.TFunction.{TFunction}
 use Rattle.filt_meaning.specs.declared.tree.TFilter.{TFilter}
 use Rattle.filt_meaning.specs.Scopes.{constant_values, function_trees}
+use Rattle.filt_meaning.specs.Steps.{filter_steps}
 use Rattle.filt_meaning.specs.Trees.{AreBefore, tree_flow}
+use Rattle.filt_types.specs.Scenes.{Scene}
+use Rattle.filt_types.specs.Seen.{scene_of}
+use Rattle.filt_types.specs.Weight.{block_weight}
 use Rattle.filt_meaning.specs.declared.fixed.Fixed.{Fixed}
 use Rattle.filt_check.proofs.Growing.{filter_stays, nothing_declared}
 use Rattle.conf_names.specs.declared.refusal.Refusal.{Refusal}
@@ -38,7 +42,7 @@ use Rattle.conf_check.specs.declared.checked.ProtocolBody.TheVariants as bodies
 use Rattle.conf_check.specs.declared.checked.ProtocolDef.{ProtocolDef}
 use Rattle.conf_check.specs.declared.checked.StaticDef.{StaticDef}
 use Rattle.conf_check.specs.Behind.{at_start, behind, behind_one}
-use Rattle.conf_check.specs.Checked.{AreProtocols, DoEach, Does, IsBgp, IsBody, IsChannel, IsChecked, IsOnly, IsPipe, IsPolicy, IsProtocol, IsStatic, NextProtocol, SeesAs, Source, bgp_preference, filter_source, filter_sources, is_protocol, last_export, last_import, last_pipe_export, last_pipe_import, static_preference}
+use Rattle.conf_check.specs.Checked.{AreLight, AreProtocols, DoEach, Does, IsBgp, IsBody, IsChannel, IsChecked, IsOnly, IsPipe, IsPolicy, IsProtocol, IsStatic, NextProtocol, SeesAs, Source, bgp_preference, filter_source, filter_sources, is_protocol, last_export, last_import, last_pipe_export, last_pipe_import, static_preference}
 use Rattle.conf_check.specs.Refused.{IsFault, or_later, refusal_of}
 use Rattle.conf_check.specs.Seen.{Adds, AddsFilter, AddsOne, AddsProtocol, AreWithin, Grows, Lasts, Means, Stands}
 
@@ -209,6 +213,10 @@ lasts_grow text scope after g = λ before ss f h. record {
         ∙ filter_stays around (constant_values scope) g.constants.0 (function_trees scope) g.functions.0 f attrs h.constants h.functions
         ∙ h.does.comes_to around attrs;
     sees = subst (λ (l : List TFunction). AreBefore l f) (sym g.functions.1) (before_grows f.functions f.constants (function_trees scope) g.functions.0 h.functions h.does.sees);
+    steps = λ more.
+        let same : filter_steps (function_trees after ++ more) f ≡ filter_steps (function_trees scope ++ (g.functions.0 ++ more)) f =
+        ap (λ (fs : List TFunction). filter_steps (fs ++ more) f) g.functions.1 ∙ ap (λ (fs : List TFunction). filter_steps fs f) (append_assoc (function_trees scope) g.functions.0 more) in
+        omega (arith, same, h.does.steps (g.functions.0 ++ more));
   };
   constants = omega (arith, h.constants, ap (λ (cs : List Fixed). length cs) g.constants.1, length-append (constant_values scope) g.constants.0);
   functions = omega (arith, h.functions, ap (λ (fs : List TFunction). length fs) g.functions.1, length-append (function_trees scope) g.functions.0);
@@ -218,11 +226,12 @@ lasts_grow text scope after g = λ before ss f h. record {
 all_before : (n m k : ℕ) (fs : List TFunction) → m ≡ k → All (λ (g : TFunction). g.constants ≤ k) fs → All (λ (g : TFunction). g.constants ≤ m) (take n fs)
 all_before n m k fs is all = subst (λ (l : ℕ). All (λ (g : TFunction). g.constants ≤ l) (take n fs)) (sym is) (All-take (λ (g : TFunction). g.constants ≤ k) n fs all)
 
-means_lasts : (text : List ℕ) (scope : Scope) (before : List conf.Declaration) → SeesAs text before scope → AreWithin scope → Weaker (Means text scope) (Lasts text scope before)
-means_lasts text scope before sees within = λ ss f h. record {
+means_lasts : (text : List ℕ) (scope : Scope) (before : List conf.Declaration) → SeesAs text before scope → AreWithin scope → scene_of text scope ≡ (behind (at_start text) before).scene → Weaker (Means text scope) (Lasts text scope before)
+means_lasts text scope before sees within scene = λ ss f h. record {
   does = record {
     comes_to = λ around attrs. h.does around attrs ∙ ap (λ (c : Context). meaning.body c [] ss [] attrs) (sees around);
     sees = all_before f.functions f.constants (length (constant_values scope)) (function_trees scope) h.constants within;
+    steps = λ more. omega (arith, h.steps more, ap (λ (s : Scene). block_weight s ss) scene);
   };
   constants = omega (arith, h.constants);
   functions = omega (arith, h.functions);
@@ -252,7 +261,7 @@ filter_adds_map does other m (conf.Pipe p) xs ys h = h
 pub stands_more : (text : List ℕ) (before : List conf.Declaration) (d : conf.Declaration) (old new : Checked) → Stands text before old → Adds text d old new → Stands text (before ++ d ∷ []) new
 stands_more text before d old new s a =
     let after = new.declared.scope in
-    let weaker : Weaker (Means text old.declared.scope) (Lasts text after before) = λ ss f h. lasts_grow text old.declared.scope after a.declares.grows before ss f (means_lasts text old.declared.scope before s.sees s.within ss f h) in
+    let weaker : Weaker (Means text old.declared.scope) (Lasts text after before) = λ ss f h. lasts_grow text old.declared.scope after a.declares.grows before ss f (means_lasts text old.declared.scope before s.sees s.within (ap (λ (k : Known). k.scene) s.declared) ss f h) in
     record {
       declared = a.declares.known ∙ ap (λ (k : Known). behind_one k d) s.declared ∙ sym (behind_more (at_start text) before d);
       filters = subst (λ (l : List Source). DoEach (Lasts text after) l new.filters.items) (sym (sources_more [] before d))
@@ -266,6 +275,7 @@ stands_more text before d old new s a =
           (subst (λ (k : Known). AddsProtocol k (Means text old.declared.scope) d old.protocols.items new.protocols.items) s.declared a.protocols));
       sees = λ around. a.declares.sees s.within around ∙ ap (λ (c : Context). meaning.behind_one c d) (s.sees around) ∙ sym (meaning_more (meaning.at_start text around) before d);
       within = a.declares.within s.within;
+      light = a.declares.light s.light;
     }
 
 pub stands_checked : (text : List ℕ) (ds : List conf.Declaration) (checked : Checked) → Stands text ds checked → IsChecked text ds checked
@@ -275,6 +285,7 @@ stands_checked text ds checked s = record {
   filters = each_map (Lasts text checked.declared.scope) (Does text checked.declared.scope) (lasts_does text checked.declared.scope) (filter_sources [] ds) checked.filters.items s.filters;
   protocols = protocols_map text (Lasts text checked.declared.scope) (Does text checked.declared.scope) (lasts_does text checked.declared.scope) [] ds checked.protocols.items s.protocols;
   within = s.within;
+  light = s.light;
 }
 
 none_within : (n : ℕ) (fs : List TFunction) → fs ≡ [] → All (λ (f : TFunction). f.constants ≤ n) fs
@@ -287,6 +298,7 @@ stands_start text checked declared filters protocols constants functions = recor
   protocols = subst (λ (l : List ProtocolDef). AreProtocols text (Lasts text checked.declared.scope) [] [] l) (sym protocols) tt;
   sees = λ around. nothing_declared text around checked.declared.scope constants functions;
   within = none_within (length (constant_values checked.declared.scope)) (function_trees checked.declared.scope) (ap (λ l. map (λ e. e.1) l) functions);
+  light = subst AreLight (sym (ap (λ l. map (λ e. e.1) l) functions)) tt;
 }
 
 -- ---- a result with another error

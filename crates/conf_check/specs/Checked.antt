@@ -4,7 +4,7 @@
 -- From: BIRD User's Guide, "Channel options", "BGP", "Static", "Pipe"; some defaults are own.
 -- Example: where nothing is written: `import all`, `export none`, `master4` or `master6`,
 -- preference 200 and 100, limits that disable, MED 0, local preference 100.
-use Rattle.std.specs.Prelude.{◌≡◌, ◌≤◌, ℕ, Bool, true, false, All, List, [], ◌∷◌, ◌++◌, length, map, Option, Some, None, ⊤}
+use Rattle.std.specs.Prelude.{◌≡◌, ◌≤◌, ◌*◌, ℕ, Bool, true, false, All, List, [], ◌∷◌, ◌++◌, length, map, Option, Some, None, ⊤}
 use Rattle.attrs.specs.declared.attributes.Attrs.{Attrs}
 use Rattle.bits_ip.specs.declared.address.Addr.{Addr}
 use Rattle.bits_ip.specs.declared.address.Addr.TheVariants as addrs
@@ -29,7 +29,9 @@ use Rattle.filt_meaning.specs.declared.scope.Scope.{Scope}
 use Rattle.filt_meaning.specs.declared.scope.TFunction.{TFunction}
 use Rattle.filt_meaning.specs.declared.tree.TFilter.{TFilter}
 use Rattle.filt_meaning.specs.Scopes.{constant_values, context_of, function_trees}
+use Rattle.filt_meaning.specs.Steps.{IsLight, filter_steps}
 use Rattle.filt_meaning.specs.Trees.{AreBefore, tree_flow}
+use Rattle.filt_types.specs.Weight.{block_weight}
 use Rattle.conf_rules.specs.Channels.{last_table, settings_of}
 use Rattle.conf_names.specs.Known.{Known, number_of, place_in, table_number, table_of}
 use Rattle.conf_rules.specs.Protocols as rules
@@ -72,13 +74,16 @@ or_v4 (Some family) = family
 -- ---- filters
 
 -- The tree comes to over the scope what the statements come to behind these statements of a
--- configuration.
+-- configuration. It takes five steps for each that they weigh at most, whatever the scope declares
+-- more.
 pub record Does (text : List ℕ) (scope : Scope) (before : List conf.Declaration)
     (ss : Statements) (f : TFilter) : Type 0 where
   pub comes_to : (around : Around) (attrs : Attrs)
       → tree_flow around (constant_values scope) (function_trees scope) f attrs
       ≡ meaning.body (meaning.behind (meaning.at_start text around) before) [] ss [] attrs
   pub sees : AreBefore (function_trees scope) f
+  pub steps : (more : List TFunction) → filter_steps (function_trees scope ++ more) f
+      ≤ 5 * block_weight (behind (at_start text) before).scene ss
 
 -- the scope is seen as the meaning of filters sees the place behind these statements
 abbrev pub SeesAs : List ℕ → List conf.Declaration → Scope → Type 0
@@ -306,6 +311,18 @@ AreProtocols text does before (d ∷ ds) defs =
     (IsProtocol (behind (at_start text) before) (does before) d)
     (AreProtocols text does (before ++ d ∷ []) ds) defs
 
+-- ---- functions
+
+-- Each of these functions takes five steps for each that it weighs at most, where it may call those
+-- before it, whatever is declared behind them.
+abbrev pub AreLightBehind : (before : List TFunction) → List TFunction → Type 0
+AreLightBehind before [] = ⊤
+AreLightBehind before (f ∷ fs) =
+    ((more : List TFunction) → IsLight (before ++ more) f) × AreLightBehind (before ++ f ∷ []) fs
+
+abbrev pub AreLight : List TFunction → Type 0
+AreLight fs = AreLightBehind [] fs
+
 -- ---- the configuration
 
 pub record IsChecked (text : List ℕ) (ds : List conf.Declaration) (checked : Checked)
@@ -320,3 +337,4 @@ pub record IsChecked (text : List ℕ) (ds : List conf.Declaration) (checked : C
   pub within : All
       (λ (g : TFunction). g.constants ≤ length (constant_values checked.declared.scope))
       (function_trees checked.declared.scope)
+  pub light : AreLight (function_trees checked.declared.scope)

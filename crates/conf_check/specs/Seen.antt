@@ -1,6 +1,6 @@
 -- For private contracts alone: what is made of a statement, and what has been made of the
 -- statements so far.
-use Rattle.std.specs.Prelude.{◌≡◌, ℕ, ◌+◌, ◌≤◌, Bool, true, false, List, [], ◌∷◌, ◌++◌, length, map, Option, Some, None, Vec}
+use Rattle.std.specs.Prelude.{◌≡◌, ℕ, ◌+◌, ◌*◌, ◌≤◌, Bool, true, false, List, [], ◌∷◌, ◌++◌, length, map, Option, Some, None, Vec}
 use Rattle.std.specs.Global.{Global}
 use Rattle.std.specs.List.{All, list_any}
 use Rattle.attrs.specs.declared.attributes.Attrs.{Attrs}
@@ -16,7 +16,10 @@ use Rattle.filt_meaning.specs.declared.scope.Scope.{Scope}
 use Rattle.filt_meaning.specs.declared.scope.TFunction.{TFunction}
 use Rattle.filt_meaning.specs.declared.tree.TFilter.{TFilter}
 use Rattle.filt_meaning.specs.Scopes.{constant_values, context_of, function_trees}
+use Rattle.filt_meaning.specs.Steps.{filter_steps}
 use Rattle.filt_meaning.specs.Trees.{tree_flow}
+use Rattle.filt_types.specs.Seen.{scene_of}
+use Rattle.filt_types.specs.Weight.{block_weight}
 use Rattle.filt_meaning.specs.declared.fixed.Fixed.{Fixed}
 use Rattle.conf_names.specs.declared.declared.Declared.{Declared}
 use Rattle.conf_names.specs.Known.{Known}
@@ -25,7 +28,7 @@ use Rattle.conf_rules.specs.Statements.{refusals}
 use Rattle.conf_check.specs.declared.checked.Checked.{Checked}
 use Rattle.conf_check.specs.declared.checked.ProtocolDef.{ProtocolDef}
 use Rattle.conf_check.specs.Behind.{at_start, behind, behind_one}
-use Rattle.conf_check.specs.Checked.{AreProtocols, DoEach, Does, SeesAs, IsProtocol, filter_sources, is_protocol}
+use Rattle.conf_check.specs.Checked.{AreLight, AreProtocols, DoEach, Does, SeesAs, IsProtocol, filter_sources, is_protocol}
 
 -- ---- filters
 
@@ -37,6 +40,8 @@ pub record Means (text : List ℕ) (scope : Scope) (ss : Statements) (f : TFilte
       ≡ meaning.body (context_of text around scope []) [] ss [] attrs
   pub constants : f.constants ≡ length (constant_values scope)
   pub functions : f.functions ≡ length (function_trees scope)
+  pub steps : (more : List TFunction) → filter_steps (function_trees scope ++ more) f
+      ≤ 5 * block_weight (scene_of text scope) ss
 
 -- as `Does`, and it goes on doing so where the scope declares more
 pub record Lasts (text : List ℕ) (scope : Scope) (before : List conf.Declaration)
@@ -103,6 +108,7 @@ pub record Declares (text : List ℕ) (d : conf.Declaration) (old new : Declared
   pub sees : AreWithin old.scope → (around : Around) → context_of text around new.scope []
       ≡ meaning.behind_one (context_of text around old.scope []) d
   pub within : AreWithin old.scope → AreWithin new.scope
+  pub light : AreLight (function_trees old.scope) → AreLight (function_trees new.scope)
 
 -- one comes behind the others, where there is one
 abbrev pub AddsOne : {A : Type 0} → (is_there : Bool) → (A → Type 0) → List A → List A → Type 0
@@ -139,6 +145,7 @@ pub record Stands (text : List ℕ) (before : List conf.Declaration) (checked : 
       checked.protocols.items
   pub sees : SeesAs text before checked.declared.scope
   pub within : AreWithin checked.declared.scope
+  pub light : AreLight (function_trees checked.declared.scope)
 
 -- ---- channels
 

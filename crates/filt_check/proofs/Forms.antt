@@ -35,22 +35,22 @@ use Rattle.filt_meaning.specs.declared.tree.TTest.{TTest}
 use Rattle.filt_meaning.specs.Trees.{Tables, expr, expr_step, exprs, parts, access, access_over, accesses_of, accessed, all_values, chain, joints, stmt, stmt_step, body, assign, arms, arm_of, arm_over, arms_of, in_order, result, test}
 use Rattle.filt_types.proofs.Trees.{by_parts}
 
-of-Value : (A : Type 0) (step : TExpr-F A → A) (v : Fixed) → fold-TExpr A step (te.Value v) ≡ step (map-TExpr TExpr A (fold-TExpr A step) (TExpr-F.Value v))
+pub of-Value : (A : Type 0) (step : TExpr-F A → A) (v : Fixed) → fold-TExpr A step (te.Value v) ≡ step (map-TExpr TExpr A (fold-TExpr A step) (TExpr-F.Value v))
 of-Value A step v = search (rules, expr_lemmas)
 
-of-Constant : (A : Type 0) (step : TExpr-F A → A) (n : ℕ) → fold-TExpr A step (te.Constant n) ≡ step (map-TExpr TExpr A (fold-TExpr A step) (TExpr-F.Constant n))
+pub of-Constant : (A : Type 0) (step : TExpr-F A → A) (n : ℕ) → fold-TExpr A step (te.Constant n) ≡ step (map-TExpr TExpr A (fold-TExpr A step) (TExpr-F.Constant n))
 of-Constant A step n = search (rules, expr_lemmas)
 
-of-Local : (A : Type 0) (step : TExpr-F A → A) (n : ℕ) → fold-TExpr A step (te.Local n) ≡ step (map-TExpr TExpr A (fold-TExpr A step) (TExpr-F.Local n))
+pub of-Local : (A : Type 0) (step : TExpr-F A → A) (n : ℕ) → fold-TExpr A step (te.Local n) ≡ step (map-TExpr TExpr A (fold-TExpr A step) (TExpr-F.Local n))
 of-Local A step n = search (rules, expr_lemmas)
 
-of-Attribute : (A : Type 0) (step : TExpr-F A → A) (a : Attribute) → fold-TExpr A step (te.Attribute a) ≡ step (map-TExpr TExpr A (fold-TExpr A step) (TExpr-F.Attribute a))
+pub of-Attribute : (A : Type 0) (step : TExpr-F A → A) (a : Attribute) → fold-TExpr A step (te.Attribute a) ≡ step (map-TExpr TExpr A (fold-TExpr A step) (TExpr-F.Attribute a))
 of-Attribute A step a = search (rules, expr_lemmas)
 
-of-Defined : (A : Type 0) (step : TExpr-F A → A) (a : Attribute) → fold-TExpr A step (te.Defined a) ≡ step (map-TExpr TExpr A (fold-TExpr A step) (TExpr-F.Defined a))
+pub of-Defined : (A : Type 0) (step : TExpr-F A → A) (a : Attribute) → fold-TExpr A step (te.Defined a) ≡ step (map-TExpr TExpr A (fold-TExpr A step) (TExpr-F.Defined a))
 of-Defined A step a = search (rules, expr_lemmas)
 
-of-Default : (A : Type 0) (step : TExpr-F A → A) (s : Sort) → fold-TExpr A step (te.Default s) ≡ step (map-TExpr TExpr A (fold-TExpr A step) (TExpr-F.Default s))
+pub of-Default : (A : Type 0) (step : TExpr-F A → A) (s : Sort) → fold-TExpr A step (te.Default s) ≡ step (map-TExpr TExpr A (fold-TExpr A step) (TExpr-F.Default s))
 of-Default A step s = search (rules, expr_lemmas)
 
 of-Call : (A : Type 0) (step : TExpr-F A → A) (n : ℕ) (v : Vec TExpr Global) → fold-TExpr A step (te.Call n v) ≡ step (map-TExpr TExpr A (fold-TExpr A step) (TExpr-F.Call n v))
@@ -80,25 +80,25 @@ of-Sum A step a v = search (rules, expr_lemmas)
 of-Compare : (A : Type 0) (step : TExpr-F A → A) (op : CompareOp) (a b : Box TExpr Global) → fold-TExpr A step (te.Compare op a b) ≡ step (map-TExpr TExpr A (fold-TExpr A step) (TExpr-F.Compare op a b))
 of-Compare A step op a b = search (rules, expr_lemmas)
 
-of-Test : (A : Type 0) (step : TExpr-F A → A) (what : TTest) → fold-TExpr A step (te.Test what) ≡ step (map-TExpr TExpr A (fold-TExpr A step) (TExpr-F.Test what))
+pub of-Test : (A : Type 0) (step : TExpr-F A → A) (what : TTest) → fold-TExpr A step (te.Test what) ≡ step (map-TExpr TExpr A (fold-TExpr A step) (TExpr-F.Test what))
 of-Test A step what = search (rules, expr_lemmas)
 
 of-Joint : (A : Type 0) (step : TExpr-F A → A) (a : Box TExpr Global) (v : Vec (LogicalOp × TExpr) Global) → fold-TExpr A step (te.Joint a v) ≡ step (map-TExpr TExpr A (fold-TExpr A step) (TExpr-F.Joint a v))
 of-Joint A step a v = search (rules, expr_lemmas)
 
-of-Stuck : (A : Type 0) (step : TExpr-F A → A) → fold-TExpr A step te.Stuck ≡ step (map-TExpr TExpr A (fold-TExpr A step) TExpr-F.Stuck)
+pub of-Stuck : (A : Type 0) (step : TExpr-F A → A) → fold-TExpr A step te.Stuck ≡ step (map-TExpr TExpr A (fold-TExpr A step) TExpr-F.Stuck)
 of-Stuck A step = search (rules, expr_lemmas)
 
 do-Block : (A : Type 0) (step : TStmt-F A → A) (k : Vec Sort Global) (v : Vec TStmt Global) → fold-TStmt A step (ts.Block k v) ≡ step (map-TStmt TStmt A (fold-TStmt A step) (TStmt-F.Block k v))
 do-Block A step k v = search (rules, stmt_lemmas)
 
-do-Nothing : (A : Type 0) (step : TStmt-F A → A) → fold-TStmt A step ts.Nothing ≡ step (map-TStmt TStmt A (fold-TStmt A step) TStmt-F.Nothing)
+pub do-Nothing : (A : Type 0) (step : TStmt-F A → A) → fold-TStmt A step ts.Nothing ≡ step (map-TStmt TStmt A (fold-TStmt A step) TStmt-F.Nothing)
 do-Nothing A step = search (rules, stmt_lemmas)
 
 do-Assign : (A : Type 0) (step : TStmt-F A → A) (target : TTarget) (x : TExpr) → fold-TStmt A step (ts.Assign target x) ≡ step (map-TStmt TStmt A (fold-TStmt A step) (TStmt-F.Assign target x))
 do-Assign A step target x = search (rules, stmt_lemmas)
 
-do-Unset : (A : Type 0) (step : TStmt-F A → A) (a : Attribute) → fold-TStmt A step (ts.Unset a) ≡ step (map-TStmt TStmt A (fold-TStmt A step) (TStmt-F.Unset a))
+pub do-Unset : (A : Type 0) (step : TStmt-F A → A) (a : Attribute) → fold-TStmt A step (ts.Unset a) ≡ step (map-TStmt TStmt A (fold-TStmt A step) (TStmt-F.Unset a))
 do-Unset A step a = search (rules, stmt_lemmas)
 
 do-If : (A : Type 0) (step : TStmt-F A → A) (x : TExpr) (b : Box TStmt Global) → fold-TStmt A step (ts.If x b) ≡ step (map-TStmt TStmt A (fold-TStmt A step) (TStmt-F.If x b))
@@ -113,10 +113,10 @@ do-Case A step x v w = search (rules, stmt_lemmas)
 do-For : (A : Type 0) (step : TStmt-F A → A) (x : TExpr) (b : Box TStmt Global) → fold-TStmt A step (ts.For x b) ≡ step (map-TStmt TStmt A (fold-TStmt A step) (TStmt-F.For x b))
 do-For A step x b = search (rules, stmt_lemmas)
 
-do-Accept : (A : Type 0) (step : TStmt-F A → A) → fold-TStmt A step ts.Accept ≡ step (map-TStmt TStmt A (fold-TStmt A step) TStmt-F.Accept)
+pub do-Accept : (A : Type 0) (step : TStmt-F A → A) → fold-TStmt A step ts.Accept ≡ step (map-TStmt TStmt A (fold-TStmt A step) TStmt-F.Accept)
 do-Accept A step = search (rules, stmt_lemmas)
 
-do-Reject : (A : Type 0) (step : TStmt-F A → A) → fold-TStmt A step ts.Reject ≡ step (map-TStmt TStmt A (fold-TStmt A step) TStmt-F.Reject)
+pub do-Reject : (A : Type 0) (step : TStmt-F A → A) → fold-TStmt A step ts.Reject ≡ step (map-TStmt TStmt A (fold-TStmt A step) TStmt-F.Reject)
 do-Reject A step = search (rules, stmt_lemmas)
 
 do-Return : (A : Type 0) (step : TStmt-F A → A) (x : Option TExpr) → fold-TStmt A step (ts.Return x) ≡ step (map-TStmt TStmt A (fold-TStmt A step) (TStmt-F.Return x))

@@ -2,10 +2,13 @@ pub mod Acting
 pub mod Forms
 pub mod Gathered
 pub mod Growing
+pub mod Light
+pub mod Loaded
 pub mod Lookups
 pub mod Placed
 pub mod Resolving
 pub mod Sets
+pub mod Taken
 pub mod Tested
 pub mod Told
 pub mod Whole

@@ -128,7 +128,7 @@ around_is around scope = around_stays _ (function_trees scope)
 
 -- ---- look-ups in a scope
 
-is_key : (key : List ℕ) (name : List ℕ) → key ≡ name → (k : Vec ℕ Global) → pointwise nat_eq key k.items ≡ same_name k.items name
+pub is_key : (key : List ℕ) (name : List ℕ) → key ≡ name → (k : Vec ℕ Global) → pointwise nat_eq key k.items ≡ same_name k.items name
 is_key key name is k = ap (λ (n : List ℕ). pointwise nat_eq n k.items) is ∙ nat_list_eq_equiv.symm name k.items
 
 pub constant_found : (text : List ℕ) (around : Around) (scope : Scope) (variables : List (List ℕ)) (name : Name) (key : List ℕ) (r : Option ℕ) → key ≡ name_bytes text name → r ≡ position (λ (k : Vec ℕ Global). pointwise nat_eq key k.items) (keys_of scope.constants.entries)

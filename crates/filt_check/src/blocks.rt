@@ -1,15 +1,22 @@
 // Statements from names to places.
 
-ghost use Rattle.std.specs.Prelude.{◌≡◌, [], ◌∷◌, IfOk};
+ghost use Rattle.std.specs.Prelude.{◌≡◌, ◌+◌, ◌*◌, [], ◌∷◌, length, IfOk};
 ghost use Rattle.conf_ast.specs.Names.{name_bytes};
 ghost use Rattle.conf_ast.specs.Filters.{Braced, expression_of, statement_of, statements_of};
-ghost use Rattle.filt_meaning.specs.Meaning.{act, acts, all_declared, cases, choice, loop, nothing};
-ghost use Rattle.filt_meaning.specs.Meaning.{value, within};
+ghost use Rattle.filt_meaning.specs.Meaning.{act, acts, all_declared, cases, choice, declared, loop};
+ghost use Rattle.filt_meaning.specs.Meaning.{nothing, value, within};
 ghost use Rattle.filt_meaning.specs.Names.{Around, with_variables};
 ghost use Rattle.filt_meaning.specs.Scopes.{context_of, tables_of};
 ghost use Rattle.filt_meaning.specs.Trees as trees;
+ghost use Rattle.filt_meaning.specs.Steps.{arms_steps, body_steps, run_steps, stmt_steps};
+ghost use Rattle.filt_types.specs.Seen.{scene_of};
+ghost use Rattle.filt_types.specs.Walk.{arms_of};
+ghost use Rattle.filt_types.specs.Weight.{act_weight, acts_weight, arms_weight, weight};
+ghost use Rattle.filt_rules.specs.Passes.{else_of};
 ghost use Rattle.filt_check.specs.Seen.{names_of, sorts_in, acts_in, arm_seen, arms_seen, arm_in};
 ghost use Rattle.filt_check.specs.Seen.{arms_in, otherwise_in, picked};
+ghost use Rattle.filt_check.specs.Seen.{arm_declares, arms_declare, otherwise_declares};
+ghost use Rattle.filt_check.specs.Steps.{Takes};
 
 use crate::collect::{collect_all, sorts_of, with_declared, with_name};
 use crate::items::set_of;
@@ -36,9 +43,12 @@ pub(crate) fn resolve_statement<'a>(
     names: &[&'a [u8]],
     s: &Stmt,
 ) -> Result<TStmt, OutOfMemory>
-    ensures { IfOk result (λ x. (around : Around) → trees.stmt x (tables_of around scope.now)
+    ensures meaning { IfOk result (λ x. (around : Around) → trees.stmt x (tables_of around scope.now)
         ≡ act (statement_of s.now)
         (context_of text.now around scope.now (names_of names.now))) }
+    ensures steps { IfOk result (λ x. Takes scope.now (λ called. 2 + length (declared
+        text.now (statement_of s.now)) + stmt_steps called x) (act_weight (scene_of
+        text.now scope.now) (statement_of s.now))) }
 {
     match s {
         Stmt::Block(body) => braced(alloc, text, scope, names, body),
@@ -86,9 +96,12 @@ fn boxed<'a>(
     names: &[&'a [u8]],
     s: &Stmt,
 ) -> Result<Box<TStmt>, OutOfMemory>
-    ensures { IfOk result (λ b. (around : Around) → trees.stmt b.value (tables_of around scope.now)
+    ensures meaning { IfOk result (λ b. (around : Around) → trees.stmt b.value (tables_of around scope.now)
         ≡ act (statement_of s.now)
         (context_of text.now around scope.now (names_of names.now))) }
+    ensures steps { IfOk result (λ b. Takes scope.now (λ called. 2 + length (declared
+        text.now (statement_of s.now)) + stmt_steps called b.value) (act_weight (scene_of
+        text.now scope.now) (statement_of s.now))) }
 {
     let x = resolve_statement(alloc, text, scope, names, s)?;
     Ok(Box::new(alloc, x)?)
@@ -112,6 +125,9 @@ pub(crate) fn resolve_block<'a>(
         ≡ acts (statements_of body.now)
         (within (context_of text.now around scope.now (names_of names.now))
         (all_declared text.now (statements_of body.now)))) }
+    ensures steps { IfOk result (λ b. Takes scope.now (λ called. run_steps called
+        b.sorts.items b.body.items) (acts_weight (scene_of text.now scope.now)
+        (statements_of body.now))) }
 {
     let mut declared = Vec::new(alloc);
     collect_all(text, body, &mut declared)?;
@@ -129,9 +145,11 @@ fn braced<'a>(
     names: &[&'a [u8]],
     body: &[Stmt],
 ) -> Result<TStmt, OutOfMemory>
-    ensures { IfOk result (λ x. (around : Around) → trees.stmt x (tables_of around scope.now)
+    ensures meaning { IfOk result (λ x. (around : Around) → trees.stmt x (tables_of around scope.now)
         ≡ act (Braced (statements_of body.now))
         (context_of text.now around scope.now (names_of names.now))) }
+    ensures steps { IfOk result (λ x. Takes scope.now (λ called. 2 + stmt_steps called x)
+        (1 + acts_weight (scene_of text.now scope.now) (statements_of body.now))) }
 {
     let block = resolve_block(alloc, text, scope, names, body)?;
     Ok(TStmt::Block(block.sorts, block.body))
@@ -145,9 +163,12 @@ fn resolve_all<'a>(
     names: &[&'a [u8]],
     body: &[Stmt],
 ) -> Result<Vec<TStmt>, OutOfMemory>
-    ensures { IfOk result (λ v. (around : Around)
+    ensures meaning { IfOk result (λ v. (around : Around)
         → trees.stmts (tables_of around scope.now) v.items
         ≡ acts_in (context_of text.now around scope.now (names_of names.now)) body.now) }
+    ensures steps { IfOk result (λ v. Takes scope.now (λ called. length (all_declared
+        text.now (statements_of body.now)) + body_steps called v.items) (acts_weight
+        (scene_of text.now scope.now) (statements_of body.now))) }
 {
     let mut all = Vec::new(alloc);
     for s in body {
@@ -167,11 +188,15 @@ fn if_then<'a>(
     e: &Expr,
     first: &Stmt,
 ) -> Result<TStmt, OutOfMemory>
-    ensures { IfOk result (λ x. (around : Around) → trees.stmt x (tables_of around scope.now)
+    ensures meaning { IfOk result (λ x. (around : Around) → trees.stmt x (tables_of around scope.now)
         ≡ choice
         (value (expression_of e.now) (context_of text.now around scope.now (names_of names.now)))
         (act (statement_of first.now) (context_of text.now around scope.now (names_of names.now)))
         nothing) }
+    ensures steps { IfOk result (λ x. Takes scope.now (λ called. 2 + length (declared
+        text.now (statement_of first.now)) + stmt_steps called x) (1 + weight (scene_of
+        text.now scope.now) (expression_of e.now) + act_weight (scene_of text.now
+        scope.now) (statement_of first.now))) }
 {
     let a = boxed(alloc, text, scope, names, first)?;
     let x = resolve(alloc, text, scope, names, e)?;
@@ -188,12 +213,17 @@ fn if_else<'a>(
     first: &Stmt,
     second: &Stmt,
 ) -> Result<TStmt, OutOfMemory>
-    ensures { IfOk result (λ x. (around : Around) → trees.stmt x (tables_of around scope.now)
+    ensures meaning { IfOk result (λ x. (around : Around) → trees.stmt x (tables_of around scope.now)
         ≡ choice
         (value (expression_of e.now) (context_of text.now around scope.now (names_of names.now)))
         (act (statement_of first.now) (context_of text.now around scope.now (names_of names.now)))
         (act (statement_of second.now)
         (context_of text.now around scope.now (names_of names.now)))) }
+    ensures steps { IfOk result (λ x. Takes scope.now (λ called. 2 + length (declared
+        text.now (statement_of first.now)) + length (declared text.now (statement_of
+        second.now)) + stmt_steps called x) (1 + weight (scene_of text.now scope.now)
+        (expression_of e.now) + act_weight (scene_of text.now scope.now) (statement_of
+        first.now) + act_weight (scene_of text.now scope.now) (statement_of second.now))) }
 {
     let a = boxed(alloc, text, scope, names, first)?;
     let b = boxed(alloc, text, scope, names, second)?;
@@ -211,12 +241,17 @@ fn case<'a>(
     arms: &[Arm<Stmt>],
     otherwise: &Option<Vec<Stmt>>,
 ) -> Result<TStmt, OutOfMemory>
-    ensures { IfOk result (λ x. (around : Around) → trees.stmt x (tables_of around scope.now)
+    ensures meaning { IfOk result (λ x. (around : Around) → trees.stmt x (tables_of around scope.now)
         ≡ cases
         (value (expression_of e.now) (context_of text.now around scope.now (names_of names.now)))
         (picked (arms_in (context_of text.now around scope.now (names_of names.now)) arms.now)
         (otherwise_in (context_of text.now around scope.now (names_of names.now))
         otherwise.now))) }
+    ensures steps { IfOk result (λ x. Takes scope.now (λ called. 2 + length (arms_declare
+        text.now arms.now) + length (otherwise_declares text.now otherwise.now) +
+        stmt_steps called x) (1 + weight (scene_of text.now scope.now) (expression_of
+        e.now) + arms_weight (scene_of text.now scope.now) (arms_of arms.now) +
+        acts_weight (scene_of text.now scope.now) (else_of otherwise.now))) }
 {
     let b = resolve_otherwise(alloc, text, scope, names, otherwise)?;
     let a = resolve_arms(alloc, text, scope, names, arms)?;
@@ -232,10 +267,13 @@ fn resolve_otherwise<'a>(
     names: &[&'a [u8]],
     otherwise: &Option<Vec<Stmt>>,
 ) -> Result<Vec<TStmt>, OutOfMemory>
-    ensures { IfOk result (λ v. (around : Around)
+    ensures meaning { IfOk result (λ v. (around : Around)
         → trees.body (tables_of around scope.now) v.items
         ≡ otherwise_in (context_of text.now around scope.now (names_of names.now))
         otherwise.now) }
+    ensures steps { IfOk result (λ v. Takes scope.now (λ called. length
+        (otherwise_declares text.now otherwise.now) + body_steps called v.items)
+        (acts_weight (scene_of text.now scope.now) (else_of otherwise.now))) }
 {
     match otherwise {
         None => Ok(Vec::new(alloc)),
@@ -251,9 +289,12 @@ fn resolve_arm<'a>(
     names: &[&'a [u8]],
     arm: &Arm<Stmt>,
 ) -> Result<TArm<TStmt>, OutOfMemory>
-    ensures { IfOk result (λ x. (around : Around)
+    ensures meaning { IfOk result (λ x. (around : Around)
         → arm_seen (tables_of around scope.now) x
         ≡ arm_in (context_of text.now around scope.now (names_of names.now)) arm.now) }
+    ensures steps { IfOk result (λ x. Takes scope.now (λ called. length (arm_declares
+        text.now arm.now) + body_steps called x.body.items) (acts_weight (scene_of
+        text.now scope.now) (statements_of arm.now.body.items))) }
 {
     let body = resolve_all(alloc, text, scope, names, &arm.body)?;
     let labels = set_of(alloc, text, scope, &arm.labels)?;
@@ -268,9 +309,12 @@ fn resolve_arms<'a>(
     names: &[&'a [u8]],
     arms: &[Arm<Stmt>],
 ) -> Result<Vec<TArm<TStmt>>, OutOfMemory>
-    ensures { IfOk result (λ v. (around : Around)
+    ensures meaning { IfOk result (λ v. (around : Around)
         → arms_seen (tables_of around scope.now) v.items
         ≡ arms_in (context_of text.now around scope.now (names_of names.now)) arms.now) }
+    ensures steps { IfOk result (λ v. Takes scope.now (λ called. length (arms_declare
+        text.now arms.now) + arms_steps called v.items) (arms_weight (scene_of text.now
+        scope.now) (arms_of arms.now))) }
 {
     let mut all = Vec::new(alloc);
     for arm in arms {
@@ -292,12 +336,16 @@ fn each<'a>(
     list: &Expr,
     body: &Stmt,
 ) -> Result<TStmt, OutOfMemory>
-    ensures { IfOk result (λ x. (around : Around) → trees.stmt x (tables_of around scope.now)
+    ensures meaning { IfOk result (λ x. (around : Around) → trees.stmt x (tables_of around scope.now)
         ≡ loop
         (value (expression_of list.now) (context_of text.now around scope.now (names_of names.now)))
         (act (statement_of body.now)
         (with_variables (context_of text.now around scope.now (names_of names.now))
         (name_bytes text.now name.now ∷ [])))) }
+    ensures steps { IfOk result (λ x. Takes scope.now (λ called. 2 + length (declared
+        text.now (statement_of body.now)) + stmt_steps called x) (1 + weight (scene_of
+        text.now scope.now) (expression_of list.now) + 120 * act_weight (scene_of text.now
+        scope.now) (statement_of body.now))) }
 {
     let inner = with_name(alloc, names, name.bytes(text))?;
     let a = boxed(alloc, text, scope, &inner, body)?;

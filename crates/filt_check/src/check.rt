@@ -1,12 +1,15 @@
 // The public calls. Each asks for the first refusal, and resolves what has none.
 
-ghost use Rattle.std.specs.Prelude.{◌≡◌, [], length, None, IfOk, MatchResult};
+ghost use Rattle.std.specs.Prelude.{◌≡◌, ◌≤◌, ◌+◌, ◌*◌, ◌++◌, [], ℕ, List, length, None, IfOk};
+ghost use Rattle.std.specs.Prelude.{MatchResult};
 ghost use Rattle.attrs.specs.declared.attributes.Attrs.{Attrs};
 ghost use Rattle.conf_ast.specs.Configurations.{routine_of};
 ghost use Rattle.conf_ast.specs.Filters.{block_of, expression_of, statements_of};
 ghost use Rattle.filt_meaning.specs.Configuration.{body, doing, filter_where};
 ghost use Rattle.filt_meaning.specs.Names.{Around};
 ghost use Rattle.filt_meaning.specs.Scopes.{constant_values, context_of, function_trees, tables_of};
+ghost use Rattle.filt_meaning.specs.Steps.{IsLight, body_steps, called_by, expr_steps, filter_steps, run_steps};
+ghost use Rattle.filt_meaning.specs.declared.scope.TFunction.{TFunction};
 ghost use Rattle.filt_meaning.specs.Trees as trees;
 ghost use Rattle.filt_meaning.specs.Trees.{tree_flow};
 ghost use Rattle.filt_types.specs.Refusals.{first_in};
@@ -54,6 +57,12 @@ pub fn check_filter(
         attrs) }
     ensures sees { IfOk result (λ f. (f.constants ≡ length (constant_values scope.now))
         × (f.functions ≡ length (function_trees scope.now))) }
+    ensures steps { IfOk result (λ f. (more : List TFunction)
+        → filter_steps (function_trees scope.now ++ more) f
+        ≤ 5 * block_weight (scene_of text.now scope.now)
+        (block_of filter.now.block)) }
+    ensures light { IfOk result (λ f. (more : List TFunction)
+        → filter_steps (function_trees scope.now ++ more) f ≤ 50000000) }
 {
     check_block(alloc, text, scope, filter.name.at, &filter.block)
 }
@@ -79,6 +88,12 @@ pub fn check_block(
         ≡ body (context_of text.now around scope.now []) [] (block_of block.now) [] attrs) }
     ensures sees { IfOk result (λ f. (f.constants ≡ length (constant_values scope.now))
         × (f.functions ≡ length (function_trees scope.now))) }
+    ensures steps { IfOk result (λ f. (more : List TFunction)
+        → filter_steps (function_trees scope.now ++ more) f
+        ≤ 5 * block_weight (scene_of text.now scope.now)
+        (block_of block.now)) }
+    ensures light { IfOk result (λ f. (more : List TFunction)
+        → filter_steps (function_trees scope.now ++ more) f ≤ 50000000) }
 {
     match first_in_block(alloc, text, scope, at, block)? {
         Some(refusal) => Err(fault(refusal, weigh_block(text, scope, block))),
@@ -99,6 +114,10 @@ pub fn resolve_filter(
         attrs) }
     ensures sees { IfOk result (λ f. (f.constants ≡ length (constant_values scope.now))
         × (f.functions ≡ length (function_trees scope.now))) }
+    ensures steps { IfOk result (λ f. (more : List TFunction)
+        → filter_steps (function_trees scope.now ++ more) f
+        ≤ 5 * block_weight (scene_of text.now scope.now)
+        (statements_of statements.now)) }
 {
     let block = resolve_block(alloc, text, scope, &[], statements)?;
     Ok(TFilter {
@@ -135,6 +154,12 @@ pub fn check_expr(
         (filter_where (expression_of condition.now)) [] attrs) }
     ensures sees { IfOk result (λ f. (f.constants ≡ length (constant_values scope.now))
         × (f.functions ≡ length (function_trees scope.now))) }
+    ensures steps { IfOk result (λ f. (more : List TFunction)
+        → filter_steps (function_trees scope.now ++ more) f
+        ≤ 5 * block_weight (scene_of text.now scope.now)
+        (filter_where (expression_of condition.now))) }
+    ensures light { IfOk result (λ f. (more : List TFunction)
+        → filter_steps (function_trees scope.now ++ more) f ≤ 50000000) }
 {
     match first_in_condition(text, scope, at, condition) {
         Some(refusal) => Err(fault(refusal, weigh_condition(text, scope, condition))),
@@ -143,8 +168,10 @@ pub fn check_expr(
 }
 
 fn where_body(alloc: Global, condition: TExpr) -> Result<Vec<TStmt>, OutOfMemory>
-    ensures { IfOk result (λ v. (tables : trees.Tables) → trees.body tables v.items
+    ensures meaning { IfOk result (λ v. (tables : trees.Tables) → trees.body tables v.items
         ≡ where_act (trees.expr condition tables)) }
+    ensures steps { IfOk result (λ v. (called : ℕ → ℕ) → body_steps called v.items ≡ 3 +
+        expr_steps called condition) }
 {
     let accept = Box::new(alloc, TStmt::Accept)?;
     let mut body = Vec::new(alloc);
@@ -166,6 +193,10 @@ pub fn resolve_condition(
         (filter_where (expression_of condition.now)) [] attrs) }
     ensures sees { IfOk result (λ f. (f.constants ≡ length (constant_values scope.now))
         × (f.functions ≡ length (function_trees scope.now))) }
+    ensures steps { IfOk result (λ f. (more : List TFunction)
+        → filter_steps (function_trees scope.now ++ more) f
+        ≤ 5 * block_weight (scene_of text.now scope.now)
+        (filter_where (expression_of condition.now))) }
 {
     let x = resolve(alloc, text, scope, &[], condition)?;
     let body = where_body(alloc, x)?;
@@ -201,6 +232,8 @@ pub fn check_function(
         → trees.function (tables_of around scope.now) f
         ≡ doing (context_of text.now around scope.now []) (routine_of function.now)) }
     ensures sees { IfOk result (λ f. f.constants ≡ length (constant_values scope.now)) }
+    ensures light { IfOk result (λ f. (more : List TFunction)
+        → IsLight (function_trees scope.now ++ more) f) }
 {
     match first_in_function(alloc, text, scope, function)? {
         Some(refusal) => Err(fault(refusal, weigh_block(text, scope, &function.block))),
@@ -221,6 +254,9 @@ pub fn resolve_function(
         → trees.function (tables_of around scope.now) f
         ≡ doing (context_of text.now around scope.now []) (routine_of function.now)) }
     ensures sees { IfOk result (λ f. f.constants ≡ length (constant_values scope.now)) }
+    ensures steps { IfOk result (λ f. (more : List TFunction)
+        → run_steps (called_by (function_trees scope.now ++ more)) f.sorts.items f.body.items
+        ≤ 5 * block_weight (scene_of text.now scope.now) (block_of function.now.block)) }
 {
     let names = parameter_names(alloc, text, &function.parameters)?;
     let parameters = parameter_sorts(alloc, &function.parameters)?;

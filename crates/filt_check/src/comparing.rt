@@ -1,9 +1,10 @@
 //! Comparisons of what a route holds with what a filter says, as trees without boxes.
 
-ghost use Rattle.std.specs.Prelude.{◌≡◌, ◌∷◌, [], IfSome, Ok};
+ghost use Rattle.std.specs.Prelude.{◌≡◌, ◌≤◌, ◌+◌, ◌∷◌, [], ℕ, IfSome, Ok};
 ghost use Rattle.filt_meaning.specs.Meaning.{attribute, compare_of, given, on_two};
 ghost use Rattle.filt_meaning.specs.declared.tree.TAccess.TheVariants as accesses;
 ghost use Rattle.filt_meaning.specs.Trees as trees;
+ghost use Rattle.filt_meaning.specs.Steps.{expr_steps};
 ghost use Rattle.filt_meaning.specs.Trees.{Tables};
 ghost use Rattle.filt_meaning.specs.Operators.{pair_of};
 ghost use Rattle.filt_meaning.specs.Values.{VInt, VPair};
@@ -13,8 +14,10 @@ use filt_meaning::{Fixed, TAccess, TExpr, TTest};
 
 /// The comparison of two operands.
 pub(crate) fn comparison(op: CompareOp, left: Box<TExpr>, right: Box<TExpr>) -> TExpr
-    ensures { (t : Tables) → trees.expr result t
+    ensures meaning { (t : Tables) → trees.expr result t
         ≡ on_two (trees.expr left.value t) (trees.expr right.value t) (compare_of op) }
+    ensures steps { (called : ℕ → ℕ) → expr_steps called result ≤ 3 + expr_steps called
+        left.value + expr_steps called right.value }
 {
     match test(op, &left, &right) {
         Some(test) => TExpr::Test(test),

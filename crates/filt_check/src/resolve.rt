@@ -1,7 +1,7 @@
 // Expressions from names to places. What stands for nothing is `Stuck`, so that a tree comes of
 // each expression, whatever its types.
 
-ghost use Rattle.std.specs.Prelude.{◌≡◌, List, ℕ, IfOk, Ok, take, drop};
+ghost use Rattle.std.specs.Prelude.{◌≡◌, ◌≤◌, ◌+◌, ◌*◌, List, ℕ, IfOk, Ok, take, drop, map};
 ghost use Rattle.conf_ast.specs.Filters.{expression_of};
 ghost use Rattle.filt_meaning.specs.Meaning.{value, plain, given, on_two, called_value, factor_of};
 ghost use Rattle.filt_meaning.specs.Meaning.{term_of};
@@ -15,8 +15,16 @@ ghost use Rattle.filt_meaning.specs.Trees as trees;
 ghost use Rattle.filt_meaning.specs.Trees.{Tables};
 ghost use Rattle.filt_meaning.specs.Operators.{pair_of};
 ghost use Rattle.filt_meaning.specs.Seen.{val_of_fixed};
+ghost use Rattle.filt_meaning.specs.declared.scope.TFunction.{TFunction};
+ghost use Rattle.filt_meaning.specs.Steps.{expr_steps, exprs_steps, sum_over};
+ghost use Rattle.filt_types.specs.Seen.{scene_of};
+ghost use Rattle.filt_types.specs.Scenes as scenes;
+ghost use Rattle.filt_types.specs.Weight.{of_function, weight};
+ghost use Rattle.filt_rules.specs.Passes.{access_weight};
 ghost use Rattle.filt_meaning.specs.Values.{VString};
 ghost use Rattle.filt_check.specs.Seen.{names_of, access_in, accesses_in, values_in, parts_in};
+ghost use Rattle.filt_check.specs.Steps.{Takes, calls, dot_steps, dots_steps, dots_weight, given_weight};
+ghost use Rattle.filt_check.specs.Steps.{parts_steps, parts_weight};
 
 use crate::comparing::comparison;
 use crate::items::{mask_of, set_of};
@@ -50,17 +58,19 @@ fn constant_value(constant: Constant) -> Fixed
 }
 
 fn text_value(alloc: Global, text: &[u8], start: usize, len: usize) -> Result<TExpr, OutOfMemory>
-    ensures { IfOk result (λ x. (tables : Tables) → trees.expr x tables
+    ensures meaning { IfOk result (λ x. (tables : Tables) → trees.expr x tables
         ≡ given (Ok (VString (take len (drop start text.now))))) }
+    ensures steps { IfOk result (λ x. (called : ℕ → ℕ) → expr_steps called x ≡ 1) }
 {
     let bytes = Vec::from_slice(alloc, bytes_at(text, start, len))?;
     Ok(TExpr::Value(Fixed::String(bytes)))
 }
 
 fn simple(alloc: Global, text: &[u8], word: &Atom) -> Result<TExpr, OutOfMemory>
-    ensures { IfOk result (λ x. (around : Around) (scope : Scope) (variables : List (List ℕ))
+    ensures meaning { IfOk result (λ x. (around : Around) (scope : Scope) (variables : List (List ℕ))
         → trees.expr x (tables_of around scope)
         ≡ plain word.now (context_of text.now around scope variables)) }
+    ensures steps { IfOk result (λ x. (called : ℕ → ℕ) → expr_steps called x ≡ 1) }
 {
     match word {
         Atom::Number { value, .. } => Ok(TExpr::Value(Fixed::Int(*value))),
@@ -79,7 +89,8 @@ fn simple(alloc: Global, text: &[u8], word: &Atom) -> Result<TExpr, OutOfMemory>
 // ---- sets and masks
 
 fn set_value(set: Labels) -> TExpr
-    ensures { (tables : Tables) → trees.expr result tables ≡ given (trees.set_of_labels set) }
+    ensures meaning { (tables : Tables) → trees.expr result tables ≡ given (trees.set_of_labels set) }
+    ensures steps { (called : ℕ → ℕ) → expr_steps called result ≡ 1 }
 {
     match set {
         Labels::Ints(ints) => TExpr::Value(Fixed::IntSet(ints)),
@@ -90,18 +101,20 @@ fn set_value(set: Labels) -> TExpr
 }
 
 fn set(alloc: Global, text: &[u8], scope: &Scope, items: &[Item]) -> Result<TExpr, OutOfMemory>
-    ensures { IfOk result (λ x. (around : Around) (variables : List (List ℕ))
+    ensures meaning { IfOk result (λ x. (around : Around) (variables : List (List ℕ))
         → trees.expr x (tables_of around scope.now)
         ≡ given (set_of (context_of text.now around scope.now variables) items.now)) }
+    ensures steps { IfOk result (λ x. (called : ℕ → ℕ) → expr_steps called x ≡ 1) }
 {
     let labels = set_of(alloc, text, scope, items)?;
     Ok(set_value(labels))
 }
 
 fn mask(alloc: Global, text: &[u8], scope: &Scope, items: &[MaskItem]) -> Result<TExpr, OutOfMemory>
-    ensures { IfOk result (λ x. (around : Around) (variables : List (List ℕ))
+    ensures meaning { IfOk result (λ x. (around : Around) (variables : List (List ℕ))
         → trees.expr x (tables_of around scope.now)
         ≡ given (mask_of (context_of text.now around scope.now variables) items.now)) }
+    ensures steps { IfOk result (λ x. (called : ℕ → ℕ) → expr_steps called x ≡ 1) }
 {
     match mask_of(alloc, text, scope, items)? {
         Some(mask) => Ok(TExpr::Value(Fixed::Mask(mask))),
@@ -112,10 +125,13 @@ fn mask(alloc: Global, text: &[u8], scope: &Scope, items: &[MaskItem]) -> Result
 // ---- calls
 
 fn called(text: &[u8], scope: &Scope, name: &Name, arguments: Vec<TExpr>) -> TExpr
-    ensures { (around : Around) (variables : List (List ℕ))
+    ensures meaning { (around : Around) (variables : List (List ℕ))
         → trees.expr result (tables_of around scope.now)
         ≡ called_value (function_of (context_of text.now around scope.now variables) name.now)
         (trees.all_values (trees.exprs (tables_of around scope.now) arguments.items)) }
+    ensures steps { (more : List TFunction) → expr_steps (calls scope.now more) result ≤ 2
+        + exprs_steps (calls scope.now more) arguments.items + 5 * of_function
+        (scenes.function_of (scene_of text.now scope.now) name.now) }
 {
     match function(text, scope, name) {
         Some(number) => TExpr::Call(number, arguments),
@@ -134,9 +150,11 @@ pub(crate) fn resolve(
     names: &[&[u8]],
     e: &Expr,
 ) -> Result<TExpr, OutOfMemory>
-    ensures { IfOk result (λ x. (around : Around) → trees.expr x (tables_of around scope.now)
+    ensures meaning { IfOk result (λ x. (around : Around) → trees.expr x (tables_of around scope.now)
         ≡ value (expression_of e.now)
         (context_of text.now around scope.now (names_of names.now))) }
+    ensures steps { IfOk result (λ x. Takes scope.now (λ called. 1 + expr_steps called x)
+        (weight (scene_of text.now scope.now) (expression_of e.now))) }
 {
     match e {
         Expr::Atom(word) => simple(alloc, text, word),
@@ -180,9 +198,11 @@ pub(crate) fn boxed(
     names: &[&[u8]],
     e: &Expr,
 ) -> Result<Box<TExpr>, OutOfMemory>
-    ensures { IfOk result (λ b. (around : Around) → trees.expr b.value (tables_of around scope.now)
+    ensures meaning { IfOk result (λ b. (around : Around) → trees.expr b.value (tables_of around scope.now)
         ≡ value (expression_of e.now)
         (context_of text.now around scope.now (names_of names.now))) }
+    ensures steps { IfOk result (λ b. Takes scope.now (λ called. 1 + expr_steps called
+        b.value) (weight (scene_of text.now scope.now) (expression_of e.now))) }
 {
     let x = resolve(alloc, text, scope, names, e)?;
     Ok(Box::new(alloc, x)?)
@@ -197,12 +217,15 @@ fn pair(
     first: &Expr,
     second: &Expr,
 ) -> Result<TExpr, OutOfMemory>
-    ensures { IfOk result (λ x. (around : Around) → trees.expr x (tables_of around scope.now)
+    ensures meaning { IfOk result (λ x. (around : Around) → trees.expr x (tables_of around scope.now)
         ≡ on_two
         (value (expression_of first.now)
         (context_of text.now around scope.now (names_of names.now)))
         (value (expression_of second.now)
         (context_of text.now around scope.now (names_of names.now))) pair_of) }
+    ensures steps { IfOk result (λ x. Takes scope.now (λ called. 1 + expr_steps called x)
+        (1 + weight (scene_of text.now scope.now) (expression_of first.now) + weight
+        (scene_of text.now scope.now) (expression_of second.now))) }
 {
     let a = boxed(alloc, text, scope, names, first)?;
     let b = boxed(alloc, text, scope, names, second)?;
@@ -219,12 +242,15 @@ fn method_of(
     list: &Expr,
     argument: &Expr,
 ) -> Result<TExpr, OutOfMemory>
-    ensures { IfOk result (λ x. (around : Around) → trees.expr x (tables_of around scope.now)
+    ensures meaning { IfOk result (λ x. (around : Around) → trees.expr x (tables_of around scope.now)
         ≡ on_two
         (value (expression_of list.now)
         (context_of text.now around scope.now (names_of names.now)))
         (value (expression_of argument.now)
         (context_of text.now around scope.now (names_of names.now))) (meaning.method_of kind)) }
+    ensures steps { IfOk result (λ x. Takes scope.now (λ called. 1 + expr_steps called x)
+        (1 + weight (scene_of text.now scope.now) (expression_of list.now) + weight
+        (scene_of text.now scope.now) (expression_of argument.now))) }
 {
     let a = boxed(alloc, text, scope, names, list)?;
     let b = boxed(alloc, text, scope, names, argument)?;
@@ -241,12 +267,15 @@ fn compare(
     left: &Expr,
     right: &Expr,
 ) -> Result<TExpr, OutOfMemory>
-    ensures { IfOk result (λ x. (around : Around) → trees.expr x (tables_of around scope.now)
+    ensures meaning { IfOk result (λ x. (around : Around) → trees.expr x (tables_of around scope.now)
         ≡ on_two
         (value (expression_of left.now)
         (context_of text.now around scope.now (names_of names.now)))
         (value (expression_of right.now)
         (context_of text.now around scope.now (names_of names.now))) (meaning.compare_of op)) }
+    ensures steps { IfOk result (λ x. Takes scope.now (λ called. 1 + expr_steps called x)
+        (1 + weight (scene_of text.now scope.now) (expression_of left.now) + weight
+        (scene_of text.now scope.now) (expression_of right.now))) }
 {
     let a = boxed(alloc, text, scope, names, left)?;
     let b = boxed(alloc, text, scope, names, right)?;
@@ -262,9 +291,12 @@ pub(crate) fn resolve_all(
     names: &[&[u8]],
     given: &[Expr],
 ) -> Result<Vec<TExpr>, OutOfMemory>
-    ensures { IfOk result (λ v. (around : Around)
+    ensures meaning { IfOk result (λ v. (around : Around)
         → trees.exprs (tables_of around scope.now) v.items
         ≡ values_in (context_of text.now around scope.now (names_of names.now)) given.now) }
+    ensures steps { IfOk result (λ v. Takes scope.now (λ called. sum_over 1 (map
+        (expr_steps called) v.items)) (given_weight (scene_of text.now scope.now)
+        given.now)) }
 {
     let mut all = Vec::new(alloc);
     for e in given {
@@ -284,11 +316,14 @@ fn access(
     operand: &Expr,
     more: &[Access<Expr>],
 ) -> Result<TExpr, OutOfMemory>
-    ensures { IfOk result (λ x. (around : Around) → trees.expr x (tables_of around scope.now)
+    ensures meaning { IfOk result (λ x. (around : Around) → trees.expr x (tables_of around scope.now)
         ≡ trees.accessed
         (value (expression_of operand.now)
         (context_of text.now around scope.now (names_of names.now)))
         (accesses_in (context_of text.now around scope.now (names_of names.now)) more.now)) }
+    ensures steps { IfOk result (λ x. Takes scope.now (λ called. 1 + expr_steps called x)
+        (weight (scene_of text.now scope.now) (expression_of operand.now) + dots_weight
+        (scene_of text.now scope.now) more.now)) }
 {
     let a = boxed(alloc, text, scope, names, operand)?;
     let accesses = resolve_accesses(alloc, text, scope, names, more)?;
@@ -303,9 +338,11 @@ fn resolve_access(
     names: &[&[u8]],
     access: &Access<Expr>,
 ) -> Result<TAccess<TExpr>, OutOfMemory>
-    ensures { IfOk result (λ x. (around : Around)
+    ensures meaning { IfOk result (λ x. (around : Around)
         → trees.access (tables_of around scope.now) x
         ≡ access_in (context_of text.now around scope.now (names_of names.now)) access.now) }
+    ensures steps { IfOk result (λ x. Takes scope.now (λ called. 1 + dot_steps called x)
+        (access_weight (scene_of text.now scope.now) access.now)) }
 {
     match access {
         Access::Property(property) => Ok(TAccess::Property(*property)),
@@ -328,9 +365,11 @@ fn resolve_accesses(
     names: &[&[u8]],
     more: &[Access<Expr>],
 ) -> Result<Vec<TAccess<TExpr>>, OutOfMemory>
-    ensures { IfOk result (λ v. (around : Around)
+    ensures meaning { IfOk result (λ v. (around : Around)
         → trees.accesses_of (tables_of around scope.now) v.items
         ≡ accesses_in (context_of text.now around scope.now (names_of names.now)) more.now) }
+    ensures steps { IfOk result (λ v. Takes scope.now (λ called. dots_steps called
+        v.items) (dots_weight (scene_of text.now scope.now) more.now)) }
 {
     let mut all = Vec::new(alloc);
     for access in more {
@@ -348,11 +387,14 @@ fn product(
     operand: &Expr,
     more: &[(MulOp, Expr)],
 ) -> Result<TExpr, OutOfMemory>
-    ensures { IfOk result (λ x. (around : Around) → trees.expr x (tables_of around scope.now)
+    ensures meaning { IfOk result (λ x. (around : Around) → trees.expr x (tables_of around scope.now)
         ≡ trees.chain factor_of
         (value (expression_of operand.now)
         (context_of text.now around scope.now (names_of names.now)))
         (parts_in (context_of text.now around scope.now (names_of names.now)) more.now)) }
+    ensures steps { IfOk result (λ x. Takes scope.now (λ called. 1 + expr_steps called x)
+        (weight (scene_of text.now scope.now) (expression_of operand.now) + parts_weight
+        (scene_of text.now scope.now) more.now)) }
 {
     let a = boxed(alloc, text, scope, names, operand)?;
     let factors = resolve_factors(alloc, text, scope, names, more)?;
@@ -367,9 +409,11 @@ fn resolve_factors(
     names: &[&[u8]],
     more: &[(MulOp, Expr)],
 ) -> Result<Vec<(MulOp, TExpr)>, OutOfMemory>
-    ensures { IfOk result (λ v. (around : Around)
+    ensures meaning { IfOk result (λ v. (around : Around)
         → trees.parts (tables_of around scope.now) v.items
         ≡ parts_in (context_of text.now around scope.now (names_of names.now)) more.now) }
+    ensures steps { IfOk result (λ v. Takes scope.now (λ called. parts_steps 1 called
+        v.items) (parts_weight (scene_of text.now scope.now) more.now)) }
 {
     let mut all = Vec::new(alloc);
     for x in more {
@@ -388,11 +432,14 @@ fn sum(
     operand: &Expr,
     more: &[(AddOp, Expr)],
 ) -> Result<TExpr, OutOfMemory>
-    ensures { IfOk result (λ x. (around : Around) → trees.expr x (tables_of around scope.now)
+    ensures meaning { IfOk result (λ x. (around : Around) → trees.expr x (tables_of around scope.now)
         ≡ trees.chain term_of
         (value (expression_of operand.now)
         (context_of text.now around scope.now (names_of names.now)))
         (parts_in (context_of text.now around scope.now (names_of names.now)) more.now)) }
+    ensures steps { IfOk result (λ x. Takes scope.now (λ called. 1 + expr_steps called x)
+        (weight (scene_of text.now scope.now) (expression_of operand.now) + parts_weight
+        (scene_of text.now scope.now) more.now)) }
 {
     let a = boxed(alloc, text, scope, names, operand)?;
     let terms = resolve_terms(alloc, text, scope, names, more)?;
@@ -407,9 +454,11 @@ fn resolve_terms(
     names: &[&[u8]],
     more: &[(AddOp, Expr)],
 ) -> Result<Vec<(AddOp, TExpr)>, OutOfMemory>
-    ensures { IfOk result (λ v. (around : Around)
+    ensures meaning { IfOk result (λ v. (around : Around)
         → trees.parts (tables_of around scope.now) v.items
         ≡ parts_in (context_of text.now around scope.now (names_of names.now)) more.now) }
+    ensures steps { IfOk result (λ v. Takes scope.now (λ called. parts_steps 1 called
+        v.items) (parts_weight (scene_of text.now scope.now) more.now)) }
 {
     let mut all = Vec::new(alloc);
     for x in more {
@@ -428,11 +477,14 @@ fn joint(
     operand: &Expr,
     more: &[(LogicalOp, Expr)],
 ) -> Result<TExpr, OutOfMemory>
-    ensures { IfOk result (λ x. (around : Around) → trees.expr x (tables_of around scope.now)
+    ensures meaning { IfOk result (λ x. (around : Around) → trees.expr x (tables_of around scope.now)
         ≡ trees.joints
         (value (expression_of operand.now)
         (context_of text.now around scope.now (names_of names.now)))
         (parts_in (context_of text.now around scope.now (names_of names.now)) more.now)) }
+    ensures steps { IfOk result (λ x. Takes scope.now (λ called. 1 + expr_steps called x)
+        (weight (scene_of text.now scope.now) (expression_of operand.now) + parts_weight
+        (scene_of text.now scope.now) more.now)) }
 {
     let a = boxed(alloc, text, scope, names, operand)?;
     let others = resolve_joints(alloc, text, scope, names, more)?;
@@ -447,9 +499,11 @@ fn resolve_joints(
     names: &[&[u8]],
     more: &[(LogicalOp, Expr)],
 ) -> Result<Vec<(LogicalOp, TExpr)>, OutOfMemory>
-    ensures { IfOk result (λ v. (around : Around)
+    ensures meaning { IfOk result (λ v. (around : Around)
         → trees.parts (tables_of around scope.now) v.items
         ≡ parts_in (context_of text.now around scope.now (names_of names.now)) more.now) }
+    ensures steps { IfOk result (λ v. Takes scope.now (λ called. parts_steps 2 called
+        v.items) (parts_weight (scene_of text.now scope.now) more.now)) }
 {
     let mut all = Vec::new(alloc);
     for x in more {

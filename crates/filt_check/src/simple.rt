@@ -1,6 +1,6 @@
 // Statements without statements in them, from names to places.
 
-ghost use Rattle.std.specs.Prelude.{◌≡◌, IfOk, Some, option_map};
+ghost use Rattle.std.specs.Prelude.{◌≡◌, ◌+◌, ℕ, IfOk, Some, option_map};
 ghost use Rattle.conf_ast.specs.Filters.{expression_of, changed};
 ghost use Rattle.conf_ast.specs.declared.filters.Target.TheVariants as targets;
 ghost use Rattle.filt_meaning.specs.Meaning as meaning;
@@ -11,7 +11,12 @@ ghost use Rattle.filt_meaning.specs.Names.{Around, function_of};
 ghost use Rattle.filt_meaning.specs.declared.scope.Scope.{Scope};
 ghost use Rattle.filt_meaning.specs.Scopes.{context_of, tables_of};
 ghost use Rattle.filt_meaning.specs.Trees as trees;
+ghost use Rattle.filt_meaning.specs.Steps.{expr_steps, stmt_steps};
+ghost use Rattle.filt_types.specs.Seen.{scene_of};
+ghost use Rattle.filt_types.specs.Scenes as scenes;
+ghost use Rattle.filt_types.specs.Weight.{act_weight, of_function, optional, weight};
 ghost use Rattle.filt_check.specs.Seen.{names_of, values_in};
+ghost use Rattle.filt_check.specs.Steps.{Takes, given_weight};
 
 use crate::names::{function, named, place};
 use crate::resolve::{boxed, resolve, resolve_all};
@@ -46,8 +51,9 @@ fn target_place(text: &[u8], names: &[&[u8]], target: &Target) -> TTarget
 
 /// What the target holds.
 fn target_value(text: &[u8], scope: &Scope, names: &[&[u8]], target: &Target) -> TExpr
-    ensures { (around : Around) → trees.expr result (tables_of around scope.now)
+    ensures meaning { (around : Around) → trees.expr result (tables_of around scope.now)
         ≡ value (read target.now) (context_of text.now around scope.now (names_of names.now)) }
+    ensures steps { (called : ℕ → ℕ) → expr_steps called result ≡ 1 }
 {
     match target {
         Target::Name(name) => named(text, scope, names, name),
@@ -67,11 +73,13 @@ pub(crate) fn declare(
     name: &Name,
     first: &Option<Expr>,
 ) -> Result<TStmt, OutOfMemory>
-    ensures { IfOk result (λ x. (around : Around) → trees.stmt x (tables_of around scope.now)
+    ensures meaning { IfOk result (λ x. (around : Around) → trees.stmt x (tables_of around scope.now)
         ≡ assign (context_of text.now around scope.now (names_of names.now))
         (targets.Name name.now)
         (initial variable_type (option_map expression_of first.now)
         (context_of text.now around scope.now (names_of names.now)))) }
+    ensures steps { IfOk result (λ x. Takes scope.now (λ called. 3 + stmt_steps called x)
+        (1 + optional (scene_of text.now scope.now) (option_map expression_of first.now))) }
 {
     match first {
         None => {
@@ -93,10 +101,12 @@ pub(crate) fn assign(
     target: &Target,
     e: &Expr,
 ) -> Result<TStmt, OutOfMemory>
-    ensures { IfOk result (λ x. (around : Around) → trees.stmt x (tables_of around scope.now)
+    ensures meaning { IfOk result (λ x. (around : Around) → trees.stmt x (tables_of around scope.now)
         ≡ assign (context_of text.now around scope.now (names_of names.now)) target.now
         (value (expression_of e.now)
         (context_of text.now around scope.now (names_of names.now)))) }
+    ensures steps { IfOk result (λ x. Takes scope.now (λ called. 2 + stmt_steps called x)
+        (1 + weight (scene_of text.now scope.now) (expression_of e.now))) }
 {
     let x = resolve(alloc, text, scope, names, e)?;
     Ok(TStmt::Assign(target_place(text, names, target), x))
@@ -112,12 +122,14 @@ fn change_by(
     kind: MethodKind,
     argument: &Expr,
 ) -> Result<TStmt, OutOfMemory>
-    ensures { IfOk result (λ x. (around : Around) → trees.stmt x (tables_of around scope.now)
+    ensures meaning { IfOk result (λ x. (around : Around) → trees.stmt x (tables_of around scope.now)
         ≡ assign (context_of text.now around scope.now (names_of names.now)) target.now
         (on_two
         (value (read target.now) (context_of text.now around scope.now (names_of names.now)))
         (value (expression_of argument.now)
         (context_of text.now around scope.now (names_of names.now))) (meaning.method_of kind))) }
+    ensures steps { IfOk result (λ x. Takes scope.now (λ called. 2 + stmt_steps called x)
+        (1 + weight (scene_of text.now scope.now) (expression_of argument.now))) }
 {
     let held = Box::new(alloc, target_value(text, scope, names, target))?;
     let given = boxed(alloc, text, scope, names, argument)?;
@@ -135,11 +147,13 @@ fn clear(
     names: &[&[u8]],
     target: &Target,
 ) -> Result<TStmt, OutOfMemory>
-    ensures { IfOk result (λ x. (around : Around) → trees.stmt x (tables_of around scope.now)
+    ensures meaning { IfOk result (λ x. (around : Around) → trees.stmt x (tables_of around scope.now)
         ≡ assign (context_of text.now around scope.now (names_of names.now)) target.now
         (on_value
         (value (read target.now) (context_of text.now around scope.now (names_of names.now)))
         emptied_of)) }
+    ensures steps { IfOk result (λ x. Takes scope.now (λ called. 2 + stmt_steps called x)
+        (1)) }
 {
     let held = Box::new(alloc, target_value(text, scope, names, target))?;
     Ok(TStmt::Assign(target_place(text, names, target), TExpr::Empty(held)))
@@ -153,9 +167,11 @@ pub(crate) fn change(
     target: &Target,
     change: &Change,
 ) -> Result<TStmt, OutOfMemory>
-    ensures { IfOk result (λ x. (around : Around) → trees.stmt x (tables_of around scope.now)
+    ensures meaning { IfOk result (λ x. (around : Around) → trees.stmt x (tables_of around scope.now)
         ≡ act (changed target.now change.now)
         (context_of text.now around scope.now (names_of names.now))) }
+    ensures steps { IfOk result (λ x. Takes scope.now (λ called. 2 + stmt_steps called x)
+        (act_weight (scene_of text.now scope.now) (changed target.now change.now))) }
 {
     match change {
         Change::Empty => clear(alloc, text, scope, names, target),
@@ -176,9 +192,11 @@ pub(crate) fn returned(
     names: &[&[u8]],
     given: &Option<Expr>,
 ) -> Result<TStmt, OutOfMemory>
-    ensures { IfOk result (λ x. (around : Around) → trees.stmt x (tables_of around scope.now)
+    ensures meaning { IfOk result (λ x. (around : Around) → trees.stmt x (tables_of around scope.now)
         ≡ meaning.result (option_map expression_of given.now)
         (context_of text.now around scope.now (names_of names.now))) }
+    ensures steps { IfOk result (λ x. Takes scope.now (λ called. 2 + stmt_steps called x)
+        (1 + optional (scene_of text.now scope.now) (option_map expression_of given.now))) }
 {
     match given {
         None => Ok(TStmt::Return(None)),
@@ -196,9 +214,11 @@ pub(crate) fn print(
     names: &[&[u8]],
     given: &[Expr],
 ) -> Result<TStmt, OutOfMemory>
-    ensures { IfOk result (λ x. (around : Around) → trees.stmt x (tables_of around scope.now)
+    ensures meaning { IfOk result (λ x. (around : Around) → trees.stmt x (tables_of around scope.now)
         ≡ evaluate (trees.all_values
         (values_in (context_of text.now around scope.now (names_of names.now)) given.now))) }
+    ensures steps { IfOk result (λ x. Takes scope.now (λ called. 2 + stmt_steps called x)
+        (1 + given_weight (scene_of text.now scope.now) given.now)) }
 {
     let all = resolve_all(alloc, text, scope, names, given)?;
     Ok(TStmt::Print(all))
@@ -213,11 +233,14 @@ pub(crate) fn called(
     name: &Name,
     given: &[Expr],
 ) -> Result<TStmt, OutOfMemory>
-    ensures { IfOk result (λ x. (around : Around) → trees.stmt x (tables_of around scope.now)
+    ensures meaning { IfOk result (λ x. (around : Around) → trees.stmt x (tables_of around scope.now)
         ≡ evaluate (call
         (function_of (context_of text.now around scope.now (names_of names.now)) name.now)
         (trees.all_values
         (values_in (context_of text.now around scope.now (names_of names.now)) given.now)))) }
+    ensures steps { IfOk result (λ x. Takes scope.now (λ called. 2 + stmt_steps called x)
+        (1 + given_weight (scene_of text.now scope.now) given.now + of_function
+        (scenes.function_of (scene_of text.now scope.now) name.now))) }
 {
     let arguments = resolve_all(alloc, text, scope, names, given)?;
     match function(text, scope, name) {

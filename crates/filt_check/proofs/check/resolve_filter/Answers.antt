@@ -1,4 +1,4 @@
-use Rattle.std.proofs.Common.{ℕ, sym, ◌∙◌, Vec}
+use Rattle.std.proofs.Common.{ℕ, sym, ◌∙◌, Vec, arith}
 use Rattle.std.specs.Global.{Global}
 use Rattle.filt_meaning.specs.declared.fixed.Fixed.{Fixed}
 use Rattle.filt_meaning.specs.declared.scope.TFunction.{TFunction}
@@ -11,3 +11,6 @@ pub returns-clause-meaning : goal.returns-clause-meaning
 returns-clause-meaning c = λ around attrs. filter_same c.args.text.now around c.args.scope.now (statements_of c.args.statements.now)
     (record { constants = c.len.result; functions = c.len-2.result; sorts = c.in_ok-block.block.sorts; body = c.in_ok-block.block.body }) attrs
     (c.len.ensures.len ∙ sym (mapped_length (λ (e : Vec ℕ Global × Fixed). e.1) c.args.scope.now.constants.entries)) (c.len-2.ensures.len ∙ sym (mapped_length (λ (e : Vec ℕ Global × TFunction). e.1) c.args.scope.now.functions.entries)) c.in_ok-block.ensures.sorts (c.in_ok-block.ensures.body around)
+
+pub returns-clause-steps : goal.returns-clause-steps
+returns-clause-steps c = λ more. omega (arith, c.in_ok-block.ensures.steps more)

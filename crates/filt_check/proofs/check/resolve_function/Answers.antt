@@ -1,4 +1,4 @@
-use Rattle.std.proofs.Common.{ℕ, List, ap, sym, ◌∙◌, Vec, Bor}
+use Rattle.std.proofs.Common.{ℕ, List, ap, sym, ◌∙◌, Vec, Bor, arith}
 use Rattle.std.specs.Global.{Global}
 use Rattle.filt_meaning.specs.declared.fixed.Fixed.{Fixed}
 use Rattle.conf_ast.specs.declared.filters.Parameter.{Parameter}
@@ -9,6 +9,8 @@ use Rattle.filt_meaning.specs.Configuration.{parameter_names}
 use Rattle.filt_meaning.specs.Meaning.{acts, all_declared, within}
 use Rattle.filt_meaning.specs.Scopes.{context_of}
 use Rattle.filt_check.specs.Seen.{names_of, sorts_in}
+use Rattle.filt_types.specs.Seen.{scene_of}
+use Rattle.filt_types.specs.Weight.{acts_weight}
 use Rattle.filt_check.proofs.Lookups.{mapped_length}
 use Rattle.filt_check.proofs.Whole.{function_same}
 use Rattle.filt_check.proofs.check.resolve_function.Goals as goal
@@ -23,3 +25,6 @@ returns-clause-meaning c = λ around. function_same c.args.text.now around c.arg
     (c.in_ok-block.ensures.body around
     ∙ ap (λ (ss : List Stmt). acts (statements_of ss) (within (context_of c.args.text.now around c.args.scope.now (names_of c.deref-3.result.now)) (all_declared c.args.text.now (statements_of ss)))) c.deref-4.ensures.value
     ∙ ap (λ (ns : List (Bor (List ℕ))). acts (statements_of c.args.function.now.block.statements.items) (within (context_of c.args.text.now around c.args.scope.now (names_of ns)) (all_declared c.args.text.now (statements_of c.args.function.now.block.statements.items)))) c.deref-3.ensures.value)
+
+pub returns-clause-steps : goal.returns-clause-steps
+returns-clause-steps c = λ more. omega (arith, c.in_ok-block.ensures.steps more, ap (λ (ss : List Stmt). acts_weight (scene_of c.args.text.now c.args.scope.now) (statements_of ss)) c.deref-4.ensures.value)

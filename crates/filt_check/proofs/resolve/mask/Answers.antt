@@ -5,11 +5,18 @@ use Rattle.filt_meaning.specs.Values.{VMask}
 use Rattle.filt_meaning.specs.Meaning.{given}
 use Rattle.filt_meaning.specs.Names.{there}
 use Rattle.filt_meaning.specs.Scopes.{tables_of}
+use Rattle.filt_check.proofs.Taken as w
 use Rattle.filt_check.proofs.Forms as f
 use Rattle.filt_check.proofs.resolve.mask.Goals as goal
 
-pub returns-in-Some : goal.returns-in-Some
-returns-in-Some c = λ around variables. f.expr-Value (fixed.Mask c.in-Some.mask) (tables_of around c.args.scope.now) ∙ ap given (ap (λ (o : Option (List MaskItem)). there (option_map (λ m. VMask m) o)) (sym c.in-Some.is) ∙ c.in_ok-mask.ensures around variables)
+pub returns-in-Some-clause-meaning : goal.returns-in-Some-clause-meaning
+returns-in-Some-clause-meaning c = λ around variables. f.expr-Value (fixed.Mask c.in-Some.mask) (tables_of around c.args.scope.now) ∙ ap given (ap (λ (o : Option (List MaskItem)). there (option_map (λ m. VMask m) o)) (sym c.in-Some.is) ∙ c.in_ok-mask.ensures around variables)
 
-pub returns-in-None : goal.returns-in-None
-returns-in-None c = λ around variables. f.expr-Stuck (tables_of around c.args.scope.now) ∙ ap given (ap (λ (o : Option (List MaskItem)). there (option_map (λ m. VMask m) o)) (sym c.in-None.is) ∙ c.in_ok-mask.ensures around variables)
+pub returns-in-None-clause-meaning : goal.returns-in-None-clause-meaning
+returns-in-None-clause-meaning c = λ around variables. f.expr-Stuck (tables_of around c.args.scope.now) ∙ ap given (ap (λ (o : Option (List MaskItem)). there (option_map (λ m. VMask m) o)) (sym c.in-None.is) ∙ c.in_ok-mask.ensures around variables)
+
+pub returns-in-Some-clause-steps : goal.returns-in-Some-clause-steps
+returns-in-Some-clause-steps c = λ called. w.steps-Value called (fixed.Mask c.in-Some.mask)
+
+pub returns-in-None-clause-steps : goal.returns-in-None-clause-steps
+returns-in-None-clause-steps c = λ called. w.steps-Stuck called
