@@ -1,5 +1,5 @@
 -- What the code of filters comes to and says.
-use Rattle.std.proofs.Common.{◌≡◌, ◌∙◌, sym, ap, subst, refl, ℕ, zero, suc, ◌+◌, ◌<◌, ◌≤◌, nat_lt, All, List, [], ◌∷◌, ◌++◌, Option, Some, get_or, length, map, take, arith}
+use Rattle.std.proofs.Common.{◌≡◌, ◌∙◌, sym, ap, subst, refl, ℕ, zero, suc, ◌+◌, ◌<◌, ◌≤◌, nat_lt, All, List, [], ◌∷◌, ◌++◌, Option, Some, get_or, length, map, take, append-nil, arith}
 use Rattle.std.proofs.Math.Path.{fun_ext}
 use Rattle.std.proofs.lemmas.Bool.{ltb-true}
 use Rattle.std.proofs.lemmas.List.{map-append, take_more}
@@ -10,12 +10,13 @@ use Rattle.attrs.specs.declared.attributes.Attrs.{Attrs}
 use Rattle.filt_code.specs.Codes.{IsNeverStuck, code_flow}
 use Rattle.filt_code.specs.declared.code.Draft.{Draft}
 use Rattle.filt_code.specs.declared.code.Routine.{Routine}
-use Rattle.filt_compile.specs.Compiles.{AreCompiled, CostTheirSteps, CostsItsSteps, draft_cost}
+use Rattle.conf_check.specs.Checked as checks
+use Rattle.filt_compile.specs.Compiles.{AreCompiled, AreLight, CostTheirSteps, CostsItsSteps, draft_cost}
 use Rattle.filt_compile.proofs.Compiling.{filter_costs}
 use Rattle.filt_meaning.specs.Configuration.{around_route, verdict_of}
 use Rattle.filt_meaning.specs.Flow.{Flow, Frame, Stopped, Stuck}
 use Rattle.filt_meaning.specs.Names.{Around}
-use Rattle.filt_meaning.specs.Steps.{filter_steps}
+use Rattle.filt_meaning.specs.Steps.{IsLight, filter_steps}
 use Rattle.filt_meaning.specs.Scopes.{constant_values, function_trees}
 use Rattle.filt_meaning.specs.Trees.{AreBefore, tree_flow}
 use Rattle.filt_meaning.specs.declared.scope.Scope.{Scope}
@@ -140,6 +141,11 @@ drafts_cost functions drafts new draft fs i f below item grown are own = λ tree
     subst (λ (l : List Draft). All (λ (d : Draft). draft_cost functions d ≤ most) l) (sym grown)
     (All-push (λ (d : Draft). draft_cost functions d ≤ most) drafts draft (are trees theirs light most all) more)
 
+-- functions that take few steps whatever is declared behind them do so by themselves
+pub light_over : (before fs : List TFunction) → checks.AreLightBehind before fs → AreLight before fs
+light_over before [] h = tt
+light_over before (f ∷ fs) h = (subst (λ (l : List TFunction). IsLight l f) (append-nil before) (h.0 []), light_over (before ++ f ∷ []) fs h.1)
+
 -- ---- all code
 
 -- what is owed of the code of filters
@@ -155,11 +161,14 @@ has_code held code constants ts rs fs ordered cs are same filters compiled all t
     let owed : CompilesAll (constant_values scope) code.functions.items held.checked.filters.items code.filters.items =
     subst (λ (l : List TFilter). CompilesAll (constant_values scope) code.functions.items l code.filters.items) filters
     (subst (λ (l : List Routine). CompilesAll (constant_values scope) l fs code.filters.items) same (subst (λ (l : List Fixed). CompilesAll l rs fs code.filters.items) cs all)) in
+    let took : CostTheirSteps (function_trees scope) code.functions.items = subst (λ (l : List TFunction). CostTheirSteps l code.functions.items) are theirs in
     record {
       ordered = ordered;
       functions = done;
       filters = owed (function_trees scope) done (λ k f below. (ordered.filters k f below).before);
-      functions_cost = subst (λ (l : List TFunction). CostTheirSteps l code.functions.items) are theirs;
-      filters_cost = subst (λ (l : List TFilter). CostTheirFilters code.functions.items l code.filters.items) filters
-          (subst (λ (l : List Routine). CostTheirFilters l fs code.filters.items) same each);
+      functions_cost = took;
+      filters_cost =
+          (subst (λ (l : List TFilter). CostTheirFilters code.functions.items l code.filters.items) filters
+          (subst (λ (l : List Routine). CostTheirFilters l fs code.filters.items) same each))
+          (function_trees scope) took (light_over [] (function_trees scope) ordered.light) 50000000 (λ k f below. (ordered.filters k f below).light);
     }

@@ -1,6 +1,6 @@
--- In an accepted configuration each filter sees only functions that were declared before it, and is
--- never stuck.
-use Rattle.std.proofs.Common.{◌≡◌, ◌∙◌, ap, sym, ℕ, ◌≤◌, All, Contains, List, [], ◌∷◌, ◌++◌, Option, None, Result, Bool, true, false, append_assoc, refl, length, take, subst, arith}
+-- In an accepted configuration each filter sees only functions that were declared before it, is never
+-- stuck, and takes few steps.
+use Rattle.std.proofs.Common.{◌≡◌, ◌∙◌, ap, sym, ℕ, ◌≤◌, ◌*◌, All, Contains, List, [], ◌∷◌, ◌++◌, Option, None, Result, Bool, true, false, append_assoc, append-nil, refl, length, take, subst, arith}
 use Rattle.std.proofs.lemmas.List.Elements.{All-cons, All-take}
 use Rattle.std.specs.Prelude.{IfOk, IfSome}
 use Rattle.attrs.specs.declared.attributes.Attrs.{Attrs}
@@ -14,6 +14,7 @@ use Rattle.filt_meaning.specs.Flow.{Stopped, Stuck}
 use Rattle.filt_meaning.specs.Names.{Around, Context}
 use Rattle.filt_types.specs.Refused.{of_filter}
 use Rattle.filt_meaning.specs.Scopes.{constant_values, context_of, function_trees}
+use Rattle.filt_meaning.specs.Steps.{filter_steps}
 use Rattle.filt_meaning.specs.Trees.{AreBefore, tree_flow}
 use Rattle.filt_meaning.specs.declared.scope.Scope.{Scope}
 use Rattle.filt_meaning.specs.declared.scope.TFunction.{TFunction}
@@ -22,6 +23,7 @@ use Rattle.filt_types.specs.Refusals.{first_in}
 use Rattle.filt_types.specs.Scenes.{Scene}
 use Rattle.filt_types.specs.Seen.{scene_of}
 use Rattle.filt_types.specs.Statements.{in_filter}
+use Rattle.filt_types.specs.Weight.{block_weight}
 use Rattle.conf_names.specs.Known.{Known}
 use Rattle.conf_rules.specs.Protocols.{bgp_channels, static_channels}
 use Rattle.conf_check.specs.Behind.{at_start, behind}
@@ -48,13 +50,25 @@ use Rattle.conf_system.proofs.Named.{named_written}
 abbrev pub AreNeverStuck : List ℕ → List conf.Declaration → Type 0
 AreNeverStuck text all = (before : List conf.Declaration) (ss : Statements) → IsWritten all before ss → (around : Around) (attrs after : Attrs) → body (context_behind text around before) [] ss [] attrs ≡ Stopped Stuck after → ⊥
 
+-- None of them is too heavy.
+abbrev pub AreShort : List ℕ → List conf.Declaration → Type 0
+AreShort text all = (before : List conf.Declaration) (ss : Statements) → IsWritten all before ss → block_weight (scene_behind text before) ss ≤ 10000000
+
+-- what a filter takes over functions behind which there are none
+alone : (fs : List TFunction) (f : TFilter) (most : ℕ) → ((more : List TFunction) → filter_steps (fs ++ more) f ≤ most) → filter_steps fs f ≤ most
+alone fs f most h = subst (λ (l : List TFunction). filter_steps l f ≤ most) (append-nil fs) (h [])
+
 -- ---- policies
 
-module _ (text : List ℕ) (held : Held) (all : List conf.Declaration) (safe : AreNeverStuck text all) where
+module _ (text : List ℕ) (held : Held) (all : List conf.Declaration) (safe : AreNeverStuck text all) (short : AreShort text all) where
   does_run : (before : List conf.Declaration) (ss : Statements) (f : TFilter) → IsWritten all before ss → Does text held.checked.declared.scope before ss f → IsBefore held f
   does_run before ss f w is = record {
     before = is.sees;
     never_stuck = λ around attrs after e. safe before ss w around attrs after (sym (is.comes_to around attrs) ∙ e);
+    light =
+        let scope = held.checked.declared.scope in
+        let own : filter_steps (function_trees scope) f ≤ 5 * block_weight (scene_behind text before) ss = alone (function_trees scope) f (5 * block_weight (scene_behind text before) ss) is.steps in
+        omega (arith, own, short before ss w);
   }
 
   module _ (known : Known) (before : List conf.Declaration) where
@@ -148,14 +162,15 @@ typed text ds held is agree own around =
     (subst (λ (s : Scene). Agrees s (context_of text around scope [])) (ap (λ (k : Known). k.scene) (sym is.declared))
     (subst (λ (c : Context). Agrees (scene_behind text ds) c) (sym (is.scope around)) (agree around)))
 
-pub ordered : (text : List ℕ) (ds : List conf.Declaration) (held : Held) → IsChecked text ds held.checked → AreNeverStuck text ds → Agree text ds → AreOrdered held
-ordered text ds held is safe agree = record {
+pub ordered : (text : List ℕ) (ds : List conf.Declaration) (held : Held) → IsChecked text ds held.checked → AreNeverStuck text ds → AreShort text ds → Agree text ds → AreOrdered held
+ordered text ds held is safe short agree = record {
   functions = is.within;
   typed = typed text ds held is agree;
-  filters = filters_before text held ds safe (filter_sources [] ds) held.checked.filters.items
+  light = is.light;
+  filters = filters_before text held ds safe short (filter_sources [] ds) held.checked.filters.items
       (weaker (λ (s : Source). Contains (filter_sources [] ds) s) (λ (s : Source). IsWritten ds s.0 s.1) (named_written ds) (filter_sources [] ds) (members (filter_sources [] ds)))
       is.filters;
-  protocols = protocols_before text held ds safe [] ds held.checked.protocols.items refl is.protocols;
+  protocols = protocols_before text held ds safe short [] ds held.checked.protocols.items refl is.protocols;
 }
 
 -- ---- conditions
@@ -172,13 +187,15 @@ NeverStuck = (scene : Scene) (c : Context) → Agrees scene c → (ss : Statemen
 
 pub checked_before : NeverStuck → (text : List ℕ) (scope : Scope) (e : Expression) (f : TFilter) → AreWithin scope → IsTyped scope
     → first_in None (of_filter (scene_of text scope) 0 (filter_where e)) ≡ None → f.constants ≡ length (constant_values scope)
-    → ((around : Around) (attrs : Attrs) → tree_flow around (constant_values scope) (function_trees scope) f attrs ≡ body (context_of text around scope []) [] (filter_where e) [] attrs) → CanRun scope f
-checked_before law text scope e f within types none is does = record {
+    → ((around : Around) (attrs : Attrs) → tree_flow around (constant_values scope) (function_trees scope) f attrs ≡ body (context_of text around scope []) [] (filter_where e) [] attrs)
+    → ((more : List TFunction) → filter_steps (function_trees scope ++ more) f ≤ 50000000) → CanRun scope f
+checked_before law text scope e f within types none is does light = record {
   before = within_before scope f within is;
   never_stuck = λ around attrs after stuck.
       law (scene_of text scope) (context_of text around scope []) (types text around) (filter_where e)
       (condition_fine (scene_of text scope) 0 (filter_where e) (none_left (of_filter (scene_of text scope) 0 (filter_where e)) none)).0
       attrs after (sym (does around attrs) ∙ stuck);
+  light = alone (function_trees scope) f 50000000 light;
 }
 
 pub answered_before : (held : Held) (r : Result (Option TFilter) OutOfMemory) → (AreWithin held.checked.declared.scope → IsTyped held.checked.declared.scope → IfOk r (λ answer. IfSome answer (CanRun held.checked.declared.scope))) → AreOrdered held → IfOk r (λ answer. IfSome answer (IsBefore held))

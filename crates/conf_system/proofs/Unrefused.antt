@@ -41,6 +41,12 @@ module _
       of_one (IsFine (scene_behind text before)) (filters_in w.0) ss
       (written_fine (behind (at_start text) before) w.0 (refused text ds before w.1 w.0 e w.2)) w.3
 
+  -- and none is too heavy
+  pub weighs : (text : List ℕ) (ds before : List conf.Declaration) (ss : Statements)
+      → refusal_of (at_start text) ds ≡ None → IsWritten ds before ss
+      → block_weight (scene_behind text before) ss ≤ 10000000
+  weighs text ds before ss e w = (fine text ds before ss e w).1
+
   -- what holds of each filter of which nothing is refused
   pub holds : (P : Context → Statements → Type 0)
       → ((scene : Scene) (c : Context) → Agrees scene c → (ss : Statements)

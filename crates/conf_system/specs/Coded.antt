@@ -1,8 +1,9 @@
 -- For conditions of calls: that filters can run, since they see only functions that were declared
--- before them and are never stuck (`AreOrdered`), which is so of each accepted configuration, and
--- that code is that of what is held (`HasCode`), and costs no more than what is held takes.
+-- before them, are never stuck and take 50,000,000 steps at most (`AreOrdered`), which is so of each
+-- accepted configuration, and that code is that of what is held and costs no more (`HasCode`).
 -- From: own.
 use Rattle.std.specs.Prelude.{◌≡◌, ◌≤◌, ℕ, All, List, [], length, map, ⊤}
+use Rattle.conf_check.specs.Checked as checks
 use Rattle.conf_check.specs.declared.checked.ChannelDef.{ChannelDef}
 use Rattle.conf_check.specs.declared.checked.PolicyDef.{PolicyDef}
 use Rattle.conf_check.specs.declared.checked.PolicyDef.TheVariants as policies
@@ -37,10 +38,12 @@ abbrev pub IsTyped : Scope → Type 0
 IsTyped scope =
     (text : List ℕ) (around : Around) → Agrees (scene_of text scope) (context_of text around scope [])
 
--- The functions that the filter sees were declared before it, and it is never stuck.
+-- The functions that the filter sees were declared before it, it is never stuck, and takes five steps
+-- for each that a filter may weigh at most.
 pub record CanRun (scope : Scope) (f : TFilter) : Type 0 where
   pub before : AreBefore (function_trees scope) f
   pub never_stuck : IsNeverStuck (constant_values scope) (function_trees scope) f
+  pub light : filter_steps (function_trees scope) f ≤ 50000000
 
 -- so over what is held
 abbrev pub IsBefore : Held → TFilter → Type 0
@@ -68,6 +71,7 @@ ProtocolBefore held def = BodyBefore held def.body
 pub record AreOrdered (held : Held) : Type 0 where
   pub functions : AreWithin held.checked.declared.scope
   pub typed : IsTyped held.checked.declared.scope
+  pub light : checks.AreLight (function_trees held.checked.declared.scope)
   pub filters : All (IsBefore held) held.checked.filters.items
   pub protocols : All (ProtocolBefore held) held.checked.protocols.items
 
@@ -82,7 +86,7 @@ CostTheirFilters functions filters drafts =
     → All (λ (d : Draft). draft_cost functions d ≤ most) drafts
 
 -- The code of the functions does what the functions do, and that of each filter by name comes to
--- what the filter comes to; and neither costs more than the functions and the filters take.
+-- what the filter comes to; no function costs more than it takes, and no filter more than 50,000,000.
 pub record HasCode (held : Held) (code : Code) : Type 0 where
   pub ordered : AreOrdered held
   pub functions : AreCompiled (constant_values held.checked.declared.scope) 0
@@ -90,4 +94,4 @@ pub record HasCode (held : Held) (code : Code) : Type 0 where
   pub filters : map (draft_flow code.functions.items) code.filters.items
       ≡ map (filter_flow held.checked.declared.scope) held.checked.filters.items
   pub functions_cost : CostTheirSteps (function_trees held.checked.declared.scope) code.functions.items
-  pub filters_cost : CostTheirFilters code.functions.items held.checked.filters.items code.filters.items
+  pub filters_cost : All (λ (d : Draft). draft_cost code.functions.items d ≤ 50000000) code.filters.items

@@ -1,7 +1,7 @@
 //! What holds of the filters of a configuration in which nothing is refused. The functions are empty:
 //! their clauses are the laws.
 
-ghost use Rattle.std.specs.Prelude.{◌≡◌, ◌≤◌, ◌++◌, ◌∷◌, ℕ, List, [], None, Contains};
+ghost use Rattle.std.specs.Prelude.{◌≡◌, ◌≤◌, ◌++◌, ◌∷◌, ℕ, All, List, [], None, Contains};
 ghost use Rattle.attrs.specs.declared.attributes.Attrs.{Attrs};
 ghost use Rattle.attrs.specs.declared.judge.Verdict.TheVariants as verdicts;
 ghost use Rattle.conf_ast.specs.Configurations.{Declaration, DefineFunction, Routine};
@@ -21,9 +21,16 @@ ghost use Rattle.conf_check.specs.Behind.{at_start, behind};
 ghost use Rattle.conf_check.specs.Checked.{Source, filter_sources};
 ghost use Rattle.conf_check.specs.Refused.{refusal_of};
 ghost use Rattle.conf_system.specs.Behind.{context_behind, counts_behind, scene_behind};
+ghost use Rattle.conf_system.specs.Coded.{HasCode, IsBefore};
+ghost use Rattle.conf_system.specs.declared.code.Code.{Code};
+ghost use Rattle.conf_system.specs.declared.system.System.{System as Held};
+ghost use Rattle.filt_code.specs.declared.code.Draft.{Draft};
+ghost use Rattle.filt_compile.specs.Compiles.{CostsItsSteps, draft_cost};
+ghost use Rattle.filt_meaning.specs.declared.tree.TFilter.{TFilter};
 ghost use Rattle.conf_system.specs.Written.{IsWritten};
 
 use conf_names::laws::first_refusals_are_the_first;
+use filt_compile::laws::code_costs_no_more_than_its_steps;
 use filt_laws::laws::{
     typed_filters_are_never_stuck, typed_functions_keep_their_signatures,
     what_runs_agrees_with_what_is_seen,
@@ -130,6 +137,18 @@ pub fn accepted_conditions_are_never_stuck()
     what_runs_agrees_with_what_is_seen();
     typed_filters_are_never_stuck();
     filters_end_within_their_weight();
+}
+
+/// The code of a filter over what an accepted configuration declares costs 50,000,000 instructions at
+/// most, five for each step that a filter may weigh; so does that of each filter by name.
+pub fn compiled_filters_end_within_their_weight()
+    ensures own { (held : Held) (code : Code) (f : TFilter) (draft : Draft) → HasCode held code
+        → IsBefore held f → CostsItsSteps f.sorts.items f.body.items draft.code.items
+        → draft_cost code.functions.items draft ≤ 50000000 }
+    ensures named { (held : Held) (code : Code) → HasCode held code
+        → All (λ (d : Draft). draft_cost code.functions.items d ≤ 50000000) code.filters.items }
+{
+    code_costs_no_more_than_its_steps();
 }
 
 /// The filters by name, which policies choose among, are all among those that are written.

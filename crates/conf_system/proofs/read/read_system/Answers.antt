@@ -2,6 +2,7 @@ use Rattle.std.proofs.Common.{[], append-nil, sym}
 use Rattle.conf_ast.specs.Configurations.{configuration_of}
 use Rattle.conf_system.proofs.Ordered.{ordered}
 use Rattle.conf_system.proofs.Told.{check_told, held_told}
+use Rattle.conf_system.proofs.Unrefused.{weighs}
 use Rattle.conf_system.proofs.read.read_system.Goals as goal
 
 pub returns-in-Err-check_config-clause-fault : goal.returns-in-Err-check_config-clause-fault
@@ -20,4 +21,5 @@ returns-in-Ok-names-clause-ordered c =
     let none = rw c.in-Ok.ensures.text at c.in-Ok-check_config.ensures.answer in
     ordered c.args.text.now ds _ (rw c.in-Ok.ensures.text at c.in-Ok-check_config.ensures.checked)
     (λ before ss written. c.accepted_filters_are_never_stuck.ensures.stuck c.args.text.now ds before ss none written)
+    (λ before ss written. weighs c.what_runs_agrees_with_what_is_declared.ensures.sorts c.what_runs_agrees_with_what_is_declared.ensures.weights c.what_runs_agrees_with_what_is_declared.ensures.refused c.args.text.now ds before ss none written)
     (c.what_runs_agrees_with_what_is_declared.ensures.sorts c.args.text.now ds ds [] none (sym (append-nil ds)))
