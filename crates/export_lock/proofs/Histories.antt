@@ -1,9 +1,8 @@
 -- Histories that begin with what is known.
-use Rattle.std.proofs.Common.{◌≡◌, ℕ, suc, ◌+◌, ◌≤◌, arith, List, [], ◌∷◌, ◌++◌, length, drop, refl, sym, ap, subst, ◌∙◌, append-nil, append_assoc, length-append}
+use Rattle.std.proofs.Common.{◌≡◌, Bool, ℕ, ◌+◌, ◌≤◌, arith, List, [], ◌++◌, length, drop, sym, ap, subst, ◌∙◌, append-nil, append_assoc, length-append}
 use Rattle.std.specs.Prelude.{Option, take, reverse}
 use Rattle.std.proofs.lemmas.List.{take-append-drop}
 use mathlib.Core.List.{IsPrefix}
-use Rattle.attrs.specs.History.{Content, after}
 use Rattle.attrs.specs.declared.attributes.Attrs.{Attrs}
 use Rattle.attrs.specs.declared.journal.JEntry.{JEntry}
 use Rattle.attrs.specs.declared.judge.Verdict.{Verdict}
@@ -17,16 +16,11 @@ use Rattle.export_core.specs.declared.log.LogItem.{LogItem}
 use Rattle.jour_rule.specs.declared.views.Entry.{Entry}
 use Rattle.jour.specs.Seats.{front, head_of}
 use Rattle.table_shared.specs.Opening.{TableOpening}
-use Rattle.table_shared.specs.Records.{AreRecords, IsLawful, at_first, change_of, records_front}
-use Rattle.export_lock.specs.Kept.{IsExports}
+use Rattle.table_shared.specs.Records.{AreRecords, IsLawful, at_first, records_front}
+use Rattle.table_shared.proofs.Records.{as_many}
+use Rattle.export_lock.specs.Kept.{IsExporting}
 use Rattle.export_lock.specs.Terms.{BeginsWith, ExportTerms}
 use Rattle.export_lock.specs.declared.state.ExportState.{ExportState}
-
-records_count : (opening : TableOpening) (before : Content) (es : List Entry) (said : List JEntry) → AreRecords opening before es said → length said ≡ length es
-records_count opening before [] [] are = refl
-records_count opening before [] (s ∷ said) are = absurd are
-records_count opening before (e ∷ es) [] are = absurd are
-records_count opening before (e ∷ es) (s ∷ said) are = ap suc (records_count opening (after before (change_of s ∷ [])) es said are.1)
 
 -- what begins with more begins with less
 pub begins_shorter : (key : ExportTerms) (es more : List Entry) (history : List JEntry) → IsPrefix es more → BeginsWith key more history → BeginsWith key es history
@@ -49,7 +43,7 @@ begins_shorter key es more history p b =
 -- such a history is no shorter
 pub begins_within : (key : ExportTerms) (es : List Entry) (history : List JEntry) → key.table.1.start ≡ length key.before → BeginsWith key es history → key.table.1.start + length es ≤ length history
 begins_within key es history start b =
-    let count = records_count key.table.1.opening (at_first key.table.1.opening) es b.said b.records in
+    let count = as_many key.table.1.opening (at_first key.table.1.opening) es b.said b.records in
     let whole = ap length b.begins.1 in
     let outer = length-append (key.before ++ b.said) b.begins.0 in
     let inner = length-append key.before b.said in
@@ -58,16 +52,13 @@ begins_within key es history start b =
 module _ {J : Type 0} (verdict : J → Net → Route → Verdict) where
   -- no position of the log is above what the cursor has seen
   pub low : ((value : Key → Route → Option Attrs) (c : Course) (log : List LogItem) → Follows value c log → highest log ≤ c.len)
-      → (key : ExportTerms) (a : ExportState J) → IsExports verdict key a → IsLawful key.table.1.opening (front a.cursor.0.1) → highest (reverse a.exporter.log) ≤ head_of a.cursor.0.1
-  low law key a o lawful =
+      → {every : Bool} (key : ExportTerms) (a : ExportState J) → IsExporting verdict every key a → IsLawful key.table.1.opening (front a.cursor.0.1) → highest (reverse a.exporter.log) ≤ head_of a.cursor.0.1
+  low law {every} key a o lawful =
       let history : List JEntry = key.before ++ lawful.0 in
       let b : BeginsWith key (front a.cursor.0.1) history = record { said = lawful.0; records = lawful.1; begins = ([], append-nil history) } in
       let below = law (value_for verdict a.exporter) (course_of key.exports.spec history) (reverse a.exporter.log) (o.stands history b).follows in
-      let count = records_count key.table.1.opening (at_first key.table.1.opening) (front a.cursor.0.1) lawful.0 lawful.1 in
+      let count = as_many key.table.1.opening (at_first key.table.1.opening) (front a.cursor.0.1) lawful.0 lawful.1 in
       let inner = length-append key.before lawful.0 in
       let start = o.start in
       let here = ap (λ z. z.1.start) o.here in
       omega (arith, below, count, inner, start, here)
-
-pub prefix_length : {X : Type 0} (xs ys : List X) → IsPrefix xs ys → length xs ≤ length ys
-prefix_length xs ys p = let n = length-append xs p.0 in let e = ap length p.1 in omega (arith, n, e)

@@ -1,4 +1,11 @@
 pub mod Histories
+pub mod Chunks
+pub mod Told
 pub mod Marking
 pub mod Pushing
 pub mod Taking
+pub mod Feeding
+pub mod Flushing
+pub mod Entering
+pub mod News
+pub mod Beginning

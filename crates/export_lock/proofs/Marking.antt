@@ -1,5 +1,5 @@
 -- What a mark, or a look alone, leaves of what an export lock keeps.
-use Rattle.std.proofs.Common.{◌≡◌, ℕ, suc, ◌+◌, ◌≤◌, arith, List, [], ◌∷◌, ◌++◌, true, false, cond, inl, inr, length, map, reverse, refl, sym, ap, subst, ◌∙◌, append-nil}
+use Rattle.std.proofs.Common.{◌≡◌, ℕ, suc, ◌≤◌, arith, List, [], ◌∷◌, ◌++◌, Bool, true, false, cond, inl, inr, length, map, reverse, refl, sym, ap, subst, ◌∙◌, append-nil}
 use Rattle.std.proofs.lemmas.Bool.Decides.{eqb_tells}
 use Rattle.std.proofs.lemmas.List.{map-append, reverse-append}
 use mathlib.Core.List.{IsPrefix}
@@ -25,7 +25,7 @@ use Rattle.table_shared.specs.Opening.{TableOpening}
 use Rattle.phase_legal.specs.Stamps.{item_in, items_in, mark_words}
 use Rattle.phase_legal.specs.Turns.{words_in}
 use Rattle.import_lock.specs.Kept.{items_of_stamp}
-use Rattle.export_lock.specs.Kept.{IsExports, IsReady, MayMark}
+use Rattle.export_lock.specs.Kept.{IsExporting, IsReady, MayMark}
 use Rattle.export_lock.specs.Terms.{BeginsWith, ExportTerms}
 use Rattle.export_lock.specs.declared.state.ExportState.{ExportState}
 use Rattle.export_lock.proofs.Histories.{begins_shorter}
@@ -52,18 +52,19 @@ told_list s t es makers told number same one are =
 items_next : (es : List Entry) (words : List ℕ) → items_in (es ++ entry 0 words ∷ []) ≡ item_in words ∷ items_in es
 items_next es words = ap reverse (map-append (λ (e : Entry). item_in e.words) es (entry 0 words ∷ [])) ∙ reverse-append (map (λ (e : Entry). item_in e.words) es) (item_in words ∷ [])
 
-module _ {J : Type 0} (verdict : J → Net → Route → Verdict) (key : ExportTerms) where
+module _ {J : Type 0} (verdict : J → Net → Route → Verdict) {every : Bool} (key : ExportTerms) where
   -- the exporter is as it was
   pub still_on : (a b : ExportState J) → b.exporter ≡ a.exporter → journal b.cursor.0 ≡ journal a.cursor.0 → IsPrefix (front a.cursor.0.1) (front b.cursor.0.1) → b.cursor.1 ≡ a.cursor.1
-      → (is_open a.exporter.log ≡ true → position_of b.cursor.0.1.role ≡ position_of a.cursor.0.1.role) → journal b.marks ≡ journal a.marks → front b.marks.1 ≡ front a.marks.1 → IsExports verdict key a → IsExports verdict key b
+      → (is_open a.exporter.log ≡ true → position_of b.cursor.0.1.role ≡ position_of a.cursor.0.1.role) → journal b.marks ≡ journal a.marks → front b.marks.1 ≡ front a.marks.1 → IsExporting verdict every key a → IsExporting verdict every key b
   still_on a b same here prefix mode position marks list o = record {
     spec = ap (λ z. z.spec) same ∙ o.spec;
     filter = ap (λ z. verdict z.judge) same ∙ o.filter;
-    single = o.single;
-    stays = ap (λ z. z.flushing) same ∙ o.stays;
+    kind = o.kind;
+    stays = λ e. ap (λ z. z.flushing) same ∙ o.stays e;
     here = here ∙ o.here;
     start = o.start;
     family = o.family;
+    begun = o.begun;
     marks = marks ∙ o.marks;
     makers = o.makers;
     cursors = o.cursors;
@@ -80,15 +81,16 @@ module _ {J : Type 0} (verdict : J → Net → Route → Verdict) (key : ExportT
       → journal b.cursor.0 ≡ journal a.cursor.0 → journal b.marks ≡ journal a.marks → front b.marks.1 ≡ front a.marks.1 ++ entry 0 (mark_words x) ∷ [] → b.cursor.1 ≡ is_open b.exporter.log
       → (is_open b.exporter.log ≡ true → b.exporter.position ≡ position_of b.cursor.0.1.role) → (is_open b.exporter.log ≡ true → key.table.1.start ≤ b.exporter.position)
       → ((history : List JEntry) → BeginsWith key (front b.cursor.0.1) history → StandsFor verdict (course_of key.exports.spec history) b.exporter)
-      → IsExports verdict key a → IsExports verdict key b
+      → IsExporting verdict every key a → IsExporting verdict every key b
   marks_on a b x is_mark back spec judge stays log here marks list mode position least stands o = record {
     spec = spec ∙ o.spec;
     filter = ap verdict judge ∙ o.filter;
-    single = o.single;
-    stays = stays;
+    kind = o.kind;
+    stays = λ _. stays;
     here = here ∙ o.here;
     start = o.start;
     family = o.family;
+    begun = o.begun;
     marks = marks ∙ o.marks;
     makers = o.makers;
     cursors = o.cursors;

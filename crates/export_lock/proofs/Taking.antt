@@ -24,7 +24,7 @@ use Rattle.core_machine.specs.Signals.{without_sends}
 use Rattle.rec_words.specs.Entries.{Spells}
 use Rattle.table_shared.specs.Opening.{TableOpening}
 use Rattle.table_shared.specs.Records.{AreRecords, at_first, change_of}
-use Rattle.export_lock.specs.Kept.{IsExports}
+use Rattle.export_lock.specs.Kept.{IsExporting}
 use Rattle.export_lock.specs.Terms.{BeginsWith, ExportTerms}
 use Rattle.export_lock.specs.declared.state.ExportState.{ExportState}
 use Rattle.export_lock.proofs.Histories.{begins_shorter}
@@ -64,22 +64,23 @@ module _ (told : (spec : ExportSpec) (front : List JEntry) (e : JEntry) (back : 
       subst (λ z. IsEntryAt key.exports.spec (course_of key.exports.spec z) (p + 1) said) whole
       (subst (λ n. IsEntryAt key.exports.spec (course_of key.exports.spec (F ++ said ∷ (r.behind ++ b.begins.0))) n said) long (told key.exports.spec F said (r.behind ++ b.begins.0)))
 
-  module _ {J : Type 0} (verdict : J → Net → Route → Verdict) (key : ExportTerms) (a : ExportState J) (e : State J) (cursor : (TableId × Seat TableOpening) × Bool) (k : ℕ) (words : List ℕ) (said : JEntry) where
+  module _ {J : Type 0} (verdict : J → Net → Route → Verdict) {every : Bool} (key : ExportTerms) (a : ExportState J) (e : State J) (cursor : (TableId × Seat TableOpening) × Bool) (k : ℕ) (words : List ℕ) (said : JEntry) where
     pub taken_on : is_open a.exporter.log ≡ true → (p : ℕ) → p ≡ position_of a.cursor.0.1.role → Takes (p + 1) said a.exporter e
         → ((c : Course) → IsEntryAt a.exporter.spec c (p + 1) said → StandsFor verdict c a.exporter → StandsFor verdict c e)
         → journal cursor.0 ≡ journal a.cursor.0 → cursor.1 ≡ a.cursor.1 → position_of cursor.0.1.role ≡ p + 1 → IsPrefix (front a.cursor.0.1) (front cursor.0.1)
         → get_elem? (front cursor.0.1) (p - a.cursor.0.1.seen.terms.start) ≡ some (entry k words) → Spells said words
-        → IsExports verdict key a → IsExports verdict key (record { exporter = e; cursor = cursor; marks = a.marks })
+        → IsExporting verdict every key a → IsExporting verdict every key (record { exporter = e; cursor = cursor; marks = a.marks })
     taken_on up p here t stands same started position prefix at spelled o =
         let least : key.table.1.start ≤ p = subst (λ z. key.table.1.start ≤ z) (o.position up ∙ sym here) (o.least up) in
         record {
           spec = t.spec ∙ o.spec;
           filter = ap verdict t.judge ∙ o.filter;
-          single = o.single;
-          stays = t.flushing ∙ o.stays;
+          kind = o.kind;
+          stays = λ e. t.flushing ∙ o.stays e;
           here = same ∙ o.here;
           start = o.start;
           family = o.family;
+          begun = o.begun;
           marks = o.marks;
           makers = o.makers;
           cursors = o.cursors;

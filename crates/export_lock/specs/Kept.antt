@@ -1,19 +1,23 @@
 -- What an export lock keeps of its value (`IsExports`): the exporter stands for each history that
--- begins with what the cursor has seen; the marks of its log are those of the journal of marks,
--- behind those of before; and the cursor is started while the channel is up.
+-- begins with what the cursor has seen, so each key was read up to a position that the cursor has
+-- seen, and what was sent of it is of no later one (`IsRead`); the marks of its log are those of the
+-- journal of marks, behind those of before; and the cursor is started while the channel is up.
 -- Logs are read backwards, but for the exporter's own; entries are in their order.
--- Not modelled: how far feeds have read.
 -- From: own.
 -- Example: behind an up at 4 the journal of marks has one entry more, and the cursor stands at 4.
-use Rattle.std.specs.Prelude.{◌≡◌, ℕ, ◌+◌, ◌<◌, ◌≤◌, ◌^◌, true, false, List, ◌++◌, length, reverse}
+-- A net that a feed then reads at 6 is read up to 6, and what was sent of it is of 4, 5 or 6.
+use Rattle.std.specs.Prelude.{◌≡◌, ◌&&◌, not, ℕ, ◌+◌, ◌<◌, ◌≤◌, ◌^◌, Bool, true, false, List, ◌++◌, length, reverse, Some}
 use Rattle.atomic_table.specs.Seated.{TableId}
 use Rattle.attrs.specs.declared.journal.JEntry.{JEntry}
 use Rattle.attrs.specs.declared.judge.Verdict.{Verdict}
 use Rattle.attrs.specs.declared.route.Route.{Route}
 use Rattle.bits_ip.specs.Prefix.{Net}
 use Rattle.export_core.specs.Histories.{course_of}
+use Rattle.export_core.specs.Logs.{account}
 use Rattle.export_core.specs.Standing.{is_open}
-use Rattle.export_core.specs.States.{StandsFor}
+use Rattle.export_core.specs.States.{StandsFor, reach_of}
+use Rattle.export_core.specs.declared.log.Key.{Key}
+use Rattle.export_core.specs.declared.log.Sending.{Sending}
 use Rattle.jour_rule.specs.Moves.{position_of}
 use Rattle.jour_rule.specs.declared.views.Terms.{Terms}
 use Rattle.jour_rule.specs.declared.views.View.{View as Seat}
@@ -23,20 +27,40 @@ use Rattle.core_machine.specs.Signals.{without_sends}
 use Rattle.table_shared.specs.Opening.{TableOpening}
 use Rattle.phase_legal.specs.Stamps.{items_in}
 use Rattle.import_lock.specs.Kept.{items_of_stamp}
-use Rattle.export_lock.specs.Terms.{BeginsWith, ExportTerms}
+use Rattle.export_lock.specs.Terms.{BeginsWith, ExportTerms, IsBegun}
 use Rattle.export_lock.specs.declared.state.ExportState.{ExportState}
 
+-- up to where a key was read, and where it was sent last
+pub record IsRead {J : Type 0} (state : ExportState J) (k : Key) : Type 0 where
+  pub seen : reach_of state.exporter k ≤ head_of state.cursor.0.1
+  pub sent :
+      (x : Sending) → (account k (reverse state.exporter.log)).last ≡ Some x
+      → x.at ≤ reach_of state.exporter k
+
+-- the channel is up, and nothing of it is being withdrawn
+abbrev pub is_running : {J : Type 0} → ExportState J → Bool
+is_running state = state.cursor.1 && not state.exporter.flushing
+
+-- a flush that goes on has all that it had
+pub record LeavesFlush {J : Type 0} (old new : ExportState J) : Type 0 where
+  pub flushing : new.exporter.flushing ≡ old.exporter.flushing
+  pub stays :
+      old.exporter.flushing ≡ true
+      → (new.exporter.log ≡ old.exporter.log) × (new.exporter.left ≡ old.exporter.left)
+
 module _ {J : Type 0} (verdict : J → Net → Route → Verdict) where
-  pub record IsExports (key : ExportTerms) (state : ExportState J) : Type 0 where
-    -- it lets pass what the channel does, which is one to a neighbour, and withdraws nothing
+  -- The exporter is that of a channel, which is a pipe's direction where `every` is true.
+  pub record IsExporting (every : Bool) (key : ExportTerms) (state : ExportState J) : Type 0 where
+    -- it lets pass what the channel does, and one to a neighbour withdraws nothing
     pub spec : state.exporter.spec ≡ key.exports.spec
     pub filter : verdict state.exporter.judge ≡ key.exports.filter
-    pub single : key.exports.spec.every ≡ false
-    pub stays : state.exporter.flushing ≡ false
+    pub kind : key.exports.spec.every ≡ every
+    pub stays : every ≡ false → state.exporter.flushing ≡ false
     -- its journals are those of the key, and marks have no cursor and one maker
     pub here : journal state.cursor.0 ≡ key.table
     pub start : key.table.1.start ≡ length key.before
     pub family : key.exports.spec.family ≡ key.table.1.opening.family
+    pub begun : IsBegun key
     pub marks : journal state.marks ≡ key.marks
     pub makers : key.marks.1.opening ≡ 1
     pub cursors : key.marks.1.cursors ≡ 0
@@ -52,18 +76,32 @@ module _ {J : Type 0} (verdict : J → Net → Route → Verdict) where
         (history : List JEntry) → BeginsWith key (front state.cursor.0.1) history
         → StandsFor verdict (course_of key.exports.spec history) state.exporter
 
-  -- it is the value of some lock
+  -- of a channel to a neighbour
+  abbrev pub IsExports : ExportTerms → ExportState J → Type 0
+  IsExports key state = IsExporting false key state
+
+  -- it is the value of some lock of a channel
   pub record IsHeld (state : ExportState J) : Type 0 where
+    pub every : Bool
+    pub key : ExportTerms
+    pub exporting : IsExporting every key state
+
+  -- of one to a neighbour
+  pub record IsSession (state : ExportState J) : Type 0 where
     pub key : ExportTerms
     pub exports : IsExports key state
 
-  -- what a lock keeps is kept
+  -- what a lock of a channel keeps is kept, of one to a neighbour or of any
   abbrev pub Goes : ExportState J → ExportState J → Type 0
   Goes old new = (key : ExportTerms) → IsExports key old → IsExports key new
 
+  abbrev pub GoesOn : ExportState J → ExportState J → Type 0
+  GoesOn old new =
+      (every : Bool) (key : ExportTerms) → IsExporting every key old → IsExporting every key new
+
   -- it may take a mark under this stamp, which has seen all marks
   pub record IsReady (stamp : TableId × Seat ℕ) (state : ExportState J) : Type 0 where
-    pub held : IsHeld state
+    pub held : IsSession state
     pub here : journal stamp ≡ journal state.marks
     pub number : number_of stamp.1.role ≡ 0
     pub told : front stamp.1 ≡ front state.marks.1
@@ -74,7 +112,7 @@ module _ {J : Type 0} (verdict : J → Net → Route → Verdict) where
   pub record MayMark
       (table : TableId × Terms TableOpening) (signal : Signal) (stamp : TableId × Seat ℕ)
       (state : ExportState J) : Type 0 where
-    pub held : IsHeld state
+    pub held : IsSession state
     pub table_is : journal state.cursor.0 ≡ table
     pub here : journal stamp ≡ journal state.marks
     pub number : number_of stamp.1.role ≡ 0

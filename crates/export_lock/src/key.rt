@@ -8,12 +8,15 @@ use std::marker::PhantomData;
 use std::snapshot::Snapshot;
 use table_shared::TableCursor;
 
-/// What is played, by channel: what each lets pass.
+/// What is played: by channel what each lets pass, and the rules, by which pipes' directions go.
 pub trait Sends {
     ghost use Rattle.std.specs.Prelude.{ℕ};
+    ghost use Rattle.core_machine.specs.Rules.{Rules};
     ghost use Rattle.core_setup.specs.Setup.{Exports};
 
     ghost exports: { Self → ℕ → Exports };
+
+    ghost rules: { Self → Rules };
 }
 
 /// What an export lock is of: a channel of what is played, the cursor of its table and the table's

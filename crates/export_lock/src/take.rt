@@ -2,7 +2,7 @@
 ghost use Rattle.std.specs.Prelude.{◌≡◌, ◌+◌, false, true, IfOk};
 ghost use Rattle.jour_rule.specs.Moves.{position_of};
 ghost use Rattle.jour.specs.Seats.{known};
-ghost use Rattle.export_lock.specs.Kept.{Goes, IsHeld};
+ghost use Rattle.export_lock.specs.Kept.{GoesOn, IsHeld, LeavesFlush};
 
 use crate::state::ExportState;
 use attrs::Judge;
@@ -19,12 +19,14 @@ impl<J: Judge> ExportState<J> {
     /// memory is refused, the entry is left for the next call.
     pub fn take_turn(&mut self, alloc: Global) -> Result<bool, OutOfMemory>
         requires held { IsHeld J.verdict self.old }
-        ensures goes { Goes J.verdict self.old self.new }
+        ensures goes { GoesOn J.verdict self.old self.new }
+        ensures flush { LeavesFlush self.old self.new }
         ensures took { IfOk result (λ took. took ≡ true
             → self.new.exporter.position ≡ self.old.exporter.position + 1) }
         ensures none { IfOk result (λ took. took ≡ false
             → (self.new.exporter ≡ self.old.exporter) × (self.old.cursor.1 ≡ true
             → known self.new.cursor.0.1 ≡ position_of self.new.cursor.0.1.role)) }
+        ensures log { self.new.exporter.log ≡ self.old.exporter.log }
         ensures marks { self.new.marks ≡ self.old.marks }
     {
         entries_are_told();

@@ -9,7 +9,7 @@ use Rattle.export_lock.proofs.state.ExportState.fall.Goals as goal
 pub down-requires-clause-withdrawn : goal.down-requires-clause-withdrawn
 down-requires-clause-withdrawn g c = λ every.
     let o = c.requires.ready.held.exports in
-    absurd (let e : false ≡ true = sym o.single ∙ sym (ap (λ z. z.every) o.spec) ∙ every in cc)
+    absurd (let e : false ≡ true = sym o.kind ∙ sym (ap (λ z. z.every) o.spec) ∙ every in cc)
 
 pub close-requires : goal.close-requires
 close-requires g c = c.requires.ready.held.exports.mode ∙ c.requires.up

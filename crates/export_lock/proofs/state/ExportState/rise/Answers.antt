@@ -2,9 +2,10 @@ use Rattle.std.proofs.Common.{◌≡◌, ◌∙◌, ap, sym, refl, false, true, 
 use mathlib.Core.List.{IsPrefix}
 use Rattle.export_core.specs.Histories.{course_of}
 use Rattle.export_core.specs.declared.log.LogItem.TheVariants.{Up}
+use Rattle.jour_rule.proofs.Fronts.{prefix_length}
 use Rattle.jour.specs.Seats.{front, journal}
 use Rattle.table_shared.specs.Records.{IsLawful}
-use Rattle.export_lock.proofs.Histories.{begins_shorter, begins_within, low, prefix_length}
+use Rattle.export_lock.proofs.Histories.{begins_shorter, begins_within, low}
 use Rattle.export_lock.proofs.Marking.{marks_on, still_on}
 use Rattle.export_lock.proofs.state.ExportState.rise.Goals as goal
 

@@ -13,24 +13,24 @@ use Rattle.export_lock.proofs.Marking.{still_on}
 use Rattle.export_lock.proofs.state.ExportState.take_turn.Goals as goal
 
 pub returns-in_default-clause-goes : goal.returns-in_default-clause-goes
-returns-in_default-clause-goes g c = λ key o. still_on g.J.Judge.verdict key c.args.self.now (record { exporter = c.args.self.now.exporter; cursor = c.next.new.self; marks = c.args.self.now.marks }) refl c.next.ensures.same.0
+returns-in_default-clause-goes g c = λ every key o. still_on g.J.Judge.verdict key c.args.self.now (record { exporter = c.args.self.now.exporter; cursor = c.next.new.self; marks = c.args.self.now.marks }) refl c.next.ensures.same.0
     (subst (λ z. IsPrefix (front c.args.self.now.cursor.0.1) z) (sym c.next.ensures.same.1) ([], append-nil (front c.args.self.now.cursor.0.1))) c.next.ensures.same.4 (λ _. c.next.ensures.same.2) refl refl o
 
 pub returns-in_err-entry-clause-goes : goal.returns-in_err-entry-clause-goes
-returns-in_err-entry-clause-goes g c = λ key o. still_on g.J.Judge.verdict key c.args.self.now (record { exporter = c.args.self.now.exporter; cursor = c.next.new.self; marks = c.args.self.now.marks }) refl c.next.ensures.same.0
+returns-in_err-entry-clause-goes g c = λ every key o. still_on g.J.Judge.verdict key c.args.self.now (record { exporter = c.args.self.now.exporter; cursor = c.next.new.self; marks = c.args.self.now.marks }) refl c.next.ensures.same.0
     (subst (λ z. IsPrefix (front c.args.self.now.cursor.0.1) z) (sym c.next.ensures.same.1) ([], append-nil (front c.args.self.now.cursor.0.1))) c.next.ensures.same.4 (λ _. c.next.ensures.same.2) refl refl o
 
 pub returns-in_err-take-clause-goes : goal.returns-in_err-take-clause-goes
-returns-in_err-take-clause-goes g c = λ key o. still_on g.J.Judge.verdict key c.args.self.now (record { exporter = c.take.new.self; cursor = c.next.new.self; marks = c.args.self.now.marks }) c.in_err-take.ensures.refused c.next.ensures.same.0
+returns-in_err-take-clause-goes g c = λ every key o. still_on g.J.Judge.verdict key c.args.self.now (record { exporter = c.take.new.self; cursor = c.next.new.self; marks = c.args.self.now.marks }) c.in_err-take.ensures.refused c.next.ensures.same.0
     (subst (λ z. IsPrefix (front c.args.self.now.cursor.0.1) z) (sym c.next.ensures.same.1) ([], append-nil (front c.args.self.now.cursor.0.1))) c.next.ensures.same.4 (λ _. c.next.ensures.same.2) refl refl o
 
 pub take-requires-clause-family : goal.take-requires-clause-family
 take-requires-clause-family g c =
-    let o = c.requires.held.exports in
+    let o = c.requires.held.exporting in
     c.in_ok-entry.ensures.is.family ∙ ap (λ z. z.1.opening.family) (c.next.ensures.same.0 ∙ o.here) ∙ sym o.family ∙ ap (λ z. z.family) (sym o.spec)
 
 pub returns-clause-goes : goal.returns-clause-goes
-returns-clause-goes g c = λ key o.
+returns-clause-goes g c = λ every key o.
     let verdict = g.J.Judge.verdict in
     let was = c.args.self.now in
     let p = position_of was.cursor.0.1.role in
@@ -54,9 +54,20 @@ returns-clause-goes g c = λ key o.
 
 pub returns-clause-took : goal.returns-clause-took
 returns-clause-took g c = λ _.
-    let o = c.requires.held.exports in
+    let o = c.requires.held.exporting in
     c.in_ok-take.ensures.takes.position ∙ c.in-Some.ensures.some.0
     ∙ ap (λ z. z + 1) (c.next.ensures.same.2 ∙ sym (o.position (sym o.mode ∙ sym c.is_started.ensures ∙ c.if-not-is_started.false)))
 
 pub returns-then-not-is_started-clause-none : goal.returns-then-not-is_started-clause-none
 returns-then-not-is_started-clause-none g c = λ _. (refl, λ up. absurd (let e : false ≡ true = sym c.if-not-is_started.true ∙ c.is_started.ensures ∙ up in cc))
+
+pub returns-clause-flush : goal.returns-clause-flush
+returns-clause-flush g c =
+    let took = c.in_ok-take.ensures.takes in
+    record { flushing = took.flushing; stays = λ _. (took.log, took.left) }
+
+pub returns-clause-log : goal.returns-clause-log
+returns-clause-log g c = c.in_ok-take.ensures.takes.log
+
+pub returns-in_err-take-clause-log : goal.returns-in_err-take-clause-log
+returns-in_err-take-clause-log g c = ap (λ z. z.log) c.in_err-take.ensures.refused
