@@ -1,6 +1,6 @@
 //! The grammar of BIRD's configuration (BIRD User's Guide, "Configuration", "Protocols"), and the
-//! parsers of its parts that hold no filter: values of constants, addresses, switches, the loop over
-//! options, limits, where a route leads to, and a BGP session's transport.
+//! parsers of its parts that hold no filter: values of constants, addresses, switches, limits, where
+//! a route leads to, and a BGP session's transport.
 //!
 //! The grammar of all statements is one, in `specs/Syntax`; what the trees of the parts are of stands
 //! in `specs/View`. `parts` gives the parsers. Not here: expressions (`expr_syntax`), policies,
@@ -9,7 +9,6 @@
 
 mod limits;
 mod literal;
-mod options;
 pub mod parts;
 mod routes;
 mod simple;

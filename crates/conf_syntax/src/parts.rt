@@ -3,7 +3,6 @@
 
 pub use crate::limits::{expect_hop, limit_value};
 pub use crate::literal::literal;
-pub use crate::options::{ProtocolOption, options};
 pub use crate::routes::route_target;
 pub use crate::simple::{
     as_number, expect_address, expect_switch, next_family, optional_address, optional_name,

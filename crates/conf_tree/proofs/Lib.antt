@@ -5,6 +5,7 @@ pub mod FunctionSteps
 pub mod Known
 pub mod LastWord
 pub mod OneOf
+pub mod OptionSteps
 pub mod PlaceSteps
 mod PlacesOnce
 pub mod PolicySteps

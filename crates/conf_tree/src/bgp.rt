@@ -21,14 +21,14 @@ ghost use Rattle.conf_tree.specs.Readers.{bgp_option_at};
 ghost use Rattle.conf_syntax.specs.Readers.{transport_at};
 
 use crate::channel::channel;
+use crate::options::ProtocolOption;
 use bits_ip::Family;
 use conf_ast::Attribute;
 use conf_ast::configurations::BgpOption;
 use conf_lex::parsing::{after, after_attribute, expect};
 use conf_lex::{Refusal, Symbol, Word};
 use conf_syntax::parts::{
-    ProtocolOption, as_number, expect_address, expect_switch, next_family, optional_address,
-    transport,
+    as_number, expect_address, expect_switch, next_family, optional_address, transport,
 };
 use expr_syntax::parts::num;
 use std::alloc::Global;

@@ -21,13 +21,14 @@ ghost use Rattle.conf_syntax.specs.Readers.{seen_as, limit_value_at};
 ghost use Rattle.conf_tree.specs.Readers.{channel_option_at, channel_at};
 ghost use Rattle.conf_syntax.specs.Readers.{closed_options};
 
+use crate::options::{ProtocolOption, options};
 use crate::policy::policy;
 use bits_ip::Family;
 use conf_ast::Attribute;
 use conf_ast::configurations::{Channel, ChannelOption};
 use conf_lex::parsing::{after, after_attribute, expect, expect_name};
 use conf_lex::{Refusal, Symbol, Word};
-use conf_syntax::parts::{ProtocolOption, expect_hop, limit_value, options};
+use conf_syntax::parts::{expect_hop, limit_value};
 use expr_syntax::parts::num;
 use std::alloc::Global;
 

@@ -14,6 +14,7 @@ mod config;
 mod followed;
 mod function;
 pub mod laws;
+mod options;
 mod parse;
 mod pipe;
 mod policy;

@@ -13,11 +13,11 @@ ghost use Rattle.conf_tree.specs.View.{pipe_option_tree};
 ghost use Rattle.conf_tree.specs.Readers.{policy_at};
 ghost use Rattle.conf_syntax.specs.Readers.{seen_as};
 
+use crate::options::ProtocolOption;
 use crate::policy::policy;
 use conf_ast::configurations::PipeOption;
 use conf_lex::parsing::{after, expect, expect_name};
 use conf_lex::{Refusal, Symbol, Word};
-use conf_syntax::parts::ProtocolOption;
 use std::alloc::Global;
 
 // By the words after `table`.

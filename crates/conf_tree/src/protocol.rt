@@ -16,10 +16,11 @@ ghost use Rattle.conf_tree.specs.View.{statement_tree, protocol_tree, of_protoco
 ghost use Rattle.conf_syntax.specs.Readers.{seen_as, optional_name_at, optional_semicolon_at};
 ghost use Rattle.conf_tree.specs.Readers.{protocol_at, statement_at};
 
+use crate::options::{ProtocolOption, options};
 use conf_ast::configurations::{Protocol, Statement};
 use conf_lex::parsing::{after, after_placed, expect};
 use conf_lex::{Refusal, Symbol, Word};
-use conf_syntax::parts::{ProtocolOption, optional_name, optional_semicolon, options};
+use conf_syntax::parts::{optional_name, optional_semicolon};
 use std::alloc::Global;
 
 // A protocol of this place, by the words after its kind's word, whichever that is.

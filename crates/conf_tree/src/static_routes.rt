@@ -15,11 +15,12 @@ ghost use Rattle.conf_tree.specs.Readers.{channel_at};
 ghost use Rattle.conf_syntax.specs.Readers.{seen_as, route_target_at};
 
 use crate::channel::channel;
+use crate::options::ProtocolOption;
 use bits_ip::Family;
 use conf_ast::configurations::{Route, StaticOption};
 use conf_lex::parsing::{after, expect, next_prefix};
 use conf_lex::{Refusal, Symbol, Word};
-use conf_syntax::parts::{ProtocolOption, next_family, route_target};
+use conf_syntax::parts::{next_family, route_target};
 use std::alloc::Global;
 
 fn route(words: &[Word]) -> Result<(StaticOption, &[Word]), Refusal>

@@ -1,8 +1,8 @@
 use Rattle.std.proofs.Common.{◌≡◌, [], ◌∷◌, ◌++◌, rules}
 use Rattle.std.proofs.lemmas.Result.{err_from_is_err_and}
 use Rattle.conf_syntax.specs.View.{ended_row}
-use Rattle.conf_syntax.proofs.OptionSteps.{row_start, row_closed, row_option_fails, row_semicolon_fails, option_shorter, row_next}
-use Rattle.conf_syntax.proofs.options.options.Goals as goal
+use Rattle.conf_tree.proofs.OptionSteps.{row_start, row_closed, row_option_fails, row_semicolon_fails, option_shorter, row_next}
+use Rattle.conf_tree.proofs.options.options.Goals as goal
 
 pub loop-end-init : goal.loop-end-init
 loop-end-init g c =
