@@ -1,4 +1,4 @@
-use Rattle.std.proofs.Common.{ℕ, ◌≤◌, arith, ap}
+use Rattle.std.proofs.Common.{ℕ, ◌+◌, ◌≤◌, arith, ap}
 use Rattle.conf_ast.specs.declared.filters.Change.{Change}
 use Rattle.conf_ast.specs.declared.filters.Expr.{Expr}
 use Rattle.conf_ast.specs.Filters.{changed, expression_of}
