@@ -1,7 +1,8 @@
 mod Lists
 mod Passes
+mod Stacks
 mod Steps
-mod Takes
 mod Unstuck
 mod Waits
+mod Wholes
 mod Works

@@ -1,6 +1,8 @@
 -- Jumps by answers that are there.
-use Rattle.std.proofs.Common.{◌≡◌, ℕ, suc, zero, ◌<◌, ◌≤◌, max, Bool, true, false, List, [], ◌∷◌, ◌+◌, drop, Option, Some, None, IfSome, Result, Ok, Err, refl, sym, ap, ◌∙◌, arith}
-use Rattle.std.proofs.Math.Nat.{le-max_left, le-max_right}
+use Rattle.std.proofs.Common.{◌≡◌, ℕ, suc, zero, ◌<◌, ◌≤◌, max, min, Bool, true, false, List, [], ◌∷◌, ◌+◌, ◌-◌, ◌^◌, ◌⊎◌, inl, inr, drop, length, Some, Result, Ok, Err, refl, sym, ap, ◌∙◌, arith}
+use Rattle.std.proofs.Math.Dec.{ltb}
+use Rattle.std.proofs.Math.Nat.{le-max_left, le-max_right, min-eq_left, min-eq_right}
+use Rattle.std.proofs.lemmas.Bool.{ltb-true, ltb-false}
 use Rattle.std.specs.Prelude.{slice_get}
 use Rattle.attrs.specs.declared.attributes.Attrs.{Attrs}
 use Rattle.filt_meaning.specs.Operators.{bool_in}
@@ -12,7 +14,7 @@ use Rattle.filt_code.specs.declared.code.Routine.{Routine}
 use Rattle.filt_code.specs.declared.instr.Instr.{Instr}
 use Rattle.filt_code.specs.declared.instr.Instr.TheVariants as instrs
 use Rattle.filt_code.specs.declared.instr.Question.{Question}
-use Rattle.filt_code.specs.Codes.{Setting, jump_where, mean, one, question, setting}
+use Rattle.filt_code.specs.Codes.{At, Setting, jump_where, mean, one, question, setting}
 use Rattle.filt_code.specs.Costs.{beside, cost, costs}
 use Rattle.filt_route.specs.declared.halt.Halt.{Halt}
 use Rattle.filt_route.specs.declared.halt.Halt.TheVariants as halts
@@ -49,14 +51,54 @@ cost_beyond fs [] (suc k) m t is = refl
 cost_beyond fs (x ∷ more) (suc k) m zero is = absurd (omega (arith, is))
 cost_beyond fs (x ∷ more) (suc k) m (suc t) is = cost_beyond fs more k m t (omega (arith, is))
 
-pub leads : (s : Setting) (around : Around) (code : List Instr) (i : Instr) (place m : ℕ) (is : Bool) (q : Question) (n : ℕ) (b : Bool) (r : Option ℕ) (vals : Frame) (os : List Val) (attrs : Attrs) → slice_get code place ≡ Some i → i ≡ instrs.JumpIfAsked is q n → s.around ≡ around → question around q vals attrs ≡ Done (VBool b) attrs → m ≡ jump_where is n b → IfSome r (λ next. next ≡ place + 1 + m) → IfSome r (λ next. mean s code place vals os attrs ≡ mean s code next vals os attrs)
-leads s around code i place m is q n b None vals os attrs there what same answer far to = tt
-leads s around code i place m is q n b (Some next) vals os attrs there what same answer far to =
+-- behind the last instruction
+mean_past : (s : Setting) (code : List Instr) (n : ℕ) (vals : Frame) (os : List Val) (attrs : Attrs) → length code ≤ n → mean s code n vals os attrs ≡ Done vals attrs
+mean_past s [] n vals os attrs le = refl
+mean_past s (x ∷ more) zero vals os attrs le = absurd (omega (arith, le))
+mean_past s (x ∷ more) (suc n) vals os attrs le = mean_past s more n vals os attrs (omega (arith, le))
+
+cost_past : (fs : List ℕ) (code : List Instr) (n : ℕ) → length code ≤ n → cost fs code n ≡ 0
+cost_past fs [] n le = refl
+cost_past fs (x ∷ more) zero le = absurd (omega (arith, le))
+cost_past fs (x ∷ more) (suc n) le = cost_past fs more n (omega (arith, le))
+
+-- as far, or both behind the last instruction
+same_place : (code : List Instr) (far next : ℕ) → length code < 2 ^ 63 → next ≡ min far (2 ^ 64 - 1) → (next ≡ far) ⊎ ((length code ≤ next) × (length code ≤ far))
+same_place code far next few is = by (ltb far (2 ^ 64)) refl
+  where
+    by : (b : Bool) → ltb far (2 ^ 64) ≡ b → (next ≡ far) ⊎ ((length code ≤ next) × (length code ≤ far))
+    by true below = let lt : far < 2 ^ 64 = ltb-true far (2 ^ 64) below in inl (is ∙ min-eq_left (omega (arith, lt)))
+    by false above =
+        let le : 2 ^ 64 ≤ far = ltb-false far (2 ^ 64) above in
+        let e : next ≡ 2 ^ 64 - 1 = is ∙ min-eq_right (omega (arith, le)) in
+        inr (omega (arith, e, few), omega (arith, le, few))
+
+mean_there : (s : Setting) (code : List Instr) (far next : ℕ) (vals : Frame) (os : List Val) (attrs : Attrs) → (next ≡ far) ⊎ ((length code ≤ next) × (length code ≤ far)) → mean s code far vals os attrs ≡ mean s code next vals os attrs
+mean_there s code far next vals os attrs (inl e) = ap (λ (n : ℕ). mean s code n vals os attrs) (sym e)
+mean_there s code far next vals os attrs (inr past) = mean_past s code far vals os attrs past.1 ∙ sym (mean_past s code next vals os attrs past.0)
+
+cost_there : (fs : List ℕ) (code : List Instr) (far next : ℕ) → (next ≡ far) ⊎ ((length code ≤ next) × (length code ≤ far)) → cost fs code next ≡ cost fs code far
+cost_there fs code far next (inl e) = ap (λ (n : ℕ). cost fs code n) e
+cost_there fs code far next (inr past) = cost_past fs code next past.0 ∙ sym (cost_past fs code far past.1)
+
+pub leads : (s : Setting) (code : List Instr) (i : Instr) (place count next : ℕ) (vals : Frame) (os : List Val) (attrs : Attrs) → length code < 2 ^ 63 → slice_get code place ≡ Some i → one s i (mean s (drop (suc place) code)) vals os attrs ≡ mean s (drop (suc place) code) count vals os attrs → next ≡ min (place + 1 + count) (2 ^ 64 - 1) → mean s code place vals os attrs ≡ mean s code next vals os attrs
+leads s code i place count next vals os attrs few there goes to =
     at_place s code place i vals os attrs there
-    ∙ ap (λ (i : Instr). one s i (mean s (drop (suc place) code)) vals os attrs) what
-    ∙ ap (λ (a : Around). and_then (question a q vals attrs) (λ v attrs. and_then (plainly (bool_in v) attrs) (λ b attrs. mean s (drop (suc place) code) (jump_where is n b) vals os attrs))) same
-    ∙ ap (λ (flow : Flow Val). and_then flow (λ v attrs. and_then (plainly (bool_in v) attrs) (λ b attrs. mean s (drop (suc place) code) (jump_where is n b) vals os attrs))) answer
-    ∙ mean_beyond s code (suc place) (jump_where is n b) next vals os attrs (omega (arith, far, to))
+    ∙ goes
+    ∙ mean_beyond s code (suc place) count (place + 1 + count) vals os attrs (omega arith)
+    ∙ mean_there s code (place + 1 + count) next vals os attrs (same_place code (place + 1 + count) next few to)
+
+pub costs-less : (fs : List ℕ) (code : List Instr) (i : Instr) (place count next : ℕ) → length code < 2 ^ 63 → slice_get code place ≡ Some i → cost fs (drop (suc place) code) count ≤ beside fs i (cost fs (drop (suc place) code)) → next ≡ min (place + 1 + count) (2 ^ 64 - 1) → cost fs code next < cost fs code place
+costs-less fs code i place count next few there le to =
+    omega (arith, cost_at fs code place i there, le, cost_beyond fs code (suc place) count (place + 1 + count) (omega arith), cost_there fs code (place + 1 + count) next (same_place code (place + 1 + count) next few to))
+
+-- an answer's jump
+pub answers : (s : Setting) (around : Around) (i : Instr) (m : ℕ) (is : Bool) (q : Question) (n : ℕ) (b : Bool) (rest : ℕ → At) (vals : Frame) (os : List Val) (attrs : Attrs) → i ≡ instrs.JumpIfAsked is q n → s.around ≡ around → question around q vals attrs ≡ Done (VBool b) attrs → m ≡ jump_where is n b → one s i rest vals os attrs ≡ rest m vals os attrs
+answers s around i m is q n b rest vals os attrs what same answer far =
+    ap (λ (i : Instr). one s i rest vals os attrs) what
+    ∙ ap (λ (a : Around). and_then (question a q vals attrs) (λ v attrs. and_then (plainly (bool_in v) attrs) (λ b attrs. rest (jump_where is n b) vals os attrs))) same
+    ∙ ap (λ (flow : Flow Val). and_then flow (λ v attrs. and_then (plainly (bool_in v) attrs) (λ b attrs. rest (jump_where is n b) vals os attrs))) answer
+    ∙ ap (λ (m : ℕ). rest m vals os attrs) (sym far)
 
 one_way : (of : ℕ → ℕ) (is : Bool) (n : ℕ) (b : Bool) → of (jump_where is n b) ≤ max (of 0) (of n)
 one_way of true n true = le-max_right (of 0) (of n)
@@ -64,10 +106,8 @@ one_way of true n false = le-max_left (of 0) (of n)
 one_way of false n true = le-max_left (of 0) (of n)
 one_way of false n false = le-max_right (of 0) (of n)
 
-pub costs-less : (fs : List ℕ) (code : List Instr) (i : Instr) (place m : ℕ) (is : Bool) (q : Question) (n : ℕ) (b : Bool) (r : Option ℕ) → slice_get code place ≡ Some i → i ≡ instrs.JumpIfAsked is q n → m ≡ jump_where is n b → IfSome r (λ next. next ≡ place + 1 + m) → IfSome r (λ next. cost fs code next < cost fs code place)
-costs-less fs code i place m is q n b None there what far to = tt
-costs-less fs code i place m is q n b (Some next) there what far to =
-    omega (arith, cost_at fs code place i there, ap (λ (i : Instr). beside fs i (cost fs (drop (suc place) code))) what, cost_beyond fs code (suc place) (jump_where is n b) next (omega (arith, far, to)), one_way (cost fs (drop (suc place) code)) is n b)
+pub cheaper : (fs : List ℕ) (i : Instr) (m : ℕ) (is : Bool) (q : Question) (n : ℕ) (b : Bool) (of : ℕ → ℕ) → i ≡ instrs.JumpIfAsked is q n → m ≡ jump_where is n b → of m ≤ beside fs i of
+cheaper fs i m is q n b of what far = rw (what, far) (one_way of is n b)
 
 -- a step behind jumps that were passed
 pub goes_from : (r : Result Step Halt) (before mid after : Flow Frame) (attrs : Attrs) (more less now : ℕ) → before ≡ mid → less ≤ more → Steps r mid after attrs less now → Steps r before after attrs more now

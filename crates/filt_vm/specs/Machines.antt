@@ -121,7 +121,31 @@ IsReady around (instrs.JumpIfDecided joint n) os attrs = TakesTop bool_in os
 IsReady around (instrs.Switch arms) os attrs = TakesTop (arms_before (labels_of arms.now)) os
 IsReady around _ os attrs = ⊤
 
+-- ---- what waits
+
+-- What each level goes on with is there: a caller's variables and operands, the operands round a loop and
+-- what the loop goes over.
+abbrev pub AreThere : List Level → (frames operands : List (List Val)) → List Frame → Type 0
+AreThere [] fs os ls = ⊤
+AreThere (levels.Returns c ∷ more) fs os ls =
+    (0 < length fs) × (0 < length os) × AreThere more (rest_of fs) (rest_of os) ls
+AreThere (levels.Turns t ∷ more) fs os ls =
+    (0 < length os) × (0 < length ls) × AreThere more fs (rest_of os) (behind_first ls)
+
 -- ---- machines
+
+-- what the machine's levels go on with is there
+abbrev pub IsWhole : Machine → Type 0
+IsWhole m = AreThere m.levels.levels m.locals.under m.operands.under m.levels.lists
+
+-- what these levels go on with is there
+abbrev pub IsWholeBehind : List Level → Machine → Type 0
+IsWholeBehind all m = AreThere all m.locals.under m.operands.under m.levels.lists
+
+-- a machine that goes on is whole
+abbrev pub StaysWhole : Result Step Halt → Machine → Type 0
+StaysWhole (Ok steps.On) m = IsWhole m
+StaysWhole _ m = ⊤
 
 -- what the machine comes to
 abbrev pub outcome : Machine → Flow Frame

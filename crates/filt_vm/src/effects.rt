@@ -11,7 +11,7 @@ ghost use Rattle.filt_meaning.specs.Meaning.{attribute, set_attributes, set_vari
 ghost use Rattle.filt_route.specs.Seen.{around_in, IsUnstuck, Yields};
 ghost use Rattle.filt_vm.specs.Seen.{TakesTop, TakesTopTwo};
 
-use crate::locals::Locals;
+use crate::frames::Frames;
 use crate::operands::Operands;
 use bits_ip::OutOfMemory;
 use conf_ast::filters::Attribute;
@@ -25,45 +25,45 @@ use std::alloc::Global;
 #[inline(never)]
 pub(crate) fn effect<'a>(
     around: &Surroundings<'a>,
-    what: Effect<'a>,
-    locals: &mut Locals<'a>,
+    what: &Effect<'a>,
+    locals: &mut Frames<'a>,
     operands: &mut Operands<'a>,
     attrs: &mut Running<'a>,
 ) -> Result<(), Halt>
-    requires { IsUnstuck (effect (around_in around.now) what locals.old.here operands.old.here
+    requires { IsUnstuck (effect (around_in around.now) what.now locals.old.here operands.old.here
         attrs.old) }
     ensures done { Yields (λ _. (locals.new.here, operands.new.here)) result attrs.new
-        (effect (around_in around.now) what.entry locals.old.here operands.old.here attrs.old) }
+        (effect (around_in around.now) what.now locals.old.here operands.old.here attrs.old) }
     ensures variables { OnOk result (locals.new.under ≡ locals.old.under) }
     ensures operands { OnOk result (operands.new.under ≡ operands.old.under) }
 {
     match what {
         Effect::Push(known) => Ok(put_known(around.alloc, known, operands)?),
-        Effect::Local(place) => Ok(put_local(place, locals, operands)?),
-        Effect::Attribute(a) => put_attribute(around, a, operands, attrs),
-        Effect::Defined(a) => Ok(put_defined(a, operands, attrs)?),
-        Effect::Default(sort) => Ok(put_default(around, sort, operands)?),
-        Effect::One(operator) => one(around.alloc, operator, operands),
-        Effect::Two(operator) => two(operator, operands),
+        Effect::Local(place) => Ok(put_local(*place, locals, operands)?),
+        Effect::Attribute(a) => put_attribute(around, *a, operands, attrs),
+        Effect::Defined(a) => Ok(put_defined(*a, operands, attrs)?),
+        Effect::Default(sort) => Ok(put_default(around, *sort, operands)?),
+        Effect::One(operator) => one(around.alloc, *operator, operands),
+        Effect::Two(operator) => two(*operator, operands),
         Effect::Discard => {
             discard(operands);
             Ok(())
         }
         Effect::Store(place) => {
-            store(place, locals, operands);
+            store(*place, locals, operands);
             Ok(())
         }
         Effect::Assign(a) => {
-            assign(a, operands, attrs);
+            assign(*a, operands, attrs);
             Ok(())
         }
         Effect::Unset(a) => {
-            attrs.unset(around.alloc, a);
+            attrs.unset(around.alloc, *a);
             Ok(())
         }
-        Effect::Declare(sort) => Ok(declare(around, sort, locals)?),
+        Effect::Declare(sort) => Ok(declare(around, *sort, locals)?),
         Effect::Leave(count) => {
-            let left = locals.len().saturating_sub(count);
+            let left = locals.len().saturating_sub(*count);
             locals.truncate(left);
             Ok(())
         }
@@ -87,7 +87,7 @@ fn put_known<'a>(
 #[inline(never)]
 fn put_local<'a>(
     place: usize,
-    locals: &Locals<'a>,
+    locals: &Frames<'a>,
     operands: &mut Operands<'a>,
 ) -> Result<(), OutOfMemory>
     requires { place < length locals.now.here }
@@ -161,7 +161,7 @@ fn discard<'a>(operands: &mut Operands<'a>)
 fn declare<'a>(
     around: &Surroundings<'a>,
     sort: Sort,
-    locals: &mut Locals<'a>,
+    locals: &mut Frames<'a>,
 ) -> Result<(), OutOfMemory>
     ensures { OnOk result (locals.new ≡ record {
       here = locals.old.here ++ default_of sort ∷ [];
@@ -202,7 +202,7 @@ fn two<'a>(operator: OfTwo, operands: &mut Operands<'a>) -> Result<(), Halt>
 }
 
 #[inline(never)]
-fn store<'a>(place: usize, locals: &mut Locals<'a>, operands: &mut Operands<'a>)
+fn store<'a>(place: usize, locals: &mut Frames<'a>, operands: &mut Operands<'a>)
     requires place { place < length locals.old.here }
     requires operand { 0 < length operands.old.here }
     ensures done { (attrs : Attrs)

@@ -4,10 +4,10 @@ ghost use Rattle.std.specs.Prelude.{◌≡◌, IfOk};
 ghost use Rattle.filt_code.specs.Codes.{code_judged, IsNeverStuck};
 ghost use Rattle.filt_meaning.specs.Configuration.{around_route, verdict_of};
 ghost use Rattle.filt_route.specs.Seen.{IsUnstuck};
-ghost use Rattle.filt_vm.specs.Machines.{outcome};
+ghost use Rattle.filt_vm.specs.Machines.{outcome, IsWhole};
 
+use crate::frames::Frames;
 use crate::level::Levels;
-use crate::locals::Locals;
 use crate::machine::{Machine, first};
 use crate::operands::Operands;
 use crate::step::Step;
@@ -66,7 +66,7 @@ fn run_over<'a>(
         around,
         functions: first(functions, code.functions),
         rest: code.code.as_slice(),
-        locals: Locals::new(alloc),
+        locals: Frames::new(alloc),
         operands: Operands::new(alloc),
         levels: Levels::new(alloc),
         attrs: Running::of(&route.attrs),
@@ -76,7 +76,8 @@ fn run_over<'a>(
 
 /// What the machine says in the end.
 fn finished(alloc: Global, machine: Machine<'_>) -> Result<Verdict, OutOfMemory>
-    requires { IsUnstuck (outcome machine) }
+    requires unstuck { IsUnstuck (outcome machine) }
+    requires whole { IsWhole machine }
     ensures { IfOk result (λ v. v ≡ verdict_of (outcome machine.entry)) }
 {
     let mut machine = machine;

@@ -127,12 +127,13 @@ impl<'a> Levels<'a> {
 
     /// Whether the list of the innermost loop has an element at that place.
     pub(crate) fn has(&self, n: usize) -> bool
+        requires { 0 < length self.now.lists }
         ensures has { result ≡ nat_lt n (length (top_elements self.now.lists)) }
         ensures few { IsTrue result → n < 120 }
     {
         match self.lists.last() {
             Some(list) => n < list.len(),
-            None => false,
+            None => unreachable!(),
         }
     }
 

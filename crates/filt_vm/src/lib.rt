@@ -12,9 +12,9 @@
 #![tactic(auto)]
 
 mod effects;
+mod frames;
 mod judging;
 mod level;
-mod locals;
 mod machine;
 mod operands;
 mod passing;

@@ -10,11 +10,11 @@ ghost use Rattle.filt_meaning.specs.Values.{Val};
 ghost use Rattle.filt_code.specs.declared.instr.Instr.TheVariants as instrs;
 ghost use Rattle.filt_vm.specs.declared.level.Level.TheVariants as levels;
 ghost use Rattle.filt_route.specs.Seen.{IsUnstuck};
-ghost use Rattle.filt_vm.specs.Machines.{back_in, call_of, left_in, outcome, outcome_behind, resumed, waits, Ends, Goes, IsJump};
+ghost use Rattle.filt_vm.specs.Machines.{back_in, call_of, left_in, outcome, outcome_behind, resumed, waits, AreThere, Ends, Goes, IsJump, IsWhole, IsWholeBehind, StaysWhole};
 
 use crate::effects::effect;
+use crate::frames::Frames;
 use crate::level::{Call, Level, Levels, Turn};
-use crate::locals::Locals;
 use crate::operands::Operands;
 use crate::passing::ahead;
 use crate::step::Step;
@@ -23,7 +23,6 @@ use attrs::FilterFault;
 use filt_code::{Effect, Instr, Routine};
 use filt_meaning::Value;
 use filt_route::{Elements, Halt, Running, Surroundings};
-use std::alloc::Global;
 
 /// A filter that runs.
 #[derive(Drop)]
@@ -33,7 +32,7 @@ pub(crate) struct Machine<'a> {
     pub functions: &'a [Routine<'a>],
     /// The code from the next instruction on.
     pub rest: &'a [Instr<'a>],
-    pub locals: Locals<'a>,
+    pub locals: Frames<'a>,
     pub operands: Operands<'a>,
     pub levels: Levels<'a>,
     pub attrs: Running<'a>,
@@ -42,28 +41,34 @@ pub(crate) struct Machine<'a> {
 impl<'a> Machine<'a> {
     /// The next instruction.
     pub(crate) fn step(&mut self) -> Result<Step, Halt>
-        requires { IsUnstuck (outcome self.old) }
-        ensures { Goes result self.old self.new }
+        requires unstuck { IsUnstuck (outcome self.old) }
+        requires whole { IsWhole self.old }
+        ensures goes { Goes result self.old self.new }
+        ensures whole { StaysWhole result self.new }
     {
         self.rest = ahead(&self.around, self.rest, &self.attrs);
         self.first()
     }
 
     fn first(&mut self) -> Result<Step, Halt>
-        requires { IsUnstuck (outcome self.old) }
-        ensures { Goes result self.old self.new }
+        requires unstuck { IsUnstuck (outcome self.old) }
+        requires whole { IsWhole self.old }
+        ensures goes { Goes result self.old self.new }
+        ensures whole { StaysWhole result self.new }
     {
         let rest = self.rest;
         match rest.first() {
-            Some(i) => self.do_one(*i, &rest[1..]),
+            Some(i) => self.do_one(i, &rest[1..]),
             None => self.end(),
         }
     }
 
-    fn do_one(&mut self, i: Instr<'a>, tail: &'a [Instr<'a>]) -> Result<Step, Halt>
-        requires code { self.old.rest.now ≡ i ∷ tail.now }
+    fn do_one(&mut self, i: &Instr<'a>, tail: &'a [Instr<'a>]) -> Result<Step, Halt>
+        requires code { self.old.rest.now ≡ i.now ∷ tail.now }
         requires unstuck { IsUnstuck (outcome self.old) }
-        ensures { Goes result self.old self.new }
+        requires whole { IsWhole self.old }
+        ensures goes { Goes result self.old self.new }
+        ensures whole { StaysWhole result self.new }
     {
         match i {
             Instr::Do(what) => self.act(what, tail),
@@ -72,10 +77,10 @@ impl<'a> Machine<'a> {
             Instr::JumpIfAsked(_, _, _) => self.jump(i, tail),
             Instr::JumpIfDecided(_, _) => self.jump(i, tail),
             Instr::Switch(_) => self.jump(i, tail),
-            Instr::ForEach(over) => self.for_each(over, tail),
+            Instr::ForEach(over) => self.for_each(*over, tail),
             Instr::EndTurn => self.end(),
-            Instr::Call(number, count) => self.call(number, count, true, tail),
-            Instr::Perform(number, count) => self.call(number, count, false, tail),
+            Instr::Call(number, count) => self.call(*number, *count, true, tail),
+            Instr::Perform(number, count) => self.call(*number, *count, false, tail),
             Instr::Accept => Ok(Step::Accepts),
             Instr::Reject => Ok(Step::Rejects(None)),
             Instr::Return => self.give_top(tail),
@@ -85,10 +90,12 @@ impl<'a> Machine<'a> {
     }
 
     /// An effect, with the code behind it.
-    fn act(&mut self, what: Effect<'a>, tail: &'a [Instr<'a>]) -> Result<Step, Halt>
-        requires code { self.old.rest.now ≡ instrs.Do what ∷ tail.now }
+    fn act(&mut self, what: &Effect<'a>, tail: &'a [Instr<'a>]) -> Result<Step, Halt>
+        requires code { self.old.rest.now ≡ instrs.Do what.now ∷ tail.now }
         requires unstuck { IsUnstuck (outcome self.old) }
-        ensures { Goes result self.old self.new }
+        requires whole { IsWhole self.old }
+        ensures goes { Goes result self.old self.new }
+        ensures whole { StaysWhole result self.new }
     {
         effect(
             &self.around,
@@ -102,11 +109,13 @@ impl<'a> Machine<'a> {
     }
 
     /// A jump, with the code behind it.
-    fn jump(&mut self, i: Instr<'a>, tail: &'a [Instr<'a>]) -> Result<Step, Halt>
-        requires jumps { IsJump i }
-        requires code { self.old.rest.now ≡ i ∷ tail.now }
+    fn jump(&mut self, i: &Instr<'a>, tail: &'a [Instr<'a>]) -> Result<Step, Halt>
+        requires jumps { IsJump i.now }
+        requires code { self.old.rest.now ≡ i.now ∷ tail.now }
         requires unstuck { IsUnstuck (outcome self.old) }
-        ensures { Goes result self.old self.new }
+        requires whole { IsWhole self.old }
+        ensures goes { Goes result self.old self.new }
+        ensures whole { StaysWhole result self.new }
     {
         let passed = target(&self.around, i, &mut self.operands, &self.attrs)?;
         self.rest = behind(tail, passed);
@@ -117,7 +126,9 @@ impl<'a> Machine<'a> {
     fn for_each(&mut self, over: usize, tail: &'a [Instr<'a>]) -> Result<Step, Halt>
         requires code { self.old.rest.now ≡ instrs.ForEach over ∷ tail.now }
         requires unstuck { IsUnstuck (outcome self.old) }
-        ensures { Goes result self.old self.new }
+        requires whole { IsWhole self.old }
+        ensures goes { Goes result self.old self.new }
+        ensures whole { StaysWhole result self.new }
     {
         let list = Elements::of(self.operands.pop());
         let turn = Turn {
@@ -129,7 +140,7 @@ impl<'a> Machine<'a> {
         };
         self.levels.begin(list)?;
         self.levels.push(Level::Turns(turn))?;
-        self.operands.enter(self.around.alloc)?;
+        self.operands.enter()?;
         let whole = tail.len();
         self.rest = behind(tail, whole);
         Ok(Step::On)
@@ -145,7 +156,9 @@ impl<'a> Machine<'a> {
     ) -> Result<Step, Halt>
         requires code { self.old.rest.now ≡ call_of puts number count ∷ tail.now }
         requires unstuck { IsUnstuck (outcome self.old) }
-        ensures { Goes result self.old self.new }
+        requires whole { IsWhole self.old }
+        ensures goes { Goes result self.old self.new }
+        ensures whole { StaysWhole result self.new }
     {
         let functions = self.functions;
         let routine = routine_at(functions, number);
@@ -155,9 +168,9 @@ impl<'a> Machine<'a> {
             gives: routine.gives,
             puts,
         };
-        let arguments = self.operands.take(count)?;
-        self.operands.enter(self.around.alloc)?;
-        self.locals.enter(arguments)?;
+        self.locals.enter()?;
+        self.operands.hand(count, &mut self.locals)?;
+        self.operands.enter()?;
         self.levels.push(Level::Returns(call))?;
         self.functions = first(functions, number);
         self.rest = routine.code.as_slice();
@@ -169,7 +182,9 @@ impl<'a> Machine<'a> {
         requires ends { (s : Setting) (vals : Frame) (os : List Val) (attrs : Attrs)
             → mean s self.old.rest.now 0 vals os attrs ≡ Done vals attrs }
         requires unstuck { IsUnstuck (outcome self.old) }
-        ensures { Goes result self.old self.new }
+        requires whole { IsWhole self.old }
+        ensures goes { Goes result self.old self.new }
+        ensures whole { StaysWhole result self.new }
     {
         match self.levels.pop() {
             None => Ok(Step::Rejects(Some(FilterFault::NoVerdict))),
@@ -182,10 +197,12 @@ impl<'a> Machine<'a> {
     fn give_top(&mut self, tail: &'a [Instr<'a>]) -> Result<Step, Halt>
         requires code { self.old.rest.now ≡ instrs.Return ∷ tail.now }
         requires unstuck { IsUnstuck (outcome self.old) }
-        ensures { Goes result self.old self.new }
+        requires whole { IsWhole self.old }
+        ensures goes { Goes result self.old self.new }
+        ensures whole { StaysWhole result self.new }
     {
         let value = self.operands.pop();
-        match unwound(self.around.alloc, &mut self.levels, &mut self.operands) {
+        match unwound(&mut self.levels, &mut self.operands) {
             Some(call) => self.give(call, value),
             None => Ok(Step::Rejects(None)),
         }
@@ -195,9 +212,11 @@ impl<'a> Machine<'a> {
     fn give_end(&mut self, tail: &'a [Instr<'a>]) -> Result<Step, Halt>
         requires code { self.old.rest.now ≡ instrs.ReturnNothing ∷ tail.now }
         requires unstuck { IsUnstuck (outcome self.old) }
-        ensures { Goes result self.old self.new }
+        requires whole { IsWhole self.old }
+        ensures goes { Goes result self.old self.new }
+        ensures whole { StaysWhole result self.new }
     {
-        match unwound(self.around.alloc, &mut self.levels, &mut self.operands) {
+        match unwound(&mut self.levels, &mut self.operands) {
             Some(call) => self.give_nothing(call),
             None => Ok(Step::Rejects(Some(FilterFault::NoVerdict))),
         }
@@ -205,8 +224,10 @@ impl<'a> Machine<'a> {
 
     /// A function gives a value to the caller that waited for it.
     fn give(&mut self, call: Call<'a>, value: Value<'a>) -> Result<Step, Halt>
-        ensures { Ends result (levels.Returns call.entry ∷ self.old.levels.levels)
+        requires { IsWholeBehind (levels.Returns call ∷ self.old.levels.levels) self.old }
+        ensures goes { Ends result (levels.Returns call.entry ∷ self.old.levels.levels)
             (Stopped (Returned (val_of value.entry)) self.old.attrs) self.old self.new }
+        ensures whole { StaysWhole result self.new }
     {
         self.go_back(call);
         if call.puts {
@@ -217,10 +238,12 @@ impl<'a> Machine<'a> {
 
     /// A function ends without a value.
     fn give_nothing(&mut self, call: Call<'a>) -> Result<Step, Halt>
-        requires { IsUnstuck (outcome_behind (levels.Returns call ∷ self.old.levels.levels)
+        requires unstuck { IsUnstuck (outcome_behind (levels.Returns call ∷ self.old.levels.levels)
             (Stopped AtEnd self.old.attrs) self.old) }
-        ensures { Ends result (levels.Returns call.entry ∷ self.old.levels.levels)
+        requires whole { IsWholeBehind (levels.Returns call ∷ self.old.levels.levels) self.old }
+        ensures goes { Ends result (levels.Returns call.entry ∷ self.old.levels.levels)
             (Stopped AtEnd self.old.attrs) self.old self.new }
+        ensures whole { StaysWhole result self.new }
     {
         if call.gives.is_some() {
             return Ok(Step::Rejects(Some(FilterFault::NoValue)));
@@ -231,18 +254,22 @@ impl<'a> Machine<'a> {
 
     /// The caller goes on.
     fn go_back(&mut self, call: Call<'a>)
+        requires variables { 0 < length self.old.locals.under }
+        requires operands { 0 < length self.old.operands.under }
         ensures { self.new ≡ back_in self.old call.entry }
     {
-        self.locals.leave(self.around.alloc);
-        self.operands.leave(self.around.alloc);
+        self.locals.leave();
+        self.operands.leave();
         self.functions = call.functions;
         self.rest = call.rest;
     }
 
     /// The next turn of a loop, or what is behind it.
     fn turn(&mut self, turn: Turn<'a>) -> Result<Step, Halt>
-        ensures { Ends result (levels.Turns turn.entry ∷ self.old.levels.levels)
+        requires { IsWholeBehind (levels.Turns turn ∷ self.old.levels.levels) self.old }
+        ensures goes { Ends result (levels.Turns turn.entry ∷ self.old.levels.levels)
             (Done self.old.locals.here self.old.attrs) self.old self.new }
+        ensures whole { StaysWhole result self.new }
     {
         self.functions = turn.functions;
         self.locals.truncate(turn.variables);
@@ -262,18 +289,16 @@ impl<'a> Machine<'a> {
             return Ok(Step::On);
         }
         self.levels.end();
-        self.operands.leave(self.around.alloc);
+        self.operands.leave();
         self.rest = behind(turn.body, turn.over);
         Ok(Step::On)
     }
 }
 
 /// The caller that waits for the function that runs, past the loops in between, which are over.
-fn unwound<'a>(
-    alloc: Global,
-    levels: &mut Levels<'a>,
-    operands: &mut Operands<'a>,
-) -> Option<Call<'a>>
+fn unwound<'a>(levels: &mut Levels<'a>, operands: &mut Operands<'a>) -> Option<Call<'a>>
+    requires { (fs : List (List Val)) × AreThere levels.old.levels fs operands.old.under
+        levels.old.lists }
     ensures flow { (around : Around) (fs : List (List Val)) (why : Why) (attrs : Attrs)
         → resumed around levels.old.levels fs operands.old.under levels.old.lists
         (Stopped why attrs)
@@ -281,13 +306,16 @@ fn unwound<'a>(
         (Stopped why attrs) }
     ensures left { left_in (waits result levels.new.levels) levels.new.lists
         ≤ left_in levels.old.levels levels.old.lists }
+    ensures whole { (fs : List (List Val)) → AreThere levels.old.levels fs operands.old.under
+        levels.old.lists
+        → AreThere (waits result levels.new.levels) fs operands.new.under levels.new.lists }
 {
     while let Some(level) = levels.pop() {
         match level {
             Level::Returns(call) => return Some(call),
             Level::Turns(_) => {
                 levels.end();
-                operands.leave(alloc);
+                operands.leave();
             }
         }
     }

@@ -1,9 +1,8 @@
 //! Conditions one behind another, whose answers are there already.
 
-ghost use Rattle.std.specs.Prelude.{◌≡◌, ◌<◌, ◌≤◌, ◌+◌, ℕ, List, Some, slice_get, IfSome};
-ghost use Rattle.filt_code.specs.declared.instr.Instr.{Instr};
-ghost use Rattle.filt_code.specs.Codes.{mean, Setting};
-ghost use Rattle.filt_code.specs.Costs.{cost};
+ghost use Rattle.std.specs.Prelude.{◌≡◌, ◌<◌, ◌≤◌, ◌+◌, ◌-◌, ◌^◌, ℕ, min, List, IfSome};
+ghost use Rattle.filt_code.specs.Codes.{mean, one, At, Setting};
+ghost use Rattle.filt_code.specs.Costs.{beside, cost};
 ghost use Rattle.filt_meaning.specs.Flow.{Frame};
 ghost use Rattle.filt_route.specs.Seen.{around_in};
 ghost use Rattle.filt_meaning.specs.Values.{Val};
@@ -77,40 +76,38 @@ fn after<'a>(
         < cost fs code.now place) }
 {
     match code.get(place) {
-        Some(i) => led(around, i, place, attrs),
+        Some(i) => {
+            let count = passed_over(around, i, attrs)?;
+            Some(beyond(place, count))
+        }
         None => None,
     }
 }
 
-/// Where an instruction leads that stands at a place.
+/// How many instructions such a jump passes over.
 #[inline(always)]
-fn led<'a>(
-    around: &Surroundings<'a>,
-    i: &Instr<'a>,
-    place: usize,
-    attrs: &Running<'a>,
-) -> Option<usize>
-    ensures means { (s : Setting) (code : List Instr) (vals : Frame) (os : List Val)
-        → s.around ≡ around_in around.now → slice_get code place ≡ Some i.now
-        → IfSome result (λ next. mean s code place vals os attrs.now
-        ≡ mean s code next vals os attrs.now) }
-    ensures cost { (fs : List ℕ) (code : List Instr) → slice_get code place ≡ Some i.now
-        → IfSome result (λ next. cost fs code next < cost fs code place) }
+fn passed_over<'a>(around: &Surroundings<'a>, i: &Instr<'a>, attrs: &Running<'a>) -> Option<usize>
+    ensures means { (s : Setting) (rest : ℕ → At) (vals : Frame) (os : List Val)
+        → s.around ≡ around_in around.now
+        → IfSome result (λ count. one s i.now rest vals os attrs.now
+        ≡ rest count vals os attrs.now) }
+    ensures cost { (fs : List ℕ) (of : ℕ → ℕ) → IfSome result
+        (λ count. of count ≤ beside fs i.now of) }
 {
     match i {
         Instr::JumpIfAsked(is, what, n) => {
             let holds = answered(around, what, attrs)?;
-            beyond(place, jump_where(*is, *n, holds))
+            Some(jump_where(*is, *n, holds))
         }
         _ => None,
     }
 }
 
-/// The place so far behind the instruction at a place.
+/// The place so far behind the instruction at a place, or the last number that there is.
 #[inline(always)]
-fn beyond(place: usize, n: usize) -> Option<usize>
-    ensures { IfSome result (λ next. next ≡ place + 1 + n) }
+fn beyond(place: usize, count: usize) -> usize
+    requires { place < 2 ^ 63 }
+    ensures { result ≡ min (place + 1 + count) (2 ^ 64 - 1) }
 {
-    let behind = place.checked_add(1)?;
-    behind.checked_add(n)
+    (place + 1).saturating_add(count)
 }

@@ -13,30 +13,30 @@ ghost use Rattle.filt_vm.specs.Seen.{TakesTop};
 use crate::operands::Operands;
 use conf_ast::filters::LogicalOp;
 use filt_code::Instr;
-use filt_meaning::{TArm, TStmt, Value};
+use filt_meaning::{TArm, TStmt};
 use filt_route::{Halt, Running, Surroundings, arms_before, asked, bool};
 
 /// How many instructions a jump passes over, and what it does to the operands.
 pub(crate) fn target<'a>(
     around: &Surroundings<'a>,
-    i: Instr<'a>,
+    i: &Instr<'a>,
     operands: &mut Operands<'a>,
     attrs: &Running<'a>,
 ) -> Result<usize, Halt>
-    requires jumps { IsJump i }
-    requires ready { IsReady (around_in around.now) i operands.old.here attrs.now }
+    requires jumps { IsJump i.now }
+    requires ready { IsReady (around_in around.now) i.now operands.old.here attrs.now }
     ensures leads { (s : Setting) (rest : ℕ → At) (vals : Frame)
         → s.around ≡ around_in around.now
         → Leads result (λ n. rest n vals operands.new.here attrs.now) attrs.now
-        (one s i.entry rest vals operands.old.here attrs.now) }
+        (one s i.now rest vals operands.old.here attrs.now) }
     ensures under { OnOk result (operands.new.under ≡ operands.old.under) }
-    ensures cost { (fs : List ℕ) (of : ℕ → ℕ) → IfOk result (λ n. of n ≤ beside fs i.entry of) }
+    ensures cost { (fs : List ℕ) (of : ℕ → ℕ) → IfOk result (λ n. of n ≤ beside fs i.now of) }
 {
     match i {
-        Instr::Jump(n) => Ok(n),
-        Instr::JumpIf(is, n) => Ok(if_top(is, n, operands)),
-        Instr::JumpIfAsked(is, what, n) => Ok(jump_where(is, n, asked(around, what, attrs)?)),
-        Instr::JumpIfDecided(joint, n) => if_decided(joint, n, operands),
+        Instr::Jump(n) => Ok(*n),
+        Instr::JumpIf(is, n) => Ok(if_top(*is, *n, operands)),
+        Instr::JumpIfAsked(is, what, n) => Ok(jump_where(*is, *n, asked(around, *what, attrs)?)),
+        Instr::JumpIfDecided(joint, n) => Ok(if_decided(*joint, *n, operands)),
         Instr::Switch(arms) => among(arms, operands),
         _ => unreachable!(),
     }
@@ -67,23 +67,22 @@ fn if_top(is: bool, n: usize, operands: &mut Operands<'_>) -> usize
     jump_where(is, n, bool(&value))
 }
 
-fn if_decided(joint: LogicalOp, n: usize, operands: &mut Operands<'_>) -> Result<usize, Halt>
+/// Where the top operand decides it stays, so it is looked at before it is taken.
+fn if_decided(joint: LogicalOp, n: usize, operands: &mut Operands<'_>) -> usize
     requires { TakesTop bool_in operands.old.here }
     ensures leads { (rest : ℕ → At) (vals : Frame) (attrs : Attrs)
-        → Leads result (λ n. rest n vals operands.new.here attrs) attrs
-        (with_one (λ v os attrs. and_then (plainly (bool_in v) attrs)
+        → with_one (λ v os attrs. and_then (plainly (bool_in v) attrs)
         (λ left attrs. behind_left (decides joint left) left n rest vals os attrs))
-        operands.old.here attrs) }
-    ensures under { OnOk result (operands.new.under ≡ operands.old.under) }
-    ensures either { IfOk result (λ m. (m ≡ 0) ⊎ (m ≡ n)) }
+        operands.old.here attrs
+        ≡ rest result vals operands.new.here attrs }
+    ensures under { operands.new.under ≡ operands.old.under }
+    ensures either { (result ≡ 0) ⊎ (result ≡ n) }
 {
-    let value = operands.pop();
-    let left = bool(&value);
-    if decides(joint, left) {
-        operands.push(Value::Bool(left))?;
-        return Ok(n);
+    if decides(joint, operands.truth()) {
+        return n;
     }
-    Ok(0)
+    let _taken = operands.pop();
+    0
 }
 
 /// Whether the value of the left side of `&&` or `||` is the whole's, whatever the right one is.
