@@ -5,7 +5,7 @@ ghost use Rattle.outside_io.specs.Faults.{Rose, NoneFell};
 ghost use Rattle.outside_io.specs.Whole.{IsLong, IsWhole};
 ghost use Rattle.sys_build.specs.Scripts.{Accepted, Answers};
 ghost use Rattle.sys_build.specs.Setups.{IsPlayable};
-ghost use Rattle.conf_system.specs.Coded.{AreOrdered, IsBefore};
+ghost use Rattle.conf_system.specs.Coded.{AllCanRun, CanRunOver};
 ghost use Rattle.conf_system.specs.Seen.{filter_says, system_of};
 ghost use Rattle.birdcore_top.specs.Outcome.{OverLimit, Played, Configures, ConfGives, IsConfigured, PlayGives, ScriptGives};
 ghost use Rattle.birdcore_top.specs.Answer.{AreMissedInTurn, IsMissed, FindsLackedBy, IsReadStatus, Stops};
@@ -39,9 +39,9 @@ pub(crate) fn read_files<F: Shelf>(
         (Played (setup_read files.system files.script cells) files.script.actors.items
         (phases_read files.script))) }
     ensures playable { IfOk result (λ files. IsPlayable (system_of files.system)) }
-    ensures ordered { IfOk result (λ files. AreOrdered files.system) }
+    ensures ordered { IfOk result (λ files. AllCanRun files.system) }
     ensures before { IfOk result (λ files.
-        All (IsBefore files.system) files.script.filters.items) }
+        All (CanRunOver files.system) files.script.filters.items) }
     ensures setup { IfOk result (λ files. (cells : ℕ)
         → IsSetup (setup_read files.system files.script cells)) }
     ensures asked { IfOk result (λ files.
@@ -74,7 +74,7 @@ pub(crate) fn read_conf<F: Shelf>(
     ensures config { IfOk result
         (λ system. IfSome (F.held shelf.old name.now) (Configures (system_of system))) }
     ensures configured { IfOk result (λ system. IsConfigured (system_of system)) }
-    ensures ordered { IfOk result AreOrdered }
+    ensures ordered { IfOk result AllCanRun }
     ensures stopped { IfErr result (Stops (ConfGives IfSome name.now (F.held shelf.old name.now))) }
     ensures read { result ≡ Err Status.ReadFault → Rose (F.faults shelf.old) (F.faults shelf.new) }
     ensures by_name { result ≡ Err Status.ReadFault
@@ -105,8 +105,8 @@ fn read_lines<F: Shelf>(
     ensures answers { IfOk result (λ script. (text : List ℕ) × Answers (system_of system.now) text
         (Accepted (phases_read script) script.actors.items script.queries.items
         (map (filter_says system.now) script.filters.items))) }
-    ensures before { AreOrdered system.now
-        → IfOk result (λ script. All (IsBefore system.now) script.filters.items) }
+    ensures before { AllCanRun system.now
+        → IfOk result (λ script. All (CanRunOver system.now) script.filters.items) }
     ensures stopped { IfErr result (Stops (λ o. (cells : ℕ)
         → ScriptGives IfSome (system_of system.now) cells name.now
         (F.held shelf.old name.now) o)) }

@@ -9,7 +9,7 @@ ghost use Rattle.outside_io.specs.Whole.{WritesFront};
 ghost use Rattle.report.specs.Report.{report_text, text_in};
 ghost use Rattle.sys_build.specs.Setups.{IsPlayable};
 ghost use Rattle.sys_run.specs.Playing as played;
-ghost use Rattle.conf_system.specs.Coded.{AreOrdered, HasCode, IsBefore};
+ghost use Rattle.conf_system.specs.Coded.{AllCanRun, HasCode, CanRunOver};
 ghost use Rattle.conf_system.specs.Seen.{system_of};
 ghost use Rattle.birdcore_top.specs.Answer.{CutsOff, IsEnd};
 ghost use Rattle.birdcore_top.specs.Written.{AskWhatIs, FitTables, HasBegun, HasPlayed, HasWritten, accepted_text, phases_read, setup_read, text_so_far};
@@ -41,8 +41,8 @@ pub(crate) fn write_play<R: RandomSource, K: Sink>(
     out: &mut K,
 ) -> Status
     requires playable { IsPlayable (system_of system.now) }
-    requires ordered { AreOrdered system.now }
-    requires before { All (IsBefore system.now) script.filters.items }
+    requires ordered { AllCanRun system.now }
+    requires before { All (CanRunOver system.now) script.filters.items }
     requires setup { IsSetup (setup_read system.now script cells) }
     requires asked { AskWhatIs (length script.queries.items) (phases_read script) }
     requires fits { FitTables (setup_read system.now script cells) (phases_read script) }
@@ -82,7 +82,7 @@ fn play_coded<K: Sink>(
 ) -> Status
     requires playable { IsPlayable (system_of system.now) }
     requires code { HasCode system.now code.now }
-    requires before { All (IsBefore system.now) script.filters.items }
+    requires before { All (CanRunOver system.now) script.filters.items }
     requires setup { IsSetup (setup_read system.now script cells) }
     requires asked { AskWhatIs (length script.queries.items) (phases_read script) }
     requires fits { FitTables (setup_read system.now script cells) (phases_read script) }

@@ -1,7 +1,7 @@
 //! What a configuration's filter says of a route: the policy of its own that its first protocol has,
 //! or else the last filter by name.
 ghost use Rattle.std.specs.Prelude.{◌<◌, length};
-ghost use Rattle.conf_system.specs.Coded.{AreOrdered, HasCode, PolicyBefore, ProtocolBefore};
+ghost use Rattle.conf_system.specs.Coded.{AllCanRun, HasCode, PolicyCanRun, ProtocolCanRun};
 ghost use Rattle.conf_system.specs.Seen.{system_of};
 
 use crate::policies::first;
@@ -20,7 +20,7 @@ fn by_policy(
     route: &Route,
 ) -> Result<Verdict, OutOfMemory>
     requires code { HasCode system.now code.now }
-    requires before { PolicyBefore system.now policy.now }
+    requires before { PolicyCanRun system.now policy.now }
 {
     let passes = system.passes(alloc, code, policy)?;
     passes.judge(net, route)
@@ -37,8 +37,8 @@ fn by_either(
     route: &Route,
 ) -> Result<Verdict, OutOfMemory>
     requires code { HasCode system.now code.now }
-    requires import { PolicyBefore system.now import.now }
-    requires export { PolicyBefore system.now export.now }
+    requires import { PolicyCanRun system.now import.now }
+    requires export { PolicyCanRun system.now export.now }
 {
     if is_own(export) {
         by_policy(alloc, system, code, export, net, route)
@@ -63,7 +63,7 @@ fn by_protocol(
     route: &Route,
 ) -> Result<Verdict, OutOfMemory>
     requires code { HasCode system.now code.now }
-    requires before { ProtocolBefore system.now protocol.now }
+    requires before { ProtocolCanRun system.now protocol.now }
 {
     match &protocol.body {
         ProtocolBody::Static(def) => by_either(
@@ -113,7 +113,7 @@ pub fn verdict(
     net: &Prefix,
     route: &Route,
 ) -> Result<Option<Verdict>, OutOfMemory>
-    requires ordered { AreOrdered system.now }
+    requires ordered { AllCanRun system.now }
     requires code { HasCode system.now code.now }
 {
     if let Some(protocol) = first(system) {

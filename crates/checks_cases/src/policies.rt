@@ -2,7 +2,7 @@
 //!
 //! The route comes from the protocol of number 0, as the module `routes` says.
 ghost use Rattle.std.specs.Prelude.{IfSome};
-ghost use Rattle.conf_system.specs.Coded.{AreOrdered, HasCode, PolicyBefore, ProtocolBefore};
+ghost use Rattle.conf_system.specs.Coded.{AllCanRun, HasCode, PolicyCanRun, ProtocolCanRun};
 
 use crate::faults::no_memory;
 use crate::routes::read_route;
@@ -32,7 +32,7 @@ fn verdict_text(alloc: Global, verdict: &Verdict) -> io::Result<String> {
 
 fn judged(alloc: Global, system: &System, code: &Code, policy: &PolicyDef) -> io::Result<String>
     requires code { HasCode system.now code.now }
-    requires before { PolicyBefore system.now policy.now }
+    requires before { PolicyCanRun system.now policy.now }
 {
     let (net, route) = read_route(alloc, ROUTE)?;
     let passes = system.passes(alloc, code, policy).map_err(no_memory)?;
@@ -44,8 +44,8 @@ fn judged(alloc: Global, system: &System, code: &Code, policy: &PolicyDef) -> io
 
 /// The first protocol.
 pub fn first(system: &System) -> Option<&ProtocolDef>
-    requires { AreOrdered system.now }
-    ensures { IfSome result (λ def. ProtocolBefore system.now def.now) }
+    requires { AllCanRun system.now }
+    ensures { IfSome result (λ def. ProtocolCanRun system.now def.now) }
 {
     system.checked.protocols.first()
 }
@@ -59,8 +59,8 @@ fn both(
     export: &PolicyDef,
 ) -> io::Result<String>
     requires code { HasCode system.now code.now }
-    requires import { PolicyBefore system.now import.now }
-    requires export { PolicyBefore system.now export.now }
+    requires import { PolicyCanRun system.now import.now }
+    requires export { PolicyCanRun system.now export.now }
 {
     let import = judged(alloc, system, code, import)?;
     let export = judged(alloc, system, code, export)?;
@@ -75,7 +75,7 @@ fn policies(
     protocol: &ProtocolDef,
 ) -> io::Result<String>
     requires code { HasCode system.now code.now }
-    requires before { ProtocolBefore system.now protocol.now }
+    requires before { ProtocolCanRun system.now protocol.now }
 {
     match &protocol.body {
         ProtocolBody::Static(def) => {
@@ -102,7 +102,7 @@ fn policies(
 
 /// What both policies of the first protocol say.
 fn of_first(alloc: Global, system: &System) -> io::Result<String>
-    requires { AreOrdered system.now }
+    requires { AllCanRun system.now }
 {
     let Some(protocol) = first(system) else {
         return Ok(String::from_str(alloc, "no protocol")?);

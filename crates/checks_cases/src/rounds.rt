@@ -4,7 +4,7 @@
 //! over 256 routes, of 10.0.0.0/24 to 10.0.255.0/24, alike but for the net, the MED, the last
 //! number of the path and the community, which count them.
 ghost use Rattle.std.specs.Prelude.{◌<◌, ◌^◌, ◌-◌, length};
-ghost use Rattle.conf_system.specs.Coded.{AreOrdered, HasCode};
+ghost use Rattle.conf_system.specs.Coded.{AllCanRun, HasCode};
 ghost use Rattle.conf_system.specs.Seen.{system_of};
 
 use crate::faults::{bad, no_memory};
@@ -70,7 +70,7 @@ fn counted(
 
 /// How many the last filter of a system accepts in so many rounds.
 fn of_last(alloc: Global, system: &System, rounds: u32) -> io::Result<u64>
-    requires { AreOrdered system.now }
+    requires { AllCanRun system.now }
 {
     let code = system.code(alloc).map_err(no_memory)?;
     let filters = system.filter_count();

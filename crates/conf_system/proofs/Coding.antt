@@ -23,7 +23,7 @@ use Rattle.filt_meaning.specs.declared.scope.Scope.{Scope}
 use Rattle.filt_meaning.specs.declared.scope.TFunction.{TFunction}
 use Rattle.filt_meaning.specs.declared.tree.TFilter.{TFilter}
 use Rattle.filt_meaning.specs.declared.fixed.Fixed.{Fixed}
-use Rattle.conf_system.specs.Coded.{AreOrdered, CanRun, CostTheirFilters, HasCode, IsBefore}
+use Rattle.conf_system.specs.Coded.{AllCanRun, CanRun, CostTheirFilters, HasCode, CanRunOver}
 use Rattle.conf_system.specs.Policies.{Filter}
 use Rattle.conf_system.specs.Seen.{draft_flow, draft_says, drafted, filter_flow, filter_says, flow_over, numbered}
 use Rattle.conf_system.specs.declared.code.Code.{Code}
@@ -52,7 +52,7 @@ abbrev pub Compiles : List Fixed → List Routine → TFilter → Draft → Type
 Compiles constants functions f draft = (ts : List TFunction) → AreCompiled constants 0 ts functions → AreBefore ts f → (around : Around) (attrs : Attrs) → code_flow around functions draft attrs ≡ tree_flow around constants ts f attrs
 
 -- the code of a filter that is held comes to what the filter comes to
-compiled_flows : (held : Held) (code : Code) (constants : List Fixed) (functions : List Routine) (f : TFilter) (draft : Draft) → HasCode held code → constants ≡ constant_values held.checked.declared.scope → functions ≡ code.functions.items → IsBefore held f
+compiled_flows : (held : Held) (code : Code) (constants : List Fixed) (functions : List Routine) (f : TFilter) (draft : Draft) → HasCode held code → constants ≡ constant_values held.checked.declared.scope → functions ≡ code.functions.items → CanRunOver held f
     → Compiles constants functions f draft → draft_flow code.functions.items draft ≡ filter_flow held.checked.declared.scope f
 compiled_flows held code constants functions f draft has cs fs can is =
     let scope = held.checked.declared.scope in
@@ -60,13 +60,13 @@ compiled_flows held code constants functions f draft has cs fs can is =
     (subst (λ (l : List Fixed). Compiles l code.functions.items f draft) cs (subst (λ (l : List Routine). Compiles constants l f draft) fs is) (function_trees scope) has.functions can.before)
 
 -- so it says what the filter says
-pub compiled_says : (held : Held) (code : Code) (constants : List Fixed) (functions : List Routine) (f : TFilter) (draft : Draft) → HasCode held code → constants ≡ constant_values held.checked.declared.scope → functions ≡ code.functions.items → IsBefore held f
+pub compiled_says : (held : Held) (code : Code) (constants : List Fixed) (functions : List Routine) (f : TFilter) (draft : Draft) → HasCode held code → constants ≡ constant_values held.checked.declared.scope → functions ≡ code.functions.items → CanRunOver held f
     → Compiles constants functions f draft → draft_says code.functions.items held.names draft ≡ filter_says held f
 compiled_says held code constants functions f draft has cs fs can is =
     ap (λ (l : Flows). says_by held.names l) (compiled_flows held code constants functions f draft has cs fs can is)
 
 -- and is never stuck where the filter isn't
-pub compiled_never_stuck : (held : Held) (code : Code) (constants : List Fixed) (functions : List Routine) (f : TFilter) (draft : Draft) → HasCode held code → constants ≡ constant_values held.checked.declared.scope → functions ≡ code.functions.items → IsBefore held f
+pub compiled_never_stuck : (held : Held) (code : Code) (constants : List Fixed) (functions : List Routine) (f : TFilter) (draft : Draft) → HasCode held code → constants ≡ constant_values held.checked.declared.scope → functions ≡ code.functions.items → CanRunOver held f
     → Compiles constants functions f draft → IsNeverStuck code.functions.items draft
 compiled_never_stuck held code constants functions f draft has cs fs can is =
     subst NeverStuck (sym (compiled_flows held code constants functions f draft has cs fs can is)) can.never_stuck
@@ -152,7 +152,7 @@ light_over before (f ∷ fs) h = (subst (λ (l : List TFunction). IsLight l f) (
 abbrev pub CompilesAll : List Fixed → List Routine → List TFilter → List Draft → Type 0
 CompilesAll constants functions filters drafts = (ts : List TFunction) → AreCompiled constants 0 ts functions → All (AreBefore ts) filters → map (draft_flow functions) drafts ≡ map (flow_over constants ts) filters
 
-pub has_code : (held : Held) (code : Code) (constants : List Fixed) (ts : List TFunction) (rs : List Routine) (fs : List TFilter) → AreOrdered held → constants ≡ constant_values held.checked.declared.scope → ts ≡ function_trees held.checked.declared.scope
+pub has_code : (held : Held) (code : Code) (constants : List Fixed) (ts : List TFunction) (rs : List Routine) (fs : List TFilter) → AllCanRun held → constants ≡ constant_values held.checked.declared.scope → ts ≡ function_trees held.checked.declared.scope
     → rs ≡ code.functions.items → fs ≡ held.checked.filters.items → AreCompiled constants 0 ts code.functions.items → CompilesAll constants rs fs code.filters.items
     → CostTheirSteps ts code.functions.items → CostTheirFilters rs fs code.filters.items → HasCode held code
 has_code held code constants ts rs fs ordered cs are same filters compiled all theirs each =

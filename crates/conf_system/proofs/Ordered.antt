@@ -37,7 +37,7 @@ use Rattle.conf_check.specs.declared.checked.ProtocolBody.TheVariants as bodies
 use Rattle.conf_check.specs.declared.checked.ProtocolDef.{ProtocolDef}
 use Rattle.conf_rules.specs.Channels.{settings_of}
 use Rattle.conf_system.specs.Behind.{context_behind, scene_behind}
-use Rattle.conf_system.specs.Coded.{AreOrdered, AreWithin, BodyBefore, CanRun, ChannelBefore, IsBefore, IsTyped, PolicyBefore, ProtocolBefore}
+use Rattle.conf_system.specs.Coded.{AllCanRun, AreWithin, BodyCanRun, CanRun, ChannelCanRun, CanRunOver, IsTyped, PolicyCanRun, ProtocolCanRun}
 use Rattle.conf_system.specs.Written.{IsWritten, filters_in, in_policy}
 use Rattle.conf_system.specs.declared.system.System.{System as Held}
 use Rattle.conf_system.proofs.Conditions.{none_left}
@@ -61,7 +61,7 @@ alone fs f most h = subst (λ (l : List TFunction). filter_steps l f ≤ most) (
 -- ---- policies
 
 module _ (text : List ℕ) (held : Held) (all : List conf.Declaration) (safe : AreNeverStuck text all) (short : AreShort text all) where
-  does_run : (before : List conf.Declaration) (ss : Statements) (f : TFilter) → IsWritten all before ss → Does text held.checked.declared.scope before ss f → IsBefore held f
+  does_run : (before : List conf.Declaration) (ss : Statements) (f : TFilter) → IsWritten all before ss → Does text held.checked.declared.scope before ss f → CanRunOver held f
   does_run before ss f w is = record {
     before = is.sees;
     never_stuck = λ around attrs after e. safe before ss w around attrs after (sym (is.comes_to around attrs) ∙ e);
@@ -78,7 +78,7 @@ module _ (text : List ℕ) (held : Held) (all : List conf.Declaration) (safe : A
     abbrev Written : Statements → Type 0
     Written ss = IsWritten all before ss
 
-    policy_before : (passing : Passing) (policy : PolicyDef) → Every Written (in_policy passing) → IsPolicy known Here passing policy → PolicyBefore held policy
+    policy_before : (passing : Passing) (policy : PolicyDef) → Every Written (in_policy passing) → IsPolicy known Here passing policy → PolicyCanRun held policy
     policy_before passing policies.All w is = tt
     policy_before passing policies.None w is = tt
     policy_before passing (policies.Filter n) w is = tt
@@ -88,18 +88,18 @@ module _ (text : List ℕ) (held : Held) (all : List conf.Declaration) (safe : A
     policy_before PassNone (policies.Own f) w is = absurd is
     policy_before (PassByFilter at name) (policies.Own f) w is = absurd is
 
-    channel_before : (n : ℕ) (c : FamilyChannel) (def : ChannelDef) → OfChannel Written c → IsChannel known Here n c def → ChannelBefore held def
+    channel_before : (n : ℕ) (c : FamilyChannel) (def : ChannelDef) → OfChannel Written c → IsChannel known Here n c def → ChannelCanRun held def
     channel_before n c def w is = (
       policy_before (last_import PassAll (settings_of c)) def.import (of_import Written PassAll (settings_of c) tt w) is.imports,
       policy_before (last_export PassNone (settings_of c)) def.export (of_export Written PassNone (settings_of c) tt w) is.exports,
     )
 
-    only_before : (n : ℕ) (cs : List FamilyChannel) (def : ChannelDef) → Every (OfChannel Written) cs → IsOnly (λ c. IsChannel known Here n c def) cs → ChannelBefore held def
+    only_before : (n : ℕ) (cs : List FamilyChannel) (def : ChannelDef) → Every (OfChannel Written) cs → IsOnly (λ c. IsChannel known Here n c def) cs → ChannelCanRun held def
     only_before n [] def w is = absurd is
     only_before n (c ∷ []) def w is = channel_before n c def w.0 is
     only_before n (c ∷ d ∷ more) def w is = absurd is
 
-    body_before : (d : conf.Declaration) (body : ProtocolBody) → Every Written (filters_in d) → IsBody known Here d body → BodyBefore held body
+    body_before : (d : conf.Declaration) (body : ProtocolBody) → Every Written (filters_in d) → IsBody known Here d body → BodyCanRun held body
     body_before (conf.Static p) (bodies.Static def) w is = only_before checks.static_preference (static_channels p.settings) def.channel (of_static Written p.settings w) is.channel
     body_before (conf.Bgp p) (bodies.Bgp def) w is = only_before checks.bgp_preference (bgp_channels p.settings) def.channel (of_bgp Written p.settings w) is.channel
     body_before (conf.Pipe p) (bodies.Pipe def) w is = (
@@ -122,22 +122,22 @@ module _ (text : List ℕ) (held : Held) (all : List conf.Declaration) (safe : A
 
   -- ---- all that is held
 
-  filters_before : (sources : List Source) (fs : List TFilter) → Every (λ (s : Source). IsWritten all s.0 s.1) sources → DoEach (Does text held.checked.declared.scope) sources fs → All (IsBefore held) fs
+  filters_before : (sources : List Source) (fs : List TFilter) → Every (λ (s : Source). IsWritten all s.0 s.1) sources → DoEach (Does text held.checked.declared.scope) sources fs → All (CanRunOver held) fs
   filters_before [] [] w each = λ k d below. absurd (omega (arith, below))
   filters_before [] (f ∷ fs) w each = absurd each
   filters_before (s ∷ sources) [] w each = absurd each
-  filters_before (s ∷ sources) (f ∷ fs) w each = All-cons (IsBefore held) f fs (does_run s.0 s.1 f w.0 each.0) (filters_before sources fs w.1 each.1)
+  filters_before (s ∷ sources) (f ∷ fs) w each = All-cons (CanRunOver held) f fs (does_run s.0 s.1 f w.0 each.0) (filters_before sources fs w.1 each.1)
 
-  next_before : (b : Bool) (is : ProtocolDef → Type 0) (rest : List ProtocolDef → Type 0) → ((def : ProtocolDef) → is def → ProtocolBefore held def) → ((defs : List ProtocolDef) → rest defs → All (ProtocolBefore held) defs)
-      → (defs : List ProtocolDef) → NextProtocol b is rest defs → All (ProtocolBefore held) defs
+  next_before : (b : Bool) (is : ProtocolDef → Type 0) (rest : List ProtocolDef → Type 0) → ((def : ProtocolDef) → is def → ProtocolCanRun held def) → ((defs : List ProtocolDef) → rest defs → All (ProtocolCanRun held) defs)
+      → (defs : List ProtocolDef) → NextProtocol b is rest defs → All (ProtocolCanRun held) defs
   next_before false is rest one more defs h = more defs h
   next_before true is rest one more [] h = absurd h
-  next_before true is rest one more (def ∷ defs) h = All-cons (ProtocolBefore held) def defs (one def h.0) (more defs h.1)
+  next_before true is rest one more (def ∷ defs) h = All-cons (ProtocolCanRun held) def defs (one def h.0) (more defs h.1)
 
   written_in : (before ds : List conf.Declaration) (d : conf.Declaration) → all ≡ before ++ d ∷ ds → Every (IsWritten all before) (filters_in d)
   written_in before ds d is = weaker (λ ss. Contains (filters_in d) ss) (IsWritten all before) (λ ss c. (d, ds, is, c)) (filters_in d) (members (filters_in d))
 
-  protocols_before : (before ds : List conf.Declaration) (defs : List ProtocolDef) → all ≡ before ++ ds → AreProtocols text (Does text held.checked.declared.scope) before ds defs → All (ProtocolBefore held) defs
+  protocols_before : (before ds : List conf.Declaration) (defs : List ProtocolDef) → all ≡ before ++ ds → AreProtocols text (Does text held.checked.declared.scope) before ds defs → All (ProtocolCanRun held) defs
   protocols_before before [] [] is are = λ k d below. absurd (omega (arith, below))
   protocols_before before [] (def ∷ defs) is are = absurd are
   protocols_before before (d ∷ ds) defs is are =
@@ -162,7 +162,7 @@ typed text ds held is agree own around =
     (subst (λ (s : Scene). Agrees s (context_of text around scope [])) (ap (λ (k : Known). k.scene) (sym is.declared))
     (subst (λ (c : Context). Agrees (scene_behind text ds) c) (sym (is.scope around)) (agree around)))
 
-pub ordered : (text : List ℕ) (ds : List conf.Declaration) (held : Held) → IsChecked text ds held.checked → AreNeverStuck text ds → AreShort text ds → Agree text ds → AreOrdered held
+pub ordered : (text : List ℕ) (ds : List conf.Declaration) (held : Held) → IsChecked text ds held.checked → AreNeverStuck text ds → AreShort text ds → Agree text ds → AllCanRun held
 ordered text ds held is safe short agree = record {
   functions = is.within;
   typed = typed text ds held is agree;
@@ -198,5 +198,5 @@ checked_before law text scope e f within types none is does light = record {
   light = alone (function_trees scope) f 50000000 light;
 }
 
-pub answered_before : (held : Held) (r : Result (Option TFilter) OutOfMemory) → (AreWithin held.checked.declared.scope → IsTyped held.checked.declared.scope → IfOk r (λ answer. IfSome answer (CanRun held.checked.declared.scope))) → AreOrdered held → IfOk r (λ answer. IfSome answer (IsBefore held))
+pub answered_before : (held : Held) (r : Result (Option TFilter) OutOfMemory) → (AreWithin held.checked.declared.scope → IsTyped held.checked.declared.scope → IfOk r (λ answer. IfSome answer (CanRun held.checked.declared.scope))) → AllCanRun held → IfOk r (λ answer. IfSome answer (CanRunOver held))
 answered_before held r are is = are is.functions is.typed

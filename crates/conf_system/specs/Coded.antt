@@ -1,5 +1,5 @@
 -- For conditions of calls: that filters can run, since they see only functions that were declared
--- before them, are never stuck and take 50,000,000 steps at most (`AreOrdered`), which is so of each
+-- before them, are never stuck and take 50,000,000 steps at most (`AllCanRun`), which is so of each
 -- accepted configuration, and that code is that of what is held and costs no more (`HasCode`).
 -- From: own.
 use Rattle.std.specs.Prelude.{◌≡◌, ◌≤◌, ℕ, All, List, [], length, map, ⊤}
@@ -46,34 +46,34 @@ pub record CanRun (scope : Scope) (f : TFilter) : Type 0 where
   pub light : filter_steps (function_trees scope) f ≤ 50000000
 
 -- so over what is held
-abbrev pub IsBefore : Held → TFilter → Type 0
-IsBefore held f = CanRun held.checked.declared.scope f
+abbrev pub CanRunOver : Held → TFilter → Type 0
+CanRunOver held f = CanRun held.checked.declared.scope f
 
 -- so of a policy's own filter, where it has one
-abbrev pub PolicyBefore : Held → PolicyDef → Type 0
-PolicyBefore held policies.All = ⊤
-PolicyBefore held policies.None = ⊤
-PolicyBefore held (policies.Filter n) = ⊤
-PolicyBefore held (policies.Own f) = IsBefore held f
+abbrev pub PolicyCanRun : Held → PolicyDef → Type 0
+PolicyCanRun held policies.All = ⊤
+PolicyCanRun held policies.None = ⊤
+PolicyCanRun held (policies.Filter n) = ⊤
+PolicyCanRun held (policies.Own f) = CanRunOver held f
 
-abbrev pub ChannelBefore : Held → ChannelDef → Type 0
-ChannelBefore held def = PolicyBefore held def.import × PolicyBefore held def.export
+abbrev pub ChannelCanRun : Held → ChannelDef → Type 0
+ChannelCanRun held def = PolicyCanRun held def.import × PolicyCanRun held def.export
 
-abbrev pub BodyBefore : Held → ProtocolBody → Type 0
-BodyBefore held (bodies.Static def) = ChannelBefore held def.channel
-BodyBefore held (bodies.Bgp def) = ChannelBefore held def.channel
-BodyBefore held (bodies.Pipe def) = PolicyBefore held def.import × PolicyBefore held def.export
+abbrev pub BodyCanRun : Held → ProtocolBody → Type 0
+BodyCanRun held (bodies.Static def) = ChannelCanRun held def.channel
+BodyCanRun held (bodies.Bgp def) = ChannelCanRun held def.channel
+BodyCanRun held (bodies.Pipe def) = PolicyCanRun held def.import × PolicyCanRun held def.export
 
-abbrev pub ProtocolBefore : Held → ProtocolDef → Type 0
-ProtocolBefore held def = BodyBefore held def.body
+abbrev pub ProtocolCanRun : Held → ProtocolDef → Type 0
+ProtocolCanRun held def = BodyCanRun held def.body
 
 -- so of all that is held
-pub record AreOrdered (held : Held) : Type 0 where
+pub record AllCanRun (held : Held) : Type 0 where
   pub functions : AreWithin held.checked.declared.scope
   pub typed : IsTyped held.checked.declared.scope
   pub light : checks.AreLight (function_trees held.checked.declared.scope)
-  pub filters : All (IsBefore held) held.checked.filters.items
-  pub protocols : All (ProtocolBefore held) held.checked.protocols.items
+  pub filters : All (CanRunOver held) held.checked.filters.items
+  pub protocols : All (ProtocolCanRun held) held.checked.protocols.items
 
 -- ---- code
 
@@ -88,7 +88,7 @@ CostTheirFilters functions filters drafts =
 -- The code of the functions does what the functions do, and that of each filter by name comes to
 -- what the filter comes to; no function costs more than it takes, and no filter more than 50,000,000.
 pub record HasCode (held : Held) (code : Code) : Type 0 where
-  pub ordered : AreOrdered held
+  pub ordered : AllCanRun held
   pub functions : AreCompiled (constant_values held.checked.declared.scope) 0
       (function_trees held.checked.declared.scope) code.functions.items
   pub filters : map (draft_flow code.functions.items) code.filters.items

@@ -5,7 +5,7 @@ ghost use Rattle.conf_scan.specs.Lex.{Lexes};
 ghost use Rattle.filt_check.specs.Answers.{IsFault};
 ghost use Rattle.filt_types.specs.declared.refusal.Refusal.{Refusal};
 ghost use Rattle.conf_system.specs.Asked.{Asks, Refuses};
-ghost use Rattle.conf_system.specs.Coded.{AreOrdered, AreWithin, CanRun, IsBefore, IsTyped};
+ghost use Rattle.conf_system.specs.Coded.{AllCanRun, AreWithin, CanRun, CanRunOver, IsTyped};
 ghost use Rattle.conf_system.specs.Conditions.{IsCondition, IsExpressionText, IsNoExpression, RefusesCondition};
 ghost use Rattle.conf_system.specs.Seen.{asked_over, filter_says, system_of, tree_says};
 
@@ -64,8 +64,8 @@ pub(crate) fn answered(
     ensures condition { IfOk result (λ answer. MatchOption answer
         (RefusesCondition (system_of system.now) text.now)
         (λ filter. IsCondition (system_of system.now) text.now (filter_says system.now filter))) }
-    ensures before { AreOrdered system.now
-        → IfOk result (λ answer. IfSome answer (IsBefore system.now)) }
+    ensures before { AllCanRun system.now
+        → IfOk result (λ answer. IfSome answer (CanRunOver system.now)) }
 {
     match found {
         Some(tree) => checked(alloc, text, &system.checked.declared.scope, tree),

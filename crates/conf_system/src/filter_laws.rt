@@ -21,7 +21,7 @@ ghost use Rattle.conf_check.specs.Behind.{at_start, behind};
 ghost use Rattle.conf_check.specs.Checked.{Source, filter_sources};
 ghost use Rattle.conf_check.specs.Refused.{refusal_of};
 ghost use Rattle.conf_system.specs.Behind.{context_behind, counts_behind, scene_behind};
-ghost use Rattle.conf_system.specs.Coded.{HasCode, IsBefore};
+ghost use Rattle.conf_system.specs.Coded.{HasCode, CanRunOver};
 ghost use Rattle.conf_system.specs.declared.code.Code.{Code};
 ghost use Rattle.conf_system.specs.declared.system.System.{System as Held};
 ghost use Rattle.filt_code.specs.declared.code.Draft.{Draft};
@@ -143,7 +143,7 @@ pub fn accepted_conditions_are_never_stuck()
 /// most, five for each step that a filter may weigh; so does that of each filter by name.
 pub fn compiled_filters_end_within_their_weight()
     ensures own { (held : Held) (code : Code) (f : TFilter) (draft : Draft) → HasCode held code
-        → IsBefore held f → CostsItsSteps f.sorts.items f.body.items draft.code.items
+        → CanRunOver held f → CostsItsSteps f.sorts.items f.body.items draft.code.items
         → draft_cost code.functions.items draft ≤ 50000000 }
     ensures named { (held : Held) (code : Code) → HasCode held code
         → All (λ (d : Draft). draft_cost code.functions.items d ≤ 50000000) code.filters.items }

@@ -1,5 +1,5 @@
 ghost use Rattle.std.specs.Prelude.{◌≡◌, ◌<◌, ◌-◌, ◌^◌, length, IfOk, IfErr};
-ghost use Rattle.conf_system.specs.Coded.{AreOrdered};
+ghost use Rattle.conf_system.specs.Coded.{AllCanRun};
 ghost use Rattle.conf_system.specs.Seen.{IsTold, system_of};
 ghost use Rattle.conf_system.specs.Texts.{IsFault, IsSystem};
 
@@ -46,7 +46,7 @@ fn refused(text: &[u8], fault: ConfFault) -> SystemFault
 pub fn read_system(alloc: Global, text: &[u8]) -> Result<System, SystemFault>
     requires { length text.now < 2 ^ 32 - 1 }
     ensures system { IfOk result (λ system. IsSystem text.now (system_of system)) }
-    ensures ordered { IfOk result AreOrdered }
+    ensures ordered { IfOk result AllCanRun }
     ensures fault { IfErr result (IsFault text.now) }
 {
     let tree = match read_config(alloc, text) {

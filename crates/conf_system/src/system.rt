@@ -1,6 +1,6 @@
 ghost use Rattle.std.specs.Prelude.{◌≡◌, ◌<◌, Some, length, map, slice_get, IfOk, IfSome, MatchOption};
 ghost use Rattle.std.specs.String.{string_bytes};
-ghost use Rattle.conf_system.specs.Coded.{AreOrdered, HasCode, IsBefore, PolicyBefore};
+ghost use Rattle.conf_system.specs.Coded.{AllCanRun, HasCode, CanRunOver, PolicyCanRun};
 ghost use Rattle.conf_system.specs.Conditions.{IsCondition, RefusesCondition};
 ghost use Rattle.conf_system.specs.Seen.{IsRuleNeverStuck, filter_says, numbered, policy_says, rule_says};
 ghost use Rattle.conf_system.specs.Seen.{system_of};
@@ -29,7 +29,7 @@ impl System {
     ///
     /// `OutOfMemory` comes where memory is refused.
     pub fn code<'a>(&'a self, alloc: Global) -> Result<Code<'a>, OutOfMemory>
-        requires { AreOrdered self.now }
+        requires { AllCanRun self.now }
         ensures { IfOk result (HasCode self.now) }
     {
         let constants = constants(&self.checked.declared.scope);
@@ -47,7 +47,7 @@ impl System {
         policy: &'a PolicyDef,
     ) -> Result<Passes<'a>, OutOfMemory>
         requires code { HasCode self.now code.now }
-        requires before { PolicyBefore self.now policy.now }
+        requires before { PolicyCanRun self.now policy.now }
         ensures { IfOk result (λ passes. ⟦<Passes<'a> as Judge>⟧.verdict passes
             ≡ policy_says self.now.checked.declared.scope self.now.checked.filters.items
             self.now.names policy.now) }
@@ -64,7 +64,7 @@ impl System {
         policy: &'a PolicyDef,
     ) -> Result<Rule<'a>, OutOfMemory>
         requires code { HasCode self.now code.now }
-        requires before { PolicyBefore self.now policy.now }
+        requires before { PolicyCanRun self.now policy.now }
         ensures says { IfOk result (λ rule. rule_says code.now.functions.items self.now.names rule
             ≡ policy_says self.now.checked.declared.scope self.now.checked.filters.items
             self.now.names policy.now) }
@@ -86,7 +86,7 @@ impl System {
         filter: &'a TFilter,
     ) -> Result<Rule<'a>, OutOfMemory>
         requires code { HasCode self.now code.now }
-        requires before { IsBefore self.now filter.now }
+        requires before { CanRunOver self.now filter.now }
         ensures says { IfOk result (λ rule. rule_says code.now.functions.items self.now.names rule
             ≡ filter_says self.now filter.now) }
         ensures never_stuck { IfOk result (IsRuleNeverStuck code.now.functions.items) }
@@ -105,7 +105,7 @@ impl System {
         filter: &'a TFilter,
     ) -> Result<Passes<'a>, OutOfMemory>
         requires code { HasCode self.now code.now }
-        requires before { IsBefore self.now filter.now }
+        requires before { CanRunOver self.now filter.now }
         ensures { IfOk result (λ passes. ⟦<Passes<'a> as Judge>⟧.verdict passes
             ≡ filter_says self.now filter.now) }
     {
@@ -162,8 +162,8 @@ impl System {
         ensures condition { IfOk result (λ answer. MatchOption answer
             (RefusesCondition (system_of self.now) text.now)
             (λ filter. IsCondition (system_of self.now) text.now (filter_says self.now filter))) }
-        ensures before { AreOrdered self.now
-            → IfOk result (λ answer. IfSome answer (IsBefore self.now)) }
+        ensures before { AllCanRun self.now
+            → IfOk result (λ answer. IfSome answer (CanRunOver self.now)) }
     {
         let found = expression(alloc, text)?;
         answered(alloc, text, self, &found)

@@ -1,7 +1,7 @@
 //! The filters by which queries choose.
 ghost use Rattle.std.specs.Prelude.{◌≡◌, ◌++◌, All, IfOk, map};
 ghost use Rattle.sys_build.specs.Setups.{choices_of};
-ghost use Rattle.conf_system.specs.Coded.{HasCode, IsBefore};
+ghost use Rattle.conf_system.specs.Coded.{HasCode, CanRunOver};
 ghost use Rattle.conf_system.specs.Seen.{filter_says, system_of};
 
 use attrs::Judge;
@@ -18,7 +18,7 @@ pub(crate) fn choices<'a>(
     conditions: &'a [TFilter],
 ) -> Result<Vec<Passes<'a>>, OutOfMemory>
     requires code { HasCode system.now code.now }
-    requires before { All (IsBefore system.now) conditions.now }
+    requires before { All (CanRunOver system.now) conditions.now }
     ensures { IfOk result (λ choices. map (⟦<Passes<'a> as Judge>⟧.verdict) choices.items
         ≡ choices_of (system_of system.now) (map (filter_says system.now) conditions.now)) }
 {

@@ -19,7 +19,9 @@ ghost use Rattle.conf_system.specs.Policies.{Filter};
 ghost use Rattle.conf_system.specs.System.{System};
 ghost use Rattle.conf_system.specs.Texts.{IsSystem};
 
-use conf_names::laws::{joined_tables_are_those_that_pipes_lead_between, pipes_of_a_forest_are_bridges};
+use conf_names::laws::{
+    joined_tables_are_those_that_pipes_lead_between, pipes_of_a_forest_are_bridges,
+};
 use conf_system::laws::{
     channels_have_their_tables, conditions_ask_for_one_thing, configurations_have_few_protocols,
     configurations_have_few_tables_and_filters, each_text_is_a_condition_or_is_refused,

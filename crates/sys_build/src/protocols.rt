@@ -3,7 +3,7 @@ ghost use Rattle.std.specs.Prelude.{◌≡◌, ◌≤◌, IfOk, length, map, opt
 ghost use Rattle.sys_build.specs.Setups as setups;
 ghost use Rattle.sys_build.specs.Setups.{action_of, bgp_of, body_of, dest_of, fixed_of, gateway_of, limit_of, pipe_of, protocol_of, protocols_from, static_of};
 ghost use Rattle.sys_run.specs.Parts.{body_seen, pipe_seen, protocol_seen, source_seen};
-ghost use Rattle.conf_system.specs.Coded.{BodyBefore, ChannelBefore, HasCode, PolicyBefore, ProtocolBefore};
+ghost use Rattle.conf_system.specs.Coded.{BodyCanRun, ChannelCanRun, HasCode, PolicyCanRun, ProtocolCanRun};
 ghost use Rattle.conf_system.specs.Seen as seen;
 ghost use Rattle.conf_system.specs.Seen.{bgp_seen, policy_says, static_seen, system_of};
 
@@ -49,7 +49,7 @@ fn protocol<'a>(
     def: &'a ProtocolDef,
 ) -> Result<ProtocolParts<Passes<'a>>, OutOfMemory>
     requires code { HasCode system.now code.now }
-    requires before { ProtocolBefore system.now def.now }
+    requires before { ProtocolCanRun system.now def.now }
     ensures { IfOk result (λ parts. protocol_seen ⟦<Passes<'a> as Judge>⟧.verdict parts
         ≡ protocol_of number
         (seen.protocol_seen system.now.checked.declared.scope system.now.checked.filters.items
@@ -69,7 +69,7 @@ fn body_parts<'a>(
     def: &'a ProtocolBody,
 ) -> Result<BodyParts<Passes<'a>>, OutOfMemory>
     requires code { HasCode system.now code.now }
-    requires before { BodyBefore system.now def.now }
+    requires before { BodyCanRun system.now def.now }
     ensures { IfOk result (λ parts. body_seen ⟦<Passes<'a> as Judge>⟧.verdict parts
         ≡ body_of number
         (seen.body_seen system.now.checked.declared.scope system.now.checked.filters.items
@@ -92,7 +92,7 @@ fn passes<'a>(
     policy: &'a PolicyDef,
 ) -> Result<Passes<'a>, OutOfMemory>
     requires code { HasCode system.now code.now }
-    requires before { PolicyBefore system.now policy.now }
+    requires before { PolicyCanRun system.now policy.now }
     ensures { IfOk result (λ passes. ⟦<Passes<'a> as Judge>⟧.verdict passes
         ≡ policy_says system.now.checked.declared.scope system.now.checked.filters.items
         system.now.names policy.now) }
@@ -110,7 +110,7 @@ fn static_source<'a>(
     def: &'a StaticDef,
 ) -> Result<SourceParts<Passes<'a>>, OutOfMemory>
     requires code { HasCode system.now code.now }
-    requires before { ChannelBefore system.now def.now.channel }
+    requires before { ChannelCanRun system.now def.now.channel }
     ensures { IfOk result (λ parts. source_seen ⟦<Passes<'a> as Judge>⟧.verdict parts
         ≡ static_of number
         (static_seen system.now.checked.declared.scope system.now.checked.filters.items
@@ -193,7 +193,7 @@ fn bgp_source<'a>(
     def: &'a BgpDef,
 ) -> Result<SourceParts<Passes<'a>>, OutOfMemory>
     requires code { HasCode system.now code.now }
-    requires before { ChannelBefore system.now def.now.channel }
+    requires before { ChannelCanRun system.now def.now.channel }
     ensures { IfOk result (λ parts. source_seen ⟦<Passes<'a> as Judge>⟧.verdict parts
         ≡ bgp_of number
         (bgp_seen system.now.checked.declared.scope system.now.checked.filters.items
@@ -264,8 +264,8 @@ fn pipe<'a>(
     def: &'a PipeDef,
 ) -> Result<PipeParts<Passes<'a>>, OutOfMemory>
     requires code { HasCode system.now code.now }
-    requires import { PolicyBefore system.now def.now.import }
-    requires export { PolicyBefore system.now def.now.export }
+    requires import { PolicyCanRun system.now def.now.import }
+    requires export { PolicyCanRun system.now def.now.export }
     ensures { IfOk result (λ parts. pipe_seen ⟦<Passes<'a> as Judge>⟧.verdict parts
         ≡ pipe_of
         (seen.pipe_seen system.now.checked.declared.scope system.now.checked.filters.items

@@ -3,7 +3,7 @@ ghost use Rattle.std.specs.Prelude.{◌<◌, ◌+◌, ◌-◌, ◌^◌, ℕ, All
 ghost use Rattle.script_lines.specs.Script as lines;
 ghost use Rattle.sys_build.specs.Scripts.{Accepted, Answers, AreAsked, Tells, TellsFirst, TellsOne};
 ghost use Rattle.sys_build.specs.Names.{named_of};
-ghost use Rattle.conf_system.specs.Coded.{AreOrdered, IsBefore};
+ghost use Rattle.conf_system.specs.Coded.{AllCanRun, CanRunOver};
 ghost use Rattle.conf_system.specs.Conditions.{IsCondition};
 ghost use Rattle.conf_system.specs.Seen.{filter_says, system_of};
 ghost use Rattle.conf_system.specs.Texts.{IsSystem};
@@ -57,8 +57,8 @@ pub fn read_script(alloc: Global, text: &[u8], system: &System) -> Result<ReadSc
         (Accepted (map (λ phase. phase.items) script.phases.items) script.actors.items
         script.queries.items (map (filter_says system.now) script.filters.items)))
         (Tells (system_of system.now) text.now) }
-    ensures before { AreOrdered system.now
-        → IfOk result (λ script. All (IsBefore system.now) script.filters.items) }
+    ensures before { AllCanRun system.now
+        → IfOk result (λ script. All (CanRunOver system.now) script.filters.items) }
 {
     accepted_configurations_are_few();
     accepted_configurations_have_their_tables();
@@ -95,8 +95,8 @@ fn accepted(
         (Accepted (map (λ phase. phase.items) read.phases.items) read.actors.items
         read.queries.items (map (filter_says system.now) read.filters.items)))
         (Tells (system_of system.now) text.now) }
-    ensures before { AreOrdered system.now
-        → IfOk result (λ read. All (IsBefore system.now) read.filters.items) }
+    ensures before { AllCanRun system.now
+        → IfOk result (λ read. All (CanRunOver system.now) read.filters.items) }
 {
     let filters = judged(alloc, system, &script.conditions)?;
     Ok(ReadScript {
@@ -124,8 +124,8 @@ fn refused(
         (Accepted (map (λ phase. phase.items) read.phases.items) read.actors.items
         read.queries.items (map (filter_says system.now) read.filters.items)))
         (Tells (system_of system.now) text.now) }
-    ensures before { AreOrdered system.now
-        → IfOk result (λ read. All (IsBefore system.now) read.filters.items) }
+    ensures before { AllCanRun system.now
+        → IfOk result (λ read. All (CanRunOver system.now) read.filters.items) }
 {
     let _judged = judged(alloc, system, conditions)?;
     Err(ReadFault::Refused { line, kind })
@@ -141,8 +141,8 @@ fn judged(
         (λ filters. AreAsked (system_of system.now) conditions.now
         (map (filter_says system.now) filters.items))
         (TellsFirst (system_of system.now) conditions.now) }
-    ensures before { AreOrdered system.now
-        → IfOk result (λ filters. All (IsBefore system.now) filters.items) }
+    ensures before { AllCanRun system.now
+        → IfOk result (λ filters. All (CanRunOver system.now) filters.items) }
 {
     let mut filters = Vec::new(alloc);
     for condition in conditions {
@@ -157,7 +157,7 @@ fn judge(alloc: Global, system: &System, condition: &Condition) -> Result<TFilte
         (λ filter. IsCondition (system_of system.now) condition.now.text
         (filter_says system.now filter))
         (TellsOne (system_of system.now) condition.now) }
-    ensures before { AreOrdered system.now → IfOk result (IsBefore system.now) }
+    ensures before { AllCanRun system.now → IfOk result (CanRunOver system.now) }
 {
     match system.condition(alloc, condition.text.as_slice()) {
         Ok(Some(filter)) => Ok(filter),

@@ -3,7 +3,7 @@ ghost use Rattle.std.specs.Prelude.{◌≡◌, ℕ, [], All, List, IfOk, map};
 ghost use Rattle.core_setup.specs.Setup.{IsSetup};
 ghost use Rattle.sys_run.specs.Playing.{HasPlayed};
 ghost use Rattle.sys_build.specs.Setups.{IsPlayable, setup_of};
-ghost use Rattle.conf_system.specs.Coded.{HasCode, IsBefore};
+ghost use Rattle.conf_system.specs.Coded.{HasCode, CanRunOver};
 ghost use Rattle.conf_system.specs.Seen.{filter_says, system_of};
 
 use crate::choices::choices;
@@ -36,7 +36,7 @@ pub fn build<'a>(
 ) -> Result<Core<Passes<'a>>, OutOfMemory>
     requires playable { IsPlayable (system_of system.now) }
     requires code { HasCode system.now code.now }
-    requires before { All (IsBefore system.now) conditions.now }
+    requires before { All (CanRunOver system.now) conditions.now }
     requires setup { IsSetup (setup_of (system_of system.now) cells
         (map (filter_says system.now) conditions.now) queries.items) }
     ensures { IfOk result (λ core. (actors : List (List ℕ))

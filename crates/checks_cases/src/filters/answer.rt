@@ -1,6 +1,6 @@
 //! What is answered to an input.
 ghost use Rattle.std.specs.Prelude.{◌<◌, ◌^◌, ◌-◌, IfOk, length};
-ghost use Rattle.conf_system.specs.Coded.{AreOrdered};
+ghost use Rattle.conf_system.specs.Coded.{AllCanRun};
 
 use crate::deciding::verdict;
 use crate::faults::{bad, no_memory};
@@ -62,8 +62,8 @@ fn accepted(alloc: Global, before: &Attrs, after: &Attrs) -> io::Result<String> 
 
 /// The system with one name of a protocol, `p1`: the one that the routes of cases come from.
 fn with_name(alloc: Global, system: System) -> io::Result<System>
-    requires { AreOrdered system }
-    ensures { IfOk result AreOrdered }
+    requires { AllCanRun system }
+    ensures { IfOk result AllCanRun }
 {
     let names = Names::make(vec![in alloc; String::from_str(alloc, "p1")?]?);
     let System { checked, .. } = system;
@@ -71,7 +71,7 @@ fn with_name(alloc: Global, system: System) -> io::Result<System>
 }
 
 fn judged(alloc: Global, system: &System, words: &[u8]) -> io::Result<String>
-    requires { AreOrdered system.now }
+    requires { AllCanRun system.now }
 {
     let code = system.code(alloc).map_err(no_memory)?;
     let (net, route) = read_route(alloc, words)?;

@@ -1,7 +1,7 @@
 use Rattle.std.proofs.Common.{◌∙◌, sym, ap, subst, ◌++◌, ℕ, List, map, append-nil}
 use Rattle.filt_meaning.specs.declared.tree.TFilter.{TFilter}
 use Rattle.conf_system.specs.contracts.passes.PassesJudge.TheImpl as passes
-use Rattle.conf_system.specs.Coded.{IsBefore}
+use Rattle.conf_system.specs.Coded.{CanRunOver}
 use Rattle.conf_system.specs.Policies.{Filter}
 use Rattle.conf_system.specs.Seen.{filter_says, system_of}
 use Rattle.sys_build.proofs.Turns.{asked_turn, seen_all}
@@ -12,7 +12,7 @@ loop-condition-init c = c.in_ok-choices.ensures ∙ sym (append-nil (map (λ (f 
 
 pub filter-requires-clause-before : goal.filter-requires-clause-before
 filter-requires-clause-before c =
-    subst (λ (f : TFilter). IsBefore c.args.system.now f) (sym c.condition-item.is) (c.requires.before c.loop-condition.condition-index c.condition-item.result c.loop-condition-test.true)
+    subst (λ (f : TFilter). CanRunOver c.args.system.now f) (sym c.condition-item.is) (c.requires.before c.loop-condition.condition-index c.condition-item.result c.loop-condition-test.true)
 
 pub loop-condition-preserved : goal.loop-condition-preserved
 loop-condition-preserved c =

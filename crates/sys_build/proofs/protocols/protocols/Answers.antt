@@ -2,7 +2,7 @@ use Rattle.std.proofs.Common.{◌≡◌, ◌<◌, List, get_or, length, subst, s
 use Rattle.conf_check.specs.declared.checked.ProtocolDef.{ProtocolDef}
 use Rattle.conf_system.specs.contracts.passes.PassesJudge.TheImpl as passes
 use Rattle.sys_run.specs.Parts.{protocol_seen}
-use Rattle.conf_system.specs.Coded.{ProtocolBefore}
+use Rattle.conf_system.specs.Coded.{ProtocolCanRun}
 use Rattle.conf_system.specs.Seen as system
 use Rattle.sys_build.proofs.Turns.{protocols_turn}
 use Rattle.sys_build.proofs.protocols.protocols.Goals as goal
@@ -13,7 +13,7 @@ protocol-requires-clause-before c =
     let same = c.deref-def-items.ensures.value in
     let number = c.loop-number.number in
     let def = c.def-item.result in
-    subst (λ (d : ProtocolDef). ProtocolBefore s d) (sym (subst (λ (l : List ProtocolDef). def ≡ get_or l number def) same c.def-item.is))
+    subst (λ (d : ProtocolDef). ProtocolCanRun s d) (sym (subst (λ (l : List ProtocolDef). def ≡ get_or l number def) same c.def-item.is))
     (c.requires.code.ordered.protocols number def (subst (λ (l : List ProtocolDef). number < length l) same c.loop-number-test.true))
 
 pub loop-number-preserved : goal.loop-number-preserved

@@ -1,5 +1,5 @@
 use Rattle.std.proofs.Common.{map}
-use Rattle.conf_system.specs.Coded.{IsBefore}
+use Rattle.conf_system.specs.Coded.{CanRunOver}
 use Rattle.conf_system.specs.Seen.{filter_says, system_of}
 use Rattle.sys_build.specs.Scripts.{AreAsked, TellsFirst}
 use Rattle.sys_build.proofs.Judged.{first_refused, handed_on, judged_all, judged_turn, none_asked, none_before, none_handed, one_before}
@@ -8,7 +8,7 @@ use Rattle.sys_build.proofs.scripts.judged.Goals as goal
 pub loop-condition-init : goal.loop-condition-init
 loop-condition-init c = record {
   asked = none_asked (system_of c.args.system.now) (filter_says c.args.system.now) c.new-filters.result.items c.new-filters.ensures.items;
-  before = λ ordered. none_before (IsBefore c.args.system.now) c.new-filters.result.items c.new-filters.ensures.items;
+  before = λ ordered. none_before (CanRunOver c.args.system.now) c.new-filters.result.items c.new-filters.ensures.items;
 }
 
 pub loop-condition-preserved : goal.loop-condition-preserved
@@ -17,7 +17,7 @@ loop-condition-preserved c =
     record {
       asked = judged_turn (system_of system) (filter_says system) c.args.conditions.now c.loop-condition.condition-index c.condition-item.result c.loop-condition.filters.items c.push.new.self.items c.in_ok-judge.field-0
           c.loop-condition-test.true c.condition-item.is c.loop-condition.invariant.asked c.in_ok-push.ensures.items c.in_ok-judge.ensures.told;
-      before = λ ordered. one_before (IsBefore system) c.loop-condition.filters.items c.push.new.self.items c.in_ok-judge.field-0 c.in_ok-push.ensures.items (c.loop-condition.invariant.before ordered) (c.in_ok-judge.ensures.before ordered);
+      before = λ ordered. one_before (CanRunOver system) c.loop-condition.filters.items c.push.new.self.items c.in_ok-judge.field-0 c.in_ok-push.ensures.items (c.loop-condition.invariant.before ordered) (c.in_ok-judge.ensures.before ordered);
     }
 
 pub returns-in_err-judge-clause-told : goal.returns-in_err-judge-clause-told
