@@ -60,7 +60,7 @@ module _ {J : Type 0} (verdict : J → Net → Route → Verdict) (key : LaneTer
   }
 
   -- none is
-  enters_none : (done : List Key) → own b.port.1 ≡ own a.port.1 → withdrawn done (enters key.rules (reverse a.state.exporter.log)) ≡ withdrawn done (enters key.rules (reverse b.state.exporter.log))
+  pub enters_none : (done : List Key) → own b.port.1 ≡ own a.port.1 → withdrawn done (enters key.rules (reverse a.state.exporter.log)) ≡ withdrawn done (enters key.rules (reverse b.state.exporter.log))
       → IsDirection verdict done key.exports b.state → IsLane verdict done key a → IsLane verdict done key b
   enters_none done same next direction o = record {
     terms = o.terms;

@@ -9,3 +9,5 @@ pub mod Flushing
 pub mod Entering
 pub mod News
 pub mod Beginning
+pub mod Putting
+pub mod LaneTurns

@@ -1,5 +1,5 @@
 -- What a lane sends or withdraws is news to the table that it writes.
-use Rattle.std.proofs.Common.{◌≡◌, ◌≢◌, inl, inr, ℕ, Bool, true, false, ◌||◌, List, [], ◌∷◌, ◌++◌, map, reverse, Option, Some, None, is_some, refl, sym, ap, subst, ◌∙◌}
+use Rattle.std.proofs.Common.{◌≡◌, ◌≢◌, inl, inr, ℕ, Bool, true, false, ◌||◌, List, [], ◌∷◌, ◌++◌, ◌+◌, drop, length, map, reverse, Option, Some, None, is_some, refl, sym, ap, subst, ◌∙◌}
 use Rattle.std.specs.Prelude.{Contains, option_map, unwrap_or, if◌then◌else◌}
 use Rattle.std.proofs.lemmas.List.{reverse-append, reverse-reverse}
 use Rattle.attrs.specs.History.{after, empty, last_of}
@@ -24,11 +24,13 @@ use Rattle.export_core.specs.declared.log.Key.{Key}
 use Rattle.export_core.specs.declared.log.Sending.{Sending}
 use Rattle.export_core.proofs.Keys.{key_tells, same_key_itself}
 use Rattle.jour_rule.specs.Journal.{receipts}
+use Rattle.jour_rule.specs.Moves.{entry}
+use Rattle.jour_rule.proofs.Fronts.{receipts_more}
 use Rattle.jour_rule.specs.declared.views.Entry.{Entry}
 use Rattle.jour_rule.specs.declared.views.View.{View as Seat}
 use Rattle.jour.specs.Seats.{front, number_of, own}
 use Rattle.phase_legal.specs.Changes.{AreMade, changes_in}
-use Rattle.table_shared.specs.Answers.{IsSame}
+use Rattle.table_shared.specs.Answers.{IsEntered, IsSame}
 use Rattle.table_shared.specs.Opening.{TableOpening, sources_of}
 use Rattle.table_shared.specs.Records.{AreRecords, AreSaid, at_first, change_of, content_after}
 use Rattle.table_shared.proofs.Records.{after_both}
@@ -124,6 +126,13 @@ module _ (alone : (opening : TableOpening) (entries : List Entry) (said mine : L
         by_value None some none = let bad : false ≡ true = some in cc
         by_value (Some v) some none = let bad : Some (key.rules.route k.num v) ≡ None = none in cc
 
+-- lists that are one longer by something
+without_last : {A : Type 0} (xs ys : List A) (x y : A) → xs ++ x ∷ [] ≡ ys ++ y ∷ [] → xs ≡ ys
+without_last xs ys x y e =
+    sym (reverse-reverse xs)
+    ∙ ap (λ l. reverse (drop 1 l)) (sym (reverse-append xs (x ∷ [])) ∙ ap reverse e ∙ reverse-append ys (y ∷ []))
+    ∙ reverse-reverse ys
+
 route_one : (f : Attrs → Route) → ((v w : Attrs) → f v ≡ f w → v ≡ w) → (a b : Option Attrs) → option_map f a ≡ option_map f b → a ≡ b
 route_one f one None None e = refl
 route_one f one None (Some w) e = absurd (let bad : None ≡ Some (f w) = e in cc)
@@ -148,3 +157,20 @@ module _ (alone : (opening : TableOpening) (entries : List Entry) (said mine : L
       → IsSame (withdrawal k) a.port.1 new at → ⊥
   flush_is_news key a history done k rest new at o b is_passed are terms number is =
       withdrawal_is_news alone verdict done key a o k is_passed new terms number is.receipts history b rest at are is
+
+  -- what is sent again stands there already
+  pub again_is_old : (key : LaneTerms) (a : PipeLane J) (history : List JEntry) (x : Sending) (new : Seat TableOpening) (at : ℕ) → IsLane verdict [] key a → BeginsWith key.exports (front a.state.cursor.0.1) history
+      → passes key.rules key.number x.key.num ≡ true → x.value ≡ standing_at x.key a.state.exporter.log → new.seen.terms ≡ a.port.1.seen.terms → number_of new.role ≡ number_of a.port.1.role
+      → IsEntered (change_to key.rules x.key x.value) a.port.1 new at → ⊥
+  again_is_old key a history x new at o b is_passed same terms number is =
+      let seat : Seat TableOpening = record new { seen = record new.seen { front = is.before } } in
+      let start : ℕ = new.seen.terms.start in
+      let port : ℕ = number_of new.role in
+      let place : ℕ = start + length is.before + 1 in
+      let made : receipts start port is.before ++ (place, is.words) ∷ [] ≡ own a.port.1 ++ (at, is.words) ∷ [] =
+      sym (receipts_more start port place is.before is.words refl) ∙ ap (receipts start port) (sym is.last) ∙ is.receipt in
+      let owned : own seat ≡ own a.port.1 = without_last (receipts start port is.before) (own a.port.1) (place, is.words) (at, is.words) made in
+      is.content.2.0
+      (stood alone verdict [] key a o x.key is_passed seat terms number owned is.content.0 is.content.1
+      ∙ logged alone verdict [] key a o x.key is_passed seat terms number owned history b
+      ∙ ap (option_map (key.rules.route x.key.num)) (sym same))

@@ -5,3 +5,5 @@ pub mod Flushes
 pub mod Lanes
 pub mod Begun
 pub mod Locks
+pub mod Outlets
+pub mod LaneTurns

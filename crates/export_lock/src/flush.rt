@@ -1,9 +1,10 @@
 //! How a pipe's direction withdraws what it sent, before it goes down.
-ghost use Rattle.std.specs.Prelude.{◌≡◌, ℕ, List, false, true};
+ghost use Rattle.std.specs.Prelude.{◌≡◌, ◌≢◌, ℕ, IfErr, List, Some, false, true};
 ghost use Rattle.std.specs.declared.result.Result.TheVariants.{Ok};
 ghost use Rattle.export_core.specs.Candidates.{has_num};
 ghost use Rattle.export_core.specs.declared.exporter.Pushed.TheVariants.{Nothing};
 ghost use Rattle.export_core.specs.declared.log.Key.{Key};
+ghost use Rattle.export_core.specs.declared.outlet.PushFault.TheVariants.{Memory};
 ghost use Rattle.export_lock.specs.Flushes.{FlushesOn, IsHeldDirection};
 ghost use Rattle.export_lock.specs.Terms.{ExportTerms};
 ghost use Rattle.export_lock.specs.Flushes.{IsDirection};
@@ -26,7 +27,10 @@ impl<J: Judge> ExportState<J> {
             → FlushesOn J.verdict done key self.old self.new (O.told outlet.old)
             (O.told outlet.new) result }
         ensures down { self.old.cursor.1 ≡ false
-            → (result ≡ Ok Nothing) × (self.new ≡ self.old) }
+            → (result ≡ Ok Nothing) × (self.new ≡ self.old)
+            × (O.told outlet.new ≡ O.told outlet.old) }
+        ensures cause { IfErr result
+            (λ fault. fault ≢ Memory → O.fault outlet.new ≡ Some fault) }
     {
         if !self.cursor.is_started() {
             return Ok(Pushed::Nothing);

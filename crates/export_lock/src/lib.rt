@@ -21,10 +21,13 @@ mod key;
 mod lane;
 pub mod laws;
 mod mark;
+mod outlet;
 mod push;
 mod state;
 mod take;
+mod turns;
 
 pub use key::{ExportKey, Exports, Sends};
 pub use lane::{LaneKey, Lanes, PipeLane};
+pub use outlet::PipeOutlet;
 pub use state::ExportState;
