@@ -1,0 +1,5 @@
+pub mod Opening
+pub mod Dues
+pub mod Standing
+pub mod First
+pub mod Only

@@ -1,0 +1,202 @@
+-- What stands as a phase begins gives all that locks are made of.
+use Rattle.std.proofs.Common.{◌≡◌, ℕ, zero, suc, ◌+◌, ◌<◌, arith, Bool, true, false, List, [], ◌∷◌, length, map, reverse, Option, Some, None, refl, sym, ap, subst, ◌∙◌}
+use Rattle.std.specs.Prelude.{◌==◌, Contains, if◌then◌else◌, slice_get, slice_index_or, option_map}
+use Rattle.std.specs.List.{AllByRecursion}
+use Rattle.std.proofs.lemmas.Bool.{eqb-true}
+use Rattle.atomic_table.specs.Seated.{TableId}
+use Rattle.attrs.specs.declared.judge.Verdict.{Verdict}
+use Rattle.attrs.specs.declared.route.Route.{Route}
+use Rattle.bits_ip.specs.Address.{family_of}
+use Rattle.bits_ip.specs.Prefix.{Net}
+use Rattle.bits_ip.specs.declared.address.Family.{Family}
+use Rattle.export_core.specs.Standing.{is_open}
+use Rattle.export_core.specs.States.{State}
+use Rattle.import_core.specs.Importers.{Importing}
+use Rattle.import_core.specs.declared.import_spec.Fixed.{Fixed}
+use Rattle.jour_rule.specs.Moves.{position_of}
+use Rattle.jour_rule.specs.declared.views.Terms.{Terms}
+use Rattle.jour_rule.specs.declared.views.View.{View as Seat}
+use Rattle.jour.specs.Seats.{front, journal, number_of, own}
+use Rattle.core_machine.specs.Lines.{ops_of}
+use Rattle.core_setup.specs.Announced.{IsOfFamily}
+use Rattle.core_setup.specs.Protocols.{table_in}
+use Rattle.core_setup.specs.Setup.{Exports, FitsBody, FitsSource, IsSource, Protocol, Setup, Source, family_at}
+use Rattle.core_setup.proofs.Numbered.{itself_is, none_some, protocol_is, some_same}
+use Rattle.phase_legal.specs.Changes.{IsAlone}
+use Rattle.table_shared.specs.Opening.{TableOpening, sources_of}
+use Rattle.table_shared.specs.Records.{at_first}
+use Rattle.import_lock.specs.Terms.{AreTerms, PhaseTerms}
+use Rattle.export_lock.specs.Terms.{IsBegun}
+use Rattle.phase_room.specs.Journals.{marks_terms, turns_terms}
+use Rattle.phase_room.specs.Locks.{CanExport, CanImport, export_terms, import_terms}
+use Rattle.phase_room.specs.Rooms.{TableTerms, homes, ports_of, table_terms}
+use Rattle.phase_room.specs.Stands.{AreChannelSeats, AreSeats, StandsChannel, StandsSource, StandsTable}
+use Rattle.phase_room.specs.Together.{AreTogether}
+
+-- ---- ports
+
+home_at : (tables : ℕ) (ps : List Protocol) (i : ℕ) (p : Protocol) → slice_get ps i ≡ Some p → slice_get (map (λ q. table_in tables q.body) ps) i ≡ Some (table_in tables p.body)
+home_at tables [] i p e = none_some e
+home_at tables (q ∷ ps) zero p e = ap (λ z. Some (table_in tables z.body)) (some_same e)
+home_at tables (q ∷ ps) (suc i) p e = home_at tables ps i p e
+
+port_mine : (table n i : ℕ) (hs : List ℕ) → slice_get hs i ≡ Some table → slice_index_or (ports_of table n hs) i [] ≡ (i + n) ∷ []
+port_mine table n i [] e = none_some e
+port_mine table n zero (h ∷ hs) e =
+    ap (λ z. if z == table then n ∷ [] else []) (some_same e)
+    ∙ ap (λ b. if b then n ∷ [] else []) (itself_is table)
+    ∙ ap (λ z. z ∷ []) (let first : n ≡ zero + n = omega arith in first)
+port_mine table n (suc i) (h ∷ hs) e = port_mine table (n + 1) i hs e ∙ ap (λ z. z ∷ []) (let s : i + (n + 1) ≡ suc i + n = omega arith in s)
+
+in_none : (num m : ℕ) → Contains {X = ℕ} [] num → num ≡ m
+in_none num m w = absurd (let less = w.1 in omega (arith, less))
+
+in_one_at : (n num k : ℕ) → k < 1 → slice_index_or (n ∷ []) k num ≡ num → num ≡ n
+in_one_at n num zero less is = sym is
+in_one_at n num (suc k) less is = absurd (omega (arith, less))
+
+in_one : (n num : ℕ) → Contains (n ∷ []) num → num ≡ n
+in_one n num w = in_one_at n num w.0 w.1 w.2
+
+in_either : (b : Bool) (n num : ℕ) → Contains (if b then n ∷ [] else []) num → num ≡ n
+in_either true n num w = in_one n num w
+in_either false n num w = in_none num n w
+
+port_any : (table n i num : ℕ) (hs : List ℕ) → Contains (slice_index_or (ports_of table n hs) i []) num → num ≡ i + n
+port_any table n i num [] w = in_none num (i + n) w
+port_any table n zero num (h ∷ hs) w = in_either (h == table) n num w ∙ (let first : n ≡ zero + n = omega arith in first)
+port_any table n (suc i) num (h ∷ hs) w = port_any table (n + 1) i num hs w ∙ (let s : i + (n + 1) ≡ suc i + n = omega arith in s)
+
+-- ---- a protocol
+
+fixed_all : (found : Option Family) (family : Family) (fs : List Fixed) → found ≡ Some family → AllByRecursion (λ f. found ≡ Some (family_of f.net.addr)) fs → AllByRecursion (λ f. family_of f.net.addr ≡ family) fs
+fixed_all found family [] is all = tt
+fixed_all found family (f ∷ fs) is all = (some_same (sym all.0 ∙ is), fixed_all found family fs is all.1)
+
+module _ {J : Type 0} (verdict : J → Net → Route → Verdict) (phase : PhaseTerms) (number : ℕ) (source : Source) (table : TableTerms) (importer : Importing J) (id : TableId) (port : TableId × Seat TableOpening) (turns : TableId × Seat ℕ) (stamp : Option (TableId × Seat ℕ))
+    (s : StandsSource verdict phase number source table importer) (seats : AreSeats phase number source table id port turns stamp) where
+  abbrev opening_now : TableOpening
+  opening_now = (table_terms phase.setup source.table table).opening
+
+  opening_is : port.1.seen.terms.opening ≡ opening_now
+  opening_is = ap (λ z. z.1.opening) seats.port
+
+  family_is : port.1.seen.terms.opening.family ≡ table.family
+  family_is = ap (λ z. z.family) opening_is
+
+  fits : FitsSource phase.setup.tables number source
+  fits = subst (FitsBody phase.setup.tables number) s.body (protocol_is phase.setup number s.protocol s.setup s.protocol_is)
+
+  home_is : slice_get (homes phase.setup) number ≡ Some source.table
+  home_is = home_at (length phase.setup.tables) phase.setup.protocols number s.protocol s.protocol_is ∙ ap (λ z. Some (table_in (length phase.setup.tables) z)) s.body
+
+  mine_is : Contains (sources_of opening_now number) number
+  mine_is =
+      subst (λ l. Contains l number) (sym (port_mine source.table 0 number (homes phase.setup) home_is ∙ ap (λ z. z ∷ []) (let e : number + 0 ≡ number = omega arith in e)))
+      (0, omega arith, refl)
+
+  any_is : (other num : ℕ) → Contains (sources_of port.1.seen.terms.opening other) num → num ≡ other
+  any_is other num w = port_any source.table 0 other num (homes phase.setup) (subst (λ z. Contains (sources_of z other) num) opening_is w) ∙ (let e : other + 0 ≡ other = omega arith in e)
+
+  alone_is : IsAlone (λ num. num == number) port.1.seen.terms.opening (number_of port.1.role)
+  alone_is = record {
+    mine = λ num w. ap (λ z. z == number) (any_is (number_of port.1.role) num w ∙ seats.port_number) ∙ itself_is number;
+    alone = λ other num w same. sym (any_is other num w) ∙ eqb-true num number same ∙ sym seats.port_number;
+  }
+
+  terms_are : AreTerms (import_terms phase number port turns stamp) source
+  terms_are = record {
+    setup = s.setup;
+    protocol = s.protocol;
+    protocol_is = s.protocol_is;
+    body = s.body;
+    mine = subst (λ z. Contains (sources_of z (number_of port.1.role)) number) (sym opening_is) (subst (λ z. Contains (sources_of opening_now z) number) (sym seats.port_number) mine_is);
+    alone = alone_is;
+    opening = λ net. ap (λ z. at_first z net number) opening_is ∙ s.rows net;
+    fixed = subst (λ z. AllByRecursion (λ f. family_of f.net.addr ≡ z) source.spec.fixed) (sym family_is) (fixed_all (family_at phase.setup.tables source.table) table.family source.spec.fixed s.family fits.fixed);
+    past = subst (λ z. AllByRecursion (IsOfFamily z) (ops_of (phase.past number))) (sym family_is) s.past;
+    start = ap (λ z. z.start) seats.turns;
+    cursors = ap (λ z. z.cursors) seats.turns;
+    makers = ap (λ z. z.opening) seats.turns ∙ sym (ap (λ z. z.makers) seats.turns);
+  }
+
+  pub can_import : CanImport verdict phase number importer port turns stamp
+  can_import = record {
+    source = source;
+    terms = terms_are;
+    begins = record {
+      importer = s.importer;
+      port = refl;
+      port_number = refl;
+      unmade = seats.unmade;
+      turns = refl;
+      unturned = seats.unturned;
+      marks = refl;
+      unused = seats.unused;
+    };
+  }
+
+-- ---- its channel
+
+module _ {J : Type 0} (verdict : J → Net → Route → Verdict) (phase : PhaseTerms) (number : ℕ) (source : Source) (table : TableTerms) (exports : Exports) (exporter : State J) (id : TableId) (cursor : (TableId × Seat TableOpening) × Bool) (marks : TableId × Seat ℕ)
+    (t : StandsTable table) (s : StandsChannel verdict phase number exports table exporter) (seats : AreChannelSeats phase source table id (is_open exporter.log) cursor marks) where
+  start_is : cursor.0.1.seen.terms.start ≡ length table.before
+  start_is = ap (λ z. z.1.start) seats.cursor
+
+  pub can_export : CanExport verdict exports table.before (reverse exporter.log) exporter cursor marks
+  can_export = record {
+    spec = s.spec;
+    filter = s.filter;
+    kind = s.neighbour;
+    rest = s.rest;
+    log = refl;
+    stood = s.stands;
+    here = refl;
+    unread = seats.unread;
+    start = start_is;
+    family = s.family ∙ sym (ap (λ z. z.1.opening.family) seats.cursor);
+    begun = record {
+      told = t.told;
+      opening = λ net num. ap (λ z. at_first z.1.opening net num) seats.cursor ∙ t.rows net num;
+    };
+    mode = seats.mode;
+    position = λ up. (s.position up ∙ sym start_is, seats.position up ∙ sym start_is);
+    marks = refl;
+    makers = ap (λ z. z.opening) seats.marks;
+    cursors = ap (λ z. z.cursors) seats.marks;
+    unmarked = seats.unmarked;
+  }
+
+  pub are_together : (port : TableId × Seat TableOpening) (turns stamp : TableId × Seat ℕ) → journal port ≡ (id, table_terms phase.setup source.table table) → journal stamp ≡ journal marks
+      → AreTogether (import_terms phase number port turns (Some stamp)) (export_terms exports cursor table.before marks (reverse exporter.log))
+  are_together port turns stamp here same = record {
+    table = seats.cursor ∙ sym here;
+    marks = ap Some same;
+    start = ap (λ z. z.start) seats.marks;
+    up = s.up;
+  }
+
+-- ---- the seats that are given
+
+module _ (phase : PhaseTerms) (source : Source) (stood : TableTerms) (here : TableId × Terms TableOpening) (begins : here.1 ≡ table_terms phase.setup source.table stood) where
+  pub source_seats : (number hands : ℕ) (port : TableId × Seat TableOpening) (turns stamp : TableId × Seat ℕ) → journal port ≡ here → number_of port.1.role ≡ number → own port.1 ≡ [] → turns.1.seen.terms ≡ turns_terms hands → hands ≡ phase.starter + 1 → front turns.1 ≡ []
+      → number_of stamp.1.role ≡ 0 → own stamp.1 ≡ [] → AreSeats phase number source stood here.0 port turns (Some stamp)
+  source_seats number hands port turns stamp at is unmade terms many unturned first unmarked = record {
+    port = at ∙ ap (λ z. (here.0, z)) begins;
+    port_number = is;
+    unmade = unmade;
+    turns = terms ∙ ap turns_terms many;
+    unturned = unturned;
+    unused = record { number = first; unmarked = unmarked };
+  }
+
+  pub channel_seats : (up is_up : Bool) (from : ℕ) (cursor : (TableId × Seat TableOpening) × Bool) (marks : TableId × Seat ℕ) → up ≡ is_up → journal cursor.0 ≡ here → front cursor.0.1 ≡ [] → cursor.1 ≡ up → (up ≡ true → position_of cursor.0.1.role ≡ from) → from ≡ length stood.before
+      → marks.1.seen.terms ≡ marks_terms → front marks.1 ≡ [] → AreChannelSeats phase source stood here.0 is_up cursor marks
+  channel_seats up is_up from cursor marks same at unread mode position start terms unmarked = record {
+    cursor = at ∙ ap (λ z. (here.0, z)) begins;
+    unread = unread;
+    mode = mode ∙ same;
+    position = λ yes. position (same ∙ yes) ∙ start;
+    marks = terms;
+    unmarked = unmarked;
+  }

@@ -1,0 +1,54 @@
+-- What a phase with threads is played over, as plain data (`RoomTerms`): the phase, and by table what
+-- stands in it. What follows for the journal of each table (`table_terms`): a table has a port for
+-- each protocol, of its number, which has the protocol as its source where it imports to that
+-- table, and else none; and a cursor for each channel, of its number.
+-- Entries before the phase are in their order.
+-- Not modelled: where journals keep their words, and how rows are kept.
+-- From: own.
+-- Example: of two protocols of which the second imports to the second table, the first table has
+-- the ports [0] and [], and the second one [] and [1].
+use Rattle.std.specs.Prelude.{◌==◌, ◌+◌, ℕ, List, [], ◌∷◌, length, map, if◌then◌else◌}
+use Rattle.attrs.specs.declared.journal.JEntry.{JEntry}
+use Rattle.attrs.specs.declared.route.Row.{Row}
+use Rattle.bits_ip.specs.declared.address.Family.{Family}
+use Rattle.jour_rule.specs.declared.views.Terms.{Terms}
+use Rattle.core_setup.specs.Channels.{channels}
+use Rattle.core_setup.specs.Protocols.{table_in}
+use Rattle.core_setup.specs.Setup.{Setup}
+use Rattle.table_shared.specs.Opening.{TableOpening}
+use Rattle.import_lock.specs.Terms.{PhaseTerms}
+
+-- the family of a table, the rows that stand in it as the phase begins, and its entries before
+pub record TableTerms : Type 0 where
+  pub family : Family
+  pub rows : List Row
+  pub before : List JEntry
+
+-- the phase, and the tables, by number
+pub record RoomTerms : Type 0 where
+  pub phase : PhaseTerms
+  pub tables : List TableTerms
+
+-- by protocol the table that it imports to; a pipe imports to one that isn't there
+abbrev pub homes : Setup → List ℕ
+homes setup = map (λ p. table_in (length setup.tables) p.body) setup.protocols
+
+-- the sources of a table's ports, where protocols from this number on import to these tables
+abbrev pub ports_of : (table : ℕ) → (number : ℕ) → (homes : List ℕ) → List (List ℕ)
+ports_of table number [] = []
+ports_of table number (home ∷ more) =
+    (if home == table then number ∷ [] else []) ∷ ports_of table (number + 1) more
+
+-- what the journal of the table of a number begins with
+abbrev pub table_terms : Setup → ℕ → TableTerms → Terms TableOpening
+table_terms setup number table = record {
+  start = length table.before;
+  cells = setup.cells;
+  cursors = length (channels setup);
+  makers = length setup.protocols;
+  opening = record {
+    family = table.family;
+    rows = table.rows;
+    ports = ports_of number 0 (homes setup);
+  };
+}
