@@ -1,5 +1,5 @@
 //! The turns of a protocol and of its channel, each under its lock.
-ghost use Rattle.std.specs.Prelude.{◌≡◌, ◌∷◌, ◌++◌, ℕ, List, [], Some, None, true, IfOk};
+ghost use Rattle.std.specs.Prelude.{◌≡◌, ◌∷◌, ◌++◌, ℕ, List, [], Some, None, IfOk};
 ghost use mathlib.Core.List.{IsPrefix};
 ghost use Rattle.attrs.specs.declared.route.Change.{Change};
 ghost use Rattle.import_core.specs.declared.operation.Op.{Op};
