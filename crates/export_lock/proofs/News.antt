@@ -24,7 +24,6 @@ use Rattle.export_core.specs.declared.log.Key.{Key}
 use Rattle.export_core.specs.declared.log.Sending.{Sending}
 use Rattle.export_core.proofs.Keys.{key_tells, same_key_itself}
 use Rattle.jour_rule.specs.Journal.{receipts}
-use Rattle.jour_rule.specs.Moves.{entry}
 use Rattle.jour_rule.proofs.Fronts.{receipts_more}
 use Rattle.jour_rule.specs.declared.views.Entry.{Entry}
 use Rattle.jour_rule.specs.declared.views.View.{View as Seat}

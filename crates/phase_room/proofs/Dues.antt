@@ -1,6 +1,6 @@
 -- A channel may take the mark that its protocol's operation is due, since both locks tell of the one
 -- journal of marks.
-use Rattle.std.proofs.Common.{◌≡◌, ℕ, suc, ◌+◌, ◌<◌, ◌≤◌, ◌^◌, arith, length-append, List, [], ◌∷◌, ◌++◌, Bool, true, false, length, map, reverse, Option, Some, None, refl, sym, ap, subst, ◌∙◌, is_some}
+use Rattle.std.proofs.Common.{◌≡◌, ℕ, suc, ◌+◌, ◌<◌, ◌≤◌, ◌^◌, arith, List, [], ◌∷◌, ◌++◌, false, length, map, reverse, Option, Some, None, refl, sym, ap, subst, ◌∙◌}
 use Rattle.std.specs.Prelude.{IfErr, IfOk, IfSome, option_map}
 use Rattle.std.specs.declared.result.Result.{Result}
 use Rattle.std.specs.declared.result.Result.TheVariants.{Ok, Err}
@@ -17,10 +17,10 @@ use Rattle.import_core.specs.declared.step.Mark.{Mark}
 use Rattle.jour_rule.specs.declared.views.Entry.{Entry}
 use Rattle.jour_rule.specs.declared.views.Terms.{Terms}
 use Rattle.jour_rule.specs.declared.views.View.{View as Seat}
-use Rattle.jour.specs.Seats.{front, head_of, journal, number_of}
+use Rattle.jour.specs.Seats.{front, head_of, journal}
 use Rattle.core_machine.specs.Lines.{Turn}
 use Rattle.core_machine.specs.Rules.{Fits, IsRules, Rules, Signal, Stay, Rise, Fall, Renew, is_up}
-use Rattle.core_machine.specs.Signals.{Notice, with_signal, without_sends}
+use Rattle.core_machine.specs.Signals.{with_signal, without_sends}
 use Rattle.core_setup.specs.Protocols.{rules_of, signal_of}
 use Rattle.core_setup.specs.Setup.{IsSetup, Setup}
 use Rattle.core_setup.proofs.Numbered.{none_some, some_same}

@@ -1,8 +1,7 @@
 -- Each setup has a first phase, in which all stands that a phase begins with.
-use Rattle.std.proofs.Common.{◌≡◌, ℕ, arith, Bool, true, false, List, [], ◌∷◌, ◌++◌, length, Option, Some, None, refl, sym, ap, subst, ◌∙◌}
+use Rattle.std.proofs.Common.{◌≡◌, ℕ, arith, List, [], ◌∷◌, ◌++◌, length, Option, Some, refl, sym, ap, subst, ◌∙◌}
 use Rattle.attrs.specs.declared.attributes.Kind.{Kind}
 use Rattle.attrs.specs.declared.attributes.Kind.TheVariants.{Static, Bgp}
-use Rattle.attrs.specs.declared.journal.JEntry.{JEntry}
 use Rattle.attrs.specs.declared.judge.Verdict.{Verdict}
 use Rattle.attrs.specs.declared.route.Route.{Route}
 use Rattle.bits_ip.specs.Prefix.{Net}
@@ -12,7 +11,7 @@ use Rattle.core_setup.specs.Protocols.{accepted_at, accepted_in, first_at, is_pi
 use Rattle.core_setup.specs.Setup.{Exports, FitsBody, FitsSource, HasSession, IsSession, IsSetup, IsSource, Protocol, Setup, Source, family_at}
 use Rattle.core_setup.proofs.Numbered.{none_some, protocol_is, some_same}
 use Rattle.import_core.specs.Imports.{route_at}
-use Rattle.phase_room.specs.First.{first_phase, new_exporter, new_importer, neighbour, nothing_in, over_one, smallest, two_neighbours}
+use Rattle.phase_room.specs.First.{first_phase, new_exporter, new_importer, nothing_in, smallest, two_neighbours}
 use Rattle.phase_room.specs.Rooms.{homes, ports_of}
 use Rattle.phase_room.specs.Stands.{StandsChannel, StandsSource, StandsTable}
 

@@ -1,5 +1,5 @@
 -- The one item of a list that it is taken from.
-use Rattle.std.proofs.Common.{◌≡◌, ℕ, suc, ◌+◌, arith, length-append, List, [], ◌∷◌, ◌++◌, length, Some, ap, ◌∙◌, sym}
+use Rattle.std.proofs.Common.{◌≡◌, arith, length-append, List, [], ◌∷◌, ◌++◌, length, Some, ap}
 use Rattle.std.specs.Prelude.{slice_get}
 
 pub only_one : {A : Type 0} (old rest : List A) (x : A) → old ≡ rest ++ x ∷ [] → length old ≡ 1 → slice_get old 0 ≡ Some x

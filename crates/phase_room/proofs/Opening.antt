@@ -9,7 +9,7 @@ use Rattle.jour_rule.specs.declared.views.View.{View as Seat}
 use Rattle.table_shared.specs.Opening.{TableOpening}
 use Rattle.import_lock.specs.Kept.{IsFree, IsImports, IsUnlessLost}
 use Rattle.import_lock.specs.Locks.{terms_of}
-use Rattle.import_lock.specs.Terms.{ImportTerms, PhaseTerms}
+use Rattle.import_lock.specs.Terms.{PhaseTerms}
 use Rattle.import_lock.specs.declared.key.ImportKey.{ImportKey}
 use Rattle.import_lock.specs.declared.state.ImportState.{ImportState}
 use Rattle.import_lock.specs.declared.state.OpFault.{OpFault}

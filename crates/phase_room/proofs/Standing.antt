@@ -1,6 +1,6 @@
 -- What stands as a phase begins gives all that locks are made of.
-use Rattle.std.proofs.Common.{◌≡◌, ℕ, zero, suc, ◌+◌, ◌<◌, arith, Bool, true, false, List, [], ◌∷◌, length, map, reverse, Option, Some, None, refl, sym, ap, subst, ◌∙◌}
-use Rattle.std.specs.Prelude.{◌==◌, Contains, if◌then◌else◌, slice_get, slice_index_or, option_map}
+use Rattle.std.proofs.Common.{◌≡◌, ℕ, zero, suc, ◌+◌, ◌<◌, arith, Bool, true, false, List, [], ◌∷◌, length, map, reverse, Option, Some, refl, sym, ap, subst, ◌∙◌}
+use Rattle.std.specs.Prelude.{◌==◌, Contains, if◌then◌else◌, slice_get, slice_index_or}
 use Rattle.std.specs.List.{AllByRecursion}
 use Rattle.std.proofs.lemmas.Bool.{eqb-true}
 use Rattle.atomic_table.specs.Seated.{TableId}
@@ -20,13 +20,12 @@ use Rattle.jour.specs.Seats.{front, journal, number_of, own}
 use Rattle.core_machine.specs.Lines.{ops_of}
 use Rattle.core_setup.specs.Announced.{IsOfFamily}
 use Rattle.core_setup.specs.Protocols.{table_in}
-use Rattle.core_setup.specs.Setup.{Exports, FitsBody, FitsSource, IsSource, Protocol, Setup, Source, family_at}
+use Rattle.core_setup.specs.Setup.{Exports, FitsBody, FitsSource, Protocol, Source, family_at}
 use Rattle.core_setup.proofs.Numbered.{itself_is, none_some, protocol_is, some_same}
 use Rattle.phase_legal.specs.Changes.{IsAlone}
 use Rattle.table_shared.specs.Opening.{TableOpening, sources_of}
 use Rattle.table_shared.specs.Records.{at_first}
 use Rattle.import_lock.specs.Terms.{AreTerms, PhaseTerms}
-use Rattle.export_lock.specs.Terms.{IsBegun}
 use Rattle.phase_room.specs.Journals.{marks_terms, turns_terms}
 use Rattle.phase_room.specs.Locks.{CanExport, CanImport, export_terms, import_terms}
 use Rattle.phase_room.specs.Rooms.{TableTerms, homes, ports_of, table_terms}

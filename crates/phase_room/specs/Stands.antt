@@ -5,7 +5,7 @@
 -- Not modelled: pipes.
 -- From: own.
 -- Example: before the first phase no protocol has done an operation, and all tables are empty.
-use Rattle.std.specs.Prelude.{◌≡◌, ℕ, ◌+◌, Bool, true, false, List, [], length, map, reverse, Option, Some, None, IfSome}
+use Rattle.std.specs.Prelude.{◌≡◌, ℕ, ◌+◌, Bool, true, false, [], length, map, reverse, Option, Some, IfSome}
 use Rattle.std.specs.List.{AllByRecursion}
 use Rattle.atomic_table.specs.Seated.{TableId}
 use Rattle.attrs.specs.History.{after, empty}
