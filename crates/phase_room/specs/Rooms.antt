@@ -1,7 +1,7 @@
--- What a phase with threads is played over, as plain data (`RoomTerms`): the phase, and by table what
--- stands in it. What follows for the journal of each table (`table_terms`): a table has a port for
--- each protocol, of its number, which has the protocol as its source where it imports to that
--- table, and else none; and a cursor for each channel, of its number.
+-- What stands in a table as a phase with threads begins (`TableTerms`), and what follows for its
+-- journal (`table_terms`): it has a port for each protocol, of its number, which has the protocol as
+-- its source where it imports to that table, and else none; and a cursor for each channel, of its
+-- number.
 -- Entries before the phase are in their order.
 -- Not modelled: where journals keep their words, and how rows are kept.
 -- From: own.
@@ -16,18 +16,12 @@ use Rattle.core_setup.specs.Channels.{channels}
 use Rattle.core_setup.specs.Protocols.{table_in}
 use Rattle.core_setup.specs.Setup.{Setup}
 use Rattle.table_shared.specs.Opening.{TableOpening}
-use Rattle.import_lock.specs.Terms.{PhaseTerms}
 
 -- the family of a table, the rows that stand in it as the phase begins, and its entries before
 pub record TableTerms : Type 0 where
   pub family : Family
   pub rows : List Row
   pub before : List JEntry
-
--- the phase, and the tables, by number
-pub record RoomTerms : Type 0 where
-  pub phase : PhaseTerms
-  pub tables : List TableTerms
 
 -- by protocol the table that it imports to; a pipe imports to one that isn't there
 abbrev pub homes : Setup → List ℕ

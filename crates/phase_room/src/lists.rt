@@ -39,6 +39,6 @@ pub fn open_marks(alloc: Global) -> Result<(Marks, Stamp), OutOfMemory>
     let (marks, _cursors, mut stamps, _pass) = make::<u64, OfMakers>(alloc, 1, 0, 1, 0, 1)?;
     match stamps.pop() {
         Some(stamp) => Ok((marks, stamp)),
-        None => Err(OutOfMemory),
+        None => unreachable!(),
     }
 }
