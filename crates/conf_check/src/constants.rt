@@ -16,7 +16,7 @@ use bits_ip::OutOfMemory;
 use conf_ast::configurations::{Literal, StringLiteral};
 use conf_ast::filters::{Item, MaskItem, Num};
 use conf_ast::{Name, bytes_at};
-use filt_check::{mask_of, number, set_of};
+use filt_items::{mask_of, number, set_of};
 use filt_meaning::{Fixed, Labels, Scope};
 use filt_sets::{IntSet, Mask, PairSet, PrefixSet};
 use filt_types::{Seen, constant_named};

@@ -7,7 +7,6 @@ pub mod Loaded
 pub mod Lookups
 pub mod Placed
 pub mod Resolving
-pub mod Sets
 pub mod Taken
 pub mod Tested
 pub mod Told

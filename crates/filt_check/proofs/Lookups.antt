@@ -4,10 +4,8 @@ use Rattle.std.specs.List.{position_or_len}
 use Rattle.std.proofs.lemmas.List.{map-append, take_all, take_more}
 use Prim.Native.Nat.compare
 use Rattle.std.specs.Global.{Global}
-use Rattle.std.specs.Map.{keys_of, lookup}
+use Rattle.std.specs.Map.{keys_of}
 use Rattle.std.specs.Cmp.Lexicographic.{pointwise}
-use Rattle.std.proofs.lemmas.Cmp.{nat_list_eq_equiv}
-use Rattle.std.specs.Option.{option_copied}
 use Rattle.conf_ast.specs.declared.named.Name.{Name}
 use Rattle.conf_ast.specs.Names.{name_bytes}
 use Rattle.filt_meaning.specs.declared.fixed.Fixed.{Fixed}
@@ -19,6 +17,7 @@ use Rattle.filt_meaning.specs.declared.scope.TFunction.{TFunction}
 use Rattle.filt_meaning.specs.Scopes.{constant_values, function_trees, tables_of, named, context_of}
 use Rattle.filt_meaning.specs.Trees.{Tables, tables, function, with_function, with_functions}
 use Rattle.filt_check.specs.Seen.{names_of, at_place}
+use Rattle.filt_items.proofs.Lookups.{is_key}
 
 -- ---- variables
 
@@ -92,16 +91,6 @@ found_at test f name same (e ∷ es) [] l = absurd (omega arith)
 found_at test f name same (e ∷ es) (x ∷ xs) l =
     found_by x xs (test e.0) (same_name (f e.0) name) (same e.0) (named_in (named (map (λ e. f e.0) es) xs) name) (position test (keys_of es)) (found_at test f name same es xs (omega arith)) ∙ sym (ap (λ (o : Option ℕ). at_place (x ∷ xs) o) (position_next test e.0 (keys_of es)))
 
-shown_by : {X A : Type 0} (g : X → A) (x : X) (b c : Bool) → b ≡ c → (o : Option A) (r : Option X) → o ≡ option_map g r → (if c then Some (g x) else o) ≡ option_map g (cond b (Some x) r)
-shown_by g x true true s o r h = refl
-shown_by g x true false s o r h = absurd (true≢false s)
-shown_by g x false true s o r h = absurd (true≢false (sym s))
-shown_by g x false false s o r h = h
-
-pub found_in : {K X A : Type 0} (test : K → Bool) (f : K → List ℕ) (g : X → A) (name : List ℕ) → ((k : K) → test k ≡ same_name (f k) name) → (es : List (K × X)) → named_in (map (λ e. (f e.0, g e.1)) es) name ≡ option_map g (lookup test es)
-found_in test f g name same [] = refl
-found_in test f g name same (e ∷ es) = shown_by g e.1 (test e.0) (same_name (f e.0) name) (same e.0) (named_in (map (λ e. (f e.0, g e.1)) es) name) (lookup test es) (found_in test f g name same es)
-
 both_named : {K X A : Type 0} (f : K → List ℕ) (g : X → A) (es : List (K × X)) → map (λ e. (f e.0, g e.1)) es ≡ named (map (λ e. f e.0) es) (map g (map (λ e. e.1) es))
 both_named f g [] = refl
 both_named f g (e ∷ es) = rw (both_named f g es) refl
@@ -128,9 +117,6 @@ around_is around scope = around_stays _ (function_trees scope)
 
 -- ---- look-ups in a scope
 
-pub is_key : (key : List ℕ) (name : List ℕ) → key ≡ name → (k : Vec ℕ Global) → pointwise nat_eq key k.items ≡ same_name k.items name
-is_key key name is k = ap (λ (n : List ℕ). pointwise nat_eq n k.items) is ∙ nat_list_eq_equiv.symm name k.items
-
 pub constant_found : (text : List ℕ) (around : Around) (scope : Scope) (variables : List (List ℕ)) (name : Name) (key : List ℕ) (r : Option ℕ) → key ≡ name_bytes text name → r ≡ position (λ (k : Vec ℕ Global). pointwise nat_eq key k.items) (keys_of scope.constants.entries)
     → constant_of (context_of text around scope variables) name ≡ at_place (tables_of around scope).constants r
 constant_found text around scope variables name key r is at =
@@ -145,12 +131,3 @@ function_found text around scope variables name key r is at =
     found_at (λ (k : Vec ℕ Global). pointwise nat_eq key k.items) (λ (k : Vec ℕ Global). k.items) (name_bytes text name) (is_key key (name_bytes text name) is) scope.functions.entries (tables_of around scope).functions (functions_length (record { around = around; constants = map val_of_fixed (constant_values scope); functions = [] }) (function_trees scope) ∙ omega (arith, mapped_length (λ (e : Vec ℕ Global × TFunction). e.1) scope.functions.entries))
     ∙ ap (λ (o : Option ℕ). at_place (tables_of around scope).functions o) (sym at)
 
-shown_value : (r : Option (Bor Fixed)) → option_map (λ v. val_of_fixed v.now) r ≡ option_map val_of_fixed (option_copied r)
-shown_value None = refl
-shown_value (Some v) = refl
-
-pub constant_shown : (text : List ℕ) (around : Around) (scope : Scope) (variables : List (List ℕ)) (name : Name) (key : List ℕ) (r : Option (Bor Fixed)) → key ≡ name_bytes text name → option_copied r ≡ lookup (λ (k : Vec ℕ Global). pointwise nat_eq key k.items) scope.constants.entries
-    → option_map (λ v. val_of_fixed v.now) r ≡ constant_of (context_of text around scope variables) name
-constant_shown text around scope variables name key r is at =
-    shown_value r ∙ ap (λ (o : Option Fixed). option_map val_of_fixed o) at
-    ∙ sym (found_in (λ (k : Vec ℕ Global). pointwise nat_eq key k.items) (λ (k : Vec ℕ Global). k.items) val_of_fixed (name_bytes text name) (is_key key (name_bytes text name) is) scope.constants.entries)

@@ -41,7 +41,8 @@ use Rattle.filt_types.proofs.Trees as o
 use Rattle.filt_rules.proofs.Weighing as g
 use Rattle.filt_check.specs.Steps.{Takes, called_at, calls, dot_steps, dots_steps, dots_weight, given_weight, parts_steps, parts_weight}
 use Rattle.filt_check.proofs.Forms as f
-use Rattle.filt_check.proofs.Lookups.{is_key, position_next}
+use Rattle.filt_check.proofs.Lookups.{position_next}
+use Rattle.filt_items.proofs.Lookups.{is_key}
 
 -- ---- words
 

@@ -1,27 +1,21 @@
 -- For private contracts alone: parts of checked trees beside what they stand for.
-use Rattle.std.specs.Prelude.{ℕ, List, [], ◌∷◌, ◌++◌, map, Option, Some, None, Result, Ok, Err}
+use Rattle.std.specs.Prelude.{ℕ, List, [], ◌∷◌, ◌++◌, map, Option, Some, None, Result}
 use Rattle.std.specs.Prelude.{slice_get, Vec}
 use Rattle.std.specs.Global.{Global}
 use Rattle.std.specs.Borrow.{Bor}
-use Rattle.filt_sets.specs.declared.ints.IntItem.{IntItem}
-use Rattle.filt_sets.specs.declared.pairs.PairItem.{PairItem}
-use Rattle.filt_sets.specs.declared.prefixes.PrefixItem.{PrefixItem}
 use Rattle.conf_ast.specs.declared.filters.Access.{Access}
 use Rattle.conf_ast.specs.declared.filters.Access.TheVariants as accesses
 use Rattle.conf_ast.specs.declared.filters.Arm.{Arm}
 use Rattle.conf_ast.specs.declared.filters.Expr.{Expr}
-use Rattle.conf_ast.specs.declared.filters.Item.{Item}
-use Rattle.conf_ast.specs.declared.filters.Item.TheVariants as items
 use Rattle.conf_ast.specs.declared.filters.Parameter.{Parameter}
 use Rattle.conf_ast.specs.declared.filters.Stmt.{Stmt}
 use Rattle.conf_ast.specs.Filters.{expression_of, statement_of, statements_of}
 use Rattle.filt_meaning.specs.declared.value.Failure.{Failure}
-use Rattle.filt_meaning.specs.declared.value.Failure.TheVariants.{Stuck}
 use Rattle.filt_meaning.specs.declared.value.Sort.{Sort}
 use Rattle.filt_meaning.specs.Operators.{and_then}
 use Rattle.filt_meaning.specs.Values.{Val}
 use Rattle.filt_meaning.specs.Flow.{Accepted, Rejected, Run}
-use Rattle.filt_meaning.specs.Items.{among, int_item, pair_item, prefix_item, set_of}
+use Rattle.filt_meaning.specs.Items.{among, set_of}
 use Rattle.filt_meaning.specs.Meaning.{Act, act, acts, all_declared, arm, choice, in_turn, nothing}
 use Rattle.filt_meaning.specs.Meaning.{stop, value}
 use Rattle.filt_meaning.specs.Names.{Context, Variable, sort_of_type}
@@ -56,28 +50,6 @@ accesses_in c more = map (access_in c) more
 -- operators, each with the expression behind it
 abbrev pub parts_in : {Op : Type 0} → Context → List (Op × Expr) → List (Op × Run Val)
 parts_in c more = map (λ x. (x.0, value (expression_of x.1) c)) more
-
--- ---- items
-
--- what all of a list are, in their order
-abbrev pub each : {X A : Type 0} → (X → Result A Failure) → List X → Result (List A) Failure
-each f [] = Ok []
-each f (x ∷ xs) = and_then (f x) (λ a. and_then (each f xs) (λ more. Ok (a ∷ more)))
-
-abbrev pub int_of : Context → Item → Result IntItem Failure
-int_of c (items.Range p) = int_item c p
-int_of c (items.Pair at a b) = Err Stuck
-int_of c (items.Prefix at net l) = Err Stuck
-
-abbrev pub pair_of : Context → Item → Result PairItem Failure
-pair_of c (items.Range p) = Err Stuck
-pair_of c (items.Pair at a b) = pair_item c a b
-pair_of c (items.Prefix at net l) = Err Stuck
-
-abbrev pub prefix_of : Context → Item → Result PrefixItem Failure
-prefix_of c (items.Range p) = Err Stuck
-prefix_of c (items.Pair at a b) = Err Stuck
-prefix_of c (items.Prefix at net l) = prefix_item c net l
 
 -- ---- variables that statements declare
 

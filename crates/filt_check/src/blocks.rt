@@ -19,12 +19,12 @@ ghost use Rattle.filt_check.specs.Seen.{arm_declares, arms_declare, otherwise_de
 ghost use Rattle.filt_check.specs.Steps.{Takes};
 
 use crate::collect::{collect_all, sorts_of, with_declared, with_name};
-use crate::items::set_of;
 use crate::resolve::resolve;
 use crate::simple::{assign, called, change, declare, print, returned};
 use bits_ip::OutOfMemory;
 use conf_ast::Name;
 use conf_ast::filters::{Arm, Expr, Stmt};
+use filt_items::set_of;
 use filt_meaning::{Scope, Sort, TArm, TStmt};
 use std::alloc::Global;
 

@@ -11,7 +11,6 @@ mod check;
 mod collect;
 mod comparing;
 mod fault;
-mod items;
 pub mod laws;
 mod names;
 mod resolve;
@@ -22,4 +21,3 @@ pub use check::{
     resolve_function,
 };
 pub use fault::TypeFault;
-pub use items::{mask_of, number, set_of};

@@ -27,7 +27,6 @@ ghost use Rattle.filt_check.specs.Steps.{Takes, calls, dot_steps, dots_steps, do
 ghost use Rattle.filt_check.specs.Steps.{parts_steps, parts_weight};
 
 use crate::comparing::comparison;
-use crate::items::{mask_of, set_of};
 use crate::names::{function, named};
 use attrs::{Dest, Kind, Origin};
 use bits_ip::OutOfMemory;
@@ -35,6 +34,7 @@ use conf_ast::filters::{
     Access, AddOp, Atom, CompareOp, Constant, Expr, Item, LogicalOp, MaskItem, MethodKind, MulOp,
 };
 use conf_ast::{Name, bytes_at};
+use filt_items::{mask_of, set_of};
 use filt_meaning::{Fixed, Labels, Scope, TAccess, TExpr};
 use std::alloc::Global;
 

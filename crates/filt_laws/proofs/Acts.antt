@@ -41,7 +41,7 @@ use Rattle.filt_types.specs.Expressions.{Judgement, judge, judge_all, all_refusa
 use Rattle.filt_types.specs.Expressions as seen
 use Rattle.filt_types.specs.Items.{Common, NoneYet, One, common, differ, is_empty, all_items, sorts_of_items}
 use Rattle.filt_types.specs.Refusals.{refused_if}
-use Rattle.filt_types.specs.Rules.{method, same_sort, one_of_cases, sort_of_attribute, sort_of_constant, is_assignable, can_be_unset, is_assigned_dest}
+use Rattle.filt_meaning.specs.Rules.{method, same_sort, one_of_cases, sort_of_attribute, sort_of_constant, is_assignable, can_be_unset, is_assigned_dest}
 use Rattle.filt_types.specs.Scenes.{Scene, Signature, Variable, Variables, variable_in, declaring, declared}
 use Rattle.filt_types.specs.Statements.{Around, Checked, Aim, Holds, IsFixed, Unknown, aim, aim_of_name, aim_of_variable, operand, assigned, assigned_dest, is_dest_word, no_sort, place_of, changed, cleared, labels, lacks_labels, of_value, lists_of, is_other_list, over_list, returned, check, check_all, check_arms}
 use Rattle.filt_types.specs.Statements as rules

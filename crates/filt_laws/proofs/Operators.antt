@@ -16,7 +16,7 @@ use Rattle.filt_meaning.specs.declared.value.Sort.{Sort}
 use Rattle.filt_meaning.specs.Sorts.{IsGiven, TakesOne, TakesTwo, two_ints, a_bool, an_int, the_same}
 use Rattle.filt_meaning.specs.Values.{Val, sort_of}
 use Rattle.filt_meaning.specs.Meaning.{term_of, factor_of, compare_of, property_of, method_of}
-use Rattle.filt_types.specs.Rules.{compares_sorts, method_takes, property}
+use Rattle.filt_meaning.specs.Rules.{compares_sorts, method_takes, property}
 use Rattle.filt_laws.specs.Operators.{AreTyped}
 use Rattle.filt_laws.proofs.Flows.{IsGood, OfSort, given_good}
 

@@ -5,7 +5,7 @@ use Rattle.filt_meaning.specs.declared.value.Sort.TheVariants as sorts
 use Rattle.filt_types.specs.declared.refusal.Cause.{Cause}
 use Rattle.filt_types.specs.declared.refusal.Refusal.{Refusal}
 use Rattle.filt_types.specs.Refusals.{refused_if}
-use Rattle.filt_types.specs.Rules.{same_sort}
+use Rattle.filt_meaning.specs.Rules.{same_sort}
 
 pub left_nil : (xs ys : List Refusal) → xs ++ ys ≡ [] → xs ≡ []
 left_nil [] ys e = refl

@@ -33,7 +33,7 @@ use Rattle.filt_types.specs.Expressions.{Judgement, judge, judge_all, is_other, 
 use Rattle.filt_types.specs.Expressions as seen
 use Rattle.filt_types.specs.Items.{NoneYet, common, differ, all_items, all_atoms, sorts_of_items, is_none, is_known, sort_where}
 use Rattle.filt_types.specs.Refusals.{refused_if}
-use Rattle.filt_types.specs.Rules.{RuleOfTwo, left_of, right_of, arithmetic, pairing, joining, comparing, method, property, two_bools, same_sort, sort_of_attribute, sort_of_constant}
+use Rattle.filt_meaning.specs.Rules.{RuleOfTwo, left_of, right_of, arithmetic, pairing, joining, comparing, method, property, two_bools, same_sort, sort_of_attribute, sort_of_constant}
 use Rattle.filt_types.specs.Scenes.{Scene, Signature, Variable, Variables, variable_in}
 use Rattle.filt_laws.specs.Sound.{EndsFilter, IsResult, IsAnswer, IsOfSignature, AreOfSignatures}
 use Rattle.filt_laws.proofs.Flows.{Meets, goes_on, IsGood, OfSort, Anything, plainly_meets, ends}

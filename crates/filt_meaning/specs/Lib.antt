@@ -3,6 +3,7 @@ pub mod Members
 pub mod Operators
 pub mod Seen
 pub mod Sorts
+pub mod Rules
 pub mod Flow
 pub mod Names
 pub mod Items

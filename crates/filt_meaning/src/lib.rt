@@ -17,6 +17,7 @@
 mod fixed;
 pub mod laws;
 mod scope;
+pub mod sorts;
 mod tree;
 mod value;
 

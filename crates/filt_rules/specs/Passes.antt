@@ -21,7 +21,7 @@ use Rattle.filt_rules.specs.declared.targets.Aim.{Aim}
 use Rattle.filt_rules.specs.declared.targets.Aim.TheVariants as aims
 use Rattle.filt_types.specs.Expressions.{judge, judge_all, all_refusals, call, wanted}
 use Rattle.filt_types.specs.Refusals.{refused_if}
-use Rattle.filt_types.specs.Rules.{can_be_unset}
+use Rattle.filt_meaning.specs.Rules.{can_be_unset}
 use Rattle.filt_types.specs.Scenes.{Scene, Variables, function_of, declaring, declared}
 use Rattle.filt_types.specs.Seen.{scene_of}
 use Rattle.filt_types.specs.Statements as statements

@@ -11,7 +11,7 @@ ghost use Rattle.filt_types.specs.Items as items;
 ghost use Rattle.filt_types.specs.Items.{common, sorts_of_items};
 ghost use Rattle.filt_rules.specs.Passes.{around_in, body_seen, else_of, own, inside};
 ghost use Rattle.filt_types.specs.Refusals.{first_in};
-ghost use Rattle.filt_types.specs.Rules.{one_of_cases};
+ghost use Rattle.filt_meaning.specs.Rules.{one_of_cases};
 ghost use Rattle.filt_types.specs.Scenes as scenes;
 ghost use Rattle.filt_types.specs.Seen.{scene_in, variables_in, variables_of};
 ghost use Rattle.filt_types.specs.Statements as statements;

@@ -10,7 +10,7 @@ ghost use Rattle.filt_types.specs.declared.refusal.Cause.TheVariants as causes;
 ghost use Rattle.filt_types.specs.Expressions as expressions;
 ghost use Rattle.filt_rules.specs.Passes.{aim_seen};
 ghost use Rattle.filt_types.specs.Refusals.{first_in, refused_if};
-ghost use Rattle.filt_types.specs.Rules as rules;
+ghost use Rattle.filt_meaning.specs.Rules as rules;
 ghost use Rattle.filt_types.specs.Seen.{scene_in, variable_seen, variables_in};
 ghost use Rattle.filt_types.specs.Statements as statements;
 ghost use Rattle.filt_types.specs.Walk.{judged_of};
@@ -18,9 +18,10 @@ ghost use Rattle.filt_types.specs.Walk.{judged_of};
 use conf_ast::Name;
 use conf_ast::filters::{Attribute, Change, Constant, Expr, Method, Target};
 use filt_meaning::Sort;
+use filt_meaning::sorts::{Operator, attribute_sort, is};
 use filt_types::{
-    Cause, Judged, Operator, Refusal, Seen, Variable, attribute_sort, constant_named,
-    constant_word, is, judge, note, note_if, variable_named, want_sort, with_right,
+    Cause, Judged, Refusal, Seen, Variable, constant_named, constant_word, judge, note, note_if,
+    variable_named, want_sort, with_right,
 };
 
 /// What stands as a target.

@@ -21,7 +21,7 @@ use Rattle.filt_types.specs.declared.scene.Seen.{Seen}
 use Rattle.filt_types.specs.Expressions as ex
 use Rattle.filt_types.specs.Expressions.{Judgement, judge, judge_all, of_one, of_two, between, wanted, wants, disagree, all_refusals, arguments_fit, arguments_wanted, is_taken}
 use Rattle.filt_types.specs.Refusals.{first_in, first_of, refused_if}
-use Rattle.filt_types.specs.Rules.{RuleOfOne, RuleOfTwo, left_of, right_of, arithmetic, pairing, joining, comparing, method, negating, property, same_sort}
+use Rattle.filt_meaning.specs.Rules.{RuleOfOne, RuleOfTwo, left_of, right_of, arithmetic, pairing, joining, comparing, method, negating, property, same_sort}
 use Rattle.filt_types.specs.Scenes.{Signature, function_of}
 use Rattle.filt_types.specs.Seen.{scene_in, variables_in}
 use Rattle.filt_types.specs.Walk.{said_of, bare, access_of, accesses_of, operands_of, with_access, call_at, front_of, is_of_parameter, wants_parameter}

@@ -26,9 +26,9 @@ use Rattle.filt_types.specs.Items.{set_of_sort, all_items, sorts_of_items, all_a
 use Rattle.filt_types.specs.Items.{is_empty, is_known, is_over, sort_where}
 use Rattle.filt_types.specs.Items as items
 use Rattle.filt_types.specs.Refusals.{refused_if}
-use Rattle.filt_types.specs.Rules.{RuleOfOne, RuleOfTwo, left_of, right_of, arithmetic, pairing}
-use Rattle.filt_types.specs.Rules.{joining, comparing, method, negating, property, same_sort}
-use Rattle.filt_types.specs.Rules.{sort_of_attribute, sort_of_constant}
+use Rattle.filt_meaning.specs.Rules.{RuleOfOne, RuleOfTwo, left_of, right_of, arithmetic, pairing}
+use Rattle.filt_meaning.specs.Rules.{joining, comparing, method, negating, property, same_sort}
+use Rattle.filt_meaning.specs.Rules.{sort_of_attribute, sort_of_constant}
 use Rattle.filt_types.specs.Scenes.{Scene, Signature, Variable, Variables, variable_of, constant_of}
 use Rattle.filt_types.specs.Scenes.{function_of}
 

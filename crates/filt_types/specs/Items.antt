@@ -25,7 +25,7 @@ use Rattle.filt_meaning.specs.Values.{Val, VInt}
 use Rattle.filt_types.specs.declared.refusal.Cause.TheVariants as causes
 use Rattle.filt_types.specs.declared.refusal.Refusal.{Refusal}
 use Rattle.filt_types.specs.Refusals.{refused_if}
-use Rattle.filt_types.specs.Rules.{same_sort}
+use Rattle.filt_meaning.specs.Rules.{same_sort}
 use Rattle.filt_types.specs.Scenes.{Scene, constant_of}
 
 -- ---- numbers

@@ -1,6 +1,5 @@
 pub mod Refusals
 pub mod Scenes
-pub mod Rules
 pub mod Items
 pub mod Expressions
 pub mod Statements

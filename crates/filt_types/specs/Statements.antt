@@ -32,8 +32,8 @@ use Rattle.filt_types.specs.Expressions.{constant_word, is_other, is_taken, of_t
 use Rattle.filt_types.specs.Items.{NoneYet, One, Common, common, differ, all_items, sorts_of_items}
 use Rattle.filt_types.specs.Items.{is_empty}
 use Rattle.filt_types.specs.Refusals.{refused_if}
-use Rattle.filt_types.specs.Rules.{method, same_sort, one_of_cases, sort_of_attribute}
-use Rattle.filt_types.specs.Rules.{is_assignable, can_be_unset, is_assigned_dest}
+use Rattle.filt_meaning.specs.Rules.{method, same_sort, one_of_cases, sort_of_attribute}
+use Rattle.filt_meaning.specs.Rules.{is_assignable, can_be_unset, is_assigned_dest}
 use Rattle.filt_types.specs.Scenes.{Scene, Variable, Variables, variable_of, constant_of}
 use Rattle.filt_types.specs.Scenes.{function_of, declaring, declared}
 

@@ -18,16 +18,11 @@ use Rattle.filt_meaning.specs.declared.scope.TFunction.{TFunction}
 use Rattle.filt_types.specs.declared.items.Common.{Common}
 use Rattle.filt_types.specs.declared.items.Common.TheVariants as commons
 use Rattle.filt_types.specs.declared.judged.Judged.{Judged}
-use Rattle.filt_types.specs.declared.rules.Operator.{Operator}
-use Rattle.filt_types.specs.declared.rules.Operator.TheVariants as operators
-use Rattle.filt_types.specs.declared.rules.Single.{Single}
-use Rattle.filt_types.specs.declared.rules.Single.TheVariants as singles
 use Rattle.filt_types.specs.declared.scene.Seen.{Seen}
 use Rattle.filt_types.specs.Expressions.{Judgement, all_refusals, arguments_wanted, between}
 use Rattle.filt_types.specs.Expressions.{is_taken, judge, judge_all, of_one, wants}
 use Rattle.filt_types.specs.Items as items
-use Rattle.filt_types.specs.Rules.{RuleOfOne, RuleOfTwo, arithmetic, pairing, joining, comparing}
-use Rattle.filt_types.specs.Rules.{method, negating, property, same_sort}
+use Rattle.filt_meaning.specs.Rules.{method, property, same_sort}
 use Rattle.filt_types.specs.declared.refusal.Cause.TheVariants as causes
 use Rattle.filt_types.specs.declared.refusal.Refusal.{Refusal}
 use Rattle.filt_types.specs.Refusals.{refused_if}
@@ -59,19 +54,6 @@ common_seen commons.Many = items.Many
 
 abbrev pub constant_seen : Option (Bor Fixed) → Option Val
 constant_seen constant = option_map (λ fixed. val_of_fixed fixed.now) constant
-
--- ---- operators
-
-abbrev pub rule_of : Operator → RuleOfTwo
-rule_of operators.Arithmetic = arithmetic
-rule_of operators.Pairing = pairing
-rule_of operators.Joining = joining
-rule_of (operators.Comparing op) = comparing op
-rule_of (operators.Method kind) = method kind
-
-abbrev pub rule_of_one : Single → RuleOfOne
-rule_of_one singles.Negating = negating
-rule_of_one (singles.Property p) = property p
 
 -- ---- parts of chains and cases
 

@@ -7,24 +7,26 @@ ghost use Rattle.filt_types.specs.Expressions as expressions;
 ghost use Rattle.filt_types.specs.Expressions.{all_refusals, arguments_wanted, arguments_fit};
 ghost use Rattle.filt_types.specs.Expressions.{given_sort, is_other, is_taken, wants};
 ghost use Rattle.filt_types.specs.Refusals.{first_in};
-ghost use Rattle.filt_types.specs.Rules as rules;
-ghost use Rattle.filt_types.specs.Rules.{same_sort};
+ghost use Rattle.filt_meaning.specs.Rules as rules;
+ghost use Rattle.filt_meaning.specs.Rules.{same_sort};
 ghost use Rattle.filt_types.specs.Scenes.{Scene, Variables, function_of};
 ghost use Rattle.filt_types.specs.Seen.{scene_in, variables_in, signature_of};
 ghost use Rattle.filt_types.specs.Walk.{access_of, accesses_of, all_judged, bare, call_at};
 ghost use Rattle.filt_types.specs.Walk.{front_of, function_seen, is_of_parameter, judged};
-ghost use Rattle.filt_types.specs.Walk.{judged_of, operands_of, rule_of, said_of, wants_parameter};
+ghost use Rattle.filt_types.specs.Walk.{judged_of, operands_of, said_of, wants_parameter};
+ghost use Rattle.filt_meaning.specs.Rules.{rule_of};
 ghost use Rattle.filt_types.specs.Walk.{where_alone, with_access};
 
 use crate::items::{is_over, number_in};
 use crate::judged::Judged;
 use crate::refusal::{Cause, Refusal, note, note_if};
-use crate::rules::{Operator, Single, is, of_one, of_two, want_left, want_right};
+use crate::rules::{of_one, of_two, want_left, want_right};
 use crate::scene::{Seen, constant_named, function_named, variable_named};
 use crate::words::{and_known, mask, named, plain, set, sound};
 use conf_ast::Name;
 use conf_ast::filters::{Access, AddOp, Atom, Constant, Expr, LogicalOp, Method, MulOp};
 use filt_meaning::{Sort, TFunction};
+use filt_meaning::sorts::{Operator, Single, is};
 
 /// The judgement of an expression. It keeps the first of what is refused in it.
 #[cycle(expressions)]

@@ -11,10 +11,11 @@ ghost use Rattle.filt_types.specs.Seen.{scene_in};
 ghost use Rattle.filt_types.specs.Walk.{common_seen, constant_seen};
 
 use crate::refusal::{Cause, Refusal, note_if};
-use crate::rules::{is, sort_if};
+use crate::rules::sort_if;
 use crate::scene::{Seen, constant_named};
 use bits_ip::{Addr, Prefix};
 use conf_ast::filters::{Item, Lengths, MaskAtom, MaskItem, Num, NumRange, PairPart};
+use filt_meaning::sorts::is;
 use filt_meaning::{Fixed, Sort};
 
 /// The sorts of some parts so far.

@@ -18,8 +18,7 @@ pub use expressions::{
 pub use items::{Common, ItemSorts, all_items, differ, number, over_16_bits, value_of};
 pub use judged::Judged;
 pub use refusal::{Cause, Refusal, note, note_if};
-pub use rules::{Operator, Single, is};
 pub use scene::{
     Seen, Variable, constant_named, declaring, function_named, is_seen, variable_named,
 };
-pub use words::{attribute_sort, mask, set};
+pub use words::{mask, set};

@@ -5,7 +5,6 @@ ghost use Rattle.filt_types.specs.Expressions as expressions;
 ghost use Rattle.filt_types.specs.Expressions.{sort_of_named, known_as};
 ghost use Rattle.filt_types.specs.Items as of;
 ghost use Rattle.filt_types.specs.Refusals.{first_in};
-ghost use Rattle.filt_types.specs.Rules as rules;
 ghost use Rattle.filt_types.specs.Scenes.{variable_of, constant_of};
 ghost use Rattle.filt_types.specs.Seen.{scene_in, variables_in};
 ghost use Rattle.filt_types.specs.Walk.{common_seen, said_of};
@@ -16,8 +15,9 @@ use crate::refusal::{Cause, Refusal, note, note_if};
 use crate::rules::sort_if;
 use crate::scene::{Seen, constant_named, variable_named};
 use conf_ast::Name;
-use conf_ast::filters::{Atom, Attribute, Constant, Item, MaskItem};
+use conf_ast::filters::{Atom, Item, MaskItem};
 use filt_meaning::Sort;
+use filt_meaning::sorts::{attribute_sort, constant_sort};
 
 pub(crate) fn sound(at: usize, sort: Sort) -> Judged
     ensures { result ≡ said_of (expressions.sound at sort) }
@@ -25,45 +25,6 @@ pub(crate) fn sound(at: usize, sort: Sort) -> Judged
     Judged {
         at,
         sort: Some(sort),
-    }
-}
-
-/// The sort of what an attribute holds.
-pub fn attribute_sort(attribute: Attribute) -> Sort
-    ensures { result ≡ rules.sort_of_attribute attribute }
-{
-    match attribute {
-        Attribute::Net => Sort::Prefix,
-        Attribute::Preference => Sort::Int,
-        Attribute::Gw => Sort::Ip,
-        Attribute::From => Sort::Ip,
-        Attribute::BgpNextHop => Sort::Ip,
-        Attribute::Proto => Sort::String,
-        Attribute::Source => Sort::Source,
-        Attribute::Dest => Sort::Dest,
-        Attribute::BgpPath => Sort::Path,
-        Attribute::BgpOrigin => Sort::Origin,
-        Attribute::BgpMed => Sort::Int,
-        Attribute::BgpLocalPref => Sort::Int,
-        Attribute::IgpMetric => Sort::Int,
-        Attribute::BgpCommunity => Sort::Clist,
-    }
-}
-
-fn constant_sort(constant: Constant) -> Sort
-    ensures { result ≡ rules.sort_of_constant constant }
-{
-    match constant {
-        Constant::RtsStatic => Sort::Source,
-        Constant::RtsBgp => Sort::Source,
-        Constant::RtdUnicast => Sort::Dest,
-        Constant::RtdRouter => Sort::Dest,
-        Constant::RtdBlackhole => Sort::Dest,
-        Constant::RtdUnreachable => Sort::Dest,
-        Constant::RtdProhibit => Sort::Dest,
-        Constant::OriginIgp => Sort::Origin,
-        Constant::OriginEgp => Sort::Origin,
-        Constant::OriginIncomplete => Sort::Origin,
     }
 }
 

@@ -3,7 +3,7 @@ use crate::faults::{bad, no_memory};
 use conf_ast::bytes_at;
 use conf_ast::configurations::{Literal, StringLiteral};
 use conf_ast::filters::{Item, MaskItem, Num};
-use filt_check::{mask_of, number, set_of};
+use filt_items::{mask_of, number, set_of};
 use filt_meaning::{Fixed, Labels, Scope};
 use std::alloc::Global;
 use std::io;

@@ -31,7 +31,7 @@ use Rattle.filt_check.proofs.Gathered as g
 use Rattle.filt_check.proofs.Loaded as w
 use Rattle.filt_check.proofs.Lookups.{mapped_length}
 use Rattle.filt_check.proofs.Resolving as r
-use Rattle.filt_check.proofs.Sets.{next_item}
+use Rattle.filt_items.proofs.Sets.{next_item}
 use Rattle.filt_check.proofs.blocks.+blocks.Goals as goal
 
 pub resolve_statement-braced-requires : goal.resolve_statement-braced-requires

@@ -23,7 +23,7 @@ use Rattle.filt_check.specs.Steps.{calls, dot_steps}
 use Rattle.filt_check.proofs.Taken as w
 use Rattle.filt_check.proofs.Tested as x
 use Rattle.filt_check.proofs.Resolving as r
-use Rattle.filt_check.proofs.Sets.{next_item}
+use Rattle.filt_items.proofs.Sets.{next_item}
 use Rattle.filt_check.proofs.resolve.+resolve.Goals as goal
 
 pub compare-returns-clause-meaning : goal.compare-returns-clause-meaning

@@ -1,7 +1,7 @@
 use Rattle.std.proofs.Common.{refl}
 use Rattle.conf_ast.specs.Filters.{expression_of}
 use Rattle.filt_types.specs.Expressions.{judge}
-use Rattle.filt_types.specs.Rules.{same_sort}
+use Rattle.filt_meaning.specs.Rules.{same_sort}
 use Rattle.filt_types.specs.Expressions.{is_other}
 use Rattle.filt_types.specs.Seen.{scene_in, variables_in}
 use Rattle.filt_rules.proofs.Checking.{wanted_first}

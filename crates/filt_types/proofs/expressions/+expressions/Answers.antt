@@ -12,10 +12,11 @@ use Rattle.filt_types.specs.declared.refusal.Refusal.{Refusal}
 use Rattle.filt_types.specs.Expressions as ex
 use Rattle.filt_types.specs.Expressions.{Judgement, all_refusals, arguments_fit, arguments_wanted, of_two}
 use Rattle.filt_types.specs.Refusals.{first_in}
-use Rattle.filt_types.specs.Rules.{arithmetic, joining, comparing, method, negating}
+use Rattle.filt_meaning.specs.Rules.{arithmetic, joining, comparing, method, negating}
 use Rattle.filt_types.specs.Scenes.{function_of}
 use Rattle.filt_types.specs.Seen.{scene_in, variables_in, signature_of}
-use Rattle.filt_types.specs.Walk.{bare, front_of, is_of_parameter, rule_of, said_of, wants_parameter}
+use Rattle.filt_types.specs.Walk.{bare, front_of, is_of_parameter, said_of, wants_parameter}
+use Rattle.filt_meaning.specs.Rules.{rule_of}
 use Rattle.filt_types.proofs.Cost.{item_below, cost, operand_cost, operands_cost, access_cost, accesses_cost, cost-Postfix, cost-Product, cost-Sum, cost-Logical}
 use Rattle.filt_types.proofs.Firsts.{first_rest, and_apart}
 use Rattle.filt_types.proofs.Judging.{of_expr, of_exprs, of-Call, of-MethodCall, of-Not, of-Compare, whole_first, after_first, between_first, alone_first, walk, more_said, more_first, end_said, end_first, link, link_adds, reach, reach_adds, product_is, sum_is, joint_is, access_is, each_wanted, each_first, fit_more, fit_end, fit_not, as_many, call_fits, call_differs, wants_bare, pair_first}

@@ -1,7 +1,7 @@
 use Rattle.std.proofs.Common.{◌≡◌, ◌+◌, ◌&&◌, drop}
 use Rattle.filt_types.specs.Expressions.{arguments_fit, all_refusals}
 use Rattle.filt_types.specs.Refusals.{first_in}
-use Rattle.filt_types.specs.Rules.{arithmetic, joining}
+use Rattle.filt_meaning.specs.Rules.{arithmetic, joining}
 use Rattle.filt_types.specs.Walk.{bare, said_of}
 use Rattle.filt_types.proofs.Cost.{cost, costs, operands_cost, access_cost, accesses_cost}
 use Rattle.filt_types.proofs.Judging.{walk, link, reach, each_wanted, of_exprs}
