@@ -130,4 +130,3 @@ pub function_found : (text : List ℕ) (around : Around) (scope : Scope) (variab
 function_found text around scope variables name key r is at =
     found_at (λ (k : Vec ℕ Global). pointwise nat_eq key k.items) (λ (k : Vec ℕ Global). k.items) (name_bytes text name) (is_key key (name_bytes text name) is) scope.functions.entries (tables_of around scope).functions (functions_length (record { around = around; constants = map val_of_fixed (constant_values scope); functions = [] }) (function_trees scope) ∙ omega (arith, mapped_length (λ (e : Vec ℕ Global × TFunction). e.1) scope.functions.entries))
     ∙ ap (λ (o : Option ℕ). at_place (tables_of around scope).functions o) (sym at)
-

@@ -25,8 +25,8 @@ use crate::scene::{Seen, constant_named, function_named, variable_named};
 use crate::words::{and_known, mask, named, plain, set, sound};
 use conf_ast::Name;
 use conf_ast::filters::{Access, AddOp, Atom, Constant, Expr, LogicalOp, Method, MulOp};
-use filt_meaning::{Sort, TFunction};
 use filt_meaning::sorts::{Operator, Single, is};
+use filt_meaning::{Sort, TFunction};
 
 /// The judgement of an expression. It keeps the first of what is refused in it.
 #[cycle(expressions)]
