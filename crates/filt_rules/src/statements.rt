@@ -21,9 +21,10 @@ use crate::targets::{check_assign, check_change, check_unset, check_value, is_li
 use bits_ip::OutOfMemory;
 use conf_ast::Name;
 use conf_ast::filters::{Arm, Expr, Item, Stmt, VariableType};
+use filt_meaning::sorts::is;
 use filt_meaning::{Scope, Sort, type_sort};
 use filt_types::{
-    Cause, Common, Refusal, Seen, Variable, all_items, call, declaring, differ, has_other_sort, is,
+    Cause, Common, Refusal, Seen, Variable, all_items, call, declaring, differ, has_other_sort,
     judge, judge_each, note, note_if,
 };
 
