@@ -66,3 +66,9 @@ of_length text n len = lookup_kept (λ k. k == n) text (eq-eqb (length text) n l
 
 pub of_more_is : (text : List ℕ) → not (nat_le 1 (length text) && nat_le (length text) 8) ≡ true → lookup text long_spellings ≡ symbol_of text
 of_more_is text other = lookup_kept (λ k. not (nat_le 1 k && nat_le k 8)) text other
+
+-- a text of one byte
+pub one_byte : (bytes : List ℕ) (d : ℕ) → length bytes ≡ 1 → get_or bytes 0 d ∷ [] ≡ bytes
+one_byte [] d len = absurd (omega arith)
+one_byte (b ∷ []) d len = refl
+one_byte (b ∷ c ∷ bytes) d len = absurd (omega arith)

@@ -1,47 +1,69 @@
-ghost use Rattle.std.specs.Prelude.{◌≡◌, List, map, length};
+ghost use Rattle.std.specs.Prelude.{◌≡◌, ◌==◌, [], ◌∷◌, map};
+ghost use Rattle.std.specs.Bool.{nat_eq};
+ghost use Rattle.std.specs.Cmp.Lexicographic.{pointwise};
+ghost use Rattle.conf_scan.specs.Shapes.{first_passes};
 ghost use Rattle.conf_lex.specs.Symbols.{lookup, symbol_of, spellings_of, long_spellings};
 ghost use Rattle.conf_lex.specs.Symbols.{is_placed};
 
 use crate::symbol::Symbol;
+
+fn begins_with(bytes: &[u8], byte: u8) -> bool
+    ensures { result ≡ first_passes (λ b. b == byte) bytes.now }
+{
+    match bytes.first() {
+        Some(first) => *first == byte,
+        None => false,
+    }
+}
+
+/// Whether the two are equal. Most spellings differ in their first byte already.
+fn is_same(spelling: &[u8], bytes: &[u8]) -> bool
+    ensures { result ≡ pointwise nat_eq spelling.now bytes.now }
+{
+    match spelling.first() {
+        Some(first) => begins_with(bytes, *first) && spelling == bytes,
+        None => bytes.is_empty(),
+    }
+}
 
 /// What the first entry with this spelling stands for.
 pub fn find<T: Copy>(table: &[(&[u8], T)], bytes: &[u8]) -> Option<T>
     ensures { result ≡ lookup bytes.now (map (λ entry. (entry.0.now, entry.1)) table.now) }
 {
     for entry in table {
-        if entry.0 == bytes {
+        if is_same(entry.0, bytes) {
             return Some(entry.1);
         }
     }
     None
 }
 
-fn of_one(bytes: &[u8]) -> Option<Symbol>
-    ensures { result ≡ lookup bytes.now (spellings_of 1) }
+fn of_one(byte: u8) -> Option<Symbol>
+    ensures { result ≡ lookup (byte ∷ []) (spellings_of 1) }
 {
-    const TABLE: [(&[u8], Symbol); 20] = [
-        (b";", Symbol::Semicolon),
-        (b"{", Symbol::OpenBrace),
-        (b"}", Symbol::CloseBrace),
-        (b"(", Symbol::OpenParenthesis),
-        (b")", Symbol::CloseParenthesis),
-        (b",", Symbol::Comma),
-        (b"/", Symbol::Slash),
-        (b"=", Symbol::Equal),
-        (b".", Symbol::Dot),
-        (b"!", Symbol::Not),
-        (b"<", Symbol::Less),
-        (b">", Symbol::Greater),
-        (b"~", Symbol::Matches),
-        (b"+", Symbol::Plus),
-        (b"-", Symbol::Minus),
-        (b"*", Symbol::Star),
-        (b"[", Symbol::OpenBracket),
-        (b"]", Symbol::CloseBracket),
-        (b":", Symbol::Colon),
-        (b"?", Symbol::Question),
-    ];
-    find(&TABLE, bytes)
+    match byte {
+        b';' => Some(Symbol::Semicolon),
+        b'{' => Some(Symbol::OpenBrace),
+        b'}' => Some(Symbol::CloseBrace),
+        b'(' => Some(Symbol::OpenParenthesis),
+        b')' => Some(Symbol::CloseParenthesis),
+        b',' => Some(Symbol::Comma),
+        b'/' => Some(Symbol::Slash),
+        b'=' => Some(Symbol::Equal),
+        b'.' => Some(Symbol::Dot),
+        b'!' => Some(Symbol::Not),
+        b'<' => Some(Symbol::Less),
+        b'>' => Some(Symbol::Greater),
+        b'~' => Some(Symbol::Matches),
+        b'+' => Some(Symbol::Plus),
+        b'-' => Some(Symbol::Minus),
+        b'*' => Some(Symbol::Star),
+        b'[' => Some(Symbol::OpenBracket),
+        b']' => Some(Symbol::CloseBracket),
+        b':' => Some(Symbol::Colon),
+        b'?' => Some(Symbol::Question),
+        _ => None,
+    }
 }
 
 fn of_two(bytes: &[u8]) -> Option<Symbol>
@@ -215,7 +237,7 @@ pub fn symbol_of(bytes: &[u8]) -> Option<Symbol>
     ensures { result ≡ symbol_of bytes.now }
 {
     match bytes.len() {
-        1 => of_one(bytes),
+        1 => of_one(bytes[0]),
         2 => of_two(bytes),
         3 => of_three(bytes),
         4 => of_four(bytes),

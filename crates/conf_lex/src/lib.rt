@@ -16,6 +16,7 @@
 mod ahead;
 mod attribute;
 mod keywords;
+mod lists;
 pub mod parsing;
 mod refusal;
 mod symbol;
@@ -23,6 +24,7 @@ mod token_words;
 mod word;
 
 pub use ahead::next_word;
+pub use lists::push_tight;
 pub use refusal::Refusal;
 pub use symbol::Symbol;
 pub use token_words::{word_at, words_from};

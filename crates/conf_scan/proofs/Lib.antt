@@ -1,4 +1,5 @@
 mod Runs
+mod Turns
 mod Found
 pub mod Reached
 pub mod Tokens
@@ -8,3 +9,5 @@ pub mod Numbers
 mod Places
 pub mod Within
 pub mod Spots
+mod Signs
+mod Decimals

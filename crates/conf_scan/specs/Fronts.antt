@@ -1,12 +1,13 @@
 -- For private contracts alone: what the small functions of the lexer compute. proofs/ ties it to
 -- the shapes.
-use Rattle.std.specs.Prelude.{ℕ, suc, zero, ◌+◌, ◌<◌, ◌≤◌, Bool, false, ◌&&◌, not, ◌==◌, nat_le}
+use Rattle.std.specs.Prelude.{ℕ, suc, zero, ◌+◌, ◌<◌, ◌≤◌, Bool, false, ◌&&◌, ◌||◌, not, ◌==◌}
 use Rattle.std.specs.Prelude.{if◌then◌else◌, Option, Some, None, List, [], ◌∷◌, length, take, drop}
-use Rattle.std.specs.Prelude.{count_by}
+use Rattle.std.specs.Prelude.{count_by, nat_le}
 use Rattle.std.specs.Char.{is_ascii_digit, is_ascii_hexdigit}
 use Rattle.std.specs.List.{prefix_len, take_while}
 use Rattle.std.specs.Option.{option_and_then, option_map}
 use Rattle.conf_scan.specs.Shapes.{is_letter, is_name_byte, is_quoted_byte, is_text_byte}
+use Rattle.conf_scan.specs.Shapes.{is_short_sign, is_pair_sign, is_empty_sign}
 use Rattle.conf_scan.specs.Shapes.{is_colons_byte, is_sign, is_blank, is_newline, first_passes}
 use Rattle.conf_scan.specs.Shapes.{IsToken, IsValue}
 use Rattle.conf_scan.specs.declared.scan.Lexeme.{Lexeme}
@@ -80,6 +81,26 @@ sign_len text =
     else if has_sign 7 text then Some 7
     else if has_sign 2 text then Some 2
     else if has_sign 1 text then Some 1
+    else None
+
+-- The same by the first byte and what stands behind it: only a plus and a minus begin the signs of
+-- seven bytes.
+abbrev pub is_plus_or_minus : ℕ → Bool
+is_plus_or_minus b = (b == 43) || (b == 45)
+
+abbrev pub begins_empty_sign : List ℕ → Bool
+begins_empty_sign text = nat_le 7 (length text) && is_empty_sign (take 7 text)
+
+abbrev pub begins_pair_sign : ℕ → List ℕ → Bool
+begins_pair_sign b [] = false
+begins_pair_sign b (c ∷ bytes) = is_pair_sign (b ∷ c ∷ [])
+
+abbrev pub sign_at : ℕ → List ℕ → List ℕ → Option ℕ
+sign_at b bytes text =
+    if (b == 47) && first_passes (λ c. c == 42) bytes then None
+    else if is_plus_or_minus b && begins_empty_sign text then Some 7
+    else if begins_pair_sign b bytes then Some 2
+    else if is_short_sign (b ∷ []) then Some 1
     else None
 
 -- an IPv6 address begins the text: the whole run of its bytes

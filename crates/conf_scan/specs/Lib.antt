@@ -3,3 +3,4 @@ pub mod Lex
 pub mod Fronts
 pub mod Spans
 pub mod Spots
+pub mod Numbers

@@ -1,12 +1,13 @@
-ghost use Rattle.std.specs.Prelude.{◌≡◌, ◌≤◌, ◌<◌, ◌+◌, ◌^◌, ℕ, List, [], Bool, false, not, nat_lt};
-ghost use Rattle.std.specs.Prelude.{length, drop, take, max, IfOk, IfErr, MatchOption, MatchResult};
+ghost use Rattle.std.specs.Prelude.{◌≡◌, ◌≤◌, ◌<◌, ◌+◌, ◌^◌, ℕ, List, [], false, not, nat_lt};
+ghost use Rattle.std.specs.Prelude.{length, drop, max, IfOk, IfErr, MatchOption, MatchResult};
 ghost use Rattle.conf_scan.specs.Fronts.{begins_colons, front, Tells};
 ghost use Rattle.conf_scan.specs.Lex.{Lexes, Stops, HasNoToken, IsBadAt, IsRefused};
 ghost use Rattle.conf_scan.specs.Spots.{IsSpot, IsStep, IsStuckFrom, LexesFrom};
 ghost use Rattle.conf_scan.specs.declared.token.Token.{Token};
 ghost use Rattle.conf_scan.specs.declared.token.LexFault.TheVariants.{Memory};
 
-use crate::scan::{Lexeme, begins_colons, colons_len, plain_front, tail};
+use crate::number::number_token;
+use crate::scan::{Lexeme, begins_colons, colons_len, colons_run, plain_front, tail};
 use crate::token::{LexFault, Token, TokenKind};
 use crate::trivia::gap_len;
 use crate::values::kind_of;
@@ -27,10 +28,11 @@ fn plain_len(text: &[u8]) -> usize
     ensures starts { begins_colons text.now ≡ not (nat_lt 0 result) }
     ensures within { result ≤ length text.now }
 {
-    if begins_colons(text) {
+    let run = colons_run(text);
+    if begins_colons(text, run) {
         0
     } else {
-        colons_len(text).max(1)
+        run.len.max(1)
     }
 }
 
@@ -66,6 +68,11 @@ fn token_at(text: &[u8], plain: bool) -> Option<(TokenKind, usize)>
     requires { begins_colons text.now ≡ not plain }
     ensures { MatchOption result (HasNoToken text.now) (λ found. Tells text.now found.0 found.1) }
 {
+    if plain {
+        if let Some(found) = number_token(text) {
+            return Some(found);
+        }
+    }
     let (sort, len) = front(text, plain)?;
     let kind = kind_of(sort, &text[..len])?;
     Some((kind, len))

@@ -8,6 +8,7 @@
 
 pub mod laws;
 mod lexer;
+mod number;
 mod scan;
 mod token;
 mod trivia;

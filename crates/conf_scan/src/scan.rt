@@ -1,15 +1,16 @@
-ghost use Rattle.std.specs.Prelude.{◌≡◌, ◌≤◌, ◌<◌, ℕ, List, length, drop, take, count_by, ◌==◌};
-ghost use Rattle.std.specs.Prelude.{MatchOption, true};
+ghost use Rattle.std.specs.Prelude.{◌≡◌, ◌≤◌, ◌∷◌, [], length, drop, count_by, ◌==◌};
+ghost use Rattle.std.specs.Prelude.{if◌then◌else◌};
 ghost use Rattle.std.specs.Char.{is_ascii_digit, is_ascii_hexdigit};
 ghost use Rattle.std.specs.Bool.{nat_eq};
 ghost use Rattle.std.specs.Cmp.Lexicographic.{pointwise};
 ghost use Rattle.std.specs.List.{list_any, prefix_len, take_while};
 ghost use Rattle.conf_scan.specs.Shapes.{is_letter, is_name_byte, is_quoted_byte, is_text_byte};
-ghost use Rattle.conf_scan.specs.Shapes.{is_colons_byte, is_short_sign, is_pair_sign, is_empty_sign};
-ghost use Rattle.conf_scan.specs.Shapes.{first_passes};
+ghost use Rattle.conf_scan.specs.Shapes.{is_colons_byte, is_short_sign, is_pair_sign};
+ghost use Rattle.conf_scan.specs.Shapes.{is_empty_sign, first_passes};
 ghost use Rattle.conf_scan.specs.Fronts.{quote_len, text_len, dot_len, dotted_len};
-ghost use Rattle.conf_scan.specs.Fronts.{begins_hexadecimal, dotted_or_number, has_sign};
-ghost use Rattle.conf_scan.specs.Fronts.{begins_comment, sign_len, begins_colons, plain_front};
+ghost use Rattle.conf_scan.specs.Fronts.{begins_hexadecimal, dotted_or_number, is_plus_or_minus};
+ghost use Rattle.conf_scan.specs.Fronts.{begins_empty_sign, begins_pair_sign, sign_at, sign_len};
+ghost use Rattle.conf_scan.specs.Fronts.{begins_colons, plain_front};
 
 /// The sorts of token, each with a shape of its own.
 #[derive(Clone, Copy, Debug, PartialEq, Eq)]
@@ -178,16 +179,11 @@ fn dotted_len(text: &[u8]) -> Option<usize>
     if last > 0 { Some(fourth + last) } else { None }
 }
 
-fn begins_hexadecimal(text: &[u8]) -> bool
+/// Whether `0x` stands at the front.
+pub fn begins_hexadecimal(text: &[u8]) -> bool
     ensures { result ≡ begins_hexadecimal text.now }
 {
     matches!(text, [b'0', b'x', ..])
-}
-
-fn begins_comment(text: &[u8]) -> bool
-    ensures { result ≡ begins_comment text.now }
-{
-    matches!(text, [b'/', b'*', ..])
 }
 
 /// The number or IPv4 address at the front, at a digit.
@@ -211,23 +207,33 @@ fn is_among(bytes: &[u8], signs: &[&[u8]]) -> bool
     signs.iter().any(|sign| bytes == *sign)
 }
 
-fn is_short_sign(bytes: &[u8]) -> bool
-    ensures { result ≡ is_short_sign bytes.now }
+/// Whether this byte is a sign by itself.
+fn is_short_sign(byte: u8) -> bool
+    ensures { result ≡ is_short_sign (byte ∷ []) }
 {
-    const SIGNS: [&[u8]; 20] = [
-        b";", b"{", b"}", b"(", b")", b",", b"/", b"=", b".", b"!", b"<", b">", b"~", b"+", b"-",
-        b"*", b"[", b"]", b":", b"?",
-    ];
-    is_among(bytes, &SIGNS)
+    match byte {
+        b';' | b'{' | b'}' | b'(' | b')' | b',' | b'/' | b'=' | b'.' | b'!' => true,
+        b'<' | b'>' | b'~' | b'+' | b'-' | b'*' | b'[' | b']' | b':' | b'?' => true,
+        _ => false,
+    }
 }
 
-fn is_pair_sign(bytes: &[u8]) -> bool
-    ensures { result ≡ is_pair_sign bytes.now }
+/// Whether these two bytes are a sign.
+fn is_pair_sign(first: u8, second: u8) -> bool
+    ensures { result ≡ is_pair_sign (first ∷ second ∷ []) }
 {
-    const SIGNS: [&[u8]; 10] = [
-        b"->", b"&&", b"||", b"!=", b"<=", b">=", b"!~", b"[=", b"=]", b"..",
-    ];
-    is_among(bytes, &SIGNS)
+    match first {
+        b'-' => second == b'>',
+        b'&' => second == b'&',
+        b'|' => second == b'|',
+        b'!' => matches!(second, b'=' | b'~'),
+        b'<' => second == b'=',
+        b'>' => second == b'=',
+        b'[' => second == b'=',
+        b'=' => second == b']',
+        b'.' => second == b'.',
+        _ => false,
+    }
 }
 
 fn is_empty_sign(bytes: &[u8]) -> bool
@@ -237,12 +243,45 @@ fn is_empty_sign(bytes: &[u8]) -> bool
     is_among(bytes, &SIGNS)
 }
 
-fn has_sign(text: &[u8], len: usize) -> bool
-    ensures { result ≡ has_sign len text.now }
+fn is_plus_or_minus(byte: u8) -> bool
+    ensures { result ≡ is_plus_or_minus byte }
 {
-    match text.get(..len) {
-        Some(front) => is_short_sign(front) || is_pair_sign(front) || is_empty_sign(front),
+    byte == b'+' || byte == b'-'
+}
+
+fn begins_empty_sign(text: &[u8]) -> bool
+    ensures { result ≡ begins_empty_sign text.now }
+{
+    match text.get(..7) {
+        Some(front) => is_empty_sign(front),
         None => false,
+    }
+}
+
+/// Whether these two bytes are a sign, where there is a second one.
+fn begins_pair_sign(first: u8, behind: &[u8]) -> bool
+    ensures { result ≡ begins_pair_sign first behind.now }
+{
+    match behind.first() {
+        Some(second) => is_pair_sign(first, *second),
+        None => false,
+    }
+}
+
+/// How long the longest sign at the front is, which begins with this byte.
+fn sign_at(first: u8, behind: &[u8], text: &[u8]) -> Option<usize>
+    ensures { result ≡ sign_at first behind.now text.now }
+{
+    if first == b'/' && begins_with(behind, b'*') {
+        None
+    } else if is_plus_or_minus(first) && begins_empty_sign(text) {
+        Some(7)
+    } else if begins_pair_sign(first, behind) {
+        Some(2)
+    } else if is_short_sign(first) {
+        Some(1)
+    } else {
+        None
     }
 }
 
@@ -250,31 +289,49 @@ fn has_sign(text: &[u8], len: usize) -> bool
 fn sign_len(text: &[u8]) -> Option<usize>
     ensures { result ≡ sign_len text.now }
 {
-    if begins_comment(text) {
-        None
-    } else if has_sign(text, 7) {
-        Some(7)
-    } else if has_sign(text, 2) {
-        Some(2)
-    } else if has_sign(text, 1) {
-        Some(1)
-    } else {
-        None
-    }
+    let (first, behind) = text.split_first()?;
+    sign_at(*first, behind, text)
 }
 
-/// Whether an IPv6 address begins here.
-pub fn begins_colons(text: &[u8]) -> bool
+/// The run of hexadecimal digits and colons at the front of a text.
+#[derive(Clone, Copy, Debug, PartialEq, Eq)]
+pub struct ColonsRun {
+    pub len: usize,
+    pub colons: usize,
+}
+
+fn colon_count(byte: u8) -> usize
+    ensures { result ≡ (if byte == 58 then 1 else 0) }
+{
+    if byte == b':' { 1 } else { 0 }
+}
+
+/// The run at the front, in one pass.
+pub fn colons_run(text: &[u8]) -> ColonsRun
+    ensures len { result.len ≡ prefix_len is_colons_byte text.now }
+    ensures colons { result.colons ≡ count_by (λ b. b == 58) (take_while is_colons_byte text.now) }
+    ensures within { result.len ≤ length text.now }
+{
+    let mut len = 0;
+    let mut colons = 0;
+    for byte in text {
+        if !is_colons_byte(*byte) {
+            break;
+        }
+        len += 1;
+        colons += colon_count(*byte);
+    }
+    ColonsRun { len, colons }
+}
+
+/// Whether an IPv6 address begins here: the whole run at the front.
+pub fn begins_colons(text: &[u8], run: ColonsRun) -> bool
+    requires len { run.len ≡ prefix_len is_colons_byte text.now }
+    requires colons { run.colons ≡ count_by (λ b. b == 58) (take_while is_colons_byte text.now) }
+    requires within { run.len ≤ length text.now }
     ensures { result ≡ begins_colons text.now }
 {
-    let len = colons_len(text);
-    colons_in(&text[..len]) >= 2 && !begins_with_name_byte(tail(text, len))
-}
-
-fn colons_in(run: &[u8]) -> usize
-    ensures { result ≡ count_by (λ b. b == 58) run.now }
-{
-    run.iter().filter(|byte| **byte == b':').count()
+    run.colons >= 2 && !begins_with_name_byte(tail(text, run.len))
 }
 
 /// The longest token at the front and its sort, where no IPv6 address begins.

@@ -21,7 +21,7 @@ ghost use Rattle.conf_syntax.specs.Readers.{seen_as};
 use conf_ast::configurations::Statement;
 use conf_ast::filters::{Function, Parameter, Separator, VariableType};
 use conf_lex::parsing::{after, expect, expect_name, expect_placed};
-use conf_lex::{Refusal, Symbol, Word};
+use conf_lex::{Refusal, Symbol, Word, push_tight};
 use expr_syntax::parts::variable_type;
 use filt_syntax::parts::whole_block;
 use std::alloc::Global;
@@ -65,10 +65,10 @@ fn some_parameters<'a>(
 {
     let mut parameters = Vec::new(alloc);
     let (first, mut rest) = parameter(None, words)?;
-    parameters.push(first)?;
+    push_tight(&mut parameters, first)?;
     while let Some((separator, next)) = next_separator(rest) {
         let (more, end) = parameter(Some(separator), next)?;
-        parameters.push(more)?;
+        push_tight(&mut parameters, more)?;
         rest = end;
     }
     Ok((parameters, rest))

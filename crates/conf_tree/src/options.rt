@@ -12,7 +12,7 @@ ghost use Rattle.conf_syntax.specs.Readers.{closed_options};
 ghost use Rattle.conf_syntax.specs.Options.{IsOption};
 
 use conf_lex::parsing::{after, expect};
-use conf_lex::{Refusal, Symbol, Word};
+use conf_lex::{Refusal, Symbol, Word, push_tight};
 use std::alloc::Global;
 
 /// An option of a protocol or a channel.
@@ -52,7 +52,7 @@ pub fn options<'a, O: ProtocolOption>(
             return Ok((options, end));
         }
         let (option, end) = O::read(alloc, rest, depth_left)?;
-        options.push(option)?;
+        push_tight(&mut options, option)?;
         rest = expect(end, Symbol::Semicolon)?;
     }
 }

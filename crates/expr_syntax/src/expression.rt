@@ -22,7 +22,7 @@ use crate::operators::{
 use conf_ast::Name;
 use conf_ast::filters::{Access, Expr, Method};
 use conf_lex::parsing::{after, after_placed, expect, level_below, next_name};
-use conf_lex::{Refusal, Symbol, Word};
+use conf_lex::{Refusal, Symbol, Word, push_tight};
 use std::alloc::Global;
 
 /// The longest expression.
@@ -42,7 +42,7 @@ pub fn expression<'a>(
     let mut more = Vec::new(alloc);
     while let Some((logical_op, next)) = next_logical_op(rest) {
         let (operand, end) = comparison(alloc, next, depth_left)?;
-        more.push((logical_op, operand))?;
+        push_tight(&mut more, (logical_op, operand))?;
         rest = end;
     }
     Ok((Expr::Logical(first, more), rest))
@@ -101,7 +101,7 @@ fn sum<'a>(
     let mut more = Vec::new(alloc);
     while let Some((add_op, next)) = next_add_op(rest) {
         let (operand, end) = product(alloc, next, depth_left)?;
-        more.push((add_op, operand))?;
+        push_tight(&mut more, (add_op, operand))?;
         rest = end;
     }
     Ok((Expr::Sum(first, more), rest))
@@ -124,7 +124,7 @@ fn product<'a>(
     let mut more = Vec::new(alloc);
     while let Some((mul_op, next)) = next_mul_op(rest) {
         let (second, end) = unary(alloc, next, depth_left)?;
-        more.push((mul_op, second))?;
+        push_tight(&mut more, (mul_op, second))?;
         rest = end;
     }
     Ok((Expr::Product(first, more), rest))
@@ -168,7 +168,7 @@ fn postfix<'a>(
     let mut more = Vec::new(alloc);
     while let Some(next) = after(rest, Symbol::Dot) {
         let (postfix, end) = access(alloc, next, depth_left)?;
-        more.push(postfix)?;
+        push_tight(&mut more, postfix)?;
         rest = end;
     }
     Ok((Expr::Postfix(first, more), rest))
@@ -346,10 +346,10 @@ pub fn arguments<'a>(
         return Ok(((found, open), rest));
     }
     let (first, mut rest) = expression(alloc, inside, below)?;
-    found.push(first)?;
+    push_tight(&mut found, first)?;
     while let Some(next) = after(rest, Symbol::Comma) {
         let (argument, end) = expression(alloc, next, below)?;
-        found.push(argument)?;
+        push_tight(&mut found, argument)?;
         rest = end;
     }
     let rest = expect(rest, Symbol::CloseParenthesis)?;

@@ -21,7 +21,7 @@ use bits_ip::Prefix;
 use conf_ast::Name;
 use conf_ast::filters::{Item, Lengths, MaskAtom, MaskItem, Num, NumRange, PairPart};
 use conf_lex::parsing::{after, after_placed, expect, level_below, next_prefix};
-use conf_lex::{Refusal, Symbol, Word};
+use conf_lex::{Refusal, Symbol, Word, push_tight};
 use std::alloc::Global;
 
 /// A written number or the name of a constant that is one, where either comes next.
@@ -198,13 +198,13 @@ pub fn items<'a>(
         Ok(found) => found,
         Err(refusal) => return Err(refusal),
     };
-    found.push(first)?;
+    push_tight(&mut found, first)?;
     while let Some(next) = after(rest, Symbol::Comma) {
         let (more, end) = match item(next, depth_left) {
             Ok(found) => found,
             Err(refusal) => return Err(refusal),
         };
-        found.push(more)?;
+        push_tight(&mut found, more)?;
         rest = end;
     }
     // Most lists are short, and a tree is kept: the room that a list grew by isn't.
@@ -274,7 +274,7 @@ pub fn mask_items<'a>(
     let mut rest = words;
     while begins_mask_item(rest) {
         let (item, end) = mask_item(rest)?;
-        found.push(item)?;
+        push_tight(&mut found, item)?;
         rest = end;
     }
     Ok((found, rest))

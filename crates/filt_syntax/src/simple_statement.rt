@@ -20,7 +20,7 @@ ghost use Rattle.filt_syntax.specs.StatementReaders.{declaration_at, initial_at,
 use conf_ast::Name;
 use conf_ast::filters::{Attribute, Change, Expr, Stmt, Target};
 use conf_lex::parsing::{after, after_placed, expect, expect_name};
-use conf_lex::{Refusal, Symbol, Word};
+use conf_lex::{Refusal, Symbol, Word, push_tight};
 use expr_syntax::parts::{
     arguments, expression, method, next_attribute, of_attribute, variable_type,
 };
@@ -243,10 +243,10 @@ fn expressions<'a>(
 {
     let mut found = Vec::new(alloc);
     let (first, mut rest) = expression(alloc, words, depth_left)?;
-    found.push(first)?;
+    push_tight(&mut found, first)?;
     while let Some(next) = after(rest, Symbol::Comma) {
         let (more, end) = expression(alloc, next, depth_left)?;
-        found.push(more)?;
+        push_tight(&mut found, more)?;
         rest = end;
     }
     Ok((found, rest))

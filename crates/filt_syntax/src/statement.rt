@@ -26,7 +26,7 @@ ghost use Rattle.expr_syntax.specs.Readers.{expr_at};
 use crate::simple_statement::{done_to_name, made, simple_statement};
 use conf_ast::filters::{Arm, Block, Expr, Stmt};
 use conf_lex::parsing::{after, after_placed, expect, expect_name, level_below, next, next_name};
-use conf_lex::{Refusal, Symbol, Word};
+use conf_lex::{Refusal, Symbol, Word, push_tight};
 use expr_syntax::parts::{expression, label, variable_type};
 use std::alloc::{AllocError, Global};
 
@@ -83,7 +83,7 @@ fn block<'a>(
 fn put(found: &mut Vec<Stmt>, stmt: Box<Stmt>) -> Result<(), AllocError>
     ensures { OnOk result (found.new.items ≡ found.old.items ++ stmt.value ∷ []) }
 {
-    found.push(Box::into_inner(stmt))?;
+    push_tight(found, Box::into_inner(stmt))?;
     Ok(())
 }
 
@@ -275,7 +275,7 @@ fn arms<'a>(
     let mut rest = words;
     while !is_behind_arms(rest) {
         let (arm, next) = arm(alloc, rest, depth_left)?;
-        found.push(arm)?;
+        push_tight(&mut found, arm)?;
         rest = next;
     }
     let (otherwise, rest) = otherwise(alloc, rest, depth_left)?;

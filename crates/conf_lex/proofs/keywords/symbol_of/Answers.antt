@@ -1,10 +1,11 @@
-use Rattle.std.proofs.Common.{◌≡◌, ◌∙◌, true, length, arith, nat_le, not, ◌&&◌}
+use Rattle.std.proofs.Common.{◌≡◌, ◌∙◌, true, length, arith, nat_le, not, ◌&&◌, List, ℕ, ap}
 use Rattle.std.proofs.lemmas.Bool.Decides.{nat_tests}
-use Rattle.conf_lex.proofs.Spelled.{of_length, of_more_is}
+use Rattle.conf_lex.specs.Symbols.{lookup, spellings_of}
+use Rattle.conf_lex.proofs.Spelled.{of_length, of_more_is, one_byte}
 use Rattle.conf_lex.proofs.keywords.symbol_of.Goals as goal
 
 pub returns-in-1 : goal.returns-in-1
-returns-in-1 c = c.of_one.ensures ∙ of_length c.args.bytes.now 1 (omega arith)
+returns-in-1 c = c.of_one.ensures ∙ ap (λ (l : List ℕ). lookup l (spellings_of 1)) (one_byte c.args.bytes.now 0 c.in-1.is) ∙ of_length c.args.bytes.now 1 (omega arith)
 
 pub returns-in-2 : goal.returns-in-2
 returns-in-2 c = c.of_two.ensures ∙ of_length c.args.bytes.now 2 (omega arith)

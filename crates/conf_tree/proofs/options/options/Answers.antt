@@ -29,5 +29,5 @@ loop-end-smaller g c =
 
 pub loop-end-preserved : goal.loop-end-preserved
 loop-end-preserved g c =
-    let pushed : c.push.new.self.items ≡ c.loop-end.options.items ++ c.in_ok-option.option ∷ [] = search rules in
+    let pushed : c.push_tight.new.list.items ≡ c.loop-end.options.items ++ c.in_ok-option.option ∷ [] = search rules in
     row_next g.O.ProtocolOption.tree g.O.ProtocolOption.form g.met.O.ProtocolOption.is_option c.args.depth_left c.args.words.now c.loop-end.options.items c.loop-end.rest.now c.in_ok-option.option c.in_ok-option.end.now c.in_ok-rest.rest.now _ pushed c.loop-end.invariant c.in_ok-option.ensures c.in_ok-rest.ensures.gives

@@ -64,7 +64,7 @@ expression-loop-logical_op-preserved t c =
     let x : LogicalOp × Expr = (c.in-Some-next_logical_op.logical_op, c.in_ok-operand.operand) in
     let xs = c.loop-logical_op.more.items in
     let first = Single (derivations c.in_ok-first.first.value).comparison in
-    let pushed : c.push.new.self.items ≡ xs ++ x ∷ [] = search rules in
+    let pushed : c.push_tight.new.list.items ≡ xs ++ x ∷ [] = search rules in
     let turn = links_more is_logical_op (comparison_at k) (logical_op_turns k) (parts_after first (map logical_op_of xs)) c.loop-logical_op.rest.now (words.Symbol (logical_op_symbol c.in-Some-next_logical_op.logical_op)) c.in-Some-next_logical_op.next.now (logical_op_of x).1 c.in_ok-operand.end.now c.in-Some-next_logical_op.ensures (logical_op_passes c.in-Some-next_logical_op.logical_op) c.in_ok-operand.ensures.tree in
     record { some = λ none. absurd (more_than_none xs x (rw pushed at none)); reading = rw pushed (c.loop-logical_op.invariant.reading ∙ turn ∙ ap (λ (u : ParseTree). links is_logical_op (comparison_at k) u c.in_ok-operand.end.now) (sym (one_more logical_op_of first xs x))) }
 
@@ -121,7 +121,7 @@ sum-loop-add_op-preserved t c =
     let x : AddOp × Expr = (c.in-Some-next_add_op.add_op, c.in_ok-operand.operand) in
     let xs = c.loop-add_op.more.items in
     let first = Single (derivations c.in_ok-first.first.value).product in
-    let pushed : c.push.new.self.items ≡ xs ++ x ∷ [] = search rules in
+    let pushed : c.push_tight.new.list.items ≡ xs ++ x ∷ [] = search rules in
     let turn = links_more is_add_op (product_at k) (add_op_turns k) (parts_after first (map add_op_of xs)) c.loop-add_op.rest.now (words.Symbol (add_op_symbol c.in-Some-next_add_op.add_op)) c.in-Some-next_add_op.next.now (add_op_of x).1 c.in_ok-operand.end.now c.in-Some-next_add_op.ensures (add_op_passes c.in-Some-next_add_op.add_op) c.in_ok-operand.ensures.tree in
     record { some = λ none. absurd (more_than_none xs x (rw pushed at none)); reading = rw pushed (c.loop-add_op.invariant.reading ∙ turn ∙ ap (λ (u : ParseTree). links is_add_op (product_at k) u c.in_ok-operand.end.now) (sym (one_more add_op_of first xs x))) }
 
@@ -169,7 +169,7 @@ product-loop-mul_op-preserved t c =
     let x : MulOp × Expr = (c.in-Some-next_mul_op.mul_op, c.in_ok-second.second) in
     let xs = c.loop-mul_op.more.items in
     let first = Single (derivations c.in_ok-first.first.value).unary in
-    let pushed : c.push.new.self.items ≡ xs ++ x ∷ [] = search rules in
+    let pushed : c.push_tight.new.list.items ≡ xs ++ x ∷ [] = search rules in
     let turn = links_more is_mul_op (unary_at k) (mul_op_turns k) (parts_after first (map mul_op_of xs)) c.loop-mul_op.rest.now (words.Symbol (mul_op_symbol c.in-Some-next_mul_op.mul_op)) c.in-Some-next_mul_op.next.now (mul_op_of x).1 c.in_ok-second.end.now c.in-Some-next_mul_op.ensures (mul_op_passes c.in-Some-next_mul_op.mul_op) c.in_ok-second.ensures.tree in
     record { some = λ none. absurd (more_than_none xs x (rw pushed at none)); reading = rw pushed (c.loop-mul_op.invariant.reading ∙ turn ∙ ap (λ (u : ParseTree). links is_mul_op (unary_at k) u c.in_ok-second.end.now) (sym (one_more mul_op_of first xs x))) }
 
@@ -217,7 +217,7 @@ postfix-loop-next-preserved t c =
     let x : Access Expr = c.in_ok-postfix.postfix in
     let xs = c.loop-next.more.items in
     let first = Single (derivations c.in_ok-first.first.value).primary in
-    let pushed : c.push.new.self.items ≡ xs ++ x ∷ [] = search rules in
+    let pushed : c.push_tight.new.list.items ≡ xs ++ x ∷ [] = search rules in
     let turn = links_more (symbol symbols.Dot) (behind_dot_at k) (dot_turns k) (parts_after first (map access_of xs)) c.loop-next.rest.now (words.Symbol symbols.Dot) c.in-Some-after.next.now (access_of x).1 c.in_ok-postfix.end.now c.in-Some-after.ensures refl c.in_ok-postfix.ensures in
     record { some = λ none. absurd (more_than_none xs x (rw pushed at none)); reading = rw pushed (c.loop-next.invariant.reading ∙ turn ∙ ap (λ (u : ParseTree). links (symbol symbols.Dot) (behind_dot_at k) u c.in_ok-postfix.end.now) (sym (one_more_access first xs x))) }
 
@@ -472,7 +472,7 @@ arguments-returns-in_err-first t c =
 
 pub arguments-loop-next-init : goal.arguments-loop-next-init
 arguments-loop-next-init t c =
-    let pushed : c.push.new.self.items ≡ c.in_ok-first.first ∷ [] = search rules in
+    let pushed : c.push_tight.new.list.items ≡ c.in_ok-first.first ∷ [] = search rules in
     record {
       some = rw pushed (omega arith);
       reading = λ at u is.
@@ -497,7 +497,7 @@ arguments-loop-next-preserved t c =
     let es = c.loop-next.found.items in
     let e = c.in_ok-argument.argument in
     let end = c.in_ok-argument.end.now in
-    let pushed : c.push-in-Some-after.new.self.items ≡ es ++ e ∷ [] = search rules in
+    let pushed : c.push_tight-in-Some-after.new.list.items ≡ es ++ e ∷ [] = search rules in
     let turn = links_more (symbol symbols.Comma) (expr_at b) (comma_turns b) (listed_tree (expr_trees es)) c.loop-next.rest.now (words.Symbol symbols.Comma) c.in-Some-after.next.now (derivations e).expr end c.in-Some-after.ensures refl c.in_ok-argument.ensures in
     let listed = turn ∙ ap (λ (x : ParseTree). links (symbol symbols.Comma) (expr_at b) x end) (sym (one_more_expr es e c.loop-next.invariant.some)) in
     record {

@@ -18,7 +18,7 @@ returns-in-Err-clause-tree c =
 
 pub loop-next-init : goal.loop-next-init
 loop-next-init c =
-    let pushed : c.push.new.self.items ≡ c.in-Ok.found.0 ∷ [] = search rules in
+    let pushed : c.push_tight.new.list.items ≡ c.in-Ok.found.0 ∷ [] = search rules in
     record {
       some = rw pushed (omega arith);
       reading = rw pushed (items_is c.args.depth_left c.args.words.now ∙ rw c.in-Ok.ensures refl);
@@ -37,7 +37,7 @@ loop-next-preserved c =
     let ps = c.loop-next.found.items in
     let p = c.in-Ok-item.found.0 in
     let end = c.in-Ok-item.found.1.now in
-    let pushed : c.push-in-Some.new.self.items ≡ ps ++ p ∷ [] = search rules in
+    let pushed : c.push_tight-in-Some.new.list.items ≡ ps ++ p ∷ [] = search rules in
     let turn = links_more (symbol sym.Comma) (item_at c.args.depth_left) (item_turns c.args.depth_left) (items_tree ps) c.loop-next.rest.now (words.Symbol sym.Comma) c.in-Some.next.now (item_tree p) end c.in-Some.ensures refl c.in-Ok-item.ensures in
     record {
       some = rw pushed (omega (arith, length-append ps (p ∷ [])));

@@ -25,7 +25,7 @@ loop-rest-preserved c =
     let ms = c.loop-rest.found.items in
     let m = c.in_ok-item.item in
     let end = c.in_ok-item.end.now in
-    let pushed : c.push.new.self.items ≡ ms ++ m ∷ [] = search rules in
+    let pushed : c.push_tight.new.list.items ≡ ms ++ m ∷ [] = search rules in
     rw pushed (c.loop-rest.invariant ∙ mask_row_more (mask_items_tree ms) c.loop-rest.rest.now (mask_item_tree m) end (flip c.begins_mask_item.ensures ∙ c.loop-rest-test.true) c.in_ok-item.ensures ∙ ap (λ (t : ParseTree). mask_row_at t end) (flip (one_more_mask_item ms m)))
 
 pub returns : goal.returns

@@ -21,7 +21,7 @@ returns-in_err-first c =
 
 pub loop-next-init : goal.loop-next-init
 loop-next-init c =
-    let pushed : c.push.new.self.items ≡ c.in_ok-first.first ∷ [] = search rules in
+    let pushed : c.push_tight.new.list.items ≡ c.in_ok-first.first ∷ [] = search rules in
     record {
       some = rw pushed (omega arith);
       reading = rw pushed (exprs_is c.args.depth_left c.args.words.now ∙ rw c.in_ok-first.ensures refl);
@@ -41,7 +41,7 @@ loop-next-preserved c =
     let es = c.loop-next.found.items in
     let e = c.in_ok-more.more in
     let end = c.in_ok-more.end.now in
-    let pushed : c.push-in-Some.new.self.items ≡ es ++ e ∷ [] = search rules in
+    let pushed : c.push_tight-in-Some.new.list.items ≡ es ++ e ∷ [] = search rules in
     let turn = links_more (symbol sym.Comma) (expr_at c.args.depth_left) (printed_turns c.args.depth_left) (listed_tree (expr_trees es)) c.loop-next.rest.now (words.Symbol sym.Comma) c.in-Some.next.now (derivations e).expr end c.in-Some.ensures refl c.in_ok-more.ensures in
     record {
       some = rw pushed (omega (arith, length-append es (e ∷ [])));

@@ -195,7 +195,7 @@ arms-loop-rest-preserved t c =
     let xs = c.loop-rest.found.items in
     let a = c.in_ok-arm.arm in
     let end = c.in_ok-arm.next.now in
-    let pushed : c.push.new.self.items ≡ xs ++ a ∷ [] = search rules in
+    let pushed : c.push_tight.new.list.items ≡ xs ++ a ∷ [] = search rules in
     record {
       behind = rw pushed (still_behind xs a end c.in_ok-arm.ensures.0);
       reading = rw pushed (c.loop-rest.invariant.reading ∙ arms_next c.args.depth_left (arms_of xs) c.loop-rest.rest.now c.loop-rest.invariant.behind (flip c.is_behind_arms.ensures ∙ c.loop-rest-test.true) ∙ c.in_ok-arm.ensures.2 (with_label (arms_of xs)) ∙ flip (one_more_arm c.args.depth_left xs a end));
