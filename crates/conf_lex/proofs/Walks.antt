@@ -22,7 +22,22 @@ use Rattle.conf_lex.specs.Walks.{IsWordStep}
 use Rattle.conf_scan.specs.Spots.{IsStep, LexesFrom}
 use Rattle.conf_lex.specs.Inside.{begins_colon, number_of, first_number, first_length, IsColonStep, IsNumberStep, IsLengthStep}
 use Rattle.conf_lex.proofs.Folded.{words_behind, drop_one}
-use Rattle.conf_scan.proofs.Spots.{step_back, step_lexes}
+use Rattle.conf_scan.proofs.Spots.{step_back, step_lexes, step_stops}
+
+-- ---- the tokens of a word
+
+-- what the tokens are, that stand behind a place where two or three do
+two_back : (text : List ℕ) (from middle to : Spot) (t u : Token) (ts : List Token) → IsStep text from t middle → IsStep text middle u to → LexesFrom text from ts → (more : List Token) × (ts ≡ t ∷ u ∷ more) × LexesFrom text to more
+two_back text from middle to t u ts first second lexes =
+    let one = step_back text from middle t ts first lexes in
+    let two = step_back text middle to u one.0 second one.2 in
+    (two.0, one.1 ∙ ap (λ (l : List Token). t ∷ l) two.1, two.2)
+
+three_back : (text : List ℕ) (from early late to : Spot) (t u v : Token) (ts : List Token) → IsStep text from t early → IsStep text early u late → IsStep text late v to → LexesFrom text from ts → (more : List Token) × (ts ≡ t ∷ u ∷ v ∷ more) × LexesFrom text to more
+three_back text from early late to t u v ts first second third lexes =
+    let two = two_back text from early late t u ts first second lexes in
+    let one = step_back text late to v two.0 third two.2 in
+    (one.0, two.1 ∙ ap (λ (l : List Token). t ∷ u ∷ l) one.1, one.2)
 
 -- ---- one word
 
@@ -40,6 +55,8 @@ word_alone text from to t step alone =
     record {
       made = t ∷ [];
       lexes = λ more rest. step_lexes text from to t more step rest;
+      back = λ ts lexes. step_back text from to t ts step lexes;
+      stops = λ more place rest. step_stops text from to t more place step rest;
       words = λ i more rest. first_words text i t more (word_of text t) 1 (alone more rest) (omega arith);
       spot = step.spot;
       rises = step.rises;
@@ -56,6 +73,8 @@ word_colon text from middle to t e step colon =
     record {
       made = t ∷ u ∷ [];
       lexes = λ more rest. step_lexes text from middle t (u ∷ more) step (step_lexes text middle to u more colon.step rest);
+      back = λ ts lexes. two_back text from middle to t u ts step colon.step lexes;
+      stops = λ more place rest. step_stops text from middle t (u ∷ more) place step (step_stops text middle to u more place colon.step rest);
       words = λ i more rest. first_words text i t (u ∷ more) (words.Symbol symbols.ElseColon) 2 (colon_first text t u more e colon.colon) (omega arith);
       spot = colon.step.spot;
       rises = omega (arith, step.rises, colon.step.rises);
@@ -79,6 +98,8 @@ word_slashed text from middle to t addr n kind step behind =
     record {
       made = t ∷ u ∷ v ∷ [];
       lexes = λ more rest. step_lexes text from middle t (u ∷ v ∷ more) step (step_lexes text middle behind.middle u (v ∷ more) behind.step (step_lexes text behind.middle to v more behind.number.step rest));
+      back = λ ts lexes. three_back text from middle behind.middle to t u v ts step behind.step behind.number.step lexes;
+      stops = λ more place rest. step_stops text from middle t (u ∷ v ∷ more) place step (step_stops text middle behind.middle u (v ∷ more) place behind.step (step_stops text behind.middle to v more place behind.number.step rest));
       words = λ i more rest. first_words text i t (u ∷ v ∷ more) (prefix_word t.at addr n) 3 (slash_first text t u v more addr n kind behind.slash behind.number.number) (omega arith);
       spot = behind.number.step.spot;
       rises = omega (arith, step.rises, behind.step.rises, behind.number.step.rises);

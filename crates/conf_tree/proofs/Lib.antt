@@ -16,8 +16,9 @@ mod RefusalsOnce
 pub mod RouteSteps
 pub mod SignificantSteps
 pub mod SignificantWalks
+pub mod SpotSteps
 pub mod Tested
 pub mod TextRefusals
 pub mod TextsOnce
-pub mod TokenBytes
+pub mod TokenSteps
 pub mod Whole

@@ -1,5 +1,5 @@
 -- How the tokens of a text are refused, by places among its words: in one way at most, and only where they are none.
-use Rattle.std.proofs.Common.{◌≡◌, ℕ, zero, suc, ◌+◌, ◌≤◌, Bool, true, false, cond, List, [], ◌∷◌, ◌++◌, length, map, take, drop, slice_index_or, IsSomeAnd, Result, Ok, Err, IfOk, IfErr, refl, sym, ap, subst, ◌∙◌, arith, inl, inr}
+use Rattle.std.proofs.Common.{◌≡◌, ◌⊎◌, ℕ, ◌+◌, ◌≤◌, List, [], ◌++◌, length, take, drop, slice_index_or, IsSomeAnd, refl, sym, ap, subst, ◌∙◌, arith, inl, inr}
 use Rattle.std.proofs.lemmas.List.{length-append, length-drop, drop_at, take_at}
 use Rattle.std.specs.Borrow.{Bor}
 use Rattle.conf_scan.specs.declared.token.Token.{Token}
@@ -14,17 +14,12 @@ use Rattle.expr_syntax.specs.Syntax.{rule}
 use Rattle.filt_syntax.specs.declared.parse.SyntaxFault.{SyntaxFault}
 use Rattle.filt_syntax.specs.declared.parse.SyntaxFault.TheVariants as faults
 use Rattle.filt_syntax.specs.RefusedToken.{IsPastAt, IsBadFrom}
-use Rattle.filt_syntax.proofs.RefusedTokens.{one_past_at, below_words}
+use Rattle.filt_syntax.proofs.RefusedTokens.{one_past_at}
 use Rattle.conf_lex.proofs.PartShapes.{bad_from, deep_from}
 use Rattle.conf_syntax.specs.Syntax.{config}
 use Rattle.conf_tree.specs.Readers.{whole_at}
-use Rattle.conf_lex.specs.Words.{words_of}
-use Rattle.conf_tree.specs.Significant.{behind, is_significant, significant, significant_words, significant_starts, token_of}
-use Rattle.conf_tree.specs.declared.significant.Region.{Region}
-use Rattle.conf_tree.specs.declared.significant.Region.TheVariants as regions
-use Rattle.conf_tree.specs.Sentence.{word_bytes, IsUnsupported, IsKnown, Refuses, IsBadAt, IsSentence, IsStop, StopsAt, DeepensAt, IsRefused, IsTree, IsAnswered}
-use Rattle.conf_tree.specs.View.{config_view}
-use Rattle.conf_ast.specs.declared.configurations.Config.{Config}
+use Rattle.conf_tree.specs.Significant.{significant_words, significant_starts, token_of}
+use Rattle.conf_tree.specs.Sentence.{word_bytes, IsUnsupported, IsKnown, Refuses, IsBadAt, IsSentence, IsStop, StopsAt, DeepensAt, IsRefused}
 use Rattle.conf_tree.proofs.Whole.{got_sentence, sentence_is, bad_is_stop, stop_is_bad, deep_is_deep, deep_is_fault}
 
 -- ---- places
@@ -53,24 +48,6 @@ deep_fewer significant rest h = omega (arith, ap (λ (u : List Word). length u) 
 pub begun_before : (significant rest : List Word) (place : ℕ) → place + length rest ≡ length significant → IsStop significant rest → IsBegunWithin rule 64 config (take place significant)
 begun_before significant rest place len s = subst (λ (u : List Word). IsBegunWithin rule 64 config u) (sym (front_at significant s.before rest place len s.front)) s.begun
 
--- the first token of each word is within the tokens
-below_significant : (end : ℕ) (ps : List (ℕ × Word)) (r : Region) → ((place : ℕ) → slice_index_or (map (λ p. p.0) ps) place end ≤ end) → (place : ℕ) → slice_index_or (map (λ p. p.0) (significant r ps)) place end ≤ end
-below_significant end [] r low place = low place
-below_significant end (p ∷ ps) r low place = kept (is_significant r p.1) (below_significant end ps (behind r p.1) (λ n. low (suc n)))
-  where
-    more : ((n : ℕ) → slice_index_or (map (λ q. q.0) (significant (behind r p.1) ps)) n end ≤ end) → (n : ℕ) → slice_index_or (p.0 ∷ map (λ q. q.0) (significant (behind r p.1) ps)) n end ≤ end
-    more rest zero = low 0
-    more rest (suc n) = rest n
-
-    kept : (b : Bool) → ((n : ℕ) → slice_index_or (map (λ q. q.0) (significant (behind r p.1) ps)) n end ≤ end) → slice_index_or (map (λ q. q.0) (cond b (p ∷ significant (behind r p.1) ps) (significant (behind r p.1) ps))) place end ≤ end
-    kept true rest = more rest place
-    kept false rest = rest place
-
-pub start_within : (text : List ℕ) (tokens : List Token) (starts : List ℕ) (place : ℕ) → starts ≡ significant_starts text tokens → slice_index_or starts place (length tokens) ≤ length tokens
-start_within text tokens starts place is =
-    subst (λ (u : List ℕ). slice_index_or u place (length tokens) ≤ length tokens) (sym is)
-    (below_significant (length tokens) (words_of text tokens) regions.Statements (below_words text (length tokens) 0 0 tokens (omega arith)) place)
-
 -- ---- what is answered
 
 stops_at : (text : List ℕ) (tokens : List Token) (rest : List Word) (place at : ℕ) → place + length rest ≡ length (significant_words text tokens) → at ≡ token_of text tokens place → IsStop (significant_words text tokens) rest → StopsAt text tokens place at
@@ -87,7 +64,7 @@ bad_refuses known significant place at (faults.TooDeep token) none h = h
 bad_refuses known significant place at (faults.Unsupported token) none h = absurd h
 bad_refuses known significant place at faults.Memory none h = tt
 
-stop_told : (text : List ℕ) (tokens : List Token) (rest : List Word) (place at : ℕ) → place + length rest ≡ length (significant_words text tokens) → at ≡ token_of text tokens place → IsStop (significant_words text tokens) rest → (e : SyntaxFault) → Refuses (Known text tokens (significant_words text tokens) place at) (significant_words text tokens) place at e → IsRefused text tokens e
+pub stop_told : (text : List ℕ) (tokens : List Token) (rest : List Word) (place at : ℕ) → place + length rest ≡ length (significant_words text tokens) → at ≡ token_of text tokens place → IsStop (significant_words text tokens) rest → (e : SyntaxFault) → Refuses (Known text tokens (significant_words text tokens) place at) (significant_words text tokens) place at e → IsRefused text tokens e
 stop_told text tokens rest place at len is s (faults.Bad token) h = (place, record { start = at; stops = stops_at text tokens rest place at len is s; unknown = h.0; past = h.1; is_past = h.2; token = h.3 })
 stop_told text tokens rest place at len is s (faults.Unsupported token) h = (place, stops_at text tokens rest place token len (h.0 ∙ is) s, subst (λ (n : ℕ). Known text tokens (significant_words text tokens) place n) (sym h.0) h.1)
 stop_told text tokens rest place at len is s (faults.TooDeep token) h = absurd h
@@ -101,7 +78,7 @@ stop_refused text tokens significant starts words-are starts-are rest place at l
     (subst (λ (u : List Word). IsStop u rest) words-are s) e
     (subst (λ (u : List Word). Refuses (Known text tokens u place at) u place at e) words-are h)
 
-deep_told : (text : List ℕ) (tokens : List Token) (rest : List Word) (place at : ℕ) → place + length rest ≡ length (significant_words text tokens) → at ≡ token_of text tokens place → IsTooDeep rule 64 config (significant_words text tokens) rest → IsRefused text tokens (faults.TooDeep at)
+pub deep_told : (text : List ℕ) (tokens : List Token) (rest : List Word) (place at : ℕ) → place + length rest ≡ length (significant_words text tokens) → at ≡ token_of text tokens place → IsTooDeep rule 64 config (significant_words text tokens) rest → IsRefused text tokens (faults.TooDeep at)
 deep_told text tokens rest place at len is h =
     (place, record { within = omega (arith, len); deep = subst (λ (u : List Word). IsTooDeep rule 64 config (significant_words text tokens) u) (sym (rest_at (significant_words text tokens) h.before rest place len h.front)) h; token = is })
 
@@ -165,18 +142,17 @@ sentence_memory text tokens t s (faults.Unsupported at) h = absurd (sentence_no_
 sentence_memory text tokens t s (faults.TooDeep at) h = absurd (sentence_no_deep text tokens t h.0 at s h.1)
 sentence_memory text tokens t s faults.Memory h = refl
 
-pub sentence_exact : (text : List ℕ) (tokens : List Token) (c : Config) → IsSentence (significant_words text tokens) (config_view c) → (e : SyntaxFault) → IsRefused text tokens e → IsAnswered (Ok c) e
-sentence_exact text tokens c s (faults.Bad at) h = sentence_no_stop text tokens (config_view c) h.0 h.1.start s h.1.stops
-sentence_exact text tokens c s (faults.Unsupported at) h = sentence_no_stop text tokens (config_view c) h.0 at s h.1
-sentence_exact text tokens c s (faults.TooDeep at) h = sentence_no_deep text tokens (config_view c) h.0 at s h.1
-sentence_exact text tokens c s faults.Memory h = tt
-
 -- they have one tree
 pub one_tree : (significant : List Word) (t u : ParseTree) → IsSentence significant t → IsSentence significant u → t ≡ u
 one_tree significant t u s r = let same : Parsed t [] ≡ Parsed u [] = sym (sentence_is significant t s) ∙ sentence_is significant u r in cc
 
+-- one refusal is the other, unless memory ran out
+abbrev pub IsSameFault : SyntaxFault → SyntaxFault → Type 0
+IsSameFault d faults.Memory = Unit {0}
+IsSameFault d e = (d ≡ faults.Memory) ⊎ (d ≡ e)
+
 -- and words have one refusal
-pub one_fault : (text : List ℕ) (tokens : List Token) (d : SyntaxFault) → IsRefused text tokens d → (e : SyntaxFault) → IsRefused text tokens e → IsAnswered (Err d) e
+pub one_fault : (text : List ℕ) (tokens : List Token) (d : SyntaxFault) → IsRefused text tokens d → (e : SyntaxFault) → IsRefused text tokens e → IsSameFault d e
 one_fault text tokens d h faults.Memory g = tt
 one_fault text tokens faults.Memory h (faults.Bad b) g = inl refl
 one_fault text tokens faults.Memory h (faults.TooDeep b) g = inl refl
@@ -201,11 +177,3 @@ answer_deep ws significant e rest is why failed = deep_is_deep significant rest.
 
 pub answer_tree : (ws items significant : List Word) (t : ParseTree) (rest : List Word) → ws ≡ items → items ≡ significant → whole_at 64 ws ≡ Parsed t rest → IsSentence significant t
 answer_tree ws items significant t rest is words-are e = got_sentence significant t rest (subst (λ (u : List Word). whole_at 64 u ≡ Parsed t rest) (is ∙ words-are) e)
-
-pub answer_only : (text : List ℕ) (tokens : List Token) (r : Result Config SyntaxFault) → IfOk r (λ c. IsSentence (significant_words text tokens) (config_view c)) → IfErr r (IsRefused text tokens) → (t : ParseTree) → IsSentence (significant_words text tokens) t → IsTree r t
-answer_only text tokens (Ok c) s h t g = one_tree (significant_words text tokens) (config_view c) t s g
-answer_only text tokens (Err d) s h t g = sentence_memory text tokens t g d h
-
-pub answer_exact : (text : List ℕ) (tokens : List Token) (r : Result Config SyntaxFault) → IfOk r (λ c. IsSentence (significant_words text tokens) (config_view c)) → IfErr r (IsRefused text tokens) → (e : SyntaxFault) → IsRefused text tokens e → IsAnswered r e
-answer_exact text tokens (Ok c) s h e g = sentence_exact text tokens c s e g
-answer_exact text tokens (Err d) s h e g = one_fault text tokens d h e g

@@ -8,9 +8,8 @@
 -- Example: `filter f {` and a newline is refused at 2:1; `protocol ospf o { }` at 1:10, as
 -- unsupported; `local path;` in a bgp protocol at `path`, as no sentence; `protocol else: x` at
 -- 1:10, as no sentence, since `else:` is a sign.
-use Rattle.std.specs.Prelude.{◌≡◌, ◌≢◌, ◌≤◌, ◌⊎◌, ◌+◌, cond, ℕ, Bool, List, [], ◌∷◌, ◌++◌, length}
-use Rattle.std.specs.Prelude.{take, drop, codes, IsTrue, Option, Some, None, IsSomeAnd, Result, Ok}
-use Rattle.std.specs.Prelude.{Err}
+use Rattle.std.specs.Prelude.{◌≡◌, ◌≢◌, ◌≤◌, ◌+◌, cond, ℕ, Bool, List, [], ◌∷◌, ◌++◌, length}
+use Rattle.std.specs.Prelude.{take, drop, codes, IsTrue, Option, Some, None, IsSomeAnd}
 use Rattle.std.specs.List.{list_any}
 use Rattle.std.specs.Bool.{nat_eq}
 use Rattle.std.specs.Cmp.Lexicographic.{pointwise}
@@ -31,8 +30,6 @@ use Rattle.filt_syntax.specs.declared.parse.SyntaxFault.{SyntaxFault}
 use Rattle.filt_syntax.specs.declared.parse.SyntaxFault.TheVariants as faults
 use Rattle.conf_syntax.specs.Syntax.{config}
 use Rattle.conf_tree.specs.Significant.{significant_words, token_of}
-use Rattle.conf_ast.specs.declared.configurations.Config.{Config}
-use Rattle.conf_tree.specs.View.{config_view}
 
 -- the words are a configuration of this tree, with no more than 64 levels in a block or an
 -- expression
@@ -164,14 +161,3 @@ IsRefused text tokens (faults.Unsupported at) =
     (place : ℕ) × StopsAt text tokens place at × IsKnown text tokens place at
 IsRefused text tokens (faults.TooDeep at) = (place : ℕ) × DeepensAt text tokens place at
 IsRefused text tokens faults.Memory = Unit {0}
-
--- the answer is this tree, unless memory ran out
-abbrev pub IsTree : Result Config SyntaxFault → ParseTree → Type 0
-IsTree (Ok tree) t = config_view tree ≡ t
-IsTree (Err e) t = e ≡ faults.Memory
-
--- the answer is this fault, unless memory ran out
-abbrev pub IsAnswered : Result Config SyntaxFault → SyntaxFault → Type 0
-IsAnswered r faults.Memory = Unit {0}
-IsAnswered (Ok tree) e = ⊥
-IsAnswered (Err d) e = (d ≡ faults.Memory) ⊎ (d ≡ e)

@@ -7,12 +7,13 @@
 -- (section "Device").
 -- Example: `log protocol device { ; router id 1.2.3.4;` has two statements, and so has `protocol
 -- device { { x } ( ; } filter d { }`.
-use Rattle.std.specs.Prelude.{ℕ, Bool, true, false, cond, List, [], ◌∷◌, map}
+use Rattle.std.specs.Prelude.{◌≡◌, ℕ, Bool, true, false, cond, List, [], ◌∷◌, map}
 use Rattle.std.specs.Prelude.{slice_index_or, length}
 use Rattle.std.proofs.Common.{zero, suc}
 use Rattle.conf_lex.specs.Words.{words_of}
 use Rattle.conf_lex.specs.declared.symbol.Symbol.{Symbol}
 use Rattle.conf_lex.specs.declared.symbol.Symbol.TheVariants as sym
+use Rattle.conf_scan.specs.Lex.{Lexes}
 use Rattle.conf_scan.specs.declared.token.Token.{Token}
 use Rattle.conf_lex.specs.declared.word.Word.{Word}
 use Rattle.conf_lex.specs.Kind.{kind_of, name, symbol}
@@ -71,3 +72,8 @@ significant_starts text tokens = map (λ p. p.0) (significant_of text tokens)
 -- the token with which the word in this place begins; behind the last word the end of the tokens
 abbrev pub token_of : List ℕ → List Token → ℕ → ℕ
 token_of text tokens place = slice_index_or (significant_starts text tokens) place (length tokens)
+
+-- these are the words of the text that the grammar reads
+abbrev pub AreWordsOf : List ℕ → List Word → Type 0
+AreWordsOf text words =
+    (tokens : List Token) × Lexes 0 text tokens × (words ≡ significant_words text tokens)

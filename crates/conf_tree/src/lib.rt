@@ -1,6 +1,6 @@
 //! The parser of BIRD's configuration: the tree of a text (conf_ast) or the first place that is
-//! refused (`read_config`, `parse_config`), and the line and column of a place (`place`). Four laws
-//! stand here, on which crates on the way to the program rest.
+//! refused (`read_config`), and the line and column of a place (`place`). Four laws stand here, on
+//! which crates on the way to the program rest.
 //!
 //! Not in it: tokens (conf_scan) and words (conf_lex), the grammar and its parts that hold no filter
 //! (conf_syntax), expressions (expr_syntax), statements and blocks of filters (filt_syntax), the
@@ -15,18 +15,17 @@ mod followed;
 mod function;
 pub mod laws;
 mod options;
-mod parse;
 mod pipe;
 mod policy;
 mod position;
 mod protocol;
 mod read;
+mod refusal;
 mod significant;
 mod statement;
 mod static_routes;
 mod unsupported;
 
 pub use conf_ast::{ConfFault, ConfKind};
-pub use parse::parse_config;
 pub use position::place;
 pub use read::read_config;

@@ -1,17 +1,19 @@
 // The words without those that logs and device blocks hold.
 
-ghost use Rattle.std.specs.Prelude.{◌≡◌, ◌+◌, ◌<◌, ◌^◌, List, ◌++◌, ◌∷◌, [], cond, true, false};
-ghost use Rattle.std.specs.Prelude.{map, IfOk, OnOk};
-ghost use Rattle.conf_scan.specs.Lex.{Lexes};
+ghost use Rattle.std.specs.Prelude.{◌≡◌, ◌+◌, ◌<◌, ◌^◌, List, ◌++◌, ◌∷◌, [], cond, true, drop};
+ghost use Rattle.std.specs.Prelude.{IfOk, IfErr, OnOk, MatchOption};
+ghost use Rattle.conf_scan.specs.Lex.{Lexes, IsRefused};
+ghost use Rattle.conf_scan.specs.Spots.{IsSpot, LexesFrom};
+ghost use Rattle.conf_scan.specs.declared.token.LexFault.TheVariants.{Memory};
 ghost use Rattle.conf_scan.specs.declared.token.Token.{Token};
 ghost use Rattle.conf_lex.specs.Kind.{kind_of, name};
-ghost use Rattle.conf_tree.specs.Significant.{behind, depth_of, is_significant, significant_words};
-ghost use Rattle.conf_tree.specs.Significant.{significant_starts};
+ghost use Rattle.conf_lex.specs.Walks.{IsWordStep};
+ghost use Rattle.conf_tree.specs.Significant.{behind, depth_of, is_significant, token_of};
+ghost use Rattle.conf_tree.specs.Significant.{AreWordsOf};
 
-use bits_ip::OutOfMemory;
 use conf_lex::parsing::is_symbol;
-use conf_lex::{Symbol, Word, Words, next_word, word_at};
-use conf_scan::{LexFault, Spot, Token};
+use conf_lex::{Symbol, Word, next_word};
+use conf_scan::{LexFault, Spot};
 use std::alloc::Global;
 
 /// Where a word stands, as far as it matters to what logs and device blocks hold.
@@ -128,51 +130,11 @@ fn is_significant(region: Region, word: &Word) -> bool
     }
 }
 
-// The words found, with one more where it says something.
-fn push_word(
-    found: &mut Words,
-    region: Region,
-    word: &Word,
-    start: usize,
-) -> Result<(), OutOfMemory>
-    ensures words { OnOk result (found.new.words.items ≡ found.old.words.items
-        ++ cond (is_significant region word.now) (word.now ∷ []) []) }
-    ensures starts { OnOk result (found.new.starts.items ≡ found.old.starts.items
-        ++ cond (is_significant region word.now) (start ∷ []) []) }
-{
-    if is_significant(region, word) {
-        found.words.push(*word)?;
-        found.starts.push(start)?;
-    }
-    Ok(())
-}
-
-/// The words that the grammar reads, and the first token of each.
-pub fn significant_words(alloc: Global, text: &[u8], tokens: &[Token]) -> Result<Words, OutOfMemory>
-    requires { Lexes 0 text.now tokens.now }
-    ensures words { IfOk result (λ found. found.words.items
-        ≡ significant_words text.now tokens.now) }
-    ensures starts { IfOk result (λ found. found.starts.items
-        ≡ significant_starts text.now tokens.now) }
-{
-    let mut found = Words {
-        words: Vec::new(alloc),
-        starts: Vec::new(alloc),
-    };
-    let mut region = Region::Statements;
-    let mut at = 0;
-    while let Some((word, next)) = word_at(text, tokens, at) {
-        push_word(&mut found, region, &word, at)?;
-        region = behind(region, &word);
-        at = next;
-    }
-    Ok(found)
-}
-
 // The words found, with this one more where it says something.
 fn keep(found: &mut Vec<Word>, region: Region, word: &Word) -> Result<(), LexFault>
-    ensures { OnOk result (found.new.items
+    ensures words { OnOk result (found.new.items
         ≡ found.old.items ++ cond (is_significant region word.now) (word.now ∷ []) []) }
+    ensures memory { IfErr result (λ fault. fault ≡ Memory) }
 {
     if is_significant(region, word) {
         found.push(*word)?;
@@ -180,10 +142,11 @@ fn keep(found: &mut Vec<Word>, region: Region, word: &Word) -> Result<(), LexFau
     Ok(())
 }
 
-/// The words that the grammar reads, made as the text is walked: its tokens aren't kept.
+/// The words that the grammar reads, made as the text is walked: its tokens aren't kept. `Bad` is as
+/// `conf_scan::lex` has it.
 pub fn walked_words(alloc: Global, text: &[u8]) -> Result<Vec<Word>, LexFault>
-    ensures { IfOk result (λ found. (tokens : List Token) × Lexes 0 text.now tokens
-        × (found.items ≡ significant_words text.now tokens)) }
+    ensures words { IfOk result (λ found. AreWordsOf text.now found.items) }
+    ensures bad { IfErr result (IsRefused text.now) }
 {
     let mut found = Vec::new(alloc);
     let mut region = Region::Statements;
@@ -194,4 +157,51 @@ pub fn walked_words(alloc: Global, text: &[u8]) -> Result<Vec<Word>, LexFault>
         spot = end;
     }
     Ok(found)
+}
+
+// The word that stands next in a text that has tokens, and the place behind it.
+fn word_ahead(text: &[u8], spot: Spot) -> Option<(Word, Spot)>
+    requires spot { IsSpot text.now spot }
+    requires lexed { (tokens : List Token) × LexesFrom text.now spot tokens }
+    ensures { MatchOption result (LexesFrom text.now spot [])
+        (λ found. IsWordStep text.now spot found.0 found.1) }
+{
+    match next_word(text, spot) {
+        Ok(found) => found,
+        Err(_) => None,
+    }
+}
+
+// How many words are left behind this one, where it isn't the one that is looked for.
+fn words_left(left: usize, significant: bool) -> Option<usize>
+    ensures { MatchOption result ((significant ≡ true) × (left ≡ 0))
+        (λ fewer. left ≡ fewer + cond significant 1 0) }
+{
+    if significant {
+        left.checked_sub(1)
+    } else {
+        Some(left)
+    }
+}
+
+/// Where the word in this place begins, of those that the grammar reads; behind the last one where
+/// the text has no more tokens.
+pub fn spot_of(text: &[u8], place: usize) -> Spot
+    requires { (tokens : List Token) × Lexes 0 text.now tokens }
+    ensures spot { IsSpot text.now result }
+    ensures tokens { (tokens : List Token) → Lexes 0 text.now tokens
+        → LexesFrom text.now result (drop (token_of text.now tokens place) tokens) }
+{
+    let mut left = place;
+    let mut region = Region::Statements;
+    let mut spot = Spot { at: 0, plain: 0 };
+    while let Some((word, end)) = word_ahead(text, spot) {
+        let Some(fewer) = words_left(left, is_significant(region, &word)) else {
+            return spot;
+        };
+        left = fewer;
+        region = behind(region, &word);
+        spot = end;
+    }
+    spot
 }
