@@ -9,7 +9,6 @@ use Rattle.conf_ast.specs.contracts.attribute.Attribute as attribute_type
 use Rattle.conf_lex.specs.contracts.symbol.Symbol as symbol_type
 use Rattle.conf_ast.specs.declared.attribute.Attribute.{Attribute}
 use Rattle.conf_lex.specs.declared.symbol.Symbol.{Symbol}
-use Rattle.conf_lex.specs.declared.symbol.Symbol.TheVariants as symbols
 use Rattle.conf_lex.specs.declared.word.Word.{Word}
 use Rattle.conf_lex.specs.declared.word.Word.TheVariants as words
 

@@ -1,7 +1,6 @@
 // Words made as a text is walked.
 
-ghost use Rattle.std.specs.Prelude.{◌≡◌, true, false, List, [], None, IfOk, IfErr, MatchOption};
-ghost use Rattle.conf_lex.specs.Symbols.{is_else};
+ghost use Rattle.std.specs.Prelude.{◌≡◌, false, List, [], None, IfOk, IfErr, MatchOption};
 ghost use Rattle.conf_lex.specs.Words.{token_symbol, word_of};
 ghost use Rattle.conf_scan.specs.Spans.{IsWithin};
 ghost use Rattle.conf_lex.specs.Walks.{IsWordStep};
@@ -11,7 +10,6 @@ ghost use Rattle.conf_lex.specs.Inside.{IsColonStep, IsNumberStep, IsLengthStep}
 ghost use Rattle.conf_scan.specs.declared.lexer.Spot.{Spot};
 ghost use Rattle.conf_lex.specs.declared.symbol.Symbol.TheVariants as symbols;
 ghost use Rattle.conf_scan.specs.declared.token.Token.{Token};
-ghost use Rattle.conf_scan.specs.declared.token.TokenKind.TheVariants as kinds;
 ghost use Rattle.conf_lex.specs.declared.word.Word.TheVariants as words;
 
 use crate::symbol::Symbol;

@@ -1,4 +1,4 @@
-ghost use Rattle.std.specs.Prelude.{◌≡◌, ◌≤◌, ◌<◌, ◌+◌, ℕ, List, [], ◌∷◌, length, map, drop, take};
+ghost use Rattle.std.specs.Prelude.{◌≡◌, ◌≤◌, ◌<◌, ◌+◌, [], ◌∷◌, length, map, drop};
 ghost use Rattle.std.specs.Prelude.{IfOk, IfSome, MatchOption};
 ghost use Rattle.conf_scan.specs.Lex.{Lexes};
 ghost use Rattle.conf_lex.specs.Symbols.{symbol_of, is_else, is_colon, is_slash};
@@ -6,7 +6,7 @@ ghost use Rattle.conf_lex.specs.Attributes.{attribute_of, constant_of};
 ghost use Rattle.conf_lex.specs.Words.{token_symbol, word_of, symbol_word, spelled_word};
 ghost use Rattle.conf_scan.specs.Spans.{slice_of};
 ghost use Rattle.conf_lex.specs.Words.{named_word, constant_or_name};
-ghost use Rattle.conf_lex.specs.Words.{prefix_word, slashed, first_word, words_from, words_of};
+ghost use Rattle.conf_lex.specs.Words.{prefix_word, slashed, first_word, words_from};
 ghost use Rattle.conf_scan.specs.Spans.{IsWithin, AreWithin};
 
 use crate::attribute::{attribute_of, constant_of};

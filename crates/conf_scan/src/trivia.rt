@@ -1,4 +1,4 @@
-ghost use Rattle.std.specs.Prelude.{◌≡◌, ◌≤◌, ℕ, List, length, drop, take, not, IfSome, ◌+◌};
+ghost use Rattle.std.specs.Prelude.{◌≡◌, ◌≤◌, length, drop, take, not, IfSome, ◌+◌};
 ghost use Rattle.std.specs.List.{prefix_len};
 ghost use Rattle.conf_scan.specs.Shapes.{is_newline, IsGap};
 ghost use Rattle.conf_scan.specs.Fronts.{close_len, separator_len};

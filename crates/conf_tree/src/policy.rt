@@ -6,7 +6,6 @@ ghost use Rattle.conf_lex.specs.declared.word.Word.{Word};
 ghost use Rattle.conf_lex.specs.Kind.{symbol};
 ghost use Rattle.conf_lex.specs.Grammar.{Pair, Right};
 ghost use Rattle.conf_lex.specs.Reading.{both, word};
-ghost use Rattle.conf_lex.specs.Leaves.{symbol_leaf};
 ghost use Rattle.conf_lex.specs.Agrees.{Agrees};
 ghost use Rattle.expr_syntax.specs.Readers.{expr_at};
 ghost use Rattle.filt_syntax.specs.StatementReaders.{block_at};
