@@ -83,7 +83,7 @@ fn named(
     let seen = Seen {
         text,
         scope,
-        variables: &[],
+        variables: None,
     };
     match constant_named(seen, name) {
         None => Ok(None),

@@ -22,7 +22,7 @@ pub fn seen_in<'a>(text: &'a [u8], declared: &'a Declared) -> Seen<'a>
     Seen {
         text,
         scope: &declared.scope,
-        variables: &[],
+        variables: None,
     }
 }
 

@@ -1,5 +1,5 @@
 -- What is refused of each form of a statement, and which variables are seen behind it.
-use Rattle.std.proofs.Common.{◌≡◌, OnOk, Result, Ok, Err, Bool, true, false, not, ◌&&◌, ◌||◌, ℕ, zero, suc, arith, ◌+◌, ◌<◌, ◌≤◌, List, [], ◌∷◌, ◌++◌, map, length, take, drop, get_or, if◌then◌else◌, Option, Some, None, is_some, refl, ap, ◌∙◌, sym, Box, Vec}
+use Rattle.std.proofs.Common.{◌≡◌, OnOk, Result, Ok, Err, Bool, true, false, not, ◌&&◌, ◌||◌, ℕ, zero, suc, arith, ◌+◌, ◌<◌, ◌≤◌, List, [], ◌∷◌, ◌++◌, length, take, drop, get_or, if◌then◌else◌, Option, Some, None, is_some, refl, ap, ◌∙◌, sym, Box, Vec}
 use Rattle.std.specs.Global.{Global}
 use Rattle.std.specs.List.{list_any, remove}
 use Rattle.std.proofs.Math.Seq.{take-append_seam}
@@ -21,7 +21,6 @@ use Rattle.filt_meaning.specs.Sorts.{one_list}
 use Rattle.filt_meaning.specs.Names.{sort_of_type}
 use Rattle.filt_types.specs.declared.refusal.Cause.TheVariants as causes
 use Rattle.filt_types.specs.declared.refusal.Refusal.{Refusal}
-use Rattle.filt_types.specs.declared.scene.Variable.{Variable as SeenVariable}
 use Rattle.filt_types.specs.declared.judged.Judged.{Judged}
 use Rattle.filt_types.specs.Expressions.{Judgement, judge, is_other, wants, wanted, constant_word}
 use Rattle.filt_types.specs.Items.{Common, common, differ, with_sort, is_empty, sorts_of_items, sort_of_item, all_items, item}
@@ -29,7 +28,6 @@ use Rattle.filt_rules.specs.Passes.{body_seen, else_of, own, inside}
 use Rattle.filt_types.specs.Refusals.{first_in, first_of, refused_if}
 use Rattle.filt_meaning.specs.Rules.{one_of_cases, same_sort}
 use Rattle.filt_types.specs.Scenes.{Scene, Variable, Variables, declared, declaring}
-use Rattle.filt_types.specs.Seen.{variable_seen, variables_of}
 use Rattle.filt_types.specs.Statements.{Around, Checked, plainly, check, check_all, check_arms, parameters, labels, lacks_labels, assigned_dest, is_dest_word, no_sort, returned, over_list, lists_of, is_other_list, cases, of_value, sort_given}
 use Rattle.filt_types.specs.Walk.{arms_of, said_of}
 use Rattle.filt_types.proofs.Firsts.{first_append, first_two, first_rest}
@@ -52,22 +50,6 @@ nothing_left [] zero le = refl
 nothing_left [] (suc i) le = refl
 nothing_left (x ∷ xs) zero le = absurd (omega arith)
 nothing_left (x ∷ xs) (suc i) le = nothing_left xs i (omega arith)
-
-pub viewed_remove : {A B : Type 0} (f : A → B) (xs : List A) (i : ℕ) → map f (remove xs i) ≡ remove (map f xs) i
-viewed_remove f [] zero = refl
-viewed_remove f [] (suc i) = refl
-viewed_remove f (x ∷ xs) zero = refl
-viewed_remove {B = B} f (x ∷ xs) (suc i) = ap (λ (ys : List B). f x ∷ ys) (viewed_remove f xs i)
-
-viewed_take : {A B : Type 0} (f : A → B) (xs : List A) (i : ℕ) → map f (take i xs) ≡ take i (map f xs)
-viewed_take f [] zero = refl
-viewed_take f [] (suc i) = refl
-viewed_take f (x ∷ xs) zero = refl
-viewed_take {B = B} f (x ∷ xs) (suc i) = ap (λ (ys : List B). f x ∷ ys) (viewed_take f xs i)
-
-viewed_length : {A B : Type 0} (f : A → B) (xs : List A) → length (map f xs) ≡ length xs
-viewed_length f [] = refl
-viewed_length f (x ∷ xs) = ap (λ (n : ℕ). suc n) (viewed_length f xs)
 
 removed : {A : Type 0} (xs : List A) (x : A) (more : List A) → remove ((xs ++ x ∷ []) ++ more) (length xs) ≡ xs ++ more
 removed [] x more = refl
@@ -131,12 +113,10 @@ mutual
   arms_grow a vs (AndArms items ss more) = further vs (check_all a vs ss).variables (check_arms a (check_all a vs ss).variables more).variables (all_grow a vs ss) (arms_grow a (check_all a vs ss).variables more)
 
 -- a block's variables are those of its statements, cut off
-pub cut_off : (a : Around) (vs ws now : List SeenVariable) (ss : Statements) (depth : ℕ) → variables_of ws ≡ (check_all a (variables_of vs) ss).variables → depth ≡ length vs → now ≡ take depth ws → variables_of now ≡ variables_of vs
+pub cut_off : (a : Around) (vs ws now : Variables) (ss : Statements) (depth : ℕ) → ws ≡ (check_all a vs ss).variables → depth ≡ length vs → now ≡ take depth ws → now ≡ vs
 cut_off a vs ws now ss depth is deep cut =
-    let g = all_grow a (variables_of vs) ss in
-    let d : depth ≡ length (variables_of vs) = deep ∙ sym (viewed_length variable_seen vs) in
-    ap variables_of cut ∙ viewed_take variable_seen ws depth ∙ ap (λ (n : ℕ). take n (variables_of ws)) d
-    ∙ ap (λ (x : Variables). take (length (variables_of vs)) x) (is ∙ g.1) ∙ take-append_seam (variables_of vs) g.0
+    let g = all_grow a vs ss in
+    cut ∙ ap (λ (n : ℕ). take n ws) deep ∙ ap (λ (x : Variables). take (length vs) x) (is ∙ g.1) ∙ take-append_seam vs g.0
 
 -- ---- a statement and those in it
 
@@ -216,10 +196,9 @@ pub inside-For : (a : Around) (vs : Variables) (at : ℕ) (t : VariableType) (n 
 inside-For a vs at t n x b = ap (λ (st : Statement). inside a vs st) (o.as-For at t n x b)
 
 -- the variable of a loop is taken out at its place
-pub out_again : (a : Around) (vs ws us now : List SeenVariable) (v : Variable) (st : Statement) (depth : ℕ) → variables_of ws ≡ variables_of vs ++ v ∷ [] → variables_of us ≡ (check a (variables_of ws) st).variables → depth ≡ length vs → variables_of now ≡ remove (variables_of us) depth → variables_of now ≡ remove (check a (variables_of vs ++ v ∷ []) st).variables (length (variables_of vs))
+pub out_again : (a : Around) (vs ws us now : Variables) (v : Variable) (st : Statement) (depth : ℕ) → ws ≡ vs ++ v ∷ [] → us ≡ (check a ws st).variables → depth ≡ length vs → now ≡ remove us depth → now ≡ remove (check a (vs ++ v ∷ []) st).variables (length vs)
 out_again a vs ws us now v st depth with is deep out =
-    out ∙ ap (λ (n : ℕ). remove (variables_of us) n) (deep ∙ sym (viewed_length variable_seen vs))
-    ∙ ap (λ (x : Variables). remove x (length (variables_of vs))) (is ∙ ap (λ (x : Variables). (check a x st).variables) with)
+    out ∙ ap (λ (n : ℕ). remove us n) deep ∙ ap (λ (x : Variables). remove x (length vs)) (is ∙ ap (λ (x : Variables). (check a x st).variables) with)
 
 -- ---- labels
 

@@ -1,12 +1,12 @@
 // What is refused first in whole filters, conditions and functions.
 
-ghost use Rattle.std.specs.Prelude.{◌≡◌, ◌++◌, ℕ, [], IfOk, None, OnOk};
+ghost use Rattle.std.specs.Prelude.{◌≡◌, ◌++◌, ℕ, IfOk, None, OnOk};
 ghost use Rattle.conf_ast.specs.Configurations.{routine_of};
 ghost use Rattle.conf_ast.specs.Filters.{block_of, expression_of};
 ghost use Rattle.filt_meaning.specs.Configuration.{filter_where};
 ghost use Rattle.filt_rules.specs.Passes.{around_in};
 ghost use Rattle.filt_types.specs.Refusals.{first_in};
-ghost use Rattle.filt_types.specs.Seen.{scene_of, variables_of};
+ghost use Rattle.filt_types.specs.Seen.{scene_of};
 ghost use Rattle.filt_types.specs.Statements as statements;
 ghost use Rattle.filt_types.specs.Statements.{in_filter, in_function, parameters};
 ghost use Rattle.filt_types.specs.Weight.{block_weight, capped, too_heavy};
@@ -16,7 +16,7 @@ use crate::weight::{weigh_block, weigh_condition};
 use bits_ip::OutOfMemory;
 use conf_ast::filters::{Block, Expr, Function, Parameter, VariableType};
 use filt_meaning::{Scope, Sort, type_sort};
-use filt_types::{Cause, Refusal, Seen, Variable, declaring, note_if};
+use filt_types::{Cause, Refusal, Seen, Variables, declaring, note_if};
 use std::alloc::Global;
 
 /// The most that a filter or a function may weigh.
@@ -49,7 +49,7 @@ pub fn first_in_block(
         scope,
         gives: None,
     };
-    let mut variables = Vec::new(alloc);
+    let mut variables = Variables::new(alloc);
     check_all(around, &block.statements, &mut variables, &mut first)?;
     Ok(first)
 }
@@ -73,7 +73,7 @@ pub fn first_in_condition(
     let seen = Seen {
         text,
         scope,
-        variables: &[],
+        variables: None,
     };
     want_bool(seen, condition, &mut first);
     first
@@ -101,7 +101,7 @@ pub fn first_in_function(
         scope,
         gives: sort_given(function.gives),
     };
-    let mut variables = Vec::new(alloc);
+    let mut variables = Variables::new(alloc);
     check_parameters(around, &function.parameters, &mut variables, &mut first)?;
     check_all(
         around,
@@ -126,15 +126,15 @@ pub fn sort_given(gives: Option<VariableType>) -> Option<Sort>
 fn check_parameters<'a>(
     around: Around<'a>,
     given: &[Parameter],
-    variables: &mut Vec<Variable<'a>>,
+    variables: &mut Variables<'a>,
     first: &mut Option<Refusal>,
 ) -> Result<(), OutOfMemory>
-    ensures seen { OnOk result (variables_of variables.new.items
-        ≡ (parameters (around_in around.entry).scene (variables_of variables.old.items)
+    ensures seen { OnOk result (variables.new
+        ≡ (parameters (around_in around.entry).scene variables.old
         given.now).variables) }
     ensures first { OnOk result (first.new
         ≡ first_in first.old (parameters (around_in around.entry).scene
-        (variables_of variables.old.items) given.now).refusals) }
+        variables.old given.now).refusals) }
 {
     for parameter in given {
         declaring(seen_at(around, variables), parameter.name, first);

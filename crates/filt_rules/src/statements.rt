@@ -1,10 +1,9 @@
 // The pass over statements: which variables are seen behind each, and the first refusal of all.
 
-ghost use Rattle.std.specs.Prelude.{◌≡◌, Option, OnOk, [], ◌∷◌, ◌++◌, remove, option_map};
+ghost use Rattle.std.specs.Prelude.{◌≡◌, Option, OnOk, [], ◌∷◌, ◌++◌, option_map};
 ghost use Rattle.conf_ast.specs.Filters.{expression_of, statement_of, statements_of};
 ghost use Rattle.filt_meaning.specs.declared.value.Sort.{Sort};
 ghost use Rattle.filt_meaning.specs.Sorts.{one_bool, one_list};
-ghost use Rattle.filt_meaning.specs.Names.{sort_of_type};
 ghost use Rattle.filt_types.specs.Expressions as expressions;
 ghost use Rattle.filt_types.specs.Expressions.{is_other, wanted};
 ghost use Rattle.filt_types.specs.Items as items;
@@ -13,7 +12,7 @@ ghost use Rattle.filt_rules.specs.Passes.{around_in, body_seen, else_of, own, in
 ghost use Rattle.filt_types.specs.Refusals.{first_in};
 ghost use Rattle.filt_meaning.specs.Rules.{one_of_cases};
 ghost use Rattle.filt_types.specs.Scenes as scenes;
-ghost use Rattle.filt_types.specs.Seen.{scene_in, variables_in, variables_of};
+ghost use Rattle.filt_types.specs.Seen.{scene_in, variables_in};
 ghost use Rattle.filt_types.specs.Statements as statements;
 ghost use Rattle.filt_types.specs.Walk.{all_judged, arms_of, common_seen, judged_of};
 
@@ -24,8 +23,8 @@ use conf_ast::filters::{Arm, Expr, Item, Stmt, VariableType};
 use filt_meaning::sorts::is;
 use filt_meaning::{Scope, Sort, type_sort};
 use filt_types::{
-    Cause, Common, Refusal, Seen, Variable, all_items, call, declaring, differ, has_other_sort,
-    judge, judge_each, note, note_if,
+    Cause, Common, Refusal, Seen, Variable, Variables, all_items, call, declaring, differ,
+    has_other_sort, judge, judge_each, note, note_if,
 };
 
 /// Where statements stand: the source, what the configuration declares before them, and the sort of
@@ -38,14 +37,14 @@ pub struct Around<'a> {
 }
 
 /// What is seen there with these variables.
-pub(crate) fn seen_at<'a>(around: Around<'a>, variables: &'a [Variable<'a>]) -> Seen<'a>
+pub(crate) fn seen_at<'a>(around: Around<'a>, variables: &'a Variables<'a>) -> Seen<'a>
     ensures scene { scene_in result ≡ (around_in around.entry).scene }
-    ensures variables { variables_in result ≡ variables_of variables.now }
+    ensures variables { variables_in result ≡ variables.now }
 {
     Seen {
         text: around.text,
         scope: around.scope,
-        variables,
+        variables: Some(variables),
     }
 }
 
@@ -108,13 +107,13 @@ fn check_declare(
 /// One variable more.
 pub(crate) fn declare<'a>(
     around: Around<'a>,
-    variables: &mut Vec<Variable<'a>>,
+    variables: &mut Variables<'a>,
     name: Name,
     sort: Sort,
     of_loop: bool,
 ) -> Result<(), OutOfMemory>
-    ensures { OnOk result (variables_of variables.new.items
-        ≡ variables_of variables.old.items
+    ensures { OnOk result (variables.new
+        ≡ variables.old
         ++ scenes.declared (around_in around.entry).scene name sort of_loop ∷ []) }
 {
     let name = name.bytes(around.text);
@@ -124,14 +123,6 @@ pub(crate) fn declare<'a>(
         of_loop,
     })?;
     Ok(())
-}
-
-fn forget(variables: &mut Vec<Variable<'_>>, place: usize)
-    ensures { variables_of variables.new.items ≡ remove (variables_of variables.old.items) place }
-{
-    if place < variables.len() {
-        variables.remove(place);
-    }
 }
 
 // ---- `case`
@@ -398,15 +389,15 @@ fn check_call(seen: Seen<'_>, name: Name, arguments: &[Expr], first: &mut Option
 pub(crate) fn check<'a>(
     around: Around<'a>,
     s: &Stmt,
-    variables: &mut Vec<Variable<'a>>,
+    variables: &mut Variables<'a>,
     first: &mut Option<Refusal>,
 ) -> Result<(), OutOfMemory>
-    ensures seen { OnOk result (variables_of variables.new.items
-        ≡ (statements.check (around_in around.entry) (variables_of variables.old.items)
+    ensures seen { OnOk result (variables.new
+        ≡ (statements.check (around_in around.entry) variables.old
         (statement_of s.now)).variables) }
     ensures first { OnOk result (first.new
         ≡ first_in first.old (statements.check (around_in around.entry)
-        (variables_of variables.old.items) (statement_of s.now)).refusals) }
+        variables.old (statement_of s.now)).refusals) }
 {
     check_own(seen_at(around, variables), around.gives, s, first);
     check_inside(around, s, variables, first)?;
@@ -418,15 +409,15 @@ pub(crate) fn check<'a>(
 fn check_inside<'a>(
     around: Around<'a>,
     s: &Stmt,
-    variables: &mut Vec<Variable<'a>>,
+    variables: &mut Variables<'a>,
     first: &mut Option<Refusal>,
 ) -> Result<(), OutOfMemory>
-    ensures seen { OnOk result (variables_of variables.new.items
-        ≡ (inside (around_in around.entry) (variables_of variables.old.items)
+    ensures seen { OnOk result (variables.new
+        ≡ (inside (around_in around.entry) variables.old
         (statement_of s.now)).variables) }
     ensures first { OnOk result (first.new
         ≡ first_in first.old (inside (around_in around.entry)
-        (variables_of variables.old.items) (statement_of s.now)).refusals) }
+        variables.old (statement_of s.now)).refusals) }
 {
     match s {
         Stmt::Block(body) => check_block(around, body, variables, first),
@@ -472,14 +463,14 @@ fn check_inside<'a>(
 fn check_block<'a>(
     around: Around<'a>,
     body: &[Stmt],
-    variables: &mut Vec<Variable<'a>>,
+    variables: &mut Variables<'a>,
     first: &mut Option<Refusal>,
 ) -> Result<(), OutOfMemory>
     ensures seen { OnOk result
-        (variables_of variables.new.items ≡ variables_of variables.old.items) }
+        (variables.new ≡ variables.old) }
     ensures first { OnOk result (first.new
         ≡ first_in first.old (statements.check_all (around_in around.entry)
-        (variables_of variables.old.items) (statements_of body.now)).refusals) }
+        variables.old (statements_of body.now)).refusals) }
 {
     let depth = variables.len();
     check_all(around, body, variables, first)?;
@@ -494,20 +485,20 @@ fn check_loop<'a>(
     variable_type: VariableType,
     name: Name,
     body: &Stmt,
-    variables: &mut Vec<Variable<'a>>,
+    variables: &mut Variables<'a>,
     first: &mut Option<Refusal>,
 ) -> Result<(), OutOfMemory>
-    ensures seen { OnOk result (variables_of variables.new.items
-        ≡ (body_seen (around_in around.entry) (variables_of variables.old.items) variable_type
+    ensures seen { OnOk result (variables.new
+        ≡ (body_seen (around_in around.entry) variables.old variable_type
         name (statement_of body.now)).variables) }
     ensures first { OnOk result (first.new
         ≡ first_in first.old (body_seen (around_in around.entry)
-        (variables_of variables.old.items) variable_type name (statement_of body.now)).refusals) }
+        variables.old variable_type name (statement_of body.now)).refusals) }
 {
     let depth = variables.len();
     declare(around, variables, name, type_sort(variable_type), true)?;
     check(around, body, variables, first)?;
-    forget(variables, depth);
+    variables.remove(depth)?;
     Ok(())
 }
 
@@ -516,15 +507,15 @@ fn check_loop<'a>(
 pub(crate) fn check_all<'a>(
     around: Around<'a>,
     body: &[Stmt],
-    variables: &mut Vec<Variable<'a>>,
+    variables: &mut Variables<'a>,
     first: &mut Option<Refusal>,
 ) -> Result<(), OutOfMemory>
-    ensures seen { OnOk result (variables_of variables.new.items
-        ≡ (statements.check_all (around_in around.entry) (variables_of variables.old.items)
+    ensures seen { OnOk result (variables.new
+        ≡ (statements.check_all (around_in around.entry) variables.old
         (statements_of body.now)).variables) }
     ensures first { OnOk result (first.new
         ≡ first_in first.old (statements.check_all (around_in around.entry)
-        (variables_of variables.old.items) (statements_of body.now)).refusals) }
+        variables.old (statements_of body.now)).refusals) }
 {
     for s in body {
         check(around, s, variables, first)?;
@@ -537,15 +528,15 @@ pub(crate) fn check_all<'a>(
 fn check_arms<'a>(
     around: Around<'a>,
     arms: &[Arm<Stmt>],
-    variables: &mut Vec<Variable<'a>>,
+    variables: &mut Variables<'a>,
     first: &mut Option<Refusal>,
 ) -> Result<(), OutOfMemory>
-    ensures seen { OnOk result (variables_of variables.new.items
-        ≡ (statements.check_arms (around_in around.entry) (variables_of variables.old.items)
+    ensures seen { OnOk result (variables.new
+        ≡ (statements.check_arms (around_in around.entry) variables.old
         (arms_of arms.now)).variables) }
     ensures first { OnOk result (first.new
         ≡ first_in first.old (statements.check_arms (around_in around.entry)
-        (variables_of variables.old.items) (arms_of arms.now)).refusals) }
+        variables.old (arms_of arms.now)).refusals) }
 {
     for arm in arms {
         check_all(around, &arm.body, variables, first)?;
@@ -558,15 +549,15 @@ fn check_arms<'a>(
 fn check_else<'a>(
     around: Around<'a>,
     otherwise: &Option<Vec<Stmt>>,
-    variables: &mut Vec<Variable<'a>>,
+    variables: &mut Variables<'a>,
     first: &mut Option<Refusal>,
 ) -> Result<(), OutOfMemory>
-    ensures seen { OnOk result (variables_of variables.new.items
-        ≡ (statements.check_all (around_in around.entry) (variables_of variables.old.items)
+    ensures seen { OnOk result (variables.new
+        ≡ (statements.check_all (around_in around.entry) variables.old
         (else_of otherwise.now)).variables) }
     ensures first { OnOk result (first.new
         ≡ first_in first.old (statements.check_all (around_in around.entry)
-        (variables_of variables.old.items) (else_of otherwise.now)).refusals) }
+        variables.old (else_of otherwise.now)).refusals) }
 {
     match otherwise {
         None => Ok(()),

@@ -55,7 +55,7 @@ fn function_weight(text: &[u8], scope: &Scope, name: Name) -> u128
     let seen = Seen {
         text,
         scope,
-        variables: &[],
+        variables: None,
     };
     match function_named(seen, name) {
         None => 0,

@@ -1,5 +1,6 @@
 pub mod Alone
 pub mod Cost
+pub mod FirstPlaces
 pub mod Firsts
 pub mod Gathered
 pub mod Judging

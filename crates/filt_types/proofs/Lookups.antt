@@ -6,9 +6,7 @@ use Rattle.std.specs.Global.{Global}
 use Rattle.std.specs.List.{list_any}
 use Rattle.std.specs.Map.{lookup}
 use Rattle.filt_meaning.specs.Names.{named_in, same_name}
-use Rattle.filt_types.specs.declared.scene.Variable.{Variable}
 use Rattle.filt_types.specs.Scenes.{is_declared}
-use Rattle.filt_types.specs.Seen.{variables_of}
 
 abbrev Key : Type 0
 Key = Vec ℕ Global
@@ -72,10 +70,6 @@ is_looked_up {X = X} {Y = Y} f name (e ∷ es) = by_key e.1 (same_name name e.0.
 pub is_among : (name : List ℕ) (ks : List Key) → list_any (λ k. pointwise nat_eq name k.items) ks ≡ list_any (λ n. same_name n name) (map (λ (k : Key). k.items) ks)
 is_among name [] = refl
 is_among name (k ∷ ks) = rw (same_flip name k.items, is_among name ks) refl
-
-pub is_variable : (name : List ℕ) (vs : List Variable) → list_any (λ v. same_name v.name.now name) vs ≡ list_any (λ v. same_name v.name name) (variables_of vs)
-is_variable name [] = refl
-is_variable name (v ∷ vs) = ap (λ (b : Bool). same_name v.name.now name || b) (is_variable name vs)
 
 pub or_four : (a b c d e g h i : Bool) → a ≡ e → b ≡ g → c ≡ h → d ≡ i → (((a || b) || c) || d) ≡ (e || g || h || i)
 or_four true b c d e g h i p q r s = rw (← p) refl

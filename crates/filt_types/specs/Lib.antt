@@ -1,5 +1,7 @@
 pub mod Refusals
 pub mod Scenes
+pub mod Listed
+pub mod Places
 pub mod Items
 pub mod Expressions
 pub mod Statements

@@ -10,6 +10,7 @@ mod judged;
 mod refusal;
 mod rules;
 mod scene;
+mod variable_list;
 mod words;
 
 pub use expressions::{
@@ -18,7 +19,6 @@ pub use expressions::{
 pub use items::{Common, ItemSorts, all_items, differ, number, over_16_bits, value_of};
 pub use judged::Judged;
 pub use refusal::{Cause, Refusal, note, note_if};
-pub use scene::{
-    Seen, Variable, constant_named, declaring, function_named, is_seen, variable_named,
-};
+pub use scene::{Seen, constant_named, declaring, function_named, is_seen, variable_named};
+pub use variable_list::{Variable, Variables};
 pub use words::{mask, set};

@@ -1,22 +1,17 @@
 ghost use Rattle.std.specs.Prelude.{◌≡◌, option_map};
+ghost use Rattle.std.specs.List.{list_any};
+ghost use Rattle.filt_meaning.specs.Names.{same_name};
 ghost use Rattle.filt_meaning.specs.Seen.{val_of_fixed};
 ghost use Rattle.filt_types.specs.Scenes as scenes;
 ghost use Rattle.filt_types.specs.Scenes.{variable_of, constant_of, function_of};
 ghost use Rattle.filt_types.specs.Refusals.{first_in};
-ghost use Rattle.filt_types.specs.Seen.{variable_seen, signature_of, scene_in, variables_in};
+ghost use Rattle.filt_types.specs.Listed.{variable_seen};
+ghost use Rattle.filt_types.specs.Seen.{signature_of, scene_in, variables_in};
 
 use crate::refusal::{Cause, Refusal, note_if};
+use crate::variable_list::{Variable, Variables};
 use conf_ast::Name;
-use filt_meaning::{Fixed, Scope, Sort, TFunction};
-
-/// A variable: its name, the sort of its values, and whether it is a loop's, which can't be
-/// assigned to.
-#[derive(Clone, Copy)]
-pub struct Variable<'a> {
-    pub name: &'a [u8],
-    pub sort: Sort,
-    pub of_loop: bool,
-}
+use filt_meaning::{Fixed, Scope, TFunction};
 
 /// What is seen at a place of a filter: the source, what the configuration declares before the
 /// filter, and the variables.
@@ -24,20 +19,18 @@ pub struct Variable<'a> {
 pub struct Seen<'a> {
     pub text: &'a [u8],
     pub scope: &'a Scope,
-    pub variables: &'a [Variable<'a>],
+    /// The variables, where there can be some.
+    pub variables: Option<&'a Variables<'a>>,
 }
 
 pub fn variable_named<'a>(seen: Seen<'a>, name: Name) -> Option<Variable<'a>>
     ensures { option_map variable_seen result
         ≡ variable_of (scene_in seen.entry) (variables_in seen.entry) name }
 {
-    let bytes = name.bytes(seen.text);
-    for variable in seen.variables {
-        if variable.name == bytes {
-            return Some(*variable);
-        }
+    match seen.variables {
+        None => None,
+        Some(variables) => variables.named(name.bytes(seen.text)),
     }
-    None
 }
 
 pub fn constant_named<'a>(seen: Seen<'a>, name: Name) -> Option<&'a Fixed>
@@ -58,11 +51,20 @@ pub fn function_named<'a>(seen: Seen<'a>, name: Name) -> Option<&'a TFunction>
 pub fn is_seen(seen: Seen<'_>, name: &[u8]) -> bool
     ensures { result ≡ scenes.is_seen (scene_in seen.entry) (variables_in seen.entry) name.now }
 {
-    let variable = seen.variables.iter().any(|variable| variable.name == name);
+    let variable = is_variable(seen, name);
     let constant = seen.scope.constants.contains_key(name);
     let function = seen.scope.functions.contains_key(name);
     let other = seen.scope.others.contains(name);
     variable | constant | function | other
+}
+
+fn is_variable(seen: Seen<'_>, name: &[u8]) -> bool
+    ensures { result ≡ list_any (λ v. same_name v.name name.now) (variables_in seen.entry) }
+{
+    match seen.variables {
+        None => false,
+        Some(variables) => variables.has_name(name),
+    }
 }
 
 /// What is refused of a name that is declared here.

@@ -3,7 +3,6 @@ use Rattle.conf_ast.specs.Filters.{statements_of}
 use Rattle.filt_rules.specs.Passes.{around_in}
 use Rattle.filt_types.specs.Walk.{arms_of}
 use Rattle.filt_types.specs.Refusals.{first_in}
-use Rattle.filt_types.specs.Seen.{variables_of}
 use Rattle.filt_types.specs.Statements.{check_all, check_arms}
 use Rattle.filt_types.proofs.Cost as k
 use Rattle.filt_rules.proofs.statements.+statements.Given as goal
@@ -31,12 +30,12 @@ decreases-check_loop l = k.stmt_cost l.body.now + 2
 
 abbrev pub invariant-check_all-loop-s : goal.invariant-check_all-loop-s
 invariant-check_all-loop-s l = record {
-  seen : (check_all (around_in l.around) (variables_of l.initial.variables.items) (statements_of l.body)).variables ≡ (check_all (around_in l.around) (variables_of l.variables.items) (statements_of (drop l.s-index l.body))).variables;
-  refusals : first_in l.initial.first (check_all (around_in l.around) (variables_of l.initial.variables.items) (statements_of l.body)).refusals ≡ first_in l.first (check_all (around_in l.around) (variables_of l.variables.items) (statements_of (drop l.s-index l.body))).refusals;
+  seen : (check_all (around_in l.around) l.initial.variables (statements_of l.body)).variables ≡ (check_all (around_in l.around) l.variables (statements_of (drop l.s-index l.body))).variables;
+  refusals : first_in l.initial.first (check_all (around_in l.around) l.initial.variables (statements_of l.body)).refusals ≡ first_in l.first (check_all (around_in l.around) l.variables (statements_of (drop l.s-index l.body))).refusals;
 }
 
 abbrev pub invariant-check_arms-loop-arm : goal.invariant-check_arms-loop-arm
 invariant-check_arms-loop-arm l = record {
-  seen : (check_arms (around_in l.around) (variables_of l.initial.variables.items) (arms_of l.arms)).variables ≡ (check_arms (around_in l.around) (variables_of l.variables.items) (arms_of (drop l.arm-index l.arms))).variables;
-  refusals : first_in l.initial.first (check_arms (around_in l.around) (variables_of l.initial.variables.items) (arms_of l.arms)).refusals ≡ first_in l.first (check_arms (around_in l.around) (variables_of l.variables.items) (arms_of (drop l.arm-index l.arms))).refusals;
+  seen : (check_arms (around_in l.around) l.initial.variables (arms_of l.arms)).variables ≡ (check_arms (around_in l.around) l.variables (arms_of (drop l.arm-index l.arms))).variables;
+  refusals : first_in l.initial.first (check_arms (around_in l.around) l.initial.variables (arms_of l.arms)).refusals ≡ first_in l.first (check_arms (around_in l.around) l.variables (arms_of (drop l.arm-index l.arms))).refusals;
 }
