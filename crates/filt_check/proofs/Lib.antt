@@ -2,6 +2,7 @@ pub mod Acting
 pub mod Forms
 pub mod Gathered
 pub mod Growing
+pub mod Levels
 pub mod Light
 pub mod Loaded
 pub mod Lookups

@@ -1,7 +1,6 @@
--- Names that are looked up: variables from the end of a list, constants and functions in a map.
-use Rattle.std.proofs.Common.{◌≡◌, ℕ, suc, ◌+◌, ◌-◌, Bool, true, false, cond, if◌then◌else◌, nat_eq, nat_lt, List, [], ◌∷◌, ◌++◌, length, map, take, get_or, Option, Some, None, option_map, position, refl, sym, ap, ◌∙◌, arith, length-append, length-take, rules, not, true≢false, ◌≤◌, Vec, Bor}
+-- Names of constants and functions that are looked up in a map.
+use Rattle.std.proofs.Common.{◌≡◌, ℕ, suc, ◌+◌, ◌-◌, Bool, true, false, cond, if◌then◌else◌, nat_eq, nat_lt, List, [], ◌∷◌, length, map, Option, Some, None, option_map, position, refl, sym, ap, ◌∙◌, arith, length-append, rules, not, true≢false, Vec}
 use Rattle.std.specs.List.{position_or_len}
-use Rattle.std.proofs.lemmas.List.{map-append, take_all, take_more}
 use Prim.Native.Nat.compare
 use Rattle.std.specs.Global.{Global}
 use Rattle.std.specs.Map.{keys_of}
@@ -11,48 +10,17 @@ use Rattle.conf_ast.specs.Names.{name_bytes}
 use Rattle.filt_meaning.specs.declared.fixed.Fixed.{Fixed}
 use Rattle.filt_meaning.specs.Seen.{val_of_fixed}
 use Rattle.filt_meaning.specs.Values.{Val}
-use Rattle.filt_meaning.specs.Names.{Around, same_name, place_in, or_here, further, named_in, constant_of, function_of}
+use Rattle.filt_meaning.specs.Names.{Around, same_name, named_in, constant_of, function_of}
 use Rattle.filt_meaning.specs.declared.scope.Scope.{Scope}
 use Rattle.filt_meaning.specs.declared.scope.TFunction.{TFunction}
 use Rattle.filt_meaning.specs.Scopes.{constant_values, function_trees, tables_of, named, context_of}
 use Rattle.filt_meaning.specs.Trees.{Tables, tables, function, with_function, with_functions}
-use Rattle.filt_check.specs.Seen.{names_of, at_place}
+use Rattle.filt_check.specs.Seen.{at_place}
 use Rattle.filt_items.proofs.Lookups.{is_key}
-
--- ---- variables
-
-choice_of : (b c : Bool) (n : ℕ) (o : Option ℕ) → or_here c (further (if b then Some n else o)) ≡ if b then Some (suc n) else or_here c (further o)
-choice_of true c n o = refl
-choice_of false c n o = refl
-
--- the last one first
-pub last_place : (ns : List (List ℕ)) (n name : List ℕ) → place_in (ns ++ n ∷ []) name ≡ if same_name n name then Some (length ns) else place_in ns name
-last_place [] n name = refl
-last_place (m ∷ ns) n name = ap (λ (o : Option ℕ). or_here (same_name m name) (further o)) (last_place ns n name) ∙ choice_of (same_name n name) (same_name m name) (length ns) (place_in ns name)
 
 pub mapped_length : {A B : Type 0} (f : A → B) (xs : List A) → length (map f xs) ≡ length xs
 mapped_length f [] = refl
 mapped_length f (x ∷ xs) = ap suc (mapped_length f xs)
-
-from_end : (left : List (Bor (List ℕ))) (d : Bor (List ℕ)) (name : List ℕ) → 1 ≤ length left → place_in (names_of left) name ≡ if same_name (get_or left (length left - 1) d).now name then Some (length (names_of (take (length left - 1) left))) else place_in (names_of (take (length left - 1) left)) name
-from_end left d name some =
-    let i = length left - 1 in
-    let whole : left ≡ take i left ++ get_or left i d ∷ [] = sym (take_all (i + 1) left (omega arith)) ∙ take_more left i d (omega arith) in
-    ap (λ (l : List (Bor (List ℕ))). place_in (names_of l) name) whole
-    ∙ ap (λ (ns : List (List ℕ)). place_in ns name) (map-append (λ (n : Bor (List ℕ)). n.now) (take i left) (get_or left i d ∷ []))
-    ∙ last_place (names_of (take i left)) (get_or left i d).now name
-
-pub place_here : (names left : List (Bor (List ℕ))) (d : Bor (List ℕ)) (name : List ℕ) → 1 ≤ length left → true ≡ pointwise nat_eq (get_or left (length left - 1) d).now name → place_in (names_of names) name ≡ place_in (names_of left) name → Some (length (take (length left - 1) left)) ≡ place_in (names_of names) name
-place_here names left d name some same is =
-    sym (is ∙ from_end left d name some ∙ ap (λ (b : Bool). if b then Some (length (names_of (take (length left - 1) left))) else place_in (names_of (take (length left - 1) left)) name) (sym same)
-    ∙ ap Some (mapped_length (λ (n : Bor (List ℕ)). n.now) (take (length left - 1) left)))
-
-pub place_before : (names left : List (Bor (List ℕ))) (d : Bor (List ℕ)) (name : List ℕ) → 1 ≤ length left → false ≡ pointwise nat_eq (get_or left (length left - 1) d).now name → place_in (names_of names) name ≡ place_in (names_of left) name → place_in (names_of names) name ≡ place_in (names_of (take (length left - 1) left)) name
-place_before names left d name some other is =
-    is ∙ from_end left d name some ∙ ap (λ (b : Bool). if b then Some (length (names_of (take (length left - 1) left))) else place_in (names_of (take (length left - 1) left)) name) (sym other)
-
-pub fewer : (left : List (Bor (List ℕ))) (n : ℕ) → length left ≤ n → length (take (length left - 1) left) ≤ n
-fewer left n less = omega (arith, length-take (length left - 1) left)
 
 -- ---- maps
 

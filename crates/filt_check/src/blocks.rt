@@ -13,12 +13,13 @@ ghost use Rattle.filt_types.specs.Seen.{scene_of};
 ghost use Rattle.filt_types.specs.Walk.{arms_of};
 ghost use Rattle.filt_types.specs.Weight.{act_weight, acts_weight, arms_weight, weight};
 ghost use Rattle.filt_rules.specs.Passes.{else_of};
-ghost use Rattle.filt_check.specs.Seen.{names_of, sorts_in, acts_in, arm_seen, arms_seen, arm_in};
+ghost use Rattle.filt_check.specs.Seen.{sorts_in, acts_in, arm_seen, arms_seen, arm_in};
 ghost use Rattle.filt_check.specs.Seen.{arms_in, otherwise_in, picked};
 ghost use Rattle.filt_check.specs.Seen.{arm_declares, arms_declare, otherwise_declares};
 ghost use Rattle.filt_check.specs.Steps.{Takes};
 
-use crate::collect::{collect_all, sorts_of, with_declared, with_name};
+use crate::collect::{collect_all, declared_names, sorts_of};
+use crate::names::Names;
 use crate::resolve::resolve;
 use crate::simple::{assign, called, change, declare, print, returned};
 use bits_ip::OutOfMemory;
@@ -40,12 +41,12 @@ pub(crate) fn resolve_statement<'a>(
     alloc: Global,
     text: &'a [u8],
     scope: &Scope,
-    names: &[&'a [u8]],
+    names: &Names<'a>,
     s: &Stmt,
 ) -> Result<TStmt, OutOfMemory>
     ensures meaning { IfOk result (λ x. (around : Around) → trees.stmt x (tables_of around scope.now)
         ≡ act (statement_of s.now)
-        (context_of text.now around scope.now (names_of names.now))) }
+        (context_of text.now around scope.now names.now)) }
     ensures steps { IfOk result (λ x. Takes scope.now (λ called. 2 + length (declared
         text.now (statement_of s.now)) + stmt_steps called x) (act_weight (scene_of
         text.now scope.now) (statement_of s.now))) }
@@ -93,12 +94,12 @@ fn boxed<'a>(
     alloc: Global,
     text: &'a [u8],
     scope: &Scope,
-    names: &[&'a [u8]],
+    names: &Names<'a>,
     s: &Stmt,
 ) -> Result<Box<TStmt>, OutOfMemory>
     ensures meaning { IfOk result (λ b. (around : Around) → trees.stmt b.value (tables_of around scope.now)
         ≡ act (statement_of s.now)
-        (context_of text.now around scope.now (names_of names.now))) }
+        (context_of text.now around scope.now names.now)) }
     ensures steps { IfOk result (λ b. Takes scope.now (λ called. 2 + length (declared
         text.now (statement_of s.now)) + stmt_steps called b.value) (act_weight (scene_of
         text.now scope.now) (statement_of s.now))) }
@@ -115,7 +116,7 @@ pub(crate) fn resolve_block<'a>(
     alloc: Global,
     text: &'a [u8],
     scope: &Scope,
-    names: &[&'a [u8]],
+    names: &Names<'a>,
     body: &[Stmt],
 ) -> Result<Resolved, OutOfMemory>
     ensures sorts { IfOk result (λ b.
@@ -123,7 +124,7 @@ pub(crate) fn resolve_block<'a>(
     ensures body { IfOk result (λ b. (around : Around)
         → trees.body (tables_of around scope.now) b.body.items
         ≡ acts (statements_of body.now)
-        (within (context_of text.now around scope.now (names_of names.now))
+        (within (context_of text.now around scope.now names.now)
         (all_declared text.now (statements_of body.now)))) }
     ensures steps { IfOk result (λ b. Takes scope.now (λ called. run_steps called
         b.sorts.items b.body.items) (acts_weight (scene_of text.now scope.now)
@@ -131,7 +132,7 @@ pub(crate) fn resolve_block<'a>(
 {
     let mut declared = Vec::new(alloc);
     collect_all(text, body, &mut declared)?;
-    let inner = with_declared(alloc, names, &declared)?;
+    let inner = names.with(alloc, declared_names(alloc, &declared)?)?;
     let sorts = sorts_of(alloc, &declared)?;
     let body = resolve_all(alloc, text, scope, &inner, body)?;
     Ok(Resolved { sorts, body })
@@ -142,12 +143,12 @@ fn braced<'a>(
     alloc: Global,
     text: &'a [u8],
     scope: &Scope,
-    names: &[&'a [u8]],
+    names: &Names<'a>,
     body: &[Stmt],
 ) -> Result<TStmt, OutOfMemory>
     ensures meaning { IfOk result (λ x. (around : Around) → trees.stmt x (tables_of around scope.now)
         ≡ act (Braced (statements_of body.now))
-        (context_of text.now around scope.now (names_of names.now))) }
+        (context_of text.now around scope.now names.now)) }
     ensures steps { IfOk result (λ x. Takes scope.now (λ called. 2 + stmt_steps called x)
         (1 + acts_weight (scene_of text.now scope.now) (statements_of body.now))) }
 {
@@ -160,12 +161,12 @@ fn resolve_all<'a>(
     alloc: Global,
     text: &'a [u8],
     scope: &Scope,
-    names: &[&'a [u8]],
+    names: &Names<'a>,
     body: &[Stmt],
 ) -> Result<Vec<TStmt>, OutOfMemory>
     ensures meaning { IfOk result (λ v. (around : Around)
         → trees.stmts (tables_of around scope.now) v.items
-        ≡ acts_in (context_of text.now around scope.now (names_of names.now)) body.now) }
+        ≡ acts_in (context_of text.now around scope.now names.now) body.now) }
     ensures steps { IfOk result (λ v. Takes scope.now (λ called. length (all_declared
         text.now (statements_of body.now)) + body_steps called v.items) (acts_weight
         (scene_of text.now scope.now) (statements_of body.now))) }
@@ -184,14 +185,14 @@ fn if_then<'a>(
     alloc: Global,
     text: &'a [u8],
     scope: &Scope,
-    names: &[&'a [u8]],
+    names: &Names<'a>,
     e: &Expr,
     first: &Stmt,
 ) -> Result<TStmt, OutOfMemory>
     ensures meaning { IfOk result (λ x. (around : Around) → trees.stmt x (tables_of around scope.now)
         ≡ choice
-        (value (expression_of e.now) (context_of text.now around scope.now (names_of names.now)))
-        (act (statement_of first.now) (context_of text.now around scope.now (names_of names.now)))
+        (value (expression_of e.now) (context_of text.now around scope.now names.now))
+        (act (statement_of first.now) (context_of text.now around scope.now names.now))
         nothing) }
     ensures steps { IfOk result (λ x. Takes scope.now (λ called. 2 + length (declared
         text.now (statement_of first.now)) + stmt_steps called x) (1 + weight (scene_of
@@ -208,17 +209,17 @@ fn if_else<'a>(
     alloc: Global,
     text: &'a [u8],
     scope: &Scope,
-    names: &[&'a [u8]],
+    names: &Names<'a>,
     e: &Expr,
     first: &Stmt,
     second: &Stmt,
 ) -> Result<TStmt, OutOfMemory>
     ensures meaning { IfOk result (λ x. (around : Around) → trees.stmt x (tables_of around scope.now)
         ≡ choice
-        (value (expression_of e.now) (context_of text.now around scope.now (names_of names.now)))
-        (act (statement_of first.now) (context_of text.now around scope.now (names_of names.now)))
+        (value (expression_of e.now) (context_of text.now around scope.now names.now))
+        (act (statement_of first.now) (context_of text.now around scope.now names.now))
         (act (statement_of second.now)
-        (context_of text.now around scope.now (names_of names.now)))) }
+        (context_of text.now around scope.now names.now))) }
     ensures steps { IfOk result (λ x. Takes scope.now (λ called. 2 + length (declared
         text.now (statement_of first.now)) + length (declared text.now (statement_of
         second.now)) + stmt_steps called x) (1 + weight (scene_of text.now scope.now)
@@ -236,16 +237,16 @@ fn case<'a>(
     alloc: Global,
     text: &'a [u8],
     scope: &Scope,
-    names: &[&'a [u8]],
+    names: &Names<'a>,
     e: &Expr,
     arms: &[Arm<Stmt>],
     otherwise: &Option<Vec<Stmt>>,
 ) -> Result<TStmt, OutOfMemory>
     ensures meaning { IfOk result (λ x. (around : Around) → trees.stmt x (tables_of around scope.now)
         ≡ cases
-        (value (expression_of e.now) (context_of text.now around scope.now (names_of names.now)))
-        (picked (arms_in (context_of text.now around scope.now (names_of names.now)) arms.now)
-        (otherwise_in (context_of text.now around scope.now (names_of names.now))
+        (value (expression_of e.now) (context_of text.now around scope.now names.now))
+        (picked (arms_in (context_of text.now around scope.now names.now) arms.now)
+        (otherwise_in (context_of text.now around scope.now names.now)
         otherwise.now))) }
     ensures steps { IfOk result (λ x. Takes scope.now (λ called. 2 + length (arms_declare
         text.now arms.now) + length (otherwise_declares text.now otherwise.now) +
@@ -264,12 +265,12 @@ fn resolve_otherwise<'a>(
     alloc: Global,
     text: &'a [u8],
     scope: &Scope,
-    names: &[&'a [u8]],
+    names: &Names<'a>,
     otherwise: &Option<Vec<Stmt>>,
 ) -> Result<Vec<TStmt>, OutOfMemory>
     ensures meaning { IfOk result (λ v. (around : Around)
         → trees.body (tables_of around scope.now) v.items
-        ≡ otherwise_in (context_of text.now around scope.now (names_of names.now))
+        ≡ otherwise_in (context_of text.now around scope.now names.now)
         otherwise.now) }
     ensures steps { IfOk result (λ v. Takes scope.now (λ called. length
         (otherwise_declares text.now otherwise.now) + body_steps called v.items)
@@ -286,12 +287,12 @@ fn resolve_arm<'a>(
     alloc: Global,
     text: &'a [u8],
     scope: &Scope,
-    names: &[&'a [u8]],
+    names: &Names<'a>,
     arm: &Arm<Stmt>,
 ) -> Result<TArm<TStmt>, OutOfMemory>
     ensures meaning { IfOk result (λ x. (around : Around)
         → arm_seen (tables_of around scope.now) x
-        ≡ arm_in (context_of text.now around scope.now (names_of names.now)) arm.now) }
+        ≡ arm_in (context_of text.now around scope.now names.now) arm.now) }
     ensures steps { IfOk result (λ x. Takes scope.now (λ called. length (arm_declares
         text.now arm.now) + body_steps called x.body.items) (acts_weight (scene_of
         text.now scope.now) (statements_of arm.now.body.items))) }
@@ -306,12 +307,12 @@ fn resolve_arms<'a>(
     alloc: Global,
     text: &'a [u8],
     scope: &Scope,
-    names: &[&'a [u8]],
+    names: &Names<'a>,
     arms: &[Arm<Stmt>],
 ) -> Result<Vec<TArm<TStmt>>, OutOfMemory>
     ensures meaning { IfOk result (λ v. (around : Around)
         → arms_seen (tables_of around scope.now) v.items
-        ≡ arms_in (context_of text.now around scope.now (names_of names.now)) arms.now) }
+        ≡ arms_in (context_of text.now around scope.now names.now) arms.now) }
     ensures steps { IfOk result (λ v. Takes scope.now (λ called. length (arms_declare
         text.now arms.now) + arms_steps called v.items) (arms_weight (scene_of text.now
         scope.now) (arms_of arms.now))) }
@@ -331,23 +332,23 @@ fn each<'a>(
     alloc: Global,
     text: &'a [u8],
     scope: &Scope,
-    names: &[&'a [u8]],
+    names: &Names<'a>,
     name: &Name,
     list: &Expr,
     body: &Stmt,
 ) -> Result<TStmt, OutOfMemory>
     ensures meaning { IfOk result (λ x. (around : Around) → trees.stmt x (tables_of around scope.now)
         ≡ loop
-        (value (expression_of list.now) (context_of text.now around scope.now (names_of names.now)))
+        (value (expression_of list.now) (context_of text.now around scope.now names.now))
         (act (statement_of body.now)
-        (with_variables (context_of text.now around scope.now (names_of names.now))
+        (with_variables (context_of text.now around scope.now names.now)
         (name_bytes text.now name.now ∷ [])))) }
     ensures steps { IfOk result (λ x. Takes scope.now (λ called. 2 + length (declared
         text.now (statement_of body.now)) + stmt_steps called x) (1 + weight (scene_of
         text.now scope.now) (expression_of list.now) + 120 * act_weight (scene_of text.now
         scope.now) (statement_of body.now))) }
 {
-    let inner = with_name(alloc, names, name.bytes(text))?;
+    let inner = names.with_name(alloc, name.bytes(text))?;
     let a = boxed(alloc, text, scope, &inner, body)?;
     let x = resolve(alloc, text, scope, names, list)?;
     Ok(TStmt::For(x, a))

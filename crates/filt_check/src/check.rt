@@ -22,6 +22,7 @@ ghost use Rattle.filt_check.specs.Seen.{where_act};
 use crate::blocks::resolve_block;
 use crate::collect::{parameter_names, parameter_sorts};
 use crate::fault::{TypeFault, fault};
+use crate::names::Names;
 use crate::resolve::resolve;
 use bits_ip::OutOfMemory;
 use conf_ast::filters::{Block, Expr, Filter, Function, Stmt};
@@ -119,7 +120,8 @@ pub fn resolve_filter(
         ≤ 5 * block_weight (scene_of text.now scope.now)
         (statements_of statements.now)) }
 {
-    let block = resolve_block(alloc, text, scope, &[], statements)?;
+    let names = Names::none(alloc);
+    let block = resolve_block(alloc, text, scope, &names, statements)?;
     Ok(TFilter {
         constants: scope.constants.len(),
         functions: scope.functions.len(),
@@ -198,7 +200,8 @@ pub fn resolve_condition(
         ≤ 5 * block_weight (scene_of text.now scope.now)
         (filter_where (expression_of condition.now))) }
 {
-    let x = resolve(alloc, text, scope, &[], condition)?;
+    let names = Names::none(alloc);
+    let x = resolve(alloc, text, scope, &names, condition)?;
     let body = where_body(alloc, x)?;
     Ok(TFilter {
         constants: scope.constants.len(),
@@ -258,7 +261,8 @@ pub fn resolve_function(
         → run_steps (called_by (function_trees scope.now ++ more)) f.sorts.items f.body.items
         ≤ 5 * block_weight (scene_of text.now scope.now) (block_of function.now.block)) }
 {
-    let names = parameter_names(alloc, text, &function.parameters)?;
+    let own = parameter_names(alloc, text, &function.parameters)?;
+    let names = Names::none(alloc).with(alloc, own)?;
     let parameters = parameter_sorts(alloc, &function.parameters)?;
     let block = resolve_block(alloc, text, scope, &names, &function.block.statements)?;
     Ok(TFunction {

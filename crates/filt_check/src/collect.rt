@@ -138,32 +138,16 @@ fn collect_otherwise<'a>(
 
 // ---- names and sorts
 
-/// Names, and behind them those of declared variables.
-pub(crate) fn with_declared<'a>(
+pub(crate) fn declared_names<'a>(
     alloc: Global,
-    names: &[&'a [u8]],
     declared: &[Declared<'a>],
 ) -> Result<Vec<&'a [u8]>, OutOfMemory>
-    ensures { IfOk result
-        (λ v. names_of v.items ≡ names_of names.now ++ map name_of declared.now) }
+    ensures { IfOk result (λ v. names_of v.items ≡ map name_of declared.now) }
 {
-    let mut all = Vec::from_slice(alloc, names)?;
+    let mut all = Vec::new(alloc);
     for variable in declared {
         all.push(variable.name)?;
     }
-    Ok(all)
-}
-
-/// Names, and one more behind them.
-pub(crate) fn with_name<'a>(
-    alloc: Global,
-    names: &[&'a [u8]],
-    name: &'a [u8],
-) -> Result<Vec<&'a [u8]>, OutOfMemory>
-    ensures { IfOk result (λ v. names_of v.items ≡ names_of names.now ++ name.now ∷ []) }
-{
-    let mut all = Vec::from_slice(alloc, names)?;
-    all.push(name)?;
     Ok(all)
 }
 

@@ -22,12 +22,12 @@ ghost use Rattle.filt_types.specs.Scenes as scenes;
 ghost use Rattle.filt_types.specs.Weight.{of_function, weight};
 ghost use Rattle.filt_rules.specs.Passes.{access_weight};
 ghost use Rattle.filt_meaning.specs.Values.{VString};
-ghost use Rattle.filt_check.specs.Seen.{names_of, access_in, accesses_in, values_in, parts_in};
+ghost use Rattle.filt_check.specs.Seen.{access_in, accesses_in, values_in, parts_in};
 ghost use Rattle.filt_check.specs.Steps.{Takes, calls, dot_steps, dots_steps, dots_weight, given_weight};
 ghost use Rattle.filt_check.specs.Steps.{parts_steps, parts_weight};
 
 use crate::comparing::comparison;
-use crate::names::{function, named};
+use crate::names::{Names, function, named};
 use attrs::{Dest, Kind, Origin};
 use bits_ip::OutOfMemory;
 use conf_ast::filters::{
@@ -147,12 +147,12 @@ pub(crate) fn resolve(
     alloc: Global,
     text: &[u8],
     scope: &Scope,
-    names: &[&[u8]],
+    names: &Names<'_>,
     e: &Expr,
 ) -> Result<TExpr, OutOfMemory>
     ensures meaning { IfOk result (λ x. (around : Around) → trees.expr x (tables_of around scope.now)
         ≡ value (expression_of e.now)
-        (context_of text.now around scope.now (names_of names.now))) }
+        (context_of text.now around scope.now names.now)) }
     ensures steps { IfOk result (λ x. Takes scope.now (λ called. 1 + expr_steps called x)
         (weight (scene_of text.now scope.now) (expression_of e.now))) }
 {
@@ -195,12 +195,12 @@ pub(crate) fn boxed(
     alloc: Global,
     text: &[u8],
     scope: &Scope,
-    names: &[&[u8]],
+    names: &Names<'_>,
     e: &Expr,
 ) -> Result<Box<TExpr>, OutOfMemory>
     ensures meaning { IfOk result (λ b. (around : Around) → trees.expr b.value (tables_of around scope.now)
         ≡ value (expression_of e.now)
-        (context_of text.now around scope.now (names_of names.now))) }
+        (context_of text.now around scope.now names.now)) }
     ensures steps { IfOk result (λ b. Takes scope.now (λ called. 1 + expr_steps called
         b.value) (weight (scene_of text.now scope.now) (expression_of e.now))) }
 {
@@ -213,16 +213,16 @@ fn pair(
     alloc: Global,
     text: &[u8],
     scope: &Scope,
-    names: &[&[u8]],
+    names: &Names<'_>,
     first: &Expr,
     second: &Expr,
 ) -> Result<TExpr, OutOfMemory>
     ensures meaning { IfOk result (λ x. (around : Around) → trees.expr x (tables_of around scope.now)
         ≡ on_two
         (value (expression_of first.now)
-        (context_of text.now around scope.now (names_of names.now)))
+        (context_of text.now around scope.now names.now))
         (value (expression_of second.now)
-        (context_of text.now around scope.now (names_of names.now))) pair_of) }
+        (context_of text.now around scope.now names.now)) pair_of) }
     ensures steps { IfOk result (λ x. Takes scope.now (λ called. 1 + expr_steps called x)
         (1 + weight (scene_of text.now scope.now) (expression_of first.now) + weight
         (scene_of text.now scope.now) (expression_of second.now))) }
@@ -237,7 +237,7 @@ fn method_of(
     alloc: Global,
     text: &[u8],
     scope: &Scope,
-    names: &[&[u8]],
+    names: &Names<'_>,
     kind: MethodKind,
     list: &Expr,
     argument: &Expr,
@@ -245,9 +245,9 @@ fn method_of(
     ensures meaning { IfOk result (λ x. (around : Around) → trees.expr x (tables_of around scope.now)
         ≡ on_two
         (value (expression_of list.now)
-        (context_of text.now around scope.now (names_of names.now)))
+        (context_of text.now around scope.now names.now))
         (value (expression_of argument.now)
-        (context_of text.now around scope.now (names_of names.now))) (meaning.method_of kind)) }
+        (context_of text.now around scope.now names.now)) (meaning.method_of kind)) }
     ensures steps { IfOk result (λ x. Takes scope.now (λ called. 1 + expr_steps called x)
         (1 + weight (scene_of text.now scope.now) (expression_of list.now) + weight
         (scene_of text.now scope.now) (expression_of argument.now))) }
@@ -262,7 +262,7 @@ fn compare(
     alloc: Global,
     text: &[u8],
     scope: &Scope,
-    names: &[&[u8]],
+    names: &Names<'_>,
     op: CompareOp,
     left: &Expr,
     right: &Expr,
@@ -270,9 +270,9 @@ fn compare(
     ensures meaning { IfOk result (λ x. (around : Around) → trees.expr x (tables_of around scope.now)
         ≡ on_two
         (value (expression_of left.now)
-        (context_of text.now around scope.now (names_of names.now)))
+        (context_of text.now around scope.now names.now))
         (value (expression_of right.now)
-        (context_of text.now around scope.now (names_of names.now))) (meaning.compare_of op)) }
+        (context_of text.now around scope.now names.now)) (meaning.compare_of op)) }
     ensures steps { IfOk result (λ x. Takes scope.now (λ called. 1 + expr_steps called x)
         (1 + weight (scene_of text.now scope.now) (expression_of left.now) + weight
         (scene_of text.now scope.now) (expression_of right.now))) }
@@ -288,12 +288,12 @@ pub(crate) fn resolve_all(
     alloc: Global,
     text: &[u8],
     scope: &Scope,
-    names: &[&[u8]],
+    names: &Names<'_>,
     given: &[Expr],
 ) -> Result<Vec<TExpr>, OutOfMemory>
     ensures meaning { IfOk result (λ v. (around : Around)
         → trees.exprs (tables_of around scope.now) v.items
-        ≡ values_in (context_of text.now around scope.now (names_of names.now)) given.now) }
+        ≡ values_in (context_of text.now around scope.now names.now) given.now) }
     ensures steps { IfOk result (λ v. Takes scope.now (λ called. sum_over 1 (map
         (expr_steps called) v.items)) (given_weight (scene_of text.now scope.now)
         given.now)) }
@@ -312,15 +312,15 @@ fn access(
     alloc: Global,
     text: &[u8],
     scope: &Scope,
-    names: &[&[u8]],
+    names: &Names<'_>,
     operand: &Expr,
     more: &[Access<Expr>],
 ) -> Result<TExpr, OutOfMemory>
     ensures meaning { IfOk result (λ x. (around : Around) → trees.expr x (tables_of around scope.now)
         ≡ trees.accessed
         (value (expression_of operand.now)
-        (context_of text.now around scope.now (names_of names.now)))
-        (accesses_in (context_of text.now around scope.now (names_of names.now)) more.now)) }
+        (context_of text.now around scope.now names.now))
+        (accesses_in (context_of text.now around scope.now names.now) more.now)) }
     ensures steps { IfOk result (λ x. Takes scope.now (λ called. 1 + expr_steps called x)
         (weight (scene_of text.now scope.now) (expression_of operand.now) + dots_weight
         (scene_of text.now scope.now) more.now)) }
@@ -335,12 +335,12 @@ fn resolve_access(
     alloc: Global,
     text: &[u8],
     scope: &Scope,
-    names: &[&[u8]],
+    names: &Names<'_>,
     access: &Access<Expr>,
 ) -> Result<TAccess<TExpr>, OutOfMemory>
     ensures meaning { IfOk result (λ x. (around : Around)
         → trees.access (tables_of around scope.now) x
-        ≡ access_in (context_of text.now around scope.now (names_of names.now)) access.now) }
+        ≡ access_in (context_of text.now around scope.now names.now) access.now) }
     ensures steps { IfOk result (λ x. Takes scope.now (λ called. 1 + dot_steps called x)
         (access_weight (scene_of text.now scope.now) access.now)) }
 {
@@ -362,12 +362,12 @@ fn resolve_accesses(
     alloc: Global,
     text: &[u8],
     scope: &Scope,
-    names: &[&[u8]],
+    names: &Names<'_>,
     more: &[Access<Expr>],
 ) -> Result<Vec<TAccess<TExpr>>, OutOfMemory>
     ensures meaning { IfOk result (λ v. (around : Around)
         → trees.accesses_of (tables_of around scope.now) v.items
-        ≡ accesses_in (context_of text.now around scope.now (names_of names.now)) more.now) }
+        ≡ accesses_in (context_of text.now around scope.now names.now) more.now) }
     ensures steps { IfOk result (λ v. Takes scope.now (λ called. dots_steps called
         v.items) (dots_weight (scene_of text.now scope.now) more.now)) }
 {
@@ -383,15 +383,15 @@ fn product(
     alloc: Global,
     text: &[u8],
     scope: &Scope,
-    names: &[&[u8]],
+    names: &Names<'_>,
     operand: &Expr,
     more: &[(MulOp, Expr)],
 ) -> Result<TExpr, OutOfMemory>
     ensures meaning { IfOk result (λ x. (around : Around) → trees.expr x (tables_of around scope.now)
         ≡ trees.chain factor_of
         (value (expression_of operand.now)
-        (context_of text.now around scope.now (names_of names.now)))
-        (parts_in (context_of text.now around scope.now (names_of names.now)) more.now)) }
+        (context_of text.now around scope.now names.now))
+        (parts_in (context_of text.now around scope.now names.now) more.now)) }
     ensures steps { IfOk result (λ x. Takes scope.now (λ called. 1 + expr_steps called x)
         (weight (scene_of text.now scope.now) (expression_of operand.now) + parts_weight
         (scene_of text.now scope.now) more.now)) }
@@ -406,12 +406,12 @@ fn resolve_factors(
     alloc: Global,
     text: &[u8],
     scope: &Scope,
-    names: &[&[u8]],
+    names: &Names<'_>,
     more: &[(MulOp, Expr)],
 ) -> Result<Vec<(MulOp, TExpr)>, OutOfMemory>
     ensures meaning { IfOk result (λ v. (around : Around)
         → trees.parts (tables_of around scope.now) v.items
-        ≡ parts_in (context_of text.now around scope.now (names_of names.now)) more.now) }
+        ≡ parts_in (context_of text.now around scope.now names.now) more.now) }
     ensures steps { IfOk result (λ v. Takes scope.now (λ called. parts_steps 1 called
         v.items) (parts_weight (scene_of text.now scope.now) more.now)) }
 {
@@ -428,15 +428,15 @@ fn sum(
     alloc: Global,
     text: &[u8],
     scope: &Scope,
-    names: &[&[u8]],
+    names: &Names<'_>,
     operand: &Expr,
     more: &[(AddOp, Expr)],
 ) -> Result<TExpr, OutOfMemory>
     ensures meaning { IfOk result (λ x. (around : Around) → trees.expr x (tables_of around scope.now)
         ≡ trees.chain term_of
         (value (expression_of operand.now)
-        (context_of text.now around scope.now (names_of names.now)))
-        (parts_in (context_of text.now around scope.now (names_of names.now)) more.now)) }
+        (context_of text.now around scope.now names.now))
+        (parts_in (context_of text.now around scope.now names.now) more.now)) }
     ensures steps { IfOk result (λ x. Takes scope.now (λ called. 1 + expr_steps called x)
         (weight (scene_of text.now scope.now) (expression_of operand.now) + parts_weight
         (scene_of text.now scope.now) more.now)) }
@@ -451,12 +451,12 @@ fn resolve_terms(
     alloc: Global,
     text: &[u8],
     scope: &Scope,
-    names: &[&[u8]],
+    names: &Names<'_>,
     more: &[(AddOp, Expr)],
 ) -> Result<Vec<(AddOp, TExpr)>, OutOfMemory>
     ensures meaning { IfOk result (λ v. (around : Around)
         → trees.parts (tables_of around scope.now) v.items
-        ≡ parts_in (context_of text.now around scope.now (names_of names.now)) more.now) }
+        ≡ parts_in (context_of text.now around scope.now names.now) more.now) }
     ensures steps { IfOk result (λ v. Takes scope.now (λ called. parts_steps 1 called
         v.items) (parts_weight (scene_of text.now scope.now) more.now)) }
 {
@@ -473,15 +473,15 @@ fn joint(
     alloc: Global,
     text: &[u8],
     scope: &Scope,
-    names: &[&[u8]],
+    names: &Names<'_>,
     operand: &Expr,
     more: &[(LogicalOp, Expr)],
 ) -> Result<TExpr, OutOfMemory>
     ensures meaning { IfOk result (λ x. (around : Around) → trees.expr x (tables_of around scope.now)
         ≡ trees.joints
         (value (expression_of operand.now)
-        (context_of text.now around scope.now (names_of names.now)))
-        (parts_in (context_of text.now around scope.now (names_of names.now)) more.now)) }
+        (context_of text.now around scope.now names.now))
+        (parts_in (context_of text.now around scope.now names.now) more.now)) }
     ensures steps { IfOk result (λ x. Takes scope.now (λ called. 1 + expr_steps called x)
         (weight (scene_of text.now scope.now) (expression_of operand.now) + parts_weight
         (scene_of text.now scope.now) more.now)) }
@@ -496,12 +496,12 @@ fn resolve_joints(
     alloc: Global,
     text: &[u8],
     scope: &Scope,
-    names: &[&[u8]],
+    names: &Names<'_>,
     more: &[(LogicalOp, Expr)],
 ) -> Result<Vec<(LogicalOp, TExpr)>, OutOfMemory>
     ensures meaning { IfOk result (λ v. (around : Around)
         → trees.parts (tables_of around scope.now) v.items
-        ≡ parts_in (context_of text.now around scope.now (names_of names.now)) more.now) }
+        ≡ parts_in (context_of text.now around scope.now names.now) more.now) }
     ensures steps { IfOk result (λ v. Takes scope.now (λ called. parts_steps 2 called
         v.items) (parts_weight (scene_of text.now scope.now) more.now)) }
 {

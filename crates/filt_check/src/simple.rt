@@ -15,10 +15,10 @@ ghost use Rattle.filt_meaning.specs.Steps.{expr_steps, stmt_steps};
 ghost use Rattle.filt_types.specs.Seen.{scene_of};
 ghost use Rattle.filt_types.specs.Scenes as scenes;
 ghost use Rattle.filt_types.specs.Weight.{act_weight, of_function, optional, weight};
-ghost use Rattle.filt_check.specs.Seen.{names_of, values_in};
+ghost use Rattle.filt_check.specs.Seen.{values_in};
 ghost use Rattle.filt_check.specs.Steps.{Takes, given_weight};
 
-use crate::names::{function, named, place};
+use crate::names::{Names, function, named};
 use crate::resolve::{boxed, resolve, resolve_all};
 use bits_ip::OutOfMemory;
 use conf_ast::Name;
@@ -28,20 +28,20 @@ use std::alloc::Global;
 
 // ---- targets
 
-fn variable(text: &[u8], names: &[&[u8]], name: &Name) -> TTarget
+fn variable(text: &[u8], names: &Names<'_>, name: &Name) -> TTarget
     ensures { (around : Around) (scope : Scope) → trees.set_place result
-        ≡ set_target (context_of text.now around scope (names_of names.now))
+        ≡ set_target (context_of text.now around scope names.now)
         (targets.Name name.now) }
 {
-    match place(names, name.bytes(text)) {
+    match names.place(name.bytes(text)) {
         Some(slot) => TTarget::Local(slot),
         None => TTarget::Nowhere,
     }
 }
 
-fn target_place(text: &[u8], names: &[&[u8]], target: &Target) -> TTarget
+fn target_place(text: &[u8], names: &Names<'_>, target: &Target) -> TTarget
     ensures { (around : Around) (scope : Scope) → trees.set_place result
-        ≡ set_target (context_of text.now around scope (names_of names.now)) target.now }
+        ≡ set_target (context_of text.now around scope names.now) target.now }
 {
     match target {
         Target::Name(name) => variable(text, names, name),
@@ -50,9 +50,9 @@ fn target_place(text: &[u8], names: &[&[u8]], target: &Target) -> TTarget
 }
 
 /// What the target holds.
-fn target_value(text: &[u8], scope: &Scope, names: &[&[u8]], target: &Target) -> TExpr
+fn target_value(text: &[u8], scope: &Scope, names: &Names<'_>, target: &Target) -> TExpr
     ensures meaning { (around : Around) → trees.expr result (tables_of around scope.now)
-        ≡ value (read target.now) (context_of text.now around scope.now (names_of names.now)) }
+        ≡ value (read target.now) (context_of text.now around scope.now names.now) }
     ensures steps { (called : ℕ → ℕ) → expr_steps called result ≡ 1 }
 {
     match target {
@@ -68,16 +68,16 @@ pub(crate) fn declare(
     alloc: Global,
     text: &[u8],
     scope: &Scope,
-    names: &[&[u8]],
+    names: &Names<'_>,
     variable_type: VariableType,
     name: &Name,
     first: &Option<Expr>,
 ) -> Result<TStmt, OutOfMemory>
     ensures meaning { IfOk result (λ x. (around : Around) → trees.stmt x (tables_of around scope.now)
-        ≡ assign (context_of text.now around scope.now (names_of names.now))
+        ≡ assign (context_of text.now around scope.now names.now)
         (targets.Name name.now)
         (initial variable_type (option_map expression_of first.now)
-        (context_of text.now around scope.now (names_of names.now)))) }
+        (context_of text.now around scope.now names.now))) }
     ensures steps { IfOk result (λ x. Takes scope.now (λ called. 3 + stmt_steps called x)
         (1 + optional (scene_of text.now scope.now) (option_map expression_of first.now))) }
 {
@@ -97,14 +97,14 @@ pub(crate) fn assign(
     alloc: Global,
     text: &[u8],
     scope: &Scope,
-    names: &[&[u8]],
+    names: &Names<'_>,
     target: &Target,
     e: &Expr,
 ) -> Result<TStmt, OutOfMemory>
     ensures meaning { IfOk result (λ x. (around : Around) → trees.stmt x (tables_of around scope.now)
-        ≡ assign (context_of text.now around scope.now (names_of names.now)) target.now
+        ≡ assign (context_of text.now around scope.now names.now) target.now
         (value (expression_of e.now)
-        (context_of text.now around scope.now (names_of names.now)))) }
+        (context_of text.now around scope.now names.now))) }
     ensures steps { IfOk result (λ x. Takes scope.now (λ called. 2 + stmt_steps called x)
         (1 + weight (scene_of text.now scope.now) (expression_of e.now))) }
 {
@@ -117,17 +117,17 @@ fn change_by(
     alloc: Global,
     text: &[u8],
     scope: &Scope,
-    names: &[&[u8]],
+    names: &Names<'_>,
     target: &Target,
     kind: MethodKind,
     argument: &Expr,
 ) -> Result<TStmt, OutOfMemory>
     ensures meaning { IfOk result (λ x. (around : Around) → trees.stmt x (tables_of around scope.now)
-        ≡ assign (context_of text.now around scope.now (names_of names.now)) target.now
+        ≡ assign (context_of text.now around scope.now names.now) target.now
         (on_two
-        (value (read target.now) (context_of text.now around scope.now (names_of names.now)))
+        (value (read target.now) (context_of text.now around scope.now names.now))
         (value (expression_of argument.now)
-        (context_of text.now around scope.now (names_of names.now))) (meaning.method_of kind))) }
+        (context_of text.now around scope.now names.now)) (meaning.method_of kind))) }
     ensures steps { IfOk result (λ x. Takes scope.now (λ called. 2 + stmt_steps called x)
         (1 + weight (scene_of text.now scope.now) (expression_of argument.now))) }
 {
@@ -144,13 +144,13 @@ fn clear(
     alloc: Global,
     text: &[u8],
     scope: &Scope,
-    names: &[&[u8]],
+    names: &Names<'_>,
     target: &Target,
 ) -> Result<TStmt, OutOfMemory>
     ensures meaning { IfOk result (λ x. (around : Around) → trees.stmt x (tables_of around scope.now)
-        ≡ assign (context_of text.now around scope.now (names_of names.now)) target.now
+        ≡ assign (context_of text.now around scope.now names.now) target.now
         (on_value
-        (value (read target.now) (context_of text.now around scope.now (names_of names.now)))
+        (value (read target.now) (context_of text.now around scope.now names.now))
         emptied_of)) }
     ensures steps { IfOk result (λ x. Takes scope.now (λ called. 2 + stmt_steps called x)
         (1)) }
@@ -163,13 +163,13 @@ pub(crate) fn change(
     alloc: Global,
     text: &[u8],
     scope: &Scope,
-    names: &[&[u8]],
+    names: &Names<'_>,
     target: &Target,
     change: &Change,
 ) -> Result<TStmt, OutOfMemory>
     ensures meaning { IfOk result (λ x. (around : Around) → trees.stmt x (tables_of around scope.now)
         ≡ act (changed target.now change.now)
-        (context_of text.now around scope.now (names_of names.now))) }
+        (context_of text.now around scope.now names.now)) }
     ensures steps { IfOk result (λ x. Takes scope.now (λ called. 2 + stmt_steps called x)
         (act_weight (scene_of text.now scope.now) (changed target.now change.now))) }
 {
@@ -189,12 +189,12 @@ pub(crate) fn returned(
     alloc: Global,
     text: &[u8],
     scope: &Scope,
-    names: &[&[u8]],
+    names: &Names<'_>,
     given: &Option<Expr>,
 ) -> Result<TStmt, OutOfMemory>
     ensures meaning { IfOk result (λ x. (around : Around) → trees.stmt x (tables_of around scope.now)
         ≡ meaning.result (option_map expression_of given.now)
-        (context_of text.now around scope.now (names_of names.now))) }
+        (context_of text.now around scope.now names.now)) }
     ensures steps { IfOk result (λ x. Takes scope.now (λ called. 2 + stmt_steps called x)
         (1 + optional (scene_of text.now scope.now) (option_map expression_of given.now))) }
 {
@@ -211,12 +211,12 @@ pub(crate) fn print(
     alloc: Global,
     text: &[u8],
     scope: &Scope,
-    names: &[&[u8]],
+    names: &Names<'_>,
     given: &[Expr],
 ) -> Result<TStmt, OutOfMemory>
     ensures meaning { IfOk result (λ x. (around : Around) → trees.stmt x (tables_of around scope.now)
         ≡ evaluate (trees.all_values
-        (values_in (context_of text.now around scope.now (names_of names.now)) given.now))) }
+        (values_in (context_of text.now around scope.now names.now) given.now))) }
     ensures steps { IfOk result (λ x. Takes scope.now (λ called. 2 + stmt_steps called x)
         (1 + given_weight (scene_of text.now scope.now) given.now)) }
 {
@@ -229,15 +229,15 @@ pub(crate) fn called(
     alloc: Global,
     text: &[u8],
     scope: &Scope,
-    names: &[&[u8]],
+    names: &Names<'_>,
     name: &Name,
     given: &[Expr],
 ) -> Result<TStmt, OutOfMemory>
     ensures meaning { IfOk result (λ x. (around : Around) → trees.stmt x (tables_of around scope.now)
         ≡ evaluate (call
-        (function_of (context_of text.now around scope.now (names_of names.now)) name.now)
+        (function_of (context_of text.now around scope.now names.now) name.now)
         (trees.all_values
-        (values_in (context_of text.now around scope.now (names_of names.now)) given.now)))) }
+        (values_in (context_of text.now around scope.now names.now) given.now)))) }
     ensures steps { IfOk result (λ x. Takes scope.now (λ called. 2 + stmt_steps called x)
         (1 + given_weight (scene_of text.now scope.now) given.now + of_function
         (scenes.function_of (scene_of text.now scope.now) name.now))) }

@@ -1,4 +1,4 @@
-use Rattle.std.proofs.Common.{◌≡◌, ℕ, ◌+◌, ◌*◌, ◌≤◌, length, ◌++◌, [], ◌∷◌, arith, List, map, Option, drop, ap, refl, sym, ◌∙◌, Vec, Bor}
+use Rattle.std.proofs.Common.{◌≡◌, ℕ, ◌+◌, ◌*◌, length, ◌++◌, [], ◌∷◌, arith, List, map, Option, drop, ap, refl, sym, ◌∙◌, Vec}
 use Rattle.std.specs.Global.{Global}
 use Rattle.std.proofs.lemmas.Result.{IfOk-weaker}
 use Rattle.conf_ast.specs.Names.{name_bytes}
@@ -22,7 +22,7 @@ use Rattle.filt_types.specs.Weight.{acts_weight, arms_weight}
 use Rattle.filt_types.proofs.Cost as k
 use Rattle.filt_types.proofs.Trees as o
 use Rattle.filt_check.specs.declared.collect.Declared.{Declared}
-use Rattle.filt_check.specs.Seen.{names_of, name_of, sort_of, variables_of, acts_in, arm_in, arms_in, arm_seen, arms_seen, otherwise_in}
+use Rattle.filt_check.specs.Seen.{name_of, sort_of, variables_of, acts_in, arm_in, arms_in, arm_seen, arms_seen, otherwise_in}
 use Rattle.filt_check.specs.Seen.{arms_declare, otherwise_declares}
 use Rattle.filt_check.specs.Steps.{calls}
 use Rattle.filt_check.proofs.Acting as a
@@ -59,92 +59,92 @@ pub resolve_arm-resolve_all-requires : goal.resolve_arm-resolve_all-requires
 resolve_arm-resolve_all-requires t c = (omega (arith, ap (λ (xs : List Stmt). k.stmts_cost xs) c.deref.ensures.value), tt)
 
 pub resolve_statement-returns-in-Block-clause-meaning : goal.resolve_statement-returns-in-Block-clause-meaning
-resolve_statement-returns-in-Block-clause-meaning t c = a.block_ok c.braced.result (λ around. tables_of around c.args.scope.now) (λ around. context_of c.args.text.now around c.args.scope.now (names_of c.args.names.now)) c.args.s.now c.in-Block.body c.deref.result.now c.in-Block.is c.deref.ensures.value c.braced.ensures.meaning
+resolve_statement-returns-in-Block-clause-meaning t c = a.block_ok c.braced.result (λ around. tables_of around c.args.scope.now) (λ around. context_of c.args.text.now around c.args.scope.now c.args.names.now) c.args.s.now c.in-Block.body c.deref.result.now c.in-Block.is c.deref.ensures.value c.braced.ensures.meaning
 
 pub resolve_statement-returns-in-Declare-clause-meaning : goal.resolve_statement-returns-in-Declare-clause-meaning
-resolve_statement-returns-in-Declare-clause-meaning t c = a.declare_ok c.declare.result (λ around. tables_of around c.args.scope.now) (λ around. context_of c.args.text.now around c.args.scope.now (names_of c.args.names.now)) c.args.s.now c.in-Declare.variable_type c.in-Declare.name c.in-Declare.value c.in-Declare.is c.declare.ensures.meaning
+resolve_statement-returns-in-Declare-clause-meaning t c = a.declare_ok c.declare.result (λ around. tables_of around c.args.scope.now) (λ around. context_of c.args.text.now around c.args.scope.now c.args.names.now) c.args.s.now c.in-Declare.variable_type c.in-Declare.name c.in-Declare.value c.in-Declare.is c.declare.ensures.meaning
 
 pub resolve_statement-returns-in-Assign-clause-meaning : goal.resolve_statement-returns-in-Assign-clause-meaning
-resolve_statement-returns-in-Assign-clause-meaning t c = a.assign_ok c.assign.result (λ around. tables_of around c.args.scope.now) (λ around. context_of c.args.text.now around c.args.scope.now (names_of c.args.names.now)) c.args.s.now c.in-Assign.target c.in-Assign.e c.in-Assign.is c.assign.ensures.meaning
+resolve_statement-returns-in-Assign-clause-meaning t c = a.assign_ok c.assign.result (λ around. tables_of around c.args.scope.now) (λ around. context_of c.args.text.now around c.args.scope.now c.args.names.now) c.args.s.now c.in-Assign.target c.in-Assign.e c.in-Assign.is c.assign.ensures.meaning
 
 pub resolve_statement-returns-in-Change-clause-meaning : goal.resolve_statement-returns-in-Change-clause-meaning
-resolve_statement-returns-in-Change-clause-meaning t c = a.change_ok c.change.result (λ around. tables_of around c.args.scope.now) (λ around. context_of c.args.text.now around c.args.scope.now (names_of c.args.names.now)) c.args.s.now c.in-Change.target c.in-Change.what c.in-Change.is c.change.ensures.meaning
+resolve_statement-returns-in-Change-clause-meaning t c = a.change_ok c.change.result (λ around. tables_of around c.args.scope.now) (λ around. context_of c.args.text.now around c.args.scope.now c.args.names.now) c.args.s.now c.in-Change.target c.in-Change.what c.in-Change.is c.change.ensures.meaning
 
 pub resolve_statement-returns-in-If-clause-meaning : goal.resolve_statement-returns-in-If-clause-meaning
-resolve_statement-returns-in-If-clause-meaning t c = a.if_ok c.if_then.result (λ around. tables_of around c.args.scope.now) (λ around. context_of c.args.text.now around c.args.scope.now (names_of c.args.names.now)) c.args.s.now c.in-If.e c.in-If.first c.deref-in-If.result.now c.in-If.is c.deref-in-If.ensures c.if_then.ensures.meaning
+resolve_statement-returns-in-If-clause-meaning t c = a.if_ok c.if_then.result (λ around. tables_of around c.args.scope.now) (λ around. context_of c.args.text.now around c.args.scope.now c.args.names.now) c.args.s.now c.in-If.e c.in-If.first c.deref-in-If.result.now c.in-If.is c.deref-in-If.ensures c.if_then.ensures.meaning
 
 pub resolve_statement-returns-in-IfElse-clause-meaning : goal.resolve_statement-returns-in-IfElse-clause-meaning
-resolve_statement-returns-in-IfElse-clause-meaning t c = a.if_else_ok c.if_else.result (λ around. tables_of around c.args.scope.now) (λ around. context_of c.args.text.now around c.args.scope.now (names_of c.args.names.now)) c.args.s.now c.in-IfElse.e c.in-IfElse.first c.in-IfElse.second c.deref-in-IfElse.result.now c.deref-in-IfElse-2.result.now c.in-IfElse.is c.deref-in-IfElse.ensures c.deref-in-IfElse-2.ensures c.if_else.ensures.meaning
+resolve_statement-returns-in-IfElse-clause-meaning t c = a.if_else_ok c.if_else.result (λ around. tables_of around c.args.scope.now) (λ around. context_of c.args.text.now around c.args.scope.now c.args.names.now) c.args.s.now c.in-IfElse.e c.in-IfElse.first c.in-IfElse.second c.deref-in-IfElse.result.now c.deref-in-IfElse-2.result.now c.in-IfElse.is c.deref-in-IfElse.ensures c.deref-in-IfElse-2.ensures c.if_else.ensures.meaning
 
 pub resolve_statement-returns-in-Case-clause-meaning : goal.resolve_statement-returns-in-Case-clause-meaning
-resolve_statement-returns-in-Case-clause-meaning t c = a.case_ok c.case.result (λ around. tables_of around c.args.scope.now) (λ around. context_of c.args.text.now around c.args.scope.now (names_of c.args.names.now)) c.args.s.now c.in-Case.at c.in-Case.value c.in-Case.arms c.deref-in-Case.result.now c.in-Case.otherwise c.in-Case.is c.deref-in-Case.ensures.value c.case.ensures.meaning
+resolve_statement-returns-in-Case-clause-meaning t c = a.case_ok c.case.result (λ around. tables_of around c.args.scope.now) (λ around. context_of c.args.text.now around c.args.scope.now c.args.names.now) c.args.s.now c.in-Case.at c.in-Case.value c.in-Case.arms c.deref-in-Case.result.now c.in-Case.otherwise c.in-Case.is c.deref-in-Case.ensures.value c.case.ensures.meaning
 
 pub resolve_statement-returns-in-For-clause-meaning : goal.resolve_statement-returns-in-For-clause-meaning
-resolve_statement-returns-in-For-clause-meaning t c = a.for_ok c.each.result (λ around. tables_of around c.args.scope.now) (λ around. context_of c.args.text.now around c.args.scope.now (names_of c.args.names.now)) c.args.s.now c.in-For.at c.in-For.variable_type c.in-For.name c.in-For.list c.in-For.body c.deref-in-For.result.now (λ around. with_variables (context_of c.args.text.now around c.args.scope.now (names_of c.args.names.now)) (name_bytes c.args.text.now c.in-For.name ∷ [])) c.in-For.is c.deref-in-For.ensures (λ around. refl) c.each.ensures.meaning
+resolve_statement-returns-in-For-clause-meaning t c = a.for_ok c.each.result (λ around. tables_of around c.args.scope.now) (λ around. context_of c.args.text.now around c.args.scope.now c.args.names.now) c.args.s.now c.in-For.at c.in-For.variable_type c.in-For.name c.in-For.list c.in-For.body c.deref-in-For.result.now (λ around. with_variables (context_of c.args.text.now around c.args.scope.now c.args.names.now) (name_bytes c.args.text.now c.in-For.name ∷ [])) c.in-For.is c.deref-in-For.ensures (λ around. refl) c.each.ensures.meaning
 
 pub resolve_statement-returns-in-Return-clause-meaning : goal.resolve_statement-returns-in-Return-clause-meaning
-resolve_statement-returns-in-Return-clause-meaning t c = a.return_ok c.returned.result (λ around. tables_of around c.args.scope.now) (λ around. context_of c.args.text.now around c.args.scope.now (names_of c.args.names.now)) c.args.s.now c.in-Return.at c.in-Return.value c.in-Return.is c.returned.ensures.meaning
+resolve_statement-returns-in-Return-clause-meaning t c = a.return_ok c.returned.result (λ around. tables_of around c.args.scope.now) (λ around. context_of c.args.text.now around c.args.scope.now c.args.names.now) c.args.s.now c.in-Return.at c.in-Return.value c.in-Return.is c.returned.ensures.meaning
 
 pub resolve_statement-returns-in-Print-clause-meaning : goal.resolve_statement-returns-in-Print-clause-meaning
-resolve_statement-returns-in-Print-clause-meaning t c = a.print_ok c.print.result (λ around. tables_of around c.args.scope.now) (λ around. context_of c.args.text.now around c.args.scope.now (names_of c.args.names.now)) c.args.s.now c.in-Print.given c.deref-in-Print.result.now c.in-Print.is c.deref-in-Print.ensures.value c.print.ensures.meaning
+resolve_statement-returns-in-Print-clause-meaning t c = a.print_ok c.print.result (λ around. tables_of around c.args.scope.now) (λ around. context_of c.args.text.now around c.args.scope.now c.args.names.now) c.args.s.now c.in-Print.given c.deref-in-Print.result.now c.in-Print.is c.deref-in-Print.ensures.value c.print.ensures.meaning
 
 pub resolve_statement-returns-in-Printn-clause-meaning : goal.resolve_statement-returns-in-Printn-clause-meaning
-resolve_statement-returns-in-Printn-clause-meaning t c = a.print_part_ok c.print-in-Printn.result (λ around. tables_of around c.args.scope.now) (λ around. context_of c.args.text.now around c.args.scope.now (names_of c.args.names.now)) c.args.s.now c.in-Printn.given c.deref-in-Printn.result.now c.in-Printn.is c.deref-in-Printn.ensures.value c.print-in-Printn.ensures.meaning
+resolve_statement-returns-in-Printn-clause-meaning t c = a.print_part_ok c.print-in-Printn.result (λ around. tables_of around c.args.scope.now) (λ around. context_of c.args.text.now around c.args.scope.now c.args.names.now) c.args.s.now c.in-Printn.given c.deref-in-Printn.result.now c.in-Printn.is c.deref-in-Printn.ensures.value c.print-in-Printn.ensures.meaning
 
 pub resolve_statement-returns-in-Call-clause-meaning : goal.resolve_statement-returns-in-Call-clause-meaning
-resolve_statement-returns-in-Call-clause-meaning t c = a.call_ok c.called.result (λ around. tables_of around c.args.scope.now) (λ around. context_of c.args.text.now around c.args.scope.now (names_of c.args.names.now)) c.args.s.now c.in-Call.name c.in-Call.open c.in-Call.arguments c.deref-in-Call.result.now c.in-Call.is c.deref-in-Call.ensures.value c.called.ensures.meaning
+resolve_statement-returns-in-Call-clause-meaning t c = a.call_ok c.called.result (λ around. tables_of around c.args.scope.now) (λ around. context_of c.args.text.now around c.args.scope.now c.args.names.now) c.args.s.now c.in-Call.name c.in-Call.open c.in-Call.arguments c.deref-in-Call.result.now c.in-Call.is c.deref-in-Call.ensures.value c.called.ensures.meaning
 
 pub resolve_statement-returns-in-Empty-clause-meaning : goal.resolve_statement-returns-in-Empty-clause-meaning
-resolve_statement-returns-in-Empty-clause-meaning t c = λ around. a.form_same (tables_of around c.args.scope.now) (context_of c.args.text.now around c.args.scope.now (names_of c.args.names.now)) ts.Nothing nothing c.args.s.now s.Empty Nothing (f.stmt-Nothing (tables_of around c.args.scope.now)) refl c.in-Empty.is o.as-Empty
+resolve_statement-returns-in-Empty-clause-meaning t c = λ around. a.form_same (tables_of around c.args.scope.now) (context_of c.args.text.now around c.args.scope.now c.args.names.now) ts.Nothing nothing c.args.s.now s.Empty Nothing (f.stmt-Nothing (tables_of around c.args.scope.now)) refl c.in-Empty.is o.as-Empty
 
 pub resolve_statement-returns-in-Accept-clause-meaning : goal.resolve_statement-returns-in-Accept-clause-meaning
-resolve_statement-returns-in-Accept-clause-meaning t c = λ around. a.form_same (tables_of around c.args.scope.now) (context_of c.args.text.now around c.args.scope.now (names_of c.args.names.now)) ts.Accept (stop flow.Accepted) c.args.s.now s.Accept Accept (f.stmt-Accept (tables_of around c.args.scope.now)) refl c.in-Accept.is o.as-Accept
+resolve_statement-returns-in-Accept-clause-meaning t c = λ around. a.form_same (tables_of around c.args.scope.now) (context_of c.args.text.now around c.args.scope.now c.args.names.now) ts.Accept (stop flow.Accepted) c.args.s.now s.Accept Accept (f.stmt-Accept (tables_of around c.args.scope.now)) refl c.in-Accept.is o.as-Accept
 
 pub resolve_statement-returns-in-Reject-clause-meaning : goal.resolve_statement-returns-in-Reject-clause-meaning
-resolve_statement-returns-in-Reject-clause-meaning t c = λ around. a.form_same (tables_of around c.args.scope.now) (context_of c.args.text.now around c.args.scope.now (names_of c.args.names.now)) ts.Reject (stop flow.Rejected) c.args.s.now s.Reject Reject (f.stmt-Reject (tables_of around c.args.scope.now)) refl c.in-Reject.is o.as-Reject
+resolve_statement-returns-in-Reject-clause-meaning t c = λ around. a.form_same (tables_of around c.args.scope.now) (context_of c.args.text.now around c.args.scope.now c.args.names.now) ts.Reject (stop flow.Rejected) c.args.s.now s.Reject Reject (f.stmt-Reject (tables_of around c.args.scope.now)) refl c.in-Reject.is o.as-Reject
 
 pub resolve_statement-returns-in-Unset-clause-meaning : goal.resolve_statement-returns-in-Unset-clause-meaning
-resolve_statement-returns-in-Unset-clause-meaning t c = λ around. a.form_same (tables_of around c.args.scope.now) (context_of c.args.text.now around c.args.scope.now (names_of c.args.names.now)) (ts.Unset c.in-Unset.attribute) (unset c.in-Unset.attribute) c.args.s.now (s.Unset c.in-Unset.open c.in-Unset.attribute_at c.in-Unset.attribute) (Unset c.in-Unset.open c.in-Unset.attribute_at c.in-Unset.attribute) (f.stmt-Unset c.in-Unset.attribute (tables_of around c.args.scope.now)) refl c.in-Unset.is (o.as-Unset c.in-Unset.open c.in-Unset.attribute_at c.in-Unset.attribute)
+resolve_statement-returns-in-Unset-clause-meaning t c = λ around. a.form_same (tables_of around c.args.scope.now) (context_of c.args.text.now around c.args.scope.now c.args.names.now) (ts.Unset c.in-Unset.attribute) (unset c.in-Unset.attribute) c.args.s.now (s.Unset c.in-Unset.open c.in-Unset.attribute_at c.in-Unset.attribute) (Unset c.in-Unset.open c.in-Unset.attribute_at c.in-Unset.attribute) (f.stmt-Unset c.in-Unset.attribute (tables_of around c.args.scope.now)) refl c.in-Unset.is (o.as-Unset c.in-Unset.open c.in-Unset.attribute_at c.in-Unset.attribute)
 
 pub braced-returns-clause-meaning : goal.braced-returns-clause-meaning
-braced-returns-clause-meaning t c = λ around. a.block_made (tables_of around c.args.scope.now) (context_of c.args.text.now around c.args.scope.now (names_of c.args.names.now)) c.in_ok-block.block.sorts c.in_ok-block.block.body (statements_of c.args.body.now) c.in_ok-block.ensures.sorts (c.in_ok-block.ensures.body around)
+braced-returns-clause-meaning t c = λ around. a.block_made (tables_of around c.args.scope.now) (context_of c.args.text.now around c.args.scope.now c.args.names.now) c.in_ok-block.block.sorts c.in_ok-block.block.body (statements_of c.args.body.now) c.in_ok-block.ensures.sorts (c.in_ok-block.ensures.body around)
 
 pub if_then-returns-clause-meaning : goal.if_then-returns-clause-meaning
-if_then-returns-clause-meaning t c = λ around. a.if_made (tables_of around c.args.scope.now) c.in_ok-x.x c.in_ok-a.a (value (expression_of c.args.e.now) (context_of c.args.text.now around c.args.scope.now (names_of c.args.names.now))) (act (statement_of c.args.first.now) (context_of c.args.text.now around c.args.scope.now (names_of c.args.names.now))) (c.in_ok-x.ensures.meaning around) (c.in_ok-a.ensures.meaning around)
+if_then-returns-clause-meaning t c = λ around. a.if_made (tables_of around c.args.scope.now) c.in_ok-x.x c.in_ok-a.a (value (expression_of c.args.e.now) (context_of c.args.text.now around c.args.scope.now c.args.names.now)) (act (statement_of c.args.first.now) (context_of c.args.text.now around c.args.scope.now c.args.names.now)) (c.in_ok-x.ensures.meaning around) (c.in_ok-a.ensures.meaning around)
 
 pub if_else-returns-clause-meaning : goal.if_else-returns-clause-meaning
-if_else-returns-clause-meaning t c = λ around. a.if_else_made (tables_of around c.args.scope.now) c.in_ok-x.x c.in_ok-a.a c.in_ok-b.b (value (expression_of c.args.e.now) (context_of c.args.text.now around c.args.scope.now (names_of c.args.names.now))) (act (statement_of c.args.first.now) (context_of c.args.text.now around c.args.scope.now (names_of c.args.names.now))) (act (statement_of c.args.second.now) (context_of c.args.text.now around c.args.scope.now (names_of c.args.names.now))) (c.in_ok-x.ensures.meaning around) (c.in_ok-a.ensures.meaning around) (c.in_ok-b.ensures.meaning around)
+if_else-returns-clause-meaning t c = λ around. a.if_else_made (tables_of around c.args.scope.now) c.in_ok-x.x c.in_ok-a.a c.in_ok-b.b (value (expression_of c.args.e.now) (context_of c.args.text.now around c.args.scope.now c.args.names.now)) (act (statement_of c.args.first.now) (context_of c.args.text.now around c.args.scope.now c.args.names.now)) (act (statement_of c.args.second.now) (context_of c.args.text.now around c.args.scope.now c.args.names.now)) (c.in_ok-x.ensures.meaning around) (c.in_ok-a.ensures.meaning around) (c.in_ok-b.ensures.meaning around)
 
 pub case-returns-clause-meaning : goal.case-returns-clause-meaning
-case-returns-clause-meaning t c = λ around. a.case_made (tables_of around c.args.scope.now) c.in_ok-x.x c.in_ok-a.a c.in_ok-b.b (value (expression_of c.args.e.now) (context_of c.args.text.now around c.args.scope.now (names_of c.args.names.now))) (arms_in (context_of c.args.text.now around c.args.scope.now (names_of c.args.names.now)) c.args.arms.now) (otherwise_in (context_of c.args.text.now around c.args.scope.now (names_of c.args.names.now)) c.args.otherwise.now) (c.in_ok-x.ensures.meaning around) (c.in_ok-a.ensures.meaning around) (c.in_ok-b.ensures.meaning around)
+case-returns-clause-meaning t c = λ around. a.case_made (tables_of around c.args.scope.now) c.in_ok-x.x c.in_ok-a.a c.in_ok-b.b (value (expression_of c.args.e.now) (context_of c.args.text.now around c.args.scope.now c.args.names.now)) (arms_in (context_of c.args.text.now around c.args.scope.now c.args.names.now) c.args.arms.now) (otherwise_in (context_of c.args.text.now around c.args.scope.now c.args.names.now) c.args.otherwise.now) (c.in_ok-x.ensures.meaning around) (c.in_ok-a.ensures.meaning around) (c.in_ok-b.ensures.meaning around)
 
 pub resolve_all-loop-s-preserved : goal.resolve_all-loop-s-preserved
 resolve_all-loop-s-preserved t c = (
-  λ around. r.moved (λ (x : TStmt). trees.stmt x (tables_of around c.args.scope.now)) (λ (y : Stmt). act (statement_of y) (context_of c.args.text.now around c.args.scope.now (names_of c.args.names.now))) c.loop-s.all.items c.push.new.self.items c.in_ok-resolve_statement.field-0 c.s-item.result (drop (c.loop-s.s-index + 1) c.args.body.now) (drop c.loop-s.s-index c.args.body.now) (acts_in (context_of c.args.text.now around c.args.scope.now (names_of c.args.names.now)) c.args.body.now) c.in_ok-push.ensures.items (next_item c.args.body.now c.loop-s.s-index c.s-item.result c.loop-s-test.true c.s-item.is) (c.in_ok-resolve_statement.ensures.meaning around) (c.loop-s.invariant.0 around),
+  λ around. r.moved (λ (x : TStmt). trees.stmt x (tables_of around c.args.scope.now)) (λ (y : Stmt). act (statement_of y) (context_of c.args.text.now around c.args.scope.now c.args.names.now)) c.loop-s.all.items c.push.new.self.items c.in_ok-resolve_statement.field-0 c.s-item.result (drop (c.loop-s.s-index + 1) c.args.body.now) (drop c.loop-s.s-index c.args.body.now) (acts_in (context_of c.args.text.now around c.args.scope.now c.args.names.now) c.args.body.now) c.in_ok-push.ensures.items (next_item c.args.body.now c.loop-s.s-index c.s-item.result c.loop-s-test.true c.s-item.is) (c.in_ok-resolve_statement.ensures.meaning around) (c.loop-s.invariant.0 around),
   λ more. w.more_acts c.args.text.now (scene_of c.args.text.now c.args.scope.now) (calls c.args.scope.now more) c.loop-s.all.items c.push.new.self.items c.in_ok-resolve_statement.field-0 c.s-item.result (drop (c.loop-s.s-index + 1) c.args.body.now) (drop c.loop-s.s-index c.args.body.now) (length (all_declared c.args.text.now (statements_of c.args.body.now))) (5 * acts_weight (scene_of c.args.text.now c.args.scope.now) (statements_of c.args.body.now)) c.in_ok-push.ensures.items (next_item c.args.body.now c.loop-s.s-index c.s-item.result c.loop-s-test.true c.s-item.is) (c.in_ok-resolve_statement.ensures.steps more) (c.loop-s.invariant.1 more),
 )
 
 pub resolve_all-returns-clause-meaning : goal.resolve_all-returns-clause-meaning
-resolve_all-returns-clause-meaning t c = λ around. r.finished (trees.stmts (tables_of around c.args.scope.now) c.loop-s.all.items) (λ (y : Stmt). act (statement_of y) (context_of c.args.text.now around c.args.scope.now (names_of c.args.names.now))) c.args.body.now c.loop-s.s-index (acts_in (context_of c.args.text.now around c.args.scope.now (names_of c.args.names.now)) c.args.body.now) c.loop-s-test.false (c.loop-s.invariant.0 around)
+resolve_all-returns-clause-meaning t c = λ around. r.finished (trees.stmts (tables_of around c.args.scope.now) c.loop-s.all.items) (λ (y : Stmt). act (statement_of y) (context_of c.args.text.now around c.args.scope.now c.args.names.now)) c.args.body.now c.loop-s.s-index (acts_in (context_of c.args.text.now around c.args.scope.now c.args.names.now) c.args.body.now) c.loop-s-test.false (c.loop-s.invariant.0 around)
 
 pub resolve_arms-loop-arm-preserved : goal.resolve_arms-loop-arm-preserved
 resolve_arms-loop-arm-preserved t c = (
-  λ around. r.moved (arm_seen (tables_of around c.args.scope.now)) (arm_in (context_of c.args.text.now around c.args.scope.now (names_of c.args.names.now))) c.loop-arm.all.items c.push.new.self.items c.in_ok-resolve_arm.field-0 c.arm-item.result (drop (c.loop-arm.arm-index + 1) c.args.arms.now) (drop c.loop-arm.arm-index c.args.arms.now) (arms_in (context_of c.args.text.now around c.args.scope.now (names_of c.args.names.now)) c.args.arms.now) c.in_ok-push.ensures.items (next_item c.args.arms.now c.loop-arm.arm-index c.arm-item.result c.loop-arm-test.true c.arm-item.is) (c.in_ok-resolve_arm.ensures.meaning around) (c.loop-arm.invariant.0 around),
+  λ around. r.moved (arm_seen (tables_of around c.args.scope.now)) (arm_in (context_of c.args.text.now around c.args.scope.now c.args.names.now)) c.loop-arm.all.items c.push.new.self.items c.in_ok-resolve_arm.field-0 c.arm-item.result (drop (c.loop-arm.arm-index + 1) c.args.arms.now) (drop c.loop-arm.arm-index c.args.arms.now) (arms_in (context_of c.args.text.now around c.args.scope.now c.args.names.now) c.args.arms.now) c.in_ok-push.ensures.items (next_item c.args.arms.now c.loop-arm.arm-index c.arm-item.result c.loop-arm-test.true c.arm-item.is) (c.in_ok-resolve_arm.ensures.meaning around) (c.loop-arm.invariant.0 around),
   λ more. w.more_arms c.args.text.now (scene_of c.args.text.now c.args.scope.now) (calls c.args.scope.now more) c.loop-arm.all.items c.push.new.self.items c.in_ok-resolve_arm.field-0 c.arm-item.result (drop (c.loop-arm.arm-index + 1) c.args.arms.now) (drop c.loop-arm.arm-index c.args.arms.now) (length (arms_declare c.args.text.now c.args.arms.now)) (5 * arms_weight (scene_of c.args.text.now c.args.scope.now) (arms_of c.args.arms.now)) c.in_ok-push.ensures.items (next_item c.args.arms.now c.loop-arm.arm-index c.arm-item.result c.loop-arm-test.true c.arm-item.is) (c.in_ok-resolve_arm.ensures.steps more) (c.loop-arm.invariant.1 more),
 )
 
 pub resolve_arms-returns-clause-meaning : goal.resolve_arms-returns-clause-meaning
-resolve_arms-returns-clause-meaning t c = λ around. r.finished (arms_seen (tables_of around c.args.scope.now) c.loop-arm.all.items) (arm_in (context_of c.args.text.now around c.args.scope.now (names_of c.args.names.now))) c.args.arms.now c.loop-arm.arm-index (arms_in (context_of c.args.text.now around c.args.scope.now (names_of c.args.names.now)) c.args.arms.now) c.loop-arm-test.false (c.loop-arm.invariant.0 around)
+resolve_arms-returns-clause-meaning t c = λ around. r.finished (arms_seen (tables_of around c.args.scope.now) c.loop-arm.all.items) (arm_in (context_of c.args.text.now around c.args.scope.now c.args.names.now)) c.args.arms.now c.loop-arm.arm-index (arms_in (context_of c.args.text.now around c.args.scope.now c.args.names.now) c.args.arms.now) c.loop-arm-test.false (c.loop-arm.invariant.0 around)
 
 pub resolve_arm-returns-clause-meaning : goal.resolve_arm-returns-clause-meaning
-resolve_arm-returns-clause-meaning t c = λ around. a.arm_made (tables_of around c.args.scope.now) (context_of c.args.text.now around c.args.scope.now (names_of c.args.names.now)) c.in_ok-labels.labels c.in_ok-body.body.items c.args.arm.now c.deref-2.result.now c.deref.result.now c.deref-2.ensures.value c.deref.ensures.value (c.in_ok-labels.ensures around (names_of c.args.names.now)) (c.in_ok-body.ensures.meaning around)
+resolve_arm-returns-clause-meaning t c = λ around. a.arm_made (tables_of around c.args.scope.now) (context_of c.args.text.now around c.args.scope.now c.args.names.now) c.in_ok-labels.labels c.in_ok-body.body.items c.args.arm.now c.deref-2.result.now c.deref.result.now c.deref-2.ensures.value c.deref.ensures.value (c.in_ok-labels.ensures around c.args.names.now) (c.in_ok-body.ensures.meaning around)
 
 pub resolve_otherwise-returns-in-Some-clause-meaning : goal.resolve_otherwise-returns-in-Some-clause-meaning
 resolve_otherwise-returns-in-Some-clause-meaning t c =
     IfOk-weaker c.resolve_all.result
-    (λ v. (around : Around) → trees.stmts (tables_of around c.args.scope.now) v.items ≡ acts_in (context_of c.args.text.now around c.args.scope.now (names_of c.args.names.now)) c.deref.result.now)
-    (λ v. (around : Around) → trees.body (tables_of around c.args.scope.now) v.items ≡ otherwise_in (context_of c.args.text.now around c.args.scope.now (names_of c.args.names.now)) c.args.otherwise.now)
-    (λ v h around. a.body_same (tables_of around c.args.scope.now) (context_of c.args.text.now around c.args.scope.now (names_of c.args.names.now)) v.items c.deref.result.now (h around) ∙ ap (λ (ss : List Stmt). acts (statements_of ss) (context_of c.args.text.now around c.args.scope.now (names_of c.args.names.now))) c.deref.ensures.value ∙ ap (λ (o : Option (Vec Stmt Global)). otherwise_in (context_of c.args.text.now around c.args.scope.now (names_of c.args.names.now)) o) (sym c.in-Some.is))
+    (λ v. (around : Around) → trees.stmts (tables_of around c.args.scope.now) v.items ≡ acts_in (context_of c.args.text.now around c.args.scope.now c.args.names.now) c.deref.result.now)
+    (λ v. (around : Around) → trees.body (tables_of around c.args.scope.now) v.items ≡ otherwise_in (context_of c.args.text.now around c.args.scope.now c.args.names.now) c.args.otherwise.now)
+    (λ v h around. a.body_same (tables_of around c.args.scope.now) (context_of c.args.text.now around c.args.scope.now c.args.names.now) v.items c.deref.result.now (h around) ∙ ap (λ (ss : List Stmt). acts (statements_of ss) (context_of c.args.text.now around c.args.scope.now c.args.names.now)) c.deref.ensures.value ∙ ap (λ (o : Option (Vec Stmt Global)). otherwise_in (context_of c.args.text.now around c.args.scope.now c.args.names.now) o) (sym c.in-Some.is))
     c.resolve_all.ensures.meaning
 
 pub resolve_block-returns-clause-sorts : goal.resolve_block-returns-clause-sorts
@@ -156,11 +156,11 @@ resolve_block-returns-clause-sorts t c =
 pub resolve_block-returns-clause-body : goal.resolve_block-returns-clause-body
 resolve_block-returns-clause-body t c = λ around.
     let own = all_declared c.args.text.now (statements_of c.args.body.now) in
-    a.body_same (tables_of around c.args.scope.now) (context_of c.args.text.now around c.args.scope.now (names_of c.in_ok-inner.inner.items)) c.in_ok-body.body.items c.args.body.now
-    (c.in_ok-body.ensures.meaning around ∙ ap (λ (ns : List (Bor (List ℕ))). acts_in (context_of c.args.text.now around c.args.scope.now (names_of ns)) c.args.body.now) c.deref-3.ensures.value)
+    a.body_same (tables_of around c.args.scope.now) (context_of c.args.text.now around c.args.scope.now c.in_ok-inner.inner) c.in_ok-body.body.items c.args.body.now
+    (c.in_ok-body.ensures.meaning around)
     ∙ ap (λ (cx : Context). acts (statements_of c.args.body.now) cx)
-    (g.within_made c.args.text.now around c.args.scope.now (names_of c.args.names.now) (names_of c.in_ok-inner.inner.items) c.collect_all.new.out.items own (c.in_ok-collect_all.ensures ∙ ap (λ (ds : List Declared). variables_of ds ++ own) c.new-declared.ensures.items)
-    (c.in_ok-inner.ensures ∙ ap (λ (ds : List Declared). names_of c.args.names.now ++ map name_of ds) c.deref.ensures.value))
+    (g.within_made c.args.text.now around c.args.scope.now c.args.names.now c.in_ok-inner.inner c.collect_all.new.out.items own (c.in_ok-collect_all.ensures ∙ ap (λ (ds : List Declared). variables_of ds ++ own) c.new-declared.ensures.items)
+    (c.in_ok-inner.ensures ∙ ap (λ (ns : List (List ℕ)). c.args.names.now ++ ns) (c.in_ok-declared_names.ensures ∙ ap (λ (ds : List Declared). map name_of ds) c.deref.ensures.value)))
 
 pub resolve_all-returns-clause-steps : goal.resolve_all-returns-clause-steps
 resolve_all-returns-clause-steps t c = λ more. w.all_acts c.args.text.now (scene_of c.args.text.now c.args.scope.now) c.args.body.now c.loop-s.s-index (length (all_declared c.args.text.now (statements_of c.args.body.now)) + body_steps (calls c.args.scope.now more) c.loop-s.all.items) (5 * acts_weight (scene_of c.args.text.now c.args.scope.now) (statements_of c.args.body.now)) c.loop-s-test.false (c.loop-s.invariant.1 more)

@@ -10,7 +10,7 @@ use Rattle.filt_types.proofs.Cost as k
 use Rattle.filt_meaning.specs.Names.{Around}
 use Rattle.filt_meaning.specs.Scopes.{context_of, tables_of}
 use Rattle.filt_meaning.specs.Trees as trees
-use Rattle.filt_check.specs.Seen.{names_of, acts_in, arms_declare, arms_in, arms_seen}
+use Rattle.filt_check.specs.Seen.{acts_in, arms_declare, arms_in, arms_seen}
 use Rattle.filt_check.specs.Steps.{calls}
 use Rattle.filt_check.proofs.blocks.+blocks.Given as goal
 
@@ -52,10 +52,10 @@ decreases-each l = k.stmt_cost l.body.now + 3
 
 abbrev pub invariant-resolve_all-loop-s : goal.invariant-resolve_all-loop-s
 invariant-resolve_all-loop-s l =
-    ((around : Around) → trees.stmts (tables_of around l.scope) l.all.items ++ acts_in (context_of l.text around l.scope (names_of l.names)) (drop l.s-index l.body) ≡ acts_in (context_of l.text around l.scope (names_of l.names)) l.body)
+    ((around : Around) → trees.stmts (tables_of around l.scope) l.all.items ++ acts_in (context_of l.text around l.scope l.names) (drop l.s-index l.body) ≡ acts_in (context_of l.text around l.scope l.names) l.body)
     × ((more : List TFunction) → length (all_declared l.text (statements_of l.body)) + body_steps (calls l.scope more) l.all.items + 5 * acts_weight (scene_of l.text l.scope) (statements_of (drop l.s-index l.body)) ≤ 5 * acts_weight (scene_of l.text l.scope) (statements_of l.body) + length (all_declared l.text (statements_of (drop l.s-index l.body))))
 
 abbrev pub invariant-resolve_arms-loop-arm : goal.invariant-resolve_arms-loop-arm
 invariant-resolve_arms-loop-arm l =
-    ((around : Around) → arms_seen (tables_of around l.scope) l.all.items ++ arms_in (context_of l.text around l.scope (names_of l.names)) (drop l.arm-index l.arms) ≡ arms_in (context_of l.text around l.scope (names_of l.names)) l.arms)
+    ((around : Around) → arms_seen (tables_of around l.scope) l.all.items ++ arms_in (context_of l.text around l.scope l.names) (drop l.arm-index l.arms) ≡ arms_in (context_of l.text around l.scope l.names) l.arms)
     × ((more : List TFunction) → length (arms_declare l.text l.arms) + arms_steps (calls l.scope more) l.all.items + 5 * arms_weight (scene_of l.text l.scope) (arms_of (drop l.arm-index l.arms)) ≤ 5 * arms_weight (scene_of l.text l.scope) (arms_of l.arms) + length (arms_declare l.text (drop l.arm-index l.arms)))

@@ -1,4 +1,4 @@
-use Rattle.std.proofs.Common.{ℕ, ◌≤◌, ◌+◌, ◌*◌, ◌∙◌, arith, List, drop, map, ap}
+use Rattle.std.proofs.Common.{◌+◌, ◌*◌, ◌∙◌, arith, List, drop, map, ap}
 use Rattle.conf_ast.specs.declared.filters.Access.{Access}
 use Rattle.conf_ast.specs.declared.filters.Expr.{Expr}
 use Rattle.conf_ast.specs.declared.filters.MulOp.{MulOp}
@@ -13,7 +13,7 @@ use Rattle.filt_meaning.specs.declared.tree.TExpr.{TExpr}
 use Rattle.filt_meaning.specs.declared.tree.TExpr.TheVariants as te
 use Rattle.filt_meaning.specs.Trees as trees
 use Rattle.filt_types.proofs.Cost as k
-use Rattle.filt_check.specs.Seen.{names_of, values_in, access_in, accesses_in, parts_in}
+use Rattle.filt_check.specs.Seen.{values_in, access_in, accesses_in, parts_in}
 use Rattle.filt_meaning.specs.Steps.{expr_steps, sum}
 use Rattle.filt_meaning.proofs.Steps as s
 use Rattle.filt_types.specs.Seen.{scene_of}
@@ -27,68 +27,68 @@ use Rattle.filt_items.proofs.Sets.{next_item}
 use Rattle.filt_check.proofs.resolve.+resolve.Goals as goal
 
 pub compare-returns-clause-meaning : goal.compare-returns-clause-meaning
-compare-returns-clause-meaning t c = λ around. c.comparison.ensures.meaning (tables_of around c.args.scope.now) ∙ x.on_both c.args.op (trees.expr c.in_ok-a.a.value (tables_of around c.args.scope.now)) (trees.expr c.in_ok-b.b.value (tables_of around c.args.scope.now)) (value (expression_of c.args.left.now) (context_of c.args.text.now around c.args.scope.now (names_of c.args.names.now))) (value (expression_of c.args.right.now) (context_of c.args.text.now around c.args.scope.now (names_of c.args.names.now))) (c.in_ok-a.ensures.meaning around) (c.in_ok-b.ensures.meaning around)
+compare-returns-clause-meaning t c = λ around. c.comparison.ensures.meaning (tables_of around c.args.scope.now) ∙ x.on_both c.args.op (trees.expr c.in_ok-a.a.value (tables_of around c.args.scope.now)) (trees.expr c.in_ok-b.b.value (tables_of around c.args.scope.now)) (value (expression_of c.args.left.now) (context_of c.args.text.now around c.args.scope.now c.args.names.now)) (value (expression_of c.args.right.now) (context_of c.args.text.now around c.args.scope.now c.args.names.now)) (c.in_ok-a.ensures.meaning around) (c.in_ok-b.ensures.meaning around)
 
 pub access-returns-clause-meaning : goal.access-returns-clause-meaning
-access-returns-clause-meaning t c = λ around. r.access_made (tables_of around c.args.scope.now) c.in_ok-a.a c.in_ok-accesses.accesses (value (expression_of c.args.operand.now) (context_of c.args.text.now around c.args.scope.now (names_of c.args.names.now))) (accesses_in (context_of c.args.text.now around c.args.scope.now (names_of c.args.names.now)) c.args.more.now) (c.in_ok-a.ensures.meaning around) (c.in_ok-accesses.ensures.meaning around)
+access-returns-clause-meaning t c = λ around. r.access_made (tables_of around c.args.scope.now) c.in_ok-a.a c.in_ok-accesses.accesses (value (expression_of c.args.operand.now) (context_of c.args.text.now around c.args.scope.now c.args.names.now)) (accesses_in (context_of c.args.text.now around c.args.scope.now c.args.names.now) c.args.more.now) (c.in_ok-a.ensures.meaning around) (c.in_ok-accesses.ensures.meaning around)
 
 pub product-returns-clause-meaning : goal.product-returns-clause-meaning
-product-returns-clause-meaning t c = λ around. r.product_made (tables_of around c.args.scope.now) c.in_ok-a.a c.in_ok-factors.factors (value (expression_of c.args.operand.now) (context_of c.args.text.now around c.args.scope.now (names_of c.args.names.now))) (parts_in (context_of c.args.text.now around c.args.scope.now (names_of c.args.names.now)) c.args.more.now) (c.in_ok-a.ensures.meaning around) (c.in_ok-factors.ensures.meaning around)
+product-returns-clause-meaning t c = λ around. r.product_made (tables_of around c.args.scope.now) c.in_ok-a.a c.in_ok-factors.factors (value (expression_of c.args.operand.now) (context_of c.args.text.now around c.args.scope.now c.args.names.now)) (parts_in (context_of c.args.text.now around c.args.scope.now c.args.names.now) c.args.more.now) (c.in_ok-a.ensures.meaning around) (c.in_ok-factors.ensures.meaning around)
 
 pub sum-returns-clause-meaning : goal.sum-returns-clause-meaning
-sum-returns-clause-meaning t c = λ around. r.sum_made (tables_of around c.args.scope.now) c.in_ok-a.a c.in_ok-terms.terms (value (expression_of c.args.operand.now) (context_of c.args.text.now around c.args.scope.now (names_of c.args.names.now))) (parts_in (context_of c.args.text.now around c.args.scope.now (names_of c.args.names.now)) c.args.more.now) (c.in_ok-a.ensures.meaning around) (c.in_ok-terms.ensures.meaning around)
+sum-returns-clause-meaning t c = λ around. r.sum_made (tables_of around c.args.scope.now) c.in_ok-a.a c.in_ok-terms.terms (value (expression_of c.args.operand.now) (context_of c.args.text.now around c.args.scope.now c.args.names.now)) (parts_in (context_of c.args.text.now around c.args.scope.now c.args.names.now) c.args.more.now) (c.in_ok-a.ensures.meaning around) (c.in_ok-terms.ensures.meaning around)
 
 pub joint-returns-clause-meaning : goal.joint-returns-clause-meaning
-joint-returns-clause-meaning t c = λ around. r.joint_made (tables_of around c.args.scope.now) c.in_ok-a.a c.in_ok-others.others (value (expression_of c.args.operand.now) (context_of c.args.text.now around c.args.scope.now (names_of c.args.names.now))) (parts_in (context_of c.args.text.now around c.args.scope.now (names_of c.args.names.now)) c.args.more.now) (c.in_ok-a.ensures.meaning around) (c.in_ok-others.ensures.meaning around)
+joint-returns-clause-meaning t c = λ around. r.joint_made (tables_of around c.args.scope.now) c.in_ok-a.a c.in_ok-others.others (value (expression_of c.args.operand.now) (context_of c.args.text.now around c.args.scope.now c.args.names.now)) (parts_in (context_of c.args.text.now around c.args.scope.now c.args.names.now) c.args.more.now) (c.in_ok-a.ensures.meaning around) (c.in_ok-others.ensures.meaning around)
 
 pub resolve-returns-in_ok-given-in-Call-clause-meaning : goal.resolve-returns-in_ok-given-in-Call-clause-meaning
-resolve-returns-in_ok-given-in-Call-clause-meaning t c = λ around. r.call_same (tables_of around c.args.scope.now) (context_of c.args.text.now around c.args.scope.now (names_of c.args.names.now)) c.args.e.now c.in-Call.name c.in-Call.open c.in-Call.arguments c.deref.result.now c.called.result c.in_ok-given-in-Call.given.items c.in-Call.is c.deref.ensures.value (c.called.ensures.meaning around (names_of c.args.names.now)) (c.in_ok-given-in-Call.ensures.meaning around)
+resolve-returns-in_ok-given-in-Call-clause-meaning t c = λ around. r.call_same (tables_of around c.args.scope.now) (context_of c.args.text.now around c.args.scope.now c.args.names.now) c.args.e.now c.in-Call.name c.in-Call.open c.in-Call.arguments c.deref.result.now c.called.result c.in_ok-given-in-Call.given.items c.in-Call.is c.deref.ensures.value (c.called.ensures.meaning around c.args.names.now) (c.in_ok-given-in-Call.ensures.meaning around)
 
 pub resolve-returns-in-Set-clause-meaning : goal.resolve-returns-in-Set-clause-meaning
-resolve-returns-in-Set-clause-meaning t c = r.set_ok c.set.result (λ around. tables_of around c.args.scope.now) (λ around variables. context_of c.args.text.now around c.args.scope.now variables) (names_of c.args.names.now) c.args.e.now c.in-Set.at c.in-Set.items c.deref-in-Set.result.now c.in-Set.is c.deref-in-Set.ensures.value c.set.ensures.meaning
+resolve-returns-in-Set-clause-meaning t c = r.set_ok c.set.result (λ around. tables_of around c.args.scope.now) (λ around variables. context_of c.args.text.now around c.args.scope.now variables) c.args.names.now c.args.e.now c.in-Set.at c.in-Set.items c.deref-in-Set.result.now c.in-Set.is c.deref-in-Set.ensures.value c.set.ensures.meaning
 
 pub resolve-returns-in-Mask-clause-meaning : goal.resolve-returns-in-Mask-clause-meaning
-resolve-returns-in-Mask-clause-meaning t c = r.mask_ok c.mask.result (λ around. tables_of around c.args.scope.now) (λ around variables. context_of c.args.text.now around c.args.scope.now variables) (names_of c.args.names.now) c.args.e.now c.in-Mask.at c.in-Mask.items c.deref-in-Mask.result.now c.in-Mask.is c.deref-in-Mask.ensures.value c.mask.ensures.meaning
+resolve-returns-in-Mask-clause-meaning t c = r.mask_ok c.mask.result (λ around. tables_of around c.args.scope.now) (λ around variables. context_of c.args.text.now around c.args.scope.now variables) c.args.names.now c.args.e.now c.in-Mask.at c.in-Mask.items c.deref-in-Mask.result.now c.in-Mask.is c.deref-in-Mask.ensures.value c.mask.ensures.meaning
 
 pub resolve-returns-in-Postfix-clause-meaning : goal.resolve-returns-in-Postfix-clause-meaning
-resolve-returns-in-Postfix-clause-meaning t c = r.access_ok c.access.result (λ around. tables_of around c.args.scope.now) (λ around. context_of c.args.text.now around c.args.scope.now (names_of c.args.names.now)) c.args.e.now c.in-Postfix.operand c.in-Postfix.more c.deref-in-Postfix.result.now c.deref-in-Postfix-2.result.now c.in-Postfix.is c.deref-in-Postfix.ensures c.deref-in-Postfix-2.ensures.value c.access.ensures.meaning
+resolve-returns-in-Postfix-clause-meaning t c = r.access_ok c.access.result (λ around. tables_of around c.args.scope.now) (λ around. context_of c.args.text.now around c.args.scope.now c.args.names.now) c.args.e.now c.in-Postfix.operand c.in-Postfix.more c.deref-in-Postfix.result.now c.deref-in-Postfix-2.result.now c.in-Postfix.is c.deref-in-Postfix.ensures c.deref-in-Postfix-2.ensures.value c.access.ensures.meaning
 
 pub resolve-returns-in-Product-clause-meaning : goal.resolve-returns-in-Product-clause-meaning
-resolve-returns-in-Product-clause-meaning t c = r.product_ok c.product.result (λ around. tables_of around c.args.scope.now) (λ around. context_of c.args.text.now around c.args.scope.now (names_of c.args.names.now)) c.args.e.now c.in-Product.operand c.in-Product.more c.deref-in-Product.result.now c.deref-in-Product-2.result.now c.in-Product.is c.deref-in-Product.ensures c.deref-in-Product-2.ensures.value c.product.ensures.meaning
+resolve-returns-in-Product-clause-meaning t c = r.product_ok c.product.result (λ around. tables_of around c.args.scope.now) (λ around. context_of c.args.text.now around c.args.scope.now c.args.names.now) c.args.e.now c.in-Product.operand c.in-Product.more c.deref-in-Product.result.now c.deref-in-Product-2.result.now c.in-Product.is c.deref-in-Product.ensures c.deref-in-Product-2.ensures.value c.product.ensures.meaning
 
 pub resolve-returns-in-Sum-clause-meaning : goal.resolve-returns-in-Sum-clause-meaning
-resolve-returns-in-Sum-clause-meaning t c = r.sum_ok c.sum.result (λ around. tables_of around c.args.scope.now) (λ around. context_of c.args.text.now around c.args.scope.now (names_of c.args.names.now)) c.args.e.now c.in-Sum.operand c.in-Sum.more c.deref-in-Sum.result.now c.deref-in-Sum-2.result.now c.in-Sum.is c.deref-in-Sum.ensures c.deref-in-Sum-2.ensures.value c.sum.ensures.meaning
+resolve-returns-in-Sum-clause-meaning t c = r.sum_ok c.sum.result (λ around. tables_of around c.args.scope.now) (λ around. context_of c.args.text.now around c.args.scope.now c.args.names.now) c.args.e.now c.in-Sum.operand c.in-Sum.more c.deref-in-Sum.result.now c.deref-in-Sum-2.result.now c.in-Sum.is c.deref-in-Sum.ensures c.deref-in-Sum-2.ensures.value c.sum.ensures.meaning
 
 pub resolve-returns-in-Logical-clause-meaning : goal.resolve-returns-in-Logical-clause-meaning
-resolve-returns-in-Logical-clause-meaning t c = r.joint_ok c.joint.result (λ around. tables_of around c.args.scope.now) (λ around. context_of c.args.text.now around c.args.scope.now (names_of c.args.names.now)) c.args.e.now c.in-Logical.operand c.in-Logical.more c.deref-in-Logical.result.now c.deref-in-Logical-2.result.now c.in-Logical.is c.deref-in-Logical.ensures c.deref-in-Logical-2.ensures.value c.joint.ensures.meaning
+resolve-returns-in-Logical-clause-meaning t c = r.joint_ok c.joint.result (λ around. tables_of around c.args.scope.now) (λ around. context_of c.args.text.now around c.args.scope.now c.args.names.now) c.args.e.now c.in-Logical.operand c.in-Logical.more c.deref-in-Logical.result.now c.deref-in-Logical-2.result.now c.in-Logical.is c.deref-in-Logical.ensures c.deref-in-Logical-2.ensures.value c.joint.ensures.meaning
 
 pub resolve_all-loop-e-preserved : goal.resolve_all-loop-e-preserved
 resolve_all-loop-e-preserved t c = (
-  λ around. r.moved (λ (x : TExpr). trees.expr x (tables_of around c.args.scope.now)) (λ (y : Expr). value (expression_of y) (context_of c.args.text.now around c.args.scope.now (names_of c.args.names.now))) c.loop-e.all.items c.push.new.self.items c.in_ok-resolve.field-0 c.e-item.result (drop (c.loop-e.e-index + 1) c.args.given.now) (drop c.loop-e.e-index c.args.given.now) (values_in (context_of c.args.text.now around c.args.scope.now (names_of c.args.names.now)) c.args.given.now) c.in_ok-push.ensures.items (next_item c.args.given.now c.loop-e.e-index c.e-item.result c.loop-e-test.true c.e-item.is) (c.in_ok-resolve.ensures.meaning around) (c.loop-e.invariant.0 around),
+  λ around. r.moved (λ (x : TExpr). trees.expr x (tables_of around c.args.scope.now)) (λ (y : Expr). value (expression_of y) (context_of c.args.text.now around c.args.scope.now c.args.names.now)) c.loop-e.all.items c.push.new.self.items c.in_ok-resolve.field-0 c.e-item.result (drop (c.loop-e.e-index + 1) c.args.given.now) (drop c.loop-e.e-index c.args.given.now) (values_in (context_of c.args.text.now around c.args.scope.now c.args.names.now) c.args.given.now) c.in_ok-push.ensures.items (next_item c.args.given.now c.loop-e.e-index c.e-item.result c.loop-e-test.true c.e-item.is) (c.in_ok-resolve.ensures.meaning around) (c.loop-e.invariant.0 around),
   λ more. w.more_taken 1 (expr_steps (calls c.args.scope.now more)) (λ (y : Expr). weight (scene_of c.args.text.now c.args.scope.now) (expression_of y)) c.loop-e.all.items c.push.new.self.items c.in_ok-resolve.field-0 c.e-item.result (drop (c.loop-e.e-index + 1) c.args.given.now) (drop c.loop-e.e-index c.args.given.now) (5 * sum (map (λ (y : Expr). weight (scene_of c.args.text.now c.args.scope.now) (expression_of y)) c.args.given.now)) c.in_ok-push.ensures.items (next_item c.args.given.now c.loop-e.e-index c.e-item.result c.loop-e-test.true c.e-item.is) (c.in_ok-resolve.ensures.steps more) (c.loop-e.invariant.1 more),
 )
 
 pub resolve_accesses-loop-access-preserved : goal.resolve_accesses-loop-access-preserved
 resolve_accesses-loop-access-preserved t c = (
-  λ around. r.moved (trees.access (tables_of around c.args.scope.now)) (access_in (context_of c.args.text.now around c.args.scope.now (names_of c.args.names.now))) c.loop-access.all.items c.push.new.self.items c.in_ok-resolve_access.field-0 c.access-item.result (drop (c.loop-access.access-index + 1) c.args.more.now) (drop c.loop-access.access-index c.args.more.now) (accesses_in (context_of c.args.text.now around c.args.scope.now (names_of c.args.names.now)) c.args.more.now) c.in_ok-push.ensures.items (next_item c.args.more.now c.loop-access.access-index c.access-item.result c.loop-access-test.true c.access-item.is) (c.in_ok-resolve_access.ensures.meaning around) (c.loop-access.invariant.0 around),
+  λ around. r.moved (trees.access (tables_of around c.args.scope.now)) (access_in (context_of c.args.text.now around c.args.scope.now c.args.names.now)) c.loop-access.all.items c.push.new.self.items c.in_ok-resolve_access.field-0 c.access-item.result (drop (c.loop-access.access-index + 1) c.args.more.now) (drop c.loop-access.access-index c.args.more.now) (accesses_in (context_of c.args.text.now around c.args.scope.now c.args.names.now) c.args.more.now) c.in_ok-push.ensures.items (next_item c.args.more.now c.loop-access.access-index c.access-item.result c.loop-access-test.true c.access-item.is) (c.in_ok-resolve_access.ensures.meaning around) (c.loop-access.invariant.0 around),
   λ more. w.more_taken 1 (dot_steps (calls c.args.scope.now more)) (access_weight (scene_of c.args.text.now c.args.scope.now)) c.loop-access.all.items c.push.new.self.items c.in_ok-resolve_access.field-0 c.access-item.result (drop (c.loop-access.access-index + 1) c.args.more.now) (drop c.loop-access.access-index c.args.more.now) (5 * sum (map (access_weight (scene_of c.args.text.now c.args.scope.now)) c.args.more.now)) c.in_ok-push.ensures.items (next_item c.args.more.now c.loop-access.access-index c.access-item.result c.loop-access-test.true c.access-item.is) (c.in_ok-resolve_access.ensures.steps more) (c.loop-access.invariant.1 more),
 )
 
 pub resolve_factors-loop-x-preserved : goal.resolve_factors-loop-x-preserved
 resolve_factors-loop-x-preserved t c = (
-  λ around. r.moved (λ (x : MulOp × TExpr). (x.0, trees.expr x.1 (tables_of around c.args.scope.now))) (λ (y : MulOp × Expr). (y.0, value (expression_of y.1) (context_of c.args.text.now around c.args.scope.now (names_of c.args.names.now)))) c.loop-x.all.items c.push.new.self.items (c.x-item.result.0, c.in_ok-operand.operand) c.x-item.result (drop (c.loop-x.x-index + 1) c.args.more.now) (drop c.loop-x.x-index c.args.more.now) (parts_in (context_of c.args.text.now around c.args.scope.now (names_of c.args.names.now)) c.args.more.now) c.in_ok-push.ensures.items (next_item c.args.more.now c.loop-x.x-index c.x-item.result c.loop-x-test.true c.x-item.is) (ap (λ (f : Run Val). (c.x-item.result.0, f)) (c.in_ok-operand.ensures.meaning around)) (c.loop-x.invariant.0 around),
+  λ around. r.moved (λ (x : MulOp × TExpr). (x.0, trees.expr x.1 (tables_of around c.args.scope.now))) (λ (y : MulOp × Expr). (y.0, value (expression_of y.1) (context_of c.args.text.now around c.args.scope.now c.args.names.now))) c.loop-x.all.items c.push.new.self.items (c.x-item.result.0, c.in_ok-operand.operand) c.x-item.result (drop (c.loop-x.x-index + 1) c.args.more.now) (drop c.loop-x.x-index c.args.more.now) (parts_in (context_of c.args.text.now around c.args.scope.now c.args.names.now) c.args.more.now) c.in_ok-push.ensures.items (next_item c.args.more.now c.loop-x.x-index c.x-item.result c.loop-x-test.true c.x-item.is) (ap (λ (f : Run Val). (c.x-item.result.0, f)) (c.in_ok-operand.ensures.meaning around)) (c.loop-x.invariant.0 around),
   λ more. w.more_taken 1 (λ (x : MulOp × TExpr). expr_steps (calls c.args.scope.now more) x.1) (λ (y : MulOp × Expr). 1 + weight (scene_of c.args.text.now c.args.scope.now) (expression_of y.1)) c.loop-x.all.items c.push.new.self.items (c.x-item.result.0, c.in_ok-operand.operand) c.x-item.result (drop (c.loop-x.x-index + 1) c.args.more.now) (drop c.loop-x.x-index c.args.more.now) (5 * sum (map (λ (y : MulOp × Expr). 1 + weight (scene_of c.args.text.now c.args.scope.now) (expression_of y.1)) c.args.more.now)) c.in_ok-push.ensures.items (next_item c.args.more.now c.loop-x.x-index c.x-item.result c.loop-x-test.true c.x-item.is) (omega (arith, c.in_ok-operand.ensures.steps more)) (c.loop-x.invariant.1 more),
 )
 
 pub resolve_terms-loop-x-preserved : goal.resolve_terms-loop-x-preserved
 resolve_terms-loop-x-preserved t c = (
-  λ around. r.moved (λ (x : AddOp × TExpr). (x.0, trees.expr x.1 (tables_of around c.args.scope.now))) (λ (y : AddOp × Expr). (y.0, value (expression_of y.1) (context_of c.args.text.now around c.args.scope.now (names_of c.args.names.now)))) c.loop-x.all.items c.push.new.self.items (c.x-item.result.0, c.in_ok-operand.operand) c.x-item.result (drop (c.loop-x.x-index + 1) c.args.more.now) (drop c.loop-x.x-index c.args.more.now) (parts_in (context_of c.args.text.now around c.args.scope.now (names_of c.args.names.now)) c.args.more.now) c.in_ok-push.ensures.items (next_item c.args.more.now c.loop-x.x-index c.x-item.result c.loop-x-test.true c.x-item.is) (ap (λ (f : Run Val). (c.x-item.result.0, f)) (c.in_ok-operand.ensures.meaning around)) (c.loop-x.invariant.0 around),
+  λ around. r.moved (λ (x : AddOp × TExpr). (x.0, trees.expr x.1 (tables_of around c.args.scope.now))) (λ (y : AddOp × Expr). (y.0, value (expression_of y.1) (context_of c.args.text.now around c.args.scope.now c.args.names.now))) c.loop-x.all.items c.push.new.self.items (c.x-item.result.0, c.in_ok-operand.operand) c.x-item.result (drop (c.loop-x.x-index + 1) c.args.more.now) (drop c.loop-x.x-index c.args.more.now) (parts_in (context_of c.args.text.now around c.args.scope.now c.args.names.now) c.args.more.now) c.in_ok-push.ensures.items (next_item c.args.more.now c.loop-x.x-index c.x-item.result c.loop-x-test.true c.x-item.is) (ap (λ (f : Run Val). (c.x-item.result.0, f)) (c.in_ok-operand.ensures.meaning around)) (c.loop-x.invariant.0 around),
   λ more. w.more_taken 1 (λ (x : AddOp × TExpr). expr_steps (calls c.args.scope.now more) x.1) (λ (y : AddOp × Expr). 1 + weight (scene_of c.args.text.now c.args.scope.now) (expression_of y.1)) c.loop-x.all.items c.push.new.self.items (c.x-item.result.0, c.in_ok-operand.operand) c.x-item.result (drop (c.loop-x.x-index + 1) c.args.more.now) (drop c.loop-x.x-index c.args.more.now) (5 * sum (map (λ (y : AddOp × Expr). 1 + weight (scene_of c.args.text.now c.args.scope.now) (expression_of y.1)) c.args.more.now)) c.in_ok-push.ensures.items (next_item c.args.more.now c.loop-x.x-index c.x-item.result c.loop-x-test.true c.x-item.is) (omega (arith, c.in_ok-operand.ensures.steps more)) (c.loop-x.invariant.1 more),
 )
 
 pub resolve_joints-loop-x-preserved : goal.resolve_joints-loop-x-preserved
 resolve_joints-loop-x-preserved t c = (
-  λ around. r.moved (λ (x : LogicalOp × TExpr). (x.0, trees.expr x.1 (tables_of around c.args.scope.now))) (λ (y : LogicalOp × Expr). (y.0, value (expression_of y.1) (context_of c.args.text.now around c.args.scope.now (names_of c.args.names.now)))) c.loop-x.all.items c.push.new.self.items (c.x-item.result.0, c.in_ok-operand.operand) c.x-item.result (drop (c.loop-x.x-index + 1) c.args.more.now) (drop c.loop-x.x-index c.args.more.now) (parts_in (context_of c.args.text.now around c.args.scope.now (names_of c.args.names.now)) c.args.more.now) c.in_ok-push.ensures.items (next_item c.args.more.now c.loop-x.x-index c.x-item.result c.loop-x-test.true c.x-item.is) (ap (λ (f : Run Val). (c.x-item.result.0, f)) (c.in_ok-operand.ensures.meaning around)) (c.loop-x.invariant.0 around),
+  λ around. r.moved (λ (x : LogicalOp × TExpr). (x.0, trees.expr x.1 (tables_of around c.args.scope.now))) (λ (y : LogicalOp × Expr). (y.0, value (expression_of y.1) (context_of c.args.text.now around c.args.scope.now c.args.names.now))) c.loop-x.all.items c.push.new.self.items (c.x-item.result.0, c.in_ok-operand.operand) c.x-item.result (drop (c.loop-x.x-index + 1) c.args.more.now) (drop c.loop-x.x-index c.args.more.now) (parts_in (context_of c.args.text.now around c.args.scope.now c.args.names.now) c.args.more.now) c.in_ok-push.ensures.items (next_item c.args.more.now c.loop-x.x-index c.x-item.result c.loop-x-test.true c.x-item.is) (ap (λ (f : Run Val). (c.x-item.result.0, f)) (c.in_ok-operand.ensures.meaning around)) (c.loop-x.invariant.0 around),
   λ more. w.more_taken 2 (λ (x : LogicalOp × TExpr). expr_steps (calls c.args.scope.now more) x.1) (λ (y : LogicalOp × Expr). 1 + weight (scene_of c.args.text.now c.args.scope.now) (expression_of y.1)) c.loop-x.all.items c.push.new.self.items (c.x-item.result.0, c.in_ok-operand.operand) c.x-item.result (drop (c.loop-x.x-index + 1) c.args.more.now) (drop c.loop-x.x-index c.args.more.now) (5 * sum (map (λ (y : LogicalOp × Expr). 1 + weight (scene_of c.args.text.now c.args.scope.now) (expression_of y.1)) c.args.more.now)) c.in_ok-push.ensures.items (next_item c.args.more.now c.loop-x.x-index c.x-item.result c.loop-x-test.true c.x-item.is) (omega (arith, c.in_ok-operand.ensures.steps more)) (c.loop-x.invariant.1 more),
 )
 
@@ -138,19 +138,19 @@ pub resolve_joints-resolve-requires : goal.resolve_joints-resolve-requires
 resolve_joints-resolve-requires t c = (omega (arith, k.item_below (λ (x : LogicalOp × Expr). k.cost x.1) c.args.more.now c.loop-x.x-index c.x-item.result c.loop-x-test.true c.x-item.is), tt)
 
 pub resolve_all-returns-clause-meaning : goal.resolve_all-returns-clause-meaning
-resolve_all-returns-clause-meaning t c = λ around. r.finished (trees.exprs (tables_of around c.args.scope.now) c.loop-e.all.items) (λ (y : Expr). value (expression_of y) (context_of c.args.text.now around c.args.scope.now (names_of c.args.names.now))) c.args.given.now c.loop-e.e-index (values_in (context_of c.args.text.now around c.args.scope.now (names_of c.args.names.now)) c.args.given.now) c.loop-e-test.false (c.loop-e.invariant.0 around)
+resolve_all-returns-clause-meaning t c = λ around. r.finished (trees.exprs (tables_of around c.args.scope.now) c.loop-e.all.items) (λ (y : Expr). value (expression_of y) (context_of c.args.text.now around c.args.scope.now c.args.names.now)) c.args.given.now c.loop-e.e-index (values_in (context_of c.args.text.now around c.args.scope.now c.args.names.now) c.args.given.now) c.loop-e-test.false (c.loop-e.invariant.0 around)
 
 pub resolve_accesses-returns-clause-meaning : goal.resolve_accesses-returns-clause-meaning
-resolve_accesses-returns-clause-meaning t c = λ around. r.finished (trees.accesses_of (tables_of around c.args.scope.now) c.loop-access.all.items) (access_in (context_of c.args.text.now around c.args.scope.now (names_of c.args.names.now))) c.args.more.now c.loop-access.access-index (accesses_in (context_of c.args.text.now around c.args.scope.now (names_of c.args.names.now)) c.args.more.now) c.loop-access-test.false (c.loop-access.invariant.0 around)
+resolve_accesses-returns-clause-meaning t c = λ around. r.finished (trees.accesses_of (tables_of around c.args.scope.now) c.loop-access.all.items) (access_in (context_of c.args.text.now around c.args.scope.now c.args.names.now)) c.args.more.now c.loop-access.access-index (accesses_in (context_of c.args.text.now around c.args.scope.now c.args.names.now) c.args.more.now) c.loop-access-test.false (c.loop-access.invariant.0 around)
 
 pub resolve_factors-returns-clause-meaning : goal.resolve_factors-returns-clause-meaning
-resolve_factors-returns-clause-meaning t c = λ around. r.finished (trees.parts (tables_of around c.args.scope.now) c.loop-x.all.items) (λ (y : MulOp × Expr). (y.0, value (expression_of y.1) (context_of c.args.text.now around c.args.scope.now (names_of c.args.names.now)))) c.args.more.now c.loop-x.x-index (parts_in (context_of c.args.text.now around c.args.scope.now (names_of c.args.names.now)) c.args.more.now) c.loop-x-test.false (c.loop-x.invariant.0 around)
+resolve_factors-returns-clause-meaning t c = λ around. r.finished (trees.parts (tables_of around c.args.scope.now) c.loop-x.all.items) (λ (y : MulOp × Expr). (y.0, value (expression_of y.1) (context_of c.args.text.now around c.args.scope.now c.args.names.now))) c.args.more.now c.loop-x.x-index (parts_in (context_of c.args.text.now around c.args.scope.now c.args.names.now) c.args.more.now) c.loop-x-test.false (c.loop-x.invariant.0 around)
 
 pub resolve_terms-returns-clause-meaning : goal.resolve_terms-returns-clause-meaning
-resolve_terms-returns-clause-meaning t c = λ around. r.finished (trees.parts (tables_of around c.args.scope.now) c.loop-x.all.items) (λ (y : AddOp × Expr). (y.0, value (expression_of y.1) (context_of c.args.text.now around c.args.scope.now (names_of c.args.names.now)))) c.args.more.now c.loop-x.x-index (parts_in (context_of c.args.text.now around c.args.scope.now (names_of c.args.names.now)) c.args.more.now) c.loop-x-test.false (c.loop-x.invariant.0 around)
+resolve_terms-returns-clause-meaning t c = λ around. r.finished (trees.parts (tables_of around c.args.scope.now) c.loop-x.all.items) (λ (y : AddOp × Expr). (y.0, value (expression_of y.1) (context_of c.args.text.now around c.args.scope.now c.args.names.now))) c.args.more.now c.loop-x.x-index (parts_in (context_of c.args.text.now around c.args.scope.now c.args.names.now) c.args.more.now) c.loop-x-test.false (c.loop-x.invariant.0 around)
 
 pub resolve_joints-returns-clause-meaning : goal.resolve_joints-returns-clause-meaning
-resolve_joints-returns-clause-meaning t c = λ around. r.finished (trees.parts (tables_of around c.args.scope.now) c.loop-x.all.items) (λ (y : LogicalOp × Expr). (y.0, value (expression_of y.1) (context_of c.args.text.now around c.args.scope.now (names_of c.args.names.now)))) c.args.more.now c.loop-x.x-index (parts_in (context_of c.args.text.now around c.args.scope.now (names_of c.args.names.now)) c.args.more.now) c.loop-x-test.false (c.loop-x.invariant.0 around)
+resolve_joints-returns-clause-meaning t c = λ around. r.finished (trees.parts (tables_of around c.args.scope.now) c.loop-x.all.items) (λ (y : LogicalOp × Expr). (y.0, value (expression_of y.1) (context_of c.args.text.now around c.args.scope.now c.args.names.now))) c.args.more.now c.loop-x.x-index (parts_in (context_of c.args.text.now around c.args.scope.now c.args.names.now) c.args.more.now) c.loop-x-test.false (c.loop-x.invariant.0 around)
 
 pub pair-returns-clause-steps : goal.pair-returns-clause-steps
 pair-returns-clause-steps t c = λ more. omega (arith, s.steps-Pair (calls c.args.scope.now more) c.in_ok-a.a c.in_ok-b.b, c.in_ok-a.ensures.steps more, c.in_ok-b.ensures.steps more)

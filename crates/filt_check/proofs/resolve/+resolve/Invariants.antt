@@ -6,7 +6,7 @@ use Rattle.filt_meaning.specs.Trees as trees
 use Rattle.filt_meaning.specs.declared.scope.TFunction.{TFunction}
 use Rattle.filt_meaning.specs.Steps.{expr_steps, sum_over}
 use Rattle.filt_types.specs.Seen.{scene_of}
-use Rattle.filt_check.specs.Seen.{names_of, accesses_in, values_in, parts_in}
+use Rattle.filt_check.specs.Seen.{accesses_in, values_in, parts_in}
 use Rattle.filt_check.specs.Steps.{calls, dots_steps, dots_weight, given_weight, parts_steps, parts_weight}
 use Rattle.filt_check.proofs.resolve.+resolve.Given as goal
 
@@ -57,25 +57,25 @@ decreases-resolve_joints l = k.operands_cost l.more.now
 
 abbrev pub invariant-resolve_all-loop-e : goal.invariant-resolve_all-loop-e
 invariant-resolve_all-loop-e l =
-    ((around : Around) → trees.exprs (tables_of around l.scope) l.all.items ++ values_in (context_of l.text around l.scope (names_of l.names)) (drop l.e-index l.given) ≡ values_in (context_of l.text around l.scope (names_of l.names)) l.given)
+    ((around : Around) → trees.exprs (tables_of around l.scope) l.all.items ++ values_in (context_of l.text around l.scope l.names) (drop l.e-index l.given) ≡ values_in (context_of l.text around l.scope l.names) l.given)
     × ((more : List TFunction) → sum_over 1 (map (expr_steps (calls l.scope more)) l.all.items) + 5 * given_weight (scene_of l.text l.scope) (drop l.e-index l.given) ≤ 5 * given_weight (scene_of l.text l.scope) l.given)
 
 abbrev pub invariant-resolve_accesses-loop-access : goal.invariant-resolve_accesses-loop-access
 invariant-resolve_accesses-loop-access l =
-    ((around : Around) → trees.accesses_of (tables_of around l.scope) l.all.items ++ accesses_in (context_of l.text around l.scope (names_of l.names)) (drop l.access-index l.more) ≡ accesses_in (context_of l.text around l.scope (names_of l.names)) l.more)
+    ((around : Around) → trees.accesses_of (tables_of around l.scope) l.all.items ++ accesses_in (context_of l.text around l.scope l.names) (drop l.access-index l.more) ≡ accesses_in (context_of l.text around l.scope l.names) l.more)
     × ((more : List TFunction) → dots_steps (calls l.scope more) l.all.items + 5 * dots_weight (scene_of l.text l.scope) (drop l.access-index l.more) ≤ 5 * dots_weight (scene_of l.text l.scope) l.more)
 
 abbrev pub invariant-resolve_factors-loop-x : goal.invariant-resolve_factors-loop-x
 invariant-resolve_factors-loop-x l =
-    ((around : Around) → trees.parts (tables_of around l.scope) l.all.items ++ parts_in (context_of l.text around l.scope (names_of l.names)) (drop l.x-index l.more) ≡ parts_in (context_of l.text around l.scope (names_of l.names)) l.more)
+    ((around : Around) → trees.parts (tables_of around l.scope) l.all.items ++ parts_in (context_of l.text around l.scope l.names) (drop l.x-index l.more) ≡ parts_in (context_of l.text around l.scope l.names) l.more)
     × ((more : List TFunction) → parts_steps 1 (calls l.scope more) l.all.items + 5 * parts_weight (scene_of l.text l.scope) (drop l.x-index l.more) ≤ 5 * parts_weight (scene_of l.text l.scope) l.more)
 
 abbrev pub invariant-resolve_terms-loop-x : goal.invariant-resolve_terms-loop-x
 invariant-resolve_terms-loop-x l =
-    ((around : Around) → trees.parts (tables_of around l.scope) l.all.items ++ parts_in (context_of l.text around l.scope (names_of l.names)) (drop l.x-index l.more) ≡ parts_in (context_of l.text around l.scope (names_of l.names)) l.more)
+    ((around : Around) → trees.parts (tables_of around l.scope) l.all.items ++ parts_in (context_of l.text around l.scope l.names) (drop l.x-index l.more) ≡ parts_in (context_of l.text around l.scope l.names) l.more)
     × ((more : List TFunction) → parts_steps 1 (calls l.scope more) l.all.items + 5 * parts_weight (scene_of l.text l.scope) (drop l.x-index l.more) ≤ 5 * parts_weight (scene_of l.text l.scope) l.more)
 
 abbrev pub invariant-resolve_joints-loop-x : goal.invariant-resolve_joints-loop-x
 invariant-resolve_joints-loop-x l =
-    ((around : Around) → trees.parts (tables_of around l.scope) l.all.items ++ parts_in (context_of l.text around l.scope (names_of l.names)) (drop l.x-index l.more) ≡ parts_in (context_of l.text around l.scope (names_of l.names)) l.more)
+    ((around : Around) → trees.parts (tables_of around l.scope) l.all.items ++ parts_in (context_of l.text around l.scope l.names) (drop l.x-index l.more) ≡ parts_in (context_of l.text around l.scope l.names) l.more)
     × ((more : List TFunction) → parts_steps 2 (calls l.scope more) l.all.items + 5 * parts_weight (scene_of l.text l.scope) (drop l.x-index l.more) ≤ 5 * parts_weight (scene_of l.text l.scope) l.more)

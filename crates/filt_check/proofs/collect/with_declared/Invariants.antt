@@ -1,6 +1,0 @@
-use Rattle.std.proofs.Common.{◌≡◌, ◌++◌, map, drop}
-use Rattle.filt_check.specs.Seen.{names_of, name_of}
-use Rattle.filt_check.proofs.collect.with_declared.Given as goal
-
-abbrev pub invariant-loop-variable : goal.invariant-loop-variable
-invariant-loop-variable l = names_of l.all.items ++ map name_of (drop l.variable-index l.declared) ≡ names_of l.names ++ map name_of l.declared
