@@ -1,16 +1,18 @@
 -- The policies of a configuration in which nothing is refused are safe, if its filters are.
-use Rattle.std.proofs.Common.{◌≡◌, ℕ, ◌<◌, inl, inr, List, [], ◌∷◌, ◌++◌, flat_map, map, Option, Some, None, IfSome, slice_get, Contains, length, refl, ap, sym, ◌∙◌, subst, append_assoc}
+use Rattle.std.proofs.Common.{◌≡◌, ℕ, ◌<◌, inl, inr, List, [], ◌∷◌, ◌++◌, flat_map, fold, map, Option, Some, None, IfSome, slice_get, Contains, length, refl, ap, sym, ◌∙◌, subst, append_assoc}
 use Rattle.conf_ast.specs.declared.named.Name.{Name}
 use Rattle.conf_ast.specs.Configurations as conf
 use Rattle.conf_ast.specs.Configurations.{Passing, PassAll, PassNone, PassByFilter, PassByBlock, PassWhere, ChannelSetting, ChannelTable, ChannelImport, ChannelExport, ChannelPreference, ChannelLimit, ChannelNextHop, FamilyChannel, StaticSetting, StaticChannel, StaticRoute, BgpSetting, BgpChannel, BgpLocal, BgpNeighbor, BgpMedMetric, BgpInterpretCommunities, BgpDefaultMed, BgpDefaultLocalPref, BgpTransport, PipeSetting, PipeTable, PipePeerTable, PipeImport, PipeExport}
 use Rattle.conf_ast.specs.Filters.{Statements}
 use Rattle.filt_meaning.specs.Configuration.{filter_where}
-use Rattle.conf_rules.specs.Channels.{channel, passing, setting, settings, settings_of}
+use Rattle.conf_options.specs.Defaults.{export_or, import_or}
+use Rattle.conf_options.specs.Options.{ChannelOptions, PipeOptions, no_channel_options, no_pipe_options, pipe_options, with_channel_option, with_pipe_option}
+use Rattle.conf_rules.specs.Channels.{channel, options_of, passing, setting, settings, settings_of}
 use Rattle.conf_names.specs.Known.{Known}
-use Rattle.conf_rules.specs.Protocols.{bgp_channels, bgp_setting, bgp_settings, last_peer, pipe_setting, pipe_settings, static_channels, static_routes, static_settings}
+use Rattle.conf_rules.specs.Protocols.{bgp_channels, bgp_setting, bgp_settings, pipe_setting, pipe_settings, static_channels, static_routes, static_settings}
 use Rattle.conf_rules.specs.Statements.{refusals}
 use Rattle.conf_check.specs.Behind.{at_start, behind}
-use Rattle.conf_check.specs.Checked.{Source, filter_number, filter_sources, last_export, last_import, last_pipe_export, last_pipe_import, protocol_name, route_of}
+use Rattle.conf_check.specs.Checked.{Source, filter_number, filter_sources, protocol_name, route_of}
 use Rattle.conf_check.specs.declared.checked.StaticRoute.{StaticRoute as Made}
 use Rattle.conf_check.proofs.Allowed.{nil_left, nil_right}
 use Rattle.conf_system.specs.Policies.{Filter, by_source, says}
@@ -27,62 +29,65 @@ use Rattle.accepted_laws.proofs.Numbers.{at_number, number_less}
 module _ (known : Known) (W : Statements → Type 0) (said : Passing → Filter)
     (Is : Filter → Type 0)
     (each : (p : Passing) → passing known p ≡ [] → Every W (in_policy p) → Is (said p)) where
+  -- what is said of imports and of exports, or what counts where nothing is
+  abbrev AreSaidBoth : (import export : Option Passing) → Type 0
+  AreSaidBoth import export = Is (said (import_or import)) × Is (said (export_or export))
+
   channel_next : (s : ChannelSetting) (more : List ChannelSetting) → setting known s ≡ []
       → Every W (in_channel_setting s)
-      → ((i x : Passing) → Is (said i) → Is (said x)
-      → Is (said (last_import i more)) × Is (said (last_export x more)))
-      → (i x : Passing) → Is (said i) → Is (said x)
-      → Is (said (last_import i (s ∷ more))) × Is (said (last_export x (s ∷ more)))
-  channel_next (ChannelTable name) more e w next i x p q = next i x p q
-  channel_next (ChannelImport r) more e w next i x p q = next r x (each r e w) q
-  channel_next (ChannelExport r) more e w next i x p q = next i r p (each r e w)
-  channel_next (ChannelPreference at n) more e w next i x p q = next i x p q
-  channel_next (ChannelLimit l) more e w next i x p q = next i x p q
-  channel_next (ChannelNextHop hop) more e w next i x p q = next i x p q
+      → ((o : ChannelOptions) → AreSaidBoth o.import o.export
+      → AreSaidBoth (fold with_channel_option o more).import (fold with_channel_option o more).export)
+      → (o : ChannelOptions) → AreSaidBoth o.import o.export
+      → AreSaidBoth (fold with_channel_option o (s ∷ more)).import
+      (fold with_channel_option o (s ∷ more)).export
+  channel_next (ChannelTable name) more e w next o p = next (with_channel_option o (ChannelTable name)) p
+  channel_next (ChannelImport r) more e w next o p = next (with_channel_option o (ChannelImport r)) (each r e w, p.1)
+  channel_next (ChannelExport r) more e w next o p = next (with_channel_option o (ChannelExport r)) (p.0, each r e w)
+  channel_next (ChannelPreference at n) more e w next o p = next (with_channel_option o (ChannelPreference at n)) p
+  channel_next (ChannelLimit l) more e w next o p = next (with_channel_option o (ChannelLimit l)) p
+  channel_next (ChannelNextHop hop) more e w next o p = next (with_channel_option o (ChannelNextHop hop)) p
 
   channel_all : (all : List ChannelSetting) → settings known all ≡ []
-      → Every W (flat_map in_channel_setting all)
-      → (i x : Passing) → Is (said i) → Is (said x)
-      → Is (said (last_import i all)) × Is (said (last_export x all))
-  channel_all [] e w i x p q = (p, q)
-  channel_all (s ∷ more) e w i x p q =
+      → Every W (flat_map in_channel_setting all) → (o : ChannelOptions) → AreSaidBoth o.import o.export
+      → AreSaidBoth (fold with_channel_option o all).import (fold with_channel_option o all).export
+  channel_all [] e w o p = p
+  channel_all (s ∷ more) e w o p =
       channel_next s more (nil_left (setting known s) (settings known more) e)
       (left W (in_channel_setting s) (flat_map in_channel_setting more) w)
       (channel_all more (nil_right (setting known s) (settings known more) e)
-      (right W (in_channel_setting s) (flat_map in_channel_setting more) w)) i x p q
+      (right W (in_channel_setting s) (flat_map in_channel_setting more) w)) o p
 
   pipe_next : (s : PipeSetting) (more : List PipeSetting) → pipe_setting known s ≡ []
       → Every W (in_pipe_setting s)
-      → ((i x : Passing) → Is (said i) → Is (said x)
-      → Is (said (last_pipe_import i more)) × Is (said (last_pipe_export x more)))
-      → (i x : Passing) → Is (said i) → Is (said x)
-      → Is (said (last_pipe_import i (s ∷ more))) × Is (said (last_pipe_export x (s ∷ more)))
-  pipe_next (PipeTable name) more e w next i x p q = next i x p q
-  pipe_next (PipePeerTable name) more e w next i x p q = next i x p q
-  pipe_next (PipeImport r) more e w next i x p q = next r x (each r e w) q
-  pipe_next (PipeExport r) more e w next i x p q = next i r p (each r e w)
+      → ((o : PipeOptions) → AreSaidBoth o.import o.export
+      → AreSaidBoth (fold with_pipe_option o more).import (fold with_pipe_option o more).export)
+      → (o : PipeOptions) → AreSaidBoth o.import o.export
+      → AreSaidBoth (fold with_pipe_option o (s ∷ more)).import
+      (fold with_pipe_option o (s ∷ more)).export
+  pipe_next (PipeTable name) more e w next o p = next (with_pipe_option o (PipeTable name)) p
+  pipe_next (PipePeerTable name) more e w next o p = next (with_pipe_option o (PipePeerTable name)) p
+  pipe_next (PipeImport r) more e w next o p = next (with_pipe_option o (PipeImport r)) (each r e w, p.1)
+  pipe_next (PipeExport r) more e w next o p = next (with_pipe_option o (PipeExport r)) (p.0, each r e w)
 
   pipe_all : (all : List PipeSetting) → pipe_settings known all ≡ []
-      → Every W (flat_map in_pipe_setting all)
-      → (i x : Passing) → Is (said i) → Is (said x)
-      → Is (said (last_pipe_import i all)) × Is (said (last_pipe_export x all))
-  pipe_all [] e w i x p q = (p, q)
-  pipe_all (s ∷ more) e w i x p q =
+      → Every W (flat_map in_pipe_setting all) → (o : PipeOptions) → AreSaidBoth o.import o.export
+      → AreSaidBoth (fold with_pipe_option o all).import (fold with_pipe_option o all).export
+  pipe_all [] e w o p = p
+  pipe_all (s ∷ more) e w o p =
       pipe_next s more (nil_left (pipe_setting known s) (pipe_settings known more) e)
       (left W (in_pipe_setting s) (flat_map in_pipe_setting more) w)
       (pipe_all more (nil_right (pipe_setting known s) (pipe_settings known more) e)
-      (right W (in_pipe_setting s) (flat_map in_pipe_setting more) w)) i x p q
+      (right W (in_pipe_setting s) (flat_map in_pipe_setting more) w)) o p
 
   -- ---- channels
 
   abbrev AreSaid : FamilyChannel → Type 0
-  AreSaid c = Is (said (last_import PassAll (settings_of c)))
-      × Is (said (last_export PassNone (settings_of c)))
+  AreSaid c = AreSaidBoth (options_of c).import (options_of c).export
 
   channel_said : (c : FamilyChannel) → channel known c ≡ [] → Every W (in_channel c) → AreSaid c
   channel_said c e w =
-      channel_all (settings_of c) (nil_left (settings known (settings_of c)) _ e) w PassAll PassNone
-      (each PassAll refl tt) (each PassNone refl tt)
+      channel_all (settings_of c) (nil_left (settings known (settings_of c)) _ e) w no_channel_options
+      (each PassAll refl tt, each PassNone refl tt)
 
   static_said : (all : List StaticSetting) → static_settings known all ≡ []
       → Every W (flat_map in_static_setting all) → Every AreSaid (static_channels all)
@@ -136,7 +141,7 @@ module _ (known : Known) (W : Statements → Type 0) (said : Passing → Filter)
   bgp_body (c ∷ d ∷ cs) all h = tt
 
   pipe_body : (peer : Option Name) (all : List PipeSetting)
-      → Is (said (last_pipe_import PassAll all)) × Is (said (last_pipe_export PassNone all))
+      → AreSaidBoth (pipe_options all).import (pipe_options all).export
       → IsSaidBody (pipe_with said known peer all)
   pipe_body None all h = tt
   pipe_body (Some peer) all h = h
@@ -150,9 +155,9 @@ module _ (known : Known) (W : Statements → Type 0) (said : Passing → Filter)
       bgp_body (bgp_channels p.settings) p.settings
       (bgp_said p.settings (nil_right _ _ (nil_left _ _ (nil_left _ _ e))) w)
   body_said (conf.Pipe p) e w =
-      pipe_body (last_peer None p.settings) p.settings
-      (pipe_all p.settings (nil_right _ _ (nil_left _ _ (nil_left _ _ (nil_left _ _ e)))) w PassAll PassNone
-      (each PassAll refl tt) (each PassNone refl tt))
+      pipe_body (pipe_options p.settings).peer p.settings
+      (pipe_all p.settings (nil_right _ _ (nil_left _ _ (nil_left _ _ (nil_left _ _ e)))) w no_pipe_options
+      (each PassAll refl tt, each PassNone refl tt))
   body_said (conf.RouterId a) e w = tt
   body_said conf.Log e w = tt
   body_said (conf.Define name v) e w = tt

@@ -19,6 +19,7 @@ use Rattle.filt_types.specs.Statements.{in_function}
 use Rattle.filt_types.specs.Weight.{block_weight}
 use Rattle.filt_check.proofs.Light.{not_heavy}
 use Rattle.conf_names.specs.declared.refusal.Refusal.{Refusal}
+use Rattle.conf_options.specs.Options.{pipe_options}
 use Rattle.conf_rules.specs.Channels.{one_channel}
 use Rattle.conf_names.specs.Constants.{value}
 use Rattle.conf_names.specs.Known as of
@@ -143,8 +144,8 @@ lacks_none : (at : ℕ) (o : Option Name) → p.lacks at o ≡ [] → is_none o 
 lacks_none at None h = absurd (omega (arith, ap (λ (l : List Refusal). length l) h))
 lacks_none at (Some n) h = refl
 
-pub pipe_has_peer : (known : Known) (x : Instance PipeSetting) → rules.refusals known (conf.Pipe x) ≡ [] → HasPeer (p.last_peer None x.settings)
-pipe_has_peer known x h = lacks_none (of_names.place_of x.at x.name) (p.last_peer None x.settings) (nil_right _ _ (nil_left _ _ (nil_left _ _ h)))
+pub pipe_has_peer : (known : Known) (x : Instance PipeSetting) → rules.refusals known (conf.Pipe x) ≡ [] → HasPeer (pipe_options x.settings).peer
+pipe_has_peer known x h = lacks_none (of_names.place_of x.at x.name) (pipe_options x.settings).peer (nil_right _ _ (nil_left _ _ (nil_left _ _ h)))
 
 -- ---- names and numbers of protocols
 

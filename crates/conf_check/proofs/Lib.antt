@@ -2,5 +2,6 @@ pub mod Allowed
 pub mod ConstantValues
 pub mod Growing
 pub mod Names
+mod Options
 pub mod Settings
 pub mod Standing

@@ -1,5 +1,5 @@
 -- What has been made of statements, and of one more.
-use Rattle.std.proofs.Common.{◌≡◌, ℕ, ◌+◌, ◌*◌, ◌<◌, ◌≤◌, All, Bool, true, false, List, [], ◌∷◌, ◌++◌, length, map, take, get_or, Option, None, Result, Ok, Err, refl, sym, ap, subst, ◌∙◌, arith, append_assoc, append-nil, length-append}
+use Rattle.std.proofs.Common.{◌≡◌, ℕ, ◌+◌, ◌<◌, ◌≤◌, All, Bool, true, false, List, [], ◌∷◌, ◌++◌, length, map, take, get_or, Option, None, Result, Ok, Err, refl, sym, ap, subst, ◌∙◌, arith, append_assoc, append-nil, length-append}
 use Rattle.std.proofs.lemmas.List.{map-append, take-append-le, take_more}
 use Rattle.std.proofs.lemmas.List.Elements.{All-take}
 use Rattle.std.proofs.lemmas.Option.{same_Some}
@@ -25,7 +25,9 @@ use Rattle.filt_types.specs.Weight.{block_weight}
 use Rattle.filt_meaning.specs.declared.fixed.Fixed.{Fixed}
 use Rattle.filt_check.proofs.Growing.{filter_stays, nothing_declared}
 use Rattle.conf_names.specs.declared.refusal.Refusal.{Refusal}
-use Rattle.conf_rules.specs.Channels.{settings_of}
+use Rattle.conf_options.specs.Defaults.{bgp_preference, export_or, import_or, static_preference}
+use Rattle.conf_options.specs.Options.{pipe_options}
+use Rattle.conf_rules.specs.Channels.{options_of}
 use Rattle.conf_names.specs.Known.{Known}
 use Rattle.conf_rules.specs.Protocols.{bgp_channels, static_channels}
 use Rattle.conf_names.specs.Refusals.{first_in}
@@ -42,7 +44,7 @@ use Rattle.conf_check.specs.declared.checked.ProtocolBody.TheVariants as bodies
 use Rattle.conf_check.specs.declared.checked.ProtocolDef.{ProtocolDef}
 use Rattle.conf_check.specs.declared.checked.StaticDef.{StaticDef}
 use Rattle.conf_check.specs.Behind.{at_start, behind, behind_one}
-use Rattle.conf_check.specs.Checked.{AreLight, AreProtocols, DoEach, Does, IsBgp, IsBody, IsChannel, IsChecked, IsOnly, IsPipe, IsPolicy, IsProtocol, IsStatic, NextProtocol, SeesAs, Source, bgp_preference, filter_source, filter_sources, is_protocol, last_export, last_import, last_pipe_export, last_pipe_import, static_preference}
+use Rattle.conf_check.specs.Checked.{AreLight, AreProtocols, DoEach, Does, IsBgp, IsBody, IsChannel, IsChecked, IsOnly, IsPipe, IsPolicy, IsProtocol, IsStatic, NextProtocol, SeesAs, Source, filter_source, filter_sources, is_protocol}
 use Rattle.conf_check.specs.Refused.{IsFault, or_later, refusal_of}
 use Rattle.conf_check.specs.Seen.{Adds, AddsFilter, AddsOne, AddsProtocol, AreWithin, Grows, Lasts, Means, Stands}
 
@@ -76,8 +78,8 @@ channel_map : (known : Known) (does other : Reads) → Weaker does other → (n 
 channel_map known does other m n c def h = record {
   family = h.family;
   table = h.table;
-  imports = policy_map known does other m (last_import PassAll (settings_of c)) def.import h.imports;
-  exports = policy_map known does other m (last_export PassNone (settings_of c)) def.export h.exports;
+  imports = policy_map known does other m (import_or (options_of c).import) def.import h.imports;
+  exports = policy_map known does other m (export_or (options_of c).export) def.export h.exports;
   preferred = h.preferred;
   limited = h.limited;
 }
@@ -108,8 +110,8 @@ pipe_map : (known : Known) (does other : Reads) → Weaker does other → (p : I
 pipe_map known does other m p def h = record {
   table = h.table;
   peer = h.peer;
-  imports = policy_map known does other m (last_pipe_import PassAll p.settings) def.import h.imports;
-  exports = policy_map known does other m (last_pipe_export PassNone p.settings) def.export h.exports;
+  imports = policy_map known does other m (import_or (pipe_options p.settings).import) def.import h.imports;
+  exports = policy_map known does other m (export_or (pipe_options p.settings).export) def.export h.exports;
 }
 
 body_map : (known : Known) (does other : Reads) → Weaker does other → (d : conf.Declaration) (b : ProtocolBody) → IsBody known does d b → IsBody known other d b

@@ -2,25 +2,22 @@
 -- (`Does`), its protocols with each option or its default, by the options that count: policies,
 -- channels (`IsChannel`), static protocols, BGP, pipes (`IsStatic`, `IsBgp`, `IsPipe`).
 -- From: BIRD User's Guide, "Channel options", "BGP", "Static", "Pipe"; some defaults are own.
--- Example: where nothing is written: `import all`, `export none`, `master4` or `master6`,
--- preference 200 and 100, limits that disable, MED 0, local preference 100.
+-- Example: a channel `ipv4;` of a static protocol is one of master4, with all imported, nothing
+-- exported and the preference 200.
 use Rattle.std.specs.Prelude.{◌≡◌, ◌≤◌, ◌*◌, ℕ, Bool, true, false, All, List, [], ◌∷◌, ◌++◌, length, map, Option, Some, None, ⊤}
 use Rattle.attrs.specs.declared.attributes.Attrs.{Attrs}
-use Rattle.bits_ip.specs.declared.address.Addr.{Addr}
-use Rattle.bits_ip.specs.declared.address.Addr.TheVariants as addrs
 use Rattle.bits_ip.specs.declared.address.Family.{Family}
 use Rattle.bits_ip.specs.declared.address.Family.TheVariants as families
+use Rattle.conf_ast.specs.declared.filters.Num.{Num}
 use Rattle.conf_ast.specs.declared.named.Name.{Name}
 use Rattle.conf_ast.specs.Names.{name_bytes}
-use Rattle.conf_ast.specs.declared.configurations.Action.{Action}
-use Rattle.conf_ast.specs.declared.configurations.Action.TheVariants as actions
 use Rattle.conf_ast.specs.declared.configurations.Limit.{Limit}
 use Rattle.conf_ast.specs.declared.configurations.Limit.TheVariants as limits
 use Rattle.conf_ast.specs.declared.configurations.Route.{Route}
 use Rattle.conf_ast.specs.declared.configurations.RouteTarget.{RouteTarget}
 use Rattle.conf_ast.specs.declared.configurations.RouteTarget.TheVariants as targets
 use Rattle.conf_ast.specs.Configurations as conf
-use Rattle.conf_ast.specs.Configurations.{Passing, PassAll, PassNone, PassByFilter, PassByBlock, PassWhere, ChannelSetting, ChannelTable, ChannelImport, ChannelExport, ChannelPreference, ChannelLimit, ChannelNextHop, FamilyChannel, StaticSetting, BgpSetting, BgpChannel, BgpLocal, BgpNeighbor, BgpMedMetric, BgpInterpretCommunities, BgpDefaultMed, BgpDefaultLocalPref, BgpTransport, PipeSetting, PipeTable, PipePeerTable, PipeImport, PipeExport, Instance}
+use Rattle.conf_ast.specs.Configurations.{Passing, PassAll, PassNone, PassByFilter, PassByBlock, PassWhere, FamilyChannel, StaticSetting, BgpSetting, PipeSetting, Instance}
 use Rattle.conf_ast.specs.Filters.{Statements}
 use Rattle.filt_meaning.specs.Configuration as meaning
 use Rattle.filt_meaning.specs.Configuration.{filter_where}
@@ -32,10 +29,12 @@ use Rattle.filt_meaning.specs.Scopes.{constant_values, context_of, function_tree
 use Rattle.filt_meaning.specs.Steps.{IsLight, filter_steps}
 use Rattle.filt_meaning.specs.Trees.{AreBefore, tree_flow}
 use Rattle.filt_types.specs.Weight.{block_weight}
-use Rattle.conf_rules.specs.Channels.{last_table, settings_of}
+use Rattle.conf_options.specs.Defaults as defaults
+use Rattle.conf_options.specs.Defaults.{action_or, address_or, bgp_preference, export_or, import_or, interprets, limit_or, static_preference}
+use Rattle.conf_options.specs.Options.{bgp_options, pipe_options}
+use Rattle.conf_rules.specs.Channels.{options_of}
 use Rattle.conf_names.specs.Known.{Known, number_of, place_in, table_number, table_of}
-use Rattle.conf_rules.specs.Protocols as rules
-use Rattle.conf_rules.specs.Protocols.{as_number, bgp_channels, is_on, last_local, primary_name, static_channels, static_routes}
+use Rattle.conf_rules.specs.Protocols.{as_number, bgp_channels, primary_name, static_channels, static_routes}
 use Rattle.conf_names.specs.Names.{bgp_stem, own_name, pipe_stem, static_stem}
 use Rattle.conf_rules.specs.Statements.{master}
 use Rattle.conf_names.specs.Seen.{known_of}
@@ -65,6 +64,11 @@ filter_number known n = place_in known.filters (name_bytes known.scene.text n)
 abbrev pub or_zero : Option ℕ → ℕ
 or_zero None = 0
 or_zero (Some n) = n
+
+-- a number that is written and known, else that one
+abbrev pub number_or : Known → (default : ℕ) → Option Num → ℕ
+number_or known default None = default
+number_or known default (Some n) = or_zero (number_of known n)
 
 -- a family that is known, else that of IPv4; in what is accepted it is known
 abbrev pub or_v4 : Option Family → Family
@@ -121,37 +125,10 @@ IsPolicy known does _ _ = ⊥
 
 -- ---- channels
 
--- Of options written twice the last counts.
-abbrev pub last_import : Passing → List ChannelSetting → Passing
-last_import found [] = found
-last_import found (ChannelImport p ∷ more) = last_import p more
-last_import found (s ∷ more) = last_import found more
-
-abbrev pub last_export : Passing → List ChannelSetting → Passing
-last_export found [] = found
-last_export found (ChannelExport p ∷ more) = last_export p more
-last_export found (s ∷ more) = last_export found more
-
-abbrev pub last_preference : Known → ℕ → List ChannelSetting → ℕ
-last_preference known found [] = found
-last_preference known found (ChannelPreference at n ∷ more) =
-    last_preference known (or_zero (number_of known n)) more
-last_preference known found (s ∷ more) = last_preference known found more
-
-abbrev pub last_limit : Limit → List ChannelSetting → Limit
-last_limit found [] = found
-last_limit found (ChannelLimit l ∷ more) = last_limit l more
-last_limit found (s ∷ more) = last_limit found more
-
--- At a limit without an action the protocol is disabled.
-abbrev pub action_of : Option Action → Action
-action_of None = actions.Disable
-action_of (Some action) = action
-
 abbrev pub limit_of : Known → Limit → Option ImportLimit
 limit_of known limits.Off = None
 limit_of known (limits.Count n action) =
-    Some (record { count = or_zero (number_of known n); action = action_of action })
+    Some (record { count = or_zero (number_of known n); action = action_or action })
 
 -- The table is that of the family where none is named.
 abbrev pub table_name : List ℕ → Family → Option Name → List ℕ
@@ -160,18 +137,17 @@ table_name text family (Some n) = name_bytes text n
 
 abbrev pub channel_table : Known → FamilyChannel → ℕ
 channel_table known c =
-    table_number known (table_name known.scene.text c.family (last_table None (settings_of c)))
+    table_number known (table_name known.scene.text c.family (options_of c).table)
 
--- A channel imports all and exports none where it doesn't say otherwise. `preference` is that of
--- the protocol's kind.
+-- `preference` is that of the protocol's kind.
 pub record IsChannel (known : Known) (does : Statements → TFilter → Type 0) (preference : ℕ)
     (c : FamilyChannel) (def : ChannelDef) : Type 0 where
   pub family : def.family ≡ c.family
   pub table : def.table ≡ channel_table known c
-  pub imports : IsPolicy known does (last_import PassAll (settings_of c)) def.import
-  pub exports : IsPolicy known does (last_export PassNone (settings_of c)) def.export
-  pub preferred : def.preference ≡ last_preference known preference (settings_of c)
-  pub limited : def.limit ≡ limit_of known (last_limit limits.Off (settings_of c))
+  pub imports : IsPolicy known does (import_or (options_of c).import) def.import
+  pub exports : IsPolicy known does (export_or (options_of c).export) def.export
+  pub preferred : def.preference ≡ number_or known preference (options_of c).preference
+  pub limited : def.limit ≡ limit_of known (limit_or (options_of c).limit)
 
 -- the one channel of a protocol
 abbrev pub IsOnly : (FamilyChannel → Type 0) → List FamilyChannel → Type 0
@@ -179,13 +155,6 @@ IsOnly is (c ∷ []) = is c
 IsOnly is _ = ⊥
 
 -- ---- static protocols
-
--- the preference of static routes, and that of BGP's
-abbrev pub static_preference : ℕ
-static_preference = 200
-
-abbrev pub bgp_preference : ℕ
-bgp_preference = 100
 
 abbrev pub target_of : RouteTarget → StaticTarget
 target_of (targets.Via a) = static_targets.Via a.addr
@@ -204,52 +173,20 @@ pub record IsStatic (known : Known) (does : Statements → TFilter → Type 0)
 
 -- ---- BGP
 
-abbrev pub last_neighbor : Addr → List BgpSetting → Addr
-last_neighbor found [] = found
-last_neighbor found (BgpNeighbor a n ∷ more) = last_neighbor a.addr more
-last_neighbor found (s ∷ more) = last_neighbor found more
-
-abbrev pub last_interpret : Bool → List BgpSetting → Bool
-last_interpret found [] = found
-last_interpret found (BgpInterpretCommunities s ∷ more) = last_interpret (is_on s) more
-last_interpret found (s ∷ more) = last_interpret found more
-
-abbrev pub last_default_med : Known → ℕ → List BgpSetting → ℕ
-last_default_med known found [] = found
-last_default_med known found (BgpDefaultMed at n ∷ more) =
-    last_default_med known (or_zero (number_of known n)) more
-last_default_med known found (s ∷ more) = last_default_med known found more
-
-abbrev pub last_default_local_pref : Known → ℕ → List BgpSetting → ℕ
-last_default_local_pref known found [] = found
-last_default_local_pref known found (BgpDefaultLocalPref at n ∷ more) =
-    last_default_local_pref known (or_zero (number_of known n)) more
-last_default_local_pref known found (s ∷ more) = last_default_local_pref known found more
-
--- Communities are interpreted where the protocol doesn't say otherwise; a route without a MED
--- counts as one with 0, one without a local preference as one with 100.
 pub record IsBgp (known : Known) (does : Statements → TFilter → Type 0)
     (p : Instance BgpSetting) (def : BgpDef) : Type 0 where
-  pub local : def.local ≡ or_zero (as_number known (last_local None p.settings))
-  pub remote : def.remote ≡ or_zero (as_number known (rules.last_neighbor None p.settings))
-  pub neighbor : def.neighbor ≡ last_neighbor (addrs.V4 0) p.settings
-  pub interpret : def.interpret_communities ≡ last_interpret true p.settings
-  pub med : def.default_med ≡ last_default_med known 0 p.settings
-  pub local_pref : def.default_local_pref ≡ last_default_local_pref known 100 p.settings
+  pub local : def.local ≡ or_zero (as_number known (bgp_options p.settings).local)
+  pub remote : def.remote ≡ or_zero (as_number known (defaults.remote (bgp_options p.settings)))
+  pub neighbor : def.neighbor ≡ address_or (bgp_options p.settings).neighbor
+  pub interpret : def.interpret_communities ≡ interprets (bgp_options p.settings).interpret_communities
+  pub med : def.default_med
+      ≡ number_or known defaults.default_med (bgp_options p.settings).default_med
+  pub local_pref : def.default_local_pref
+      ≡ number_or known defaults.default_local_pref (bgp_options p.settings).default_local_pref
   pub channel : IsOnly (λ c. IsChannel known does bgp_preference c def.channel)
       (bgp_channels p.settings)
 
 -- ---- pipes
-
-abbrev pub last_pipe_import : Passing → List PipeSetting → Passing
-last_pipe_import found [] = found
-last_pipe_import found (PipeImport p ∷ more) = last_pipe_import p more
-last_pipe_import found (s ∷ more) = last_pipe_import found more
-
-abbrev pub last_pipe_export : Passing → List PipeSetting → Passing
-last_pipe_export found [] = found
-last_pipe_export found (PipeExport p ∷ more) = last_pipe_export p more
-last_pipe_export found (s ∷ more) = last_pipe_export found more
 
 -- A pipe's peer table and its family, which both of its tables have.
 abbrev pub IsPeer : Known → Option Name → PipeDef → Type 0
@@ -261,10 +198,10 @@ IsPeer known (Some name) def =
 pub record IsPipe (known : Known) (does : Statements → TFilter → Type 0)
     (p : Instance PipeSetting) (def : PipeDef) : Type 0 where
   pub table : def.table
-      ≡ table_number known (primary_name known.scene.text (rules.last_table None p.settings))
-  pub peer : IsPeer known (rules.last_peer None p.settings) def
-  pub imports : IsPolicy known does (last_pipe_import PassAll p.settings) def.import
-  pub exports : IsPolicy known does (last_pipe_export PassNone p.settings) def.export
+      ≡ table_number known (primary_name known.scene.text (pipe_options p.settings).table)
+  pub peer : IsPeer known (pipe_options p.settings).peer def
+  pub imports : IsPolicy known does (import_or (pipe_options p.settings).import) def.import
+  pub exports : IsPolicy known does (export_or (pipe_options p.settings).export) def.export
 
 -- ---- protocols
 

@@ -1,13 +1,12 @@
 -- For private contracts alone: what is made of a statement, and what has been made of the
 -- statements so far.
-use Rattle.std.specs.Prelude.{◌≡◌, ℕ, ◌+◌, ◌*◌, ◌≤◌, Bool, true, false, List, [], ◌∷◌, ◌++◌, length, map, Option, Some, None, Vec}
+use Rattle.std.specs.Prelude.{◌≡◌, ℕ, ◌+◌, ◌*◌, ◌≤◌, Bool, true, false, List, [], ◌∷◌, ◌++◌, length, map, Option, None, Vec}
 use Rattle.std.specs.Global.{Global}
 use Rattle.std.specs.List.{All, list_any}
 use Rattle.attrs.specs.declared.attributes.Attrs.{Attrs}
 use Rattle.conf_ast.specs.declared.named.Name.{Name}
-use Rattle.conf_ast.specs.declared.configurations.Policy.{Policy}
 use Rattle.conf_ast.specs.Configurations as conf
-use Rattle.conf_ast.specs.Configurations.{FamilyChannel, Passing, passing_of}
+use Rattle.conf_ast.specs.Configurations.{FamilyChannel}
 use Rattle.conf_ast.specs.Filters.{Statements}
 use Rattle.filt_meaning.specs.Configuration as meaning
 use Rattle.filt_meaning.specs.Names.{Around, named_in, same_name}
@@ -148,11 +147,6 @@ pub record Stands (text : List ℕ) (before : List conf.Declaration) (checked : 
   pub light : AreLight (function_trees checked.declared.scope)
 
 -- ---- channels
-
--- a policy that is written, else that one
-abbrev pub passing_or : Passing → Option Policy → Passing
-passing_or other None = other
-passing_or other (Some p) = passing_of p
 
 -- a protocol has one channel
 abbrev pub HasOne : List FamilyChannel → Type 0

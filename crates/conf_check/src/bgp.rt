@@ -1,7 +1,6 @@
-//! BGP protocols. Of options written twice the last counts.
+//! BGP protocols.
 
-ghost use Rattle.std.specs.Prelude.{◌≡◌, ◌∷◌, [], true, IfOk, List, MatchOption, map};
-ghost use Rattle.bits_ip.specs.declared.address.Addr.TheVariants as addrs;
+ghost use Rattle.std.specs.Prelude.{◌≡◌, ◌∷◌, [], IfOk, List, MatchOption, map};
 ghost use Rattle.conf_ast.specs.Configurations.{FamilyChannel, bgp_setting_of, channel_of, instance_of};
 ghost use Rattle.conf_rules.specs.Protocols as rules;
 ghost use Rattle.conf_rules.specs.Protocols.{bgp_channels};
@@ -10,23 +9,17 @@ ghost use Rattle.conf_check.specs.Checked as of;
 ghost use Rattle.conf_check.specs.Checked.{IsBgp};
 ghost use Rattle.conf_check.specs.Seen.{HasOne, Means};
 
-use crate::channel::{channel, known_number};
+use crate::channel::{channel, number_or};
 use crate::checked::BgpDef;
-use bits_ip::{Addr, OutOfMemory};
+use bits_ip::OutOfMemory;
 use conf_ast::configurations::{BgpOption, Channel, Protocol};
 use conf_ast::filters::Num;
 use conf_names::Declared;
-use conf_rules::{as_number, is_on, last_local, last_neighbor};
+use conf_options::{
+    BGP_PREFERENCE, BgpOptions, DEFAULT_LOCAL_PREF, DEFAULT_MED, address_or, interprets,
+};
+use conf_rules::as_number;
 use std::alloc::Global;
-
-/// The preference of BGP's routes.
-const PREFERENCE: u32 = 100;
-
-/// The MED of a route without one.
-const DEFAULT_MED: u32 = 0;
-
-/// The local preference of a route without one.
-const DEFAULT_LOCAL_PREF: u32 = 100;
 
 fn channel_in(option: &BgpOption) -> Option<&Channel>
     ensures { MatchOption result (bgp_channels (bgp_setting_of option.now ∷ []) ≡ [])
@@ -70,112 +63,6 @@ fn only_channel(options: &[BgpOption]) -> &Channel
 
 // ---- options
 
-fn address_in(found: Addr, option: &BgpOption) -> Addr
-    ensures { result ≡ of.last_neighbor found (bgp_setting_of option.now ∷ []) }
-{
-    match option {
-        BgpOption::Channel(_) => found,
-        BgpOption::Local { .. } => found,
-        BgpOption::Neighbor { address, .. } => address.addr,
-        BgpOption::MedMetric(_) => found,
-        BgpOption::InterpretCommunities(_) => found,
-        BgpOption::DefaultMed { .. } => found,
-        BgpOption::DefaultLocalPref { .. } => found,
-        BgpOption::Transport(_) => found,
-    }
-}
-
-/// The address of the neighbour; any one where there is none, as in nothing that is accepted.
-fn last_address(options: &[BgpOption]) -> Addr
-    ensures { result ≡ of.last_neighbor (addrs.V4 0) (map bgp_setting_of options.now) }
-{
-    let mut found = Addr::V4(0);
-    for option in options {
-        found = address_in(found, option);
-    }
-    found
-}
-
-fn interpret_in(found: bool, option: &BgpOption) -> bool
-    ensures { result ≡ of.last_interpret found (bgp_setting_of option.now ∷ []) }
-{
-    match option {
-        BgpOption::Channel(_) => found,
-        BgpOption::Local { .. } => found,
-        BgpOption::Neighbor { .. } => found,
-        BgpOption::MedMetric(_) => found,
-        BgpOption::InterpretCommunities(switch) => is_on(*switch),
-        BgpOption::DefaultMed { .. } => found,
-        BgpOption::DefaultLocalPref { .. } => found,
-        BgpOption::Transport(_) => found,
-    }
-}
-
-/// Communities are interpreted where nothing is said.
-fn last_interpret(options: &[BgpOption]) -> bool
-    ensures { result ≡ of.last_interpret true (map bgp_setting_of options.now) }
-{
-    let mut found = true;
-    for option in options {
-        found = interpret_in(found, option);
-    }
-    found
-}
-
-fn med_in(text: &[u8], declared: &Declared, found: u32, option: &BgpOption) -> u32
-    ensures { result ≡ of.last_default_med (known_of text.now declared.now) found
-        (bgp_setting_of option.now ∷ []) }
-{
-    match option {
-        BgpOption::Channel(_) => found,
-        BgpOption::Local { .. } => found,
-        BgpOption::Neighbor { .. } => found,
-        BgpOption::MedMetric(_) => found,
-        BgpOption::InterpretCommunities(_) => found,
-        BgpOption::DefaultMed { value, .. } => known_number(text, declared, *value),
-        BgpOption::DefaultLocalPref { .. } => found,
-        BgpOption::Transport(_) => found,
-    }
-}
-
-fn last_med(text: &[u8], declared: &Declared, options: &[BgpOption]) -> u32
-    ensures { result ≡ of.last_default_med (known_of text.now declared.now) 0
-        (map bgp_setting_of options.now) }
-{
-    let mut found = DEFAULT_MED;
-    for option in options {
-        found = med_in(text, declared, found, option);
-    }
-    found
-}
-
-fn local_pref_in(text: &[u8], declared: &Declared, found: u32, option: &BgpOption) -> u32
-    ensures { result ≡ of.last_default_local_pref (known_of text.now declared.now) found
-        (bgp_setting_of option.now ∷ []) }
-{
-    match option {
-        BgpOption::Channel(_) => found,
-        BgpOption::Local { .. } => found,
-        BgpOption::Neighbor { .. } => found,
-        BgpOption::MedMetric(_) => found,
-        BgpOption::InterpretCommunities(_) => found,
-        BgpOption::DefaultMed { .. } => found,
-        BgpOption::DefaultLocalPref { value, .. } => known_number(text, declared, *value),
-        BgpOption::Transport(_) => found,
-    }
-}
-
-fn last_local_pref(text: &[u8], declared: &Declared, options: &[BgpOption]) -> u32
-    ensures { result ≡ of.last_default_local_pref (known_of text.now declared.now) 100
-        (map bgp_setting_of options.now) }
-{
-    let mut found = DEFAULT_LOCAL_PREF;
-    for option in options {
-        found = local_pref_in(text, declared, found, option);
-    }
-    found
-}
-
 /// The number of an autonomous system, which is known where nothing is refused.
 fn known_as(text: &[u8], declared: &Declared, number: Option<Num>) -> u32
     ensures { result
@@ -197,14 +84,24 @@ pub(crate) fn bgp(
         (Means text.now declared.now.scope) (instance_of bgp_setting_of protocol.now) def) }
 {
     let options = protocol.options.as_slice();
-    let channel = channel(alloc, text, declared, PREFERENCE, only_channel(options))?;
+    let channel = channel(alloc, text, declared, BGP_PREFERENCE, only_channel(options))?;
+    let found = BgpOptions::of(options);
+    let local = known_as(text, declared, found.local);
+    let remote = known_as(text, declared, found.remote());
+    let default_med = number_or(text, declared, DEFAULT_MED, found.default_med);
+    let default_local_pref = number_or(
+        text,
+        declared,
+        DEFAULT_LOCAL_PREF,
+        found.default_local_pref,
+    );
     Ok(BgpDef {
-        local: known_as(text, declared, last_local(options)),
-        neighbor: last_address(options),
-        remote: known_as(text, declared, last_neighbor(options)),
-        interpret_communities: last_interpret(options),
-        default_med: last_med(text, declared, options),
-        default_local_pref: last_local_pref(text, declared, options),
+        local,
+        neighbor: address_or(found.neighbor),
+        remote,
+        interpret_communities: interprets(found.interpret_communities),
+        default_med,
+        default_local_pref,
         channel,
     })
 }

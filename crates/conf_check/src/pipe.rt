@@ -1,70 +1,23 @@
-//! Pipes. Of options written twice the last counts.
+//! Pipes.
 
-ghost use Rattle.std.specs.Prelude.{◌≡◌, ◌∷◌, [], IfOk, None, Some, map, option_copied};
-ghost use Rattle.conf_ast.specs.Configurations.{PassAll, PassNone, instance_of, pipe_setting_of};
+ghost use Rattle.std.specs.Prelude.{◌≡◌, IfOk, None, Some};
+ghost use Rattle.conf_ast.specs.Configurations.{instance_of, pipe_setting_of};
 ghost use Rattle.conf_names.specs.Known as known;
+ghost use Rattle.conf_options.specs.Options.{pipe_options};
 ghost use Rattle.conf_rules.specs.Protocols as rules;
 ghost use Rattle.conf_names.specs.Seen.{known_of};
 ghost use Rattle.conf_check.specs.Checked as of;
 ghost use Rattle.conf_check.specs.Checked.{IsPipe};
-ghost use Rattle.conf_check.specs.Seen.{HasPeer, Means, passing_or};
+ghost use Rattle.conf_check.specs.Seen.{HasPeer, Means};
 
 use crate::checked::PipeDef;
 use crate::policy::{export_policy, import_policy};
 use bits_ip::{Family, OutOfMemory};
 use conf_ast::Name;
-use conf_ast::configurations::{PipeOption, Policy, Protocol};
+use conf_ast::configurations::{PipeOption, Protocol};
 use conf_names::{Declared, table_number, table_of};
-use conf_rules::{last_peer, last_pipe_table};
+use conf_options::PipeOptions;
 use std::alloc::Global;
-
-fn import_in<'a>(found: Option<&'a Policy>, option: &'a PipeOption) -> Option<&'a Policy>
-    ensures { passing_or PassAll (option_copied result)
-        ≡ of.last_pipe_import (passing_or PassAll (option_copied found.entry))
-        (pipe_setting_of option.now ∷ []) }
-{
-    match option {
-        PipeOption::Table(_) => found,
-        PipeOption::PeerTable(_) => found,
-        PipeOption::Import(policy) => Some(policy),
-        PipeOption::Export(_) => found,
-    }
-}
-
-fn last_import(options: &[PipeOption]) -> Option<&Policy>
-    ensures { passing_or PassAll (option_copied result)
-        ≡ of.last_pipe_import PassAll (map pipe_setting_of options.now) }
-{
-    let mut found = None;
-    for option in options {
-        found = import_in(found, option);
-    }
-    found
-}
-
-fn export_in<'a>(found: Option<&'a Policy>, option: &'a PipeOption) -> Option<&'a Policy>
-    ensures { passing_or PassNone (option_copied result)
-        ≡ of.last_pipe_export (passing_or PassNone (option_copied found.entry))
-        (pipe_setting_of option.now ∷ []) }
-{
-    match option {
-        PipeOption::Table(_) => found,
-        PipeOption::PeerTable(_) => found,
-        PipeOption::Import(_) => found,
-        PipeOption::Export(policy) => Some(policy),
-    }
-}
-
-fn last_export(options: &[PipeOption]) -> Option<&Policy>
-    ensures { passing_or PassNone (option_copied result)
-        ≡ of.last_pipe_export PassNone (map pipe_setting_of options.now) }
-{
-    let mut found = None;
-    for option in options {
-        found = export_in(found, option);
-    }
-    found
-}
 
 /// The number of the primary table.
 fn primary(text: &[u8], declared: &Declared, name: Option<Name>) -> usize
@@ -104,17 +57,17 @@ pub(crate) fn pipe(
     declared: &Declared,
     protocol: &Protocol<PipeOption>,
 ) -> Result<PipeDef, OutOfMemory>
-    requires { HasPeer (rules.last_peer None (instance_of pipe_setting_of protocol.now).settings) }
+    requires { HasPeer (pipe_options (instance_of pipe_setting_of protocol.now).settings).peer }
     ensures { IfOk result (λ def. IsPipe (known_of text.now declared.now)
         (Means text.now declared.now.scope) (instance_of pipe_setting_of protocol.now) def) }
 {
-    let options = protocol.options.as_slice();
-    let import = import_policy(alloc, text, declared, last_import(options))?;
-    let export = export_policy(alloc, text, declared, last_export(options))?;
-    let peer = peer_name(last_peer(options));
+    let found = PipeOptions::of(protocol.options.as_slice());
+    let import = import_policy(alloc, text, declared, found.import)?;
+    let export = export_policy(alloc, text, declared, found.export)?;
+    let peer = peer_name(found.peer);
     Ok(PipeDef {
         family: known_family(table_of(text, declared, peer)),
-        table: primary(text, declared, last_pipe_table(options)),
+        table: primary(text, declared, found.table),
         peer: table_number(declared, peer.bytes(text)),
         import,
         export,

@@ -1,13 +1,14 @@
 //! Policies, and the numbers of what they name.
 
-ghost use Rattle.std.specs.Prelude.{◌≡◌, ℕ, IfOk, List, option_copied};
-ghost use Rattle.conf_ast.specs.Configurations.{PassAll, PassNone, passing_of};
+ghost use Rattle.std.specs.Prelude.{◌≡◌, IfOk, option_copied, option_map};
+ghost use Rattle.conf_ast.specs.Configurations.{passing_of};
 ghost use Rattle.conf_ast.specs.Filters.{block_of, expression_of};
 ghost use Rattle.filt_meaning.specs.Configuration.{filter_where};
 ghost use Rattle.conf_names.specs.Seen.{known_of};
 ghost use Rattle.conf_check.specs.Checked as of;
 ghost use Rattle.conf_check.specs.Checked.{IsPolicy};
-ghost use Rattle.conf_check.specs.Seen.{Means, passing_or};
+ghost use Rattle.conf_check.specs.Seen.{Means};
+ghost use Rattle.conf_options.specs.Defaults.{export_or, import_or};
 
 use crate::checked::PolicyDef;
 use bits_ip::OutOfMemory;
@@ -87,7 +88,7 @@ pub(crate) fn import_policy(
     found: Option<&Policy>,
 ) -> Result<PolicyDef, OutOfMemory>
     ensures { IfOk result (λ p. IsPolicy (known_of text.now declared.now)
-        (Means text.now declared.now.scope) (passing_or PassAll (option_copied found.entry)) p) }
+        (Means text.now declared.now.scope) (import_or (option_map passing_of (option_copied found.entry))) p) }
 {
     match found {
         None => Ok(PolicyDef::All),
@@ -103,7 +104,7 @@ pub(crate) fn export_policy(
     found: Option<&Policy>,
 ) -> Result<PolicyDef, OutOfMemory>
     ensures { IfOk result (λ p. IsPolicy (known_of text.now declared.now)
-        (Means text.now declared.now.scope) (passing_or PassNone (option_copied found.entry)) p) }
+        (Means text.now declared.now.scope) (export_or (option_map passing_of (option_copied found.entry))) p) }
 {
     match found {
         None => Ok(PolicyDef::None),

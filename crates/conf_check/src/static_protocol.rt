@@ -14,10 +14,8 @@ use attrs::Seq;
 use bits_ip::OutOfMemory;
 use conf_ast::configurations::{Channel, Protocol, Route, RouteTarget, StaticOption};
 use conf_names::Declared;
+use conf_options::STATIC_PREFERENCE;
 use std::alloc::Global;
-
-/// The preference of static routes.
-const PREFERENCE: u32 = 200;
 
 fn channel_in(option: &StaticOption) -> Option<&Channel>
     ensures { MatchOption result (static_channels (static_setting_of option.now ∷ []) ≡ [])
@@ -108,7 +106,13 @@ pub(crate) fn static_protocol(
         (Means text.now declared.now.scope) (instance_of static_setting_of protocol.now) def) }
 {
     let options = protocol.options.as_slice();
-    let channel = channel(alloc, text, declared, PREFERENCE, only_channel(options))?;
+    let channel = channel(
+        alloc,
+        text,
+        declared,
+        STATIC_PREFERENCE,
+        only_channel(options),
+    )?;
     let routes = routes(alloc, options)?;
     Ok(StaticDef {
         channel,

@@ -1,6 +1,6 @@
 -- What is refused in a statement of a configuration stands where it is written: what holds of each
 -- of its places holds of the places of its refusals.
-use Rattle.std.proofs.Common.{ℕ, Bool, true, false, not, ◌&&◌, nat_lt, if◌then◌else◌, List, [], ◌∷◌, ◌++◌, length, All, Contains, Option, Some, None}
+use Rattle.std.proofs.Common.{ℕ, Bool, true, false, not, ◌&&◌, nat_lt, if◌then◌else◌, List, [], ◌∷◌, ◌++◌, length, All, Contains, Option, Some, None, fold}
 use Rattle.std.specs.List.{list_any}
 use Rattle.bits_ip.specs.Address.{family_of}
 use Rattle.bits_ip.specs.Prefix.{Net, same_net}
@@ -29,14 +29,16 @@ use Rattle.filt_types.specs.Items.{is_none}
 use Rattle.filt_types.specs.Scenes.{constant_of}
 use Rattle.filt_types.specs.Refused as filters
 use Rattle.conf_names.specs.declared.refusal.Refusal.{Refusal}
+use Rattle.conf_options.specs.Defaults.{is_on, remote}
+use Rattle.conf_options.specs.Options.{ChannelOptions, PipeOptions, bgp_options, no_channel_options, no_pipe_options, pipe_options, with_channel_option, with_pipe_option}
 use Rattle.conf_rules.specs.Channels as channels
-use Rattle.conf_rules.specs.Channels.{passing, limit, settings_of, is_other_family, family_of_table, channel, second_channels, one_channel, lacks_policy, same_family}
+use Rattle.conf_rules.specs.Channels.{passing, limit, options_of, settings_of, is_other_family, family_of_table, channel, second_channels, one_channel, lacks_policy, same_family}
 use Rattle.conf_names.specs.Constants.{value}
 use Rattle.conf_names.specs.Known.{Known, is_declared, longest_name, too_long, table_of, is_filter, filter, number, number_of}
 use Rattle.conf_names.specs.Known as known_names
 use Rattle.conf_names.specs.declared.joints.Joint.{Joint}
 use Rattle.conf_names.specs.Joints.{joined}
-use Rattle.conf_rules.specs.Protocols.{cycle, joint_of, static_setting, static_settings, static_channels, static_routes, family_of_target, family_of_route, families_of_routes, nettypes, repeated, static, optional_number, transport, bgp_setting, bgp_settings, bgp_channels, last_local, last_neighbor, last_med_metric, lacks, as_number, is_external, policies, is_on, med_metric, session, bgp, pipe_setting, pipe_settings, last_table, last_peer, primary_family, differ, peer_family, pipe}
+use Rattle.conf_rules.specs.Protocols.{cycle, joint_of, static_setting, static_settings, static_channels, static_routes, family_of_target, family_of_route, families_of_routes, nettypes, repeated, static, optional_number, transport, bgp_setting, bgp_settings, bgp_channels, lacks, as_number, is_external, policies, med_metric, session, bgp, pipe_setting, pipe_settings, primary_family, differ, peer_family, pipe}
 use Rattle.conf_names.specs.Names.{own_name, static_stem, bgp_stem, pipe_stem, pipe_names, place_of, name_too_long, most_protocols, declaring}
 use Rattle.conf_names.specs.Refusals.{of_filters, refused_if}
 use Rattle.conf_rules.specs.Statements.{most_tables, is_master, one_more_table, refusals}
@@ -151,14 +153,14 @@ module _ (P : ℕ → Type 0) where
   Named None = Every P []
   Named (Some n) = P n.at
 
-  table_named : (found : Option Name) (ss : List ChannelSetting) → Named found → Every P (of_each of_channel_setting ss) → Named (channels.last_table found ss)
-  table_named found [] p h = p
-  table_named found (ChannelTable name ∷ more) p h = table_named (Some name) more h.0 h.1
-  table_named found (ChannelImport q ∷ more) p h = table_named found more p (back (of_passing q) (of_each of_channel_setting more) h)
-  table_named found (ChannelExport q ∷ more) p h = table_named found more p (back (of_passing q) (of_each of_channel_setting more) h)
-  table_named found (ChannelPreference at n ∷ more) p h = table_named found more p h.1.1
-  table_named found (ChannelLimit l ∷ more) p h = table_named found more p (back (of_limit l) (of_each of_channel_setting more) h)
-  table_named found (ChannelNextHop hop ∷ more) p h = table_named found more p h
+  table_named : (o : ChannelOptions) (ss : List ChannelSetting) → Named o.table → Every P (of_each of_channel_setting ss) → Named (fold with_channel_option o ss).table
+  table_named o [] p h = p
+  table_named o (ChannelTable name ∷ more) p h = table_named (with_channel_option o (ChannelTable name)) more h.0 h.1
+  table_named o (ChannelImport q ∷ more) p h = table_named (with_channel_option o (ChannelImport q)) more p (back (of_passing q) (of_each of_channel_setting more) h)
+  table_named o (ChannelExport q ∷ more) p h = table_named (with_channel_option o (ChannelExport q)) more p (back (of_passing q) (of_each of_channel_setting more) h)
+  table_named o (ChannelPreference at n ∷ more) p h = table_named (with_channel_option o (ChannelPreference at n)) more p h.1.1
+  table_named o (ChannelLimit l ∷ more) p h = table_named (with_channel_option o (ChannelLimit l)) more p (back (of_limit l) (of_each of_channel_setting more) h)
+  table_named o (ChannelNextHop hop ∷ more) p h = table_named (with_channel_option o (ChannelNextHop hop)) more p h
 
   family_stands : (known : Known) (family : Family) (n : Option Name) → Named n → Stand (family_of_table known family n)
   family_stands known family None p = tt
@@ -167,9 +169,9 @@ module _ (P : ℕ → Type 0) where
   channel_stands : (known : Known) (c : FamilyChannel) → Every P (of_channel c) → Stand (channel known c)
   channel_stands known c h =
       let placed = settings_placed c h in
-      let named : Option Name = channels.last_table None (settings_of c) in
+      let named : Option Name = (options_of c).table in
       both (channels.settings known (settings_of c)) (family_of_table known c.family named)
-      (settings_stand known (settings_of c) placed) (family_stands known c.family named (table_named None (settings_of c) tt placed))
+      (settings_stand known (settings_of c) placed) (family_stands known c.family named (table_named no_channel_options (settings_of c) tt placed))
 
   -- ---- how many channels
 
@@ -326,15 +328,15 @@ module _ (P : ℕ → Type 0) where
 
   session_stands : (known : Known) (at : ℕ) (ss : List BgpSetting) → P at → Stand (session known at ss)
   session_stands known at ss p =
-      let local : Option Num = last_local None ss in
-      let neighbor : Option Num = last_neighbor None ss in
+      let local : Option Num = (bgp_options ss).local in
+      let neighbor : Option Num = remote (bgp_options ss) in
       let external : Bool = is_external (as_number known local) (as_number known neighbor) in
       let silent : Bool = external && list_any lacks_policy (bgp_channels ss) in
-      both (lacks at local ++ lacks at neighbor ++ policies at external (bgp_channels ss)) (med_metric at (last_med_metric None ss))
+      both (lacks at local ++ lacks at neighbor ++ policies at external (bgp_channels ss)) (med_metric at (bgp_options ss).med_metric)
       (both (lacks at local ++ lacks at neighbor) (policies at external (bgp_channels ss))
       (both (lacks at local) (lacks at neighbor) (lacks_stands at local p) (lacks_stands at neighbor p))
       (if_refused silent at kinds.PolicyMissing p))
-      (med_stands at (last_med_metric None ss) p)
+      (med_stands at (bgp_options ss).med_metric p)
 
   bgp_stands : (known : Known) (p : Instance BgpSetting) → Every P (of_instance of_bgp_setting p) → Stand (bgp known p)
   bgp_stands known p h =
@@ -364,12 +366,12 @@ module _ (P : ℕ → Type 0) where
       both (pipe_setting known s) (pipe_settings known more)
       (pipe_setting_stands known s (front (of_pipe_setting s) (of_each of_pipe_setting more) h)) (pipe_settings_stand known more (back (of_pipe_setting s) (of_each of_pipe_setting more) h))
 
-  peer_named : (found : Option Name) (ss : List PipeSetting) → Named found → Every P (of_each of_pipe_setting ss) → Named (last_peer found ss)
-  peer_named found [] p h = p
-  peer_named found (PipeTable name ∷ more) p h = peer_named found more p h.1
-  peer_named found (PipePeerTable name ∷ more) p h = peer_named (Some name) more h.0 h.1
-  peer_named found (PipeImport q ∷ more) p h = peer_named found more p (back (of_passing q) (of_each of_pipe_setting more) h)
-  peer_named found (PipeExport q ∷ more) p h = peer_named found more p (back (of_passing q) (of_each of_pipe_setting more) h)
+  peer_named : (o : PipeOptions) (ss : List PipeSetting) → Named o.peer → Every P (of_each of_pipe_setting ss) → Named (fold with_pipe_option o ss).peer
+  peer_named o [] p h = p
+  peer_named o (PipeTable name ∷ more) p h = peer_named (with_pipe_option o (PipeTable name)) more p h.1
+  peer_named o (PipePeerTable name ∷ more) p h = peer_named (with_pipe_option o (PipePeerTable name)) more h.0 h.1
+  peer_named o (PipeImport q ∷ more) p h = peer_named (with_pipe_option o (PipeImport q)) more p (back (of_passing q) (of_each of_pipe_setting more) h)
+  peer_named o (PipeExport q ∷ more) p h = peer_named (with_pipe_option o (PipeExport q)) more p (back (of_passing q) (of_each of_pipe_setting more) h)
 
   peer_stands : (known : Known) (primary peer : Option Name) → Named peer → Stand (peer_family known primary peer)
   peer_stands known primary None p = tt
@@ -383,18 +385,18 @@ module _ (P : ℕ → Type 0) where
   pipe_stands known p h =
       let name = front (of_maybe of_name p.name) (of_each of_pipe_setting p.settings) h.1 in
       let settings = back (of_maybe of_name p.name) (of_each of_pipe_setting p.settings) h.1 in
-      let peer : Option Name = last_peer None p.settings in
+      let peer : Option Name = (pipe_options p.settings).peer in
       let named : List Refusal = declaring known p.at p.name (pipe_names (own_name known pipe_stem p.name)) in
       let written : List Refusal = pipe_settings known p.settings in
       let no_peer : List Refusal = lacks (place_of p.at p.name) peer in
-      let family : List Refusal = peer_family known (last_table None p.settings) peer in
+      let family : List Refusal = peer_family known (pipe_options p.settings).table peer in
       let here : P (place_of p.at p.name) = at_name p.at p.name h.0 name in
       both (named ++ written ++ no_peer ++ family) (cycle known (place_of p.at p.name) (joint_of known p.settings))
       (both (named ++ written ++ no_peer) family
       (both (named ++ written) no_peer
       (both named written (protocol_stands known p.at p.name (pipe_names (own_name known pipe_stem p.name)) h.0 name) (pipe_settings_stand known p.settings settings))
       (lacks_stands (place_of p.at p.name) peer here))
-      (peer_stands known (last_table None p.settings) peer (peer_named None p.settings tt settings)))
+      (peer_stands known (pipe_options p.settings).table peer (peer_named no_pipe_options p.settings tt settings)))
       (cycle_stands known (place_of p.at p.name) (joint_of known p.settings) here)
 
   -- ---- statements

@@ -4,10 +4,11 @@ use Rattle.std.proofs.lemmas.Option.{none-some, same_Some}
 use Rattle.conf_ast.specs.Configurations.{PipeSetting}
 use Rattle.conf_ast.specs.declared.named.Name.{Name}
 use Rattle.conf_ast.specs.Names.{name_bytes}
+use Rattle.conf_options.specs.Options.{pipe_options}
 use Rattle.conf_names.specs.declared.joints.Joint.{Joint}
 use Rattle.conf_names.specs.Joints.{IsWithin}
 use Rattle.conf_names.specs.Known.{Known}
-use Rattle.conf_rules.specs.Protocols.{joint, joint_of, last_peer, last_table, peer_number, primary_number, primary_name}
+use Rattle.conf_rules.specs.Protocols.{joint, joint_of, peer_number, primary_number, primary_name}
 use Rattle.conf_names.proofs.Places.{known_below}
 
 peer_below : (known : Known) (name : Option Name) (n : ℕ) → peer_number known name ≡ Some n → n < length known.tables
@@ -24,5 +25,6 @@ joint_by (Some t) (Some p) j h =
 -- the tables that a pipe joins are declared
 pub joint_within : (known : Known) (ss : List PipeSetting) (j : Joint) → joint_of known ss ≡ Some j → IsWithin (length known.tables) j
 joint_within known ss j h =
-    let are = joint_by (primary_number known (last_table None ss)) (peer_number known (last_peer None ss)) j h in
-    (known_below known (primary_name known.scene.text (last_table None ss)) j.table are.0, peer_below known (last_peer None ss) j.peer are.1)
+    let o = pipe_options ss in
+    let are = joint_by (primary_number known o.table) (peer_number known o.peer) j h in
+    (known_below known (primary_name known.scene.text o.table) j.table are.0, peer_below known o.peer j.peer are.1)

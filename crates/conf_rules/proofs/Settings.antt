@@ -3,72 +3,17 @@ use Rattle.std.proofs.Common.{◌≡◌, ℕ, Bool, true, false, ◌||◌, not, 
 use Rattle.std.specs.List.{list_any}
 use Rattle.bits_ip.specs.Prefix.{Net, same_net}
 use Rattle.bits_ip.specs.declared.address.Family.{Family}
-use Rattle.conf_ast.specs.declared.named.Name.{Name}
-use Rattle.conf_ast.specs.declared.filters.Num.{Num}
 use Rattle.conf_ast.specs.declared.kind.ConfKind.TheVariants as kinds
 use Rattle.conf_ast.specs.declared.configurations.Route.{Route}
-use Rattle.conf_ast.specs.declared.configurations.Switch.{Switch}
-use Rattle.conf_ast.specs.Configurations.{ChannelSetting, ChannelTable, ChannelImport, ChannelExport, ChannelPreference, ChannelLimit, ChannelNextHop, FamilyChannel, StaticSetting, StaticChannel, StaticRoute, BgpSetting, BgpChannel, BgpLocal, BgpNeighbor, BgpMedMetric, BgpInterpretCommunities, BgpDefaultMed, BgpDefaultLocalPref, BgpTransport, PipeSetting, PipeTable, PipePeerTable, PipeImport, PipeExport}
+use Rattle.conf_ast.specs.Configurations.{FamilyChannel, StaticSetting, StaticChannel, StaticRoute, BgpSetting, BgpChannel, BgpLocal, BgpNeighbor, BgpMedMetric, BgpInterpretCommunities, BgpDefaultMed, BgpDefaultLocalPref, BgpTransport}
 use Rattle.conf_names.specs.declared.refusal.Refusal.{Refusal}
 use Rattle.conf_rules.specs.Channels as channels
 use Rattle.conf_rules.specs.Channels.{is_empty, one_channel, second_channels}
-use Rattle.conf_rules.specs.Protocols.{families_of_routes, family_of_route, repeated, static_channels, static_routes, bgp_channels, last_local, last_neighbor, last_med_metric, last_peer, last_table}
+use Rattle.conf_rules.specs.Protocols.{families_of_routes, family_of_route, repeated, static_channels, static_routes, bgp_channels}
 use Rattle.conf_names.specs.Refusals.{first_in, refused_if}
 use Rattle.conf_rules.specs.Walks.{behind, family_in, has_channel, seen_behind}
 use Rattle.conf_names.proofs.Firsts.{first_append, first_rest, lists_past}
 use Rattle.conf_names.proofs.Turns.{or_apart}
-
--- ---- the last one that counts
-
-pub next_channel_table : (found : Option Name) (s : ChannelSetting) (more : List ChannelSetting) → channels.last_table found (s ∷ more) ≡ channels.last_table (channels.last_table found (s ∷ [])) more
-next_channel_table found (ChannelTable name) more = refl
-next_channel_table found (ChannelImport p) more = refl
-next_channel_table found (ChannelExport p) more = refl
-next_channel_table found (ChannelPreference at n) more = refl
-next_channel_table found (ChannelLimit l) more = refl
-next_channel_table found (ChannelNextHop hop) more = refl
-
-pub next_local : (found : Option Num) (s : BgpSetting) (more : List BgpSetting) → last_local found (s ∷ more) ≡ last_local (last_local found (s ∷ [])) more
-next_local found (BgpChannel c) more = refl
-next_local found (BgpLocal a n) more = refl
-next_local found (BgpNeighbor a n) more = refl
-next_local found (BgpMedMetric s) more = refl
-next_local found (BgpInterpretCommunities s) more = refl
-next_local found (BgpDefaultMed at n) more = refl
-next_local found (BgpDefaultLocalPref at n) more = refl
-next_local found (BgpTransport t) more = refl
-
-pub next_neighbor : (found : Option Num) (s : BgpSetting) (more : List BgpSetting) → last_neighbor found (s ∷ more) ≡ last_neighbor (last_neighbor found (s ∷ [])) more
-next_neighbor found (BgpChannel c) more = refl
-next_neighbor found (BgpLocal a n) more = refl
-next_neighbor found (BgpNeighbor a n) more = refl
-next_neighbor found (BgpMedMetric s) more = refl
-next_neighbor found (BgpInterpretCommunities s) more = refl
-next_neighbor found (BgpDefaultMed at n) more = refl
-next_neighbor found (BgpDefaultLocalPref at n) more = refl
-next_neighbor found (BgpTransport t) more = refl
-
-pub next_med_metric : (found : Option Switch) (s : BgpSetting) (more : List BgpSetting) → last_med_metric found (s ∷ more) ≡ last_med_metric (last_med_metric found (s ∷ [])) more
-next_med_metric found (BgpChannel c) more = refl
-next_med_metric found (BgpLocal a n) more = refl
-next_med_metric found (BgpNeighbor a n) more = refl
-next_med_metric found (BgpMedMetric s) more = refl
-next_med_metric found (BgpInterpretCommunities s) more = refl
-next_med_metric found (BgpDefaultMed at n) more = refl
-next_med_metric found (BgpDefaultLocalPref at n) more = refl
-next_med_metric found (BgpTransport t) more = refl
-
-pub next_table : (found : Option Name) (s : PipeSetting) (more : List PipeSetting) → last_table found (s ∷ more) ≡ last_table (last_table found (s ∷ [])) more
-next_table found (PipeTable name) more = refl
-next_table found (PipePeerTable name) more = refl
-next_table found (PipeImport p) more = refl
-next_table found (PipeExport p) more = refl
-
-pub next_peer : (found : Option Name) (s : PipeSetting) (more : List PipeSetting) → last_peer found (s ∷ more) ≡ last_peer (last_peer found (s ∷ [])) more
-next_peer found (PipeTable name) more = refl
-next_peer found (PipePeerTable name) more = refl
-next_peer found (PipeImport p) more = refl
-next_peer found (PipeExport p) more = refl
 
 -- ---- the channels and the routes among the settings
 

@@ -1,13 +1,13 @@
 -- What is refused first in a protocol.
-use Rattle.std.proofs.Common.{◌≡◌, ℕ, Bool, ◌||◌, List, [], ◌∷◌, map, Option, None, refl, ap, ◌∙◌, sym}
+use Rattle.std.proofs.Common.{◌≡◌, ℕ, Bool, ◌||◌, List, [], ◌∷◌, map, Option, refl, ap, ◌∙◌, sym}
 use Rattle.std.specs.List.{list_any}
-use Rattle.conf_ast.specs.declared.named.Name.{Name}
 use Rattle.conf_ast.specs.declared.configurations.BgpOption.{BgpOption}
 use Rattle.conf_ast.specs.Configurations.{FamilyChannel, Instance, StaticSetting, BgpSetting, PipeSetting, bgp_setting_of}
+use Rattle.conf_options.specs.Options.{PipeOptions, pipe_options}
 use Rattle.conf_names.specs.declared.refusal.Refusal.{Refusal}
 use Rattle.conf_rules.specs.Channels.{lacks_policy, one_channel}
 use Rattle.conf_names.specs.Known.{Known}
-use Rattle.conf_rules.specs.Protocols.{bgp, bgp_channels, bgp_settings, cycle, joint_of, lacks, last_peer, last_table, nettypes, peer_family, pipe, pipe_settings, repeated, session, static, static_channels, static_routes, static_settings}
+use Rattle.conf_rules.specs.Protocols.{bgp, bgp_channels, bgp_settings, cycle, joint_of, lacks, nettypes, peer_family, pipe, pipe_settings, repeated, session, static, static_channels, static_routes, static_settings}
 use Rattle.conf_names.specs.Names.{bgp_stem, declaring, own_name, pipe_names, pipe_stem, place_of, static_stem}
 use Rattle.conf_names.specs.Refusals.{first_in}
 use Rattle.conf_rules.proofs.Settings.{more_bgp_channels}
@@ -40,13 +40,13 @@ bgp_first known p place ss f g h i j here are a b d e =
     (d ∙ ap (λ (n : ℕ). first_in h (one_channel n (bgp_channels ss))) here ∙ ap (λ (x : List BgpSetting). first_in h (one_channel (place_of p.at p.name) (bgp_channels x))) are)
     (e ∙ ap (λ (n : ℕ). first_in i (session known n ss)) here ∙ ap (λ (x : List BgpSetting). first_in i (session known (place_of p.at p.name) x)) are)
 
-pub pipe_first : (known : Known) (p : Instance PipeSetting) (place : ℕ) (ss : List PipeSetting) (primary peer : Option Name) (f g h i j k : Option Refusal) → place ≡ place_of p.at p.name → ss ≡ p.settings → primary ≡ last_table None ss → peer ≡ last_peer None ss → g ≡ first_in f (declaring known p.at p.name (pipe_names (own_name known pipe_stem p.name))) → h ≡ first_in g (pipe_settings known ss) → i ≡ first_in h (lacks place peer) → j ≡ first_in i (peer_family known primary peer) → k ≡ first_in j (cycle known place (joint_of known ss)) → k ≡ first_in f (pipe known p)
-pipe_first known p place ss primary peer f g h i j k here are one other a b d e l =
-    let first = one ∙ ap (λ (x : List PipeSetting). last_table None x) are in
-    let second = other ∙ ap (λ (x : List PipeSetting). last_peer None x) are in
-    first_five (declaring known p.at p.name (pipe_names (own_name known pipe_stem p.name))) (pipe_settings known p.settings) (lacks (place_of p.at p.name) (last_peer None p.settings)) (peer_family known (last_table None p.settings) (last_peer None p.settings)) (cycle known (place_of p.at p.name) (joint_of known p.settings)) f g h i j k
+pub pipe_first : (known : Known) (p : Instance PipeSetting) (place : ℕ) (ss : List PipeSetting) (o : PipeOptions) (f g h i j k : Option Refusal) → place ≡ place_of p.at p.name → ss ≡ p.settings → o ≡ pipe_options ss → g ≡ first_in f (declaring known p.at p.name (pipe_names (own_name known pipe_stem p.name))) → h ≡ first_in g (pipe_settings known ss) → i ≡ first_in h (lacks place o.peer) → j ≡ first_in i (peer_family known o.table o.peer) → k ≡ first_in j (cycle known place (joint_of known ss)) → k ≡ first_in f (pipe known p)
+pipe_first known p place ss o f g h i j k here are comes a b d e l =
+    let found = comes ∙ ap pipe_options are in
+    let all = pipe_options p.settings in
+    first_five (declaring known p.at p.name (pipe_names (own_name known pipe_stem p.name))) (pipe_settings known p.settings) (lacks (place_of p.at p.name) all.peer) (peer_family known all.table all.peer) (cycle known (place_of p.at p.name) (joint_of known p.settings)) f g h i j k
     a
     (b ∙ ap (λ (x : List PipeSetting). first_in g (pipe_settings known x)) are)
-    (d ∙ ap (λ (n : ℕ). first_in h (lacks n peer)) here ∙ ap (λ (x : Option Name). first_in h (lacks (place_of p.at p.name) x)) second)
-    (e ∙ ap (λ (x : Option Name). first_in i (peer_family known x peer)) first ∙ ap (λ (x : Option Name). first_in i (peer_family known (last_table None p.settings) x)) second)
+    (d ∙ ap (λ (n : ℕ). first_in h (lacks n o.peer)) here ∙ ap (λ (x : PipeOptions). first_in h (lacks (place_of p.at p.name) x.peer)) found)
+    (e ∙ ap (λ (x : PipeOptions). first_in i (peer_family known x.table x.peer)) found)
     (l ∙ ap (λ (n : ℕ). first_in j (cycle known n (joint_of known ss))) here ∙ ap (λ (x : List PipeSetting). first_in j (cycle known (place_of p.at p.name) (joint_of known x))) are)

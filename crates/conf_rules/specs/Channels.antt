@@ -3,8 +3,7 @@
 -- From: BIRD User's Guide, "Configuration", "Channel options".
 -- Example: `table t6; table master4;` in an IPv4 channel is accepted, the other way round it is C9
 -- at `t6`.
-use Rattle.std.specs.Prelude.{ℕ, Bool, true, false, not, ◌||◌, List, [], ◌∷◌, ◌++◌, Option, Some, None}
-use Rattle.std.specs.List.{list_any}
+use Rattle.std.specs.Prelude.{ℕ, Bool, true, false, not, ◌||◌, List, [], ◌∷◌, ◌++◌, Option, Some, None, is_none}
 use Rattle.bits_ip.specs.declared.address.Family.{Family}
 use Rattle.bits_ip.specs.declared.address.Family.TheVariants as families
 use Rattle.conf_ast.specs.declared.named.Name.{Name}
@@ -14,6 +13,7 @@ use Rattle.conf_ast.specs.declared.configurations.Limit.TheVariants as limits
 use Rattle.conf_ast.specs.Configurations.{Passing, PassAll, PassNone, PassByFilter, PassByBlock, PassWhere, ChannelSetting, ChannelTable, ChannelImport, ChannelExport, ChannelPreference, ChannelLimit, ChannelNextHop, FamilyChannel}
 use Rattle.filt_meaning.specs.Configuration.{filter_where}
 use Rattle.filt_types.specs.Refused as filters
+use Rattle.conf_options.specs.Options.{ChannelOptions, channel_options}
 use Rattle.conf_names.specs.declared.refusal.Refusal.{Refusal}
 use Rattle.conf_names.specs.Known.{Known, filter, number, table, table_of}
 use Rattle.conf_names.specs.Refusals.{of_filters, refused_if}
@@ -56,11 +56,9 @@ settings_of c = listed c.settings
     listed None = []
     listed (Some ss) = ss
 
--- Of tables that are named the last counts.
-abbrev pub last_table : Option Name → List ChannelSetting → Option Name
-last_table found [] = found
-last_table found (ChannelTable name ∷ more) = last_table (Some name) more
-last_table found (s ∷ more) = last_table found more
+-- the options that count
+abbrev pub options_of : FamilyChannel → ChannelOptions
+options_of c = channel_options (settings_of c)
 
 abbrev pub same_family : Family → Family → Bool
 same_family families.V4 families.V4 = true
@@ -80,7 +78,7 @@ family_of_table known family (Some name) =
 abbrev pub channel : Known → FamilyChannel → List Refusal
 channel known c =
     settings known (settings_of c)
-    ++ family_of_table known c.family (last_table None (settings_of c))
+    ++ family_of_table known c.family (options_of c).table
 
 -- ---- how many channels
 
@@ -103,20 +101,9 @@ one_channel at cs = refused_if (is_empty cs) at kinds.Unsupported ++ second_chan
 
 -- ---- policies that are missing
 
-abbrev pub is_import : ChannelSetting → Bool
-is_import (ChannelImport p) = true
-is_import _ = false
-
-abbrev pub is_export : ChannelSetting → Bool
-is_export (ChannelExport p) = true
-is_export _ = false
-
-abbrev pub has_import : List ChannelSetting → Bool
-has_import = list_any is_import
-
-abbrev pub has_export : List ChannelSetting → Bool
-has_export = list_any is_export
-
 -- a channel that says nothing of its imports or of its exports
 abbrev pub lacks_policy : FamilyChannel → Bool
-lacks_policy c = not (has_import (settings_of c)) || not (has_export (settings_of c))
+lacks_policy c = lacks_either (options_of c)
+  where
+    lacks_either : ChannelOptions → Bool
+    lacks_either o = is_none o.import || is_none o.export

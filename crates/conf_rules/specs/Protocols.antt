@@ -18,10 +18,11 @@ use Rattle.conf_ast.specs.declared.configurations.Route.{Route}
 use Rattle.conf_ast.specs.declared.configurations.RouteTarget.{RouteTarget}
 use Rattle.conf_ast.specs.declared.configurations.RouteTarget.TheVariants as targets
 use Rattle.conf_ast.specs.declared.configurations.Switch.{Switch}
-use Rattle.conf_ast.specs.declared.configurations.Switch.TheVariants as switches
 use Rattle.conf_ast.specs.declared.configurations.Transport.{Transport}
 use Rattle.conf_ast.specs.declared.configurations.Transport.TheVariants as transports
 use Rattle.conf_ast.specs.Configurations.{FamilyChannel, StaticSetting, StaticChannel, StaticRoute, BgpSetting, BgpChannel, BgpLocal, BgpNeighbor, BgpMedMetric, BgpInterpretCommunities, BgpDefaultMed, BgpDefaultLocalPref, BgpTransport, PipeSetting, PipeTable, PipePeerTable, PipeImport, PipeExport, Instance}
+use Rattle.conf_options.specs.Defaults.{is_on, remote}
+use Rattle.conf_options.specs.Options.{bgp_options, pipe_options}
 use Rattle.filt_meaning.specs.Names.{named_in}
 use Rattle.conf_names.specs.declared.joints.Joint.{Joint}
 use Rattle.conf_names.specs.declared.refusal.Refusal.{Refusal}
@@ -122,22 +123,6 @@ bgp_channels [] = []
 bgp_channels (BgpChannel c ∷ more) = c ∷ bgp_channels more
 bgp_channels (s ∷ more) = bgp_channels more
 
--- Of options written twice the last counts.
-abbrev pub last_local : Option Num → List BgpSetting → Option Num
-last_local found [] = found
-last_local found (BgpLocal a n ∷ more) = last_local (Some n) more
-last_local found (s ∷ more) = last_local found more
-
-abbrev pub last_neighbor : Option Num → List BgpSetting → Option Num
-last_neighbor found [] = found
-last_neighbor found (BgpNeighbor a n ∷ more) = last_neighbor (Some n) more
-last_neighbor found (s ∷ more) = last_neighbor found more
-
-abbrev pub last_med_metric : Option Switch → List BgpSetting → Option Switch
-last_med_metric found [] = found
-last_med_metric found (BgpMedMetric s ∷ more) = last_med_metric (Some s) more
-last_med_metric found (s ∷ more) = last_med_metric found more
-
 -- a protocol has both numbers of autonomous systems
 abbrev pub lacks : {A : Type 0} → (at : ℕ) → Option A → List Refusal
 lacks at None = refused_if true at kinds.Unsupported
@@ -156,12 +141,6 @@ is_external _ _ = false
 abbrev pub policies : (at : ℕ) → (external : Bool) → List FamilyChannel → List Refusal
 policies at external cs = refused_if (external && list_any lacks_policy cs) at kinds.PolicyMissing
 
-abbrev pub is_on : Switch → Bool
-is_on switches.On = true
-is_on switches.Yes = true
-is_on switches.Off = false
-is_on switches.No = false
-
 -- MEDs of all neighbours are compared, and the configuration has to say so.
 abbrev pub med_metric : (at : ℕ) → Option Switch → List Refusal
 med_metric at None = refused_if true at kinds.MedRule
@@ -170,12 +149,11 @@ med_metric at (Some s) = refused_if (not (is_on s)) at kinds.Unsupported
 -- what is refused of the options that count
 abbrev pub session : Known → (at : ℕ) → List BgpSetting → List Refusal
 session known at settings =
-    let local = last_local None settings in
-    let neighbor = last_neighbor None settings in
-    lacks at local ++ lacks at neighbor
-    ++ policies at (is_external (as_number known local) (as_number known neighbor))
+    let o = bgp_options settings in
+    lacks at o.local ++ lacks at (remote o)
+    ++ policies at (is_external (as_number known o.local) (as_number known (remote o)))
     (bgp_channels settings)
-    ++ med_metric at (last_med_metric None settings)
+    ++ med_metric at o.med_metric
 
 abbrev pub bgp : Known → Instance BgpSetting → List Refusal
 bgp known p =
@@ -195,16 +173,6 @@ pipe_setting known (PipeExport p) = passing known p
 abbrev pub pipe_settings : Known → List PipeSetting → List Refusal
 pipe_settings known [] = []
 pipe_settings known (s ∷ more) = pipe_setting known s ++ pipe_settings known more
-
-abbrev pub last_table : Option Name → List PipeSetting → Option Name
-last_table found [] = found
-last_table found (PipeTable name ∷ more) = last_table (Some name) more
-last_table found (s ∷ more) = last_table found more
-
-abbrev pub last_peer : Option Name → List PipeSetting → Option Name
-last_peer found [] = found
-last_peer found (PipePeerTable name ∷ more) = last_peer (Some name) more
-last_peer found (s ∷ more) = last_peer found more
 
 -- The primary table is master4 where none is named.
 abbrev pub primary_name : (text : List ℕ) → Option Name → List ℕ
@@ -238,7 +206,8 @@ joint _ _ = None
 -- the two tables that a pipe joins, by the options that count, where both are known
 abbrev pub joint_of : Known → List PipeSetting → Option Joint
 joint_of known ss =
-    joint (primary_number known (last_table None ss)) (peer_number known (last_peer None ss))
+    let o = pipe_options ss in
+    joint (primary_number known o.table) (peer_number known o.peer)
 
 -- The pipes before don't join these two tables, which are two.
 abbrev pub cycle : Known → (at : ℕ) → Option Joint → List Refusal
@@ -247,9 +216,9 @@ cycle known at (Some j) = refused_if (joined known.pipes j.table j.peer) at kind
 
 abbrev pub pipe : Known → Instance PipeSetting → List Refusal
 pipe known p =
-    let peer = last_peer None p.settings in
+    let o = pipe_options p.settings in
     declaring known p.at p.name (pipe_names (own_name known pipe_stem p.name))
     ++ pipe_settings known p.settings
-    ++ lacks (place_of p.at p.name) peer
-    ++ peer_family known (last_table None p.settings) peer
+    ++ lacks (place_of p.at p.name) o.peer
+    ++ peer_family known o.table o.peer
     ++ cycle known (place_of p.at p.name) (joint_of known p.settings)

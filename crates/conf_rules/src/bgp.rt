@@ -1,6 +1,6 @@
 // What is refused in BGP protocols.
 
-ghost use Rattle.std.specs.Prelude.{◌≡◌, ◌++◌, ◌∷◌, [], ◌||◌, ◌&&◌, List, map, false, None, OnOk};
+ghost use Rattle.std.specs.Prelude.{◌≡◌, ◌∷◌, [], ◌||◌, map, false, None, OnOk};
 ghost use Rattle.std.specs.List.{list_any};
 ghost use Rattle.conf_ast.specs.Configurations.{bgp_setting_of, instance_of};
 ghost use Rattle.conf_rules.specs.Channels as channels;
@@ -19,6 +19,7 @@ use conf_names::declared::Declared;
 use conf_names::names::{BGP_STEM, declaring, place_of};
 use conf_names::refusal::{Refusal, note_if};
 use conf_names::values::{number, number_of};
+use conf_options::{BgpOptions, is_on};
 use std::alloc::Global;
 
 // ---- what is written
@@ -164,85 +165,6 @@ fn any_lacks_policy(options: &[BgpOption]) -> bool
     options.iter().any(|option| is_lacking(option))
 }
 
-// ---- the options that count
-
-fn next_local(found: Option<Num>, option: &BgpOption) -> Option<Num>
-    ensures { result ≡ of.last_local found (bgp_setting_of option.now ∷ []) }
-{
-    match option {
-        BgpOption::Channel(_) => found,
-        BgpOption::Local { number: own, .. } => Some(*own),
-        BgpOption::Neighbor { .. } => found,
-        BgpOption::MedMetric(_) => found,
-        BgpOption::InterpretCommunities(_) => found,
-        BgpOption::DefaultMed { .. } => found,
-        BgpOption::DefaultLocalPref { .. } => found,
-        BgpOption::Transport(_) => found,
-    }
-}
-
-/// The number of the own autonomous system, as it was written last.
-pub fn last_local(options: &[BgpOption]) -> Option<Num>
-    ensures { result ≡ of.last_local None (map bgp_setting_of options.now) }
-{
-    let mut found = None;
-    for option in options {
-        found = next_local(found, option);
-    }
-    found
-}
-
-fn next_neighbor(found: Option<Num>, option: &BgpOption) -> Option<Num>
-    ensures { result ≡ of.last_neighbor found (bgp_setting_of option.now ∷ []) }
-{
-    match option {
-        BgpOption::Channel(_) => found,
-        BgpOption::Local { .. } => found,
-        BgpOption::Neighbor { number: other, .. } => Some(*other),
-        BgpOption::MedMetric(_) => found,
-        BgpOption::InterpretCommunities(_) => found,
-        BgpOption::DefaultMed { .. } => found,
-        BgpOption::DefaultLocalPref { .. } => found,
-        BgpOption::Transport(_) => found,
-    }
-}
-
-/// The number of the neighbour's autonomous system, as it was written last.
-pub fn last_neighbor(options: &[BgpOption]) -> Option<Num>
-    ensures { result ≡ of.last_neighbor None (map bgp_setting_of options.now) }
-{
-    let mut found = None;
-    for option in options {
-        found = next_neighbor(found, option);
-    }
-    found
-}
-
-fn next_med_metric(found: Option<Switch>, option: &BgpOption) -> Option<Switch>
-    ensures { result ≡ of.last_med_metric found (bgp_setting_of option.now ∷ []) }
-{
-    match option {
-        BgpOption::Channel(_) => found,
-        BgpOption::Local { .. } => found,
-        BgpOption::Neighbor { .. } => found,
-        BgpOption::MedMetric(switch) => Some(*switch),
-        BgpOption::InterpretCommunities(_) => found,
-        BgpOption::DefaultMed { .. } => found,
-        BgpOption::DefaultLocalPref { .. } => found,
-        BgpOption::Transport(_) => found,
-    }
-}
-
-fn last_med_metric(options: &[BgpOption]) -> Option<Switch>
-    ensures { result ≡ of.last_med_metric None (map bgp_setting_of options.now) }
-{
-    let mut found = None;
-    for option in options {
-        found = next_med_metric(found, option);
-    }
-    found
-}
-
 // ---- sessions
 
 pub fn as_number(text: &[u8], declared: &Declared, number: Option<Num>) -> Option<u32>
@@ -284,17 +206,6 @@ fn policies(at: usize, external: bool, options: &[BgpOption], first: &mut Option
     note_if(first, external & lacks, at, ConfKind::PolicyMissing);
 }
 
-pub fn is_on(switch: Switch) -> bool
-    ensures { result ≡ of.is_on switch }
-{
-    match switch {
-        Switch::On => true,
-        Switch::Yes => true,
-        Switch::Off => false,
-        Switch::No => false,
-    }
-}
-
 /// MEDs of all neighbours are compared, and the configuration has to say so.
 fn med_metric(at: usize, switch: Option<Switch>, first: &mut Option<Refusal>)
     ensures { first.new ≡ first_in first.old (of.med_metric at switch) }
@@ -317,14 +228,14 @@ fn session(
         ≡ first_in first.old (of.session (known_of text.now declared.now) at
         (map bgp_setting_of options.now)) }
 {
-    let local = last_local(options);
-    let neighbor = last_neighbor(options);
-    want_number(at, local, first);
+    let found = BgpOptions::of(options);
+    let neighbor = found.remote();
+    want_number(at, found.local, first);
     want_number(at, neighbor, first);
     let remote = as_number(text, declared, neighbor);
-    let external = is_external(as_number(text, declared, local), remote);
+    let external = is_external(as_number(text, declared, found.local), remote);
     policies(at, external, options, first);
-    med_metric(at, last_med_metric(options), first);
+    med_metric(at, found.med_metric, first);
 }
 
 pub(crate) fn bgp(

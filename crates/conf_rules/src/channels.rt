@@ -1,9 +1,9 @@
 // What is refused in channels and their policies.
 
-ghost use Rattle.std.specs.Prelude.{◌≡◌, ◌∷◌, ◌++◌, [], ◌||◌, not, map, true, None, OnOk};
+ghost use Rattle.std.specs.Prelude.{◌≡◌, ◌∷◌, ◌++◌, [], ◌||◌, is_none, map, true, None, OnOk};
 ghost use Rattle.conf_ast.specs.Configurations.{channel_of, channel_setting_of, passing_of};
+ghost use Rattle.conf_options.specs.Options.{channel_options};
 ghost use Rattle.conf_rules.specs.Channels as of;
-ghost use Rattle.conf_names.specs.Known as known;
 ghost use Rattle.conf_names.specs.Refusals.{first_in};
 ghost use Rattle.conf_names.specs.Seen.{known_of};
 ghost use Rattle.conf_rules.specs.Walks.{behind};
@@ -15,6 +15,7 @@ use conf_ast::{ConfKind, Name};
 use conf_names::declared::{Declared, filter, table, table_of};
 use conf_names::refusal::{Refusal, note_if};
 use conf_names::values::number;
+use conf_options::ChannelOptions;
 use std::alloc::Global;
 
 // ---- policies
@@ -105,31 +106,6 @@ fn settings(
     Ok(())
 }
 
-/// The table that an option names, in place of the one that was named before.
-fn named_table(found: Option<Name>, option: &ChannelOption) -> Option<Name>
-    ensures { result ≡ of.last_table found (channel_setting_of option.now ∷ []) }
-{
-    match option {
-        ChannelOption::Table(name) => Some(*name),
-        ChannelOption::Import(_) => found,
-        ChannelOption::Export(_) => found,
-        ChannelOption::Preference { .. } => found,
-        ChannelOption::ImportLimit(_) => found,
-        ChannelOption::NextHop(_) => found,
-    }
-}
-
-/// The table of a channel that was named last.
-pub fn last_table(options: &[ChannelOption]) -> Option<Name>
-    ensures { result ≡ of.last_table None (map channel_setting_of options.now) }
-{
-    let mut found = None;
-    for option in options {
-        found = named_table(found, option);
-    }
-    found
-}
-
 pub(crate) fn same_family(family: Family, other: Family) -> bool
     ensures { result ≡ of.same_family family other }
 {
@@ -188,10 +164,11 @@ fn within(
         ≡ first_in first.old (of.settings (known_of text.now declared.now)
         (map channel_setting_of options.now)
         ++ of.family_of_table (known_of text.now declared.now) family
-        (of.last_table None (map channel_setting_of options.now)))) }
+        (channel_options (map channel_setting_of options.now)).table)) }
 {
     settings(alloc, text, declared, options, first)?;
-    family_of_table(text, declared, family, last_table(options), first);
+    let found = ChannelOptions::of(options);
+    family_of_table(text, declared, family, found.table, first);
     Ok(())
 }
 
@@ -226,52 +203,13 @@ pub(crate) fn second_channel(has_one: bool, channel: &Channel, first: &mut Optio
 
 // ---- policies that are missing
 
-fn is_import(option: &ChannelOption) -> bool
-    ensures { result ≡ of.is_import (channel_setting_of option.now) }
-{
-    match option {
-        ChannelOption::Table(_) => false,
-        ChannelOption::Import(_) => true,
-        ChannelOption::Export(_) => false,
-        ChannelOption::Preference { .. } => false,
-        ChannelOption::ImportLimit(_) => false,
-        ChannelOption::NextHop(_) => false,
-    }
-}
-
-fn is_export(option: &ChannelOption) -> bool
-    ensures { result ≡ of.is_export (channel_setting_of option.now) }
-{
-    match option {
-        ChannelOption::Table(_) => false,
-        ChannelOption::Import(_) => false,
-        ChannelOption::Export(_) => true,
-        ChannelOption::Preference { .. } => false,
-        ChannelOption::ImportLimit(_) => false,
-        ChannelOption::NextHop(_) => false,
-    }
-}
-
-fn has_import(options: &[ChannelOption]) -> bool
-    ensures { result ≡ of.has_import (map channel_setting_of options.now) }
-{
-    options.iter().any(|option| is_import(option))
-}
-
-fn has_export(options: &[ChannelOption]) -> bool
-    ensures { result ≡ of.has_export (map channel_setting_of options.now) }
-{
-    options.iter().any(|option| is_export(option))
-}
-
 fn lacks_either(options: &[ChannelOption]) -> bool
     ensures { result
-        ≡ (not (of.has_import (map channel_setting_of options.now))
-        || not (of.has_export (map channel_setting_of options.now))) }
+        ≡ (is_none (channel_options (map channel_setting_of options.now)).import
+        || is_none (channel_options (map channel_setting_of options.now)).export) }
 {
-    let import = has_import(options);
-    let export = has_export(options);
-    !import | !export
+    let found = ChannelOptions::of(options);
+    found.import.is_none() | found.export.is_none()
 }
 
 /// A channel that says nothing of its imports or of its exports.

@@ -13,7 +13,6 @@ mod pipes;
 mod statements;
 mod static_protocols;
 
-pub use bgp::{as_number, is_on, last_local, last_neighbor};
-pub use channels::last_table;
-pub use pipes::{joint_of, last_peer, last_table as last_pipe_table};
+pub use bgp::as_number;
+pub use pipes::joint_of;
 pub use statements::first_in_statement;

@@ -1,6 +1,6 @@
 // What is refused in pipes.
 
-ghost use Rattle.std.specs.Prelude.{◌≡◌, ◌++◌, ◌∷◌, [], map, None, OnOk};
+ghost use Rattle.std.specs.Prelude.{◌≡◌, map, None, OnOk};
 ghost use Rattle.conf_ast.specs.Configurations.{instance_of, pipe_setting_of};
 ghost use Rattle.conf_names.specs.Known.{ArePipesThere};
 ghost use Rattle.conf_rules.specs.Protocols as of;
@@ -15,6 +15,7 @@ use conf_names::declared::{Declared, family_of, known_number, table, table_of};
 use conf_names::joints::{Joint, is_joined};
 use conf_names::names::{declaring_pipe, place_of};
 use conf_names::refusal::{Refusal, note_if};
+use conf_options::PipeOptions;
 use std::alloc::Global;
 
 fn setting(
@@ -60,50 +61,6 @@ fn settings(
 }
 
 // ---- the tables that count
-
-fn next_table(found: Option<Name>, option: &PipeOption) -> Option<Name>
-    ensures { result ≡ of.last_table found (pipe_setting_of option.now ∷ []) }
-{
-    match option {
-        PipeOption::Table(name) => Some(*name),
-        PipeOption::PeerTable(_) => found,
-        PipeOption::Import(_) => found,
-        PipeOption::Export(_) => found,
-    }
-}
-
-/// The primary table that was named last.
-pub fn last_table(options: &[PipeOption]) -> Option<Name>
-    ensures { result ≡ of.last_table None (map pipe_setting_of options.now) }
-{
-    let mut found = None;
-    for option in options {
-        found = next_table(found, option);
-    }
-    found
-}
-
-fn next_peer(found: Option<Name>, option: &PipeOption) -> Option<Name>
-    ensures { result ≡ of.last_peer found (pipe_setting_of option.now ∷ []) }
-{
-    match option {
-        PipeOption::Table(_) => found,
-        PipeOption::PeerTable(name) => Some(*name),
-        PipeOption::Import(_) => found,
-        PipeOption::Export(_) => found,
-    }
-}
-
-/// The peer table that was named last.
-pub fn last_peer(options: &[PipeOption]) -> Option<Name>
-    ensures { result ≡ of.last_peer None (map pipe_setting_of options.now) }
-{
-    let mut found = None;
-    for option in options {
-        found = next_peer(found, option);
-    }
-    found
-}
 
 /// A pipe has a peer table.
 fn want_peer(at: usize, peer: Option<Name>, first: &mut Option<Refusal>)
@@ -189,8 +146,9 @@ pub fn joint_of(text: &[u8], declared: &Declared, options: &[PipeOption]) -> Opt
     ensures { result
         ≡ of.joint_of (known_of text.now declared.now) (map pipe_setting_of options.now) }
 {
-    let table = primary_number(text, declared, last_table(options));
-    let peer = peer_number(text, declared, last_peer(options));
+    let found = PipeOptions::of(options);
+    let table = primary_number(text, declared, found.table);
+    let peer = peer_number(text, declared, found.peer);
     joint(table, peer)
 }
 
@@ -237,9 +195,9 @@ pub(crate) fn pipe(
     declaring_pipe(alloc, text, declared, protocol.at, protocol.name, first)?;
     settings(alloc, text, declared, options, first)?;
     let at = place_of(protocol.at, protocol.name);
-    let peer = last_peer(options);
-    want_peer(at, peer, first);
-    peer_family(text, declared, last_table(options), peer, first);
+    let found = PipeOptions::of(options);
+    want_peer(at, found.peer, first);
+    peer_family(text, declared, found.table, found.peer, first);
     cycle(alloc, text, declared, at, options, first)?;
     Ok(())
 }

@@ -1,11 +1,8 @@
 -- What a checked configuration holds in memory is what its statements come to.
-use Rattle.std.proofs.Common.{◌≡◌, ◌∙◌, sym, ap, refl, subst, ℕ, zero, suc, Bool, List, [], ◌∷◌, ◌++◌, map, Option, Some, None, Result, Ok, Err, append-nil, append_assoc}
+use Rattle.std.proofs.Common.{◌≡◌, ◌∙◌, sym, ap, refl, ℕ, zero, suc, Bool, List, [], ◌∷◌, ◌++◌, map, Option, Some, None, Result, Ok, Err, append-nil, append_assoc}
 use Rattle.std.proofs.Math.Path.{fun_ext}
 use Rattle.std.specs.Prelude.{if◌then◌else◌, slice_get}
-use Rattle.attrs.specs.declared.route.Route.{Route}
-use Rattle.bits_ip.specs.Prefix.{Net}
 use Rattle.bits_ip.specs.declared.address.Addr.{Addr}
-use Rattle.bits_ip.specs.declared.address.Addr.TheVariants as addrs
 use Rattle.bits_ip.specs.declared.address.Family.{Family}
 use Rattle.conf_ast.specs.Names.{name_bytes}
 use Rattle.conf_ast.specs.declared.named.Name.{Name}
@@ -22,10 +19,11 @@ use Rattle.filt_meaning.specs.Scopes.{context_of, named}
 use Rattle.filt_meaning.specs.declared.scope.Scope.{Scope}
 use Rattle.filt_meaning.specs.declared.tree.TFilter.{TFilter}
 use Rattle.conf_names.specs.Known.{Known}
-use Rattle.conf_rules.specs.Protocols.{bgp_channels, last_peer, static_channels, static_routes}
+use Rattle.conf_options.specs.Defaults.{bgp_preference, static_preference}
+use Rattle.conf_options.specs.Options.{pipe_options}
+use Rattle.conf_rules.specs.Protocols.{bgp_channels, static_channels, static_routes}
 use Rattle.conf_rules.specs.Statements.{is_master}
 use Rattle.conf_check.specs.Behind.{at_start, behind, behind_one, context_in, with_table, with_value}
-use Rattle.conf_check.specs.Checked as checks
 use Rattle.conf_check.specs.Checked.{Source, AreProtocols, Does, DoEach, IsBgp, IsBody, IsChannel, IsChecked, IsOnly, IsPeer, IsPipe, IsPolicy, IsProtocol, IsStatic, filter_sources, protocol_name, route_of}
 use Rattle.conf_check.specs.declared.checked.BgpDef.{BgpDef}
 use Rattle.conf_check.specs.declared.checked.ChannelDef.{ChannelDef}
@@ -157,21 +155,21 @@ module _ (text : List ℕ) (scope : Scope) (filters : List TFilter) (names : Lis
       (policy_agrees text scope filters names sources each before _ def.export is.exports)
       is.preferred is.limited
 
-  static_agrees : (cs : List FamilyChannel) (p : Instance StaticSetting) (def : StaticDef) → IsOnly (λ c. IsChannel Here Doing checks.static_preference c def.channel) cs
+  static_agrees : (cs : List FamilyChannel) (p : Instance StaticSetting) (def : StaticDef) → IsOnly (λ c. IsChannel Here Doing static_preference c def.channel) cs
       → def.routes ≡ map route_of (static_routes p.settings)
       → Some (of.IsStatic (seen.static_seen scope filters names def)) ≡ of.static_with Said Here cs (map route_of (static_routes p.settings))
   static_agrees [] p def only routes = absurd only
   static_agrees (c ∷ d ∷ more) p def only routes = absurd only
   static_agrees (c ∷ []) p def only routes =
-      ap (λ (x : of.Channel). Some (of.IsStatic (record { channel = x; routes = def.routes }))) (channel_agrees checks.static_preference c def.channel only)
-      ∙ ap (λ (x : List StaticRoute). Some (of.IsStatic (record { channel = channel_of Said Here checks.static_preference c; routes = x }))) routes
+      ap (λ (x : of.Channel). Some (of.IsStatic (record { channel = x; routes = def.routes }))) (channel_agrees static_preference c def.channel only)
+      ∙ ap (λ (x : List StaticRoute). Some (of.IsStatic (record { channel = channel_of Said Here static_preference c; routes = x }))) routes
 
-  bgp_agrees : (cs : List FamilyChannel) (p : Instance BgpSetting) (def : BgpDef) → IsOnly (λ c. IsChannel Here Doing checks.bgp_preference c def.channel) cs → IsBgp Here Doing p def
+  bgp_agrees : (cs : List FamilyChannel) (p : Instance BgpSetting) (def : BgpDef) → IsOnly (λ c. IsChannel Here Doing bgp_preference c def.channel) cs → IsBgp Here Doing p def
       → Some (of.IsBgp (seen.bgp_seen scope filters names def)) ≡ of.bgp_with Said Here cs p.settings
   bgp_agrees [] p def only is = absurd only
   bgp_agrees (c ∷ d ∷ more) p def only is = absurd only
   bgp_agrees (c ∷ []) p def only is =
-      ap (λ (x : of.Bgp). Some (of.IsBgp x)) (bgp_same (seen.bgp_seen scope filters names def) _ is.local is.neighbor is.remote is.interpret is.med is.local_pref (channel_agrees checks.bgp_preference c def.channel only))
+      ap (λ (x : of.Bgp). Some (of.IsBgp x)) (bgp_same (seen.bgp_seen scope filters names def) _ is.local is.neighbor is.remote is.interpret is.med is.local_pref (channel_agrees bgp_preference c def.channel only))
 
   pipe_agrees : (peer : Option Name) (p : Instance PipeSetting) (def : PipeDef) → IsPeer Here peer def → IsPipe Here Doing p def
       → Some (of.IsPipe (seen.pipe_seen scope filters names def)) ≡ of.pipe_with Said Here peer p.settings
@@ -184,7 +182,7 @@ module _ (text : List ℕ) (scope : Scope) (filters : List TFilter) (names : Lis
   body_agrees : (d : conf.Declaration) (body : ProtocolBody) → IsBody Here Doing d body → Some (seen.body_seen scope filters names body) ≡ body_of Said Here d
   body_agrees (conf.Static p) (bodies.Static def) is = static_agrees (static_channels p.settings) p def is.channel is.routes
   body_agrees (conf.Bgp p) (bodies.Bgp def) is = bgp_agrees (bgp_channels p.settings) p def is.channel is
-  body_agrees (conf.Pipe p) (bodies.Pipe def) is = pipe_agrees (last_peer None p.settings) p def is.peer is
+  body_agrees (conf.Pipe p) (bodies.Pipe def) is = pipe_agrees (pipe_options p.settings).peer p def is.peer is
   body_agrees (conf.Static p) (bodies.Bgp def) is = absurd is
   body_agrees (conf.Static p) (bodies.Pipe def) is = absurd is
   body_agrees (conf.Bgp p) (bodies.Static def) is = absurd is

@@ -8,9 +8,10 @@ use Rattle.conf_check.proofs.Allowed.{nil_left, nil_right, none_refused}
 use Rattle.conf_check.specs.Behind.{at_start, behind, behind_one}
 use Rattle.conf_check.specs.Checked.{Source, filter_sources, protocol_name}
 use Rattle.conf_check.specs.Refused.{refusal_of}
+use Rattle.conf_options.specs.Options.{pipe_options}
 use Rattle.conf_rules.specs.Channels.{one_channel}
 use Rattle.conf_names.specs.Known.{Known}
-use Rattle.conf_rules.specs.Protocols.{bgp_channels, bgp_settings, cycle, joint_of, lacks, last_peer, last_table, nettypes, peer_family, pipe_settings, repeated, session, static_channels, static_routes, static_settings}
+use Rattle.conf_rules.specs.Protocols.{bgp_channels, bgp_settings, cycle, joint_of, lacks, nettypes, peer_family, pipe_settings, repeated, session, static_channels, static_routes, static_settings}
 use Rattle.conf_names.specs.Names.{bgp_stem, declaring, most_protocols, own_name, pipe_names, pipe_stem, place_of, static_stem}
 use Rattle.conf_names.specs.Refusals.{first_in}
 use Rattle.conf_rules.specs.Statements.{is_master, refusals}
@@ -67,8 +68,8 @@ bounded known (conf.Bgp p) is few =
 bounded known (conf.Pipe p) is few =
     omega (
       arith,
-      room_behind known p.at p.name (pipe_names (own_name known pipe_stem p.name)) (pipe_settings known p.settings) (lacks (place_of p.at p.name) (last_peer None p.settings))
-          (peer_family known (last_table None p.settings) (last_peer None p.settings))
+      room_behind known p.at p.name (pipe_names (own_name known pipe_stem p.name)) (pipe_settings known p.settings) (lacks (place_of p.at p.name) (pipe_options p.settings).peer)
+          (peer_family known (pipe_options p.settings).table (pipe_options p.settings).peer)
           (nil_left (pipe_front known p) (cycle known (place_of p.at p.name) (joint_of known p.settings)) is),
     )
 

@@ -10,7 +10,8 @@ use Rattle.filt_meaning.specs.Names.{named_in}
 use Rattle.conf_names.specs.declared.joints.Joint.{Joint}
 use Rattle.conf_names.specs.Joints.{IsForest, JoinsApart, joined}
 use Rattle.conf_names.specs.Known.{Known, known_number, table_number, table_of}
-use Rattle.conf_rules.specs.Protocols.{bgp_channels, cycle, joint, joint_of, last_peer, last_table, peer_number, pipe, primary_name, primary_number, static_channels, static_routes}
+use Rattle.conf_options.specs.Options.{pipe_options}
+use Rattle.conf_rules.specs.Protocols.{bgp_channels, cycle, joint, joint_of, peer_number, pipe, primary_name, primary_number, static_channels, static_routes}
 use Rattle.conf_names.specs.Names.{place_of}
 use Rattle.conf_names.specs.Refusals.{first_in}
 use Rattle.conf_rules.specs.Statements.{is_master, refusals}
@@ -54,15 +55,15 @@ number_is known name f is = ap (λ (o : Option Family). option_map (λ (x : Fami
 not_joined : (known : Known) (at : ℕ) (o : Option Joint) (j : Joint) → o ≡ Some j → cycle known at o ≡ [] → joined known.pipes j.table j.peer ≡ false
 not_joined known at o j is h = not_refused (joined known.pipes j.table j.peer) at _ (sym (ap (λ (x : Option Joint). cycle known at x) is) ∙ h)
 
-pipe_step : (said : Passing → Filter) (known : Known) (more : Tables) (p : Instance PipeSetting) (peer : Option Name) → known.tables ≡ Masters more → last_peer None p.settings ≡ peer → pipe known p ≡ []
+pipe_step : (said : Passing → Filter) (known : Known) (more : Tables) (p : Instance PipeSetting) (peer : Option Name) → known.tables ≡ Masters more → (pipe_options p.settings).peer ≡ peer → pipe known p ≡ []
     → Step known (known.pipes ++ option_to_list (joint_of known p.settings)) (of.pipe_with said known peer p.settings)
 pipe_step said known more p None masters is h = absurd (has_peer known p h is)
 pipe_step said known more p (Some name) masters is h =
     let two = are_two known p name more masters is h in
-    let primary = primary_name known.scene.text (last_table None p.settings) in
+    let primary = primary_name known.scene.text (pipe_options p.settings).table in
     let j : Joint = record { table = table_number known primary; peer = table_number known (name_bytes known.scene.text name) } in
     let joins : joint_of known p.settings ≡ Some j =
-    ap (λ (o : Option Name). joint (primary_number known (last_table None p.settings)) (peer_number known o)) is
+    ap (λ (o : Option Name). joint (primary_number known (pipe_options p.settings).table) (peer_number known o)) is
     ∙ ap (λ (o : Option ℕ). joint o (peer_number known (Some name))) (number_is known primary (or_v4 (table_of known name)) two.primary)
     ∙ ap (λ (o : Option ℕ). joint (Some (table_number known primary)) o) (number_is known (name_bytes known.scene.text name) (or_v4 (table_of known name)) two.other) in
     (ap (λ (o : Option Joint). known.pipes ++ option_to_list o) joins, (not_joined known (place_of p.at p.name) (joint_of known p.settings) j joins (no_cycle known p h), tt))
@@ -91,7 +92,7 @@ step said known more (conf.DefineFilter at name ss) masters h = same_pipes known
 step said known more (conf.Device name semicolon) masters h = same_pipes known
 step said known more (conf.Static p) masters h = no_pipe known (body_of said known (conf.Static p)) (static_none said known (static_channels p.settings) (map route_of (static_routes p.settings)))
 step said known more (conf.Bgp p) masters h = no_pipe known (body_of said known (conf.Bgp p)) (bgp_none said known (bgp_channels p.settings) p.settings)
-step said known more (conf.Pipe p) masters h = pipe_step said known more p (last_peer None p.settings) masters refl h
+step said known more (conf.Pipe p) masters h = pipe_step said known more p (pipe_options p.settings).peer masters refl h
 
 -- ---- all statements
 

@@ -1,9 +1,10 @@
 -- The policies that count are among those that are written.
-use Rattle.std.proofs.Common.{List, [], ◌∷◌, flat_map}
+use Rattle.std.proofs.Common.{List, [], ◌∷◌, Option, Some, None, flat_map, fold}
 use Rattle.conf_ast.specs.Configurations.{Passing, ChannelSetting, ChannelTable, ChannelImport, ChannelExport, ChannelPreference, ChannelLimit, ChannelNextHop, FamilyChannel, StaticSetting, StaticChannel, StaticRoute, BgpSetting, BgpChannel, BgpLocal, BgpNeighbor, BgpMedMetric, BgpInterpretCommunities, BgpDefaultMed, BgpDefaultLocalPref, BgpTransport, PipeSetting, PipeTable, PipePeerTable, PipeImport, PipeExport}
 use Rattle.conf_ast.specs.Filters.{Statements}
 use Rattle.conf_rules.specs.Protocols.{bgp_channels, static_channels}
-use Rattle.conf_check.specs.Checked.{last_export, last_import, last_pipe_export, last_pipe_import}
+use Rattle.conf_options.specs.Defaults.{export_or, import_or}
+use Rattle.conf_options.specs.Options.{ChannelOptions, PipeOptions, with_channel_option, with_pipe_option}
 use Rattle.conf_system.specs.Written.{in_bgp_setting, in_channel, in_channel_setting, in_pipe_setting, in_policy, in_static_setting}
 use Rattle.conf_system.proofs.Every.{Every, left, right}
 
@@ -17,31 +18,36 @@ module _ (W : Statements → Type 0) where
 
   -- ---- channels
 
-  pub of_import : (found : Passing) (all : List ChannelSetting) → OfPolicy found
-      → Every W (flat_map in_channel_setting all) → OfPolicy (last_import found all)
-  of_import found [] p w = p
-  of_import found (ChannelImport r ∷ more) p w =
-      of_import r more (left W (in_policy r) (flat_map in_channel_setting more) w)
-      (right W (in_policy r) (flat_map in_channel_setting more) w)
-  of_import found (ChannelExport r ∷ more) p w =
-      of_import found more p (right W (in_policy r) (flat_map in_channel_setting more) w)
-  of_import found (ChannelTable name ∷ more) p w = of_import found more p w
-  of_import found (ChannelPreference at n ∷ more) p w = of_import found more p w
-  of_import found (ChannelLimit l ∷ more) p w = of_import found more p w
-  of_import found (ChannelNextHop hop ∷ more) p w = of_import found more p w
+  -- the same where one is written
+  abbrev OfMaybe : Option Passing → Type 0
+  OfMaybe None = Every W []
+  OfMaybe (Some p) = OfPolicy p
 
-  pub of_export : (found : Passing) (all : List ChannelSetting) → OfPolicy found
-      → Every W (flat_map in_channel_setting all) → OfPolicy (last_export found all)
-  of_export found [] p w = p
-  of_export found (ChannelExport r ∷ more) p w =
-      of_export r more (left W (in_policy r) (flat_map in_channel_setting more) w)
+  abbrev OfBoth : (import export : Option Passing) → Type 0
+  OfBoth import export = OfMaybe import × OfMaybe export
+
+  pub of_import : (written : Option Passing) → OfMaybe written → OfPolicy (import_or written)
+  of_import None p = tt
+  of_import (Some r) p = p
+
+  pub of_export : (written : Option Passing) → OfMaybe written → OfPolicy (export_or written)
+  of_export None p = tt
+  of_export (Some r) p = p
+
+  pub of_channel_options : (o : ChannelOptions) (all : List ChannelSetting) → OfBoth o.import o.export
+      → Every W (flat_map in_channel_setting all)
+      → OfBoth (fold with_channel_option o all).import (fold with_channel_option o all).export
+  of_channel_options o [] p w = p
+  of_channel_options o (ChannelImport r ∷ more) p w =
+      of_channel_options (with_channel_option o (ChannelImport r)) more (left W (in_policy r) (flat_map in_channel_setting more) w, p.1)
       (right W (in_policy r) (flat_map in_channel_setting more) w)
-  of_export found (ChannelImport r ∷ more) p w =
-      of_export found more p (right W (in_policy r) (flat_map in_channel_setting more) w)
-  of_export found (ChannelTable name ∷ more) p w = of_export found more p w
-  of_export found (ChannelPreference at n ∷ more) p w = of_export found more p w
-  of_export found (ChannelLimit l ∷ more) p w = of_export found more p w
-  of_export found (ChannelNextHop hop ∷ more) p w = of_export found more p w
+  of_channel_options o (ChannelExport r ∷ more) p w =
+      of_channel_options (with_channel_option o (ChannelExport r)) more (p.0, left W (in_policy r) (flat_map in_channel_setting more) w)
+      (right W (in_policy r) (flat_map in_channel_setting more) w)
+  of_channel_options o (ChannelTable name ∷ more) p w = of_channel_options (with_channel_option o (ChannelTable name)) more p w
+  of_channel_options o (ChannelPreference at n ∷ more) p w = of_channel_options (with_channel_option o (ChannelPreference at n)) more p w
+  of_channel_options o (ChannelLimit l ∷ more) p w = of_channel_options (with_channel_option o (ChannelLimit l)) more p w
+  of_channel_options o (ChannelNextHop hop ∷ more) p w = of_channel_options (with_channel_option o (ChannelNextHop hop)) more p w
 
   -- ---- protocols
 
@@ -71,24 +77,15 @@ module _ (W : Statements → Type 0) where
 
   -- ---- pipes
 
-  pub of_pipe_import : (found : Passing) (all : List PipeSetting) → OfPolicy found
-      → Every W (flat_map in_pipe_setting all) → OfPolicy (last_pipe_import found all)
-  of_pipe_import found [] p w = p
-  of_pipe_import found (PipeImport r ∷ more) p w =
-      of_pipe_import r more (left W (in_policy r) (flat_map in_pipe_setting more) w)
+  pub of_pipe_options : (o : PipeOptions) (all : List PipeSetting) → OfBoth o.import o.export
+      → Every W (flat_map in_pipe_setting all)
+      → OfBoth (fold with_pipe_option o all).import (fold with_pipe_option o all).export
+  of_pipe_options o [] p w = p
+  of_pipe_options o (PipeImport r ∷ more) p w =
+      of_pipe_options (with_pipe_option o (PipeImport r)) more (left W (in_policy r) (flat_map in_pipe_setting more) w, p.1)
       (right W (in_policy r) (flat_map in_pipe_setting more) w)
-  of_pipe_import found (PipeExport r ∷ more) p w =
-      of_pipe_import found more p (right W (in_policy r) (flat_map in_pipe_setting more) w)
-  of_pipe_import found (PipeTable name ∷ more) p w = of_pipe_import found more p w
-  of_pipe_import found (PipePeerTable name ∷ more) p w = of_pipe_import found more p w
-
-  pub of_pipe_export : (found : Passing) (all : List PipeSetting) → OfPolicy found
-      → Every W (flat_map in_pipe_setting all) → OfPolicy (last_pipe_export found all)
-  of_pipe_export found [] p w = p
-  of_pipe_export found (PipeExport r ∷ more) p w =
-      of_pipe_export r more (left W (in_policy r) (flat_map in_pipe_setting more) w)
+  of_pipe_options o (PipeExport r ∷ more) p w =
+      of_pipe_options (with_pipe_option o (PipeExport r)) more (p.0, left W (in_policy r) (flat_map in_pipe_setting more) w)
       (right W (in_policy r) (flat_map in_pipe_setting more) w)
-  of_pipe_export found (PipeImport r ∷ more) p w =
-      of_pipe_export found more p (right W (in_policy r) (flat_map in_pipe_setting more) w)
-  of_pipe_export found (PipeTable name ∷ more) p w = of_pipe_export found more p w
-  of_pipe_export found (PipePeerTable name ∷ more) p w = of_pipe_export found more p w
+  of_pipe_options o (PipeTable name ∷ more) p w = of_pipe_options (with_pipe_option o (PipeTable name)) more p w
+  of_pipe_options o (PipePeerTable name ∷ more) p w = of_pipe_options (with_pipe_option o (PipePeerTable name)) more p w

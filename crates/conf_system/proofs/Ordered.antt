@@ -27,15 +27,16 @@ use Rattle.filt_types.specs.Weight.{block_weight}
 use Rattle.conf_names.specs.Known.{Known}
 use Rattle.conf_rules.specs.Protocols.{bgp_channels, static_channels}
 use Rattle.conf_check.specs.Behind.{at_start, behind}
-use Rattle.conf_check.specs.Checked as checks
-use Rattle.conf_check.specs.Checked.{AreProtocols, Does, DoEach, IsBody, IsChannel, IsChecked, IsOnly, IsPolicy, IsProtocol, NextProtocol, Source, filter_sources, is_protocol, last_export, last_import, last_pipe_export, last_pipe_import}
+use Rattle.conf_check.specs.Checked.{AreProtocols, Does, DoEach, IsBody, IsChannel, IsChecked, IsOnly, IsPolicy, IsProtocol, NextProtocol, Source, filter_sources, is_protocol}
 use Rattle.conf_check.specs.declared.checked.ChannelDef.{ChannelDef}
 use Rattle.conf_check.specs.declared.checked.PolicyDef.{PolicyDef}
 use Rattle.conf_check.specs.declared.checked.PolicyDef.TheVariants as policies
 use Rattle.conf_check.specs.declared.checked.ProtocolBody.{ProtocolBody}
 use Rattle.conf_check.specs.declared.checked.ProtocolBody.TheVariants as bodies
 use Rattle.conf_check.specs.declared.checked.ProtocolDef.{ProtocolDef}
-use Rattle.conf_rules.specs.Channels.{settings_of}
+use Rattle.conf_options.specs.Defaults.{bgp_preference, export_or, import_or, static_preference}
+use Rattle.conf_options.specs.Options.{no_channel_options, no_pipe_options, pipe_options}
+use Rattle.conf_rules.specs.Channels.{options_of, settings_of}
 use Rattle.conf_system.specs.Behind.{context_behind, scene_behind}
 use Rattle.conf_system.specs.Coded.{AllCanRun, AreWithin, BodyCanRun, CanRun, ChannelCanRun, CanRunOver, IsTyped, PolicyCanRun, ProtocolCanRun}
 use Rattle.conf_system.specs.Written.{IsWritten, filters_in, in_policy}
@@ -43,7 +44,7 @@ use Rattle.conf_system.specs.declared.system.System.{System as Held}
 use Rattle.conf_system.proofs.Conditions.{none_left}
 use Rattle.conf_system.proofs.Every.{Every, members, weaker}
 use Rattle.conf_system.proofs.Fine.{condition_fine}
-use Rattle.conf_system.proofs.Last.{OfChannel, of_bgp, of_export, of_import, of_pipe_export, of_pipe_import, of_static}
+use Rattle.conf_system.proofs.Last.{OfChannel, of_bgp, of_channel_options, of_export, of_import, of_pipe_options, of_static}
 use Rattle.conf_system.proofs.Named.{named_written}
 
 -- The filters that are written in these statements are never stuck.
@@ -89,10 +90,12 @@ module _ (text : List ℕ) (held : Held) (all : List conf.Declaration) (safe : A
     policy_before (PassByFilter at name) (policies.Own f) w is = absurd is
 
     channel_before : (n : ℕ) (c : FamilyChannel) (def : ChannelDef) → OfChannel Written c → IsChannel known Here n c def → ChannelCanRun held def
-    channel_before n c def w is = (
-      policy_before (last_import PassAll (settings_of c)) def.import (of_import Written PassAll (settings_of c) tt w) is.imports,
-      policy_before (last_export PassNone (settings_of c)) def.export (of_export Written PassNone (settings_of c) tt w) is.exports,
-    )
+    channel_before n c def w is =
+        let o = options_of c in
+        let written = of_channel_options Written no_channel_options (settings_of c) (tt, tt) w in (
+          policy_before (import_or o.import) def.import (of_import Written o.import written.0) is.imports,
+          policy_before (export_or o.export) def.export (of_export Written o.export written.1) is.exports,
+        )
 
     only_before : (n : ℕ) (cs : List FamilyChannel) (def : ChannelDef) → Every (OfChannel Written) cs → IsOnly (λ c. IsChannel known Here n c def) cs → ChannelCanRun held def
     only_before n [] def w is = absurd is
@@ -100,12 +103,14 @@ module _ (text : List ℕ) (held : Held) (all : List conf.Declaration) (safe : A
     only_before n (c ∷ d ∷ more) def w is = absurd is
 
     body_before : (d : conf.Declaration) (body : ProtocolBody) → Every Written (filters_in d) → IsBody known Here d body → BodyCanRun held body
-    body_before (conf.Static p) (bodies.Static def) w is = only_before checks.static_preference (static_channels p.settings) def.channel (of_static Written p.settings w) is.channel
-    body_before (conf.Bgp p) (bodies.Bgp def) w is = only_before checks.bgp_preference (bgp_channels p.settings) def.channel (of_bgp Written p.settings w) is.channel
-    body_before (conf.Pipe p) (bodies.Pipe def) w is = (
-      policy_before (last_pipe_import PassAll p.settings) def.import (of_pipe_import Written PassAll p.settings tt w) is.imports,
-      policy_before (last_pipe_export PassNone p.settings) def.export (of_pipe_export Written PassNone p.settings tt w) is.exports,
-    )
+    body_before (conf.Static p) (bodies.Static def) w is = only_before static_preference (static_channels p.settings) def.channel (of_static Written p.settings w) is.channel
+    body_before (conf.Bgp p) (bodies.Bgp def) w is = only_before bgp_preference (bgp_channels p.settings) def.channel (of_bgp Written p.settings w) is.channel
+    body_before (conf.Pipe p) (bodies.Pipe def) w is =
+        let o = pipe_options p.settings in
+        let written = of_pipe_options Written no_pipe_options p.settings (tt, tt) w in (
+          policy_before (import_or o.import) def.import (of_import Written o.import written.0) is.imports,
+          policy_before (export_or o.export) def.export (of_export Written o.export written.1) is.exports,
+        )
     body_before (conf.Static p) (bodies.Bgp def) w is = absurd is
     body_before (conf.Static p) (bodies.Pipe def) w is = absurd is
     body_before (conf.Bgp p) (bodies.Static def) w is = absurd is

@@ -1,5 +1,5 @@
 -- The tables of channels: each is there, and is of its channel's family, where nothing is refused.
-use Rattle.std.proofs.Common.{◌≡◌, ◌∙◌, sym, ap, subst, refl, ℕ, zero, suc, Bool, true, false, List, [], ◌∷◌, ◌++◌, length, map, Option, Some, None, codes, arith, true≢false, append-nil, append_assoc}
+use Rattle.std.proofs.Common.{◌≡◌, ◌∙◌, sym, ap, subst, refl, ℕ, zero, suc, Bool, true, false, List, [], ◌∷◌, ◌++◌, length, map, Option, Some, None, codes, arith, true≢false, append-nil, append_assoc, fold}
 use Rattle.std.specs.Prelude.{⊤, slice_get, if◌then◌else◌}
 use Rattle.std.proofs.lemmas.Option.{none-some, same_Some}
 use Rattle.bits_ip.specs.declared.address.Family.{Family}
@@ -12,18 +12,20 @@ use Rattle.conf_ast.specs.Configurations.{Passing, ChannelSetting, ChannelTable,
 use Rattle.filt_meaning.specs.Names.{named_in, same_name}
 use Rattle.filt_types.specs.Items.{is_none}
 use Rattle.conf_names.specs.declared.refusal.Refusal.{Refusal}
+use Rattle.conf_options.specs.Defaults.{bgp_preference, static_preference}
+use Rattle.conf_options.specs.Options.{ChannelOptions, PipeOptions, no_channel_options, no_pipe_options, pipe_options, with_channel_option, with_pipe_option}
 use Rattle.conf_rules.specs.Channels as channels
-use Rattle.conf_rules.specs.Channels.{channel, family_of_table, is_other_family, last_table, one_channel, settings, settings_of}
+use Rattle.conf_rules.specs.Channels.{channel, family_of_table, is_other_family, one_channel, options_of, settings, settings_of}
 use Rattle.conf_names.specs.Known as known_rules
 use Rattle.conf_names.specs.Known.{Known, place_in, table_number, table_of}
 use Rattle.conf_names.specs.Names as of_names
 use Rattle.conf_rules.specs.Protocols as rules
-use Rattle.conf_rules.specs.Protocols.{bgp_channels, bgp_settings, last_peer, static_channels, static_routes, static_settings}
+use Rattle.conf_rules.specs.Protocols.{bgp_channels, bgp_settings, static_channels, static_routes, static_settings}
 use Rattle.conf_names.specs.Names.{bgp_stem, own_name, static_stem}
 use Rattle.conf_names.specs.Refusals.{refused_if}
 use Rattle.conf_rules.specs.Statements.{is_master, master, refusals}
 use Rattle.conf_check.specs.Behind.{at_start, behind, behind_one, with_table}
-use Rattle.conf_check.specs.Checked.{bgp_preference, or_v4, route_of, static_preference, table_name}
+use Rattle.conf_check.specs.Checked.{or_v4, route_of, table_name}
 use Rattle.conf_check.specs.declared.checked.StaticRoute.{StaticRoute as Routed}
 use Rattle.conf_check.proofs.Allowed.{nil_left, nil_right}
 use Rattle.conf_system.specs.Policies.{Filter}
@@ -76,15 +78,15 @@ IsKnown known (Some n) = is_none (table_of known n) ≡ false
 named_known : (known : Known) (n : Name) → known_rules.table known n ≡ [] → IsKnown known (Some n)
 named_known known n h = not_refused (is_none (table_of known n)) n.at _ h
 
-last_known : (known : Known) (found : Option Name) (ss : List ChannelSetting) → IsKnown known found → settings known ss ≡ [] → IsKnown known (last_table found ss)
-last_known known found [] is h = is
-last_known known found (ChannelTable n ∷ ss) is h =
-    last_known known (Some n) ss (named_known known n (nil_left (known_rules.table known n) (settings known ss) h)) (nil_right (known_rules.table known n) (settings known ss) h)
-last_known known found (ChannelImport p ∷ ss) is h = last_known known found ss is (nil_right (channels.passing known p) (settings known ss) h)
-last_known known found (ChannelExport p ∷ ss) is h = last_known known found ss is (nil_right (channels.passing known p) (settings known ss) h)
-last_known known found (ChannelPreference at n ∷ ss) is h = last_known known found ss is (nil_right (known_rules.number known n) (settings known ss) h)
-last_known known found (ChannelLimit l ∷ ss) is h = last_known known found ss is (nil_right (channels.limit known l) (settings known ss) h)
-last_known known found (ChannelNextHop hop ∷ ss) is h = last_known known found ss is h
+last_known : (known : Known) (o : ChannelOptions) (ss : List ChannelSetting) → IsKnown known o.table → settings known ss ≡ [] → IsKnown known (fold with_channel_option o ss).table
+last_known known o [] is h = is
+last_known known o (ChannelTable n ∷ ss) is h =
+    last_known known (with_channel_option o (ChannelTable n)) ss (named_known known n (nil_left (known_rules.table known n) (settings known ss) h)) (nil_right (known_rules.table known n) (settings known ss) h)
+last_known known o (ChannelImport p ∷ ss) is h = last_known known (with_channel_option o (ChannelImport p)) ss is (nil_right (channels.passing known p) (settings known ss) h)
+last_known known o (ChannelExport p ∷ ss) is h = last_known known (with_channel_option o (ChannelExport p)) ss is (nil_right (channels.passing known p) (settings known ss) h)
+last_known known o (ChannelPreference at n ∷ ss) is h = last_known known (with_channel_option o (ChannelPreference at n)) ss is (nil_right (known_rules.number known n) (settings known ss) h)
+last_known known o (ChannelLimit l ∷ ss) is h = last_known known (with_channel_option o (ChannelLimit l)) ss is (nil_right (channels.limit known l) (settings known ss) h)
+last_known known o (ChannelNextHop hop ∷ ss) is h = last_known known (with_channel_option o (ChannelNextHop hop)) ss is h
 
 family_found : (f : Family) (o : Option Family) → is_none o ≡ false → is_other_family f o ≡ false → o ≡ Some f
 family_found f None named other = absurd (true≢false named)
@@ -103,28 +105,28 @@ chosen known f (Some n) more masters is h =
 module _ (said : Passing → Filter) (known : Known) (more : Tables) (masters : known.tables ≡ Masters more) where
   channel_fits : (preference : ℕ) (c : FamilyChannel) → channel known c ≡ [] → Fits known.tables (of.channel_of said known preference c)
   channel_fits preference c h =
-      let named = last_table None (settings_of c) in
+      let named = (options_of c).table in
       chosen known c.family named more masters
-      (last_known known None (settings_of c) tt (nil_left (settings known (settings_of c)) (family_of_table known c.family named) h))
+      (last_known known no_channel_options (settings_of c) tt (nil_left (settings known (settings_of c)) (family_of_table known c.family named) h))
       (nil_right (settings known (settings_of c)) (family_of_table known c.family named) h)
 
 -- ---- pipes in which nothing is refused
 
-pipe_table_known : (known : Known) (found : Option Name) (ss : List PipeSetting) → IsKnown known found → rules.pipe_settings known ss ≡ [] → IsKnown known (rules.last_table found ss)
-pipe_table_known known found [] is h = is
-pipe_table_known known found (PipeTable n ∷ ss) is h =
-    pipe_table_known known (Some n) ss (named_known known n (nil_left (known_rules.table known n) (rules.pipe_settings known ss) h)) (nil_right (known_rules.table known n) (rules.pipe_settings known ss) h)
-pipe_table_known known found (PipePeerTable n ∷ ss) is h = pipe_table_known known found ss is (nil_right (known_rules.table known n) (rules.pipe_settings known ss) h)
-pipe_table_known known found (PipeImport p ∷ ss) is h = pipe_table_known known found ss is (nil_right (channels.passing known p) (rules.pipe_settings known ss) h)
-pipe_table_known known found (PipeExport p ∷ ss) is h = pipe_table_known known found ss is (nil_right (channels.passing known p) (rules.pipe_settings known ss) h)
+pipe_table_known : (known : Known) (o : PipeOptions) (ss : List PipeSetting) → IsKnown known o.table → rules.pipe_settings known ss ≡ [] → IsKnown known (fold with_pipe_option o ss).table
+pipe_table_known known o [] is h = is
+pipe_table_known known o (PipeTable n ∷ ss) is h =
+    pipe_table_known known (with_pipe_option o (PipeTable n)) ss (named_known known n (nil_left (known_rules.table known n) (rules.pipe_settings known ss) h)) (nil_right (known_rules.table known n) (rules.pipe_settings known ss) h)
+pipe_table_known known o (PipePeerTable n ∷ ss) is h = pipe_table_known known (with_pipe_option o (PipePeerTable n)) ss is (nil_right (known_rules.table known n) (rules.pipe_settings known ss) h)
+pipe_table_known known o (PipeImport p ∷ ss) is h = pipe_table_known known (with_pipe_option o (PipeImport p)) ss is (nil_right (channels.passing known p) (rules.pipe_settings known ss) h)
+pipe_table_known known o (PipeExport p ∷ ss) is h = pipe_table_known known (with_pipe_option o (PipeExport p)) ss is (nil_right (channels.passing known p) (rules.pipe_settings known ss) h)
 
-pipe_peer_known : (known : Known) (found : Option Name) (ss : List PipeSetting) → IsKnown known found → rules.pipe_settings known ss ≡ [] → IsKnown known (last_peer found ss)
-pipe_peer_known known found [] is h = is
-pipe_peer_known known found (PipeTable n ∷ ss) is h = pipe_peer_known known found ss is (nil_right (known_rules.table known n) (rules.pipe_settings known ss) h)
-pipe_peer_known known found (PipePeerTable n ∷ ss) is h =
-    pipe_peer_known known (Some n) ss (named_known known n (nil_left (known_rules.table known n) (rules.pipe_settings known ss) h)) (nil_right (known_rules.table known n) (rules.pipe_settings known ss) h)
-pipe_peer_known known found (PipeImport p ∷ ss) is h = pipe_peer_known known found ss is (nil_right (channels.passing known p) (rules.pipe_settings known ss) h)
-pipe_peer_known known found (PipeExport p ∷ ss) is h = pipe_peer_known known found ss is (nil_right (channels.passing known p) (rules.pipe_settings known ss) h)
+pipe_peer_known : (known : Known) (o : PipeOptions) (ss : List PipeSetting) → IsKnown known o.peer → rules.pipe_settings known ss ≡ [] → IsKnown known (fold with_pipe_option o ss).peer
+pipe_peer_known known o [] is h = is
+pipe_peer_known known o (PipeTable n ∷ ss) is h = pipe_peer_known known (with_pipe_option o (PipeTable n)) ss is (nil_right (known_rules.table known n) (rules.pipe_settings known ss) h)
+pipe_peer_known known o (PipePeerTable n ∷ ss) is h =
+    pipe_peer_known known (with_pipe_option o (PipePeerTable n)) ss (named_known known n (nil_left (known_rules.table known n) (rules.pipe_settings known ss) h)) (nil_right (known_rules.table known n) (rules.pipe_settings known ss) h)
+pipe_peer_known known o (PipeImport p ∷ ss) is h = pipe_peer_known known (with_pipe_option o (PipeImport p)) ss is (nil_right (channels.passing known p) (rules.pipe_settings known ss) h)
+pipe_peer_known known o (PipeExport p ∷ ss) is h = pipe_peer_known known (with_pipe_option o (PipeExport p)) ss is (nil_right (channels.passing known p) (rules.pipe_settings known ss) h)
 
 primary_known : (known : Known) (n : Option Name) (more : Tables) → known.tables ≡ Masters more → IsKnown known n → is_none (rules.primary_family known n) ≡ false
 primary_known known None more masters is = subst (λ (ts : Tables). is_none (named_in ts (codes "master4")) ≡ false) (sym masters) refl
@@ -144,15 +146,15 @@ one_family (Some families.V6) (Some families.V4) h k same = absurd (true≢false
 
 -- The two tables of a pipe by their names, where nothing is refused of it and it has this peer.
 pub record AreTwo (known : Known) (ss : List PipeSetting) (peer : Name) : Type 0 where
-  pub primary : rules.primary_family known (rules.last_table None ss) ≡ Some (or_v4 (table_of known peer))
+  pub primary : rules.primary_family known (pipe_options ss).table ≡ Some (or_v4 (table_of known peer))
   pub other : table_of known peer ≡ Some (or_v4 (table_of known peer))
 
 two_known : (known : Known) (ss : List PipeSetting) (peer : Name) (more : Tables) → known.tables ≡ Masters more → rules.pipe_settings known ss ≡ [] → IsKnown known (Some peer)
-    → rules.peer_family known (rules.last_table None ss) (Some peer) ≡ [] → AreTwo known ss peer
+    → rules.peer_family known (pipe_options ss).table (Some peer) ≡ [] → AreTwo known ss peer
 two_known known ss peer more masters written is h =
-    let primary = rules.primary_family known (rules.last_table None ss) in
+    let primary = rules.primary_family known (pipe_options ss).table in
     record {
-      primary = one_family primary (table_of known peer) (primary_known known (rules.last_table None ss) more masters (pipe_table_known known None ss tt written)) is
+      primary = one_family primary (table_of known peer) (primary_known known (pipe_options ss).table more masters (pipe_table_known known no_pipe_options ss tt written)) is
           (not_refused (rules.differ primary (table_of known peer)) peer.at _ h);
       other = or_v4_is (table_of known peer) is;
     }
@@ -160,30 +162,30 @@ two_known known ss peer more masters written is h =
 -- what is refused of a pipe but for a cycle
 abbrev pub pipe_front : Known → Instance PipeSetting → List Refusal
 pipe_front known p =
-    of_names.declaring known p.at p.name (of_names.pipe_names (own_name known of_names.pipe_stem p.name)) ++ rules.pipe_settings known p.settings ++ rules.lacks (of_names.place_of p.at p.name) (last_peer None p.settings)
-    ++ rules.peer_family known (rules.last_table None p.settings) (last_peer None p.settings)
+    of_names.declaring known p.at p.name (of_names.pipe_names (own_name known of_names.pipe_stem p.name)) ++ rules.pipe_settings known p.settings ++ rules.lacks (of_names.place_of p.at p.name) (pipe_options p.settings).peer
+    ++ rules.peer_family known (pipe_options p.settings).table (pipe_options p.settings).peer
 
-pub are_two : (known : Known) (p : Instance PipeSetting) (peer : Name) (more : Tables) → known.tables ≡ Masters more → last_peer None p.settings ≡ Some peer → rules.pipe known p ≡ [] → AreTwo known p.settings peer
+pub are_two : (known : Known) (p : Instance PipeSetting) (peer : Name) (more : Tables) → known.tables ≡ Masters more → (pipe_options p.settings).peer ≡ Some peer → rules.pipe known p ≡ [] → AreTwo known p.settings peer
 are_two known p peer more masters is h =
     let a = of_names.declaring known p.at p.name (of_names.pipe_names (own_name known of_names.pipe_stem p.name)) in
     let b = rules.pipe_settings known p.settings in
-    let d = rules.lacks (of_names.place_of p.at p.name) (last_peer None p.settings) in
-    let e = rules.peer_family known (rules.last_table None p.settings) (last_peer None p.settings) in
+    let d = rules.lacks (of_names.place_of p.at p.name) (pipe_options p.settings).peer in
+    let e = rules.peer_family known (pipe_options p.settings).table (pipe_options p.settings).peer in
     let front = nil_left (pipe_front known p) (rules.cycle known (of_names.place_of p.at p.name) (rules.joint_of known p.settings)) h in
     let written = nil_right a b (nil_left (a ++ b) d (nil_left (a ++ b ++ d) e front)) in
     two_known known p.settings peer more masters written
-    (subst (λ (o : Option Name). IsKnown known o) is (pipe_peer_known known None p.settings tt written))
-    (subst (λ (o : Option Name). rules.peer_family known (rules.last_table None p.settings) o ≡ []) is (nil_right (a ++ b ++ d) e front))
+    (subst (λ (o : Option Name). IsKnown known o) is (pipe_peer_known known no_pipe_options p.settings tt written))
+    (subst (λ (o : Option Name). rules.peer_family known (pipe_options p.settings).table o ≡ []) is (nil_right (a ++ b ++ d) e front))
 
 pub no_cycle : (known : Known) (p : Instance PipeSetting) → rules.pipe known p ≡ [] → rules.cycle known (of_names.place_of p.at p.name) (rules.joint_of known p.settings) ≡ []
 no_cycle known p h = nil_right (pipe_front known p) _ h
 
-pub has_peer : (known : Known) (p : Instance PipeSetting) → rules.pipe known p ≡ [] → last_peer None p.settings ≡ None → ⊥
+pub has_peer : (known : Known) (p : Instance PipeSetting) → rules.pipe known p ≡ [] → (pipe_options p.settings).peer ≡ None → ⊥
 has_peer known p h none =
     let a = of_names.declaring known p.at p.name (of_names.pipe_names (own_name known of_names.pipe_stem p.name)) in
     let b = rules.pipe_settings known p.settings in
-    let d = rules.lacks (of_names.place_of p.at p.name) (last_peer None p.settings) in
-    let e = rules.peer_family known (rules.last_table None p.settings) (last_peer None p.settings) in
+    let d = rules.lacks (of_names.place_of p.at p.name) (pipe_options p.settings).peer in
+    let e = rules.peer_family known (pipe_options p.settings).table (pipe_options p.settings).peer in
     let lacking = nil_right (a ++ b) d (nil_left (a ++ b ++ d) e (nil_left (pipe_front known p) (rules.cycle known (of_names.place_of p.at p.name) (rules.joint_of known p.settings)) h)) in
     absurd (omega (arith, ap (λ (l : List Refusal). length l) (sym (ap (λ (o : Option Name). rules.lacks (of_names.place_of p.at p.name) o) none) ∙ lacking)))
 
@@ -232,11 +234,11 @@ module _ (said : Passing → Filter) (known : Known) (more : Tables) (masters : 
   bgp_fits (c ∷ []) ss fine = channel_fits said known more masters bgp_preference c fine.0
   bgp_fits (c ∷ d ∷ cs) ss fine = tt
 
-  pipe_fits : (p : Instance PipeSetting) (peer : Option Name) → last_peer None p.settings ≡ peer → rules.pipe known p ≡ [] → StatementFits known.tables (of.pipe_with said known peer p.settings)
+  pipe_fits : (p : Instance PipeSetting) (peer : Option Name) → (pipe_options p.settings).peer ≡ peer → rules.pipe known p ≡ [] → StatementFits known.tables (of.pipe_with said known peer p.settings)
   pipe_fits p None is h = tt
   pipe_fits p (Some n) is h =
       let two = are_two known p n more masters is h in
-      (placed known.tables (rules.primary_name known.scene.text (rules.last_table None p.settings)) (or_v4 (table_of known n)) two.primary, placed known.tables (name_bytes known.scene.text n) (or_v4 (table_of known n)) two.other)
+      (placed known.tables (rules.primary_name known.scene.text (pipe_options p.settings).table) (or_v4 (table_of known n)) two.primary, placed known.tables (name_bytes known.scene.text n) (or_v4 (table_of known n)) two.other)
 
   pub body_fits : (d : conf.Declaration) → refusals known d ≡ [] → StatementFits known.tables (of.body_of said known d)
   body_fits (conf.Static p) h =
@@ -249,7 +251,7 @@ module _ (said : Passing → Filter) (known : Known) (more : Tables) (masters : 
       (bgp_fine known p.settings
       (second_of_four (of_names.declaring known p.at p.name (own_name known bgp_stem p.name ∷ [])) (bgp_settings known p.settings) (one_channel (of_names.place_of p.at p.name) (bgp_channels p.settings))
       (rules.session known (of_names.place_of p.at p.name) p.settings) h))
-  body_fits (conf.Pipe p) h = pipe_fits p (last_peer None p.settings) refl h
+  body_fits (conf.Pipe p) h = pipe_fits p (pipe_options p.settings).peer refl h
   body_fits (conf.RouterId a) h = tt
   body_fits conf.Log h = tt
   body_fits (conf.Define name v) h = tt

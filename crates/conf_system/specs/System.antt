@@ -6,20 +6,20 @@
 -- Example: `preference 7; preference 9;` is a preference of 9.
 use Rattle.std.specs.Prelude.{ℕ, Bool, List, [], ◌∷◌, ◌++◌, map, Option, Some, None}
 use Rattle.bits_ip.specs.declared.address.Addr.{Addr}
-use Rattle.bits_ip.specs.declared.address.Addr.TheVariants as addrs
 use Rattle.bits_ip.specs.declared.address.Family.{Family}
 use Rattle.conf_ast.specs.declared.named.Name.{Name}
 use Rattle.conf_ast.specs.Names.{name_bytes}
-use Rattle.conf_ast.specs.declared.configurations.Limit.TheVariants as limits
 use Rattle.conf_ast.specs.Configurations as conf
-use Rattle.conf_ast.specs.Configurations.{BgpSetting, FamilyChannel, Instance, Passing, PassAll, PassNone, PipeSetting, StaticSetting}
+use Rattle.conf_ast.specs.Configurations.{BgpSetting, FamilyChannel, Passing, PipeSetting}
 use Rattle.conf_ast.specs.Filters.{Expression}
-use Rattle.conf_rules.specs.Channels.{settings_of}
+use Rattle.conf_options.specs.Defaults as defaults
+use Rattle.conf_options.specs.Defaults.{address_or, bgp_preference, export_or, import_or, interprets, limit_or, static_preference}
+use Rattle.conf_options.specs.Options.{bgp_options, pipe_options}
+use Rattle.conf_rules.specs.Channels.{options_of}
 use Rattle.conf_names.specs.Known.{Known, table_number, table_of}
-use Rattle.conf_rules.specs.Protocols as rules
-use Rattle.conf_rules.specs.Protocols.{as_number, bgp_channels, last_local, last_peer, last_table, primary_name, static_channels, static_routes}
-use Rattle.conf_check.specs.Behind.{at_start, behind, behind_one}
-use Rattle.conf_check.specs.Checked.{Source, bgp_preference, channel_table, filter_sources, last_default_local_pref, last_default_med, last_export, last_import, last_interpret, last_limit, last_neighbor, last_pipe_export, last_pipe_import, last_preference, limit_of, or_v4, or_zero, protocol_name, route_of, static_preference}
+use Rattle.conf_rules.specs.Protocols.{as_number, bgp_channels, primary_name, static_channels, static_routes}
+use Rattle.conf_check.specs.Behind.{at_start, behind}
+use Rattle.conf_check.specs.Checked.{Source, channel_table, filter_sources, limit_of, number_or, or_v4, or_zero, protocol_name, route_of}
 use Rattle.conf_check.specs.declared.checked.ImportLimit.{ImportLimit}
 use Rattle.conf_check.specs.declared.checked.StaticRoute.{StaticRoute}
 use Rattle.filt_meaning.specs.Configuration.{verdict}
@@ -83,10 +83,10 @@ module _ (said : Passing → Filter) (known : Known) where
   channel_of preference c = record {
     family = c.family;
     table = channel_table known c;
-    import = said (last_import PassAll (settings_of c));
-    export = said (last_export PassNone (settings_of c));
-    preference = last_preference known preference (settings_of c);
-    limit = limit_of known (last_limit limits.Off (settings_of c));
+    import = said (import_or (options_of c).import);
+    export = said (export_or (options_of c).export);
+    preference = number_or known preference (options_of c).preference;
+    limit = limit_of known (limit_or (options_of c).limit);
   }
 
   abbrev pub static_with : List FamilyChannel → List StaticRoute → Option Body
@@ -95,25 +95,25 @@ module _ (said : Passing → Filter) (known : Known) where
   static_with _ routes = None
 
   abbrev pub bgp_with : List FamilyChannel → List BgpSetting → Option Body
-  bgp_with (c ∷ []) settings = Some (IsBgp (record {
-    local = or_zero (as_number known (last_local None settings));
-    neighbor = last_neighbor (addrs.V4 0) settings;
-    remote = or_zero (as_number known (rules.last_neighbor None settings));
-    interpret_communities = last_interpret Bool.true settings;
-    default_med = last_default_med known 0 settings;
-    default_local_pref = last_default_local_pref known 100 settings;
+  bgp_with (c ∷ []) settings = let o = bgp_options settings in Some (IsBgp (record {
+    local = or_zero (as_number known o.local);
+    neighbor = address_or o.neighbor;
+    remote = or_zero (as_number known (defaults.remote o));
+    interpret_communities = interprets o.interpret_communities;
+    default_med = number_or known defaults.default_med o.default_med;
+    default_local_pref = number_or known defaults.default_local_pref o.default_local_pref;
     channel = channel_of bgp_preference c;
   }))
   bgp_with _ settings = None
 
   abbrev pub pipe_with : Option Name → List PipeSetting → Option Body
   pipe_with None settings = None
-  pipe_with (Some peer) settings = Some (IsPipe (record {
+  pipe_with (Some peer) settings = let o = pipe_options settings in Some (IsPipe (record {
     family = or_v4 (table_of known peer);
-    table = table_number known (primary_name known.scene.text (last_table None settings));
+    table = table_number known (primary_name known.scene.text o.table);
     peer = table_number known (name_bytes known.scene.text peer);
-    import = said (last_pipe_import PassAll settings);
-    export = said (last_pipe_export PassNone settings);
+    import = said (import_or o.import);
+    export = said (export_or o.export);
   }))
 
   -- What a statement says of a protocol. In what is accepted a protocol has one channel, and a pipe
@@ -122,7 +122,7 @@ module _ (said : Passing → Filter) (known : Known) where
   body_of (conf.Static p) =
       static_with (static_channels p.settings) (map route_of (static_routes p.settings))
   body_of (conf.Bgp p) = bgp_with (bgp_channels p.settings) p.settings
-  body_of (conf.Pipe p) = pipe_with (last_peer None p.settings) p.settings
+  body_of (conf.Pipe p) = pipe_with (pipe_options p.settings).peer p.settings
   body_of _ = None
 
 -- ---- all protocols

@@ -10,11 +10,12 @@ use Rattle.conf_ast.specs.Configurations.{BgpSetting, FamilyChannel, Passing, Pi
 use Rattle.conf_ast.specs.declared.configurations.Route.{Route}
 use Rattle.conf_ast.specs.declared.kind.ConfKind.TheVariants as kinds
 use Rattle.conf_ast.specs.declared.named.Name.{Name}
+use Rattle.conf_options.specs.Options.{pipe_options}
 use Rattle.conf_rules.specs.Channels.{one_channel, same_family}
 use Rattle.conf_names.specs.Known.{Known}
 use Rattle.conf_names.specs.Names as of_names
 use Rattle.conf_rules.specs.Protocols as rules
-use Rattle.conf_rules.specs.Protocols.{bgp_channels, families_of_routes, family_of_route, family_of_target, last_peer, nettypes, static_channels, static_routes, static_settings}
+use Rattle.conf_rules.specs.Protocols.{bgp_channels, families_of_routes, family_of_route, family_of_target, nettypes, static_channels, static_routes, static_settings}
 use Rattle.conf_names.specs.Names.{own_name, static_stem}
 use Rattle.conf_names.specs.Refusals.{first_in, refused_if}
 use Rattle.conf_rules.specs.Statements.{refusals}
@@ -90,7 +91,7 @@ module _ (said : Passing → Filter) (known : Known) where
       (fourth_of_five (of_names.declaring known p.at p.name (own_name known static_stem p.name ∷ [])) (static_settings known p.settings) (one_channel (of_names.place_of p.at p.name) (static_channels p.settings))
       (nettypes (static_channels p.settings) (static_routes p.settings)) (rules.repeated [] (static_routes p.settings)) none)
   body_fits (conf.Bgp p) none = bgp_fits (bgp_channels p.settings) p.settings
-  body_fits (conf.Pipe p) none = pipe_fits (last_peer None p.settings) p.settings
+  body_fits (conf.Pipe p) none = pipe_fits (pipe_options p.settings).peer p.settings
   body_fits (conf.RouterId a) none = tt
   body_fits conf.Log none = tt
   body_fits (conf.Define name v) none = tt

@@ -1,8 +1,0 @@
-use Rattle.std.proofs.Common.{◌≡◌, map, drop}
-use Rattle.conf_ast.specs.declared.configurations.Limit.TheVariants as limits
-use Rattle.conf_ast.specs.Configurations.{channel_setting_of}
-use Rattle.conf_check.specs.Checked as of
-use Rattle.conf_check.proofs.channel.last_limit.Given as goal
-
-abbrev pub invariant-loop-option : goal.invariant-loop-option
-invariant-loop-option l = of.last_limit limits.Off (map channel_setting_of l.options) ≡ of.last_limit l.found (map channel_setting_of (drop l.option-index l.options))

@@ -1,0 +1,4 @@
+pub mod Options
+pub mod Defaults
+pub mod Kinds
+pub mod Laws

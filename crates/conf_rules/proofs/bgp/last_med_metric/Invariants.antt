@@ -1,7 +1,0 @@
-use Rattle.std.proofs.Common.{◌≡◌, None, map, drop}
-use Rattle.conf_ast.specs.Configurations.{bgp_setting_of}
-use Rattle.conf_rules.specs.Protocols.{last_med_metric}
-use Rattle.conf_rules.proofs.bgp.last_med_metric.Given as goal
-
-abbrev pub invariant-loop-option : goal.invariant-loop-option
-invariant-loop-option l = last_med_metric None (map bgp_setting_of l.options) ≡ last_med_metric l.found (map bgp_setting_of (drop l.option-index l.options))
