@@ -1,7 +1,9 @@
 -- Frames in one list.
 use Rattle.std.proofs.Common.{◌≡◌, ℕ, Bool, true, false, Result, Ok, length-append, subst, suc, zero, ◌+◌, ◌-◌, ◌<◌, ◌≤◌, min, List, [], ◌∷◌, ◌++◌, length, map, take, drop, reverse, Some, refl, sym, ap, ◌∙◌, arith}
-use Rattle.std.proofs.lemmas.List.{map-append, length-map, take-map, drop-map, length-drop, length-take-le, take-append-le, drop-append-le, drop-take, take-take, reverse-append, length-reverse}
-use Rattle.std.specs.Prelude.{insert, slice_get, slice_set}
+use Rattle.std.proofs.lemmas.List.{map-append, length-map, take-map, drop-map, length-drop, length-take-le, take-append-le, drop-append-le, drop-take, take-take, reverse-append, length-reverse, append-nil, drop_all, take_rest, with_items_is}
+use Rattle.std.specs.Global.{Global}
+use Rattle.std.specs.Vec.{with_items}
+use Rattle.std.specs.Prelude.{slice_get, slice_set, Vec}
 use Rattle.filt_meaning.specs.declared.value.Value.{Value}
 use Rattle.filt_meaning.specs.Seen.{val_of}
 use Rattle.filt_meaning.specs.Values.{Val, VBool}
@@ -12,18 +14,12 @@ use Rattle.filt_meaning.specs.Flow.{Frame, and_then, plainly}
 use Rattle.filt_meaning.specs.Operators.{bool_in}
 use Rattle.filt_meaning.specs.declared.value.Failure.{Failure}
 use Rattle.filt_route.specs.Seen.{IsApplicable}
-use Rattle.filt_vm.specs.Seen.{AreStacked, Held, cut, first_of, held_in, rest_of, top_first, TakesTop}
+use Rattle.filt_vm.specs.Seen.{AreStacked, Held, cut, first_of, held_in, rest_of, top_first, TakesTop, vals_of}
 
 -- ---- values in memory
 
 pub below : (v : List Value) (base : ℕ) (begins : List ℕ) → AreStacked (length v) (base ∷ begins) → base ≤ length (map val_of v)
 below v base begins stacked = omega (arith, stacked.0, length-map v val_of)
-
-pub inserted : (v w : List Value) (n : ℕ) (x : Value) → w ≡ insert v n x → map val_of w ≡ insert (map val_of v) n (val_of x)
-inserted v w n x is =
-    ap (λ (w : List Value). map val_of w) is
-    ∙ map-append val_of (take n v) (x ∷ drop n v)
-    ∙ rw (take-map val_of n v, drop-map val_of n v) refl
 
 pub last_first : (xs ys : List ℕ) (b : ℕ) → xs ≡ ys ++ b ∷ [] → reverse xs ≡ b ∷ reverse ys
 last_first xs ys b is = rw is (reverse-append ys (b ∷ []))
@@ -48,10 +44,37 @@ at_end zero xs ys le = (refl, refl)
 at_end (suc n) [] ys le = absurd (omega arith)
 at_end (suc n) (x ∷ xs) ys le = let h = at_end n xs ys (omega arith) in (h.0, ap (λ (zs : List _). x ∷ zs) h.1)
 
--- and before them
-pub pushed_front : (xs new : List Val) (v : Val) (base : ℕ) (begins : List ℕ) → base ≤ length xs → new ≡ insert xs base v → held_in new base begins ≡ record { here = v ∷ (held_in xs base begins).here; under = (held_in xs base begins).under }
-pushed_front xs new v base begins le is =
-    rw (is, (at_end base xs (v ∷ drop base xs) le).0, (at_end base xs (v ∷ drop base xs) le).1) refl
+-- those of the last frame the other way round
+pub turned : (xs new : List Val) (base : ℕ) (begins : List ℕ) → base ≤ length xs → new ≡ take base xs ++ reverse (drop base xs) → held_in new base begins ≡ record { here = reverse (held_in xs base begins).here; under = (held_in xs base begins).under }
+turned xs new base begins le is =
+    rw (is, (at_end base xs (reverse (drop base xs)) le).0, (at_end base xs (reverse (drop base xs)) le).1) refl
+
+map_turned : (xs : List Value) → map val_of (reverse xs) ≡ reverse (map val_of xs)
+map_turned [] = refl
+map_turned (x ∷ xs) =
+    ap (λ (ys : List Value). map val_of ys) (reverse-append (x ∷ []) xs)
+    ∙ map-append val_of (reverse xs) (x ∷ [])
+    ∙ ap (λ (ys : List Val). ys ++ val_of x ∷ []) (map_turned xs)
+    ∙ sym (reverse-append (val_of x ∷ []) (map val_of xs))
+
+turned_values : (xs : List Value) (base : ℕ) → map val_of (take base xs ++ reverse (drop base xs)) ≡ take base (map val_of xs) ++ reverse (drop base (map val_of xs))
+turned_values xs base =
+    map-append val_of (take base xs) (reverse (drop base xs))
+    ∙ rw (map_turned (drop base xs), take-map val_of base xs, drop-map val_of base xs) refl
+
+-- the same, as a part of the list that was written back
+pub turned_back : (v : Vec Value Global) (xs part : List Value) (base : ℕ) (begins : List ℕ) → AreStacked (length v.items) (base ∷ begins) → xs ≡ v.items → v.len ≡ length v.items → part ≡ reverse (take (length xs - base) (drop base xs)) → held_in (vals_of (with_items v (take base xs ++ (part ++ drop (length xs - base) (drop base xs))))) base begins ≡ record { here = reverse (held_in (vals_of v) base begins).here; under = (held_in (vals_of v) base begins).under }
+turned_back v xs part base begins stacked is len same =
+    let room : base ≤ length v.items = stacked.0 in
+    let le : base ≤ length xs = omega (arith, room, ap (λ (ys : List Value). length ys) is) in
+    let whole : take base xs ++ (part ++ drop (length xs - base) (drop base xs)) ≡ take base xs ++ reverse (drop base xs) =
+    rw (same, take_rest xs base, drop_all (length xs - base) (drop base xs) (omega (arith, length-drop base xs)), append-nil (reverse (drop base xs))) refl in
+    let long : length (take base xs ++ (part ++ drop (length xs - base) (drop base xs))) ≡ v.len =
+    ap (λ (ys : List Value). length ys) whole ∙ omega (arith, le, len, ap (λ (ys : List Value). length ys) is, length-append (take base xs) (reverse (drop base xs)), length-take-le base xs le, length-reverse (drop base xs), length-drop base xs) in
+    turned (vals_of v) (vals_of (with_items v (take base xs ++ (part ++ drop (length xs - base) (drop base xs))))) base begins (below v.items base begins stacked)
+    (ap (λ (ys : List Value). map val_of ys) (with_items_is v (take base xs ++ (part ++ drop (length xs - base) (drop base xs))) long ∙ whole)
+    ∙ turned_values xs base
+    ∙ ap (λ (ys : List Value). take base (map val_of ys) ++ reverse (drop base (map val_of ys))) is)
 
 -- the first so many of the last frame
 shorter : {A : Type 0} (n k : ℕ) (xs : List A) → n + k ≤ length xs → (drop n (take (n + k) xs) ≡ take k (drop n xs)) × (take n (take (n + k) xs) ≡ take n xs)
@@ -119,13 +142,13 @@ one_more (suc n) (x ∷ xs) rest v is =
     rw e (h.0, ap (λ (ys : List _). x ∷ ys) h.1)
 
 -- one more is handed
-pub handed : (all os mid : Held) (vars new : Held) (under : List (List Val)) (v : Val) (n : ℕ) → os ≡ record { here = drop n all.here; under = all.under } → vars ≡ record { here = reverse (take n all.here); under = under } → os ≡ record { here = v ∷ mid.here; under = mid.under } → new ≡ record { here = v ∷ vars.here; under = vars.under } → (mid ≡ record { here = drop (n + 1) all.here; under = all.under }) × (new ≡ record { here = reverse (take (n + 1) all.here); under = under })
+pub handed : (all os mid : Held) (vars new : Held) (under : List (List Val)) (v : Val) (n : ℕ) → os ≡ record { here = drop n all.here; under = all.under } → vars ≡ record { here = take n all.here; under = under } → os ≡ record { here = v ∷ mid.here; under = mid.under } → new ≡ record { here = vars.here ++ v ∷ []; under = vars.under } → (mid ≡ record { here = drop (n + 1) all.here; under = all.under }) × (new ≡ record { here = take (n + 1) all.here; under = under })
 handed all os mid vars new under v n left taken pops puts =
     let here : drop n all.here ≡ v ∷ mid.here = ap (λ (h : Held). h.here) (sym left ∙ pops) in
     let same : all.under ≡ mid.under = ap (λ (h : Held). h.under) (sym left ∙ pops) in
     let h = one_more n all.here mid.here v here in (
       rw (h.0, same) refl,
-      rw (puts, taken, h.1, reverse-append (take n all.here) (v ∷ [])) refl,
+      rw (puts, taken, h.1) refl,
     )
 
 pub some_left : (all os : Held) (n few : ℕ) → os ≡ record { here = drop n all.here; under = all.under } → n < few → few ≤ length all.here → 0 < length os.here
@@ -148,8 +171,8 @@ cases zero (suc few) (x ∷ xs) is = absurd (omega (arith, is))
 cases (suc n) zero (x ∷ xs) is = absurd (omega (arith, is))
 cases (suc n) (suc few) (x ∷ xs) is = let h = cases n few xs (omega (arith, is)) in (ap (λ (ys : List _). x ∷ ys) h.0, h.1)
 
-pub all_taken : (all vars : Held) (under : List (List Val)) (n few k : ℕ) → vars ≡ record { here = reverse (take k all.here); under = under } → k ≡ few → few ≡ min n (length all.here) → vars ≡ record { here = reverse (take n all.here); under = under }
-all_taken all vars under n few k taken end is = rw (taken, end, (cases n few all.here is).0) refl
+pub all_taken : (all vars new : Held) (under : List (List Val)) (n few k : ℕ) → vars ≡ record { here = take k all.here; under = under } → new ≡ record { here = reverse vars.here; under = vars.under } → k ≡ few → few ≡ min n (length all.here) → new ≡ record { here = reverse (take n all.here); under = under }
+all_taken all vars new under n few k taken turns end is = rw (turns, taken, end, (cases n few all.here is).0) refl
 
 pub all_left : (all os : Held) (n few k : ℕ) → os ≡ record { here = drop k all.here; under = all.under } → k ≡ few → few ≡ min n (length all.here) → os ≡ record { here = drop n all.here; under = all.under }
 all_left all os n few k left end is = rw (left, end, (cases n few all.here is).1) refl

@@ -1,6 +1,6 @@
 //! Values in frames.
 
-ghost use Rattle.std.specs.Prelude.{◌≡◌, ◌<◌, [], ◌∷◌, ◌++◌, length, take, slice_get, slice_set, List, Some, IfOk, OnOk};
+ghost use Rattle.std.specs.Prelude.{◌≡◌, ◌<◌, [], ◌∷◌, ◌++◌, length, reverse, take, slice_get, slice_set, List, Some, IfOk, OnOk};
 ghost use Rattle.filt_meaning.specs.Seen.{val_of};
 ghost use Rattle.filt_meaning.specs.Values.{Val};
 ghost use Rattle.filt_vm.specs.Seen.{first_of, rest_of};
@@ -55,17 +55,6 @@ impl<'a> Frames<'a> {
         Ok(())
     }
 
-    /// One value more, before the others.
-    pub(crate) fn push_front(&mut self, value: Value<'a>) -> Result<(), OutOfMemory>
-        ensures { OnOk result (self.new ≡ record {
-          here = val_of value.entry ∷ self.old.here;
-          under = self.old.under;
-        }) }
-    {
-        self.values.insert(self.base, value)?;
-        Ok(())
-    }
-
     /// The last value, which is taken.
     pub(crate) fn pop(&mut self) -> Value<'a>
         requires { 0 < length self.old.here }
@@ -109,6 +98,16 @@ impl<'a> Frames<'a> {
     {
         let at = self.base + place;
         self.values[at] = value;
+    }
+
+    /// The last value is the first one, and so on.
+    pub(crate) fn reverse(&mut self)
+        ensures { self.new ≡ record {
+          here = reverse self.old.here;
+          under = self.old.under;
+        } }
+    {
+        self.values[self.base..].reverse();
     }
 
     /// How many there are.

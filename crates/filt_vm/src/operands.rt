@@ -90,8 +90,9 @@ impl<'a> Operands<'a> {
         let few = count.min(self.len());
         for _ in 0..few {
             let value = self.pop();
-            variables.push_front(value)?;
+            variables.push(value)?;
         }
+        variables.reverse();
         Ok(())
     }
 
