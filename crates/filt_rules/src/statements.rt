@@ -37,7 +37,7 @@ pub struct Around<'a> {
 }
 
 /// What is seen there with these variables.
-pub(crate) fn seen_at<'a>(around: Around<'a>, variables: &'a Variables<'a>) -> Seen<'a>
+pub(crate) fn seen_at<'s, 'a>(around: Around<'a>, variables: &'s Variables<'a>) -> Seen<'s>
     ensures scene { scene_in result ≡ (around_in around.entry).scene }
     ensures variables { variables_in result ≡ variables.now }
 {

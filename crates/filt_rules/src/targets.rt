@@ -8,10 +8,11 @@ ghost use Rattle.filt_meaning.specs.declared.value.Sort.{Sort};
 ghost use Rattle.filt_meaning.specs.Sorts.{one_list};
 ghost use Rattle.filt_types.specs.declared.refusal.Cause.TheVariants as causes;
 ghost use Rattle.filt_types.specs.Expressions as expressions;
+ghost use Rattle.filt_types.specs.Listed.{variable_seen};
 ghost use Rattle.filt_rules.specs.Passes.{aim_seen};
 ghost use Rattle.filt_types.specs.Refusals.{first_in, refused_if};
 ghost use Rattle.filt_meaning.specs.Rules as rules;
-ghost use Rattle.filt_types.specs.Seen.{scene_in, variable_seen, variables_in};
+ghost use Rattle.filt_types.specs.Seen.{scene_in, variables_in};
 ghost use Rattle.filt_types.specs.Statements as statements;
 ghost use Rattle.filt_types.specs.Walk.{judged_of};
 
