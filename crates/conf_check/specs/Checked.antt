@@ -178,7 +178,8 @@ pub record IsBgp (known : Known) (does : Statements → TFilter → Type 0)
   pub local : def.local ≡ or_zero (as_number known (bgp_options p.settings).local)
   pub remote : def.remote ≡ or_zero (as_number known (defaults.remote (bgp_options p.settings)))
   pub neighbor : def.neighbor ≡ address_or (bgp_options p.settings).neighbor
-  pub interpret : def.interpret_communities ≡ interprets (bgp_options p.settings).interpret_communities
+  pub interpret : def.interpret_communities
+      ≡ interprets (bgp_options p.settings).interpret_communities
   pub med : def.default_med
       ≡ number_or known defaults.default_med (bgp_options p.settings).default_med
   pub local_pref : def.default_local_pref

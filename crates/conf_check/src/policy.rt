@@ -88,7 +88,8 @@ pub(crate) fn import_policy(
     found: Option<&Policy>,
 ) -> Result<PolicyDef, OutOfMemory>
     ensures { IfOk result (λ p. IsPolicy (known_of text.now declared.now)
-        (Means text.now declared.now.scope) (import_or (option_map passing_of (option_copied found.entry))) p) }
+        (Means text.now declared.now.scope)
+        (import_or (option_map passing_of (option_copied found.entry))) p) }
 {
     match found {
         None => Ok(PolicyDef::All),
@@ -104,7 +105,8 @@ pub(crate) fn export_policy(
     found: Option<&Policy>,
 ) -> Result<PolicyDef, OutOfMemory>
     ensures { IfOk result (λ p. IsPolicy (known_of text.now declared.now)
-        (Means text.now declared.now.scope) (export_or (option_map passing_of (option_copied found.entry))) p) }
+        (Means text.now declared.now.scope)
+        (export_or (option_map passing_of (option_copied found.entry))) p) }
 {
     match found {
         None => Ok(PolicyDef::None),

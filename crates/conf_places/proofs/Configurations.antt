@@ -34,7 +34,7 @@ use Rattle.conf_options.specs.Options.{ChannelOptions, PipeOptions, bgp_options,
 use Rattle.conf_rules.specs.Channels as channels
 use Rattle.conf_rules.specs.Channels.{passing, limit, options_of, settings_of, is_other_family, family_of_table, channel, second_channels, one_channel, lacks_policy, same_family}
 use Rattle.conf_names.specs.Constants.{value}
-use Rattle.conf_names.specs.Known.{Known, is_declared, longest_name, too_long, table_of, is_filter, filter, number, number_of}
+use Rattle.conf_names.specs.Known.{Known, is_declared, longest_name, too_long, table_of, is_filter, number}
 use Rattle.conf_names.specs.Known as known_names
 use Rattle.conf_names.specs.declared.joints.Joint.{Joint}
 use Rattle.conf_names.specs.Joints.{joined}

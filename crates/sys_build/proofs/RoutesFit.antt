@@ -1,5 +1,5 @@
 -- In what is accepted the routes of a static protocol are of the family of its channel.
-use Rattle.std.proofs.Common.{◌≡◌, ◌∙◌, sym, ap, subst, refl, Bool, true, false, not, List, [], ◌∷◌, ◌++◌, ℕ, map, Option, Some, None, true≢false}
+use Rattle.std.proofs.Common.{◌≡◌, ◌∙◌, sym, ap, subst, refl, true, false, not, List, [], ◌∷◌, ◌++◌, ℕ, map, Option, Some, None, true≢false}
 use Rattle.std.specs.Prelude.{⊤}
 use Rattle.std.specs.List.{AllByRecursion}
 use Rattle.bits_ip.specs.Address.{family_of}
