@@ -59,10 +59,10 @@ module _ {J : Type 0} (verdict : J → Net → Route → Verdict) (key : LaneTer
     entered = ap (λ cs. cs ++ enters key.rules key.exports.log) (changes_more o.made at c) ∙ ap (λ cs. c ∷ cs) o.entered ∙ next;
   }
 
-  -- none is
-  pub enters_none : (done : List Key) → own b.port.1 ≡ own a.port.1 → withdrawn done (enters key.rules (reverse a.state.exporter.log)) ≡ withdrawn done (enters key.rules (reverse b.state.exporter.log))
-      → IsDirection verdict done key.exports b.state → IsLane verdict done key a → IsLane verdict done key b
-  enters_none done same next direction o = record {
+  -- none is, and of what stands other keys are withdrawn
+  pub enters_as : (done also : List Key) → own b.port.1 ≡ own a.port.1 → withdrawn done (enters key.rules (reverse a.state.exporter.log)) ≡ withdrawn also (enters key.rules (reverse b.state.exporter.log))
+      → IsDirection verdict also key.exports b.state → IsLane verdict done key a → IsLane verdict also key b
+  enters_as done also same next direction o = record {
     terms = o.terms;
     direction = direction;
     port = port ∙ o.port;
@@ -71,6 +71,11 @@ module _ {J : Type 0} (verdict : J → Net → Route → Verdict) (key : LaneTer
     says = subst (λ rs. AreMade rs o.made) (sym same) o.says;
     entered = o.entered ∙ next;
   }
+
+  -- none is
+  pub enters_none : (done : List Key) → own b.port.1 ≡ own a.port.1 → withdrawn done (enters key.rules (reverse a.state.exporter.log)) ≡ withdrawn done (enters key.rules (reverse b.state.exporter.log))
+      → IsDirection verdict done key.exports b.state → IsLane verdict done key a → IsLane verdict done key b
+  enters_none done same next direction o = enters_as done done same next direction o
 
   pub lane_withdraws : (done : List Key) (k : Key) (at : ℕ) → b.state.exporter.log ≡ a.state.exporter.log → IsEntered (withdrawal k) a.port.1 b.port.1 at → IsDirection verdict (done ++ k ∷ []) key.exports b.state → IsLane verdict done key a → IsLane verdict (done ++ k ∷ []) key b
   lane_withdraws done k at log is direction o =
@@ -92,7 +97,7 @@ module _ {J : Type 0} (verdict : J → Net → Route → Verdict) (key : LaneTer
     by_again false is = let entered = once.news is in enters_more [] [] entered.0 (change_to key.rules x.key x.value) entered.1 (next false is) direction o
 
 -- what stands by a log, in order
-standing_is : (log : List LogItem) (keys : List Key) → AreStanding log keys → keys ≡ standing_keys (reverse log)
+pub standing_is : (log : List LogItem) (keys : List Key) → AreStanding log keys → keys ≡ standing_keys (reverse log)
 standing_is log keys are = ascending_one keys (standing_keys (reverse log)) are.ascend (standing_ascends (reverse log)) (λ k. are.are k ∙ sym (standing_told k (reverse log)))
 
 -- once all is withdrawn, what was made is what the log says that has gone down

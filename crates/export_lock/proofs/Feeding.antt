@@ -19,7 +19,7 @@ use Rattle.bits_ip.specs.Prefix.{Net}
 use Rattle.core_machine.specs.Signals.{without_sends}
 use Rattle.export_core.specs.Calls.{Feeds}
 use Rattle.export_core.specs.Candidates as ranges
-use Rattle.export_core.specs.Candidates.{best_in, covers, floor_of}
+use Rattle.export_core.specs.Candidates.{best_in}
 use Rattle.export_core.specs.Histories.{TellsBest, change_of, course_of}
 use Rattle.export_core.specs.Keys.{key_of}
 use Rattle.export_core.specs.Logs.{Course, Follows, Rises, stretch}

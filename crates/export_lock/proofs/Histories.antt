@@ -3,6 +3,7 @@ use Rattle.std.proofs.Common.{◌≡◌, Bool, ℕ, ◌+◌, ◌≤◌, arith, L
 use Rattle.std.specs.Prelude.{Option, take, reverse}
 use Rattle.std.proofs.lemmas.List.{take-append-drop}
 use mathlib.Core.List.{IsPrefix}
+use Rattle.atomic_table.specs.Seated.{TableId}
 use Rattle.attrs.specs.declared.attributes.Attrs.{Attrs}
 use Rattle.attrs.specs.declared.journal.JEntry.{JEntry}
 use Rattle.attrs.specs.declared.judge.Verdict.{Verdict}
@@ -14,11 +15,14 @@ use Rattle.export_core.specs.States.{value_for}
 use Rattle.export_core.specs.declared.log.Key.{Key}
 use Rattle.export_core.specs.declared.log.LogItem.{LogItem}
 use Rattle.jour_rule.specs.declared.views.Entry.{Entry}
-use Rattle.jour.specs.Seats.{front, head_of}
+use Rattle.jour_rule.specs.declared.views.Terms.{Terms}
+use Rattle.jour_rule.specs.declared.views.View.{View as Seat}
+use Rattle.jour.specs.Seats.{front}
 use Rattle.table_shared.specs.Opening.{TableOpening}
 use Rattle.table_shared.specs.Records.{AreRecords, IsLawful, at_first, records_front}
 use Rattle.table_shared.proofs.Records.{as_many}
 use Rattle.export_lock.specs.Kept.{IsExporting}
+use Rattle.export_lock.specs.MarkTurns.{Starts}
 use Rattle.export_lock.specs.Terms.{BeginsWith, ExportTerms}
 use Rattle.export_lock.specs.declared.state.ExportState.{ExportState}
 
@@ -50,15 +54,18 @@ begins_within key es history start b =
     omega (arith, start, count, whole, outer, inner)
 
 module _ {J : Type 0} (verdict : J → Net → Route → Verdict) where
-  -- no position of the log is above what the cursor has seen
+  -- no position of the log is above the head at which its cursor is started
   pub low : ((value : Key → Route → Option Attrs) (c : Course) (log : List LogItem) → Follows value c log → highest log ≤ c.len)
-      → {every : Bool} (key : ExportTerms) (a : ExportState J) → IsExporting verdict every key a → IsLawful key.table.1.opening (front a.cursor.0.1) → highest (reverse a.exporter.log) ≤ head_of a.cursor.0.1
-  low law {every} key a o lawful =
+      → {every : Bool} (key : ExportTerms) (a : ExportState J) (head : ℕ) (reader : (TableId × Seat TableOpening) × Bool) → Starts head a.cursor reader → IsExporting verdict every key a
+      → IsLawful reader.0.1.seen.terms.opening (front reader.0.1) → highest (reverse a.exporter.log) ≤ head
+  low law {every} key a head reader starts o known =
+      let lawful : IsLawful key.table.1.opening (front reader.0.1) = subst (λ (j : TableId × Terms TableOpening). IsLawful j.1.opening (front reader.0.1)) (starts.here ∙ o.here) known in
       let history : List JEntry = key.before ++ lawful.0 in
-      let b : BeginsWith key (front a.cursor.0.1) history = record { said = lawful.0; records = lawful.1; begins = ([], append-nil history) } in
-      let below = law (value_for verdict a.exporter) (course_of key.exports.spec history) (reverse a.exporter.log) (o.stands history b).follows in
-      let count = as_many key.table.1.opening (at_first key.table.1.opening) (front a.cursor.0.1) lawful.0 lawful.1 in
+      let b : BeginsWith key (front reader.0.1) history = record { said = lawful.0; records = lawful.1; begins = ([], append-nil history) } in
+      let below = law (value_for verdict a.exporter) (course_of key.exports.spec history) (reverse a.exporter.log) (o.stands history (begins_shorter key (front a.cursor.0.1) (front reader.0.1) history starts.prefix b)).follows in
+      let count = as_many key.table.1.opening (at_first key.table.1.opening) (front reader.0.1) lawful.0 lawful.1 in
       let inner = length-append key.before lawful.0 in
       let start = o.start in
-      let here = ap (λ z. z.1.start) o.here in
-      omega (arith, below, count, inner, start, here)
+      let here = ap (λ (j : TableId × Terms TableOpening). j.1.start) (starts.here ∙ o.here) in
+      let seen = starts.seen in
+      omega (arith, below, count, inner, start, here, seen)

@@ -37,7 +37,7 @@ use Rattle.table_shared.specs.Records.{AreRecords, AreSaid, IsLawful, at_first, 
 use Rattle.attrs.specs.History.{after}
 use Rattle.table_shared.specs.declared.answers.Done.{Done}
 use Rattle.table_shared.specs.declared.answers.Done.TheVariants.{At, Same}
-use Rattle.export_lock.specs.Flushes.{FlushesOn, IsDirection}
+use Rattle.export_lock.specs.Flushes.{FlushesOn, IsDirection, IsWithdrawn}
 use Rattle.export_lock.specs.Kept.{GoesOn, IsExporting, LeavesFlush, is_running}
 use Rattle.export_lock.specs.Lanes.{EntersOnce, IsLane, LaneTerms}
 use Rattle.export_lock.specs.LaneTurns.{AreSources, FlushesLane, IsHeldLane, PushesOn, Stops}
@@ -260,7 +260,8 @@ module _
       → FlushesLane verdict sources done key a (record { state = e; port = port }) r
   flushed_lane e b port given (Ok Nothing) did cause why =
       let rests = was_rested verdict sources a e b port given did.given in
-      record { state = did.same; port = rests; left = did.left; stood = did.stood; lane_is = lane_same verdict key done a (record { state = e; port = port }) did.same rests o }
+      let withdrawn : IsWithdrawn e = record { left = did.left; none = λ no. subst (AreStanding e.exporter.log) (o.direction.none (ap (λ z. z.exporter.flushing) (sym did.same) ∙ no)) did.stood } in
+      record { state = did.same; port = rests; withdrawn = withdrawn; stood = did.stood; lane_is = lane_same verdict key done a (record { state = e; port = port }) did.same rests o }
   flushed_lane e b port given (Ok Quiet) did cause why = absurd did
   flushed_lane e b port given (Ok Sent) did cause why =
       let mine = was_given verdict sources a e b port given (did.sending ∷ []) did.given in

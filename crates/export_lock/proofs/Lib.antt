@@ -11,3 +11,4 @@ pub mod News
 pub mod Beginning
 pub mod Putting
 pub mod LaneTurns
+pub mod LaneMarks

@@ -19,13 +19,14 @@ use Rattle.jour_rule.specs.declared.views.Entry.{Entry}
 use Rattle.jour_rule.specs.declared.views.Terms.{Terms}
 use Rattle.jour_rule.specs.declared.views.View.{View as Seat}
 use Rattle.jour.specs.Seats.{front, journal, number_of, own}
-use Rattle.core_machine.specs.Rules.{Fits, Signal}
+use Rattle.core_machine.specs.Rules.{Fits, Signal, Rise}
 use Rattle.core_machine.specs.Signals.{without_sends}
 use Rattle.table_shared.specs.Opening.{TableOpening}
 use Rattle.phase_legal.specs.Stamps.{item_in, items_in, mark_words}
 use Rattle.phase_legal.specs.Turns.{words_in}
 use Rattle.import_lock.specs.Kept.{items_of_stamp}
 use Rattle.export_lock.specs.Kept.{IsExporting, IsReady, MayMark}
+use Rattle.export_lock.specs.MarkTurns.{HasStarted, Starts}
 use Rattle.export_lock.specs.Terms.{BeginsWith, ExportTerms}
 use Rattle.export_lock.specs.declared.state.ExportState.{ExportState}
 use Rattle.export_lock.proofs.Histories.{begins_shorter}
@@ -106,25 +107,34 @@ module _ {J : Type 0} (verdict : J → Net → Route → Verdict) {every : Bool}
     stands = stands;
   }
 
+-- the marks of a log, where a stamp has seen them all
+pub stamps_marks : {J : Type 0} (verdict : J → Net → Route → Verdict) {every : Bool} (key : ExportTerms) (a : ExportState J) (s : TableId × Seat ℕ) → IsExporting verdict every key a → number_of s.1.role ≡ 0 → front s.1 ≡ front a.marks.1
+    → AreOfMakers key.marks.1.opening (front a.marks.1) → without_sends (reverse a.exporter.log) ≡ items_of_stamp s ++ without_sends key.log
+stamps_marks verdict key a s o number told are = o.marked ∙ ap (λ z. z ++ without_sends key.log) (told_list s s (front a.marks.1) key.marks.1.opening told number refl o.makers are)
+
 -- once the stamp was told all marks
-module _ {J : Type 0} (verdict : J → Net → Route → Verdict) (table : TableId × Terms TableOpening) (signal : Signal) (s t m : TableId × Seat ℕ) (a : ExportState J) (may : MayMark verdict table signal s a)
+module _ {J : Type 0} (verdict : J → Net → Route → Verdict) (every : Bool) (table : TableId × Terms TableOpening) (signal : Signal) (s t m : TableId × Seat ℕ) (a : ExportState J) (may : MayMark verdict every table signal s a)
     (lawful : AreOfMakers a.marks.1.seen.terms.opening (front a.marks.1)) (marks : journal m ≡ journal a.marks) (here : journal t ≡ journal s) (list : front m.1 ≡ front a.marks.1) (told : front t.1 ≡ front m.1)
     (number : number_of t.1.role ≡ number_of s.1.role) (same : own t.1 ≡ own s.1) where
   are_all : items_in (front a.marks.1) ≡ items_of_stamp s
   are_all =
-      let o = may.held.exports in
+      let o = may.held.exporting in
       told_list s t (front a.marks.1) a.marks.1.seen.terms.opening (told ∙ list) (number ∙ may.number) same (ap (λ z. z.1.opening) o.marks ∙ o.makers) lawful
 
   pub fits_now : Fits signal (is_open a.exporter.log)
   fits_now = may.fits are_all
 
-  pub ready_now : IsReady verdict t (record { exporter = a.exporter; cursor = a.cursor; marks = m })
+  -- the same value with the marks as they are then
+  abbrev pub told_now : ExportState J
+  told_now = record { exporter = a.exporter; cursor = a.cursor; marks = m }
+
+  pub told_on : {kind : Bool} (key : ExportTerms) → IsExporting verdict kind key a → IsExporting verdict kind key told_now
+  told_on key o = still_on verdict key a told_now refl refl ([], append-nil (front a.cursor.0.1)) refl (λ _. refl) marks list o
+
+  pub ready_now : IsReady verdict t told_now
   ready_now =
       record {
-        held = record {
-          key = may.held.key;
-          exports = still_on verdict may.held.key a (record { exporter = a.exporter; cursor = a.cursor; marks = m }) refl refl ([], append-nil (front a.cursor.0.1)) refl (λ _. refl) marks list may.held.exports;
-        };
+        held = record { every = every; key = may.held.key; exporting = told_on may.held.key may.held.exporting };
         here = here ∙ may.here ∙ sym marks;
         number = number ∙ may.number;
         told = told;
@@ -134,3 +144,12 @@ module _ {J : Type 0} (verdict : J → Net → Route → Verdict) (table : Table
             let long = ap length list in
             omega (arith, end, start, long);
       }
+
+  -- the channel is down, and its cursor was started
+  pub started_now : (head : ℕ) (reader : (TableId × Seat TableOpening) × Bool) → signal ≡ Rise → Starts head a.cursor reader → HasStarted verdict head t (record { exporter = a.exporter; cursor = reader; marks = m })
+  started_now head reader rise starts = record {
+    before = a.cursor;
+    ready = ready_now;
+    down = subst (λ z. Fits z (is_open a.exporter.log)) rise fits_now;
+    starts = starts;
+  }

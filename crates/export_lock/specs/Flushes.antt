@@ -1,5 +1,6 @@
 -- What an export lock of a pipe's direction keeps of its exporter (`IsDirection`), and what a turn of
--- a flush does (`FlushesOn`): it withdraws what stands as sent, key by key in their order, each once.
+-- a flush does (`FlushesOn`): it withdraws what stands as sent, key by key in their order, each once,
+-- until all is withdrawn (`IsWithdrawn`).
 -- Not modelled: what comes of it in the table that the direction writes.
 -- From: BIRD User's Guide, "Pipe"; what goes down withdraws what it brought.
 -- Example: of three keys that stand the first turn withdraws the first; behind the third turn nothing
@@ -19,6 +20,11 @@ use Rattle.export_core.specs.declared.outlet.PushFault.{PushFault}
 use Rattle.export_lock.specs.Kept.{IsExporting}
 use Rattle.export_lock.specs.Terms.{ExportTerms}
 use Rattle.export_lock.specs.declared.state.ExportState.{ExportState}
+
+-- nothing is left to withdraw, and where nothing was withdrawn nothing stood
+pub record IsWithdrawn {J : Type 0} (state : ExportState J) : Type 0 where
+  pub left : state.exporter.left ≡ []
+  pub none : state.exporter.flushing ≡ false → AreStanding state.exporter.log []
 
 module _ {J : Type 0} (verdict : J → Net → Route → Verdict) where
   -- The exporter is that of a pipe's direction, which has withdrawn these keys of what stood, in

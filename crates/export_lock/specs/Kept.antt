@@ -86,10 +86,10 @@ module _ {J : Type 0} (verdict : J → Net → Route → Verdict) where
     pub key : ExportTerms
     pub exporting : IsExporting every key state
 
-  -- of one to a neighbour
-  pub record IsSession (state : ExportState J) : Type 0 where
+  -- of one of this kind
+  pub record IsOfKind (every : Bool) (state : ExportState J) : Type 0 where
     pub key : ExportTerms
-    pub exports : IsExports key state
+    pub exporting : IsExporting every key state
 
   -- what a lock of a channel keeps is kept, of one to a neighbour or of any
   abbrev pub Goes : ExportState J → ExportState J → Type 0
@@ -101,18 +101,18 @@ module _ {J : Type 0} (verdict : J → Net → Route → Verdict) where
 
   -- it may take a mark under this stamp, which has seen all marks
   pub record IsReady (stamp : TableId × Seat ℕ) (state : ExportState J) : Type 0 where
-    pub held : IsSession state
+    pub held : IsHeld state
     pub here : journal stamp ≡ journal state.marks
     pub number : number_of stamp.1.role ≡ 0
     pub told : front stamp.1 ≡ front state.marks.1
     pub end : head_of state.marks.1 + 1 < 2 ^ 63
 
-  -- It reads this table, and where the stamp's marks are all that there are, a position is left for
-  -- one more, and the signal fits.
+  -- It is of this kind and reads this table, and where the stamp's marks are all that there are, a
+  -- position is left for one more, and the signal fits.
   pub record MayMark
-      (table : TableId × Terms TableOpening) (signal : Signal) (stamp : TableId × Seat ℕ)
-      (state : ExportState J) : Type 0 where
-    pub held : IsSession state
+      (every : Bool) (table : TableId × Terms TableOpening) (signal : Signal)
+      (stamp : TableId × Seat ℕ) (state : ExportState J) : Type 0 where
+    pub held : IsOfKind every state
     pub table_is : journal state.cursor.0 ≡ table
     pub here : journal stamp ≡ journal state.marks
     pub number : number_of stamp.1.role ≡ 0

@@ -19,6 +19,7 @@ use Rattle.export_core.specs.declared.log.Key.{Key}
 use Rattle.export_core.specs.declared.log.Sending.{Sending}
 use Rattle.export_core.specs.declared.outlet.PushFault.{PushFault}
 use Rattle.export_core.specs.declared.outlet.PushFault.TheVariants.{Memory}
+use Rattle.export_lock.specs.Flushes.{IsWithdrawn}
 use Rattle.export_lock.specs.Lanes.{IsLane, LaneTerms}
 use Rattle.export_lock.specs.Outlets.{AreGiven, IsRefused, Rests}
 use Rattle.export_lock.specs.declared.lane.PipeLane.{PipeLane}
@@ -56,7 +57,7 @@ module _ {J : Type 0} (verdict : J → Net → Route → Verdict) where
   pub record IsFlushed (done : List Key) (key : LaneTerms) (old new : PipeLane J) : Type 0 where
     pub state : new.state ≡ old.state
     pub port : Rests old.port new.port
-    pub left : new.state.exporter.left ≡ []
+    pub withdrawn : IsWithdrawn new.state
     pub stood : AreStanding new.state.exporter.log done
     pub lane_is : IsLane verdict done key new
 

@@ -7,3 +7,4 @@ pub mod Begun
 pub mod Locks
 pub mod Outlets
 pub mod LaneTurns
+pub mod MarkTurns

@@ -1,11 +1,13 @@
 //! Laws of what an export lock keeps.
-ghost use Rattle.std.specs.Prelude.{◌≡◌, ◌≢◌, ℕ, List, [], ◌∷◌, ◌++◌, Some, map, reverse, true};
+ghost use Rattle.std.specs.Prelude.{◌≡◌, ◌≢◌, ℕ, Bool, List, [], ◌∷◌, ◌++◌, Some, None, map, reverse, true, false};
+ghost use Rattle.atomic_table.specs.Seated.{TableId};
 ghost use Rattle.attrs.specs.declared.journal.JEntry.{JEntry};
 ghost use Rattle.attrs.specs.declared.route.Change.{Change};
 ghost use Rattle.bits_ip.specs.Prefix.{Net};
 ghost use Rattle.core_machine.specs.Enters.{change_to, enters, withdrawal};
-ghost use Rattle.core_machine.specs.Histories.{of_those};
+ghost use Rattle.core_machine.specs.Histories.{content_of, of_those};
 ghost use Rattle.core_machine.specs.Pipes.{passes};
+ghost use Rattle.core_machine.specs.Signals.{without_sends};
 ghost use Rattle.export_core.specs.Calls.{AreStanding};
 ghost use Rattle.export_core.specs.Histories.{TellsBest};
 ghost use Rattle.export_core.specs.Keys.{key_of};
@@ -20,6 +22,7 @@ ghost use Rattle.export_core.specs.declared.log.Sending.{Sending};
 ghost use Rattle.jour_rule.specs.declared.views.Entry.{Entry};
 ghost use Rattle.jour_rule.specs.declared.views.View.{View as Seat};
 ghost use Rattle.jour_rule.specs.Journal.{receipts};
+ghost use Rattle.jour_rule.specs.Laws.{AreOfMakers};
 ghost use Rattle.jour.specs.Seats.{front, journal, number_of, own};
 ghost use Rattle.phase_legal.specs.Changes.{changes_in};
 ghost use Rattle.table_shared.specs.Answers.{IsEntered, IsSame};
@@ -27,7 +30,8 @@ ghost use Rattle.table_shared.specs.Opening.{TableOpening};
 ghost use Rattle.table_shared.specs.Records.{AreRecords, IsLawful, at_first, change_of};
 ghost use Rattle.export_lock.specs.Feeds.{AreOfBest};
 ghost use Rattle.export_lock.specs.Flushes.{IsDirection};
-ghost use Rattle.export_lock.specs.Kept.{GoesOn, IsExports, IsRead, LeavesFlush};
+ghost use Rattle.import_lock.specs.Kept.{items_of_stamp};
+ghost use Rattle.export_lock.specs.Kept.{GoesOn, IsExporting, IsExports, IsRead, LeavesFlush};
 ghost use Rattle.export_lock.specs.Lanes.{EntersOnce, IsLane, LaneTerms};
 ghost use Rattle.export_lock.specs.Terms.{BeginsWith, ExportTerms};
 ghost use Rattle.export_lock.specs.declared.lane.PipeLane.{PipeLane};
@@ -137,3 +141,26 @@ pub fn lanes_enter_news<J: Judge>()
 {
     a_port_alone_changes_its_sources();
 }
+
+/// The marks in a channel's log are those of the phase that its stamp has recorded, in order, behind
+/// those of before, once the stamp has seen the whole list.
+pub fn marks_are_those_of_stamps<J: Judge>()
+    ensures { (every : Bool) (key : ExportTerms) (state : ExportState J)
+        (stamp : TableId × Seat ℕ) → IsExporting J.verdict every key state
+        → number_of stamp.1.role ≡ 0 → front stamp.1 ≡ front state.marks.1
+        → AreOfMakers key.marks.1.opening (front state.marks.1)
+        → without_sends (reverse state.exporter.log)
+        ≡ items_of_stamp stamp ++ without_sends key.log }
+{}
+
+/// Of a pipe's direction that is down nothing stands, by its log and by what it entered in the table
+/// that it writes: before it went down it withdrew all that stood.
+pub fn lanes_that_are_down_leave_nothing<J: Judge>()
+    ensures { (done : List Key) (key : LaneTerms) (lane : PipeLane J)
+        → IsLane J.verdict done key lane
+        → IsLawful key.exports.table.1.opening (front lane.state.cursor.0.1)
+        → is_open lane.state.exporter.log ≡ false
+        → (done ≡ []) × ((k : Key) → (standing_at k lane.state.exporter.log ≡ None)
+        × (content_of (enters key.rules (reverse lane.state.exporter.log)) k.net k.num
+        ≡ None)) }
+{}

@@ -1,8 +1,7 @@
 //! Where what a pipe's direction sends goes: into the other table, by the direction's port of it.
-ghost use Rattle.std.specs.Prelude.{◌≡◌, ◌&&◌, ◌<◌, [], true, reverse, slice_get, length, Some, Contains, IfOk, IfErr, IfSome, None, OnOk};
+ghost use Rattle.std.specs.Prelude.{◌≡◌, ◌<◌, [], reverse, length, Some, Contains, IfOk, IfErr, IfSome, None, OnOk};
 ghost use Rattle.bits_ip.specs.Address.{family_of};
 ghost use Rattle.jour.specs.Seats.{journal, number_of};
-ghost use Rattle.table_shared.specs.Answers.{MayMake};
 ghost use Rattle.table_shared.specs.Opening.{sources_of};
 ghost use Rattle.export_lock.specs.Outlets.{AreGiven, AreSourcesOf, IsRefused, Puts, Refuses, put_change, refusal_of};
 

@@ -114,9 +114,9 @@ module _ {J : Type 0} (verdict : J → Net → Route → Verdict) (key : ImportT
   here_is : journal s ≡ journal b.marks
   here_is = some_same (ap (option_map journal) (sym stamp) ∙ due.importing.marks ∙ together.marks) ∙ sym exports.marks
 
-  pub may_mark : MayMark verdict key.port (signal_of mark) s b
+  pub may_mark : MayMark verdict false key.port (signal_of mark) s b
   may_mark = record {
-    held = record { key = channel; exports = exports };
+    held = record { key = channel; exporting = exports };
     table_is = exports.here ∙ together.table;
     here = here_is;
     number = stamped.number;
@@ -135,10 +135,10 @@ if_marks f (Some a) m P e p = p
 module _ {J : Type 0} (verdict : J → Net → Route → Verdict) where
   -- of any stamp that the value has
   pub may_any : (key : ImportTerms) (channel : ExportTerms) (made : List (ℕ × Change)) (op : Op) (earlier : List Op) (mark : Mark) (a : ImportState J) (b : ExportState J) (table : TableId × Terms TableOpening) → ((setup : Setup) → IsSetup setup → IsRules (rules_of setup))
-      → IsDue verdict key made op earlier mark a → IsExports verdict channel b → AreTogether key channel → length a.ops.items < 2 ^ 63 → key.port ≡ table → IfSome a.stamp (λ s. MayMark verdict table (signal_of mark) s b)
+      → IsDue verdict key made op earlier mark a → IsExports verdict channel b → AreTogether key channel → length a.ops.items < 2 ^ 63 → key.port ≡ table → IfSome a.stamp (λ s. MayMark verdict false table (signal_of mark) s b)
   may_any key channel made op earlier mark a b table rules_are due exports together short here =
-      if_some a.stamp (λ s. MayMark verdict table (signal_of mark) s b)
-      (λ s is. subst (λ z. MayMark verdict z (signal_of mark) s b) here (may_mark verdict key channel made op earlier mark a b s rules_are due is exports together short))
+      if_some a.stamp (λ s. MayMark verdict false table (signal_of mark) s b)
+      (λ s is. subst (λ z. MayMark verdict false z (signal_of mark) s b) here (may_mark verdict key channel made op earlier mark a b s rules_are due is exports together short))
 
   -- and so it has taken the mark
   pub goes_on : (key : ImportTerms) (channel : ExportTerms) (made : List (ℕ × Change)) (op : Op) (earlier : List Op) (mark : Mark) (a : ImportState J) (b n : ExportState J)

@@ -6,16 +6,11 @@ use Rattle.export_lock.specs.Terms.{BeginsWith}
 use Rattle.export_lock.proofs.Marking.{marks_on}
 use Rattle.export_lock.proofs.state.ExportState.fall.Goals as goal
 
-pub down-requires-clause-withdrawn : goal.down-requires-clause-withdrawn
-down-requires-clause-withdrawn g c = λ every.
-    let o = c.requires.ready.held.exports in
-    absurd (let e : false ≡ true = sym o.kind ∙ sym (ap (λ z. z.every) o.spec) ∙ every in cc)
-
 pub close-requires : goal.close-requires
-close-requires g c = c.requires.ready.held.exports.mode ∙ c.requires.up
+close-requires g c = c.requires.ready.held.exporting.mode ∙ c.requires.up
 
 pub returns-clause-goes : goal.returns-clause-goes
-returns-clause-goes g c = λ key o.
+returns-clause-goes g c = λ every key o.
     let ends = c.in_ok-down.ensures.ends in
     marks_on g.J.Judge.verdict key c.args.self.now (record { exporter = c.down.new.self; cursor = c.close.new.self; marks = c.note.new.marks }) Down refl refl
     (ap (λ z. z.spec) ends) (ap (λ z. z.judge) ends) (ap (λ z. z.flushing) ends) (ap (λ z. z.log) ends)
