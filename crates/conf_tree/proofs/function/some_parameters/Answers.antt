@@ -15,7 +15,7 @@ returns-in_err-first c =
 pub loop-separator-init : goal.loop-separator-init
 loop-separator-init c =
     let p = c.in_ok-first.first in
-    let pushed : c.push.new.self.items ≡ p ∷ [] = search rules in
+    let pushed : c.push_tight.new.list.items ≡ p ∷ [] = search rules in
     record {
       some = rw pushed (omega arith);
       reading = rw pushed (some_first c.args.words.now (parameter_tree p) c.in_ok-first.rest.now c.in_ok-first.ensures.tree ∙ ap (λ (t : ParseTree). parameter_row_at t c.in_ok-first.rest.now) (flip (row_one p c.in_ok-first.ensures.separator)));
@@ -36,7 +36,7 @@ loop-separator-preserved c =
     let p = c.in_ok-more.more in
     let s = c.in-Some.separator in
     let end = c.in_ok-more.end.now in
-    let pushed : c.push-in-Some.new.self.items ≡ ps ++ p ∷ [] = search rules in
+    let pushed : c.push_tight-in-Some.new.list.items ≡ ps ++ p ∷ [] = search rules in
     let turn = row_more (row_of ps) c.loop-separator.rest.now c.in-Some.next.now s p end c.in-Some.ensures c.in_ok-more.ensures.tree in
     record {
       some = rw pushed (omega (arith, length-append ps (p ∷ [])));
