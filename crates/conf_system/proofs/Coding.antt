@@ -49,7 +49,7 @@ draft_agrees functions constants ts draft f is = fun_ext (λ around. fun_ext (λ
 
 -- what is owed of the code of a filter, over these constants and functions
 abbrev pub Compiles : List Fixed → List Routine → TFilter → Draft → Type 0
-Compiles constants functions f draft = (ts : List TFunction) → AreCompiled constants 0 ts functions → AreBefore ts f → (around : Around) (attrs : Attrs) → code_flow around functions draft attrs ≡ tree_flow around constants ts f attrs
+Compiles constants functions f draft = (ts : List TFunction) → AreCompiled constants [] ts functions → AreBefore ts f → (around : Around) (attrs : Attrs) → code_flow around functions draft attrs ≡ tree_flow around constants ts f attrs
 
 -- the code of a filter that is held comes to what the filter comes to
 compiled_flows : (held : Held) (code : Code) (constants : List Fixed) (functions : List Routine) (f : TFilter) (draft : Draft) → HasCode held code → constants ≡ constant_values held.checked.declared.scope → functions ≡ code.functions.items → CanRunOver held f
@@ -74,7 +74,7 @@ compiled_never_stuck held code constants functions f draft has cs fs can is =
 -- ---- several
 
 -- one of several, over trees that its functions do
-pub drafted_as : (constants : List Fixed) (functions : List Routine) (filters : List TFilter) (i : ℕ) (f : TFilter) (draft : Draft) (ts : List TFunction) → i < length filters → f ≡ get_or filters i f → AreCompiled constants 0 ts functions → All (AreBefore ts) filters
+pub drafted_as : (constants : List Fixed) (functions : List Routine) (filters : List TFilter) (i : ℕ) (f : TFilter) (draft : Draft) (ts : List TFunction) → i < length filters → f ≡ get_or filters i f → AreCompiled constants [] ts functions → All (AreBefore ts) filters
     → Compiles constants functions f draft → draft_flow functions draft ≡ flow_over constants ts f
 drafted_as constants functions filters i f draft ts below is compiled all does =
     draft_agrees functions constants ts draft f (does ts compiled (subst (λ (x : TFilter). AreBefore ts x) (sym is) (all i f below)))
@@ -150,14 +150,14 @@ light_over before (f ∷ fs) h = (subst (λ (l : List TFunction). IsLight l f) (
 
 -- what is owed of the code of filters
 abbrev pub CompilesAll : List Fixed → List Routine → List TFilter → List Draft → Type 0
-CompilesAll constants functions filters drafts = (ts : List TFunction) → AreCompiled constants 0 ts functions → All (AreBefore ts) filters → map (draft_flow functions) drafts ≡ map (flow_over constants ts) filters
+CompilesAll constants functions filters drafts = (ts : List TFunction) → AreCompiled constants [] ts functions → All (AreBefore ts) filters → map (draft_flow functions) drafts ≡ map (flow_over constants ts) filters
 
 pub has_code : (held : Held) (code : Code) (constants : List Fixed) (ts : List TFunction) (rs : List Routine) (fs : List TFilter) → AllCanRun held → constants ≡ constant_values held.checked.declared.scope → ts ≡ function_trees held.checked.declared.scope
-    → rs ≡ code.functions.items → fs ≡ held.checked.filters.items → AreCompiled constants 0 ts code.functions.items → CompilesAll constants rs fs code.filters.items
+    → rs ≡ code.functions.items → fs ≡ held.checked.filters.items → AreCompiled constants [] ts code.functions.items → CompilesAll constants rs fs code.filters.items
     → CostTheirSteps ts code.functions.items → CostTheirFilters rs fs code.filters.items → HasCode held code
 has_code held code constants ts rs fs ordered cs are same filters compiled all theirs each =
     let scope = held.checked.declared.scope in
-    let done : AreCompiled (constant_values scope) 0 (function_trees scope) code.functions.items = subst (λ (l : List Fixed). AreCompiled l 0 (function_trees scope) code.functions.items) cs (subst (λ (l : List TFunction). AreCompiled constants 0 l code.functions.items) are compiled) in
+    let done : AreCompiled (constant_values scope) [] (function_trees scope) code.functions.items = subst (λ (l : List Fixed). AreCompiled l [] (function_trees scope) code.functions.items) cs (subst (λ (l : List TFunction). AreCompiled constants [] l code.functions.items) are compiled) in
     let owed : CompilesAll (constant_values scope) code.functions.items held.checked.filters.items code.filters.items =
     subst (λ (l : List TFilter). CompilesAll (constant_values scope) code.functions.items l code.filters.items) filters
     (subst (λ (l : List Routine). CompilesAll (constant_values scope) l fs code.filters.items) same (subst (λ (l : List Fixed). CompilesAll l rs fs code.filters.items) cs all)) in

@@ -89,7 +89,7 @@ CostTheirFilters functions filters drafts =
 -- what the filter comes to; no function costs more than it takes, and no filter more than 50,000,000.
 pub record HasCode (held : Held) (code : Code) : Type 0 where
   pub ordered : AllCanRun held
-  pub functions : AreCompiled (constant_values held.checked.declared.scope) 0
+  pub functions : AreCompiled (constant_values held.checked.declared.scope) []
       (function_trees held.checked.declared.scope) code.functions.items
   pub filters : map (draft_flow code.functions.items) code.filters.items
       ≡ map (filter_flow held.checked.declared.scope) held.checked.filters.items

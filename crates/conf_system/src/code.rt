@@ -1,5 +1,5 @@
 //! The code of what a configuration declares.
-ghost use Rattle.std.specs.Prelude.{◌≡◌, ℕ, List, All, IfOk, map, slice_get};
+ghost use Rattle.std.specs.Prelude.{◌≡◌, ℕ, [], List, All, IfOk, map, slice_get};
 ghost use Rattle.filt_code.specs.Codes.{IsNeverStuck};
 ghost use Rattle.filt_code.specs.declared.code.Routine.{Routine};
 ghost use Rattle.filt_compile.specs.Compiles.{AreCompiled};
@@ -46,7 +46,7 @@ pub(crate) fn drafts<'a>(
     filters: &'a [TFilter],
 ) -> Result<Vec<Draft<'a>>, OutOfMemory>
     ensures means { IfOk result (λ drafts. (trees : List TFunction)
-        → AreCompiled constants.now 0 trees functions.now → All (AreBefore trees) filters.now
+        → AreCompiled constants.now [] trees functions.now → All (AreBefore trees) filters.now
         → map (draft_flow functions.now) drafts.items
         ≡ map (flow_over constants.now trees) filters.now) }
     ensures cost { IfOk result (λ drafts. CostTheirFilters functions.now filters.now drafts.items) }

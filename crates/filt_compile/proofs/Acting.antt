@@ -1,28 +1,19 @@
 -- What code comes to that does what statements do, a piece in front of another.
-use Rattle.std.proofs.Common.{◌≡◌, ℕ, suc, zero, ◌+◌, ◌-◌, ◌<◌, ◌≤◌, Bool, true, false, List, [], ◌∷◌, ◌++◌, map, reverse, length, take, drop, Option, Some, None, Result, Ok, Err, refl, sym, ap, ◌∙◌, arith, length-append, append_assoc, Vec}
+use Rattle.std.proofs.Common.{◌≡◌, ℕ, suc, zero, ◌+◌, ◌-◌, ◌<◌, ◌≤◌, Bool, true, false, List, [], ◌∷◌, ◌++◌, map, reverse, length, take, drop, Option, Some, Result, Ok, Err, refl, sym, ap, ◌∙◌, arith, length-append, append_assoc, Vec}
 use Rattle.std.proofs.lemmas.List.{append-nil, length-take, length-map, length-set}
 use Rattle.std.proofs.lemmas.Option.{slice_get_past}
 use Rattle.std.proofs.Math.ListN.{get_or}
 use Rattle.std.specs.Prelude.{slice_get, slice_set, nat_lt, if◌then◌else◌}
 use Rattle.std.specs.Global.{Global}
-use Rattle.std.specs.Borrow.{Bor}
-use Rattle.std.proofs.Common.{Box}
-use Rattle.conf_ast.specs.declared.filters.CompareOp.{CompareOp}
-use Rattle.conf_ast.specs.declared.filters.CompareOp.TheVariants as compare_ops
-use Rattle.conf_ast.specs.declared.attribute.Attribute.TheVariants as attributes
-use Rattle.filt_sets.specs.declared.prefixes.PrefixItem.{PrefixItem}
 use Rattle.filt_meaning.specs.declared.tree.TExpr.TheVariants as e
-use Rattle.filt_meaning.proofs.Forms as forms
-use Rattle.filt_compile.specs.Emits.{IsAsked, IsNet, IsNetIn, IsSet}
-use Rattle.std.specs.Prelude.{IfSome}
 use Rattle.std.proofs.lemmas.List.{length-reverse}
 use Rattle.filt_compile.specs.Emits.{ahead}
 use Rattle.attrs.specs.declared.attributes.Attrs.{Attrs}
 use Rattle.conf_ast.specs.declared.attribute.Attribute.{Attribute}
 use Rattle.filt_meaning.specs.declared.value.Failure.{Failure}
 use Rattle.filt_meaning.specs.declared.value.Sort.{Sort}
-use Rattle.filt_meaning.specs.Operators.{bool_in, matches_of}
-use Rattle.filt_meaning.specs.Values.{Val, VPrefixSet, default_of}
+use Rattle.filt_meaning.specs.Operators.{bool_in}
+use Rattle.filt_meaning.specs.Values.{Val, default_of}
 use Rattle.filt_meaning.specs.Attributes.{with_attribute, without_attribute}
 use Rattle.filt_meaning.specs.Flow.{Returned, Stuck, Why, Flow, Done, Stopped, Frame, Run, and_then, plainly}
 use Rattle.filt_meaning.specs.Meaning as m
@@ -44,6 +35,7 @@ use Rattle.filt_compile.specs.declared.seen.Seen.{Seen}
 use Rattle.filt_compile.specs.Emits.{Acts, Asks, Declares, Leads, Leaves, Puts, PutsAll, Runs, Sets, tables_of}
 use Rattle.filt_compile.proofs.Emitting as em
 use Rattle.filt_compile.proofs.Emitting.{passed_by, further}
+use Rattle.filt_compile.proofs.Seeing.{seen_count}
 use Rattle.filt_compile.proofs.Walk as w
 
 -- ---- conditions
@@ -378,21 +370,21 @@ perform_means : (seen : Seen) (s : Setting) (number n : ℕ) (es : List TExpr) (
 perform_means seen s number n es old f vals attrs is at =
     rw (at, is) (perform_then s f (length es) old vals (trees.all_values (trees.exprs (tables_of seen s) es) vals attrs) (em.values_counted (tables_of seen s) es vals attrs))
 
-pub acts_perform : (seen : Seen) (number n : ℕ) (es : List TExpr) (old mid new : List Instr) → number < seen.functions → n ≡ length es → mid ≡ instrs.Perform number n ∷ old → PutsAll seen (λ t. trees.all_values (trees.exprs t es)) mid new → Acts seen (λ t. m.evaluate (m.call (slice_get t.functions number) (trees.all_values (trees.exprs t es)))) old new
+pub acts_perform : (seen : Seen) (number n : ℕ) (es : List TExpr) (old mid new : List Instr) → number < length seen.routines.now → n ≡ length es → mid ≡ instrs.Perform number n ∷ old → PutsAll seen (λ t. trees.all_values (trees.exprs t es)) mid new → Acts seen (λ t. m.evaluate (m.call (slice_get t.functions number) (trees.all_values (trees.exprs t es)))) old new
 acts_perform seen number n es old mid new lt count is p = record {
   code = p.code ++ instrs.Perform number n ∷ [];
   grows = further new mid old p.code (instrs.Perform number n ∷ []) p.grows is;
   means = λ s few vals attrs. p.means s few vals [] attrs
       ∙ ap (λ (code : List Instr). and_then (trees.all_values (trees.exprs (tables_of seen s) es) vals attrs) (λ vs attrs. mean s code 0 vals (reverse vs ++ []) attrs)) is
-      ∙ perform_means seen s number n es old (em.called_by s number (omega (arith, lt, few))).0 vals attrs count (em.called_by s number (omega (arith, lt, few))).1;
+      ∙ perform_means seen s number n es old (em.called_by s number (omega (arith, lt, seen_count seen s few))).0 vals attrs count (em.called_by s number (omega (arith, lt, seen_count seen s few))).1;
   keeps = λ t vals attrs. evaluate_leaves (length vals) (m.call (slice_get t.functions number) (trees.all_values (trees.exprs t es))) vals attrs refl;
 }
 
-pub no_perform : (seen : Seen) (number : ℕ) (es : List TExpr) (old new : List Instr) → seen.functions ≤ number → new ≡ instrs.Stuck ∷ old → Acts seen (λ t. m.evaluate (m.call (slice_get t.functions number) (trees.all_values (trees.exprs t es)))) old new
+pub no_perform : (seen : Seen) (number : ℕ) (es : List TExpr) (old new : List Instr) → length seen.routines.now ≤ number → new ≡ instrs.Stuck ∷ old → Acts seen (λ t. m.evaluate (m.call (slice_get t.functions number) (trees.all_values (trees.exprs t es)))) old new
 no_perform seen number es old new le is = record {
   code = instrs.Stuck ∷ [];
   grows = is;
-  means = λ s few vals attrs. ap (λ (code : List Instr). mean s code 0 vals [] attrs) is ∙ sym (ap (λ (d : Option Doing). and_then (m.evaluate (m.call d (trees.all_values (trees.exprs (tables_of seen s) es))) vals attrs) (λ after attrs. mean s old 0 after [] attrs)) (slice_get_past s.functions number (omega (arith, le, few))));
+  means = λ s few vals attrs. ap (λ (code : List Instr). mean s code 0 vals [] attrs) is ∙ sym (ap (λ (d : Option Doing). and_then (m.evaluate (m.call d (trees.all_values (trees.exprs (tables_of seen s) es))) vals attrs) (λ after attrs. mean s old 0 after [] attrs)) (slice_get_past s.functions number (omega (arith, le, seen_count seen s few))));
   keeps = λ t vals attrs. evaluate_leaves (length vals) (m.call (slice_get t.functions number) (trees.all_values (trees.exprs t es))) vals attrs refl;
 }
 
@@ -462,27 +454,3 @@ length_ahead n out is = is ∙ sym (length-reverse out.items)
 
 pub distance_from : (n len before : ℕ) (mid : Vec Instr Global) (old : List Instr) → n ≡ len - before → len ≡ length mid.items → before ≡ length old → n ≡ length (ahead mid) - length old
 distance_from n len before mid old is a b = rw (is, a, b, length-reverse mid.items) refl
-
-pub net_asks : (seen : Seen) (is : Bool) (n : ℕ) (e : TExpr) (set : Bor (List PrefixItem)) (old new : List Instr) → IsNetIn e set.now → new ≡ instrs.JumpIfAsked is (questions.NetIn set) n ∷ old → Asks seen is n (λ t. trees.expr e t) old new
-net_asks seen is n e set old new same front = asks_as seen is n (λ t. m.on_two (m.attribute t.around attributes.Net) (m.given (Ok (VPrefixSet set.now))) matches_of) (λ t. trees.expr e t) old new (λ t vals attrs. ap (λ (f : Run Val). f vals attrs) (same t)) (record {
-  code = instrs.JumpIfAsked is (questions.NetIn set) n ∷ [];
-  grows = front;
-  means = λ s few vals os attrs. ap (λ (code : List Instr). mean s code 0 vals os attrs) front;
-})
-
-pub net_in : (a b : Box TExpr Global) (x first second : TExpr) (set : List PrefixItem) → x ≡ e.Compare compare_ops.Matches a b → first ≡ a.value → second ≡ b.value → IsNet first → IsSet second set → IsNetIn x set
-net_in a b x first second set is f g net there t =
-    ap (λ (x : TExpr). trees.expr x t) is
-    ∙ ap (λ (h : Tables → Run Val). h t) (forms.of-Compare _ trees.expr_step compare_ops.Matches a b)
-    ∙ joined (trees.expr a.value t) (trees.expr b.value t) (m.attribute t.around attributes.Net) (m.given (Ok (VPrefixSet set))) (ap (λ (y : TExpr). trees.expr y t) (sym f) ∙ net t) (ap (λ (y : TExpr). trees.expr y t) (sym g) ∙ there t)
-  where
-    joined : (p q r u : Run Val) → p ≡ r → q ≡ u → m.on_two p q matches_of ≡ m.on_two r u matches_of
-    joined p q r u one two = rw (one, two) refl
-
-pub net_in_some : (op : CompareOp) (a b : Box TExpr Global) (x first second : TExpr) (r : Option (Bor (List PrefixItem))) → x ≡ e.Compare op a b → first ≡ a.value → second ≡ b.value → IfSome r (λ set. IsAsked op first second set.now) → IfSome r (λ set. IsNetIn x set.now)
-net_in_some op a b x first second (Some set) is f g asked = net_in a b x first second set.now (is ∙ ap (λ (op : CompareOp). e.Compare op a b) asked.0) f g asked.1 asked.2
-net_in_some op a b x first second None is f g asked = tt
-
-pub asked_some : (op : CompareOp) (first second : TExpr) (r : Option (Bor (List PrefixItem))) → op ≡ compare_ops.Matches → IsNet first → IfSome r (λ set. IsSet second set.now) → IfSome r (λ set. IsAsked op first second set.now)
-asked_some op first second (Some set) is net there = (is, net, there)
-asked_some op first second None is net there = tt

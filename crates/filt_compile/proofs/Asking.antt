@@ -87,7 +87,7 @@ truth_in : (r : Result Bool Failure) (attrs : Attrs) (next : Bool → Attrs → 
 truth_in (Ok b) attrs next = refl
 truth_in (Err failure) attrs next = refl
 
-truth_then : (flow : Flow Val) (next : Bool → Attrs → Flow Frame) → and_then flow (λ v attrs. and_then (plainly (bool_in v) attrs) next) ≡ and_then (and_then flow (λ v attrs. plainly (truth_of v) attrs)) (λ v attrs. and_then (plainly (bool_in v) attrs) next)
+pub truth_then : (flow : Flow Val) (next : Bool → Attrs → Flow Frame) → and_then flow (λ v attrs. and_then (plainly (bool_in v) attrs) next) ≡ and_then (and_then flow (λ v attrs. plainly (truth_of v) attrs)) (λ v attrs. and_then (plainly (bool_in v) attrs) next)
 truth_then (Done v attrs) next = truth_in (bool_in v) attrs next
 truth_then (Stopped why attrs) next = refl
 

@@ -18,7 +18,7 @@ use Rattle.filt_code.specs.declared.instr.Instr.{Instr}
 use Rattle.filt_code.specs.declared.instr.Instr.TheVariants as instrs
 use Rattle.filt_code.specs.Codes.{Setting, mean, labels_of, arms_before, before_in}
 use Rattle.filt_compile.specs.declared.seen.Seen.{Seen}
-use Rattle.filt_compile.specs.Emits.{Acts, Bodies, Grows, Leaves, Puts, Target, Targets, jumps_to, tables_of}
+use Rattle.filt_compile.specs.Emits.{Acts, Bodies, Grows, Leaves, Puts, Sees, Target, Targets, jumps_to, tables_of}
 use Rattle.filt_compile.proofs.Emitting.{passed_by, further}
 use Rattle.filt_compile.proofs.Acting.{given_leaves}
 
@@ -51,7 +51,7 @@ targets_push seen old new (b ∷ rows) [] a start p q = absurd p
 targets_push seen old new (b ∷ rows) (x ∷ starts) a start p q = (p.0, targets_push seen old new rows starts a start p.1 q)
 
 -- a jump to a place
-pub target_means : (seen : Seen) (run : Tables → Act) (start n : ℕ) (old new : List Instr) → Target seen run start old new → n ≡ length new - start → (s : Setting) → length s.functions ≡ seen.functions → (vals : Frame) (attrs : Attrs) → mean s new n vals [] attrs ≡ and_then (run (tables_of seen s) vals attrs) (λ after attrs. mean s old 0 after [] attrs)
+pub target_means : (seen : Seen) (run : Tables → Act) (start n : ℕ) (old new : List Instr) → Target seen run start old new → n ≡ length new - start → (s : Setting) → Sees seen s → (vals : Frame) (attrs : Attrs) → mean s new n vals [] attrs ≡ and_then (run (tables_of seen s) vals attrs) (λ after attrs. mean s old 0 after [] attrs)
 target_means seen run start n old new p far s few vals attrs = passed_by s new p.front p.back n vals [] attrs p.is (omega (arith, far, p.far)) ∙ p.means s few vals attrs
 
 jump_then : (s : Setting) (flow : Flow Frame) (n : ℕ) (old mid front : List Instr) → front ≡ instrs.Jump n ∷ mid → ((after : Frame) (attrs : Attrs) → mean s mid n after [] attrs ≡ mean s old 0 after [] attrs) → and_then flow (λ after attrs. mean s front 0 after [] attrs) ≡ and_then flow (λ after attrs. mean s old 0 after [] attrs)
@@ -95,7 +95,7 @@ arm_means s d rest old (Ok false) more first second vals attrs one two = next_ju
 arm_means s d rest old (Err failure) more first second vals attrs one two = refl
 
 -- the jumps behind the switch
-table_means : (seen : Seen) (s : Setting) → length s.functions ≡ seen.functions → (rows : List (TArm TStmt)) (starts : List ℕ) (old base : List Instr) (otherwise : Act) (v : Val) (vals : Frame) (attrs : Attrs) → Targets seen old base rows starts → mean s base 0 vals [] attrs ≡ and_then (otherwise vals attrs) (λ after attrs. mean s old 0 after [] attrs) → and_then (plainly (arms_before (labels_of rows) v) attrs) (λ i attrs. mean s (jumps_to starts base) i vals [] attrs) ≡ and_then (trees.arms (trees.arms_of (tables_of seen s) rows) otherwise v vals attrs) (λ after attrs. mean s old 0 after [] attrs)
+table_means : (seen : Seen) (s : Setting) → Sees seen s → (rows : List (TArm TStmt)) (starts : List ℕ) (old base : List Instr) (otherwise : Act) (v : Val) (vals : Frame) (attrs : Attrs) → Targets seen old base rows starts → mean s base 0 vals [] attrs ≡ and_then (otherwise vals attrs) (λ after attrs. mean s old 0 after [] attrs) → and_then (plainly (arms_before (labels_of rows) v) attrs) (λ i attrs. mean s (jumps_to starts base) i vals [] attrs) ≡ and_then (trees.arms (trees.arms_of (tables_of seen s) rows) otherwise v vals attrs) (λ after attrs. mean s old 0 after [] attrs)
 table_means seen s few [] [] old base otherwise v vals attrs p none = none
 table_means seen s few [] (start ∷ starts) old base otherwise v vals attrs p none = absurd p
 table_means seen s few (a ∷ rows) [] old base otherwise v vals attrs p none = absurd p

@@ -1,5 +1,5 @@
 -- Whole codes, and lists of them.
-use Rattle.std.proofs.Common.{◌≡◌, ℕ, suc, zero, ◌+◌, ◌*◌, ◌<◌, ◌≤◌, List, [], ◌∷◌, ◌++◌, reverse, length, map, length-append, append_assoc, take, Option, refl, sym, ap, ◌∙◌, arith}
+use Rattle.std.proofs.Common.{◌≡◌, ℕ, suc, zero, ◌+◌, ◌*◌, ◌<◌, ◌≤◌, List, [], ◌∷◌, ◌++◌, reverse, length, map, length-append, append_assoc, take, Option, refl, subst, sym, ap, ◌∙◌, arith}
 use Rattle.std.proofs.lemmas.List.{append-nil, take-map}
 use Rattle.std.proofs.Math.Path.{fun_ext}
 use Rattle.std.specs.Prelude.{All}
@@ -25,11 +25,12 @@ use Rattle.filt_code.specs.Costs.{cost, costs, with_costs}
 use Rattle.filt_code.specs.Codes.{Setting, code_flow, doing, mean, setting, with_routine, with_routines}
 use Rattle.filt_compile.specs.declared.seen.Seen.{Seen}
 use Rattle.filt_compile.specs.Compiles.{beside, AreCompiled, AreLight, CostAtMost, CostTheirSteps, CostsItsSteps, IsCompiled, draft_cost}
-use Rattle.filt_compile.specs.Emits.{Runs, tables_of}
+use Rattle.filt_compile.specs.Emits.{Runs, Sees, tables_of}
 use Rattle.filt_compile.proofs.Cases as cs
+use Rattle.filt_compile.proofs.Seeing as seeing
 
 -- code with nothing behind it
-pub whole_code : (seen : Seen) (sorts : List Sort) (ss : List TStmt) (empty backwards code : List Instr) → empty ≡ [] → code ≡ reverse backwards → Runs seen sorts (λ t. trees.body t ss) (reverse empty) (reverse backwards) → (s : Setting) → length s.functions ≡ seen.functions → (vals : Frame) (attrs : Attrs) → mean s code 0 vals [] attrs ≡ trees.run (tables_of seen s) sorts ss vals attrs
+pub whole_code : (seen : Seen) (sorts : List Sort) (ss : List TStmt) (empty backwards code : List Instr) → empty ≡ [] → code ≡ reverse backwards → Runs seen sorts (λ t. trees.body t ss) (reverse empty) (reverse backwards) → (s : Setting) → Sees seen s → (vals : Frame) (attrs : Attrs) → mean s code 0 vals [] attrs ≡ trees.run (tables_of seen s) sorts ss vals attrs
 whole_code seen sorts ss empty backwards code none is p s few vals attrs =
     ap (λ (code : List Instr). mean s code 0 vals [] attrs) is
     ∙ p.means s few vals attrs
@@ -40,9 +41,10 @@ whole_code seen sorts ss empty backwards code none is p s few vals attrs =
     nothing_behind s (Stopped why attrs) empty none = refl
 
 -- a function's code
-pub function_code : (seen : Seen) (constants : List Fixed) (number : ℕ) (f : TFunction) (made : Routine) (sorts : List Sort) (ss : List TStmt) → seen.constants.now ≡ take f.constants constants → seen.functions ≡ number → sorts ≡ f.sorts.items → ss ≡ f.body.items → made.gives ≡ f.gives → ((s : Setting) → length s.functions ≡ seen.functions → (vals : Frame) (attrs : Attrs) → mean s made.code.items 0 vals [] attrs ≡ trees.run (tables_of seen s) sorts ss vals attrs) → IsCompiled constants number f made
-function_code seen constants number f made sorts ss p u q r g means s few arguments attrs =
-    ap (λ (flow : Flow Frame). given_by made.gives flow) (means s (few ∙ sym u) arguments attrs)
+pub function_code : (seen : Seen) (constants : List Fixed) (before : List Routine) (f : TFunction) (made : Routine) (sorts : List Sort) (ss : List TStmt) → seen.constants.now ≡ take f.constants constants → seen.routines.now ≡ before → sorts ≡ f.sorts.items → ss ≡ f.body.items → made.gives ≡ f.gives → ((s : Setting) → Sees seen s → (vals : Frame) (attrs : Attrs) → mean s made.code.items 0 vals [] attrs ≡ trees.run (tables_of seen s) sorts ss vals attrs) → IsCompiled constants before f made
+function_code seen constants before f made sorts ss p u q r g means around arguments attrs =
+    let s : Setting = setting around before in
+    ap (λ (flow : Flow Frame). given_by made.gives flow) (means s (seeing.sees_setting seen around before u) arguments attrs)
     ∙ ap (λ (o : Option Sort). given_by o (trees.run (tables_of seen s) sorts ss arguments attrs)) g
     ∙ same s seen.constants.now sorts ss p q r
   where
@@ -51,23 +53,17 @@ function_code seen constants number f made sorts ss p u q r g means s few argume
 
 -- ---- lists of functions
 
-compiled_push : (constants : List Fixed) (number n : ℕ) (fs : List TFunction) (rs : List Routine) (f : TFunction) (made : Routine) → AreCompiled constants number fs rs → n ≡ number + length fs → IsCompiled constants n f made → AreCompiled constants number (fs ++ f ∷ []) (rs ++ made ∷ [])
-compiled_push constants number n [] [] f made p is q = let e : n ≡ number = omega (arith, is) in (rw (← e) q, tt)
-compiled_push constants number n [] (r ∷ rs) f made p is q = absurd p
-compiled_push constants number n (g ∷ fs) [] f made p is q = absurd p
-compiled_push constants number n (g ∷ fs) (r ∷ rs) f made p is q = (p.0, compiled_push constants (suc number) n fs rs f made p.1 (omega (arith, is)) q)
+compiled_push : (constants : List Fixed) (before : List Routine) (fs : List TFunction) (rs : List Routine) (f : TFunction) (made : Routine) → AreCompiled constants before fs rs → IsCompiled constants (before ++ rs) f made → AreCompiled constants before (fs ++ f ∷ []) (rs ++ made ∷ [])
+compiled_push constants before [] [] f made p q = (subst (λ (rs : List Routine). IsCompiled constants rs f made) (append-nil before) q, tt)
+compiled_push constants before [] (r ∷ rs) f made p q = absurd p
+compiled_push constants before (g ∷ fs) [] f made p q = absurd p
+compiled_push constants before (g ∷ fs) (r ∷ rs) f made p q = (p.0, compiled_push constants (before ++ r ∷ []) fs rs f made p.1 (subst (λ (rs : List Routine). IsCompiled constants rs f made) (sym (append_assoc before (r ∷ []) rs)) q))
 
-compiled_count : (constants : List Fixed) (number : ℕ) (fs : List TFunction) (rs : List Routine) → AreCompiled constants number fs rs → length rs ≡ length fs
-compiled_count constants number [] [] p = refl
-compiled_count constants number [] (r ∷ rs) p = absurd p
-compiled_count constants number (g ∷ fs) [] p = absurd p
-compiled_count constants number (g ∷ fs) (r ∷ rs) p = ap suc (compiled_count constants (suc number) fs rs p.1)
+pub compiled_more : (constants : List Fixed) (i : ℕ) (all : List TFunction) (rs ends : List Routine) (f : TFunction) (made : Routine) → i < length all → f ≡ get_or all i f → ends ≡ rs ++ made ∷ [] → AreCompiled constants [] (take i all) rs → IsCompiled constants rs f made → AreCompiled constants [] (take (i + 1) all) ends
+compiled_more constants i all rs ends f made lt at is p q =
+    rw (is, cs.taken_next all i f lt at) (compiled_push constants [] (take i all) rs f made p q)
 
-pub compiled_more : (constants : List Fixed) (number i : ℕ) (all : List TFunction) (rs ends : List Routine) (f : TFunction) (made : Routine) → i < length all → f ≡ get_or all i f → number ≡ length rs → ends ≡ rs ++ made ∷ [] → AreCompiled constants 0 (take i all) rs → IsCompiled constants number f made → AreCompiled constants 0 (take (i + 1) all) ends
-compiled_more constants number i all rs ends f made lt at count is p q =
-    rw (is, cs.taken_next all i f lt at) (compiled_push constants 0 number (take i all) rs f made p (omega (arith, count, compiled_count constants 0 (take i all) rs p)) q)
-
-pub compiled_end : (constants : List Fixed) (i : ℕ) (all : List TFunction) (rs : List Routine) → length all ≤ i → AreCompiled constants 0 (take i all) rs → AreCompiled constants 0 all rs
+pub compiled_end : (constants : List Fixed) (i : ℕ) (all : List TFunction) (rs : List Routine) → length all ≤ i → AreCompiled constants [] (take i all) rs → AreCompiled constants [] all rs
 compiled_end constants i all rs le p = rw (← cs.taken_whole all i le) p
 
 -- ---- the same functions
@@ -83,12 +79,12 @@ taken_in_front (suc n) zero xs le = absurd (omega arith)
 taken_in_front (suc n) (suc m) [] le = refl
 taken_in_front (suc n) (suc m) (x ∷ xs) le = ap (λ (ys : List _). x ∷ ys) (taken_in_front n m xs (omega arith))
 
-compiled_front : (constants : List Fixed) (number n : ℕ) (fs : List TFunction) (rs : List Routine) → AreCompiled constants number fs rs → AreCompiled constants number (take n fs) (take n rs)
-compiled_front constants number zero fs rs p = tt
-compiled_front constants number (suc n) [] [] p = tt
-compiled_front constants number (suc n) [] (r ∷ rs) p = absurd p
-compiled_front constants number (suc n) (g ∷ fs) [] p = absurd p
-compiled_front constants number (suc n) (g ∷ fs) (r ∷ rs) p = (p.0, compiled_front constants (suc number) n fs rs p.1)
+compiled_front : (constants : List Fixed) (before : List Routine) (n : ℕ) (fs : List TFunction) (rs : List Routine) → AreCompiled constants before fs rs → AreCompiled constants before (take n fs) (take n rs)
+compiled_front constants before zero fs rs p = tt
+compiled_front constants before (suc n) [] [] p = tt
+compiled_front constants before (suc n) [] (r ∷ rs) p = absurd p
+compiled_front constants before (suc n) (g ∷ fs) [] p = absurd p
+compiled_front constants before (suc n) (g ∷ fs) (r ∷ rs) p = (p.0, compiled_front constants (before ++ r ∷ []) n fs rs p.1)
 
 -- a function over more constants than it sees
 same_function : (constants : List Fixed) (m : ℕ) (s : Setting) (t : Tables) (g : TFunction) (arguments : Frame) (attrs : Attrs) → s.around ≡ t.around → t.constants ≡ map val_of_fixed (take m constants) → s.functions ≡ t.functions → g.constants ≤ m → trees.function (beside constants s) g arguments attrs ≡ trees.function t g arguments attrs
@@ -99,14 +95,22 @@ same_function constants m s t g arguments attrs a k d le =
     by_parts : (a b : Around) (ks ls : List Val) (ds es : List Doing) → a ≡ b → ks ≡ ls → ds ≡ es → given_by g.gives (trees.run (record { around = a; constants = ks; functions = ds }) g.sorts.items g.body.items arguments attrs) ≡ given_by g.gives (trees.run (record { around = b; constants = ls; functions = es }) g.sorts.items g.body.items arguments attrs)
     by_parts a b ks ls ds es p q r = rw (p, q, r) refl
 
+-- one function more is behind the others
+one_behind : (s : Setting) (rs : List Routine) (r : Routine) → with_routines s (rs ++ r ∷ []) ≡ with_routine (with_routines s rs) (doing (with_routines s rs) r)
+one_behind s [] r = refl
+one_behind s (x ∷ rs) r = one_behind (with_routine s (doing s x)) rs r
+
 -- code and trees of the same functions come to the same list of what they do
-same_functions : (constants : List Fixed) (m number : ℕ) (fs : List TFunction) (rs : List Routine) (s : Setting) (t : Tables) → AreCompiled constants number fs rs → All (λ (g : TFunction). g.constants ≤ m) fs → length s.functions ≡ number → s.around ≡ t.around → t.constants ≡ map val_of_fixed (take m constants) → s.functions ≡ t.functions → (with_routines s rs).functions ≡ (trees.with_functions t fs).functions
-same_functions constants m number [] [] s t p h few a k d = d
-same_functions constants m number [] (r ∷ rs) s t p h few a k d = absurd p
-same_functions constants m number (g ∷ fs) [] s t p h few a k d = absurd p
-same_functions constants m number (g ∷ fs) (r ∷ rs) s t p h few a k d =
-    let e : doing s r ≡ trees.function t g = fun_ext (λ arguments. fun_ext (λ attrs. p.0 s few arguments attrs ∙ same_function constants m s t g arguments attrs a k d (h zero g (omega arith)))) in
-    same_functions constants m (suc number) fs rs (with_routine s (doing s r)) (trees.with_function t (trees.function t g)) p.1 (λ i x below. h (suc i) x (omega (arith, below))) (omega (arith, length-append s.functions (doing s r ∷ []), few)) a k (ap (λ (ds : List Doing). ds ++ doing s r ∷ []) d ∙ ap (λ (f : Doing). t.functions ++ f ∷ []) e)
+same_functions : (constants : List Fixed) (m : ℕ) (around : Around) (before : List Routine) (fs : List TFunction) (rs : List Routine) (t : Tables) → AreCompiled constants before fs rs → All (λ (g : TFunction). g.constants ≤ m) fs → (setting around before).around ≡ t.around → t.constants ≡ map val_of_fixed (take m constants) → (setting around before).functions ≡ t.functions → (with_routines (setting around before) rs).functions ≡ (trees.with_functions t fs).functions
+same_functions constants m around before [] [] t p h a k d = d
+same_functions constants m around before [] (r ∷ rs) t p h a k d = absurd p
+same_functions constants m around before (g ∷ fs) [] t p h a k d = absurd p
+same_functions constants m around before (g ∷ fs) (r ∷ rs) t p h a k d =
+    let s : Setting = setting around before in
+    let e : doing s r ≡ trees.function t g = fun_ext (λ arguments. fun_ext (λ attrs. p.0 around arguments attrs ∙ same_function constants m s t g arguments attrs a k d (h zero g (omega arith)))) in
+    let next : setting around (before ++ r ∷ []) ≡ with_routine s (doing s r) = one_behind (record { around = around; functions = [] }) before r in
+    ap (λ (s : Setting). (with_routines s rs).functions) (sym next)
+    ∙ same_functions constants m around (before ++ r ∷ []) fs rs (trees.with_function t (trees.function t g)) p.1 (λ i x below. h (suc i) x (omega (arith, below))) (ap (λ (s : Setting). s.around) next ∙ a) k (ap (λ (s : Setting). s.functions) next ∙ ap (λ (ds : List Doing). ds ++ doing s r ∷ []) d ∙ ap (λ (f : Doing). t.functions ++ f ∷ []) e)
 
 constants_kept : (t : Tables) (fs : List TFunction) → (trees.with_functions t fs).constants ≡ t.constants
 constants_kept t [] = refl
@@ -115,21 +119,6 @@ constants_kept t (g ∷ fs) = constants_kept (trees.with_function t (trees.funct
 around_kept : (t : Tables) (fs : List TFunction) → (trees.with_functions t fs).around ≡ t.around
 around_kept t [] = refl
 around_kept t (g ∷ fs) = around_kept (trees.with_function t (trees.function t g)) fs
-
-around_of : (s : Setting) (rs : List Routine) → (with_routines s rs).around ≡ s.around
-around_of s [] = refl
-around_of s (r ∷ rs) = around_of (with_routine s (doing s r)) rs
-
-length_of : (s : Setting) (rs : List Routine) → length (with_routines s rs).functions ≡ length s.functions + length rs
-length_of s [] = omega arith
-length_of s (r ∷ rs) = omega (arith, length_of (with_routine s (doing s r)) rs, length-append s.functions (doing s r ∷ []))
-
-none_before : (n : ℕ) → 0 + n ≡ n
-none_before n = omega arith
-
-counted : (around : Around) (rs : List Routine) → length (setting around rs).functions ≡ length rs
-counted around rs =
-    length_of (record { around = around; functions = [] }) rs ∙ none_before (length rs)
 
 -- ---- filters
 
@@ -140,21 +129,20 @@ tables_by t u p q r =
     ∙ ap (λ (d : List Doing). record { around = u.around; constants = u.constants; functions = d }) r
 
 -- what code sees is what the filter sees
-seen_same : (seen : Seen) (constants : List Fixed) (fs : List TFunction) (routines : List Routine) (f : TFilter) (around : Around) → seen.constants.now ≡ take f.constants constants → AreCompiled constants 0 fs routines → AreBefore fs f → tables_of seen (setting around (take f.functions routines)) ≡ trees.tables around (take f.constants constants) (take f.functions fs)
+seen_same : (seen : Seen) (constants : List Fixed) (fs : List TFunction) (routines : List Routine) (f : TFilter) (around : Around) → seen.constants.now ≡ take f.constants constants → AreCompiled constants [] fs routines → AreBefore fs f → tables_of seen (setting around (take f.functions routines)) ≡ trees.tables around (take f.constants constants) (take f.functions fs)
 seen_same seen constants fs routines f around same p h =
-    let s : Setting = record { around = around; functions = [] } in
     let t : Tables = record { around = around; constants = map val_of_fixed (take f.constants constants); functions = [] } in
     tables_by (tables_of seen (setting around (take f.functions routines))) (trees.tables around (take f.constants constants) (take f.functions fs))
-    (around_of s (take f.functions routines) ∙ sym (around_kept t (take f.functions fs)))
+    (seeing.around_of (record { around = around; functions = [] }) (take f.functions routines) ∙ sym (around_kept t (take f.functions fs)))
     (ap (λ (cs : List Fixed). map val_of_fixed cs) same ∙ sym (constants_kept t (take f.functions fs)))
-    (same_functions constants f.constants 0 (take f.functions fs) (take f.functions routines) s t (compiled_front constants 0 f.functions fs routines p) h refl refl refl refl)
+    (same_functions constants f.constants around [] (take f.functions fs) (take f.functions routines) t (compiled_front constants [] f.functions fs routines p) h refl refl refl)
 
 -- over the same functions code comes to what its filter comes to
-pub code_flows : (seen : Seen) (constants : List Fixed) (routines : List Routine) (f : TFilter) (draft : Draft) (sorts : List Sort) (ss : List TStmt) → seen.constants.now ≡ take f.constants constants → seen.functions ≡ draft.functions → draft.functions ≡ length (take f.functions routines) → sorts ≡ f.sorts.items → ss ≡ f.body.items → ((s : Setting) → length s.functions ≡ seen.functions → (vals : Frame) (attrs : Attrs) → mean s draft.code.items 0 vals [] attrs ≡ trees.run (tables_of seen s) sorts ss vals attrs) → (fs : List TFunction) → AreCompiled constants 0 fs routines → AreBefore fs f → (around : Around) (attrs : Attrs) → code_flow around routines draft attrs ≡ trees.tree_flow around constants fs f attrs
+pub code_flows : (seen : Seen) (constants : List Fixed) (routines : List Routine) (f : TFilter) (draft : Draft) (sorts : List Sort) (ss : List TStmt) → seen.constants.now ≡ take f.constants constants → seen.routines.now ≡ take f.functions routines → draft.functions ≡ length (take f.functions routines) → sorts ≡ f.sorts.items → ss ≡ f.body.items → ((s : Setting) → Sees seen s → (vals : Frame) (attrs : Attrs) → mean s draft.code.items 0 vals [] attrs ≡ trees.run (tables_of seen s) sorts ss vals attrs) → (fs : List TFunction) → AreCompiled constants [] fs routines → AreBefore fs f → (around : Around) (attrs : Attrs) → code_flow around routines draft attrs ≡ trees.tree_flow around constants fs f attrs
 code_flows seen constants routines f draft sorts ss same few count q r means fs p h around attrs =
     let front : take draft.functions routines ≡ take f.functions routines = ap (λ (n : ℕ). take n routines) count ∙ taken_again f.functions routines in
     ap (λ (rs : List Routine). mean (setting around rs) draft.code.items 0 [] [] attrs) front
-    ∙ means (setting around (take f.functions routines)) (counted around (take f.functions routines) ∙ sym count ∙ sym few) [] attrs
+    ∙ means (setting around (take f.functions routines)) (seeing.sees_setting seen around (take f.functions routines) few) [] attrs
     ∙ by_parts (tables_of seen (setting around (take f.functions routines))) (trees.tables around (take f.constants constants) (take f.functions fs)) sorts f.sorts.items ss f.body.items (seen_same seen constants fs routines f around same p h) q r
   where
     by_parts : (t u : Tables) (xs ys : List Sort) (as_one bs : List TStmt) → t ≡ u → xs ≡ ys → as_one ≡ bs → trees.run t xs as_one [] attrs ≡ trees.run u ys bs [] attrs

@@ -46,9 +46,10 @@ use Rattle.filt_code.specs.declared.instr.OfTwo.{OfTwo}
 use Rattle.filt_code.specs.declared.instr.Question.TheVariants as questions
 use Rattle.filt_code.specs.Codes.{Setting, At, decides, behind_left, mean, put, effect, jump_where, one_of, two_of}
 use Rattle.filt_compile.specs.declared.seen.Seen.{Seen}
-use Rattle.filt_compile.specs.Emits.{Makes, Puts, PutsAll, tables_of}
+use Rattle.filt_compile.specs.Emits.{Makes, Puts, PutsAll, Sees, tables_of}
 use Rattle.filt_compile.specs.Parts.{Part, One, Two, Joined, made_by, made_by_all}
 use Rattle.filt_compile.proofs.Walk.{and_then_assoc, next_got, next_item, found_at}
+use Rattle.filt_compile.proofs.Seeing.{seen_count}
 use Rattle.filt_compile.proofs.Walk as w
 use Rattle.filt_meaning.specs.declared.tree.TExpr.TheVariants as e
 
@@ -86,7 +87,7 @@ puts_effect seen run e old new is same = record {
   means = λ s few vals os attrs. ap (λ (code : List Instr). mean s code 0 vals os attrs) is ∙ ap (λ (f : Flow (Frame × List Val)). and_then f (λ held attrs. mean s old 0 held.0 held.1 attrs)) (same s vals os attrs) ∙ put_then (run (tables_of seen s) vals attrs) vals os (mean s old 0);
 }
 
-pub puts_stuck : (seen : Seen) (run : Tables → Run Val) (old new : List Instr) → new ≡ instrs.Stuck ∷ old → ((s : Setting) → length s.functions ≡ seen.functions → (vals : Frame) (attrs : Attrs) → run (tables_of seen s) vals attrs ≡ Stopped Stuck attrs) → Puts seen run old new
+pub puts_stuck : (seen : Seen) (run : Tables → Run Val) (old new : List Instr) → new ≡ instrs.Stuck ∷ old → ((s : Setting) → Sees seen s → (vals : Frame) (attrs : Attrs) → run (tables_of seen s) vals attrs ≡ Stopped Stuck attrs) → Puts seen run old new
 puts_stuck seen run old new is same = record {
   code = instrs.Stuck ∷ [];
   grows = is;
@@ -117,7 +118,7 @@ two_makes seen op x old mid new is p = record {
 }
 
 -- what is done behind the left side, where the code of the right side stands in front of the other
-right_means : (seen : Seen) (x : TExpr) (old right mid : List Instr) → right ≡ instrs.Do (effects.One of_one.Truth) ∷ old → Puts seen (λ t. trees.expr x t) right mid → (s : Setting) → length s.functions ≡ seen.functions → (vals : Frame) (os : List Val) (attrs : Attrs) → mean s mid 0 vals os attrs ≡ and_then (m.on_value (trees.expr x (tables_of seen s)) truth_of vals attrs) (λ w attrs. mean s old 0 vals (w ∷ os) attrs)
+right_means : (seen : Seen) (x : TExpr) (old right mid : List Instr) → right ≡ instrs.Do (effects.One of_one.Truth) ∷ old → Puts seen (λ t. trees.expr x t) right mid → (s : Setting) → Sees seen s → (vals : Frame) (os : List Val) (attrs : Attrs) → mean s mid 0 vals os attrs ≡ and_then (m.on_value (trees.expr x (tables_of seen s)) truth_of vals attrs) (λ w attrs. mean s old 0 vals (w ∷ os) attrs)
 right_means seen x old right mid is p s few vals os attrs =
     p.means s few vals os attrs ∙ ap (λ (code : List Instr). and_then (trees.expr x (tables_of seen s) vals attrs) (λ w attrs. mean s code 0 vals (w ∷ os) attrs)) is ∙ two_then (trees.expr x (tables_of seen s) vals attrs) truth_of vals os (mean s old 0)
 
@@ -151,7 +152,7 @@ makes_more seen part parts old mid new p q = record {
   means = λ s few v vals os attrs. q.means s few v vals os attrs ∙ then s few vals os (made_by (tables_of seen s) part v vals attrs);
 }
   where
-    then : (s : Setting) → length s.functions ≡ seen.functions → (vals : Frame) (os : List Val) (flow : Flow Val) → and_then flow (λ w attrs. mean s mid 0 vals (w ∷ os) attrs) ≡ and_then (and_then flow (λ w attrs. made_by_all (tables_of seen s) parts w vals attrs)) (λ w attrs. mean s old 0 vals (w ∷ os) attrs)
+    then : (s : Setting) → Sees seen s → (vals : Frame) (os : List Val) (flow : Flow Val) → and_then flow (λ w attrs. mean s mid 0 vals (w ∷ os) attrs) ≡ and_then (and_then flow (λ w attrs. made_by_all (tables_of seen s) parts w vals attrs)) (λ w attrs. mean s old 0 vals (w ∷ os) attrs)
     then s few vals os (Done w attrs) = p.means s few w vals os attrs
     then s few vals os (Stopped why attrs) = refl
 
@@ -165,7 +166,7 @@ chain_puts seen first parts old mid new p q = record {
   means = λ s few vals os attrs. q.means s few vals os attrs ∙ then s few vals os (trees.expr first (tables_of seen s) vals attrs);
 }
   where
-    then : (s : Setting) → length s.functions ≡ seen.functions → (vals : Frame) (os : List Val) (flow : Flow Val) → and_then flow (λ w attrs. mean s mid 0 vals (w ∷ os) attrs) ≡ and_then (and_then flow (λ w attrs. made_by_all (tables_of seen s) parts w vals attrs)) (λ w attrs. mean s old 0 vals (w ∷ os) attrs)
+    then : (s : Setting) → Sees seen s → (vals : Frame) (os : List Val) (flow : Flow Val) → and_then flow (λ w attrs. mean s mid 0 vals (w ∷ os) attrs) ≡ and_then (and_then flow (λ w attrs. made_by_all (tables_of seen s) parts w vals attrs)) (λ w attrs. mean s old 0 vals (w ∷ os) attrs)
     then s few vals os (Done w attrs) = p.means s few w vals os attrs
     then s few vals os (Stopped why attrs) = refl
 
@@ -188,7 +189,7 @@ puts_more seen x es old mid new p q = record {
         turned v vs os = sym (ap (λ (ws : List Val). ws ++ os) (reverse-append (v ∷ []) vs) ∙ append_assoc (reverse vs) (v ∷ []) os)
     back s vals os v (Stopped why attrs) = refl
 
-    then : (s : Setting) → length s.functions ≡ seen.functions → (vals : Frame) (os : List Val) (flow : Flow Val) → and_then flow (λ w attrs. mean s mid 0 vals (w ∷ os) attrs) ≡ and_then (and_then flow (λ v attrs. and_then (trees.all_values (trees.exprs (tables_of seen s) es) vals attrs) (λ vs attrs. Done (v ∷ vs) attrs))) (λ vs attrs. mean s old 0 vals (reverse vs ++ os) attrs)
+    then : (s : Setting) → Sees seen s → (vals : Frame) (os : List Val) (flow : Flow Val) → and_then flow (λ w attrs. mean s mid 0 vals (w ∷ os) attrs) ≡ and_then (and_then flow (λ v attrs. and_then (trees.all_values (trees.exprs (tables_of seen s) es) vals attrs) (λ vs attrs. Done (v ∷ vs) attrs))) (λ vs attrs. mean s old 0 vals (reverse vs ++ os) attrs)
     then s few vals os (Done v attrs) = p.means s few vals (v ∷ os) attrs ∙ back s vals os v (trees.all_values (trees.exprs (tables_of seen s) es) vals attrs)
     then s few vals os (Stopped why attrs) = refl
 
@@ -209,7 +210,7 @@ no_constant_puts seen n old new is past =
 
 -- ---- tests
 
-truth_said : {A : Type 0} (r : Result A Failure) (f : A → Bool) → operators.and_then (operators.and_then r (λ a. operators.says (f a))) truth_of ≡ operators.and_then r (λ a. operators.says (f a))
+pub truth_said : {A : Type 0} (r : Result A Failure) (f : A → Bool) → operators.and_then (operators.and_then r (λ a. operators.says (f a))) truth_of ≡ operators.and_then r (λ a. operators.says (f a))
 truth_said (Ok a) f = refl
 truth_said (Err failure) f = refl
 
@@ -254,7 +255,7 @@ truth_path (VIntSet s) n = refl
 truth_path (VMask s) n = refl
 truth_path _ n = refl
 
-truth_matches : (v w : Val) → operators.and_then (operators.matches_of v w) truth_of ≡ operators.matches_of v w
+pub truth_matches : (v w : Val) → operators.and_then (operators.matches_of v w) truth_of ≡ operators.matches_of v w
 truth_matches (VInt a) w = truth_int w a
 truth_matches (VPair a) w = truth_pair w a
 truth_matches (VPrefix a) w = truth_net w a
@@ -274,11 +275,11 @@ truth_compare compare_ops.GreaterOrEqual v w = truth_said (operators.order_of v 
 truth_compare compare_ops.Matches v w = truth_matches v w
 truth_compare compare_ops.MatchesNot v w = truth_turned (operators.matches_of v w)
 
-truth_plainly : (r : Result Val Failure) (attrs : Attrs) → operators.and_then r truth_of ≡ r → and_then (plainly r attrs) (λ v attrs. plainly (truth_of v) attrs) ≡ plainly r attrs
+pub truth_plainly : (r : Result Val Failure) (attrs : Attrs) → operators.and_then r truth_of ≡ r → and_then (plainly r attrs) (λ v attrs. plainly (truth_of v) attrs) ≡ plainly r attrs
 truth_plainly (Ok v) attrs is = ap (λ (r : Result Val Failure). plainly r attrs) is
 truth_plainly (Err failure) attrs is = refl
 
-truth_then : {A : Type 0} (flow : Flow A) (f : A → Result Val Failure) → ((a : A) → operators.and_then (f a) truth_of ≡ f a) → and_then (and_then flow (λ a attrs. plainly (f a) attrs)) (λ v attrs. plainly (truth_of v) attrs) ≡ and_then flow (λ a attrs. plainly (f a) attrs)
+pub truth_then : {A : Type 0} (flow : Flow A) (f : A → Result Val Failure) → ((a : A) → operators.and_then (f a) truth_of ≡ f a) → and_then (and_then flow (λ a attrs. plainly (f a) attrs)) (λ v attrs. plainly (truth_of v) attrs) ≡ and_then flow (λ a attrs. plainly (f a) attrs)
 truth_then (Done a attrs) f is = truth_plainly (f a) attrs (is a)
 truth_then (Stopped why attrs) f is = refl
 
@@ -300,7 +301,7 @@ answered_in : (s : Setting) (old : List Instr) (r : Result Bool Failure) (vals :
 answered_in s old (Ok b) vals os attrs = answered_by s old b vals os attrs
 answered_in s old (Err failure) vals os attrs = refl
 
-answered : (s : Setting) (old : List Instr) (flow : Flow Val) (vals : Frame) (os : List Val) → and_then flow (λ v attrs. and_then (plainly (bool_in v) attrs) (λ b attrs. mean s (answers old) (jump_where true 2 b) vals os attrs)) ≡ and_then (and_then flow (λ v attrs. plainly (truth_of v) attrs)) (λ v attrs. mean s old 0 vals (v ∷ os) attrs)
+pub answered : (s : Setting) (old : List Instr) (flow : Flow Val) (vals : Frame) (os : List Val) → and_then flow (λ v attrs. and_then (plainly (bool_in v) attrs) (λ b attrs. mean s (answers old) (jump_where true 2 b) vals os attrs)) ≡ and_then (and_then flow (λ v attrs. plainly (truth_of v) attrs)) (λ v attrs. mean s old 0 vals (v ∷ os) attrs)
 answered s old (Done v attrs) vals os = answered_in s old (bool_in v) vals os attrs
 answered s old (Stopped why attrs) vals os = refl
 
@@ -364,18 +365,18 @@ call_means : (seen : Seen) (s : Setting) (number n : ℕ) (es : List TExpr) (old
 call_means seen s number n es old f vals os attrs is at =
     rw (at, is) (call_then s f (length es) old vals os (trees.all_values (trees.exprs (tables_of seen s) es) vals attrs) (values_counted (tables_of seen s) es vals attrs))
 
-pub call_puts : (seen : Seen) (number n : ℕ) (es : List TExpr) (old mid new : List Instr) → number < seen.functions → n ≡ length es → mid ≡ instrs.Call number n ∷ old → PutsAll seen (λ t. trees.all_values (trees.exprs t es)) mid new → Puts seen (λ t. m.called_value (slice_get t.functions number) (trees.all_values (trees.exprs t es))) old new
+pub call_puts : (seen : Seen) (number n : ℕ) (es : List TExpr) (old mid new : List Instr) → number < length seen.routines.now → n ≡ length es → mid ≡ instrs.Call number n ∷ old → PutsAll seen (λ t. trees.all_values (trees.exprs t es)) mid new → Puts seen (λ t. m.called_value (slice_get t.functions number) (trees.all_values (trees.exprs t es))) old new
 call_puts seen number n es old mid new lt count is p = record {
   code = p.code ++ instrs.Call number n ∷ [];
   grows = further new mid old p.code (instrs.Call number n ∷ []) p.grows is;
   means = λ s few vals os attrs. p.means s few vals os attrs
       ∙ ap (λ (code : List Instr). and_then (trees.all_values (trees.exprs (tables_of seen s) es) vals attrs) (λ vs attrs. mean s code 0 vals (reverse vs ++ os) attrs)) is
-      ∙ call_means seen s number n es old (called_by s number (omega (arith, lt, few))).0 vals os attrs count (called_by s number (omega (arith, lt, few))).1;
+      ∙ call_means seen s number n es old (called_by s number (omega (arith, lt, seen_count seen s few))).0 vals os attrs count (called_by s number (omega (arith, lt, seen_count seen s few))).1;
 }
 
-pub no_call_puts : (seen : Seen) (number : ℕ) (es : List TExpr) (old new : List Instr) → seen.functions ≤ number → new ≡ instrs.Stuck ∷ old → Puts seen (λ t. m.called_value (slice_get t.functions number) (trees.all_values (trees.exprs t es))) old new
+pub no_call_puts : (seen : Seen) (number : ℕ) (es : List TExpr) (old new : List Instr) → length seen.routines.now ≤ number → new ≡ instrs.Stuck ∷ old → Puts seen (λ t. m.called_value (slice_get t.functions number) (trees.all_values (trees.exprs t es))) old new
 no_call_puts seen number es old new le is =
-    puts_stuck seen (λ t. m.called_value (slice_get t.functions number) (trees.all_values (trees.exprs t es))) old new is (λ s few vals attrs. ap (λ (d : Option Doing). m.called_value d (trees.all_values (trees.exprs (tables_of seen s) es)) vals attrs) (slice_get_past s.functions number (omega (arith, le, few))))
+    puts_stuck seen (λ t. m.called_value (slice_get t.functions number) (trees.all_values (trees.exprs t es))) old new is (λ s few vals attrs. ap (λ (d : Option Doing). m.called_value d (trees.all_values (trees.exprs (tables_of seen s) es)) vals attrs) (slice_get_past s.functions number (omega (arith, le, seen_count seen s few))))
 
 -- ---- forms
 

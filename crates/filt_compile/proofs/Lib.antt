@@ -1,9 +1,12 @@
 pub mod Acting
+pub mod Answering
 pub mod Asking
 pub mod Cases
 pub mod Compiling
 pub mod Cost
 pub mod Emitting
+pub mod InPlace
 pub mod Ranging
+pub mod Seeing
 pub mod Spending
 pub mod Walk

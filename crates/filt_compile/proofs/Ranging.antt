@@ -153,7 +153,7 @@ attribute_ranged a op n number r what is held p = λ around vals attrs.
     ∙ compared (number_in around number attrs) op n r.low r.high r.inside attrs p.has
     ∙ ap (λ (number : Number). plainly (operators.and_then (number_in around number attrs) (λ m. says (sense r.inside (within r.low r.high m)))) attrs) (sym p.of)
 
-in_two : (r : Result Val Failure) (g : Val → Result Val Failure) (attrs : Attrs) → and_then (plainly r attrs) (λ v attrs. plainly (g v) attrs) ≡ plainly (operators.and_then r g) attrs
+pub in_two : (r : Result Val Failure) (g : Val → Result Val Failure) (attrs : Attrs) → and_then (plainly r attrs) (λ v attrs. plainly (g v) attrs) ≡ plainly (operators.and_then r g) attrs
 in_two (Ok v) g attrs = refl
 in_two (Err failure) g attrs = refl
 

@@ -1,9 +1,10 @@
 -- What is owed of compiled functions and filters: what their trees do, and that they cost no more.
-use Rattle.std.specs.Prelude.{◌≡◌, ◌≤◌, ℕ, suc, List, [], ◌∷◌, ◌++◌, length, map, get_or, take, ⊤}
+use Rattle.std.specs.Prelude.{◌≡◌, ◌≤◌, ℕ, List, [], ◌∷◌, ◌++◌, map, get_or, take, ⊤}
 use Rattle.attrs.specs.declared.attributes.Attrs.{Attrs}
 use Rattle.filt_meaning.specs.declared.fixed.Fixed.{Fixed}
 use Rattle.filt_meaning.specs.Seen.{val_of_fixed}
 use Rattle.filt_meaning.specs.Flow.{Frame}
+use Rattle.filt_meaning.specs.Names.{Around}
 use Rattle.filt_meaning.specs.declared.scope.TFunction.{TFunction}
 use Rattle.filt_meaning.specs.Trees.{Tables, function}
 use Rattle.filt_code.specs.declared.code.Draft.{Draft}
@@ -12,7 +13,7 @@ use Rattle.filt_meaning.specs.Steps.{IsLight, run_steps}
 use Rattle.filt_meaning.specs.declared.tree.TStmt.{TStmt}
 use Rattle.filt_meaning.specs.declared.value.Sort.{Sort}
 use Rattle.filt_code.specs.declared.instr.Instr.{Instr}
-use Rattle.filt_code.specs.Codes.{Setting, doing}
+use Rattle.filt_code.specs.Codes.{Setting, doing, setting}
 use Rattle.filt_code.specs.Costs.{cost, costs}
 
 -- what trees are run over, with these constants, where code is run over this setting
@@ -23,19 +24,19 @@ beside constants s = record {
   functions = s.functions;
 }
 
--- The code of a function, before which there are so many, does what the function does, whatever it
--- is called with.
-abbrev pub IsCompiled : List Fixed → (number : ℕ) → TFunction → Routine → Type 0
-IsCompiled constants number f made =
-    (s : Setting) → length s.functions ≡ number → (arguments : Frame) (attrs : Attrs) → doing s made arguments attrs ≡ function (beside constants s) f arguments attrs
+-- The code of a function, over that of the functions before it, does what the function does, whatever
+-- it is called with.
+abbrev pub IsCompiled : List Fixed → (before : List Routine) → TFunction → Routine → Type 0
+IsCompiled constants before f made =
+    (around : Around) (arguments : Frame) (attrs : Attrs) → doing (setting around before) made arguments attrs ≡ function (beside constants (setting around before)) f arguments attrs
 
--- so of each, where there are so many before the first one
-abbrev pub AreCompiled : List Fixed → (number : ℕ) → List TFunction → List Routine → Type 0
-AreCompiled constants number [] [] = ⊤
-AreCompiled constants number [] (made ∷ more) = ⊥
-AreCompiled constants number (f ∷ fs) [] = ⊥
-AreCompiled constants number (f ∷ fs) (made ∷ more) =
-    IsCompiled constants number f made × AreCompiled constants (suc number) fs more
+-- so of each, over those before the first one
+abbrev pub AreCompiled : List Fixed → (before : List Routine) → List TFunction → List Routine → Type 0
+AreCompiled constants before [] [] = ⊤
+AreCompiled constants before [] (made ∷ more) = ⊥
+AreCompiled constants before (f ∷ fs) [] = ⊥
+AreCompiled constants before (f ∷ fs) (made ∷ more) =
+    IsCompiled constants before f made × AreCompiled constants (before ++ made ∷ []) fs more
 
 -- None of the functions that cost this costs more than it is told to.
 abbrev pub CostAtMost : List ℕ → (called : ℕ → ℕ) → Type 0

@@ -19,7 +19,7 @@ use filt_meaning::{Sort, TArm, TExpr, TStmt, TTarget};
 /// Statements in their order.
 #[cycle(acts)]
 pub(crate) fn body<'a>(
-    seen: &Seen<'a>,
+    seen: &Seen<'_, 'a>,
     statements: &'a [TStmt],
     out: &mut Vec<Instr<'a>>,
 ) -> Result<(), OutOfMemory>
@@ -36,7 +36,7 @@ pub(crate) fn body<'a>(
 }
 
 #[cycle(acts)]
-fn act<'a>(seen: &Seen<'a>, s: &'a TStmt, out: &mut Vec<Instr<'a>>) -> Result<(), OutOfMemory>
+fn act<'a>(seen: &Seen<'_, 'a>, s: &'a TStmt, out: &mut Vec<Instr<'a>>) -> Result<(), OutOfMemory>
     ensures { OnOk result (Acts seen.now (λ t. trees.stmt s.now t)
         (ahead out.old) (ahead out.new)
         × AddsAtMost (λ called. stmt_steps called s.now) (ahead out.old) (ahead out.new)) }
@@ -67,7 +67,7 @@ fn act<'a>(seen: &Seen<'a>, s: &'a TStmt, out: &mut Vec<Instr<'a>>) -> Result<()
 /// Statements over variables of these sorts more, which stay.
 #[cycle(acts)]
 pub(crate) fn block<'a>(
-    seen: &Seen<'a>,
+    seen: &Seen<'_, 'a>,
     sorts: &'a [Sort],
     statements: &'a [TStmt],
     out: &mut Vec<Instr<'a>>,
@@ -84,7 +84,7 @@ pub(crate) fn block<'a>(
 /// `if` without `else`.
 #[cycle(acts)]
 fn choice<'a>(
-    seen: &Seen<'a>,
+    seen: &Seen<'_, 'a>,
     e: &'a TExpr,
     first: &'a TStmt,
     out: &mut Vec<Instr<'a>>,
@@ -103,7 +103,7 @@ fn choice<'a>(
 /// `if` with `else`.
 #[cycle(acts)]
 fn either<'a>(
-    seen: &Seen<'a>,
+    seen: &Seen<'_, 'a>,
     e: &'a TExpr,
     first: &'a TStmt,
     second: &'a TStmt,
@@ -126,7 +126,7 @@ fn either<'a>(
 /// `for`: a turn for each element of a list.
 #[cycle(acts)]
 fn turns<'a>(
-    seen: &Seen<'a>,
+    seen: &Seen<'_, 'a>,
     e: &'a TExpr,
     turn: &'a TStmt,
     out: &mut Vec<Instr<'a>>,
@@ -147,7 +147,7 @@ fn turns<'a>(
 
 /// `return`, with or without a value.
 fn give<'a>(
-    seen: &Seen<'a>,
+    seen: &Seen<'_, 'a>,
     e: &'a Option<TExpr>,
     out: &mut Vec<Instr<'a>>,
 ) -> Result<(), OutOfMemory>
@@ -166,7 +166,7 @@ fn give<'a>(
 
 /// Values that are evaluated, each of which is let go at once.
 fn dropped<'a>(
-    seen: &Seen<'a>,
+    seen: &Seen<'_, 'a>,
     es: &'a [TExpr],
     out: &mut Vec<Instr<'a>>,
 ) -> Result<(), OutOfMemory>
@@ -186,7 +186,7 @@ fn dropped<'a>(
 
 /// A call of which nothing is put.
 fn perform<'a>(
-    seen: &Seen<'a>,
+    seen: &Seen<'_, 'a>,
     number: usize,
     es: &'a [TExpr],
     out: &mut Vec<Instr<'a>>,
@@ -197,7 +197,7 @@ fn perform<'a>(
         × AddsAtMost (λ called. 2 + called number + exprs_steps called es.now)
         (ahead out.old) (ahead out.new)) }
 {
-    if number < seen.functions {
+    if number < seen.routines.len() {
         push(out, Instr::Perform(number, es.len()))?;
         return values(seen, es, out);
     }
@@ -233,7 +233,7 @@ fn set<'a>(target: TTarget, out: &mut Vec<Instr<'a>>) -> Result<(), OutOfMemory>
 /// `case`: a jump for each arm, one for where no label has the value, and what they lead to.
 #[cycle(acts)]
 fn case<'a>(
-    seen: &Seen<'a>,
+    seen: &Seen<'_, 'a>,
     e: &'a TExpr,
     arms: &'a [TArm<TStmt>],
     otherwise: &'a [TStmt],
@@ -259,7 +259,7 @@ fn case<'a>(
 /// What the arms do, each behind the one after it, and how much code there is from each on.
 #[cycle(acts)]
 fn bodies<'a>(
-    seen: &Seen<'a>,
+    seen: &Seen<'_, 'a>,
     arms: &'a [TArm<TStmt>],
     before: usize,
     out: &mut Vec<Instr<'a>>,

@@ -1,28 +1,27 @@
 //! Conditions.
 
-ghost use Rattle.std.specs.Prelude.{◌≡◌, ◌<◌, ◌+◌, length, slice_get, true, IfSome, OnOk, Some};
+ghost use Rattle.std.specs.Prelude.{◌≡◌, ◌<◌, ◌+◌, length, slice_get, OnOk, Some};
 ghost use Rattle.filt_meaning.specs.Trees as trees;
-ghost use Rattle.filt_code.specs.declared.instr.Question.TheVariants as questions;
 ghost use Rattle.filt_compile.specs.Ranges.{sense};
-ghost use Rattle.filt_compile.specs.Emits.{ahead, decider, landing, Asks, AsksAtMost, IsAsked, IsNet, IsNetIn, IsSet, Leads, LeadsAtMost};
+ghost use Rattle.filt_compile.specs.Emits.{ahead, decider, landing, Asks, AsksAtMost, Leads, LeadsAtMost};
 ghost use Rattle.filt_compile.specs.Parts.{sides_steps};
 ghost use Rattle.filt_meaning.specs.Steps.{expr_steps};
 
 use crate::emitted::push;
-use crate::ranges::{Range, ranged};
+use crate::questions::{question_of, within};
+use crate::ranges::ranged;
 use crate::seen::Seen;
 use crate::value::value;
 use bits_ip::OutOfMemory;
-use conf_ast::filters::{Attribute, CompareOp, LogicalOp};
+use conf_ast::filters::LogicalOp;
 use filt_code::{Instr, Question};
-use filt_meaning::{Fixed, TExpr, TTest};
-use filt_sets::PrefixSet;
+use filt_meaning::{TExpr, TTest};
 
 /// What jumps where a condition's truth value is this one, to the place that has so much code from it
 /// on. What `&&`, `||` and `!` join isn't put: each of their sides jumps by itself.
 #[cycle(conditions)]
 pub(crate) fn condition<'a>(
-    seen: &Seen<'a>,
+    seen: &Seen<'_, 'a>,
     e: &'a TExpr,
     is: bool,
     to: usize,
@@ -45,7 +44,7 @@ pub(crate) fn condition<'a>(
 /// An operand, and what is joined to it by `&&` and `||`.
 #[cycle(conditions)]
 fn joined<'a>(
-    seen: &Seen<'a>,
+    seen: &Seen<'_, 'a>,
     first: &'a TExpr,
     more: &'a [(LogicalOp, TExpr)],
     is: bool,
@@ -104,7 +103,7 @@ fn landing(deciding: bool, wanted: bool, place: usize, behind: usize) -> usize
 
 /// What passes over so many instructions where a condition's truth value is this one.
 fn asked<'a>(
-    seen: &Seen<'a>,
+    seen: &Seen<'_, 'a>,
     e: &'a TExpr,
     is: bool,
     over: usize,
@@ -114,8 +113,8 @@ fn asked<'a>(
         (ahead out.old) (ahead out.new)
         × AsksAtMost (λ called. expr_steps called e.now) over (ahead out.old) (ahead out.new)) }
 {
-    if let Some(set) = net_set(e) {
-        return push(out, Instr::JumpIfAsked(is, Question::NetIn(set), over));
+    if let Some(question) = question_of(seen, e) {
+        return push(out, Instr::JumpIfAsked(is, question, over));
     }
     match e {
         TExpr::Test(what) => tested(seen, *what, is, over, out),
@@ -129,7 +128,7 @@ fn asked<'a>(
 
 /// The same of a test. One of a number asks whether it is within a range.
 fn tested<'a>(
-    seen: &Seen<'a>,
+    seen: &Seen<'_, 'a>,
     what: TTest,
     is: bool,
     over: usize,
@@ -142,57 +141,14 @@ fn tested<'a>(
     match ranged(what) {
         Some(range) => push(
             out,
-            Instr::JumpIfAsked(sense(range.inside, is), question(range), over),
+            Instr::JumpIfAsked(sense(range.inside, is), within(range), over),
         ),
         None => push(out, Instr::JumpIfAsked(is, Question::Test(what), over)),
     }
-}
-
-fn question<'a>(range: Range) -> Question<'a>
-    ensures { result ≡ questions.Within range.number range.low range.high }
-{
-    Question::Within(range.number, range.low, range.high)
 }
 
 fn sense(inside: bool, is: bool) -> bool
     ensures { result ≡ sense inside is }
 {
     if inside { is } else { !is }
-}
-
-/// The set of which a condition asks whether the net is in it, where that is all that it asks.
-fn net_set(e: &TExpr) -> Option<&PrefixSet>
-    ensures { IfSome result (λ set. IsNetIn e.now set.now) }
-{
-    match e {
-        TExpr::Compare(op, a, b) => set_asked(*op, a, b),
-        _ => None,
-    }
-}
-
-fn set_asked<'a>(op: CompareOp, a: &TExpr, b: &'a TExpr) -> Option<&'a PrefixSet>
-    ensures { IfSome result (λ set. IsAsked op a.now b.now set.now) }
-{
-    match op {
-        CompareOp::Matches => { if is_net(a) { fixed_set(b) } else { None } }
-        _ => None,
-    }
-}
-
-fn is_net(e: &TExpr) -> bool
-    ensures { result ≡ true → IsNet e.now }
-{
-    match e {
-        TExpr::Attribute(Attribute::Net) => true,
-        _ => false,
-    }
-}
-
-fn fixed_set(e: &TExpr) -> Option<&PrefixSet>
-    ensures { IfSome result (λ set. IsSet e.now set.now) }
-{
-    match e {
-        TExpr::Value(Fixed::PrefixSet(set)) => Some(set),
-        _ => None,
-    }
 }

@@ -1,6 +1,6 @@
 //! Code as it is emitted, from its end: the list has the last instruction first.
 
-ghost use Rattle.std.specs.Prelude.{◌≡◌, ◌∷◌, length, OnOk};
+ghost use Rattle.std.specs.Prelude.{◌≡◌, ◌∷◌, OnOk};
 ghost use Rattle.filt_compile.specs.Emits.{ahead};
 
 use bits_ip::OutOfMemory;

@@ -1,13 +1,14 @@
 //! What names in trees stand for.
 
+use filt_code::Routine;
 use filt_meaning::Fixed;
 use std::alloc::Global;
 
 /// What is seen of a scope.
 #[derive(Clone, Copy)]
-pub(crate) struct Seen<'a> {
+pub(crate) struct Seen<'s, 'a> {
     pub(crate) alloc: Global,
     pub(crate) constants: &'a [Fixed],
-    /// How many functions may be called.
-    pub(crate) functions: usize,
+    /// The functions that may be called.
+    pub(crate) routines: &'s [Routine<'a>],
 }

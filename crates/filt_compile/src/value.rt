@@ -22,7 +22,7 @@ use filt_meaning::{Sort, TExpr, TTest};
 /// What puts an expression's value.
 #[cycle(emit)]
 pub(crate) fn value<'a>(
-    seen: &Seen<'a>,
+    seen: &Seen<'_, 'a>,
     e: &'a TExpr,
     out: &mut Vec<Instr<'a>>,
 ) -> Result<(), OutOfMemory>
@@ -54,7 +54,7 @@ pub(crate) fn value<'a>(
 /// An operand, and the operators behind it.
 #[cycle(emit)]
 fn chain<'a>(
-    seen: &Seen<'a>,
+    seen: &Seen<'_, 'a>,
     first: &'a TExpr,
     rest: Rest<'a>,
     out: &mut Vec<Instr<'a>>,
@@ -75,7 +75,11 @@ fn chain<'a>(
 
 /// An operator, behind its left operand.
 #[cycle(emit)]
-fn apply<'a>(seen: &Seen<'a>, step: Step<'a>, out: &mut Vec<Instr<'a>>) -> Result<(), OutOfMemory>
+fn apply<'a>(
+    seen: &Seen<'_, 'a>,
+    step: Step<'a>,
+    out: &mut Vec<Instr<'a>>,
+) -> Result<(), OutOfMemory>
     ensures { OnOk result (Makes seen.now (λ t. made_by t (part_of step.entry)) (ahead out.old) (ahead out.new)
         × AddsAtMost (λ called. part_steps called (part_of step.entry)) (ahead out.old) (ahead out.new)) }
 {
@@ -92,7 +96,7 @@ fn apply<'a>(seen: &Seen<'a>, step: Step<'a>, out: &mut Vec<Instr<'a>>) -> Resul
 /// `&&` or `||` behind its left side, which passes over the right one where it decides.
 #[cycle(emit)]
 fn join<'a>(
-    seen: &Seen<'a>,
+    seen: &Seen<'_, 'a>,
     joint: LogicalOp,
     right: &'a TExpr,
     out: &mut Vec<Instr<'a>>,
@@ -111,7 +115,7 @@ fn join<'a>(
 /// Values between commas.
 #[cycle(emit)]
 pub(crate) fn values<'a>(
-    seen: &Seen<'a>,
+    seen: &Seen<'_, 'a>,
     es: &'a [TExpr],
     out: &mut Vec<Instr<'a>>,
 ) -> Result<(), OutOfMemory>
@@ -130,7 +134,7 @@ pub(crate) fn values<'a>(
 /// A call of a function that gives a value.
 #[cycle(emit)]
 fn call<'a>(
-    seen: &Seen<'a>,
+    seen: &Seen<'_, 'a>,
     number: usize,
     es: &'a [TExpr],
     out: &mut Vec<Instr<'a>>,
@@ -140,14 +144,18 @@ fn call<'a>(
         × AddsAtMost (λ called. 2 + called number + exprs_steps called es.now)
         (ahead out.old) (ahead out.new)) }
 {
-    if number < seen.functions {
+    if number < seen.routines.len() {
         push(out, Instr::Call(number, es.len()))?;
         return values(seen, es, out);
     }
     push(out, Instr::Stuck)
 }
 
-fn constant<'a>(seen: &Seen<'a>, number: usize, out: &mut Vec<Instr<'a>>) -> Result<(), OutOfMemory>
+fn constant<'a>(
+    seen: &Seen<'_, 'a>,
+    number: usize,
+    out: &mut Vec<Instr<'a>>,
+) -> Result<(), OutOfMemory>
     ensures { OnOk result (Puts seen.now (λ t. given (there (slice_get t.constants number)))
         (ahead out.old) (ahead out.new) × AddsAtMost (λ called. 1) (ahead out.old) (ahead out.new)) }
 {
@@ -159,7 +167,7 @@ fn constant<'a>(seen: &Seen<'a>, number: usize, out: &mut Vec<Instr<'a>>) -> Res
 }
 
 /// The answer to a question, by two ways to it.
-fn test<'a>(seen: &Seen<'a>, what: TTest, out: &mut Vec<Instr<'a>>) -> Result<(), OutOfMemory>
+fn test<'a>(seen: &Seen<'_, 'a>, what: TTest, out: &mut Vec<Instr<'a>>) -> Result<(), OutOfMemory>
     ensures { OnOk result (Puts seen.now (λ t. trees.test t.around what) (ahead out.old) (ahead out.new)
         × AddsAtMost (λ called. 3) (ahead out.old) (ahead out.new)) }
 {

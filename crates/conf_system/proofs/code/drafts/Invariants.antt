@@ -1,4 +1,4 @@
-use Rattle.std.proofs.Common.{◌≡◌, All, List, map, take}
+use Rattle.std.proofs.Common.{◌≡◌, [], All, List, map, take}
 use Rattle.filt_compile.specs.Compiles.{AreCompiled}
 use Rattle.filt_meaning.specs.Trees.{AreBefore}
 use Rattle.filt_meaning.specs.declared.scope.TFunction.{TFunction}
@@ -8,6 +8,6 @@ use Rattle.conf_system.proofs.code.drafts.Given as goal
 
 abbrev pub invariant-loop-filter : goal.invariant-loop-filter
 invariant-loop-filter l = record {
-  means : (trees : List TFunction) → AreCompiled l.constants 0 trees l.functions → All (AreBefore trees) l.filters → map (draft_flow l.functions) l.drafts.items ≡ map (flow_over l.constants trees) (take l.filter-index l.filters);
+  means : (trees : List TFunction) → AreCompiled l.constants [] trees l.functions → All (AreBefore trees) l.filters → map (draft_flow l.functions) l.drafts.items ≡ map (flow_over l.constants trees) (take l.filter-index l.filters);
   cost : CostTheirFilters l.functions l.filters l.drafts.items;
 }

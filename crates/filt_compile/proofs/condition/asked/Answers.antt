@@ -6,6 +6,7 @@ use Rattle.filt_meaning.specs.Steps.{expr_steps}
 use Rattle.filt_meaning.specs.Trees as trees
 use Rattle.filt_compile.specs.Emits.{ahead}
 use Rattle.filt_compile.proofs.Acting as ac
+use Rattle.filt_compile.proofs.Answering as q
 use Rattle.filt_compile.proofs.Walk as w
 use Rattle.filt_compile.proofs.Spending as sp
 use Rattle.filt_compile.proofs.condition.asked.Goals as goal
@@ -20,4 +21,4 @@ pub returns-in_ok-push-in_default-e : goal.returns-in_ok-push-in_default-e
 returns-in_ok-push-in_default-e c = on_ok_weaker c.value.result (λ p. (ac.value_asks c.args.seen.now c.args.is c.args.over (λ t. trees.expr c.args.e.now t) (ahead c.args.out.now) (ahead c.push-in_default-e.new.out) (ahead c.value.new.out) c.in_ok-push-in_default-e.ensures p.0, sp.asks_value c.args.is c.args.over (λ called. expr_steps called c.args.e.now) (ahead c.args.out.now) (ahead c.push-in_default-e.new.out) (ahead c.value.new.out) c.in_ok-push-in_default-e.ensures p.1)) c.value.ensures
 
 pub returns-in-Some : goal.returns-in-Some
-returns-in-Some c = on_ok_weaker c.push.result (λ is. (ac.net_asks c.args.seen.now c.args.is c.args.over c.args.e.now c.in-Some.set (ahead c.args.out.now) (ahead c.push.new.out) c.in-Some.ensures is, sp.asks_question c.args.is c.args.over _ (λ called. expr_steps called c.args.e.now) (ahead c.args.out.now) (ahead c.push.new.out) is)) c.push.ensures
+returns-in-Some c = on_ok_weaker c.push.result (λ is. (q.question_asks c.args.seen.now c.args.is c.args.over c.args.e.now c.in-Some.question (ahead c.args.out.now) (ahead c.push.new.out) c.in-Some.ensures is, sp.asks_question c.args.is c.args.over _ (λ called. expr_steps called c.args.e.now) (ahead c.args.out.now) (ahead c.push.new.out) is)) c.push.ensures
