@@ -9,9 +9,14 @@ kinds: the net's length, the MED, a community, the path's length, the first numb
 route is taken by either. A verdict's time is what a run of many rounds takes more than one of one round, a round
 being 256 routes; the shortest of three runs counts. In plain Rust the conditions are closures in a vector, and the set is
 a sorted vector, which is searched once for each length that a net has where its items have ranges. Both print how many routes were accepted. It wants rustc.
+
+With valgrind it also prints how many instructions an `if` takes whose condition is a call, none of which holds: of a
+function that is a set of nets, that is a test, that compares an attribute with its argument, and of one that stays a call.
 """
 
 import pathlib
+import re
+import shutil
 import subprocess
 import sys
 import tempfile
@@ -22,6 +27,15 @@ PREFIXES = 100_000
 ROUTES = 256
 RUNS = 3
 SHORTEST = 0.5
+
+CALLS = 50
+
+FUNCTIONS = {
+    "net ~ [..]": ("function f0() -> bool { return net ~ [ 11.0.0.0/8{9,32}, 12.0.0.0/8{9,32} ]; }", "f0()"),
+    "a test": ("function f0() -> bool { return bgp_med = 1007; }", "f0()"),
+    "a number": ("function f0(int n) -> bool { return bgp_path.len > n; }", "f0(60)"),
+    "an if": ("function f0(int n) -> bool { if bgp_med = n then return true; return false; }", "f0(1007)"),
+}
 
 HEAD = f"{'filter':>16} {'us/verdict':>10} {'verdicts/s':>11} {'plain us':>9} {'times':>6}"
 
@@ -81,6 +95,28 @@ def verdict_time(command):
         rounds *= 4
 
 
+def instructions(command):
+    """How many instructions a verdict takes."""
+    counts = []
+    for rounds in (1, 9):
+        tool = ["valgrind", "--tool=callgrind", "--callgrind-out-file=/dev/null"]
+        told = subprocess.run(tool + command + [str(rounds)], check=True, capture_output=True, text=True).stderr
+        counts.append(int(re.search(r"Collected : (\d+)", told).group(1)))
+    return (counts[1] - counts[0]) / (8 * ROUTES)
+
+
+def call_rows(folder, program):
+    """Instructions of each `if` whose condition is a call."""
+    config = folder / "calls.conf"
+    command = [str(program), "rounds", str(config)]
+    config.write_text("filter f {\n  accept;\n}\n")
+    base = instructions(command)
+    for name, (function, call) in FUNCTIONS.items():
+        lines = f"  if {call} then reject;\n" * CALLS
+        config.write_text(f"{function}\nfilter f {{\n{lines}  accept;\n}}\n")
+        print(f"{name:>16} {(instructions(command) - base) / CALLS:10.0f} instructions a call")
+
+
 def row(name, text, plain, kind, count, folder, program):
     config = folder / "filter.conf"
     config.write_text(text)
@@ -106,6 +142,8 @@ def main():
             row(f"{count} conditions", conditions(count), plain, "conditions", count, folder, program)
         row(f"{PREFIXES} nets", prefixes(PREFIXES, prefix), plain, "nets", PREFIXES, folder, program)
         row(f"{PREFIXES} ranges", prefixes(PREFIXES, range_item), plain, "ranges", PREFIXES, folder, program)
+        if shutil.which("valgrind"):
+            call_rows(folder, program)
 
 
 if __name__ == "__main__":
