@@ -212,11 +212,16 @@ impl Ord for Prefix {
     ghost matches_eq = { Prim.search (comparing, rules) };
 
     fn cmp(&self, other: &Prefix) -> Ordering {
-        let family = self.family_rank().cmp(&other.family_rank());
-        let upper = self.upper_half().cmp(&other.upper_half());
-        let lower = self.lower_half().cmp(&other.lower_half());
-        let length = self.len.cmp(&other.len);
-        family.then(upper).then(lower).then(length)
+        if self.family != other.family {
+            return self.family_rank().cmp(&other.family_rank());
+        }
+        if self.upper_half() != other.upper_half() {
+            return self.upper_half().cmp(&other.upper_half());
+        }
+        if self.lower_half() != other.lower_half() {
+            return self.lower_half().cmp(&other.lower_half());
+        }
+        self.len.cmp(&other.len)
     }
 }
 
