@@ -1,5 +1,5 @@
 ghost use Rattle.std.specs.Prelude.{◌≡◌, ◌↔◌, ◌≤◌, ◌<◌, ◌-◌, ◌/◌, ◌%◌, ◌^◌, IsTrue, IfOk, OnErr};
-ghost use Rattle.bits_ip.specs.Address.{family_of, family_rank, number_of};
+ghost use Rattle.bits_ip.specs.Address.{family_of, number_of};
 ghost use Rattle.bits_ip.specs.Prefix.{bit_at, Covers, IsPrefix, precedes, net_cmp};
 
 use crate::{Addr, Family};
@@ -116,16 +116,6 @@ impl Prefix {
             && self.addr().front_bits(self.len) == other.addr().front_bits(self.len)
     }
 
-    /// IPv4 comes before IPv6.
-    fn family_rank(&self) -> u8
-        ensures { result ≡ family_rank self.now.addr }
-    {
-        match self.family {
-            Family::V4 => 0,
-            Family::V6 => 1,
-        }
-    }
-
     /// The first half of the address's number.
     fn upper_half(&self) -> u64
         ensures { result ≡ number_of self.now.addr / 2 ^ 64 }
@@ -212,8 +202,10 @@ impl Ord for Prefix {
     ghost matches_eq = { Prim.search (comparing, rules) };
 
     fn cmp(&self, other: &Prefix) -> Ordering {
-        if self.family != other.family {
-            return self.family_rank().cmp(&other.family_rank());
+        match (self.family, other.family) {
+            (Family::V4, Family::V6) => return Ordering::Less,
+            (Family::V6, Family::V4) => return Ordering::Greater,
+            _ => {}
         }
         if self.upper_half() != other.upper_half() {
             return self.upper_half().cmp(&other.upper_half());

@@ -1,4 +1,4 @@
-ghost use Rattle.std.specs.Prelude.{◌≡◌, ◌++◌, ◌∷◌, decimal, OnOk, OnErr};
+ghost use Rattle.std.specs.Prelude.{◌≡◌, ◌++◌, ◌+◌, ◌≤◌, decimal, take, OnOk, OnErr};
 ghost use Rattle.bits_ip.specs.Text.{addr_text, net_text, v4_text};
 ghost use Rattle.bits_ip.specs.Out.{Kept};
 
@@ -45,28 +45,63 @@ pub fn append_prefix<W: TextOut>(net: &Prefix, out: &mut W) -> Result<(), W::Fau
     ensures written { OnOk result (W.written out.new ≡ W.written out.old ++ net_text net.now) }
     ensures kept { Kept W.follows out.old out.new }
 {
-    append_addr(&net.addr(), out)?;
-    out.put(b"/")?;
-    write_number(net.len(), out)
+    match net.addr() {
+        Addr::V4(number) => {
+            let mut text = [0; 24];
+            let end = add_v4(number, &mut text);
+            text[end] = b'/';
+            let end = add_octet(net.len(), &mut text, end + 1);
+            out.put(&text[..end])
+        }
+        Addr::V6(number) => {
+            write_v6(number, out)?;
+            out.put(b"/")?;
+            write_number(net.len(), out)
+        }
+    }
 }
 
 fn write_v4<W: TextOut>(number: u32, out: &mut W) -> Result<(), W::Fault>
     ensures written { OnOk result (W.written out.new ≡ W.written out.old ++ v4_text number) }
     ensures kept { Kept W.follows out.old out.new }
 {
-    let [first, second, third, fourth] = number.to_be_bytes();
-    write_octets(first, second, out)?;
-    out.put(b".")?;
-    write_octets(third, fourth, out)
+    let mut text = [0; 24];
+    let end = add_v4(number, &mut text);
+    out.put(&text[..end])
 }
 
-/// Two octets with a dot between them.
-fn write_octets<W: TextOut>(high: u8, low: u8, out: &mut W) -> Result<(), W::Fault>
-    ensures written { OnOk result
-        (W.written out.new ≡ W.written out.old ++ decimal high ++ 46 ∷ decimal low) }
-    ensures kept { Kept W.follows out.old out.new }
+/// Writes an IPv4 address at the front of the bytes, and tells where its text ends.
+fn add_v4(number: u32, text: &mut [u8; 24]) -> usize
+    ensures written { take result text.new ≡ v4_text number }
+    ensures room { result ≤ 15 }
 {
-    write_number(high, out)?;
-    out.put(b".")?;
-    write_number(low, out)
+    let [first, second, third, fourth] = number.to_be_bytes();
+    let end = add_octet(first, text, 0);
+    text[end] = b'.';
+    let end = add_octet(second, text, end + 1);
+    text[end] = b'.';
+    let end = add_octet(third, text, end + 1);
+    text[end] = b'.';
+    add_octet(fourth, text, end + 1)
+}
+
+/// Writes a number in decimal behind the first bytes, and tells where its text ends.
+fn add_octet(number: u8, text: &mut [u8; 24], start: usize) -> usize
+    requires { start ≤ 21 }
+    ensures written { take result text.new ≡ take start text.old ++ decimal number }
+    ensures room { result ≤ start + 3 }
+{
+    if number < 10 {
+        text[start] = b'0' + number;
+        return start + 1;
+    }
+    if number < 100 {
+        text[start] = b'0' + number / 10;
+        text[start + 1] = b'0' + number % 10;
+        return start + 2;
+    }
+    text[start] = b'0' + number / 100;
+    text[start + 1] = b'0' + number / 10 % 10;
+    text[start + 2] = b'0' + number % 10;
+    start + 3
 }
