@@ -3,7 +3,6 @@ ghost use Rattle.bits_ip.specs.Text.{addr_text, net_text, v4_text};
 ghost use Rattle.bits_ip.specs.Out.{Kept};
 
 use crate::ipv6::write_v6;
-use crate::numbers::write_number;
 use crate::{Addr, OutOfMemory, Prefix, TextOut};
 use std::alloc::Global;
 
@@ -45,20 +44,17 @@ pub fn append_prefix<W: TextOut>(net: &Prefix, out: &mut W) -> Result<(), W::Fau
     ensures written { OnOk result (W.written out.new ≡ W.written out.old ++ net_text net.now) }
     ensures kept { Kept W.follows out.old out.new }
 {
-    match net.addr() {
-        Addr::V4(number) => {
-            let mut text = [0; 24];
-            let end = add_v4(number, &mut text);
-            text[end] = b'/';
-            let end = add_octet(net.len(), &mut text, end + 1);
-            out.put(&text[..end])
-        }
+    let mut text = [0; 24];
+    let end = match net.addr() {
+        Addr::V4(number) => add_v4(number, &mut text),
         Addr::V6(number) => {
             write_v6(number, out)?;
-            out.put(b"/")?;
-            write_number(net.len(), out)
+            0
         }
-    }
+    };
+    text[end] = b'/';
+    let end = add_octet(net.len(), &mut text, end + 1);
+    out.put(&text[..end])
 }
 
 fn write_v4<W: TextOut>(number: u32, out: &mut W) -> Result<(), W::Fault>
