@@ -106,6 +106,22 @@ impl<'a, K: Sink> Stream<'a, K> {
         self.block.hold(piece);
     }
 
+    /// Holds back as much as has room, hands it on, and so on.
+    fn put_in_parts(&mut self, piece: &[u8])
+        ensures taken { taken_text self.new ≡ taken_text self.old ++ piece.now }
+        ensures kept { Kept (Follows K.contents K.faults) self.old self.new }
+    {
+        let mut rest = piece;
+        while !rest.is_empty() {
+            if self.block.bytes.len() >= BLOCK {
+                self.flush();
+            }
+            let count = rest.len().min(BLOCK - self.block.bytes.len());
+            self.hold(&rest[..count]);
+            rest = &rest[count..];
+        }
+    }
+
     /// Hands on what is held back.
     fn flush(&mut self)
         ensures empty { self.new.block.bytes.items ≡ [] }
@@ -143,14 +159,10 @@ impl<K: Sink> TextOut for Stream<'_, K> {
     ghost follows = { Follows K.contents K.faults };
 
     fn put(&mut self, piece: &[u8]) -> Result<(), Infallible> {
-        let mut rest = piece;
-        while !rest.is_empty() {
-            if self.block.bytes.len() >= BLOCK {
-                self.flush();
-            }
-            let count = rest.len().min(BLOCK - self.block.bytes.len());
-            self.hold(&rest[..count]);
-            rest = &rest[count..];
+        if self.block.bytes.len() + piece.len() <= BLOCK {
+            self.hold(piece);
+        } else {
+            self.put_in_parts(piece);
         }
         Ok(())
     }

@@ -1,7 +1,7 @@
 use Rattle.std.proofs.Common.{◌≡◌, ◌++◌, length}
 use Rattle.bits_ip.specs.Out.{Kept}
 use Rattle.outside_io.specs.Stream.{Follows, taken_text}
-use Rattle.outside_io.proofs.stream.StreamTextOut.put.Given as goal
+use Rattle.outside_io.proofs.stream.Stream.put_in_parts.Given as goal
 
 abbrev pub invariant-loop-rest : goal.invariant-loop-rest
 invariant-loop-rest g l = record {
