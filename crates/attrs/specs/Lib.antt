@@ -1,4 +1,5 @@
 pub mod Clist
+pub mod Gather
 pub mod Text
 pub mod Selection
 pub mod History

@@ -10,6 +10,7 @@
 
 mod attributes;
 mod clist;
+mod gather;
 mod journal;
 mod judge;
 pub mod laws;

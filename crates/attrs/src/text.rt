@@ -3,7 +3,9 @@ ghost use Rattle.std.specs.List.{flat_map};
 ghost use Rattle.bits_ip.specs.Text.{addr_text};
 ghost use Rattle.attrs.specs.Text.{attrs_text, community_text, dest_text, kind_text, list_text, optional_text, origin_text, peer_text};
 ghost use Rattle.bits_ip.specs.Out.{Kept};
+ghost use Rattle.attrs.specs.Gather.{gathered, Gathers};
 
+use crate::gather::Gather;
 use crate::{Attrs, Clist, Kind, Origin, Path};
 use bits_ip::{Addr, OutOfMemory, TextOut, append_addr, write_number};
 use std::alloc::Global;
@@ -25,11 +27,25 @@ pub fn append_attrs<W: TextOut>(attrs: &Attrs, out: &mut W) -> Result<(), W::Fau
     ensures written { OnOk result (W.written out.new ≡ W.written out.old ++ attrs_text attrs.now) }
     ensures kept { Kept W.follows out.old out.new }
 {
-    write_head(attrs, out)?;
-    write_neighbour(attrs, out)?;
-    write_way(attrs, out)?;
-    write_metrics(attrs, out)?;
-    write_communities(&attrs.coms, out)
+    let mut text = Gather::new(out);
+    let sent = send_line(attrs, &mut text);
+    // No effect at run time: from this use the proof reads what the place holds.
+    let _ = &*text.out;
+    sent
+}
+
+/// The fields in their order, sent on together.
+fn send_line<W: TextOut>(attrs: &Attrs, text: &mut Gather<'_, W>) -> Result<(), W::Fault>
+    ensures written { OnOk result (W.written text.new.out.now
+        ≡ gathered W.written text.old ++ attrs_text attrs.now) }
+    ensures kept { Kept (Gathers W.follows) text.old text.new }
+{
+    write_head(attrs, text)?;
+    write_neighbour(attrs, text)?;
+    write_way(attrs, text)?;
+    write_metrics(attrs, text)?;
+    write_communities(&attrs.coms, text)?;
+    text.send()
 }
 
 /// The fields that each route has: the preference, the kind and what is done with packets.
