@@ -1,5 +1,5 @@
 -- The keys of marks that a chunk is over are added with no candidate.
-use Rattle.std.proofs.Common.{◌≡◌, ◌+◌, ℕ, arith, length, Bool, true, false, List, [], ◌∷◌, ◌++◌, Option, Some, None, refl, inl, inr, sym, ◌∙◌, ap, cond, is_some}
+use Rattle.std.proofs.Common.{◌≡◌, ◌+◌, ℕ, arith, length, Bool, true, false, List, Option, Some, None, refl, inl, inr, sym, ◌∙◌, ap, cond, is_some}
 use Rattle.std.specs.Prelude.{◌||◌, ◌&&◌, if◌then◌else◌, drop, slice_get}
 use Rattle.std.specs.BTreeMap.{is_at}
 use Rattle.export_core.specs.Candidates.{AddsNone, covers}

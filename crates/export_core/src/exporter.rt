@@ -277,7 +277,7 @@ impl<J: Judge> Exporter<J> {
             × (O.fault outlet.new ≡ Some fault)) }
         ensures stays { OnOk result (self.new.flushing ≡ false) }
     {
-        let key = sending.key();
+        let key = sending.key;
         let number = sending.number(&self.log);
         self.log.reserve(1)?;
         self.sent.make_place(&key)?;

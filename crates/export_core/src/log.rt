@@ -25,12 +25,6 @@ pub struct Sending {
 }
 
 impl Sending {
-    pub(crate) fn key(&self) -> Key
-        ensures { result ≡ self.now.key }
-    {
-        self.key
-    }
-
     /// The number that the value gets behind the log's items, and none for a withdrawal.
     pub(crate) fn number(&self, log: &[LogItem]) -> Option<usize>
         ensures { result ≡ option_map (λ _. length log.now) self.now.value }
