@@ -28,19 +28,13 @@ use Rattle.filt_compile.specs.declared.seen.Seen.{Seen}
 use Rattle.filt_compile.specs.Emits.{Asks, IsAsked, IsCalled, IsNet, IsNetIn, IsQuestion, IsSet, IsTest, tables_of}
 use Rattle.filt_compile.specs.Ranges.{IsRange, sense}
 use Rattle.filt_compile.proofs.Asking as ask
-use Rattle.filt_compile.proofs.Emitting.{truth_matches, truth_plainly, truth_said, truth_test, truth_then}
+use Rattle.filt_compile.proofs.Emitting.{truth_matches, truth_test, truth_then}
 use Rattle.filt_compile.proofs.Walk as w
 
 -- ---- tests
 
 pub test_is : (what : TTest) (q : Question) → q ≡ questions.Test what → IsTest what q
 test_is what q is = rw is (λ around vals attrs. sym (truth_test around what vals attrs))
-
-pub range_is : (what : TTest) (range : Range) (q : Question) → IsRange what range → range.inside ≡ true → q ≡ questions.Within range.number range.low range.high → IsTest what q
-range_is what range q p inside is = rw is (λ around vals attrs.
-    p around vals attrs
-    ∙ ap (λ (side : Bool). plainly (operators.and_then (number_in around range.number attrs) (λ n. operators.says (sense side (within range.low range.high n)))) attrs) inside
-    ∙ sym (truth_plainly (operators.and_then (number_in around range.number attrs) (λ n. operators.says (within range.low range.high n))) attrs (truth_said (number_in around range.number attrs) (λ n. within range.low range.high n))))
 
 -- ---- `net` in a set
 
@@ -80,4 +74,13 @@ question_asks seen is n x q old new p front = record {
   means = λ s few vals os attrs. ap (λ (code : List Instr). mean s code 0 vals os attrs) front
       ∙ ask.truth_then (question s.around q vals attrs) (λ b attrs. mean s old (jump_where is n b) vals os attrs)
       ∙ ap (λ (f : Flow Val). and_then f (λ v attrs. and_then (plainly (bool_in v) attrs) (λ b attrs. mean s old (jump_where is n b) vals os attrs))) (sym (p s few vals attrs));
+}
+
+-- a test that a question is, in its place
+pub test_asks : (seen : Seen) (is : Bool) (n : ℕ) (what : TTest) (x : TExpr) (q : Question) (old new : List Instr) → q ≡ questions.Test what → IsQuestion seen x q → Asks seen is n (λ t. trees.test t.around what) old new → Asks seen is n (λ t. trees.expr x t) old new
+test_asks seen is n what x q old new same p asks = record {
+  code = asks.code;
+  grows = asks.grows;
+  means = λ s few vals os attrs. asks.means s few vals os attrs
+      ∙ sym (ap (λ (f : Flow Val). and_then f (λ v attrs. and_then (plainly (bool_in v) attrs) (λ b attrs. mean s old (jump_where is n b) vals os attrs))) (p s few vals attrs ∙ sym (test_is what q same s.around vals attrs)));
 }

@@ -2,14 +2,17 @@
 
 ghost use Rattle.std.specs.Prelude.{◌≡◌, ◌<◌, ◌+◌, length, slice_get, OnOk, Some};
 ghost use Rattle.filt_meaning.specs.Trees as trees;
+ghost use Rattle.filt_meaning.specs.declared.tree.TExpr.{TExpr};
+ghost use Rattle.filt_code.specs.declared.instr.Question.TheVariants as questions;
 ghost use Rattle.filt_compile.specs.Ranges.{sense};
-ghost use Rattle.filt_compile.specs.Emits.{ahead, decider, landing, Asks, AsksAtMost, Leads, LeadsAtMost};
+ghost use Rattle.filt_compile.specs.Emits.{ahead, decider, landing, Asks, AsksAtMost, IsQuestion};
+ghost use Rattle.filt_compile.specs.Emits.{Leads, LeadsAtMost};
 ghost use Rattle.filt_compile.specs.Parts.{sides_steps};
 ghost use Rattle.filt_meaning.specs.Steps.{expr_steps};
 
 use crate::emitted::push;
-use crate::questions::{question_of, within};
-use crate::ranges::ranged;
+use crate::questions::question_of;
+use crate::ranges::{Range, ranged};
 use crate::seen::Seen;
 use crate::value::value;
 use bits_ip::OutOfMemory;
@@ -114,7 +117,7 @@ fn asked<'a>(
         × AsksAtMost (λ called. expr_steps called e.now) over (ahead out.old) (ahead out.new)) }
 {
     if let Some(question) = question_of(seen, e) {
-        return push(out, Instr::JumpIfAsked(is, question, over));
+        return question_asked(seen, question, is, over, out);
     }
     match e {
         TExpr::Test(what) => tested(seen, *what, is, over, out),
@@ -123,6 +126,24 @@ fn asked<'a>(
             push(out, Instr::JumpIf(is, over))?;
             value(seen, e, out)
         }
+    }
+}
+
+/// The same of an expression that is a question.
+fn question_asked<'a>(
+    seen: &Seen<'_, 'a>,
+    question: Question<'a>,
+    is: bool,
+    over: usize,
+    out: &mut Vec<Instr<'a>>,
+) -> Result<(), OutOfMemory>
+    ensures { OnOk result ((x : TExpr) → IsQuestion seen.now x question.entry
+        → Asks seen.now is over (λ t. trees.expr x t) (ahead out.old) (ahead out.new)
+        × AsksAtMost (λ called. expr_steps called x) over (ahead out.old) (ahead out.new)) }
+{
+    match question {
+        Question::Test(what) => tested(seen, what, is, over, out),
+        _ => push(out, Instr::JumpIfAsked(is, question, over)),
     }
 }
 
@@ -145,6 +166,12 @@ fn tested<'a>(
         ),
         None => push(out, Instr::JumpIfAsked(is, Question::Test(what), over)),
     }
+}
+
+fn within<'a>(range: Range) -> Question<'a>
+    ensures { result ≡ questions.Within range.number range.low range.high }
+{
+    Question::Within(range.number, range.low, range.high)
 }
 
 fn sense(inside: bool, is: bool) -> bool

@@ -13,7 +13,6 @@ ghost use Rattle.filt_meaning.specs.declared.tree.TExpr.{TExpr};
 ghost use Rattle.filt_meaning.specs.declared.value.Sort.TheVariants as sorts;
 ghost use Rattle.filt_compile.specs.Emits.{IsAlways, IsBody, IsCalled, IsIntAt, IsKnown};
 
-use crate::questions::test_question;
 use crate::seen::Seen;
 use conf_ast::filters::{Attribute, CompareOp, Property};
 use filt_code::{Effect, Instr, OfOne, OfTwo, Question};
@@ -120,7 +119,7 @@ fn with_argument<'a>(
     let operator = operator(compare)?;
     let number = number(es, place)?;
     if is_return(last) {
-        Some(test_question(TTest::Attribute(attribute, operator, number)))
+        Some(Question::Test(TTest::Attribute(attribute, operator, number)))
     } else {
         None
     }
@@ -145,7 +144,7 @@ fn part_compared<'a>(
     let operator = operator(compare)?;
     let number = number(es, place)?;
     if is_return(last) {
-        Some(test_question(TTest::Property(attribute, property, operator, number)))
+        Some(Question::Test(TTest::Property(attribute, property, operator, number)))
     } else {
         None
     }

@@ -1,16 +1,13 @@
 //! Expressions that are one question.
 
 ghost use Rattle.std.specs.Prelude.{◌≡◌, true, IfSome};
-ghost use Rattle.filt_code.specs.declared.instr.Question.TheVariants as questions;
-ghost use Rattle.filt_compile.specs.Emits.{IsAsked, IsNet, IsNetIn, IsQuestion, IsSet, IsTest};
-ghost use Rattle.filt_compile.specs.Ranges.{IsRange};
+ghost use Rattle.filt_compile.specs.Emits.{IsAsked, IsNet, IsNetIn, IsQuestion, IsSet};
 
 use crate::in_place::called_question;
-use crate::ranges::{Range, ranged};
 use crate::seen::Seen;
 use conf_ast::filters::{Attribute, CompareOp};
 use filt_code::Question;
-use filt_meaning::{Fixed, TExpr, TTest};
+use filt_meaning::{Fixed, TExpr};
 use filt_sets::PrefixSet;
 
 /// The question that an expression asks that has parts, where that is all that it does.
@@ -30,30 +27,6 @@ fn call_question<'a>(seen: &Seen<'_, 'a>, e: &TExpr) -> Option<Question<'a>>
         TExpr::Call(number, es) => called_question(seen, *number, es),
         _ => None,
     }
-}
-
-/// The question that a test asks: where it holds within a range, whether its number is there.
-pub(crate) fn test_question<'a>(what: TTest) -> Question<'a>
-    ensures { IsTest what result }
-{
-    match held_within(what) {
-        Some(range) => within(range),
-        None => Question::Test(what),
-    }
-}
-
-/// The range within which a test holds, where it is one of a number.
-fn held_within(what: TTest) -> Option<Range>
-    ensures { IfSome result (λ range. IsRange what range × (range.inside ≡ true)) }
-{
-    let range = ranged(what)?;
-    if range.inside { Some(range) } else { None }
-}
-
-pub(crate) fn within<'a>(range: Range) -> Question<'a>
-    ensures { result ≡ questions.Within range.number range.low range.high }
-{
-    Question::Within(range.number, range.low, range.high)
 }
 
 /// The set of which a condition asks whether the net is in it, where that is all that it asks.
