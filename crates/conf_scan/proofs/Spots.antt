@@ -9,7 +9,7 @@ use Rattle.conf_scan.specs.declared.token.Token.{Token}
 use Rattle.conf_scan.specs.declared.token.TokenKind.{TokenKind}
 use Rattle.conf_scan.specs.Fronts.{begins_colons, Tells}
 use Rattle.conf_scan.specs.Shapes.{IsGap}
-use Rattle.conf_scan.specs.Lex.{IsNext, Lexes, Stops, HasNoSeparator, HasNoToken, IsBadAt, IsRefused}
+use Rattle.conf_scan.specs.Lex.{IsNext, Lexes, Stops, HasNoSeparator, HasNoToken, IsBadAt, IsLexFault}
 use Rattle.conf_scan.specs.Spots.{IsSpot, IsStep, IsStuckFrom, LexesFrom}
 use Rattle.conf_scan.proofs.Tokens.{shape_some}
 use Rattle.conf_scan.proofs.Readings.{next_once, next_is, gap_no_next, gap_ends, gap_stops, lexes_once, lexes_or_stops, stops_once}
@@ -130,7 +130,7 @@ pub read_stuck : (text : List ℕ) (found : List Token) (to : Spot) (fault : Lex
 read_stuck text found to (faults.Bad place) read stuck = (place, refl, rw append-nil at (read.stops [] place stuck))
 read_stuck text found to faults.Memory read stuck = absurd stuck
 
-pub stuck_bad : (text : List ℕ) (found : List Token) (to : Spot) (fault : LexFault) → IsRead text found to → IsStuckFrom text to fault → IsRefused text fault
+pub stuck_bad : (text : List ℕ) (found : List Token) (to : Spot) (fault : LexFault) → IsRead text found to → IsStuckFrom text to fault → IsLexFault text fault
 stuck_bad text found to (faults.Bad place) read stuck = (found, rw append-nil at (read.stops [] place stuck))
 stuck_bad text found to faults.Memory read stuck = tt
 

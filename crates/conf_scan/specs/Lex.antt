@@ -61,6 +61,6 @@ IsBadAt (Bad at) place = at ≡ place
 IsBadAt Memory place = ⊤
 
 -- the fault is that of the text
-abbrev pub IsRefused : List ℕ → LexFault → Type 0
-IsRefused text (Bad at) = (ts : List Token) × Stops 0 text ts at
-IsRefused text Memory = ⊤
+abbrev pub IsLexFault : List ℕ → LexFault → Type 0
+IsLexFault text (Bad at) = (ts : List Token) × Stops 0 text ts at
+IsLexFault text Memory = ⊤

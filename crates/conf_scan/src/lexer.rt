@@ -1,7 +1,7 @@
 ghost use Rattle.std.specs.Prelude.{◌≡◌, ◌≤◌, ◌<◌, ◌+◌, ◌^◌, ℕ, List, [], false, not, nat_lt};
 ghost use Rattle.std.specs.Prelude.{length, drop, max, IfOk, IfErr, MatchOption, MatchResult};
 ghost use Rattle.conf_scan.specs.Fronts.{begins_colons, front, Tells};
-ghost use Rattle.conf_scan.specs.Lex.{Lexes, Stops, HasNoToken, IsBadAt, IsRefused};
+ghost use Rattle.conf_scan.specs.Lex.{Lexes, Stops, HasNoToken, IsBadAt, IsLexFault};
 ghost use Rattle.conf_scan.specs.Spots.{IsSpot, IsStep, IsStuckFrom, LexesFrom};
 ghost use Rattle.conf_scan.specs.declared.token.Token.{Token};
 ghost use Rattle.conf_scan.specs.declared.token.LexFault.TheVariants.{Memory};
@@ -108,7 +108,7 @@ pub fn next_token(text: &[u8], spot: Spot) -> Result<Option<(Token, Spot)>, LexF
 /// colons that make no address.
 pub fn lex(alloc: Global, text: &[u8]) -> Result<Vec<Token>, LexFault>
     ensures tokens { IfOk result (λ found. Lexes 0 text.now found.items) }
-    ensures bad { IfErr result (λ fault. IsRefused text.now fault) }
+    ensures bad { IfErr result (λ fault. IsLexFault text.now fault) }
     ensures only { (tokens : List Token) → Lexes 0 text.now tokens
         → MatchResult result (λ found. found.items ≡ tokens) (λ fault. fault ≡ Memory) }
     ensures exact { (tokens : List Token) (place : ℕ) → Stops 0 text.now tokens place

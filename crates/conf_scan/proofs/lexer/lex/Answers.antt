@@ -1,11 +1,11 @@
-use Rattle.conf_scan.specs.Lex.{IsBadAt, IsRefused}
+use Rattle.conf_scan.specs.Lex.{IsBadAt, IsLexFault}
 use Rattle.conf_scan.proofs.Readings.{lexes_once, lexes_or_stops}
 use Rattle.conf_scan.proofs.Spots.{read_more, read_all, stepped_on, stuck_bad, stuck_only, stuck_exact, handed, handed_on}
 use Rattle.conf_scan.proofs.lexer.lex.Goals as goal
 
 pub returns-in_err-token-clause-bad : goal.returns-in_err-token-clause-bad
 returns-in_err-token-clause-bad c =
-    handed c.from_residual.result c.in_err-token.field-0.0 (λ fault. IsRefused c.args.text.now fault) c.from_residual.ensures.1
+    handed c.from_residual.result c.in_err-token.field-0.0 (λ fault. IsLexFault c.args.text.now fault) c.from_residual.ensures.1
     (stuck_bad c.args.text.now c.loop-found.found.items c.loop-found.spot c.in_err-token.field-0.0 c.loop-found.invariant c.in_err-token.ensures.bad)
 
 pub returns-in_err-token-clause-only : goal.returns-in_err-token-clause-only
