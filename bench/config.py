@@ -1,19 +1,23 @@
 #!/usr/bin/env python3
-"""Times how `PROGRAM play CONF SCRIPT` reads long configurations.
+"""Times how `PROGRAM check CONF` reads long configurations.
 
     bench/config.py PROGRAM [SIXTEENTHS ..]
 
 The greatest configuration is one byte under the limit of 16 MiB: a filter with a set of 400,000 prefixes, and 10,000 small
-functions, filled up with comments. Smaller ones have so many sixteenths of each. All are accepted and have no protocol,
-so the program reads and checks them whole, plays next to nothing and ends with status 0. Each runs three times, of which
-the shortest counts, and once more under /usr/bin/time for the greatest memory.
+functions, filled up with comments. Smaller ones have so many sixteenths of each. All are accepted, with status 0.
+
+Then come texts of 16 MiB, accepted ones (functions alone, one set, one long filter) and refused ones, with status 2: no
+text that is refused should be dearer than an accepted one. Last come 40,000 variables in one block, and as many
+constants, functions, filters.
+
+Each runs three times, of which the shortest counts, and once more under /usr/bin/time for the greatest memory.
 """
 
+import os
 import pathlib
 import subprocess
 import sys
 import tempfile
-import time
 
 from runs import greatest_memory, program_and_sizes
 
@@ -23,7 +27,9 @@ PREFIXES = 400_000
 FUNCTIONS = 10_000
 RUNS = 3
 
-HEAD = f"{'bytes':>9} {'seconds':>8} {'ns/byte':>8} {'MiB':>7} {'byte/byte':>9}"
+MANY = 40_000
+
+HEAD = f"{'text':36} {'bytes':>9} {'seconds':>8} {'ns/byte':>8} {'MiB':>7} {'byte/byte':>9}"
 
 
 def prefix(index):
@@ -53,32 +59,101 @@ def configuration(sixteenths):
     return text + line * (room // len(line)) + "#" * (room % len(line))
 
 
-def seconds(command):
-    begun = time.perf_counter()
+def filled(piece, head, tail):
+    """A text of just under 16 MiB: a head, as many pieces as there is room for, and a tail."""
+    pieces = [head]
+    room = LIMIT - 1 - len(head) - len(tail)
+    index = 0
+    while len(text := piece(index)) <= room:
+        pieces.append(text)
+        room -= len(text)
+        index += 1
+    return "".join(pieces) + tail
+
+
+def in_set(index):
+    return f"{prefix(index % PREFIXES)},\n    "
+
+
+def condition(index):
+    return (
+        f"  if net.len > {index % 33} && bgp_path.len < {index} || bgp_med = {index} "
+        f"then bgp_local_pref = {index % 100};\n"
+    )
+
+
+def route(index):
+    return f"  route {10 + (index >> 16)}.{index >> 8 & 255}.{index & 255}.0/24 blackhole;\n"
+
+
+LONG_SET = "filter long {\n  if net ~ [\n    "
+LONG_FILTER = "filter long {\n"
+ROUTES = "protocol static s {\n  ipv4;\n"
+
+# A name, the status, and the text.
+TEXTS = [
+    ("functions", 0, lambda: filled(function, "", "")),
+    ("refused at the end", 2, lambda: filled(function, "", "function ;\n")),
+    ("with `template` at the end", 2, lambda: filled(function, "", "template bgp t { }\n")),
+    ("with `add` at the end", 2, lambda: filled(function, "", "add;\n")),
+    ("with a torn prefix at the end", 2, lambda: filled(function, "", "router id 10.0.0.1/8;\n")),
+    ("a set", 0, lambda: filled(in_set, LONG_SET, "10.0.0.0/8 ] then accept;\n}\n")),
+    ("refused at its end", 2, lambda: filled(in_set, LONG_SET, "10.0.0.0/8 ; then accept;\n}\n")),
+    ("with two prefixes at its end", 2, lambda: filled(in_set, LONG_SET, "10.0.0.0/8 10.0.0.0/8 ] then accept;\n}\n")),
+    ("a filter", 0, lambda: filled(condition, LONG_FILTER, "  accept;\n}\n")),
+    ("refused at its end", 2, lambda: filled(condition, LONG_FILTER, "  accept }\n")),
+    ("with a prefix at its end", 2, lambda: filled(condition, LONG_FILTER, "  10.0.0.0/8;\n}\n")),
+    ("with `add` at its end", 2, lambda: filled(condition, LONG_FILTER, "  add;\n}\n")),
+    ("static routes", 0, lambda: filled(route, ROUTES, "}\n")),
+    ("with `recursive` at the end", 2, lambda: filled(route, ROUTES, "  route 10.0.0.0/8 recursive;\n}\n")),
+    ("`(`", 2, lambda: filled(lambda index: "(", "filter f { if ", "")),
+]
+
+
+def lines(line, head="", tail=""):
+    return head + "".join(line(index) for index in range(MANY)) + tail
+
+
+# The same number of names of one kind.
+NAMES = [
+    ("variables", lambda: lines(lambda index: f"  int v{index} = {index};\n", "filter f {\n", "  accept;\n}\n")),
+    ("constants", lambda: lines(lambda index: f"define c{index} = {index};\n")),
+    ("functions", lambda: lines(lambda index: f"function f{index}() {{ }}\n")),
+    ("filters", lambda: lines(lambda index: f"filter f{index} {{ accept; }}\n")),
+]
+
+
+def seconds(command, wanted):
+    begun = os.times()
     status = subprocess.run(command, stdout=subprocess.DEVNULL, stderr=subprocess.DEVNULL).returncode
-    if status != 0:
+    ended = os.times()
+    if status != wanted:
         sys.exit(f"the program ended with status {status}")
-    return time.perf_counter() - begun
+    return ended.children_user + ended.children_system - begun.children_user - begun.children_system
 
 
-def measure(program, folder, sixteenths):
+def measure(program, folder, name, text, wanted=0):
     conf = folder / "conf"
-    conf.write_text(configuration(sixteenths))
+    conf.write_text(text)
     size = conf.stat().st_size
-    command = [program, "play", conf, folder / "script"]
-    shortest = min(seconds(command) for _ in range(RUNS))
+    command = [program, "check", conf]
+    shortest = min(seconds(command, wanted) for _ in range(RUNS))
     most = greatest_memory(command, folder, stdout=subprocess.DEVNULL, stderr=subprocess.DEVNULL) * 1024
-    print(f"{size:9} {shortest:8.3f} {shortest * 1e9 / size:8.1f} {most / 2**20:7.1f} {most / size:9.2f}", flush=True)
+    each = f"{shortest:8.3f} {shortest * 1e9 / size:8.1f} {most / 2**20:7.1f} {most / size:9.2f}"
+    print(f"{name:36} {size:9} {each}", flush=True)
 
 
 def main():
     program, sizes = program_and_sizes("bench/config.py PROGRAM [SIXTEENTHS ..]", SIXTEENTHS)
     with tempfile.TemporaryDirectory() as name:
         folder = pathlib.Path(name)
-        (folder / "script").write_text("@p1 show route\n")
         print(HEAD)
         for sixteenths in sizes:
-            measure(program, folder, sixteenths)
+            measure(program, folder, f"{sixteenths} sixteenths", configuration(sixteenths))
+        for label, status, text in TEXTS:
+            measure(program, folder, label, text(), status)
+        for label, text in NAMES:
+            measure(program, folder, f"{MANY:,} {label}", text())
 
 
 if __name__ == "__main__":

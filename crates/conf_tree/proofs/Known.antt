@@ -1,12 +1,16 @@
 -- Words that are known where they stand and not supported.
-use Rattle.std.proofs.Common.{◌≡◌, ◌↔◌, ℕ, Bool, true, false, IsTrue, ◌||◌, nat_eq, List, [], ◌∷◌, ◌++◌, length, codes, Option, Some, None, IsSomeAnd, refl, sym, ap, subst, ◌∙◌, arith, inl, inr}
+use Rattle.std.proofs.Common.{◌≡◌, ◌↔◌, ℕ, Bool, true, false, IsTrue, ◌||◌, ◌&&◌, nat_eq, List, [], ◌∷◌, ◌++◌, length, codes, Option, Some, None, IsSomeAnd, refl, sym, ap, subst, ◌∙◌, arith, inl, inr}
 use Rattle.std.proofs.lemmas.List.{length-append}
 use Rattle.std.specs.Cmp.Lexicographic.{pointwise, same_text, other_text}
+use Rattle.conf_lex.specs.declared.symbol.Symbol.{Symbol}
 use Rattle.conf_lex.specs.declared.symbol.Symbol.TheVariants as symbols
+use Rattle.conf_lex.specs.Kind.{kind_of, symbol}
 use Rattle.conf_lex.specs.declared.word.Word.{Word}
 use Rattle.conf_lex.specs.declared.word.Word.TheVariants as words
 use Rattle.conf_lex.proofs.Checks.{or_cases, or_left, or_right}
+use Rattle.conf_lex.proofs.Symbols.{is_symbol_word}
 use Rattle.conf_lex.proofs.Unique.{fronts}
+use Rattle.conf_tree.proofs.LastWord.{last_ends}
 use Rattle.conf_tree.specs.Sentence.{CanStand, EndsIn, is_one_of, statement_words, bgp_words, channel_words, import_words, IsUnsupported, a_kind, a_statement, a_bgp_option, a_channel_option, an_import, an_export, an_action, a_route}
 
 pub not_both : (b : Bool) → b ≡ true → b ≡ false → ⊥
@@ -49,11 +53,32 @@ one_front a b w e = elim (fronts a (w ∷ []) b (w ∷ []) e) [
   ]
 ]
 
-pub export_is : (before front : List Word) (word bytes limit : List ℕ) (known found : Bool) → before ≡ front ++ words.Symbol symbols.Export ∷ [] → known ≡ pointwise nat_eq word bytes → bytes ≡ limit → IsTrue found ↔ (IsTrue known × CanStand symbols.Next front) → IsTrue found ↔ ((word ≡ limit) × EndsIn symbols.Export before (CanStand symbols.Next))
-export_is before front word bytes limit known found is test same h =
-    let text = text_is known word bytes limit test same in (
-      λ yes. let p = h.0 yes in (text.0 p.0, (front, is, p.1)),
-      λ g. h.1 (text.1 g.0, subst (λ (u : List Word). CanStand symbols.Next u) (one_front g.1.0 front (words.Symbol symbols.Export) (sym g.1.1 ∙ is)) g.1.2),
+-- what is asked behind the same words
+pub stands_again : (before again : List Word) (s : Symbol) (P : Type 0) (found : Bool) → again ≡ before → IsTrue found ↔ (P × CanStand s again) → IsTrue found ↔ (P × CanStand s before)
+stands_again before again s P found same h = subst (λ (u : List Word). IsTrue found ↔ (P × CanStand s u)) same h
+
+pub export_again : (before again : List Word) (P : Type 0) (found : Bool) → again ≡ before → IsTrue found ↔ (P × EndsIn symbols.Export again (CanStand symbols.Next)) → IsTrue found ↔ (P × EndsIn symbols.Export before (CanStand symbols.Next))
+export_again before again P found same h = subst (λ (u : List Word). IsTrue found ↔ (P × EndsIn symbols.Export u (CanStand symbols.Next))) same h
+
+both_true : (a b : Bool) → (a && b) ≡ true → (a ≡ true) × (b ≡ true)
+both_true true true h = (refl, refl)
+both_true true false h = absurd cc
+both_true false b h = absurd cc
+
+and_both : (a b : Bool) → a ≡ true → b ≡ true → (a && b) ≡ true
+and_both a b is also = rw (is, also) refl
+
+pub export_is : (before front : List Word) (last : Word) (word bytes limit : List ℕ) (a b found : Bool) → before ≡ front ++ last ∷ [] → a ≡ symbol symbols.Export (kind_of last) → b ≡ pointwise nat_eq word bytes → bytes ≡ limit → IsTrue found ↔ (IsTrue (a && b) × CanStand symbols.Next front) → IsTrue found ↔ ((word ≡ limit) × EndsIn symbols.Export before (CanStand symbols.Next))
+export_is before front last word bytes limit a b found cut is test same h =
+    let text = text_is b word bytes limit test same in
+    let ends = last_ends before front last symbols.Export a refl cut is in (
+      λ yes.
+          let p = h.0 yes in
+          let ab = both_true a b p.0 in
+          (text.0 ab.1, (front, cut ∙ ap (λ (x : Word). front ++ x ∷ []) (is_symbol_word last symbols.Export refl (sym is ∙ ab.0)), p.1)),
+      λ g.
+          let front-is : g.1.0 ≡ front = one_front g.1.0 front (words.Symbol symbols.Export) (sym g.1.1 ∙ cut ∙ ap (λ (x : Word). front ++ x ∷ []) (is_symbol_word last symbols.Export refl (sym is ∙ ends.1 (g.1.0, g.1.1, tt)))) in
+          h.1 (and_both a b (ends.1 (g.1.0, g.1.1, tt)) (text.1 g.0), subst (λ (u : List Word). CanStand symbols.Next u) front-is g.1.2),
     )
 
 -- ---- all of them

@@ -1,6 +1,5 @@
 -- The last of several words is one symbol or isn't.
-use Rattle.std.proofs.Common.{◌≡◌, Bool, true, false, List, [], ◌∷◌, ◌++◌, length, sym, ◌∙◌, ap, arith, Bor, MatchOption}
-use Rattle.std.specs.Bool.{then_some}
+use Rattle.std.proofs.Common.{◌≡◌, ◌↔◌, ◌+◌, IsTrue, Bool, true, false, List, [], ◌∷◌, ◌++◌, length, sym, ◌∙◌, ap, arith}
 use Rattle.std.proofs.lemmas.Bool.{false≢true}
 use Rattle.std.proofs.lemmas.List.{length-append}
 use Rattle.conf_lex.specs.declared.symbol.Symbol.{Symbol}
@@ -26,9 +25,16 @@ last_one [] (y ∷ b) v w e = absurd (omega (arith, ap (λ (l : List Word). leng
 last_one (x ∷ a) [] v w e = absurd (omega (arith, ap (λ (l : List Word). length l) e, length-append a (v ∷ [])))
 last_one (x ∷ a) (y ∷ b) v w e = last_one a b v w (ap behind_first e)
 
-pub last_some : (ws : List Word) (front : Bor (List Word)) (w : Word) (s : Symbol) (b : Bool) → is_placed s ≡ false → ws ≡ front.now ++ w ∷ [] → b ≡ symbol s (kind_of w)
-    → MatchOption (then_some b front) (EndsIn s ws (λ f. Unit {0}) → ⊥) (λ f. ws ≡ f.now ++ words.Symbol s ∷ [])
-last_some ws front w s true plain cut e = cut ∙ ap (λ (x : Word). front.now ++ x ∷ []) (is_symbol_word w s plain (sym e))
-last_some ws front w s false plain cut e =
-    λ ends. let same : w ≡ words.Symbol s = last_one front.now ends.0 w (words.Symbol s) (sym cut ∙ ends.1) in
-    false≢true (e ∙ ap (λ (x : Word). symbol s (kind_of x)) same ∙ symbol_same s plain)
+pub last_ends : (ws front : List Word) (w : Word) (s : Symbol) (b : Bool) → is_placed s ≡ false → ws ≡ front ++ w ∷ [] → b ≡ symbol s (kind_of w) → IsTrue b ↔ EndsIn s ws (λ f. Unit {0})
+last_ends ws front w s b plain cut e = (
+  λ yes. (front, cut ∙ ap (λ (x : Word). front ++ x ∷ []) (is_symbol_word w s plain (sym e ∙ yes)), tt),
+  λ ends.
+      let same : w ≡ words.Symbol s = last_one front ends.0 w (words.Symbol s) (sym cut ∙ ends.1) in
+      e ∙ ap (λ (x : Word). symbol s (kind_of x)) same ∙ symbol_same s plain,
+)
+
+pub nothing_ends : (ws : List Word) (s : Symbol) (P : List Word → Type 0) → length ws ≡ 0 → IsTrue false ↔ EndsIn s ws P
+nothing_ends ws s P none = (
+  λ yes. absurd (false≢true yes),
+  λ ends. absurd (omega (arith, none, ap (λ (l : List Word). length l) ends.1, length-append ends.0 (words.Symbol s ∷ []))),
+)

@@ -17,10 +17,10 @@ use Rattle.filt_syntax.specs.RefusedToken.{IsPastAt, IsBadFrom}
 use Rattle.filt_syntax.proofs.RefusedTokens.{one_past_at}
 use Rattle.conf_lex.proofs.PartShapes.{bad_from, deep_from}
 use Rattle.conf_syntax.specs.Syntax.{config}
-use Rattle.conf_tree.specs.Readers.{whole_at}
+use Rattle.conf_tree.specs.Readers.{whole_at, IsStopAt, IsTooDeepAt, IsRefusedAt}
 use Rattle.conf_tree.specs.Significant.{significant_words, significant_starts, token_of}
 use Rattle.conf_tree.specs.Sentence.{word_bytes, IsUnsupported, IsKnown, Refuses, IsBadAt, IsSentence, IsStop, StopsAt, DeepensAt, IsRefused}
-use Rattle.conf_tree.proofs.Whole.{got_sentence, sentence_is, bad_is_stop, stop_is_bad, deep_is_deep, deep_is_fault}
+use Rattle.conf_tree.proofs.Whole.{sentence_is, bad_is_stop, stop_is_bad, deep_is_deep, deep_is_fault}
 
 -- ---- places
 
@@ -175,5 +175,11 @@ answer_stop ws significant e rest is why failed = bad_is_stop significant rest.n
 pub answer_deep : (ws significant : List Word) (e : Refusal) (rest : Bor (List Word)) → ws ≡ significant → e ≡ refusals.TooDeep rest → AgreesOnError e (whole_at 64 ws) → IsTooDeep rule 64 config significant rest.now
 answer_deep ws significant e rest is why failed = deep_is_deep significant rest.now (deep_from e rest (whole_at 64 significant) why (subst (λ (u : List Word). AgreesOnError e (whole_at 64 u)) is failed))
 
-pub answer_tree : (ws items significant : List Word) (t : ParseTree) (rest : List Word) → ws ≡ items → items ≡ significant → whole_at 64 ws ≡ Parsed t rest → IsSentence significant t
-answer_tree ws items significant t rest is words-are e = got_sentence significant t rest (subst (λ (u : List Word). whole_at 64 u ≡ Parsed t rest) (is ∙ words-are) e)
+-- and its places
+pub stop_at : (ws items : List Word) (e : SyntaxFault) (at place : ℕ) → e ≡ faults.Bad place → at ≡ place → ws ≡ items → IsRefusedAt ws e → IsStopAt items at
+stop_at ws items e at place is same are h =
+    subst (λ (u : List Word). IsStopAt u at) are (subst (λ (n : ℕ). IsStopAt ws n) (sym same) (subst (λ (f : SyntaxFault). IsRefusedAt ws f) is h))
+
+pub deep_at : (ws items : List Word) (e : SyntaxFault) (at place : ℕ) → e ≡ faults.TooDeep place → at ≡ place → ws ≡ items → IsRefusedAt ws e → IsTooDeepAt items at
+deep_at ws items e at place is same are h =
+    subst (λ (u : List Word). IsTooDeepAt u at) are (subst (λ (n : ℕ). IsTooDeepAt ws n) (sym same) (subst (λ (f : SyntaxFault). IsRefusedAt ws f) is h))

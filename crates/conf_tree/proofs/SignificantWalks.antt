@@ -1,5 +1,5 @@
 -- The words that say something, found as the text is walked.
-use Rattle.std.proofs.Common.{◌≡◌, ℕ, ◌+◌, ◌≤◌, cond, List, [], ◌∷◌, ◌++◌, length, drop, map, Option, Some, sym, subst, ◌∙◌, ap, arith, append_assoc, append-nil}
+use Rattle.std.proofs.Common.{◌≡◌, ℕ, ◌+◌, ◌≤◌, cond, List, [], ◌∷◌, ◌++◌, length, drop, map, Option, Some, refl, sym, subst, ◌∙◌, ap, arith, append_assoc, append-nil}
 use Rattle.std.specs.Prelude.{MatchOption}
 use Rattle.std.proofs.lemmas.List.{length-append}
 use Rattle.conf_scan.specs.Lex.{Lexes, Stops, IsRefused}
@@ -13,6 +13,7 @@ use Rattle.conf_scan.specs.declared.token.Token.{Token}
 use Rattle.conf_lex.specs.declared.word.Word.{Word}
 use Rattle.conf_tree.specs.Significant.{behind, depth_of, is_significant, significant, significant_words, AreWordsOf}
 use Rattle.conf_tree.specs.declared.significant.Region.{Region}
+use Rattle.conf_tree.specs.declared.significant.Region.TheVariants as regions
 use Rattle.conf_tree.proofs.SignificantSteps.{depth_more, significant_more}
 
 -- There are tokens before the place: whatever stands behind it completes them, and says the rest, or is refused where the text is.
@@ -23,6 +24,17 @@ pub record IsWalked (text : List ℕ) (found : List Word) (region : Region) (to 
   pub lexes : (more : List Token) → LexesFrom text to more → Lexes 0 text (front ++ more)
   pub stops : (more : List Token) (place : ℕ) → Stops to.at (drop to.at text) more place → Stops 0 text (front ++ more) place
   pub words : (more : List Token) → LexesFrom text to more → significant_words text (front ++ more) ≡ found ++ map (λ p. p.1) (significant region (words_from text (length front) 0 more))
+
+pub walk_none : (text : List ℕ) → IsWalked text [] regions.Statements (record { at = 0; plain = 0 })
+walk_none text =
+    record {
+      front = [];
+      spot = record { within = omega arith; plain = λ k below. absurd (omega (arith, below)) };
+      deep = omega arith;
+      lexes = λ more rest. rest;
+      stops = λ more place rest. rest;
+      words = λ more rest. refl;
+    }
 
 pub walk_more : (text : List ℕ) (found : List Word) (region : Region) (from to : Spot) (word : Word) → IsWordStep text from word to → IsWalked text found region from
     → IsWalked text (found ++ cond (is_significant region word) (word ∷ []) []) (behind region word) to

@@ -1,8 +1,8 @@
 -- Where a word of a text begins, found as the text is walked.
-use Rattle.std.proofs.Common.{◌≡◌, ℕ, suc, ◌+◌, ◌≤◌, Bool, true, false, cond, List, [], ◌∷◌, ◌++◌, length, map, drop, slice_index_or, refl, sym, subst, ◌∙◌, ap, arith, append_assoc, append-nil}
+use Rattle.std.proofs.Common.{◌≡◌, ℕ, zero, suc, ◌+◌, ◌-◌, ◌≤◌, ◌<◌, get_or, if◌then◌else◌, Bool, true, false, cond, List, [], ◌∷◌, ◌++◌, length, map, drop, slice_index_or, refl, sym, subst, ◌∙◌, ap, arith, append_assoc, append-nil}
 use Rattle.std.proofs.lemmas.List.{length-append, drop_at}
 use Rattle.conf_scan.specs.Lex.{Lexes}
-use Rattle.conf_scan.specs.Spots.{IsSpot, IsStuckFrom, LexesFrom}
+use Rattle.conf_scan.specs.Spots.{IsStuckFrom, LexesFrom}
 use Rattle.conf_scan.specs.declared.lexer.Spot.{Spot}
 use Rattle.conf_scan.specs.declared.token.LexFault.{LexFault}
 use Rattle.conf_scan.specs.declared.token.LexFault.TheVariants as faults
@@ -11,7 +11,9 @@ use Rattle.conf_scan.proofs.Readings.{lexes_once, lexes_or_stops}
 use Rattle.conf_lex.specs.Walks.{IsWordStep}
 use Rattle.conf_lex.specs.Words.{words_from}
 use Rattle.conf_lex.specs.declared.word.Word.{Word}
-use Rattle.conf_tree.specs.Significant.{behind, depth_of, is_significant, significant, token_of}
+use Rattle.conf_tree.specs.Marks.{IsAhead, IsSought, IsMark, AreMarks, first_mark}
+use Rattle.conf_tree.specs.Significant.{behind, is_significant, significant, token_of}
+use Rattle.conf_tree.specs.declared.significant.Mark.{Mark}
 use Rattle.conf_tree.specs.declared.significant.Region.{Region}
 use Rattle.conf_tree.specs.declared.significant.Region.TheVariants as regions
 use Rattle.conf_tree.proofs.SignificantSteps.{depth_more}
@@ -31,19 +33,6 @@ none_less : (b : Bool) (p : ℕ × Word) (ps : List (ℕ × Word)) (left end : �
 none_less b p ps left end is none = ap (λ (t : Bool). slice_index_or (map (λ q. q.0) (cond t (p ∷ ps) ps)) left end) is ∙ ap (λ (n : ℕ). slice_index_or (p.0 ∷ map (λ q. q.0) ps) n end) none
 
 -- ---- the walk
-
--- Some of these tokens stand before the spot, and the others are those of the text from there on. The word that is looked for is so many words that say something behind it.
-pub record IsAhead (text : List ℕ) (tokens : List Token) (place left : ℕ) (region : Region) (to : Spot) : Type 0 where
-  pub front : List Token
-  pub more : List Token
-  pub cut : tokens ≡ front ++ more
-  pub lexes : LexesFrom text to more
-  pub start : token_of text tokens place ≡ slice_index_or (map (λ p. p.0) (significant region (words_from text (length front) 0 more))) left (length tokens)
-
-pub record IsSought (text : List ℕ) (place left : ℕ) (region : Region) (to : Spot) : Type 0 where
-  pub spot : IsSpot text to
-  pub deep : depth_of region ≤ to.at
-  pub ahead : (tokens : List Token) → Lexes 0 text tokens → IsAhead text tokens place left region to
 
 -- before the first word
 pub sought_none : (text : List ℕ) (place : ℕ) → IsSought text place place regions.Statements (record { at = 0; plain = 0 })
@@ -112,3 +101,37 @@ sought_end text place left region to none sought tokens lexes =
     from_start text tokens tokens [] to (token_of text tokens place) (sym (append-nil tokens))
     (h.start ∙ ap (λ (l : List Token). slice_index_or (map (λ p. p.0) (significant region (words_from text (length h.front) 0 l))) left (length tokens)) nothing)
     none
+
+-- ---- marks
+
+pub first_is : (text : List ℕ) → IsMark text first_mark
+first_is text =
+    let P : ℕ → ℕ → Type 0 = λ place left. IsSought text place left regions.Statements (record { at = 0; plain = 0 }) in
+    let passed : (place : ℕ) → 0 ≤ place → P place (place - 0) = λ place low. let same : place ≡ place - 0 = omega arith in subst (P place) same (sought_none text place) in
+    record { passed = passed }
+
+-- behind a word
+pub mark_more : (text : List ℕ) (count next : ℕ) (region : Region) (from to : Spot) (word : Word) → next ≡ count + cond (is_significant region word) 1 0 → IsWordStep text from word to → IsMark text (record { count = count; region = region; spot = from }) → IsMark text (record { count = next; region = behind region word; spot = to })
+mark_more text count next region from to word is step m =
+    record { passed = λ place low. sought_more text place (place - count) (place - next) region from to word (omega (arith, low, is)) step (m.passed place (omega (arith, low, is))) }
+
+pub kept_count : (found : List Word) (b : Bool) (word : Word) → length (found ++ cond b (word ∷ []) []) ≡ length found + cond b 1 0
+kept_count found true word = length-append found (word ∷ [])
+kept_count found false word = length-append found []
+
+pub no_marks : (text : List ℕ) → AreMarks text []
+no_marks text = λ d n low. absurd (omega (arith, low))
+
+marks_end : (text : List ℕ) (ms : List Mark) (m d : Mark) → IsMark text m → ((n : ℕ) → n < length ms → IsMark text (get_or ms n d)) → (n : ℕ) → n < length (ms ++ m ∷ []) → IsMark text (get_or (ms ++ m ∷ []) n d)
+marks_end text [] m d is all zero low = is
+marks_end text [] m d is all (suc n) low = absurd (omega (arith, low))
+marks_end text (x ∷ ms) m d is all zero low = all 0 (omega arith)
+marks_end text (x ∷ ms) m d is all (suc n) low = marks_end text ms m d is (λ k lt. all (suc k) (omega (arith, lt))) n (omega (arith, low))
+
+pub marks_more : (text : List ℕ) (ms : List Mark) (m : Mark) → IsMark text m → AreMarks text ms → AreMarks text (ms ++ m ∷ [])
+marks_more text ms m is all = λ d n low. marks_end text ms m d is (all d) n low
+
+-- one more, where there was memory for it
+pub marks_pushed : (text : List ℕ) (ms pushed : List Mark) (m : Mark) (ok : Bool) → pushed ≡ (if ok then ms ++ m ∷ [] else ms) → IsMark text m → AreMarks text ms → AreMarks text pushed
+marks_pushed text ms pushed m true is mark all = subst (λ (l : List Mark). AreMarks text l) (sym is) (marks_more text ms m mark all)
+marks_pushed text ms pushed m false is mark all = subst (λ (l : List Mark). AreMarks text l) (sym is) all

@@ -214,7 +214,7 @@ bad_can ws all e rest b is why failed same =
     by_rest [] b bad same = (λ yes. bad_stands all [] bad refl, λ begun. same)
     by_rest (w ∷ r) b bad same = (λ yes. absurd (omega (arith, eqb-true (length (w ∷ r)) 0 (sym same ∙ yes))), λ begun. absurd (bad_stands_not all (w ∷ r) bad (λ none. cc) begun))
 
-pub deep_can : (ws before : List Word) (w : Word) (e : Refusal) (rest : Bor (List Word)) → ws ≡ before ++ w ∷ [] → IsBegunWithin rule 64 config before → e ≡ refusals.TooDeep rest → AgreesOnError e (whole_at 64 ws) → IsTrue true ↔ IsBegun rule config (before ++ w ∷ [])
+pub deep_can : (ws before : List Word) (w : Word) (e : Refusal) (rest : Bor (List Word)) → ws ≡ before ++ w ∷ [] → IsBegunWithin rule 64 config before → e ≡ refusals.TooDeep rest → AgreesOnError e (whole_at 64 ws) → IsTrue true ↔ IsBegun rule config ws
 deep_can ws before w e rest is begun why failed =
     let deep = deep_from e rest (whole_at 64 (before ++ w ∷ [])) why (subst (λ (u : List Word). AgreesOnError e (whole_at 64 u)) is failed) in
-    (λ yes. deep_stands before w rest.now begun deep, λ b. refl)
+    (λ yes. subst (λ (u : List Word). IsBegun rule config u) (sym is) (deep_stands before w rest.now begun deep), λ b. refl)

@@ -1,6 +1,6 @@
 -- For private contracts alone: reading each form of the configuration, where k more levels may be
 -- opened; the forms are those of Syntax.
-use Rattle.std.specs.Prelude.{ℕ, List, [], ◌∷◌}
+use Rattle.std.specs.Prelude.{◌≡◌, ℕ, ◌+◌, List, [], ◌∷◌, length}
 use Rattle.conf_lex.specs.declared.symbol.Symbol.{Symbol}
 use Rattle.conf_lex.specs.declared.symbol.Symbol.TheVariants as sym
 use Rattle.conf_lex.specs.declared.word.Word.{Word}
@@ -16,6 +16,10 @@ use Rattle.conf_syntax.specs.Syntax.{channel, static_option, bgp_option}
 use Rattle.conf_syntax.specs.Syntax.{pipe_option, parameter, parameters, gives, protocol_of}
 use Rattle.conf_syntax.specs.Syntax.{statement, config}
 use Rattle.conf_syntax.specs.Readers.{}
+use Rattle.conf_lex.specs.Sentences.{IsTooDeep}
+use Rattle.filt_syntax.specs.declared.parse.SyntaxFault.{SyntaxFault}
+use Rattle.filt_syntax.specs.declared.parse.SyntaxFault.TheVariants as faults
+use Rattle.conf_tree.specs.Sentence.{IsStop}
 
 unfoldable pub policy_at : ℕ → Reader
 policy_at k = read rule k policy
@@ -82,3 +86,20 @@ whole_at k ws = and_then (config_at k ws) to_the_end
 abbrev pub signature_at : ℕ → Reader
 signature_at k ws = and_then (both (parameters_at 0) (word (symbol sym.CloseParenthesis)) ws)
     (λ h v. and_then (both (gives_at 0) (block_at k) v) (λ b z. Parsed (regroup h b) z))
+
+-- ---- the refused word
+
+-- the word in this place of these can't stand there, or opens the 65th level
+abbrev pub IsStopAt : List Word → ℕ → Type 0
+IsStopAt words place =
+    (rest : List Word) × (place + length rest ≡ length words) × IsStop words rest
+
+abbrev pub IsTooDeepAt : List Word → ℕ → Type 0
+IsTooDeepAt words place =
+    (rest : List Word) × (place + length rest ≡ length words) × IsTooDeep rule 64 config words rest
+
+abbrev pub IsRefusedAt : List Word → SyntaxFault → Type 0
+IsRefusedAt words (faults.Bad at) = IsStopAt words at
+IsRefusedAt words (faults.TooDeep at) = IsTooDeepAt words at
+IsRefusedAt words (faults.Unsupported at) = ⊥
+IsRefusedAt words faults.Memory = Unit {0}

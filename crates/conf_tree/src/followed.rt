@@ -5,7 +5,7 @@ ghost use Rattle.conf_syntax.specs.Syntax.{config};
 use crate::config::config;
 use bits_ip::OutOfMemory;
 use conf_lex::{Refusal, Word};
-use filt_syntax::parts::{LEVELS, Sentences, followed_by};
+use filt_syntax::parts::{LEVELS, Sentences};
 use std::alloc::Global;
 
 pub struct Configurations;
@@ -13,9 +13,8 @@ pub struct Configurations;
 impl Sentences for Configurations {
     ghost form = { config };
 
-    fn can_follow(alloc: Global, before: &[Word], word: Word) -> Result<bool, OutOfMemory> {
-        let words = followed_by(alloc, before, word)?;
-        match config(alloc, &words, LEVELS) {
+    fn is_begun(alloc: Global, words: &[Word]) -> Result<bool, OutOfMemory> {
+        match config(alloc, words, LEVELS) {
             Ok(_) => Ok(true),
             Err(Refusal::Memory) => Err(OutOfMemory),
             Err(Refusal::Bad(rest)) => Ok(rest.is_empty()),

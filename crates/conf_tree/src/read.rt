@@ -2,8 +2,11 @@
 
 ghost use Rattle.std.specs.Prelude.{◌≡◌, length, IfOk, IfErr};
 ghost use Rattle.conf_lex.specs.Grammar.{ParseTree};
+ghost use Rattle.conf_tree.specs.Marks.{AreMarks};
 ghost use Rattle.conf_tree.specs.Significant.{AreWordsOf};
-ghost use Rattle.conf_tree.specs.View.{config_view};
+ghost use Rattle.conf_tree.specs.View.{config_view, statements_tree};
+ghost use Rattle.conf_tree.specs.Sentence.{IsSentence};
+ghost use Rattle.conf_tree.specs.Readers.{IsRefusedAt};
 ghost use Rattle.conf_tree.specs.Read.{IsConfigText, IsFault, IsWithin, IsTreeOf, IsFaultOf};
 ghost use Rattle.conf_ast.specs.declared.kind.ConfFault.{ConfFault};
 
@@ -12,32 +15,54 @@ use crate::laws::{
     a_text_has_one_refusal, a_text_is_one_configuration, configurations_are_not_refused,
 };
 use crate::refusal::{deepened, stopped};
-use crate::significant::walked_words;
-use conf_ast::configurations::Config;
+use crate::significant::{Walked, walked_words};
+use conf_ast::configurations::{Config, Statement};
 use conf_ast::{ConfFault, ConfKind};
+use conf_lex::parsing::place_in;
 use conf_lex::{Refusal, Word};
 use conf_scan::LexFault;
 use conf_scan::laws::texts_are_refused_within;
+use filt_syntax::SyntaxFault;
 use filt_syntax::parts::LEVELS;
 use std::alloc::Global;
+
+// The statements of these words, or the place of the refused one among them.
+fn statements_of(alloc: Global, words: &[Word]) -> Result<Vec<Statement>, SyntaxFault>
+    ensures tree { IfOk result (λ statements.
+        IsSentence words.now (statements_tree statements.items)) }
+    ensures fault { IfErr result (IsRefusedAt words.now) }
+{
+    match config(alloc, words, LEVELS) {
+        Ok((statements, _)) => Ok(statements),
+        Err(Refusal::Memory) => Err(SyntaxFault::Memory),
+        Err(Refusal::Bad(rest)) => Err(SyntaxFault::Bad {
+            at: place_in(words, rest),
+        }),
+        Err(Refusal::TooDeep(rest)) => Err(SyntaxFault::TooDeep {
+            at: place_in(words, rest),
+        }),
+    }
+}
 
 // The configuration of a text with these words, or their refusal.
 fn config_of_words<'a>(
     alloc: Global,
     text: &'a [u8],
-    words: &[Word],
+    walked: &mut Walked,
 ) -> Result<Config<'a>, ConfFault>
-    requires { AreWordsOf text.now words.now }
+    requires words { AreWordsOf text.now walked.old.words.items }
+    requires marks { AreMarks text.now walked.old.marks.items }
     ensures text { IfOk result (λ config. config.text.now ≡ text.now) }
     ensures tree { IfOk result (λ config. IsConfigText text.now (config_view config)) }
     ensures fault { IfErr result (IsFault text.now) }
     ensures within { IfErr result (IsWithin (length text.now)) }
 {
-    match config(alloc, words, LEVELS) {
-        Ok((statements, _)) => Ok(Config { text, statements }),
-        Err(Refusal::Memory) => Err(ConfFault::Memory),
-        Err(Refusal::Bad(rest)) => Err(stopped(alloc, text, words, rest)),
-        Err(Refusal::TooDeep(rest)) => Err(deepened(text, words, rest)),
+    match statements_of(alloc, &walked.words) {
+        Ok(statements) => Ok(Config { text, statements }),
+        Err(SyntaxFault::Bad { at }) => Err(stopped(alloc, text, walked, at)),
+        Err(SyntaxFault::TooDeep { at }) => Err(deepened(text, walked, at)),
+        Err(SyntaxFault::Unsupported { .. }) => Err(ConfFault::Memory),
+        Err(SyntaxFault::Memory) => Err(ConfFault::Memory),
     }
 }
 
@@ -50,7 +75,7 @@ fn answer<'a>(alloc: Global, text: &'a [u8]) -> Result<Config<'a>, ConfFault>
 {
     texts_are_refused_within();
     match walked_words(alloc, text) {
-        Ok(words) => config_of_words(alloc, text, &words),
+        Ok(mut walked) => config_of_words(alloc, text, &mut walked),
         Err(LexFault::Bad { at }) => Err(ConfFault::Refused {
             at,
             kind: ConfKind::Lex,

@@ -1,29 +1,31 @@
 // Why the words of a text are refused, and at which of its bytes.
 
 ghost use Rattle.std.specs.Prelude.{◌≡◌, ◌↔◌, ◌≤◌, List, [], None, Some, length, take};
-ghost use Rattle.std.specs.Prelude.{drop, IsTrue, IsSomeAnd, IfOk, MatchOption};
+ghost use Rattle.std.specs.Prelude.{drop, IsTrue, IsSomeAnd, IfOk, OnOk, MatchOption};
 ghost use Rattle.conf_scan.specs.Spots.{IsSpot, IsStep, LexesFrom};
 ghost use Rattle.conf_scan.specs.declared.token.Token.{Token};
 ghost use Rattle.conf_lex.specs.declared.symbol.Symbol.TheVariants as sym;
 ghost use Rattle.conf_lex.specs.Grammar.{begins};
 ghost use Rattle.conf_lex.specs.Kind.{symbol};
-ghost use Rattle.conf_lex.specs.Sentences.{IsBegunWithin, IsTooDeep};
+ghost use Rattle.conf_lex.specs.Sentences.{IsBegunWithin};
 ghost use Rattle.expr_syntax.specs.Syntax.{rule};
 ghost use Rattle.conf_syntax.specs.Syntax.{config};
 ghost use Rattle.conf_tree.specs.Read.{byte_of, fault_of, IsFault, IsWithin};
-ghost use Rattle.conf_tree.specs.Sentence.{first_bytes, word_bytes, IsStop, IsUnsupported, Refuses};
+ghost use Rattle.conf_tree.specs.Sentence.{first_bytes, word_bytes, IsUnsupported, Refuses};
+ghost use Rattle.conf_tree.specs.Marks.{AreMarks};
 ghost use Rattle.conf_tree.specs.Significant.{AreWordsOf};
+ghost use Rattle.conf_tree.specs.Readers.{IsStopAt, IsTooDeepAt};
 
 use crate::followed::Configurations;
-use crate::significant::spot_of;
+use crate::significant::{Walked, mark_before, spot_of};
 use crate::unsupported::is_unsupported;
 use bits_ip::OutOfMemory;
 use conf_ast::{ConfFault, ConfKind};
-use conf_lex::parsing::{is_symbol, place_in};
+use conf_lex::parsing::is_symbol;
 use conf_lex::{Symbol, Word};
 use conf_scan::{Spot, Token, TokenKind, next_token};
 use filt_syntax::SyntaxFault;
-use filt_syntax::parts::bad_from;
+use filt_syntax::parts::{bad_behind, tail, tear_of};
 use std::alloc::Global;
 
 // The token that stands next, and the place behind it.
@@ -122,72 +124,81 @@ fn word_bytes<'a>(text: &'a [u8], spot: Spot, rest: &[Word]) -> Option<&'a [u8]>
     }
 }
 
-fn words_from(words: &[Word], place: usize) -> &[Word]
-    requires { place ≤ length words.now }
-    ensures { result.now ≡ drop place words.now }
-{
-    &words[place..]
-}
-
-// Whether the word in this place, which begins at this spot and can't stand, is known there.
+// Whether the word in this place, which begins at this spot and can't stand, is known there. The
+// words before it are left.
 fn is_known(
     alloc: Global,
     text: &[u8],
     spot: Spot,
-    words: &[Word],
+    words: &mut Vec<Word>,
     place: usize,
 ) -> Result<bool, OutOfMemory>
     requires spot { IsSpot text.now spot }
-    requires within { place ≤ length words.now }
-    requires begun { IsBegunWithin rule 64 config (take place words.now) }
-    ensures { (tokens : List Token) → LexesFrom text.now spot tokens
+    requires within { place ≤ length words.old.items }
+    requires begun { IsBegunWithin rule 64 config (take place words.old.items) }
+    ensures known { (tokens : List Token) → LexesFrom text.now spot tokens
         → IfOk result (λ known. IsTrue known
-        ↔ IsSomeAnd (word_bytes (drop place words.now) text.now tokens)
-        (IsUnsupported (take place words.now))) }
+        ↔ IsSomeAnd (word_bytes (drop place words.old.items) text.now tokens)
+        (IsUnsupported (take place words.old.items))) }
+    ensures left { OnOk result (words.new.items ≡ take place words.old.items) }
 {
-    match word_bytes(text, spot, words_from(words, place)) {
-        Some(word) => is_unsupported(alloc, &words[..place], word),
+    let bytes = word_bytes(text, spot, tail(words, place));
+    words.truncate(place);
+    match bytes {
+        Some(word) => is_unsupported(alloc, words, word),
         None => Ok(false),
     }
 }
 
 // The refusal of the word in this place, which begins at this spot and can't stand there, by tokens
 // behind its first one.
-fn refusal(alloc: Global, text: &[u8], spot: Spot, words: &[Word], place: usize) -> SyntaxFault
+fn refusal(
+    alloc: Global,
+    text: &[u8],
+    spot: Spot,
+    words: &mut Vec<Word>,
+    place: usize,
+) -> SyntaxFault
     requires spot { IsSpot text.now spot }
-    requires within { place ≤ length words.now }
-    requires begun { IsBegunWithin rule 64 config (take place words.now) }
+    requires within { place ≤ length words.old.items }
+    requires begun { IsBegunWithin rule 64 config (take place words.old.items) }
     ensures { (tokens : List Token) → LexesFrom text.now spot tokens
-        → Refuses (IsSomeAnd (word_bytes (drop place words.now) text.now tokens)
-        (IsUnsupported (take place words.now))) words.now place 0 result }
+        → Refuses (IsSomeAnd (word_bytes (drop place words.old.items) text.now tokens)
+        (IsUnsupported (take place words.old.items))) words.old.items place 0 result }
 {
+    let tear = tear_of(tail(words, place));
     match is_known(alloc, text, spot, words, place) {
         Ok(true) => SyntaxFault::Unsupported { at: 0 },
-        Ok(false) => bad_from::<Configurations>(alloc, words, place, 0),
+        Ok(false) => bad_behind::<Configurations>(alloc, words, tear, 0),
         Err(OutOfMemory) => SyntaxFault::Memory,
     }
 }
 
-/// The refusal of words of which the rest begins with one that can't stand there.
-pub fn stopped(alloc: Global, text: &[u8], words: &[Word], rest: &[Word]) -> ConfFault
-    requires words { AreWordsOf text.now words.now }
-    requires stops { IsStop words.now rest.now }
+/// The refusal of words of which the one in this place can't stand there. The list of the words
+/// serves to try others in its place, so that no copy is made, and is of no use behind the call.
+pub fn stopped(alloc: Global, text: &[u8], walked: &mut Walked, place: usize) -> ConfFault
+    requires words { AreWordsOf text.now walked.old.words.items }
+    requires marks { AreMarks text.now walked.old.marks.items }
+    requires stops { IsStopAt walked.old.words.items place }
     ensures fault { IsFault text.now result }
     ensures within { IsWithin (length text.now) result }
 {
-    let place = place_in(words, rest);
-    let spot = spot_of(text, place);
-    told(text, spot, refusal(alloc, text, spot, words, place))
+    let spot = spot_of(text, place, mark_before(&walked.marks, place));
+    told(
+        text,
+        spot,
+        refusal(alloc, text, spot, &mut walked.words, place),
+    )
 }
 
-/// The refusal of words of which the rest begins with one that opens too many levels.
-pub fn deepened(text: &[u8], words: &[Word], rest: &[Word]) -> ConfFault
-    requires words { AreWordsOf text.now words.now }
-    requires deep { IsTooDeep rule 64 config words.now rest.now }
+/// The refusal of words of which the one in this place opens too many levels.
+pub fn deepened(text: &[u8], walked: &Walked, place: usize) -> ConfFault
+    requires words { AreWordsOf text.now walked.now.words.items }
+    requires marks { AreMarks text.now walked.now.marks.items }
+    requires deep { IsTooDeepAt walked.now.words.items place }
     ensures fault { IsFault text.now result }
     ensures within { IsWithin (length text.now) result }
 {
-    let place = place_in(words, rest);
-    let spot = spot_of(text, place);
+    let spot = spot_of(text, place, mark_before(&walked.marks, place));
     told(text, spot, SyntaxFault::TooDeep { at: 0 })
 }

@@ -1,15 +1,16 @@
 // The words without those that logs and device blocks hold.
 
-ghost use Rattle.std.specs.Prelude.{◌≡◌, ◌+◌, ◌<◌, ◌^◌, List, ◌++◌, ◌∷◌, [], cond, true, drop};
+ghost use Rattle.std.specs.Prelude.{◌≡◌, ◌≤◌, ℕ, ◌+◌, ◌<◌, ◌^◌, List, ◌++◌, ◌∷◌, [], cond};
+ghost use Rattle.std.specs.Prelude.{true, drop};
 ghost use Rattle.std.specs.Prelude.{IfOk, IfErr, OnOk, MatchOption};
 ghost use Rattle.conf_scan.specs.Lex.{Lexes, IsRefused};
 ghost use Rattle.conf_scan.specs.Spots.{IsSpot, LexesFrom};
 ghost use Rattle.conf_scan.specs.declared.token.LexFault.TheVariants.{Memory};
 ghost use Rattle.conf_scan.specs.declared.token.Token.{Token};
-ghost use Rattle.conf_lex.specs.Kind.{kind_of, name};
 ghost use Rattle.conf_lex.specs.Walks.{IsWordStep};
 ghost use Rattle.conf_tree.specs.Significant.{behind, depth_of, is_significant, token_of};
 ghost use Rattle.conf_tree.specs.Significant.{AreWordsOf};
+ghost use Rattle.conf_tree.specs.Marks.{AreMarks, IsMark};
 
 use conf_lex::parsing::is_symbol;
 use conf_lex::{Symbol, Word, next_word};
@@ -32,10 +33,20 @@ pub enum Region {
     Inside(usize),
 }
 
-fn is_name(word: &Word) -> bool
-    ensures { result ≡ name (kind_of word.now) }
-{
-    matches!(word, Word::Name { .. })
+/// How far the walk over a text has come: so many words that the grammar reads stand before the
+/// spot, behind which the next word stands in this region.
+#[derive(Clone, Copy, Debug)]
+pub struct Mark {
+    pub count: usize,
+    pub region: Region,
+    pub spot: Spot,
+}
+
+/// The words that the grammar reads, and marks of the walk that found them.
+#[derive(Debug, Drop)]
+pub struct Walked {
+    pub words: Vec<Word>,
+    pub marks: Vec<Mark>,
 }
 
 fn behind_statement_word(word: &Word) -> Region
@@ -73,10 +84,9 @@ fn behind_protocol(word: &Word) -> Region
 fn behind_device(word: &Word) -> Region
     ensures { result ≡ behind Region.Device word.now }
 {
-    if is_name(word) {
-        Region::Named
-    } else {
-        behind_named(word)
+    match word {
+        Word::Name { .. } => Region::Named,
+        _ => behind_named(word),
     }
 }
 
@@ -142,21 +152,63 @@ fn keep(found: &mut Vec<Word>, region: Region, word: &Word) -> Result<(), LexFau
     Ok(())
 }
 
+// The marks, and this one more where the last is far from it: one for each 65,536 bytes of the text,
+// so that to walk to a word again from the mark before it is next to nothing.
+fn note(marks: &mut Vec<Mark>, mark: Mark)
+    ensures { (text : List ℕ) → IsMark text mark → AreMarks text marks.old.items
+        → AreMarks text marks.new.items }
+{
+    if marks.len() <= mark.spot.at / 65536 {
+        // Where there is no memory for it, the way from the mark before it is longer.
+        let _ = marks.push(mark);
+    }
+}
+
 /// The words that the grammar reads, made as the text is walked: its tokens aren't kept. `Bad` is as
 /// `conf_scan::lex` has it.
-pub fn walked_words(alloc: Global, text: &[u8]) -> Result<Vec<Word>, LexFault>
-    ensures words { IfOk result (λ found. AreWordsOf text.now found.items) }
+pub fn walked_words(alloc: Global, text: &[u8]) -> Result<Walked, LexFault>
+    ensures words { IfOk result (λ walked. AreWordsOf text.now walked.words.items) }
+    ensures marks { IfOk result (λ walked. AreMarks text.now walked.marks.items) }
     ensures bad { IfErr result (IsRefused text.now) }
 {
     let mut found = Vec::new(alloc);
+    let mut marks = Vec::new(alloc);
     let mut region = Region::Statements;
     let mut spot = Spot { at: 0, plain: 0 };
     while let Some((word, end)) = next_word(text, spot)? {
+        let mark = Mark {
+            count: found.len(),
+            region,
+            spot,
+        };
+        note(&mut marks, mark);
         keep(&mut found, region, &word)?;
         region = behind(region, &word);
         spot = end;
     }
-    Ok(found)
+    Ok(Walked {
+        words: found,
+        marks,
+    })
+}
+
+/// The last of these marks that is before the word in this place; where there is none, the
+/// beginning of the text.
+pub fn mark_before(marks: &[Mark], place: usize) -> Mark
+    ensures before { result.count ≤ place }
+    ensures mark { (text : List ℕ) → AreMarks text marks.now → IsMark text result }
+{
+    let mut last = Mark {
+        count: 0,
+        region: Region::Statements,
+        spot: Spot { at: 0, plain: 0 },
+    };
+    for mark in marks {
+        if mark.count <= place {
+            last = *mark;
+        }
+    }
+    last
 }
 
 // The word that stands next in a text that has tokens, and the place behind it.
@@ -184,17 +236,19 @@ fn words_left(left: usize, significant: bool) -> Option<usize>
     }
 }
 
-/// Where the word in this place begins, of those that the grammar reads; behind the last one where
-/// the text has no more tokens.
-pub fn spot_of(text: &[u8], place: usize) -> Spot
-    requires { (tokens : List Token) × Lexes 0 text.now tokens }
+/// Where the word in this place begins, of those that the grammar reads, by a walk from a mark before
+/// it; behind the last one where the text has no more tokens.
+pub fn spot_of(text: &[u8], place: usize, from: Mark) -> Spot
+    requires lexed { (tokens : List Token) × Lexes 0 text.now tokens }
+    requires mark { IsMark text.now from }
+    requires before { from.count ≤ place }
     ensures spot { IsSpot text.now result }
     ensures tokens { (tokens : List Token) → Lexes 0 text.now tokens
         → LexesFrom text.now result (drop (token_of text.now tokens place) tokens) }
 {
-    let mut left = place;
-    let mut region = Region::Statements;
-    let mut spot = Spot { at: 0, plain: 0 };
+    let mut left = place - from.count;
+    let mut region = from.region;
+    let mut spot = from.spot;
     while let Some((word, end)) = word_ahead(text, spot) {
         let Some(fewer) = words_left(left, is_significant(region, &word)) else {
             return spot;

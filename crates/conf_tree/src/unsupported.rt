@@ -1,8 +1,6 @@
 // Words that are known and not supported where they stand.
 
-ghost use Rattle.std.specs.Prelude.{◌≡◌, ◌↔◌, [], ◌∷◌, ◌++◌, IfOk, IsTrue, MatchOption, map, codes};
-ghost use Rattle.std.specs.Prelude.{false};
-ghost use Rattle.conf_lex.specs.declared.word.Word.{Word};
+ghost use Rattle.std.specs.Prelude.{◌≡◌, ◌↔◌, IfOk, OnOk, IsTrue, map, codes, false};
 ghost use Rattle.conf_lex.specs.Symbols.{is_placed};
 ghost use Rattle.conf_lex.specs.Sentences.{IsBegunWithin};
 ghost use Rattle.expr_syntax.specs.Syntax.{rule};
@@ -14,7 +12,7 @@ use crate::followed::Configurations;
 use bits_ip::OutOfMemory;
 use conf_lex::parsing::is_symbol;
 use conf_lex::{Symbol, Word};
-use filt_syntax::parts::Sentences;
+use filt_syntax::parts::can_follow;
 use std::alloc::Global;
 
 fn is_one_of(words: &[&[u8]], word: &[u8]) -> bool
@@ -73,60 +71,65 @@ fn is_import_word(word: &[u8]) -> bool
     is_one_of(&words, word)
 }
 
-// Whether this symbol can stand behind these words.
-fn can_stand(alloc: Global, before: &[Word], symbol: Symbol) -> Result<bool, OutOfMemory>
-    requires { IsBegunWithin rule 64 config before.now }
-    ensures { IfOk result (λ can. IsTrue can ↔ CanStand symbol before.now) }
-{
-    Configurations::can_follow(alloc, before, Word::Symbol(symbol))
-}
-
 // Whether a word that is one of those which this symbol stands for has it in its place.
 fn stands_for(
     alloc: Global,
     known: bool,
-    before: &[Word],
+    before: &mut Vec<Word>,
     symbol: Symbol,
 ) -> Result<bool, OutOfMemory>
-    requires { IsBegunWithin rule 64 config before.now }
-    ensures { IfOk result (λ found. IsTrue found ↔ (IsTrue known × CanStand symbol before.now)) }
+    requires { IsBegunWithin rule 64 config before.old.items }
+    ensures found { IfOk result (λ found. IsTrue found
+        ↔ (IsTrue known × CanStand symbol before.old.items)) }
+    ensures same { before.new.items ≡ before.old.items }
 {
     if known {
-        can_stand(alloc, before, symbol)
+        can_follow::<Configurations>(alloc, before, Word::Symbol(symbol))
     } else {
         Ok(false)
     }
 }
 
-// The words before the last, where that is this symbol.
-fn before_last(words: &[Word], symbol: Symbol) -> Option<&[Word]>
+fn ends_in(words: &[Word], symbol: Symbol) -> bool
     requires { is_placed symbol ≡ false }
-    ensures { MatchOption result (EndsIn symbol words.now (λ front. Unit {0}) → ⊥)
-        (λ front. words.now ≡ front.now ++ Word.Symbol symbol ∷ []) }
+    ensures { IsTrue result ↔ EndsIn symbol words.now (λ front. Unit {0}) }
 {
     match words.split_last() {
-        Some((last, front)) => is_symbol(last, symbol).then_some(front),
-        None => None,
+        Some((last, _front)) => is_symbol(last, symbol),
+        None => false,
     }
 }
 
 // Whether the word is `limit` behind the `export` of a channel.
-fn is_export_limit(alloc: Global, before: &[Word], word: &[u8]) -> Result<bool, OutOfMemory>
-    requires { IsBegunWithin rule 64 config before.now }
-    ensures { IfOk result (λ found. IsTrue found
-        ↔ ((word.now ≡ codes "limit") × EndsIn Symbol.Export before.now (CanStand Symbol.Next))) }
+fn is_export_limit(alloc: Global, before: &mut Vec<Word>, word: &[u8]) -> Result<bool, OutOfMemory>
+    requires { IsBegunWithin rule 64 config before.old.items }
+    ensures found { IfOk result (λ found. IsTrue found
+        ↔ ((word.now ≡ codes "limit")
+        × EndsIn Symbol.Export before.old.items (CanStand Symbol.Next))) }
+    ensures same { OnOk result (before.new.items ≡ before.old.items) }
 {
-    match before_last(before, Symbol::Export) {
-        Some(front) => stands_for(alloc, word == b"limit".as_slice(), front, Symbol::Next),
+    match before.pop() {
+        Some(last) => {
+            let limit = is_symbol(&last, Symbol::Export) & (word == b"limit".as_slice());
+            let found = stands_for(alloc, limit, before, Symbol::Next)?;
+            before.push(last)?;
+            Ok(found)
+        }
         None => Ok(false),
     }
 }
 
 // Whether the word is one of those that are known in the place of others.
-fn is_unsupported_option(alloc: Global, before: &[Word], word: &[u8]) -> Result<bool, OutOfMemory>
-    requires begun { IsBegunWithin rule 64 config before.now }
-    requires no_kind { EndsIn Symbol.Protocol before.now (λ front. Unit {0}) → ⊥ }
-    ensures { IfOk result (λ found. IsTrue found ↔ IsUnsupported before.now word.now) }
+fn is_unsupported_option(
+    alloc: Global,
+    before: &mut Vec<Word>,
+    word: &[u8],
+) -> Result<bool, OutOfMemory>
+    requires begun { IsBegunWithin rule 64 config before.old.items }
+    requires no_kind { EndsIn Symbol.Protocol before.old.items (λ front. Unit {0}) → ⊥ }
+    ensures found { IfOk result (λ found. IsTrue found
+        ↔ IsUnsupported before.old.items word.now) }
+    ensures same { OnOk result (before.new.items ≡ before.old.items) }
 {
     let statement = stands_for(alloc, is_statement_word(word), before, Symbol::Define)?;
     let bgp_option = stands_for(alloc, is_bgp_word(word), before, Symbol::Neighbor)?;
@@ -144,13 +147,19 @@ fn is_unsupported_option(alloc: Global, before: &[Word], word: &[u8]) -> Result<
 }
 
 /// Whether a word that can't stand behind these words is known there and not supported (BIRD User's
-/// Guide, "Protocols").
-pub fn is_unsupported(alloc: Global, before: &[Word], word: &[u8]) -> Result<bool, OutOfMemory>
-    requires { IsBegunWithin rule 64 config before.now }
-    ensures { IfOk result (λ found. IsTrue found ↔ IsUnsupported before.now word.now) }
+/// Guide, "Protocols"). The words are the same again behind it, unless memory ran out.
+pub fn is_unsupported(
+    alloc: Global,
+    before: &mut Vec<Word>,
+    word: &[u8],
+) -> Result<bool, OutOfMemory>
+    requires { IsBegunWithin rule 64 config before.old.items }
+    ensures found { IfOk result (λ found. IsTrue found
+        ↔ IsUnsupported before.old.items word.now) }
+    ensures same { OnOk result (before.new.items ≡ before.old.items) }
 {
-    match before_last(before, Symbol::Protocol) {
-        Some(_) => Ok(true),
-        None => is_unsupported_option(alloc, before, word),
+    if ends_in(before, Symbol::Protocol) {
+        return Ok(true);
     }
+    is_unsupported_option(alloc, before, word)
 }

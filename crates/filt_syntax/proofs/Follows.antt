@@ -1,9 +1,9 @@
 -- Whether a word can stand behind others, by what the parser answers to them all.
-use Rattle.std.proofs.Common.{◌≡◌, ◌↔◌, ℕ, ◌≤◌, Bool, true, IsTrue, List, [], ◌∷◌, ◌++◌, length, drop, Some, refl, sym, ap, subst, ◌∙◌, append_assoc, append-nil, arith, ◌==◌, inl, inr}
-use Rattle.std.proofs.lemmas.List.{length-append, length-drop}
+use Rattle.std.proofs.Common.{◌≡◌, ◌↔◌, ℕ, ◌+◌, ◌≤◌, Bool, true, IsTrue, List, [], ◌∷◌, ◌++◌, length, take, drop, Some, refl, sym, ap, subst, ◌∙◌, append_assoc, append-nil, arith, ◌==◌, inl, inr}
+use Rattle.std.proofs.lemmas.List.{length-append, length-drop, take_at}
 use Rattle.std.proofs.lemmas.Bool.{eqb-true}
 use Rattle.conf_lex.specs.declared.word.Word.{Word}
-use Rattle.conf_lex.specs.Grammar.{TooDeep, ParseTree, yield, DerivesLongest, too_deep}
+use Rattle.conf_lex.specs.Grammar.{ParseTree, yield, DerivesLongest, too_deep}
 use Rattle.conf_lex.specs.Sentences.{IsBegun, IsBegunWithin, IsLast, IsTooDeep}
 use Rattle.conf_lex.proofs.Checks.{check}
 use Rattle.conf_lex.proofs.Exact.{whole}
@@ -100,3 +100,20 @@ module _ (f : Form) (ok : check model after f ≡ true) (ws before : List Word) 
       (λ t. deep_follows 64 f ok before w (drop at ws) begun (subst (λ (u : List Word). IsTooDeep rule 64 f u (drop at ws)) is h.1), λ can. same)
   fault_follow (faults.Unsupported at) begun h b same = absurd h
   fault_follow faults.Memory begun h b same = absurd same
+
+-- the same of all of them
+pub begun_by : (f : Form) (ws before : List Word) (w : Word) → ws ≡ before ++ w ∷ [] → (b : Bool) → IsTrue b ↔ CanFollow f before w → IsTrue b ↔ IsBegun rule f ws
+begun_by f ws before w is b h = subst (λ (u : List Word). IsTrue b ↔ IsBegun rule f u) (sym is) h
+
+-- ---- a word more, and gone again
+
+pub gone_again : (old pushed new : List Word) (w : Word) (n : ℕ) → pushed ≡ old ++ w ∷ [] → n + 1 ≡ length pushed → new ≡ take n pushed → new ≡ old
+gone_again old pushed new w n is len cut =
+    let count : length old ≡ n = omega (arith, len, ap (λ (u : List Word). length u) is, length-append old (w ∷ [])) in
+    cut ∙ ap (λ (u : List Word). take n u) is ∙ take_at old (w ∷ []) n count
+
+-- the words before a word begin a sentence within the levels that they do with it
+pub begun_before : (f : Form) (ws front : List Word) (w : Word) → ws ≡ front ++ w ∷ [] → IsBegunWithin rule 64 f ws → IsBegunWithin rule 64 f front
+begun_before f ws front w is b =
+    let all : yield b.0 ≡ front ++ (w ∷ b.1) = b.3 ∙ ap (λ (u : List Word). u ++ b.1) is ∙ append_assoc front (w ∷ []) b.1 in
+    (b.0, w ∷ b.1, b.2, all, λ deep s. omega (arith, b.4 deep s))

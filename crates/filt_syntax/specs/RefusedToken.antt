@@ -7,7 +7,7 @@
 -- `[10.0.0.0]` at the bracket that closes; `define A = 10.0.0.0/;` at the semicolon; `[10.0.0.1/8]`
 -- at the address.
 use Rattle.std.specs.Prelude.{◌≡◌, ◌⊎◌, ℕ, ◌+◌, Bool, if◌then◌else◌, List, [], ◌∷◌}
-use Rattle.std.specs.Prelude.{◌++◌, take, drop, Some}
+use Rattle.std.specs.Prelude.{◌++◌, take, drop, Some, false}
 use Rattle.bits_ip.specs.declared.address.Addr.{Addr}
 use Rattle.bits_ip.specs.declared.address.Addr.TheVariants.{V4}
 use Rattle.conf_lex.specs.Symbols.{is_slash}
@@ -16,17 +16,23 @@ use Rattle.conf_lex.specs.declared.word.Word.{Word}
 use Rattle.conf_lex.specs.declared.word.Word.TheVariants as words
 use Rattle.conf_lex.specs.Kind.{symbol}
 use Rattle.conf_lex.specs.Grammar.{begins}
-use Rattle.conf_lex.specs.Sentences.{IsBegun}
+use Rattle.conf_lex.specs.Sentences.{IsBegun, IsBegunWithin}
 use Rattle.expr_syntax.specs.Syntax.{rule}
 use Rattle.expr_syntax.specs.Levels.{Form}
 use Rattle.filt_syntax.specs.declared.parse.SyntaxFault.{SyntaxFault}
 use Rattle.filt_syntax.specs.declared.parse.SyntaxFault.TheVariants as faults
+use Rattle.filt_syntax.specs.declared.refused_token.Tear.{Tear}
 use Rattle.filt_syntax.specs.declared.refused_token.Torn.{Torn}
 use Rattle.filt_syntax.specs.declared.refused_token.Torn.TheVariants as torns
 
 -- this word can stand behind these
 abbrev pub CanFollow : Form → List Word → Word → Type 0
 CanFollow f before word = IsBegun rule f (before ++ word ∷ [])
+
+-- the words before the last begin a sentence within 64 levels
+abbrev pub IsNext : Form → List Word → Type 0
+IsNext f words = (before : List Word) × (word : Word) × (words ≡ before ++ word ∷ [])
+    × IsBegunWithin rule 64 f before
 
 -- 0.0.0.0/0 and 0.0.0.0 stand for each prefix and each address: a grammar looks at kinds alone
 abbrev pub some_prefix : Word
@@ -42,6 +48,11 @@ torn_of (words.BadPrefix at) = torns.Prefix
 torn_of (words.Ip at addr) = torns.Address
 torn_of (words.Symbol s) = if is_slash (Some s) then torns.Slash else torns.Other
 torn_of _ = torns.Other
+
+-- the first of some words, as far as it may be torn
+abbrev pub tear_of : List Word → Tear
+tear_of [] = record { torn = torns.Other; slash = false }
+tear_of (w ∷ ws) = record { torn = torn_of w; slash = begins (symbol sym.Slash) ws }
 
 -- the words end in an address, in whose place a prefix can stand
 pub record EndInAddress (f : Form) (before : List Word) : Type 0 where
@@ -83,3 +94,11 @@ IsBadFrom f words place start (faults.Bad at) =
     (n : ℕ) × IsPastAt f words place n × (at ≡ start + n)
 IsBadFrom f words place start faults.Memory = Unit {0}
 IsBadFrom f words place start _ = ⊥
+
+-- The refusal of a word that can't stand behind these and begins with the token `start`, unless
+-- memory ran out.
+abbrev pub IsBadBehind : Form → List Word → Tear → ℕ → SyntaxFault → Type 0
+IsBadBehind f before tear start (faults.Bad at) =
+    (n : ℕ) × IsPast f before tear.torn tear.slash n × (at ≡ start + n)
+IsBadBehind f before tear start faults.Memory = Unit {0}
+IsBadBehind f before tear start _ = ⊥

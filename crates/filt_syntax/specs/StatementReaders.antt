@@ -25,7 +25,7 @@ use Rattle.filt_syntax.specs.StatementView.{stmt_tree, body_after, otherwise_of}
 use Rattle.expr_syntax.specs.Rows.{nth}
 use Rattle.filt_syntax.specs.Inside.{case_arms}
 use Rattle.conf_lex.specs.Reading.{Reader, Parsed, and_then, word, both, all_turns, read}
-use Rattle.expr_syntax.specs.Syntax.{braces, optional, listed, many, expr, block, vtype, method}
+use Rattle.expr_syntax.specs.Syntax.{braces, optional, listed, many, expr, block, method}
 use Rattle.expr_syntax.specs.Syntax.{semicolon, declaration, stmt, unnamed_stmt, done_to_name}
 use Rattle.expr_syntax.specs.Syntax.{arm_part, arms, rule}
 use Rattle.expr_syntax.specs.Levels.{body_level, arms_level}

@@ -6,7 +6,7 @@ ghost use Rattle.filt_syntax.specs.Inside.{IsEndBy};
 
 use crate::block_words::parse_block_words;
 use crate::parse::{SyntaxFault, parse_expr_words};
-use crate::refused_token::{Sentences, followed_by};
+use crate::refused_token::Sentences;
 use bits_ip::OutOfMemory;
 use conf_lex::Word;
 use std::alloc::Global;
@@ -28,9 +28,8 @@ pub struct Expressions;
 impl Sentences for Expressions {
     ghost form = { expr };
 
-    fn can_follow(alloc: Global, before: &[Word], word: Word) -> Result<bool, OutOfMemory> {
-        let words = followed_by(alloc, before, word)?;
-        match parse_expr_words(alloc, &words, 0) {
+    fn is_begun(alloc: Global, words: &[Word]) -> Result<bool, OutOfMemory> {
+        match parse_expr_words(alloc, words, 0) {
             Ok((_, end)) => Ok(end == words.len()),
             Err(fault) => ends_by(fault, words.len()),
         }
@@ -42,9 +41,8 @@ pub struct Blocks;
 impl Sentences for Blocks {
     ghost form = { block };
 
-    fn can_follow(alloc: Global, before: &[Word], word: Word) -> Result<bool, OutOfMemory> {
-        let words = followed_by(alloc, before, word)?;
-        match parse_block_words(alloc, &words, 0) {
+    fn is_begun(alloc: Global, words: &[Word]) -> Result<bool, OutOfMemory> {
+        match parse_block_words(alloc, words, 0) {
             Ok((_, end)) => Ok(end == words.len()),
             Err(fault) => ends_by(fault, words.len()),
         }

@@ -1,22 +1,19 @@
 // At which of its tokens a refused word is refused.
 
 ghost use Rattle.std.specs.Prelude.{◌≡◌, ◌↔◌, ◌≤◌, ◌+◌, ◌∷◌, [], ◌++◌, cond, ◌<◌, ◌^◌};
-ghost use Rattle.std.specs.Prelude.{List, ℕ, if◌then◌else◌, length, take, IsTrue, IfOk};
-ghost use Rattle.std.specs.Prelude.{MatchOption};
-ghost use Rattle.bits_ip.specs.declared.address.Addr.{Addr};
+ghost use Rattle.std.specs.Prelude.{if◌then◌else◌, length, take, IsTrue, IfOk};
 ghost use Rattle.conf_lex.specs.declared.symbol.Symbol.TheVariants as sym;
-ghost use Rattle.conf_lex.specs.declared.word.Word.{Word};
 ghost use Rattle.conf_lex.specs.Kind.{symbol};
 ghost use Rattle.conf_lex.specs.Grammar.{begins};
-ghost use Rattle.conf_lex.specs.Sentences.{IsBegunWithin};
+ghost use Rattle.conf_lex.specs.Sentences.{IsBegun, IsBegunWithin};
 ghost use Rattle.expr_syntax.specs.Syntax.{rule};
 ghost use Rattle.expr_syntax.specs.Levels.{Form};
 ghost use Rattle.filt_syntax.specs.RefusedToken.{CanFollow, some_prefix, some_address, torn_of};
 ghost use Rattle.filt_syntax.specs.RefusedToken.{EndInAddress, IsPast};
 ghost use Rattle.filt_syntax.specs.Inside.{is_address_word};
-ghost use Rattle.filt_syntax.specs.RefusedToken.{IsPastFirst, IsBadFrom};
+ghost use Rattle.filt_syntax.specs.RefusedToken.{IsNext, IsBadBehind, IsBadFrom, tear_of};
 
-use crate::parse::SyntaxFault;
+use crate::parse::{SyntaxFault, tail};
 use bits_ip::{Addr, OutOfMemory, Prefix};
 use conf_ast::PackedAddr;
 use conf_lex::parsing::is_symbol;
@@ -28,10 +25,11 @@ pub trait Sentences {
     /// The form.
     ghost form: { Form };
 
-    /// Whether this word can stand behind these: the parser takes it, or wants more behind it.
-    fn can_follow(alloc: Global, before: &[Word], word: Word) -> Result<bool, OutOfMemory>
-        requires { IsBegunWithin rule 64 form before.now }
-        ensures { IfOk result (λ can. IsTrue can ↔ CanFollow form before.now word) };
+    /// Whether some sentence begins with these words, as one does with those before the last: the
+    /// parser takes them all, or wants more behind them.
+    fn is_begun(alloc: Global, words: &[Word]) -> Result<bool, OutOfMemory>
+        requires { IsNext form words.now }
+        ensures { IfOk result (λ begun. IsTrue begun ↔ IsBegun rule form words.now) };
 }
 
 /// What a refused word is, as far as it matters to where it is refused.
@@ -44,13 +42,27 @@ pub enum Torn {
     Other,
 }
 
-/// The words and this one behind them.
-pub fn followed_by(alloc: Global, before: &[Word], word: Word) -> Result<Vec<Word>, OutOfMemory>
-    ensures { IfOk result (λ words. words.items ≡ before.now ++ word ∷ []) }
+/// What a refused word is, and whether a slash comes next.
+#[derive(Clone, Copy, Debug, PartialEq, Eq)]
+pub struct Tear {
+    pub torn: Torn,
+    pub slash: bool,
+}
+
+/// Whether this word can stand behind these, which are the same again behind it.
+pub fn can_follow<S: Sentences>(
+    alloc: Global,
+    before: &mut Vec<Word>,
+    word: Word,
+) -> Result<bool, OutOfMemory>
+    requires { IsBegunWithin rule 64 S.form before.old.items }
+    ensures can { IfOk result (λ can. IsTrue can ↔ CanFollow S.form before.old.items word) }
+    ensures same { before.new.items ≡ before.old.items }
 {
-    let mut words = Vec::from_slice(alloc, before)?;
-    words.push(word)?;
-    Ok(words)
+    before.push(word)?;
+    let begun = S::is_begun(alloc, before);
+    before.pop();
+    begun
 }
 
 fn torn_of(word: &Word) -> Torn
@@ -95,17 +107,20 @@ fn some_address() -> Word
 // Whether the one word can stand behind these, and the other can't.
 fn one_alone<S: Sentences>(
     alloc: Global,
-    before: &[Word],
+    before: &mut Vec<Word>,
     one: Word,
     other: Word,
 ) -> Result<bool, OutOfMemory>
-    requires { IsBegunWithin rule 64 S.form before.now }
+    requires { IsBegunWithin rule 64 S.form before.old.items }
     ensures { IfOk result (λ found. IsTrue found
-        ↔ (CanFollow S.form before.now one × (CanFollow S.form before.now other → ⊥))) }
+        ↔ (CanFollow S.form before.old.items one × (CanFollow S.form before.old.items other → ⊥))) }
 {
-    let can = S::can_follow(alloc, before, one)?;
-    let other_can = S::can_follow(alloc, before, other)?;
-    Ok(can & !other_can)
+    let can = can_follow::<S>(alloc, before, one)?;
+    if !can {
+        return Ok(false);
+    }
+    let other_can = can_follow::<S>(alloc, before, other)?;
+    Ok(!other_can)
 }
 
 fn is_address_word(word: &Word) -> bool
@@ -114,27 +129,31 @@ fn is_address_word(word: &Word) -> bool
     matches!(word, Word::Ip { .. })
 }
 
-// The words before the last, where that is an address.
-fn before_address(words: &[Word]) -> Option<&[Word]>
-    ensures { MatchOption result
-        ((front : List Word) (at : ℕ) (addr : Addr) → words.now ≡ front ++ Word.Ip at addr ∷ [] → ⊥)
-        (λ front. (at : ℕ) × (addr : Addr) × (words.now ≡ front.now ++ Word.Ip at addr ∷ [])) }
+// Whether these words end in an address, in whose place a prefix can stand.
+fn ends_in_address<S: Sentences>(alloc: Global, before: &mut Vec<Word>) -> Result<bool, OutOfMemory>
+    requires { IsBegunWithin rule 64 S.form before.old.items }
+    ensures { IfOk result (λ found. IsTrue found ↔ EndInAddress S.form before.old.items) }
 {
-    match words.split_last() {
-        Some((last, front)) => is_address_word(last).then_some(front),
-        None => None,
+    match before.pop() {
+        Some(last) => is_prefix_place::<S>(alloc, before, last),
+        None => Ok(false),
     }
 }
 
-// Whether these words end in an address, in whose place a prefix can stand.
-fn ends_in_address<S: Sentences>(alloc: Global, before: &[Word]) -> Result<bool, OutOfMemory>
-    requires { IsBegunWithin rule 64 S.form before.now }
-    ensures { IfOk result (λ found. IsTrue found ↔ EndInAddress S.form before.now) }
+// Whether this word, which stood behind these, is an address in whose place a prefix can stand.
+fn is_prefix_place<S: Sentences>(
+    alloc: Global,
+    before: &mut Vec<Word>,
+    last: Word,
+) -> Result<bool, OutOfMemory>
+    requires { IsBegunWithin rule 64 S.form before.old.items }
+    ensures { IfOk result (λ found. IsTrue found
+        ↔ EndInAddress S.form (before.old.items ++ last ∷ [])) }
 {
-    match before_address(before) {
-        Some(front) => S::can_follow(alloc, front, some_prefix()),
-        None => Ok(false),
+    if is_address_word(&last) {
+        return can_follow::<S>(alloc, before, some_prefix());
     }
+    Ok(false)
 }
 
 fn count(found: bool, tokens: usize) -> usize
@@ -152,12 +171,12 @@ fn torn_tokens(slash: bool) -> usize
 // How many tokens behind its first one a refused word is refused.
 fn past<S: Sentences>(
     alloc: Global,
-    before: &[Word],
+    before: &mut Vec<Word>,
     torn: Torn,
     slash: bool,
 ) -> Result<usize, OutOfMemory>
-    requires { IsBegunWithin rule 64 S.form before.now }
-    ensures past { IfOk result (λ past. IsPast S.form before.now torn slash past) }
+    requires { IsBegunWithin rule 64 S.form before.old.items }
+    ensures past { IfOk result (λ past. IsPast S.form before.old.items torn slash past) }
     ensures few { IfOk result (λ past. past ≤ 2) }
 {
     let prefix = some_prefix();
@@ -182,21 +201,37 @@ fn begins_with_slash(words: &[Word]) -> bool
     }
 }
 
-// The same for the first of these words, behind the others.
-fn past_first<S: Sentences>(
-    alloc: Global,
-    before: &[Word],
-    rest: &[Word],
-) -> Result<usize, OutOfMemory>
-    requires { IsBegunWithin rule 64 S.form before.now }
-    ensures past { IfOk result (λ past. IsPastFirst S.form before.now rest.now past) }
-    ensures few { IfOk result (λ past. past ≤ 2) }
+/// What the first of these words is, where it is refused; where there is none, nothing is torn.
+pub fn tear_of(words: &[Word]) -> Tear
+    ensures { result ≡ tear_of words.now }
 {
-    match rest.split_first() {
-        Some((word, behind)) => {
-            past::<S>(alloc, before, torn_of(word), begins_with_slash(behind))
-        }
-        None => Ok(0),
+    match words.split_first() {
+        Some((word, behind)) => Tear {
+            torn: torn_of(word),
+            slash: begins_with_slash(behind),
+        },
+        None => Tear {
+            torn: Torn::Other,
+            slash: false,
+        },
+    }
+}
+
+/// The refusal of a word that can't stand behind these and begins with this token. The words before
+/// it may be less behind the call.
+pub fn bad_behind<S: Sentences>(
+    alloc: Global,
+    before: &mut Vec<Word>,
+    tear: Tear,
+    start: usize,
+) -> SyntaxFault
+    requires begun { IsBegunWithin rule 64 S.form before.old.items }
+    requires start { start + 2 < 2 ^ 64 }
+    ensures { IsBadBehind S.form before.old.items tear start result }
+{
+    match past::<S>(alloc, before, tear.torn, tear.slash) {
+        Ok(past) => SyntaxFault::Bad { at: start + past },
+        Err(OutOfMemory) => SyntaxFault::Memory,
     }
 }
 
@@ -212,8 +247,11 @@ pub fn bad_from<S: Sentences>(
     requires start { start + 2 < 2 ^ 64 }
     ensures { IsBadFrom S.form words.now place start result }
 {
-    match past_first::<S>(alloc, &words[..place], &words[place..]) {
-        Ok(past) => SyntaxFault::Bad { at: start + past },
-        Err(OutOfMemory) => SyntaxFault::Memory,
+    match Vec::from_slice(alloc, &words[..place]) {
+        Ok(mut before) => {
+            let tear = tear_of(tail(words, place));
+            bad_behind::<S>(alloc, &mut before, tear, start)
+        }
+        Err(_) => SyntaxFault::Memory,
     }
 }

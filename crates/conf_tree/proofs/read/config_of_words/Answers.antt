@@ -1,12 +1,17 @@
-use Rattle.std.proofs.Common.{refl}
-use Rattle.conf_tree.proofs.Refusals.{answer_stop, answer_deep, answer_tree}
+use Rattle.std.proofs.Common.{List, subst, ◌∙◌}
+use Rattle.conf_lex.specs.declared.word.Word.{Word}
+use Rattle.conf_tree.specs.Sentence.{IsSentence}
+use Rattle.conf_tree.specs.View.{statements_tree}
+use Rattle.conf_tree.proofs.Refusals.{stop_at, deep_at}
 use Rattle.conf_tree.proofs.read.config_of_words.Goals as goal
 
+pub returns-in-Ok-clause-tree : goal.returns-in-Ok-clause-tree
+returns-in-Ok-clause-tree c =
+    let words = c.requires.words in
+    (words.0, words.1, subst (λ (u : List Word). IsSentence u (statements_tree c.in-Ok.statements.items)) (c.deref.ensures.value ∙ words.2) c.in-Ok.ensures.tree)
+
 pub stopped-requires-clause-stops : goal.stopped-requires-clause-stops
-stopped-requires-clause-stops c = answer_stop c.args.words.now c.args.words.now c.in-Err-Bad.field-0 c.in-Err-Bad.rest refl c.in-Err-Bad.field-0-is c.in-Err-Bad.ensures
+stopped-requires-clause-stops c = stop_at c.deref.result.now c.args.walked.now.words.items c.in-Err-Bad.field-0 c.in-Err-Bad.at _ c.in-Err-Bad.field-0-is c.in-Err-Bad.at-is c.deref.ensures.value c.in-Err-Bad.ensures.fault
 
 pub deepened-requires-clause-deep : goal.deepened-requires-clause-deep
-deepened-requires-clause-deep c = answer_deep c.args.words.now c.args.words.now c.in-Err-TooDeep.field-0 c.in-Err-TooDeep.rest refl c.in-Err-TooDeep.field-0-is c.in-Err-TooDeep.ensures
-
-pub returns-in-Ok-clause-tree : goal.returns-in-Ok-clause-tree
-returns-in-Ok-clause-tree c = (c.requires.0, c.requires.1, answer_tree c.args.words.now c.args.words.now _ _ _ refl c.requires.2 c.in-Ok.ensures)
+deepened-requires-clause-deep c = deep_at c.deref.result.now c.args.walked.now.words.items c.in-Err-TooDeep.field-0 c.in-Err-TooDeep.at _ c.in-Err-TooDeep.field-0-is c.in-Err-TooDeep.at-is c.deref.ensures.value c.in-Err-TooDeep.ensures.fault

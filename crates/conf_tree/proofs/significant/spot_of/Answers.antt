@@ -1,12 +1,12 @@
 use Rattle.std.proofs.Common.{sym, ◌∙◌}
-use Rattle.conf_tree.proofs.SpotSteps.{sought_none, more_ahead, sought_more, sought_here, sought_end}
+use Rattle.conf_tree.proofs.SpotSteps.{more_ahead, sought_more, sought_here, sought_end}
 use Rattle.conf_tree.proofs.significant.spot_of.Goals as goal
 
 pub loop-word-init : goal.loop-word-init
-loop-word-init c = sought_none c.args.text.now c.args.place
+loop-word-init c = c.requires.mark.passed c.args.place c.requires.before
 
 pub word_ahead-requires-clause-lexed : goal.word_ahead-requires-clause-lexed
-word_ahead-requires-clause-lexed c = more_ahead c.args.text.now c.args.place c.loop-word.left c.loop-word.region c.loop-word.spot c.loop-word.invariant c.requires
+word_ahead-requires-clause-lexed c = more_ahead c.args.text.now c.args.place c.loop-word.left c.loop-word.region c.loop-word.spot c.loop-word.invariant c.requires.lexed
 
 pub loop-word-preserved : goal.loop-word-preserved
 loop-word-preserved c =

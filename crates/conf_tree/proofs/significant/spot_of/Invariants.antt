@@ -1,5 +1,5 @@
 use Rattle.std.proofs.Common.{◌-◌, length}
-use Rattle.conf_tree.proofs.SpotSteps.{IsSought}
+use Rattle.conf_tree.specs.Marks.{IsSought}
 use Rattle.conf_tree.proofs.significant.spot_of.Given as goal
 
 abbrev pub invariant-loop-word : goal.invariant-loop-word

@@ -1,9 +1,13 @@
 use Rattle.std.proofs.Common.{◌-◌, length}
+use Rattle.conf_tree.specs.Marks.{AreMarks, IsMark}
 use Rattle.conf_tree.proofs.SignificantWalks.{IsWalked}
 use Rattle.conf_tree.proofs.significant.walked_words.Given as goal
 
-abbrev pub invariant-loop-found : goal.invariant-loop-found
-invariant-loop-found l = IsWalked l.text l.found.items l.region l.spot
+abbrev pub invariant-loop-marks : goal.invariant-loop-marks
+invariant-loop-marks l =
+    IsWalked l.text l.found.items l.region l.spot
+    × IsMark l.text (record { count = length l.found.items; region = l.region; spot = l.spot })
+    × AreMarks l.text l.marks.items
 
-abbrev pub decreases-loop-found : goal.decreases-loop-found
-decreases-loop-found l = length l.text - l.spot.at
+abbrev pub decreases-loop-marks : goal.decreases-loop-marks
+decreases-loop-marks l = length l.text - l.spot.at
