@@ -4,7 +4,7 @@ ghost use Rattle.conf_scan.specs.Lex.{Lexes};
 ghost use Rattle.conf_scan.specs.declared.token.Token.{Token};
 ghost use Rattle.conf_lex.specs.declared.word.Word.{Word};
 ghost use Rattle.conf_lex.specs.Sentences.{IsBegunWithin};
-ghost use Rattle.filt_syntax.specs.Parse.{IsRefused};
+ghost use Rattle.filt_syntax.specs.Parse.{IsSyntaxFault};
 ghost use Rattle.expr_syntax.specs.Syntax.{block, expr, rule};
 ghost use Rattle.conf_tree.specs.Read.{IsRefusedText};
 ghost use Rattle.conf_tree.specs.Significant.{significant_words};
@@ -26,10 +26,10 @@ pub fn words_before_a_refused_one_begin_a_sentence()
         → StopsAt text tokens place at
         → IsBegunWithin rule 64 config (take place (significant_words text tokens)) }
     ensures block { (words : List Word) (at : ℕ)
-        → IsRefused block words 0 (SyntaxFault.Bad at)
+        → IsSyntaxFault block words 0 (SyntaxFault.Bad at)
         → IsBegunWithin rule 64 block (take at words) }
     ensures expression { (words : List Word) (at : ℕ)
-        → IsRefused expr words 0 (SyntaxFault.Bad at)
+        → IsSyntaxFault expr words 0 (SyntaxFault.Bad at)
         → IsBegunWithin rule 64 expr (take at words) }
 {}
 

@@ -2,7 +2,7 @@
 use Rattle.std.proofs.Common.{◌≡◌, ℕ, ◌+◌, ◌≤◌, cond, List, [], ◌∷◌, ◌++◌, length, drop, map, Option, Some, refl, sym, subst, ◌∙◌, ap, arith, append_assoc, append-nil}
 use Rattle.std.specs.Prelude.{MatchOption}
 use Rattle.std.proofs.lemmas.List.{length-append}
-use Rattle.conf_scan.specs.Lex.{Lexes, Stops, IsRefused}
+use Rattle.conf_scan.specs.Lex.{Lexes, Stops, IsLexFault}
 use Rattle.conf_lex.specs.Walks.{IsWordStep}
 use Rattle.conf_scan.specs.Spots.{IsSpot, IsStuckFrom, LexesFrom}
 use Rattle.conf_lex.specs.Words.{words_from}
@@ -58,13 +58,13 @@ pub walk_ends : (text : List ℕ) (found : List Word) (region : Region) (to : Sp
 walk_ends text found region to walked none =
     (walked.front, rw append-nil at (walked.lexes [] none), sym (ap (λ (ts : List Token). significant_words text ts) (sym (append-nil walked.front)) ∙ walked.words [] none ∙ append-nil found))
 
-pub walk_stuck : (text : List ℕ) (found : List Word) (region : Region) (to : Spot) (fault : LexFault) → IsWalked text found region to → IsStuckFrom text to fault → IsRefused text fault
+pub walk_stuck : (text : List ℕ) (found : List Word) (region : Region) (to : Spot) (fault : LexFault) → IsWalked text found region to → IsStuckFrom text to fault → IsLexFault text fault
 walk_stuck text found region to (faults.Bad place) walked stuck = (walked.front, rw append-nil at (walked.stops [] place stuck))
 walk_stuck text found region to faults.Memory walked stuck = tt
 
 -- want of memory says nothing of a text
-pub no_memory : (text : List ℕ) (fault : LexFault) → fault ≡ faults.Memory → IsRefused text fault
-no_memory text fault is = subst (λ (f : LexFault). IsRefused text f) (sym is) tt
+pub no_memory : (text : List ℕ) (fault : LexFault) → fault ≡ faults.Memory → IsLexFault text fault
+no_memory text fault is = subst (λ (f : LexFault). IsLexFault text f) (sym is) tt
 
 -- the word that stands next
 pub walked_on : (text : List ℕ) (from to : Spot) (word : Word) (found : Option (Word × Spot)) → found ≡ Some (word, to) → MatchOption found (LexesFrom text from []) (λ next. IsWordStep text from next.0 next.1) → IsWordStep text from word to

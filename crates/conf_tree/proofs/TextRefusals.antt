@@ -1,6 +1,6 @@
 -- What is told of a text that is refused.
 use Rattle.std.proofs.Common.{◌≡◌, ℕ, ◌+◌, ◌<◌, ◌≤◌, List, length, take, drop, IsSomeAnd, arith, refl, sym, ap, subst, ◌∙◌}
-use Rattle.conf_scan.specs.Lex.{Lexes, Stops, IsRefused as IsStuckAt}
+use Rattle.conf_scan.specs.Lex.{Lexes, Stops, IsLexFault as IsStuckAt}
 use Rattle.conf_scan.specs.declared.token.Token.{Token}
 use Rattle.conf_scan.specs.declared.token.LexFault.{LexFault}
 use Rattle.conf_scan.specs.declared.token.LexFault.TheVariants as lex_faults

@@ -3,7 +3,7 @@
 ghost use Rattle.std.specs.Prelude.{◌≡◌, ◌≤◌, ℕ, ◌+◌, ◌<◌, ◌^◌, List, ◌++◌, ◌∷◌, [], cond};
 ghost use Rattle.std.specs.Prelude.{true, drop};
 ghost use Rattle.std.specs.Prelude.{IfOk, IfErr, OnOk, MatchOption};
-ghost use Rattle.conf_scan.specs.Lex.{Lexes, IsRefused};
+ghost use Rattle.conf_scan.specs.Lex.{Lexes, IsLexFault};
 ghost use Rattle.conf_scan.specs.Spots.{IsSpot, LexesFrom};
 ghost use Rattle.conf_scan.specs.declared.token.LexFault.TheVariants.{Memory};
 ghost use Rattle.conf_scan.specs.declared.token.Token.{Token};
@@ -169,7 +169,7 @@ fn note(marks: &mut Vec<Mark>, mark: Mark)
 pub fn walked_words(alloc: Global, text: &[u8]) -> Result<Walked, LexFault>
     ensures words { IfOk result (λ walked. AreWordsOf text.now walked.words.items) }
     ensures marks { IfOk result (λ walked. AreMarks text.now walked.marks.items) }
-    ensures bad { IfErr result (IsRefused text.now) }
+    ensures bad { IfErr result (IsLexFault text.now) }
 {
     let mut found = Vec::new(alloc);
     let mut marks = Vec::new(alloc);

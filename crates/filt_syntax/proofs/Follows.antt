@@ -12,7 +12,7 @@ use Rattle.expr_syntax.specs.Syntax.{rule}
 use Rattle.expr_syntax.specs.Levels.{Form}
 use Rattle.filt_syntax.specs.declared.parse.SyntaxFault.{SyntaxFault}
 use Rattle.filt_syntax.specs.declared.parse.SyntaxFault.TheVariants as faults
-use Rattle.filt_syntax.specs.Parse.{ParsesAt, IsRefused}
+use Rattle.filt_syntax.specs.Parse.{ParsesAt, IsSyntaxFault}
 use Rattle.filt_syntax.specs.RefusedToken.{CanFollow}
 use Rattle.filt_syntax.specs.Inside.{IsEndBy}
 use Rattle.expr_syntax.proofs.Tested.{model, after, checked}
@@ -91,7 +91,7 @@ module _ (f : Form) (ok : check model after f ≡ true) (ws before : List Word) 
   begun_is : (front rest : List Word) → ws ≡ front ++ rest → rest ≡ [] → IsBegun rule f front → IsBegun rule f ws
   begun_is front rest e none b = subst (λ (u : List Word). IsBegun rule f u) (sym (e ∙ ap (λ (u : List Word). front ++ u) none ∙ append-nil front)) b
 
-  pub fault_follow : (e : SyntaxFault) → IsBegunWithin rule 64 f before → IsRefused f ws 0 e → (b : Bool) → IsEndBy e (length ws) b → IsTrue b ↔ CanFollow f before w
+  pub fault_follow : (e : SyntaxFault) → IsBegunWithin rule 64 f before → IsSyntaxFault f ws 0 e → (b : Bool) → IsEndBy e (length ws) b → IsTrue b ↔ CanFollow f before w
   fault_follow (faults.Bad at) begun h b same =
       by_rest at h.1.before (drop at ws) h.0 refl h.1.front
       (λ none. begun_is h.1.before (drop at ws) h.1.front none (h.1.begun.0, h.1.begun.1, h.1.begun.2, h.1.begun.3))

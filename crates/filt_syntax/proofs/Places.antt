@@ -15,7 +15,7 @@ use Rattle.conf_lex.specs.declared.refusal.Refusal.TheVariants as refusals
 use Rattle.conf_lex.specs.Agrees.{AgreesOnError}
 use Rattle.expr_syntax.specs.Syntax.{rule}
 use Rattle.expr_syntax.specs.Levels.{Form}
-use Rattle.filt_syntax.specs.Parse.{ParsesAt, IsRefused, IsFault}
+use Rattle.filt_syntax.specs.Parse.{ParsesAt, IsSyntaxFault, IsFault}
 use Rattle.filt_syntax.specs.Inside.{refused_words, fault_of}
 use Rattle.expr_syntax.proofs.Tested.{is_checked, model, after, checked}
 
@@ -45,13 +45,13 @@ module _ (f : Form) (ok : is_checked f) (reader : Reader) (same_reader : (ws : L
       let place = ends words (yield t) rest from n in_range h.front len in
       (omega arith, rw place h)
 
-  bad_refused : (rest : List Word) (n : ℕ) → n + length rest ≡ length words → reader (drop from words) ≡ Failed Bad rest → IsRefused f words from (faults.Bad n)
+  bad_refused : (rest : List Word) (n : ℕ) → n + length rest ≡ length words → reader (drop from words) ≡ Failed Bad rest → IsSyntaxFault f words from (faults.Bad n)
   bad_refused rest n len e =
       let h = fault_is_bad rule model after checked 64 f ok (drop from words) rest (same_reader (drop from words) ∙ e) in
       let place = ends words h.before rest from n in_range h.front len in
       (omega arith, subst (λ (u : List Word). IsBad rule 64 f (drop from words) u) (sym place) h)
 
-  deep_refused : (rest : List Word) (n : ℕ) → n + length rest ≡ length words → reader (drop from words) ≡ Failed TooDeep rest → IsRefused f words from (faults.TooDeep n)
+  deep_refused : (rest : List Word) (n : ℕ) → n + length rest ≡ length words → reader (drop from words) ≡ Failed TooDeep rest → IsSyntaxFault f words from (faults.TooDeep n)
   deep_refused rest n len e =
       let h = fault_is_too_deep rule model after checked 64 f ok (drop from words) rest (same_reader (drop from words) ∙ e) in
       let place = ends words h.before rest from n in_range h.front len in
@@ -76,13 +76,13 @@ module _ (f : Form) (ok : is_checked f) (reader : Reader) (same_reader : (ws : L
   same_end n end rest len within is = omega (arith, ap (λ (u : List Word). length u) is, length-drop end words)
 
   -- what was read is not refused
-  pub got_exact : (X : Type 0) (found : X × ℕ) (t : ParseTree) (rest : List Word) → reader (drop from words) ≡ Parsed t rest → (e : SyntaxFault) → IsRefused f words from e → IsFault {X = X} (Ok found) e
+  pub got_exact : (X : Type 0) (found : X × ℕ) (t : ParseTree) (rest : List Word) → reader (drop from words) ≡ Parsed t rest → (e : SyntaxFault) → IsSyntaxFault f words from e → IsFault {X = X} (Ok found) e
   got_exact X found t rest got (faults.Bad at) h = let bad = sym got ∙ sym (same_reader (drop from words)) ∙ bad_is_fault rule model after checked 64 f ok (drop from words) (drop at words) h.1 in cc
   got_exact X found t rest got (faults.TooDeep at) h = let deep = sym got ∙ sym (same_reader (drop from words)) ∙ too_deep_is_fault rule model after checked 64 f ok (drop from words) (drop at words) h.1 in cc
   got_exact X found t rest got (faults.Unsupported at) h = absurd h
   got_exact X found t rest got faults.Memory h = tt
 
-  bad_exact : (X : Type 0) (rest : List Word) (n : ℕ) → n + length rest ≡ length words → reader (drop from words) ≡ Failed Bad rest → (e : SyntaxFault) → IsRefused f words from e → IsFault {X = X} (Err (faults.Bad n)) e
+  bad_exact : (X : Type 0) (rest : List Word) (n : ℕ) → n + length rest ≡ length words → reader (drop from words) ≡ Failed Bad rest → (e : SyntaxFault) → IsSyntaxFault f words from e → IsFault {X = X} (Err (faults.Bad n)) e
   bad_exact X rest n len failed (faults.Bad at) h =
       let same = sym failed ∙ sym (same_reader (drop from words)) ∙ bad_is_fault rule model after checked 64 f ok (drop from words) (drop at words) h.1 in
       let rest-is : rest ≡ drop at words = cc in
@@ -91,7 +91,7 @@ module _ (f : Form) (ok : is_checked f) (reader : Reader) (same_reader : (ws : L
   bad_exact X rest n len failed (faults.Unsupported at) h = absurd h
   bad_exact X rest n len failed faults.Memory h = tt
 
-  deep_exact : (X : Type 0) (rest : List Word) (n : ℕ) → n + length rest ≡ length words → reader (drop from words) ≡ Failed TooDeep rest → (e : SyntaxFault) → IsRefused f words from e → IsFault {X = X} (Err (faults.TooDeep n)) e
+  deep_exact : (X : Type 0) (rest : List Word) (n : ℕ) → n + length rest ≡ length words → reader (drop from words) ≡ Failed TooDeep rest → (e : SyntaxFault) → IsSyntaxFault f words from e → IsFault {X = X} (Err (faults.TooDeep n)) e
   deep_exact X rest n len failed (faults.Bad at) h = let same = sym failed ∙ sym (same_reader (drop from words)) ∙ bad_is_fault rule model after checked 64 f ok (drop from words) (drop at words) h.1 in absurd cc
   deep_exact X rest n len failed (faults.TooDeep at) h =
       let same = sym failed ∙ sym (same_reader (drop from words)) ∙ too_deep_is_fault rule model after checked 64 f ok (drop from words) (drop at words) h.1 in
@@ -107,7 +107,7 @@ module _ (f : Form) (ok : is_checked f) (reader : Reader) (same_reader : (ws : L
   fault_fewer (refusals.Bad at) h = bad_fewer at.now h
   fault_fewer (refusals.TooDeep at) h = deep_fewer at.now h
 
-  pub fault_refused : (r : Refusal) → AgreesOnError r (reader (drop from words)) → IsRefused f words from (fault_of (length words) r)
+  pub fault_refused : (r : Refusal) → AgreesOnError r (reader (drop from words)) → IsSyntaxFault f words from (fault_of (length words) r)
   fault_refused refusals.Memory h = tt
   fault_refused (refusals.Bad at) h = bad_refused at.now (length words - length at.now) (omega (arith, bad_fewer at.now h)) h
   fault_refused (refusals.TooDeep at) h = deep_refused at.now (length words - length at.now) (omega (arith, deep_fewer at.now h)) h
@@ -123,7 +123,7 @@ module _ (f : Form) (ok : is_checked f) (reader : Reader) (same_reader : (ws : L
   no_memory X (faults.Unsupported at) = inl refl
   no_memory X faults.Memory = tt
 
-  pub fault_exact : (X : Type 0) (r : Refusal) → AgreesOnError r (reader (drop from words)) → (e : SyntaxFault) → IsRefused f words from e → IsFault {X = X} (Err (fault_of (length words) r)) e
+  pub fault_exact : (X : Type 0) (r : Refusal) → AgreesOnError r (reader (drop from words)) → (e : SyntaxFault) → IsSyntaxFault f words from e → IsFault {X = X} (Err (fault_of (length words) r)) e
   fault_exact X refusals.Memory h e refused = no_memory X e
   fault_exact X (refusals.Bad at) h e refused = bad_exact X at.now (length words - length at.now) (omega (arith, bad_fewer at.now h)) h e refused
   fault_exact X (refusals.TooDeep at) h e refused = deep_exact X at.now (length words - length at.now) (omega (arith, deep_fewer at.now h)) h e refused

@@ -1,5 +1,5 @@
 -- What stands at a place of the words, within 64 levels (`ParsesAt`), or which word can't stand
--- there (`IsRefused`).
+-- there (`IsSyntaxFault`).
 -- Not modelled: tokens (`Tokens`), and when memory runs out.
 -- From: BIRD User's Guide, "Filters", for the forms, which are those of `Syntax`; the bound and the
 -- place of a refusal are own.
@@ -18,13 +18,13 @@ abbrev pub ParsesAt : Form → List Word → ℕ → ParseTree → ℕ → Type 
 ParsesAt f words from t end =
     (end ≤ length words) × IsRead rule 64 f (drop from words) t (drop end words)
 
-abbrev pub IsRefused : Form → List Word → ℕ → SyntaxFault → Type 0
-IsRefused f words from (faults.Bad at) =
+abbrev pub IsSyntaxFault : Form → List Word → ℕ → SyntaxFault → Type 0
+IsSyntaxFault f words from (faults.Bad at) =
     (at ≤ length words) × IsBad rule 64 f (drop from words) (drop at words)
-IsRefused f words from (faults.TooDeep at) =
+IsSyntaxFault f words from (faults.TooDeep at) =
     (at ≤ length words) × IsTooDeep rule 64 f (drop from words) (drop at words)
-IsRefused f words from (faults.Unsupported at) = ⊥
-IsRefused f words from faults.Memory = Unit {0}
+IsSyntaxFault f words from (faults.Unsupported at) = ⊥
+IsSyntaxFault f words from faults.Memory = Unit {0}
 
 -- the answer is this tree and this place, unless memory ran out
 abbrev pub IsAnswer : {X : Type 0} → (X → ParseTree) → Result (X × ℕ) SyntaxFault → ParseTree → ℕ

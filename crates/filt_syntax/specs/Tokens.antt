@@ -11,7 +11,7 @@ use Rattle.conf_lex.specs.Grammar.{ParseTree}
 use Rattle.expr_syntax.specs.Levels.{Form}
 use Rattle.filt_syntax.specs.declared.parse.SyntaxFault.{SyntaxFault}
 use Rattle.filt_syntax.specs.declared.parse.SyntaxFault.TheVariants as faults
-use Rattle.filt_syntax.specs.Parse.{ParsesAt, IsRefused}
+use Rattle.filt_syntax.specs.Parse.{ParsesAt, IsSyntaxFault}
 use Rattle.filt_syntax.specs.RefusedToken.{IsPastAt}
 
 -- the words of a text from a token on
@@ -59,7 +59,7 @@ IsPastOf f words _ n = n ≡ 0
 pub record IsRefusedIn (f : Form) (text : List ℕ) (tokens : List Token) (from : ℕ)
     (e : SyntaxFault) : Type 0 where
   pub word_fault : SyntaxFault
-  pub refused : IsRefused f (words_behind text tokens from) 0 word_fault
+  pub refused : IsSyntaxFault f (words_behind text tokens from) 0 word_fault
   pub past : ℕ
   pub is_past : IsPastOf f (words_behind text tokens from) word_fault past
   pub is : e ≡ moved (token_place text tokens from (place_of word_fault) + past) word_fault

@@ -5,7 +5,7 @@ ghost use Rattle.conf_lex.specs.Grammar.{ParseTree};
 ghost use Rattle.filt_syntax.specs.declared.parse.SyntaxFault.{SyntaxFault};
 ghost use Rattle.expr_syntax.specs.Syntax.{block};
 ghost use Rattle.filt_syntax.specs.StatementView.{block_view};
-ghost use Rattle.filt_syntax.specs.Parse.{ParsesAt, IsRefused, IsAnswer, IsFault};
+ghost use Rattle.filt_syntax.specs.Parse.{ParsesAt, IsSyntaxFault, IsAnswer, IsFault};
 
 use crate::parse::{LEVELS, SyntaxFault, placed, tail};
 use crate::statement::whole_block;
@@ -24,10 +24,10 @@ pub fn parse_block_words(
     requires { from ≤ length words.now }
     ensures tree { IfOk result (λ found. ParsesAt block words.now from
         (block_view found.0) found.1) }
-    ensures fault { IfErr result (λ e. IsRefused block words.now from e) }
+    ensures fault { IfErr result (λ e. IsSyntaxFault block words.now from e) }
     ensures only { (t : ParseTree) (end : ℕ) → ParsesAt block words.now from t end
         → IsAnswer block_view result t end }
-    ensures exact { (e : SyntaxFault) → IsRefused block words.now from e → IsFault result e }
+    ensures exact { (e : SyntaxFault) → IsSyntaxFault block words.now from e → IsFault result e }
 {
     match whole_block(alloc, tail(words, from), LEVELS) {
         Ok((tree, rest)) => Ok((tree, place_in(words, rest))),

@@ -5,7 +5,7 @@ ghost use Rattle.conf_lex.specs.Grammar.{ParseTree};
 ghost use Rattle.filt_syntax.specs.declared.parse.SyntaxFault.{SyntaxFault};
 ghost use Rattle.expr_syntax.specs.Syntax.{expr};
 ghost use Rattle.expr_syntax.specs.View.{derivations};
-ghost use Rattle.filt_syntax.specs.Parse.{ParsesAt, IsRefused, IsAnswer, IsFault};
+ghost use Rattle.filt_syntax.specs.Parse.{ParsesAt, IsSyntaxFault, IsAnswer, IsFault};
 ghost use Rattle.filt_syntax.specs.Inside.{refused_words};
 ghost use Rattle.filt_syntax.specs.Inside.{fault_of};
 
@@ -47,10 +47,10 @@ pub fn parse_expr_words(
     requires { from ≤ length words.now }
     ensures tree { IfOk result (λ found. ParsesAt expr words.now from
         (derivations found.0).expr found.1) }
-    ensures fault { IfErr result (λ e. IsRefused expr words.now from e) }
+    ensures fault { IfErr result (λ e. IsSyntaxFault expr words.now from e) }
     ensures only { (t : ParseTree) (end : ℕ) → ParsesAt expr words.now from t end
         → IsAnswer (λ e. (derivations e).expr) result t end }
-    ensures exact { (e : SyntaxFault) → IsRefused expr words.now from e → IsFault result e }
+    ensures exact { (e : SyntaxFault) → IsSyntaxFault expr words.now from e → IsFault result e }
 {
     match expression(alloc, tail(words, from), LEVELS) {
         Ok((tree, rest)) => Ok((tree, place_in(words, rest))),

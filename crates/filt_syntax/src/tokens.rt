@@ -8,7 +8,7 @@ ghost use Rattle.filt_syntax.specs.declared.parse.SyntaxFault.{SyntaxFault};
 ghost use Rattle.expr_syntax.specs.Syntax.{block, expr};
 ghost use Rattle.expr_syntax.specs.View.{derivations};
 ghost use Rattle.filt_syntax.specs.StatementView.{block_view};
-ghost use Rattle.filt_syntax.specs.Parse.{IsAnswer, IsFault, IsRefused};
+ghost use Rattle.filt_syntax.specs.Parse.{IsAnswer, IsFault, IsSyntaxFault};
 ghost use Rattle.filt_syntax.specs.Tokens.{ParsesAtToken, IsRefusedIn};
 ghost use Rattle.filt_syntax.specs.Inside.{IsToldAs};
 
@@ -82,7 +82,7 @@ pub fn parse_block(
 
 // A refusal of words, by the first token of the refused word that no sentence can have there.
 fn told<S: Sentences>(alloc: Global, words: &Words, end: usize, fault: SyntaxFault) -> SyntaxFault
-    requires refused { IsRefused S.form words.now.words.items 0 fault }
+    requires refused { IsSyntaxFault S.form words.now.words.items 0 fault }
     requires starts { (place : ℕ) → slice_index_or words.now.starts.items place end ≤ end }
     requires end { end + 2 < 2 ^ 64 }
     ensures { IsToldAs S.form words.now.words.items words.now.starts.items end fault result }

@@ -9,7 +9,7 @@ use Rattle.conf_lex.specs.declared.word.Word.{Word}
 use Rattle.conf_lex.specs.declared.word.Word.TheVariants as words
 use Rattle.expr_syntax.specs.Syntax.{rule}
 use Rattle.expr_syntax.specs.Levels.{Form}
-use Rattle.filt_syntax.specs.Parse.{IsRefused}
+use Rattle.filt_syntax.specs.Parse.{IsSyntaxFault}
 use Rattle.filt_syntax.specs.RefusedToken.{CanFollow, some_prefix, some_address, EndInAddress, IsCount, IsPast, IsPastFirst}
 use Rattle.filt_syntax.specs.declared.parse.SyntaxFault.TheVariants as faults
 use Rattle.filt_syntax.specs.declared.refused_token.Torn.{Torn}
@@ -70,7 +70,7 @@ front_is ws front at within is =
     let count : length front ≡ at = omega (arith, within, ap (λ (u : List Word). length u) is, length-append front (drop at ws), length-drop at ws) in
     sym (take-append_seam front (drop at ws)) ∙ ap (λ (u : List Word). take (length front) u) (sym is) ∙ ap (λ (n : ℕ). take n ws) count
 
-pub words_before : (f : Form) (ws : List Word) (at : ℕ) → IsRefused f ws 0 (faults.Bad at) → IsBegunWithin rule 64 f (take at ws)
+pub words_before : (f : Form) (ws : List Word) (at : ℕ) → IsSyntaxFault f ws 0 (faults.Bad at) → IsBegunWithin rule 64 f (take at ws)
 words_before f ws at h = subst (λ (u : List Word). IsBegunWithin rule 64 f u) (front_is ws h.1.before at h.0 h.1.front) h.1.begun
 
 -- ---- how far

@@ -12,7 +12,7 @@ use Rattle.conf_lex.proofs.Exact.{got_is_read, read_is_got, fault_is_bad, fault_
 use Rattle.conf_lex.proofs.Unique.{bad_is_fault, too_deep_is_fault}
 use Rattle.expr_syntax.specs.Syntax.{rule}
 use Rattle.expr_syntax.specs.Levels.{Form}
-use Rattle.filt_syntax.specs.Parse.{ParsesAt, IsRefused}
+use Rattle.filt_syntax.specs.Parse.{ParsesAt, IsSyntaxFault}
 use Rattle.filt_syntax.specs.RefusedToken.{CanFollow}
 use Rattle.filt_syntax.specs.Tokens.{words_behind, token_place, place_of, moved, IsPastOf, ParsesAtToken, IsRefusedIn}
 use Rattle.filt_syntax.specs.declared.parse.SyntaxFault.{SyntaxFault}
@@ -50,15 +50,15 @@ record Stands (f : Form) (ws : List Word) : Type 0 where
 record Stopped (f : Form) (ws : List Word) : Type 0 where
   fault : SyntaxFault
   told : fault ≢ faults.Memory
-  refused : IsRefused f ws 0 fault
+  refused : IsSyntaxFault f ws 0 fault
 
 read_stands : (f : Form) (ws : List Word) (t : ParseTree) (rest : List Word) → IsRead rule 64 f ws t rest → ParsesAt f ws 0 t (length (yield t))
 read_stands f ws t rest h = (front_within ws (yield t) rest h.front, subst (λ (u : List Word). IsRead rule 64 f ws t u) (sym (rest_is ws (yield t) rest h.front)) h)
 
-bad_refused : (f : Form) (ws rest : List Word) (h : IsBad rule 64 f ws rest) → IsRefused f ws 0 (faults.Bad (length h.before))
+bad_refused : (f : Form) (ws rest : List Word) (h : IsBad rule 64 f ws rest) → IsSyntaxFault f ws 0 (faults.Bad (length h.before))
 bad_refused f ws rest h = (front_within ws h.before rest h.front, subst (λ (u : List Word). IsBad rule 64 f ws u) (sym (rest_is ws h.before rest h.front)) h)
 
-deep_refused : (f : Form) (ws rest : List Word) (h : IsTooDeep rule 64 f ws rest) → IsRefused f ws 0 (faults.TooDeep (length h.before))
+deep_refused : (f : Form) (ws rest : List Word) (h : IsTooDeep rule 64 f ws rest) → IsSyntaxFault f ws 0 (faults.TooDeep (length h.before))
 deep_refused f ws rest h = (front_within ws h.before rest h.front, subst (λ (u : List Word). IsTooDeep rule 64 f ws u) (sym (rest_is ws h.before rest h.front)) h)
 
 module _ (f : Form) (ok : is_checked f) where
@@ -77,7 +77,7 @@ module _ (f : Form) (ok : is_checked f) where
 
   -- ---- whether a word can follow
 
-  follow_by_fault : (before : List Word) (w : Word) → IsBegunWithin rule 64 f before → (e : SyntaxFault) → e ≢ faults.Memory → IsRefused f (before ++ w ∷ []) 0 e → Told (CanFollow f before w)
+  follow_by_fault : (before : List Word) (w : Word) → IsBegunWithin rule 64 f before → (e : SyntaxFault) → e ≢ faults.Memory → IsSyntaxFault f (before ++ w ∷ []) 0 e → Told (CanFollow f before w)
   follow_by_fault before w begun (faults.Bad at) told h =
       told_by (at == length (before ++ w ∷ [])) (fault_follow f ok (before ++ w ∷ []) before w refl (faults.Bad at) begun h (at == length (before ++ w ∷ [])) refl)
   follow_by_fault before w begun (faults.TooDeep at) told h =
@@ -96,7 +96,7 @@ module _ (f : Form) (ok : is_checked f) where
   abbrev RefusedText : List ℕ → List Token → ℕ → Type 0
   RefusedText text tokens from = (e : SyntaxFault) × IsRefusedIn f text tokens from e × (e ≢ faults.Memory)
 
-  refused_text : (text : List ℕ) (tokens : List Token) (from : ℕ) (e : SyntaxFault) → e ≢ faults.Memory → IsRefused f (words_behind text tokens from) 0 e → RefusedText text tokens from
+  refused_text : (text : List ℕ) (tokens : List Token) (from : ℕ) (e : SyntaxFault) → e ≢ faults.Memory → IsSyntaxFault f (words_behind text tokens from) 0 e → RefusedText text tokens from
   refused_text text tokens from (faults.Bad at) told h =
       let past = some_past_first f told_follow (take at (words_behind text tokens from)) (drop at (words_behind text tokens from)) (words_before f (words_behind text tokens from) at h) in
       (faults.Bad (token_place text tokens from at + past.0), record { word_fault = faults.Bad at; refused = h; past = past.0; is_past = past.1; is = refl }, λ e. cc)
@@ -117,13 +117,13 @@ module _ (f : Form) (ok : is_checked f) where
   stands_is : (ws : List Word) (t : ParseTree) (place : ℕ) → ParsesAt f ws 0 t place → read rule 64 f ws ≡ Parsed t (drop place ws)
   stands_is ws t place h = read_is_got rule model after checked 64 f ok ws t (drop place ws) h.1
 
-  bad_is : (ws : List Word) (at : ℕ) → IsRefused f ws 0 (faults.Bad at) → read rule 64 f ws ≡ Failed Bad (drop at ws)
+  bad_is : (ws : List Word) (at : ℕ) → IsSyntaxFault f ws 0 (faults.Bad at) → read rule 64 f ws ≡ Failed Bad (drop at ws)
   bad_is ws at h = bad_is_fault rule model after checked 64 f ok ws (drop at ws) h.1
 
-  deep_is : (ws : List Word) (at : ℕ) → IsRefused f ws 0 (faults.TooDeep at) → read rule 64 f ws ≡ Failed TooDeep (drop at ws)
+  deep_is : (ws : List Word) (at : ℕ) → IsSyntaxFault f ws 0 (faults.TooDeep at) → read rule 64 f ws ≡ Failed TooDeep (drop at ws)
   deep_is ws at h = too_deep_is_fault rule model after checked 64 f ok ws (drop at ws) h.1
 
-  stands_or_stops : (ws : List Word) (t : ParseTree) (place : ℕ) → ParsesAt f ws 0 t place → (e : SyntaxFault) → IsRefused f ws 0 e → e ≡ faults.Memory
+  stands_or_stops : (ws : List Word) (t : ParseTree) (place : ℕ) → ParsesAt f ws 0 t place → (e : SyntaxFault) → IsSyntaxFault f ws 0 e → e ≡ faults.Memory
   stands_or_stops ws t place h (faults.Bad at) refused = let same = sym (stands_is ws t place h) ∙ bad_is ws at refused in absurd cc
   stands_or_stops ws t place h (faults.TooDeep at) refused = let same = sym (stands_is ws t place h) ∙ deep_is ws at refused in absurd cc
   stands_or_stops ws t place h (faults.Unsupported at) refused = absurd refused
@@ -144,7 +144,7 @@ module _ (f : Form) (ok : is_checked f) where
       (tree_is, one.ends ∙ ap (λ (n : ℕ). token_place text tokens from n) place_is ∙ sym two.ends)
 
   -- one refusal of words
-  one_stop : (ws : List Word) (d e : SyntaxFault) → d ≢ faults.Memory → e ≢ faults.Memory → IsRefused f ws 0 d → IsRefused f ws 0 e → d ≡ e
+  one_stop : (ws : List Word) (d e : SyntaxFault) → d ≢ faults.Memory → e ≢ faults.Memory → IsSyntaxFault f ws 0 d → IsSyntaxFault f ws 0 e → d ≡ e
   one_stop ws (faults.Bad a) (faults.Bad b) one two h g =
       let same : Failed Bad (drop a ws) ≡ Failed Bad (drop b ws) = sym (bad_is ws a h) ∙ bad_is ws b g in
       let rest : drop a ws ≡ drop b ws = cc in

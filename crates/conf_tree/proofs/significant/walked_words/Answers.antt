@@ -1,5 +1,5 @@
 use Rattle.std.proofs.Common.{◌≡◌, ℕ, [], length, subst, sym, arith, rules}
-use Rattle.conf_scan.specs.Lex.{IsRefused}
+use Rattle.conf_scan.specs.Lex.{IsLexFault}
 use Rattle.conf_scan.proofs.Spots.{handed}
 use Rattle.conf_tree.specs.Marks.{IsMark}
 use Rattle.conf_tree.specs.Significant.{is_significant}
@@ -38,10 +38,10 @@ returns-clause-marks c = c.loop-marks.invariant.2
 
 pub returns-in_err-word-clause-bad : goal.returns-in_err-word-clause-bad
 returns-in_err-word-clause-bad c =
-    handed c.from_residual.result c.in_err-word.field-0.0 (λ fault. IsRefused c.args.text.now fault) c.from_residual.ensures.1
+    handed c.from_residual.result c.in_err-word.field-0.0 (λ fault. IsLexFault c.args.text.now fault) c.from_residual.ensures.1
     (walk_stuck c.args.text.now c.loop-marks.found.items c.loop-marks.region c.loop-marks.spot c.in_err-word.field-0.0 c.loop-marks.invariant.0 c.in_err-word.ensures.bad)
 
 pub returns-in_err-keep-clause-bad : goal.returns-in_err-keep-clause-bad
 returns-in_err-keep-clause-bad c =
-    handed c.from_residual-in_err-keep.result c.in_err-keep.field-0.0 (λ fault. IsRefused c.args.text.now fault) c.from_residual-in_err-keep.ensures.1
+    handed c.from_residual-in_err-keep.result c.in_err-keep.field-0.0 (λ fault. IsLexFault c.args.text.now fault) c.from_residual-in_err-keep.ensures.1
     (no_memory c.args.text.now c.in_err-keep.field-0.0 c.in_err-keep.ensures.memory)

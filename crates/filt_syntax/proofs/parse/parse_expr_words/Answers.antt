@@ -5,7 +5,7 @@ use Rattle.expr_syntax.specs.Syntax.{expr}
 use Rattle.expr_syntax.specs.Readers.{expr_at}
 use Rattle.filt_syntax.specs.declared.parse.SyntaxFault.{SyntaxFault}
 use Rattle.conf_ast.specs.declared.filters.Expr.{Expr}
-use Rattle.filt_syntax.specs.Parse.{IsRefused, IsFault}
+use Rattle.filt_syntax.specs.Parse.{IsSyntaxFault, IsFault}
 use Rattle.expr_syntax.proofs.Steps.{expr_same}
 use Rattle.filt_syntax.proofs.Places.{got_fewer, got_stands, got_only, got_exact, fault_fewer, fault_refused, fault_only, fault_exact}
 use Rattle.filt_syntax.proofs.parse.parse_expr_words.Goals as goal
@@ -28,7 +28,7 @@ returns-in-Ok-clause-exact c e h = got_exact expr refl (expr_at 64) (expr_same 6
 pub returns-in-Err-clause-fault : goal.returns-in-Err-clause-fault
 returns-in-Err-clause-fault c =
     let failed = subst (λ (ws : List Word). AgreesOnError c.in-Err.refusal (expr_at 64 ws)) c.tail.ensures c.in-Err.ensures in
-    subst (λ (d : SyntaxFault). IsRefused expr c.args.words.now c.args.from d) (sym c.placed.ensures) (fault_refused expr refl (expr_at 64) (expr_same 64) c.args.words.now c.args.from c.requires c.in-Err.refusal failed)
+    subst (λ (d : SyntaxFault). IsSyntaxFault expr c.args.words.now c.args.from d) (sym c.placed.ensures) (fault_refused expr refl (expr_at 64) (expr_same 64) c.args.words.now c.args.from c.requires c.in-Err.refusal failed)
 
 pub returns-in-Err-clause-only : goal.returns-in-Err-clause-only
 returns-in-Err-clause-only c t end h =
