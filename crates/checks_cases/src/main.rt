@@ -12,7 +12,6 @@ mod faults;
 mod filters;
 mod policies;
 mod rounds;
-mod routes;
 mod systems;
 
 use crate::faults::bad;

@@ -1,12 +1,12 @@
 //! What the policies of the first protocol say of a route.
 //!
-//! The route comes from the protocol of number 0, as the module `routes` says.
+//! The route comes from the protocol of number 0, as `case_routes` says.
 ghost use Rattle.std.specs.Prelude.{IfSome};
 ghost use Rattle.conf_system.specs.Coded.{AllCanRun, HasCode, PolicyCanRun, ProtocolCanRun};
 
 use crate::faults::no_memory;
-use crate::routes::read_route;
 use attrs::{Judge, Verdict, attr_text};
+use case_routes::read_route;
 use conf_check::{PolicyDef, ProtocolBody, ProtocolDef};
 use conf_system::{Code, System, read_system};
 use std::alloc::Global;

@@ -8,9 +8,9 @@ ghost use Rattle.conf_system.specs.Coded.{AllCanRun, HasCode};
 ghost use Rattle.conf_system.specs.Seen.{system_of};
 
 use crate::faults::{bad, no_memory};
-use crate::routes::read_route;
 use attrs::{Judge, Route, Verdict};
 use bits_ip::{Prefix, parse_decimal};
+use case_routes::read_route;
 use conf_system::{Code, System, read_system};
 use std::alloc::Global;
 use std::{fs, io, str};

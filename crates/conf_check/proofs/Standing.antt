@@ -1,9 +1,7 @@
 -- What has been made of statements, and of one more.
-use Rattle.std.proofs.Common.{◌≡◌, ℕ, ◌+◌, ◌<◌, ◌≤◌, All, Bool, true, false, List, [], ◌∷◌, ◌++◌, length, map, take, get_or, Option, None, Result, Ok, Err, refl, sym, ap, subst, ◌∙◌, arith, append_assoc, append-nil, length-append}
+use Rattle.std.proofs.Common.{◌≡◌, ℕ, ◌+◌, ◌<◌, ◌≤◌, All, Bool, true, false, List, [], ◌∷◌, ◌++◌, length, map, take, get_or, Option, None, refl, sym, ap, subst, ◌∙◌, arith, append_assoc, append-nil, length-append}
 use Rattle.std.proofs.lemmas.List.{map-append, take-append-le, take_more}
 use Rattle.std.proofs.lemmas.List.Elements.{All-take}
-use Rattle.std.proofs.lemmas.Option.{same_Some}
-use Rattle.std.specs.Result.{IfOk, IsErrAnd, MatchResult, result_ok}
 use Rattle.conf_ast.specs.declared.kind.ConfFault.{ConfFault}
 use Rattle.conf_ast.specs.declared.kind.ConfFault.TheVariants as faults
 use Rattle.conf_ast.specs.declared.configurations.Statement.{Statement}
@@ -44,9 +42,9 @@ use Rattle.conf_check.specs.declared.checked.ProtocolBody.TheVariants as bodies
 use Rattle.conf_check.specs.declared.checked.ProtocolDef.{ProtocolDef}
 use Rattle.conf_check.specs.declared.checked.StaticDef.{StaticDef}
 use Rattle.conf_check.specs.Behind.{at_start, behind, behind_one}
-use Rattle.conf_check.specs.Checked.{AreLight, AreProtocols, DoEach, Does, IsBgp, IsBody, IsChannel, IsChecked, IsOnly, IsPipe, IsPolicy, IsProtocol, IsStatic, NextProtocol, SeesAs, Source, filter_source, filter_sources, is_protocol}
+use Rattle.conf_check.specs.Checked.{AreLight, AreProtocols, DoEach, Does, IsBgp, IsBody, IsChannel, IsChecked, IsOnly, IsPipe, IsPolicy, IsProtocol, IsStatic, NextProtocol, SeesAs, Source, declared_places, filter_source, filter_sources, is_protocol, table_place}
 use Rattle.conf_check.specs.Refused.{IsFault, or_later, refusal_of}
-use Rattle.conf_check.specs.Seen.{Adds, AddsFilter, AddsOne, AddsProtocol, AreWithin, Grows, Lasts, Means, Stands}
+use Rattle.conf_check.specs.Seen.{Adds, AddsFilter, AddsOne, AddsPlace, AddsProtocol, AreWithin, Grows, Lasts, Means, Stands}
 
 -- ---- behind one statement more
 
@@ -121,7 +119,7 @@ body_map known does other m (conf.Pipe p) (bodies.Pipe def) h = pipe_map known d
 body_map known does other m _ _ h = absurd h
 
 protocol_map : (known : Known) (does other : Reads) → Weaker does other → (d : conf.Declaration) (def : ProtocolDef) → IsProtocol known does d def → IsProtocol known other d def
-protocol_map known does other m d def h = record { name = h.name; body = body_map known does other m d def.body h.body }
+protocol_map known does other m d def h = record { at = h.at; name = h.name; body = body_map known does other m d def.body h.body }
 
 -- ---- lists of them
 
@@ -200,6 +198,22 @@ protocols_more text does before (x ∷ ds) whole d defs all is h adds =
     next_more (is_protocol x) (is_protocol d) (IsProtocol (behind (at_start text) before) (does before) x) (IsProtocol (behind (at_start text) whole) (does whole) d) (AreProtocols text does (before ++ x ∷ []) ds) (AreProtocols text does (before ++ x ∷ []) (ds ++ d ∷ [])) defs all h adds
     (λ xs ys. protocols_more text does (before ++ x ∷ []) ds whole d xs ys (is ∙ sym (append_assoc before (x ∷ []) ds)))
 
+place_added : (text : List ℕ) (d : conf.Declaration) (old new : List ℕ) → AddsPlace text d old new → new ≡ old ++ table_place text d
+place_added text (conf.Table at family name) old new h = h
+place_added text (conf.RouterId a) old new h = h ∙ sym (append-nil old)
+place_added text conf.Log old new h = h ∙ sym (append-nil old)
+place_added text (conf.Define name v) old new h = h ∙ sym (append-nil old)
+place_added text (conf.DefineFunction f) old new h = h ∙ sym (append-nil old)
+place_added text (conf.DefineFilter at name ss) old new h = h ∙ sym (append-nil old)
+place_added text (conf.Device name semicolon) old new h = h ∙ sym (append-nil old)
+place_added text (conf.Static p) old new h = h ∙ sym (append-nil old)
+place_added text (conf.Bgp p) old new h = h ∙ sym (append-nil old)
+place_added text (conf.Pipe p) old new h = h ∙ sym (append-nil old)
+
+places_more : (text : List ℕ) (ds : List conf.Declaration) (d : conf.Declaration) → declared_places text (ds ++ d ∷ []) ≡ declared_places text ds ++ table_place text d
+places_more text [] d = append-nil (table_place text d)
+places_more text (x ∷ ds) d = ap (λ (l : List ℕ). table_place text x ++ l) (places_more text ds d) ∙ sym (append_assoc (table_place text x) (declared_places text ds) (table_place text d))
+
 -- ---- trees
 
 -- a filter that sees no more functions than there are sees the same ones where there are more
@@ -275,6 +289,9 @@ stands_more text before d old new s a =
           (adds_map (is_protocol d) (IsProtocol (behind (at_start text) before) (Means text old.declared.scope) d) (IsProtocol (behind (at_start text) before) (Lasts text after before) d)
           (protocol_map (behind (at_start text) before) (Means text old.declared.scope) (Lasts text after before) weaker d) old.protocols.items new.protocols.items
           (subst (λ (k : Known). AddsProtocol k (Means text old.declared.scope) d old.protocols.items new.protocols.items) s.declared a.protocols));
+      places = place_added text d old.table_places.items new.table_places.items a.places
+          ∙ ap (λ (l : List ℕ). l ++ table_place text d) s.places ∙ ap (λ (l : List ℕ). 0 ∷ 0 ∷ l) (sym (places_more text before d));
+      end = a.end ∙ s.end;
       sees = λ around. a.declares.sees s.within around ∙ ap (λ (c : Context). meaning.behind_one c d) (s.sees around) ∙ sym (meaning_more (meaning.at_start text around) before d);
       within = a.declares.within s.within;
       light = a.declares.light s.light;
@@ -286,6 +303,8 @@ stands_checked text ds checked s = record {
   scope = s.sees;
   filters = each_map (Lasts text checked.declared.scope) (Does text checked.declared.scope) (lasts_does text checked.declared.scope) (filter_sources [] ds) checked.filters.items s.filters;
   protocols = protocols_map text (Lasts text checked.declared.scope) (Does text checked.declared.scope) (lasts_does text checked.declared.scope) [] ds checked.protocols.items s.protocols;
+  places = s.places;
+  end = s.end;
   within = s.within;
   light = s.light;
 }
@@ -293,21 +312,17 @@ stands_checked text ds checked s = record {
 none_within : (n : ℕ) (fs : List TFunction) → fs ≡ [] → All (λ (f : TFunction). f.constants ≤ n) fs
 none_within n fs is = λ k d below. absurd (omega (arith, below, ap (λ (l : List TFunction). length l) is))
 
-pub stands_start : (text : List ℕ) (checked : Checked) → known_of text checked.declared ≡ at_start text → checked.filters.items ≡ [] → checked.protocols.items ≡ [] → checked.declared.scope.constants.entries ≡ [] → checked.declared.scope.functions.entries ≡ [] → Stands text [] checked
-stands_start text checked declared filters protocols constants functions = record {
+pub stands_start : (text : List ℕ) (checked : Checked) → known_of text checked.declared ≡ at_start text → checked.filters.items ≡ [] → checked.protocols.items ≡ [] → checked.declared.scope.constants.entries ≡ [] → checked.declared.scope.functions.entries ≡ [] → checked.table_places.items ≡ 0 ∷ 0 ∷ [] → checked.end ≡ length text → Stands text [] checked
+stands_start text checked declared filters protocols constants functions places end = record {
   declared = declared;
   filters = subst (λ (l : List TFilter). DoEach (Lasts text checked.declared.scope) [] l) (sym filters) tt;
   protocols = subst (λ (l : List ProtocolDef). AreProtocols text (Lasts text checked.declared.scope) [] [] l) (sym protocols) tt;
+  places = places;
+  end = end;
   sees = λ around. nothing_declared text around checked.declared.scope constants functions;
   within = none_within (length (constant_values checked.declared.scope)) (function_trees checked.declared.scope) (ap (λ l. map (λ e. e.1) l) functions);
   light = subst AreLight (sym (ap (λ l. map (λ e. e.1) l) functions)) tt;
 }
-
--- ---- a result with another error
-
-pub mapped_ok : {X E D : Type 0} (P : X → Type 0) (r : Result X E) (s : Result X D) (x : X) (Q : E → D → Type 0) → s ≡ Ok x → MatchResult r (λ y. s ≡ Ok y) (λ e. IsErrAnd s (Q e)) → IfOk r P → P x
-mapped_ok P (Ok y) s x Q is h p = subst P (same_Some y x (ap result_ok (sym h ∙ is))) p
-mapped_ok P (Err e) s x Q is h p = absurd (subst (λ (t : Result _ _). IsErrAnd t (Q e)) is h)
 
 -- ---- one statement more
 

@@ -1,11 +1,15 @@
 -- What a configuration comes to that is accepted (`IsChecked`): its filters by what they do
 -- (`Does`), its protocols with each option or its default, by the options that count: policies,
--- channels (`IsChannel`), static protocols, BGP, pipes (`IsStatic`, `IsBgp`, `IsPipe`).
+-- channels (`IsChannel`), static protocols, BGP, pipes (`IsStatic`, `IsBgp`, `IsPipe`); and where
+-- in the text its tables and its protocols are named (`table_places`, `protocol_place`).
 -- From: BIRD User's Guide, "Channel options", "BGP", "Static", "Pipe"; some defaults are own.
 -- Example: a channel `ipv4;` of a static protocol is one of master4, with all imported, nothing
--- exported and the preference 200.
-use Rattle.std.specs.Prelude.{◌≡◌, ◌≤◌, ◌*◌, ℕ, Bool, true, false, All, List, [], ◌∷◌, ◌++◌, length, map, Option, Some, None, ⊤}
+-- exported and the preference 200. In `ipv4 table t;` the place of the table is 11.
+use Rattle.std.specs.Prelude.{◌≡◌, ◌≤◌, ◌*◌, ℕ, Bool, true, false, if◌then◌else◌, All, List, [], ◌∷◌, ◌++◌, length, map, Option, Some, None, ⊤}
 use Rattle.attrs.specs.declared.attributes.Attrs.{Attrs}
+use Rattle.attrs.specs.declared.attributes.Dest.{Dest}
+use Rattle.attrs.specs.declared.attributes.Dest.TheVariants as dests
+use Rattle.bits_ip.specs.declared.address.Addr.{Addr}
 use Rattle.bits_ip.specs.declared.address.Family.{Family}
 use Rattle.bits_ip.specs.declared.address.Family.TheVariants as families
 use Rattle.conf_ast.specs.declared.filters.Num.{Num}
@@ -35,8 +39,8 @@ use Rattle.conf_options.specs.Options.{bgp_options, pipe_options}
 use Rattle.conf_rules.specs.Channels.{options_of}
 use Rattle.conf_names.specs.Known.{Known, number_of, place_in, table_number, table_of}
 use Rattle.conf_rules.specs.Protocols.{as_number, bgp_channels, primary_name, static_channels, static_routes}
-use Rattle.conf_names.specs.Names.{bgp_stem, own_name, pipe_stem, static_stem}
-use Rattle.conf_rules.specs.Statements.{master}
+use Rattle.conf_names.specs.Names.{bgp_stem, own_name, pipe_stem, place_of, static_stem}
+use Rattle.conf_rules.specs.Statements.{is_master, master}
 use Rattle.conf_names.specs.Seen.{known_of}
 use Rattle.conf_check.specs.declared.checked.BgpDef.{BgpDef}
 use Rattle.conf_check.specs.declared.checked.ChannelDef.{ChannelDef}
@@ -50,8 +54,6 @@ use Rattle.conf_check.specs.declared.checked.ProtocolBody.TheVariants as bodies
 use Rattle.conf_check.specs.declared.checked.ProtocolDef.{ProtocolDef}
 use Rattle.conf_check.specs.declared.checked.StaticDef.{StaticDef}
 use Rattle.conf_check.specs.declared.checked.StaticRoute.{StaticRoute}
-use Rattle.conf_check.specs.declared.checked.StaticTarget.{StaticTarget}
-use Rattle.conf_check.specs.declared.checked.StaticTarget.TheVariants as static_targets
 use Rattle.conf_check.specs.Behind.{at_start, behind}
 
 -- ---- what is written
@@ -139,15 +141,27 @@ abbrev pub channel_table : Known → FamilyChannel → ℕ
 channel_table known c =
     table_number known (table_name known.scene.text c.family (options_of c).table)
 
+abbrev pub channel_imports : FamilyChannel → Passing
+channel_imports c = import_or (options_of c).import
+
+abbrev pub channel_exports : FamilyChannel → Passing
+channel_exports c = export_or (options_of c).export
+
 -- `preference` is that of the protocol's kind.
+abbrev pub channel_preference : Known → (preference : ℕ) → FamilyChannel → ℕ
+channel_preference known preference c = number_or known preference (options_of c).preference
+
+abbrev pub channel_limit : Known → FamilyChannel → Option ImportLimit
+channel_limit known c = limit_of known (limit_or (options_of c).limit)
+
 pub record IsChannel (known : Known) (does : Statements → TFilter → Type 0) (preference : ℕ)
     (c : FamilyChannel) (def : ChannelDef) : Type 0 where
   pub family : def.family ≡ c.family
   pub table : def.table ≡ channel_table known c
-  pub imports : IsPolicy known does (import_or (options_of c).import) def.import
-  pub exports : IsPolicy known does (export_or (options_of c).export) def.export
-  pub preferred : def.preference ≡ number_or known preference (options_of c).preference
-  pub limited : def.limit ≡ limit_of known (limit_or (options_of c).limit)
+  pub imports : IsPolicy known does (channel_imports c) def.import
+  pub exports : IsPolicy known does (channel_exports c) def.export
+  pub preferred : def.preference ≡ channel_preference known preference c
+  pub limited : def.limit ≡ channel_limit known c
 
 -- the one channel of a protocol
 abbrev pub IsOnly : (FamilyChannel → Type 0) → List FamilyChannel → Type 0
@@ -156,14 +170,25 @@ IsOnly is _ = ⊥
 
 -- ---- static protocols
 
-abbrev pub target_of : RouteTarget → StaticTarget
-target_of (targets.Via a) = static_targets.Via a.addr
-target_of targets.Blackhole = static_targets.Blackhole
-target_of targets.Unreachable = static_targets.Unreachable
-target_of targets.Prohibit = static_targets.Prohibit
+-- a route leads to a gateway, or is dropped in one of three ways
+abbrev pub dest_of : RouteTarget → Dest
+dest_of (targets.Via a) = dests.Unicast
+dest_of targets.Blackhole = dests.Blackhole
+dest_of targets.Unreachable = dests.Unreachable
+dest_of targets.Prohibit = dests.Prohibit
+
+abbrev pub gateway_of : RouteTarget → Option Addr
+gateway_of (targets.Via a) = Some a.addr
+gateway_of targets.Blackhole = None
+gateway_of targets.Unreachable = None
+gateway_of targets.Prohibit = None
 
 abbrev pub route_of : Route → StaticRoute
-route_of r = record { net = r.net; target = target_of r.target }
+route_of r = record {
+  net = r.net;
+  dest = dest_of r.target;
+  gateway = gateway_of r.target;
+}
 
 pub record IsStatic (known : Known) (does : Statements → TFilter → Type 0)
     (p : Instance StaticSetting) (def : StaticDef) : Type 0 where
@@ -173,36 +198,69 @@ pub record IsStatic (known : Known) (does : Statements → TFilter → Type 0)
 
 -- ---- BGP
 
+-- the numbers of the two autonomous systems
+abbrev pub local_of : Known → List BgpSetting → ℕ
+local_of known ss = or_zero (as_number known (bgp_options ss).local)
+
+abbrev pub remote_of : Known → List BgpSetting → ℕ
+remote_of known ss = or_zero (as_number known (defaults.remote (bgp_options ss)))
+
+abbrev pub neighbor_of : List BgpSetting → Addr
+neighbor_of ss = address_or (bgp_options ss).neighbor
+
+abbrev pub are_interpreted : List BgpSetting → Bool
+are_interpreted ss = interprets (bgp_options ss).interpret_communities
+
+-- what a missing MED and a missing local preference count as
+abbrev pub med_of : Known → List BgpSetting → ℕ
+med_of known ss = number_or known defaults.default_med (bgp_options ss).default_med
+
+abbrev pub local_pref_of : Known → List BgpSetting → ℕ
+local_pref_of known ss =
+    number_or known defaults.default_local_pref (bgp_options ss).default_local_pref
+
 pub record IsBgp (known : Known) (does : Statements → TFilter → Type 0)
     (p : Instance BgpSetting) (def : BgpDef) : Type 0 where
-  pub local : def.local ≡ or_zero (as_number known (bgp_options p.settings).local)
-  pub remote : def.remote ≡ or_zero (as_number known (defaults.remote (bgp_options p.settings)))
-  pub neighbor : def.neighbor ≡ address_or (bgp_options p.settings).neighbor
-  pub interpret : def.interpret_communities
-      ≡ interprets (bgp_options p.settings).interpret_communities
-  pub med : def.default_med
-      ≡ number_or known defaults.default_med (bgp_options p.settings).default_med
-  pub local_pref : def.default_local_pref
-      ≡ number_or known defaults.default_local_pref (bgp_options p.settings).default_local_pref
+  pub local : def.local ≡ local_of known p.settings
+  pub remote : def.remote ≡ remote_of known p.settings
+  pub neighbor : def.neighbor ≡ neighbor_of p.settings
+  pub interpret : def.interpret_communities ≡ are_interpreted p.settings
+  pub med : def.default_med ≡ med_of known p.settings
+  pub local_pref : def.default_local_pref ≡ local_pref_of known p.settings
   pub channel : IsOnly (λ c. IsChannel known does bgp_preference c def.channel)
       (bgp_channels p.settings)
 
 -- ---- pipes
 
--- A pipe's peer table and its family, which both of its tables have.
+abbrev pub primary_table : Known → List PipeSetting → ℕ
+primary_table known ss =
+    table_number known (primary_name known.scene.text (pipe_options ss).table)
+
+abbrev pub peer_table : Known → Name → ℕ
+peer_table known name = table_number known (name_bytes known.scene.text name)
+
+-- the family of the peer table, which both tables have
+abbrev pub pipe_family : Known → Name → Family
+pipe_family known name = or_v4 (table_of known name)
+
+abbrev pub pipe_imports : List PipeSetting → Passing
+pipe_imports ss = import_or (pipe_options ss).import
+
+abbrev pub pipe_exports : List PipeSetting → Passing
+pipe_exports ss = export_or (pipe_options ss).export
+
+-- what rests on the peer table
 abbrev pub IsPeer : Known → Option Name → PipeDef → Type 0
 IsPeer known None def = ⊥
 IsPeer known (Some name) def =
-    (def.peer ≡ table_number known (name_bytes known.scene.text name))
-    × (def.family ≡ or_v4 (table_of known name))
+    (def.peer ≡ peer_table known name) × (def.family ≡ pipe_family known name)
 
 pub record IsPipe (known : Known) (does : Statements → TFilter → Type 0)
     (p : Instance PipeSetting) (def : PipeDef) : Type 0 where
-  pub table : def.table
-      ≡ table_number known (primary_name known.scene.text (pipe_options p.settings).table)
+  pub table : def.table ≡ primary_table known p.settings
   pub peer : IsPeer known (pipe_options p.settings).peer def
-  pub imports : IsPolicy known does (import_or (pipe_options p.settings).import) def.import
-  pub exports : IsPolicy known does (export_or (pipe_options p.settings).export) def.export
+  pub imports : IsPolicy known does (pipe_imports p.settings) def.import
+  pub exports : IsPolicy known does (pipe_exports p.settings) def.export
 
 -- ---- protocols
 
@@ -220,8 +278,16 @@ protocol_name known (conf.Bgp p) = own_name known bgp_stem p.name
 protocol_name known (conf.Pipe p) = own_name known pipe_stem p.name
 protocol_name known _ = []
 
+-- the byte at which its name begins, or its kind's word where it has none
+abbrev pub protocol_place : conf.Declaration → ℕ
+protocol_place (conf.Static p) = place_of p.at p.name
+protocol_place (conf.Bgp p) = place_of p.at p.name
+protocol_place (conf.Pipe p) = place_of p.at p.name
+protocol_place _ = 0
+
 pub record IsProtocol (known : Known) (does : Statements → TFilter → Type 0)
     (d : conf.Declaration) (def : ProtocolDef) : Type 0 where
+  pub at : def.at ≡ protocol_place d
   pub name : def.name ≡ protocol_name known d
   pub body : IsBody known does d def.body
 
@@ -249,6 +315,23 @@ AreProtocols text does before (d ∷ ds) defs =
     (IsProtocol (behind (at_start text) before) (does before) d)
     (AreProtocols text does (before ++ d ∷ []) ds) defs
 
+-- ---- tables
+
+-- the byte at which a table's name begins, of a statement that declares one
+abbrev pub table_place : (text : List ℕ) → conf.Declaration → List ℕ
+table_place text (conf.Table at family name) =
+    if is_master (at_start text) family name then [] else name.at ∷ []
+table_place text _ = []
+
+abbrev pub declared_places : (text : List ℕ) → List conf.Declaration → List ℕ
+declared_places text [] = []
+declared_places text (d ∷ ds) = table_place text d ++ declared_places text ds
+
+-- By the tables' numbers. The first two are master4 and master6, which no statement declares: their
+-- place is 0.
+abbrev pub table_places : (text : List ℕ) → List conf.Declaration → List ℕ
+table_places text ds = 0 ∷ 0 ∷ declared_places text ds
+
 -- ---- functions
 
 -- Each of these functions takes five steps for each that it weighs at most, where it may call those
@@ -271,6 +354,8 @@ pub record IsChecked (text : List ℕ) (ds : List conf.Declaration) (checked : C
       checked.filters.items
   pub protocols : AreProtocols text (Does text checked.declared.scope) [] ds
       checked.protocols.items
+  pub places : checked.table_places.items ≡ table_places text ds
+  pub end : checked.end ≡ length text
   -- no function sees more constants than there are
   pub within : All
       (λ (g : TFunction). g.constants ≤ length (constant_values checked.declared.scope))

@@ -27,7 +27,7 @@ use Rattle.conf_rules.specs.Statements.{refusals}
 use Rattle.conf_check.specs.declared.checked.Checked.{Checked}
 use Rattle.conf_check.specs.declared.checked.ProtocolDef.{ProtocolDef}
 use Rattle.conf_check.specs.Behind.{at_start, behind, behind_one}
-use Rattle.conf_check.specs.Checked.{AreLight, AreProtocols, DoEach, Does, SeesAs, IsProtocol, filter_sources, is_protocol}
+use Rattle.conf_check.specs.Checked.{AreLight, AreProtocols, DoEach, Does, SeesAs, IsProtocol, filter_sources, is_protocol, table_place, table_places}
 
 -- ---- filters
 
@@ -125,12 +125,20 @@ abbrev pub AddsProtocol : Known → (Statements → TFilter → Type 0) → conf
     → List ProtocolDef → List ProtocolDef → Type 0
 AddsProtocol known means d = AddsOne (is_protocol d) (IsProtocol known means d)
 
+-- the place of its table
+abbrev pub AddsPlace : (text : List ℕ) → conf.Declaration → (old new : List ℕ) → Type 0
+AddsPlace text (conf.Table at family name) old new =
+    new ≡ old ++ table_place text (conf.Table at family name)
+AddsPlace text _ old new = new ≡ old
+
 -- what is made of a statement
 pub record Adds (text : List ℕ) (d : conf.Declaration) (old new : Checked) : Type 0 where
   pub declares : Declares text d old.declared new.declared
   pub filters : AddsFilter (Means text old.declared.scope) d old.filters.items new.filters.items
   pub protocols : AddsProtocol (known_of text old.declared) (Means text old.declared.scope) d
       old.protocols.items new.protocols.items
+  pub places : AddsPlace text d old.table_places.items new.table_places.items
+  pub end : new.end ≡ old.end
 
 -- ---- configurations
 
@@ -142,6 +150,8 @@ pub record Stands (text : List ℕ) (before : List conf.Declaration) (checked : 
       checked.filters.items
   pub protocols : AreProtocols text (Lasts text checked.declared.scope) [] before
       checked.protocols.items
+  pub places : checked.table_places.items ≡ table_places text before
+  pub end : checked.end ≡ length text
   pub sees : SeesAs text before checked.declared.scope
   pub within : AreWithin checked.declared.scope
   pub light : AreLight (function_trees checked.declared.scope)

@@ -6,8 +6,7 @@ ghost use Rattle.conf_check.specs.Refused.{IsFault, refusal_of};
 
 use crate::checked::Checked;
 use conf_ast::ConfFault;
-use conf_ast::configurations::{Config, Statement};
-use conf_rules::first_in_statement;
+use conf_ast::configurations::Config;
 use std::alloc::Global;
 
 /// What a configuration comes to, or the first by place of what is refused in it, at one place the
@@ -22,7 +21,7 @@ pub fn check_config(alloc: Global, config: &Config<'_>) -> Result<Checked, ConfF
     ensures checked { IfOk result
         (IsChecked config.now.text.now (configuration_of config.now.statements.items)) }
 {
-    let mut checked = Checked::start(alloc)?;
+    let mut checked = Checked::start(alloc, config.text)?;
     for statement in &config.statements {
         checked.check(alloc, config.text, statement)?;
     }

@@ -1,6 +1,6 @@
 //! What an accepted configuration comes to. Tables, filters and protocols have numbers, from 0 in
 //! their order; the tables master4 and master6 are the first two.
-use attrs::Seq;
+use attrs::{Dest, Seq};
 use bits_ip::{Addr, Family, Prefix};
 use conf_ast::configurations::Action;
 use conf_names::Declared;
@@ -54,19 +54,12 @@ pub struct BgpDef {
     pub channel: ChannelDef,
 }
 
-/// Where a static route leads.
-#[derive(Clone, Copy, Debug, PartialEq, Eq)]
-pub enum StaticTarget {
-    Via(Addr),
-    Blackhole,
-    Unreachable,
-    Prohibit,
-}
-
 #[derive(Clone, Copy, Debug, PartialEq, Eq)]
 pub struct StaticRoute {
     pub net: Prefix,
-    pub target: StaticTarget,
+    pub dest: Dest,
+    /// The gateway, where the route has one (`via`).
+    pub gateway: Option<Addr>,
 }
 
 /// A static protocol, and its routes, each of another net (BIRD User's Guide, "Static").
@@ -97,6 +90,8 @@ pub enum ProtocolBody {
 /// A protocol and its name: the one that it was given, or one by its kind.
 #[derive(Drop)]
 pub struct ProtocolDef {
+    /// The byte of the source at which its name begins, or its kind's word where it has none.
+    pub at: usize,
     pub name: Seq<u8>,
     pub body: ProtocolBody,
 }
@@ -111,4 +106,10 @@ pub struct Checked {
     pub filters: Vec<TFilter>,
     /// The protocols, by their numbers. A protocol `device` has none.
     pub protocols: Vec<ProtocolDef>,
+    /// The bytes of the source at which the names of the tables begin, by the tables' numbers.
+    /// Those of master4 and master6 are 0: no statement declares these two, and they are the same
+    /// in all configurations, so that there is nothing to tell of them.
+    pub table_places: Vec<usize>,
+    /// The length of the source, in bytes.
+    pub end: usize,
 }

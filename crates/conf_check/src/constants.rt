@@ -1,6 +1,6 @@
 //! The values of constants.
 
-ghost use Rattle.std.specs.Prelude.{◌≡◌, IfOk, List, Some, [], drop, option_map, take};
+ghost use Rattle.std.specs.Prelude.{◌≡◌, IfOk, Some, [], drop, option_map, take};
 ghost use Rattle.std.specs.Result.{result_ok};
 ghost use Rattle.conf_ast.specs.Configurations.{value_of};
 ghost use Rattle.filt_meaning.specs.Configuration.{constant};

@@ -3,7 +3,7 @@
 ghost use Rattle.std.specs.Prelude.{◌≡◌, ℕ, ◌++◌, ◌∷◌, ◌<◌, [], false, IfOk, List, None, OnOk, Vec};
 ghost use Rattle.std.specs.Global.{Global};
 ghost use Rattle.std.specs.List.{list_any};
-ghost use Rattle.filt_meaning.specs.Names.{named_in, same_name};
+ghost use Rattle.filt_meaning.specs.Names.{same_name};
 ghost use Rattle.filt_meaning.specs.Scopes.{constants_in};
 ghost use Rattle.filt_types.specs.Scenes.{is_declared as is_named};
 ghost use Rattle.filt_types.specs.Seen.{functions_in};

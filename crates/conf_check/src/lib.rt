@@ -11,6 +11,7 @@ mod check;
 mod checked;
 mod constants;
 mod declare;
+pub mod laws;
 mod pipe;
 mod policy;
 mod statements;
@@ -19,5 +20,5 @@ mod static_protocol;
 pub use check::check_config;
 pub use checked::{
     BgpDef, ChannelDef, Checked, ImportLimit, PipeDef, PolicyDef, ProtocolBody, ProtocolDef,
-    StaticDef, StaticRoute, StaticTarget,
+    StaticDef, StaticRoute,
 };

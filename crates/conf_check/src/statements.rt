@@ -4,7 +4,7 @@ ghost use Rattle.std.specs.Prelude.{◌≡◌, ℕ, ◌+◌, ◌++◌, ◌∷◌
 ghost use Rattle.std.specs.Global.{Global};
 ghost use Rattle.conf_ast.specs.declared.kind.ConfFault.TheVariants as faults;
 ghost use Rattle.conf_ast.specs.Configurations as conf;
-ghost use Rattle.conf_ast.specs.Configurations.{Declaration, bgp_setting_of, declaration_of, instance_of, pipe_setting_of, routine_of, static_setting_of, value_of};
+ghost use Rattle.conf_ast.specs.Configurations.{bgp_setting_of, declaration_of, instance_of, pipe_setting_of, routine_of, static_setting_of, value_of};
 ghost use Rattle.conf_ast.specs.Filters.{block_of};
 ghost use Rattle.conf_names.specs.Known.{ArePipesThere};
 ghost use Rattle.conf_names.specs.Refusals.{first_in};
@@ -29,6 +29,7 @@ use bits_ip::{Family, OutOfMemory};
 use conf_ast::configurations::{BgpOption, Literal, PipeOption, Protocol, Statement, StaticOption};
 use conf_ast::filters::{Filter, Function};
 use conf_ast::{ConfFault, Name};
+use conf_names::names::place_of;
 use conf_names::{BGP_STEM, Declared, PIPE_STEM, STATIC_STEM, own_name};
 use conf_rules::{first_in_statement, joint_of};
 use filt_check::resolve_function;
@@ -61,19 +62,19 @@ fn define(
 fn table(
     alloc: Global,
     text: &[u8],
-    declared: &mut Declared,
+    checked: &mut Checked,
     at: usize,
     family: Family,
     name: Name,
 ) -> Result<(), OutOfMemory>
-    requires { IsAllowed text.now (conf.Table at family name) declared.old }
-    ensures { OnOk result (Declares text.now (conf.Table at family name) declared.old
-        declared.new) }
+    requires { IsAllowed text.now (conf.Table at family name) checked.old.declared }
+    ensures { OnOk result (Adds text.now (conf.Table at family name) checked.old checked.new) }
 {
     if name.bytes(text) == master(family) {
         Ok(())
     } else {
-        declare_table(alloc, declared, name.bytes(text), family)?;
+        declare_table(alloc, &mut checked.declared, name.bytes(text), family)?;
+        checked.table_places.push(name.at)?;
         Ok(())
     }
 }
@@ -116,6 +117,7 @@ fn filter(
 /// One protocol more, whose names are declared.
 fn push_protocol(
     checked: &mut Checked,
+    at: usize,
     name: Vec<u8>,
     body: ProtocolBody,
 ) -> Result<(), OutOfMemory>
@@ -125,9 +127,13 @@ fn push_protocol(
         ≡ counted (known_of text checked.old.declared)) }
     ensures filters { OnOk result (checked.new.filters.items ≡ checked.old.filters.items) }
     ensures protocols { OnOk result (checked.new.protocols.items
-        ≡ checked.old.protocols.items ++ record { name = name.items; body = body } ∷ []) }
+        ≡ checked.old.protocols.items ++ record { at = at; name = name.items; body = body } ∷ []) }
+    ensures places { OnOk result (checked.new.table_places.items
+        ≡ checked.old.table_places.items) }
+    ensures end { OnOk result (checked.new.end ≡ checked.old.end) }
 {
     checked.protocols.push(ProtocolDef {
+        at,
         name: Seq::from_vec(name),
         body,
     })?;
@@ -149,7 +155,8 @@ fn add_static(
     let name = own_name(alloc, text, &checked.declared, STATIC_STEM, protocol.name)?;
     let def = static_protocol(alloc, text, &checked.declared, protocol)?;
     declare(alloc, &mut checked.declared.scope, &name)?;
-    push_protocol(checked, name, ProtocolBody::Static(def))?;
+    let at = place_of(protocol.at, protocol.name);
+    push_protocol(checked, at, name, ProtocolBody::Static(def))?;
     Ok(())
 }
 
@@ -167,7 +174,8 @@ fn add_bgp(
     let name = own_name(alloc, text, &checked.declared, BGP_STEM, protocol.name)?;
     let def = bgp(alloc, text, &checked.declared, protocol)?;
     declare(alloc, &mut checked.declared.scope, &name)?;
-    push_protocol(checked, name, ProtocolBody::Bgp(def))?;
+    let at = place_of(protocol.at, protocol.name);
+    push_protocol(checked, at, name, ProtocolBody::Bgp(def))?;
     Ok(())
 }
 
@@ -186,7 +194,8 @@ fn add_pipe(
     let name = own_name(alloc, text, &checked.declared, PIPE_STEM, protocol.name)?;
     let def = pipe(alloc, text, &checked.declared, protocol)?;
     declare_pipe(alloc, &mut checked.declared.scope, &name)?;
-    push_protocol(checked, name, ProtocolBody::Pipe(def))?;
+    let at = place_of(protocol.at, protocol.name);
+    push_protocol(checked, at, name, ProtocolBody::Pipe(def))?;
     declare_joint(&mut checked.declared, joint)?;
     Ok(())
 }
@@ -210,7 +219,7 @@ fn add(
             define(alloc, text, &mut checked.declared, *name, value)
         }
         Statement::Table { at, family, name } => {
-            table(alloc, text, &mut checked.declared, *at, *family, *name)
+            table(alloc, text, checked, *at, *family, *name)
         }
         Statement::Function(f) => function(alloc, text, &mut checked.declared, f),
         Statement::Filter { at, filter: f } => filter(alloc, text, checked, *at, f),
@@ -245,18 +254,38 @@ fn refuse(
     }
 }
 
+/// The places of master4 and master6.
+fn places_at_start(alloc: Global) -> Result<Vec<usize>, OutOfMemory>
+    ensures { IfOk result (λ places. places.items ≡ 0 ∷ 0 ∷ []) }
+{
+    let mut places = Vec::new(alloc);
+    places.push(0)?;
+    places.push(0)?;
+    Ok(places)
+}
+
+/// What there is before the first statement.
+fn nothing_yet(alloc: Global, text: &[u8]) -> Result<Checked, OutOfMemory>
+    ensures { IfOk result (Stands text.now []) }
+{
+    let declared = declared_at_start(alloc)?;
+    let table_places = places_at_start(alloc)?;
+    Ok(Checked {
+        declared,
+        filters: Vec::new(alloc),
+        protocols: Vec::new(alloc),
+        table_places,
+        end: text.len(),
+    })
+}
+
 impl Checked {
     /// What there is before the first statement.
-    pub(crate) fn start(alloc: Global) -> Result<Checked, ConfFault>
-        ensures stands { IfOk result (λ checked. (text : List ℕ) → Stands text [] checked) }
+    pub(crate) fn start(alloc: Global, text: &[u8]) -> Result<Checked, ConfFault>
+        ensures stands { IfOk result (Stands text.now []) }
         ensures fault { IfErr result (λ fault. fault ≡ faults.Memory) }
     {
-        let declared = declared_at_start(alloc).map_err(|_| ConfFault::Memory)?;
-        Ok(Checked {
-            declared,
-            filters: Vec::new(alloc),
-            protocols: Vec::new(alloc),
-        })
+        nothing_yet(alloc, text).map_err(|_| ConfFault::Memory)
     }
 
     /// Checks one statement more, over what is declared before it, and adds it.

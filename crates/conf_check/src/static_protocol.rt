@@ -9,9 +9,9 @@ ghost use Rattle.conf_check.specs.Checked.{IsStatic};
 ghost use Rattle.conf_check.specs.Seen.{HasOne, Means};
 
 use crate::channel::channel;
-use crate::checked::{StaticDef, StaticRoute, StaticTarget};
-use attrs::Seq;
-use bits_ip::OutOfMemory;
+use crate::checked::{StaticDef, StaticRoute};
+use attrs::{Dest, Seq};
+use bits_ip::{Addr, OutOfMemory};
 use conf_ast::configurations::{Channel, Protocol, Route, RouteTarget, StaticOption};
 use conf_names::Declared;
 use conf_options::STATIC_PREFERENCE;
@@ -51,14 +51,25 @@ fn only_channel(options: &[StaticOption]) -> &Channel
     }
 }
 
-fn target_of(target: RouteTarget) -> StaticTarget
-    ensures { result ≡ of.target_of target }
+fn dest_of(target: RouteTarget) -> Dest
+    ensures { result ≡ of.dest_of target }
 {
     match target {
-        RouteTarget::Via(address) => StaticTarget::Via(address.addr),
-        RouteTarget::Blackhole => StaticTarget::Blackhole,
-        RouteTarget::Unreachable => StaticTarget::Unreachable,
-        RouteTarget::Prohibit => StaticTarget::Prohibit,
+        RouteTarget::Via(_) => Dest::Unicast,
+        RouteTarget::Blackhole => Dest::Blackhole,
+        RouteTarget::Unreachable => Dest::Unreachable,
+        RouteTarget::Prohibit => Dest::Prohibit,
+    }
+}
+
+fn gateway_of(target: RouteTarget) -> Option<Addr>
+    ensures { result ≡ of.gateway_of target }
+{
+    match target {
+        RouteTarget::Via(gateway) => Some(gateway.addr),
+        RouteTarget::Blackhole => None,
+        RouteTarget::Unreachable => None,
+        RouteTarget::Prohibit => None,
     }
 }
 
@@ -67,7 +78,8 @@ fn route_of(route: Route) -> StaticRoute
 {
     StaticRoute {
         net: route.net,
-        target: target_of(route.target),
+        dest: dest_of(route.target),
+        gateway: gateway_of(route.target),
     }
 }
 

@@ -1,5 +1,5 @@
 -- What a checked configuration holds in memory is what its statements come to.
-use Rattle.std.proofs.Common.{◌≡◌, ◌∙◌, sym, ap, refl, ℕ, zero, suc, Bool, List, [], ◌∷◌, ◌++◌, map, Option, Some, None, Result, Ok, Err, append-nil, append_assoc}
+use Rattle.std.proofs.Common.{◌≡◌, ◌∙◌, sym, ap, refl, ℕ, zero, suc, Bool, List, [], ◌∷◌, ◌++◌, map, Option, Some, None, append-nil, append_assoc}
 use Rattle.std.proofs.Math.Path.{fun_ext}
 use Rattle.std.specs.Prelude.{if◌then◌else◌, slice_get}
 use Rattle.bits_ip.specs.declared.address.Addr.{Addr}
@@ -10,11 +10,9 @@ use Rattle.conf_ast.specs.Configurations as conf
 use Rattle.conf_ast.specs.Configurations.{BgpSetting, FamilyChannel, Instance, Passing, PassAll, PassNone, PassByFilter, PassByBlock, PassWhere, PipeSetting, StaticSetting}
 use Rattle.conf_ast.specs.Filters.{Expression, Statements}
 use Rattle.filt_meaning.specs.Configuration as meaning
-use Rattle.filt_meaning.specs.Configuration.{around_route, constant, filter_where, of_text, verdict, verdict_of}
+use Rattle.filt_meaning.specs.Configuration.{around_route, filter_where, of_text, verdict, verdict_of}
 use Rattle.filt_meaning.specs.Names.{Context}
 use Rattle.filt_types.specs.Refused.{of_filter}
-use Rattle.filt_meaning.specs.Values.{Val}
-use Rattle.filt_meaning.specs.declared.value.Failure.{Failure}
 use Rattle.filt_meaning.specs.Scopes.{context_of, named}
 use Rattle.filt_meaning.specs.declared.scope.Scope.{Scope}
 use Rattle.filt_meaning.specs.declared.tree.TFilter.{TFilter}
@@ -23,7 +21,7 @@ use Rattle.conf_options.specs.Defaults.{bgp_preference, static_preference}
 use Rattle.conf_options.specs.Options.{pipe_options}
 use Rattle.conf_rules.specs.Protocols.{bgp_channels, static_channels, static_routes}
 use Rattle.conf_rules.specs.Statements.{is_master}
-use Rattle.conf_check.specs.Behind.{at_start, behind, behind_one, context_in, with_table, with_value}
+use Rattle.conf_check.specs.Behind.{at_start, behind, behind_one, with_table}
 use Rattle.conf_check.specs.Checked.{Source, AreProtocols, Does, DoEach, IsBgp, IsBody, IsChannel, IsChecked, IsOnly, IsPeer, IsPipe, IsPolicy, IsProtocol, IsStatic, filter_sources, protocol_name, route_of}
 use Rattle.conf_check.specs.declared.checked.BgpDef.{BgpDef}
 use Rattle.conf_check.specs.declared.checked.ChannelDef.{ChannelDef}
@@ -37,6 +35,7 @@ use Rattle.conf_check.specs.declared.checked.ProtocolBody.TheVariants as bodies
 use Rattle.conf_check.specs.declared.checked.ProtocolDef.{ProtocolDef}
 use Rattle.conf_check.specs.declared.checked.StaticDef.{StaticDef}
 use Rattle.conf_check.specs.declared.checked.StaticRoute.{StaticRoute}
+use Rattle.conf_check.proofs.Places.{text_stays}
 use Rattle.conf_system.specs.Asked.{Asked, asked_behind, scene_over, unless_refused}
 use Rattle.conf_system.specs.Policies.{Filter, by_source, says}
 use Rattle.conf_system.specs.Seen as seen
@@ -255,10 +254,6 @@ abbrev filter_names : (text : List ℕ) → List conf.Declaration → List (List
 filter_names text [] = []
 filter_names text (d ∷ ds) = filter_name text d ++ filter_names text ds
 
-value_text : (known : Known) (name : List ℕ) (r : Result Val Failure) → (with_value known.scene name r).text ≡ known.scene.text
-value_text known name (Ok v) = refl
-value_text known name (Err failure) = refl
-
 -- what a statement leaves of the text and adds to the names of filters
 abbrev Names : (text : List ℕ) → Known → Known → conf.Declaration → Type 0
 Names text old new d = (new.scene.text ≡ old.scene.text) × (new.filters ≡ old.filters ++ filter_name old.scene.text d)
@@ -273,7 +268,7 @@ table_names text known Bool.false name f = (refl, no_name text known)
 one_name : (text : List ℕ) (known : Known) (d : conf.Declaration) → Names text known (behind_one known d) d
 one_name text known (conf.RouterId a) = (refl, no_name text known)
 one_name text known conf.Log = (refl, no_name text known)
-one_name text known (conf.Define name v) = (value_text known (name_bytes known.scene.text name) (constant (context_in known.scene) v), no_name text known)
+one_name text known (conf.Define name v) = (text_stays known (conf.Define name v), no_name text known)
 one_name text known (conf.Table at family name) = table_names text known (is_master known family name) (name_bytes known.scene.text name) family
 one_name text known (conf.DefineFunction f) = (refl, no_name text known)
 one_name text known (conf.DefineFilter at name ss) = (refl, refl)

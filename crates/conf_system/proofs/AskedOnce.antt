@@ -17,7 +17,7 @@ use Rattle.filt_syntax.specs.declared.parse.SyntaxFault.{SyntaxFault}
 use Rattle.filt_syntax.specs.declared.parse.SyntaxFault.TheVariants as faults
 use Rattle.filt_syntax.proofs.RefusedTokens.{below_words}
 use Rattle.conf_system.specs.Asked.{Asked, Asks, Refuses}
-use Rattle.conf_system.specs.Conditions.{GoesOn, HasNoExpression, IsCondition, IsExpressionText, IsNoExpression, RefusesCondition}
+use Rattle.conf_system.specs.Conditions.{IsCondition, IsExpressionText, IsNoExpression, RefusesCondition}
 use Rattle.conf_system.specs.Policies.{Filter}
 use Rattle.conf_system.specs.System.{System}
 use Rattle.conf_system.proofs.Counted.{tokens_few, words_few}

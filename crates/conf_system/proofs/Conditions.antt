@@ -1,5 +1,5 @@
 -- What is answered of a condition.
-use Rattle.std.proofs.Common.{◌≡◌, ◌∙◌, sym, ap, refl, ℕ, Bool, true, false, List, [], ◌∷◌, Option, Some, None, Result, Ok, Err, true≢false, inl, inr}
+use Rattle.std.proofs.Common.{◌≡◌, ◌∙◌, sym, ap, refl, ℕ, Bool, true, false, List, [], ◌∷◌, Option, Some, None, Result, Ok, Err, true≢false, inr}
 use Rattle.std.proofs.Math.Path.{fun_ext}
 use Rattle.std.proofs.lemmas.Option.{none-some}
 use Rattle.std.specs.Prelude.{if◌then◌else◌, is_some, IfOk, MatchOption}
@@ -17,7 +17,7 @@ use Rattle.filt_meaning.specs.declared.tree.TFilter.{TFilter}
 use Rattle.filt_types.specs.Refusals.{first_in, precedes}
 use Rattle.filt_types.specs.Seen.{scene_of}
 use Rattle.filt_types.specs.declared.refusal.Refusal.{Refusal}
-use Rattle.conf_system.specs.Asked.{Asked, Asks, Refuses, unless_refused}
+use Rattle.conf_system.specs.Asked.{Asks, Refuses, unless_refused}
 use Rattle.conf_system.specs.Conditions.{IsCondition, IsExpressionText, RefusesCondition}
 use Rattle.conf_system.specs.Policies.{Filter}
 use Rattle.conf_system.specs.Seen.{asked_over, filter_says, system_of, tree_says}

@@ -1,5 +1,5 @@
 -- An accepted configuration has few tables, and no more filters than bytes.
-use Rattle.std.proofs.Common.{◌≡◌, ◌∙◌, ◌+◌, ◌<◌, ◌≤◌, ℕ, suc, List, [], ◌∷◌, ◌++◌, length, map, None, sym, ap, subst, arith, inl, inr}
+use Rattle.std.proofs.Common.{◌≡◌, ◌∙◌, ◌+◌, ◌<◌, ◌≤◌, ℕ, List, [], ◌∷◌, ◌++◌, length, map, None, sym, ap, subst, arith, inl, inr}
 use Rattle.std.proofs.lemmas.Bool.{cases_Bool, ltb-true, not-false}
 use Rattle.std.proofs.lemmas.List.{length-append, length-map}
 use Rattle.std.specs.Prelude.{nat_lt}
@@ -12,7 +12,7 @@ use Rattle.conf_lex.specs.declared.word.Word.{Word}
 use Rattle.conf_tree.specs.Significant.{significant_words}
 use Rattle.conf_tree.specs.View.{statement_tree, statements_tree}
 use Rattle.conf_ast.specs.Configurations as conf
-use Rattle.conf_ast.specs.Configurations.{configuration_of, declaration_of}
+use Rattle.conf_ast.specs.Configurations.{declaration_of}
 use Rattle.conf_ast.specs.declared.configurations.Statement.{Statement}
 use Rattle.conf_ast.specs.declared.configurations.Statement.TheVariants as statements
 use Rattle.conf_check.proofs.Allowed.{nil_right, none_refused}

@@ -1,6 +1,5 @@
 -- What is told of a text that is refused, and of one that is accepted.
-use Rattle.std.proofs.Common.{◌≡◌, ◌∙◌, sym, ap, subst, refl, ℕ, List, map, Option, Some, None, inl, inr}
-use Rattle.conf_tree.specs.Position.{IsPlace}
+use Rattle.std.proofs.Common.{◌≡◌, sym, subst, refl, ℕ, List, map, Some, None, inl, inr}
 use Rattle.conf_tree.specs.Read as tree
 use Rattle.conf_tree.specs.Read.{IsConfigText, IsRefusedText}
 use Rattle.conf_tree.specs.View.{statements_tree}
@@ -13,10 +12,8 @@ use Rattle.conf_check.specs.Behind.{at_start}
 use Rattle.conf_check.specs.Refused as check
 use Rattle.conf_check.specs.Refused.{refusal_of}
 use Rattle.conf_check.specs.Checked.{IsChecked}
-use Rattle.conf_check.specs.declared.checked.Checked.{Checked}
 use Rattle.conf_system.proofs.Agrees.{system_agrees}
 use Rattle.conf_system.specs.Seen.{IsTold, system_of}
-use Rattle.conf_system.specs.System.{System, system_in}
 use Rattle.conf_system.specs.Texts.{IsAcceptedText, IsFault, IsSystem, refused_in}
 use Rattle.conf_system.specs.declared.read.SystemFault.{SystemFault}
 use Rattle.conf_system.specs.declared.read.SystemFault.TheVariants as faults

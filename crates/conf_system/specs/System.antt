@@ -12,14 +12,12 @@ use Rattle.conf_ast.specs.Names.{name_bytes}
 use Rattle.conf_ast.specs.Configurations as conf
 use Rattle.conf_ast.specs.Configurations.{BgpSetting, FamilyChannel, Passing, PipeSetting}
 use Rattle.conf_ast.specs.Filters.{Expression}
-use Rattle.conf_options.specs.Defaults as defaults
-use Rattle.conf_options.specs.Defaults.{address_or, bgp_preference, export_or, import_or, interprets, limit_or, static_preference}
-use Rattle.conf_options.specs.Options.{bgp_options, pipe_options}
-use Rattle.conf_rules.specs.Channels.{options_of}
-use Rattle.conf_names.specs.Known.{Known, table_number, table_of}
-use Rattle.conf_rules.specs.Protocols.{as_number, bgp_channels, primary_name, static_channels, static_routes}
+use Rattle.conf_options.specs.Defaults.{bgp_preference, static_preference}
+use Rattle.conf_options.specs.Options.{pipe_options}
+use Rattle.conf_names.specs.Known.{Known}
+use Rattle.conf_rules.specs.Protocols.{bgp_channels, static_channels, static_routes}
 use Rattle.conf_check.specs.Behind.{at_start, behind}
-use Rattle.conf_check.specs.Checked.{Source, channel_table, filter_sources, limit_of, number_or, or_v4, or_zero, protocol_name, route_of}
+use Rattle.conf_check.specs.Checked.{Source, are_interpreted, channel_exports, channel_imports, channel_limit, channel_preference, channel_table, filter_sources, local_of, local_pref_of, med_of, neighbor_of, peer_table, pipe_exports, pipe_family, pipe_imports, primary_table, protocol_name, remote_of, route_of}
 use Rattle.conf_check.specs.declared.checked.ImportLimit.{ImportLimit}
 use Rattle.conf_check.specs.declared.checked.StaticRoute.{StaticRoute}
 use Rattle.filt_meaning.specs.Configuration.{verdict}
@@ -83,10 +81,10 @@ module _ (said : Passing → Filter) (known : Known) where
   channel_of preference c = record {
     family = c.family;
     table = channel_table known c;
-    import = said (import_or (options_of c).import);
-    export = said (export_or (options_of c).export);
-    preference = number_or known preference (options_of c).preference;
-    limit = limit_of known (limit_or (options_of c).limit);
+    import = said (channel_imports c);
+    export = said (channel_exports c);
+    preference = channel_preference known preference c;
+    limit = channel_limit known c;
   }
 
   abbrev pub static_with : List FamilyChannel → List StaticRoute → Option Body
@@ -95,25 +93,25 @@ module _ (said : Passing → Filter) (known : Known) where
   static_with _ routes = None
 
   abbrev pub bgp_with : List FamilyChannel → List BgpSetting → Option Body
-  bgp_with (c ∷ []) settings = let o = bgp_options settings in Some (IsBgp (record {
-    local = or_zero (as_number known o.local);
-    neighbor = address_or o.neighbor;
-    remote = or_zero (as_number known (defaults.remote o));
-    interpret_communities = interprets o.interpret_communities;
-    default_med = number_or known defaults.default_med o.default_med;
-    default_local_pref = number_or known defaults.default_local_pref o.default_local_pref;
+  bgp_with (c ∷ []) settings = Some (IsBgp (record {
+    local = local_of known settings;
+    neighbor = neighbor_of settings;
+    remote = remote_of known settings;
+    interpret_communities = are_interpreted settings;
+    default_med = med_of known settings;
+    default_local_pref = local_pref_of known settings;
     channel = channel_of bgp_preference c;
   }))
   bgp_with _ settings = None
 
   abbrev pub pipe_with : Option Name → List PipeSetting → Option Body
   pipe_with None settings = None
-  pipe_with (Some peer) settings = let o = pipe_options settings in Some (IsPipe (record {
-    family = or_v4 (table_of known peer);
-    table = table_number known (primary_name known.scene.text o.table);
-    peer = table_number known (name_bytes known.scene.text peer);
-    import = said (import_or o.import);
-    export = said (export_or o.export);
+  pipe_with (Some peer) settings = Some (IsPipe (record {
+    family = pipe_family known peer;
+    table = primary_table known settings;
+    peer = peer_table known peer;
+    import = said (pipe_imports settings);
+    export = said (pipe_exports settings);
   }))
 
   -- What a statement says of a protocol. In what is accepted a protocol has one channel, and a pipe

@@ -1,4 +1,4 @@
-ghost use Rattle.std.specs.Prelude.{◌≡◌, ◌<◌, ◌-◌, ◌^◌, length, IfOk, IfErr};
+ghost use Rattle.std.specs.Prelude.{◌<◌, ◌-◌, ◌^◌, length, IfOk, IfErr};
 ghost use Rattle.conf_system.specs.Coded.{AllCanRun};
 ghost use Rattle.conf_system.specs.Seen.{IsTold, system_of};
 ghost use Rattle.conf_system.specs.Texts.{IsFault, IsSystem};

@@ -1,5 +1,5 @@
 -- What a script announces to a protocol is of the family of the protocol's table.
-use Rattle.std.proofs.Common.{◌≡◌, ◌∙◌, sym, ap, subst, refl, ℕ, List, Option, Some, None}
+use Rattle.std.proofs.Common.{◌≡◌, sym, subst, refl, ℕ, List, Option, Some, None}
 use Rattle.std.specs.Prelude.{IfSome, slice_get}
 use Rattle.std.specs.List.{All}
 use Rattle.std.proofs.lemmas.List.Elements.{All-weaker}
@@ -19,7 +19,6 @@ use Rattle.script_lines.specs.Script.{NamesWhatIs, Suits}
 use Rattle.script_lines.specs.declared.named.Named.{Named}
 use Rattle.script_lines.specs.declared.named.NamedProtocol.{NamedProtocol}
 use Rattle.script_lines.specs.declared.named.ProtocolKind.{ProtocolKind}
-use Rattle.script_lines.specs.declared.named.ProtocolKind.TheVariants.{Bgp}
 use Rattle.script_lines.specs.declared.script.Line.{Line}
 use Rattle.script_lines.specs.declared.script.Line.TheVariants as lines
 use Rattle.sys_build.specs.Names.{IsKindOf}

@@ -1,5 +1,5 @@
 -- What is judged of conditions, one after another, and of a text by its lines and its conditions.
-use Rattle.std.proofs.Common.{◌≡◌, ◌∙◌, sym, ap, subst, refl, ℕ, zero, suc, ◌+◌, ◌<◌, ◌≤◌, All, List, [], ◌∷◌, ◌++◌, length, map, take, drop, get_or, Result, Ok, Err, arith, inl, inr}
+use Rattle.std.proofs.Common.{◌≡◌, ◌∙◌, sym, ap, subst, ℕ, zero, suc, ◌+◌, ◌<◌, ◌≤◌, All, List, [], ◌∷◌, ◌++◌, length, map, take, drop, get_or, Result, Ok, Err, arith, inl, inr}
 use Rattle.std.specs.Prelude.{IfOk, IsErrAnd, MatchResult}
 use Rattle.std.proofs.lemmas.List.{map-append, take_all, take_more}
 use Rattle.std.proofs.lemmas.List.Elements.{All-push}
@@ -7,10 +7,10 @@ use Rattle.script_lines.specs.Script as lines
 use Rattle.script_lines.specs.declared.faults.ScriptKind.{ScriptKind}
 use Rattle.script_lines.specs.declared.script.Condition.{Condition}
 use Rattle.sys_build.specs.Names.{named_of}
-use Rattle.sys_build.specs.Scripts.{AreAsked, IsFirstRefused, IsRefusedOf, Tells, TellsFirst, TellsOne, conditions_in}
+use Rattle.sys_build.specs.Scripts.{AreAsked, IsRefusedOf, Tells, TellsFirst, TellsOne, conditions_in}
 use Rattle.sys_build.specs.declared.scripts.ReadFault.{ReadFault}
 use Rattle.sys_build.specs.declared.scripts.ReadFault.TheVariants as faults
-use Rattle.conf_system.specs.Conditions.{IsCondition, RefusesCondition}
+use Rattle.conf_system.specs.Conditions.{IsCondition}
 use Rattle.conf_system.specs.Policies.{Filter}
 use Rattle.conf_system.specs.System.{System}
 

@@ -3,16 +3,11 @@
 -- the script's queries, over the filters by name and the script's conditions.
 -- From: BIRD User's Guide, "Static", "BGP", "Pipe" and "Channel options".
 -- Example: static routes have preference 200; a neighbour in another AS is external.
-use Rattle.std.specs.Prelude.{◌≡◌, ℕ, ◌+◌, Bool, true, false, not, ◌==◌, if◌then◌else◌, List, [], ◌∷◌, ◌++◌, map, Option, Some, None, option_map}
+use Rattle.std.specs.Prelude.{ℕ, ◌+◌, Bool, false, not, ◌==◌, List, [], ◌∷◌, ◌++◌, map, Option, Some, None, option_map}
 use Rattle.bits_ip.specs.declared.address.Addr.{Addr}
 use Rattle.bits_ip.specs.declared.address.Family.{Family}
-use Rattle.attrs.specs.declared.attributes.Dest.{Dest}
-use Rattle.attrs.specs.declared.attributes.Dest.TheVariants as dests
-use Rattle.attrs.specs.declared.route.Src.{Src}
 use Rattle.conf_check.specs.declared.checked.ImportLimit.{ImportLimit}
 use Rattle.conf_check.specs.declared.checked.StaticRoute.{StaticRoute}
-use Rattle.conf_check.specs.declared.checked.StaticTarget.{StaticTarget}
-use Rattle.conf_check.specs.declared.checked.StaticTarget.TheVariants as targets
 use Rattle.conf_ast.specs.declared.configurations.Action.{Action as Written}
 use Rattle.conf_ast.specs.declared.configurations.Action.TheVariants as written
 use Rattle.import_core.specs.declared.import_spec.Action.{Action}
@@ -39,25 +34,8 @@ action_of written.Disable = actions.Disable
 abbrev pub limit_of : ImportLimit → Limit
 limit_of limit = record { count = limit.count; action = action_of limit.action }
 
--- a route leads to a gateway, or is dropped in one of three ways
-abbrev pub dest_of : StaticTarget → Dest
-dest_of (targets.Via gateway) = dests.Unicast
-dest_of targets.Blackhole = dests.Blackhole
-dest_of targets.Unreachable = dests.Unreachable
-dest_of targets.Prohibit = dests.Prohibit
-
-abbrev pub gateway_of : StaticTarget → Option Addr
-gateway_of (targets.Via gateway) = Some gateway
-gateway_of targets.Blackhole = None
-gateway_of targets.Unreachable = None
-gateway_of targets.Prohibit = None
-
 abbrev pub fixed_of : StaticRoute → Fixed
-fixed_of route = record {
-  net = route.net;
-  dest = dest_of route.target;
-  gw = gateway_of route.target;
-}
+fixed_of route = record { net = route.net; dest = route.dest; gw = route.gateway }
 
 -- ---- protocols
 

@@ -1,5 +1,5 @@
 //! The filters by which queries choose.
-ghost use Rattle.std.specs.Prelude.{◌≡◌, ◌++◌, All, IfOk, map};
+ghost use Rattle.std.specs.Prelude.{◌≡◌, All, IfOk, map};
 ghost use Rattle.sys_build.specs.Setups.{choices_of};
 ghost use Rattle.conf_system.specs.Coded.{HasCode, CanRunOver};
 ghost use Rattle.conf_system.specs.Seen.{filter_says, system_of};

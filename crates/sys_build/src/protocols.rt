@@ -1,19 +1,18 @@
 //! What the protocols of a configuration give.
 ghost use Rattle.std.specs.Prelude.{◌≡◌, ◌≤◌, IfOk, length, map, option_map};
 ghost use Rattle.sys_build.specs.Setups as setups;
-ghost use Rattle.sys_build.specs.Setups.{action_of, bgp_of, body_of, dest_of, fixed_of, gateway_of, limit_of, pipe_of, protocol_of, protocols_from, static_of};
+ghost use Rattle.sys_build.specs.Setups.{action_of, bgp_of, body_of, fixed_of, limit_of, pipe_of, protocol_of, protocols_from, static_of};
 ghost use Rattle.sys_run.specs.Parts.{body_seen, pipe_seen, protocol_seen, source_seen};
 ghost use Rattle.conf_system.specs.Coded.{BodyCanRun, ChannelCanRun, HasCode, PolicyCanRun, ProtocolCanRun};
 ghost use Rattle.conf_system.specs.Seen as seen;
 ghost use Rattle.conf_system.specs.Seen.{bgp_seen, policy_says, static_seen, system_of};
 
 use crate::tables::copied;
-use attrs::{Dest, Judge, Seq, Src};
-use bits_ip::{Addr, OutOfMemory};
+use attrs::{Judge, Seq, Src};
+use bits_ip::OutOfMemory;
 use conf_ast::configurations::Action as Written;
 use conf_check::{
     BgpDef, ImportLimit, PipeDef, PolicyDef, ProtocolBody, ProtocolDef, StaticDef, StaticRoute,
-    StaticTarget,
 };
 use conf_system::{Code, Passes, System};
 use export_core::ExportSpec;
@@ -156,30 +155,8 @@ fn fixed_of(route: &StaticRoute) -> Fixed
 {
     Fixed {
         net: route.net,
-        dest: dest_of(&route.target),
-        gw: gateway_of(&route.target),
-    }
-}
-
-fn dest_of(target: &StaticTarget) -> Dest
-    ensures { result ≡ dest_of target.now }
-{
-    match target {
-        StaticTarget::Via(_) => Dest::Unicast,
-        StaticTarget::Blackhole => Dest::Blackhole,
-        StaticTarget::Unreachable => Dest::Unreachable,
-        StaticTarget::Prohibit => Dest::Prohibit,
-    }
-}
-
-fn gateway_of(target: &StaticTarget) -> Option<Addr>
-    ensures { result ≡ gateway_of target.now }
-{
-    match target {
-        StaticTarget::Via(gateway) => Some(*gateway),
-        StaticTarget::Blackhole => None,
-        StaticTarget::Unreachable => None,
-        StaticTarget::Prohibit => None,
+        dest: route.dest,
+        gw: route.gateway,
     }
 }
 

@@ -1,5 +1,5 @@
 //! The core of a configuration.
-ghost use Rattle.std.specs.Prelude.{◌≡◌, ℕ, [], All, List, IfOk, map};
+ghost use Rattle.std.specs.Prelude.{ℕ, [], All, List, IfOk, map};
 ghost use Rattle.core_setup.specs.Setup.{IsSetup};
 ghost use Rattle.sys_run.specs.Playing.{HasPlayed};
 ghost use Rattle.sys_build.specs.Setups.{IsPlayable, setup_of};

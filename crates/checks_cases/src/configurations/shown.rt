@@ -12,7 +12,7 @@ use bits_ip::{Family, OutOfMemory, append_addr, append_prefix, write_number};
 use conf_ast::configurations::Action;
 use conf_check::{
     BgpDef, ChannelDef, Checked, ImportLimit, PipeDef, PolicyDef, ProtocolBody, ProtocolDef,
-    StaticDef, StaticRoute, StaticTarget,
+    StaticDef, StaticRoute,
 };
 
 /// How many protocols are shown.
@@ -97,15 +97,17 @@ fn write_channel(
     write_limit(channel.limit, out)
 }
 
-fn write_target(target: StaticTarget, out: &mut Vec<u8>) -> Result<(), OutOfMemory> {
-    match target {
-        StaticTarget::Via(addr) => {
+/// `via` and the gateway, or the word by which a route without one is dropped.
+fn write_target(route: &StaticRoute, out: &mut Vec<u8>) -> Result<(), OutOfMemory> {
+    match route.gateway {
+        Some(gateway) => {
             out.extend_from_slice(b" via ")?;
-            append_addr(&addr, out)?;
+            append_addr(&gateway, out)?;
         }
-        StaticTarget::Blackhole => out.extend_from_slice(b" blackhole")?,
-        StaticTarget::Unreachable => out.extend_from_slice(b" unreachable")?,
-        StaticTarget::Prohibit => out.extend_from_slice(b" prohibit")?,
+        None => {
+            out.push(b' ')?;
+            out.extend_from_slice(route.dest.word().as_bytes())?;
+        }
     }
     Ok(())
 }
@@ -113,7 +115,7 @@ fn write_target(target: StaticTarget, out: &mut Vec<u8>) -> Result<(), OutOfMemo
 fn write_route(route: &StaticRoute, out: &mut Vec<u8>) -> Result<(), OutOfMemory> {
     out.extend_from_slice(b", ")?;
     append_prefix(&route.net, out)?;
-    write_target(route.target, out)
+    write_target(route, out)
 }
 
 fn write_static(

@@ -4,10 +4,9 @@ ghost use Rattle.conf_system.specs.Coded.{AllCanRun};
 
 use crate::deciding::verdict;
 use crate::faults::{bad, no_memory};
-use crate::filters::changes::write_changes;
 use crate::filters::judging::see;
-use crate::routes::read_route;
 use attrs::{Attrs, Names, Verdict};
+use case_routes::{read_route, write_changes};
 use conf_system::{System, read_system};
 use conf_tree::{ConfFault, place, read_config};
 use filt_check::TypeFault;

@@ -16,8 +16,8 @@ use Rattle.conf_check.proofs.check.check_config.Goals as goal
 
 pub loop-statement-init : goal.loop-statement-init
 loop-statement-init c = record {
-  stands = c.in_ok-checked.ensures.stands c.args.config.now.text.now;
-  refusal = ap (λ (k : Known). refusal_of k (configuration_of c.deref-statement-items.result.now)) (c.in_ok-checked.ensures.stands c.args.config.now.text.now).declared;
+  stands = c.in_ok-checked.ensures.stands;
+  refusal = ap (λ (k : Known). refusal_of k (configuration_of c.deref-statement-items.result.now)) c.in_ok-checked.ensures.stands.declared;
 }
 
 pub check-requires-clause-named : goal.check-requires-clause-named

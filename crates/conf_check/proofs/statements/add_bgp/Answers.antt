@@ -32,5 +32,7 @@ returns c =
           c.in_ok-declare.ensures.stays (c.in_ok-declare.ensures.others ∙ ap (λ (n : List ℕ). other_names c.args.checked.now.declared.scope ++ n ∷ []) (c.deref.ensures.value ∙ c.in_ok-name.ensures))
           c.in_ok-push_protocol.ensures.scope (c.in_ok-push_protocol.ensures.known c.args.text.now);
       filters = c.in_ok-push_protocol.ensures.filters;
-      protocols = (record { name = c.in_ok-name.name.items; body = bodies.Bgp c.in_ok-def.def }, c.in_ok-push_protocol.ensures.protocols, record { name = c.in_ok-name.ensures; body = c.in_ok-def.ensures });
+      protocols = (record { at = c.place_of-at.result; name = c.in_ok-name.name.items; body = bodies.Bgp c.in_ok-def.def }, c.in_ok-push_protocol.ensures.protocols, record { at = c.place_of-at.ensures; name = c.in_ok-name.ensures; body = c.in_ok-def.ensures });
+      places = c.in_ok-push_protocol.ensures.places;
+      end = c.in_ok-push_protocol.ensures.end;
     }

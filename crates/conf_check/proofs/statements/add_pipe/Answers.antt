@@ -3,7 +3,7 @@ use Rattle.std.specs.List.{list_any}
 use Rattle.conf_ast.specs.declared.configurations.PipeOption.{PipeOption}
 use Rattle.conf_ast.specs.Configurations.{instance_of, pipe_setting_of}
 use Rattle.conf_rules.specs.Protocols.{joint_of}
-use Rattle.conf_names.specs.Names.{own_name, pipe_names, pipe_stem}
+use Rattle.conf_names.specs.Names.{pipe_names}
 use Rattle.conf_names.specs.Seen.{known_of}
 use Rattle.conf_check.specs.declared.checked.ProtocolBody.TheVariants as bodies
 use Rattle.conf_check.specs.Seen.{other_names}
@@ -34,5 +34,7 @@ returns c =
           c.in_ok-push_protocol.ensures.scope (c.in_ok-push_protocol.ensures.known c.args.text.now)
           c.in_ok-declare_joint.ensures.scope (c.in_ok-declare_joint.ensures.known c.args.text.now);
       filters = c.in_ok-push_protocol.ensures.filters;
-      protocols = (record { name = c.in_ok-name.name.items; body = bodies.Pipe c.in_ok-def.def }, c.in_ok-push_protocol.ensures.protocols, record { name = c.in_ok-name.ensures; body = c.in_ok-def.ensures });
+      protocols = (record { at = c.place_of-at.result; name = c.in_ok-name.name.items; body = bodies.Pipe c.in_ok-def.def }, c.in_ok-push_protocol.ensures.protocols, record { at = c.place_of-at.ensures; name = c.in_ok-name.ensures; body = c.in_ok-def.ensures });
+      places = c.in_ok-push_protocol.ensures.places;
+      end = c.in_ok-push_protocol.ensures.end;
     }

@@ -24,4 +24,6 @@ returns c =
           (c.in_ok-declare_filter.ensures.known c.args.text.now ∙ ap (λ (n : List ℕ). with_filter known n) c.bytes.ensures) (λ x. refl) c.in_ok-declare_filter.ensures.stays;
       filters = (c.in_ok-tree.tree, c.in_ok-push.ensures.items, c.in_ok-tree.ensures);
       protocols = refl;
+      places = refl;
+      end = refl;
     }

@@ -1,4 +1,4 @@
-use Rattle.std.proofs.Common.{◌∙◌, ap, ℕ, List, map, arith}
+use Rattle.std.proofs.Common.{ℕ, List, map, arith}
 use Rattle.std.proofs.lemmas.List.{length-map}
 use Rattle.conf_system.specs.contracts.passes.PassesJudge.TheImpl as passes
 use Rattle.conf_system.specs.Policies.{Filter}

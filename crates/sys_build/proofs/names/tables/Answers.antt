@@ -1,9 +1,7 @@
-use Rattle.std.proofs.Common.{◌∙◌, sym, ap, ℕ, List, map, arith}
+use Rattle.std.proofs.Common.{ℕ, List, arith}
 use Rattle.std.proofs.lemmas.List.{length-map}
 use Rattle.bits_ip.specs.declared.address.Family.{Family}
-use Rattle.script_lines.specs.declared.named.NamedTable.{NamedTable}
 use Rattle.conf_system.specs.Seen.{system_of}
-use Rattle.sys_build.specs.Names.{named_table}
 use Rattle.sys_build.proofs.Turns.{got_next, table_named, tables_named}
 use Rattle.sys_build.proofs.names.tables.Goals as goal
 

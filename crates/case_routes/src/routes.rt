@@ -4,14 +4,19 @@
 //! texts of attributes have them. What isn't said is as in the route of 203.0.113.0/24 that a
 //! neighbour 192.0.2.1 in another autonomous system gives with the path 65001 65002. `static` makes
 //! it a blackhole of a static protocol, with no attribute that isn't said behind that word.
-use crate::faults::bad;
 use attrs::{Attrs, Clist, Dest, Kind, Origin, Path, Route, Src};
 use bits_ip::{Addr, Prefix, parse_addr, parse_decimal, parse_prefix};
 use std::alloc::Global;
 use std::io;
+use std::io::{Error, ErrorKind};
 use text::next_word;
 
 const NEIGHBOUR: Addr = Addr::V4(0xC000_0201);
+
+/// The error of words that say no route.
+fn bad() -> Error {
+    Error::from(ErrorKind::InvalidData)
+}
 
 /// What the word behind a label is of.
 #[derive(Clone, Copy, Debug, PartialEq, Eq)]
