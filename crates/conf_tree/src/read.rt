@@ -61,7 +61,7 @@ fn config_of_words<'a>(
         Ok(statements) => Ok(Config { text, statements }),
         Err(SyntaxFault::Bad { at }) => Err(stopped(alloc, text, walked, at)),
         Err(SyntaxFault::TooDeep { at }) => Err(deepened(text, walked, at)),
-        Err(SyntaxFault::Unsupported { .. }) => Err(ConfFault::Memory),
+        Err(SyntaxFault::Unsupported { .. }) => unreachable!(),
         Err(SyntaxFault::Memory) => Err(ConfFault::Memory),
     }
 }

@@ -38,10 +38,12 @@ use Rattle.filt_meaning.specs.Trees as trees
 use Rattle.filt_meaning.specs.Trees.{Tables, expr, exprs, all_values, stmt, stmts, body, in_order, set_place}
 use Rattle.filt_types.specs.Walk.{arms_of}
 use Rattle.filt_types.proofs.Trees as o
-use Rattle.filt_check.specs.Seen.{Branch, acts_in, arm_in, arms_in, arms_seen, otherwise_in, picked, sorts_in, values_in, at_place}
+use Rattle.filt_resolve.specs.Seen.{values_in, at_place}
+use Rattle.filt_check.specs.Seen.{Branch, acts_in, arm_in, arms_in, arms_seen, otherwise_in, picked, sorts_in}
 use Rattle.filt_check.proofs.Forms as f
+use Rattle.filt_resolve.proofs.Forms as expr_forms
 use Rattle.filt_check.proofs.Gathered.{defaults_are}
-use Rattle.filt_check.proofs.Resolving.{values_are}
+use Rattle.filt_resolve.proofs.Resolving.{values_are}
 
 -- ---- lists of parts
 
@@ -84,7 +86,7 @@ assigned t c p target x b same h = f.stmt-Assign p x t ∙ assign_same c p targe
 
 pub default_assigned : (t : Tables) (c : Context) (p : TTarget) (n : Name) (k : Sort) (v : VariableType) (e : Option Expr) → set_place p ≡ set_target c (targets.Name n) → k ≡ sort_of_type v → e ≡ None → stmt (ts.Assign p (te.Default k)) t ≡ assign c (targets.Name n) (initial v (option_map expression_of e) c)
 default_assigned t c p n k v e same is none =
-    assigned t c p (targets.Name n) (te.Default k) (given (Ok (default_of (sort_of_type v)))) same (f.expr-Default k t ∙ ap (λ (k : Sort). given (Ok (default_of k))) is)
+    assigned t c p (targets.Name n) (te.Default k) (given (Ok (default_of (sort_of_type v)))) same (expr_forms.expr-Default k t ∙ ap (λ (k : Sort). given (Ok (default_of k))) is)
     ∙ ap (λ (e : Option Expr). assign c (targets.Name n) (initial v (option_map expression_of e) c)) (sym none)
 
 pub value_assigned : (t : Tables) (c : Context) (p : TTarget) (n : Name) (v : VariableType) (e : Option Expr) (x : TExpr) (y : Expr) → set_place p ≡ set_target c (targets.Name n) → expr x t ≡ value (expression_of y) c → e ≡ Some y → stmt (ts.Assign p x) t ≡ assign c (targets.Name n) (initial v (option_map expression_of e) c)
@@ -93,10 +95,10 @@ value_assigned t c p n v e x y same h is =
     ∙ ap (λ (e : Option Expr). assign c (targets.Name n) (initial v (option_map expression_of e) c)) (sym is)
 
 pub method_same : (t : Tables) (k : MethodKind) (a b : Box TExpr Global) (u v : Run Val) → expr a.value t ≡ u → expr b.value t ≡ v → expr (te.Method k a b) t ≡ on_two u v (method_of k)
-method_same t k a b u v p q = f.expr-Method k a b t ∙ ap (λ (r : Run Val). on_two r (expr b.value t) (method_of k)) p ∙ ap (λ (r : Run Val). on_two u r (method_of k)) q
+method_same t k a b u v p q = expr_forms.expr-Method k a b t ∙ ap (λ (r : Run Val). on_two r (expr b.value t) (method_of k)) p ∙ ap (λ (r : Run Val). on_two u r (method_of k)) q
 
 pub empty_same : (t : Tables) (a : Box TExpr Global) (u : Run Val) → expr a.value t ≡ u → expr (te.Empty a) t ≡ on_value u emptied_of
-empty_same t a u p = f.expr-Empty a t ∙ ap (λ (r : Run Val). on_value r emptied_of) p
+empty_same t a u p = expr_forms.expr-Empty a t ∙ ap (λ (r : Run Val). on_value r emptied_of) p
 
 -- ---- ends, calls
 
@@ -116,7 +118,7 @@ stuck_call : (a : Run Frame) → give (given (Err failures.Stuck)) ≡ evaluate 
 stuck_call a = refl
 
 pub call_unknown : (t : Tables) (d : Option Doing) (rs : List (Run Val)) → d ≡ None → stmt (ts.Return (Some te.Stuck)) t ≡ evaluate (call d (all_values rs))
-call_unknown t d rs none = f.stmt-Return (Some te.Stuck) t ∙ ap (λ (r : Run Val). give r) (f.expr-Stuck t) ∙ stuck_call (all_values rs) ∙ ap (λ (o : Option Doing). evaluate (call o (all_values rs))) (sym none)
+call_unknown t d rs none = f.stmt-Return (Some te.Stuck) t ∙ ap (λ (r : Run Val). give r) (expr_forms.expr-Stuck t) ∙ stuck_call (all_values rs) ∙ ap (λ (o : Option Doing). evaluate (call o (all_values rs))) (sym none)
 
 -- ---- statements of statements
 

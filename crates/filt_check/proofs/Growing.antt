@@ -14,7 +14,7 @@ use Rattle.filt_meaning.specs.declared.scope.TFunction.{TFunction}
 use Rattle.filt_meaning.specs.declared.tree.TFilter.{TFilter}
 use Rattle.filt_meaning.specs.Scopes.{constant_values, constants_in, context_of, function_names, function_trees, named, tables_of}
 use Rattle.filt_meaning.specs.Trees.{Tables, function, run, tables, tree_flow, with_function, with_functions}
-use Rattle.filt_check.proofs.Lookups.{around_stays, constants_stay, functions_length, mapped_length}
+use Rattle.filt_resolve.proofs.Lookups.{around_stays, constants_stay, functions_length, mapped_length}
 
 -- ---- filters
 

@@ -2,13 +2,7 @@ pub mod Acting
 pub mod Forms
 pub mod Gathered
 pub mod Growing
-pub mod Levels
 pub mod Light
 pub mod Loaded
-pub mod Lookups
-pub mod Placed
-pub mod Resolving
-pub mod Taken
-pub mod Tested
 pub mod Told
 pub mod Whole

@@ -1,10 +1,9 @@
 -- Filters, conditions and functions that aren't too heavy take few steps.
-use Rattle.std.proofs.Common.{◌≡◌, ℕ, ◌+◌, ◌*◌, ◌≤◌, ◌++◌, Bool, true, false, nat_lt, if◌then◌else◌, List, [], ◌∷◌, Option, Some, None, Result, IfOk, refl, sym, ap, ◌∙◌, arith, Box}
+use Rattle.std.proofs.Common.{◌≡◌, ℕ, ◌+◌, ◌*◌, ◌≤◌, ◌++◌, Bool, true, false, nat_lt, if◌then◌else◌, List, [], ◌∷◌, Option, Some, None, refl, ap, ◌∙◌, arith, Box}
 use Rattle.std.specs.Global.{Global}
 use Rattle.std.proofs.lemmas.Bool.{ltb-false}
 use Rattle.std.proofs.lemmas.Option.{none-some}
-use Rattle.std.proofs.lemmas.Result.{IfOk-weaker}
-use Rattle.conf_ast.specs.Filters.{Expression, Statements}
+use Rattle.conf_ast.specs.Filters.{Expression}
 use Rattle.filt_meaning.specs.Configuration.{filter_where}
 use Rattle.filt_meaning.specs.declared.tree.TExpr.{TExpr}
 use Rattle.filt_meaning.specs.declared.tree.TStmt.{TStmt}
@@ -13,7 +12,7 @@ use Rattle.filt_meaning.specs.Steps.{body_steps, expr_steps, stmt_steps}
 use Rattle.filt_meaning.proofs.Steps as s
 use Rattle.filt_types.specs.declared.refusal.Refusal.{Refusal}
 use Rattle.filt_types.specs.declared.refusal.Cause.TheVariants as causes
-use Rattle.filt_types.specs.Refusals.{first_in, first_of, precedes, refused_if}
+use Rattle.filt_types.specs.Refusals.{first_in, precedes, refused_if}
 use Rattle.filt_types.specs.Scenes.{Scene}
 use Rattle.filt_types.specs.Weight.{block_weight, capped, too_heavy, weight}
 use Rattle.filt_check.proofs.Loaded as w

@@ -1,5 +1,5 @@
 -- How many steps the trees of statements take, beside what their sources weigh and declare.
-use Rattle.std.proofs.Common.{◌≡◌, ℕ, ◌+◌, ◌*◌, ◌≤◌, List, [], ◌∷◌, ◌++◌, drop, length, length-append, map, Option, Some, None, option_map, Result, IfOk, refl, sym, ap, ◌∙◌, arith, Box, Vec}
+use Rattle.std.proofs.Common.{◌≡◌, ℕ, ◌+◌, ◌*◌, ◌≤◌, List, [], ◌∷◌, ◌++◌, drop, length, length-append, map, Option, Some, option_map, Result, IfOk, refl, sym, ap, ◌∙◌, arith, Box, Vec}
 use Rattle.std.specs.Global.{Global}
 use Rattle.std.proofs.lemmas.List.{drop_all}
 use Rattle.std.proofs.lemmas.Result.{IfOk-weaker}
@@ -13,9 +13,8 @@ use Rattle.conf_ast.specs.declared.filters.Stmt.{Stmt}
 use Rattle.conf_ast.specs.declared.filters.Stmt.TheVariants as s
 use Rattle.conf_ast.specs.declared.filters.Target.{Target}
 use Rattle.conf_ast.specs.declared.filters.VariableType.{VariableType}
-use Rattle.conf_ast.specs.Filters.{Statement, Braced, Declare, Statements, changed, expression_of, expressions_of, statement_of, statements_of}
+use Rattle.conf_ast.specs.Filters.{Statement, Braced, changed, expression_of, expressions_of, statement_of, statements_of}
 use Rattle.filt_meaning.specs.declared.scope.Scope.{Scope}
-use Rattle.filt_meaning.specs.declared.scope.TFunction.{TFunction}
 use Rattle.filt_meaning.specs.declared.tree.TArm.{TArm}
 use Rattle.filt_meaning.specs.declared.tree.TStmt.{TStmt}
 use Rattle.filt_meaning.specs.declared.tree.TStmt.TheVariants as ts
@@ -28,13 +27,13 @@ use Rattle.filt_types.specs.Scenes.{Scene}
 use Rattle.filt_types.specs.Walk.{arms_of}
 use Rattle.filt_types.specs.Weight.{act_weight, acts_weight, arms_weight, of_function, optional, weight, weights}
 use Rattle.filt_types.proofs.Trees as o
-use Rattle.filt_rules.specs.Passes.{else_of}
-use Rattle.filt_rules.proofs.Weighing as g
+use Rattle.filt_types.specs.Walk.{else_of}
+use Rattle.filt_types.proofs.Weighing as g
 use Rattle.filt_check.specs.Seen.{arm_declares, arms_declare, otherwise_declares}
-use Rattle.filt_check.specs.Steps.{Takes, calls, given_weight}
+use Rattle.filt_resolve.specs.Steps.{Takes, given_weight}
 use Rattle.filt_check.proofs.Forms as f
 use Rattle.filt_check.proofs.Gathered.{if_declares, if_else_declares, for_declares, case_declares}
-use Rattle.filt_check.proofs.Taken.{given_weighs}
+use Rattle.filt_resolve.proofs.Taken.{given_weighs}
 
 -- ---- words
 

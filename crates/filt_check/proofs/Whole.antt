@@ -29,7 +29,7 @@ use Rattle.filt_types.specs.Statements.{sort_given}
 use Rattle.filt_check.specs.Seen.{sorts_in, where_act}
 use Rattle.filt_check.proofs.Forms as f
 use Rattle.filt_check.proofs.Gathered.{defaults_are}
-use Rattle.filt_check.proofs.Lookups.{constants_are, mapped_length}
+use Rattle.filt_resolve.proofs.Lookups.{constants_are, mapped_length}
 
 -- all of a list
 whole : {A : Type 0} (n : ℕ) (xs : List A) → n ≡ length xs → take n xs ≡ xs

@@ -1,4 +1,2 @@
 pub mod Answers
-pub mod Levels
 pub mod Seen
-pub mod Steps

@@ -1,15 +1,11 @@
 -- For private contracts alone: parts of checked trees beside what they stand for.
 use Rattle.std.specs.Prelude.{ℕ, List, [], ◌∷◌, ◌++◌, map, Option, Some, None, Result}
-use Rattle.std.specs.Prelude.{slice_get, Vec}
+use Rattle.std.specs.Prelude.{Vec}
 use Rattle.std.specs.Global.{Global}
-use Rattle.std.specs.Borrow.{Bor}
-use Rattle.conf_ast.specs.declared.filters.Access.{Access}
-use Rattle.conf_ast.specs.declared.filters.Access.TheVariants as accesses
 use Rattle.conf_ast.specs.declared.filters.Arm.{Arm}
-use Rattle.conf_ast.specs.declared.filters.Expr.{Expr}
 use Rattle.conf_ast.specs.declared.filters.Parameter.{Parameter}
 use Rattle.conf_ast.specs.declared.filters.Stmt.{Stmt}
-use Rattle.conf_ast.specs.Filters.{expression_of, statement_of, statements_of}
+use Rattle.conf_ast.specs.Filters.{statement_of, statements_of}
 use Rattle.filt_meaning.specs.declared.value.Failure.{Failure}
 use Rattle.filt_meaning.specs.declared.value.Sort.{Sort}
 use Rattle.filt_meaning.specs.Operators.{and_then}
@@ -17,39 +13,12 @@ use Rattle.filt_meaning.specs.Values.{Val}
 use Rattle.filt_meaning.specs.Flow.{Accepted, Rejected, Run}
 use Rattle.filt_meaning.specs.Items.{among, set_of}
 use Rattle.filt_meaning.specs.Meaning.{Act, act, acts, all_declared, arm, choice, in_turn, nothing}
-use Rattle.filt_meaning.specs.Meaning.{stop, value}
+use Rattle.filt_meaning.specs.Meaning.{stop}
 use Rattle.filt_meaning.specs.Names.{Context, Variable, sort_of_type}
-use Rattle.filt_meaning.specs.declared.tree.TAccess.{TAccess}
-use Rattle.filt_meaning.specs.declared.tree.TAccess.TheVariants as checked
 use Rattle.filt_meaning.specs.declared.tree.TArm.{TArm}
 use Rattle.filt_meaning.specs.declared.tree.TStmt.{TStmt}
 use Rattle.filt_meaning.specs.Trees.{Tables, body, set_of_labels}
 use Rattle.filt_check.specs.declared.collect.Declared.{Declared}
-
--- names that stand in the source, as bytes
-abbrev pub names_of : List (Bor (List ℕ)) → List (List ℕ)
-names_of names = map (λ name. name.now) names
-
--- what stands at a place
-abbrev pub at_place : {A : Type 0} → List A → Option ℕ → Option A
-at_place xs None = None
-at_place xs (Some n) = slice_get xs n
-
--- ---- parts of expressions
-
-abbrev pub values_in : Context → List Expr → List (Run Val)
-values_in c es = map (λ e. value (expression_of e) c) es
-
-abbrev pub access_in : Context → Access Expr → TAccess (Run Val)
-access_in c (accesses.Property p) = checked.Property p
-access_in c (accesses.Method m place e) = checked.Method m.kind (value (expression_of e) c)
-
-abbrev pub accesses_in : Context → List (Access Expr) → List (TAccess (Run Val))
-accesses_in c more = map (access_in c) more
-
--- operators, each with the expression behind it
-abbrev pub parts_in : {Op : Type 0} → Context → List (Op × Expr) → List (Op × Run Val)
-parts_in c more = map (λ x. (x.0, value (expression_of x.1) c)) more
 
 -- ---- variables that statements declare
 

@@ -12,21 +12,20 @@ ghost use Rattle.filt_meaning.specs.Steps.{arms_steps, body_steps, run_steps, st
 ghost use Rattle.filt_types.specs.Seen.{scene_of};
 ghost use Rattle.filt_types.specs.Walk.{arms_of};
 ghost use Rattle.filt_types.specs.Weight.{act_weight, acts_weight, arms_weight, weight};
-ghost use Rattle.filt_rules.specs.Passes.{else_of};
+ghost use Rattle.filt_types.specs.Walk.{else_of};
 ghost use Rattle.filt_check.specs.Seen.{sorts_in, acts_in, arm_seen, arms_seen, arm_in};
 ghost use Rattle.filt_check.specs.Seen.{arms_in, otherwise_in, picked};
 ghost use Rattle.filt_check.specs.Seen.{arm_declares, arms_declare, otherwise_declares};
-ghost use Rattle.filt_check.specs.Steps.{Takes};
+ghost use Rattle.filt_resolve.specs.Steps.{Takes};
 
 use crate::collect::{collect_all, declared_names, sorts_of};
-use crate::names::Names;
-use crate::resolve::resolve;
 use crate::simple::{assign, called, change, declare, print, returned};
 use bits_ip::OutOfMemory;
 use conf_ast::Name;
 use conf_ast::filters::{Arm, Expr, Stmt};
 use filt_items::set_of;
 use filt_meaning::{Scope, Sort, TArm, TStmt};
+use filt_resolve::{Names, resolve};
 use std::alloc::Global;
 
 /// A block: the sorts of its own variables, and its statements.
@@ -171,7 +170,7 @@ fn resolve_all<'a>(
         text.now (statements_of body.now)) + body_steps called v.items) (acts_weight
         (scene_of text.now scope.now) (statements_of body.now))) }
 {
-    let mut all = Vec::new(alloc);
+    let mut all = Vec::with_capacity(alloc, body.len())?;
     for s in body {
         all.push(resolve_statement(alloc, text, scope, names, s)?)?;
     }
@@ -317,7 +316,7 @@ fn resolve_arms<'a>(
         text.now arms.now) + arms_steps called v.items) (arms_weight (scene_of text.now
         scope.now) (arms_of arms.now))) }
 {
-    let mut all = Vec::new(alloc);
+    let mut all = Vec::with_capacity(alloc, arms.len())?;
     for arm in arms {
         all.push(resolve_arm(alloc, text, scope, names, arm)?)?;
     }

@@ -22,11 +22,10 @@ ghost use Rattle.filt_check.specs.Seen.{where_act};
 use crate::blocks::resolve_block;
 use crate::collect::{parameter_names, parameter_sorts};
 use crate::fault::{TypeFault, fault};
-use crate::names::Names;
-use crate::resolve::resolve;
 use bits_ip::OutOfMemory;
 use conf_ast::filters::{Block, Expr, Filter, Function, Stmt};
 use filt_meaning::{Scope, TExpr, TFilter, TFunction, TStmt};
+use filt_resolve::{Names, resolve};
 use filt_rules::{
     first_in_block, first_in_condition, first_in_function, sort_given, weigh_block, weigh_condition,
 };
@@ -176,7 +175,7 @@ fn where_body(alloc: Global, condition: TExpr) -> Result<Vec<TStmt>, OutOfMemory
         expr_steps called condition) }
 {
     let accept = Box::new(alloc, TStmt::Accept)?;
-    let mut body = Vec::new(alloc);
+    let mut body = Vec::with_capacity(alloc, 2)?;
     body.push(TStmt::If(condition, accept))?;
     body.push(TStmt::Reject)?;
     Ok(body)

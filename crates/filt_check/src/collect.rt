@@ -6,7 +6,8 @@ ghost use Rattle.conf_ast.specs.Filters.{statement_of, statements_of};
 ghost use Rattle.filt_meaning.specs.Configuration.{parameter_names};
 ghost use Rattle.filt_meaning.specs.Meaning.{declared, all_declared};
 ghost use Rattle.filt_meaning.specs.Names.{sort_of_type};
-ghost use Rattle.filt_check.specs.Seen.{names_of, variables_of, name_of, sort_of, arms_declare};
+ghost use Rattle.filt_resolve.specs.Seen.{names_of};
+ghost use Rattle.filt_check.specs.Seen.{variables_of, name_of, sort_of, arms_declare};
 ghost use Rattle.filt_check.specs.Seen.{otherwise_declares, parameter_sorts};
 
 use bits_ip::OutOfMemory;
@@ -144,7 +145,7 @@ pub(crate) fn declared_names<'a>(
 ) -> Result<Vec<&'a [u8]>, OutOfMemory>
     ensures { IfOk result (λ v. names_of v.items ≡ map name_of declared.now) }
 {
-    let mut all = Vec::new(alloc);
+    let mut all = Vec::with_capacity(alloc, declared.len())?;
     for variable in declared {
         all.push(variable.name)?;
     }
@@ -154,7 +155,7 @@ pub(crate) fn declared_names<'a>(
 pub(crate) fn sorts_of(alloc: Global, declared: &[Declared<'_>]) -> Result<Vec<Sort>, OutOfMemory>
     ensures { IfOk result (λ v. v.items ≡ map sort_of declared.now) }
 {
-    let mut all = Vec::new(alloc);
+    let mut all = Vec::with_capacity(alloc, declared.len())?;
     for variable in declared {
         all.push(variable.sort)?;
     }
@@ -170,7 +171,7 @@ pub(crate) fn parameter_names<'a>(
 ) -> Result<Vec<&'a [u8]>, OutOfMemory>
     ensures { IfOk result (λ v. names_of v.items ≡ parameter_names text.now parameters.now) }
 {
-    let mut all = Vec::new(alloc);
+    let mut all = Vec::with_capacity(alloc, parameters.len())?;
     for parameter in parameters {
         all.push(parameter.name.bytes(text))?;
     }
@@ -183,7 +184,7 @@ pub(crate) fn parameter_sorts(
 ) -> Result<Vec<Sort>, OutOfMemory>
     ensures { IfOk result (λ v. v.items ≡ parameter_sorts parameters.now) }
 {
-    let mut all = Vec::new(alloc);
+    let mut all = Vec::with_capacity(alloc, parameters.len())?;
     for parameter in parameters {
         all.push(type_sort(parameter.variable_type))?;
     }

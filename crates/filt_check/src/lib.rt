@@ -2,18 +2,15 @@
 //! its names, its limits or its weight (`specs/Answers`), or a tree in which each name is a place,
 //! and which means what the source does.
 //!
-//! Resolving knows nothing of sorts: what stands for nothing is stuck in the tree, as it is in the
-//! meaning of filters, so that a tree means the same as its source whatever its types.
+//! Names become places without a word of sorts (`filt_resolve`), so that a tree means the same as its
+//! source whatever its types.
 #![tactic(auto)]
 
 mod blocks;
 mod check;
 mod collect;
-mod comparing;
 mod fault;
 pub mod laws;
-mod names;
-mod resolve;
 mod simple;
 
 pub use check::{

@@ -15,15 +15,14 @@ ghost use Rattle.filt_meaning.specs.Steps.{expr_steps, stmt_steps};
 ghost use Rattle.filt_types.specs.Seen.{scene_of};
 ghost use Rattle.filt_types.specs.Scenes as scenes;
 ghost use Rattle.filt_types.specs.Weight.{act_weight, of_function, optional, weight};
-ghost use Rattle.filt_check.specs.Seen.{values_in};
-ghost use Rattle.filt_check.specs.Steps.{Takes, given_weight};
+ghost use Rattle.filt_resolve.specs.Seen.{values_in};
+ghost use Rattle.filt_resolve.specs.Steps.{Takes, given_weight};
 
-use crate::names::{Names, function, named};
-use crate::resolve::{boxed, resolve, resolve_all};
 use bits_ip::OutOfMemory;
 use conf_ast::Name;
 use conf_ast::filters::{Change, Expr, MethodKind, Target, VariableType};
 use filt_meaning::{Scope, TExpr, TStmt, TTarget, type_sort};
+use filt_resolve::{Names, boxed, function, named, resolve, resolve_all};
 use std::alloc::Global;
 
 // ---- targets

@@ -24,12 +24,12 @@ use Rattle.filt_types.specs.declared.refusal.Refusal.{Refusal}
 use Rattle.filt_types.specs.declared.judged.Judged.{Judged}
 use Rattle.filt_types.specs.Expressions.{Judgement, judge, is_other, wants, wanted, constant_word}
 use Rattle.filt_types.specs.Items.{Common, common, differ, with_sort, is_empty, sorts_of_items, sort_of_item, all_items, item}
-use Rattle.filt_rules.specs.Passes.{body_seen, else_of, own, inside}
+use Rattle.filt_rules.specs.Passes.{body_seen, own, inside}
 use Rattle.filt_types.specs.Refusals.{first_in, first_of, refused_if}
 use Rattle.filt_meaning.specs.Rules.{one_of_cases, same_sort}
 use Rattle.filt_types.specs.Scenes.{Scene, Variable, Variables, declared, declaring}
 use Rattle.filt_types.specs.Statements.{Around, Checked, plainly, check, check_all, check_arms, parameters, labels, lacks_labels, assigned_dest, is_dest_word, no_sort, returned, over_list, lists_of, is_other_list, cases, of_value, sort_given}
-use Rattle.filt_types.specs.Walk.{arms_of, said_of}
+use Rattle.filt_types.specs.Walk.{arms_of, else_of, said_of}
 use Rattle.filt_types.proofs.Firsts.{first_append, first_two, first_rest}
 use Rattle.filt_types.proofs.Trees as o
 

@@ -1,17 +1,11 @@
--- For private contracts alone: what the passes over statements keep while they go, and parts of
--- trees, as the definitions see them. What is refused and what filters weigh rests on nothing here.
-use Rattle.std.specs.Prelude.{ℕ, ◌+◌, true, not, List, [], ◌∷◌, ◌++◌, length, Option, Some, None}
-use Rattle.std.specs.Prelude.{Vec}
-use Rattle.std.specs.Global.{Global}
+-- For private contracts alone: what the pass over statements keeps while it goes, as the
+-- definitions see it. What is refused rests on nothing here.
+use Rattle.std.specs.Prelude.{true, not, List, [], ◌∷◌, ◌++◌, length}
 use Rattle.conf_ast.specs.declared.named.Name.{Name}
-use Rattle.conf_ast.specs.declared.filters.Access.{Access}
-use Rattle.conf_ast.specs.declared.filters.Access.TheVariants as accesses
-use Rattle.conf_ast.specs.declared.filters.Expr.{Expr}
-use Rattle.conf_ast.specs.declared.filters.Stmt.{Stmt}
 use Rattle.conf_ast.specs.declared.filters.VariableType.{VariableType}
-use Rattle.conf_ast.specs.Filters.{expression_of, Statement, Braced, Declare, Assign, ChangeBy}
+use Rattle.conf_ast.specs.Filters.{Statement, Braced, Declare, Assign, ChangeBy}
 use Rattle.conf_ast.specs.Filters.{Clear, Unset, If, IfElse, Case, CaseElse, For, Return, Print}
-use Rattle.conf_ast.specs.Filters.{Printn, Call, Statements, NoStatements, statements_of}
+use Rattle.conf_ast.specs.Filters.{Printn, Call}
 use Rattle.filt_meaning.specs.Sorts.{one_bool}
 use Rattle.filt_meaning.specs.Names.{sort_of_type}
 use Rattle.filt_types.specs.declared.refusal.Cause.TheVariants as causes
@@ -22,27 +16,12 @@ use Rattle.filt_rules.specs.declared.targets.Aim.TheVariants as aims
 use Rattle.filt_types.specs.Expressions.{judge, judge_all, all_refusals, call, wanted}
 use Rattle.filt_types.specs.Refusals.{refused_if}
 use Rattle.filt_meaning.specs.Rules.{can_be_unset}
-use Rattle.filt_types.specs.Scenes.{Scene, Variables, function_of, declaring, declared}
+use Rattle.filt_types.specs.Scenes.{Variables, function_of, declaring, declared}
 use Rattle.filt_types.specs.Seen.{scene_of}
 use Rattle.filt_types.specs.Statements as statements
 use Rattle.filt_types.specs.Statements.{Checked, plainly, in_turn, assign, place_of, changed, aim}
 use Rattle.filt_types.specs.Statements.{cleared, cases, over_list, without, return, check}
 use Rattle.filt_types.specs.Statements.{check_all, check_arms}
-use Rattle.filt_types.specs.Weight.{weight}
-
--- ---- parts of trees
-
--- what stands behind `else:`, if anything
-abbrev pub else_of : Option (Vec Stmt Global) → Statements
-else_of None = NoStatements
-else_of (Some body) = statements_of body.items
-
--- what a dot and what stands behind it weigh
-abbrev pub access_weight : Scene → Access Expr → ℕ
-access_weight scene (accesses.Property p) = 1
-access_weight scene (accesses.Method m place x) = 1 + weight scene (expression_of x)
-
--- ---- the pass over statements
 
 abbrev pub around_in : Around → statements.Around
 around_in a = record { scene = scene_of a.text.now a.scope.now; gives = a.gives }

@@ -8,13 +8,13 @@ ghost use Rattle.filt_types.specs.Expressions as expressions;
 ghost use Rattle.filt_types.specs.Expressions.{is_other, wanted};
 ghost use Rattle.filt_types.specs.Items as items;
 ghost use Rattle.filt_types.specs.Items.{common, sorts_of_items};
-ghost use Rattle.filt_rules.specs.Passes.{around_in, body_seen, else_of, own, inside};
+ghost use Rattle.filt_rules.specs.Passes.{around_in, body_seen, own, inside};
 ghost use Rattle.filt_types.specs.Refusals.{first_in};
 ghost use Rattle.filt_meaning.specs.Rules.{one_of_cases};
 ghost use Rattle.filt_types.specs.Scenes as scenes;
 ghost use Rattle.filt_types.specs.Seen.{scene_in, variables_in};
 ghost use Rattle.filt_types.specs.Statements as statements;
-ghost use Rattle.filt_types.specs.Walk.{all_judged, arms_of, common_seen, judged_of};
+ghost use Rattle.filt_types.specs.Walk.{all_judged, arms_of, common_seen, else_of, judged_of};
 
 use crate::targets::{check_assign, check_change, check_unset, check_value, is_list};
 use bits_ip::OutOfMemory;

@@ -7,9 +7,8 @@ ghost use Rattle.conf_ast.specs.Filters.{expression_of, expressions_of, statemen
 ghost use Rattle.conf_ast.specs.Filters.{statements_of, block_of};
 ghost use Rattle.filt_meaning.specs.Configuration.{filter_where};
 ghost use Rattle.filt_types.specs.Scenes.{function_of};
-ghost use Rattle.filt_rules.specs.Passes.{access_weight, else_of};
 ghost use Rattle.filt_types.specs.Seen.{scene_of};
-ghost use Rattle.filt_types.specs.Walk.{accesses_of, arms_of, operands_of};
+ghost use Rattle.filt_types.specs.Walk.{access_weight, accesses_of, arms_of, else_of, operands_of};
 ghost use Rattle.filt_types.specs.Weight.{weight, weights, optional, act_weight, acts_weight};
 ghost use Rattle.filt_types.specs.Weight.{arms_weight, block_weight, of_function, capped};
 

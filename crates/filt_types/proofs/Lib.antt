@@ -6,3 +6,4 @@ pub mod Gathered
 pub mod Judging
 pub mod Lookups
 pub mod Trees
+pub mod Weighing

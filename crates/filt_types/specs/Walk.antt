@@ -1,15 +1,16 @@
 -- For the contracts of the walks here and in filt_rules: what they keep while they go, as the
 -- definitions see it. What is refused rests on nothing here.
-use Rattle.std.specs.Prelude.{ℕ, Bool, false, not, ◌==◌, List, [], ◌∷◌, ◌++◌, map, length}
-use Rattle.std.specs.Prelude.{if◌then◌else◌, option_map, Option, Some, None}
+use Rattle.std.specs.Prelude.{ℕ, Bool, false, not, ◌==◌, ◌+◌, List, [], ◌∷◌, ◌++◌, map, length}
+use Rattle.std.specs.Prelude.{if◌then◌else◌, option_map, Option, Some, None, Vec}
 use Rattle.std.specs.Borrow.{Bor}
+use Rattle.std.specs.Global.{Global}
 use Rattle.conf_ast.specs.declared.filters.Access.{Access}
 use Rattle.conf_ast.specs.declared.filters.Access.TheVariants as accesses
 use Rattle.conf_ast.specs.declared.filters.Arm.{Arm}
 use Rattle.conf_ast.specs.declared.filters.Expr.{Expr}
 use Rattle.conf_ast.specs.declared.filters.Stmt.{Stmt}
 use Rattle.conf_ast.specs.Filters.{Expression, expression_of, expressions_of, statements_of}
-use Rattle.conf_ast.specs.Filters.{Arms, NoArms, AndArms}
+use Rattle.conf_ast.specs.Filters.{Arms, NoArms, AndArms, Statements, NoStatements}
 use Rattle.filt_meaning.specs.declared.fixed.Fixed.{Fixed}
 use Rattle.filt_meaning.specs.Seen.{val_of_fixed}
 use Rattle.filt_meaning.specs.declared.value.Sort.{Sort}
@@ -28,6 +29,7 @@ use Rattle.filt_types.specs.declared.refusal.Refusal.{Refusal}
 use Rattle.filt_types.specs.Refusals.{refused_if}
 use Rattle.filt_types.specs.Scenes.{Scene, Signature, Variables}
 use Rattle.filt_types.specs.Seen.{scene_in, signature_of, variables_in}
+use Rattle.filt_types.specs.Weight.{weight}
 
 -- a judgement without what is refused
 abbrev pub said_of : Judgement → Judged
@@ -71,10 +73,20 @@ operand_of x = (x.0, expression_of x.1)
 abbrev pub operands_of : {Op : Type 0} → List (Op × Expr) → List (Op × Expression)
 operands_of = map operand_of
 
+-- what a dot and what stands behind it weigh
+abbrev pub access_weight : Scene → Access Expr → ℕ
+access_weight scene (accesses.Property p) = 1
+access_weight scene (accesses.Method m place x) = 1 + weight scene (expression_of x)
+
 -- the arms of a `case`
 abbrev pub arms_of : List (Arm Stmt) → Arms
 arms_of [] = NoArms
 arms_of (a ∷ more) = AndArms a.labels.items (statements_of a.body.items) (arms_of more)
+
+-- what stands behind `else:`, if anything
+abbrev pub else_of : Option (Vec Stmt Global) → Statements
+else_of None = NoStatements
+else_of (Some body) = statements_of body.items
 
 -- an operand with one thing more behind a dot
 abbrev pub with_access : Scene → Variables → Judgement → Access Expression → Judgement

@@ -1,9 +1,8 @@
 // Sets, masks and labels: the sorts of their items, and what is refused of them.
 
-ghost use Rattle.std.specs.Prelude.{◌≡◌, Some};
+ghost use Rattle.std.specs.Prelude.{◌≡◌};
 ghost use Rattle.bits_ip.specs.Address.{width_of};
 ghost use Rattle.conf_ast.specs.declared.filters.PairPart.TheVariants as pair_parts;
-ghost use Rattle.filt_meaning.specs.Seen.{val_of_fixed};
 ghost use Rattle.filt_types.specs.Items as of;
 ghost use Rattle.filt_types.specs.Items.{is_known, sorts_of_items};
 ghost use Rattle.filt_types.specs.Refusals.{first_in};
@@ -43,16 +42,10 @@ pub(crate) fn number_in(constant: Option<&Fixed>) -> Option<u32>
 {
     match constant {
         None => None,
-        Some(value) => number_of(value),
-    }
-}
-
-fn number_of(value: &Fixed) -> Option<u32>
-    ensures { result ≡ of.number_in (Some (val_of_fixed value.now)) }
-{
-    match value {
-        Fixed::Int(number) => Some(*number),
-        _ => None,
+        Some(value) => match value {
+            Fixed::Int(number) => Some(*number),
+            _ => None,
+        },
     }
 }
 

@@ -2,7 +2,7 @@ ghost use Rattle.std.specs.Prelude.{◌≡◌, Some};
 ghost use Rattle.filt_types.specs.Refusals.{number_of, precedes, first_of, first_in, refused_if};
 
 /// Why a place of a filter is refused.
-#[derive(Clone, Copy, Debug, PartialEq, Eq)]
+#[derive(Clone, Copy)]
 pub enum Cause {
     /// The name has no declaration of the wanted sort before it.
     UnknownName,
@@ -20,7 +20,7 @@ pub enum Cause {
 }
 
 /// A refusal: the byte of its place, and its cause.
-#[derive(Clone, Copy, Debug, PartialEq, Eq)]
+#[derive(Clone, Copy)]
 pub struct Refusal {
     pub at: usize,
     pub cause: Cause,

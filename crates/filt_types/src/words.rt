@@ -3,7 +3,6 @@
 ghost use Rattle.std.specs.Prelude.{◌≡◌, []};
 ghost use Rattle.filt_types.specs.Expressions as expressions;
 ghost use Rattle.filt_types.specs.Expressions.{sort_of_named, known_as};
-ghost use Rattle.filt_types.specs.Items as of;
 ghost use Rattle.filt_types.specs.Refusals.{first_in};
 ghost use Rattle.filt_types.specs.Scenes.{variable_of, constant_of};
 ghost use Rattle.filt_types.specs.Seen.{scene_in, variables_in};
@@ -90,19 +89,13 @@ fn set_sort(common: Common) -> Option<Sort>
 {
     match common {
         Common::NoneYet => None,
-        Common::One(sort) => set_of_sort(sort),
+        Common::One(sort) => match sort {
+            Sort::Int => Some(Sort::IntSet),
+            Sort::Pair => Some(Sort::PairSet),
+            Sort::Prefix => Some(Sort::PrefixSet),
+            _ => None,
+        },
         Common::Many => None,
-    }
-}
-
-fn set_of_sort(sort: Sort) -> Option<Sort>
-    ensures { result ≡ of.set_of_sort sort }
-{
-    match sort {
-        Sort::Int => Some(Sort::IntSet),
-        Sort::Pair => Some(Sort::PairSet),
-        Sort::Prefix => Some(Sort::PrefixSet),
-        _ => None,
     }
 }
 

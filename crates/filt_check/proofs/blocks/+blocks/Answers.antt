@@ -24,13 +24,13 @@ use Rattle.filt_types.proofs.Trees as o
 use Rattle.filt_check.specs.declared.collect.Declared.{Declared}
 use Rattle.filt_check.specs.Seen.{name_of, sort_of, variables_of, acts_in, arm_in, arms_in, arm_seen, arms_seen, otherwise_in}
 use Rattle.filt_check.specs.Seen.{arms_declare, otherwise_declares}
-use Rattle.filt_check.specs.Steps.{calls}
+use Rattle.filt_resolve.specs.Steps.{calls}
 use Rattle.filt_check.proofs.Acting as a
 use Rattle.filt_check.proofs.Forms as f
 use Rattle.filt_check.proofs.Gathered as g
 use Rattle.filt_check.proofs.Loaded as w
-use Rattle.filt_check.proofs.Lookups.{mapped_length}
-use Rattle.filt_check.proofs.Resolving as r
+use Rattle.filt_resolve.proofs.Lookups.{mapped_length}
+use Rattle.filt_resolve.proofs.Resolving as r
 use Rattle.filt_items.proofs.Sets.{next_item}
 use Rattle.filt_check.proofs.blocks.+blocks.Goals as goal
 

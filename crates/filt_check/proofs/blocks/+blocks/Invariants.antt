@@ -11,7 +11,7 @@ use Rattle.filt_meaning.specs.Names.{Around}
 use Rattle.filt_meaning.specs.Scopes.{context_of, tables_of}
 use Rattle.filt_meaning.specs.Trees as trees
 use Rattle.filt_check.specs.Seen.{acts_in, arms_declare, arms_in, arms_seen}
-use Rattle.filt_check.specs.Steps.{calls}
+use Rattle.filt_resolve.specs.Steps.{calls}
 use Rattle.filt_check.proofs.blocks.+blocks.Given as goal
 
 abbrev pub decreases-resolve_statement : goal.decreases-resolve_statement

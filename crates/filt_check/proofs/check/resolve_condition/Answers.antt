@@ -11,9 +11,9 @@ use Rattle.filt_meaning.specs.Meaning.{value}
 use Rattle.filt_meaning.specs.Scopes.{context_of, tables_of}
 use Rattle.filt_check.specs.Seen.{where_act}
 use Rattle.filt_types.specs.Seen.{scene_of}
-use Rattle.filt_check.specs.Steps.{calls}
+use Rattle.filt_resolve.specs.Steps.{calls}
 use Rattle.filt_check.proofs.Light.{where_weight}
-use Rattle.filt_check.proofs.Lookups.{mapped_length}
+use Rattle.filt_resolve.proofs.Lookups.{mapped_length}
 use Rattle.filt_check.proofs.Whole.{filter_same}
 use Rattle.filt_check.proofs.check.resolve_condition.Goals as goal
 

@@ -5,7 +5,7 @@ use Rattle.filt_meaning.specs.declared.scope.TFunction.{TFunction}
 use Rattle.conf_ast.specs.Filters.{statements_of}
 use Rattle.filt_meaning.specs.Meaning.{acts, all_declared, within}
 use Rattle.filt_meaning.specs.Scopes.{context_of}
-use Rattle.filt_check.proofs.Lookups.{mapped_length}
+use Rattle.filt_resolve.proofs.Lookups.{mapped_length}
 use Rattle.filt_check.proofs.Whole.{filter_same}
 use Rattle.filt_check.proofs.check.resolve_filter.Goals as goal
 

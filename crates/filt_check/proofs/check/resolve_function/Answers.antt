@@ -8,10 +8,11 @@ use Rattle.conf_ast.specs.Filters.{statements_of}
 use Rattle.filt_meaning.specs.Configuration.{parameter_names}
 use Rattle.filt_meaning.specs.Meaning.{acts, all_declared, within}
 use Rattle.filt_meaning.specs.Scopes.{context_of}
-use Rattle.filt_check.specs.Seen.{names_of, sorts_in}
+use Rattle.filt_resolve.specs.Seen.{names_of}
+use Rattle.filt_check.specs.Seen.{sorts_in}
 use Rattle.filt_types.specs.Seen.{scene_of}
 use Rattle.filt_types.specs.Weight.{acts_weight}
-use Rattle.filt_check.proofs.Lookups.{mapped_length}
+use Rattle.filt_resolve.proofs.Lookups.{mapped_length}
 use Rattle.filt_check.proofs.Whole.{function_same}
 use Rattle.filt_check.proofs.check.resolve_function.Goals as goal
 

@@ -1,5 +1,6 @@
 use Rattle.std.proofs.Common.{◌≡◌, ◌++◌, map, drop}
-use Rattle.filt_check.specs.Seen.{names_of, name_of}
+use Rattle.filt_resolve.specs.Seen.{names_of}
+use Rattle.filt_check.specs.Seen.{name_of}
 use Rattle.filt_check.proofs.collect.declared_names.Given as goal
 
 abbrev pub invariant-loop-variable : goal.invariant-loop-variable

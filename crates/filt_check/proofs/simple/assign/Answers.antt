@@ -3,7 +3,7 @@ use Rattle.conf_ast.specs.Filters.{expression_of}
 use Rattle.filt_meaning.specs.Meaning.{value}
 use Rattle.filt_meaning.specs.Scopes.{context_of, tables_of}
 use Rattle.filt_meaning.proofs.Steps as s
-use Rattle.filt_check.specs.Steps.{calls}
+use Rattle.filt_resolve.specs.Steps.{calls}
 use Rattle.filt_check.proofs.Acting.{assigned}
 use Rattle.filt_check.proofs.simple.assign.Goals as goal
 

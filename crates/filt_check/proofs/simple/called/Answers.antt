@@ -1,12 +1,12 @@
 use Rattle.std.proofs.Common.{Some, map, arith}
 use Rattle.filt_meaning.specs.Names.{function_of}
 use Rattle.filt_meaning.specs.Scopes.{context_of, tables_of}
-use Rattle.filt_check.specs.Seen.{values_in}
+use Rattle.filt_resolve.specs.Seen.{values_in}
 use Rattle.filt_meaning.specs.declared.tree.TExpr.TheVariants as te
 use Rattle.filt_meaning.specs.Steps.{expr_steps}
 use Rattle.filt_meaning.proofs.Steps as s
-use Rattle.filt_check.specs.Steps.{calls}
-use Rattle.filt_check.proofs.Taken as w
+use Rattle.filt_resolve.specs.Steps.{calls}
+use Rattle.filt_resolve.proofs.Taken as w
 use Rattle.filt_check.proofs.Acting.{call_known, call_unknown}
 use Rattle.filt_check.proofs.simple.called.Goals as goal
 

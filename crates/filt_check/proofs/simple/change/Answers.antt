@@ -1,12 +1,11 @@
-use Rattle.std.proofs.Common.{ℕ, ◌+◌, ◌≤◌, arith, ap}
+use Rattle.std.proofs.Common.{◌+◌, arith, ap}
 use Rattle.conf_ast.specs.declared.filters.Change.{Change}
-use Rattle.conf_ast.specs.declared.filters.Expr.{Expr}
 use Rattle.conf_ast.specs.Filters.{changed, expression_of}
 use Rattle.filt_meaning.specs.declared.tree.TStmt.{TStmt}
 use Rattle.filt_meaning.specs.Steps.{stmt_steps}
 use Rattle.filt_types.specs.Seen.{scene_of}
 use Rattle.filt_types.specs.Weight.{act_weight, weight}
-use Rattle.filt_check.proofs.Taken as w
+use Rattle.filt_resolve.proofs.Taken as w
 use Rattle.filt_check.proofs.simple.change.Goals as goal
 
 pub returns-in-Empty-clause-steps : goal.returns-in-Empty-clause-steps

@@ -7,7 +7,7 @@ use Rattle.filt_meaning.specs.Trees.{expr}
 use Rattle.filt_meaning.specs.Scopes.{context_of, tables_of}
 use Rattle.filt_meaning.specs.Steps.{expr_steps}
 use Rattle.filt_meaning.proofs.Steps as s
-use Rattle.filt_check.specs.Steps.{calls}
+use Rattle.filt_resolve.specs.Steps.{calls}
 use Rattle.filt_check.proofs.Acting.{assigned, empty_same}
 use Rattle.filt_check.proofs.simple.clear.Goals as goal
 

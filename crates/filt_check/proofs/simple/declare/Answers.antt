@@ -6,8 +6,8 @@ use Rattle.filt_meaning.specs.declared.tree.TExpr.TheVariants as te
 use Rattle.filt_meaning.proofs.Steps as s
 use Rattle.filt_types.specs.Seen.{scene_of}
 use Rattle.filt_types.specs.Weight.{optional}
-use Rattle.filt_check.specs.Steps.{calls}
-use Rattle.filt_check.proofs.Taken as w
+use Rattle.filt_resolve.specs.Steps.{calls}
+use Rattle.filt_resolve.proofs.Taken as w
 use Rattle.filt_check.proofs.Acting.{default_assigned, value_assigned}
 use Rattle.filt_check.proofs.simple.declare.Goals as goal
 

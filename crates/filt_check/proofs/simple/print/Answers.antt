@@ -1,8 +1,8 @@
 use Rattle.std.proofs.Common.{arith}
 use Rattle.filt_meaning.specs.Scopes.{context_of, tables_of}
-use Rattle.filt_check.specs.Seen.{values_in}
+use Rattle.filt_resolve.specs.Seen.{values_in}
 use Rattle.filt_meaning.proofs.Steps as s
-use Rattle.filt_check.specs.Steps.{calls}
+use Rattle.filt_resolve.specs.Steps.{calls}
 use Rattle.filt_check.proofs.Acting.{printed}
 use Rattle.filt_check.proofs.simple.print.Goals as goal
 

@@ -5,7 +5,7 @@ use Rattle.conf_ast.specs.Filters.{expression_of}
 use Rattle.filt_meaning.proofs.Steps as s
 use Rattle.filt_types.specs.Seen.{scene_of}
 use Rattle.filt_types.specs.Weight.{optional}
-use Rattle.filt_check.specs.Steps.{calls}
+use Rattle.filt_resolve.specs.Steps.{calls}
 use Rattle.filt_check.proofs.Acting.{returned_none, returned_some}
 use Rattle.filt_check.proofs.simple.returned.Goals as goal
 

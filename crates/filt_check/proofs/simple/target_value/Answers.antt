@@ -2,8 +2,8 @@ use Rattle.std.proofs.Common.{ap, sym, ◌∙◌}
 use Rattle.conf_ast.specs.declared.filters.Target.{Target}
 use Rattle.filt_meaning.specs.Meaning.{read, value}
 use Rattle.filt_meaning.specs.Scopes.{context_of}
-use Rattle.filt_check.proofs.Taken as w
-use Rattle.filt_check.proofs.Resolving.{attribute_same}
+use Rattle.filt_resolve.proofs.Taken as w
+use Rattle.filt_resolve.proofs.Resolving.{attribute_same}
 use Rattle.filt_check.proofs.simple.target_value.Goals as goal
 
 pub returns-in-Attribute-clause-meaning : goal.returns-in-Attribute-clause-meaning

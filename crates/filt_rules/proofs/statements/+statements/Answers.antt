@@ -5,8 +5,8 @@ use Rattle.conf_ast.specs.Filters.{statement_of, statements_of}
 use Rattle.filt_meaning.specs.declared.value.Sort.{Sort}
 use Rattle.filt_meaning.specs.Names.{sort_of_type}
 use Rattle.filt_types.specs.declared.refusal.Refusal.{Refusal}
-use Rattle.filt_rules.specs.Passes.{around_in, body_seen, else_of, inside}
-use Rattle.filt_types.specs.Walk.{arms_of}
+use Rattle.filt_rules.specs.Passes.{around_in, body_seen, inside}
+use Rattle.filt_types.specs.Walk.{arms_of, else_of}
 use Rattle.filt_types.specs.Refusals.{first_in}
 use Rattle.filt_types.specs.Scenes.{declared, Variables}
 use Rattle.filt_types.specs.Seen.{scene_in, variables_in}

@@ -7,7 +7,7 @@ use Rattle.filt_types.specs.Seen.{scene_of}
 use Rattle.filt_types.specs.Weight.{act_weight, acts_weight, arms_weight}
 use Rattle.filt_types.proofs.Cost as k
 use Rattle.filt_types.proofs.Trees as o
-use Rattle.filt_rules.proofs.Weighing as g
+use Rattle.filt_types.proofs.Weighing as g
 use Rattle.filt_rules.proofs.weight.+statement_weight.Goals as goal
 
 pub weigh_arms-weigh_statements-requires : goal.weigh_arms-weigh_statements-requires

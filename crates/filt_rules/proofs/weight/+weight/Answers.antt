@@ -9,7 +9,7 @@ use Rattle.filt_types.specs.Seen.{scene_of}
 use Rattle.filt_types.specs.Weight.{weight, weights}
 use Rattle.filt_types.proofs.Cost as k
 use Rattle.filt_types.proofs.Trees as o
-use Rattle.filt_rules.proofs.Weighing as g
+use Rattle.filt_types.proofs.Weighing as g
 use Rattle.filt_rules.proofs.weight.+weight.Goals as goal
 
 pub weigh-weigh_accesses-requires : goal.weigh-weigh_accesses-requires

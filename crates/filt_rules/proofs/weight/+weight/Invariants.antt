@@ -4,7 +4,7 @@ use Rattle.filt_types.specs.Walk.{accesses_of, operands_of}
 use Rattle.filt_types.specs.Seen.{scene_of}
 use Rattle.filt_types.specs.Weight.{weight, weights, capped}
 use Rattle.filt_types.proofs.Cost as k
-use Rattle.filt_rules.proofs.Weighing.{parts, dots}
+use Rattle.filt_types.proofs.Weighing.{parts, dots}
 use Rattle.filt_rules.proofs.weight.+weight.Given as goal
 
 abbrev pub decreases-weigh : goal.decreases-weigh

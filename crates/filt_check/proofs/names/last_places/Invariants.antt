@@ -1,7 +1,0 @@
-use Rattle.std.proofs.Common.{◌≡◌, take}
-use Rattle.filt_check.specs.Seen.{names_of}
-use Rattle.filt_check.specs.Levels.{AreLast}
-use Rattle.filt_check.proofs.names.last_places.Given as goal
-
-abbrev pub invariant-loop-name : goal.invariant-loop-name
-invariant-loop-name l = (l.place ≡ l.name-index) × AreLast (names_of (take l.name-index l.names)) l.last.entries
