@@ -1,5 +1,5 @@
 -- The last of several words is one symbol or isn't.
-use Rattle.std.proofs.Common.{◌≡◌, ◌↔◌, ◌+◌, IsTrue, Bool, true, false, List, [], ◌∷◌, ◌++◌, length, sym, ◌∙◌, ap, arith}
+use Rattle.std.proofs.Common.{◌≡◌, ◌↔◌, IsTrue, Bool, false, List, [], ◌∷◌, ◌++◌, length, sym, ◌∙◌, ap, arith}
 use Rattle.std.proofs.lemmas.Bool.{false≢true}
 use Rattle.std.proofs.lemmas.List.{length-append}
 use Rattle.conf_lex.specs.declared.symbol.Symbol.{Symbol}

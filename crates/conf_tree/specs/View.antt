@@ -12,7 +12,7 @@ use Rattle.conf_lex.specs.declared.symbol.Symbol.TheVariants as sym
 use Rattle.conf_lex.specs.declared.word.Word.TheVariants as words
 use Rattle.conf_ast.specs.declared.named.Name.{Name}
 use Rattle.conf_lex.specs.Grammar.{ParseTree, Leaf, NoWords, Pair, Left, Right, Single, Snoc}
-use Rattle.conf_lex.specs.Leaves.{symbol_leaf, name_leaf, between}
+use Rattle.conf_lex.specs.Leaves.{symbol_leaf, name_leaf}
 use Rattle.conf_ast.specs.declared.filters.Filter.{Filter}
 use Rattle.conf_ast.specs.declared.filters.Function.{Function}
 use Rattle.conf_ast.specs.declared.filters.Num.{Num}
