@@ -7,7 +7,6 @@ use Rattle.std.proofs.lemmas.Fmt.{decimal_is_IsNumeral_wide}
 use Rattle.indexmap.proofs.IndexTableLemmas.Probe.{pigeonhole}
 use Rattle.filt_meaning.specs.Names.{same_name}
 use Rattle.filt_types.specs.Scenes as scenes
-use Rattle.filt_types.specs.Scenes.{Scene}
 use Rattle.conf_names.specs.Known.{Known, is_declared}
 use Rattle.conf_names.specs.Names.{free_from, free_number, names}
 use Rattle.conf_names.proofs.Turns.{any_append, or_apart}

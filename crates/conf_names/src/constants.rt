@@ -5,7 +5,7 @@ ghost use Rattle.conf_ast.specs.Configurations.{value_of};
 ghost use Rattle.filt_types.specs.Items as items;
 ghost use Rattle.conf_names.specs.Constants as of;
 ghost use Rattle.conf_names.specs.Known as known;
-ghost use Rattle.conf_names.specs.Refusals.{first_in, of_filters, refused_if};
+ghost use Rattle.conf_names.specs.Refusals.{first_in, of_filters};
 ghost use Rattle.conf_names.specs.Seen.{known_of};
 
 use crate::declared::Declared;

@@ -2,7 +2,7 @@
 ghost use Rattle.std.specs.Prelude.{◌≡◌, List, None, Some};
 ghost use Rattle.filt_types.specs.declared.refusal.Refusal.{Refusal as FilterRefusal};
 ghost use Rattle.filt_types.specs.Refusals as filters;
-ghost use Rattle.conf_names.specs.Refusals.{number_of, precedes, first_of, first_in, refused_if, kind_of, of_filter, of_filters};
+ghost use Rattle.conf_names.specs.Refusals.{number_of, precedes, first_of, first_in, refused_if, kind_of, of_filters};
 
 use conf_ast::ConfKind;
 use filt_types::Cause;

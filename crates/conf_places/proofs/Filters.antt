@@ -34,12 +34,12 @@ use Rattle.filt_types.specs.declared.refusal.Cause.TheVariants as causes
 use Rattle.filt_types.specs.declared.refusal.Refusal.{Refusal}
 use Rattle.filt_types.specs.Expressions.{Judgement, judge, judge_all, is_other, wants, wanted, of_one, of_two, between, disagree, plain, known_as, sort_of_named, set, mask, pair, over_16_bits, written, all_refusals, arguments_wanted, call, called, gives_nothing}
 use Rattle.filt_types.specs.Items as rules
-use Rattle.filt_types.specs.Items.{place_of, number, value_of, is_none, numbers, last_number, last_of, backwards, is_backwards, range, is_over, names_in_part, limits_of_part, names_in_lengths, limits_of_lengths, are_lengths_wrong, names_in_item, limits_of_item, item, all_items, sorts_of_items, is_empty, differ, common, NoneYet, atom, all_atoms, last_over_16_bits}
+use Rattle.filt_types.specs.Items.{place_of, number, value_of, is_none, numbers, last_number, last_of, backwards, is_backwards, range, is_over, names_in_part, limits_of_part, names_in_lengths, limits_of_lengths, are_lengths_wrong, item, all_items, sorts_of_items, is_empty, differ, common, NoneYet, atom, all_atoms, last_over_16_bits}
 use Rattle.filt_types.specs.Refusals.{refused_if}
 use Rattle.filt_meaning.specs.Rules.{RuleOfOne, RuleOfTwo, left_of, right_of, arithmetic, pairing, joining, comparing, method, negating, property, same_sort, one_of_cases, can_be_unset}
 use Rattle.filt_types.specs.Scenes.{Scene, Signature, Variables, variable_of, constant_of, function_of, is_seen, declaring, declared}
 use Rattle.filt_types.specs.Statements as acts
-use Rattle.filt_types.specs.Statements.{Around, Checked, Aim, Holds, IsFixed, Unknown, aim, refused_target, assigned, assigned_dest, is_dest_word, no_sort, assign, changed, operand, cleared, initial, declare, labels, lacks_labels, of_value, cases, lists_of, is_other_list, over_list, returned, return, check, check_all, check_arms, in_filter, parameters, sort_given, in_function}
+use Rattle.filt_types.specs.Statements.{Around, Aim, Holds, IsFixed, Unknown, aim, assigned, is_dest_word, no_sort, assign, changed, operand, cleared, initial, labels, lacks_labels, of_value, cases, lists_of, is_other_list, over_list, returned, return, check, check_all, check_arms, in_filter, parameters, sort_given, in_function}
 use Rattle.filt_types.specs.Expressions.{constant_word}
 use Rattle.filt_types.specs.Weight.{block_weight, too_heavy}
 use Rattle.filt_types.specs.Refused.{of_filter, of_function}

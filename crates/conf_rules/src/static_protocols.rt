@@ -1,6 +1,6 @@
 // What is refused in static protocols.
 
-ghost use Rattle.std.specs.Prelude.{◌≡◌, ◌++◌, ◌∷◌, [], ◌||◌, Bool, List, map, not, false, None, Option, OnOk};
+ghost use Rattle.std.specs.Prelude.{◌≡◌, ◌∷◌, [], ◌||◌, map, false, None, Option, OnOk};
 ghost use Rattle.std.specs.List.{list_any};
 ghost use Rattle.bits_ip.specs.Address.{family_of};
 ghost use Rattle.bits_ip.specs.Prefix.{Net, same_net};

@@ -15,7 +15,7 @@ ghost use Rattle.conf_syntax.specs.Readers.{optional_name_at, optional_address_a
 ghost use Rattle.conf_syntax.specs.Readers.{optional_switch_at, optional_number_at, as_at, time_at};
 ghost use Rattle.conf_syntax.specs.Readers.{optional_semicolon_at};
 
-use bits_ip::{Family, Prefix};
+use bits_ip::Family;
 use conf_ast::Name;
 use conf_ast::configurations::{Address, StringLiteral, Switch};
 use conf_ast::filters::Num;

@@ -1,15 +1,12 @@
-ghost use Rattle.std.specs.Prelude.{◌≡◌, ℕ, true, false, List, [], ◌∷◌, length, replicate, Some, None};
+ghost use Rattle.std.specs.Prelude.{◌≡◌, false, [], ◌∷◌, length, Some, None};
 ghost use Rattle.std.specs.Borrow.{Bor};
 ghost use Rattle.attrs.specs.declared.attributes.Attrs.{Attrs};
 ghost use Rattle.attrs.specs.declared.judge.FilterFault.TheVariants as faults;
-ghost use Rattle.attrs.specs.declared.judge.Verdict.{Verdict};
 ghost use Rattle.attrs.specs.declared.judge.Verdict.TheVariants as verdicts;
-ghost use Rattle.filt_meaning.specs.Configuration.{verdict_of};
 ghost use Rattle.filt_meaning.specs.declared.fixed.Fixed.{Fixed};
 ghost use Rattle.filt_meaning.specs.declared.fixed.Fixed.TheVariants as fixed;
-ghost use Rattle.filt_code.specs.declared.instr.Instr.{Instr};
 ghost use Rattle.filt_code.specs.declared.instr.Instr.TheVariants as instrs;
-ghost use Rattle.filt_code.specs.Codes.{Setting, mean};
+ghost use Rattle.filt_code.specs.Codes.{Setting};
 ghost use Rattle.filt_code.specs.Worked.{asks_the_med, divides, pairs, passes_the_right_side, prepends, puts_the_left_side, says, turns_over_the_path, wraps};
 
 /// Codes that are worked by hand, and what they say: of nothing there is no verdict; faults are the

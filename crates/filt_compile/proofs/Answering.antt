@@ -1,5 +1,5 @@
 -- Expressions that are one question.
-use Rattle.std.proofs.Common.{◌≡◌, ℕ, Bool, true, List, [], ◌∷◌, Option, Some, None, Ok, refl, sym, ap, ◌∙◌, Box, Vec}
+use Rattle.std.proofs.Common.{◌≡◌, ℕ, Bool, List, [], ◌∷◌, Option, Some, None, Ok, refl, sym, ap, ◌∙◌, Box, Vec}
 use Rattle.std.specs.Prelude.{IfSome}
 use Rattle.std.specs.Borrow.{Bor}
 use Rattle.std.specs.Global.{Global}
@@ -7,7 +7,6 @@ use Rattle.conf_ast.specs.declared.attribute.Attribute.TheVariants as attributes
 use Rattle.conf_ast.specs.declared.filters.CompareOp.{CompareOp}
 use Rattle.conf_ast.specs.declared.filters.CompareOp.TheVariants as compare_ops
 use Rattle.filt_sets.specs.declared.prefixes.PrefixItem.{PrefixItem}
-use Rattle.filt_meaning.specs.Operators as operators
 use Rattle.filt_meaning.specs.Operators.{bool_in, matches_of}
 use Rattle.filt_meaning.specs.Values.{Val, VPrefixSet}
 use Rattle.filt_meaning.specs.Flow.{Flow, Run, and_then, plainly}
@@ -22,11 +21,9 @@ use Rattle.filt_code.specs.declared.instr.Instr.{Instr}
 use Rattle.filt_code.specs.declared.instr.Instr.TheVariants as instrs
 use Rattle.filt_code.specs.declared.instr.Question.{Question}
 use Rattle.filt_code.specs.declared.instr.Question.TheVariants as questions
-use Rattle.filt_code.specs.Codes.{jump_where, mean, number_in, question, within}
-use Rattle.filt_compile.specs.declared.ranges.Range.{Range}
+use Rattle.filt_code.specs.Codes.{jump_where, mean, question}
 use Rattle.filt_compile.specs.declared.seen.Seen.{Seen}
 use Rattle.filt_compile.specs.Emits.{Asks, IsAsked, IsCalled, IsNet, IsNetIn, IsQuestion, IsSet, IsTest, tables_of}
-use Rattle.filt_compile.specs.Ranges.{IsRange, sense}
 use Rattle.filt_compile.proofs.Asking as ask
 use Rattle.filt_compile.proofs.Emitting.{truth_matches, truth_test, truth_then}
 use Rattle.filt_compile.proofs.Walk as w

@@ -48,7 +48,7 @@ use Rattle.filt_code.specs.Codes.{Setting, At, decides, behind_left, mean, put, 
 use Rattle.filt_compile.specs.declared.seen.Seen.{Seen}
 use Rattle.filt_compile.specs.Emits.{Makes, Puts, PutsAll, Sees, tables_of}
 use Rattle.filt_compile.specs.Parts.{Part, One, Two, Joined, made_by, made_by_all}
-use Rattle.filt_compile.proofs.Walk.{and_then_assoc, next_got, next_item, found_at}
+use Rattle.filt_compile.proofs.Walk.{and_then_assoc, next_got, next_item}
 use Rattle.filt_compile.proofs.Seeing.{seen_count}
 use Rattle.filt_compile.proofs.Walk as w
 use Rattle.filt_meaning.specs.declared.tree.TExpr.TheVariants as e

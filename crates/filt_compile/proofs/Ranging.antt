@@ -1,6 +1,6 @@
 -- Which numbers pass a test.
 use Rattle.std.proofs.Common.{◌≡◌, ℕ, suc, zero, ◌<◌, Bool, true, false, not, ◌&&◌, List, [], ◌∷◌, Option, Some, None, Result, Ok, Err, refl, sym, ap, ◌∙◌, arith, inl, inr, ◌⊎◌}
-use Rattle.std.proofs.Math.Dec.{leb, ltb, leb-zero}
+use Rattle.std.proofs.Math.Dec.{leb, leb-zero}
 use Rattle.std.proofs.lemmas.Bool.{eq-eqb, ne_eqb, le-leb, lt-leb, lt-ltb}
 use Rattle.std.specs.Cmp.{nat_cmp_is}
 use Rattle.std.specs.Ordering.{is_lt, is_le, is_gt, is_ge, nat_cmp}
@@ -21,7 +21,6 @@ use Rattle.filt_meaning.specs.Meaning.{compare_of, property_of}
 use Rattle.filt_meaning.specs.declared.tree.TTest.{TTest}
 use Rattle.filt_meaning.specs.declared.tree.TTest.TheVariants as tests
 use Rattle.filt_meaning.specs.Trees as trees
-use Rattle.filt_meaning.specs.Trees.{Tables}
 use Rattle.filt_code.specs.declared.instr.Instr.{Instr}
 use Rattle.filt_code.specs.declared.instr.Instr.TheVariants as instrs
 use Rattle.filt_code.specs.declared.instr.Number.{Number}

@@ -31,19 +31,19 @@ use Rattle.filt_meaning.specs.Sorts.{one_bool, one_list, the_same}
 use Rattle.filt_meaning.specs.Values.{Val, VInt, VIp, VPair, VPath, VClist, VDest, VOrigin, sort_of, default_of}
 use Rattle.filt_meaning.specs.Attributes.{attribute_of, with_attribute, without_attribute}
 use Rattle.filt_meaning.specs.Flow.{Frame, Run, plainly}
-use Rattle.filt_meaning.specs.Meaning.{Act, act, acts, arms_act, all_declared, arms_declare, names_of, defaults, nothing, block, set_variable, set_attributes, set_target, unset, read, choose, choice, arm, elements, turns, loop, give, evaluate, on_value, on_two, method_of, value, values, within}
+use Rattle.filt_meaning.specs.Meaning.{Act, act, acts, arms_act, all_declared, arms_declare, names_of, defaults, nothing, block, set_variable, set_attributes, set_target, read, choose, choice, arm, elements, turns, loop, give, evaluate, on_value, on_two, method_of, value, values, within}
 use Rattle.filt_meaning.specs.Meaning as run
-use Rattle.filt_meaning.specs.Names.{Doing, place_in, named_in, sort_of_type, with_variables}
+use Rattle.filt_meaning.specs.Names.{Doing, place_in, named_in, sort_of_type}
 use Rattle.filt_meaning.specs.Names as names
 use Rattle.filt_types.specs.declared.refusal.Cause.TheVariants as causes
 use Rattle.filt_types.specs.declared.refusal.Refusal.{Refusal}
-use Rattle.filt_types.specs.Expressions.{Judgement, judge, judge_all, all_refusals, is_other, is_taken, are_taken, wants, wanted, gives_where, of_two, constant_word}
+use Rattle.filt_types.specs.Expressions.{Judgement, judge, judge_all, all_refusals, is_other, wants, wanted, gives_where, constant_word}
 use Rattle.filt_types.specs.Expressions as seen
 use Rattle.filt_types.specs.Items.{Common, NoneYet, One, common, differ, is_empty, all_items, sorts_of_items}
 use Rattle.filt_types.specs.Refusals.{refused_if}
 use Rattle.filt_meaning.specs.Rules.{method, same_sort, one_of_cases, sort_of_attribute, sort_of_constant, is_assignable, can_be_unset, is_assigned_dest}
 use Rattle.filt_types.specs.Scenes.{Scene, Signature, Variable, Variables, variable_in, declaring, declared}
-use Rattle.filt_types.specs.Statements.{Around, Checked, Aim, Holds, IsFixed, Unknown, aim, aim_of_name, aim_of_variable, operand, assigned, assigned_dest, is_dest_word, no_sort, place_of, changed, cleared, labels, lacks_labels, of_value, lists_of, is_other_list, over_list, returned, check, check_all, check_arms}
+use Rattle.filt_types.specs.Statements.{Around, Aim, Holds, IsFixed, Unknown, aim, aim_of_name, operand, assigned, assigned_dest, is_dest_word, no_sort, place_of, changed, cleared, labels, lacks_labels, of_value, lists_of, is_other_list, over_list, returned, check, check_all, check_arms}
 use Rattle.filt_types.specs.Statements as rules
 use Rattle.filt_laws.specs.Sound.{EndsFilter, IsResult, AreOfSignatures}
 use Rattle.filt_laws.proofs.Declared.{adds, all_add, arms_add, fresh, all_fresh, not_seen}

@@ -35,7 +35,7 @@ use Rattle.filt_meaning.specs.Names.{Around, Context, Doing, there}
 use Rattle.filt_types.specs.declared.refusal.Cause.TheVariants as causes
 use Rattle.filt_types.specs.Expressions.{set_sort, and_known}
 use Rattle.filt_types.specs.Items as seen
-use Rattle.filt_types.specs.Items.{Common, NoneYet, One, Many, common, with_sort, differ, all_known, all_items, sorts_of_items, sort_of_item, sort_of_elements, sort_where, is_empty, set_of_sort, names_in_item, is_none, is_known, number_in, names_in_mask, all_atoms}
+use Rattle.filt_types.specs.Items.{Common, NoneYet, One, Many, common, with_sort, differ, all_known, all_items, sorts_of_items, sort_of_item, sort_of_elements, is_empty, set_of_sort, names_in_item, is_none, number_in, names_in_mask, all_atoms}
 use Rattle.filt_meaning.specs.Rules.{same_sort}
 use Rattle.filt_types.specs.Scenes.{Scene, constant_of}
 use Rattle.filt_laws.proofs.Flows.{IsGood, OfSort, Anything, good_then}

@@ -29,7 +29,7 @@ use Rattle.filt_meaning.specs.Meaning as run
 use Rattle.filt_meaning.specs.Names.{Around, Doing, same_name, place_in, named_in, there}
 use Rattle.filt_types.specs.declared.refusal.Cause.TheVariants as causes
 use Rattle.filt_types.specs.declared.refusal.Refusal.{Refusal}
-use Rattle.filt_types.specs.Expressions.{Judgement, judge, judge_all, is_other, is_taken, are_taken, wants, wanted, gives_where, disagree, of_one, of_two, known_as, sort_of_named, all_refusals, arguments_wanted, arguments_fit, gives_nothing, given_sort, and_known, over_16_bits, written}
+use Rattle.filt_types.specs.Expressions.{Judgement, judge, judge_all, is_other, is_taken, are_taken, wants, wanted, gives_where, disagree, of_two, known_as, sort_of_named, all_refusals, arguments_wanted, arguments_fit, and_known, over_16_bits, written}
 use Rattle.filt_types.specs.Expressions as seen
 use Rattle.filt_types.specs.Items.{NoneYet, common, differ, all_items, all_atoms, sorts_of_items, is_none, is_known, sort_where}
 use Rattle.filt_types.specs.Refusals.{refused_if}

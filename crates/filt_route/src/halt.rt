@@ -4,7 +4,6 @@ ghost use Rattle.std.specs.Prelude.{◌≡◌};
 ghost use Rattle.filt_route.specs.declared.halt.Halt.TheVariants.{Memory};
 ghost use Rattle.filt_route.specs.Seen.{IsHalt};
 ghost use Rattle.filt_meaning.specs.declared.value.Failure.TheVariants as failures;
-ghost use Rattle.filt_meaning.specs.declared.value.ListFailure.TheVariants as list_failures;
 ghost use Rattle.filt_meaning.specs.declared.value.ListFailure.TheVariants.{Failed};
 
 use attrs::FilterFault;

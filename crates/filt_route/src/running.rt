@@ -5,7 +5,6 @@ ghost use Rattle.conf_ast.specs.declared.attribute.Attribute.TheVariants as attr
 ghost use Rattle.filt_meaning.specs.Operators.{clist_in, path_in};
 ghost use Rattle.filt_meaning.specs.Seen.{val_of};
 ghost use Rattle.filt_meaning.specs.Values.{VClist, VInt, VIp, VOrigin, VPath};
-ghost use Rattle.filt_meaning.specs.Names.{Around};
 ghost use Rattle.filt_meaning.specs.Attributes.{attribute_of, defined_as, is_defined, with_attribute, without_attribute};
 ghost use Rattle.filt_route.specs.Lists.{numbers_of, pairs_of};
 ghost use Rattle.filt_route.specs.Seen.{around_in, Gives, IsApplicable};

@@ -14,7 +14,7 @@ use Rattle.filt_meaning.specs.Flow.{Frame, and_then, plainly}
 use Rattle.filt_meaning.specs.Operators.{bool_in}
 use Rattle.filt_meaning.specs.declared.value.Failure.{Failure}
 use Rattle.filt_route.specs.Seen.{IsApplicable}
-use Rattle.filt_vm.specs.Seen.{AreStacked, Held, cut, first_of, held_in, rest_of, top_first, TakesTop, vals_of}
+use Rattle.filt_vm.specs.Seen.{AreStacked, Held, first_of, held_in, rest_of, top_first, TakesTop, vals_of}
 
 -- ---- values in memory
 

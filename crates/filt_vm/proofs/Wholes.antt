@@ -1,5 +1,5 @@
 -- What levels go on with.
-use Rattle.std.proofs.Common.{◌≡◌, ℕ, ◌<◌, List, [], ◌∷◌, drop, Option, Some, subst, sym, ap, arith}
+use Rattle.std.proofs.Common.{◌≡◌, ℕ, List, [], ◌∷◌, drop, Option, Some, subst, sym, arith}
 use Rattle.filt_meaning.specs.Flow.{Frame}
 use Rattle.filt_meaning.specs.Values.{Val}
 use Rattle.filt_vm.specs.declared.level.Call.{Call}

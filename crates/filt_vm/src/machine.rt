@@ -1,6 +1,6 @@
 //! The machine, and its steps.
 
-ghost use Rattle.std.specs.Prelude.{◌≡◌, ◌<◌, ◌≤◌, List, [], ◌∷◌, drop, length, slice_get, take, Some};
+ghost use Rattle.std.specs.Prelude.{◌≡◌, ◌<◌, ◌≤◌, List, ◌∷◌, drop, length, slice_get, take, Some};
 ghost use Rattle.attrs.specs.declared.attributes.Attrs.{Attrs};
 ghost use Rattle.filt_code.specs.Codes.{mean, Setting};
 ghost use Rattle.filt_meaning.specs.Flow.{AtEnd, Done, Frame, Returned, Stopped, Why};

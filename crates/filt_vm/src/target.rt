@@ -1,6 +1,6 @@
 //! Where jumps lead.
 
-ghost use Rattle.std.specs.Prelude.{◌≡◌, ◌⊎◌, ℕ, ◌≤◌, List, length, map, IfOk, OnOk};
+ghost use Rattle.std.specs.Prelude.{◌≡◌, ◌⊎◌, ℕ, ◌≤◌, List, length, IfOk, OnOk};
 ghost use Rattle.attrs.specs.declared.attributes.Attrs.{Attrs};
 ghost use Rattle.filt_code.specs.Codes.{arms_before, labels_of, behind_left, decides, jump_where, one, with_one, At, Setting};
 ghost use Rattle.filt_code.specs.Costs.{beside};

@@ -1,6 +1,6 @@
 //! That each text has tokens or a place of refusal, what the words of a text are made of, and that
 //! a spelling says one thing.
-ghost use Rattle.std.specs.Prelude.{◌≡◌, ◌⊎◌, ℕ, ◌+◌, List, [], ◌∷◌, ◌++◌, length, Some};
+ghost use Rattle.std.specs.Prelude.{◌≡◌, ◌⊎◌, ℕ, ◌+◌, List, ◌∷◌, ◌++◌, length, Some};
 ghost use Rattle.std.specs.Prelude.{None};
 ghost use Rattle.bits_ip.specs.declared.address.Addr.{Addr};
 ghost use Rattle.conf_ast.specs.declared.attribute.Attribute.{Attribute};

@@ -1,4 +1,4 @@
-use Rattle.std.proofs.Common.{refl, sym}
+use Rattle.std.proofs.Common.{refl}
 use Rattle.filt_meaning.specs.Operators.{bool_in}
 use Rattle.filt_meaning.specs.Seen.{val_of}
 use Rattle.filt_vm.proofs.Stacks as stacks

@@ -1,5 +1,4 @@
 use Rattle.std.proofs.Common.{arith, reverse, ◌+◌}
-use Rattle.filt_meaning.specs.Seen.{val_of}
 use Rattle.filt_vm.specs.Seen.{vals_of}
 use Rattle.filt_vm.proofs.Lists as lists
 use Rattle.filt_vm.proofs.Stacks as stacks

@@ -1,4 +1,3 @@
-use Rattle.std.proofs.Common.{refl}
 use Rattle.filt_meaning.specs.Seen.{val_of}
 use Rattle.filt_vm.proofs.Stacks as stacks
 use Rattle.filt_vm.proofs.operands.Operands.truth.Goals as goal
