@@ -1,6 +1,7 @@
 // Words made as a text is walked.
 
-ghost use Rattle.std.specs.Prelude.{◌≡◌, false, List, [], None, IfOk, IfErr, MatchOption};
+ghost use Rattle.std.specs.Prelude.{◌≡◌, ◌<◌, ◌^◌, false, length, List, [], None, IfOk, IfErr};
+ghost use Rattle.std.specs.Prelude.{MatchOption};
 ghost use Rattle.conf_lex.specs.Words.{token_symbol, word_of};
 ghost use Rattle.conf_scan.specs.Spans.{IsWithin};
 ghost use Rattle.conf_lex.specs.Walks.{IsWordStep};
@@ -88,7 +89,7 @@ fn length_ahead(text: &[u8], spot: Spot) -> Option<(u32, Spot)>
 }
 
 // The word that an address begins, and the place behind it.
-fn address_word(text: &[u8], at: usize, addr: PackedAddr, behind: Spot) -> (Word, Spot)
+fn address_word(text: &[u8], at: u32, addr: PackedAddr, behind: Spot) -> (Word, Spot)
     requires { IsSpot text.now behind }
     ensures { (from : Spot) (t : Token) → IsStep text.now from t behind
         → word_of text.now t ≡ words.Ip at addr → IsWordStep text.now from result.0 result.1 }
@@ -127,6 +128,7 @@ fn sign_word(text: &[u8], symbol: Symbol, behind: Spot) -> (Word, Spot)
 // The word that a token begins, and the place behind it. Only an address and `else` can be a part
 // of a longer word.
 fn word_behind(text: &[u8], token: Token, behind: Spot) -> (Word, Spot)
+    requires short { length text.now < 2 ^ 32 }
     requires within { IsWithin text.now token }
     requires spot { IsSpot text.now behind }
     ensures { (from : Spot) → IsStep text.now from token behind
@@ -143,7 +145,8 @@ fn word_behind(text: &[u8], token: Token, behind: Spot) -> (Word, Spot)
 /// The word that begins with the next token and the place behind it, as `words` gives the words of
 /// all tokens; nothing where the text has no more.
 pub fn next_word(text: &[u8], spot: Spot) -> Result<Option<(Word, Spot)>, LexFault>
-    requires { IsSpot text.now spot }
+    requires short { length text.now < 2 ^ 32 }
+    requires spot { IsSpot text.now spot }
     ensures word { IfOk result (λ found. MatchOption found (LexesFrom text.now spot [])
         (λ next. IsWordStep text.now spot next.0 next.1)) }
     ensures bad { IfErr result (λ fault. IsStuckFrom text.now spot fault) }

@@ -90,9 +90,9 @@ pub fn next_name(words: &[Word]) -> Option<(Name, &[Word])>
     match words {
         [Word::Name { at, start, len }, rest @ ..] => {
             let name = Name {
-                at: *at,
-                start: *start,
-                len: *len,
+                at: *at as usize,
+                start: *start as usize,
+                len: *len as usize,
             };
             Some((name, rest))
         }
@@ -114,7 +114,7 @@ pub fn next_prefix(words: &[Word]) -> Option<((usize, Prefix), &[Word])>
         (λ found. words.now ≡ Word.Prefix found.0.0 found.0.1 ∷ found.1.now) }
 {
     match words {
-        [Word::Prefix { at, net }, rest @ ..] => Some(((*at, *net), rest)),
+        [Word::Prefix { at, net }, rest @ ..] => Some(((*at as usize, *net), rest)),
         _ => None,
     }
 }
@@ -153,7 +153,7 @@ fn place_of(word: Word, wanted: Symbol) -> Option<usize>
         (λ at. word ≡ Word.Placed at wanted) }
 {
     match word {
-        Word::Placed { at, symbol } => (symbol == wanted).then_some(at),
+        Word::Placed { at, symbol } => (symbol == wanted).then_some(at as usize),
         _ => None,
     }
 }
@@ -163,7 +163,7 @@ fn attribute_place(word: Word, wanted: Attribute) -> Option<usize>
         (λ at. word ≡ Word.Attribute at wanted) }
 {
     match word {
-        Word::Attribute { at, attribute } => (attribute == wanted).then_some(at),
+        Word::Attribute { at, attribute } => (attribute == wanted).then_some(at as usize),
         _ => None,
     }
 }

@@ -1,4 +1,4 @@
-ghost use Rattle.std.specs.Prelude.{◌≡◌, ◌≤◌, ◌<◌, ◌+◌, [], ◌∷◌, length, map, drop};
+ghost use Rattle.std.specs.Prelude.{◌≡◌, ◌≤◌, ◌<◌, ◌+◌, ◌^◌, [], ◌∷◌, length, map, drop};
 ghost use Rattle.std.specs.Prelude.{IfOk, IfSome, MatchOption};
 ghost use Rattle.conf_scan.specs.Lex.{Lexes};
 ghost use Rattle.conf_lex.specs.Symbols.{symbol_of, is_else, is_colon, is_slash};
@@ -18,7 +18,7 @@ use conf_ast::PackedAddr;
 use conf_scan::{Token, TokenKind};
 use std::alloc::Global;
 
-fn symbol_word(at: usize, symbol: Symbol) -> Word
+fn symbol_word(at: u32, symbol: Symbol) -> Word
     ensures { result ≡ symbol_word at symbol }
 {
     if is_placed(symbol) {
@@ -28,7 +28,7 @@ fn symbol_word(at: usize, symbol: Symbol) -> Word
     }
 }
 
-pub fn prefix_word(at: usize, addr: Addr, len: u32) -> Word
+pub fn prefix_word(at: u32, addr: Addr, len: u32) -> Word
     ensures { result ≡ prefix_word at addr len }
 {
     let Ok(len) = u8::try_from(len) else {
@@ -53,25 +53,27 @@ pub fn token_symbol(text: &[u8], token: Token) -> Option<Symbol>
 }
 
 fn constant_or_name(token: Token, bytes: &[u8]) -> Word
+    requires { token.at + token.len < 2 ^ 32 }
     ensures { result ≡ constant_or_name token (constant_of bytes.now) }
 {
-    let at = token.at;
+    let at = token.at as u32;
     match constant_of(bytes) {
         Some(constant) => Word::Constant { at, constant },
         None => Word::Name {
             at,
             start: at,
-            len: token.len,
+            len: token.len as u32,
         },
     }
 }
 
 fn named_word(token: Token, bytes: &[u8]) -> Word
+    requires { token.at + token.len < 2 ^ 32 }
     ensures { result ≡ named_word token bytes.now (attribute_of bytes.now) }
 {
     match attribute_of(bytes) {
         Some(attribute) => Word::Attribute {
-            at: token.at,
+            at: token.at as u32,
             attribute,
         },
         None => constant_or_name(token, bytes),
@@ -79,33 +81,35 @@ fn named_word(token: Token, bytes: &[u8]) -> Word
 }
 
 fn spelled_word(text: &[u8], token: Token) -> Word
-    requires { IsWithin text.now token }
+    requires within { IsWithin text.now token }
+    requires short { length text.now < 2 ^ 32 }
     ensures { result ≡ spelled_word token (slice_of text.now token)
         (symbol_of (slice_of text.now token)) }
 {
     let bytes = token.bytes(text);
     match symbol_of(bytes) {
-        Some(symbol) => symbol_word(token.at, symbol),
+        Some(symbol) => symbol_word(token.at as u32, symbol),
         None => named_word(token, bytes),
     }
 }
 
 /// The word that a token is alone.
 pub fn word_of(text: &[u8], token: Token) -> Word
-    requires { IsWithin text.now token }
+    requires within { IsWithin text.now token }
+    requires short { length text.now < 2 ^ 32 }
     ensures { result ≡ word_of text.now token }
 {
-    let at = token.at;
+    let at = token.at as u32;
     match token.kind {
         TokenKind::QuotedName => Word::Name {
             at,
-            start: token.at + 1,
-            len: token.len - 2,
+            start: at + 1,
+            len: (token.len - 2) as u32,
         },
         TokenKind::Text => Word::Text {
             at,
-            start: token.at + 1,
-            len: token.len - 2,
+            start: at + 1,
+            len: (token.len - 2) as u32,
         },
         TokenKind::Number(value) => Word::Number { at, value },
         TokenKind::Ip(addr) => Word::Ip {
@@ -136,7 +140,7 @@ pub fn is_slash(symbol: Option<Symbol>) -> bool
 }
 
 /// The word of an address, a slash and a number.
-fn slashed(at: usize, first: TokenKind, slash: bool, third: TokenKind) -> Option<Word>
+fn slashed(at: u32, first: TokenKind, slash: bool, third: TokenKind) -> Option<Word>
     ensures { result ≡ slashed at first slash third }
 {
     if !slash {
@@ -150,6 +154,7 @@ fn slashed(at: usize, first: TokenKind, slash: bool, third: TokenKind) -> Option
 
 /// The word that begins with a token, by what follows it, and of how many tokens it is made.
 fn first_word(text: &[u8], token: Token, behind: &[Token]) -> (Word, usize)
+    requires short { length text.now < 2 ^ 32 }
     requires first { IsWithin text.now token }
     requires behind { AreWithin text.now behind.now }
     ensures { result ≡ first_word text.now token behind.now }
@@ -164,7 +169,7 @@ fn first_word(text: &[u8], token: Token, behind: &[Token]) -> (Word, usize)
     let Some(third) = rest.first() else {
         return (word_of(text, token), 1);
     };
-    match slashed(token.at, token.kind, is_slash(sign), third.kind) {
+    match slashed(token.at as u32, token.kind, is_slash(sign), third.kind) {
         Some(word) => (word, 3),
         None => (word_of(text, token), 1),
     }
@@ -180,6 +185,7 @@ fn tokens_from(tokens: &[Token], at: usize) -> &[Token]
 /// The word that begins with this token, and the place of the token behind the word; nothing behind
 /// the last token.
 pub fn word_at(text: &[u8], tokens: &[Token], at: usize) -> Option<(Word, usize)>
+    requires short { length text.now < 2 ^ 32 }
     requires lexed { Lexes 0 text.now tokens.now }
     requires within { at ≤ length tokens.now }
     ensures word { MatchOption result (words_from text.now at 0 (drop at tokens.now) ≡ [])
@@ -205,6 +211,7 @@ pub fn words_from(
     tokens: &[Token],
     from: usize,
 ) -> Result<Words, OutOfMemory>
+    requires short { length text.now < 2 ^ 32 }
     requires lexed { Lexes 0 text.now tokens.now }
     requires within { from ≤ length tokens.now }
     ensures words { IfOk result (λ found. found.words.items

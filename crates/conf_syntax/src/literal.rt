@@ -27,15 +27,29 @@ fn value(word: Word) -> Option<Literal>
         (λ v. literal_tree v ≡ value_tree word) }
 {
     match word {
-        Word::Number { at, value } => Some(Literal::Number { at, value }),
-        Word::Text { at, start, len } => Some(Literal::Text(StringLiteral { at, start, len })),
+        Word::Number { at, value } => Some(Literal::Number {
+            at: at as usize,
+            value,
+        }),
+        Word::Text { at, start, len } => Some(Literal::Text(StringLiteral {
+            at: at as usize,
+            start: start as usize,
+            len: len as usize,
+        })),
         Word::Ip { at, addr } => Some(Literal::Ip(Address {
-            at,
+            at: at as usize,
             addr: addr.addr(),
         })),
-        Word::Prefix { at, net } => Some(Literal::Prefix { at, net }),
-        Word::Name { at, start, len } => Some(Literal::Name(Name { at, start, len })),
-        Word::Placed { at, symbol } => truth(at, symbol),
+        Word::Prefix { at, net } => Some(Literal::Prefix {
+            at: at as usize,
+            net,
+        }),
+        Word::Name { at, start, len } => Some(Literal::Name(Name {
+            at: at as usize,
+            start: start as usize,
+            len: len as usize,
+        })),
+        Word::Placed { at, symbol } => truth(at as usize, symbol),
         _ => None,
     }
 }

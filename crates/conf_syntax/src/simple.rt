@@ -29,7 +29,7 @@ pub fn next_address(words: &[Word]) -> Option<(Address, &[Word])>
     match words {
         [Word::Ip { at, addr }, rest @ ..] => {
             let address = Address {
-                at: *at,
+                at: *at as usize,
                 addr: addr.addr(),
             };
             Some((address, rest))
@@ -50,9 +50,9 @@ pub fn expect_text(words: &[Word]) -> Result<(StringLiteral, &[Word]), Refusal>
     match words {
         [Word::Text { at, start, len }, rest @ ..] => {
             let quoted = StringLiteral {
-                at: *at,
-                start: *start,
-                len: *len,
+                at: *at as usize,
+                start: *start as usize,
+                len: *len as usize,
             };
             Ok((quoted, rest))
         }

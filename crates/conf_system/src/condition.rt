@@ -1,5 +1,5 @@
 //! Conditions that stand in texts of their own.
-ghost use Rattle.std.specs.Prelude.{◌≡◌, ℕ, List, Option, IfOk, IfSome, IsSome, MatchOption};
+ghost use Rattle.std.specs.Prelude.{◌≡◌, ◌<◌, ◌^◌, ℕ, List, length, Option, IfOk, IfSome, IsSome, MatchOption};
 ghost use Rattle.conf_ast.specs.Filters.{expression_of};
 ghost use Rattle.conf_scan.specs.Lex.{Lexes};
 ghost use Rattle.filt_check.specs.Answers.{IsFault};
@@ -21,6 +21,7 @@ use std::alloc::Global;
 
 /// The expression that all tokens of a text are.
 pub(crate) fn expression(alloc: Global, text: &[u8]) -> Result<Option<Expr>, OutOfMemory>
+    requires short { length text.now < 2 ^ 32 }
     ensures { IfOk result (λ found. MatchOption found (IsNoExpression text.now)
         (λ tree. IsExpressionText text.now (expression_of tree))) }
 {
@@ -33,7 +34,8 @@ pub(crate) fn expression(alloc: Global, text: &[u8]) -> Result<Option<Expr>, Out
 
 /// The expression that these tokens of a text are.
 fn whole(alloc: Global, text: &[u8], tokens: &[Token]) -> Result<Option<Expr>, OutOfMemory>
-    requires { Lexes 0 text.now tokens.now }
+    requires short { length text.now < 2 ^ 32 }
+    requires lexed { Lexes 0 text.now tokens.now }
     ensures { IfOk result (λ found. MatchOption found (IsNoExpression text.now)
         (λ tree. IsExpressionText text.now (expression_of tree))) }
 {

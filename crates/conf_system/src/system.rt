@@ -1,4 +1,4 @@
-ghost use Rattle.std.specs.Prelude.{◌≡◌, ◌<◌, Some, length, map, slice_get, IfOk, IfSome, MatchOption};
+ghost use Rattle.std.specs.Prelude.{◌≡◌, ◌<◌, ◌^◌, Some, length, map, slice_get, IfOk, IfSome, MatchOption};
 ghost use Rattle.std.specs.String.{string_bytes};
 ghost use Rattle.conf_system.specs.Coded.{AllCanRun, HasCode, CanRunOver, PolicyCanRun};
 ghost use Rattle.conf_system.specs.Conditions.{IsCondition, RefusesCondition};
@@ -159,6 +159,7 @@ impl System {
     ///
     /// `OutOfMemory` comes where memory is refused.
     pub fn condition(&self, alloc: Global, text: &[u8]) -> Result<Option<TFilter>, OutOfMemory>
+        requires short { length text.now < 2 ^ 32 }
         ensures condition { IfOk result (λ answer. MatchOption answer
             (RefusesCondition (system_of self.now) text.now)
             (λ filter. IsCondition (system_of self.now) text.now (filter_says self.now filter))) }

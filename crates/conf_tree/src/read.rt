@@ -1,6 +1,6 @@
 // The configuration of a text.
 
-ghost use Rattle.std.specs.Prelude.{◌≡◌, length, IfOk, IfErr};
+ghost use Rattle.std.specs.Prelude.{◌≡◌, ◌<◌, ◌^◌, length, IfOk, IfErr};
 ghost use Rattle.conf_lex.specs.Grammar.{ParseTree};
 ghost use Rattle.conf_tree.specs.Marks.{AreMarks};
 ghost use Rattle.conf_tree.specs.Significant.{AreWordsOf};
@@ -50,6 +50,7 @@ fn config_of_words<'a>(
     text: &'a [u8],
     walked: &mut Walked,
 ) -> Result<Config<'a>, ConfFault>
+    requires short { length text.now < 2 ^ 32 }
     requires words { AreWordsOf text.now walked.old.words.items }
     requires marks { AreMarks text.now walked.old.marks.items }
     ensures text { IfOk result (λ config. config.text.now ≡ text.now) }
@@ -68,6 +69,7 @@ fn config_of_words<'a>(
 
 // The configuration of a text, or its refusal.
 fn answer<'a>(alloc: Global, text: &'a [u8]) -> Result<Config<'a>, ConfFault>
+    requires short { length text.now < 2 ^ 32 }
     ensures text { IfOk result (λ config. config.text.now ≡ text.now) }
     ensures tree { IfOk result (λ config. IsConfigText text.now (config_view config)) }
     ensures fault { IfErr result (IsFault text.now) }
@@ -87,6 +89,7 @@ fn answer<'a>(alloc: Global, text: &'a [u8]) -> Result<Config<'a>, ConfFault>
 /// The configuration of a text, or the first byte of the token at which it is refused: for want of
 /// a token first, then by the grammar (BIRD User's Guide, "Configuration").
 pub fn read_config<'a>(alloc: Global, text: &'a [u8]) -> Result<Config<'a>, ConfFault>
+    requires short { length text.now < 2 ^ 32 }
     ensures text { IfOk result (λ config. config.text.now ≡ text.now) }
     ensures tree { IfOk result (λ config. IsConfigText text.now (config_view config)) }
     ensures fault { IfErr result (IsFault text.now) }

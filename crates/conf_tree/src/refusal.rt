@@ -1,6 +1,6 @@
 // Why the words of a text are refused, and at which of its bytes.
 
-ghost use Rattle.std.specs.Prelude.{◌≡◌, ◌↔◌, ◌≤◌, List, [], None, Some, length, take};
+ghost use Rattle.std.specs.Prelude.{◌≡◌, ◌↔◌, ◌≤◌, ◌<◌, ◌^◌, List, [], None, Some, length, take};
 ghost use Rattle.std.specs.Prelude.{drop, IsTrue, IsSomeAnd, IfOk, OnOk, MatchOption};
 ghost use Rattle.conf_scan.specs.Spots.{IsSpot, IsStep, LexesFrom};
 ghost use Rattle.conf_scan.specs.declared.token.Token.{Token};
@@ -177,6 +177,7 @@ fn refusal(
 /// The refusal of words of which the one in this place can't stand there. The list of the words
 /// serves to try others in its place, so that no copy is made, and is of no use behind the call.
 pub fn stopped(alloc: Global, text: &[u8], walked: &mut Walked, place: usize) -> ConfFault
+    requires short { length text.now < 2 ^ 32 }
     requires words { AreWordsOf text.now walked.old.words.items }
     requires marks { AreMarks text.now walked.old.marks.items }
     requires stops { IsStopAt walked.old.words.items place }
@@ -193,6 +194,7 @@ pub fn stopped(alloc: Global, text: &[u8], walked: &mut Walked, place: usize) ->
 
 /// The refusal of words of which the one in this place opens too many levels.
 pub fn deepened(text: &[u8], walked: &Walked, place: usize) -> ConfFault
+    requires short { length text.now < 2 ^ 32 }
     requires words { AreWordsOf text.now walked.now.words.items }
     requires marks { AreMarks text.now walked.now.marks.items }
     requires deep { IsTooDeepAt walked.now.words.items place }

@@ -1,7 +1,7 @@
 // The words without those that logs and device blocks hold.
 
 ghost use Rattle.std.specs.Prelude.{◌≡◌, ◌≤◌, ℕ, ◌+◌, ◌<◌, ◌^◌, List, ◌++◌, ◌∷◌, [], cond};
-ghost use Rattle.std.specs.Prelude.{true, drop};
+ghost use Rattle.std.specs.Prelude.{true, length, drop};
 ghost use Rattle.std.specs.Prelude.{IfOk, IfErr, OnOk, MatchOption};
 ghost use Rattle.conf_scan.specs.Lex.{Lexes, IsLexFault};
 ghost use Rattle.conf_scan.specs.Spots.{IsSpot, LexesFrom};
@@ -167,6 +167,7 @@ fn note(marks: &mut Vec<Mark>, mark: Mark)
 /// The words that the grammar reads, made as the text is walked: its tokens aren't kept. `Bad` is as
 /// `conf_scan::lex` has it.
 pub fn walked_words(alloc: Global, text: &[u8]) -> Result<Walked, LexFault>
+    requires short { length text.now < 2 ^ 32 }
     ensures words { IfOk result (λ walked. AreWordsOf text.now walked.words.items) }
     ensures marks { IfOk result (λ walked. AreMarks text.now walked.marks.items) }
     ensures bad { IfErr result (IsLexFault text.now) }
@@ -213,6 +214,7 @@ pub fn mark_before(marks: &[Mark], place: usize) -> Mark
 
 // The word that stands next in a text that has tokens, and the place behind it.
 fn word_ahead(text: &[u8], spot: Spot) -> Option<(Word, Spot)>
+    requires short { length text.now < 2 ^ 32 }
     requires spot { IsSpot text.now spot }
     requires lexed { (tokens : List Token) × LexesFrom text.now spot tokens }
     ensures { MatchOption result (LexesFrom text.now spot [])
@@ -239,6 +241,7 @@ fn words_left(left: usize, significant: bool) -> Option<usize>
 /// Where the word in this place begins, of those that the grammar reads, by a walk from a mark before
 /// it; behind the last one where the text has no more tokens.
 pub fn spot_of(text: &[u8], place: usize, from: Mark) -> Spot
+    requires short { length text.now < 2 ^ 32 }
     requires lexed { (tokens : List Token) × Lexes 0 text.now tokens }
     requires mark { IsMark text.now from }
     requires before { from.count ≤ place }

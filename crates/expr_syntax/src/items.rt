@@ -31,16 +31,16 @@ pub fn next_num(words: &[Word]) -> Option<(Num, &[Word])>
     match words {
         [Word::Number { at, value }, rest @ ..] => {
             let number = Num::Number {
-                at: *at,
+                at: *at as usize,
                 value: *value,
             };
             Some((number, rest))
         }
         [Word::Name { at, start, len }, rest @ ..] => {
             let name = Name {
-                at: *at,
-                start: *start,
-                len: *len,
+                at: *at as usize,
+                start: *start as usize,
+                len: *len as usize,
             };
             Some((Num::Name(name), rest))
         }

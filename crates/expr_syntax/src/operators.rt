@@ -94,7 +94,7 @@ pub fn next_attribute(words: &[Word]) -> Option<((usize, Attribute), &[Word])>
     ensures { Finds is_attribute (λ found. Word.Attribute found.0 found.1) result words.now }
 {
     match words {
-        [Word::Attribute { at, attribute }, rest @ ..] => Some(((*at, *attribute), rest)),
+        [Word::Attribute { at, attribute }, rest @ ..] => Some(((*at as usize, *attribute), rest)),
         _ => None,
     }
 }
@@ -179,7 +179,10 @@ fn method_of(word: Word) -> Option<Method>
 {
     match word {
         Word::Placed { at, symbol } => match method_kind(symbol) {
-            Some(kind) => Some(Method { at, kind }),
+            Some(kind) => Some(Method {
+                at: at as usize,
+                kind,
+            }),
             None => None,
         },
         _ => None,
@@ -203,13 +206,32 @@ fn atom_of(word: Word) -> Option<Atom>
     ensures { MatchOption result (is_atom (kind_of word) ≡ false) (λ s. word ≡ atom_word s) }
 {
     match word {
-        Word::Number { at, value } => Some(Atom::Number { at, value }),
-        Word::Text { at, start, len } => Some(Atom::Text { at, start, len }),
-        Word::Ip { at, addr } => Some(Atom::Ip { at, addr }),
-        Word::Prefix { at, net } => Some(Atom::Prefix { at, net }),
-        Word::Attribute { at, attribute } => Some(Atom::Attribute { at, attribute }),
-        Word::Constant { at, constant } => Some(Atom::Constant { at, constant }),
-        Word::Placed { at, symbol } => atom_symbol(at, symbol),
+        Word::Number { at, value } => Some(Atom::Number {
+            at: at as usize,
+            value,
+        }),
+        Word::Text { at, start, len } => Some(Atom::Text {
+            at: at as usize,
+            start: start as usize,
+            len: len as usize,
+        }),
+        Word::Ip { at, addr } => Some(Atom::Ip {
+            at: at as usize,
+            addr,
+        }),
+        Word::Prefix { at, net } => Some(Atom::Prefix {
+            at: at as usize,
+            net,
+        }),
+        Word::Attribute { at, attribute } => Some(Atom::Attribute {
+            at: at as usize,
+            attribute,
+        }),
+        Word::Constant { at, constant } => Some(Atom::Constant {
+            at: at as usize,
+            constant,
+        }),
+        Word::Placed { at, symbol } => atom_symbol(at as usize, symbol),
         _ => None,
     }
 }

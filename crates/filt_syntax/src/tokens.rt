@@ -32,6 +32,7 @@ pub fn parse_expr(
     text: &[u8],
     from: usize,
 ) -> Result<(Expr, usize), SyntaxFault>
+    requires short { length text.now < 2 ^ 32 }
     requires lexed { Lexes 0 text.now tokens.now }
     requires within { from ≤ length tokens.now }
     ensures tree { IfOk result (λ found.
@@ -60,6 +61,7 @@ pub fn parse_block(
     text: &[u8],
     from: usize,
 ) -> Result<(Block, usize), SyntaxFault>
+    requires short { length text.now < 2 ^ 32 }
     requires lexed { Lexes 0 text.now tokens.now }
     requires within { from ≤ length tokens.now }
     ensures tree { IfOk result (λ found.

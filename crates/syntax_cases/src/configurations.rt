@@ -6,10 +6,8 @@ use std::alloc::Global;
 use std::io;
 use std::io::{Error, ErrorKind};
 
-/// The longest configuration of a case, in bytes.
-const LONGEST: usize = 1_000_000;
-
-fn answer_text(alloc: Global, text: &[u8]) -> io::Result<String>
+/// `accepted`, or the line, the column and the kind of the refusal.
+pub fn answer(alloc: Global, text: &[u8]) -> io::Result<String>
     requires { length text.now < 2 ^ 32 - 1 }
 {
     match read_config(alloc, text) {
@@ -20,12 +18,4 @@ fn answer_text(alloc: Global, text: &[u8]) -> io::Result<String>
         }
         Err(ConfFault::Memory) => Err(Error::from(ErrorKind::OutOfMemory)),
     }
-}
-
-/// `accepted`, or the line, the column and the kind of the refusal.
-pub fn answer(alloc: Global, text: &[u8]) -> io::Result<String> {
-    if text.len() > LONGEST {
-        return Err(Error::from(ErrorKind::FileTooLarge));
-    }
-    answer_text(alloc, text)
 }

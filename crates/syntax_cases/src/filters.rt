@@ -1,5 +1,6 @@
 //! Expressions and blocks: at which token the longest one in front of a text ends, or which token
 //! is refused. Of words it is their places that are told.
+ghost use Rattle.std.specs.Prelude.{◌<◌, ◌^◌, ◌-◌, length};
 ghost use Rattle.conf_scan.specs.Lex.{Lexes};
 
 use conf_lex::{Words, words_from};
@@ -24,14 +25,16 @@ fn bad<E: Drop>(_: E) -> Error {
 }
 
 fn expression(alloc: Global, text: &[u8], tokens: &[Token]) -> Result<usize, SyntaxFault>
-    requires { Lexes 0 text.now tokens.now }
+    requires short { length text.now < 2 ^ 32 - 1 }
+    requires lexed { Lexes 0 text.now tokens.now }
 {
     let (_tree, end) = parse_expr(alloc, tokens, text, 0)?;
     Ok(end)
 }
 
 fn block(alloc: Global, text: &[u8], tokens: &[Token]) -> Result<usize, SyntaxFault>
-    requires { Lexes 0 text.now tokens.now }
+    requires short { length text.now < 2 ^ 32 - 1 }
+    requires lexed { Lexes 0 text.now tokens.now }
 {
     let (_tree, end) = parse_block(alloc, tokens, text, 0)?;
     Ok(end)
@@ -47,7 +50,9 @@ fn word_block(alloc: Global, words: &Words) -> Result<usize, SyntaxFault> {
     Ok(end)
 }
 
-fn end_of(alloc: Global, reader: Reader, text: &[u8]) -> io::Result<Result<usize, SyntaxFault>> {
+fn end_of(alloc: Global, reader: Reader, text: &[u8]) -> io::Result<Result<usize, SyntaxFault>>
+    requires { length text.now < 2 ^ 32 - 1 }
+{
     let tokens = lex(alloc, text).map_err(bad)?;
     match reader {
         Reader::Expression => Ok(expression(alloc, text, &tokens)),
@@ -64,7 +69,9 @@ fn end_of(alloc: Global, reader: Reader, text: &[u8]) -> io::Result<Result<usize
 }
 
 /// Where what is read ends, or the place and the kind of its refusal.
-pub fn answer(alloc: Global, reader: Reader, text: &[u8]) -> io::Result<String> {
+pub fn answer(alloc: Global, reader: Reader, text: &[u8]) -> io::Result<String>
+    requires { length text.now < 2 ^ 32 - 1 }
+{
     match end_of(alloc, reader, text)? {
         Ok(end) => Ok(format!(in alloc; "{end}")?),
         Err(SyntaxFault::Bad { at }) => Ok(format!(in alloc; "bad at {at}")?),

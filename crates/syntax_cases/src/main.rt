@@ -4,6 +4,8 @@
 //! A module says how the answers of its tables are written.
 #![tactic(auto)]
 
+ghost use Rattle.std.specs.Prelude.{◌<◌, ◌^◌, ◌-◌, length};
+
 mod configurations;
 mod filters;
 mod tokens;
@@ -13,6 +15,7 @@ use crate::filters::Reader;
 use cases::{Tally, read};
 use std::alloc::Global;
 use std::io;
+use std::io::{Error, ErrorKind};
 use std::process::ExitCode;
 
 /// What is asked of a table's texts.
@@ -44,13 +47,25 @@ const TABLES: [(&str, Table); 11] = [
     ("configurations/too_deep.txt", Table::Configurations),
 ];
 
-fn answer(alloc: Global, table: Table, text: &[u8]) -> io::Result<String> {
+/// The longest text of a case, in bytes.
+const LONGEST: usize = 1_000_000;
+
+fn answer_text(alloc: Global, table: Table, text: &[u8]) -> io::Result<String>
+    requires { length text.now < 2 ^ 32 - 1 }
+{
     match table {
         Table::Tokens => tokens::answer(alloc, text),
         Table::Words => words::answer(alloc, text),
         Table::Filters(reader) => filters::answer(alloc, reader, text),
         Table::Configurations => configurations::answer(alloc, text),
     }
+}
+
+fn answer(alloc: Global, table: Table, text: &[u8]) -> io::Result<String> {
+    if text.len() > LONGEST {
+        return Err(Error::from(ErrorKind::FileTooLarge));
+    }
+    answer_text(alloc, table, text)
 }
 
 fn are_as_expected(rt: &HostRuntime, name: &str, table: Table) -> io::Result<bool> {

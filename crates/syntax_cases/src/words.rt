@@ -1,5 +1,7 @@
 //! Words, or at which byte a text is refused. A word is written `FIRST:WHAT`, by its first token,
 //! with `@PLACE` where it carries a place, and `[START+LEN]` where it tells bytes of the text.
+ghost use Rattle.std.specs.Prelude.{◌<◌, ◌^◌, ◌-◌, length};
+
 use crate::tokens::addr_text;
 use conf_lex::{Word, words_from};
 use conf_scan::{LexFault, lex};
@@ -41,7 +43,9 @@ fn words_text(alloc: Global, words: &[Word], starts: &[usize]) -> io::Result<Str
 }
 
 /// The words of a text, or where it has no tokens.
-pub fn answer(alloc: Global, text: &[u8]) -> io::Result<String> {
+pub fn answer(alloc: Global, text: &[u8]) -> io::Result<String>
+    requires { length text.now < 2 ^ 32 - 1 }
+{
     let out_of_memory = io::Error::from(io::ErrorKind::OutOfMemory);
     match lex(alloc, text) {
         Ok(tokens) => match words_from(alloc, text, tokens.as_slice(), 0) {

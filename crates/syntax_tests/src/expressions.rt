@@ -1,3 +1,5 @@
+ghost use Rattle.std.specs.Prelude.{◌<◌, ◌^◌, length};
+
 use conf_ast::filters::{Access, AddOp, CompareOp, Expr, LogicalOp, MethodKind, Property};
 use conf_scan::lex;
 use filt_syntax::parse_expr;
@@ -5,7 +7,9 @@ use std::alloc::Global;
 use std::test::Fail;
 
 /// The expression with which a text begins, where it has so many tokens.
-fn tree(alloc: Global, text: &[u8], len: usize) -> Result<Option<Expr>, Fail> {
+fn tree(alloc: Global, text: &[u8], len: usize) -> Result<Option<Expr>, Fail>
+    requires { length text.now < 2 ^ 32 }
+{
     let tokens = lex(alloc, text)?;
     match parse_expr(alloc, &tokens, text, 0) {
         Ok((tree, end)) => { if end == len { Ok(Some(tree)) } else { Ok(None) } }

@@ -1,3 +1,5 @@
+ghost use Rattle.std.specs.Prelude.{◌<◌, ◌^◌, length};
+
 use conf_ast::filters::{Arm, Block, Change, Item, PairPart, Stmt, Target, VariableType};
 use conf_scan::lex;
 use filt_syntax::parse_block;
@@ -5,7 +7,9 @@ use std::alloc::Global;
 use std::test::Fail;
 
 /// The statements of the block that a text is; none where it isn't one.
-fn statements(alloc: Global, text: &[u8]) -> Result<Vec<Stmt>, Fail> {
+fn statements(alloc: Global, text: &[u8]) -> Result<Vec<Stmt>, Fail>
+    requires { length text.now < 2 ^ 32 }
+{
     let tokens = lex(alloc, text)?;
     match parse_block(alloc, &tokens, text, 0) {
         Ok((Block { statements }, end)) => {

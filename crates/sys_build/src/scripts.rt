@@ -1,6 +1,7 @@
 //! Scripts, with what their conditions ask for.
 ghost use Rattle.std.specs.Prelude.{◌<◌, ◌+◌, ◌-◌, ◌^◌, ℕ, All, IfOk, List, MatchResult, length, map};
 ghost use Rattle.script_lines.specs.Script as lines;
+ghost use Rattle.script_lines.specs.declared.script.Condition.{Condition};
 ghost use Rattle.sys_build.specs.Scripts.{Accepted, Answers, AreAsked, Tells, TellsFirst, TellsOne};
 ghost use Rattle.sys_build.specs.Names.{named_of};
 ghost use Rattle.conf_system.specs.Coded.{AllCanRun, CanRunOver};
@@ -14,6 +15,7 @@ use bits_ip::OutOfMemory;
 use conf_system::System;
 use conf_system::laws::configurations_have_few_tables_and_filters;
 use filt_meaning::TFilter;
+use script_lines::laws::conditions_are_short;
 use script_lines::{Condition, Line, Name, Script, ScriptFault, ScriptKind};
 use show_route::Query;
 use std::alloc::{AllocFailed, Global};
@@ -87,7 +89,8 @@ fn accepted(
     system: &System,
     script: Script,
 ) -> Result<ReadScript, ReadFault>
-    requires { lines.Answers (named_of (system_of system.now)) text.now
+    requires short { length text.now < 2 ^ 32 }
+    requires lines { lines.Answers (named_of (system_of system.now)) text.now
         (lines.Accepted (map (λ phase. phase.items) script.phases.items) script.actors.items
         script.queries.items script.conditions.items) }
     ensures told { MatchResult result
@@ -98,6 +101,7 @@ fn accepted(
     ensures before { AllCanRun system.now
         → IfOk result (λ read. All (CanRunOver system.now) read.filters.items) }
 {
+    conditions_are_short();
     let filters = judged(alloc, system, &script.conditions)?;
     Ok(ReadScript {
         phases: script.phases,
@@ -117,7 +121,8 @@ fn refused(
     kind: ScriptKind,
     conditions: &[Condition],
 ) -> Result<ReadScript, ReadFault>
-    requires { lines.Answers (named_of (system_of system.now)) text.now
+    requires short { length text.now < 2 ^ 32 }
+    requires lines { lines.Answers (named_of (system_of system.now)) text.now
         (lines.Refused line kind conditions.now) }
     ensures told { MatchResult result
         (λ read. Answers (system_of system.now) text.now
@@ -127,6 +132,7 @@ fn refused(
     ensures before { AllCanRun system.now
         → IfOk result (λ read. All (CanRunOver system.now) read.filters.items) }
 {
+    conditions_are_short();
     let _judged = judged(alloc, system, conditions)?;
     Err(ReadFault::Refused { line, kind })
 }
@@ -137,6 +143,7 @@ fn judged(
     system: &System,
     conditions: &[Condition],
 ) -> Result<Vec<TFilter>, ReadFault>
+    requires short { All (λ (condition : Condition). length condition.text < 2 ^ 32) conditions.now }
     ensures told { MatchResult result
         (λ filters. AreAsked (system_of system.now) conditions.now
         (map (filter_says system.now) filters.items))
@@ -153,6 +160,7 @@ fn judged(
 
 /// What a condition asks for, where it isn't refused.
 fn judge(alloc: Global, system: &System, condition: &Condition) -> Result<TFilter, ReadFault>
+    requires short { length condition.now.text < 2 ^ 32 }
     ensures told { MatchResult result
         (λ filter. IsCondition (system_of system.now) condition.now.text
         (filter_says system.now filter))

@@ -13,7 +13,9 @@ use std::io::{Error, ErrorKind};
 /// The longest configuration of a case, in bytes.
 const LONGEST: usize = 1_000_000;
 
-fn checked(alloc: Global, text: &[u8]) -> Result<Checked, ConfFault> {
+fn checked(alloc: Global, text: &[u8]) -> Result<Checked, ConfFault>
+    requires { length text.now < 2 ^ 32 - 1 }
+{
     let config = read_config(alloc, text)?;
     check_config(alloc, &config)
 }
