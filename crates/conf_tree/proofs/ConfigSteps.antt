@@ -31,7 +31,7 @@ use Rattle.conf_syntax.proofs.FirstWords.{both_same}
 use Rattle.conf_syntax.proofs.Heads.{headed}
 use Rattle.conf_tree.proofs.Tested.{config_checked}
 
-statement_checked : is_checked statement
+pub statement_checked : is_checked statement
 statement_checked = refl
 
 -- ---- statements by their first word
@@ -122,7 +122,7 @@ statement_shorter k ws t rest got =
     let some : 0 < length (yield t) = full_words statement (yield t) refl (fits_front rule t statement (solid_at statement statement_checked) taken.fits) in
     rw taken.front (omega (arith, length-append (yield t) rest))
 
-row_turn : (k : ℕ) (t : ParseTree) (ws : List Word) → statement_row_at k t ws ≡ cond (begins (first_set statement) ws) (and_then (statement_at k ws) (λ b u. statement_row_at k (Snoc t b) u)) (Parsed t ws)
+pub row_turn : (k : ℕ) (t : ParseTree) (ws : List Word) → statement_row_at k t ws ≡ cond (begins (first_set statement) ws) (and_then (statement_at k ws) (λ b u. statement_row_at k (Snoc t b) u)) (Parsed t ws)
 unfolding statement_row_at statement_at
 row_turn k t ws = turn rule k Epsilon statement (read rule k Epsilon) (read rule k statement) (next_at Epsilon statement config_checked) (good_at k Epsilon refl) (good_at k statement statement_checked) t ws
 
@@ -130,7 +130,7 @@ row_turn k t ws = turn rule k Epsilon statement (read rule k Epsilon) (read rule
 unfoldable pub ended_at : ℕ → ParseTree → Reader
 ended_at k t ws = and_then (statement_row_at k t ws) to_the_end
 
-config_is : (k : ℕ) (ws : List Word) → config_at k ws ≡ statement_row_at k (Single NoWords) ws
+pub config_is : (k : ℕ) (ws : List Word) → config_at k ws ≡ statement_row_at k (Single NoWords) ws
 unfolding config_at statement_row_at statement_at
 config_is zero ws = refl
 config_is (suc k) ws = refl

@@ -1,8 +1,10 @@
+pub mod Behind
 pub mod BgpSteps
 pub mod ChannelSteps
 pub mod ConfigSteps
 pub mod FunctionSteps
 pub mod Known
+pub mod LastStatement
 pub mod LastWord
 pub mod OneOf
 pub mod OptionSteps
@@ -14,6 +16,7 @@ pub mod ReadAnswers
 pub mod Refusals
 mod RefusalsOnce
 pub mod RouteSteps
+pub mod RowSteps
 pub mod SignificantSteps
 pub mod SignificantWalks
 pub mod SpotSteps

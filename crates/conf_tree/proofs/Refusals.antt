@@ -17,19 +17,21 @@ use Rattle.filt_syntax.specs.RefusedToken.{IsPastAt, IsBadFrom}
 use Rattle.filt_syntax.proofs.RefusedTokens.{one_past_at}
 use Rattle.conf_lex.proofs.PartShapes.{bad_from, deep_from}
 use Rattle.conf_syntax.specs.Syntax.{config}
-use Rattle.conf_tree.specs.Readers.{whole_at, IsStopAt, IsTooDeepAt, IsRefusedAt}
+use Rattle.conf_tree.specs.Readers.{whole_at, EndsInLast, StopsIn, IsTooDeepAt, IsRefusedAt}
+use Rattle.conf_tree.specs.declared.read.Refused.{Refused}
+use Rattle.conf_tree.specs.declared.read.Refused.TheVariants as refused
 use Rattle.conf_tree.specs.Significant.{significant_words, significant_starts, token_of}
 use Rattle.conf_tree.specs.Sentence.{word_bytes, IsUnsupported, IsKnown, Refuses, IsBadAt, IsSentence, IsStop, StopsAt, DeepensAt, IsRefused}
 use Rattle.conf_tree.proofs.Whole.{sentence_is, bad_is_stop, stop_is_bad, deep_is_deep, deep_is_fault}
 
 -- ---- places
 
-rest_at : (significant before rest : List Word) (place : ℕ) → place + length rest ≡ length significant → significant ≡ before ++ rest → drop place significant ≡ rest
+pub rest_at : (significant before rest : List Word) (place : ℕ) → place + length rest ≡ length significant → significant ≡ before ++ rest → drop place significant ≡ rest
 rest_at significant before rest place len is =
     let count : length before ≡ place = omega (arith, len, ap (λ (u : List Word). length u) is, length-append before rest) in
     ap (λ (u : List Word). drop place u) is ∙ drop_at before rest place count
 
-front_at : (significant before rest : List Word) (place : ℕ) → place + length rest ≡ length significant → significant ≡ before ++ rest → take place significant ≡ before
+pub front_at : (significant before rest : List Word) (place : ℕ) → place + length rest ≡ length significant → significant ≡ before ++ rest → take place significant ≡ before
 front_at significant before rest place len is =
     let count : length before ≡ place = omega (arith, len, ap (λ (u : List Word). length u) is, length-append before rest) in
     ap (λ (u : List Word). take place u) is ∙ take_at before rest place count
@@ -176,10 +178,30 @@ pub answer_deep : (ws significant : List Word) (e : Refusal) (rest : Bor (List W
 answer_deep ws significant e rest is why failed = deep_is_deep significant rest.now (deep_from e rest (whole_at 64 significant) why (subst (λ (u : List Word). AgreesOnError e (whole_at 64 u)) is failed))
 
 -- and its places
-pub stop_at : (ws items : List Word) (e : SyntaxFault) (at place : ℕ) → e ≡ faults.Bad place → at ≡ place → ws ≡ items → IsRefusedAt ws e → IsStopAt items at
-stop_at ws items e at place is same are h =
-    subst (λ (u : List Word). IsStopAt u at) are (subst (λ (n : ℕ). IsStopAt ws n) (sym same) (subst (λ (f : SyntaxFault). IsRefusedAt ws f) is h))
+pub stop_at : (ws items : List Word) (e : Refused) (from at begin place : ℕ) → e ≡ refused.Bad begin place → from ≡ begin → at ≡ place → ws ≡ items → IsRefusedAt ws e → StopsIn items from at
+stop_at ws items e from at begin place is same also are h =
+    subst (λ (u : List Word). StopsIn u from at) are
+    (subst (λ (n : ℕ). StopsIn ws from n) (sym also) (subst (λ (n : ℕ). StopsIn ws n place) (sym same) (subst (λ (f : Refused). IsRefusedAt ws f) is h)))
 
-pub deep_at : (ws items : List Word) (e : SyntaxFault) (at place : ℕ) → e ≡ faults.TooDeep place → at ≡ place → ws ≡ items → IsRefusedAt ws e → IsTooDeepAt items at
+pub deep_at : (ws items : List Word) (e : Refused) (at place : ℕ) → e ≡ refused.TooDeep place → at ≡ place → ws ≡ items → IsRefusedAt ws e → IsTooDeepAt items at
 deep_at ws items e at place is same are h =
-    subst (λ (u : List Word). IsTooDeepAt u at) are (subst (λ (n : ℕ). IsTooDeepAt ws n) (sym same) (subst (λ (f : SyntaxFault). IsRefusedAt ws f) is h))
+    subst (λ (u : List Word). IsTooDeepAt u at) are (subst (λ (n : ℕ). IsTooDeepAt ws n) (sym same) (subst (λ (f : Refused). IsRefusedAt ws f) is h))
+
+-- where the statement begins
+pub stops_in : (ws : List Word) (left from place : ℕ) (rest : List Word) → EndsInLast 64 ws left → from + left ≡ length ws → place + length rest ≡ length ws → whole_at 64 ws ≡ Failed Bad rest → StopsIn ws from place
+stops_in ws left from place rest e begins at failed =
+    record {
+      front = e.front;
+      last = e.last;
+      rest = rest;
+      tree = e.tree;
+      cut = e.cut;
+      before = omega (arith, begins, e.count, ap (λ (u : List Word). length u) e.cut, length-append e.front e.last);
+      complete = record { fits = e.fits; whole = e.whole; levels = e.levels };
+      at = at;
+      stop = bad_is_stop ws rest failed;
+      stops = bad_is_stop e.last rest (e.alone Bad rest failed);
+    }
+
+pub last_within : (ws : List Word) (left : ℕ) → EndsInLast 64 ws left → left ≤ length ws
+last_within ws left e = omega (arith, e.count, ap (λ (u : List Word). length u) e.cut, length-append e.front e.last)

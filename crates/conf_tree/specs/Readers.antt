@@ -1,11 +1,12 @@
 -- For private contracts alone: reading each form of the configuration, where k more levels may be
 -- opened; the forms are those of Syntax.
-use Rattle.std.specs.Prelude.{◌≡◌, ℕ, ◌+◌, List, [], ◌∷◌, length}
+use Rattle.std.specs.Prelude.{◌≡◌, ℕ, ◌+◌, List, [], ◌∷◌, ◌++◌, length, None}
 use Rattle.conf_lex.specs.declared.symbol.Symbol.{Symbol}
 use Rattle.conf_lex.specs.declared.symbol.Symbol.TheVariants as sym
 use Rattle.conf_lex.specs.declared.word.Word.{Word}
 use Rattle.conf_lex.specs.Kind.{symbol}
-use Rattle.conf_lex.specs.Grammar.{Bad, ParseTree, Pair, Left, first_set}
+use Rattle.conf_lex.specs.Grammar.{Why, Bad, ParseTree, Pair, Left, first_set, yield, too_deep}
+use Rattle.conf_lex.specs.Grammar.{DerivesLongest}
 use Rattle.conf_lex.specs.Reading.{Read, Reader, Parsed, Failed, and_then, word, both, all_turns}
 use Rattle.conf_lex.specs.Reading.{read}
 use Rattle.expr_syntax.specs.Syntax.{optional, rule}
@@ -17,9 +18,9 @@ use Rattle.conf_syntax.specs.Syntax.{pipe_option, parameter, parameters, gives, 
 use Rattle.conf_syntax.specs.Syntax.{statement, config}
 use Rattle.conf_syntax.specs.Readers.{}
 use Rattle.conf_lex.specs.Sentences.{IsTooDeep}
-use Rattle.filt_syntax.specs.declared.parse.SyntaxFault.{SyntaxFault}
-use Rattle.filt_syntax.specs.declared.parse.SyntaxFault.TheVariants as faults
-use Rattle.conf_tree.specs.Sentence.{IsStop}
+use Rattle.conf_tree.specs.declared.read.Refused.{Refused}
+use Rattle.conf_tree.specs.declared.read.Refused.TheVariants as refusals
+use Rattle.conf_tree.specs.Sentence.{IsSentence, IsStop}
 
 unfoldable pub policy_at : ℕ → Reader
 policy_at k = read rule k policy
@@ -89,17 +90,40 @@ signature_at k ws = and_then (both (parameters_at 0) (word (symbol sym.ClosePare
 
 -- ---- the refused word
 
--- the word in this place of these can't stand there, or opens the 65th level
-abbrev pub IsStopAt : List Word → ℕ → Type 0
-IsStopAt words place =
-    (rest : List Word) × (place + length rest ≡ length words) × IsStop words rest
+-- The words but the last so many are statements, and what is refused of the words is refused of the
+-- last ones alone.
+pub record EndsInLast (k : ℕ) (words : List Word) (left : ℕ) : Type 0 where
+  pub front : List Word
+  pub last : List Word
+  pub tree : ParseTree
+  pub cut : words ≡ front ++ last
+  pub count : length last ≡ left
+  pub fits : DerivesLongest rule tree config
+  pub whole : yield tree ≡ front
+  pub levels : too_deep tree k ≡ None
+  pub alone : (why : Why) (rest : List Word) → whole_at k words ≡ Failed why rest
+      → whole_at k last ≡ Failed why rest
 
+-- The word in the one place of these can't stand there. The words before the other place are
+-- statements, and of those from it on alone the same word can't stand.
+pub record StopsIn (words : List Word) (from place : ℕ) : Type 0 where
+  pub front : List Word
+  pub last : List Word
+  pub rest : List Word
+  pub tree : ParseTree
+  pub cut : words ≡ front ++ last
+  pub before : length front ≡ from
+  pub complete : IsSentence front tree
+  pub at : place + length rest ≡ length words
+  pub stop : IsStop words rest
+  pub stops : IsStop last rest
+
+-- the word in this place of these opens the 65th level
 abbrev pub IsTooDeepAt : List Word → ℕ → Type 0
 IsTooDeepAt words place =
     (rest : List Word) × (place + length rest ≡ length words) × IsTooDeep rule 64 config words rest
 
-abbrev pub IsRefusedAt : List Word → SyntaxFault → Type 0
-IsRefusedAt words (faults.Bad at) = IsStopAt words at
-IsRefusedAt words (faults.TooDeep at) = IsTooDeepAt words at
-IsRefusedAt words (faults.Unsupported at) = ⊥
-IsRefusedAt words faults.Memory = Unit {0}
+abbrev pub IsRefusedAt : List Word → Refused → Type 0
+IsRefusedAt words (refusals.Bad from at) = StopsIn words from at
+IsRefusedAt words (refusals.TooDeep at) = IsTooDeepAt words at
+IsRefusedAt words refusals.Memory = Unit {0}

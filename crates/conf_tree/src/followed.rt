@@ -14,7 +14,8 @@ impl Sentences for Configurations {
     ghost form = { config };
 
     fn is_begun(alloc: Global, words: &[Word]) -> Result<bool, OutOfMemory> {
-        match config(alloc, words, LEVELS) {
+        let mut unread = 0;
+        match config(alloc, words, LEVELS, &mut unread) {
             Ok(_) => Ok(true),
             Err(Refusal::Memory) => Err(OutOfMemory),
             Err(Refusal::Bad(rest)) => Ok(rest.is_empty()),

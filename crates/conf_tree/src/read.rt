@@ -22,23 +22,34 @@ use conf_lex::parsing::place_in;
 use conf_lex::{Refusal, Word};
 use conf_scan::LexFault;
 use conf_scan::laws::texts_are_refused_within;
-use filt_syntax::SyntaxFault;
 use filt_syntax::parts::LEVELS;
 use std::alloc::Global;
 
-// The statements of these words, or the place of the refused one among them.
-fn statements_of(alloc: Global, words: &[Word]) -> Result<Vec<Statement>, SyntaxFault>
+/// Why words are no configuration, and the place of the refused one among them.
+#[derive(Clone, Copy, Debug)]
+pub enum Refused {
+    /// It can't stand there, in the statement that begins in the place `from`.
+    Bad { from: usize, at: usize },
+    /// It opens the 65th level.
+    TooDeep { at: usize },
+    Memory,
+}
+
+// The statements of these words, or their refusal.
+fn statements_of(alloc: Global, words: &[Word]) -> Result<Vec<Statement>, Refused>
     ensures tree { IfOk result (λ statements.
         IsSentence words.now (statements_tree statements.items)) }
     ensures fault { IfErr result (IsRefusedAt words.now) }
 {
-    match config(alloc, words, LEVELS) {
+    let mut unread = 0;
+    match config(alloc, words, LEVELS, &mut unread) {
         Ok((statements, _)) => Ok(statements),
-        Err(Refusal::Memory) => Err(SyntaxFault::Memory),
-        Err(Refusal::Bad(rest)) => Err(SyntaxFault::Bad {
+        Err(Refusal::Memory) => Err(Refused::Memory),
+        Err(Refusal::Bad(rest)) => Err(Refused::Bad {
+            from: words.len() - unread,
             at: place_in(words, rest),
         }),
-        Err(Refusal::TooDeep(rest)) => Err(SyntaxFault::TooDeep {
+        Err(Refusal::TooDeep(rest)) => Err(Refused::TooDeep {
             at: place_in(words, rest),
         }),
     }
@@ -60,10 +71,9 @@ fn config_of_words<'a>(
 {
     match statements_of(alloc, &walked.words) {
         Ok(statements) => Ok(Config { text, statements }),
-        Err(SyntaxFault::Bad { at }) => Err(stopped(alloc, text, walked, at)),
-        Err(SyntaxFault::TooDeep { at }) => Err(deepened(text, walked, at)),
-        Err(SyntaxFault::Unsupported { .. }) => unreachable!(),
-        Err(SyntaxFault::Memory) => Err(ConfFault::Memory),
+        Err(Refused::Bad { from, at }) => Err(stopped(alloc, text, walked, from, at)),
+        Err(Refused::TooDeep { at }) => Err(deepened(text, walked, at)),
+        Err(Refused::Memory) => Err(ConfFault::Memory),
     }
 }
 

@@ -14,7 +14,7 @@ ghost use Rattle.conf_tree.specs.Read.{byte_of, fault_of, IsFault, IsWithin};
 ghost use Rattle.conf_tree.specs.Sentence.{first_bytes, word_bytes, IsUnsupported, Refuses};
 ghost use Rattle.conf_tree.specs.Marks.{AreMarks};
 ghost use Rattle.conf_tree.specs.Significant.{AreWordsOf};
-ghost use Rattle.conf_tree.specs.Readers.{IsStopAt, IsTooDeepAt};
+ghost use Rattle.conf_tree.specs.Readers.{StopsIn, IsTooDeepAt};
 
 use crate::followed::Configurations;
 use crate::significant::{Walked, mark_before, spot_of};
@@ -174,21 +174,39 @@ fn refusal(
     }
 }
 
-/// The refusal of words of which the one in this place can't stand there. The list of the words
-/// serves to try others in its place, so that no copy is made, and is of no use behind the call.
-pub fn stopped(alloc: Global, text: &[u8], walked: &mut Walked, place: usize) -> ConfFault
+// Lets go of the words before this place.
+fn leave_last(words: &mut Vec<Word>, from: usize)
+    requires { from ≤ length words.old.items }
+    ensures { words.new.items ≡ drop from words.old.items }
+{
+    let left = words.len() - from;
+    words.copy_within(from.., 0);
+    words.truncate(left);
+}
+
+/// The refusal of words of which the one in this place can't stand there, in the statement that
+/// begins in the place `from`. The list of the words serves to try others in its place, behind those
+/// of the statement alone, so that no copy is made, and is of no use behind the call.
+pub fn stopped(
+    alloc: Global,
+    text: &[u8],
+    walked: &mut Walked,
+    from: usize,
+    place: usize,
+) -> ConfFault
     requires short { length text.now < 2 ^ 32 }
     requires words { AreWordsOf text.now walked.old.words.items }
     requires marks { AreMarks text.now walked.old.marks.items }
-    requires stops { IsStopAt walked.old.words.items place }
+    requires stops { StopsIn walked.old.words.items from place }
     ensures fault { IsFault text.now result }
     ensures within { IsWithin (length text.now) result }
 {
     let spot = spot_of(text, place, mark_before(&walked.marks, place));
+    leave_last(&mut walked.words, from);
     told(
         text,
         spot,
-        refusal(alloc, text, spot, &mut walked.words, place),
+        refusal(alloc, text, spot, &mut walked.words, place - from),
     )
 }
 

@@ -8,8 +8,8 @@ returns c =
     let words = c.args.words.now in
     let next = c.requires in
     elim c.match-config.branch [
-      | in-Ok w ↦ rw w.result-is (got_can words words _ _ refl w.in-Ok.ensures)
+      | in-Ok w ↦ rw w.result-is (got_can words words _ _ refl w.in-Ok.ensures.read)
       | in-Err-Memory w ↦ rw w.result-is tt
-      | in-Err-Bad w ↦ rw w.result-is (bad_can words words w.in-Err-Bad.field-0 w.in-Err-Bad.rest w.is_empty.result refl w.in-Err-Bad.field-0-is w.in-Err-Bad.ensures w.is_empty.ensures)
-      | in-Err-TooDeep w ↦ rw w.result-is (deep_can words next.0 next.1 w.in-Err-TooDeep.field-0 w.in-Err-TooDeep.field-0-0 next.2 next.3 w.in-Err-TooDeep.field-0-is w.in-Err-TooDeep.ensures)
+      | in-Err-Bad w ↦ rw w.result-is (bad_can words words w.in-Err-Bad.field-0 w.in-Err-Bad.rest w.is_empty.result refl w.in-Err-Bad.field-0-is w.in-Err-Bad.ensures.read w.is_empty.ensures)
+      | in-Err-TooDeep w ↦ rw w.result-is (deep_can words next.0 next.1 w.in-Err-TooDeep.field-0 w.in-Err-TooDeep.field-0-0 next.2 next.3 w.in-Err-TooDeep.field-0-is w.in-Err-TooDeep.ensures.read)
     ]
